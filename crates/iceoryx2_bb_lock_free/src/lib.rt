@@ -1,0 +1,7 @@
+//! Queues of fixed capacity, at the paths of their modules. The crates below hold them.
+#![tactic(auto)]
+
+pub use iox_queues::spsc;
+
+#[cfg(test)]
+mod tests;

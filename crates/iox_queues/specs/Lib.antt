@@ -1,0 +1,3 @@
+pub mod BoundedQueues
+-- for proofs of this crate alone
+pub mod Rings

@@ -1,0 +1,2 @@
+//! Queues for one that pushes and one that pops.
+pub mod index_queue;
