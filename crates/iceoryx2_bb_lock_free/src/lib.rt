@@ -5,3 +5,5 @@ pub use iox_queues::spsc;
 
 #[cfg(test)]
 mod tests;
+#[cfg(test)]
+mod uses;

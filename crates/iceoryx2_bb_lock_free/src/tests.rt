@@ -1,4 +1,5 @@
 use crate::spsc::index_queue::{FixedSizeIndexQueue, IndexQueue};
+use crate::uses::oldest_of;
 use std::test::Fail;
 
 #[test]
@@ -10,5 +11,11 @@ fn both_queues_are_reached_by_their_paths(rt: HostRuntime) -> Result<(), Fail> {
         assert!(rt; to.push(value));
     }
     assert_eq!(rt; to.pop(), Some(9));
+    Ok(())
+}
+
+#[test]
+fn the_oldest_comes_out_first(rt: HostRuntime) -> Result<(), Fail> {
+    assert_eq!(rt; oldest_of(rt.alloc(), 7, 8)?, Some(7));
     Ok(())
 }
