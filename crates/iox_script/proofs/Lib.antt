@@ -1,0 +1,4 @@
+pub mod LineLemmas
+mod WordLemmas
+mod NumeralLemmas
+mod TextLemmas

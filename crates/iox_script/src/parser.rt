@@ -1,0 +1,71 @@
+//! From a line to the command that it says.
+ghost use Rattle.iox_script.specs.Grammar.{meaning, command_of};
+ghost use Rattle.iox_script.specs.Meanings.{IsMeaning};
+
+mod commands;
+mod names;
+mod numerals;
+mod texts;
+mod words;
+
+use crate::command::{Cause, Command, Keyword};
+use commands::{client, create, open, read, receive, send_copy, server, set};
+use names::keyword;
+use std::alloc::Global;
+use thiserror::Error;
+use words::Words;
+
+/// The most bytes of a line, without its line feed.
+const MAX_LINE: usize = 65536;
+
+/// Why a line gave no command.
+#[derive(Debug, Drop, Error)]
+pub enum ParseError {
+    /// It says none.
+    #[error("{0}")]
+    Bad(Cause),
+    /// It says one, for whose words no memory is left.
+    #[error("out of memory")]
+    WantOfMemory,
+}
+
+impl From<Cause> for ParseError {
+    ghost use Rattle.std.specs.Prelude.{◌≡◌};
+    ghost use Rattle.iox_script.specs.declared.parser.ParseError.TheVariants.{Bad};
+
+    ghost from_gives = { λ cause error. error ≡ Bad cause };
+
+    fn from(cause: Cause) -> ParseError {
+        ParseError::Bad(cause)
+    }
+}
+
+/// What a line says (the bytes between two line feeds).
+pub fn parse(alloc: Global, line: &[u8]) -> Result<Command, ParseError>
+    ensures { IsMeaning result (meaning line.now) }
+{
+    if line.len() > MAX_LINE {
+        return Err(ParseError::Bad(Cause::TooLong));
+    }
+    let (name, words) = Words::split(line);
+    match keyword(name) {
+        Some(keyword) => command(alloc, keyword, words),
+        None => Err(ParseError::Bad(Cause::UnknownCommand)),
+    }
+}
+
+/// What the words behind a command's name say.
+fn command(alloc: Global, keyword: Keyword, words: Words<'_>) -> Result<Command, ParseError>
+    ensures { IsMeaning result (command_of keyword words.entry) }
+{
+    match keyword {
+        Keyword::Set => Ok(set(words)?),
+        Keyword::Create => create(alloc, words),
+        Keyword::Open => Ok(open(words)?),
+        Keyword::Client => Ok(client(words)?),
+        Keyword::Server => Ok(server(words)?),
+        Keyword::SendCopy => send_copy(alloc, words),
+        Keyword::Receive => Ok(receive(words)?),
+        Keyword::Read => Ok(read(words)?),
+    }
+}
