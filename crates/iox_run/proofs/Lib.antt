@@ -1,0 +1,11 @@
+pub mod WorkedScripts
+pub mod HubLists
+pub mod HubSlots
+pub mod HubSound
+pub mod HubResponses
+pub mod RunAnswers
+pub mod RunSteps
+pub mod RunFaults
+pub mod RunPlaying
+pub mod RunReads
+pub mod RunStreams

@@ -1,0 +1,78 @@
+-- What was sent, where a run ends or stops.
+use Rattle.std.proofs.Common.{◌≡◌, ◌≢◌, ℕ, List, [], ◌∷◌, ◌++◌, length, take, Result, Ok, Err, refl, sym, ap, subst, ◌∙◌, append_assoc, append-nil, arith}
+use Rattle.iox_script.specs.Lines.{ended_lines, rest_of, line_of_rest, lines_of}
+use Rattle.iox_script.proofs.LineLemmas.{lines_of-ended, ended_lines-append_line}
+use Rattle.iox_run.specs.declared.fault.Fault.{Fault}
+use Rattle.iox_run.specs.declared.fault.Fault.TheVariants.{WantOfMemory, Write}
+use Rattle.iox_run.specs.declared.run.player.Player.{Player}
+use Rattle.iox_run.specs.Answers.{text_of_lines, text_of}
+use Rattle.iox_run.specs.Runs.{IsBeginningOf, Answers}
+use Rattle.iox_run.specs.Standings.{kept, Stands, Goes, SendsAll, Finishes}
+use Rattle.iox_run.proofs.RunAnswers.{ended_answers_begin, ended_answers_are_first, nil_from_kept, kept-nil}
+
+-- bytes before a beginning of some more, and before some more of a beginning
+IsBeginningOf-append : (sent more waits text : List ℕ) → IsBeginningOf more waits
+    → IsBeginningOf (sent ++ waits) text → IsBeginningOf (sent ++ more) text
+IsBeginningOf-append sent more waits text begins whole = (
+  begins.0 ++ whole.0,
+  whole.1 ∙ ap (λ t. (sent ++ t) ++ whole.0) begins.1
+      ∙ ap (λ t. t ++ whole.0) (sym (append_assoc sent more begins.0))
+      ∙ append_assoc (sent ++ more) begins.0 whole.0,
+)
+
+-- a write failed after a beginning of what waits
+pub write_failed : (script rest whole sent more : List ℕ) (player : Player) → script ++ rest ≡ whole
+    → Stands script sent player → IsBeginningOf more player.answers.items
+    → Answers {E = Unit {0}} (Err Write) whole (sent ++ more)
+write_failed script rest whole sent more player is stands begins =
+    let all : IsBeginningOf (sent ++ player.answers.items) (text_of whole) =
+    subst (λ t. IsBeginningOf t (text_of whole)) (sym stands.answers) (subst (λ s. IsBeginningOf (text_of_lines (ended_lines script)) (text_of s)) is (ended_answers_begin script rest)) in
+    IsBeginningOf-append sent more player.answers.items (text_of whole) begins all
+
+-- memory ran out after all that waits was sent
+pub memory_ran_out : (script rest whole sent more : List ℕ) (player : Player) → script ++ rest ≡ whole
+    → Stands script sent player → more ≡ player.answers.items
+    → Answers {E = Unit {0}} (Err WantOfMemory) whole (sent ++ more)
+memory_ran_out script rest whole sent more player is stands all = (
+  length (ended_lines script),
+  ap (λ t. sent ++ t) all ∙ stands.answers ∙ ended_answers_are_first script rest
+      ∙ ap (λ s. text_of_lines (take (length (ended_lines script)) (lines_of s))) is,
+)
+
+-- all is answered of a script whose last line has ended
+pub all_answered : (script sent : List ℕ) (player : Player) → Stands script sent player → player.line.items ≡ []
+    → sent ++ player.answers.items ≡ text_of script
+all_answered script sent player stands whole =
+    stands.answers
+    ∙ ap text_of_lines (sym (lines_of-ended script (nil_from_kept (rest_of script) (sym stands.line ∙ whole))))
+
+line_of_some : (rest : List ℕ) → rest ≢ [] → line_of_rest rest ≡ rest ∷ []
+line_of_some [] some = absurd (some refl)
+line_of_some (byte ∷ bytes) some = refl
+
+-- a line feed ends the last line of a script that ends with none
+pub ended_lines-feed : (script : List ℕ) → rest_of script ≢ []
+    → ended_lines (script ++ 10 ∷ []) ≡ lines_of script
+ended_lines-feed script some =
+    ended_lines-append_line script [] [] (λ k d within. absurd (omega (arith, within)))
+    ∙ ap (λ line. ended_lines script ++ line ∷ []) (append-nil (rest_of script))
+    ∙ ap (λ lines. ended_lines script ++ lines) (sym (line_of_some (rest_of script) some))
+
+-- and then all is answered of the script
+pub last_answered : (script sent : List ℕ) (player ended : Player) → Stands script sent player
+    → player.line.items ≢ [] → Goes (10 ∷ []) [] player ended → sent ++ ended.answers.items ≡ text_of script
+last_answered script sent player ended stands some goes =
+    let stands' = goes script sent stands in
+    let rest_is : rest_of script ≢ [] = λ nil. some (stands.line ∙ ap kept nil ∙ kept-nil) in
+    ap (λ s. s ++ ended.answers.items) (sym (append-nil sent)) ∙ stands'.answers
+    ∙ ap text_of_lines (ended_lines-feed script rest_is)
+
+-- the last answers were sent, or a beginning of them
+pub Finishes-sent : (player : Player) (last : List ℕ) (result : Result (Unit {0}) Fault) (more : List ℕ)
+    → ((script sent : List ℕ) → Stands script sent player → sent ++ last ≡ text_of script)
+    → SendsAll last result more
+    → Finishes player result more
+Finishes-sent player last (Ok _) more text all script sent stands none short = (short, ap (λ t. sent ++ t) all ∙ text script sent stands)
+Finishes-sent player last (Err fault) more text all script sent stands none short =
+    subst (λ f. Answers {E = Unit {0}} (Err f) script (sent ++ more)) (sym all.0)
+    (IsBeginningOf-append sent more last (text_of script) all.1 ([], sym (text script sent stands) ∙ sym (append-nil (sent ++ last))))
