@@ -12,7 +12,8 @@ use Rattle.iox_run.specs.declared.hub.entry.Entry.{Entry}
 use Rattle.iox_run.specs.declared.hub.entry.Entry.TheVariants as entries
 use Rattle.iox_run.specs.Machines.{Service, Thing, PendingResponse, Response}
 use Rattle.iox_run.specs.Limits.{max_waiting_responses}
-use Rattle.iox_run.specs.Ports.{waiting_in, waiting_for, with_waiting, with_waiting_for, changed_at, with_thing, taken}
+use Rattle.iox_run.specs.Ports.{waiting_for, with_waiting_for, changed_at, with_thing, taken}
+use Rattle.iox_run.specs.Things.{waiting_in, with_waiting}
 use Rattle.iox_script.specs.declared.reply.Reply.TheVariants.{Handle}
 use Rattle.iox_run.specs.Slots.{request_at, response_at, shown, service_from, waiting_slots, with_response, without_response, HasRoomForResponse}
 use Rattle.iox_run.specs.Soundness.{IsQueueOver, IsSoundEntry, IsSound}

@@ -11,7 +11,8 @@ use Rattle.iox_run.specs.declared.hub.entry.Entry.TheVariants as entries
 use Rattle.iox_run.specs.Machines.{Service, PendingResponse, ActiveRequest, Response}
 use Rattle.iox_run.specs.Limits.{max_waiting_responses}
 use Rattle.std.specs.List.{list_any}
-use Rattle.iox_run.specs.Ports.{is_server, delivered, with_thing}
+use Rattle.iox_run.specs.Ports.{delivered, with_thing}
+use Rattle.iox_run.specs.Things.{is_server}
 use Rattle.iox_run.specs.Slots.{request_at, request_of, response_at, shown, service_from}
 use Rattle.iox_run.specs.Soundness.{IsSoundEntry, IsSound}
 use Rattle.iox_run.proofs.HubLists.{map-same}

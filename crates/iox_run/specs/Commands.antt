@@ -14,7 +14,8 @@ use Rattle.iox_script.specs.declared.reply.Refusal.TheVariants.{ServiceExists, N
 use Rattle.iox_run.specs.Machines.{Machine, Service, Client, Server}
 use Rattle.iox_run.specs.Limits.{max_nodes, max_clients, max_servers, client_pool, server_pool, request_header, response_header, has_region, is_node_id, is_same_id, is_short_name, is_name_content}
 use Rattle.iox_run.specs.Steps.{◌>>=◌, unless}
-use Rattle.iox_run.specs.Ports.{is_client, is_server, owned, with_thing, sent, received, words_in}
+use Rattle.iox_run.specs.Ports.{owned, with_thing, sent, received}
+use Rattle.iox_run.specs.Things.{is_client, is_server, words_in}
 
 -- a setting changed: 0 is off
 abbrev pub with_setting : Machine → Key → ℕ → Machine
@@ -67,7 +68,8 @@ served s (commands.Read node number) = do
   Ok (Words words, s)
 
 -- a machine whose service went on
-abbrev pub in_machine : Machine → Result (Reply × Service) Refusal → Result (Reply × Machine) Refusal
+abbrev pub in_machine : Machine → Result (Reply × Service) Refusal
+    → Result (Reply × Machine) Refusal
 in_machine m outcome = do
   x ← outcome
   Ok (x.0, record m { service = Some x.1 })

@@ -9,7 +9,8 @@ use Rattle.iox_run.specs.declared.hub.entry.Entry.{Entry}
 use Rattle.iox_run.specs.declared.hub.failure.Failure.{Failure}
 use Rattle.iox_run.specs.Machines.{Service, Thing, PendingResponse}
 use Rattle.iox_run.specs.Limits.{max_active_requests}
-use Rattle.iox_run.specs.Ports.{is_pending, is_server, owner_of, owned, sent, received, words_in, delivered, with_thing, waiting_for, with_waiting_for}
+use Rattle.iox_run.specs.Ports.{owned, sent, received, delivered, with_thing, waiting_for, with_waiting_for}
+use Rattle.iox_run.specs.Things.{is_pending, is_server, owner_of, words_in}
 use Rattle.iox_run.specs.Commands.{served}
 use Rattle.iox_run.specs.Outcomes.{Leaves}
 use Rattle.iox_run.specs.Slots.{service_from, shown, outline}

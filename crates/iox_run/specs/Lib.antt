@@ -1,8 +1,9 @@
--- In reading order: the machine that copies messages, its limits, what each command does to it, the answers to a
--- script, and what a run reads and writes.
+-- In reading order: the machine that copies messages, its limits, what each command does to it, the
+-- answers to a script, and what a run reads and writes.
 pub mod Machines
 pub mod Limits
 pub mod Steps
+pub mod Things
 pub mod Ports
 pub mod Commands
 pub mod Answers

@@ -33,7 +33,8 @@ max_loaned_responses = 2
 abbrev pub client_pool : ℕ
 client_pool = max_loaned_requests + max_active_requests + 2 * max_servers * max_active_requests
 
--- the messages of a server: loaned for each active request, and waiting or received for each message of each client
+-- the messages of a server: loaned for each active request, and waiting or received for each message
+-- of each client
 abbrev pub server_pool : ℕ
 server_pool = max_loaned_responses * max_active_requests * max_clients
     + max_clients * client_pool * (max_waiting_responses + max_borrowed_responses)
@@ -45,21 +46,24 @@ request_header = 56
 abbrev pub response_header : ℕ
 response_header = 48
 
--- the bytes of a message of so many words: behind its header, seven for the alignment of the user header,
+-- the bytes of a message of so many words: behind its header, seven to align the user header,
 -- which has none, and seven for that of the words; rounded up to whole words
 abbrev pub message_size : ℕ → ℕ → ℕ
 message_size header len = (header + 7 + 8 * len + 7 + 7) / 8 * 8
 
 -- a message has a layout, and all messages of the pool have room in one region
 abbrev pub has_region : ℕ → ℕ → ℕ → Bool
-has_region header pool len = nat_lt (message_size header len) (2 ^ 63) && nat_lt (pool * message_size header len) (2 ^ 64)
+has_region header pool len =
+    nat_lt (message_size header len) (2 ^ 63) && nat_lt (pool * message_size header len) (2 ^ 64)
 
 -- a node's id: not both its process number and its counter are 0
 abbrev pub is_node_id : NodeId → Bool
 is_node_id id = not (id.process == 0) || not (id.counter == 0)
 
 abbrev pub is_same_id : NodeId → NodeId → Bool
-is_same_id a b = (a.process == b.process) && (a.seconds == b.seconds) && (a.nanoseconds == b.nanoseconds) && (a.counter == b.counter)
+is_same_id a b =
+    (a.process == b.process) && (a.seconds == b.seconds)
+    && (a.nanoseconds == b.nanoseconds) && (a.counter == b.counter)
 
 -- a name's length
 abbrev pub is_short_name : List ℕ → Bool
@@ -71,4 +75,6 @@ is_name_byte byte = nat_le 1 byte && nat_le byte 127
 
 -- what a name is made of; the prefix `iox2://` is kept for names of the library's own
 abbrev pub is_name_content : List ℕ → Bool
-is_name_content name = nat_lt 0 (length name) && list_all is_name_byte name && not (bytes_eq (take 7 name) (codes "iox2://"))
+is_name_content name =
+    nat_lt 0 (length name) && list_all is_name_byte name
+    && not (bytes_eq (take 7 name) (codes "iox2://"))

@@ -7,37 +7,9 @@ use Rattle.iox_script.specs.declared.reply.Reply.TheVariants.{Done, Handle, Noth
 use Rattle.iox_script.specs.declared.reply.Refusal.{Refusal}
 use Rattle.iox_script.specs.declared.reply.Refusal.TheVariants.{UnknownNode, UnknownNumber, ForeignNumber, WrongKind, ExceedsMaxLoanSize, ExceedsMaxActiveRequests, UnableToDeliver, ExceedsMaxBorrows}
 use Rattle.iox_run.specs.Machines.{Service, Request, Thing, Client, Server, PendingResponse, ActiveRequest, Response}
+use Rattle.iox_run.specs.Things.{is_server, is_pending, is_active, is_response_to, owner_of, waiting_in, with_waiting}
 use Rattle.iox_run.specs.Limits.{max_active_requests, max_waiting_responses, max_borrowed_responses}
 use Rattle.iox_run.specs.Steps.{◌>>=◌, unless, found}
-
-abbrev pub is_client : Thing → Bool
-is_client (Client _ _) = true
-is_client _ = false
-
-abbrev pub is_server : Thing → Bool
-is_server (Server _ _) = true
-is_server _ = false
-
-abbrev pub is_pending : Thing → Bool
-is_pending (PendingResponse _ _ _) = true
-is_pending _ = false
-
-abbrev pub is_active : Thing → Bool
-is_active (ActiveRequest _ _ _) = true
-is_active _ = false
-
--- a response that this pending response received
-abbrev pub is_response_to : ℕ → Thing → Bool
-is_response_to pending (Response _ number _) = number == pending
-is_response_to pending _ = false
-
--- the node that a port or handle belongs to
-abbrev pub owner_of : Thing → ℕ
-owner_of (Client node _) = node
-owner_of (Server node _) = node
-owner_of (PendingResponse node _ _) = node
-owner_of (ActiveRequest node _ _) = node
-owner_of (Response node _ _) = node
 
 -- what has the number, if it is the node's
 abbrev pub owned : Service → ℕ → ℕ → Result Thing Refusal
@@ -53,12 +25,8 @@ with_thing s thing = record s { things = s.things ++ thing ∷ [] }
 
 -- a request goes to the server, if there is one
 abbrev pub delivered : Service → Request → Service
-delivered s request = if list_any is_server s.things then record s { requests = s.requests ++ request ∷ [] } else s
-
--- the responses that wait for a pending response
-abbrev pub waiting_in : Thing → List (List ℕ)
-waiting_in (PendingResponse _ _ waiting) = waiting
-waiting_in _ = []
+delivered s request =
+    if list_any is_server s.things then record s { requests = s.requests ++ request ∷ [] } else s
 
 -- the thing of that number changed
 abbrev pub changed_at : ℕ → (Thing → Thing) → List Thing → List Thing
@@ -70,21 +38,18 @@ changed_at (suc number) change (thing ∷ things) = thing ∷ changed_at number 
 abbrev pub waiting_for : Service → ℕ → List (List ℕ)
 waiting_for s pending = option_map_or waiting_in (slice_get s.things pending) []
 
--- a pending response for which these responses wait
-abbrev pub with_waiting : List (List ℕ) → Thing → Thing
-with_waiting waiting (PendingResponse node words _) = PendingResponse node words waiting
-with_waiting waiting thing = thing
-
 -- these responses wait for the pending response of that number
 abbrev pub with_waiting_for : Service → ℕ → List (List ℕ) → Service
-with_waiting_for s pending waiting = record s { things = changed_at pending (with_waiting waiting) s.things }
+with_waiting_for s pending waiting =
+    record s { things = changed_at pending (with_waiting waiting) s.things }
 
 -- a copy of the words goes out: through a client as a request, through an active request as its response
 abbrev pub sent : Service → Thing → List ℕ → Result (Reply × Service) Refusal
 sent s (Client node limit) words = do
   _ ← unless (nat_le (length words) limit) ExceedsMaxLoanSize
   _ ← unless (nat_lt (count_by is_pending s.things) max_active_requests) ExceedsMaxActiveRequests
-  _ ← unless (not (list_any is_server s.things) || nat_lt (length s.requests) max_active_requests) UnableToDeliver
+  _ ← unless (not (list_any is_server s.things) || nat_lt (length s.requests) max_active_requests)
+      UnableToDeliver
   Ok (
     Handle (length s.things),
     with_thing (delivered s (record { pending = length s.things; words = words }))
@@ -97,7 +62,8 @@ sent s (ActiveRequest node limit request) words = do
 sent s _ words = Err WrongKind
 
 -- the oldest of what waits goes to a receiver that may hold one more
-abbrev pub taken : {X : Type 0} → Service → Bool → List X → (X → List X → Service) → Result (Reply × Service) Refusal
+abbrev pub taken : {X : Type 0} → Service → Bool → List X → (X → List X → Service)
+    → Result (Reply × Service) Refusal
 taken s may [] take = Ok (Nothing, s)
 taken s true (x ∷ rest) take = Ok (Handle (length s.things), take x rest)
 taken s false (x ∷ rest) take = Err ExceedsMaxBorrows
@@ -111,10 +77,3 @@ received s number (PendingResponse node words waiting) =
     taken s (nat_lt (count_by (is_response_to number) s.things) max_borrowed_responses) waiting (λ response rest.
     with_thing (with_waiting_for s number rest) (Response node number response))
 received s number _ = Err WrongKind
-
--- the words of a handle's message
-abbrev pub words_in : Thing → Result (List ℕ) Refusal
-words_in (PendingResponse _ words _) = Ok words
-words_in (ActiveRequest _ _ request) = Ok request.words
-words_in (Response _ _ words) = Ok words
-words_in _ = Err WrongKind

@@ -4,7 +4,8 @@ use Rattle.iox_script.specs.declared.reply.Refusal.{Refusal}
 
 -- the second step, if the first was not refused: so the first refusal from the top is the answer
 infixl 10 ◌>>=◌
-abbrev pub ◌>>=◌ : {A B : Type 0} → Result A Refusal → (A → Result B Refusal) → Result B Refusal
+abbrev pub ◌>>=◌ : {A B : Type 0} → Result A Refusal → (A → Result B Refusal)
+    → Result B Refusal
 (Ok x) >>= f = f x
 (Err refusal) >>= f = Err refusal
 

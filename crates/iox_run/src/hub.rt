@@ -37,7 +37,8 @@ impl Hub {
     ghost use Rattle.std.specs.Prelude.{IfOk, IfErr, Err, count_by};
     ghost use Rattle.std.specs.List.{list_any};
     ghost use Rattle.iox_run.specs.Commands.{service_of};
-    ghost use Rattle.iox_run.specs.Ports.{is_client, is_server, is_pending, is_active, is_response_to, owned};
+    ghost use Rattle.iox_run.specs.Ports.{owned};
+    ghost use Rattle.iox_run.specs.Things.{is_client, is_server, is_pending, is_active, is_response_to};
     ghost use Rattle.iox_run.specs.Hubs.{Owns, Serves, service_in};
 
     /// The service with its first node.

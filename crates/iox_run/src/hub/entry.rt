@@ -44,7 +44,7 @@ pub enum Entry {
 impl Entry {
     ghost use Rattle.std.specs.Prelude.{nat_lt};
     ghost use Rattle.iceoryx2_bb_lock_free.specs.BoundedQueues.{first};
-    ghost use Rattle.iox_run.specs.Ports.{is_client, is_server, is_pending, is_active, is_response_to, owner_of};
+    ghost use Rattle.iox_run.specs.Things.{is_client, is_server, is_pending, is_active, is_response_to, owner_of};
     ghost use Rattle.iox_run.specs.Slots.{outline, waiting_slots, HasRoomForResponse, with_response, without_response};
 
     pub fn owner(&self) -> u64

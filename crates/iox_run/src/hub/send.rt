@@ -38,7 +38,7 @@ impl Hub {
             Entry::ActiveRequest { limit, request, .. } => {
                 let limit = *limit;
                 let request = *request;
-                self.send_response(node, limit, request, words)
+                self.send_response(limit, request, words)
             }
             Entry::Server { .. } => Err(Failure::Refused(Refusal::WrongKind)),
             Entry::PendingResponse { .. } => Err(Failure::Refused(Refusal::WrongKind)),
@@ -111,15 +111,9 @@ impl Hub {
         Ok(number)
     }
 
-    fn send_response(
-        &mut self,
-        node: u64,
-        limit: u64,
-        request: u64,
-        words: Payload,
-    ) -> Result<Reply, Failure>
+    fn send_response(&mut self, limit: u64, request: u64, words: Payload) -> Result<Reply, Failure>
         requires { request < length self.old.requests.items }
-        ensures { Sends self.old (ActiveRequest node limit (request_at self.old.requests.items request)) words result self.new }
+        ensures { (node : ℕ) → Sends self.old (ActiveRequest node limit (request_at self.old.requests.items request)) words result self.new }
     {
         if words.as_slice().len() as u64 > limit {
             return Err(Failure::Refused(Refusal::ExceedsMaxLoanSize));

@@ -2,7 +2,7 @@ use Rattle.std.proofs.Common.{◌≡◌, ◌<◌, ◌∙◌, refl, ap, arith, ge
 use Rattle.std.proofs.lemmas.Bool.{lt-ltb}
 use Rattle.std.proofs.lemmas.List.{length-map}
 use Rattle.iox_run.specs.declared.hub.entry.Entry.{Entry}
-use Rattle.iox_run.specs.Ports.{is_response_to}
+use Rattle.iox_run.specs.Things.{is_response_to}
 use Rattle.iox_run.specs.Limits.{max_borrowed_responses}
 use Rattle.iox_run.specs.Slots.{shown, response_at, waiting_slots}
 use Rattle.iox_run.specs.Hubs.{service_in}

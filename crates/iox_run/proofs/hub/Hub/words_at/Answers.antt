@@ -3,7 +3,7 @@ use Rattle.iox_script.specs.declared.reply.Refusal.{Refusal}
 use Rattle.iox_run.specs.declared.hub.entry.RequestSlot.{RequestSlot}
 use Rattle.std.proofs.lemmas.List.{get_or_read}
 use Rattle.iox_run.specs.declared.hub.entry.Entry.{Entry}
-use Rattle.iox_run.specs.Ports.{words_in}
+use Rattle.iox_run.specs.Things.{words_in}
 use Rattle.iox_run.specs.Slots.{shown}
 use Rattle.iox_run.proofs.HubSound.{entry-sound}
 use Rattle.iox_run.proofs.hub.Hub.words_at.Goals as goal
