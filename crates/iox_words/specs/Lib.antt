@@ -1,0 +1,10 @@
+pub mod WordLists
+-- for a type of your own
+pub mod WordParts
+pub mod WordLaws
+pub mod WhereLaws
+-- for the types of std
+pub mod Numbers
+pub mod NumberLaws
+pub mod SignedLaws
+pub mod PlainLaws
