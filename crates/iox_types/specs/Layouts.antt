@@ -1,0 +1,57 @@
+-- Where the parts of a message stand: intervals of bytes, each at the least aligned place.
+use Rattle.std.specs.Prelude.{ℕ, ◌+◌, ◌-◌, ◌*◌, ◌^◌, ◌<◌, ◌≤◌, nat_lt, Option, Some, None, if◌then◌else◌}
+use Rattle.iox_types.specs.Compatibility.{AreCompatible, AreAligned}
+use Rattle.iox_types.specs.declared.message_type_details.MessageTypeDetails.{MessageTypeDetails}
+use Rattle.iox_types.specs.Places.{IsAlignedTo, aligned_place}
+use Rattle.iox_types.specs.declared.layout.SampleLayout.{SampleLayout}
+
+-- the bytes that a message of n elements takes at most, wherever its header stands
+abbrev pub message_bytes : MessageTypeDetails → ℕ → ℕ
+message_bytes details n =
+    details.header.size + details.user_header.size + (details.user_header.alignment - 1)
+    + n * details.payload.size + (details.payload.alignment - 1)
+
+-- a number of bytes that fits `usize`
+abbrev pub told : ℕ → Option ℕ
+told bytes = if nat_lt bytes (2 ^ 64) then Some bytes else None
+
+-- the size of a message of n elements: these bytes, rounded up to the header's alignment
+abbrev pub message_size : MessageTypeDetails → ℕ → ℕ
+message_size details n = aligned_place (message_bytes details n) details.header.alignment
+
+-- size and alignment of a message, if the size is at most `isize::MAX`
+abbrev pub message_layout : MessageTypeDetails → ℕ → Option SampleLayout
+message_layout details n =
+    if nat_lt (message_size details n) (2 ^ 63)
+    then Some (record { size = message_size details n; alignment = details.header.alignment })
+    else None
+
+-- where the user header stands, if the header stands at `place`
+abbrev pub user_header_place : MessageTypeDetails → ℕ → ℕ
+user_header_place details place = aligned_place (place + details.header.size) details.user_header.alignment
+
+-- where the payload stands then
+abbrev pub payload_place : MessageTypeDetails → ℕ → ℕ
+payload_place details place =
+    aligned_place (user_header_place details place + details.user_header.size) details.payload.alignment
+
+-- a message whose header stands at `place` ends, even without elements, where a place can be told
+abbrev pub HasRoomAt : MessageTypeDetails → ℕ → Type 0
+HasRoomAt details place = place + message_bytes details 0 < 2 ^ 64
+
+-- The parts of a message that `mine` tells of, at the places that `service` lays out from `start`
+-- on: each is aligned, each begins behind the one before, and all end within `size` bytes.
+pub record StandsAt (service mine : MessageTypeDetails) (n size start : ℕ) : Type 0 where
+  pub header_aligned : IsAlignedTo mine.header.alignment start
+  pub user_header_behind : start + mine.header.size ≤ user_header_place service start
+  pub user_header_aligned : IsAlignedTo mine.user_header.alignment (user_header_place service start)
+  pub payload_behind : user_header_place service start + mine.user_header.size ≤ payload_place service start
+  pub payload_aligned : IsAlignedTo mine.payload.alignment (payload_place service start)
+  pub within : payload_place service start + n * mine.payload.size ≤ start + size
+
+-- Message i begins at i times the size: there its parts stand for the service itself and for every
+-- opener whose details are compatible to the service's.
+abbrev pub LaysOut : MessageTypeDetails → ℕ → ℕ → Type 0
+LaysOut service n size =
+    (mine : MessageTypeDetails) → AreAligned mine → AreCompatible mine service → (i : ℕ) →
+    StandsAt service mine n size (i * size)

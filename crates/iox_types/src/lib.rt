@@ -1,0 +1,20 @@
+//! What is told of messages: the identifiers and headers that they carry, their types and their layout.
+#![tactic(auto)]
+
+pub mod channel_state;
+pub mod header;
+pub mod identifiers;
+pub mod laws;
+mod layout;
+pub mod message_type_details;
+pub mod type_detail;
+mod type_name;
+
+pub use channel_state::{ChannelState, RequestId};
+pub use header::{RequestHeader, ResponseHeader};
+pub use layout::SampleLayout;
+pub use message_type_details::MessageTypeDetails;
+pub use type_detail::{TypeDetail, TypeDetailError, TypeVariant};
+
+#[cfg(test)]
+mod tests;

@@ -1,0 +1,214 @@
+use crate::identifiers::{
+    UniqueClientId, UniqueListenerId, UniqueNodeId, UniqueNodeIdError, UniquePortId,
+    UniqueServerId, UniqueServiceId, UniqueSystemId,
+};
+use crate::{
+    MessageTypeDetails, RequestHeader, RequestId, ResponseHeader, TypeDetail, TypeDetailError,
+    TypeVariant,
+};
+use iox_words::{Words, ZeroCopySend};
+use std::process::Abort;
+use std::test::Fail;
+
+const FIRST: UniqueSystemId = UniqueSystemId {
+    process: 1,
+    seconds: 2,
+    nanoseconds: 3,
+    counter: 4,
+};
+
+const LAST: UniqueSystemId = UniqueSystemId {
+    process: u32::MAX,
+    seconds: u32::MAX,
+    nanoseconds: u32::MAX,
+    counter: u32::MAX,
+};
+
+#[test]
+fn an_identifier_is_its_four_numbers(rt: HostRuntime) -> Result<(), Fail> {
+    let id = UniqueNodeId::new(FIRST)?;
+    assert_eq!(rt; id.value(), 0x0000_0001_0000_0002_0000_0003_0000_0004);
+    assert_eq!(rt; id.pid(), 1);
+    assert_eq!(rt; id.creation_time().seconds, 2);
+    assert_eq!(rt; id.creation_time().nanoseconds, 3);
+    assert_eq!(rt; id.system_id(), FIRST);
+    let text = format!(in rt.alloc(); "{id}")?;
+    assert_eq!(rt; text.as_str(), "00000001000000020000000300000004");
+    let client = UniqueClientId::new(LAST);
+    assert_eq!(rt; client.value(), u128::MAX);
+    assert_eq!(rt; client.pid(), u32::MAX);
+    assert_eq!(rt; client.system_id(), LAST);
+    let text = format!(in rt.alloc(); "{client}")?;
+    assert_eq!(rt; text.as_str(), "ffffffffffffffffffffffffffffffff");
+    assert_eq!(rt; UniquePortId::Client(client).value(), u128::MAX);
+    assert_eq!(rt;
+        UniquePortId::Listener(UniqueListenerId::new(FIRST)).value(),
+        id.value()
+    );
+    assert!(rt; UniqueServiceId::new(FIRST) < UniqueServiceId::new(LAST));
+    Ok(())
+}
+
+#[test]
+fn a_node_has_a_process_number_or_a_counter(rt: HostRuntime) {
+    let nobody = UniqueSystemId {
+        process: 0,
+        seconds: 2,
+        nanoseconds: 3,
+        counter: 0,
+    };
+    assert_eq!(rt;
+        UniqueNodeId::new(nobody),
+        Err(UniqueNodeIdError::InvalidNodeId)
+    );
+    assert!(rt;
+        UniqueNodeId::new(UniqueSystemId {
+            counter: 1,
+            ..nobody
+        })
+        .is_ok()
+    );
+    assert!(rt;
+        UniqueNodeId::new(UniqueSystemId {
+            process: 1,
+            ..nobody
+        })
+        .is_ok()
+    );
+    assert!(rt; UniqueNodeId::of_words(&[2, 3 << 32]).is_none());
+}
+
+/// The words of a value at the numbers below those of its type.
+fn has_words<T: Words>(rt: &impl Abort, value: T, words: &[u64]) {
+    assert_eq!(rt; T::WORDS, words.len());
+    for (index, word) in words.iter().enumerate() {
+        assert_eq!(rt; value.word(index), *word);
+    }
+    assert!(rt; T::of_words(words).is_some());
+}
+
+#[test]
+fn headers_have_the_words_of_their_fields(rt: HostRuntime) -> Result<(), Fail> {
+    let node_id = UniqueNodeId::new(FIRST)?;
+    let request_id = RequestId::new(7).ok_or("small")?;
+    let request = RequestHeader {
+        node_id,
+        client_id: UniqueClientId::new(LAST),
+        channel_id: 5,
+        request_id,
+        number_of_elements: 9,
+    };
+    let whole = u64::MAX;
+    has_words(
+        &rt,
+        request,
+        &[4294967298, 12884901892, whole, whole, 5, 7, 9],
+    );
+    assert_eq!(rt; request.client_id().value(), u128::MAX);
+    assert_eq!(rt; request.node_id(), node_id);
+    assert_eq!(rt; request.number_of_elements(), 9);
+    let response = ResponseHeader {
+        node_id,
+        server_id: UniqueServerId::new(LAST),
+        request_id,
+        number_of_elements: 1,
+    };
+    has_words(
+        &rt,
+        response,
+        &[4294967298, 12884901892, whole, whole, 7, 1],
+    );
+    assert_eq!(rt; response.server_id().value(), u128::MAX);
+    assert_eq!(rt; response.node_id(), node_id);
+    assert_eq!(rt; response.number_of_elements(), 1);
+    assert!(rt; RequestHeader::of_words(&[1, 1, 1, 1, 1, 1 << 62, 1]).is_none());
+    assert!(rt; ResponseHeader::of_words(&[1, 1, 1, 1, 1]).is_none());
+    Ok(())
+}
+
+#[test]
+fn a_request_number_is_below_its_limit(rt: HostRuntime) -> Result<(), Fail> {
+    let last = RequestId::new(RequestId::max_value() - 1).ok_or("small")?;
+    assert_eq!(rt; last.value(), 4611686018427387903);
+    assert_eq!(rt; RequestId::new(RequestId::max_value()), None);
+    has_words(&rt, last, &[4611686018427387903]);
+    Ok(())
+}
+
+#[test]
+fn a_detail_is_told_by_its_type_or_its_parts(rt: HostRuntime) -> Result<(), Fail> {
+    let detail = TypeDetail::new::<u64>(TypeVariant::Dynamic)?;
+    assert_eq!(rt; detail.variant(), TypeVariant::Dynamic);
+    assert_eq!(rt; detail.type_name(), "u64");
+    assert_eq!(rt; detail.size(), 8);
+    assert_eq!(rt; detail.alignment(), 8);
+    assert!(rt; TypeDetail::is_name("u64"));
+    assert!(rt; TypeDetail::is_name("\u{1}\u{7f}"));
+    assert!(rt; !TypeDetail::is_name(""));
+    assert!(rt; !TypeDetail::is_name("u\0"));
+    assert!(rt; !TypeDetail::is_name("u\u{80}"));
+    let same = TypeDetail::from_parts(TypeVariant::Dynamic, "u64", 8, 8)?;
+    assert!(rt; detail.is_compatible_to(&same));
+    let other = TypeDetail::from_parts(TypeVariant::Dynamic, "u65", 8, 8)?;
+    assert!(rt; !detail.is_compatible_to(&other));
+    assert_eq!(rt;
+        TypeDetail::new::<RequestHeader>(TypeVariant::FixedSize)?.size(),
+        56
+    );
+    assert_eq!(rt;
+        TypeDetail::new::<ResponseHeader>(TypeVariant::FixedSize)?.size(),
+        48
+    );
+    Ok(())
+}
+
+#[test]
+fn a_name_has_at_most_256_bytes(rt: HostRuntime) -> Result<(), Fail> {
+    let longest = "0123456789abcdef0123456789abcdef0123456789abcdef0123456789abcdef\
+        0123456789abcdef0123456789abcdef0123456789abcdef0123456789abcdef\
+        0123456789abcdef0123456789abcdef0123456789abcdef0123456789abcdef\
+        0123456789abcdef0123456789abcdef0123456789abcdef0123456789abcdef";
+    let detail = TypeDetail::from_parts(TypeVariant::FixedSize, longest, 1, 1)?;
+    assert_eq!(rt; detail.type_name(), longest);
+    let longer = "x0123456789abcdef0123456789abcdef0123456789abcdef0123456789abcde\
+        f0123456789abcdef0123456789abcdef0123456789abcdef0123456789abcde\
+        f0123456789abcdef0123456789abcdef0123456789abcdef0123456789abcde\
+        f0123456789abcdef0123456789abcdef0123456789abcdef0123456789abcde\
+        f";
+    let error = TypeDetail::from_parts(TypeVariant::FixedSize, longer, 1, 3).err();
+    assert_eq!(rt; error, Some(TypeDetailError::NameTooLong));
+    let error = TypeDetail::from_parts(TypeVariant::FixedSize, longest, 1, 3).err();
+    assert_eq!(rt; error, Some(TypeDetailError::AlignmentNotPowerOfTwo));
+    Ok(())
+}
+
+#[test]
+fn three_parts_of_i64_take_48_bytes(rt: HostRuntime) -> Result<(), Fail> {
+    let details = MessageTypeDetails::from::<i64, i64, i64>(TypeVariant::Dynamic)?;
+    let layout = details.sample_layout(2).ok_or("small")?;
+    assert_eq!(rt; layout.size, 48);
+    assert_eq!(rt; layout.alignment, 8);
+    assert_eq!(rt; details.user_header_ptr_from_header(0), 8);
+    assert_eq!(rt; details.payload_ptr_from_header(0), 16);
+    assert!(rt; 21 * layout.size == 1008);
+    assert!(rt; 22 * layout.size == 1056);
+    assert!(rt; details.sample_layout(usize::MAX).is_none());
+    assert!(rt; details.sample_layout(1152921504606846972).is_none());
+    assert!(rt; details.sample_layout(1152921504606846971).is_some());
+    Ok(())
+}
+
+#[test]
+fn a_greater_alignment_is_compatible_one_way(rt: HostRuntime) -> Result<(), Fail> {
+    let details = MessageTypeDetails::from::<i64, i64, i64>(TypeVariant::FixedSize)?;
+    let wide = TypeDetail::from_parts(TypeVariant::FixedSize, "i64", 8, 16)?;
+    let wider = MessageTypeDetails {
+        header: details.header,
+        user_header: wide,
+        payload: wide,
+    };
+    assert!(rt; details.is_compatible_to(&wider));
+    assert!(rt; !wider.is_compatible_to(&details));
+    assert!(rt; wider.is_compatible_to(&wider));
+    Ok(())
+}
