@@ -1,0 +1,9 @@
+pub mod BitWordLemmas
+pub mod BitSetLemmas
+pub mod BitScanLemmas
+pub mod CallLemmas
+pub mod CountLemmas
+pub mod FreeListLemmas
+pub mod RangeLemmas
+pub mod OwnedLemmas
+pub mod RecoveryLemmas

@@ -1,0 +1,4 @@
+use Rattle.iox_sets.proofs.mpmc.bit_set.fixed_size.FixedSizeBitSet.reset_all.Goals as goal
+
+pub returns-clause-called : goal.returns-clause-called
+returns-clause-called g c = rw (← c.self.view_is) c.reset_all.ensures.called

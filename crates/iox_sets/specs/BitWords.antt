@@ -1,0 +1,17 @@
+-- How bits lie in words, 64 in each, lowest first.
+use Rattle.std.specs.Prelude.{◌≡◌, ◌==◌, ◌*◌, ◌/◌, ◌%◌, ◌<◌, ◌≤◌, ℕ, Bool, true, List, length, map, slice_index}
+use Rattle.std.specs.Int.{bit_at}
+use Rattle.std.specs.List.{range_with_len}
+
+-- whether a bit is set in the words
+abbrev pub bit_in : List ℕ → ℕ → Bool
+bit_in words id = bit_at (slice_index words (id / 64)) (id % 64) == 1
+
+-- the first `capacity` bits of the words
+abbrev pub bits_in : List ℕ → ℕ → List Bool
+bits_in words capacity = map (bit_in words) (range_with_len 0 capacity)
+
+-- the words have room for the bits, and none is set past them
+pub record IsWholeSet (words : List ℕ) (capacity : ℕ) : Type 0 where
+  pub room : capacity ≤ length words * 64
+  pub inside : (id : ℕ) → bit_in words id ≡ true → id < capacity

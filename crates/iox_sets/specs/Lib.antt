@@ -1,0 +1,13 @@
+pub mod BitSets
+pub mod Calls
+pub mod CountingBitSets
+pub mod Guards
+pub mod Heads
+pub mod IndexSets
+pub mod OwnedIndices
+pub mod Refusals
+-- for proofs of this crate alone
+pub mod BitWords
+pub mod FreeBits
+pub mod FreeLists
+pub mod Words

@@ -1,0 +1,79 @@
+use super::{OwnerId, OwnerIdNewError, RobustUniqueIndexSet, StaticRobustUniqueIndexSet};
+use crate::mpmc::unique_index_set_enums::{
+    ReleaseMode, ReleaseState, UniqueIndexSetAcquireFailure, UniqueIndexSetNewError,
+};
+use std::test::Fail;
+
+#[test]
+fn the_greatest_number_is_no_owner(rt: HostRuntime) -> Result<(), Fail> {
+    assert_eq!(rt; OwnerId::new(u64::MAX), Err(OwnerIdNewError::InvalidValue));
+    let text = OwnerIdNewError::InvalidValue.to_string(rt.alloc())?;
+    assert_eq!(rt; text.as_str(), "OwnerIdNewError::InvalidValue");
+    Ok(())
+}
+
+#[test]
+fn the_lowest_free_index_is_taken(rt: HostRuntime) -> Result<(), Fail> {
+    let owner = OwnerId::new(7)?;
+    let mut set = RobustUniqueIndexSet::new(rt.alloc(), 3)?;
+    assert_eq!(rt; set.capacity(), 3);
+    assert_eq!(rt; set.acquire(owner), Ok(0));
+    let Ok(one) = set.acquire(owner) else {
+        return Ok(());
+    };
+    assert_eq!(rt; one, 1);
+    assert_eq!(rt; set.acquire(owner), Ok(2));
+    assert_eq!(rt;
+        set.acquire(owner),
+        Err(UniqueIndexSetAcquireFailure::OutOfIndices)
+    );
+    assert_eq!(rt; set.borrowed_indices(), 3);
+    assert_eq!(rt; set.find(|_| true), Some(0));
+    assert_eq!(rt;
+        set.release(one, ReleaseMode::LockIfLastIndex),
+        ReleaseState::Unlocked
+    );
+    assert_eq!(rt; set.acquire(owner), Ok(1));
+    Ok(())
+}
+
+#[test]
+fn a_recovery_frees_what_its_owner_holds(rt: HostRuntime) -> Result<(), Fail> {
+    let first = OwnerId::new(1)?;
+    let second = OwnerId::new(2)?;
+    let mut set = StaticRobustUniqueIndexSet::<70>::new(rt.alloc())?;
+    assert_eq!(rt; set.acquire(first), Ok(0));
+    assert_eq!(rt; set.acquire(second), Ok(1));
+    assert_eq!(rt; set.acquire(first), Ok(2));
+    assert_eq!(rt; set.find(|owner| owner == second), Some(1));
+    assert_eq!(rt;
+        set.recover(first, |index| index != 0, ReleaseMode::LockIfLastIndex),
+        ReleaseState::Unlocked
+    );
+    assert_eq!(rt; set.acquire(second), Ok(2));
+    assert_eq!(rt;
+        set.recover(second, |_| true, ReleaseMode::LockIfLastIndex),
+        ReleaseState::Unlocked
+    );
+    assert_eq!(rt; set.borrowed_indices(), 1);
+    assert_eq!(rt;
+        set.recover(first, |_| true, ReleaseMode::LockIfLastIndex),
+        ReleaseState::Locked
+    );
+    assert!(rt; set.is_locked());
+    assert_eq!(rt;
+        set.acquire(first),
+        Err(UniqueIndexSetAcquireFailure::IsLocked)
+    );
+    assert_eq!(rt; set.find(|_| true), None);
+    Ok(())
+}
+
+#[test]
+fn a_reduced_capacity_is_kept(rt: HostRuntime) -> Result<(), Fail> {
+    let set = StaticRobustUniqueIndexSet::<4>::new_with_reduced_capacity(rt.alloc(), 2)?;
+    assert_eq!(rt; set.capacity(), 2);
+    let large = StaticRobustUniqueIndexSet::<4>::new_with_reduced_capacity(rt.alloc(), 5);
+    assert_eq!(rt; large.err(), Some(UniqueIndexSetNewError::ExceedsCapacity));
+    Ok(())
+}
