@@ -1,0 +1,115 @@
+-- A step of a queue's machine is one moment of the queue.
+use Rattle.std.proofs.Common.{◌≡◌, ℕ, zero, suc, ◌<◌, List, [], ◌∷◌, length, slice_index, slice_index_or, refl, sym, subst, ◌∙◌, arith, Result, Ok, Err, IfOk}
+use Rattle.iox_steps.specs.declared.access.Progress.{Progress}
+use Rattle.iox_steps.specs.declared.error.MachineError.{MachineError}
+use Rattle.iox_steps.specs.declared.site.Site.{Site}
+use Rattle.iox_steps.specs.declared.seat.Moment.{Moment}
+use Rattle.iox_steps.specs.declared.seat.Reply.{Reply}
+use Rattle.iox_steps.specs.Accesses.{seen_by, words_after, place_of, IsWithin}
+use Rattle.iox_steps.specs.Sites.{size}
+use Rattle.iox_steps.specs.Moments.{IsTrueOf}
+use Rattle.iox_steps.specs.Runs.{Line, line_after}
+use Rattle.iox_steps.specs.Answers.{Answers}
+use Rattle.iox_steps.specs.Worlds.{seen_in, after_access}
+use Rattle.iox_steps.proofs.AccessLemmas.{reads_after, word_after-other, length-words_after, outside}
+use Rattle.iox_steps.proofs.Frames.{pushing_within, popping_within}
+use Rattle.iox_steps.proofs.ListSteps.{pushing_step_in_list, popping_step_in_list, pushing_within_list, popping_within_list}
+use Rattle.iox_steps.proofs.AnswerLemmas.{pushing_answers, popping_answers}
+use Rattle.iox_queue_steps.specs.declared.queue.Seat.{Seat}
+use Rattle.iox_queue_steps.specs.declared.queue.Seat.TheVariants.{Pusher, Popper}
+use Rattle.iox_queue_steps.specs.declared.queue.QueueParty.{QueueParty}
+use Rattle.iox_queue_steps.specs.Queues.{seat_access, seat_after, seat_progress, seat_moment, queue_asks, queue_happens, QueueLeads, QueueHolds, BothPlayed, PartiesPlayed}
+use Rattle.iox_queue_steps.specs.Machines.{QueueWorld, QueueStepped, SeatsShow, IsMoment}
+
+-- what an access of the seat `party`, after which the seats are these, is to the queue
+record SeatMoment (site : Site) (words : List ℕ) (a b : Seat) (party : Seat) (a' b' : Seat) : Type 0 where
+  line : Line
+  shown : SeatsShow site words a b line
+  within : IsWithin site.base (size site) (seat_access site party)
+  inside : IsWithin 0 (length words) (seat_access site party)
+  is_true : IsTrueOf site line.write line.waiting line.hand (seat_moment site party (seen_by (seat_access site party) (λ place. slice_index words place)))
+  leads_to : SeatsShow site (words_after (seat_access site party) words) a' b' (line_after (seat_moment site party (seen_by (seat_access site party) (λ place. slice_index words place))) line)
+  answers : Answers (seat_progress site party (seen_by (seat_access site party) (λ place. slice_index words place))) (seat_moment site party (seen_by (seat_access site party) (λ place. slice_index words place)))
+
+first_moment : (site : Site) (words : List ℕ) (a b : Seat) (events : List Moment) → BothPlayed site words a b events → SeatMoment site words a b a (seat_after site a (seen_by (seat_access site a) (λ place. slice_index words place))) b
+first_moment site words (Pusher pushes) (Popper pops) events played =
+    let did = pushing_step_in_list site words played.waiting played.hand pushes pops played.room played.fits in
+    record {
+      line = record { write = slice_index words site.base; waiting = played.waiting; hand = played.hand };
+      shown = (refl, played.fits);
+      within = pushing_within site (λ place. slice_index words place) played.waiting played.hand pushes played.fits.push;
+      inside = pushing_within_list site words played.waiting played.hand pushes pops played.room played.fits;
+      is_true = did.0;
+      leads_to = (did.1, did.2);
+      answers = pushing_answers site (λ place. slice_index words place) played.waiting played.hand pushes _ played.fits.push;
+    }
+first_moment site words (Pusher pushes) (Pusher other) events played = absurd played
+first_moment site words (Popper pops) b events played = absurd played
+
+second_moment : (site : Site) (words : List ℕ) (a b : Seat) (events : List Moment) → BothPlayed site words a b events → SeatMoment site words a b b a (seat_after site b (seen_by (seat_access site b) (λ place. slice_index words place)))
+second_moment site words (Pusher pushes) (Popper pops) events played =
+    let did = popping_step_in_list site words played.waiting played.hand pushes pops played.room played.fits in
+    record {
+      line = record { write = slice_index words site.base; waiting = played.waiting; hand = played.hand };
+      shown = (refl, played.fits);
+      within = popping_within site (λ place. slice_index words place) played.waiting pops played.fits.ring.bounded played.fits.pop;
+      inside = popping_within_list site words played.waiting played.hand pushes pops played.room played.fits;
+      is_true = did.0;
+      leads_to = (did.1, did.2);
+      answers = popping_answers site pops _;
+    }
+second_moment site words (Pusher pushes) (Pusher other) events played = absurd played
+second_moment site words (Popper pops) b events played = absurd played
+
+-- what an access of this party is to the world
+abbrev Is : List ℕ → List QueueParty → List Moment → ℕ → QueueParty → Progress Reply → QueueParty → Type 0
+Is words parties events number after answer party =
+    let old : QueueWorld = record { words = words; parties = parties; events = events } in
+    QueueLeads party (seen_in old (queue_asks party)) answer after → IsMoment old (after_access old number (queue_asks party) after (queue_happens party (seen_in old (queue_asks party)))) answer
+
+moment_at : (words : List ℕ) (parties : List QueueParty) (events : List Moment) (number : ℕ) (party after : QueueParty) (answer : Progress Reply) → PartiesPlayed words parties events → number < length parties → party ≡ slice_index_or parties number party
+    → Is words parties events number after answer party
+moment_at words (a ∷ b ∷ []) events zero party after answer played below is = subst (Is words (a ∷ b ∷ []) events 0 after answer) (sym is) (λ leads.
+    let did = first_moment a.site words a.seat b.seat events played.1 in
+    record {
+      site = a.site;
+      line = did.line;
+      moment = seat_moment a.site a.seat (seen_by (seat_access a.site a.seat) (λ place. slice_index words place));
+      shown = (refl, played.0, did.shown);
+      is_true = did.is_true;
+      leads_to = (leads.0, played.0, rw leads.1 did.leads_to);
+      events = refl;
+      answers = rw leads.2 did.answers;
+      length_stays = length-words_after (seat_access a.site a.seat) words;
+      one_word = (place_of (seat_access a.site a.seat), λ other apart. reads_after (seat_access a.site a.seat) words did.inside other ∙ word_after-other (seat_access a.site a.seat) (λ place. slice_index words place) other apart);
+      outside = λ place out. reads_after (seat_access a.site a.seat) words did.inside place ∙ outside (seat_access a.site a.seat) (λ at. slice_index words at) a.site.base (size a.site) place did.within out;
+    })
+moment_at words (a ∷ b ∷ []) events (suc zero) party after answer played below is = subst (Is words (a ∷ b ∷ []) events 1 after answer) (sym is) (λ leads.
+    let at = sym played.0 in
+    let did = second_moment b.site words a.seat b.seat events (subst (λ site. BothPlayed site words a.seat b.seat events) at played.1) in
+    record {
+      site = b.site;
+      line = did.line;
+      moment = seat_moment b.site b.seat (seen_by (seat_access b.site b.seat) (λ place. slice_index words place));
+      shown = (at, refl, did.shown);
+      is_true = did.is_true;
+      leads_to = (at, leads.0, rw leads.1 did.leads_to);
+      events = refl;
+      answers = rw leads.2 did.answers;
+      length_stays = length-words_after (seat_access b.site b.seat) words;
+      one_word = (place_of (seat_access b.site b.seat), λ other apart. reads_after (seat_access b.site b.seat) words did.inside other ∙ word_after-other (seat_access b.site b.seat) (λ place. slice_index words place) other apart);
+      outside = λ place out. reads_after (seat_access b.site b.seat) words did.inside place ∙ outside (seat_access b.site b.seat) (λ at. slice_index words at) b.site.base (size b.site) place did.within out;
+    })
+moment_at words (a ∷ b ∷ []) events (suc (suc number)) party after answer played below is = absurd (omega arith)
+moment_at words [] events number party after answer played below is = absurd played
+moment_at words (a ∷ []) events number party after answer played below is = absurd played
+moment_at words (a ∷ b ∷ c ∷ others) events number party after answer played below is = absurd played
+
+pub moment_of : (old new : QueueWorld) (number : ℕ) (answer : Progress Reply) → QueueHolds old → QueueStepped old number answer new → IsMoment old new answer
+moment_of old new number answer holds step =
+    subst (λ (w : QueueWorld). IsMoment old w answer) (sym step.leads_to) (moment_at old.words old.parties old.events number step.party step.after answer holds step.is_party.0 step.is_party.1 step.leads_on)
+
+-- whatever the step answers
+pub moments_of : (old new : QueueWorld) (number : ℕ) (result : Result (Progress Reply) MachineError) → QueueHolds old → IfOk result (λ answer. QueueStepped old number answer new) → IfOk result (IsMoment old new)
+moments_of old new number (Ok answer) holds step = moment_of old new number answer holds step
+moments_of old new number (Err error) holds step = tt

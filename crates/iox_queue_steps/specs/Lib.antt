@@ -1,0 +1,4 @@
+pub mod Queues
+pub mod QueueLaws
+pub mod BeginLaws
+pub mod Machines

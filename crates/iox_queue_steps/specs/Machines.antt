@@ -1,0 +1,67 @@
+-- What a machine of a queue promises, step by step and for every schedule.
+use Rattle.std.specs.Prelude.{◌≡◌, ℕ, ◌+◌, ◌<◌, ◌≤◌, ◌⊎◌, ◌++◌, List, [], ◌∷◌, length, slice_index}
+use Rattle.std.specs.Option.{option_to_list}
+use Rattle.iox_steps.specs.declared.access.Progress.{Progress}
+use Rattle.iox_steps.specs.declared.error.MachineError.{MachineError}
+use Rattle.iox_steps.specs.declared.machine.Entry.{Entry}
+use Rattle.iox_steps.specs.declared.site.Site.{Site}
+use Rattle.iox_steps.specs.declared.seat.Moment.{Moment}
+use Rattle.iox_steps.specs.declared.seat.Reply.{Reply}
+use Rattle.iox_steps.specs.Sites.{size}
+use Rattle.iox_steps.specs.Moments.{IsTrueOf}
+use Rattle.iox_steps.specs.Fits.{Fits}
+use Rattle.iox_steps.specs.Runs.{Line, line_after, told}
+use Rattle.iox_steps.specs.Answers.{Answers}
+use Rattle.iox_steps.specs.Worlds.{World, Stepped, IsStepRefused, Begun, IsBeginRefused, AllEntered}
+use Rattle.iox_queue_steps.specs.declared.queue.Seat.{Seat}
+use Rattle.iox_queue_steps.specs.declared.queue.Seat.TheVariants.{Pusher, Popper}
+use Rattle.iox_queue_steps.specs.declared.queue.Call.{Call}
+use Rattle.iox_queue_steps.specs.declared.queue.QueueParty.{QueueParty}
+use Rattle.iox_queue_steps.specs.Queues.{queue_asks, queue_happens, queue_rests, QueueLeads, QueueBegins}
+
+-- the entries of a machine, at a queue's parties
+abbrev pub QueueWorld : Type 0
+QueueWorld = World QueueParty Moment
+
+abbrev pub QueueStepped : QueueWorld → ℕ → Progress Reply → QueueWorld → Type 0
+QueueStepped = Stepped queue_asks QueueLeads queue_happens queue_rests QueueBegins
+
+abbrev pub IsQueueStepRefused : QueueWorld → ℕ → MachineError → Type 0
+IsQueueStepRefused = IsStepRefused queue_asks QueueLeads queue_happens queue_rests QueueBegins
+
+abbrev pub QueueBegun : QueueWorld → ℕ → Call → QueueWorld → Type 0
+QueueBegun = Begun queue_asks QueueLeads queue_happens queue_rests QueueBegins
+
+abbrev pub IsQueueBeginRefused : QueueWorld → ℕ → Call → MachineError → Type 0
+IsQueueBeginRefused = IsBeginRefused queue_asks QueueLeads queue_happens queue_rests QueueBegins
+
+abbrev pub AllQueueEntered : QueueWorld → List (Entry Call) → QueueWorld → Type 0
+AllQueueEntered = AllEntered queue_asks QueueLeads queue_happens queue_rests QueueBegins
+
+-- the words and both parties are those of the queue at this site in which the line waits
+abbrev pub SeatsShow : Site → List ℕ → Seat → Seat → Line → Type 0
+SeatsShow site words (Pusher pushes) (Popper pops) line = (slice_index words site.base ≡ line.write)
+    × Fits site (λ place. slice_index words place) line.waiting line.hand pushes pops
+SeatsShow site words a b line = ⊥
+
+abbrev pub PartiesShow : Site → List ℕ → List QueueParty → Line → Type 0
+PartiesShow site words (a ∷ b ∷ []) line = (a.site ≡ site) × (b.site ≡ site)
+    × SeatsShow site words a.seat b.seat line
+PartiesShow site words parties line = ⊥
+
+-- One access is one moment: it is true of the queue before, leads to the queue after, is written down, and the reply says it.
+pub record IsMoment (old new : QueueWorld) (answer : Progress Reply) : Type 0 where
+  pub site : Site
+  pub line : Line
+  pub moment : Moment
+  pub shown : PartiesShow site old.words old.parties line
+  pub is_true : IsTrueOf site line.write line.waiting line.hand moment
+  pub leads_to : PartiesShow site new.words new.parties (line_after moment line)
+  pub events : new.events ≡ old.events ++ option_to_list (told moment)
+  pub answers : Answers answer moment
+  -- one word changed at most, and none outside the queue
+  pub length_stays : length new.words ≡ length old.words
+  pub one_word : (place : ℕ)
+      × ((other : ℕ) → (other ≡ place → ⊥) → slice_index new.words other ≡ slice_index old.words other)
+  pub outside : (place : ℕ) → (place < site.base) ⊎ (site.base + size site ≤ place)
+      → slice_index new.words place ≡ slice_index old.words place

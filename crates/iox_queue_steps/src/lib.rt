@@ -1,0 +1,13 @@
+//! A queue whose two parties are played access by access: whatever the schedule, the values that
+//! leave are, in order, the first of those published, and the rest waits.
+#![tactic(auto)]
+
+mod machine;
+mod party;
+mod queue;
+
+pub use machine::QueueMachine;
+pub use queue::{Call, QueueParty, Seat};
+
+#[cfg(test)]
+mod tests;

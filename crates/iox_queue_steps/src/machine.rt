@@ -1,0 +1,89 @@
+//! The machine of one queue.
+ghost use Rattle.std.specs.Prelude.{◌≡◌};
+
+use crate::party::at_rest;
+use crate::queue::{Call, QueueParty};
+use iox_steps::{Entry, Machine, MachineError, Moment, Progress, QueueKind, Reply, Site};
+use std::alloc::{AllocError, Global};
+use std::marker::Model;
+
+/// A queue among shared words, and its two parties: party 0 pushes and looks at fullness, party 1 pops
+/// and looks at emptiness.
+#[derive(Drop)]
+pub struct QueueMachine {
+    machine: Machine<QueueParty>,
+}
+
+impl Model for QueueMachine {
+    ghost use Rattle.iox_queue_steps.specs.Machines.{QueueWorld};
+
+    ghost Value = { QueueWorld };
+
+    ghost view = { λ m. m.machine };
+}
+
+impl QueueMachine {
+    ghost use Rattle.std.specs.Prelude.{◌≡◌, ℕ, ◌+◌, ◌<◌, ◌≤◌, [], length, slice_index, take, IfOk, IfErr, OnOk, OnErr};
+    ghost use Rattle.iox_steps.specs.Sites.{size};
+    ghost use Rattle.iox_queue_steps.specs.Queues.{IsNewMachine, QueueHolds};
+    ghost use Rattle.iox_queue_steps.specs.Machines.{QueueStepped, IsQueueStepRefused, QueueBegun, IsQueueBeginRefused, AllQueueEntered, IsMoment};
+
+    /// A machine of the empty queue at this place among the words, at whatever position the queue is.
+    pub fn new(alloc: Global, words: Vec<u64>, site: Site) -> Result<QueueMachine, AllocError>
+        requires room { site.base + size site ≤ length words.items }
+        requires empty { slice_index words.items site.base ≡ slice_index words.items (site.base + 1) }
+        requires some { site.kind ≡ QueueKind.Overflowing → 0 < site.capacity }
+        ensures made { IfOk result (IsNewMachine words.items site) }
+    {
+        let _position = words[site.base];
+        let parties = at_rest(alloc, site)?;
+        Ok(QueueMachine {
+            machine: Machine::new(alloc, words, parties),
+        })
+    }
+
+    /// The shared words.
+    pub fn words(&self) -> &[u64]
+        ensures { result.now ≡ self.now.words }
+    {
+        self.machine.words()
+    }
+
+    /// What happened so far.
+    pub fn events(&self) -> &[Moment]
+        ensures { result.now ≡ self.now.events }
+    {
+        self.machine.events()
+    }
+
+    /// The party begins the call, with no access.
+    pub fn begin(&mut self, party: usize, call: Call) -> Result<(), MachineError>
+        ensures begun { OnOk result (QueueBegun self.old party call self.new) }
+        ensures refused { IfErr result (IsQueueBeginRefused self.old party call) }
+        ensures unchanged { OnErr result (self.new ≡ self.old) }
+    {
+        self.machine.begin(party, call)
+    }
+
+    /// One access of the party's call.
+    pub fn step(&mut self, party: usize) -> Result<Progress<Reply>, MachineError>
+        ensures moment { IfOk result (IsMoment self.old self.new) }
+        ensures stepped { IfOk result (λ answer. QueueStepped self.old party answer self.new) }
+        ensures refused { IfErr result (IsQueueStepRefused self.old party) }
+        ensures unchanged { OnErr result (self.new ≡ self.old) }
+    {
+        self.machine.holds();
+        self.machine.step(party)
+    }
+
+    /// Plays a schedule to its end, or to the step that wants memory. Whatever the schedule, the values that
+    /// left are, in order, the first of those published, and the rest waits.
+    pub fn run(&mut self, schedule: &[Entry<Call>]) -> Result<(), MachineError>
+        ensures queue { QueueHolds self.new }
+        ensures played { (count : ℕ) × AllQueueEntered self.old (take count schedule.now) self.new }
+        ensures whole { OnOk result (AllQueueEntered self.old schedule.now self.new) }
+        ensures refused { IfErr result (λ error. error ≡ MachineError.WantOfMemory) }
+    {
+        self.machine.run(schedule)
+    }
+}

@@ -1,0 +1,207 @@
+//! Worked runs of two parties at one queue.
+use crate::{Call, QueueMachine};
+use iox_steps::{Entry, MachineError, Moment, Progress, QueueKind, Reply, Site};
+use std::alloc::Global;
+use std::process::Abort;
+use std::test::Fail;
+
+/// A machine of an empty queue among eight words, with one word before it.
+fn machine_of(
+    alloc: Global,
+    rt: &impl Abort,
+    kind: QueueKind,
+    capacity: usize,
+) -> Result<QueueMachine, Fail> {
+    let words = vec![in alloc; 0u64; 8]?;
+    assert!(rt; words.len() == 8 && capacity >= 1 && capacity <= 4 && words[1] == words[2]);
+    let site = Site {
+        kind,
+        base: 1,
+        capacity,
+    };
+    Ok(QueueMachine::new(alloc, words, site)?)
+}
+
+/// Makes this many accesses of the party's call, all but the last going on, and answers its reply.
+fn finish(
+    rt: &impl Abort,
+    machine: &mut QueueMachine,
+    party: usize,
+    steps: usize,
+) -> Result<Reply, MachineError> {
+    for _ in 1..steps {
+        assert!(rt; machine.step(party)? == Progress::Going);
+    }
+    match machine.step(party)? {
+        Progress::Done(reply) => Ok(reply),
+        Progress::Going => Err(MachineError::AtRest),
+    }
+}
+
+/// A whole call.
+fn call(
+    rt: &impl Abort,
+    machine: &mut QueueMachine,
+    party: usize,
+    call: Call,
+    steps: usize,
+) -> Result<Reply, MachineError> {
+    machine.begin(party, call)?;
+    finish(rt, machine, party, steps)
+}
+
+#[test]
+fn a_pop_meets_a_push_halfway(rt: HostRuntime) -> Result<(), Fail> {
+    let mut machine = machine_of(rt.alloc(), &rt, QueueKind::Index, 1)?;
+    machine.begin(0, Call::Push(7))?;
+    machine.begin(1, Call::Pop)?;
+    machine.run(&[
+        Entry::Step(1),
+        Entry::Step(0),
+        Entry::Step(0),
+        Entry::Step(0),
+    ])?;
+    assert_eq!(rt; machine.step(1)?, Progress::Done(Reply::Popped(None)));
+    assert_eq!(rt; machine.step(0)?, Progress::Done(Reply::Pushed(true)));
+    assert_eq!(rt;
+        call(&rt, &mut machine, 1, Call::Pop, 4)?,
+        Reply::Popped(Some(7))
+    );
+    Ok(())
+}
+
+#[test]
+fn a_full_queue_refuses(rt: HostRuntime) -> Result<(), Fail> {
+    let mut machine = machine_of(rt.alloc(), &rt, QueueKind::Index, 1)?;
+    assert_eq!(rt;
+        call(&rt, &mut machine, 0, Call::Push(7), 4)?,
+        Reply::Pushed(true)
+    );
+    assert_eq!(rt;
+        call(&rt, &mut machine, 0, Call::IsFull, 2)?,
+        Reply::Full(true)
+    );
+    assert_eq!(rt;
+        call(&rt, &mut machine, 0, Call::Push(8), 2)?,
+        Reply::Pushed(false)
+    );
+    assert_eq!(rt;
+        call(&rt, &mut machine, 1, Call::Pop, 4)?,
+        Reply::Popped(Some(7))
+    );
+    assert_eq!(rt;
+        call(&rt, &mut machine, 1, Call::IsEmpty, 2)?,
+        Reply::Empty(true)
+    );
+    assert_eq!(rt;
+        call(&rt, &mut machine, 1, Call::Pop, 2)?,
+        Reply::Popped(None)
+    );
+    Ok(())
+}
+
+#[test]
+fn an_overflowing_queue_hands_back_the_oldest(rt: HostRuntime) -> Result<(), Fail> {
+    let mut machine = machine_of(rt.alloc(), &rt, QueueKind::Overflowing, 2)?;
+    assert_eq!(rt;
+        call(&rt, &mut machine, 0, Call::Push(1), 4)?,
+        Reply::HandedBack(None)
+    );
+    assert_eq!(rt;
+        call(&rt, &mut machine, 0, Call::Push(2), 4)?,
+        Reply::HandedBack(None)
+    );
+    assert_eq!(rt;
+        call(&rt, &mut machine, 0, Call::Push(3), 6)?,
+        Reply::HandedBack(Some(1))
+    );
+    assert_eq!(rt;
+        call(&rt, &mut machine, 1, Call::Pop, 4)?,
+        Reply::Popped(Some(2))
+    );
+    assert_eq!(rt;
+        call(&rt, &mut machine, 1, Call::Pop, 4)?,
+        Reply::Popped(Some(3))
+    );
+    assert_eq!(rt;
+        call(&rt, &mut machine, 1, Call::Pop, 2)?,
+        Reply::Popped(None)
+    );
+    Ok(())
+}
+
+#[test]
+fn a_pop_comes_before_the_eviction(rt: HostRuntime) -> Result<(), Fail> {
+    let mut machine = machine_of(rt.alloc(), &rt, QueueKind::Overflowing, 2)?;
+    assert_eq!(rt;
+        call(&rt, &mut machine, 0, Call::Push(1), 4)?,
+        Reply::HandedBack(None)
+    );
+    assert_eq!(rt;
+        call(&rt, &mut machine, 0, Call::Push(2), 4)?,
+        Reply::HandedBack(None)
+    );
+    machine.begin(0, Call::Push(3))?;
+    machine.run(&[
+        Entry::Step(0),
+        Entry::Step(0),
+        Entry::Step(0),
+        Entry::Step(0),
+    ])?;
+    let mut published = 0u64;
+    for event in machine.events() {
+        if let Moment::Publish(_) = *event {
+            published = published.saturating_add(1);
+        }
+        assert!(rt; *event != Moment::Evict);
+    }
+    assert_eq!(rt; published, 3);
+    assert_eq!(rt;
+        call(&rt, &mut machine, 1, Call::Pop, 4)?,
+        Reply::Popped(Some(1))
+    );
+    assert_eq!(rt; machine.step(0)?, Progress::Done(Reply::HandedBack(None)));
+    Ok(())
+}
+
+#[test]
+fn the_last_position_is_never_passed(rt: HostRuntime) -> Result<(), Fail> {
+    let mut words = vec![in rt.alloc(); 0u64; 8]?;
+    assert!(rt; words.len() == 8);
+    words[1] = u64::MAX;
+    words[2] = u64::MAX;
+    let site = Site {
+        kind: QueueKind::Overflowing,
+        base: 1,
+        capacity: 2,
+    };
+    let mut machine = QueueMachine::new(rt.alloc(), words, site)?;
+    assert_eq!(rt;
+        call(&rt, &mut machine, 0, Call::Push(9), 2)?,
+        Reply::HandedBack(Some(9))
+    );
+    assert_eq!(rt;
+        call(&rt, &mut machine, 1, Call::IsEmpty, 2)?,
+        Reply::Empty(true)
+    );
+    Ok(())
+}
+
+#[test]
+fn a_refused_entry_changes_nothing(rt: HostRuntime) -> Result<(), Fail> {
+    let mut machine = machine_of(rt.alloc(), &rt, QueueKind::Index, 2)?;
+    assert_eq!(rt;
+        machine.begin(2, Call::Pop),
+        Err(MachineError::UnknownParty)
+    );
+    assert_eq!(rt;
+        machine.begin(1, Call::Push(7)),
+        Err(MachineError::UnknownParty)
+    );
+    assert!(rt; machine.step(0) == Err(MachineError::AtRest));
+    assert!(rt; machine.step(2) == Err(MachineError::UnknownParty));
+    machine.begin(0, Call::Push(7))?;
+    assert_eq!(rt; machine.begin(0, Call::IsFull), Err(MachineError::Busy));
+    assert_eq!(rt; finish(&rt, &mut machine, 0, 4)?, Reply::Pushed(true));
+    Ok(())
+}

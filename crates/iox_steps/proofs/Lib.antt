@@ -1,0 +1,16 @@
+pub mod Places
+pub mod Rings
+pub mod Knowledge
+pub mod PushSteps
+pub mod PopSteps
+pub mod AccessLemmas
+pub mod Frames
+pub mod Begins
+pub mod WorldLemmas
+pub mod Writes
+pub mod ListSteps
+pub mod RunLemmas
+pub mod Plays
+pub mod AnswerLemmas
+pub mod ResultLemmas
+pub mod Tables

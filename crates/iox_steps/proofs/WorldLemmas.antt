@@ -1,0 +1,35 @@
+-- The parts of a step make a step, and a step keeps what its party's laws keep.
+use Rattle.std.proofs.Common.{◌≡◌, ℕ, Bool, false, List, [], ◌∷◌, ◌<◌, ◌++◌, refl, sym, subst, Option, Result, set, get_or, length}
+use Rattle.std.specs.Option.{option_to_list}
+use Rattle.iox_steps.specs.declared.access.Access.{Access}
+use Rattle.iox_steps.specs.declared.access.Progress.{Progress}
+use Rattle.iox_steps.specs.declared.error.MachineError.{MachineError}
+use Rattle.iox_steps.specs.Accesses.{seen_by, words_after}
+use Rattle.iox_steps.specs.declared.machine.Entry.{Entry}
+use Rattle.iox_steps.specs.Worlds.{World, IsParty, seen_in, after_access, Stepped, Entered, AllEntered}
+
+module _ {P E R C : Type 0} (asks : P → Access) (leads : P → ℕ → Progress R → P → Type 0) (happens : P → ℕ → Option E) (at_rest : P → Bool) (begins : P → C → Result P MachineError → Type 0) where
+  pub step_of : (old : World P E) (number : ℕ) (party after : P) (answer : Progress R) (access : Access) (seen : ℕ) (words : List ℕ) (resting : Bool) (event : Option E) (room events : List E)
+      → number < length old.parties → party ≡ get_or old.parties number party → resting ≡ at_rest party → resting ≡ false → access ≡ asks party → seen ≡ seen_by access (λ place. get_or old.words place 0)
+      → words ≡ words_after access old.words → leads party seen answer after → event ≡ happens party seen → room ≡ old.events → events ≡ room ++ option_to_list event
+      → Stepped asks leads happens at_rest begins old number answer (record { words = words; parties = set old.parties number after; events = events })
+  step_of old number party after answer access seen words resting event room events within is rests awake asked found become led happened had told = record {
+    party = party;
+    after = after;
+    is_party = (within, is);
+    under_way = rw rests at awake;
+    leads_on = rw (found, asked) at led;
+    leads_to = rw (told, had, happened, become, found, asked) refl;
+  }
+
+  pub step_keeps : (Holds : World P E → Type 0)
+      → ((world : World P E) (number : ℕ) (party after : P) (answer : Progress R) → Holds world → IsParty world number party → at_rest party ≡ false
+      → leads party (seen_in world (asks party)) answer after → Holds (after_access world number (asks party) after (happens party (seen_in world (asks party)))))
+      → (old : World P E) (number : ℕ) (answer : Progress R) (new : World P E) → Holds old → Stepped asks leads happens at_rest begins old number answer new → Holds new
+  step_keeps Holds keeps old number answer new holds step = subst Holds (sym step.leads_to) (keeps old number step.party step.after answer holds step.is_party step.under_way step.leads_on)
+
+  -- one entry more
+  pub all_entered_more : (old : World P E) (entries : List (Entry C)) (mid : World P E) (entry : Entry C) (new : World P E)
+      → AllEntered asks leads happens at_rest begins old entries mid → Entered asks leads happens at_rest begins mid entry new → AllEntered asks leads happens at_rest begins old (entries ++ entry ∷ []) new
+  all_entered_more old [] mid entry new is last = (new, (subst (λ w. Entered asks leads happens at_rest begins w entry new) is last, refl))
+  all_entered_more old (first ∷ entries) mid entry new is last = (is.0, (is.1.0, all_entered_more is.0 entries mid entry new is.1.1 last))

@@ -1,0 +1,5 @@
+use Rattle.std.proofs.Common.{subst}
+use Rattle.iox_steps.proofs.machine.Machine.holds.Goals as goal
+
+pub returns : goal.returns
+returns g c = subst g.P.Playable.Holds c.self.view_is c.self.invariant

@@ -1,0 +1,14 @@
+pub mod Accesses
+pub mod Sites
+pub mod Pushes
+pub mod Pops
+pub mod Replies
+pub mod Seats
+pub mod Moments
+pub mod Fits
+pub mod Laws
+pub mod Worlds
+pub mod Runs
+pub mod Plays
+pub mod Answers
+pub mod Results

@@ -1,0 +1,21 @@
+//! The calls of a queue as single accesses to shared words: parties that ask for one access after
+//! another, what each access does to the queue, and a machine that plays any schedule of them.
+#![tactic(auto)]
+
+mod access;
+mod error;
+mod machine;
+mod playable;
+mod pop;
+mod push;
+mod seat;
+mod site;
+
+pub use access::{Access, Next, Party, Progress};
+pub use error::MachineError;
+pub use machine::{Entry, Machine, perform};
+pub use playable::Playable;
+pub use pop::{EmptyLook, Pop};
+pub use push::{FullLook, Push, PushReply};
+pub use seat::{Moment, Popping, Pushing, Reply};
+pub use site::{QueueKind, Site};

@@ -1,0 +1,220 @@
+//! A machine that plays any schedule of single accesses by parties that share words.
+ghost use Rattle.std.specs.Prelude.{◌≡◌, ℕ, ◌<◌, ◌++◌, List, [], length, slice_index, vec_len};
+ghost use Rattle.std.specs.Option.{option_to_list};
+ghost use Rattle.std.specs.Vec.{vec_capacity};
+ghost use Rattle.iox_steps.specs.Accesses.{IsWithin, seen_by, words_after};
+
+use crate::access::{Access, Progress};
+use crate::error::MachineError;
+use crate::playable::Playable;
+use std::alloc::Global;
+use std::marker::Model;
+
+/// An entry of a schedule: a party begins a call, or makes one access.
+#[derive(Clone, Copy)]
+pub enum Entry<C> {
+    Begin(usize, C),
+    Step(usize),
+}
+
+/// Makes the access, and answers what the word was before it.
+pub fn perform(words: &mut Vec<u64>, access: Access) -> u64
+    requires { IsWithin 0 (length words.old.items) access }
+    ensures seen { result ≡ seen_by access (λ place. slice_index words.old.items place) }
+    ensures words { words.new.items ≡ words_after access words.old.items }
+{
+    match access {
+        Access::Local => 0,
+        Access::Load(place) => words[place],
+        Access::Store(place, value) => {
+            let seen = words[place];
+            words[place] = value;
+            seen
+        }
+        Access::CompareExchange(place, old, new) => {
+            let seen = words[place];
+            if seen == old {
+                words[place] = new;
+            }
+            seen
+        }
+        Access::FetchAdd(place, value) => {
+            let seen = words[place];
+            words[place] = seen.wrapping_add(value);
+            seen
+        }
+        Access::FetchSub(place, value) => {
+            let seen = words[place];
+            words[place] = seen.wrapping_sub(value);
+            seen
+        }
+        Access::FetchOr(place, value) => {
+            let seen = words[place];
+            words[place] = seen | value;
+            seen
+        }
+        Access::FetchAnd(place, value) => {
+            let seen = words[place];
+            words[place] = seen & value;
+            seen
+        }
+    }
+}
+
+/// Adds what happened to the events, which have room for it.
+fn tell<E: Copy>(events: &mut Vec<E>, event: Option<E>)
+    requires { vec_len events.old < vec_capacity events.old }
+    ensures { events.new.items ≡ events.old.items ++ option_to_list event }
+{
+    match event {
+        None => {}
+        Some(event) => match events.push(event) {
+            Ok(()) => {}
+            Err(_) => unreachable!(),
+        },
+    }
+}
+
+/// Shared words, the parties that play on them, and what happened.
+#[derive(Drop)]
+pub struct Machine<P: Playable> {
+    words: Vec<u64>,
+    parties: Vec<P>,
+    events: Vec<P::Event>,
+}
+
+impl<P: Playable> Model for Machine<P> {
+    ghost use Rattle.iox_steps.specs.Worlds.{World};
+
+    ghost Value = { World P P.Event };
+
+    ghost view = { λ m. record { words = m.words.items; parties = m.parties.items; events = m.events.items } };
+
+    ghost invariant = { λ m. P.Holds (record { words = m.words.items; parties = m.parties.items; events = m.events.items }) };
+}
+
+impl<P: Playable> Machine<P> {
+    ghost use Rattle.std.specs.Prelude.{◌≡◌, ℕ, ◌<◌, [], length, take, IfOk, IfErr, OnOk, OnErr};
+    ghost use Rattle.iox_steps.specs.Worlds.{World, Stepped, IsStepRefused, Begun, IsBeginRefused, Entered, AllEntered};
+
+    /// Parties that are to play on these words.
+    pub fn new(alloc: Global, words: Vec<u64>, parties: Vec<P>) -> Machine<P>
+        requires { P.Holds (record { words = words.items; parties = parties.items; events = [] }) }
+        ensures { result ≡ record { words = words.items; parties = parties.items; events = [] } }
+    {
+        Machine {
+            words,
+            parties,
+            events: Vec::new(alloc),
+        }
+    }
+
+    /// The shared words.
+    pub fn words(&self) -> &[u64]
+        ensures { result.now ≡ self.now.words }
+    {
+        &self.words
+    }
+
+    /// What happened so far.
+    pub fn events(&self) -> &[P::Event]
+        ensures { result.now ≡ self.now.events }
+    {
+        &self.events
+    }
+
+    /// One access of the party's call.
+    pub fn step(&mut self, party: usize) -> Result<Progress<P::Reply>, MachineError>
+        ensures stepped { IfOk result (λ answer. Stepped P.asks P.leads P.happens P.at_rest P.begins self.old party answer self.new) }
+        ensures refused { IfErr result (λ error. IsStepRefused P.asks P.leads P.happens P.at_rest P.begins self.old party error) }
+        ensures unchanged { OnErr result (self.new ≡ self.old) }
+    {
+        if party >= self.parties.len() {
+            return Err(MachineError::UnknownParty);
+        }
+        let mut playing = self.parties[party];
+        if playing.is_at_rest() {
+            return Err(MachineError::AtRest);
+        }
+        if self.events.reserve(1).is_err() {
+            return Err(MachineError::WantOfMemory);
+        }
+        let access = playing.access();
+        let seen = perform(&mut self.words, access);
+        let event = playing.event(seen);
+        let answer = playing.advance(seen);
+        self.parties[party] = playing;
+        tell(&mut self.events, event);
+        Ok(answer)
+    }
+
+    /// The party begins the call, with no access.
+    pub fn begin(&mut self, party: usize, call: P::Call) -> Result<(), MachineError>
+        ensures begun { IfOk result (λ _. Begun P.asks P.leads P.happens P.at_rest P.begins self.old party call self.new) }
+        ensures refused { IfErr result (λ error. IsBeginRefused P.asks P.leads P.happens P.at_rest P.begins self.old party call error) }
+        ensures unchanged { OnErr result (self.new ≡ self.old) }
+    {
+        if party >= self.parties.len() {
+            return Err(MachineError::UnknownParty);
+        }
+        let playing = self.parties[party];
+        match playing.begin(call) {
+            Ok(begun) => {
+                self.parties[party] = begun;
+                Ok(())
+            }
+            Err(error) => Err(error),
+        }
+    }
+
+    /// What the words say, wherever the parties are.
+    pub fn holds(&self)
+        ensures { P.Holds self.now }
+    {
+        let _words = &self.words;
+    }
+
+    /// One entry of a schedule.
+    fn enter(&mut self, entry: Entry<P::Call>) -> Result<(), MachineError>
+        ensures entered { IfOk result (λ _. Entered P.asks P.leads P.happens P.at_rest P.begins self.old entry self.new) }
+        ensures refused { IfErr result (λ error. error ≡ MachineError.WantOfMemory) }
+        ensures unchanged { OnErr result (self.new ≡ self.old) }
+    {
+        match entry {
+            Entry::Begin(party, call) => {
+                let _begun = self.begin(party, call);
+                Ok(())
+            }
+            Entry::Step(party) => match self.step(party) {
+                Ok(_) => Ok(()),
+                Err(MachineError::WantOfMemory) => Err(MachineError::WantOfMemory),
+                Err(MachineError::UnknownParty) => Ok(()),
+                Err(MachineError::AtRest) => Ok(()),
+                Err(MachineError::Busy) => Ok(()),
+            },
+        }
+    }
+
+    /// Plays a schedule to its end, or to the step that wants memory.
+    pub fn run(&mut self, schedule: &[Entry<P::Call>]) -> Result<(), MachineError>
+        ensures played { (count : ℕ) × AllEntered P.asks P.leads P.happens P.at_rest P.begins self.old (take count schedule.now) self.new }
+        ensures whole { OnOk result (AllEntered P.asks P.leads P.happens P.at_rest P.begins self.old schedule.now self.new) }
+        ensures refused { IfErr result (λ error. error ≡ MachineError.WantOfMemory) }
+        ensures holds { P.Holds self.new }
+    {
+        let played = self.enter_all(schedule);
+        self.holds();
+        played
+    }
+
+    fn enter_all(&mut self, schedule: &[Entry<P::Call>]) -> Result<(), MachineError>
+        ensures played { (count : ℕ) × AllEntered P.asks P.leads P.happens P.at_rest P.begins self.old (take count schedule.now) self.new }
+        ensures whole { OnOk result (AllEntered P.asks P.leads P.happens P.at_rest P.begins self.old schedule.now self.new) }
+        ensures refused { IfErr result (λ error. error ≡ MachineError.WantOfMemory) }
+    {
+        for entry in schedule {
+            self.enter(*entry)?;
+        }
+        Ok(())
+    }
+}

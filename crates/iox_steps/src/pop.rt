@@ -1,0 +1,153 @@
+//! The programs of the party that pops: a pop and a look at emptiness.
+ghost use Rattle.std.specs.Prelude.{◌≡◌, ◌+◌, ◌^◌, ◌<◌};
+ghost use Rattle.iox_steps.specs.Pops.{waiting_moment as seen_waiting, is_taken as was_taken};
+
+use crate::access::{Access, Next};
+use crate::seat::Moment;
+use crate::site::{QueueKind, Site};
+
+/// Where a pop is.
+#[derive(Clone, Copy)]
+pub enum Pop {
+    LoadsRead,
+    /// the read position
+    LoadsWrite(u64),
+    /// the read position, and its cell
+    LoadsCell(u64, usize),
+    /// the read position, and the value that stands there
+    Takes(u64, u64),
+}
+
+/// Where a look at emptiness is.
+#[derive(Clone, Copy)]
+pub enum EmptyLook {
+    LoadsRead,
+    /// the read position
+    LoadsWrite(u64),
+}
+
+impl Pop {
+    ghost use Rattle.std.specs.Prelude.{◌≡◌, ◌+◌, ◌^◌, ◌<◌};
+    ghost use Rattle.iox_steps.specs.Sites.{size};
+    ghost use Rattle.iox_steps.specs.Pops.{pop_access, pop_next, pop_moment};
+
+    /// The access that it makes next.
+    pub fn access(self, site: Site) -> Access
+        requires { site.base + size site < 2 ^ 64 }
+        ensures { result ≡ pop_access site self }
+    {
+        match self {
+            Pop::LoadsRead => Access::Load(site.base + 1),
+            Pop::LoadsWrite(_) => Access::Load(site.base),
+            Pop::LoadsCell(_, cell) => Access::Load(cell),
+            Pop::Takes(read, _) => {
+                let next = read.saturating_add(1);
+                match site.kind {
+                    QueueKind::Index => Access::Store(site.base + 1, next),
+                    QueueKind::Overflowing => { Access::CompareExchange(site.base + 1, read, next) }
+                }
+            }
+        }
+    }
+
+    /// Where it goes after an access that found `seen`.
+    pub fn next(self, site: Site, seen: u64) -> Next<Pop, Option<u64>>
+        requires { site.base + size site < 2 ^ 64 }
+        ensures { result ≡ pop_next site self seen }
+    {
+        match self {
+            Pop::LoadsRead => Next::Goes(Pop::LoadsWrite(seen)),
+            Pop::LoadsWrite(read) => {
+                if site.is_empty(read, seen) {
+                    Next::Ends(None)
+                } else {
+                    Next::Goes(Pop::LoadsCell(read, site.cell_at(read)))
+                }
+            }
+            Pop::LoadsCell(read, _) => Next::Goes(Pop::Takes(read, seen)),
+            Pop::Takes(read, value) => {
+                if is_taken(site.kind, read, seen) {
+                    Next::Ends(Some(value))
+                } else {
+                    Next::Goes(Pop::LoadsCell(seen, site.cell_at(seen)))
+                }
+            }
+        }
+    }
+
+    /// What an access that found `seen` does to the queue, or sees there.
+    pub fn moment(self, site: Site, seen: u64) -> Moment
+        ensures { result ≡ pop_moment site self seen }
+    {
+        match self {
+            Pop::LoadsRead => Moment::Quiet,
+            Pop::LoadsWrite(read) => waiting_moment(site, read, seen),
+            Pop::LoadsCell(_, _) => Moment::Quiet,
+            Pop::Takes(read, value) => {
+                if is_taken(site.kind, read, seen) {
+                    Moment::HandOut(value)
+                } else {
+                    Moment::Quiet
+                }
+            }
+        }
+    }
+}
+
+impl EmptyLook {
+    ghost use Rattle.std.specs.Prelude.{◌≡◌, ◌+◌, ◌^◌, ◌<◌};
+    ghost use Rattle.iox_steps.specs.Sites.{size};
+    ghost use Rattle.iox_steps.specs.Pops.{empty_look_access, empty_look_next, empty_look_moment};
+
+    /// The access that it makes next.
+    pub fn access(self, site: Site) -> Access
+        requires { site.base + size site < 2 ^ 64 }
+        ensures { result ≡ empty_look_access site self }
+    {
+        match self {
+            EmptyLook::LoadsRead => Access::Load(site.base + 1),
+            EmptyLook::LoadsWrite(_) => Access::Load(site.base),
+        }
+    }
+
+    /// Where it goes after an access that found `seen`.
+    pub fn next(self, site: Site, seen: u64) -> Next<EmptyLook, bool>
+        ensures { result ≡ empty_look_next site self seen }
+    {
+        match self {
+            EmptyLook::LoadsRead => Next::Goes(EmptyLook::LoadsWrite(seen)),
+            EmptyLook::LoadsWrite(read) => Next::Ends(site.is_empty(read, seen)),
+        }
+    }
+
+    /// What an access that found `seen` sees.
+    pub fn moment(self, site: Site, seen: u64) -> Moment
+        ensures { result ≡ empty_look_moment site self seen }
+    {
+        match self {
+            EmptyLook::LoadsRead => Moment::Quiet,
+            EmptyLook::LoadsWrite(read) => waiting_moment(site, read, seen),
+        }
+    }
+}
+
+/// Was the value taken by an access that found `seen`?
+fn is_taken(kind: QueueKind, read: u64, seen: u64) -> bool
+    ensures { result ≡ was_taken kind read seen }
+{
+    match kind {
+        QueueKind::Index => true,
+        QueueKind::Overflowing => seen == read,
+    }
+}
+
+/// What a look at the write position shows.
+fn waiting_moment(site: Site, read: u64, write: u64) -> Moment
+    ensures { result ≡ seen_waiting site read write }
+{
+    if site.is_empty(read, write) {
+        Moment::SeesEmpty
+    } else {
+        Moment::SeesWaiting
+    }
+}

@@ -1,0 +1,181 @@
+//! The programs of the party that pushes: a push and a look at fullness.
+ghost use Rattle.std.specs.Prelude.{◌≡◌, ◌+◌, ◌^◌, ◌<◌};
+ghost use Rattle.iox_steps.specs.Sites.{size};
+ghost use Rattle.iox_steps.specs.Pushes.{with_positions as after_positions, room_moment as seen_room};
+
+use crate::access::{Access, Next};
+use crate::seat::Moment;
+use crate::site::{QueueKind, Site};
+
+/// Where a push is.
+#[derive(Clone, Copy)]
+pub enum Push {
+    /// the value
+    LoadsWrite(u64),
+    /// the value, and the write position
+    LoadsRead(u64, u64),
+    /// the value, its cell, the next write position, and the read position if the queue is full there
+    StoresCell(u64, usize, u64, Option<u64>),
+    /// the value, the next write position, and the read position if the queue is full there
+    StoresWrite(u64, u64, Option<u64>),
+    /// the read position at which the queue was full
+    Evicts(u64),
+    /// the cell of the value that was pushed out
+    TakesOld(usize),
+}
+
+/// How a push ended.
+#[derive(Clone, Copy)]
+pub enum PushReply {
+    Pushed,
+    /// pushed, and this value was pushed out for it
+    PushedOut(u64),
+    /// nothing was pushed: this value comes back
+    Refused(u64),
+}
+
+/// Where a look at fullness is.
+#[derive(Clone, Copy)]
+pub enum FullLook {
+    LoadsWrite,
+    /// the write position
+    LoadsRead(u64),
+}
+
+impl Push {
+    ghost use Rattle.std.specs.Prelude.{◌≡◌, ◌+◌, ◌^◌, ◌<◌};
+    ghost use Rattle.iox_steps.specs.Sites.{size};
+    ghost use Rattle.iox_steps.specs.Pushes.{push_access, push_next, push_moment};
+
+    /// The access that it makes next.
+    pub fn access(self, site: Site) -> Access
+        requires { site.base + size site < 2 ^ 64 }
+        ensures { result ≡ push_access site self }
+    {
+        match self {
+            Push::LoadsWrite(_) => Access::Load(site.base),
+            Push::LoadsRead(_, _) => Access::Load(site.base + 1),
+            Push::StoresCell(value, cell, _, _) => Access::Store(cell, value),
+            Push::StoresWrite(_, next, _) => Access::Store(site.base, next),
+            Push::Evicts(read) => {
+                Access::CompareExchange(site.base + 1, read, read.saturating_add(1))
+            }
+            Push::TakesOld(cell) => Access::Load(cell),
+        }
+    }
+
+    /// Where it goes after an access that found `seen`.
+    pub fn next(self, site: Site, seen: u64) -> Next<Push, PushReply>
+        requires { site.base + size site < 2 ^ 64 }
+        ensures { result ≡ push_next site self seen }
+    {
+        match self {
+            Push::LoadsWrite(value) => Next::Goes(Push::LoadsRead(value, seen)),
+            Push::LoadsRead(value, write) => with_positions(site, value, write, seen),
+            Push::StoresCell(value, _, next, full) => {
+                Next::Goes(Push::StoresWrite(value, next, full))
+            }
+            Push::StoresWrite(_, _, Some(read)) => Next::Goes(Push::Evicts(read)),
+            Push::StoresWrite(_, _, None) => Next::Ends(PushReply::Pushed),
+            Push::Evicts(read) => {
+                if seen == read {
+                    Next::Goes(Push::TakesOld(site.cell_at(read)))
+                } else {
+                    Next::Ends(PushReply::Pushed)
+                }
+            }
+            Push::TakesOld(_) => Next::Ends(PushReply::PushedOut(seen)),
+        }
+    }
+
+    /// What an access that found `seen` does to the queue, or sees there.
+    pub fn moment(self, site: Site, seen: u64) -> Moment
+        ensures { result ≡ push_moment site self seen }
+    {
+        match self {
+            Push::LoadsWrite(_) => Moment::Quiet,
+            Push::LoadsRead(_, write) => {
+                if write == u64::MAX {
+                    Moment::SeesEnd
+                } else {
+                    room_moment(site, seen, write)
+                }
+            }
+            Push::StoresCell(_, _, _, _) => Moment::Quiet,
+            Push::StoresWrite(value, _, _) => Moment::Publish(value),
+            Push::Evicts(read) => {
+                if seen == read {
+                    Moment::Evict
+                } else {
+                    Moment::Quiet
+                }
+            }
+            Push::TakesOld(_) => Moment::GetBack(seen),
+        }
+    }
+}
+
+impl FullLook {
+    ghost use Rattle.std.specs.Prelude.{◌≡◌, ◌+◌, ◌^◌, ◌<◌};
+    ghost use Rattle.iox_steps.specs.Sites.{size};
+    ghost use Rattle.iox_steps.specs.Pushes.{full_look_access, full_look_next, full_look_moment};
+
+    /// The access that it makes next.
+    pub fn access(self, site: Site) -> Access
+        requires { site.base + size site < 2 ^ 64 }
+        ensures { result ≡ full_look_access site self }
+    {
+        match self {
+            FullLook::LoadsWrite => Access::Load(site.base),
+            FullLook::LoadsRead(_) => Access::Load(site.base + 1),
+        }
+    }
+
+    /// Where it goes after an access that found `seen`.
+    pub fn next(self, site: Site, seen: u64) -> Next<FullLook, bool>
+        ensures { result ≡ full_look_next site self seen }
+    {
+        match self {
+            FullLook::LoadsWrite => Next::Goes(FullLook::LoadsRead(seen)),
+            FullLook::LoadsRead(write) => Next::Ends(site.is_full(seen, write)),
+        }
+    }
+
+    /// What an access that found `seen` sees.
+    pub fn moment(self, site: Site, seen: u64) -> Moment
+        ensures { result ≡ full_look_moment site self seen }
+    {
+        match self {
+            FullLook::LoadsWrite => Moment::Quiet,
+            FullLook::LoadsRead(write) => room_moment(site, seen, write),
+        }
+    }
+}
+
+/// Where a push goes that saw both positions.
+fn with_positions(site: Site, value: u64, write: u64, read: u64) -> Next<Push, PushReply>
+    requires { site.base + size site < 2 ^ 64 }
+    ensures { result ≡ after_positions site value write read }
+{
+    let full = site.is_full(read, write);
+    let refused = match site.kind {
+        QueueKind::Index => write == u64::MAX || full,
+        QueueKind::Overflowing => write == u64::MAX,
+    };
+    if refused {
+        return Next::Ends(PushReply::Refused(value));
+    }
+    let full_at = if full { Some(read) } else { None };
+    Next::Goes(Push::StoresCell(value, site.cell_at(write), write + 1, full_at))
+}
+
+/// What a look at the read position shows.
+fn room_moment(site: Site, read: u64, write: u64) -> Moment
+    ensures { result ≡ seen_room site read write }
+{
+    if site.is_full(read, write) {
+        Moment::SeesFull
+    } else {
+        Moment::SeesRoom
+    }
+}

@@ -1,0 +1,198 @@
+//! The two parties of a queue, each at rest or inside one of its programs.
+ghost use Rattle.std.specs.Prelude.{◌≡◌};
+ghost use Rattle.iox_steps.specs.Replies.{push_reply as reply_of};
+
+use crate::access::{Access, Next, Progress};
+use crate::pop::{EmptyLook, Pop};
+use crate::push::{FullLook, Push, PushReply};
+use crate::site::{QueueKind, Site};
+
+/// Where the party is that pushes and looks at fullness.
+#[derive(Clone, Copy)]
+pub enum Pushing {
+    AtRest,
+    Pushes(Push),
+    Looks(FullLook),
+}
+
+/// Where the party is that pops and looks at emptiness.
+#[derive(Clone, Copy)]
+pub enum Popping {
+    AtRest,
+    Pops(Pop),
+    Looks(EmptyLook),
+}
+
+/// What an access does to the queue, or sees there.
+#[derive(Clone, Copy, Debug, PartialEq, Eq)]
+pub enum Moment {
+    /// neither
+    Quiet,
+    /// a value joins those that wait
+    Publish(u64),
+    /// the oldest value leaves, to the party that pops
+    HandOut(u64),
+    /// the oldest value leaves, pushed out
+    Evict,
+    /// the party that pushed a value out learns it
+    GetBack(u64),
+    SeesEmpty,
+    SeesWaiting,
+    SeesFull,
+    SeesRoom,
+    /// the write position is the last one
+    SeesEnd,
+}
+
+/// What a call on a queue answers.
+#[derive(Clone, Copy, Debug, PartialEq, Eq)]
+pub enum Reply {
+    /// of a push that may be refused: was there room?
+    Pushed(bool),
+    /// of a push that may overflow: the value pushed out, or its own at the last position
+    HandedBack(Option<u64>),
+    Full(bool),
+    Popped(Option<u64>),
+    Empty(bool),
+}
+
+impl Pushing {
+    ghost use Rattle.std.specs.Prelude.{◌≡◌, ◌+◌, ◌^◌, ◌<◌};
+    ghost use Rattle.iox_steps.specs.Sites.{size};
+    ghost use Rattle.iox_steps.specs.Seats.{pushing_access, pushing_after, pushing_progress, pushing_moment};
+
+    /// The access that it makes next.
+    #[inline]
+    pub fn access(self, site: Site) -> Access
+        requires { site.base + size site < 2 ^ 64 }
+        ensures { result ≡ pushing_access site self }
+    {
+        match self {
+            Pushing::AtRest => Access::Local,
+            Pushing::Pushes(place) => place.access(site),
+            Pushing::Looks(place) => place.access(site),
+        }
+    }
+
+    /// Goes on after an access that found `seen`.
+    #[inline]
+    pub fn advance(&mut self, site: Site, seen: u64) -> Progress<Reply>
+        requires { site.base + size site < 2 ^ 64 }
+        ensures place { self.new ≡ pushing_after site self.old seen }
+        ensures answer { result ≡ pushing_progress site self.old seen }
+    {
+        match *self {
+            Pushing::AtRest => Progress::Going,
+            Pushing::Pushes(place) => match place.next(site, seen) {
+                Next::Goes(place) => {
+                    *self = Pushing::Pushes(place);
+                    Progress::Going
+                }
+                Next::Ends(reply) => {
+                    *self = Pushing::AtRest;
+                    Progress::Done(push_reply(site.kind, reply))
+                }
+            },
+            Pushing::Looks(place) => match place.next(site, seen) {
+                Next::Goes(place) => {
+                    *self = Pushing::Looks(place);
+                    Progress::Going
+                }
+                Next::Ends(full) => {
+                    *self = Pushing::AtRest;
+                    Progress::Done(Reply::Full(full))
+                }
+            },
+        }
+    }
+
+    /// What an access that found `seen` does to the queue, or sees there.
+    #[inline]
+    pub fn moment(self, site: Site, seen: u64) -> Moment
+        ensures { result ≡ pushing_moment site self seen }
+    {
+        match self {
+            Pushing::AtRest => Moment::Quiet,
+            Pushing::Pushes(place) => place.moment(site, seen),
+            Pushing::Looks(place) => place.moment(site, seen),
+        }
+    }
+}
+
+impl Popping {
+    ghost use Rattle.std.specs.Prelude.{◌≡◌, ◌+◌, ◌^◌, ◌<◌};
+    ghost use Rattle.iox_steps.specs.Sites.{size};
+    ghost use Rattle.iox_steps.specs.Seats.{popping_access, popping_after, popping_progress, popping_moment};
+
+    /// The access that it makes next.
+    #[inline]
+    pub fn access(self, site: Site) -> Access
+        requires { site.base + size site < 2 ^ 64 }
+        ensures { result ≡ popping_access site self }
+    {
+        match self {
+            Popping::AtRest => Access::Local,
+            Popping::Pops(place) => place.access(site),
+            Popping::Looks(place) => place.access(site),
+        }
+    }
+
+    /// Goes on after an access that found `seen`.
+    #[inline]
+    pub fn advance(&mut self, site: Site, seen: u64) -> Progress<Reply>
+        requires { site.base + size site < 2 ^ 64 }
+        ensures place { self.new ≡ popping_after site self.old seen }
+        ensures answer { result ≡ popping_progress site self.old seen }
+    {
+        match *self {
+            Popping::AtRest => Progress::Going,
+            Popping::Pops(place) => match place.next(site, seen) {
+                Next::Goes(place) => {
+                    *self = Popping::Pops(place);
+                    Progress::Going
+                }
+                Next::Ends(value) => {
+                    *self = Popping::AtRest;
+                    Progress::Done(Reply::Popped(value))
+                }
+            },
+            Popping::Looks(place) => match place.next(site, seen) {
+                Next::Goes(place) => {
+                    *self = Popping::Looks(place);
+                    Progress::Going
+                }
+                Next::Ends(empty) => {
+                    *self = Popping::AtRest;
+                    Progress::Done(Reply::Empty(empty))
+                }
+            },
+        }
+    }
+
+    /// What an access that found `seen` does to the queue, or sees there.
+    #[inline]
+    pub fn moment(self, site: Site, seen: u64) -> Moment
+        ensures { result ≡ popping_moment site self seen }
+    {
+        match self {
+            Popping::AtRest => Moment::Quiet,
+            Popping::Pops(place) => place.moment(site, seen),
+            Popping::Looks(place) => place.moment(site, seen),
+        }
+    }
+}
+
+/// What a push of a queue of this kind answers.
+#[inline]
+fn push_reply(kind: QueueKind, reply: PushReply) -> Reply
+    ensures { result ≡ reply_of kind reply }
+{
+    match (kind, reply) {
+        (QueueKind::Index, PushReply::Refused(_)) => Reply::Pushed(false),
+        (QueueKind::Index, PushReply::Pushed) => Reply::Pushed(true),
+        (QueueKind::Index, PushReply::PushedOut(_)) => Reply::Pushed(true),
+        (QueueKind::Overflowing, PushReply::Refused(value)) => Reply::HandedBack(Some(value)),
+        (QueueKind::Overflowing, PushReply::Pushed) => Reply::HandedBack(None),
+        (QueueKind::Overflowing, PushReply::PushedOut(old)) => Reply::HandedBack(Some(old)),
+    }
+}

@@ -1,0 +1,61 @@
+//! Where a queue stands among shared words.
+
+/// What a push does to a full queue.
+#[derive(Clone, Copy)]
+pub enum QueueKind {
+    /// it is refused: an `IndexQueue`
+    Index,
+    /// it pushes the oldest value out: a `SafelyOverflowingIndexQueue`
+    Overflowing,
+}
+
+/// The words of a queue: from `base` on the write position, the read position and the cells.
+#[derive(Clone, Copy)]
+pub struct Site {
+    pub kind: QueueKind,
+    pub base: usize,
+    /// how many values may wait; an overflowing queue has one cell more
+    pub capacity: usize,
+}
+
+impl Site {
+    ghost use Rattle.std.specs.Prelude.{◌≡◌, ◌+◌, ◌^◌, ◌<◌};
+    ghost use Rattle.iox_steps.specs.Sites.{cells, size, cell_at, is_full, is_empty};
+
+    /// How many cells there are.
+    #[inline]
+    pub fn cells(self) -> usize
+        requires { self.base + size self < 2 ^ 64 }
+        ensures { result ≡ cells self }
+    {
+        match self.kind {
+            QueueKind::Index => self.capacity,
+            QueueKind::Overflowing => self.capacity + 1,
+        }
+    }
+
+    /// The place of the cell of a position.
+    #[inline]
+    pub fn cell_at(self, position: u64) -> usize
+        requires { self.base + size self < 2 ^ 64 }
+        ensures { result ≡ cell_at self position }
+    {
+        self.base + 2 + (position % (self.cells() as u64).max(1)) as usize
+    }
+
+    /// Do as many values as may wait stand between these positions?
+    #[inline]
+    pub fn is_full(self, read: u64, write: u64) -> bool
+        ensures { result ≡ is_full self read write }
+    {
+        write.saturating_sub(read) >= self.capacity as u64
+    }
+
+    /// Does no value stand between these positions?
+    #[inline]
+    pub fn is_empty(self, read: u64, write: u64) -> bool
+        ensures { result ≡ is_empty self read write }
+    {
+        write <= read
+    }
+}
