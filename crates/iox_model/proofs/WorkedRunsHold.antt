@@ -1,0 +1,46 @@
+-- The worked runs hold: each is played, with the lanes that its loans take.
+use Rattle.std.specs.Prelude.{◌≡◌, ℕ, true, List, [], ◌∷◌, refl}
+use Rattle.iox_model.specs.WorkedRuns.{responds_in_order, evicts_the_oldest, keeps_the_active_limit, refuses_a_full_server, discards_for_a_full_server, cleans_up_the_dead, keeps_the_borrow_limit, skips_a_stale_request}
+use Rattle.iox_model.specs.Scripts.{service, set_up, is_set_up, IsPlayed, Script}
+use Rattle.iox_model.specs.ExpiredRuns.{expires_two, expires_one, expires_none}
+use Rattle.iox_model.proofs.PlayedRuns.{replies_by, are_answered, is_run}
+
+abbrev sure : true ≡ true
+sure = refl
+
+is_played : (x : Script) (lanes : List ℕ) → are_answered (service x.limits) (set_up x.commands) lanes ≡ true
+    → replies_by (service x.limits) (set_up x.commands) lanes ≡ is_set_up x.replies → IsPlayed x
+is_played x lanes e same = is_run (service x.limits) (set_up x.commands) (is_set_up x.replies) lanes e same
+
+pub plays-responds_in_order : IsPlayed responds_in_order
+plays-responds_in_order = is_played responds_in_order [] sure refl
+
+pub plays-evicts_the_oldest : IsPlayed evicts_the_oldest
+plays-evicts_the_oldest = is_played evicts_the_oldest (0 ∷ 0 ∷ 0 ∷ 0 ∷ 0 ∷ 1 ∷ []) sure refl
+
+pub plays-keeps_the_active_limit : IsPlayed keeps_the_active_limit
+plays-keeps_the_active_limit = is_played keeps_the_active_limit (0 ∷ 0 ∷ 0 ∷ 0 ∷ 1 ∷ []) sure refl
+
+pub plays-refuses_a_full_server : IsPlayed refuses_a_full_server
+plays-refuses_a_full_server = is_played refuses_a_full_server (0 ∷ 0 ∷ 0 ∷ 0 ∷ 0 ∷ 1 ∷ 1 ∷ []) sure refl
+
+pub plays-discards_for_a_full_server : IsPlayed discards_for_a_full_server
+plays-discards_for_a_full_server = is_played discards_for_a_full_server (0 ∷ 0 ∷ 0 ∷ 0 ∷ 0 ∷ 1 ∷ []) sure refl
+
+pub plays-cleans_up_the_dead : IsPlayed cleans_up_the_dead
+plays-cleans_up_the_dead = is_played cleans_up_the_dead [] sure refl
+
+pub plays-keeps_the_borrow_limit : IsPlayed keeps_the_borrow_limit
+plays-keeps_the_borrow_limit = is_played keeps_the_borrow_limit [] sure refl
+
+pub plays-skips_a_stale_request : IsPlayed skips_a_stale_request
+plays-skips_a_stale_request = is_played skips_a_stale_request [] sure refl
+
+pub plays-expires_two : IsPlayed expires_two
+plays-expires_two = is_played expires_two [] sure refl
+
+pub plays-expires_one : IsPlayed expires_one
+plays-expires_one = is_played expires_one [] sure refl
+
+pub plays-expires_none : IsPlayed expires_none
+plays-expires_none = is_played expires_none [] sure refl

@@ -1,0 +1,26 @@
+use Rattle.iox_model.proofs.WorkedRunsHold.{plays-responds_in_order, plays-evicts_the_oldest, plays-keeps_the_active_limit, plays-refuses_a_full_server, plays-discards_for_a_full_server, plays-cleans_up_the_dead, plays-keeps_the_borrow_limit, plays-skips_a_stale_request}
+use Rattle.iox_model.proofs.worked.runs.Goals as goal
+
+pub returns-clause-in_order : goal.returns-clause-in_order
+returns-clause-in_order c = plays-responds_in_order
+
+pub returns-clause-evicted : goal.returns-clause-evicted
+returns-clause-evicted c = plays-evicts_the_oldest
+
+pub returns-clause-active_limit : goal.returns-clause-active_limit
+returns-clause-active_limit c = plays-keeps_the_active_limit
+
+pub returns-clause-undeliverable : goal.returns-clause-undeliverable
+returns-clause-undeliverable c = plays-refuses_a_full_server
+
+pub returns-clause-discarded : goal.returns-clause-discarded
+returns-clause-discarded c = plays-discards_for_a_full_server
+
+pub returns-clause-cleaned_up : goal.returns-clause-cleaned_up
+returns-clause-cleaned_up c = plays-cleans_up_the_dead
+
+pub returns-clause-borrow_limit : goal.returns-clause-borrow_limit
+returns-clause-borrow_limit c = plays-keeps_the_borrow_limit
+
+pub returns-clause-stale : goal.returns-clause-stale
+returns-clause-stale c = plays-skips_a_stale_request

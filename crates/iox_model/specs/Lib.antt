@@ -1,0 +1,45 @@
+-- In reading order: what is said, what the machine holds, one moment, one call, and calls together.
+pub mod Maps
+pub mod Messages
+pub mod Commands
+pub mod Settings
+pub mod States
+pub mod Peers
+pub mod Handles
+pub mod Outstandings
+pub mod Moments
+pub mod Doings
+pub mod Loans
+pub mod Requests
+pub mod Responses
+pub mod Receives
+pub mod Releases
+pub mod Looks
+pub mod Steps
+pub mod Names
+pub mod Begins
+pub mod Expiries
+pub mod Forgetting
+pub mod Counts
+pub mod Ends
+pub mod WholeCalls
+pub mod Makings
+pub mod Values
+pub mod Joins
+pub mod Services
+pub mod Runs
+pub mod WireCalls
+pub mod Weaves
+pub mod Schedules
+pub mod Ledgers
+pub mod Tallies
+pub mod Bounds
+-- laws
+pub mod Laws
+pub mod OrderLaws
+-- examples
+pub mod Scripts
+pub mod WorkedRuns
+pub mod ExpiredRuns
+pub mod WorkedWeaves
+pub mod EvictionWeaves

@@ -1,0 +1,109 @@
+-- The making of a port, and the commands of a hub.
+use Rattle.std.specs.Prelude.{◌≡◌, ℕ, ◌+◌, ◌*◌, ◌-◌, ◌^◌, Bool, true, false, not, ◌||◌, if◌then◌else◌, nat_lt, nat_le, [], ◌∷◌, ◌++◌, length, Option, min, max, unwrap_or}
+use Rattle.std.specs.Option.{option_map_or}
+use Rattle.iox_model.specs.declared.kind.Role.{Role}
+use Rattle.iox_model.specs.declared.kind.Role.TheVariants.{Client, Server}
+use Rattle.iox_model.specs.declared.way.UniqueId.{UniqueId}
+use Rattle.iox_model.specs.declared.backpressure.BackpressureStrategy.{BackpressureStrategy}
+use Rattle.iox_model.specs.declared.command.PortCommand.TheVariants.{Create, Use}
+use Rattle.iox_model.specs.declared.reply.Refusal.TheVariants.{UnableToCreatePortTag, UnableToCreateDataSegment, ExceedsMaxSupportedClients, ExceedsMaxSupportedServers}
+use Rattle.iox_model.specs.declared.reply.Reply.TheVariants as replies
+use Rattle.iox_model.specs.Settings.{message_size, has_layout, shape_of, is_static, Shape, Limits}
+use Rattle.iox_model.specs.States.{Port, Fixed, State}
+use Rattle.iox_model.specs.WholeCalls.{UnlessRefused, IsWholeCall}
+use Rattle.iox_model.specs.Maps.{or_else, refused_if}
+use Rattle.iox_model.specs.Counts.{with_fixed}
+use Rattle.iox_model.specs.Commands.{Refusal, Reply, Options, PortCommand}
+use Rattle.iox_model.specs.Peers.{ports_of_role}
+
+-- the most messages that the ports of these settings ever need at once
+abbrev pub pool_of_client : Limits → ℕ
+pool_of_client l = l.loaned_requests + l.active_requests + 2 * l.servers * l.active_requests
+
+abbrev pub pool_of_server : Limits → ℕ → ℕ
+pool_of_server l loans =
+    loans * l.active_requests * l.clients
+    + l.clients * pool_of_client l * (l.response_buffer + l.borrowed_responses)
+
+abbrev pub loans_of_one : Limits → Options → ℕ
+loans_of_one l o = max 1 (unwrap_or o.max_loaned_responses l.loaned_responses)
+
+abbrev pub worst_pool : Limits → Role → Options → ℕ
+worst_pool l Client o = pool_of_client l
+worst_pool l Server o = pool_of_server l (loans_of_one l o)
+
+-- an override stays between 1 and the most that is needed
+abbrev pub chosen_pool : Limits → Role → Options → ℕ
+chosen_pool l role o =
+    option_map_or (λ n. max 1 (min n (worst_pool l role o))) o.pool (worst_pool l role o)
+
+abbrev pub longest_of : Shape → Options → ℕ
+longest_of x o = if x.many then unwrap_or o.max_slice_len 1 else 1
+
+abbrev pub most_ports : Limits → Role → ℕ
+most_ports l Client = l.clients
+most_ports l Server = l.servers
+
+abbrev pub too_many_ports : Role → Refusal
+too_many_ports Client = ExceedsMaxSupportedClients
+too_many_ports Server = ExceedsMaxSupportedServers
+
+abbrev pub strategy_of : Limits → Role → BackpressureStrategy
+strategy_of l Client = l.client_strategy
+strategy_of l Server = l.server_strategy
+
+-- a pool past its bound, a count or a size of bytes past 2^64, or a message with no layout
+abbrev pub is_large : Limits → Role → Options → Bool
+is_large l role o =
+    let x : Shape = shape_of l role in
+    (nat_le (2 ^ 64) (worst_pool l role o) || nat_lt (2 ^ 24 - 2) (chosen_pool l role o))
+    || (not (has_layout x (longest_of x o))
+    || nat_le (2 ^ 64) (chosen_pool l role o * message_size x (longest_of x o)))
+
+-- `memory` says whether memory is there
+abbrev pub making_refusal : Fixed → Role → Options → Bool → Option Refusal
+making_refusal f role o memory =
+    or_else (refused_if (nat_le (2 ^ 32) f.ports_made) UnableToCreatePortTag)
+    (or_else (refused_if (is_large f.limits role o || not memory) UnableToCreateDataSegment)
+    (refused_if (nat_le (most_ports f.limits role) (length (ports_of_role f role)))
+    (too_many_ports role)))
+
+-- the id of a port is its node's, with the count of ports made before it
+abbrev pub new_port : Fixed → ℕ → Role → UniqueId → Options → Port
+new_port f node role id o = record {
+  number = f.next_number;
+  node = node;
+  role = role;
+  node_id = id;
+  id = record id { counter = f.ports_made };
+  pool = chosen_pool f.limits role o;
+  longest = longest_of (shape_of f.limits role) o;
+  grows = option_map_or (λ a. not (is_static a)) o.allocation_strategy false;
+  strategy = unwrap_or o.backpressure_strategy (strategy_of f.limits role);
+  handler = o.backpressure_handler;
+  loaned_responses = loans_of_one f.limits o;
+  held = true;
+}
+
+abbrev pub with_port : Fixed → Port → Fixed
+with_port f p =
+    record f {
+      ports = f.ports ++ p ∷ [];
+      next_number = f.next_number + 1;
+      ports_made = f.ports_made + 1;
+    }
+
+abbrev pub port_reply : Role → ℕ → Reply
+port_reply Client n = replies.Client n
+port_reply Server n = replies.Server n
+
+abbrev pub IsMaking : State → ℕ → Role → UniqueId → Options → Reply → State → Type 0
+IsMaking s node role id o reply s' =
+    (memory : Bool) × UnlessRefused (making_refusal s.fixed role o memory) s reply s'
+    ((reply ≡ port_reply role s.fixed.next_number)
+    × (s' ≡ with_fixed s (with_port s.fixed (new_port s.fixed node role id o))))
+
+-- what one command of a hub is; it reads and changes no node
+abbrev pub IsPortCommand : State → ℕ → PortCommand → Reply → State → Type 0
+IsPortCommand s node (Create role id o) reply s' = IsMaking s node role id o reply s'
+IsPortCommand s node (Use call) reply s' = IsWholeCall s node call reply s'

@@ -1,0 +1,54 @@
+-- The ways that messages go, the messages, and what the state of a request says.
+use Rattle.std.specs.Prelude.{◌≡◌, ℕ, Bool, true, false, ◌&&◌, if◌then◌else◌, ◌==◌, List, map, Option, Some}
+use Rattle.iox_model.specs.declared.way.Way.{Way}
+use Rattle.iox_model.specs.declared.way.UniqueId.{UniqueId}
+use Rattle.iox_model.specs.declared.way.RequestState.{RequestState}
+use Rattle.iox_model.specs.declared.way.RequestState.TheVariants.{Closed, Named}
+
+-- A request goes on lane 0 of the way from its client.
+abbrev pub request_way : ℕ → ℕ → Way
+request_way client server = record { sender = client; receiver = server; lane = 0 }
+
+-- Its responses come on the lane that its loan took; on that way lies its state, too.
+abbrev pub response_way : ℕ → ℕ → ℕ → Way
+response_way client lane server = record { sender = server; receiver = client; lane = lane }
+
+-- A message is known by its sender and its serial, the count of that sender's loans before it. No
+-- header holds the serial; a request's id is its serial, as long as ids do not run around.
+pub record Message : Type 0 where
+  pub sender : ℕ
+  pub serial : ℕ
+  -- the header: the ids of the sender's node and of the sender, the lane and the id of the
+  -- request that it is or answers, and how many elements its payload has
+  pub node_id : UniqueId
+  pub port_id : UniqueId
+  pub lane : ℕ
+  pub request : ℕ
+  pub elements : ℕ
+  -- the words of the user header, and of the payload
+  pub user : List ℕ
+  pub payload : List ℕ
+
+-- A body that keeps the messages of one sender in numbered slots tells which serial each slot
+-- holds, if any. No two slots hold the same one.
+abbrev pub TellsApart : (ℕ → Option ℕ) → Type 0
+TellsApart serial_in = (i j k : ℕ) → serial_in i ≡ Some k → serial_in j ≡ Some k → i ≡ j
+
+abbrev pub serials_of : List Message → List ℕ
+serials_of ms = map (λ m. m.serial) ms
+
+-- whether the state names the request, with a hint or without
+abbrev pub names : RequestState → ℕ → Bool
+names Closed id = false
+names (Named n hinted) id = n == id
+
+abbrev pub names_with_hint : RequestState → ℕ → Bool
+names_with_hint Closed id = false
+names_with_hint (Named n hinted) id = (n == id) && hinted
+
+-- the state after a close of the request, and after a hint: they act only where it is named
+abbrev pub closed_for : RequestState → ℕ → RequestState
+closed_for shown id = if names shown id then Closed else shown
+
+abbrev pub hinted_for : RequestState → ℕ → RequestState
+hinted_for shown id = if names shown id then Named id true else shown

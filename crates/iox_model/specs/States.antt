@@ -1,0 +1,102 @@
+-- The state of the machine.
+use Rattle.std.specs.Prelude.{ℕ, Bool, List, Option}
+use Rattle.iox_model.specs.declared.kind.Role.{Role}
+use Rattle.iox_model.specs.declared.kind.Kind.{Kind}
+use Rattle.iox_model.specs.declared.way.Way.{Way}
+use Rattle.iox_model.specs.declared.way.UniqueId.{UniqueId}
+use Rattle.iox_model.specs.declared.way.RequestState.{RequestState}
+use Rattle.iox_model.specs.declared.backpressure.BackpressureStrategy.{BackpressureStrategy}
+use Rattle.iox_model.specs.declared.backpressure.BackpressureAction.{BackpressureAction}
+use Rattle.iox_model.specs.Settings.{Limits}
+use Rattle.iox_model.specs.Messages.{Message}
+
+-- ---- nodes, ports and handles
+
+pub record Node : Type 0 where
+  pub number : ℕ
+  pub id : UniqueId
+  pub alive : Bool
+
+-- the nodes that did not leave, dead ones included; how many ever joined; closed for good
+pub record Members : Type 0 where
+  pub nodes : List Node
+  pub joins : ℕ
+  pub closed : Bool
+
+pub record Port : Type 0 where
+  pub number : ℕ
+  pub node : ℕ
+  pub role : Role
+  pub node_id : UniqueId
+  pub id : UniqueId
+  -- how many messages its pool has; a client has as many lanes
+  pub pool : ℕ
+  -- the greatest length of a message, unless the port's messages grow
+  pub longest : ℕ
+  pub grows : Bool
+  pub strategy : BackpressureStrategy
+  -- the words of its backpressure handler, if one is set
+  pub handler : Option (List ℕ)
+  -- of a server: how many loans one request may have
+  pub loaned_responses : ℕ
+  -- whether the port's own value is not released
+  pub held : Bool
+
+pub record Handle : Type 0 where
+  pub node : ℕ
+  pub number : ℕ
+  pub kind : Kind
+  -- the port that it belongs to
+  pub port : ℕ
+  -- its own message, if it is a loan or a pending response, else the one that was received
+  pub message : Message
+  -- of a loan: how many elements are filled
+  pub filled : ℕ
+  -- its request: the client, the lane and the id
+  pub client : ℕ
+  pub lane : ℕ
+  pub request : ℕ
+  -- of a pending response: how many servers the request was delivered to
+  pub connections : ℕ
+
+-- ---- the state
+
+-- What no moment changes.
+pub record Fixed : Type 0 where
+  pub limits : Limits
+  -- what a backpressure handler, by its words, answers for a sender and a receiver
+  pub acts : List ℕ → ℕ → ℕ → BackpressureAction
+  -- whether a wire is open: ports are fixed, and each node counts its own handles
+  pub on_wire : Bool
+  -- the connected ports, oldest first, and how many were ever made
+  pub ports : List Port
+  pub ports_made : ℕ
+  -- the handles of each node, oldest first
+  pub handles : ℕ → List Handle
+  -- the next number of a port or handle; on a wire also how many handles each node made
+  pub next_number : ℕ
+  pub handles_made : ℕ → ℕ
+  -- how many loans, sends and receives were not refused
+  pub calls : ℕ
+  -- how many loans of each port succeeded
+  pub loans : ℕ → ℕ
+  -- on each way how many received messages its receiver has as handles
+  pub borrowed : Way → ℕ
+  -- the senders of each receiver's expired pairs, oldest first
+  pub expired : ℕ → List ℕ
+  -- the dead nodes that each node forgot
+  pub forgot : ℕ → List ℕ
+
+pub record State : Type 0 where
+  pub members : Members
+  pub fixed : Fixed
+  -- on each way the messages that wait, oldest first
+  pub waiting : Way → List Message
+  -- on each way the serials that were given back and not got back, oldest first
+  pub returned : Way → List ℕ
+  -- on each way the serial that its sender evicted and did not get back yet, if there is one
+  pub in_hand : Way → List ℕ
+  -- on each way the serials that its sender delivered and did not get back
+  pub delivered : Way → ℕ → Bool
+  -- on each way of responses the state of the request there
+  pub naming : Way → RequestState

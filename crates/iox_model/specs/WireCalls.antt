@@ -1,0 +1,104 @@
+-- The calls of a wire, where a payload is words alone, and what its opening asks.
+use Rattle.iox_model.specs.declared.call.Call as the_call
+use Rattle.std.specs.Prelude.{ℕ, ◌*◌, ◌/◌, ◌^◌, Bool, true, not, ◌&&◌, ◌||◌, if◌then◌else◌, ◌==◌, nat_lt, nat_le, List, [], ◌++◌, length, map, Option, Some, None, is_some}
+use Rattle.std.specs.List.{list_any}
+use Rattle.iox_model.specs.declared.kind.Role.TheVariants.{Client, Server}
+use Rattle.iox_model.specs.declared.call.Call.TheVariants.{Loan, LoanUninit, Write, Send, SendCopy, Receive, Read, Release, IsConnected, SetHint, HasHint, HasRequests, HasResponse}
+use Rattle.iox_model.specs.declared.reply.Refusal.TheVariants.{WantOfMemory, MessagesUnderWay, GrowingStrategy, HandlerSet, UnsuitableAlignment, TooManyWords}
+use Rattle.iox_model.specs.Runs.{at_rest}
+use Rattle.iox_model.specs.Expiries.{waits_between}
+use Rattle.iox_model.specs.Settings.{Shape}
+use Rattle.iox_model.specs.States.{Fixed, State}
+use Rattle.iox_model.specs.Handles.{is_request_loan, subject, Subject, ThePort, TheHandle}
+use Rattle.iox_model.specs.WholeCalls.{shape_of_loan}
+use Rattle.iox_model.specs.Maps.{is_empty, or_else, refused_if}
+use Rattle.iox_model.specs.Commands.{Refusal, Call, Payload}
+
+-- how many elements these words are, if they are a whole number of elements
+abbrev pub whole_number : ℕ → ℕ → Option ℕ
+whole_number width n =
+    if width == 0 then (if n == 0 then Some 0 else None)
+    else (if (n / width) * width == n then Some (n / width) else None)
+
+-- elements without words count as none, and where a message has one element as that one
+abbrev pub elements_of : Shape → List ℕ → Option ℕ
+elements_of x words =
+    if not x.many && ((x.width == 0) && is_empty words) then Some 1
+    else whole_number x.width (length words)
+
+-- what is written into a loan is compared with the loaned words alone
+abbrev pub elements_for : Shape → ℕ → List ℕ → Option ℕ
+elements_for x elements words = if length words == elements * x.width then Some elements else None
+
+abbrev pub copied_payload : Fixed → Option Subject → List ℕ → Payload
+copied_payload f (Some (ThePort p)) words =
+    record { role = Client; elements = elements_of f.limits.request words; words = words }
+copied_payload f subject words =
+    record { role = Server; elements = elements_of f.limits.response words; words = words }
+
+abbrev pub written_payload : Fixed → Option Subject → List ℕ → Payload
+written_payload f (Some (TheHandle h)) words = record {
+  role = if is_request_loan h.kind then Client else Server;
+  elements = elements_for (shape_of_loan f h) h.message.elements words;
+  words = words;
+}
+written_payload f subject words = record { role = Client; elements = None; words = words }
+
+-- what a node says by a call with words
+abbrev pub said : Fixed → ℕ → the_call.Call (List ℕ) → Call
+said f node (Loan n k) = Loan n k
+said f node (LoanUninit n k) = LoanUninit n k
+said f node (Write n words) = Write n (written_payload f (subject f node n) words)
+said f node (Send n) = Send n
+said f node (SendCopy n words) = SendCopy n (copied_payload f (subject f node n) words)
+said f node (Receive n) = Receive n
+said f node (Read n) = Read n
+said f node (Release n) = Release n
+said f node (IsConnected n) = IsConnected n
+said f node (SetHint n) = SetHint n
+said f node (HasHint n) = HasHint n
+said f node (HasRequests n) = HasRequests n
+said f node (HasResponse n) = HasResponse n
+
+-- ---- the opening of a wire
+
+-- whether a message waits for the receiver, also in a pair that is expired
+abbrev pub waits_for : State → ℕ → Bool
+waits_for s receiver =
+    list_any (λ sender. waits_between s sender receiver)
+    (map (λ p. p.number) s.fixed.ports ++ s.fixed.expired receiver)
+
+-- a handle, a message that waits, or a dead node that was not cleaned up
+abbrev pub is_under_way : State → Bool
+is_under_way s =
+    list_any (λ p. not (is_empty (s.fixed.handles p.node)) || waits_for s p.number) s.fixed.ports
+    || list_any (λ m. not m.alive) s.members.nodes
+
+abbrev pub is_unsuitable : Shape → Bool
+is_unsuitable x =
+    nat_lt x.header_part.alignment 8
+    || (nat_lt x.user_part.alignment 8 || nat_lt x.element_part.alignment 8)
+
+-- `words` is how many words its map has
+abbrev pub wire_refusal : State → ℕ → Bool → Option Refusal
+wire_refusal s words memory =
+    or_else (refused_if (is_under_way s) MessagesUnderWay)
+    (or_else (refused_if (list_any (λ p. p.grows) s.fixed.ports) GrowingStrategy)
+    (or_else (refused_if (list_any (λ p. is_some p.handler) s.fixed.ports) HandlerSet)
+    (or_else
+    (refused_if (is_unsuitable s.fixed.limits.request || is_unsuitable s.fixed.limits.response)
+    UnsuitableAlignment)
+    (or_else (refused_if (nat_le (2 ^ 64) words) TooManyWords)
+    (refused_if (not memory) WantOfMemory)))))
+
+-- the state with which a wire opens: the ports and nodes of the service, and nothing under way
+abbrev pub opened : State → State
+opened s = at_rest s.members (record (s.fixed) {
+  on_wire = true;
+  handles = λ n. [];
+  handles_made = λ n. 0;
+  loans = λ p. 0;
+  borrowed = λ w. 0;
+  expired = λ p. [];
+  forgot = λ n. [];
+})

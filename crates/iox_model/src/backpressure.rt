@@ -1,0 +1,26 @@
+//! What a sender does where a receiver has no room.
+
+/// What happens to a message for a full receiver.
+#[derive(Clone, Copy, Debug, PartialEq, Eq)]
+pub enum BackpressureStrategy {
+    /// That receiver does not get it.
+    DiscardData,
+    /// The whole send is refused, before anybody gets it.
+    RetryUntilDelivered,
+}
+
+/// What a handler answers for a full receiver.
+#[derive(Clone, Copy, Debug, PartialEq, Eq)]
+pub enum BackpressureAction {
+    FollowBackpressureStrategy,
+    DiscardData,
+    DiscardDataAndFail,
+}
+
+/// Whether a port's messages may grow past its greatest length.
+#[derive(Clone, Copy, Debug, PartialEq, Eq)]
+pub enum AllocationStrategy {
+    Static,
+    BestFit,
+    PowerOfTwo,
+}

@@ -1,0 +1,6 @@
+pub mod Walks
+pub mod Visits
+pub mod Received
+pub mod Sending
+pub mod Sent
+pub mod Overflowing

@@ -1,0 +1,65 @@
+-- The send of a request with overflow as a function of lists.
+use Rattle.std.specs.Prelude.{◌≡◌, ℕ, true, false, if◌then◌else◌, List, [], ◌∷◌, length, map, Some, take}
+use Rattle.iox_model.specs.declared.kind.Role.TheVariants.{Server}
+use Rattle.iox_model.specs.declared.way.Way.{Way}
+use Rattle.iox_model.specs.declared.call.Call.TheVariants.{Send}
+use Rattle.iox_model.specs.declared.reply.Refusal.TheVariants.{ExceedsMaxActiveRequests}
+use Rattle.iox_plain.specs.Sends.{without_all, emptied, opened_at}
+use Rattle.iox_plain.specs.Answers.{answered, unless_misnamed}
+use Rattle.iox_model.specs.Doings.{Sending, Outcome, Sends, FailsToSend}
+use Rattle.iox_model.specs.Settings.{overflow_of}
+use Rattle.iox_model.specs.States.{Handle, State}
+use Rattle.iox_model.specs.Requests.{targets, to_open, sending_of, is_active_spent}
+use Rattle.iox_model.specs.Handles.{is_request_loan, subject, TheHandle}
+use Rattle.iox_model.specs.WholeCalls.{IsWholeCall}
+use Rattle.iox_model.specs.Maps.{rest_of, put, AreApart}
+use Rattle.iox_model.specs.Moments.{is_overfull, moved, Deliver}
+use Rattle.iox_model.specs.Commands.{Reply}
+use Rattle.iox_model.specs.Messages.{request_way, serials_of, Message}
+use Rattle.iox_model.specs.Peers.{role_at, others}
+
+-- the first in line is given up, and outstanding no more
+abbrev pub evicted_from : State → Way → State
+evicted_from s w = record s {
+  waiting = put s.waiting w (rest_of (s.waiting w));
+  delivered = put s.delivered w (without_all (s.delivered w) (serials_of (take 1 (s.waiting w))));
+}
+
+-- the message is last in line; if that is one too many, the first is given up
+abbrev pub pushed : State → Message → Way → State
+pushed s m w =
+    let t : State = moved s (Deliver w m) in if is_overfull t w then evicted_from t w else t
+
+abbrev pub pushed_to : State → Message → List Way → State
+pushed_to s m [] = s
+pushed_to s m (w ∷ ws) = pushed_to (pushed s m w) m ws
+
+-- all are emptied, opened and delivered to
+abbrev pub sent_over : State → Sending → Outcome × State
+sent_over s x = (
+  Sends x.loan x.copied (length (targets x)),
+  pushed_to (opened_at (emptied s (targets x)) x.loan.request (to_open x)) x.loan.message (targets x),
+)
+
+-- the send of a loaned request to these servers
+abbrev pub sent_over_to : State → Handle → List ℕ → Outcome × State
+sent_over_to s h servers =
+    if is_active_spent s.fixed h then (FailsToSend h false ExceedsMaxActiveRequests, s)
+    else sent_over s (sending_of s.fixed h false servers)
+
+-- the whole call
+abbrev pub sent_over_by : State → ℕ → ℕ → Handle → Reply × State
+sent_over_by s node n h =
+    unless_misnamed s node (Send n)
+    (answered s node (sent_over_to s h (others s.fixed h.node Server)))
+
+-- It is a whole call, where requests overflow, the servers' numbers differ, nothing is in hand, and
+-- nowhere one too many waits, as it is between whole calls.
+abbrev pub EachOverflowingSendIsWhole : Type 0
+EachOverflowingSendIsWhole =
+    (s : State) (node n : ℕ) (h : Handle) → subject s.fixed node n ≡ Some (TheHandle h)
+    → is_request_loan h.kind ≡ true
+    → overflow_of s.fixed.limits (role_at s.fixed h.port) ≡ true
+    → AreApart (map (request_way h.port) (others s.fixed h.node Server))
+    → ((w : Way) → s.in_hand w ≡ []) → ((w : Way) → is_overfull s w ≡ false)
+    → IsWholeCall s node (Send n) (sent_over_by s node n h).0 (sent_over_by s node n h).1
