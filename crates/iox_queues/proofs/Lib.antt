@@ -1,2 +1,3 @@
 pub mod RingLemmas
 pub mod QueueLemmas
+pub mod ValueLemmas

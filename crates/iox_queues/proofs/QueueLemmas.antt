@@ -4,14 +4,14 @@ use Rattle.iox_queues.specs.BoundedQueues.{with_pushed, without_first}
 use Rattle.iox_queues.specs.Rings.{queue_in_ring}
 use Rattle.iox_queues.proofs.RingLemmas.{items_from-push, items_from-pop}
 
-module _ (cells : List ℕ) (oldest len pushed capacity place : ℕ)
+module _ {A : Type 0} (cells : List A) (oldest len pushed capacity place : ℕ)
     (is : capacity ≡ length cells) (within : oldest < capacity) where
-  pub queue_in_ring-push : (value : ℕ) → len < capacity → place ≡ (oldest + len) % capacity
+  pub queue_in_ring-push : (value : A) → len < capacity → place ≡ (oldest + len) % capacity
       → queue_in_ring (set cells place value) oldest (len + 1) (pushed + 1)
       ≡ with_pushed (queue_in_ring cells oldest len pushed) value
   queue_in_ring-push value room at =
       rw (at, is) (
-      ap₂ (λ (n : ℕ) (items : List ℕ). record { capacity = n; waiting = items; pushed = pushed + 1 })
+      ap₂ (λ (n : ℕ) (items : List A). record { capacity = n; waiting = items; pushed = pushed + 1 })
       (length-set cells ((oldest + len) % length cells) value)
       (items_from-push oldest len cells value (omega arith) (omega arith)))
 
@@ -19,5 +19,5 @@ module _ (cells : List ℕ) (oldest len pushed capacity place : ℕ)
       → queue_in_ring cells place (len - 1) pushed ≡ without_first (queue_in_ring cells oldest len pushed)
   queue_in_ring-pop some fits at =
       rw (at, is) (
-      ap (λ (items : List ℕ). record { capacity = length cells; waiting = items; pushed = pushed })
+      ap (λ (items : List A). record { capacity = length cells; waiting = items; pushed = pushed })
       (items_from-pop oldest len cells (omega arith) (omega arith) some))

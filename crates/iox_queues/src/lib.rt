@@ -2,4 +2,5 @@
 #![tactic(auto)]
 
 mod places;
+mod ring;
 pub mod spsc;

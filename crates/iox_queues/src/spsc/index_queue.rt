@@ -3,12 +3,16 @@ ghost use Rattle.std.specs.Prelude.{◌≡◌, ◌≤◌, ◌↔◌, [], IfOk, I
 ghost use Rattle.std.specs.Bool.{OnFalse, OnTrue};
 ghost use Rattle.iox_queues.specs.BoundedQueues.{HasRoom, empty_queue, first, with_pushed, without_first};
 
-use crate::places::{place_after, place_ahead};
+use crate::ring::Ring;
+pub use consumer::Consumer;
 pub use fixed_size::FixedSizeIndexQueue;
+pub use producer::Producer;
 use std::alloc::{AllocError, Global};
 use std::marker::Model;
 
+mod consumer;
 mod fixed_size;
+mod producer;
 #[cfg(test)]
 mod tests;
 
@@ -25,23 +29,15 @@ mod tests;
 /// ```
 #[derive(Debug, Drop)]
 pub struct IndexQueue {
-    cells: Vec<u64>,
-    // The cell of the number that waits longest.
-    oldest: usize,
-    len: usize,
-    pushed: u64,
+    ring: Ring<u64>,
 }
 
 impl Model for IndexQueue {
-    ghost use Rattle.std.specs.Prelude.{◌-◌, ◌≤◌, length};
     ghost use Rattle.iox_queues.specs.BoundedQueues.{BoundedQueue};
-    ghost use Rattle.iox_queues.specs.Rings.{queue_in_ring};
 
     ghost Value = { BoundedQueue };
 
-    ghost view = { λ q. queue_in_ring q.cells.items q.oldest q.len q.pushed };
-
-    ghost invariant = { λ q. (q.oldest ≤ length q.cells.items - 1) × (q.len ≤ length q.cells.items) };
+    ghost view = { λ q. q.ring };
 }
 
 impl IndexQueue {
@@ -51,10 +47,7 @@ impl IndexQueue {
     {
         let cells = vec![in alloc; 0u64; capacity]?;
         Ok(IndexQueue {
-            cells,
-            oldest: 0,
-            len: 0,
-            pushed: 0,
+            ring: Ring::new(cells),
         })
     }
 
@@ -68,15 +61,7 @@ impl IndexQueue {
         ensures unchanged { OnFalse result (self.new ≡ self.old) }
         ensures within { length self.new.waiting ≤ self.new.capacity }
     {
-        let capacity = self.cells.len();
-        if self.len == capacity || self.pushed == u64::MAX {
-            return false;
-        }
-        let free = place_ahead(self.oldest, self.len, capacity);
-        self.cells[free] = value;
-        self.len += 1;
-        self.pushed += 1;
-        true
+        self.ring.push(value)
     }
 
     /// Takes the number that waits longest out of the queue; `None` when the queue is empty.
@@ -85,13 +70,7 @@ impl IndexQueue {
         ensures oldest { result ≡ first self.old.waiting }
         ensures left { self.new ≡ without_first self.old }
     {
-        if self.len == 0 {
-            return None;
-        }
-        let value = self.cells[self.oldest];
-        self.oldest = place_after(self.oldest, self.cells.len());
-        self.len -= 1;
-        Some(value)
+        self.ring.pop()
     }
 
     /// How many numbers may wait at once.
@@ -99,7 +78,7 @@ impl IndexQueue {
     pub fn capacity(&self) -> usize
         ensures { result ≡ self.now.capacity }
     {
-        self.cells.len()
+        self.ring.capacity()
     }
 
     /// How many numbers wait.
@@ -108,7 +87,7 @@ impl IndexQueue {
         ensures len { result ≡ length self.now.waiting }
         ensures within { result ≤ self.now.capacity }
     {
-        self.len
+        self.ring.len()
     }
 
     /// Whether nothing waits, so that a pop would find nothing.
@@ -116,7 +95,7 @@ impl IndexQueue {
     pub fn is_empty(&self) -> bool
         ensures { IsTrue result ↔ (self.now.waiting ≡ []) }
     {
-        self.len == 0
+        self.ring.is_empty()
     }
 
     /// Whether as many numbers wait as may, so that a push would find no room.
@@ -125,6 +104,6 @@ impl IndexQueue {
         ensures full { IsTrue result ↔ (length self.now.waiting ≡ self.now.capacity) }
         ensures within { length self.now.waiting ≤ self.now.capacity }
     {
-        self.len == self.cells.len()
+        self.ring.is_full()
     }
 }

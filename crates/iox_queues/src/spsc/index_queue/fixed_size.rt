@@ -7,6 +7,8 @@ use super::IndexQueue;
 use std::alloc::{AllocError, Global};
 use std::marker::Model;
 
+mod guards;
+
 /// An [`IndexQueue`] of at most `CAPACITY` numbers, which its type tells. Its calls are the same.
 #[derive(Debug, Drop)]
 pub struct FixedSizeIndexQueue<const CAPACITY: usize> {

@@ -1,9 +1,9 @@
 use Rattle.std.proofs.Common.{◌≡◌, length, ◌∙◌, arith}
 use Rattle.iox_queues.proofs.QueueLemmas.{queue_in_ring-pop}
-use Rattle.iox_queues.proofs.spsc.index_queue.IndexQueue.pop.Goals as goal
+use Rattle.iox_queues.proofs.ring.Ring.pop.Goals as goal
 
 pub returns-clause-left : goal.returns-clause-left
-returns-clause-left c =
+returns-clause-left g c =
     let q = c.self.inside in
     let capacity : c.len.result ≡ length q.cells.items = c.len.ensures ∙ q.cells.ok.0 in
     let at = c.place_after-self-inside.ensures in

@@ -1,0 +1,15 @@
+ghost use Rattle.std.specs.Prelude.{◌≡◌, [], length};
+
+use super::Ring;
+
+/// An empty queue in the cells, into which `pushed` values were pushed already.
+pub(crate) fn ring_after<T: Copy>(cells: Vec<T>, pushed: u64) -> Ring<T>
+    ensures { result ≡ record { capacity = length cells.items; waiting = []; pushed = pushed } }
+{
+    Ring {
+        cells,
+        oldest: 0,
+        len: 0,
+        pushed,
+    }
+}
