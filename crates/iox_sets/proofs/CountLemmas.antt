@@ -1,7 +1,7 @@
 -- The counted bits that were set: none, or the lowest and the rest.
 use Rattle.std.proofs.Common.{◌≡◌, ◌≢◌, ◌+◌, ◌<◌, ℕ, zero, suc, List, [], ◌∷◌, Some, None, length, get_or, set, replicate, slice_get, refl, ap, sym, ◌∙◌, inl, inr, arith}
 use Rattle.std.proofs.lemmas.Bool.{cases_lt}
-use Rattle.iox_sets.specs.declared.mpmc.counting_bit_set.BitState.{BitState}
+use Rattle.iox_sets.specs.declared.mpmc.counting_bit_set.bit_state.BitState.{BitState}
 use Rattle.iox_sets.specs.CountingBitSets.{bit_states, bit_states_from, count_of, no_counts}
 use Rattle.iox_sets.specs.Words.{IsFirstUsed, IsUnusedFrom}
 

@@ -1,6 +1,6 @@
 -- A set of counted bits, as its callers see it: how often each bit was set, from bit 0 on.
 use Rattle.std.specs.Prelude.{◌+◌, ◌-◌, ◌^◌, ℕ, zero, suc, List, [], ◌∷◌, replicate, slice_index, slice_set}
-use Rattle.iox_sets.specs.declared.mpmc.counting_bit_set.BitState.{BitState}
+use Rattle.iox_sets.specs.declared.mpmc.counting_bit_set.bit_state.BitState.{BitState}
 
 -- the greatest count of a bit
 abbrev pub max_count : ℕ

@@ -5,38 +5,15 @@ ghost use Rattle.iox_sets.specs.Calls.{IsCalledWithEach};
 ghost use Rattle.iox_sets.specs.CountingBitSets.{bit_states, count_of, max_count, no_counts, with_one_more};
 
 use crate::words::first_used_word;
+pub use bit_state::BitState;
 pub use fixed_size::FixedSizeCountingBitSet;
 use std::alloc::{AllocError, Global};
 use std::marker::Model;
 
+mod bit_state;
 mod fixed_size;
 #[cfg(test)]
 mod tests;
-
-/// A bit that was set, and how often.
-#[derive(Clone, Copy, Debug, PartialEq, Eq)]
-pub struct BitState {
-    bit: usize,
-    count: u64,
-}
-
-impl BitState {
-    /// The number of the bit.
-    #[inline]
-    pub fn bit(&self) -> usize
-        ensures { result ≡ self.now.bit }
-    {
-        self.bit
-    }
-
-    /// How often it was set, at least once.
-    #[inline]
-    pub fn count(&self) -> u64
-        ensures { result ≡ self.now.count }
-    {
-        self.count
-    }
-}
 
 /// A set of `capacity` counted bits. It takes memory when it is made, and never again.
 #[derive(Debug, Drop)]

@@ -9,12 +9,14 @@ use crate::mpmc::unique_index_set_enums::{
     ReleaseMode, ReleaseState, UniqueIndexSetAcquireFailure, UniqueIndexSetNewError,
 };
 pub use fixed_size::FixedSizeUniqueIndexSet;
+pub use fixed_size_unique_index::FixedSizeUniqueIndex;
 pub use head_details::HeadDetails;
 use std::alloc::{AllocError, Global};
 use std::marker::Model;
 pub use unique_index::UniqueIndex;
 
 mod fixed_size;
+mod fixed_size_unique_index;
 mod head_details;
 #[cfg(test)]
 mod tests;

@@ -28,3 +28,10 @@ fn all_bits_are_cleared_and_told_in_order(rt: HostRuntime) -> Result<(), Fail> {
     assert_eq!(rt; set.reset_next(), None);
     Ok(())
 }
+
+#[test]
+fn more_bits_than_memory_has_are_refused(rt: HostRuntime) -> Result<(), Fail> {
+    assert!(rt; BitSet::new(rt.alloc(), usize::MAX).is_err());
+    assert!(rt; FixedSizeBitSet::<{ usize::MAX }>::new(rt.alloc()).is_err());
+    Ok(())
+}

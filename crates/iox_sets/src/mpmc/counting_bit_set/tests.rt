@@ -46,3 +46,9 @@ fn a_fixed_set_tells_each_bit_once(rt: HostRuntime) -> Result<(), Fail> {
     assert_eq!(rt; told, [(0, 0), (0, 1), (4, 2)]);
     Ok(())
 }
+
+#[test]
+fn more_counts_than_memory_has_are_refused(rt: HostRuntime) -> Result<(), Fail> {
+    assert!(rt; CountingBitSet::new(rt.alloc(), usize::MAX).is_err());
+    Ok(())
+}

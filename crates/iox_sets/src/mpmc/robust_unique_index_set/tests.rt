@@ -34,6 +34,12 @@ fn the_lowest_free_index_is_taken(rt: HostRuntime) -> Result<(), Fail> {
         ReleaseState::Unlocked
     );
     assert_eq!(rt; set.acquire(owner), Ok(1));
+    assert!(rt; !set.is_locked());
+    assert_eq!(rt;
+        set.recover(owner, |_| true, ReleaseMode::LockIfLastIndex),
+        ReleaseState::Locked
+    );
+    assert!(rt; set.is_locked());
     Ok(())
 }
 
@@ -71,8 +77,13 @@ fn a_recovery_frees_what_its_owner_holds(rt: HostRuntime) -> Result<(), Fail> {
 
 #[test]
 fn a_reduced_capacity_is_kept(rt: HostRuntime) -> Result<(), Fail> {
-    let set = StaticRobustUniqueIndexSet::<4>::new_with_reduced_capacity(rt.alloc(), 2)?;
+    let mut set = StaticRobustUniqueIndexSet::<4>::new_with_reduced_capacity(rt.alloc(), 2)?;
     assert_eq!(rt; set.capacity(), 2);
+    let Ok(index) = set.acquire(OwnerId::new(3)?) else {
+        return Ok(());
+    };
+    let state = set.release(index, ReleaseMode::LockIfLastIndex);
+    assert_eq!(rt; state, ReleaseState::Locked);
     let large = StaticRobustUniqueIndexSet::<4>::new_with_reduced_capacity(rt.alloc(), 5);
     assert_eq!(rt; large.err(), Some(UniqueIndexSetNewError::ExceedsCapacity));
     Ok(())

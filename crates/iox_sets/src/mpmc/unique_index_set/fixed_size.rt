@@ -4,7 +4,7 @@ ghost use Rattle.iox_sets.specs.declared.mpmc.unique_index_set_enums.UniqueIndex
 ghost use Rattle.iox_sets.specs.Refusals.{IsRefusal};
 ghost use Rattle.iox_sets.specs.IndexSets.{IsHeld, Takes, acquire_refusal, capacity_refusal, held_count, new_index_set, reduced_refusal, state_after, with_released};
 
-use super::{MAX_CAPACITY, UniqueIndex, UniqueIndexSet};
+use super::{MAX_CAPACITY, UniqueIndexSet};
 use crate::mpmc::unique_index_set_enums::{
     ReleaseMode, ReleaseState, UniqueIndexSetAcquireFailure, UniqueIndexSetNewError,
 };
@@ -107,14 +107,5 @@ impl<const CAPACITY: usize> FixedSizeUniqueIndexSet<CAPACITY> {
         ensures unlocked { self.old.locked ≡ false }
     {
         self.set.release_raw_index(index, mode)
-    }
-
-    /// Takes the index that was given back last, and holds it as long as the guard lives.
-    #[inline]
-    pub fn acquire(&mut self) -> Result<UniqueIndex<'_>, UniqueIndexSetAcquireFailure>
-        ensures acquired { IfOk result (λ guard. Takes self.old guard.value guard.set.now) }
-        ensures refused { IfErr result (λ failure. acquire_refusal self.old ≡ Some failure) }
-    {
-        self.set.acquire()
     }
 }

@@ -41,7 +41,20 @@ fn the_last_that_was_given_back_is_taken_first(rt: HostRuntime) -> Result<(), Fa
     set.release_raw_index(zero, ReleaseMode::Default);
     set.release_raw_index(two, ReleaseMode::Default);
     assert_eq!(rt; set.borrowed_indices(), 1);
-    assert_eq!(rt; set.acquire_raw_index(), Ok(2));
+    let Ok(again) = set.acquire_raw_index() else {
+        return Ok(());
+    };
+    assert_eq!(rt; again, 2);
+    let unlocked = set.release_raw_index(again, ReleaseMode::LockIfLastIndex);
+    assert_eq!(rt; unlocked, ReleaseState::Unlocked);
+    assert!(rt; !set.is_locked());
+    let locked = set.release_raw_index(one, ReleaseMode::LockIfLastIndex);
+    assert_eq!(rt; locked, ReleaseState::Locked);
+    assert!(rt; set.is_locked());
+    assert_eq!(rt;
+        set.acquire_raw_index(),
+        Err(UniqueIndexSetAcquireFailure::IsLocked)
+    );
     Ok(())
 }
 
@@ -60,6 +73,19 @@ fn the_last_index_locks_for_good(rt: HostRuntime) -> Result<(), Fail> {
     );
     let text = UniqueIndexSetAcquireFailure::IsLocked.to_string(rt.alloc())?;
     assert_eq!(rt; text.as_str(), "UniqueIndexSetAcquireFailure::IsLocked");
+    Ok(())
+}
+
+#[test]
+fn a_reduced_capacity_is_kept(rt: HostRuntime) -> Result<(), Fail> {
+    let mut set = FixedSizeUniqueIndexSet::<4>::new_with_reduced_capacity(rt.alloc(), 2)?;
+    assert_eq!(rt; set.capacity(), 2);
+    assert_eq!(rt; set.acquire_raw_index(), Ok(0));
+    assert_eq!(rt; set.acquire_raw_index(), Ok(1));
+    assert_eq!(rt;
+        set.acquire_raw_index(),
+        Err(UniqueIndexSetAcquireFailure::OutOfIndices)
+    );
     Ok(())
 }
 
