@@ -1,0 +1,6 @@
+pub mod EntryLemmas
+pub mod HandleLemmas
+pub mod IndexingLemmas
+pub mod RecoveryLemmas
+pub mod StateLemmas
+pub mod ValueLemmas

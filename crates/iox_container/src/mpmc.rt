@@ -1,0 +1,2 @@
+//! Containers that many may change, in the form for one thread.
+pub mod container;
