@@ -1,0 +1,3 @@
+//! One producer and any number of readers.
+
+pub mod unrestricted_atomic;
