@@ -1,5 +1,5 @@
 -- The two parties of a queue as a machine plays them, and what it keeps.
-use Rattle.std.specs.Prelude.{◌≡◌, ℕ, Bool, true, false, List, [], ◌∷◌, Option, Result, MatchResult}
+use Rattle.std.specs.Prelude.{◌≡◌, ℕ, ◌+◌, Bool, true, false, List, [], ◌∷◌, Option, Result, MatchResult, slice_index}
 use Rattle.iox_steps.specs.declared.access.Access.{Access}
 use Rattle.iox_steps.specs.declared.access.Progress.{Progress}
 use Rattle.iox_steps.specs.declared.error.MachineError.{MachineError}
@@ -93,6 +93,10 @@ PartiesPlayed words parties events = ⊥
 
 abbrev pub QueueHolds : World QueueParty Moment → Type 0
 QueueHolds world = PartiesPlayed world.words world.parties world.events
+
+-- the positions of the queue at this site are equal, so nothing waits
+abbrev pub IsEmptyAt : Site → List ℕ → Type 0
+IsEmptyAt site words = slice_index words site.base ≡ slice_index words (site.base + 1)
 
 -- both parties are at rest at this queue, and nothing happened yet
 abbrev pub AtRestAt : Site → List QueueParty → Type 0

@@ -7,8 +7,8 @@ use iox_steps::{Entry, Machine, MachineError, Moment, Progress, QueueKind, Reply
 use std::alloc::{AllocError, Global};
 use std::marker::Model;
 
-/// A queue among shared words, and its two parties: party 0 pushes and looks at fullness, party 1 pops
-/// and looks at emptiness.
+/// A queue among shared words, and its two parties: party 0 pushes and looks at fullness, party 1
+/// pops and looks at emptiness.
 #[derive(Drop)]
 pub struct QueueMachine {
     machine: Machine<QueueParty>,
@@ -23,15 +23,15 @@ impl Model for QueueMachine {
 }
 
 impl QueueMachine {
-    ghost use Rattle.std.specs.Prelude.{◌≡◌, ℕ, ◌+◌, ◌<◌, ◌≤◌, [], length, slice_index, take, IfOk, IfErr, OnOk, OnErr};
+    ghost use Rattle.std.specs.Prelude.{◌≡◌, ℕ, ◌+◌, ◌<◌, ◌≤◌, [], length, take, IfOk, IfErr, OnOk, OnErr};
     ghost use Rattle.iox_steps.specs.Sites.{size};
-    ghost use Rattle.iox_queue_steps.specs.Queues.{IsNewMachine, QueueHolds};
+    ghost use Rattle.iox_queue_steps.specs.Queues.{IsNewMachine, IsEmptyAt, QueueHolds};
     ghost use Rattle.iox_queue_steps.specs.Machines.{QueueStepped, IsQueueStepRefused, QueueBegun, IsQueueBeginRefused, AllQueueEntered, IsMoment};
 
-    /// A machine of the empty queue at this place among the words, at whatever position the queue is.
+    /// A machine of the empty queue at this place among the words, at whatever position it is.
     pub fn new(alloc: Global, words: Vec<u64>, site: Site) -> Result<QueueMachine, AllocError>
         requires room { site.base + size site ≤ length words.items }
-        requires empty { slice_index words.items site.base ≡ slice_index words.items (site.base + 1) }
+        requires empty { IsEmptyAt site words.items }
         requires some { site.kind ≡ QueueKind.Overflowing → 0 < site.capacity }
         ensures made { IfOk result (IsNewMachine words.items site) }
     {
@@ -76,8 +76,8 @@ impl QueueMachine {
         self.machine.step(party)
     }
 
-    /// Plays a schedule to its end, or to the step that wants memory. Whatever the schedule, the values that
-    /// left are, in order, the first of those published, and the rest waits.
+    /// Plays a schedule to its end, or to the step that wants memory. Whatever the schedule, the
+    /// values that left are, in order, the first of those published, and the rest waits.
     pub fn run(&mut self, schedule: &[Entry<Call>]) -> Result<(), MachineError>
         ensures queue { QueueHolds self.new }
         ensures played { (count : ℕ) × AllQueueEntered self.old (take count schedule.now) self.new }

@@ -1,4 +1,5 @@
-//! The parties of a queue: number 0 pushes and looks at fullness, number 1 pops and looks at emptiness.
+//! The parties of a queue: number 0 pushes and looks at fullness, number 1 pops and looks at
+//! emptiness.
 ghost use Rattle.std.specs.Prelude.{◌≡◌, ◌+◌, ◌^◌, ◌<◌};
 ghost use Rattle.iox_steps.specs.Sites.{size};
 

@@ -184,6 +184,34 @@ fn the_last_position_is_never_passed(rt: HostRuntime) -> Result<(), Fail> {
         call(&rt, &mut machine, 1, Call::IsEmpty, 2)?,
         Reply::Empty(true)
     );
+    assert!(rt; machine.events().len() == 2 && machine.words().len() == 8);
+    Ok(())
+}
+
+#[test]
+fn a_queue_at_its_last_position_refuses(rt: HostRuntime) -> Result<(), Fail> {
+    let mut words = vec![in rt.alloc(); 0u64; 8]?;
+    assert!(rt; words.len() == 8);
+    words[1] = u64::MAX - 1;
+    words[2] = u64::MAX - 1;
+    let site = Site {
+        kind: QueueKind::Index,
+        base: 1,
+        capacity: 2,
+    };
+    let mut machine = QueueMachine::new(rt.alloc(), words, site)?;
+    assert_eq!(rt;
+        call(&rt, &mut machine, 0, Call::Push(5), 4)?,
+        Reply::Pushed(true)
+    );
+    assert_eq!(rt;
+        call(&rt, &mut machine, 0, Call::Push(6), 2)?,
+        Reply::Pushed(false)
+    );
+    assert_eq!(rt;
+        call(&rt, &mut machine, 1, Call::Pop, 4)?,
+        Reply::Popped(Some(5))
+    );
     Ok(())
 }
 

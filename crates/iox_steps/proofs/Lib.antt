@@ -14,3 +14,4 @@ pub mod Plays
 pub mod AnswerLemmas
 pub mod ResultLemmas
 pub mod Tables
+pub mod Stores

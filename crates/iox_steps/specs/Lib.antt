@@ -7,6 +7,7 @@ pub mod Seats
 pub mod Moments
 pub mod Fits
 pub mod Laws
+pub mod Stores
 pub mod Worlds
 pub mod Runs
 pub mod Plays
