@@ -1,0 +1,17 @@
+use Rattle.iox_queue_runs.proofs.WholeLemmas.{pop_soon, popped}
+use Rattle.iox_queue_runs.proofs.whole.pop.Goals as goal
+
+pub finish-requires-clause-soon : goal.finish-requires-clause-soon
+finish-requires-clause-soon c = pop_soon c.args.site c.args.words.now.items c.requires
+
+pub returns-clause-queue : goal.returns-clause-queue
+returns-clause-queue c = (popped c.args.site c.args.words.now.items c.requires _ _ c.finish.ensures).queue
+
+pub returns-clause-accesses : goal.returns-clause-accesses
+returns-clause-accesses c = (popped c.args.site c.args.words.now.items c.requires _ _ c.finish.ensures).accesses
+
+pub returns-clause-holds : goal.returns-clause-holds
+returns-clause-holds c = (popped c.args.site c.args.words.now.items c.requires _ _ c.finish.ensures).holds
+
+pub returns-clause-outside : goal.returns-clause-outside
+returns-clause-outside c = (popped c.args.site c.args.words.now.items c.requires _ _ c.finish.ensures).outside

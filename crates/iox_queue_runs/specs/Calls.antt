@@ -1,0 +1,68 @@
+-- What whole calls answer and leave, in the words of the plain queues, and how many accesses they
+-- make.
+use Rattle.std.specs.Prelude.{◌≡◌, ◌↔◌, ℕ, ◌+◌, ◌<◌, ◌≤◌, ◌⊎◌, List, [], ◌∷◌, length, if◌then◌else◌, IsTrue, slice_index}
+use Rattle.std.specs.Bool.{OnTrue, OnFalse}
+use Rattle.iox_queues.specs.BoundedQueues.{BoundedQueue, HasRoom, with_pushed, first, without_first, is_spent, is_full, handed_back, with_overflow}
+use Rattle.iox_steps.specs.declared.site.QueueKind.{QueueKind}
+use Rattle.iox_steps.specs.declared.site.QueueKind.TheVariants.{Index, Overflowing}
+use Rattle.iox_steps.specs.declared.site.Site.{Site}
+use Rattle.iox_steps.specs.declared.seat.Reply.{Reply}
+use Rattle.iox_steps.specs.declared.seat.Reply.TheVariants.{Pushed, HandedBack, Full, Popped, Empty}
+use Rattle.iox_steps.specs.Sites.{size}
+use Rattle.iox_queue_runs.specs.Lists.{values, queue_at}
+use Rattle.iox_queue_runs.specs.Alone.{EndsAfter, pusher, popper}
+
+-- a push of this queue may answer this and leave that
+abbrev pub Pushes : QueueKind → BoundedQueue → ℕ → Reply → BoundedQueue → Type 0
+Pushes Index queue value (Pushed room) after = (IsTrue room ↔ HasRoom queue)
+    × OnTrue room (after ≡ with_pushed queue value) × OnFalse room (after ≡ queue)
+Pushes Overflowing queue value (HandedBack out) after = (out ≡ handed_back queue value)
+    × (after ≡ with_overflow queue value)
+Pushes kind queue value reply after = ⊥
+
+-- a pop
+abbrev pub Pops : BoundedQueue → Reply → BoundedQueue → Type 0
+Pops queue reply after = (reply ≡ Popped (first queue.waiting)) × (after ≡ without_first queue)
+
+-- a look at fullness
+abbrev pub LooksFull : BoundedQueue → Reply → Type 0
+LooksFull queue (Full full) = IsTrue full ↔ (length queue.waiting ≡ queue.capacity)
+LooksFull queue reply = ⊥
+
+-- a look at emptiness
+abbrev pub LooksEmpty : BoundedQueue → Reply → Type 0
+LooksEmpty queue (Empty empty) = IsTrue empty ↔ (queue.waiting ≡ [])
+LooksEmpty queue reply = ⊥
+
+-- a push makes two accesses where nothing is pushed, six where the oldest goes, else four
+abbrev pub push_accesses : QueueKind → BoundedQueue → ℕ
+push_accesses Index queue = if is_spent queue then 2 else (if is_full queue then 2 else 4)
+push_accesses Overflowing queue = if is_spent queue then 2 else (if is_full queue then 6 else 4)
+
+-- a pop makes two where nothing waits, else four
+abbrev pub pop_accesses : List ℕ → ℕ
+pop_accesses [] = 2
+pop_accesses (oldest ∷ others) = 4
+
+-- a push of the queue in these words
+abbrev pub PushesAt : Site → List ℕ → ℕ → Reply → List ℕ → Type 0
+PushesAt site words value reply after =
+    Pushes site.kind (queue_at site words) value reply (queue_at site after)
+
+abbrev pub MakesPush : Site → List ℕ → ℕ → Reply → List ℕ → Type 0
+MakesPush site words value reply after =
+    EndsAfter (push_accesses site.kind (queue_at site words)) site words (pusher value) reply after
+
+-- a pop
+abbrev pub PopsAt : Site → List ℕ → Reply → List ℕ → Type 0
+PopsAt site words reply after = Pops (queue_at site words) reply (queue_at site after)
+
+abbrev pub MakesPop : Site → List ℕ → Reply → List ℕ → Type 0
+MakesPop site words reply after =
+    EndsAfter (pop_accesses (values site words)) site words popper reply after
+
+-- no word changed but those of the queue
+abbrev pub KeepsOutside : Site → List ℕ → List ℕ → Type 0
+KeepsOutside site words after = (length after ≡ length words)
+    × ((place : ℕ) → (place < site.base) ⊎ (site.base + size site ≤ place)
+    → slice_index after place ≡ slice_index words place)

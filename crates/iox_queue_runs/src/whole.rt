@@ -1,0 +1,103 @@
+//! Whole calls: a party begins, and nobody else makes an access until it ends.
+ghost use Rattle.std.specs.Prelude.{◌≡◌, ◌+◌, ◌<◌, ◌≤◌, [], length};
+ghost use Rattle.iox_steps.specs.Sites.{size};
+ghost use Rattle.iox_queue_steps.specs.Queues.{IsEmptyAt};
+ghost use Rattle.iox_queue_runs.specs.Lists.{values, queue_at, HoldsQueue};
+ghost use Rattle.iox_queue_runs.specs.Alone.{EndsAfter, EndsWithin, IsEndOf, full_looker, empty_looker};
+ghost use Rattle.iox_queue_runs.specs.Calls.{PushesAt, MakesPush, PopsAt, MakesPop, LooksFull, LooksEmpty, KeepsOutside};
+
+use iox_queue_steps::{QueueParty, Seat};
+use iox_steps::{
+    EmptyLook, FullLook, Party, Pop, Popping, Progress, Push, Pushing, QueueKind, Reply, Site,
+    perform,
+};
+
+/// Words with two equal positions are those of an empty queue, at whatever position it is.
+pub fn holds_when_empty(words: &Vec<u64>, site: Site)
+    requires room { site.base + size site ≤ length words.now.items }
+    requires empty { IsEmptyAt site words.now.items }
+    requires some { site.kind ≡ QueueKind.Overflowing → 0 < site.capacity }
+    ensures holds { HoldsQueue site words.now.items }
+    ensures waiting { values site words.now.items ≡ [] }
+{
+    let _position = words[site.base];
+}
+
+/// A push. It makes four accesses; two where nothing is pushed, and six where the oldest goes.
+#[inline]
+pub fn push(words: &mut Vec<u64>, site: Site, value: u64) -> Reply
+    requires { HoldsQueue site words.old.items }
+    ensures queue { PushesAt site words.old.items value result words.new.items }
+    ensures accesses { MakesPush site words.old.items value result words.new.items }
+    ensures holds { HoldsQueue site words.new.items }
+    ensures outside { KeepsOutside site words.old.items words.new.items }
+{
+    finish(
+        words,
+        site,
+        Seat::Pusher(Pushing::Pushes(Push::LoadsWrite(value))),
+    )
+}
+
+/// A look at fullness. It makes two accesses.
+#[inline]
+pub fn is_full(words: &mut Vec<u64>, site: Site) -> Reply
+    requires { HoldsQueue site words.old.items }
+    ensures queue { LooksFull (queue_at site words.old.items) result }
+    ensures accesses { EndsAfter 2 site words.old.items full_looker result words.new.items }
+    ensures unchanged { words.new.items ≡ words.old.items }
+{
+    finish(
+        words,
+        site,
+        Seat::Pusher(Pushing::Looks(FullLook::LoadsWrite)),
+    )
+}
+
+/// A pop. It makes four accesses, and two where nothing waits.
+#[inline]
+pub fn pop(words: &mut Vec<u64>, site: Site) -> Reply
+    requires { HoldsQueue site words.old.items }
+    ensures queue { PopsAt site words.old.items result words.new.items }
+    ensures accesses { MakesPop site words.old.items result words.new.items }
+    ensures holds { HoldsQueue site words.new.items }
+    ensures outside { KeepsOutside site words.old.items words.new.items }
+{
+    finish(words, site, Seat::Popper(Popping::Pops(Pop::LoadsRead)))
+}
+
+/// A look at emptiness. It makes two accesses.
+#[inline]
+pub fn is_empty(words: &mut Vec<u64>, site: Site) -> Reply
+    requires { HoldsQueue site words.old.items }
+    ensures queue { LooksEmpty (queue_at site words.old.items) result }
+    ensures accesses { EndsAfter 2 site words.old.items empty_looker result words.new.items }
+    ensures unchanged { words.new.items ≡ words.old.items }
+{
+    finish(
+        words,
+        site,
+        Seat::Popper(Popping::Looks(EmptyLook::LoadsRead)),
+    )
+}
+
+/// Makes the accesses of a call until it ends.
+#[inline]
+fn finish(words: &mut Vec<u64>, site: Site, seat: Seat) -> Reply
+    requires room { site.base + size site ≤ length words.old.items }
+    requires soon { EndsWithin 6 site words.old.items seat }
+    ensures { IsEndOf site words.old.items seat result words.new.items }
+{
+    let _length = words.len();
+    let mut party = QueueParty { site, seat };
+    for step in 0..6u64 {
+        let _step = step;
+        let access = party.access();
+        let seen = perform(words, access);
+        match party.advance(seen) {
+            Progress::Going => {}
+            Progress::Done(reply) => return reply,
+        }
+    }
+    unreachable!()
+}
