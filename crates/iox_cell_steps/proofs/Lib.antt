@@ -1,0 +1,5 @@
+pub mod CellPlaces
+pub mod CellRings
+pub mod CellKnowledge
+pub mod CellPushSteps
+pub mod CellPopSteps

@@ -1,0 +1,5 @@
+pub mod Cells
+pub mod CellPrograms
+pub mod CellMoments
+pub mod CellFits
+pub mod CellLaws
