@@ -1,0 +1,114 @@
+-- Parties at a value as a machine plays them, and what it keeps.
+use Rattle.std.specs.Prelude.{◌≡◌, ℕ, Bool, true, false, ◌+◌, ◌==◌, ◌^◌, ◌<◌, ◌≤◌, ◌⊎◌, List, Option, Some, None, Result, MatchResult, length}
+use Rattle.iox_steps.specs.declared.access.Access.{Access}
+use Rattle.iox_steps.specs.declared.access.Progress.{Progress}
+use Rattle.iox_steps.specs.declared.access.Progress.TheVariants.{Going, Done}
+use Rattle.iox_steps.specs.declared.error.MachineError.{MachineError}
+use Rattle.iox_steps.specs.declared.error.MachineError.TheVariants.{UnknownParty, Busy}
+use Rattle.iox_steps.specs.Worlds.{World, IsParty}
+use Rattle.iox_set_steps.specs.declared.unrestricted_atomic.AtomicCall.{AtomicCall}
+use Rattle.iox_set_steps.specs.declared.unrestricted_atomic.AtomicCall.TheVariants.{Store, Load}
+use Rattle.iox_set_steps.specs.declared.unrestricted_atomic.AtomicReply.{AtomicReply}
+use Rattle.iox_set_steps.specs.declared.unrestricted_atomic.AtomicReply.TheVariants as reply
+use Rattle.iox_set_steps.specs.declared.unrestricted_atomic.AtomicEvent.{AtomicEvent}
+use Rattle.iox_set_steps.specs.declared.unrestricted_atomic.AtomicEvent.TheVariants as event
+use Rattle.iox_set_steps.specs.declared.unrestricted_atomic.AtomicProgram.{AtomicProgram}
+use Rattle.iox_set_steps.specs.declared.unrestricted_atomic.AtomicProgram.TheVariants.{AtRest, LoadsToStore, StoresWord, Raises, LoadsToLoad, LoadsWord, LoadsAgain}
+use Rattle.iox_set_steps.specs.declared.unrestricted_atomic.party.AtomicParty.{AtomicParty}
+use Rattle.iox_set_steps.specs.Values.{version_now, word_of, value_now, AgreeUpTo, words_of, ValueRun}
+use Rattle.iox_set_steps.specs.AtomicPrograms.{last_version, atomic_access, atomic_next, atomic_event, program_of, progress_of}
+
+abbrev pub AtomicWorld : ℕ → Type 0
+AtomicWorld size = World (AtomicParty size) (AtomicEvent size)
+
+abbrev pub atomics_ask : (size : ℕ) → AtomicParty size → Access
+atomics_ask size party = atomic_access size party.base party.program
+
+abbrev pub atomics_happen : {size : ℕ} → AtomicParty size → ℕ → Option (AtomicEvent size)
+atomics_happen party seen = atomic_event party.program seen
+
+abbrev pub rests : {size : ℕ} → AtomicProgram size → Bool
+rests AtRest = true
+rests program = false
+
+abbrev pub atomics_rest : {size : ℕ} → AtomicParty size → Bool
+atomics_rest party = rests party.program
+
+-- the party goes on after an access that found this word
+abbrev pub AtomicsLead : (size : ℕ) → AtomicParty size → ℕ → Progress (AtomicReply size) → AtomicParty size → Type 0
+AtomicsLead size party seen answer after = (after.base ≡ party.base) × (after.stores ≡ party.stores)
+    × (after.program ≡ program_of (atomic_next size party.program seen))
+    × (answer ≡ progress_of (atomic_next size party.program seen))
+
+-- may the party make the call?
+abbrev pub may_call : {size : ℕ} → AtomicParty size → AtomicCall size → Bool
+may_call party (Store value) = party.stores
+may_call party Load = true
+
+-- the first access of a call
+abbrev pub atomic_start : {size : ℕ} → AtomicCall size → AtomicProgram size
+atomic_start (Store value) = LoadsToStore value
+atomic_start Load = LoadsToLoad
+
+-- a store by another party than the one that stores is refused first, and then a call while one is under way
+abbrev pub AtomicsBegin : {size : ℕ} → AtomicParty size → AtomicCall size → Result (AtomicParty size) MachineError → Type 0
+AtomicsBegin party call result = MatchResult result
+    (λ after. (may_call party call ≡ true) × (party.program ≡ AtRest) × (after.base ≡ party.base)
+    × (after.stores ≡ party.stores) × (after.program ≡ atomic_start call))
+    (λ error. ((error ≡ UnknownParty) × (may_call party call ≡ false))
+    ⊎ ((error ≡ Busy) × (may_call party call ≡ true) × (rests party.program ≡ false)))
+
+-- what a reply says of the access that gave it
+abbrev pub AtomicAnswers : {size : ℕ} → Progress (AtomicReply size) → Option (AtomicEvent size) → Type 0
+AtomicAnswers (Done (reply.Stored true)) (Some (event.Stored list)) = Unit {0}
+AtomicAnswers (Done (reply.Stored false)) None = Unit {0}
+AtomicAnswers (Done (reply.Loaded list)) (Some (event.Loaded told)) = told ≡ list
+AtomicAnswers Going None = Unit {0}
+AtomicAnswers answer event = ⊥
+
+-- this many words of the next value are in the cell that nobody reads
+pub record IsStoring (size base : ℕ) (words list : List ℕ) (version count : ℕ) : Type 0 where
+  pub current : version ≡ version_now base words
+  pub behind : version < last_version
+  pub written : AgreeUpTo count (word_of size base words (version + 1)) (words_of list)
+
+-- while the version stands, this many words were loaded of the value that is current
+pub record IsLoading (size base : ℕ) (words : List ℕ) (version : ℕ) (list : List ℕ) (count : ℕ) : Type 0 where
+  pub whole : length list ≡ size
+  pub passed : version ≤ version_now base words
+  pub loaded : version ≡ version_now base words → AgreeUpTo count (words_of list) (value_now size base words)
+
+-- what a party in its call knows
+abbrev pub AtomicsKnow : (size : ℕ) → ℕ → List ℕ → AtomicProgram size → Type 0
+AtomicsKnow size base words AtRest = Unit {0}
+AtomicsKnow size base words (LoadsToStore list) = Unit {0}
+AtomicsKnow size base words (StoresWord list version index) = (index < size) × IsStoring size base words list version index
+AtomicsKnow size base words (Raises list version) = IsStoring size base words list version size
+AtomicsKnow size base words LoadsToLoad = Unit {0}
+AtomicsKnow size base words (LoadsWord version list index) = (index < size) × IsLoading size base words version list index
+AtomicsKnow size base words (LoadsAgain version list) = IsLoading size base words version list size
+
+-- is a store under way?
+abbrev pub is_storing : {size : ℕ} → AtomicProgram size → Bool
+is_storing (LoadsToStore list) = true
+is_storing (StoresWord list version index) = true
+is_storing (Raises list version) = true
+is_storing program = false
+
+-- the party of this number at the value that stands here: party 0 alone stores
+pub record IsAtValue (size base : ℕ) (words : List ℕ) (number : ℕ) (party : AtomicParty size) : Type 0 where
+  pub here : party.base ≡ base
+  pub role : party.stores ≡ (number == 0)
+  pub stores : party.stores ≡ false → is_storing party.program ≡ false
+  pub knows : AtomicsKnow size base words party.program
+
+-- A value that parties played on:
+pub record AtomicsHold (size : ℕ) (world : AtomicWorld size) : Type 0 where
+  pub base : ℕ
+  pub first : ℕ → ℕ
+  -- each load handed out the value that was current then, and the last value stored is current now
+  pub run : ValueRun size first world.events (value_now size base world.words)
+  pub room : base + 1 + size + size ≤ length world.words
+  pub memory : length world.words < 2 ^ 64
+  pub version : version_now base world.words < 2 ^ 64
+  pub parties : (number : ℕ) (party : AtomicParty size) → IsParty world number party → IsAtValue size base world.words number party

@@ -1,0 +1,25 @@
+pub mod Bits
+pub mod BitPrograms
+pub mod BitPlays
+pub mod BitMachines
+pub mod Counts
+pub mod CountPrograms
+pub mod CountPlays
+pub mod CountMachines
+pub mod Values
+pub mod AtomicPrograms
+pub mod AtomicPlays
+pub mod AtomicMachines
+pub mod Sites
+-- for proofs of this crate alone
+pub mod BitLemmas
+pub mod BitMoments
+pub mod BitLaws
+pub mod CountLemmas
+pub mod CountMoments
+pub mod CountLaws
+pub mod AtomicLemmas
+pub mod AtomicKnowledge
+pub mod AtomicMoments
+pub mod AtomicLaws
+pub mod AtomicBegins
