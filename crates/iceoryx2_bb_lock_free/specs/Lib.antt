@@ -1,4 +1,107 @@
--- the words of the clauses, and the types that they speak of
+-- the words of the clauses, and the types that they speak of: values as words
+pub use Rattle.iox_words.specs.WordLists
+pub use Rattle.iox_words.specs.declared.word_list.Words
+pub use Rattle.iox_words.specs.declared.callback_progression.CallbackProgression
+-- queues
 pub use Rattle.iox_queues.specs.BoundedQueues
 pub use Rattle.iox_queues.specs.declared.spsc.index_queue.IndexQueue
 pub use Rattle.iox_queues.specs.declared.spsc.index_queue.fixed_size.FixedSizeIndexQueue
+pub use Rattle.iox_queues.specs.Guards as QueueGuards
+pub use Rattle.iox_queues.specs.Refusals as QueueRefusals
+pub use Rattle.iox_queues.specs.declared.spsc.safely_overflowing_index_queue.SafelyOverflowingIndexQueue
+pub use Rattle.iox_queues.specs.declared.spsc.safely_overflowing_index_queue.fixed_size.FixedSizeSafelyOverflowingIndexQueue
+pub use Rattle.iox_queues.specs.declared.spsc.safely_overflowing_index_queue.new_error.SafelyOverflowingIndexQueueNewError
+pub use Rattle.iox_queues.specs.declared.spsc.queue.Queue
+-- sets
+pub use Rattle.iox_sets.specs.BitSets
+pub use Rattle.iox_sets.specs.CountingBitSets
+pub use Rattle.iox_sets.specs.IndexSets
+pub use Rattle.iox_sets.specs.OwnedIndices
+pub use Rattle.iox_sets.specs.Guards as IndexGuards
+pub use Rattle.iox_sets.specs.Heads
+pub use Rattle.iox_sets.specs.Calls
+pub use Rattle.iox_sets.specs.Refusals as SetRefusals
+pub use Rattle.iox_sets.specs.declared.mpmc.bit_set.BitSet
+pub use Rattle.iox_sets.specs.declared.mpmc.bit_set.fixed_size.FixedSizeBitSet
+pub use Rattle.iox_sets.specs.declared.mpmc.counting_bit_set.CountingBitSet
+pub use Rattle.iox_sets.specs.declared.mpmc.counting_bit_set.fixed_size.FixedSizeCountingBitSet
+pub use Rattle.iox_sets.specs.declared.mpmc.counting_bit_set.bit_state.BitState
+pub use Rattle.iox_sets.specs.declared.mpmc.unique_index_set.UniqueIndexSet
+pub use Rattle.iox_sets.specs.declared.mpmc.unique_index_set.unique_index.UniqueIndex
+pub use Rattle.iox_sets.specs.declared.mpmc.unique_index_set.fixed_size.FixedSizeUniqueIndexSet
+pub use Rattle.iox_sets.specs.declared.mpmc.unique_index_set.fixed_size_unique_index.FixedSizeUniqueIndex
+pub use Rattle.iox_sets.specs.declared.mpmc.unique_index_set.head_details.HeadDetails
+pub use Rattle.iox_sets.specs.declared.mpmc.robust_unique_index_set.RobustUniqueIndexSet
+pub use Rattle.iox_sets.specs.declared.mpmc.robust_unique_index_set.fixed_size.StaticRobustUniqueIndexSet
+pub use Rattle.iox_sets.specs.declared.mpmc.robust_unique_index_set.owner_id.OwnerId
+pub use Rattle.iox_sets.specs.declared.mpmc.robust_unique_index_set.owner_id.OwnerIdNewError
+pub use Rattle.iox_sets.specs.declared.mpmc.unique_index_set_enums.ReleaseMode
+pub use Rattle.iox_sets.specs.declared.mpmc.unique_index_set_enums.ReleaseState
+pub use Rattle.iox_sets.specs.declared.mpmc.unique_index_set_enums.UniqueIndexSetAcquireFailure
+pub use Rattle.iox_sets.specs.declared.mpmc.unique_index_set_enums.UniqueIndexSetNewError
+-- containers
+pub use Rattle.iox_container.specs.Containers
+pub use Rattle.iox_container.specs.Handles as ContainerHandles
+pub use Rattle.iox_container.specs.Leaving
+pub use Rattle.iox_container.specs.States as ContainerStates
+pub use Rattle.iox_container.specs.Failures as ContainerFailures
+pub use Rattle.iox_container.specs.declared.mpmc.container.Container
+pub use Rattle.iox_container.specs.declared.mpmc.container.fixed_size.FixedSizeContainer
+pub use Rattle.iox_container.specs.declared.mpmc.container.container_handle.ContainerHandle
+pub use Rattle.iox_container.specs.declared.mpmc.container.container_state.ContainerState
+pub use Rattle.iox_container.specs.declared.mpmc.container.failures.ContainerAddFailure
+pub use Rattle.iox_container.specs.declared.mpmc.container.failures.ContainerRemoveError
+-- the machine, and the queue that it plays
+pub use Rattle.iox_steps.specs.Accesses
+pub use Rattle.iox_steps.specs.Worlds
+pub use Rattle.iox_steps.specs.Sites
+pub use Rattle.iox_steps.specs.Moments
+pub use Rattle.iox_steps.specs.Runs
+pub use Rattle.iox_steps.specs.Seats
+pub use Rattle.iox_steps.specs.Fits
+pub use Rattle.iox_steps.specs.Plays
+pub use Rattle.iox_steps.specs.Answers
+pub use Rattle.iox_steps.specs.Laws
+pub use Rattle.iox_steps.specs.Results
+pub use Rattle.iox_queue_steps.specs.Queues
+pub use Rattle.iox_queue_steps.specs.Machines
+pub use Rattle.iox_steps.specs.declared.access.Access
+pub use Rattle.iox_steps.specs.declared.access.Progress
+pub use Rattle.iox_steps.specs.declared.access.Party
+pub use Rattle.iox_steps.specs.declared.error.MachineError
+pub use Rattle.iox_steps.specs.declared.machine.Entry
+pub use Rattle.iox_steps.specs.declared.machine.Machine
+pub use Rattle.iox_steps.specs.declared.playable.Playable
+pub use Rattle.iox_steps.specs.declared.site.QueueKind
+pub use Rattle.iox_steps.specs.declared.site.Site
+pub use Rattle.iox_steps.specs.declared.seat.Moment
+pub use Rattle.iox_steps.specs.declared.seat.Reply
+pub use Rattle.iox_steps.specs.declared.seat.Pushing
+pub use Rattle.iox_steps.specs.declared.seat.Popping
+pub use Rattle.iox_queue_steps.specs.declared.queue.Seat
+pub use Rattle.iox_queue_steps.specs.declared.queue.Call
+pub use Rattle.iox_queue_steps.specs.declared.queue.QueueParty
+pub use Rattle.iox_queue_steps.specs.declared.machine.QueueMachine
+-- whole calls on the words of a queue
+pub use Rattle.iox_queue_runs.specs.Lists as QueueLists
+pub use Rattle.iox_queue_runs.specs.Alone
+pub use Rattle.iox_queue_runs.specs.Calls as QueueCalls
+-- bits, counts and values as steps
+pub use Rattle.iox_set_steps.specs.Bits
+pub use Rattle.iox_set_steps.specs.BitPrograms
+pub use Rattle.iox_set_steps.specs.BitPlays
+pub use Rattle.iox_set_steps.specs.BitMachines
+pub use Rattle.iox_set_steps.specs.Counts
+pub use Rattle.iox_set_steps.specs.CountPrograms
+pub use Rattle.iox_set_steps.specs.CountPlays
+pub use Rattle.iox_set_steps.specs.CountMachines
+pub use Rattle.iox_set_steps.specs.Values as StepValues
+pub use Rattle.iox_set_steps.specs.AtomicPrograms
+pub use Rattle.iox_set_steps.specs.AtomicPlays
+pub use Rattle.iox_set_steps.specs.AtomicMachines
+pub use Rattle.iox_set_steps.specs.declared.bit_set.machine.BitSetMachine
+pub use Rattle.iox_set_steps.specs.declared.counting_bit_set.machine.CountingBitSetMachine
+pub use Rattle.iox_set_steps.specs.declared.unrestricted_atomic.machine.AtomicMachine
+-- a value for one thread
+pub use Rattle.iox_atomics.specs.Values as AtomicValues
+pub use Rattle.iox_atomics.specs.declared.spmc.unrestricted_atomic.UnrestrictedAtomic

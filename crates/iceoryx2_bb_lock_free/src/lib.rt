@@ -1,7 +1,13 @@
-//! Queues of fixed capacity, at the paths of their modules. The crates below hold them.
+//! Queues and sets of fixed capacity, at the paths of their modules, and the machine that plays their
+//! calls one access after another. The crates below hold them.
 #![tactic(auto)]
 
-pub use iox_queues::spsc;
+pub mod machine;
+pub mod mpmc;
+pub mod spmc;
+pub mod spsc;
+
+pub use iox_words::{CallbackProgression, Words, ZeroCopySend};
 
 #[cfg(test)]
 mod tests;

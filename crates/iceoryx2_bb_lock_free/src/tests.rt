@@ -1,5 +1,13 @@
+use crate::machine::{Call, Entry, Moment, QueueKind, Site};
+use crate::mpmc::bit_set::FixedSizeBitSet;
+use crate::mpmc::counting_bit_set::{CountingBitSet, FixedSizeCountingBitSet};
+use crate::mpmc::robust_unique_index_set::{
+    OwnerId, RobustUniqueIndexSet, StaticRobustUniqueIndexSet,
+};
+use crate::mpmc::unique_index_set::{FixedSizeUniqueIndexSet, HeadDetails, UniqueIndexSet};
+use crate::mpmc::unique_index_set_enums::{ReleaseMode, ReleaseState};
 use crate::spsc::index_queue::{FixedSizeIndexQueue, IndexQueue};
-use crate::uses::oldest_of;
+use crate::uses::{index_for_a_moment, index_of_some_set, lower_bit, oldest_of, played};
 use std::test::Fail;
 
 #[test]
@@ -15,7 +23,56 @@ fn both_queues_are_reached_by_their_paths(rt: HostRuntime) -> Result<(), Fail> {
 }
 
 #[test]
-fn the_oldest_comes_out_first(rt: HostRuntime) -> Result<(), Fail> {
+fn the_sets_are_reached_by_their_paths(rt: HostRuntime) -> Result<(), Fail> {
+    assert!(rt; FixedSizeBitSet::<8>::new(rt.alloc())?.set(7));
+    assert!(rt; CountingBitSet::new(rt.alloc(), 8)?.set(7));
+    assert!(rt; FixedSizeCountingBitSet::<8>::new(rt.alloc())?.set(7));
+    let owner = OwnerId::new(1)?;
+    assert_eq!(rt;
+        RobustUniqueIndexSet::new(rt.alloc(), 2)?.acquire(owner),
+        Ok(0)
+    );
+    let mut robust = StaticRobustUniqueIndexSet::<2>::new(rt.alloc())?;
+    assert_eq!(rt; robust.acquire(owner), Ok(0));
+    let state = robust.recover(owner, |_| true, ReleaseMode::LockIfLastIndex);
+    assert_eq!(rt; state, ReleaseState::Locked);
+    assert_eq!(rt; HeadDetails::from(1).borrowed_indices, 1);
+    Ok(())
+}
+
+#[test]
+fn the_callers_answer_as_they_say(rt: HostRuntime) -> Result<(), Fail> {
     assert_eq!(rt; oldest_of(rt.alloc(), 7, 8)?, Some(7));
+    assert_eq!(rt; lower_bit(rt.alloc())?, Some(2));
+    let mut fixed = FixedSizeUniqueIndexSet::<4>::new(rt.alloc())?;
+    assert_eq!(rt; index_for_a_moment(&mut fixed), Ok(0));
+    let mut set = UniqueIndexSet::new(rt.alloc(), 1)?;
+    assert_eq!(rt; index_of_some_set(&mut set), Ok(0));
+    assert_eq!(rt; index_of_some_set(&mut set), Ok(0));
+    Ok(())
+}
+
+#[test]
+fn a_schedule_is_played(rt: HostRuntime) -> Result<(), Fail> {
+    let words = vec![in rt.alloc(); 0u64; 4]?;
+    assert!(rt; words.len() == 4 && words[0] == words[1]);
+    let site = Site {
+        kind: QueueKind::Index,
+        base: 0,
+        capacity: 2,
+    };
+    let schedule = [
+        Entry::Begin(0, Call::Push(9)),
+        Entry::Step(0),
+        Entry::Step(0),
+        Entry::Step(0),
+        Entry::Step(0),
+    ];
+    let machine = played(rt.alloc(), words, site, &schedule)?;
+    assert_eq!(rt; machine.words(), [1, 0, 9, 0].as_slice());
+    assert_eq!(rt;
+        machine.events(),
+        [Moment::SeesRoom, Moment::Publish(9)].as_slice()
+    );
     Ok(())
 }

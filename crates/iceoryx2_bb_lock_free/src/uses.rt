@@ -1,6 +1,12 @@
-//! A caller, as the README shows it.
-ghost use Rattle.std.specs.Prelude.{◌≡◌, IfOk, Some};
+//! Callers, as the README shows them.
+ghost use Rattle.std.specs.Prelude.{◌≡◌, ◌+◌, ◌<◌, ◌≤◌, IfOk, Some, length, slice_index};
+ghost use Rattle.iceoryx2_bb_lock_free.specs.Queues.{QueueHolds};
+ghost use Rattle.iceoryx2_bb_lock_free.specs.Sites.{size};
 
+use crate::machine::{Call, Entry, MachineError, QueueKind, QueueMachine, Site};
+use crate::mpmc::bit_set::BitSet;
+use crate::mpmc::unique_index_set::{FixedSizeUniqueIndexSet, UniqueIndexSet};
+use crate::mpmc::unique_index_set_enums::UniqueIndexSetAcquireFailure;
 use crate::spsc::index_queue::IndexQueue;
 use std::alloc::{AllocError, Global};
 
@@ -12,4 +18,52 @@ pub fn oldest_of(alloc: Global, a: u64, b: u64) -> Result<Option<u64>, AllocErro
     let _ = queue.push(a);
     let _ = queue.push(b);
     Ok(queue.pop())
+}
+
+/// Two bits are set, and the lower one is cleared first.
+pub fn lower_bit(alloc: Global) -> Result<Option<usize>, AllocError>
+    ensures { IfOk result (λ lower. lower ≡ Some 2) }
+{
+    let mut bits = BitSet::new(alloc, 8)?;
+    let _ = bits.set(5);
+    let _ = bits.set(2);
+    Ok(bits.reset_next())
+}
+
+/// An index is held for a moment, and the set is as it was.
+pub fn index_for_a_moment(
+    set: &mut FixedSizeUniqueIndexSet<4>,
+) -> Result<u32, UniqueIndexSetAcquireFailure>
+    ensures { set.new ≡ set.old }
+{
+    let index = set.acquire()?;
+    Ok(index.value())
+}
+
+/// The same of a set whose capacity is not known when the program is built.
+pub fn index_of_some_set(set: &mut UniqueIndexSet) -> Result<u32, UniqueIndexSetAcquireFailure>
+    ensures { set.new ≡ set.old }
+{
+    let index = set.acquire()?;
+    Ok(index.value())
+}
+
+/// Plays a schedule of single accesses at an empty queue. Whatever the schedule, the values that left
+/// are, in order, the first of those published, and the rest waits.
+pub fn played(
+    alloc: Global,
+    words: Vec<u64>,
+    site: Site,
+    schedule: &[Entry<Call>],
+) -> Result<QueueMachine, MachineError>
+    requires room { site.base + size site ≤ length words.items }
+    requires empty { slice_index words.items site.base ≡ slice_index words.items (site.base + 1) }
+    requires some { site.kind ≡ QueueKind.Overflowing → 0 < site.capacity }
+    ensures { IfOk result (λ machine. QueueHolds machine) }
+{
+    let Ok(mut machine) = QueueMachine::new(alloc, words, site) else {
+        return Err(MachineError::WantOfMemory);
+    };
+    machine.run(schedule)?;
+    Ok(machine)
 }

@@ -1,0 +1,18 @@
+-- what crates above may cite: of a queue, what an access keeps and what it comes to
+pub use Rattle.iox_steps.proofs.PushSteps
+pub use Rattle.iox_steps.proofs.PopSteps
+pub use Rattle.iox_steps.proofs.Begins
+pub use Rattle.iox_steps.proofs.Frames
+pub use Rattle.iox_steps.proofs.Writes
+pub use Rattle.iox_steps.proofs.ListSteps
+pub use Rattle.iox_steps.proofs.Tables
+pub use Rattle.iox_steps.proofs.RunLemmas
+pub use Rattle.iox_steps.proofs.ResultLemmas
+pub use Rattle.iox_steps.proofs.AnswerLemmas
+pub use Rattle.iox_steps.proofs.AccessLemmas
+-- of a machine's queue, that each step is a moment
+pub use Rattle.iox_queue_steps.proofs.MomentLemmas
+-- of sets, what their lists are
+pub use Rattle.iox_sets.proofs.BitSetLemmas
+pub use Rattle.iox_sets.proofs.CountLemmas
+pub use Rattle.iox_sets.proofs.CallLemmas

@@ -1,0 +1,10 @@
+//! Calls as accesses to single words, and a machine that plays any schedule of them: of queues, and
+//! in their modules of bits, counts and values. `push`, `pop`, `is_full` and `is_empty` are whole
+//! calls on the words of a queue.
+pub use iox_queue_runs::{holds_when_empty, is_empty, is_full, pop, push};
+pub use iox_queue_steps::{Call, QueueMachine, QueueParty, Seat};
+pub use iox_set_steps::{bit_set, counting_bit_set, unrestricted_atomic};
+pub use iox_steps::{
+    Access, EmptyLook, Entry, FullLook, Machine, MachineError, Moment, Next, Party, Playable, Pop,
+    Popping, Progress, Push, PushReply, Pushing, QueueKind, Reply, Site, perform,
+};
