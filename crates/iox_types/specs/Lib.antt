@@ -7,7 +7,5 @@ pub mod Compatibility
 pub mod Places
 pub mod Layouts
 -- for proofs of this crate alone
-pub mod Names
 pub mod IdentifierLaws
 pub mod HeaderLaws
-pub mod NameLaws

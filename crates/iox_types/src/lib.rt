@@ -8,7 +8,6 @@ pub mod laws;
 mod layout;
 pub mod message_type_details;
 pub mod type_detail;
-mod type_name;
 
 pub use channel_state::{ChannelState, RequestId};
 pub use header::{RequestHeader, ResponseHeader};

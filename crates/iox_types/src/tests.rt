@@ -212,3 +212,19 @@ fn a_greater_alignment_is_compatible_one_way(rt: HostRuntime) -> Result<(), Fail
     assert!(rt; wider.is_compatible_to(&wider));
     Ok(())
 }
+
+#[test]
+fn errors_are_told_by_their_names(rt: HostRuntime) -> Result<(), Fail> {
+    let text = format!(in rt.alloc();
+        "{} {}",
+        UniqueNodeIdError::InvalidNodeId,
+        TypeDetailError::NameTooLong
+    )?;
+    assert_eq!(rt;
+        text.as_str(),
+        "UniqueNodeIdError::InvalidNodeId TypeDetailError::NameTooLong"
+    );
+    let text = format!(in rt.alloc(); "{}", TypeDetailError::AlignmentNotPowerOfTwo)?;
+    assert_eq!(rt; text.as_str(), "TypeDetailError::AlignmentNotPowerOfTwo");
+    Ok(())
+}

@@ -3,10 +3,12 @@ ghost use Rattle.std.specs.Prelude.{◌≡◌, ◌≤◌, ◌↔◌, IfErr, IfOk
 ghost use Rattle.std.specs.Int.{IsPowerOfTwo};
 ghost use Rattle.iox_words.specs.WordLists.{is_name};
 
-use crate::type_name::{TypeName, is_text};
+use iox_texts::{BoundedText, is_text};
 use iox_words::ZeroCopySend;
 use std::marker::Model;
 use thiserror::Error;
+
+type TypeName = BoundedText<256>;
 
 /// Whether a message has one value of a type or several.
 #[derive(Clone, Copy, Debug, PartialEq, Eq)]
@@ -57,13 +59,12 @@ impl TypeDetail {
         ensures succeeds { IsOk result ↔ IsTrue (is_short T.name) }
         ensures refused { IfErr result (λ e. e ≡ TypeDetailError.NameTooLong) }
     {
-        let name = T::name();
-        if name.len() > TypeName::MAX_LENGTH {
+        let Ok(type_name) = TypeName::new(T::name()) else {
             return Err(TypeDetailError::NameTooLong);
-        }
+        };
         Ok(TypeDetail {
             variant,
-            type_name: TypeName::new(name),
+            type_name,
             size: T::SIZE,
             alignment: T::ALIGNMENT,
         })
@@ -88,15 +89,15 @@ impl TypeDetail {
         ensures allowed { IfOk result (λ _. detail_refusal name.now alignment ≡ None) }
         ensures refused { IfErr result (λ e. detail_refusal name.now alignment ≡ Some e) }
     {
-        if name.len() > TypeName::MAX_LENGTH {
+        let Ok(type_name) = TypeName::new(name) else {
             return Err(TypeDetailError::NameTooLong);
-        }
+        };
         if !alignment.is_power_of_two() {
             return Err(TypeDetailError::AlignmentNotPowerOfTwo);
         }
         Ok(TypeDetail {
             variant,
-            type_name: TypeName::new(name),
+            type_name,
             size,
             alignment,
         })
