@@ -1,0 +1,6 @@
+-- a set, what a verifier answers, and how a set is visited
+pub mod Sets
+pub mod Verifiers
+pub mod Visits
+-- for proofs of this crate alone
+pub mod Storage
