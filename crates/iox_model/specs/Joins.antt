@@ -2,7 +2,8 @@
 use Rattle.std.specs.Prelude.{◌≡◌, ℕ, ◌+◌, Bool, true, not, ◌&&◌, ◌==◌, nat_le, [], ◌∷◌, ◌++◌, length, Option, Some, find}
 use Rattle.std.specs.List.{list_any}
 use Rattle.std.specs.Option.{option_map_or}
-use Rattle.iox_model.specs.declared.way.UniqueId.{UniqueId}
+use Rattle.iox_types.specs.declared.identifiers.system_id.UniqueSystemId.{UniqueSystemId}
+use Rattle.iox_types.specs.Identifiers.{is_node_id}
 use Rattle.iox_model.specs.declared.reply.Refusal.TheVariants.{UnknownNode, NodeIsDead, NodeIsAlive, WantOfMemory, MarkedForDestruction, InvalidNodeId, NodeIdInUse, ExceedsMaxNumberOfNodes}
 use Rattle.iox_model.specs.declared.reply.Reply.TheVariants as replies
 use Rattle.iox_model.specs.States.{Node, Members, State}
@@ -26,33 +27,29 @@ not_dead s node =
 abbrev pub with_members : State → Members → State
 with_members s x = record s { members = x }
 
--- process number and counter both 0
-abbrev pub is_no_id : UniqueId → Bool
-is_no_id id = (id.process == 0) && (id.counter == 0)
-
-abbrev pub same_id : UniqueId → UniqueId → Bool
+abbrev pub same_id : UniqueSystemId → UniqueSystemId → Bool
 same_id a b =
     ((a.process == b.process) && (a.seconds == b.seconds))
     && ((a.nanoseconds == b.nanoseconds) && (a.counter == b.counter))
 
 -- `asked` is the first of the opener's refusals by types and attributes, if one applies
-abbrev pub opening_refusal : State → UniqueId → Option Refusal → Bool → Option Refusal
+abbrev pub opening_refusal : State → UniqueSystemId → Option Refusal → Bool → Option Refusal
 opening_refusal s id asked memory =
     or_else (refused_if s.members.closed MarkedForDestruction)
-    (or_else (refused_if (is_no_id id) InvalidNodeId)
+    (or_else (refused_if (not (is_node_id id)) InvalidNodeId)
     (or_else (refused_if (list_any (λ m. same_id m.id id) s.members.nodes) NodeIdInUse)
     (or_else asked
     (or_else
     (refused_if (nat_le s.fixed.limits.nodes (length s.members.nodes)) ExceedsMaxNumberOfNodes)
     (refused_if (not memory) WantOfMemory)))))
 
-abbrev pub new_node : ℕ → UniqueId → Node
+abbrev pub new_node : ℕ → UniqueSystemId → Node
 new_node number id = record { number = number; id = id; alive = true }
 
-abbrev pub joined : Members → UniqueId → Members
+abbrev pub joined : Members → UniqueSystemId → Members
 joined x id = record x { nodes = x.nodes ++ new_node x.joins id ∷ []; joins = x.joins + 1 }
 
-abbrev pub IsOpening : State → UniqueId → Option Refusal → Reply → State → Type 0
+abbrev pub IsOpening : State → UniqueSystemId → Option Refusal → Reply → State → Type 0
 IsOpening s id asked reply s' =
     (memory : Bool) × UnlessRefused (opening_refusal s id asked memory) s reply s'
     ((reply ≡ replies.Node s.members.joins) × (s' ≡ with_members s (joined s.members id)))

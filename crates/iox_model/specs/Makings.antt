@@ -3,7 +3,7 @@ use Rattle.std.specs.Prelude.{◌≡◌, ℕ, ◌+◌, ◌*◌, ◌-◌, ◌^◌
 use Rattle.std.specs.Option.{option_map_or}
 use Rattle.iox_model.specs.declared.kind.Role.{Role}
 use Rattle.iox_model.specs.declared.kind.Role.TheVariants.{Client, Server}
-use Rattle.iox_model.specs.declared.way.UniqueId.{UniqueId}
+use Rattle.iox_types.specs.declared.identifiers.system_id.UniqueSystemId.{UniqueSystemId}
 use Rattle.iox_model.specs.declared.backpressure.BackpressureStrategy.{BackpressureStrategy}
 use Rattle.iox_model.specs.declared.command.PortCommand.TheVariants.{Create, Use}
 use Rattle.iox_model.specs.declared.reply.Refusal.TheVariants.{UnableToCreatePortTag, UnableToCreateDataSegment, ExceedsMaxSupportedClients, ExceedsMaxSupportedServers}
@@ -16,14 +16,24 @@ use Rattle.iox_model.specs.Counts.{with_fixed}
 use Rattle.iox_model.specs.Commands.{Refusal, Reply, Options, PortCommand}
 use Rattle.iox_model.specs.Peers.{ports_of_role}
 
--- the most messages that the ports of these settings ever need at once
+-- the most messages that a client ever needs at once: those loaned, those active, and at each
+-- server as many that wait and as many that it has
+abbrev pub client_pool : ℕ → ℕ → ℕ → ℕ
+client_pool loaned active servers = loaned + active + 2 * servers * active
+
+-- the most that a server ever needs: the loans of each active request of each client, and on each
+-- of a client's lanes what waits and what the client has
+abbrev pub server_pool : ℕ → ℕ → ℕ → ℕ → ℕ → ℕ
+server_pool loans active clients lanes each =
+    loans * active * clients + clients * lanes * each
+
 abbrev pub pool_of_client : Limits → ℕ
-pool_of_client l = l.loaned_requests + l.active_requests + 2 * l.servers * l.active_requests
+pool_of_client l = client_pool l.loaned_requests l.active_requests l.servers
 
 abbrev pub pool_of_server : Limits → ℕ → ℕ
 pool_of_server l loans =
-    loans * l.active_requests * l.clients
-    + l.clients * pool_of_client l * (l.response_buffer + l.borrowed_responses)
+    server_pool loans l.active_requests l.clients (pool_of_client l)
+    (l.response_buffer + l.borrowed_responses)
 
 abbrev pub loans_of_one : Limits → Options → ℕ
 loans_of_one l o = max 1 (unwrap_or o.max_loaned_responses l.loaned_responses)
@@ -69,7 +79,7 @@ making_refusal f role o memory =
     (too_many_ports role)))
 
 -- the id of a port is its node's, with the count of ports made before it
-abbrev pub new_port : Fixed → ℕ → Role → UniqueId → Options → Port
+abbrev pub new_port : Fixed → ℕ → Role → UniqueSystemId → Options → Port
 new_port f node role id o = record {
   number = f.next_number;
   node = node;
@@ -97,7 +107,7 @@ abbrev pub port_reply : Role → ℕ → Reply
 port_reply Client n = replies.Client n
 port_reply Server n = replies.Server n
 
-abbrev pub IsMaking : State → ℕ → Role → UniqueId → Options → Reply → State → Type 0
+abbrev pub IsMaking : State → ℕ → Role → UniqueSystemId → Options → Reply → State → Type 0
 IsMaking s node role id o reply s' =
     (memory : Bool) × UnlessRefused (making_refusal s.fixed role o memory) s reply s'
     ((reply ≡ port_reply role s.fixed.next_number)

@@ -1,7 +1,7 @@
 -- The ways that messages go, the messages, and what the state of a request says.
 use Rattle.std.specs.Prelude.{◌≡◌, ℕ, Bool, true, false, ◌&&◌, if◌then◌else◌, ◌==◌, List, map, Option, Some}
 use Rattle.iox_model.specs.declared.way.Way.{Way}
-use Rattle.iox_model.specs.declared.way.UniqueId.{UniqueId}
+use Rattle.iox_types.specs.declared.identifiers.system_id.UniqueSystemId.{UniqueSystemId}
 use Rattle.iox_model.specs.declared.way.RequestState.{RequestState}
 use Rattle.iox_model.specs.declared.way.RequestState.TheVariants.{Closed, Named}
 
@@ -20,8 +20,8 @@ pub record Message : Type 0 where
   pub serial : ℕ
   -- the header: the ids of the sender's node and of the sender, the lane and the id of the
   -- request that it is or answers, and how many elements its payload has
-  pub node_id : UniqueId
-  pub port_id : UniqueId
+  pub node_id : UniqueSystemId
+  pub port_id : UniqueSystemId
   pub lane : ℕ
   pub request : ℕ
   pub elements : ℕ

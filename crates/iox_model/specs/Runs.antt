@@ -1,6 +1,6 @@
 -- Runs: a service as it is created, and commands one after another, each with its reply.
 use Rattle.std.specs.Prelude.{◌≡◌, ℕ, ◌-◌, ◌^◌, Bool, false, not, ◌||◌, nat_lt, List, [], ◌∷◌, Option, max}
-use Rattle.iox_model.specs.declared.way.UniqueId.{UniqueId}
+use Rattle.iox_types.specs.declared.identifiers.system_id.UniqueSystemId.{UniqueSystemId}
 use Rattle.iox_model.specs.declared.way.RequestState.TheVariants.{Closed}
 use Rattle.iox_model.specs.declared.backpressure.BackpressureAction.{BackpressureAction}
 use Rattle.iox_model.specs.declared.reply.Refusal.TheVariants.{WantOfMemory, InvalidNodeId, LimitTooLarge}
@@ -8,7 +8,8 @@ use Rattle.iox_model.specs.Makings.{IsPortCommand}
 use Rattle.iox_model.specs.Settings.{Limits}
 use Rattle.iox_model.specs.States.{Members, Fixed, State}
 use Rattle.iox_model.specs.Maps.{or_else, refused_if}
-use Rattle.iox_model.specs.Joins.{is_no_id, new_node}
+use Rattle.iox_types.specs.Identifiers.{is_node_id}
+use Rattle.iox_model.specs.Joins.{new_node}
 use Rattle.iox_model.specs.Services.{IsCommand}
 use Rattle.iox_model.specs.Commands.{Refusal, Reply, PortCommand, Command}
 use Rattle.iox_model.specs.Responses.{asked}
@@ -31,9 +32,9 @@ is_too_large l =
     nat_lt (2 ^ 24 - 2) l.clients || (nat_lt (2 ^ 24 - 2) l.servers || nat_lt (2 ^ 24 - 2) l.nodes)
 
 -- `asked` is the first refusal by types, if one applies
-abbrev pub creation_refusal : Limits → UniqueId → Option Refusal → Bool → Option Refusal
+abbrev pub creation_refusal : Limits → UniqueSystemId → Option Refusal → Bool → Option Refusal
 creation_refusal l id asked memory =
-    or_else (refused_if (is_no_id id) InvalidNodeId)
+    or_else (refused_if (not (is_node_id id)) InvalidNodeId)
     (or_else asked
     (or_else (refused_if (is_too_large l) LimitTooLarge) (refused_if (not memory) WantOfMemory)))
 
@@ -68,7 +69,7 @@ at_rest x f = record {
 }
 
 -- a service as it is created: node 0, and nothing else
-abbrev pub created : Limits → (List ℕ → ℕ → ℕ → BackpressureAction) → UniqueId → State
+abbrev pub created : Limits → (List ℕ → ℕ → ℕ → BackpressureAction) → UniqueSystemId → State
 created l acts id =
     at_rest (record { nodes = new_node 0 id ∷ []; joins = 1; closed = false })
     (untouched (raised l) acts)

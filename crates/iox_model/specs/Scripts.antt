@@ -2,7 +2,7 @@
 -- second.
 use Rattle.std.specs.Prelude.{ℕ, true, List, [], ◌∷◌, Some, None}
 use Rattle.iox_model.specs.declared.kind.Role.TheVariants.{Client, Server}
-use Rattle.iox_model.specs.declared.way.UniqueId.{UniqueId}
+use Rattle.iox_types.specs.declared.identifiers.system_id.UniqueSystemId.{UniqueSystemId}
 use Rattle.iox_model.specs.declared.backpressure.BackpressureStrategy.TheVariants as strategies
 use Rattle.iox_model.specs.declared.backpressure.BackpressureAction.TheVariants as actions
 use Rattle.iox_model.specs.declared.command.PortCommand.TheVariants.{Create, Use}
@@ -58,7 +58,7 @@ of_length_one = record {
 }
 
 -- the id of a process
-abbrev pub process : ℕ → UniqueId
+abbrev pub process : ℕ → UniqueSystemId
 process n = record { process = n; seconds = 0; nanoseconds = 0; counter = 0 }
 
 -- a service with no handlers

@@ -3,7 +3,7 @@ use Rattle.std.specs.Prelude.{ℕ, Bool, List, Option}
 use Rattle.iox_model.specs.declared.kind.Role.{Role}
 use Rattle.iox_model.specs.declared.kind.Kind.{Kind}
 use Rattle.iox_model.specs.declared.way.Way.{Way}
-use Rattle.iox_model.specs.declared.way.UniqueId.{UniqueId}
+use Rattle.iox_types.specs.declared.identifiers.system_id.UniqueSystemId.{UniqueSystemId}
 use Rattle.iox_model.specs.declared.way.RequestState.{RequestState}
 use Rattle.iox_model.specs.declared.backpressure.BackpressureStrategy.{BackpressureStrategy}
 use Rattle.iox_model.specs.declared.backpressure.BackpressureAction.{BackpressureAction}
@@ -14,7 +14,7 @@ use Rattle.iox_model.specs.Messages.{Message}
 
 pub record Node : Type 0 where
   pub number : ℕ
-  pub id : UniqueId
+  pub id : UniqueSystemId
   pub alive : Bool
 
 -- the nodes that did not leave, dead ones included; how many ever joined; closed for good
@@ -27,8 +27,8 @@ pub record Port : Type 0 where
   pub number : ℕ
   pub node : ℕ
   pub role : Role
-  pub node_id : UniqueId
-  pub id : UniqueId
+  pub node_id : UniqueSystemId
+  pub id : UniqueSystemId
   -- how many messages its pool has; a client has as many lanes
   pub pool : ℕ
   -- the greatest length of a message, unless the port's messages grow

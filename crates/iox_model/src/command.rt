@@ -2,7 +2,7 @@
 use crate::backpressure::{AllocationStrategy, BackpressureStrategy};
 use crate::call::Call;
 use crate::kind::Role;
-use crate::way::UniqueId;
+use iox_types::identifiers::UniqueSystemId;
 
 /// What the making of a port is given, with handlers `H`; else the service's settings hold.
 pub struct PortOptions<H> {
@@ -22,7 +22,7 @@ pub enum PortCommand<P, H> {
     /// Makes a port, of a node with that id.
     Create {
         role: Role,
-        id: UniqueId,
+        id: UniqueSystemId,
         options: PortOptions<H>,
     },
     /// Calls a port or a handle.
@@ -32,7 +32,7 @@ pub enum PortCommand<P, H> {
 /// A command of a service; `V` is what an opener asks of types and attributes.
 pub enum Command<P, H, V> {
     Open {
-        id: UniqueId,
+        id: UniqueSystemId,
         asked: V,
     },
     /// Of this node; a port that it makes has its id.

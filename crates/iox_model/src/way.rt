@@ -16,13 +16,3 @@ pub enum RequestState {
     /// It names the open request; `hinted` says whether its client lost interest.
     Named { id: u64, hinted: bool },
 }
-
-/// What tells a node, or a port, from all others: a port has its node's process number and time,
-/// and counts the ports made before it.
-#[derive(Clone, Copy, Debug, PartialEq, Eq)]
-pub struct UniqueId {
-    pub process: u32,
-    pub seconds: u32,
-    pub nanoseconds: u32,
-    pub counter: u32,
-}
