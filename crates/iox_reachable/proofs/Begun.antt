@@ -1,0 +1,214 @@
+-- A call that begins has something to do that can be done.
+use Rattle.std.specs.Prelude.{◌≡◌, ℕ, Bool, true, false, not, if◌then◌else◌, ◌==◌, List, [], ◌∷◌, ◌++◌, Option, Some, None, find, refl}
+use Rattle.std.specs.List.{list_all}
+use Rattle.std.specs.Option.{option_map_or}
+use Rattle.std.proofs.Common.{sym, subst, ap, ◌∙◌, true≢false, eqb-true}
+use Rattle.iox_model.specs.declared.kind.Role.TheVariants.{Client, Server}
+use Rattle.iox_model.specs.declared.kind.Kind.TheVariants.{PendingResponse}
+use Rattle.iox_model.specs.declared.call.Call.TheVariants.{Loan, LoanUninit, Write, Send, SendCopy, Receive, Read, Release, IsConnected, SetHint, HasHint, HasRequests, HasResponse}
+use Rattle.iox_model.specs.declared.call.WireCall.TheVariants.{Forget}
+use Rattle.iox_model.specs.declared.call.WireCall.TheVariants as wire_calls
+use Rattle.iox_model.specs.declared.reply.Refusal.TheVariants.{UnknownNumber, ForeignNumber, WrongKind, WrongLength, WantOfMemory}
+use Rattle.iox_model.specs.declared.reply.Reply.TheVariants.{Words}
+use Rattle.iox_model.specs.Receives.{late_clients, server_ways, pending_ways, receives}
+use Rattle.iox_model.specs.Releases.{states_of, closing, returning, releases_handle}
+use Rattle.iox_model.specs.Doings.{refused, Receiver, Tells, Fills, Drops, Doing, Ended, Returning}
+use Rattle.iox_model.specs.Weaves.{wire_start, miscalled}
+use Rattle.iox_model.specs.States.{Port, Handle, Fixed, State}
+use Rattle.iox_model.specs.Loans.{loan_of, next_request, request_loan_refusal, response_loan_refusal, memory_refusal, lending_ways, unless_refused, Choice, Order}
+use Rattle.iox_model.specs.Handles.{same_kind, is_received, subject, handle_at, port_or_handle, kind_of, node_of, way_of, Subject, ThePort, TheHandle}
+use Rattle.iox_model.specs.Maps.{refused_if}
+use Rattle.iox_model.specs.Names.{suits, misnamed_by, is_port}
+use Rattle.iox_model.specs.Begins.{written, writes, reads, begins_at}
+use Rattle.iox_model.specs.Commands.{Refusal, Call, WireCall, number_of}
+use Rattle.iox_model.specs.Settings.{is_client, is_count}
+use Rattle.iox_model.specs.Responses.{lends_response, lends_by, lends, copies, ordered, shape_for, lending}
+use Rattle.iox_model.specs.Messages.{request_way, response_way}
+use Rattle.iox_model.specs.Peers.{others, forgotten, port_at, node_of_port, forgot_port}
+use Rattle.iox_model.specs.declared.kind.Kind.TheVariants as kinds
+use Rattle.iox_model.proofs.MapLemmas.{either}
+use Rattle.iox_model.proofs.PlayedRuns.{split}
+use Rattle.iox_model.proofs.WholeLemmas.{some-is, or_else-none}
+use Rattle.iox_reachable.proofs.WayLemmas.{all_map, from-lending}
+use Rattle.iox_reachable.proofs.Sound.{IsTo, IsOwn, has_own, Fits, IsWithin}
+use Rattle.iox_reachable.proofs.PortLemmas.{AreDistinctPorts}
+use Rattle.iox_reachable.proofs.Continues.{sends_fits, loaning_fits, visiting_fits, seeking_fits, closing_fits, checking_fits, hinting_fits}
+
+-- ---- what is found
+
+abbrev IsNot : {A : Type 0} → Option A → Type 0
+IsNot None = Unit {0}
+IsNot (Some x) = ⊥
+
+pub none-some : {A : Type 0} {P : Type 0} (x : A) → None ≡ Some x → P
+none-some x e = absurd (subst IsNot e tt)
+
+found_passes : {A : Type 0} (test : A → Bool) (xs : List A) (x : A) → find test xs ≡ Some x → test x ≡ true
+found_passes test [] x e = none-some x e
+found_passes test (y ∷ ys) x e =
+    either (λ o. o ≡ Some x → test x ≡ true) (test y) (Some y) (find test ys) (λ is p. ap test (sym (some-is y x p)) ∙ is)
+    (λ other p. found_passes test ys x p) e
+
+found_too : {A : Type 0} (also test : A → Bool) (xs : List A) (x : A) → list_all also xs ≡ true → find test xs ≡ Some x → also x ≡ true
+found_too also test [] x all e = none-some x e
+found_too also test (y ∷ ys) x all e =
+    let q : (also y ≡ true) × (list_all also ys ≡ true) = split (also y) (list_all also ys) all in
+    either (λ o. o ≡ Some x → also x ≡ true) (test y) (Some y) (find test ys) (λ is p. ap also (sym (some-is y x p)) ∙ q.0)
+    (λ other p. found_too also test ys x q.1 p) e
+
+-- ---- the subject of a call
+
+-- a port of the node, or a handle of the node that belongs to a port of the node
+abbrev pub IsSubject : Fixed → ℕ → Subject → Type 0
+IsSubject f node (ThePort p) = (p.node ≡ node) × (node_of_port f p.number ≡ node)
+IsSubject f node (TheHandle h) = IsOwn f node h
+
+-- a port that has its number is at it
+port_number : (f : Fixed) (n : ℕ) (p : Port) → port_at f n ≡ Some p → p.number ≡ n
+port_number f n p e = eqb-true p.number n (found_passes (λ q. q.number == n) f.ports p e)
+
+port_node : (f : Fixed) (n : ℕ) (p : Port) → port_at f n ≡ Some p → node_of_port f n ≡ p.node
+port_node f n p e = ap (λ o. option_map_or (λ (q : Port). q.node) o 0) e
+
+port_subject : (f : Fixed) (node n : ℕ) (p : Port) → port_at f n ≡ Some p → p.node ≡ node → IsSubject f node (ThePort p)
+port_subject f node n p e of_node = (of_node, ap (node_of_port f) (port_number f n p e) ∙ port_node f n p e ∙ of_node)
+
+handle_own : (f : Fixed) (node n : ℕ) (h : Handle) → has_own f node ≡ true → handle_at f node n ≡ Some h → h.node ≡ node → IsOwn f node h
+handle_own f node n h own e of_node =
+    (of_node, eqb-true (node_of_port f h.port) node (found_too (λ k. node_of_port f k.port == node) (λ k. k.number == n) (f.handles node) h own e))
+
+subject_is : (f : Fixed) (node n : ℕ) (p : Option Port) (h : Option Handle) (x : Subject) → has_own f node ≡ true
+    → port_at f n ≡ p → handle_at f node n ≡ h → port_or_handle p h ≡ Some x → node_of x ≡ node → IsSubject f node x
+subject_is f node n (Some p) h x own e g is of_node =
+    either (λ o. o ≡ Some x → IsSubject f node x) p.held (Some (ThePort p)) None
+    (λ u q. subst (IsSubject f node) (some-is (ThePort p) x q)
+    (port_subject f node n p e (ap node_of (some-is (ThePort p) x q) ∙ of_node))) (λ u q. none-some x q) is
+subject_is f node n None (Some h) x own e g is of_node =
+    subst (IsSubject f node) (some-is (TheHandle h) x is) (handle_own f node n h own g (ap node_of (some-is (TheHandle h) x is) ∙ of_node))
+subject_is f node n None None x own e g is of_node = none-some x is
+
+-- ---- loans
+
+loan_own : (f : Fixed) (node : ℕ) (p : Port) (o : Order) (client lane request : ℕ) → p.node ≡ node → node_of_port f p.number ≡ node
+    → IsOwn f node (loan_of f p o client lane request)
+loan_own f node p o client lane request of_node own = (of_node, own)
+
+unless_fits : (s : State) (node : ℕ) (r : Option Refusal) (d : Doing) → Fits s node d → Fits s node (unless_refused r d)
+unless_fits s node (Some r) d p = tt
+unless_fits s node None d p = p
+
+lending_fits : (s : State) (node : ℕ) (copies : Bool) (h : Handle) → AreDistinctPorts s.fixed → IsOwn s.fixed node h → IsWithin s node None
+    → Fits s node (lending s copies h)
+lending_fits s node copies h distinct own within =
+    loaning_fits s node copies h (lending_ways s.fixed h) distinct own within (from-lending s.fixed h)
+
+response_fits : (s : State) (node : ℕ) (c : Choice) (h : Handle) (o : Order) (p : Option Port) → AreDistinctPorts s.fixed → IsOwn s.fixed node h
+    → IsWithin s node None → port_at s.fixed h.port ≡ p → Fits s node (option_map_or (λ q. lends_response s c h q o) p (refused UnknownNumber))
+response_fits s node c h o None distinct own within e = tt
+response_fits s node c h o (Some p) distinct own within e =
+    let loan : Handle = loan_of s.fixed p o h.client h.lane h.request in
+    unless_fits s node (response_loan_refusal s.fixed h p o.elements) (unless_refused (memory_refusal s c p.number) (lending s o.copies loan))
+    (unless_fits s node (memory_refusal s c p.number) (lending s o.copies loan)
+    (lending_fits s node o.copies loan distinct (
+      sym (port_node s.fixed h.port p e) ∙ own.1,
+      ap (node_of_port s.fixed) (port_number s.fixed h.port p e) ∙ own.1,
+    ) within))
+
+lends_by_fits : (s : State) (node : ℕ) (c : Choice) (x : Subject) (o : Order) → AreDistinctPorts s.fixed → IsSubject s.fixed node x
+    → IsWithin s node None → Fits s node (lends_by s c x o)
+lends_by_fits s node c (ThePort p) o distinct own within =
+    let loan : Handle = loan_of s.fixed p o p.number c.lane (next_request s.fixed p.number) in
+    unless_fits s node (request_loan_refusal s.fixed p o.elements) (unless_refused (memory_refusal s c p.number) (lending s o.copies loan))
+    (unless_fits s node (memory_refusal s c p.number) (lending s o.copies loan)
+    (lending_fits s node o.copies loan distinct (own.0, own.1) within))
+lends_by_fits s node c (TheHandle h) o distinct own within = response_fits s node c h o (port_at s.fixed h.port) distinct own within refl
+
+lends_fits : (s : State) (node : ℕ) (c : Choice) (x : Subject) (o : Order) → AreDistinctPorts s.fixed → IsSubject s.fixed node x
+    → IsWithin s node None → Fits s node (lends s c x o)
+lends_fits s node c x o distinct own within =
+    either (Fits s node) (is_count (shape_for s.fixed x) o.elements) (lends_by s c x o) (refused WrongLength)
+    (λ u. lends_by_fits s node c x o distinct own within) (λ u. tt)
+
+copies_fits : (s : State) (node : ℕ) (c : Choice) (x : Subject) (k : Option ℕ) (words : List ℕ) → AreDistinctPorts s.fixed
+    → IsSubject s.fixed node x → IsWithin s node None → Fits s node (copies s c x k words)
+copies_fits s node c x None words distinct own within = tt
+copies_fits s node c x (Some k) words distinct own within =
+    lends_fits s node c x (record { elements = k; filled = k; payload = words; copies = true; uninit = false }) distinct own within
+
+-- ---- the other calls
+
+writes_fits : (s : State) (node : ℕ) (h : Handle) (k : Option ℕ) (words : List ℕ) → IsOwn s.fixed node h → Fits s node (writes h k words)
+writes_fits s node h None words own = tt
+writes_fits s node h (Some k) words own =
+    either (Fits s node) (k == h.message.elements) (Ended (Fills (written h words))) (refused WrongLength) (λ u. (own.0, own.1)) (λ u. tt)
+
+reads_fits : (s : State) (node : ℕ) (c : Choice) (h : Handle) → Fits s node (reads c h)
+reads_fits s node c h =
+    either (Fits s node) c.memory (Ended (Tells (Words (h.message.user ++ h.message.payload)))) (refused WantOfMemory) (λ u. tt) (λ u. tt)
+
+receives_fits : (s : State) (node : ℕ) (x : Subject) → IsSubject s.fixed node x → Fits s node (receives s.fixed x)
+receives_fits s node (ThePort p) own =
+    let x : Receiver = record { port = p.number; role = Server; lane = 0; request = 0 } in
+    visiting_fits s node x (server_ways s.fixed p) false own.1
+    (all_map (IsTo x) (λ client. request_way client p.number) (λ n. (refl, refl)) (others s.fixed p.node Client ++ late_clients s.fixed p))
+receives_fits s node (TheHandle h) own =
+    let x : Receiver = record { port = h.port; role = Client; lane = h.lane; request = h.request } in
+    visiting_fits s node x (pending_ways s.fixed h) false own.1
+    (all_map (IsTo x) (response_way h.port h.lane) (λ n. (refl, refl))
+    (others s.fixed h.node Server ++ (forgotten s.fixed h.node Server ++ s.fixed.expired h.port)))
+
+releases_fits : (s : State) (node : ℕ) (h : Handle) → Fits s node (releases_handle s.fixed h)
+releases_fits s node h =
+    either (Fits s node) (is_received h.kind) (returning s.fixed h)
+    (if same_kind h.kind PendingResponse then closing h (states_of s.fixed h) else Ended (Drops h))
+    (λ u. either (Fits s node) (forgot_port s.fixed h.node (way_of h).sender) (Ended (Drops h)) (Returning h) (λ v. tt) (λ v. tt))
+    (λ u. either (Fits s node) (same_kind h.kind PendingResponse) (closing h (states_of s.fixed h)) (Ended (Drops h))
+    (λ v. closing_fits s node h (states_of s.fixed h)) (λ v. tt))
+
+-- no wire releases a port
+ports_stay : (n : ℕ) (p : Port) → suits true (Release n) (kind_of (ThePort p)) ≡ true → ⊥
+ports_stay n p e =
+    either (λ k. not (is_port k) ≡ true → ⊥) (is_client p.role) kinds.Client kinds.Server (λ u q. true≢false (sym q)) (λ u q. true≢false (sym q)) e
+
+begins_fit : (s : State) (node : ℕ) (c : Choice) (call : Call) (x : Subject) → AreDistinctPorts s.fixed → IsSubject s.fixed node x
+    → IsWithin s node None → suits true call (kind_of x) ≡ true → Fits s node (begins_at s c call x)
+begins_fit s node c (Loan n k) x distinct own within suited = lends_fits s node c x (ordered k false) distinct own within
+begins_fit s node c (LoanUninit n k) x distinct own within suited = lends_fits s node c x (ordered k true) distinct own within
+begins_fit s node c (Write n p) (TheHandle h) distinct own within suited = writes_fits s node h p.elements p.words own
+begins_fit s node c (Send n) (TheHandle h) distinct own within suited = sends_fits s node h false distinct own within
+begins_fit s node c (SendCopy n p) x distinct own within suited = copies_fits s node c x p.elements p.words distinct own within
+begins_fit s node c (Receive n) x distinct own within suited = receives_fits s node x own
+begins_fit s node c (Read n) (TheHandle h) distinct own within suited = reads_fits s node c h
+begins_fit s node c (Release n) (ThePort p) distinct own within suited = absurd (ports_stay n p suited)
+begins_fit s node c (Release n) (TheHandle h) distinct own within suited = releases_fits s node h
+begins_fit s node c (IsConnected n) (TheHandle h) distinct own within suited = checking_fits s node h false (states_of s.fixed h)
+begins_fit s node c (SetHint n) (TheHandle h) distinct own within suited = hinting_fits s node h (states_of s.fixed h)
+begins_fit s node c (HasHint n) (TheHandle h) distinct own within suited = checking_fits s node h true (states_of s.fixed h)
+begins_fit s node c (HasRequests n) (ThePort p) distinct own within suited = seeking_fits s node (server_ways s.fixed p)
+begins_fit s node c (HasResponse n) (TheHandle h) distinct own within suited = seeking_fits s node (pending_ways s.fixed h)
+begins_fit s node c call x distinct own within suited = tt
+
+-- ---- a call that is not misnamed
+
+passes : (b : Bool) (r : Refusal) → refused_if (not b) r ≡ None → b ≡ true
+passes true r e = refl
+passes false r e = none-some r (sym e)
+
+start_at_fits : (s : State) (node : ℕ) (c : Choice) (call : Call) (x : Option Subject) → s.fixed.on_wire ≡ true → AreDistinctPorts s.fixed
+    → has_own s.fixed node ≡ true → IsWithin s node None → subject s.fixed node (number_of call) ≡ x → misnamed_by s.fixed node call x ≡ None
+    → Fits s node (option_map_or (begins_at s c call) x (refused UnknownNumber))
+start_at_fits s node c call None wire distinct own within is named = tt
+start_at_fits s node c call (Some x) wire distinct own within is named =
+    let q : (refused_if (not (node_of x == node)) ForeignNumber ≡ None) × (refused_if (not (suits s.fixed.on_wire call (kind_of x))) WrongKind ≡ None)
+    = or_else-none _ _ named in
+    begins_fit s node c call x distinct
+    (subject_is s.fixed node (number_of call) (port_at s.fixed (number_of call)) (handle_at s.fixed node (number_of call)) x own refl refl is
+    (eqb-true (node_of x) node (passes (node_of x == node) ForeignNumber q.0))) within
+    (subst (λ (b : Bool). suits b call (kind_of x) ≡ true) wire (passes (suits s.fixed.on_wire call (kind_of x)) WrongKind q.1))
+
+-- What begins unrefused can be done.
+pub start_fits : (s : State) (node : ℕ) (c : Choice) (call : WireCall) → s.fixed.on_wire ≡ true → AreDistinctPorts s.fixed
+    → has_own s.fixed node ≡ true → IsWithin s node None → miscalled s node call ≡ None → Fits s node (wire_start s node c call)
+start_fits s node c (wire_calls.Port call) wire distinct own within named =
+    start_at_fits s node c call (subject s.fixed node (number_of call)) wire distinct own within refl named
+start_fits s node c (Forget dead) wire distinct own within named = tt

@@ -1,0 +1,16 @@
+pub mod WayLemmas
+pub mod Sound
+pub mod PortLemmas
+pub mod Kept
+pub mod Continues
+pub mod Moves
+pub mod MovesFit
+pub mod Begun
+pub mod Settled
+pub mod GoesOn
+pub mod ServedPorts
+pub mod Reached
+pub mod Waiting
+pub mod Alone
+pub mod Endings
+pub mod Cleared
