@@ -1,0 +1,15 @@
+pub mod Lists
+pub mod Views
+pub mod Senders
+pub mod Settling
+pub mod HandlesKept
+pub mod Rights
+pub mod Phases
+pub mod Rests
+pub mod Moves
+pub mod Starts
+pub mod Worlds
+pub mod Once
+pub mod Cleared
+pub mod Buffers
+pub mod Borrows

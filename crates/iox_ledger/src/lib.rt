@@ -1,0 +1,31 @@
+//! What holds of all calls of a wire together, whatever is between their moments.
+//! The functions have nothing to do: each is there for its contract.
+#![tactic(auto)]
+
+ghost use Rattle.iox_ledger.specs.OnceLaws.{DeliveredOnce, ReceivedOnce};
+ghost use Rattle.iox_ledger.specs.ForgetLaws.{NothingToTheDead};
+ghost use Rattle.iox_ledger.specs.BorrowLaws.{BorrowLimitHolds};
+ghost use Rattle.iox_ledger.specs.QueueLaws.{BufferHolds, OneInHand};
+
+/// On each way no message is delivered twice, and none is received twice.
+pub fn messages_come_at_most_once()
+    ensures delivered { DeliveredOnce }
+    ensures received { ReceivedOnce }
+{}
+
+/// Once a node forgot a dead one, none of its messages is outstanding there.
+pub fn nothing_is_outstanding_to_the_dead()
+    ensures { NothingToTheDead }
+{}
+
+/// On each way the buffer waits at most, and one more that the send may still evict. What it
+/// evicted is one message, which is in hand until the send gets it back.
+pub fn queues_hold_their_buffer()
+    ensures waiting { BufferHolds }
+    ensures in_hand { OneInHand }
+{}
+
+/// Of each way a receiver has at most as many messages as it may borrow.
+pub fn receivers_keep_the_borrow_limit()
+    ensures { BorrowLimitHolds }
+{}
