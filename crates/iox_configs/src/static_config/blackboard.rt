@@ -1,0 +1,53 @@
+//! What a blackboard service was made with.
+ghost use Rattle.std.specs.Prelude.{◌≡◌};
+
+use crate::config::Blackboard;
+use iox_types::TypeDetail;
+
+/// The type of a service's keys, and its settings.
+#[derive(Clone, Copy, Debug)]
+pub struct StaticConfig {
+    type_details: TypeDetail,
+    settings: Blackboard,
+}
+
+impl StaticConfig {
+    /// The configuration of those types and settings.
+    pub fn new(type_details: TypeDetail, settings: Blackboard) -> StaticConfig
+        ensures types { result.type_details ≡ type_details }
+        ensures settings { result.settings ≡ settings }
+    {
+        StaticConfig {
+            type_details,
+            settings,
+        }
+    }
+
+    /// What is told of keys.
+    pub fn type_details(&self) -> &TypeDetail
+        ensures { result.now ≡ self.now.type_details }
+    {
+        &self.type_details
+    }
+
+    /// All settings of the service.
+    pub fn settings(&self) -> &Blackboard
+        ensures { result.now ≡ self.now.settings }
+    {
+        &self.settings
+    }
+
+    /// The most readers that the service has at once.
+    pub fn max_readers(&self) -> usize
+        ensures { result ≡ self.now.settings.max_readers }
+    {
+        self.settings.max_readers
+    }
+
+    /// The most nodes that the service has at once.
+    pub fn max_nodes(&self) -> usize
+        ensures { result ≡ self.now.settings.max_nodes }
+    {
+        self.settings.max_nodes
+    }
+}

@@ -1,0 +1,84 @@
+//! What an event service was made with.
+ghost use Rattle.std.specs.Prelude.{◌≡◌};
+
+use crate::config::Event;
+use crate::event_id::EventId;
+use std::time::Duration;
+
+/// The settings of a service.
+#[derive(Clone, Copy, Debug)]
+pub struct StaticConfig {
+    settings: Event,
+}
+
+impl StaticConfig {
+    /// The configuration of those settings.
+    pub fn new(settings: Event) -> StaticConfig
+        ensures settings { result.settings ≡ settings }
+    {
+        StaticConfig { settings }
+    }
+
+    /// All settings of the service.
+    pub fn settings(&self) -> &Event
+        ensures { result.now ≡ self.now.settings }
+    {
+        &self.settings
+    }
+
+    /// The most notifiers that the service has at once.
+    pub fn max_notifiers(&self) -> usize
+        ensures { result ≡ self.now.settings.max_notifiers }
+    {
+        self.settings.max_notifiers
+    }
+
+    /// The most listeners that the service has at once.
+    pub fn max_listeners(&self) -> usize
+        ensures { result ≡ self.now.settings.max_listeners }
+    {
+        self.settings.max_listeners
+    }
+
+    /// The most nodes that the service has at once.
+    pub fn max_nodes(&self) -> usize
+        ensures { result ≡ self.now.settings.max_nodes }
+    {
+        self.settings.max_nodes
+    }
+
+    /// The greatest number of an event.
+    pub fn event_id_max_value(&self) -> usize
+        ensures { result ≡ self.now.settings.event_id_max_value }
+    {
+        self.settings.event_id_max_value
+    }
+
+    /// How long after an event the next one comes at the latest, if that is told.
+    pub fn deadline(&self) -> Option<Duration>
+        ensures { result ≡ self.now.settings.deadline }
+    {
+        self.settings.deadline
+    }
+
+    /// The event that tells of a new notifier.
+    pub fn notifier_created_event(&self) -> Option<EventId>
+        ensures { result ≡ self.now.settings.notifier_created_event }
+    {
+        self.settings.notifier_created_event
+    }
+
+    /// The event that tells that a notifier is gone.
+    pub fn notifier_dropped_event(&self) -> Option<EventId>
+        ensures { result ≡ self.now.settings.notifier_dropped_event }
+    {
+        self.settings.notifier_dropped_event
+    }
+
+    /// The event that tells that a notifier's node died.
+    pub fn notifier_dead_event(&self) -> Option<EventId>
+        ensures { result ≡ self.now.settings.notifier_dead_event }
+    {
+        self.settings.notifier_dead_event
+    }
+}
