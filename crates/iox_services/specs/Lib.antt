@@ -1,0 +1,3 @@
+-- what is told of a service
+pub mod Patterns
+pub mod Services
