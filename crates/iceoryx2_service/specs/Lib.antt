@@ -1,0 +1,20 @@
+-- the words of the clauses, and the types that they speak of
+pub use Rattle.iox_names.specs.Names
+pub use Rattle.iox_names.specs.ServiceNames
+pub use Rattle.iox_names.specs.ServiceHashes
+pub use Rattle.iox_names.specs.Pairs
+pub use Rattle.iox_names.specs.declared.attribute.Attribute
+pub use Rattle.iox_attributes.specs.Sets
+pub use Rattle.iox_attributes.specs.Verifiers
+pub use Rattle.iox_attributes.specs.Visits
+pub use Rattle.iox_types.specs.Identifiers
+pub use Rattle.iox_types.specs.Headers
+pub use Rattle.iox_types.specs.Details
+pub use Rattle.iox_types.specs.Compatibility
+pub use Rattle.iox_types.specs.Places
+pub use Rattle.iox_types.specs.Layouts
+pub use Rattle.iox_configs.specs.Paths
+pub use Rattle.iox_configs.specs.FirstSettings
+pub use Rattle.iox_configs.specs.Pools
+pub use Rattle.iox_services.specs.Patterns
+pub use Rattle.iox_services.specs.Services

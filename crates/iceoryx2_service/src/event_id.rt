@@ -1,0 +1,2 @@
+//! Numbers of events.
+pub use iox_configs::event_id::EventId;

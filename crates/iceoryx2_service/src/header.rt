@@ -1,0 +1,2 @@
+//! What stands before a message.
+pub use iox_types::{RequestHeader, ResponseHeader};

@@ -1,0 +1,6 @@
+//! Identifiers of nodes, ports and services.
+pub use iox_types::identifiers::{
+    Time, UniqueClientId, UniqueListenerId, UniqueNodeId, UniqueNodeIdError, UniqueNotifierId,
+    UniquePortId, UniquePublisherId, UniqueReaderId, UniqueServerId, UniqueServiceId,
+    UniqueSubscriberId, UniqueSystemId, UniqueWriterId,
+};

@@ -1,0 +1,2 @@
+//! How services exchange messages.
+pub use iox_names::MessagingPattern;
