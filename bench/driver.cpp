@@ -1,0 +1,39 @@
+// Runs one row: driver NAME ROUNDS. It prints the sum and the nanoseconds a round.
+#include <chrono>
+#include <cstdint>
+#include <cstdio>
+#include <cstdlib>
+#include <cstring>
+
+#define ROWS(ROW) \
+    ROW(iox_index_queue) ROW(iox_fixed_index_queue) ROW(iox_index_queue_by_calls) ROW(iox_unique_index_set) \
+    ROW(iox_unique_index_pair) ROW(iox_robust_unique_index_set) ROW(iox_bit_set) ROW(iox_large_bit_set) \
+    ROW(iox_bit_set_all) ROW(iox_counting_bit_set_all) ROW(iox_queue_machine) ROW(iox_queue_steps) ROW(twin_boost_spsc_queue) \
+    ROW(twin_boost_fixed_spsc_queue) ROW(twin_ring) ROW(twin_positions) ROW(twin_ring_by_calls) ROW(twin_stack) ROW(twin_stack_pair) \
+    ROW(twin_owners) ROW(twin_bit_set) ROW(twin_large_bit_set) ROW(twin_bit_set_all) \
+    ROW(twin_counting_bit_set_all) ROW(twin_queue_machine)
+
+extern "C" {
+#define DECLARED(NAME) uint64_t NAME(uint64_t rounds);
+ROWS(DECLARED)
+}
+
+int main(int count, char **words) {
+    struct Row { const char *name; uint64_t (*call)(uint64_t); };
+#define LISTED(NAME) {#NAME, NAME},
+    const Row rows[] = {ROWS(LISTED)};
+    if (count != 3) {
+        for (const Row &row : rows) std::printf("%s\n", row.name);
+        return 0;
+    }
+    const uint64_t rounds = std::strtoull(words[2], nullptr, 10);
+    for (const Row &row : rows) {
+        if (std::strcmp(row.name, words[1]) != 0) continue;
+        const auto start = std::chrono::steady_clock::now();
+        const uint64_t sum = row.call(rounds);
+        const std::chrono::duration<double, std::nano> time = std::chrono::steady_clock::now() - start;
+        std::printf("%llu %.2f\n", (unsigned long long)sum, time.count() / double(rounds));
+        return 0;
+    }
+    return 1;
+}
