@@ -106,9 +106,9 @@ fn a_set_is_sorted_and_keeps_repeats(rt: HostRuntime) -> Result<(), Fail> {
     assert_eq!(rt; set.key_value(&a, 0), Some(&AttributeValue::new("10")?));
     assert_eq!(rt; set.key_value(&a, 2), Some(&AttributeValue::new("2")?));
     assert_eq!(rt; set.key_value(&a, 3), None);
-    let mut visited = 0;
+    let mut visited: u8 = 0;
     set.iter_key_values(&a, |value| {
-        visited += 1;
+        visited = visited.wrapping_add(1);
         if value.as_str() == "2" {
             CallbackProgression::Stop
         } else {
