@@ -1,5 +1,6 @@
 -- A set of attributes is one sorted list, in which a pair stands as often as it was added.
 use Rattle.std.specs.Prelude.{ℕ, ◌+◌, ◌&&◌, Bool, true, not, List, [], ◌∷◌, map, if◌then◌else◌}
+use Rattle.std.specs.Cmp.Lexicographic.{pointwise}
 use Rattle.std.specs.List.{filter, list_all}
 use Rattle.iox_texts.specs.Texts.{text_eq}
 use Rattle.iox_names.specs.Pairs.{is_before, pair_eq}
@@ -13,6 +14,10 @@ max_pairs = 64
 abbrev pub is_sorted : List Attribute → Bool
 is_sorted [] = true
 is_sorted (first ∷ rest) = list_all (λ later. not (is_before later first)) rest && is_sorted rest
+
+-- two sets are equal if they hold the same pairs
+abbrev pub set_eq : List Attribute → List Attribute → Bool
+set_eq = pointwise pair_eq
 
 -- the set with one pair more, which stands before the first that is greater
 abbrev pub with_pair : Attribute → List Attribute → List Attribute

@@ -9,6 +9,7 @@ ghost use Rattle.iox_attributes.specs.Visits.{Visits};
 
 use iox_names::attribute::{Attribute, AttributeKey, AttributeValue};
 use iox_words::CallbackProgression;
+use std::fmt;
 use std::marker::Model;
 use std::ops::DerefSlice;
 
@@ -131,6 +132,34 @@ impl AttributeSet {
                 return;
             }
         }
+    }
+}
+
+/// Two sets are equal if they hold the same pairs equally often.
+impl PartialEq for AttributeSet {
+    ghost use Rattle.std.specs.Cmp.Lexicographic.{lists_per};
+    ghost use Rattle.iox_names.specs.contracts.attribute.AttributePartialEq.TheImpl.Laws.{laws-law};
+    ghost use Rattle.iox_attributes.specs.Sets.{set_eq};
+
+    ghost eq = { set_eq };
+
+    ghost laws = { lists_per laws-law };
+
+    fn eq(&self, other: &AttributeSet) -> bool {
+        self.as_slice() == other.as_slice()
+    }
+}
+
+impl Eq for AttributeSet {
+    ghost use Rattle.std.specs.Cmp.Lexicographic.{lists_equiv};
+    ghost use Rattle.iox_names.specs.contracts.attribute.AttributeEq.TheImpl.Laws.{laws-law};
+
+    ghost laws = { lists_equiv laws-law };
+}
+
+impl fmt::Debug for AttributeSet {
+    fn fmt<W: fmt::Write>(&self, f: &mut fmt::Formatter<W>) -> fmt::Result {
+        fmt::Debug::fmt(self.as_slice(), f)
     }
 }
 

@@ -116,6 +116,16 @@ fn a_set_is_sorted_and_keeps_repeats(rt: HostRuntime) -> Result<(), Fail> {
         }
     });
     assert_eq!(rt; visited, 2);
+    let other_way = define_all(&[
+        ("a", "2"),
+        ("a", "10"),
+        ("ab", "1"),
+        ("a", "2"),
+        ("b", "1"),
+    ]).ok_or("room")?;
+    assert_eq!(rt; set, other_way.attributes());
+    let once = define_all(&[("a", "2"), ("a", "10"), ("ab", "1"), ("b", "1")]).ok_or("room")?;
+    assert!(rt; set != once.attributes());
     assert_eq!(rt; AttributeSet::capacity(), 64);
     assert_eq!(rt;
         AttributeSpecifier::default()

@@ -105,6 +105,10 @@ impl Path {
 }
 
 impl fmt::Display for Path {
+    ghost use Rattle.std.specs.Prelude.{Some};
+
+    ghost output = { λ it. Some it };
+
     fn fmt<W: fmt::Write>(&self, f: &mut fmt::Formatter<W>) -> fmt::Result {
         f.pad(self.as_str())
     }
