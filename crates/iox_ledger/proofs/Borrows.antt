@@ -116,15 +116,15 @@ count-swap test h (k ∷ ks) e = by_case (k.number == h.number) (count-swap test
 
 -- ---- received handles
 
-loan-own : (k : Kind) → is_loan k ≡ true → is_received k ≡ false
+pub loan-own : (k : Kind) → is_loan k ≡ true → is_received k ≡ false
 loan-own ActiveRequest e = absurd (true≢false (sym e))
 loan-own Response e = absurd (true≢false (sym e))
 loan-own k e = refl
 
-no_received : (y : Way) (h : Handle) → is_received h.kind ≡ false → has_received y h ≡ false
+pub no_received : (y : Way) (h : Handle) → is_received h.kind ≡ false → has_received y h ≡ false
 no_received y h e = ap (λ b. b && ((h.port == y.receiver) && same_way (way_of h) y)) e
 
-taken-way : (v : View) (n : ℕ) (x : Receiver) (w : Way) (m : Message) → Has v x w m → way_of (taken_handle v n x m) ≡ w
+pub taken-way : (v : View) (n : ℕ) (x : Receiver) (w : Way) (m : Message) → Has v x w m → way_of (taken_handle v n x m) ≡ w
 taken-way v n x w m p = by_case (is_client x.role) refl
   where
     by_case : (b : Bool) → is_client x.role ≡ b
@@ -216,7 +216,7 @@ takes-counts v n h w is below p = record {
         next a b p = omega arith
     within y false e = p.within y
 
-all_three : (a b c : Bool) → a ≡ true → b ≡ true → c ≡ true → (a && (b && c)) ≡ true
+pub all_three : (a b c : Bool) → a ≡ true → b ≡ true → c ≡ true → (a && (b && c)) ≡ true
 all_three true true c d e f = f
 all_three true false c d e f = e
 all_three false b c d e f = d
@@ -285,7 +285,7 @@ over-borrows s n k payload o wire fits f p = by_case (k == n) refl
         (subst (λ v. BorrowFits v n) (sym (settled-here s n payload o wire fits f)) (after-counts (view s.fixed n) n payload o f (p n)))
     by_case false e = subst (λ v. BorrowFits v k) (sym (settled-else s n k payload o wire fits f e)) (p k)
 
-beat-borrows : (w u : World) (b : Beat) → IsBeat w b u → Fits w → ((n : ℕ) → BorrowFits (view w.state.fixed n) n)
+pub beat-borrows : (w u : World) (b : Beat) → IsBeat w b u → Fits w → ((n : ℕ) → BorrowFits (view w.state.fixed n) n)
     → (n : ℕ) → BorrowFits (view u.state.fixed n) n
 beat-borrows w u (Begins k call c) beat fits p n = subst (λ (v : World). BorrowFits (view v.state.fixed n) n) (sym beat.2) (p n)
 beat-borrows w u (Makes k m) beat fits p n =
@@ -303,11 +303,11 @@ weave-borrows w v (b ∷ bs) weave fits p =
 
 -- ---- what a receiver has
 
-length-map : {A B : Type 0} (f : A → B) (xs : List A) → length (map f xs) ≡ length xs
+pub length-map : {A B : Type 0} (f : A → B) (xs : List A) → length (map f xs) ≡ length xs
 length-map f [] = refl
 length-map f (x ∷ xs) = ap suc (length-map f xs)
 
-length-append : {A : Type 0} (xs ys : List A) → length (xs ++ ys) ≡ length xs + length ys
+pub length-append : {A : Type 0} (xs ys : List A) → length (xs ++ ys) ≡ length xs + length ys
 length-append [] ys = omega arith
 length-append (x ∷ xs) ys = more (length (xs ++ ys)) (length xs) (length ys) (length-append xs ys)
   where

@@ -32,11 +32,11 @@ use Rattle.iox_ledger.proofs.Once.{beat-ports}
 abbrev one_if : Bool → ℕ
 one_if b = if b then 1 else 0
 
-abbrev of_call : (Way → Doing → Bool) → Way → Option Doing → Bool
+abbrev pub of_call : (Way → Doing → Bool) → Way → Option Doing → Bool
 of_call test y o = option_map_or (test y) o false
 
 -- of one way, with its sender's call under way
-record Holding (s : State) (y : Way) (o : Option Doing) : Type 0 where
+pub record Holding (s : State) (y : Way) (o : Option Doing) : Type 0 where
   pub waits : length (s.waiting y) ≤ buffer_on s.fixed y + one_if (of_call evicts_next y o)
   pub hand : length (s.in_hand y) ≤ one_if (of_call has_evicted y o)
 
@@ -95,7 +95,7 @@ no-less false = omega arith
 
 -- ---- who delivers and evicts
 
-deliver-sends : (s : State) (n : ℕ) (d : Doing) (x : Way) (m : Message) → FitsDoing (view s.fixed n) n d → (next s n d (Deliver x m)).condition
+pub deliver-sends : (s : State) (n : ℕ) (d : Doing) (x : Way) (m : Message) → FitsDoing (view s.fixed n) n d → (next s n d (Deliver x m)).condition
     → IsAt s.fixed.ports x.sender n
 deliver-sends s n (Delivering z last left count) x m p c =
     ap (node_in s.fixed.ports) (target-of z x ((p.1).among x (way-among x left c.0))).0 ∙ ((p.0).loan).of_port
@@ -107,7 +107,7 @@ last-sends s n z x None loan p e = absurd (true≢false (sym e))
 last-sends s n z x (Some v) loan p e =
     ap (node_in s.fixed.ports) (ap (λ (w : Way). w.sender) (same_way-true x v e) ∙ (target-of z v p.1).0) ∙ loan.of_port
 
-evict-sends : (s : State) (n : ℕ) (d : Doing) (x : Way) → FitsDoing (view s.fixed n) n d → (next s n d (Evict x)).condition → IsAt s.fixed.ports x.sender n
+pub evict-sends : (s : State) (n : ℕ) (d : Doing) (x : Way) → FitsDoing (view s.fixed n) n d → (next s n d (Evict x)).condition → IsAt s.fixed.ports x.sender n
 evict-sends s n (Delivering z last left count) x p c = last-sends s n z x last (p.0).loan p.2 c
 evict-sends s n d x p c = absurd c
 
@@ -301,7 +301,7 @@ begun-holding w node n o y idle q = by_case (n == node) refl
             (no-less (of_call evicts_next y o)) (no-less (of_call has_evicted y o))
     by_case false f = q
 
-beat-holding : (w u : World) (b : Beat) (n : ℕ) (y : Way) → IsBeat w b u → Fits w → IsAt w.state.fixed.ports y.sender n → Holding w.state y (w.doing n)
+pub beat-holding : (w u : World) (b : Beat) (n : ℕ) (y : Way) → IsBeat w b u → Fits w → IsAt w.state.fixed.ports y.sender n → Holding w.state y (w.doing n)
     → Holding u.state y (u.doing n)
 beat-holding w u (Begins node call c) n y beat fits at q =
     subst (λ (v : World). Holding v.state y (v.doing n)) (sym beat.2)

@@ -48,7 +48,7 @@ port-at-node ports node number d e =
 abbrev ToForgotten : Fixed → Way → Type 0
 ToForgotten f y = (node dead : ℕ) × (has_forgotten f node dead ≡ true) × (goes_to_dead f node dead y ≡ true)
 
-forgotten-known : (f : Fixed) (node dead : ℕ) (y : Way) → has_forgotten f node dead ≡ true → goes_to_dead f node dead y ≡ true
+pub forgotten-known : (f : Fixed) (node dead : ℕ) (y : Way) → has_forgotten f node dead ≡ true → goes_to_dead f node dead y ≡ true
     → forgot_in (view f node) y.receiver ≡ true
 forgotten-known f node dead y forgot goes =
     let r : (p : Port) × IsAmong p f.ports × (y.receiver ≡ p.number) × (p.node ≡ dead) = port-of-node f.ports dead y.receiver

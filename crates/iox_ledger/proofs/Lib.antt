@@ -13,3 +13,16 @@ pub mod Once
 pub mod Cleared
 pub mod Buffers
 pub mod Borrows
+pub mod Tallies
+pub mod Quiet
+pub mod Had
+pub mod HadMoves
+pub mod HadEnds
+pub mod Emptied
+pub mod Beginnings
+pub mod Live
+pub mod Outs
+pub mod Balance
+pub mod LedgerKept
+pub mod LedgerHolds
+pub mod Outstanding

@@ -65,7 +65,7 @@ ends-passed s d o y k e p = absurd p
 -- ---- one beat
 
 -- the rights on the way only shrink, and what is put there had its right and has none any more
-record Uses (w u : World) (n : ℕ) (y : Way) (ks : List ℕ) : Type 0 where
+pub record Uses (w u : World) (n : ℕ) (y : Way) (ks : List ℕ) : Type 0 where
   pub shrinks : (k : ℕ) → MayPut u n y k → MayPut w n y k
   pub uses : (ks ≡ []) ⊎ ((k : ℕ) × (ks ≡ k ∷ []) × MayPut w n y k × (MayPut u n y k → ⊥))
 
@@ -143,7 +143,7 @@ over-shrinks w node n payload d o y k fits is p e q = by_case (n == node) refl
       λ passed. q.1 (subst (PassedBy y k) (sym (put_at-else w.doing node n None f)) passed),
     )
 
-beat-uses : (w u : World) (b : Beat) (n : ℕ) (y : Way) → IsBeat w b u → Fits w → IsAt w.state.fixed.ports y.sender n → Uses w u n y (put_on y b)
+pub beat-uses : (w u : World) (b : Beat) (n : ℕ) (y : Way) → IsBeat w b u → Fits w → IsAt w.state.fixed.ports y.sender n → Uses w u n y (put_on y b)
 beat-uses w u (Begins node call c) n y beat fits at = subst (λ v. Uses w v n y []) (sym beat.2) (record {
   shrinks = λ k q. (
     q.0,

@@ -42,7 +42,7 @@ passed : {A : Type 0} (b : Bool) (r : A) → refused_if b r ≡ None → b ≡ f
 passed true r e = absurd (none-some r (sym e))
 passed false r e = refl
 
-record IsNamedBy (f : Fixed) (node : ℕ) (call : Call) (o : Option Subject) : Type 0 where
+pub record IsNamedBy (f : Fixed) (node : ℕ) (call : Call) (o : Option Subject) : Type 0 where
   pub named : Subject
   pub is : o ≡ Some named
   pub of_node : node_of named ≡ node
@@ -52,7 +52,7 @@ not-false : (b : Bool) → not b ≡ false → b ≡ true
 not-false true e = refl
 not-false false e = absurd (true≢false e)
 
-named-by : (f : Fixed) (node : ℕ) (call : Call) (o : Option Subject) → misnamed_by f node call o ≡ None → IsNamedBy f node call o
+pub named-by : (f : Fixed) (node : ℕ) (call : Call) (o : Option Subject) → misnamed_by f node call o ≡ None → IsNamedBy f node call o
 named-by f node call None e = absurd (none-some _ (sym e))
 named-by f node call (Some x) e =
     let p : (refused_if (not (node_of x == node)) ForeignNumber ≡ None) × (refused_if (not (suits f.on_wire call (kind_of x))) WrongKind ≡ None) = or_else-none _ _ e in
@@ -63,11 +63,11 @@ named-by f node call (Some x) e =
       may = not-false _ (passed _ _ p.1);
     }
 
-abbrev IsThere : Fixed → ℕ → Subject → Type 0
+abbrev pub IsThere : Fixed → ℕ → Subject → Type 0
 IsThere f node (ThePort p) = port_at f p.number ≡ Some p
 IsThere f node (TheHandle h) = IsAmong h (f.handles node)
 
-there : (f : Fixed) (node number : ℕ) (x : Subject) (p : Option Port) (h : Option Handle) → port_at f number ≡ p → handle_at f node number ≡ h
+pub there : (f : Fixed) (node number : ℕ) (x : Subject) (p : Option Port) (h : Option Handle) → port_at f number ≡ p → handle_at f node number ≡ h
     → port_or_handle p h ≡ Some x → IsThere f node x
 there f node number x (Some p) h is other e = by_case p.held e
   where

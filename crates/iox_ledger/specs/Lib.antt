@@ -3,3 +3,4 @@ pub mod OnceLaws
 pub mod ForgetLaws
 pub mod QueueLaws
 pub mod BorrowLaws
+pub mod LedgerLaws

@@ -6,6 +6,8 @@ ghost use Rattle.iox_ledger.specs.OnceLaws.{DeliveredOnce, ReceivedOnce};
 ghost use Rattle.iox_ledger.specs.ForgetLaws.{NothingToTheDead};
 ghost use Rattle.iox_ledger.specs.BorrowLaws.{BorrowLimitHolds};
 ghost use Rattle.iox_ledger.specs.QueueLaws.{BufferHolds, OneInHand};
+ghost use Rattle.iox_ledger.specs.LedgerLaws.{LedgerStaysWithin, ReturnsFit};
+ghost use Rattle.iox_ledger.specs.LedgerLaws.{OutOnce, OutstandingIsCounted, RecordIsWhatIsOut};
 
 /// On each way no message is delivered twice, and none is received twice.
 pub fn messages_come_at_most_once()
@@ -28,4 +30,19 @@ pub fn queues_hold_their_buffer()
 /// Of each way a receiver has at most as many messages as it may borrow.
 pub fn receivers_keep_the_borrow_limit()
     ensures { BorrowLimitHolds }
+{}
+
+/// On a live way what the sender counts as outstanding is just what is out: what waits, what the
+/// receiver has, what it gave back and what the sender has in hand, each message once.
+pub fn record_is_what_is_out()
+    ensures once { OutOnce }
+    ensures record { RecordIsWhatIsOut }
+    ensures counted { OutstandingIsCounted }
+{}
+
+/// On a live way no more is out than the buffer and the borrow limit, and one more where the
+/// sender's call under way did not empty the way. So a queue for so many returns is never full.
+pub fn ledger_stays_within()
+    ensures out { LedgerStaysWithin }
+    ensures returns { ReturnsFit }
 {}

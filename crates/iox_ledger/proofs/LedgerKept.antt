@@ -1,0 +1,244 @@
+-- Each beat keeps the record of a live way and its size.
+use Rattle.std.specs.Prelude.{◌≡◌, ℕ, ◌+◌, ◌≤◌, Bool, true, false, not, if◌then◌else◌, ◌==◌, List, [], ◌∷◌, Option, Some, None, ◌⊎◌, refl}
+use Rattle.std.proofs.Common.{sym, subst, ap, ◌∙◌, arith, eqb-true, inl, inr}
+use Rattle.iox_model.specs.declared.way.Way.{Way}
+use Rattle.iox_model.specs.Doings.{Outcome, Doing}
+use Rattle.iox_model.specs.Ends.{settled}
+use Rattle.iox_model.specs.Ledgers.{held_on}
+use Rattle.iox_model.specs.Maps.{put_at}
+use Rattle.iox_model.specs.Messages.{serials_of, Message}
+use Rattle.iox_model.specs.Moments.{moved, Moment, Deliver}
+use Rattle.iox_model.specs.OrderLaws as orders
+use Rattle.iox_model.specs.Peers.{buffer_on, borrow_limit_on}
+use Rattle.iox_model.specs.Settings.{buffer_of, borrow_limit_of, other_role}
+use Rattle.iox_model.specs.States.{State}
+use Rattle.iox_model.specs.Steps.{next, ends}
+use Rattle.iox_model.specs.Weaves.{wire_start, IsBeat, World, Beat, Begins, Makes, Ends, Dies}
+use Rattle.iox_model.proofs.WholeLemmas.{moved-fixed}
+use Rattle.iox_model.proofs.WireLemmas.{settled_same}
+use Rattle.iox_ledger.proofs.Lists.{not-true}
+use Rattle.iox_ledger.proofs.Views.{View, view, IsAt, role_in}
+use Rattle.iox_ledger.proofs.Senders.{FitsOutcome}
+use Rattle.iox_ledger.proofs.Settling.{settled-here, settled-else}
+use Rattle.iox_ledger.proofs.Moves.{ends-fits}
+use Rattle.iox_ledger.proofs.Worlds.{FitsCall, Fits, begin-none, doing-is, next-node}
+use Rattle.iox_ledger.proofs.Once.{MayPut, Uses, beat-uses}
+use Rattle.iox_ledger.proofs.Buffers.{Holding, beat-holding}
+use Rattle.iox_ledger.proofs.Borrows.{count, one_if, BorrowFits, beat-borrows}
+use Rattle.iox_ledger.proofs.Had.{next-release, put_on}
+use Rattle.iox_ledger.proofs.HadEnds.{ended-held, over-held}
+use Rattle.iox_ledger.proofs.Beginnings.{BeginsWell, wire_start-well}
+use Rattle.iox_ledger.proofs.Live.{IsLive, live-receiver, over-live, over-record, over-delivered, same-empties}
+use Rattle.iox_ledger.proofs.Outs.{head-is, no-head, out, is, moved-delivered}
+use Rattle.iox_ledger.proofs.Balance.{any, had_of, emptied_of, Balanced, CallRelease, release-is, moved-balanced}
+
+-- what is delivered may not be put there again
+abbrev pub Fresh : World → ℕ → Way → Type 0
+Fresh w n y = (k : ℕ) → w.state.delivered y k ≡ true → MayPut w n y k → ⊥
+
+-- of a way whose sender is a port of node n, and whose receiver one of node r
+pub record Ledger (w : World) (y : Way) (n r : ℕ) : Type 0 where
+  pub holding : Holding w.state y (w.doing n)
+  pub borrows : (k : ℕ) → BorrowFits (view w.state.fixed k) k
+  pub releases : (k : ℕ) → CallRelease (w.doing k)
+  pub fresh : Fresh w n y
+  pub balanced : IsLive w.state.fixed y → Balanced w.state.fixed w.state w.doing y n r
+
+-- ---- what is delivered
+
+same-put : (n : ℕ) (y : Way) (m : Moment) → orders.put_on y (Makes n m) ≡ put_on y m
+same-put n y (Deliver x m) = refl
+same-put n y m = refl
+
+-- what is delivered after a beat was so before, or is put there by it
+beat-delivered : (w u : World) (b : Beat) (y : Way) (k : ℕ) → IsBeat w b u → Fits w → u.state.delivered y k ≡ true
+    → (w.state.delivered y k ≡ true) ⊎ (orders.put_on y b ≡ k ∷ [])
+beat-delivered w u (Begins node call c) y k beat fits e = inl (ap (λ (v : World). v.state.delivered y k) (sym beat.2) ∙ e)
+beat-delivered w u (Makes node m) y k beat fits e =
+    subst (λ ks. (w.state.delivered y k ≡ true) ⊎ (ks ≡ k ∷ [])) (sym (same-put node y m))
+    (moved-delivered w.state m y k (ap (λ (v : World). v.state.delivered y k) (sym beat.5) ∙ e))
+beat-delivered w u (Ends node reply payload) y k beat fits e =
+    inl (over-delivered w.state node payload beat.3 y k fits.wire (ends-fits w.state node beat.1 beat.3 (doing-is w node beat.1 fits beat.2) beat.4)
+    (ap (λ (v : World). v.state.delivered y k) (sym beat.7) ∙ e))
+beat-delivered w u (Dies node) y k beat fits e = inl (ap (λ (v : World). v.state.delivered y k) (sym beat.1) ∙ e)
+
+beat-fresh : (w u : World) (b : Beat) (n : ℕ) (y : Way) → IsBeat w b u → Fits w → IsAt w.state.fixed.ports y.sender n → Fresh w n y → Fresh u n y
+beat-fresh w u b n y beat fits at fresh k e may = elim (beat-delivered w u b y k beat fits e) as (λ z. ⊥) [
+  | inl was ↦ fresh k was (used.shrinks k may)
+  | inr put ↦ put_now put used.uses
+]
+  where
+    used : Uses w u n y (orders.put_on y b)
+    used = beat-uses w u b n y beat fits at
+
+    put_now : orders.put_on y b ≡ k ∷ [] → (orders.put_on y b ≡ []) ⊎ ((j : ℕ) × (orders.put_on y b ≡ j ∷ []) × MayPut w n y j × (MayPut u n y j → ⊥)) → ⊥
+    put_now put (inl none) = no-head k (sym none ∙ put)
+    put_now put (inr r) = r.3 (subst (MayPut u n y) (sym (head-is r.0 k (sym r.1 ∙ put))) may)
+
+-- what is put there was not delivered
+put-new : (w u : World) (node n : ℕ) (m : Moment) (y : Way) → IsBeat w (Makes node m) u → Fits w → IsAt w.state.fixed.ports y.sender n → Fresh w n y
+    → (j : ℕ) → put_on y m ≡ j ∷ [] → w.state.delivered y j ≡ false
+put-new w u node n m y beat fits at fresh j e = not-true (w.state.delivered y j) (λ was. put_now was used.uses)
+  where
+    used : Uses w u n y (orders.put_on y (Makes node m))
+    used = beat-uses w u (Makes node m) n y beat fits at
+
+    put_now : w.state.delivered y j ≡ true
+        → (orders.put_on y (Makes node m) ≡ []) ⊎ ((k : ℕ) × (orders.put_on y (Makes node m) ≡ k ∷ []) × MayPut w n y k × (MayPut u n y k → ⊥)) → ⊥
+    put_now was (inl none) = no-head j (sym none ∙ same-put node y m ∙ e)
+    put_now was (inr r) = fresh j was (subst (MayPut w n y) (head-is r.0 j (sym r.1 ∙ same-put node y m ∙ e)) r.2)
+
+-- ---- releases
+
+call-release : (doing : ℕ → Option Doing) (node n : ℕ) (o : Option Doing) → CallRelease o → CallRelease (doing n) → CallRelease (put_at doing node o n)
+call-release doing node n o p q = by_case (n == node)
+  where
+    by_case : (b : Bool) → CallRelease (if b then o else doing n)
+    by_case true = p
+    by_case false = q
+
+beat-releases : (w u : World) (b : Beat) → IsBeat w b u → Fits w → ((k : ℕ) → CallRelease (w.doing k)) → (k : ℕ) → CallRelease (u.doing k)
+beat-releases w u (Begins node call c) beat fits p k =
+    subst (λ (v : World). CallRelease (v.doing k)) (sym beat.2)
+    (call-release w.doing node k (Some (wire_start w.state node c call))
+    (wire_start-well w.state node c call (record { sender = 0; receiver = 0; lane = 0 }) (fits.handles node) (begin-none w node call beat.0).1).release (p k))
+beat-releases w u (Makes node m) beat fits p k =
+    subst (λ (v : World). CallRelease (v.doing k)) (sym beat.5)
+    (call-release w.doing node k (Some (next w.state node beat.1 m).after)
+    (next-release w.state node beat.1 m beat.4 (release-is (w.doing node) beat.1 beat.2 (p node))) (p k))
+beat-releases w u (Ends node reply payload) beat fits p k =
+    subst (λ (v : World). CallRelease (v.doing k)) (sym beat.7) (call-release w.doing node k None tt (p k))
+beat-releases w u (Dies node) beat fits p k = subst (λ (v : World). CallRelease (v.doing k)) (sym beat.1) (p k)
+
+-- ---- the record and its size
+
+-- where the state, what is had and what is emptied stay
+begun-balanced : (w : World) (node n r : ℕ) (d : Doing) (y : Way) → w.doing node ≡ None → IsAt w.state.fixed.ports y.receiver r → IsLive w.state.fixed y
+    → BeginsWell w.state.fixed node y d → Balanced w.state.fixed w.state w.doing y n r → Balanced w.state.fixed w.state (put_at w.doing node (Some d)) y n r
+begun-balanced w node n r d y idle there live well p = record {
+  counts = λ k. subst (λ ks. out (is k) w.state y ks ≡ one_if (w.state.delivered y k)) (sym (had (r == node) refl)) (p.counts k);
+  size =
+      subst (λ ks. out any w.state y ks ≤ buffer_on w.state.fixed y + borrow_limit_on w.state.fixed y
+      + one_if (not (emptied_of w.state.fixed y (put_at w.doing node (Some d) n)))) (sym (had (r == node) refl))
+      (subst (λ b. out any w.state y (had_of w.state.fixed w.doing y r) ≤ buffer_on w.state.fixed y + borrow_limit_on w.state.fixed y + one_if (not b))
+      (sym (emptied (n == node) refl)) p.size);
+}
+  where
+    had : (b : Bool) → (r == node) ≡ b
+        → held_on y (w.state.fixed.handles r) (if b then Some d else w.doing r) ≡ held_on y (w.state.fixed.handles r) (w.doing r)
+    had true e =
+        let same : r ≡ node = eqb-true r node e in
+        subst (λ j. held_on y (w.state.fixed.handles j) (Some d) ≡ held_on y (w.state.fixed.handles j) None) (sym same)
+        (well.held (live-receiver w.state.fixed y node live (there ∙ same)))
+        ∙ ap (held_on y (w.state.fixed.handles r)) (sym (ap w.doing same ∙ idle))
+    had false e = refl
+
+    emptied : (b : Bool) → (n == node) ≡ b → emptied_of w.state.fixed y (if b then Some d else w.doing n) ≡ emptied_of w.state.fixed y (w.doing n)
+    emptied true e = well.empties ∙ ap (emptied_of w.state.fixed y) (sym (ap w.doing (eqb-true n node e) ∙ idle))
+    emptied false e = refl
+
+over-balanced : (w : World) (node n r : ℕ) (payload : List ℕ) (d : Doing) (o : Outcome) (y : Way) → Fits w → w.doing node ≡ Some d
+    → FitsOutcome (view w.state.fixed node) node o → ends w.state d ≡ Some o → IsLive (settled w.state node payload o).fixed y
+    → Balanced w.state.fixed w.state w.doing y n r
+    → Balanced (settled w.state node payload o).fixed (settled w.state node payload o) (put_at w.doing node None) y n r
+over-balanced w node n r payload d o y fits at_work f ended live p = record {
+  counts = λ k. outs (is k) ∙ p.counts k ∙ ap one_if (sym (over-record w.state node payload o y fits.wire fits.own f live k));
+  size =
+      subst (λ a. a ≤ buffer_on after.fixed y + borrow_limit_on after.fixed y + one_if (not (emptied_of after.fixed y (put_at w.doing node None n)))) (sym (outs any))
+      (subst (λ a. before ≤ a + borrow_limit_on after.fixed y + one_if (not (emptied_of after.fixed y (put_at w.doing node None n)))) (sym buffers)
+      (subst (λ a. before ≤ buffer_on w.state.fixed y + a + one_if (not (emptied_of after.fixed y (put_at w.doing node None n)))) (sym limits)
+      (sized (n == node) refl)));
+}
+  where
+    after : State
+    after = settled w.state node payload o
+
+    before : ℕ
+    before = out any w.state y (had_of w.state.fixed w.doing y r)
+
+    buffers : buffer_on after.fixed y ≡ buffer_on w.state.fixed y
+    buffers = ap (λ (u : View). buffer_of u.limits (role_in u.ports y.sender)) (settled-else w.state node (node + 1) payload o fits.wire (fits.handles node) f (next-node node))
+
+    limits : borrow_limit_on after.fixed y ≡ borrow_limit_on w.state.fixed y
+    limits =
+        ap (λ (u : View). borrow_limit_of u.limits (other_role (role_in u.ports y.receiver)))
+        (settled-else w.state node (node + 1) payload o fits.wire (fits.handles node) f (next-node node))
+
+    had : (b : Bool) → (r == node) ≡ b → held_on y (after.fixed.handles r) (if b then None else w.doing r) ≡ held_on y (w.state.fixed.handles r) (w.doing r)
+    had true e =
+        let same : r ≡ node = eqb-true r node e in
+        subst (λ j. held_on y (after.fixed.handles j) None ≡ held_on y (w.state.fixed.handles j) (w.doing j)) (sym same)
+        (ap (λ (u : View). held_on y u.handles None) (settled-here w.state node payload o fits.wire (fits.handles node) f)
+        ∙ over-held (view w.state.fixed node) node payload o y (fits.handles node) f
+        ∙ sym (ended-held w.state d o y (w.state.fixed.handles node) ended) ∙ ap (held_on y (w.state.fixed.handles node)) (sym at_work))
+    had false e =
+        ap (λ (u : View). held_on y u.handles (w.doing r)) (settled-else w.state node r payload o fits.wire (fits.handles node) f e)
+
+    outs : (value : ℕ → Bool) → out value after y (had_of after.fixed (put_at w.doing node None) y r) ≡ out value w.state y (had_of w.state.fixed w.doing y r)
+    outs value =
+        ap (λ ks. out value after y ks) (had (r == node) refl)
+        ∙ ap (λ (g : Way → List Message). count value (serials_of (g y)) + count value (had_of w.state.fixed w.doing y r) + count value (after.returned y) + count value (after.in_hand y))
+        (settled_same w.state node payload o fits.wire).waiting
+        ∙ ap (λ (g : Way → List ℕ). count value (serials_of (w.state.waiting y)) + count value (had_of w.state.fixed w.doing y r) + count value (g y) + count value (after.in_hand y))
+        (settled_same w.state node payload o fits.wire).returned
+        ∙ ap (λ (g : Way → List ℕ). count value (serials_of (w.state.waiting y)) + count value (had_of w.state.fixed w.doing y r) + count value (w.state.returned y) + count value (g y))
+        (settled_same w.state node payload o fits.wire).in_hand
+
+    more : (a b c : ℕ) (e : Bool) → a ≤ b + c + one_if e → a ≤ b + c + 1
+    more a b c true q = q
+    more a b c false q = omega arith
+
+    same_call : (o' : Option Doing) → view after.fixed n ≡ view w.state.fixed n → FitsCall (view w.state.fixed n) n o'
+        → emptied_of after.fixed y o' ≡ emptied_of w.state.fixed y o'
+    same_call None same q = refl
+    same_call (Some e) same q = same-empties after.fixed w.state.fixed n y e same q
+
+    sized : (b : Bool) → (n == node) ≡ b
+        → before ≤ buffer_on w.state.fixed y + borrow_limit_on w.state.fixed y + one_if (not (emptied_of after.fixed y (if b then None else w.doing n)))
+    sized true e = more before (buffer_on w.state.fixed y) (borrow_limit_on w.state.fixed y) (not (emptied_of w.state.fixed y (w.doing n))) p.size
+    sized false e =
+        subst (λ b. before ≤ buffer_on w.state.fixed y + borrow_limit_on w.state.fixed y + one_if (not b))
+        (sym (same_call (w.doing n) (settled-else w.state node n payload o fits.wire (fits.handles node) f e) (fits.doing n))) p.size
+
+beat-balanced : (w u : World) (b : Beat) (n r : ℕ) (y : Way) → IsBeat w b u → Fits w → IsAt w.state.fixed.ports y.sender n → IsAt w.state.fixed.ports y.receiver r
+    → Ledger w y n r → IsLive u.state.fixed y → Balanced u.state.fixed u.state u.doing y n r
+beat-balanced w u (Begins node call c) n r y beat fits at there p live =
+    subst (λ (v : World). Balanced v.state.fixed v.state v.doing y n r) (sym beat.2)
+    (begun-balanced w node n r (wire_start w.state node c call) y (begin-none w node call beat.0).0 there now
+    (wire_start-well w.state node c call y (fits.handles node) (begin-none w node call beat.0).1) (p.balanced now))
+  where
+    now : IsLive w.state.fixed y
+    now = subst (λ (v : World). IsLive v.state.fixed y) beat.2 live
+beat-balanced w u (Makes node m) n r y beat fits at there p live =
+    subst (λ (v : World). Balanced v.state.fixed v.state v.doing y n r) (sym beat.5)
+    (subst (λ f. Balanced f (moved w.state m) (put_at w.doing node (Some (next w.state node beat.1 m).after)) y n r) (sym (moved-fixed w.state m))
+    (moved-balanced w node n r beat.1 m y fits beat.2 beat.3 beat.4 at there now (p.releases r) p.holding (p.borrows r)
+    (put-new w u node n m y beat fits at p.fresh) (p.balanced now)))
+  where
+    now : IsLive w.state.fixed y
+    now = subst (λ f. IsLive f y) (moved-fixed w.state m) (subst (λ (v : World). IsLive v.state.fixed y) beat.5 live)
+beat-balanced w u (Ends node reply payload) n r y beat fits at there p live =
+    subst (λ (v : World). Balanced v.state.fixed v.state v.doing y n r) (sym beat.7)
+    (over-balanced w node n r payload beat.1 beat.3 y fits beat.2 f beat.4 now
+    (p.balanced (over-live w.state node payload beat.3 y fits.wire (fits.handles node) f now)))
+  where
+    f : FitsOutcome (view w.state.fixed node) node beat.3
+    f = ends-fits w.state node beat.1 beat.3 (doing-is w node beat.1 fits beat.2) beat.4
+
+    now : IsLive (settled w.state node payload beat.3).fixed y
+    now = subst (λ (v : World). IsLive v.state.fixed y) beat.7 live
+beat-balanced w u (Dies node) n r y beat fits at there p live =
+    subst (λ (v : World). Balanced v.state.fixed v.state v.doing y n r) (sym beat.1) (record { counts = q.counts; size = q.size })
+  where
+    q : Balanced w.state.fixed w.state w.doing y n r
+    q = p.balanced (subst (λ (v : World). IsLive v.state.fixed y) beat.1 live)
+
+pub beat-ledger : (w u : World) (b : Beat) (n r : ℕ) (y : Way) → IsBeat w b u → Fits w → IsAt w.state.fixed.ports y.sender n
+    → IsAt w.state.fixed.ports y.receiver r → Ledger w y n r → Ledger u y n r
+beat-ledger w u b n r y beat fits at there p = record {
+  holding = beat-holding w u b n y beat fits at p.holding;
+  borrows = beat-borrows w u b beat fits p.borrows;
+  releases = beat-releases w u b beat fits p.releases;
+  fresh = beat-fresh w u b n y beat fits at p.fresh;
+  balanced = beat-balanced w u b n r y beat fits at there p;
+}

@@ -1,0 +1,166 @@
+-- As many are outstanding as are out: the record has no serial that its sender did not loan.
+use Rattle.std.specs.Prelude.{◌≡◌, ℕ, zero, suc, ◌+◌, ◌<◌, ◌≤◌, Bool, true, false, if◌then◌else◌, ◌==◌, nat_le, List, [], ◌∷◌, length, Option, Some, None, ◌⊎◌, refl}
+use Rattle.std.specs.List.{range_with_len}
+use Rattle.std.proofs.Common.{sym, subst, ap, ◌∙◌, arith, eqb-true, eq-eqb, inl, inr}
+use Rattle.iox_model.specs.declared.way.Way.{Way}
+use Rattle.iox_model.specs.Doings.{Sending, Doing, Delivering, Evicted}
+use Rattle.iox_model.specs.Maps.{without_number}
+use Rattle.iox_model.specs.Outstandings.{outstanding_on}
+use Rattle.iox_model.specs.Weaves.{World}
+use Rattle.iox_ledger.specs.LedgerLaws.{out_on, OutstandingIsCounted}
+use Rattle.iox_ledger.proofs.Lists.{IsAmong, NoRepeats, never, filter-among, among-filter, number-among, among-number, distinct-no_repeats, no_repeats-filter}
+use Rattle.iox_ledger.proofs.Views.{View, view, node_in, mine}
+use Rattle.iox_ledger.proofs.Senders.{FitsHandles, FitsSending, Stands}
+use Rattle.iox_ledger.proofs.Worlds.{FitsCall}
+use Rattle.iox_ledger.proofs.Once.{HasPassed, PassedBy}
+use Rattle.iox_ledger.proofs.Borrows.{count}
+use Rattle.iox_ledger.proofs.Tallies.{count-all}
+use Rattle.iox_ledger.proofs.Balance.{any}
+use Rattle.iox_ledger.proofs.LedgerHolds.{Holds, holds-in-the-end, length-out, count-out, out_once, record_is_what_is_out}
+
+-- ---- lists with the same numbers
+
+one-less : (k : ℕ) (ks : List ℕ) → IsAmong k ks → length ks ≡ suc (length (without_number k ks))
+one-less k [] a = absurd a
+one-less k (j ∷ js) (inl e) = first (j == k) (eq-eqb j k (sym e))
+  where
+    first : (b : Bool) → b ≡ true → suc (length js) ≡ suc (length (if b then js else j ∷ without_number k js))
+    first true e = refl
+    first false e = never false e refl
+one-less k (j ∷ js) (inr a) = by_case (j == k) (one-less k js a)
+  where
+    by_case : (b : Bool) → length js ≡ suc (length (without_number k js)) → suc (length js) ≡ suc (length (if b then js else j ∷ without_number k js))
+    by_case true rest = refl
+    by_case false rest = ap suc rest
+
+other-stays : (k i : ℕ) (ks : List ℕ) → IsAmong i ks → (i ≡ k → ⊥) → IsAmong i (without_number k ks)
+other-stays k i [] a apart = absurd a
+other-stays k i (j ∷ js) a apart = by_case (j == k) (eqb-true j k) (λ b. other-stays k i js b apart) a
+  where
+    by_case : (b : Bool) → (b ≡ true → j ≡ k) → (IsAmong i js → IsAmong i (without_number k js)) → IsAmong i (j ∷ js)
+        → IsAmong i (if b then js else j ∷ without_number k js)
+    by_case true same rest (inl e) = absurd (apart (e ∙ same refl))
+    by_case true same rest (inr q) = q
+    by_case false same rest (inl e) = inl e
+    by_case false same rest (inr q) = inr (rest q)
+
+-- a list without repeats is no longer than one that has all its numbers
+no-longer : (xs ys : List ℕ) → NoRepeats xs → ((k : ℕ) → IsAmong k xs → IsAmong k ys) → length xs ≤ length ys
+no-longer [] ys apart all = omega arith
+no-longer (x ∷ xs) ys apart all =
+    more (length xs) (length (without_number x ys)) (length ys)
+    (no-longer xs (without_number x ys) apart.1 (λ k a. other-stays x k ys (all k (inr a)) (λ e. apart.0 (subst (λ j. IsAmong j xs) e a))))
+    (one-less x ys (all x (inl refl)))
+  where
+    more : (a b c : ℕ) → a ≤ b → c ≡ suc b → suc a ≤ c
+    more a b c p q = omega arith
+
+-- ---- ranges
+
+range-above : (a n k : ℕ) → IsAmong k (range_with_len a n) → a ≤ k
+range-above a zero k p = absurd p
+range-above a (suc n) k (inl e) = omega arith
+range-above a (suc n) k (inr p) = less (range-above (a + 1) n k p)
+  where
+    less : a + 1 ≤ k → a ≤ k
+    less q = omega arith
+
+range-apart : (a n : ℕ) → NoRepeats (range_with_len a n)
+range-apart a zero = tt
+range-apart a (suc n) = (λ p. beyond (range-above (a + 1) n a p), range-apart (a + 1) n)
+  where
+    beyond : a + 1 ≤ a → ⊥
+    beyond q = omega arith
+
+range-has : (a n k : ℕ) → a ≤ k → k < a + n → IsAmong k (range_with_len a n)
+range-has a zero k p q = absurd (omega arith)
+range-has a (suc n) k p q = by_case (a == k) refl (range-has (a + 1) n k)
+  where
+    next : (a == k) ≡ false → a + 1 ≤ k
+    next e = grind (arith)
+
+    shift : k < a + 1 + n
+    shift = omega arith
+
+    by_case : (b : Bool) → (a == k) ≡ b → (a + 1 ≤ k → k < a + 1 + n → IsAmong k (range_with_len (a + 1) n)) → (k ≡ a) ⊎ IsAmong k (range_with_len (a + 1) n)
+    by_case true e rest = inl (sym (eqb-true a k e))
+    by_case false e rest = inr (rest (next e) shift)
+
+-- ---- what is delivered was loaned
+
+-- the message of a send under way is one that its port loaned, or loans next
+passed-below : (v : View) (n k : ℕ) (y : Way) (x : Sending) (left : List Way) → FitsHandles v n → FitsSending v n x → HasPassed y k x left → k ≤ v.loans y.sender
+passed-below v n k y x left fits p passed =
+    subst (λ q. k ≤ v.loans q) passed.0 (subst (λ j. j ≤ v.loans x.loan.port) passed.1 (by_case x.copied (p.loan).stands))
+  where
+    equal : (a b : ℕ) → a ≡ b → a ≤ b
+    equal a b e = omega arith
+
+    below : (a b : ℕ) → a < b → a ≤ b
+    below a b e = omega arith
+
+    by_case : (b : Bool) → Stands v x.loan b → x.loan.message.serial ≤ v.loans x.loan.port
+    by_case true q = equal x.loan.message.serial (v.loans x.loan.port) q.0
+    by_case false a = below x.loan.message.serial (v.loans x.loan.port) (fits.lent x.loan a (p.loan).loan)
+
+call-below : (v : View) (n k : ℕ) (y : Way) (o : Option Doing) → FitsHandles v n → FitsCall v n o → PassedBy y k o → k ≤ v.loans y.sender
+call-below v n k y None fits p passed = absurd passed
+call-below v n k y (Some (Delivering x last left count)) fits p passed = passed-below v n k y x left fits p.0 passed
+call-below v n k y (Some (Evicted x w left count)) fits p passed = passed-below v n k y x left fits p.0 passed
+call-below v n k y (Some d) fits p passed = absurd passed
+
+delivered-below : (v : World) (y : Way) (n r k : ℕ) → Holds v y n r → v.state.delivered y k ≡ true → k ≤ v.state.fixed.loans y.sender
+delivered-below v y n r k p e = by_case (nat_le k (v.state.fixed.loans y.sender)) refl
+  where
+    loans : (view v.state.fixed n).loans y.sender ≡ v.state.fixed.loans y.sender
+    loans = ap (λ (b : Bool). if b then v.state.fixed.loans y.sender else 0) (mine v.state.fixed.ports y.sender n p.sender)
+
+    at_most : (a b : ℕ) → nat_le a b ≡ true → a ≤ b
+    at_most a b h = grind (arith)
+
+    more : (a b c : ℕ) → nat_le a b ≡ false → c ≡ b → c ≤ a
+    more a b c h e = grind (arith)
+
+    not_both : (a b c : ℕ) → nat_le a b ≡ false → c ≡ b → a ≤ c → ⊥
+    not_both a b c h e q = grind (arith)
+
+    by_case : (b : Bool) → nat_le k (v.state.fixed.loans y.sender) ≡ b → k ≤ v.state.fixed.loans y.sender
+    by_case true h = at_most k (v.state.fixed.loans y.sender) h
+    by_case false h = absurd (p.ledger.fresh k e (
+      inl (more k (v.state.fixed.loans y.sender) ((view v.state.fixed n).loans y.sender) h loans),
+      λ passed. not_both k (v.state.fixed.loans y.sender) ((view v.state.fixed n).loans y.sender) h loans
+          (call-below (view v.state.fixed n) n k y (v.doing n) (p.fits.handles n) (p.fits.doing n) passed),
+    ))
+
+-- ---- the law
+
+pub outstanding_is_counted : OutstandingIsCounted
+outstanding_is_counted s v bs y on live =
+    equal (length (outstanding_on v.state y)) (length (out_on v y))
+    (no-longer (outstanding_on v.state y) (out_on v y) (no_repeats-filter (v.state.delivered y) numbers (range-apart 0 (v.state.fixed.loans y.sender + 1))) is_out)
+    (no-longer (out_on v y) (outstanding_on v.state y) (distinct-no_repeats (out_on v y) (out_once s v bs y on live)) is_outstanding)
+    ∙ sym (count-all (out_on v y)) ∙ count-out any v y ∙ length-out v y
+  where
+    numbers : List ℕ
+    numbers = range_with_len 0 (v.state.fixed.loans y.sender + 1)
+
+    equal : (a b : ℕ) → a ≤ b → b ≤ a → a ≡ b
+    equal a b p q = omega arith
+
+    is_out : (k : ℕ) → IsAmong k (outstanding_on v.state y) → IsAmong k (out_on v y)
+    is_out k a =
+        number-among k (out_on v y) (sym (record_is_what_is_out s v bs y k on live) ∙ (filter-among (v.state.delivered y) k numbers a).1)
+
+    below : (a b : ℕ) → a ≤ b → a < 0 + (b + 1)
+    below a b p = omega arith
+
+    least : (a : ℕ) → 0 ≤ a
+    least a = omega arith
+
+    is_outstanding : (k : ℕ) → IsAmong k (out_on v y) → IsAmong k (outstanding_on v.state y)
+    is_outstanding k a =
+        let e : v.state.delivered y k ≡ true = record_is_what_is_out s v bs y k on live ∙ among-number k (out_on v y) a in
+        among-filter (v.state.delivered y) k numbers
+        (range-has 0 (v.state.fixed.loans y.sender + 1) k (least k)
+        (below k (v.state.fixed.loans y.sender)
+        (delivered-below v y (node_in v.state.fixed.ports y.sender) (node_in v.state.fixed.ports y.receiver) k (holds-in-the-end s v bs y on) e))) e

@@ -1,0 +1,52 @@
+-- What is out on a way is what the sender's record says, and how much that may be.
+use Rattle.std.specs.Prelude.{◌≡◌, ℕ, ◌+◌, ◌≤◌, List, ◌++◌, length, IsTrue}
+use Rattle.iox_model.specs.declared.way.Way.{Way}
+use Rattle.iox_model.specs.Weaves.{World, Beat}
+use Rattle.iox_model.specs.States.{State}
+use Rattle.iox_model.specs.Ledgers.{had_on, is_live, size_of, room_of}
+use Rattle.iox_model.specs.Maps.{has_number, AreDistinct}
+use Rattle.iox_model.specs.Messages.{serials_of}
+use Rattle.iox_model.specs.Outstandings.{outstanding_on}
+use Rattle.iox_model.specs.Peers.{buffer_on, borrow_limit_on}
+use Rattle.iox_ledger.specs.OnceLaws.{IsOnWire}
+
+-- the serials that are out on the way: what waits, what the receiver has, what it gave back, and
+-- what the sender has in hand
+abbrev pub out_on : World → Way → List ℕ
+out_on v y =
+    serials_of (v.state.waiting y) ++ (had_on v y ++ (v.state.returned y ++ v.state.in_hand y))
+
+-- On a live way each message is out once: it waits, or is had, or was given back, or is in hand.
+abbrev pub OutOnce : Type 0
+OutOnce =
+    (s : State) (v : World) (bs : List Beat) (y : Way) → IsOnWire s bs v
+    → IsTrue (is_live v.state.fixed y) → AreDistinct (out_on v y)
+
+-- What the sender counts as delivered and not got back is just what is out.
+abbrev pub RecordIsWhatIsOut : Type 0
+RecordIsWhatIsOut =
+    (s : State) (v : World) (bs : List Beat) (y : Way) (k : ℕ) → IsOnWire s bs v
+    → IsTrue (is_live v.state.fixed y) → v.state.delivered y k ≡ has_number k (out_on v y)
+
+-- As many are outstanding as wait, are had, were given back and are in hand,
+abbrev pub OutstandingIsCounted : Type 0
+OutstandingIsCounted =
+    (s : State) (v : World) (bs : List Beat) (y : Way) → IsOnWire s bs v
+    → IsTrue (is_live v.state.fixed y)
+    → length (outstanding_on v.state y) ≡ size_of v y + length (v.state.in_hand y)
+
+-- and they are no more than the buffer and the borrow limit, and one more where the sender's call
+-- did not empty the way.
+abbrev pub LedgerStaysWithin : Type 0
+LedgerStaysWithin =
+    (s : State) (v : World) (bs : List Beat) (y : Way) → IsOnWire s bs v
+    → IsTrue (is_live v.state.fixed y)
+    → size_of v y + length (v.state.in_hand y) ≤ room_of v y
+
+-- So a queue of the buffer, the borrow limit and one more takes all that is given back.
+abbrev pub ReturnsFit : Type 0
+ReturnsFit =
+    (s : State) (v : World) (bs : List Beat) (y : Way) → IsOnWire s bs v
+    → IsTrue (is_live v.state.fixed y)
+    → length (v.state.returned y)
+    ≤ buffer_on v.state.fixed y + borrow_limit_on v.state.fixed y + 1
