@@ -1,6 +1,6 @@
 -- A call that begins has something to do that can be done.
-use Rattle.std.specs.Prelude.{◌≡◌, ℕ, Bool, true, false, not, if◌then◌else◌, ◌==◌, List, [], ◌∷◌, ◌++◌, Option, Some, None, find, refl}
-use Rattle.std.specs.List.{list_all}
+use Rattle.std.specs.Prelude.{◌≡◌, ℕ, Bool, true, false, not, ◌&&◌, if◌then◌else◌, ◌==◌, List, [], ◌∷◌, ◌++◌, Option, Some, None, find, refl}
+use Rattle.std.specs.List.{list_any, list_all}
 use Rattle.std.specs.Option.{option_map_or}
 use Rattle.std.proofs.Common.{sym, subst, ap, ◌∙◌, true≢false, eqb-true}
 use Rattle.iox_model.specs.declared.kind.Role.TheVariants.{Client, Server}
@@ -18,19 +18,19 @@ use Rattle.iox_model.specs.States.{Port, Handle, Fixed, State}
 use Rattle.iox_model.specs.Loans.{loan_of, next_request, request_loan_refusal, response_loan_refusal, memory_refusal, lending_ways, unless_refused, Choice, Order}
 use Rattle.iox_model.specs.Handles.{same_kind, is_received, subject, handle_at, port_or_handle, kind_of, node_of, way_of, Subject, ThePort, TheHandle}
 use Rattle.iox_model.specs.Maps.{refused_if}
-use Rattle.iox_model.specs.Names.{suits, misnamed_by, is_port}
-use Rattle.iox_model.specs.Begins.{written, writes, reads, begins_at}
+use Rattle.iox_model.specs.Names.{suits, misnamed_by, misnamed, is_port}
+use Rattle.iox_model.specs.Begins.{written, writes, reads, begins_at, start}
 use Rattle.iox_model.specs.Commands.{Refusal, Call, WireCall, number_of}
 use Rattle.iox_model.specs.Settings.{is_client, is_count}
 use Rattle.iox_model.specs.Responses.{lends_response, lends_by, lends, copies, ordered, shape_for, lending}
 use Rattle.iox_model.specs.Messages.{request_way, response_way}
-use Rattle.iox_model.specs.Peers.{others, forgotten, port_at, node_of_port, forgot_port}
+use Rattle.iox_model.specs.Peers.{is_connected_port, others, forgotten, port_at, node_of_port, forgot_port}
 use Rattle.iox_model.specs.declared.kind.Kind.TheVariants as kinds
 use Rattle.iox_model.proofs.MapLemmas.{either}
 use Rattle.iox_model.proofs.PlayedRuns.{split}
 use Rattle.iox_model.proofs.WholeLemmas.{some-is, or_else-none}
-use Rattle.iox_reachable.proofs.WayLemmas.{all_map, from-lending}
-use Rattle.iox_reachable.proofs.Sound.{IsTo, IsOwn, has_own, Fits, IsWithin}
+use Rattle.iox_reachable.proofs.WayLemmas.{or-left, or-right, all_map, from-lending}
+use Rattle.iox_reachable.proofs.Sound.{IsTo, IsPortOf, is_port_of, IsOwn, has_own, Fits, IsWithin}
 use Rattle.iox_reachable.proofs.PortLemmas.{AreDistinctPorts}
 use Rattle.iox_reachable.proofs.Continues.{sends_fits, loaning_fits, visiting_fits, seeking_fits, closing_fits, checking_fits, hinting_fits}
 
@@ -56,11 +56,17 @@ found_too also test (y ∷ ys) x all e =
     either (λ o. o ≡ Some x → also x ≡ true) (test y) (Some y) (find test ys) (λ is p. ap also (sym (some-is y x p)) ∙ q.0)
     (λ other p. found_too also test ys x q.1 p) e
 
+found_any : {A : Type 0} (test : A → Bool) (xs : List A) (x : A) → find test xs ≡ Some x → list_any test xs ≡ true
+found_any test [] x e = none-some x e
+found_any test (y ∷ ys) x e =
+    either (λ o. o ≡ Some x → list_any test (y ∷ ys) ≡ true) (test y) (Some y) (find test ys)
+    (λ is p. or-left (test y) (list_any test ys) is) (λ other p. or-right (test y) (list_any test ys) (found_any test ys x p)) e
+
 -- ---- the subject of a call
 
 -- a port of the node, or a handle of the node that belongs to a port of the node
 abbrev pub IsSubject : Fixed → ℕ → Subject → Type 0
-IsSubject f node (ThePort p) = (p.node ≡ node) × (node_of_port f p.number ≡ node)
+IsSubject f node (ThePort p) = (p.node ≡ node) × IsPortOf f node p.number
 IsSubject f node (TheHandle h) = IsOwn f node h
 
 -- a port that has its number is at it
@@ -71,11 +77,23 @@ port_node : (f : Fixed) (n : ℕ) (p : Port) → port_at f n ≡ Some p → node
 port_node f n p e = ap (λ o. option_map_or (λ (q : Port). q.node) o 0) e
 
 port_subject : (f : Fixed) (node n : ℕ) (p : Port) → port_at f n ≡ Some p → p.node ≡ node → IsSubject f node (ThePort p)
-port_subject f node n p e of_node = (of_node, ap (node_of_port f) (port_number f n p e) ∙ port_node f n p e ∙ of_node)
+port_subject f node n p e of_node = (
+  of_node,
+  (
+    ap (λ k. list_any (λ q. q.number == k) f.ports) (port_number f n p e) ∙ found_any (λ q. q.number == n) f.ports p e,
+    ap (node_of_port f) (port_number f n p e) ∙ port_node f n p e ∙ of_node,
+  ),
+)
+
+pub port_of-is : (f : Fixed) (node port : ℕ) → is_port_of f node port ≡ true → IsPortOf f node port
+port_of-is f node port e =
+    let q : (is_connected_port f port ≡ true) × ((node_of_port f port == node) ≡ true)
+    = split (is_connected_port f port) (node_of_port f port == node) e in
+    (q.0, eqb-true (node_of_port f port) node q.1)
 
 handle_own : (f : Fixed) (node n : ℕ) (h : Handle) → has_own f node ≡ true → handle_at f node n ≡ Some h → h.node ≡ node → IsOwn f node h
 handle_own f node n h own e of_node =
-    (of_node, eqb-true (node_of_port f h.port) node (found_too (λ k. node_of_port f k.port == node) (λ k. k.number == n) (f.handles node) h own e))
+    (of_node, port_of-is f node h.port (found_too (λ k. is_port_of f node k.port) (λ k. k.number == n) (f.handles node) h own e))
 
 subject_is : (f : Fixed) (node n : ℕ) (p : Option Port) (h : Option Handle) (x : Subject) → has_own f node ≡ true
     → port_at f n ≡ p → handle_at f node n ≡ h → port_or_handle p h ≡ Some x → node_of x ≡ node → IsSubject f node x
@@ -89,7 +107,7 @@ subject_is f node n None None x own e g is of_node = none-some x is
 
 -- ---- loans
 
-loan_own : (f : Fixed) (node : ℕ) (p : Port) (o : Order) (client lane request : ℕ) → p.node ≡ node → node_of_port f p.number ≡ node
+loan_own : (f : Fixed) (node : ℕ) (p : Port) (o : Order) (client lane request : ℕ) → p.node ≡ node → IsPortOf f node p.number
     → IsOwn f node (loan_of f p o client lane request)
 loan_own f node p o client lane request of_node own = (of_node, own)
 
@@ -110,8 +128,8 @@ response_fits s node c h o (Some p) distinct own within e =
     unless_fits s node (response_loan_refusal s.fixed h p o.elements) (unless_refused (memory_refusal s c p.number) (lending s o.copies loan))
     (unless_fits s node (memory_refusal s c p.number) (lending s o.copies loan)
     (lending_fits s node o.copies loan distinct (
-      sym (port_node s.fixed h.port p e) ∙ own.1,
-      ap (node_of_port s.fixed) (port_number s.fixed h.port p e) ∙ own.1,
+      sym (port_node s.fixed h.port p e) ∙ own.1.1,
+      subst (IsPortOf s.fixed node) (sym (port_number s.fixed h.port p e)) own.1,
     ) within))
 
 lends_by_fits : (s : State) (node : ℕ) (c : Choice) (x : Subject) (o : Order) → AreDistinctPorts s.fixed → IsSubject s.fixed node x
@@ -166,12 +184,17 @@ releases_fits s node h =
     (λ v. closing_fits s node h (states_of s.fixed h)) (λ v. tt))
 
 -- no wire releases a port
-ports_stay : (n : ℕ) (p : Port) → suits true (Release n) (kind_of (ThePort p)) ≡ true → ⊥
-ports_stay n p e =
-    either (λ k. not (is_port k) ≡ true → ⊥) (is_client p.role) kinds.Client kinds.Server (λ u q. true≢false (sym q)) (λ u q. true≢false (sym q)) e
+ports_stay : (f : Fixed) (n : ℕ) (p : Port) → suits f.on_wire (Release n) (kind_of (ThePort p)) ≡ true → f.on_wire ≡ false
+ports_stay f n p e =
+    either (λ k. not (f.on_wire && is_port k) ≡ true → f.on_wire ≡ false) (is_client p.role) kinds.Client kinds.Server
+    (λ u q. no_wire f.on_wire q) (λ u q. no_wire f.on_wire q) e
+  where
+    no_wire : (b : Bool) → not (b && true) ≡ true → b ≡ false
+    no_wire true q = absurd (true≢false (sym q))
+    no_wire false q = refl
 
 begins_fit : (s : State) (node : ℕ) (c : Choice) (call : Call) (x : Subject) → AreDistinctPorts s.fixed → IsSubject s.fixed node x
-    → IsWithin s node None → suits true call (kind_of x) ≡ true → Fits s node (begins_at s c call x)
+    → IsWithin s node None → suits s.fixed.on_wire call (kind_of x) ≡ true → Fits s node (begins_at s c call x)
 begins_fit s node c (Loan n k) x distinct own within suited = lends_fits s node c x (ordered k false) distinct own within
 begins_fit s node c (LoanUninit n k) x distinct own within suited = lends_fits s node c x (ordered k true) distinct own within
 begins_fit s node c (Write n p) (TheHandle h) distinct own within suited = writes_fits s node h p.elements p.words own
@@ -179,7 +202,7 @@ begins_fit s node c (Send n) (TheHandle h) distinct own within suited = sends_fi
 begins_fit s node c (SendCopy n p) x distinct own within suited = copies_fits s node c x p.elements p.words distinct own within
 begins_fit s node c (Receive n) x distinct own within suited = receives_fits s node x own
 begins_fit s node c (Read n) (TheHandle h) distinct own within suited = reads_fits s node c h
-begins_fit s node c (Release n) (ThePort p) distinct own within suited = absurd (ports_stay n p suited)
+begins_fit s node c (Release n) (ThePort p) distinct own within suited = ports_stay s.fixed n p suited
 begins_fit s node c (Release n) (TheHandle h) distinct own within suited = releases_fits s node h
 begins_fit s node c (IsConnected n) (TheHandle h) distinct own within suited = checking_fits s node h false (states_of s.fixed h)
 begins_fit s node c (SetHint n) (TheHandle h) distinct own within suited = hinting_fits s node h (states_of s.fixed h)
@@ -194,21 +217,26 @@ passes : (b : Bool) (r : Refusal) → refused_if (not b) r ≡ None → b ≡ tr
 passes true r e = refl
 passes false r e = none-some r (sym e)
 
-start_at_fits : (s : State) (node : ℕ) (c : Choice) (call : Call) (x : Option Subject) → s.fixed.on_wire ≡ true → AreDistinctPorts s.fixed
+start_at_fits : (s : State) (node : ℕ) (c : Choice) (call : Call) (x : Option Subject) → AreDistinctPorts s.fixed
     → has_own s.fixed node ≡ true → IsWithin s node None → subject s.fixed node (number_of call) ≡ x → misnamed_by s.fixed node call x ≡ None
     → Fits s node (option_map_or (begins_at s c call) x (refused UnknownNumber))
-start_at_fits s node c call None wire distinct own within is named = tt
-start_at_fits s node c call (Some x) wire distinct own within is named =
+start_at_fits s node c call None distinct own within is named = tt
+start_at_fits s node c call (Some x) distinct own within is named =
     let q : (refused_if (not (node_of x == node)) ForeignNumber ≡ None) × (refused_if (not (suits s.fixed.on_wire call (kind_of x))) WrongKind ≡ None)
     = or_else-none _ _ named in
     begins_fit s node c call x distinct
     (subject_is s.fixed node (number_of call) (port_at s.fixed (number_of call)) (handle_at s.fixed node (number_of call)) x own refl refl is
     (eqb-true (node_of x) node (passes (node_of x == node) ForeignNumber q.0))) within
-    (subst (λ (b : Bool). suits b call (kind_of x) ≡ true) wire (passes (suits s.fixed.on_wire call (kind_of x)) WrongKind q.1))
+    (passes (suits s.fixed.on_wire call (kind_of x)) WrongKind q.1)
+
+-- A call that is not misnamed can be done, on a wire or not.
+pub call_fits : (s : State) (node : ℕ) (c : Choice) (call : Call) → AreDistinctPorts s.fixed → has_own s.fixed node ≡ true
+    → IsWithin s node None → misnamed s.fixed node call ≡ None → Fits s node (start s node c call)
+call_fits s node c call distinct own within named =
+    start_at_fits s node c call (subject s.fixed node (number_of call)) distinct own within refl named
 
 -- What begins unrefused can be done.
-pub start_fits : (s : State) (node : ℕ) (c : Choice) (call : WireCall) → s.fixed.on_wire ≡ true → AreDistinctPorts s.fixed
+pub start_fits : (s : State) (node : ℕ) (c : Choice) (call : WireCall) → AreDistinctPorts s.fixed
     → has_own s.fixed node ≡ true → IsWithin s node None → miscalled s node call ≡ None → Fits s node (wire_start s node c call)
-start_fits s node c (wire_calls.Port call) wire distinct own within named =
-    start_at_fits s node c call (subject s.fixed node (number_of call)) wire distinct own within refl named
-start_fits s node c (Forget dead) wire distinct own within named = tt
+start_fits s node c (wire_calls.Port call) distinct own within named = call_fits s node c call distinct own within named
+start_fits s node c (Forget dead) distinct own within named = tt

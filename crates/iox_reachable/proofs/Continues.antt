@@ -20,12 +20,12 @@ use Rattle.iox_model.specs.Messages.{request_way, response_way, names, Message}
 use Rattle.iox_model.specs.Looks.{checking, checked, hinting, is_shown}
 use Rattle.iox_model.specs.Outstandings.{kept, is_dry}
 use Rattle.iox_model.specs.Responses.{asked, sends, sends_response, loaning}
-use Rattle.iox_model.specs.Peers.{role_at, node_of_port, forgot_port, others, buffer_on, overflows_on}
+use Rattle.iox_model.specs.Peers.{role_at, forgot_port, others, buffer_on, overflows_on}
 use Rattle.iox_model.proofs.MapLemmas.{either}
 use Rattle.iox_model.proofs.Plays.{has_room}
-use Rattle.iox_reachable.proofs.WayLemmas.{not_in-has, apart-not_in, apart-requests, from_map, from-targets, to_has, by_cases, or-rest}
-use Rattle.iox_reachable.proofs.PortLemmas.{AreDistinctPorts, distinct-others, known_others}
-use Rattle.iox_reachable.proofs.Sound.{AreFrom, AreKnown, AreTo, IsTo, IsOwn, HaveRoom, IsSending, Fits, IsWithin}
+use Rattle.iox_reachable.proofs.WayLemmas.{not_in-has, apart-not_in, apart-requests, from_map, from-targets}
+use Rattle.iox_reachable.proofs.PortLemmas.{AreDistinctPorts, distinct-others}
+use Rattle.iox_reachable.proofs.Sound.{AreFrom, AreTo, IsTo, IsPortOf, IsOwn, HaveRoom, IsSending, Fits, IsWithin}
 
 -- ---- how many wait
 
@@ -51,7 +51,6 @@ opening_fits s node x [] full own rooms = (
   apart-not_in full (targets x) own.2,
   rooms,
   tt,
-  (λ v there. own.3 v (not_in-has v full (targets x) there).0),
 )
 opening_fits s node x (w ∷ left) full own rooms = (own, refl, rooms)
 
@@ -70,7 +69,7 @@ rooms_within s node x own over within v there =
     let from : v.sender ≡ x.loan.port = from-targets x v there in
     one_more (length (s.waiting v)) (buffer_on s.fixed v) (overflows_on s.fixed v)
     (ap (λ port. overflow_of s.fixed.limits (role_at s.fixed port)) from ∙ sym own.1 ∙ over)
-    (within v (ap (node_of_port s.fixed) from ∙ own.0.1))
+    (within v (subst (IsPortOf s.fixed node) (sym from) own.0.1))
 
 pub emptying_fits : (s : State) (node : ℕ) (x : Sending) (left : List Way) → IsSending s.fixed node x → IsWithin s node None
     → AreFrom x.loan.port left → Fits s node (emptying x left)
@@ -91,20 +90,6 @@ apart_response f h copied =
     either AreApart (is_request_loan h.kind) (map (request_way h.port) (h.client ∷ [])) (map (λ client. response_way client h.lane h.port) (h.client ∷ []))
     (λ u. (refl, tt)) (λ u. (refl, tt))
 
--- the node forgot none of those that the message goes to
-known_targets : (f : Fixed) (node : ℕ) (h : Handle) (copied : Bool) (to : List ℕ)
-    → ((n : ℕ) → has_number n to ≡ true → forgot_port f node n ≡ false) → AreKnown f node (targets (sending_of f h copied to))
-known_targets f node h copied to known =
-    either (AreKnown f node) (is_request_loan h.kind) (map (request_way h.port) to) (map (λ client. response_way client h.lane h.port) to)
-    (λ u v there. known v.receiver (to_has (request_way h.port) (λ n. refl) to v there))
-    (λ u v there. known v.receiver (to_has (λ client. response_way client h.lane h.port) (λ n. refl) to v there))
-
-known_alone : (f : Fixed) (node client : ℕ) → forgot_port f node client ≡ false → (n : ℕ) → has_number n (client ∷ []) ≡ true
-    → forgot_port f node n ≡ false
-known_alone f node client known n e =
-    by_cases (client == n) (λ same. subst (λ k. forgot_port f node k ≡ false) (eqb-true client n same) known)
-    (λ other. absurd (true≢false (sym (or-rest (client == n) false e other))))
-
 pub sends_fits : (s : State) (node : ℕ) (h : Handle) (copied : Bool) → AreDistinctPorts s.fixed → IsOwn s.fixed node h
     → IsWithin s node None → Fits s node (sends s.fixed h copied)
 sends_fits s node h copied distinct own within =
@@ -116,8 +101,6 @@ sends_fits s node h copied distinct own within =
       own,
       refl,
       apart_request s.fixed h copied to is (distinct-others s.fixed h.node Server distinct),
-      known_targets s.fixed node h copied to
-          (λ n there. subst (λ k. forgot_port s.fixed k n ≡ false) own.0 (known_others s.fixed h.node Server n distinct there)),
     ) within
     (from_map h.port (request_way h.port) (λ n. refl) to)))
     (λ no. either (Fits s node) (has_number h.client (others s.fixed h.node Client)) (Asking (sending_of s.fixed h copied (h.client ∷ [])))
@@ -126,9 +109,6 @@ sends_fits s node h copied distinct own within =
       own,
       refl,
       apart_response s.fixed h copied,
-      known_targets s.fixed node h copied (h.client ∷ [])
-          (known_alone s.fixed node h.client
-          (subst (λ k. forgot_port s.fixed k h.client ≡ false) own.0 (known_others s.fixed h.node Client h.client distinct there))),
     ))
     (λ u. own))
 
@@ -149,13 +129,13 @@ loaning_fits s node copies h (w ∷ left) distinct own within from = (own, from,
 
 -- ---- a receive
 
-pub visiting_fits : (s : State) (node : ℕ) (x : Receiver) (left : List Way) (seen : Bool) → node_of_port s.fixed x.port ≡ node
+pub visiting_fits : (s : State) (node : ℕ) (x : Receiver) (left : List Way) (seen : Bool) → IsPortOf s.fixed node x.port
     → AreTo x left → Fits s node (visiting x left seen)
 visiting_fits s node x [] seen own to = tt
 visiting_fits s node x (w ∷ left) seen own to = (own, refl, to)
 
 pub took_fits : (s : State) (node : ℕ) (x : Receiver) (w : Way) (m : Message) (left : List Way) (seen : Bool)
-    → node_of_port s.fixed x.port ≡ node → IsTo x w → AreTo x left → Fits s node (took s.fixed node x w m left seen)
+    → IsPortOf s.fixed node x.port → IsTo x w → AreTo x left → Fits s node (took s.fixed node x w m left seen)
 took_fits s node x w m left seen own here to =
     either (Fits s node) (is_client x.role) (took_response s.fixed node x w m left seen) (took_request s.fixed x w m left seen)
     (λ u. either (Fits s node) (m.request == x.request) (Ended (Receives x w m)) (stale s.fixed node x w m left seen)
@@ -166,7 +146,7 @@ took_fits s node x w m left seen own here to =
     (λ v. (own, here, λ client. absurd (true≢false (sym client ∙ server)))) (λ v. (own, here, to, server)))
 
 pub judged_fits : (s : State) (node : ℕ) (x : Receiver) (w : Way) (m : Message) (left : List Way) (seen : Bool) (shown : RequestState)
-    → node_of_port s.fixed x.port ≡ node → IsTo x w → AreTo x left → is_client x.role ≡ false → Fits s node (judged x w m left seen shown)
+    → IsPortOf s.fixed node x.port → IsTo x w → AreTo x left → is_client x.role ≡ false → Fits s node (judged x w m left seen shown)
 judged_fits s node x w m left seen shown own here to server =
     either (Fits s node) (names shown m.request) (Ended (Receives x w m)) (Stale x w m left seen)
     (λ v. (own, here, λ client. absurd (true≢false (sym client ∙ server)))) (λ v. (own, here, to))

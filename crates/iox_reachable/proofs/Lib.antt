@@ -13,4 +13,3 @@ pub mod Reached
 pub mod Waiting
 pub mod Alone
 pub mod Endings
-pub mod Cleared

@@ -16,9 +16,8 @@ use Rattle.iox_model.proofs.CallLaws.{not-true}
 use Rattle.iox_model.proofs.MapLemmas.{either, same_way-refl, same_way-true, put_there, put-else, eqb-refl}
 use Rattle.iox_model.proofs.WholeLemmas.{moved-fixed}
 use Rattle.iox_reachable.proofs.WayLemmas.{by_cases, false_if}
-use Rattle.iox_reachable.specs.Waits.{last_of}
-use Rattle.iox_reachable.proofs.Sound.{IsLast, IsSending, Fits, IsWithin}
-use Rattle.iox_reachable.proofs.Kept.{Leaves}
+use Rattle.iox_reachable.proofs.Sound.{IsPortOf, IsLast, IsSending, Fits, last_of, IsWithin}
+use Rattle.iox_reachable.proofs.Kept.{Leaves, from_own}
 use Rattle.iox_reachable.proofs.Continues.{within_any}
 
 -- ---- how many wait after a moment
@@ -62,45 +61,42 @@ no_more s (Look w shown) v p = le-refl (length (s.waiting v))
 
 -- it delivers, evicts and gets back on its own ways alone
 abbrev IsOwnTouch : Fixed → ℕ → Moment → Type 0
-IsOwnTouch f node (Deliver w m) = node_of_port f w.sender ≡ node
-IsOwnTouch f node (Evict w) = node_of_port f w.sender ≡ node
-IsOwnTouch f node (GetBack w k) = node_of_port f w.sender ≡ node
+IsOwnTouch f node (Deliver w m) = IsPortOf f node w.sender
+IsOwnTouch f node (Evict w) = IsPortOf f node w.sender
+IsOwnTouch f node (GetBack w k) = IsPortOf f node w.sender
 IsOwnTouch f node m = Unit {0}
-
-pub own_way : (f : Fixed) (node port : ℕ) (v : Way) → node_of_port f port ≡ node → v.sender ≡ port → node_of_port f v.sender ≡ node
-own_way f node port v own is = ap (node_of_port f) is ∙ own
 
 pub last_is : (x : Sending) (w : Way) (last : Option Way) → is_last w last ≡ true → IsLast x last → w.sender ≡ x.loan.port
 last_is x w None e from = absurd (true≢false (sym e))
 last_is x w (Some v) e from = ap (λ (u : Way). u.sender) (same_way-true w v e) ∙ from.0
 
 touches_own : (s : State) (node : ℕ) (d : Doing) (m : Moment) → Fits s node d → (next s node d m).condition → IsOwnTouch s.fixed node m
-touches_own s node (Loaning copies h left) (GetBack w k) p c = own_way s.fixed node h.port w p.0.1 (p.1 w c)
-touches_own s node (Emptying x left) (GetBack w k) p c = own_way s.fixed node x.loan.port w p.0.0.1 (p.1 w c)
-touches_own s node (Delivering x last left count) (Deliver w m) p c = own_way s.fixed node x.loan.port w p.0.0.1 (p.1 w c.0)
-touches_own s node (Delivering x last left count) (Evict w) p c = own_way s.fixed node x.loan.port w p.0.0.1 (last_is x w last c p.4)
+touches_own s node (Loaning copies h left) (GetBack w k) p c = from_own s.fixed node h.port w p.0.1 (p.1 w c)
+touches_own s node (Emptying x left) (GetBack w k) p c = from_own s.fixed node x.loan.port w p.0.0.1 (p.1 w c)
+touches_own s node (Delivering x last left count) (Deliver w m) p c = from_own s.fixed node x.loan.port w p.0.0.1 (p.1 w c.0)
+touches_own s node (Delivering x last left count) (Evict w) p c = from_own s.fixed node x.loan.port w p.0.0.1 (last_is x w last c p.4)
 touches_own s node (Evicted x v left count) (GetBack w k) p c =
-    own_way s.fixed node x.loan.port w p.0.0.1 (ap (λ (u : Way). u.sender) (same_way-true w v c) ∙ p.4)
+    from_own s.fixed node x.loan.port w p.0.0.1 (ap (λ (u : Way). u.sender) (same_way-true w v c) ∙ p.4)
 touches_own s node d (Deliver w m) p c = absurd c
 touches_own s node d (Evict w) p c = absurd c
 touches_own s node d (GetBack w k) p c = absurd c
 touches_own s node d m p c = tt
 
 -- a way of another node is another way
-other_way : (f : Fixed) (node n : ℕ) (v w : Way) → (n == node) ≡ false → node_of_port f w.sender ≡ node → node_of_port f v.sender ≡ n → same_way v w ≡ false
+other_way : (f : Fixed) (node n : ℕ) (v w : Way) → (n == node) ≡ false → IsPortOf f node w.sender → IsPortOf f n v.sender → same_way v w ≡ false
 other_way f node n v w other own of_node =
     false_if (same_way v w) (λ same. true≢false
-    (sym (eqb-refl n) ∙ ap (λ k. n == k) (sym of_node ∙ ap (λ (u : Way). node_of_port f u.sender) (same_way-true v w same) ∙ own) ∙ other))
+    (sym (eqb-refl n) ∙ ap (λ k. n == k) (sym of_node.1 ∙ ap (λ (u : Way). node_of_port f u.sender) (same_way-true v w same) ∙ own.1) ∙ other))
 
 leaves_waiting : (s : State) (node n : ℕ) (m : Moment) → IsOwnTouch s.fixed node m → (n == node) ≡ false → (v : Way)
-    → node_of_port s.fixed v.sender ≡ n → nat_le (length ((moved s m).waiting v)) (length (s.waiting v)) ≡ true
+    → IsPortOf s.fixed n v.sender → nat_le (length ((moved s m).waiting v)) (length (s.waiting v)) ≡ true
 leaves_waiting s node n (Deliver w m) own other v of_node =
     subst (λ (xs : List Message). nat_le (length xs) (length (s.waiting v)) ≡ true)
     (sym (put-else s.waiting w (s.waiting w ++ m ∷ []) v (other_way s.fixed node n v w other own of_node))) (le-refl (length (s.waiting v)))
 leaves_waiting s node n m own other v of_node = no_more s m v tt
 
 leaves_in_hand : (s : State) (node n : ℕ) (m : Moment) → IsOwnTouch s.fixed node m → (n == node) ≡ false → (v : Way)
-    → node_of_port s.fixed v.sender ≡ n → (moved s m).in_hand v ≡ s.in_hand v
+    → IsPortOf s.fixed n v.sender → (moved s m).in_hand v ≡ s.in_hand v
 leaves_in_hand s node n (Evict w) own other v of_node =
     put-else s.in_hand w (serials_of (take 1 (s.waiting w))) v (other_way s.fixed node n v w other own of_node)
 leaves_in_hand s node n (GetBack w k) own other v of_node = put-else s.in_hand w [] v (other_way s.fixed node n v w other own of_node)
@@ -110,10 +106,13 @@ leaves_in_hand s node n m own other v of_node = refl
 pub moved_leaves : (s : State) (node n : ℕ) (d : Doing) (m : Moment) → Fits s node d → (next s node d m).condition → (n == node) ≡ false
     → Leaves s (moved s m) n
 moved_leaves s node n d m p c other = record {
-  fixed = record { ports = ap (λ (f : Fixed). f.ports) (moved-fixed s m); limits = ap (λ (f : Fixed). f.limits) (moved-fixed s m) };
+  fixed = record {
+    ports = ap (λ (f : Fixed). f.ports) (moved-fixed s m);
+    limits = ap (λ (f : Fixed). f.limits) (moved-fixed s m);
+    on_wire = ap (λ (f : Fixed). f.on_wire) (moved-fixed s m);
+  };
   waiting = leaves_waiting s node n m (touches_own s node d m p c) other;
   in_hand = leaves_in_hand s node n m (touches_own s node d m p c) other;
-  forgot = ap (λ (f : Fixed). f.forgot n) (moved-fixed s m);
 }
 
 -- ---- how many wait on the own ways
@@ -170,7 +169,7 @@ evicted_within : (s : State) (node : ℕ) (last : Option Way) (w : Way) → is_l
 evicted_within s node None w e p v of_node = absurd (true≢false (sym e))
 evicted_within s node (Some u) w e p v of_node =
     by_cases (same_way v w)
-    (λ same. subst (λ y. node_of_port s.fixed y.sender ≡ node → nat_le (length (put s.waiting w (rest_of (s.waiting w)) y)) (buffer_on s.fixed y + 0) ≡ true)
+    (λ same. subst (λ y. IsPortOf s.fixed node y.sender → nat_le (length (put s.waiting w (rest_of (s.waiting w)) y)) (buffer_on s.fixed y + 0) ≡ true)
     (sym (same_way-true v w same))
     (λ here. subst (λ (xs : List Message). nat_le (length xs) (buffer_on s.fixed w + 0) ≡ true) (sym (put_there s.waiting w (rest_of (s.waiting w))))
     (one_less (s.waiting w) (buffer_on s.fixed w)
@@ -184,7 +183,7 @@ quiet_within s node m last quiet p =
     within_any (moved s m) node last
     (λ v of_node. subst (λ (f : Fixed). nat_le (length ((moved s m).waiting v)) (buffer_on f v + 0) ≡ true) (sym (moved-fixed s m))
     (at_most (length ((moved s m).waiting v)) (length (s.waiting v)) (buffer_on s.fixed v + 0) (no_more s m v quiet)
-    (p v (ap (λ (f : Fixed). node_of_port f v.sender) (sym (moved-fixed s m)) ∙ of_node))))
+    (p v (subst (λ (f : Fixed). IsPortOf f node v.sender) (moved-fixed s m) of_node))))
 
 pub moved_within : (s : State) (node : ℕ) (d : Doing) (m : Moment) → IsWithin s node (last_of (Some d)) → Fits s node d → Holds s m
     → (next s node d m).condition → IsWithin (moved s m) node (last_of (Some (next s node d m).after))

@@ -14,8 +14,7 @@ use Rattle.iox_model.specs.Peers.{buffer_on, overflows_on}
 use Rattle.iox_model.proofs.MapLemmas.{either, same_way-true, put_there, put-else}
 use Rattle.iox_model.proofs.Plays.{has_room}
 use Rattle.iox_reachable.proofs.WayLemmas.{by_cases, or-false, has_way-without, not-has_way-without, apart-gone, apart-without}
-use Rattle.iox_reachable.specs.Waits.{last_of}
-use Rattle.iox_reachable.proofs.Sound.{AreFrom, AreTo, IsLast, HaveRoom, Fits, IsWithin, SoundCall}
+use Rattle.iox_reachable.proofs.Sound.{AreFrom, AreTo, IsLast, HaveRoom, Fits, last_of, IsWithin, SoundCall}
 use Rattle.iox_reachable.proofs.PortLemmas.{AreDistinctPorts}
 use Rattle.iox_reachable.proofs.Continues.{opening_fits, looking_fits, emptying_fits, asked_fits, loaning_fits, visiting_fits, took_fits, judged_fits, seeking_fits, closing_fits, given_back_fits, checked_fits, hinting_fits}
 use Rattle.iox_reachable.proofs.Moves.{taken-less, last_is, moved_within}
@@ -99,12 +98,11 @@ moved_fits s node (Delivering x last left count) (Deliver w m) ports in_ p h c =
   apart-without w left p.2,
   room_after_delivery s w m left p.2 p.3,
   evicts_from x w (p.1 w c.0),
-  λ v there. p.5 v (has_way-without v w left there),
 )
 moved_fits s node (Delivering x last left count) (Evict w) ports in_ p h c =
-    (p.0, p.1, p.2, room_after_eviction s w left p.3, last_is x w last c p.4, in_hand_after s w h, p.5)
+    (p.0, p.1, p.2, room_after_eviction s w left p.3, last_is x w last c p.4, in_hand_after s w h)
 moved_fits s node (Delivering x last left count) m ports in_ p h c = absurd c
-moved_fits s node (Evicted x v left count) (GetBack w k) ports in_ p h c = (p.0, p.1, p.2, p.3, tt, p.6)
+moved_fits s node (Evicted x v left count) (GetBack w k) ports in_ p h c = (p.0, p.1, p.2, p.3, tt)
 moved_fits s node (Evicted x v left count) m ports in_ p h c = absurd c
 moved_fits s node (Visiting x left seen) (SeesEmpty w) ports in_ p h c =
     visiting_fits s node x (without_way w left) seen p.0 (left_to x w left p.2)

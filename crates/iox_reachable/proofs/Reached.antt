@@ -20,9 +20,9 @@ use Rattle.iox_model.proofs.MapLemmas.{either}
 use Rattle.iox_model.proofs.WholeLemmas.{moved-fixed, or_else-none, some-is}
 use Rattle.iox_reachable.specs.Worlds.{IsReachable}
 use Rattle.iox_reachable.specs.GoingOn.{NeverStuck}
+use Rattle.iox_reachable.specs.OnWires.{ReachableIsOnWire}
 use Rattle.iox_reachable.proofs.WayLemmas.{by_cases}
-use Rattle.iox_reachable.specs.Waits.{last_of}
-use Rattle.iox_reachable.proofs.Sound.{has_own, FitsOutcome, Fits, FitsCall, IsWithin, SoundCall, Sound}
+use Rattle.iox_reachable.proofs.Sound.{has_own, FitsOutcome, Fits, FitsCall, last_of, IsWithin, SoundCall, Sound}
 use Rattle.iox_reachable.proofs.Kept.{same_ports, within_kept, sound_kept}
 use Rattle.iox_reachable.proofs.PortLemmas.{AreDistinctPorts}
 use Rattle.iox_reachable.proofs.Continues.{within_any}
@@ -56,7 +56,7 @@ begun_sound w node c call begins p =
       own = p.own;
       calls = put_sound w.state w.doing node (Some (wire_start w.state node c call)) (
         within_any w.state node (last_of (Some (wire_start w.state node c call))) idle,
-        start_fits w.state node c call p.on_wire p.distinct (p.own node) idle q.1,
+        start_fits w.state node c call p.distinct (p.own node) idle q.1,
       )
           (λ n other. p.calls n);
     }
@@ -84,7 +84,7 @@ sent_within s node x last count o e p =
     by_cases (is_over s last) (λ over. none-some o (sym (ap (λ (b : Bool). if b then None else Some (Sends x.loan x.copied count)) over) ∙ e))
     (λ no. calm s node last no p)
 
-ended_within : (s : State) (node : ℕ) (d : Doing) (o : Outcome) → ends s d ≡ Some o → IsWithin s node (last_of (Some d)) → IsWithin s node None
+pub ended_within : (s : State) (node : ℕ) (d : Doing) (o : Outcome) → ends s d ≡ Some o → IsWithin s node (last_of (Some d)) → IsWithin s node None
 ended_within s node (Delivering x last [] count) o e p = sent_within s node x last count o e p
 ended_within s node (Delivering x last (v ∷ left) count) o e p = none-some o e
 ended_within s node d o e p = p
@@ -129,7 +129,6 @@ dead_sound w node p = record {
         fixed = same_ports w.state.fixed;
         waiting = λ v of_node. le-refl (length (w.state.waiting v));
         in_hand = λ v of_node. refl;
-        forgot = refl;
       }) (p.calls n);
 }
 
@@ -161,6 +160,12 @@ pub reachable_sound : (w : World) → IsReachable w → Sound w
 reachable_sound w reach =
     weave_sound reach.0 w reach.1 reach.3
     (subst Sound (sym reach.2.2) (opened_sound reach.2.0 (served_ports reach.2.0 reach.2.1)))
+
+-- and on a wire that opened on what a service left.
+pub reachable_is_on_wire : ReachableIsOnWire
+reachable_is_on_wire w reach =
+    let s : State = reach.2.0 in
+    (s, reach.1, reach.2.1, (served_ports s reach.2.1, subst (λ first. IsWeave first reach.1 w) reach.2.2 reach.3))
 
 pub never_stuck : NeverStuck
 never_stuck w node d reach live is =

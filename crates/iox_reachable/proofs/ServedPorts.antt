@@ -31,11 +31,11 @@ use Rattle.iox_reachable.proofs.PortLemmas.{AreDistinctPorts, distinct-filter}
 
 -- ---- numbers below the next one
 
-abbrev below : ℕ → List Port → Bool
+abbrev pub below : ℕ → List Port → Bool
 below n ps = list_all (λ p. nat_lt p.number n) ps
 
 -- each port has a number of its own, below the next one
-abbrev IsNumbered : Fixed → Type 0
+abbrev pub IsNumbered : Fixed → Type 0
 IsNumbered f = AreDistinctPorts f × (below f.next_number f.ports ≡ true)
 
 and_true : (a b : Bool) → a ≡ true → b ≡ true → (a && b) ≡ true
@@ -51,7 +51,7 @@ below_more n (p ∷ ps) e =
     still : (k n : ℕ) → nat_lt k n ≡ true → nat_lt k (n + 1) ≡ true
     still k n e = grind (arith)
 
-below_filter : (n : ℕ) (test : Port → Bool) (ps : List Port) → below n ps ≡ true → below n (filter test ps) ≡ true
+pub below_filter : (n : ℕ) (test : Port → Bool) (ps : List Port) → below n ps ≡ true → below n (filter test ps) ≡ true
 below_filter n test [] e = refl
 below_filter n test (p ∷ ps) e =
     let q : (nat_lt p.number n ≡ true) × (below n ps ≡ true) = split (nat_lt p.number n) (below n ps) e in
@@ -59,7 +59,7 @@ below_filter n test (p ∷ ps) e =
     (λ u. and_true (nat_lt p.number n) (below n (filter test ps)) q.0 (below_filter n test ps q.1)) (λ u. below_filter n test ps q.1)
 
 -- one more at the end
-below_next : (n : ℕ) (ps : List Port) (p : Port) → p.number ≡ n → below n ps ≡ true → below (n + 1) (ps ++ p ∷ []) ≡ true
+pub below_next : (n : ℕ) (ps : List Port) (p : Port) → p.number ≡ n → below n ps ≡ true → below (n + 1) (ps ++ p ∷ []) ≡ true
 below_next n [] p is e = and_true (nat_lt p.number (n + 1)) true (next p.number n is) refl
   where
     next : (k n : ℕ) → k ≡ n → nat_lt k (n + 1) ≡ true
@@ -83,7 +83,7 @@ not_before n k (q ∷ qs) p is less e =
     = or-false (q.number == n) (has_number n (map (λ (x : Port). x.number) qs)) e in
     or-neither (q.number == n) (has_number n (map (λ (x : Port). x.number) (qs ++ p ∷ []))) r.0 (not_before n k qs p is less r.1)
 
-distinct_next : (n : ℕ) (ps : List Port) (p : Port) → p.number ≡ n → below n ps ≡ true → AreDistinct (map (λ q. q.number) ps)
+pub distinct_next : (n : ℕ) (ps : List Port) (p : Port) → p.number ≡ n → below n ps ≡ true → AreDistinct (map (λ q. q.number) ps)
     → AreDistinct (map (λ q. q.number) (ps ++ p ∷ []))
 distinct_next n [] p is e d = (refl, tt)
 distinct_next n (q ∷ qs) p is e d =
@@ -92,20 +92,20 @@ distinct_next n (q ∷ qs) p is e d =
 
 -- ---- steps that keep it
 
-same_numbers : (port : ℕ) (ps : List Port) → map (λ p. p.number) (map (port_dropped port) ps) ≡ map (λ p. p.number) ps
+pub same_numbers : (port : ℕ) (ps : List Port) → map (λ p. p.number) (map (port_dropped port) ps) ≡ map (λ p. p.number) ps
 same_numbers port [] = refl
 same_numbers port (p ∷ ps) =
     either (λ (q : Port). q.number ∷ map (λ x. x.number) (map (port_dropped port) ps) ≡ p.number ∷ map (λ x. x.number) ps) (p.number == port)
     (record p { held = false }) p (λ u. ap (λ ns. p.number ∷ ns) (same_numbers port ps)) (λ u. ap (λ ns. p.number ∷ ns) (same_numbers port ps))
 
-same_below : (n port : ℕ) (ps : List Port) → below n ps ≡ true → below n (map (port_dropped port) ps) ≡ true
+pub same_below : (n port : ℕ) (ps : List Port) → below n ps ≡ true → below n (map (port_dropped port) ps) ≡ true
 same_below n port [] e = refl
 same_below n port (p ∷ ps) e =
     let q : (nat_lt p.number n ≡ true) × (below n ps ≡ true) = split (nat_lt p.number n) (below n ps) e in
     and_true (nat_lt (port_dropped port p).number n) (below n (map (port_dropped port) ps))
     (either (λ (x : Port). nat_lt x.number n ≡ true) (p.number == port) (record p { held = false }) p (λ u. q.0) (λ u. q.0)) (same_below n port ps q.1)
 
-numbered_keeps : (f : Fixed) (node : ℕ) → IsNumbered f → IsNumbered (numbered f node)
+pub numbered_keeps : (f : Fixed) (node : ℕ) → IsNumbered f → IsNumbered (numbered f node)
 numbered_keeps f node p =
     either IsNumbered f.on_wire (record f { handles_made = put_at f.handles_made node (f.handles_made node + 1) })
     (record f { next_number = f.next_number + 1 }) (λ u. p) (λ u. (p.0, below_more f.next_number f.ports p.1))
@@ -129,7 +129,7 @@ sent_loan_keeps s h count p =
     either (λ (t : State). IsNumbered t.fixed) (is_request_loan h.kind) (with_fixed s (changed s.fixed (sent_handle h count)))
     (released (with_fixed s (dropped s.fixed h)) h.port) (λ u. p) (λ u. released_keeps (with_fixed s (dropped s.fixed h)) h.port p)
 
-settled_keeps : (s : State) (node : ℕ) (payload : List ℕ) (o : Outcome) → IsNumbered s.fixed → IsNumbered (settled s node payload o).fixed
+pub settled_keeps : (s : State) (node : ℕ) (payload : List ℕ) (o : Outcome) → IsNumbered s.fixed → IsNumbered (settled s node payload o).fixed
 settled_keeps s node payload (Tells reply) p =
     either (λ (t : State). IsNumbered t.fixed) (is_nothing reply) (with_fixed s (called s.fixed)) s (λ u. p) (λ u. p)
 settled_keeps s node payload (Loans h) p = numbered_keeps s.fixed node p
@@ -165,7 +165,7 @@ call_keeps s node call reply t p =
     unless_keeps (misnamed s.fixed node call) s reply t (UnlessRefused (spent s.fixed call) s reply t (IsDone s node call reply t)) p
     (unless_keeps (spent s.fixed call) s reply t (IsDone s node call reply t) p (done_keeps s node call reply t p))
 
-port_command_keeps : (s : State) (node : ℕ) (c : PortCommand) (reply : Reply) (t : State) → IsNumbered s.fixed → IsPortCommand s node c reply t
+pub port_command_keeps : (s : State) (node : ℕ) (c : PortCommand) (reply : Reply) (t : State) → IsNumbered s.fixed → IsPortCommand s node c reply t
     → IsNumbered t.fixed
 port_command_keeps s node (Create role id o) reply t p c =
     unless_keeps (making_refusal s.fixed role o c.0) s reply t _ p

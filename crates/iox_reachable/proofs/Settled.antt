@@ -1,8 +1,8 @@
 -- The end of a call keeps the ports, and each handle belongs to a port of its node.
 use Rattle.std.specs.Prelude.{◌≡◌, ℕ, ◌+◌, ◌-◌, Bool, true, false, not, ◌&&◌, ◌==◌, nat_le, List, [], ◌∷◌, ◌++◌, length, find, refl}
-use Rattle.std.specs.List.{list_all}
+use Rattle.std.specs.List.{list_any, list_all}
 use Rattle.std.specs.Option.{option_map_or}
-use Rattle.std.proofs.Common.{sym, subst, ap, ◌∙◌, eq-eqb, eqb-true, arith, map}
+use Rattle.std.proofs.Common.{sym, subst, ap, ◌∙◌, eq-eqb, eqb-true, true≢false, arith}
 use Rattle.iox_model.specs.declared.way.Way.{Way}
 use Rattle.iox_model.specs.Expiries.{released}
 use Rattle.iox_model.specs.Forgetting.{has_forgotten, forgets}
@@ -11,48 +11,51 @@ use Rattle.iox_model.specs.States.{Handle, Fixed, State}
 use Rattle.iox_model.specs.Handles.{is_request_loan, is_received, way_of}
 use Rattle.iox_model.specs.Maps.{put_at, put}
 use Rattle.iox_model.specs.Messages.{Message}
-use Rattle.iox_model.specs.Ends.{sent_loan, sent_copy, is_nothing, port_dropped, settled}
-use Rattle.iox_model.specs.Peers.{node_of_port}
+use Rattle.iox_model.specs.Ends.{sent_loan, sent_copy, is_nothing, settled}
+use Rattle.iox_model.specs.Peers.{is_connected_port, node_of_port}
 use Rattle.iox_model.specs.Counts.{is_same_handle, without_handle, with_handle, added, changed, dropped, numbered, called, gives_up, with_fixed, received_handle, sent_handle, holding}
-use Rattle.iox_model.proofs.CallLaws.{put_at-else}
 use Rattle.iox_model.proofs.MapLemmas.{either}
 use Rattle.iox_model.proofs.PlayedRuns.{split}
 use Rattle.iox_model.proofs.WireLemmas.{released-wire, settled_same}
-use Rattle.iox_reachable.proofs.Sound.{IsOwn, has_own, FitsOutcome}
+use Rattle.iox_reachable.proofs.Sound.{IsPortOf, is_port_of, IsOwn, has_own, FitsOutcome}
 use Rattle.iox_reachable.proofs.Kept.{Leaves, SamePorts}
 
 -- ---- handles that belong to ports of their node
 
 abbrev belong : Fixed → ℕ → List Handle → Bool
-belong f node hs = list_all (λ h. node_of_port f h.port == node) hs
+belong f node hs = list_all (λ h. is_port_of f node h.port) hs
 
 and_true : (a b : Bool) → a ≡ true → b ≡ true → (a && b) ≡ true
 and_true true b e p = p
 and_true false b e p = e
 
-belong-append : (f : Fixed) (node : ℕ) (hs : List Handle) (h : Handle) → belong f node hs ≡ true → node_of_port f h.port ≡ node
+is-port_of : (f : Fixed) (node port : ℕ) → IsPortOf f node port → is_port_of f node port ≡ true
+is-port_of f node port p =
+    and_true (is_connected_port f port) (node_of_port f port == node) p.0 (eq-eqb (node_of_port f port) node p.1)
+
+belong-append : (f : Fixed) (node : ℕ) (hs : List Handle) (h : Handle) → belong f node hs ≡ true → IsPortOf f node h.port
     → belong f node (hs ++ h ∷ []) ≡ true
-belong-append f node [] h all own = and_true (node_of_port f h.port == node) true (eq-eqb (node_of_port f h.port) node own) refl
+belong-append f node [] h all own = and_true (is_port_of f node h.port) true (is-port_of f node h.port own) refl
 belong-append f node (k ∷ ks) h all own =
-    let q : ((node_of_port f k.port == node) ≡ true) × (belong f node ks ≡ true) = split (node_of_port f k.port == node) (belong f node ks) all in
-    and_true (node_of_port f k.port == node) (belong f node (ks ++ h ∷ [])) q.0 (belong-append f node ks h q.1 own)
+    let q : (is_port_of f node k.port ≡ true) × (belong f node ks ≡ true) = split (is_port_of f node k.port) (belong f node ks) all in
+    and_true (is_port_of f node k.port) (belong f node (ks ++ h ∷ [])) q.0 (belong-append f node ks h q.1 own)
 
 belong-without : (f : Fixed) (node : ℕ) (hs : List Handle) (h : Handle) → belong f node hs ≡ true → belong f node (without_handle h hs) ≡ true
 belong-without f node [] h all = refl
 belong-without f node (k ∷ ks) h all =
-    let q : ((node_of_port f k.port == node) ≡ true) × (belong f node ks ≡ true) = split (node_of_port f k.port == node) (belong f node ks) all in
+    let q : (is_port_of f node k.port ≡ true) × (belong f node ks ≡ true) = split (is_port_of f node k.port) (belong f node ks) all in
     either (λ (xs : List Handle). belong f node xs ≡ true) (not (is_same_handle h k)) (k ∷ without_handle h ks) (without_handle h ks)
-    (λ u. and_true (node_of_port f k.port == node) (belong f node (without_handle h ks)) q.0 (belong-without f node ks h q.1))
+    (λ u. and_true (is_port_of f node k.port) (belong f node (without_handle h ks)) q.0 (belong-without f node ks h q.1))
     (λ u. belong-without f node ks h q.1)
 
-belong-with : (f : Fixed) (node : ℕ) (hs : List Handle) (h : Handle) → belong f node hs ≡ true → node_of_port f h.port ≡ node
+belong-with : (f : Fixed) (node : ℕ) (hs : List Handle) (h : Handle) → belong f node hs ≡ true → IsPortOf f node h.port
     → belong f node (with_handle h hs) ≡ true
 belong-with f node [] h all own = refl
 belong-with f node (k ∷ ks) h all own =
-    let q : ((node_of_port f k.port == node) ≡ true) × (belong f node ks ≡ true) = split (node_of_port f k.port == node) (belong f node ks) all in
+    let q : (is_port_of f node k.port ≡ true) × (belong f node ks ≡ true) = split (is_port_of f node k.port) (belong f node ks) all in
     either (λ (xs : List Handle). belong f node xs ≡ true) (is_same_handle h k) (h ∷ ks) (k ∷ with_handle h ks)
-    (λ u. and_true (node_of_port f h.port == node) (belong f node ks) (eq-eqb (node_of_port f h.port) node own) q.1)
-    (λ u. and_true (node_of_port f k.port == node) (belong f node (with_handle h ks)) q.0 (belong-with f node ks h q.1 own))
+    (λ u. and_true (is_port_of f node h.port) (belong f node ks) (is-port_of f node h.port own) q.1)
+    (λ u. and_true (is_port_of f node k.port) (belong f node (with_handle h ks)) q.0 (belong-with f node ks h q.1 own))
 
 -- ---- what the end of a call keeps
 
@@ -67,11 +70,11 @@ put_belong f handles node hs all own n =
     either (λ (xs : List Handle). belong f n xs ≡ true) (n == node) hs (handles n)
     (λ e. subst (λ k. belong f k hs ≡ true) (sym (eqb-true n node e)) own) (λ e. all n)
 
-adds : (f g : Fixed) (h : Handle) → Keeps f g → node_of_port f h.port ≡ h.node → Keeps f (added g h)
+adds : (f g : Fixed) (h : Handle) → Keeps f g → IsPortOf f h.node h.port → Keeps f (added g h)
 adds f g h p own =
     (p.0, p.1, p.2, put_belong f g.handles h.node (g.handles h.node ++ h ∷ []) p.3 (belong-append f h.node (g.handles h.node) h (p.3 h.node) own))
 
-changes : (f g : Fixed) (h : Handle) → Keeps f g → node_of_port f h.port ≡ h.node → Keeps f (changed g h)
+changes : (f g : Fixed) (h : Handle) → Keeps f g → IsPortOf f h.node h.port → Keeps f (changed g h)
 changes f g h p own =
     (p.0, p.1, p.2, put_belong f g.handles h.node (with_handle h (g.handles h.node)) p.3 (belong-with f h.node (g.handles h.node) h (p.3 h.node) own))
 
@@ -92,8 +95,8 @@ releases : (s : State) (g : Fixed) (port : ℕ) → s.fixed.on_wire ≡ true →
 releases s g port wire p = subst (λ (t : State). Keeps s.fixed t.fixed) (sym (released-wire (with_fixed s g) port (p.0 ∙ wire))) p
 
 -- a handle of the node belongs to a port of its own
-of_own : (f : Fixed) (node : ℕ) (h : Handle) → IsOwn f node h → node_of_port f h.port ≡ h.node
-of_own f node h own = own.1 ∙ sym own.0
+of_own : (f : Fixed) (node : ℕ) (h : Handle) → IsOwn f node h → IsPortOf f h.node h.port
+of_own f node h own = subst (λ k. IsPortOf f k h.port) (sym own.0) own.1
 
 sent_copy_keeps : (f : Fixed) (node : ℕ) (h : Handle) (count : ℕ) → Keeps f f → IsOwn f node h → Keeps f (sent_copy f h count)
 sent_copy_keeps f node h count p own =
@@ -123,61 +126,9 @@ settled_keeps s node payload (Receives x w m) wire p own =
     adds s.fixed (numbered s.fixed node) (received_handle s.fixed node x m) (numbers s.fixed s.fixed node p) own.0
 settled_keeps s node payload (Drops h) wire p own =
     releases s (gives_up (dropped s.fixed h) h) h.port wire (gives s.fixed (dropped s.fixed h) h (drops s.fixed s.fixed h p))
-settled_keeps s node payload (DropsPort port) wire p own = absurd own
+settled_keeps s node payload (DropsPort port) wire p own = absurd (true≢false (sym wire ∙ own))
 settled_keeps s node payload (Forgets dead) wire p own =
     either (λ (t : State). Keeps s.fixed t.fixed) (has_forgotten s.fixed node dead) s (forgets s node dead) (λ u. p) (λ u. p)
-
--- ---- what was delivered, and whom nodes forgot
-
-abbrev pub IsNoForget : Outcome → Type 0
-IsNoForget (Forgets dead) = ⊥
-IsNoForget o = Unit {0}
-
--- the same was delivered, and nobody forgot more
-abbrev pub SameRecord : State → State → Type 0
-SameRecord s t = (t.fixed.forgot ≡ s.fixed.forgot) × (t.delivered ≡ s.delivered)
-
-numbered-forgot : (f : Fixed) (node : ℕ) → (numbered f node).forgot ≡ f.forgot
-numbered-forgot f node =
-    either (λ (g : Fixed). g.forgot ≡ f.forgot) f.on_wire (record f { handles_made = put_at f.handles_made node (f.handles_made node + 1) })
-    (record f { next_number = f.next_number + 1 }) (λ u. refl) (λ u. refl)
-
-released_record : (s : State) (g : Fixed) (port : ℕ) → g.on_wire ≡ true → g.forgot ≡ s.fixed.forgot → SameRecord s (released (with_fixed s g) port)
-released_record s g port wire same = subst (SameRecord s) (sym (released-wire (with_fixed s g) port wire)) (same, refl)
-
-pub settled_record : (s : State) (node : ℕ) (payload : List ℕ) (o : Outcome) → s.fixed.on_wire ≡ true → IsNoForget o
-    → SameRecord s (settled s node payload o)
-settled_record s node payload (Tells reply) wire others =
-    either (SameRecord s) (is_nothing reply) (with_fixed s (called s.fixed)) s (λ u. (refl, refl)) (λ u. (refl, refl))
-settled_record s node payload (Loans h) wire others = (numbered-forgot s.fixed node, refl)
-settled_record s node payload (Fills h) wire others = (refl, refl)
-settled_record s node payload (Sends h true count) wire others = (
-  either (λ (g : Fixed). g.forgot ≡ s.fixed.forgot) (is_request_loan h.kind) (added (numbered s.fixed h.node) (sent_handle h count)) s.fixed
-      (λ u. numbered-forgot s.fixed h.node) (λ u. refl),
-  refl,
-)
-settled_record s node payload (Sends h false count) wire others =
-    either (SameRecord s) (is_request_loan h.kind) (with_fixed s (changed s.fixed (sent_handle h count))) (released (with_fixed s (dropped s.fixed h)) h.port)
-    (λ u. (refl, refl)) (λ u. released_record s (dropped s.fixed h) h.port wire refl)
-settled_record s node payload (FailsToSend h true refusal) wire others = (refl, refl)
-settled_record s node payload (FailsToSend h false refusal) wire others = released_record s (dropped s.fixed h) h.port wire refl
-settled_record s node payload (Receives x w m) wire others = (numbered-forgot s.fixed node, refl)
-settled_record s node payload (Drops h) wire others =
-    let f : Fixed = dropped s.fixed h in
-    let g : Fixed = record f { borrowed = put f.borrowed (way_of h) (f.borrowed (way_of h) - 1) } in
-    either (λ (x : Fixed). SameRecord s (released (with_fixed s x) h.port)) (is_received h.kind) g f (λ u. released_record s g h.port wire refl)
-    (λ u. released_record s f h.port wire refl)
-settled_record s node payload (DropsPort port) wire others =
-    released_record s (record (s.fixed) { ports = map (port_dropped port) s.fixed.ports }) port wire refl
-settled_record s node payload (Forgets dead) wire others = absurd others
-
--- nobody but the node itself forgets
-settled_forgot : (s : State) (node : ℕ) (payload : List ℕ) (o : Outcome) (n : ℕ) → s.fixed.on_wire ≡ true → (n == node) ≡ false
-    → (settled s node payload o).fixed.forgot n ≡ s.fixed.forgot n
-settled_forgot s node payload (Forgets dead) n wire other =
-    either (λ (t : State). t.fixed.forgot n ≡ s.fixed.forgot n) (has_forgotten s.fixed node dead) s (forgets s node dead) (λ u. refl)
-    (λ u. put_at-else s.fixed.forgot node (s.fixed.forgot node ++ dead ∷ []) n other)
-settled_forgot s node payload o n wire other = ap (λ (f : ℕ → List ℕ). f n) (settled_record s node payload o wire tt).0
 
 -- ---- so it leaves every call sound
 
@@ -189,13 +140,15 @@ pub settled_ports : (s : State) (node : ℕ) (payload : List ℕ) (o : Outcome) 
     → FitsOutcome s.fixed node o → SamePorts s.fixed (settled s node payload o).fixed
 settled_ports s node payload o wire all own =
     let k : Keeps s.fixed (settled s node payload o).fixed = settled_keeps s node payload o wire (refl, refl, refl, all) own in
-    record { ports = k.1; limits = k.2 }
+    record { ports = k.1; limits = k.2; on_wire = k.0 }
 
 pub settled_own : (s : State) (node : ℕ) (payload : List ℕ) (o : Outcome) → s.fixed.on_wire ≡ true → ((n : ℕ) → has_own s.fixed n ≡ true)
     → FitsOutcome s.fixed node o → (n : ℕ) → has_own (settled s node payload o).fixed n ≡ true
 settled_own s node payload o wire all own n =
     let k : Keeps s.fixed (settled s node payload o).fixed = settled_keeps s node payload o wire (refl, refl, refl, all) own in
-    ap (λ ps. list_all (λ h. option_map_or (λ p. p.node) (find (λ p. p.number == h.port) ps) 0 == n) ((settled s node payload o).fixed.handles n)) k.1
+    ap (λ ps. list_all
+    (λ h. list_any (λ p. p.number == h.port) ps && (option_map_or (λ p. p.node) (find (λ p. p.number == h.port) ps) 0 == n))
+    ((settled s node payload o).fixed.handles n)) k.1
     ∙ k.3 n
 
 le-refl : (n : ℕ) → nat_le n n ≡ true
@@ -213,5 +166,4 @@ settled_leaves s node payload o n wire all own other = record {
   fixed = settled_ports s node payload o wire all own;
   waiting = λ v of_node. settled_waiting s node payload o wire v;
   in_hand = λ v of_node. ap (λ (f : Way → List ℕ). f v) (settled_same s node payload o wire).in_hand;
-  forgot = settled_forgot s node payload o n wire other;
 }

@@ -1,6 +1,6 @@
 -- What holds of every world that may come about, as far as it keeps calls going: a way of a sender is
 -- overfull only where its call delivered last, and what a call has left to do can be done.
-use Rattle.std.specs.Prelude.{◌≡◌, ℕ, ◌+◌, Bool, true, false, if◌then◌else◌, ◌==◌, nat_le, List, length, map, Option, Some, None}
+use Rattle.std.specs.Prelude.{◌≡◌, ℕ, ◌+◌, Bool, true, false, ◌&&◌, if◌then◌else◌, ◌==◌, nat_le, List, length, map, Option, Some, None}
 use Rattle.std.specs.List.{list_all}
 use Rattle.iox_model.specs.declared.way.Way.{Way}
 use Rattle.iox_model.specs.Doings.{Receiver, Sending, Outcome, Loans, Fills, Sends, Receives, DropsPort, Doing, Ended, Loaning, Asking, Emptying, Looking, Opening, Delivering, Evicted, Visiting, Again, Judging, Stale, Closing, Returning, Leaving, Checking, Hinting, Seeking}
@@ -10,9 +10,8 @@ use Rattle.iox_model.specs.States.{Handle, Fixed, State}
 use Rattle.iox_model.specs.Requests.{targets, is_last}
 use Rattle.iox_model.specs.Maps.{is_empty, has_way, not_in, AreApart, AreDistinct}
 use Rattle.iox_model.specs.Responses.{copies}
-use Rattle.iox_model.specs.Peers.{role_at, node_of_port, forgot_port, buffer_on}
+use Rattle.iox_model.specs.Peers.{is_connected_port, role_at, node_of_port, buffer_on}
 use Rattle.iox_model.proofs.Plays.{has_room}
-use Rattle.iox_reachable.specs.Waits.{last_of}
 
 -- ---- ways and handles of a node
 
@@ -32,27 +31,29 @@ IsTo x v = (v.receiver ≡ x.port) × (v.lane ≡ x.lane)
 abbrev pub AreTo : Receiver → List Way → Type 0
 AreTo x ways = (v : Way) → has_way v ways ≡ true → IsTo x v
 
+-- the port is connected, and the node's
+abbrev pub IsPortOf : Fixed → ℕ → ℕ → Type 0
+IsPortOf f node port = (is_connected_port f port ≡ true) × (node_of_port f port ≡ node)
+
+abbrev pub is_port_of : Fixed → ℕ → ℕ → Bool
+is_port_of f node port = is_connected_port f port && (node_of_port f port == node)
+
 -- the handle is the node's, and belongs to a port of the node
 abbrev pub IsOwn : Fixed → ℕ → Handle → Type 0
-IsOwn f node h = (h.node ≡ node) × (node_of_port f h.port ≡ node)
+IsOwn f node h = (h.node ≡ node) × IsPortOf f node h.port
 
 -- each handle of the node belongs to a port of the node
 abbrev pub has_own : Fixed → ℕ → Bool
-has_own f node = list_all (λ h. node_of_port f h.port == node) (f.handles node)
+has_own f node = list_all (λ h. is_port_of f node h.port) (f.handles node)
 
 -- one more may be delivered on each of these ways
 abbrev pub HaveRoom : State → List Way → Type 0
 HaveRoom s ways = (v : Way) → has_way v ways ≡ true → has_room s v ≡ true
 
--- the node forgot the receivers of none of these ways
-abbrev pub AreKnown : Fixed → ℕ → List Way → Type 0
-AreKnown f node ways = (v : Way) → has_way v ways ≡ true → forgot_port f node v.receiver ≡ false
-
--- what a send keeps of its port is so, and it goes to nobody whom its node forgot
+-- what a send keeps of its port is so
 abbrev pub IsSending : Fixed → ℕ → Sending → Type 0
 IsSending f node x =
     IsOwn f node x.loan × (x.overflow ≡ overflow_of f.limits (role_at f x.loan.port)) × AreApart (targets x)
-    × AreKnown f node (targets x)
 
 -- ---- what is left to do
 
@@ -61,9 +62,9 @@ FitsOutcome f node (Loans h) = IsOwn f node h
 FitsOutcome f node (Fills h) = IsOwn f node h
 FitsOutcome f node (Sends h copied count) = IsOwn f node h
 FitsOutcome f node (Receives x w m) =
-    (node_of_port f x.port ≡ node) × IsTo x w × (is_client x.role ≡ true → m.request ≡ x.request)
--- ports stay
-FitsOutcome f node (DropsPort port) = ⊥
+    IsPortOf f node x.port × IsTo x w × (is_client x.role ≡ true → m.request ≡ x.request)
+-- on a wire ports stay
+FitsOutcome f node (DropsPort port) = f.on_wire ≡ false
 FitsOutcome f node o = Unit {0}
 
 -- What is left is some way, of the own port; and where a send delivers there is room.
@@ -80,15 +81,14 @@ Fits s node (Opening x left full) =
     IsSending s.fixed node x × (is_empty left ≡ false) × HaveRoom s (not_in full (targets x))
 Fits s node (Delivering x last left count) =
     IsSending s.fixed node x × AreFrom x.loan.port left × AreApart left × HaveRoom s left × IsLast x last
-    × AreKnown s.fixed node left
 Fits s node (Evicted x w left count) =
     IsSending s.fixed node x × AreFrom x.loan.port left × AreApart left × HaveRoom s left × (w.sender ≡ x.loan.port)
-    × (is_empty (s.in_hand w) ≡ false) × AreKnown s.fixed node left
-Fits s node (Visiting x left seen) = (node_of_port s.fixed x.port ≡ node) × (is_empty left ≡ false) × AreTo x left
-Fits s node (Again x w left seen) = (node_of_port s.fixed x.port ≡ node) × IsTo x w × AreTo x left
+    × (is_empty (s.in_hand w) ≡ false)
+Fits s node (Visiting x left seen) = IsPortOf s.fixed node x.port × (is_empty left ≡ false) × AreTo x left
+Fits s node (Again x w left seen) = IsPortOf s.fixed node x.port × IsTo x w × AreTo x left
 Fits s node (Judging x w m left seen) =
-    (node_of_port s.fixed x.port ≡ node) × IsTo x w × AreTo x left × (is_client x.role ≡ false)
-Fits s node (Stale x w m left seen) = (node_of_port s.fixed x.port ≡ node) × IsTo x w × AreTo x left
+    IsPortOf s.fixed node x.port × IsTo x w × AreTo x left × (is_client x.role ≡ false)
+Fits s node (Stale x w m left seen) = IsPortOf s.fixed node x.port × IsTo x w × AreTo x left
 Fits s node (Closing h left) = is_empty left ≡ false
 Fits s node (Returning h) = Unit {0}
 Fits s node (Leaving h) = Unit {0}
@@ -102,10 +102,15 @@ FitsCall s node (Some d) = Fits s node d
 
 -- ---- how many wait
 
+-- the way of the last delivery of a call under way, if it may still evict there
+abbrev pub last_of : Option Doing → Option Way
+last_of (Some (Delivering x last left count)) = last
+last_of d = None
+
 -- On the ways from the node's ports no more than the buffer waits, but one more where it delivered last.
 abbrev pub IsWithin : State → ℕ → Option Way → Type 0
 IsWithin s node last =
-    (v : Way) → node_of_port s.fixed v.sender ≡ node
+    (v : Way) → IsPortOf s.fixed node v.sender
     → nat_le (length (s.waiting v)) (buffer_on s.fixed v + (if is_last v last then 1 else 0)) ≡ true
 
 -- ---- the invariant

@@ -3,10 +3,17 @@
 #![tactic(auto)]
 
 ghost use Rattle.iox_reachable.specs.Endings.{EachComesToItsEnd};
-ghost use Rattle.iox_reachable.specs.Forgotten.{NothingForTheForgotten};
 ghost use Rattle.iox_reachable.specs.GoingOn.{NeverStuck};
+ghost use Rattle.iox_reachable.specs.OnWires.{ReachableIsOnWire, ServedHasOwnNumbers};
 ghost use Rattle.iox_reachable.specs.Receipts.{ReceivesItsOwn};
-ghost use Rattle.iox_reachable.specs.Waits.{OnlyOverflowEvicts, QueuesStayWithin};
+ghost use Rattle.iox_reachable.specs.Waits.{OnlyOverflowEvicts};
+
+/// A service gives each port a number of its own, so whatever the ledger says of a wire holds in
+/// every world that may come about.
+pub fn worlds_are_on_a_wire()
+    ensures numbers { ServedHasOwnNumbers }
+    ensures on_wire { ReachableIsOnWire }
+{}
 
 /// A call under way of a living node always has a moment that may come, or may end.
 pub fn calls_are_never_stuck()
@@ -18,19 +25,12 @@ pub fn calls_come_to_their_end()
     ensures { EachComesToItsEnd }
 {}
 
-/// No more messages wait than the buffer holds, and one more only where messages overflow and the
-/// sender's call may still evict.
-pub fn queues_stay_within()
-    ensures within { QueuesStayWithin }
-    ensures over { OnlyOverflowEvicts }
+/// A sender's call may evict on a way only where messages overflow.
+pub fn only_overflow_evicts()
+    ensures { OnlyOverflowEvicts }
 {}
 
 /// What is received came to its receiver, on its lane, and a response names its request.
 pub fn each_receives_its_own()
     ensures { ReceivesItsOwn }
-{}
-
-/// Once a node forgot a dead one, nothing that it delivered there is outstanding, for good.
-pub fn nothing_is_kept_for_the_forgotten()
-    ensures { NothingForTheForgotten }
 {}

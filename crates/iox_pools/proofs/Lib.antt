@@ -1,0 +1,11 @@
+pub mod Unions
+pub mod Limited
+pub mod Spare
+pub mod SpareMoves
+pub mod SpareStarts
+pub mod Kept
+pub mod Ways
+pub mod Suffices
+pub mod Worlds
+pub mod Laws
+pub mod Tight

@@ -1,0 +1,138 @@
+-- A whole call of a service comes to its end, and leaves what rests.
+use Rattle.std.specs.Prelude.{◌≡◌, ℕ, true, false, ◌==◌, nat_lt, List, [], ◌∷◌, ◌++◌, Option, Some, None, refl}
+use Rattle.std.proofs.Common.{sym, subst, ap, ◌∙◌, true≢false, eqb-true}
+use Rattle.iox_model.specs.declared.way.Way.{Way}
+use Rattle.iox_model.specs.Begins.{start}
+use Rattle.iox_model.specs.Commands.{Reply, Call}
+use Rattle.iox_model.specs.Doings.{Outcome, Doing, Delivering}
+use Rattle.iox_model.specs.Ends.{settled}
+use Rattle.iox_model.specs.Loans.{Choice}
+use Rattle.iox_model.specs.Messages.{Message}
+use Rattle.iox_model.specs.Moments.{Holds, moved, Moment, Deliver, Evict, Take}
+use Rattle.iox_model.specs.Names.{misnamed}
+use Rattle.iox_model.specs.States.{Fixed, State}
+use Rattle.iox_model.specs.Steps.{next, ends}
+use Rattle.iox_model.specs.WholeCalls.{moved_by, left_by, MayCome, UnlessRefused, spent, IsDone, IsWholeCall}
+use Rattle.iox_model.specs.Commands.{Refusal}
+use Rattle.iox_model.specs.Maps.{rest_of, same_way, put}
+use Rattle.iox_model.proofs.MapLemmas.{either, put-else, same_way-true}
+use Rattle.iox_model.proofs.WholeLemmas.{moved-fixed}
+use Rattle.iox_reachable.proofs.Alone.{ends_alone}
+use Rattle.iox_runs.specs.Answering.{ComesToAnEnd}
+use Rattle.iox_reachable.proofs.Begun.{call_fits}
+use Rattle.iox_reachable.proofs.Continues.{within_any}
+use Rattle.iox_reachable.proofs.Kept.{Leaves, within_kept, from_own}
+use Rattle.iox_reachable.proofs.Moves.{moved_leaves}
+use Rattle.iox_reachable.proofs.MovesFit.{moved_sound}
+use Rattle.iox_reachable.proofs.Reached.{ended_within, ended_fits}
+use Rattle.iox_reachable.proofs.Sound.{Fits, last_of, IsWithin, SoundCall}
+use Rattle.iox_reachable.proofs.WayLemmas.{by_cases, false_if}
+use Rattle.iox_runs.proofs.Ports.{at_below}
+use Rattle.iox_runs.proofs.Rests.{Rests, Rested, rests_own}
+use Rattle.iox_runs.proofs.NewLoans.{MadeIs, moved_made, ended_made, start_made}
+use Rattle.iox_runs.proofs.Settles.{IsNext, settled_rests}
+
+-- what rests but for the one call under way
+pub record Goes (s : State) (node : ℕ) (d : Doing) : Type 0 where
+  pub fixed : Rests s.fixed
+  pub call : SoundCall s node (Some d)
+  pub others : (n : ℕ) → (n == node) ≡ false → IsWithin s n None
+  pub unused : (v : Way) → nat_lt v.sender s.fixed.next_number ≡ false → s.waiting v ≡ []
+  pub made : MadeIs (IsNext s.fixed) d
+
+-- ---- a moment
+
+none-left : (xs : List Message) → xs ≡ [] → rest_of xs ≡ []
+none-left xs e = ap rest_of e
+
+taken_there : (f : Way → List Message) (w v : Way) → f v ≡ [] → put f w (rest_of (f w)) v ≡ []
+taken_there f w v e =
+    either (λ (xs : List Message). xs ≡ []) (same_way v w) (rest_of (f w)) (f v)
+    (λ same. ap (λ u. rest_of (f u)) (sym (same_way-true v w same)) ∙ none-left (f v) e) (λ u. e)
+
+delivers_below : (s : State) (node : ℕ) (d : Doing) (w : Way) (m : Message) → Rests s.fixed → Fits s node d
+    → (next s node d (Deliver w m)).condition → nat_lt w.sender s.fixed.next_number ≡ true
+delivers_below s node (Delivering x last left count) w m r p c =
+    at_below s.fixed.next_number w.sender s.fixed.ports (r.numbered).1 (from_own s.fixed node x.loan.port w p.0.0.1 (p.1 w c.0)).0
+delivers_below s node d w m r p c = absurd c
+
+unused_moved : (s : State) (node : ℕ) (d : Doing) (m : Moment) → Rests s.fixed → Fits s node d → (next s node d m).condition
+    → (v : Way) → nat_lt v.sender s.fixed.next_number ≡ false → s.waiting v ≡ [] → (moved s m).waiting v ≡ []
+unused_moved s node d (Deliver w m) r p c v late none =
+    put-else s.waiting w (s.waiting w ++ m ∷ []) v
+    (false_if (same_way v w) (λ same. true≢false (sym (delivers_below s node d w m r p c)
+    ∙ ap (λ (u : Way). nat_lt u.sender s.fixed.next_number) (sym (same_way-true v w same)) ∙ late))) ∙ none
+unused_moved s node d (Evict w) r p c v late none = taken_there s.waiting w v none
+unused_moved s node d (Take w m) r p c v late none = taken_there s.waiting w v none
+unused_moved s node d m r p c v late none = none
+
+goes_moved : (s : State) (node : ℕ) (d : Doing) (m : Moment) → Goes s node d → Holds s m → (next s node d m).condition
+    → Goes (moved s m) node (next s node d m).after
+goes_moved s node d m g h c =
+    let same : (moved s m).fixed ≡ s.fixed = moved-fixed s m in
+    record {
+      fixed = subst Rests (sym same) g.fixed;
+      call = moved_sound s node d m ((g.fixed).numbered).0 g.call h c;
+      others = λ n other.
+          let l : Leaves s (moved s m) n = moved_leaves s node n d m (g.call).1 c other in
+          within_kept s (moved s m) n None l.fixed l.waiting (g.others n other);
+      unused = λ v late.
+          let before : nat_lt v.sender s.fixed.next_number ≡ false = ap (λ (f : Fixed). nat_lt v.sender f.next_number) (sym same) ∙ late in
+          unused_moved s node d m g.fixed (g.call).1 c v before (g.unused v before);
+      made = subst (λ f. MadeIs (IsNext f) (next s node d m).after) (sym same) (moved_made (IsNext s.fixed) s node d m g.made c);
+    }
+
+pub goes_by : (s : State) (node : ℕ) (d : Doing) (ms : List Moment) → Goes s node d → MayCome s node d ms → Goes (moved_by s ms) node (left_by s node d ms)
+goes_by s node d [] g may = g
+goes_by s node d (m ∷ ms) g may = goes_by (moved s m) node (next s node d m).after ms (goes_moved s node d m g may.0 may.1) may.2
+
+-- ---- the begin
+
+pub begins : (s : State) (node : ℕ) (c : Choice) (call : Call) → Rested s → misnamed s.fixed node call ≡ None → Goes s node (start s node c call)
+begins s node c call r named = record {
+  fixed = r.fixed;
+  call = (
+    within_any s node (last_of (Some (start s node c call))) (r.within node),
+    call_fits s node c call ((r.fixed).numbered).0 (rests_own s.fixed node r.fixed) (r.within node) named,
+  );
+  others = λ n other. r.within n;
+  unused = r.unused;
+  made = start_made (IsNext s.fixed) s node c call (λ p o client lane request. refl);
+}
+
+-- Whatever was chosen, and whatever moments were made, the call comes to an end.
+pub call_ends : (s : State) (node : ℕ) (c : Choice) (call : Call) (ms : List Moment) → Rested s → misnamed s.fixed node call ≡ None
+    → MayCome s node (start s node c call) ms → ComesToAnEnd (moved_by s ms) node (left_by s node (start s node c call) ms)
+call_ends s node c call ms r named may =
+    let d : Doing = start s node c call in
+    let g : Goes (moved_by s ms) node (left_by s node d ms) = goes_by s node d ms (begins s node c call r named) may in
+    ends_alone (moved_by s ms) node (left_by s node d ms) ((g.fixed).numbered).0 g.call
+
+-- ---- the end
+
+over_rests : (t : State) (node : ℕ) (d : Doing) (o : Outcome) (payload : List ℕ) → Goes t node d → ends t d ≡ Some o → Rested (settled t node payload o)
+over_rests t node d o payload g ended =
+    settled_rests t node payload o (record {
+      fixed = g.fixed;
+      within = λ n. by_cases (n == node)
+          (λ is. subst (λ k. IsWithin t k None) (sym (eqb-true n node is)) (ended_within t node d o ended (g.call).0)) (g.others n);
+      unused = g.unused;
+    }) (ended_fits t node d o ended (g.call).1) (ended_made (IsNext t.fixed) t d o ended g.made)
+
+pub done_rests : (s : State) (node : ℕ) (call : Call) (reply : Reply) (t : State) → Rested s → misnamed s.fixed node call ≡ None
+    → IsDone s node call reply t → Rested t
+done_rests s node call reply t r named d =
+    let first : Doing = start s node d.0 call in
+    subst Rested (sym d.9)
+    (over_rests (moved_by s d.2) node (left_by s node first d.2) d.4 d.6 (goes_by s node first d.2 (begins s node d.0 call r named) d.3) d.5)
+
+-- refused, nothing changes
+pub unless_rests : (q : Option Refusal) (s : State) (reply : Reply) (t : State) (Q : Type 0) → Rested s → (q ≡ None → Q → Rested t)
+    → UnlessRefused q s reply t Q → Rested t
+unless_rests (Some x) s reply t Q r f u = subst Rested (sym u.1) r
+unless_rests None s reply t Q r f u = f refl u
+
+pub whole_rests : (s : State) (node : ℕ) (call : Call) (reply : Reply) (t : State) → Rested s → IsWholeCall s node call reply t → Rested t
+whole_rests s node call reply t r =
+    unless_rests (misnamed s.fixed node call) s reply t (UnlessRefused (spent s.fixed call) s reply t (IsDone s node call reply t)) r
+    (λ named. unless_rests (spent s.fixed call) s reply t (IsDone s node call reply t) r (λ u. done_rests s node call reply t r named))

@@ -1,0 +1,11 @@
+pub mod Ports
+pub mod Rests
+pub mod Gone
+pub mod NewLoans
+pub mod Settles
+pub mod Calls
+pub mod Runs
+pub mod Choices
+pub mod Cleanups
+pub mod Values
+pub mod Answered

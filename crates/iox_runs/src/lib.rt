@@ -1,0 +1,31 @@
+//! What holds of every service and its hub, whatever was asked before.
+//! The functions have nothing to do: each is there for its contract.
+#![tactic(auto)]
+
+ghost use Rattle.iox_runs.specs.Answering.{EachCallEnds, EachCommandIsAnswered, EachHistoryGoesOn, EachPortCommandIsAnswered, EachRunGoesOn, SomethingMayBeChosen};
+ghost use Rattle.iox_runs.specs.Resting.{QueuesRestWithin, ValuesHaveOwnNumbers};
+
+/// A call finds an open lane, with memory or without. Whatever it finds, and whatever moments it
+/// made, some further ones lead it to an end.
+pub fn calls_come_to_their_end()
+    ensures chosen { SomethingMayBeChosen }
+    ensures ends { EachCallEnds }
+{}
+
+/// Whatever a service or its hub is asked, it answers: no run is ever stuck.
+pub fn commands_are_answered()
+    ensures of_ports { EachPortCommandIsAnswered }
+    ensures of_services { EachCommandIsAnswered }
+    ensures runs { EachRunGoesOn }
+    ensures histories { EachHistoryGoesOn }
+{}
+
+/// Between calls no more waits on a way than its buffer holds.
+pub fn queues_rest_within()
+    ensures { QueuesRestWithin }
+{}
+
+/// What a node has, ports and handles, has numbers of its own.
+pub fn values_have_own_numbers()
+    ensures { ValuesHaveOwnNumbers }
+{}
