@@ -1,4 +1,5 @@
 // The twins: the same work in C++, and boost's spsc_queue. Each answers the sum that its Rattle counterpart answers.
+#include <atomic>
 #include <boost/lockfree/spsc_queue.hpp>
 #include <cstdint>
 #include <optional>
@@ -6,12 +7,12 @@
 
 namespace {
 
-// A ring of first place and length, as the Rattle queue.
-struct Ring {
-    std::vector<uint64_t> cells;
+// A ring of first place and length, as the Rattle queues. `Cell` is a value or a std::optional of one.
+template <class Cell> struct RingOf {
+    std::vector<Cell> cells;
     size_t oldest = 0;
     size_t len = 0;
-    explicit Ring(size_t capacity) : cells(capacity) {}
+    explicit RingOf(size_t capacity) : cells(capacity) {}
     bool push(uint64_t value) {
         if (len == cells.size()) return false;
         size_t place = oldest + len;
@@ -22,11 +23,25 @@ struct Ring {
     }
     std::optional<uint64_t> pop() {
         if (len == 0) return std::nullopt;
-        uint64_t value = cells[oldest];
+        Cell value = cells[oldest];
         oldest += 1;
         if (oldest == cells.size()) oldest = 0;
         len -= 1;
         return value;
+    }
+};
+using Ring = RingOf<uint64_t>;
+
+// The same, where a push into a full ring takes the place of the oldest and hands it back.
+struct Overflowing : Ring {
+    using Ring::Ring;
+    std::optional<uint64_t> push(uint64_t value) {
+        if (Ring::push(value)) return std::nullopt;
+        uint64_t old = cells[oldest];
+        cells[oldest] = value;
+        oldest += 1;
+        if (oldest == cells.size()) oldest = 0;
+        return old;
     }
 };
 
@@ -47,6 +62,34 @@ struct Positions {
         uint64_t value = cells[read % cells.size()];
         read += 1;
         return value;
+    }
+};
+
+// A ring of two atomic positions and `%`, with one cell more than its capacity, as SoFi of iceoryx 2.
+struct SoFi {
+    std::vector<uint64_t> cells;
+    std::atomic<uint64_t> write{0};
+    std::atomic<uint64_t> read{0};
+    explicit SoFi(size_t capacity) : cells(capacity + 1) {}
+    std::optional<uint64_t> push(uint64_t value) {
+        uint64_t position = write.load(std::memory_order_relaxed);
+        cells[position % cells.size()] = value;
+        write.store(position + 1, std::memory_order_release);
+        uint64_t first = read.load(std::memory_order_acquire);
+        if (position + 1 < first + cells.size()) return std::nullopt;
+        uint64_t next = first + 1;
+        if (!read.compare_exchange_strong(first, next, std::memory_order_acq_rel, std::memory_order_acquire))
+            return std::nullopt;
+        return cells[first % cells.size()];
+    }
+    std::optional<uint64_t> pop() {
+        uint64_t first = read.load(std::memory_order_acquire);
+        while (first != write.load(std::memory_order_acquire)) {
+            uint64_t value = cells[first % cells.size()];
+            if (read.compare_exchange_weak(first, first + 1, std::memory_order_acq_rel, std::memory_order_acquire))
+                return value;
+        }
+        return std::nullopt;
     }
 };
 
@@ -167,24 +210,35 @@ struct Steps {
     }
 };
 
-template <class Q> uint64_t push_and_pop(Q &queue, uint64_t rounds) {
-    for (uint64_t value = 0; value < 64; ++value) queue.push(value);
+// A push and a pop a round, at a queue in which 64 wait.
+template <class Push, class Pop> uint64_t push_and_pop(uint64_t rounds, Push push, Pop pop) {
+    for (uint64_t value = 0; value < 64; ++value) push(value);
     uint64_t sum = 0;
     for (uint64_t value = 0; value < rounds; ++value) {
-        queue.push(value);
-        if (auto popped = queue.pop()) sum += *popped;
+        push(value);
+        if (std::optional<uint64_t> popped = pop()) sum += *popped;
     }
     return sum;
 }
 
-template <class Q> uint64_t boost_push_and_pop(Q &queue, uint64_t rounds) {
-    for (uint64_t value = 0; value < 64; ++value) queue.push(value);
-    uint64_t sum = 0;
-    for (uint64_t value = 0; value < rounds; ++value) {
-        queue.push(value);
+template <class Q> uint64_t push_and_pop(Q &&queue, uint64_t rounds) {
+    return push_and_pop(rounds, [&](uint64_t value) { queue.push(value); }, [&] { return queue.pop(); });
+}
+
+template <class Q> uint64_t boost_push_and_pop(Q &&queue, uint64_t rounds) {
+    return push_and_pop(rounds, [&](uint64_t value) { queue.push(value); }, [&]() -> std::optional<uint64_t> {
         uint64_t popped;
-        if (queue.pop(popped)) sum += popped;
-    }
+        if (!queue.pop(popped)) return std::nullopt;
+        return popped;
+    });
+}
+
+// A push a round, at a queue that is full.
+template <class Q> uint64_t push_over(Q &&queue, uint64_t rounds) {
+    for (uint64_t value = 0; value < 128; ++value) queue.push(value);
+    uint64_t sum = 0;
+    for (uint64_t value = 0; value < rounds; ++value)
+        if (std::optional<uint64_t> old = queue.push(value)) sum += *old;
     return sum;
 }
 
@@ -208,24 +262,21 @@ uint64_t bits(size_t capacity, uint64_t rounds) {
 extern "C" {
 
 uint64_t twin_boost_spsc_queue(uint64_t rounds) {
-    boost::lockfree::spsc_queue<uint64_t> queue(128);
-    return boost_push_and_pop(queue, rounds);
+    return boost_push_and_pop(boost::lockfree::spsc_queue<uint64_t>(128), rounds);
 }
 uint64_t twin_boost_fixed_spsc_queue(uint64_t rounds) {
-    boost::lockfree::spsc_queue<uint64_t, boost::lockfree::capacity<128>> queue;
-    return boost_push_and_pop(queue, rounds);
+    return boost_push_and_pop(boost::lockfree::spsc_queue<uint64_t, boost::lockfree::capacity<128>>(), rounds);
 }
-uint64_t twin_ring(uint64_t rounds) { Ring ring(128); return push_and_pop(ring, rounds); }
-uint64_t twin_positions(uint64_t rounds) { Positions ring(128); return push_and_pop(ring, rounds); }
+uint64_t twin_ring(uint64_t rounds) { return push_and_pop(Ring(128), rounds); }
+uint64_t twin_positions(uint64_t rounds) { return push_and_pop(Positions(128), rounds); }
+uint64_t twin_optional_ring(uint64_t rounds) { return push_and_pop(RingOf<std::optional<uint64_t>>(128), rounds); }
+uint64_t twin_overflowing_ring(uint64_t rounds) { return push_and_pop(Overflowing(128), rounds); }
+uint64_t twin_overflowing_ring_full(uint64_t rounds) { return push_over(Overflowing(128), rounds); }
+uint64_t twin_sofi(uint64_t rounds) { return push_and_pop(SoFi(128), rounds); }
+uint64_t twin_sofi_full(uint64_t rounds) { return push_over(SoFi(128), rounds); }
 uint64_t twin_ring_by_calls(uint64_t rounds) {
     Ring ring(128);
-    for (uint64_t value = 0; value < 64; ++value) call_push(ring, value);
-    uint64_t sum = 0;
-    for (uint64_t value = 0; value < rounds; ++value) {
-        call_push(ring, value);
-        if (auto popped = call_pop(ring)) sum += *popped;
-    }
-    return sum;
+    return push_and_pop(rounds, [&](uint64_t value) { call_push(ring, value); }, [&] { return call_pop(ring); });
 }
 uint64_t twin_stack(uint64_t rounds) {
     Stack set(128);
@@ -264,6 +315,8 @@ uint64_t twin_owners(uint64_t rounds) {
             set.release(*index);
         }
     }
+    for (size_t index = 0; index < 128; ++index)
+        if (set.owners[index] && *set.owners[index] == 7) sum += index;
     return sum;
 }
 uint64_t twin_bit_set(uint64_t rounds) { return bits(128, rounds); }

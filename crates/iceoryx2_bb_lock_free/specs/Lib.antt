@@ -54,6 +54,7 @@ pub use Rattle.iox_container.specs.declared.mpmc.container.failures.ContainerRem
 -- the machine, and the queue that it plays
 pub use Rattle.iox_steps.specs.Accesses
 pub use Rattle.iox_steps.specs.Worlds
+pub use Rattle.iox_steps.specs.Playables
 pub use Rattle.iox_steps.specs.Sites
 pub use Rattle.iox_steps.specs.Moments
 pub use Rattle.iox_steps.specs.Runs
@@ -86,6 +87,29 @@ pub use Rattle.iox_queue_steps.specs.declared.machine.QueueMachine
 pub use Rattle.iox_queue_runs.specs.Lists as QueueLists
 pub use Rattle.iox_queue_runs.specs.Alone
 pub use Rattle.iox_queue_runs.specs.Calls as QueueCalls
+-- the same for a queue of values of several words
+pub use Rattle.iox_cell_steps.specs.Cells
+pub use Rattle.iox_cell_steps.specs.CellPrograms
+pub use Rattle.iox_cell_steps.specs.CellMoments
+pub use Rattle.iox_cell_steps.specs.CellSeats
+pub use Rattle.iox_cell_steps.specs.CellFits
+pub use Rattle.iox_cell_steps.specs.CellRuns
+pub use Rattle.iox_cell_steps.specs.CellAnswers
+pub use Rattle.iox_cell_steps.specs.CellPlays
+pub use Rattle.iox_cell_steps.specs.CellLaws
+pub use Rattle.iox_cell_steps.specs.declared.moment.CellMoment
+pub use Rattle.iox_cell_steps.specs.declared.moment.CellReply
+pub use Rattle.iox_cell_steps.specs.declared.place.Place
+pub use Rattle.iox_cell_queues.specs.CellSeatings
+pub use Rattle.iox_cell_queues.specs.CellParties
+pub use Rattle.iox_cell_queues.specs.CellQueues
+pub use Rattle.iox_cell_queues.specs.CellMachines
+pub use Rattle.iox_cell_queues.specs.CellSizes
+pub use Rattle.iox_cell_queues.specs.declared.machine.CellMachine
+pub use Rattle.iox_cell_queues.specs.declared.queue.CellParty
+pub use Rattle.iox_cell_runs.specs.Lists as CellLists
+pub use Rattle.iox_cell_runs.specs.Alone as CellAlone
+pub use Rattle.iox_cell_runs.specs.Calls as CellCalls
 -- bits, counts and values as steps
 pub use Rattle.iox_set_steps.specs.Bits
 pub use Rattle.iox_set_steps.specs.BitPrograms
@@ -99,9 +123,12 @@ pub use Rattle.iox_set_steps.specs.Values as StepValues
 pub use Rattle.iox_set_steps.specs.AtomicPrograms
 pub use Rattle.iox_set_steps.specs.AtomicPlays
 pub use Rattle.iox_set_steps.specs.AtomicMachines
+pub use Rattle.iox_set_steps.specs.TypedValues
+pub use Rattle.iox_set_steps.specs.TypedWords
 pub use Rattle.iox_set_steps.specs.declared.bit_set.machine.BitSetMachine
 pub use Rattle.iox_set_steps.specs.declared.counting_bit_set.machine.CountingBitSetMachine
 pub use Rattle.iox_set_steps.specs.declared.unrestricted_atomic.machine.AtomicMachine
+pub use Rattle.iox_set_steps.specs.declared.unrestricted_atomic.value_machine.ValueMachine
 -- a value for one thread
 pub use Rattle.iox_atomics.specs.Values as AtomicValues
 pub use Rattle.iox_atomics.specs.declared.spmc.unrestricted_atomic.UnrestrictedAtomic

@@ -8,3 +8,12 @@ pub use iox_steps::{
     Access, EmptyLook, Entry, FullLook, Machine, MachineError, Moment, Next, Party, Playable, Pop,
     Popping, Progress, Push, PushReply, Pushing, QueueKind, Reply, Site, perform,
 };
+
+/// A queue of values of several words as accesses: its machine, and whole calls on its words.
+pub mod cells {
+    pub use iox_cell_queues::{CellCall, CellMachine, CellParty, CellSeat};
+    pub use iox_cell_runs::{holds_when_empty, is_empty, is_full, pop, push};
+    pub use iox_cell_steps::{
+        CellMoment, CellPop, CellPopping, CellPush, CellPushing, CellReply, Place,
+    };
+}

@@ -1,11 +1,12 @@
 -- Words of cells: which are the same and which are not.
-use Rattle.std.proofs.Common.{◌≢◌, ℕ, ◌+◌, ◌*◌, ◌%◌, ◌<◌, max, inl, inr, arith}
+use Rattle.std.proofs.Common.{◌≢◌, ℕ, ◌+◌, ◌*◌, ◌%◌, ◌<◌, ◌≤◌, max, inl, inr, arith}
 use Rattle.std.proofs.Math.Nat.{mul-le-mul_left}
 use Rattle.std.proofs.lemmas.Bool.{cases_lt}
 use Rattle.std.proofs.lemmas.Nat.{mod_below}
 use Rattle.iox_steps.specs.Accesses.{IsPlace}
 use Rattle.iox_steps.proofs.Places.{mod_apart}
-use Rattle.iox_cell_steps.specs.Cells.{Place, cell_at}
+use Rattle.iox_cell_steps.specs.declared.place.Place.{Place}
+use Rattle.iox_cell_steps.specs.Cells.{cell_at}
 
 -- two words of two cells are apart
 cells_apart : (width m n i j : ℕ) → m < n → i < width → m * width + i < n * width
@@ -32,3 +33,11 @@ word_place place position i some inside =
     let below = mod_below position (max 1 place.capacity) (omega arith) in
     let under = cells_apart place.width (position % max 1 place.capacity) place.capacity i 0 (omega arith) inside in
     (omega arith, omega (arith, under))
+
+-- a cell ends within the queue's words
+pub cell_end : (place : Place) (position : ℕ) → 0 < place.capacity → cell_at place position + place.width ≤ place.base + 2 + place.capacity * place.width
+cell_end place position some =
+    let below = mod_below position (max 1 place.capacity) (omega arith) in
+    let under : position % max 1 place.capacity < place.capacity = omega arith in
+    let more = mul-le-mul_left place.width under in
+    omega (arith, more)

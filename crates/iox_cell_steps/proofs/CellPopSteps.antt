@@ -1,87 +1,141 @@
--- Each access of a pop keeps what the words say, and is one moment.
-use Rattle.std.proofs.Common.{◌≡◌, ℕ, ◌+◌, ◌*◌, ◌<◌, ◌≤◌, List, [], ◌∷◌, ◌++◌, length, get_or, refl, ap, sym, ◌∙◌, inl, inr, arith, Option, Some, None, nat_le}
-use Rattle.std.proofs.lemmas.List.{get_or_append_left, get_or_push, length_push, nil_from_length}
-use Rattle.std.proofs.lemmas.Bool.{cases_Bool, cases_lt, leb-true, leb-false}
+-- Each access of the party that pops keeps what the words say, and is one moment.
+use Rattle.std.proofs.Common.{◌≡◌, ℕ, ◌+◌, ◌<◌, ◌≤◌, List, [], ◌∷◌, length, get_or, set, replicate, refl, sym, ◌∙◌, inl, inr, arith, Option, Some, nat_le, length-set, get_or-set_same, get_or-set_other}
+use Rattle.std.proofs.lemmas.List.{nil_from_length, length-replicate}
+use Rattle.std.proofs.lemmas.Bool.{cases_Bool, cases_lt, leb-true, leb-false, ne_eqb, lt-leb}
 use Rattle.std.proofs.lemmas.Grind.{same_number_lists}
-use Rattle.iox_steps.specs.Accesses.{put}
+use Rattle.iox_steps.specs.declared.pop.EmptyLook.TheVariants as empty_look
+use Rattle.iox_steps.specs.Accesses.{put, IsPlace}
 use Rattle.iox_steps.specs.Sites.{position_after}
 use Rattle.iox_steps.proofs.Places.{put-other}
-use Rattle.iox_cell_steps.specs.Cells.{Place, cell_at, is_empty}
-use Rattle.iox_cell_steps.specs.CellPrograms.{CellPush, CellPop, load_from}
-use Rattle.iox_cell_steps.specs.CellMoments.{rest}
-use Rattle.iox_cell_steps.specs.CellFits.{write_of, read_of, Ring, PopKnows, Fits}
-use Rattle.iox_cell_steps.specs.CellLaws.{PopKeeps}
+use Rattle.iox_cell_steps.specs.declared.place.Place.{Place}
+use Rattle.iox_cell_steps.specs.declared.pop.CellPop.TheVariants as pop
+use Rattle.iox_cell_steps.specs.declared.seat.CellPushing.{CellPushing}
+use Rattle.iox_cell_steps.specs.declared.seat.CellPopping.{CellPopping}
+use Rattle.iox_cell_steps.specs.declared.seat.CellPopping.TheVariants as popping
+use Rattle.iox_cell_steps.specs.Cells.{size, cell_at, is_empty}
+use Rattle.iox_cell_steps.specs.CellPrograms.{load_from}
+use Rattle.iox_cell_steps.specs.CellFits.{write_of, read_of, item, Ring, PopKnows, PoppingKnows, Fits}
+use Rattle.iox_cell_steps.specs.CellLaws.{PoppingKeeps}
 use Rattle.iox_cell_steps.proofs.CellPlaces.{word_place}
 use Rattle.iox_cell_steps.proofs.CellRings.{ring_take}
 use Rattle.iox_cell_steps.proofs.CellKnowledge.{push_knows_less}
 
-module _ (place : Place) (word : ℕ → ℕ) where
-  -- a pop is elsewhere
-  pops_on : {waiting : List (List ℕ)} {pushes : Option CellPush} {pops pops' : Option CellPop} → Fits place word waiting pushes pops → PopKnows place word waiting pops' → Fits place word waiting pushes pops'
-  pops_on fits knows = record { position = fits.position; ring = fits.ring; push = fits.push; pop = knows }
+-- a look at the write position, at a queue in which this waits
+pub empty_is : (place : Place) (word : ℕ → ℕ) (read count : ℕ) → read ≡ read_of place word → write_of place word ≡ read_of place word + count → count ≤ place.capacity → is_empty place read (write_of place word) ≡ nat_le count 0
+empty_is place word read count is counts bounded = elim (cases_Bool (nat_le (write_of place word) read)) [
+  | inl empty ↦ (let none : count ≡ 0 = omega (arith, leb-true _ _ empty) in rw (empty, none) refl)
+  | inr more ↦ (
+      let some : 0 < count = omega (arith, leb-false _ _ more) in
+      rw (more, ne_eqb place.capacity 0 (omega arith), lt-leb count 0 some) refl
+      )
+]
 
-  -- once these words are loaded
-  loads_on : (waiting : List (List ℕ)) (read cell : ℕ) (got : List ℕ) → Ring place word waiting → read ≡ read_of place word → 0 < length waiting → cell ≡ cell_at place read → length got ≤ place.width
-      → ((i : ℕ) → i < length got → get_or got i 0 ≡ get_or (get_or waiting 0 []) i 0) → PopKnows place word waiting (Some (load_from place read cell got))
-  loads_on waiting read cell got ring is some at few first = elim (cases_Bool (nat_le place.width (length got))) [
+module _ {A : Type 0} (words : A → List ℕ) (of_words : List ℕ → Option A) (place : Place) where
+  -- the words of the two positions are the queue's
+  at_write : IsPlace place.base (size place) place.base
+  at_write = (omega arith, omega arith)
+
+  at_read : IsPlace place.base (size place) (place.base + 1)
+  at_read = (omega arith, omega arith)
+
+  -- the words of the oldest value are as many as a cell has
+  oldest_is_wide : (word : ℕ → ℕ) (waiting : List A) → Ring words of_words place word waiting → 0 < length waiting → length (item words waiting 0) ≡ place.width
+  oldest_is_wide word [] ring some = absurd (omega arith)
+  oldest_is_wide word (first ∷ others) ring some = ring.whole.0.0
+
+  -- once so many words are loaded
+  loads_on : (width : ℕ) → (word : ℕ → ℕ) (waiting : List A) (read cell : ℕ) (got : List ℕ) (loaded : ℕ) → Ring words of_words place word waiting → read ≡ read_of place word → 0 < length waiting → cell ≡ cell_at place read
+      → loaded ≤ place.width → length got ≡ place.width → ((i : ℕ) → i < loaded → get_or got i 0 ≡ get_or (item words waiting 0) i 0) → PopKnows words of_words place word {width = width} waiting (load_from place read cell got loaded)
+  loads_on width word waiting read cell got loaded ring is some at few wide first = elim (cases_Bool (nat_le place.width loaded)) [
     | inl all ↦ (
-        let whole = ring.whole 0 some in
-        let long : length got ≡ length (get_or waiting 0 []) = omega (arith, leb-true _ _ all) in
-        let same : got ≡ get_or waiting 0 [] = same_number_lists got (get_or waiting 0 []) long first in
+        let same : got ≡ item words waiting 0 = same_number_lists got (item words waiting 0) (wide ∙ sym (oldest_is_wide word waiting ring some)) (λ i below. first i (omega (arith, leb-true _ _ all))) in
         rw all (is, some, same)
         )
-    | inr more ↦ (let less : length got < place.width = omega (arith, leb-false _ _ more) in rw more (is, some, at, less, first))
+    | inr more ↦ (let less : loaded < place.width = omega (arith, leb-false _ _ more) in rw more (is, some, at, less, wide, first))
   ]
 
+  module _ {width : ℕ} (word : ℕ → ℕ) (waiting : List A) (pushes : CellPushing A) where
+    -- the party is elsewhere
+    pops_on : {pops pops' : CellPopping width} → Fits words of_words place word waiting pushes pops → PoppingKnows words of_words place word waiting pops' → Fits words of_words place word waiting pushes pops'
+    pops_on fits knows = record { position = fits.position; ring = fits.ring; push = fits.push; pop = knows }
+
+    loads_write : (read : ℕ) → let pops : CellPopping width = popping.Pops (pop.LoadsWrite read) in
+        Fits words of_words place word waiting pushes pops → PoppingKeeps words of_words place word waiting pushes pops
+    loads_write read fits =
+        let counts = fits.ring.counts in
+        let is = fits.pop in
+        let here = empty_is place word read (length waiting) is counts fits.ring.bounded in
+        elim (cases_Bool (nat_le (length waiting) 0)) [
+          | inl empty ↦ rw (here, empty) (at_write, nil_from_length waiting (omega (arith, leb-true _ _ empty)), refl, pops_on fits tt, refl)
+          | inr more ↦ (
+              let some : 0 < length waiting = omega (arith, leb-false _ _ more) in
+              rw (here, more) (at_write, some, refl, pops_on fits (loads_on width word waiting read (cell_at place read) (replicate place.width 0) 0 fits.ring is some refl (omega arith) (length-replicate place.width 0) (λ i below. absurd (omega arith))), tt)
+              )
+        ]
+
+    looks_at_write : (read : ℕ) → let pops : CellPopping width = popping.Looks (empty_look.LoadsWrite read) in
+        Fits words of_words place word waiting pushes pops → PoppingKeeps words of_words place word waiting pushes pops
+    looks_at_write read fits =
+        let counts = fits.ring.counts in
+        let is = fits.pop in
+        let here = empty_is place word read (length waiting) is counts fits.ring.bounded in
+        elim (cases_Bool (nat_le (length waiting) 0)) [
+          | inl empty ↦ rw (here, empty) (at_write, nil_from_length waiting (omega (arith, leb-true _ _ empty)), refl, pops_on fits tt, refl)
+          | inr more ↦ rw (here, more) (at_write, omega (arith, leb-false _ _ more), refl, pops_on fits tt, refl)
+        ]
+
+    loads_word : (read cell : ℕ) (got : List ℕ) (loaded : ℕ) → let pops : CellPopping width = popping.Pops (pop.LoadsWord read cell got loaded) in
+        Fits words of_words place word waiting pushes pops → PoppingKeeps words of_words place word waiting pushes pops
+    loads_word read cell got loaded fits =
+        let is = fits.pop.0 in
+        let some = fits.pop.1 in
+        let at = fits.pop.2 in
+        let less = fits.pop.3 in
+        let wide = fits.pop.4 in
+        let bounded = fits.ring.bounded in
+        let stands = word_place place read loaded (omega arith) less in
+        let here : read_of place word + 0 ≡ read = omega arith in
+        let seen : word (cell + loaded) ≡ get_or (item words waiting 0) loaded 0 = rw at (rw here at (fits.ring.items 0 some loaded less)) in (
+          (omega (arith, stands.0), omega (arith, stands.1)),
+          tt,
+          refl,
+          pops_on fits (loads_on width word waiting read cell (set got loaded (word (cell + loaded))) (loaded + 1) fits.ring is some at (omega arith) (length-set got loaded _ ∙ wide) (λ i below. elim (cases_lt i loaded) [
+            | inl old ↦ get_or-set_other got loaded i (word (cell + loaded)) 0 (omega arith) ∙ fits.pop.5 i old
+            | inr new ↦ (let last : i ≡ loaded = omega arith in rw last (get_or-set_same got loaded (word (cell + loaded)) 0 (omega arith) ∙ seen))
+          ])),
+          tt,
+        )
+
   -- the oldest value is taken
-  takes : (waiting : List (List ℕ)) (read : ℕ) (got : List ℕ) (pushes : Option CellPush) (pops : Option CellPop) → Fits place word waiting pushes pops → read ≡ read_of place word → 0 < length waiting → got ≡ get_or waiting 0 []
-      → (waiting ≡ got ∷ rest waiting) × Fits place (put word (place.base + 1) (position_after read)) (rest waiting) pushes None
-  takes [] read got pushes pops fits is some first = absurd (omega arith)
-  takes (first ∷ others) read got pushes pops fits is some is_first =
+  stores_read : {width : ℕ} → (word : ℕ → ℕ) (waiting : List A) (pushes : CellPushing A) (read : ℕ) (got : List ℕ) → let pops : CellPopping width = popping.Pops (pop.StoresRead read got) in
+      Fits words of_words place word waiting pushes pops → PoppingKeeps words of_words place word waiting pushes pops
+  stores_read word [] pushes read got fits = let some = fits.pop.1 in absurd (omega arith)
+  stores_read word (first ∷ others) pushes read got fits =
       let counts = fits.ring.counts in
       let position = fits.position in
+      let is = fits.pop.0 in
+      let given : of_words got ≡ Some first = rw fits.pop.2 fits.ring.whole.0.1 in
       let moved : position_after read ≡ read_of place word + 1 = omega arith in
-      let write_same = put-other word (place.base + 1) (position_after read) place.base (omega arith) in (
-        ap (λ (v : List ℕ). v ∷ others) (sym is_first),
+      let write_same = put-other word (place.base + 1) (position_after read) place.base (omega arith) in
+      rw given (
+        at_read,
+        refl,
+        write_same,
         record {
           position = rw write_same position;
-          ring = ring_take place word first others (position_after read) fits.ring moved;
-          push = push_knows_less place word (put word (place.base + 1) (position_after read)) (first ∷ others) others write_same (omega arith)
-              (λ position i inside. put-other word (place.base + 1) (position_after read) (cell_at place position + i) (omega arith)) pushes fits.push;
+          ring = ring_take words of_words place word first others (position_after read) fits.ring moved;
+          push = push_knows_less words of_words place word (put word (place.base + 1) (position_after read)) (first ∷ others) others write_same (omega arith)
+              (λ _ position i inside. put-other word (place.base + 1) (position_after read) (cell_at place position + i) (omega arith)) pushes fits.push;
           pop = tt;
         },
+        refl,
       )
 
-  pub pop_step : (waiting : List (List ℕ)) (pushes : Option CellPush) (pop : CellPop) → Fits place word waiting pushes (Some pop) → PopKeeps place word waiting pushes pop
-  pop_step waiting pushes CellPop.loads_read fits = ((omega arith, omega arith), tt, pops_on fits refl)
-  pop_step waiting pushes (CellPop.loads_write read) fits =
-      let counts = fits.ring.counts in
-      let is = fits.pop in
-      let within : (place.base ≤ place.base) × (place.base < place.base + (2 + place.capacity * place.width)) = (omega arith, omega arith) in
-      elim (cases_Bool (is_empty read (write_of place word))) [
-        | inl empty ↦ rw empty (within, nil_from_length waiting (omega (arith, leb-true _ _ empty)), pops_on fits tt)
-        | inr more ↦ (
-            let some : 0 < length waiting = omega (arith, leb-false _ _ more) in
-            rw more (within, some, pops_on fits (loads_on waiting read (cell_at place read) [] fits.ring is some refl (omega arith) (λ i below. absurd (omega arith))))
-            )
-      ]
-  pop_step waiting pushes (CellPop.loads_word read cell got) fits =
-      let is = fits.pop.0 in
-      let some = fits.pop.1 in
-      let at = fits.pop.2 in
-      let less = fits.pop.3 in
-      let bounded = fits.ring.bounded in
-      let stands = word_place place read (length got) (omega arith) less in
-      let longer = length_push got (word (cell + length got)) in
-      let here : read_of place word + 0 ≡ read = omega arith in
-      let seen : word (cell + length got) ≡ get_or (get_or waiting 0 []) (length got) 0 = rw at (rw here at (fits.ring.items 0 some (length got) less)) in (
-        (omega (arith, stands.0), omega (arith, stands.1)),
-        tt,
-        pops_on fits (loads_on waiting read cell (got ++ word (cell + length got) ∷ []) fits.ring is some at (omega arith) (λ i below. elim (cases_lt i (length got)) [
-          | inl old ↦ get_or_append_left got (word (cell + length got) ∷ []) 0 i old ∙ fits.pop.4 i old
-          | inr new ↦ (let last : i ≡ length got = omega arith in rw last (get_or_push got (word (cell + length got)) 0 (length got) refl ∙ seen))
-        ])),
-      )
-  pop_step waiting pushes (CellPop.stores_read read got) fits =
-      let did = takes waiting read got pushes _ fits fits.pop.0 fits.pop.1 fits.pop.2 in
-      ((omega arith, omega arith), did.0, did.1)
+  pub popping_step : {width : ℕ} → (word : ℕ → ℕ) (waiting : List A) (pushes : CellPushing A) (pops : CellPopping width) → Fits words of_words place word waiting pushes pops → PoppingKeeps words of_words place word waiting pushes pops
+  popping_step word waiting pushes popping.AtRest fits = (tt, tt, refl, fits, tt)
+  popping_step word waiting pushes (popping.Pops pop.LoadsRead) fits = (at_read, tt, refl, pops_on word waiting pushes fits refl, tt)
+  popping_step word waiting pushes (popping.Pops (pop.LoadsWrite read)) fits = loads_write word waiting pushes read fits
+  popping_step word waiting pushes (popping.Pops (pop.LoadsWord read cell got loaded)) fits = loads_word word waiting pushes read cell got loaded fits
+  popping_step word waiting pushes (popping.Pops (pop.StoresRead read got)) fits = stores_read word waiting pushes read got fits
+  popping_step word waiting pushes (popping.Looks empty_look.LoadsRead) fits = (at_read, tt, refl, pops_on word waiting pushes fits refl, tt)
+  popping_step word waiting pushes (popping.Looks (empty_look.LoadsWrite read)) fits = looks_at_write word waiting pushes read fits

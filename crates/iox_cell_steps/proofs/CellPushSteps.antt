@@ -1,98 +1,142 @@
--- Each access of a push keeps what the words say, and is one moment.
-use Rattle.std.proofs.Common.{◌≡◌, ℕ, ◌+◌, ◌*◌, ◌<◌, ◌≤◌, List, [], ◌∷◌, ◌++◌, length, get_or, refl, ap, sym, ◌∙◌, inl, inr, arith, eqb, Option, Some, nat_le}
-use Rattle.std.proofs.lemmas.List.{get_or_append_left, length_push}
+-- Each access of the party that pushes keeps what the words say, and is one moment.
+use Rattle.std.proofs.Common.{◌≡◌, ℕ, ◌+◌, ◌<◌, ◌≤◌, List, [], ◌∷◌, ◌++◌, length, get_or, refl, ap, sym, ◌∙◌, inl, inr, arith, eqb, Option, nat_le}
+use Rattle.std.proofs.lemmas.List.{length_push}
 use Rattle.std.proofs.lemmas.Bool.{cases_Bool, cases_lt, leb-true, leb-false, eqb-true, eqb-false}
-use Rattle.iox_steps.specs.Accesses.{put}
+use Rattle.iox_steps.specs.declared.push.FullLook.TheVariants as full_look
+use Rattle.iox_steps.specs.Accesses.{put, IsPlace}
 use Rattle.iox_steps.specs.Sites.{last_position}
 use Rattle.iox_steps.proofs.Places.{put-same, put-other}
-use Rattle.iox_cell_steps.specs.Cells.{Place, cell_at, is_full}
-use Rattle.iox_cell_steps.specs.CellPrograms.{CellPush, CellPop, store_from}
-use Rattle.iox_cell_steps.specs.CellFits.{write_of, read_of, Publishes, PushKnows, Fits}
-use Rattle.iox_cell_steps.specs.CellLaws.{PushKeeps}
+use Rattle.iox_cell_steps.specs.declared.place.Place.{Place}
+use Rattle.iox_cell_steps.specs.declared.push.CellPush.TheVariants as push
+use Rattle.iox_cell_steps.specs.declared.seat.CellPushing.{CellPushing}
+use Rattle.iox_cell_steps.specs.declared.seat.CellPushing.TheVariants as pushing
+use Rattle.iox_cell_steps.specs.declared.seat.CellPopping.{CellPopping}
+use Rattle.iox_cell_steps.specs.Cells.{size, cell_at, is_full}
+use Rattle.iox_cell_steps.specs.CellPrograms.{store_from}
+use Rattle.iox_cell_steps.specs.CellFits.{write_of, read_of, Publishes, PushKnows, PushingKnows, Fits}
+use Rattle.iox_cell_steps.specs.CellLaws.{PushingKeeps}
 use Rattle.iox_cell_steps.proofs.CellPlaces.{word_place}
-use Rattle.iox_cell_steps.proofs.CellRings.{ring_store, ring_publish}
+use Rattle.iox_cell_steps.proofs.CellRings.{item-push_old, ring_store, ring_publish}
 use Rattle.iox_cell_steps.proofs.CellKnowledge.{pop_knows_more}
 
--- once so many words are stored
-stores_on : (place : Place) (word : ℕ → ℕ) (waiting : List (List ℕ)) (value : List ℕ) (cell next stored : ℕ) → cell ≡ cell_at place (write_of place word) → stored ≤ place.width → Publishes place word waiting value next stored
-    → PushKnows place word waiting (Some (store_from place value cell next stored))
-stores_on place word waiting value cell next stored at few knows = elim (cases_Bool (nat_le place.width stored)) [
-  | inl all ↦ (
-      let is : stored ≡ place.width = omega (arith, leb-true _ _ all) in
-      let all_stored = rw is at knows in
-      rw all all_stored
-      )
-  | inr some ↦ (let less : stored < place.width = omega (arith, leb-false _ _ some) in rw some (knows, at, less))
-]
+module _ {A : Type 0} (words : A → List ℕ) (of_words : List ℕ → Option A) (place : Place) where
+  -- once so many words are stored
+  stores_on : (word : ℕ → ℕ) (waiting : List A) (value : A) (cell next stored : ℕ) → cell ≡ cell_at place (write_of place word) → stored ≤ place.width → Publishes words of_words place word waiting value next stored
+      → PushKnows words of_words place word waiting (store_from place value cell next stored)
+  stores_on word waiting value cell next stored at few knows = elim (cases_Bool (nat_le place.width stored)) [
+    | inl all ↦ (
+        let is : stored ≡ place.width = omega (arith, leb-true _ _ all) in
+        let all_stored = rw is at knows in
+        rw all all_stored
+        )
+    | inr some ↦ (let less : stored < place.width = omega (arith, leb-false _ _ some) in rw some (knows, at, less))
+  ]
 
-module _ (place : Place) (word : ℕ → ℕ) where
-  -- a push is elsewhere
-  pushes_on : {waiting : List (List ℕ)} {pushes pushes' : Option CellPush} {pops : Option CellPop} → Fits place word waiting pushes pops → PushKnows place word waiting pushes' → Fits place word waiting pushes' pops
-  pushes_on fits knows = record { position = fits.position; ring = fits.ring; push = knows; pop = fits.pop }
+  -- the words of the two positions are the queue's
+  at_write : IsPlace place.base (size place) place.base
+  at_write = (omega arith, omega arith)
 
-  pub push_step : (waiting : List (List ℕ)) (push : CellPush) (pops : Option CellPop) → Fits place word waiting (Some push) pops → PushKeeps place word waiting push pops
-  push_step waiting (CellPush.loads_write value) pops fits = ((omega arith, omega arith), tt, pushes_on fits (fits.push, refl))
-  push_step waiting (CellPush.loads_read value write) pops fits =
-      let at = fits.push.1 in
-      let wide = fits.push.0 in
-      let counts = fits.ring.counts in
-      let bounded = fits.ring.bounded in
-      let position = fits.position in
-      let within : (place.base ≤ place.base + 1) × (place.base + 1 < place.base + (2 + place.capacity * place.width)) = (omega arith, omega arith) in
-      elim (cases_Bool (eqb write last_position)) [
-        | inl last ↦ rw last (within, sym at ∙ eqb-true _ _ last, pushes_on fits tt)
-        | inr on ↦ (
-            let other = eqb-false _ _ on in
-            elim (cases_Bool (is_full place (read_of place word) write)) [
-              | inl full ↦ rw (on, full) (within, omega (arith, leb-true _ _ full), pushes_on fits tt)
-              | inr room ↦ (
-                  let free : length waiting < place.capacity = omega (arith, leb-false _ _ room) in
-                  let knows : Publishes place word waiting value (write + 1) 0 = record { is_next = ap (λ n. n + 1) at; in_range = omega arith; free = free; wide = wide; holds = λ i below. absurd (omega arith) } in
-                  rw (on, room) (within, free, pushes_on fits (stores_on place word waiting value (cell_at place write) (write + 1) 0 (ap (cell_at place) at) (omega arith) knows))
-                  )
-            ]
-            )
-      ]
-  push_step waiting (CellPush.stores_word value cell next stored) pops fits =
-      let knows = fits.push.0 in
-      let at = fits.push.1 in
-      let less = fits.push.2 in
-      let free = knows.free in
-      let here = cell_at place (write_of place word) + stored in
-      let stands = word_place place (write_of place word) stored (omega arith) less in
-      let word' = put word here (get_or value stored 0) in
-      let write_same = put-other word here (get_or value stored 0) place.base (omega arith) in
-      let read_same = put-other word here (get_or value stored 0) (place.base + 1) (omega arith) in
-      let more : Publishes place word' waiting value next (stored + 1) = record {
-        is_next = knows.is_next ∙ ap (λ n. n + 1) (sym write_same);
-        in_range = knows.in_range;
-        free = free;
-        wide = knows.wide;
-        holds = λ i below. rw write_same (elim (cases_lt i stored) [
-          | inl old ↦ put-other word here (get_or value stored 0) (cell_at place (write_of place word) + i) (omega arith) ∙ knows.holds i old
-          | inr new ↦ (let is : i ≡ stored = omega arith in rw is (put-same word here (get_or value stored 0)))
-        ]);
-      } in
-      rw at (
-        (omega (arith, stands.0), omega (arith, stands.1)),
-        tt,
-        record {
-          position = rw write_same fits.position;
-          ring = ring_store place word waiting stored (get_or value stored 0) fits.ring free less;
-          push = stores_on place word' waiting value (cell_at place (write_of place word)) next (stored + 1) (ap (cell_at place) (sym write_same)) (omega arith) more;
-          pop = pop_knows_more place word word' waiting waiting read_same (omega arith) (λ _. refl) pops fits.pop;
-        },
-      )
-  push_step waiting (CellPush.stores_write value next) pops fits =
-      let knows = fits.push in
-      let write_new = put-same word place.base next in
-      let read_same = put-other word place.base next (place.base + 1) (omega arith) in (
-        (omega arith, omega arith),
-        knows.free,
-        record {
-          position = rw write_new knows.in_range;
-          ring = ring_publish place word waiting value next fits.ring knows.free knows.wide knows.holds knows.is_next;
-          push = tt;
-          pop = pop_knows_more place word (put word place.base next) waiting (waiting ++ value ∷ []) read_same (omega (arith, length_push waiting value)) (λ some. get_or_append_left waiting (value ∷ []) [] 0 some) pops fits.pop;
-        },
-      )
+  at_read : IsPlace place.base (size place) (place.base + 1)
+  at_read = (omega arith, omega arith)
+
+  module _ {width : ℕ} (word : ℕ → ℕ) (waiting : List A) (pops : CellPopping width) where
+    -- the party is elsewhere
+    pushes_on : {pushes pushes' : CellPushing A} → Fits words of_words place word waiting pushes pops → PushingKnows words of_words place word waiting pushes' → Fits words of_words place word waiting pushes' pops
+    pushes_on fits knows = record { position = fits.position; ring = fits.ring; push = knows; pop = fits.pop }
+
+    loads_read : (value : A) (write : ℕ) → let pushes : CellPushing A = pushing.Pushes (push.LoadsRead value write) in
+        Fits words of_words place word waiting pushes pops → PushingKeeps words of_words place word waiting pushes pops
+    loads_read value write fits =
+        let at = fits.push.1 in
+        let whole = fits.push.0 in
+        let counts = fits.ring.counts in
+        let bounded = fits.ring.bounded in
+        let position = fits.position in
+        elim (cases_Bool (eqb write last_position)) [
+          | inl last ↦ rw last (at_read, sym at ∙ eqb-true _ _ last, refl, pushes_on fits tt, inr refl)
+          | inr on ↦ (
+              let other = eqb-false _ _ on in
+              elim (cases_Bool (is_full place (read_of place word) write)) [
+                | inl full ↦ rw (on, full) (at_read, omega (arith, leb-true _ _ full), refl, pushes_on fits tt, inl refl)
+                | inr room ↦ (
+                    let free : length waiting < place.capacity = omega (arith, leb-false _ _ room) in
+                    let knows : Publishes words of_words place word waiting value (write + 1) 0 = record { is_next = ap (λ n. n + 1) at; in_range = omega arith; free = free; whole = whole; holds = λ i below. absurd (omega arith) } in
+                    rw (on, room) (at_read, free, refl, pushes_on fits (stores_on word waiting value (cell_at place write) (write + 1) 0 (ap (cell_at place) at) (omega arith) knows), tt)
+                    )
+              ]
+              )
+        ]
+
+    stores_word : (value : A) (cell next stored : ℕ) → let pushes : CellPushing A = pushing.Pushes (push.StoresWord value cell next stored) in
+        Fits words of_words place word waiting pushes pops → PushingKeeps words of_words place word waiting pushes pops
+    stores_word value cell next stored fits =
+        let knows = fits.push.0 in
+        let at = fits.push.1 in
+        let less = fits.push.2 in
+        let free = knows.free in
+        let here = cell_at place (write_of place word) + stored in
+        let there = get_or (words value) stored 0 in
+        let stands = word_place place (write_of place word) stored (omega arith) less in
+        let word' = put word here there in
+        let write_same = put-other word here there place.base (omega arith) in
+        let read_same = put-other word here there (place.base + 1) (omega arith) in
+        let more : Publishes words of_words place word' waiting value next (stored + 1) = record {
+          is_next = knows.is_next ∙ ap (λ n. n + 1) (sym write_same);
+          in_range = knows.in_range;
+          free = free;
+          whole = knows.whole;
+          holds = λ i below. rw write_same (elim (cases_lt i stored) [
+            | inl old ↦ put-other word here there (cell_at place (write_of place word) + i) (omega arith) ∙ knows.holds i old
+            | inr new ↦ (let is : i ≡ stored = omega arith in rw is (put-same word here there))
+          ]);
+        } in
+        rw at (
+          (omega (arith, stands.0), omega (arith, stands.1)),
+          tt,
+          write_same,
+          record {
+            position = rw write_same fits.position;
+            ring = ring_store words of_words place word waiting stored there fits.ring free less;
+            push = stores_on word' waiting value (cell_at place (write_of place word)) next (stored + 1) (ap (cell_at place) (sym write_same)) (omega arith) more;
+            pop = pop_knows_more words of_words place word word' waiting waiting read_same (omega arith) (λ _. refl) pops fits.pop;
+          },
+          tt,
+        )
+
+    stores_write : (value : A) (next : ℕ) → let pushes : CellPushing A = pushing.Pushes (push.StoresWrite value next) in
+        Fits words of_words place word waiting pushes pops → PushingKeeps words of_words place word waiting pushes pops
+    stores_write value next fits =
+        let knows = fits.push in
+        let write_new = put-same word place.base next in
+        let read_same = put-other word place.base next (place.base + 1) (omega arith) in (
+          at_write,
+          knows.free,
+          write_new ∙ knows.is_next,
+          record {
+            position = rw write_new knows.in_range;
+            ring = ring_publish words of_words place word waiting value next fits.ring knows.free knows.whole knows.holds knows.is_next;
+            push = tt;
+            pop = pop_knows_more words of_words place word (put word place.base next) waiting (waiting ++ value ∷ []) read_same (omega (arith, length_push waiting value)) (λ some. item-push_old words of_words waiting value 0 some) pops fits.pop;
+          },
+          (value, refl),
+        )
+
+    looks_at_read : (write : ℕ) → let pushes : CellPushing A = pushing.Looks (full_look.LoadsRead write) in
+        Fits words of_words place word waiting pushes pops → PushingKeeps words of_words place word waiting pushes pops
+    looks_at_read write fits =
+        let at = fits.push in
+        let counts = fits.ring.counts in
+        let bounded = fits.ring.bounded in
+        elim (cases_Bool (is_full place (read_of place word) write)) [
+          | inl full ↦ rw full (at_read, omega (arith, leb-true _ _ full), refl, pushes_on fits tt, refl)
+          | inr room ↦ rw room (at_read, omega (arith, leb-false _ _ room), refl, pushes_on fits tt, refl)
+        ]
+
+    pub pushing_step : (pushes : CellPushing A) → Fits words of_words place word waiting pushes pops → PushingKeeps words of_words place word waiting pushes pops
+    pushing_step pushing.AtRest fits = (tt, tt, refl, fits, tt)
+    pushing_step (pushing.Pushes (push.LoadsWrite value)) fits = (at_write, tt, refl, pushes_on fits (fits.push, refl), tt)
+    pushing_step (pushing.Pushes (push.LoadsRead value write)) fits = loads_read value write fits
+    pushing_step (pushing.Pushes (push.StoresWord value cell next stored)) fits = stores_word value cell next stored fits
+    pushing_step (pushing.Pushes (push.StoresWrite value next)) fits = stores_write value next fits
+    pushing_step (pushing.Looks full_look.LoadsWrite) fits = (at_write, tt, refl, pushes_on fits refl, tt)
+    pushing_step (pushing.Looks (full_look.LoadsRead write)) fits = looks_at_read write fits

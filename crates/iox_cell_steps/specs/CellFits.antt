@@ -1,58 +1,96 @@
--- What the words of a queue of wide values say while its two parties are anywhere in their calls.
-use Rattle.std.specs.Prelude.{◌≡◌, ℕ, ◌+◌, ◌^◌, ◌<◌, ◌≤◌, List, [], length, slice_index, slice_index_or, Option, Some, None}
-use Rattle.iox_cell_steps.specs.Cells.{Place, cell_at}
-use Rattle.iox_cell_steps.specs.CellPrograms.{CellPush, CellPop}
+-- What the words of a queue of values say while its two parties are anywhere in their calls. `word` reads a word by its place.
+use Rattle.std.specs.Prelude.{◌≡◌, ℕ, ◌+◌, ◌^◌, ◌<◌, ◌≤◌, List, [], ◌∷◌, length, map, slice_index, slice_index_or, Option, Some}
+use Rattle.iox_steps.specs.declared.push.FullLook.{FullLook}
+use Rattle.iox_steps.specs.declared.push.FullLook.TheVariants as full_look
+use Rattle.iox_steps.specs.declared.pop.EmptyLook.{EmptyLook}
+use Rattle.iox_steps.specs.declared.pop.EmptyLook.TheVariants as empty_look
+use Rattle.iox_cell_steps.specs.declared.place.Place.{Place}
+use Rattle.iox_cell_steps.specs.declared.push.CellPush.{CellPush}
+use Rattle.iox_cell_steps.specs.declared.push.CellPush.TheVariants as push
+use Rattle.iox_cell_steps.specs.declared.pop.CellPop.{CellPop}
+use Rattle.iox_cell_steps.specs.declared.pop.CellPop.TheVariants as pop
+use Rattle.iox_cell_steps.specs.declared.seat.CellPushing.{CellPushing}
+use Rattle.iox_cell_steps.specs.declared.seat.CellPushing.TheVariants as pushing
+use Rattle.iox_cell_steps.specs.declared.seat.CellPopping.{CellPopping}
+use Rattle.iox_cell_steps.specs.declared.seat.CellPopping.TheVariants as popping
+use Rattle.iox_cell_steps.specs.Cells.{cell_at}
 
-module _ (place : Place) (word : ℕ → ℕ) where
-  abbrev pub write_of : ℕ
-  write_of = word place.base
+-- a value whose words are as many as a cell has, and which its words give back
+abbrev pub IsWhole : {A : Type 0} → (A → List ℕ) → (List ℕ → Option A) → ℕ → A → Type 0
+IsWhole words of_words width value = (length (words value) ≡ width) × (of_words (words value) ≡ Some value)
 
-  abbrev pub read_of : ℕ
-  read_of = word (place.base + 1)
+abbrev pub AreWhole : {A : Type 0} → (A → List ℕ) → (List ℕ → Option A) → ℕ → List A → Type 0
+AreWhole words of_words width [] = Unit {0}
+AreWhole words of_words width (value ∷ others) = IsWhole words of_words width value × AreWhole words of_words width others
 
-  -- the first words of a cell are those of the value
-  abbrev pub Holds : ℕ → List ℕ → ℕ → Type 0
-  Holds cell value count = (i : ℕ) → i < count → word (cell + i) ≡ slice_index value i
+-- the first words of a cell are those of the list
+abbrev pub Holds : (ℕ → ℕ) → ℕ → List ℕ → ℕ → Type 0
+Holds word cell list count = (i : ℕ) → i < count → word (cell + i) ≡ slice_index list i
 
-  abbrev pub item : List (List ℕ) → ℕ → List ℕ
-  item waiting k = slice_index_or waiting k []
+-- the words of a value that waits
+abbrev pub item : {A : Type 0} → (A → List ℕ) → List A → ℕ → List ℕ
+item words waiting k = slice_index_or (map words waiting) k []
 
+abbrev pub write_of : Place → (ℕ → ℕ) → ℕ
+write_of place word = word place.base
+
+abbrev pub read_of : Place → (ℕ → ℕ) → ℕ
+read_of place word = word (place.base + 1)
+
+module _ {A : Type 0} (words : A → List ℕ) (of_words : List ℕ → Option A) (place : Place) (word : ℕ → ℕ) where
   -- the values that wait stand in the cells, whole, from the read position to the write position
-  pub record Ring (waiting : List (List ℕ)) : Type 0 where
-    pub counts : write_of ≡ read_of + length waiting
+  pub record Ring (waiting : List A) : Type 0 where
+    pub counts : write_of place word ≡ read_of place word + length waiting
     pub bounded : length waiting ≤ place.capacity
-    pub whole : (k : ℕ) → k < length waiting → length (item waiting k) ≡ place.width
-    pub items : (k : ℕ) → k < length waiting → Holds (cell_at place (read_of + k)) (item waiting k) place.width
+    pub whole : AreWhole words of_words place.width waiting
+    pub items : (k : ℕ) → k < length waiting → Holds word (cell_at place (read_of place word + k)) (item words waiting k) place.width
 
-  -- what a push knows that is to publish this value
-  pub record Publishes (waiting : List (List ℕ)) (value : List ℕ) (next stored : ℕ) : Type 0 where
-    pub is_next : next ≡ write_of + 1
+  -- what a push knows that is to publish this value, of which so many words are stored
+  pub record Publishes (waiting : List A) (value : A) (next stored : ℕ) : Type 0 where
+    pub is_next : next ≡ write_of place word + 1
     pub in_range : next < 2 ^ 64
     pub free : length waiting < place.capacity
-    pub wide : length value ≡ place.width
-    pub holds : Holds (cell_at place write_of) value stored
+    pub whole : IsWhole words of_words place.width value
+    pub holds : Holds word (cell_at place (write_of place word)) (words value) stored
 
-  abbrev pub PushKnows : List (List ℕ) → Option CellPush → Type 0
-  PushKnows waiting None = Unit {0}
-  PushKnows waiting (Some (CellPush.loads_write value)) = length value ≡ place.width
-  PushKnows waiting (Some (CellPush.loads_read value write)) = (length value ≡ place.width) × (write ≡ write_of)
-  PushKnows waiting (Some (CellPush.stores_word value cell next stored)) = Publishes waiting value next stored
-      × (cell ≡ cell_at place write_of) × (stored < place.width)
-  PushKnows waiting (Some (CellPush.stores_write value next)) = Publishes waiting value next place.width
+  abbrev pub PushKnows : List A → CellPush A → Type 0
+  PushKnows waiting (push.LoadsWrite value) = IsWhole words of_words place.width value
+  PushKnows waiting (push.LoadsRead value write) = IsWhole words of_words place.width value × (write ≡ write_of place word)
+  PushKnows waiting (push.StoresWord value cell next stored) = Publishes waiting value next stored
+      × (cell ≡ cell_at place (write_of place word)) × (stored < place.width)
+  PushKnows waiting (push.StoresWrite value next) = Publishes waiting value next place.width
+
+  abbrev pub FullLookKnows : FullLook → Type 0
+  FullLookKnows full_look.LoadsWrite = Unit {0}
+  FullLookKnows (full_look.LoadsRead write) = write ≡ write_of place word
+
+  abbrev pub PushingKnows : List A → CellPushing A → Type 0
+  PushingKnows waiting pushing.AtRest = Unit {0}
+  PushingKnows waiting (pushing.Pushes push) = PushKnows waiting push
+  PushingKnows waiting (pushing.Looks look) = FullLookKnows look
 
   -- what a pop knows: the words that it loaded are the first of the oldest value's
-  abbrev pub PopKnows : List (List ℕ) → Option CellPop → Type 0
-  PopKnows waiting None = Unit {0}
-  PopKnows waiting (Some CellPop.loads_read) = Unit {0}
-  PopKnows waiting (Some (CellPop.loads_write read)) = read ≡ read_of
-  PopKnows waiting (Some (CellPop.loads_word read cell got)) = (read ≡ read_of) × (0 < length waiting)
-      × (cell ≡ cell_at place read) × (length got < place.width)
-      × ((i : ℕ) → i < length got → slice_index got i ≡ slice_index (item waiting 0) i)
-  PopKnows waiting (Some (CellPop.stores_read read got)) = (read ≡ read_of) × (0 < length waiting)
-      × (got ≡ item waiting 0)
+  abbrev pub PopKnows : {width : ℕ} → List A → CellPop width → Type 0
+  PopKnows waiting pop.LoadsRead = Unit {0}
+  PopKnows waiting (pop.LoadsWrite read) = read ≡ read_of place word
+  PopKnows waiting (pop.LoadsWord read cell got loaded) = (read ≡ read_of place word) × (0 < length waiting)
+      × (cell ≡ cell_at place read) × (loaded < place.width) × (length got ≡ place.width)
+      × ((i : ℕ) → i < loaded → slice_index got i ≡ slice_index (item words waiting 0) i)
+  PopKnows waiting (pop.StoresRead read got) = (read ≡ read_of place word) × (0 < length waiting)
+      × (got ≡ item words waiting 0)
 
-  pub record Fits (waiting : List (List ℕ)) (pushes : Option CellPush) (pops : Option CellPop) : Type 0 where
-    pub position : write_of < 2 ^ 64
+  abbrev pub EmptyLookKnows : EmptyLook → Type 0
+  EmptyLookKnows empty_look.LoadsRead = Unit {0}
+  EmptyLookKnows (empty_look.LoadsWrite read) = read ≡ read_of place word
+
+  abbrev pub PoppingKnows : {width : ℕ} → List A → CellPopping width → Type 0
+  PoppingKnows waiting popping.AtRest = Unit {0}
+  PoppingKnows waiting (popping.Pops pop) = PopKnows waiting pop
+  PoppingKnows waiting (popping.Looks look) = EmptyLookKnows look
+
+  -- the words and both parties are those of a queue in which this waits
+  pub record Fits {width : ℕ} (waiting : List A) (pushes : CellPushing A) (pops : CellPopping width) : Type 0 where
+    pub position : write_of place word < 2 ^ 64
     pub ring : Ring waiting
-    pub push : PushKnows waiting pushes
-    pub pop : PopKnows waiting pops
+    pub push : PushingKnows waiting pushes
+    pub pop : PoppingKnows waiting pops

@@ -1,36 +1,47 @@
--- What one access of a party does to a queue of values of several words.
-use Rattle.std.specs.Prelude.{ℕ, List, Option, Some, None}
-use Rattle.iox_steps.specs.declared.access.Next.{Next}
-use Rattle.iox_steps.specs.declared.access.Next.TheVariants.{Goes, Ends}
+-- What one access of a party does to a queue of values.
+use Rattle.std.specs.Prelude.{◌≡◌, ℕ, List, Option, Some}
 use Rattle.iox_steps.specs.Accesses.{seen_by, word_after, IsWithin}
-use Rattle.iox_cell_steps.specs.Cells.{Place, size}
-use Rattle.iox_cell_steps.specs.CellPrograms.{CellPush, CellPop, push_access, push_next, pop_access, pop_next}
-use Rattle.iox_cell_steps.specs.CellMoments.{push_moment, pop_moment, waiting_after, IsTrueOf}
+use Rattle.iox_cell_steps.specs.declared.place.Place.{Place}
+use Rattle.iox_cell_steps.specs.declared.seat.CellPushing.{CellPushing}
+use Rattle.iox_cell_steps.specs.declared.seat.CellPopping.{CellPopping}
+use Rattle.iox_cell_steps.specs.Cells.{size}
+use Rattle.iox_cell_steps.specs.CellSeats.{pushing_access, pushing_after, pushing_progress, pushing_moment, popping_access, popping_after, popping_progress, popping_moment}
+use Rattle.iox_cell_steps.specs.CellMoments.{waiting_after, IsTrueOf}
+use Rattle.iox_cell_steps.specs.CellRuns.{write_after}
+use Rattle.iox_cell_steps.specs.CellAnswers.{Answers}
 use Rattle.iox_cell_steps.specs.CellFits.{write_of, Fits}
 
--- inside the program while it goes on, and at rest once it ended
-abbrev pub in_call : {P R : Type 0} → Next P R → Option P
-in_call (Goes further) = Some further
-in_call (Ends reply) = None
+module _ {A : Type 0} {width : ℕ} (words : A → List ℕ) (of_words : List ℕ → Option A) (place : Place) (word : ℕ → ℕ) (waiting : List A) (pushes : CellPushing A) (pops : CellPopping width) where
+  -- the access of the party that pushes names no word but the queue's, is a moment that is true and is counted, leads to what fits after that moment, and its answer says it
+  abbrev pub PushingKeeps : Type 0
+  PushingKeeps =
+      let access = pushing_access words place pushes in let seen = seen_by access word in let moment = pushing_moment place pushes seen in
+      IsWithin place.base (size place) access × IsTrueOf place (write_of place word) waiting moment
+      × (write_of place (word_after access word) ≡ write_after moment (write_of place word))
+      × Fits words of_words place (word_after access word) (waiting_after moment waiting) (pushing_after place pushes seen) pops
+      × Answers (pushing_progress place pushes seen) moment
 
--- the access is within the queue's words, is a moment that is true, and leads to what fits after that moment
-abbrev pub PushKeeps : Place → (ℕ → ℕ) → List (List ℕ) → CellPush → Option CellPop → Type 0
-PushKeeps place word waiting push pops =
-    let access = push_access place push in let seen = seen_by access word in let moment = push_moment place push seen in
-    IsWithin place.base (size place) access × IsTrueOf place (write_of place word) waiting moment
-    × Fits place (word_after access word) (waiting_after moment waiting) (in_call (push_next place push seen)) pops
-
-abbrev pub PopKeeps : Place → (ℕ → ℕ) → List (List ℕ) → Option CellPush → CellPop → Type 0
-PopKeeps place word waiting pushes pop =
-    let access = pop_access place pop in let seen = seen_by access word in let moment = pop_moment place pop seen in
-    IsWithin place.base (size place) access × IsTrueOf place (write_of place word) waiting moment
-    × Fits place (word_after access word) (waiting_after moment waiting) pushes (in_call (pop_next place pop seen))
+  -- the same of the party that pops
+  abbrev pub PoppingKeeps : Type 0
+  PoppingKeeps =
+      let access = popping_access place pops in let seen = seen_by access word in let moment = popping_moment of_words place pops seen in
+      IsWithin place.base (size place) access × IsTrueOf place (write_of place word) waiting moment
+      × (write_of place (word_after access word) ≡ write_after moment (write_of place word))
+      × Fits words of_words place (word_after access word) (waiting_after moment waiting) pushes (popping_after of_words place pops seen)
+      × Answers (popping_progress of_words place pops seen) moment
 
 -- whatever the place, the capacity and the width, and wherever both parties are
-abbrev pub EveryPushKeeps : Type 0
-EveryPushKeeps = (place : Place) (word : ℕ → ℕ) (waiting : List (List ℕ)) (push : CellPush) (pops : Option CellPop)
-    → Fits place word waiting (Some push) pops → PushKeeps place word waiting push pops
+abbrev pub EveryPushingKeeps : {A : Type 0} → (A → List ℕ) → (List ℕ → Option A) → Type 0
+EveryPushingKeeps {A} words of_words = (width : ℕ) (place : Place) (word : ℕ → ℕ) (waiting : List A) (pushes : CellPushing A) (pops : CellPopping width)
+    → Fits words of_words place word waiting pushes pops → PushingKeeps words of_words place word waiting pushes pops
 
-abbrev pub EveryPopKeeps : Type 0
-EveryPopKeeps = (place : Place) (word : ℕ → ℕ) (waiting : List (List ℕ)) (pushes : Option CellPush) (pop : CellPop)
-    → Fits place word waiting pushes (Some pop) → PopKeeps place word waiting pushes pop
+abbrev pub EveryPoppingKeeps : {A : Type 0} → (A → List ℕ) → (List ℕ → Option A) → Type 0
+EveryPoppingKeeps {A} words of_words = (width : ℕ) (place : Place) (word : ℕ → ℕ) (waiting : List A) (pushes : CellPushing A) (pops : CellPopping width)
+    → Fits words of_words place word waiting pushes pops → PoppingKeeps words of_words place word waiting pushes pops
+
+-- values that are lists of words are their own words
+abbrev pub own_words : List ℕ → List ℕ
+own_words list = list
+
+abbrev pub own_value : List ℕ → Option (List ℕ)
+own_value list = Some list

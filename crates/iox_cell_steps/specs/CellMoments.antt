@@ -1,48 +1,73 @@
--- What an access of a push or of a pop does to the values that wait, and what it says of them.
-use Rattle.std.specs.Prelude.{◌≡◌, ℕ, ◌==◌, ◌<◌, ◌++◌, List, [], ◌∷◌, length, if◌then◌else◌}
+-- What an access does to the values that wait, and what it says of them.
+use Rattle.std.specs.Prelude.{◌≡◌, ℕ, ◌==◌, ◌<◌, ◌++◌, List, [], ◌∷◌, length, if◌then◌else◌, Option, Some, None}
+use Rattle.iox_steps.specs.declared.push.FullLook.{FullLook}
+use Rattle.iox_steps.specs.declared.push.FullLook.TheVariants as full_look
+use Rattle.iox_steps.specs.declared.pop.EmptyLook.{EmptyLook}
+use Rattle.iox_steps.specs.declared.pop.EmptyLook.TheVariants as empty_look
 use Rattle.iox_steps.specs.Sites.{last_position}
-use Rattle.iox_cell_steps.specs.Cells.{Place, is_full, is_empty}
-use Rattle.iox_cell_steps.specs.CellPrograms.{CellPush, CellPop}
+use Rattle.iox_cell_steps.specs.declared.place.Place.{Place}
+use Rattle.iox_cell_steps.specs.declared.push.CellPush.{CellPush}
+use Rattle.iox_cell_steps.specs.declared.push.CellPush.TheVariants as push
+use Rattle.iox_cell_steps.specs.declared.pop.CellPop.{CellPop}
+use Rattle.iox_cell_steps.specs.declared.pop.CellPop.TheVariants as pop
+use Rattle.iox_cell_steps.specs.declared.moment.CellMoment.{CellMoment}
+use Rattle.iox_cell_steps.specs.declared.moment.CellMoment.TheVariants.{Quiet, Publish, HandOut, SeesEmpty, SeesWaiting, SeesFull, SeesRoom, SeesEnd}
+use Rattle.iox_cell_steps.specs.Cells.{is_full, is_empty}
 
-pub data CellMoment : Type 0 where
-  quiet : CellMoment
-  publish : List ℕ → CellMoment
-  hand_out : List ℕ → CellMoment
-  sees_empty : CellMoment
-  sees_waiting : CellMoment
-  sees_full : CellMoment
-  sees_room : CellMoment
-  sees_end : CellMoment
+-- what a look at the read position shows
+abbrev pub room_moment : {A : Type 0} → Place → ℕ → ℕ → CellMoment A
+room_moment place read write = if is_full place read write then SeesFull else SeesRoom
 
-abbrev pub push_moment : Place → CellPush → ℕ → CellMoment
-push_moment place (CellPush.loads_write value) seen = CellMoment.quiet
-push_moment place (CellPush.loads_read value write) seen = if write == last_position then CellMoment.sees_end
-    else (if is_full place seen write then CellMoment.sees_full else CellMoment.sees_room)
-push_moment place (CellPush.stores_word value cell next word) seen = CellMoment.quiet
-push_moment place (CellPush.stores_write value next) seen = CellMoment.publish value
+-- what a push does to the queue, or sees there
+abbrev pub push_moment : {A : Type 0} → Place → CellPush A → ℕ → CellMoment A
+push_moment place (push.LoadsWrite value) seen = Quiet
+push_moment place (push.LoadsRead value write) seen = if write == last_position then SeesEnd else room_moment place seen write
+push_moment place (push.StoresWord value cell next word) seen = Quiet
+push_moment place (push.StoresWrite value next) seen = Publish value
 
-abbrev pub pop_moment : Place → CellPop → ℕ → CellMoment
-pop_moment place CellPop.loads_read seen = CellMoment.quiet
-pop_moment place (CellPop.loads_write read) seen = if is_empty read seen then CellMoment.sees_empty else CellMoment.sees_waiting
-pop_moment place (CellPop.loads_word read cell got) seen = CellMoment.quiet
-pop_moment place (CellPop.stores_read read got) seen = CellMoment.hand_out got
+-- what a look at the write position shows
+abbrev pub waiting_moment : {A : Type 0} → Place → ℕ → ℕ → CellMoment A
+waiting_moment place read write = if is_empty place read write then SeesEmpty else SeesWaiting
 
-abbrev pub rest : List (List ℕ) → List (List ℕ)
+-- the value leaves, if it is one
+abbrev pub handed_out_as : {A : Type 0} → Option A → CellMoment A
+handed_out_as (Some value) = HandOut value
+handed_out_as None = Quiet
+
+-- what a pop does to the queue, or sees there
+abbrev pub pop_moment : {A : Type 0} → {width : ℕ} → (List ℕ → Option A) → Place → CellPop width → ℕ → CellMoment A
+pop_moment of_words place pop.LoadsRead seen = Quiet
+pop_moment of_words place (pop.LoadsWrite read) seen = waiting_moment place read seen
+pop_moment of_words place (pop.LoadsWord read cell got loaded) seen = Quiet
+pop_moment of_words place (pop.StoresRead read got) seen = handed_out_as (of_words got)
+
+-- what the looks see
+abbrev pub full_look_moment : {A : Type 0} → Place → FullLook → ℕ → CellMoment A
+full_look_moment place full_look.LoadsWrite seen = Quiet
+full_look_moment place (full_look.LoadsRead write) seen = room_moment place seen write
+
+abbrev pub empty_look_moment : {A : Type 0} → Place → EmptyLook → ℕ → CellMoment A
+empty_look_moment place empty_look.LoadsRead seen = Quiet
+empty_look_moment place (empty_look.LoadsWrite read) seen = waiting_moment place read seen
+
+-- all but the first
+abbrev pub rest : {A : Type 0} → List A → List A
 rest [] = []
 rest (first ∷ others) = others
 
-abbrev pub waiting_after : CellMoment → List (List ℕ) → List (List ℕ)
-waiting_after (CellMoment.publish value) waiting = waiting ++ value ∷ []
-waiting_after (CellMoment.hand_out value) waiting = rest waiting
+-- what waits after a moment, oldest first
+abbrev pub waiting_after : {A : Type 0} → CellMoment A → List A → List A
+waiting_after (Publish value) waiting = waiting ++ value ∷ []
+waiting_after (HandOut value) waiting = rest waiting
 waiting_after moment waiting = waiting
 
 -- what a moment says is true of a queue with this write position, in which this waits
-abbrev pub IsTrueOf : Place → ℕ → List (List ℕ) → CellMoment → Type 0
-IsTrueOf place write waiting CellMoment.quiet = Unit {0}
-IsTrueOf place write waiting (CellMoment.publish value) = length waiting < place.capacity
-IsTrueOf place write waiting (CellMoment.hand_out value) = waiting ≡ value ∷ rest waiting
-IsTrueOf place write waiting CellMoment.sees_empty = waiting ≡ []
-IsTrueOf place write waiting CellMoment.sees_waiting = 0 < length waiting
-IsTrueOf place write waiting CellMoment.sees_full = length waiting ≡ place.capacity
-IsTrueOf place write waiting CellMoment.sees_room = length waiting < place.capacity
-IsTrueOf place write waiting CellMoment.sees_end = write ≡ last_position
+abbrev pub IsTrueOf : {A : Type 0} → Place → ℕ → List A → CellMoment A → Type 0
+IsTrueOf place write waiting Quiet = Unit {0}
+IsTrueOf place write waiting (Publish value) = length waiting < place.capacity
+IsTrueOf place write waiting (HandOut value) = waiting ≡ value ∷ rest waiting
+IsTrueOf place write waiting SeesEmpty = waiting ≡ []
+IsTrueOf place write waiting SeesWaiting = 0 < length waiting
+IsTrueOf place write waiting SeesFull = length waiting ≡ place.capacity
+IsTrueOf place write waiting SeesRoom = length waiting < place.capacity
+IsTrueOf place write waiting SeesEnd = write ≡ last_position

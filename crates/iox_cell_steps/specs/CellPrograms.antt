@@ -1,55 +1,73 @@
--- The programs of a push and of a pop of a value of several words, place by place.
-use Rattle.std.specs.Prelude.{ℕ, Bool, true, false, ◌+◌, ◌==◌, ◌||◌, ◌++◌, List, [], ◌∷◌, length, slice_index, nat_le, if◌then◌else◌, Option, Some, None}
+-- The programs of a push and of a pop of a value of several words, place by place. `words` gives the words of a value, and `of_words` the value of words.
+use Rattle.std.specs.Prelude.{ℕ, Bool, true, false, ◌+◌, ◌==◌, ◌||◌, List, slice_index, slice_set, replicate, nat_le, if◌then◌else◌, Option, None}
 use Rattle.iox_steps.specs.declared.access.Access.{Access}
 use Rattle.iox_steps.specs.declared.access.Access.TheVariants.{Load, Store}
 use Rattle.iox_steps.specs.declared.access.Next.{Next}
 use Rattle.iox_steps.specs.declared.access.Next.TheVariants.{Goes, Ends}
+use Rattle.iox_steps.specs.declared.push.FullLook.{FullLook}
+use Rattle.iox_steps.specs.declared.push.FullLook.TheVariants as full_look
+use Rattle.iox_steps.specs.declared.pop.EmptyLook.{EmptyLook}
+use Rattle.iox_steps.specs.declared.pop.EmptyLook.TheVariants as empty_look
 use Rattle.iox_steps.specs.Sites.{last_position, position_after}
-use Rattle.iox_cell_steps.specs.Cells.{Place, cell_at, is_full, is_empty}
+use Rattle.iox_cell_steps.specs.declared.place.Place.{Place}
+use Rattle.iox_cell_steps.specs.declared.push.CellPush.{CellPush}
+use Rattle.iox_cell_steps.specs.declared.push.CellPush.TheVariants as push
+use Rattle.iox_cell_steps.specs.declared.pop.CellPop.{CellPop}
+use Rattle.iox_cell_steps.specs.declared.pop.CellPop.TheVariants as pop
+use Rattle.iox_cell_steps.specs.Cells.{cell_at, is_full, is_empty}
 
-pub data CellPush : Type 0 where
-  loads_write : List ℕ → CellPush
-  loads_read : List ℕ → ℕ → CellPush
-  -- the value, its cell, the next write position, and which word is stored next
-  stores_word : List ℕ → ℕ → ℕ → ℕ → CellPush
-  stores_write : List ℕ → ℕ → CellPush
-
-pub data CellPop : Type 0 where
-  loads_read : CellPop
-  loads_write : ℕ → CellPop
-  -- the read position, its cell, and the words loaded so far
-  loads_word : ℕ → ℕ → List ℕ → CellPop
-  stores_read : ℕ → List ℕ → CellPop
-
-abbrev pub push_access : Place → CellPush → Access
-push_access place (CellPush.loads_write value) = Load place.base
-push_access place (CellPush.loads_read value write) = Load (place.base + 1)
-push_access place (CellPush.stores_word value cell next word) = Store (cell + word) (slice_index value word)
-push_access place (CellPush.stores_write value next) = Store place.base next
+-- what a push asks
+abbrev pub push_access : {A : Type 0} → (A → List ℕ) → Place → CellPush A → Access
+push_access words place (push.LoadsWrite value) = Load place.base
+push_access words place (push.LoadsRead value write) = Load (place.base + 1)
+push_access words place (push.StoresWord value cell next word) = Store (cell + word) (slice_index (words value) word)
+push_access words place (push.StoresWrite value next) = Store place.base next
 
 -- the words from this one on, and then the write position
-abbrev pub store_from : Place → List ℕ → ℕ → ℕ → ℕ → CellPush
-store_from place value cell next word = if nat_le place.width word then CellPush.stores_write value next else CellPush.stores_word value cell next word
+abbrev pub store_from : {A : Type 0} → Place → A → ℕ → ℕ → ℕ → CellPush A
+store_from place value cell next word = if nat_le place.width word then push.StoresWrite value next else push.StoresWord value cell next word
 
-abbrev pub push_next : Place → CellPush → ℕ → Next CellPush Bool
-push_next place (CellPush.loads_write value) seen = Goes (CellPush.loads_read value seen)
-push_next place (CellPush.loads_read value write) seen = if (write == last_position) || is_full place seen write then Ends false
+-- where a push goes
+abbrev pub push_next : {A : Type 0} → Place → CellPush A → ℕ → Next (CellPush A) Bool
+push_next place (push.LoadsWrite value) seen = Goes (push.LoadsRead value seen)
+push_next place (push.LoadsRead value write) seen = if (write == last_position) || is_full place seen write then Ends false
     else Goes (store_from place value (cell_at place write) (write + 1) 0)
-push_next place (CellPush.stores_word value cell next word) seen = Goes (store_from place value cell next (word + 1))
-push_next place (CellPush.stores_write value next) seen = Ends true
+push_next place (push.StoresWord value cell next word) seen = Goes (store_from place value cell next (word + 1))
+push_next place (push.StoresWrite value next) seen = Ends true
 
-abbrev pub pop_access : Place → CellPop → Access
-pop_access place CellPop.loads_read = Load (place.base + 1)
-pop_access place (CellPop.loads_write read) = Load place.base
-pop_access place (CellPop.loads_word read cell got) = Load (cell + length got)
-pop_access place (CellPop.stores_read read got) = Store (place.base + 1) (position_after read)
+-- what a pop asks
+abbrev pub pop_access : {width : ℕ} → Place → CellPop width → Access
+pop_access place pop.LoadsRead = Load (place.base + 1)
+pop_access place (pop.LoadsWrite read) = Load place.base
+pop_access place (pop.LoadsWord read cell got loaded) = Load (cell + loaded)
+pop_access place (pop.StoresRead read got) = Store (place.base + 1) (position_after read)
 
--- the words after those that were loaded, and then the read position
-abbrev pub load_from : Place → ℕ → ℕ → List ℕ → CellPop
-load_from place read cell got = if nat_le place.width (length got) then CellPop.stores_read read got else CellPop.loads_word read cell got
+-- the words from this one on, and then the read position
+abbrev pub load_from : {width : ℕ} → Place → ℕ → ℕ → List ℕ → ℕ → CellPop width
+load_from place read cell got loaded = if nat_le place.width loaded then pop.StoresRead read got else pop.LoadsWord read cell got loaded
 
-abbrev pub pop_next : Place → CellPop → ℕ → Next CellPop (Option (List ℕ))
-pop_next place CellPop.loads_read seen = Goes (CellPop.loads_write seen)
-pop_next place (CellPop.loads_write read) seen = if is_empty read seen then Ends None else Goes (load_from place read (cell_at place read) [])
-pop_next place (CellPop.loads_word read cell got) seen = Goes (load_from place read cell (got ++ seen ∷ []))
-pop_next place (CellPop.stores_read read got) seen = Ends (Some got)
+-- where a pop goes
+abbrev pub pop_next : {A : Type 0} → {width : ℕ} → (List ℕ → Option A) → Place → CellPop width → ℕ → Next (CellPop width) (Option A)
+pop_next of_words place pop.LoadsRead seen = Goes (pop.LoadsWrite seen)
+pop_next of_words place (pop.LoadsWrite read) seen = if is_empty place read seen then Ends None
+    else Goes (load_from place read (cell_at place read) (replicate place.width 0) 0)
+pop_next of_words place (pop.LoadsWord read cell got loaded) seen = Goes (load_from place read cell (slice_set got loaded seen) (loaded + 1))
+pop_next of_words place (pop.StoresRead read got) seen = Ends (of_words got)
+
+-- a look at fullness
+abbrev pub full_look_access : Place → FullLook → Access
+full_look_access place full_look.LoadsWrite = Load place.base
+full_look_access place (full_look.LoadsRead write) = Load (place.base + 1)
+
+abbrev pub full_look_next : Place → FullLook → ℕ → Next FullLook Bool
+full_look_next place full_look.LoadsWrite seen = Goes (full_look.LoadsRead seen)
+full_look_next place (full_look.LoadsRead write) seen = Ends (is_full place seen write)
+
+-- a look at emptiness
+abbrev pub empty_look_access : Place → EmptyLook → Access
+empty_look_access place empty_look.LoadsRead = Load (place.base + 1)
+empty_look_access place (empty_look.LoadsWrite read) = Load place.base
+
+abbrev pub empty_look_next : Place → EmptyLook → ℕ → Next EmptyLook Bool
+empty_look_next place empty_look.LoadsRead seen = Goes (empty_look.LoadsWrite seen)
+empty_look_next place (empty_look.LoadsWrite read) seen = Ends (is_empty place read seen)

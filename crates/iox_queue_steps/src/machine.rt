@@ -66,6 +66,7 @@ impl QueueMachine {
     }
 
     /// One access of the party's call.
+    #[inline]
     pub fn step(&mut self, party: usize) -> Result<Progress<Reply>, MachineError>
         ensures moment { IfOk result (IsMoment self.old self.new) }
         ensures stepped { IfOk result (λ answer. QueueStepped self.old party answer self.new) }

@@ -98,6 +98,15 @@ impl Playable for QueueParty {
         }
     }
 
+    #[inline(never)]
+    fn play(&mut self, words: &mut Vec<u64>, events: &mut Vec<Moment>) -> Progress<Reply> {
+        let site = self.site;
+        match &mut self.seat {
+            Seat::Pusher(pushes) => pushes.play(site, words, events),
+            Seat::Popper(pops) => pops.play(site, words, events),
+        }
+    }
+
     ghost stays_in = { queue_stays_in };
 
     ghost keeps = { queue_keeps };

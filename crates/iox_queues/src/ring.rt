@@ -13,9 +13,10 @@ pub(crate) mod tests;
 #[derive(Debug, Drop)]
 pub(crate) struct Ring<T> {
     cells: Vec<T>,
-    // The cell of the value that waits longest.
-    oldest: usize,
     len: usize,
+    // The cell of the value that waits longest. It stands between the two counts, so that a push adds
+    // to each of them in its place: two in a row are loaded, added to and stored as one pair.
+    oldest: usize,
     pushed: u64,
 }
 
@@ -53,7 +54,7 @@ impl<T: Copy> Ring<T> {
         ensures within { length self.new.waiting ≤ self.new.capacity }
     {
         let capacity = self.cells.len();
-        if self.len == capacity || self.pushed == u64::MAX {
+        if self.len >= capacity || self.pushed == u64::MAX {
             return false;
         }
         let free = place_ahead(self.oldest, self.len, capacity);

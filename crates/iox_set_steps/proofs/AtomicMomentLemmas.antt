@@ -20,7 +20,7 @@ use Rattle.iox_set_steps.specs.AtomicLaws.{atomics_stay_in}
 use Rattle.iox_set_steps.specs.AtomicMachines.{AtomicsStepped, AtomicsBegun, MayCall, IsNewParty, AreNewParties, IsAtomicMoment}
 
 -- each reply says what its access did or saw
-atomic_answers : (size : ℕ) (program : AtomicProgram size) (seen : ℕ) → AtomicAnswers (progress_of (atomic_next size program seen)) (atomic_event program seen)
+pub atomic_answers : (size : ℕ) (program : AtomicProgram size) (seen : ℕ) → AtomicAnswers (progress_of (atomic_next size program seen)) (atomic_event program seen)
 atomic_answers size AtRest seen = tt
 atomic_answers size (LoadsToStore list) seen = elim (cases_eq seen last_version) [ inl last ↦ rw (eq-eqb _ _ last) tt | inr more ↦ rw (ne_eqb _ _ more) tt ]
 atomic_answers size (StoresWord list version index) seen = tt

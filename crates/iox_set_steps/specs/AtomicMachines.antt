@@ -4,7 +4,7 @@ use Rattle.std.specs.Option.{option_to_list}
 use Rattle.iox_steps.specs.declared.access.Progress.{Progress}
 use Rattle.iox_steps.specs.declared.error.MachineError.{MachineError}
 use Rattle.iox_steps.specs.declared.machine.Entry.{Entry}
-use Rattle.iox_steps.specs.Worlds.{IsParty, Stepped, IsStepRefused, Begun, IsBeginRefused, AllEntered}
+use Rattle.iox_steps.specs.Worlds.{IsParty, Stepped, IsStepRefused, Begun, IsBeginRefused, Entered, AllEntered}
 use Rattle.iox_set_steps.specs.declared.unrestricted_atomic.AtomicCall.{AtomicCall}
 use Rattle.iox_set_steps.specs.declared.unrestricted_atomic.AtomicCall.TheVariants.{Store, Load}
 use Rattle.iox_set_steps.specs.declared.unrestricted_atomic.AtomicReply.{AtomicReply}
@@ -26,6 +26,9 @@ AtomicsBegun size = Begun (atomics_ask size) (AtomicsLead size) atomics_happen a
 
 abbrev pub IsAtomicBeginRefused : (size : ℕ) → AtomicWorld size → ℕ → AtomicCall size → MachineError → Type 0
 IsAtomicBeginRefused size = IsBeginRefused (atomics_ask size) (AtomicsLead size) atomics_happen atomics_rest AtomicsBegin
+
+abbrev pub AtomicsEntered : (size : ℕ) → AtomicWorld size → Entry (AtomicCall size) → AtomicWorld size → Type 0
+AtomicsEntered size = Entered (atomics_ask size) (AtomicsLead size) atomics_happen atomics_rest AtomicsBegin
 
 abbrev pub AllAtomicsEntered : (size : ℕ) → AtomicWorld size → List (Entry (AtomicCall size)) → AtomicWorld size → Type 0
 AllAtomicsEntered size = AllEntered (atomics_ask size) (AtomicsLead size) atomics_happen atomics_rest AtomicsBegin

@@ -10,6 +10,8 @@ pub mod Values
 pub mod AtomicPrograms
 pub mod AtomicPlays
 pub mod AtomicMachines
+pub mod TypedValues
+pub mod TypedWords
 pub mod Sites
 -- for proofs of this crate alone
 pub mod BitLemmas

@@ -1,11 +1,18 @@
 //! A value of `N` words that one party stores and all load, whole.
 pub use machine::AtomicMachine;
 pub use party::AtomicParty;
+pub use value::{ValueCall, ValueEvent, ValueReply};
+pub use value_machine::ValueMachine;
 
 mod machine;
 mod party;
 #[cfg(test)]
 mod tests;
+mod typed_words;
+mod value;
+mod value_machine;
+#[cfg(test)]
+mod value_tests;
 
 /// What a party can be asked to do.
 #[derive(Clone, Copy)]

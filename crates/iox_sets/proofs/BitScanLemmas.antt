@@ -1,51 +1,33 @@
 -- The lowest bit that is set, found in the first word that is not 0.
-use Rattle.std.proofs.Common.{◌≡◌, ◌≢◌, ◌+◌, ◌-◌, ◌*◌, ◌/◌, ◌%◌, ◌^◌, ◌<◌, ◌≤◌, ℕ, Bool, true, false, List, Some, None, eqb, bit_and, length, get_or, set, slice_get, ap, sym, ◌∙◌, inl, inr, arith, w64}
+use Rattle.std.proofs.Common.{◌≡◌, ◌≢◌, ◌+◌, ◌-◌, ◌*◌, ◌/◌, ◌%◌, ◌^◌, ◌<◌, ℕ, Bool, true, false, List, Some, None, eqb, bit_and, length, get_or, set, slice_get, ap, sym, ◌∙◌, inl, inr, arith, w64}
 use Rattle.std.specs.Int.{bit_at, bit_not, trailing_zeros}
-use Rattle.std.proofs.lemmas.Bool.{cases_Bool, cases_lt, ne_eqb}
+use Rattle.std.proofs.lemmas.Bool.{cases_lt, ne_eqb}
 use Rattle.std.proofs.lemmas.List.{get_or_past, get_or_read}
 use Rattle.std.proofs.lemmas.Nat.Bits.{bit_at-zero, bit_at-trailing_zeros, bit_at_clear_same, bit_at_clear_other}
-use Rattle.iox_sets.specs.BitSets.{bit, lowest, without_bit}
+use Rattle.iox_sets.specs.BitSets.{lowest, without_bit}
 use Rattle.iox_sets.specs.BitWords.{IsWholeSet, bit_in, bits_in}
 use Rattle.iox_sets.specs.Words.{IsFirstUsed, IsUnusedFrom}
 use Rattle.iox_sets.proofs.BitSetLemmas.{set_bits-lowest, set_bits-none}
 use Rattle.iox_sets.proofs.BitWordLemmas.{get_or-bits_in, length-bits_in, bits_in-set, IsWholeSet-set}
 
-module _ (words : List ℕ) (capacity from : ℕ) (whole : IsWholeSet words capacity)
-    (bits : List Bool) (shown : bits_in words capacity ≡ bits)
-    (clear : (id : ℕ) → id < from * 64 → bit bits id ≡ false) where
-  -- a bit past the set is not set in the words
-  bit_in-outside : (id : ℕ) → capacity ≤ id → bit_in words id ≡ false
-  bit_in-outside id past = elim (cases_Bool (bit_in words id)) [
-    | inl is_set ↦ let inside = whole.inside id is_set in absurd (omega arith)
-    | inr is_clear ↦ is_clear
-  ]
-
-  -- what the caller says of the bits, said of the words
-  bit_in-before : (id : ℕ) → id < from * 64 → bit_in words id ≡ false
-  bit_in-before id before = elim (cases_lt id capacity) [
-    | inl below ↦ sym (get_or-bits_in words capacity id false below) ∙ ap (λ b. bit b id) shown ∙ clear id before
-    | inr past ↦ bit_in-outside id past
-  ]
-
+module _ (words : List ℕ) (capacity : ℕ) (whole : IsWholeSet words capacity)
+    (bits : List Bool) (shown : bits_in words capacity ≡ bits) where
   -- a bit in a word that is 0
   bit_in-zero : (id : ℕ) → get_or words (id / 64) 0 ≡ 0 → bit_in words id ≡ false
   bit_in-zero id is_zero = rw (is_zero, bit_at-zero)
 
   -- where no word is used, no bit is set
-  pub lowest-unused : IsUnusedFrom words from → lowest bits ≡ None
+  pub lowest-unused : IsUnusedFrom words 0 → lowest bits ≡ None
   lowest-unused unused =
       let size = length-bits_in words capacity in
       ap lowest (sym shown) ∙ ap (λ ids. slice_get ids 0) (set_bits-none (bits_in words capacity) (λ id within.
       let below : id < capacity = omega arith in
-      get_or-bits_in words capacity id false below ∙ elim (cases_lt id (from * 64)) [
-        | inl before ↦ bit_in-before id before
-        | inr after ↦ bit_in-zero id (elim (cases_lt (id / 64) (length words)) [
-          | inl there ↦ unused (id / 64) (omega arith) there
-          | inr past ↦ get_or_past words (id / 64) 0 past
-        ])
-      ]))
+      get_or-bits_in words capacity id false below ∙ bit_in-zero id (elim (cases_lt (id / 64) (length words)) [
+        | inl there ↦ unused (id / 64) (omega arith) there
+        | inr past ↦ get_or_past words (id / 64) 0 past
+      ])))
 
-  module _ (place word : ℕ) (first : IsFirstUsed words from place) (read : word ≡ get_or words place word)
+  module _ (place word : ℕ) (first : IsFirstUsed words 0 place) (read : word ≡ get_or words place word)
       (fits : word < 2 ^ 64) where
     shift : ℕ
     shift = trailing_zeros w64 word
@@ -91,10 +73,7 @@ module _ (words : List ℕ) (capacity from : ℕ) (whole : IsWholeSet words capa
     -- and no bit before it is
     found_lowest : (id : ℕ) → id < place * 64 + shift → bit_in words id ≡ false
     found_lowest id before = elim (cases_lt id (place * 64)) [
-      | inl earlier ↦ elim (cases_lt id (from * 64)) [
-        | inl passed ↦ bit_in-before id passed
-        | inr later ↦ bit_in-zero id (first.unused (id / 64) (omega arith) (omega arith))
-      ]
+      | inl earlier ↦ bit_in-zero id (first.unused (id / 64) (omega arith) (omega arith))
       | inr here ↦
           let small = shift_small in
           let is : place * 64 + (id - place * 64) ≡ id = omega arith in

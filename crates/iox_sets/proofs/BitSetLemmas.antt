@@ -4,7 +4,7 @@ use Rattle.std.proofs.lemmas.Bool.{false≢true, true≢false}
 use Rattle.iox_sets.specs.BitSets.{lowest, no_bits, set_bits, set_bits_from, without_bit}
 
 -- where no bit is set, there are no numbers
-set_bits_from-none : (id : ℕ) (bits : List Bool) → ((k : ℕ) → k < length bits → get_or bits k false ≡ false)
+pub set_bits_from-none : (id : ℕ) (bits : List Bool) → ((k : ℕ) → k < length bits → get_or bits k false ≡ false)
     → set_bits_from id bits ≡ []
 set_bits_from-none id [] clear = refl
 set_bits_from-none id (true ∷ bits) clear = absurd (true≢false (clear 0 (omega arith)))
@@ -12,7 +12,7 @@ set_bits_from-none id (false ∷ bits) clear =
     set_bits_from-none (suc id) bits (λ k below. clear (suc k) (omega arith))
 
 -- the lowest bit that is set comes first, and then those that are left without it
-set_bits_from-lowest : (id : ℕ) (bits : List Bool) (k : ℕ) → get_or bits k false ≡ true
+pub set_bits_from-lowest : (id : ℕ) (bits : List Bool) (k : ℕ) → get_or bits k false ≡ true
     → ((j : ℕ) → j < k → get_or bits j false ≡ false)
     → set_bits_from id bits ≡ (id + k) ∷ set_bits_from id (set bits k false)
 set_bits_from-lowest id [] k is_set clear = absurd (false≢true is_set)

@@ -1,8 +1,8 @@
 -- Free indices in their places: at first, after one is taken, and after one is given back.
-use Rattle.std.proofs.Common.{◌≡◌, ◌≢◌, ◌+◌, ◌-◌, ◌<◌, ◌≤◌, ℕ, zero, suc, Bool, true, false, List, ◌∷◌, Contains, length, get_or, set, drop, nat_eq, refl, ap, ap₂, sym, subst, ◌∙◌, inl, inr, arith, length-set, length-drop}
+use Rattle.std.proofs.Common.{◌≡◌, ◌≢◌, ◌+◌, ◌-◌, ◌<◌, ◌≤◌, ◌⊎◌, ℕ, zero, suc, true, false, List, ◌∷◌, Contains, length, get_or, set, drop, eqb, nat_eq, refl, ap, ap₂, sym, subst, ◌∙◌, inl, inr, arith, length-set, length-drop}
 use Rattle.std.specs.List.{range_with_len}
 use Rattle.std.specs.Cmp.{nat_eq_equiv}
-use Rattle.std.proofs.lemmas.Bool.{cases_Bool, ne_eqb, false≢true}
+use Rattle.std.proofs.lemmas.Bool.{eq-eqb, eqb-true, ne_eqb, false≢true, true≢false}
 use Rattle.std.proofs.lemmas.Bool.Decides.{Decides-eqb}
 use Rattle.std.proofs.lemmas.List.{drop_more, drop-set, drop-drop, get_or_default}
 use Rattle.std.proofs.lemmas.List.FromFn.{length-range_with_len, get_or-range_with_len}
@@ -67,34 +67,68 @@ length-distinct capacity free is_free =
     (index, (omega arith), get_or-range_with_len 0 capacity index index small ∙ omega arith))) in
     omega arith
 
-module _ (places : List ℕ) (held : ℕ) (locked : Bool) (are : AreIndexPlaces places held locked) where
+module _ (places : List ℕ) (held limit : ℕ) (are : AreIndexPlaces places held limit) where
+  limit_most : limit ≤ length places
+  limit_most = elim are.bound [
+    | inl none ↦ omega arith
+    | inr all ↦ omega arith
+  ]
+
+  -- where one more may be held, the set is open
+  limit_open : held < limit → limit ≡ length places
+  limit_open some = elim are.bound [
+    | inl none ↦ absurd (omega arith)
+    | inr all ↦ all
+  ]
+
+  pub is_open : held < limit → eqb limit 0 ≡ false
+  is_open some = ne_eqb limit 0 (omega arith)
+
+  -- and where none may, it is locked, or no index is free
+  pub none_free : held ≡ limit → eqb limit 0 ≡ false → length (drop held places) ≡ 0
+  none_free most open_set =
+      let left = length-drop held places in
+      let all : limit ≡ length places = elim are.bound [
+        | inl none ↦ absurd (true≢false (sym (eq-eqb limit 0 none) ∙ open_set))
+        | inr all ↦ all
+      ] in
+      omega arith
+
+  -- where it is locked, no index is held
+  pub none_held : eqb limit 0 ≡ true → length (drop held places) ≡ length places
+  none_held locked =
+      let none = eqb-true limit 0 locked in
+      let fits = are.fits in
+      let left = length-drop held places in
+      omega arith
+
   -- the next free index is taken
-  module _ (open_set : locked ≡ false) (index : ℕ) (some : held < length places) (read : index ≡ get_or places held index) where
+  module _ (some : held < limit) (index : ℕ) (read : index ≡ get_or places held index) where
     next : drop held places ≡ index ∷ drop (held + 1) places
-    next = drop_more places held index some ∙ ap (λ first. first ∷ drop (held + 1) places) (sym read)
+    next = let most = limit_most in drop_more places held index (omega arith) ∙ ap (λ first. first ∷ drop (held + 1) places) (sym read)
 
     free : IsFreeList (length places) (index ∷ drop (held + 1) places)
     free = subst (IsFreeList (length places)) next are.free
 
-    pub AreIndexPlaces-taken : AreIndexPlaces places (held + 1) locked
+    pub AreIndexPlaces-taken : AreIndexPlaces places (held + 1) limit
     AreIndexPlaces-taken = record {
       some = are.some;
       few = are.few;
       fits = omega arith;
+      bound = are.bound;
       free = IsFreeList-tail (length places) index (drop (held + 1) places) free;
-      closed = λ is_locked. absurd (false≢true (sym open_set ∙ is_locked));
     }
 
-    pub Takes-next : Takes (set_in_places places held locked) index (set_in_places places (held + 1) locked)
+    pub Takes-next : Takes (set_in_places places held limit) index (set_in_places places (held + 1) limit)
     Takes-next = record {
-      unlocked = open_set;
+      unlocked = is_open some;
       next = next;
-      left = ap (λ rest. record { capacity = length places; free = rest; locked = locked }) (sym (drop-drop 1 held places));
+      left = ap (λ rest. record { capacity = length places; free = rest; locked = eqb limit 0 }) (sym (drop-drop 1 held places));
       held = IsFreeList-head (length places) index (drop (held + 1) places) free;
     }
 
   -- a held index is given back
-  module _ (index : ℕ) (is_held : IsHeld (set_in_places places held locked) index) where
+  module _ (index : ℕ) (is_held : IsHeld (set_in_places places held limit) index) where
     free_again : IsFreeList (length places) (index ∷ drop held places)
     free_again = IsFreeList-cons (length places) index (drop held places) is_held.0 is_held.1 are.free
 
@@ -102,62 +136,59 @@ module _ (places : List ℕ) (held : ℕ) (locked : Bool) (are : AreIndexPlaces 
     some_held =
         let counted = length-distinct (length places) (index ∷ drop held places) free_again in
         let left = length-drop held places in
-        let fits = are.fits in
         omega arith
 
-    pub unlocked : locked ≡ false
-    unlocked = elim (cases_Bool locked) [
-      | inl is_locked ↦ let none = are.closed is_locked in let some = some_held in absurd (omega arith)
-      | inr is_open ↦ is_open
-    ]
+    pub unlocked : eqb limit 0 ≡ false
+    unlocked = let some = some_held in let fits = are.fits in ne_eqb limit 0 (omega arith)
 
     first : drop (held - 1) (set places (held - 1) index) ≡ index ∷ drop held places
     first =
         let some = some_held in
         let fits = are.fits in
+        let most = limit_most in
         drop-set places (held - 1) index (omega arith)
         ∙ ap (λ n. index ∷ drop n places) (omega arith)
 
-    pub AreIndexPlaces-released : (locked' : Bool) → (locked' ≡ true → held - 1 ≡ 0)
-        → AreIndexPlaces (set places (held - 1) index) (held - 1) locked'
-    AreIndexPlaces-released locked' closed =
+    pub AreIndexPlaces-released : (limit' : ℕ) → held - 1 ≤ limit' → (limit' ≡ 0) ⊎ (limit' ≡ limit)
+        → AreIndexPlaces (set places (held - 1) index) (held - 1) limit'
+    AreIndexPlaces-released limit' fits either =
         let counted = length-set places (held - 1) index in
-        let fits = are.fits in
         let few = are.few in
         let some = are.some in
+        let held_some = some_held in
+        let held_fits = are.fits in
         record {
           some = omega arith;
           few = omega arith;
-          fits = omega arith;
+          fits = fits;
+          bound = elim either [
+            | inl none ↦ inl none
+            | inr same ↦ inr (same ∙ elim are.bound [ inl none ↦ absurd (omega arith) | inr all ↦ all ∙ sym counted ])
+          ];
           free = rw (first, counted) free_again;
-          closed = closed;
         }
 
-    pub set_in_places-released : (state : ReleaseState)
-        → set_in_places (set places (held - 1) index) (held - 1) (is_locked state)
-        ≡ with_released (set_in_places places held locked) index state
-    set_in_places-released state =
+    pub set_in_places-released : (limit' : ℕ) (state : ReleaseState) → eqb limit' 0 ≡ is_locked state
+        → set_in_places (set places (held - 1) index) (held - 1) limit' ≡ with_released (set_in_places places held limit) index state
+    set_in_places-released limit' state locks = rw (locks) (
         ap₂ (λ (n : ℕ) (rest : List ℕ). record { capacity = n; free = rest; locked = is_locked state })
-        (length-set places (held - 1) index) first
-
-    pub held_count-left : length places - length (drop held places) ≡ held
-    held_count-left = let fits = are.fits in let left = length-drop held places in omega arith
+        (length-set places (held - 1) index) first)
 
 -- a new set
-pub AreIndexPlaces-new : (capacity : ℕ) → 0 < capacity → capacity ≤ max_capacity → AreIndexPlaces (range_with_len 0 capacity) 0 false
+pub AreIndexPlaces-new : (capacity : ℕ) → 0 < capacity → capacity ≤ max_capacity → AreIndexPlaces (range_with_len 0 capacity) 0 capacity
 AreIndexPlaces-new capacity some few =
     let counted = length-range_with_len 0 capacity in
     record {
       some = omega arith;
       few = omega arith;
       fits = omega arith;
+      bound = inr (sym counted);
       free = rw (counted) (IsFreeList-range capacity);
-      closed = λ _. refl;
     }
 
-pub set_in_places-new : (capacity : ℕ) → set_in_places (range_with_len 0 capacity) 0 false ≡ new_index_set capacity
-set_in_places-new capacity =
-    ap (λ n. record { capacity = n; free = range_with_len 0 capacity; locked = false }) (length-range_with_len 0 capacity)
+pub set_in_places-new : (capacity : ℕ) → 0 < capacity → set_in_places (range_with_len 0 capacity) 0 capacity ≡ new_index_set capacity
+set_in_places-new capacity some = rw (ne_eqb capacity 0 (omega arith)) (
+    ap (λ n. record { capacity = n; free = range_with_len 0 capacity; locked = false }) (length-range_with_len 0 capacity))
 
 -- which modes and counts lock
 pub closed-state_after : (mode : ReleaseMode) (held : ℕ) → is_locked (state_after mode held) ≡ true → held ≡ 0

@@ -1,5 +1,7 @@
 pub mod BitWordLemmas
 pub mod BitSetLemmas
+pub mod LowestBitLemmas
+pub mod BitNumberLemmas
 pub mod BitScanLemmas
 pub mod CallLemmas
 pub mod CountLemmas

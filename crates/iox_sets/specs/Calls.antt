@@ -2,10 +2,13 @@
 use Rattle.std.specs.Prelude.{◌≡◌, List, [], ◌∷◌, Bool, if◌then◌else◌}
 use Rattle.std.specs.List.{FoldsTo}
 
+-- the closure was called with each of the items, in their order, and with nothing else, and is `last` then
+abbrev pub IsLeftByCalls : {F A : Type 0} → (F → A → Unit {0} → F → Type 0) → F → List A → F → Type 0
+IsLeftByCalls step f items last = FoldsTo (λ before item after. step before item tt after) f items last
+
 -- the closure was called with each of the items, in their order, and with nothing else
 abbrev pub IsCalledWithEach : {F A : Type 0} → (F → A → Unit {0} → F → Type 0) → F → List A → Type 0
-IsCalledWithEach {F} step f items =
-    (last : F) × FoldsTo (λ before item after. step before item tt after) f items last
+IsCalledWithEach {F} step f items = (last : F) × IsLeftByCalls step f items last
 
 -- the closure was asked about each of the items, in their order, and said yes to these
 abbrev pub Accepts : {F A : Type 0} → (F → A → Bool → F → Type 0) → F → List A → List A → Type 0

@@ -1,25 +1,28 @@
 -- The parts of a step make a step, and a step keeps what its party's laws keep.
-use Rattle.std.proofs.Common.{◌≡◌, ℕ, Bool, false, List, [], ◌∷◌, ◌<◌, ◌++◌, refl, sym, subst, Option, Result, set, get_or, length}
+use Rattle.std.proofs.Common.{◌≡◌, ◌∙◌, ℕ, Bool, false, List, [], ◌∷◌, ◌<◌, ◌++◌, refl, sym, subst, Option, Result, set, get_or, length}
+use Rattle.std.proofs.lemmas.List.{get_or_default}
 use Rattle.std.specs.Option.{option_to_list}
 use Rattle.iox_steps.specs.declared.access.Access.{Access}
 use Rattle.iox_steps.specs.declared.access.Progress.{Progress}
 use Rattle.iox_steps.specs.declared.error.MachineError.{MachineError}
-use Rattle.iox_steps.specs.Accesses.{seen_by, words_after}
+use Rattle.iox_steps.specs.Accesses.{seen_at, words_after}
 use Rattle.iox_steps.specs.declared.machine.Entry.{Entry}
 use Rattle.iox_steps.specs.Worlds.{World, IsParty, seen_in, after_access, Stepped, Entered, AllEntered}
 
 module _ {P E R C : Type 0} (asks : P → Access) (leads : P → ℕ → Progress R → P → Type 0) (happens : P → ℕ → Option E) (at_rest : P → Bool) (begins : P → C → Result P MachineError → Type 0) where
-  pub step_of : (old : World P E) (number : ℕ) (party after : P) (answer : Progress R) (access : Access) (seen : ℕ) (words : List ℕ) (resting : Bool) (event : Option E) (room events : List E)
-      → number < length old.parties → party ≡ get_or old.parties number party → resting ≡ at_rest party → resting ≡ false → access ≡ asks party → seen ≡ seen_by access (λ place. get_or old.words place 0)
-      → words ≡ words_after access old.words → leads party seen answer after → event ≡ happens party seen → room ≡ old.events → events ≡ room ++ option_to_list event
+  -- `looked` is the party again, as it was looked at
+  pub step_of : (old : World P E) (number : ℕ) (looked party after : P) (answer : Progress R) (words : List ℕ) (resting : Bool) (room events : List E)
+      → number < length old.parties → looked ≡ get_or old.parties number looked → party ≡ get_or old.parties number party → resting ≡ at_rest looked → resting ≡ false
+      → words ≡ words_after (asks party) old.words → leads party (seen_at (asks party) old.words) answer after
+      → room ≡ old.events → events ≡ room ++ option_to_list (happens party (seen_at (asks party) old.words))
       → Stepped asks leads happens at_rest begins old number answer (record { words = words; parties = set old.parties number after; events = events })
-  step_of old number party after answer access seen words resting event room events within is rests awake asked found become led happened had told = record {
+  step_of old number looked party after answer words resting room events within seen is rests awake become led had told = record {
     party = party;
     after = after;
     is_party = (within, is);
-    under_way = rw rests at awake;
-    leads_on = rw (found, asked) at led;
-    leads_to = rw (told, had, happened, become, found, asked) refl;
+    under_way = subst (λ p. at_rest p ≡ false) (seen ∙ get_or_default old.parties number looked party within ∙ sym is) (sym rests ∙ awake);
+    leads_on = led;
+    leads_to = rw (told, had, become) refl;
   }
 
   pub step_keeps : (Holds : World P E → Type 0)

@@ -1,4 +1,5 @@
--- One access to shared words: the word that it names, what it finds there and what it leaves. `word` reads a word by its place.
+-- One access to shared words: the word that it names, what it finds there and what it leaves.
+-- `word` reads a word by its place.
 use Rattle.std.specs.Prelude.{ℕ, ◌+◌, ◌-◌, ◌%◌, ◌^◌, ◌==◌, ◌<◌, ◌≤◌, ◌≡◌, ◌⊎◌, List, if◌then◌else◌, slice_index, slice_set, bit_or, bit_and}
 use Rattle.iox_steps.specs.declared.access.Access.{Access}
 use Rattle.iox_steps.specs.declared.access.Access.TheVariants.{Local, Load, Store, CompareExchange, FetchAdd, FetchSub, FetchOr, FetchAnd}
@@ -39,6 +40,10 @@ seen_of (FetchAnd place value) n = n
 abbrev pub seen_by : Access → (ℕ → ℕ) → ℕ
 seen_by access word = seen_of access (word (place_of access))
 
+-- what the party is told, of a list of words
+abbrev pub seen_at : Access → List ℕ → ℕ
+seen_at access words = seen_by access (λ place. slice_index words place)
+
 -- one word is another, and all others stay
 abbrev pub put : (ℕ → ℕ) → ℕ → ℕ → ℕ → ℕ
 put word place value at = if at == place then value else word at
@@ -59,11 +64,16 @@ abbrev pub words_after : Access → List ℕ → List ℕ
 words_after Local words = words
 words_after (Load place) words = words
 words_after (Store place value) words = slice_set words place value
-words_after (CompareExchange place old new) words = if slice_index words place == old then slice_set words place new else words
-words_after (FetchAdd place value) words = slice_set words place (change_of (FetchAdd place value) (slice_index words place))
-words_after (FetchSub place value) words = slice_set words place (change_of (FetchSub place value) (slice_index words place))
-words_after (FetchOr place value) words = slice_set words place (change_of (FetchOr place value) (slice_index words place))
-words_after (FetchAnd place value) words = slice_set words place (change_of (FetchAnd place value) (slice_index words place))
+words_after (CompareExchange place old new) words =
+    if slice_index words place == old then slice_set words place new else words
+words_after (FetchAdd place value) words =
+    slice_set words place (change_of (FetchAdd place value) (slice_index words place))
+words_after (FetchSub place value) words =
+    slice_set words place (change_of (FetchSub place value) (slice_index words place))
+words_after (FetchOr place value) words =
+    slice_set words place (change_of (FetchOr place value) (slice_index words place))
+words_after (FetchAnd place value) words =
+    slice_set words place (change_of (FetchAnd place value) (slice_index words place))
 
 -- the place is one of the `size` from `base` on
 abbrev pub IsPlace : ℕ → ℕ → ℕ → Type 0

@@ -1,4 +1,5 @@
--- What the words of a queue say while its two parties are anywhere in their calls. `word` reads a word by its place.
+-- What the words of a queue say while its two parties are anywhere in their calls. `word` reads a
+-- word by its place.
 use Rattle.std.specs.Prelude.{◌≡◌, ℕ, ◌+◌, ◌^◌, ◌<◌, ◌≤◌, List, [], ◌∷◌, length, slice_index, Option, Some, None}
 use Rattle.iox_steps.specs.declared.site.QueueKind.{QueueKind}
 use Rattle.iox_steps.specs.declared.site.QueueKind.TheVariants.{Index, Overflowing}
@@ -31,7 +32,8 @@ module _ (site : Site) (word : ℕ → ℕ) where
     pub bounded : length waiting ≤ cells site
     pub items : (k : ℕ) → k < length waiting → word (cell_at site (read_of + k)) ≡ slice_index waiting k
 
-  -- what a push that is to publish knows of the room: there is some, or the queue was full at this read position
+  -- what a push that is to publish knows of the room: there is some, or the queue was full at this
+  -- read position
   abbrev pub RoomKnows : List ℕ → Option ℕ → Type 0
   RoomKnows waiting None = length waiting < site.capacity
   RoomKnows waiting (Some read) = (site.kind ≡ Overflowing) × (read + site.capacity ≡ write_of)
@@ -48,10 +50,12 @@ module _ (site : Site) (word : ℕ → ℕ) where
   -- what a push knows
   abbrev pub PushKnows : List ℕ → List ℕ → Push → Type 0
   PushKnows waiting hand (push.LoadsWrite value) = IsWithinCapacity waiting hand
-  PushKnows waiting hand (push.LoadsRead value write) = IsWithinCapacity waiting hand × (write ≡ write_of)
+  PushKnows waiting hand (push.LoadsRead value write) =
+      IsWithinCapacity waiting hand × (write ≡ write_of)
   PushKnows waiting hand (push.StoresCell value cell next full) = IsWithinCapacity waiting hand
       × IsNextWrite next × RoomKnows waiting full × (cell ≡ cell_at site write_of)
-  PushKnows waiting hand (push.StoresWrite value next full) = IsWithinCapacity waiting hand × IsNextWrite next
+  PushKnows waiting hand (push.StoresWrite value next full) =
+      IsWithinCapacity waiting hand × IsNextWrite next
       × RoomKnows waiting full × (word (cell_at site write_of) ≡ value)
   PushKnows waiting hand (push.Evicts read) = (hand ≡ []) × (site.kind ≡ Overflowing)
       × (read + (site.capacity + 1) ≡ write_of) × (read ≤ read_of)
@@ -60,14 +64,16 @@ module _ (site : Site) (word : ℕ → ℕ) where
 
   abbrev pub FullLookKnows : List ℕ → List ℕ → FullLook → Type 0
   FullLookKnows waiting hand full_look.LoadsWrite = IsWithinCapacity waiting hand
-  FullLookKnows waiting hand (full_look.LoadsRead write) = IsWithinCapacity waiting hand × (write ≡ write_of)
+  FullLookKnows waiting hand (full_look.LoadsRead write) =
+      IsWithinCapacity waiting hand × (write ≡ write_of)
 
   abbrev pub PushingKnows : List ℕ → List ℕ → Pushing → Type 0
   PushingKnows waiting hand pushing.AtRest = IsWithinCapacity waiting hand
   PushingKnows waiting hand (pushing.Pushes place) = PushKnows waiting hand place
   PushingKnows waiting hand (pushing.Looks place) = FullLookKnows waiting hand place
 
-  -- a read position that the popping party saw is still the read position, or was moved on by pushes that overflow
+  -- a read position that the popping party saw is still the read position, or was moved on by
+  -- pushes that overflow
   abbrev pub IsSeen : QueueKind → ℕ → Type 0
   IsSeen Index read = read ≡ read_of
   IsSeen Overflowing read = read ≤ read_of
@@ -91,7 +97,8 @@ module _ (site : Site) (word : ℕ → ℕ) where
   PoppingKnows waiting (popping.Pops place) = PopKnows waiting place
   PoppingKnows waiting (popping.Looks place) = EmptyLookKnows waiting place
 
-  -- the words and both parties are those of a queue in which `waiting` waits and `hand` is pushed out and not got back yet
+  -- the words and both parties are those of a queue in which `waiting` waits and `hand` is pushed
+  -- out and not got back yet
   pub record Fits (waiting hand : List ℕ) (pushes : Pushing) (pops : Popping) : Type 0 where
     -- an overflowing queue has room for one value at least
     pub some : site.kind ≡ Overflowing → 0 < site.capacity

@@ -9,6 +9,7 @@ pub mod Fits
 pub mod Laws
 pub mod Stores
 pub mod Worlds
+pub mod Playables
 pub mod Runs
 pub mod Plays
 pub mod Answers

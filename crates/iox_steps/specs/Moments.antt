@@ -41,7 +41,8 @@ hand_after SeesFull waiting hand = hand
 hand_after SeesRoom waiting hand = hand
 hand_after SeesEnd waiting hand = hand
 
--- what a moment says is true of a queue with this write position, in which this waits and this is in hand
+-- what a moment says is true of a queue with this write position, in which this waits and this is
+-- in hand
 abbrev pub IsTrueOf : Site → ℕ → List ℕ → List ℕ → Moment → Type 0
 IsTrueOf site write waiting hand (Publish value) = length waiting < cells site
 IsTrueOf site write waiting hand (HandOut value) = waiting ≡ value ∷ rest waiting

@@ -16,7 +16,8 @@ most_waiting site (pushing.Pushes (push.Evicts read)) = site.capacity + 1
 most_waiting site pushes = site.capacity
 
 -- A queue that was played on, in which this waits now:
-pub record Played (site : Site) (words : List ℕ) (pushes : Pushing) (pops : Popping) (events : List Moment) : Type 0 where
+pub record Played (site : Site) (words : List ℕ) (pushes : Pushing) (pops : Popping)
+    (events : List Moment) : Type 0 where
   -- the write position at first, when the queue was empty
   pub first : ℕ
   pub waiting : List ℕ
@@ -25,7 +26,8 @@ pub record Played (site : Site) (words : List ℕ) (pushes : Pushing) (pops : Po
   pub order : published events ≡ handed_out [] events ++ waiting
   pub bounded : length waiting ≤ most_waiting site pushes
   -- each event was true of what waited when it came
-  pub run : Run site (record { write = first; waiting = []; hand = [] }) events (record { write = slice_index words site.base; waiting = waiting; hand = hand })
+  pub run : Run site (record { write = first; waiting = []; hand = [] }) events
+      (record { write = slice_index words site.base; waiting = waiting; hand = hand })
   -- and the words hold what waits
   pub room : site.base + size site ≤ length words
   pub fits : Fits site (λ place. slice_index words place) waiting hand pushes pops

@@ -1,5 +1,6 @@
--- The programs of the party that pushes, place by place: what a place asks, where it goes, and what happens to the queue.
-use Rattle.std.specs.Prelude.{ℕ, Bool, ◌+◌, ◌==◌, ◌||◌, if◌then◌else◌, Option, Some, None}
+-- The programs of the party that pushes, place by place: what a place asks, where it goes, and what
+-- happens to the queue.
+use Rattle.std.specs.Prelude.{ℕ, Bool, ◌+◌, ◌==◌, ◌||◌, if◌then◌else◌, List, Option, Some, None}
 use Rattle.iox_steps.specs.declared.access.Access.{Access}
 use Rattle.iox_steps.specs.declared.access.Access.TheVariants.{Load, Store, CompareExchange}
 use Rattle.iox_steps.specs.declared.access.Next.{Next}
@@ -15,6 +16,7 @@ use Rattle.iox_steps.specs.declared.push.FullLook.{FullLook}
 use Rattle.iox_steps.specs.declared.push.FullLook.TheVariants as look
 use Rattle.iox_steps.specs.declared.seat.Moment.{Moment}
 use Rattle.iox_steps.specs.declared.seat.Moment.TheVariants.{Quiet, Publish, Evict, GetBack, SeesFull, SeesRoom, SeesEnd}
+use Rattle.iox_steps.specs.Accesses.{seen_at}
 use Rattle.iox_steps.specs.Sites.{cell_at, last_position, position_after, is_full}
 
 -- what a push asks
@@ -25,6 +27,10 @@ push_access site (push.StoresCell value cell next full) = Store cell value
 push_access site (push.StoresWrite value next full) = Store site.base next
 push_access site (push.Evicts read) = CompareExchange (site.base + 1) read (position_after read)
 push_access site (push.TakesOld cell) = Load cell
+
+-- what it sees in these words
+abbrev pub push_sees : Site → Push → List ℕ → ℕ
+push_sees site place words = seen_at (push_access site place) words
 
 -- is a push refused that saw this?
 abbrev pub is_refused : QueueKind → Bool → Bool → Bool
@@ -38,7 +44,8 @@ full_at full read = if full then Some read else None
 -- where a push goes that saw both positions
 abbrev pub with_positions : Site → ℕ → ℕ → ℕ → Next Push PushReply
 with_positions site value write read = let full = is_full site read write in
-    if is_refused site.kind (write == last_position) full then Ends (Refused value) else Goes (push.StoresCell value (cell_at site write) (write + 1) (full_at full read))
+    if is_refused site.kind (write == last_position) full then Ends (Refused value)
+    else Goes (push.StoresCell value (cell_at site write) (write + 1) (full_at full read))
 
 -- where a push goes whose value stands behind the others
 abbrev pub once_published : Option ℕ → Next Push PushReply
@@ -51,7 +58,8 @@ push_next site (push.LoadsWrite value) seen = Goes (push.LoadsRead value seen)
 push_next site (push.LoadsRead value write) seen = with_positions site value write seen
 push_next site (push.StoresCell value cell next full) seen = Goes (push.StoresWrite value next full)
 push_next site (push.StoresWrite value next full) seen = once_published full
-push_next site (push.Evicts read) seen = if seen == read then Goes (push.TakesOld (cell_at site read)) else Ends Pushed
+push_next site (push.Evicts read) seen =
+    if seen == read then Goes (push.TakesOld (cell_at site read)) else Ends Pushed
 push_next site (push.TakesOld cell) seen = Ends (PushedOut seen)
 
 -- what a look at the read position shows
@@ -61,7 +69,8 @@ room_moment site read write = if is_full site read write then SeesFull else Sees
 -- what a push does to the queue, or sees there
 abbrev pub push_moment : Site → Push → ℕ → Moment
 push_moment site (push.LoadsWrite value) seen = Quiet
-push_moment site (push.LoadsRead value write) seen = if write == last_position then SeesEnd else room_moment site seen write
+push_moment site (push.LoadsRead value write) seen =
+    if write == last_position then SeesEnd else room_moment site seen write
 push_moment site (push.StoresCell value cell next full) seen = Quiet
 push_moment site (push.StoresWrite value next full) seen = Publish value
 push_moment site (push.Evicts read) seen = if seen == read then Evict else Quiet
@@ -71,6 +80,9 @@ push_moment site (push.TakesOld cell) seen = GetBack seen
 abbrev pub full_look_access : Site → FullLook → Access
 full_look_access site look.LoadsWrite = Load site.base
 full_look_access site (look.LoadsRead write) = Load (site.base + 1)
+
+abbrev pub full_look_sees : Site → FullLook → List ℕ → ℕ
+full_look_sees site place words = seen_at (full_look_access site place) words
 
 abbrev pub full_look_next : Site → FullLook → ℕ → Next FullLook Bool
 full_look_next site look.LoadsWrite seen = Goes (look.LoadsRead seen)

@@ -1,4 +1,5 @@
--- What one access of a program comes to, for callers whose calls are programs one after the other: it goes on, or ends in one of a few ways.
+-- What one access of a program comes to, for callers whose calls are programs one after the other:
+-- it goes on, or ends in one of a few ways.
 use Rattle.std.specs.Prelude.{◌≡◌, ℕ, ◌⊎◌, ◌++◌, List, [], ◌∷◌, length, Some, None}
 use Rattle.iox_steps.specs.declared.access.Next.TheVariants.{Goes, Ends}
 use Rattle.iox_steps.specs.declared.site.Site.{Site}

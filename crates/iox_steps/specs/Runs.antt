@@ -20,7 +20,11 @@ write_after (Publish value) write = write + 1
 write_after moment write = write
 
 abbrev pub line_after : Moment → Line → Line
-line_after moment line = record { write = write_after moment line.write; waiting = waiting_after moment line.waiting; hand = hand_after moment line.waiting line.hand }
+line_after moment line = record {
+  write = write_after moment line.write;
+  waiting = waiting_after moment line.waiting;
+  hand = hand_after moment line.waiting line.hand;
+}
 
 -- each moment, in turn, is true of the queue as it is then
 abbrev pub Run : Site → Line → List Moment → Line → Type 0
@@ -43,7 +47,8 @@ leaving moment waiting = []
 -- what left a queue in which this waited, in order
 abbrev pub handed_out : List ℕ → List Moment → List ℕ
 handed_out waiting [] = []
-handed_out waiting (moment ∷ moments) = leaving moment waiting ++ handed_out (waiting_after moment waiting) moments
+handed_out waiting (moment ∷ moments) =
+    leaving moment waiting ++ handed_out (waiting_after moment waiting) moments
 
 -- a moment that is written down
 abbrev pub told : Moment → Option Moment

@@ -1,5 +1,5 @@
 -- The two parties of a queue, each at rest or inside one of its programs.
-use Rattle.std.specs.Prelude.{ℕ}
+use Rattle.std.specs.Prelude.{ℕ, List}
 use Rattle.iox_steps.specs.declared.access.Access.{Access}
 use Rattle.iox_steps.specs.declared.access.Access.TheVariants.{Local}
 use Rattle.iox_steps.specs.declared.access.Next.{Next}
@@ -23,6 +23,7 @@ use Rattle.iox_steps.specs.declared.seat.Popping.{Popping}
 use Rattle.iox_steps.specs.declared.seat.Popping.TheVariants as popping
 use Rattle.iox_steps.specs.declared.seat.Moment.{Moment}
 use Rattle.iox_steps.specs.declared.seat.Moment.TheVariants.{Quiet}
+use Rattle.iox_steps.specs.Accesses.{seen_at}
 use Rattle.iox_steps.specs.Replies.{push_reply}
 use Rattle.iox_steps.specs.Pushes.{push_access, push_next, push_moment, full_look_access, full_look_next, full_look_moment}
 use Rattle.iox_steps.specs.Pops.{pop_access, pop_next, pop_moment, empty_look_access, empty_look_next, empty_look_moment}
@@ -31,6 +32,10 @@ abbrev pub pushing_access : Site → Pushing → Access
 pushing_access site pushing.AtRest = Local
 pushing_access site (pushing.Pushes place) = push_access site place
 pushing_access site (pushing.Looks place) = full_look_access site place
+
+-- what it sees in these words
+abbrev pub pushing_sees : Site → Pushing → List ℕ → ℕ
+pushing_sees site party words = seen_at (pushing_access site party) words
 
 -- inside the program while it goes on, and at rest once it ended
 abbrev pub in_push : {R : Type 0} → Next Push R → Pushing
@@ -53,7 +58,8 @@ progress reply (Ends answer) = Done (reply answer)
 
 abbrev pub pushing_progress : Site → Pushing → ℕ → Progress Reply
 pushing_progress site pushing.AtRest seen = Going
-pushing_progress site (pushing.Pushes place) seen = progress (push_reply site.kind) (push_next site place seen)
+pushing_progress site (pushing.Pushes place) seen =
+    progress (push_reply site.kind) (push_next site place seen)
 pushing_progress site (pushing.Looks place) seen = progress Full (full_look_next site place seen)
 
 abbrev pub pushing_moment : Site → Pushing → ℕ → Moment
@@ -65,6 +71,9 @@ abbrev pub popping_access : Site → Popping → Access
 popping_access site popping.AtRest = Local
 popping_access site (popping.Pops place) = pop_access site place
 popping_access site (popping.Looks place) = empty_look_access site place
+
+abbrev pub popping_sees : Site → Popping → List ℕ → ℕ
+popping_sees site party words = seen_at (popping_access site party) words
 
 abbrev pub in_pop : {R : Type 0} → Next Pop R → Popping
 in_pop (Goes place) = popping.Pops place

@@ -1,4 +1,5 @@
--- A party that stores goes on alike whatever stood there, so a store may be made by what tells it nothing.
+-- A party that stores goes on alike whatever stood there, so a store may be made by what tells it
+-- nothing.
 use Rattle.std.specs.Prelude.{◌≡◌, ℕ}
 use Rattle.iox_steps.specs.declared.access.Access.{Access}
 use Rattle.iox_steps.specs.declared.access.Access.TheVariants.{Store}

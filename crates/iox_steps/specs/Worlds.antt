@@ -1,4 +1,5 @@
--- A machine as its callers see it: shared words, the parties that play on them, and what happened. Its laws are its parties'.
+-- A machine as its callers see it: shared words, the parties that play on them, and what happened.
+-- Its laws are its parties'.
 use Rattle.std.specs.Prelude.{◌≡◌, ℕ, Bool, true, false, ◌<◌, ◌≤◌, ◌⊎◌, ◌++◌, List, [], ◌∷◌, length, slice_index, slice_index_or, slice_set, Option, Result, Ok, Err}
 use Rattle.std.specs.Option.{option_to_list}
 use Rattle.iox_steps.specs.declared.access.Access.{Access}
@@ -29,9 +30,15 @@ seen_in world access = seen_by access (λ place. slice_index world.words place)
 
 -- the access is made, its party goes on, and what happened is written down
 abbrev pub after_access : {P E : Type 0} → World P E → ℕ → Access → P → Option E → World P E
-after_access world number access after event = record { words = words_after access world.words; parties = slice_set world.parties number after; events = world.events ++ option_to_list event }
+after_access world number access after event = record {
+  words = words_after access world.words;
+  parties = slice_set world.parties number after;
+  events = world.events ++ option_to_list event;
+}
 
-module _ {P E R C : Type 0} (asks : P → Access) (leads : P → ℕ → Progress R → P → Type 0) (happens : P → ℕ → Option E) (at_rest : P → Bool) (begins : P → C → Result P MachineError → Type 0) where
+module _ {P E R C : Type 0} (asks : P → Access) (leads : P → ℕ → Progress R → P → Type 0)
+    (happens : P → ℕ → Option E) (at_rest : P → Bool)
+    (begins : P → C → Result P MachineError → Type 0) where
   -- one access of the party of this number, and its answer
   pub record Stepped (old : World P E) (number : ℕ) (answer : Progress R) (new : World P E) : Type 0 where
     pub party : P
@@ -39,7 +46,8 @@ module _ {P E R C : Type 0} (asks : P → Access) (leads : P → ℕ → Progres
     pub is_party : IsParty old number party
     pub under_way : at_rest party ≡ false
     pub leads_on : leads party (seen_in old (asks party)) answer after
-    pub leads_to : new ≡ after_access old number (asks party) after (happens party (seen_in old (asks party)))
+    pub leads_to : new
+        ≡ after_access old number (asks party) after (happens party (seen_in old (asks party)))
 
   -- the party of this number has no call under way
   abbrev pub IsAtRest : World P E → ℕ → Type 0

@@ -5,6 +5,7 @@
 mod access;
 mod error;
 mod machine;
+mod play;
 mod playable;
 mod pop;
 mod push;

@@ -18,6 +18,7 @@ pub enum Entry<C> {
 }
 
 /// Makes the access, and answers what the word was before it.
+#[inline]
 pub fn perform(words: &mut Vec<u64>, access: Access) -> u64
     requires { IsWithin 0 (length words.old.items) access }
     ensures seen { result ≡ seen_by access (λ place. slice_index words.old.items place) }
@@ -62,7 +63,8 @@ pub fn perform(words: &mut Vec<u64>, access: Access) -> u64
 }
 
 /// Adds what happened to the events, which have room for it.
-fn tell<E: Copy>(events: &mut Vec<E>, event: Option<E>)
+#[inline]
+pub(crate) fn tell<E: Copy>(events: &mut Vec<E>, event: Option<E>)
     requires { vec_len events.old < vec_capacity events.old }
     ensures { events.new.items ≡ events.old.items ++ option_to_list event }
 {
@@ -88,9 +90,11 @@ impl<P: Playable> Model for Machine<P> {
 
     ghost Value = { World P P.Event };
 
-    ghost view = { λ m. record { words = m.words.items; parties = m.parties.items; events = m.events.items } };
+    ghost view = { λ m.
+        record { words = m.words.items; parties = m.parties.items; events = m.events.items } };
 
-    ghost invariant = { λ m. P.Holds (record { words = m.words.items; parties = m.parties.items; events = m.events.items }) };
+    ghost invariant = { λ m. P.Holds
+        (record { words = m.words.items; parties = m.parties.items; events = m.events.items }) };
 }
 
 impl<P: Playable> Machine<P> {
@@ -124,34 +128,33 @@ impl<P: Playable> Machine<P> {
     }
 
     /// One access of the party's call.
+    #[inline]
     pub fn step(&mut self, party: usize) -> Result<Progress<P::Reply>, MachineError>
-        ensures stepped { IfOk result (λ answer. Stepped P.asks P.leads P.happens P.at_rest P.begins self.old party answer self.new) }
-        ensures refused { IfErr result (λ error. IsStepRefused P.asks P.leads P.happens P.at_rest P.begins self.old party error) }
+        ensures stepped { IfOk result (λ answer. Stepped P.asks P.leads P.happens P.at_rest P.begins
+            self.old party answer self.new) }
+        ensures refused { IfErr result (λ error. IsStepRefused P.asks P.leads P.happens P.at_rest P.begins
+            self.old party error) }
         ensures unchanged { OnErr result (self.new ≡ self.old) }
     {
         if party >= self.parties.len() {
             return Err(MachineError::UnknownParty);
         }
-        let mut playing = self.parties[party];
-        if playing.is_at_rest() {
+        if self.parties[party].is_at_rest() {
             return Err(MachineError::AtRest);
         }
         if self.events.reserve(1).is_err() {
             return Err(MachineError::WantOfMemory);
         }
-        let access = playing.access();
-        let seen = perform(&mut self.words, access);
-        let event = playing.event(seen);
-        let answer = playing.advance(seen);
-        self.parties[party] = playing;
-        tell(&mut self.events, event);
+        let answer = self.parties[party].play(&mut self.words, &mut self.events);
         Ok(answer)
     }
 
     /// The party begins the call, with no access.
     pub fn begin(&mut self, party: usize, call: P::Call) -> Result<(), MachineError>
-        ensures begun { IfOk result (λ _. Begun P.asks P.leads P.happens P.at_rest P.begins self.old party call self.new) }
-        ensures refused { IfErr result (λ error. IsBeginRefused P.asks P.leads P.happens P.at_rest P.begins self.old party call error) }
+        ensures begun { IfOk result (λ _. Begun P.asks P.leads P.happens P.at_rest P.begins
+            self.old party call self.new) }
+        ensures refused { IfErr result (λ error. IsBeginRefused P.asks P.leads P.happens P.at_rest P.begins
+            self.old party call error) }
         ensures unchanged { OnErr result (self.new ≡ self.old) }
     {
         if party >= self.parties.len() {
@@ -176,7 +179,8 @@ impl<P: Playable> Machine<P> {
 
     /// One entry of a schedule.
     fn enter(&mut self, entry: Entry<P::Call>) -> Result<(), MachineError>
-        ensures entered { IfOk result (λ _. Entered P.asks P.leads P.happens P.at_rest P.begins self.old entry self.new) }
+        ensures entered { IfOk result (λ _. Entered P.asks P.leads P.happens P.at_rest P.begins
+            self.old entry self.new) }
         ensures refused { IfErr result (λ error. error ≡ MachineError.WantOfMemory) }
         ensures unchanged { OnErr result (self.new ≡ self.old) }
     {
@@ -197,8 +201,10 @@ impl<P: Playable> Machine<P> {
 
     /// Plays a schedule to its end, or to the step that wants memory.
     pub fn run(&mut self, schedule: &[Entry<P::Call>]) -> Result<(), MachineError>
-        ensures played { (count : ℕ) × AllEntered P.asks P.leads P.happens P.at_rest P.begins self.old (take count schedule.now) self.new }
-        ensures whole { OnOk result (AllEntered P.asks P.leads P.happens P.at_rest P.begins self.old schedule.now self.new) }
+        ensures played { (count : ℕ) × AllEntered P.asks P.leads P.happens P.at_rest P.begins
+            self.old (take count schedule.now) self.new }
+        ensures whole { OnOk result (AllEntered P.asks P.leads P.happens P.at_rest P.begins
+            self.old schedule.now self.new) }
         ensures refused { IfErr result (λ error. error ≡ MachineError.WantOfMemory) }
         ensures holds { P.Holds self.new }
     {
@@ -208,8 +214,10 @@ impl<P: Playable> Machine<P> {
     }
 
     fn enter_all(&mut self, schedule: &[Entry<P::Call>]) -> Result<(), MachineError>
-        ensures played { (count : ℕ) × AllEntered P.asks P.leads P.happens P.at_rest P.begins self.old (take count schedule.now) self.new }
-        ensures whole { OnOk result (AllEntered P.asks P.leads P.happens P.at_rest P.begins self.old schedule.now self.new) }
+        ensures played { (count : ℕ) × AllEntered P.asks P.leads P.happens P.at_rest P.begins
+            self.old (take count schedule.now) self.new }
+        ensures whole { OnOk result (AllEntered P.asks P.leads P.happens P.at_rest P.begins
+            self.old schedule.now self.new) }
         ensures refused { IfErr result (λ error. error ≡ MachineError.WantOfMemory) }
     {
         for entry in schedule {

@@ -1,12 +1,16 @@
 //! Parties that a machine can play.
-ghost use Rattle.std.specs.Prelude.{◌≡◌, ℕ, Bool, false, ◌<◌, List, length, slice_index, Option, Result, Ok};
+ghost use Rattle.std.specs.Prelude.{◌≡◌, ℕ, Bool, ◌<◌, ◌++◌, length, Option, Result, vec_len};
+ghost use Rattle.std.specs.Option.{option_to_list};
+ghost use Rattle.std.specs.Vec.{vec_capacity};
 ghost use Rattle.iox_steps.specs.declared.access.Progress.{Progress};
 ghost use Rattle.iox_steps.specs.declared.error.MachineError.{MachineError};
-ghost use Rattle.iox_steps.specs.Accesses.{IsWithin};
-ghost use Rattle.iox_steps.specs.Worlds.{World, IsParty, with_party, seen_in, after_access};
+ghost use Rattle.iox_steps.specs.Accesses.{IsWithin, seen_at, words_after};
+ghost use Rattle.iox_steps.specs.Worlds.{World};
+ghost use Rattle.iox_steps.specs.Playables.{IsKept, IsKeptByBegins, StaysIn};
 
-use crate::access::Party;
+use crate::access::{Party, Progress};
 use crate::error::MachineError;
+use crate::machine::{perform, tell};
 
 /// Parties that share words, by what these say wherever each party is.
 pub trait Playable: Party + Copy {
@@ -37,10 +41,24 @@ pub trait Playable: Party + Copy {
     fn begin(&self, call: Self::Call) -> Result<Self, MachineError>
         ensures { begins self.now call result };
 
-    ghost stays_in: { (world : World Self Self.Event) (number : ℕ) (party : Self) → Holds world → IsParty world number party → IsWithin 0 (length world.words) (Self.asks party) };
+    /// Makes the next access, tells what that does or sees, and goes on: `access`, `event` and
+    /// `advance` in one.
+    fn play(&mut self, words: &mut Vec<u64>, events: &mut Vec<Self::Event>) -> Progress<Self::Reply>
+        requires within { IsWithin 0 (length words.old.items) (Self.asks self.old) }
+        requires room { vec_len events.old < vec_capacity events.old }
+        ensures words { words.new.items ≡ words_after (Self.asks self.old) words.old.items }
+        ensures told { events.new.items ≡ events.old.items ++ option_to_list (happens self.old
+            (seen_at (Self.asks self.old) words.old.items)) }
+        ensures led { Self.leads self.old (seen_at (Self.asks self.old) words.old.items) result self.new }
+    {
+        let seen = perform(words, self.access());
+        tell(events, self.event(seen));
+        self.advance(seen)
+    }
 
-    ghost keeps: { (world : World Self Self.Event) (number : ℕ) (party after : Self) (answer : Progress Self.Reply) → Holds world → IsParty world number party → at_rest party ≡ false
-        → Self.leads party (seen_in world (Self.asks party)) answer after → Holds (after_access world number (Self.asks party) after (happens party (seen_in world (Self.asks party)))) };
+    ghost stays_in: { StaysIn Holds Self.asks };
 
-    ghost starts: { (world : World Self Self.Event) (number : ℕ) (call : Self.Call) (party after : Self) → Holds world → IsParty world number party → begins party call (Ok after) → Holds (with_party world number after) };
+    ghost keeps: { IsKept Holds Self.asks Self.leads happens at_rest };
+
+    ghost starts: { IsKeptByBegins Holds begins };
 }

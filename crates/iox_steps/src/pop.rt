@@ -32,6 +32,7 @@ impl Pop {
     ghost use Rattle.iox_steps.specs.Pops.{pop_access, pop_next, pop_moment};
 
     /// The access that it makes next.
+    #[inline]
     pub fn access(self, site: Site) -> Access
         requires { site.base + size site < 2 ^ 64 }
         ensures { result ≡ pop_access site self }
@@ -51,6 +52,7 @@ impl Pop {
     }
 
     /// Where it goes after an access that found `seen`.
+    #[inline]
     pub fn next(self, site: Site, seen: u64) -> Next<Pop, Option<u64>>
         requires { site.base + size site < 2 ^ 64 }
         ensures { result ≡ pop_next site self seen }
@@ -76,6 +78,7 @@ impl Pop {
     }
 
     /// What an access that found `seen` does to the queue, or sees there.
+    #[inline]
     pub fn moment(self, site: Site, seen: u64) -> Moment
         ensures { result ≡ pop_moment site self seen }
     {
@@ -100,6 +103,7 @@ impl EmptyLook {
     ghost use Rattle.iox_steps.specs.Pops.{empty_look_access, empty_look_next, empty_look_moment};
 
     /// The access that it makes next.
+    #[inline]
     pub fn access(self, site: Site) -> Access
         requires { site.base + size site < 2 ^ 64 }
         ensures { result ≡ empty_look_access site self }
@@ -111,6 +115,7 @@ impl EmptyLook {
     }
 
     /// Where it goes after an access that found `seen`.
+    #[inline]
     pub fn next(self, site: Site, seen: u64) -> Next<EmptyLook, bool>
         ensures { result ≡ empty_look_next site self seen }
     {
@@ -121,6 +126,7 @@ impl EmptyLook {
     }
 
     /// What an access that found `seen` sees.
+    #[inline]
     pub fn moment(self, site: Site, seen: u64) -> Moment
         ensures { result ≡ empty_look_moment site self seen }
     {
@@ -132,6 +138,7 @@ impl EmptyLook {
 }
 
 /// Was the value taken by an access that found `seen`?
+#[inline]
 fn is_taken(kind: QueueKind, read: u64, seen: u64) -> bool
     ensures { result ≡ was_taken kind read seen }
 {
@@ -142,6 +149,7 @@ fn is_taken(kind: QueueKind, read: u64, seen: u64) -> bool
 }
 
 /// What a look at the write position shows.
+#[inline]
 fn waiting_moment(site: Site, read: u64, write: u64) -> Moment
     ensures { result ≡ seen_waiting site read write }
 {

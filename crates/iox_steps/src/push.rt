@@ -48,6 +48,7 @@ impl Push {
     ghost use Rattle.iox_steps.specs.Pushes.{push_access, push_next, push_moment};
 
     /// The access that it makes next.
+    #[inline]
     pub fn access(self, site: Site) -> Access
         requires { site.base + size site < 2 ^ 64 }
         ensures { result ≡ push_access site self }
@@ -65,6 +66,7 @@ impl Push {
     }
 
     /// Where it goes after an access that found `seen`.
+    #[inline]
     pub fn next(self, site: Site, seen: u64) -> Next<Push, PushReply>
         requires { site.base + size site < 2 ^ 64 }
         ensures { result ≡ push_next site self seen }
@@ -89,6 +91,7 @@ impl Push {
     }
 
     /// What an access that found `seen` does to the queue, or sees there.
+    #[inline]
     pub fn moment(self, site: Site, seen: u64) -> Moment
         ensures { result ≡ push_moment site self seen }
     {
@@ -121,6 +124,7 @@ impl FullLook {
     ghost use Rattle.iox_steps.specs.Pushes.{full_look_access, full_look_next, full_look_moment};
 
     /// The access that it makes next.
+    #[inline]
     pub fn access(self, site: Site) -> Access
         requires { site.base + size site < 2 ^ 64 }
         ensures { result ≡ full_look_access site self }
@@ -132,6 +136,7 @@ impl FullLook {
     }
 
     /// Where it goes after an access that found `seen`.
+    #[inline]
     pub fn next(self, site: Site, seen: u64) -> Next<FullLook, bool>
         ensures { result ≡ full_look_next site self seen }
     {
@@ -142,6 +147,7 @@ impl FullLook {
     }
 
     /// What an access that found `seen` sees.
+    #[inline]
     pub fn moment(self, site: Site, seen: u64) -> Moment
         ensures { result ≡ full_look_moment site self seen }
     {
@@ -153,6 +159,7 @@ impl FullLook {
 }
 
 /// Where a push goes that saw both positions.
+#[inline]
 fn with_positions(site: Site, value: u64, write: u64, read: u64) -> Next<Push, PushReply>
     requires { site.base + size site < 2 ^ 64 }
     ensures { result ≡ after_positions site value write read }
@@ -170,6 +177,7 @@ fn with_positions(site: Site, value: u64, write: u64, read: u64) -> Next<Push, P
 }
 
 /// What a look at the read position shows.
+#[inline]
 fn room_moment(site: Site, read: u64, write: u64) -> Moment
     ensures { result ≡ seen_room site read write }
 {

@@ -184,7 +184,7 @@ impl Popping {
 
 /// What a push of a queue of this kind answers.
 #[inline]
-fn push_reply(kind: QueueKind, reply: PushReply) -> Reply
+pub(crate) fn push_reply(kind: QueueKind, reply: PushReply) -> Reply
     ensures { result ≡ reply_of kind reply }
 {
     match (kind, reply) {

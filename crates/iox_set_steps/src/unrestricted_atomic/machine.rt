@@ -98,4 +98,11 @@ impl<const N: usize> AtomicMachine<N> {
         self.machine.holds();
         self.machine.run(schedule)
     }
+
+    /// What the words say, wherever the parties are.
+    pub(crate) fn holds(&self)
+        ensures { AtomicsHold N self.now }
+    {
+        self.machine.holds();
+    }
 }

@@ -1,9 +1,9 @@
 //! A set of bits that are set one by one, and cleared lowest first.
-ghost use Rattle.std.specs.Prelude.{◌≡◌, ◌*◌, ◌<◌, Bool, IfNone, IfOk, IfSome, ℕ, false, length, not};
+ghost use Rattle.std.specs.Prelude.{◌≡◌, ◌<◌, IfNone, IfOk, IfSome, length, not};
 ghost use Rattle.iox_sets.specs.Calls.{IsCalledWithEach};
 ghost use Rattle.iox_sets.specs.BitSets.{bit, lowest, no_bits, set_bits, with_bit, without_bit};
 
-use crate::words::first_used_word;
+use crate::words::{WORD_BITS, first_used_word, take_bits};
 pub use fixed_size::FixedSizeBitSet;
 use std::alloc::{AllocError, Global};
 use std::marker::Model;
@@ -11,9 +11,6 @@ use std::marker::Model;
 mod fixed_size;
 #[cfg(test)]
 mod tests;
-
-/// How many bits a word has.
-const WORD_BITS: usize = 64;
 
 /// A set of `capacity` bits. It takes memory when it is made, and never again.
 #[derive(Debug, Drop)]
@@ -72,35 +69,19 @@ impl BitSet {
         ensures unchanged { IfNone result (self.new ≡ self.old) }
         ensures within { IfSome result (λ id. id < length self.new) }
     {
-        self.reset_next_from(0)
-    }
-
-    /// Clears all bits, and calls `callback` with the number of each that was set, ascending.
-    pub fn reset_all<F: FnMut(usize)>(&mut self, mut callback: F)
-        requires { F.IsAlwaysCallable callback }
-        ensures called { IsCalledWithEach F.step callback (set_bits self.old) }
-        ensures cleared { self.new ≡ no_bits (length self.old) }
-    {
-        let mut from = 0;
-        while let Some(id) = self.reset_next_from(from) {
-            callback(id);
-            from = id / WORD_BITS;
-        }
-    }
-
-    /// Clears the lowest bit that is set, where none is set in the words before `from`.
-    #[inline]
-    fn reset_next_from(&mut self, from: usize) -> Option<usize>
-        requires { (id : ℕ) → id < from * WORD_BITS → bit self.old id ≡ false }
-        ensures lowest { result ≡ lowest self.old }
-        ensures cleared { IfSome result (λ id. self.new ≡ without_bit self.old id) }
-        ensures unchanged { IfNone result (self.new ≡ self.old) }
-        ensures within { IfSome result (λ id. id < length self.new) }
-    {
-        let place = first_used_word(&self.words, from)?;
+        let place = first_used_word(&self.words, 0)?;
         let word = self.words[place];
         let shift = word.trailing_zeros() as usize;
         self.words[place] = word & !(1 << shift);
         Some(place * WORD_BITS + shift)
+    }
+
+    /// Clears all bits, and calls `callback` with the number of each that was set, ascending.
+    pub fn reset_all<F: FnMut(usize)>(&mut self, callback: F)
+        requires { F.IsAlwaysCallable callback }
+        ensures called { IsCalledWithEach F.step callback (set_bits self.old) }
+        ensures cleared { self.new ≡ no_bits (length self.old) }
+    {
+        take_bits(&mut self.words, callback);
     }
 }

@@ -33,7 +33,8 @@ pub struct UniqueIndexSet {
     // From the place `held` on stand the free indices, the next one first.
     places: Vec<u32>,
     held: usize,
-    locked: bool,
+    // How many may be held at once: all of them, and none once the set is locked.
+    limit: usize,
 }
 
 impl Model for UniqueIndexSet {
@@ -42,9 +43,9 @@ impl Model for UniqueIndexSet {
 
     ghost Value = { IndexSet };
 
-    ghost view = { λ set. set_in_places set.places.items set.held set.locked };
+    ghost view = { λ set. set_in_places set.places.items set.held set.limit };
 
-    ghost invariant = { λ set. AreIndexPlaces set.places.items set.held set.locked };
+    ghost invariant = { λ set. AreIndexPlaces set.places.items set.held set.limit };
 }
 
 impl UniqueIndexSet {
@@ -64,7 +65,7 @@ impl UniqueIndexSet {
         Ok(UniqueIndexSet {
             places,
             held: 0,
-            locked: false,
+            limit: capacity,
         })
     }
 
@@ -92,7 +93,7 @@ impl UniqueIndexSet {
         ensures locked { result ≡ self.now.locked }
         ensures none_held { IsTrue result → length self.now.free ≡ self.now.capacity }
     {
-        self.locked
+        self.limit == 0
     }
 
     /// Takes the index that was given back last.
@@ -102,11 +103,8 @@ impl UniqueIndexSet {
         ensures refused { IfErr result (λ failure. acquire_refusal self.old ≡ Some failure) }
         ensures unchanged { OnErr result (self.new ≡ self.old) }
     {
-        if self.locked {
-            return Err(UniqueIndexSetAcquireFailure::IsLocked);
-        }
-        if self.held == self.places.len() {
-            return Err(UniqueIndexSetAcquireFailure::OutOfIndices);
+        if self.held == self.limit {
+            return Err(self.acquire_failure());
         }
         let index = self.places[self.held];
         self.held += 1;
@@ -124,8 +122,22 @@ impl UniqueIndexSet {
         self.held -= 1;
         self.places[self.held] = index;
         let state = mode.state_after(self.held);
-        self.locked = state.is_locked();
+        if state.is_locked() {
+            self.limit = 0;
+        }
         state
+    }
+
+    /// Why no index is taken.
+    fn acquire_failure(&self) -> UniqueIndexSetAcquireFailure
+        requires { self.now.locked ≡ false → length self.now.free ≡ 0 }
+        ensures { acquire_refusal self.now ≡ Some result }
+    {
+        if self.is_locked() {
+            UniqueIndexSetAcquireFailure::IsLocked
+        } else {
+            UniqueIndexSetAcquireFailure::OutOfIndices
+        }
     }
 }
 

@@ -187,6 +187,33 @@ fn a_listing_stops_where_it_is_told(rt: HostRuntime) -> Result<(), Fail> {
 }
 
 #[test]
+fn without_tickets_a_container_is_full_for_good(rt: HostRuntime) -> Result<(), Fail> {
+    let owner = OwnerId::new(7)?;
+    let mut container = Container::<u64>::new(rt.alloc(), 2, 1)?;
+    container.next_ticket = u64::MAX - 1;
+    let last = container.add(5, owner)?;
+    assert_eq!(rt;
+        container.add(6, owner),
+        Err(ContainerAddFailure::OutOfSpace)
+    );
+    assert_eq!(rt; container.len(), 1);
+    assert_eq!(rt;
+        container.remove(last, ReleaseMode::Default),
+        Ok(ReleaseState::Unlocked)
+    );
+    assert!(rt; container.is_empty());
+    assert_eq!(rt;
+        container.add(6, owner),
+        Err(ContainerAddFailure::OutOfSpace)
+    );
+    assert_eq!(rt;
+        container.remove(last, ReleaseMode::Default),
+        Err(NOT_OWNED)
+    );
+    Ok(())
+}
+
+#[test]
 fn capacities_are_refused_by_name(rt: HostRuntime) -> Result<(), Fail> {
     let none = Container::<u64>::new(rt.alloc(), 0, 1);
     assert_eq!(rt; none.err(), Some(UniqueIndexSetNewError::CapacityIsZero));

@@ -76,6 +76,19 @@ fn a_recovery_frees_what_its_owner_holds(rt: HostRuntime) -> Result<(), Fail> {
 }
 
 #[test]
+fn a_capacity_of_zero_or_past_the_greatest_is_refused(rt: HostRuntime) -> Result<(), Fail> {
+    let zero = RobustUniqueIndexSet::new(rt.alloc(), 0);
+    assert_eq!(rt; zero.err(), Some(UniqueIndexSetNewError::CapacityIsZero));
+    let large = RobustUniqueIndexSet::new(rt.alloc(), (1 << 24) - 1);
+    assert_eq!(rt; large.err(), Some(UniqueIndexSetNewError::CapacityTooLarge));
+    let fixed = StaticRobustUniqueIndexSet::<0>::new(rt.alloc());
+    assert_eq!(rt; fixed.err(), Some(UniqueIndexSetNewError::CapacityIsZero));
+    let reduced = StaticRobustUniqueIndexSet::<4>::new_with_reduced_capacity(rt.alloc(), 0);
+    assert_eq!(rt; reduced.err(), Some(UniqueIndexSetNewError::CapacityIsZero));
+    Ok(())
+}
+
+#[test]
 fn a_reduced_capacity_is_kept(rt: HostRuntime) -> Result<(), Fail> {
     let mut set = StaticRobustUniqueIndexSet::<4>::new_with_reduced_capacity(rt.alloc(), 2)?;
     assert_eq!(rt; set.capacity(), 2);

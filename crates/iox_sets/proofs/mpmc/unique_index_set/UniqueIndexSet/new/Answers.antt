@@ -7,4 +7,4 @@ invariant_of-result c =
     rw c.in_ok-places.ensures (AreIndexPlaces-new c.args.capacity (omega arith) (omega arith))
 
 pub returns-clause-made : goal.returns-clause-made
-returns-clause-made c = rw c.in_ok-places.ensures (set_in_places-new c.args.capacity)
+returns-clause-made c = rw c.in_ok-places.ensures (set_in_places-new c.args.capacity (omega arith))

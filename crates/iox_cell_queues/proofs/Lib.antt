@@ -1,0 +1,2 @@
+pub mod NewMachines
+pub mod MomentLemmas

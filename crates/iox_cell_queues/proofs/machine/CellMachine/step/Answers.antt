@@ -1,0 +1,8 @@
+use Rattle.std.proofs.Common.{subst, IfOk}
+use Rattle.iox_cell_queues.specs.CellQueues.{CellWorld}
+use Rattle.iox_cell_queues.specs.CellMachines.{IsMoment}
+use Rattle.iox_cell_queues.proofs.MomentLemmas.{moments_of}
+use Rattle.iox_cell_queues.proofs.machine.CellMachine.step.Goals as goal
+
+pub returns-clause-moment : goal.returns-clause-moment
+returns-clause-moment g c = subst (λ (w : CellWorld _ _). IfOk c.step.result (IsMoment g.T.Words w c.step.new.self)) c.self.view_is (moments_of g.T.Words _ _ _ c.step.result c.holds.ensures c.step.ensures.stepped)

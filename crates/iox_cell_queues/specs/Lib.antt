@@ -1,0 +1,7 @@
+pub mod CellSeatings
+pub mod CellParties
+pub mod CellQueues
+pub mod CellQueueLaws
+pub mod CellBeginLaws
+pub mod CellMachines
+pub mod CellSizes

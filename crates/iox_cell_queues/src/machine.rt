@@ -1,0 +1,107 @@
+//! The machine of one queue of values.
+ghost use Rattle.std.specs.Prelude.{◌≡◌};
+
+use crate::party::at_rest;
+use crate::queue::{CellCall, CellParty};
+use iox_cell_steps::{CellMoment, CellReply, Place};
+use iox_steps::{Entry, Machine, MachineError, Progress};
+use iox_words::Words;
+use std::alloc::{AllocError, Global};
+use std::marker::Model;
+
+/// A queue of values among shared words, and its two parties: party 0 pushes and looks at fullness,
+/// party 1 pops and looks at emptiness. `WIDTH` is `T::WORDS`.
+#[derive(Drop)]
+pub struct CellMachine<T: Words, const WIDTH: usize> {
+    machine: Machine<CellParty<T, WIDTH>>,
+}
+
+impl<T: Words, const WIDTH: usize> Model for CellMachine<T, WIDTH> {
+    ghost use Rattle.std.specs.Coded.{codes};
+    ghost use Rattle.iox_cell_queues.specs.CellSeatings.{ready_code};
+    ghost use Rattle.iox_cell_queues.specs.CellQueues.{CellWorld};
+
+    ghost Value = { CellWorld T WIDTH };
+
+    ghost coded = { Prim.hlevel (codes, T.code, ready_code) };
+
+    ghost view = { λ m. m.machine };
+}
+
+impl<T: Words, const WIDTH: usize> CellMachine<T, WIDTH> {
+    ghost use Rattle.std.specs.Prelude.{◌≡◌, ℕ, ◌+◌, ◌≤◌, length, take, IfOk, IfErr, OnOk, OnErr};
+    ghost use Rattle.iox_cell_steps.specs.Cells.{size};
+    ghost use Rattle.iox_cell_queues.specs.CellSizes.{PartyFits};
+    ghost use Rattle.iox_cell_queues.specs.CellQueues.{IsNewMachine, IsEmptyAt, CellHolds};
+    ghost use Rattle.iox_cell_queues.specs.CellMachines.{CellStepped, IsCellStepRefused, CellBegun, IsCellBeginRefused, AllCellsEntered, IsMoment};
+
+    /// A machine of the empty queue at this place among the words, at whatever position it is.
+    pub fn new(
+        alloc: Global,
+        words: Vec<u64>,
+        place: Place,
+    ) -> Result<CellMachine<T, WIDTH>, AllocError>
+        requires room { place.base + size place ≤ length words.items }
+        requires empty { IsEmptyAt place words.items }
+        requires wide { place.width ≡ WIDTH }
+        requires words { T.WORDS ≡ WIDTH }
+        requires fits { PartyFits T.row WIDTH.row }
+        ensures made { IfOk result (IsNewMachine words.items place) }
+    {
+        let _position = words[place.base];
+        let parties = at_rest(alloc, place)?;
+        Ok(CellMachine {
+            machine: Machine::new(alloc, words, parties),
+        })
+    }
+
+    /// The shared words.
+    pub fn words(&self) -> &[u64]
+        requires fits { PartyFits T.row WIDTH.row }
+        ensures { result.now ≡ self.now.words }
+    {
+        self.machine.words()
+    }
+
+    /// What happened so far.
+    pub fn events(&self) -> &[CellMoment<T>]
+        requires fits { PartyFits T.row WIDTH.row }
+        ensures { result.now ≡ self.now.events }
+    {
+        self.machine.events()
+    }
+
+    /// The party begins the call, with no access.
+    pub fn begin(&mut self, party: usize, call: CellCall<T>) -> Result<(), MachineError>
+        requires fits { PartyFits T.row WIDTH.row }
+        ensures begun { OnOk result (CellBegun ⟦<T as Words>⟧ self.old party call self.new) }
+        ensures refused { IfErr result (IsCellBeginRefused ⟦<T as Words>⟧ self.old party call) }
+        ensures unchanged { OnErr result (self.new ≡ self.old) }
+    {
+        self.machine.begin(party, call)
+    }
+
+    /// One access of the party's call.
+    pub fn step(&mut self, party: usize) -> Result<Progress<CellReply<T>>, MachineError>
+        requires fits { PartyFits T.row WIDTH.row }
+        ensures moment { IfOk result (IsMoment ⟦<T as Words>⟧ self.old self.new) }
+        ensures stepped { IfOk result (λ answer. CellStepped ⟦<T as Words>⟧ self.old party answer self.new) }
+        ensures refused { IfErr result (IsCellStepRefused ⟦<T as Words>⟧ self.old party) }
+        ensures unchanged { OnErr result (self.new ≡ self.old) }
+    {
+        self.machine.holds();
+        self.machine.step(party)
+    }
+
+    /// Plays a schedule to its end, or to the step that wants memory. Whatever the schedule, the
+    /// values that were handed out are, in order, the first of those published, and the rest waits.
+    pub fn run(&mut self, schedule: &[Entry<CellCall<T>>]) -> Result<(), MachineError>
+        requires fits { PartyFits T.row WIDTH.row }
+        ensures queue { CellHolds ⟦<T as Words>⟧ self.new }
+        ensures played { (count : ℕ) × AllCellsEntered ⟦<T as Words>⟧ self.old (take count schedule.now) self.new }
+        ensures whole { OnOk result (AllCellsEntered ⟦<T as Words>⟧ self.old schedule.now self.new) }
+        ensures refused { IfErr result (λ error. error ≡ MachineError.WantOfMemory) }
+    {
+        self.machine.run(schedule)
+    }
+}

@@ -1,0 +1,6 @@
+pub mod ValueLemmas
+pub mod AloneLemmas
+pub mod FinishLemmas
+pub mod PushChains
+pub mod PopChains
+pub mod WholeLemmas

@@ -1,0 +1,15 @@
+use Rattle.std.proofs.Common.{arith, ◌^◌, ◌-◌}
+use Rattle.iox_cell_runs.proofs.WholeLemmas.{full_soon, looked_full}
+use Rattle.iox_cell_runs.proofs.whole.is_full.Goals as goal
+
+pub finish-requires : goal.finish-requires
+finish-requires g c = (c.requires.fits, (c.requires.holds.0, full_soon _ g.T.Words c.args.place c.args.words.now.items c.requires.holds (2 ^ 64 - 1) (omega arith)))
+
+pub returns-clause-queue : goal.returns-clause-queue
+returns-clause-queue g c = (looked_full _ g.T.Words c.args.place c.args.words.now.items c.requires.holds _ _ c.finish.ensures).queue
+
+pub returns-clause-accesses : goal.returns-clause-accesses
+returns-clause-accesses g c = (looked_full _ g.T.Words c.args.place c.args.words.now.items c.requires.holds _ _ c.finish.ensures).accesses
+
+pub returns-clause-unchanged : goal.returns-clause-unchanged
+returns-clause-unchanged g c = (looked_full _ g.T.Words c.args.place c.args.words.now.items c.requires.holds _ _ c.finish.ensures).unchanged

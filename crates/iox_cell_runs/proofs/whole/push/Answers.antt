@@ -1,0 +1,32 @@
+use Rattle.std.proofs.Common.{◌+◌, ◌≤◌, ◌^◌, ◌-◌, arith, sym, ◌∙◌}
+use Rattle.iox_cell_steps.specs.Cells.{size}
+use Rattle.iox_cell_runs.proofs.WholeLemmas.{push_soon, pushed, known_is_whole}
+use Rattle.iox_cell_runs.proofs.whole.push.Goals as goal
+
+pub finish-requires : goal.finish-requires
+finish-requires g c =
+    let small = c.args.words.now.small in
+    let room = c.requires.holds.0 in
+    let memory : size c.args.place + 1 ≤ 2 ^ 64 - 1 = omega (arith, small, room) in
+    let whole = known_is_whole g.T.Words c.args.place.width c.args.value g.met.T.Words.laws c.known.ensures (c.requires.words ∙ sym c.requires.wide) in
+    (c.requires.fits, (c.requires.holds.0, push_soon _ g.T.Words c.args.place c.args.words.now.items c.requires.holds c.args.value whole (2 ^ 64 - 1) memory))
+
+pub returns-clause-queue : goal.returns-clause-queue
+returns-clause-queue g c =
+    let whole = known_is_whole g.T.Words c.args.place.width c.args.value g.met.T.Words.laws c.known.ensures (c.requires.words ∙ sym c.requires.wide) in
+    (pushed _ g.T.Words c.args.place c.args.words.now.items c.requires.holds c.args.value whole _ _ c.finish.ensures).queue
+
+pub returns-clause-accesses : goal.returns-clause-accesses
+returns-clause-accesses g c =
+    let whole = known_is_whole g.T.Words c.args.place.width c.args.value g.met.T.Words.laws c.known.ensures (c.requires.words ∙ sym c.requires.wide) in
+    (pushed _ g.T.Words c.args.place c.args.words.now.items c.requires.holds c.args.value whole _ _ c.finish.ensures).accesses
+
+pub returns-clause-holds : goal.returns-clause-holds
+returns-clause-holds g c =
+    let whole = known_is_whole g.T.Words c.args.place.width c.args.value g.met.T.Words.laws c.known.ensures (c.requires.words ∙ sym c.requires.wide) in
+    (pushed _ g.T.Words c.args.place c.args.words.now.items c.requires.holds c.args.value whole _ _ c.finish.ensures).holds
+
+pub returns-clause-outside : goal.returns-clause-outside
+returns-clause-outside g c =
+    let whole = known_is_whole g.T.Words c.args.place.width c.args.value g.met.T.Words.laws c.known.ensures (c.requires.words ∙ sym c.requires.wide) in
+    (pushed _ g.T.Words c.args.place c.args.words.now.items c.requires.holds c.args.value whole _ _ c.finish.ensures).outside

@@ -1,0 +1,7 @@
+//! Whole calls on the words of a queue of values, each played to its end by its party alone. They
+//! answer and leave what the calls of the plain queue do.
+#![tactic(auto)]
+
+mod whole;
+
+pub use whole::{holds_when_empty, is_empty, is_full, pop, push};

@@ -1,0 +1,19 @@
+use Rattle.std.proofs.Common.{subst}
+use Rattle.iox_set_steps.specs.TypedWords.{AreLaid}
+use Rattle.iox_set_steps.proofs.TypedMoments.{new_of_type, new_world}
+use Rattle.iox_set_steps.proofs.unrestricted_atomic.value_machine.ValueMachine.new.Goals as goal
+
+pub invariant_of-result : goal.invariant_of-result
+invariant_of-result g c =
+    new_of_type g.T.Words.WORDS g.T.Words.is_value g.T.Words.words g.T.Words.is_words g.T.Words.of_words g.met.T.Words.laws c.args.value g.row.N c.args.base
+    c.args.value c.value_words.ensures.known c.requires.sized c.args.words.items c.lay.new.words.items
+    (subst (λ list. AreLaid g.row.N c.args.base list c.args.words.items c.lay.new.words.items) c.value_words.ensures.words c.lay.ensures)
+    c.args.parties c.in_ok-machine.machine c.requires.small c.in_ok-machine.ensures.made
+
+pub returns : goal.returns
+returns g c = record {
+  made = new_world g.T.Words.WORDS g.T.Words.is_value g.T.Words.words g.T.Words.is_words g.T.Words.of_words g.met.T.Words.laws c.args.value g.row.N c.args.base
+      c.args.value c.value_words.ensures.known c.requires.sized c.args.words.items c.lay.new.words.items
+      (subst (λ list. AreLaid g.row.N c.args.base list c.args.words.items c.lay.new.words.items) c.value_words.ensures.words c.lay.ensures)
+      c.args.parties c.in_ok-machine.machine c.in_ok-machine.ensures.made;
+}

@@ -1,0 +1,87 @@
+-- How a value of a type stands in words, and what keeps it one.
+use Rattle.std.specs.Prelude.{◌≡◌, ℕ, ◌+◌, ◌^◌, ◌<◌, ◌⊎◌, List, [], Option, Some, None, length, map, slice_index}
+use Rattle.std.specs.List.{range_with_len}
+use Rattle.iox_steps.specs.Worlds.{IsParty}
+use Rattle.iox_steps.specs.declared.access.Progress.{Progress}
+use Rattle.iox_steps.specs.declared.access.Progress.TheVariants.{Going, Done}
+use Rattle.iox_set_steps.specs.declared.unrestricted_atomic.AtomicReply.{AtomicReply}
+use Rattle.iox_set_steps.specs.declared.unrestricted_atomic.AtomicReply.TheVariants as reply
+use Rattle.iox_set_steps.specs.declared.unrestricted_atomic.AtomicEvent.{AtomicEvent}
+use Rattle.iox_set_steps.specs.declared.unrestricted_atomic.AtomicEvent.TheVariants as event
+use Rattle.iox_set_steps.specs.declared.unrestricted_atomic.AtomicProgram.{AtomicProgram}
+use Rattle.iox_set_steps.specs.declared.unrestricted_atomic.AtomicProgram.TheVariants.{LoadsToStore, StoresWord, Raises}
+use Rattle.iox_set_steps.specs.declared.unrestricted_atomic.party.AtomicParty.{AtomicParty}
+use Rattle.iox_set_steps.specs.declared.unrestricted_atomic.value.ValueCall.{ValueCall}
+use Rattle.iox_set_steps.specs.declared.unrestricted_atomic.value.ValueCall.TheVariants.{Store, Load}
+use Rattle.iox_set_steps.specs.declared.unrestricted_atomic.value.ValueReply.{ValueReply}
+use Rattle.iox_set_steps.specs.declared.unrestricted_atomic.value.ValueReply.TheVariants as typed_reply
+use Rattle.iox_set_steps.specs.declared.unrestricted_atomic.value.ValueEvent.{ValueEvent}
+use Rattle.iox_set_steps.specs.declared.unrestricted_atomic.value.ValueEvent.TheVariants.{Stored, Loaded}
+use Rattle.iox_set_steps.specs.Values.{value_now}
+use Rattle.iox_set_steps.specs.AtomicPlays.{AtomicWorld}
+use Rattle.iox_set_steps.specs.AtomicMachines.{AreNewParties}
+use Rattle.iox_set_steps.specs.TypedValues.{ValueWorld}
+
+-- the words of the value that is current
+abbrev pub words_now : ℕ → ℕ → List ℕ → List ℕ
+words_now size base words = map (value_now size base words) (range_with_len 0 size)
+
+abbrev pub or_else : {T : Type 0} → Option T → T → T
+or_else None other = other
+or_else (Some value) other = value
+
+module _ {T : Type 0} (of : List ℕ → Option T) (other : T) where
+  -- the value of an event's words; where they are those of none, another
+  abbrev pub event_of : {size : ℕ} → AtomicEvent size → ValueEvent T
+  event_of (event.Stored list) = Stored (or_else (of list) other)
+  event_of (event.Loaded list) = Loaded (or_else (of list) other)
+
+  -- an answer, in the same way
+  abbrev pub answer_of : {size : ℕ} → Progress (AtomicReply size) → Progress (ValueReply T)
+  answer_of Going = Going
+  answer_of (Done (reply.Stored done)) = Done (typed_reply.Stored done)
+  answer_of (Done (reply.Loaded list)) = Done (typed_reply.Loaded (or_else (of list) other))
+
+  -- what the words and the parties show
+  abbrev pub shown : {size : ℕ} → ℕ → AtomicWorld size → ValueWorld T size
+  shown {size} base world = record {
+    value = or_else (of (words_now size base world.words)) other;
+    events = map event_of world.events;
+    plays = world;
+  }
+
+-- the value of a call is one of its type
+abbrev pub IsCallOf : {T : Type 0} → (T → Type 0) → ValueCall T → Type 0
+IsCallOf is_value (Store value) = is_value value
+IsCallOf is_value Load = Unit {0}
+
+-- the words of the value that a party stores, if it does
+abbrev pub stored_by : {size : ℕ} → AtomicProgram size → Option (List ℕ)
+stored_by (LoadsToStore list) = Some list
+stored_by (StoresWord list version index) = Some list
+stored_by (Raises list version) = Some list
+stored_by program = None
+
+-- the value that is current is of the type, and so is each that is to be stored
+pub record AreOfType {size : ℕ} (count : ℕ) (are : List ℕ → Type 0) (base : ℕ) (world : AtomicWorld size) : Type 0 where
+  pub sized : count ≡ size
+  pub small : size < 2 ^ 56
+  pub current : are (words_now size base world.words)
+  pub here : (number : ℕ) (party : AtomicParty size) → IsParty world number party → party.base ≡ base
+  pub stores : (number : ℕ) (party : AtomicParty size) (list : List ℕ) → IsParty world number party
+      → stored_by party.program ≡ Some list → are list
+
+-- the words from a place on are version 0 and behind it a value of `size` words, and the others are as they were
+pub record AreLaid (size base : ℕ) (list old new : List ℕ) : Type 0 where
+  pub length_stays : length new ≡ length old
+  pub version : slice_index new base ≡ 0
+  pub value : (index : ℕ) → index < size → slice_index new (base + 1 + index) ≡ slice_index list index
+  pub others : (place : ℕ) → (place < base) ⊎ (base + size < place) → slice_index new place ≡ slice_index old place
+
+-- a value stands in words, this many parties are at rest, and nothing happened yet
+pub record IsNewValue {T : Type 0} {size : ℕ} (words : T → List ℕ) (value : T) (base count : ℕ) (old : List ℕ)
+    (world : ValueWorld T size) : Type 0 where
+  pub is : world.value ≡ value
+  pub none : world.events ≡ []
+  pub laid : AreLaid size base (words value) old world.plays.words
+  pub parties : AreNewParties base count world.plays.parties

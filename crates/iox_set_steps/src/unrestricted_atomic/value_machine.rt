@@ -1,0 +1,141 @@
+//! The machine of parties at a value of a type.
+ghost use Rattle.std.specs.Prelude.{◌≡◌};
+
+use super::typed_words::{answer_of, call_of, lay, value_of, value_words};
+use super::value::{ValueCall, ValueEvent, ValueReply};
+use super::{AtomicEvent, AtomicMachine};
+use iox_steps::{Entry, MachineError, Progress};
+use iox_words::Words;
+use std::alloc::{AllocError, Global};
+use std::marker::Model;
+
+/// A value among shared words, and the parties that store and load it: party 0 alone stores. `N` is how many
+/// words a value has.
+#[derive(Drop)]
+pub struct ValueMachine<T: Words, const N: usize> {
+    machine: AtomicMachine<N>,
+    base: usize,
+    // The value that is current at first.
+    first: T,
+}
+
+impl<T: Words, const N: usize> Model for ValueMachine<T, N> {
+    ghost use Rattle.iox_set_steps.specs.TypedValues.{ValueWorld};
+    ghost use Rattle.iox_set_steps.specs.TypedWords.{AreOfType, shown};
+
+    ghost Value = { ValueWorld T N };
+
+    ghost view = { λ m. shown T.of_words m.first m.base m.machine };
+
+    ghost invariant = { λ m. AreOfType T.WORDS T.is_words m.base m.machine };
+}
+
+impl<T: Words, const N: usize> ValueMachine<T, N> {
+    ghost use Rattle.std.specs.Prelude.{◌≡◌, ℕ, ◌+◌, ◌^◌, ◌<◌, ◌≤◌, Err, IfErr, IfOk, OnErr, OnOk, length, map, slice_get, take};
+    ghost use Rattle.iox_steps.specs.declared.error.MachineError.TheVariants.{UnknownParty, WantOfMemory};
+    ghost use Rattle.iox_set_steps.specs.AtomicMachines.{AllAtomicsEntered, AtomicsBegun, AtomicsEntered, AtomicsStepped, IsAtomicBeginRefused, IsAtomicStepRefused};
+    ghost use Rattle.iox_set_steps.specs.TypedValues.{IsTypedMoment, MayCallTyped, TypedRunsOn, answer_words, call_words, entry_words};
+    ghost use Rattle.iox_set_steps.specs.TypedWords.{IsNewValue};
+
+    /// A machine of this many parties at a value, whose version stands at `base`, and behind it its two cells.
+    pub fn new(
+        alloc: Global,
+        words: Vec<u64>,
+        base: usize,
+        value: T,
+        parties: usize,
+    ) -> Result<ValueMachine<T, N>, AllocError>
+        requires sized { T.WORDS ≡ N }
+        requires small { N < 2 ^ 56 }
+        requires room { base + 1 + N + N ≤ length words.items }
+        ensures made { IfOk result (IsNewValue T.words value base parties words.items) }
+    {
+        let mut words = words;
+        lay(&mut words, base, value_words::<T, N>(value));
+        let machine = AtomicMachine::new(alloc, words, base, parties)?;
+        Ok(ValueMachine {
+            machine,
+            base,
+            first: value,
+        })
+    }
+
+    /// The shared words.
+    pub fn words(&self) -> &[u64]
+        ensures { result.now ≡ self.now.plays.words }
+    {
+        self.machine.words()
+    }
+
+    /// What happened so far, in order: the event of this number, if there were so many.
+    pub fn event(&self, number: usize) -> Option<ValueEvent<T>>
+        ensures { result ≡ slice_get self.now.events number }
+    {
+        match self.machine.events().get(number)? {
+            AtomicEvent::Stored(list) => Some(ValueEvent::Stored(value_of(*list, self.first))),
+            AtomicEvent::Loaded(list) => Some(ValueEvent::Loaded(value_of(*list, self.first))),
+        }
+    }
+
+    /// The party begins the call, with no access. A store by another party than 0 is refused.
+    pub fn begin(&mut self, party: usize, call: ValueCall<T>) -> Result<(), MachineError>
+        ensures storer { OnOk result (MayCallTyped party call) }
+        ensures others { (MayCallTyped party call → ⊥) → result ≡ Err UnknownParty }
+        ensures begun { OnOk result (AtomicsBegun N self.old.plays party (call_words T.words call) self.new.plays) }
+        ensures refused { IfErr result (IsAtomicBeginRefused N self.old.plays party (call_words T.words call)) }
+        ensures unchanged { OnErr result (self.new ≡ self.old) }
+        ensures value { self.new.value ≡ self.old.value }
+        ensures events { self.new.events ≡ self.old.events }
+    {
+        self.machine.holds();
+        self.machine.begin(party, call_of(call))
+    }
+
+    /// One access of the party's call.
+    pub fn step(&mut self, party: usize) -> Result<Progress<ValueReply<T>>, MachineError>
+        ensures moment { IfOk result (IsTypedMoment self.old self.new) }
+        ensures stepped { IfOk result (λ answer. AtomicsStepped N self.old.plays party (answer_words T.words answer) self.new.plays) }
+        ensures refused { IfErr result (IsAtomicStepRefused N self.old.plays party) }
+        ensures unchanged { OnErr result (self.new ≡ self.old) }
+    {
+        self.machine.holds();
+        let answer = self.machine.step(party)?;
+        Ok(answer_of(answer, self.first))
+    }
+
+    /// Plays a schedule to its end, or to the step that wants memory. Whatever the schedule, each load hands
+    /// out the value that is current at its last access.
+    pub fn run(&mut self, schedule: &[Entry<ValueCall<T>>]) -> Result<(), MachineError>
+        ensures value { TypedRunsOn self.old self.new }
+        ensures played { (count : ℕ) × AllAtomicsEntered N self.old.plays (map (entry_words T.words) (take count schedule.now)) self.new.plays }
+        ensures whole { OnOk result (AllAtomicsEntered N self.old.plays (map (entry_words T.words) schedule.now) self.new.plays) }
+        ensures refused { IfErr result (λ error. error ≡ WantOfMemory) }
+    {
+        for entry in schedule {
+            self.enter(*entry)?;
+        }
+        Ok(())
+    }
+
+    /// One entry of a schedule.
+    fn enter(&mut self, entry: Entry<ValueCall<T>>) -> Result<(), MachineError>
+        ensures value { TypedRunsOn self.old self.new }
+        ensures entered { OnOk result (AtomicsEntered N self.old.plays (entry_words T.words entry) self.new.plays) }
+        ensures refused { IfErr result (λ error. error ≡ WantOfMemory) }
+        ensures unchanged { OnErr result (self.new ≡ self.old) }
+    {
+        match entry {
+            Entry::Begin(party, call) => {
+                let _begun = self.begin(party, call);
+                Ok(())
+            }
+            Entry::Step(party) => match self.step(party) {
+                Ok(_) => Ok(()),
+                Err(MachineError::WantOfMemory) => Err(MachineError::WantOfMemory),
+                Err(MachineError::UnknownParty) => Ok(()),
+                Err(MachineError::AtRest) => Ok(()),
+                Err(MachineError::Busy) => Ok(()),
+            },
+        }
+    }
+}
