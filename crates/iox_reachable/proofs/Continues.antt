@@ -58,7 +58,7 @@ pub looking_fits : (s : State) (node : ℕ) (x : Sending) (left full : List Way)
     → ((v : Way) → has_way v (targets x) ≡ true → has_way v left ≡ false → has_way v full ≡ false → has_room s v ≡ true)
     → Fits s node (looking x left full)
 looking_fits s node x [] full own seen =
-    either (Fits s node) (list_any x.fails full) (Ended (FailsToSend x.loan x.copied UnableToDeliver)) (opening x (to_open x) full) (λ u. tt)
+    either (Fits s node) (list_any x.fails full) (Ended (FailsToSend x.loan x.copied UnableToDeliver)) (opening x (to_open x) full) (λ u. own.0)
     (λ u. opening_fits s node x (to_open x) full own (λ v there. seen v (not_in-has v full (targets x) there).0 refl (not_in-has v full (targets x) there).1))
 looking_fits s node x (w ∷ left) full own seen = (own, refl, seen)
 
@@ -96,7 +96,7 @@ sends_fits s node h copied distinct own within =
     let to : List ℕ = others s.fixed h.node Server in
     either (Fits s node) (is_request_loan h.kind) (sends_request s.fixed h copied to) (sends_response s.fixed h copied)
     (λ is. either (Fits s node) (is_active_spent s.fixed h) (Ended (FailsToSend h copied ExceedsMaxActiveRequests))
-    (emptying (sending_of s.fixed h copied to) (map (request_way h.port) to)) (λ u. tt)
+    (emptying (sending_of s.fixed h copied to) (map (request_way h.port) to)) (λ u. own)
     (λ u. emptying_fits s node (sending_of s.fixed h copied to) (map (request_way h.port) to) (
       own,
       refl,

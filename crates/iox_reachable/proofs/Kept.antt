@@ -91,10 +91,10 @@ outcome_kept f g node (Tells reply) e p = tt
 outcome_kept f g node (Loans h) e p = own_kept f g node h e p
 outcome_kept f g node (Fills h) e p = own_kept f g node h e p
 outcome_kept f g node (Sends h copied count) e p = own_kept f g node h e p
-outcome_kept f g node (FailsToSend h copied refusal) e p = tt
+outcome_kept f g node (FailsToSend h copied refusal) e p = own_kept f g node h e p
 outcome_kept f g node (Receives x w m) e p = (port_kept f g node x.port e p.0, p.1, p.2)
 outcome_kept f g node (Drops h) e p = tt
-outcome_kept f g node (DropsPort port) e p = e.on_wire ∙ p
+outcome_kept f g node (DropsPort port) e p = (e.on_wire ∙ p.0, port_kept f g node port e p.1)
 outcome_kept f g node (Forgets dead) e p = tt
 
 -- a way from a port of the node

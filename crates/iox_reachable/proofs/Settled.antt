@@ -126,7 +126,7 @@ settled_keeps s node payload (Receives x w m) wire p own =
     adds s.fixed (numbered s.fixed node) (received_handle s.fixed node x m) (numbers s.fixed s.fixed node p) own.0
 settled_keeps s node payload (Drops h) wire p own =
     releases s (gives_up (dropped s.fixed h) h) h.port wire (gives s.fixed (dropped s.fixed h) h (drops s.fixed s.fixed h p))
-settled_keeps s node payload (DropsPort port) wire p own = absurd (true≢false (sym wire ∙ own))
+settled_keeps s node payload (DropsPort port) wire p own = absurd (true≢false (sym wire ∙ own.0))
 settled_keeps s node payload (Forgets dead) wire p own =
     either (λ (t : State). Keeps s.fixed t.fixed) (has_forgotten s.fixed node dead) s (forgets s node dead) (λ u. p) (λ u. p)
 

@@ -3,7 +3,7 @@
 use Rattle.std.specs.Prelude.{◌≡◌, ℕ, ◌+◌, Bool, true, false, ◌&&◌, if◌then◌else◌, ◌==◌, nat_le, List, length, map, Option, Some, None}
 use Rattle.std.specs.List.{list_all}
 use Rattle.iox_model.specs.declared.way.Way.{Way}
-use Rattle.iox_model.specs.Doings.{Receiver, Sending, Outcome, Loans, Fills, Sends, Receives, DropsPort, Doing, Ended, Loaning, Asking, Emptying, Looking, Opening, Delivering, Evicted, Visiting, Again, Judging, Stale, Closing, Returning, Leaving, Checking, Hinting, Seeking}
+use Rattle.iox_model.specs.Doings.{Receiver, Sending, Outcome, Loans, Fills, Sends, FailsToSend, Receives, DropsPort, Doing, Ended, Loaning, Asking, Emptying, Looking, Opening, Delivering, Evicted, Visiting, Again, Judging, Stale, Closing, Returning, Leaving, Checking, Hinting, Seeking}
 use Rattle.iox_model.specs.Weaves.{World}
 use Rattle.iox_model.specs.Settings.{is_client, overflow_of}
 use Rattle.iox_model.specs.States.{Handle, Fixed, State}
@@ -61,10 +61,11 @@ abbrev pub FitsOutcome : Fixed → ℕ → Outcome → Type 0
 FitsOutcome f node (Loans h) = IsOwn f node h
 FitsOutcome f node (Fills h) = IsOwn f node h
 FitsOutcome f node (Sends h copied count) = IsOwn f node h
+FitsOutcome f node (FailsToSend h copied refusal) = IsOwn f node h
 FitsOutcome f node (Receives x w m) =
     IsPortOf f node x.port × IsTo x w × (is_client x.role ≡ true → m.request ≡ x.request)
 -- on a wire ports stay
-FitsOutcome f node (DropsPort port) = f.on_wire ≡ false
+FitsOutcome f node (DropsPort port) = (f.on_wire ≡ false) × IsPortOf f node port
 FitsOutcome f node o = Unit {0}
 
 -- What is left is some way, of the own port; and where a send delivers there is room.

@@ -1,6 +1,6 @@
 -- Each command is answered, so each list of commands is a run.
-use Rattle.std.specs.Prelude.{◌≡◌, ℕ, ◌+◌, ◌≤◌, true, nat_le, List, [], ◌∷◌, length, map, Option, Some, None, refl}
-use Rattle.std.proofs.Common.{ap, arith}
+use Rattle.std.specs.Prelude.{◌≡◌, ℕ, true, List, [], ◌∷◌, map, Option, Some, None, refl}
+use Rattle.std.proofs.Common.{ap}
 use Rattle.iox_model.specs.declared.command.Command.TheVariants as commands
 use Rattle.iox_model.specs.declared.command.Command.TheVariants.{OfNode, Leave, DeclareDead, Cleanup, ListNodes, ListClients, ListServers}
 use Rattle.iox_model.specs.declared.command.PortCommand.TheVariants.{Create, Use}
@@ -14,19 +14,17 @@ use Rattle.iox_model.specs.Joins.{not_living, not_dead, opening_refusal, with_me
 use Rattle.iox_model.specs.Loans.{Choice}
 use Rattle.iox_model.specs.Makings.{making_refusal, new_port, with_port, port_reply, IsPortCommand}
 use Rattle.iox_model.specs.Names.{misnamed}
-use Rattle.iox_model.specs.Peers.{node_of_port, buffer_on}
 use Rattle.iox_model.specs.Runs.{created, IsRun, IsHistory, Record}
 use Rattle.iox_model.specs.Services.{leaving_refusal, numbers_of_node, with_own_id, without_node, with_death, Releases, IsCleanup, IsCommand}
 use Rattle.iox_model.specs.States.{State}
 use Rattle.iox_model.specs.WholeCalls.{replied, moved_by, MayHold, UnlessRefused, spent, IsDone, IsWholeCall}
 use Rattle.iox_reachable.proofs.GoesOn.{some_holds}
 use Rattle.iox_runs.specs.Answering.{ComesToAnEnd, EachCallEnds, EachPortCommandIsAnswered, EachCommandIsAnswered, EachRunGoesOn, EachHistoryGoesOn}
-use Rattle.iox_runs.specs.Resting.{QueuesRestWithin}
-use Rattle.iox_runs.proofs.Rests.{Rested}
+use Rattle.iox_runs.proofs.Settling.{Calm}
 use Rattle.iox_runs.proofs.Calls.{call_ends}
 use Rattle.iox_runs.proofs.Choices.{something_may_be_chosen}
 use Rattle.iox_runs.proofs.Cleanups.{all_released}
-use Rattle.iox_runs.proofs.Runs.{command_rests, port_command_rests, created_rests, left_rests}
+use Rattle.iox_runs.proofs.Runs.{command_calm, port_command_calm, created_calm, left_calm}
 use Rattle.iox_runs.proofs.Values.{numbers_are_values, numbers_apart}
 
 -- ---- refusals
@@ -46,9 +44,9 @@ exactly q s reply t = unless q s (λ r u. (r ≡ reply) × (u ≡ t)) (λ e. (re
 -- ---- calls and ports
 
 pub each_call_ends : EachCallEnds
-each_call_ends s node call c ms left named may = call_ends s node c call ms (left_rests s left) named may
+each_call_ends s node call c ms left named may = call_ends s node c call ms (left_calm s left) named may
 
-call_answered : (s : State) (node : ℕ) (call : Call) → Rested s → Answers (IsWholeCall s node call)
+call_answered : (s : State) (node : ℕ) (call : Call) → Calm s → Answers (IsWholeCall s node call)
 call_answered s node call r =
     unless (misnamed s.fixed node call) s (λ reply t. UnlessRefused (spent s.fixed call) s reply t (IsDone s node call reply t))
     (λ named. unless (spent s.fixed call) s (IsDone s node call) (λ u. done named))
@@ -63,7 +61,7 @@ call_answered s node call r =
           (c.0, c.2, e.0, e.1, e.2, e.3, p.0, p.1, refl, refl),
         )
 
-port_command_answered : (s : State) (node : ℕ) (c : PortCommand) → Rested s → Answers (IsPortCommand s node c)
+port_command_answered : (s : State) (node : ℕ) (c : PortCommand) → Calm s → Answers (IsPortCommand s node c)
 port_command_answered s node (Create role id o) r =
     let reply : Reply = port_reply role s.fixed.next_number in
     let t : State = with_fixed s (with_port s.fixed (new_port s.fixed node role id o)) in
@@ -73,11 +71,11 @@ port_command_answered s node (Create role id o) r =
 port_command_answered s node (Use call) r = call_answered s node call r
 
 pub each_port_command_is_answered : EachPortCommandIsAnswered
-each_port_command_is_answered s node command left = port_command_answered s node command (left_rests s left)
+each_port_command_is_answered s node command left = port_command_answered s node command (left_calm s left)
 
 -- ---- the service
 
-command_answered : (s : State) (c : Command) → Rested s → Answers (IsCommand s c)
+command_answered : (s : State) (c : Command) → Calm s → Answers (IsCommand s c)
 command_answered s (commands.Open id asked) r =
     let reply : Reply = replies.Node s.members.joins in
     let t : State = with_members s (joined s.members id) in
@@ -92,44 +90,35 @@ command_answered s (Cleanup node) r =
     unless (not_dead s node) s (IsCleanup s node)
     (λ u.
     let mid : (t : State) × Releases s node (numbers_of_node s.fixed node) t
-    = all_released node (numbers_of_node s.fixed node) s r (numbers_apart s.fixed node r.fixed) (λ k among. numbers_are_values s.fixed node k among) in
+    = all_released node (numbers_of_node s.fixed node) s r (numbers_apart s.fixed node (r.rests).fixed) (λ k among. numbers_are_values s.fixed node k among) in
     (Done, without_node mid.0 node, (mid.0, mid.1, refl, refl)))
 command_answered s ListNodes r = (_, s, (refl, refl))
 command_answered s ListClients r = (_, s, (refl, refl))
 command_answered s ListServers r = (_, s, (refl, refl))
 
 pub each_command_is_answered : EachCommandIsAnswered
-each_command_is_answered s command left = command_answered s command (left_rests s left)
+each_command_is_answered s command left = command_answered s command (left_calm s left)
 
 -- ---- runs
 
-runs_on : (s : State) (cs : List Command) → Rested s → (rs : List Reply) × (t : State) × IsRun s cs rs t
+runs_on : (s : State) (cs : List Command) → Calm s → (rs : List Reply) × (t : State) × IsRun s cs rs t
 runs_on s [] r = ([], s, refl)
 runs_on s (c ∷ cs) r =
     let a : Answers (IsCommand s c) = command_answered s c r in
-    let rest : (rs : List Reply) × (t : State) × IsRun a.1 cs rs t = runs_on a.1 cs (command_rests s c a.0 a.1 r a.2) in
+    let rest : (rs : List Reply) × (t : State) × IsRun a.1 cs rs t = runs_on a.1 cs (command_calm s c a.0 a.1 r a.2) in
     (a.0 ∷ rest.0, rest.1, (a.1, a.2, rest.2))
 
 pub each_run_goes_on : EachRunGoesOn
-each_run_goes_on l acts id cs = runs_on (created l acts id) cs (created_rests l acts id)
+each_run_goes_on l acts id cs = runs_on (created l acts id) cs (created_calm l acts id)
 
-histories_go_on : (s : State) (asked : List (ℕ × PortCommand)) → Rested s
+histories_go_on : (s : State) (asked : List (ℕ × PortCommand)) → Calm s
     → (cs : List Record) × (t : State) × (map (λ c. (c.node, c.command)) cs ≡ asked) × IsHistory s cs t
 histories_go_on s [] r = ([], s, refl, refl)
 histories_go_on s (q ∷ qs) r =
     let a : Answers (IsPortCommand s q.0 q.1) = port_command_answered s q.0 q.1 r in
     let rest : (cs : List Record) × (t : State) × (map (λ c. (c.node, c.command)) cs ≡ qs) × IsHistory a.1 cs t
-    = histories_go_on a.1 qs (port_command_rests s q.0 q.1 a.0 a.1 r a.2) in
+    = histories_go_on a.1 qs (port_command_calm s q.0 q.1 a.0 a.1 r a.2) in
     (record { node = q.0; command = q.1; reply = a.0 } ∷ rest.0, rest.1, ap (λ xs. q ∷ xs) rest.2, (a.1, a.2, rest.3))
 
 pub each_history_goes_on : EachHistoryGoesOn
-each_history_goes_on s asked left = histories_go_on s asked (left_rests s left)
-
--- ---- queues
-
-le_from : (a b : ℕ) → nat_le a (b + 0) ≡ true → a ≤ b
-le_from a b e = grind (arith)
-
-pub queues_rest_within : QueuesRestWithin
-queues_rest_within s v left connected =
-    le_from (length (s.waiting v)) (buffer_on s.fixed v) ((left_rests s left).within (node_of_port s.fixed v.sender) v (connected, refl))
+each_history_goes_on s asked left = histories_go_on s asked (left_calm s left)

@@ -1,5 +1,5 @@
 -- A whole call of a service comes to its end, and leaves what rests.
-use Rattle.std.specs.Prelude.{◌≡◌, ℕ, true, false, ◌==◌, nat_lt, List, [], ◌∷◌, ◌++◌, Option, Some, None, refl}
+use Rattle.std.specs.Prelude.{◌≡◌, ℕ, true, false, ◌==◌, nat_lt, List, [], ◌∷◌, ◌++◌, map, Option, Some, None, refl}
 use Rattle.std.proofs.Common.{sym, subst, ap, ◌∙◌, true≢false, eqb-true}
 use Rattle.iox_model.specs.declared.way.Way.{Way}
 use Rattle.iox_model.specs.Begins.{start}
@@ -10,7 +10,7 @@ use Rattle.iox_model.specs.Loans.{Choice}
 use Rattle.iox_model.specs.Messages.{Message}
 use Rattle.iox_model.specs.Moments.{Holds, moved, Moment, Deliver, Evict, Take}
 use Rattle.iox_model.specs.Names.{misnamed}
-use Rattle.iox_model.specs.States.{Fixed, State}
+use Rattle.iox_model.specs.States.{Port, Fixed, State}
 use Rattle.iox_model.specs.Steps.{next, ends}
 use Rattle.iox_model.specs.WholeCalls.{moved_by, left_by, MayCome, UnlessRefused, spent, IsDone, IsWholeCall}
 use Rattle.iox_model.specs.Commands.{Refusal}
@@ -28,9 +28,13 @@ use Rattle.iox_reachable.proofs.Reached.{ended_within, ended_fits}
 use Rattle.iox_reachable.proofs.Sound.{Fits, last_of, IsWithin, SoundCall}
 use Rattle.iox_reachable.proofs.WayLemmas.{by_cases, false_if}
 use Rattle.iox_runs.proofs.Ports.{at_below}
-use Rattle.iox_runs.proofs.Rests.{Rests, Rested, rests_own}
-use Rattle.iox_runs.proofs.NewLoans.{MadeIs, moved_made, ended_made, start_made}
-use Rattle.iox_runs.proofs.Settles.{IsNext, settled_rests}
+use Rattle.iox_runs.proofs.Rests.{Rests, rests_own}
+use Rattle.iox_runs.proofs.Holding.{HoldsIn, moved_holds, ended_holds}
+use Rattle.iox_runs.proofs.Beginning.{start_holds}
+use Rattle.iox_runs.proofs.Owning.{Owned, moved_owned}
+use Rattle.iox_runs.proofs.Settling.{Calm, settled_calm}
+use Rattle.iox_ledger.proofs.Lists.{distinct-no_repeats}
+use Rattle.iox_ledger.proofs.Phases.{HasOwnPorts}
 
 -- what rests but for the one call under way
 pub record Goes (s : State) (node : ℕ) (d : Doing) : Type 0 where
@@ -38,7 +42,8 @@ pub record Goes (s : State) (node : ℕ) (d : Doing) : Type 0 where
   pub call : SoundCall s node (Some d)
   pub others : (n : ℕ) → (n == node) ≡ false → IsWithin s n None
   pub unused : (v : Way) → nat_lt v.sender s.fixed.next_number ≡ false → s.waiting v ≡ []
-  pub made : MadeIs (IsNext s.fixed) d
+  pub owned : Owned s
+  pub holds : HoldsIn s.fixed d
 
 -- ---- a moment
 
@@ -66,6 +71,9 @@ unused_moved s node d (Evict w) r p c v late none = taken_there s.waiting w v no
 unused_moved s node d (Take w m) r p c v late none = taken_there s.waiting w v none
 unused_moved s node d m r p c v late none = none
 
+own_ports : (f : Fixed) → Rests f → HasOwnPorts f
+own_ports f r = distinct-no_repeats (map (λ (p : Port). p.number) f.ports) (r.numbered).0
+
 goes_moved : (s : State) (node : ℕ) (d : Doing) (m : Moment) → Goes s node d → Holds s m → (next s node d m).condition
     → Goes (moved s m) node (next s node d m).after
 goes_moved s node d m g h c =
@@ -79,7 +87,9 @@ goes_moved s node d m g h c =
       unused = λ v late.
           let before : nat_lt v.sender s.fixed.next_number ≡ false = ap (λ (f : Fixed). nat_lt v.sender f.next_number) (sym same) ∙ late in
           unused_moved s node d m g.fixed (g.call).1 c v before (g.unused v before);
-      made = subst (λ f. MadeIs (IsNext f) (next s node d m).after) (sym same) (moved_made (IsNext s.fixed) s node d m g.made c);
+      owned = moved_owned s node d m g.fixed (g.call).1 g.holds c g.owned;
+      holds = subst (λ f. HoldsIn f (next s node d m).after) (sym same)
+          (moved_holds s node d m (own_ports s.fixed g.fixed) (g.owned).waits (g.call).1 h g.holds c);
     }
 
 pub goes_by : (s : State) (node : ℕ) (d : Doing) (ms : List Moment) → Goes s node d → MayCome s node d ms → Goes (moved_by s ms) node (left_by s node d ms)
@@ -88,20 +98,21 @@ goes_by s node d (m ∷ ms) g may = goes_by (moved s m) node (next s node d m).a
 
 -- ---- the begin
 
-pub begins : (s : State) (node : ℕ) (c : Choice) (call : Call) → Rested s → misnamed s.fixed node call ≡ None → Goes s node (start s node c call)
+pub begins : (s : State) (node : ℕ) (c : Choice) (call : Call) → Calm s → misnamed s.fixed node call ≡ None → Goes s node (start s node c call)
 begins s node c call r named = record {
-  fixed = r.fixed;
+  fixed = (r.rests).fixed;
   call = (
-    within_any s node (last_of (Some (start s node c call))) (r.within node),
-    call_fits s node c call ((r.fixed).numbered).0 (rests_own s.fixed node r.fixed) (r.within node) named,
+    within_any s node (last_of (Some (start s node c call))) ((r.rests).within node),
+    call_fits s node c call (((r.rests).fixed).numbered).0 (rests_own s.fixed node (r.rests).fixed) ((r.rests).within node) named,
   );
-  others = λ n other. r.within n;
-  unused = r.unused;
-  made = start_made (IsNext s.fixed) s node c call (λ p o client lane request. refl);
+  others = λ n other. (r.rests).within n;
+  unused = (r.rests).unused;
+  owned = r.owned;
+  holds = start_holds s node c call (own_ports s.fixed (r.rests).fixed) ((r.owned).has).kept named;
 }
 
 -- Whatever was chosen, and whatever moments were made, the call comes to an end.
-pub call_ends : (s : State) (node : ℕ) (c : Choice) (call : Call) (ms : List Moment) → Rested s → misnamed s.fixed node call ≡ None
+pub call_ends : (s : State) (node : ℕ) (c : Choice) (call : Call) (ms : List Moment) → Calm s → misnamed s.fixed node call ≡ None
     → MayCome s node (start s node c call) ms → ComesToAnEnd (moved_by s ms) node (left_by s node (start s node c call) ms)
 call_ends s node c call ms r named may =
     let d : Doing = start s node c call in
@@ -110,29 +121,32 @@ call_ends s node c call ms r named may =
 
 -- ---- the end
 
-over_rests : (t : State) (node : ℕ) (d : Doing) (o : Outcome) (payload : List ℕ) → Goes t node d → ends t d ≡ Some o → Rested (settled t node payload o)
-over_rests t node d o payload g ended =
-    settled_rests t node payload o (record {
-      fixed = g.fixed;
-      within = λ n. by_cases (n == node)
-          (λ is. subst (λ k. IsWithin t k None) (sym (eqb-true n node is)) (ended_within t node d o ended (g.call).0)) (g.others n);
-      unused = g.unused;
-    }) (ended_fits t node d o ended (g.call).1) (ended_made (IsNext t.fixed) t d o ended g.made)
+over_calm : (t : State) (node : ℕ) (d : Doing) (o : Outcome) (payload : List ℕ) → Goes t node d → ends t d ≡ Some o → Calm (settled t node payload o)
+over_calm t node d o payload g ended =
+    settled_calm t node payload o (record {
+      rests = record {
+        fixed = g.fixed;
+        within = λ n. by_cases (n == node)
+            (λ is. subst (λ k. IsWithin t k None) (sym (eqb-true n node is)) (ended_within t node d o ended (g.call).0)) (g.others n);
+        unused = g.unused;
+      };
+      owned = g.owned;
+    }) (ended_fits t node d o ended (g.call).1) (ended_holds t d o ended g.holds)
 
-pub done_rests : (s : State) (node : ℕ) (call : Call) (reply : Reply) (t : State) → Rested s → misnamed s.fixed node call ≡ None
-    → IsDone s node call reply t → Rested t
-done_rests s node call reply t r named d =
+done_calm : (s : State) (node : ℕ) (call : Call) (reply : Reply) (t : State) → Calm s → misnamed s.fixed node call ≡ None
+    → IsDone s node call reply t → Calm t
+done_calm s node call reply t r named d =
     let first : Doing = start s node d.0 call in
-    subst Rested (sym d.9)
-    (over_rests (moved_by s d.2) node (left_by s node first d.2) d.4 d.6 (goes_by s node first d.2 (begins s node d.0 call r named) d.3) d.5)
+    subst Calm (sym d.9)
+    (over_calm (moved_by s d.2) node (left_by s node first d.2) d.4 d.6 (goes_by s node first d.2 (begins s node d.0 call r named) d.3) d.5)
 
 -- refused, nothing changes
-pub unless_rests : (q : Option Refusal) (s : State) (reply : Reply) (t : State) (Q : Type 0) → Rested s → (q ≡ None → Q → Rested t)
-    → UnlessRefused q s reply t Q → Rested t
-unless_rests (Some x) s reply t Q r f u = subst Rested (sym u.1) r
-unless_rests None s reply t Q r f u = f refl u
+pub unless_calm : (q : Option Refusal) (s : State) (reply : Reply) (t : State) (Q : Type 0) → Calm s → (q ≡ None → Q → Calm t)
+    → UnlessRefused q s reply t Q → Calm t
+unless_calm (Some x) s reply t Q r f u = subst Calm (sym u.1) r
+unless_calm None s reply t Q r f u = f refl u
 
-pub whole_rests : (s : State) (node : ℕ) (call : Call) (reply : Reply) (t : State) → Rested s → IsWholeCall s node call reply t → Rested t
-whole_rests s node call reply t r =
-    unless_rests (misnamed s.fixed node call) s reply t (UnlessRefused (spent s.fixed call) s reply t (IsDone s node call reply t)) r
-    (λ named. unless_rests (spent s.fixed call) s reply t (IsDone s node call reply t) r (λ u. done_rests s node call reply t r named))
+pub whole_calm : (s : State) (node : ℕ) (call : Call) (reply : Reply) (t : State) → Calm s → IsWholeCall s node call reply t → Calm t
+whole_calm s node call reply t r =
+    unless_calm (misnamed s.fixed node call) s reply t (UnlessRefused (spent s.fixed call) s reply t (IsDone s node call reply t)) r
+    (λ named. unless_calm (spent s.fixed call) s reply t (IsDone s node call reply t) r (λ u. done_calm s node call reply t r named))

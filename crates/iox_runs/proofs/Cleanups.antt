@@ -34,8 +34,9 @@ use Rattle.iox_ledger.proofs.Phases.{find-own}
 use Rattle.iox_runs.specs.Answering.{ComesToAnEnd}
 use Rattle.iox_reachable.proofs.Begun.{none-some}
 use Rattle.iox_runs.proofs.Ports.{any_at, none_at, others_than}
-use Rattle.iox_runs.proofs.Rests.{FitsHandle, Rests, Rested}
-use Rattle.iox_runs.proofs.Calls.{call_ends, whole_rests}
+use Rattle.iox_runs.proofs.Rests.{FitsHandle, Rests}
+use Rattle.iox_runs.proofs.Settling.{Calm}
+use Rattle.iox_runs.proofs.Calls.{call_ends, whole_calm}
 
 -- ---- the values of a node
 
@@ -191,23 +192,23 @@ whole s node n t named done = unrefused (misnamed s.fixed node (Release n)) name
     unrefused None e = done
     unrefused (Some r) e = none-some r (sym e)
 
-port_released : (s : State) (node n : ℕ) (p : Port) → Rested s → IsAmong p s.fixed.ports → p.number ≡ n → p.node ≡ node → p.held ≡ true → Released s node n
+port_released : (s : State) (node n : ℕ) (p : Port) → Calm s → IsAmong p s.fixed.ports → p.number ≡ n → p.node ≡ node → p.held ≡ true → Released s node n
 port_released s node n p r among is of_node held =
-    let named : subject s.fixed node n ≡ Some (ThePort p) = port_named s.fixed node n p r.fixed among is held in
+    let named : subject s.fixed node n ≡ Some (ThePort p) = port_named s.fixed node n p (r.rests).fixed among is held in
     let d : start s node choice (Release n) ≡ Ended (DropsPort p.number) = ap (λ x. option_map_or (begins_at s choice (Release n)) x (refused UnknownNumber)) named in
     let t : State = settled s node [] (DropsPort p.number) in (
       t,
-      whole s node n t (release_suits s.fixed node n (ThePort p) (r.fixed).hub named of_node)
+      whole s node n t (release_suits s.fixed node n (ThePort p) ((r.rests).fixed).hub named of_node)
           (choice, (refl, refl), [], tt, DropsPort p.number, ap (ends s) d, [], tt, refl, refl),
       released_others s.fixed (with_fixed s (record (s.fixed) { ports = map (port_dropped p.number) s.fixed.ports })) node n p.number
           (subst (λ k. Others s.fixed (record (s.fixed) { ports = map (port_dropped k) s.fixed.ports }) node n) (sym is) (value_others s.fixed node n)),
     )
 
-handle_released : (s : State) (node n : ℕ) (h : Handle) → Rested s → IsAmong h (s.fixed.handles node) → h.number ≡ n → Released s node n
+handle_released : (s : State) (node n : ℕ) (h : Handle) → Calm s → IsAmong h (s.fixed.handles node) → h.number ≡ n → Released s node n
 handle_released s node n h r among is =
-    let fits : FitsHandle s.fixed.ports s.fixed.next_number node h = ((r.fixed).handles node).each h among in
-    let subject_is : subject s.fixed node n ≡ Some (TheHandle h) = handle_named s.fixed node n h r.fixed among is in
-    let named : misnamed s.fixed node (Release n) ≡ None = release_suits s.fixed node n (TheHandle h) (r.fixed).hub subject_is fits.of_node in
+    let fits : FitsHandle s.fixed.ports s.fixed.next_number node h = (((r.rests).fixed).handles node).each h among in
+    let subject_is : subject s.fixed node n ≡ Some (TheHandle h) = handle_named s.fixed node n h (r.rests).fixed among is in
+    let named : misnamed s.fixed node (Release n) ≡ None = release_suits s.fixed node n (TheHandle h) ((r.rests).fixed).hub subject_is fits.of_node in
     let d : start s node choice (Release n) ≡ releases_handle s.fixed h = ap (λ x. option_map_or (begins_at s choice (Release n)) x (refused UnknownNumber)) subject_is in
     let e : ComesToAnEnd s node (start s node choice (Release n)) = call_ends s node choice (Release n) [] r named tt in
     let o : e.2 ≡ Drops h
@@ -222,18 +223,18 @@ handle_released s node n h r among is =
           (subst (λ f. Others s.fixed (dropped f h) node n) (sym (moved_by-fixed s e.0)) (dropped_others s.fixed node n h is fits.of_node))),
     )
 
-value_released : (s : State) (node n : ℕ) → Rested s → IsValue s.fixed node n → Released s node n
+value_released : (s : State) (node n : ℕ) → Calm s → IsValue s.fixed node n → Released s node n
 value_released s node n r (inl q) = port_released s node n q.0 r q.1 q.2 q.3 q.4
 value_released s node n r (inr q) = handle_released s node n q.0 r q.1 q.2
 
 -- ---- all of them
 
-pub all_released : (node : ℕ) (ns : List ℕ) (s : State) → Rested s → NoRepeats ns → ((k : ℕ) → IsAmong k ns → IsValue s.fixed node k)
+pub all_released : (node : ℕ) (ns : List ℕ) (s : State) → Calm s → NoRepeats ns → ((k : ℕ) → IsAmong k ns → IsValue s.fixed node k)
     → (t : State) × Releases s node ns t
 all_released node [] s r d each = (s, refl)
 all_released node (n ∷ ns) s r d each =
     let first : Released s node n = value_released s node n r (each n (inl refl)) in
     let rest : (t : State) × Releases first.0 node ns t
-    = all_released node ns first.0 (whole_rests s node (Release n) Done first.0 r first.1) d.1
+    = all_released node ns first.0 (whole_calm s node (Release n) Done first.0 r first.1) d.1
     (λ k among. first.2 k (not-true (k == n) (λ same. d.0 (subst (λ j. IsAmong j ns) (eqb-true k n same) among))) (each k (inr among))) in
     (rest.0, (first.0, first.1, rest.1))

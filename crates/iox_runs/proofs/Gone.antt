@@ -33,7 +33,7 @@ none_of xs port h e among = not-true (h.port == port) (λ of_port. no_one (filte
     no_one [] h e p = p
     no_one (y ∷ ys) h e p = true≢false (sym e)
 
-others_belong : (f : Fixed) (gone n : ℕ) (h : Handle) → is_last_gone f gone ≡ true → IsAmong h (f.handles n) → IsPortIn f.ports n h.port → (h.port == gone) ≡ false
+pub others_belong : (f : Fixed) (gone n : ℕ) (h : Handle) → is_last_gone f gone ≡ true → IsAmong h (f.handles n) → IsPortIn f.ports n h.port → (h.port == gone) ≡ false
 others_belong f gone n h last among own =
     by_cases (h.port == gone)
     (λ is. none_of (f.handles (node_of_port f gone)) gone h empty

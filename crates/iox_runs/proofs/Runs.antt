@@ -1,5 +1,5 @@
--- Each command of a service leaves what rests, so each state of a run rests.
-use Rattle.std.specs.Prelude.{◌≡◌, ℕ, ◌+◌, true, false, nat_lt, nat_le, List, [], ◌∷◌, ◌++◌, length, None, refl}
+-- Each command leaves what holds between calls, so it holds of each state that is left.
+use Rattle.std.specs.Prelude.{◌≡◌, ℕ, ◌+◌, ◌≤◌, true, false, nat_lt, nat_le, List, [], ◌∷◌, ◌++◌, length, None, refl}
 use Rattle.std.specs.Option.{option_map_or}
 use Rattle.std.proofs.Common.{sym, subst, ap, ◌∙◌, true≢false, arith}
 use Rattle.iox_types.specs.declared.identifiers.system_id.UniqueSystemId.{UniqueSystemId}
@@ -17,7 +17,7 @@ use Rattle.iox_model.specs.Joins.{not_living, not_dead, opening_refusal}
 use Rattle.iox_model.specs.Makings.{making_refusal, new_port, with_port, IsPortCommand}
 use Rattle.iox_model.specs.Messages.{Message}
 use Rattle.iox_model.specs.Peers.{buffer_on}
-use Rattle.iox_model.specs.Runs.{created, IsRun, IsHistory, Record}
+use Rattle.iox_model.specs.Runs.{raised, created, IsRun, IsHistory, Record}
 use Rattle.iox_model.specs.Services.{leaving_refusal, numbers_of_node, with_own_id, Releases, IsCommand}
 use Rattle.iox_model.specs.Settings.{Limits, buffer_of}
 use Rattle.iox_model.specs.States.{Port, Fixed, State}
@@ -26,9 +26,14 @@ use Rattle.iox_reachable.proofs.Sound.{IsPortOf, IsWithin}
 use Rattle.iox_reachable.proofs.WayLemmas.{by_cases}
 use Rattle.iox_reachable.specs.Worlds.{IsServed}
 use Rattle.iox_runs.specs.Lefts.{IsLeft}
+use Rattle.iox_ledger.proofs.Lists.{IsAmong}
 use Rattle.iox_runs.proofs.Ports.{any_at, first_at, at_last, first_more, port_more}
 use Rattle.iox_runs.proofs.Rests.{FitsHandle, Rests, Rested}
-use Rattle.iox_runs.proofs.Calls.{unless_rests, whole_rests}
+use Rattle.iox_runs.proofs.Calls.{unless_calm, whole_calm}
+use Rattle.iox_runs.proofs.Porting.{made_owned}
+use Rattle.iox_runs.proofs.Settling.{Calm}
+use Rattle.iox_runs.proofs.Holding.{WaitFits}
+use Rattle.iox_runs.proofs.Owning.{Has, Owned, limit_in, most_in}
 
 -- ---- a port is made
 
@@ -86,20 +91,23 @@ made_within s p n is r v own =
 
 -- ---- commands
 
-pub port_command_rests : (s : State) (node : ℕ) (c : PortCommand) (reply : Reply) (t : State) → Rested s → IsPortCommand s node c reply t → Rested t
-port_command_rests s node (Create role id o) reply t r c =
+pub port_command_calm : (s : State) (node : ℕ) (c : PortCommand) (reply : Reply) (t : State) → Calm s → IsPortCommand s node c reply t → Calm t
+port_command_calm s node (Create role id o) reply t r c =
     let p : Port = new_port s.fixed node role id o in
-    unless_rests (making_refusal s.fixed role o c.0) s reply t _ r
-    (λ allowed made. subst Rested (sym made.1) (record {
-      fixed = made_rests s.fixed p refl r.fixed;
-      within = λ n. made_within s p n refl r;
-      unused = λ v late. r.unused v (not_less v.sender s.fixed.next_number late);
+    unless_calm (making_refusal s.fixed role o c.0) s reply t _ r
+    (λ allowed made. subst Calm (sym made.1) (record {
+      rests = record {
+        fixed = made_rests s.fixed p refl (r.rests).fixed;
+        within = λ n. made_within s p n refl r.rests;
+        unused = λ v late. (r.rests).unused v (not_less v.sender s.fixed.next_number late);
+      };
+      owned = made_owned s p refl r.rests r.owned;
     })) c.1
-port_command_rests s node (Use call) reply t r c = whole_rests s node call reply t r c
+port_command_calm s node (Use call) reply t r c = whole_calm s node call reply t r c
 
-releases_rest : (s : State) (node : ℕ) (ns : List ℕ) (t : State) → Rested s → Releases s node ns t → Rested t
-releases_rest s node [] t r e = subst Rested (sym e) r
-releases_rest s node (n ∷ ns) t r e = releases_rest e.0 node ns t (whole_rests s node (Release n) Done e.0 r e.1) e.2
+releases_calm : (s : State) (node : ℕ) (ns : List ℕ) (t : State) → Calm s → Releases s node ns t → Calm t
+releases_calm s node [] t r e = subst Calm (sym e) r
+releases_calm s node (n ∷ ns) t r e = releases_calm e.0 node ns t (whole_calm s node (Release n) Done e.0 r e.1) e.2
 
 -- a step that changes nodes alone
 same_rests : (s t : State) → t.fixed ≡ s.fixed → t.waiting ≡ s.waiting → Rested s → Rested t
@@ -112,51 +120,83 @@ same_rests s t fixed waiting r = record {
   unused = λ v late. ap (λ (g : Way → List Message). g v) waiting ∙ r.unused v (ap (λ (f : Fixed). nat_lt v.sender f.next_number) (sym fixed) ∙ late);
 }
 
-nodes_rest : (s x t : State) → x.fixed ≡ s.fixed → x.waiting ≡ s.waiting → t ≡ x → Rested s → Rested t
-nodes_rest s x t fixed waiting e r = subst Rested (sym e) (same_rests s x fixed waiting r)
+same_owned : (s t : State) → t.fixed ≡ s.fixed → t.waiting ≡ s.waiting → Owned s → Owned t
+same_owned s t fixed waiting o = record {
+  has = subst Has (sym fixed) o.has;
+  waits = λ y m among.
+      subst (λ (f : Fixed). WaitFits f.ports f.next_number f.expired y m) (sym fixed)
+      (o.waits y m (subst (λ (g : Way → List Message). IsAmong m (g y)) waiting among));
+  gone = λ y away.
+      subst (λ (f : Fixed). length (t.waiting y) ≤ most_in f.limits f.ports y) (sym fixed)
+      (subst (λ (g : Way → List Message). length (g y) ≤ most_in s.fixed.limits s.fixed.ports y) (sym waiting)
+      (o.gone y (ap (λ (f : Fixed). any_at y.sender f.ports) (sym fixed) ∙ away)));
+}
 
-pub command_rests : (s : State) (c : Command) (reply : Reply) (t : State) → Rested s → IsCommand s c reply t → Rested t
-command_rests s (commands.Open id asked) reply t r c =
-    unless_rests (opening_refusal s id asked c.0) s reply t _ r (λ u done. nodes_rest s _ t refl refl done.1 r) c.1
-command_rests s (OfNode node command) reply t r c =
-    unless_rests (not_living s node) s reply t _ r (λ u. port_command_rests s node (with_own_id s node command) reply t r) c
-command_rests s (Leave node) reply t r c = unless_rests (leaving_refusal s node) s reply t _ r (λ u done. nodes_rest s _ t refl refl done.1 r) c
-command_rests s (DeclareDead node) reply t r c = unless_rests (not_living s node) s reply t _ r (λ u done. nodes_rest s _ t refl refl done.1 r) c
-command_rests s (Cleanup node) reply t r c =
-    unless_rests (not_dead s node) s reply t _ r
-    (λ u done. nodes_rest done.0 _ t refl refl done.3 (releases_rest s node (numbers_of_node s.fixed node) done.0 r done.1)) c
-command_rests s ListNodes reply t r c = subst Rested (sym c.1) r
-command_rests s ListClients reply t r c = subst Rested (sym c.1) r
-command_rests s ListServers reply t r c = subst Rested (sym c.1) r
+same_calm : (s t : State) → t.fixed ≡ s.fixed → t.waiting ≡ s.waiting → Calm s → Calm t
+same_calm s t fixed waiting c = record { rests = same_rests s t fixed waiting c.rests; owned = same_owned s t fixed waiting c.owned }
 
-run_rests : (s : State) (cs : List Command) (rs : List Reply) (t : State) → Rested s → IsRun s cs rs t → Rested t
-run_rests s [] [] t r run = subst Rested (sym run) r
-run_rests s (c ∷ cs) (a ∷ rs) t r run = run_rests run.0 cs rs t (command_rests s c a run.0 r run.1) run.2
-run_rests s [] (a ∷ rs) t r run = absurd run
-run_rests s (c ∷ cs) [] t r run = absurd run
+nodes_calm : (s x t : State) → x.fixed ≡ s.fixed → x.waiting ≡ s.waiting → t ≡ x → Calm s → Calm t
+nodes_calm s x t fixed waiting e r = subst Calm (sym e) (same_calm s x fixed waiting r)
+
+pub command_calm : (s : State) (c : Command) (reply : Reply) (t : State) → Calm s → IsCommand s c reply t → Calm t
+command_calm s (commands.Open id asked) reply t r c =
+    unless_calm (opening_refusal s id asked c.0) s reply t _ r (λ u done. nodes_calm s _ t refl refl done.1 r) c.1
+command_calm s (OfNode node command) reply t r c =
+    unless_calm (not_living s node) s reply t _ r (λ u. port_command_calm s node (with_own_id s node command) reply t r) c
+command_calm s (Leave node) reply t r c = unless_calm (leaving_refusal s node) s reply t _ r (λ u done. nodes_calm s _ t refl refl done.1 r) c
+command_calm s (DeclareDead node) reply t r c = unless_calm (not_living s node) s reply t _ r (λ u done. nodes_calm s _ t refl refl done.1 r) c
+command_calm s (Cleanup node) reply t r c =
+    unless_calm (not_dead s node) s reply t _ r
+    (λ u done. nodes_calm done.0 _ t refl refl done.3 (releases_calm s node (numbers_of_node s.fixed node) done.0 r done.1)) c
+command_calm s ListNodes reply t r c = subst Calm (sym c.1) r
+command_calm s ListClients reply t r c = subst Calm (sym c.1) r
+command_calm s ListServers reply t r c = subst Calm (sym c.1) r
+
+run_calm : (s : State) (cs : List Command) (rs : List Reply) (t : State) → Calm s → IsRun s cs rs t → Calm t
+run_calm s [] [] t r run = subst Calm (sym run) r
+run_calm s (c ∷ cs) (a ∷ rs) t r run = run_calm run.0 cs rs t (command_calm s c a run.0 r run.1) run.2
+run_calm s [] (a ∷ rs) t r run = absurd run
+run_calm s (c ∷ cs) [] t r run = absurd run
 
 -- ---- from the creation on
 
-pub created_rests : (l : Limits) (acts : List ℕ → ℕ → ℕ → BackpressureAction) (id : UniqueSystemId) → Rested (created l acts id)
-created_rests l acts id = record {
-  fixed = record {
-    hub = refl;
-    numbered = (tt, refl);
-    handles = λ n. record { apart = tt; each = λ h among. absurd among };
+pub created_calm : (l : Limits) (acts : List ℕ → ℕ → ℕ → BackpressureAction) (id : UniqueSystemId) → Calm (created l acts id)
+created_calm l acts id = record {
+  rests = record {
+    fixed = record {
+      hub = refl;
+      numbered = (tt, refl);
+      handles = λ n. record { apart = tt; each = λ h among. absurd among };
+    };
+    within = λ n v own. absurd (true≢false (sym own.0));
+    unused = λ v late. refl;
   };
-  within = λ n v own. absurd (true≢false (sym own.0));
-  unused = λ v late. refl;
+  owned = record {
+    has = record {
+      kept = λ n h among. absurd among;
+      known = λ n h among. absurd among;
+      away = λ r n among. absurd (true≢false (sym among));
+      within = λ y. nothing (limit_in (raised l) [] y);
+      nobody = λ y none. refl;
+      counts = λ y kept. nothing 0;
+      few = λ y. nothing (limit_in (raised l) [] y);
+    };
+    waits = λ y m among. absurd among;
+    gone = λ y away. nothing (most_in (raised l) [] y);
+  };
 }
+  where
+    nothing : (n : ℕ) → 0 ≤ n
+    nothing n = omega arith
 
--- What a run leaves rests.
-served_rests : (s : State) → IsServed s → Rested s
-served_rests s served = run_rests (created served.0 served.1 served.2) served.3 served.4 s (created_rests served.0 served.1 served.2) served.5
+served_calm : (s : State) → IsServed s → Calm s
+served_calm s served = run_calm (created served.0 served.1 served.2) served.3 served.4 s (created_calm served.0 served.1 served.2) served.5
 
-history_rests : (s : State) (cs : List Record) (t : State) → Rested s → IsHistory s cs t → Rested t
-history_rests s [] t r history = subst Rested (sym history) r
-history_rests s (c ∷ cs) t r history =
-    history_rests history.0 cs t (port_command_rests s c.node c.command c.reply history.0 r history.1) history.2
+history_calm : (s : State) (cs : List Record) (t : State) → Calm s → IsHistory s cs t → Calm t
+history_calm s [] t r history = subst Calm (sym history) r
+history_calm s (c ∷ cs) t r history =
+    history_calm history.0 cs t (port_command_calm s c.node c.command c.reply history.0 r history.1) history.2
 
--- What is left rests.
-pub left_rests : (s : State) → IsLeft s → Rested s
-left_rests s left = history_rests left.0 left.1 s (served_rests left.0 left.2) left.3
+-- Whatever was asked before, it is calm between calls.
+pub left_calm : (s : State) → IsLeft s → Calm s
+left_calm s left = history_calm left.0 left.1 s (served_calm left.0 left.2) left.3

@@ -13,11 +13,7 @@ use Rattle.iox_model.proofs.MapLemmas.{either}
 use Rattle.iox_reachable.proofs.Sound.{IsOwn, IsPortOf, FitsOutcome}
 use Rattle.iox_runs.proofs.Rests.{Rests, Rested, numbered-hub, rests_same, adds, changes, drops}
 use Rattle.iox_runs.proofs.Gone.{released_rests, with_rests, value_rests}
-use Rattle.iox_runs.proofs.NewLoans.{OutcomeIs}
-
--- a new loan has the next number
-abbrev pub IsNext : Fixed → Handle → Type 0
-IsNext f h = h.number ≡ new_number f h.node
+use Rattle.iox_runs.proofs.Holding.{HoldsEnd}
 
 next-hub : (f : Fixed) (node : ℕ) → Rests f → new_number f node ≡ f.next_number
 next-hub f node r = ap (λ (b : Bool). if b then f.next_number + f.handles_made node else f.next_number) r.hub
@@ -71,7 +67,7 @@ given f g h w =
     either (Grows f) (is_received h.kind) (record g { borrowed = put g.borrowed (way_of h) (g.borrowed (way_of h) - 1) }) g
     (λ u. counts f g (record g { borrowed = put g.borrowed (way_of h) (g.borrowed (way_of h) - 1) }) refl refl refl refl refl w) (λ u. w)
 
-sent_copy_grows : (f : Fixed) (node : ℕ) (h : Handle) (count : ℕ) → Rests f → IsOwn f node h → IsNext f h → Grows f (sent_copy f h count)
+sent_copy_grows : (f : Fixed) (node : ℕ) (h : Handle) (count : ℕ) → Rests f → IsOwn f node h → h.number ≡ new_number f h.node → Grows f (sent_copy f h count)
 sent_copy_grows f node h count r own new =
     either (Grows f) (is_request_loan h.kind) (added (numbered f h.node) (sent_handle h count)) f
     (λ u. adds_one f (sent_handle h count) r (of_own f node h own) (new ∙ next-hub f h.node r)) (λ u. stays f r)
@@ -87,11 +83,17 @@ sent_loan_rests s node h count r own =
     }))
     (λ u. released_rests (with_fixed s (dropped s.fixed h)) h.port (grown s (dropped s.fixed h) r (less_of s.fixed h r.fixed)))
 
+pub dropped_rests : (s : State) (h : Handle) → Rested s → Rested (with_fixed s (dropped s.fixed h))
+dropped_rests s h r = grown s (dropped s.fixed h) r (less_of s.fixed h r.fixed)
+
+pub given_rests : (s : State) (h : Handle) → Rested s → Rested (with_fixed s (gives_up (dropped s.fixed h) h))
+given_rests s h r = grown s (gives_up (dropped s.fixed h) h) r (given s.fixed (dropped s.fixed h) h (less_of s.fixed h r.fixed))
+
 called_rests : (s : State) → Rested s → Rested (with_fixed s (called s.fixed))
 called_rests s r = grown s (called s.fixed) r (counts s.fixed s.fixed (called s.fixed) refl refl refl refl refl (stays s.fixed r.fixed))
 
 pub settled_rests : (s : State) (node : ℕ) (payload : List ℕ) (o : Outcome) → Rested s → FitsOutcome s.fixed node o
-    → OutcomeIs (IsNext s.fixed) o → Rested (settled s node payload o)
+    → HoldsEnd s.fixed o → Rested (settled s node payload o)
 settled_rests s node payload (Tells reply) r fits new =
     either Rested (is_nothing reply) (with_fixed s (called s.fixed)) s (λ u. called_rests s r) (λ u. r)
 settled_rests s node payload (Loans h) r fits new =
@@ -99,7 +101,7 @@ settled_rests s node payload (Loans h) r fits new =
     grown s (called (lent g h.port)) r
     (counts s.fixed g (called (lent g h.port)) refl refl refl refl refl
     (subst (λ n. Grows s.fixed (added (numbered s.fixed n) (holding h payload))) fits.0
-    (adds_one s.fixed (holding h payload) r.fixed (of_own s.fixed node h fits) (new ∙ next-hub s.fixed h.node r.fixed))))
+    (adds_one s.fixed (holding h payload) r.fixed (of_own s.fixed node h fits) (new.2 ∙ next-hub s.fixed h.node r.fixed))))
 settled_rests s node payload (Fills h) r fits new =
     grown s (changed s.fixed h) r (record {
       ports = refl;
@@ -110,7 +112,7 @@ settled_rests s node payload (Fills h) r fits new =
 settled_rests s node payload (Sends h true count) r fits new =
     let g : Fixed = sent_copy s.fixed h count in
     grown s (called (called (lent g h.port))) r
-    (counts s.fixed g (called (called (lent g h.port))) refl refl refl refl refl (sent_copy_grows s.fixed node h count r.fixed fits new))
+    (counts s.fixed g (called (called (lent g h.port))) refl refl refl refl refl (sent_copy_grows s.fixed node h count r.fixed fits new.2))
 settled_rests s node payload (Sends h false count) r fits new = called_rests (sent_loan s h count) (sent_loan_rests s node h count r fits)
 settled_rests s node payload (FailsToSend h true refusal) r fits new =
     grown s (called (lent s.fixed h.port)) r (counts s.fixed s.fixed (called (lent s.fixed h.port)) refl refl refl refl refl (stays s.fixed r.fixed))
@@ -123,7 +125,7 @@ settled_rests s node payload (Receives x w m) r fits new =
     (counts s.fixed g (called (borrows g w)) refl refl refl refl refl (adds_one s.fixed h r.fixed fits.0 (next-hub s.fixed node r.fixed)))
 settled_rests s node payload (Drops h) r fits new =
     released_rests (with_fixed s (gives_up (dropped s.fixed h) h)) h.port
-    (grown s (gives_up (dropped s.fixed h) h) r (given s.fixed (dropped s.fixed h) h (less_of s.fixed h r.fixed)))
+    (given_rests s h r)
 settled_rests s node payload (DropsPort port) r fits new =
     released_rests (with_fixed s (record (s.fixed) { ports = map (port_dropped port) s.fixed.ports })) port (value_rests s port r)
 settled_rests s node payload (Forgets dead) r fits new =

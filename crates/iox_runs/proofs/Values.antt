@@ -10,7 +10,7 @@ use Rattle.iox_runs.specs.Resting.{ValuesHaveOwnNumbers}
 use Rattle.iox_runs.proofs.Ports.{any_at}
 use Rattle.iox_runs.proofs.Rests.{Rests}
 use Rattle.iox_runs.proofs.Cleanups.{IsValue}
-use Rattle.iox_runs.proofs.Runs.{left_rests}
+use Rattle.iox_runs.proofs.Runs.{left_calm}
 
 -- ---- in order
 
@@ -97,4 +97,4 @@ numbers_apart f node r =
         (subst (λ j. any_at j f.ports ≡ false) h.2 ((r.handles node).each h.0 h.1).no_port)
 
 pub values_have_own_numbers : ValuesHaveOwnNumbers
-values_have_own_numbers s node left = no_repeats-distinct (numbers_of_node s.fixed node) (numbers_apart s.fixed node (left_rests s left).fixed)
+values_have_own_numbers s node left = no_repeats-distinct (numbers_of_node s.fixed node) (numbers_apart s.fixed node ((left_calm s left).rests).fixed)

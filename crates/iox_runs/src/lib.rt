@@ -3,7 +3,7 @@
 #![tactic(auto)]
 
 ghost use Rattle.iox_runs.specs.Answering.{EachCallEnds, EachCommandIsAnswered, EachHistoryGoesOn, EachPortCommandIsAnswered, EachRunGoesOn, SomethingMayBeChosen};
-ghost use Rattle.iox_runs.specs.Resting.{QueuesRestWithin, ValuesHaveOwnNumbers};
+ghost use Rattle.iox_runs.specs.Resting.{BorrowsRestWithin, QueuesOfTheGoneRestWithin, QueuesRestWithin, ValuesHaveOwnNumbers};
 
 /// A call finds an open lane, with memory or without. Whatever it finds, and whatever moments it
 /// made, some further ones lead it to an end.
@@ -20,9 +20,15 @@ pub fn commands_are_answered()
     ensures histories { EachHistoryGoesOn }
 {}
 
-/// Between calls no more waits on a way than its buffer holds.
+/// Between calls no more waits on a way than its buffer holds, whether the sender is there or gone.
 pub fn queues_rest_within()
-    ensures { QueuesRestWithin }
+    ensures there { QueuesRestWithin }
+    ensures gone { QueuesOfTheGoneRestWithin }
+{}
+
+/// Between calls a receiver has at most as many messages of a way as it may borrow.
+pub fn borrows_rest_within()
+    ensures { BorrowsRestWithin }
 {}
 
 /// What a node has, ports and handles, has numbers of its own.
