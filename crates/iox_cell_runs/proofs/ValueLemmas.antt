@@ -20,7 +20,7 @@ module _ {A : Type 0} (W : Ghosts A) (place : Place) (list : List ℕ) (room : p
       let cut = length-drop (cell_at place position) list in
       let wide : length (cell_words place list position) ≡ place.width = length-take-le place.width (drop (cell_at place position) list) (omega arith) in
       let same : cell_words place list position ≡ W.words value = same_number_lists (cell_words place list position) (W.words value) (wide ∙ sym whole.0)
-          (λ i below. get_or-take place.width (drop (cell_at place position) list) i 0 (omega arith) ∙ get_or-drop (cell_at place position) list i 0 ∙ holds i (omega arith)) in
+      (λ i below. get_or-take place.width (drop (cell_at place position) list) i 0 (omega arith) ∙ get_or-drop (cell_at place position) list i 0 ∙ holds i (omega arith)) in
       ap W.of_words same ∙ whole.1
 
   values_are : (waiting : List A) (position : ℕ) → AreWhole W.words W.of_words place.width waiting

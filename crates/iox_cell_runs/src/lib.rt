@@ -5,3 +5,6 @@
 mod whole;
 
 pub use whole::{holds_when_empty, is_empty, is_full, pop, push};
+
+#[cfg(test)]
+mod tests;
