@@ -17,11 +17,12 @@ use Rattle.iox_ledger.specs.OnceLaws.{IsOnWire}
 use Rattle.iox_model.proofs.WholeLemmas.{some-is, or_else-none, put_at-here}
 use Rattle.iox_ledger.proofs.Views.{view}
 use Rattle.iox_ledger.proofs.Worlds.{begin-none}
-use Rattle.iox_pools.specs.PoolLaws.{HasAllBack, KeepsLess, LoanSucceeds, lender, BeginsSucceed, NeverOutOfMemory}
+use Rattle.iox_pools.specs.PoolLaws.{HasAllBack, KeepsLess, LoanSucceeds, lender, BeginsSucceed, NeverOutOfMemory, PoolsHold, NextIsFresh}
 use Rattle.iox_pools.proofs.Spare.{TellsIf, SpareOutcome, SpareDoing}
 use Rattle.iox_pools.proofs.SpareMoves.{ends-spare}
 use Rattle.iox_pools.proofs.SpareStarts.{IsLoanOf, DryAtOnce, start-spare}
 use Rattle.iox_pools.proofs.Suffices.{Reduced, Gone, spare-is, AllBack, keeps-less, gives, gives-at-once, loan-is, all-back}
+use Rattle.iox_pools.proofs.HoldsBeats.{on-wire-keeping, fresh}
 use Rattle.iox_pools.proofs.Worlds.{Holding, on-wire-holds, replied-if}
 
 -- a world that may come about is on the wire of a service
@@ -96,3 +97,15 @@ never_out_of_memory v u node payload reach all beat =
     let p : SpareOutcome (view v.state.fixed node) (Gone v.state) out beat.3
     = ends-spare v.state (view v.state.fixed node) (Gone v.state) out beat.1 beat.3 (spare-is v node beat.1 holds.spares beat.2) beat.4 in
     subst (TellsIf out) (sym beat.6) (replied-if v.state.fixed node (view v.state.fixed node) (Gone v.state) out beat.3 p) all
+
+-- ---- at all times
+
+pub pools_hold : PoolsHold
+pools_hold v port p reach is =
+    let x : IsOnServed v = on-served v reach in
+    (on-wire-keeping x.state v x.beats port p x.on is).fits
+
+pub next_is_fresh : NextIsFresh
+next_is_fresh v port p reach is none =
+    let x : IsOnServed v = on-served v reach in
+    fresh v port p (on-wire-keeping x.state v x.beats port p x.on is) none

@@ -9,3 +9,7 @@ pub mod Suffices
 pub mod Worlds
 pub mod Laws
 pub mod Tight
+pub mod Under
+pub mod Holds
+pub mod HoldsKept
+pub mod HoldsBeats

@@ -135,7 +135,7 @@ lends-on f n h w loan a known =
 abbrev pub ForgetsTheDead : State → Type 0
 ForgetsTheDead s = (m d : ℕ) → has_number d (s.fixed.forgot m) ≡ true → not_living s d ≡ None → ⊥
 
-way-of : (f : Fixed) (port : ℕ) (p : Port) (w : Way) → port_at f port ≡ Some p → IsAmong w (ways_from f port) → IsWayOf f port p.role w
+pub way-of : (f : Fixed) (port : ℕ) (p : Port) (w : Way) → port_at f port ≡ Some p → IsAmong w (ways_from f port) → IsWayOf f port p.role w
 way-of f port p w is a = by_role p.role (subst (λ (q : Role). IsAmong w (if is_client q then ways_from_client f port else ways_from_server f port)) (role-is f port p is) a)
   where
     by_role : (r : Role) → IsAmong w (if is_client r then ways_from_client f port else ways_from_server f port) → IsWayOf f port r w

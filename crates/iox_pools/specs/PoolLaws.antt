@@ -1,5 +1,6 @@
 -- A pool that was not reduced suffices: each loan within size and counts finds a message.
-use Rattle.std.specs.Prelude.{◌≡◌, ℕ, ◌<◌, ◌≤◌, Bool, true, if◌then◌else◌, List, [], length, Some, None, IsTrue}
+use Rattle.std.specs.Prelude.{◌≡◌, ℕ, ◌<◌, ◌≤◌, Bool, true, false, if◌then◌else◌, List, [], length, Some, None, IsTrue}
+use Rattle.std.specs.Option.{option_map_or}
 use Rattle.iox_types.specs.declared.identifiers.system_id.UniqueSystemId.{UniqueSystemId}
 use Rattle.iox_model.specs.declared.kind.Role.{Role}
 use Rattle.iox_model.specs.declared.way.Way.{Way}
@@ -7,18 +8,18 @@ use Rattle.iox_model.specs.declared.reply.Refusal.TheVariants.{OutOfMemory}
 use Rattle.iox_model.specs.declared.reply.Reply.TheVariants.{Refused}
 use Rattle.iox_model.specs.Settings.{is_client, Limits}
 use Rattle.iox_model.specs.States.{Port, Handle, Fixed}
-use Rattle.iox_model.specs.Maps.{has_way}
+use Rattle.iox_model.specs.Maps.{has_number, has_way}
 use Rattle.iox_model.specs.Handles.{subject, Subject, ThePort, TheHandle}
 use Rattle.iox_model.specs.Loans.{Choice}
 use Rattle.iox_model.specs.Commands.{Call, Options, number_of}
 use Rattle.iox_model.specs.declared.call.WireCall.TheVariants as wire_calls
 use Rattle.iox_model.specs.Doings.{refused, Loans, Ended, Loaning}
 use Rattle.iox_model.specs.Responses.{sends, loaned}
-use Rattle.iox_model.specs.Peers.{port_at}
+use Rattle.iox_model.specs.Peers.{port_at, node_of_port}
 use Rattle.iox_model.specs.Joins.{not_living}
 use Rattle.iox_model.specs.Makings.{pool_of_client, pool_of_server, new_port}
 use Rattle.iox_model.specs.Weaves.{IsBeat, World, Begins, Ends}
-use Rattle.iox_model.specs.Ledgers.{kept_in}
+use Rattle.iox_model.specs.Ledgers.{under_way, kept_in}
 use Rattle.iox_reachable.specs.Worlds.{IsReachable}
 
 -- ---- what a port needs
@@ -86,3 +87,18 @@ NeverOutOfMemory =
     → ((p : Port) → port_at v.state.fixed p.number ≡ Some p → p.node ≡ node
     → IsUnreduced v.state.fixed p)
     → IsBeat v (Ends node (Refused OutOfMemory) payload) u → ⊥
+
+-- ---- at all times
+
+-- No port keeps more messages than its pool has, also where that was reduced;
+abbrev pub PoolsHold : Type 0
+PoolsHold =
+    (v : World) (port : ℕ) (p : Port) → IsReachable v → port_at v.state.fixed port ≡ Some p
+    → length (kept_in v port) ≤ p.pool
+
+-- and the message that its next loan takes is none that it keeps, while no call has just taken it.
+abbrev pub NextIsFresh : Type 0
+NextIsFresh =
+    (v : World) (port : ℕ) (p : Port) → IsReachable v → port_at v.state.fixed port ≡ Some p
+    → option_map_or (under_way port) (v.doing (node_of_port v.state.fixed port)) [] ≡ []
+    → has_number (v.state.fixed.loans port) (kept_in v port) ≡ false

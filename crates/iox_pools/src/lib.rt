@@ -3,7 +3,7 @@
 #![tactic(auto)]
 
 ghost use Rattle.iox_pools.specs.PoolLaws.{BeginsSucceed, KeepsLess, LoanSucceeds};
-ghost use Rattle.iox_pools.specs.PoolLaws.{MakesUnreduced, NeverOutOfMemory};
+ghost use Rattle.iox_pools.specs.PoolLaws.{MakesUnreduced, NeverOutOfMemory, NextIsFresh, PoolsHold};
 ghost use Rattle.iox_pools.specs.TightPools.{NoLessWouldDo};
 
 /// A port that is made without a pool of its maker's choice has just what it needs.
@@ -28,4 +28,10 @@ pub fn no_call_runs_out_of_memory()
 /// the last message of a pool that has just what its port needs.
 pub fn no_smaller_pool_suffices()
     ensures { NoLessWouldDo }
+{}
+
+/// No port keeps more messages than its pool has, and the next that it lends is none of them.
+pub fn pools_are_kept_to()
+    ensures kept { PoolsHold }
+    ensures fresh { NextIsFresh }
 {}
