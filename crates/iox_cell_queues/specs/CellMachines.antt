@@ -22,35 +22,43 @@ use Rattle.iox_cell_queues.specs.CellParties.{cell_asks, cell_happens, cell_rest
 use Rattle.iox_cell_queues.specs.CellQueues.{CellWorld}
 
 -- the words and both parties are those of the queue at this place in which the line waits
-abbrev pub SeatsShow : {A : Type 0} → {width : ℕ} → (A → List ℕ) → (List ℕ → Option A) → Place → List ℕ → CellSeat A width → CellSeat A width → CellLine A → Type 0
-SeatsShow words of_words place list (Pusher pushes) (Popper pops) line = (slice_index list place.base ≡ line.write)
+abbrev pub SeatsShow : {A : Type 0} → {width : ℕ} → (A → List ℕ) → (List ℕ → Option A) → Place
+    → List ℕ → CellSeat A width → CellSeat A width → CellLine A → Type 0
+SeatsShow words of_words place list (Pusher pushes) (Popper pops) line =
+    (slice_index list place.base ≡ line.write)
     × Fits words of_words place (λ at. slice_index list at) line.waiting pushes pops
 SeatsShow words of_words place list a b line = ⊥
 
 -- `W` has the words of the values
 module _ {A : Type 0} {width : ℕ} (W : Ghosts A) where
   -- the entries of a machine, at a queue's parties
-  abbrev pub CellStepped : CellWorld A width → ℕ → Progress (CellReply A) → CellWorld A width → Type 0
+  abbrev pub CellStepped : CellWorld A width → ℕ → Progress (CellReply A) → CellWorld A width
+      → Type 0
   CellStepped = Stepped (cell_asks W) (CellLeads W) (cell_happens W) cell_rests (CellBegins W)
 
   abbrev pub IsCellStepRefused : CellWorld A width → ℕ → MachineError → Type 0
-  IsCellStepRefused = IsStepRefused (cell_asks W) (CellLeads W) (cell_happens W) cell_rests (CellBegins W)
+  IsCellStepRefused =
+      IsStepRefused (cell_asks W) (CellLeads W) (cell_happens W) cell_rests (CellBegins W)
 
   abbrev pub CellBegun : CellWorld A width → ℕ → CellCall A → CellWorld A width → Type 0
   CellBegun = Begun (cell_asks W) (CellLeads W) (cell_happens W) cell_rests (CellBegins W)
 
   abbrev pub IsCellBeginRefused : CellWorld A width → ℕ → CellCall A → MachineError → Type 0
-  IsCellBeginRefused = IsBeginRefused (cell_asks W) (CellLeads W) (cell_happens W) cell_rests (CellBegins W)
+  IsCellBeginRefused =
+      IsBeginRefused (cell_asks W) (CellLeads W) (cell_happens W) cell_rests (CellBegins W)
 
-  abbrev pub AllCellsEntered : CellWorld A width → List (Entry (CellCall A)) → CellWorld A width → Type 0
-  AllCellsEntered = AllEntered (cell_asks W) (CellLeads W) (cell_happens W) cell_rests (CellBegins W)
+  abbrev pub AllCellsEntered : CellWorld A width → List (Entry (CellCall A)) → CellWorld A width
+      → Type 0
+  AllCellsEntered =
+      AllEntered (cell_asks W) (CellLeads W) (cell_happens W) cell_rests (CellBegins W)
 
   abbrev pub PartiesShow : Place → List ℕ → List (CellParty A width) → CellLine A → Type 0
   PartiesShow place list (a ∷ b ∷ []) line = (a.place ≡ place) × (b.place ≡ place)
       × SeatsShow W.words W.of_words place list a.seat b.seat line
   PartiesShow place list parties line = ⊥
 
-  -- One access is one moment: it is true of the queue before, leads to the queue after, is written down, and the reply says it.
+  -- One access is one moment: it is true of the queue before, leads to the queue after, is written
+  -- down, and the reply says it.
   pub record IsMoment (old new : CellWorld A width) (answer : Progress (CellReply A)) : Type 0 where
     pub place : Place
     pub line : CellLine A
@@ -63,6 +71,7 @@ module _ {A : Type 0} {width : ℕ} (W : Ghosts A) where
     -- one word changed at most, and none outside the queue
     pub length_stays : length new.words ≡ length old.words
     pub one_word : (at : ℕ)
-        × ((other : ℕ) → (other ≡ at → ⊥) → slice_index new.words other ≡ slice_index old.words other)
+        × ((other : ℕ) → (other ≡ at → ⊥)
+        → slice_index new.words other ≡ slice_index old.words other)
     pub outside : (at : ℕ) → (at < place.base) ⊎ (place.base + size place ≤ at)
         → slice_index new.words at ≡ slice_index old.words at

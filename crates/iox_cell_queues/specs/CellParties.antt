@@ -23,7 +23,8 @@ use Rattle.iox_cell_queues.specs.declared.queue.CellParty.{CellParty}
 use Rattle.iox_cell_queues.specs.CellSeatings.{seat_access, seat_after, seat_progress, seat_moment, rests}
 
 -- a party at rest begins a call of its role; a value's words are `count`, and give it back
-abbrev pub IsBegun : {A : Type 0} → {width : ℕ} → ℕ → (A → List ℕ) → (List ℕ → Option A) → CellSeat A width → CellCall A → CellSeat A width → Type 0
+abbrev pub IsBegun : {A : Type 0} → {width : ℕ} → ℕ → (A → List ℕ) → (List ℕ → Option A)
+    → CellSeat A width → CellCall A → CellSeat A width → Type 0
 IsBegun count words of_words (Pusher pushes) (Push value) after = (pushes ≡ pushing.AtRest)
     × (after ≡ Pusher (pushing.Pushes (push.LoadsWrite value))) × IsWhole words of_words count value
 IsBegun count words of_words (Pusher pushes) IsFull after = (pushes ≡ pushing.AtRest)
@@ -35,7 +36,8 @@ IsBegun count words of_words (Popper pops) IsEmpty after = (pops ≡ popping.AtR
 IsBegun count words of_words seat call after = ⊥
 
 -- a call of the other role is refused first, and then one by a party whose call is under way
-abbrev pub IsNotBegun : {A : Type 0} → {width : ℕ} → CellSeat A width → CellCall A → MachineError → Type 0
+abbrev pub IsNotBegun : {A : Type 0} → {width : ℕ} → CellSeat A width → CellCall A → MachineError
+    → Type 0
 IsNotBegun (Popper pops) (Push value) error = error ≡ UnknownParty
 IsNotBegun (Popper pops) IsFull error = error ≡ UnknownParty
 IsNotBegun (Pusher pushes) Pop error = error ≡ UnknownParty
@@ -59,5 +61,9 @@ module _ {A : Type 0} {width : ℕ} (W : Ghosts A) where
       × (after.seat ≡ seat_after W.of_words party.place party.seat seen)
       × (answer ≡ seat_progress W.of_words party.place party.seat seen)
 
-  abbrev pub CellBegins : CellParty A width → CellCall A → Result (CellParty A width) MachineError → Type 0
-  CellBegins party call result = MatchResult result (λ after. (after.place ≡ party.place) × IsBegun W.WORDS W.words W.of_words party.seat call after.seat) (λ error. IsNotBegun party.seat call error)
+  abbrev pub CellBegins : CellParty A width → CellCall A → Result (CellParty A width) MachineError
+      → Type 0
+  CellBegins party call result = MatchResult result
+      (λ after. (after.place ≡ party.place)
+      × IsBegun W.WORDS W.words W.of_words party.seat call after.seat)
+      (λ error. IsNotBegun party.seat call error)

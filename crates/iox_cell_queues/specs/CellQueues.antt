@@ -15,15 +15,18 @@ use Rattle.iox_cell_queues.specs.declared.queue.CellParty.{CellParty}
 abbrev pub CellWorld : Type 0 → ℕ → Type 0
 CellWorld A width = World (CellParty A width) (CellMoment A)
 
-abbrev pub BothPlayed : {A : Type 0} → {width : ℕ} → (A → List ℕ) → (List ℕ → Option A) → Place → List ℕ → CellSeat A width → CellSeat A width → List (CellMoment A) → Type 0
-BothPlayed words of_words place list (Pusher pushes) (Popper pops) events = Played words of_words place list pushes pops events
+abbrev pub BothPlayed : {A : Type 0} → {width : ℕ} → (A → List ℕ) → (List ℕ → Option A) → Place
+    → List ℕ → CellSeat A width → CellSeat A width → List (CellMoment A) → Type 0
+BothPlayed words of_words place list (Pusher pushes) (Popper pops) events =
+    Played words of_words place list pushes pops events
 BothPlayed words of_words place list a b events = ⊥
 
 -- `W` has the words of the values
 module _ {A : Type 0} {width : ℕ} (W : Ghosts A) where
   -- party 0 pushes and looks at fullness, party 1 pops and looks at emptiness, both at one queue
   abbrev pub PartiesPlayed : List ℕ → List (CellParty A width) → List (CellMoment A) → Type 0
-  PartiesPlayed list (a ∷ b ∷ []) events = (b.place ≡ a.place) × BothPlayed W.words W.of_words a.place list a.seat b.seat events
+  PartiesPlayed list (a ∷ b ∷ []) events = (b.place ≡ a.place)
+      × BothPlayed W.words W.of_words a.place list a.seat b.seat events
   PartiesPlayed list parties events = ⊥
 
   -- what the machine keeps, whatever the schedule; a cell has as many words as a value
@@ -32,12 +35,14 @@ module _ {A : Type 0} {width : ℕ} (W : Ghosts A) where
 
 -- both parties are at rest at this queue, and nothing happened yet
 abbrev pub AtRestAt : {A : Type 0} → {width : ℕ} → Place → List (CellParty A width) → Type 0
-AtRestAt place (a ∷ b ∷ []) = (a.place ≡ place) × (b.place ≡ place) × (a.seat ≡ Pusher pushing.AtRest)
+AtRestAt place (a ∷ b ∷ []) = (a.place ≡ place) × (b.place ≡ place)
+    × (a.seat ≡ Pusher pushing.AtRest)
     × (b.seat ≡ Popper popping.AtRest)
 AtRestAt place parties = ⊥
 
 abbrev pub IsNewMachine : {A : Type 0} → {width : ℕ} → List ℕ → Place → CellWorld A width → Type 0
-IsNewMachine list place world = (world.words ≡ list) × AtRestAt place world.parties × (world.events ≡ [])
+IsNewMachine list place world = (world.words ≡ list) × AtRestAt place world.parties
+    × (world.events ≡ [])
 
 -- the positions of the queue at this place are equal, so nothing waits
 abbrev pub IsEmptyAt : Place → List ℕ → Type 0

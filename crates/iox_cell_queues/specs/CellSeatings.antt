@@ -1,4 +1,5 @@
--- The two parties of a queue of values, as one: what a party asks, where it goes, what it answers, and what happens.
+-- The two parties of a queue of values, as one: what a party asks, where it goes, what it answers,
+-- and what happens.
 use Rattle.std.specs.Prelude.{ℕ, Bool, true, false, List, Option}
 use Rattle.std.specs.Coded.{Coded, prop_coded, ×_prop, Unit-prop, le_prop}
 use Rattle.iox_steps.specs.declared.access.Access.{Access}
@@ -15,7 +16,8 @@ use Rattle.iox_cell_steps.specs.CellReady.{IsWordInMemory, IsPusherReady, IsPopp
 use Rattle.iox_cell_queues.specs.declared.queue.CellSeat.{CellSeat}
 use Rattle.iox_cell_queues.specs.declared.queue.CellSeat.TheVariants.{Pusher, Popper}
 
-abbrev pub seat_access : {A : Type 0} → {width : ℕ} → (A → List ℕ) → Place → CellSeat A width → Access
+abbrev pub seat_access : {A : Type 0} → {width : ℕ} → (A → List ℕ) → Place → CellSeat A width
+    → Access
 seat_access words place (Pusher pushes) = pushing_access words place pushes
 seat_access words place (Popper pops) = popping_access place pops
 
@@ -47,20 +49,24 @@ IsSeatReady place (Popper pops) = IsPopperReady place pops
 IsWordInMemory-prop : (place : Place) (cell word : ℕ) → IsProp (IsWordInMemory place cell word)
 IsWordInMemory-prop place cell word = ×_prop le_prop le_prop
 
-pub IsSeatReady-prop : {A : Type 0} → {width : ℕ} → (place : Place) (seat : CellSeat A width) → IsProp (IsSeatReady place seat)
+pub IsSeatReady-prop : {A : Type 0} → {width : ℕ} → (place : Place) (seat : CellSeat A width)
+    → IsProp (IsSeatReady place seat)
 IsSeatReady-prop place (Pusher pushing.AtRest) = Unit-prop
 IsSeatReady-prop place (Pusher (pushing.Pushes (push.LoadsWrite value))) = Unit-prop
 IsSeatReady-prop place (Pusher (pushing.Pushes (push.LoadsRead value write))) = Unit-prop
-IsSeatReady-prop place (Pusher (pushing.Pushes (push.StoresWord value cell next stored))) = IsWordInMemory-prop place cell stored
+IsSeatReady-prop place (Pusher (pushing.Pushes (push.StoresWord value cell next stored))) =
+    IsWordInMemory-prop place cell stored
 IsSeatReady-prop place (Pusher (pushing.Pushes (push.StoresWrite value next))) = Unit-prop
 IsSeatReady-prop place (Pusher (pushing.Looks look)) = Unit-prop
 IsSeatReady-prop place (Popper popping.AtRest) = Unit-prop
 IsSeatReady-prop place (Popper (popping.Pops pop.LoadsRead)) = Unit-prop
 IsSeatReady-prop place (Popper (popping.Pops (pop.LoadsWrite read))) = Unit-prop
-IsSeatReady-prop place (Popper (popping.Pops (pop.LoadsWord read cell got loaded))) = IsWordInMemory-prop place cell loaded
+IsSeatReady-prop place (Popper (popping.Pops (pop.LoadsWord read cell got loaded))) =
+    IsWordInMemory-prop place cell loaded
 IsSeatReady-prop place (Popper (popping.Pops (pop.StoresRead read got))) = Unit-prop
 IsSeatReady-prop place (Popper (popping.Looks look)) = Unit-prop
 
 -- so two of its proofs are one
-pub ready_code : {A : Type 0} → {width : ℕ} → (place : Place) (seat : CellSeat A width) → Coded (IsSeatReady place seat)
+pub ready_code : {A : Type 0} → {width : ℕ} → (place : Place) (seat : CellSeat A width)
+    → Coded (IsSeatReady place seat)
 ready_code place seat = prop_coded (IsSeatReady-prop place seat)

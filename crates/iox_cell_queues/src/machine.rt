@@ -74,8 +74,8 @@ impl<T: Words, const WIDTH: usize> CellMachine<T, WIDTH> {
     /// The party begins the call, with no access.
     pub fn begin(&mut self, party: usize, call: CellCall<T>) -> Result<(), MachineError>
         requires fits { PartyFits T.row WIDTH.row }
-        ensures begun { OnOk result (CellBegun ⟦<T as Words>⟧ self.old party call self.new) }
-        ensures refused { IfErr result (IsCellBeginRefused ⟦<T as Words>⟧ self.old party call) }
+        ensures begun { OnOk result (CellBegun T.Words self.old party call self.new) }
+        ensures refused { IfErr result (IsCellBeginRefused T.Words self.old party call) }
         ensures unchanged { OnErr result (self.new ≡ self.old) }
     {
         self.machine.begin(party, call)
@@ -84,9 +84,9 @@ impl<T: Words, const WIDTH: usize> CellMachine<T, WIDTH> {
     /// One access of the party's call.
     pub fn step(&mut self, party: usize) -> Result<Progress<CellReply<T>>, MachineError>
         requires fits { PartyFits T.row WIDTH.row }
-        ensures moment { IfOk result (IsMoment ⟦<T as Words>⟧ self.old self.new) }
-        ensures stepped { IfOk result (λ answer. CellStepped ⟦<T as Words>⟧ self.old party answer self.new) }
-        ensures refused { IfErr result (IsCellStepRefused ⟦<T as Words>⟧ self.old party) }
+        ensures moment { IfOk result (IsMoment T.Words self.old self.new) }
+        ensures stepped { IfOk result (λ answer. CellStepped T.Words self.old party answer self.new) }
+        ensures refused { IfErr result (IsCellStepRefused T.Words self.old party) }
         ensures unchanged { OnErr result (self.new ≡ self.old) }
     {
         self.machine.holds();
@@ -97,9 +97,9 @@ impl<T: Words, const WIDTH: usize> CellMachine<T, WIDTH> {
     /// values that were handed out are, in order, the first of those published, and the rest waits.
     pub fn run(&mut self, schedule: &[Entry<CellCall<T>>]) -> Result<(), MachineError>
         requires fits { PartyFits T.row WIDTH.row }
-        ensures queue { CellHolds ⟦<T as Words>⟧ self.new }
-        ensures played { (count : ℕ) × AllCellsEntered ⟦<T as Words>⟧ self.old (take count schedule.now) self.new }
-        ensures whole { OnOk result (AllCellsEntered ⟦<T as Words>⟧ self.old schedule.now self.new) }
+        ensures queue { CellHolds T.Words self.new }
+        ensures played { (count : ℕ) × AllCellsEntered T.Words self.old (take count schedule.now) self.new }
+        ensures whole { OnOk result (AllCellsEntered T.Words self.old schedule.now self.new) }
         ensures refused { IfErr result (λ error. error ≡ MachineError.WantOfMemory) }
     {
         self.machine.run(schedule)

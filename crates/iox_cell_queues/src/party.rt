@@ -16,9 +16,9 @@ use std::alloc::{AllocError, Global};
 impl<T: Words, const WIDTH: usize> Party for CellParty<T, WIDTH> {
     type Reply = CellReply<T>;
 
-    ghost asks = { cell_asks ⟦<T as Words>⟧ };
+    ghost asks = { cell_asks T.Words };
 
-    ghost leads = { CellLeads ⟦<T as Words>⟧ };
+    ghost leads = { CellLeads T.Words };
 
     #[inline]
     fn access(&self) -> Access {
@@ -50,13 +50,13 @@ impl<T: Words, const WIDTH: usize> Playable for CellParty<T, WIDTH> {
 
     type Event = CellMoment<T>;
 
-    ghost Holds = { CellHolds ⟦<T as Words>⟧ };
+    ghost Holds = { CellHolds T.Words };
 
     ghost at_rest = { cell_rests };
 
-    ghost happens = { cell_happens ⟦<T as Words>⟧ };
+    ghost happens = { cell_happens T.Words };
 
-    ghost begins = { CellBegins ⟦<T as Words>⟧ };
+    ghost begins = { CellBegins T.Words };
 
     fn is_at_rest(&self) -> bool {
         match self.seat {

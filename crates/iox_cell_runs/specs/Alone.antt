@@ -23,19 +23,22 @@ OnProgress (Done reply) going done = done reply
 
 -- `W` has the words of the values
 module _ {A : Type 0} {width : ℕ} (W : Ghosts A) where
-  -- the call makes this many accesses, all to words of the queue; the last ends it with this reply, and leaves these words
+  -- the call makes this many accesses, all to words of the queue; the last ends it with this reply,
+  -- and leaves these words
   abbrev pub EndsAfter : ℕ → Place → List ℕ → CellSeat A width → CellReply A → List ℕ → Type 0
   EndsAfter zero place list seat reply after = ⊥
   EndsAfter (suc more) place list seat reply after =
       let access = seat_access W.words place seat in
       let seen = seen_by access (λ at. slice_index list at) in
       let left = words_after access list in
-      IsWithin place.base (size place) access × OnProgress (seat_progress W.of_words place seat seen)
+      IsWithin place.base (size place) access
+      × OnProgress (seat_progress W.of_words place seat seen)
       (EndsAfter more place left (seat_after W.of_words place seat seen) reply after)
       (λ answer. (more ≡ zero) × (reply ≡ answer) × (after ≡ left))
 
   -- it ends after at most so many
-  pub record EndsWithin (most : ℕ) (place : Place) (list : List ℕ) (seat : CellSeat A width) : Type 0 where
+  pub record EndsWithin (most : ℕ) (place : Place) (list : List ℕ)
+      (seat : CellSeat A width) : Type 0 where
     pub accesses : ℕ
     pub reply : CellReply A
     pub after : List ℕ

@@ -1,4 +1,5 @@
--- What whole calls answer and leave, in the words of the plain queue, and how many accesses they make.
+-- What whole calls answer and leave, in the words of the plain queue, and how many accesses they
+-- make.
 use Rattle.std.specs.Prelude.{◌≡◌, ◌↔◌, ℕ, ◌+◌, List, [], ◌∷◌, length, if◌then◌else◌, IsTrue}
 use Rattle.std.specs.Bool.{OnTrue, OnFalse}
 use Rattle.iox_words.specs.declared.word_list.Words.{Ghosts}
@@ -45,7 +46,8 @@ module _ {A : Type 0} (W : Ghosts A) (place : Place) (list : List ℕ) where
 
   abbrev pub MakesPush : ℕ → A → CellReply A → List ℕ → Type 0
   MakesPush width value reply after =
-      EndsAfter {width = width} W (push_accesses place.width (queue_at W place list)) place list (pusher value) reply after
+      EndsAfter {width = width} W (push_accesses place.width (queue_at W place list)) place list
+      (pusher value) reply after
 
   -- a pop
   abbrev pub PopsAt : CellReply A → List ℕ → Type 0
@@ -53,4 +55,5 @@ module _ {A : Type 0} (W : Ghosts A) (place : Place) (list : List ℕ) where
 
   abbrev pub MakesPop : ℕ → CellReply A → List ℕ → Type 0
   MakesPop width reply after =
-      EndsAfter W (pop_accesses place.width (values W place list)) place list (popper A width) reply after
+      EndsAfter W (pop_accesses place.width (values W place list)) place list (popper A width)
+      reply after

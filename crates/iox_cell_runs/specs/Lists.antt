@@ -23,7 +23,8 @@ module _ {A : Type 0} (W : Ghosts A) (place : Place) (list : List ℕ) where
   -- the values of so many positions, from one on
   abbrev pub values_from : ℕ → ℕ → List A
   values_from position zero = []
-  values_from position (suc count) = option_to_list (W.of_words (cell_words place list position)) ++ values_from (position + 1) count
+  values_from position (suc count) =
+      option_to_list (W.of_words (cell_words place list position)) ++ values_from (position + 1) count
 
   -- the values from the read position to the write position
   abbrev pub values : List A

@@ -16,8 +16,8 @@ use iox_words::Words;
 pub fn holds_when_empty<T: Words>(words: &Vec<u64>, place: Place)
     requires room { place.base + size place ≤ length words.now.items }
     requires empty { IsEmptyAt place words.now.items }
-    ensures holds { HoldsQueue ⟦<T as Words>⟧ place words.now.items }
-    ensures waiting { values ⟦<T as Words>⟧ place words.now.items ≡ [] }
+    ensures holds { HoldsQueue T.Words place words.now.items }
+    ensures waiting { values T.Words place words.now.items ≡ [] }
 {
     let _position = words[place.base];
 }
@@ -29,13 +29,13 @@ pub fn push<T: Words, const WIDTH: usize>(
     place: Place,
     value: T,
 ) -> CellReply<T>
-    requires holds { HoldsQueue ⟦<T as Words>⟧ place words.old.items }
+    requires holds { HoldsQueue T.Words place words.old.items }
     requires wide { place.width ≡ WIDTH }
     requires words { T.WORDS ≡ WIDTH }
     requires fits { PartyFits T.row WIDTH.row }
-    ensures queue { PushesAt ⟦<T as Words>⟧ place words.old.items value result words.new.items }
-    ensures accesses { MakesPush ⟦<T as Words>⟧ place words.old.items WIDTH value result words.new.items }
-    ensures holds { HoldsQueue ⟦<T as Words>⟧ place words.new.items }
+    ensures queue { PushesAt T.Words place words.old.items value result words.new.items }
+    ensures accesses { MakesPush T.Words place words.old.items WIDTH value result words.new.items }
+    ensures holds { HoldsQueue T.Words place words.new.items }
     ensures outside { KeepsOutside place words.old.items words.new.items }
 {
     value.known();
@@ -46,11 +46,11 @@ pub fn push<T: Words, const WIDTH: usize>(
 /// A look at fullness. It makes two accesses.
 #[inline]
 pub fn is_full<T: Words, const WIDTH: usize>(words: &mut Vec<u64>, place: Place) -> CellReply<T>
-    requires holds { HoldsQueue ⟦<T as Words>⟧ place words.old.items }
+    requires holds { HoldsQueue T.Words place words.old.items }
     requires wide { place.width ≡ WIDTH }
     requires fits { PartyFits T.row WIDTH.row }
-    ensures queue { LooksFull (queue_at ⟦<T as Words>⟧ place words.old.items) result }
-    ensures accesses { EndsAfter ⟦<T as Words>⟧ 2 place words.old.items (full_looker T WIDTH) result words.new.items }
+    ensures queue { LooksFull (queue_at T.Words place words.old.items) result }
+    ensures accesses { EndsAfter T.Words 2 place words.old.items (full_looker T WIDTH) result words.new.items }
     ensures unchanged { words.new.items ≡ words.old.items }
 {
     let seat = CellSeat::Pusher(CellPushing::Looks(FullLook::LoadsWrite));
@@ -60,12 +60,12 @@ pub fn is_full<T: Words, const WIDTH: usize>(words: &mut Vec<u64>, place: Place)
 /// A pop. It makes two accesses where nothing waits, else three and one for each word.
 #[inline]
 pub fn pop<T: Words, const WIDTH: usize>(words: &mut Vec<u64>, place: Place) -> CellReply<T>
-    requires holds { HoldsQueue ⟦<T as Words>⟧ place words.old.items }
+    requires holds { HoldsQueue T.Words place words.old.items }
     requires wide { place.width ≡ WIDTH }
     requires fits { PartyFits T.row WIDTH.row }
-    ensures queue { PopsAt ⟦<T as Words>⟧ place words.old.items result words.new.items }
-    ensures accesses { MakesPop ⟦<T as Words>⟧ place words.old.items WIDTH result words.new.items }
-    ensures holds { HoldsQueue ⟦<T as Words>⟧ place words.new.items }
+    ensures queue { PopsAt T.Words place words.old.items result words.new.items }
+    ensures accesses { MakesPop T.Words place words.old.items WIDTH result words.new.items }
+    ensures holds { HoldsQueue T.Words place words.new.items }
     ensures outside { KeepsOutside place words.old.items words.new.items }
 {
     let seat = CellSeat::Popper(CellPopping::Pops(CellPop::LoadsRead));
@@ -75,11 +75,11 @@ pub fn pop<T: Words, const WIDTH: usize>(words: &mut Vec<u64>, place: Place) -> 
 /// A look at emptiness. It makes two accesses.
 #[inline]
 pub fn is_empty<T: Words, const WIDTH: usize>(words: &mut Vec<u64>, place: Place) -> CellReply<T>
-    requires holds { HoldsQueue ⟦<T as Words>⟧ place words.old.items }
+    requires holds { HoldsQueue T.Words place words.old.items }
     requires wide { place.width ≡ WIDTH }
     requires fits { PartyFits T.row WIDTH.row }
-    ensures queue { LooksEmpty (queue_at ⟦<T as Words>⟧ place words.old.items) result }
-    ensures accesses { EndsAfter ⟦<T as Words>⟧ 2 place words.old.items (empty_looker T WIDTH) result words.new.items }
+    ensures queue { LooksEmpty (queue_at T.Words place words.old.items) result }
+    ensures accesses { EndsAfter T.Words 2 place words.old.items (empty_looker T WIDTH) result words.new.items }
     ensures unchanged { words.new.items ≡ words.old.items }
 {
     let seat = CellSeat::Popper(CellPopping::Looks(EmptyLook::LoadsRead));
@@ -93,8 +93,8 @@ fn finish<T: Words, const WIDTH: usize>(
     party: CellParty<T, WIDTH>,
 ) -> CellReply<T>
     requires room { party.place.base + size party.place ≤ length words.old.items }
-    requires soon { EndsWithin ⟦<T as Words>⟧ (2 ^ 64 - 1) party.place words.old.items party.seat }
-    ensures { IsEndOf ⟦<T as Words>⟧ party.place words.old.items party.seat result words.new.items }
+    requires soon { EndsWithin T.Words (2 ^ 64 - 1) party.place words.old.items party.seat }
+    ensures { IsEndOf T.Words party.place words.old.items party.seat result words.new.items }
 {
     let mut party = party;
     for step in 0..u64::MAX {

@@ -11,11 +11,15 @@ use Rattle.iox_cell_steps.specs.CellRuns.{write_after}
 use Rattle.iox_cell_steps.specs.CellAnswers.{Answers}
 use Rattle.iox_cell_steps.specs.CellFits.{write_of, Fits}
 
-module _ {A : Type 0} {width : ℕ} (words : A → List ℕ) (of_words : List ℕ → Option A) (place : Place) (word : ℕ → ℕ) (waiting : List A) (pushes : CellPushing A) (pops : CellPopping width) where
-  -- the access of the party that pushes names no word but the queue's, is a moment that is true and is counted, leads to what fits after that moment, and its answer says it
+module _ {A : Type 0} {width : ℕ} (words : A → List ℕ) (of_words : List ℕ → Option A)
+    (place : Place) (word : ℕ → ℕ) (waiting : List A) (pushes : CellPushing A)
+    (pops : CellPopping width) where
+  -- the access of the party that pushes names no word but the queue's, is a moment that is true and
+  -- is counted, leads to what fits after that moment, and its answer says it
   abbrev pub PushingKeeps : Type 0
   PushingKeeps =
-      let access = pushing_access words place pushes in let seen = seen_by access word in let moment = pushing_moment place pushes seen in
+      let access = pushing_access words place pushes in let seen = seen_by access word in
+      let moment = pushing_moment place pushes seen in
       IsWithin place.base (size place) access × IsTrueOf place (write_of place word) waiting moment
       × (write_of place (word_after access word) ≡ write_after moment (write_of place word))
       × Fits words of_words place (word_after access word) (waiting_after moment waiting) (pushing_after place pushes seen) pops
@@ -24,7 +28,8 @@ module _ {A : Type 0} {width : ℕ} (words : A → List ℕ) (of_words : List �
   -- the same of the party that pops
   abbrev pub PoppingKeeps : Type 0
   PoppingKeeps =
-      let access = popping_access place pops in let seen = seen_by access word in let moment = popping_moment of_words place pops seen in
+      let access = popping_access place pops in let seen = seen_by access word in
+      let moment = popping_moment of_words place pops seen in
       IsWithin place.base (size place) access × IsTrueOf place (write_of place word) waiting moment
       × (write_of place (word_after access word) ≡ write_after moment (write_of place word))
       × Fits words of_words place (word_after access word) (waiting_after moment waiting) pushes (popping_after of_words place pops seen)
@@ -32,12 +37,16 @@ module _ {A : Type 0} {width : ℕ} (words : A → List ℕ) (of_words : List �
 
 -- whatever the place, the capacity and the width, and wherever both parties are
 abbrev pub EveryPushingKeeps : {A : Type 0} → (A → List ℕ) → (List ℕ → Option A) → Type 0
-EveryPushingKeeps {A} words of_words = (width : ℕ) (place : Place) (word : ℕ → ℕ) (waiting : List A) (pushes : CellPushing A) (pops : CellPopping width)
-    → Fits words of_words place word waiting pushes pops → PushingKeeps words of_words place word waiting pushes pops
+EveryPushingKeeps {A} words of_words = (width : ℕ) (place : Place) (word : ℕ → ℕ)
+    (waiting : List A) (pushes : CellPushing A) (pops : CellPopping width)
+    → Fits words of_words place word waiting pushes pops
+    → PushingKeeps words of_words place word waiting pushes pops
 
 abbrev pub EveryPoppingKeeps : {A : Type 0} → (A → List ℕ) → (List ℕ → Option A) → Type 0
-EveryPoppingKeeps {A} words of_words = (width : ℕ) (place : Place) (word : ℕ → ℕ) (waiting : List A) (pushes : CellPushing A) (pops : CellPopping width)
-    → Fits words of_words place word waiting pushes pops → PoppingKeeps words of_words place word waiting pushes pops
+EveryPoppingKeeps {A} words of_words = (width : ℕ) (place : Place) (word : ℕ → ℕ)
+    (waiting : List A) (pushes : CellPushing A) (pops : CellPopping width)
+    → Fits words of_words place word waiting pushes pops
+    → PoppingKeeps words of_words place word waiting pushes pops
 
 -- values that are lists of words are their own words
 abbrev pub own_words : List ℕ → List ℕ

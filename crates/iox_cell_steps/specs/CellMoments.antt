@@ -21,7 +21,8 @@ room_moment place read write = if is_full place read write then SeesFull else Se
 -- what a push does to the queue, or sees there
 abbrev pub push_moment : {A : Type 0} → Place → CellPush A → ℕ → CellMoment A
 push_moment place (push.LoadsWrite value) seen = Quiet
-push_moment place (push.LoadsRead value write) seen = if write == last_position then SeesEnd else room_moment place seen write
+push_moment place (push.LoadsRead value write) seen = if write == last_position then SeesEnd
+    else room_moment place seen write
 push_moment place (push.StoresWord value cell next word) seen = Quiet
 push_moment place (push.StoresWrite value next) seen = Publish value
 
@@ -35,7 +36,8 @@ handed_out_as (Some value) = HandOut value
 handed_out_as None = Quiet
 
 -- what a pop does to the queue, or sees there
-abbrev pub pop_moment : {A : Type 0} → {width : ℕ} → (List ℕ → Option A) → Place → CellPop width → ℕ → CellMoment A
+abbrev pub pop_moment : {A : Type 0} → {width : ℕ} → (List ℕ → Option A) → Place → CellPop width
+    → ℕ → CellMoment A
 pop_moment of_words place pop.LoadsRead seen = Quiet
 pop_moment of_words place (pop.LoadsWrite read) seen = waiting_moment place read seen
 pop_moment of_words place (pop.LoadsWord read cell got loaded) seen = Quiet

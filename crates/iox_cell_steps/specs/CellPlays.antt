@@ -9,7 +9,9 @@ use Rattle.iox_cell_steps.specs.CellFits.{Fits}
 use Rattle.iox_cell_steps.specs.CellRuns.{Run, published, handed_out}
 
 -- A queue that was played on, in which this waits now:
-pub record Played {A : Type 0} {width : ℕ} (words : A → List ℕ) (of_words : List ℕ → Option A) (place : Place) (list : List ℕ) (pushes : CellPushing A) (pops : CellPopping width) (events : List (CellMoment A)) : Type 0 where
+pub record Played {A : Type 0} {width : ℕ} (words : A → List ℕ) (of_words : List ℕ → Option A)
+    (place : Place) (list : List ℕ) (pushes : CellPushing A) (pops : CellPopping width)
+    (events : List (CellMoment A)) : Type 0 where
   -- the write position at first, when the queue was empty
   pub first : ℕ
   pub waiting : List A
@@ -17,7 +19,8 @@ pub record Played {A : Type 0} {width : ℕ} (words : A → List ℕ) (of_words 
   pub order : published events ≡ handed_out events ++ waiting
   pub bounded : length waiting ≤ place.capacity
   -- each event was true of what waited when it came
-  pub run : Run place (record { write = first; waiting = [] }) events (record { write = slice_index list place.base; waiting = waiting })
+  pub run : Run place (record { write = first; waiting = [] }) events
+      (record { write = slice_index list place.base; waiting = waiting })
   -- and the words hold what waits, whole
   pub room : place.base + size place ≤ length list
   pub fits : Fits words of_words place (λ at. slice_index list at) waiting pushes pops

@@ -18,7 +18,8 @@ write_after (Publish value) write = write + 1
 write_after moment write = write
 
 abbrev pub line_after : {A : Type 0} → CellMoment A → CellLine A → CellLine A
-line_after moment line = record { write = write_after moment line.write; waiting = waiting_after moment line.waiting }
+line_after moment line =
+    record { write = write_after moment line.write; waiting = waiting_after moment line.waiting }
 
 -- each moment, in turn, is true of the queue as it is then
 abbrev pub Run : {A : Type 0} → Place → CellLine A → List (CellMoment A) → CellLine A → Type 0

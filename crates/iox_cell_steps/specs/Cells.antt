@@ -1,4 +1,5 @@
--- The words of a queue of values of several words: the write position, the read position, and the cells.
+-- The words of a queue of values of several words: the write position, the read position, and the
+-- cells.
 use Rattle.std.specs.Prelude.{ℕ, Bool, ◌+◌, ◌*◌, ◌-◌, ◌%◌, ◌==◌, ◌||◌, nat_le, max}
 use Rattle.iox_cell_steps.specs.declared.place.Place.{Place}
 
@@ -14,6 +15,7 @@ cell_at place position = place.base + 2 + (position % max 1 place.capacity) * pl
 abbrev pub is_full : Place → ℕ → ℕ → Bool
 is_full place read write = nat_le place.capacity (write - read)
 
--- no value stands from the read position to the write position; where there is no cell, none ever does
+-- no value stands from the read position to the write position; where there is no cell, none ever
+-- does
 abbrev pub is_empty : Place → ℕ → ℕ → Bool
 is_empty place read write = nat_le write read || (place.capacity == 0)

@@ -63,24 +63,29 @@ stored_by (Raises list version) = Some list
 stored_by program = None
 
 -- the value that is current is of the type, and so is each that is to be stored
-pub record AreOfType {size : ℕ} (count : ℕ) (are : List ℕ → Type 0) (base : ℕ) (world : AtomicWorld size) : Type 0 where
+pub record AreOfType {size : ℕ} (count : ℕ) (are : List ℕ → Type 0) (base : ℕ)
+    (world : AtomicWorld size) : Type 0 where
   pub sized : count ≡ size
   pub small : size < 2 ^ 56
   pub current : are (words_now size base world.words)
-  pub here : (number : ℕ) (party : AtomicParty size) → IsParty world number party → party.base ≡ base
+  pub here : (number : ℕ) (party : AtomicParty size) → IsParty world number party
+      → party.base ≡ base
   pub stores : (number : ℕ) (party : AtomicParty size) (list : List ℕ) → IsParty world number party
       → stored_by party.program ≡ Some list → are list
 
--- the words from a place on are version 0 and behind it a value of `size` words, and the others are as they were
+-- the words from a place on are version 0 and behind it a value of `size` words, and the others are
+-- as they were
 pub record AreLaid (size base : ℕ) (list old new : List ℕ) : Type 0 where
   pub length_stays : length new ≡ length old
   pub version : slice_index new base ≡ 0
-  pub value : (index : ℕ) → index < size → slice_index new (base + 1 + index) ≡ slice_index list index
-  pub others : (place : ℕ) → (place < base) ⊎ (base + size < place) → slice_index new place ≡ slice_index old place
+  pub value : (index : ℕ) → index < size
+      → slice_index new (base + 1 + index) ≡ slice_index list index
+  pub others : (place : ℕ) → (place < base) ⊎ (base + size < place)
+      → slice_index new place ≡ slice_index old place
 
 -- a value stands in words, this many parties are at rest, and nothing happened yet
-pub record IsNewValue {T : Type 0} {size : ℕ} (words : T → List ℕ) (value : T) (base count : ℕ) (old : List ℕ)
-    (world : ValueWorld T size) : Type 0 where
+pub record IsNewValue {T : Type 0} {size : ℕ} (words : T → List ℕ) (value : T) (base count : ℕ)
+    (old : List ℕ) (world : ValueWorld T size) : Type 0 where
   pub is : world.value ≡ value
   pub none : world.events ≡ []
   pub laid : AreLaid size base (words value) old world.plays.words

@@ -9,8 +9,8 @@ use iox_words::Words;
 use std::alloc::{AllocError, Global};
 use std::marker::Model;
 
-/// A value among shared words, and the parties that store and load it: party 0 alone stores. `N` is how many
-/// words a value has.
+/// A value among shared words, and the parties that store and load it: party 0 alone stores. `N` is
+/// how many words a value has.
 #[derive(Drop)]
 pub struct ValueMachine<T: Words, const N: usize> {
     machine: AtomicMachine<N>,
@@ -31,13 +31,14 @@ impl<T: Words, const N: usize> Model for ValueMachine<T, N> {
 }
 
 impl<T: Words, const N: usize> ValueMachine<T, N> {
-    ghost use Rattle.std.specs.Prelude.{◌≡◌, ℕ, ◌+◌, ◌^◌, ◌<◌, ◌≤◌, Err, IfErr, IfOk, OnErr, OnOk, length, map, slice_get, take};
+    ghost use Rattle.std.specs.Prelude.{◌≡◌, ℕ, ◌+◌, ◌^◌, ◌<◌, ◌≤◌, Err, IfErr, IfOk, OnErr, OnOk, length, slice_get, take};
     ghost use Rattle.iox_steps.specs.declared.error.MachineError.TheVariants.{UnknownParty, WantOfMemory};
-    ghost use Rattle.iox_set_steps.specs.AtomicMachines.{AllAtomicsEntered, AtomicsBegun, AtomicsEntered, AtomicsStepped, IsAtomicBeginRefused, IsAtomicStepRefused};
-    ghost use Rattle.iox_set_steps.specs.TypedValues.{IsTypedMoment, MayCallTyped, TypedRunsOn, answer_words, call_words, entry_words};
+    ghost use Rattle.iox_set_steps.specs.AtomicMachines.{IsAtomicStepRefused};
+    ghost use Rattle.iox_set_steps.specs.TypedValues.{AllTypedEntered, IsTypedBeginRefused, IsTypedMoment, MayCallTyped, TypedBegun, TypedEntered, TypedRunsOn, TypedStepped};
     ghost use Rattle.iox_set_steps.specs.TypedWords.{IsNewValue};
 
-    /// A machine of this many parties at a value, whose version stands at `base`, and behind it its two cells.
+    /// A machine of this many parties at a value, whose version stands at `base`, and behind it its
+    /// two cells.
     pub fn new(
         alloc: Global,
         words: Vec<u64>,
@@ -81,8 +82,8 @@ impl<T: Words, const N: usize> ValueMachine<T, N> {
     pub fn begin(&mut self, party: usize, call: ValueCall<T>) -> Result<(), MachineError>
         ensures storer { OnOk result (MayCallTyped party call) }
         ensures others { (MayCallTyped party call → ⊥) → result ≡ Err UnknownParty }
-        ensures begun { OnOk result (AtomicsBegun N self.old.plays party (call_words T.words call) self.new.plays) }
-        ensures refused { IfErr result (IsAtomicBeginRefused N self.old.plays party (call_words T.words call)) }
+        ensures begun { OnOk result (TypedBegun T.words self.old party call self.new) }
+        ensures refused { IfErr result (IsTypedBeginRefused T.words self.old party call) }
         ensures unchanged { OnErr result (self.new ≡ self.old) }
         ensures value { self.new.value ≡ self.old.value }
         ensures events { self.new.events ≡ self.old.events }
@@ -94,7 +95,7 @@ impl<T: Words, const N: usize> ValueMachine<T, N> {
     /// One access of the party's call.
     pub fn step(&mut self, party: usize) -> Result<Progress<ValueReply<T>>, MachineError>
         ensures moment { IfOk result (IsTypedMoment self.old self.new) }
-        ensures stepped { IfOk result (λ answer. AtomicsStepped N self.old.plays party (answer_words T.words answer) self.new.plays) }
+        ensures stepped { IfOk result (λ answer. TypedStepped T.words self.old party answer self.new) }
         ensures refused { IfErr result (IsAtomicStepRefused N self.old.plays party) }
         ensures unchanged { OnErr result (self.new ≡ self.old) }
     {
@@ -103,12 +104,12 @@ impl<T: Words, const N: usize> ValueMachine<T, N> {
         Ok(answer_of(answer, self.first))
     }
 
-    /// Plays a schedule to its end, or to the step that wants memory. Whatever the schedule, each load hands
-    /// out the value that is current at its last access.
+    /// Plays a schedule to its end, or to the step that wants memory. Whatever the schedule, each
+    /// load hands out the value that is current at its last access.
     pub fn run(&mut self, schedule: &[Entry<ValueCall<T>>]) -> Result<(), MachineError>
         ensures value { TypedRunsOn self.old self.new }
-        ensures played { (count : ℕ) × AllAtomicsEntered N self.old.plays (map (entry_words T.words) (take count schedule.now)) self.new.plays }
-        ensures whole { OnOk result (AllAtomicsEntered N self.old.plays (map (entry_words T.words) schedule.now) self.new.plays) }
+        ensures played { (count : ℕ) × AllTypedEntered T.words self.old (take count schedule.now) self.new }
+        ensures whole { OnOk result (AllTypedEntered T.words self.old schedule.now self.new) }
         ensures refused { IfErr result (λ error. error ≡ WantOfMemory) }
     {
         for entry in schedule {
@@ -120,7 +121,7 @@ impl<T: Words, const N: usize> ValueMachine<T, N> {
     /// One entry of a schedule.
     fn enter(&mut self, entry: Entry<ValueCall<T>>) -> Result<(), MachineError>
         ensures value { TypedRunsOn self.old self.new }
-        ensures entered { OnOk result (AtomicsEntered N self.old.plays (entry_words T.words entry) self.new.plays) }
+        ensures entered { OnOk result (TypedEntered T.words self.old entry self.new) }
         ensures refused { IfErr result (λ error. error ≡ WantOfMemory) }
         ensures unchanged { OnErr result (self.new ≡ self.old) }
     {

@@ -30,24 +30,6 @@ fn all_bits_are_cleared_and_told_in_order(rt: HostRuntime) -> Result<(), Fail> {
 }
 
 #[test]
-fn each_form_clears_one_and_all(rt: HostRuntime) -> Result<(), Fail> {
-    let mut set = BitSet::new(rt.alloc(), 200)?;
-    for id in [199, 64, 3, 127, 128] {
-        assert!(rt; set.set(id));
-    }
-    assert_eq!(rt; set.reset_next(), Some(3));
-    let mut told = [None; 5];
-    set.reset_all(|id| told = [told[1], told[2], told[3], told[4], Some(id)]);
-    assert_eq!(rt; told, [None, Some(64), Some(127), Some(128), Some(199)]);
-    assert!(rt; set.set(64));
-    let mut fixed = FixedSizeBitSet::<65>::new(rt.alloc())?;
-    assert!(rt; fixed.set(64));
-    assert_eq!(rt; fixed.reset_next(), Some(64));
-    assert!(rt; fixed.set(64));
-    Ok(())
-}
-
-#[test]
 fn more_bits_than_memory_has_are_refused(rt: HostRuntime) -> Result<(), Fail> {
     assert!(rt; BitSet::new(rt.alloc(), usize::MAX).is_err());
     assert!(rt; FixedSizeBitSet::<{ usize::MAX }>::new(rt.alloc()).is_err());

@@ -108,29 +108,6 @@ fn a_guard_gives_its_index_back(rt: HostRuntime) -> Result<(), Fail> {
 }
 
 #[test]
-fn a_guard_prints_its_set_and_its_index(rt: HostRuntime) -> Result<(), Fail> {
-    let mut set = UniqueIndexSet::new(rt.alloc(), 1)?;
-    if let Ok(index) = set.acquire() {
-        let text = format!(in rt.alloc(); "{index:?}")?;
-        assert!(rt;
-            text.as_str()
-                .starts_with("UniqueIndex { set: UniqueIndexSet {")
-        );
-        assert!(rt; text.as_str().ends_with(", value: 0 }"));
-    }
-    let mut fixed = FixedSizeUniqueIndexSet::<1>::new(rt.alloc())?;
-    if let Ok(index) = fixed.acquire() {
-        let text = format!(in rt.alloc(); "{index:?}")?;
-        assert!(rt;
-            text.as_str()
-                .starts_with("FixedSizeUniqueIndex { set: FixedSizeUniqueIndexSet {")
-        );
-        assert!(rt; text.as_str().ends_with(", value: 0 }"));
-    }
-    Ok(())
-}
-
-#[test]
 fn head_details_come_back(rt: HostRuntime) -> Result<(), Fail> {
     let details = HeadDetails {
         head: 12345,
