@@ -290,6 +290,23 @@ uint64_t twin_stack(uint64_t rounds) {
     }
     return sum;
 }
+uint64_t twin_stack_window(uint64_t rounds) {
+    Stack set(128);
+    std::optional<uint32_t> window[64] = {};
+    uint64_t draw = 1, sum = 0;
+    for (uint64_t round = 0; round < rounds; ++round) {
+        draw = draw * 1664525 + 1013904223;
+        std::optional<uint32_t> &place = window[draw >> 58], next;
+        if (place) {
+            set.release(*place);
+        } else if (auto index = set.acquire()) {
+            sum += *index;
+            next = index;
+        }
+        place = next;
+    }
+    return sum;
+}
 uint64_t twin_stack_pair(uint64_t rounds) {
     Stack set(128);
     for (int i = 0; i < 64; ++i) set.acquire();

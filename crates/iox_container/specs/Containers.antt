@@ -1,5 +1,6 @@
 -- A container, as its callers see it: slots from 0 on, each free or with an entry.
-use Rattle.std.specs.Prelude.{◌≡◌, ◌+◌, ◌-◌, ◌^◌, ◌==◌, ℕ, List, [], ◌∷◌, Bool, false, Option, Some, None, if◌then◌else◌, is_none, map, replicate, slice_index_or, slice_set}
+use Rattle.std.specs.Prelude.{◌≡◌, ◌+◌, ◌-◌, ◌^◌, ◌==◌, ℕ, List, [], ◌∷◌, Bool, false, Option, Some, None}
+use Rattle.std.specs.Prelude.{if◌then◌else◌, is_none, map, replicate, slice_index_or, slice_set}
 use Rattle.std.specs.Option.{option_map}
 use Rattle.iox_sets.specs.OwnedIndices.{OwnedIndices, held_count, lowest_free}
 use Rattle.iox_container.specs.declared.mpmc.container.container_handle.ContainerHandle.{ContainerHandle}

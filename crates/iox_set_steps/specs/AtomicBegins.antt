@@ -12,11 +12,13 @@ start_knows : (size base : ℕ) (words : List ℕ) (call : AtomicCall size) → 
 start_knows size base words (Store list) = tt
 start_knows size base words Load = tt
 
-start_stores : {size : ℕ} (party : AtomicParty size) (call : AtomicCall size) → may_call party call ≡ true → party.stores ≡ false → is_storing (atomic_start call) ≡ false
+start_stores : {size : ℕ} (party : AtomicParty size) (call : AtomicCall size) → may_call party call ≡ true → party.stores ≡ false
+    → is_storing (atomic_start call) ≡ false
 start_stores party (Store list) may loads = absurd (cc)
 start_stores party Load may loads = refl
 
-module _ (size : ℕ) (world : AtomicWorld size) (number : ℕ) (call : AtomicCall size) (party after : AtomicParty size) (holds : AtomicsHold size world) (is : IsParty world number party) (begins : AtomicsBegin party call (Ok after)) where
+module _ (size : ℕ) (world : AtomicWorld size) (number : ℕ) (call : AtomicCall size) (party after : AtomicParty size) (holds : AtomicsHold size world)
+    (is : IsParty world number party) (begins : AtomicsBegin party call (Ok after)) where
   begun : IsAtValue size holds.base world.words number after
   begun = let at = holds.parties number party is in record {
     here = begins.2 ∙ at.here;
@@ -27,9 +29,13 @@ module _ (size : ℕ) (world : AtomicWorld size) (number : ℕ) (call : AtomicCa
 
   pub all_begun : (other : ℕ) (that : AtomicParty size) → IsParty (with_party world number after) other that → IsAtValue size holds.base world.words other that
   all_begun other that known = elim (cases_eq other number) [
-    | inl same ↦ (let one : that ≡ after = known.1 ∙ ap (λ n. get_or (set world.parties number after) n that) same ∙ get_or-set_same world.parties number after that is.0 in
+    | inl same ↦ (let one : that ≡ after = known.1 ∙ ap (λ n. get_or (set world.parties number after) n that) same
+        ∙ get_or-set_same world.parties number after that is.0 in
         rw (same, one) begun)
-    | inr apart ↦ holds.parties other that (omega (arith, known.0, length-set world.parties number after), known.1 ∙ get_or-set_other world.parties number other after that apart)
+    | inr apart ↦ holds.parties other that (
+      omega (arith, known.0, length-set world.parties number after),
+      known.1 ∙ get_or-set_other world.parties number other after that apart,
+    )
   ]
 
   unfoldable pub started : AtomicsHold size (with_party world number after)
@@ -43,6 +49,7 @@ module _ (size : ℕ) (world : AtomicWorld size) (number : ℕ) (call : AtomicCa
     parties = all_begun;
   }
 
-unfoldable pub atomics_start : (size : ℕ) (world : AtomicWorld size) (number : ℕ) (call : AtomicCall size) (party after : AtomicParty size) → AtomicsHold size world → IsParty world number party → AtomicsBegin party call (Ok after)
+unfoldable pub atomics_start : (size : ℕ) (world : AtomicWorld size) (number : ℕ) (call : AtomicCall size) (party after : AtomicParty size)
+    → AtomicsHold size world → IsParty world number party → AtomicsBegin party call (Ok after)
     → AtomicsHold size (with_party world number after)
 atomics_start size world number call party after holds is begins = started size world number call party after holds is begins

@@ -3,7 +3,8 @@ use Rattle.std.specs.Prelude.{List}
 use Rattle.std.proofs.Common.{◌≡◌, ℕ, ◌+◌, ◌^◌, ◌<◌, ◌≤◌, false, length, sym, ◌∙◌, arith}
 use Rattle.iox_steps.specs.Accesses.{IsWithin}
 use Rattle.iox_set_steps.specs.declared.unrestricted_atomic.AtomicProgram.{AtomicProgram}
-use Rattle.iox_set_steps.specs.declared.unrestricted_atomic.AtomicProgram.TheVariants.{AtRest, LoadsToStore, StoresWord, Raises, LoadsToLoad, LoadsWord, LoadsAgain}
+use Rattle.iox_set_steps.specs.declared.unrestricted_atomic.AtomicProgram.TheVariants.{AtRest, LoadsToStore, StoresWord, Raises, LoadsToLoad, LoadsWord}
+use Rattle.iox_set_steps.specs.declared.unrestricted_atomic.AtomicProgram.TheVariants.{LoadsAgain}
 use Rattle.iox_set_steps.specs.Values.{version_now, value_now, AgreeUpTo}
 use Rattle.iox_set_steps.specs.AtomicPrograms.{version_behind, atomic_access}
 use Rattle.iox_set_steps.specs.AtomicPlays.{IsLoading, AtomicsKnow, is_storing}
@@ -14,7 +15,8 @@ pub record Follows (size base : ℕ) (words words' : List ℕ) : Type 0 where
   pub onward : version_now base words ≤ version_now base words'
   pub stays : version_now base words' ≡ version_now base words → AgreeUpTo size (value_now size base words') (value_now size base words)
 
-module _ (size base : ℕ) (words : List ℕ) (room : base + 1 + size + size ≤ length words) (memory : length words < 2 ^ 64) (small : version_now base words < 2 ^ 64) where
+module _ (size base : ℕ) (words : List ℕ) (room : base + 1 + size + size ≤ length words) (memory : length words < 2 ^ 64)
+    (small : version_now base words < 2 ^ 64) where
   pub atomic_access_within : (program : AtomicProgram size) → AtomicsKnow size base words program → IsWithin 0 (length words) (atomic_access size base program)
   atomic_access_within AtRest knows = tt
   atomic_access_within (LoadsToStore list) knows = (omega arith, omega arith)
@@ -38,11 +40,14 @@ loading_survives size base words words' follows version list count most loading 
     }
 
 -- what others know, who store nothing, stays
-pub survives : (size base : ℕ) (words words' : List ℕ) → Follows size base words words' → (program : AtomicProgram size) → is_storing program ≡ false → AtomicsKnow size base words program → AtomicsKnow size base words' program
+pub survives : (size base : ℕ) (words words' : List ℕ) → Follows size base words words' → (program : AtomicProgram size) → is_storing program ≡ false
+    → AtomicsKnow size base words program → AtomicsKnow size base words' program
 survives size base words words' follows AtRest other knows = tt
 survives size base words words' follows (LoadsToStore list) other knows = tt
 survives size base words words' follows (StoresWord list version index) other knows = absurd (cc)
 survives size base words words' follows (Raises list version) other knows = absurd (cc)
 survives size base words words' follows LoadsToLoad other knows = tt
-survives size base words words' follows (LoadsWord version list index) other knows = (knows.0, loading_survives size base words words' follows version list index (omega arith) knows.1)
-survives size base words words' follows (LoadsAgain version list) other knows = loading_survives size base words words' follows version list size (omega arith) knows
+survives size base words words' follows (LoadsWord version list index) other knows =
+    (knows.0, loading_survives size base words words' follows version list index (omega arith) knows.1)
+survives size base words words' follows (LoadsAgain version list) other knows =
+    loading_survives size base words words' follows version list size (omega arith) knows

@@ -1,6 +1,7 @@
 -- The laws of the accesses of parties at a value.
 use Rattle.std.specs.Prelude.{List}
-use Rattle.std.proofs.Common.{◌≡◌, ◌≢◌, ℕ, false, length, get_or, set, refl, ap, sym, ◌∙◌, inl, inr, arith, eqb, ltb, length-set, get_or-set_same, get_or-set_other}
+use Rattle.std.proofs.Common.{◌≡◌, ◌≢◌, ℕ, false, length, get_or, set, refl, ap, sym, ◌∙◌, inl, inr, arith, eqb}
+use Rattle.std.proofs.Common.{ltb, length-set, get_or-set_same, get_or-set_other}
 use Rattle.std.proofs.lemmas.Bool.{cases_eq, cases_Bool, eqb-true, ne_eqb}
 use Rattle.iox_steps.specs.declared.access.Progress.{Progress}
 use Rattle.iox_steps.specs.Accesses.{words_after, IsWithin}
@@ -8,7 +9,8 @@ use Rattle.iox_steps.specs.Worlds.{IsParty, with_party, seen_in, after_access}
 use Rattle.iox_steps.proofs.AccessLemmas.{length-words_after}
 use Rattle.iox_set_steps.specs.declared.unrestricted_atomic.AtomicReply.{AtomicReply}
 use Rattle.iox_set_steps.specs.declared.unrestricted_atomic.AtomicProgram.{AtomicProgram}
-use Rattle.iox_set_steps.specs.declared.unrestricted_atomic.AtomicProgram.TheVariants.{AtRest, LoadsToStore, StoresWord, Raises, LoadsToLoad, LoadsWord, LoadsAgain}
+use Rattle.iox_set_steps.specs.declared.unrestricted_atomic.AtomicProgram.TheVariants.{AtRest, LoadsToStore, StoresWord, Raises, LoadsToLoad, LoadsWord}
+use Rattle.iox_set_steps.specs.declared.unrestricted_atomic.AtomicProgram.TheVariants.{LoadsAgain}
 use Rattle.iox_set_steps.specs.declared.unrestricted_atomic.party.AtomicParty.{AtomicParty}
 use Rattle.iox_set_steps.specs.AtomicPrograms.{index_behind, atomic_access, atomic_next, program_of}
 use Rattle.iox_set_steps.specs.AtomicPlays.{AtomicWorld, atomics_ask, atomics_happen, atomics_rest, AtomicsLead, is_storing, IsAtValue, AtomicsHold}
@@ -23,7 +25,8 @@ atomics_stay_in size world number party holds is =
     rw (at.here) (atomic_access_within size holds.base world.words holds.room holds.memory holds.version party.program at.knows)
 
 -- an access of a party that stores nothing leaves the words
-words_stay : (size base : ℕ) (words : List ℕ) (program : AtomicProgram size) → is_storing program ≡ false → words_after (atomic_access size base program) words ≡ words
+words_stay : (size base : ℕ) (words : List ℕ) (program : AtomicProgram size) → is_storing program ≡ false
+    → words_after (atomic_access size base program) words ≡ words
 words_stay size base words AtRest other = refl
 words_stay size base words (LoadsToStore list) other = refl
 words_stay size base words (StoresWord list version index) other = absurd (cc)
@@ -33,7 +36,8 @@ words_stay size base words (LoadsWord version list index) other = refl
 words_stay size base words (LoadsAgain version list) other = refl
 
 -- another party knows what it knew
-other_knows : (size base : ℕ) (words : List ℕ) (number other : ℕ) (party that : AtomicParty size) → IsAtValue size base words number party → IsAtValue size base words other that → other ≢ number
+other_knows : (size base : ℕ) (words : List ℕ) (number other : ℕ) (party that : AtomicParty size) → IsAtValue size base words number party
+    → IsAtValue size base words other that → other ≢ number
     → Follows size base words (words_after (atomic_access size base party.program) words)
     → IsAtValue size base (words_after (atomic_access size base party.program) words) other that
 other_knows size base words number other party that at known apart follows = record {
@@ -49,19 +53,22 @@ other_knows size base words number other party that at known apart follows = rec
 }
 
 -- a party that neither calls nor is called to store does not store
-next_stores : (size : ℕ) (program : AtomicProgram size) (seen : ℕ) → is_storing program ≡ false → is_storing (program_of (atomic_next size program seen)) ≡ false
+next_stores : (size : ℕ) (program : AtomicProgram size) (seen : ℕ) → is_storing program ≡ false
+    → is_storing (program_of (atomic_next size program seen)) ≡ false
 next_stores size AtRest seen other = refl
 next_stores size (LoadsToStore list) seen other = absurd (cc)
 next_stores size (StoresWord list version index) seen other = absurd (cc)
 next_stores size (Raises list version) seen other = absurd (cc)
 next_stores size LoadsToLoad seen other = elim (cases_Bool (ltb 0 size)) [ inl some ↦ rw some refl | inr none ↦ rw none refl ]
-next_stores size (LoadsWord version list index) seen other = elim (cases_Bool (ltb (index_behind index) size)) [ inl some ↦ rw some refl | inr none ↦ rw none refl ]
+next_stores size (LoadsWord version list index) seen other =
+    elim (cases_Bool (ltb (index_behind index) size)) [ inl some ↦ rw some refl | inr none ↦ rw none refl ]
 next_stores size (LoadsAgain version list) seen other = elim (cases_Bool (eqb seen version)) [
   | inl stands ↦ rw stands refl
   | inr moved ↦ rw moved (elim (cases_Bool (ltb 0 size)) [ inl some ↦ rw some refl | inr none ↦ rw none refl ])
 ]
 
-module _ (size : ℕ) (world : AtomicWorld size) (number : ℕ) (party after : AtomicParty size) (answer : Progress (AtomicReply size)) (holds : AtomicsHold size world) (is : IsParty world number party)
+module _ (size : ℕ) (world : AtomicWorld size) (number : ℕ) (party after : AtomicParty size) (answer : Progress (AtomicReply size))
+    (holds : AtomicsHold size world) (is : IsParty world number party)
     (leads : AtomicsLead size party (seen_in world (atomics_ask size party)) answer after) where
   at : IsAtValue size holds.base world.words number party
   at = holds.parties number party is
@@ -77,19 +84,26 @@ module _ (size : ℕ) (world : AtomicWorld size) (number : ℕ) (party after : A
     knows = rw (leads.2) (makes.knows);
   }
 
-  others : (other : ℕ) (that : AtomicParty size) → other ≢ number → IsParty world other that → IsAtValue size holds.base (words_after (atomics_ask size party) world.words) other that
+  others : (other : ℕ) (that : AtomicParty size) → other ≢ number → IsParty world other that
+      → IsAtValue size holds.base (words_after (atomics_ask size party) world.words) other that
   others other that apart known =
       let follows = makes.follows in
       rw (at.here) (other_knows size holds.base world.words number other party that at (holds.parties other that known) apart (rw (at.here) at follows))
 
-  pub all : (other : ℕ) (that : AtomicParty size) → IsParty (with_party world number after) other that → IsAtValue size holds.base (words_after (atomics_ask size party) world.words) other that
+  pub all : (other : ℕ) (that : AtomicParty size) → IsParty (with_party world number after) other that
+      → IsAtValue size holds.base (words_after (atomics_ask size party) world.words) other that
   all other that known = elim (cases_eq other number) [
-    | inl same ↦ (let one : that ≡ after = known.1 ∙ ap (λ n. get_or (set world.parties number after) n that) same ∙ get_or-set_same world.parties number after that is.0 in
+    | inl same ↦ (let one : that ≡ after = known.1 ∙ ap (λ n. get_or (set world.parties number after) n that) same
+        ∙ get_or-set_same world.parties number after that is.0 in
         rw (same, one) own)
-    | inr apart ↦ others other that apart (omega (arith, known.0, length-set world.parties number after), known.1 ∙ get_or-set_other world.parties number other after that apart)
+    | inr apart ↦ others other that apart (
+      omega (arith, known.0, length-set world.parties number after),
+      known.1 ∙ get_or-set_other world.parties number other after that apart,
+    )
   ]
 
-  unfoldable pub kept : AtomicsHold size (after_access world number (atomics_ask size party) after (atomics_happen party (seen_in world (atomics_ask size party))))
+  unfoldable pub kept : AtomicsHold size (after_access world number (atomics_ask size party) after
+      (atomics_happen party (seen_in world (atomics_ask size party))))
   kept = record {
     base = holds.base;
     first = holds.first;
@@ -100,7 +114,8 @@ module _ (size : ℕ) (world : AtomicWorld size) (number : ℕ) (party after : A
     parties = all;
   }
 
-unfoldable pub atomics_keep : (size : ℕ) (world : AtomicWorld size) (number : ℕ) (party after : AtomicParty size) (answer : Progress (AtomicReply size)) → AtomicsHold size world → IsParty world number party → atomics_rest party ≡ false
+unfoldable pub atomics_keep : (size : ℕ) (world : AtomicWorld size) (number : ℕ) (party after : AtomicParty size) (answer : Progress (AtomicReply size))
+    → AtomicsHold size world → IsParty world number party → atomics_rest party ≡ false
     → AtomicsLead size party (seen_in world (atomics_ask size party)) answer after
     → AtomicsHold size (after_access world number (atomics_ask size party) after (atomics_happen party (seen_in world (atomics_ask size party))))
 atomics_keep size world number party after answer holds is awake leads = kept size world number party after answer holds is leads

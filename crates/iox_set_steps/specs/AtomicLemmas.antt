@@ -16,8 +16,10 @@ pub record AreTwoCells (size here there : ℕ) : Type 0 where
 
 pub two_cells : (size version : ℕ) → AreTwoCells size (cell_of size version) (cell_of size (version + 1))
 two_cells size version = elim (cases_eq (version % 2) 0) [
-  | inl even ↦ rw (eq-eqb (version % 2) 0 even, ne_eqb ((version + 1) % 2) 0 (omega arith)) (record { inside = (omega arith, omega arith); apart = inl (refl, refl) })
-  | inr odd ↦ rw (ne_eqb (version % 2) 0 odd, eq-eqb ((version + 1) % 2) 0 (omega arith)) (record { inside = (omega arith, omega arith); apart = inr (refl, refl) })
+  | inl even ↦ rw (eq-eqb (version % 2) 0 even, ne_eqb ((version + 1) % 2) 0 (omega arith))
+      (record { inside = (omega arith, omega arith); apart = inl (refl, refl) })
+  | inr odd ↦ rw (ne_eqb (version % 2) 0 odd, eq-eqb ((version + 1) % 2) 0 (omega arith))
+      (record { inside = (omega arith, omega arith); apart = inr (refl, refl) })
 ]
 
 -- where a word of a value stands
@@ -40,7 +42,8 @@ pub written_more : (size base : ℕ) (words list : List ℕ) (version index : �
 written_more size base words list version index below room written at inside = elim (cases_eq at index) [
   | inl same ↦ (let cells = two_cells size version in let cell = cells.inside.1 in
       rw (same) (get_or-set_same words (base + 1 + cell_of size (version + 1) + index) (words_of list index) 0 (omega arith)))
-  | inr apart ↦ get_or-set_other words (base + 1 + cell_of size (version + 1) + index) (base + 1 + cell_of size (version + 1) + at) (words_of list index) 0 (omega arith)
+  | inr apart ↦ get_or-set_other words (base + 1 + cell_of size (version + 1) + index) (base + 1 + cell_of size (version + 1) + at)
+      (words_of list index) 0 (omega arith)
       ∙ written at (omega arith)
 ]
 
@@ -57,19 +60,24 @@ pub run_more : (size : ℕ) (first : ℕ → ℕ) (events : List (AtomicEvent si
     → ValueRun size first events last → LeadsOn size last event new → ValueRun size first (events ++ option_to_list event) new
 run_more size first [] last None new run leads = λ at inside. leads at inside ∙ run at inside
 run_more size first [] last (Some (Stored list)) new run leads = leads
-run_more size first [] last (Some (Loaded list)) new run leads = (λ at inside. leads.0 at inside ∙ run at inside, λ at inside. leads.1 at inside ∙ run at inside)
+run_more size first [] last (Some (Loaded list)) new run leads =
+    (λ at inside. leads.0 at inside ∙ run at inside, λ at inside. leads.1 at inside ∙ run at inside)
 run_more size first (Stored list ∷ events) last event new run leads = run_more size (words_of list) events last event new run leads
 run_more size first (Loaded list ∷ events) last event new run leads = (run.0, run_more size first events last event new run.1 leads)
 
 module _ (size base : ℕ) (words : List ℕ) where
-  pub stores_from_knows : (list : List ℕ) (version index : ℕ) → index ≤ size → IsStoring size base words list version index → AtomicsKnow size base words (stores_from size list version index)
+  pub stores_from_knows : (list : List ℕ) (version index : ℕ) → index ≤ size → IsStoring size base words list version index
+      → AtomicsKnow size base words (stores_from size list version index)
   stores_from_knows list version index most storing = elim (cases_lt index size) [
     | inl below ↦ rw (lt-ltb index size below) (below, storing)
-    | inr past ↦ rw (le-ltb index size past) (record { current = storing.current; behind = storing.behind; written = λ at inside. storing.written at (omega arith) })
+    | inr past ↦ rw (le-ltb index size past)
+        (record { current = storing.current; behind = storing.behind; written = λ at inside. storing.written at (omega arith) })
   ]
 
-  pub loads_from_knows : (version : ℕ) (list : List ℕ) (index : ℕ) → index ≤ size → IsLoading size base words version list index → AtomicsKnow size base words (loads_from size version list index)
+  pub loads_from_knows : (version : ℕ) (list : List ℕ) (index : ℕ) → index ≤ size → IsLoading size base words version list index
+      → AtomicsKnow size base words (loads_from size version list index)
   loads_from_knows version list index most loading = elim (cases_lt index size) [
     | inl below ↦ rw (lt-ltb index size below) (below, loading)
-    | inr past ↦ rw (le-ltb index size past) (record { whole = loading.whole; passed = loading.passed; loaded = λ stands at inside. loading.loaded stands at (omega arith) })
+    | inr past ↦ rw (le-ltb index size past)
+        (record { whole = loading.whole; passed = loading.passed; loaded = λ stands at inside. loading.loaded stands at (omega arith) })
   ]

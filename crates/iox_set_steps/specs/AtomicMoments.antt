@@ -1,11 +1,13 @@
 -- One access of a party at a value: it leads on to the next value, and its party knows what it has to.
 use Rattle.std.specs.Prelude.{List, None}
-use Rattle.std.proofs.Common.{◌≡◌, ℕ, ◌+◌, ◌^◌, ◌<◌, ◌≤◌, length, get_or, set, replicate, refl, sym, ap, ◌∙◌, inl, inr, arith, length-set, get_or-set_same, get_or-set_other}
+use Rattle.std.proofs.Common.{◌≡◌, ℕ, ◌+◌, ◌^◌, ◌<◌, ◌≤◌, length, get_or, set, replicate, refl, sym, ap, ◌∙◌, inl}
+use Rattle.std.proofs.Common.{inr, arith, length-set, get_or-set_same, get_or-set_other}
 use Rattle.std.proofs.lemmas.List.{length-replicate}
 use Rattle.std.proofs.lemmas.Bool.{cases_eq, eq-eqb, ne_eqb}
 use Rattle.iox_steps.specs.Accesses.{seen_by, words_after}
 use Rattle.iox_set_steps.specs.declared.unrestricted_atomic.AtomicProgram.{AtomicProgram}
-use Rattle.iox_set_steps.specs.declared.unrestricted_atomic.AtomicProgram.TheVariants.{AtRest, LoadsToStore, StoresWord, Raises, LoadsToLoad, LoadsWord, LoadsAgain}
+use Rattle.iox_set_steps.specs.declared.unrestricted_atomic.AtomicProgram.TheVariants.{AtRest, LoadsToStore, StoresWord, Raises, LoadsToLoad, LoadsWord}
+use Rattle.iox_set_steps.specs.declared.unrestricted_atomic.AtomicProgram.TheVariants.{LoadsAgain}
 use Rattle.iox_set_steps.specs.Values.{cell_of, version_now, word_of, value_now, AgreeUpTo, words_of, LeadsOn}
 use Rattle.iox_set_steps.specs.AtomicPrograms.{last_version, version_behind, index_behind, atomic_access, atomic_next, atomic_event, program_of}
 use Rattle.iox_set_steps.specs.AtomicPlays.{IsStoring, IsLoading, AtomicsKnow}
@@ -19,31 +21,35 @@ pub record Makes (size base : ℕ) (words : List ℕ) (program : AtomicProgram s
   pub knows : AtomicsKnow size base words' (program_of (atomic_next size program seen))
   pub version : version_now base words' < 2 ^ 64
 
-module _ (size base : ℕ) (words : List ℕ) (room : base + 1 + size + size ≤ length words) (memory : length words < 2 ^ 64) (small : version_now base words < 2 ^ 64) where
+module _ (size base : ℕ) (words : List ℕ) (room : base + 1 + size + size ≤ length words) (memory : length words < 2 ^ 64)
+    (small : version_now base words < 2 ^ 64) where
   unchanged : Follows size base words words
   unchanged = record { onward = omega arith; stays = λ stands at inside. refl }
 
-  quiet : (program : AtomicProgram size) (seen : ℕ) → atomic_event program seen ≡ None → AtomicsKnow size base words (program_of (atomic_next size program seen)) → Makes size base words program words seen
+  quiet : (program : AtomicProgram size) (seen : ℕ) → atomic_event program seen ≡ None
+      → AtomicsKnow size base words (program_of (atomic_next size program seen)) → Makes size base words program words seen
   quiet program seen none knows = record { leads = rw (none) (λ at inside. refl); follows = unchanged; knows = knows; version = small }
 
   loads_to_store : (list : List ℕ) → AtomicsKnow size base words (program_of (atomic_next size (LoadsToStore list) (version_now base words)))
   loads_to_store list = elim (cases_eq (version_now base words) last_version) [
     | inl last ↦ rw (eq-eqb _ _ last) tt
-    | inr more ↦ rw (ne_eqb _ _ more) (stores_from_knows size base words list (version_now base words) 0 (omega arith) (record { current = refl; behind = omega arith; written = λ at inside. absurd (omega arith) }))
+    | inr more ↦ rw (ne_eqb _ _ more) (stores_from_knows size base words list (version_now base words) 0 (omega arith)
+        (record { current = refl; behind = omega arith; written = λ at inside. absurd (omega arith) }))
   ]
 
   loads_first : (list : List ℕ) → length list ≡ size → IsLoading size base words (version_now base words) list 0
   loads_first list whole = record { whole = whole; passed = omega arith; loaded = λ stands at inside. absurd (omega arith) }
 
   stores_word : (list : List ℕ) (version index : ℕ) → index < size → IsStoring size base words list version index
-      → Makes size base words (StoresWord list version index) (set words (base + 1 + cell_of size (version + 1) + index) (words_of list index)) (get_or words (base + 1 + cell_of size (version + 1) + index) 0)
+      → Makes size base words (StoresWord list version index) (set words (base + 1 + cell_of size (version + 1) + index) (words_of list index))
+      (get_or words (base + 1 + cell_of size (version + 1) + index) 0)
   stores_word list version index below storing =
-      let place = base + 1 + cell_of size (version + 1) + index in
-      let words' = set words place (words_of list index) in
+      let place = base + 1 + cell_of size (version + 1) + index in let words' = set words place (words_of list index) in
       let current = storing.current in
       let same : version_now base words' ≡ version_now base words = get_or-set_other words place base (words_of list index) 0 (omega arith) in
       let stays : AgreeUpTo size (value_now size base words') (value_now size base words) =
-      (λ at inside. ap (λ v. word_of size base words' v at) same ∙ rw (← current) (other_cell_stays size base words version index (words_of list index) at below inside)) in
+      (λ at inside. ap (λ v. word_of size base words' v at) same ∙ rw (← current)
+      (other_cell_stays size base words version index (words_of list index) at below inside)) in
       let next : index_behind index ≡ index + 1 = omega arith in
       record {
         leads = stays;
@@ -56,14 +62,15 @@ module _ (size base : ℕ) (words : List ℕ) (room : base + 1 + size + size ≤
         version = omega arith;
       }
 
-  raises : (list : List ℕ) (version : ℕ) → IsStoring size base words list version size → Makes size base words (Raises list version) (set words base (version + 1)) (version_now base words)
+  raises : (list : List ℕ) (version : ℕ) → IsStoring size base words list version size
+      → Makes size base words (Raises list version) (set words base (version + 1)) (version_now base words)
   raises list version storing =
       let words' = set words base (version + 1) in
-      let current = storing.current in
-      let behind = storing.behind in
+      let current = storing.current in let behind = storing.behind in
       let raised : version_now base words' ≡ version + 1 = get_or-set_same words base (version + 1) 0 (omega arith) in
       record {
-        leads = λ at inside. ap (λ v. word_of size base words' v at) raised ∙ get_or-set_other words base (base + 1 + cell_of size (version + 1) + at) (version + 1) 0 (omega arith) ∙ storing.written at inside;
+        leads = λ at inside. ap (λ v. word_of size base words' v at) raised
+            ∙ get_or-set_other words base (base + 1 + cell_of size (version + 1) + at) (version + 1) 0 (omega arith) ∙ storing.written at inside;
         follows = record { onward = omega arith; stays = λ stands. absurd (omega arith) };
         knows = tt;
         version = omega arith;
@@ -73,15 +80,16 @@ module _ (size base : ℕ) (words : List ℕ) (room : base + 1 + size + size ≤
       → AtomicsKnow size base words (program_of (atomic_next size (LoadsWord version list index) (get_or words (base + 1 + cell_of size version + index) 0)))
   loads_word version list index below loading =
       let word = get_or words (base + 1 + cell_of size version + index) 0 in
-      let whole = loading.whole in
-      let next : index_behind index ≡ index + 1 = omega arith in
+      let whole = loading.whole in let next : index_behind index ≡ index + 1 = omega arith in
       rw (next) (loads_from_knows size base words version (set list index word) (index + 1) (omega arith) (record {
         whole = length-set list index word ∙ whole;
         passed = loading.passed;
-        loaded = λ stands. loaded_more list index word (value_now size base words) (omega arith) (ap (λ v. word_of size base words v index) stands) (loading.loaded stands);
+        loaded = λ stands. loaded_more list index word (value_now size base words) (omega arith) (ap (λ v. word_of size base words v index) stands)
+            (loading.loaded stands);
       }))
 
-  loads_again : (version : ℕ) (list : List ℕ) → IsLoading size base words version list size → Makes size base words (LoadsAgain version list) words (version_now base words)
+  loads_again : (version : ℕ) (list : List ℕ) → IsLoading size base words version list size
+      → Makes size base words (LoadsAgain version list) words (version_now base words)
   loads_again version list loading = elim (cases_eq (version_now base words) version) [
     | inl stands ↦ record {
       leads = rw (eq-eqb _ _ stands) (loading.loaded (sym stands), λ at inside. refl);
@@ -94,7 +102,8 @@ module _ (size base : ℕ) (words : List ℕ) (room : base + 1 + size + size ≤
   ]
 
   pub atomic_makes : (program : AtomicProgram size) → AtomicsKnow size base words program
-      → let access = atomic_access size base program in Makes size base words program (words_after access words) (seen_by access (λ place. get_or words place 0))
+      → let access = atomic_access size base program in Makes size base words program (words_after access words)
+      (seen_by access (λ place. get_or words place 0))
   atomic_makes AtRest knows = quiet AtRest 0 refl tt
   atomic_makes (LoadsToStore list) knows = quiet (LoadsToStore list) (version_now base words) refl (loads_to_store list)
   atomic_makes (StoresWord list version index) knows =
@@ -102,10 +111,10 @@ module _ (size base : ℕ) (words : List ℕ) (room : base + 1 + size + size ≤
       let next : version_behind version ≡ version + 1 = omega arith in
       rw (next, word_place_is size base (version + 1) index knows.0 (omega arith)) (stores_word list version index knows.0 storing)
   atomic_makes (Raises list version) knows =
-      let below = knows.behind in
-      let next : version_behind version ≡ version + 1 = omega arith in
+      let below = knows.behind in let next : version_behind version ≡ version + 1 = omega arith in
       rw (next) (raises list version knows)
   atomic_makes LoadsToLoad knows = quiet LoadsToLoad (version_now base words) refl
       (loads_from_knows size base words (version_now base words) (replicate size 0) 0 (omega arith) (loads_first (replicate size 0) (length-replicate size 0)))
-  atomic_makes (LoadsWord version list index) knows = rw (word_place_is size base version index knows.0 (omega arith)) (quiet (LoadsWord version list index) _ refl (loads_word version list index knows.0 knows.1))
+  atomic_makes (LoadsWord version list index) knows = rw (word_place_is size base version index knows.0 (omega arith))
+      (quiet (LoadsWord version list index) _ refl (loads_word version list index knows.0 knows.1))
   atomic_makes (LoadsAgain version list) knows = loads_again version list knows

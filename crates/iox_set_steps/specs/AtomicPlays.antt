@@ -13,7 +13,8 @@ use Rattle.iox_set_steps.specs.declared.unrestricted_atomic.AtomicReply.TheVaria
 use Rattle.iox_set_steps.specs.declared.unrestricted_atomic.AtomicEvent.{AtomicEvent}
 use Rattle.iox_set_steps.specs.declared.unrestricted_atomic.AtomicEvent.TheVariants as event
 use Rattle.iox_set_steps.specs.declared.unrestricted_atomic.AtomicProgram.{AtomicProgram}
-use Rattle.iox_set_steps.specs.declared.unrestricted_atomic.AtomicProgram.TheVariants.{AtRest, LoadsToStore, StoresWord, Raises, LoadsToLoad, LoadsWord, LoadsAgain}
+use Rattle.iox_set_steps.specs.declared.unrestricted_atomic.AtomicProgram.TheVariants.{AtRest, LoadsToStore, StoresWord, Raises, LoadsToLoad, LoadsWord}
+use Rattle.iox_set_steps.specs.declared.unrestricted_atomic.AtomicProgram.TheVariants.{LoadsAgain}
 use Rattle.iox_set_steps.specs.declared.unrestricted_atomic.party.AtomicParty.{AtomicParty}
 use Rattle.iox_set_steps.specs.Values.{version_now, word_of, value_now, AgreeUpTo, words_of, ValueRun}
 use Rattle.iox_set_steps.specs.AtomicPrograms.{last_version, atomic_access, atomic_next, atomic_event, program_of, progress_of}

@@ -36,7 +36,8 @@ bits_stay_in world number party holds is =
     rw (known.0) (bit_access_within holds.site world.words holds.room holds.memory party.program known.1)
 
 -- each bit that is set or cleared is told
-conserved_more : (site : BitSite) (words : List ℕ) (events : List BitEvent) (id : ℕ) (program : BitProgram) → site.base + bit_words site.capacity ≤ length words → length words < 2 ^ 64
+conserved_more : (site : BitSite) (words : List ℕ) (events : List BitEvent) (id : ℕ) (program : BitProgram) → site.base + bit_words site.capacity ≤ length words
+    → length words < 2 ^ 64
     → BitsKnow site program → times_set id events ≡ times_cleared id events + bit_now site words id
     → let access = bit_access site program in let more = option_to_list (bit_event program (seen_by access (λ place. get_or words place 0))) in
     times_set id (events ++ more) ≡ times_cleared id (events ++ more) + bit_now site (words_after access words) id
@@ -65,13 +66,15 @@ none_past site id (ClearsAll word) seen knows past = elim (cases_eq seen 0) [
   | inr some ↦ rw (ne_eqb _ _ some) refl
 ]
 
-inside_more : (site : BitSite) (events : List BitEvent) (id : ℕ) (program : BitProgram) (seen : ℕ) → BitsKnow site program → site.capacity ≤ id → times_set id events ≡ 0
+inside_more : (site : BitSite) (events : List BitEvent) (id : ℕ) (program : BitProgram) (seen : ℕ) → BitsKnow site program → site.capacity ≤ id
+    → times_set id events ≡ 0
     → times_set id (events ++ option_to_list (bit_event program seen)) ≡ 0
 inside_more site events id program seen knows past none =
     let more = none_past site id program seen knows past in
     sum_by-append (set_by id) events (option_to_list (bit_event program seen)) ∙ omega arith
 
-pub bits_keep : (world : BitWorld) (number : ℕ) (party after : BitParty) (answer : Progress BitReply) → BitsHold world → IsParty world number party → bits_rest party ≡ false
+pub bits_keep : (world : BitWorld) (number : ℕ) (party after : BitParty) (answer : Progress BitReply) → BitsHold world → IsParty world number party
+    → bits_rest party ≡ false
     → BitsLead party (seen_in world (bits_ask party)) answer after
     → BitsHold (after_access world number (bits_ask party) after (bits_happen party (seen_in world (bits_ask party))))
 bits_keep world number party after answer holds is awake leads =
@@ -83,7 +86,11 @@ bits_keep world number party after answer holds is awake leads =
       room = simp length-words_after (holds.room);
       memory = simp length-words_after (holds.memory);
       words = rw (known.0) (bit_words_stay holds.site world.words holds.room holds.memory party.program holds.words);
-      parties = All-set (IsAtBits holds.site) world.parties number after (leads.0 ∙ known.0, rw (leads.1, known.0) (bit_next_knows holds.site world.words holds.room holds.memory party.program holds.words known.1)) holds.parties;
+      parties = All-set (IsAtBits holds.site) world.parties number after (
+        leads.0 ∙ known.0,
+        rw (leads.1, known.0)
+            (bit_next_knows holds.site world.words holds.room holds.memory party.program holds.words known.1),
+      ) holds.parties;
     }
 
 start_knows : (site : BitSite) (call : BitCall) → BitsKnow site (bit_start site call)
@@ -91,7 +98,8 @@ start_knows site (call.Set id) = elim (cases_lt id site.capacity) [ inl below �
 start_knows site call.ResetNext = elim (cases_eq site.capacity 0) [ inl none ↦ rw (eq-eqb _ _ none) tt | inr some ↦ rw (ne_eqb _ _ some) (omega arith) ]
 start_knows site call.ResetAll = elim (cases_eq site.capacity 0) [ inl none ↦ rw (eq-eqb _ _ none) tt | inr some ↦ rw (ne_eqb _ _ some) (omega arith) ]
 
-pub bits_start : (world : BitWorld) (number : ℕ) (call : BitCall) (party after : BitParty) → BitsHold world → IsParty world number party → BitsBegin party call (Ok after)
+pub bits_start : (world : BitWorld) (number : ℕ) (call : BitCall) (party after : BitParty) → BitsHold world → IsParty world number party
+    → BitsBegin party call (Ok after)
     → BitsHold (with_party world number after)
 bits_start world number call party after holds is begins =
     let known = knows_of world number party holds is in
@@ -102,5 +110,6 @@ bits_start world number call party after holds is begins =
       room = holds.room;
       memory = holds.memory;
       words = holds.words;
-      parties = All-set (IsAtBits holds.site) world.parties number after (begins.1 ∙ known.0, rw (begins.2, known.0) (start_knows holds.site call)) holds.parties;
+      parties = All-set (IsAtBits holds.site) world.parties number after
+          (begins.1 ∙ known.0, rw (begins.2, known.0) (start_knows holds.site call)) holds.parties;
     }

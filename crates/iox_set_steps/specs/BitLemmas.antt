@@ -2,7 +2,8 @@
 use Rattle.std.specs.Prelude.{List, Some, None, ◌==◌}
 use Rattle.std.specs.Option.{option_to_list}
 use Rattle.std.specs.Int.{bit_at}
-use Rattle.std.proofs.Common.{◌≡◌, ◌≢◌, ℕ, ◌+◌, ◌/◌, ◌%◌, ◌^◌, ◌<◌, ◌≤◌, if◌then◌else◌, length, get_or, set, refl, ap, sym, ◌∙◌, inl, inr, arith, get_or-set_same, get_or-set_other}
+use Rattle.std.proofs.Common.{◌≡◌, ◌≢◌, ℕ, ◌+◌, ◌/◌, ◌%◌, ◌^◌, ◌<◌, ◌≤◌, if◌then◌else◌, length, get_or, set, refl, ap}
+use Rattle.std.proofs.Common.{sym, ◌∙◌, inl, inr, arith, get_or-set_same, get_or-set_other}
 use Rattle.std.proofs.lemmas.Bool.{cases_eq, cases_lt, lt-ltb, le-ltb, eq-eqb, ne_eqb}
 use Rattle.std.proofs.lemmas.Nat.Bits.{bit_at-lt, bit_at-zero}
 use Rattle.iox_set_steps.specs.declared.bit_set.BitSite.{BitSite}
@@ -59,8 +60,12 @@ pub set_makes_up : (bit id word old new : ℕ) → (id ≡ bit → (old ≡ bit_
 set_makes_up bit id word old new this others =
     let small = bit_at-lt word (bit % 64) in
     elim (cases_eq (bit_at word (bit % 64)) 1) [
-      | inl one ↦ rw (eq-eqb _ _ one) (elim (cases_eq id bit) [ inl same ↦ (let at = this same in omega arith) | inr apart ↦ (let at = others apart in omega arith) ])
-      | inr none ↦ rw (ne_eqb _ _ none) (elim (cases_eq id bit) [ inl same ↦ (let at = this same in rw (eq-eqb _ _ same) (omega arith)) | inr apart ↦ (let at = others apart in rw (ne_eqb _ _ apart) (omega arith)) ])
+      | inl one ↦ rw (eq-eqb _ _ one) (elim (cases_eq id bit)
+          [ inl same ↦ (let at = this same in omega arith) | inr apart ↦ (let at = others apart in omega arith) ])
+      | inr none ↦ rw (ne_eqb _ _ none) (elim (cases_eq id bit) [
+        | inl same ↦ (let at = this same in rw (eq-eqb _ _ same) (omega arith))
+        | inr apart ↦ (let at = others apart in rw (ne_eqb _ _ apart) (omega arith))
+      ])
     ]
 
 -- a bit is cleared, and told if it was set before
@@ -69,8 +74,12 @@ pub clear_makes_up : (bit id word old new : ℕ) → (id ≡ bit → (old ≡ bi
 clear_makes_up bit id word old new this others =
     let small = bit_at-lt word (bit % 64) in
     elim (cases_eq (bit_at word (bit % 64)) 1) [
-      | inl one ↦ rw (eq-eqb _ _ one) (elim (cases_eq id bit) [ inl same ↦ (let at = this same in rw (eq-eqb _ _ same) (omega arith)) | inr apart ↦ (let at = others apart in rw (ne_eqb _ _ apart) (omega arith)) ])
-      | inr none ↦ rw (ne_eqb _ _ none) (elim (cases_eq id bit) [ inl same ↦ (let at = this same in omega arith) | inr apart ↦ (let at = others apart in omega arith) ])
+      | inl one ↦ rw (eq-eqb _ _ one) (elim (cases_eq id bit) [
+        | inl same ↦ (let at = this same in rw (eq-eqb _ _ same) (omega arith))
+        | inr apart ↦ (let at = others apart in rw (ne_eqb _ _ apart) (omega arith))
+      ])
+      | inr none ↦ rw (ne_eqb _ _ none) (elim (cases_eq id bit)
+          [ inl same ↦ (let at = this same in omega arith) | inr apart ↦ (let at = others apart in omega arith) ])
     ]
 
 -- all bits of a word are cleared, and told if one was set before

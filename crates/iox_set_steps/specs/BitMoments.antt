@@ -38,20 +38,31 @@ module _ (site : BitSite) (words : List ℕ) (room : site.base + bit_words site.
       let word = get_or words (site.base + bit / 64) 0 in
       let value = bit_or word (mask bit) in
       rw (place_is site (bit / 64) below (omega arith)) (set_makes_up bit id word _ _
-      (λ same. (now_is site words (bit / 64) id below (omega arith) ∙ ap (λ n. bit_at word (n % 64)) same, now-same site words (bit / 64) value below room id (omega arith) ∙ ap (λ n. bit_at value (n % 64)) same ∙ bit_at_set_same w64 word (bit % 64) (omega arith)))
+      (λ same. (
+        now_is site words (bit / 64) id below (omega arith) ∙ ap (λ n. bit_at word (n % 64)) same,
+        now-same site words (bit / 64) value below room id (omega arith) ∙ ap (λ n. bit_at value (n % 64)) same
+            ∙ bit_at_set_same w64 word (bit % 64) (omega arith),
+      ))
       (now-others site words bit value id below room (λ i small other. bit_at_set_other w64 word (bit % 64) (omega arith) i other)))
   bit_makes_up (Looks word) knows id = omega arith
   bit_makes_up (Clears bit) knows id =
       let word = get_or words (site.base + bit / 64) 0 in
       let value = bit_and word (bit_not w64 (mask bit)) in
       rw (place_is site (bit / 64) knows (omega arith)) (clear_makes_up bit id word _ _
-      (λ same. (now_is site words (bit / 64) id knows (omega arith) ∙ ap (λ n. bit_at word (n % 64)) same, now-same site words (bit / 64) value knows room id (omega arith) ∙ ap (λ n. bit_at value (n % 64)) same ∙ bit_at_clear_same w64 word (bit % 64) (omega arith)))
+      (λ same. (
+        now_is site words (bit / 64) id knows (omega arith) ∙ ap (λ n. bit_at word (n % 64)) same,
+        now-same site words (bit / 64) value knows room id (omega arith) ∙ ap (λ n. bit_at value (n % 64)) same
+            ∙ bit_at_clear_same w64 word (bit % 64) (omega arith),
+      ))
       (now-others site words bit value id knows room (λ i small other. bit_at_clear_other w64 word (bit % 64) (omega arith) i small other)))
   bit_makes_up (ClearsAll place) knows id =
       let word = get_or words (site.base + place) 0 in
       let none : bit_and word 0 ≡ 0 = omega (arith, and_le_r word 0) in
       rw (place_is site place knows (omega arith)) (clear_all_makes_up place id word _ _
-      (λ here. (now_is site words place id knows here, now-same site words place (bit_and word 0) knows room id here ∙ ap (λ n. bit_at n (id % 64)) none ∙ bit_at-zero (id % 64)))
+      (λ here. (
+        now_is site words place id knows here,
+        now-same site words place (bit_and word 0) knows room id here ∙ ap (λ n. bit_at n (id % 64)) none ∙ bit_at-zero (id % 64),
+      ))
       (now-other site words place (bit_and word 0) knows room id))
 
   seen_below : (place : ℕ) → All (λ word. word < 2 ^ 64) words → get_or words place 0 < 2 ^ 64
@@ -64,12 +75,20 @@ module _ (site : BitSite) (words : List ℕ) (room : site.base + bit_words site.
   pub bit_words_stay : (program : BitProgram) → All (λ word. word < 2 ^ 64) words → All (λ word. word < 2 ^ 64) (words_after (bit_access site program) words)
   bit_words_stay AtRest bounded = bounded
   bit_words_stay (Replies reply) bounded = bounded
-  bit_words_stay (Sets bit) bounded = All-set (λ word. word < 2 ^ 64) words _ _ (or_lt 64 _ (mask bit) (seen_below _ bounded) (mod_below (1 * 2 ^ (bit % 64)) (2 ^ 64) (lit≤ tt))) bounded
+  bit_words_stay (Sets bit) bounded = All-set (λ word. word < 2 ^ 64) words _ _
+      (or_lt 64 _ (mask bit) (seen_below _ bounded) (mod_below (1 * 2 ^ (bit % 64)) (2 ^ 64) (lit≤ tt))) bounded
   bit_words_stay (Looks word) bounded = bounded
-  bit_words_stay (Clears bit) bounded = All-set (λ word. word < 2 ^ 64) words _ _ (omega (arith, and_le_l (get_or words (place_of_word site (bit / 64)) 0) (bit_not w64 (mask bit)), seen_below (place_of_word site (bit / 64)) bounded)) bounded
-  bit_words_stay (ClearsAll word) bounded = All-set (λ word. word < 2 ^ 64) words _ _ (omega (arith, and_le_l (get_or words (place_of_word site word) 0) 0, seen_below (place_of_word site word) bounded)) bounded
+  bit_words_stay (Clears bit) bounded = All-set (λ word. word < 2 ^ 64) words _ _
+      (omega (
+        arith,
+        and_le_l (get_or words (place_of_word site (bit / 64)) 0) (bit_not w64 (mask bit)),
+        seen_below (place_of_word site (bit / 64)) bounded,
+      )) bounded
+  bit_words_stay (ClearsAll word) bounded = All-set (λ word. word < 2 ^ 64) words _ _
+      (omega (arith, and_le_l (get_or words (place_of_word site word) 0) 0, seen_below (place_of_word site word) bounded)) bounded
 
-  behind_knows : (word : ℕ) (goes : ℕ → BitProgram) (reply : BitReply) → ((place : ℕ) → place < bit_words site.capacity → BitsKnow site (goes place)) → BitsKnow site (program_of (on_to goes reply (word_behind site word)))
+  behind_knows : (word : ℕ) (goes : ℕ → BitProgram) (reply : BitReply) → ((place : ℕ) → place < bit_words site.capacity → BitsKnow site (goes place))
+      → BitsKnow site (program_of (on_to goes reply (word_behind site word)))
   behind_knows word goes reply knows = elim (cases_lt (min (word + 1) (2 ^ 64 - 1)) (bit_words site.capacity)) [
     | inl inside ↦ rw (lt-ltb _ _ inside) (knows _ inside)
     | inr past ↦ rw (le-ltb _ _ past) tt
@@ -83,7 +102,9 @@ module _ (site : BitSite) (words : List ℕ) (room : site.base + bit_words site.
   bit_next_knows (Sets bit) bounded knows = tt
   bit_next_knows (Looks word) bounded knows = let seen = get_or words (place_of_word site word) 0 in elim (cases_eq seen 0) [
     | inl none ↦ rw (eq-eqb seen 0 none) (behind_knows word Looks (ResetNext None) (λ place inside. inside))
-    | inr some ↦ rw (ne_eqb seen 0 some) (let lowest = bit_at-trailing_zeros w64 seen (omega arith) (seen_below (place_of_word site word) bounded) in let at = lowest.0 in omega arith)
+    | inr some ↦ rw (ne_eqb seen 0 some) (
+        let lowest = bit_at-trailing_zeros w64 seen (omega arith) (seen_below (place_of_word site word) bounded) in
+        let at = lowest.0 in omega arith)
   ]
   bit_next_knows (Clears bit) bounded knows = let seen = get_or words (place_of_word site (bit / 64)) 0 in elim (cases_eq (bit_at seen (bit % 64)) 1) [
     | inl one ↦ rw (eq-eqb _ _ one) tt

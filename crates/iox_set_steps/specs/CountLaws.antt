@@ -35,7 +35,8 @@ counts_stay_in world number party holds is =
     rw (known.0) (count_access_within holds.site world.words holds.room holds.memory party.program known.1)
 
 -- what is added and what is taken out is told
-conserved_more : (site : CountSite) (words : List ℕ) (events : List CountEvent) (id : ℕ) (program : CountProgram) → site.base + site.capacity ≤ length words → length words < 2 ^ 64
+conserved_more : (site : CountSite) (words : List ℕ) (events : List CountEvent) (id : ℕ) (program : CountProgram) → site.base + site.capacity ≤ length words
+    → length words < 2 ^ 64
     → CountsKnow site program → times_added id events ≡ taken_out id events + count_now site words id
     → let access = count_access site program in let more = option_to_list (count_event program (seen_by access (λ place. get_or words place 0))) in
     times_added id (events ++ more) ≡ taken_out id (events ++ more) + count_now site (words_after access words) id
@@ -60,13 +61,15 @@ none_past site id (Takes bit) seen knows past = elim (cases_eq seen 0) [
   | inr some ↦ rw (ne_eqb _ _ some) refl
 ]
 
-inside_more : (site : CountSite) (events : List CountEvent) (id : ℕ) (program : CountProgram) (seen : ℕ) → CountsKnow site program → site.capacity ≤ id → times_added id events ≡ 0
+inside_more : (site : CountSite) (events : List CountEvent) (id : ℕ) (program : CountProgram) (seen : ℕ) → CountsKnow site program → site.capacity ≤ id
+    → times_added id events ≡ 0
     → times_added id (events ++ option_to_list (count_event program seen)) ≡ 0
 inside_more site events id program seen knows past none =
     let more = none_past site id program seen knows past in
     sum_by-append (added_by id) events (option_to_list (count_event program seen)) ∙ omega arith
 
-pub counts_keep : (world : CountWorld) (number : ℕ) (party after : CountParty) (answer : Progress CountReply) → CountsHold world → IsParty world number party → counts_rest party ≡ false
+pub counts_keep : (world : CountWorld) (number : ℕ) (party after : CountParty) (answer : Progress CountReply) → CountsHold world → IsParty world number party
+    → counts_rest party ≡ false
     → CountsLead party (seen_in world (counts_ask party)) answer after
     → CountsHold (after_access world number (counts_ask party) after (counts_happen party (seen_in world (counts_ask party))))
 counts_keep world number party after answer holds is awake leads =
@@ -78,14 +81,19 @@ counts_keep world number party after answer holds is awake leads =
       room = simp length-words_after (holds.room);
       memory = simp length-words_after (holds.memory);
       words = rw (known.0) (count_words_stay holds.site world.words holds.room holds.memory party.program holds.words);
-      parties = All-set (IsAtCounts holds.site) world.parties number after (leads.0 ∙ known.0, rw (leads.1, known.0) (count_next_knows holds.site world.words holds.room holds.memory party.program holds.words known.1)) holds.parties;
+      parties = All-set (IsAtCounts holds.site) world.parties number after (
+        leads.0 ∙ known.0,
+        rw (leads.1, known.0)
+            (count_next_knows holds.site world.words holds.room holds.memory party.program holds.words known.1),
+      ) holds.parties;
     }
 
 start_knows : (site : CountSite) (call : CountCall) → CountsKnow site (count_start site call)
 start_knows site (call.Set id) = elim (cases_lt id site.capacity) [ inl below ↦ rw (lt-ltb _ _ below) below | inr past ↦ rw (le-ltb _ _ past) tt ]
 start_knows site call.ResetAll = elim (cases_eq site.capacity 0) [ inl none ↦ rw (eq-eqb _ _ none) tt | inr some ↦ rw (ne_eqb _ _ some) (omega arith) ]
 
-pub counts_start : (world : CountWorld) (number : ℕ) (call : CountCall) (party after : CountParty) → CountsHold world → IsParty world number party → CountsBegin party call (Ok after)
+pub counts_start : (world : CountWorld) (number : ℕ) (call : CountCall) (party after : CountParty) → CountsHold world → IsParty world number party
+    → CountsBegin party call (Ok after)
     → CountsHold (with_party world number after)
 counts_start world number call party after holds is begins =
     let known = knows_of world number party holds is in
@@ -96,5 +104,6 @@ counts_start world number call party after holds is begins =
       room = holds.room;
       memory = holds.memory;
       words = holds.words;
-      parties = All-set (IsAtCounts holds.site) world.parties number after (begins.1 ∙ known.0, rw (begins.2, known.0) (start_knows holds.site call)) holds.parties;
+      parties = All-set (IsAtCounts holds.site) world.parties number after
+          (begins.1 ∙ known.0, rw (begins.2, known.0) (start_knows holds.site call)) holds.parties;
     }

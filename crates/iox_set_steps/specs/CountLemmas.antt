@@ -1,7 +1,8 @@
 -- What a store in one word does to the counts, and how an event makes up for it.
 use Rattle.std.specs.Prelude.{List, Some, None, ◌==◌}
 use Rattle.std.specs.Option.{option_to_list}
-use Rattle.std.proofs.Common.{◌≡◌, ◌≢◌, ℕ, ◌+◌, ◌^◌, ◌<◌, ◌≤◌, if◌then◌else◌, length, get_or, set, refl, sym, ◌∙◌, inl, inr, arith, get_or-set_same, get_or-set_other}
+use Rattle.std.proofs.Common.{◌≡◌, ◌≢◌, ℕ, ◌+◌, ◌^◌, ◌<◌, ◌≤◌, if◌then◌else◌, length, get_or, set, refl, sym}
+use Rattle.std.proofs.Common.{◌∙◌, inl, inr, arith, get_or-set_same, get_or-set_other}
 use Rattle.std.proofs.lemmas.Bool.{cases_eq, cases_lt, lt-ltb, le-ltb, eq-eqb, ne_eqb}
 use Rattle.iox_set_steps.specs.declared.counting_bit_set.CountSite.{CountSite}
 use Rattle.iox_set_steps.specs.declared.counting_bit_set.CountEvent.{CountEvent}
@@ -41,7 +42,8 @@ CountMakesUp id old events new = old + times_added id events ≡ taken_out id ev
 pub take_makes_up : (bit id seen old new : ℕ) → (id ≡ bit → (old ≡ seen) × (new ≡ 0)) → (id ≢ bit → new ≡ old)
     → CountMakesUp id old (option_to_list (if seen == 0 then None else Some (Taken bit seen))) new
 take_makes_up bit id seen old new this others = elim (cases_eq seen 0) [
-  | inl none ↦ rw (eq-eqb _ _ none) (elim (cases_eq id bit) [ inl same ↦ (let at = this same in omega arith) | inr apart ↦ (let at = others apart in omega arith) ])
+  | inl none ↦ rw (eq-eqb _ _ none) (elim (cases_eq id bit)
+      [ inl same ↦ (let at = this same in omega arith) | inr apart ↦ (let at = others apart in omega arith) ])
   | inr some ↦ rw (ne_eqb _ _ some) (elim (cases_eq id bit) [
     | inl same ↦ (let at = this same in rw (eq-eqb _ _ same) (omega arith))
     | inr apart ↦ (let at = others apart in rw (ne_eqb _ _ apart) (omega arith))

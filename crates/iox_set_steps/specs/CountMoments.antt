@@ -59,7 +59,8 @@ module _ (site : CountSite) (words : List ℕ) (room : site.base + site.capacity
   ]
 
   -- the words stay words of 64 bits
-  pub count_words_stay : (program : CountProgram) → All (λ word. word < 2 ^ 64) words → All (λ word. word < 2 ^ 64) (words_after (count_access site program) words)
+  pub count_words_stay : (program : CountProgram) → All (λ word. word < 2 ^ 64) words
+      → All (λ word. word < 2 ^ 64) (words_after (count_access site program) words)
   count_words_stay AtRest bounded = bounded
   count_words_stay (Replies reply) bounded = bounded
   count_words_stay (Loads id) bounded = bounded
@@ -67,7 +68,8 @@ module _ (site : CountSite) (words : List ℕ) (room : site.base + site.capacity
     | inl hit ↦ rw (eq-eqb _ _ hit) (All-set (λ word. word < 2 ^ 64) words _ _ (omega arith) bounded)
     | inr miss ↦ rw (ne_eqb _ _ miss) bounded
   ]
-  count_words_stay (Takes id) bounded = All-set (λ word. word < 2 ^ 64) words _ _ (omega (arith, and_le_l (get_or words (place_of_count site id) 0) 0, seen_below (place_of_count site id) bounded)) bounded
+  count_words_stay (Takes id) bounded = All-set (λ word. word < 2 ^ 64) words _ _
+      (omega (arith, and_le_l (get_or words (place_of_count site id) 0) 0, seen_below (place_of_count site id) bounded)) bounded
 
   add_knows : (id seen : ℕ) → id < site.capacity → seen < 2 ^ 64 → CountsKnow site (program_of (adds_to id seen))
   add_knows id seen below small = elim (cases_eq seen max_count) [

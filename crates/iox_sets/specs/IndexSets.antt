@@ -1,5 +1,6 @@
 -- A set of indices, as its callers see it: the free ones in the order in which they are taken.
-use Rattle.std.specs.Prelude.{◌≡◌, ◌-◌, ◌^◌, ◌<◌, ◌==◌, ℕ, zero, suc, List, ◌∷◌, Bool, true, false, Option, Some, None, Contains, drop, if◌then◌else◌, length, nat_lt}
+use Rattle.std.specs.Prelude.{◌≡◌, ◌-◌, ◌^◌, ◌<◌, ◌==◌, ℕ, zero, suc, List, ◌∷◌, Bool, true, false, Option, Some}
+use Rattle.std.specs.Prelude.{None, Contains, drop, if◌then◌else◌, length, nat_lt}
 use Rattle.std.specs.List.{range_with_len}
 use Rattle.iox_sets.specs.declared.mpmc.unique_index_set_enums.ReleaseMode.{ReleaseMode}
 use Rattle.iox_sets.specs.declared.mpmc.unique_index_set_enums.ReleaseMode.TheVariants.{LockIfLastIndex, Default}

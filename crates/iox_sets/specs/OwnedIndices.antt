@@ -1,5 +1,6 @@
 -- A set of indices with their owners, as its callers see it.
-use Rattle.std.specs.Prelude.{◌≡◌, ◌+◌, ◌==◌, ℕ, List, [], ◌∷◌, Bool, true, false, Option, Some, None, ◌⊎◌, count_by, if◌then◌else◌, is_none, is_some, map, nat_lt, replicate, slice_index_or, slice_set}
+use Rattle.std.specs.Prelude.{◌≡◌, ◌+◌, ◌==◌, ℕ, List, [], ◌∷◌, Bool, true, false, Option, Some, None, ◌⊎◌, count_by}
+use Rattle.std.specs.Prelude.{if◌then◌else◌, is_none, is_some, map, nat_lt, replicate, slice_index_or, slice_set}
 use Rattle.iox_sets.specs.declared.mpmc.unique_index_set_enums.ReleaseMode.{ReleaseMode}
 use Rattle.iox_sets.specs.declared.mpmc.unique_index_set_enums.ReleaseState.{ReleaseState}
 use Rattle.iox_sets.specs.declared.mpmc.unique_index_set_enums.ReleaseState.TheVariants.{Locked, Unlocked}

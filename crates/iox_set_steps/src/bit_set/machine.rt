@@ -24,7 +24,8 @@ impl BitSetMachine {
     ghost use Rattle.std.specs.Prelude.{◌≡◌, ℕ, ◌+◌, ◌≤◌, length, take, IfOk, IfErr, OnOk, OnErr};
     ghost use Rattle.iox_set_steps.specs.Bits.{bit_words};
     ghost use Rattle.iox_set_steps.specs.BitPlays.{BitsHold};
-    ghost use Rattle.iox_set_steps.specs.BitMachines.{AllBitsEntered, AreClear, AreNewBits, BitsBegun, BitsStepped, IsBitBeginRefused, IsBitMoment, IsBitStepRefused, site_of};
+    ghost use Rattle.iox_set_steps.specs.BitMachines.{AllBitsEntered, AreClear, AreNewBits, BitsBegun, BitsStepped, IsBitBeginRefused};
+    ghost use Rattle.iox_set_steps.specs.BitMachines.{IsBitMoment, IsBitStepRefused, site_of};
     ghost use Rattle.iox_set_steps.specs.Sites.{StayAtSites};
 
     /// A machine of this many parties at the bits of a site, none of which is set.

@@ -23,7 +23,8 @@ impl Model for CountingBitSetMachine {
 impl CountingBitSetMachine {
     ghost use Rattle.std.specs.Prelude.{◌≡◌, ℕ, ◌+◌, ◌≤◌, length, take, IfOk, IfErr, OnOk, OnErr};
     ghost use Rattle.iox_set_steps.specs.CountPlays.{CountsHold};
-    ghost use Rattle.iox_set_steps.specs.CountMachines.{AllCountsEntered, AreZero, AreNewCounts, CountsBegun, CountsStepped, IsCountBeginRefused, IsCountMoment, IsCountStepRefused, count_site_of};
+    ghost use Rattle.iox_set_steps.specs.CountMachines.{AllCountsEntered, AreZero, AreNewCounts, CountsBegun, CountsStepped, IsCountBeginRefused};
+    ghost use Rattle.iox_set_steps.specs.CountMachines.{IsCountMoment, IsCountStepRefused, count_site_of};
     ghost use Rattle.iox_set_steps.specs.Sites.{StayAtSites};
 
     /// A machine of this many parties at the counts of a site, all of which are 0.

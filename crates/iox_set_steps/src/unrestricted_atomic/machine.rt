@@ -27,7 +27,8 @@ impl<const N: usize> Model for AtomicMachine<N> {
 impl<const N: usize> AtomicMachine<N> {
     ghost use Rattle.std.specs.Prelude.{◌≡◌, ℕ, ◌+◌, ◌^◌, ◌<◌, ◌≤◌, length, take, IfOk, IfErr, OnOk, OnErr};
     ghost use Rattle.iox_set_steps.specs.AtomicPlays.{AtomicsHold};
-    ghost use Rattle.iox_set_steps.specs.AtomicMachines.{AllAtomicsEntered, AtomicsBegun, AtomicsStepped, IsAtomicBeginRefused, IsAtomicMoment, IsAtomicStepRefused, IsNewAtomic, MayCall, RunsOn, base_of};
+    ghost use Rattle.iox_set_steps.specs.AtomicMachines.{AllAtomicsEntered, AtomicsBegun, AtomicsStepped, IsAtomicBeginRefused, IsAtomicMoment};
+    ghost use Rattle.iox_set_steps.specs.AtomicMachines.{IsAtomicStepRefused, IsNewAtomic, MayCall, RunsOn, base_of};
     ghost use Rattle.iox_set_steps.specs.Sites.{StayAtSites};
 
     /// A machine of this many parties at the value whose version stands at `base`, and behind it its two

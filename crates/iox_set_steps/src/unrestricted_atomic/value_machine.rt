@@ -34,7 +34,8 @@ impl<T: Words, const N: usize> ValueMachine<T, N> {
     ghost use Rattle.std.specs.Prelude.{◌≡◌, ℕ, ◌+◌, ◌^◌, ◌<◌, ◌≤◌, Err, IfErr, IfOk, OnErr, OnOk, length, slice_get, take};
     ghost use Rattle.iox_steps.specs.declared.error.MachineError.TheVariants.{UnknownParty, WantOfMemory};
     ghost use Rattle.iox_set_steps.specs.AtomicMachines.{IsAtomicStepRefused};
-    ghost use Rattle.iox_set_steps.specs.TypedValues.{AllTypedEntered, IsTypedBeginRefused, IsTypedMoment, MayCallTyped, TypedBegun, TypedEntered, TypedRunsOn, TypedStepped};
+    ghost use Rattle.iox_set_steps.specs.TypedValues.{AllTypedEntered, IsTypedBeginRefused, IsTypedMoment, MayCallTyped, TypedBegun};
+    ghost use Rattle.iox_set_steps.specs.TypedValues.{TypedEntered, TypedRunsOn, TypedStepped};
     ghost use Rattle.iox_set_steps.specs.TypedWords.{IsNewValue};
 
     /// A machine of this many parties at a value, whose version stands at `base`, and behind it its

@@ -3,7 +3,8 @@ ghost use Rattle.std.specs.Prelude.{◌≡◌, ◌<◌, ◌+◌, IfErr, IfOk, Is
 ghost use Rattle.iox_sets.specs.declared.mpmc.unique_index_set_enums.UniqueIndexSetNewError.TheVariants.{WantOfMemory};
 ghost use Rattle.iox_sets.specs.Refusals.{IsRefusal};
 ghost use Rattle.iox_sets.specs.IndexSets.{capacity_refusal, is_locked, state_after};
-ghost use Rattle.iox_sets.specs.OwnedIndices.{FindsFrom, Recovers, TakesFor, acquire_refusal, held_count, is_owned_by, new_owned_indices, owner_of, state_after_recovery, with_owner};
+ghost use Rattle.iox_sets.specs.OwnedIndices.{FindsFrom, Recovers, TakesFor, acquire_refusal, held_count, is_owned_by};
+ghost use Rattle.iox_sets.specs.OwnedIndices.{new_owned_indices, owner_of, state_after_recovery, with_owner};
 
 use crate::mpmc::bit_set::BitSet;
 use crate::mpmc::unique_index_set::MAX_CAPACITY;

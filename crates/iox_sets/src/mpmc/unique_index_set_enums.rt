@@ -1,5 +1,5 @@
 //! What the sets of indices answer.
-ghost use Rattle.std.specs.Prelude.{◌≡◌};
+ghost use Rattle.std.specs.Prelude.{◌≡◌, Some};
 ghost use Rattle.iox_sets.specs.IndexSets.{is_locked, state_after};
 ghost use Rattle.iox_sets.specs.declared.mpmc.unique_index_set_enums.UniqueIndexSetNewError.TheVariants.{WantOfMemory};
 
@@ -59,8 +59,16 @@ pub enum UniqueIndexSetAcquireFailure {
 }
 
 impl fmt::Display for UniqueIndexSetAcquireFailure {
+    ghost use Rattle.iox_sets.specs.Refusals.{acquire_failure_text};
+
+    ghost output = { λ it. Some (acquire_failure_text it) };
+
     fn fmt<W: fmt::Write>(&self, f: &mut fmt::Formatter<W>) -> fmt::Result {
-        write!(f, "UniqueIndexSetAcquireFailure::{self:?}")
+        f.write_str(match self {
+            UniqueIndexSetAcquireFailure::OutOfIndices =>
+                "UniqueIndexSetAcquireFailure::OutOfIndices",
+            UniqueIndexSetAcquireFailure::IsLocked => "UniqueIndexSetAcquireFailure::IsLocked",
+        })
     }
 }
 
@@ -79,8 +87,17 @@ pub enum UniqueIndexSetNewError {
 }
 
 impl fmt::Display for UniqueIndexSetNewError {
+    ghost use Rattle.iox_sets.specs.Refusals.{new_error_text};
+
+    ghost output = { λ it. Some (new_error_text it) };
+
     fn fmt<W: fmt::Write>(&self, f: &mut fmt::Formatter<W>) -> fmt::Result {
-        write!(f, "UniqueIndexSetNewError::{self:?}")
+        f.write_str(match self {
+            UniqueIndexSetNewError::CapacityIsZero => "UniqueIndexSetNewError::CapacityIsZero",
+            UniqueIndexSetNewError::CapacityTooLarge => "UniqueIndexSetNewError::CapacityTooLarge",
+            UniqueIndexSetNewError::ExceedsCapacity => "UniqueIndexSetNewError::ExceedsCapacity",
+            UniqueIndexSetNewError::WantOfMemory => "UniqueIndexSetNewError::WantOfMemory",
+        })
     }
 }
 

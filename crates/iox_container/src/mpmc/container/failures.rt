@@ -1,5 +1,5 @@
 //! Why a container refuses a call.
-ghost use Rattle.std.specs.Prelude.{◌≡◌};
+ghost use Rattle.std.specs.Prelude.{◌≡◌, Some};
 ghost use Rattle.iox_container.specs.Failures.{failure_of};
 
 use iox_sets::mpmc::unique_index_set_enums::UniqueIndexSetAcquireFailure;
@@ -17,8 +17,15 @@ pub enum ContainerAddFailure {
 }
 
 impl fmt::Display for ContainerAddFailure {
+    ghost use Rattle.iox_container.specs.Failures.{add_failure_text};
+
+    ghost output = { λ it. Some (add_failure_text it) };
+
     fn fmt<W: fmt::Write>(&self, f: &mut fmt::Formatter<W>) -> fmt::Result {
-        write!(f, "ContainerAddFailure::{self:?}")
+        f.write_str(match self {
+            ContainerAddFailure::OutOfSpace => "ContainerAddFailure::OutOfSpace",
+            ContainerAddFailure::IsLocked => "ContainerAddFailure::IsLocked",
+        })
     }
 }
 
@@ -43,8 +50,15 @@ pub enum ContainerRemoveError {
 }
 
 impl fmt::Display for ContainerRemoveError {
+    ghost use Rattle.iox_container.specs.Failures.{remove_error_text};
+
+    ghost output = { λ it. Some (remove_error_text it) };
+
     fn fmt<W: fmt::Write>(&self, f: &mut fmt::Formatter<W>) -> fmt::Result {
-        write!(f, "ContainerRemoveError::{self:?}")
+        f.write_str(match self {
+            ContainerRemoveError::ContainerHandleNotOwnedByContainer =>
+                "ContainerRemoveError::ContainerHandleNotOwnedByContainer",
+        })
     }
 }
 

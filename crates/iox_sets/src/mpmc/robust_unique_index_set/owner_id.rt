@@ -1,5 +1,5 @@
 //! Who holds an index.
-ghost use Rattle.std.specs.Prelude.{◌≡◌, ◌≢◌, ◌-◌, ◌^◌, IfErr, IfOk, OnOk};
+ghost use Rattle.std.specs.Prelude.{◌≡◌, ◌≢◌, ◌-◌, ◌^◌, IfErr, IfOk, OnOk, Some};
 ghost use Rattle.iox_sets.specs.declared.mpmc.robust_unique_index_set.owner_id.OwnerIdNewError.TheVariants.{InvalidValue};
 
 use std::error::Error;
@@ -45,8 +45,14 @@ pub enum OwnerIdNewError {
 }
 
 impl fmt::Display for OwnerIdNewError {
+    ghost use Rattle.iox_sets.specs.Refusals.{owner_id_error_text};
+
+    ghost output = { λ it. Some (owner_id_error_text it) };
+
     fn fmt<W: fmt::Write>(&self, f: &mut fmt::Formatter<W>) -> fmt::Result {
-        write!(f, "OwnerIdNewError::{self:?}")
+        f.write_str(match self {
+            OwnerIdNewError::InvalidValue => "OwnerIdNewError::InvalidValue",
+        })
     }
 }
 

@@ -2,7 +2,8 @@
 ghost use Rattle.std.specs.Prelude.{◌≡◌, ◌≤◌, ◌-◌, IfErr, IfOk, IsTrue, None, OnErr, OnOk, Some, false, length};
 ghost use Rattle.iox_sets.specs.declared.mpmc.unique_index_set_enums.UniqueIndexSetNewError.TheVariants.{WantOfMemory};
 ghost use Rattle.iox_sets.specs.Refusals.{IsRefusal};
-ghost use Rattle.iox_sets.specs.IndexSets.{IsHeld, Takes, acquire_refusal, capacity_refusal, held_count, new_index_set, reduced_refusal, state_after, with_released};
+ghost use Rattle.iox_sets.specs.IndexSets.{IsHeld, Takes, acquire_refusal, capacity_refusal, held_count, new_index_set};
+ghost use Rattle.iox_sets.specs.IndexSets.{reduced_refusal, state_after, with_released};
 
 use super::{MAX_CAPACITY, UniqueIndexSet};
 use crate::mpmc::unique_index_set_enums::{
