@@ -1,9 +1,9 @@
 //! A bounded queue in a ring of cells, on which the queues stand.
-ghost use Rattle.std.specs.Prelude.{◌≡◌, ◌<◌, ◌≤◌, ◌↔◌, [], IsTrue, length};
+ghost use Rattle.std.specs.Prelude.{◌≡◌, ◌<◌, ◌≤◌, ◌↔◌, [], IfNone, IsTrue, OnSome, length};
 ghost use Rattle.std.specs.Bool.{OnFalse, OnTrue};
-ghost use Rattle.iox_queues.specs.BoundedQueues.{HasRoom, empty_queue, first, handed_back, with_overflow, with_pushed, without_first};
+ghost use Rattle.iox_queues.specs.BoundedQueues.{HasRoom, empty_queue, first, handed_back, is_full, is_spent, with_overflow, with_pushed, without_first};
 
-use crate::places::{place_after, place_ahead};
+use crate::places::Places;
 use std::marker::Model;
 
 #[cfg(test)]
@@ -13,23 +13,19 @@ pub(crate) mod tests;
 #[derive(Debug, Drop)]
 pub(crate) struct Ring<T> {
     cells: Vec<T>,
-    len: usize,
-    // The cell of the value that waits longest. It stands between the two counts, so that a push adds
-    // to each of them in its place: two in a row are loaded, added to and stored as one pair.
-    oldest: usize,
-    pushed: u64,
+    places: Places,
 }
 
 impl<T> Model for Ring<T> {
-    ghost use Rattle.std.specs.Prelude.{◌-◌, ◌≤◌, length};
+    ghost use Rattle.std.specs.Prelude.{length};
     ghost use Rattle.iox_queues.specs.BoundedQueues.{BoundedQueueOf};
-    ghost use Rattle.iox_queues.specs.Rings.{queue_in_ring};
+    ghost use Rattle.iox_queues.specs.Rings.{AreWithin, queue_at};
 
     ghost Value = { BoundedQueueOf T };
 
-    ghost view = { λ r. queue_in_ring r.cells.items r.oldest r.len r.pushed };
+    ghost view = { λ r. queue_at r.cells.items r.places };
 
-    ghost invariant = { λ r. (r.oldest ≤ length r.cells.items - 1) × (r.len ≤ length r.cells.items) };
+    ghost invariant = { λ r. AreWithin (length r.cells.items) r.places };
 }
 
 impl<T: Copy> Ring<T> {
@@ -39,9 +35,7 @@ impl<T: Copy> Ring<T> {
     {
         Ring {
             cells,
-            oldest: 0,
-            len: 0,
-            pushed: 0,
+            places: Places::new(0),
         }
     }
 
@@ -53,14 +47,12 @@ impl<T: Copy> Ring<T> {
         ensures unchanged { OnFalse result (self.new ≡ self.old) }
         ensures within { length self.new.waiting ≤ self.new.capacity }
     {
-        let capacity = self.cells.len();
-        if self.len >= capacity || self.pushed == u64::MAX {
+        let places = &mut self.places;
+        if places.free >= places.free_end && !places.find_free(self.cells.len()) {
             return false;
         }
-        let free = place_ahead(self.oldest, self.len, capacity);
-        self.cells[free] = value;
-        self.len += 1;
-        self.pushed += 1;
+        self.cells[places.free] = value;
+        places.free += 1;
         true
     }
 
@@ -70,12 +62,13 @@ impl<T: Copy> Ring<T> {
         ensures oldest { result ≡ first self.old.waiting }
         ensures left { self.new ≡ without_first self.old }
     {
-        if self.len == 0 {
+        let places = &mut self.places;
+        if places.oldest >= places.filled_end && !places.find_filled(self.cells.len()) {
             return None;
         }
-        let value = self.cells[self.oldest];
-        self.oldest = place_after(self.oldest, self.cells.len());
-        self.len -= 1;
+        let value = self.cells[places.oldest];
+        places.oldest += 1;
+        places.full_end = 0;
         Some(value)
     }
 
@@ -88,19 +81,57 @@ impl<T: Copy> Ring<T> {
         ensures left { self.new ≡ with_overflow self.old value }
         ensures within { length self.new.waiting ≤ self.new.capacity }
     {
-        let capacity = self.cells.len();
-        if self.len < capacity {
-            return if self.push(value) { None } else { Some(value) };
+        if let Some(oldest) = self.replace(value) {
+            return Some(oldest);
         }
-        if self.pushed == u64::MAX {
+        if self.push(value) {
+            return None;
+        }
+        if self.is_spent() {
             return Some(value);
         }
-        let place = self.oldest;
+        let oldest = self.pop();
+        let _ = self.push(value);
+        self.find_full();
+        oldest
+    }
+
+    /// Puts a value into the cell of the oldest, where the queue is known to be full, and hands the
+    /// oldest back; `None`, and nothing changes, where that is not known.
+    #[inline]
+    fn replace(&mut self, value: T) -> Option<T>
+        ensures full { OnSome result (IsTrue (is_full self.old)) }
+        ensures handed_back { OnSome result (result ≡ handed_back self.old value) }
+        ensures left { OnSome result (self.new ≡ with_overflow self.old value) }
+        ensures unchanged { IfNone result (self.new ≡ self.old) }
+        ensures within { length self.new.waiting ≤ self.new.capacity }
+    {
+        let places = &mut self.places;
+        if places.free >= places.full_end {
+            return None;
+        }
+        let place = places.oldest;
         let oldest = self.cells[place];
         self.cells[place] = value;
-        self.oldest = place_after(place, capacity);
-        self.pushed += 1;
+        places.oldest = place + 1;
+        places.free += 1;
         Some(oldest)
+    }
+
+    /// Looks how many more calls of `replace` find the queue full.
+    #[inline]
+    fn find_full(&mut self)
+        ensures { self.new ≡ self.old }
+    {
+        self.places.find_full(self.cells.len());
+    }
+
+    /// Whether the last position, 2^64 - 1, is reached, so that nothing more is pushed.
+    #[inline]
+    fn is_spent(&self) -> bool
+        ensures { result ≡ is_spent self.now }
+    {
+        self.places.is_spent(self.cells.len())
     }
 
     /// How many values may wait at once.
@@ -117,7 +148,7 @@ impl<T: Copy> Ring<T> {
         ensures len { result ≡ length self.now.waiting }
         ensures within { result ≤ self.now.capacity }
     {
-        self.len
+        self.places.count(self.cells.len())
     }
 
     /// Whether nothing waits.
@@ -125,7 +156,7 @@ impl<T: Copy> Ring<T> {
     pub(crate) fn is_empty(&self) -> bool
         ensures { IsTrue result ↔ (self.now.waiting ≡ []) }
     {
-        self.len == 0
+        self.len() == 0
     }
 
     /// Whether as many values wait as may.
@@ -134,6 +165,6 @@ impl<T: Copy> Ring<T> {
         ensures full { IsTrue result ↔ (length self.now.waiting ≡ self.now.capacity) }
         ensures within { length self.now.waiting ≤ self.now.capacity }
     {
-        self.len == self.cells.len()
+        self.len() == self.cells.len()
     }
 }

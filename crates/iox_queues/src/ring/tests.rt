@@ -1,6 +1,7 @@
 ghost use Rattle.std.specs.Prelude.{◌≡◌, [], length};
 
 use super::Ring;
+use crate::places::Places;
 
 /// An empty queue in the cells, into which `pushed` values were pushed already.
 pub(crate) fn ring_after<T: Copy>(cells: Vec<T>, pushed: u64) -> Ring<T>
@@ -8,8 +9,6 @@ pub(crate) fn ring_after<T: Copy>(cells: Vec<T>, pushed: u64) -> Ring<T>
 {
     Ring {
         cells,
-        oldest: 0,
-        len: 0,
-        pushed,
+        places: Places::new(pushed),
     }
 }
