@@ -1,4 +1,5 @@
--- In reading order: the states that are left, what is answered there, and what holds there.
+-- In reading order: the states that are left and what runs made, what is answered, what holds there.
 pub mod Lefts
+pub mod Traces
 pub mod Answering
 pub mod Resting
