@@ -19,21 +19,21 @@ gives_nothing [] = tt
 gives_nothing (y ∷ ys) = tt
 
 -- one more in front is left out
-leaves_out : (y : ℕ) (ys xs : List ℕ) → Gives ys xs → Gives (y ∷ ys) xs
+pub leaves_out : (y : ℕ) (ys xs : List ℕ) → Gives ys xs → Gives (y ∷ ys) xs
 leaves_out y ys [] p = tt
 leaves_out y ys (x ∷ xs) p = inr p
 
-gives_itself : (xs : List ℕ) → Gives (xs ++ []) ([] ++ xs)
+pub gives_itself : (xs : List ℕ) → Gives (xs ++ []) ([] ++ xs)
 gives_itself [] = tt
 gives_itself (x ∷ xs) = inl (refl, gives_itself xs)
 
 -- from what waits before a beat, and what is put on from then on, come what is taken and what waits in the end
-abbrev Comes : World → Way → List ℕ → List ℕ → Type 0
-Comes w y later taken = Gives (serials_of (w.state.waiting y) ++ later) taken
+abbrev pub Comes : State → Way → List ℕ → List ℕ → Type 0
+Comes s y later taken = Gives (serials_of (s.waiting y) ++ later) taken
 
--- a beat that leaves the way as it is
-unchanged : (w u : World) (y : Way) (later taken : List ℕ) → u.state.waiting y ≡ w.state.waiting y → Comes u y later taken → Comes w y later taken
-unchanged w u y later taken e p = subst (λ ms. Gives (serials_of ms ++ later) taken) e p
+-- what leaves the way as it is
+pub unchanged : (s t : State) (y : Way) (later taken : List ℕ) → t.waiting y ≡ s.waiting y → Comes t y later taken → Comes s y later taken
+unchanged s t y later taken e p = subst (λ ms. Gives (serials_of ms ++ later) taken) e p
 
 serials-append : (xs : List Message) (m : Message) → serials_of (xs ++ m ∷ []) ≡ serials_of xs ++ m.serial ∷ []
 serials-append [] m = refl
@@ -74,9 +74,8 @@ evicted_comes xs zs true later taken p same = subst (λ ms. Gives (serials_of ms
 evicted_comes xs zs false later taken p same = p
 
 -- what one moment takes and puts
-moment_comes : (s : State) (n : ℕ) (m : Moment) (y : Way) (later taken : List ℕ) → Holds s m
-    → Gives (serials_of ((moved s m).waiting y) ++ later) taken
-    → Gives (serials_of (s.waiting y) ++ (put_on y (Makes n m) ++ later)) (taken_from y (Makes n m) ++ taken)
+pub moment_comes : (s : State) (n : ℕ) (m : Moment) (y : Way) (later taken : List ℕ) → Holds s m
+    → Comes (moved s m) y later taken → Comes s y (put_on y (Makes n m) ++ later) (taken_from y (Makes n m) ++ taken)
 moment_comes s n (Deliver x m) y later taken h p =
     delivered_comes (s.waiting x) (s.waiting y) m (same_way y x) later taken p (λ e. ap s.waiting (sym (same_way-true y x e)))
 moment_comes s n (Take x m) y later taken h p =
@@ -86,26 +85,26 @@ moment_comes s n (Evict x) y later taken h p =
 moment_comes s n m y later taken h p = p
 
 beat_comes : (w u : World) (b : Beat) (y : Way) (later taken : List ℕ) → IsBeat w b u → w.state.fixed.on_wire ≡ true
-    → Comes u y later taken → Comes w y (put_on y b ++ later) (taken_from y b ++ taken)
+    → Comes u.state y later taken → Comes w.state y (put_on y b ++ later) (taken_from y b ++ taken)
 beat_comes w u (Begins node call c) y later taken beat e p =
-    unchanged w u y later taken (ap (λ (v : World). v.state.waiting y) beat.2) p
+    unchanged w.state u.state y later taken (ap (λ (v : World). v.state.waiting y) beat.2) p
 beat_comes w u (Makes node m) y later taken beat e p =
     moment_comes w.state node m y later taken beat.3
-    (subst (λ (v : World). Gives (serials_of (v.state.waiting y) ++ later) taken) beat.5 p)
+    (subst (λ (v : World). Comes v.state y later taken) beat.5 p)
 beat_comes w u (Ends node reply payload) y later taken beat e p =
-    unchanged w u y later taken
+    unchanged w.state u.state y later taken
     (ap (λ (v : World). v.state.waiting y) beat.7 ∙ ap (λ (f : Way → List Message). f y) (settled_same w.state node payload beat.3 e).waiting) p
 beat_comes w u (Dies node) y later taken beat e p =
-    unchanged w u y later taken (ap (λ (v : World). v.state.waiting y) beat.1) p
+    unchanged w.state u.state y later taken (ap (λ (v : World). v.state.waiting y) beat.1) p
 
 comes_in_order : (w v : World) (bs : List Beat) (y : Way) → IsWeave w bs v → w.state.fixed.on_wire ≡ true
-    → Comes w y (all_put_on y bs) (all_taken_from y bs ++ serials_of (v.state.waiting y))
+    → Comes w.state y (all_put_on y bs) (all_taken_from y bs ++ serials_of (v.state.waiting y))
 comes_in_order w v [] y weave e =
-    subst (λ (u : World). Comes w y [] ([] ++ serials_of (u.state.waiting y))) (sym weave) (gives_itself (serials_of (w.state.waiting y)))
+    subst (λ (u : World). Comes w.state y [] ([] ++ serials_of (u.state.waiting y))) (sym weave) (gives_itself (serials_of (w.state.waiting y)))
 comes_in_order w v (b ∷ bs) y weave e =
-    let rest : Comes weave.0 y (all_put_on y bs) (all_taken_from y bs ++ serials_of (v.state.waiting y))
+    let rest : Comes weave.0.state y (all_put_on y bs) (all_taken_from y bs ++ serials_of (v.state.waiting y))
     = comes_in_order weave.0 v bs y weave.2 (beat-wire w weave.0 b weave.1 e) in
-    subst (λ ks. Comes w y (put_on y b ++ all_put_on y bs) ks) (sym (append_assoc (taken_from y b) (all_taken_from y bs) (serials_of (v.state.waiting y))))
+    subst (λ ks. Comes w.state y (put_on y b ++ all_put_on y bs) ks) (sym (append_assoc (taken_from y b) (all_taken_from y bs) (serials_of (v.state.waiting y))))
     (beat_comes w weave.0 b y (all_put_on y bs) (all_taken_from y bs ++ serials_of (v.state.waiting y)) weave.1 e rest)
 
 pub in_order : InOrder

@@ -16,3 +16,5 @@ pub mod Cleanups
 pub mod Values
 pub mod Answered
 pub mod Bounded
+pub mod Along
+pub mod InOrder

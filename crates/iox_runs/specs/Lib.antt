@@ -1,5 +1,6 @@
--- In reading order: the states that are left and what runs made, what is answered, what holds there.
+-- In reading order: the states that are left, what runs made, what is answered, and what holds.
 pub mod Lefts
 pub mod Traces
 pub mod Answering
 pub mod Resting
+pub mod TraceLaws

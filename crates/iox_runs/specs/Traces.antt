@@ -20,8 +20,8 @@ use Rattle.iox_runs.specs.Lefts.{IsLeft}
 -- ---- calls
 
 -- a refusal makes nothing
-abbrev pub unless_refused : (r : Option Refusal) (s : State) (reply : Reply) (t : State) (P : Type 0)
-    → (P → List Beat) → UnlessRefused r s reply t P → List Beat
+abbrev pub unless_refused : (r : Option Refusal) (s : State) (reply : Reply) (t : State)
+    → (P : Type 0) → (P → List Beat) → UnlessRefused r s reply t P → List Beat
 unless_refused (Some r) s reply t P beats refused = []
 unless_refused None s reply t P beats p = beats p
 

@@ -4,6 +4,7 @@
 
 ghost use Rattle.iox_runs.specs.Answering.{EachCallEnds, EachCommandIsAnswered, EachHistoryGoesOn, EachPortCommandIsAnswered, EachRunGoesOn, SomethingMayBeChosen};
 ghost use Rattle.iox_runs.specs.Resting.{BorrowsRestWithin, QueuesOfTheGoneRestWithin, QueuesRestWithin, ValuesHaveOwnNumbers};
+ghost use Rattle.iox_runs.specs.TraceLaws.{InOrderOverRuns};
 
 /// A call finds an open lane, with memory or without. Whatever it finds, and whatever moments it
 /// made, some further ones lead it to an end.
@@ -34,4 +35,9 @@ pub fn borrows_rest_within()
 /// What a node has, ports and handles, has numbers of its own.
 pub fn values_have_own_numbers()
     ensures { ValuesHaveOwnNumbers }
+{}
+
+/// What a run received on a way was delivered there, in that order.
+pub fn messages_come_in_order()
+    ensures { InOrderOverRuns }
 {}
