@@ -17,12 +17,12 @@ use Rattle.iox_model.proofs.CallLaws.{Keeps, Has, along}
 use Rattle.iox_model.proofs.WholeLemmas.{put_at-here, some-is}
 use Rattle.iox_model.proofs.PlayedRuns.{split}
 
-abbrev HasDelivered : Doing → Type 0
+abbrev pub HasDelivered : Doing → Type 0
 HasDelivered (Delivering x last left count) = Unit {0}
 HasDelivered (Evicted x w left count) = Unit {0}
 HasDelivered d = ⊥
 
-goes_on_delivering : (node : ℕ) → Keeps node HasDelivered
+pub goes_on_delivering : (node : ℕ) → Keeps node HasDelivered
 goes_on_delivering node s (Delivering x last left count) (Deliver w m) p h c = tt
 goes_on_delivering node s (Delivering x last left count) (Evict w) p h c = tt
 goes_on_delivering node s (Delivering x last left count) m p h c = absurd c
@@ -30,7 +30,7 @@ goes_on_delivering node s (Evicted x v left count) (GetBack w k) p h c = tt
 goes_on_delivering node s (Evicted x v left count) m p h c = absurd c
 goes_on_delivering node s d m p h c = absurd p
 
-only_sends_deliver : (s : State) (node : ℕ) (d : Doing) (w : Way) (m : Message) → (next s node d (Deliver w m)).condition
+pub only_sends_deliver : (s : State) (node : ℕ) (d : Doing) (w : Way) (m : Message) → (next s node d (Deliver w m)).condition
     → HasDelivered (next s node d (Deliver w m)).after
 only_sends_deliver s node (Delivering x last left count) w m c = tt
 only_sends_deliver s node d w m c = absurd c
@@ -60,7 +60,7 @@ delivered_goes_on node w v (b ∷ bs) weave goes some =
     now_or_later true e any f g = f e
     now_or_later false e any f g = g any
 
-sends_in_the_end : (s : State) (d : Doing) (o : Outcome) → HasDelivered d → ends s d ≡ Some o → is_refused o ≡ false
+pub sends_in_the_end : (s : State) (d : Doing) (o : Outcome) → HasDelivered d → ends s d ≡ Some o → is_refused o ≡ false
 sends_in_the_end s (Delivering x last [] count) o p e = all_sent (is_over s last) e
   where
     all_sent : (b : Bool) → (if b then None else Some (Sends x.loan x.copied count)) ≡ Some o → is_refused o ≡ false

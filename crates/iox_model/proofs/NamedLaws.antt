@@ -34,7 +34,7 @@ abbrev pub ShowsNamed : Way → Message → Moment → Type 0
 ShowsNamed y m a = (shown : RequestState) × (a ≡ Look (state_of_request y m) shown) × IsTrue (names shown m.request)
 
 -- the call got a server a request by a look that shows it named
-abbrev ByLook : Moment → Doing → Type 0
+abbrev pub ByLook : Moment → Doing → Type 0
 ByLook a (Ended (Receives x y m)) = is_client x.role ≡ false → ShowsNamed y m a
 ByLook a d = Unit {0}
 
@@ -110,7 +110,7 @@ seeking_by_look : (a : Moment) (left : List Way) → ByLook a (seeking left)
 seeking_by_look a [] = tt
 seeking_by_look a (w ∷ left) = tt
 
-next_by_look : (s : State) (node : ℕ) (d : Doing) (a : Moment) → s.fixed.limits.fire_and_forget ≡ false → (next s node d a).condition
+pub next_by_look : (s : State) (node : ℕ) (d : Doing) (a : Moment) → s.fixed.limits.fire_and_forget ≡ false → (next s node d a).condition
     → ByLook a (next s node d a).after
 next_by_look s node (Loaning copies h left) (GetBack w k) off c = tt
 next_by_look s node (Loaning copies h left) (SeesNoneBack w) off c = loaning_by_look (SeesNoneBack w) s copies h (without_way w left)

@@ -15,7 +15,7 @@ use Rattle.iox_reachable.specs.Waits.{OnlyOverflowEvicts}
 use Rattle.iox_reachable.proofs.Sound.{FitsCall, last_of}
 use Rattle.iox_reachable.proofs.Reached.{reachable_sound}
 
-over_overflows : (s : State) (node : ℕ) (v : Way) (o : Option Doing) → FitsCall s node o → is_last v (last_of o) ≡ true → overflows_on s.fixed v ≡ true
+pub over_overflows : (s : State) (node : ℕ) (v : Way) (o : Option Doing) → FitsCall s node o → is_last v (last_of o) ≡ true → overflows_on s.fixed v ≡ true
 over_overflows s node v None p e = absurd (true≢false (sym e))
 over_overflows s node v (Some (Delivering x None left count)) p e = absurd (true≢false (sym e))
 over_overflows s node v (Some (Delivering x (Some u) left count)) p e =

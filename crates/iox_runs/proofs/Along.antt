@@ -40,18 +40,23 @@ pub record IsAlong (R : Relates) : Type 0 where
       → R s (beats_of_done s node call reply t done) t
 
 -- refused, nothing changes
-unless_along : (R : Relates) → ((s : State) → R s [] s) → (q : Option Refusal) (s : State) (reply : Reply) (t : State) (P : Type 0)
+pub unless_along : (R : Relates) → ((s : State) → R s [] s) → (q : Option Refusal) (s : State) (reply : Reply) (t : State) (P : Type 0)
     (beats : P → List Beat) → (q ≡ None → (p : P) → R s (beats p) t) → (u : UnlessRefused q s reply t P) → R s (unless_refused q s reply t P beats u) t
 unless_along R none (Some x) s reply t P beats f u = subst (R s []) (sym u.1) (none s)
 unless_along R none None s reply t P beats f u = f refl u
 
+pub whole_along : (R : Relates) → ((s : State) → R s [] s) → (s : State) (node : ℕ) (call : Call) (reply : Reply) (t : State)
+    → (misnamed s.fixed node call ≡ None → (done : IsDone s node call reply t) → R s (beats_of_done s node call reply t done) t)
+    → (c : IsWholeCall s node call reply t) → R s (beats_of_call s node call reply t c) t
+whole_along R none s node call reply t f =
+    let P : Type 0 = IsDone s node call reply t in
+    unless_along R none (misnamed s.fixed node call) s reply t (UnlessRefused (spent s.fixed call) s reply t P)
+    (unless_refused (spent s.fixed call) s reply t P (beats_of_done s node call reply t))
+    (λ named. unless_along R none (spent s.fixed call) s reply t P (beats_of_done s node call reply t) (λ u. f named))
+
 call_along : (R : Relates) → IsAlong R → (s : State) (node : ℕ) (call : Call) (reply : Reply) (t : State)
     → (c : IsWholeCall s node call reply t) → R s (beats_of_call s node call reply t c) t
-call_along R a s node call reply t =
-    let P : Type 0 = IsDone s node call reply t in
-    unless_along R a.none (misnamed s.fixed node call) s reply t (UnlessRefused (spent s.fixed call) s reply t P)
-    (unless_refused (spent s.fixed call) s reply t P (beats_of_done s node call reply t))
-    (λ named. unless_along R a.none (spent s.fixed call) s reply t P (beats_of_done s node call reply t) (λ u. a.call s node call reply t named))
+call_along R a s node call reply t = whole_along R a.none s node call reply t (a.call s node call reply t)
 
 port_command_along : (R : Relates) → IsAlong R → (s : State) (node : ℕ) (c : PortCommand) (reply : Reply) (t : State)
     → (p : IsPortCommand s node c reply t) → R s (beats_of_port_command s node c reply t p) t

@@ -74,7 +74,7 @@ unused_moved s node d m r p c v late none = none
 own_ports : (f : Fixed) → Rests f → HasOwnPorts f
 own_ports f r = distinct-no_repeats (map (λ (p : Port). p.number) f.ports) (r.numbered).0
 
-goes_moved : (s : State) (node : ℕ) (d : Doing) (m : Moment) → Goes s node d → Holds s m → (next s node d m).condition
+pub goes_moved : (s : State) (node : ℕ) (d : Doing) (m : Moment) → Goes s node d → Holds s m → (next s node d m).condition
     → Goes (moved s m) node (next s node d m).after
 goes_moved s node d m g h c =
     let same : (moved s m).fixed ≡ s.fixed = moved-fixed s m in

@@ -63,7 +63,7 @@ port_named f node n p r among is held =
     (subst (λ k. find (λ q. q.number == k) f.ports ≡ Some p) is (find-own f.ports p (distinct-no_repeats (map (λ q. q.number) f.ports) (r.numbered).0) among))
     ∙ ap (λ (b : Bool). if b then Some (ThePort p) else None) held
 
-handle_named : (f : Fixed) (node n : ℕ) (h : Handle) → Rests f → IsAmong h (f.handles node) → h.number ≡ n → subject f node n ≡ Some (TheHandle h)
+pub handle_named : (f : Fixed) (node n : ℕ) (h : Handle) → Rests f → IsAmong h (f.handles node) → h.number ≡ n → subject f node n ≡ Some (TheHandle h)
 handle_named f node n h r among is =
     ap₂ port_or_handle
     (none_at n f.ports (subst (λ k. any_at k f.ports ≡ false) is ((r.handles node).each h among).no_port))

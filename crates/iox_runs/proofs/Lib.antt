@@ -18,3 +18,6 @@ pub mod Answered
 pub mod Bounded
 pub mod Along
 pub mod InOrder
+pub mod Refusals
+pub mod Evicting
+pub mod Received

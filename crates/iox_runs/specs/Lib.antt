@@ -4,3 +4,4 @@ pub mod Traces
 pub mod Answering
 pub mod Resting
 pub mod TraceLaws
+pub mod Receiving

@@ -1,16 +1,53 @@
--- In order: what runs took from a way they put on it, in that order.
-use Rattle.std.specs.Prelude.{◌++◌}
+-- Laws of traces: what a run delivered, took and evicted.
+use Rattle.std.specs.Prelude.{◌≡◌, ℕ, Bool, false, [], ◌++◌, IsTrue}
+use Rattle.std.specs.List.{list_any}
 use Rattle.iox_model.specs.declared.way.Way.{Way}
+use Rattle.iox_model.specs.declared.reply.Reply.TheVariants.{Refused}
+use Rattle.iox_model.specs.Commands.{Refusal, Reply, Call, PortCommand, Command}
+use Rattle.iox_model.specs.Makings.{IsPortCommand}
+use Rattle.iox_model.specs.Maps.{same_way}
 use Rattle.iox_model.specs.Messages.{serials_of}
+use Rattle.iox_model.specs.Moments.{Evict}
 use Rattle.iox_model.specs.OrderLaws.{all_put_on, all_taken_from, Gives}
+use Rattle.iox_model.specs.Peers.{overflows_on}
+use Rattle.iox_model.specs.Services.{IsCommand}
 use Rattle.iox_model.specs.States.{State}
+use Rattle.iox_model.specs.Weaves.{Beat, Makes}
+use Rattle.iox_model.specs.WholeCalls.{IsWholeCall}
 use Rattle.iox_runs.specs.Lefts.{IsLeft}
-use Rattle.iox_runs.specs.Traces.{beats_of_left}
+use Rattle.iox_runs.specs.Traces.{beats_of_call, beats_of_port_command, beats_of_command, beats_of_left}
 
--- On each way what a run delivered gives, in its order, what it took, and then what still waits. Left
--- out is what a full queue gave up, and what a port that went cut off.
+-- On each way what a run delivered gives, in its order, what it took, and then what still waits.
+-- What a full queue gave up is left out, and so is what a port that went cut off.
 abbrev pub InOrderOverRuns : Type 0
 InOrderOverRuns =
     (s : State) (left : IsLeft s) (y : Way)
     → Gives (all_put_on y (beats_of_left s left))
     (all_taken_from y (beats_of_left s left) ++ serials_of (s.waiting y))
+
+-- A command of a port that is refused delivered nothing, on any way,
+abbrev pub RefusedPortCommandDeliversNothing : Type 0
+RefusedPortCommandDeliversNothing =
+    (s t : State) (node : ℕ) (command : PortCommand) (r : Refusal) (y : Way)
+    → (done : IsPortCommand s node command (Refused r) t)
+    → all_put_on y (beats_of_port_command s node command (Refused r) t done) ≡ []
+
+-- and so did a command of the service.
+abbrev pub RefusedCommandDeliversNothing : Type 0
+RefusedCommandDeliversNothing =
+    (s t : State) (command : Command) (r : Refusal) (y : Way)
+    → (done : IsCommand s command (Refused r) t)
+    → all_put_on y (beats_of_command s command (Refused r) t done) ≡ []
+
+-- whether the beat evicts on the way
+abbrev pub evicts_on : Way → Beat → Bool
+evicts_on y (Makes node (Evict w)) = same_way y w
+evicts_on y b = false
+
+-- A call evicts on a way only where messages overflow.
+abbrev pub OnlyOverflowEvicts : Type 0
+OnlyOverflowEvicts =
+    (s t : State) (node : ℕ) (call : Call) (reply : Reply) (y : Way)
+    → IsLeft s → (done : IsWholeCall s node call reply t)
+    → IsTrue (list_any (evicts_on y) (beats_of_call s node call reply t done))
+    → IsTrue (overflows_on s.fixed y)

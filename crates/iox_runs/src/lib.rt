@@ -3,8 +3,9 @@
 #![tactic(auto)]
 
 ghost use Rattle.iox_runs.specs.Answering.{EachCallEnds, EachCommandIsAnswered, EachHistoryGoesOn, EachPortCommandIsAnswered, EachRunGoesOn, SomethingMayBeChosen};
+ghost use Rattle.iox_runs.specs.Receiving.{RequestsAreNamed, ResponsesNameTheirRequest};
 ghost use Rattle.iox_runs.specs.Resting.{BorrowsRestWithin, QueuesOfTheGoneRestWithin, QueuesRestWithin, ValuesHaveOwnNumbers};
-ghost use Rattle.iox_runs.specs.TraceLaws.{InOrderOverRuns};
+ghost use Rattle.iox_runs.specs.TraceLaws.{InOrderOverRuns, OnlyOverflowEvicts, RefusedCommandDeliversNothing, RefusedPortCommandDeliversNothing};
 
 /// A call finds an open lane, with memory or without. Whatever it finds, and whatever moments it
 /// made, some further ones lead it to an end.
@@ -40,4 +41,22 @@ pub fn values_have_own_numbers()
 /// What a run received on a way was delivered there, in that order.
 pub fn messages_come_in_order()
     ensures { InOrderOverRuns }
+{}
+
+/// A refused command delivered nothing to anybody.
+pub fn refused_delivers_nothing()
+    ensures of_ports { RefusedPortCommandDeliversNothing }
+    ensures of_services { RefusedCommandDeliversNothing }
+{}
+
+/// A call gives up a message that waits only where messages overflow.
+pub fn only_overflow_evicts()
+    ensures { OnlyOverflowEvicts }
+{}
+
+/// A response is received at its own request alone. Where requests are not fire and forget, a server
+/// receives only what its client did not give up.
+pub fn messages_come_at_their_request()
+    ensures responses { ResponsesNameTheirRequest }
+    ensures requests { RequestsAreNamed }
 {}
