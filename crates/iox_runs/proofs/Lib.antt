@@ -21,3 +21,4 @@ pub mod InOrder
 pub mod Refusals
 pub mod Evicting
 pub mod Received
+pub mod WorkedTracesHold

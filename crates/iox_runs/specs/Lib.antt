@@ -5,3 +5,5 @@ pub mod Answering
 pub mod Resting
 pub mod TraceLaws
 pub mod Receiving
+-- an example
+pub mod WorkedTraces

@@ -6,6 +6,7 @@ ghost use Rattle.iox_runs.specs.Answering.{EachCallEnds, EachCommandIsAnswered, 
 ghost use Rattle.iox_runs.specs.Receiving.{RequestsAreNamed, ResponsesNameTheirRequest};
 ghost use Rattle.iox_runs.specs.Resting.{BorrowsRestWithin, QueuesOfTheGoneRestWithin, QueuesRestWithin, ValuesHaveOwnNumbers};
 ghost use Rattle.iox_runs.specs.TraceLaws.{InOrderOverRuns, OnlyOverflowEvicts, RefusedCommandDeliversNothing, RefusedPortCommandDeliversNothing};
+ghost use Rattle.iox_runs.specs.WorkedTraces.{TracesTheRequests};
 
 /// A call finds an open lane, with memory or without. Whatever it finds, and whatever moments it
 /// made, some further ones lead it to an end.
@@ -59,4 +60,9 @@ pub fn only_overflow_evicts()
 pub fn messages_come_at_their_request()
     ensures responses { ResponsesNameTheirRequest }
     ensures requests { RequestsAreNamed }
+{}
+
+/// A worked history, whose trace tells what was delivered and what was received.
+pub fn worked_traces()
+    ensures { TracesTheRequests }
 {}
