@@ -26,7 +26,7 @@ only_the_living_act w v (Makes node m) beat = beat.0
 only_the_living_act w v (Ends node reply payload) beat = beat.0
 only_the_living_act w v (Dies node) beat = beat.0
 
-abbrev IsGone : Option Refusal → Type 0
+abbrev pub IsGone : Option Refusal → Type 0
 IsGone None = ⊥
 IsGone (Some r) = Unit {0}
 
@@ -59,13 +59,13 @@ settled-members s node payload (Forgets dead) =
 
 -- ---- a death lets nobody live again
 
-abbrev of_node : Node → Option Refusal
+abbrev pub of_node : Node → Option Refusal
 of_node m = refused_if (not m.alive) NodeIsDead
 
-abbrev found : Option Node → Option Refusal
+abbrev pub found : Option Node → Option Refusal
 found o = option_map_or of_node o (Some UnknownNode)
 
-abbrev living_in : List Node → ℕ → Option Refusal
+abbrev pub living_in : List Node → ℕ → Option Refusal
 living_in ms node = found (find (λ m. m.number == node) ms)
 
 of_first : (b : Bool) (m : Node) (o : Option Node) → found (if b then Some m else o) ≡ (if b then of_node m else found o)
@@ -79,7 +79,7 @@ dies-gone : (n : ℕ) (m : Node) → IsGone (of_node m) → IsGone (of_node (die
 dies-gone n m p =
     either (λ (x : Node). IsGone (of_node x)) (m.number == n) (record m { alive = false }) m (λ u. tt) (λ u. p)
 
-stays_gone : (n node : ℕ) (ms : List Node) → IsGone (living_in ms node) → IsGone (living_in (map (dies n) ms) node)
+pub stays_gone : (n node : ℕ) (ms : List Node) → IsGone (living_in ms node) → IsGone (living_in (map (dies n) ms) node)
 stays_gone n node [] p = tt
 stays_gone n node (m ∷ ms) p =
     subst IsGone (sym (of_first ((dies n m).number == node) (dies n m) (find (λ x. x.number == node) (map (dies n) ms))))

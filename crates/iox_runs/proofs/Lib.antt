@@ -22,3 +22,4 @@ pub mod Refusals
 pub mod Evicting
 pub mod Received
 pub mod WorkedTracesHold
+pub mod Dead

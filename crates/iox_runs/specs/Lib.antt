@@ -5,5 +5,6 @@ pub mod Answering
 pub mod Resting
 pub mod TraceLaws
 pub mod Receiving
+pub mod Dying
 -- an example
 pub mod WorkedTraces

@@ -3,6 +3,7 @@
 #![tactic(auto)]
 
 ghost use Rattle.iox_runs.specs.Answering.{EachCallEnds, EachCommandIsAnswered, EachHistoryGoesOn, EachPortCommandIsAnswered, EachRunGoesOn, SomethingMayBeChosen};
+ghost use Rattle.iox_runs.specs.Dying.{TheDeadStayDead};
 ghost use Rattle.iox_runs.specs.Receiving.{RequestsAreNamed, ResponsesNameTheirRequest};
 ghost use Rattle.iox_runs.specs.Resting.{BorrowsRestWithin, QueuesOfTheGoneRestWithin, QueuesRestWithin, ValuesHaveOwnNumbers};
 ghost use Rattle.iox_runs.specs.TraceLaws.{InOrderOverRuns, OnlyOverflowEvicts, RefusedCommandDeliversNothing, RefusedPortCommandDeliversNothing};
@@ -60,6 +61,11 @@ pub fn only_overflow_evicts()
 pub fn messages_come_at_their_request()
     ensures responses { ResponsesNameTheirRequest }
     ensures requests { RequestsAreNamed }
+{}
+
+/// A node that died or left never asks anything again.
+pub fn the_dead_do_nothing()
+    ensures { TheDeadStayDead }
 {}
 
 /// A worked history, whose trace tells what was delivered and what was received.
