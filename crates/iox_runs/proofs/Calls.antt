@@ -141,10 +141,14 @@ done_calm s node call reply t r named d =
     (over_calm (moved_by s d.2) node (left_by s node first d.2) d.4 d.6 (goes_by s node first d.2 (begins s node d.0 call r named) d.3) d.5)
 
 -- refused, nothing changes
-pub unless_calm : (q : Option Refusal) (s : State) (reply : Reply) (t : State) (Q : Type 0) → Calm s → (q ≡ None → Q → Calm t)
-    → UnlessRefused q s reply t Q → Calm t
-unless_calm (Some x) s reply t Q r f u = subst Calm (sym u.1) r
-unless_calm None s reply t Q r f u = f refl u
+pub unless_keeps : (Q : State → Type 0) (q : Option Refusal) (s : State) (reply : Reply) (t : State) (P : Type 0) → Q s → (q ≡ None → P → Q t)
+    → UnlessRefused q s reply t P → Q t
+unless_keeps Q (Some x) s reply t P r f u = subst Q (sym u.1) r
+unless_keeps Q None s reply t P r f u = f refl u
+
+pub unless_calm : (q : Option Refusal) (s : State) (reply : Reply) (t : State) (P : Type 0) → Calm s → (q ≡ None → P → Calm t)
+    → UnlessRefused q s reply t P → Calm t
+unless_calm = unless_keeps Calm
 
 pub whole_calm : (s : State) (node : ℕ) (call : Call) (reply : Reply) (t : State) → Calm s → IsWholeCall s node call reply t → Calm t
 whole_calm s node call reply t r =

@@ -21,6 +21,7 @@ use Rattle.iox_model.proofs.WholeLemmas.{moved-members}
 use Rattle.iox_reachable.proofs.WayLemmas.{by_cases}
 use Rattle.iox_runs.specs.Dying.{TheDeadStayDead}
 use Rattle.iox_runs.proofs.Along.{whole_along}
+use Rattle.iox_runs.proofs.Calls.{unless_keeps}
 
 -- ---- lists of nodes
 
@@ -76,14 +77,9 @@ call_members s node call reply t =
     whole_along KeepsMembers (λ a. refl) s node call reply t
     (λ named done. ap (λ (u : State). u.members) done.9 ∙ settled-members (moved_by s done.2) node done.6 done.4 ∙ moved_by-members s done.2)
 
-unless_members : (q : Option Refusal) (s : State) (reply : Reply) (t : State) (P : Type 0) → (P → t.members ≡ s.members)
-    → UnlessRefused q s reply t P → t.members ≡ s.members
-unless_members (Some x) s reply t P f u = ap (λ (v : State). v.members) u.1
-unless_members None s reply t P f u = f u
-
 port_members : (s : State) (node : ℕ) (c : PortCommand) (reply : Reply) (t : State) → IsPortCommand s node c reply t → t.members ≡ s.members
 port_members s node (Create role id o) reply t p =
-    unless_members (making_refusal s.fixed role o p.0) s reply t _ (λ made. ap (λ (u : State). u.members) made.1) p.1
+    unless_keeps (λ u. u.members ≡ s.members) (making_refusal s.fixed role o p.0) s reply t _ refl (λ u made. ap (λ (v : State). v.members) made.1) p.1
 port_members s node (Use call) reply t p = call_members s node call reply t p
 
 releases_members : (s : State) (node : ℕ) (ns : List ℕ) (t : State) → Releases s node ns t → t.members ≡ s.members
@@ -103,11 +99,6 @@ same_over node s t same p = record {
   gone = subst (λ (x : Members). IsGone (living_in x.nodes node)) (sym same) p.gone;
 }
 
-unless_over : (node : ℕ) (q : Option Refusal) (s : State) (reply : Reply) (t : State) (P : Type 0) → IsOver node s → (P → IsOver node t)
-    → UnlessRefused q s reply t P → IsOver node t
-unless_over node (Some x) s reply t P p f u = subst (IsOver node) (sym u.1) p
-unless_over node None s reply t P p f u = f u
-
 less_more : (a b : ℕ) → nat_lt a b ≡ true → nat_lt a (b + 1) ≡ true
 less_more a b e = grind (arith)
 
@@ -119,21 +110,21 @@ leaves_over node n s p = record { joined = p.joined; gone = left_gone n node s.m
 
 command_over : (node : ℕ) (s : State) (c : Command) (reply : Reply) (t : State) → IsOver node s → IsCommand s c reply t → IsOver node t
 command_over node s (commands.Open id asked) reply t p c =
-    unless_over node (opening_refusal s id asked c.0) s reply t _ p
-    (λ done. subst (IsOver node) (sym done.1) (record {
+    unless_keeps (IsOver node) (opening_refusal s id asked c.0) s reply t _ p
+    (λ u done. subst (IsOver node) (sym done.1) (record {
       joined = less_more node s.members.joins p.joined;
       gone = joined_gone node s.members.nodes (new_node s.members.joins id) (not_next node s.members.joins p.joined) p.gone;
     })) c.1
 command_over node s (OfNode n command) reply t p c =
-    unless_over node (not_living s n) s reply t _ p (λ done. same_over node s t (port_members s n (with_own_id s n command) reply t done) p) c
+    unless_keeps (IsOver node) (not_living s n) s reply t _ p (λ u done. same_over node s t (port_members s n (with_own_id s n command) reply t done) p) c
 command_over node s (Leave n) reply t p c =
-    unless_over node (leaving_refusal s n) s reply t _ p (λ done. subst (IsOver node) (sym done.1) (leaves_over node n s p)) c
+    unless_keeps (IsOver node) (leaving_refusal s n) s reply t _ p (λ u done. subst (IsOver node) (sym done.1) (leaves_over node n s p)) c
 command_over node s (DeclareDead n) reply t p c =
-    unless_over node (not_living s n) s reply t _ p
-    (λ done. subst (IsOver node) (sym done.1) (record { joined = p.joined; gone = stays_gone n node s.members.nodes p.gone })) c
+    unless_keeps (IsOver node) (not_living s n) s reply t _ p
+    (λ u done. subst (IsOver node) (sym done.1) (record { joined = p.joined; gone = stays_gone n node s.members.nodes p.gone })) c
 command_over node s (Cleanup n) reply t p c =
-    unless_over node (not_dead s n) s reply t _ p
-    (λ done. subst (IsOver node) (sym done.3)
+    unless_keeps (IsOver node) (not_dead s n) s reply t _ p
+    (λ u done. subst (IsOver node) (sym done.3)
     (leaves_over node n done.0 (same_over node s done.0 (releases_members s n (numbers_of_node s.fixed n) done.0 done.1) p))) c
 command_over node s ListNodes reply t p c = subst (IsOver node) (sym c.1) p
 command_over node s ListClients reply t p c = subst (IsOver node) (sym c.1) p
