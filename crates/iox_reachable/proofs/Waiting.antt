@@ -22,7 +22,7 @@ over_overflows s node v (Some (Delivering x (Some u) left count)) p e =
     ap (λ port. overflow_of s.fixed.limits (role_at s.fixed port)) (ap (λ (y : Way). y.sender) (same_way-true v u e) ∙ p.4.0) ∙ sym p.0.1 ∙ p.4.1
 over_overflows s node v (Some d) p e = absurd (true≢false (sym e))
 
-by_cases_of : (v : Way) (o : Option Doing) → option_map_or (evicts_next v) o false ≡ is_last v (last_of o)
+pub by_cases_of : (v : Way) (o : Option Doing) → option_map_or (evicts_next v) o false ≡ is_last v (last_of o)
 by_cases_of v None = refl
 by_cases_of v (Some (Delivering x last left count)) = refl
 by_cases_of v (Some d) = refl

@@ -1,11 +1,20 @@
--- What waits, and what receivers have, between calls.
-use Rattle.std.specs.Prelude.{◌≡◌, ℕ, ◌+◌, ◌≤◌, true, nat_le, List, [], ◌∷◌, length, map, filter, refl}
-use Rattle.std.proofs.Common.{sym, subst, ap, arith, suc}
+-- What waits, and what receivers have, between calls, and what waits in the midst of a call.
+use Rattle.std.specs.Prelude.{◌≡◌, ℕ, ◌+◌, ◌≤◌, Bool, true, false, if◌then◌else◌, ◌==◌, nat_le, List, [], ◌∷◌, length, map, filter, Some, refl}
+use Rattle.std.proofs.Common.{sym, subst, ap, ◌∙◌, eqb-true, arith, suc}
+use Rattle.iox_model.specs.declared.way.Way.{Way}
+use Rattle.iox_model.specs.Begins.{start}
+use Rattle.iox_model.specs.Doings.{Doing}
 use Rattle.iox_model.specs.Ledgers.{has_received}
-use Rattle.iox_model.specs.Peers.{node_of_port, buffer_on, borrow_limit_on}
-use Rattle.iox_model.specs.States.{Handle}
+use Rattle.iox_model.specs.Peers.{is_connected_port, node_of_port, buffer_on, borrow_limit_on}
+use Rattle.iox_model.specs.States.{Handle, Fixed, State}
+use Rattle.iox_model.specs.WholeCalls.{moved_by, left_by}
+use Rattle.iox_model.proofs.WholeLemmas.{moved_by-fixed}
+use Rattle.iox_ledger.specs.QueueLaws.{evicts_next}
+use Rattle.iox_reachable.proofs.Waiting.{by_cases_of}
 use Rattle.iox_reachable.proofs.WayLemmas.{by_cases}
+use Rattle.iox_runs.specs.Moving.{QueuesStayWithin}
 use Rattle.iox_runs.specs.Resting.{QueuesRestWithin, QueuesOfTheGoneRestWithin, BorrowsRestWithin}
+use Rattle.iox_runs.proofs.Calls.{Goes, goes_by, begins}
 use Rattle.iox_runs.proofs.Ports.{any_at}
 use Rattle.iox_runs.proofs.Parting.{there_within}
 use Rattle.iox_runs.proofs.Settling.{Calm}
@@ -22,6 +31,31 @@ pub queues_of_the_gone_rest_within : QueuesOfTheGoneRestWithin
 queues_of_the_gone_rest_within s v left =
     let c : Calm s = left_calm s left in
     by_cases (any_at v.sender s.fixed.ports) (there_within s v c.rests c.owned) ((c.owned).gone v)
+
+-- in the midst of a call
+queue_stays : (s t : State) (node : ℕ) (d : Doing) (v : Way) → t.fixed ≡ s.fixed → Goes t node d → is_connected_port s.fixed v.sender ≡ true
+    → nat_le (length (t.waiting v)) (buffer_on s.fixed v + (if evicts_next v d then 1 else 0)) ≡ true
+queue_stays s t node d v same g connected =
+    let there : is_connected_port t.fixed v.sender ≡ true = ap (λ (f : Fixed). is_connected_port f v.sender) same ∙ connected in
+    subst (λ (f : Fixed). nat_le (length (t.waiting v)) (buffer_on f v + (if evicts_next v d then 1 else 0)) ≡ true) same
+    (by_cases (node_of_port t.fixed v.sender == node)
+    (λ mine. subst (λ b. nat_le (length (t.waiting v)) (buffer_on t.fixed v + (if b then 1 else 0)) ≡ true) (sym (by_cases_of v (Some d)))
+    ((g.call).0 v (there, eqb-true (node_of_port t.fixed v.sender) node mine)))
+    (λ other. one_more (length (t.waiting v)) (buffer_on t.fixed v) (evicts_next v d) (g.others (node_of_port t.fixed v.sender) other v (there, refl))))
+  where
+    one_more : (a b : ℕ) (x : Bool) → nat_le a (b + 0) ≡ true → nat_le a (b + (if x then 1 else 0)) ≡ true
+    one_more a b true e = grind (arith)
+    one_more a b false e = e
+
+pub queues_stay_within : QueuesStayWithin
+queues_stay_within s node call c ms v left named may connected =
+    let d : Doing = start s node c call in
+    le-true (length ((moved_by s ms).waiting v)) (buffer_on s.fixed v + (if evicts_next v (left_by s node d ms) then 1 else 0))
+    (queue_stays s (moved_by s ms) node (left_by s node d ms) v (moved_by-fixed s ms)
+    (goes_by s node d ms (begins s node c call (left_calm s left) named) may) connected)
+  where
+    le-true : (a b : ℕ) → nat_le a b ≡ true → a ≤ b
+    le-true a b e = grind (arith)
 
 length-map : {A B : Type 0} (f : A → B) (xs : List A) → length (map f xs) ≡ length xs
 length-map f [] = refl

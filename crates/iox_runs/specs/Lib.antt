@@ -3,6 +3,7 @@ pub mod Lefts
 pub mod Traces
 pub mod Answering
 pub mod Resting
+pub mod Moving
 pub mod TraceLaws
 pub mod Receiving
 pub mod Dying

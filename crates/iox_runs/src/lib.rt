@@ -4,6 +4,7 @@
 
 ghost use Rattle.iox_runs.specs.Answering.{EachCallEnds, EachCommandIsAnswered, EachHistoryGoesOn, EachPortCommandIsAnswered, EachRunGoesOn, SomethingMayBeChosen};
 ghost use Rattle.iox_runs.specs.Dying.{TheDeadStayDead};
+ghost use Rattle.iox_runs.specs.Moving.{QueuesStayWithin};
 ghost use Rattle.iox_runs.specs.Receiving.{RequestsAreNamed, ResponsesNameTheirRequest};
 ghost use Rattle.iox_runs.specs.Resting.{BorrowsRestWithin, QueuesOfTheGoneRestWithin, QueuesRestWithin, ValuesHaveOwnNumbers};
 ghost use Rattle.iox_runs.specs.TraceLaws.{InOrderOverRuns, OnlyOverflowEvicts, RefusedCommandDeliversNothing, RefusedPortCommandDeliversNothing};
@@ -28,6 +29,11 @@ pub fn commands_are_answered()
 pub fn queues_rest_within()
     ensures there { QueuesRestWithin }
     ensures gone { QueuesOfTheGoneRestWithin }
+{}
+
+/// In the midst of a call one more may wait, where the call may still evict.
+pub fn queues_stay_within()
+    ensures { QueuesStayWithin }
 {}
 
 /// Between calls a receiver has at most as many messages of a way as it may borrow.

@@ -1,0 +1,23 @@
+-- What holds in the midst of a call, from each state that is left.
+use Rattle.std.specs.Prelude.{◌≡◌, ℕ, ◌+◌, ◌≤◌, if◌then◌else◌, List, length, None, IsTrue}
+use Rattle.iox_model.specs.declared.way.Way.{Way}
+use Rattle.iox_model.specs.Begins.{start}
+use Rattle.iox_model.specs.Commands.{Call}
+use Rattle.iox_model.specs.Loans.{Choice}
+use Rattle.iox_model.specs.Moments.{Moment}
+use Rattle.iox_model.specs.Names.{misnamed}
+use Rattle.iox_model.specs.Peers.{is_connected_port, buffer_on}
+use Rattle.iox_model.specs.States.{State}
+use Rattle.iox_model.specs.WholeCalls.{moved_by, left_by, MayCome}
+use Rattle.iox_ledger.specs.QueueLaws.{evicts_next}
+use Rattle.iox_runs.specs.Lefts.{IsLeft}
+
+-- After any moments of a call, what waits of a connected port is at most the buffer, and one more
+-- on the way where the call delivered last and may still evict.
+abbrev pub QueuesStayWithin : Type 0
+QueuesStayWithin =
+    (s : State) (node : ℕ) (call : Call) (c : Choice) (ms : List Moment) (v : Way)
+    → IsLeft s → misnamed s.fixed node call ≡ None → MayCome s node (start s node c call) ms
+    → IsTrue (is_connected_port s.fixed v.sender)
+    → length ((moved_by s ms).waiting v) ≤ buffer_on s.fixed v
+    + (if evicts_next v (left_by s node (start s node c call) ms) then 1 else 0)
