@@ -1,6 +1,6 @@
 -- What waits, and what receivers have, between calls, and what waits in the midst of a call.
-use Rattle.std.specs.Prelude.{◌≡◌, ℕ, ◌+◌, ◌≤◌, Bool, true, false, if◌then◌else◌, ◌==◌, nat_le, List, [], ◌∷◌, length, map, filter, Some, refl}
-use Rattle.std.proofs.Common.{sym, subst, ap, ◌∙◌, eqb-true, arith, suc}
+use Rattle.std.specs.Prelude.{◌≡◌, ℕ, ◌+◌, ◌≤◌, Bool, true, false, if◌then◌else◌, ◌==◌, nat_le, length, filter, Some, refl}
+use Rattle.std.proofs.Common.{sym, subst, ap, ◌∙◌, eqb-true, arith}
 use Rattle.iox_model.specs.declared.way.Way.{Way}
 use Rattle.iox_model.specs.Begins.{start}
 use Rattle.iox_model.specs.Doings.{Doing}
@@ -9,6 +9,7 @@ use Rattle.iox_model.specs.Peers.{is_connected_port, node_of_port, buffer_on, bo
 use Rattle.iox_model.specs.States.{Handle, Fixed, State}
 use Rattle.iox_model.specs.WholeCalls.{moved_by, left_by}
 use Rattle.iox_model.proofs.WholeLemmas.{moved_by-fixed}
+use Rattle.iox_ledger.proofs.Borrows.{length-map}
 use Rattle.iox_ledger.specs.QueueLaws.{evicts_next}
 use Rattle.iox_reachable.proofs.Waiting.{by_cases_of}
 use Rattle.iox_reachable.proofs.WayLemmas.{by_cases}
@@ -56,10 +57,6 @@ queues_stay_within s node call c ms v left named may connected =
   where
     le-true : (a b : ℕ) → nat_le a b ≡ true → a ≤ b
     le-true a b e = grind (arith)
-
-length-map : {A B : Type 0} (f : A → B) (xs : List A) → length (map f xs) ≡ length xs
-length-map f [] = refl
-length-map f (x ∷ xs) = ap suc (length-map f xs)
 
 pub borrows_rest_within : BorrowsRestWithin
 borrows_rest_within s v left =

@@ -23,3 +23,4 @@ pub mod Evicting
 pub mod Received
 pub mod WorkedTracesHold
 pub mod Dead
+pub mod Borrowing

@@ -4,7 +4,7 @@
 
 ghost use Rattle.iox_runs.specs.Answering.{EachCallEnds, EachCommandIsAnswered, EachHistoryGoesOn, EachPortCommandIsAnswered, EachRunGoesOn, SomethingMayBeChosen};
 ghost use Rattle.iox_runs.specs.Dying.{TheDeadStayDead};
-ghost use Rattle.iox_runs.specs.Moving.{QueuesStayWithin};
+ghost use Rattle.iox_runs.specs.Moving.{BorrowsStayWithin, QueuesStayWithin};
 ghost use Rattle.iox_runs.specs.Receiving.{RequestsAreNamed, ResponsesNameTheirRequest};
 ghost use Rattle.iox_runs.specs.Resting.{BorrowsRestWithin, QueuesOfTheGoneRestWithin, QueuesRestWithin, ValuesHaveOwnNumbers};
 ghost use Rattle.iox_runs.specs.TraceLaws.{InOrderOverRuns, OnlyOverflowEvicts, RefusedCommandDeliversNothing, RefusedPortCommandDeliversNothing};
@@ -39,6 +39,11 @@ pub fn queues_stay_within()
 /// Between calls a receiver has at most as many messages of a way as it may borrow.
 pub fn borrows_rest_within()
     ensures { BorrowsRestWithin }
+{}
+
+/// And so it is in the midst of a call.
+pub fn borrows_stay_within()
+    ensures { BorrowsStayWithin }
 {}
 
 /// What a node has, ports and handles, has numbers of its own.
