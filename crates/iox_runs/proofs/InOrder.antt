@@ -21,7 +21,7 @@ use Rattle.iox_model.specs.Weaves.{Beat, Makes}
 use Rattle.iox_model.specs.WholeCalls.{moved_by, MayCome, IsDone}
 use Rattle.iox_model.proofs.InOrder.{leaves_out, gives_itself, Comes, unchanged, moment_comes}
 use Rattle.iox_model.proofs.MapLemmas.{either}
-use Rattle.iox_runs.specs.TraceLaws.{InOrderOverRuns}
+use Rattle.iox_runs.specs.TraceLaws.{AreInOrder, InOrderOverRuns, InOrderInACall}
 use Rattle.iox_runs.proofs.Along.{IsAlong, created_for, left_along}
 use Rattle.iox_runs.specs.Traces.{beats_of_done, beats_of_left}
 
@@ -116,9 +116,20 @@ in_order_along y = record {
   call = λ s node call reply t named. call_in_order y s node call reply t;
 }
 
+-- where the way was empty, all that came was put there
+from_nothing : (y : Way) (s t : State) (bs : List Beat) → s.waiting y ≡ [] → InOrder y s bs t → AreInOrder y bs t
+from_nothing y s t bs empty along =
+    let after : List ℕ = serials_of (t.waiting y) in
+    let comes : Gives (serials_of (s.waiting y) ++ (all_put_on y bs ++ [])) (all_taken_from y bs ++ after) = along [] after (gives_itself after) in
+    subst (λ ks. Gives ks (all_taken_from y bs ++ after)) (append-nil (all_put_on y bs))
+    (subst (λ (xs : List Message). Gives (serials_of xs ++ (all_put_on y bs ++ [])) (all_taken_from y bs ++ after)) empty comes)
+
 pub in_order_over_runs : InOrderOverRuns
 in_order_over_runs s left y =
-    let put : List ℕ = all_put_on y (beats_of_left s left) in
-    let along : InOrder y (created_for s left) (beats_of_left s left) s = left_along (InOrder y) (in_order_along y) s left in
-    subst (λ ks. Gives ks (all_taken_from y (beats_of_left s left) ++ serials_of (s.waiting y))) (append-nil put)
-    (along [] (serials_of (s.waiting y)) (gives_itself (serials_of (s.waiting y))))
+    from_nothing y (created_for s left) s (beats_of_left s left) refl (left_along (InOrder y) (in_order_along y) s left)
+
+pub in_order_in_a_call : InOrderInACall
+in_order_in_a_call s left y node call c ms may =
+    from_nothing y (created_for s left) (moved_by s ms) (beats_of_left s left ++ map (Makes node) ms) refl
+    (both_in_order y (created_for s left) s (moved_by s ms) (beats_of_left s left) (map (Makes node) ms)
+    (left_along (InOrder y) (in_order_along y) s left) (moments_in_order y s node (start s node c call) ms may))

@@ -1,29 +1,41 @@
 -- Laws of traces: what a run delivered, took and evicted.
-use Rattle.std.specs.Prelude.{◌≡◌, ℕ, Bool, false, [], ◌++◌, IsTrue}
+use Rattle.std.specs.Prelude.{◌≡◌, ℕ, Bool, false, List, [], ◌++◌, map, IsTrue}
 use Rattle.std.specs.List.{list_any}
 use Rattle.iox_model.specs.declared.way.Way.{Way}
 use Rattle.iox_model.specs.declared.reply.Reply.TheVariants.{Refused}
+use Rattle.iox_model.specs.Begins.{start}
 use Rattle.iox_model.specs.Commands.{Refusal, Reply, Call, PortCommand, Command}
+use Rattle.iox_model.specs.Loans.{Choice}
 use Rattle.iox_model.specs.Makings.{IsPortCommand}
 use Rattle.iox_model.specs.Maps.{same_way}
 use Rattle.iox_model.specs.Messages.{serials_of}
-use Rattle.iox_model.specs.Moments.{Evict}
+use Rattle.iox_model.specs.Moments.{Moment, Evict}
 use Rattle.iox_model.specs.OrderLaws.{all_put_on, all_taken_from, Gives}
 use Rattle.iox_model.specs.Peers.{overflows_on}
 use Rattle.iox_model.specs.Services.{IsCommand}
 use Rattle.iox_model.specs.States.{State}
 use Rattle.iox_model.specs.Weaves.{Beat, Makes}
-use Rattle.iox_model.specs.WholeCalls.{IsWholeCall}
+use Rattle.iox_model.specs.WholeCalls.{moved_by, MayCome, IsWholeCall}
 use Rattle.iox_runs.specs.Lefts.{IsLeft}
 use Rattle.iox_runs.specs.Traces.{beats_of_call, beats_of_port_command, beats_of_command, beats_of_left}
 
--- On each way what a run delivered gives, in its order, what it took, and then what still waits.
--- What a full queue gave up is left out, and so is what a port that went cut off.
+-- On the way what the beats delivered gives, in its order, what they took, and then what waits.
+abbrev pub AreInOrder : Way → List Beat → State → Type 0
+AreInOrder y bs s = Gives (all_put_on y bs) (all_taken_from y bs ++ serials_of (s.waiting y))
+
+-- So it is of each run, on each way. What a full queue gave up is left out, and so is what a port
+-- that went cut off.
 abbrev pub InOrderOverRuns : Type 0
 InOrderOverRuns =
+    (s : State) (left : IsLeft s) (y : Way) → AreInOrder y (beats_of_left s left) s
+
+-- And so it is after any moments of a call that follows.
+abbrev pub InOrderInACall : Type 0
+InOrderInACall =
     (s : State) (left : IsLeft s) (y : Way)
-    → Gives (all_put_on y (beats_of_left s left))
-    (all_taken_from y (beats_of_left s left) ++ serials_of (s.waiting y))
+    → (node : ℕ) (call : Call) (c : Choice) (ms : List Moment)
+    → MayCome s node (start s node c call) ms
+    → AreInOrder y (beats_of_left s left ++ map (Makes node) ms) (moved_by s ms)
 
 -- A command of a port that is refused delivered nothing, on any way,
 abbrev pub RefusedPortCommandDeliversNothing : Type 0

@@ -7,7 +7,7 @@ ghost use Rattle.iox_runs.specs.Dying.{TheDeadStayDead};
 ghost use Rattle.iox_runs.specs.Moving.{BorrowsStayWithin, QueuesStayWithin};
 ghost use Rattle.iox_runs.specs.Receiving.{RequestsAreNamed, ResponsesNameTheirRequest};
 ghost use Rattle.iox_runs.specs.Resting.{BorrowsRestWithin, QueuesOfTheGoneRestWithin, QueuesRestWithin, ValuesHaveOwnNumbers};
-ghost use Rattle.iox_runs.specs.TraceLaws.{InOrderOverRuns, OnlyOverflowEvicts, RefusedCommandDeliversNothing, RefusedPortCommandDeliversNothing};
+ghost use Rattle.iox_runs.specs.TraceLaws.{InOrderInACall, InOrderOverRuns, OnlyOverflowEvicts, RefusedCommandDeliversNothing, RefusedPortCommandDeliversNothing};
 ghost use Rattle.iox_runs.specs.WorkedTraces.{TracesTheRequests};
 
 /// A call finds an open lane, with memory or without. Whatever it finds, and whatever moments it
@@ -53,7 +53,8 @@ pub fn values_have_own_numbers()
 
 /// What a run received on a way was delivered there, in that order.
 pub fn messages_come_in_order()
-    ensures { InOrderOverRuns }
+    ensures runs { InOrderOverRuns }
+    ensures in_a_call { InOrderInACall }
 {}
 
 /// A refused command delivered nothing to anybody.
