@@ -81,10 +81,7 @@ impl Places {
         ensures room { IsTrue result ↔ HasRoomAt capacity self.old }
         ensures found { OnTrue result (self.new.free < self.new.free_end) }
     {
-        if self.count(capacity) >= capacity || self.is_spent(capacity) {
-            return false;
-        }
-        if self.free >= capacity {
+        if self.free >= capacity && self.ahead == 0 {
             self.free = 0;
             self.ahead = capacity;
             self.before += capacity as u64;
@@ -96,7 +93,7 @@ impl Places {
         };
         self.free_end = self.unspent(end);
         self.full_end = 0;
-        true
+        self.free < self.free_end
     }
 
     /// Finds how far pops may go, from `oldest` on. It says whether a value waits.
@@ -111,16 +108,13 @@ impl Places {
         ensures some { IsTrue result ↔ (0 < count_at self.old) }
         ensures found { OnTrue result (self.new.oldest < self.new.filled_end) }
     {
-        if self.count(capacity) == 0 {
-            return false;
-        }
-        if self.oldest >= capacity {
+        if self.oldest >= capacity && self.ahead != 0 {
             self.oldest = 0;
             self.ahead = 0;
             self.full_end = 0;
         }
         self.filled_end = if self.ahead == 0 { self.free } else { capacity };
-        true
+        self.oldest < self.filled_end
     }
 
     /// Finds how far pushes may take the cell of the oldest, where the queue is full.
