@@ -94,8 +94,7 @@ module _ (size : ℕ) (world : AtomicWorld size) (number : ℕ) (party after : A
       → IsAtValue size holds.base (words_after (atomics_ask size party) world.words) other that
   all other that known = elim (cases_eq other number) [
     | inl same ↦ (let one : that ≡ after = known.1 ∙ ap (λ n. get_or (set world.parties number after) n that) same
-        ∙ get_or-set_same world.parties number after that is.0 in
-        rw (same, one) own)
+        ∙ get_or-set_same world.parties number after that is.0 in rw (same, one) own)
     | inr apart ↦ others other that apart (
       omega (arith, known.0, length-set world.parties number after),
       known.1 ∙ get_or-set_other world.parties number other after that apart,
