@@ -1,3 +1,4 @@
 pub mod Lists
 pub mod Alone
 pub mod Calls
+pub mod Stored

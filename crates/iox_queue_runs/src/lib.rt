@@ -2,8 +2,10 @@
 //! leave what the calls of the plain queues do.
 #![tactic(auto)]
 
+mod stored;
 mod whole;
 
+pub use stored::{StepAnswer, StoredPopper, StoredPusher};
 pub use whole::{holds_when_empty, is_empty, is_full, pop, push};
 
 #[cfg(test)]

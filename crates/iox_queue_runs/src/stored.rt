@@ -1,0 +1,10 @@
+//! The parties of a queue as they are kept in memory between their steps. Each keeps a position and its
+//! cell from call to call, so that a step in turn divides nothing.
+mod answer;
+mod cell;
+mod popper;
+mod pusher;
+
+pub use answer::StepAnswer;
+pub use popper::StoredPopper;
+pub use pusher::StoredPusher;

@@ -1,0 +1,12 @@
+//! What a step says.
+
+/// What a step of a stored party says. It fits two registers.
+#[derive(Clone, Copy, Debug, PartialEq, Eq)]
+pub enum StepAnswer {
+    /// the call goes on
+    Going,
+    /// it is done, and gives no value
+    Done,
+    /// it is done, and gives this value
+    Gives(u64),
+}

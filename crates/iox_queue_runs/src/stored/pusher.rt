@@ -1,0 +1,161 @@
+//! The party that pushes, kept in memory.
+ghost use Rattle.std.specs.Prelude.{◌≡◌};
+
+use super::answer::StepAnswer;
+use super::cell::cell_from;
+use iox_steps::{Access, QueueKind, Site, perform};
+use std::marker::Model;
+
+/// The place of a push, by its name alone.
+#[derive(Clone, Copy)]
+pub enum PushAt {
+    Rest,
+    LoadsWrite,
+    LoadsRead,
+    StoresCell,
+    StoresWrite,
+    Evicts,
+    TakesOld,
+}
+
+/// A party that pushes, kept in memory between its steps.
+#[derive(Drop)]
+pub struct StoredPusher {
+    site: Site,
+    at: PushAt,
+    value: u64,
+    /// the write position, then the next one, then the read position at which the queue was full
+    position: u64,
+    full: Option<u64>,
+    /// some position, and its cell
+    known: u64,
+    cell: usize,
+    /// the cell of the value that was pushed out
+    oldest: usize,
+}
+
+impl Model for StoredPusher {
+    ghost use Rattle.iox_queue_runs.specs.Stored.{Pusher, pushing_of, KnowsCell};
+
+    ghost Value = { Pusher };
+
+    ghost view = { λ p.
+        record { site = p.site; place = pushing_of p.at p.value p.position p.full p.cell p.oldest } };
+
+    ghost invariant = { λ p. KnowsCell p.site p.known p.cell };
+}
+
+impl StoredPusher {
+    ghost use Rattle.std.specs.Prelude.{◌≡◌, ◌+◌, ◌^◌, ◌<◌, length};
+    ghost use Rattle.iox_steps.specs.declared.seat.Pushing.TheVariants.{AtRest, Pushes};
+    ghost use Rattle.iox_steps.specs.declared.push.Push.TheVariants.{LoadsWrite};
+    ghost use Rattle.iox_steps.specs.Accesses.{IsWithin, words_after};
+    ghost use Rattle.iox_steps.specs.Sites.{size};
+    ghost use Rattle.iox_steps.specs.Seats.{pushing_access, pushing_sees, pushing_after};
+    ghost use Rattle.iox_queue_runs.specs.Stored.{pushing_says};
+
+    /// A party at rest.
+    pub fn new(site: Site) -> StoredPusher
+        requires { site.base + size site < 2 ^ 64 }
+        ensures { result ≡ record { site = site; place = AtRest } }
+    {
+        StoredPusher {
+            site,
+            at: PushAt::Rest,
+            value: 0,
+            position: 0,
+            full: None,
+            known: 0,
+            cell: site.cell_at(0),
+            oldest: 0,
+        }
+    }
+
+    /// Begins a push, with no access.
+    #[inline]
+    pub fn begin_push(&mut self, value: u64)
+        requires { self.old.place ≡ AtRest }
+        ensures { self.new ≡ record { site = self.old.site; place = Pushes (LoadsWrite value) } }
+    {
+        self.value = value;
+        self.at = PushAt::LoadsWrite;
+    }
+
+    /// Makes its next access, and goes on.
+    #[inline]
+    pub fn step(&mut self, words: &mut Vec<u64>) -> StepAnswer
+        requires within { IsWithin 0 (length words.old.items)
+            (pushing_access self.old.site self.old.place) }
+        ensures words { words.new.items ≡
+            words_after (pushing_access self.old.site self.old.place) words.old.items }
+        ensures site { self.new.site ≡ self.old.site }
+        ensures place { self.new.place ≡ pushing_after self.old.site self.old.place
+            (pushing_sees self.old.site self.old.place words.old.items) }
+        ensures answer { result ≡ pushing_says self.old.site self.old.place
+            (pushing_sees self.old.site self.old.place words.old.items) }
+    {
+        match self.at {
+            PushAt::Rest => StepAnswer::Going,
+            PushAt::LoadsWrite => {
+                self.position = perform(words, Access::Load(self.site.base));
+                self.at = PushAt::LoadsRead;
+                StepAnswer::Going
+            }
+            PushAt::LoadsRead => {
+                let read = perform(words, Access::Load(self.site.base + 1));
+                let write = self.position;
+                let full = self.site.is_full(read, write);
+                let refused = match self.site.kind {
+                    QueueKind::Index => write == u64::MAX || full,
+                    QueueKind::Overflowing => write == u64::MAX,
+                };
+                if refused {
+                    self.at = PushAt::Rest;
+                    return StepAnswer::Gives(self.value);
+                }
+                self.full = if full { Some(read) } else { None };
+                self.cell = cell_from(self.site, self.known, self.cell, write);
+                self.known = write;
+                self.position = write + 1;
+                self.at = PushAt::StoresCell;
+                StepAnswer::Going
+            }
+            PushAt::StoresCell => {
+                perform(words, Access::Store(self.cell, self.value));
+                self.at = PushAt::StoresWrite;
+                StepAnswer::Going
+            }
+            PushAt::StoresWrite => {
+                perform(words, Access::Store(self.site.base, self.position));
+                match self.full {
+                    Some(read) => {
+                        self.position = read;
+                        self.at = PushAt::Evicts;
+                        StepAnswer::Going
+                    }
+                    None => {
+                        self.at = PushAt::Rest;
+                        StepAnswer::Done
+                    }
+                }
+            }
+            PushAt::Evicts => {
+                let read = self.position;
+                let place = self.site.base + 1;
+                let next = read.saturating_add(1);
+                if perform(words, Access::CompareExchange(place, read, next)) == read {
+                    self.oldest = cell_from(self.site, self.known, self.cell, read);
+                    self.at = PushAt::TakesOld;
+                    StepAnswer::Going
+                } else {
+                    self.at = PushAt::Rest;
+                    StepAnswer::Done
+                }
+            }
+            PushAt::TakesOld => {
+                self.at = PushAt::Rest;
+                StepAnswer::Gives(perform(words, Access::Load(self.oldest)))
+            }
+        }
+    }
+}
