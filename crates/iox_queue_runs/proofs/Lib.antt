@@ -5,3 +5,4 @@ pub mod PushChains
 pub mod PopChains
 pub mod WholeLemmas
 pub mod CellLemmas
+pub mod StoredLemmas

@@ -1,5 +1,5 @@
 -- A party of a queue that is kept in memory between its steps, as plain data: its queue, and where it is.
-use Rattle.std.specs.Prelude.{◌≡◌, ℕ, ◌+◌, ◌^◌, ◌<◌, Option, Some, None}
+use Rattle.std.specs.Prelude.{◌≡◌, ℕ, ◌+◌, ◌^◌, ◌<◌, List, Option, Some, None}
 use Rattle.iox_steps.specs.declared.access.Next.{Next}
 use Rattle.iox_steps.specs.declared.access.Next.TheVariants.{Goes, Ends}
 use Rattle.iox_steps.specs.declared.site.Site.{Site}
@@ -13,7 +13,11 @@ use Rattle.iox_steps.specs.declared.seat.Pushing.{Pushing}
 use Rattle.iox_steps.specs.declared.seat.Pushing.TheVariants as pushing
 use Rattle.iox_steps.specs.declared.seat.Popping.{Popping}
 use Rattle.iox_steps.specs.declared.seat.Popping.TheVariants as popping
+use Rattle.iox_steps.specs.declared.seat.Moment.{Moment}
+use Rattle.iox_steps.specs.Accesses.{words_after}
 use Rattle.iox_steps.specs.Sites.{size, cell_at}
+use Rattle.iox_steps.specs.Seats.{pushing_access, pushing_sees, pushing_after, popping_access, popping_sees, popping_after}
+use Rattle.iox_steps.specs.Plays.{Played}
 use Rattle.iox_steps.specs.Pushes.{push_next}
 use Rattle.iox_steps.specs.Pops.{pop_next}
 use Rattle.iox_queue_runs.specs.declared.stored.answer.StepAnswer.{StepAnswer}
@@ -53,6 +57,36 @@ abbrev pub popping_says : Site → Popping → ℕ → StepAnswer
 popping_says site (popping.Pops place) seen = pop_says (pop_next site place seen)
 popping_says site party seen = Going
 
+-- a queue among words with both its parties
+pub record Stored : Type 0 where
+  pub site : Site
+  pub words : List ℕ
+  pub pushes : Pushing
+  pub pops : Popping
+
+-- the words are those of a queue that was played on, and the parties are in step with them
+abbrev pub HasPlayed : Stored → Type 0
+HasPlayed queue = (events : List Moment) × Played queue.site queue.words queue.pushes queue.pops events
+
+-- a step of the pushing party, which says this, and of the popping one
+pub record StepsPush (old : Stored) (says : StepAnswer) (new : Stored) : Type 0 where
+  pub answers : says ≡ pushing_says old.site old.pushes (pushing_sees old.site old.pushes old.words)
+  pub leaves : new ≡ record {
+    site = old.site;
+    words = words_after (pushing_access old.site old.pushes) old.words;
+    pushes = pushing_after old.site old.pushes (pushing_sees old.site old.pushes old.words);
+    pops = old.pops;
+  }
+
+pub record StepsPop (old : Stored) (says : StepAnswer) (new : Stored) : Type 0 where
+  pub answers : says ≡ popping_says old.site old.pops (popping_sees old.site old.pops old.words)
+  pub leaves : new ≡ record {
+    site = old.site;
+    words = words_after (popping_access old.site old.pops) old.words;
+    pushes = old.pushes;
+    pops = popping_after old.site old.pops (popping_sees old.site old.pops old.words);
+  }
+
 -- for proofs of this crate alone: the place by its name, and what is kept for it
 abbrev pub pushing_of : PushAt → ℕ → ℕ → Option ℕ → ℕ → ℕ → Pushing
 pushing_of push_at.Rest value position full cell old = pushing.AtRest
@@ -77,3 +111,8 @@ popping_of pop_at.Takes position value cell = popping.Pops (pop.Takes position v
 pub record KnowsCell (site : Site) (known cell : ℕ) : Type 0 where
   pub memory : site.base + size site < 2 ^ 64
   pub stands : cell ≡ cell_at site known
+
+-- a queue, by its parts
+pub record IsPlayed (words : List ℕ) (pusher : Pusher) (popper : Popper) : Type 0 where
+  pub same : popper.site ≡ pusher.site
+  pub played : (events : List Moment) × Played pusher.site words pusher.place popper.place events

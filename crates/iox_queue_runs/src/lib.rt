@@ -5,7 +5,7 @@
 mod stored;
 mod whole;
 
-pub use stored::{StepAnswer, StoredPopper, StoredPusher};
+pub use stored::{StepAnswer, StoredPopper, StoredPusher, StoredQueue};
 pub use whole::{holds_when_empty, is_empty, is_full, pop, push};
 
 #[cfg(test)]

@@ -4,7 +4,9 @@ mod answer;
 mod cell;
 mod popper;
 mod pusher;
+mod queue;
 
 pub use answer::StepAnswer;
 pub use popper::StoredPopper;
 pub use pusher::StoredPusher;
+pub use queue::StoredQueue;

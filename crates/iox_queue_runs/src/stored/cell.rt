@@ -22,6 +22,20 @@ pub(crate) fn cell_from(site: Site, known: u64, cell: usize, position: u64) -> u
     }
 }
 
+/// The same for a position that may be one round before the next: that one has the next one's cell.
+#[inline]
+pub(crate) fn cell_before(site: Site, known: u64, cell: usize, position: u64) -> usize
+    requires memory { site.base + size site < 2 ^ 64 }
+    requires known { cell ≡ place_of_cell site known }
+    ensures { result ≡ place_of_cell site position }
+{
+    if position <= known && known - position == (site.cells() as u64).max(1) - 1 {
+        cell_after(site, known, cell)
+    } else {
+        cell_from(site, known, cell, position)
+    }
+}
+
 /// The cell of the next position.
 #[inline]
 fn cell_after(site: Site, known: u64, cell: usize) -> usize

@@ -41,7 +41,8 @@ impl Model for StoredPopper {
 }
 
 impl StoredPopper {
-    ghost use Rattle.std.specs.Prelude.{◌≡◌, ◌+◌, ◌^◌, ◌<◌, length};
+    ghost use Rattle.std.specs.Prelude.{◌≡◌, ◌↔◌, ◌+◌, ◌^◌, ◌<◌, IsTrue, length};
+    ghost use Rattle.std.specs.Bool.{OnTrue, OnFalse};
     ghost use Rattle.iox_steps.specs.declared.seat.Popping.TheVariants.{AtRest, Pops};
     ghost use Rattle.iox_steps.specs.declared.pop.Pop.TheVariants.{LoadsRead};
     ghost use Rattle.iox_steps.specs.Accesses.{IsWithin, words_after};
@@ -64,13 +65,21 @@ impl StoredPopper {
         }
     }
 
-    /// Begins a pop, with no access.
+    /// Begins a pop, with no access, if no call is under way.
     #[inline]
-    pub fn begin_pop(&mut self)
-        requires { self.old.place ≡ AtRest }
-        ensures { self.new ≡ record { site = self.old.site; place = Pops LoadsRead } }
+    pub fn begin_pop(&mut self) -> bool
+        ensures free { IsTrue result ↔ (self.old.place ≡ AtRest) }
+        ensures begun { OnTrue result
+            (self.new ≡ record { site = self.old.site; place = Pops LoadsRead }) }
+        ensures busy { OnFalse result (self.new ≡ self.old) }
     {
-        self.at = PopAt::LoadsRead;
+        match self.at {
+            PopAt::Rest => {
+                self.at = PopAt::LoadsRead;
+                true
+            }
+            _ => false,
+        }
     }
 
     /// Makes its next access, and goes on.

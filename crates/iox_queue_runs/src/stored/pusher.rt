@@ -2,7 +2,7 @@
 ghost use Rattle.std.specs.Prelude.{◌≡◌};
 
 use super::answer::StepAnswer;
-use super::cell::cell_from;
+use super::cell::{cell_before, cell_from};
 use iox_steps::{Access, QueueKind, Site, perform};
 use std::marker::Model;
 
@@ -46,7 +46,8 @@ impl Model for StoredPusher {
 }
 
 impl StoredPusher {
-    ghost use Rattle.std.specs.Prelude.{◌≡◌, ◌+◌, ◌^◌, ◌<◌, length};
+    ghost use Rattle.std.specs.Prelude.{◌≡◌, ◌↔◌, ◌+◌, ◌^◌, ◌<◌, IsTrue, length};
+    ghost use Rattle.std.specs.Bool.{OnTrue, OnFalse};
     ghost use Rattle.iox_steps.specs.declared.seat.Pushing.TheVariants.{AtRest, Pushes};
     ghost use Rattle.iox_steps.specs.declared.push.Push.TheVariants.{LoadsWrite};
     ghost use Rattle.iox_steps.specs.Accesses.{IsWithin, words_after};
@@ -71,14 +72,22 @@ impl StoredPusher {
         }
     }
 
-    /// Begins a push, with no access.
+    /// Begins a push, with no access, if no call is under way.
     #[inline]
-    pub fn begin_push(&mut self, value: u64)
-        requires { self.old.place ≡ AtRest }
-        ensures { self.new ≡ record { site = self.old.site; place = Pushes (LoadsWrite value) } }
+    pub fn begin_push(&mut self, value: u64) -> bool
+        ensures free { IsTrue result ↔ (self.old.place ≡ AtRest) }
+        ensures begun { OnTrue result
+            (self.new ≡ record { site = self.old.site; place = Pushes (LoadsWrite value) }) }
+        ensures busy { OnFalse result (self.new ≡ self.old) }
     {
-        self.value = value;
-        self.at = PushAt::LoadsWrite;
+        match self.at {
+            PushAt::Rest => {
+                self.value = value;
+                self.at = PushAt::LoadsWrite;
+                true
+            }
+            _ => false,
+        }
     }
 
     /// Makes its next access, and goes on.
@@ -144,7 +153,7 @@ impl StoredPusher {
                 let place = self.site.base + 1;
                 let next = read.saturating_add(1);
                 if perform(words, Access::CompareExchange(place, read, next)) == read {
-                    self.oldest = cell_from(self.site, self.known, self.cell, read);
+                    self.oldest = cell_before(self.site, self.known, self.cell, read);
                     self.at = PushAt::TakesOld;
                     StepAnswer::Going
                 } else {
