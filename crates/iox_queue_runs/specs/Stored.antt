@@ -1,5 +1,5 @@
 -- A party of a queue that is kept in memory between its steps, as plain data: its queue, and where it is.
-use Rattle.std.specs.Prelude.{◌≡◌, ℕ, ◌+◌, ◌^◌, ◌<◌, List, Option, Some, None}
+use Rattle.std.specs.Prelude.{◌≡◌, ℕ, ◌+◌, ◌^◌, ◌<◌, List, Bool, Option, Some, None}
 use Rattle.iox_steps.specs.declared.access.Next.{Next}
 use Rattle.iox_steps.specs.declared.access.Next.TheVariants.{Goes, Ends}
 use Rattle.iox_steps.specs.declared.site.Site.{Site}
@@ -15,10 +15,10 @@ use Rattle.iox_steps.specs.declared.seat.Popping.{Popping}
 use Rattle.iox_steps.specs.declared.seat.Popping.TheVariants as popping
 use Rattle.iox_steps.specs.declared.seat.Moment.{Moment}
 use Rattle.iox_steps.specs.Accesses.{words_after}
-use Rattle.iox_steps.specs.Sites.{size, cell_at}
+use Rattle.iox_steps.specs.Sites.{cells, size, cell_at}
 use Rattle.iox_steps.specs.Seats.{pushing_access, pushing_sees, pushing_after, popping_access, popping_sees, popping_after}
 use Rattle.iox_steps.specs.Plays.{Played}
-use Rattle.iox_steps.specs.Pushes.{push_next}
+use Rattle.iox_steps.specs.Pushes.{push_next, full_at}
 use Rattle.iox_steps.specs.Pops.{pop_next}
 use Rattle.iox_queue_runs.specs.declared.stored.answer.StepAnswer.{StepAnswer}
 use Rattle.iox_queue_runs.specs.declared.stored.answer.StepAnswer.TheVariants.{Going, Done, Gives}
@@ -88,17 +88,17 @@ pub record StepsPop (old : Stored) (says : StepAnswer) (new : Stored) : Type 0 w
   }
 
 -- for proofs of this crate alone: the place by its name, and what is kept for it
-abbrev pub pushing_of : PushAt → ℕ → ℕ → Option ℕ → ℕ → ℕ → Pushing
-pushing_of push_at.Rest value position full cell old = pushing.AtRest
-pushing_of push_at.LoadsWrite value position full cell old = pushing.Pushes (push.LoadsWrite value)
-pushing_of push_at.LoadsRead value position full cell old =
+abbrev pub pushing_of : PushAt → ℕ → ℕ → Bool → ℕ → ℕ → ℕ → Pushing
+pushing_of push_at.Rest value position full read cell old = pushing.AtRest
+pushing_of push_at.LoadsWrite value position full read cell old = pushing.Pushes (push.LoadsWrite value)
+pushing_of push_at.LoadsRead value position full read cell old =
     pushing.Pushes (push.LoadsRead value position)
-pushing_of push_at.StoresCell value position full cell old =
-    pushing.Pushes (push.StoresCell value cell position full)
-pushing_of push_at.StoresWrite value position full cell old =
-    pushing.Pushes (push.StoresWrite value position full)
-pushing_of push_at.Evicts value position full cell old = pushing.Pushes (push.Evicts position)
-pushing_of push_at.TakesOld value position full cell old = pushing.Pushes (push.TakesOld old)
+pushing_of push_at.StoresCell value position full read cell old =
+    pushing.Pushes (push.StoresCell value cell position (full_at full read))
+pushing_of push_at.StoresWrite value position full read cell old =
+    pushing.Pushes (push.StoresWrite value position (full_at full read))
+pushing_of push_at.Evicts value position full read cell old = pushing.Pushes (push.Evicts read)
+pushing_of push_at.TakesOld value position full read cell old = pushing.Pushes (push.TakesOld old)
 
 abbrev pub popping_of : PopAt → ℕ → ℕ → ℕ → Popping
 popping_of pop_at.Rest position value cell = popping.AtRest
@@ -107,9 +107,10 @@ popping_of pop_at.LoadsWrite position value cell = popping.Pops (pop.LoadsWrite 
 popping_of pop_at.LoadsCell position value cell = popping.Pops (pop.LoadsCell position cell)
 popping_of pop_at.Takes position value cell = popping.Pops (pop.Takes position value)
 
--- the queue is in memory, and this is the cell of a known position
-pub record KnowsCell (site : Site) (known cell : ℕ) : Type 0 where
+-- the queue is in memory, and these are the place of its last cell and the cell of a known position
+pub record KnowsCell (site : Site) (last known cell : ℕ) : Type 0 where
   pub memory : site.base + size site < 2 ^ 64
+  pub end : last ≡ site.base + 1 + cells site
   pub stands : cell ≡ cell_at site known
 
 -- a queue, by its parts

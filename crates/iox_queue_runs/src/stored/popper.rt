@@ -28,6 +28,8 @@ pub struct StoredPopper {
     /// some position, and its cell
     known: u64,
     cell: usize,
+    /// the place of the last cell
+    last: usize,
 }
 
 impl Model for StoredPopper {
@@ -37,7 +39,7 @@ impl Model for StoredPopper {
 
     ghost view = { λ p. record { site = p.site; place = popping_of p.at p.position p.value p.cell } };
 
-    ghost invariant = { λ p. KnowsCell p.site p.known p.cell };
+    ghost invariant = { λ p. KnowsCell p.site p.last p.known p.cell };
 }
 
 impl StoredPopper {
@@ -62,6 +64,7 @@ impl StoredPopper {
             value: 0,
             known: 0,
             cell: site.cell_at(0),
+            last: site.base + 1 + site.cells(),
         }
     }
 
@@ -108,7 +111,7 @@ impl StoredPopper {
                     self.at = PopAt::Rest;
                     return StepAnswer::Done;
                 }
-                self.cell = cell_from(self.site, self.known, self.cell, self.position);
+                self.cell = cell_from(self.site, self.last, self.known, self.cell, self.position);
                 self.known = self.position;
                 self.at = PopAt::LoadsCell;
                 StepAnswer::Going
@@ -134,7 +137,7 @@ impl StoredPopper {
                             self.at = PopAt::Rest;
                             return StepAnswer::Gives(self.value);
                         }
-                        self.cell = cell_from(self.site, self.known, self.cell, seen);
+                        self.cell = cell_from(self.site, self.last, self.known, self.cell, seen);
                         self.known = seen;
                         self.position = seen;
                         self.at = PopAt::LoadsCell;

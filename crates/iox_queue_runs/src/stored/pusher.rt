@@ -24,12 +24,16 @@ pub struct StoredPusher {
     site: Site,
     at: PushAt,
     value: u64,
-    /// the write position, then the next one, then the read position at which the queue was full
+    /// the write position, then the next one
     position: u64,
-    full: Option<u64>,
+    /// is the queue full at this read position?
+    full: bool,
+    read: u64,
     /// some position, and its cell
     known: u64,
     cell: usize,
+    /// the place of the last cell
+    last: usize,
     /// the cell of the value that was pushed out
     oldest: usize,
 }
@@ -40,9 +44,9 @@ impl Model for StoredPusher {
     ghost Value = { Pusher };
 
     ghost view = { λ p.
-        record { site = p.site; place = pushing_of p.at p.value p.position p.full p.cell p.oldest } };
+        record { site = p.site; place = pushing_of p.at p.value p.position p.full p.read p.cell p.oldest } };
 
-    ghost invariant = { λ p. KnowsCell p.site p.known p.cell };
+    ghost invariant = { λ p. KnowsCell p.site p.last p.known p.cell };
 }
 
 impl StoredPusher {
@@ -65,9 +69,11 @@ impl StoredPusher {
             at: PushAt::Rest,
             value: 0,
             position: 0,
-            full: None,
+            full: false,
+            read: 0,
             known: 0,
             cell: site.cell_at(0),
+            last: site.base + 1 + site.cells(),
             oldest: 0,
         }
     }
@@ -114,16 +120,17 @@ impl StoredPusher {
                 let read = perform(words, Access::Load(self.site.base + 1));
                 let write = self.position;
                 let full = self.site.is_full(read, write);
-                let refused = match self.site.kind {
-                    QueueKind::Index => write == u64::MAX || full,
-                    QueueKind::Overflowing => write == u64::MAX,
+                let may_overflow = match self.site.kind {
+                    QueueKind::Index => false,
+                    QueueKind::Overflowing => true,
                 };
-                if refused {
+                if write == u64::MAX || (full && !may_overflow) {
                     self.at = PushAt::Rest;
                     return StepAnswer::Gives(self.value);
                 }
-                self.full = if full { Some(read) } else { None };
-                self.cell = cell_from(self.site, self.known, self.cell, write);
+                self.full = full;
+                self.read = read;
+                self.cell = cell_from(self.site, self.last, self.known, self.cell, write);
                 self.known = write;
                 self.position = write + 1;
                 self.at = PushAt::StoresCell;
@@ -136,24 +143,20 @@ impl StoredPusher {
             }
             PushAt::StoresWrite => {
                 perform(words, Access::Store(self.site.base, self.position));
-                match self.full {
-                    Some(read) => {
-                        self.position = read;
-                        self.at = PushAt::Evicts;
-                        StepAnswer::Going
-                    }
-                    None => {
-                        self.at = PushAt::Rest;
-                        StepAnswer::Done
-                    }
+                if self.full {
+                    self.at = PushAt::Evicts;
+                    StepAnswer::Going
+                } else {
+                    self.at = PushAt::Rest;
+                    StepAnswer::Done
                 }
             }
             PushAt::Evicts => {
-                let read = self.position;
+                let read = self.read;
                 let place = self.site.base + 1;
                 let next = read.saturating_add(1);
                 if perform(words, Access::CompareExchange(place, read, next)) == read {
-                    self.oldest = cell_before(self.site, self.known, self.cell, read);
+                    self.oldest = cell_before(self.site, self.last, self.known, self.cell, read);
                     self.at = PushAt::TakesOld;
                     StepAnswer::Going
                 } else {
