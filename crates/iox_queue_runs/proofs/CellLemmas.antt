@@ -31,10 +31,10 @@ module _ (site : Site) (last known cell : ℕ) (knows : KnowsCell site last know
       let first : (known % n + 1) % n ≡ 0 = rw last (mod_self n) in
       omega (arith, next_mod n known ∙ first)
 
--- a position one round before the next has its cell
-pub cell_a_round_before : (site : Site) (known position : ℕ) → position ≤ known → known - position ≡ max 1 (cells site) - 1
-    → cell_at site (known + 1) ≡ cell_at site position
+-- a position one round before another has its cell
+pub cell_a_round_before : (site : Site) (known position : ℕ) → position ≤ known → known - position ≡ max 1 (cells site)
+    → cell_at site known ≡ cell_at site position
 cell_a_round_before site known position before round =
     let n : ℕ = max 1 (cells site) in
-    let next : known + 1 ≡ position + n = omega arith in
+    let next : known ≡ position + n = omega arith in
     rw next (ap (λ rest. site.base + 2 + rest) (add-mod_right position n))

@@ -5,16 +5,13 @@ ghost use Rattle.iox_queue_runs.specs.Stored.{KnowsCell};
 
 use iox_steps::Site;
 
-/// The cell of a position, where the cell of some position and the last cell are known. It divides
-/// only if the position is neither that one nor the next.
+/// The cell of a position, by that of a known one. It divides only where they differ.
 #[inline]
 pub(crate) fn cell_from(site: Site, last: usize, known: u64, cell: usize, position: u64) -> usize
     requires { KnowsCell site last known cell }
     ensures { result ≡ cell_at site position }
 {
-    if position != 0 && position - 1 == known {
-        return cell_after(site, last, known, cell);
-    }
+    let _last = last;
     if position == known {
         cell
     } else {
@@ -22,14 +19,14 @@ pub(crate) fn cell_from(site: Site, last: usize, known: u64, cell: usize, positi
     }
 }
 
-/// The same for a position that may be one round before the next: that one has the next one's cell.
+/// The same for a position that may be one round before the known one: both have one cell.
 #[inline]
 pub(crate) fn cell_before(site: Site, last: usize, known: u64, cell: usize, position: u64) -> usize
     requires { KnowsCell site last known cell }
     ensures { result ≡ cell_at site position }
 {
-    if position <= known && known - position == (site.cells() as u64).max(1) - 1 {
-        cell_after(site, last, known, cell)
+    if position <= known && known - position == (site.cells() as u64).max(1) {
+        cell
     } else {
         cell_from(site, last, known, cell, position)
     }
@@ -37,7 +34,7 @@ pub(crate) fn cell_before(site: Site, last: usize, known: u64, cell: usize, posi
 
 /// The cell of the next position.
 #[inline]
-fn cell_after(site: Site, last: usize, known: u64, cell: usize) -> usize
+pub(crate) fn cell_after(site: Site, last: usize, known: u64, cell: usize) -> usize
     requires { KnowsCell site last known cell }
     ensures { result ≡ cell_at site (known + 1) }
 {

@@ -2,7 +2,7 @@
 ghost use Rattle.std.specs.Prelude.{◌≡◌};
 
 use super::answer::StepAnswer;
-use super::cell::cell_from;
+use super::cell::{cell_after, cell_from};
 use iox_steps::{Access, QueueKind, Site, perform};
 use std::marker::Model;
 
@@ -25,9 +25,11 @@ pub struct StoredPopper {
     position: u64,
     /// the value that it loaded
     value: u64,
-    /// some position, and its cell
-    known: u64,
+    /// the cell of the position
     cell: usize,
+    /// the position that is expected next, and its cell
+    next: u64,
+    next_cell: usize,
     /// the place of the last cell
     last: usize,
 }
@@ -39,7 +41,7 @@ impl Model for StoredPopper {
 
     ghost view = { λ p. record { site = p.site; place = popping_of p.at p.position p.value p.cell } };
 
-    ghost invariant = { λ p. KnowsCell p.site p.last p.known p.cell };
+    ghost invariant = { λ p. KnowsCell p.site p.last p.next p.next_cell };
 }
 
 impl StoredPopper {
@@ -62,8 +64,9 @@ impl StoredPopper {
             at: PopAt::Rest,
             position: 0,
             value: 0,
-            known: 0,
-            cell: site.cell_at(0),
+            cell: 0,
+            next: 0,
+            next_cell: site.cell_at(0),
             last: site.base + 1 + site.cells(),
         }
     }
@@ -111,8 +114,11 @@ impl StoredPopper {
                     self.at = PopAt::Rest;
                     return StepAnswer::Done;
                 }
-                self.cell = cell_from(self.site, self.last, self.known, self.cell, self.position);
-                self.known = self.position;
+                let read = self.position;
+                let cell = cell_from(self.site, self.last, self.next, self.next_cell, read);
+                self.cell = cell;
+                self.next = read + 1;
+                self.next_cell = cell_after(self.site, self.last, read, cell);
                 self.at = PopAt::LoadsCell;
                 StepAnswer::Going
             }
@@ -137,8 +143,13 @@ impl StoredPopper {
                             self.at = PopAt::Rest;
                             return StepAnswer::Gives(self.value);
                         }
-                        self.cell = cell_from(self.site, self.last, self.known, self.cell, seen);
-                        self.known = seen;
+                        self.cell = cell_from(
+                            self.site,
+                            self.last,
+                            self.next,
+                            self.next_cell,
+                            seen,
+                        );
                         self.position = seen;
                         self.at = PopAt::LoadsCell;
                         StepAnswer::Going

@@ -2,7 +2,7 @@
 ghost use Rattle.std.specs.Prelude.{◌≡◌};
 
 use super::answer::StepAnswer;
-use super::cell::{cell_before, cell_from};
+use super::cell::{cell_after, cell_before, cell_from};
 use iox_steps::{Access, QueueKind, Site, perform};
 use std::marker::Model;
 
@@ -29,9 +29,11 @@ pub struct StoredPusher {
     /// is the queue full at this read position?
     full: bool,
     read: u64,
-    /// some position, and its cell
-    known: u64,
+    /// the cell of the write position
     cell: usize,
+    /// the position that is expected next, and its cell
+    next: u64,
+    next_cell: usize,
     /// the place of the last cell
     last: usize,
     /// the cell of the value that was pushed out
@@ -46,7 +48,7 @@ impl Model for StoredPusher {
     ghost view = { λ p.
         record { site = p.site; place = pushing_of p.at p.value p.position p.full p.read p.cell p.oldest } };
 
-    ghost invariant = { λ p. KnowsCell p.site p.last p.known p.cell };
+    ghost invariant = { λ p. KnowsCell p.site p.last p.next p.next_cell };
 }
 
 impl StoredPusher {
@@ -71,8 +73,9 @@ impl StoredPusher {
             position: 0,
             full: false,
             read: 0,
-            known: 0,
-            cell: site.cell_at(0),
+            cell: 0,
+            next: 0,
+            next_cell: site.cell_at(0),
             last: site.base + 1 + site.cells(),
             oldest: 0,
         }
@@ -120,18 +123,25 @@ impl StoredPusher {
                 let read = perform(words, Access::Load(self.site.base + 1));
                 let write = self.position;
                 let full = self.site.is_full(read, write);
-                let may_overflow = match self.site.kind {
-                    QueueKind::Index => false,
-                    QueueKind::Overflowing => true,
-                };
-                if write == u64::MAX || (full && !may_overflow) {
+                if write == u64::MAX {
                     self.at = PushAt::Rest;
                     return StepAnswer::Gives(self.value);
                 }
+                if full {
+                    match self.site.kind {
+                        QueueKind::Index => {
+                            self.at = PushAt::Rest;
+                            return StepAnswer::Gives(self.value);
+                        }
+                        QueueKind::Overflowing => {}
+                    }
+                }
                 self.full = full;
                 self.read = read;
-                self.cell = cell_from(self.site, self.last, self.known, self.cell, write);
-                self.known = write;
+                let cell = cell_from(self.site, self.last, self.next, self.next_cell, write);
+                self.cell = cell;
+                self.next = write + 1;
+                self.next_cell = cell_after(self.site, self.last, write, cell);
                 self.position = write + 1;
                 self.at = PushAt::StoresCell;
                 StepAnswer::Going
@@ -156,7 +166,13 @@ impl StoredPusher {
                 let place = self.site.base + 1;
                 let next = read.saturating_add(1);
                 if perform(words, Access::CompareExchange(place, read, next)) == read {
-                    self.oldest = cell_before(self.site, self.last, self.known, self.cell, read);
+                    self.oldest = cell_before(
+                        self.site,
+                        self.last,
+                        self.next,
+                        self.next_cell,
+                        read,
+                    );
                     self.at = PushAt::TakesOld;
                     StepAnswer::Going
                 } else {
