@@ -1,8 +1,10 @@
 //! Whole calls on the words of a queue.
-use crate::{holds_when_empty, is_empty, is_full, pop, push};
+use crate::{StepAnswer, StoredQueue, holds_when_empty, is_empty, is_full, pop, push};
 use iox_queues::spsc::index_queue::IndexQueue;
+use iox_queues::spsc::safely_overflowing_index_queue::SafelyOverflowingIndexQueue;
 use iox_steps::{QueueKind, Reply, Site};
 use std::alloc::Global;
+use std::process::Abort;
 use std::test::Fail;
 
 /// Eight words, with a word before the positions, which are both this.
@@ -86,5 +88,79 @@ fn nothing_is_pushed_past_the_last_position(rt: HostRuntime) -> Result<(), Fail>
         assert!(rt; pop(&mut words, site) == Reply::Popped(Some(5)));
         assert!(rt; pop(&mut words, site) == Reply::Popped(None));
     }
+    Ok(())
+}
+
+/// A stored queue that pushes values out, of two values, at this position.
+fn stored_at(alloc: Global, rt: &impl Abort, position: u64) -> Result<StoredQueue, Fail> {
+    let words = words_at(alloc, position)?;
+    let site = Site {
+        kind: QueueKind::Overflowing,
+        base: 1,
+        capacity: 2,
+    };
+    assert!(rt; words.len() == 8 && words[1] == words[2]);
+    Ok(StoredQueue::new(words, site))
+}
+
+/// Makes accesses of the push until it is done, and answers what comes back.
+fn end_push(rt: &impl Abort, queue: &mut StoredQueue) -> Option<u64> {
+    for _ in 0..6u64 {
+        match queue.step_push() {
+            StepAnswer::Going => {}
+            StepAnswer::Done => return None,
+            StepAnswer::Gives(value) => return Some(value),
+        }
+    }
+    assert!(rt; false);
+    None
+}
+
+/// The same of the pop.
+fn end_pop(rt: &impl Abort, queue: &mut StoredQueue) -> Option<u64> {
+    for _ in 0..6u64 {
+        match queue.step_pop() {
+            StepAnswer::Going => {}
+            StepAnswer::Done => return None,
+            StepAnswer::Gives(value) => return Some(value),
+        }
+    }
+    assert!(rt; false);
+    None
+}
+
+#[test]
+fn stored_parties_answer_as_the_plain_queue(rt: HostRuntime) -> Result<(), Fail> {
+    for position in 0..5u64 {
+        let mut plain = SafelyOverflowingIndexQueue::new(rt.alloc(), 2)?;
+        let mut stored = stored_at(rt.alloc(), &rt, position)?;
+        for value in 0..20u64 {
+            assert!(rt; stored.begin_push(value));
+            assert_eq!(rt; end_push(&rt, &mut stored), plain.push(value));
+            if value % 3 == 0 {
+                assert!(rt; stored.begin_pop());
+                assert_eq!(rt; end_pop(&rt, &mut stored), plain.pop());
+            }
+        }
+    }
+    Ok(())
+}
+
+#[test]
+fn a_stored_pop_goes_on_after_an_eviction(rt: HostRuntime) -> Result<(), Fail> {
+    let mut stored = stored_at(rt.alloc(), &rt, 7)?;
+    for value in 1..3u64 {
+        assert!(rt; stored.begin_push(value));
+        assert_eq!(rt; end_push(&rt, &mut stored), None);
+    }
+    assert!(rt; stored.begin_pop());
+    for _ in 0..3u64 {
+        assert_eq!(rt; stored.step_pop(), StepAnswer::Going);
+    }
+    assert!(rt; stored.begin_push(3) && !stored.begin_push(4));
+    assert_eq!(rt; end_push(&rt, &mut stored), Some(1));
+    assert!(rt; !stored.begin_pop());
+    assert_eq!(rt; stored.step_pop(), StepAnswer::Going);
+    assert_eq!(rt; end_pop(&rt, &mut stored), Some(2));
     Ok(())
 }

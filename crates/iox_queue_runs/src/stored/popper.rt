@@ -115,7 +115,7 @@ impl StoredPopper {
                     return StepAnswer::Done;
                 }
                 let read = self.position;
-                let cell = cell_from(self.site, self.last, self.next, self.next_cell, read);
+                let cell = cell_from(self.site, self.next, self.next_cell, read);
                 self.cell = cell;
                 self.next = read + 1;
                 self.next_cell = cell_after(self.site, self.last, read, cell);
@@ -143,13 +143,12 @@ impl StoredPopper {
                             self.at = PopAt::Rest;
                             return StepAnswer::Gives(self.value);
                         }
-                        self.cell = cell_from(
-                            self.site,
-                            self.last,
-                            self.next,
-                            self.next_cell,
-                            seen,
-                        );
+                        let cell = cell_from(self.site, self.next, self.next_cell, seen);
+                        if seen != u64::MAX {
+                            self.next = seen + 1;
+                            self.next_cell = cell_after(self.site, self.last, seen, cell);
+                        }
+                        self.cell = cell;
                         self.position = seen;
                         self.at = PopAt::LoadsCell;
                         StepAnswer::Going

@@ -138,7 +138,7 @@ impl StoredPusher {
                 }
                 self.full = full;
                 self.read = read;
-                let cell = cell_from(self.site, self.last, self.next, self.next_cell, write);
+                let cell = cell_from(self.site, self.next, self.next_cell, write);
                 self.cell = cell;
                 self.next = write + 1;
                 self.next_cell = cell_after(self.site, self.last, write, cell);
@@ -166,13 +166,7 @@ impl StoredPusher {
                 let place = self.site.base + 1;
                 let next = read.saturating_add(1);
                 if perform(words, Access::CompareExchange(place, read, next)) == read {
-                    self.oldest = cell_before(
-                        self.site,
-                        self.last,
-                        self.next,
-                        self.next_cell,
-                        read,
-                    );
+                    self.oldest = cell_before(self.site, self.next, self.next_cell, read);
                     self.at = PushAt::TakesOld;
                     StepAnswer::Going
                 } else {
