@@ -1,6 +1,6 @@
 -- The cell of a position, by that of the position before it.
-use Rattle.std.proofs.Common.{◌≡◌, ℕ, ◌+◌, ◌-◌, ◌%◌, ◌<◌, ◌≤◌, max, suc, arith, ap, ◌∙◌}
-use Rattle.std.proofs.Math.Nat.{suc-mod, mod-eq_of_lt, mod_self, add-mod_right}
+use Rattle.std.proofs.Common.{◌≡◌, ℕ, ◌+◌, ◌%◌, ◌<◌, ◌≤◌, max, suc, arith, ◌∙◌}
+use Rattle.std.proofs.Math.Nat.{suc-mod, mod-eq_of_lt, mod_self}
 use Rattle.std.proofs.lemmas.Nat.{mod_below}
 use Rattle.iox_steps.specs.declared.site.Site.{Site}
 use Rattle.iox_steps.specs.Sites.{cells, cell_at}
@@ -12,7 +12,7 @@ next_mod n p =
     let rest : p % n + 1 ≡ suc (p % n) = omega arith in
     rw (next, rest) (suc-mod p n)
 
-module _ (site : Site) (last known cell : ℕ) (knows : KnowsCell site last known cell) where
+module _ (site : Site) (last known cell : ℕ) (knows : KnowsCell site (record { next = known; cell = cell; last = last })) where
   pub cell_after-inside : cell < last → cell + 1 ≡ cell_at site (known + 1)
   cell_after-inside inside =
       let n : ℕ = max 1 (cells site) in
@@ -30,11 +30,3 @@ module _ (site : Site) (last known cell : ℕ) (knows : KnowsCell site last know
       let last : known % n + 1 ≡ n = omega arith in
       let first : (known % n + 1) % n ≡ 0 = rw last (mod_self n) in
       omega (arith, next_mod n known ∙ first)
-
--- a position one round before another has its cell
-pub cell_a_round_before : (site : Site) (known position : ℕ) → position ≤ known → known - position ≡ max 1 (cells site)
-    → cell_at site known ≡ cell_at site position
-cell_a_round_before site known position before round =
-    let n : ℕ = max 1 (cells site) in
-    let next : known ≡ position + n = omega arith in
-    rw next (ap (λ rest. site.base + 2 + rest) (add-mod_right position n))

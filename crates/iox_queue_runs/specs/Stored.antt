@@ -22,6 +22,7 @@ use Rattle.iox_steps.specs.Pushes.{push_next, full_at}
 use Rattle.iox_steps.specs.Pops.{pop_next}
 use Rattle.iox_queue_runs.specs.declared.stored.answer.StepAnswer.{StepAnswer}
 use Rattle.iox_queue_runs.specs.declared.stored.answer.StepAnswer.TheVariants.{Going, Done, Gives}
+use Rattle.iox_queue_runs.specs.declared.stored.cell.Cursor.{Cursor}
 use Rattle.iox_queue_runs.specs.declared.stored.pusher.PushAt.{PushAt}
 use Rattle.iox_queue_runs.specs.declared.stored.pusher.PushAt.TheVariants as push_at
 use Rattle.iox_queue_runs.specs.declared.stored.popper.PopAt.{PopAt}
@@ -107,11 +108,11 @@ popping_of pop_at.LoadsWrite position value cell = popping.Pops (pop.LoadsWrite 
 popping_of pop_at.LoadsCell position value cell = popping.Pops (pop.LoadsCell position cell)
 popping_of pop_at.Takes position value cell = popping.Pops (pop.Takes position value)
 
--- the queue is in memory, and these are the place of its last cell and the cell of a known position
-pub record KnowsCell (site : Site) (last known cell : ℕ) : Type 0 where
+-- the queue is in memory, and these are the cell of a position and the place of the last cell
+pub record KnowsCell (site : Site) (cursor : Cursor) : Type 0 where
   pub memory : site.base + size site < 2 ^ 64
-  pub end : last ≡ site.base + 1 + cells site
-  pub stands : cell ≡ cell_at site known
+  pub end : cursor.last ≡ site.base + 1 + cells site
+  pub stands : cursor.cell ≡ cell_at site cursor.next
 
 -- a queue, by its parts
 pub record IsPlayed (words : List ℕ) (pusher : Pusher) (popper : Popper) : Type 0 where

@@ -1,9 +1,10 @@
 //! The party that pops, kept in memory.
 ghost use Rattle.std.specs.Prelude.{◌≡◌};
+ghost use Rattle.iox_steps.specs.Pops.{is_taken as was_taken};
 
 use super::answer::StepAnswer;
-use super::cell::{cell_after, cell_from};
-use iox_steps::{Access, QueueKind, Site, perform};
+use super::cell::Cursor;
+use iox_steps::{Access, Pop, QueueKind, Site, perform};
 use std::marker::Model;
 
 /// The place of a pop, by its name alone.
@@ -27,11 +28,7 @@ pub struct StoredPopper {
     value: u64,
     /// the cell of the position
     cell: usize,
-    /// the position that is expected next, and its cell
-    next: u64,
-    next_cell: usize,
-    /// the place of the last cell
-    last: usize,
+    cursor: Cursor,
 }
 
 impl Model for StoredPopper {
@@ -41,7 +38,7 @@ impl Model for StoredPopper {
 
     ghost view = { λ p. record { site = p.site; place = popping_of p.at p.position p.value p.cell } };
 
-    ghost invariant = { λ p. KnowsCell p.site p.last p.next p.next_cell };
+    ghost invariant = { λ p. KnowsCell p.site p.cursor };
 }
 
 impl StoredPopper {
@@ -65,9 +62,7 @@ impl StoredPopper {
             position: 0,
             value: 0,
             cell: 0,
-            next: 0,
-            next_cell: site.cell_at(0),
-            last: site.base + 1 + site.cells(),
+            cursor: Cursor::new(site),
         }
     }
 
@@ -102,11 +97,10 @@ impl StoredPopper {
             (popping_sees self.old.site self.old.place words.old.items) }
     {
         match self.at {
-            PopAt::Rest => StepAnswer::Going,
+            PopAt::Rest => {}
             PopAt::LoadsRead => {
                 self.position = perform(words, Access::Load(self.site.base + 1));
                 self.at = PopAt::LoadsWrite;
-                StepAnswer::Going
             }
             PopAt::LoadsWrite => {
                 let write = perform(words, Access::Load(self.site.base));
@@ -114,47 +108,36 @@ impl StoredPopper {
                     self.at = PopAt::Rest;
                     return StepAnswer::Done;
                 }
-                let read = self.position;
-                let cell = cell_from(self.site, self.next, self.next_cell, read);
-                self.cell = cell;
-                self.next = read + 1;
-                self.next_cell = cell_after(self.site, self.last, read, cell);
+                self.cell = self.cursor.visit(self.site, self.position);
                 self.at = PopAt::LoadsCell;
-                StepAnswer::Going
             }
             PopAt::LoadsCell => {
                 self.value = perform(words, Access::Load(self.cell));
                 self.at = PopAt::Takes;
-                StepAnswer::Going
             }
             PopAt::Takes => {
-                let read = self.position;
-                let next = read.saturating_add(1);
-                match self.site.kind {
-                    QueueKind::Index => {
-                        perform(words, Access::Store(self.site.base + 1, next));
-                        self.at = PopAt::Rest;
-                        StepAnswer::Gives(self.value)
-                    }
-                    QueueKind::Overflowing => {
-                        let place = self.site.base + 1;
-                        let seen = perform(words, Access::CompareExchange(place, read, next));
-                        if seen == read {
-                            self.at = PopAt::Rest;
-                            return StepAnswer::Gives(self.value);
-                        }
-                        let cell = cell_from(self.site, self.next, self.next_cell, seen);
-                        if seen != u64::MAX {
-                            self.next = seen + 1;
-                            self.next_cell = cell_after(self.site, self.last, seen, cell);
-                        }
-                        self.cell = cell;
-                        self.position = seen;
-                        self.at = PopAt::LoadsCell;
-                        StepAnswer::Going
-                    }
+                let place = Pop::Takes(self.position, self.value);
+                let seen = perform(words, place.access(self.site));
+                if is_taken(self.site.kind, self.position, seen) {
+                    self.at = PopAt::Rest;
+                    return StepAnswer::Gives(self.value);
                 }
+                self.cell = self.cursor.visit(self.site, seen);
+                self.position = seen;
+                self.at = PopAt::LoadsCell;
             }
         }
+        StepAnswer::Going
+    }
+}
+
+/// Was the value taken by an access that found `seen`?
+#[inline]
+fn is_taken(kind: QueueKind, read: u64, seen: u64) -> bool
+    ensures { result ≡ was_taken kind read seen }
+{
+    match kind {
+        QueueKind::Index => true,
+        QueueKind::Overflowing => seen == read,
     }
 }

@@ -1,9 +1,11 @@
 //! The party that pushes, kept in memory.
-ghost use Rattle.std.specs.Prelude.{◌≡◌};
+ghost use Rattle.std.specs.Prelude.{◌≡◌, ◌==◌};
+ghost use Rattle.iox_steps.specs.Sites.{last_position};
+ghost use Rattle.iox_steps.specs.Pushes.{is_refused};
 
 use super::answer::StepAnswer;
-use super::cell::{cell_after, cell_before, cell_from};
-use iox_steps::{Access, QueueKind, Site, perform};
+use super::cell::Cursor;
+use iox_steps::{Access, Push, QueueKind, Site, perform};
 use std::marker::Model;
 
 /// The place of a push, by its name alone.
@@ -31,11 +33,7 @@ pub struct StoredPusher {
     read: u64,
     /// the cell of the write position
     cell: usize,
-    /// the position that is expected next, and its cell
-    next: u64,
-    next_cell: usize,
-    /// the place of the last cell
-    last: usize,
+    cursor: Cursor,
     /// the cell of the value that was pushed out
     oldest: usize,
 }
@@ -48,7 +46,7 @@ impl Model for StoredPusher {
     ghost view = { λ p.
         record { site = p.site; place = pushing_of p.at p.value p.position p.full p.read p.cell p.oldest } };
 
-    ghost invariant = { λ p. KnowsCell p.site p.last p.next p.next_cell };
+    ghost invariant = { λ p. KnowsCell p.site p.cursor };
 }
 
 impl StoredPusher {
@@ -74,9 +72,7 @@ impl StoredPusher {
             full: false,
             read: 0,
             cell: 0,
-            next: 0,
-            next_cell: site.cell_at(0),
-            last: site.base + 1 + site.cells(),
+            cursor: Cursor::new(site),
             oldest: 0,
         }
     }
@@ -113,71 +109,71 @@ impl StoredPusher {
             (pushing_sees self.old.site self.old.place words.old.items) }
     {
         match self.at {
-            PushAt::Rest => StepAnswer::Going,
+            PushAt::Rest => {}
             PushAt::LoadsWrite => {
                 self.position = perform(words, Access::Load(self.site.base));
                 self.at = PushAt::LoadsRead;
-                StepAnswer::Going
             }
             PushAt::LoadsRead => {
-                let read = perform(words, Access::Load(self.site.base + 1));
-                let write = self.position;
-                let full = self.site.is_full(read, write);
-                if write == u64::MAX {
-                    self.at = PushAt::Rest;
-                    return StepAnswer::Gives(self.value);
+                self.read = perform(words, Access::Load(self.site.base + 1));
+                self.full = self.site.is_full(self.read, self.position);
+                if refuses(self.site.kind, self.full, self.position) {
+                    return ends(&mut self.at, StepAnswer::Gives(self.value));
                 }
-                if full {
-                    match self.site.kind {
-                        QueueKind::Index => {
-                            self.at = PushAt::Rest;
-                            return StepAnswer::Gives(self.value);
-                        }
-                        QueueKind::Overflowing => {}
-                    }
-                }
-                self.full = full;
-                self.read = read;
-                let cell = cell_from(self.site, self.next, self.next_cell, write);
-                self.cell = cell;
-                self.next = write + 1;
-                self.next_cell = cell_after(self.site, self.last, write, cell);
-                self.position = write + 1;
+                self.cell = self.cursor.visit(self.site, self.position);
+                self.position += 1;
                 self.at = PushAt::StoresCell;
-                StepAnswer::Going
             }
             PushAt::StoresCell => {
                 perform(words, Access::Store(self.cell, self.value));
                 self.at = PushAt::StoresWrite;
-                StepAnswer::Going
             }
             PushAt::StoresWrite => {
                 perform(words, Access::Store(self.site.base, self.position));
-                if self.full {
-                    self.at = PushAt::Evicts;
-                    StepAnswer::Going
-                } else {
-                    self.at = PushAt::Rest;
-                    StepAnswer::Done
+                if !self.full {
+                    return ends(&mut self.at, StepAnswer::Done);
                 }
+                self.at = PushAt::Evicts;
             }
             PushAt::Evicts => {
-                let read = self.read;
-                let place = self.site.base + 1;
-                let next = read.saturating_add(1);
-                if perform(words, Access::CompareExchange(place, read, next)) == read {
-                    self.oldest = cell_before(self.site, self.next, self.next_cell, read);
-                    self.at = PushAt::TakesOld;
-                    StepAnswer::Going
-                } else {
-                    self.at = PushAt::Rest;
-                    StepAnswer::Done
+                if perform(words, Push::Evicts(self.read).access(self.site)) != self.read {
+                    return ends(&mut self.at, StepAnswer::Done);
                 }
+                self.oldest = self.cursor.before(self.site, self.read);
+                self.at = PushAt::TakesOld;
             }
             PushAt::TakesOld => {
-                self.at = PushAt::Rest;
-                StepAnswer::Gives(perform(words, Access::Load(self.oldest)))
+                let oldest = perform(words, Access::Load(self.oldest));
+                return ends(&mut self.at, StepAnswer::Gives(oldest));
             }
         }
+        StepAnswer::Going
     }
+}
+
+/// The call ends with this answer.
+#[inline]
+fn ends(at: &mut PushAt, answer: StepAnswer) -> StepAnswer
+    ensures at { at.new ≡ PushAt.Rest }
+    ensures answer { result ≡ answer }
+{
+    *at = PushAt::Rest;
+    answer
+}
+
+/// Is a push refused at this write position, of a queue that is full or not?
+#[inline]
+fn refuses(kind: QueueKind, full: bool, write: u64) -> bool
+    ensures { result ≡ is_refused kind (write == last_position) full }
+{
+    if write == u64::MAX {
+        return true;
+    }
+    if full {
+        match kind {
+            QueueKind::Index => return true,
+            QueueKind::Overflowing => {}
+        }
+    }
+    false
 }
