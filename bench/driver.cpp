@@ -6,16 +6,18 @@
 #include <cstring>
 
 #define ROWS(ROW) \
-    ROW(iox_index_queue) ROW(iox_fixed_index_queue) ROW(iox_index_queue_by_calls) ROW(iox_overflowing_queue) \
+    ROW(iox_index_queue) ROW(iox_index_queue_empty) ROW(iox_index_queue_last_cell) ROW(iox_fixed_index_queue) \
+    ROW(iox_index_queue_by_calls) ROW(iox_overflowing_queue) \
     ROW(iox_overflowing_queue_full) ROW(iox_value_queue) ROW(iox_unique_index_set) \
     ROW(iox_unique_index_option) ROW(iox_unique_index_window) ROW(iox_unique_index_pair) \
     ROW(iox_robust_unique_index_set) ROW(iox_bit_set) ROW(iox_large_bit_set) ROW(iox_bit_set_all) \
-    ROW(iox_counting_bit_set_all) ROW(iox_queue_machine) ROW(iox_queue_steps) ROW(twin_boost_spsc_queue) \
-    ROW(twin_boost_fixed_spsc_queue) ROW(twin_ring) ROW(twin_positions) ROW(twin_ring_by_calls) \
+    ROW(iox_counting_bit_set_all) ROW(iox_queue_machine) ROW(iox_queue_steps) ROW(iox_stored_steps) \
+    ROW(twin_boost_spsc_queue) ROW(twin_boost_fixed_spsc_queue) ROW(twin_boost_empty) ROW(twin_boost_last_cell) \
+    ROW(twin_ring) ROW(twin_ring_empty) ROW(twin_ring_last_cell) ROW(twin_positions) ROW(twin_ring_by_calls) \
     ROW(twin_optional_ring) ROW(twin_overflowing_ring) ROW(twin_overflowing_ring_full) ROW(twin_sofi) \
     ROW(twin_sofi_full) ROW(twin_stack) ROW(twin_stack_window) ROW(twin_stack_pair) \
     ROW(twin_owners) ROW(twin_bit_set) ROW(twin_large_bit_set) ROW(twin_bit_set_all) \
-    ROW(twin_counting_bit_set_all) ROW(twin_queue_machine)
+    ROW(twin_counting_bit_set_all) ROW(twin_queue_machine) ROW(twin_stored_steps)
 
 extern "C" {
 #define DECLARED(NAME) uint64_t NAME(uint64_t rounds);

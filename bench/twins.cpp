@@ -210,6 +210,49 @@ struct Steps {
     }
 };
 
+// The same two parties, each kept in memory and stepped by a call: no machine and no events. A step says 0: goes on;
+// 1: done; 2: done with a value.
+struct Answer { uint64_t kind; uint64_t value; };
+struct Stored {
+    At at = At::Rest;
+    uint64_t value = 0, position = 0, base = 0, capacity = 0;
+};
+struct StoredQueue {
+    std::vector<uint64_t> words;
+    Stored pusher, popper;
+    explicit StoredQueue(size_t capacity) : words(capacity + 2) { pusher.capacity = popper.capacity = capacity; }
+    bool begin(Stored &p, At at, uint64_t value) {
+        if (p.at != At::Rest) return false;
+        p.at = at;
+        p.value = value;
+        return true;
+    }
+    Answer step_push() {
+        Stored &p = pusher;
+        switch (p.at) {
+        case At::PushLoadsWrite: p.position = words[p.base]; p.at = At::PushLoadsRead; return {0, 0};
+        case At::PushLoadsRead:
+            if (p.position - words[p.base + 1] >= p.capacity) { p.at = At::Rest; return {2, p.value}; }
+            p.at = At::StoresCell; return {0, 0};
+        case At::StoresCell: words[p.base + 2 + p.position % p.capacity] = p.value; p.at = At::StoresWrite; return {0, 0};
+        case At::StoresWrite: words[p.base] = p.position + 1; p.at = At::Rest; return {1, 0};
+        default: return {0, 0};
+        }
+    }
+    Answer step_pop() {
+        Stored &p = popper;
+        switch (p.at) {
+        case At::PopLoadsRead: p.position = words[p.base + 1]; p.at = At::PopLoadsWrite; return {0, 0};
+        case At::PopLoadsWrite:
+            if (words[p.base] <= p.position) { p.at = At::Rest; return {1, 0}; }
+            p.at = At::LoadsCell; return {0, 0};
+        case At::LoadsCell: p.value = words[p.base + 2 + p.position % p.capacity]; p.at = At::StoresRead; return {0, 0};
+        case At::StoresRead: words[p.base + 1] = p.position + 1; p.at = At::Rest; return {2, p.value};
+        default: return {0, 0};
+        }
+    }
+};
+
 // A push and a pop a round, at a queue in which 64 wait.
 template <class Push, class Pop> uint64_t push_and_pop(uint64_t rounds, Push push, Pop pop) {
     for (uint64_t value = 0; value < 64; ++value) push(value);
@@ -245,6 +288,9 @@ template <class Q> uint64_t push_over(Q &&queue, uint64_t rounds) {
 __attribute__((noinline)) std::optional<uint32_t> call_acquire(Stack &set) { return set.acquire(); }
 __attribute__((noinline)) bool call_push(Ring &ring, uint64_t value) { return ring.push(value); }
 __attribute__((noinline)) std::optional<uint64_t> call_pop(Ring &ring) { return ring.pop(); }
+
+__attribute__((noinline)) Answer call_step_push(StoredQueue &queue) { return queue.step_push(); }
+__attribute__((noinline)) Answer call_step_pop(StoredQueue &queue) { return queue.step_pop(); }
 
 uint64_t bits(size_t capacity, uint64_t rounds) {
     Bits set(capacity);
@@ -366,6 +412,20 @@ uint64_t twin_queue_machine(uint64_t rounds) {
         for (int i = 0; i < 4; ++i) if (machine.step(0, answer) == 3) return 0;
         if (!machine.begin(1, At::PopLoadsRead, 0)) return 0;
         for (int i = 0; i < 4; ++i) if (machine.step(1, answer) == 2) sum += answer;
+    }
+    return sum;
+}
+uint64_t twin_stored_steps(uint64_t rounds) {
+    StoredQueue queue(128);
+    uint64_t sum = 0;
+    for (uint64_t value = 0; value < rounds; ++value) {
+        if (!queue.begin(queue.pusher, At::PushLoadsWrite, value)) return 0;
+        for (int i = 0; i < 4; ++i) if (call_step_push(queue).kind == 2) return 0;
+        if (!queue.begin(queue.popper, At::PopLoadsRead, 0)) return 0;
+        for (int i = 0; i < 4; ++i) {
+            Answer answer = call_step_pop(queue);
+            if (answer.kind == 2) sum += answer.value;
+        }
     }
     return sum;
 }

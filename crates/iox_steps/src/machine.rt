@@ -70,10 +70,7 @@ pub(crate) fn tell<E: Copy>(events: &mut Vec<E>, event: Option<E>)
 {
     match event {
         None => {}
-        Some(event) => match events.push(event) {
-            Ok(()) => {}
-            Err(_) => unreachable!(),
-        },
+        Some(event) => events.push_reserved(event),
     }
 }
 
