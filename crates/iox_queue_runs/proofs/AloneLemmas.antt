@@ -31,11 +31,14 @@ ShowsAtRest site words line = SeatsShow site words (Pusher pushing.AtRest) (Popp
 pub record Step (site : Site) (words : List ℕ) (seat : Seat) (line : Line) : Type 0 where
   pub within : IsWithin site.base (size site) (seat_access site seat)
   pub is_true : IsTrueOf site line.write line.waiting line.hand (seat_moment site seat (seen_by (seat_access site seat) (λ place. get_or words place 0)))
-  pub shows : ShowsAlone site (words_after (seat_access site seat) words) (seat_after site seat (seen_by (seat_access site seat) (λ place. get_or words place 0))) (line_after (seat_moment site seat (seen_by (seat_access site seat) (λ place. get_or words place 0))) line)
+  pub shows : ShowsAlone site (words_after (seat_access site seat) words)
+      (seat_after site seat (seen_by (seat_access site seat) (λ place. get_or words place 0)))
+      (line_after (seat_moment site seat (seen_by (seat_access site seat) (λ place. get_or words place 0))) line)
   pub room : site.base + size site ≤ length (words_after (seat_access site seat) words)
   pub outside : KeepsOutside site words (words_after (seat_access site seat) words)
 
-pub step_alone : (site : Site) (words : List ℕ) (seat : Seat) (line : Line) → site.base + size site ≤ length words → ShowsAlone site words seat line → Step site words seat line
+pub step_alone : (site : Site) (words : List ℕ) (seat : Seat) (line : Line) → site.base + size site ≤ length words → ShowsAlone site words seat line
+    → Step site words seat line
 step_alone site words (Pusher pushes) line room shows =
     let did = pushing_step_in_list site words line.waiting line.hand pushes popping.AtRest room shows.1 in
     let word : ℕ → ℕ = λ place. get_or words place 0 in
@@ -69,10 +72,12 @@ pub record Ended (site : Site) (words : List ℕ) (seat : Seat) (accesses : ℕ)
   pub room : site.base + size site ≤ length after
   pub outside : KeepsOutside site words after
 
-module _ (site : Site) (words : List ℕ) (seat : Seat) (line : Line) (room : site.base + size site ≤ length words) (shows : ShowsAlone site words seat line) where
+module _ (site : Site) (words : List ℕ) (seat : Seat) (line : Line) (room : site.base + size site ≤ length words)
+    (shows : ShowsAlone site words seat line) where
   -- the access goes on
   pub goes_on : (more : ℕ) (reply : Reply) (line' : Line) → let access = seat_access site seat in let seen = seen_by access (λ place. get_or words place 0) in
-      seat_progress site seat seen ≡ Going → Ended site (words_after access words) (seat_after site seat seen) more reply line' → Ended site words seat (suc more) reply line'
+      seat_progress site seat seen ≡ Going
+      → Ended site (words_after access words) (seat_after site seat seen) more reply line' → Ended site words seat (suc more) reply line'
   goes_on more reply line' going rest =
       let did = step_alone site words seat line room shows in
       record {

@@ -17,19 +17,24 @@ module _ (site : Site) (total : ℕ) where
   abbrev pub IsLeft : ℕ → List ℕ → Seat → Reply → List ℕ → Type 0
   IsLeft made words seat reply after = (more : ℕ) × ((total ≡ made + more) × EndsAfter more site words seat reply after)
 
-  pub none_made : (words : List ℕ) (seat : Seat) (reply : Reply) (after : List ℕ) → EndsAfter total site words seat reply after → IsLeft 0 words seat reply after
+  pub none_made : (words : List ℕ) (seat : Seat) (reply : Reply) (after : List ℕ) → EndsAfter total site words seat reply after
+      → IsLeft 0 words seat reply after
   none_made words seat reply after ends = (total, (omega arith, ends))
 
-  within_by : (more : ℕ) (words : List ℕ) (seat : Seat) (reply : Reply) (after : List ℕ) → EndsAfter more site words seat reply after → IsWithin site.base (size site) (seat_access site seat)
+  within_by : (more : ℕ) (words : List ℕ) (seat : Seat) (reply : Reply) (after : List ℕ) → EndsAfter more site words seat reply after
+      → IsWithin site.base (size site) (seat_access site seat)
   within_by zero words seat reply after ends = absurd ends
   within_by (suc more) words seat reply after ends = ends.0
 
-  pub is_within : (made : ℕ) (words : List ℕ) (seat : Seat) (reply : Reply) (after : List ℕ) (at : Site) (access : Access) → site.base + size site ≤ length words → at ≡ site → access ≡ seat_access at seat
+  pub is_within : (made : ℕ) (words : List ℕ) (seat : Seat) (reply : Reply) (after : List ℕ) (at : Site) (access : Access)
+      → site.base + size site ≤ length words → at ≡ site → access ≡ seat_access at seat
       → IsLeft made words seat reply after → IsWithin 0 (length words) access
   is_within made words seat reply after at access room same asked left =
-      rw (asked, same) (within_wider (seat_access site seat) site.base (size site) 0 (length words) (omega arith) (omega arith) (within_by left.0 words seat reply after left.1.1))
+      rw (asked, same) (within_wider (seat_access site seat) site.base (size site) 0 (length words) (omega arith) (omega arith)
+      (within_by left.0 words seat reply after left.1.1))
 
-  made_all : (made more : ℕ) (words : List ℕ) (seat : Seat) (reply : Reply) (after : List ℕ) → total ≡ made + more → total ≤ made → EndsAfter more site words seat reply after → ⊥
+  made_all : (made more : ℕ) (words : List ℕ) (seat : Seat) (reply : Reply) (after : List ℕ) → total ≡ made + more → total ≤ made
+      → EndsAfter more site words seat reply after → ⊥
   made_all made zero words seat reply after counts few ends = ends
   made_all made (suc more) words seat reply after counts few ends = omega arith
 
@@ -37,11 +42,15 @@ module _ (site : Site) (total : ℕ) where
   all_made made words seat reply after few left = made_all made left.0 words seat reply after left.1.0 few left.1.1
 
   -- one access
-  module _ (made : ℕ) (words words' : List ℕ) (seat seat' : Seat) (reply : Reply) (after : List ℕ) (at : Site) (access : Access) (seen : ℕ) (answer : Progress Reply)
-      (same : at ≡ site) (asked : access ≡ seat_access at seat) (found : seen ≡ seen_by access (λ place. get_or words place 0)) (become : words' ≡ words_after access words)
+  module _ (made : ℕ) (words words' : List ℕ) (seat seat' : Seat) (reply : Reply) (after : List ℕ) (at : Site) (access : Access) (seen : ℕ)
+      (answer : Progress Reply)
+      (same : at ≡ site) (asked : access ≡ seat_access at seat) (found : seen ≡ seen_by access (λ place. get_or words place 0))
+      (become : words' ≡ words_after access words)
       (led : seat' ≡ seat_after at seat seen) (said : answer ≡ seat_progress at seat seen) where
-    goes_by : (more : ℕ) → seat_progress site seat (seen_by (seat_access site seat) (λ place. get_or words place 0)) ≡ Going → total ≡ made + more → EndsAfter more site words seat reply after
-        → IsLeft (made + 1) (words_after (seat_access site seat) words) (seat_after site seat (seen_by (seat_access site seat) (λ place. get_or words place 0))) reply after
+    goes_by : (more : ℕ) → seat_progress site seat (seen_by (seat_access site seat) (λ place. get_or words place 0)) ≡ Going → total ≡ made + more
+        → EndsAfter more site words seat reply after
+        → IsLeft (made + 1) (words_after (seat_access site seat) words)
+        (seat_after site seat (seen_by (seat_access site seat) (λ place. get_or words place 0))) reply after
     goes_by zero going counts ends = absurd ends
     goes_by (suc more) going counts ends = (more, (omega arith, rw going at ends.1))
 
@@ -50,12 +59,14 @@ module _ (site : Site) (total : ℕ) where
         let goes : seat_progress site seat (seen_by (seat_access site seat) (λ place. get_or words place 0)) ≡ Going = rw (said, found, asked, same) at going in
         rw (become, led, found, asked, same) (goes_by left.0 goes left.1.0 left.1.1)
 
-    ends_by : (more : ℕ) (reply' : Reply) → seat_progress site seat (seen_by (seat_access site seat) (λ place. get_or words place 0)) ≡ Done reply' → EndsAfter more site words seat reply after
+    ends_by : (more : ℕ) (reply' : Reply) → seat_progress site seat (seen_by (seat_access site seat) (λ place. get_or words place 0)) ≡ Done reply'
+        → EndsAfter more site words seat reply after
         → (reply' ≡ reply) × (words_after (seat_access site seat) words ≡ after)
     ends_by zero reply' done ends = absurd ends
     ends_by (suc more) reply' done ends = let is = rw done at ends.1 in (sym is.1, sym is.2)
 
     pub last_made : (reply' : Reply) → answer ≡ Done reply' → IsLeft made words seat reply after → (reply' ≡ reply) × (words' ≡ after)
     last_made reply' done left =
-        let ends : seat_progress site seat (seen_by (seat_access site seat) (λ place. get_or words place 0)) ≡ Done reply' = rw (said, found, asked, same) at done in
+        let ends : seat_progress site seat (seen_by (seat_access site seat) (λ place. get_or words place 0)) ≡ Done reply' =
+        rw (said, found, asked, same) at done in
         rw (become, asked, same) (ends_by left.0 reply' ends left.1.1)

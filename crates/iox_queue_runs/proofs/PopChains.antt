@@ -33,11 +33,23 @@ module _ (site : Site) (words : List ℕ) (room : site.base + size site ≤ leng
   abbrev read : ℕ
   read = get_or words (site.base + 1) 0
 
-  loads_read : (waiting : List ℕ) → ShowsAtRest site words (line write waiting hand) → ShowsAlone site words (Popper (popping.Pops pop.LoadsRead)) (line write waiting hand)
+  loads_read : (waiting : List ℕ) → ShowsAtRest site words (line write waiting hand)
+      → ShowsAlone site words (Popper (popping.Pops pop.LoadsRead)) (line write waiting hand)
   loads_read waiting shows = (shows.0, record { some = shows.1.some; position = shows.1.position; ring = shows.1.ring; push = shows.1.push; pop = tt })
 
-  loads_write : (waiting : List ℕ) → ShowsAtRest site words (line write waiting hand) → ShowsAlone site words (Popper (popping.Pops (pop.LoadsWrite read))) (line write waiting hand)
-  loads_write waiting shows = (shows.0, record { some = shows.1.some; position = shows.1.position; ring = shows.1.ring; push = shows.1.push; pop = (seen_now site (λ place. get_or words place 0) site.kind, λ late. absurd (omega arith)) })
+  loads_write : (waiting : List ℕ) → ShowsAtRest site words (line write waiting hand)
+      → ShowsAlone site words (Popper (popping.Pops (pop.LoadsWrite read))) (line write waiting hand)
+  loads_write waiting shows = (
+    shows.0,
+    record {
+      some = shows.1.some;
+      position = shows.1.position;
+      ring = shows.1.ring;
+      push = shows.1.push;
+      pop =
+          (seen_now site (λ place. get_or words place 0) site.kind, λ late. absurd (omega arith));
+    },
+  )
 
   -- the write position shows whether something waits
   none_is : ShowsAtRest site words (line write [] hand) → is_empty site read (get_or words site.base 0) ≡ true
@@ -56,9 +68,11 @@ module _ (site : Site) (words : List ℕ) (room : site.base + size site ≤ leng
       let before = line write [] hand in
       let loads_first = Popper (popping.Pops pop.LoadsRead) in
       let loads_second = Popper (popping.Pops (pop.LoadsWrite read)) in
-      goes_on site words loads_first before room (loads_read [] shows) _ _ _ refl (ends_here site words loads_second before room (loads_write [] shows) _ _ (rw (none_is shows) refl) shows)
+      goes_on site words loads_first before room (loads_read [] shows) _ _ _ refl
+      (ends_here site words loads_second before room (loads_write [] shows) _ _ (rw (none_is shows) refl) shows)
 
-  pub pop_ends : (first : ℕ) (others : List ℕ) → ShowsAtRest site words (line write (first ∷ others) hand) → Ended site words (Popper (popping.Pops pop.LoadsRead)) 4 (Popped (Some first)) (line write others hand)
+  pub pop_ends : (first : ℕ) (others : List ℕ) → ShowsAtRest site words (line write (first ∷ others) hand)
+      → Ended site words (Popper (popping.Pops pop.LoadsRead)) 4 (Popped (Some first)) (line write others hand)
   pop_ends first others shows =
       let before = line write (first ∷ others) hand in
       let loads_first = Popper (popping.Pops pop.LoadsRead) in
@@ -78,25 +92,45 @@ module _ (site : Site) (words : List ℕ) (room : site.base + size site ≤ leng
       ends_here site words takes before room at_take _ _ (rw (hits, is_first) refl) (rw hits at taken.shows)))))
 
   -- a look at emptiness
-  looks_read : (waiting : List ℕ) → ShowsAtRest site words (line write waiting hand) → ShowsAlone site words (Popper (popping.Looks empty_look.LoadsRead)) (line write waiting hand)
+  looks_read : (waiting : List ℕ) → ShowsAtRest site words (line write waiting hand)
+      → ShowsAlone site words (Popper (popping.Looks empty_look.LoadsRead)) (line write waiting hand)
   looks_read waiting shows = (shows.0, record { some = shows.1.some; position = shows.1.position; ring = shows.1.ring; push = shows.1.push; pop = tt })
 
-  looks_write : (waiting : List ℕ) → ShowsAtRest site words (line write waiting hand) → ShowsAlone site words (Popper (popping.Looks (empty_look.LoadsWrite read))) (line write waiting hand)
-  looks_write waiting shows = (shows.0, record { some = shows.1.some; position = shows.1.position; ring = shows.1.ring; push = shows.1.push; pop = (seen_now site (λ place. get_or words place 0) site.kind, λ late. absurd (omega arith)) })
+  looks_write : (waiting : List ℕ) → ShowsAtRest site words (line write waiting hand)
+      → ShowsAlone site words (Popper (popping.Looks (empty_look.LoadsWrite read))) (line write waiting hand)
+  looks_write waiting shows = (
+    shows.0,
+    record {
+      some = shows.1.some;
+      position = shows.1.position;
+      ring = shows.1.ring;
+      push = shows.1.push;
+      pop =
+          (seen_now site (λ place. get_or words place 0) site.kind, λ late. absurd (omega arith));
+    },
+  )
 
-  pub empty_look_ends : (waiting : List ℕ) → ShowsAtRest site words (line write waiting hand) → Ended site words (Popper (popping.Looks empty_look.LoadsRead)) 2 (Empty (is_nil waiting)) (line write waiting hand)
+  pub empty_look_ends : (waiting : List ℕ) → ShowsAtRest site words (line write waiting hand)
+      → Ended site words (Popper (popping.Looks empty_look.LoadsRead)) 2 (Empty (is_nil waiting)) (line write waiting hand)
   empty_look_ends [] shows =
       let before = line write [] hand in
-      goes_on site words (Popper (popping.Looks empty_look.LoadsRead)) before room (looks_read [] shows) _ _ _ refl (ends_here site words (Popper (popping.Looks (empty_look.LoadsWrite read))) before room (looks_write [] shows) _ _ (rw (none_is shows) refl) shows)
+      goes_on site words (Popper (popping.Looks empty_look.LoadsRead)) before room (looks_read [] shows) _ _ _ refl
+      (ends_here site words (Popper (popping.Looks (empty_look.LoadsWrite read))) before room (looks_write [] shows) _ _ (rw (none_is shows) refl) shows)
   empty_look_ends (first ∷ others) shows =
       let before = line write (first ∷ others) hand in
-      goes_on site words (Popper (popping.Looks empty_look.LoadsRead)) before room (looks_read _ shows) _ _ _ refl (ends_here site words (Popper (popping.Looks (empty_look.LoadsWrite read))) before room (looks_write _ shows) _ _ (rw (some_is first others shows) refl) shows)
+      goes_on site words (Popper (popping.Looks empty_look.LoadsRead)) before room (looks_read _ shows) _ _ _ refl
+      (ends_here site words (Popper (popping.Looks (empty_look.LoadsWrite read))) before room (looks_write _ shows) _ _
+      (rw (some_is first others shows) refl) shows)
 
   -- a look at fullness
-  pub full_look_ends : (waiting : List ℕ) → ShowsAtRest site words (line write waiting hand) → Ended site words (Pusher (pushing.Looks full_look.LoadsWrite)) 2 (Full (nat_le site.capacity (length waiting))) (line write waiting hand)
+  pub full_look_ends : (waiting : List ℕ) → ShowsAtRest site words (line write waiting hand)
+      → Ended site words (Pusher (pushing.Looks full_look.LoadsWrite)) 2 (Full (nat_le site.capacity (length waiting))) (line write waiting hand)
   full_look_ends waiting shows =
       let before = line write waiting hand in
-      let looks_first : ShowsAlone site words (Pusher (pushing.Looks full_look.LoadsWrite)) before = (shows.0, record { some = shows.1.some; position = shows.1.position; ring = shows.1.ring; push = shows.1.push; pop = shows.1.pop }) in
-      let looks_second : ShowsAlone site words (Pusher (pushing.Looks (full_look.LoadsRead write))) before = (shows.0, record { some = shows.1.some; position = shows.1.position; ring = shows.1.ring; push = (shows.1.push, sym shows.0); pop = shows.1.pop }) in
+      let looks_first : ShowsAlone site words (Pusher (pushing.Looks full_look.LoadsWrite)) before =
+      (shows.0, record { some = shows.1.some; position = shows.1.position; ring = shows.1.ring; push = shows.1.push; pop = shows.1.pop }) in
+      let looks_second : ShowsAlone site words (Pusher (pushing.Looks (full_look.LoadsRead write))) before =
+      (shows.0, record { some = shows.1.some; position = shows.1.position; ring = shows.1.ring; push = (shows.1.push, sym shows.0); pop = shows.1.pop }) in
       goes_on site words (Pusher (pushing.Looks full_look.LoadsWrite)) before room looks_first _ _ _ refl (rw shows.0
-      (ends_here site words (Pusher (pushing.Looks (full_look.LoadsRead write))) before room looks_second _ _ (rw (full_is site words room 0 write waiting hand shows) refl) shows))
+      (ends_here site words (Pusher (pushing.Looks (full_look.LoadsRead write))) before room looks_second _ _
+      (rw (full_is site words room 0 write waiting hand shows) refl) shows))

@@ -36,15 +36,18 @@ module _ (site : Site) (words : List ℕ) (room : site.base + size site ≤ leng
       ends_here site words seat before room shows _ _ (rw (kind, is) refl) (step_alone site words seat before room shows).shows
 
   -- the value joins those that wait, where there is room
-  publishes : (value next write : ℕ) (waiting hand : List ℕ) → ShowsAlone site words (Pusher (pushing.Pushes (push.StoresWrite value next None))) (line write waiting hand)
-      → Ended site words (Pusher (pushing.Pushes (push.StoresWrite value next None))) 1 (push_reply site.kind reply.Pushed) (line (write + 1) (waiting ++ value ∷ []) hand)
+  publishes : (value next write : ℕ) (waiting hand : List ℕ)
+      → ShowsAlone site words (Pusher (pushing.Pushes (push.StoresWrite value next None))) (line write waiting hand)
+      → Ended site words (Pusher (pushing.Pushes (push.StoresWrite value next None))) 1 (push_reply site.kind reply.Pushed)
+      (line (write + 1) (waiting ++ value ∷ []) hand)
   publishes value next write waiting hand shows =
       let seat = Pusher (pushing.Pushes (push.StoresWrite value next None)) in
       let before = line write waiting hand in
       ends_here site words seat before room shows _ _ refl (step_alone site words seat before room shows).shows
 
 -- the oldest goes
-evicts : (site : Site) (words : List ℕ) (room : site.base + size site ≤ length words) (read first write : ℕ) (others hand : List ℕ) → ShowsAlone site words (Pusher (pushing.Pushes (push.Evicts read))) (line write (first ∷ others) hand) → get_or words (site.base + 1) 0 ≡ read
+evicts : (site : Site) (words : List ℕ) (room : site.base + size site ≤ length words) (read first write : ℕ) (others hand : List ℕ)
+    → ShowsAlone site words (Pusher (pushing.Pushes (push.Evicts read))) (line write (first ∷ others) hand) → get_or words (site.base + 1) 0 ≡ read
     → Ended site words (Pusher (pushing.Pushes (push.Evicts read))) 2 (HandedBack (Some first)) (line write others [])
 evicts site words room read first write others hand shows at =
     let seat = Pusher (pushing.Pushes (push.Evicts read)) in
@@ -56,8 +59,10 @@ evicts site words room read first write others hand shows at =
 
 -- a value joins a full queue, and the oldest goes
 publishes_full : (site : Site) (words : List ℕ) (room : site.base + size site ≤ length words) (value next read write first : ℕ) (others hand : List ℕ)
-    → ShowsAlone site words (Pusher (pushing.Pushes (push.StoresWrite value next (Some read)))) (line write (first ∷ others) hand) → length (first ∷ others) ≡ site.capacity
-    → Ended site words (Pusher (pushing.Pushes (push.StoresWrite value next (Some read)))) 3 (HandedBack (Some first)) (line (write + 1) (others ++ value ∷ []) [])
+    → ShowsAlone site words (Pusher (pushing.Pushes (push.StoresWrite value next (Some read)))) (line write (first ∷ others) hand)
+    → length (first ∷ others) ≡ site.capacity
+    → Ended site words (Pusher (pushing.Pushes (push.StoresWrite value next (Some read)))) 3 (HandedBack (Some first))
+    (line (write + 1) (others ++ value ∷ []) [])
 publishes_full site words room value next read write first others hand shows many =
     let seat = Pusher (pushing.Pushes (push.StoresWrite value next (Some read))) in
     let before = line write (first ∷ others) hand in
@@ -77,19 +82,26 @@ pub record PushEnds (kind : QueueKind) (site : Site) (words : List ℕ) (value w
   pub write' : ℕ
   pub waiting' : List ℕ
   pub hand' : List ℕ
-  pub ended : Ended site words (Pusher (pushing.Pushes (push.LoadsWrite value))) (push_accesses kind (queue site write waiting)) reply (line write' waiting' hand')
+  pub ended : Ended site words (Pusher (pushing.Pushes (push.LoadsWrite value))) (push_accesses kind (queue site write waiting)) reply
+      (line write' waiting' hand')
   pub pushes : Pushes kind (queue site write waiting) value reply (queue site write' waiting')
 
-module _ (site : Site) (words : List ℕ) (room : site.base + size site ≤ length words) (value write : ℕ) (waiting hand : List ℕ) (shows : ShowsAtRest site words (line write waiting hand)) where
+module _ (site : Site) (words : List ℕ) (room : site.base + size site ≤ length words) (value write : ℕ) (waiting hand : List ℕ)
+    (shows : ShowsAtRest site words (line write waiting hand)) where
   loads_write : ShowsAlone site words (Pusher (pushing.Pushes (push.LoadsWrite value))) (line write waiting hand)
   loads_write = (shows.0, record { some = shows.1.some; position = shows.1.position; ring = shows.1.ring; push = shows.1.push; pop = shows.1.pop })
 
   loads_read : ShowsAlone site words (Pusher (pushing.Pushes (push.LoadsRead value write))) (line write waiting hand)
-  loads_read = (shows.0, record { some = shows.1.some; position = shows.1.position; ring = shows.1.ring; push = (shows.1.push, sym shows.0); pop = shows.1.pop })
+  loads_read = (
+    shows.0,
+    record { some = shows.1.some; position = shows.1.position; ring = shows.1.ring; push = (shows.1.push, sym shows.0); pop = shows.1.pop },
+  )
 
   -- the first load, and then this
-  after_load : (more : ℕ) (reply : Reply) (line' : Line) → Ended site words (Pusher (pushing.Pushes (push.LoadsRead value write))) more reply line' → Ended site words (Pusher (pushing.Pushes (push.LoadsWrite value))) (suc more) reply line'
-  after_load more reply line' rest = goes_on site words (Pusher (pushing.Pushes (push.LoadsWrite value))) (line write waiting hand) room loads_write more reply line' refl (rw shows.0 rest)
+  after_load : (more : ℕ) (reply : Reply) (line' : Line) → Ended site words (Pusher (pushing.Pushes (push.LoadsRead value write))) more reply line'
+      → Ended site words (Pusher (pushing.Pushes (push.LoadsWrite value))) (suc more) reply line'
+  after_load more reply line' rest = goes_on site words (Pusher (pushing.Pushes (push.LoadsWrite value)))
+      (line write waiting hand) room loads_write more reply line' refl (rw shows.0 rest)
 
   -- what the read position shows is whether as many wait as may
   pub full_is : sites.is_full site (get_or words (site.base + 1) 0) write ≡ nat_le site.capacity (length waiting)
@@ -99,13 +111,17 @@ module _ (site : Site) (words : List ℕ) (room : site.base + size site ≤ leng
       ap (nat_le site.capacity) (omega arith)
 
   -- both loads, and nothing is pushed
-  refused : is_refused site.kind (eqb write last_position) (nat_le site.capacity (length waiting)) ≡ true → Ended site words (Pusher (pushing.Pushes (push.LoadsWrite value))) 2 (push_reply site.kind (reply.Refused value)) (line write waiting hand)
-  refused is = after_load 1 _ _ (ends_here site words (Pusher (pushing.Pushes (push.LoadsRead value write))) (line write waiting hand) room loads_read _ _ (rw (full_is, is) refl) shows)
+  refused : is_refused site.kind (eqb write last_position) (nat_le site.capacity (length waiting)) ≡ true
+      → Ended site words (Pusher (pushing.Pushes (push.LoadsWrite value))) 2 (push_reply site.kind (reply.Refused value)) (line write waiting hand)
+  refused is = after_load 1 _ _
+      (ends_here site words (Pusher (pushing.Pushes (push.LoadsRead value write))) (line write waiting hand) room loads_read _ _ (rw (full_is, is) refl) shows)
 
   -- both loads and the store of the cell, and then this
-  stores : (full : Option ℕ) (more : ℕ) (reply : Reply) (line' : Line) → is_refused site.kind (eqb write last_position) (nat_le site.capacity (length waiting)) ≡ false
+  stores : (full : Option ℕ) (more : ℕ) (reply : Reply) (line' : Line)
+      → is_refused site.kind (eqb write last_position) (nat_le site.capacity (length waiting)) ≡ false
       → full_at (nat_le site.capacity (length waiting)) (get_or words (site.base + 1) 0) ≡ full → eqb write last_position ≡ false
-      → ((words' : List ℕ) → site.base + size site ≤ length words' → ShowsAlone site words' (Pusher (pushing.Pushes (push.StoresWrite value (write + 1) full))) (line write waiting hand)
+      → ((words' : List ℕ) → site.base + size site ≤ length words' → ShowsAlone site words'
+      (Pusher (pushing.Pushes (push.StoresWrite value (write + 1) full))) (line write waiting hand)
       → Ended site words' (Pusher (pushing.Pushes (push.StoresWrite value (write + 1) full))) more reply line')
       → Ended site words (Pusher (pushing.Pushes (push.LoadsWrite value))) (suc (suc (suc more))) reply line'
   stores full more reply line' welcomed is_full_at on rest =
@@ -135,7 +151,8 @@ module _ (site : Site) (words : List ℕ) (room : site.base + size site ≤ leng
   not_full few = rw (lt-ltb (length waiting) site.capacity (leb-false _ _ few)) refl
 
   -- a push of a full queue that overflows
-  overflowing_ends : site.kind ≡ Overflowing → eqb write last_position ≡ false → nat_le site.capacity (length waiting) ≡ true → (waits : List ℕ) → waits ≡ waiting → PushEnds Overflowing site words value write waiting
+  overflowing_ends : site.kind ≡ Overflowing → eqb write last_position ≡ false → nat_le site.capacity (length waiting) ≡ true → (waits : List ℕ)
+      → waits ≡ waiting → PushEnds Overflowing site words value write waiting
   overflowing_ends kind on many [] is = absurd (omega (arith, shows.1.some kind, leb-true _ _ many, ap (λ (l : List ℕ). length l) is))
   overflowing_ends kind on many (first ∷ others) is =
       let few = shows.1.push.1 in
@@ -146,7 +163,9 @@ module _ (site : Site) (words : List ℕ) (room : site.base + size site ≤ leng
         write' = write + 1;
         waiting' = others ++ value ∷ [];
         hand' = [];
-        ended = rw (not_spent on, full many) (stores (Some (get_or words (site.base + 1) 0)) 3 _ _ (rw (on, many) (overflows site.kind kind)) (rw many refl) on (λ words' room' shows'. publishes_full site words' room' value (write + 1) _ write first others hand (rw (← is) at shows') long));
+        ended = rw (not_spent on, full many)
+            (stores (Some (get_or words (site.base + 1) 0)) 3 _ _ (rw (on, many) (overflows site.kind kind)) (rw many refl) on
+            (λ words' room' shows'. publishes_full site words' room' value (write + 1) _ write first others hand (rw (← is) at shows') long));
         pushes = rw (not_spent on, full many, ← is) (refl, refl);
       }
 
@@ -167,7 +186,8 @@ module _ (site : Site) (words : List ℕ) (room : site.base + size site ≤ leng
         write' = write;
         waiting' = waiting;
         hand' = hand;
-        ended = rw (not_spent on, full many) (rw (ap (λ k. push_reply k (reply.Refused value)) kind) at (refused (rw (on, many) (refused_when_full site.kind kind))));
+        ended = rw (not_spent on, full many)
+            (rw (ap (λ k. push_reply k (reply.Refused value)) kind) at (refused (rw (on, many) (refused_when_full site.kind kind))));
         pushes = ((λ is. absurd (false≢true is), λ has. absurd (omega (arith, has.0, leb-true _ _ many))), tt, refl);
       }
       | inr few ↦ record {
@@ -175,7 +195,10 @@ module _ (site : Site) (words : List ℕ) (room : site.base + size site ≤ leng
         write' = write + 1;
         waiting' = waiting ++ value ∷ [];
         hand' = hand;
-        ended = rw (not_spent on, not_full few) (stores None 1 _ _ (rw (on, few) (welcome site.kind)) (rw few refl) on (λ words' room' shows'. rw (ap (λ k. push_reply k reply.Pushed) kind) at (publishes site words' room' value (write + 1) write waiting hand shows')));
+        ended = rw (not_spent on, not_full few)
+            (stores None 1 _ _ (rw (on, few) (welcome site.kind)) (rw few refl) on
+            (λ words' room' shows'. rw (ap (λ k. push_reply k reply.Pushed) kind) at
+            (publishes site words' room' value (write + 1) write waiting hand shows')));
         pushes = ((λ is. (omega (arith, leb-false _ _ few), omega (arith, shows.1.position, shows.0, eqb-false _ _ on)), λ has. refl), refl, tt);
       }
     ]
@@ -196,7 +219,10 @@ module _ (site : Site) (words : List ℕ) (room : site.base + size site ≤ leng
         write' = write + 1;
         waiting' = waiting ++ value ∷ [];
         hand' = hand;
-        ended = rw (not_spent on, not_full few) (stores None 1 _ _ (rw (on, few) (welcome site.kind)) (rw few refl) on (λ words' room' shows'. rw (ap (λ k. push_reply k reply.Pushed) kind) at (publishes site words' room' value (write + 1) write waiting hand shows')));
+        ended = rw (not_spent on, not_full few)
+            (stores None 1 _ _ (rw (on, few) (welcome site.kind)) (rw few refl) on
+            (λ words' room' shows'. rw (ap (λ k. push_reply k reply.Pushed) kind) at
+            (publishes site words' room' value (write + 1) write waiting hand shows')));
         pushes = (rw (not_spent on, not_full few) refl, rw (not_spent on, not_full few) refl);
       }
     ]

@@ -26,7 +26,8 @@ module _ (site : Site) (words : List ℕ) where
   waiting_is_values line shows =
       let counts = shows.1.ring.counts in
       let many : length line.waiting ≡ get_or words site.base 0 - get_or words (site.base + 1) 0 = omega arith in
-      let waiting : line.waiting ≡ values site words = values_from_position line.waiting (get_or words (site.base + 1) 0) shows.1.ring.items ∙ ap (values_from site words (get_or words (site.base + 1) 0)) many in
+      let waiting : line.waiting ≡ values site words = values_from_position line.waiting (get_or words (site.base + 1) 0) shows.1.ring.items ∙ ap
+      (values_from site words (get_or words (site.base + 1) 0)) many in
       let hand : line.hand ≡ [] = shows.1.push.0 in
       let write : line.write ≡ get_or words site.base 0 = sym shows.0 in
       rw (← waiting, ← hand, ← write) refl

@@ -32,7 +32,8 @@ values-empty site words empty =
     let none : get_or words site.base 0 - get_or words (site.base + 1) 0 ≡ 0 = omega arith in
     rw none refl
 
-pub empty_holds : (site : Site) (words : List ℕ) → (site.kind ≡ Overflowing → 0 < site.capacity) → site.base + size site ≤ length words → get_or words site.base 0 ≡ get_or words (site.base + 1) 0
+pub empty_holds : (site : Site) (words : List ℕ) → (site.kind ≡ Overflowing → 0 < site.capacity) → site.base + size site ≤ length words
+    → get_or words site.base 0 ≡ get_or words (site.base + 1) 0
     → get_or words site.base 0 < 2 ^ 64 → HoldsQueue site words
 empty_holds site words some room empty position =
     (room, (refl, rw (values-empty site words empty) (fits_empty site (λ place. get_or words place 0) some empty position)))
@@ -45,7 +46,8 @@ pub record Played (site : Site) (words : List ℕ) (seat : Seat) (accesses : ℕ
   pub holds : HoldsQueue site new
   pub outside : KeepsOutside site words new
 
-played : (site : Site) (words : List ℕ) (seat : Seat) (accesses : ℕ) (reply : Reply) (line' : Line) (result : Reply) (new : List ℕ) → Ended site words seat accesses reply line' → IsEndOf site words seat result new
+played : (site : Site) (words : List ℕ) (seat : Seat) (accesses : ℕ) (reply : Reply) (line' : Line) (result : Reply) (new : List ℕ)
+    → Ended site words seat accesses reply line' → IsEndOf site words seat result new
     → Played site words seat accesses reply line' result new
 played site words seat accesses reply line' result new ended is_end =
     let is = is_end accesses reply ended.after ended.ends in
@@ -58,7 +60,8 @@ played site words seat accesses reply line' result new ended is_end =
       outside = ended.outside;
     })
 
-pub soon : (site : Site) (words : List ℕ) (seat : Seat) (accesses : ℕ) (reply : Reply) (line' : Line) → accesses ≤ 6 → Ended site words seat accesses reply line' → EndsWithin 6 site words seat
+pub soon : (site : Site) (words : List ℕ) (seat : Seat) (accesses : ℕ) (reply : Reply) (line' : Line) → accesses ≤ 6
+    → Ended site words seat accesses reply line' → EndsWithin 6 site words seat
 soon site words seat accesses reply line' few ended = record { accesses = accesses; reply = reply; after = ended.after; few = few; ends = ended.ends }
 
 few_pushes : (kind : QueueKind) (site_queue : BoundedQueue) → push_accesses kind site_queue ≤ 6
@@ -84,18 +87,22 @@ module _ (site : Site) (words : List ℕ) (held : HoldsQueue site words) where
     pub holds : HoldsQueue site new
     pub outside : KeepsOutside site words new
 
-  pub pushed : (value : ℕ) (result : Reply) (new : List ℕ) → IsEndOf site words (Pusher (pushing.Pushes (push.LoadsWrite value))) result new → Pushed value result new
+  pub pushed : (value : ℕ) (result : Reply) (new : List ℕ) → IsEndOf site words (Pusher (pushing.Pushes (push.LoadsWrite value))) result new
+      → Pushed value result new
   pushed value result new is_end =
       let is = push_is value in
       let did = played site words _ _ _ _ result new is.ended is_end in
       record {
-        queue = rw did.answers (subst (λ (l : Line). Pushes site.kind (queue_at site words) value is.reply (queue site l.write l.waiting)) did.leaves is.pushes);
+        queue = rw did.answers
+            (subst (λ (l : Line). Pushes site.kind (queue_at site words) value is.reply (queue site l.write l.waiting)) did.leaves is.pushes);
         accesses = did.ends;
         holds = did.holds;
         outside = did.outside;
       }
 
-  pop_is : (waiting : List ℕ) → ShowsAtRest site words (line (get_or words site.base 0) waiting []) → Ended site words (Popper (popping.Pops pop.LoadsRead)) (pop_accesses waiting) (Popped (first waiting)) (line (get_or words site.base 0) (drop 1 waiting) [])
+  pop_is : (waiting : List ℕ) → ShowsAtRest site words (line (get_or words site.base 0) waiting [])
+      → Ended site words (Popper (popping.Pops pop.LoadsRead)) (pop_accesses waiting) (Popped (first waiting))
+      (line (get_or words site.base 0) (drop 1 waiting) [])
   pop_is [] shows = pop_ends_empty site words held.0 _ [] shows
   pop_is (oldest ∷ others) shows = pop_ends site words held.0 _ [] oldest others shows
 
@@ -122,10 +129,12 @@ module _ (site : Site) (words : List ℕ) (held : HoldsQueue site words) where
         outside = did.outside;
       }
 
-  full_is : Ended site words (Pusher (pushing.Looks full_look.LoadsWrite)) 2 (Full (nat_le site.capacity (length (values site words)))) (line (get_or words site.base 0) (values site words) [])
+  full_is : Ended site words (Pusher (pushing.Looks full_look.LoadsWrite)) 2 (Full (nat_le site.capacity (length (values site words))))
+      (line (get_or words site.base 0) (values site words) [])
   full_is = full_look_ends site words held.0 _ [] (values site words) held.1
 
-  empty_is : Ended site words (Popper (popping.Looks empty_look.LoadsRead)) 2 (Empty (is_nil (values site words))) (line (get_or words site.base 0) (values site words) [])
+  empty_is : Ended site words (Popper (popping.Looks empty_look.LoadsRead)) 2 (Empty (is_nil (values site words)))
+      (line (get_or words site.base 0) (values site words) [])
   empty_is = empty_look_ends site words held.0 _ [] (values site words) held.1
 
   pub full_soon : EndsWithin 6 site words (Pusher (pushing.Looks full_look.LoadsWrite))
@@ -139,7 +148,8 @@ module _ (site : Site) (words : List ℕ) (held : HoldsQueue site words) where
     pub accesses : EndsAfter 2 site words seat result new
     pub unchanged : new ≡ words
 
-  pub looked_full : (result : Reply) (new : List ℕ) → IsEndOf site words (Pusher (pushing.Looks full_look.LoadsWrite)) result new → Looked (Pusher (pushing.Looks full_look.LoadsWrite)) (LooksFull (queue_at site words)) result new
+  pub looked_full : (result : Reply) (new : List ℕ) → IsEndOf site words (Pusher (pushing.Looks full_look.LoadsWrite)) result new
+      → Looked (Pusher (pushing.Looks full_look.LoadsWrite)) (LooksFull (queue_at site words)) result new
   looked_full result new is_end =
       let did = played site words _ _ _ _ result new full_is is_end in
       let bounded = held.1.1.push.1 in
@@ -153,7 +163,8 @@ module _ (site : Site) (words : List ℕ) (held : HoldsQueue site words) where
   nil [] = (λ is. refl, λ is. refl)
   nil (oldest ∷ others) = (λ is. absurd (false≢true is), λ is. absurd (omega (arith, ap (λ (l : List ℕ). length l) is)))
 
-  pub looked_empty : (result : Reply) (new : List ℕ) → IsEndOf site words (Popper (popping.Looks empty_look.LoadsRead)) result new → Looked (Popper (popping.Looks empty_look.LoadsRead)) (LooksEmpty (queue_at site words)) result new
+  pub looked_empty : (result : Reply) (new : List ℕ) → IsEndOf site words (Popper (popping.Looks empty_look.LoadsRead)) result new
+      → Looked (Popper (popping.Looks empty_look.LoadsRead)) (LooksEmpty (queue_at site words)) result new
   looked_empty result new is_end =
       let did = played site words _ _ _ _ result new empty_is is_end in
       record {
