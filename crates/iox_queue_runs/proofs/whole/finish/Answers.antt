@@ -13,7 +13,8 @@ perform-seen-requires c =
 pub returns-in-Done : goal.returns-in-Done
 returns-in-Done c accesses reply after ends =
     let kept = c.loop-step.invariant in
-    last_made c.args.site accesses _ _ _ _ _ _ _ _ _ _ _ kept.0 c.access-access.ensures c.perform-seen.ensures.seen c.perform-seen.ensures.words c.advance.ensures.1 c.advance.ensures.2
+    last_made c.args.site accesses _ _ _ _ _ _ _ _ _ _ _ kept.0 c.access-access.ensures
+    c.perform-seen.ensures.seen c.perform-seen.ensures.words c.advance.ensures.1 c.advance.ensures.2
     c.in-Done.reply c.in-Done.is (kept.2 accesses reply after ends)
 
 pub loop-step-preserved : goal.loop-step-preserved
@@ -21,7 +22,8 @@ loop-step-preserved c =
     let kept = c.loop-step.invariant in (
       c.advance.ensures.0 ∙ kept.0,
       rw (c.perform-seen.ensures.words, length-words_after) kept.1,
-      λ total reply after ends. one_more_made c.args.site total _ _ _ _ _ _ _ _ _ _ _ kept.0 c.access-access.ensures c.perform-seen.ensures.seen c.perform-seen.ensures.words c.advance.ensures.1 c.advance.ensures.2
+      λ total reply after ends. one_more_made c.args.site total _ _ _ _ _ _ _ _ _ _ _ kept.0 c.access-access.ensures
+          c.perform-seen.ensures.seen c.perform-seen.ensures.words c.advance.ensures.1 c.advance.ensures.2
           c.in-Going.is (kept.2 total reply after ends),
     )
 
