@@ -253,9 +253,9 @@ struct StoredQueue {
     }
 };
 
-// A push and a pop a round, at a queue in which 64 wait.
-template <class Push, class Pop> uint64_t push_and_pop(uint64_t rounds, Push push, Pop pop) {
-    for (uint64_t value = 0; value < 64; ++value) push(value);
+// A push and a pop a round, at a queue in which so many wait.
+template <class Push, class Pop> uint64_t push_and_pop(uint64_t rounds, Push push, Pop pop, uint64_t waiting = 64) {
+    for (uint64_t value = 0; value < waiting; ++value) push(value);
     uint64_t sum = 0;
     for (uint64_t value = 0; value < rounds; ++value) {
         push(value);
@@ -264,16 +264,16 @@ template <class Push, class Pop> uint64_t push_and_pop(uint64_t rounds, Push pus
     return sum;
 }
 
-template <class Q> uint64_t push_and_pop(Q &&queue, uint64_t rounds) {
-    return push_and_pop(rounds, [&](uint64_t value) { queue.push(value); }, [&] { return queue.pop(); });
+template <class Q> uint64_t push_and_pop(Q &&queue, uint64_t rounds, uint64_t waiting = 64) {
+    return push_and_pop(rounds, [&](uint64_t value) { queue.push(value); }, [&] { return queue.pop(); }, waiting);
 }
 
-template <class Q> uint64_t boost_push_and_pop(Q &&queue, uint64_t rounds) {
+template <class Q> uint64_t boost_push_and_pop(Q &&queue, uint64_t rounds, uint64_t waiting = 64) {
     return push_and_pop(rounds, [&](uint64_t value) { queue.push(value); }, [&]() -> std::optional<uint64_t> {
         uint64_t popped;
         if (!queue.pop(popped)) return std::nullopt;
         return popped;
-    });
+    }, waiting);
 }
 
 // A push a round, at a queue that is full.
@@ -314,6 +314,14 @@ uint64_t twin_boost_fixed_spsc_queue(uint64_t rounds) {
     return boost_push_and_pop(boost::lockfree::spsc_queue<uint64_t, boost::lockfree::capacity<128>>(), rounds);
 }
 uint64_t twin_ring(uint64_t rounds) { return push_and_pop(Ring(128), rounds); }
+uint64_t twin_ring_empty(uint64_t rounds) { return push_and_pop(Ring(128), rounds, 0); }
+uint64_t twin_ring_last_cell(uint64_t rounds) { return push_and_pop(Ring(128), rounds, 127); }
+uint64_t twin_boost_empty(uint64_t rounds) {
+    return boost_push_and_pop(boost::lockfree::spsc_queue<uint64_t>(128), rounds, 0);
+}
+uint64_t twin_boost_last_cell(uint64_t rounds) {
+    return boost_push_and_pop(boost::lockfree::spsc_queue<uint64_t>(128), rounds, 127);
+}
 uint64_t twin_positions(uint64_t rounds) { return push_and_pop(Positions(128), rounds); }
 uint64_t twin_optional_ring(uint64_t rounds) { return push_and_pop(RingOf<std::optional<uint64_t>>(128), rounds); }
 uint64_t twin_overflowing_ring(uint64_t rounds) { return push_and_pop(Overflowing(128), rounds); }
