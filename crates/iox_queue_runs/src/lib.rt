@@ -1,5 +1,6 @@
 //! Whole calls on the words of a queue, each played to its end by its party alone. They answer and
-//! leave what the calls of the plain queues do.
+//! leave what the calls of the plain queues do. And a queue whose two parties are kept in memory
+//! between their steps.
 #![tactic(auto)]
 
 mod stored;

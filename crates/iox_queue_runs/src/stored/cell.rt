@@ -71,6 +71,7 @@ fn cell_after(site: Site, last: usize, position: u64, cell: usize) -> usize
     requires { KnowsCell site (record { next = position; cell = cell; last = last }) }
     ensures { result ≡ place_of_cell site (position + 1) }
 {
+    // the contract alone speaks of the position
     let _position = position;
     if cell < last { cell + 1 } else { site.base + 2 }
 }

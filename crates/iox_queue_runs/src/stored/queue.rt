@@ -55,6 +55,7 @@ impl StoredQueue {
           pops = popping.AtRest;
         } }
     {
+        // what is read is a word, so the position is below 2^64: the proof rests on it
         let _position = words[site.base];
         StoredQueue {
             words,
