@@ -105,7 +105,7 @@ pub visiting-none : (f : Fixed) (y : Way) (x : Receiver) (left : List Way) (seen
 visiting-none f y x [] seen = refl
 visiting-none f y x (w ∷ left) seen = refl
 
-took-none : (f : Fixed) (n : ℕ) (y : Way) (x : Receiver) (w : Way) (m : Message) (left : List Way) (seen : Bool) → EmptiesNone f y (took f n x w m left seen)
+pub took-none : (f : Fixed) (n : ℕ) (y : Way) (x : Receiver) (w : Way) (m : Message) (left : List Way) (seen : Bool) → EmptiesNone f y (took f n x w m left seen)
 took-none f n y x w m left seen =
     either (EmptiesNone f y) (is_client x.role) (took_response f n x w m left seen) (took_request f x w m left seen)
     (λ u. either (EmptiesNone f y) (m.request == x.request) (Ended (Receives x w m)) (stale f n x w m left seen) (λ v. refl)

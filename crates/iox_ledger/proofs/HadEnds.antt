@@ -26,7 +26,7 @@ use Rattle.iox_ledger.proofs.HadMoves.{HasOwnHandles, received-on}
 
 -- ---- one handle more, another, or one less
 
-plus-held : (y : Way) (hs : List Handle) (h : Handle) → has_received y h ≡ false → filter (has_received y) (hs ++ h ∷ []) ≡ filter (has_received y) hs
+pub plus-held : (y : Way) (hs : List Handle) (h : Handle) → has_received y h ≡ false → filter (has_received y) (hs ++ h ∷ []) ≡ filter (has_received y) hs
 plus-held y hs h off =
     filter-last (has_received y) hs h ∙ ap (λ b. filter (has_received y) hs ++ (if b then h ∷ [] else [])) off ∙ append-nothing (filter (has_received y) hs)
 
@@ -35,12 +35,12 @@ alike : (y : Way) (hs : List Handle) (h : Handle) → HasOwnHandles hs → IsAmo
     → (k : Handle) → IsAmong k hs → k.number ≡ h.number → has_received y k ≡ false
 alike y hs h apart among off k a same = ap (has_received y) (only-one (λ (g : Handle). g.number) k h hs apart a among same) ∙ off
 
-less-held : (y : Way) (hs : List Handle) (h : Handle) → HasOwnHandles hs → IsAmong h hs → has_received y h ≡ false
+pub less-held : (y : Way) (hs : List Handle) (h : Handle) → HasOwnHandles hs → IsAmong h hs → has_received y h ≡ false
     → filter (has_received y) (without_handle h hs) ≡ filter (has_received y) hs
 less-held y hs h apart among off =
     without-passes (has_received y) h hs ∙ but-same (has_received y) h.number hs (λ k a same. alike y hs h apart among off k a (sym same))
 
-swapped-held : (y : Way) (hs : List Handle) (h old : Handle) → HasOwnHandles hs → IsAmong old hs → h.number ≡ old.number
+pub swapped-held : (y : Way) (hs : List Handle) (h old : Handle) → HasOwnHandles hs → IsAmong old hs → h.number ≡ old.number
     → has_received y h ≡ false → has_received y old ≡ false → filter (has_received y) (with_handle h hs) ≡ filter (has_received y) hs
 swapped-held y hs h old apart among number off was =
     with-passes (has_received y) h hs off (λ k a same. alike y hs old apart among was k a (same ∙ number))

@@ -55,7 +55,7 @@ received-on y h e = by_case (same_way y (way_of h)) refl
 
 -- ---- takes
 
-took-held : (f : Fixed) (n : ℕ) (x : Receiver) (w : Way) (m : Message) (left : List Way) (seen : Bool) (y : Way) (hs : List Handle)
+pub took-held : (f : Fixed) (n : ℕ) (x : Receiver) (w : Way) (m : Message) (left : List Way) (seen : Bool) (y : Way) (hs : List Handle)
     → (same_way y w ≡ true → forgot_port f n w.sender ≡ false)
     → held_on y hs (Some (took f n x w m left seen)) ≡ serials (filter (has_received y) hs) ++ if_on y w m.serial
 took-held f n x w m left seen y hs known =
@@ -80,7 +80,7 @@ took-held f n x w m left seen y hs known =
 -- ---- the moments
 
 -- what it has more and what it gives back, and what it had and what it takes
-abbrev Follows : (ℕ → Bool) → Way → List Handle → Doing → Moment → Doing → Type 0
+abbrev pub Follows : (ℕ → Bool) → Way → List Handle → Doing → Moment → Doing → Type 0
 Follows value y hs d m d' =
     count value (held_on y hs (Some d')) + count value (given_on y m) ≡ count value (held_on y hs (Some d)) + count value (taken_on y m)
 
@@ -93,18 +93,18 @@ joined value ks js ls e = none (count value ks) (count value js + count value ls
 same-too : (value : ℕ → Bool) (ks js : List ℕ) → ks ≡ js → count value ks + 0 ≡ count value js + 0
 same-too value ks js e = ap (λ ls. count value ls + 0) e
 
-both-quiet : (value : ℕ → Bool) (y : Way) (hs : List Handle) (d d' : Doing) → IsQuiet d → IsQuiet d'
+pub both-quiet : (value : ℕ → Bool) (y : Way) (hs : List Handle) (d d' : Doing) → IsQuiet d → IsQuiet d'
     → count value (held_on y hs (Some d')) + 0 ≡ count value (held_on y hs (Some d)) + 0
 both-quiet value y hs d d' p q =
     same-too value (held_on y hs (Some d')) (held_on y hs (Some d)) (held-quiet y hs d' q ∙ sym (held-quiet y hs d p))
 
-takes-follows : (value : ℕ → Bool) (y : Way) (hs : List Handle) (d d' : Doing) (ks : List ℕ) → IsQuiet d
+pub takes-follows : (value : ℕ → Bool) (y : Way) (hs : List Handle) (d d' : Doing) (ks : List ℕ) → IsQuiet d
     → held_on y hs (Some d') ≡ serials (filter (has_received y) hs) ++ ks
     → count value (held_on y hs (Some d')) + 0 ≡ count value (held_on y hs (Some d)) + count value ks
 takes-follows value y hs d d' ks p e =
     joined value (held_on y hs (Some d')) (held_on y hs (Some d)) ks (e ∙ ap (λ js. js ++ ks) (sym (held-quiet y hs d p)))
 
-stale-follows : (value : ℕ → Bool) (y : Way) (hs : List Handle) (x : Receiver) (v w : Way) (m : Message) (k : ℕ) (left : List Way) (seen : Bool)
+pub stale-follows : (value : ℕ → Bool) (y : Way) (hs : List Handle) (x : Receiver) (v w : Way) (m : Message) (k : ℕ) (left : List Way) (seen : Bool)
     → (same_way w v && (k == m.serial)) ≡ true
     → count value (held_on y hs (Some (Again x v left seen))) + count value (if_on y w k) ≡ count value (held_on y hs (Some (Stale x v m left seen))) + 0
 stale-follows value y hs x v w m k left seen c =

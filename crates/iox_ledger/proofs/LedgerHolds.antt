@@ -119,7 +119,7 @@ counts-among k (j ∷ js) p = by_case (k == j) refl (counts-among k js) (subst (
     by_case true e there q = inl (eqb-true k j e)
     by_case false e there q = inr (there (rest (count (is k) js) q))
 
-once-distinct : (ks : List ℕ) → ((k : ℕ) → count (is k) ks ≤ 1) → AreDistinct ks
+pub once-distinct : (ks : List ℕ) → ((k : ℕ) → count (is k) ks ≤ 1) → AreDistinct ks
 once-distinct [] p = tt
 once-distinct (j ∷ js) p = (
   not-true (has_number j js) (λ e. twice (count (is j) js) (count (is j) (j ∷ js)) (is-itself j js) (p j) (among-counts j js (number-among j js e))),
@@ -132,15 +132,20 @@ once-distinct (j ∷ js) p = (
     less : (a b c : ℕ) → c ≡ b + a → c ≤ 1 → a ≤ 1
     less a b c e p = omega arith
 
-pub out_once : OutOnce
-out_once s v bs y on live = once-distinct (out_on v y) (λ k. few (v.state.delivered y k) (counts-record s v bs y k on live))
+-- where each serial is out as often as it is delivered, once or not at all, it is out once
+abbrev pub IsCounted : World → Way → Type 0
+IsCounted v y = (k : ℕ) → count (is k) (out_on v y) ≡ one_if (v.state.delivered y k)
+
+pub counted-once : (v : World) (y : Way) → IsCounted v y → AreDistinct (out_on v y)
+counted-once v y counted = once-distinct (out_on v y) (λ k. few (v.state.delivered y k) (counted k))
   where
     few : {a : ℕ} (b : Bool) → a ≡ one_if b → a ≤ 1
     few true e = omega arith
     few false e = omega arith
 
-pub record_is_what_is_out : RecordIsWhatIsOut
-record_is_what_is_out s v bs y k on live = by_case (v.state.delivered y k) (counts-record s v bs y k on live)
+-- and what is delivered is just what is out
+pub counted-record : (v : World) (y : Way) (k : ℕ) → IsCounted v y → v.state.delivered y k ≡ has_number k (out_on v y)
+counted-record v y k counted = by_case (v.state.delivered y k) (counted k)
   where
     some : (a : ℕ) → a ≡ 1 → 1 ≤ a
     some a e = omega arith
@@ -152,6 +157,12 @@ record_is_what_is_out s v bs y k on live = by_case (v.state.delivered y k) (coun
     by_case true e = sym (among-number k (out_on v y) (counts-among k (out_on v y) (some (count (is k) (out_on v y)) e)))
     by_case false e = sym (not-true (has_number k (out_on v y))
         (λ h. none (count (is k) (out_on v y)) e (among-counts k (out_on v y) (number-among k (out_on v y) h))))
+
+pub out_once : OutOnce
+out_once s v bs y on live = counted-once v y (λ k. counts-record s v bs y k on live)
+
+pub record_is_what_is_out : RecordIsWhatIsOut
+record_is_what_is_out s v bs y k on live = counted-record v y k (λ j. counts-record s v bs y j on live)
 
 -- ---- the bound
 

@@ -44,7 +44,7 @@ PassedBy y k (Some d) = IsPassed y k d
 abbrev pub MayPut : World → ℕ → Way → ℕ → Type 0
 MayPut w n y k = MaySend (view w.state.fixed n) y.sender k × (PassedBy y k (w.doing n) → ⊥)
 
-next-passed : (s : State) (n : ℕ) (d : Doing) (m : Moment) (y : Way) (k : ℕ) → (next s n d m).condition → IsPassed y k d → IsPassed y k (next s n d m).after
+pub next-passed : (s : State) (n : ℕ) (d : Doing) (m : Moment) (y : Way) (k : ℕ) → (next s n d m).condition → IsPassed y k d → IsPassed y k (next s n d m).after
 next-passed s n (Delivering x last left count) (Deliver w m) y k c p = (p.0, p.1, λ a. p.2 (without-among w y left a))
 next-passed s n (Delivering x last left count) (Evict w) y k c p = p
 next-passed s n (Delivering x last left count) m y k c p = absurd c
@@ -222,13 +222,13 @@ gives-among (y ∷ ys) (x ∷ xs) k (inl g) (inl e) = inl (e ∙ g.0)
 gives-among (y ∷ ys) (x ∷ xs) k (inl g) (inr a) = inr (gives-among ys xs k g.1 a)
 gives-among (y ∷ ys) (x ∷ xs) k (inr g) a = inr (gives-among ys (x ∷ xs) k g a)
 
-gives-apart : (ys xs : List ℕ) → Gives ys xs → NoRepeats ys → NoRepeats xs
+pub gives-apart : (ys xs : List ℕ) → Gives ys xs → NoRepeats ys → NoRepeats xs
 gives-apart ys [] g d = tt
 gives-apart [] (x ∷ xs) g d = absurd g
 gives-apart (y ∷ ys) (x ∷ xs) (inl g) d = (λ a. d.0 (subst (λ k. IsAmong k ys) g.0 (gives-among ys xs x g.1 a)), gives-apart ys xs g.1 d.1)
 gives-apart (y ∷ ys) (x ∷ xs) (inr g) d = gives-apart ys (x ∷ xs) g d.1
 
-front-apart : (xs ys : List ℕ) → NoRepeats (xs ++ ys) → NoRepeats xs
+pub front-apart : (xs ys : List ℕ) → NoRepeats (xs ++ ys) → NoRepeats xs
 front-apart [] ys d = tt
 front-apart (x ∷ xs) ys d = (λ a. d.0 (front x xs ys a), front-apart xs ys d.1)
   where

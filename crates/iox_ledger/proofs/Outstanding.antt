@@ -4,6 +4,7 @@ use Rattle.std.specs.List.{range_with_len}
 use Rattle.std.proofs.Common.{sym, subst, ap, ◌∙◌, arith, eqb-true, eq-eqb, inl, inr}
 use Rattle.iox_model.specs.declared.way.Way.{Way}
 use Rattle.iox_model.specs.Doings.{Sending, Doing, Delivering, Evicted}
+use Rattle.iox_model.specs.Ledgers.{size_of}
 use Rattle.iox_model.specs.Maps.{without_number}
 use Rattle.iox_model.specs.Outstandings.{outstanding_on}
 use Rattle.iox_model.specs.Weaves.{World}
@@ -16,7 +17,7 @@ use Rattle.iox_ledger.proofs.Once.{HasPassed, PassedBy}
 use Rattle.iox_ledger.proofs.Borrows.{count}
 use Rattle.iox_ledger.proofs.Tallies.{count-all}
 use Rattle.iox_ledger.proofs.Balance.{any}
-use Rattle.iox_ledger.proofs.LedgerHolds.{Holds, holds-in-the-end, length-out, count-out, out_once, record_is_what_is_out}
+use Rattle.iox_ledger.proofs.LedgerHolds.{Holds, holds-in-the-end, length-out, count-out, counts-record, IsCounted, counted-once, counted-record}
 
 -- ---- lists with the same numbers
 
@@ -45,7 +46,7 @@ other-stays k i (j ∷ js) a apart = by_case (j == k) (eqb-true j k) (λ b. othe
     by_case false same rest (inr q) = inr (rest q)
 
 -- a list without repeats is no longer than one that has all its numbers
-no-longer : (xs ys : List ℕ) → NoRepeats xs → ((k : ℕ) → IsAmong k xs → IsAmong k ys) → length xs ≤ length ys
+pub no-longer : (xs ys : List ℕ) → NoRepeats xs → ((k : ℕ) → IsAmong k xs → IsAmong k ys) → length xs ≤ length ys
 no-longer [] ys apart all = omega arith
 no-longer (x ∷ xs) ys apart all =
     more (length xs) (length (without_number x ys)) (length ys)
@@ -65,14 +66,14 @@ range-above a (suc n) k (inr p) = less (range-above (a + 1) n k p)
     less : a + 1 ≤ k → a ≤ k
     less q = omega arith
 
-range-apart : (a n : ℕ) → NoRepeats (range_with_len a n)
+pub range-apart : (a n : ℕ) → NoRepeats (range_with_len a n)
 range-apart a zero = tt
 range-apart a (suc n) = (λ p. beyond (range-above (a + 1) n a p), range-apart (a + 1) n)
   where
     beyond : a + 1 ≤ a → ⊥
     beyond q = omega arith
 
-range-has : (a n k : ℕ) → a ≤ k → k < a + n → IsAmong k (range_with_len a n)
+pub range-has : (a n k : ℕ) → a ≤ k → k < a + n → IsAmong k (range_with_len a n)
 range-has a zero k p q = absurd (omega arith)
 range-has a (suc n) k p q = by_case (a == k) refl (range-has (a + 1) n k)
   where
@@ -103,7 +104,7 @@ passed-below v n k y x left fits p passed =
     by_case true q = equal x.loan.message.serial (v.loans x.loan.port) q.0
     by_case false a = below x.loan.message.serial (v.loans x.loan.port) (fits.lent x.loan a (p.loan).loan)
 
-call-below : (v : View) (n k : ℕ) (y : Way) (o : Option Doing) → FitsHandles v n → FitsCall v n o → PassedBy y k o → k ≤ v.loans y.sender
+pub call-below : (v : View) (n k : ℕ) (y : Way) (o : Option Doing) → FitsHandles v n → FitsCall v n o → PassedBy y k o → k ≤ v.loans y.sender
 call-below v n k y None fits p passed = absurd passed
 call-below v n k y (Some (Delivering x last left count)) fits p passed = passed-below v n k y x left fits p.0 passed
 call-below v n k y (Some (Evicted x w left count)) fits p passed = passed-below v n k y x left fits p.0 passed
@@ -134,11 +135,13 @@ delivered-below v y n r k p e = by_case (nat_le k (v.state.fixed.loans y.sender)
 
 -- ---- the law
 
-pub outstanding_is_counted : OutstandingIsCounted
-outstanding_is_counted s v bs y on live =
+-- where what is out is counted, and what is delivered was loaned
+pub counted-outstanding : (v : World) (y : Way) → IsCounted v y → ((k : ℕ) → v.state.delivered y k ≡ true → k ≤ v.state.fixed.loans y.sender)
+    → length (outstanding_on v.state y) ≡ size_of v y + length (v.state.in_hand y)
+counted-outstanding v y counted below =
     equal (length (outstanding_on v.state y)) (length (out_on v y))
     (no-longer (outstanding_on v.state y) (out_on v y) (no_repeats-filter (v.state.delivered y) numbers (range-apart 0 (v.state.fixed.loans y.sender + 1))) is_out)
-    (no-longer (out_on v y) (outstanding_on v.state y) (distinct-no_repeats (out_on v y) (out_once s v bs y on live)) is_outstanding)
+    (no-longer (out_on v y) (outstanding_on v.state y) (distinct-no_repeats (out_on v y) (counted-once v y counted)) is_outstanding)
     ∙ sym (count-all (out_on v y)) ∙ count-out any v y ∙ length-out v y
   where
     numbers : List ℕ
@@ -148,19 +151,21 @@ outstanding_is_counted s v bs y on live =
     equal a b p q = omega arith
 
     is_out : (k : ℕ) → IsAmong k (outstanding_on v.state y) → IsAmong k (out_on v y)
-    is_out k a =
-        number-among k (out_on v y) (sym (record_is_what_is_out s v bs y k on live) ∙ (filter-among (v.state.delivered y) k numbers a).1)
+    is_out k a = number-among k (out_on v y) (sym (counted-record v y k counted) ∙ (filter-among (v.state.delivered y) k numbers a).1)
 
-    below : (a b : ℕ) → a ≤ b → a < 0 + (b + 1)
-    below a b p = omega arith
+    in_range : (a b : ℕ) → a ≤ b → a < 0 + (b + 1)
+    in_range a b p = omega arith
 
     least : (a : ℕ) → 0 ≤ a
     least a = omega arith
 
     is_outstanding : (k : ℕ) → IsAmong k (out_on v y) → IsAmong k (outstanding_on v.state y)
     is_outstanding k a =
-        let e : v.state.delivered y k ≡ true = record_is_what_is_out s v bs y k on live ∙ among-number k (out_on v y) a in
+        let e : v.state.delivered y k ≡ true = counted-record v y k counted ∙ among-number k (out_on v y) a in
         among-filter (v.state.delivered y) k numbers
-        (range-has 0 (v.state.fixed.loans y.sender + 1) k (least k)
-        (below k (v.state.fixed.loans y.sender)
-        (delivered-below v y (node_in v.state.fixed.ports y.sender) (node_in v.state.fixed.ports y.receiver) k (holds-in-the-end s v bs y on) e))) e
+        (range-has 0 (v.state.fixed.loans y.sender + 1) k (least k) (in_range k (v.state.fixed.loans y.sender) (below k e))) e
+
+pub outstanding_is_counted : OutstandingIsCounted
+outstanding_is_counted s v bs y on live =
+    counted-outstanding v y (λ k. counts-record s v bs y k on live)
+    (λ k. delivered-below v y (node_in v.state.fixed.ports y.sender) (node_in v.state.fixed.ports y.receiver) k (holds-in-the-end s v bs y on))

@@ -83,13 +83,13 @@ there f node number x None None is other e = absurd (none-some x e)
 
 -- ---- loans
 
-kind-loan : (role : Role) (uninit : Bool) → is_loan (kind_of_loan role uninit) ≡ true
+pub kind-loan : (role : Role) (uninit : Bool) → is_loan (kind_of_loan role uninit) ≡ true
 kind-loan Client true = refl
 kind-loan Client false = refl
 kind-loan Server true = refl
 kind-loan Server false = refl
 
-kind-role : (role : Role) (uninit : Bool) → is_request_loan (kind_of_loan role uninit) ≡ is_client role
+pub kind-role : (role : Role) (uninit : Bool) → is_request_loan (kind_of_loan role uninit) ≡ is_client role
 kind-role Client true = refl
 kind-role Client false = refl
 kind-role Server true = refl
@@ -162,11 +162,11 @@ copies-fits s n c x (Some k) words own wire fits is node =
 
 -- ---- other calls
 
-written-role : (b : Bool) → is_request_loan (if b then RequestMut else ResponseMut) ≡ b
+pub written-role : (b : Bool) → is_request_loan (if b then RequestMut else ResponseMut) ≡ b
 written-role true = refl
 written-role false = refl
 
-written-loan : (b : Bool) → is_loan (if b then RequestMut else ResponseMut) ≡ true
+pub written-loan : (b : Bool) → is_loan (if b then RequestMut else ResponseMut) ≡ true
 written-loan true = refl
 written-loan false = refl
 
@@ -191,7 +191,7 @@ writes-fits v n h (Some k) words fits is loan =
       };
     }) (λ u. tt)
 
-own-loan : (v : View) (n : ℕ) (h : Handle) → FitsHandles v n → IsAmong h v.handles → is_loan h.kind ≡ true → FitsLoan v n h false
+pub own-loan : (v : View) (n : ℕ) (h : Handle) → FitsHandles v n → IsAmong h v.handles → is_loan h.kind ≡ true → FitsLoan v n h false
 own-loan v n h fits is loan = record {
   of_node = fits.of_node h is;
   of_port = fits.of_port h is;
@@ -216,7 +216,7 @@ no_port : (b : Bool) → is_port (if b then kinds.Client else kinds.Server) ≡ 
 no_port true = refl
 no_port false = refl
 
-write-loan : (role : Role) (k : Kind) → (if is_client role then is_request_loan k else is_response_loan k) ≡ true → is_loan k ≡ true
+pub write-loan : (role : Role) (k : Kind) → (if is_client role then is_request_loan k else is_response_loan k) ≡ true → is_loan k ≡ true
 write-loan Client k e = ap (λ b. b || is_response_loan k) e
 write-loan Server k e = or_last (is_request_loan k) (is_response_loan k) e
   where
@@ -224,7 +224,7 @@ write-loan Server k e = or_last (is_request_loan k) (is_response_loan k) e
     or_last true b e = refl
     or_last false b e = e
 
-send-loan : (a b c d : Bool) → (a || c) ≡ true → ((a || b) || (c || d)) ≡ true
+pub send-loan : (a b c d : Bool) → (a || c) ≡ true → ((a || b) || (c || d)) ≡ true
 send-loan true b c d e = refl
 send-loan false true c d e = refl
 send-loan false false true d e = refl
