@@ -1,0 +1,16 @@
+pub mod Rights
+pub mod Underway
+pub mod Beginnings
+pub mod Receiving
+pub mod Moments
+pub mod Balance
+pub mod Books
+pub mod Leaving
+pub mod Endings
+pub mod Outcomes
+pub mod Changing
+pub mod Settled
+pub mod Runs
+pub mod Laws
+pub mod Once
+pub mod Amid

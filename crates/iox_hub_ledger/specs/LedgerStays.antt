@@ -1,0 +1,48 @@
+-- In the midst of a call of a hub: what is out on a way is still what its sender's record says.
+use Rattle.std.specs.Prelude.{◌≡◌, ℕ, ◌+◌, ◌≤◌, List, length, None, IsTrue}
+use Rattle.iox_model.specs.declared.way.Way.{Way}
+use Rattle.iox_model.specs.Begins.{start}
+use Rattle.iox_model.specs.Commands.{Call}
+use Rattle.iox_model.specs.Ledgers.{is_live, size_of}
+use Rattle.iox_model.specs.Loans.{Choice}
+use Rattle.iox_model.specs.Maps.{has_number, AreDistinct}
+use Rattle.iox_model.specs.Moments.{Moment}
+use Rattle.iox_model.specs.Names.{misnamed}
+use Rattle.iox_model.specs.Outstandings.{outstanding_on}
+use Rattle.iox_model.specs.Peers.{buffer_on, borrow_limit_on}
+use Rattle.iox_model.specs.States.{State}
+use Rattle.iox_model.specs.Weaves.{World}
+use Rattle.iox_model.specs.WholeCalls.{MayCome}
+use Rattle.iox_ledger.specs.LedgerLaws.{out_on}
+use Rattle.iox_runs.specs.Lefts.{IsLeft}
+use Rattle.iox_runs.specs.Moving.{amid}
+
+-- the world after some moments of a call, from a state that is left; the way is live
+abbrev pub IsAmid : State → World → Way → Type 0
+IsAmid s w y =
+    IsLeft s × IsTrue (is_live s.fixed y)
+    × (node : ℕ) × (call : Call) × (c : Choice) × (ms : List Moment)
+    × (misnamed s.fixed node call ≡ None) × MayCome s node (start s node c call) ms
+    × (w ≡ amid s node call c ms)
+
+-- Each message is out once: it waits, or is had, or was given back, or is in hand.
+abbrev pub OutStaysOnce : Type 0
+OutStaysOnce = (s : State) (w : World) (y : Way) → IsAmid s w y → AreDistinct (out_on w y)
+
+-- What the sender counts as delivered and not got back is just what is out.
+abbrev pub RecordStaysAsOut : Type 0
+RecordStaysAsOut =
+    (s : State) (w : World) (y : Way) (k : ℕ) → IsAmid s w y
+    → w.state.delivered y k ≡ has_number k (out_on w y)
+
+-- As many are outstanding as are out,
+abbrev pub OutstandingStaysCounted : Type 0
+OutstandingStaysCounted =
+    (s : State) (w : World) (y : Way) → IsAmid s w y
+    → length (outstanding_on w.state y) ≡ size_of w y + length (w.state.in_hand y)
+
+-- and they are no more than the buffer and the borrow limit, and one more that is to be evicted.
+abbrev pub LedgerStaysBelow : Type 0
+LedgerStaysBelow =
+    (s : State) (w : World) (y : Way) → IsAmid s w y
+    → size_of w y + length (w.state.in_hand y) ≤ buffer_on s.fixed y + borrow_limit_on s.fixed y + 1
