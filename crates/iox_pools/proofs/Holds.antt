@@ -1,6 +1,5 @@
 -- No port keeps more messages than its pool has.
-use Rattle.std.specs.Prelude.{◌≡◌, ℕ, zero, suc, ◌+◌, ◌<◌, ◌≤◌, Bool, true, false, ◌&&◌, ◌||◌, if◌then◌else◌, ◌==◌, List, [], ◌∷◌, ◌++◌, length, ◌⊎◌, refl}
-use Rattle.std.specs.List.{range_with_len}
+use Rattle.std.specs.Prelude.{◌≡◌, ℕ, ◌+◌, ◌<◌, ◌≤◌, Bool, true, false, ◌&&◌, ◌||◌, if◌then◌else◌, ◌==◌, List, [], ◌∷◌, ◌++◌, map, ◌⊎◌, refl}
 use Rattle.std.proofs.Common.{sym, subst, ap, ◌∙◌, arith, eqb-true, eq-eqb, true≢false, inl, inr}
 use Rattle.iox_model.specs.declared.kind.Kind.{Kind}
 use Rattle.iox_model.specs.declared.kind.Kind.TheVariants.{ActiveRequest, Response}
@@ -15,45 +14,13 @@ use Rattle.iox_model.specs.Ledgers.{serials_of_loan, serials_of_outcome}
 use Rattle.iox_model.specs.Peers.{node_of_port}
 use Rattle.iox_model.proofs.MapLemmas.{either}
 use Rattle.iox_model.proofs.WholeLemmas.{put_at-here}
-use Rattle.iox_ledger.proofs.Lists.{IsAmong, NoRepeats, both, among-last, filter-among, among-filter, any-among, among-any, among-number}
+use Rattle.iox_ledger.proofs.Lists.{IsAmong, NoRepeats, both, among-last, filter-among, among-filter, any-among, among-any}
 use Rattle.iox_ledger.proofs.Views.{View, view, IsAt, plus, counted, lends_one, swapped, less, taken_handle, after_call}
-use Rattle.iox_ledger.proofs.Senders.{is_loan, FitsHandles, FitsOutcome}
+use Rattle.iox_ledger.proofs.Senders.{is_loan}
 use Rattle.iox_ledger.proofs.HandlesKept.{with-among, without-number, more-loans}
-use Rattle.iox_ledger.proofs.Borrows.{count}
+use Rattle.iox_pools.proofs.Spare.{FitsEnd}
 use Rattle.iox_pools.proofs.Under.{loan-serial}
-use Rattle.iox_pools.proofs.Unions.{and-true, count-fewer, count-named}
-
--- ---- lists
-
-count-all : (ns : List ℕ) → count (λ n. true) ns ≡ length ns
-count-all [] = refl
-count-all (n ∷ ns) = ap suc (count-all ns)
-
--- a list without repeats is no longer than one that has all its numbers
-pub no-longer : (ns ks : List ℕ) → NoRepeats ns → ((k : ℕ) → IsAmong k ns → IsAmong k ks) → length ns ≤ length ks
-no-longer ns ks apart all =
-    joins (count-all ns) (count-fewer (λ n. true) (λ n. has_number n ks) ns (λ n a e. among-number n ks (all n a)))
-    (count-named (λ k. true) (λ k. k) ks ns apart) (count-all ks)
-  where
-    joins : {a b c d e : ℕ} → a ≡ b → a ≤ c → c ≤ d → d ≡ e → b ≤ e
-    joins {a} {b} {c} {d} {e} p q r s = omega arith
-
-pub range-has : (a n k : ℕ) → a ≤ k → k < a + n → IsAmong k (range_with_len a n)
-range-has a zero k p q = absurd (none p q)
-  where
-    none : a ≤ k → k < a + 0 → ⊥
-    none p q = omega arith
-range-has a (suc n) k p q = by_case (a == k) refl (range-has (a + 1) n k)
-  where
-    next : (a == k) ≡ false → a + 1 ≤ k
-    next e = grind (arith)
-
-    shift : k < a + 1 + n
-    shift = omega arith
-
-    by_case : (b : Bool) → (a == k) ≡ b → (a + 1 ≤ k → k < a + 1 + n → IsAmong k (range_with_len (a + 1) n)) → (k ≡ a) ⊎ IsAmong k (range_with_len (a + 1) n)
-    by_case true e rest = inl (sym (eqb-true a k e))
-    by_case false e rest = inr (rest (next e) shift)
+use Rattle.iox_pools.proofs.Unions.{and-true}
 
 -- ---- a port's own messages
 
@@ -98,7 +65,7 @@ made-serial h q k port serial =
     ap (λ b. has_number k (if true && b then h.message.serial ∷ [] else [])) (eq-eqb h.port q port)
     ∙ ap (λ b. b || false) (eq-eqb h.message.serial k serial)
 
-same-holds : (u v : View) (q k : ℕ) → u.handles ≡ v.handles → HoldsOwn u q k → HoldsOwn v q k
+pub same-holds : (u v : View) (q k : ℕ) → u.handles ≡ v.handles → HoldsOwn u q k → HoldsOwn v q k
 same-holds u v q k e p = record { handle = p.handle; among = subst (IsAmong p.handle) e p.among; port = p.port; own = p.own; serial = p.serial }
 
 less-holds : (v : View) (h : Handle) (q k : ℕ) → HoldsOwn (less v h) q k → HoldsOwn v q k
@@ -115,9 +82,9 @@ plus-holds v h q k p = elim (among-last p.handle h v.handles p.among) as (λ u. 
 ]
 
 -- what is put in another's place was held by that
-swapped-holds : (v : View) (n : ℕ) (h old : Handle) (q k : ℕ) → FitsHandles v n → IsAmong old v.handles → h.port ≡ old.port → is_own old.kind ≡ true
+swapped-holds : (v : View) (n : ℕ) (h old : Handle) (q k : ℕ) → NoRepeats (map (λ k. k.number) v.handles) → IsAmong old v.handles → h.port ≡ old.port → is_own old.kind ≡ true
     → h.message.serial ≡ old.message.serial → HoldsOwn (swapped v h) q k → HoldsOwn v q k
-swapped-holds v n h old q k fits among port own serial p = elim (with-among h p.handle v.handles fits.apart p.among) as (λ u. HoldsOwn v q k) [
+swapped-holds v n h old q k fits among port own serial p = elim (with-among h p.handle v.handles fits p.among) as (λ u. HoldsOwn v q k) [
   | inl e ↦ record {
     handle = old;
     among = among;
@@ -135,7 +102,7 @@ taken-not-own false = refl
 -- ---- the end of a call
 
 -- what a port holds then it held before, or the call held it
-pub own-before : (v : View) (n : ℕ) (payload : List ℕ) (o : Outcome) (q k : ℕ) → FitsHandles v n → FitsOutcome v n o → HoldsOwn (after_call v n payload o) q k
+pub own-before : (v : View) (n : ℕ) (payload : List ℕ) (o : Outcome) (q k : ℕ) → NoRepeats (map (λ k. k.number) v.handles) → FitsEnd v n o → HoldsOwn (after_call v n payload o) q k
     → HoldsOwn v q k ⊎ (has_number k (serials_of_outcome q o) ≡ true)
 own-before v n payload (Tells reply) q k hs fits p = inl p
 own-before v n payload (Loans h) q k hs fits p = elim (plus-holds v (holding h payload) q k (same-holds _ (plus v (holding h payload)) q k refl p))
@@ -166,13 +133,13 @@ own-before v n payload (Receives x w m) q k hs fits p = elim (plus-holds v (take
 own-before v n payload (Drops h) q k hs fits p =
     inl (either (λ (u : View). HoldsOwn u q k → HoldsOwn v q k) (is_received h.kind) _ (less v h)
     (λ e r. less-holds v h q k (same-holds _ (less v h) q k refl r)) (λ e r. less-holds v h q k r) p)
-own-before v n payload (DropsPort port) q k hs fits p = absurd fits
+own-before v n payload (DropsPort port) q k hs fits p = inl p
 own-before v n payload (Forgets dead) q k hs fits p =
     inl (either (λ (u : View). HoldsOwn u q k → HoldsOwn v q k) (has_number dead v.forgot) v (record v { forgot = v.forgot ++ dead ∷ [] })
     (λ e r. r) (λ e r. same-holds _ v q k refl r) p)
 
 -- loans only grow
-pub after-loans : (v : View) (n : ℕ) (payload : List ℕ) (o : Outcome) (q : ℕ) → FitsOutcome v n o → v.loans q ≤ (after_call v n payload o).loans q
+pub after-loans : (v : View) (n : ℕ) (payload : List ℕ) (o : Outcome) (q : ℕ) → FitsEnd v n o → v.loans q ≤ (after_call v n payload o).loans q
 after-loans v n payload (Tells reply) q fits = omega arith
 after-loans v n payload (Loans h) q fits = more-loans v.loans h.port q
 after-loans v n payload (Fills h) q fits = omega arith
@@ -192,7 +159,7 @@ after-loans v n payload (Drops h) q fits =
   where
     same : (a : ℕ) → a ≤ a
     same a = omega arith
-after-loans v n payload (DropsPort port) q fits = absurd fits
+after-loans v n payload (DropsPort port) q fits = omega arith
 after-loans v n payload (Forgets dead) q fits =
     either (λ (u : View). v.loans q ≤ u.loans q) (has_number dead v.forgot) v (record v { forgot = v.forgot ++ dead ∷ [] }) (λ e. same (v.loans q)) (λ e. same (v.loans q))
   where
@@ -200,7 +167,7 @@ after-loans v n payload (Forgets dead) q fits =
     same a = omega arith
 
 -- and the one that the call held counts among them
-after-lent : (loans : ℕ → ℕ) (h : Handle) (q k : ℕ) → has_number k (serials_of_loan h true q) ≡ true → loans q < put_at loans h.port (loans h.port + 1) q
+pub after-lent : (loans : ℕ → ℕ) (h : Handle) (q k : ℕ) → has_number k (serials_of_loan h true q) ≡ true → loans q < put_at loans h.port (loans h.port + 1) q
 after-lent loans h q k e =
     subst (λ i. loans i < put_at loans h.port (loans h.port + 1) i) (loan-serial h q k e).0
     (subst (λ a. loans h.port < a) (sym (put_at-here loans h.port (loans h.port + 1))) (next (loans h.port)))

@@ -21,7 +21,7 @@ use Rattle.iox_model.specs.Peers.{port_at, node_of_port, ways_from}
 use Rattle.iox_model.proofs.WholeLemmas.{moved-fixed}
 use Rattle.iox_ledger.specs.OnceLaws.{IsOnWire}
 use Rattle.iox_ledger.proofs.Lists.{IsAmong, not-true, one_of, filter-among, any-among, among-any, number-among, no_repeats-filter}
-use Rattle.iox_pools.proofs.Unions.{range-apart}
+use Rattle.iox_ledger.proofs.Outstanding.{no-longer, range-apart}
 use Rattle.iox_ledger.proofs.Views.{View, view, IsAt}
 use Rattle.iox_ledger.proofs.Senders.{FitsOutcome, FitsDoing, Stands}
 use Rattle.iox_ledger.proofs.Settling.{settled-here, settled-else}
@@ -30,9 +30,10 @@ use Rattle.iox_ledger.proofs.Moves.{ends-fits}
 use Rattle.iox_ledger.proofs.Worlds.{FitsCall, Fits, opened-fits, doing-is, begin-none, settled-ports, beat-fits}
 use Rattle.iox_ledger.proofs.Once.{beat-ports}
 use Rattle.iox_ledger.proofs.Outs.{moved-delivered}
+use Rattle.iox_pools.proofs.Spare.{fits-end}
 use Rattle.iox_pools.proofs.Ways.{way-of}
 use Rattle.iox_pools.proofs.Under.{PickIs, GivesNext, loan-serial, next-under, ends-under, next-stays, ends-same, start-under}
-use Rattle.iox_pools.proofs.Holds.{no-longer, HoldsOwn, holds-held, held-holds, own-loan, made-serial, own-before, after-loans, after-more}
+use Rattle.iox_pools.proofs.Holds.{HoldsOwn, holds-held, held-holds, own-loan, made-serial, own-before, after-loans, after-more}
 use Rattle.iox_pools.proofs.HoldsKept.{keeps, under_at, under, Keeping, IsLent, IsNext, Follows, or-left, or-right, follows-keeping, under-fits, loans-is, IsPut, is-put}
 
 -- ---- the call of the port's node
@@ -195,7 +196,7 @@ over-kept w m d payload o q k fits doing ended p e = elim (one_of (is_held u.fix
     held : (b : Bool) → (n == m) ≡ b → HoldsOwn (view u.fixed n) q k → (keeps w.state q k ≡ true) ⊎ (has_number k (under w q) ≡ true)
     held true is h =
         let at : n ≡ m = eqb-true n m is in
-        elim (own-before (view w.state.fixed m) m payload o q k (fits.handles m) p
+        elim (own-before (view w.state.fixed m) m payload o q k (fits.handles m).apart (fits-end (view w.state.fixed m) m o p)
         (subst (λ v. HoldsOwn v q k) (settled-here w.state m payload o fits.wire (fits.handles m) p) (subst (λ i. HoldsOwn (view u.fixed i) q k) at h)))
         as (λ z. (keeps w.state q k ≡ true) ⊎ (has_number k (under w q) ≡ true)) [
           | inl r ↦ own (subst (λ i. HoldsOwn (view w.state.fixed i) q k) (sym at) r)
@@ -237,7 +238,7 @@ over-loans w m payload o q fits p = by_case (n == m) refl
     by_case true is =
         view-loans (subst (λ i. (view w.state.fixed i).loans q ≤ (view u i).loans q) (sym (eqb-true n m is))
         (subst (λ (v : View). (view w.state.fixed m).loans q ≤ v.loans q) (sym (settled-here w.state m payload o fits.wire (fits.handles m) p))
-        (after-loans (view w.state.fixed m) m payload o q p)))
+        (after-loans (view w.state.fixed m) m payload o q (fits-end (view w.state.fixed m) m o p))))
     by_case false is = view-loans (equal ((view w.state.fixed n).loans q) ((view u n).loans q) (ap (λ (v : View). v.loans q) (sym (settled-else w.state m n payload o fits.wire (fits.handles m) p is))))
 
 -- what the call held is loaned now

@@ -20,9 +20,8 @@ use Rattle.iox_ledger.proofs.Senders.{FitsLoan, FitsDoing}
 use Rattle.iox_ledger.proofs.Phases.{target-of}
 use Rattle.iox_ledger.proofs.Had.{put_on}
 use Rattle.iox_ledger.proofs.Outs.{no-head}
-use Rattle.iox_pools.proofs.Unions.{range-apart}
+use Rattle.iox_ledger.proofs.Outstanding.{no-longer, range-apart, range-has}
 use Rattle.iox_pools.proofs.Under.{UnderIs, LoanIs, none-so, loan-serial}
-use Rattle.iox_pools.proofs.Holds.{no-longer, range-has}
 
 -- the port has it in a handle, or it is outstanding
 abbrev pub keeps : State → ℕ → ℕ → Bool

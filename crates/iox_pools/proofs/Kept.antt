@@ -24,8 +24,9 @@ use Rattle.iox_ledger.proofs.Lists.{IsAmong, both, among-append, filter-among, m
 use Rattle.iox_ledger.proofs.Views.{view, View, IsAt, role_in}
 use Rattle.iox_ledger.proofs.Phases.{HasOwnPorts, find-own}
 use Rattle.iox_ledger.proofs.Borrows.{count}
+use Rattle.iox_ledger.proofs.Outstanding.{range-apart}
 use Rattle.iox_pools.specs.PoolLaws.{IsUnreduced}
-use Rattle.iox_pools.proofs.Unions.{and-true, count-or, count-any, count-fewer, count-named, range-apart, length-flat}
+use Rattle.iox_pools.proofs.Unions.{and-true, count-or, count-any, count-fewer, count-named, length-flat}
 use Rattle.iox_pools.proofs.Limited.{IsWithin, role-count}
 use Rattle.iox_pools.proofs.Spare.{is_of_client, is_pending, counts, count-both, FitsKinds, SpareLoan}
 use Rattle.iox_pools.proofs.SpareStarts.{role-is}

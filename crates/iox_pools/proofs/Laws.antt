@@ -80,8 +80,8 @@ begins_succeed v u node call c x p reach beat is there enough out =
     let dry : DryAtOnce v.state node (λ q. q ≡ lender x) ⊥
     = gives-at-once w.state v w.beats node (lender x) p w.on holds.fits holds.spares (or_else-none _ _ beat.0).0 there enough in
     let spare : SpareDoing (view v.state.fixed node) (Gone v.state) ⊥ (start v.state node c call)
-    = start-spare v.state node (Gone v.state) (λ q. q ≡ lender x) ⊥ c call holds.fits.wire dry (λ y e. ap lender (some-is y x (sym e ∙ is)))
-    (holds.fits.handles node) (holds.spares.kinds node) (begin-none v node (wire_calls.Port call) beat.0).1 in
+    = start-spare v.state node (Gone v.state) (λ q. q ≡ lender x) ⊥ c call dry (λ y e. ap lender (some-is y x (sym e ∙ is)))
+    (holds.fits.handles node).of_port (holds.spares.kinds node) (begin-none v node (wire_calls.Port call) beat.0).1 in
     subst (SpareDoing (view v.state.fixed node) (Gone v.state) ⊥) (some-is (start v.state node c call) (refused OutOfMemory) (sym (now beat.2) ∙ out)) spare
   where
     now : u ≡ begun v node c (wire_calls.Port call) → u.doing node ≡ Some (start v.state node c call)

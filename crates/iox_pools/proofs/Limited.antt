@@ -108,7 +108,7 @@ length-numbers (p ∷ ps) = ap suc (length-numbers ps)
 pub role-count : (f : Fixed) (role : Role) → length (ports_of_role f role) ≡ count (λ p. same_role p.role role) f.ports
 role-count f role = length-numbers (filter (λ p. same_role p.role role) f.ports)
 
-room-for : (f : Fixed) (role : Role) (o : Options) (memory : Bool) → making_refusal f role o memory ≡ None → count (λ p. same_role p.role role) f.ports < most_ports f.limits role
+pub room-for : (f : Fixed) (role : Role) (o : Options) (memory : Bool) → making_refusal f role o memory ≡ None → count (λ p. same_role p.role role) f.ports < most_ports f.limits role
 room-for f role o memory e = subst (λ n. n < most_ports f.limits role) (role-count f role) (less _ _ (free _ _ (or_else-none _ _ (or_else-none _ _ e).1).1))
   where
     free : (b : Bool) (r : Refusal) → refused_if b r ≡ None → b ≡ false
@@ -118,7 +118,7 @@ room-for f role o memory e = subst (λ n. n < most_ports f.limits role) (role-co
     less : (a b : ℕ) → nat_le a b ≡ false → b < a
     less a b h = grind (arith)
 
-within-made : (f : Fixed) (node : ℕ) (role : Role) (id : UniqueSystemId) (o : Options) → count (λ p. same_role p.role role) f.ports < most_ports f.limits role
+pub within-made : (f : Fixed) (node : ℕ) (role : Role) (id : UniqueSystemId) (o : Options) → count (λ p. same_role p.role role) f.ports < most_ports f.limits role
     → IsWithin f → Within f.limits (f.ports ++ new_port f node role id o ∷ [])
 within-made f node role id o room p = record {
   most = λ other. subst (λ n. n ≤ most_ports f.limits other) (sym (count-last (λ q. same_role q.role other) f.ports (new_port f node role id o))) (more role other room (p.most other));
@@ -248,7 +248,7 @@ run_keeps s (c ∷ cs) (r ∷ rs) t p run = run_keeps run.0 cs rs t (command_kee
 run_keeps s [] (r ∷ rs) t p run = absurd run
 run_keeps s (c ∷ cs) [] t p run = absurd run
 
-created-within : (l : Limits) → Within (raised l) []
+pub created-within : (l : Limits) → Within (raised l) []
 created-within l = record {
   most = λ role. omega arith;
   lanes = λ p a. absurd a;

@@ -1,6 +1,6 @@
 -- How many handles of each kind a port has, and that a call under way finds its counts as it did at
 -- its tests.
-use Rattle.std.specs.Prelude.{◌≡◌, ℕ, suc, ◌+◌, ◌*◌, ◌-◌, ◌<◌, ◌≤◌, Bool, true, false, ◌&&◌, ◌||◌, if◌then◌else◌, ◌==◌, List, [], ◌∷◌, ◌++◌, length, filter, Some, find, ⊤, refl}
+use Rattle.std.specs.Prelude.{◌≡◌, ℕ, suc, ◌+◌, ◌*◌, ◌-◌, ◌<◌, ◌≤◌, Bool, true, false, ◌&&◌, ◌||◌, if◌then◌else◌, ◌==◌, List, [], ◌∷◌, ◌++◌, length, map, filter, Some, find, ⊤, refl}
 use Rattle.std.proofs.Common.{sym, subst, ap, ◌∙◌, arith, true≢false, eqb-true, inl, inr}
 use Rattle.iox_model.specs.declared.kind.Kind.{Kind}
 use Rattle.iox_model.specs.declared.kind.Kind.TheVariants.{RequestMutUninit, RequestMut, ResponseMutUninit, ResponseMut, PendingResponse, ActiveRequest, Response}
@@ -18,9 +18,9 @@ use Rattle.iox_model.specs.Messages.{Message}
 use Rattle.iox_model.specs.Names.{is_port}
 use Rattle.iox_model.specs.Counts.{with_handle, sent_handle, holding}
 use Rattle.iox_model.proofs.MapLemmas.{either}
-use Rattle.iox_ledger.proofs.Lists.{IsAmong, among-last}
+use Rattle.iox_ledger.proofs.Lists.{IsAmong, NoRepeats, among-last}
 use Rattle.iox_ledger.proofs.Views.{View, view, IsAt, role_in, plus, counted, lends_one, swapped, less, taken_handle, after_call}
-use Rattle.iox_ledger.proofs.Senders.{is_loan, FitsHandles, FitsLoan, FitsOutcome}
+use Rattle.iox_ledger.proofs.Senders.{is_loan, FitsLoan, IsFilled, FitsOutcome}
 use Rattle.iox_ledger.proofs.HandlesKept.{with-among, without-number}
 use Rattle.iox_ledger.proofs.Borrows.{count, one_if, count-cons, count-last, count-less}
 
@@ -158,6 +158,19 @@ SpareDoing v gone out d = ⊤
 
 -- ---- an end of a call keeps it
 
+-- what the end of a call asks of its loan, on a wire and on a hub
+abbrev pub FitsEnd : View → ℕ → Outcome → Type 0
+FitsEnd v n (Loans h) = FitsLoan v n h true
+FitsEnd v n (Fills h) = IsFilled v n h
+FitsEnd v n (Sends h copied count) = FitsLoan v n h copied
+FitsEnd v n o = ⊤
+
+pub fits-end : (v : View) (n : ℕ) (o : Outcome) → FitsOutcome v n o → FitsEnd v n o
+fits-end v n (Loans h) p = p
+fits-end v n (Fills h) p = p
+fits-end v n (Sends h copied count) p = p
+fits-end v n o p = tt
+
 no_more : (a b : ℕ) → a ≤ b + 0 → a ≤ b
 no_more a b p = omega arith
 
@@ -222,20 +235,20 @@ sent-plus v n h copied count' p spare e fits = record {
       (one-pending v h count' port spare e fits);
 }
 
-sent-swapped : (v : View) (n : ℕ) (h : Handle) (count' : ℕ) → FitsHandles v n → FitsLoan v n h false → SparePending v h → is_request_loan h.kind ≡ true → FitsKinds v
+sent-swapped : (v : View) (n : ℕ) (h : Handle) (count' : ℕ) → NoRepeats (map (λ k. k.number) v.handles) → FitsLoan v n h false → SparePending v h → is_request_loan h.kind ≡ true → FitsKinds v
     → FitsKinds (swapped v (sent_handle h count'))
 sent-swapped v n h count' hs p spare e fits = record {
-  suits = λ g a. elim (with-among (sent_handle h count') g v.handles hs.apart a) as (λ u. Suits v.ports g.kind g.port) [
+  suits = λ g a. elim (with-among (sent_handle h count') g v.handles hs a) as (λ u. Suits v.ports g.kind g.port) [
     | inl is ↦ subst (λ (k : Handle). Suits v.ports k.kind k.port) (sym is) (sent-suits v n h false count' p e)
     | inr b ↦ fits.suits g b.0
   ];
   pending = λ port. at-most _ _ _ (count-with (λ g. (g.port == port) && is_pending g.kind) (sent_handle h count') v.handles) (one-pending v h count' port spare e fits);
 }
 
-filled-kinds : (v : View) (n : ℕ) (h : Handle) → FitsHandles v n → is_loan h.kind ≡ true → is_request_loan h.kind ≡ is_client (role_in v.ports h.port) → FitsKinds v
+filled-kinds : (v : View) (n : ℕ) (h : Handle) → NoRepeats (map (λ k. k.number) v.handles) → is_loan h.kind ≡ true → is_request_loan h.kind ≡ is_client (role_in v.ports h.port) → FitsKinds v
     → FitsKinds (swapped v h)
 filled-kinds v n h hs loan role fits = record {
-  suits = λ g a. elim (with-among h g v.handles hs.apart a) as (λ u. Suits v.ports g.kind g.port) [
+  suits = λ g a. elim (with-among h g v.handles hs a) as (λ u. Suits v.ports g.kind g.port) [
     | inl is ↦ subst (λ (k : Handle). Suits v.ports k.kind k.port) (sym is) ((loan-kind h.kind loan).no_port, (loan-kind h.kind loan).of_client ∙ role)
     | inr b ↦ fits.suits g b.0
   ];
@@ -251,7 +264,7 @@ others-kinds : (v : View) (next : ℕ) (loans : ℕ → ℕ) (borrowed : Way →
     → FitsKinds (record v { next = next; loans = loans; borrowed = borrowed; forgot = forgot })
 others-kinds v next loans borrowed forgot fits = record { suits = fits.suits; pending = fits.pending }
 
-taken-suits : (v : View) (n : ℕ) (x : Receiver) (m : Message) → IsOfRole v x → Suits v.ports (taken_handle v n x m).kind x.port
+pub taken-suits : (v : View) (n : ℕ) (x : Receiver) (m : Message) → IsOfRole v x → Suits v.ports (taken_handle v n x m).kind x.port
 taken-suits v n x m e = (no-port (is_client x.role), of-client (is_client x.role) ∙ sym e)
   where
     no-port : (b : Bool) → is_port (if b then Response else ActiveRequest) ≡ false
@@ -262,11 +275,11 @@ taken-suits v n x m e = (no-port (is_client x.role), of-client (is_client x.role
     of-client true = refl
     of-client false = refl
 
-taken-free : (b : Bool) → is_pending (if b then Response else ActiveRequest) ≡ false
+pub taken-free : (b : Bool) → is_pending (if b then Response else ActiveRequest) ≡ false
 taken-free true = refl
 taken-free false = refl
 
-pub after-kinds : (v : View) (gone : ℕ → Type 0) (out : Type 0) (n : ℕ) (payload : List ℕ) (o : Outcome) → FitsHandles v n → FitsOutcome v n o
+pub after-kinds : (v : View) (gone : ℕ → Type 0) (out : Type 0) (n : ℕ) (payload : List ℕ) (o : Outcome) → NoRepeats (map (λ k. k.number) v.handles) → FitsEnd v n o
     → SpareOutcome v gone out o → FitsKinds v
     → FitsKinds (after_call v n payload o)
 after-kinds v gone out n payload (Tells reply) hs p spare fits = fits
@@ -289,7 +302,7 @@ after-kinds v gone out n payload (Receives x w m) hs p spare fits =
 after-kinds v gone out n payload (Drops h) hs p spare fits =
     either FitsKinds (is_received h.kind) (record (less v h) { borrowed = put v.borrowed (way_of h) (v.borrowed (way_of h) - 1) }) (less v h)
     (λ u. others-kinds (less v h) v.next v.loans (put v.borrowed (way_of h) (v.borrowed (way_of h) - 1)) v.forgot (less-kinds v h fits)) (λ u. less-kinds v h fits)
-after-kinds v gone out n payload (DropsPort port) hs p spare fits = absurd p
+after-kinds v gone out n payload (DropsPort port) hs p spare fits = fits
 after-kinds v gone out n payload (Forgets dead) hs p spare fits =
     either FitsKinds (has_number dead v.forgot) v (record v { forgot = v.forgot ++ dead ∷ [] }) (λ u. fits)
     (λ u. others-kinds v v.next v.loans v.borrowed (v.forgot ++ dead ∷ []) fits)

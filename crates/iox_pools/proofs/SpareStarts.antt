@@ -30,9 +30,8 @@ use Rattle.iox_model.specs.Joins.{node_at, not_living, not_dead}
 use Rattle.iox_model.specs.Peers.{port_at, forgot_port}
 use Rattle.iox_model.proofs.MapLemmas.{either}
 use Rattle.iox_model.proofs.WholeLemmas.{or_else-none}
-use Rattle.iox_ledger.proofs.Lists.{none-some, find-among}
+use Rattle.iox_ledger.proofs.Lists.{IsAmong, both, none-some, find-among}
 use Rattle.iox_ledger.proofs.Views.{role_in, View, view, IsAt}
-use Rattle.iox_ledger.proofs.Senders.{FitsHandles}
 use Rattle.iox_ledger.proofs.Starts.{IsNamedBy, named-by, IsThere, there}
 use Rattle.iox_pools.specs.PoolLaws.{lender}
 use Rattle.iox_pools.proofs.Spare.{is_of_client, count-is, FitsKinds, SpareLoan, RefusedIf, SpareDoing}
@@ -92,15 +91,15 @@ node-is f port p n e node = ap (λ (q : Option Port). option_map_or (λ x. x.nod
 
 -- ---- refusals
 
-abbrev Tolerates : Type 0 → Option Refusal → Type 0
+abbrev pub Tolerates : Type 0 → Option Refusal → Type 0
 Tolerates out None = ⊤
 Tolerates out (Some r) = RefusedIf out r
 
-if-tolerated : (out : Type 0) (b : Bool) (r : Refusal) → RefusedIf out r → Tolerates out (refused_if b r)
+pub if-tolerated : (out : Type 0) (b : Bool) (r : Refusal) → RefusedIf out r → Tolerates out (refused_if b r)
 if-tolerated out true r p = p
 if-tolerated out false r p = tt
 
-or-tolerated : (out : Type 0) (a b : Option Refusal) → Tolerates out a → Tolerates out b → Tolerates out (or_else a b)
+pub or-tolerated : (out : Type 0) (a b : Option Refusal) → Tolerates out a → Tolerates out b → Tolerates out (or_else a b)
 or-tolerated out None b p q = q
 or-tolerated out (Some r) b p q = p
 
@@ -132,6 +131,10 @@ pub record IsLoanOf (f : Fixed) (n : ℕ) (h : Handle) : Type 0 where
   pub of_port : IsAt f.ports h.port n
   pub role : is_request_loan h.kind ≡ is_client (role_in f.ports h.port)
   pub spare : SpareLoan (view f n) h.port
+
+-- each handle of the node belongs to a port of its own
+abbrev pub HasOwnHandles : State → ℕ → Type 0
+HasOwnHandles s n = (h : Handle) → IsAmong h (s.fixed.handles n) → IsAt s.fixed.ports h.port n
 
 -- where there is nobody to get back from, the pool of such a port refuses at once, if it may
 abbrev pub DryAtOnce : State → ℕ → (ℕ → Type 0) → Type 0 → Type 0
@@ -206,7 +209,7 @@ may-lend : (f : Fixed) (n : ℕ) (x : Subject) → FitsKinds (view f n) → IsTh
 may-lend f n (ThePort p) fits is e = port-lends (is_client p.role) e
 may-lend f n (TheHandle h) fits is e = handle-lends h.kind (fits.suits h is).0 e
 
-lends_by-spare : (s : State) (n : ℕ) (gone Lender : ℕ → Type 0) (out : Type 0) (c : Choice) (x : Subject) (o : Order) → DryAtOnce s n Lender out → Lender (lender x) → FitsHandles (view s.fixed n) n
+lends_by-spare : (s : State) (n : ℕ) (gone Lender : ℕ → Type 0) (out : Type 0) (c : Choice) (x : Subject) (o : Order) → DryAtOnce s n Lender out → Lender (lender x) → HasOwnHandles s n
     → FitsKinds (view s.fixed n) → IsThere s.fixed n x → node_of x ≡ n → MayLend x → SpareDoing (view s.fixed n) gone out (lends_by s c x o)
 lends_by-spare s n gone Lender out c (ThePort p) o dry by hs fits is node may = lends_request-spare s n gone Lender out c p o dry by is node may
 lends_by-spare s n gone Lender out c (TheHandle h) o dry by hs fits is node may = by_case (port_at s.fixed h.port) refl
@@ -217,17 +220,17 @@ lends_by-spare s n gone Lender out c (TheHandle h) o dry by hs fits is node may 
     by_case (Some p) e =
         let number : p.number ≡ h.port = eqb-true p.number h.port (find-among (λ (x : Port). x.number == h.port) p s.fixed.ports e).1 in
         lends_response-spare s n gone Lender out c h p o dry (subst Lender (sym number) by) (ap (port_at s.fixed) number ∙ e)
-        (sym (ap (λ (y : Option Port). option_map_or (λ x. x.node) y 0) e) ∙ hs.of_port h is)
+        (sym (ap (λ (y : Option Port). option_map_or (λ x. x.node) y 0) e) ∙ hs h is)
         (sym (ap (λ (r : Role). is_client r) (role-is s.fixed h.port p e)) ∙ sym (fits.suits h is).1 ∙ may)
 
-lends-spare : (s : State) (n : ℕ) (gone Lender : ℕ → Type 0) (out : Type 0) (c : Choice) (x : Subject) (o : Order) → DryAtOnce s n Lender out → Lender (lender x) → FitsHandles (view s.fixed n) n
+lends-spare : (s : State) (n : ℕ) (gone Lender : ℕ → Type 0) (out : Type 0) (c : Choice) (x : Subject) (o : Order) → DryAtOnce s n Lender out → Lender (lender x) → HasOwnHandles s n
     → FitsKinds (view s.fixed n) → IsThere s.fixed n x → node_of x ≡ n → MayLend x → SpareDoing (view s.fixed n) gone out (lends s c x o)
 lends-spare s n gone Lender out c x o dry by hs fits is node may =
     either (SpareDoing (view s.fixed n) gone out) (is_count (shape_for s.fixed x) o.elements) (lends_by s c x o) (refused WrongLength)
     (λ u. lends_by-spare s n gone Lender out c x o dry by hs fits is node may) (λ u. tt)
 
 copies-spare : (s : State) (n : ℕ) (gone Lender : ℕ → Type 0) (out : Type 0) (c : Choice) (x : Subject) (k : Option ℕ) (words : List ℕ) → DryAtOnce s n Lender out → Lender (lender x)
-    → FitsHandles (view s.fixed n) n → FitsKinds (view s.fixed n) → IsThere s.fixed n x → node_of x ≡ n → MayLend x
+    → HasOwnHandles s n → FitsKinds (view s.fixed n) → IsThere s.fixed n x → node_of x ≡ n → MayLend x
     → SpareDoing (view s.fixed n) gone out (copies s c x k words)
 copies-spare s n gone Lender out c x None words dry by hs fits is node may = tt
 copies-spare s n gone Lender out c x (Some k) words dry by hs fits is node may =
@@ -252,42 +255,43 @@ releases-spare v gone out f h =
     (λ u. either (SpareDoing v gone out) (same_kind h.kind PendingResponse) (closing h (states_of f h)) (Ended (Drops h))
     (λ y. closing-spare v gone out h (states_of f h)) (λ y. tt))
 
-begins-spare : (s : State) (n : ℕ) (gone Lender : ℕ → Type 0) (out : Type 0) (c : Choice) (call : Call) (x : Subject) → DryAtOnce s n Lender out → Lender (lender x) → FitsHandles (view s.fixed n) n
-    → FitsKinds (view s.fixed n) → IsThere s.fixed n x → node_of x ≡ n → suits true call (kind_of x) ≡ true
+begins-spare : (s : State) (n : ℕ) (gone Lender : ℕ → Type 0) (out : Type 0) (wire : Bool) (c : Choice) (call : Call) (x : Subject) → DryAtOnce s n Lender out → Lender (lender x) → HasOwnHandles s n
+    → FitsKinds (view s.fixed n) → IsThere s.fixed n x → node_of x ≡ n → suits wire call (kind_of x) ≡ true
     → SpareDoing (view s.fixed n) gone out (begins_at s c call x)
-begins-spare s n gone Lender out c (Loan k l) x dry by hs fits is node e =
+begins-spare s n gone Lender out wire c (Loan k l) x dry by hs fits is node e =
     lends-spare s n gone Lender out c x (ordered l false) dry by hs fits is node (may-lend s.fixed n x fits is e)
-begins-spare s n gone Lender out c (LoanUninit k l) x dry by hs fits is node e = absurd (true≢false (sym e))
-begins-spare s n gone Lender out c (Write k p) (TheHandle h) dry by hs fits is node e = writes-spare (view s.fixed n) gone out h p.elements p.words
-begins-spare s n gone Lender out c (Send k) (TheHandle h) dry by hs fits is node e = sends-spare s.fixed n gone out h false (hs.of_port h is)
-begins-spare s n gone Lender out c (SendCopy k p) x dry by hs fits is node e =
+begins-spare s n gone Lender out wire c (LoanUninit k l) x dry by hs fits is node e =
+    lends-spare s n gone Lender out c x (ordered l true) dry by hs fits is node (may-lend s.fixed n x fits is (both (not wire) _ e).1)
+begins-spare s n gone Lender out wire c (Write k p) (TheHandle h) dry by hs fits is node e = writes-spare (view s.fixed n) gone out h p.elements p.words
+begins-spare s n gone Lender out wire c (Send k) (TheHandle h) dry by hs fits is node e = sends-spare s.fixed n gone out h false (hs h is)
+begins-spare s n gone Lender out wire c (SendCopy k p) x dry by hs fits is node e =
     copies-spare s n gone Lender out c x p.elements p.words dry by hs fits is node
     (may-lend s.fixed n x fits is (first-or-second (is_client p.role) (same_kind (kind_of x) kinds.Client) (same_kind (kind_of x) ActiveRequest) e))
-begins-spare s n gone Lender out c (Receive k) (ThePort p) dry by hs fits is node e =
+begins-spare s n gone Lender out wire c (Receive k) (ThePort p) dry by hs fits is node e =
     visiting-spare (view s.fixed n) gone out (record { port = p.number; role = Server; lane = 0; request = 0 }) (server_ways s.fixed p) false
     (ap (λ (r : Role). is_client r) (role-is s.fixed p.number p is) ∙ port-receives (is_client p.role) e)
-begins-spare s n gone Lender out c (Receive k) (TheHandle h) dry by hs fits is node e =
+begins-spare s n gone Lender out wire c (Receive k) (TheHandle h) dry by hs fits is node e =
     visiting-spare (view s.fixed n) gone out (record { port = h.port; role = Client; lane = h.lane; request = h.request }) (pending_ways s.fixed h) false
     (sym (fits.suits h is).1 ∙ handle-receives h.kind (fits.suits h is).0 e)
-begins-spare s n gone Lender out c (Read k) (TheHandle h) dry by hs fits is node e = reads-spare (view s.fixed n) gone out c h
-begins-spare s n gone Lender out c (Release k) (ThePort p) dry by hs fits is node e = tt
-begins-spare s n gone Lender out c (Release k) (TheHandle h) dry by hs fits is node e = releases-spare (view s.fixed n) gone out s.fixed h
-begins-spare s n gone Lender out c (IsConnected k) (TheHandle h) dry by hs fits is node e = checking-spare (view s.fixed n) gone out h false (states_of s.fixed h)
-begins-spare s n gone Lender out c (SetHint k) (TheHandle h) dry by hs fits is node e = hinting-spare (view s.fixed n) gone out h (states_of s.fixed h)
-begins-spare s n gone Lender out c (HasHint k) (TheHandle h) dry by hs fits is node e = checking-spare (view s.fixed n) gone out h true (states_of s.fixed h)
-begins-spare s n gone Lender out c (HasRequests k) (ThePort p) dry by hs fits is node e = seeking-spare (view s.fixed n) gone out (server_ways s.fixed p)
-begins-spare s n gone Lender out c (HasResponse k) (TheHandle h) dry by hs fits is node e = seeking-spare (view s.fixed n) gone out (pending_ways s.fixed h)
-begins-spare s n gone Lender out c call x dry by hs fits is node e = tt
+begins-spare s n gone Lender out wire c (Read k) (TheHandle h) dry by hs fits is node e = reads-spare (view s.fixed n) gone out c h
+begins-spare s n gone Lender out wire c (Release k) (ThePort p) dry by hs fits is node e = tt
+begins-spare s n gone Lender out wire c (Release k) (TheHandle h) dry by hs fits is node e = releases-spare (view s.fixed n) gone out s.fixed h
+begins-spare s n gone Lender out wire c (IsConnected k) (TheHandle h) dry by hs fits is node e = checking-spare (view s.fixed n) gone out h false (states_of s.fixed h)
+begins-spare s n gone Lender out wire c (SetHint k) (TheHandle h) dry by hs fits is node e = hinting-spare (view s.fixed n) gone out h (states_of s.fixed h)
+begins-spare s n gone Lender out wire c (HasHint k) (TheHandle h) dry by hs fits is node e = checking-spare (view s.fixed n) gone out h true (states_of s.fixed h)
+begins-spare s n gone Lender out wire c (HasRequests k) (ThePort p) dry by hs fits is node e = seeking-spare (view s.fixed n) gone out (server_ways s.fixed p)
+begins-spare s n gone Lender out wire c (HasResponse k) (TheHandle h) dry by hs fits is node e = seeking-spare (view s.fixed n) gone out (pending_ways s.fixed h)
+begins-spare s n gone Lender out wire c call x dry by hs fits is node e = tt
 
-pub start-spare : (s : State) (n : ℕ) (gone Lender : ℕ → Type 0) (out : Type 0) (c : Choice) (call : Call) → s.fixed.on_wire ≡ true → DryAtOnce s n Lender out
+pub start-spare : (s : State) (n : ℕ) (gone Lender : ℕ → Type 0) (out : Type 0) (c : Choice) (call : Call) → DryAtOnce s n Lender out
     → ((x : Subject) → subject s.fixed n (number_of call) ≡ Some x → Lender (lender x))
-    → FitsHandles (view s.fixed n) n → FitsKinds (view s.fixed n) → misnamed s.fixed n call ≡ None → SpareDoing (view s.fixed n) gone out (start s n c call)
-start-spare s n gone Lender out c call wire dry by hs fits e =
+    → HasOwnHandles s n → FitsKinds (view s.fixed n) → misnamed s.fixed n call ≡ None → SpareDoing (view s.fixed n) gone out (start s n c call)
+start-spare s n gone Lender out c call dry by hs fits e =
     let p : IsNamedBy s.fixed n call (subject s.fixed n (number_of call)) = named-by s.fixed n call (subject s.fixed n (number_of call)) e in
     subst (λ (o : Option Subject). SpareDoing (view s.fixed n) gone out (option_map_or (begins_at s c call) o (refused UnknownNumber))) (sym p.is)
-    (begins-spare s n gone Lender out c call p.named dry (by p.named p.is) hs fits
+    (begins-spare s n gone Lender out s.fixed.on_wire c call p.named dry (by p.named p.is) hs fits
     (there s.fixed n (number_of call) p.named (port_at s.fixed (number_of call)) (handle_at s.fixed n (number_of call)) refl refl p.is)
-    p.of_node (ap (λ b. suits b call (kind_of p.named)) (sym wire) ∙ p.may))
+    p.of_node p.may)
 
 -- who is dead does not live
 dead-or-not : (q r : Refusal) (b : Bool) → refused_if b q ≡ None → refused_if (not b) r ≡ None → ⊥
@@ -302,9 +306,9 @@ dead-gone s dead = by_case UnknownNode NodeIsAlive NodeIsDead (node_at s dead)
     by_case u q r None e f = none-some u (sym e)
     by_case u q r (Some m) e f = dead-or-not q r m.alive e f
 
-pub wire_start-spare : (s : State) (n : ℕ) (out : Type 0) (c : Choice) (call : WireCall) → s.fixed.on_wire ≡ true → DryAtOnce s n (λ port. ⊤) out
-    → FitsHandles (view s.fixed n) n → FitsKinds (view s.fixed n) → miscalled s n call ≡ None
+pub wire_start-spare : (s : State) (n : ℕ) (out : Type 0) (c : Choice) (call : WireCall) → DryAtOnce s n (λ port. ⊤) out
+    → HasOwnHandles s n → FitsKinds (view s.fixed n) → miscalled s n call ≡ None
     → SpareDoing (view s.fixed n) (λ dead. not_living s dead ≡ None → ⊥) out (wire_start s n c call)
-wire_start-spare s n out c (wire_calls.Port call) wire dry hs fits e =
-    start-spare s n (λ dead. not_living s dead ≡ None → ⊥) (λ port. ⊤) out c call wire dry (λ x is. tt) hs fits e
-wire_start-spare s n out c (Forget dead) wire dry hs fits e = dead-gone s dead e
+wire_start-spare s n out c (wire_calls.Port call) dry hs fits e =
+    start-spare s n (λ dead. not_living s dead ≡ None → ⊥) (λ port. ⊤) out c call dry (λ x is. tt) hs fits e
+wire_start-spare s n out c (Forget dead) dry hs fits e = dead-gone s dead e

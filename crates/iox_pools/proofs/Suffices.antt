@@ -66,7 +66,7 @@ keeps-less s v bs n h p on fits spares living loan back is enough =
     (each-way s v bs n h p on fits.own spares.dead living loan is (λ w lends live at. out-most s v bs n w on live at (back w lends)))
 
 -- so the pool does not refuse
-not-dry : (s : State) (port : ℕ) (p : Port) (keeps : List ℕ) → port_at s.fixed port ≡ Some p → length keeps < p.pool → is_dry s.fixed port keeps ≡ false
+pub not-dry : (s : State) (port : ℕ) (p : Port) (keeps : List ℕ) → port_at s.fixed port ≡ Some p → length keeps < p.pool → is_dry s.fixed port keeps ≡ false
 not-dry s port p keeps is e = ap (λ (o : Option Port). option_map_or (λ q. nat_le q.pool (length keeps)) o true) is ∙ above p.pool (length keeps) e
   where
     above : (a b : ℕ) → b < a → nat_le a b ≡ false
@@ -122,7 +122,7 @@ last-left w u (x ∷ xs) e none = by_case (same_way x w) refl none
     by_case true same f = only xs f (way-among u (x ∷ xs) e) ∙ same_way-true x w same
     by_case false same f = absurd (not-cons x (without_way w xs) f)
 
-empty-is : {A : Type 0} (xs : List A) → is_empty xs ≡ true → xs ≡ []
+pub empty-is : {A : Type 0} (xs : List A) → is_empty xs ≡ true → xs ≡ []
 empty-is [] e = refl
 empty-is (x ∷ xs) e = absurd (true≢false (sym e))
 

@@ -24,7 +24,7 @@ use Rattle.iox_reachable.specs.Worlds.{IsReachable}
 use Rattle.iox_pools.specs.TightPools.{SomeLoanTakesTheLast, NoLessWouldDo}
 
 -- all limits are 1, and what a full queue cannot take is discarded
-abbrev narrow : Limits
+abbrev pub narrow : Limits
 narrow = record ones { request_overflow = false; client_strategy = strategies.DiscardData }
 
 abbrev served : State
@@ -123,7 +123,7 @@ comes-about plan e = (
 
 -- ---- the client
 
-abbrev client : Port
+abbrev pub client : Port
 client = new_port (service narrow).fixed 0 Client (process 1) of_length_one
 
 abbrev client_lends : World
@@ -145,13 +145,13 @@ client_takes_the_last = (
 
 -- ---- the server
 
-abbrev server : Port
+abbrev pub server : Port
 server = new_port (record ((service narrow).fixed) { next_number = 1; ports_made = 1 }) 1 Server (process 2) of_length_one
 
 abbrev server_lends : World
 server_lends = world_by first eight_responses
 
-abbrev lanes : List Way
+abbrev pub lanes : List Way
 lanes = response_way 0 0 1 ∷ response_way 0 1 1 ∷ response_way 0 2 1 ∷ response_way 0 3 1 ∷ []
 
 nothing-back : (y : Way) → IsAmong y lanes → server_lends.state.returned y ≡ []

@@ -1,6 +1,6 @@
 -- How many numbers of a list pass a test: no more than pass its parts.
-use Rattle.std.specs.Prelude.{◌≡◌, ℕ, zero, suc, ◌+◌, ◌*◌, ◌≤◌, Bool, true, false, ◌&&◌, ◌||◌, if◌then◌else◌, ◌==◌, List, [], ◌∷◌, length, filter, flat_map, refl}
-use Rattle.std.specs.List.{list_any, range_with_len}
+use Rattle.std.specs.Prelude.{◌≡◌, ℕ, suc, ◌+◌, ◌*◌, ◌≤◌, Bool, true, false, ◌&&◌, ◌||◌, if◌then◌else◌, ◌==◌, List, [], ◌∷◌, length, filter, flat_map, refl}
+use Rattle.std.specs.List.{list_any}
 use Rattle.std.proofs.Common.{sym, subst, arith, eqb-true, inl, inr}
 use Rattle.std.proofs.lemmas.List.{length-append}
 use Rattle.std.proofs.Math.Nat.{suc-mul}
@@ -89,22 +89,6 @@ count-named test number (x ∷ xs) ns d =
 
     joins : (a b c e : ℕ) {m n : ℕ} → m ≤ a + b → a ≤ c → b ≤ e → n ≡ c + e → m ≤ n
     joins a b c e {m} {n} p q r s = omega arith
-
--- a range has each number once
-range-above : (a n k : ℕ) → IsAmong k (range_with_len a n) → a ≤ k
-range-above a zero k p = absurd p
-range-above a (suc n) k (inl e) = subst (λ j. a ≤ j) (sym e) (omega arith)
-range-above a (suc n) k (inr p) = less (range-above (a + 1) n k p)
-  where
-    less : a + 1 ≤ k → a ≤ k
-    less e = omega arith
-
-pub range-apart : (a n : ℕ) → NoRepeats (range_with_len a n)
-range-apart a zero = tt
-range-apart a (suc n) = (λ p. not_above (range-above (a + 1) n a p), range-apart (a + 1) n)
-  where
-    not_above : a + 1 ≤ a → ⊥
-    not_above e = omega arith
 
 -- ---- lists of lists
 

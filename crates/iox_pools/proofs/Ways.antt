@@ -95,7 +95,7 @@ others-has f n q role a known =
     (not-so (has_number (t.0).node (f.forgot n)) (not-true (has_number (t.0).node (f.forgot n)) (λ e. never (forgot_port f n q)
     (among-any (λ p. (p.number == q) && has_number p.node (f.forgot n)) t.0 f.ports t.1 (and-true ((t.0).number == q) (has_number (t.0).node (f.forgot n)) (eq-eqb (t.0).number q (sym t.2)) e)) known))))))
 
-flat-among : {A B : Type 0} (f : A → List B) (b : B) (a : A) (xs : List A) → IsAmong a xs → IsAmong b (f a) → IsAmong b (flat_map f xs)
+pub flat-among : {A B : Type 0} (f : A → List B) (b : B) (a : A) (xs : List A) → IsAmong a xs → IsAmong b (f a) → IsAmong b (flat_map f xs)
 flat-among f b a [] p q = absurd p
 flat-among f b a (x ∷ xs) (inl e) q = among-left (f x) (flat_map f xs) (subst (λ y. IsAmong b (f y)) e q)
   where
@@ -109,7 +109,7 @@ flat-among f b a (x ∷ xs) (inr p) q = among-right (f x) (flat_map f xs) (flat-
     among-right [] zs r = r
     among-right (y ∷ ys) zs r = inr (among-right ys zs r)
 
-lends-on : (f : Fixed) (n : ℕ) (h : Handle) (w : Way) → IsLoanOf f n h → IsAmong w (ways_from f h.port) → forgot_port f n w.receiver ≡ false
+pub lends-on : (f : Fixed) (n : ℕ) (h : Handle) (w : Way) → IsLoanOf f n h → IsAmong w (ways_from f h.port) → forgot_port f n w.receiver ≡ false
     → has_way w (lending_ways f h) ≡ true
 lends-on f n h w loan a known =
     subst (λ k. has_way w (if is_request_loan h.kind then request_ways f k h.port else response_ways f k h.port) ≡ true) (sym loan.of_node)
@@ -145,7 +145,7 @@ way-of f port p w is a = by_role p.role (subst (λ (q : Role). IsAmong w (if is_
 node-of : (f : Fixed) (p : Port) → HasOwnPorts f → IsAmong p f.ports → node_in f.ports p.number ≡ p.node
 node-of f p own a = ap (λ (o : Option Port). option_map_or (λ x. x.node) o 0) (find-own f.ports p own a)
 
-connected : (f : Fixed) (port : ℕ) (p : Port) → IsAmong p f.ports → port ≡ p.number → is_connected_port f port ≡ true
+pub connected : (f : Fixed) (port : ℕ) (p : Port) → IsAmong p f.ports → port ≡ p.number → is_connected_port f port ≡ true
 connected f port p a e = among-any (λ (x : Port). x.number == port) p f.ports a (eq-eqb p.number port (sym e))
 
 -- nobody forgot the node of a port that lives
@@ -193,7 +193,7 @@ nothing-there s v bs n port p role w on own is at way forgot =
         (of-node v.state.fixed r.0 (r.0).node w.receiver r.1 refl (sym (eqb-true (r.0).number w.receiver q.0))))
 
 -- the buffer and the limit of a way are those of its sender's role
-most-is : (f : Fixed) (port : ℕ) (p : Port) (w : Way) → HasOwnPorts f → port_at f port ≡ Some p → IsWayOf f port p.role w → buffer_on f w + borrow_limit_on f w ≡ most_out f.limits p.role
+pub most-is : (f : Fixed) (port : ℕ) (p : Port) (w : Way) → HasOwnPorts f → port_at f port ≡ Some p → IsWayOf f port p.role w → buffer_on f w + borrow_limit_on f w ≡ most_out f.limits p.role
 most-is f port p w own is way =
     ap (λ (r : Role). buffer_of f.limits r + borrow_limit_on f w) (ap (role_in f.ports) way.sender ∙ role-is f port p is)
     ∙ ap (λ (r : Role). buffer_of f.limits p.role + borrow_limit_of f.limits r)

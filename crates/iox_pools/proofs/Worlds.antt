@@ -29,7 +29,7 @@ use Rattle.iox_ledger.proofs.Settling.{settled-here, settled-else}
 use Rattle.iox_ledger.proofs.Moves.{ends-fits}
 use Rattle.iox_ledger.proofs.Worlds.{Fits, opened-fits, doing-is, begin-none, beat-fits}
 use Rattle.iox_pools.proofs.Limited.{IsWithin, settled_keeps, served_within}
-use Rattle.iox_pools.proofs.Spare.{FitsKinds, TellsIf, SpareOutcome, after-kinds}
+use Rattle.iox_pools.proofs.Spare.{FitsKinds, TellsIf, SpareOutcome, fits-end, after-kinds}
 use Rattle.iox_pools.proofs.SpareMoves.{next-spare, ends-spare}
 use Rattle.iox_pools.proofs.SpareStarts.{wire_start-spare}
 use Rattle.iox_pools.proofs.Ways.{ForgetsTheDead}
@@ -104,7 +104,7 @@ over-kinds s n k gone out payload o wire hs fits p here there = by_case (k == n)
     by_case : (b : Bool) → (k == n) ≡ b → FitsKinds (view (settled s n payload o).fixed k)
     by_case true e =
         subst (λ m. FitsKinds (view (settled s n payload o).fixed m)) (sym (eqb-true k n e))
-        (subst FitsKinds (sym (settled-here s n payload o wire hs fits)) (after-kinds (view s.fixed n) gone out n payload o hs fits p here))
+        (subst FitsKinds (sym (settled-here s n payload o wire hs fits)) (after-kinds (view s.fixed n) gone out n payload o hs.apart (fits-end (view s.fixed n) n o fits) p here))
     by_case false e = subst FitsKinds (sym (settled-else s n k payload o wire hs fits e)) there
 
 over-call : (s : State) (doing : ℕ → Option Doing) (n k : ℕ) (gone : ℕ → Type 0) (payload : List ℕ) (o : Outcome) → s.fixed.on_wire ≡ true → FitsHandles (view s.fixed n) n
@@ -135,7 +135,7 @@ beat-spares : (s : State) (w u : World) (bs : List Beat) (b : Beat) → IsOnWire
 beat-spares s w u bs (Begins n call c) on beat fits spares = subst Spares (sym beat.2) (record {
   kinds = spares.kinds;
   doing = λ k. call-spare (view w.state.fixed) (Gone w.state) w.doing n k _
-      (wire_start-spare w.state n (Reduced (view w.state.fixed n) n) c call fits.wire (dry-at-once s w bs n on fits spares (or_else-none _ _ beat.0).0) (fits.handles n) (spares.kinds n)
+      (wire_start-spare w.state n (Reduced (view w.state.fixed n) n) c call (dry-at-once s w bs n on fits spares (or_else-none _ _ beat.0).0) (fits.handles n).of_port (spares.kinds n)
       (begin-none w n call beat.0).1) (spares.doing k);
   dead = spares.dead;
   within = spares.within;
