@@ -1,0 +1,14 @@
+pub mod Inductions
+pub mod Stands
+pub mod Goings
+pub mod Follows
+pub mod Parts
+pub mod Handles
+pub mod Ends
+pub mod Keeps
+pub mod Counting
+pub mod Backs
+pub mod Finds
+pub mod Lasts
+pub mod Histories
+pub mod Laws

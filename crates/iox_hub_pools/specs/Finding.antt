@@ -1,0 +1,92 @@
+-- On a service and its hub, too, a pool that was not reduced suffices.
+use Rattle.std.specs.Prelude.{◌≡◌, ℕ, ◌<◌, ◌≤◌, Bool, true, if◌then◌else◌, List, [], length, All, Some, None, ⊤}
+use Rattle.iox_model.specs.declared.reply.Refusal.TheVariants.{OutOfMemory}
+use Rattle.iox_model.specs.declared.reply.Reply.TheVariants.{Refused}
+use Rattle.iox_model.specs.declared.command.Command.TheVariants.{OfNode}
+use Rattle.iox_model.specs.declared.command.PortCommand.TheVariants.{Create, Use}
+use Rattle.iox_model.specs.Begins.{start}
+use Rattle.iox_model.specs.Commands.{Call, PortCommand, number_of}
+use Rattle.iox_model.specs.Doings.{refused, Loans, Ended}
+use Rattle.iox_model.specs.Handles.{subject, Subject}
+use Rattle.iox_model.specs.Loans.{Choice}
+use Rattle.iox_model.specs.Makings.{worst_pool, IsPortCommand}
+use Rattle.iox_model.specs.Names.{misnamed}
+use Rattle.iox_model.specs.Outstandings.{kept}
+use Rattle.iox_model.specs.Peers.{port_at}
+use Rattle.iox_model.specs.Responses.{sends, loaned}
+use Rattle.iox_model.specs.Runs.{IsHistory, Record}
+use Rattle.iox_model.specs.Services.{IsCommand}
+use Rattle.iox_model.specs.Settings.{Limits}
+use Rattle.iox_model.specs.States.{Port, Handle, Fixed, State}
+use Rattle.iox_model.specs.WholeCalls.{IsWholeCall}
+use Rattle.iox_pools.specs.PoolLaws.{IsUnreduced, lender}
+use Rattle.iox_runs.specs.Lefts.{IsLeft}
+use Rattle.iox_hub_pools.specs.Decisions.{GotAllBack}
+
+-- no pool of the node's ports was reduced
+abbrev pub IsUnreducedNode : Fixed → ℕ → Type 0
+IsUnreducedNode f node =
+    (p : Port) → port_at f p.number ≡ Some p → p.node ≡ node → IsUnreduced f p
+
+-- No whole call of such a node is answered that memory is out,
+abbrev pub NoCallRunsOut : Type 0
+NoCallRunsOut =
+    (s t : State) (node : ℕ) (call : Call) → IsLeft s → IsUnreducedNode s.fixed node
+    → IsWholeCall s node call (Refused OutOfMemory) t → ⊥
+
+-- nor is a command of it, of a hub
+abbrev pub NoPortCommandRunsOut : Type 0
+NoPortCommandRunsOut =
+    (s t : State) (node : ℕ) (command : PortCommand) → IsLeft s → IsUnreducedNode s.fixed node
+    → IsPortCommand s node command (Refused OutOfMemory) t → ⊥
+
+-- or of a service.
+abbrev pub NoCommandRunsOut : Type 0
+NoCommandRunsOut =
+    (s t : State) (node : ℕ) (command : PortCommand) → IsLeft s → IsUnreducedNode s.fixed node
+    → IsCommand s (OfNode node command) (Refused OutOfMemory) t → ⊥
+
+-- ---- a whole history
+
+-- no pool of any port was reduced
+abbrev pub IsUnreducedHub : Fixed → Type 0
+IsUnreducedHub f = (p : Port) → port_at f p.number ≡ Some p → IsUnreduced f p
+
+-- who makes a port chooses no pool, or one that has no less than the port needs
+abbrev pub ChoosesEnough : Limits → PortCommand → Type 0
+ChoosesEnough l (Create role id o) = (n : ℕ) → o.pool ≡ Some n → worst_pool l role o ≤ n
+ChoosesEnough l (Use call) = ⊤
+
+-- So where no pool is reduced, nothing that a hub is asked is answered that memory is out.
+abbrev pub NoHistoryRunsOut : Type 0
+NoHistoryRunsOut =
+    (s t : State) (cs : List Record) → IsLeft s → IsHistory s cs t → IsUnreducedHub s.fixed
+    → All (λ c. ChoosesEnough s.fixed.limits c.command) cs
+    → All (λ c. c.reply ≡ Refused OutOfMemory → ⊥) cs
+
+-- ---- where the pool decides
+
+-- A loan that got back all there is finds that its port keeps fewer messages than its pool has,
+abbrev pub KeepsLessThere : Type 0
+KeepsLessThere =
+    (now : State) (node : ℕ) (copies : Bool) (h : Handle) (p : Port)
+    → GotAllBack now node copies h
+    → port_at now.fixed h.port ≡ Some p → IsUnreduced now.fixed p
+    → length (kept now h.port []) < p.pool
+
+-- and the pool gives it a message: it is not refused, and if it copies, its send follows.
+abbrev pub LoanSucceedsThere : Type 0
+LoanSucceedsThere =
+    (now : State) (node : ℕ) (copies : Bool) (h : Handle) (p : Port)
+    → GotAllBack now node copies h
+    → port_at now.fixed h.port ≡ Some p → IsUnreduced now.fixed p
+    → loaned now copies h ≡ (if copies then sends now.fixed h true else Ended (Loans h))
+
+-- Where there is nobody to get back from, the pool decides as the call begins, and does not refuse.
+abbrev pub BeginsSucceedThere : Type 0
+BeginsSucceedThere =
+    (s : State) (node : ℕ) (call : Call) (c : Choice) (x : Subject) (p : Port)
+    → IsLeft s → misnamed s.fixed node call ≡ None
+    → subject s.fixed node (number_of call) ≡ Some x
+    → port_at s.fixed (lender x) ≡ Some p → IsUnreduced s.fixed p
+    → start s node c call ≡ refused OutOfMemory → ⊥
