@@ -18,6 +18,7 @@ use Rattle.iox_model.proofs.MapLemmas.{either}
 use Rattle.iox_model.proofs.WholeLemmas.{put_at-here}
 use Rattle.iox_ledger.proofs.Borrows.{count, one_if, loan-own, no_received}
 use Rattle.iox_ledger.proofs.HadEnds.{plus-held, less-held, swapped-held}
+use Rattle.iox_ledger.proofs.HadMoves.{HasOwnHandles}
 use Rattle.iox_ledger.proofs.Lists.{IsAmong}
 use Rattle.iox_ledger.proofs.Outs.{is}
 use Rattle.iox_ledger.proofs.Quiet.{is_quiet_outcome}
@@ -30,7 +31,7 @@ use Rattle.iox_runs.proofs.Rests.{Rests, numbered-hub}
 use Rattle.iox_hub_ledger.proofs.Beginnings.{IsHub}
 use Rattle.iox_hub_ledger.proofs.Endings.{held-same, taken-held, dropped-held, no-right, lent-rights}
 use Rattle.iox_hub_ledger.proofs.Outcomes.{same-ports, Changes, same, lent-to_come, fewer, plus-fewer, without-fewer, copied-gone, handed-gone}
-use Rattle.iox_hub_ledger.proofs.Rights.{loaned_in, rights, right_of, AreFew, HasOwnHandles, less-rights, with-rights}
+use Rattle.iox_hub_ledger.proofs.Rights.{loaned_in, rights, right_of, AreFew, less-rights, with-rights}
 
 -- what is known of what is fixed as a call ends
 pub record Known (f : Fixed) (n : ℕ) : Type 0 where

@@ -1,7 +1,7 @@
 -- What holds of the record as a port of a hub is made, and as one goes.
 use Rattle.std.specs.Prelude.{◌≡◌, ℕ, ◌+◌, ◌≤◌, Bool, true, false, ◌&&◌, ◌||◌, if◌then◌else◌, ◌==◌, nat_lt, nat_le, List, [], ◌∷◌, ◌++◌, filter, None, ◌⊎◌, refl}
 use Rattle.std.specs.Option.{option_map_or}
-use Rattle.std.proofs.Common.{sym, subst, ap, ap₂, ◌∙◌, true≢false, eqb-true, arith, inl, inr}
+use Rattle.std.proofs.Common.{sym, subst, ap, ap₂, ◌∙◌, eqb-true, arith, inl, inr}
 use Rattle.iox_model.specs.declared.kind.Role.TheVariants.{Client}
 use Rattle.iox_model.specs.declared.way.Way.{Way}
 use Rattle.iox_model.specs.Counts.{with_fixed}
@@ -35,27 +35,22 @@ use Rattle.iox_hub_ledger.proofs.Rights.{is_loan_from, loaned_in, rights}
 
 -- ---- handles
 
+-- where none passes, nothing is left
+none-passes : (test : Handle → Bool) (hs : List Handle) → ((h : Handle) → IsAmong h hs → test h ≡ false) → filter test hs ≡ []
+none-passes test [] none = refl
+none-passes test (h ∷ hs) none =
+    either (λ (gs : List Handle). gs ≡ []) (test h) (h ∷ filter test hs) (filter test hs) (λ on. never (test h) on (none h (inl refl)))
+    (λ u. none-passes test hs (λ k a. none k (inr a)))
+
 pub none-loaned : (port : ℕ) (hs : List Handle) → ((h : Handle) → IsAmong h hs → (h.port == port) ≡ false) → loaned_in hs port ≡ []
-none-loaned port [] others = refl
-none-loaned port (h ∷ hs) others =
-    by_case (is_loan_from port h) (last (is_loan h.kind) (h.port == port) (others h (inl refl))) (none-loaned port hs (λ k a. others k (inr a)))
+none-loaned port hs others = ap serials (none-passes (is_loan_from port) hs (λ h a. last (is_loan h.kind) (h.port == port) (others h a)))
   where
     last : (a b : Bool) → b ≡ false → (a && b) ≡ false
     last true b e = e
     last false b e = refl
 
-    by_case : (b : Bool) → b ≡ false → loaned_in hs port ≡ [] → serials (if b then h ∷ filter (is_loan_from port) hs else filter (is_loan_from port) hs) ≡ []
-    by_case true e rest = absurd (true≢false e)
-    by_case false e rest = rest
-
 none-had : (y : Way) (hs : List Handle) → ((h : Handle) → IsAmong h hs → has_received y h ≡ false) → held_on y hs None ≡ []
-none-had y [] none = refl
-none-had y (h ∷ hs) none =
-    by_case (has_received y h) (none h (inl refl)) (none-had y hs (λ k a. none k (inr a)))
-  where
-    by_case : (b : Bool) → b ≡ false → held_on y hs None ≡ [] → serials (if b then h ∷ filter (has_received y) hs else filter (has_received y) hs) ≡ []
-    by_case true e rest = absurd (true≢false e)
-    by_case false e rest = rest
+none-had y hs none = ap serials (none-passes (has_received y) hs none)
 
 -- ---- a port goes
 

@@ -16,6 +16,7 @@ use Rattle.iox_ledger.specs.QueueLaws.{has_evicted}
 use Rattle.iox_ledger.proofs.Borrows.{count, one_if}
 use Rattle.iox_ledger.proofs.Emptied.{EmptiesNone, WasEmptied, visiting-none, took-none, next-emptied}
 use Rattle.iox_ledger.proofs.Had.{put_on}
+use Rattle.iox_ledger.proofs.HadMoves.{HasOwnHandles}
 use Rattle.iox_ledger.proofs.Lists.{IsAmong, never, way-among, without-itself}
 use Rattle.iox_ledger.proofs.Once.{HasPassed, IsPassed, next-passed}
 use Rattle.iox_ledger.proofs.Outs.{is, head-is, no-head, moved-delivered}
@@ -29,7 +30,7 @@ use Rattle.iox_runs.proofs.Holding.{HoldsIn}
 use Rattle.iox_runs.proofs.Ports.{any_at}
 use Rattle.iox_runs.proofs.Rests.{Rests}
 use Rattle.iox_hub_ledger.proofs.Receiving.{gives-own}
-use Rattle.iox_hub_ledger.proofs.Rights.{loaned_in, rights, AreFew, HasOwnHandles, has-right}
+use Rattle.iox_hub_ledger.proofs.Rights.{loaned_in, rights, AreFew, has-right}
 use Rattle.iox_hub_ledger.proofs.Underway.{Stands}
 
 -- both ends of the way are connected

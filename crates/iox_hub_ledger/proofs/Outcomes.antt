@@ -11,6 +11,7 @@ use Rattle.iox_model.specs.States.{Port, Handle, Fixed}
 use Rattle.iox_model.proofs.MapLemmas.{either}
 use Rattle.iox_model.proofs.WholeLemmas.{put_at-here}
 use Rattle.iox_ledger.proofs.Borrows.{count, one_if}
+use Rattle.iox_ledger.proofs.HadMoves.{HasOwnHandles}
 use Rattle.iox_ledger.proofs.Lists.{IsAmong, never}
 use Rattle.iox_ledger.proofs.Outs.{is}
 use Rattle.iox_ledger.proofs.Rights.{IsSent}
@@ -23,7 +24,7 @@ use Rattle.iox_hub_ledger.proofs.Beginnings.{IsHub}
 use Rattle.iox_hub_ledger.proofs.Books.{SamePorts, Leaves}
 use Rattle.iox_hub_ledger.proofs.Endings.{rights_in, no-right, less-to-come}
 use Rattle.iox_hub_ledger.proofs.Leaving.{none-loaned}
-use Rattle.iox_hub_ledger.proofs.Rights.{loaned_in, rights, right_of, AreFew, HasOwnHandles, plus-rights, less-rights, own-right}
+use Rattle.iox_hub_ledger.proofs.Rights.{loaned_in, rights, right_of, AreFew, plus-rights, less-rights, own-right}
 
 -- ---- what the end of a call changes
 

@@ -14,13 +14,12 @@ use Rattle.iox_model.specs.Steps.{next}
 use Rattle.iox_model.proofs.MapLemmas.{either, same_way-true}
 use Rattle.iox_ledger.proofs.Borrows.{count}
 use Rattle.iox_ledger.proofs.Had.{taken_on, given_on, FitsRelease}
-use Rattle.iox_ledger.proofs.HadMoves.{Follows, took-held, takes-follows, both-quiet, stale-follows, own-had}
+use Rattle.iox_ledger.proofs.HadMoves.{HasOwnHandles, Follows, took-held, takes-follows, both-quiet, stale-follows, own-had}
 use Rattle.iox_ledger.proofs.Lists.{both, never}
 use Rattle.iox_ledger.proofs.Quiet.{serials, visiting-quiet}
 use Rattle.iox_ledger.proofs.Views.{view, node_in, way_of-receiver}
 use Rattle.iox_reachable.proofs.Sound.{IsPortOf, Fits}
 use Rattle.iox_runs.proofs.Rests.{Rests}
-use Rattle.iox_hub_ledger.proofs.Rights.{HasOwnHandles}
 use Rattle.iox_hub_ledger.proofs.Underway.{Stands}
 
 -- what its receiver has of a way while that node's call is under way

@@ -5,7 +5,8 @@ use Rattle.iox_model.specs.Counts.{is_same_handle, without_handle, with_handle}
 use Rattle.iox_model.specs.States.{Handle, Fixed}
 use Rattle.iox_model.proofs.MapLemmas.{eqb-refl}
 use Rattle.iox_ledger.proofs.Borrows.{count, one_if, count-cons}
-use Rattle.iox_ledger.proofs.Lists.{IsAmong, NoRepeats, among-filter, among-map, no_repeats-map_filter}
+use Rattle.iox_ledger.proofs.HadMoves.{HasOwnHandles}
+use Rattle.iox_ledger.proofs.Lists.{IsAmong, among-filter, among-map, no_repeats-map_filter}
 use Rattle.iox_ledger.proofs.Outs.{is}
 use Rattle.iox_ledger.proofs.Quiet.{serials}
 use Rattle.iox_ledger.proofs.Senders.{is_loan, FitsHandles}
@@ -32,9 +33,6 @@ right_of port k h = if is_loan_from port h then one_if (k == h.message.serial) e
 
 abbrev pub AreFew : Fixed → Type 0
 AreFew f = (n port k : ℕ) → rights f n port k ≤ 1
-
-abbrev pub HasOwnHandles : List Handle → Type 0
-HasOwnHandles hs = NoRepeats (map (λ h. h.number) hs)
 
 -- ---- one handle more, less, or in place of another
 
