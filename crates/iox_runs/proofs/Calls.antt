@@ -133,7 +133,7 @@ over_calm t node d o payload g ended =
       owned = g.owned;
     }) (ended_fits t node d o ended (g.call).1) (ended_holds t d o ended g.holds)
 
-done_calm : (s : State) (node : ℕ) (call : Call) (reply : Reply) (t : State) → Calm s → misnamed s.fixed node call ≡ None
+pub done_calm : (s : State) (node : ℕ) (call : Call) (reply : Reply) (t : State) → Calm s → misnamed s.fixed node call ≡ None
     → IsDone s node call reply t → Calm t
 done_calm s node call reply t r named d =
     let first : Doing = start s node d.0 call in

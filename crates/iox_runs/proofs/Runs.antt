@@ -53,7 +53,7 @@ still_no_port k ps p less none =
     not_itself : (n : ℕ) → nat_lt n n ≡ false
     not_itself n = grind (arith)
 
-made_rests : (f : Fixed) (p : Port) → p.number ≡ f.next_number → Rests f → Rests (with_port f p)
+pub made_rests : (f : Fixed) (p : Port) → p.number ≡ f.next_number → Rests f → Rests (with_port f p)
 made_rests f p is r = record {
   hub = r.hub;
   numbered = (distinct_next f.next_number f.ports p is (r.numbered).1 (r.numbered).0, below_next f.next_number f.ports p is (r.numbered).1);
@@ -76,7 +76,7 @@ none-waits xs b e = subst (λ (ys : List Message). nat_le (length ys) b ≡ true
     none : (b : ℕ) → nat_le 0 b ≡ true
     none b = grind (arith)
 
-made_within : (s : State) (p : Port) (n : ℕ) → p.number ≡ s.fixed.next_number → Rested s → IsWithin (with_fixed s (with_port s.fixed p)) n None
+pub made_within : (s : State) (p : Port) (n : ℕ) → p.number ≡ s.fixed.next_number → Rested s → IsWithin (with_fixed s (with_port s.fixed p)) n None
 made_within s p n is r v own =
     by_cases (any_at v.sender s.fixed.ports)
     (λ there.
@@ -132,7 +132,7 @@ same_owned s t fixed waiting o = record {
       (o.gone y (ap (λ (f : Fixed). any_at y.sender f.ports) (sym fixed) ∙ away)));
 }
 
-same_calm : (s t : State) → t.fixed ≡ s.fixed → t.waiting ≡ s.waiting → Calm s → Calm t
+pub same_calm : (s t : State) → t.fixed ≡ s.fixed → t.waiting ≡ s.waiting → Calm s → Calm t
 same_calm s t fixed waiting c = record { rests = same_rests s t fixed waiting c.rests; owned = same_owned s t fixed waiting c.owned }
 
 nodes_calm : (s x t : State) → x.fixed ≡ s.fixed → x.waiting ≡ s.waiting → t ≡ x → Calm s → Calm t
