@@ -1,6 +1,7 @@
 //! What holds of every call, whatever the other nodes do in between.
 ghost use Rattle.iox_model.specs.OrderLaws.{InOrder};
-ghost use Rattle.iox_model.specs.Laws.{WholeCallIsWeave, WeaveIsWholeCall, OnlyTheLivingAct, TheDeadStayDead, ReceivesOwn, ReceivesNamed, DeliveredIsNotRefused};
+ghost use Rattle.iox_model.specs.Laws.{WholeCallIsWeave, WeaveIsWholeCall, OnlyTheLivingAct, TheDeadStayDead};
+ghost use Rattle.iox_model.specs.Laws.{ReceivesOwn, ReceivesNamed, DeliveredIsNotRefused};
 
 /// A whole call and a weave of that one call are the same.
 pub fn whole_calls_are_weaves()

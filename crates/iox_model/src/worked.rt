@@ -1,6 +1,7 @@
 //! Worked runs and weaves: commands with the replies that the definitions allow.
 ghost use Rattle.iox_model.specs.Scripts.{IsPlayed};
-ghost use Rattle.iox_model.specs.WorkedRuns.{responds_in_order, evicts_the_oldest, keeps_the_active_limit, refuses_a_full_server, discards_for_a_full_server, cleans_up_the_dead, keeps_the_borrow_limit, skips_a_stale_request};
+ghost use Rattle.iox_model.specs.WorkedRuns.{responds_in_order, evicts_the_oldest, keeps_the_active_limit, refuses_a_full_server};
+ghost use Rattle.iox_model.specs.WorkedRuns.{discards_for_a_full_server, cleans_up_the_dead, keeps_the_borrow_limit, skips_a_stale_request};
 ghost use Rattle.iox_model.specs.ExpiredRuns.{expires_two, expires_one, expires_none};
 ghost use Rattle.iox_model.specs.WorkedWeaves.{StopsAndIsForgotten};
 ghost use Rattle.iox_model.specs.EvictionWeaves.{KeepsTwo};

@@ -2,12 +2,14 @@
 //! The functions have nothing to do: each is there for its contract.
 #![tactic(auto)]
 
-ghost use Rattle.iox_runs.specs.Answering.{EachCallEnds, EachCommandIsAnswered, EachHistoryGoesOn, EachPortCommandIsAnswered, EachRunGoesOn, SomethingMayBeChosen};
+ghost use Rattle.iox_runs.specs.Answering.{EachCallEnds, EachCommandIsAnswered, EachHistoryGoesOn};
+ghost use Rattle.iox_runs.specs.Answering.{EachPortCommandIsAnswered, EachRunGoesOn, SomethingMayBeChosen};
 ghost use Rattle.iox_runs.specs.Dying.{TheDeadStayDead};
 ghost use Rattle.iox_runs.specs.Moving.{BorrowsStayWithin, QueuesStayWithin};
 ghost use Rattle.iox_runs.specs.Receiving.{RequestsAreNamed, ResponsesNameTheirRequest};
 ghost use Rattle.iox_runs.specs.Resting.{BorrowsRestWithin, QueuesOfTheGoneRestWithin, QueuesRestWithin, ValuesHaveOwnNumbers};
-ghost use Rattle.iox_runs.specs.TraceLaws.{InOrderInACall, InOrderOverRuns, OnlyOverflowEvicts, RefusedCommandDeliversNothing, RefusedPortCommandDeliversNothing};
+ghost use Rattle.iox_runs.specs.TraceLaws.{InOrderInACall, InOrderOverRuns, OnlyOverflowEvicts};
+ghost use Rattle.iox_runs.specs.TraceLaws.{RefusedCommandDeliversNothing, RefusedPortCommandDeliversNothing};
 ghost use Rattle.iox_runs.specs.WorkedTraces.{TracesTheRequests};
 
 /// A call finds an open lane, with memory or without. Whatever it finds, and whatever moments it

@@ -32,7 +32,8 @@ impl Pushing {
     ghost use Rattle.iox_steps.specs.Accesses.{IsWithin, words_after};
     ghost use Rattle.iox_steps.specs.Sites.{size};
     ghost use Rattle.iox_steps.specs.Replies.{push_reply as reply_of};
-    ghost use Rattle.iox_steps.specs.Pushes.{push_access, push_sees, push_next, push_moment, full_look_access, full_look_sees, full_look_next, full_look_moment};
+    ghost use Rattle.iox_steps.specs.Pushes.{push_access, push_sees, push_next, push_moment};
+    ghost use Rattle.iox_steps.specs.Pushes.{full_look_access, full_look_sees, full_look_next, full_look_moment};
     ghost use Rattle.iox_steps.specs.Seats.{pushing_access, pushing_sees, pushing_after, pushing_progress, pushing_moment, in_push, in_full_look, progress};
 
     /// Makes its next access, tells what that does to the queue or sees there, and goes on.
