@@ -1,18 +1,19 @@
 -- Free indices in their places: at first, after one is taken, and after one is given back.
-use Rattle.std.proofs.Common.{◌≡◌, ◌≢◌, ◌+◌, ◌-◌, ◌<◌, ◌≤◌, ◌⊎◌, ℕ, zero, suc, true, false, List, ◌∷◌, Contains, length, get_or, set, drop, eqb, nat_eq, refl, ap, ap₂, sym, subst, ◌∙◌, inl, inr, arith, length-set, length-drop}
+use Rattle.std.proofs.Common.{◌≡◌, ◌≢◌, ◌+◌, ◌-◌, ◌<◌, ◌≤◌, ℕ, zero, suc, Bool, true, false, List, [], ◌∷◌, Contains, length, get_or}
+use Rattle.std.proofs.Common.{set, drop, take, reverse, nat_eq, refl, ap, ap₂, sym, subst, ◌∙◌, inl, inr, arith, length-set}
 use Rattle.std.specs.List.{range_with_len}
 use Rattle.std.specs.Cmp.{nat_eq_equiv}
-use Rattle.std.proofs.lemmas.Bool.{eq-eqb, eqb-true, ne_eqb, false≢true, true≢false}
+use Rattle.std.proofs.lemmas.Bool.{cases_Bool, false≢true, ne_eqb}
 use Rattle.std.proofs.lemmas.Bool.Decides.{Decides-eqb}
-use Rattle.std.proofs.lemmas.List.{drop_more, drop-set, drop-drop, get_or_default}
+use Rattle.std.proofs.lemmas.List.{get_or_default, length-reverse, length-take-le, reverse-append, reverse-reverse, take_all, take_more, take_more_set}
 use Rattle.std.proofs.lemmas.List.FromFn.{length-range_with_len, get_or-range_with_len}
 use Rattle.std.proofs.lemmas.Map.Keys.{IsDistinct-from_apart}
 use Rattle.std.proofs.lemmas.Map.Made.{length-le_from_is_member, is_member-Decides}
 use Rattle.iox_sets.specs.declared.mpmc.unique_index_set_enums.ReleaseMode.{ReleaseMode}
 use Rattle.iox_sets.specs.declared.mpmc.unique_index_set_enums.ReleaseMode.TheVariants.{LockIfLastIndex, Default}
 use Rattle.iox_sets.specs.declared.mpmc.unique_index_set_enums.ReleaseState.{ReleaseState}
-use Rattle.iox_sets.specs.IndexSets.{IsHeld, Takes, is_locked, max_capacity, new_index_set, state_after, with_released}
-use Rattle.iox_sets.specs.FreeLists.{AreIndexPlaces, IsFreeList, set_in_places}
+use Rattle.iox_sets.specs.IndexSets.{IsHeld, Takes, held_count, is_locked, max_capacity, new_index_set, state_after, with_released}
+use Rattle.iox_sets.specs.FreeLists.{AreIndexPlaces, IsFreeList, free_in_places, set_in_places}
 
 module _ (capacity index : ℕ) (free : List ℕ) where
   -- what is left where the first free index is taken
@@ -67,128 +68,152 @@ length-distinct capacity free is_free =
     (index, (omega arith), get_or-range_with_len 0 capacity index index small ∙ omega arith))) in
     omega arith
 
-module _ (places : List ℕ) (held limit : ℕ) (are : AreIndexPlaces places held limit) where
-  limit_most : limit ≤ length places
-  limit_most = elim are.bound [
-    | inl none ↦ omega arith
-    | inr all ↦ omega arith
-  ]
+-- the next free index stands in the last of the first `free` places
+module _ (places : List ℕ) (free : ℕ) where
+  reverse-take : (default : ℕ) → 0 < free → free ≤ length places
+      → reverse (take free places) ≡ get_or places (free - 1) default ∷ reverse (take (free - 1) places)
+  reverse-take default some fits =
+      let one_more : free ≡ free - 1 + 1 = omega arith in
+      ap (λ n. reverse (take n places)) one_more
+      ∙ ap reverse (take_more places (free - 1) default (omega arith))
+      ∙ reverse-append (take (free - 1) places) (get_or places (free - 1) default ∷ [])
 
-  -- where one more may be held, the set is open
-  limit_open : held < limit → limit ≡ length places
-  limit_open some = elim are.bound [
-    | inl none ↦ absurd (omega arith)
-    | inr all ↦ all
-  ]
+  -- and one that is stored behind them is the next
+  reverse-take-set : (index : ℕ) → free < length places → reverse (take (free + 1) (set places free index)) ≡ index ∷ reverse (take free places)
+  reverse-take-set index room = ap reverse (take_more_set places free index room) ∙ reverse-append (take free places) (index ∷ [])
 
-  pub is_open : held < limit → eqb limit 0 ≡ false
-  is_open some = ne_eqb limit 0 (omega arith)
+-- the next free index is taken
+module _ (places : List ℕ) (free index : ℕ) (some : 0 < free) (read : index ≡ get_or places (free - 1) index) where
+  next : free ≤ length places → reverse (take free places) ≡ index ∷ reverse (take (free - 1) places)
+  next fits = reverse-take places free index some fits ∙ ap (λ first. first ∷ reverse (take (free - 1) places)) (sym read)
 
-  -- and where none may, it is locked, or no index is free
-  pub none_free : held ≡ limit → eqb limit 0 ≡ false → length (drop held places) ≡ 0
-  none_free most open_set =
-      let left = length-drop held places in
-      let all : limit ≡ length places = elim are.bound [
-        | inl none ↦ absurd (true≢false (sym (eq-eqb limit 0 none) ∙ open_set))
-        | inr all ↦ all
-      ] in
-      omega arith
+  first_once : AreIndexPlaces places free false → IsFreeList (length places) (index ∷ reverse (take (free - 1) places))
+  first_once are = subst (IsFreeList (length places)) (next are.fits) are.once
 
-  -- where it is locked, no index is held
-  pub none_held : eqb limit 0 ≡ true → length (drop held places) ≡ length places
-  none_held locked =
-      let none = eqb-true limit 0 locked in
+  pub AreIndexPlaces-taken : (locked : Bool) → AreIndexPlaces places free locked → AreIndexPlaces places (free - 1) locked
+  AreIndexPlaces-taken true are = let none = are.none refl in absurd (omega arith)
+  AreIndexPlaces-taken false are =
       let fits = are.fits in
-      let left = length-drop held places in
-      omega arith
+      record {
+        some = are.some;
+        few = are.few;
+        fits = omega arith;
+        none = λ closed. absurd (false≢true closed);
+        once = IsFreeList-tail (length places) index (reverse (take (free - 1) places)) (first_once are);
+      }
 
-  -- the next free index is taken
-  module _ (some : held < limit) (index : ℕ) (read : index ≡ get_or places held index) where
-    next : drop held places ≡ index ∷ drop (held + 1) places
-    next = let most = limit_most in drop_more places held index (omega arith) ∙ ap (λ first. first ∷ drop (held + 1) places) (sym read)
+  pub Takes-next : (locked : Bool) → AreIndexPlaces places free locked
+      → Takes (set_in_places places free locked) index (set_in_places places (free - 1) locked)
+  Takes-next true are = let none = are.none refl in absurd (omega arith)
+  Takes-next false are = record {
+    unlocked = refl;
+    next = next are.fits;
+    left = ap (λ rest. record { capacity = length places; free = drop 1 rest; locked = false }) (sym (next are.fits));
+    held = IsFreeList-head (length places) index (reverse (take (free - 1) places)) (first_once are);
+  }
 
-    free : IsFreeList (length places) (index ∷ drop (held + 1) places)
-    free = subst (IsFreeList (length places)) next are.free
+-- a held index is given back
+module _ (places : List ℕ) (free : ℕ) (locked : Bool) (are : AreIndexPlaces places free locked)
+    (index : ℕ) (is_held : IsHeld (set_in_places places free locked) index) where
+  once_again : IsFreeList (length places) (index ∷ free_in_places places free locked)
+  once_again = IsFreeList-cons (length places) index (free_in_places places free locked) is_held.0 is_held.1 are.once
 
-    pub AreIndexPlaces-taken : AreIndexPlaces places (held + 1) limit
-    AreIndexPlaces-taken = record {
-      some = are.some;
-      few = are.few;
-      fits = omega arith;
-      bound = are.bound;
-      free = IsFreeList-tail (length places) index (drop (held + 1) places) free;
-    }
+  not_all : length (free_in_places places free locked) < length places
+  not_all = length-distinct (length places) (index ∷ free_in_places places free locked) once_again
 
-    pub Takes-next : Takes (set_in_places places held limit) index (set_in_places places (held + 1) limit)
-    Takes-next = record {
-      unlocked = is_open some;
-      next = next;
-      left = ap (λ rest. record { capacity = length places; free = rest; locked = eqb limit 0 }) (sym (drop-drop 1 held places));
-      held = IsFreeList-head (length places) index (drop (held + 1) places) free;
-    }
+  pub unlocked : locked ≡ false
+  unlocked = elim (cases_Bool locked) [
+    | inl closed ↦ (
+        let all = ap (λ l. length (free_in_places places free l)) closed ∙ length-reverse places in
+        let some = not_all in
+        absurd (omega arith))
+    | inr open_set ↦ open_set
+  ]
 
-  -- a held index is given back
-  module _ (index : ℕ) (is_held : IsHeld (set_in_places places held limit) index) where
-    free_again : IsFreeList (length places) (index ∷ drop held places)
-    free_again = IsFreeList-cons (length places) index (drop held places) is_held.0 is_held.1 are.free
+  in_open : free_in_places places free locked ≡ reverse (take free places)
+  in_open = ap (free_in_places places free) unlocked
 
-    pub some_held : 0 < held
-    some_held =
-        let counted = length-distinct (length places) (index ∷ drop held places) free_again in
-        let left = length-drop held places in
-        omega arith
+  counted : length (free_in_places places free locked) ≡ free
+  counted = ap length in_open ∙ length-reverse (take free places) ∙ length-take-le free places are.fits
 
-    pub unlocked : eqb limit 0 ≡ false
-    unlocked = let some = some_held in let fits = are.fits in ne_eqb limit 0 (omega arith)
+  pub room : free < length places
+  room = let some = not_all in let all = counted in omega arith
 
-    first : drop (held - 1) (set places (held - 1) index) ≡ index ∷ drop held places
-    first =
-        let some = some_held in
-        let fits = are.fits in
-        let most = limit_most in
-        drop-set places (held - 1) index (omega arith)
-        ∙ ap (λ n. index ∷ drop n places) (omega arith)
+  -- how many are held then
+  pub held_after : length places - (free + 1) ≡ held_count (set_in_places places free locked) - 1
+  held_after = let all = counted in omega arith
 
-    pub AreIndexPlaces-released : (limit' : ℕ) → held - 1 ≤ limit' → (limit' ≡ 0) ⊎ (limit' ≡ limit)
-        → AreIndexPlaces (set places (held - 1) index) (held - 1) limit'
-    AreIndexPlaces-released limit' fits either =
-        let counted = length-set places (held - 1) index in
+  first : reverse (take (free + 1) (set places free index)) ≡ index ∷ free_in_places places free locked
+  first = reverse-take-set places free index room ∙ ap (λ rest. index ∷ rest) (sym in_open)
+
+  pub AreIndexPlaces-released : AreIndexPlaces (set places free index) (free + 1) locked
+  AreIndexPlaces-released = subst (AreIndexPlaces (set places free index) (free + 1)) (sym unlocked) (
+      let stored = length-set places free index in
+      let few = are.few in
+      let some = are.some in
+      let fits = room in
+      record {
+        some = omega arith;
+        few = omega arith;
+        fits = omega arith;
+        none = λ closed. absurd (false≢true closed);
+        once = rw (first, stored) once_again;
+      })
+
+  pub set_in_places-released : (state : ReleaseState) → is_locked state ≡ false
+      → set_in_places (set places free index) (free + 1) locked ≡ with_released (set_in_places places free locked) index state
+  set_in_places-released state stays =
+      ap (set_in_places (set places free index) (free + 1)) unlocked
+      ∙ rw (stays) (ap₂ (λ (n : ℕ) (rest : List ℕ). record { capacity = n; free = rest; locked = false }) (length-set places free index) first)
+
+  -- it was the last that was held, and the set is locked
+  module _ (last : length places ≡ free + 1) where
+    all : reverse (set places free index) ≡ index ∷ free_in_places places free locked
+    all =
+        let stored = length-set places free index in
+        ap reverse (sym (take_all (free + 1) (set places free index) (omega arith))) ∙ first
+
+    pub AreIndexPlaces-locked : AreIndexPlaces (set places free index) 0 true
+    AreIndexPlaces-locked =
+        let stored = length-set places free index in
         let few = are.few in
         let some = are.some in
-        let held_some = some_held in
-        let held_fits = are.fits in
         record {
           some = omega arith;
           few = omega arith;
-          fits = fits;
-          bound = elim either [
-            | inl none ↦ inl none
-            | inr same ↦ inr (same ∙ elim are.bound [ inl none ↦ absurd (omega arith) | inr all ↦ all ∙ sym counted ])
-          ];
-          free = rw (first, counted) free_again;
+          fits = omega arith;
+          none = λ closed. refl;
+          once = rw (all, stored) once_again;
         }
 
-    pub set_in_places-released : (limit' : ℕ) (state : ReleaseState) → eqb limit' 0 ≡ is_locked state
-        → set_in_places (set places (held - 1) index) (held - 1) limit' ≡ with_released (set_in_places places held limit) index state
-    set_in_places-released limit' state locks = rw (locks) (
-        ap₂ (λ (n : ℕ) (rest : List ℕ). record { capacity = n; free = rest; locked = is_locked state })
-        (length-set places (held - 1) index) first)
+    pub set_in_places-locked : (state : ReleaseState) → is_locked state ≡ true
+        → set_in_places (set places free index) 0 true ≡ with_released (set_in_places places free locked) index state
+    set_in_places-locked state locks =
+        rw (locks) (ap₂ (λ (n : ℕ) (rest : List ℕ). record { capacity = n; free = rest; locked = true }) (length-set places free index) all)
 
 -- a new set
-pub AreIndexPlaces-new : (capacity : ℕ) → 0 < capacity → capacity ≤ max_capacity → AreIndexPlaces (range_with_len 0 capacity) 0 capacity
-AreIndexPlaces-new capacity some few =
-    let counted = length-range_with_len 0 capacity in
-    record {
-      some = omega arith;
-      few = omega arith;
-      fits = omega arith;
-      bound = inr (sym counted);
-      free = rw (counted) (IsFreeList-range capacity);
-    }
+module _ (capacity : ℕ) where
+  reverse-new : (places : List ℕ) → places ≡ reverse (range_with_len 0 capacity)
+      → (length places ≡ capacity) × (reverse (take capacity places) ≡ range_with_len 0 capacity)
+  reverse-new places is =
+      let counted : length places ≡ capacity = ap length is ∙ length-reverse (range_with_len 0 capacity) ∙ length-range_with_len 0 capacity in
+      (counted, ap reverse (take_all capacity places (omega arith) ∙ is) ∙ reverse-reverse (range_with_len 0 capacity))
 
-pub set_in_places-new : (capacity : ℕ) → 0 < capacity → set_in_places (range_with_len 0 capacity) 0 capacity ≡ new_index_set capacity
-set_in_places-new capacity some = rw (ne_eqb capacity 0 (omega arith)) (
-    ap (λ n. record { capacity = n; free = range_with_len 0 capacity; locked = false }) (length-range_with_len 0 capacity))
+  module _ (places : List ℕ) (is : places ≡ reverse (range_with_len 0 capacity)) where
+    pub AreIndexPlaces-new : 0 < capacity → capacity ≤ max_capacity → AreIndexPlaces places capacity false
+    AreIndexPlaces-new some few =
+        let counted = (reverse-new places is).0 in
+        record {
+          some = omega arith;
+          few = omega arith;
+          fits = omega arith;
+          none = λ closed. absurd (false≢true closed);
+          once = rw ((reverse-new places is).1, counted) (IsFreeList-range capacity);
+        }
+
+    pub set_in_places-new : set_in_places places capacity false ≡ new_index_set capacity
+    set_in_places-new =
+        ap₂ (λ (n : ℕ) (rest : List ℕ). record { capacity = n; free = rest; locked = false }) (reverse-new places is).0 (reverse-new places is).1
 
 -- which modes and counts lock
 pub closed-state_after : (mode : ReleaseMode) (held : ℕ) → is_locked (state_after mode held) ≡ true → held ≡ 0

@@ -1,20 +1,27 @@
--- How the free indices lie in a list of places: from a place on, the next one first.
-use Rattle.std.specs.Prelude.{◌≡◌, ◌≢◌, ◌<◌, ◌≤◌, ◌==◌, ◌⊎◌, ℕ, List, AllPairs, drop, length, slice_index}
+-- How the free indices lie in a list of places: the next one last.
+use Rattle.std.specs.Prelude.{◌≡◌, ◌≢◌, ◌<◌, ◌≤◌, ℕ, List, Bool, true, false, AllPairs, IsTrue, length, reverse, slice_index, take}
 use Rattle.iox_sets.specs.IndexSets.{IndexSet, max_capacity}
 
--- The places from the place `held` on have the free indices. As many as `limit` may be held at once: none, where
--- the set is locked.
-abbrev pub set_in_places : List ℕ → ℕ → ℕ → IndexSet
-set_in_places places held limit = record { capacity = length places; free = drop held places; locked = limit == 0 }
+-- the free indices, the next one first
+abbrev pub free_in_places : List ℕ → ℕ → Bool → List ℕ
+-- of an open set those of the first `free` places, from the last of them down
+free_in_places places free false = reverse (take free places)
+-- of a locked set those of all places
+free_in_places places free true = reverse places
+
+abbrev pub set_in_places : List ℕ → ℕ → Bool → IndexSet
+set_in_places places free locked =
+    record { capacity = length places; free = free_in_places places free locked; locked = locked }
 
 -- each free index stands in them once
 pub record IsFreeList (capacity : ℕ) (free : List ℕ) : Type 0 where
   pub below : (k : ℕ) → k < length free → slice_index free k < capacity
   pub distinct : AllPairs (λ index other. index ≢ other) free
 
-pub record AreIndexPlaces (places : List ℕ) (held limit : ℕ) : Type 0 where
+pub record AreIndexPlaces (places : List ℕ) (free : ℕ) (locked : Bool) : Type 0 where
   pub some : 0 < length places
   pub few : length places ≤ max_capacity
-  pub fits : held ≤ limit
-  pub bound : (limit ≡ 0) ⊎ (limit ≡ length places)
-  pub free : IsFreeList (length places) (drop held places)
+  pub fits : free ≤ length places
+  -- a locked set gives none
+  pub none : IsTrue locked → free ≡ 0
+  pub once : IsFreeList (length places) (free_in_places places free locked)

@@ -30,11 +30,11 @@ pub(crate) const MAX_CAPACITY: usize = (1 << 24) - 2;
 /// At first the indices are taken from 0 on, ascending.
 #[derive(Debug, Drop)]
 pub struct UniqueIndexSet {
-    // From the place `held` on stand the free indices, the next one first.
+    // The free indices stand in the first `free` places, the next one last; of a locked set, in all places.
     places: Vec<u32>,
-    held: usize,
-    // How many may be held at once: all of them, and none once the set is locked.
-    limit: usize,
+    // How many may be taken: none once the set is locked.
+    free: usize,
+    locked: bool,
 }
 
 impl Model for UniqueIndexSet {
@@ -43,9 +43,9 @@ impl Model for UniqueIndexSet {
 
     ghost Value = { IndexSet };
 
-    ghost view = { λ set. set_in_places set.places.items set.held set.limit };
+    ghost view = { λ set. set_in_places set.places.items set.free set.locked };
 
-    ghost invariant = { λ set. AreIndexPlaces set.places.items set.held set.limit };
+    ghost invariant = { λ set. AreIndexPlaces set.places.items set.free set.locked };
 }
 
 impl UniqueIndexSet {
@@ -61,11 +61,12 @@ impl UniqueIndexSet {
         if capacity > MAX_CAPACITY {
             return Err(UniqueIndexSetNewError::CapacityTooLarge);
         }
-        let places = indices(alloc, capacity as u32)?;
+        let mut places = indices(alloc, capacity as u32)?;
+        places.reverse();
         Ok(UniqueIndexSet {
             places,
-            held: 0,
-            limit: capacity,
+            free: capacity,
+            locked: false,
         })
     }
 
@@ -84,7 +85,11 @@ impl UniqueIndexSet {
         ensures held { result ≡ held_count self.now }
         ensures within { length self.now.free ≤ self.now.capacity }
     {
-        self.held
+        if self.locked {
+            0
+        } else {
+            self.places.len() - self.free
+        }
     }
 
     /// Whether the set gives no index any more.
@@ -93,7 +98,7 @@ impl UniqueIndexSet {
         ensures locked { result ≡ self.now.locked }
         ensures none_held { IsTrue result → length self.now.free ≡ self.now.capacity }
     {
-        self.limit == 0
+        self.locked
     }
 
     /// Takes the index that was given back last.
@@ -103,12 +108,11 @@ impl UniqueIndexSet {
         ensures refused { IfErr result (λ failure. acquire_refusal self.old ≡ Some failure) }
         ensures unchanged { OnErr result (self.new ≡ self.old) }
     {
-        if self.held == self.limit {
+        if self.free == 0 {
             return Err(self.acquire_failure());
         }
-        let index = self.places[self.held];
-        self.held += 1;
-        Ok(index)
+        self.free -= 1;
+        Ok(self.places[self.free])
     }
 
     /// Gives a held index back. It is the next to be taken.
@@ -119,11 +123,12 @@ impl UniqueIndexSet {
         ensures state { result ≡ state_after mode (held_count self.old - 1) }
         ensures unlocked { self.old.locked ≡ false }
     {
-        self.held -= 1;
-        self.places[self.held] = index;
-        let state = mode.state_after(self.held);
+        self.places[self.free] = index;
+        self.free += 1;
+        let state = mode.state_after(self.places.len() - self.free);
         if state.is_locked() {
-            self.limit = 0;
+            self.free = 0;
+            self.locked = true;
         }
         state
     }

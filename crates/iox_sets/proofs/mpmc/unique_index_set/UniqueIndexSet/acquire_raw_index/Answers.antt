@@ -4,12 +4,10 @@ use Rattle.iox_sets.proofs.mpmc.unique_index_set.UniqueIndexSet.acquire_raw_inde
 
 pub invariant_of-self : goal.invariant_of-self
 invariant_of-self c =
-    let fits = c.self.invariant.fits in
-    let some : c.self.inside.held < c.self.inside.limit = omega arith in
-    AreIndexPlaces-taken _ _ _ c.self.invariant some c.index-index.result.now c.index-index.ensures
+    let some : 0 < c.self.inside.free = omega (arith, c.if-self-eq0.false) in
+    AreIndexPlaces-taken _ _ _ some c.index.ensures _ c.self.invariant
 
 pub returns-clause-acquired : goal.returns-clause-acquired
 returns-clause-acquired c =
-    let fits = c.self.invariant.fits in
-    let some : c.self.inside.held < c.self.inside.limit = omega arith in
-    rw (← c.self.view_is) (Takes-next _ _ _ c.self.invariant some c.index-index.result.now c.index-index.ensures)
+    let some : 0 < c.self.inside.free = omega (arith, c.if-self-eq0.false) in
+    rw (← c.self.view_is) (Takes-next _ _ _ some c.index.ensures _ c.self.invariant)
