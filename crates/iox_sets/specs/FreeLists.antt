@@ -1,5 +1,6 @@
 -- How the free indices lie in a list of places: the next one last.
-use Rattle.std.specs.Prelude.{◌≡◌, ◌≢◌, ◌<◌, ◌≤◌, ℕ, List, Bool, true, false, AllPairs, IsTrue, length, reverse, slice_index, take}
+use Rattle.std.specs.Prelude.{◌≡◌, ◌≢◌, ◌<◌, ◌≤◌, ℕ, List, Bool, true, false, AllPairs, IsTrue, length}
+use Rattle.std.specs.Prelude.{reverse, slice_index, take}
 use Rattle.iox_sets.specs.IndexSets.{IndexSet, max_capacity}
 
 -- the free indices, the next one first

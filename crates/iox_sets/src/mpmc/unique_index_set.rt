@@ -30,7 +30,8 @@ pub(crate) const MAX_CAPACITY: usize = (1 << 24) - 2;
 /// At first the indices are taken from 0 on, ascending.
 #[derive(Debug, Drop)]
 pub struct UniqueIndexSet {
-    // The free indices stand in the first `free` places, the next one last; of a locked set, in all places.
+    // The free indices stand in the first `free` places, the next one last. Those of a locked set
+    // stand in all places.
     places: Vec<u32>,
     // How many may be taken: none once the set is locked.
     free: usize,
@@ -62,6 +63,7 @@ impl UniqueIndexSet {
             return Err(UniqueIndexSetNewError::CapacityTooLarge);
         }
         let mut places = indices(alloc, capacity as u32)?;
+        // The next one stands last.
         places.reverse();
         Ok(UniqueIndexSet {
             places,
