@@ -1,5 +1,5 @@
 //! Why no overflowing queue is made.
-ghost use Rattle.std.specs.Prelude.{◌≡◌};
+ghost use Rattle.std.specs.Prelude.{◌≡◌, Some};
 ghost use Rattle.iox_queues.specs.declared.spsc.safely_overflowing_index_queue.new_error.SafelyOverflowingIndexQueueNewError.TheVariants.{WantOfMemory};
 
 use std::alloc::AllocError;
@@ -15,8 +15,17 @@ pub enum SafelyOverflowingIndexQueueNewError {
 }
 
 impl fmt::Display for SafelyOverflowingIndexQueueNewError {
+    ghost use Rattle.iox_queues.specs.Refusals.{new_error_text};
+
+    ghost output = { λ it. Some (new_error_text it) };
+
     fn fmt<W: fmt::Write>(&self, f: &mut fmt::Formatter<W>) -> fmt::Result {
-        write!(f, "SafelyOverflowingIndexQueueNewError::{self:?}")
+        f.write_str(match self {
+            SafelyOverflowingIndexQueueNewError::CapacityIsZero =>
+                "SafelyOverflowingIndexQueueNewError::CapacityIsZero",
+            SafelyOverflowingIndexQueueNewError::WantOfMemory =>
+                "SafelyOverflowingIndexQueueNewError::WantOfMemory",
+        })
     }
 }
 
