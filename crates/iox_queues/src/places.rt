@@ -62,8 +62,8 @@ impl Places {
 
     /// Whether the last position, 2^64 - 1, is reached, so that nothing more is pushed.
     #[inline]
-    pub(crate) fn is_spent(&self, capacity: usize) -> bool
-        requires within { AreWithin capacity self.now }
+    pub(crate) fn is_spent(&self) -> bool
+        requires { pushed_at self.now ≤ 2 ^ 64 - 1 }
         ensures { IsTrue result ↔ (2 ^ 64 - 1 ≤ pushed_at self.now) }
     {
         self.before + self.free as u64 == u64::MAX

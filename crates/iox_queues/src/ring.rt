@@ -131,7 +131,7 @@ impl<T: Copy> Ring<T> {
     fn is_spent(&self) -> bool
         ensures { result ≡ is_spent self.now }
     {
-        self.places.is_spent(self.cells.len())
+        self.places.is_spent()
     }
 
     /// How many values may wait at once.

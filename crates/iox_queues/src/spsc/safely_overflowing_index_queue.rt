@@ -109,7 +109,7 @@ impl SafelyOverflowingIndexQueue {
         self.ring.is_empty()
     }
 
-    /// Whether as many numbers wait as may, so that a push would hand the oldest back.
+    /// Whether as many numbers wait as may, so that the next push finds no free place.
     #[inline]
     pub fn is_full(&self) -> bool
         ensures full { IsTrue result ↔ (length self.now.waiting ≡ self.now.capacity) }
