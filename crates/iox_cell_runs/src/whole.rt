@@ -18,11 +18,10 @@ pub fn holds_when_empty<T: Words>(words: &Vec<u64>, place: Place)
     requires empty { IsEmptyAt place words.now.items }
     ensures holds { HoldsQueue T.Words place words.now.items }
     ensures waiting { values T.Words place words.now.items ≡ [] }
-{
-    let _position = words[place.base];
-}
+{}
 
-/// A push. It makes two accesses where nothing is pushed, else three and one for each word.
+/// A push, whose program makes two accesses where nothing is pushed, else three and one for each
+/// word.
 #[inline]
 pub fn push<T: Words, const WIDTH: usize>(
     words: &mut Vec<u64>,
@@ -43,7 +42,7 @@ pub fn push<T: Words, const WIDTH: usize>(
     finish(words, CellParty::<T, WIDTH> { place, seat })
 }
 
-/// A look at fullness. It makes two accesses.
+/// A look at fullness, whose program makes two accesses.
 #[inline]
 pub fn is_full<T: Words, const WIDTH: usize>(words: &mut Vec<u64>, place: Place) -> CellReply<T>
     requires holds { HoldsQueue T.Words place words.old.items }
@@ -57,7 +56,7 @@ pub fn is_full<T: Words, const WIDTH: usize>(words: &mut Vec<u64>, place: Place)
     finish(words, CellParty::<T, WIDTH> { place, seat })
 }
 
-/// A pop. It makes two accesses where nothing waits, else three and one for each word.
+/// A pop, whose program makes two accesses where nothing waits, else three and one for each word.
 #[inline]
 pub fn pop<T: Words, const WIDTH: usize>(words: &mut Vec<u64>, place: Place) -> CellReply<T>
     requires holds { HoldsQueue T.Words place words.old.items }
@@ -72,7 +71,7 @@ pub fn pop<T: Words, const WIDTH: usize>(words: &mut Vec<u64>, place: Place) -> 
     finish(words, CellParty::<T, WIDTH> { place, seat })
 }
 
-/// A look at emptiness. It makes two accesses.
+/// A look at emptiness, whose program makes two accesses.
 #[inline]
 pub fn is_empty<T: Words, const WIDTH: usize>(words: &mut Vec<u64>, place: Place) -> CellReply<T>
     requires holds { HoldsQueue T.Words place words.old.items }
