@@ -23,6 +23,11 @@ pushed_at p = p.before + p.free
 abbrev pub HasRoomAt : ℕ → Places → Type 0
 HasRoomAt capacity p = (count_at p < capacity) × (pushed_at p < 2 ^ 64 - 1)
 
+-- a push takes the cell of the oldest, before the end of the ring: as many wait as may, and the last
+-- position is not reached
+abbrev pub EvictsAt : ℕ → Places → Type 0
+EvictsAt capacity p = (count_at p ≡ capacity) × (p.free < capacity) × (pushed_at p < 2 ^ 64 - 1)
+
 -- the queue that lies in the cells
 abbrev pub queue_at : {A : Type 0} → List A → Places → BoundedQueueOf A
 queue_at cells p = record {

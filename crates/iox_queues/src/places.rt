@@ -1,7 +1,7 @@
 //! Where the values of a queue lie in a ring of cells.
 ghost use Rattle.std.specs.Prelude.{◌≡◌, ◌⊎◌, ◌+◌, ◌-◌, ◌^◌, ◌<◌, ◌≤◌, ◌↔◌, IsTrue};
 ghost use Rattle.std.specs.Bool.{OnTrue};
-ghost use Rattle.iox_queues.specs.Rings.{AreWithin, HasRoomAt, StartsAsBefore, count_at, pushed_at};
+ghost use Rattle.iox_queues.specs.Rings.{AreWithin, EvictsAt, HasRoomAt, StartsAsBefore, count_at, pushed_at};
 
 /// Where the next pop and the next push find their cells. Each goes on without a look at the other
 /// up to an end, and only there looks how far it may go next: one compare a call, as a rule.
@@ -125,6 +125,7 @@ impl Places {
         ensures count { count_at self.new ≡ count_at self.old }
         ensures pushed { pushed_at self.new ≡ pushed_at self.old }
         ensures starts { self.new.oldest ≡ self.old.oldest }
+        ensures found { EvictsAt capacity self.old → self.new.free < self.new.full_end }
     {
         if self.ahead == capacity && self.oldest == self.free {
             self.full_end = self.unspent(capacity);
