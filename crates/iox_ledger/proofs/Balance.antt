@@ -1,6 +1,7 @@
 -- A moment keeps the record and its size.
 use Rattle.std.specs.Prelude.{◌≡◌, ℕ, ◌+◌, ◌≤◌, Bool, true, false, not, if◌then◌else◌, ◌==◌, List, [], ◌∷◌, length, Option, Some, None, ⊤, refl}
 use Rattle.std.proofs.Common.{sym, subst, ap, ◌∙◌, arith, eqb-true, eq-eqb, true≢false, inl, inr}
+use Rattle.std.proofs.lemmas.List.{length-map}
 use Rattle.iox_model.specs.declared.way.Way.{Way}
 use Rattle.iox_model.specs.Doings.{Doing, Delivering}
 use Rattle.iox_model.specs.Ledgers.{is_emptied_by, held_on}
@@ -13,12 +14,14 @@ use Rattle.iox_model.specs.Steps.{next}
 use Rattle.iox_model.specs.Weaves.{World}
 use Rattle.iox_model.proofs.MapLemmas.{same_way-true}
 use Rattle.iox_ledger.specs.QueueLaws.{evicts_next, has_evicted}
-use Rattle.iox_ledger.proofs.Lists.{never}
+use Rattle.iox_ledger.proofs.Counts.{count, one_if}
+use Rattle.iox_ledger.proofs.Lists.{no-length}
+use Rattle.iox_ledger.proofs.Truths.{never}
 use Rattle.iox_ledger.proofs.Views.{view, IsAt, node_in}
 use Rattle.iox_ledger.proofs.Senders.{FitsDoing}
 use Rattle.iox_ledger.proofs.Worlds.{Fits, doing-is}
 use Rattle.iox_ledger.proofs.Buffers.{of_call, Holding, deliver-sends, evict-sends}
-use Rattle.iox_ledger.proofs.Borrows.{count, one_if, BorrowFits, held-few, length-map}
+use Rattle.iox_ledger.proofs.Borrows.{BorrowFits, held-few}
 use Rattle.iox_ledger.proofs.Tallies.{count-all}
 use Rattle.iox_ledger.proofs.Had.{FitsRelease, put_on, taken_on, given_on, got_on, else-taken, else-given}
 use Rattle.iox_ledger.proofs.HadMoves.{own-had}
@@ -78,10 +81,6 @@ had-follows w node r d m y value fits at_work c at live release = by_case (r == 
         apart same = never (r == node) (eq-eqb r node same) e
 
 -- ---- what the sender has in hand
-
-no-length : {A : Type 0} (xs : List A) → length xs ≤ 0 → xs ≡ []
-no-length [] p = refl
-no-length (x ∷ xs) p = absurd (omega arith)
 
 evicts-fresh : (s : State) (n : ℕ) (d : Doing) (x y : Way) → (next s n d (Evict x)).condition → has_evicted y d ≡ false
 evicts-fresh s n (Delivering z last left count) x y c = refl
@@ -146,7 +145,7 @@ saw-within w n r d m y fits at_work holds saw at holding borrows =
     waits : count any (serials_of (w.state.waiting y)) ≤ buffer_on w.state.fixed y
     waits =
         subst (λ k. k ≤ buffer_on w.state.fixed y)
-        (sym (count-all (serials_of (w.state.waiting y)) ∙ length-map (λ (m : Message). m.serial) (w.state.waiting y)))
+        (sym (count-all (serials_of (w.state.waiting y)) ∙ length-map (w.state.waiting y) (λ (m : Message). m.serial)))
         (plain (length (w.state.waiting y)) (buffer_on w.state.fixed y)
         (subst (λ b. length (w.state.waiting y) ≤ buffer_on w.state.fixed y + one_if b) saw.1
         (subst (λ o. length (w.state.waiting y) ≤ buffer_on w.state.fixed y + one_if (of_call evicts_next y o)) at_work holding.waits)))

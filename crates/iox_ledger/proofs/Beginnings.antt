@@ -26,14 +26,15 @@ use Rattle.iox_model.specs.Settings.{is_count}
 use Rattle.iox_model.specs.States.{Port, Handle, Fixed, State}
 use Rattle.iox_model.specs.Weaves.{wire_start, miscalled}
 use Rattle.iox_model.proofs.MapLemmas.{either, same_way-true}
-use Rattle.iox_ledger.proofs.Lists.{IsAmong, not-true}
+use Rattle.iox_ledger.proofs.ReceivedHandles.{no_received, received-on}
+use Rattle.iox_ledger.proofs.Truths.{false_if}
+use Rattle.iox_ledger.proofs.Lists.{IsAmong}
 use Rattle.iox_ledger.proofs.Views.{view}
 use Rattle.iox_ledger.proofs.Senders.{FitsHandles}
 use Rattle.iox_ledger.proofs.Starts.{IsNamedBy, named-by, IsThere, there}
-use Rattle.iox_ledger.proofs.Borrows.{no_received}
 use Rattle.iox_ledger.proofs.Quiet.{IsQuiet, held-handles, held-quiet, sends-quiet, loaning-quiet, visiting-quiet, checking-quiet, hinting-quiet, seeking-quiet}
 use Rattle.iox_ledger.proofs.Had.{FitsRelease, quiet-release, closing-release}
-use Rattle.iox_ledger.proofs.HadMoves.{HasOwnHandles, dropped-held, received-on, closing-held}
+use Rattle.iox_ledger.proofs.HadMoves.{HasOwnHandles, dropped-held, closing-held}
 use Rattle.iox_ledger.proofs.Emptied.{EmptiesNone, sends-none, loaning-emptied, visiting-none, closing-none, checking-none, hinting-none, seeking-none}
 
 abbrev StartsWell : Fixed → Way → Doing → Type 0
@@ -50,10 +51,10 @@ of_start f n y d p = record { held = λ known. held-quiet y (f.handles n) d p.0;
 -- ---- loans and sends
 
 sends-starts : (f : Fixed) (y : Way) (h : Handle) (copied : Bool) → StartsWell f y (sends f h copied)
-sends-starts f y h copied = (sends-quiet f h copied, not-true _ (sends-none f y h copied))
+sends-starts f y h copied = (sends-quiet f h copied, false_if _ (sends-none f y h copied))
 
 lending-starts : (s : State) (y : Way) (copies : Bool) (h : Handle) → StartsWell s.fixed y (lending s copies h)
-lending-starts s y copies h = (loaning-quiet s copies h (lending_ways s.fixed h), not-true _ (λ e. all_left (loaning-emptied s y copies h (lending_ways s.fixed h) e)))
+lending-starts s y copies h = (loaning-quiet s copies h (lending_ways s.fixed h), false_if _ (λ e. all_left (loaning-emptied s y copies h (lending_ways s.fixed h) e)))
   where
     all_left : (has_way y (lending_ways s.fixed h) ≡ true) × (has_way y (lending_ways s.fixed h) ≡ false) → ⊥
     all_left p = true≢false (sym p.0 ∙ p.1)
@@ -104,7 +105,7 @@ returning-well f n h y apart among node received =
     (λ e. record { held = λ known. held-handles y (f.handles n); release = received; empties = refl })
   where
     off : forgot_port f h.node (way_of h).sender ≡ true → forgot_port f n y.sender ≡ false → has_received y h ≡ false
-    off e known = received-on y h received ∙ not-true (same_way y (way_of h)) (λ same. true≢false
+    off e known = received-on y h received ∙ false_if (same_way y (way_of h)) (λ same. true≢false
         (sym e ∙ ap (λ k. forgot_port f k (way_of h).sender) node ∙ ap (λ (w : Way). forgot_port f n w.sender) (sym (same_way-true y (way_of h) same)) ∙ known))
 
 releases-well : (f : Fixed) (n : ℕ) (h : Handle) (y : Way) → HasOwnHandles (f.handles n) → IsAmong h (f.handles n) → h.node ≡ n → BeginsWell f n y (releases_handle f h)

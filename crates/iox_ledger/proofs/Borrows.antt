@@ -1,25 +1,29 @@
 -- Of each way a receiver has at most as many messages as it may borrow.
-use Rattle.std.specs.Prelude.{◌≡◌, ℕ, suc, ◌+◌, ◌-◌, ◌<◌, ◌≤◌, Bool, true, false, not, ◌&&◌, if◌then◌else◌, ◌==◌, List, [], ◌∷◌, ◌++◌, length, map, filter, Option, Some, None, refl}
-use Rattle.std.proofs.Common.{sym, subst, ap, ◌∙◌, arith, eqb-true, eq-eqb, true≢false, inl, inr}
+use Rattle.std.specs.Prelude.{◌≡◌, ℕ, ◌+◌, ◌-◌, ◌<◌, ◌≤◌, Bool, true, false, not, ◌&&◌, if◌then◌else◌, ◌==◌, List, [], ◌∷◌, ◌++◌, length, map, filter, Option, Some, None, refl}
+use Rattle.std.proofs.Common.{sym, subst, ap, ◌∙◌, arith, eqb-true, true≢false}
+use Rattle.std.proofs.lemmas.List.{length-map, length-append}
 use Rattle.iox_model.specs.declared.kind.Kind.{Kind}
 use Rattle.iox_model.specs.declared.kind.Kind.TheVariants.{ActiveRequest, Response}
 use Rattle.iox_model.specs.declared.way.Way.{Way}
 use Rattle.iox_model.specs.Weaves.{at_work, IsBeat, IsWeave, World, Beat, Begins, Makes, Ends, Dies}
 use Rattle.iox_model.specs.Doings.{Receiver, Outcome, Tells, Loans, Fills, Sends, FailsToSend, Receives, Drops, DropsPort, Forgets, Doing, Ended, Judging, Stale}
-use Rattle.iox_model.specs.Settings.{is_client}
 use Rattle.iox_model.specs.States.{Handle, Fixed, State}
 use Rattle.iox_model.specs.WireCalls.{opened}
-use Rattle.iox_model.specs.Handles.{is_request_loan, is_received, same_kind, way_of}
+use Rattle.iox_model.specs.Handles.{is_request_loan, is_received, way_of}
 use Rattle.iox_model.specs.Ledgers.{has_received, is_given_up, taken_by, held_on}
 use Rattle.iox_model.specs.Maps.{has_number, put, same_way}
-use Rattle.iox_model.specs.Messages.{request_way, response_way, Message}
+use Rattle.iox_model.specs.Messages.{Message}
 use Rattle.iox_model.specs.Counts.{without_handle, with_handle, sent_handle, holding}
 use Rattle.iox_model.specs.Ends.{settled}
-use Rattle.iox_model.proofs.MapLemmas.{either, same_way-refl, same_way-true, same_way-flip}
+use Rattle.iox_model.proofs.PlayedRuns.{split}
+use Rattle.iox_model.proofs.MapLemmas.{either, same_way-true}
 use Rattle.iox_model.proofs.WholeLemmas.{moved-fixed}
 use Rattle.iox_ledger.specs.BorrowLaws.{BorrowLimitHolds}
+use Rattle.iox_ledger.proofs.ReceivedHandles.{no_received, received-itself, received-elsewhere, receipt-way}
+use Rattle.iox_ledger.proofs.Orders.{at-most}
+use Rattle.iox_ledger.proofs.Counts.{count, one_if, count-last, count-less, count-gone, count-swap, count-fewer, one-at-most}
 use Rattle.iox_ledger.proofs.Lists.{IsAmong}
-use Rattle.iox_ledger.proofs.Views.{View, view, IsAt, node_in, plus, counted, lends_one, swapped, less, taken_handle, after_call, way_of-receiver}
+use Rattle.iox_ledger.proofs.Views.{View, view, IsAt, node_in, plus, counted, lends_one, swapped, less, taken_handle, after_call}
 use Rattle.iox_ledger.proofs.Senders.{is_loan, FitsHandles, FitsOutcome, FitsDoing, limit_in, IsBelow, Has}
 use Rattle.iox_ledger.proofs.Settling.{settled-here, settled-else}
 use Rattle.iox_ledger.proofs.Moves.{ends-fits}
@@ -27,92 +31,7 @@ use Rattle.iox_ledger.proofs.Worlds.{FitsCall, Fits, opened-fits, doing-is, beat
 
 -- ---- how many of a list pass a test
 
-abbrev pub count : {A : Type 0} → (A → Bool) → List A → ℕ
-count test xs = length (filter test xs)
-
-abbrev pub one_if : Bool → ℕ
-one_if b = if b then 1 else 0
-
-pub count-cons : {A : Type 0} (test : A → Bool) (x : A) (xs : List A) → count test (x ∷ xs) ≡ one_if (test x) + count test xs
-count-cons test x xs = by_case (test x)
-  where
-    one : (n : ℕ) → suc n ≡ 1 + n
-    one n = omega arith
-
-    none : (n : ℕ) → n ≡ 0 + n
-    none n = omega arith
-
-    by_case : (b : Bool) → length (if b then x ∷ filter test xs else filter test xs) ≡ one_if b + count test xs
-    by_case true = one (count test xs)
-    by_case false = none (count test xs)
-
-pub count-last : {A : Type 0} (test : A → Bool) (xs : List A) (x : A) → count test (xs ++ x ∷ []) ≡ count test xs + one_if (test x)
-count-last test [] x = count-cons test x [] ∙ flip (one_if (test x))
-  where
-    flip : (n : ℕ) → n + 0 ≡ 0 + n
-    flip n = omega arith
-count-last test (z ∷ zs) x =
-    count-cons test z (zs ++ x ∷ []) ∙ joins (one_if (test z)) (count test (zs ++ x ∷ [])) (count test zs) (one_if (test x)) (count test (z ∷ zs)) (count-last test zs x) (count-cons test z zs)
-  where
-    joins : (a b c d e : ℕ) → b ≡ c + d → e ≡ a + c → a + b ≡ e + d
-    joins a b c d e p q = omega arith
-
 -- ---- handles that are taken out or changed
-
-pub count-less : (test : Handle → Bool) (h : Handle) (hs : List Handle) → count test (without_handle h hs) ≤ count test hs
-count-less test h [] = omega arith
-count-less test h (k ∷ ks) = by_case (k.number == h.number) (count-less test h ks)
-  where
-    less : (a b c d : ℕ) → a ≤ b → c ≡ d + b → a ≤ c
-    less a b c d p q = omega arith
-
-    both : (a b c d e : ℕ) → a ≤ b → c ≡ d + b → e ≡ d + a → e ≤ c
-    both a b c d e p q r = omega arith
-
-    by_case : (b : Bool) → count test (without_handle h ks) ≤ count test ks → count test (if not b then k ∷ without_handle h ks else without_handle h ks) ≤ count test (k ∷ ks)
-    by_case true p = less (count test (without_handle h ks)) (count test ks) (count test (k ∷ ks)) (one_if (test k)) p (count-cons test k ks)
-    by_case false p = both (count test (without_handle h ks)) (count test ks) (count test (k ∷ ks)) (one_if (test k)) (count test (k ∷ without_handle h ks)) p
-        (count-cons test k ks) (count-cons test k (without_handle h ks))
-
-count-gone : (test : Handle → Bool) (h : Handle) (hs : List Handle) → IsAmong h hs → test h ≡ true → count test (without_handle h hs) + 1 ≤ count test hs
-count-gone test h [] a e = absurd a
-count-gone test h (k ∷ ks) (inl same) e =
-    subst (λ j. count test (without_handle h (j ∷ ks)) + 1 ≤ count test (j ∷ ks)) same (first (h.number == h.number) (eq-eqb h.number h.number refl))
-  where
-    fewer : (a b c d : ℕ) → a ≤ b → c ≡ d + b → d ≡ 1 → a + 1 ≤ c
-    fewer a b c d p q r = omega arith
-
-    first : (b : Bool) → b ≡ true → count test (if not b then h ∷ without_handle h ks else without_handle h ks) + 1 ≤ count test (h ∷ ks)
-    first true u = fewer (count test (without_handle h ks)) (count test ks) (count test (h ∷ ks)) (one_if (test h)) (count-less test h ks) (count-cons test h ks) (ap one_if e)
-    first false u = absurd (true≢false (sym u))
-count-gone test h (k ∷ ks) (inr a) e = by_case (k.number == h.number) (count-gone test h ks a e)
-  where
-    less : (a b c d : ℕ) → a + 1 ≤ b → c ≡ d + b → a + 1 ≤ c
-    less a b c d p q = omega arith
-
-    both : (a b c d e : ℕ) → a + 1 ≤ b → c ≡ d + b → e ≡ d + a → e + 1 ≤ c
-    both a b c d e p q r = omega arith
-
-    by_case : (b : Bool) → count test (without_handle h ks) + 1 ≤ count test ks
-        → count test (if not b then k ∷ without_handle h ks else without_handle h ks) + 1 ≤ count test (k ∷ ks)
-    by_case true p = less (count test (without_handle h ks)) (count test ks) (count test (k ∷ ks)) (one_if (test k)) p (count-cons test k ks)
-    by_case false p = both (count test (without_handle h ks)) (count test ks) (count test (k ∷ ks)) (one_if (test k)) (count test (k ∷ without_handle h ks)) p
-        (count-cons test k ks) (count-cons test k (without_handle h ks))
-
-count-swap : (test : Handle → Bool) (h : Handle) (hs : List Handle) → test h ≡ false → count test (with_handle h hs) ≤ count test hs
-count-swap test h [] e = omega arith
-count-swap test h (k ∷ ks) e = by_case (k.number == h.number) (count-swap test h ks e)
-  where
-    less : (a b c d e : ℕ) → a ≡ d + b → d ≡ 0 → c ≡ e + b → a ≤ c
-    less a b c d e p q r = omega arith
-
-    both : (a b c d e : ℕ) → a ≤ b → c ≡ d + b → e ≡ d + a → e ≤ c
-    both a b c d e p q r = omega arith
-
-    by_case : (b : Bool) → count test (with_handle h ks) ≤ count test ks → count test (if b then h ∷ ks else k ∷ with_handle h ks) ≤ count test (k ∷ ks)
-    by_case true p = less (count test (h ∷ ks)) (count test ks) (count test (k ∷ ks)) (one_if (test h)) (one_if (test k)) (count-cons test h ks) (ap one_if e) (count-cons test k ks)
-    by_case false p = both (count test (with_handle h ks)) (count test ks) (count test (k ∷ ks)) (one_if (test k)) (count test (k ∷ with_handle h ks)) p
-        (count-cons test k ks) (count-cons test k (with_handle h ks))
 
 -- ---- received handles
 
@@ -121,31 +40,12 @@ loan-own ActiveRequest e = absurd (true≢false (sym e))
 loan-own Response e = absurd (true≢false (sym e))
 loan-own k e = refl
 
-pub no_received : (y : Way) (h : Handle) → is_received h.kind ≡ false → has_received y h ≡ false
-no_received y h e = ap (λ b. b && ((h.port == y.receiver) && same_way (way_of h) y)) e
-
 pub taken-way : (v : View) (n : ℕ) (x : Receiver) (w : Way) (m : Message) → Has v x w m → way_of (taken_handle v n x m) ≡ w
-taken-way v n x w m p = by_case (is_client x.role) refl
-  where
-    by_case : (b : Bool) → is_client x.role ≡ b
-        → (if same_kind (if b then Response else ActiveRequest) ActiveRequest then request_way (if b then x.port else m.sender) x.port else response_way x.port m.lane m.sender) ≡ w
-    by_case true e = λ i. record {
-      sender = (p.2).0 i;
-      receiver = sym (p.0).0 i;
-      lane = (p.2).1 ((p.0).1 e) i;
-    }
-    by_case false e = λ i. record {
-      sender = (p.2).0 i;
-      receiver = sym (p.0).0 i;
-      lane = sym ((p.0).2 e) i;
-    }
+taken-way v n x w m p = receipt-way x w m (p.0).0 (p.2).0 (λ e. (p.2).1 ((p.0).1 e)) (p.0).2
 
 pub record BorrowFits (v : View) (n : ℕ) : Type 0 where
   pub counts : (y : Way) → IsAt v.ports y.receiver n → count (has_received y) v.handles ≤ v.borrowed y
   pub within : (y : Way) → v.borrowed y ≤ limit_in v y
-
-at-most : (a b c : ℕ) → a ≤ b → b ≤ c → a ≤ c
-at-most a b c p q = omega arith
 
 plus-counts : (v : View) (n : ℕ) (h : Handle) → is_received h.kind ≡ false → BorrowFits v n → BorrowFits (plus (counted v) h) n
 plus-counts v n h e p = record {
@@ -180,34 +80,21 @@ takes-counts v n h w is below p = record {
   within = λ y. within y (same_way y w) (same_way-true y w);
 }
   where
-    one_at_most : (b : Bool) → one_if b ≤ 1
-    one_at_most true = omega arith
-    one_at_most false = omega arith
-
     more : (a b c d : ℕ) → a ≡ b + c → c ≤ 1 → b ≤ d → a ≤ d + 1
     more a b c d p q r = omega arith
 
     as_many : (a b c d : ℕ) → a ≡ b + c → c ≡ 0 → b ≤ d → a ≤ d
     as_many a b c d p q r = omega arith
 
-    elsewhere : (y : Way) → same_way y w ≡ false → has_received y h ≡ false
-    elsewhere y e =
-        last (is_received h.kind) (h.port == y.receiver) (same_way (way_of h) y) (ap (λ u. same_way u y) is ∙ same_way-flip w y (same_way w y) e refl)
-      where
-        last : (a b c : Bool) → c ≡ false → (a && (b && c)) ≡ false
-        last true true c e = e
-        last true false c e = refl
-        last false b c e = refl
-
     counts : (y : Way) → IsAt v.ports y.receiver n → (b : Bool) → same_way y w ≡ b
         → count (has_received y) (v.handles ++ h ∷ []) ≤ (if b then v.borrowed w + 1 else v.borrowed y)
     counts y at true e =
         subst (λ u. count (has_received y) (v.handles ++ h ∷ []) ≤ v.borrowed u + 1) (same_way-true y w e)
         (more (count (has_received y) (v.handles ++ h ∷ [])) (count (has_received y) v.handles) (one_if (has_received y h)) (v.borrowed y)
-        (count-last (has_received y) v.handles h) (one_at_most (has_received y h)) (p.counts y at))
+        (count-last (has_received y) v.handles h) (one-at-most (has_received y h)) (p.counts y at))
     counts y at false e =
         as_many (count (has_received y) (v.handles ++ h ∷ [])) (count (has_received y) v.handles) (one_if (has_received y h)) (v.borrowed y)
-        (count-last (has_received y) v.handles h) (ap one_if (elsewhere y e)) (p.counts y at)
+        (count-last (has_received y) v.handles h) (ap one_if (received-elsewhere y h (ap (same_way y) is ∙ e))) (p.counts y at)
 
     within : (y : Way) → (b : Bool) → (b ≡ true → y ≡ w) → (if b then v.borrowed w + 1 else v.borrowed y) ≤ limit_in v y
     within y true e = subst (λ u. v.borrowed w + 1 ≤ limit_in v u) (sym (e refl)) (next (v.borrowed w) (limit_in v w) below)
@@ -216,11 +103,6 @@ takes-counts v n h w is below p = record {
         next a b p = omega arith
     within y false e = p.within y
 
-pub all_three : (a b c : Bool) → a ≡ true → b ≡ true → c ≡ true → (a && (b && c)) ≡ true
-all_three true true c d e f = f
-all_three true false c d e f = e
-all_three false b c d e f = d
-
 gives-counts : (v : View) (n : ℕ) (h : Handle) → IsAmong h v.handles → is_received h.kind ≡ true → BorrowFits v n
     → BorrowFits (record (less v h) { borrowed = put v.borrowed (way_of h) (v.borrowed (way_of h) - 1) }) n
 gives-counts v n h among received p = record {
@@ -228,11 +110,6 @@ gives-counts v n h among received p = record {
   within = λ y. within y (same_way y (way_of h)) (same_way-true y (way_of h));
 }
   where
-    here : has_received (way_of h) h ≡ true
-    here =
-        all_three (is_received h.kind) (h.port == (way_of h).receiver) (same_way (way_of h) (way_of h)) received
-        (eq-eqb h.port (way_of h).receiver (sym (way_of-receiver h))) (same_way-refl (way_of h))
-
     fewer : (a b c : ℕ) → a + 1 ≤ b → b ≤ c → a ≤ c - 1
     fewer a b c p q = omega arith
 
@@ -243,7 +120,7 @@ gives-counts v n h among received p = record {
         → count (has_received y) (without_handle h v.handles) ≤ (if b then v.borrowed (way_of h) - 1 else v.borrowed y)
     counts y at true e =
         fewer (count (has_received y) (without_handle h v.handles)) (count (has_received y) v.handles) (v.borrowed (way_of h))
-        (count-gone (has_received y) h v.handles among (subst (λ u. has_received u h ≡ true) (sym (same_way-true y (way_of h) e)) here))
+        (count-gone (has_received y) h v.handles among (subst (λ u. has_received u h ≡ true) (sym (same_way-true y (way_of h) e)) (received-itself h received)))
         (subst (λ u. count (has_received y) v.handles ≤ v.borrowed u) (same_way-true y (way_of h) e) (p.counts y at))
     counts y at false e =
         at-most (count (has_received y) (without_handle h v.handles)) (count (has_received y) v.handles) (v.borrowed y) (count-less (has_received y) h v.handles) (p.counts y at)
@@ -303,31 +180,6 @@ weave-borrows w v (b ∷ bs) weave fits p =
 
 -- ---- what a receiver has
 
-pub length-map : {A B : Type 0} (f : A → B) (xs : List A) → length (map f xs) ≡ length xs
-length-map f [] = refl
-length-map f (x ∷ xs) = ap suc (length-map f xs)
-
-pub length-append : {A : Type 0} (xs ys : List A) → length (xs ++ ys) ≡ length xs + length ys
-length-append [] ys = omega arith
-length-append (x ∷ xs) ys = more (length (xs ++ ys)) (length xs) (length ys) (length-append xs ys)
-  where
-    more : (a b c : ℕ) → a ≡ b + c → suc a ≡ suc b + c
-    more a b c p = omega arith
-
-count-and : {A : Type 0} (test also : A → Bool) (xs : List A) → count (λ x. test x && also x) xs ≤ count test xs
-count-and test also [] = omega arith
-count-and test also (x ∷ xs) =
-    less (count (λ z. test z && also z) (x ∷ xs)) (one_if (test x && also x)) (count (λ z. test z && also z) xs) (count test (x ∷ xs)) (one_if (test x)) (count test xs)
-    (count-cons (λ z. test z && also z) x xs) (count-cons test x xs) (fewer (test x) (also x)) (count-and test also xs)
-  where
-    less : (a b c d e f : ℕ) → a ≡ b + c → d ≡ e + f → b ≤ e → c ≤ f → a ≤ d
-    less a b c d e f p q r t = omega arith
-
-    fewer : (a b : Bool) → one_if (a && b) ≤ one_if a
-    fewer true true = omega arith
-    fewer true false = omega arith
-    fewer false b = omega arith
-
 taken-few : (v : View) (n : ℕ) (y : Way) (d : Doing) → FitsDoing v n d → BorrowFits v n → v.borrowed y + length (taken_by y d) ≤ limit_in v y
 taken-few v n y d p q = few d p
   where
@@ -350,14 +202,14 @@ taken-few v n y d p q = few d p
 pub held-few : (v : View) (n : ℕ) (y : Way) (o : Option Doing) → IsAt v.ports y.receiver n → FitsCall v n o → BorrowFits v n
     → length (held_on y v.handles o) ≤ limit_in v y
 held-few v n y None at p q =
-    subst (λ k. k ≤ limit_in v y) (sym (length-map (λ (h : Handle). h.message.serial) (filter (has_received y) v.handles)))
+    subst (λ k. k ≤ limit_in v y) (sym (length-map (filter (has_received y) v.handles) (λ (h : Handle). h.message.serial)))
     (at-most (count (has_received y) v.handles) (v.borrowed y) (limit_in v y) (q.counts y at) (q.within y))
 held-few v n y (Some d) at p q =
     let here : Handle → Bool = λ h. has_received y h && not (is_given_up h d) in
     subst (λ k. k ≤ limit_in v y) (sym (length-append (map (λ (h : Handle). h.message.serial) (filter here v.handles)) (taken_by y d)
-    ∙ ap (λ k. k + length (taken_by y d)) (length-map (λ (h : Handle). h.message.serial) (filter here v.handles))))
+    ∙ ap (λ k. k + length (taken_by y d)) (length-map (filter here v.handles) (λ (h : Handle). h.message.serial))))
     (sum (count here v.handles) (count (has_received y) v.handles) (v.borrowed y) (length (taken_by y d)) (limit_in v y)
-    (count-and (has_received y) (λ h. not (is_given_up h d)) v.handles) (q.counts y at) (taken-few v n y d p q))
+    (count-fewer here (has_received y) v.handles (λ h a e. (split (has_received y h) (not (is_given_up h d)) e).0)) (q.counts y at) (taken-few v n y d p q))
   where
     sum : (a b c d e : ℕ) → a ≤ b → b ≤ c → c + d ≤ e → a + d ≤ e
     sum a b c d e p q r = omega arith

@@ -1,5 +1,5 @@
 -- What waits on a way is at most the buffer, and one more that may still be evicted.
-use Rattle.std.specs.Prelude.{◌≡◌, ℕ, suc, ◌+◌, ◌≤◌, Bool, true, false, not, if◌then◌else◌, ◌==◌, nat_lt, List, [], ◌∷◌, ◌++◌, length, take, Option, Some, None, ⊤, refl}
+use Rattle.std.specs.Prelude.{◌≡◌, ℕ, ◌+◌, ◌≤◌, Bool, true, false, not, if◌then◌else◌, ◌==◌, nat_lt, List, [], ◌∷◌, ◌++◌, length, take, Option, Some, None, ⊤, refl}
 use Rattle.std.specs.Option.{option_map_or}
 use Rattle.std.proofs.Common.{sym, subst, ap, ◌∙◌, arith, eqb-true, eq-eqb, true≢false}
 use Rattle.iox_model.specs.declared.way.Way.{Way}
@@ -15,12 +15,16 @@ use Rattle.iox_model.specs.Moments.{is_overfull, room_on, Holds, moved, Moment, 
 use Rattle.iox_model.specs.Messages.{serials_of, Message}
 use Rattle.iox_model.specs.Steps.{next, ends}
 use Rattle.iox_model.specs.Peers.{role_at, buffer_on, overflows_on}
+use Rattle.iox_model.proofs.CallLaws.{not-true}
 use Rattle.iox_model.proofs.MapLemmas.{same_way-refl, same_way-true}
 use Rattle.iox_model.proofs.WholeLemmas.{moved-fixed}
 use Rattle.iox_model.proofs.WireLemmas.{settled_same}
 use Rattle.iox_ledger.specs.OnceLaws.{IsOnWire}
 use Rattle.iox_ledger.specs.QueueLaws.{evicts_next, has_evicted, BufferHolds, OneInHand}
-use Rattle.iox_ledger.proofs.Lists.{never, not-is, none-some, way-among}
+use Rattle.iox_ledger.proofs.Orders.{at-most, same}
+use Rattle.iox_ledger.proofs.Counts.{one_if}
+use Rattle.iox_ledger.proofs.Truths.{never, none-some}
+use Rattle.iox_ledger.proofs.Lists.{way-among, length-rest, length-last}
 use Rattle.iox_ledger.proofs.Views.{View, view, IsAt, node_in, role_in}
 use Rattle.iox_ledger.proofs.Senders.{FitsDoing, FitsOutcome, FitsLast, FitsLoan}
 use Rattle.iox_ledger.proofs.Phases.{target-of}
@@ -28,9 +32,6 @@ use Rattle.iox_ledger.proofs.Moves.{ends-fits}
 use Rattle.iox_ledger.proofs.Settling.{settled-else}
 use Rattle.iox_ledger.proofs.Worlds.{next-node, Fits, opened-fits, begin-none, doing-is, beat-fits}
 use Rattle.iox_ledger.proofs.Once.{beat-ports}
-
-abbrev one_if : Bool → ℕ
-one_if b = if b then 1 else 0
 
 abbrev pub of_call : (Way → Doing → Bool) → Way → Option Doing → Bool
 of_call test y o = option_map_or (test y) o false
@@ -47,34 +48,24 @@ IsCalm (Deliver x m) = ⊥
 IsCalm (Evict x) = ⊥
 IsCalm m = ⊤
 
-shorter : {A : Type 0} (xs : List A) → length (rest_of xs) ≤ length xs
-shorter [] = omega arith
-shorter (x ∷ xs) = omega arith
-
 record Shrinks (s u : State) (y : Way) : Type 0 where
   pub waits : length (u.waiting y) ≤ length (s.waiting y)
   pub hand : length (u.in_hand y) ≤ length (s.in_hand y)
 
-same-length : (n : ℕ) → n ≤ n
-same-length n = omega arith
-
 calm-shrinks : (s : State) (m : Moment) (y : Way) → IsCalm m → Shrinks s (moved s m) y
 calm-shrinks s (Deliver x m) y c = absurd c
 calm-shrinks s (Evict x) y c = absurd c
-calm-shrinks s (Take x m) y c = record { waits = by_case (same_way y x) (same_way-true y x); hand = same-length (length (s.in_hand y)) }
+calm-shrinks s (Take x m) y c = record { waits = by_case (same_way y x) (same_way-true y x); hand = same (length (s.in_hand y)) }
   where
     by_case : (b : Bool) → (b ≡ true → y ≡ x) → length (if b then rest_of (s.waiting x) else s.waiting y) ≤ length (s.waiting y)
-    by_case true e = subst (λ v. length (rest_of (s.waiting x)) ≤ length (s.waiting v)) (sym (e refl)) (shorter (s.waiting x))
-    by_case false e = same-length (length (s.waiting y))
-calm-shrinks s (GetBack x k) y c = record { waits = same-length (length (s.waiting y)); hand = by_case (same_way y x) }
+    by_case true e = subst (λ v. length (rest_of (s.waiting x)) ≤ length (s.waiting v)) (sym (e refl)) (length-rest (s.waiting x))
+    by_case false e = same (length (s.waiting y))
+calm-shrinks s (GetBack x k) y c = record { waits = same (length (s.waiting y)); hand = by_case (same_way y x) }
   where
     by_case : (b : Bool) → length (if b then [] else s.in_hand y) ≤ length (s.in_hand y)
     by_case true = omega arith
-    by_case false = same-length (length (s.in_hand y))
-calm-shrinks s m y c = record { waits = same-length (length (s.waiting y)); hand = same-length (length (s.in_hand y)) }
-
-at-most : (a b c : ℕ) → a ≤ b → b ≤ c → a ≤ c
-at-most a b c p q = omega arith
+    by_case false = same (length (s.in_hand y))
+calm-shrinks s m y c = record { waits = same (length (s.waiting y)); hand = same (length (s.in_hand y)) }
 
 shrinks-holding : (s u : State) (y : Way) (o o' : Option Doing) → Shrinks s u y → u.fixed ≡ s.fixed → Holding s y o
     → one_if (of_call evicts_next y o) ≤ one_if (of_call evicts_next y o') → one_if (of_call has_evicted y o) ≤ one_if (of_call has_evicted y o')
@@ -114,11 +105,11 @@ evict-sends s n d x p c = absurd c
 -- another node's moment
 else-shrinks : (s : State) (node n : ℕ) (d : Doing) (m : Moment) (y : Way) → FitsDoing (view s.fixed node) node d → (next s node d m).condition
     → IsAt s.fixed.ports y.sender n → (n ≡ node → ⊥) → Shrinks s (moved s m) y
-else-shrinks s node n d (Deliver x m) y p c at apart = record { waits = by_case (same_way y x) (same_way-true y x); hand = same-length (length (s.in_hand y)) }
+else-shrinks s node n d (Deliver x m) y p c at apart = record { waits = by_case (same_way y x) (same_way-true y x); hand = same (length (s.in_hand y)) }
   where
     by_case : (b : Bool) → (b ≡ true → y ≡ x) → length (if b then s.waiting x ++ m ∷ [] else s.waiting y) ≤ length (s.waiting y)
     by_case true e = absurd (apart (sym at ∙ ap (λ (w : Way). node_in s.fixed.ports w.sender) (e refl) ∙ deliver-sends s node d x m p c))
-    by_case false e = same-length (length (s.waiting y))
+    by_case false e = same (length (s.waiting y))
 else-shrinks s node n d (Evict x) y p c at apart = record { waits = waits (same_way y x) (same_way-true y x); hand = hand (same_way y x) (same_way-true y x) }
   where
     no_evict : y ≡ x → ⊥
@@ -126,21 +117,14 @@ else-shrinks s node n d (Evict x) y p c at apart = record { waits = waits (same_
 
     waits : (b : Bool) → (b ≡ true → y ≡ x) → length (if b then rest_of (s.waiting x) else s.waiting y) ≤ length (s.waiting y)
     waits true e = absurd (no_evict (e refl))
-    waits false e = same-length (length (s.waiting y))
+    waits false e = same (length (s.waiting y))
 
     hand : (b : Bool) → (b ≡ true → y ≡ x) → length (if b then serials_of (take 1 (s.waiting x)) else s.in_hand y) ≤ length (s.in_hand y)
     hand true e = absurd (no_evict (e refl))
-    hand false e = same-length (length (s.in_hand y))
+    hand false e = same (length (s.in_hand y))
 else-shrinks s node n d m y p c at apart = calm-shrinks s m y tt
 
 -- ---- the sender's own moments
-
-length-last : {A : Type 0} (xs : List A) (x : A) → length (xs ++ x ∷ []) ≡ length xs + 1
-length-last [] x = refl
-length-last (z ∷ zs) x = one-more (length (zs ++ x ∷ [])) (length zs) (length-last zs x)
-  where
-    one-more : (a b : ℕ) → a ≡ b + 1 → suc a ≡ suc b + 1
-    one-more a b e = omega arith
 
 not-over : (s : State) (y : Way) (last : Option Way) → not (is_over s last) ≡ true → length (s.waiting y) ≤ buffer_on s.fixed y + one_if (is_last y last)
     → length (s.waiting y) ≤ buffer_on s.fixed y
@@ -152,7 +136,7 @@ not-over s y (Some v) e p = by_case (same_way y v) refl p
 
     by_case : (b : Bool) → same_way y v ≡ b → length (s.waiting y) ≤ buffer_on s.fixed y + one_if b → length (s.waiting y) ≤ buffer_on s.fixed y
     by_case true h q =
-        subst (λ w. length (s.waiting w) ≤ buffer_on s.fixed w) (sym (same_way-true y v h)) (fits (buffer_on s.fixed v) (length (s.waiting v)) (not-is (is_overfull s v) e))
+        subst (λ w. length (s.waiting w) ≤ buffer_on s.fixed w) (sym (same_way-true y v h)) (fits (buffer_on s.fixed v) (length (s.waiting v)) (not-true (is_overfull s v) e))
     by_case false h q = at-most (length (s.waiting y)) (buffer_on s.fixed y + 0) (buffer_on s.fixed y) q (omega arith)
 
 delivered-waits : (s : State) (n : ℕ) (z : Sending) (x y : Way) (m : Message) → z.overflow ≡ overflows_on s.fixed x
@@ -174,7 +158,7 @@ delivered-waits s n z x y m over room p = by_case (same_way y x) refl
         (longer (length (s.waiting x)) (buffer_on s.fixed x) (one_if (overflows_on s.fixed x)) (one_if (is_last x (may_evict z x))) room (one-more z.overflow refl)))
     by_case false e = at-most (length (s.waiting y)) (buffer_on s.fixed y) (buffer_on s.fixed y + one_if (is_last y (may_evict z x))) p (omega arith)
 
-one-taken : (xs : List Message) → length (serials_of (take 1 xs)) ≤ 1
+pub one-taken : (xs : List Message) → length (serials_of (take 1 xs)) ≤ 1
 one-taken [] = omega arith
 one-taken (x ∷ xs) = omega arith
 
@@ -252,7 +236,7 @@ makes-holding w node n d m y fits is h c at q = by_case (n == node) refl
     by_case false e =
         shrinks-holding w.state (moved w.state m) y (w.doing n) (w.doing n)
         (else-shrinks w.state node n d m y (doing-is w node d fits is) c at (λ same. never (n == node) (eq-eqb n node same) e)) (moved-fixed w.state m) q
-        (same-length (one_if (of_call evicts_next y (w.doing n)))) (same-length (one_if (of_call has_evicted y (w.doing n))))
+        (same (one_if (of_call evicts_next y (w.doing n)))) (same (one_if (of_call has_evicted y (w.doing n))))
 
 -- what has ended may evict no more
 ended-holding : (s : State) (d : Doing) (o : Outcome) (y : Way) → ends s d ≡ Some o → Holding s y (Some d) → Holding s y None
@@ -297,7 +281,7 @@ begun-holding w node n o y idle q = by_case (n == node) refl
       where
         begins : Holding w.state y None → Holding w.state y o
         begins r =
-            shrinks-holding w.state w.state y None o (record { waits = same-length (length (w.state.waiting y)); hand = same-length (length (w.state.in_hand y)) }) refl r
+            shrinks-holding w.state w.state y None o (record { waits = same (length (w.state.waiting y)); hand = same (length (w.state.in_hand y)) }) refl r
             (no-less (of_call evicts_next y o)) (no-less (of_call has_evicted y o))
     by_case false f = q
 

@@ -15,13 +15,15 @@ use Rattle.iox_model.specs.Moments.{moved, Moment, Deliver, GetBack}
 use Rattle.iox_model.specs.Messages.{Message}
 use Rattle.iox_model.specs.Steps.{next}
 use Rattle.iox_model.specs.Peers.{ports_of_node}
+use Rattle.iox_model.proofs.PlayedRuns.{split}
 use Rattle.iox_model.proofs.MapLemmas.{same_way-true}
 use Rattle.iox_model.proofs.WholeLemmas.{moved-fixed}
 use Rattle.iox_ledger.specs.ForgetLaws.{NothingToTheDead}
-use Rattle.iox_ledger.proofs.Lists.{IsAmong, NoRepeats, never, both, among-append, filter-among, map-among, among-any, number-among, among-number, way-among}
+use Rattle.iox_ledger.proofs.Truths.{never}
+use Rattle.iox_ledger.proofs.Lists.{IsAmong, NoRepeats, among-append, filter-among, map-among, among-any, number-among, among-number, way-among, find-own, filter-none}
 use Rattle.iox_ledger.proofs.Views.{view, IsAt, node_in, forgot_in}
 use Rattle.iox_ledger.proofs.Senders.{FitsHandles, FitsOutcome, FitsDoing}
-use Rattle.iox_ledger.proofs.Phases.{find-own, HasOwnPorts, target-of}
+use Rattle.iox_ledger.proofs.Phases.{HasOwnPorts, target-of}
 use Rattle.iox_ledger.proofs.Rests.{settled-rest}
 use Rattle.iox_ledger.proofs.Moves.{ends-fits}
 use Rattle.iox_ledger.proofs.Worlds.{Fits, opened-fits, doing-is, settled-ports, beat-fits}
@@ -41,7 +43,7 @@ pub port-at-node : (ports : List Port) (node number : ℕ) → NoRepeats (map (�
     → has_number number (map (λ p. p.number) (filter (λ p. p.node == node) ports)) ≡ true → IsAt ports number node
 port-at-node ports node number d e =
     let r : (p : Port) × IsAmong p ports × (number ≡ p.number) × (p.node ≡ node) = port-of-node ports node number e in
-    ap (node_in ports) r.2 ∙ ap (λ (o : Option Port). option_map_or (λ p. p.node) o 0) (find-own ports r.0 d r.1) ∙ r.3
+    ap (node_in ports) r.2 ∙ ap (λ (o : Option Port). option_map_or (λ p. p.node) o 0) (find-own (λ (p : Port). p.number) ports r.0 d r.1) ∙ r.3
 
 -- ---- a send goes to nobody who is forgotten
 
@@ -52,7 +54,7 @@ pub forgotten-known : (f : Fixed) (node dead : ℕ) (y : Way) → has_forgotten 
     → forgot_in (view f node) y.receiver ≡ true
 forgotten-known f node dead y forgot goes =
     let r : (p : Port) × IsAmong p f.ports × (y.receiver ≡ p.number) × (p.node ≡ dead) = port-of-node f.ports dead y.receiver
-    (both (has_number y.sender (ports_of_node f node)) (has_number y.receiver (ports_of_node f dead)) goes).1 in
+    (split (has_number y.sender (ports_of_node f node)) (has_number y.receiver (ports_of_node f dead)) goes).1 in
     among-any (λ p. (p.number == y.receiver) && has_number p.node (f.forgot node)) r.0 f.ports r.1
     (rw (eq-eqb (r.0).number y.receiver (sym r.2)) (ap (λ k. has_number k (f.forgot node)) r.3 ∙ forgot))
 
@@ -60,7 +62,7 @@ delivers-known : (s : State) (n : ℕ) (d : Doing) (x : Way) (m : Message) → H
     → (next s n d (Deliver x m)).condition → ToForgotten s.fixed x → ⊥
 delivers-known s n (Delivering z last left count) x m own p c t =
     let target : (x.sender ≡ z.loan.port) × IsAmong x.receiver z.to = target-of z x ((p.1).among x (way-among x left c.0)) in
-    let here : t.0 ≡ n = sym (port-at-node s.fixed.ports t.0 x.sender own (both _ _ t.3).0) ∙ ap (node_in s.fixed.ports) target.0 ∙ ((p.0).loan).of_port in
+    let here : t.0 ≡ n = sym (port-at-node s.fixed.ports t.0 x.sender own (split _ _ t.3).0) ∙ ap (node_in s.fixed.ports) target.0 ∙ ((p.0).loan).of_port in
     never (forgot_in (view s.fixed n) x.receiver) (subst (λ k. forgot_in (view s.fixed k) x.receiver ≡ true) here (forgotten-known s.fixed t.0 t.1 x t.2 t.3))
     ((p.0).known x.receiver target.1)
 delivers-known s n d x m own p c t = absurd c
@@ -157,11 +159,7 @@ weave-clear w v [] weave fits clear = subst (λ (u : World). IsClear u.state) (s
 weave-clear w v (b ∷ bs) weave fits clear =
     weave-clear weave.0 v bs weave.2 (beat-fits w weave.0 b weave.1 fits) (beat-clear w weave.0 b weave.1 fits clear)
 
-none-pass : (test : ℕ → Bool) (ns : List ℕ) → ((k : ℕ) → test k ≡ false) → filter test ns ≡ []
-none-pass test [] e = refl
-none-pass test (n ∷ ns) e = rw (e n) (none-pass test ns e)
-
 pub nothing_to_the_dead : NothingToTheDead
 nothing_to_the_dead s v bs node dead y on forgot goes =
-    none-pass (v.state.delivered y) (range_with_len 0 (v.state.fixed.loans y.sender + 1))
-    (weave-clear (at_work (opened s)) v bs on.1 (opened-fits s on.0) (λ x t k. refl) y (node, dead, forgot, goes))
+    filter-none (v.state.delivered y) (range_with_len 0 (v.state.fixed.loans y.sender + 1)) (λ k a.
+    weave-clear (at_work (opened s)) v bs on.1 (opened-fits s on.0) (λ x t k. refl) y (node, dead, forgot, goes) k)

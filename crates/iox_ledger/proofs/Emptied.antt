@@ -25,9 +25,12 @@ use Rattle.iox_model.specs.Requests.{targets, to_open, sending_of, opening, look
 use Rattle.iox_model.specs.Responses.{sends_response, asked, sends, loaning}
 use Rattle.iox_model.specs.Settings.{is_client}
 use Rattle.iox_model.specs.Steps.{next}
+use Rattle.iox_model.proofs.CallLaws.{not-true}
+use Rattle.iox_model.proofs.PlayedRuns.{split}
 use Rattle.iox_model.proofs.MapLemmas.{either, same_way-true}
 use Rattle.iox_ledger.specs.QueueLaws.{evicts_next, has_evicted}
-use Rattle.iox_ledger.proofs.Lists.{IsAmong, NoRepeats, never, both, not-is, filter-among, way-among, among-way, without-among, without-itself}
+use Rattle.iox_ledger.proofs.Truths.{never}
+use Rattle.iox_ledger.proofs.Lists.{IsAmong, NoRepeats, filter-among, way-among, among-way, without-among, without-itself}
 use Rattle.iox_ledger.proofs.Views.{view}
 use Rattle.iox_ledger.proofs.Senders.{FitsDoing}
 use Rattle.iox_ledger.proofs.Had.{put_on}
@@ -55,8 +58,8 @@ IsDone y ways left = (has_way y ways ≡ true) × (has_way y left ≡ false)
 
 done : (y : Way) (ways left : List Way) → (has_way y ways && not (has_way y left)) ≡ true → IsDone y ways left
 done y ways left e =
-    let p : (has_way y ways ≡ true) × (not (has_way y left) ≡ true) = both (has_way y ways) (not (has_way y left)) e in
-    (p.0, not-is (has_way y left) p.1)
+    let p : (has_way y ways ≡ true) × (not (has_way y left) ≡ true) = split (has_way y ways) (not (has_way y left)) e in
+    (p.0, not-true (has_way y left) p.1)
 
 emptying-emptied : (f : Fixed) (y : Way) (x : Sending) (left : List Way) → is_emptied_by f y (emptying x left) ≡ true → IsDone y (targets x) left
 emptying-emptied f y x [] =
@@ -145,7 +148,7 @@ abbrev pub WasEmptied : Fixed → Way → Doing → Moment → Type 0
 WasEmptied f y d m = ((is_emptied_by f y d ≡ true) × (put_on y m ≡ [])) ⊎ SawNone y d m
 
 -- another way stays among those left
-other-left : (y w : Way) (left : List Way) → same_way y w ≡ false → has_way y (without_way w left) ≡ false → has_way y left ≡ false
+pub other-left : (y w : Way) (left : List Way) → same_way y w ≡ false → has_way y (without_way w left) ≡ false → has_way y left ≡ false
 other-left y w [] e = λ f. refl
 other-left y w (v ∷ left) e = by_case (same_way v w) (same_way-true v w) (other-left y w left e)
   where

@@ -15,11 +15,12 @@ use Rattle.iox_model.specs.Receives.{stale, took_response, took_request, took}
 use Rattle.iox_model.specs.Releases.{closing}
 use Rattle.iox_model.specs.Settings.{is_client}
 use Rattle.iox_model.specs.Steps.{next}
+use Rattle.iox_model.proofs.PlayedRuns.{split}
 use Rattle.iox_model.proofs.MapLemmas.{either, same_way-true}
-use Rattle.iox_ledger.proofs.Lists.{both, way-among}
+use Rattle.iox_ledger.proofs.Counts.{count}
+use Rattle.iox_ledger.proofs.Lists.{way-among}
 use Rattle.iox_ledger.proofs.Views.{view, IsAt, node_in, way_of-receiver}
 use Rattle.iox_ledger.proofs.Senders.{FitsHandles, FitsDoing}
-use Rattle.iox_ledger.proofs.Borrows.{count}
 use Rattle.iox_ledger.proofs.Quiet.{IsQuiet, asked-quiet, emptying-quiet, looking-quiet, opening-quiet, loaning-quiet, visiting-quiet, checked-quiet, hinting-quiet, seeking-quiet}
 
 -- the serials that a moment adds to what waits, is had, was given back; and those got back
@@ -107,9 +108,9 @@ takes-here s n d x m p c = absurd c
 pub gives-here : (s : State) (n : ℕ) (d : Doing) (x : Way) (k : ℕ) → FitsHandles (view s.fixed n) n → FitsDoing (view s.fixed n) n d
     → (next s n d (GiveBack x k)).condition → IsAt s.fixed.ports x.receiver n
 gives-here s n (Stale z v m left seen) x k fits p c =
-    subst (λ (w : Way). IsAt s.fixed.ports w.receiver n) (sym (same_way-true x v (both _ _ c).0)) (subst (λ q. IsAt s.fixed.ports q n) (sym ((p.1).0).0) (p.0).0)
+    subst (λ (w : Way). IsAt s.fixed.ports w.receiver n) (sym (same_way-true x v (split _ _ c).0)) (subst (λ q. IsAt s.fixed.ports q n) (sym ((p.1).0).0) (p.0).0)
 gives-here s n (Returning h) x k fits p c =
-    subst (λ (w : Way). IsAt s.fixed.ports w.receiver n) (sym (same_way-true x (way_of h) (both _ _ c).0))
+    subst (λ (w : Way). IsAt s.fixed.ports w.receiver n) (sym (same_way-true x (way_of h) (split _ _ c).0))
     (subst (λ q. IsAt s.fixed.ports q n) (sym (way_of-receiver h)) (fits.of_port h p))
 gives-here s n d x k fits p c = absurd c
 

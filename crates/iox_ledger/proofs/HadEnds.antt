@@ -1,6 +1,7 @@
 -- The end of a call changes nothing of what its node has of a way: what it took is a handle now, and what it gave back is none.
 use Rattle.std.specs.Prelude.{◌≡◌, ℕ, ◌-◌, Bool, true, false, not, ◌&&◌, if◌then◌else◌, ◌==◌, List, [], ◌∷◌, ◌++◌, filter, Some, None, refl}
 use Rattle.std.proofs.Common.{sym, ap, ◌∙◌}
+use Rattle.std.proofs.lemmas.List.{append-nil}
 use Rattle.iox_model.specs.declared.kind.Kind.{Kind}
 use Rattle.iox_model.specs.declared.kind.Kind.TheVariants.{ActiveRequest, Response}
 use Rattle.iox_model.specs.declared.way.Way.{Way}
@@ -16,19 +17,21 @@ use Rattle.iox_model.specs.Settings.{is_client}
 use Rattle.iox_model.specs.Steps.{ends}
 use Rattle.iox_model.proofs.MapLemmas.{either}
 use Rattle.iox_model.proofs.WholeLemmas.{some-is}
-use Rattle.iox_ledger.proofs.Lists.{IsAmong, none-some, only-one}
+use Rattle.iox_ledger.proofs.ReceivedHandles.{no_received, received-on}
+use Rattle.iox_ledger.proofs.Truths.{none-some}
+use Rattle.iox_ledger.proofs.Lists.{IsAmong, only-one}
 use Rattle.iox_ledger.proofs.Views.{View, plus, counted, swapped, less, taken_handle, after_call}
 use Rattle.iox_ledger.proofs.Senders.{FitsHandles, FitsOutcome}
-use Rattle.iox_ledger.proofs.Borrows.{no_received, loan-own, taken-way}
-use Rattle.iox_ledger.proofs.Tallies.{append-nothing, filter-last, without-passes, but-same, with-passes}
+use Rattle.iox_ledger.proofs.Borrows.{loan-own, taken-way}
+use Rattle.iox_ledger.proofs.Tallies.{filter-last, without-passes, but-same, with-passes}
 use Rattle.iox_ledger.proofs.Quiet.{serials, held-taken, held-handles}
-use Rattle.iox_ledger.proofs.HadMoves.{HasOwnHandles, received-on}
+use Rattle.iox_ledger.proofs.HadMoves.{HasOwnHandles}
 
 -- ---- one handle more, another, or one less
 
 pub plus-held : (y : Way) (hs : List Handle) (h : Handle) → has_received y h ≡ false → filter (has_received y) (hs ++ h ∷ []) ≡ filter (has_received y) hs
 plus-held y hs h off =
-    filter-last (has_received y) hs h ∙ ap (λ b. filter (has_received y) hs ++ (if b then h ∷ [] else [])) off ∙ append-nothing (filter (has_received y) hs)
+    filter-last (has_received y) hs h ∙ ap (λ b. filter (has_received y) hs ++ (if b then h ∷ [] else [])) off ∙ append-nil (filter (has_received y) hs)
 
 -- those of the number of a handle that was not received there
 alike : (y : Way) (hs : List Handle) (h : Handle) → HasOwnHandles hs → IsAmong h hs → has_received y h ≡ false
@@ -110,7 +113,7 @@ over-held v n payload (Drops h) y fits p =
     (is_received h.kind) (record (less v h) { borrowed = put v.borrowed (way_of h) (v.borrowed (way_of h) - 1) }) (less v h) (λ u. gone) (λ u. gone)
   where
     gone : serials (filter (has_received y) (without_handle h v.handles)) ≡ serials (filter (λ g. has_received y g && not (h.number == g.number)) v.handles) ++ []
-    gone = ap serials (without-passes (has_received y) h v.handles) ∙ sym (append-nothing _)
+    gone = ap serials (without-passes (has_received y) h v.handles) ∙ sym (append-nil _)
 over-held v n payload (DropsPort port) y fits p = absurd p
 over-held v n payload (Forgets dead) y fits p =
     either (λ (u : View). serials (filter (has_received y) u.handles) ≡ serials (filter (λ g. has_received y g && true) v.handles) ++ []) (has_number dead v.forgot)

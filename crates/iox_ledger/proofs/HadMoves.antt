@@ -1,6 +1,7 @@
 -- A receiver's own moments: what it has more is what it took, and what it has less is what it gave back.
 use Rattle.std.specs.Prelude.{◌≡◌, ℕ, ◌+◌, Bool, true, false, ◌&&◌, if◌then◌else◌, ◌==◌, List, [], ◌∷◌, ◌++◌, map, filter, Some, None, refl}
-use Rattle.std.proofs.Common.{sym, subst, ap, ◌∙◌, arith, eqb-true, eq-eqb}
+use Rattle.std.proofs.Common.{sym, subst, ap, ◌∙◌, arith, eqb-true}
+use Rattle.std.proofs.lemmas.List.{append-nil}
 use Rattle.iox_model.specs.declared.kind.Kind.TheVariants.{ActiveRequest}
 use Rattle.iox_model.specs.declared.way.Way.{Way}
 use Rattle.iox_model.specs.Doings.{Receiver, Receives, Drops, Doing, Ended, Loaning, Asking, Emptying, Looking, Opening, Delivering, Evicted, Visiting, Again, Judging, Stale, Closing, Returning, Leaving, Checking, Hinting, Seeking}
@@ -15,12 +16,15 @@ use Rattle.iox_model.specs.Receives.{stale, took_response, took_request, took}
 use Rattle.iox_model.specs.Releases.{closing}
 use Rattle.iox_model.specs.Settings.{is_client}
 use Rattle.iox_model.specs.Steps.{next}
-use Rattle.iox_model.proofs.MapLemmas.{either, same_way-refl, same_way-true, same_way-flip}
-use Rattle.iox_ledger.proofs.Lists.{IsAmong, NoRepeats, never, both, only-one}
-use Rattle.iox_ledger.proofs.Views.{view, way_of-receiver}
+use Rattle.iox_model.proofs.PlayedRuns.{split}
+use Rattle.iox_model.proofs.MapLemmas.{either, same_way-true}
+use Rattle.iox_ledger.proofs.ReceivedHandles.{received-on, no_received}
+use Rattle.iox_ledger.proofs.Counts.{count, one_if}
+use Rattle.iox_ledger.proofs.Truths.{never}
+use Rattle.iox_ledger.proofs.Lists.{IsAmong, NoRepeats, only-one}
+use Rattle.iox_ledger.proofs.Views.{view}
 use Rattle.iox_ledger.proofs.Senders.{FitsDoing}
-use Rattle.iox_ledger.proofs.Borrows.{count, one_if, no_received, all_three}
-use Rattle.iox_ledger.proofs.Tallies.{append-nothing, count-append, passes_but, but-same, but-one}
+use Rattle.iox_ledger.proofs.Tallies.{count-append, passes_but, but-same, but-one}
 use Rattle.iox_ledger.proofs.Quiet.{IsQuiet, serials, held-taken, held-handles, held-quiet, asked-quiet, emptying-quiet, looking-quiet, opening-quiet, loaning-quiet, visiting-quiet, checked-quiet, hinting-quiet, seeking-quiet}
 use Rattle.iox_ledger.proofs.Had.{taken_on, given_on, FitsRelease}
 
@@ -31,27 +35,9 @@ HasOwnHandles hs = NoRepeats (map (λ h. h.number) hs)
 pub dropped-held : (y : Way) (hs : List Handle) (h : Handle) → HasOwnHandles hs → IsAmong h hs → has_received y h ≡ false
     → held_on y hs (Some (Ended (Drops h))) ≡ held_on y hs None
 dropped-held y hs h apart among off =
-    append-nothing (serials (filter (passes_but (has_received y) h.number) hs))
+    append-nil (serials (filter (passes_but (has_received y) h.number) hs))
     ∙ ap serials (but-same (has_received y) h.number hs
     (λ k a same. ap (has_received y) (only-one (λ (g : Handle). g.number) k h hs apart a among (sym same)) ∙ off))
-
--- what a received handle's way is
-pub received-on : (y : Way) (h : Handle) → is_received h.kind ≡ true → has_received y h ≡ same_way y (way_of h)
-received-on y h e = by_case (same_way y (way_of h)) refl
-  where
-    here : has_received (way_of h) h ≡ true
-    here =
-        all_three (is_received h.kind) (h.port == (way_of h).receiver) (same_way (way_of h) (way_of h)) e
-        (eq-eqb h.port (way_of h).receiver (sym (way_of-receiver h))) (same_way-refl (way_of h))
-
-    last : (a b c : Bool) → c ≡ false → (a && (b && c)) ≡ false
-    last true true c e = e
-    last true false c e = refl
-    last false b c e = refl
-
-    by_case : (b : Bool) → same_way y (way_of h) ≡ b → has_received y h ≡ b
-    by_case true same = subst (λ w. has_received w h ≡ true) (sym (same_way-true y (way_of h) same)) here
-    by_case false same = last (is_received h.kind) (h.port == y.receiver) (same_way (way_of h) y) (same_way-flip (way_of h) y (same_way (way_of h) y) same refl)
 
 -- ---- takes
 
@@ -111,8 +97,8 @@ stale-follows value y hs x v w m k left seen c =
     sym (joined value (held_on y hs (Some (Stale x v m left seen))) (held_on y hs (Some (Again x v left seen))) (if_on y w k)
     (held-taken y hs (if_on y v m.serial)
     ∙ ap (λ ks. ks ++ if_on y v m.serial) (sym (held-quiet y hs (Again x v left seen) refl))
-    ∙ ap (λ ks. held_on y hs (Some (Again x v left seen)) ++ ks) (ap (λ u. if_on y u m.serial) (sym (same_way-true w v (both _ _ c).0))
-    ∙ ap (if_on y w) (sym (eqb-true k m.serial (both _ _ c).1)))))
+    ∙ ap (λ ks. held_on y hs (Some (Again x v left seen)) ++ ks) (ap (λ u. if_on y u m.serial) (sym (same_way-true w v (split _ _ c).0))
+    ∙ ap (if_on y w) (sym (eqb-true k m.serial (split _ _ c).1)))))
 
 returned-follows : (value : ℕ → Bool) (y : Way) (hs : List Handle) (h : Handle) (w : Way) (k : ℕ) → HasOwnHandles hs → IsAmong h hs → is_received h.kind ≡ true
     → (same_way w (way_of h) && (k == h.message.serial)) ≡ true
@@ -122,7 +108,7 @@ returned-follows value y hs h w k apart among received c =
     (if has_received y h then one_if (value h.message.serial) else 0) (count value (if_on y w k))
     (count value (serials (filter (passes_but (has_received y) h.number) hs) ++ [])) (count value (held_on y hs (Some (Returning h))))
     (but-one (has_received y) value h hs apart among) gives
-    (ap (count value) (append-nothing (serials (filter (passes_but (has_received y) h.number) hs)))) (ap (count value) (held-handles y hs))
+    (ap (count value) (append-nil (serials (filter (passes_but (has_received y) h.number) hs)))) (ap (count value) (held-handles y hs))
   where
     adds : (a b c d e f : ℕ) → a ≡ b + c → c ≡ d → e ≡ b → f ≡ a → e + d ≡ f + 0
     adds a b c d e f p q r t = omega arith
@@ -139,8 +125,8 @@ returned-follows value y hs h w k apart among received c =
     gives =
         ap (λ (b : Bool). if b then one_if (value h.message.serial) else 0) (received-on y h received)
         ∙ on (same_way y (way_of h))
-        ∙ ap (λ u. count value (if_on y u h.message.serial)) (sym (same_way-true w (way_of h) (both (same_way w (way_of h)) (k == h.message.serial) c).0))
-        ∙ ap (λ n. count value (if_on y w n)) (sym (eqb-true k h.message.serial (both (same_way w (way_of h)) (k == h.message.serial) c).1))
+        ∙ ap (λ u. count value (if_on y u h.message.serial)) (sym (same_way-true w (way_of h) (split (same_way w (way_of h)) (k == h.message.serial) c).0))
+        ∙ ap (λ n. count value (if_on y w n)) (sym (eqb-true k h.message.serial (split (same_way w (way_of h)) (k == h.message.serial) c).1))
 
 pub closing-held : (y : Way) (hs : List Handle) (h : Handle) (left : List Way) → HasOwnHandles hs → IsAmong h hs → is_received h.kind ≡ false
     → held_on y hs (Some (closing h left)) ≡ held_on y hs None

@@ -5,9 +5,11 @@ use Rattle.iox_model.specs.declared.way.Way.{Way}
 use Rattle.iox_model.specs.States.{Handle}
 use Rattle.iox_model.specs.Maps.{put_at}
 use Rattle.iox_model.specs.Counts.{without_handle, with_handle}
-use Rattle.iox_ledger.proofs.Lists.{IsAmong, NoRepeats, never, not-is, among-last, filter-among, map-among, among-map, no_repeats-last, no_repeats-map_filter}
+use Rattle.iox_ledger.proofs.Truths.{never}
+use Rattle.iox_ledger.proofs.Lists.{IsAmong, NoRepeats, among-last, filter-among, map-among, among-map, no_repeats-last, no_repeats-map_filter}
 use Rattle.iox_ledger.proofs.Views.{View, IsAt, plus, counted, lends_one, swapped, less}
 use Rattle.iox_ledger.proofs.Senders.{is_loan, IsMade, FitsHandles}
+use Rattle.iox_model.proofs.CallLaws.{not-true}
 
 -- ---- lists of handles
 
@@ -27,7 +29,7 @@ with-among h g (k ∷ ks) d p = by_case (k.number == h.number) refl (with-among 
       | inr r ↦ inr (inr r.0, r.1)
     ]
 
-with-numbers : (h : Handle) (hs : List Handle) → map (λ k. k.number) (with_handle h hs) ≡ map (λ k. k.number) hs
+pub with-numbers : (h : Handle) (hs : List Handle) → map (λ k. k.number) (with_handle h hs) ≡ map (λ k. k.number) hs
 with-numbers h [] = refl
 with-numbers h (k ∷ ks) = by_case (k.number == h.number) refl (with-numbers h ks)
   where
@@ -39,7 +41,7 @@ with-numbers h (k ∷ ks) = by_case (k.number == h.number) refl (with-numbers h 
 pub without-number : (h g : Handle) (hs : List Handle) → IsAmong g (without_handle h hs) → IsAmong g hs × (g.number ≡ h.number → ⊥)
 without-number h g hs p =
     let r : IsAmong g hs × (not (g.number == h.number) ≡ true) = filter-among (λ k. not (k.number == h.number)) g hs p in
-    (r.0, λ e. never (g.number == h.number) (eq-eqb g.number h.number e) (not-is (g.number == h.number) r.1))
+    (r.0, λ e. never (g.number == h.number) (eq-eqb g.number h.number e) (not-true (g.number == h.number) r.1))
 
 map-append : (x : Handle) (xs : List Handle) → map (λ k. k.number) (xs ++ x ∷ []) ≡ map (λ k. k.number) xs ++ x.number ∷ []
 map-append x [] = refl

@@ -1,6 +1,7 @@
 -- On a live way the record is what is out, and no more than the ledger's bound.
 use Rattle.std.specs.Prelude.{◌≡◌, ℕ, ◌+◌, ◌≤◌, Bool, true, false, not, if◌then◌else◌, ◌==◌, List, [], ◌∷◌, ◌++◌, length, refl}
 use Rattle.std.proofs.Common.{sym, subst, ◌∙◌, arith, eqb-true, inl, inr}
+use Rattle.std.proofs.lemmas.List.{length-map}
 use Rattle.iox_model.specs.declared.way.Way.{Way}
 use Rattle.iox_model.specs.Ledgers.{had_on, is_emptied, size_of, room_of}
 use Rattle.iox_model.specs.Maps.{has_number, AreDistinct}
@@ -11,11 +12,12 @@ use Rattle.iox_model.specs.WireCalls.{opened}
 use Rattle.iox_model.specs.Weaves.{at_work, IsWeave, World, Beat}
 use Rattle.iox_ledger.specs.LedgerLaws.{ReturnsFit, out_on, OutOnce, RecordIsWhatIsOut, LedgerStaysWithin}
 use Rattle.iox_ledger.specs.OnceLaws.{IsOnWire}
-use Rattle.iox_ledger.proofs.Lists.{IsAmong, not-true, number-among, among-number}
+use Rattle.iox_ledger.proofs.Counts.{count, one_if, count-cons}
+use Rattle.iox_ledger.proofs.Truths.{false_if}
+use Rattle.iox_ledger.proofs.Lists.{IsAmong, number-among, among-number}
 use Rattle.iox_ledger.proofs.Views.{IsAt, node_in}
 use Rattle.iox_ledger.proofs.Worlds.{Fits, opened-fits, beat-fits}
 use Rattle.iox_ledger.proofs.Once.{beat-ports}
-use Rattle.iox_ledger.proofs.Borrows.{count, one_if, count-cons, length-map}
 use Rattle.iox_ledger.proofs.Tallies.{count-append, count-all}
 use Rattle.iox_ledger.proofs.Live.{IsLive}
 use Rattle.iox_ledger.proofs.Outs.{out, is, is-itself}
@@ -122,7 +124,7 @@ counts-among k (j ∷ js) p = by_case (k == j) refl (counts-among k js) (subst (
 pub once-distinct : (ks : List ℕ) → ((k : ℕ) → count (is k) ks ≤ 1) → AreDistinct ks
 once-distinct [] p = tt
 once-distinct (j ∷ js) p = (
-  not-true (has_number j js) (λ e. twice (count (is j) js) (count (is j) (j ∷ js)) (is-itself j js) (p j) (among-counts j js (number-among j js e))),
+  false_if (has_number j js) (λ e. twice (count (is j) js) (count (is j) (j ∷ js)) (is-itself j js) (p j) (among-counts j js (number-among j js e))),
   once-distinct js (λ k. less (count (is k) js) (one_if (k == j)) (count (is k) (j ∷ js)) (count-cons (is k) j js) (p k)),
 )
   where
@@ -155,7 +157,7 @@ counted-record v y k counted = by_case (v.state.delivered y k) (counted k)
 
     by_case : (b : Bool) → count (is k) (out_on v y) ≡ one_if b → b ≡ has_number k (out_on v y)
     by_case true e = sym (among-number k (out_on v y) (counts-among k (out_on v y) (some (count (is k) (out_on v y)) e)))
-    by_case false e = sym (not-true (has_number k (out_on v y))
+    by_case false e = sym (false_if (has_number k (out_on v y))
         (λ h. none (count (is k) (out_on v y)) e (among-counts k (out_on v y) (number-among k (out_on v y) h))))
 
 pub out_once : OutOnce
@@ -170,7 +172,7 @@ pub length-out : (v : World) (y : Way) → out any v.state y (had_on v y) ≡ si
 length-out v y =
     sums (count any (serials_of (v.state.waiting y))) (count any (had_on v y)) (count any (v.state.returned y)) (count any (v.state.in_hand y))
     (length (v.state.waiting y)) (length (had_on v y)) (length (v.state.returned y)) (length (v.state.in_hand y))
-    (count-all (serials_of (v.state.waiting y)) ∙ length-map (λ (m : Message). m.serial) (v.state.waiting y)) (count-all (had_on v y)) (count-all (v.state.returned y))
+    (count-all (serials_of (v.state.waiting y)) ∙ length-map (v.state.waiting y) (λ (m : Message). m.serial)) (count-all (had_on v y)) (count-all (v.state.returned y))
     (count-all (v.state.in_hand y))
   where
     sums : (a b c d e f g h : ℕ) → a ≡ e → b ≡ f → c ≡ g → d ≡ h → a + b + c + d ≡ e + f + g + h

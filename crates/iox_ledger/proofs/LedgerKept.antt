@@ -16,7 +16,8 @@ use Rattle.iox_model.specs.Steps.{next, ends}
 use Rattle.iox_model.specs.Weaves.{wire_start, IsBeat, World, Beat, Begins, Makes, Ends, Dies}
 use Rattle.iox_model.proofs.WholeLemmas.{moved-fixed}
 use Rattle.iox_model.proofs.WireLemmas.{settled_same}
-use Rattle.iox_ledger.proofs.Lists.{not-true}
+use Rattle.iox_ledger.proofs.Counts.{count, one_if}
+use Rattle.iox_ledger.proofs.Truths.{false_if}
 use Rattle.iox_ledger.proofs.Views.{View, view, IsAt, role_in}
 use Rattle.iox_ledger.proofs.Senders.{FitsOutcome}
 use Rattle.iox_ledger.proofs.Settling.{settled-here, settled-else}
@@ -24,7 +25,7 @@ use Rattle.iox_ledger.proofs.Moves.{ends-fits}
 use Rattle.iox_ledger.proofs.Worlds.{FitsCall, Fits, begin-none, doing-is, next-node}
 use Rattle.iox_ledger.proofs.Once.{MayPut, Uses, beat-uses}
 use Rattle.iox_ledger.proofs.Buffers.{Holding, beat-holding}
-use Rattle.iox_ledger.proofs.Borrows.{count, one_if, BorrowFits, beat-borrows}
+use Rattle.iox_ledger.proofs.Borrows.{BorrowFits, beat-borrows}
 use Rattle.iox_ledger.proofs.Had.{next-release, put_on}
 use Rattle.iox_ledger.proofs.HadEnds.{ended-held, over-held}
 use Rattle.iox_ledger.proofs.Beginnings.{BeginsWell, wire_start-well}
@@ -78,7 +79,7 @@ beat-fresh w u b n y beat fits at fresh k e may = elim (beat-delivered w u b y k
 -- what is put there was not delivered
 put-new : (w u : World) (node n : ℕ) (m : Moment) (y : Way) → IsBeat w (Makes node m) u → Fits w → IsAt w.state.fixed.ports y.sender n → Fresh w n y
     → (j : ℕ) → put_on y m ≡ j ∷ [] → w.state.delivered y j ≡ false
-put-new w u node n m y beat fits at fresh j e = not-true (w.state.delivered y j) (λ was. put_now was used.uses)
+put-new w u node n m y beat fits at fresh j e = false_if (w.state.delivered y j) (λ was. put_now was used.uses)
   where
     used : Uses w u n y (orders.put_on y (Makes node m))
     used = beat-uses w u (Makes node m) n y beat fits at

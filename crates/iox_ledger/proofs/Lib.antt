@@ -1,5 +1,10 @@
+pub mod Truths
+pub mod Orders
 pub mod Lists
+pub mod Ranges
+pub mod Counts
 pub mod Views
+pub mod ReceivedHandles
 pub mod Senders
 pub mod Settling
 pub mod HandlesKept

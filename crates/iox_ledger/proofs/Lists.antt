@@ -1,41 +1,13 @@
 -- What is among a list, and lists without repeats.
-use Rattle.std.specs.Prelude.{◌≡◌, ℕ, Bool, true, false, not, ◌&&◌, ◌||◌, if◌then◌else◌, ◌==◌, List, [], ◌∷◌, ◌++◌, map, filter, Option, Some, None, find, ⊤, ◌⊎◌, refl}
+use Rattle.std.specs.Prelude.{◌≡◌, ℕ, suc, ◌+◌, ◌≤◌, Bool, true, false, ◌||◌, if◌then◌else◌, ◌==◌, nat_le, List, [], ◌∷◌, ◌++◌, length, map, filter, Some, find, ⊤, ◌⊎◌, refl}
 use Rattle.std.specs.List.{list_any}
-use Rattle.std.proofs.Common.{sym, subst, ap, ◌∙◌, true≢false, eqb-true, inl, inr}
+use Rattle.std.proofs.Common.{sym, subst, ap, ◌∙◌, arith, true≢false, eqb-true, inl, inr}
 use Rattle.iox_model.specs.declared.way.Way.{Way}
-use Rattle.iox_model.specs.Maps.{has_number, same_way, has_way, without_way, AreDistinct}
+use Rattle.iox_model.specs.Maps.{first_of, rest_of, has_number, same_way, has_way, without_way, AreDistinct}
 use Rattle.iox_model.proofs.MapLemmas.{eqb-refl, same_way-refl, same_way-true}
 use Rattle.iox_model.proofs.WholeLemmas.{some-is}
-
-pub is-or-not : (b : Bool) → (b ≡ true) ⊎ (b ≡ false)
-is-or-not true = inl refl
-is-or-not false = inr refl
-
-pub not-true : (b : Bool) → (b ≡ true → ⊥) → b ≡ false
-not-true true f = absurd (f refl)
-not-true false f = refl
-
-pub never : {A : Type 0} (b : Bool) → b ≡ true → b ≡ false → A
-never b e h = absurd (true≢false (sym e ∙ h))
-
-pub both : (a b : Bool) → (a && b) ≡ true → (a ≡ true) × (b ≡ true)
-both true b e = (refl, e)
-both false b e = absurd (true≢false (sym e))
-
-pub not-is : (b : Bool) → not b ≡ true → b ≡ false
-not-is true e = absurd (true≢false (sym e))
-not-is false e = refl
-
-pub one_of : (a b : Bool) → (a || b) ≡ true → (a ≡ true) ⊎ (b ≡ true)
-one_of true b e = inl refl
-one_of false b e = inr e
-
-abbrev IsNoOne : {A : Type 0} → Option A → Type 0
-IsNoOne None = Unit {0}
-IsNoOne (Some x) = ⊥
-
-pub none-some : {A : Type 0} (a : A) → None ≡ Some a → ⊥
-none-some a e = subst IsNoOne e tt
+use Rattle.iox_ledger.proofs.Orders.{le-zero}
+use Rattle.iox_ledger.proofs.Truths.{false_if, never, one_of, none-some}
 
 -- ---- what is among a list
 
@@ -59,6 +31,31 @@ among-append a (x ∷ xs) ys (inr p) = elim (among-append a xs ys p) as (λ u. I
   | inl q ↦ inl (inr q)
   | inr q ↦ inr q
 ]
+
+pub among-front : {A : Type 0} (a : A) (xs ys : List A) → IsAmong a xs → IsAmong a (xs ++ ys)
+among-front a [] ys p = absurd p
+among-front a (x ∷ xs) ys (inl e) = inl e
+among-front a (x ∷ xs) ys (inr p) = inr (among-front a xs ys p)
+
+pub among-back : {A : Type 0} (a : A) (xs ys : List A) → IsAmong a ys → IsAmong a (xs ++ ys)
+among-back a [] ys p = p
+among-back a (x ∷ xs) ys p = inr (among-back a xs ys p)
+
+pub first-among : {A : Type 0} (a : A) (xs : List A) → first_of xs ≡ Some a → IsAmong a xs
+first-among a [] e = none-some a e
+first-among a (x ∷ xs) e = inl (sym (some-is x a e))
+
+pub rest-among : {A : Type 0} (a : A) (xs : List A) → IsAmong a (rest_of xs) → IsAmong a xs
+rest-among a [] p = p
+rest-among a (x ∷ xs) p = inr p
+
+pub filter-none : {A : Type 0} (test : A → Bool) (xs : List A) → ((x : A) → IsAmong x xs → test x ≡ false) → filter test xs ≡ []
+filter-none test [] none = refl
+filter-none test (x ∷ xs) none = by_case (test x) (none x (inl refl)) (filter-none test xs (λ y p. none y (inr p)))
+  where
+    by_case : (b : Bool) → b ≡ false → filter test xs ≡ [] → (if b then x ∷ filter test xs else filter test xs) ≡ []
+    by_case true e rest = absurd (true≢false e)
+    by_case false e rest = rest
 
 pub filter-among : {A : Type 0} (test : A → Bool) (a : A) (xs : List A) → IsAmong a (filter test xs) → IsAmong a xs × (test a ≡ true)
 filter-among test a [] p = absurd p
@@ -142,7 +139,7 @@ distinct-no_repeats (n ∷ ns) d = (λ p. never (has_number n ns) (among-number 
 
 pub no_repeats-distinct : (ns : List ℕ) → NoRepeats ns → AreDistinct ns
 no_repeats-distinct [] d = tt
-no_repeats-distinct (n ∷ ns) d = (not-true (has_number n ns) (λ e. d.0 (number-among n ns e)), no_repeats-distinct ns d.1)
+no_repeats-distinct (n ∷ ns) d = (false_if (has_number n ns) (λ e. d.0 (number-among n ns e)), no_repeats-distinct ns d.1)
 
 pub no_repeats-last : {A : Type 0} (x : A) (xs : List A) → NoRepeats xs → (IsAmong x xs → ⊥) → NoRepeats (xs ++ x ∷ [])
 no_repeats-last x [] d f = (λ p. p, tt)
@@ -150,6 +147,14 @@ no_repeats-last x (z ∷ zs) d f = (apart, no_repeats-last x zs d.1 (λ p. f (in
   where
     apart : IsAmong z (zs ++ x ∷ []) → ⊥
     apart p = elim (among-last z x zs p) as (λ u. ⊥) [ inl q ↦ d.0 q | inr e ↦ f (inl (sym e)) ]
+
+pub no_repeats-append : {A : Type 0} (xs ys : List A) → NoRepeats xs → NoRepeats ys → ((a : A) → IsAmong a xs → IsAmong a ys → ⊥)
+    → NoRepeats (xs ++ ys)
+no_repeats-append [] ys d e apart = e
+no_repeats-append (x ∷ xs) ys d e apart = (
+  (λ p. elim (among-append x xs ys p) as (λ u. ⊥) [ inl q ↦ d.0 q | inr q ↦ apart x (inl refl) q ]),
+  no_repeats-append xs ys d.1 e (λ a p q. apart a (inr p) q),
+)
 
 pub no_repeats-filter : {A : Type 0} (test : A → Bool) (xs : List A) → NoRepeats xs → NoRepeats (filter test xs)
 no_repeats-filter test [] d = tt
@@ -191,6 +196,42 @@ only-one f a b (x ∷ xs) d (inl p) (inr q) e =
 only-one f a b (x ∷ xs) d (inr p) (inl q) e =
     absurd (d.0 (subst (λ c. IsAmong c (map f xs)) (e ∙ ap f q) (among-map f a xs p)))
 only-one f a b (x ∷ xs) d (inr p) (inr q) e = only-one f a b xs d.1 p q e
+
+-- and so it is found by its image
+pub find-own : {A : Type 0} (number : A → ℕ) (xs : List A) (a : A) → NoRepeats (map number xs) → IsAmong a xs
+    → find (λ x. number x == number a) xs ≡ Some a
+find-own number [] a d p = absurd p
+find-own number (x ∷ xs) a d (inl e) = rw (ap (λ y. number x == number y) e ∙ eqb-refl (number x)) (ap Some (sym e))
+find-own number (x ∷ xs) a d (inr p) = by_case (number x == number a) refl (find-own number xs a d.1 p)
+  where
+    by_case : (b : Bool) → (number x == number a) ≡ b → find (λ y. number y == number a) xs ≡ Some a
+        → (if b then Some x else find (λ y. number y == number a) xs) ≡ Some a
+    by_case true e rest =
+        absurd (d.0 (subst (λ k. IsAmong k (map number xs)) (sym (eqb-true (number x) (number a) e)) (among-map number a xs p)))
+    by_case false e rest = rest
+
+-- ---- how long a list is
+
+pub no-length : {A : Type 0} (xs : List A) → length xs ≤ 0 → xs ≡ []
+no-length [] p = refl
+no-length (x ∷ xs) p = absurd (omega arith)
+
+pub length-none : {A : Type 0} (xs : List A) (b : ℕ) → xs ≡ [] → length xs ≤ b
+length-none xs b e = subst (λ ys. length ys ≤ b) (sym e) (omega arith)
+
+pub le-none : {A : Type 0} (xs : List A) (b : ℕ) → xs ≡ [] → nat_le (length xs) b ≡ true
+le-none xs b e = subst (λ ys. nat_le (length ys) b ≡ true) (sym e) (le-zero b)
+
+pub length-rest : {A : Type 0} (xs : List A) → length (rest_of xs) ≤ length xs
+length-rest [] = omega arith
+length-rest (x ∷ xs) = omega arith
+
+pub length-last : {A : Type 0} (xs : List A) (x : A) → length (xs ++ x ∷ []) ≡ length xs + 1
+length-last [] x = refl
+length-last (z ∷ zs) x = one-more (length (zs ++ x ∷ [])) (length zs) (length-last zs x)
+  where
+    one-more : (a b : ℕ) → a ≡ b + 1 → suc a ≡ suc b + 1
+    one-more a b e = omega arith
 
 -- ---- a way is taken out
 

@@ -16,8 +16,11 @@ use Rattle.iox_model.specs.Messages.{request_way, response_way}
 use Rattle.iox_model.specs.Peers.{is_counted_on, is_connected_port, forgot_port, node_of_port}
 use Rattle.iox_model.specs.Settings.{same_role}
 use Rattle.iox_model.specs.States.{Port, Handle, Fixed, State}
+use Rattle.iox_model.proofs.CallLaws.{not-true}
+use Rattle.iox_model.proofs.PlayedRuns.{split}
 use Rattle.iox_model.proofs.WholeLemmas.{put_at-here}
-use Rattle.iox_ledger.proofs.Lists.{IsAmong, never, both, not-is, any-among, among-any, among-number, number-among}
+use Rattle.iox_ledger.proofs.Truths.{never, both_true}
+use Rattle.iox_ledger.proofs.Lists.{IsAmong, any-among, among-any, among-number, number-among, among-front}
 use Rattle.iox_ledger.proofs.Views.{View, view, IsAt}
 use Rattle.iox_ledger.proofs.Senders.{FitsHandles, FitsOutcome, FitsDoing}
 use Rattle.iox_ledger.proofs.Phases.{HasOwnPorts}
@@ -31,39 +34,30 @@ IsLive f y = is_live f y ≡ true
 -- ---- what a live way is
 
 pub live-counted : (f : Fixed) (y : Way) → IsLive f y → is_counted_on f y ≡ true
-live-counted f y e = (both (is_counted_on f y) (is_connected_port f y.receiver && not (forgot_port f (node_of_port f y.receiver) y.sender)) e).0
+live-counted f y e = (split (is_counted_on f y) (is_connected_port f y.receiver && not (forgot_port f (node_of_port f y.receiver) y.sender)) e).0
 
 pub live-receiver : (f : Fixed) (y : Way) (n : ℕ) → IsLive f y → IsAt f.ports y.receiver n → forgot_port f n y.sender ≡ false
 live-receiver f y n e at =
-    subst (λ k. forgot_port f k y.sender ≡ false) at (not-is (forgot_port f (node_of_port f y.receiver) y.sender)
-    (both (is_connected_port f y.receiver) (not (forgot_port f (node_of_port f y.receiver) y.sender))
-    (both (is_counted_on f y) (is_connected_port f y.receiver && not (forgot_port f (node_of_port f y.receiver) y.sender)) e).1).1)
+    subst (λ k. forgot_port f k y.sender ≡ false) at (not-true (forgot_port f (node_of_port f y.receiver) y.sender)
+    (split (is_connected_port f y.receiver) (not (forgot_port f (node_of_port f y.receiver) y.sender))
+    (split (is_counted_on f y) (is_connected_port f y.receiver && not (forgot_port f (node_of_port f y.receiver) y.sender)) e).1).1)
 
 live-sender : (f : Fixed) (y : Way) (n : ℕ) → IsLive f y → IsAt f.ports y.sender n → forgot_port f n y.receiver ≡ false
 live-sender f y n e at =
-    subst (λ k. forgot_port f k y.receiver ≡ false) at (not-is (forgot_port f (node_of_port f y.sender) y.receiver)
-    (both (is_connected_port f y.sender) (not (forgot_port f (node_of_port f y.sender) y.receiver)) (live-counted f y e)).1)
+    subst (λ k. forgot_port f k y.receiver ≡ false) at (not-true (forgot_port f (node_of_port f y.sender) y.receiver)
+    (split (is_connected_port f y.sender) (not (forgot_port f (node_of_port f y.sender) y.receiver)) (live-counted f y e)).1)
 
 -- ---- a Forget
-
-among-front : (k : ℕ) (xs ys : List ℕ) → IsAmong k xs → IsAmong k (xs ++ ys)
-among-front k [] ys a = absurd a
-among-front k (x ∷ xs) ys (inl e) = inl e
-among-front k (x ∷ xs) ys (inr a) = inr (among-front k xs ys a)
 
 -- whom a node forgot it forgot still
 forgot-still : (s : State) (n gone k p : ℕ) → forgot_port s.fixed k p ≡ true → forgot_port (forgets s n gone).fixed k p ≡ true
 forgot-still s n gone k p e =
     let r : (q : Port) × IsAmong q s.fixed.ports × (((q.number == p) && has_number q.node (s.fixed.forgot k)) ≡ true)
     = any-among (λ q. (q.number == p) && has_number q.node (s.fixed.forgot k)) s.fixed.ports e in
-    let t : ((r.0.number == p) ≡ true) × (has_number r.0.node (s.fixed.forgot k) ≡ true) = both _ _ r.2 in
+    let t : ((r.0.number == p) ≡ true) × (has_number r.0.node (s.fixed.forgot k) ≡ true) = split _ _ r.2 in
     among-any (λ q. (q.number == p) && has_number q.node ((forgets s n gone).fixed.forgot k)) r.0 s.fixed.ports r.1
     (both_true (r.0.number == p) _ t.0 (more r.0.node (k == n) refl t.1))
   where
-    both_true : (a b : Bool) → a ≡ true → b ≡ true → (a && b) ≡ true
-    both_true true b e f = f
-    both_true false b e f = e
-
     more : (node : ℕ) (b : Bool) → (k == n) ≡ b → has_number node (s.fixed.forgot k) ≡ true
         → has_number node (if b then s.fixed.forgot n ++ gone ∷ [] else s.fixed.forgot k) ≡ true
     more node true same h =
@@ -104,7 +98,7 @@ forgets-record s n gone y own live k = by_case (goes_to_dead s.fixed n gone y) r
     by_case : (b : Bool) → goes_to_dead s.fixed n gone y ≡ b → (if b then false else s.delivered y k) ≡ s.delivered y k
     by_case true e =
         never (forgot_port (forgets s n gone).fixed n y.receiver) (forgotten-known (forgets s n gone).fixed n gone y now e)
-        (live-sender (forgets s n gone).fixed y n live (port-at-node s.fixed.ports n y.sender own (both _ _ e).0))
+        (live-sender (forgets s n gone).fixed y n live (port-at-node s.fixed.ports n y.sender own (split _ _ e).0))
     by_case false e = refl
 
 -- ---- the end of a call

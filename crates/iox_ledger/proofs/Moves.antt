@@ -1,20 +1,23 @@
 -- Each moment of a call keeps what holds of the call.
-use Rattle.std.specs.Prelude.{◌≡◌, ℕ, ◌<◌, Bool, true, false, not, if◌then◌else◌, nat_le, List, [], ◌∷◌, ◌++◌, map, Option, Some, None, refl}
-use Rattle.std.proofs.Common.{sym, subst, ap, ◌∙◌, arith, inl, inr}
+use Rattle.std.specs.Prelude.{◌≡◌, ℕ, ◌<◌, Bool, true, false, not, if◌then◌else◌, List, [], ◌∷◌, ◌++◌, map, Option, Some, None, refl}
+use Rattle.std.proofs.Common.{sym, subst, ap, ◌∙◌, inl, inr}
 use Rattle.iox_model.specs.declared.way.Way.{Way}
 use Rattle.iox_model.specs.Doings.{Sending, Outcome, Sends, Receives, Doing, Ended, Loaning, Asking, Emptying, Looking, Opening, Delivering, Evicted, Visiting, Again, Judging, Stale, Closing, Returning, Leaving, Checking, Hinting, Seeking}
 use Rattle.iox_model.specs.States.{Port, Fixed, State}
 use Rattle.iox_model.specs.Requests.{is_request, targets, may_evict, is_last, is_over}
-use Rattle.iox_model.specs.Maps.{first_of, rest_of, same_way, without_way}
+use Rattle.iox_model.specs.Maps.{rest_of, same_way, without_way}
 use Rattle.iox_model.specs.Messages.{request_way, response_way, names, Message}
 use Rattle.iox_model.specs.Receives.{is_at_limit}
 use Rattle.iox_model.specs.Settings.{is_client}
 use Rattle.iox_model.specs.Peers.{borrow_limit_on}
 use Rattle.iox_model.specs.Moments.{Holds, moved, Moment, Deliver, Evict, Take, GiveBack, GetBack, SeesEmpty, SeesWaiting, SeesFull, SeesRoom, SeesNoneBack, Open, Close, Hint, Look}
 use Rattle.iox_model.specs.Steps.{next, ends}
+use Rattle.iox_model.proofs.CallLaws.{not-true}
 use Rattle.iox_model.proofs.MapLemmas.{either, same_way-true}
 use Rattle.iox_model.proofs.WholeLemmas.{some-is}
-use Rattle.iox_ledger.proofs.Lists.{IsAmong, never, not-is, none-some, among-last, map-among, way-among, without-among, no_repeats-without}
+use Rattle.iox_ledger.proofs.Orders.{less}
+use Rattle.iox_ledger.proofs.Truths.{never, none-some}
+use Rattle.iox_ledger.proofs.Lists.{IsAmong, among-last, map-among, way-among, without-among, no_repeats-without, first-among, rest-among}
 use Rattle.iox_ledger.proofs.Views.{view, IsAt, role_in, mine}
 use Rattle.iox_ledger.proofs.Senders.{IsMade, FitsOutcome, FitsLeft, FitsLast, OnWay, IsBelow, FitsDoing}
 use Rattle.iox_ledger.proofs.Phases.{target-of, HasOwnPorts, opening-fits, looking-fits, emptying-fits, asked-fits, loaning-fits, visiting-fits, fewer, took-fits, closing-fits, given_back-fits, checked-fits, hinting-fits, seeking-fits}
@@ -40,20 +43,9 @@ last-is x w (Some v) p e = subst (λ u. FitsLast x (Some u)) (sym (same_way-true
 abbrev pub WaitsFit : State → Type 0
 WaitsFit s = (y : Way) (m : Message) → IsAmong m (s.waiting y) → OnWay s.fixed.ports y m
 
-first-among : {A : Type 0} (m : A) (xs : List A) → first_of xs ≡ Some m → IsAmong m xs
-first-among m [] e = absurd (none-some m e)
-first-among m (x ∷ xs) e = inl (sym (some-is x m e))
-
-rest-among : {A : Type 0} (m : A) (xs : List A) → IsAmong m (rest_of xs) → IsAmong m xs
-rest-among m [] a = a
-rest-among m (x ∷ xs) a = inr a
-
 below : (f : Fixed) (n : ℕ) (w : Way) → IsAt f.ports w.receiver n → not (is_at_limit f w) ≡ true → IsBelow (view f n) w
 below f n w at e =
-    subst (λ b. (if b then f.borrowed w else 0) < borrow_limit_on f w) (sym (mine f.ports w.receiver n at)) (less (borrow_limit_on f w) (f.borrowed w) (not-is (is_at_limit f w) e))
-  where
-    less : (a b : ℕ) → nat_le a b ≡ false → b < a
-    less a b h = grind (arith)
+    subst (λ b. (if b then f.borrowed w else 0) < borrow_limit_on f w) (sym (mine f.ports w.receiver n at)) (less (borrow_limit_on f w) (f.borrowed w) (not-true (is_at_limit f w) e))
 
 sent-lane : (ports : List Port) (z : Sending) (x : Way) → IsMade ports z.loan → IsAmong x (targets z) → OnWay ports x z.loan.message
 sent-lane ports z x made a = (made.sender ∙ sym (target-of z x a).0, λ server. by_case (is_request z) refl a (ap (λ q. is_client (role_in ports q)) (sym (target-of z x a).0) ∙ server))

@@ -13,12 +13,14 @@ use Rattle.iox_model.specs.Ends.{settled}
 use Rattle.iox_model.specs.Moments.{moved, Moment, Deliver, Evict, GetBack}
 use Rattle.iox_model.specs.Messages.{serials_of, Message}
 use Rattle.iox_model.specs.Steps.{next, ends}
+use Rattle.iox_model.proofs.CallLaws.{put_at-else}
 use Rattle.iox_model.proofs.InOrder.{in_order}
 use Rattle.iox_model.proofs.MapLemmas.{same_way-true}
 use Rattle.iox_model.proofs.WholeLemmas.{put_at-here, moved-fixed, some-is}
 use Rattle.iox_ledger.specs.OnceLaws.{DeliveredOnce, ReceivedOnce}
-use Rattle.iox_ledger.proofs.Lists.{IsAmong, NoRepeats, none-some, way-among, without-among, without-itself, no_repeats-distinct}
-use Rattle.iox_ledger.proofs.Views.{View, view, IsAt, node_in, put_at-else, after_call}
+use Rattle.iox_ledger.proofs.Truths.{none-some}
+use Rattle.iox_ledger.proofs.Lists.{IsAmong, NoRepeats, way-among, without-among, without-itself, no_repeats-distinct, among-front}
+use Rattle.iox_ledger.proofs.Views.{View, view, IsAt, node_in, after_call}
 use Rattle.iox_ledger.proofs.Senders.{FitsSending, FitsOutcome, FitsDoing, Stands}
 use Rattle.iox_ledger.proofs.Settling.{settled-here, settled-else}
 use Rattle.iox_ledger.proofs.Rights.{MaySend, IsSent, after-sends, after-sent}
@@ -140,7 +142,7 @@ over-shrinks w node n payload d o y k fits is p e q = by_case (n == node) refl
     by_case true f = subst (λ j. MayPut w j y k) (sym (eqb-true n node f)) (here (subst (λ j. MaySend (view (settled w.state node payload o).fixed j) y.sender k) (eqb-true n node f) q.0))
     by_case false f = (
       subst (λ v. MaySend v y.sender k) (settled-else w.state node n payload o fits.wire (fits.handles node) p f) q.0,
-      λ passed. q.1 (subst (PassedBy y k) (sym (put_at-else w.doing node n None f)) passed),
+      λ passed. q.1 (subst (PassedBy y k) (sym (put_at-else w.doing node None n f)) passed),
     )
 
 pub beat-uses : (w u : World) (b : Beat) (n : ℕ) (y : Way) → IsBeat w b u → Fits w → IsAt w.state.fixed.ports y.sender n → Uses w u n y (put_on y b)
@@ -230,12 +232,7 @@ gives-apart (y ∷ ys) (x ∷ xs) (inr g) d = gives-apart ys (x ∷ xs) g d.1
 
 pub front-apart : (xs ys : List ℕ) → NoRepeats (xs ++ ys) → NoRepeats xs
 front-apart [] ys d = tt
-front-apart (x ∷ xs) ys d = (λ a. d.0 (front x xs ys a), front-apart xs ys d.1)
-  where
-    front : (k : ℕ) (xs ys : List ℕ) → IsAmong k xs → IsAmong k (xs ++ ys)
-    front k [] ys a = absurd a
-    front k (z ∷ zs) ys (inl e) = inl e
-    front k (z ∷ zs) ys (inr a) = inr (front k zs ys a)
+front-apart (x ∷ xs) ys d = (λ a. d.0 (among-front x xs ys a), front-apart xs ys d.1)
 
 pub received_once : ReceivedOnce
 received_once s v bs y on =

@@ -9,8 +9,8 @@ use Rattle.iox_model.specs.Peers.{is_counted_on}
 use Rattle.iox_model.specs.States.{State}
 use Rattle.iox_model.proofs.MapLemmas.{same_way-true}
 use Rattle.iox_model.proofs.WholeLemmas.{some-is}
-use Rattle.iox_ledger.proofs.Lists.{never, none-some}
-use Rattle.iox_ledger.proofs.Borrows.{count, one_if, count-cons}
+use Rattle.iox_ledger.proofs.Counts.{count, one_if, count-cons}
+use Rattle.iox_ledger.proofs.Truths.{never, none-some}
 use Rattle.iox_ledger.proofs.Tallies.{count-append}
 use Rattle.iox_ledger.proofs.Had.{put_on, taken_on, given_on, got_on}
 

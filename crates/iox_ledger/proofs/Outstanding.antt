@@ -1,91 +1,24 @@
 -- As many are outstanding as are out: the record has no serial that its sender did not loan.
-use Rattle.std.specs.Prelude.{◌≡◌, ℕ, zero, suc, ◌+◌, ◌<◌, ◌≤◌, Bool, true, false, if◌then◌else◌, ◌==◌, nat_le, List, [], ◌∷◌, length, Option, Some, None, ◌⊎◌, refl}
+use Rattle.std.specs.Prelude.{◌≡◌, ℕ, ◌+◌, ◌<◌, ◌≤◌, Bool, true, false, if◌then◌else◌, nat_le, List, length, Option, Some, None, refl}
 use Rattle.std.specs.List.{range_with_len}
-use Rattle.std.proofs.Common.{sym, subst, ap, ◌∙◌, arith, eqb-true, eq-eqb, inl, inr}
+use Rattle.std.proofs.Common.{sym, subst, ap, ◌∙◌, arith, inl}
 use Rattle.iox_model.specs.declared.way.Way.{Way}
 use Rattle.iox_model.specs.Doings.{Sending, Doing, Delivering, Evicted}
 use Rattle.iox_model.specs.Ledgers.{size_of}
-use Rattle.iox_model.specs.Maps.{without_number}
 use Rattle.iox_model.specs.Outstandings.{outstanding_on}
 use Rattle.iox_model.specs.Weaves.{World}
 use Rattle.iox_ledger.specs.LedgerLaws.{out_on, OutstandingIsCounted}
-use Rattle.iox_ledger.proofs.Lists.{IsAmong, NoRepeats, never, filter-among, among-filter, number-among, among-number, distinct-no_repeats, no_repeats-filter}
+use Rattle.iox_ledger.proofs.Orders.{same-le}
+use Rattle.iox_ledger.proofs.Counts.{count}
+use Rattle.iox_ledger.proofs.Ranges.{no-longer, range-apart, range-has}
+use Rattle.iox_ledger.proofs.Lists.{IsAmong, filter-among, among-filter, number-among, among-number, distinct-no_repeats, no_repeats-filter}
 use Rattle.iox_ledger.proofs.Views.{View, view, node_in, mine}
 use Rattle.iox_ledger.proofs.Senders.{FitsHandles, FitsSending, Stands}
 use Rattle.iox_ledger.proofs.Worlds.{FitsCall}
 use Rattle.iox_ledger.proofs.Once.{HasPassed, PassedBy}
-use Rattle.iox_ledger.proofs.Borrows.{count}
 use Rattle.iox_ledger.proofs.Tallies.{count-all}
 use Rattle.iox_ledger.proofs.Balance.{any}
 use Rattle.iox_ledger.proofs.LedgerHolds.{Holds, holds-in-the-end, length-out, count-out, counts-record, IsCounted, counted-once, counted-record}
-
--- ---- lists with the same numbers
-
-one-less : (k : ℕ) (ks : List ℕ) → IsAmong k ks → length ks ≡ suc (length (without_number k ks))
-one-less k [] a = absurd a
-one-less k (j ∷ js) (inl e) = first (j == k) (eq-eqb j k (sym e))
-  where
-    first : (b : Bool) → b ≡ true → suc (length js) ≡ suc (length (if b then js else j ∷ without_number k js))
-    first true e = refl
-    first false e = never false e refl
-one-less k (j ∷ js) (inr a) = by_case (j == k) (one-less k js a)
-  where
-    by_case : (b : Bool) → length js ≡ suc (length (without_number k js)) → suc (length js) ≡ suc (length (if b then js else j ∷ without_number k js))
-    by_case true rest = refl
-    by_case false rest = ap suc rest
-
-other-stays : (k i : ℕ) (ks : List ℕ) → IsAmong i ks → (i ≡ k → ⊥) → IsAmong i (without_number k ks)
-other-stays k i [] a apart = absurd a
-other-stays k i (j ∷ js) a apart = by_case (j == k) (eqb-true j k) (λ b. other-stays k i js b apart) a
-  where
-    by_case : (b : Bool) → (b ≡ true → j ≡ k) → (IsAmong i js → IsAmong i (without_number k js)) → IsAmong i (j ∷ js)
-        → IsAmong i (if b then js else j ∷ without_number k js)
-    by_case true same rest (inl e) = absurd (apart (e ∙ same refl))
-    by_case true same rest (inr q) = q
-    by_case false same rest (inl e) = inl e
-    by_case false same rest (inr q) = inr (rest q)
-
--- a list without repeats is no longer than one that has all its numbers
-pub no-longer : (xs ys : List ℕ) → NoRepeats xs → ((k : ℕ) → IsAmong k xs → IsAmong k ys) → length xs ≤ length ys
-no-longer [] ys apart all = omega arith
-no-longer (x ∷ xs) ys apart all =
-    more (length xs) (length (without_number x ys)) (length ys)
-    (no-longer xs (without_number x ys) apart.1 (λ k a. other-stays x k ys (all k (inr a)) (λ e. apart.0 (subst (λ j. IsAmong j xs) e a))))
-    (one-less x ys (all x (inl refl)))
-  where
-    more : (a b c : ℕ) → a ≤ b → c ≡ suc b → suc a ≤ c
-    more a b c p q = omega arith
-
--- ---- ranges
-
-range-above : (a n k : ℕ) → IsAmong k (range_with_len a n) → a ≤ k
-range-above a zero k p = absurd p
-range-above a (suc n) k (inl e) = omega arith
-range-above a (suc n) k (inr p) = less (range-above (a + 1) n k p)
-  where
-    less : a + 1 ≤ k → a ≤ k
-    less q = omega arith
-
-pub range-apart : (a n : ℕ) → NoRepeats (range_with_len a n)
-range-apart a zero = tt
-range-apart a (suc n) = (λ p. beyond (range-above (a + 1) n a p), range-apart (a + 1) n)
-  where
-    beyond : a + 1 ≤ a → ⊥
-    beyond q = omega arith
-
-pub range-has : (a n k : ℕ) → a ≤ k → k < a + n → IsAmong k (range_with_len a n)
-range-has a zero k p q = absurd (omega arith)
-range-has a (suc n) k p q = by_case (a == k) refl (range-has (a + 1) n k)
-  where
-    next : (a == k) ≡ false → a + 1 ≤ k
-    next e = grind (arith)
-
-    shift : k < a + 1 + n
-    shift = omega arith
-
-    by_case : (b : Bool) → (a == k) ≡ b → (a + 1 ≤ k → k < a + 1 + n → IsAmong k (range_with_len (a + 1) n)) → (k ≡ a) ⊎ IsAmong k (range_with_len (a + 1) n)
-    by_case true e rest = inl (sym (eqb-true a k e))
-    by_case false e rest = inr (rest (next e) shift)
 
 -- ---- what is delivered was loaned
 
@@ -94,14 +27,11 @@ passed-below : (v : View) (n k : ℕ) (y : Way) (x : Sending) (left : List Way) 
 passed-below v n k y x left fits p passed =
     subst (λ q. k ≤ v.loans q) passed.0 (subst (λ j. j ≤ v.loans x.loan.port) passed.1 (by_case x.copied (p.loan).stands))
   where
-    equal : (a b : ℕ) → a ≡ b → a ≤ b
-    equal a b e = omega arith
-
     below : (a b : ℕ) → a < b → a ≤ b
     below a b e = omega arith
 
     by_case : (b : Bool) → Stands v x.loan b → x.loan.message.serial ≤ v.loans x.loan.port
-    by_case true q = equal x.loan.message.serial (v.loans x.loan.port) q.0
+    by_case true q = same-le x.loan.message.serial (v.loans x.loan.port) q.0
     by_case false a = below x.loan.message.serial (v.loans x.loan.port) (fits.lent x.loan a (p.loan).loan)
 
 pub call-below : (v : View) (n k : ℕ) (y : Way) (o : Option Doing) → FitsHandles v n → FitsCall v n o → PassedBy y k o → k ≤ v.loans y.sender

@@ -1,5 +1,5 @@
 -- Each phase of a call begins as it has to.
-use Rattle.std.specs.Prelude.{◌≡◌, ℕ, Bool, true, false, not, ◌&&◌, if◌then◌else◌, ◌==◌, List, [], ◌∷◌, map, filter, Option, Some, refl, find}
+use Rattle.std.specs.Prelude.{◌≡◌, ℕ, Bool, true, false, not, ◌&&◌, if◌then◌else◌, ◌==◌, List, [], ◌∷◌, map, filter, Option, refl}
 use Rattle.std.specs.List.{list_any}
 use Rattle.std.specs.Bool.{beq}
 use Rattle.std.specs.Option.{option_map_or}
@@ -24,8 +24,11 @@ use Rattle.iox_model.specs.Maps.{has_number, has_way, without_way}
 use Rattle.iox_model.specs.Messages.{request_way, response_way, names, Message}
 use Rattle.iox_model.specs.Outstandings.{kept, is_dry}
 use Rattle.iox_model.specs.Peers.{others, forgot_port}
-use Rattle.iox_model.proofs.MapLemmas.{eqb-refl, either}
-use Rattle.iox_ledger.proofs.Lists.{among-map, IsAmong, NoRepeats, never, both, not-is, not-true, filter-among, map-among, any-among, number-among, no_repeats-filter, no_repeats-map_filter, no_repeats-map, only-one, without-among}
+use Rattle.iox_model.proofs.CallLaws.{not-true}
+use Rattle.iox_model.proofs.PlayedRuns.{split}
+use Rattle.iox_model.proofs.MapLemmas.{either}
+use Rattle.iox_ledger.proofs.Truths.{never, false_if}
+use Rattle.iox_ledger.proofs.Lists.{IsAmong, NoRepeats, filter-among, map-among, any-among, number-among, no_repeats-filter, no_repeats-map_filter, no_repeats-map, only-one, without-among, find-own}
 use Rattle.iox_ledger.proofs.Views.{View, view, role_in, forgot_in}
 use Rattle.iox_ledger.proofs.Senders.{FitsLoan, FitsSending, FitsDoing, Has, VisitsOwn}
 
@@ -40,29 +43,20 @@ others-known f n q role d a =
     = map-among (λ p. p.number) q (filter (λ p. same_role p.role role && not (has_number p.node (f.forgot n))) f.ports) a in
     let t : IsAmong r.0 f.ports × ((same_role (r.0).role role && not (has_number (r.0).node (f.forgot n))) ≡ true)
     = filter-among (λ p. same_role p.role role && not (has_number p.node (f.forgot n))) r.0 f.ports r.1 in
-    not-true (forgot_in (view f n) q) (λ e. unknown r.0 t.0 r.2 (both _ _ t.1).1 (any-among (λ p. (p.number == q) && has_number p.node (f.forgot n)) f.ports e))
+    false_if (forgot_in (view f n) q) (λ e. unknown r.0 t.0 r.2 (split _ _ t.1).1 (any-among (λ p. (p.number == q) && has_number p.node (f.forgot n)) f.ports e))
   where
     unknown : (p : Port) → IsAmong p f.ports → q ≡ p.number → not (has_number p.node (f.forgot n)) ≡ true
         → (u : Port) × IsAmong u f.ports × (((u.number == q) && has_number u.node (f.forgot n)) ≡ true) → ⊥
     unknown p among number free u =
-        let e : ((u.0.number == q) ≡ true) × (has_number u.0.node (f.forgot n) ≡ true) = both _ _ u.2 in
+        let e : ((u.0.number == q) ≡ true) × (has_number u.0.node (f.forgot n) ≡ true) = split _ _ u.2 in
         never (has_number p.node (f.forgot n))
         (ap (λ (x : Port). has_number x.node (f.forgot n)) (only-one (λ (x : Port). x.number) p u.0 f.ports d among u.1 (sym number ∙ sym (eqb-true u.0.number q e.0))) ∙ e.1)
-        (not-is (has_number p.node (f.forgot n)) free)
+        (not-true (has_number p.node (f.forgot n)) free)
 
 pub others-apart : (f : Fixed) (n : ℕ) (role : Role) → HasOwnPorts f → NoRepeats (others f n role)
 others-apart f n role d = no_repeats-map_filter (λ p. p.number) (λ p. same_role p.role role && not (has_number p.node (f.forgot n))) f.ports d
 
 -- ---- ports
-pub find-own : (ports : List Port) (p : Port) → NoRepeats (map (λ q. q.number) ports) → IsAmong p ports → find (λ q. q.number == p.number) ports ≡ Some p
-find-own [] p d a = absurd a
-find-own (x ∷ xs) p d (inl e) = rw (ap (λ (q : Port). x.number == q.number) e ∙ eqb-refl x.number) (ap Some (sym e))
-find-own (x ∷ xs) p d (inr a) = by_case (x.number == p.number) refl (find-own xs p d.1 a)
-  where
-    by_case : (b : Bool) → (x.number == p.number) ≡ b → find (λ q. q.number == p.number) xs ≡ Some p
-        → (if b then Some x else find (λ q. q.number == p.number) xs) ≡ Some p
-    by_case true e rest = absurd (d.0 (subst (λ k. IsAmong k (map (λ q. q.number) xs)) (sym (eqb-true x.number p.number e)) (among-map (λ q. q.number) p xs a)))
-    by_case false e rest = rest
 
 -- those of a role have it
 pub role-of : (f : Fixed) (q : ℕ) (role : Role) (test : Port → Bool) → HasOwnPorts f
@@ -72,8 +66,8 @@ role-of f q role test d a =
     = map-among (λ p. p.number) q (filter (λ p. same_role p.role role && test p) f.ports) a in
     let t : IsAmong r.0 f.ports × ((same_role (r.0).role role && test r.0) ≡ true) = filter-among (λ p. same_role p.role role && test p) r.0 f.ports r.1 in
     ap (λ k. is_client (role_in f.ports k)) r.2
-    ∙ ap (λ (o : Option Port). is_client (option_map_or (λ p. p.role) o Client)) (find-own f.ports r.0 d t.0)
-    ∙ same (is_client (r.0).role) (is_client role) (both _ _ t.1).0
+    ∙ ap (λ (o : Option Port). is_client (option_map_or (λ p. p.role) o Client)) (find-own (λ (p : Port). p.number) f.ports r.0 d t.0)
+    ∙ same (is_client (r.0).role) (is_client role) (split _ _ t.1).0
   where
     same : (a b : Bool) → beq a b ≡ true → a ≡ b
     same true true e = refl

@@ -2,6 +2,7 @@
 use Rattle.std.specs.Prelude.{◌≡◌, ℕ, Bool, true, false, ◌&&◌, if◌then◌else◌, List, [], ◌∷◌, ◌++◌, map, filter, Some, None, refl}
 use Rattle.std.specs.List.{list_any}
 use Rattle.std.proofs.Common.{ap, ◌∙◌, true≢false, sym}
+use Rattle.std.proofs.lemmas.List.{append-nil}
 use Rattle.iox_model.specs.declared.kind.Role.TheVariants.{Client, Server}
 use Rattle.iox_model.specs.declared.way.Way.{Way}
 use Rattle.iox_model.specs.declared.way.RequestState.{RequestState}
@@ -20,7 +21,8 @@ use Rattle.iox_model.specs.Messages.{request_way, names}
 use Rattle.iox_model.specs.Outstandings.{kept, is_dry}
 use Rattle.iox_model.specs.Peers.{others}
 use Rattle.iox_model.proofs.MapLemmas.{either}
-use Rattle.iox_ledger.proofs.Tallies.{append-nothing, filter-same}
+use Rattle.iox_ledger.proofs.Truths.{and-first}
+use Rattle.iox_ledger.proofs.Tallies.{filter-same}
 
 abbrev pub is_quiet_outcome : Outcome → Bool
 is_quiet_outcome (Receives x w m) = false
@@ -47,14 +49,10 @@ serials hs = map (λ h. h.message.serial) hs
 -- its handles, and what its call took
 pub held-taken : (y : Way) (hs : List Handle) (ks : List ℕ)
     → serials (filter (λ h. has_received y h && true) hs) ++ ks ≡ serials (filter (has_received y) hs) ++ ks
-held-taken y hs ks = ap (λ gs. serials gs ++ ks) (filter-same (λ h. has_received y h && true) (has_received y) hs (λ h a. and_true (has_received y h)))
-  where
-    and_true : (a : Bool) → (a && true) ≡ a
-    and_true true = refl
-    and_true false = refl
+held-taken y hs ks = ap (λ gs. serials gs ++ ks) (filter-same (λ h. has_received y h && true) (has_received y) hs (λ h a. and-first (has_received y h)))
 
 pub held-handles : (y : Way) (hs : List Handle) → serials (filter (λ h. has_received y h && true) hs) ++ [] ≡ serials (filter (has_received y) hs)
-held-handles y hs = held-taken y hs [] ∙ append-nothing (serials (filter (has_received y) hs))
+held-handles y hs = held-taken y hs [] ∙ append-nil (serials (filter (has_received y) hs))
 
 -- its handles alone
 pub held-quiet : (y : Way) (hs : List Handle) (d : Doing) → IsQuiet d → held_on y hs (Some d) ≡ held_on y hs None

@@ -13,6 +13,7 @@ use Rattle.iox_model.specs.Messages.{Message}
 use Rattle.iox_model.specs.Counts.{sent_handle, holding}
 use Rattle.iox_model.proofs.MapLemmas.{either}
 use Rattle.iox_model.proofs.WholeLemmas.{put_at-here}
+use Rattle.iox_ledger.proofs.Orders.{at-most}
 use Rattle.iox_ledger.proofs.Lists.{IsAmong, among-last}
 use Rattle.iox_ledger.proofs.Views.{View, plus, counted, lends_one, swapped, less, taken_handle, after_call}
 use Rattle.iox_ledger.proofs.Senders.{is_loan, IsMade, FitsHandles, FitsLoan, IsFilled, FitsOutcome}
@@ -99,9 +100,6 @@ MaySend v port k = (v.loans port ≤ k) ⊎ IsLoaned v port k
 abbrev pub IsSent : Outcome → ℕ → ℕ → Type 0
 IsSent (Sends h copied count) port k = (h.port ≡ port) × (h.message.serial ≡ k)
 IsSent o port k = ⊥
-
-at-most : (a b c : ℕ) → a ≤ b → b ≤ c → a ≤ c
-at-most a b c p q = omega arith
 
 lends-sends : (v : View) (p port k : ℕ) → MaySend (lends_one v p) port k → MaySend v port k
 lends-sends v p port k (inl e) = inl (at-most (v.loans port) (put_at v.loans p (v.loans p + 1) port) k (more-loans v.loans p port) e)

@@ -10,10 +10,11 @@ use Rattle.iox_model.specs.Counts.{added, changed, dropped, numbered, called, gi
 use Rattle.iox_model.specs.Ends.{sent_copy, is_nothing, settled}
 use Rattle.iox_model.specs.Expiries.{released}
 use Rattle.iox_model.specs.Forgetting.{has_forgotten, forgets}
+use Rattle.iox_model.proofs.CallLaws.{put_at-else}
 use Rattle.iox_model.proofs.MapLemmas.{either}
 use Rattle.iox_model.proofs.WholeLemmas.{put_at-here}
 use Rattle.iox_model.proofs.WireLemmas.{released-wire}
-use Rattle.iox_ledger.proofs.Views.{View, view, IsAt, plus, counted, lends_one, swapped, less, takes_one, gives_one, taken_handle, after_call, put_at-else, here-added, else-added, here-changed, else-changed, here-dropped, else-dropped, here-lent, else-lent, here-borrows, else-borrows, here-gives_up, else-gives_up}
+use Rattle.iox_ledger.proofs.Views.{View, view, IsAt, plus, counted, lends_one, swapped, less, takes_one, gives_one, taken_handle, after_call, here-added, else-added, here-changed, else-changed, here-dropped, else-dropped, here-lent, else-lent, here-borrows, else-borrows, here-gives_up, else-gives_up}
 use Rattle.iox_ledger.proofs.Senders.{FitsOutcome, FitsHandles}
 
 here-numbered : (f : Fixed) (n : ℕ) → f.on_wire ≡ true → view (numbered f n) n ≡ counted (view f n)
@@ -27,7 +28,7 @@ here-numbered f n e =
 else-numbered : (f : Fixed) (n n' : ℕ) → f.on_wire ≡ true → (n' == n) ≡ false → view (numbered f n) n' ≡ view f n'
 else-numbered f n n' e d =
     ap (λ (b : Bool). view (if b then record f { handles_made = put_at f.handles_made n (f.handles_made n + 1) } else record f { next_number = f.next_number + 1 }) n') e
-    ∙ (λ i. record (view f n') { next = f.next_number + put_at-else f.handles_made n n' (f.handles_made n + 1) d i })
+    ∙ (λ i. record (view f n') { next = f.next_number + put_at-else f.handles_made n (f.handles_made n + 1) n' d i })
 
 -- a received handle has the next number
 number_is : (f : Fixed) (n : ℕ) (x : Receiver) (m : Message) → f.on_wire ≡ true → received_handle f n x m ≡ taken_handle (view f n) n x m
@@ -40,7 +41,7 @@ number_is f n x m e = λ i. record (taken_handle (view f n) n x m) { number = nu
 released-view : (s : State) (f : Fixed) (port n : ℕ) → f.on_wire ≡ true → view (released (with_fixed s f) port).fixed n ≡ view f n
 released-view s f port n e = ap (λ (t : State). view t.fixed n) (released-wire (with_fixed s f) port e)
 
-on_node : (h : Handle) (n n' : ℕ) → h.node ≡ n → (n' == n) ≡ false → (n' == h.node) ≡ false
+pub on_node : (h : Handle) (n n' : ℕ) → h.node ≡ n → (n' == n) ≡ false → (n' == h.node) ≡ false
 on_node h n n' e d = ap (λ k. n' == k) e ∙ d
 
 at-by : (u v : View) (port n : ℕ) → u ≡ v → IsAt v.ports port n → IsAt u.ports port n
@@ -149,4 +150,4 @@ settled-else s n n' payload (Drops h) wire hs p d =
 settled-else s n n' payload (DropsPort port) wire hs p d = absurd p
 settled-else s n n' payload (Forgets dead) wire hs p d =
     either (λ (t : State). view t.fixed n' ≡ view s.fixed n') (has_forgotten s.fixed n dead) s (forgets s n dead) (λ u. refl)
-    (λ u. (λ i. record (view s.fixed n') { forgot = put_at-else s.fixed.forgot n n' (s.fixed.forgot n ++ dead ∷ []) d i }))
+    (λ u. (λ i. record (view s.fixed n') { forgot = put_at-else s.fixed.forgot n (s.fixed.forgot n ++ dead ∷ []) n' d i }))

@@ -29,28 +29,22 @@ use Rattle.iox_model.specs.Releases.{states_of, closing, returning, releases_han
 use Rattle.iox_model.specs.Commands.{Refusal, Call, WireCall, number_of}
 use Rattle.iox_model.specs.Messages.{request_way, response_way}
 use Rattle.iox_model.specs.Peers.{port_at, others, forgotten, forgot_port}
+use Rattle.iox_model.proofs.CallLaws.{not-true}
 use Rattle.iox_model.proofs.MapLemmas.{either}
 use Rattle.iox_model.proofs.WholeLemmas.{some-is, or_else-none}
-use Rattle.iox_ledger.proofs.Lists.{among-append, IsAmong, never, not-is, none-some, find-among, map-among}
+use Rattle.iox_ledger.proofs.Truths.{never, none-some, passed, not-false, or-right}
+use Rattle.iox_ledger.proofs.Lists.{among-append, IsAmong, find-among, map-among}
 use Rattle.iox_ledger.proofs.Views.{role_in, View, view, IsAt, mine}
 use Rattle.iox_ledger.proofs.Senders.{is_loan, FitsHandles, FitsLoan, FitsDoing, TakesOn}
 use Rattle.iox_ledger.proofs.Phases.{role-of, HasOwnPorts, sends-fits, loaning-fits, visiting-fits, closing-fits, checking-fits, hinting-fits, seeking-fits}
 
 -- ---- what a call names
 
-passed : {A : Type 0} (b : Bool) (r : A) → refused_if b r ≡ None → b ≡ false
-passed true r e = absurd (none-some r (sym e))
-passed false r e = refl
-
 pub record IsNamedBy (f : Fixed) (node : ℕ) (call : Call) (o : Option Subject) : Type 0 where
   pub named : Subject
   pub is : o ≡ Some named
   pub of_node : node_of named ≡ node
   pub may : suits f.on_wire call (kind_of named) ≡ true
-
-not-false : (b : Bool) → not b ≡ false → b ≡ true
-not-false true e = refl
-not-false false e = absurd (true≢false e)
 
 pub named-by : (f : Fixed) (node : ℕ) (call : Call) (o : Option Subject) → misnamed_by f node call o ≡ None → IsNamedBy f node call o
 named-by f node call None e = absurd (none-some _ (sym e))
@@ -218,11 +212,7 @@ no_port false = refl
 
 pub write-loan : (role : Role) (k : Kind) → (if is_client role then is_request_loan k else is_response_loan k) ≡ true → is_loan k ≡ true
 write-loan Client k e = ap (λ b. b || is_response_loan k) e
-write-loan Server k e = or_last (is_request_loan k) (is_response_loan k) e
-  where
-    or_last : (a b : Bool) → b ≡ true → (a || b) ≡ true
-    or_last true b e = refl
-    or_last false b e = e
+write-loan Server k e = or-right (is_request_loan k) (is_response_loan k) e
 
 pub send-loan : (a b c d : Bool) → (a || c) ≡ true → ((a || b) || (c || d)) ≡ true
 send-loan true b c d e = refl
@@ -275,7 +265,7 @@ begins-fits s n c (Receive k) (TheHandle h) own expired wire fits is node e =
     )
 begins-fits s n c (Read k) (TheHandle h) own expired wire fits is node e = reads-fits (view s.fixed n) n c h
 begins-fits s n c (Release k) (ThePort p) own expired wire fits is node e =
-    absurd (never (is_port (if is_client p.role then kinds.Client else kinds.Server)) (no_port (is_client p.role)) (not-is _ e))
+    absurd (never (is_port (if is_client p.role then kinds.Client else kinds.Server)) (no_port (is_client p.role)) (not-true _ e))
 begins-fits s n c (Release k) (TheHandle h) own expired wire fits is node e = releases-fits s.fixed n h is
 begins-fits s n c (IsConnected k) (TheHandle h) own expired wire fits is node e = checking-fits (view s.fixed n) n h false (states_of s.fixed h)
 begins-fits s n c (SetHint k) (TheHandle h) own expired wire fits is node e = hinting-fits (view s.fixed n) n h (states_of s.fixed h)

@@ -3,12 +3,9 @@ use Rattle.std.specs.Prelude.{◌≡◌, ℕ, suc, ◌+◌, Bool, true, false, n
 use Rattle.std.proofs.Common.{sym, subst, ap, ◌∙◌, arith, eqb-true, eq-eqb, inl, inr}
 use Rattle.iox_model.specs.States.{Handle}
 use Rattle.iox_model.specs.Counts.{without_handle, with_handle}
-use Rattle.iox_ledger.proofs.Lists.{IsAmong, NoRepeats, never, among-map}
-use Rattle.iox_ledger.proofs.Borrows.{count, one_if, count-cons}
-
-pub append-nothing : {A : Type 0} (xs : List A) → xs ++ [] ≡ xs
-append-nothing [] = refl
-append-nothing (x ∷ xs) = ap (λ ys. x ∷ ys) (append-nothing xs)
+use Rattle.iox_ledger.proofs.Counts.{count, one_if, count-cons}
+use Rattle.iox_ledger.proofs.Truths.{never, and-first}
+use Rattle.iox_ledger.proofs.Lists.{IsAmong, NoRepeats, among-map}
 
 pub count-append : {A : Type 0} (test : A → Bool) (xs ys : List A) → count test (xs ++ ys) ≡ count test xs + count test ys
 count-append test [] ys = omega arith
@@ -92,13 +89,9 @@ pub but-same : (test : Handle → Bool) (n : ℕ) (hs : List Handle) → ((k : H
     → filter (passes_but test n) hs ≡ filter test hs
 but-same test n hs fails = filter-same (passes_but test n) test hs (λ k a. by_case k a (n == k.number) refl)
   where
-    and_true : (a : Bool) → (a && true) ≡ a
-    and_true true = refl
-    and_true false = refl
-
     by_case : (k : Handle) → IsAmong k hs → (b : Bool) → (n == k.number) ≡ b → (test k && not b) ≡ test k
     by_case k a true e = rw (fails k a (eqb-true n k.number e)) refl
-    by_case k a false e = and_true (test k)
+    by_case k a false e = and-first (test k)
 
 -- one is lost
 pub but-one : (test : Handle → Bool) (value : ℕ → Bool) (h : Handle) (hs : List Handle) → NoRepeats (map (λ k. k.number) hs) → IsAmong h hs

@@ -14,9 +14,10 @@ use Rattle.iox_model.specs.Handles.{is_request_loan, is_received, same_kind, way
 use Rattle.iox_model.specs.Maps.{has_number, put_at, put, same_way}
 use Rattle.iox_model.specs.Messages.{Message, request_way, response_way}
 use Rattle.iox_model.specs.Counts.{without_handle, with_handle, added, changed, dropped, lent, borrows, gives_up, sent_handle, holding}
+use Rattle.iox_model.proofs.CallLaws.{put_at-else}
 use Rattle.iox_model.proofs.MapLemmas.{either, same_way-true}
 use Rattle.iox_model.proofs.WholeLemmas.{put_at-here}
-use Rattle.iox_ledger.proofs.Lists.{never}
+use Rattle.iox_ledger.proofs.Truths.{never}
 
 -- what a node has: its handles, the number of its next one, how many loans its ports made, what its
 -- receivers have of each way, and whom it forgot
@@ -110,9 +111,6 @@ after_call v n payload (Forgets dead) =
 pub put_at-at : {A : Type 0} (g : ℕ → A) (k n : ℕ) (F : A → A) → k ≡ n → put_at g k (F (g k)) n ≡ F (g n)
 put_at-at g k n F e = subst (λ j. put_at g k (F (g k)) j ≡ F (g j)) e (put_at-here g k (F (g k)))
 
-pub put_at-else : {A : Type 0} (g : ℕ → A) (k n : ℕ) (a : A) → (n == k) ≡ false → put_at g k a n ≡ g n
-put_at-else g k n a e = rw e refl
-
 masked-here : {K : Type 0} (P : K → Bool) (g : K → ℕ) (k q : K) (F : ℕ → ℕ) (b : Bool) → (b ≡ true → q ≡ k) → P k ≡ true
     → (if P q then (if b then F (g k) else g q) else 0) ≡ (if b then F (if P k then g k else 0) else (if P q then g q else 0))
 masked-here P g k q F true same e = rw (ap P (same refl) ∙ e, e) refl
@@ -145,19 +143,19 @@ pub here-added : (f : Fixed) (h : Handle) (n : ℕ) → h.node ≡ n → view (a
 here-added f h n e = λ i. record (view f n) { handles = put_at-at f.handles h.node n (λ hs. hs ++ h ∷ []) e i }
 
 pub else-added : (f : Fixed) (h : Handle) (n : ℕ) → (n == h.node) ≡ false → view (added f h) n ≡ view f n
-else-added f h n e = λ i. record (view f n) { handles = put_at-else f.handles h.node n (f.handles h.node ++ h ∷ []) e i }
+else-added f h n e = λ i. record (view f n) { handles = put_at-else f.handles h.node (f.handles h.node ++ h ∷ []) n e i }
 
 pub here-changed : (f : Fixed) (h : Handle) (n : ℕ) → h.node ≡ n → view (changed f h) n ≡ swapped (view f n) h
 here-changed f h n e = λ i. record (view f n) { handles = put_at-at f.handles h.node n (with_handle h) e i }
 
 pub else-changed : (f : Fixed) (h : Handle) (n : ℕ) → (n == h.node) ≡ false → view (changed f h) n ≡ view f n
-else-changed f h n e = λ i. record (view f n) { handles = put_at-else f.handles h.node n (with_handle h (f.handles h.node)) e i }
+else-changed f h n e = λ i. record (view f n) { handles = put_at-else f.handles h.node (with_handle h (f.handles h.node)) n e i }
 
 pub here-dropped : (f : Fixed) (h : Handle) (n : ℕ) → h.node ≡ n → view (dropped f h) n ≡ less (view f n) h
 here-dropped f h n e = λ i. record (view f n) { handles = put_at-at f.handles h.node n (without_handle h) e i }
 
 pub else-dropped : (f : Fixed) (h : Handle) (n : ℕ) → (n == h.node) ≡ false → view (dropped f h) n ≡ view f n
-else-dropped f h n e = λ i. record (view f n) { handles = put_at-else f.handles h.node n (without_handle h (f.handles h.node)) e i }
+else-dropped f h n e = λ i. record (view f n) { handles = put_at-else f.handles h.node (without_handle h (f.handles h.node)) n e i }
 
 pub here-lent : (f : Fixed) (port n : ℕ) → IsAt f.ports port n → view (lent f port) n ≡ lends_one (view f n) port
 here-lent f port n e = λ i. record (view f n) {

@@ -14,7 +14,8 @@ use Rattle.iox_model.specs.Steps.{next}
 use Rattle.iox_model.proofs.WholeLemmas.{moved-fixed, or_else-none}
 use Rattle.iox_model.proofs.WireLemmas.{beat-wire, settled_same}
 use Rattle.iox_ledger.specs.OnceLaws.{HasOwnNumbers}
-use Rattle.iox_ledger.proofs.Lists.{IsAmong, NoRepeats, none-some, distinct-no_repeats}
+use Rattle.iox_ledger.proofs.Truths.{none-some}
+use Rattle.iox_ledger.proofs.Lists.{IsAmong, NoRepeats, distinct-no_repeats}
 use Rattle.iox_ledger.proofs.Views.{View, view}
 use Rattle.iox_ledger.proofs.Senders.{OnWay, FitsHandles, FitsOutcome, FitsDoing}
 use Rattle.iox_ledger.proofs.Settling.{settled-here, settled-else}
