@@ -1,5 +1,5 @@
 -- A node by itself brings its call to the end.
-use Rattle.std.specs.Prelude.{◌≡◌, ℕ, ◌+◌, Bool, true, false, not, ◌&&◌, if◌then◌else◌, ◌==◌, nat_lt, nat_le, List, [], ◌∷◌, ◌++◌, length, map, Option, Some, None, refl}
+use Rattle.std.specs.Prelude.{◌≡◌, ℕ, ◌+◌, Bool, true, false, not, if◌then◌else◌, ◌==◌, nat_lt, nat_le, List, [], ◌∷◌, ◌++◌, length, map, Option, Some, None, refl}
 use Rattle.std.specs.List.{list_any}
 use Rattle.std.proofs.Common.{sym, subst, ap, ap₂, ◌∙◌, true≢false, arith}
 use Rattle.iox_model.specs.declared.kind.Role.TheVariants.{Client, Server}
@@ -26,11 +26,11 @@ use Rattle.iox_model.specs.Peers.{forgot_port, others, buffer_on}
 use Rattle.iox_model.proofs.MapLemmas.{either, same_way-refl, is_in-first, eqb-refl, put_there}
 use Rattle.iox_model.proofs.Plays.{has_room, is_full}
 use Rattle.iox_model.proofs.WholeLemmas.{moved-fixed}
-use Rattle.iox_reachable.proofs.WayLemmas.{by_cases}
 use Rattle.iox_reachable.proofs.PortLemmas.{AreDistinctPorts}
 use Rattle.iox_reachable.proofs.Sound.{SoundCall}
 use Rattle.iox_reachable.proofs.MovesFit.{moved_sound}
 use Rattle.iox_reachable.proofs.GoesOn.{first_there}
+use Rattle.iox_ledger.proofs.Truths.{both_true, by_cases}
 
 -- some moments lead the call to its end
 abbrev pub CanEnd : State → ℕ → Doing → Type 0
@@ -84,20 +84,16 @@ seeking_ends s node (w ∷ left) =
     (subst (λ l. CanEnd s node (seeking l)) (sym (without-first w left)) (seeking_ends s node left)))
     (λ e. step s node (Seeking (w ∷ left)) (SeesWaiting w) (ap not e) (is_in-first w left) (now s node (Ended (Tells (Answer true))) (Tells (Answer true)) refl))
 
-both_hold : (a b : Bool) → a ≡ true → b ≡ true → (a && b) ≡ true
-both_hold true b e f = f
-both_hold false b e f = e
-
 leaving_ends : (s : State) (node : ℕ) (h : Handle) → CanEnd s node (Leaving h)
 leaving_ends s node h =
-    step s node (Leaving h) (Close (own_state h) h.request) tt (both_hold (same_way (own_state h) (own_state h)) (h.request == h.request) (same_way-refl (own_state h)) (eqb-refl h.request))
+    step s node (Leaving h) (Close (own_state h) h.request) tt (both_true (same_way (own_state h) (own_state h)) (h.request == h.request) (same_way-refl (own_state h)) (eqb-refl h.request))
     (now (moved s (Close (own_state h) h.request)) node (Ended (Drops h)) (Drops h) refl)
 
 returning_ends : (s : State) (node : ℕ) (h : Handle) → CanEnd s node (Returning h)
 returning_ends s node h =
     let t : State = moved s (GiveBack (way_of h) h.message.serial) in
     step s node (Returning h) (GiveBack (way_of h) h.message.serial) tt
-    (both_hold (same_way (way_of h) (way_of h)) (h.message.serial == h.message.serial) (same_way-refl (way_of h)) (eqb-refl h.message.serial))
+    (both_true (same_way (way_of h) (way_of h)) (h.message.serial == h.message.serial) (same_way-refl (way_of h)) (eqb-refl h.message.serial))
     (either (CanEnd t node) (same_kind h.kind ActiveRequest) (Leaving h) (Ended (Drops h)) (λ u. leaving_ends t node h) (λ u. now t node (Ended (Drops h)) (Drops h) refl))
 
 -- ---- receives
@@ -106,7 +102,7 @@ returning_ends s node h =
 stale_ends : (s : State) (node : ℕ) (x : Receiver) (w : Way) (m : Message) (left : List Way) (seen : Bool)
     → ((t : State) → t.waiting w ≡ s.waiting w → CanEnd t node (Again x w left seen)) → CanEnd s node (Stale x w m left seen)
 stale_ends s node x w m left seen again =
-    step s node (Stale x w m left seen) (GiveBack w m.serial) tt (both_hold (same_way w w) (m.serial == m.serial) (same_way-refl w) (eqb-refl m.serial))
+    step s node (Stale x w m left seen) (GiveBack w m.serial) tt (both_true (same_way w w) (m.serial == m.serial) (same_way-refl w) (eqb-refl m.serial))
     (again (moved s (GiveBack w m.serial)) refl)
 
 judging_ends : (s : State) (node : ℕ) (x : Receiver) (w : Way) (m : Message) (left : List Way) (seen : Bool)

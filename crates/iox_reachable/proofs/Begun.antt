@@ -29,25 +29,18 @@ use Rattle.iox_model.specs.declared.kind.Kind.TheVariants as kinds
 use Rattle.iox_model.proofs.MapLemmas.{either}
 use Rattle.iox_model.proofs.PlayedRuns.{split}
 use Rattle.iox_model.proofs.WholeLemmas.{some-is, or_else-none}
-use Rattle.iox_reachable.proofs.WayLemmas.{or-left, or-right, all_map, from-lending}
+use Rattle.iox_reachable.proofs.WayLemmas.{all_map, from-lending}
 use Rattle.iox_reachable.proofs.Sound.{IsTo, IsPortOf, is_port_of, IsOwn, has_own, Fits, IsWithin}
 use Rattle.iox_reachable.proofs.PortLemmas.{AreDistinctPorts}
 use Rattle.iox_reachable.proofs.Continues.{sends_fits, loaning_fits, visiting_fits, seeking_fits, closing_fits, checking_fits, hinting_fits}
+use Rattle.iox_ledger.proofs.Lists.{among-any, find-among}
+use Rattle.iox_ledger.proofs.Truths.{none-some, passes}
 
 -- ---- what is found
 
 abbrev IsNot : {A : Type 0} → Option A → Type 0
 IsNot None = Unit {0}
 IsNot (Some x) = ⊥
-
-pub none-some : {A : Type 0} {P : Type 0} (x : A) → None ≡ Some x → P
-none-some x e = absurd (subst IsNot e tt)
-
-found_passes : {A : Type 0} (test : A → Bool) (xs : List A) (x : A) → find test xs ≡ Some x → test x ≡ true
-found_passes test [] x e = none-some x e
-found_passes test (y ∷ ys) x e =
-    either (λ o. o ≡ Some x → test x ≡ true) (test y) (Some y) (find test ys) (λ is p. ap test (sym (some-is y x p)) ∙ is)
-    (λ other p. found_passes test ys x p) e
 
 found_too : {A : Type 0} (also test : A → Bool) (xs : List A) (x : A) → list_all also xs ≡ true → find test xs ≡ Some x → also x ≡ true
 found_too also test [] x all e = none-some x e
@@ -57,10 +50,7 @@ found_too also test (y ∷ ys) x all e =
     (λ other p. found_too also test ys x q.1 p) e
 
 found_any : {A : Type 0} (test : A → Bool) (xs : List A) (x : A) → find test xs ≡ Some x → list_any test xs ≡ true
-found_any test [] x e = none-some x e
-found_any test (y ∷ ys) x e =
-    either (λ o. o ≡ Some x → list_any test (y ∷ ys) ≡ true) (test y) (Some y) (find test ys)
-    (λ is p. or-left (test y) (list_any test ys) is) (λ other p. or-right (test y) (list_any test ys) (found_any test ys x p)) e
+found_any test xs x e = among-any test x xs (find-among test x xs e).0 (find-among test x xs e).1
 
 -- ---- the subject of a call
 
@@ -71,7 +61,7 @@ IsSubject f node (TheHandle h) = IsOwn f node h
 
 -- a port that has its number is at it
 port_number : (f : Fixed) (n : ℕ) (p : Port) → port_at f n ≡ Some p → p.number ≡ n
-port_number f n p e = eqb-true p.number n (found_passes (λ q. q.number == n) f.ports p e)
+port_number f n p e = eqb-true p.number n (find-among (λ q. q.number == n) p f.ports e).1
 
 port_node : (f : Fixed) (n : ℕ) (p : Port) → port_at f n ≡ Some p → node_of_port f n ≡ p.node
 port_node f n p e = ap (λ o. option_map_or (λ (q : Port). q.node) o 0) e
@@ -212,10 +202,6 @@ begins_fit s node c (HasResponse n) (TheHandle h) distinct own within suited = s
 begins_fit s node c call x distinct own within suited = tt
 
 -- ---- a call that is not misnamed
-
-passes : (b : Bool) (r : Refusal) → refused_if (not b) r ≡ None → b ≡ true
-passes true r e = refl
-passes false r e = none-some r (sym e)
 
 start_at_fits : (s : State) (node : ℕ) (c : Choice) (call : Call) (x : Option Subject) → AreDistinctPorts s.fixed
     → has_own s.fixed node ≡ true → IsWithin s node None → subject s.fixed node (number_of call) ≡ x → misnamed_by s.fixed node call x ≡ None

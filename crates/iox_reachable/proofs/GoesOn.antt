@@ -16,8 +16,8 @@ use Rattle.iox_model.specs.Steps.{ends}
 use Rattle.iox_model.proofs.MapLemmas.{same_way-refl, is_in-first}
 use Rattle.iox_model.proofs.Plays.{chosen, MayBe, chosen_may_come}
 use Rattle.iox_reachable.specs.GoingOn.{MayMove, MayEnd}
-use Rattle.iox_reachable.proofs.WayLemmas.{by_cases}
 use Rattle.iox_reachable.proofs.Sound.{Fits}
+use Rattle.iox_ledger.proofs.Truths.{by_cases}
 
 -- ---- what a new loan may hold
 

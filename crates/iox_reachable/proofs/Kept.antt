@@ -2,7 +2,7 @@
 use Rattle.std.specs.Prelude.{◌≡◌, ℕ, ◌+◌, true, if◌then◌else◌, ◌==◌, nat_lt, nat_le, List, length, Option, Some, None, find, refl}
 use Rattle.std.specs.List.{list_any}
 use Rattle.std.specs.Option.{option_map_or}
-use Rattle.std.proofs.Common.{sym, subst, ap, ap₂, ◌∙◌, arith}
+use Rattle.std.proofs.Common.{sym, subst, ap, ap₂, ◌∙◌}
 use Rattle.iox_model.specs.declared.kind.Role.TheVariants.{Client}
 use Rattle.iox_model.specs.declared.way.Way.{Way}
 use Rattle.iox_model.specs.Doings.{Sending, Outcome, Tells, Loans, Fills, Sends, FailsToSend, Receives, Drops, DropsPort, Forgets, Doing, Ended, Loaning, Asking, Emptying, Looking, Opening, Delivering, Evicted, Visiting, Again, Judging, Stale, Closing, Returning, Leaving, Checking, Hinting, Seeking}
@@ -16,6 +16,7 @@ use Rattle.iox_model.specs.Peers.{role_at, node_of_port, buffer_on}
 use Rattle.iox_model.proofs.Plays.{has_room}
 use Rattle.iox_reachable.proofs.WayLemmas.{not_in-has, from-targets}
 use Rattle.iox_reachable.proofs.Sound.{AreFrom, IsPortOf, IsOwn, HaveRoom, IsSending, FitsOutcome, Fits, FitsCall, last_of, IsWithin, SoundCall}
+use Rattle.iox_ledger.proofs.Orders.{le-le, le-less}
 
 -- ---- the same ports and limits, on a wire or not
 
@@ -57,16 +58,10 @@ pub record Leaves (s t : State) (node : ℕ) : Type 0 where
   pub waiting : (v : Way) → IsPortOf s.fixed node v.sender → nat_le (length (t.waiting v)) (length (s.waiting v)) ≡ true
   pub in_hand : (v : Way) → IsPortOf s.fixed node v.sender → t.in_hand v ≡ s.in_hand v
 
-at_most : (a b c : ℕ) → nat_le a b ≡ true → nat_le b c ≡ true → nat_le a c ≡ true
-at_most a b c e h = grind (arith)
-
-less_still : (a b c : ℕ) → nat_le a b ≡ true → nat_lt b c ≡ true → nat_lt a c ≡ true
-less_still a b c e h = grind (arith)
-
 room_kept : (s t : State) (node : ℕ) (v : Way) → Leaves s t node → IsPortOf s.fixed node v.sender → has_room s v ≡ true → has_room t v ≡ true
 room_kept s t node v l of_node e =
     subst (λ k. nat_lt (length (t.waiting v)) k ≡ true) (sym (same_room s.fixed t.fixed v l.fixed))
-    (less_still (length (t.waiting v)) (length (s.waiting v)) (room_on s.fixed v) (l.waiting v of_node) e)
+    (le-less (length (t.waiting v)) (length (s.waiting v)) (room_on s.fixed v) (l.waiting v of_node) e)
 
 pub within_kept : (s t : State) (node : ℕ) (last : Option Way) → SamePorts s.fixed t.fixed
     → ((v : Way) → IsPortOf s.fixed node v.sender → nat_le (length (t.waiting v)) (length (s.waiting v)) ≡ true)
@@ -74,7 +69,7 @@ pub within_kept : (s t : State) (node : ℕ) (last : Option Way) → SamePorts s
 within_kept s t node last same fewer p v of_node =
     let here : IsPortOf s.fixed node v.sender = port_back s.fixed t.fixed node v.sender same of_node in
     subst (λ k. nat_le (length (t.waiting v)) (k + (if is_last v last then 1 else 0)) ≡ true) (sym (same_buffer s.fixed t.fixed v same))
-    (at_most (length (t.waiting v)) (length (s.waiting v)) (buffer_on s.fixed v + (if is_last v last then 1 else 0)) (fewer v here) (p v here))
+    (le-le (length (t.waiting v)) (length (s.waiting v)) (buffer_on s.fixed v + (if is_last v last then 1 else 0)) (fewer v here) (p v here))
 
 own_kept : (f g : Fixed) (node : ℕ) (h : Handle) → SamePorts f g → IsOwn f node h → IsOwn g node h
 own_kept f g node h e p = (p.0, port_kept f g node h.port e p.1)

@@ -8,6 +8,8 @@ pub mod MovesFit
 pub mod Begun
 pub mod Settled
 pub mod GoesOn
+pub mod Inductions
+pub mod PortsKept
 pub mod ServedPorts
 pub mod Reached
 pub mod Waiting

@@ -15,15 +15,14 @@ use Rattle.iox_model.specs.Peers.{role_at, node_of_port, buffer_on}
 use Rattle.iox_model.proofs.CallLaws.{not-true}
 use Rattle.iox_model.proofs.MapLemmas.{either, same_way-refl, same_way-true, put_there, put-else, eqb-refl}
 use Rattle.iox_model.proofs.WholeLemmas.{moved-fixed}
-use Rattle.iox_reachable.proofs.WayLemmas.{by_cases, false_if}
 use Rattle.iox_reachable.proofs.Sound.{IsPortOf, IsLast, IsSending, Fits, last_of, IsWithin}
 use Rattle.iox_reachable.proofs.Kept.{Leaves, from_own}
 use Rattle.iox_reachable.proofs.Continues.{within_any}
+use Rattle.iox_ledger.proofs.Truths.{by_cases, false_if}
+use Rattle.iox_ledger.proofs.Lists.{length-last}
+use Rattle.iox_ledger.proofs.Orders.{le-le, le-refl}
 
 -- ---- how many wait after a moment
-
-le-refl : (n : ℕ) → nat_le n n ≡ true
-le-refl n = grind (arith)
 
 rest-less : (xs : List Message) → nat_le (length (rest_of xs)) (length xs) ≡ true
 rest-less [] = refl
@@ -117,9 +116,6 @@ moved_leaves s node n d m p c other = record {
 
 -- ---- how many wait on the own ways
 
-at_most : (a b c : ℕ) → nat_le a b ≡ true → nat_le b c ≡ true → nat_le a c ≡ true
-at_most a b c e h = grind (arith)
-
 not_over : (n b : ℕ) → nat_lt b n ≡ false → nat_le n (b + 0) ≡ true
 not_over n b e = grind (arith)
 
@@ -131,10 +127,6 @@ calm s node (Some u) e p v of_node =
     (λ same. subst (λ w. nat_le (length (s.waiting w)) (buffer_on s.fixed w + 0) ≡ true) (sym (same_way-true v u same))
     (not_over (length (s.waiting u)) (buffer_on s.fixed u) e))
     (λ other. subst (λ (b : Bool). nat_le (length (s.waiting v)) (buffer_on s.fixed v + (if b then 1 else 0)) ≡ true) other (p v of_node))
-
-length-more : (xs : List Message) (m : Message) → length (xs ++ m ∷ []) ≡ length xs + 1
-length-more [] m = refl
-length-more (x ∷ xs) m = let e : length (xs ++ m ∷ []) ≡ length xs + 1 = length-more xs m in grind (e, arith)
 
 one_more : (n r : ℕ) → nat_lt n r ≡ true → nat_le (n + 1) r ≡ true
 one_more n r e = grind (arith)
@@ -153,7 +145,7 @@ delivered_within s node x last w m own from room over p v of_node =
     (sym (same_way-true v w same))
     (subst (λ (xs : List Message). nat_le (length xs) (buffer_on s.fixed w + (if is_last w (may_evict x w) then 1 else 0)) ≡ true)
     (sym (put_there s.waiting w (s.waiting w ++ m ∷ [])))
-    (subst (λ k. nat_le k (buffer_on s.fixed w + (if is_last w (may_evict x w) then 1 else 0)) ≡ true) (sym (length-more (s.waiting w) m))
+    (subst (λ k. nat_le k (buffer_on s.fixed w + (if is_last w (may_evict x w) then 1 else 0)) ≡ true) (sym (length-last (s.waiting w) m))
     (subst (λ (b : Bool). nat_le (length (s.waiting w) + 1) (buffer_on s.fixed w + (if b then 1 else 0)) ≡ true)
     (ap (λ port. overflow_of s.fixed.limits (role_at s.fixed port)) from ∙ sym own.1 ∙ sym (last_evicts x w))
     (one_more (length (s.waiting w)) (room_on s.fixed w) room)))))
@@ -182,7 +174,7 @@ quiet_within : (s : State) (node : ℕ) (m : Moment) (last : Option Way) → IsN
 quiet_within s node m last quiet p =
     within_any (moved s m) node last
     (λ v of_node. subst (λ (f : Fixed). nat_le (length ((moved s m).waiting v)) (buffer_on f v + 0) ≡ true) (sym (moved-fixed s m))
-    (at_most (length ((moved s m).waiting v)) (length (s.waiting v)) (buffer_on s.fixed v + 0) (no_more s m v quiet)
+    (le-le (length ((moved s m).waiting v)) (length (s.waiting v)) (buffer_on s.fixed v + 0) (no_more s m v quiet)
     (p v (subst (λ (f : Fixed). IsPortOf f node v.sender) (moved-fixed s m) of_node))))
 
 pub moved_within : (s : State) (node : ℕ) (d : Doing) (m : Moment) → IsWithin s node (last_of (Some d)) → Fits s node d → Holds s m

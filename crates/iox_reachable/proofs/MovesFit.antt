@@ -1,5 +1,5 @@
 -- What a call has left to do after a moment can be done.
-use Rattle.std.specs.Prelude.{◌≡◌, ℕ, ◌+◌, Bool, true, false, if◌then◌else◌, nat_lt, nat_le, List, [], ◌∷◌, ◌++◌, length, Some, None, take, refl}
+use Rattle.std.specs.Prelude.{◌≡◌, ℕ, ◌+◌, Bool, true, false, if◌then◌else◌, nat_lt, List, [], ◌∷◌, ◌++◌, length, Some, None, take, refl}
 use Rattle.std.proofs.Common.{sym, subst, ap, ◌∙◌, true≢false, arith}
 use Rattle.iox_model.specs.declared.way.Way.{Way}
 use Rattle.iox_model.specs.Doings.{Receiver, Sending, Doing, Ended, Loaning, Asking, Emptying, Looking, Opening, Delivering, Evicted, Visiting, Again, Judging, Stale, Closing, Returning, Leaving, Checking, Hinting, Seeking}
@@ -13,11 +13,14 @@ use Rattle.iox_model.specs.Steps.{next}
 use Rattle.iox_model.specs.Peers.{buffer_on, overflows_on}
 use Rattle.iox_model.proofs.MapLemmas.{either, same_way-true, put_there, put-else}
 use Rattle.iox_model.proofs.Plays.{has_room}
-use Rattle.iox_reachable.proofs.WayLemmas.{by_cases, or-false, has_way-without, not-has_way-without, apart-gone, apart-without}
+use Rattle.iox_reachable.proofs.WayLemmas.{has_way-without, apart-gone, apart-without}
 use Rattle.iox_reachable.proofs.Sound.{AreFrom, AreTo, IsLast, HaveRoom, Fits, last_of, IsWithin, SoundCall}
 use Rattle.iox_reachable.proofs.PortLemmas.{AreDistinctPorts}
 use Rattle.iox_reachable.proofs.Continues.{opening_fits, looking_fits, emptying_fits, asked_fits, loaning_fits, visiting_fits, took_fits, judged_fits, seeking_fits, closing_fits, given_back_fits, checked_fits, hinting_fits}
 use Rattle.iox_reachable.proofs.Moves.{taken-less, last_is, moved_within}
+use Rattle.iox_ledger.proofs.Emptied.{other-left}
+use Rattle.iox_ledger.proofs.Truths.{by_cases, or-false}
+use Rattle.iox_ledger.proofs.Orders.{le-less}
 
 -- those that are left once one is taken out
 left_from : (port : ℕ) (w : Way) (left : List Way) → AreFrom port left → AreFrom port (without_way w left)
@@ -39,9 +42,6 @@ room_seen s w v e same =
 
 -- ---- deliveries and evictions
 
-less_still : (a b c : ℕ) → nat_le a b ≡ true → nat_lt b c ≡ true → nat_lt a c ≡ true
-less_still a b c e h = grind (arith)
-
 room_after_delivery : (s : State) (w : Way) (m : Message) (left : List Way) → AreApart left → HaveRoom s left
     → HaveRoom (moved s (Deliver w m)) (without_way w left)
 room_after_delivery s w m left apart rooms v there =
@@ -50,7 +50,7 @@ room_after_delivery s w m left apart rooms v there =
 
 room_after_eviction : (s : State) (w : Way) (left : List Way) → HaveRoom s left → HaveRoom (moved s (Evict w)) left
 room_after_eviction s w left rooms v there =
-    less_still (length (put s.waiting w (rest_of (s.waiting w)) v)) (length (s.waiting v)) (room_on s.fixed v) (taken-less s.waiting w v) (rooms v there)
+    le-less (length (put s.waiting w (rest_of (s.waiting w)) v)) (length (s.waiting v)) (room_on s.fixed v) (taken-less s.waiting w v) (rooms v there)
 
 evicts_from : (x : Sending) (w : Way) → w.sender ≡ x.loan.port → IsLast x (may_evict x w)
 evicts_from x w from = either (IsLast x) x.overflow (Some w) None (λ over. (from, over)) (λ u. tt)
@@ -84,10 +84,10 @@ moved_fits s node (Emptying x left) m ports in_ p h c = absurd c
 moved_fits s node (Looking x left full) (SeesFull w) ports in_ p h c =
     looking_fits s node x (without_way w left) (w ∷ full) p.0
     (λ v target seen room. p.2 v target
-    (not-has_way-without v w left (or-false (same_way v w) (has_way v full) room).0 seen) (or-false (same_way v w) (has_way v full) room).1)
+    (other-left v w left (or-false (same_way v w) (has_way v full) room).0 seen) (or-false (same_way v w) (has_way v full) room).1)
 moved_fits s node (Looking x left full) (SeesRoom w) ports in_ p h c =
     looking_fits s node x (without_way w left) full p.0
-    (λ v target seen room. by_cases (same_way v w) (room_seen s w v h) (λ other. p.2 v target (not-has_way-without v w left other seen) room))
+    (λ v target seen room. by_cases (same_way v w) (room_seen s w v h) (λ other. p.2 v target (other-left v w left other seen) room))
 moved_fits s node (Looking x left full) m ports in_ p h c = absurd c
 moved_fits s node (Opening x left full) (Open w id) ports in_ p h c =
     opening_fits (moved s (Open w id)) node x (without_way w left) full p.0 p.2

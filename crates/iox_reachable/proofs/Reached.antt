@@ -1,6 +1,6 @@
 -- Each world that may come about is sound, so no call of a living node is stuck.
-use Rattle.std.specs.Prelude.{◌≡◌, ℕ, Bool, true, false, if◌then◌else◌, ◌+◌, ◌==◌, nat_le, List, [], ◌∷◌, length, map, Option, Some, None, is_some, refl}
-use Rattle.std.proofs.Common.{sym, subst, ap, ◌∙◌, eqb-true, arith}
+use Rattle.std.specs.Prelude.{◌≡◌, ℕ, Bool, true, false, if◌then◌else◌, ◌+◌, ◌==◌, List, [], ◌∷◌, length, map, Option, Some, None, is_some, refl}
+use Rattle.std.proofs.Common.{sym, subst, ap, ◌∙◌, eqb-true}
 use Rattle.iox_model.specs.declared.way.Way.{Way}
 use Rattle.iox_model.specs.declared.reply.Refusal.TheVariants.{Busy}
 use Rattle.iox_model.specs.Doings.{Sending, Outcome, Sends, Doing, Ended, Delivering}
@@ -21,17 +21,18 @@ use Rattle.iox_model.proofs.WholeLemmas.{moved-fixed, or_else-none, some-is}
 use Rattle.iox_reachable.specs.Worlds.{IsReachable}
 use Rattle.iox_reachable.specs.GoingOn.{NeverStuck}
 use Rattle.iox_reachable.specs.OnWires.{ReachableIsOnWire}
-use Rattle.iox_reachable.proofs.WayLemmas.{by_cases}
 use Rattle.iox_reachable.proofs.Sound.{has_own, FitsOutcome, Fits, FitsCall, last_of, IsWithin, SoundCall, Sound}
 use Rattle.iox_reachable.proofs.Kept.{same_ports, within_kept, sound_kept}
 use Rattle.iox_reachable.proofs.PortLemmas.{AreDistinctPorts}
 use Rattle.iox_reachable.proofs.Continues.{within_any}
 use Rattle.iox_reachable.proofs.Moves.{calm, moved_leaves}
 use Rattle.iox_reachable.proofs.MovesFit.{moved_sound}
-use Rattle.iox_reachable.proofs.Begun.{none-some, start_fits}
+use Rattle.iox_reachable.proofs.Begun.{start_fits}
 use Rattle.iox_reachable.proofs.Settled.{settled_on_wire, settled_ports, settled_own, settled_waiting, settled_leaves}
 use Rattle.iox_reachable.proofs.GoesOn.{goes_on}
 use Rattle.iox_reachable.proofs.ServedPorts.{served_ports}
+use Rattle.iox_ledger.proofs.Truths.{by_cases, none-some}
+use Rattle.iox_ledger.proofs.Orders.{le-refl, le-zero}
 
 -- the calls of all nodes, once one of them has that left to do
 put_sound : (s : State) (doing : ℕ → Option Doing) (node : ℕ) (o : Option Doing) → SoundCall s node o
@@ -116,9 +117,6 @@ over_sound w node payload d o is ended p =
 
 -- ---- a death
 
-le-refl : (n : ℕ) → nat_le n n ≡ true
-le-refl n = grind (arith)
-
 dead_sound : (w : World) (node : ℕ) → Sound w → Sound (record w { state = with_death w.state node })
 dead_sound w node p = record {
   on_wire = p.on_wire;
@@ -144,15 +142,12 @@ weave_sound : (w v : World) (bs : List Beat) → IsWeave w bs v → Sound w → 
 weave_sound w v [] weave p = subst Sound (sym weave) p
 weave_sound w v (b ∷ bs) weave p = weave_sound weave.0 v bs weave.2 (beat_sound w weave.0 b weave.1 p)
 
-none_waits : (n : ℕ) → nat_le 0 n ≡ true
-none_waits n = grind (arith)
-
 pub opened_sound : (s : State) → AreDistinctPorts s.fixed → Sound (at_work (opened s))
 opened_sound s distinct = record {
   on_wire = refl;
   distinct = distinct;
   own = λ n. refl;
-  calls = λ n. ((λ v of_node. none_waits (buffer_on (opened s).fixed v + 0)), tt);
+  calls = λ n. ((λ v of_node. le-zero (buffer_on (opened s).fixed v + 0)), tt);
 }
 
 -- Every world that may come about is sound.

@@ -2,7 +2,7 @@
 use Rattle.std.specs.Prelude.{◌≡◌, ℕ, ◌+◌, ◌-◌, Bool, true, false, not, ◌&&◌, ◌==◌, nat_le, List, [], ◌∷◌, ◌++◌, length, find, refl}
 use Rattle.std.specs.List.{list_any, list_all}
 use Rattle.std.specs.Option.{option_map_or}
-use Rattle.std.proofs.Common.{sym, subst, ap, ◌∙◌, eq-eqb, eqb-true, true≢false, arith}
+use Rattle.std.proofs.Common.{sym, subst, ap, ◌∙◌, eq-eqb, eqb-true, true≢false}
 use Rattle.iox_model.specs.declared.way.Way.{Way}
 use Rattle.iox_model.specs.Expiries.{released}
 use Rattle.iox_model.specs.Forgetting.{has_forgotten, forgets}
@@ -19,33 +19,31 @@ use Rattle.iox_model.proofs.PlayedRuns.{split}
 use Rattle.iox_model.proofs.WireLemmas.{released-wire, settled_same}
 use Rattle.iox_reachable.proofs.Sound.{IsPortOf, is_port_of, IsOwn, has_own, FitsOutcome}
 use Rattle.iox_reachable.proofs.Kept.{Leaves, SamePorts}
+use Rattle.iox_ledger.proofs.Orders.{le-refl}
+use Rattle.iox_ledger.proofs.Truths.{both_true}
 
 -- ---- handles that belong to ports of their node
 
 abbrev belong : Fixed → ℕ → List Handle → Bool
 belong f node hs = list_all (λ h. is_port_of f node h.port) hs
 
-and_true : (a b : Bool) → a ≡ true → b ≡ true → (a && b) ≡ true
-and_true true b e p = p
-and_true false b e p = e
-
-is-port_of : (f : Fixed) (node port : ℕ) → IsPortOf f node port → is_port_of f node port ≡ true
+pub is-port_of : (f : Fixed) (node port : ℕ) → IsPortOf f node port → is_port_of f node port ≡ true
 is-port_of f node port p =
-    and_true (is_connected_port f port) (node_of_port f port == node) p.0 (eq-eqb (node_of_port f port) node p.1)
+    both_true (is_connected_port f port) (node_of_port f port == node) p.0 (eq-eqb (node_of_port f port) node p.1)
 
 belong-append : (f : Fixed) (node : ℕ) (hs : List Handle) (h : Handle) → belong f node hs ≡ true → IsPortOf f node h.port
     → belong f node (hs ++ h ∷ []) ≡ true
-belong-append f node [] h all own = and_true (is_port_of f node h.port) true (is-port_of f node h.port own) refl
+belong-append f node [] h all own = both_true (is_port_of f node h.port) true (is-port_of f node h.port own) refl
 belong-append f node (k ∷ ks) h all own =
     let q : (is_port_of f node k.port ≡ true) × (belong f node ks ≡ true) = split (is_port_of f node k.port) (belong f node ks) all in
-    and_true (is_port_of f node k.port) (belong f node (ks ++ h ∷ [])) q.0 (belong-append f node ks h q.1 own)
+    both_true (is_port_of f node k.port) (belong f node (ks ++ h ∷ [])) q.0 (belong-append f node ks h q.1 own)
 
 belong-without : (f : Fixed) (node : ℕ) (hs : List Handle) (h : Handle) → belong f node hs ≡ true → belong f node (without_handle h hs) ≡ true
 belong-without f node [] h all = refl
 belong-without f node (k ∷ ks) h all =
     let q : (is_port_of f node k.port ≡ true) × (belong f node ks ≡ true) = split (is_port_of f node k.port) (belong f node ks) all in
     either (λ (xs : List Handle). belong f node xs ≡ true) (not (is_same_handle h k)) (k ∷ without_handle h ks) (without_handle h ks)
-    (λ u. and_true (is_port_of f node k.port) (belong f node (without_handle h ks)) q.0 (belong-without f node ks h q.1))
+    (λ u. both_true (is_port_of f node k.port) (belong f node (without_handle h ks)) q.0 (belong-without f node ks h q.1))
     (λ u. belong-without f node ks h q.1)
 
 belong-with : (f : Fixed) (node : ℕ) (hs : List Handle) (h : Handle) → belong f node hs ≡ true → IsPortOf f node h.port
@@ -54,8 +52,8 @@ belong-with f node [] h all own = refl
 belong-with f node (k ∷ ks) h all own =
     let q : (is_port_of f node k.port ≡ true) × (belong f node ks ≡ true) = split (is_port_of f node k.port) (belong f node ks) all in
     either (λ (xs : List Handle). belong f node xs ≡ true) (is_same_handle h k) (h ∷ ks) (k ∷ with_handle h ks)
-    (λ u. and_true (is_port_of f node h.port) (belong f node ks) (is-port_of f node h.port own) q.1)
-    (λ u. and_true (is_port_of f node k.port) (belong f node (with_handle h ks)) q.0 (belong-with f node ks h q.1 own))
+    (λ u. both_true (is_port_of f node h.port) (belong f node ks) (is-port_of f node h.port own) q.1)
+    (λ u. both_true (is_port_of f node k.port) (belong f node (with_handle h ks)) q.0 (belong-with f node ks h q.1 own))
 
 -- ---- what the end of a call keeps
 
@@ -95,7 +93,7 @@ releases : (s : State) (g : Fixed) (port : ℕ) → s.fixed.on_wire ≡ true →
 releases s g port wire p = subst (λ (t : State). Keeps s.fixed t.fixed) (sym (released-wire (with_fixed s g) port (p.0 ∙ wire))) p
 
 -- a handle of the node belongs to a port of its own
-of_own : (f : Fixed) (node : ℕ) (h : Handle) → IsOwn f node h → IsPortOf f h.node h.port
+pub of_own : (f : Fixed) (node : ℕ) (h : Handle) → IsOwn f node h → IsPortOf f h.node h.port
 of_own f node h own = subst (λ k. IsPortOf f k h.port) (sym own.0) own.1
 
 sent_copy_keeps : (f : Fixed) (node : ℕ) (h : Handle) (count : ℕ) → Keeps f f → IsOwn f node h → Keeps f (sent_copy f h count)
@@ -150,9 +148,6 @@ settled_own s node payload o wire all own n =
     (λ h. list_any (λ p. p.number == h.port) ps && (option_map_or (λ p. p.node) (find (λ p. p.number == h.port) ps) 0 == n))
     ((settled s node payload o).fixed.handles n)) k.1
     ∙ k.3 n
-
-le-refl : (n : ℕ) → nat_le n n ≡ true
-le-refl n = grind (arith)
 
 pub settled_waiting : (s : State) (node : ℕ) (payload : List ℕ) (o : Outcome) → s.fixed.on_wire ≡ true → (v : Way)
     → nat_le (length ((settled s node payload o).waiting v)) (length (s.waiting v)) ≡ true

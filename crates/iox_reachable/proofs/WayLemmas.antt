@@ -14,45 +14,13 @@ use Rattle.iox_model.specs.Messages.{request_way, response_way}
 use Rattle.iox_model.specs.Peers.{lanes_of, others, lanes_to}
 use Rattle.iox_model.proofs.CallLaws.{not-true}
 use Rattle.iox_model.proofs.MapLemmas.{either, same_way-true, same_way-flip}
+use Rattle.iox_ledger.proofs.Truths.{by_cases, or-left, or-right, or-rest, or-false, or-neither, or-through, false_if}
 
 -- ---- truths
-
-pub by_cases : {P : Type 0} (b : Bool) → (b ≡ true → P) → (b ≡ false → P) → P
-by_cases true f g = f refl
-by_cases false f g = g refl
-
-pub or-left : (a b : Bool) → a ≡ true → (a || b) ≡ true
-or-left true b e = refl
-or-left false b e = absurd (true≢false (sym e))
-
-pub or-right : (a b : Bool) → b ≡ true → (a || b) ≡ true
-or-right true b e = refl
-or-right false b e = e
-
-pub or-rest : (a b : Bool) → (a || b) ≡ true → a ≡ false → b ≡ true
-or-rest true b e f = absurd (true≢false f)
-or-rest false b e f = e
-
-pub or-false : (a b : Bool) → (a || b) ≡ false → (a ≡ false) × (b ≡ false)
-or-false true b e = absurd (true≢false e)
-or-false false b e = (refl, e)
-
-pub or-neither : (a b : Bool) → a ≡ false → b ≡ false → (a || b) ≡ false
-or-neither true b e f = absurd (true≢false e)
-or-neither false b e f = f
-
-pub or-through : (a b c : Bool) → (b ≡ true → c ≡ true) → (a || b) ≡ true → (a || c) ≡ true
-or-through true b c f e = refl
-or-through false b c f e = f e
 
 or-assoc : (a b c : Bool) → (a || (b || c)) ≡ ((a || b) || c)
 or-assoc true b c = refl
 or-assoc false b c = refl
-
--- what is not true is false
-pub false_if : (b : Bool) → (b ≡ true → ⊥) → b ≡ false
-false_if true f = absurd (f refl)
-false_if false f = refl
 
 -- ---- one is taken out
 
@@ -62,15 +30,6 @@ has_way-without v w (u ∷ us) e =
     either (λ ws. has_way v ws ≡ true → has_way v (u ∷ us) ≡ true) (same_way u w) us (u ∷ without_way w us)
     (λ b p. or-right (same_way v u) (has_way v us) p)
     (λ b p. or-through (same_way v u) (has_way v (without_way w us)) (has_way v us) (has_way-without v w us) p) e
-
--- what is gone once one was taken out, and is not that one, was not there
-pub not-has_way-without : (v w : Way) (left : List Way) → same_way v w ≡ false → has_way v (without_way w left) ≡ false → has_way v left ≡ false
-not-has_way-without v w [] other e = refl
-not-has_way-without v w (u ∷ us) other e =
-    either (λ ws. has_way v ws ≡ false → has_way v (u ∷ us) ≡ false) (same_way u w) us (u ∷ without_way w us)
-    (λ same p. or-neither (same_way v u) (has_way v us) (subst (λ x. same_way v x ≡ false) (sym (same_way-true u w same)) other) p)
-    (λ b p. or-neither (same_way v u) (has_way v us) (or-false (same_way v u) (has_way v (without_way w us)) p).0
-    (not-has_way-without v w us other (or-false (same_way v u) (has_way v (without_way w us)) p).1)) e
 
 -- where each stands once, what was taken out is there no more
 gone : (v w : Way) (left : List Way) → AreApart left → v ≡ w → has_way v (without_way w left) ≡ false
