@@ -12,15 +12,16 @@ use Rattle.iox_model.specs.Counts.{sent_handle, holding}
 use Rattle.iox_model.specs.Outstandings.{is_held}
 use Rattle.iox_model.specs.Ledgers.{serials_of_loan, serials_of_outcome}
 use Rattle.iox_model.specs.Peers.{node_of_port}
+use Rattle.iox_model.proofs.PlayedRuns.{split}
 use Rattle.iox_model.proofs.MapLemmas.{either}
 use Rattle.iox_model.proofs.WholeLemmas.{put_at-here}
-use Rattle.iox_ledger.proofs.Lists.{IsAmong, NoRepeats, both, among-last, filter-among, among-filter, any-among, among-any}
+use Rattle.iox_ledger.proofs.Truths.{both_true}
+use Rattle.iox_ledger.proofs.Lists.{IsAmong, NoRepeats, among-last, filter-among, among-filter, any-among, among-any}
 use Rattle.iox_ledger.proofs.Views.{View, view, IsAt, plus, counted, lends_one, swapped, less, taken_handle, after_call}
 use Rattle.iox_ledger.proofs.Senders.{is_loan}
 use Rattle.iox_ledger.proofs.HandlesKept.{with-among, without-number, more-loans}
 use Rattle.iox_pools.proofs.Spare.{FitsEnd}
 use Rattle.iox_pools.proofs.Under.{loan-serial}
-use Rattle.iox_pools.proofs.Unions.{and-true}
 
 -- ---- a port's own messages
 
@@ -36,7 +37,7 @@ holds-held f n q k at e =
     let r : (h : Handle) × IsAmong h (handles_of f q) × ((is_own h.kind && (h.message.serial == k)) ≡ true)
     = any-among (λ h. is_own h.kind && (h.message.serial == k)) (handles_of f q) e in
     let t : IsAmong r.0 (f.handles (node_of_port f q)) × (((r.0).port == q) ≡ true) = filter-among (λ (h : Handle). h.port == q) r.0 (f.handles (node_of_port f q)) r.1 in
-    let o : (is_own (r.0).kind ≡ true) × (((r.0).message.serial == k) ≡ true) = both _ _ r.2 in
+    let o : (is_own (r.0).kind ≡ true) × (((r.0).message.serial == k) ≡ true) = split _ _ r.2 in
     record {
       handle = r.0;
       among = subst (λ m. IsAmong r.0 (f.handles m)) at t.0;
@@ -49,7 +50,7 @@ pub held-holds : (f : Fixed) (n q k : ℕ) → IsAt f.ports q n → HoldsOwn (vi
 held-holds f n q k at p =
     among-any (λ h. is_own h.kind && (h.message.serial == k)) p.handle (handles_of f q)
     (among-filter (λ (h : Handle). h.port == q) p.handle (f.handles (node_of_port f q)) (subst (λ m. IsAmong p.handle (f.handles m)) (sym at) p.among) (eq-eqb p.handle.port q p.port))
-    (and-true (is_own p.handle.kind) (p.handle.message.serial == k) p.own (eq-eqb p.handle.message.serial k p.serial))
+    (both_true (is_own p.handle.kind) (p.handle.message.serial == k) p.own (eq-eqb p.handle.message.serial k p.serial))
 
 loan-own : (a b c : Bool) → (a || b) ≡ true → (a || (b || c)) ≡ true
 loan-own true b c e = refl

@@ -20,8 +20,10 @@ use Rattle.iox_model.specs.Weaves.{at_work, wire_start, begun, made, over, IsBea
 use Rattle.iox_model.specs.Peers.{port_at, node_of_port, ways_from}
 use Rattle.iox_model.proofs.WholeLemmas.{moved-fixed}
 use Rattle.iox_ledger.specs.OnceLaws.{IsOnWire}
-use Rattle.iox_ledger.proofs.Lists.{IsAmong, not-true, one_of, filter-among, any-among, among-any, number-among, no_repeats-filter}
-use Rattle.iox_ledger.proofs.Outstanding.{no-longer, range-apart}
+use Rattle.iox_ledger.proofs.Orders.{same, same-le}
+use Rattle.iox_ledger.proofs.Ranges.{no-longer, range-apart}
+use Rattle.iox_ledger.proofs.Truths.{false_if, one_of, or-left, or-right}
+use Rattle.iox_ledger.proofs.Lists.{IsAmong, filter-among, any-among, among-any, number-among, no_repeats-filter}
 use Rattle.iox_ledger.proofs.Views.{View, view, IsAt}
 use Rattle.iox_ledger.proofs.Senders.{FitsOutcome, FitsDoing, Stands}
 use Rattle.iox_ledger.proofs.Settling.{settled-here, settled-else}
@@ -34,7 +36,7 @@ use Rattle.iox_pools.proofs.Spare.{fits-end}
 use Rattle.iox_pools.proofs.Ways.{way-of}
 use Rattle.iox_pools.proofs.Under.{PickIs, GivesNext, loan-serial, next-under, ends-under, next-stays, ends-same, start-under}
 use Rattle.iox_pools.proofs.Holds.{HoldsOwn, holds-held, held-holds, own-loan, made-serial, own-before, after-loans, after-more}
-use Rattle.iox_pools.proofs.HoldsKept.{keeps, under_at, under, Keeping, IsLent, IsNext, Follows, or-left, or-right, follows-keeping, under-fits, loans-is, IsPut, is-put}
+use Rattle.iox_pools.proofs.HoldsKept.{keeps, under_at, under, Keeping, IsLent, IsNext, Follows, follows-keeping, under-fits, loans-is, IsPut, is-put}
 
 -- ---- the call of the port's node
 
@@ -65,12 +67,6 @@ changed-call w q m o P f g = by_case (node_of_port w.state.fixed q == m) refl
     by_case : (b : Bool) → (node_of_port w.state.fixed q == m) ≡ b → P (under_at q (if b then o else w.doing (node_of_port w.state.fixed q)))
     by_case true e = f (eqb-true (node_of_port w.state.fixed q) m e)
     by_case false e = g
-
-same : (a : ℕ) → a ≤ a
-same a = omega arith
-
-equal : (a b : ℕ) → a ≡ b → a ≤ b
-equal a b e = omega arith
 
 -- ---- a begin
 
@@ -136,14 +132,14 @@ Nexts w q p q' k = q' ≡ q → IsNext w q p k
 picks : (w : World) (m : ℕ) (d : Doing) (q : ℕ) (p : Port) → Fits w → port_at w.state.fixed q ≡ Some p → node_of_port w.state.fixed q ≡ m → w.doing m ≡ Some d
     → FitsDoing (view w.state.fixed m) m d → PickIs (Nexts w q p) w.state d
 picks w m (Loaning copies h left) q p fits is at doing loan =
-    λ free q' k e equal. next (loan-serial h q' k e) free equal
+    λ free q' k e same-le. next (loan-serial h q' k e) free same-le
   where
     none : under w q ≡ []
     none = ap (under_at q) (ap w.doing at ∙ doing)
 
     next : {q' k : ℕ} → (h.port ≡ q') × (h.message.serial ≡ k) → is_dry w.state.fixed h.port (kept w.state h.port []) ≡ false → q' ≡ q → IsNext w q p k
-    next {q'} {k} r free equal =
-        let port : h.port ≡ q = r.0 ∙ equal in
+    next {q'} {k} r free same-le =
+        let port : h.port ≡ q = r.0 ∙ same-le in
         inr (
           sym r.1 ∙ loan.stands.0 ∙ ap ((view w.state.fixed m).loans) port ∙ loans-is w.state.fixed q m at,
           none,
@@ -154,7 +150,7 @@ picks w m d q p fits is at doing fit = tt
 made-follows : (w : World) (m : ℕ) (d : Doing) (mo : Moment) (q : ℕ) (p : Port) → Fits w → port_at w.state.fixed q ≡ Some p → w.doing m ≡ Some d
     → (next w.state m d mo).condition → Follows w (made w m d mo) q p
 made-follows w m d mo q p fits is doing c = record {
-  loans = equal (w.state.fixed.loans q) ((moved w.state mo).fixed.loans q) (sym (ap (λ (f : Fixed). f.loans q) (moved-fixed w.state mo)));
+  loans = same-le (w.state.fixed.loans q) ((moved w.state mo).fixed.loans q) (sym (ap (λ (f : Fixed). f.loans q) (moved-fixed w.state mo)));
   kept = λ k. moved-kept w m d mo q k p fits is doing c;
   call = λ k e. changed-call w q m (Some (next w.state m d mo).after) (λ ks. has_number k ks ≡ true → IsNext w q p k) (here k) (λ h. inl h)
       (ap (λ (f : Fixed). has_number k (under_at q (put_at w.doing m (Some (next w.state m d mo).after) (node_of_port f q)))) (sym (moved-fixed w.state mo)) ∙ e);
@@ -168,7 +164,7 @@ made-follows w m d mo q p fits is doing c = record {
     here : (k : ℕ) → node_of_port w.state.fixed q ≡ m → has_number k (under_way q (next w.state m d mo).after) ≡ true → IsNext w q p k
     here k at e =
         next-under (Nexts w q p) w.state m d mo (picks w m d q p fits is at doing (doing-is w m d fits doing)) c
-        (λ q' j h equal. inl (ap (has_number j) (ap (under_at q) (ap w.doing at ∙ doing)) ∙ ap (λ i. has_number j (under_way i d)) (sym equal) ∙ h)) q k e refl
+        (λ q' j h same-le. inl (ap (has_number j) (ap (under_at q) (ap w.doing at ∙ doing)) ∙ ap (λ i. has_number j (under_way i d)) (sym same-le) ∙ h)) q k e refl
 
 -- ---- an end
 
@@ -239,7 +235,7 @@ over-loans w m payload o q fits p = by_case (n == m) refl
         view-loans (subst (λ i. (view w.state.fixed i).loans q ≤ (view u i).loans q) (sym (eqb-true n m is))
         (subst (λ (v : View). (view w.state.fixed m).loans q ≤ v.loans q) (sym (settled-here w.state m payload o fits.wire (fits.handles m) p))
         (after-loans (view w.state.fixed m) m payload o q (fits-end (view w.state.fixed m) m o p))))
-    by_case false is = view-loans (equal ((view w.state.fixed n).loans q) ((view u n).loans q) (ap (λ (v : View). v.loans q) (sym (settled-else w.state m n payload o fits.wire (fits.handles m) p is))))
+    by_case false is = view-loans (same-le ((view w.state.fixed n).loans q) ((view u n).loans q) (ap (λ (v : View). v.loans q) (sym (settled-else w.state m n payload o fits.wire (fits.handles m) p is))))
 
 -- what the call held is loaned now
 over-stays : (w : World) (m : ℕ) (d : Doing) (payload : List ℕ) (o : Outcome) (q k : ℕ) → Fits w → w.doing m ≡ Some d → ends w.state d ≡ Some o
@@ -326,7 +322,7 @@ on-wire-keeping s v bs q p on is =
 
 -- the next serial is none of those kept, where no call holds it
 pub fresh : (v : World) (q : ℕ) (p : Port) → Keeping v q p → under v q ≡ [] → has_number (v.state.fixed.loans q) (kept_in v q) ≡ false
-fresh v q p keeping none = not-true (has_number k (kept_in v q)) (λ e. old (one_of (has_number k (under v q)) (keeps v.state q k)
+fresh v q p keeping none = false_if (has_number k (kept_in v q)) (λ e. old (one_of (has_number k (under v q)) (keeps v.state q k)
     (filter-among (is_kept v.state q (under v q)) k (range_with_len 0 (v.state.fixed.loans q + 1)) (number-among k (kept_in v q) e)).1))
   where
     k : ℕ

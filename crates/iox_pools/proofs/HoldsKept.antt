@@ -14,13 +14,15 @@ use Rattle.iox_model.specs.Steps.{next}
 use Rattle.iox_model.specs.Weaves.{World}
 use Rattle.iox_model.specs.Peers.{node_of_port}
 use Rattle.iox_model.proofs.MapLemmas.{same_way-true}
-use Rattle.iox_ledger.proofs.Lists.{IsAmong, NoRepeats, one_of, filter-among, among-filter, way-among, among-number, no_repeats-filter}
+use Rattle.iox_ledger.proofs.Orders.{at-most, same}
+use Rattle.iox_ledger.proofs.Ranges.{no-longer, range-apart, range-has}
+use Rattle.iox_ledger.proofs.Truths.{one_of, or-left, or-right}
+use Rattle.iox_ledger.proofs.Lists.{IsAmong, NoRepeats, filter-among, among-filter, way-among, among-number, no_repeats-filter}
 use Rattle.iox_ledger.proofs.Views.{View, view, IsAt, mine}
 use Rattle.iox_ledger.proofs.Senders.{FitsLoan, FitsDoing}
 use Rattle.iox_ledger.proofs.Phases.{target-of}
 use Rattle.iox_ledger.proofs.Had.{put_on}
 use Rattle.iox_ledger.proofs.Outs.{no-head}
-use Rattle.iox_ledger.proofs.Outstanding.{no-longer, range-apart, range-has}
 use Rattle.iox_pools.proofs.Under.{UnderIs, LoanIs, none-so, loan-serial}
 
 -- the port has it in a handle, or it is outstanding
@@ -56,17 +58,6 @@ pub record Follows (w u : World) (q : ℕ) (p : Port) : Type 0 where
   pub under_is : (k : ℕ) → has_number k (under w q) ≡ true → k ≡ w.state.fixed.loans q
   pub stays : (k : ℕ) → has_number k (under w q) ≡ true → IsLent u q k
 
-pub or-left : (a b : Bool) → a ≡ true → (a || b) ≡ true
-or-left true b e = refl
-or-left false b e = absurd (true≢false (sym e))
-
-pub or-right : (a b : Bool) → b ≡ true → (a || b) ≡ true
-or-right true b e = refl
-or-right false b e = e
-
-at-most : (a b c : ℕ) → a ≤ b → b ≤ c → a ≤ c
-at-most a b c p q = omega arith
-
 equal : (a b c : ℕ) → a ≡ b → b ≤ c → a ≤ c
 equal a b c p q = omega arith
 
@@ -80,9 +71,6 @@ in-kept w q k e p =
 
     below : (a b : ℕ) → a ≤ b → a < 0 + (b + 1)
     below a b p = omega arith
-
-same : (a : ℕ) → a ≤ a
-same a = omega arith
 
 -- the call's message is among the kept
 under-kept : (w u : World) (q : ℕ) (p : Port) (k : ℕ) → Follows w u q p → has_number k (under w q) ≡ true → IsAmong k (kept_in w q)

@@ -19,14 +19,17 @@ use Rattle.iox_model.specs.Messages.{request_way, response_way}
 use Rattle.iox_model.specs.Makings.{pool_of_client, pool_of_server}
 use Rattle.iox_model.specs.Outstandings.{outstanding_on, is_held, is_outstanding, kept}
 use Rattle.iox_model.specs.Peers.{port_at, lanes_of, ports_of_role, ways_from_client, lanes_to, ways_from_server, ways_from}
+use Rattle.iox_model.proofs.PlayedRuns.{split}
 use Rattle.iox_model.proofs.WholeLemmas.{some-is}
-use Rattle.iox_ledger.proofs.Lists.{IsAmong, both, among-append, filter-among, map-among}
+use Rattle.iox_ledger.proofs.Orders.{at-most}
+use Rattle.iox_ledger.proofs.Truths.{both_true}
+use Rattle.iox_ledger.proofs.Counts.{count, count-fewer}
+use Rattle.iox_ledger.proofs.Ranges.{range-apart}
+use Rattle.iox_ledger.proofs.Lists.{IsAmong, among-append, filter-among, map-among, find-own}
 use Rattle.iox_ledger.proofs.Views.{view, View, IsAt, role_in}
-use Rattle.iox_ledger.proofs.Phases.{HasOwnPorts, find-own}
-use Rattle.iox_ledger.proofs.Borrows.{count}
-use Rattle.iox_ledger.proofs.Outstanding.{range-apart}
+use Rattle.iox_ledger.proofs.Phases.{HasOwnPorts}
 use Rattle.iox_pools.specs.PoolLaws.{IsUnreduced}
-use Rattle.iox_pools.proofs.Unions.{and-true, count-or, count-any, count-fewer, count-named, length-flat}
+use Rattle.iox_pools.proofs.Unions.{count-or, count-any, count-named, length-flat}
 use Rattle.iox_pools.proofs.Limited.{IsWithin, role-count}
 use Rattle.iox_pools.proofs.Spare.{is_of_client, is_pending, counts, count-both, FitsKinds, SpareLoan}
 use Rattle.iox_pools.proofs.SpareStarts.{role-is}
@@ -55,16 +58,13 @@ own-server PendingResponse e f = absurd (true≢false e)
 own-server ActiveRequest e f = absurd (true≢false (sym f))
 own-server Response e f = absurd (true≢false e)
 
-at-most : {a b c : ℕ} → a ≤ b → b ≤ c → a ≤ c
-at-most {a} {b} {c} p q = omega arith
-
 -- the handles that hold the port's own messages
 abbrev own_handles : View → ℕ → ℕ
 own_handles v port = counts v port is_own
 
 own-of-client : (v : View) (port : ℕ) → FitsKinds v → is_client (role_in v.ports port) ≡ true → own_handles v port ≤ counts v port is_request_loan + counts v port is_pending
 own-of-client v port fits client =
-    at-most (count-fewer _ (λ h. ((h.port == port) && is_request_loan h.kind) || ((h.port == port) && is_pending h.kind)) v.handles each)
+    at-most _ _ _ (count-fewer _ (λ h. ((h.port == port) && is_request_loan h.kind) || ((h.port == port) && is_pending h.kind)) v.handles each)
     (count-or (λ h. (h.port == port) && is_request_loan h.kind) (λ h. (h.port == port) && is_pending h.kind) v.handles)
   where
     spread : (a b c : Bool) → a ≡ true → (b || c) ≡ true → ((a && b) || (a && c)) ≡ true
@@ -73,7 +73,7 @@ own-of-client v port fits client =
 
     each : (h : Handle) → IsAmong h v.handles → ((h.port == port) && is_own h.kind) ≡ true → (((h.port == port) && is_request_loan h.kind) || ((h.port == port) && is_pending h.kind)) ≡ true
     each h a e =
-        let q : ((h.port == port) ≡ true) × (is_own h.kind ≡ true) = both _ _ e in
+        let q : ((h.port == port) ≡ true) × (is_own h.kind ≡ true) = split _ _ e in
         spread (h.port == port) (is_request_loan h.kind) (is_pending h.kind) q.0
         (own-client h.kind ((fits.suits h a).1 ∙ ap (λ k. is_client (role_in v.ports k)) (eqb-true h.port port q.0) ∙ client) q.1)
 
@@ -82,8 +82,8 @@ own-of-server v port fits server = count-fewer _ (λ h. (h.port == port) && is_r
   where
     each : (h : Handle) → IsAmong h v.handles → ((h.port == port) && is_own h.kind) ≡ true → ((h.port == port) && is_response_loan h.kind) ≡ true
     each h a e =
-        let q : ((h.port == port) ≡ true) × (is_own h.kind ≡ true) = both _ _ e in
-        and-true (h.port == port) (is_response_loan h.kind) q.0
+        let q : ((h.port == port) ≡ true) × (is_own h.kind ≡ true) = split _ _ e in
+        both_true (h.port == port) (is_response_loan h.kind) q.0
         (own-server h.kind ((fits.suits h a).1 ∙ ap (λ k. is_client (role_in v.ports k)) (eqb-true h.port port q.0) ∙ server) q.1)
 
 -- ---- its ways
@@ -160,7 +160,7 @@ more : (a b c : ℕ) → a ≤ b → a * c ≤ b * c
 more a b c p = subst (λ k. k ≤ b * c) (mul_comm c a) (subst (λ k. c * a ≤ k) (mul_comm c b) (mul-le-mul_left c p))
 
 client-ways : (f : Fixed) (port : ℕ) → IsWithin f → length (ways_from_client f port) ≤ f.limits.servers
-client-ways f port within = at-most (same _ _ (length-map (ports_of_role f Server) (request_way port) ∙ role-count f Server)) (within.most Server)
+client-ways f port within = at-most _ _ _ (same _ _ (length-map (ports_of_role f Server) (request_way port) ∙ role-count f Server)) (within.most Server)
   where
     same : (a b : ℕ) → a ≡ b → a ≤ b
     same a b e = omega arith
@@ -169,7 +169,7 @@ lanes-least : (f : Fixed) (q : ℕ) → HasOwnPorts f → IsWithin f → IsAmong
 lanes-least f q own within a =
     let t : (p : Port) × IsAmong p f.ports × (q ≡ p.number) × (same_role p.role Client ≡ true) = of-role f q Client a in
     subst (λ n. n ≤ pool_of_client f.limits)
-    (sym (ap (lanes_of f) t.2 ∙ ap (λ (o : Option Port). option_map_or (λ p. p.pool) o 0) (find-own f.ports t.0 own t.1)))
+    (sym (ap (lanes_of f) t.2 ∙ ap (λ (o : Option Port). option_map_or (λ p. p.pool) o 0) (find-own (λ (p : Port). p.number) f.ports t.0 own t.1)))
     (within.lanes t.0 t.1 (client-role (t.0).role t.3))
   where
     client-role : (r : Role) → same_role r Client ≡ true → is_client r ≡ true
@@ -178,7 +178,7 @@ lanes-least f q own within a =
 
 server-ways : (f : Fixed) (port : ℕ) → HasOwnPorts f → IsWithin f → length (ways_from_server f port) ≤ f.limits.clients * pool_of_client f.limits
 server-ways f port own within =
-    at-most (length-flat (lanes_to f port) (pool_of_client f.limits) (ports_of_role f Client)
+    at-most _ _ _ (length-flat (lanes_to f port) (pool_of_client f.limits) (ports_of_role f Client)
     (λ q a. subst (λ k. k ≤ pool_of_client f.limits) (sym (length-map (range_with_len 0 (lanes_of f q)) (λ lane. response_way q lane port) ∙ length-range_with_len 0 (lanes_of f q)))
     (lanes-least f q own within a)))
     (more (length (ports_of_role f Client)) f.limits.clients (pool_of_client f.limits) (subst (λ k. k ≤ f.limits.clients) (sym (role-count f Client)) (within.most Client)))

@@ -1,38 +1,31 @@
 -- A run of a service keeps to its limits: how many ports there are of a role, and how many lanes a
 -- client has.
-use Rattle.std.specs.Prelude.{◌≡◌, ℕ, suc, ◌+◌, ◌*◌, ◌-◌, ◌<◌, ◌≤◌, Bool, true, false, not, if◌then◌else◌, ◌==◌, nat_le, List, [], ◌∷◌, ◌++◌, length, map, filter, Option, Some, None, min, max, refl}
+use Rattle.std.specs.Prelude.{◌≡◌, ℕ, ◌+◌, ◌*◌, ◌-◌, ◌<◌, ◌≤◌, Bool, true, false, ◌==◌, nat_le, List, [], ◌∷◌, ◌++◌, length, map, filter, Option, Some, None, min, max, refl}
 use Rattle.std.specs.Option.{option_map_or}
+use Rattle.std.proofs.lemmas.List.{length-map}
 use Rattle.std.proofs.Common.{sym, subst, ap, ◌∙◌, arith, true≢false, inl, inr}
 use Rattle.iox_types.specs.declared.identifiers.system_id.UniqueSystemId.{UniqueSystemId}
 use Rattle.iox_model.specs.declared.kind.Role.{Role}
 use Rattle.iox_model.specs.declared.kind.Role.TheVariants.{Client, Server}
-use Rattle.iox_model.specs.declared.command.PortCommand.TheVariants.{Create, Use}
-use Rattle.iox_model.specs.declared.command.Command.TheVariants.{OfNode, Leave, DeclareDead, Cleanup, ListNodes, ListClients, ListServers}
 use Rattle.iox_model.specs.declared.command.Command.TheVariants as commands
-use Rattle.iox_model.specs.declared.call.Call.TheVariants.{Release}
-use Rattle.iox_model.specs.declared.reply.Reply.TheVariants.{Done}
-use Rattle.iox_model.specs.Expiries.{disconnected, is_last_gone, released}
-use Rattle.iox_model.specs.Forgetting.{has_forgotten, forgets}
-use Rattle.iox_model.specs.Doings.{Outcome, Tells, Loans, Fills, Sends, FailsToSend, Receives, Drops, DropsPort, Forgets}
-use Rattle.iox_model.specs.States.{Port, Handle, Fixed, State}
+use Rattle.iox_model.specs.Expiries.{released}
+use Rattle.iox_model.specs.Doings.{Outcome}
+use Rattle.iox_model.specs.States.{Port, Fixed, State}
 use Rattle.iox_model.specs.Settings.{is_client, same_role, Limits}
-use Rattle.iox_model.specs.Handles.{is_request_loan, is_received, way_of}
-use Rattle.iox_model.specs.Maps.{put_at, put, refused_if}
-use Rattle.iox_model.specs.Ends.{sent_loan, sent_copy, is_nothing, port_dropped, settled}
-use Rattle.iox_model.specs.Counts.{added, changed, dropped, numbered, called, gives_up, with_fixed, sent_handle}
-use Rattle.iox_model.specs.WholeCalls.{moved_by, UnlessRefused, spent, IsDone, IsWholeCall}
-use Rattle.iox_model.specs.Names.{misnamed}
-use Rattle.iox_model.specs.Makings.{pool_of_client, most_ports, chosen_pool, making_refusal, new_port, IsPortCommand}
-use Rattle.iox_model.specs.Joins.{not_living, not_dead, opening_refusal}
-use Rattle.iox_model.specs.Services.{leaving_refusal, numbers_of_node, with_own_id, Releases, IsCommand}
-use Rattle.iox_model.specs.Runs.{created, raised, IsRun}
-use Rattle.iox_model.specs.Commands.{Refusal, Reply, Call, Options, PortCommand, Command}
+use Rattle.iox_model.specs.Maps.{refused_if}
+use Rattle.iox_model.specs.Ends.{port_dropped, settled}
+use Rattle.iox_model.specs.Makings.{pool_of_client, most_ports, chosen_pool, making_refusal, new_port}
+use Rattle.iox_model.specs.Runs.{raised}
+use Rattle.iox_model.specs.Commands.{Refusal, Options}
 use Rattle.iox_model.specs.Peers.{ports_of_role}
 use Rattle.iox_model.proofs.MapLemmas.{either}
-use Rattle.iox_model.proofs.WholeLemmas.{moved_by-fixed, or_else-none}
+use Rattle.iox_model.proofs.WholeLemmas.{or_else-none}
 use Rattle.iox_reachable.specs.Worlds.{IsServed}
-use Rattle.iox_ledger.proofs.Lists.{IsAmong, among-last, filter-among, none-some}
-use Rattle.iox_ledger.proofs.Borrows.{count, one_if, count-cons, count-last}
+use Rattle.iox_ledger.proofs.Counts.{count-filter, count, one_if, count-cons, count-last}
+use Rattle.iox_ledger.proofs.Truths.{none-some}
+use Rattle.iox_ledger.proofs.Lists.{IsAmong, among-last, filter-among}
+use Rattle.iox_reachable.proofs.PortsKept.{IsSteady, settled_says, is_kept}
+use Rattle.iox_reachable.proofs.Inductions.{served_keeps}
 
 -- no more ports of a role than the limit, and no client with more lanes than it ever needs
 pub record Within (l : Limits) (ports : List Port) : Type 0 where
@@ -44,21 +37,6 @@ abbrev pub IsWithin : Fixed → Type 0
 IsWithin f = Within f.limits f.ports
 
 -- ---- ports that go, and whose values are released
-
-count-filter : {A : Type 0} (test keep : A → Bool) (xs : List A) → count test (filter keep xs) ≤ count test xs
-count-filter test keep [] = omega arith
-count-filter test keep (x ∷ xs) = by_case (keep x) (count-filter test keep xs)
-  where
-    more : (a b c d e : ℕ) → a ≤ b → c ≡ d + b → e ≡ d + a → e ≤ c
-    more a b c d e p q r = omega arith
-
-    less : (a b c d : ℕ) → a ≤ b → c ≡ d + b → a ≤ c
-    less a b c d p q = omega arith
-
-    by_case : (b : Bool) → count test (filter keep xs) ≤ count test xs → count test (if b then x ∷ filter keep xs else filter keep xs) ≤ count test (x ∷ xs)
-    by_case true p = more (count test (filter keep xs)) (count test xs) (count test (x ∷ xs)) (one_if (test x)) (count test (x ∷ filter keep xs)) p
-        (count-cons test x xs) (count-cons test x (filter keep xs))
-    by_case false p = less (count test (filter keep xs)) (count test xs) (count test (x ∷ xs)) (one_if (test x)) p (count-cons test x xs)
 
 within-filter : (l : Limits) (ports : List Port) (keep : Port → Bool) → Within l ports → Within l (filter keep ports)
 within-filter l ports keep p = record {
@@ -101,12 +79,8 @@ within-dropped l ports port p = record {
 
 -- ---- a port that is made
 
-length-numbers : (ports : List Port) → length (map (λ p. p.number) ports) ≡ length ports
-length-numbers [] = refl
-length-numbers (p ∷ ps) = ap suc (length-numbers ps)
-
 pub role-count : (f : Fixed) (role : Role) → length (ports_of_role f role) ≡ count (λ p. same_role p.role role) f.ports
-role-count f role = length-numbers (filter (λ p. same_role p.role role) f.ports)
+role-count f role = length-map (filter (λ p. same_role p.role role) f.ports) (λ p. p.number)
 
 pub room-for : (f : Fixed) (role : Role) (o : Options) (memory : Bool) → making_refusal f role o memory ≡ None → count (λ p. same_role p.role role) f.ports < most_ports f.limits role
 room-for f role o memory e = subst (λ n. n < most_ports f.limits role) (role-count f role) (less _ _ (free _ _ (or_else-none _ _ (or_else-none _ _ e).1).1))
@@ -155,98 +129,15 @@ within-made f node role id o room p = record {
 
 -- ---- steps that keep it
 
-numbered_keeps : (f : Fixed) (node : ℕ) → IsWithin f → IsWithin (numbered f node)
-numbered_keeps f node p =
-    either IsWithin f.on_wire (record f { handles_made = put_at f.handles_made node (f.handles_made node + 1) })
-    (record f { next_number = f.next_number + 1 }) (λ u. p) (λ u. p)
-
-gives_up_keeps : (f : Fixed) (h : Handle) → IsWithin f → IsWithin (gives_up f h)
-gives_up_keeps f h p =
-    either IsWithin (is_received h.kind) (record f { borrowed = put f.borrowed (way_of h) (f.borrowed (way_of h) - 1) }) f (λ u. p) (λ u. p)
-
-released_keeps : (s : State) (port : ℕ) → IsWithin s.fixed → IsWithin (released s port).fixed
-released_keeps s port p =
-    either (λ (t : State). IsWithin t.fixed) (is_last_gone s.fixed port) (disconnected s port) s
-    (λ u. within-filter s.fixed.limits s.fixed.ports (λ q. not (q.number == port)) p) (λ u. p)
-
-sent_copy_keeps : (f : Fixed) (h : Handle) (count : ℕ) → IsWithin f → IsWithin (sent_copy f h count)
-sent_copy_keeps f h count p =
-    either IsWithin (is_request_loan h.kind) (added (numbered f h.node) (sent_handle h count)) f (λ u. numbered_keeps f h.node p) (λ u. p)
-
-sent_loan_keeps : (s : State) (h : Handle) (count : ℕ) → IsWithin s.fixed → IsWithin (sent_loan s h count).fixed
-sent_loan_keeps s h count p =
-    either (λ (t : State). IsWithin t.fixed) (is_request_loan h.kind) (with_fixed s (changed s.fixed (sent_handle h count)))
-    (released (with_fixed s (dropped s.fixed h)) h.port) (λ u. p) (λ u. released_keeps (with_fixed s (dropped s.fixed h)) h.port p)
+steady : IsSteady (λ l ps n. Within l ps)
+steady = record {
+  numbers = λ l ps n p. p;
+  filters = λ l ps n keep p. within-filter l ps keep p;
+  drops = λ l ps n port p. within-dropped l ps port p;
+}
 
 pub settled_keeps : (s : State) (node : ℕ) (payload : List ℕ) (o : Outcome) → IsWithin s.fixed → IsWithin (settled s node payload o).fixed
-settled_keeps s node payload (Tells reply) p =
-    either (λ (t : State). IsWithin t.fixed) (is_nothing reply) (with_fixed s (called s.fixed)) s (λ u. p) (λ u. p)
-settled_keeps s node payload (Loans h) p = numbered_keeps s.fixed node p
-settled_keeps s node payload (Fills h) p = p
-settled_keeps s node payload (Sends h true count) p = sent_copy_keeps s.fixed h count p
-settled_keeps s node payload (Sends h false count) p = sent_loan_keeps s h count p
-settled_keeps s node payload (FailsToSend h true refusal) p = p
-settled_keeps s node payload (FailsToSend h false refusal) p = released_keeps (with_fixed s (dropped s.fixed h)) h.port p
-settled_keeps s node payload (Receives x w m) p = numbered_keeps s.fixed node p
-settled_keeps s node payload (Drops h) p =
-    released_keeps (with_fixed s (gives_up (dropped s.fixed h) h)) h.port (gives_up_keeps (dropped s.fixed h) h p)
-settled_keeps s node payload (DropsPort port) p =
-    released_keeps (with_fixed s (record (s.fixed) { ports = map (port_dropped port) s.fixed.ports })) port (within-dropped s.fixed.limits s.fixed.ports port p)
-settled_keeps s node payload (Forgets dead) p =
-    either (λ (t : State). IsWithin t.fixed) (has_forgotten s.fixed node dead) s (forgets s node dead) (λ u. p) (λ u. p)
-
--- ---- commands
-
--- refused, nothing changes
-unless_keeps : (r : Option Refusal) (s : State) (reply : Reply) (t : State) (Q : Type 0) → IsWithin s.fixed → (r ≡ None → Q → IsWithin t.fixed)
-    → UnlessRefused r s reply t Q → IsWithin t.fixed
-unless_keeps (Some r) s reply t Q p f u = subst (λ (x : State). IsWithin x.fixed) (sym u.1) p
-unless_keeps None s reply t Q p f u = f refl u
-
-done_keeps : (s : State) (node : ℕ) (call : Call) (reply : Reply) (t : State) → IsWithin s.fixed → IsDone s node call reply t → IsWithin t.fixed
-done_keeps s node call reply t p d =
-    subst (λ (x : State). IsWithin x.fixed) (sym d.9)
-    (settled_keeps (moved_by s d.2) node d.6 d.4 (subst IsWithin (sym (moved_by-fixed s d.2)) p))
-
-call_keeps : (s : State) (node : ℕ) (call : Call) (reply : Reply) (t : State) → IsWithin s.fixed → IsWholeCall s node call reply t → IsWithin t.fixed
-call_keeps s node call reply t p =
-    unless_keeps (misnamed s.fixed node call) s reply t (UnlessRefused (spent s.fixed call) s reply t (IsDone s node call reply t)) p
-    (λ u. unless_keeps (spent s.fixed call) s reply t (IsDone s node call reply t) p (λ v. done_keeps s node call reply t p))
-
-port_command_keeps : (s : State) (node : ℕ) (c : PortCommand) (reply : Reply) (t : State) → IsWithin s.fixed → IsPortCommand s node c reply t
-    → IsWithin t.fixed
-port_command_keeps s node (Create role id o) reply t p c =
-    unless_keeps (making_refusal s.fixed role o c.0) s reply t _ p
-    (λ free made. subst (λ (x : State). IsWithin x.fixed) (sym made.1) (within-made s.fixed node role id o (room-for s.fixed role o c.0 free) p)) c.1
-port_command_keeps s node (Use call) reply t p c = call_keeps s node call reply t p c
-
-releases_keep : (s : State) (node : ℕ) (ns : List ℕ) (t : State) → IsWithin s.fixed → Releases s node ns t → IsWithin t.fixed
-releases_keep s node [] t p r = subst (λ (x : State). IsWithin x.fixed) (sym r) p
-releases_keep s node (n ∷ ns) t p r = releases_keep r.0 node ns t (call_keeps s node (Release n) Done r.0 p r.1) r.2
-
--- a step of a service that changes nodes alone
-nodes_keep : (s t : State) (x : State) → x.fixed ≡ s.fixed → t ≡ x → IsWithin s.fixed → IsWithin t.fixed
-nodes_keep s t x same e p = subst IsWithin (sym (ap (λ (y : State). y.fixed) e ∙ same)) p
-
-command_keeps : (s : State) (c : Command) (reply : Reply) (t : State) → IsWithin s.fixed → IsCommand s c reply t → IsWithin t.fixed
-command_keeps s (commands.Open id asked) reply t p c =
-    unless_keeps (opening_refusal s id asked c.0) s reply t _ p (λ u done. nodes_keep s t _ refl done.1 p) c.1
-command_keeps s (OfNode node command) reply t p c =
-    unless_keeps (not_living s node) s reply t _ p (λ u. port_command_keeps s node (with_own_id s node command) reply t p) c
-command_keeps s (Leave node) reply t p c = unless_keeps (leaving_refusal s node) s reply t _ p (λ u done. nodes_keep s t _ refl done.1 p) c
-command_keeps s (DeclareDead node) reply t p c = unless_keeps (not_living s node) s reply t _ p (λ u done. nodes_keep s t _ refl done.1 p) c
-command_keeps s (Cleanup node) reply t p c =
-    unless_keeps (not_dead s node) s reply t _ p
-    (λ u done. nodes_keep done.0 t _ refl done.3 (releases_keep s node (numbers_of_node s.fixed node) done.0 p done.1)) c
-command_keeps s ListNodes reply t p c = nodes_keep s t s refl c.1 p
-command_keeps s ListClients reply t p c = nodes_keep s t s refl c.1 p
-command_keeps s ListServers reply t p c = nodes_keep s t s refl c.1 p
-
-run_keeps : (s : State) (cs : List Command) (rs : List Reply) (t : State) → IsWithin s.fixed → IsRun s cs rs t → IsWithin t.fixed
-run_keeps s [] [] t p run = nodes_keep s t s refl run p
-run_keeps s (c ∷ cs) (r ∷ rs) t p run = run_keeps run.0 cs rs t (command_keeps s c r run.0 p run.1) run.2
-run_keeps s [] (r ∷ rs) t p run = absurd run
-run_keeps s (c ∷ cs) [] t p run = absurd run
+settled_keeps = settled_says (λ l ps n. Within l ps) steady
 
 pub created-within : (l : Limits) → Within (raised l) []
 created-within l = record {
@@ -263,4 +154,8 @@ created-within l = record {
 
 -- What a run of a service left keeps to its limits.
 pub served_within : (s : State) → IsServed s → IsWithin s.fixed
-served_within s served = run_keeps (created served.0 served.1 served.2) served.3 served.4 s (created-within served.0) served.5
+served_within =
+    served_keeps (λ t. IsWithin t.fixed)
+    (is_kept (λ l ps n. Within l ps) steady
+    (λ f node role id o memory allowed. within-made f node role id o (room-for f role o memory allowed)))
+    (λ l acts id. created-within l)

@@ -16,13 +16,14 @@ use Rattle.iox_model.specs.Handles.{is_request_loan, is_response_loan, is_receiv
 use Rattle.iox_model.specs.Maps.{has_number, put}
 use Rattle.iox_model.specs.Messages.{Message}
 use Rattle.iox_model.specs.Names.{is_port}
-use Rattle.iox_model.specs.Counts.{with_handle, sent_handle, holding}
+use Rattle.iox_model.specs.Counts.{sent_handle, holding}
 use Rattle.iox_model.proofs.MapLemmas.{either}
+use Rattle.iox_ledger.proofs.Counts.{count-with, count, one_if, count-cons, count-last, count-less}
+use Rattle.iox_ledger.proofs.Orders.{at-most}
 use Rattle.iox_ledger.proofs.Lists.{IsAmong, NoRepeats, among-last}
 use Rattle.iox_ledger.proofs.Views.{View, view, IsAt, role_in, plus, counted, lends_one, swapped, less, taken_handle, after_call}
 use Rattle.iox_ledger.proofs.Senders.{is_loan, FitsLoan, IsFilled, FitsOutcome}
 use Rattle.iox_ledger.proofs.HandlesKept.{with-among, without-number}
-use Rattle.iox_ledger.proofs.Borrows.{count, one_if, count-cons, count-last, count-less}
 
 -- ---- kinds
 
@@ -84,23 +85,6 @@ pub count-is : (f : Fixed) (n port : ℕ) (test : Kind → Bool) → IsAt f.port
 count-is f n port test at =
     ap (λ node. count (λ (h : Handle). test h.kind) (filter (λ (h : Handle). h.port == port) (f.handles node))) at
     ∙ count-both (λ (h : Handle). h.port == port) (λ h. test h.kind) (f.handles n)
-
--- one is put in another's place
-pub count-with : (test : Handle → Bool) (h : Handle) (hs : List Handle) → count test (with_handle h hs) ≤ count test hs + one_if (test h)
-count-with test h [] = omega arith
-count-with test h (k ∷ ks) = by_case (k.number == h.number) (count-with test h ks)
-  where
-    first : (a b c d e : ℕ) → a ≡ d + b → c ≡ e + b → a ≤ c + d
-    first a b c d e p q = omega arith
-
-    later : (a b c d e f : ℕ) → a ≤ b + f → c ≡ d + b → e ≡ d + a → e ≤ c + f
-    later a b c d e f p q r = omega arith
-
-    by_case : (b : Bool) → count test (with_handle h ks) ≤ count test ks + one_if (test h)
-        → count test (if b then h ∷ ks else k ∷ with_handle h ks) ≤ count test (k ∷ ks) + one_if (test h)
-    by_case true p = first (count test (h ∷ ks)) (count test ks) (count test (k ∷ ks)) (one_if (test h)) (one_if (test k)) (count-cons test h ks) (count-cons test k ks)
-    by_case false p = later (count test (with_handle h ks)) (count test ks) (count test (k ∷ ks)) (one_if (test k)) (count test (k ∷ with_handle h ks)) (one_if (test h)) p
-        (count-cons test k ks) (count-cons test k (with_handle h ks))
 
 -- ---- what holds of handles
 
@@ -173,9 +157,6 @@ fits-end v n o p = tt
 
 no_more : (a b : ℕ) → a ≤ b + 0 → a ≤ b
 no_more a b p = omega arith
-
-at-most : (a b c : ℕ) → a ≤ b → b ≤ c → a ≤ c
-at-most a b c p q = omega arith
 
 off : (b : Bool) → (b && false) ≡ false
 off true = refl

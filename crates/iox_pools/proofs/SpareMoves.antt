@@ -26,7 +26,7 @@ use Rattle.iox_model.specs.Moments.{Moment, Deliver, Evict, Take, GiveBack, GetB
 use Rattle.iox_model.specs.Steps.{next, ends}
 use Rattle.iox_model.proofs.MapLemmas.{either}
 use Rattle.iox_model.proofs.WholeLemmas.{some-is}
-use Rattle.iox_ledger.proofs.Lists.{none-some}
+use Rattle.iox_ledger.proofs.Truths.{none-some}
 use Rattle.iox_ledger.proofs.Views.{View, view, IsAt}
 use Rattle.iox_pools.proofs.Spare.{is_pending, count-is, SpareLoan, SparePending, IsOfRole, SpareOutcome, SpareDoing}
 

@@ -1,7 +1,7 @@
 -- A call begins with its counts below their limits.
 use Rattle.std.specs.Prelude.{◌≡◌, ℕ, ◌*◌, ◌<◌, Bool, true, false, not, ◌||◌, if◌then◌else◌, ◌==◌, nat_le, List, [], ◌++◌, Option, Some, None, ⊤, refl}
 use Rattle.std.specs.Option.{option_map_or}
-use Rattle.std.proofs.Common.{sym, subst, ap, ◌∙◌, arith, eqb-true, true≢false}
+use Rattle.std.proofs.Common.{sym, subst, ap, ◌∙◌, eqb-true, true≢false}
 use Rattle.iox_model.specs.declared.kind.Role.{Role}
 use Rattle.iox_model.specs.declared.kind.Role.TheVariants.{Client, Server}
 use Rattle.iox_model.specs.declared.kind.Kind.{Kind}
@@ -16,7 +16,7 @@ use Rattle.iox_model.specs.Doings.{refused, Tells, Fills, Drops, Doing, Ended, R
 use Rattle.iox_model.specs.Weaves.{wire_start, miscalled}
 use Rattle.iox_model.specs.Settings.{is_client, is_count}
 use Rattle.iox_model.specs.States.{Node, Port, Handle, Fixed, State}
-use Rattle.iox_model.specs.Loans.{kind_of_loan, loan_of, next_request, fits_size, loans_of_request, request_loan_refusal, response_loan_refusal, memory_refusal, lending_ways, unless_refused, Choice, Order}
+use Rattle.iox_model.specs.Loans.{loan_of, next_request, fits_size, loans_of_request, request_loan_refusal, response_loan_refusal, memory_refusal, lending_ways, unless_refused, Choice, Order}
 use Rattle.iox_model.specs.Handles.{same_kind, is_request_loan, is_response_loan, is_received, way_of, count_of, handle_at, subject, kind_of, node_of, Subject, ThePort, TheHandle}
 use Rattle.iox_model.specs.Maps.{refused_if, or_else}
 use Rattle.iox_model.specs.Names.{is_port, suits, misnamed}
@@ -28,20 +28,19 @@ use Rattle.iox_model.specs.Commands.{Refusal, Call, WireCall, number_of}
 use Rattle.iox_model.specs.Outstandings.{kept, is_dry}
 use Rattle.iox_model.specs.Joins.{node_at, not_living, not_dead}
 use Rattle.iox_model.specs.Peers.{port_at, forgot_port}
+use Rattle.iox_model.proofs.PlayedRuns.{split}
 use Rattle.iox_model.proofs.MapLemmas.{either}
 use Rattle.iox_model.proofs.WholeLemmas.{or_else-none}
-use Rattle.iox_ledger.proofs.Lists.{IsAmong, both, none-some, find-among}
+use Rattle.iox_ledger.proofs.Orders.{less}
+use Rattle.iox_ledger.proofs.Truths.{none-some, passed}
+use Rattle.iox_ledger.proofs.Lists.{IsAmong, find-among}
 use Rattle.iox_ledger.proofs.Views.{role_in, View, view, IsAt}
-use Rattle.iox_ledger.proofs.Starts.{IsNamedBy, named-by, IsThere, there}
+use Rattle.iox_ledger.proofs.Starts.{IsNamedBy, named-by, IsThere, there, kind-role}
 use Rattle.iox_pools.specs.PoolLaws.{lender}
 use Rattle.iox_pools.proofs.Spare.{is_of_client, count-is, FitsKinds, SpareLoan, RefusedIf, SpareDoing}
 use Rattle.iox_pools.proofs.SpareMoves.{sends-spare, loaning-spare, visiting-spare, closing-spare, checking-spare, hinting-spare, seeking-spare}
 
 -- ---- tests
-
-passed : {A : Type 0} (b : Bool) (r : A) → refused_if b r ≡ None → b ≡ false
-passed true r e = absurd (none-some r (sym e))
-passed false r e = refl
 
 -- ---- kinds that suit
 
@@ -115,15 +114,6 @@ third-free : (a b c : Bool) (q r t : Refusal) → or_else (refused_if a q) (or_e
 third-free a b c q r t e = second-free b c r t (or_else-none (refused_if a q) (or_else (refused_if b r) (refused_if c t)) e).1
 
 -- ---- loans
-
-less : (a b : ℕ) → nat_le a b ≡ false → b < a
-less a b h = grind (arith)
-
-kind-role : (role : Role) (uninit : Bool) → is_request_loan (kind_of_loan role uninit) ≡ is_client role
-kind-role Client true = refl
-kind-role Client false = refl
-kind-role Server true = refl
-kind-role Server false = refl
 
 -- a loan that a port of the node makes
 pub record IsLoanOf (f : Fixed) (n : ℕ) (h : Handle) : Type 0 where
@@ -261,7 +251,7 @@ begins-spare : (s : State) (n : ℕ) (gone Lender : ℕ → Type 0) (out : Type 
 begins-spare s n gone Lender out wire c (Loan k l) x dry by hs fits is node e =
     lends-spare s n gone Lender out c x (ordered l false) dry by hs fits is node (may-lend s.fixed n x fits is e)
 begins-spare s n gone Lender out wire c (LoanUninit k l) x dry by hs fits is node e =
-    lends-spare s n gone Lender out c x (ordered l true) dry by hs fits is node (may-lend s.fixed n x fits is (both (not wire) _ e).1)
+    lends-spare s n gone Lender out c x (ordered l true) dry by hs fits is node (may-lend s.fixed n x fits is (split (not wire) _ e).1)
 begins-spare s n gone Lender out wire c (Write k p) (TheHandle h) dry by hs fits is node e = writes-spare (view s.fixed n) gone out h p.elements p.words
 begins-spare s n gone Lender out wire c (Send k) (TheHandle h) dry by hs fits is node e = sends-spare s.fixed n gone out h false (hs h is)
 begins-spare s n gone Lender out wire c (SendCopy k p) x dry by hs fits is node e =

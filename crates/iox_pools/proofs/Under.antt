@@ -34,7 +34,7 @@ use Rattle.iox_model.specs.Ledgers.{serials_of_loan, serials_of_outcome, under_w
 use Rattle.iox_model.specs.Steps.{next, ends}
 use Rattle.iox_model.proofs.MapLemmas.{either}
 use Rattle.iox_model.proofs.WholeLemmas.{some-is}
-use Rattle.iox_ledger.proofs.Lists.{none-some}
+use Rattle.iox_ledger.proofs.Truths.{none-some}
 
 -- each of these serials is as it may be: the first number is the port's
 abbrev pub AreSo : (ℕ → ℕ → Type 0) → (ℕ → List ℕ) → Type 0

@@ -4,12 +4,8 @@ use Rattle.std.specs.List.{list_any}
 use Rattle.std.proofs.Common.{sym, subst, arith, eqb-true, inl, inr}
 use Rattle.std.proofs.lemmas.List.{length-append}
 use Rattle.std.proofs.Math.Nat.{suc-mul}
+use Rattle.iox_ledger.proofs.Counts.{count, one_if, count-cons, count-none}
 use Rattle.iox_ledger.proofs.Lists.{IsAmong, NoRepeats}
-use Rattle.iox_ledger.proofs.Borrows.{count, one_if, count-cons}
-
-pub and-true : (a b : Bool) → a ≡ true → b ≡ true → (a && b) ≡ true
-and-true true b e f = f
-and-true false b e f = e
 
 -- either of two tests
 pub count-or : {A : Type 0} (a b : A → Bool) (xs : List A) → count (λ x. a x || b x) xs ≤ count a xs + count b xs
@@ -25,28 +21,10 @@ count-or a b (x ∷ xs) =
     joins : (p q r m n k : ℕ) {c d e : ℕ} → r ≤ p + q → k ≤ m + n → c ≡ p + m → d ≡ q + n → e ≡ r + k → e ≤ c + d
     joins p q r m n k {c} {d} {e} f g x y z = omega arith
 
-pub count-none : {A : Type 0} (xs : List A) → count (λ x. false) xs ≡ 0
-count-none [] = refl
-count-none (x ∷ xs) = count-none xs
-
--- a test that lets pass no more
-pub count-fewer : {A : Type 0} (a b : A → Bool) (xs : List A) → ((x : A) → IsAmong x xs → a x ≡ true → b x ≡ true) → count a xs ≤ count b xs
-count-fewer a b [] f = omega arith
-count-fewer a b (x ∷ xs) f =
-    joins (one_if (a x)) (one_if (b x)) (count a xs) (count b xs) (one (a x) (b x) (f x (inl refl))) (count-fewer a b xs (λ y p. f y (inr p)))
-    (count-cons a x xs) (count-cons b x xs)
-  where
-    one : (p q : Bool) → (p ≡ true → q ≡ true) → one_if p ≤ one_if q
-    one true q g = subst (λ r. 1 ≤ one_if r) (sym (g refl)) (omega arith)
-    one false q g = omega arith
-
-    joins : (p q m n : ℕ) {c d : ℕ} → p ≤ q → m ≤ n → c ≡ p + m → d ≡ q + n → c ≤ d
-    joins p q m n {c} {d} f g x y = omega arith
-
 -- one of many tests, of which each lets pass so many at most
 pub count-any : {A W : Type 0} (test : W → A → Bool) (most : ℕ) (ws : List W) (xs : List A) → ((w : W) → IsAmong w ws → count (test w) xs ≤ most)
     → count (λ x. list_any (λ w. test w x) ws) xs ≤ length ws * most
-count-any test most [] xs f = subst (λ n. n ≤ 0 * most) (sym (count-none xs)) (omega arith)
+count-any test most [] xs f = subst (λ n. n ≤ 0 * most) (sym (count-none (λ x. false) xs (λ x a. refl))) (omega arith)
 count-any test most (w ∷ ws) xs f =
     joins (count (test w) xs) (count (λ x. list_any (λ v. test v x) ws) xs) (length ws * most) (count-or (test w) (λ x. list_any (λ v. test v x) ws) xs)
     (f w (inl refl)) (count-any test most ws xs (λ v p. f v (inr p))) (suc-mul (length ws) most)
@@ -78,14 +56,14 @@ count-equal n (k ∷ ks) d = by_case (n == k) refl (count-equal n ks d.1)
 -- the numbers of those that pass a test are no more than they
 pub count-named : {A : Type 0} (test : A → Bool) (number : A → ℕ) (xs : List A) (ns : List ℕ) → NoRepeats ns
     → count (λ k. list_any (λ x. test x && (number x == k)) xs) ns ≤ count test xs
-count-named test number [] ns d = subst (λ n. n ≤ 0) (sym (count-none ns)) (omega arith)
+count-named test number [] ns d = subst (λ n. n ≤ 0) (sym (count-none (λ k. false) ns (λ k a. refl))) (omega arith)
 count-named test number (x ∷ xs) ns d =
     joins (count (λ k. test x && (number x == k)) ns) (count (λ k. list_any (λ y. test y && (number y == k)) xs) ns) (one_if (test x)) (count test xs)
     (count-or (λ k. test x && (number x == k)) (λ k. list_any (λ y. test y && (number y == k)) xs) ns) (one (test x)) (count-named test number xs ns d) (count-cons test x xs)
   where
     one : (b : Bool) → count (λ k. b && (number x == k)) ns ≤ one_if b
     one true = count-equal (number x) ns d
-    one false = subst (λ n. n ≤ 0) (sym (count-none ns)) (omega arith)
+    one false = subst (λ n. n ≤ 0) (sym (count-none (λ k. false) ns (λ k a. refl))) (omega arith)
 
     joins : (a b c e : ℕ) {m n : ℕ} → m ≤ a + b → a ≤ c → b ≤ e → n ≡ c + e → m ≤ n
     joins a b c e {m} {n} p q r s = omega arith

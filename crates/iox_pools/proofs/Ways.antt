@@ -20,17 +20,18 @@ use Rattle.iox_model.specs.Ledgers.{had_on, is_emptied_by, is_emptied, is_live}
 use Rattle.iox_model.specs.Peers.{port_at, is_connected_port, node_of_port, ports_of_role, ports_of_node, forgot_port, others, is_counted_on, buffer_on, borrow_limit_on, ways_from_client, lanes_to, ways_from_server, ways_from}
 use Rattle.iox_ledger.specs.OnceLaws.{IsOnWire}
 use Rattle.iox_ledger.specs.QueueLaws.{evicts_next, has_evicted}
-use Rattle.iox_ledger.proofs.Lists.{IsAmong, never, both, not-true, among-filter, among-map, map-among, find-among, any-among, among-any, among-number, among-way}
+use Rattle.iox_ledger.proofs.Truths.{never, false_if, both_true}
+use Rattle.iox_ledger.proofs.Lists.{IsAmong, among-filter, among-map, map-among, find-among, any-among, among-any, among-number, among-way, find-own}
 use Rattle.iox_ledger.proofs.Views.{IsAt, node_in, role_in}
-use Rattle.iox_ledger.proofs.Phases.{HasOwnPorts, find-own}
+use Rattle.iox_ledger.proofs.Phases.{HasOwnPorts}
 use Rattle.iox_ledger.proofs.LedgerHolds.{ledger_stays_within}
 use Rattle.iox_ledger.proofs.Outstanding.{outstanding_is_counted}
 use Rattle.iox_ledger.proofs.Buffers.{buffer_holds, one_in_hand}
 use Rattle.iox_ledger.proofs.Borrows.{borrow_limit_holds}
 use Rattle.iox_ledger.proofs.Cleared.{nothing_to_the_dead}
-use Rattle.iox_pools.proofs.Unions.{and-true}
 use Rattle.iox_pools.proofs.SpareStarts.{IsLoanOf, role-is}
 use Rattle.iox_pools.proofs.Kept.{among-flat, of-role, IsWayOf, client-way, server-way, most_out}
+use Rattle.iox_model.proofs.PlayedRuns.{split}
 
 -- ---- where all is back
 
@@ -91,9 +92,9 @@ others-has f n q role a known =
     let t : (p : Port) × IsAmong p f.ports × (q ≡ p.number) × (same_role p.role role ≡ true) = of-role f q role a in
     subst (λ k. IsAmong k (others f n role)) (sym t.2)
     (among-map (λ (p : Port). p.number) t.0 (filter (λ p. same_role p.role role && not (has_number p.node (f.forgot n))) f.ports)
-    (among-filter (λ p. same_role p.role role && not (has_number p.node (f.forgot n))) t.0 f.ports t.1 (and-true (same_role (t.0).role role) (not (has_number (t.0).node (f.forgot n))) t.3
-    (not-so (has_number (t.0).node (f.forgot n)) (not-true (has_number (t.0).node (f.forgot n)) (λ e. never (forgot_port f n q)
-    (among-any (λ p. (p.number == q) && has_number p.node (f.forgot n)) t.0 f.ports t.1 (and-true ((t.0).number == q) (has_number (t.0).node (f.forgot n)) (eq-eqb (t.0).number q (sym t.2)) e)) known))))))
+    (among-filter (λ p. same_role p.role role && not (has_number p.node (f.forgot n))) t.0 f.ports t.1 (both_true (same_role (t.0).role role) (not (has_number (t.0).node (f.forgot n))) t.3
+    (not-so (has_number (t.0).node (f.forgot n)) (false_if (has_number (t.0).node (f.forgot n)) (λ e. never (forgot_port f n q)
+    (among-any (λ p. (p.number == q) && has_number p.node (f.forgot n)) t.0 f.ports t.1 (both_true ((t.0).number == q) (has_number (t.0).node (f.forgot n)) (eq-eqb (t.0).number q (sym t.2)) e)) known))))))
 
 pub flat-among : {A B : Type 0} (f : A → List B) (b : B) (a : A) (xs : List A) → IsAmong a xs → IsAmong b (f a) → IsAmong b (flat_map f xs)
 flat-among f b a [] p q = absurd p
@@ -143,7 +144,7 @@ way-of f port p w is a = by_role p.role (subst (λ (q : Role). IsAmong w (if is_
     by_role Server b = server-way f port w b
 
 node-of : (f : Fixed) (p : Port) → HasOwnPorts f → IsAmong p f.ports → node_in f.ports p.number ≡ p.node
-node-of f p own a = ap (λ (o : Option Port). option_map_or (λ x. x.node) o 0) (find-own f.ports p own a)
+node-of f p own a = ap (λ (o : Option Port). option_map_or (λ x. x.node) o 0) (find-own (λ (p : Port). p.number) f.ports p own a)
 
 pub connected : (f : Fixed) (port : ℕ) (p : Port) → IsAmong p f.ports → port ≡ p.number → is_connected_port f port ≡ true
 connected f port p a e = among-any (λ (x : Port). x.number == port) p f.ports a (eq-eqb p.number port (sym e))
@@ -151,22 +152,22 @@ connected f port p a e = among-any (λ (x : Port). x.number == port) p f.ports a
 -- nobody forgot the node of a port that lives
 port-known : (s : State) (n m port : ℕ) → HasOwnPorts s.fixed → ForgetsTheDead s → not_living s n ≡ None → IsAt s.fixed.ports port n → forgot_port s.fixed m port ≡ false
 port-known s n m port own dead living at =
-    not-true (forgot_port s.fixed m port) (λ e. known (any-among (λ p. (p.number == port) && has_number p.node (s.fixed.forgot m)) s.fixed.ports e))
+    false_if (forgot_port s.fixed m port) (λ e. known (any-among (λ p. (p.number == port) && has_number p.node (s.fixed.forgot m)) s.fixed.ports e))
   where
     known : (p : Port) × IsAmong p s.fixed.ports × (((p.number == port) && has_number p.node (s.fixed.forgot m)) ≡ true) → ⊥
     known r =
-        let q : (((r.0).number == port) ≡ true) × (has_number (r.0).node (s.fixed.forgot m) ≡ true) = both _ _ r.2 in
+        let q : (((r.0).number == port) ≡ true) × (has_number (r.0).node (s.fixed.forgot m) ≡ true) = split _ _ r.2 in
         dead m n (subst (λ k. has_number k (s.fixed.forgot m) ≡ true) (sym (node-of s.fixed r.0 own r.1) ∙ ap (node_in s.fixed.ports) (eqb-true (r.0).number port q.0) ∙ at) q.1) living
 
 live-way : (s : State) (n port : ℕ) (p : Port) (role : Role) (w : Way) → HasOwnPorts s.fixed → ForgetsTheDead s → not_living s n ≡ None → port_at s.fixed port ≡ Some p
     → IsAt s.fixed.ports port n → IsWayOf s.fixed port role w → forgot_port s.fixed n w.receiver ≡ false → is_live s.fixed w ≡ true
 live-way s n port p role w own dead living is at way known =
     let f : IsAmong p s.fixed.ports × ((p.number == port) ≡ true) = find-among (λ (x : Port). x.number == port) p s.fixed.ports is in
-    and-true (is_counted_on s.fixed w) (is_connected_port s.fixed w.receiver && not (forgot_port s.fixed (node_of_port s.fixed w.receiver) w.sender))
-    (and-true (is_connected_port s.fixed w.sender) (not (forgot_port s.fixed (node_of_port s.fixed w.sender) w.receiver))
+    both_true (is_counted_on s.fixed w) (is_connected_port s.fixed w.receiver && not (forgot_port s.fixed (node_of_port s.fixed w.receiver) w.sender))
+    (both_true (is_connected_port s.fixed w.sender) (not (forgot_port s.fixed (node_of_port s.fixed w.sender) w.receiver))
     (connected s.fixed w.sender p f.0 (way.sender ∙ sym (eqb-true p.number port f.1)))
     (not-so (forgot_port s.fixed (node_of_port s.fixed w.sender) w.receiver) (ap (λ k. forgot_port s.fixed k w.receiver) (ap (node_in s.fixed.ports) way.sender ∙ at) ∙ known)))
-    (and-true (is_connected_port s.fixed w.receiver) (not (forgot_port s.fixed (node_of_port s.fixed w.receiver) w.sender))
+    (both_true (is_connected_port s.fixed w.receiver) (not (forgot_port s.fixed (node_of_port s.fixed w.receiver) w.sender))
     (connected s.fixed w.receiver way.to way.among way.receiver)
     (not-so (forgot_port s.fixed (node_of_port s.fixed w.receiver) w.sender)
     (port-known s n (node_of_port s.fixed w.receiver) w.sender own dead living (ap (node_in s.fixed.ports) way.sender ∙ at))))
@@ -184,11 +185,11 @@ nothing-there s v bs n port p role w on own is at way forgot =
   where
     gone : (q : Port) × IsAmong q v.state.fixed.ports × (((q.number == w.receiver) && has_number q.node (v.state.fixed.forgot n)) ≡ true) → outstanding_on v.state w ≡ []
     gone r =
-        let q : (((r.0).number == w.receiver) ≡ true) × (has_number (r.0).node (v.state.fixed.forgot n) ≡ true) = both _ _ r.2 in
+        let q : (((r.0).number == w.receiver) ≡ true) × (has_number (r.0).node (v.state.fixed.forgot n) ≡ true) = split _ _ r.2 in
         let f : IsAmong p v.state.fixed.ports × ((p.number == port) ≡ true) = find-among (λ (x : Port). x.number == port) p v.state.fixed.ports is in
         let number : p.number ≡ port = eqb-true p.number port f.1 in
         nothing_to_the_dead s v bs n (r.0).node w on q.1
-        (and-true (has_number w.sender (ports_of_node v.state.fixed n)) (has_number w.receiver (ports_of_node v.state.fixed (r.0).node))
+        (both_true (has_number w.sender (ports_of_node v.state.fixed n)) (has_number w.receiver (ports_of_node v.state.fixed (r.0).node))
         (of-node v.state.fixed p n w.sender f.0 (sym (node-of v.state.fixed p own f.0) ∙ ap (node_in v.state.fixed.ports) number ∙ at) (way.sender ∙ sym number))
         (of-node v.state.fixed r.0 (r.0).node w.receiver r.1 refl (sym (eqb-true (r.0).number w.receiver q.0))))
 
@@ -197,7 +198,7 @@ pub most-is : (f : Fixed) (port : ℕ) (p : Port) (w : Way) → HasOwnPorts f �
 most-is f port p w own is way =
     ap (λ (r : Role). buffer_of f.limits r + borrow_limit_on f w) (ap (role_in f.ports) way.sender ∙ role-is f port p is)
     ∙ ap (λ (r : Role). buffer_of f.limits p.role + borrow_limit_of f.limits r)
-    (ap (λ k. other_role (role_in f.ports k)) way.receiver ∙ ap (λ (r : Role). other_role r) (role-is f way.to.number way.to (find-own f.ports way.to own way.among))
+    (ap (λ k. other_role (role_in f.ports k)) way.receiver ∙ ap (λ (r : Role). other_role r) (role-is f way.to.number way.to (find-own (λ (p : Port). p.number) f.ports way.to own way.among))
     ∙ back (way.to).role p.role way.of_role)
   where
     back : (a b : Role) → same_role a (other_role b) ≡ true → other_role a ≡ b

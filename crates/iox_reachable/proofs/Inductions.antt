@@ -1,6 +1,6 @@
 -- What no step of a service or of its hub makes false stays so over each run and each history.
-use Rattle.std.specs.Prelude.{◌≡◌, ℕ, Bool, List, [], ◌∷◌, Option, Some, None, refl}
-use Rattle.std.proofs.Common.{sym, subst}
+use Rattle.std.specs.Prelude.{◌≡◌, ℕ, Bool, List, [], ◌∷◌, Option, Some, None, ◌⊎◌, refl}
+use Rattle.std.proofs.Common.{sym, subst, inl, inr}
 use Rattle.iox_types.specs.declared.identifiers.system_id.UniqueSystemId.{UniqueSystemId}
 use Rattle.iox_model.specs.declared.backpressure.BackpressureAction.{BackpressureAction}
 use Rattle.iox_model.specs.declared.call.Call.TheVariants.{Release}
@@ -11,19 +11,25 @@ use Rattle.iox_model.specs.declared.kind.Role.{Role}
 use Rattle.iox_model.specs.declared.reply.Reply.TheVariants.{Done}
 use Rattle.iox_model.specs.Commands.{Refusal, Reply, Call, Options, PortCommand, Command}
 use Rattle.iox_model.specs.Counts.{with_fixed}
-use Rattle.iox_model.specs.Joins.{not_living, not_dead, opening_refusal, with_members}
+use Rattle.iox_model.specs.Joins.{not_living, not_dead, opening_refusal, with_members, joined}
 use Rattle.iox_model.specs.Makings.{making_refusal, new_port, with_port, IsPortCommand}
 use Rattle.iox_model.specs.Names.{misnamed}
 use Rattle.iox_model.specs.Runs.{created, IsRun, IsHistory, Record}
-use Rattle.iox_model.specs.Services.{leaving_refusal, numbers_of_node, with_own_id, Releases, IsCommand}
+use Rattle.iox_model.specs.Services.{without_node, with_death, leaving_refusal, numbers_of_node, with_own_id, Releases, IsCommand}
 use Rattle.iox_model.specs.Settings.{Limits}
 use Rattle.iox_model.specs.States.{Members, State}
 use Rattle.iox_model.specs.WholeCalls.{UnlessRefused, spent, IsDone, IsWholeCall}
 use Rattle.iox_reachable.specs.Worlds.{IsServed}
 
+-- a node joins, leaves or dies
+abbrev pub IsOfNodes : State → Members → Type 0
+IsOfNodes s x =
+    ((id : UniqueSystemId) × (x ≡ joined s.members id))
+    ⊎ (((n : ℕ) × (x ≡ (without_node s n).members)) ⊎ ((n : ℕ) × (x ≡ (with_death s n).members)))
+
 -- No step makes it false: not one of the nodes alone, nor the making of a port, nor a whole call.
 pub record IsKept (P : State → Type 0) : Type 0 where
-  pub nodes : (s : State) (x : Members) → P s → P (with_members s x)
+  pub nodes : (s : State) (x : Members) → IsOfNodes s x → P s → P (with_members s x)
   pub makes : (s : State) (node : ℕ) (role : Role) (id : UniqueSystemId) (o : Options) (memory : Bool)
       → making_refusal s.fixed role o memory ≡ None → P s
       → P (with_fixed s (with_port s.fixed (new_port s.fixed node role id o)))
@@ -36,12 +42,16 @@ pub unless_keeps : (P : State → Type 0) (q : Option Refusal) (s : State) (repl
 unless_keeps P (Some x) s reply t Q p f u = subst P (sym u.1) p
 unless_keeps P None s reply t Q p f u = f refl u
 
+pub unless_done : (P : State → Type 0) (s : State) (node : ℕ) (call : Call) (reply : Reply) (t : State)
+    → P s → (misnamed s.fixed node call ≡ None → IsDone s node call reply t → P t) → IsWholeCall s node call reply t → P t
+unless_done P s node call reply t p f =
+    unless_keeps P (misnamed s.fixed node call) s reply t (UnlessRefused (spent s.fixed call) s reply t (IsDone s node call reply t)) p
+    (λ named. unless_keeps P (spent s.fixed call) s reply t (IsDone s node call reply t) p (λ u. f named))
+
 pub whole_keeps : (P : State → Type 0) → IsKept P → (s : State) (node : ℕ) (call : Call) (reply : Reply) (t : State)
     → P s → IsWholeCall s node call reply t → P t
 whole_keeps P k s node call reply t p =
-    unless_keeps P (misnamed s.fixed node call) s reply t (UnlessRefused (spent s.fixed call) s reply t (IsDone s node call reply t)) p
-    (λ named. unless_keeps P (spent s.fixed call) s reply t (IsDone s node call reply t) p
-    (λ u done. k.calls s node call reply t named done p))
+    unless_done P s node call reply t p (λ named done. k.calls s node call reply t named done p)
 
 pub port_command_keeps : (P : State → Type 0) → IsKept P → (s : State) (node : ℕ) (c : PortCommand) (reply : Reply) (t : State)
     → P s → IsPortCommand s node c reply t → P t
@@ -59,22 +69,25 @@ releases_keep P k s node (n ∷ ns) t p e =
 pub command_keeps : (P : State → Type 0) → IsKept P → (s : State) (c : Command) (reply : Reply) (t : State)
     → P s → IsCommand s c reply t → P t
 command_keeps P k s (commands.Open id asked) reply t p c =
-    unless_keeps P (opening_refusal s id asked c.0) s reply t _ p (λ u done. subst P (sym done.1) (k.nodes s _ p)) c.1
+    unless_keeps P (opening_refusal s id asked c.0) s reply t _ p
+    (λ u done. subst P (sym done.1) (k.nodes s (joined s.members id) (inl (id, refl)) p)) c.1
 command_keeps P k s (OfNode node command) reply t p c =
     unless_keeps P (not_living s node) s reply t _ p (λ u. port_command_keeps P k s node (with_own_id s node command) reply t p) c
 command_keeps P k s (Leave node) reply t p c =
-    unless_keeps P (leaving_refusal s node) s reply t _ p (λ u done. subst P (sym done.1) (k.nodes s _ p)) c
+    unless_keeps P (leaving_refusal s node) s reply t _ p
+    (λ u done. subst P (sym done.1) (k.nodes s (without_node s node).members (inr (inl (node, refl))) p)) c
 command_keeps P k s (DeclareDead node) reply t p c =
-    unless_keeps P (not_living s node) s reply t _ p (λ u done. subst P (sym done.1) (k.nodes s _ p)) c
+    unless_keeps P (not_living s node) s reply t _ p
+    (λ u done. subst P (sym done.1) (k.nodes s (with_death s node).members (inr (inr (node, refl))) p)) c
 command_keeps P k s (Cleanup node) reply t p c =
     unless_keeps P (not_dead s node) s reply t _ p
     (λ u done. subst P (sym done.3)
-    (k.nodes done.0 _ (releases_keep P k s node (numbers_of_node s.fixed node) done.0 p done.1))) c
+    (k.nodes done.0 (without_node done.0 node).members (inr (inl (node, refl))) (releases_keep P k s node (numbers_of_node s.fixed node) done.0 p done.1))) c
 command_keeps P k s ListNodes reply t p c = subst P (sym c.1) p
 command_keeps P k s ListClients reply t p c = subst P (sym c.1) p
 command_keeps P k s ListServers reply t p c = subst P (sym c.1) p
 
-run_keeps : (P : State → Type 0) → IsKept P → (s : State) (cs : List Command) (rs : List Reply) (t : State)
+pub run_keeps : (P : State → Type 0) → IsKept P → (s : State) (cs : List Command) (rs : List Reply) (t : State)
     → P s → IsRun s cs rs t → P t
 run_keeps P k s [] [] t p run = subst P (sym run) p
 run_keeps P k s (c ∷ cs) (a ∷ rs) t p run = run_keeps P k run.0 cs rs t (command_keeps P k s c a run.0 p run.1) run.2

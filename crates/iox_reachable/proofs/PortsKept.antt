@@ -80,7 +80,7 @@ pub is_kept : (P : OfPorts) → IsSteady P
     → making_refusal f role o memory ≡ None → Says P f → Says P (with_port f (new_port f node role id o)))
     → IsKept (λ s. Says P s.fixed)
 is_kept P k makes = record {
-  nodes = λ s x p. p;
+  nodes = λ s x u p. p;
   makes = λ s node role id o memory allowed p. makes s.fixed node role id o memory allowed p;
   calls = λ s node call reply t named d p.
       subst (λ (x : State). Says P x.fixed) (sym d.9)

@@ -1,4 +1,5 @@
--- What holds along each call holds along each run, with the trace that it made.
+-- What holds along each call holds along each run, with the trace that it made; and what no step makes
+-- false holds in each state that is left.
 use Rattle.std.specs.Prelude.{◌≡◌, ℕ, List, [], ◌∷◌, ◌++◌, Option, Some, None, refl}
 use Rattle.std.proofs.Common.{sym, subst}
 use Rattle.std.proofs.lemmas.List.{append-nil}
@@ -23,6 +24,7 @@ use Rattle.iox_model.specs.WholeCalls.{UnlessRefused, spent, IsDone, IsWholeCall
 use Rattle.iox_reachable.specs.Worlds.{IsServed}
 use Rattle.iox_runs.specs.Lefts.{IsLeft}
 use Rattle.iox_runs.specs.Traces.{unless_refused, beats_of_done, beats_of_call, beats_of_port_command, beats_of_releases, beats_of_command, beats_of_run, beats_of_history, beats_of_served, beats_of_left}
+use Rattle.iox_reachable.proofs.Inductions.{IsKept, history_keeps, IsFirst, served_keeps}
 
 -- a relation of a state, the beats that lead on from there, and the state that they leave
 abbrev pub Relates : Type 1
@@ -130,3 +132,7 @@ left_along R a s left =
     let served : IsServed left.0 = left.2 in
     a.both (created_for s left) left.0 s (beats_of_served left.0 served) (beats_of_history left.0 left.1 s left.3)
     (run_along R a (created_for s left) served.3 served.4 left.0 served.5) (history_along R a left.0 left.1 s left.3)
+
+-- What no step makes false is so of each state that is left, whatever the trace.
+pub left_keeps : (P : State → Type 0) → IsKept P → IsFirst P → (s : State) → IsLeft s → P s
+left_keeps P k first s left = history_keeps P k left.0 left.1 s (served_keeps P k first left.0 left.2) left.3

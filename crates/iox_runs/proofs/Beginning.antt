@@ -3,7 +3,7 @@ use Rattle.std.specs.Prelude.{◌≡◌, ℕ, Bool, true, false, not, ◌||◌, 
 use Rattle.std.specs.Option.{option_map_or}
 use Rattle.std.proofs.Common.{sym, subst, ap, ◌∙◌, true≢false, eqb-true}
 use Rattle.iox_model.specs.declared.kind.Kind.{Kind}
-use Rattle.iox_model.specs.declared.kind.Kind.TheVariants.{RequestMutUninit, RequestMut, ResponseMutUninit, ResponseMut, PendingResponse, ActiveRequest, Response}
+use Rattle.iox_model.specs.declared.kind.Kind.TheVariants.{RequestMutUninit, RequestMut, ResponseMutUninit, ResponseMut, PendingResponse}
 use Rattle.iox_model.specs.declared.kind.Kind.TheVariants as kinds
 use Rattle.iox_model.specs.declared.kind.Role.{Role}
 use Rattle.iox_model.specs.declared.kind.Role.TheVariants.{Client, Server}
@@ -25,12 +25,11 @@ use Rattle.iox_model.specs.Settings.{is_client, is_count}
 use Rattle.iox_model.specs.States.{Port, Handle, Fixed, State}
 use Rattle.iox_model.proofs.MapLemmas.{either}
 use Rattle.iox_model.proofs.WholeLemmas.{some-is, or_else-none}
+use Rattle.iox_ledger.proofs.Truths.{passes, none-some, by_cases, or-left, or-right, or-rest, or-false}
 use Rattle.iox_ledger.proofs.Lists.{IsAmong, find-among}
 use Rattle.iox_ledger.proofs.Phases.{HasOwnPorts}
 use Rattle.iox_ledger.proofs.Senders.{is_loan, IsMade}
 use Rattle.iox_ledger.proofs.Views.{role_in}
-use Rattle.iox_reachable.proofs.Begun.{none-some}
-use Rattle.iox_reachable.proofs.WayLemmas.{by_cases, or-left, or-right, or-rest, or-false}
 use Rattle.iox_runs.proofs.Holding.{LoanFits, HoldsIn, sends_holds, loaning_holds, visiting_holds, closing_holds, checking_holds, hinting_holds, seeking_holds}
 
 -- ---- handles
@@ -185,10 +184,6 @@ begins_hold s c (HasHint n) (TheHandle h) own q suited = checking_holds s.fixed 
 begins_hold s c (HasRequests n) (ThePort p) own q suited = seeking_holds s.fixed (server_ways s.fixed p)
 begins_hold s c (HasResponse n) (TheHandle h) own q suited = seeking_holds s.fixed (pending_ways s.fixed h)
 begins_hold s c call x own q suited = tt
-
-passes : (b : Bool) (r : Refusal) → refused_if (not b) r ≡ None → b ≡ true
-passes true r e = refl
-passes false r e = none-some r (sym e)
 
 at_holds : (s : State) (node : ℕ) (c : Choice) (call : Call) (x : Option Subject) → HasOwnPorts s.fixed → AreKept s.fixed
     → subject s.fixed node (number_of call) ≡ x → misnamed_by s.fixed node call x ≡ None → HoldsIn s.fixed (option_map_or (begins_at s c call) x (refused UnknownNumber))

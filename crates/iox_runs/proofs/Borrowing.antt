@@ -1,6 +1,7 @@
 -- In the midst of a call, too, a receiver has at most as many messages of a way as it may borrow.
 use Rattle.std.specs.Prelude.{◌≡◌, ℕ, ◌+◌, ◌≤◌, Bool, true, false, not, ◌&&◌, if◌then◌else◌, ◌==◌, nat_le, List, [], ◌∷◌, length, map, filter, Option, Some, None, refl}
 use Rattle.std.proofs.Common.{sym, subst, ap, ◌∙◌, arith}
+use Rattle.std.proofs.lemmas.List.{length-map, length-append}
 use Rattle.iox_model.specs.declared.way.Way.{Way}
 use Rattle.iox_model.specs.Begins.{start}
 use Rattle.iox_model.specs.Doings.{Receives, Doing, Ended, Judging, Stale}
@@ -9,29 +10,15 @@ use Rattle.iox_model.specs.Maps.{same_way}
 use Rattle.iox_model.specs.Peers.{node_of_port, borrow_limit_on}
 use Rattle.iox_model.specs.States.{Handle, Fixed, State}
 use Rattle.iox_model.specs.WholeCalls.{moved_by, left_by}
+use Rattle.iox_model.proofs.PlayedRuns.{split}
 use Rattle.iox_model.proofs.MapLemmas.{either, same_way-true}
 use Rattle.iox_model.proofs.WholeLemmas.{moved_by-fixed}
-use Rattle.iox_ledger.proofs.Borrows.{count, one_if, count-cons, length-map, length-append}
+use Rattle.iox_ledger.proofs.Counts.{count, count-fewer}
 use Rattle.iox_runs.specs.Moving.{amid, BorrowsStayWithin}
 use Rattle.iox_runs.proofs.Calls.{Goes, goes_by, begins}
 use Rattle.iox_runs.proofs.Holding.{is_lost, IsBelow, HoldsIn}
 use Rattle.iox_runs.proofs.Owning.{Has}
 use Rattle.iox_runs.proofs.Runs.{left_calm}
-
--- a test that passes less counts less
-count-fewer : {A : Type 0} (test other : A → Bool) → ((x : A) → one_if (test x) ≤ one_if (other x)) → (xs : List A) → count test xs ≤ count other xs
-count-fewer test other fewer [] = omega arith
-count-fewer test other fewer (x ∷ xs) =
-    sum (count test (x ∷ xs)) (one_if (test x)) (count test xs) (count other (x ∷ xs)) (one_if (other x)) (count other xs)
-    (count-cons test x xs) (count-cons other x xs) (fewer x) (count-fewer test other fewer xs)
-  where
-    sum : (a b c d e f : ℕ) → a ≡ b + c → d ≡ e + f → b ≤ e → c ≤ f → a ≤ d
-    sum a b c d e f p q r t = omega arith
-
-and-fewer : (a b : Bool) → one_if (a && b) ≤ one_if a
-and-fewer true true = omega arith
-and-fewer true false = omega arith
-and-fewer false b = omega arith
 
 -- what the receiver has, and what its call took
 with_taken : (f : Fixed) (node a : ℕ) (y : Way) (d : Doing) → Has f → HoldsIn f d → a ≤ count (has_received y) (f.handles (node_of_port f y.receiver))
@@ -68,9 +55,9 @@ held_within f node y d has holds =
     either (λ (o : Option Doing). length (held_on y hs o) ≤ borrow_limit_on f y) (node_of_port f y.receiver == node) (Some d) None
     (λ u. subst (λ k. k ≤ borrow_limit_on f y)
     (sym (length-append (map (λ (h : Handle). h.message.serial) (filter here hs)) (taken_by y d)
-    ∙ ap (λ k. k + length (taken_by y d)) (length-map (λ (h : Handle). h.message.serial) (filter here hs))))
-    (with_taken f node (count here hs) y d has holds (count-fewer here (has_received y) (λ h. and-fewer (has_received y h) (not (is_given_up h d))) hs)))
-    (λ u. subst (λ k. k ≤ borrow_limit_on f y) (sym (length-map (λ (h : Handle). h.message.serial) (filter (has_received y) hs))) (has.few y))
+    ∙ ap (λ k. k + length (taken_by y d)) (length-map (filter here hs) (λ (h : Handle). h.message.serial))))
+    (with_taken f node (count here hs) y d has holds (count-fewer here (has_received y) hs (λ h a e. (split (has_received y h) (not (is_given_up h d)) e).0))))
+    (λ u. subst (λ k. k ≤ borrow_limit_on f y) (sym (length-map (filter (has_received y) hs) (λ (h : Handle). h.message.serial))) (has.few y))
 
 pub borrows_stay_within : BorrowsStayWithin
 borrows_stay_within s node call c ms v left named may =

@@ -1,6 +1,7 @@
 -- What waits, and what receivers have, between calls, and what waits in the midst of a call.
 use Rattle.std.specs.Prelude.{◌≡◌, ℕ, ◌+◌, ◌≤◌, Bool, true, false, if◌then◌else◌, ◌==◌, nat_le, length, filter, Some, refl}
 use Rattle.std.proofs.Common.{sym, subst, ap, ◌∙◌, eqb-true, arith}
+use Rattle.std.proofs.lemmas.List.{length-map}
 use Rattle.iox_model.specs.declared.way.Way.{Way}
 use Rattle.iox_model.specs.Begins.{start}
 use Rattle.iox_model.specs.Doings.{Doing}
@@ -9,10 +10,10 @@ use Rattle.iox_model.specs.Peers.{is_connected_port, node_of_port, buffer_on, bo
 use Rattle.iox_model.specs.States.{Handle, Fixed, State}
 use Rattle.iox_model.specs.WholeCalls.{moved_by, left_by}
 use Rattle.iox_model.proofs.WholeLemmas.{moved_by-fixed}
-use Rattle.iox_ledger.proofs.Borrows.{length-map}
+use Rattle.iox_ledger.proofs.Truths.{by_cases}
+use Rattle.iox_ledger.proofs.Orders.{le-from}
 use Rattle.iox_ledger.specs.QueueLaws.{evicts_next}
 use Rattle.iox_reachable.proofs.Waiting.{by_cases_of}
-use Rattle.iox_reachable.proofs.WayLemmas.{by_cases}
 use Rattle.iox_runs.specs.Moving.{QueuesStayWithin}
 use Rattle.iox_runs.specs.Resting.{QueuesRestWithin, QueuesOfTheGoneRestWithin, BorrowsRestWithin}
 use Rattle.iox_runs.proofs.Calls.{Goes, goes_by, begins}
@@ -21,12 +22,9 @@ use Rattle.iox_runs.proofs.Parting.{there_within}
 use Rattle.iox_runs.proofs.Settling.{Calm}
 use Rattle.iox_runs.proofs.Runs.{left_calm}
 
-le_from : (a b : ℕ) → nat_le a (b + 0) ≡ true → a ≤ b
-le_from a b e = grind (arith)
-
 pub queues_rest_within : QueuesRestWithin
 queues_rest_within s v left connected =
-    le_from (length (s.waiting v)) (buffer_on s.fixed v) (((left_calm s left).rests).within (node_of_port s.fixed v.sender) v (connected, refl))
+    le-from (length (s.waiting v)) (buffer_on s.fixed v) (((left_calm s left).rests).within (node_of_port s.fixed v.sender) v (connected, refl))
 
 pub queues_of_the_gone_rest_within : QueuesOfTheGoneRestWithin
 queues_of_the_gone_rest_within s v left =
@@ -61,5 +59,5 @@ queues_stay_within s node call c ms v left named may connected =
 pub borrows_rest_within : BorrowsRestWithin
 borrows_rest_within s v left =
     subst (λ n. n ≤ borrow_limit_on s.fixed v)
-    (sym (length-map (λ (h : Handle). h.message.serial) (filter (has_received v) (s.fixed.handles (node_of_port s.fixed v.receiver)))))
+    (sym (length-map (filter (has_received v) (s.fixed.handles (node_of_port s.fixed v.receiver))) (λ (h : Handle). h.message.serial)))
     (((left_calm s left).owned).has.few v)

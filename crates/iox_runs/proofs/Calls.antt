@@ -1,5 +1,5 @@
 -- A whole call of a service comes to its end, and leaves what rests.
-use Rattle.std.specs.Prelude.{◌≡◌, ℕ, true, false, ◌==◌, nat_lt, List, [], ◌∷◌, ◌++◌, map, Option, Some, None, refl}
+use Rattle.std.specs.Prelude.{◌≡◌, ℕ, true, false, ◌==◌, nat_lt, List, [], ◌∷◌, ◌++◌, map, Some, None}
 use Rattle.std.proofs.Common.{sym, subst, ap, ◌∙◌, true≢false, eqb-true}
 use Rattle.iox_model.specs.declared.way.Way.{Way}
 use Rattle.iox_model.specs.Begins.{start}
@@ -12,8 +12,7 @@ use Rattle.iox_model.specs.Moments.{Holds, moved, Moment, Deliver, Evict, Take}
 use Rattle.iox_model.specs.Names.{misnamed}
 use Rattle.iox_model.specs.States.{Port, Fixed, State}
 use Rattle.iox_model.specs.Steps.{next, ends}
-use Rattle.iox_model.specs.WholeCalls.{moved_by, left_by, MayCome, UnlessRefused, spent, IsDone, IsWholeCall}
-use Rattle.iox_model.specs.Commands.{Refusal}
+use Rattle.iox_model.specs.WholeCalls.{moved_by, left_by, MayCome, IsDone}
 use Rattle.iox_model.specs.Maps.{rest_of, same_way, put}
 use Rattle.iox_model.proofs.MapLemmas.{either, put-else, same_way-true}
 use Rattle.iox_model.proofs.WholeLemmas.{moved-fixed}
@@ -26,13 +25,13 @@ use Rattle.iox_reachable.proofs.Moves.{moved_leaves}
 use Rattle.iox_reachable.proofs.MovesFit.{moved_sound}
 use Rattle.iox_reachable.proofs.Reached.{ended_within, ended_fits}
 use Rattle.iox_reachable.proofs.Sound.{Fits, last_of, IsWithin, SoundCall}
-use Rattle.iox_reachable.proofs.WayLemmas.{by_cases, false_if}
 use Rattle.iox_runs.proofs.Ports.{at_below}
 use Rattle.iox_runs.proofs.Rests.{Rests, rests_own}
 use Rattle.iox_runs.proofs.Holding.{HoldsIn, moved_holds, ended_holds}
 use Rattle.iox_runs.proofs.Beginning.{start_holds}
 use Rattle.iox_runs.proofs.Owning.{Owned, moved_owned}
 use Rattle.iox_runs.proofs.Settling.{Calm, settled_calm}
+use Rattle.iox_ledger.proofs.Truths.{by_cases, false_if}
 use Rattle.iox_ledger.proofs.Lists.{distinct-no_repeats}
 use Rattle.iox_ledger.proofs.Phases.{HasOwnPorts}
 
@@ -71,7 +70,7 @@ unused_moved s node d (Evict w) r p c v late none = taken_there s.waiting w v no
 unused_moved s node d (Take w m) r p c v late none = taken_there s.waiting w v none
 unused_moved s node d m r p c v late none = none
 
-own_ports : (f : Fixed) → Rests f → HasOwnPorts f
+pub own_ports : (f : Fixed) → Rests f → HasOwnPorts f
 own_ports f r = distinct-no_repeats (map (λ (p : Port). p.number) f.ports) (r.numbered).0
 
 pub goes_moved : (s : State) (node : ℕ) (d : Doing) (m : Moment) → Goes s node d → Holds s m → (next s node d m).condition
@@ -139,18 +138,3 @@ done_calm s node call reply t r named d =
     let first : Doing = start s node d.0 call in
     subst Calm (sym d.9)
     (over_calm (moved_by s d.2) node (left_by s node first d.2) d.4 d.6 (goes_by s node first d.2 (begins s node d.0 call r named) d.3) d.5)
-
--- refused, nothing changes
-pub unless_keeps : (Q : State → Type 0) (q : Option Refusal) (s : State) (reply : Reply) (t : State) (P : Type 0) → Q s → (q ≡ None → P → Q t)
-    → UnlessRefused q s reply t P → Q t
-unless_keeps Q (Some x) s reply t P r f u = subst Q (sym u.1) r
-unless_keeps Q None s reply t P r f u = f refl u
-
-pub unless_calm : (q : Option Refusal) (s : State) (reply : Reply) (t : State) (P : Type 0) → Calm s → (q ≡ None → P → Calm t)
-    → UnlessRefused q s reply t P → Calm t
-unless_calm = unless_keeps Calm
-
-pub whole_calm : (s : State) (node : ℕ) (call : Call) (reply : Reply) (t : State) → Calm s → IsWholeCall s node call reply t → Calm t
-whole_calm s node call reply t r =
-    unless_calm (misnamed s.fixed node call) s reply t (UnlessRefused (spent s.fixed call) s reply t (IsDone s node call reply t)) r
-    (λ named. unless_calm (spent s.fixed call) s reply t (IsDone s node call reply t) r (λ u. done_calm s node call reply t r named))

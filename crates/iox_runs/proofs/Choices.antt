@@ -8,8 +8,9 @@ use Rattle.iox_model.specs.Handles.{is_request_loan, same_kind, handles_of, has_
 use Rattle.iox_model.specs.Loans.{Choice}
 use Rattle.iox_model.specs.States.{Port, Handle, Fixed}
 use Rattle.iox_model.specs.declared.kind.Kind.TheVariants.{PendingResponse}
-use Rattle.iox_reachable.proofs.WayLemmas.{by_cases, or-right}
 use Rattle.iox_runs.specs.Answering.{SomethingMayBeChosen}
+use Rattle.iox_ledger.proofs.Orders.{le-refl}
+use Rattle.iox_ledger.proofs.Truths.{both_true, by_cases, or-right}
 
 -- ---- a lane past all that are taken
 
@@ -34,14 +35,7 @@ not_taken test (h ∷ hs) lane e =
     neither true false c e f = f
     neither false b c e f = f
 
-itself : (n : ℕ) → nat_le n n ≡ true
-itself n = grind (arith)
-
 -- ---- an open lane
-
-both : (a b : Bool) → a ≡ true → b ≡ true → (a && b) ≡ true
-both true b e f = f
-both false b e f = e
 
 -- one below the bound that fails, unless all pass
 search_for : (test : ℕ → Bool) (bound from count : ℕ) → nat_le (from + count) bound ≡ true → list_all test (range_with_len from count) ≡ false
@@ -64,14 +58,14 @@ open_lane f p =
     (λ all.
     let lane : ℕ = past (handles_of f p.number) in (
       lane,
-      both (not (has_lane f p.number lane)) (nat_lt lane p.pool || list_all (has_lane f p.number) (range_with_len 0 p.pool))
-          (ap not (not_taken (λ h. is_request_loan h.kind || same_kind h.kind PendingResponse) (handles_of f p.number) lane (itself lane)))
+      both_true (not (has_lane f p.number lane)) (nat_lt lane p.pool || list_all (has_lane f p.number) (range_with_len 0 p.pool))
+          (ap not (not_taken (λ h. is_request_loan h.kind || same_kind h.kind PendingResponse) (handles_of f p.number) lane (le-refl lane)))
           (or-right (nat_lt lane p.pool) (list_all (has_lane f p.number) (range_with_len 0 p.pool)) all),
     ))
     (λ some.
     let free : (n : ℕ) × (has_lane f p.number n ≡ false) × (nat_lt n p.pool ≡ true) = search_for (has_lane f p.number) p.pool 0 p.pool (from_zero p.pool) some in (
       free.0,
-      both (not (has_lane f p.number free.0)) (nat_lt free.0 p.pool || list_all (has_lane f p.number) (range_with_len 0 p.pool))
+      both_true (not (has_lane f p.number free.0)) (nat_lt free.0 p.pool || list_all (has_lane f p.number) (range_with_len 0 p.pool))
           (ap not free.1) (ap (λ b. b || list_all (has_lane f p.number) (range_with_len 0 p.pool)) free.2),
     ))
   where

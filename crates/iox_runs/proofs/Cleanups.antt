@@ -26,17 +26,18 @@ use Rattle.iox_model.specs.States.{Port, Handle, Fixed, State}
 use Rattle.iox_model.specs.Steps.{next, ends}
 use Rattle.iox_model.specs.WholeCalls.{moved_by, left_by, MayCome, UnlessRefused, IsDone, IsWholeCall}
 use Rattle.iox_model.specs.Maps.{without_way}
+use Rattle.iox_model.proofs.CallLaws.{not-true}
 use Rattle.iox_model.proofs.MapLemmas.{either, eqb-refl}
 use Rattle.iox_model.proofs.PlayedRuns.{split}
 use Rattle.iox_model.proofs.WholeLemmas.{moved_by-fixed, some-is, put_at-here}
-use Rattle.iox_ledger.proofs.Lists.{IsAmong, NoRepeats, among-filter, among-map, among-any, distinct-no_repeats, not-is, not-true, never}
-use Rattle.iox_ledger.proofs.Phases.{find-own}
+use Rattle.iox_ledger.proofs.Truths.{false_if, never, none-some}
+use Rattle.iox_ledger.proofs.Lists.{IsAmong, NoRepeats, among-filter, among-map, among-any, distinct-no_repeats, find-own}
 use Rattle.iox_runs.specs.Answering.{ComesToAnEnd}
-use Rattle.iox_reachable.proofs.Begun.{none-some}
+use Rattle.iox_runs.proofs.Runs.{whole_calm}
 use Rattle.iox_runs.proofs.Ports.{any_at, none_at, others_than}
 use Rattle.iox_runs.proofs.Rests.{FitsHandle, Rests}
 use Rattle.iox_runs.proofs.Settling.{Calm}
-use Rattle.iox_runs.proofs.Calls.{call_ends, whole_calm}
+use Rattle.iox_runs.proofs.Calls.{call_ends}
 
 -- ---- the values of a node
 
@@ -46,28 +47,18 @@ IsValue f node n =
     ((p : Port) × IsAmong p f.ports × (p.number ≡ n) × (p.node ≡ node) × (p.held ≡ true))
     ⊎ ((h : Handle) × IsAmong h (f.handles node) × (h.number ≡ n))
 
-find_handle : (hs : List Handle) (h : Handle) → NoRepeats (map (λ k. k.number) hs) → IsAmong h hs → find (λ k. k.number == h.number) hs ≡ Some h
-find_handle [] h d a = absurd a
-find_handle (x ∷ xs) h d (inl e) = rw (ap (λ (k : Handle). x.number == k.number) e ∙ eqb-refl x.number) (ap Some (sym e))
-find_handle (x ∷ xs) h d (inr a) = by_case (x.number == h.number) refl (find_handle xs h d.1 a)
-  where
-    by_case : (b : Bool) → (x.number == h.number) ≡ b → find (λ k. k.number == h.number) xs ≡ Some h
-        → (if b then Some x else find (λ k. k.number == h.number) xs) ≡ Some h
-    by_case true e rest = absurd (d.0 (subst (λ k. IsAmong k (map (λ j. j.number) xs)) (sym (eqb-true x.number h.number e)) (among-map (λ j. j.number) h xs a)))
-    by_case false e rest = rest
-
 -- so the number names it
 port_named : (f : Fixed) (node n : ℕ) (p : Port) → Rests f → IsAmong p f.ports → p.number ≡ n → p.held ≡ true → subject f node n ≡ Some (ThePort p)
 port_named f node n p r among is held =
     ap (λ o. port_or_handle o (handle_at f node n))
-    (subst (λ k. find (λ q. q.number == k) f.ports ≡ Some p) is (find-own f.ports p (distinct-no_repeats (map (λ q. q.number) f.ports) (r.numbered).0) among))
+    (subst (λ k. find (λ q. q.number == k) f.ports ≡ Some p) is (find-own (λ (q : Port). q.number) f.ports p (distinct-no_repeats (map (λ q. q.number) f.ports) (r.numbered).0) among))
     ∙ ap (λ (b : Bool). if b then Some (ThePort p) else None) held
 
 pub handle_named : (f : Fixed) (node n : ℕ) (h : Handle) → Rests f → IsAmong h (f.handles node) → h.number ≡ n → subject f node n ≡ Some (TheHandle h)
 handle_named f node n h r among is =
     ap₂ port_or_handle
     (none_at n f.ports (subst (λ k. any_at k f.ports ≡ false) is ((r.handles node).each h among).no_port))
-    (subst (λ k. find (λ j. j.number == k) (f.handles node) ≡ Some h) is (find_handle (f.handles node) h (r.handles node).apart among))
+    (subst (λ k. find (λ j. j.number == k) (f.handles node) ≡ Some h) is (find-own (λ (j : Handle). j.number) (f.handles node) h (r.handles node).apart among))
 
 -- and a release of it is not refused
 release_suits : (f : Fixed) (node n : ℕ) (x : Subject) → f.on_wire ≡ false → subject f node n ≡ Some x → node_of x ≡ node → misnamed f node (Release n) ≡ None
@@ -147,9 +138,9 @@ given_others f g node n h p =
 stays_among : (f : Fixed) (gone : ℕ) (p : Port) → is_last_gone f gone ≡ true → IsAmong p f.ports → p.held ≡ true → IsAmong p (others_than gone f.ports)
 stays_among f gone p last among held =
     among-filter (λ q. not (q.number == gone)) p f.ports among
-    (ap not (not-true (p.number == gone) (λ is. never (list_any (λ q. (q.number == gone) && q.held) f.ports)
+    (ap not (false_if (p.number == gone) (λ is. never (list_any (λ q. (q.number == gone) && q.held) f.ports)
     (among-any (λ q. (q.number == gone) && q.held) p f.ports among (ap (λ b. b && p.held) is ∙ held))
-    (not-is (list_any (λ q. (q.number == gone) && q.held) f.ports)
+    (not-true (list_any (λ q. (q.number == gone) && q.held) f.ports)
     (split (not (list_any (λ q. (q.number == gone) && q.held) f.ports)) (is_empty (handles_of f gone))
     (split (not f.on_wire) (not (list_any (λ q. (q.number == gone) && q.held) f.ports) && is_empty (handles_of f gone)) last).1).0))))
 
@@ -236,5 +227,5 @@ all_released node (n ∷ ns) s r d each =
     let first : Released s node n = value_released s node n r (each n (inl refl)) in
     let rest : (t : State) × Releases first.0 node ns t
     = all_released node ns first.0 (whole_calm s node (Release n) Done first.0 r first.1) d.1
-    (λ k among. first.2 k (not-true (k == n) (λ same. d.0 (subst (λ j. IsAmong j ns) (eqb-true k n same) among))) (each k (inr among))) in
+    (λ k among. first.2 k (false_if (k == n) (λ same. d.0 (subst (λ j. IsAmong j ns) (eqb-true k n same) among))) (each k (inr among))) in
     (rest.0, (first.0, first.1, rest.1))

@@ -1,27 +1,23 @@
 -- A node that died or left lives no more, whatever a service is asked.
 use Rattle.std.specs.Prelude.{◌≡◌, ℕ, ◌+◌, Bool, true, false, not, if◌then◌else◌, ◌==◌, nat_lt, List, [], ◌∷◌, ◌++◌, filter, Option, Some, None, find, refl}
-use Rattle.std.proofs.Common.{sym, subst, ap, ◌∙◌, true≢false, eqb-true, arith}
-use Rattle.iox_model.specs.declared.call.Call.TheVariants.{Release}
+use Rattle.std.proofs.Common.{sym, subst, ap, ◌∙◌, true≢false, eqb-true, arith, inl, inr}
 use Rattle.iox_model.specs.declared.command.Command.TheVariants as commands
-use Rattle.iox_model.specs.declared.command.Command.TheVariants.{OfNode, Leave, DeclareDead, Cleanup, ListNodes, ListClients, ListServers}
-use Rattle.iox_model.specs.declared.command.PortCommand.TheVariants.{Create, Use}
-use Rattle.iox_model.specs.declared.reply.Reply.TheVariants.{Done, Refused}
-use Rattle.iox_model.specs.Commands.{Refusal, Reply, Call, PortCommand, Command}
-use Rattle.iox_model.specs.Joins.{not_living, not_dead, opening_refusal, new_node}
-use Rattle.iox_model.specs.Makings.{making_refusal, IsPortCommand}
+use Rattle.iox_model.specs.declared.reply.Reply.TheVariants.{Refused}
+use Rattle.iox_model.specs.Commands.{Refusal, Reply, Call}
+use Rattle.iox_model.specs.Counts.{with_fixed}
+use Rattle.iox_model.specs.Joins.{not_living, new_node, with_members}
+use Rattle.iox_model.specs.Makings.{new_port, with_port}
 use Rattle.iox_model.specs.Moments.{moved, Moment}
-use Rattle.iox_model.specs.Runs.{IsRun}
-use Rattle.iox_model.specs.Services.{without_node, leaving_refusal, numbers_of_node, with_own_id, Releases, IsCommand}
+use Rattle.iox_model.specs.Services.{without_node}
 use Rattle.iox_model.specs.States.{Node, Members, State}
-use Rattle.iox_model.specs.Weaves.{Beat}
-use Rattle.iox_model.specs.WholeCalls.{moved_by, UnlessRefused, IsWholeCall}
+use Rattle.iox_model.specs.WholeCalls.{moved_by, UnlessRefused, IsDone}
 use Rattle.iox_model.proofs.DeathLaws.{IsGone, found, living_in, stays_gone, settled-members}
 use Rattle.iox_model.proofs.MapLemmas.{either}
 use Rattle.iox_model.proofs.WholeLemmas.{moved-members}
-use Rattle.iox_reachable.proofs.WayLemmas.{by_cases}
 use Rattle.iox_runs.specs.Dying.{TheDeadStayDead}
-use Rattle.iox_runs.proofs.Along.{whole_along}
-use Rattle.iox_runs.proofs.Calls.{unless_keeps}
+use Rattle.iox_ledger.proofs.Truths.{by_cases}
+use Rattle.iox_ledger.proofs.Orders.{less-next}
+use Rattle.iox_reachable.proofs.Inductions.{IsOfNodes, IsKept, run_keeps}
 
 -- ---- lists of nodes
 
@@ -63,28 +59,11 @@ left_gone n node (x ∷ xs) p =
     not-not true e = refl
     not-not false e = absurd (true≢false e)
 
--- ---- commands of ports change no node
+-- ---- calls change no node
 
 moved_by-members : (s : State) (ms : List Moment) → (moved_by s ms).members ≡ s.members
 moved_by-members s [] = refl
 moved_by-members s (m ∷ ms) = moved_by-members (moved s m) ms ∙ moved-members s m
-
-abbrev KeepsMembers : State → List Beat → State → Type 0
-KeepsMembers s bs t = t.members ≡ s.members
-
-call_members : (s : State) (node : ℕ) (call : Call) (reply : Reply) (t : State) → IsWholeCall s node call reply t → t.members ≡ s.members
-call_members s node call reply t =
-    whole_along KeepsMembers (λ a. refl) s node call reply t
-    (λ named done. ap (λ (u : State). u.members) done.9 ∙ settled-members (moved_by s done.2) node done.6 done.4 ∙ moved_by-members s done.2)
-
-port_members : (s : State) (node : ℕ) (c : PortCommand) (reply : Reply) (t : State) → IsPortCommand s node c reply t → t.members ≡ s.members
-port_members s node (Create role id o) reply t p =
-    unless_keeps (λ u. u.members ≡ s.members) (making_refusal s.fixed role o p.0) s reply t _ refl (λ u made. ap (λ (v : State). v.members) made.1) p.1
-port_members s node (Use call) reply t p = call_members s node call reply t p
-
-releases_members : (s : State) (node : ℕ) (ns : List ℕ) (t : State) → Releases s node ns t → t.members ≡ s.members
-releases_members s node [] t r = ap (λ (u : State). u.members) r
-releases_members s node (n ∷ ns) t r = releases_members r.0 node ns t r.2 ∙ call_members s node (Release n) Done r.0 r.1
 
 -- ---- runs
 
@@ -99,42 +78,34 @@ same_over node s t same p = record {
   gone = subst (λ (x : Members). IsGone (living_in x.nodes node)) (sym same) p.gone;
 }
 
-less_more : (a b : ℕ) → nat_lt a b ≡ true → nat_lt a (b + 1) ≡ true
-less_more a b e = grind (arith)
-
 not_next : (a b : ℕ) → nat_lt a b ≡ true → (b == a) ≡ false
 not_next a b e = grind (arith)
+
+done_members : (s : State) (node : ℕ) (call : Call) (reply : Reply) (t : State) → IsDone s node call reply t → t.members ≡ s.members
+done_members s node call reply t done =
+    ap (λ (u : State). u.members) done.9 ∙ settled-members (moved_by s done.2) node done.6 done.4 ∙ moved_by-members s done.2
 
 leaves_over : (node n : ℕ) (s : State) → IsOver node s → IsOver node (without_node s n)
 leaves_over node n s p = record { joined = p.joined; gone = left_gone n node s.members.nodes p.gone }
 
-command_over : (node : ℕ) (s : State) (c : Command) (reply : Reply) (t : State) → IsOver node s → IsCommand s c reply t → IsOver node t
-command_over node s (commands.Open id asked) reply t p c =
-    unless_keeps (IsOver node) (opening_refusal s id asked c.0) s reply t _ p
-    (λ u done. subst (IsOver node) (sym done.1) (record {
-      joined = less_more node s.members.joins p.joined;
-      gone = joined_gone node s.members.nodes (new_node s.members.joins id) (not_next node s.members.joins p.joined) p.gone;
-    })) c.1
-command_over node s (OfNode n command) reply t p c =
-    unless_keeps (IsOver node) (not_living s n) s reply t _ p (λ u done. same_over node s t (port_members s n (with_own_id s n command) reply t done) p) c
-command_over node s (Leave n) reply t p c =
-    unless_keeps (IsOver node) (leaving_refusal s n) s reply t _ p (λ u done. subst (IsOver node) (sym done.1) (leaves_over node n s p)) c
-command_over node s (DeclareDead n) reply t p c =
-    unless_keeps (IsOver node) (not_living s n) s reply t _ p
-    (λ u done. subst (IsOver node) (sym done.1) (record { joined = p.joined; gone = stays_gone n node s.members.nodes p.gone })) c
-command_over node s (Cleanup n) reply t p c =
-    unless_keeps (IsOver node) (not_dead s n) s reply t _ p
-    (λ u done. subst (IsOver node) (sym done.3)
-    (leaves_over node n done.0 (same_over node s done.0 (releases_members s n (numbers_of_node s.fixed n) done.0 done.1) p))) c
-command_over node s ListNodes reply t p c = subst (IsOver node) (sym c.1) p
-command_over node s ListClients reply t p c = subst (IsOver node) (sym c.1) p
-command_over node s ListServers reply t p c = subst (IsOver node) (sym c.1) p
+nodes_over : (node : ℕ) (s : State) (x : Members) → IsOfNodes s x → IsOver node s → IsOver node (with_members s x)
+nodes_over node s x (inl joins) p =
+    subst (λ y. IsOver node (with_members s y)) (sym joins.1) (record {
+      joined = less-next node s.members.joins p.joined;
+      gone = joined_gone node s.members.nodes (new_node s.members.joins joins.0) (not_next node s.members.joins p.joined) p.gone;
+    })
+nodes_over node s x (inr (inl leaves)) p =
+    subst (λ y. IsOver node (with_members s y)) (sym leaves.1) (leaves_over node leaves.0 s p)
+nodes_over node s x (inr (inr dies)) p =
+    subst (λ y. IsOver node (with_members s y)) (sym dies.1)
+    (record { joined = p.joined; gone = stays_gone dies.0 node s.members.nodes p.gone })
 
-run_over : (node : ℕ) (s : State) (cs : List Command) (rs : List Reply) (t : State) → IsOver node s → IsRun s cs rs t → IsOver node t
-run_over node s [] [] t p run = subst (IsOver node) (sym run) p
-run_over node s (c ∷ cs) (r ∷ rs) t p run = run_over node run.0 cs rs t (command_over node s c r run.0 p run.1) run.2
-run_over node s [] (r ∷ rs) t p run = absurd run
-run_over node s (c ∷ cs) [] t p run = absurd run
+over_kept : (node : ℕ) → IsKept (IsOver node)
+over_kept node = record {
+  nodes = nodes_over node;
+  makes = λ s n role id o memory allowed p. same_over node s (with_fixed s (with_port s.fixed (new_port s.fixed n role id o))) refl p;
+  calls = λ s n call reply t named done p. same_over node s t (done_members s n call reply t done) p;
+}
 
 refused_if_gone : (o : Option Refusal) (t : State) (reply : Reply) (u : State) (P : Type 0) → IsGone o → UnlessRefused o t reply u P
     → (q : Refusal) × (reply ≡ Refused q) × (u ≡ t)
@@ -144,4 +115,4 @@ refused_if_gone None t reply u P gone done = absurd gone
 pub the_dead_stay_dead : TheDeadStayDead
 the_dead_stay_dead s t u cs rs node r joined gone run command reply done =
     refused_if_gone (not_living t node) t reply u _
-    (run_over node s cs rs t (record { joined = joined; gone = subst IsGone (sym gone) tt }) run).gone done
+    (run_keeps (IsOver node) (over_kept node) s cs rs t (record { joined = joined; gone = subst IsGone (sym gone) tt }) run).gone done

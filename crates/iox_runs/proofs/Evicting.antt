@@ -19,7 +19,7 @@ use Rattle.iox_runs.specs.TraceLaws.{evicts_on, OnlyOverflowEvicts}
 use Rattle.iox_runs.proofs.Along.{whole_along}
 use Rattle.iox_runs.proofs.Calls.{Goes, goes_moved, begins}
 use Rattle.iox_runs.proofs.Runs.{left_calm}
-use Rattle.iox_ledger.proofs.Lists.{one_of}
+use Rattle.iox_ledger.proofs.Truths.{one_of}
 
 -- a call that may evict on a way delivered there last
 evicts_last : (s : State) (node : ℕ) (d : Doing) (w : Way) → Goes s node d → (next s node d (Evict w)).condition → overflows_on s.fixed w ≡ true

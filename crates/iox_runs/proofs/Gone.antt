@@ -15,11 +15,12 @@ use Rattle.iox_model.specs.Counts.{with_fixed}
 use Rattle.iox_model.specs.Peers.{node_of_port, role_at, buffer_on}
 use Rattle.iox_model.proofs.MapLemmas.{either}
 use Rattle.iox_model.proofs.PlayedRuns.{split}
-use Rattle.iox_ledger.proofs.Lists.{IsAmong, among-filter, not-true, never}
+use Rattle.iox_ledger.proofs.Orders.{le-zero}
+use Rattle.iox_ledger.proofs.Truths.{false_if, never, by_cases}
+use Rattle.iox_ledger.proofs.Lists.{IsAmong, among-filter}
 use Rattle.iox_reachable.proofs.PortLemmas.{distinct-filter}
 use Rattle.iox_reachable.proofs.ServedPorts.{below_filter, same_numbers, same_below}
 use Rattle.iox_reachable.proofs.Sound.{IsWithin}
-use Rattle.iox_reachable.proofs.WayLemmas.{by_cases}
 use Rattle.iox_runs.proofs.Ports.{any_at, first_at, others_than, IsPortIn, any_dropped, first_dropped, any_others, first_others, port_still, port_was, port_stays, port_stood}
 use Rattle.iox_runs.proofs.Rests.{FitsHandle, Rests, Rested}
 
@@ -27,7 +28,7 @@ use Rattle.iox_runs.proofs.Rests.{FitsHandle, Rests, Rested}
 
 -- so no handle belongs to it
 none_of : (xs : List Handle) (port : ℕ) (h : Handle) → is_empty (filter (λ k. k.port == port) xs) ≡ true → IsAmong h xs → (h.port == port) ≡ false
-none_of xs port h e among = not-true (h.port == port) (λ of_port. no_one (filter (λ (k : Handle). k.port == port) xs) h e (among-filter (λ (k : Handle). k.port == port) h xs among of_port))
+none_of xs port h e among = false_if (h.port == port) (λ of_port. no_one (filter (λ (k : Handle). k.port == port) xs) h e (among-filter (λ (k : Handle). k.port == port) h xs among of_port))
   where
     no_one : (ys : List Handle) (h : Handle) → is_empty ys ≡ true → IsAmong h ys → ⊥
     no_one [] h e p = p
@@ -60,16 +61,10 @@ gone_rests s gone last r = record {
           of_node = p.of_node;
           of_port = port_stays s.fixed.ports n h.port gone (others_belong s.fixed gone n h last among p.of_port) p.of_port;
           below = p.below;
-          no_port = not-true (any_at h.number (others_than gone s.fixed.ports)) (λ there. never (any_at h.number s.fixed.ports) (any_others gone h.number s.fixed.ports there).0 p.no_port);
+          no_port = false_if (any_at h.number (others_than gone s.fixed.ports)) (λ there. never (any_at h.number s.fixed.ports) (any_others gone h.number s.fixed.ports there).0 p.no_port);
         };
   };
 }
-
-le-none : (xs : List Message) (b : ℕ) → xs ≡ [] → nat_le (length xs) b ≡ true
-le-none xs b e = subst (λ (ys : List Message). nat_le (length ys) b ≡ true) (sym e) (none b)
-  where
-    none : (b : ℕ) → nat_le 0 b ≡ true
-    none b = grind (arith)
 
 gone_buffer : (f : Fixed) (gone k : ℕ) → (k == gone) ≡ false
     → option_map_or (λ (p : Port). p.role) (first_at k (others_than gone f.ports)) Client ≡ role_at f k
@@ -80,7 +75,7 @@ gone_within s gone n p v own =
     let q : (any_at v.sender s.fixed.ports ≡ true) × ((v.sender == gone) ≡ false) = any_others gone v.sender s.fixed.ports own.0 in
     subst (λ role. nat_le (length ((disconnected s gone).waiting v)) (buffer_of s.fixed.limits role + 0) ≡ true) (sym (gone_buffer s.fixed gone v.sender q.1))
     (either (λ (xs : List Message). nat_le (length xs) (buffer_on s.fixed v + 0) ≡ true) (stays s gone v) (s.waiting v) []
-    (λ u. p v (port_stood s.fixed.ports n v.sender gone own)) (λ u. le-none [] (buffer_on s.fixed v + 0) refl))
+    (λ u. p v (port_stood s.fixed.ports n v.sender gone own)) (λ u. le-zero (buffer_on s.fixed v + 0)))
 
 -- ---- a release
 

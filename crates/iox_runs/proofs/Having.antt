@@ -1,21 +1,22 @@
 -- How what handles hold changes as one is made, filled, received or released.
-use Rattle.std.specs.Prelude.{◌≡◌, ℕ, ◌+◌, ◌-◌, ◌≤◌, Bool, true, false, not, ◌&&◌, if◌then◌else◌, ◌==◌, nat_lt, nat_le, List, [], ◌∷◌, ◌++◌, ◌⊎◌, refl}
+use Rattle.std.specs.Prelude.{◌≡◌, ℕ, ◌+◌, ◌-◌, ◌≤◌, Bool, true, false, not, if◌then◌else◌, ◌==◌, nat_lt, nat_le, List, [], ◌∷◌, ◌++◌, ◌⊎◌, refl}
 use Rattle.std.proofs.Common.{sym, subst, ap, ◌∙◌, true≢false, eqb-true, eq-eqb, arith, inl, inr}
-use Rattle.iox_model.specs.declared.kind.Kind.TheVariants.{ActiveRequest, Response}
 use Rattle.iox_model.specs.declared.way.Way.{Way}
 use Rattle.iox_model.specs.Counts.{is_same_handle, without_handle, with_handle, received_handle}
 use Rattle.iox_model.specs.Doings.{Receiver}
-use Rattle.iox_model.specs.Handles.{same_kind, is_received, way_of}
+use Rattle.iox_model.specs.Handles.{is_received, way_of}
 use Rattle.iox_model.specs.Ledgers.{has_received}
 use Rattle.iox_model.specs.Maps.{put, put_at, same_way}
-use Rattle.iox_model.specs.Messages.{request_way, response_way, Message}
+use Rattle.iox_model.specs.Messages.{Message}
 use Rattle.iox_model.specs.Settings.{is_client, Limits}
 use Rattle.iox_model.specs.States.{Port, Handle, Fixed}
-use Rattle.iox_model.proofs.MapLemmas.{either, eqb-refl, same_way-refl, same_way-true, same_way-flip}
-use Rattle.iox_ledger.proofs.Borrows.{count, one_if, count-cons, count-last, count-less}
-use Rattle.iox_ledger.proofs.Lists.{IsAmong, among-last, filter-among, never}
+use Rattle.iox_model.proofs.MapLemmas.{either, same_way-true}
+use Rattle.iox_ledger.proofs.ReceivedHandles.{received-itself, no_received, received-elsewhere, receipt-way}
+use Rattle.iox_ledger.proofs.Orders.{at-most, same-le}
+use Rattle.iox_ledger.proofs.Counts.{count-gone, count-swap, count, one_if, count-last, count-less, one-at-most}
+use Rattle.iox_ledger.proofs.Truths.{never, by_cases}
+use Rattle.iox_ledger.proofs.Lists.{IsAmong, among-last, filter-among}
 use Rattle.iox_ledger.proofs.Views.{way_of-receiver}
-use Rattle.iox_reachable.proofs.WayLemmas.{by_cases}
 use Rattle.iox_runs.proofs.Ports.{any_at, node_in}
 use Rattle.iox_runs.proofs.Holding.{is_lost}
 use Rattle.iox_runs.proofs.Beginning.{KeptHandle}
@@ -23,57 +24,7 @@ use Rattle.iox_runs.proofs.Owning.{limit_in, had_in, Holdings}
 
 -- ---- counts
 
-count-swap : (test : Handle → Bool) (h : Handle) → test h ≡ false → (hs : List Handle) → count test (with_handle h hs) ≤ count test hs
-count-swap test h fails [] = omega arith
-count-swap test h fails (k ∷ ks) =
-    either (λ (xs : List Handle). count test xs ≤ count test (k ∷ ks)) (is_same_handle h k) (h ∷ ks) (k ∷ with_handle h ks)
-    (λ same. taken (count test (h ∷ ks)) (one_if (test h)) (count test ks) (count test (k ∷ ks)) (one_if (test k)) (count-cons test h ks) (count-cons test k ks) (ap one_if fails))
-    (λ other. more (count test (k ∷ with_handle h ks)) (one_if (test k)) (count test (with_handle h ks)) (count test ks) (count test (k ∷ ks))
-    (count-cons test k (with_handle h ks)) (count-cons test k ks) (count-swap test h fails ks))
-  where
-    taken : (a b c d e : ℕ) → a ≡ b + c → d ≡ e + c → b ≡ 0 → a ≤ d
-    taken a b c d e p q r = omega arith
-
-    more : (a b c d e : ℕ) → a ≡ b + c → e ≡ b + d → c ≤ d → a ≤ e
-    more a b c d e p q r = omega arith
-
--- one that is there and counts is gone
-count-gone : (test : Handle → Bool) (h : Handle) (hs : List Handle) → IsAmong h hs → test h ≡ true → count test (without_handle h hs) + 1 ≤ count test hs
-count-gone test h [] p e = absurd p
-count-gone test h (k ∷ ks) (inl is) e =
-    subst (λ (xs : List Handle). count test xs + 1 ≤ count test (k ∷ ks))
-    (sym (ap (λ (b : Bool). if not b then k ∷ without_handle h ks else without_handle h ks) (ap (λ (j : Handle). j.number == h.number) (sym is) ∙ eqb-refl h.number)))
-    (one (count test (without_handle h ks)) (count test ks) (count test (k ∷ ks)) (one_if (test k)) (count-less test h ks) (count-cons test k ks) (ap one_if (ap test (sym is) ∙ e)))
-  where
-    one : (a b c d : ℕ) → a ≤ b → c ≡ d + b → d ≡ 1 → a + 1 ≤ c
-    one a b c d p q r = omega arith
-count-gone test h (k ∷ ks) (inr p) e =
-    either (λ (xs : List Handle). count test xs + 1 ≤ count test (k ∷ ks)) (not (is_same_handle h k)) (k ∷ without_handle h ks) (without_handle h ks)
-    (λ u. more (count test (k ∷ without_handle h ks)) (one_if (test k)) (count test (without_handle h ks)) (count test ks) (count test (k ∷ ks))
-    (count-cons test k (without_handle h ks)) (count-cons test k ks) (count-gone test h ks p e))
-    (λ u. less (count test (without_handle h ks)) (count test ks) (count test (k ∷ ks)) (one_if (test k)) (count-gone test h ks p e) (count-cons test k ks))
-  where
-    more : (a b c d e : ℕ) → a ≡ b + c → e ≡ b + d → c + 1 ≤ d → a + 1 ≤ e
-    more a b c d e p q r = omega arith
-
-    less : (a b c d : ℕ) → a + 1 ≤ b → c ≡ d + b → a + 1 ≤ c
-    less a b c d p q = omega arith
-
-pub count-none : (test : Handle → Bool) (hs : List Handle) → ((h : Handle) → IsAmong h hs → test h ≡ false) → count test hs ≡ 0
-count-none test [] each = refl
-count-none test (k ∷ ks) each =
-    none (count test (k ∷ ks)) (one_if (test k)) (count test ks) (count-cons test k ks) (ap one_if (each k (inl refl))) (count-none test ks (λ h p. each h (inr p)))
-  where
-    none : (a b c : ℕ) → a ≡ b + c → b ≡ 0 → c ≡ 0 → a ≡ 0
-    none a b c p q r = omega arith
-
 -- ---- a change that gives no receiver more
-
-at_most : (a b c : ℕ) → a ≤ b → b ≤ c → a ≤ c
-at_most a b c p q = omega arith
-
-same-le : (a b : ℕ) → a ≡ b → a ≤ b
-same-le a b e = omega arith
 
 -- the handles of one node change
 put_count : (test : Handle → Bool) (handles : ℕ → List Handle) (n : ℕ) (hs : List Handle) (k : ℕ) → count test hs ≤ count test (handles n)
@@ -100,17 +51,13 @@ changes_few l ps next handles borrowed expired n hs p each less = record {
   away = p.away;
   within = p.within;
   nobody = p.nobody;
-  counts = λ y kept. at_most (had_in ps (put_at handles n hs) y) (had_in ps handles y) (borrowed y) (put_count (has_received y) handles n hs (node_in ps y.receiver) (less y)) (p.counts y kept);
-  few = λ y. at_most (had_in ps (put_at handles n hs) y) (had_in ps handles y) (limit_in l ps y) (put_count (has_received y) handles n hs (node_in ps y.receiver) (less y)) (p.few y);
+  counts = λ y kept. at-most (had_in ps (put_at handles n hs) y) (had_in ps handles y) (borrowed y) (put_count (has_received y) handles n hs (node_in ps y.receiver) (less y)) (p.counts y kept);
+  few = λ y. at-most (had_in ps (put_at handles n hs) y) (had_in ps handles y) (limit_in l ps y) (put_count (has_received y) handles n hs (node_in ps y.receiver) (less y)) (p.few y);
 }
 
 pub stood : (l : Limits) (ps : List Port) (next : ℕ) (handles : ℕ → List Handle) (borrowed : Way → ℕ) (expired : ℕ → List ℕ) → Holdings l ps next handles borrowed expired
     → (n : ℕ) (h : Handle) → IsAmong h (handles n) → Stands ps next h
 stood l ps next handles borrowed expired p n h among = (p.kept n h among, p.known n h among)
-
--- what was not received is not counted
-not_received : (h : Handle) (y : Way) → is_received h.kind ≡ false → has_received y h ≡ false
-not_received h y e = ap (λ b. b && ((h.port == y.receiver) && same_way (way_of h) y)) e
 
 -- a handle that received nothing comes
 pub adds_few : (l : Limits) (ps : List Port) (next : ℕ) (handles : ℕ → List Handle) (borrowed : Way → ℕ) (expired : ℕ → List ℕ) (h : Handle)
@@ -123,7 +70,7 @@ adds_few l ps next handles borrowed expired h p kept own =
       | inr e ↦ subst (Stands ps next) (sym e) (kept, λ received. never (is_received h.kind) received own)
     ])
     (λ y. none (count (has_received y) (handles h.node ++ h ∷ [])) (count (has_received y) (handles h.node)) (one_if (has_received y h))
-    (count-last (has_received y) (handles h.node) h) (ap one_if (not_received h y own)))
+    (count-last (has_received y) (handles h.node) h) (ap one_if (no_received y h own)))
   where
     none : (a b c : ℕ) → a ≡ b + c → c ≡ 0 → a ≤ b
     none a b c e f = omega arith
@@ -148,7 +95,7 @@ swaps_few l ps next handles borrowed expired h p kept own =
       | inl q ↦ stood l ps next handles borrowed expired p h.node k q
       | inr e ↦ subst (Stands ps next) (sym e) (kept, λ received. never (is_received h.kind) received own)
     ])
-    (λ y. count-swap (has_received y) h (not_received h y own) (handles h.node))
+    (λ y. count-swap (has_received y) h (handles h.node) (no_received y h own))
 
 -- a handle goes
 pub drops_few : (l : Limits) (ps : List Port) (next : ℕ) (handles : ℕ → List Handle) (borrowed : Way → ℕ) (expired : ℕ → List ℕ) (h : Handle)
@@ -159,16 +106,6 @@ drops_few l ps next handles borrowed expired h p =
     (λ y. count-less (has_received y) h (handles h.node))
 
 -- ---- a received one goes, and is counted no more
-
-all_three : (a b c : Bool) → a ≡ true → b ≡ true → c ≡ true → (a && (b && c)) ≡ true
-all_three true true c d e f = f
-all_three true false c d e f = e
-all_three false b c d e f = d
-
-counts_itself : (h : Handle) → is_received h.kind ≡ true → has_received (way_of h) h ≡ true
-counts_itself h received =
-    all_three (is_received h.kind) (h.port == (way_of h).receiver) (same_way (way_of h) (way_of h)) received
-    (eq-eqb h.port (way_of h).receiver (sym (way_of-receiver h))) (same_way-refl (way_of h))
 
 pub gives_few : (l : Limits) (ps : List Port) (next : ℕ) (handles : ℕ → List Handle) (borrowed : Way → ℕ) (expired : ℕ → List ℕ) (h : Handle)
     → Holdings l ps next handles borrowed expired → IsAmong h (handles h.node) → node_in ps h.port ≡ h.node → is_received h.kind ≡ true
@@ -211,19 +148,14 @@ gives_few l ps next handles borrowed expired h p among at received =
         (subst (λ (hs : List Handle). count (has_received w) hs + 1 ≤ had_in ps handles w)
         (sym (ap (λ (g : ℕ → List Handle). g (node_in ps w.receiver)) same ∙ at_node (node_in ps w.receiver) node))
         (subst (λ k. count (has_received w) (without_handle h (handles h.node)) + 1 ≤ count (has_received w) (handles k)) (sym node)
-        (count-gone (has_received w) h (handles h.node) among (subst (λ u. has_received u h ≡ true) (sym is) (counts_itself h received)))))
+        (count-gone (has_received w) h (handles h.node) among (subst (λ u. has_received u h ≡ true) (sym is) (received-itself h received)))))
         (p.counts w kept)
 
 -- ---- one is received
 
 pub taken_way : (f : Fixed) (node : ℕ) (x : Receiver) (w : Way) (m : Message) → w.receiver ≡ x.port → w.lane ≡ x.lane → m.sender ≡ w.sender
     → (is_client x.role ≡ true → m.lane ≡ w.lane) → (is_client x.role ≡ false → x.lane ≡ 0) → way_of (received_handle f node x m) ≡ w
-taken_way f node x w m to on from client server = by_case (is_client x.role) refl
-  where
-    by_case : (b : Bool) → is_client x.role ≡ b
-        → (if same_kind (if b then Response else ActiveRequest) ActiveRequest then request_way (if b then x.port else m.sender) x.port else response_way x.port m.lane m.sender) ≡ w
-    by_case true e = λ i. record { sender = from i; receiver = sym to i; lane = client e i }
-    by_case false e = λ i. record { sender = from i; receiver = sym to i; lane = sym (on ∙ server e) i }
+taken_way f node x w m to on from client server = receipt-way x w m to from client (λ e. on ∙ server e)
 
 pub takes_few : (l : Limits) (ps : List Port) (next : ℕ) (handles : ℕ → List Handle) (borrowed : Way → ℕ) (expired : ℕ → List ℕ) (h : Handle) (w : Way)
     → Holdings l ps next handles borrowed expired → KeptHandle ps h → way_of h ≡ w → borrowed w + 1 ≤ limit_in l ps w → is_lost ps expired w ≡ false
@@ -244,17 +176,13 @@ takes_few l ps next handles borrowed expired h w p kept is below there_still was
       (λ same. absurd (true≢false (sym there ∙ ap (λ (v : Way). any_at v.receiver ps) (sym (same_way-true y w same)) ∙ none))) (λ u. p.nobody y none);
   counts = λ y stays. either (λ b. had_in ps (put_at handles h.node (handles h.node ++ h ∷ [])) y ≤ b) (same_way y w) (borrowed w + 1) (borrowed y)
       (λ same. subst (λ u. had_in ps (put_at handles h.node (handles h.node ++ h ∷ [])) u ≤ borrowed w + 1) (sym (same_way-true y w same)) (more_here w (borrowed w) (p.counts w there_still)))
-      (λ other. at_most (had_in ps (put_at handles h.node (handles h.node ++ h ∷ [])) y) (had_in ps handles y) (borrowed y) (as_many y other) (p.counts y stays));
+      (λ other. at-most (had_in ps (put_at handles h.node (handles h.node ++ h ∷ [])) y) (had_in ps handles y) (borrowed y) (as_many y other) (p.counts y stays));
   few = λ y. by_cases (same_way y w)
       (λ same. subst (λ u. had_in ps (put_at handles h.node (handles h.node ++ h ∷ [])) u ≤ limit_in l ps u) (sym (same_way-true y w same))
-      (at_most (had_in ps (put_at handles h.node (handles h.node ++ h ∷ [])) w) (borrowed w + 1) (limit_in l ps w) (more_here w (borrowed w) (p.counts w there_still)) below))
-      (λ other. at_most (had_in ps (put_at handles h.node (handles h.node ++ h ∷ [])) y) (had_in ps handles y) (limit_in l ps y) (as_many y other) (p.few y));
+      (at-most (had_in ps (put_at handles h.node (handles h.node ++ h ∷ [])) w) (borrowed w + 1) (limit_in l ps w) (more_here w (borrowed w) (p.counts w there_still)) below))
+      (λ other. at-most (had_in ps (put_at handles h.node (handles h.node ++ h ∷ [])) y) (had_in ps handles y) (limit_in l ps y) (as_many y other) (p.few y));
 }
   where
-    one_at_most : (b : Bool) → one_if b ≤ 1
-    one_at_most true = omega arith
-    one_at_most false = omega arith
-
     more : (a b c d : ℕ) → a ≡ b + c → c ≤ 1 → b ≤ d → a ≤ d + 1
     more a b c d e f g = omega arith
 
@@ -269,24 +197,15 @@ takes_few l ps next handles borrowed expired h w p kept is below there_still was
     more_here y b less =
         either (λ (xs : List Handle). count (has_received y) xs ≤ b + 1) (node_in ps y.receiver == h.node) (handles h.node ++ h ∷ []) (handles (node_in ps y.receiver))
         (λ same. more (count (has_received y) (handles h.node ++ h ∷ [])) (count (has_received y) (handles h.node)) (one_if (has_received y h)) b
-        (count-last (has_received y) (handles h.node) h) (one_at_most (has_received y h))
+        (count-last (has_received y) (handles h.node) h) (one-at-most (has_received y h))
         (subst (λ k. count (has_received y) (handles k) ≤ b) (eqb-true (node_in ps y.receiver) h.node same) less))
         (λ u. grows (had_in ps handles y) b less)
-
-    elsewhere : (y : Way) → same_way y w ≡ false → has_received y h ≡ false
-    elsewhere y e =
-        last (is_received h.kind) (h.port == y.receiver) (same_way (way_of h) y) (ap (λ u. same_way u y) is ∙ same_way-flip w y (same_way w y) e refl)
-      where
-        last : (a b c : Bool) → c ≡ false → (a && (b && c)) ≡ false
-        last true true c e = e
-        last true false c e = refl
-        last false b c e = refl
 
     as_many : (y : Way) → same_way y w ≡ false → had_in ps (put_at handles h.node (handles h.node ++ h ∷ [])) y ≤ had_in ps handles y
     as_many y other =
         put_count (has_received y) handles h.node (handles h.node ++ h ∷ []) (node_in ps y.receiver)
         (as_few (count (has_received y) (handles h.node ++ h ∷ [])) (count (has_received y) (handles h.node)) (one_if (has_received y h))
-        (count-last (has_received y) (handles h.node) h) (ap one_if (elsewhere y other)))
+        (count-last (has_received y) (handles h.node) h) (ap one_if (received-elsewhere y h (ap (same_way y) is ∙ other))))
 
 -- ---- numbers grow
 

@@ -25,10 +25,9 @@ use Rattle.iox_model.specs.Settings.{is_client, same_role}
 use Rattle.iox_model.specs.declared.kind.Role.{Role}
 use Rattle.iox_model.specs.States.{Port, Handle, Fixed, State}
 use Rattle.iox_model.specs.Steps.{next, ends}
+use Rattle.iox_model.proofs.CallLaws.{not-true}
 use Rattle.iox_model.proofs.MapLemmas.{either, eqb-refl, same_way-true}
 use Rattle.iox_model.proofs.WholeLemmas.{some-is}
-use Rattle.iox_reachable.proofs.Begun.{none-some}
-use Rattle.iox_reachable.proofs.WayLemmas.{by_cases}
 use Rattle.iox_model.specs.Handles.{new_number}
 use Rattle.iox_model.specs.Maps.{first_of, has_way}
 use Rattle.iox_model.specs.Moments.{Holds}
@@ -36,7 +35,8 @@ use Rattle.iox_model.specs.Receives.{is_at_limit}
 use Rattle.iox_model.specs.Requests.{is_request}
 use Rattle.std.specs.Prelude.{not, ◌&&◌, nat_lt, filter}
 use Rattle.std.proofs.Common.{inl, inr}
-use Rattle.iox_ledger.proofs.Lists.{IsAmong, among-any, map-among, filter-among, number-among, without-among, not-is}
+use Rattle.iox_ledger.proofs.Truths.{none-some, by_cases}
+use Rattle.iox_ledger.proofs.Lists.{IsAmong, among-any, map-among, filter-among, number-among, without-among, first-among}
 use Rattle.iox_ledger.proofs.Phases.{HasOwnPorts, role-of}
 use Rattle.iox_ledger.proofs.Senders.{is_loan, IsMade}
 use Rattle.iox_ledger.proofs.Views.{role_in}
@@ -231,14 +231,10 @@ pub record WaitFits (ps : List Port) (next : ℕ) (expired : ℕ → List ℕ) (
 abbrev pub WaitsFit : State → Type 0
 WaitsFit s = (y : Way) (m : Message) → IsAmong m (s.waiting y) → WaitFits s.fixed.ports s.fixed.next_number s.fixed.expired y m
 
-first_among : {A : Type 0} (x : A) (xs : List A) → first_of xs ≡ Some x → IsAmong x xs
-first_among x [] e = none-some x e
-first_among x (y ∷ ys) e = inl (sym (some-is y x e))
-
 taken_fits : (s : State) (x : Receiver) (w : Way) (m : Message) → WaitsFit s → first_of (s.waiting w) ≡ Some m → ReceiverFits s.fixed x → w.receiver ≡ x.port
     → TookFits s.fixed x w m
 taken_fits s x w m waits first p to =
-    let q : WaitFits s.fixed.ports s.fixed.next_number s.fixed.expired w m = waits w m (first_among m (s.waiting w) first) in
+    let q : WaitFits s.fixed.ports s.fixed.next_number s.fixed.expired w m = waits w m (first-among m (s.waiting w) first) in
     (q.sender, λ client. q.lane (ap (λ k. is_client (role_in s.fixed.ports k)) to ∙ sym p.0 ∙ client), q.kept, q.below)
 
 -- ---- a moment
@@ -267,7 +263,7 @@ moved_holds s node (Evicted x v left count) m own waits fits h p c = absurd c
 moved_holds s node (Visiting x left seen) (SeesEmpty w) own waits fits h p c = visiting_holds s.fixed x (without_way w left) seen p
 moved_holds s node (Visiting x left seen) (SeesWaiting w) own waits fits h p c = visiting_holds s.fixed x (without_way w left) true p
 moved_holds s node (Visiting x left seen) (Take w m) own waits fits h p c =
-    took_holds s.fixed node x w m left seen p (taken_fits s x w m waits h p (fits.2 w c.0).0) (not-is (is_at_limit s.fixed w) c.1)
+    took_holds s.fixed node x w m left seen p (taken_fits s x w m waits h p (fits.2 w c.0).0) (not-true (is_at_limit s.fixed w) c.1)
 moved_holds s node (Visiting x left seen) m own waits fits h p c = absurd c
 moved_holds s node (Again x v left seen) (SeesEmpty w) own waits fits h p c = visiting_holds s.fixed x (without_way v left) seen p.0
 moved_holds s node (Again x v left seen) (Take w m) own waits fits h p c =

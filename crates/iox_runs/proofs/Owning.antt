@@ -1,6 +1,6 @@
 -- What handles and queues hold in each state that is left: no more than receivers may borrow, and no
 -- more than the buffer, also of senders that are gone.
-use Rattle.std.specs.Prelude.{◌≡◌, ℕ, ◌≤◌, Bool, true, false, not, ◌&&◌, nat_lt, List, [], ◌∷◌, ◌++◌, length, map, ◌⊎◌, refl}
+use Rattle.std.specs.Prelude.{◌≡◌, ℕ, ◌≤◌, Bool, true, false, not, ◌&&◌, nat_lt, List, [], ◌∷◌, ◌++◌, length, map, ◌⊎◌}
 use Rattle.std.proofs.Common.{sym, subst, ap, ◌∙◌, true≢false, arith, inl, inr}
 use Rattle.iox_model.specs.declared.way.Way.{Way}
 use Rattle.iox_model.specs.Doings.{Sending, Doing, Delivering}
@@ -13,16 +13,18 @@ use Rattle.iox_model.specs.Requests.{is_request, targets}
 use Rattle.iox_model.specs.Settings.{is_client, other_role, borrow_limit_of, buffer_of, Limits}
 use Rattle.iox_model.specs.States.{Port, Handle, Fixed, State}
 use Rattle.iox_model.specs.Steps.{next}
+use Rattle.iox_model.proofs.CallLaws.{not-true}
 use Rattle.iox_model.proofs.MapLemmas.{either, put-else, same_way-true}
 use Rattle.iox_model.proofs.WholeLemmas.{moved-fixed}
-use Rattle.iox_ledger.proofs.Borrows.{count}
-use Rattle.iox_ledger.proofs.Lists.{IsAmong, among-last, map-among, way-among}
+use Rattle.iox_ledger.proofs.Truths.{false_if}
+use Rattle.iox_ledger.proofs.Counts.{count}
+use Rattle.iox_ledger.proofs.Orders.{same}
+use Rattle.iox_ledger.proofs.Lists.{IsAmong, among-last, map-among, way-among, rest-among, length-rest}
 use Rattle.iox_ledger.proofs.Phases.{target-of}
 use Rattle.iox_ledger.proofs.Senders.{IsMade}
 use Rattle.iox_ledger.proofs.Views.{role_in}
 use Rattle.iox_reachable.proofs.Kept.{from_own}
 use Rattle.iox_reachable.proofs.Sound.{IsPortOf, Fits}
-use Rattle.iox_reachable.proofs.WayLemmas.{false_if}
 use Rattle.iox_runs.proofs.Ports.{any_at, node_in, at_below}
 use Rattle.iox_runs.proofs.Rests.{Rests}
 use Rattle.iox_runs.proofs.Holding.{is_lost, IsOther, SendFits, WaitFits, WaitsFit, HoldsIn}
@@ -68,10 +70,6 @@ not-not : (a b : Bool) → b ≡ not a → a ≡ not b
 not-not true b e = ap not (sym e)
 not-not false b e = ap not (sym e)
 
-is_false : (a : Bool) → not a ≡ true → a ≡ false
-is_false true e = absurd (true≢false (sym e))
-is_false false e = refl
-
 response_lane : (x : Sending) (w : Way) → is_request x ≡ false → IsAmong w (targets x) → w.lane ≡ x.loan.lane
 response_lane x w responds =
     either (λ ways. IsAmong w ways → w.lane ≡ x.loan.lane) (is_request x) (map (request_way x.loan.port) x.to)
@@ -88,7 +86,7 @@ delivered_fits f node x w r own p among =
     let other : IsOther f x w.receiver = p.1 w.receiver t.1 in
     record {
       sender = made.sender ∙ sym t.0;
-      lane = λ client. made.lane ∙ sym (response_lane x w (is_false (is_request x) (sym other.1 ∙ client)) among);
+      lane = λ client. made.lane ∙ sym (response_lane x w (not-true (is_request x) (sym other.1 ∙ client)) among);
       role = λ there. ap (λ k. is_client (role_in f.ports k)) t.0 ∙ sym made.role ∙ not-not (is_request x) (is_client (role_in f.ports w.receiver)) other.1;
       kept = ap (λ b. not b && not (has_number w.sender (f.expired w.receiver))) own.0;
       below = at_below f.next_number w.sender f.ports (r.numbered).1 own.0;
@@ -107,14 +105,10 @@ put_waits f w m y k =
     ])
     (λ other among. inl among)
 
-rest_among : {A : Type 0} (a : A) (xs : List A) → IsAmong a (rest_of xs) → IsAmong a xs
-rest_among a [] p = p
-rest_among a (x ∷ xs) p = inr p
-
 taken_waits : (f : Way → List Message) (w y : Way) (k : Message) → IsAmong k (put f w (rest_of (f w)) y) → IsAmong k (f y)
 taken_waits f w y k =
     either (λ (xs : List Message). IsAmong k xs → IsAmong k (f y)) (same_way y w) (rest_of (f w)) (f y)
-    (λ same among. subst (λ u. IsAmong k (f u)) (sym (same_way-true y w same)) (rest_among k (f w) among)) (λ other among. among)
+    (λ same among. subst (λ u. IsAmong k (f u)) (sym (same_way-true y w same)) (rest-among k (f w) among)) (λ other among. among)
 
 -- ---- what waits after a moment
 
@@ -141,17 +135,10 @@ moved_waits s node d (Evict w) r fits p c waits y k among = waits y k (taken_wai
 moved_waits s node d (Take w m) r fits p c waits y k among = waits y k (taken_waits s.waiting w y k among)
 moved_waits s node d m r fits p c waits y k among = waits y k among
 
-le-refl : (n : ℕ) → n ≤ n
-le-refl n = omega arith
-
-rest-less : (xs : List Message) → length (rest_of xs) ≤ length xs
-rest-less [] = omega arith
-rest-less (x ∷ xs) = omega arith
-
 taken-less : (f : Way → List Message) (w y : Way) → length (put f w (rest_of (f w)) y) ≤ length (f y)
 taken-less f w y =
     either (λ (xs : List Message). length xs ≤ length (f y)) (same_way y w) (rest_of (f w)) (f y)
-    (λ same. subst (λ u. length (rest_of (f u)) ≤ length (f y)) (same_way-true y w same) (rest-less (f y))) (λ other. le-refl (length (f y)))
+    (λ same. subst (λ u. length (rest_of (f u)) ≤ length (f y)) (same_way-true y w same) (length-rest (f y))) (λ other. same (length (f y)))
 
 -- of a sender that is gone no more comes
 pub moved_gone : (s : State) (node : ℕ) (d : Doing) (m : Moment) → Rests s.fixed → Fits s node d → HoldsIn s.fixed d → (next s node d m).condition
@@ -160,10 +147,10 @@ moved_gone s node d (Deliver w m) r fits p c y gone =
     subst (λ (xs : List Message). length xs ≤ length (s.waiting y))
     (sym (put-else s.waiting w (s.waiting w ++ m ∷ []) y (false_if (same_way y w) (λ same.
     true≢false (sym (delivers s node d w m r fits p c).0.0 ∙ ap (λ (v : Way). any_at v.sender s.fixed.ports) (sym (same_way-true y w same)) ∙ gone)))))
-    (le-refl (length (s.waiting y)))
+    (same (length (s.waiting y)))
 moved_gone s node d (Evict w) r fits p c y gone = taken-less s.waiting w y
 moved_gone s node d (Take w m) r fits p c y gone = taken-less s.waiting w y
-moved_gone s node d m r fits p c y gone = le-refl (length (s.waiting y))
+moved_gone s node d m r fits p c y gone = same (length (s.waiting y))
 
 -- Each moment of a call leaves it so.
 pub moved_owned : (s : State) (node : ℕ) (d : Doing) (m : Moment) → Rests s.fixed → Fits s node d → HoldsIn s.fixed d → (next s node d m).condition

@@ -16,18 +16,18 @@ use Rattle.iox_model.specs.Settings.{is_client, same_role, other_role, buffer_of
 use Rattle.iox_model.specs.States.{Port, Handle, Fixed, State}
 use Rattle.iox_model.proofs.MapLemmas.{either, eqb-refl}
 use Rattle.iox_model.proofs.PlayedRuns.{split}
-use Rattle.iox_ledger.proofs.Borrows.{count}
-use Rattle.iox_ledger.proofs.Lists.{IsAmong, any-among, among-last, number-among, among-number, not-true, never}
+use Rattle.iox_ledger.proofs.Counts.{count, count-none}
+use Rattle.iox_ledger.proofs.Orders.{zero-le, least}
+use Rattle.iox_ledger.proofs.Truths.{false_if, never, by_cases, or-false}
+use Rattle.iox_ledger.proofs.Lists.{IsAmong, any-among, among-last, number-among, among-number, length-none, rest-among}
 use Rattle.iox_ledger.proofs.Senders.{IsMade}
 use Rattle.iox_ledger.proofs.Views.{role_in}
-use Rattle.iox_reachable.proofs.WayLemmas.{by_cases, or-false}
 use Rattle.iox_runs.proofs.Ports.{any_at, others_than, node_in, any_others, first_others, any_stay, at_below}
 use Rattle.iox_runs.proofs.Rests.{Rested}
 use Rattle.iox_runs.proofs.Gone.{others_belong}
 use Rattle.iox_runs.proofs.Holding.{is_lost, WaitFits, WaitsFit}
 use Rattle.iox_runs.proofs.Beginning.{KeptHandle}
 use Rattle.iox_runs.proofs.Owning.{limit_in, most_in, had_in, Has, Owned}
-use Rattle.iox_runs.proofs.Having.{count-none}
 
 -- ---- of senders that are there
 
@@ -41,12 +41,6 @@ pub none_there : {A : Type 0} (xs : List A) → ((x : A) → IsAmong x xs → �
 none_there [] no_one = refl
 none_there (x ∷ xs) no_one = absurd (no_one x (inl refl))
 
-none-le : (xs : List Message) (b : ℕ) → xs ≡ [] → length xs ≤ b
-none-le xs b e = subst (λ (ys : List Message). length ys ≤ b) (sym e) (zero b)
-  where
-    zero : (b : ℕ) → 0 ≤ b
-    zero b = omega arith
-
 -- no more waits than the buffer, by the receiver's role too
 pub there_within : (s : State) (y : Way) → Rested s → Owned s → any_at y.sender s.fixed.ports ≡ true → length (s.waiting y) ≤ most_in s.fixed.limits s.fixed.ports y
 there_within s y r o there = by_list (s.waiting y) refl
@@ -55,7 +49,7 @@ there_within s y r o there = by_list (s.waiting y) refl
     le_from a b e = grind (arith)
 
     by_list : (xs : List Message) → s.waiting y ≡ xs → length (s.waiting y) ≤ most_in s.fixed.limits s.fixed.ports y
-    by_list [] e = none-le (s.waiting y) (most_in s.fixed.limits s.fixed.ports y) e
+    by_list [] e = length-none (s.waiting y) (most_in s.fixed.limits s.fixed.ports y) e
     by_list (m ∷ ms) e =
         let fits : WaitFits s.fixed.ports s.fixed.next_number s.fixed.expired y m = o.waits y m (subst (λ (ys : List Message). IsAmong m ys) (sym e) (inl refl)) in
         subst (λ role. length (s.waiting y) ≤ buffer_of s.fixed.limits role) (the_other (role_in s.fixed.ports y.sender) (role_in s.fixed.ports y.receiver) (fits.role there))
@@ -66,7 +60,7 @@ there_within s y r o there = by_list (s.waiting y) refl
 any_same : (gone k : ℕ) (ps : List Port) → (k == gone) ≡ false → any_at k (others_than gone ps) ≡ any_at k ps
 any_same gone k ps other =
     by_cases (any_at k ps) (λ there. any_stay gone k ps other there ∙ sym there)
-    (λ away. not-true (any_at k (others_than gone ps)) (λ there. never (any_at k ps) (any_others gone k ps there).0 away) ∙ sym away)
+    (λ away. false_if (any_at k (others_than gone ps)) (λ there. never (any_at k ps) (any_others gone k ps there).0 away) ∙ sym away)
 
 role_same : (gone k : ℕ) (ps : List Port) → (k == gone) ≡ false → role_in (others_than gone ps) k ≡ role_in ps k
 role_same gone k ps other = ap (λ o. option_map_or (λ (p : Port). p.role) o Client) (first_others gone k ps other)
@@ -92,7 +86,7 @@ no_opposite false e = true≢false (sym e)
 nothing_between : (s : State) (gone r : ℕ) → Owned s → any_at gone s.fixed.ports ≡ true → same_role (role_at s.fixed r) (role_at s.fixed gone) ≡ true
     → waits_between s gone r ≡ false
 nothing_between s gone r o there same =
-    not-true (waits_between s gone r) (λ waits.
+    false_if (waits_between s gone r) (λ waits.
     let lane : (lane : ℕ) × IsAmong lane (range_with_len 0 (lanes_between s.fixed r)) × (not (is_empty (s.waiting (record { sender = gone; receiver = r; lane = lane }))) ≡ true)
     = any-among (λ lane. not (is_empty (s.waiting (record { sender = gone; receiver = r; lane = lane })))) (range_with_len 0 (lanes_between s.fixed r)) waits in
     let y : Way = record { sender = gone; receiver = r; lane = lane.0 } in
@@ -108,10 +102,6 @@ expired_now s gone r o there other =
     (λ same. sym (ap (λ (b : Bool). if b && nat_lt 0 (room_for_expired s.fixed (role_at s.fixed r)) then kept_expired (room_for_expired s.fixed (role_at s.fixed r)) (s.fixed.expired r) gone
     else s.fixed.expired r) (nothing_between s gone r o there same)))
     (λ u. refl)
-
-rest-among : (n : ℕ) (ns : List ℕ) → IsAmong n (rest_of ns) → IsAmong n ns
-rest-among n [] p = p
-rest-among n (k ∷ ks) p = inr p
 
 -- who is expired then was so before, or is the one that goes
 after_is : (s : State) (gone r n : ℕ) → IsAmong n (expired_after s gone r) → IsAmong n (s.fixed.expired r) ⊎ (n ≡ gone)
@@ -185,7 +175,7 @@ not_lost_stays s gone y o there to kept =
     (λ stands.
     let q : (any_at y.sender s.fixed.ports ≡ true) × ((y.sender == gone) ≡ false) = any_others gone y.sender s.fixed.ports stands in
     let no_pair : has_number y.sender (s.fixed.expired y.receiver) ≡ false
-    = not-true (has_number y.sender (s.fixed.expired y.receiver)) (λ e. never (any_at y.sender s.fixed.ports) q.0 ((o.has).away y.receiver y.sender e).0) in (
+    = false_if (has_number y.sender (s.fixed.expired y.receiver)) (λ e. never (any_at y.sender s.fixed.ports) q.0 ((o.has).away y.receiver y.sender e).0) in (
       stays_is s gone y to ∙ ap₂ (λ (a b : Bool). if a || b then has_number y.sender (expired_after s gone y.receiver) else true) q.1 no_pair,
       kept_if (any_at y.sender s.fixed.ports) (has_number y.sender (s.fixed.expired y.receiver)) (λ away. absurd (true≢false (sym q.0 ∙ away))),
     ))
@@ -219,13 +209,10 @@ none_of_gone s gone n y r last is =
     count-none (has_received y) (s.fixed.handles n)
     (λ h among.
     let other : (h.port == gone) ≡ false = others_belong s.fixed gone n h last among (((r.fixed).handles n).each h among).of_port in
-    not-true (has_received y h) (λ has.
+    false_if (has_received y h) (λ has.
     let q : ((h.port == y.receiver) ≡ true) × (same_way (way_of h) y ≡ true)
     = split (h.port == y.receiver) (same_way (way_of h) y) (split (is_received h.kind) ((h.port == y.receiver) && same_way (way_of h) y) has).1 in
     never (h.port == gone) (subst (λ k. (h.port == k) ≡ true) (eqb-true y.receiver gone is) q.0) other))
-
-zero-le : (a b : ℕ) → a ≡ 0 → a ≤ b
-zero-le a b e = omega arith
 
 gone_has : (s : State) (gone : ℕ) → Rested s → Owned s → any_at gone s.fixed.ports ≡ true → is_last_gone s.fixed gone ≡ true → Has (disconnected s gone).fixed
 gone_has s gone r o there last =
@@ -238,9 +225,9 @@ gone_has s gone r o there last =
       away = λ k n among. elim (once_is s gone k n among) as (λ u. (any_at n ps ≡ false) × (nat_lt n f.next_number ≡ true)) [
         | inl q ↦
             let p : (any_at n f.ports ≡ false) × (nat_lt n f.next_number ≡ true) = (o.has).away k n (among-number n (f.expired k) q) in
-            (not-true (any_at n ps) (λ e. never (any_at n f.ports) (any_others gone n f.ports e).0 p.0), p.1)
+            (false_if (any_at n ps) (λ e. never (any_at n f.ports) (any_others gone n f.ports e).0 p.0), p.1)
         | inr e ↦ (
-          not-true (any_at n ps) (λ a. never (n == gone) (subst (λ j. (n == j) ≡ true) e (eqb-refl n)) (any_others gone n f.ports a).1),
+          false_if (any_at n ps) (λ a. never (n == gone) (subst (λ j. (n == j) ≡ true) e (eqb-refl n)) (any_others gone n f.ports a).1),
           subst (λ j. nat_lt j f.next_number ≡ true) (sym e) (at_below f.next_number gone f.ports ((r.fixed).numbered).1 there),
         )
       ];
@@ -287,5 +274,5 @@ gone_owned s gone r o there last = record {
   gone = λ y away. either (λ (xs : List Message). length xs ≤ most_in s.fixed.limits (others_than gone s.fixed.ports) y) (stays s gone y) (s.waiting y) []
       (λ e. subst (λ role. length (s.waiting y) ≤ buffer_of s.fixed.limits (other_role role)) (sym (role_same gone y.receiver s.fixed.ports (stays_to s gone y e)))
       (by_cases (any_at y.sender s.fixed.ports) (there_within s y r o) (o.gone y)))
-      (λ u. none-le [] (most_in s.fixed.limits (others_than gone s.fixed.ports) y) refl);
+      (λ u. least (most_in s.fixed.limits (others_than gone s.fixed.ports) y));
 }

@@ -14,15 +14,14 @@ use Rattle.iox_model.specs.Settings.{is_client, other_role, borrow_limit_of, buf
 use Rattle.iox_model.specs.States.{Port, Fixed, State}
 use Rattle.iox_model.proofs.MapLemmas.{same_way-true}
 use Rattle.iox_model.proofs.PlayedRuns.{split}
-use Rattle.iox_ledger.proofs.Borrows.{count}
-use Rattle.iox_ledger.proofs.Lists.{not-true, never}
+use Rattle.iox_ledger.proofs.Counts.{count, count-none}
+use Rattle.iox_ledger.proofs.Orders.{zero-le, less-next}
+use Rattle.iox_ledger.proofs.Truths.{false_if, never, by_cases}
 use Rattle.iox_ledger.proofs.Views.{role_in}
-use Rattle.iox_reachable.proofs.WayLemmas.{by_cases}
 use Rattle.iox_runs.proofs.Ports.{any_at, node_in, any_dropped, first_dropped, at_more, at_last, first_more}
 use Rattle.iox_runs.proofs.Rests.{Rests, Rested}
 use Rattle.iox_runs.proofs.Holding.{is_lost, WaitFits}
 use Rattle.iox_runs.proofs.Owning.{limit_in, most_in, had_in, Has, Owned}
-use Rattle.iox_runs.proofs.Having.{count-none}
 use Rattle.iox_runs.proofs.Parting.{kept_same, none_there}
 
 -- ---- a port's value is released
@@ -75,7 +74,7 @@ node_more : (k : ℕ) (ps : List Port) (p : Port) → any_at k ps ≡ true → n
 node_more k ps p there = ap (λ o. option_map_or (λ (q : Port). q.node) o 0) (first_more k ps p there)
 
 not_more : (k : ℕ) (ps : List Port) (p : Port) → any_at k (ps ++ p ∷ []) ≡ false → any_at k ps ≡ false
-not_more k ps p none = not-true (any_at k ps) (λ there. never (any_at k (ps ++ p ∷ [])) (at_more k ps p there) none)
+not_more k ps p none = false_if (any_at k ps) (λ there. never (any_at k (ps ++ p ∷ [])) (at_more k ps p there) none)
 
 -- a number below that of the new one is there if it was
 was_there : (k : ℕ) (ps : List Port) (p : Port) → nat_lt k p.number ≡ true → any_at k (ps ++ p ∷ []) ≡ true → any_at k ps ≡ true
@@ -86,17 +85,11 @@ was_there k ps p below there =
     not_itself : (n : ℕ) → nat_lt n n ≡ false
     not_itself n = grind (arith)
 
-less_still : (k n : ℕ) → nat_lt k n ≡ true → nat_lt k (n + 1) ≡ true
-less_still k n e = grind (arith)
-
-zero-le : (a b : ℕ) → a ≡ 0 → a ≤ b
-zero-le a b e = omega arith
-
 -- nobody received anything at a port that was not there
 none_received : (f : Fixed) (n : ℕ) (y : Way) → Rests f → any_at y.receiver f.ports ≡ false → count (has_received y) (f.handles n) ≡ 0
 none_received f n y r none =
     count-none (has_received y) (f.handles n)
-    (λ h among. not-true (has_received y h) (λ has.
+    (λ h among. false_if (has_received y h) (λ has.
     let q : ((h.port == y.receiver) ≡ true) × (same_way (way_of h) y ≡ true)
     = split (h.port == y.receiver) (same_way (way_of h) y) (split (is_received h.kind) ((h.port == y.receiver) && same_way (way_of h) y) has).1 in
     never (any_at y.receiver f.ports) (subst (λ k. any_at k f.ports ≡ true) (eqb-true h.port y.receiver q.0) (((r.handles n).each h among).of_port).0) none))
@@ -105,7 +98,7 @@ none_received f n y r none =
 none_of_next : (f : Fixed) (n : ℕ) (y : Way) → Has f → nat_lt y.sender f.next_number ≡ false → count (has_received y) (f.handles n) ≡ 0
 none_of_next f n y p later =
     count-none (has_received y) (f.handles n)
-    (λ h among. not-true (has_received y h) (λ has.
+    (λ h among. false_if (has_received y h) (λ has.
     let q : (is_received h.kind ≡ true) × (((h.port == y.receiver) && same_way (way_of h) y) ≡ true)
     = split (is_received h.kind) ((h.port == y.receiver) && same_way (way_of h) y) has in
     never (nat_lt y.sender f.next_number)
@@ -126,11 +119,11 @@ made_has f p is r q =
     let ps : List Port = f.ports ++ p ∷ [] in
     record {
       kept = λ n h among. kept_same f.ports ps h (role_more h.port f.ports p (((r.handles n).each h among).of_port).0) (q.kept n h among);
-      known = λ n h among received. less_still (way_of h).sender f.next_number (q.known n h among received);
+      known = λ n h among received. less-next (way_of h).sender f.next_number (q.known n h among received);
       away = λ k n among.
           let a : (any_at n f.ports ≡ false) × (nat_lt n f.next_number ≡ true) = q.away k n among in (
-            not-true (any_at n ps) (λ there. never (any_at n f.ports) (was_there n f.ports p (subst (λ j. nat_lt n j ≡ true) (sym is) a.1) there) a.0),
-            less_still n f.next_number a.1,
+            false_if (any_at n ps) (λ there. never (any_at n f.ports) (was_there n f.ports p (subst (λ j. nat_lt n j ≡ true) (sym is) a.1) there) a.0),
+            less-next n f.next_number a.1,
           );
       within = λ y. by_cases (any_at y.receiver f.ports)
           (λ there. subst (λ role. f.borrowed y ≤ borrow_limit_of f.limits (other_role role)) (sym (role_more y.receiver f.ports p there)) (q.within y))
@@ -180,7 +173,7 @@ made_owned s p is r o =
                 let before : any_at y.sender f.ports ≡ true = was_there y.sender f.ports p (subst (λ j. nat_lt y.sender j ≡ true) (sym is) q.below) there in
                 ap is_client (role_more y.sender f.ports p before) ∙ q.role before ∙ ap (λ role. not (is_client role)) (sym (role_more y.receiver f.ports p q.there));
             kept = still_kept f p y q.kept;
-            below = less_still y.sender f.next_number q.below;
+            below = less-next y.sender f.next_number q.below;
             there = at_more y.receiver f.ports p q.there;
           };
       gone = λ y away. by_cases (any_at y.receiver f.ports)

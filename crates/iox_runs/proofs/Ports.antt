@@ -8,7 +8,7 @@ use Rattle.iox_model.specs.Ends.{port_dropped}
 use Rattle.iox_model.proofs.MapLemmas.{either, eqb-refl}
 use Rattle.iox_model.proofs.PlayedRuns.{split}
 use Rattle.iox_reachable.proofs.ServedPorts.{below}
-use Rattle.iox_reachable.proofs.WayLemmas.{by_cases, or-left, or-right, or-rest, or-false, or-neither}
+use Rattle.iox_ledger.proofs.Truths.{by_cases, or-left, or-right, or-rest, or-false, or-neither}
 
 abbrev pub any_at : ℕ → List Port → Bool
 any_at k ps = list_any (λ p. p.number == k) ps

@@ -29,13 +29,14 @@ use Rattle.iox_model.proofs.MapLemmas.{either}
 use Rattle.iox_model.proofs.NamedLaws.{ShowsNamed, ByLook, next_by_look}
 use Rattle.iox_model.proofs.WholeLemmas.{moved-fixed, moved_by-fixed, put_at-here, some-is}
 use Rattle.iox_reachable.proofs.Sound.{FitsOutcome}
-use Rattle.iox_ledger.proofs.Lists.{IsAmong, none-some}
+use Rattle.iox_ledger.proofs.Truths.{none-some}
+use Rattle.iox_ledger.proofs.Lists.{IsAmong}
 use Rattle.iox_runs.specs.Receiving.{ResponsesNameTheirRequest, RequestsAreNamed}
-use Rattle.iox_runs.proofs.Calls.{Goes, goes_by, begins, whole_calm}
+use Rattle.iox_runs.proofs.Calls.{Goes, goes_by, begins}
 use Rattle.iox_runs.proofs.Cleanups.{handle_named}
 use Rattle.iox_runs.proofs.Holding.{HoldsEnd}
 use Rattle.iox_runs.proofs.Refusals.{along_moments}
-use Rattle.iox_runs.proofs.Runs.{left_calm}
+use Rattle.iox_runs.proofs.Runs.{left_calm, whole_calm}
 use Rattle.iox_runs.proofs.Settling.{Calm}
 
 -- ---- the receiver stays

@@ -2,15 +2,18 @@
 -- belongs to a port of its node, and no more waits than the buffer holds.
 use Rattle.std.specs.Prelude.{◌≡◌, ℕ, ◌+◌, ◌-◌, Bool, true, false, not, ◌&&◌, if◌then◌else◌, ◌==◌, nat_lt, List, [], ◌∷◌, ◌++◌, map, None, refl}
 use Rattle.std.specs.List.{list_all}
-use Rattle.std.proofs.Common.{sym, subst, ap, ◌∙◌, eqb-true, arith, inl, inr}
+use Rattle.std.proofs.Common.{sym, subst, ap, ◌∙◌, eqb-true, inl, inr}
 use Rattle.iox_model.specs.declared.way.Way.{Way}
 use Rattle.iox_model.specs.States.{Port, Handle, Fixed, State}
 use Rattle.iox_model.specs.Handles.{is_received, way_of}
 use Rattle.iox_model.specs.Maps.{put_at, put, AreDistinct}
 use Rattle.iox_model.specs.Counts.{is_same_handle, without_handle, with_handle, added, changed, dropped, numbered, gives_up}
-use Rattle.iox_model.specs.Peers.{is_connected_port}
-use Rattle.iox_model.proofs.MapLemmas.{either, eqb-refl}
-use Rattle.iox_ledger.proofs.Lists.{IsAmong, NoRepeats, among-last, filter-among, map-among, no_repeats-last, no_repeats-map_filter, never}
+use Rattle.iox_model.proofs.MapLemmas.{either}
+use Rattle.iox_ledger.proofs.HandlesKept.{with-numbers}
+use Rattle.iox_ledger.proofs.Orders.{less-next, next-is-less, same-not-less}
+use Rattle.iox_ledger.proofs.Truths.{never}
+use Rattle.iox_ledger.proofs.Lists.{IsAmong, NoRepeats, among-last, filter-among, map-among, no_repeats-last, no_repeats-map_filter}
+use Rattle.iox_reachable.proofs.Settled.{is-port_of}
 use Rattle.iox_reachable.proofs.ServedPorts.{below, IsNumbered, numbered_keeps}
 use Rattle.iox_reachable.proofs.Sound.{IsPortOf, is_port_of, has_own, IsWithin}
 use Rattle.iox_runs.proofs.Ports.{any_at, IsPortIn, next_is_free}
@@ -49,11 +52,6 @@ all_pass test (x ∷ xs) each = both (test x) (list_all test xs) (each x (inl re
     both true b e h = h
     both false b e h = e
 
-is-port_of : (f : Fixed) (node port : ℕ) → IsPortOf f node port → is_port_of f node port ≡ true
-is-port_of f node port p =
-    subst (λ k. (is_connected_port f port && (k == node)) ≡ true) (sym p.1)
-    (ap (λ b. b && (node == node)) p.0 ∙ eqb-refl node)
-
 pub rests_own : (f : Fixed) (node : ℕ) → Rests f → has_own f node ≡ true
 rests_own f node r =
     all_pass (λ h. is_port_of f node h.port) (f.handles node) (λ h p. is-port_of f node h.port ((r.handles node).each h p).of_port)
@@ -79,13 +77,6 @@ less_fits ps next node h hs p = record {
   apart = no_repeats-map_filter (λ k. k.number) (λ k. not (is_same_handle h k)) hs p.apart;
   each = λ k among. p.each k (filter-among (λ j. not (is_same_handle h j)) k hs among).0;
 }
-
--- one takes the place of that of its number
-with-numbers : (h : Handle) (hs : List Handle) → map (λ k. k.number) (with_handle h hs) ≡ map (λ k. k.number) hs
-with-numbers h [] = refl
-with-numbers h (k ∷ ks) =
-    either (λ (xs : List Handle). map (λ j. j.number) xs ≡ k.number ∷ map (λ j. j.number) ks) (is_same_handle h k) (h ∷ ks) (k ∷ with_handle h ks)
-    (λ same. ap (λ n. n ∷ map (λ (j : Handle). j.number) ks) (sym (eqb-true k.number h.number same))) (λ u. ap (λ ns. k.number ∷ ns) (with-numbers h ks))
 
 with-each : (ps : List Port) (next node : ℕ) (h : Handle) → h.node ≡ node → IsPortIn ps node h.port → (hs : List Handle)
     → ((k : Handle) → IsAmong k hs → FitsHandle ps next node k) → (k : Handle) → IsAmong k (with_handle h hs) → FitsHandle ps next node k
@@ -129,15 +120,6 @@ numbered-hub f node hub =
     ap (λ (b : Bool). if b then record f { handles_made = put_at f.handles_made node (f.handles_made node + 1) }
     else record f { next_number = f.next_number + 1 }) hub
 
-less_still : (k n : ℕ) → nat_lt k n ≡ true → nat_lt k (n + 1) ≡ true
-less_still k n e = grind (arith)
-
-itself : (k n : ℕ) → k ≡ n → nat_lt k (n + 1) ≡ true
-itself k n e = grind (arith)
-
-not_itself : (k n : ℕ) → k ≡ n → nat_lt k n ≡ false
-not_itself k n e = grind (arith)
-
 -- a handle of the next number
 pub adds : (f : Fixed) (h : Handle) → Rests f → IsPortOf f h.node h.port → h.number ≡ f.next_number → Rests (added (numbered f h.node) h)
 adds f h r own new =
@@ -145,7 +127,7 @@ adds f h r own new =
       apart = (r.handles n).apart;
       each = λ k among.
           let p : FitsHandle f.ports f.next_number n k = (r.handles n).each k among in
-          record { of_node = p.of_node; of_port = p.of_port; below = less_still k.number f.next_number p.below; no_port = p.no_port };
+          record { of_node = p.of_node; of_port = p.of_port; below = less-next k.number f.next_number p.below; no_port = p.no_port };
     } in
     subst (λ x. Rests (added x h)) (sym (numbered-hub f h.node r.hub))
     (record {
@@ -155,12 +137,12 @@ adds f h r own new =
           (last_fits f.ports (f.next_number + 1) h.node (f.handles h.node) h (all h.node) (record {
             of_node = refl;
             of_port = own;
-            below = itself h.number f.next_number new;
+            below = next-is-less h.number f.next_number new;
             no_port = subst (λ k. any_at k f.ports ≡ false) (sym new) (next_is_free f.next_number f.ports (r.numbered).1);
           })
           (λ among.
           let k : (k : Handle) × IsAmong k (f.handles h.node) × (h.number ≡ k.number) = map-among (λ (k : Handle). k.number) h.number (f.handles h.node) among in
-          never (nat_lt (k.0).number f.next_number) ((r.handles h.node).each k.0 k.1).below (not_itself (k.0).number f.next_number (sym k.2 ∙ new))));
+          never (nat_lt (k.0).number f.next_number) ((r.handles h.node).each k.0 k.1).below (same-not-less (k.0).number f.next_number (sym k.2 ∙ new))));
     })
 
 pub changes : (f : Fixed) (h : Handle) → Rests f → IsPortOf f h.node h.port → Rests (changed f h)

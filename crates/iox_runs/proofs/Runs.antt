@@ -4,44 +4,37 @@ use Rattle.std.specs.Option.{option_map_or}
 use Rattle.std.proofs.Common.{sym, subst, ap, ◌∙◌, true≢false, arith}
 use Rattle.iox_types.specs.declared.identifiers.system_id.UniqueSystemId.{UniqueSystemId}
 use Rattle.iox_model.specs.declared.backpressure.BackpressureAction.{BackpressureAction}
-use Rattle.iox_model.specs.declared.call.Call.TheVariants.{Release}
 use Rattle.iox_model.specs.declared.command.Command.TheVariants as commands
-use Rattle.iox_model.specs.declared.command.Command.TheVariants.{OfNode, Leave, DeclareDead, Cleanup, ListNodes, ListClients, ListServers}
-use Rattle.iox_model.specs.declared.command.PortCommand.TheVariants.{Create, Use}
 use Rattle.iox_model.specs.declared.kind.Role.TheVariants.{Client}
-use Rattle.iox_model.specs.declared.reply.Reply.TheVariants.{Done}
 use Rattle.iox_model.specs.declared.way.Way.{Way}
-use Rattle.iox_model.specs.Commands.{Reply, PortCommand, Command}
+use Rattle.iox_model.specs.Commands.{Reply, Call, PortCommand, Command}
+use Rattle.iox_model.specs.WholeCalls.{IsWholeCall}
 use Rattle.iox_model.specs.Counts.{with_fixed}
-use Rattle.iox_model.specs.Joins.{not_living, not_dead, opening_refusal}
-use Rattle.iox_model.specs.Makings.{making_refusal, new_port, with_port, IsPortCommand}
+use Rattle.iox_model.specs.Joins.{with_members}
+use Rattle.iox_model.specs.Makings.{new_port, with_port, IsPortCommand}
 use Rattle.iox_model.specs.Messages.{Message}
 use Rattle.iox_model.specs.Peers.{buffer_on}
-use Rattle.iox_model.specs.Runs.{raised, created, IsRun, IsHistory, Record}
-use Rattle.iox_model.specs.Services.{leaving_refusal, numbers_of_node, with_own_id, Releases, IsCommand}
+use Rattle.iox_model.specs.Runs.{raised, created}
+use Rattle.iox_model.specs.Services.{IsCommand}
 use Rattle.iox_model.specs.Settings.{Limits, buffer_of}
 use Rattle.iox_model.specs.States.{Port, Fixed, State}
+use Rattle.iox_reachable.proofs.Inductions.{IsKept, whole_keeps, port_command_keeps, command_keeps}
 use Rattle.iox_reachable.proofs.ServedPorts.{distinct_next, below_next}
 use Rattle.iox_reachable.proofs.Sound.{IsPortOf, IsWithin}
-use Rattle.iox_reachable.proofs.WayLemmas.{by_cases}
-use Rattle.iox_reachable.specs.Worlds.{IsServed}
 use Rattle.iox_runs.specs.Lefts.{IsLeft}
-use Rattle.iox_ledger.proofs.Lists.{IsAmong}
+use Rattle.iox_ledger.proofs.Truths.{by_cases}
+use Rattle.iox_ledger.proofs.Orders.{not-less-next, less-next}
+use Rattle.iox_ledger.proofs.Lists.{IsAmong, le-none}
+use Rattle.iox_runs.proofs.Along.{left_keeps}
 use Rattle.iox_runs.proofs.Ports.{any_at, first_at, at_last, first_more, port_more}
 use Rattle.iox_runs.proofs.Rests.{FitsHandle, Rests, Rested}
-use Rattle.iox_runs.proofs.Calls.{unless_calm, whole_calm}
+use Rattle.iox_runs.proofs.Calls.{done_calm}
 use Rattle.iox_runs.proofs.Porting.{made_owned}
 use Rattle.iox_runs.proofs.Settling.{Calm}
 use Rattle.iox_runs.proofs.Holding.{WaitFits}
 use Rattle.iox_runs.proofs.Owning.{Has, Owned, limit_in, most_in}
 
 -- ---- a port is made
-
-less_still : (k n : ℕ) → nat_lt k n ≡ true → nat_lt k (n + 1) ≡ true
-less_still k n e = grind (arith)
-
-not_less : (k n : ℕ) → nat_lt k (n + 1) ≡ false → nat_lt k n ≡ false
-not_less k n e = grind (arith)
 
 -- a number below is not the next one
 still_no_port : (k : ℕ) (ps : List Port) (p : Port) → nat_lt k p.number ≡ true → any_at k ps ≡ false → any_at k (ps ++ p ∷ []) ≡ false
@@ -64,17 +57,11 @@ made_rests f p is r = record {
         record {
           of_node = q.of_node;
           of_port = port_more f.ports n h.port p q.of_port;
-          below = less_still h.number f.next_number q.below;
+          below = less-next h.number f.next_number q.below;
           no_port = still_no_port h.number f.ports p (subst (λ k. nat_lt h.number k ≡ true) (sym is) q.below) q.no_port;
         };
   };
 }
-
-none-waits : (xs : List Message) (b : ℕ) → xs ≡ [] → nat_le (length xs) b ≡ true
-none-waits xs b e = subst (λ (ys : List Message). nat_le (length ys) b ≡ true) (sym e) (none b)
-  where
-    none : (b : ℕ) → nat_le 0 b ≡ true
-    none b = grind (arith)
 
 pub made_within : (s : State) (p : Port) (n : ℕ) → p.number ≡ s.fixed.next_number → Rested s → IsWithin (with_fixed s (with_port s.fixed p)) n None
 made_within s p n is r v own =
@@ -83,33 +70,24 @@ made_within s p n is r v own =
     let old : first_at v.sender (s.fixed.ports ++ p ∷ []) ≡ first_at v.sender s.fixed.ports = first_more v.sender s.fixed.ports p there in
     subst (λ o. nat_le (length (s.waiting v)) (buffer_of s.fixed.limits (option_map_or (λ (q : Port). q.role) o Client) + 0) ≡ true) (sym old)
     (r.within n v (there, ap (λ o. option_map_or (λ (q : Port). q.node) o 0) (sym old) ∙ own.1)))
-    (λ new. none-waits (s.waiting v) (buffer_on (with_port s.fixed p) v + 0)
+    (λ new. le-none (s.waiting v) (buffer_on (with_port s.fixed p) v + 0)
     (r.unused v (itself v.sender s.fixed.next_number (sym (at_last v.sender s.fixed.ports p own.0 new) ∙ is))))
   where
     itself : (a b : ℕ) → a ≡ b → nat_lt a b ≡ false
     itself a b e = grind (arith)
 
--- ---- commands
+pub made_calm : (s : State) (p : Port) → p.number ≡ s.fixed.next_number → Calm s → Calm (with_fixed s (with_port s.fixed p))
+made_calm s p is c = record {
+  rests = record {
+    fixed = made_rests s.fixed p is (c.rests).fixed;
+    within = λ n. made_within s p n is c.rests;
+    unused = λ v late. (c.rests).unused v (not-less-next v.sender s.fixed.next_number late);
+  };
+  owned = made_owned s p is c.rests c.owned;
+}
 
-pub port_command_calm : (s : State) (node : ℕ) (c : PortCommand) (reply : Reply) (t : State) → Calm s → IsPortCommand s node c reply t → Calm t
-port_command_calm s node (Create role id o) reply t r c =
-    let p : Port = new_port s.fixed node role id o in
-    unless_calm (making_refusal s.fixed role o c.0) s reply t _ r
-    (λ allowed made. subst Calm (sym made.1) (record {
-      rests = record {
-        fixed = made_rests s.fixed p refl (r.rests).fixed;
-        within = λ n. made_within s p n refl r.rests;
-        unused = λ v late. (r.rests).unused v (not_less v.sender s.fixed.next_number late);
-      };
-      owned = made_owned s p refl r.rests r.owned;
-    })) c.1
-port_command_calm s node (Use call) reply t r c = whole_calm s node call reply t r c
+-- ---- nodes alone
 
-releases_calm : (s : State) (node : ℕ) (ns : List ℕ) (t : State) → Calm s → Releases s node ns t → Calm t
-releases_calm s node [] t r e = subst Calm (sym e) r
-releases_calm s node (n ∷ ns) t r e = releases_calm e.0 node ns t (whole_calm s node (Release n) Done e.0 r e.1) e.2
-
--- a step that changes nodes alone
 same_rests : (s t : State) → t.fixed ≡ s.fixed → t.waiting ≡ s.waiting → Rested s → Rested t
 same_rests s t fixed waiting r = record {
   fixed = subst Rests (sym fixed) r.fixed;
@@ -135,28 +113,23 @@ same_owned s t fixed waiting o = record {
 pub same_calm : (s t : State) → t.fixed ≡ s.fixed → t.waiting ≡ s.waiting → Calm s → Calm t
 same_calm s t fixed waiting c = record { rests = same_rests s t fixed waiting c.rests; owned = same_owned s t fixed waiting c.owned }
 
-nodes_calm : (s x t : State) → x.fixed ≡ s.fixed → x.waiting ≡ s.waiting → t ≡ x → Calm s → Calm t
-nodes_calm s x t fixed waiting e r = subst Calm (sym e) (same_calm s x fixed waiting r)
+-- ---- commands
+
+pub calm_kept : IsKept Calm
+calm_kept = record {
+  nodes = λ s x u c. same_calm s (with_members s x) refl refl c;
+  makes = λ s node role id o memory allowed c. made_calm s (new_port s.fixed node role id o) refl c;
+  calls = λ s node call reply t named done c. done_calm s node call reply t c named done;
+}
+
+pub whole_calm : (s : State) (node : ℕ) (call : Call) (reply : Reply) (t : State) → Calm s → IsWholeCall s node call reply t → Calm t
+whole_calm = whole_keeps Calm calm_kept
+
+pub port_command_calm : (s : State) (node : ℕ) (c : PortCommand) (reply : Reply) (t : State) → Calm s → IsPortCommand s node c reply t → Calm t
+port_command_calm = port_command_keeps Calm calm_kept
 
 pub command_calm : (s : State) (c : Command) (reply : Reply) (t : State) → Calm s → IsCommand s c reply t → Calm t
-command_calm s (commands.Open id asked) reply t r c =
-    unless_calm (opening_refusal s id asked c.0) s reply t _ r (λ u done. nodes_calm s _ t refl refl done.1 r) c.1
-command_calm s (OfNode node command) reply t r c =
-    unless_calm (not_living s node) s reply t _ r (λ u. port_command_calm s node (with_own_id s node command) reply t r) c
-command_calm s (Leave node) reply t r c = unless_calm (leaving_refusal s node) s reply t _ r (λ u done. nodes_calm s _ t refl refl done.1 r) c
-command_calm s (DeclareDead node) reply t r c = unless_calm (not_living s node) s reply t _ r (λ u done. nodes_calm s _ t refl refl done.1 r) c
-command_calm s (Cleanup node) reply t r c =
-    unless_calm (not_dead s node) s reply t _ r
-    (λ u done. nodes_calm done.0 _ t refl refl done.3 (releases_calm s node (numbers_of_node s.fixed node) done.0 r done.1)) c
-command_calm s ListNodes reply t r c = subst Calm (sym c.1) r
-command_calm s ListClients reply t r c = subst Calm (sym c.1) r
-command_calm s ListServers reply t r c = subst Calm (sym c.1) r
-
-run_calm : (s : State) (cs : List Command) (rs : List Reply) (t : State) → Calm s → IsRun s cs rs t → Calm t
-run_calm s [] [] t r run = subst Calm (sym run) r
-run_calm s (c ∷ cs) (a ∷ rs) t r run = run_calm run.0 cs rs t (command_calm s c a run.0 r run.1) run.2
-run_calm s [] (a ∷ rs) t r run = absurd run
-run_calm s (c ∷ cs) [] t r run = absurd run
+command_calm = command_keeps Calm calm_kept
 
 -- ---- from the creation on
 
@@ -189,14 +162,6 @@ created_calm l acts id = record {
     nothing : (n : ℕ) → 0 ≤ n
     nothing n = omega arith
 
-served_calm : (s : State) → IsServed s → Calm s
-served_calm s served = run_calm (created served.0 served.1 served.2) served.3 served.4 s (created_calm served.0 served.1 served.2) served.5
-
-history_calm : (s : State) (cs : List Record) (t : State) → Calm s → IsHistory s cs t → Calm t
-history_calm s [] t r history = subst Calm (sym history) r
-history_calm s (c ∷ cs) t r history =
-    history_calm history.0 cs t (port_command_calm s c.node c.command c.reply history.0 r history.1) history.2
-
 -- Whatever was asked before, it is calm between calls.
 pub left_calm : (s : State) → IsLeft s → Calm s
-left_calm s left = history_calm left.0 left.1 s (served_calm left.0 left.2) left.3
+left_calm = left_keeps Calm calm_kept created_calm

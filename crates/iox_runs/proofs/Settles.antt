@@ -1,6 +1,6 @@
 -- The end of a call of a service leaves what rests.
 use Rattle.std.specs.Prelude.{◌≡◌, ℕ, ◌+◌, ◌-◌, Bool, true, false, if◌then◌else◌, nat_le, List, map, refl}
-use Rattle.std.proofs.Common.{sym, subst, ap, ◌∙◌, arith}
+use Rattle.std.proofs.Common.{sym, subst, ap, ◌∙◌}
 use Rattle.iox_model.specs.Expiries.{released}
 use Rattle.iox_model.specs.Forgetting.{has_forgotten, forgets}
 use Rattle.iox_model.specs.Doings.{Outcome, Tells, Loans, Fills, Sends, FailsToSend, Receives, Drops, DropsPort, Forgets}
@@ -10,19 +10,15 @@ use Rattle.iox_model.specs.Maps.{put}
 use Rattle.iox_model.specs.Ends.{sent_loan, sent_copy, is_nothing, port_dropped, settled}
 use Rattle.iox_model.specs.Counts.{added, changed, dropped, numbered, lent, called, borrows, gives_up, with_fixed, received_handle, sent_handle, holding}
 use Rattle.iox_model.proofs.MapLemmas.{either}
+use Rattle.iox_reachable.proofs.Settled.{of_own}
 use Rattle.iox_reachable.proofs.Sound.{IsOwn, IsPortOf, FitsOutcome}
 use Rattle.iox_runs.proofs.Rests.{Rests, Rested, numbered-hub, rests_same, adds, changes, drops}
 use Rattle.iox_runs.proofs.Gone.{released_rests, with_rests, value_rests}
 use Rattle.iox_runs.proofs.Holding.{HoldsEnd}
+use Rattle.iox_ledger.proofs.Orders.{le-refl, le-next}
 
 next-hub : (f : Fixed) (node : ℕ) → Rests f → new_number f node ≡ f.next_number
 next-hub f node r = ap (λ (b : Bool). if b then f.next_number + f.handles_made node else f.next_number) r.hub
-
-itself : (n : ℕ) → nat_le n n ≡ true
-itself n = grind (arith)
-
-one_more : (n : ℕ) → nat_le n (n + 1) ≡ true
-one_more n = grind (arith)
 
 -- what is fixed, with the same ports and limits, and numbers that only grew
 record Grows (f g : Fixed) : Type 0 where
@@ -35,7 +31,7 @@ grown : (s : State) (g : Fixed) → Rested s → Grows s.fixed g → Rested (wit
 grown s g r w = with_rests s g r w.rests w.ports w.limits w.next
 
 stays : (f : Fixed) → Rests f → Grows f f
-stays f r = record { ports = refl; limits = refl; next = itself f.next_number; rests = r }
+stays f r = record { ports = refl; limits = refl; next = le-refl f.next_number; rests = r }
 
 -- counts are no matter
 counts : (f g h : Fixed) → h.on_wire ≡ g.on_wire → h.ports ≡ g.ports → h.next_number ≡ g.next_number → h.handles ≡ g.handles → h.limits ≡ g.limits
@@ -51,16 +47,12 @@ adds_one : (f : Fixed) (h : Handle) → Rests f → IsPortOf f h.node h.port →
 adds_one f h r own new = record {
   ports = ap (λ (g : Fixed). g.ports) (numbered-hub f h.node r.hub);
   limits = ap (λ (g : Fixed). g.limits) (numbered-hub f h.node r.hub);
-  next = subst (λ (g : Fixed). nat_le f.next_number g.next_number ≡ true) (sym (numbered-hub f h.node r.hub)) (one_more f.next_number);
+  next = subst (λ (g : Fixed). nat_le f.next_number g.next_number ≡ true) (sym (numbered-hub f h.node r.hub)) (le-next f.next_number);
   rests = adds f h r own new;
 }
 
--- a handle of the node belongs to a port of its own
-of_own : (f : Fixed) (node : ℕ) (h : Handle) → IsOwn f node h → IsPortOf f h.node h.port
-of_own f node h own = subst (λ k. IsPortOf f k h.port) (sym own.0) own.1
-
 less_of : (f : Fixed) (h : Handle) → Rests f → Grows f (dropped f h)
-less_of f h r = record { ports = refl; limits = refl; next = itself f.next_number; rests = drops f h r }
+less_of f h r = record { ports = refl; limits = refl; next = le-refl f.next_number; rests = drops f h r }
 
 given : (f g : Fixed) (h : Handle) → Grows f g → Grows f (gives_up g h)
 given f g h w =
@@ -78,7 +70,7 @@ sent_loan_rests s node h count r own =
     (λ u. grown s (changed s.fixed (sent_handle h count)) r (record {
       ports = refl;
       limits = refl;
-      next = itself s.fixed.next_number;
+      next = le-refl s.fixed.next_number;
       rests = changes s.fixed (sent_handle h count) r.fixed (of_own s.fixed node h own);
     }))
     (λ u. released_rests (with_fixed s (dropped s.fixed h)) h.port (grown s (dropped s.fixed h) r (less_of s.fixed h r.fixed)))
@@ -106,7 +98,7 @@ settled_rests s node payload (Fills h) r fits new =
     grown s (changed s.fixed h) r (record {
       ports = refl;
       limits = refl;
-      next = itself s.fixed.next_number;
+      next = le-refl s.fixed.next_number;
       rests = changes s.fixed h r.fixed (of_own s.fixed node h fits);
     })
 settled_rests s node payload (Sends h true count) r fits new =

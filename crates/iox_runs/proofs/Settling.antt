@@ -17,6 +17,7 @@ use Rattle.iox_model.specs.Names.{is_port}
 use Rattle.iox_model.specs.Settings.{is_client}
 use Rattle.iox_model.specs.States.{Port, Handle, Fixed, State}
 use Rattle.iox_model.proofs.MapLemmas.{either}
+use Rattle.iox_ledger.proofs.Orders.{le-refl, le-next}
 use Rattle.iox_ledger.proofs.Lists.{IsAmong}
 use Rattle.iox_ledger.proofs.Senders.{is_loan, IsMade}
 use Rattle.iox_reachable.proofs.Sound.{IsOwn, FitsOutcome}
@@ -75,13 +76,10 @@ received_kept ps f node x m = (
 
 -- ---- what is fixed
 
-one_more : (n : ℕ) → nat_le n (n + 1) ≡ true
-one_more n = grind (arith)
-
 -- a number is given
 numbers : (f : Fixed) (node : ℕ) → f.on_wire ≡ false → Has f → Has (numbered f node)
 numbers f node hub p =
-    subst Has (sym (numbered-hub f node hub)) (more_numbers f.limits f.ports f.next_number (f.next_number + 1) f.handles f.borrowed f.expired (one_more f.next_number) p)
+    subst Has (sym (numbered-hub f node hub)) (more_numbers f.limits f.ports f.next_number (f.next_number + 1) f.handles f.borrowed f.expired (le-next f.next_number) p)
 
 adds_own : (f : Fixed) (h : Handle) → f.on_wire ≡ false → Has f → KeptHandle f.ports h → is_received h.kind ≡ false → Has (added (numbered f h.node) h)
 adds_own f h hub p kept own =
@@ -94,7 +92,7 @@ takes_own : (f : Fixed) (h : Handle) (w : Way) → f.on_wire ≡ false → Has f
 takes_own f h w hub p kept is below stays was there =
     subst (λ (g : Fixed). Has (borrows (added g h) w)) (sym (numbered-hub f h.node hub))
     (takes_few f.limits f.ports (f.next_number + 1) f.handles f.borrowed f.expired h w
-    (more_numbers f.limits f.ports f.next_number (f.next_number + 1) f.handles f.borrowed f.expired (one_more f.next_number) p) kept is below stays
+    (more_numbers f.limits f.ports f.next_number (f.next_number + 1) f.handles f.borrowed f.expired (le-next f.next_number) p) kept is below stays
     (still w.sender f.next_number was) there)
   where
     still : (a b : ℕ) → nat_lt a b ≡ true → nat_lt a (b + 1) ≡ true
@@ -136,14 +134,11 @@ with_owned s f o has ports limits expired next = record {
       there = p.there;
     }
 
-itself : (n : ℕ) → nat_le n n ≡ true
-itself n = grind (arith)
-
 -- only handles, loans and calls changed
 handles_owned : (s : State) (f : Fixed) → Owned s → Has f → f.ports ≡ s.fixed.ports → f.limits ≡ s.fixed.limits → f.expired ≡ s.fixed.expired
     → f.next_number ≡ s.fixed.next_number → Owned (with_fixed s f)
 handles_owned s f o has ports limits expired next =
-    with_owned s f o has ports limits expired (subst (λ n. nat_le s.fixed.next_number n ≡ true) (sym next) (itself s.fixed.next_number))
+    with_owned s f o has ports limits expired (subst (λ n. nat_le s.fixed.next_number n ≡ true) (sym next) (le-refl s.fixed.next_number))
 
 -- and one number was given
 number_owned : (s : State) (f : Fixed) (node : ℕ) → s.fixed.on_wire ≡ false → Owned s → Has f → f.ports ≡ (numbered s.fixed node).ports → f.limits ≡ (numbered s.fixed node).limits
@@ -151,7 +146,7 @@ number_owned : (s : State) (f : Fixed) (node : ℕ) → s.fixed.on_wire ≡ fals
 number_owned s f node hub o has ports limits expired next =
     let e : numbered s.fixed node ≡ record (s.fixed) { next_number = s.fixed.next_number + 1 } = numbered-hub s.fixed node hub in
     with_owned s f o has (ports ∙ ap (λ (x : Fixed). x.ports) e) (limits ∙ ap (λ (x : Fixed). x.limits) e) (expired ∙ ap (λ (x : Fixed). x.expired) e)
-    (subst (λ n. nat_le s.fixed.next_number n ≡ true) (sym (next ∙ ap (λ (x : Fixed). x.next_number) e)) (one_more s.fixed.next_number))
+    (subst (λ n. nat_le s.fixed.next_number n ≡ true) (sym (next ∙ ap (λ (x : Fixed). x.next_number) e)) (le-next s.fixed.next_number))
 
 pub released_owned : (s : State) (port : ℕ) → Rested s → Owned s → any_at port s.fixed.ports ≡ true → Owned (released s port)
 released_owned s port r o there =

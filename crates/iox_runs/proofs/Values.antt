@@ -1,11 +1,12 @@
 -- The numbers of a node's values, ascending: none stands there twice, and each is that of a value.
-use Rattle.std.specs.Prelude.{◌≡◌, ℕ, Bool, true, false, ◌&&◌, if◌then◌else◌, ◌==◌, nat_lt, List, [], ◌∷◌, ◌++◌, map, filter, ◌⊎◌, refl}
+use Rattle.std.specs.Prelude.{◌≡◌, ℕ, Bool, true, false, ◌&&◌, if◌then◌else◌, ◌==◌, nat_lt, List, [], ◌∷◌, ◌++◌, map, filter, ◌⊎◌}
 use Rattle.std.proofs.Common.{sym, subst, eqb-true, inl, inr}
 use Rattle.iox_model.specs.Services.{insert_number, ascending, numbers_of_node}
 use Rattle.iox_model.specs.States.{Port, Handle, Fixed}
 use Rattle.iox_model.proofs.MapLemmas.{eqb-refl}
 use Rattle.iox_model.proofs.PlayedRuns.{split}
-use Rattle.iox_ledger.proofs.Lists.{IsAmong, NoRepeats, among-append, among-any, map-among, filter-among, no_repeats-map_filter, distinct-no_repeats, no_repeats-distinct, never}
+use Rattle.iox_ledger.proofs.Truths.{never}
+use Rattle.iox_ledger.proofs.Lists.{IsAmong, NoRepeats, among-append, among-any, map-among, filter-among, no_repeats-map_filter, distinct-no_repeats, no_repeats-distinct, no_repeats-append}
 use Rattle.iox_runs.specs.Resting.{ValuesHaveOwnNumbers}
 use Rattle.iox_runs.proofs.Ports.{any_at}
 use Rattle.iox_runs.proofs.Rests.{Rests}
@@ -45,13 +46,6 @@ ascending-apart : (ns : List ℕ) → NoRepeats ns → NoRepeats (ascending ns)
 ascending-apart [] d = tt
 ascending-apart (n ∷ ns) d = insert-apart n (ascending ns) (ascending-apart ns d.1) (λ p. d.0 (ascending-among n ns p))
 
-append-apart : (ms ns : List ℕ) → NoRepeats ms → NoRepeats ns → ((k : ℕ) → IsAmong k ms → IsAmong k ns → ⊥) → NoRepeats (ms ++ ns)
-append-apart [] ns d e apart = e
-append-apart (m ∷ ms) ns d e apart = (
-  (λ p. elim (among-append m ms ns p) as (λ u. ⊥) [ inl q ↦ d.0 q | inr q ↦ apart m (inl refl) q ]),
-  append-apart ms ns d.1 e (λ k p q. apart k (inr p) q),
-)
-
 -- ---- of a node
 
 abbrev is_value : ℕ → Port → Bool
@@ -84,7 +78,7 @@ numbers_apart f node r =
     let ports : List ℕ = map (λ p. p.number) (filter (is_value node) f.ports) in
     let handles : List ℕ = map (λ h. h.number) (f.handles node) in
     ascending-apart (ports ++ handles)
-    (append-apart ports handles
+    (no_repeats-append ports handles
     (no_repeats-map_filter (λ (p : Port). p.number) (is_value node) f.ports (distinct-no_repeats (map (λ (p : Port). p.number) f.ports) (r.numbered).0))
     (r.handles node).apart both)
   where
