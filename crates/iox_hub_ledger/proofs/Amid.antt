@@ -13,12 +13,13 @@ use Rattle.iox_model.specs.Peers.{buffer_on, borrow_limit_on}
 use Rattle.iox_model.specs.States.{Fixed, State}
 use Rattle.iox_model.specs.Weaves.{World}
 use Rattle.iox_model.specs.WholeCalls.{moved_by, left_by, MayCome}
+use Rattle.iox_model.proofs.PlayedRuns.{split}
 use Rattle.iox_model.proofs.WholeLemmas.{moved_by-fixed}
 use Rattle.iox_ledger.specs.QueueLaws.{evicts_next, has_evicted}
+use Rattle.iox_ledger.proofs.Orders.{none-more, le-is}
+use Rattle.iox_ledger.proofs.Counts.{count, one_if}
 use Rattle.iox_ledger.proofs.Balance.{any}
-use Rattle.iox_ledger.proofs.Borrows.{count, one_if}
 use Rattle.iox_ledger.proofs.LedgerHolds.{count-out, length-out, IsCounted, counted-once, counted-record}
-use Rattle.iox_ledger.proofs.Lists.{both}
 use Rattle.iox_ledger.proofs.Once.{IsPassed}
 use Rattle.iox_ledger.proofs.Outs.{out, is}
 use Rattle.iox_ledger.proofs.Outstanding.{call-below, counted-outstanding}
@@ -78,7 +79,7 @@ amid-is s w y a =
         | inr p ↦ subst (λ n. n ≤ most_on s.fixed y + 1) (sym (length-out there y))
             (sums (length ((moved_by s ms).waiting y)) (length (had_on there y)) (length ((moved_by s ms).returned y)) (length ((moved_by s ms).in_hand y))
             (buffer_on s.fixed y) (borrow_limit_on s.fixed y) (one_if (evicts_next y d)) (one_if (has_evicted y d))
-            (queues_stay_within s node call c ms y a.0 named may (both (any_at y.sender s.fixed.ports) (any_at y.receiver s.fixed.ports) (live-ends s.fixed y a.1)).0)
+            (queues_stay_within s node call c ms y a.0 named may (split (any_at y.sender s.fixed.ports) (any_at y.receiver s.fixed.ports) (live-ends s.fixed y a.1)).0)
             (borrows_stay_within s node call c ms y a.0 named may) (ap length p.1) (u.hand y) (one-more d y))
       ];
     })
@@ -146,21 +147,15 @@ passed-below s n d y k fits p passed = absurd passed
 masked-below : (f : Fixed) (n port k : ℕ) → k ≤ (view f n).loans port → k ≤ f.loans port
 masked-below f n port k = by_case (node_in f.ports port == n)
   where
-    none : (a b : ℕ) → a ≤ 0 → a ≤ b
-    none a b p = omega arith
-
     by_case : (b : Bool) → k ≤ (if b then f.loans port else 0) → k ≤ f.loans port
     by_case true p = p
-    by_case false p = none k (f.loans port) p
+    by_case false p = none-more k (f.loans port) p
 
 was-loaned : (s : State) (n : ℕ) (d : Doing) (y : Way) (k : ℕ) → Underway s n d → s.delivered y k ≡ true → k ≤ s.fixed.loans y.sender
 was-loaned s n d y k u on = by_case (nat_le k (s.fixed.loans y.sender)) refl
   where
     fits : FitsHandles (view s.fixed n) n
     fits = fits_handles s.fixed n (u.goes).fixed (((u.goes).owned).has).kept u.few
-
-    le : (a b : ℕ) → nat_le a b ≡ true → a ≤ b
-    le a b e = grind (arith)
 
     not_le : (a b : ℕ) → nat_le a b ≡ false → a ≤ b → ⊥
     not_le a b e p = grind (arith)
@@ -172,7 +167,7 @@ was-loaned s n d y k u on = by_case (nat_le k (s.fixed.loans y.sender)) refl
     two a p = omega arith
 
     by_case : (b : Bool) → nat_le k (s.fixed.loans y.sender) ≡ b → k ≤ s.fixed.loans y.sender
-    by_case true e = le k (s.fixed.loans y.sender) e
+    by_case true e = le-is k (s.fixed.loans y.sender) e
     by_case false e =
         absurd (two (count (is k) (loaned_in (s.fixed.handles n) y.sender))
         (subst (λ b. count (is k) (loaned_in (s.fixed.handles n) y.sender) + one_if b + 1 ≤ 1) (other k (s.fixed.loans y.sender) e)

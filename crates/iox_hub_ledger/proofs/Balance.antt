@@ -7,26 +7,26 @@ use Rattle.iox_model.specs.declared.way.Way.{Way}
 use Rattle.iox_model.specs.Doings.{Doing, Delivering, Evicted}
 use Rattle.iox_model.specs.Ledgers.{is_emptied_by}
 use Rattle.iox_model.specs.Maps.{same_way, has_way}
-use Rattle.iox_model.specs.Messages.{serials_of}
 use Rattle.iox_model.specs.Moments.{Holds, moved, Moment, Deliver, Evict, GetBack}
 use Rattle.iox_model.specs.Peers.{is_counted_on, forgot_port, node_of_port, buffer_on, borrow_limit_on}
 use Rattle.iox_model.specs.Settings.{is_client}
 use Rattle.iox_model.specs.States.{Port, Fixed, State}
 use Rattle.iox_model.specs.Steps.{next}
 use Rattle.iox_model.specs.WholeCalls.{moved_by, left_by, MayCome}
+use Rattle.iox_model.proofs.PlayedRuns.{split}
 use Rattle.iox_model.proofs.MapLemmas.{nobody_is_forgotten}
 use Rattle.iox_model.proofs.WholeLemmas.{moved-fixed}
 use Rattle.iox_ledger.specs.QueueLaws.{has_evicted}
-use Rattle.iox_ledger.proofs.Balance.{any}
-use Rattle.iox_ledger.proofs.Borrows.{count, one_if}
+use Rattle.iox_ledger.proofs.Truths.{by_cases}
+use Rattle.iox_ledger.proofs.Counts.{count, one_if}
+use Rattle.iox_ledger.proofs.Balance.{any, moved-counted}
 use Rattle.iox_ledger.proofs.Emptied.{deliver-emptied}
 use Rattle.iox_ledger.proofs.Had.{put_on, got_on, FitsRelease, next-release}
-use Rattle.iox_ledger.proofs.Lists.{both, distinct-no_repeats}
+use Rattle.iox_ledger.proofs.Lists.{distinct-no_repeats, no-length}
 use Rattle.iox_ledger.proofs.Moves.{WaitsFit}
-use Rattle.iox_ledger.proofs.Outs.{out, is, HandFits, moved-shifts, out-follows, got-out, moved-record}
+use Rattle.iox_ledger.proofs.Outs.{out, is, HandFits, moved-shifts, out-follows}
 use Rattle.iox_ledger.proofs.Phases.{HasOwnPorts}
 use Rattle.iox_ledger.proofs.Views.{view, role_in}
-use Rattle.iox_reachable.proofs.WayLemmas.{by_cases}
 use Rattle.iox_runs.proofs.Calls.{Goes, goes_by}
 use Rattle.iox_runs.proofs.Holding.{WaitFits}
 use Rattle.iox_runs.proofs.Owning.{Owned}
@@ -84,7 +84,7 @@ waits-fit s o y m among =
 
 pub is-counted : (f : Fixed) (y : Way) → IsHub f → has_ends f y ≡ true → is_counted_on f y ≡ true
 is-counted f y hub ends =
-    and_not (any_at y.sender f.ports) (forgot_port f (node_of_port f y.sender) y.receiver) (both (any_at y.sender f.ports) (any_at y.receiver f.ports) ends).0
+    and_not (any_at y.sender f.ports) (forgot_port f (node_of_port f y.sender) y.receiver) (split (any_at y.sender f.ports) (any_at y.receiver f.ports) ends).0
     (nobody_is_forgotten f (node_of_port f y.sender) y.receiver (hub.forgot (node_of_port f y.sender)))
   where
     and_not : (a b : Bool) → a ≡ true → b ≡ false → (a && not b) ≡ true
@@ -100,11 +100,7 @@ at-most-one n false p = omega arith
 
 -- an eviction finds nothing in hand
 hand-fits : (s : State) (n : ℕ) (d : Doing) (m : Moment) (y : Way) → (next s n d m).condition → length (s.in_hand y) ≤ one_if (has_evicted y d) → HandFits s y m
-hand-fits s n (Delivering x last left count) (Evict w) y c p = λ same. no_length (s.in_hand y) p
-  where
-    no_length : (ks : List ℕ) → length ks ≤ 0 → ks ≡ []
-    no_length [] q = refl
-    no_length (k ∷ ks) q = absurd (omega arith)
+hand-fits s n (Delivering x last left count) (Evict w) y c p = λ same. no-length (s.in_hand y) p
 hand-fits s n d (Evict w) y c p = absurd c
 hand-fits s n d m y c p = tt
 
@@ -119,25 +115,9 @@ follows s n d m y value u h c ends =
 moved-counts : (s : State) (n : ℕ) (d : Doing) (m : Moment) (y : Way) (k : ℕ) → Underway s n d → Holds s m → (next s n d m).condition → has_ends s.fixed y ≡ true
     → out (is k) (moved s m) y (had_while s.fixed n (next s n d m).after y) ≡ one_if ((moved s m).delivered y k)
 moved-counts s n d m y k u h c ends =
-    same (out (is k) (moved s m) y (had_while s.fixed n (next s n d m).after y)) (count (is k) (got_on y m)) (out (is k) s y (had_while s.fixed n d y))
-    (count (is k) (put_on y m)) (one_if (s.delivered y k)) (one_if ((moved s m).delivered y k)) (follows s n d m y (is k) u h c ends) (u.counts y ends k)
-    (moved-record s m y k (λ j. put-new s n d m y j (((u.goes).fixed).handles n).apart u.stands c u.fresh) was)
-  where
-    same : (a b c d e f : ℕ) → a + b ≡ c + d → c ≡ e → f + b ≡ e + d → a ≡ f
-    same a b c d e f p q r = omega arith
-
-    -- what is got back was out, and so it was delivered
-    was : (j : ℕ) → got_on y m ≡ j ∷ [] → s.delivered y j ≡ true
-    was j e = recorded (s.delivered y j)
-        (at_least (count (is j) (serials_of (s.waiting y))) (count (is j) (had_while s.fixed n d y)) (count (is j) (s.returned y)) (count (is j) (s.in_hand y))
-        (one_if (s.delivered y j)) (got-out s m y j h e) (u.counts y ends j))
-      where
-        at_least : (a b c d e : ℕ) → 1 ≤ c + d → a + b + c + d ≡ e → 1 ≤ e
-        at_least a b c d e p q = omega arith
-
-        recorded : (b : Bool) → 1 ≤ one_if b → b ≡ true
-        recorded true q = refl
-        recorded false q = absurd (omega arith)
+    moved-counted s m y (had_while s.fixed n d y) (had_while s.fixed n (next s n d m).after y) h
+    (λ value. follows s n d m y value u h c ends) (u.counts y ends)
+    (λ j. put-new s n d m y j (((u.goes).fixed).handles n).apart u.stands c u.fresh) k
 
 -- ---- how much is out
 

@@ -10,7 +10,7 @@ use Rattle.iox_model.specs.declared.reply.Reply.TheVariants.{Words}
 use Rattle.iox_model.specs.Begins.{written, writes, reads, begins_at, start}
 use Rattle.iox_model.specs.Commands.{Refusal, Call, number_of}
 use Rattle.iox_model.specs.Doings.{refused, Tells, Fills, Drops, Doing, Ended, Returning}
-use Rattle.iox_model.specs.Handles.{same_kind, is_request_loan, is_received, way_of, handle_at, subject, kind_of, node_of, Subject, ThePort, TheHandle}
+use Rattle.iox_model.specs.Handles.{same_kind, is_received, way_of, handle_at, subject, kind_of, node_of, Subject, ThePort, TheHandle}
 use Rattle.iox_model.specs.Loans.{loan_of, next_request, request_loan_refusal, response_loan_refusal, memory_refusal, lending_ways, unless_refused, Choice, Order}
 use Rattle.iox_model.specs.Names.{suits, misnamed}
 use Rattle.iox_model.specs.Peers.{port_at, forgot_port}
@@ -23,7 +23,7 @@ use Rattle.iox_model.proofs.MapLemmas.{either}
 use Rattle.iox_ledger.proofs.Lists.{IsAmong, find-among}
 use Rattle.iox_ledger.proofs.Phases.{HasOwnPorts, sends-fits, loaning-fits}
 use Rattle.iox_ledger.proofs.Senders.{is_loan, FitsHandles, FitsLoan}
-use Rattle.iox_ledger.proofs.Starts.{IsNamedBy, named-by, IsThere, there, kind-loan, kind-role, written-role, written-loan, own-loan, write-loan, send-loan}
+use Rattle.iox_ledger.proofs.Starts.{IsNamedBy, named-by, IsThere, there, kind-loan, kind-role, own-loan, write-loan, send-loan, written-fills}
 use Rattle.iox_ledger.proofs.Views.{view, mine, IsAt, View}
 use Rattle.iox_hub_ledger.proofs.Underway.{Stands, sends-stands, loaning-stands, visiting-stands, closing-stands, checking-stands, hinting-stands, seeking-stands}
 
@@ -106,21 +106,7 @@ writes-stands : (v : View) (n : ℕ) (h : Handle) (k : Option ℕ) (words : List
 writes-stands v n h None words fits is loan = tt
 writes-stands v n h (Some k) words fits is loan =
     either (Stands v n) (k == h.message.elements) (Ended (Fills (written h words))) (refused WrongLength)
-    (λ u. record {
-      old = h;
-      among = is;
-      number = refl;
-      port = refl;
-      serial = refl;
-      was_loan = loan;
-      of_node = fits.of_node h is;
-      is_loan_still = written-loan (is_request_loan h.kind);
-      made = record {
-        sender = (fits.made h is loan).sender;
-        lane = (fits.made h is loan).lane;
-        role = written-role (is_request_loan h.kind) ∙ (fits.made h is loan).role;
-      };
-    }) (λ u. tt)
+    (λ u. written-fills v n h words fits is loan) (λ u. tt)
 
 reads-stands : (v : View) (n : ℕ) (c : Choice) (h : Handle) → Stands v n (reads c h)
 reads-stands v n c h =

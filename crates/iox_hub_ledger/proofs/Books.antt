@@ -1,6 +1,7 @@
 -- What holds of the record between calls of a hub; so a call begins, and so its end leaves it.
 use Rattle.std.specs.Prelude.{◌≡◌, ℕ, ◌+◌, ◌≤◌, Bool, true, false, ◌&&◌, if◌then◌else◌, ◌==◌, nat_le, List, [], ◌∷◌, length, map, filter, Some, None, ◌⊎◌, refl}
-use Rattle.std.proofs.Common.{suc, sym, subst, ap, ap₂, ◌∙◌, eqb-true, eq-eqb, arith, inl, inr}
+use Rattle.std.proofs.Common.{sym, subst, ap, ap₂, ◌∙◌, eqb-true, eq-eqb, arith, inl, inr}
+use Rattle.std.proofs.lemmas.List.{length-map}
 use Rattle.iox_model.specs.declared.call.WireCall.TheVariants as wire_calls
 use Rattle.iox_model.specs.declared.way.Way.{Way}
 use Rattle.iox_model.specs.Begins.{start}
@@ -16,13 +17,16 @@ use Rattle.iox_model.specs.Requests.{is_over}
 use Rattle.iox_model.specs.Settings.{other_role, buffer_of, borrow_limit_of}
 use Rattle.iox_model.specs.States.{Port, Handle, Fixed, State}
 use Rattle.iox_model.specs.Steps.{ends}
+use Rattle.iox_model.proofs.PlayedRuns.{split}
 use Rattle.iox_model.proofs.MapLemmas.{nobody_is_forgotten}
 use Rattle.iox_ledger.specs.QueueLaws.{has_evicted}
+use Rattle.iox_ledger.proofs.Orders.{le-from}
+use Rattle.iox_ledger.proofs.Counts.{count, one_if}
+use Rattle.iox_ledger.proofs.Truths.{never, none-some, by_cases}
 use Rattle.iox_ledger.proofs.Balance.{any}
 use Rattle.iox_ledger.proofs.Beginnings.{BeginsWell, wire_start-well}
-use Rattle.iox_ledger.proofs.Borrows.{count, one_if}
 use Rattle.iox_ledger.proofs.HadEnds.{ended-held}
-use Rattle.iox_ledger.proofs.Lists.{both, never, none-some, distinct-no_repeats}
+use Rattle.iox_ledger.proofs.Lists.{distinct-no_repeats, no-length}
 use Rattle.iox_ledger.proofs.Once.{IsPassed}
 use Rattle.iox_ledger.proofs.Outs.{out, is}
 use Rattle.iox_ledger.proofs.Rights.{IsSent}
@@ -30,7 +34,6 @@ use Rattle.iox_ledger.proofs.Senders.{FitsHandles}
 use Rattle.iox_ledger.proofs.Tallies.{count-all}
 use Rattle.iox_ledger.proofs.Views.{view, node_in}
 use Rattle.iox_model.proofs.WholeLemmas.{some-is}
-use Rattle.iox_reachable.proofs.WayLemmas.{by_cases}
 use Rattle.iox_runs.proofs.Calls.{begins}
 use Rattle.iox_runs.proofs.Ports.{any_at}
 use Rattle.iox_runs.proofs.Settling.{Calm}
@@ -55,10 +58,6 @@ pub record Books (s : State) : Type 0 where
 
 -- ---- how much is out
 
-length-map : {A B : Type 0} (f : A → B) (xs : List A) → length (map f xs) ≡ length xs
-length-map f [] = refl
-length-map f (x ∷ xs) = ap suc (length-map f xs)
-
 -- no more waits than the buffer, no more is had than may be, and nothing else is out
 pub is-within : (s : State) (y : Way) → Calm s → Books s → has_ends s.fixed y ≡ true → out any s y (had_in s.fixed y) ≤ most_on s.fixed y
 is-within s y c b ends = elim (b.within y ends) as (λ u. out any s y (had_in s.fixed y) ≤ most_on s.fixed y) [
@@ -66,25 +65,22 @@ is-within s y c b ends = elim (b.within y ends) as (λ u. out any s y (had_in s.
   | inr none ↦
       sums (count any (serials_of (s.waiting y))) (count any (had_in s.fixed y)) (count any (s.returned y)) (count any (s.in_hand y))
       (length (s.waiting y)) (length (had_in s.fixed y)) (buffer_on s.fixed y) (borrow_limit_on s.fixed y)
-      (count-all (serials_of (s.waiting y)) ∙ length-map (λ (m : Message). m.serial) (s.waiting y)) (count-all (had_in s.fixed y))
+      (count-all (serials_of (s.waiting y)) ∙ length-map (s.waiting y) (λ (m : Message). m.serial)) (count-all (had_in s.fixed y))
       (ap (count any) none) (ap (count any) (b.hand y)) waits has
 ]
   where
     sums : (a b c d e f g h : ℕ) → a ≡ e → b ≡ f → c ≡ 0 → d ≡ 0 → e ≤ g → f ≤ h → a + b + c + d ≤ g + h
     sums a b c d e f g h p q r t u v = omega arith
 
-    le_from : (a b : ℕ) → nat_le a (b + 0) ≡ true → a ≤ b
-    le_from a b e = grind (arith)
-
     waits : length (s.waiting y) ≤ buffer_on s.fixed y
     waits =
-        le_from (length (s.waiting y)) (buffer_on s.fixed y)
-        ((c.rests).within (node_of_port s.fixed y.sender) y ((both (any_at y.sender s.fixed.ports) (any_at y.receiver s.fixed.ports) ends).0, refl))
+        le-from (length (s.waiting y)) (buffer_on s.fixed y)
+        ((c.rests).within (node_of_port s.fixed y.sender) y ((split (any_at y.sender s.fixed.ports) (any_at y.receiver s.fixed.ports) ends).0, refl))
 
     has : length (had_in s.fixed y) ≤ borrow_limit_on s.fixed y
     has =
         subst (λ k. k ≤ borrow_limit_on s.fixed y)
-        (sym (length-map (λ (h : Handle). h.message.serial) (filter (has_received y) (s.fixed.handles (node_in s.fixed.ports y.receiver))))) ((c.owned).has.few y)
+        (sym (length-map (filter (has_received y) (s.fixed.handles (node_in s.fixed.ports y.receiver))) (λ (h : Handle). h.message.serial))) ((c.owned).has.few y)
 
 -- ---- the begin of a call
 
@@ -181,7 +177,7 @@ left-books s n d o g u ended p = record {
     | inl sent ↦ at_most (s.delivered y k) (rights g m y.sender k) (p.sent m y.sender k sent)
     | inr free ↦ less (rights g m y.sender k) (rights s.fixed m y.sender k) (one_if (s.delivered y k)) (p.rights_less m y.sender k) (u.fresh m y k free)
   ];
-  hand = λ y. no_length (s.in_hand y) (subst (λ b. length (s.in_hand y) ≤ one_if b) (ends-no_hand s d o y ended) (u.hand y));
+  hand = λ y. no-length (s.in_hand y) (subst (λ b. length (s.in_hand y) ≤ one_if b) (ends-no_hand s d o y ended) (u.hand y));
   idle = λ y off. u.idle y (sym (same-ends s.fixed g y p.ports) ∙ off);
   counts = λ y ends k. ap (out (is k) s y) (had y) ∙ u.counts y (sym (same-ends s.fixed g y p.ports) ∙ ends) k;
   within = λ y ends. elim (u.within y (sym (same-ends s.fixed g y p.ports) ∙ ends)) as (λ z. (out any s y (had_in g y) ≤ most_on g y) ⊎ (s.returned y ≡ [])) [
@@ -190,10 +186,6 @@ left-books s n d o g u ended p = record {
   ];
 }
   where
-    no_length : (ks : List ℕ) → length ks ≤ 0 → ks ≡ []
-    no_length [] q = refl
-    no_length (k ∷ ks) q = absurd (omega arith)
-
     less : (a b c : ℕ) → a ≤ b → b + c ≤ 1 → a + c ≤ 1
     less a b c q r = omega arith
 

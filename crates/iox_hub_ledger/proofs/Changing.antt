@@ -14,9 +14,15 @@ use Rattle.iox_model.specs.Maps.{put, put_at}
 use Rattle.iox_model.specs.Messages.{Message}
 use Rattle.iox_model.specs.Settings.{is_client}
 use Rattle.iox_model.specs.States.{Handle, Fixed}
+use Rattle.iox_model.proofs.CallLaws.{put_at-else}
 use Rattle.iox_model.proofs.MapLemmas.{either}
 use Rattle.iox_model.proofs.WholeLemmas.{put_at-here}
-use Rattle.iox_ledger.proofs.Borrows.{count, one_if, loan-own, no_received}
+use Rattle.iox_ledger.proofs.ReceivedHandles.{no_received}
+use Rattle.iox_ledger.proofs.Truths.{by_cases}
+use Rattle.iox_ledger.proofs.Counts.{count, one_if}
+use Rattle.iox_ledger.proofs.Orders.{le-refl, le-next, same}
+use Rattle.iox_ledger.proofs.Settling.{on_node}
+use Rattle.iox_ledger.proofs.Borrows.{loan-own}
 use Rattle.iox_ledger.proofs.HadEnds.{plus-held, less-held, swapped-held}
 use Rattle.iox_ledger.proofs.HadMoves.{HasOwnHandles}
 use Rattle.iox_ledger.proofs.Lists.{IsAmong}
@@ -24,13 +30,12 @@ use Rattle.iox_ledger.proofs.Outs.{is}
 use Rattle.iox_ledger.proofs.Quiet.{is_quiet_outcome}
 use Rattle.iox_ledger.proofs.Rights.{IsSent}
 use Rattle.iox_ledger.proofs.Senders.{is_loan, FitsLoan, IsFilled}
-use Rattle.iox_ledger.proofs.Views.{view, mine, put_at-at, put_at-else}
-use Rattle.iox_reachable.proofs.WayLemmas.{by_cases}
+use Rattle.iox_ledger.proofs.Views.{view, mine, put_at-at}
 use Rattle.iox_runs.proofs.Ports.{any_dropped, first_dropped}
 use Rattle.iox_runs.proofs.Rests.{Rests, numbered-hub}
 use Rattle.iox_hub_ledger.proofs.Beginnings.{IsHub}
 use Rattle.iox_hub_ledger.proofs.Endings.{held-same, taken-held, dropped-held, no-right, lent-rights}
-use Rattle.iox_hub_ledger.proofs.Outcomes.{same-ports, Changes, same, lent-to_come, fewer, plus-fewer, without-fewer, copied-gone, handed-gone}
+use Rattle.iox_hub_ledger.proofs.Outcomes.{same-ports, Changes, lent-to_come, fewer, plus-fewer, without-fewer, copied-gone, handed-gone}
 use Rattle.iox_hub_ledger.proofs.Rights.{loaned_in, rights, right_of, AreFew, less-rights, with-rights}
 
 -- what is known of what is fixed as a call ends
@@ -42,15 +47,6 @@ pub record Known (f : Fixed) (n : ℕ) : Type 0 where
 own : (f : Fixed) (n : ℕ) → Known f n → HasOwnHandles (f.handles n)
 own f n q = ((q.rests).handles n).apart
 
-on_node : (h : Handle) (n j : ℕ) → h.node ≡ n → (j == n) ≡ false → (j == h.node) ≡ false
-on_node h n j e d = ap (λ k. j == k) e ∙ d
-
-itself : (n : ℕ) → nat_le n n ≡ true
-itself n = grind (arith)
-
-one_more : (n : ℕ) → nat_le n (n + 1) ≡ true
-one_more n = grind (arith)
-
 -- ---- nothing changes
 
 pub same-changes : (f : Fixed) (n : ℕ) (reply : Reply) → Changes f n (Tells reply) f
@@ -59,7 +55,7 @@ same-changes f n reply = record {
   forgot = refl;
   made = refl;
   ports = same-ports f f refl refl;
-  next = itself f.next_number;
+  next = le-refl f.next_number;
   handles = f.handles n;
   here = refl;
   others = λ j e. refl;
@@ -80,10 +76,10 @@ loaned-changes f n h payload q p =
       forgot = refl;
       made = refl;
       ports = same-ports f (called (lent (added (record f { next_number = f.next_number + 1 }) k) h.port)) refl refl;
-      next = one_more f.next_number;
+      next = le-next f.next_number;
       handles = f.handles n ++ k ∷ [];
       here = put_at-at f.handles h.node n (λ hs. hs ++ k ∷ []) p.of_node;
-      others = λ j e. put_at-else f.handles h.node j (f.handles h.node ++ k ∷ []) (on_node h n j p.of_node e);
+      others = λ j e. put_at-else f.handles h.node (f.handles h.node ++ k ∷ []) j (on_node h n j p.of_node e);
       held = λ y. held-same y (f.handles n) (f.handles n ++ k ∷ []) (Loans h) refl (plus-held y (f.handles n) k (no_received y k (loan-own h.kind p.loan)));
       rights_less = λ port j. lent-rights (f.handles n) f.loans k port j
           ((p.stands).0 ∙ ap (λ (b : Bool). if b then f.loans h.port else 0) (mine f.ports h.port n p.of_port));
@@ -97,10 +93,10 @@ filled-changes f n h q p = record {
   forgot = refl;
   made = refl;
   ports = same-ports f (changed f h) refl refl;
-  next = itself f.next_number;
+  next = le-refl f.next_number;
   handles = with_handle h (f.handles n);
   here = put_at-at f.handles h.node n (with_handle h) p.of_node;
-  others = λ j e. put_at-else f.handles h.node j (with_handle h (f.handles h.node)) (on_node h n j p.of_node e);
+  others = λ j e. put_at-else f.handles h.node (with_handle h (f.handles h.node)) j (on_node h n j p.of_node e);
   held = λ y. held-same y (f.handles n) (with_handle h (f.handles n)) (Fills h) refl
       (swapped-held y (f.handles n) h p.old (own f n q) p.among p.number (no_received y h (loan-own h.kind p.is_loan_still)) (no_received y p.old (loan-own (p.old).kind p.was_loan)));
   rights_less = λ port k. fewer (f.handles n) (with_handle h (f.handles n)) (f.loans port) (f.loans port) port k
@@ -128,7 +124,7 @@ copied-changes f n h sent q p =
       forgot = refl;
       made = refl;
       ports = same-ports f (called (called (lent (added (record f { next_number = f.next_number + 1 }) k) h.port))) refl refl;
-      next = one_more f.next_number;
+      next = le-next f.next_number;
       handles = f.handles n ++ k ∷ [];
       here = put_at-at f.handles h.node n (λ hs. hs ++ k ∷ []) p.of_node;
       others = others;
@@ -143,7 +139,7 @@ copied-changes f n h sent q p =
       forgot = refl;
       made = refl;
       ports = same-ports f (called (called (lent f h.port))) refl refl;
-      next = itself f.next_number;
+      next = le-refl f.next_number;
       handles = f.handles n;
       here = refl;
       others = λ j e. refl;
@@ -158,7 +154,7 @@ copied-changes f n h sent q p =
     k = sent_handle h sent
 
     others : (j : ℕ) → (j == n) ≡ false → put_at f.handles h.node (f.handles h.node ++ k ∷ []) j ≡ f.handles j
-    others j e = put_at-else f.handles h.node j (f.handles h.node ++ k ∷ []) (on_node h n j p.of_node e)
+    others j e = put_at-else f.handles h.node (f.handles h.node ++ k ∷ []) j (on_node h n j p.of_node e)
 
     less : (m port j : ℕ) → count (is j) (loaned_in (put_at f.handles h.node (f.handles h.node ++ k ∷ []) m) port)
         ≤ count (is j) (loaned_in (f.handles m) port)
@@ -178,7 +174,7 @@ requested-changes f n h sent q p = record {
   forgot = refl;
   made = refl;
   ports = same-ports f (called (changed f k)) refl refl;
-  next = itself f.next_number;
+  next = le-refl f.next_number;
   handles = with_handle k (f.handles n);
   here = here;
   others = others;
@@ -199,7 +195,7 @@ requested-changes f n h sent q p = record {
     here = put_at-at f.handles h.node n (with_handle k) p.of_node
 
     others : (j : ℕ) → (j == n) ≡ false → put_at f.handles h.node (with_handle k (f.handles h.node)) j ≡ f.handles j
-    others j e = put_at-else f.handles h.node j (with_handle k (f.handles h.node)) (on_node h n j p.of_node e)
+    others j e = put_at-else f.handles h.node (with_handle k (f.handles h.node)) j (on_node h n j p.of_node e)
 
     fewer_now : (a b c : ℕ) → a + b ≡ c → a ≤ c
     fewer_now a b c e = omega arith
@@ -220,7 +216,7 @@ loan_gone-changes f n h o quiet is_sent q p = record {
   forgot = refl;
   made = refl;
   ports = same-ports f (dropped f h) refl refl;
-  next = itself f.next_number;
+  next = le-refl f.next_number;
   handles = without_handle h (f.handles n);
   here = here;
   others = others;
@@ -236,7 +232,7 @@ loan_gone-changes f n h o quiet is_sent q p = record {
     here = put_at-at f.handles h.node n (without_handle h) p.of_node
 
     others : (j : ℕ) → (j == n) ≡ false → put_at f.handles h.node (without_handle h (f.handles h.node)) j ≡ f.handles j
-    others j e = put_at-else f.handles h.node j (without_handle h (f.handles h.node)) (on_node h n j p.of_node e)
+    others j e = put_at-else f.handles h.node (without_handle h (f.handles h.node)) j (on_node h n j p.of_node e)
 
 -- a loan that its call made is given up
 pub failed-changes : (f : Fixed) (n : ℕ) (h : Handle) (r : Refusal) → Changes f n (FailsToSend h true r) (called (lent f h.port))
@@ -245,7 +241,7 @@ failed-changes f n h r = record {
   forgot = refl;
   made = refl;
   ports = same-ports f (called (lent f h.port)) refl refl;
-  next = itself f.next_number;
+  next = le-refl f.next_number;
   handles = f.handles n;
   here = refl;
   others = λ j e. refl;
@@ -266,10 +262,10 @@ received-changes f n x w m q way =
       forgot = refl;
       made = refl;
       ports = same-ports f (called (borrows (added (record f { next_number = f.next_number + 1 }) h) w)) refl refl;
-      next = one_more f.next_number;
+      next = le-next f.next_number;
       handles = f.handles n ++ h ∷ [];
       here = put_at-here f.handles n (f.handles n ++ h ∷ []);
-      others = λ j e. put_at-else f.handles n j (f.handles n ++ h ∷ []) e;
+      others = λ j e. put_at-else f.handles n (f.handles n ++ h ∷ []) j e;
       held = λ y. taken-held y w (f.handles n) h x m
           (either (λ (k : Kind). is_received k ≡ true) (is_client x.role) Response ActiveRequest (λ u. refl) (λ u. refl)) way refl;
       rights_less = λ port j. fewer (f.handles n) (f.handles n ++ h ∷ []) (f.loans port) (f.loans port) port j
@@ -296,10 +292,10 @@ released-changes f n h q among =
       forgot = refl;
       made = refl;
       ports = same-ports f (record (dropped f h) { borrowed = borrowed }) refl refl;
-      next = itself f.next_number;
+      next = le-refl f.next_number;
       handles = without_handle h (f.handles n);
       here = put_at-at f.handles h.node n (without_handle h) of_node;
-      others = λ j e. put_at-else f.handles h.node j (without_handle h (f.handles h.node)) (on_node h n j of_node e);
+      others = λ j e. put_at-else f.handles h.node (without_handle h (f.handles h.node)) j (on_node h n j of_node e);
       held = λ y. dropped-held y (f.handles n) h;
       rights_less = λ port j. fewer (f.handles n) (without_handle h (f.handles n)) (f.loans port) (f.loans port) port j
           (without-fewer (f.handles n) h port j (own f n q) among) (same (one_if (nat_le (f.loans port) j)));
@@ -318,7 +314,7 @@ value-changes f n port = record {
     role = λ k. first_dropped (λ p. p.role) Client port k f.ports (λ p. refl);
     limits = refl;
   };
-  next = itself f.next_number;
+  next = le-refl f.next_number;
   handles = f.handles n;
   here = refl;
   others = λ j e. refl;

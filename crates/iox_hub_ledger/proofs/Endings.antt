@@ -2,6 +2,7 @@
 -- sent, and what was sent has none; what a receiver took is a handle, and what it gave back is none.
 use Rattle.std.specs.Prelude.{◌≡◌, ℕ, ◌+◌, ◌≤◌, Bool, true, false, ◌&&◌, if◌then◌else◌, ◌==◌, nat_le, List, [], ◌∷◌, ◌++◌, filter, Some, None, refl}
 use Rattle.std.proofs.Common.{sym, subst, ap, ◌∙◌, true≢false, eqb-true, arith}
+use Rattle.std.proofs.lemmas.List.{append-nil}
 use Rattle.iox_model.specs.declared.way.Way.{Way}
 use Rattle.iox_model.specs.Counts.{without_handle}
 use Rattle.iox_model.specs.Doings.{Receiver, Outcome, Receives, Drops, Ended}
@@ -10,15 +11,16 @@ use Rattle.iox_model.specs.Ledgers.{if_on, has_received, held_on}
 use Rattle.iox_model.specs.Maps.{put_at, same_way}
 use Rattle.iox_model.specs.Messages.{Message}
 use Rattle.iox_model.specs.States.{Handle}
-use Rattle.iox_ledger.proofs.Borrows.{count, one_if}
-use Rattle.iox_ledger.proofs.HadMoves.{received-on}
+use Rattle.iox_ledger.proofs.ReceivedHandles.{received-on}
+use Rattle.iox_ledger.proofs.Truths.{by_cases}
+use Rattle.iox_ledger.proofs.Counts.{count, one_if}
 use Rattle.iox_ledger.proofs.Outs.{is}
 use Rattle.iox_ledger.proofs.Quiet.{serials, held-quiet, held-taken, is_quiet_outcome}
 use Rattle.iox_ledger.proofs.Senders.{is_loan}
-use Rattle.iox_ledger.proofs.Tallies.{append-nothing, filter-last, without-passes}
-use Rattle.iox_ledger.proofs.Views.{put_at-else, not-equal}
-use Rattle.iox_reachable.proofs.WayLemmas.{by_cases}
+use Rattle.iox_ledger.proofs.Tallies.{filter-last, without-passes}
+use Rattle.iox_ledger.proofs.Views.{not-equal}
 use Rattle.iox_hub_ledger.proofs.Rights.{is_loan_from, loaned_in, right_of, plus-rights}
+use Rattle.iox_model.proofs.CallLaws.{put_at-else}
 
 -- ---- what is had
 
@@ -44,7 +46,7 @@ taken-held y w hs h x m received way serial =
 
 -- what was given back is none
 pub dropped-held : (y : Way) (hs : List Handle) (h : Handle) → held_on y (without_handle h hs) None ≡ held_on y hs (Some (Ended (Drops h)))
-dropped-held y hs h = ap serials (without-passes (has_received y) h hs) ∙ sym (append-nothing _)
+dropped-held y hs h = ap serials (without-passes (has_received y) h hs) ∙ sym (append-nil _)
 
 -- ---- rights
 
@@ -120,7 +122,7 @@ lent-rights hs loans h port k serial = by_cases (port == h.port)
     more (count (is k) (loaned_in (hs ++ h ∷ []) port)) (count (is k) (loaned_in hs port)) (right_of port k h) 0
     (one_if (nat_le (put_at loans h.port (loans h.port + 1) port) k)) (one_if (nat_le (loans port) k)) (plus-rights port k h hs)
     (zero (right_of port k h) (other-right port k h (not-equal h.port port other)))
-    (subst (λ l. 0 + one_if (nat_le l k) ≤ one_if (nat_le (loans port) k)) (sym (put_at-else loans h.port port (loans h.port + 1) other)) (same (one_if (nat_le (loans port) k)))))
+    (subst (λ l. 0 + one_if (nat_le l k) ≤ one_if (nat_le (loans port) k)) (sym (put_at-else loans h.port (loans h.port + 1) port other)) (same (one_if (nat_le (loans port) k)))))
   where
     more : (a b c d e f : ℕ) → a ≡ b + c → c ≤ d → d + e ≤ f → a + e ≤ b + f
     more a b c d e f p q r = omega arith

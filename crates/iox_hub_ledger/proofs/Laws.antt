@@ -6,7 +6,7 @@ use Rattle.iox_model.specs.Ledgers.{is_live, size_of}
 use Rattle.iox_model.specs.Peers.{is_connected_port, forgot_port, node_of_port, buffer_on, borrow_limit_on}
 use Rattle.iox_model.specs.States.{Fixed, State}
 use Rattle.iox_model.specs.Weaves.{at_work}
-use Rattle.iox_ledger.proofs.Borrows.{count, one_if}
+use Rattle.iox_ledger.proofs.Counts.{count, one_if}
 use Rattle.iox_ledger.proofs.LedgerHolds.{count-out, length-out, IsCounted, counted-once, counted-record}
 use Rattle.iox_ledger.proofs.Outs.{is}
 use Rattle.iox_ledger.proofs.Outstanding.{counted-outstanding}

@@ -1,5 +1,5 @@
 -- What holds of the record as a port of a hub is made, and as one goes.
-use Rattle.std.specs.Prelude.{◌≡◌, ℕ, ◌+◌, ◌≤◌, Bool, true, false, ◌&&◌, ◌||◌, if◌then◌else◌, ◌==◌, nat_lt, nat_le, List, [], ◌∷◌, ◌++◌, filter, None, ◌⊎◌, refl}
+use Rattle.std.specs.Prelude.{◌≡◌, ℕ, ◌+◌, ◌≤◌, Bool, true, false, ◌&&◌, ◌||◌, if◌then◌else◌, ◌==◌, nat_lt, nat_le, List, [], ◌∷◌, ◌++◌, None, ◌⊎◌, refl}
 use Rattle.std.specs.Option.{option_map_or}
 use Rattle.std.proofs.Common.{sym, subst, ap, ap₂, ◌∙◌, eqb-true, arith, inl, inr}
 use Rattle.iox_model.specs.declared.kind.Role.TheVariants.{Client}
@@ -13,15 +13,18 @@ use Rattle.iox_model.specs.Maps.{has_number, put_at, same_way}
 use Rattle.iox_model.specs.Messages.{serials_of, Message}
 use Rattle.iox_model.specs.Settings.{other_role, buffer_of, borrow_limit_of}
 use Rattle.iox_model.specs.States.{Port, Handle, Fixed, State}
+use Rattle.iox_model.proofs.CallLaws.{put_at-else}
+use Rattle.iox_model.proofs.PlayedRuns.{split}
 use Rattle.iox_model.proofs.MapLemmas.{either, same_way-true}
+use Rattle.iox_ledger.proofs.Orders.{same-not-less}
+use Rattle.iox_ledger.proofs.Counts.{count, one_if}
+use Rattle.iox_ledger.proofs.Truths.{never, false_if, by_cases, or-false, or-neither, second-fails}
 use Rattle.iox_ledger.proofs.Balance.{any}
-use Rattle.iox_ledger.proofs.Borrows.{count, one_if}
-use Rattle.iox_ledger.proofs.Lists.{IsAmong, both, never, not-true}
+use Rattle.iox_ledger.proofs.Lists.{IsAmong, filter-none}
 use Rattle.iox_ledger.proofs.Outs.{out, is}
 use Rattle.iox_ledger.proofs.Quiet.{serials}
 use Rattle.iox_ledger.proofs.Senders.{is_loan}
-use Rattle.iox_ledger.proofs.Views.{node_in, put_at-else}
-use Rattle.iox_reachable.proofs.WayLemmas.{by_cases, or-false, or-neither}
+use Rattle.iox_ledger.proofs.Views.{node_in}
 use Rattle.iox_runs.proofs.Gone.{others_belong}
 use Rattle.iox_runs.proofs.Owning.{Owned}
 use Rattle.iox_runs.proofs.Parting.{none_there}
@@ -35,22 +38,11 @@ use Rattle.iox_hub_ledger.proofs.Rights.{is_loan_from, loaned_in, rights}
 
 -- ---- handles
 
--- where none passes, nothing is left
-none-passes : (test : Handle → Bool) (hs : List Handle) → ((h : Handle) → IsAmong h hs → test h ≡ false) → filter test hs ≡ []
-none-passes test [] none = refl
-none-passes test (h ∷ hs) none =
-    either (λ (gs : List Handle). gs ≡ []) (test h) (h ∷ filter test hs) (filter test hs) (λ on. never (test h) on (none h (inl refl)))
-    (λ u. none-passes test hs (λ k a. none k (inr a)))
-
 pub none-loaned : (port : ℕ) (hs : List Handle) → ((h : Handle) → IsAmong h hs → (h.port == port) ≡ false) → loaned_in hs port ≡ []
-none-loaned port hs others = ap serials (none-passes (is_loan_from port) hs (λ h a. last (is_loan h.kind) (h.port == port) (others h a)))
-  where
-    last : (a b : Bool) → b ≡ false → (a && b) ≡ false
-    last true b e = e
-    last false b e = refl
+none-loaned port hs others = ap serials (filter-none (is_loan_from port) hs (λ h a. second-fails (is_loan h.kind) (h.port == port) (others h a)))
 
 none-had : (y : Way) (hs : List Handle) → ((h : Handle) → IsAmong h hs → has_received y h ≡ false) → held_on y hs None ≡ []
-none-had y hs none = ap serials (none-passes (has_received y) hs none)
+none-had y hs none = ap serials (filter-none (has_received y) hs none)
 
 -- ---- a port goes
 
@@ -62,12 +54,12 @@ ends-stood : (f : Fixed) (gone : ℕ) (y : Way) → (any_at y.sender (others_tha
     → (has_ends f y ≡ true) × ((y.sender == gone) ≡ false) × ((y.receiver == gone) ≡ false)
 ends-stood f gone y e =
     let p : (any_at y.sender (others_than gone f.ports) ≡ true) × (any_at y.receiver (others_than gone f.ports) ≡ true)
-    = both (any_at y.sender (others_than gone f.ports)) (any_at y.receiver (others_than gone f.ports)) e in
+    = split (any_at y.sender (others_than gone f.ports)) (any_at y.receiver (others_than gone f.ports)) e in
     let a : (any_at y.sender f.ports ≡ true) × ((y.sender == gone) ≡ false) = any_others gone y.sender f.ports p.0 in
     let b : (any_at y.receiver f.ports ≡ true) × ((y.receiver == gone) ≡ false) = any_others gone y.receiver f.ports p.1 in
     (ap₂ (λ c d. c && d) a.0 b.0, a.1, b.1)
 
--- where both ends are still connected, all is as it was
+-- where split ends are still connected, all is as it was
 stays-there : (s : State) (gone : ℕ) (y : Way) → AreAway s.fixed → any_at y.sender s.fixed.ports ≡ true → (y.sender == gone) ≡ false → (y.receiver == gone) ≡ false
     → stays s gone y ≡ true
 stays-there s gone y away there from to =
@@ -75,7 +67,7 @@ stays-there s gone y away there from to =
     (if y.sender == gone || has_number y.sender (s.fixed.expired y.receiver) then has_number y.sender (expired_after s gone y.receiver) else true)) to
     ∙ ap (λ (b : Bool). if b then has_number y.sender (expired_after s gone y.receiver) else true)
     (or-neither (y.sender == gone) (has_number y.sender (s.fixed.expired y.receiver)) from
-    (not-true (has_number y.sender (s.fixed.expired y.receiver)) (λ e. never (any_at y.sender s.fixed.ports) there (away y.receiver y.sender e))))
+    (false_if (has_number y.sender (s.fixed.expired y.receiver)) (λ e. never (any_at y.sender s.fixed.ports) there (away y.receiver y.sender e))))
 
 gone-books : (s : State) (gone : ℕ) → Rests s.fixed → AreAway s.fixed → is_last_gone s.fixed gone ≡ true → Books s → Books (disconnected s gone)
 gone-books s gone r away last b = record {
@@ -112,7 +104,7 @@ gone-books s gone r away last b = record {
         (count value ((disconnected s gone).in_hand y)) (count value (serials_of (s.waiting y))) (count value (had_in s.fixed y))
         (count value (s.returned y)) (count value (s.in_hand y))
         (ap (λ (c : Bool). count value (serials_of (if c then s.waiting y else [])))
-        (stays-there s gone y away (both (any_at y.sender s.fixed.ports) (any_at y.receiver s.fixed.ports) p.0).0 p.1 p.2))
+        (stays-there s gone y away (split (any_at y.sender s.fixed.ports) (any_at y.receiver s.fixed.ports) p.0).0 p.1 p.2))
         (ap (λ o. count value (held_on y (s.fixed.handles (option_map_or (λ (q : Port). q.node) o 0)) None)) (first_others gone y.receiver s.fixed.ports p.2))
         (ap (λ (c : Bool). count value (if c then [] else s.returned y)) (no-end y p.1 p.2))
         (ap (λ (c : Bool). count value (if c then [] else s.in_hand y)) (no-end y p.1 p.2))
@@ -129,7 +121,7 @@ gone-books s gone r away last b = record {
         (ap (λ (c : Bool). one_if (if c || (y.receiver == gone) then false else s.delivered y k)) goes))
         (λ other. weaken (is_end gone y) (s.delivered y k) (rights (disconnected s gone).fixed n y.sender k)
         (subst (λ l. count (is k) (loaned_in (s.fixed.handles n) y.sender) + one_if (nat_le l k) + one_if (s.delivered y k) ≤ 1)
-        (sym (put_at-else s.fixed.loans gone y.sender 0 other)) (b.fresh n y k)))
+        (sym (put_at-else s.fixed.loans gone 0 y.sender other)) (b.fresh n y k)))
       where
         few : (a b c : ℕ) → a ≡ 0 → b ≤ 1 → c ≡ 0 → a + b + c ≤ 1
         few a b c p q t = omega arith
@@ -148,8 +140,8 @@ gone-books s gone r away last b = record {
         (λ end. (ap (λ (c : Bool). if c then [] else s.returned y) end, λ k. ap (λ (c : Bool). if c then false else s.delivered y k) end))
         (λ no.
         let other : ((y.sender == gone) ≡ false) × ((y.receiver == gone) ≡ false) = or-false (y.sender == gone) (y.receiver == gone) no in
-        let was : IsIdle s y = b.idle y (not-true (has_ends s.fixed y) (λ e.
-        let p : (any_at y.sender s.fixed.ports ≡ true) × (any_at y.receiver s.fixed.ports ≡ true) = both (any_at y.sender s.fixed.ports) (any_at y.receiver s.fixed.ports) e in
+        let was : IsIdle s y = b.idle y (false_if (has_ends s.fixed y) (λ e.
+        let p : (any_at y.sender s.fixed.ports ≡ true) × (any_at y.receiver s.fixed.ports ≡ true) = split (any_at y.sender s.fixed.ports) (any_at y.receiver s.fixed.ports) e in
         never (has_ends (disconnected s gone).fixed y)
         (ap₂ (λ c d. c && d) (any_stay gone y.sender s.fixed.ports other.0 p.0) (any_stay gone y.receiver s.fixed.ports other.1 p.1)) off)) in
         (ap (λ (c : Bool). if c then [] else s.returned y) no ∙ was.0, λ k. ap (λ (c : Bool). if c then false else s.delivered y k) no ∙ was.1 k))
@@ -170,27 +162,24 @@ nothing-yet s p y is c off on = by_cases (any_at y.sender s.fixed.ports)
     (λ there.
     let none : any_at y.receiver s.fixed.ports ≡ false = sym (ap (λ b. b && any_at y.receiver s.fixed.ports) there) ∙ off in (
       none_there (s.waiting y) (λ m among. never (any_at y.receiver s.fixed.ports) ((c.owned).waits y m among).there none),
-      λ n. none-had y (s.fixed.handles n) (λ h among. not-true (has_received y h) (λ has.
+      λ n. none-had y (s.fixed.handles n) (λ h among. false_if (has_received y h) (λ has.
           never (any_at y.receiver s.fixed.ports) (subst (λ k. any_at k s.fixed.ports ≡ true) (received y h has).1 (((((c.rests).fixed).handles n).each h among).of_port).0) none)),
     ))
     (λ none.
     let new : y.sender ≡ s.fixed.next_number
-    = sym (at_last y.sender s.fixed.ports p (both (any_at y.sender (s.fixed.ports ++ p ∷ [])) (any_at y.receiver (s.fixed.ports ++ p ∷ [])) on).0 none) ∙ is in
-    let later : nat_lt y.sender s.fixed.next_number ≡ false = itself y.sender s.fixed.next_number new in (
+    = sym (at_last y.sender s.fixed.ports p (split (any_at y.sender (s.fixed.ports ++ p ∷ [])) (any_at y.receiver (s.fixed.ports ++ p ∷ [])) on).0 none) ∙ is in
+    let later : nat_lt y.sender s.fixed.next_number ≡ false = same-not-less y.sender s.fixed.next_number new in (
       (c.rests).unused y later,
-      λ n. none-had y (s.fixed.handles n) (λ h among. not-true (has_received y h) (λ has.
+      λ n. none-had y (s.fixed.handles n) (λ h among. false_if (has_received y h) (λ has.
           let q : (is_received h.kind ≡ true) × (h.port ≡ y.receiver) × (way_of h ≡ y) = received y h has in
           never (nat_lt y.sender s.fixed.next_number) (subst (λ (w : Way). nat_lt w.sender s.fixed.next_number ≡ true) q.2 (((c.owned).has).known n h among q.0)) later)),
     ))
   where
-    itself : (a b : ℕ) → a ≡ b → nat_lt a b ≡ false
-    itself a b e = grind (arith)
-
     received : (y : Way) (h : Handle) → has_received y h ≡ true → (is_received h.kind ≡ true) × (h.port ≡ y.receiver) × (way_of h ≡ y)
     received y h has =
         let q : (is_received h.kind ≡ true) × (((h.port == y.receiver) && same_way (way_of h) y) ≡ true)
-        = both (is_received h.kind) ((h.port == y.receiver) && same_way (way_of h) y) has in
-        let t : ((h.port == y.receiver) ≡ true) × (same_way (way_of h) y ≡ true) = both (h.port == y.receiver) (same_way (way_of h) y) q.1 in
+        = split (is_received h.kind) ((h.port == y.receiver) && same_way (way_of h) y) has in
+        let t : ((h.port == y.receiver) ≡ true) × (same_way (way_of h) y ≡ true) = split (h.port == y.receiver) (same_way (way_of h) y) q.1 in
         (q.0, eqb-true h.port y.receiver t.0, same_way-true (way_of h) y t.1)
 
 pub made-books : (s : State) (p : Port) → p.number ≡ s.fixed.next_number → Calm s → Books s → Books (with_fixed s (with_port s.fixed p))
@@ -198,7 +187,7 @@ made-books s p new c b = record {
   hub = record { hub = (b.hub).hub; forgot = (b.hub).forgot; made = (b.hub).made };
   fresh = b.fresh;
   hand = b.hand;
-  idle = λ y off. b.idle y (not-true (has_ends s.fixed y) (λ e. never (has_ends (with_port s.fixed p) y) (still y e) off));
+  idle = λ y off. b.idle y (false_if (has_ends s.fixed y) (λ e. never (has_ends (with_port s.fixed p) y) (still y e) off));
   counts = λ y ends k. by_cases (has_ends s.fixed y)
       (λ was. ap (λ ks. out (is k) s y ks) (had y was) ∙ b.counts y was k)
       (λ off. nothing y (is k) off ends ∙ ap one_if (sym ((b.idle y off).1 k)));
@@ -215,17 +204,17 @@ made-books s p new c b = record {
 
     still : (y : Way) → has_ends s.fixed y ≡ true → has_ends f y ≡ true
     still y e =
-        let q : (any_at y.sender s.fixed.ports ≡ true) × (any_at y.receiver s.fixed.ports ≡ true) = both (any_at y.sender s.fixed.ports) (any_at y.receiver s.fixed.ports) e in
+        let q : (any_at y.sender s.fixed.ports ≡ true) × (any_at y.receiver s.fixed.ports ≡ true) = split (any_at y.sender s.fixed.ports) (any_at y.receiver s.fixed.ports) e in
         ap₂ (λ c d. c && d) (at_more y.sender s.fixed.ports p q.0) (at_more y.receiver s.fixed.ports p q.1)
 
     had : (y : Way) → has_ends s.fixed y ≡ true → had_in f y ≡ had_in s.fixed y
     had y e =
         ap (λ o. held_on y (s.fixed.handles (option_map_or (λ (q : Port). q.node) o 0)) None)
-        (first_more y.receiver s.fixed.ports p (both (any_at y.sender s.fixed.ports) (any_at y.receiver s.fixed.ports) e).1)
+        (first_more y.receiver s.fixed.ports p (split (any_at y.sender s.fixed.ports) (any_at y.receiver s.fixed.ports) e).1)
 
     most : (y : Way) → has_ends s.fixed y ≡ true → most_on f y ≡ most_on s.fixed y
     most y e =
-        let q : (any_at y.sender s.fixed.ports ≡ true) × (any_at y.receiver s.fixed.ports ≡ true) = both (any_at y.sender s.fixed.ports) (any_at y.receiver s.fixed.ports) e in
+        let q : (any_at y.sender s.fixed.ports ≡ true) × (any_at y.receiver s.fixed.ports ≡ true) = split (any_at y.sender s.fixed.ports) (any_at y.receiver s.fixed.ports) e in
         ap₂ (λ o t. buffer_of s.fixed.limits (option_map_or (λ (p : Port). p.role) o Client)
         + borrow_limit_of s.fixed.limits (other_role (option_map_or (λ (p : Port). p.role) t Client)))
         (first_more y.sender s.fixed.ports p q.0) (first_more y.receiver s.fixed.ports p q.1)

@@ -13,11 +13,14 @@ use Rattle.iox_model.specs.Steps.{next}
 use Rattle.iox_model.proofs.MapLemmas.{either, same_way-true}
 use Rattle.iox_model.proofs.WholeLemmas.{moved-fixed}
 use Rattle.iox_ledger.specs.QueueLaws.{has_evicted}
-use Rattle.iox_ledger.proofs.Borrows.{count, one_if}
+use Rattle.iox_ledger.proofs.Counts.{count, one_if}
+use Rattle.iox_ledger.proofs.Orders.{least, none-more}
+use Rattle.iox_ledger.proofs.Buffers.{one-taken}
+use Rattle.iox_ledger.proofs.Truths.{never, both_true, by_cases}
 use Rattle.iox_ledger.proofs.Emptied.{EmptiesNone, WasEmptied, visiting-none, took-none, next-emptied}
 use Rattle.iox_ledger.proofs.Had.{put_on}
 use Rattle.iox_ledger.proofs.HadMoves.{HasOwnHandles}
-use Rattle.iox_ledger.proofs.Lists.{IsAmong, never, way-among, without-itself}
+use Rattle.iox_ledger.proofs.Lists.{IsAmong, way-among, without-itself}
 use Rattle.iox_ledger.proofs.Once.{HasPassed, IsPassed, next-passed}
 use Rattle.iox_ledger.proofs.Outs.{is, head-is, no-head, moved-delivered}
 use Rattle.iox_ledger.proofs.Phases.{target-of}
@@ -25,7 +28,6 @@ use Rattle.iox_ledger.proofs.Senders.{FitsLoan, Stands as LoanStands}
 use Rattle.iox_ledger.proofs.Views.{view, mine}
 use Rattle.iox_reachable.proofs.Kept.{from_own}
 use Rattle.iox_reachable.proofs.Sound.{Fits}
-use Rattle.iox_reachable.proofs.WayLemmas.{by_cases}
 use Rattle.iox_runs.proofs.Holding.{HoldsIn}
 use Rattle.iox_runs.proofs.Ports.{any_at}
 use Rattle.iox_runs.proofs.Rests.{Rests}
@@ -37,17 +39,7 @@ use Rattle.iox_hub_ledger.proofs.Underway.{Stands}
 abbrev pub has_ends : Fixed → Way → Bool
 has_ends f y = any_at y.sender f.ports && any_at y.receiver f.ports
 
-none : (a b : ℕ) → a ≤ 0 → a ≤ b
-none a b p = omega arith
-
-least : (b : ℕ) → 0 ≤ b
-least b = omega arith
-
 -- ---- what is in hand
-
-one-taken : (xs : List Message) → length (serials_of (take 1 xs)) ≤ 1
-one-taken [] = omega arith
-one-taken (x ∷ xs) = omega arith
 
 pub moved-hand : (s : State) (n : ℕ) (d : Doing) (m : Moment) (y : Way) → (next s n d m).condition → length (s.in_hand y) ≤ one_if (has_evicted y d)
     → length ((moved s m).in_hand y) ≤ one_if (has_evicted y (next s n d m).after)
@@ -63,8 +55,8 @@ moved-hand s n (Evicted x v left count) (GetBack w k) y c p =
 moved-hand s n (Evicted x v left count) m y c p = absurd c
 moved-hand s n d (GetBack w k) y c p =
     either (λ (ks : List ℕ). length ks ≤ one_if (has_evicted y (next s n d (GetBack w k)).after)) (same_way y w) [] (s.in_hand y)
-    (λ u. least (one_if (has_evicted y (next s n d (GetBack w k)).after))) (λ u. none (length (s.in_hand y)) (one_if (has_evicted y (next s n d (GetBack w k)).after)) p)
-moved-hand s n d m y c p = none (length (s.in_hand y)) (one_if (has_evicted y (next s n d m).after)) p
+    (λ u. least (one_if (has_evicted y (next s n d (GetBack w k)).after))) (λ u. none-more (length (s.in_hand y)) (one_if (has_evicted y (next s n d (GetBack w k)).after)) p)
+moved-hand s n d m y c p = none-more (length (s.in_hand y)) (one_if (has_evicted y (next s n d m).after)) p
 
 -- ---- what was given back where the call emptied the way
 
@@ -106,8 +98,8 @@ emptied-gives s n d m y c e = tt
 
 pub moved-emptied : (s : State) (n : ℕ) (d : Doing) (m : Moment) (y : Way) → Stands (view s.fixed n) n d → Holds s m → (next s n d m).condition
     → (is_emptied_by s.fixed y d ≡ true → s.returned y ≡ []) → is_emptied_by s.fixed y (next s n d m).after ≡ true → (moved s m).returned y ≡ []
-moved-emptied s n d m y p holds c none e = elim (was-emptied s n d m y p c e) as (λ u. (moved s m).returned y ≡ []) [
-  | inl was ↦ still-none s m y (emptied-gives s n d m y c was.0) (none was.0)
+moved-emptied s n d m y p holds c none-more e = elim (was-emptied s n d m y p c e) as (λ u. (moved s m).returned y ≡ []) [
+  | inl was ↦ still-none s m y (emptied-gives s n d m y c was.0) (none-more was.0)
   | inr saw ↦ subst (λ (a : Moment). (moved s a).returned y ≡ []) (sym saw.0) (empty (s.returned y) (subst (Holds s) saw.0 holds))
 ]
   where
@@ -119,10 +111,6 @@ moved-emptied s n d m y p holds c none e = elim (was-emptied s n d m y p c e) as
 
 abbrev pub IsIdle : State → Way → Type 0
 IsIdle s y = (s.returned y ≡ []) × ((k : ℕ) → s.delivered y k ≡ false)
-
-both_true : (a b : Bool) → a ≡ true → b ≡ true → (a && b) ≡ true
-both_true true b e f = f
-both_true false b e f = e
 
 pub delivers-ends : (s : State) (n : ℕ) (d : Doing) (w : Way) (m : Message) → Fits s n d → HoldsIn s.fixed d → (next s n d (Deliver w m)).condition
     → has_ends s.fixed w ≡ true

@@ -19,16 +19,18 @@ use Rattle.iox_model.specs.States.{Port, Fixed, State}
 use Rattle.iox_model.specs.Steps.{next}
 use Rattle.iox_model.specs.Weaves.{Beat, Makes}
 use Rattle.iox_model.specs.WholeCalls.{moved_by, left_by, MayCome, IsDone}
+use Rattle.iox_model.proofs.CallLaws.{put_at-else}
+use Rattle.iox_model.proofs.PlayedRuns.{split}
 use Rattle.iox_model.proofs.MapLemmas.{either, same_way-true}
 use Rattle.iox_model.proofs.WholeLemmas.{moved-fixed, moved_by-fixed}
-use Rattle.iox_ledger.proofs.Borrows.{count, one_if}
+use Rattle.iox_ledger.proofs.Counts.{count, one_if}
+use Rattle.iox_ledger.proofs.Orders.{less-le, less-next, at-most, same-not-less}
+use Rattle.iox_ledger.proofs.Truths.{never, by_cases}
 use Rattle.iox_ledger.proofs.Had as moments
-use Rattle.iox_ledger.proofs.Lists.{IsAmong, NoRepeats, among-append, both, never, no_repeats-distinct}
+use Rattle.iox_ledger.proofs.Lists.{IsAmong, NoRepeats, among-append, no_repeats-distinct, no_repeats-append}
 use Rattle.iox_ledger.proofs.Once.{IsPassed, next-passed, gives-apart, front-apart}
 use Rattle.iox_ledger.proofs.Outs.{is, no-head}
 use Rattle.iox_ledger.proofs.Rights.{IsSent}
-use Rattle.iox_ledger.proofs.Views.{put_at-else}
-use Rattle.iox_reachable.proofs.WayLemmas.{by_cases}
 use Rattle.iox_runs.specs.Lefts.{IsLeft}
 use Rattle.iox_runs.specs.Traces.{beats_of_done, beats_of_left}
 use Rattle.iox_runs.proofs.Along.{IsAlong, left_along}
@@ -63,16 +65,9 @@ pub record Uses (f g : Fixed) (y : Way) (ks : List ℕ) : Type 0 where
 uses-none : (f g : Fixed) (y : Way) → ((k : ℕ) → MayPut g y k → MayPut f y k) → Uses f g y []
 uses-none f g y shrinks = record { apart = tt; had = λ k a. absurd a; spent = λ k a. absurd a; shrinks = shrinks }
 
-apart-append : (ks js : List ℕ) → NoRepeats ks → NoRepeats js → ((k : ℕ) → IsAmong k ks → IsAmong k js → ⊥) → NoRepeats (ks ++ js)
-apart-append [] js p q other = q
-apart-append (k ∷ ks) js p q other = (
-  λ a. elim (among-append k ks js a) as (λ u. ⊥) [ inl b ↦ p.0 b | inr b ↦ other k (inl refl) b ],
-  apart-append ks js p.1 q (λ j a b. other j (inr a) b),
-)
-
 uses-both : (f g h : Fixed) (y : Way) (ks js : List ℕ) → Uses f g y ks → Uses g h y js → Uses f h y (ks ++ js)
 uses-both f g h y ks js p q = record {
-  apart = apart-append ks js p.apart q.apart (λ k a b. p.spent k a (q.had k b));
+  apart = no_repeats-append ks js p.apart q.apart (λ k a b. p.spent k a (q.had k b));
   had = λ k a. elim (among-append k ks js a) as (λ u. MayPut f y k) [ inl b ↦ p.had k b | inr b ↦ p.shrinks k (q.had k b) ];
   spent = λ k a may. elim (among-append k ks js a) as (λ u. ⊥) [ inl b ↦ p.spent k b (q.shrinks k may) | inr b ↦ q.spent k b may ];
   shrinks = λ k may. p.shrinks k (q.shrinks k may);
@@ -99,7 +94,7 @@ put-there s n d (Deliver w m) y k u c e = by_case (same_way y w) (same_way-true 
     by_case : (b : Bool) → (b ≡ true → y ≡ w) → (if b then m.serial ∷ [] else []) ≡ k ∷ [] → any_at y.sender s.fixed.ports ≡ true
     by_case true same e =
         subst (λ (x : Way). any_at x.sender s.fixed.ports ≡ true) (sym (same refl))
-        (both (any_at w.sender s.fixed.ports) (any_at w.receiver s.fixed.ports) (delivers-ends s n d w m ((u.goes).call).1 (u.goes).holds c)).0
+        (split (any_at w.sender s.fixed.ports) (any_at w.receiver s.fixed.ports) (delivers-ends s n d w m ((u.goes).call).1 (u.goes).holds c)).0
     by_case false same e = absurd (no-head k e)
 put-there s n d m y k u c e = absurd (no-head k e)
 
@@ -159,21 +154,15 @@ moments-put s n d (m ∷ ms) y u may =
 abbrev Spends : Way → State → Outcome → State → Type 0
 Spends y s o t = ((k : ℕ) → MayPut t.fixed y k → MayPut s.fixed y k) × ((k : ℕ) → IsSent o y.sender k → MayPut t.fixed y k → ⊥)
 
-later-still : (a b c : ℕ) → nat_le b c ≡ true → nat_lt a b ≡ true → nat_lt a c ≡ true
-later-still a b c e h = grind (arith)
-
 left-spends : (y : Way) (s : State) (n : ℕ) (o : Outcome) (g : Fixed) → Leaves s.fixed n o g → Spends y s o (with_fixed s g)
 left-spends y s n o g p = (
   λ k may. (
-    λ e. sym ((p.ports).any y.sender) ∙ may.0 (later-still y.sender s.fixed.next_number g.next_number p.next e),
-    ((may.1).0, at_most 1 (rights g (may.1).0 y.sender k) (rights s.fixed (may.1).0 y.sender k) (may.1).1 (p.rights_less (may.1).0 y.sender k)),
+    λ e. sym ((p.ports).any y.sender) ∙ may.0 (less-le y.sender s.fixed.next_number g.next_number p.next e),
+    ((may.1).0, at-most 1 (rights g (may.1).0 y.sender k) (rights s.fixed (may.1).0 y.sender k) (may.1).1 (p.rights_less (may.1).0 y.sender k)),
   ),
   λ k sent may. none (rights g (may.1).0 y.sender k) (may.1).1 (p.sent (may.1).0 y.sender k sent),
 )
   where
-    at_most : (a b c : ℕ) → a ≤ b → b ≤ c → a ≤ c
-    at_most a b c e h = omega arith
-
     none : (a : ℕ) → 1 ≤ a → a ≡ 0 → ⊥
     none a e h = omega arith
 
@@ -186,7 +175,7 @@ gone-may t port y k r there =
     (subst (λ q. any_at q t.fixed.ports ≡ true) (sym (eqb-true y.sender port goes)) there)))).1))
     (λ other. (
       λ e. (any_others port y.sender t.fixed.ports (may.0 e)).0,
-      ((may.1).0, subst (λ l. 1 ≤ count (is k) (loaned_in (t.fixed.handles (may.1).0) y.sender) + one_if (nat_le l k)) (put_at-else t.fixed.loans port y.sender 0 other) (may.1).1),
+      ((may.1).0, subst (λ l. 1 ≤ count (is k) (loaned_in (t.fixed.handles (may.1).0) y.sender) + one_if (nat_le l k)) (put_at-else t.fixed.loans port 0 y.sender other) (may.1).1),
     )))
     (λ u may. may)
 
@@ -243,15 +232,9 @@ call-uses y s n call reply t k named done = record {
 port-shrinks : (y : Way) (f : Fixed) (p : Port) (k : ℕ) → p.number ≡ f.next_number → MayPut (with_port f p) y k → MayPut f y k
 port-shrinks y f p k new may = (
   λ e. by_cases (any_at y.sender f.ports) (λ there. there)
-      (λ away. absurd (true≢false (sym e ∙ not_next y.sender f.next_number (sym (at_last y.sender f.ports p (may.0 (less_still y.sender f.next_number e)) away) ∙ new)))),
+      (λ away. absurd (true≢false (sym e ∙ same-not-less y.sender f.next_number (sym (at_last y.sender f.ports p (may.0 (less-next y.sender f.next_number e)) away) ∙ new)))),
   may.1,
 )
-  where
-    less_still : (a b : ℕ) → nat_lt a b ≡ true → nat_lt a (b + 1) ≡ true
-    less_still a b e = grind (arith)
-
-    not_next : (a b : ℕ) → a ≡ b → nat_lt a b ≡ false
-    not_next a b e = grind (arith)
 
 abbrev Puts : Way → State → List Beat → State → Type 0
 Puts y s bs t = Kept s → Kept t × Uses s.fixed t.fixed y (all_put_on y bs)

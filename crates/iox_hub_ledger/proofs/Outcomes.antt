@@ -10,14 +10,15 @@ use Rattle.iox_model.specs.Peers.{role_at}
 use Rattle.iox_model.specs.States.{Port, Handle, Fixed}
 use Rattle.iox_model.proofs.MapLemmas.{either}
 use Rattle.iox_model.proofs.WholeLemmas.{put_at-here}
-use Rattle.iox_ledger.proofs.Borrows.{count, one_if}
+use Rattle.iox_ledger.proofs.Counts.{count, one_if}
+use Rattle.iox_ledger.proofs.Orders.{same}
+use Rattle.iox_ledger.proofs.Truths.{never, by_cases}
 use Rattle.iox_ledger.proofs.HadMoves.{HasOwnHandles}
-use Rattle.iox_ledger.proofs.Lists.{IsAmong, never}
+use Rattle.iox_ledger.proofs.Lists.{IsAmong}
 use Rattle.iox_ledger.proofs.Outs.{is}
 use Rattle.iox_ledger.proofs.Rights.{IsSent}
 use Rattle.iox_ledger.proofs.Senders.{is_loan, FitsLoan}
 use Rattle.iox_ledger.proofs.Views.{view, node_in, mine}
-use Rattle.iox_reachable.proofs.WayLemmas.{by_cases}
 use Rattle.iox_runs.proofs.Ports.{any_at}
 use Rattle.iox_runs.proofs.Rests.{Rests}
 use Rattle.iox_hub_ledger.proofs.Beginnings.{IsHub}
@@ -72,9 +73,6 @@ change-leaves f n o g hub p = record {
   where
     less : (a b c : ℕ) → b ≤ c → a + b ≤ a + c
     less a b c q = omega arith
-
-pub same : (a : ℕ) → a ≤ a
-same a = omega arith
 
 -- one loan more was made, if any
 pub lent-to_come : (loans : ℕ → ℕ) (p port k : ℕ) → one_if (nat_le (put_at loans p (loans p + 1) port) k) ≤ one_if (nat_le (loans port) k)

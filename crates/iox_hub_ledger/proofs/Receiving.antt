@@ -11,11 +11,12 @@ use Rattle.iox_model.specs.Moments.{Moment, Take, GiveBack, SeesEmpty, SeesWaiti
 use Rattle.iox_model.specs.Peers.{forgot_port}
 use Rattle.iox_model.specs.States.{Fixed, State}
 use Rattle.iox_model.specs.Steps.{next}
+use Rattle.iox_model.proofs.PlayedRuns.{split}
 use Rattle.iox_model.proofs.MapLemmas.{either, same_way-true}
-use Rattle.iox_ledger.proofs.Borrows.{count}
+use Rattle.iox_ledger.proofs.Counts.{count}
+use Rattle.iox_ledger.proofs.Truths.{never}
 use Rattle.iox_ledger.proofs.Had.{taken_on, given_on, FitsRelease}
 use Rattle.iox_ledger.proofs.HadMoves.{HasOwnHandles, Follows, took-held, takes-follows, both-quiet, stale-follows, own-had}
-use Rattle.iox_ledger.proofs.Lists.{both, never}
 use Rattle.iox_ledger.proofs.Quiet.{serials, visiting-quiet}
 use Rattle.iox_ledger.proofs.Views.{view, node_in, way_of-receiver}
 use Rattle.iox_reachable.proofs.Sound.{IsPortOf, Fits}
@@ -67,9 +68,9 @@ takes-own s n d x m p c = absurd c
 pub gives-own : (s : State) (n : ℕ) (d : Doing) (x : Way) (k : ℕ) → Rests s.fixed → Fits s n d → Stands (view s.fixed n) n d
     → (next s n d (GiveBack x k)).condition → IsPortOf s.fixed n x.receiver
 gives-own s n (Stale z v m left seen) x k r p q c =
-    subst (IsPortOf s.fixed n) (sym (ap (λ (w : Way). w.receiver) (same_way-true x v (both _ _ c).0) ∙ (p.1).0)) p.0
+    subst (IsPortOf s.fixed n) (sym (ap (λ (w : Way). w.receiver) (same_way-true x v (split _ _ c).0) ∙ (p.1).0)) p.0
 gives-own s n (Returning h) x k r p q c =
-    subst (IsPortOf s.fixed n) (sym (ap (λ (w : Way). w.receiver) (same_way-true x (way_of h) (both _ _ c).0) ∙ way_of-receiver h)) ((r.handles n).each h q).of_port
+    subst (IsPortOf s.fixed n) (sym (ap (λ (w : Way). w.receiver) (same_way-true x (way_of h) (split _ _ c).0) ∙ way_of-receiver h)) ((r.handles n).each h q).of_port
 gives-own s n d x k r p q c = absurd c
 
 not-there : (s : State) (y x : Way) (n k : ℕ) → (node_in s.fixed.ports y.receiver == n) ≡ false → IsPortOf s.fixed n x.receiver → if_on y x k ≡ []

@@ -4,7 +4,8 @@ use Rattle.std.proofs.Common.{sym, subst, ap, ◌∙◌, eqb-true, eq-eqb, arith
 use Rattle.iox_model.specs.Counts.{is_same_handle, without_handle, with_handle}
 use Rattle.iox_model.specs.States.{Handle, Fixed}
 use Rattle.iox_model.proofs.MapLemmas.{eqb-refl}
-use Rattle.iox_ledger.proofs.Borrows.{count, one_if, count-cons}
+use Rattle.iox_ledger.proofs.Truths.{by_cases}
+use Rattle.iox_ledger.proofs.Counts.{count, one_if, count-cons}
 use Rattle.iox_ledger.proofs.HadMoves.{HasOwnHandles}
 use Rattle.iox_ledger.proofs.Lists.{IsAmong, among-filter, among-map, no_repeats-map_filter}
 use Rattle.iox_ledger.proofs.Outs.{is}
@@ -12,7 +13,6 @@ use Rattle.iox_ledger.proofs.Quiet.{serials}
 use Rattle.iox_ledger.proofs.Senders.{is_loan, FitsHandles}
 use Rattle.iox_ledger.proofs.Tallies.{without-passes, but-one}
 use Rattle.iox_ledger.proofs.Views.{view, mine}
-use Rattle.iox_reachable.proofs.WayLemmas.{by_cases}
 use Rattle.iox_runs.proofs.Beginning.{AreKept}
 use Rattle.iox_runs.proofs.Rests.{Rests}
 

@@ -10,6 +10,7 @@ use Rattle.iox_model.specs.Maps.{put}
 use Rattle.iox_model.specs.States.{Handle, Fixed, State}
 use Rattle.iox_model.specs.Steps.{ends}
 use Rattle.iox_model.proofs.MapLemmas.{either}
+use Rattle.iox_ledger.proofs.Truths.{by_cases}
 use Rattle.iox_ledger.proofs.Lists.{IsAmong}
 use Rattle.iox_ledger.proofs.Quiet.{is_quiet_outcome}
 use Rattle.iox_ledger.proofs.Rights.{IsSent}
@@ -17,7 +18,6 @@ use Rattle.iox_ledger.proofs.Senders.{FitsLoan}
 use Rattle.iox_ledger.proofs.Views.{view}
 use Rattle.iox_reachable.proofs.Reached.{ended_within, ended_fits}
 use Rattle.iox_reachable.proofs.Sound.{FitsOutcome, IsWithin}
-use Rattle.iox_reachable.proofs.WayLemmas.{by_cases}
 use Rattle.iox_runs.proofs.Calls.{Goes}
 use Rattle.iox_runs.proofs.Gone.{value_rests}
 use Rattle.iox_runs.proofs.Having.{taken_way}

@@ -26,7 +26,8 @@ use Rattle.iox_model.specs.States.{Handle, Fixed, State}
 use Rattle.iox_model.specs.Steps.{next, ends}
 use Rattle.iox_model.proofs.MapLemmas.{either}
 use Rattle.iox_model.proofs.WholeLemmas.{some-is}
-use Rattle.iox_ledger.proofs.Lists.{IsAmong, none-some}
+use Rattle.iox_ledger.proofs.Truths.{none-some}
+use Rattle.iox_ledger.proofs.Lists.{IsAmong}
 use Rattle.iox_ledger.proofs.Moves.{WaitsFit, next-fits}
 use Rattle.iox_ledger.proofs.Phases.{HasOwnPorts, opening-fits, looking-fits, emptying-fits, asked-fits, loaning-fits}
 use Rattle.iox_ledger.proofs.Senders.{FitsOutcome, FitsDoing}

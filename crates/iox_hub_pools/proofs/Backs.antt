@@ -3,6 +3,7 @@ use Rattle.std.specs.Prelude.{◌≡◌, ℕ, ◌+◌, ◌<◌, ◌≤◌, Bool,
 use Rattle.std.specs.Prelude.{filter, Some, None, refl}
 use Rattle.std.specs.List.{list_any, range_with_len}
 use Rattle.std.proofs.Common.{sym, subst, ap, ◌∙◌, arith, eqb-true, eq-eqb, true≢false, inl, inr}
+use Rattle.std.proofs.lemmas.List.{length-map, length-append}
 use Rattle.iox_model.specs.declared.way.Way.{Way}
 use Rattle.iox_model.specs.Doings.{Doing, Loaning}
 use Rattle.iox_model.specs.Ledgers.{has_received, had_on, is_live}
@@ -17,24 +18,23 @@ use Rattle.iox_model.specs.Steps.{next}
 use Rattle.iox_model.specs.Weaves.{at_work}
 use Rattle.iox_model.proofs.MapLemmas.{either, same_way-true}
 use Rattle.iox_reachable.proofs.Sound.{IsPortOf, IsWithin}
-use Rattle.iox_reachable.proofs.WayLemmas.{by_cases, not-has_way-without}
 use Rattle.iox_ledger.specs.LedgerLaws.{out_on}
-use Rattle.iox_ledger.proofs.Borrows.{length-map, length-append}
-use Rattle.iox_ledger.proofs.Lists.{IsAmong, never, among-append, filter-among, find-among, no_repeats-filter}
-use Rattle.iox_ledger.proofs.Outstanding.{no-longer, range-apart}
+use Rattle.iox_ledger.proofs.Emptied.{other-left}
+use Rattle.iox_ledger.proofs.Ranges.{no-longer, range-apart}
+use Rattle.iox_ledger.proofs.Truths.{never, by_cases, both_true}
+use Rattle.iox_ledger.proofs.Lists.{IsAmong, among-append, filter-among, find-among, no_repeats-filter, among-front, among-back}
 use Rattle.iox_ledger.proofs.Views.{view}
 use Rattle.iox_model.proofs.WholeLemmas.{some-is}
 use Rattle.iox_pools.specs.PoolLaws.{IsUnreduced}
 use Rattle.iox_pools.proofs.Kept.{IsWayOf, most_out, kept-less}
 use Rattle.iox_pools.proofs.SpareStarts.{IsLoanOf, node-is}
 use Rattle.iox_pools.proofs.Suffices.{Reduced, not-dry, empty-is}
-use Rattle.iox_pools.proofs.Unions.{and-true}
 use Rattle.iox_pools.proofs.Ways.{way-of, lends-on, connected, most-is}
+use Rattle.iox_runs.proofs.Calls.{own_ports}
 use Rattle.iox_runs.proofs.Owning.{Has}
 use Rattle.iox_runs.proofs.Rests.{Rests}
 use Rattle.iox_hub_pools.proofs.Stands.{Onward, Begins}
 use Rattle.iox_hub_pools.proofs.Parts.{unless}
-use Rattle.iox_hub_pools.proofs.Ends.{own_ports}
 use Rattle.iox_hub_pools.proofs.Keeps.{found_at}
 use Rattle.iox_hub_pools.proofs.Counting.{Kinds}
 
@@ -54,15 +54,6 @@ pub begins_back : (s : State) → Ledgered s → Begins (GetsBack s) s
 begins_back s ledger h = record { ledger = ledger; seen = λ y lends other. never (has_way y (lending_ways s.fixed h)) lends other }
 
 -- ---- one is got back
-
-in_left : {A : Type 0} (a : A) (xs ys : List A) → IsAmong a xs → IsAmong a (xs ++ ys)
-in_left a [] ys p = absurd p
-in_left a (x ∷ xs) ys (inl e) = inl e
-in_left a (x ∷ xs) ys (inr p) = inr (in_left a xs ys p)
-
-in_right : {A : Type 0} (a : A) (xs ys : List A) → IsAmong a ys → IsAmong a (xs ++ ys)
-in_right a [] ys p = p
-in_right a (x ∷ xs) ys p = inr (in_right a xs ys p)
 
 -- another than the first is behind it
 behind : (j k : ℕ) (ks : List ℕ) → first_of ks ≡ Some k → (j == k) ≡ false → IsAmong j ks → IsAmong j (rest_of ks)
@@ -92,10 +83,10 @@ got_back s w k holds ledger = record {
     shift : (j : ℕ) (waits had : List ℕ) → (j == k) ≡ false → IsAmong j (waits ++ (had ++ (s.returned w ++ s.in_hand w)))
         → IsAmong j (waits ++ (had ++ (rest ++ [])))
     shift j waits had other p = elim (among-append j waits (had ++ (s.returned w ++ s.in_hand w)) p) as (λ u. IsAmong j (waits ++ (had ++ (rest ++ [])))) [
-      | inl a ↦ in_left j waits (had ++ (rest ++ [])) a
-      | inr b ↦ in_right j waits (had ++ (rest ++ [])) (elim (among-append j had (s.returned w ++ s.in_hand w) b) as (λ u. IsAmong j (had ++ (rest ++ []))) [
-        | inl a ↦ in_left j had (rest ++ []) a
-        | inr c ↦ in_right j had (rest ++ []) (in_left j rest [] (subst (IsAmong j) (sym rest-is) (behind j k (s.returned w) first other
+      | inl a ↦ among-front j waits (had ++ (rest ++ [])) a
+      | inr b ↦ among-back j waits (had ++ (rest ++ [])) (elim (among-append j had (s.returned w ++ s.in_hand w) b) as (λ u. IsAmong j (had ++ (rest ++ []))) [
+        | inl a ↦ among-front j had (rest ++ []) a
+        | inr c ↦ among-back j had (rest ++ []) (among-front j rest [] (subst (IsAmong j) (sym rest-is) (behind j k (s.returned w) first other
             (elim (among-append j (s.returned w) (s.in_hand w) c) as (λ u. IsAmong j (s.returned w)) [
               | inl a ↦ a
               | inr d ↦ none j (s.in_hand w) (ledger.hand w) d
@@ -127,7 +118,7 @@ gets_on s n (Loaning copies h left) (GetBack w k) holds c = λ g. record {
 gets_on s n (Loaning copies h left) (SeesNoneBack w) holds c = λ g. record {
   ledger = g.ledger;
   seen = λ y lends other. by_cases (same_way y w) (λ same. subst (λ u. s.returned u ≡ []) (sym (same_way-true y w same)) (empty-is (s.returned w) holds))
-      (λ differs. g.seen y lends (not-has_way-without y w left differs other));
+      (λ differs. g.seen y lends (other-left y w left differs other));
 }
 gets_on s n d m holds c = tt
 
@@ -154,10 +145,10 @@ none_forgot f n q none = subst (λ ns. list_any (λ p. (p.number == q) && has_nu
 is_live_way : (f : Fixed) (w : Way) → ((m : ℕ) → f.forgot m ≡ []) → is_connected_port f w.sender ≡ true → is_connected_port f w.receiver ≡ true
     → is_live f w ≡ true
 is_live_way f w none from to =
-    and-true (is_counted_on f w) (is_connected_port f w.receiver && not (forgot_port f (node_of_port f w.receiver) w.sender))
-    (and-true (is_connected_port f w.sender) (not (forgot_port f (node_of_port f w.sender) w.receiver)) from
+    both_true (is_counted_on f w) (is_connected_port f w.receiver && not (forgot_port f (node_of_port f w.receiver) w.sender))
+    (both_true (is_connected_port f w.sender) (not (forgot_port f (node_of_port f w.sender) w.receiver)) from
     (ap not (none_forgot f (node_of_port f w.sender) w.receiver none)))
-    (and-true (is_connected_port f w.receiver) (not (forgot_port f (node_of_port f w.receiver) w.sender)) to
+    (both_true (is_connected_port f w.receiver) (not (forgot_port f (node_of_port f w.receiver) w.sender)) to
     (ap not (none_forgot f (node_of_port f w.receiver) w.sender none)))
 
 -- so many wait and are had, and nothing else is out
@@ -166,8 +157,8 @@ out_most : (s : State) (n : ℕ) (w : Way) → Bounded s n → Ledgered s → Is
 out_most s n w bounds ledger own back =
     sum (buffer_on s.fixed w) (borrow_limit_on s.fixed w) (length-append waits (had ++ (s.returned w ++ s.in_hand w)))
     (length-append had (s.returned w ++ s.in_hand w)) (length-append (s.returned w) (s.in_hand w))
-    (ap length back) (ap length (ledger.hand w)) (length-map (λ (m : Message). m.serial) (s.waiting w)) (bounds.within w own)
-    (length-map (λ (h : Handle). h.message.serial) (filter (has_received w) (s.fixed.handles (node_of_port s.fixed w.receiver)))) ((bounds.has).few w)
+    (ap length back) (ap length (ledger.hand w)) (length-map (s.waiting w) (λ (m : Message). m.serial)) (bounds.within w own)
+    (length-map (filter (has_received w) (s.fixed.handles (node_of_port s.fixed w.receiver))) (λ (h : Handle). h.message.serial)) ((bounds.has).few w)
   where
     waits : List ℕ
     waits = serials_of (s.waiting w)

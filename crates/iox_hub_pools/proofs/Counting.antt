@@ -24,13 +24,14 @@ use Rattle.iox_model.specs.WholeCalls.{moved_by, left_by, MayCome}
 use Rattle.iox_model.proofs.MapLemmas.{either}
 use Rattle.iox_model.proofs.WholeLemmas.{moved-fixed}
 use Rattle.iox_reachable.proofs.Sound.{Fits}
+use Rattle.iox_ledger.proofs.Counts.{count}
 use Rattle.iox_ledger.proofs.Lists.{IsAmong}
 use Rattle.iox_ledger.proofs.Views.{View, view, role_in, plus, counted, swapped, less, after_call}
-use Rattle.iox_ledger.proofs.Borrows.{count}
 use Rattle.iox_pools.proofs.Limited.{IsWithin, created-within, room-for, within-made, settled_keeps}
 use Rattle.iox_pools.proofs.Spare.{is_of_client, is_pending, counts, FitsKinds, SpareOutcome, SpareDoing, after-kinds}
 use Rattle.iox_pools.proofs.SpareMoves.{DryIf, LoanIsAt, next-spare, ends-spare}
 use Rattle.iox_pools.proofs.SpareStarts.{HasOwnHandles, start-spare}
+use Rattle.iox_runs.proofs.Calls.{own_ports}
 use Rattle.iox_runs.proofs.Ports.{first_more}
 use Rattle.iox_runs.proofs.Rests.{Rests}
 use Rattle.iox_runs.proofs.Settling.{Calm}
@@ -38,7 +39,7 @@ use Rattle.iox_hub_pools.proofs.Inductions.{IsKept}
 use Rattle.iox_hub_pools.proofs.Goings.{Any, any_onward, Going, going_start, going_next}
 use Rattle.iox_hub_pools.proofs.Parts.{Leaves, settled_leaves, role_was}
 use Rattle.iox_hub_pools.proofs.Handles.{hub_view, end_fits, settled_handles}
-use Rattle.iox_hub_pools.proofs.Ends.{own_ports, Ending, ending}
+use Rattle.iox_hub_pools.proofs.Ends.{Ending, ending}
 
 pub record Kinds (f : Fixed) : Type 0 where
   pub kinds : (n : ℕ) → FitsKinds (view f n)

@@ -1,7 +1,7 @@
 -- What the end of a call of a service adds to what a port keeps: nothing that its call did not hold.
-use Rattle.std.specs.Prelude.{◌≡◌, ℕ, ◌<◌, Bool, true, false, if◌then◌else◌, ◌==◌, List, [], map, Some, ◌⊎◌, refl}
+use Rattle.std.specs.Prelude.{◌≡◌, ℕ, ◌<◌, Bool, true, false, if◌then◌else◌, ◌==◌, List, [], Some, ◌⊎◌, refl}
 use Rattle.std.specs.Option.{option_map_or}
-use Rattle.std.proofs.Common.{sym, subst, ap, ◌∙◌, eqb-true, true≢false, inl, inr}
+use Rattle.std.proofs.Common.{sym, subst, ap, ◌∙◌, eqb-true, inl, inr}
 use Rattle.iox_model.specs.declared.way.Way.{Way}
 use Rattle.iox_model.specs.declared.kind.Role.TheVariants.{Client}
 use Rattle.iox_model.specs.Doings.{Outcome, Doing}
@@ -10,28 +10,27 @@ use Rattle.iox_model.specs.Ledgers.{serials_of_outcome, under_way}
 use Rattle.iox_model.specs.Maps.{has_number}
 use Rattle.iox_model.specs.Outstandings.{is_held, is_outstanding}
 use Rattle.iox_model.specs.Peers.{port_at, role_at, node_of_port, ways_from}
-use Rattle.iox_model.specs.States.{Port, Handle, Fixed, State}
+use Rattle.iox_model.specs.States.{Port, Handle, State}
 use Rattle.iox_model.specs.Steps.{ends}
 use Rattle.iox_model.specs.Weaves.{at_work}
 use Rattle.iox_reachable.proofs.Reached.{ended_fits}
 use Rattle.iox_reachable.proofs.Sound.{FitsOutcome}
-use Rattle.iox_ledger.proofs.Lists.{IsAmong, distinct-no_repeats, one_of, any-among, among-any}
+use Rattle.iox_ledger.proofs.Truths.{one_of, or-left, or-right}
+use Rattle.iox_ledger.proofs.Lists.{IsAmong, any-among, among-any}
 use Rattle.iox_ledger.proofs.Phases.{HasOwnPorts}
 use Rattle.iox_ledger.proofs.Views.{view, after_call}
 use Rattle.iox_pools.proofs.Holds.{HoldsOwn, holds-held, held-holds, own-before}
-use Rattle.iox_pools.proofs.HoldsKept.{keeps, under, Follows, or-left, or-right}
+use Rattle.iox_pools.proofs.HoldsKept.{keeps, under, Follows}
 use Rattle.iox_pools.proofs.Under.{ends-same}
+use Rattle.iox_runs.proofs.Calls.{own_ports}
 use Rattle.iox_runs.proofs.Holding.{HoldsEnd, ended_holds}
 use Rattle.iox_runs.proofs.Ports.{any_at}
 use Rattle.iox_runs.proofs.Rests.{Rests}
 use Rattle.iox_hub_pools.proofs.Stands.{StandsEnd, ends_stand, under_next}
 use Rattle.iox_hub_pools.proofs.Goings.{Going}
-use Rattle.iox_hub_pools.proofs.Follows.{calls, of_call, under_here}
+use Rattle.iox_hub_pools.proofs.Follows.{calls, of_call, under_here, nothing}
 use Rattle.iox_hub_pools.proofs.Parts.{SamePort, Leaves, was_way, settled_leaves, settled_more}
 use Rattle.iox_hub_pools.proofs.Handles.{hub_view, end_fits, settled_handles}
-
-pub own_ports : (f : Fixed) → Rests f → HasOwnPorts f
-own_ports f r = distinct-no_repeats (map (λ (p : Port). p.number) f.ports) (r.numbered).0
 
 -- a call that ends
 pub record Ending (s : State) (n : ℕ) (o : Outcome) : Type 0 where
@@ -94,9 +93,6 @@ end_follows L s n d payload o q p r g ended e own was is same there = record {
 
     leaves : Leaves s t
     leaves = settled_leaves s n payload o (e.rests).hub e.stands
-
-    nothing : {A : Type 0} (k : ℕ) → has_number k [] ≡ true → A
-    nothing k e = absurd (true≢false (sym e))
 
     at : node_of_port t.fixed q ≡ node_of_port s.fixed q
     at = ap (λ o. option_map_or (λ (x : Port). x.node) o 0) is ∙ same.node ∙ sym (ap (λ o. option_map_or (λ (x : Port). x.node) o 0) was)

@@ -29,7 +29,7 @@ use Rattle.iox_model.specs.WholeCalls.{moved_by, left_by, MayCome, UnlessRefused
 use Rattle.iox_model.proofs.MapLemmas.{either}
 use Rattle.iox_model.proofs.WholeLemmas.{moved-fixed, moved_by-fixed, some-is}
 use Rattle.iox_reachable.proofs.Sound.{IsOwn}
-use Rattle.iox_reachable.proofs.WayLemmas.{by_cases}
+use Rattle.iox_ledger.proofs.Truths.{by_cases}
 use Rattle.iox_ledger.proofs.Views.{view}
 use Rattle.iox_pools.specs.PoolLaws.{lender}
 use Rattle.iox_pools.proofs.Spare.{SpareLoan, RefusedIf, TellsIf, SpareDoing}

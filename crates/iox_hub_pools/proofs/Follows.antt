@@ -1,8 +1,8 @@
 -- What a begin and each moment of a call of a service add to what a port keeps.
-use Rattle.std.specs.Prelude.{◌≡◌, ℕ, ◌<◌, ◌≤◌, Bool, true, false, if◌then◌else◌, ◌==◌, nat_le, List, [], length, Option, Some, None, ◌⊎◌, refl}
+use Rattle.std.specs.Prelude.{◌≡◌, ℕ, ◌<◌, Bool, true, false, if◌then◌else◌, ◌==◌, nat_le, List, [], length, Option, Some, None, ◌⊎◌, refl}
 use Rattle.std.specs.Option.{option_map_or}
 use Rattle.std.specs.List.{list_any}
-use Rattle.std.proofs.Common.{sym, subst, ap, ◌∙◌, arith, eqb-true, true≢false, inl, inr}
+use Rattle.std.proofs.Common.{sym, subst, ap, ◌∙◌, eqb-true, true≢false, inl, inr}
 use Rattle.iox_model.specs.declared.way.Way.{Way}
 use Rattle.iox_model.specs.declared.call.WireCall.TheVariants as wire_calls
 use Rattle.iox_model.specs.Begins.{start}
@@ -19,10 +19,12 @@ use Rattle.iox_model.specs.Steps.{next}
 use Rattle.iox_model.specs.Weaves.{at_work, World}
 use Rattle.iox_model.proofs.MapLemmas.{eqb-refl}
 use Rattle.iox_model.proofs.WholeLemmas.{moved-fixed}
-use Rattle.iox_ledger.proofs.Lists.{IsAmong, one_of, any-among, among-any}
+use Rattle.iox_ledger.proofs.Orders.{same, same-le, less}
+use Rattle.iox_ledger.proofs.Truths.{one_of, or-left, or-right}
+use Rattle.iox_ledger.proofs.Lists.{IsAmong, any-among, among-any}
 use Rattle.iox_ledger.proofs.Outs.{moved-delivered}
 use Rattle.iox_pools.proofs.Holds.{held-holds, own-loan, made-serial}
-use Rattle.iox_pools.proofs.HoldsKept.{keeps, under_at, under, IsNext, Follows, or-left, or-right}
+use Rattle.iox_pools.proofs.HoldsKept.{keeps, under_at, under, IsNext, Follows}
 use Rattle.iox_pools.proofs.Under.{PickIs, GivesNext, loan-serial, start-under, next-under, next-stays}
 use Rattle.iox_pools.proofs.Ways.{way-of}
 use Rattle.iox_hub_pools.proofs.Stands.{StandsBy, Stands, under_next}
@@ -47,12 +49,6 @@ pub under_here : (s : State) (n : ℕ) (d : Doing) (q : ℕ) → node_of_port s.
 under_here s n d q at =
     ap (λ b. under_at q (if b then Some d else None)) (subst (λ k. (k == n) ≡ true) (sym at) (eqb-refl n))
 
-same : (a : ℕ) → a ≤ a
-same a = omega arith
-
-equal : (a b : ℕ) → a ≡ b → a ≤ b
-equal a b e = omega arith
-
 nothing : {A : Type 0} (k : ℕ) → has_number k [] ≡ true → A
 nothing k e = absurd (true≢false (sym e))
 
@@ -60,9 +56,6 @@ nothing k e = absurd (true≢false (sym e))
 room : (s : State) (q : ℕ) (p : Port) → port_at s.fixed q ≡ Some p → is_dry s.fixed q (kept s q []) ≡ false → length (kept s q []) < p.pool
 room s q p is e =
     less p.pool (length (kept s q [])) (sym (ap (λ (o : Option Port). option_map_or (λ x. nat_le x.pool (length (kept s q []))) o true) is) ∙ e)
-  where
-    less : (a b : ℕ) → nat_le a b ≡ false → b < a
-    less a b h = grind (arith)
 
 -- ---- a begin
 
@@ -128,15 +121,15 @@ Nexts s n d q p q' k = q' ≡ q → IsNext (calls s n d) q p k
 picks : (L : Handle → List Way → Type 0) (s : State) (n : ℕ) (d : Doing) (q : ℕ) (p : Port) → port_at s.fixed q ≡ Some p → Stands L s.fixed n d
     → PickIs (Nexts s n d q p) s d
 picks L s n (Loaning copies h left) q p is stands =
-    λ free q' k e equal. next (loan-serial h q' k e) free equal
+    λ free q' k e same-le. next (loan-serial h q' k e) free same-le
   where
     none : under (calls s n (Loaning copies h left)) q ≡ []
     none = of_call s n (Loaning copies h left) q (λ ks. ks ≡ []) (λ at. refl) refl
 
     next : {q' k : ℕ} → (h.port ≡ q') × (h.message.serial ≡ k) → is_dry s.fixed h.port (kept s h.port []) ≡ false → q' ≡ q
         → IsNext (calls s n (Loaning copies h left)) q p k
-    next {q'} {k} r free equal =
-        let port : h.port ≡ q = r.0 ∙ equal in
+    next {q'} {k} r free same-le =
+        let port : h.port ≡ q = r.0 ∙ same-le in
         inr (
           sym r.1 ∙ stands.0 ∙ ap s.fixed.loans port,
           none,
@@ -147,7 +140,7 @@ picks L s n d q p is stands = tt
 pub next_follows : (L : Handle → List Way → Type 0) (s : State) (n : ℕ) (d : Doing) (m : Moment) (q : ℕ) (p : Port) → Going L s n d → port_at s.fixed q ≡ Some p
     → (next s n d m).condition → Follows (calls s n d) (calls (moved s m) n (next s n d m).after) q p
 next_follows L s n d m q p g is c = record {
-  loans = equal (s.fixed.loans q) ((moved s m).fixed.loans q) (sym (ap (λ (f : Fixed). f.loans q) (moved-fixed s m)));
+  loans = same-le (s.fixed.loans q) ((moved s m).fixed.loans q) (sym (ap (λ (f : Fixed). f.loans q) (moved-fixed s m)));
   kept = λ k. moved_kept L s n d m q k p g is c;
   call = λ k e. of_call s n (next s n d m).after q (λ ks. has_number k ks ≡ true → IsNext (calls s n d) q p k) (here k) (λ h. nothing k h)
       (ap (λ (f : Fixed). has_number k (under_at q (put_at (λ i. None) n (Some (next s n d m).after) (node_of_port f q)))) (sym (moved-fixed s m)) ∙ e);
@@ -160,7 +153,7 @@ next_follows L s n d m q p g is c = record {
     here : (k : ℕ) → node_of_port s.fixed q ≡ n → has_number k (under_way q (next s n d m).after) ≡ true → IsNext (calls s n d) q p k
     here k at e =
         next-under (Nexts s n d q p) s n d m (picks L s n d q p is g.stands) c
-        (λ q' j h equal. inl (ap (has_number j) (under_here s n d q at) ∙ ap (λ i. has_number j (under_way i d)) (sym equal) ∙ h)) q k e refl
+        (λ q' j h same-le. inl (ap (has_number j) (under_here s n d q at) ∙ ap (λ i. has_number j (under_way i d)) (sym same-le) ∙ h)) q k e refl
 
     stays : (k : ℕ) (b : Bool) → has_number k (under_at q (if b then Some d else None)) ≡ true
         → (k < s.fixed.loans q) ⊎ (has_number k (under_at q (if b then Some (next s n d m).after else None)) ≡ true)

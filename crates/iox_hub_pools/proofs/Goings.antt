@@ -18,7 +18,7 @@ use Rattle.iox_model.proofs.WholeLemmas.{moved-fixed}
 use Rattle.iox_reachable.proofs.Sound.{Fits, IsOwn}
 use Rattle.iox_ledger.proofs.Had.{put_on}
 use Rattle.iox_ledger.proofs.Lists.{IsAmong, way-among}
-use Rattle.iox_ledger.proofs.Outs.{no-head, moved-delivered}
+use Rattle.iox_ledger.proofs.Outs.{no-head, moved-delivered, head-is}
 use Rattle.iox_ledger.proofs.Phases.{target-of}
 use Rattle.iox_runs.proofs.Calls.{Goes, goes_by, begins}
 use Rattle.iox_runs.proofs.Holding.{SendFits, HoldsIn}
@@ -74,13 +74,6 @@ is_sent : (L : Handle → List Way → Type 0) (s : State) (n : ℕ) (d : Doing)
     → (next s n d m).condition → put_on y m ≡ k ∷ [] → IsSent s.fixed n d y k
 is_sent L s n (Delivering z last left count) (Deliver x m) y k fits p stands c e = by_case (same_way y x) (same_way-true y x) e
   where
-    head : (a b : ℕ) → a ∷ [] ≡ b ∷ [] → a ≡ b
-    head a b e = ap (λ (ks : List ℕ). first ks) e
-      where
-        first : List ℕ → ℕ
-        first [] = 0
-        first (j ∷ js) = j
-
     target : (x.sender ≡ z.loan.port) × IsAmong x.receiver z.to
     target = target-of z x (p.1 x (way-among x left c.0))
 
@@ -89,7 +82,7 @@ is_sent L s n (Delivering z last left count) (Deliver x m) y k fits p stands c e
       send = z;
       sender = ap (λ (w : Way). w.sender) (is refl) ∙ target.0;
       to = subst (λ i. IsAmong i z.to) (sym (ap (λ (w : Way). w.receiver) (is refl))) target.1;
-      serial = sym (ap (λ i. i.serial) c.1) ∙ head m.serial k e;
+      serial = sym (ap (λ i. i.serial) c.1) ∙ head-is m.serial k e;
       fits = p.0;
       own = fits.0.0;
       stands = stands;

@@ -10,26 +10,28 @@ use Rattle.iox_model.specs.declared.kind.Role.TheVariants.{Client, Server}
 use Rattle.iox_model.specs.declared.reply.Refusal.TheVariants.{OutOfMemory}
 use Rattle.iox_model.specs.declared.reply.Reply.TheVariants.{Refused}
 use Rattle.iox_model.specs.Begins.{start}
-use Rattle.iox_model.specs.Commands.{Refusal, Reply, Call, Options, PortCommand}
+use Rattle.iox_model.specs.Commands.{Reply, Call, Options, PortCommand}
 use Rattle.iox_model.specs.Ends.{settled}
 use Rattle.iox_model.specs.Makings.{pool_of_client, pool_of_server, worst_pool, making_refusal, new_port, with_port, IsPortCommand}
 use Rattle.iox_model.specs.Names.{misnamed}
 use Rattle.iox_model.specs.Runs.{IsHistory, Record}
 use Rattle.iox_model.specs.Settings.{is_client, Limits}
 use Rattle.iox_model.specs.States.{Port, Fixed, State}
-use Rattle.iox_model.specs.WholeCalls.{moved_by, left_by, UnlessRefused, spent, IsDone, IsWholeCall}
+use Rattle.iox_model.specs.WholeCalls.{moved_by, left_by, IsDone, IsWholeCall}
 use Rattle.iox_model.proofs.WholeLemmas.{moved_by-fixed}
-use Rattle.iox_ledger.proofs.Lists.{IsAmong, among-last, find-among}
-use Rattle.iox_ledger.proofs.Phases.{HasOwnPorts, find-own}
+use Rattle.iox_ledger.proofs.Lists.{IsAmong, among-last, find-among, find-own}
+use Rattle.iox_ledger.proofs.Phases.{HasOwnPorts}
 use Rattle.iox_pools.specs.PoolLaws.{needed_by, IsUnreduced}
 use Rattle.iox_runs.specs.Lefts.{IsLeft}
+use Rattle.iox_runs.proofs.Calls.{own_ports}
 use Rattle.iox_runs.proofs.Runs.{left_calm}
 use Rattle.iox_runs.proofs.Settling.{Calm}
 use Rattle.iox_hub_pools.specs.Finding.{IsUnreducedHub, ChoosesEnough, NoHistoryRunsOut}
 use Rattle.iox_hub_pools.proofs.Goings.{Any, going_start, goings}
 use Rattle.iox_hub_pools.proofs.Parts.{SamePort, Were, were_same, Leaves, settled_leaves}
-use Rattle.iox_hub_pools.proofs.Ends.{own_ports, Ending, ending}
+use Rattle.iox_hub_pools.proofs.Ends.{Ending, ending}
 use Rattle.iox_hub_pools.proofs.Finds.{IsLedgered, no_port_command_runs_out}
+use Rattle.iox_reachable.proofs.Inductions.{unless_done, unless_keeps}
 
 -- ---- ports that stay
 
@@ -37,12 +39,6 @@ use Rattle.iox_hub_pools.proofs.Finds.{IsLedgered, no_port_command_runs_out}
 record Stays (f g : Fixed) : Type 0 where
   pub ports : Were f.ports g.ports
   pub limits : g.limits ≡ f.limits
-
-unless_stays : (q : Option Refusal) (s : State) (reply : Reply) (t : State) (Q : Type 0) → (q ≡ None → Q → Stays s.fixed t.fixed) → UnlessRefused q s reply t Q
-    → Stays s.fixed t.fixed
-unless_stays (Some r) s reply t Q f u =
-    subst (λ (x : State). Stays s.fixed x.fixed) (sym u.1) (record { ports = were_same s.fixed.ports s.fixed.ports refl; limits = refl })
-unless_stays None s reply t Q f u = f refl u
 
 done_stays : (s : State) (n : ℕ) (call : Call) (reply : Reply) (t : State) → Calm s → misnamed s.fixed n call ≡ None → IsDone s n call reply t
     → Stays s.fixed t.fixed
@@ -66,8 +62,8 @@ done_stays s n call reply t calm named d = subst (λ (x : State). Stays s.fixed 
 
 whole_stays : (s : State) (n : ℕ) (call : Call) (reply : Reply) (t : State) → Calm s → IsWholeCall s n call reply t → Stays s.fixed t.fixed
 whole_stays s n call reply t calm =
-    unless_stays (misnamed s.fixed n call) s reply t (UnlessRefused (spent s.fixed call) s reply t (IsDone s n call reply t))
-    (λ named. unless_stays (spent s.fixed call) s reply t (IsDone s n call reply t) (λ u. done_stays s n call reply t calm named))
+    unless_done (λ (x : State). Stays s.fixed x.fixed) s n call reply t
+    (record { ports = were_same s.fixed.ports s.fixed.ports refl; limits = refl }) (done_stays s n call reply t calm)
 
 -- ---- pools that stay unreduced
 
@@ -78,7 +74,7 @@ needed_same l p q same =
     ∙ ap (λ n. if is_client p.role then pool_of_client l else pool_of_server l n) same.loaned
 
 among_unreduced : (f : Fixed) (p : Port) → HasOwnPorts f → IsUnreducedHub f → IsAmong p f.ports → IsUnreduced f p
-among_unreduced f p own all a = all p (find-own f.ports p own a)
+among_unreduced f p own all a = all p (find-own (λ (p : Port). p.number) f.ports p own a)
 
 stays_unreduced : (f g : Fixed) → HasOwnPorts f → Stays f g → IsUnreducedHub f → IsUnreducedHub g
 stays_unreduced f g own stays all q is =
@@ -120,17 +116,12 @@ record Goes (s t : State) : Type 0 where
   pub limits : t.fixed.limits ≡ s.fixed.limits
   pub unreduced : IsUnreducedHub t.fixed
 
-unless_goes : (q : Option Refusal) (s : State) (reply : Reply) (t : State) (Q : Type 0) → IsUnreducedHub s.fixed → (Q → Goes s t)
-    → UnlessRefused q s reply t Q → Goes s t
-unless_goes (Some r) s reply t Q all f u = subst (Goes s) (sym u.1) (record { limits = refl; unreduced = all })
-unless_goes None s reply t Q all f u = f u
-
 command_goes : (s : State) (n : ℕ) (c : PortCommand) (reply : Reply) (t : State) → Calm s → IsUnreducedHub s.fixed → ChoosesEnough s.fixed.limits c
     → IsPortCommand s n c reply t
     → Goes s t
 command_goes s n (Create role id o) reply t calm all each c =
-    unless_goes (making_refusal s.fixed role o c.0) s reply t _ all
-    (λ made. subst (Goes s) (sym made.1) (record {
+    unless_keeps (Goes s) (making_refusal s.fixed role o c.0) s reply t _ (record { limits = refl; unreduced = all })
+    (λ u made. subst (Goes s) (sym made.1) (record {
       limits = refl;
       unreduced = made_unreduced s.fixed n role id o (own_ports s.fixed (calm.rests).fixed) each all;
     })) c.1

@@ -26,25 +26,27 @@ use Rattle.iox_model.specs.Weaves.{at_work}
 use Rattle.iox_model.specs.WholeCalls.{moved_by, left_by, MayCome}
 use Rattle.iox_model.proofs.WholeLemmas.{moved-fixed}
 use Rattle.iox_reachable.proofs.ServedPorts.{distinct_next}
-use Rattle.iox_reachable.proofs.WayLemmas.{by_cases}
-use Rattle.iox_ledger.proofs.Lists.{IsAmong, never, one_of, none-some, among-last, filter-among, find-among, any-among, among-any, distinct-no_repeats}
+use Rattle.iox_ledger.proofs.Orders.{none-more}
+use Rattle.iox_ledger.proofs.Ranges.{no-longer, range-apart}
+use Rattle.iox_ledger.proofs.Truths.{never, one_of, none-some, by_cases, or-left, or-right}
+use Rattle.iox_ledger.proofs.Lists.{IsAmong, among-last, filter-among, find-among, any-among, among-any, distinct-no_repeats}
 use Rattle.iox_ledger.proofs.Lists.{no_repeats-filter}
 use Rattle.iox_ledger.proofs.Phases.{HasOwnPorts}
-use Rattle.iox_ledger.proofs.Outstanding.{no-longer, range-apart}
 use Rattle.iox_ledger.proofs.Views.{view}
 use Rattle.iox_pools.proofs.Holds.{HoldsOwn, holds-held}
 use Rattle.iox_pools.proofs.HoldsBeats.{fresh}
-use Rattle.iox_pools.proofs.HoldsKept.{keeps, Keeping, Follows, follows-keeping, or-left, or-right}
+use Rattle.iox_pools.proofs.HoldsKept.{keeps, Keeping, Follows, follows-keeping}
 use Rattle.iox_pools.proofs.Ways.{way-of}
+use Rattle.iox_runs.proofs.Calls.{own_ports}
 use Rattle.iox_runs.proofs.Ports.{any_at, at_more, first_more, next_is_free}
 use Rattle.iox_runs.proofs.Rests.{Rests}
 use Rattle.iox_runs.proofs.Settling.{Calm}
 use Rattle.iox_hub_pools.specs.PoolsRest.{PoolsRestWithin, NextRestsFresh}
 use Rattle.iox_hub_pools.proofs.Inductions.{IsKept, left_keeps}
 use Rattle.iox_hub_pools.proofs.Goings.{Any, any_onward, Going, going_start, going_next, Recorded, moved_recorded}
-use Rattle.iox_hub_pools.proofs.Follows.{calls, start_follows, next_follows}
+use Rattle.iox_hub_pools.proofs.Follows.{calls, start_follows, next_follows, nothing}
 use Rattle.iox_hub_pools.proofs.Parts.{WasPort, SamePort, same_port, was_found, was_way, Leaves, settled_leaves}
-use Rattle.iox_hub_pools.proofs.Ends.{own_ports, Ending, ending, end_follows}
+use Rattle.iox_hub_pools.proofs.Ends.{Ending, ending, end_follows}
 
 -- ---- between calls, and while a call is under way
 
@@ -125,9 +127,6 @@ made_keeps s p number rests k = record {
     own = distinct-no_repeats (map (λ (x : Port). x.number) (ps ++ p ∷ []))
         (distinct_next s.fixed.next_number ps p number (rests.numbered).1 (rests.numbered).0)
 
-    nothing : {A : Type 0} (i : ℕ) → has_number i [] ≡ true → A
-    nothing i e = absurd (true≢false (sym e))
-
     -- what was there before is another
     before : (y : Way) (i : ℕ) → s.delivered y i ≡ true → (z : Port) → IsAmong z (ps ++ p ∷ []) → z.number ≡ y.receiver → WasPort ps z
     before y i e z a to = elim (among-last z p ps a) as (λ u. WasPort ps z) [
@@ -174,14 +173,11 @@ made_keeps s p number rests k = record {
     new : (q : ℕ) (r : Port) → port_at t.fixed q ≡ Some r → any_at q ps ≡ false → Keeping (at_work t) q r
     new q r is none = record {
       lent = λ i e. absurd (no i e);
-      fits = least (length (kept_in (at_work t) q)) r.pool (no-longer (kept_in (at_work t) q) []
+      fits = none-more (length (kept_in (at_work t) q)) r.pool (no-longer (kept_in (at_work t) q) []
           (no_repeats-filter (is_kept t q []) (range_with_len 0 (s.fixed.loans q + 1)) (range-apart 0 (s.fixed.loans q + 1)))
           (λ i a. absurd (no i (filter-among (is_kept t q []) i (range_with_len 0 (s.fixed.loans q + 1)) a).1)));
     }
       where
-        least : (a b : ℕ) → a ≤ 0 → a ≤ b
-        least a b e = omega arith
-
         held : (i : ℕ) → HoldsOwn (view t.fixed (node_of_port t.fixed q)) q i → ⊥
         held i h =
             never (any_at h.handle.port ps) ((rests.handles (node_of_port t.fixed q)).each h.handle h.among).of_port.0 (ap (λ j. any_at j ps) h.port ∙ none)

@@ -4,7 +4,7 @@ use Rattle.std.specs.Prelude.{◌≡◌, ℕ, ◌+◌, ◌-◌, ◌<◌, ◌≤�
 use Rattle.std.specs.Prelude.{find, refl}
 use Rattle.std.specs.Option.{option_map_or}
 use Rattle.std.specs.List.{range_with_len}
-use Rattle.std.proofs.Common.{sym, subst, ap, ◌∙◌, arith, eqb-true, true≢false}
+use Rattle.std.proofs.Common.{sym, subst, ap, ◌∙◌, eqb-true, true≢false}
 use Rattle.iox_model.specs.declared.kind.Role.{Role}
 use Rattle.iox_model.specs.declared.kind.Role.TheVariants.{Client, Server}
 use Rattle.iox_model.specs.declared.way.Way.{Way}
@@ -19,12 +19,14 @@ use Rattle.iox_model.specs.Messages.{request_way, response_way}
 use Rattle.iox_model.specs.Peers.{role_at, lanes_of, ports_of_role, ways_from_client, lanes_to, ways_from_server, ways_from}
 use Rattle.iox_model.specs.Settings.{is_client, same_role}
 use Rattle.iox_model.specs.States.{Port, Handle, Fixed, State}
+use Rattle.iox_model.proofs.CallLaws.{put_at-else}
 use Rattle.iox_model.proofs.MapLemmas.{either}
-use Rattle.iox_reachable.proofs.WayLemmas.{or-false}
+use Rattle.iox_ledger.proofs.Orders.{same, at-most}
+use Rattle.iox_ledger.proofs.Truths.{never, none-some, or-false}
 use Rattle.iox_ledger.proofs.HandlesKept.{more-loans}
-use Rattle.iox_ledger.proofs.Lists.{IsAmong, NoRepeats, never, none-some, among-map, map-among, filter-among, among-filter, find-among, any-among, among-any}
-use Rattle.iox_ledger.proofs.Phases.{HasOwnPorts, find-own}
-use Rattle.iox_ledger.proofs.Views.{role_in, put_at-else}
+use Rattle.iox_ledger.proofs.Lists.{IsAmong, NoRepeats, among-map, map-among, filter-among, among-filter, find-among, any-among, among-any, find-own}
+use Rattle.iox_ledger.proofs.Phases.{HasOwnPorts}
+use Rattle.iox_ledger.proofs.Views.{role_in}
 use Rattle.iox_pools.proofs.Holds.{after-lent}
 use Rattle.iox_pools.proofs.Kept.{among-flat, of-role}
 use Rattle.iox_pools.proofs.Ways.{flat-among}
@@ -105,7 +107,7 @@ pub was_found : (ps qs : List Port) (k : ℕ) (q : Port) → NoRepeats (map (λ 
 was_found ps qs k q own e was =
     let f : IsAmong q qs × ((q.number == k) ≡ true) = find-among (λ (p : Port). p.number == k) q qs e in
     let p : (p : Port) × IsAmong p ps × SamePort p q = was f.0 in
-    (p.0, ap (λ n. find (λ (x : Port). x.number == n) ps) (sym (eqb-true q.number k f.1) ∙ (p.2).number) ∙ find-own ps p.0 own p.1, p.2)
+    (p.0, ap (λ n. find (λ (x : Port). x.number == n) ps) (sym (eqb-true q.number k f.1) ∙ (p.2).number) ∙ find-own (λ (x : Port). x.number) ps p.0 own p.1, p.2)
 
 -- so it has the role that it had
 pub role_was : (ps qs : List Port) (k : ℕ) → NoRepeats (map (λ p. p.number) ps) → Were ps qs → any_at k qs ≡ true → role_in qs k ≡ role_in ps k
@@ -136,8 +138,8 @@ was_way f g k y own own' role was a =
           subst (λ n. IsAmong n (ports_of_role f role)) (sym (q.2 ∙ (p.2).number))
               (among-map (λ (x : Port). x.number) p.0 (filter (λ x. same_role x.role role) f.ports)
               (among-filter (λ x. same_role x.role role) p.0 f.ports p.1 (subst (λ z. same_role z role ≡ true) (p.2).role q.3))),
-          ap (lanes_of g) q.2 ∙ ap (λ (o : Option Port). option_map_or (λ x. x.pool) o 0) (find-own g.ports q.0 own' q.1) ∙ (p.2).pool
-              ∙ sym (ap (lanes_of f) (q.2 ∙ (p.2).number) ∙ ap (λ (o : Option Port). option_map_or (λ x. x.pool) o 0) (find-own f.ports p.0 own p.1)),
+          ap (lanes_of g) q.2 ∙ ap (λ (o : Option Port). option_map_or (λ x. x.pool) o 0) (find-own (λ (p : Port). p.number) g.ports q.0 own' q.1) ∙ (p.2).pool
+              ∙ sym (ap (lanes_of f) (q.2 ∙ (p.2).number) ∙ ap (λ (o : Option Port). option_map_or (λ x. x.pool) o 0) (find-own (λ (p : Port). p.number) f.ports p.0 own p.1)),
         )
 
     by_role : (b : Bool) → IsAmong y (if b then ways_from_client g k else ways_from_server g k)
@@ -174,15 +176,9 @@ leaves_after s t u a b = record {
   delivered = λ y k e. a.delivered y k (b.delivered y k e);
   from = λ y k e there. b.from y k e (a.from y k (b.delivered y k e) there);
   to = λ y k e there. b.to y k e (a.to y k (b.delivered y k e) there);
-  loans = λ q there. most (s.fixed.loans q) (t.fixed.loans q) (u.fixed.loans q) (a.loans q (were_at t.fixed.ports u.fixed.ports q b.ports there))
+  loans = λ q there. at-most (s.fixed.loans q) (t.fixed.loans q) (u.fixed.loans q) (a.loans q (were_at t.fixed.ports u.fixed.ports q b.ports there))
       (b.loans q there);
 }
-  where
-    most : (a b c : ℕ) → a ≤ b → b ≤ c → a ≤ c
-    most a b c p q = omega arith
-
-same : (a : ℕ) → a ≤ a
-same a = omega arith
 
 -- only handles and counts changed
 leaves_fixed : (s : State) (f : Fixed) → f.ports ≡ s.fixed.ports → f.limits ≡ s.fixed.limits → f.forgot ≡ s.fixed.forgot
@@ -227,7 +223,7 @@ leaves_gone s gone = record {
       (or-false (y.sender == gone) (y.receiver == gone) (unless (is_end gone y) (s.delivered y k) e).0).0 there;
   to = λ y k e there. any_stay gone y.receiver s.fixed.ports
       (or-false (y.sender == gone) (y.receiver == gone) (unless (is_end gone y) (s.delivered y k) e).0).1 there;
-  loans = λ q there. subst (λ n. s.fixed.loans q ≤ n) (sym (put_at-else s.fixed.loans gone q 0 (any_others gone q s.fixed.ports there).1))
+  loans = λ q there. subst (λ n. s.fixed.loans q ≤ n) (sym (put_at-else s.fixed.loans gone 0 q (any_others gone q s.fixed.ports there).1))
       (same (s.fixed.loans q));
 }
 

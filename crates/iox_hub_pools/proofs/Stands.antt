@@ -1,12 +1,10 @@
 -- The loan of a call of a service: its call made it, and then it has the next serial of its port, or
 -- it is a handle of the node. And nobody forgets.
-use Rattle.std.specs.Prelude.{◌≡◌, ℕ, Bool, true, false, ◌||◌, if◌then◌else◌, ◌==◌, List, [], ◌∷◌, ◌++◌, Option, Some, None, refl}
+use Rattle.std.specs.Prelude.{◌≡◌, ℕ, Bool, true, false, if◌then◌else◌, ◌==◌, List, [], ◌∷◌, ◌++◌, Option, Some, None, refl}
 use Rattle.std.specs.Option.{option_map_or}
 use Rattle.std.specs.List.{list_any}
 use Rattle.std.proofs.Common.{sym, subst, ap, ◌∙◌, true≢false}
-use Rattle.iox_model.specs.declared.kind.Role.{Role}
 use Rattle.iox_model.specs.declared.kind.Role.TheVariants.{Client, Server}
-use Rattle.iox_model.specs.declared.kind.Kind.{Kind}
 use Rattle.iox_model.specs.declared.kind.Kind.TheVariants.{PendingResponse, ActiveRequest}
 use Rattle.iox_model.specs.declared.way.Way.{Way}
 use Rattle.iox_model.specs.declared.way.RequestState.{RequestState}
@@ -20,7 +18,7 @@ use Rattle.iox_model.specs.Commands.{Refusal, Call, number_of}
 use Rattle.iox_model.specs.Doings.{refused, Receiver, Sending, Outcome, Tells, Loans, Fills, Sends, FailsToSend, Receives, Drops, Forgets, Doing}
 use Rattle.iox_model.specs.Doings.{Ended, Loaning, Asking, Emptying, Looking, Opening, Delivering, Evicted, Visiting, Again, Judging, Stale, Closing}
 use Rattle.iox_model.specs.Doings.{Returning, Leaving, Checking, Hinting, Seeking}
-use Rattle.iox_model.specs.Handles.{is_request_loan, is_response_loan, is_received, same_kind, handle_at, subject, kind_of, Subject, ThePort}
+use Rattle.iox_model.specs.Handles.{is_request_loan, is_received, same_kind, handle_at, subject, kind_of, Subject, ThePort}
 use Rattle.iox_model.specs.Handles.{TheHandle, way_of}
 use Rattle.iox_model.specs.Loans.{Choice, Order, loan_of, next_request, request_loan_refusal, response_loan_refusal, memory_refusal, lending_ways}
 use Rattle.iox_model.specs.Loans.{unless_refused}
@@ -42,9 +40,10 @@ use Rattle.iox_model.specs.States.{Port, Handle, Fixed, State}
 use Rattle.iox_model.specs.Steps.{next, ends}
 use Rattle.iox_model.proofs.MapLemmas.{either}
 use Rattle.iox_model.proofs.WholeLemmas.{some-is}
-use Rattle.iox_ledger.proofs.Lists.{IsAmong, none-some}
+use Rattle.iox_ledger.proofs.Truths.{none-some}
+use Rattle.iox_ledger.proofs.Lists.{IsAmong}
 use Rattle.iox_ledger.proofs.Senders.{is_loan}
-use Rattle.iox_ledger.proofs.Starts.{IsNamedBy, named-by, IsThere, there}
+use Rattle.iox_ledger.proofs.Starts.{IsNamedBy, named-by, IsThere, there, write-loan}
 use Rattle.iox_pools.proofs.Under.{UnderIs, LoanIs, none-so, loan-serial}
 
 -- ---- what stands
@@ -271,19 +270,11 @@ releases_stands L f n h is =
     (λ u. either (Stands L f n) (same_kind h.kind PendingResponse) (closing h (states_of f h)) (Ended (Drops h))
     (λ y. closing_stands L f n h (states_of f h) is) (λ y. is))
 
-written_loan : (role : Role) (k : Kind) → (if is_client role then is_request_loan k else is_response_loan k) ≡ true → is_loan k ≡ true
-written_loan Client k e = ap (λ b. b || is_response_loan k) e
-written_loan Server k e = or_last (is_request_loan k) (is_response_loan k) e
-  where
-    or_last : (a b : Bool) → b ≡ true → (a || b) ≡ true
-    or_last true b e = refl
-    or_last false b e = e
-
 begins_stand : (L : Handle → List Way → Type 0) (s : State) (n : ℕ) (wire : Bool) (c : Choice) (call : Call) (x : Subject) → Begins L s → IsThere s.fixed n x
     → suits wire call (kind_of x) ≡ true → Stands L s.fixed n (begins_at s c call x)
 begins_stand L s n wire c (Loan k l) x begin is e = lends_stands L s n c x (ordered l false) begin
 begins_stand L s n wire c (LoanUninit k l) x begin is e = lends_stands L s n c x (ordered l true) begin
-begins_stand L s n wire c (Write k p) (TheHandle h) begin is e = writes_stands L s.fixed n h p.elements p.words is (written_loan p.role h.kind e)
+begins_stand L s n wire c (Write k p) (TheHandle h) begin is e = writes_stands L s.fixed n h p.elements p.words is (write-loan p.role h.kind e)
 begins_stand L s n wire c (Send k) (TheHandle h) begin is e = sends_stands L s.fixed n h false is
 begins_stand L s n wire c (SendCopy k p) x begin is e = copies_stands L s n c x p.elements p.words begin
 begins_stand L s n wire c (Receive k) (ThePort p) begin is e =

@@ -224,14 +224,41 @@ moved-within w node n r d m y size fits at_work holds c at there holding borrows
 
 -- ---- the record and its size
 
+-- what is got back was out, and so it was delivered
+got-recorded : (s : State) (m : Moment) (y : Way) (had : List ℕ) (j : ℕ) → Holds s m → got_on y m ≡ j ∷ []
+    → out (is j) s y had ≡ one_if (s.delivered y j) → s.delivered y j ≡ true
+got-recorded s m y had j holds e counted =
+    recorded (s.delivered y j)
+    (at_least (count (is j) (serials_of (s.waiting y))) (count (is j) had) (count (is j) (s.returned y)) (count (is j) (s.in_hand y))
+    (one_if (s.delivered y j)) (got-out s m y j holds e) counted)
+  where
+    at_least : (a b c d e : ℕ) → 1 ≤ c + d → a + b + c + d ≡ e → 1 ≤ e
+    at_least a b c d e p q = omega arith
+
+    recorded : (b : Bool) → 1 ≤ one_if b → b ≡ true
+    recorded true q = refl
+    recorded false q = absurd (omega arith)
+
+-- where what is out follows the moment, the record is still just what is out
+pub moved-counted : (s : State) (m : Moment) (y : Way) (before after : List ℕ) → Holds s m
+    → ((value : ℕ → Bool) → out value (moved s m) y after + count value (got_on y m) ≡ out value s y before + count value (put_on y m))
+    → ((j : ℕ) → out (is j) s y before ≡ one_if (s.delivered y j)) → ((j : ℕ) → put_on y m ≡ j ∷ [] → s.delivered y j ≡ false)
+    → (k : ℕ) → out (is k) (moved s m) y after ≡ one_if ((moved s m).delivered y k)
+moved-counted s m y before after holds follows counts new k =
+    same (out (is k) (moved s m) y after) (count (is k) (got_on y m)) (out (is k) s y before) (count (is k) (put_on y m))
+    (one_if (s.delivered y k)) (one_if ((moved s m).delivered y k)) (follows (is k)) (counts k)
+    (moved-record s m y k new (λ j e. got-recorded s m y before j holds e (counts j)))
+  where
+    same : (a b c d e f : ℕ) → a + b ≡ c + d → c ≡ e → f + b ≡ e + d → a ≡ f
+    same a b c d e f p q r = omega arith
+
 pub moved-balanced : (w : World) (node n r : ℕ) (d : Doing) (m : Moment) (y : Way) → Fits w → w.doing node ≡ Some d → Holds w.state m
     → (next w.state node d m).condition → IsAt w.state.fixed.ports y.sender n → IsAt w.state.fixed.ports y.receiver r → IsLive w.state.fixed y
     → CallRelease (w.doing r) → Holding w.state y (w.doing n) → BorrowFits (view w.state.fixed r) r
     → ((j : ℕ) → put_on y m ≡ j ∷ [] → w.state.delivered y j ≡ false) → Balanced w.state.fixed w.state w.doing y n r
     → Balanced w.state.fixed (moved w.state m) (put_at w.doing node (Some (next w.state node d m).after)) y n r
 moved-balanced w node n r d m y fits at_work holds c at there live release holding borrows new p = record {
-  counts = λ k. same (out (is k) (moved w.state m) y after) (count (is k) (got_on y m)) (out (is k) w.state y before) (count (is k) (put_on y m))
-      (one_if (w.state.delivered y k)) (one_if ((moved w.state m).delivered y k)) (follows (is k)) (p.counts k) (moved-record w.state m y k new was);
+  counts = moved-counted w.state m y before after holds follows p.counts new;
   size = moved-within w node n r d m y (out any (moved w.state m) y after) fits at_work holds c at there holding borrows p (follows any);
 }
   where
@@ -247,19 +274,3 @@ moved-balanced w node n r d m y fits at_work holds c at there live release holdi
         (moved-shifts value w.state m y holds (live-counted w.state.fixed y live) (hand-few w.state y (w.doing n) holding)
         (hand-fits w node n d m y fits at_work c at holding))
         (had-follows w node r d m y value fits at_work c there live release)
-
-    same : (a b c d e f : ℕ) → a + b ≡ c + d → c ≡ e → f + b ≡ e + d → a ≡ f
-    same a b c d e f p q r = omega arith
-
-    -- what is got back was out, and so it was delivered
-    was : (j : ℕ) → got_on y m ≡ j ∷ [] → w.state.delivered y j ≡ true
-    was j e = recorded (w.state.delivered y j)
-        (at_least (count (is j) (serials_of (w.state.waiting y))) (count (is j) before) (count (is j) (w.state.returned y)) (count (is j) (w.state.in_hand y))
-        (one_if (w.state.delivered y j)) (got-out w.state m y j holds e) (p.counts j))
-      where
-        at_least : (a b c d e : ℕ) → 1 ≤ c + d → a + b + c + d ≡ e → 1 ≤ e
-        at_least a b c d e p q = omega arith
-
-        recorded : (b : Bool) → 1 ≤ one_if b → b ≡ true
-        recorded true q = refl
-        recorded false q = absurd (omega arith)

@@ -20,7 +20,7 @@ use Rattle.iox_model.proofs.MapLemmas.{either, same_way-true}
 use Rattle.iox_model.proofs.WholeLemmas.{moved-fixed}
 use Rattle.iox_ledger.specs.BorrowLaws.{BorrowLimitHolds}
 use Rattle.iox_ledger.proofs.ReceivedHandles.{no_received, received-itself, received-elsewhere, receipt-way}
-use Rattle.iox_ledger.proofs.Orders.{at-most}
+use Rattle.iox_ledger.proofs.Orders.{at-most, least}
 use Rattle.iox_ledger.proofs.Counts.{count, one_if, count-last, count-less, count-gone, count-swap, count-fewer, one-at-most}
 use Rattle.iox_ledger.proofs.Lists.{IsAmong}
 use Rattle.iox_ledger.proofs.Views.{View, view, IsAt, node_in, plus, counted, lends_one, swapped, less, taken_handle, after_call}
@@ -214,19 +214,19 @@ held-few v n y (Some d) at p q =
     sum : (a b c d e : ℕ) → a ≤ b → b ≤ c → c + d ≤ e → a + d ≤ e
     sum a b c d e p q r = omega arith
 
+pub opened-borrows : (s : State) (k : ℕ) → BorrowFits (view (opened s).fixed k) k
+opened-borrows s k = record {
+  counts = λ z at. least (if node_in s.fixed.ports z.receiver == k then 0 else 0);
+  within = λ z. masked (node_in s.fixed.ports z.receiver == k) (limit_in (view (opened s).fixed k) z);
+}
+  where
+    masked : (b : Bool) (k : ℕ) → (if b then 0 else 0) ≤ k
+    masked true k = omega arith
+    masked false k = omega arith
+
 pub borrow_limit_holds : BorrowLimitHolds
 borrow_limit_holds s v bs y on =
     let n : ℕ = node_in v.state.fixed.ports y.receiver in
     let r : Fits v × ((k : ℕ) → BorrowFits (view v.state.fixed k) k)
-    = weave-borrows (at_work (opened s)) v bs on.1 (opened-fits s on.0) (λ k. record {
-      counts = λ z at. nothing (if node_in s.fixed.ports z.receiver == k then 0 else 0);
-      within = λ z. masked (node_in s.fixed.ports z.receiver == k) (limit_in (view (opened s).fixed k) z);
-    }) in
+    = weave-borrows (at_work (opened s)) v bs on.1 (opened-fits s on.0) (opened-borrows s) in
     held-few (view v.state.fixed n) n y (v.doing n) refl ((r.0).doing n) (r.1 n)
-  where
-    nothing : (k : ℕ) → 0 ≤ k
-    nothing k = omega arith
-
-    masked : (b : Bool) (k : ℕ) → (if b then 0 else 0) ≤ k
-    masked true k = omega arith
-    masked false k = omega arith

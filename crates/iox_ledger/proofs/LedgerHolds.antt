@@ -12,6 +12,8 @@ use Rattle.iox_model.specs.WireCalls.{opened}
 use Rattle.iox_model.specs.Weaves.{at_work, IsWeave, World, Beat}
 use Rattle.iox_ledger.specs.LedgerLaws.{ReturnsFit, out_on, OutOnce, RecordIsWhatIsOut, LedgerStaysWithin}
 use Rattle.iox_ledger.specs.OnceLaws.{IsOnWire}
+use Rattle.iox_ledger.proofs.Orders.{least}
+use Rattle.iox_ledger.proofs.Borrows.{opened-borrows}
 use Rattle.iox_ledger.proofs.Counts.{count, one_if, count-cons}
 use Rattle.iox_ledger.proofs.Truths.{false_if}
 use Rattle.iox_ledger.proofs.Lists.{IsAmong, number-among, among-number}
@@ -49,24 +51,14 @@ opened-holds s y fits = record {
   sender = refl;
   receiver = refl;
   ledger = record {
-    holding = record { waits = nothing (buffer_on s.fixed y + 0); hand = nothing 0 };
-    borrows = λ k. record {
-      counts = λ z at. nothing (if node_in s.fixed.ports z.receiver == k then 0 else 0);
-      within = λ z. masked (node_in s.fixed.ports z.receiver == k) (borrow_limit_on s.fixed z);
-    };
+    holding = record { waits = least (buffer_on s.fixed y + 0); hand = least 0 };
+    borrows = opened-borrows s;
     releases = λ k. tt;
     fresh = λ k e may. absurd (never-so e);
-    balanced = λ live. record { counts = λ k. refl; size = nothing (buffer_on s.fixed y + borrow_limit_on s.fixed y + 1) };
+    balanced = λ live. record { counts = λ k. refl; size = least (buffer_on s.fixed y + borrow_limit_on s.fixed y + 1) };
   };
 }
   where
-    nothing : (k : ℕ) → 0 ≤ k
-    nothing k = omega arith
-
-    masked : (b : Bool) (k : ℕ) → (if b then 0 else 0) ≤ k
-    masked true k = omega arith
-    masked false k = omega arith
-
     never-so : false ≡ true → ⊥
     never-so e = cc
 

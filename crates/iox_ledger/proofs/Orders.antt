@@ -14,6 +14,9 @@ same-le a b e = omega arith
 pub zero-le : (a b : ℕ) → a ≡ 0 → a ≤ b
 zero-le a b e = omega arith
 
+pub none-more : (a b : ℕ) → a ≤ 0 → a ≤ b
+none-more a b e = omega arith
+
 pub least : (a : ℕ) → 0 ≤ a
 least a = omega arith
 
@@ -30,6 +33,9 @@ le-next n = grind (arith)
 
 pub le-le : (a b c : ℕ) → nat_le a b ≡ true → nat_le b c ≡ true → nat_le a c ≡ true
 le-le a b c e f = grind (arith)
+
+pub le-is : (a b : ℕ) → nat_le a b ≡ true → a ≤ b
+le-is a b e = grind (arith)
 
 -- of a limit that nothing is added to
 pub le-from : (a b : ℕ) → nat_le a (b + 0) ≡ true → a ≤ b

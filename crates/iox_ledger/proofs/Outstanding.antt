@@ -8,7 +8,7 @@ use Rattle.iox_model.specs.Ledgers.{size_of}
 use Rattle.iox_model.specs.Outstandings.{outstanding_on}
 use Rattle.iox_model.specs.Weaves.{World}
 use Rattle.iox_ledger.specs.LedgerLaws.{out_on, OutstandingIsCounted}
-use Rattle.iox_ledger.proofs.Orders.{same-le}
+use Rattle.iox_ledger.proofs.Orders.{same-le, le-is}
 use Rattle.iox_ledger.proofs.Counts.{count}
 use Rattle.iox_ledger.proofs.Ranges.{no-longer, range-apart, range-has}
 use Rattle.iox_ledger.proofs.Lists.{IsAmong, filter-among, among-filter, number-among, among-number, distinct-no_repeats, no_repeats-filter}
@@ -46,9 +46,6 @@ delivered-below v y n r k p e = by_case (nat_le k (v.state.fixed.loans y.sender)
     loans : (view v.state.fixed n).loans y.sender ≡ v.state.fixed.loans y.sender
     loans = ap (λ (b : Bool). if b then v.state.fixed.loans y.sender else 0) (mine v.state.fixed.ports y.sender n p.sender)
 
-    at_most : (a b : ℕ) → nat_le a b ≡ true → a ≤ b
-    at_most a b h = grind (arith)
-
     more : (a b c : ℕ) → nat_le a b ≡ false → c ≡ b → c ≤ a
     more a b c h e = grind (arith)
 
@@ -56,7 +53,7 @@ delivered-below v y n r k p e = by_case (nat_le k (v.state.fixed.loans y.sender)
     not_both a b c h e q = grind (arith)
 
     by_case : (b : Bool) → nat_le k (v.state.fixed.loans y.sender) ≡ b → k ≤ v.state.fixed.loans y.sender
-    by_case true h = at_most k (v.state.fixed.loans y.sender) h
+    by_case true h = le-is k (v.state.fixed.loans y.sender) h
     by_case false h = absurd (p.ledger.fresh k e (
       inl (more k (v.state.fixed.loans y.sender) ((view v.state.fixed n).loans y.sender) h loans),
       λ passed. not_both k (v.state.fixed.loans y.sender) ((view v.state.fixed n).loans y.sender) h loans

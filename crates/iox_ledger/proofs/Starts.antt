@@ -35,7 +35,7 @@ use Rattle.iox_model.proofs.WholeLemmas.{some-is, or_else-none}
 use Rattle.iox_ledger.proofs.Truths.{never, none-some, passed, not-false, or-right}
 use Rattle.iox_ledger.proofs.Lists.{among-append, IsAmong, find-among, map-among}
 use Rattle.iox_ledger.proofs.Views.{role_in, View, view, IsAt, mine}
-use Rattle.iox_ledger.proofs.Senders.{is_loan, FitsHandles, FitsLoan, FitsDoing, TakesOn}
+use Rattle.iox_ledger.proofs.Senders.{is_loan, FitsHandles, FitsLoan, FitsDoing, TakesOn, IsFilled}
 use Rattle.iox_ledger.proofs.Phases.{role-of, HasOwnPorts, sends-fits, loaning-fits, visiting-fits, closing-fits, checking-fits, hinting-fits, seeking-fits}
 
 -- ---- what a call names
@@ -164,26 +164,30 @@ pub written-loan : (b : Bool) → is_loan (if b then RequestMut else ResponseMut
 written-loan true = refl
 written-loan false = refl
 
+pub written-fills : (v : View) (n : ℕ) (h : Handle) (words : List ℕ) → FitsHandles v n → IsAmong h v.handles → is_loan h.kind ≡ true
+    → IsFilled v n (written h words)
+written-fills v n h words fits is loan = record {
+  old = h;
+  among = is;
+  number = refl;
+  port = refl;
+  serial = refl;
+  was_loan = loan;
+  of_node = fits.of_node h is;
+  is_loan_still = written-loan (is_request_loan h.kind);
+  made = record {
+    sender = (fits.made h is loan).sender;
+    lane = (fits.made h is loan).lane;
+    role = written-role (is_request_loan h.kind) ∙ (fits.made h is loan).role;
+  };
+}
+
 writes-fits : (v : View) (n : ℕ) (h : Handle) (k : Option ℕ) (words : List ℕ) → FitsHandles v n → IsAmong h v.handles → is_loan h.kind ≡ true
     → FitsDoing v n (writes h k words)
 writes-fits v n h None words fits is loan = tt
 writes-fits v n h (Some k) words fits is loan =
     either (FitsDoing v n) (k == h.message.elements) (Ended (Fills (written h words))) (refused WrongLength)
-    (λ u. record {
-      old = h;
-      among = is;
-      number = refl;
-      port = refl;
-      serial = refl;
-      was_loan = loan;
-      of_node = fits.of_node h is;
-      is_loan_still = written-loan (is_request_loan h.kind);
-      made = record {
-        sender = (fits.made h is loan).sender;
-        lane = (fits.made h is loan).lane;
-        role = written-role (is_request_loan h.kind) ∙ (fits.made h is loan).role;
-      };
-    }) (λ u. tt)
+    (λ u. written-fills v n h words fits is loan) (λ u. tt)
 
 pub own-loan : (v : View) (n : ℕ) (h : Handle) → FitsHandles v n → IsAmong h v.handles → is_loan h.kind ≡ true → FitsLoan v n h false
 own-loan v n h fits is loan = record {

@@ -20,7 +20,7 @@ use Rattle.iox_model.specs.Weaves.{at_work, wire_start, begun, made, over, IsBea
 use Rattle.iox_model.specs.Peers.{port_at, node_of_port, ways_from}
 use Rattle.iox_model.proofs.WholeLemmas.{moved-fixed}
 use Rattle.iox_ledger.specs.OnceLaws.{IsOnWire}
-use Rattle.iox_ledger.proofs.Orders.{same, same-le}
+use Rattle.iox_ledger.proofs.Orders.{same, same-le, less}
 use Rattle.iox_ledger.proofs.Ranges.{no-longer, range-apart}
 use Rattle.iox_ledger.proofs.Truths.{false_if, one_of, or-left, or-right}
 use Rattle.iox_ledger.proofs.Lists.{IsAmong, filter-among, any-among, among-any, number-among, no_repeats-filter}
@@ -55,9 +55,6 @@ room-in : (w : World) (q : ℕ) (p : Port) → port_at w.state.fixed q ≡ Some 
 room-in w q p is none e =
     subst (λ (ks : List ℕ). length (kept w.state q ks) < p.pool) (sym none)
     (less p.pool (length (kept w.state q [])) (sym (ap (λ (o : Option Port). option_map_or (λ x. nat_le x.pool (length (kept w.state q []))) o true) is) ∙ e))
-  where
-    less : (a b : ℕ) → nat_le a b ≡ false → b < a
-    less a b h = grind (arith)
 
 -- the call of one node changed
 changed-call : (w : World) (q m : ℕ) (o : Option Doing) (P : List ℕ → Type 0) → (node_of_port w.state.fixed q ≡ m → P (under_at q o)) → P (under w q)

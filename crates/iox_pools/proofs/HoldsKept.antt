@@ -22,7 +22,7 @@ use Rattle.iox_ledger.proofs.Views.{View, view, IsAt, mine}
 use Rattle.iox_ledger.proofs.Senders.{FitsLoan, FitsDoing}
 use Rattle.iox_ledger.proofs.Phases.{target-of}
 use Rattle.iox_ledger.proofs.Had.{put_on}
-use Rattle.iox_ledger.proofs.Outs.{no-head}
+use Rattle.iox_ledger.proofs.Outs.{no-head, head-is}
 use Rattle.iox_pools.proofs.Under.{UnderIs, LoanIs, none-so, loan-serial}
 
 -- the port has it in a handle, or it is outstanding
@@ -187,18 +187,11 @@ pub is-put : (s : State) (n : ℕ) (d : Doing) (m : Moment) (y : Way) (k : ℕ) 
     → IsPut (view s.fixed n) n d y k
 is-put s n (Delivering z last left count) (Deliver x m) y k p c e = by_case (same_way y x) (same_way-true y x) e
   where
-    head : (a b : ℕ) → a ∷ [] ≡ b ∷ [] → a ≡ b
-    head a b e = ap (λ (ks : List ℕ). first ks) e
-      where
-        first : List ℕ → ℕ
-        first [] = 0
-        first (j ∷ js) = j
-
     by_case : (b : Bool) → (b ≡ true → y ≡ x) → (if b then m.serial ∷ [] else []) ≡ k ∷ [] → IsPut (view s.fixed n) n (Delivering z last left count) y k
     by_case true is e = record {
       send = z;
       sender = ap (λ (w : Way). w.sender) (is refl) ∙ (target-of z x ((p.1).among x (way-among x left c.0))).0;
-      serial = sym (ap (λ i. i.serial) c.1) ∙ head m.serial k e;
+      serial = sym (ap (λ i. i.serial) c.1) ∙ head-is m.serial k e;
       loan = (p.0).loan;
       holds = λ q. refl;
     }

@@ -21,7 +21,7 @@ use Rattle.iox_model.specs.Outstandings.{outstanding_on, is_held, is_outstanding
 use Rattle.iox_model.specs.Peers.{port_at, lanes_of, ports_of_role, ways_from_client, lanes_to, ways_from_server, ways_from}
 use Rattle.iox_model.proofs.PlayedRuns.{split}
 use Rattle.iox_model.proofs.WholeLemmas.{some-is}
-use Rattle.iox_ledger.proofs.Orders.{at-most}
+use Rattle.iox_ledger.proofs.Orders.{at-most, same-le}
 use Rattle.iox_ledger.proofs.Truths.{both_true}
 use Rattle.iox_ledger.proofs.Counts.{count, count-fewer}
 use Rattle.iox_ledger.proofs.Ranges.{range-apart}
@@ -160,10 +160,7 @@ more : (a b c : ℕ) → a ≤ b → a * c ≤ b * c
 more a b c p = subst (λ k. k ≤ b * c) (mul_comm c a) (subst (λ k. c * a ≤ k) (mul_comm c b) (mul-le-mul_left c p))
 
 client-ways : (f : Fixed) (port : ℕ) → IsWithin f → length (ways_from_client f port) ≤ f.limits.servers
-client-ways f port within = at-most _ _ _ (same _ _ (length-map (ports_of_role f Server) (request_way port) ∙ role-count f Server)) (within.most Server)
-  where
-    same : (a b : ℕ) → a ≡ b → a ≤ b
-    same a b e = omega arith
+client-ways f port within = at-most _ _ _ (same-le _ _ (length-map (ports_of_role f Server) (request_way port) ∙ role-count f Server)) (within.most Server)
 
 lanes-least : (f : Fixed) (q : ℕ) → HasOwnPorts f → IsWithin f → IsAmong q (ports_of_role f Client) → lanes_of f q ≤ pool_of_client f.limits
 lanes-least f q own within a =

@@ -1,6 +1,6 @@
 -- A run of a service keeps to its limits: how many ports there are of a role, and how many lanes a
 -- client has.
-use Rattle.std.specs.Prelude.{◌≡◌, ℕ, ◌+◌, ◌*◌, ◌-◌, ◌<◌, ◌≤◌, Bool, true, false, ◌==◌, nat_le, List, [], ◌∷◌, ◌++◌, length, map, filter, Option, Some, None, min, max, refl}
+use Rattle.std.specs.Prelude.{◌≡◌, ℕ, ◌+◌, ◌*◌, ◌-◌, ◌<◌, ◌≤◌, Bool, true, false, ◌==◌, List, [], ◌∷◌, ◌++◌, length, map, filter, Option, Some, None, min, max, refl}
 use Rattle.std.specs.Option.{option_map_or}
 use Rattle.std.proofs.lemmas.List.{length-map}
 use Rattle.std.proofs.Common.{sym, subst, ap, ◌∙◌, arith, true≢false, inl, inr}
@@ -21,6 +21,7 @@ use Rattle.iox_model.specs.Peers.{ports_of_role}
 use Rattle.iox_model.proofs.MapLemmas.{either}
 use Rattle.iox_model.proofs.WholeLemmas.{or_else-none}
 use Rattle.iox_reachable.specs.Worlds.{IsServed}
+use Rattle.iox_ledger.proofs.Orders.{less}
 use Rattle.iox_ledger.proofs.Counts.{count-filter, count, one_if, count-cons, count-last}
 use Rattle.iox_ledger.proofs.Truths.{none-some}
 use Rattle.iox_ledger.proofs.Lists.{IsAmong, among-last, filter-among}
@@ -88,9 +89,6 @@ room-for f role o memory e = subst (λ n. n < most_ports f.limits role) (role-co
     free : (b : Bool) (r : Refusal) → refused_if b r ≡ None → b ≡ false
     free true r e = absurd (none-some r (sym e))
     free false r e = refl
-
-    less : (a b : ℕ) → nat_le a b ≡ false → b < a
-    less a b h = grind (arith)
 
 pub within-made : (f : Fixed) (node : ℕ) (role : Role) (id : UniqueSystemId) (o : Options) → count (λ p. same_role p.role role) f.ports < most_ports f.limits role
     → IsWithin f → Within f.limits (f.ports ++ new_port f node role id o ∷ [])

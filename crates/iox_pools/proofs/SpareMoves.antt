@@ -1,7 +1,7 @@
 -- Each moment of a call keeps what its counts were at its tests.
-use Rattle.std.specs.Prelude.{◌≡◌, ℕ, ◌<◌, Bool, true, false, if◌then◌else◌, ◌==◌, nat_le, List, [], ◌∷◌, Some, None, refl}
+use Rattle.std.specs.Prelude.{◌≡◌, ℕ, ◌<◌, Bool, true, false, if◌then◌else◌, ◌==◌, List, [], ◌∷◌, Some, None, refl}
 use Rattle.std.specs.List.{list_any}
-use Rattle.std.proofs.Common.{sym, subst, ◌∙◌, arith, true≢false}
+use Rattle.std.proofs.Common.{sym, subst, ◌∙◌, true≢false}
 use Rattle.iox_model.specs.declared.kind.Role.TheVariants.{Client, Server}
 use Rattle.iox_model.specs.declared.kind.Kind.TheVariants.{ActiveRequest}
 use Rattle.iox_model.specs.declared.way.Way.{Way}
@@ -26,6 +26,7 @@ use Rattle.iox_model.specs.Moments.{Moment, Deliver, Evict, Take, GiveBack, GetB
 use Rattle.iox_model.specs.Steps.{next, ends}
 use Rattle.iox_model.proofs.MapLemmas.{either}
 use Rattle.iox_model.proofs.WholeLemmas.{some-is}
+use Rattle.iox_ledger.proofs.Orders.{less}
 use Rattle.iox_ledger.proofs.Truths.{none-some}
 use Rattle.iox_ledger.proofs.Views.{View, view, IsAt}
 use Rattle.iox_pools.proofs.Spare.{is_pending, count-is, SpareLoan, SparePending, IsOfRole, SpareOutcome, SpareDoing}
@@ -56,9 +57,6 @@ asked-spare v gone out x shown p =
 -- the count is below its limit where the limit is not spent
 spare-pending : (f : Fixed) (n : ℕ) (h : Handle) → IsAt f.ports h.port n → is_active_spent f h ≡ false → SparePending (view f n) h
 spare-pending f n h at e u = subst (λ k. k < f.limits.active_requests) (count-is f n h.port is_pending at) (less _ _ e)
-  where
-    less : (a b : ℕ) → nat_le a b ≡ false → b < a
-    less a b h = grind (arith)
 
 request-spare : (f : Fixed) (n : ℕ) (gone : ℕ → Type 0) (out : Type 0) (h : Handle) (copied : Bool) (to : List ℕ) → IsAt f.ports h.port n
     → SpareDoing (view f n) gone out (sends_request f h copied to)

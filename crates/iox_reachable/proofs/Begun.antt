@@ -38,10 +38,6 @@ use Rattle.iox_ledger.proofs.Truths.{none-some, passes}
 
 -- ---- what is found
 
-abbrev IsNot : {A : Type 0} → Option A → Type 0
-IsNot None = Unit {0}
-IsNot (Some x) = ⊥
-
 found_too : {A : Type 0} (also test : A → Bool) (xs : List A) (x : A) → list_all also xs ≡ true → find test xs ≡ Some x → also x ≡ true
 found_too also test [] x all e = none-some x e
 found_too also test (y ∷ ys) x all e =

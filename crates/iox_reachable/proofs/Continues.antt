@@ -33,7 +33,7 @@ one_more : (n b : ℕ) (o : Bool) → o ≡ true → nat_le n (b + 0) ≡ true �
 one_more n b true e p = grind (arith)
 one_more n b false e p = absurd (true≢false (sym e))
 
-grows : (n b : ℕ) (c : Bool) → nat_le n (b + 0) ≡ true → nat_le n (b + (if c then 1 else 0)) ≡ true
+pub grows : (n b : ℕ) (c : Bool) → nat_le n (b + 0) ≡ true → nat_le n (b + (if c then 1 else 0)) ≡ true
 grows n b true p = grind (arith)
 grows n b false p = p
 

@@ -14,6 +14,7 @@ use Rattle.iox_reachable.specs.Worlds.{IsServed}
 use Rattle.iox_reachable.proofs.PortsKept.{OfPorts, IsSteady, numbered_says, is_kept}
 use Rattle.iox_reachable.proofs.Inductions.{served_keeps}
 use Rattle.iox_reachable.proofs.PortLemmas.{AreDistinctPorts, distinct-filter}
+use Rattle.iox_ledger.proofs.Orders.{less-next, next-is-less}
 use Rattle.iox_ledger.proofs.Truths.{both_true, or-false, or-neither}
 
 -- ---- numbers below the next one
@@ -29,10 +30,7 @@ below_more : (n : ℕ) (ps : List Port) → below n ps ≡ true → below (n + 1
 below_more n [] e = refl
 below_more n (p ∷ ps) e =
     let q : (nat_lt p.number n ≡ true) × (below n ps ≡ true) = split (nat_lt p.number n) (below n ps) e in
-    both_true (nat_lt p.number (n + 1)) (below (n + 1) ps) (still p.number n q.0) (below_more n ps q.1)
-  where
-    still : (k n : ℕ) → nat_lt k n ≡ true → nat_lt k (n + 1) ≡ true
-    still k n e = grind (arith)
+    both_true (nat_lt p.number (n + 1)) (below (n + 1) ps) (less-next p.number n q.0) (below_more n ps q.1)
 
 pub below_filter : (n : ℕ) (test : Port → Bool) (ps : List Port) → below n ps ≡ true → below n (filter test ps) ≡ true
 below_filter n test [] e = refl
@@ -43,16 +41,10 @@ below_filter n test (p ∷ ps) e =
 
 -- one more at the end
 pub below_next : (n : ℕ) (ps : List Port) (p : Port) → p.number ≡ n → below n ps ≡ true → below (n + 1) (ps ++ p ∷ []) ≡ true
-below_next n [] p is e = both_true (nat_lt p.number (n + 1)) true (next p.number n is) refl
-  where
-    next : (k n : ℕ) → k ≡ n → nat_lt k (n + 1) ≡ true
-    next k n e = grind (arith)
+below_next n [] p is e = both_true (nat_lt p.number (n + 1)) true (next-is-less p.number n is) refl
 below_next n (q ∷ qs) p is e =
     let r : (nat_lt q.number n ≡ true) × (below n qs ≡ true) = split (nat_lt q.number n) (below n qs) e in
-    both_true (nat_lt q.number (n + 1)) (below (n + 1) (qs ++ p ∷ [])) (still q.number n r.0) (below_next n qs p is r.1)
-  where
-    still : (k n : ℕ) → nat_lt k n ≡ true → nat_lt k (n + 1) ≡ true
-    still k n e = grind (arith)
+    both_true (nat_lt q.number (n + 1)) (below (n + 1) (qs ++ p ∷ [])) (less-next q.number n r.0) (below_next n qs p is r.1)
 
 -- a number that stands nowhere stands only at the end
 not_before : (n k : ℕ) (ps : List Port) (p : Port) → p.number ≡ k → nat_lt n k ≡ true → has_number n (map (λ q. q.number) ps) ≡ false

@@ -1,6 +1,6 @@
 -- What waits, and what receivers have, between calls, and what waits in the midst of a call.
-use Rattle.std.specs.Prelude.{◌≡◌, ℕ, ◌+◌, ◌≤◌, Bool, true, false, if◌then◌else◌, ◌==◌, nat_le, length, filter, Some, refl}
-use Rattle.std.proofs.Common.{sym, subst, ap, ◌∙◌, eqb-true, arith}
+use Rattle.std.specs.Prelude.{◌≡◌, ℕ, ◌+◌, ◌≤◌, true, if◌then◌else◌, ◌==◌, nat_le, length, filter, Some, refl}
+use Rattle.std.proofs.Common.{sym, subst, ap, ◌∙◌, eqb-true}
 use Rattle.std.proofs.lemmas.List.{length-map}
 use Rattle.iox_model.specs.declared.way.Way.{Way}
 use Rattle.iox_model.specs.Begins.{start}
@@ -11,8 +11,9 @@ use Rattle.iox_model.specs.States.{Handle, Fixed, State}
 use Rattle.iox_model.specs.WholeCalls.{moved_by, left_by}
 use Rattle.iox_model.proofs.WholeLemmas.{moved_by-fixed}
 use Rattle.iox_ledger.proofs.Truths.{by_cases}
-use Rattle.iox_ledger.proofs.Orders.{le-from}
+use Rattle.iox_ledger.proofs.Orders.{le-from, le-is}
 use Rattle.iox_ledger.specs.QueueLaws.{evicts_next}
+use Rattle.iox_reachable.proofs.Continues.{grows}
 use Rattle.iox_reachable.proofs.Waiting.{by_cases_of}
 use Rattle.iox_runs.specs.Moving.{QueuesStayWithin}
 use Rattle.iox_runs.specs.Resting.{QueuesRestWithin, QueuesOfTheGoneRestWithin, BorrowsRestWithin}
@@ -40,21 +41,14 @@ queue_stays s t node d v same g connected =
     (by_cases (node_of_port t.fixed v.sender == node)
     (λ mine. subst (λ b. nat_le (length (t.waiting v)) (buffer_on t.fixed v + (if b then 1 else 0)) ≡ true) (sym (by_cases_of v (Some d)))
     ((g.call).0 v (there, eqb-true (node_of_port t.fixed v.sender) node mine)))
-    (λ other. one_more (length (t.waiting v)) (buffer_on t.fixed v) (evicts_next v d) (g.others (node_of_port t.fixed v.sender) other v (there, refl))))
-  where
-    one_more : (a b : ℕ) (x : Bool) → nat_le a (b + 0) ≡ true → nat_le a (b + (if x then 1 else 0)) ≡ true
-    one_more a b true e = grind (arith)
-    one_more a b false e = e
+    (λ other. grows (length (t.waiting v)) (buffer_on t.fixed v) (evicts_next v d) (g.others (node_of_port t.fixed v.sender) other v (there, refl))))
 
 pub queues_stay_within : QueuesStayWithin
 queues_stay_within s node call c ms v left named may connected =
     let d : Doing = start s node c call in
-    le-true (length ((moved_by s ms).waiting v)) (buffer_on s.fixed v + (if evicts_next v (left_by s node d ms) then 1 else 0))
+    le-is (length ((moved_by s ms).waiting v)) (buffer_on s.fixed v + (if evicts_next v (left_by s node d ms) then 1 else 0))
     (queue_stays s (moved_by s ms) node (left_by s node d ms) v (moved_by-fixed s ms)
     (goes_by s node d ms (begins s node c call (left_calm s left) named) may) connected)
-  where
-    le-true : (a b : ℕ) → nat_le a b ≡ true → a ≤ b
-    le-true a b e = grind (arith)
 
 pub borrows_rest_within : BorrowsRestWithin
 borrows_rest_within s v left =

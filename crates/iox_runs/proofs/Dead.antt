@@ -15,7 +15,7 @@ use Rattle.iox_model.proofs.DeathLaws.{IsGone, found, living_in, stays_gone, set
 use Rattle.iox_model.proofs.MapLemmas.{either}
 use Rattle.iox_model.proofs.WholeLemmas.{moved-members}
 use Rattle.iox_runs.specs.Dying.{TheDeadStayDead}
-use Rattle.iox_ledger.proofs.Truths.{by_cases}
+use Rattle.iox_ledger.proofs.Truths.{by_cases, not-false}
 use Rattle.iox_ledger.proofs.Orders.{less-next}
 use Rattle.iox_reachable.proofs.Inductions.{IsOfNodes, IsKept, run_keeps}
 
@@ -52,12 +52,8 @@ left_gone n node (x ∷ xs) p =
     (λ other. in_front (x.number == node) x (find (λ k. k.number == node) xs) (find (λ k. k.number == node) (without n xs)) p (left_gone n node xs))
     (λ gone. by_cases (x.number == node)
     (λ same. subst (λ k. IsGone (living_in (without n xs) k))
-    (sym (eqb-true x.number n (not-not (x.number == n) gone)) ∙ eqb-true x.number node same) (none_left n xs))
+    (sym (eqb-true x.number n (not-false (x.number == n) gone)) ∙ eqb-true x.number node same) (none_left n xs))
     (λ other. left_gone n node xs (subst (λ (b : Bool). IsGone (found (if b then Some x else find (λ k. k.number == node) xs))) other p)))
-  where
-    not-not : (b : Bool) → not b ≡ false → b ≡ true
-    not-not true e = refl
-    not-not false e = absurd (true≢false e)
 
 -- ---- calls change no node
 

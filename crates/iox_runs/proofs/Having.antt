@@ -12,7 +12,7 @@ use Rattle.iox_model.specs.Settings.{is_client, Limits}
 use Rattle.iox_model.specs.States.{Port, Handle, Fixed}
 use Rattle.iox_model.proofs.MapLemmas.{either, same_way-true}
 use Rattle.iox_ledger.proofs.ReceivedHandles.{received-itself, no_received, received-elsewhere, receipt-way}
-use Rattle.iox_ledger.proofs.Orders.{at-most, same-le}
+use Rattle.iox_ledger.proofs.Orders.{at-most, same-le, less-le}
 use Rattle.iox_ledger.proofs.Counts.{count-gone, count-swap, count, one_if, count-last, count-less, one-at-most}
 use Rattle.iox_ledger.proofs.Truths.{never, by_cases}
 use Rattle.iox_ledger.proofs.Lists.{IsAmong, among-last, filter-among}
@@ -213,13 +213,10 @@ pub more_numbers : (l : Limits) (ps : List Port) (next later : ℕ) (handles : �
     → nat_le next later ≡ true → Holdings l ps next handles borrowed expired → Holdings l ps later handles borrowed expired
 more_numbers l ps next later handles borrowed expired more p = record {
   kept = p.kept;
-  known = λ n h among received. still (way_of h).sender next later more (p.known n h among received);
-  away = λ r n among. ((p.away r n among).0, still n next later more (p.away r n among).1);
+  known = λ n h among received. less-le (way_of h).sender next later more (p.known n h among received);
+  away = λ r n among. ((p.away r n among).0, less-le n next later more (p.away r n among).1);
   within = p.within;
   nobody = p.nobody;
   counts = p.counts;
   few = p.few;
 }
-  where
-    still : (a b c : ℕ) → nat_le b c ≡ true → nat_lt a b ≡ true → nat_lt a c ≡ true
-    still a b c e f = grind (arith)

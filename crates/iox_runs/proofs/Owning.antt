@@ -1,7 +1,7 @@
 -- What handles and queues hold in each state that is left: no more than receivers may borrow, and no
 -- more than the buffer, also of senders that are gone.
 use Rattle.std.specs.Prelude.{◌≡◌, ℕ, ◌≤◌, Bool, true, false, not, ◌&&◌, nat_lt, List, [], ◌∷◌, ◌++◌, length, map, ◌⊎◌}
-use Rattle.std.proofs.Common.{sym, subst, ap, ◌∙◌, true≢false, arith, inl, inr}
+use Rattle.std.proofs.Common.{sym, subst, ap, ◌∙◌, true≢false, inl, inr}
 use Rattle.iox_model.specs.declared.way.Way.{Way}
 use Rattle.iox_model.specs.Doings.{Sending, Doing, Delivering}
 use Rattle.iox_model.specs.Handles.{is_received, way_of}
@@ -18,7 +18,7 @@ use Rattle.iox_model.proofs.MapLemmas.{either, put-else, same_way-true}
 use Rattle.iox_model.proofs.WholeLemmas.{moved-fixed}
 use Rattle.iox_ledger.proofs.Truths.{false_if}
 use Rattle.iox_ledger.proofs.Counts.{count}
-use Rattle.iox_ledger.proofs.Orders.{same}
+use Rattle.iox_ledger.proofs.Orders.{same, at-most}
 use Rattle.iox_ledger.proofs.Lists.{IsAmong, among-last, map-among, way-among, rest-among, length-rest}
 use Rattle.iox_ledger.proofs.Phases.{target-of}
 use Rattle.iox_ledger.proofs.Senders.{IsMade}
@@ -163,8 +163,5 @@ moved_owned s node d m r fits p c o =
       gone = λ y gone.
           let before : any_at y.sender s.fixed.ports ≡ false = ap (λ (f : Fixed). any_at y.sender f.ports) (sym same) ∙ gone in
           subst (λ (f : Fixed). length ((moved s m).waiting y) ≤ most_in f.limits f.ports y) (sym same)
-          (through (length ((moved s m).waiting y)) (length (s.waiting y)) (most_in s.fixed.limits s.fixed.ports y) (moved_gone s node d m r fits p c y before) (o.gone y before));
+          (at-most (length ((moved s m).waiting y)) (length (s.waiting y)) (most_in s.fixed.limits s.fixed.ports y) (moved_gone s node d m r fits p c y before) (o.gone y before));
     }
-  where
-    through : (a b c : ℕ) → a ≤ b → b ≤ c → a ≤ c
-    through a b c e h = omega arith

@@ -1,8 +1,8 @@
 -- What handles and queues hold as a port goes.
-use Rattle.std.specs.Prelude.{◌≡◌, ℕ, ◌+◌, ◌≤◌, Bool, true, false, not, ◌&&◌, ◌||◌, if◌then◌else◌, ◌==◌, nat_lt, nat_le, List, [], ◌∷◌, length, ◌⊎◌, refl}
+use Rattle.std.specs.Prelude.{◌≡◌, ℕ, ◌≤◌, Bool, true, false, not, ◌&&◌, ◌||◌, if◌then◌else◌, ◌==◌, nat_lt, nat_le, List, [], ◌∷◌, length, ◌⊎◌, refl}
 use Rattle.std.specs.List.{range_with_len}
 use Rattle.std.specs.Option.{option_map_or}
-use Rattle.std.proofs.Common.{sym, subst, ap, ap₂, ◌∙◌, true≢false, eqb-true, arith, inl, inr}
+use Rattle.std.proofs.Common.{sym, subst, ap, ap₂, ◌∙◌, true≢false, eqb-true, inl, inr}
 use Rattle.iox_model.specs.declared.kind.Role.{Role}
 use Rattle.iox_model.specs.declared.kind.Role.TheVariants.{Client, Server}
 use Rattle.iox_model.specs.declared.way.Way.{Way}
@@ -17,7 +17,7 @@ use Rattle.iox_model.specs.States.{Port, Handle, Fixed, State}
 use Rattle.iox_model.proofs.MapLemmas.{either, eqb-refl}
 use Rattle.iox_model.proofs.PlayedRuns.{split}
 use Rattle.iox_ledger.proofs.Counts.{count, count-none}
-use Rattle.iox_ledger.proofs.Orders.{zero-le, least}
+use Rattle.iox_ledger.proofs.Orders.{zero-le, least, le-from}
 use Rattle.iox_ledger.proofs.Truths.{false_if, never, by_cases, or-false}
 use Rattle.iox_ledger.proofs.Lists.{IsAmong, any-among, among-last, number-among, among-number, length-none, rest-among}
 use Rattle.iox_ledger.proofs.Senders.{IsMade}
@@ -45,15 +45,12 @@ none_there (x ∷ xs) no_one = absurd (no_one x (inl refl))
 pub there_within : (s : State) (y : Way) → Rested s → Owned s → any_at y.sender s.fixed.ports ≡ true → length (s.waiting y) ≤ most_in s.fixed.limits s.fixed.ports y
 there_within s y r o there = by_list (s.waiting y) refl
   where
-    le_from : (a b : ℕ) → nat_le a (b + 0) ≡ true → a ≤ b
-    le_from a b e = grind (arith)
-
     by_list : (xs : List Message) → s.waiting y ≡ xs → length (s.waiting y) ≤ most_in s.fixed.limits s.fixed.ports y
     by_list [] e = length-none (s.waiting y) (most_in s.fixed.limits s.fixed.ports y) e
     by_list (m ∷ ms) e =
         let fits : WaitFits s.fixed.ports s.fixed.next_number s.fixed.expired y m = o.waits y m (subst (λ (ys : List Message). IsAmong m ys) (sym e) (inl refl)) in
         subst (λ role. length (s.waiting y) ≤ buffer_of s.fixed.limits role) (the_other (role_in s.fixed.ports y.sender) (role_in s.fixed.ports y.receiver) (fits.role there))
-        (le_from (length (s.waiting y)) (buffer_on s.fixed y) (r.within (node_in s.fixed.ports y.sender) y (there, refl)))
+        (le-from (length (s.waiting y)) (buffer_on s.fixed y) (r.within (node_in s.fixed.ports y.sender) y (there, refl)))
 
 -- ---- who is expired once a port is gone
 

@@ -15,8 +15,8 @@ use Rattle.iox_model.specs.States.{Port, Fixed, State}
 use Rattle.iox_model.proofs.MapLemmas.{same_way-true}
 use Rattle.iox_model.proofs.PlayedRuns.{split}
 use Rattle.iox_ledger.proofs.Counts.{count, count-none}
-use Rattle.iox_ledger.proofs.Orders.{zero-le, less-next}
-use Rattle.iox_ledger.proofs.Truths.{false_if, never, by_cases}
+use Rattle.iox_ledger.proofs.Orders.{zero-le, less-next, same-not-less}
+use Rattle.iox_ledger.proofs.Truths.{false_if, never, by_cases, second-fails}
 use Rattle.iox_ledger.proofs.Views.{role_in}
 use Rattle.iox_runs.proofs.Ports.{any_at, node_in, any_dropped, first_dropped, at_more, at_last, first_more}
 use Rattle.iox_runs.proofs.Rests.{Rests, Rested}
@@ -135,7 +135,7 @@ made_has f p is r q =
           (λ lost.
           let new : p.number ≡ y.sender = lost_more f p y kept lost (is_away (any_at y.sender f.ports) (not (has_number y.sender (f.expired y.receiver))) lost) in
           zero-le (had_in f.ports f.handles y) (f.borrowed y)
-          (none_of_next f (node_in f.ports y.receiver) y q (itself y.sender f.next_number (sym new ∙ is))))
+          (none_of_next f (node_in f.ports y.receiver) y q (same-not-less y.sender f.next_number (sym new ∙ is))))
           (q.counts y)))
           (λ none. zero-le (had_in ps f.handles y) (f.borrowed y) (none_received f (node_in ps y.receiver) y r none));
       few = λ y. by_cases (any_at y.receiver f.ports)
@@ -143,21 +143,14 @@ made_has f p is r q =
           (subst (λ role. had_in f.ports f.handles y ≤ borrow_limit_of f.limits (other_role role)) (sym (role_more y.receiver f.ports p there)) (q.few y)))
           (λ none. zero-le (had_in ps f.handles y) (limit_in f.limits ps y) (none_received f (node_in ps y.receiver) y r none));
     }
-  where
-    itself : (a b : ℕ) → a ≡ b → nat_lt a b ≡ false
-    itself a b e = grind (arith)
 
 -- a pair that was there is there
 still_kept : (f : Fixed) (p : Port) (y : Way) → is_lost f.ports f.expired y ≡ false → is_lost (f.ports ++ p ∷ []) f.expired y ≡ false
 still_kept f p y kept =
     by_cases (any_at y.sender f.ports)
     (λ there. ap (λ b. not b && not (has_number y.sender (f.expired y.receiver))) (at_more y.sender f.ports p there))
-    (λ none. second (not (any_at y.sender (f.ports ++ p ∷ []))) (not (has_number y.sender (f.expired y.receiver)))
+    (λ none. second-fails (not (any_at y.sender (f.ports ++ p ∷ []))) (not (has_number y.sender (f.expired y.receiver)))
     (sym (ap (λ b. not b && not (has_number y.sender (f.expired y.receiver))) none) ∙ kept))
-  where
-    second : (a b : Bool) → b ≡ false → (a && b) ≡ false
-    second true b e = e
-    second false b e = refl
 
 pub made_owned : (s : State) (p : Port) → p.number ≡ s.fixed.next_number → Rested s → Owned s → Owned (with_fixed s (with_port s.fixed p))
 made_owned s p is r o =

@@ -5,6 +5,7 @@ use Rattle.std.specs.Option.{option_map_or}
 use Rattle.std.proofs.Common.{sym, subst, ap, ◌∙◌, true≢false, eqb-true, arith}
 use Rattle.iox_model.specs.States.{Port}
 use Rattle.iox_model.specs.Ends.{port_dropped}
+use Rattle.iox_model.proofs.CallLaws.{not-true}
 use Rattle.iox_model.proofs.MapLemmas.{either, eqb-refl}
 use Rattle.iox_model.proofs.PlayedRuns.{split}
 use Rattle.iox_reachable.proofs.ServedPorts.{below}
@@ -103,14 +104,10 @@ any_others gone k (p ∷ ps) e =
     either (λ (qs : List Port). any_at k qs ≡ true → (any_at k (p ∷ ps) ≡ true) × ((k == gone) ≡ false)) (not (p.number == gone))
     (p ∷ others_than gone ps) (others_than gone ps)
     (λ stays r. by_cases (p.number == k)
-    (λ same. (or-left (p.number == k) (any_at k ps) same, subst (λ j. (j == gone) ≡ false) (eqb-true p.number k same) (differs (p.number == gone) stays)))
+    (λ same. (or-left (p.number == k) (any_at k ps) same, subst (λ j. (j == gone) ≡ false) (eqb-true p.number k same) (not-true (p.number == gone) stays)))
     (λ other. later (any_others gone k ps (or-rest (p.number == k) (any_at k (others_than gone ps)) r other))))
     (λ u r. later (any_others gone k ps r)) e
   where
-    differs : (b : Bool) → not b ≡ true → b ≡ false
-    differs true e = absurd (true≢false (sym e))
-    differs false e = refl
-
     later : (any_at k ps ≡ true) × ((k == gone) ≡ false) → (any_at k (p ∷ ps) ≡ true) × ((k == gone) ≡ false)
     later q = (or-right (p.number == k) (any_at k ps) q.0, q.1)
 

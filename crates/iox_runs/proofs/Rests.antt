@@ -1,6 +1,6 @@
 -- What holds of each state that a run leaves: ports and handles have numbers of their own, a handle
 -- belongs to a port of its node, and no more waits than the buffer holds.
-use Rattle.std.specs.Prelude.{◌≡◌, ℕ, ◌+◌, ◌-◌, Bool, true, false, not, ◌&&◌, if◌then◌else◌, ◌==◌, nat_lt, List, [], ◌∷◌, ◌++◌, map, None, refl}
+use Rattle.std.specs.Prelude.{◌≡◌, ℕ, ◌+◌, ◌-◌, Bool, true, false, not, if◌then◌else◌, ◌==◌, nat_lt, List, [], ◌∷◌, ◌++◌, map, None, refl}
 use Rattle.std.specs.List.{list_all}
 use Rattle.std.proofs.Common.{sym, subst, ap, ◌∙◌, eqb-true, inl, inr}
 use Rattle.iox_model.specs.declared.way.Way.{Way}
@@ -11,7 +11,7 @@ use Rattle.iox_model.specs.Counts.{is_same_handle, without_handle, with_handle, 
 use Rattle.iox_model.proofs.MapLemmas.{either}
 use Rattle.iox_ledger.proofs.HandlesKept.{with-numbers}
 use Rattle.iox_ledger.proofs.Orders.{less-next, next-is-less, same-not-less}
-use Rattle.iox_ledger.proofs.Truths.{never}
+use Rattle.iox_ledger.proofs.Truths.{never, both_true}
 use Rattle.iox_ledger.proofs.Lists.{IsAmong, NoRepeats, among-last, filter-among, map-among, no_repeats-last, no_repeats-map_filter}
 use Rattle.iox_reachable.proofs.Settled.{is-port_of}
 use Rattle.iox_reachable.proofs.ServedPorts.{below, IsNumbered, numbered_keeps}
@@ -46,11 +46,7 @@ pub record Rested (s : State) : Type 0 where
 
 pub all_pass : {A : Type 0} (test : A → Bool) (xs : List A) → ((x : A) → IsAmong x xs → test x ≡ true) → list_all test xs ≡ true
 all_pass test [] each = refl
-all_pass test (x ∷ xs) each = both (test x) (list_all test xs) (each x (inl refl)) (all_pass test xs (λ y p. each y (inr p)))
-  where
-    both : (a b : Bool) → a ≡ true → b ≡ true → (a && b) ≡ true
-    both true b e h = h
-    both false b e h = e
+all_pass test (x ∷ xs) each = both_true (test x) (list_all test xs) (each x (inl refl)) (all_pass test xs (λ y p. each y (inr p)))
 
 pub rests_own : (f : Fixed) (node : ℕ) → Rests f → has_own f node ≡ true
 rests_own f node r =

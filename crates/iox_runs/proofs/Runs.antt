@@ -23,7 +23,7 @@ use Rattle.iox_reachable.proofs.ServedPorts.{distinct_next, below_next}
 use Rattle.iox_reachable.proofs.Sound.{IsPortOf, IsWithin}
 use Rattle.iox_runs.specs.Lefts.{IsLeft}
 use Rattle.iox_ledger.proofs.Truths.{by_cases}
-use Rattle.iox_ledger.proofs.Orders.{not-less-next, less-next}
+use Rattle.iox_ledger.proofs.Orders.{not-less-next, less-next, same-not-less}
 use Rattle.iox_ledger.proofs.Lists.{IsAmong, le-none}
 use Rattle.iox_runs.proofs.Along.{left_keeps}
 use Rattle.iox_runs.proofs.Ports.{any_at, first_at, at_last, first_more, port_more}
@@ -71,10 +71,7 @@ made_within s p n is r v own =
     subst (λ o. nat_le (length (s.waiting v)) (buffer_of s.fixed.limits (option_map_or (λ (q : Port). q.role) o Client) + 0) ≡ true) (sym old)
     (r.within n v (there, ap (λ o. option_map_or (λ (q : Port). q.node) o 0) (sym old) ∙ own.1)))
     (λ new. le-none (s.waiting v) (buffer_on (with_port s.fixed p) v + 0)
-    (r.unused v (itself v.sender s.fixed.next_number (sym (at_last v.sender s.fixed.ports p own.0 new) ∙ is))))
-  where
-    itself : (a b : ℕ) → a ≡ b → nat_lt a b ≡ false
-    itself a b e = grind (arith)
+    (r.unused v (same-not-less v.sender s.fixed.next_number (sym (at_last v.sender s.fixed.ports p own.0 new) ∙ is))))
 
 pub made_calm : (s : State) (p : Port) → p.number ≡ s.fixed.next_number → Calm s → Calm (with_fixed s (with_port s.fixed p))
 made_calm s p is c = record {

@@ -17,7 +17,7 @@ use Rattle.iox_model.specs.Names.{is_port}
 use Rattle.iox_model.specs.Settings.{is_client}
 use Rattle.iox_model.specs.States.{Port, Handle, Fixed, State}
 use Rattle.iox_model.proofs.MapLemmas.{either}
-use Rattle.iox_ledger.proofs.Orders.{le-refl, le-next}
+use Rattle.iox_ledger.proofs.Orders.{le-refl, le-next, less-le, less-next}
 use Rattle.iox_ledger.proofs.Lists.{IsAmong}
 use Rattle.iox_ledger.proofs.Senders.{is_loan, IsMade}
 use Rattle.iox_reachable.proofs.Sound.{IsOwn, FitsOutcome}
@@ -93,10 +93,7 @@ takes_own f h w hub p kept is below stays was there =
     subst (λ (g : Fixed). Has (borrows (added g h) w)) (sym (numbered-hub f h.node hub))
     (takes_few f.limits f.ports (f.next_number + 1) f.handles f.borrowed f.expired h w
     (more_numbers f.limits f.ports f.next_number (f.next_number + 1) f.handles f.borrowed f.expired (le-next f.next_number) p) kept is below stays
-    (still w.sender f.next_number was) there)
-  where
-    still : (a b : ℕ) → nat_lt a b ≡ true → nat_lt a (b + 1) ≡ true
-    still a b e = grind (arith)
+    (less-next w.sender f.next_number was) there)
 
 drops_own : (f : Fixed) (h : Handle) → Has f → Has (dropped f h)
 drops_own f h p = drops_few f.limits f.ports f.next_number f.handles f.borrowed f.expired h p
@@ -121,16 +118,13 @@ with_owned s f o has ports limits expired next = record {
       (subst (λ ps. length (s.waiting y) ≤ most_in s.fixed.limits ps y) (sym ports) (o.gone y (ap (any_at y.sender) (sym ports) ∙ away)));
 }
   where
-    still : (a b c : ℕ) → nat_le b c ≡ true → nat_lt a b ≡ true → nat_lt a c ≡ true
-    still a b c e h = grind (arith)
-
     later : (ps : List Port) (expired : ℕ → List ℕ) (y : Way) (m : Message) → WaitFits ps s.fixed.next_number expired y m → WaitFits ps f.next_number expired y m
     later ps expired y m p = record {
       sender = p.sender;
       lane = p.lane;
       role = p.role;
       kept = p.kept;
-      below = still y.sender s.fixed.next_number f.next_number next p.below;
+      below = less-le y.sender s.fixed.next_number f.next_number next p.below;
       there = p.there;
     }
 
