@@ -75,11 +75,13 @@ amid-is s w y a =
       ends = ends;
       counted = λ k. count-out (is k) there y ∙ u.counts y ends k;
       size = elim (u.within y ends) as (λ z. out any (moved_by s ms) y (had_on there y) ≤ most_on s.fixed y + 1) [
-        | inl p ↦ plus (out any (moved_by s ms) y (had_on there y)) (most_on s.fixed y) (subst (λ (f : Fixed). out any (moved_by s ms) y (had_on there y) ≤ most_on f y) same p)
+        | inl p ↦ plus (out any (moved_by s ms) y (had_on there y)) (most_on s.fixed y)
+              (subst (λ (f : Fixed). out any (moved_by s ms) y (had_on there y) ≤ most_on f y) same p)
         | inr p ↦ subst (λ n. n ≤ most_on s.fixed y + 1) (sym (length-out there y))
             (sums (length ((moved_by s ms).waiting y)) (length (had_on there y)) (length ((moved_by s ms).returned y)) (length ((moved_by s ms).in_hand y))
             (buffer_on s.fixed y) (borrow_limit_on s.fixed y) (one_if (evicts_next y d)) (one_if (has_evicted y d))
-            (queues_stay_within s node call c ms y a.0 named may (split (any_at y.sender s.fixed.ports) (any_at y.receiver s.fixed.ports) (live-ends s.fixed y a.1)).0)
+            (queues_stay_within s node call c ms y a.0 named may
+            (split (any_at y.sender s.fixed.ports) (any_at y.receiver s.fixed.ports) (live-ends s.fixed y a.1)).0)
             (borrows_stay_within s node call c ms y a.0 named may) (ap length p.1) (u.hand y) (one-more d y))
       ];
     })

@@ -75,7 +75,8 @@ waits-fit s o y m among =
       p.sender,
       λ server. by_cases (any_at y.sender s.fixed.ports)
           (λ there. p.lane (client (is_client (role_in s.fixed.ports y.sender)) (is_client (role_in s.fixed.ports y.receiver)) (p.role there) server))
-          (λ away. absurd (true≢false (sym (ap (λ o. is_client (option_map_or (λ (q : Port). q.role) o Client)) (none_at y.sender s.fixed.ports away)) ∙ server))),
+          (λ away. absurd (true≢false (sym (ap (λ o. is_client (option_map_or (λ (q : Port). q.role) o Client)) (none_at y.sender s.fixed.ports away))
+          ∙ server))),
     )
   where
     client : (a b : Bool) → a ≡ not b → a ≡ false → b ≡ true
@@ -105,14 +106,18 @@ hand-fits s n d (Evict w) y c p = absurd c
 hand-fits s n d m y c p = tt
 
 -- what is out after a moment, and is got back by it, and what was out, and is put there
-follows : (s : State) (n : ℕ) (d : Doing) (m : Moment) (y : Way) (value : ℕ → Bool) → Underway s n d → Holds s m → (next s n d m).condition → has_ends s.fixed y ≡ true
-    → out value (moved s m) y (had_while s.fixed n (next s n d m).after y) + count value (got_on y m) ≡ out value s y (had_while s.fixed n d y) + count value (put_on y m)
+follows : (s : State) (n : ℕ) (d : Doing) (m : Moment) (y : Way) (value : ℕ → Bool) → Underway s n d → Holds s m → (next s n d m).condition
+    → has_ends s.fixed y ≡ true
+    → out value (moved s m) y (had_while s.fixed n (next s n d m).after y) + count value (got_on y m)
+    ≡ out value s y (had_while s.fixed n d y) + count value (put_on y m)
 follows s n d m y value u h c ends =
     out-follows value s (moved s m) y m (had_while s.fixed n d y) (had_while s.fixed n (next s n d m).after y)
-    (moved-shifts value s m y h (is-counted s.fixed y u.hub ends) (at-most-one (length (s.in_hand y)) (has_evicted y d) (u.hand y)) (hand-fits s n d m y c (u.hand y)))
+    (moved-shifts value s m y h (is-counted s.fixed y u.hub ends) (at-most-one (length (s.in_hand y)) (has_evicted y d) (u.hand y))
+    (hand-fits s n d m y c (u.hand y)))
     (had-follows s n d m y value (u.goes).fixed ((u.goes).call).1 u.stands u.release (nobody_is_forgotten s.fixed n y.sender ((u.hub).forgot n)) c)
 
-moved-counts : (s : State) (n : ℕ) (d : Doing) (m : Moment) (y : Way) (k : ℕ) → Underway s n d → Holds s m → (next s n d m).condition → has_ends s.fixed y ≡ true
+moved-counts : (s : State) (n : ℕ) (d : Doing) (m : Moment) (y : Way) (k : ℕ) → Underway s n d → Holds s m → (next s n d m).condition
+    → has_ends s.fixed y ≡ true
     → out (is k) (moved s m) y (had_while s.fixed n (next s n d m).after y) ≡ one_if ((moved s m).delivered y k)
 moved-counts s n d m y k u h c ends =
     moved-counted s m y (had_while s.fixed n d y) (had_while s.fixed n (next s n d m).after y) h
@@ -176,7 +181,8 @@ moved-underway s n d m u h c =
       goes = goes_by s n d (m ∷ []) u.goes (h, c, tt);
       hub = subst IsHub (sym same) u.hub;
       few = subst AreFew (sym same) u.few;
-      stands = subst (λ (f : Fixed). Stands (view f n) n after) (sym same) (next-stands s n d m (own_ports s n d u.goes) (waits-fit s (u.goes).owned) h u.stands c);
+      stands = subst (λ (f : Fixed). Stands (view f n) n after) (sym same)
+          (next-stands s n d m (own_ports s n d u.goes) (waits-fit s (u.goes).owned) h u.stands c);
       release = next-release s n d m c u.release;
       hand = λ y. moved-hand s n d m y c (u.hand y);
       emptied = λ y e. moved-emptied s n d m y u.stands h c (u.emptied y) (subst (λ (f : Fixed). is_emptied_by f y after ≡ true) same e);
@@ -189,7 +195,8 @@ moved-underway s n d m u h c =
           (moved-counts s n d m y k u h c (subst (λ (f : Fixed). has_ends f y ≡ true) same ends));
       within = λ y ends.
           let now : has_ends s.fixed y ≡ true = subst (λ (f : Fixed). has_ends f y ≡ true) same ends in
-          subst (λ (f : Fixed). (out any (moved s m) y (had_while f n after y) ≤ most_on f y) ⊎ ((is_delivering after ≡ true) × ((moved s m).returned y ≡ []))) (sym same)
+          subst (λ (f : Fixed). (out any (moved s m) y (had_while f n after y) ≤ most_on f y)
+          ⊎ ((is_delivering after ≡ true) × ((moved s m).returned y ≡ []))) (sym same)
           (moved-within s n d m y u h c now (u.within y now));
     }
 

@@ -80,13 +80,15 @@ is-within s y c b ends = elim (b.within y ends) as (λ u. out any s y (had_in s.
     has : length (had_in s.fixed y) ≤ borrow_limit_on s.fixed y
     has =
         subst (λ k. k ≤ borrow_limit_on s.fixed y)
-        (sym (length-map (filter (has_received y) (s.fixed.handles (node_in s.fixed.ports y.receiver))) (λ (h : Handle). h.message.serial))) ((c.owned).has.few y)
+        (sym (length-map (filter (has_received y) (s.fixed.handles (node_in s.fixed.ports y.receiver))) (λ (h : Handle). h.message.serial)))
+        ((c.owned).has.few y)
 
 -- ---- the begin of a call
 
 pub are-few : (s : State) → Books s → AreFew s.fixed
 are-few s b n port k =
-    less (rights s.fixed n port k) (one_if (s.delivered (record { sender = port; receiver = 0; lane = 0 }) k)) (b.fresh n (record { sender = port; receiver = 0; lane = 0 }) k)
+    less (rights s.fixed n port k) (one_if (s.delivered (record { sender = port; receiver = 0; lane = 0 }) k))
+    (b.fresh n (record { sender = port; receiver = 0; lane = 0 }) k)
   where
     less : (a b : ℕ) → a + b ≤ 1 → a ≤ 1
     less a b p = omega arith
@@ -122,7 +124,8 @@ begins-underway s n c call r b named = record {
     had y = by_case (node_in s.fixed.ports y.receiver == n) refl
       where
         by_case : (b : Bool) → (node_in s.fixed.ports y.receiver == n) ≡ b
-            → held_on y (s.fixed.handles (node_in s.fixed.ports y.receiver)) (if b then Some d else None) ≡ held_on y (s.fixed.handles (node_in s.fixed.ports y.receiver)) None
+            → held_on y (s.fixed.handles (node_in s.fixed.ports y.receiver)) (if b then Some d else None)
+            ≡ held_on y (s.fixed.handles (node_in s.fixed.ports y.receiver)) None
         by_case true e =
             subst (λ j. held_on y (s.fixed.handles j) (Some d) ≡ held_on y (s.fixed.handles j) None) (sym (eqb-true (node_in s.fixed.ports y.receiver) n e))
             ((well y).held (nobody_is_forgotten s.fixed n y.sender ((b.hub).forgot n)))
@@ -154,11 +157,13 @@ same-ends f g y p = ap₂ (λ a b. a && b) (p.any y.sender) (p.any y.receiver)
 pub sent-or-not : (s : State) (d : Doing) (o : Outcome) (y : Way) (k : ℕ) → ends s d ≡ Some o → IsSent o y.sender k ⊎ (IsPassed y k d → ⊥)
 sent-or-not s (Delivering x last [] count) o y k e =
     by_cases (x.loan.port == y.sender)
-    (λ port. by_cases (x.loan.message.serial == k) (λ serial. inl (sent (is_over s last) e (eqb-true x.loan.port y.sender port, eqb-true x.loan.message.serial k serial)))
+    (λ port. by_cases (x.loan.message.serial == k)
+    (λ serial. inl (sent (is_over s last) e (eqb-true x.loan.port y.sender port, eqb-true x.loan.message.serial k serial)))
     (λ other. inr (λ p. never (x.loan.message.serial == k) (eq-eqb x.loan.message.serial k p.1) other)))
     (λ other. inr (λ p. never (x.loan.port == y.sender) (eq-eqb x.loan.port y.sender p.0) other))
   where
-    sent : (b : Bool) → (if b then None else Some (Sends x.loan x.copied count)) ≡ Some o → (x.loan.port ≡ y.sender) × (x.loan.message.serial ≡ k) → IsSent o y.sender k
+    sent : (b : Bool) → (if b then None else Some (Sends x.loan x.copied count)) ≡ Some o → (x.loan.port ≡ y.sender) × (x.loan.message.serial ≡ k)
+        → IsSent o y.sender k
     sent true e q = absurd (none-some o e)
     sent false e q = subst (λ (a : Outcome). IsSent a y.sender k) (some-is (Sends x.loan x.copied count) o e) q
 sent-or-not s (Delivering x last (w ∷ left) count) o y k e = absurd (none-some o e)
@@ -202,7 +207,8 @@ left-books s n d o g u ended p = record {
     had y = ap (λ j. held_on y (g.handles j) None) ((p.ports).node y.receiver) ∙ by_case (node_in s.fixed.ports y.receiver == n) refl
       where
         by_case : (b : Bool) → (node_in s.fixed.ports y.receiver == n) ≡ b
-            → held_on y (g.handles (node_in s.fixed.ports y.receiver)) None ≡ held_on y (s.fixed.handles (node_in s.fixed.ports y.receiver)) (if b then Some d else None)
+            → held_on y (g.handles (node_in s.fixed.ports y.receiver)) None
+            ≡ held_on y (s.fixed.handles (node_in s.fixed.ports y.receiver)) (if b then Some d else None)
         by_case true e =
             subst (λ j. held_on y (g.handles j) None ≡ held_on y (s.fixed.handles j) (Some d)) (sym (eqb-true (node_in s.fixed.ports y.receiver) n e))
             (p.here y ∙ sym (ended-held s d o y (s.fixed.handles n) ended))

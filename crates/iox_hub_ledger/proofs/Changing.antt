@@ -98,9 +98,11 @@ filled-changes f n h q p = record {
   here = put_at-at f.handles h.node n (with_handle h) p.of_node;
   others = λ j e. put_at-else f.handles h.node (with_handle h (f.handles h.node)) j (on_node h n j p.of_node e);
   held = λ y. held-same y (f.handles n) (with_handle h (f.handles n)) (Fills h) refl
-      (swapped-held y (f.handles n) h p.old (own f n q) p.among p.number (no_received y h (loan-own h.kind p.is_loan_still)) (no_received y p.old (loan-own (p.old).kind p.was_loan)));
+      (swapped-held y (f.handles n) h p.old (own f n q) p.among p.number (no_received y h (loan-own h.kind p.is_loan_still))
+      (no_received y p.old (loan-own (p.old).kind p.was_loan)));
   rights_less = λ port k. fewer (f.handles n) (with_handle h (f.handles n)) (f.loans port) (f.loans port) port k
-      (as_many (count (is k) (loaned_in (with_handle h (f.handles n)) port)) (right_of port k p.old) (count (is k) (loaned_in (f.handles n) port)) (right_of port k h)
+      (as_many (count (is k) (loaned_in (with_handle h (f.handles n)) port)) (right_of port k p.old) (count (is k) (loaned_in (f.handles n) port))
+      (right_of port k h)
       (with-rights port k h p.old (f.handles n) (own f n q) p.among p.number) (alike port k)) (same (one_if (nat_le (f.loans port) k)));
   to_come = λ port k. same (one_if (nat_le (f.loans port) k));
   sent = λ m port k e. absurd e;
@@ -111,7 +113,8 @@ filled-changes f n h q p = record {
 
     alike : (port k : ℕ) → right_of port k h ≡ right_of port k p.old
     alike port k =
-        ap₂ (λ (b : Bool) (j : ℕ). if b then one_if (k == j) else 0) (ap₂ (λ (b : Bool) (j : ℕ). b && (j == port)) (p.is_loan_still ∙ sym p.was_loan) p.port) p.serial
+        ap₂ (λ (b : Bool) (j : ℕ). if b then one_if (k == j) else 0)
+        (ap₂ (λ (b : Bool) (j : ℕ). b && (j == port)) (p.is_loan_still ∙ sym p.was_loan) p.port) p.serial
 
 -- ---- sends
 
@@ -209,7 +212,8 @@ requested-changes f n h sent q p = record {
         (with-rights port j k h (f.handles n) (own f n q) p.stands refl) (no-right port j k refl)
 
 -- a loan that is gone: it was sent, or given up
-pub loan_gone-changes : (f : Fixed) (n : ℕ) (h : Handle) (o : Outcome) → is_quiet_outcome o ≡ true → ((port k : ℕ) → IsSent o port k → (h.port ≡ port) × (h.message.serial ≡ k))
+pub loan_gone-changes : (f : Fixed) (n : ℕ) (h : Handle) (o : Outcome) → is_quiet_outcome o ≡ true
+    → ((port k : ℕ) → IsSent o port k → (h.port ≡ port) × (h.message.serial ≡ k))
     → Known f n → FitsLoan (view f n) n h false → Changes f n o (dropped f h)
 loan_gone-changes f n h o quiet is_sent q p = record {
   hub = refl;
@@ -220,12 +224,14 @@ loan_gone-changes f n h o quiet is_sent q p = record {
   handles = without_handle h (f.handles n);
   here = here;
   others = others;
-  held = λ y. held-same y (f.handles n) (without_handle h (f.handles n)) o quiet (less-held y (f.handles n) h (own f n q) p.stands (no_received y h (loan-own h.kind p.loan)));
+  held = λ y. held-same y (f.handles n) (without_handle h (f.handles n)) o quiet
+      (less-held y (f.handles n) h (own f n q) p.stands (no_received y h (loan-own h.kind p.loan)));
   rights_less = λ port j. fewer (f.handles n) (without_handle h (f.handles n)) (f.loans port) (f.loans port) port j
       (without-fewer (f.handles n) h port j (own f n q) p.stands) (same (one_if (nat_le (f.loans port) j)));
   to_come = λ port j. same (one_if (nat_le (f.loans port) j));
   sent = λ m port j e. handed-gone f n m h (dropped f h) port j q.few q.rests p refl others
-      (ap (λ (hs : List Handle). count (is j) (loaned_in hs port) + right_of port j h) here ∙ sym (less-rights port j h (f.handles n) (own f n q) p.stands)) (is_sent port j e);
+      (ap (λ (hs : List Handle). count (is j) (loaned_in hs port) + right_of port j h) here
+      ∙ sym (less-rights port j h (f.handles n) (own f n q) p.stands)) (is_sent port j e);
 }
   where
     here : put_at f.handles h.node (without_handle h (f.handles h.node)) n ≡ without_handle h (f.handles n)
@@ -280,7 +286,8 @@ received-changes f n x w m q way =
 
 pub released-changes : (f : Fixed) (n : ℕ) (h : Handle) → Known f n → IsAmong h (f.handles n) → Changes f n (Drops h) (gives_up (dropped f h) h)
 released-changes f n h q among =
-    either (Changes f n (Drops h)) (is_received h.kind) (record (dropped f h) { borrowed = put f.borrowed (way_of h) (f.borrowed (way_of h) - 1) }) (dropped f h)
+    either (Changes f n (Drops h)) (is_received h.kind) (record (dropped f h) { borrowed = put f.borrowed (way_of h) (f.borrowed (way_of h) - 1) })
+    (dropped f h)
     (λ u. gone (put f.borrowed (way_of h) (f.borrowed (way_of h) - 1))) (λ u. gone f.borrowed)
   where
     of_node : h.node ≡ n

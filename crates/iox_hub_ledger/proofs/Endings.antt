@@ -30,7 +30,8 @@ pub held-same : (y : Way) (hs hs' : List Handle) (o : Outcome) → is_quiet_outc
 held-same y hs hs' o quiet e = ap serials e ∙ sym (held-quiet y hs (Ended o) quiet)
 
 -- what was received is a handle of its way
-pub taken-held : (y w : Way) (hs : List Handle) (h : Handle) (x : Receiver) (m : Message) → is_received h.kind ≡ true → way_of h ≡ w → h.message.serial ≡ m.serial
+pub taken-held : (y w : Way) (hs : List Handle) (h : Handle) (x : Receiver) (m : Message) → is_received h.kind ≡ true → way_of h ≡ w
+    → h.message.serial ≡ m.serial
     → held_on y (hs ++ h ∷ []) None ≡ held_on y hs (Some (Ended (Receives x w m)))
 taken-held y w hs h x m received way serial =
     ap serials (filter-last (has_received y) hs h)
@@ -115,14 +116,16 @@ lent-rights hs loans h port k serial = by_cases (port == h.port)
     let e : port ≡ h.port = eqb-true port h.port here in
     more (count (is k) (loaned_in (hs ++ h ∷ []) port)) (count (is k) (loaned_in hs port)) (right_of port k h) (one_if (k == h.message.serial))
     (one_if (nat_le (put_at loans h.port (loans h.port + 1) port) k)) (one_if (nat_le (loans port) k)) (plus-rights port k h hs) (right-few port k h)
-    (subst (λ l. one_if (k == h.message.serial) + one_if (nat_le l k) ≤ one_if (nat_le (loans port) k)) (sym (ap (λ (b : Bool). if b then loans h.port + 1 else loans port) here))
+    (subst (λ l. one_if (k == h.message.serial) + one_if (nat_le l k) ≤ one_if (nat_le (loans port) k))
+    (sym (ap (λ (b : Bool). if b then loans h.port + 1 else loans port) here))
     (subst (λ q. one_if (k == h.message.serial) + one_if (nat_le (loans h.port + 1) k) ≤ one_if (nat_le (loans q) k)) (sym e)
     (subst (λ n. one_if (k == n) + one_if (nat_le (loans h.port + 1) k) ≤ one_if (nat_le (loans h.port) k)) (sym serial) (plus-one (loans h.port) k)))))
     (λ other.
     more (count (is k) (loaned_in (hs ++ h ∷ []) port)) (count (is k) (loaned_in hs port)) (right_of port k h) 0
     (one_if (nat_le (put_at loans h.port (loans h.port + 1) port) k)) (one_if (nat_le (loans port) k)) (plus-rights port k h hs)
     (zero (right_of port k h) (other-right port k h (not-equal h.port port other)))
-    (subst (λ l. 0 + one_if (nat_le l k) ≤ one_if (nat_le (loans port) k)) (sym (put_at-else loans h.port (loans h.port + 1) port other)) (same (one_if (nat_le (loans port) k)))))
+    (subst (λ l. 0 + one_if (nat_le l k) ≤ one_if (nat_le (loans port) k)) (sym (put_at-else loans h.port (loans h.port + 1) port other))
+    (same (one_if (nat_le (loans port) k)))))
   where
     more : (a b c d e f : ℕ) → a ≡ b + c → c ≤ d → d + e ≤ f → a + e ≤ b + f
     more a b c d e f p q r = omega arith

@@ -60,7 +60,8 @@ ends-stood f gone y e =
     (ap₂ (λ c d. c && d) a.0 b.0, a.1, b.1)
 
 -- where split ends are still connected, all is as it was
-stays-there : (s : State) (gone : ℕ) (y : Way) → AreAway s.fixed → any_at y.sender s.fixed.ports ≡ true → (y.sender == gone) ≡ false → (y.receiver == gone) ≡ false
+stays-there : (s : State) (gone : ℕ) (y : Way) → AreAway s.fixed → any_at y.sender s.fixed.ports ≡ true → (y.sender == gone) ≡ false
+    → (y.receiver == gone) ≡ false
     → stays s gone y ≡ true
 stays-there s gone y away there from to =
     ap (λ (b : Bool). if b then false else
@@ -100,7 +101,8 @@ gone-books s gone r away last b = record {
     same-out : (y : Way) (value : ℕ → Bool) → (has_ends s.fixed y ≡ true) × ((y.sender == gone) ≡ false) × ((y.receiver == gone) ≡ false)
         → out value (disconnected s gone) y (had_in (disconnected s gone).fixed y) ≡ out value s y (had_in s.fixed y)
     same-out y value p =
-        sums (count value (serials_of ((disconnected s gone).waiting y))) (count value (had_in (disconnected s gone).fixed y)) (count value ((disconnected s gone).returned y))
+        sums (count value (serials_of ((disconnected s gone).waiting y))) (count value (had_in (disconnected s gone).fixed y))
+        (count value ((disconnected s gone).returned y))
         (count value ((disconnected s gone).in_hand y)) (count value (serials_of (s.waiting y))) (count value (had_in s.fixed y))
         (count value (s.returned y)) (count value (s.in_hand y))
         (ap (λ (c : Bool). count value (serials_of (if c then s.waiting y else [])))
@@ -114,7 +116,8 @@ gone-books s gone r away last b = record {
 
     fresh : (n : ℕ) (y : Way) (k : ℕ) → rights (disconnected s gone).fixed n y.sender k + one_if ((disconnected s gone).delivered y k) ≤ 1
     fresh n y k = by_cases (y.sender == gone)
-        (λ goes. few (count (is k) (loaned_in (s.fixed.handles n) y.sender)) (one_if (nat_le (put_at s.fixed.loans gone 0 y.sender) k)) (one_if ((disconnected s gone).delivered y k))
+        (λ goes. few (count (is k) (loaned_in (s.fixed.handles n) y.sender)) (one_if (nat_le (put_at s.fixed.loans gone 0 y.sender) k))
+        (one_if ((disconnected s gone).delivered y k))
         (ap (count (is k)) (none-loaned y.sender (s.fixed.handles n) (λ h a.
         subst (λ q. (h.port == q) ≡ false) (sym (eqb-true y.sender gone goes)) (others_belong s.fixed gone n h last a ((r.handles n).each h a).of_port))))
         (at-most-one (nat_le (put_at s.fixed.loans gone 0 y.sender) k))
@@ -141,7 +144,8 @@ gone-books s gone r away last b = record {
         (λ no.
         let other : ((y.sender == gone) ≡ false) × ((y.receiver == gone) ≡ false) = or-false (y.sender == gone) (y.receiver == gone) no in
         let was : IsIdle s y = b.idle y (false_if (has_ends s.fixed y) (λ e.
-        let p : (any_at y.sender s.fixed.ports ≡ true) × (any_at y.receiver s.fixed.ports ≡ true) = split (any_at y.sender s.fixed.ports) (any_at y.receiver s.fixed.ports) e in
+        let p : (any_at y.sender s.fixed.ports ≡ true) × (any_at y.receiver s.fixed.ports ≡ true)
+        = split (any_at y.sender s.fixed.ports) (any_at y.receiver s.fixed.ports) e in
         never (has_ends (disconnected s gone).fixed y)
         (ap₂ (λ c d. c && d) (any_stay gone y.sender s.fixed.ports other.0 p.0) (any_stay gone y.receiver s.fixed.ports other.1 p.1)) off)) in
         (ap (λ (c : Bool). if c then [] else s.returned y) no ∙ was.0, λ k. ap (λ (c : Bool). if c then false else s.delivered y k) no ∙ was.1 k))
@@ -163,7 +167,8 @@ nothing-yet s p y is c off on = by_cases (any_at y.sender s.fixed.ports)
     let none : any_at y.receiver s.fixed.ports ≡ false = sym (ap (λ b. b && any_at y.receiver s.fixed.ports) there) ∙ off in (
       none_there (s.waiting y) (λ m among. never (any_at y.receiver s.fixed.ports) ((c.owned).waits y m among).there none),
       λ n. none-had y (s.fixed.handles n) (λ h among. false_if (has_received y h) (λ has.
-          never (any_at y.receiver s.fixed.ports) (subst (λ k. any_at k s.fixed.ports ≡ true) (received y h has).1 (((((c.rests).fixed).handles n).each h among).of_port).0) none)),
+          never (any_at y.receiver s.fixed.ports)
+          (subst (λ k. any_at k s.fixed.ports ≡ true) (received y h has).1 (((((c.rests).fixed).handles n).each h among).of_port).0) none)),
     ))
     (λ none.
     let new : y.sender ≡ s.fixed.next_number
@@ -172,7 +177,8 @@ nothing-yet s p y is c off on = by_cases (any_at y.sender s.fixed.ports)
       (c.rests).unused y later,
       λ n. none-had y (s.fixed.handles n) (λ h among. false_if (has_received y h) (λ has.
           let q : (is_received h.kind ≡ true) × (h.port ≡ y.receiver) × (way_of h ≡ y) = received y h has in
-          never (nat_lt y.sender s.fixed.next_number) (subst (λ (w : Way). nat_lt w.sender s.fixed.next_number ≡ true) q.2 (((c.owned).has).known n h among q.0)) later)),
+          never (nat_lt y.sender s.fixed.next_number)
+          (subst (λ (w : Way). nat_lt w.sender s.fixed.next_number ≡ true) q.2 (((c.owned).has).known n h among q.0)) later)),
     ))
   where
     received : (y : Way) (h : Handle) → has_received y h ≡ true → (is_received h.kind ≡ true) × (h.port ≡ y.receiver) × (way_of h ≡ y)
@@ -204,7 +210,8 @@ made-books s p new c b = record {
 
     still : (y : Way) → has_ends s.fixed y ≡ true → has_ends f y ≡ true
     still y e =
-        let q : (any_at y.sender s.fixed.ports ≡ true) × (any_at y.receiver s.fixed.ports ≡ true) = split (any_at y.sender s.fixed.ports) (any_at y.receiver s.fixed.ports) e in
+        let q : (any_at y.sender s.fixed.ports ≡ true) × (any_at y.receiver s.fixed.ports ≡ true)
+        = split (any_at y.sender s.fixed.ports) (any_at y.receiver s.fixed.ports) e in
         ap₂ (λ c d. c && d) (at_more y.sender s.fixed.ports p q.0) (at_more y.receiver s.fixed.ports p q.1)
 
     had : (y : Way) → has_ends s.fixed y ≡ true → had_in f y ≡ had_in s.fixed y
@@ -214,7 +221,8 @@ made-books s p new c b = record {
 
     most : (y : Way) → has_ends s.fixed y ≡ true → most_on f y ≡ most_on s.fixed y
     most y e =
-        let q : (any_at y.sender s.fixed.ports ≡ true) × (any_at y.receiver s.fixed.ports ≡ true) = split (any_at y.sender s.fixed.ports) (any_at y.receiver s.fixed.ports) e in
+        let q : (any_at y.sender s.fixed.ports ≡ true) × (any_at y.receiver s.fixed.ports ≡ true)
+        = split (any_at y.sender s.fixed.ports) (any_at y.receiver s.fixed.ports) e in
         ap₂ (λ o t. buffer_of s.fixed.limits (option_map_or (λ (p : Port). p.role) o Client)
         + borrow_limit_of s.fixed.limits (other_role (option_map_or (λ (p : Port). p.role) t Client)))
         (first_more y.sender s.fixed.ports p q.0) (first_more y.receiver s.fixed.ports p q.1)

@@ -55,7 +55,8 @@ moved-hand s n (Evicted x v left count) (GetBack w k) y c p =
 moved-hand s n (Evicted x v left count) m y c p = absurd c
 moved-hand s n d (GetBack w k) y c p =
     either (λ (ks : List ℕ). length ks ≤ one_if (has_evicted y (next s n d (GetBack w k)).after)) (same_way y w) [] (s.in_hand y)
-    (λ u. least (one_if (has_evicted y (next s n d (GetBack w k)).after))) (λ u. none-more (length (s.in_hand y)) (one_if (has_evicted y (next s n d (GetBack w k)).after)) p)
+    (λ u. least (one_if (has_evicted y (next s n d (GetBack w k)).after)))
+    (λ u. none-more (length (s.in_hand y)) (one_if (has_evicted y (next s n d (GetBack w k)).after)) p)
 moved-hand s n d m y c p = none-more (length (s.in_hand y)) (one_if (has_evicted y (next s n d m).after)) p
 
 -- ---- what was given back where the call emptied the way
@@ -205,7 +206,8 @@ loan-right f n h copied own p = by_case copied p.stands
     by_case : (b : Bool) → LoanStands (view f n) h b → 1 ≤ rights f n h.port h.message.serial
     by_case true q = next-one h.message.serial (f.loans h.port) (count (is h.message.serial) (loaned_in (f.handles n) h.port)) (q.0 ∙ loans)
     by_case false a =
-        more (count (is h.message.serial) (loaned_in (f.handles n) h.port)) (one_if (nat_le (f.loans h.port) h.message.serial)) (has-right h (f.handles n) own a p.loan)
+        more (count (is h.message.serial) (loaned_in (f.handles n) h.port)) (one_if (nat_le (f.loans h.port) h.message.serial))
+        (has-right h (f.handles n) own a p.loan)
 
 pub put-right : (s : State) (n : ℕ) (d : Doing) (m : Moment) (y : Way) (k : ℕ) → HasOwnHandles (s.fixed.handles n) → Stands (view s.fixed n) n d
     → (next s n d m).condition → put_on y m ≡ k ∷ [] → 1 ≤ rights s.fixed n y.sender k

@@ -171,11 +171,13 @@ gone-may : (t : State) (port : ℕ) (y : Way) (k : ℕ) → Rests t.fixed → an
 gone-may t port y k r there =
     either (λ (x : State). MayPut x.fixed y k → MayPut t.fixed y k) (is_last_gone t.fixed port) (disconnected t port) t
     (λ last may. by_cases (y.sender == port)
-    (λ goes. absurd (never (y.sender == port) goes (any_others port y.sender t.fixed.ports (may.0 (at_below t.fixed.next_number y.sender t.fixed.ports (r.numbered).1
+    (λ goes. absurd (never (y.sender == port) goes
+    (any_others port y.sender t.fixed.ports (may.0 (at_below t.fixed.next_number y.sender t.fixed.ports (r.numbered).1
     (subst (λ q. any_at q t.fixed.ports ≡ true) (sym (eqb-true y.sender port goes)) there)))).1))
     (λ other. (
       λ e. (any_others port y.sender t.fixed.ports (may.0 e)).0,
-      ((may.1).0, subst (λ l. 1 ≤ count (is k) (loaned_in (t.fixed.handles (may.1).0) y.sender) + one_if (nat_le l k)) (put_at-else t.fixed.loans port 0 y.sender other) (may.1).1),
+      ((may.1).0, subst (λ l. 1 ≤ count (is k) (loaned_in (t.fixed.handles (may.1).0) y.sender)
+      + one_if (nat_le l k)) (put_at-else t.fixed.loans port 0 y.sender other) (may.1).1),
     )))
     (λ u may. may)
 
@@ -232,7 +234,8 @@ call-uses y s n call reply t k named done = record {
 port-shrinks : (y : Way) (f : Fixed) (p : Port) (k : ℕ) → p.number ≡ f.next_number → MayPut (with_port f p) y k → MayPut f y k
 port-shrinks y f p k new may = (
   λ e. by_cases (any_at y.sender f.ports) (λ there. there)
-      (λ away. absurd (true≢false (sym e ∙ same-not-less y.sender f.next_number (sym (at_last y.sender f.ports p (may.0 (less-next y.sender f.next_number e)) away) ∙ new)))),
+      (λ away. absurd (true≢false (sym e
+      ∙ same-not-less y.sender f.next_number (sym (at_last y.sender f.ports p (may.0 (less-next y.sender f.next_number e)) away) ∙ new)))),
   may.1,
 )
 
@@ -245,7 +248,8 @@ puts-along y = record {
   both = λ s t u bs cs p q k.
       let a : Kept t × Uses s.fixed t.fixed y (all_put_on y bs) = p k in
       let b : Kept u × Uses t.fixed u.fixed y (all_put_on y cs) = q a.0 in
-      (b.0, subst (Uses s.fixed u.fixed y) (sym (flat_map-append (put_on y) bs cs)) (uses-both s.fixed t.fixed u.fixed y (all_put_on y bs) (all_put_on y cs) a.1 b.1));
+      (b.0, subst (Uses s.fixed u.fixed y) (sym (flat_map-append (put_on y) bs cs)) (uses-both s.fixed t.fixed u.fixed y (all_put_on y bs)
+      (all_put_on y cs) a.1 b.1));
   nodes = λ s x k. (members-kept s x k, uses-none s.fixed s.fixed y (λ j may. may));
   port = λ s node role id o k.
       let p : Port = new_port s.fixed node role id o in

@@ -82,7 +82,8 @@ lent-to_come loans p port k =
     (λ u. same (one_if (nat_le (loans port) k)))
 
 -- where handles have no more rights
-pub fewer : (hs hs' : List Handle) (a b port k : ℕ) → count (is k) (loaned_in hs' port) ≤ count (is k) (loaned_in hs port) → one_if (nat_le b k) ≤ one_if (nat_le a k)
+pub fewer : (hs hs' : List Handle) (a b port k : ℕ) → count (is k) (loaned_in hs' port) ≤ count (is k) (loaned_in hs port)
+    → one_if (nat_le b k) ≤ one_if (nat_le a k)
     → rights_in hs' b port k ≤ rights_in hs a port k
 fewer hs hs' a b port k p q =
     sums (count (is k) (loaned_in hs' port)) (count (is k) (loaned_in hs port)) (one_if (nat_le b k)) (one_if (nat_le a k)) p q
@@ -90,7 +91,8 @@ fewer hs hs' a b port k p q =
     sums : (a b c d : ℕ) → a ≤ b → c ≤ d → a + c ≤ b + d
     sums a b c d p q = omega arith
 
-pub plus-fewer : (hs : List Handle) (h : Handle) (port k : ℕ) → is_loan h.kind ≡ false → count (is k) (loaned_in (hs ++ h ∷ []) port) ≤ count (is k) (loaned_in hs port)
+pub plus-fewer : (hs : List Handle) (h : Handle) (port k : ℕ) → is_loan h.kind ≡ false
+    → count (is k) (loaned_in (hs ++ h ∷ []) port) ≤ count (is k) (loaned_in hs port)
 plus-fewer hs h port k own =
     less (count (is k) (loaned_in (hs ++ h ∷ []) port)) (count (is k) (loaned_in hs port)) (right_of port k h) (plus-rights port k h hs) (no-right port k h own)
   where
@@ -108,8 +110,10 @@ without-fewer hs h port k own among =
 -- ---- what was sent has no right
 
 -- a loan that its call made
-pub copied-gone : (f : Fixed) (n m : ℕ) (h : Handle) (hs' : List Handle) (port k : ℕ) → AreFew f → FitsLoan (view f n) n h true → (h.port ≡ port) × (h.message.serial ≡ k)
-    → count (is k) (loaned_in hs' port) ≤ count (is k) (loaned_in (f.handles m) port) → rights_in hs' (put_at f.loans h.port (f.loans h.port + 1) port) port k ≡ 0
+pub copied-gone : (f : Fixed) (n m : ℕ) (h : Handle) (hs' : List Handle) (port k : ℕ) → AreFew f → FitsLoan (view f n) n h true
+    → (h.port ≡ port) × (h.message.serial ≡ k)
+    → count (is k) (loaned_in hs' port) ≤ count (is k) (loaned_in (f.handles m) port)
+    → rights_in hs' (put_at f.loans h.port (f.loans h.port + 1) port) port k ≡ 0
 copied-gone f n m h hs' port k few p sent less =
     all_none (count (is k) (loaned_in hs' port)) (count (is k) (loaned_in (f.handles m) port)) (f.loans port) k
     (put_at f.loans h.port (f.loans h.port + 1) port) loans now less (few m port k)
@@ -171,4 +175,5 @@ handed-gone f n m h g port k few r p loans others less sent =
         (λ other. ap (λ (hs : List Handle). count (is k) (loaned_in hs port)) (others m other)
         ∙ ap (count (is k)) (none-loaned port (f.handles m) (λ j a.
         by_cases (j.port == port)
-        (λ is. never (m == n) (eq-eqb m n (sym (((r.handles m).each j a).of_port).1 ∙ ap (node_in f.ports) (eqb-true j.port port is ∙ sym sent.0) ∙ p.of_port)) other) (λ e. e))))
+        (λ is. never (m == n) (eq-eqb m n (sym (((r.handles m).each j a).of_port).1 ∙ ap (node_in f.ports) (eqb-true j.port port is ∙ sym sent.0)
+        ∙ p.of_port)) other) (λ e. e))))

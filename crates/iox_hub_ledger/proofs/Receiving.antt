@@ -70,7 +70,8 @@ pub gives-own : (s : State) (n : ℕ) (d : Doing) (x : Way) (k : ℕ) → Rests 
 gives-own s n (Stale z v m left seen) x k r p q c =
     subst (IsPortOf s.fixed n) (sym (ap (λ (w : Way). w.receiver) (same_way-true x v (split _ _ c).0) ∙ (p.1).0)) p.0
 gives-own s n (Returning h) x k r p q c =
-    subst (IsPortOf s.fixed n) (sym (ap (λ (w : Way). w.receiver) (same_way-true x (way_of h) (split _ _ c).0) ∙ way_of-receiver h)) ((r.handles n).each h q).of_port
+    subst (IsPortOf s.fixed n) (sym (ap (λ (w : Way). w.receiver) (same_way-true x (way_of h) (split _ _ c).0) ∙ way_of-receiver h))
+    ((r.handles n).each h q).of_port
 gives-own s n d x k r p q c = absurd c
 
 not-there : (s : State) (y x : Way) (n k : ℕ) → (node_in s.fixed.ports y.receiver == n) ≡ false → IsPortOf s.fixed n x.receiver → if_on y x k ≡ []
@@ -78,7 +79,8 @@ not-there s y x n k apart there = by_case (same_way y x) (same_way-true y x)
   where
     by_case : (b : Bool) → (b ≡ true → y ≡ x) → (if b then k ∷ [] else []) ≡ []
     by_case true e =
-        never (node_in s.fixed.ports y.receiver == n) (eq-eqb (node_in s.fixed.ports y.receiver) n (ap (λ (w : Way). node_in s.fixed.ports w.receiver) (e refl) ∙ there.1)) apart
+        never (node_in s.fixed.ports y.receiver == n)
+        (eq-eqb (node_in s.fixed.ports y.receiver) n (ap (λ (w : Way). node_in s.fixed.ports w.receiver) (e refl) ∙ there.1)) apart
     by_case false e = refl
 
 else-taken : (s : State) (n : ℕ) (d : Doing) (m : Moment) (y : Way) → Fits s n d → (next s n d m).condition
@@ -93,13 +95,15 @@ else-given s n d m y r p q c apart = refl
 
 -- ---- a moment
 
-pub had-follows : (s : State) (n : ℕ) (d : Doing) (m : Moment) (y : Way) (value : ℕ → Bool) → Rests s.fixed → Fits s n d → Stands (view s.fixed n) n d → FitsRelease d
+pub had-follows : (s : State) (n : ℕ) (d : Doing) (m : Moment) (y : Way) (value : ℕ → Bool) → Rests s.fixed → Fits s n d → Stands (view s.fixed n) n d
+    → FitsRelease d
     → forgot_port s.fixed n y.sender ≡ false → (next s n d m).condition
     → count value (had_while s.fixed n (next s n d m).after y) + count value (given_on y m) ≡ count value (had_while s.fixed n d y) + count value (taken_on y m)
 had-follows s n d m y value r fits p release known c = by_case (node_in s.fixed.ports y.receiver == n) refl
   where
     by_case : (b : Bool) → (node_in s.fixed.ports y.receiver == n) ≡ b
-        → count value (held_on y (s.fixed.handles (node_in s.fixed.ports y.receiver)) (if b then Some (next s n d m).after else None)) + count value (given_on y m)
+        → count value (held_on y (s.fixed.handles (node_in s.fixed.ports y.receiver)) (if b then Some (next s n d m).after else None))
+        + count value (given_on y m)
         ≡ count value (held_on y (s.fixed.handles (node_in s.fixed.ports y.receiver)) (if b then Some d else None)) + count value (taken_on y m)
     by_case true e =
         subst (λ j. Follows value y (s.fixed.handles j) d m (next s n d m).after) (sym (eqb-true (node_in s.fixed.ports y.receiver) n e))

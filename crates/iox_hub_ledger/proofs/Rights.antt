@@ -47,13 +47,15 @@ cons-rights port k h hs = by_case (is_loan_from port h)
     by_case true = count-cons (is k) h.message.serial (loaned_in hs port)
     by_case false = none (count (is k) (loaned_in hs port))
 
-pub plus-rights : (port k : ℕ) (h : Handle) (hs : List Handle) → count (is k) (loaned_in (hs ++ h ∷ []) port) ≡ count (is k) (loaned_in hs port) + right_of port k h
+pub plus-rights : (port k : ℕ) (h : Handle) (hs : List Handle)
+    → count (is k) (loaned_in (hs ++ h ∷ []) port) ≡ count (is k) (loaned_in hs port) + right_of port k h
 plus-rights port k h [] = cons-rights port k h [] ∙ flip (right_of port k h)
   where
     flip : (a : ℕ) → a + 0 ≡ 0 + a
     flip a = omega arith
 plus-rights port k h (g ∷ gs) =
-    joins (count (is k) (loaned_in (g ∷ (gs ++ h ∷ [])) port)) (right_of port k g) (count (is k) (loaned_in (gs ++ h ∷ []) port)) (count (is k) (loaned_in gs port))
+    joins (count (is k) (loaned_in (g ∷ (gs ++ h ∷ [])) port)) (right_of port k g) (count (is k) (loaned_in (gs ++ h ∷ []) port))
+    (count (is k) (loaned_in gs port))
     (right_of port k h) (count (is k) (loaned_in (g ∷ gs) port)) (cons-rights port k g (gs ++ h ∷ [])) (plus-rights port k h gs) (cons-rights port k g gs)
   where
     joins : (a b c d e f : ℕ) → a ≡ b + c → c ≡ d + e → f ≡ b + d → a ≡ f + e
@@ -72,7 +74,8 @@ with-rights port k h old (g ∷ gs) own (inl e) number =
     subst (λ (xs : List Handle). count (is k) (loaned_in xs port) + right_of port k old ≡ count (is k) (loaned_in (g ∷ gs) port) + right_of port k h)
     (sym (ap (λ (b : Bool). if b then h ∷ gs else g ∷ with_handle h gs) (eq-eqb g.number h.number (sym (ap (λ (x : Handle). x.number) e) ∙ sym number))))
     (subst (λ x. count (is k) (loaned_in (h ∷ gs) port) + right_of port k x ≡ count (is k) (loaned_in (g ∷ gs) port) + right_of port k h) (sym e)
-    (swaps (count (is k) (loaned_in (h ∷ gs) port)) (right_of port k h) (count (is k) (loaned_in gs port)) (right_of port k g) (count (is k) (loaned_in (g ∷ gs) port))
+    (swaps (count (is k) (loaned_in (h ∷ gs) port)) (right_of port k h) (count (is k) (loaned_in gs port)) (right_of port k g)
+    (count (is k) (loaned_in (g ∷ gs) port))
     (cons-rights port k h gs) (cons-rights port k g gs)))
   where
     swaps : (a b c d e : ℕ) → a ≡ b + c → e ≡ d + c → a + d ≡ e + b
@@ -155,7 +158,8 @@ fits_handles f n r kept few = record {
       (was-lent f n h few (r.handles n).apart a l);
   alone = λ g h a b l m port serial.
       only-loan g h (f.handles n) (r.handles n).apart
-      (part (count (is h.message.serial) (loaned_in (f.handles n) h.port)) (one_if (nat_le (f.loans h.port) h.message.serial)) (few n h.port h.message.serial)) a b l m port serial;
+      (part (count (is h.message.serial) (loaned_in (f.handles n) h.port)) (one_if (nat_le (f.loans h.port) h.message.serial))
+      (few n h.port h.message.serial)) a b l m port serial;
 }
   where
     part : (a b : ℕ) → a + b ≤ 1 → a ≤ 1

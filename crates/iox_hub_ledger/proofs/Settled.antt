@@ -46,7 +46,8 @@ pub record HoldsAfter (P : State → Type 0) (s : State) (n : ℕ) (o : Outcome)
       → P (released (with_fixed s g) port)
   pub counts : (t : State) → P t → P (with_fixed t (called t.fixed))
 
-pub settled-holds : (P : State → Type 0) (s : State) (n : ℕ) (d : Doing) (payload : List ℕ) (o : Outcome) → Underway s n d → ends s d ≡ Some o → HoldsAfter P s n o
+pub settled-holds : (P : State → Type 0) (s : State) (n : ℕ) (d : Doing) (payload : List ℕ) (o : Outcome) → Underway s n d → ends s d ≡ Some o
+    → HoldsAfter P s n o
     → P (settled s n payload o)
 settled-holds P s n d payload o u ended =
     by_outcome o ended (ends-stands s n d o u.stands ended) (ended_fits s n d o ended ((u.goes).call).1) (ended_holds s d o ended (u.goes).holds)
@@ -66,12 +67,15 @@ settled-holds P s n d payload o u ended =
     there : (h : Handle) → IsAmong h (f.handles n) → any_at h.port f.ports ≡ true
     there h among = (((((u.goes).fixed).handles n).each h among).of_port).0
 
-    gone : (h : Handle) (o : Outcome) → HoldsAfter P s n o → is_quiet_outcome o ≡ true → ((port k : ℕ) → IsSent o port k → (h.port ≡ port) × (h.message.serial ≡ k))
+    gone : (h : Handle) (o : Outcome) → HoldsAfter P s n o → is_quiet_outcome o ≡ true
+        → ((port k : ℕ) → IsSent o port k → (h.port ≡ port) × (h.message.serial ≡ k))
         → FitsLoan (view f n) n h false → P (released (with_fixed s (dropped f h)) h.port)
     gone h o a quiet is_sent p =
-        a.goes (dropped f h) h.port (change-leaves f n o (dropped f h) u.hub (loan_gone-changes f n h o quiet is_sent known p)) (drops f h (u.goes).fixed) away (there h p.stands)
+        a.goes (dropped f h) h.port (change-leaves f n o (dropped f h) u.hub (loan_gone-changes f n h o quiet is_sent known p))
+        (drops f h (u.goes).fixed) away (there h p.stands)
 
-    by_outcome : (o : Outcome) → ends s d ≡ Some o → StandsEnd (view f n) n o → FitsOutcome f n o → HoldsEnd f o → HoldsAfter P s n o → P (settled s n payload o)
+    by_outcome : (o : Outcome) → ends s d ≡ Some o → StandsEnd (view f n) n o → FitsOutcome f n o → HoldsEnd f o → HoldsAfter P s n o
+        → P (settled s n payload o)
     by_outcome (Tells reply) e p fits holds a =
         either P (is_nothing reply) (with_fixed s (called s.fixed)) s (λ v. a.counts s (made (Tells reply) f a (same-changes f n reply)))
         (λ v. made (Tells reply) f a (same-changes f n reply))
@@ -91,11 +95,13 @@ settled-holds P s n d payload o u ended =
     by_outcome (Drops h) e p fits holds a =
         either (λ (g : Fixed). Changes f n (Drops h) g → Rests g → P (released (with_fixed s g) h.port)) (is_received h.kind)
         (record (dropped f h) { borrowed = put f.borrowed (way_of h) (f.borrowed (way_of h) - 1) }) (dropped f h)
-        (λ v c r. a.goes _ h.port (change-leaves f n (Drops h) _ u.hub c) r away (there h p)) (λ v c r. a.goes _ h.port (change-leaves f n (Drops h) _ u.hub c) r away (there h p))
+        (λ v c r. a.goes _ h.port (change-leaves f n (Drops h) _ u.hub c) r away (there h p))
+        (λ v c r. a.goes _ h.port (change-leaves f n (Drops h) _ u.hub c) r away (there h p))
         (released-changes f n h known p) (gives (dropped f h) h (drops f h (u.goes).fixed))
     by_outcome (DropsPort port) e p fits holds a =
         let g : Fixed = record f { ports = map (port_dropped port) f.ports } in
-        a.goes g port (change-leaves f n (DropsPort port) g u.hub (value-changes f n port)) ((value_rests s port (at_end s n d (DropsPort port) u.goes e)).fixed)
+        a.goes g port (change-leaves f n (DropsPort port) g u.hub (value-changes f n port))
+        ((value_rests s port (at_end s n d (DropsPort port) u.goes e)).fixed)
         (λ r k gone_e. any_dropped port k f.ports ∙ away r k gone_e) (any_dropped port port f.ports ∙ (fits.1).0)
     by_outcome (Forgets dead) e p fits holds a = absurd p
 

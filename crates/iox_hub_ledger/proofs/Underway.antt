@@ -72,19 +72,23 @@ emptying-stands v n x (w ∷ left) = λ p. p
 
 asked-stands : (v : View) (n : ℕ) (x : Sending) (shown : RequestState) → WillStand v n (asked x shown)
 asked-stands v n x shown =
-    either (WillStand v n) (names shown x.loan.request) (emptying x (targets x)) (Ended (Sends x.loan x.copied 0)) (λ u. emptying-stands v n x (targets x)) (λ u p. p)
+    either (WillStand v n) (names shown x.loan.request) (emptying x (targets x)) (Ended (Sends x.loan x.copied 0))
+    (λ u. emptying-stands v n x (targets x)) (λ u p. p)
 
 pub sends-stands : (v : View) (n : ℕ) (f : Fixed) (h : Handle) (copied : Bool) → WillStand v n (sends f h copied)
 sends-stands v n f h copied =
     let to : List ℕ = others f h.node Server in
     either (WillStand v n) (is_request_loan h.kind) (sends_request f h copied to) (sends_response f h copied)
     (λ u. either (WillStand v n) (is_active_spent f h) (Ended (FailsToSend h copied ExceedsMaxActiveRequests))
-    (emptying (sending_of f h copied to) (map (request_way h.port) to)) (λ y p. p) (λ y. emptying-stands v n (sending_of f h copied to) (map (request_way h.port) to)))
-    (λ u. either (WillStand v n) (has_number h.client (others f h.node Client)) (Asking (sending_of f h copied (h.client ∷ []))) (Ended (Sends h copied 0)) (λ y p. p) (λ y p. p))
+    (emptying (sending_of f h copied to) (map (request_way h.port) to)) (λ y p. p)
+    (λ y. emptying-stands v n (sending_of f h copied to) (map (request_way h.port) to)))
+    (λ u. either (WillStand v n) (has_number h.client (others f h.node Client)) (Asking (sending_of f h copied (h.client ∷ [])))
+    (Ended (Sends h copied 0)) (λ y p. p) (λ y p. p))
 
 pub loaning-stands : (v : View) (n : ℕ) (s : State) (copied : Bool) (h : Handle) (left : List Way) → WillStand v n (loaning s copied h left)
 loaning-stands v n s copied h [] =
-    either (WillStand v n) (is_dry s.fixed h.port (kept s h.port [])) (refused OutOfMemory) (if copied then sends s.fixed h true else Ended (Loans h)) (λ u p. p)
+    either (WillStand v n) (is_dry s.fixed h.port (kept s h.port [])) (refused OutOfMemory) (if copied then sends s.fixed h true else Ended (Loans h))
+    (λ u p. p)
     (λ u. either (WillStand v n) copied (sends s.fixed h true) (Ended (Loans h)) (λ y. sends-stands v n s.fixed h true) (λ y p. p))
 loaning-stands v n s copied h (w ∷ left) = λ p. p
 
@@ -117,7 +121,8 @@ seeking-stands v n (w ∷ left) = tt
 
 -- ---- a moment
 
-pub next-stands : (s : State) (n : ℕ) (d : Doing) (m : Moment) → HasOwnPorts s.fixed → WaitsFit s → Holds s m → Stands (view s.fixed n) n d → (next s n d m).condition
+pub next-stands : (s : State) (n : ℕ) (d : Doing) (m : Moment) → HasOwnPorts s.fixed → WaitsFit s → Holds s m → Stands (view s.fixed n) n d
+    → (next s n d m).condition
     → Stands (view s.fixed n) n (next s n d m).after
 next-stands s n (Loaning copied h left) (GetBack w k) own waits first p c = p
 next-stands s n (Loaning copied h left) (SeesNoneBack w) own waits first p c =
@@ -132,7 +137,8 @@ next-stands s n (Looking x left full) (SeesRoom w) own waits first p c =
     looking-stands (view s.fixed n) n x (without_way w left) full (looking-fits (view s.fixed n) n x (without_way w left) full p)
 next-stands s n (Opening x left full) (Open w id) own waits first p c =
     opening-stands (view s.fixed n) n x (without_way w left) full (opening-fits (view s.fixed n) n x (without_way w left) full p)
-next-stands s n (Delivering x last left count) (Deliver w m) own waits first p c = next-fits s n (Delivering x last left count) (Deliver w m) own waits first p c
+next-stands s n (Delivering x last left count) (Deliver w m) own waits first p c =
+    next-fits s n (Delivering x last left count) (Deliver w m) own waits first p c
 next-stands s n (Delivering x last left count) (Evict w) own waits first p c = next-fits s n (Delivering x last left count) (Evict w) own waits first p c
 next-stands s n (Evicted x v left count) (GetBack w k) own waits first p c = (p.0, p.1, tt)
 next-stands s n (Visiting x left seen) (SeesEmpty w) own waits first p c = visiting-stands (view s.fixed n) n x (without_way w left) seen
@@ -162,6 +168,7 @@ next-stands s n d m own waits first p c = absurd c
 pub ends-stands : (s : State) (n : ℕ) (d : Doing) (o : Outcome) → Stands (view s.fixed n) n d → ends s d ≡ Some o → StandsEnd (view s.fixed n) n o
 ends-stands s n (Ended a) o p e = subst (StandsEnd (view s.fixed n) n) (some-is a o e) p
 ends-stands s n (Delivering x last [] count) o p e =
-    either (λ (r : Option Outcome). r ≡ Some o → StandsEnd (view s.fixed n) n o) (is_over s last) None (Some (Sends x.loan x.copied count)) (λ u f. absurd (none-some o f))
+    either (λ (r : Option Outcome). r ≡ Some o → StandsEnd (view s.fixed n) n o) (is_over s last) None (Some (Sends x.loan x.copied count))
+    (λ u f. absurd (none-some o f))
     (λ u f. subst (StandsEnd (view s.fixed n) n) (some-is (Sends x.loan x.copied count) o f) (p.0).loan) e
 ends-stands s n d o p e = absurd (none-some o e)

@@ -49,7 +49,7 @@ pub under_here : (s : State) (n : ℕ) (d : Doing) (q : ℕ) → node_of_port s.
 under_here s n d q at =
     ap (λ b. under_at q (if b then Some d else None)) (subst (λ k. (k == n) ≡ true) (sym at) (eqb-refl n))
 
-nothing : {A : Type 0} (k : ℕ) → has_number k [] ≡ true → A
+pub nothing : {A : Type 0} (k : ℕ) → has_number k [] ≡ true → A
 nothing k e = absurd (true≢false (sym e))
 
 -- where the pool is not dry there is room

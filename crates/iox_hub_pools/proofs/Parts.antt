@@ -107,7 +107,8 @@ pub was_found : (ps qs : List Port) (k : ℕ) (q : Port) → NoRepeats (map (λ 
 was_found ps qs k q own e was =
     let f : IsAmong q qs × ((q.number == k) ≡ true) = find-among (λ (p : Port). p.number == k) q qs e in
     let p : (p : Port) × IsAmong p ps × SamePort p q = was f.0 in
-    (p.0, ap (λ n. find (λ (x : Port). x.number == n) ps) (sym (eqb-true q.number k f.1) ∙ (p.2).number) ∙ find-own (λ (x : Port). x.number) ps p.0 own p.1, p.2)
+    (p.0, ap (λ n. find (λ (x : Port). x.number == n) ps) (sym (eqb-true q.number k f.1) ∙ (p.2).number)
+    ∙ find-own (λ (x : Port). x.number) ps p.0 own p.1, p.2)
 
 -- so it has the role that it had
 pub role_was : (ps qs : List Port) (k : ℕ) → NoRepeats (map (λ p. p.number) ps) → Were ps qs → any_at k qs ≡ true → role_in qs k ≡ role_in ps k
@@ -139,7 +140,8 @@ was_way f g k y own own' role was a =
               (among-map (λ (x : Port). x.number) p.0 (filter (λ x. same_role x.role role) f.ports)
               (among-filter (λ x. same_role x.role role) p.0 f.ports p.1 (subst (λ z. same_role z role ≡ true) (p.2).role q.3))),
           ap (lanes_of g) q.2 ∙ ap (λ (o : Option Port). option_map_or (λ x. x.pool) o 0) (find-own (λ (p : Port). p.number) g.ports q.0 own' q.1) ∙ (p.2).pool
-              ∙ sym (ap (lanes_of f) (q.2 ∙ (p.2).number) ∙ ap (λ (o : Option Port). option_map_or (λ x. x.pool) o 0) (find-own (λ (p : Port). p.number) f.ports p.0 own p.1)),
+              ∙ sym (ap (lanes_of f) (q.2 ∙ (p.2).number)
+              ∙ ap (λ (o : Option Port). option_map_or (λ x. x.pool) o 0) (find-own (λ (p : Port). p.number) f.ports p.0 own p.1)),
         )
 
     by_role : (b : Bool) → IsAmong y (if b then ways_from_client g k else ways_from_server g k)

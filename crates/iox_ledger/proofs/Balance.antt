@@ -136,7 +136,8 @@ saw-within : (w : World) (n r : ℕ) (d : Doing) (m : Moment) (y : Way) → Fits
     → IsAt w.state.fixed.ports y.receiver r → Holding w.state y (w.doing n) → BorrowFits (view w.state.fixed r) r
     → out any w.state y (had_of w.state.fixed w.doing y r) ≤ buffer_on w.state.fixed y + borrow_limit_on w.state.fixed y
 saw-within w n r d m y fits at_work holds saw at holding borrows =
-    sum (count any (serials_of (w.state.waiting y))) (count any (had_of w.state.fixed w.doing y r)) (count any (w.state.returned y)) (count any (w.state.in_hand y))
+    sum (count any (serials_of (w.state.waiting y))) (count any (had_of w.state.fixed w.doing y r)) (count any (w.state.returned y))
+    (count any (w.state.in_hand y))
     (buffer_on w.state.fixed y) (borrow_limit_on w.state.fixed y) waits has none hand
   where
     sum : (a b c d e f : ℕ) → a ≤ e → b ≤ f → c ≡ 0 → d ≤ 0 → a + b + c + d ≤ e + f
@@ -216,7 +217,8 @@ moved-within w node n r d m y size fits at_work holds c at there holding borrows
         one-more true q t = adds size (count any (got_on y m)) before (count any (put_on y m)) all 0 1 follows q t refl
         one-more false q t = adds size (count any (got_on y m)) before (count any (put_on y m)) all 1 0 follows q t refl
 
-    by_case : (b : Bool) → (n == node) ≡ b → size ≤ all + one_if (not (emptied_of w.state.fixed y (if b then Some (next w.state node d m).after else w.doing n)))
+    by_case : (b : Bool) → (n == node) ≡ b
+        → size ≤ all + one_if (not (emptied_of w.state.fixed y (if b then Some (next w.state node d m).after else w.doing n)))
     by_case true e = own (ap w.doing (eqb-true n node e) ∙ at_work) (is_emptied_by w.state.fixed y (next w.state node d m).after) refl (eqb-true n node e)
     by_case false e =
         no-more size (count any (got_on y m)) before (count any (put_on y m)) (all + one_if (not (emptied_of w.state.fixed y (w.doing n)))) follows

@@ -54,7 +54,8 @@ sends-starts : (f : Fixed) (y : Way) (h : Handle) (copied : Bool) → StartsWell
 sends-starts f y h copied = (sends-quiet f h copied, false_if _ (sends-none f y h copied))
 
 lending-starts : (s : State) (y : Way) (copies : Bool) (h : Handle) → StartsWell s.fixed y (lending s copies h)
-lending-starts s y copies h = (loaning-quiet s copies h (lending_ways s.fixed h), false_if _ (λ e. all_left (loaning-emptied s y copies h (lending_ways s.fixed h) e)))
+lending-starts s y copies h =
+    (loaning-quiet s copies h (lending_ways s.fixed h), false_if _ (λ e. all_left (loaning-emptied s y copies h (lending_ways s.fixed h) e)))
   where
     all_left : (has_way y (lending_ways s.fixed h) ≡ true) × (has_way y (lending_ways s.fixed h) ≡ false) → ⊥
     all_left p = true≢false (sym p.0 ∙ p.1)
@@ -93,12 +94,14 @@ writes-starts f y h (Some k) words =
 
 reads-starts : (f : Fixed) (y : Way) (c : Choice) (h : Handle) → StartsWell f y (reads c h)
 reads-starts f y c h =
-    either (StartsWell f y) c.memory (Ended (Tells (Words (h.message.user ++ h.message.payload)))) (refused WantOfMemory) (λ u. (refl, refl)) (λ u. (refl, refl))
+    either (StartsWell f y) c.memory (Ended (Tells (Words (h.message.user ++ h.message.payload)))) (refused WantOfMemory) (λ u. (refl, refl))
+    (λ u. (refl, refl))
 
 -- ---- releases
 
 -- what came from a forgotten sender is just dropped, and that way is not live
-returning-well : (f : Fixed) (n : ℕ) (h : Handle) (y : Way) → HasOwnHandles (f.handles n) → IsAmong h (f.handles n) → h.node ≡ n → is_received h.kind ≡ true → BeginsWell f n y (returning f h)
+returning-well : (f : Fixed) (n : ℕ) (h : Handle) (y : Way) → HasOwnHandles (f.handles n) → IsAmong h (f.handles n) → h.node ≡ n
+    → is_received h.kind ≡ true → BeginsWell f n y (returning f h)
 returning-well f n h y apart among node received =
     either (BeginsWell f n y) (forgot_port f h.node (way_of h).sender) (Ended (Drops h)) (Returning h)
     (λ e. record { held = λ known. dropped-held y (f.handles n) h apart among (off e known); release = tt; empties = refl })
@@ -108,7 +111,8 @@ returning-well f n h y apart among node received =
     off e known = received-on y h received ∙ false_if (same_way y (way_of h)) (λ same. true≢false
         (sym e ∙ ap (λ k. forgot_port f k (way_of h).sender) node ∙ ap (λ (w : Way). forgot_port f n w.sender) (sym (same_way-true y (way_of h) same)) ∙ known))
 
-releases-well : (f : Fixed) (n : ℕ) (h : Handle) (y : Way) → HasOwnHandles (f.handles n) → IsAmong h (f.handles n) → h.node ≡ n → BeginsWell f n y (releases_handle f h)
+releases-well : (f : Fixed) (n : ℕ) (h : Handle) (y : Way) → HasOwnHandles (f.handles n) → IsAmong h (f.handles n) → h.node ≡ n
+    → BeginsWell f n y (releases_handle f h)
 releases-well f n h y apart among node =
     either (BeginsWell f n y) (is_received h.kind) (returning f h)
     (if same_kind h.kind PendingResponse then closing h (states_of f h) else Ended (Drops h))
@@ -152,13 +156,15 @@ begins-well s n c (HasResponse k) (TheHandle h) y fits is =
     of_start s.fixed n y _ (seeking-quiet (pending_ways s.fixed h), seeking-none s.fixed y (pending_ways s.fixed h))
 begins-well s n c call x y fits is = of_start s.fixed n y _ (refl, refl)
 
-start-well : (s : State) (n : ℕ) (c : Choice) (call : Call) (y : Way) → FitsHandles (view s.fixed n) n → misnamed s.fixed n call ≡ None → BeginsWell s.fixed n y (start s n c call)
+start-well : (s : State) (n : ℕ) (c : Choice) (call : Call) (y : Way) → FitsHandles (view s.fixed n) n → misnamed s.fixed n call ≡ None
+    → BeginsWell s.fixed n y (start s n c call)
 start-well s n c call y fits e =
     let p : IsNamedBy s.fixed n call (subject s.fixed n (number_of call)) = named-by s.fixed n call (subject s.fixed n (number_of call)) e in
     subst (λ (o : Option Subject). BeginsWell s.fixed n y (option_map_or (begins_at s c call) o (refused UnknownNumber))) (sym p.is)
     (begins-well s n c call p.named y fits
     (there s.fixed n (number_of call) p.named (port_at s.fixed (number_of call)) (handle_at s.fixed n (number_of call)) refl refl p.is))
 
-pub wire_start-well : (s : State) (n : ℕ) (c : Choice) (call : WireCall) (y : Way) → FitsHandles (view s.fixed n) n → miscalled s n call ≡ None → BeginsWell s.fixed n y (wire_start s n c call)
+pub wire_start-well : (s : State) (n : ℕ) (c : Choice) (call : WireCall) (y : Way) → FitsHandles (view s.fixed n) n → miscalled s n call ≡ None
+    → BeginsWell s.fixed n y (wire_start s n c call)
 wire_start-well s n c (wire_calls.Port call) y fits e = start-well s n c call y fits e
 wire_start-well s n c (Forget dead) y fits e = of_start s.fixed n y _ (refl, refl)

@@ -62,7 +62,8 @@ lends-counts v n port p = record { counts = p.counts; within = p.within }
 
 less-counts : (v : View) (n : ℕ) (h : Handle) → BorrowFits v n → BorrowFits (less v h) n
 less-counts v n h p = record {
-  counts = λ y at. at-most (count (has_received y) (without_handle h v.handles)) (count (has_received y) v.handles) (v.borrowed y) (count-less (has_received y) h v.handles) (p.counts y at);
+  counts = λ y at. at-most (count (has_received y) (without_handle h v.handles)) (count (has_received y) v.handles) (v.borrowed y)
+      (count-less (has_received y) h v.handles) (p.counts y at);
   within = p.within;
 }
 
@@ -123,15 +124,18 @@ gives-counts v n h among received p = record {
         (count-gone (has_received y) h v.handles among (subst (λ u. has_received u h ≡ true) (sym (same_way-true y (way_of h) e)) (received-itself h received)))
         (subst (λ u. count (has_received y) v.handles ≤ v.borrowed u) (same_way-true y (way_of h) e) (p.counts y at))
     counts y at false e =
-        at-most (count (has_received y) (without_handle h v.handles)) (count (has_received y) v.handles) (v.borrowed y) (count-less (has_received y) h v.handles) (p.counts y at)
+        at-most (count (has_received y) (without_handle h v.handles)) (count (has_received y) v.handles) (v.borrowed y)
+        (count-less (has_received y) h v.handles) (p.counts y at)
 
     within : (y : Way) → (b : Bool) → (b ≡ true → y ≡ way_of h) → (if b then v.borrowed (way_of h) - 1 else v.borrowed y) ≤ limit_in v y
-    within y true e = subst (λ u. v.borrowed (way_of h) - 1 ≤ limit_in v u) (sym (e refl)) (less_one (v.borrowed (way_of h)) (limit_in v (way_of h)) (p.within (way_of h)))
+    within y true e =
+        subst (λ u. v.borrowed (way_of h) - 1 ≤ limit_in v u) (sym (e refl)) (less_one (v.borrowed (way_of h)) (limit_in v (way_of h)) (p.within (way_of h)))
     within y false e = p.within y
 
 after-counts : (v : View) (n : ℕ) (payload : List ℕ) (o : Outcome) → FitsOutcome v n o → BorrowFits v n → BorrowFits (after_call v n payload o) n
 after-counts v n payload (Tells reply) f p = p
-after-counts v n payload (Loans h) f p = lends-counts (plus (counted v) (holding h payload)) n h.port (plus-counts v n (holding h payload) (loan-own h.kind f.loan) p)
+after-counts v n payload (Loans h) f p =
+    lends-counts (plus (counted v) (holding h payload)) n h.port (plus-counts v n (holding h payload) (loan-own h.kind f.loan) p)
 after-counts v n payload (Fills h) f p = swapped-counts v n h (loan-own h.kind f.is_loan_still) p
 after-counts v n payload (Sends h true count) f p =
     either (λ (u : View). BorrowFits (lends_one u h.port) n) (is_request_loan h.kind) (plus (counted v) (sent_handle h count)) v
@@ -143,7 +147,8 @@ after-counts v n payload (FailsToSend h true refusal) f p = lends-counts v n h.p
 after-counts v n payload (FailsToSend h false refusal) f p = less-counts v n h p
 after-counts v n payload (Receives x w m) f p = takes-counts v n (taken_handle v n x m) w (taken-way v n x w m f.1) (f.1).1 p
 after-counts v n payload (Drops h) f p =
-    either (λ (u : View). BorrowFits u n) (is_received h.kind) (record (less v h) { borrowed = put v.borrowed (way_of h) (v.borrowed (way_of h) - 1) }) (less v h)
+    either (λ (u : View). BorrowFits u n) (is_received h.kind)
+    (record (less v h) { borrowed = put v.borrowed (way_of h) (v.borrowed (way_of h) - 1) }) (less v h)
     (λ e. gives-counts v n h f e p) (λ u. less-counts v n h p)
 after-counts v n payload (DropsPort port) f p = absurd f
 after-counts v n payload (Forgets dead) f p =

@@ -72,7 +72,8 @@ shrinks-holding : (s u : State) (y : Way) (o o' : Option Doing) → Shrinks s u 
     → Holding u y o'
 shrinks-holding s u y o o' less same p a b = record {
   waits = subst (λ (f : Fixed). length (u.waiting y) ≤ buffer_on f y + one_if (of_call evicts_next y o')) (sym same)
-      (both-less (length (u.waiting y)) (length (s.waiting y)) (buffer_on s.fixed y) (one_if (of_call evicts_next y o)) (one_if (of_call evicts_next y o')) less.waits p.waits a);
+      (both-less (length (u.waiting y)) (length (s.waiting y)) (buffer_on s.fixed y) (one_if (of_call evicts_next y o))
+      (one_if (of_call evicts_next y o')) less.waits p.waits a);
   hand = at-most (length (u.in_hand y)) (length (s.in_hand y)) (one_if (of_call has_evicted y o')) less.hand
       (at-most (length (s.in_hand y)) (one_if (of_call has_evicted y o)) (one_if (of_call has_evicted y o')) p.hand b);
 }
@@ -92,7 +93,8 @@ deliver-sends s n (Delivering z last left count) x m p c =
     ap (node_in s.fixed.ports) (target-of z x ((p.1).among x (way-among x left c.0))).0 ∙ ((p.0).loan).of_port
 deliver-sends s n d x m p c = absurd c
 
-last-sends : (s : State) (n : ℕ) (z : Sending) (x : Way) (last : Option Way) → FitsLoan (view s.fixed n) n z.loan z.copied → FitsLast z last → is_last x last ≡ true
+last-sends : (s : State) (n : ℕ) (z : Sending) (x : Way) (last : Option Way) → FitsLoan (view s.fixed n) n z.loan z.copied → FitsLast z last
+    → is_last x last ≡ true
     → IsAt s.fixed.ports x.sender n
 last-sends s n z x None loan p e = absurd (true≢false (sym e))
 last-sends s n z x (Some v) loan p e =
@@ -136,7 +138,8 @@ not-over s y (Some v) e p = by_case (same_way y v) refl p
 
     by_case : (b : Bool) → same_way y v ≡ b → length (s.waiting y) ≤ buffer_on s.fixed y + one_if b → length (s.waiting y) ≤ buffer_on s.fixed y
     by_case true h q =
-        subst (λ w. length (s.waiting w) ≤ buffer_on s.fixed w) (sym (same_way-true y v h)) (fits (buffer_on s.fixed v) (length (s.waiting v)) (not-true (is_overfull s v) e))
+        subst (λ w. length (s.waiting w) ≤ buffer_on s.fixed w) (sym (same_way-true y v h))
+        (fits (buffer_on s.fixed v) (length (s.waiting v)) (not-true (is_overfull s v) e))
     by_case false h q = at-most (length (s.waiting y)) (buffer_on s.fixed y + 0) (buffer_on s.fixed y) q (omega arith)
 
 delivered-waits : (s : State) (n : ℕ) (z : Sending) (x y : Way) (m : Message) → z.overflow ≡ overflows_on s.fixed x
@@ -151,11 +154,13 @@ delivered-waits s n z x y m over room p = by_case (same_way y x) refl
     longer : (a b c d : ℕ) → nat_lt a (b + c) ≡ true → c ≡ d → a + 1 ≤ b + d
     longer a b c d h e = subst (λ k. a + 1 ≤ b + k) e (grind (arith))
 
-    by_case : (b : Bool) → same_way y x ≡ b → length (if b then s.waiting x ++ m ∷ [] else s.waiting y) ≤ buffer_on s.fixed y + one_if (is_last y (may_evict z x))
+    by_case : (b : Bool) → same_way y x ≡ b
+        → length (if b then s.waiting x ++ m ∷ [] else s.waiting y) ≤ buffer_on s.fixed y + one_if (is_last y (may_evict z x))
     by_case true e =
         subst (λ w. length (s.waiting x ++ m ∷ []) ≤ buffer_on s.fixed w + one_if (is_last w (may_evict z x))) (sym (same_way-true y x e))
         (subst (λ k. k ≤ buffer_on s.fixed x + one_if (is_last x (may_evict z x))) (sym (length-last (s.waiting x) m))
-        (longer (length (s.waiting x)) (buffer_on s.fixed x) (one_if (overflows_on s.fixed x)) (one_if (is_last x (may_evict z x))) room (one-more z.overflow refl)))
+        (longer (length (s.waiting x)) (buffer_on s.fixed x) (one_if (overflows_on s.fixed x)) (one_if (is_last x (may_evict z x))) room
+        (one-more z.overflow refl)))
     by_case false e = at-most (length (s.waiting y)) (buffer_on s.fixed y) (buffer_on s.fixed y + one_if (is_last y (may_evict z x))) p (omega arith)
 
 pub one-taken : (xs : List Message) → length (serials_of (take 1 xs)) ≤ 1
@@ -251,7 +256,8 @@ ended-holding s (Delivering x last [] count) o y e q = by_case (is_over s last) 
     }
 ended-holding s d o y e q = absurd (none-some o e)
 
-same-holding : (s u : State) (y : Way) (o : Option Doing) → u.waiting ≡ s.waiting → u.in_hand ≡ s.in_hand → ((v : Way) → buffer_on u.fixed v ≡ buffer_on s.fixed v)
+same-holding : (s u : State) (y : Way) (o : Option Doing) → u.waiting ≡ s.waiting → u.in_hand ≡ s.in_hand
+    → ((v : Way) → buffer_on u.fixed v ≡ buffer_on s.fixed v)
     → Holding s y o → Holding u y o
 same-holding s u y o waiting in_hand buffers q = record {
   waits = subst (λ k. length (u.waiting y) ≤ k + one_if (of_call evicts_next y o)) (sym (buffers y))
@@ -265,7 +271,8 @@ over-holding : (w : World) (node n : ℕ) (payload : List ℕ) (d : Doing) (o : 
 over-holding w node n payload d o y fits is p e q =
     same-holding w.state (settled w.state node payload o) y (put_at w.doing node None n)
     (settled_same w.state node payload o fits.wire).waiting (settled_same w.state node payload o fits.wire).in_hand
-    (λ v. ap (λ (u : View). buffer_of u.limits (role_in u.ports v.sender)) (settled-else w.state node (node + 1) payload o fits.wire (fits.handles node) p (next-node node)))
+    (λ v. ap (λ (u : View). buffer_of u.limits (role_in u.ports v.sender))
+    (settled-else w.state node (node + 1) payload o fits.wire (fits.handles node) p (next-node node)))
     (by_case (n == node) refl)
   where
     by_case : (b : Bool) → (n == node) ≡ b → Holding w.state y (if b then None else w.doing n)

@@ -35,7 +35,8 @@ pub port-of-node : (ports : List Port) (node number : ℕ) → has_number number
     → (p : Port) × IsAmong p ports × (number ≡ p.number) × (p.node ≡ node)
 port-of-node ports node number e =
     let r : (p : Port) × IsAmong p (filter (λ p. p.node == node) ports) × (number ≡ p.number)
-    = map-among (λ p. p.number) number (filter (λ p. p.node == node) ports) (number-among number (map (λ p. p.number) (filter (λ p. p.node == node) ports)) e) in
+    = map-among (λ p. p.number) number (filter (λ p. p.node == node) ports)
+    (number-among number (map (λ p. p.number) (filter (λ p. p.node == node) ports)) e) in
     let t : IsAmong r.0 ports × (((r.0).node == node) ≡ true) = filter-among (λ p. p.node == node) r.0 ports r.1 in
     (r.0, t.0, r.2, eqb-true (r.0).node node t.1)
 
@@ -107,7 +108,8 @@ keeps-clear s u keeps clear y t k =
     ) k
 
 has-more : (dead gone : ℕ) (ns : List ℕ) → has_number dead (ns ++ gone ∷ []) ≡ true → (has_number dead ns ≡ true) ⊎ (dead ≡ gone)
-has-more dead gone ns e = elim (among-append dead ns (gone ∷ []) (number-among dead (ns ++ gone ∷ []) e)) as (λ u. (has_number dead ns ≡ true) ⊎ (dead ≡ gone)) [
+has-more dead gone ns e =
+    elim (among-append dead ns (gone ∷ []) (number-among dead (ns ++ gone ∷ []) e)) as (λ u. (has_number dead ns ≡ true) ⊎ (dead ≡ gone)) [
   | inl a ↦ inl (among-number dead ns a)
   | inr a ↦ inr (only a)
 ]

@@ -87,7 +87,8 @@ request-none f y h copied to request =
 
 response-none : (f : Fixed) (y : Way) (h : Handle) (copied : Bool) → is_emptied_by f y (sends_response f h copied) ≡ true → ⊥
 response-none f y h copied =
-    either (λ d. is_emptied_by f y d ≡ true → ⊥) (has_number h.client (others f h.node Client)) (Asking (sending_of f h copied (h.client ∷ []))) (Ended (Sends h copied 0))
+    either (λ d. is_emptied_by f y d ≡ true → ⊥) (has_number h.client (others f h.node Client)) (Asking (sending_of f h copied (h.client ∷ [])))
+    (Ended (Sends h copied 0))
     (λ u e. true≢false (sym e)) (λ u e. true≢false (sym e))
 
 pub sends-none : (f : Fixed) (y : Way) (h : Handle) (copied : Bool) → is_emptied_by f y (sends f h copied) ≡ true → ⊥
@@ -108,7 +109,8 @@ pub visiting-none : (f : Fixed) (y : Way) (x : Receiver) (left : List Way) (seen
 visiting-none f y x [] seen = refl
 visiting-none f y x (w ∷ left) seen = refl
 
-pub took-none : (f : Fixed) (n : ℕ) (y : Way) (x : Receiver) (w : Way) (m : Message) (left : List Way) (seen : Bool) → EmptiesNone f y (took f n x w m left seen)
+pub took-none : (f : Fixed) (n : ℕ) (y : Way) (x : Receiver) (w : Way) (m : Message) (left : List Way) (seen : Bool)
+    → EmptiesNone f y (took f n x w m left seen)
 took-none f n y x w m left seen =
     either (EmptiesNone f y) (is_client x.role) (took_response f n x w m left seen) (took_request f x w m left seen)
     (λ u. either (EmptiesNone f y) (m.request == x.request) (Ended (Receives x w m)) (stale f n x w m left seen) (λ v. refl)

@@ -108,7 +108,8 @@ takes-here s n d x m p c = absurd c
 pub gives-here : (s : State) (n : ℕ) (d : Doing) (x : Way) (k : ℕ) → FitsHandles (view s.fixed n) n → FitsDoing (view s.fixed n) n d
     → (next s n d (GiveBack x k)).condition → IsAt s.fixed.ports x.receiver n
 gives-here s n (Stale z v m left seen) x k fits p c =
-    subst (λ (w : Way). IsAt s.fixed.ports w.receiver n) (sym (same_way-true x v (split _ _ c).0)) (subst (λ q. IsAt s.fixed.ports q n) (sym ((p.1).0).0) (p.0).0)
+    subst (λ (w : Way). IsAt s.fixed.ports w.receiver n) (sym (same_way-true x v (split _ _ c).0))
+    (subst (λ q. IsAt s.fixed.ports q n) (sym ((p.1).0).0) (p.0).0)
 gives-here s n (Returning h) x k fits p c =
     subst (λ (w : Way). IsAt s.fixed.ports w.receiver n) (sym (same_way-true x (way_of h) (split _ _ c).0))
     (subst (λ q. IsAt s.fixed.ports q n) (sym (way_of-receiver h)) (fits.of_port h p))

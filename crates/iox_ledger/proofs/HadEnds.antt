@@ -58,7 +58,8 @@ received-held : (v : View) (n : ℕ) (x : Receiver) (w : Way) (m : Message) (y :
 received-held v n x w m y is =
     ap serials (filter-last (has_received y) v.handles (taken_handle v n x m))
     ∙ serials-append (filter (has_received y) v.handles) (if has_received y (taken_handle v n x m) then taken_handle v n x m ∷ [] else [])
-    ∙ ap (λ ks. serials (filter (has_received y) v.handles) ++ ks) (new (has_received y (taken_handle v n x m)) ∙ ap (λ (b : Bool). if b then m.serial ∷ [] else []) here)
+    ∙ ap (λ ks. serials (filter (has_received y) v.handles) ++ ks) (new (has_received y (taken_handle v n x m))
+    ∙ ap (λ (b : Bool). if b then m.serial ∷ [] else []) here)
   where
     new : (b : Bool) → serials (if b then taken_handle v n x m ∷ [] else []) ≡ (if b then m.serial ∷ [] else [])
     new true = refl
@@ -75,7 +76,8 @@ pub ended-held : (s : State) (d : Doing) (o : Outcome) (y : Way) (hs : List Hand
 ended-held s (Ended a) o y hs e = ap (λ (b : Outcome). held_on y hs (Some (Ended b))) (some-is a o e)
 ended-held s (Delivering x last [] count) o y hs e = by_case (is_over s last) e
   where
-    by_case : (b : Bool) → (if b then None else Some (Sends x.loan x.copied count)) ≡ Some o → held_on y hs (Some (Delivering x last [] count)) ≡ held_on y hs (Some (Ended o))
+    by_case : (b : Bool) → (if b then None else Some (Sends x.loan x.copied count)) ≡ Some o
+        → held_on y hs (Some (Delivering x last [] count)) ≡ held_on y hs (Some (Ended o))
     by_case true e = absurd (none-some o e)
     by_case false e = ap (λ (b : Outcome). held_on y hs (Some (Ended b))) (some-is (Sends x.loan x.copied count) o e)
 ended-held s d o y hs e = absurd (none-some o e)
@@ -89,17 +91,21 @@ pub over-held : (v : View) (n : ℕ) (payload : List ℕ) (o : Outcome) (y : Way
     → held_on y (after_call v n payload o).handles None ≡ held_on y v.handles (Some (Ended o))
 over-held v n payload (Tells reply) y fits p = same-held y v.handles v.handles refl
 over-held v n payload (Loans h) y fits p =
-    same-held y v.handles (v.handles ++ holding h payload ∷ []) (plus-held y v.handles (holding h payload) (no_received y (holding h payload) (loan-own h.kind p.loan)))
+    same-held y v.handles (v.handles ++ holding h payload ∷ [])
+    (plus-held y v.handles (holding h payload) (no_received y (holding h payload) (loan-own h.kind p.loan)))
 over-held v n payload (Fills h) y fits p =
     same-held y v.handles (with_handle h v.handles)
-    (swapped-held y v.handles h p.old fits.apart p.among p.number (no_received y h (loan-own h.kind p.is_loan_still)) (no_received y p.old (loan-own p.old.kind p.was_loan)))
+    (swapped-held y v.handles h p.old fits.apart p.among p.number (no_received y h (loan-own h.kind p.is_loan_still))
+    (no_received y p.old (loan-own p.old.kind p.was_loan)))
 over-held v n payload (Sends h true count) y fits p =
-    either (λ (u : View). serials (filter (has_received y) u.handles) ≡ serials (filter (λ g. has_received y g && true) v.handles) ++ []) (is_request_loan h.kind)
+    either (λ (u : View). serials (filter (has_received y) u.handles) ≡ serials (filter (λ g. has_received y g && true) v.handles) ++ [])
+    (is_request_loan h.kind)
     (plus (counted v) (sent_handle h count)) v
     (λ u. same-held y v.handles (v.handles ++ sent_handle h count ∷ []) (plus-held y v.handles (sent_handle h count) refl))
     (λ u. same-held y v.handles v.handles refl)
 over-held v n payload (Sends h false count) y fits p =
-    either (λ (u : View). serials (filter (has_received y) u.handles) ≡ serials (filter (λ g. has_received y g && true) v.handles) ++ []) (is_request_loan h.kind)
+    either (λ (u : View). serials (filter (has_received y) u.handles) ≡ serials (filter (λ g. has_received y g && true) v.handles) ++ [])
+    (is_request_loan h.kind)
     (swapped v (sent_handle h count)) (less v h)
     (λ u. same-held y v.handles (with_handle (sent_handle h count) v.handles)
     (swapped-held y v.handles (sent_handle h count) h fits.apart p.stands refl refl (no_received y h (loan-own h.kind p.loan))))
@@ -112,9 +118,11 @@ over-held v n payload (Drops h) y fits p =
     either (λ (u : View). serials (filter (has_received y) u.handles) ≡ serials (filter (λ g. has_received y g && not (h.number == g.number)) v.handles) ++ [])
     (is_received h.kind) (record (less v h) { borrowed = put v.borrowed (way_of h) (v.borrowed (way_of h) - 1) }) (less v h) (λ u. gone) (λ u. gone)
   where
-    gone : serials (filter (has_received y) (without_handle h v.handles)) ≡ serials (filter (λ g. has_received y g && not (h.number == g.number)) v.handles) ++ []
+    gone : serials (filter (has_received y) (without_handle h v.handles))
+        ≡ serials (filter (λ g. has_received y g && not (h.number == g.number)) v.handles) ++ []
     gone = ap serials (without-passes (has_received y) h v.handles) ∙ sym (append-nil _)
 over-held v n payload (DropsPort port) y fits p = absurd p
 over-held v n payload (Forgets dead) y fits p =
-    either (λ (u : View). serials (filter (has_received y) u.handles) ≡ serials (filter (λ g. has_received y g && true) v.handles) ++ []) (has_number dead v.forgot)
+    either (λ (u : View). serials (filter (has_received y) u.handles) ≡ serials (filter (λ g. has_received y g && true) v.handles) ++ [])
+    (has_number dead v.forgot)
     v (record v { forgot = v.forgot ++ dead ∷ [] }) (λ u. same-held y v.handles v.handles refl) (λ u. same-held y v.handles v.handles refl)

@@ -102,7 +102,8 @@ stale-follows value y hs x v w m k left seen c =
 
 returned-follows : (value : ℕ → Bool) (y : Way) (hs : List Handle) (h : Handle) (w : Way) (k : ℕ) → HasOwnHandles hs → IsAmong h hs → is_received h.kind ≡ true
     → (same_way w (way_of h) && (k == h.message.serial)) ≡ true
-    → count value (serials (filter (passes_but (has_received y) h.number) hs) ++ []) + count value (if_on y w k) ≡ count value (held_on y hs (Some (Returning h))) + 0
+    → count value (serials (filter (passes_but (has_received y) h.number) hs) ++ []) + count value (if_on y w k)
+    ≡ count value (held_on y hs (Some (Returning h))) + 0
 returned-follows value y hs h w k apart among received c =
     adds (count value (serials (filter (has_received y) hs))) (count value (serials (filter (passes_but (has_received y) h.number) hs)))
     (if has_received y h then one_if (value h.message.serial) else 0) (count value (if_on y w k))
@@ -173,7 +174,8 @@ own-had s n (Closing h left) (Close w id) y value apart p r known c =
     same-too value _ (held_on y (s.fixed.handles n) (Some (Closing h left)))
     (closing-held y (s.fixed.handles n) h (without_way w left) apart p r ∙ sym (held-handles y (s.fixed.handles n)))
 own-had s n (Returning h) (GiveBack w k) y value apart p r known c =
-    either (λ d. count value (held_on y (s.fixed.handles n) (Some d)) + count value (if_on y w k) ≡ count value (held_on y (s.fixed.handles n) (Some (Returning h))) + 0)
+    either (λ d. count value (held_on y (s.fixed.handles n) (Some d)) + count value (if_on y w k)
+    ≡ count value (held_on y (s.fixed.handles n) (Some (Returning h))) + 0)
     (same_kind h.kind ActiveRequest) (Leaving h) (Ended (Drops h)) (λ u. returned-follows value y (s.fixed.handles n) h w k apart p r c)
     (λ u. returned-follows value y (s.fixed.handles n) h w k apart p r c)
 own-had s n (Leaving h) (Look w shown) y value apart p r known c = refl

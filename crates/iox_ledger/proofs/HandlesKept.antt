@@ -22,7 +22,8 @@ with-among h g (k ∷ ks) d p = by_case (k.number == h.number) refl (with-among 
         → IsAmong g (if b then h ∷ ks else k ∷ with_handle h ks) → (g ≡ h) ⊎ (IsAmong g (k ∷ ks) × (g.number ≡ h.number → ⊥))
     by_case true e rest (inl q) = inl q
     by_case true e rest (inr q) =
-        inr (inr q, λ same. d.0 (subst (λ n. IsAmong n (map (λ x. x.number) ks)) (same ∙ sym (eqb-true k.number h.number e)) (among-map (λ x. x.number) g ks q)))
+        inr (inr q, λ same. d.0 (subst (λ n. IsAmong n (map (λ x. x.number) ks)) (same ∙ sym (eqb-true k.number h.number e))
+        (among-map (λ x. x.number) g ks q)))
     by_case false e rest (inl q) = inr (inl q, λ same. never (k.number == h.number) (eq-eqb k.number h.number (sym (ap (λ (x : Handle). x.number) q) ∙ same)) e)
     by_case false e rest (inr q) = elim (rest q) as (λ u. (g ≡ h) ⊎ (IsAmong g (k ∷ ks) × (g.number ≡ h.number → ⊥))) [
       | inl r ↦ inl r
@@ -185,7 +186,8 @@ swapped-fits v n h fits r = record {
     lent : (is_loan r.old.kind ≡ true) × (h.message.serial ≡ r.old.message.serial) × IsMade v.ports h → h.message.serial < v.loans h.port
     lent q = subst (λ m. m < v.loans h.port) (sym q.1) (subst (λ p. r.old.message.serial < v.loans p) (sym r.port) (fits.lent r.old r.among q.0))
 
-    same : (g : Handle) → IsAmong g v.handles → is_loan g.kind ≡ true → is_loan h.kind ≡ true → g.port ≡ h.port → g.message.serial ≡ h.message.serial → g.number ≡ h.number
+    same : (g : Handle) → IsAmong g v.handles → is_loan g.kind ≡ true → is_loan h.kind ≡ true → g.port ≡ h.port → g.message.serial ≡ h.message.serial
+        → g.number ≡ h.number
     same g a l m port serial =
         fits.alone g r.old a r.among l (r.loan m).0 (port ∙ r.port) (serial ∙ (r.loan m).1) ∙ sym r.number
 

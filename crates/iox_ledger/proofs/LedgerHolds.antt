@@ -45,7 +45,8 @@ weave-holds w v (b ∷ bs) n r y weave p =
       ledger = beat-ledger w weave.0 b n r y weave.1 p.fits p.sender p.receiver p.ledger;
     })
 
-opened-holds : (s : State) (y : Way) → Fits (at_work (opened s)) → Holds (at_work (opened s)) y (node_in s.fixed.ports y.sender) (node_in s.fixed.ports y.receiver)
+opened-holds : (s : State) (y : Way) → Fits (at_work (opened s))
+    → Holds (at_work (opened s)) y (node_in s.fixed.ports y.sender) (node_in s.fixed.ports y.receiver)
 opened-holds s y fits = record {
   fits = fits;
   sender = refl;
@@ -164,7 +165,8 @@ pub length-out : (v : World) (y : Way) → out any v.state y (had_on v y) ≡ si
 length-out v y =
     sums (count any (serials_of (v.state.waiting y))) (count any (had_on v y)) (count any (v.state.returned y)) (count any (v.state.in_hand y))
     (length (v.state.waiting y)) (length (had_on v y)) (length (v.state.returned y)) (length (v.state.in_hand y))
-    (count-all (serials_of (v.state.waiting y)) ∙ length-map (v.state.waiting y) (λ (m : Message). m.serial)) (count-all (had_on v y)) (count-all (v.state.returned y))
+    (count-all (serials_of (v.state.waiting y)) ∙ length-map (v.state.waiting y) (λ (m : Message). m.serial)) (count-all (had_on v y))
+    (count-all (v.state.returned y))
     (count-all (v.state.in_hand y))
   where
     sums : (a b c d e f g h : ℕ) → a ≡ e → b ≡ f → c ≡ g → d ≡ h → a + b + c + d ≡ e + f + g + h

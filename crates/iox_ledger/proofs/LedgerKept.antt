@@ -145,7 +145,8 @@ over-balanced : (w : World) (node n r : ℕ) (payload : List ℕ) (d : Doing) (o
 over-balanced w node n r payload d o y fits at_work f ended live p = record {
   counts = λ k. outs (is k) ∙ p.counts k ∙ ap one_if (sym (over-record w.state node payload o y fits.wire fits.own f live k));
   size =
-      subst (λ a. a ≤ buffer_on after.fixed y + borrow_limit_on after.fixed y + one_if (not (emptied_of after.fixed y (put_at w.doing node None n)))) (sym (outs any))
+      subst (λ a. a ≤ buffer_on after.fixed y + borrow_limit_on after.fixed y + one_if (not (emptied_of after.fixed y (put_at w.doing node None n))))
+      (sym (outs any))
       (subst (λ a. before ≤ a + borrow_limit_on after.fixed y + one_if (not (emptied_of after.fixed y (put_at w.doing node None n)))) (sym buffers)
       (subst (λ a. before ≤ buffer_on w.state.fixed y + a + one_if (not (emptied_of after.fixed y (put_at w.doing node None n)))) (sym limits)
       (sized (n == node) refl)));
@@ -158,7 +159,9 @@ over-balanced w node n r payload d o y fits at_work f ended live p = record {
     before = out any w.state y (had_of w.state.fixed w.doing y r)
 
     buffers : buffer_on after.fixed y ≡ buffer_on w.state.fixed y
-    buffers = ap (λ (u : View). buffer_of u.limits (role_in u.ports y.sender)) (settled-else w.state node (node + 1) payload o fits.wire (fits.handles node) f (next-node node))
+    buffers =
+        ap (λ (u : View). buffer_of u.limits (role_in u.ports y.sender))
+        (settled-else w.state node (node + 1) payload o fits.wire (fits.handles node) f (next-node node))
 
     limits : borrow_limit_on after.fixed y ≡ borrow_limit_on w.state.fixed y
     limits =
@@ -178,11 +181,14 @@ over-balanced w node n r payload d o y fits at_work f ended live p = record {
     outs : (value : ℕ → Bool) → out value after y (had_of after.fixed (put_at w.doing node None) y r) ≡ out value w.state y (had_of w.state.fixed w.doing y r)
     outs value =
         ap (λ ks. out value after y ks) (had (r == node) refl)
-        ∙ ap (λ (g : Way → List Message). count value (serials_of (g y)) + count value (had_of w.state.fixed w.doing y r) + count value (after.returned y) + count value (after.in_hand y))
+        ∙ ap (λ (g : Way → List Message). count value (serials_of (g y)) + count value (had_of w.state.fixed w.doing y r)
+        + count value (after.returned y) + count value (after.in_hand y))
         (settled_same w.state node payload o fits.wire).waiting
-        ∙ ap (λ (g : Way → List ℕ). count value (serials_of (w.state.waiting y)) + count value (had_of w.state.fixed w.doing y r) + count value (g y) + count value (after.in_hand y))
+        ∙ ap (λ (g : Way → List ℕ). count value (serials_of (w.state.waiting y)) + count value (had_of w.state.fixed w.doing y r) + count value (g y)
+        + count value (after.in_hand y))
         (settled_same w.state node payload o fits.wire).returned
-        ∙ ap (λ (g : Way → List ℕ). count value (serials_of (w.state.waiting y)) + count value (had_of w.state.fixed w.doing y r) + count value (w.state.returned y) + count value (g y))
+        ∙ ap (λ (g : Way → List ℕ). count value (serials_of (w.state.waiting y)) + count value (had_of w.state.fixed w.doing y r)
+        + count value (w.state.returned y) + count value (g y))
         (settled_same w.state node payload o fits.wire).in_hand
 
     more : (a b c : ℕ) (e : Bool) → a ≤ b + c + one_if e → a ≤ b + c + 1
@@ -201,7 +207,8 @@ over-balanced w node n r payload d o y fits at_work f ended live p = record {
         subst (λ b. before ≤ buffer_on w.state.fixed y + borrow_limit_on w.state.fixed y + one_if (not b))
         (sym (same_call (w.doing n) (settled-else w.state node n payload o fits.wire (fits.handles node) f e) (fits.doing n))) p.size
 
-beat-balanced : (w u : World) (b : Beat) (n r : ℕ) (y : Way) → IsBeat w b u → Fits w → IsAt w.state.fixed.ports y.sender n → IsAt w.state.fixed.ports y.receiver r
+beat-balanced : (w u : World) (b : Beat) (n r : ℕ) (y : Way) → IsBeat w b u → Fits w → IsAt w.state.fixed.ports y.sender n
+    → IsAt w.state.fixed.ports y.receiver r
     → Ledger w y n r → IsLive u.state.fixed y → Balanced u.state.fixed u.state u.doing y n r
 beat-balanced w u (Begins node call c) n r y beat fits at there p live =
     subst (λ (v : World). Balanced v.state.fixed v.state v.doing y n r) (sym beat.2)

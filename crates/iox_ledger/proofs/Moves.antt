@@ -45,12 +45,15 @@ WaitsFit s = (y : Way) (m : Message) → IsAmong m (s.waiting y) → OnWay s.fix
 
 below : (f : Fixed) (n : ℕ) (w : Way) → IsAt f.ports w.receiver n → not (is_at_limit f w) ≡ true → IsBelow (view f n) w
 below f n w at e =
-    subst (λ b. (if b then f.borrowed w else 0) < borrow_limit_on f w) (sym (mine f.ports w.receiver n at)) (less (borrow_limit_on f w) (f.borrowed w) (not-true (is_at_limit f w) e))
+    subst (λ b. (if b then f.borrowed w else 0) < borrow_limit_on f w) (sym (mine f.ports w.receiver n at))
+    (less (borrow_limit_on f w) (f.borrowed w) (not-true (is_at_limit f w) e))
 
 sent-lane : (ports : List Port) (z : Sending) (x : Way) → IsMade ports z.loan → IsAmong x (targets z) → OnWay ports x z.loan.message
-sent-lane ports z x made a = (made.sender ∙ sym (target-of z x a).0, λ server. by_case (is_request z) refl a (ap (λ q. is_client (role_in ports q)) (sym (target-of z x a).0) ∙ server))
+sent-lane ports z x made a =
+    (made.sender ∙ sym (target-of z x a).0, λ server. by_case (is_request z) refl a (ap (λ q. is_client (role_in ports q)) (sym (target-of z x a).0) ∙ server))
   where
-    by_case : (b : Bool) → is_request z ≡ b → IsAmong x (if b then map (request_way z.loan.port) z.to else map (λ client. response_way client z.loan.lane z.loan.port) z.to)
+    by_case : (b : Bool) → is_request z ≡ b
+        → IsAmong x (if b then map (request_way z.loan.port) z.to else map (λ client. response_way client z.loan.lane z.loan.port) z.to)
         → is_client (role_in ports z.loan.port) ≡ false → z.loan.message.lane ≡ x.lane
     by_case true e p server = never (is_request z) e (made.role ∙ server)
     by_case false e p server =
@@ -82,7 +85,8 @@ moved-waits s n d (Evict x) p c waits y k a = by_case (same_way y x) (same_way-t
     by_case false e q = waits y k q
 moved-waits s n d m p c waits y k a = waits y k a
 
-pub next-fits : (s : State) (n : ℕ) (d : Doing) (m : Moment) → HasOwnPorts s.fixed → WaitsFit s → Holds s m → FitsDoing (view s.fixed n) n d → (next s n d m).condition
+pub next-fits : (s : State) (n : ℕ) (d : Doing) (m : Moment) → HasOwnPorts s.fixed → WaitsFit s → Holds s m → FitsDoing (view s.fixed n) n d
+    → (next s n d m).condition
     → FitsDoing (view s.fixed n) n (next s n d m).after
 next-fits s n (Loaning copies h left) (GetBack w k) own waits first p c = p
 next-fits s n (Loaning copies h left) (SeesNoneBack w) own waits first p c = loaning-fits s n copies h (without_way w left) own p
@@ -96,11 +100,15 @@ next-fits s n (Delivering x last left count) (Deliver w m) own waits first p c =
     (p.0, fewer-left x w left p.1, last-fits x w ((p.1).among w (way-among w left c.0)))
 next-fits s n (Delivering x last left count) (Evict w) own waits first p c = (p.0, p.1, last-is x w last p.2 c)
 next-fits s n (Evicted x v left count) (GetBack w k) own waits first p c = (p.0, p.1, tt)
-next-fits s n (Visiting x left seen) (SeesEmpty w) own waits first p c = visiting-fits (view s.fixed n) n x (without_way w left) seen (fewer (view s.fixed n) n x w left p)
-next-fits s n (Visiting x left seen) (SeesWaiting w) own waits first p c = visiting-fits (view s.fixed n) n x (without_way w left) true (fewer (view s.fixed n) n x w left p)
+next-fits s n (Visiting x left seen) (SeesEmpty w) own waits first p c =
+    visiting-fits (view s.fixed n) n x (without_way w left) seen (fewer (view s.fixed n) n x w left p)
+next-fits s n (Visiting x left seen) (SeesWaiting w) own waits first p c =
+    visiting-fits (view s.fixed n) n x (without_way w left) true (fewer (view s.fixed n) n x w left p)
 next-fits s n (Visiting x left seen) (Take w m) own waits first p c = took-fits (view s.fixed n) s.fixed n x w m left seen p
-    (p.1 w (way-among w left c.0), below s.fixed n w (subst (λ q. IsAt s.fixed.ports q n) (sym (p.1 w (way-among w left c.0)).0) p.0) c.1, waits w m (first-among m (s.waiting w) first))
-next-fits s n (Again x v left seen) (SeesEmpty w) own waits first p c = visiting-fits (view s.fixed n) n x (without_way v left) seen (fewer (view s.fixed n) n x v left p.0)
+    (p.1 w (way-among w left c.0), below s.fixed n w (subst (λ q. IsAt s.fixed.ports q n) (sym (p.1 w (way-among w left c.0)).0) p.0) c.1,
+    waits w m (first-among m (s.waiting w) first))
+next-fits s n (Again x v left seen) (SeesEmpty w) own waits first p c =
+    visiting-fits (view s.fixed n) n x (without_way v left) seen (fewer (view s.fixed n) n x v left p.0)
 next-fits s n (Again x v left seen) (Take w m) own waits first p c = took-fits (view s.fixed n) s.fixed n x v m left seen p.0
     (p.1, p.2, subst (λ u. OnWay s.fixed.ports u m) (same_way-true w v c) (waits w m (first-among m (s.waiting w) first)))
 next-fits s n (Judging x v m left seen) (Look w shown) own waits first p c =

@@ -139,7 +139,9 @@ over-shrinks w node n payload d o y k fits is p e q = by_case (n == node) refl
         )
 
     by_case : (b : Bool) → (n == node) ≡ b → MayPut w n y k
-    by_case true f = subst (λ j. MayPut w j y k) (sym (eqb-true n node f)) (here (subst (λ j. MaySend (view (settled w.state node payload o).fixed j) y.sender k) (eqb-true n node f) q.0))
+    by_case true f =
+        subst (λ j. MayPut w j y k) (sym (eqb-true n node f))
+        (here (subst (λ j. MaySend (view (settled w.state node payload o).fixed j) y.sender k) (eqb-true n node f) q.0))
     by_case false f = (
       subst (λ v. MaySend v y.sender k) (settled-else w.state node n payload o fits.wire (fits.handles node) p f) q.0,
       λ passed. q.1 (subst (PassedBy y k) (sym (put_at-else w.doing node None n f)) passed),
@@ -164,7 +166,8 @@ beat-uses w u (Makes node m) n y beat fits at =
             (λ r. next-passed w.state node beat.1 m y k beat.4 (subst (PassedBy y k) beat.2 r)) passed),
       );
       uses = elim (makes-uses w node n beat.1 m y fits at beat.2 beat.4)
-          as (λ z. (put_on y (Makes node m) ≡ []) ⊎ ((k : ℕ) × (put_on y (Makes node m) ≡ k ∷ []) × MayPut w n y k × (MayPut (made w node beat.1 m) n y k → ⊥))) [
+          as (λ z. (put_on y (Makes node m) ≡ [])
+          ⊎ ((k : ℕ) × (put_on y (Makes node m) ≡ k ∷ []) × MayPut w n y k × (MayPut (made w node beat.1 m) n y k → ⊥))) [
             | inl e ↦ inl e
             | inr r ↦ inr (r.0, r.1, r.2, λ q. q.1 r.3)
           ];

@@ -39,7 +39,8 @@ taken-count : (value : ℕ → Bool) (xs : List Message) (m : Message) → first
 taken-count value [] m e = absurd (none-some m e)
 taken-count value (x ∷ xs) m e =
     subst (λ (k : Message). count value (serials_of xs) + count value (k.serial ∷ []) ≡ count value (x.serial ∷ serials_of xs)) (some-is x m e)
-    (flip (count value (serials_of xs)) (count value (x.serial ∷ [])) (count value (x.serial ∷ serials_of xs)) (count-append value (x.serial ∷ []) (serials_of xs)))
+    (flip (count value (serials_of xs)) (count value (x.serial ∷ [])) (count value (x.serial ∷ serials_of xs))
+    (count-append value (x.serial ∷ []) (serials_of xs)))
   where
     flip : (a b c : ℕ) → c ≡ b + a → a + b ≡ c
     flip a b c e = omega arith
@@ -48,7 +49,8 @@ evicted-count : (value : ℕ → Bool) (xs : List Message)
     → count value (serials_of (rest_of xs)) + count value (serials_of (take 1 xs)) ≡ count value (serials_of xs)
 evicted-count value [] = refl
 evicted-count value (x ∷ xs) =
-    flip (count value (serials_of xs)) (count value (x.serial ∷ [])) (count value (x.serial ∷ serials_of xs)) (count-append value (x.serial ∷ []) (serials_of xs))
+    flip (count value (serials_of xs)) (count value (x.serial ∷ [])) (count value (x.serial ∷ serials_of xs))
+    (count-append value (x.serial ∷ []) (serials_of xs))
   where
     flip : (a b c : ℕ) → c ≡ b + a → a + b ≡ c
     flip a b c e = omega arith
@@ -73,7 +75,8 @@ abbrev pub HandFits : State → Way → Moment → Type 0
 HandFits s y (Evict x) = same_way y x ≡ true → s.in_hand y ≡ []
 HandFits s y m = ⊤
 
-pub moved-shifts : (value : ℕ → Bool) (s : State) (m : Moment) (y : Way) → Holds s m → is_counted_on s.fixed y ≡ true → length (s.in_hand y) ≤ 1 → HandFits s y m
+pub moved-shifts : (value : ℕ → Bool) (s : State) (m : Moment) (y : Way) → Holds s m → is_counted_on s.fixed y ≡ true → length (s.in_hand y) ≤ 1
+    → HandFits s y m
     → Shifts value s (moved s m) y m
 moved-shifts value s (Deliver x m) y holds live few fits = by_case (same_way y x) (same_way-true y x)
   where
@@ -108,11 +111,13 @@ moved-shifts value s (Take x m) y holds live few fits = by_case (same_way y x) (
     less a b c d e p = omega arith
 
     by_case : (b : Bool) → (b ≡ true → y ≡ x)
-        → count value (serials_of (if b then rest_of (s.waiting x) else s.waiting y)) + count value (if b then m.serial ∷ [] else []) + count value (s.returned y)
+        → count value (serials_of (if b then rest_of (s.waiting x) else s.waiting y)) + count value (if b then m.serial ∷ [] else [])
+        + count value (s.returned y)
         + count value (s.in_hand y) + 0
         ≡ count value (serials_of (s.waiting y)) + 0 + count value (s.returned y) + count value (s.in_hand y) + 0
     by_case true e =
-        less (count value (serials_of (rest_of (s.waiting x)))) (count value (m.serial ∷ [])) (count value (s.returned y)) (count value (serials_of (s.waiting y)))
+        less (count value (serials_of (rest_of (s.waiting x)))) (count value (m.serial ∷ [])) (count value (s.returned y))
+        (count value (serials_of (s.waiting y)))
         (count value (s.in_hand y)) (taken-count value (s.waiting x) m holds ∙ ap (λ u. count value (serials_of (s.waiting u))) (sym (e refl)))
     by_case false e = refl
 moved-shifts value s (GiveBack x k) y holds live few fits = by_case (same_way y x) (same_way-true y x)
@@ -125,7 +130,8 @@ moved-shifts value s (GiveBack x k) y holds live few fits = by_case (same_way y 
     counted false e = absurd (true≢false (sym e))
 
     by_case : (b : Bool) → (b ≡ true → y ≡ x)
-        → count value (serials_of (s.waiting y)) + 0 + count value (if b then (if is_counted_on s.fixed x then s.returned x ++ k ∷ [] else s.returned x) else s.returned y)
+        → count value (serials_of (s.waiting y)) + 0
+        + count value (if b then (if is_counted_on s.fixed x then s.returned x ++ k ∷ [] else s.returned x) else s.returned y)
         + count value (s.in_hand y) + 0
         ≡ count value (serials_of (s.waiting y)) + 0 + count value (s.returned y) + count value (s.in_hand y) + count value (if b then k ∷ [] else [])
     by_case true e =
@@ -145,7 +151,8 @@ moved-shifts value s (GetBack x k) y holds live few fits = by_case (same_way y x
         + count value (if b then [] else s.in_hand y) + count value (if b then k ∷ [] else [])
         ≡ count value (serials_of (s.waiting y)) + 0 + count value (s.returned y) + count value (s.in_hand y) + 0
     by_case true e =
-        less (count value (serials_of (s.waiting y))) (count value (if is_empty (s.in_hand x) then rest_of (s.returned x) else s.returned x)) (count value (k ∷ []))
+        less (count value (serials_of (s.waiting y))) (count value (if is_empty (s.in_hand x) then rest_of (s.returned x) else s.returned x))
+        (count value (k ∷ []))
         (count value (s.returned y)) (count value (s.in_hand y))
         (got-count value (s.in_hand x) (s.returned x) k holds (subst (λ u. length (s.in_hand u) ≤ 1) (e refl) few)
         ∙ ap (λ u. count value (s.returned u) + count value (s.in_hand u)) (sym (e refl)))
@@ -157,7 +164,8 @@ pub out-follows : (value : ℕ → Bool) (s u : State) (y : Way) (m : Moment) (h
     → count value had' + count value (given_on y m) ≡ count value had + count value (taken_on y m)
     → out value u y had' + count value (got_on y m) ≡ out value s y had + count value (put_on y m)
 out-follows value s u y m had had' p q =
-    sums (count value (serials_of (u.waiting y))) (count value (taken_on y m)) (count value (u.returned y)) (count value (u.in_hand y)) (count value (got_on y m))
+    sums (count value (serials_of (u.waiting y))) (count value (taken_on y m)) (count value (u.returned y)) (count value (u.in_hand y))
+    (count value (got_on y m))
     (count value (serials_of (s.waiting y))) (count value (put_on y m)) (count value (s.returned y)) (count value (s.in_hand y)) (count value (given_on y m))
     (count value had) (count value had') p q
   where
@@ -251,7 +259,8 @@ moved-delivered s (GetBack x j) y k e = by_case (same_way y x) (same_way-true y 
     here true e = never false e refl
     here false e = e
 
-    by_case : (b : Bool) → (b ≡ true → y ≡ x) → (if b then put_at (s.delivered x) j false else s.delivered y) k ≡ true → (s.delivered y k ≡ true) ⊎ ([] ≡ k ∷ [])
+    by_case : (b : Bool) → (b ≡ true → y ≡ x) → (if b then put_at (s.delivered x) j false else s.delivered y) k ≡ true → (s.delivered y k ≡ true)
+        ⊎ ([] ≡ k ∷ [])
     by_case true same e = inl (here (k == j) (subst (λ u. put_at (s.delivered u) j false k ≡ true) (sym (same refl)) e))
     by_case false same e = inl e
 moved-delivered s m y k e = inl e

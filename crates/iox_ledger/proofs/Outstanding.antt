@@ -23,7 +23,8 @@ use Rattle.iox_ledger.proofs.LedgerHolds.{Holds, holds-in-the-end, length-out, c
 -- ---- what is delivered was loaned
 
 -- the message of a send under way is one that its port loaned, or loans next
-passed-below : (v : View) (n k : ℕ) (y : Way) (x : Sending) (left : List Way) → FitsHandles v n → FitsSending v n x → HasPassed y k x left → k ≤ v.loans y.sender
+passed-below : (v : View) (n k : ℕ) (y : Way) (x : Sending) (left : List Way) → FitsHandles v n → FitsSending v n x → HasPassed y k x left
+    → k ≤ v.loans y.sender
 passed-below v n k y x left fits p passed =
     subst (λ q. k ≤ v.loans q) passed.0 (subst (λ j. j ≤ v.loans x.loan.port) passed.1 (by_case x.copied (p.loan).stands))
   where
@@ -67,7 +68,8 @@ pub counted-outstanding : (v : World) (y : Way) → IsCounted v y → ((k : ℕ)
     → length (outstanding_on v.state y) ≡ size_of v y + length (v.state.in_hand y)
 counted-outstanding v y counted below =
     equal (length (outstanding_on v.state y)) (length (out_on v y))
-    (no-longer (outstanding_on v.state y) (out_on v y) (no_repeats-filter (v.state.delivered y) numbers (range-apart 0 (v.state.fixed.loans y.sender + 1))) is_out)
+    (no-longer (outstanding_on v.state y) (out_on v y)
+    (no_repeats-filter (v.state.delivered y) numbers (range-apart 0 (v.state.fixed.loans y.sender + 1))) is_out)
     (no-longer (out_on v y) (outstanding_on v.state y) (distinct-no_repeats (out_on v y) (counted-once v y counted)) is_outstanding)
     ∙ sym (count-all (out_on v y)) ∙ count-out any v y ∙ length-out v y
   where

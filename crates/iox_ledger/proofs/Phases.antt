@@ -43,14 +43,16 @@ others-known f n q role d a =
     = map-among (λ p. p.number) q (filter (λ p. same_role p.role role && not (has_number p.node (f.forgot n))) f.ports) a in
     let t : IsAmong r.0 f.ports × ((same_role (r.0).role role && not (has_number (r.0).node (f.forgot n))) ≡ true)
     = filter-among (λ p. same_role p.role role && not (has_number p.node (f.forgot n))) r.0 f.ports r.1 in
-    false_if (forgot_in (view f n) q) (λ e. unknown r.0 t.0 r.2 (split _ _ t.1).1 (any-among (λ p. (p.number == q) && has_number p.node (f.forgot n)) f.ports e))
+    false_if (forgot_in (view f n) q)
+    (λ e. unknown r.0 t.0 r.2 (split _ _ t.1).1 (any-among (λ p. (p.number == q) && has_number p.node (f.forgot n)) f.ports e))
   where
     unknown : (p : Port) → IsAmong p f.ports → q ≡ p.number → not (has_number p.node (f.forgot n)) ≡ true
         → (u : Port) × IsAmong u f.ports × (((u.number == q) && has_number u.node (f.forgot n)) ≡ true) → ⊥
     unknown p among number free u =
         let e : ((u.0.number == q) ≡ true) × (has_number u.0.node (f.forgot n) ≡ true) = split _ _ u.2 in
         never (has_number p.node (f.forgot n))
-        (ap (λ (x : Port). has_number x.node (f.forgot n)) (only-one (λ (x : Port). x.number) p u.0 f.ports d among u.1 (sym number ∙ sym (eqb-true u.0.number q e.0))) ∙ e.1)
+        (ap (λ (x : Port). has_number x.node (f.forgot n)) (only-one (λ (x : Port). x.number) p u.0 f.ports d among u.1
+        (sym number ∙ sym (eqb-true u.0.number q e.0))) ∙ e.1)
         (not-true (has_number p.node (f.forgot n)) free)
 
 pub others-apart : (f : Fixed) (n : ℕ) (role : Role) → HasOwnPorts f → NoRepeats (others f n role)
@@ -79,7 +81,8 @@ role-of f q role test d a =
 
 pub targets-apart : (x : Sending) → NoRepeats x.to → NoRepeats (targets x)
 targets-apart x d =
-    either (λ (ws : List Way). NoRepeats ws) (is_request x) (map (request_way x.loan.port) x.to) (map (λ client. response_way client x.loan.lane x.loan.port) x.to)
+    either (λ (ws : List Way). NoRepeats ws) (is_request x) (map (request_way x.loan.port) x.to)
+    (map (λ client. response_way client x.loan.lane x.loan.port) x.to)
     (λ u. no_repeats-map (request_way x.loan.port) x.to (λ a b e. ap (λ (w : Way). w.receiver) e) d)
     (λ u. no_repeats-map (λ client. response_way client x.loan.lane x.loan.port) x.to (λ a b e. ap (λ (w : Way). w.receiver) e) d)
 
@@ -92,7 +95,8 @@ target-of x w a = by_case (is_request x) a
         let r : (q : ℕ) × IsAmong q x.to × (w ≡ request_way x.loan.port q) = map-among (request_way x.loan.port) w x.to p in
         (ap (λ (u : Way). u.sender) r.2, subst (λ k. IsAmong k x.to) (sym (ap (λ (u : Way). u.receiver) r.2)) r.1)
     by_case false p =
-        let r : (q : ℕ) × IsAmong q x.to × (w ≡ response_way q x.loan.lane x.loan.port) = map-among (λ client. response_way client x.loan.lane x.loan.port) w x.to p in
+        let r : (q : ℕ) × IsAmong q x.to × (w ≡ response_way q x.loan.lane x.loan.port)
+        = map-among (λ client. response_way client x.loan.lane x.loan.port) w x.to p in
         (ap (λ (u : Way). u.sender) r.2, subst (λ k. IsAmong k x.to) (sym (ap (λ (u : Way). u.receiver) r.2)) r.1)
 
 pub opening-fits : (v : View) (n : ℕ) (x : Sending) (left full : List Way) → FitsSending v n x → FitsDoing v n (opening x left full)
@@ -157,7 +161,8 @@ sends-fits f n h copied d p =
 pub loaning-fits : (s : State) (n : ℕ) (copies : Bool) (h : Handle) (left : List Way) → HasOwnPorts s.fixed → FitsLoan (view s.fixed n) n h true
     → FitsDoing (view s.fixed n) n (loaning s copies h left)
 loaning-fits s n copies h [] d p =
-    either (FitsDoing (view s.fixed n) n) (is_dry s.fixed h.port (kept s h.port [])) (refused OutOfMemory) (if copies then sends s.fixed h true else Ended (Loans h))
+    either (FitsDoing (view s.fixed n) n) (is_dry s.fixed h.port (kept s h.port [])) (refused OutOfMemory)
+    (if copies then sends s.fixed h true else Ended (Loans h))
     (λ u. tt)
     (λ u. either (FitsDoing (view s.fixed n) n) copies (sends s.fixed h true) (Ended (Loans h)) (λ y. sends-fits s.fixed n h true d p) (λ y. p))
 loaning-fits s n copies h (w ∷ left) d p = p

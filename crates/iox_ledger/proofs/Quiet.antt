@@ -87,12 +87,14 @@ asked-quiet x shown =
 
 request-quiet : (f : Fixed) (h : Handle) (copied : Bool) (to : List ℕ) → IsQuiet (sends_request f h copied to)
 request-quiet f h copied to =
-    either IsQuiet (is_active_spent f h) (Ended (FailsToSend h copied ExceedsMaxActiveRequests)) (emptying (sending_of f h copied to) (map (request_way h.port) to))
+    either IsQuiet (is_active_spent f h) (Ended (FailsToSend h copied ExceedsMaxActiveRequests))
+    (emptying (sending_of f h copied to) (map (request_way h.port) to))
     (λ u. refl) (λ u. emptying-quiet (sending_of f h copied to) (map (request_way h.port) to))
 
 response-quiet : (f : Fixed) (h : Handle) (copied : Bool) → IsQuiet (sends_response f h copied)
 response-quiet f h copied =
-    either IsQuiet (has_number h.client (others f h.node Client)) (Asking (sending_of f h copied (h.client ∷ []))) (Ended (Sends h copied 0)) (λ u. refl) (λ u. refl)
+    either IsQuiet (has_number h.client (others f h.node Client)) (Asking (sending_of f h copied (h.client ∷ []))) (Ended (Sends h copied 0))
+    (λ u. refl) (λ u. refl)
 
 pub sends-quiet : (f : Fixed) (h : Handle) (copied : Bool) → IsQuiet (sends f h copied)
 sends-quiet f h copied =

@@ -22,7 +22,8 @@ pub record KeepsRest (s u : State) : Type 0 where
 of_fixed : (s : State) (f : Fixed) → f.forgot ≡ s.fixed.forgot → f.expired ≡ s.fixed.expired → KeepsRest s (with_fixed s f)
 of_fixed s f e x = record { delivered = refl; forgot = e; expired = x }
 
-of_released : (s : State) (f : Fixed) (port : ℕ) → f.on_wire ≡ true → f.forgot ≡ s.fixed.forgot → f.expired ≡ s.fixed.expired → KeepsRest s (released (with_fixed s f) port)
+of_released : (s : State) (f : Fixed) (port : ℕ) → f.on_wire ≡ true → f.forgot ≡ s.fixed.forgot → f.expired ≡ s.fixed.expired
+    → KeepsRest s (released (with_fixed s f) port)
 of_released s f port wire e x = subst (KeepsRest s) (sym (released-wire (with_fixed s f) port wire)) (of_fixed s f e x)
 
 numbered-forgot : (f : Fixed) (n : ℕ) → (numbered f n).forgot ≡ f.forgot
@@ -48,7 +49,8 @@ copy-expired f h count =
 pub settled-rest : (s : State) (n : ℕ) (payload : List ℕ) (o : Outcome) → s.fixed.on_wire ≡ true → FitsOutcome (view s.fixed n) n o
     → KeepsRest s (settled s n payload o) ⊎ ((gone : ℕ) × (settled s n payload o ≡ forgets s n gone))
 settled-rest s n payload (Tells reply) wire p =
-    inl (either (KeepsRest s) (is_nothing reply) (with_fixed s (called s.fixed)) s (λ u. of_fixed s (called s.fixed) refl refl) (λ u. of_fixed s s.fixed refl refl))
+    inl (either (KeepsRest s) (is_nothing reply) (with_fixed s (called s.fixed)) s (λ u. of_fixed s (called s.fixed) refl refl)
+    (λ u. of_fixed s s.fixed refl refl))
 settled-rest s n payload (Loans h) wire p =
     inl (of_fixed s (called (lent (added (numbered s.fixed n) (holding h payload)) h.port)) (numbered-forgot s.fixed n) (numbered-expired s.fixed n))
 settled-rest s n payload (Fills h) wire p = inl (of_fixed s (changed s.fixed h) refl refl)
@@ -68,8 +70,10 @@ settled-rest s n payload (Receives x w m) wire p =
 settled-rest s n payload (Drops h) wire p =
     inl (of_released s (gives_up (dropped s.fixed h) h) h.port
     (either (λ (g : Fixed). g.on_wire ≡ true) (is_received h.kind) (record (dropped s.fixed h) { borrowed = _ }) (dropped s.fixed h) (λ u. wire) (λ u. wire))
-    (either (λ (g : Fixed). g.forgot ≡ s.fixed.forgot) (is_received h.kind) (record (dropped s.fixed h) { borrowed = _ }) (dropped s.fixed h) (λ u. refl) (λ u. refl))
-    (either (λ (g : Fixed). g.expired ≡ s.fixed.expired) (is_received h.kind) (record (dropped s.fixed h) { borrowed = _ }) (dropped s.fixed h) (λ u. refl) (λ u. refl)))
+    (either (λ (g : Fixed). g.forgot ≡ s.fixed.forgot) (is_received h.kind) (record (dropped s.fixed h) { borrowed = _ }) (dropped s.fixed h)
+    (λ u. refl) (λ u. refl))
+    (either (λ (g : Fixed). g.expired ≡ s.fixed.expired) (is_received h.kind) (record (dropped s.fixed h) { borrowed = _ }) (dropped s.fixed h)
+    (λ u. refl) (λ u. refl)))
 settled-rest s n payload (DropsPort port) wire p = absurd p
 settled-rest s n payload (Forgets gone) wire p = by_case (has_forgotten s.fixed n gone)
   where

@@ -77,7 +77,8 @@ after-fits v n payload (Receives x w m) fits p =
     rests (plus (counted v) (taken_handle v n x m)) n (put v.borrowed w (v.borrowed w + 1)) v.forgot
     (plus-fits v n (taken_handle v n x m) fits refl refl p.0 (λ l. absurd (taken-no_loan v n x m l)))
 after-fits v n payload (Drops h) fits p =
-    either (λ (u : View). FitsHandles u n) (is_received h.kind) (record (less v h) { borrowed = put v.borrowed (way_of h) (v.borrowed (way_of h) - 1) }) (less v h)
+    either (λ (u : View). FitsHandles u n) (is_received h.kind)
+    (record (less v h) { borrowed = put v.borrowed (way_of h) (v.borrowed (way_of h) - 1) }) (less v h)
     (λ u. rests (less v h) n (put v.borrowed (way_of h) (v.borrowed (way_of h) - 1)) v.forgot (less-fits v n h fits)) (λ u. less-fits v n h fits)
 after-fits v n payload (DropsPort port) fits p = absurd p
 after-fits v n payload (Forgets dead) fits p =
@@ -113,7 +114,8 @@ less-sends v h port k (inr l) =
 plus-sends : (v : View) (h : Handle) (port k : ℕ) → MaySend (plus (counted v) h) port k
     → MaySend v port k ⊎ ((is_loan h.kind ≡ true) × (h.port ≡ port) × (h.message.serial ≡ k))
 plus-sends v h port k (inl e) = inl (inl e)
-plus-sends v h port k (inr l) = elim (among-last l.handle h v.handles l.among) as (λ u. MaySend v port k ⊎ ((is_loan h.kind ≡ true) × (h.port ≡ port) × (h.message.serial ≡ k))) [
+plus-sends v h port k (inr l) =
+    elim (among-last l.handle h v.handles l.among) as (λ u. MaySend v port k ⊎ ((is_loan h.kind ≡ true) × (h.port ≡ port) × (h.message.serial ≡ k))) [
   | inl q ↦ inl (inr (record { handle = l.handle; among = q; loan = l.loan; of_port = l.of_port; serial = l.serial }))
   | inr e ↦ inr (
     subst (λ (g : Handle). is_loan g.kind ≡ true) e l.loan,
@@ -143,7 +145,8 @@ swapped-sends v n h port k fits r (inr l) = elim (with-among h l.handle v.handle
     }
 
 -- what rests on handles and loans alone
-same-sends : (v : View) (borrowed : Way → ℕ) (forgot : List ℕ) (port k : ℕ) → MaySend (record v { borrowed = borrowed; forgot = forgot }) port k → MaySend v port k
+same-sends : (v : View) (borrowed : Way → ℕ) (forgot : List ℕ) (port k : ℕ) → MaySend (record v { borrowed = borrowed; forgot = forgot }) port k
+    → MaySend v port k
 same-sends v borrowed forgot port k (inl e) = inl e
 same-sends v borrowed forgot port k (inr l) = inr (record { handle = l.handle; among = l.among; loan = l.loan; of_port = l.of_port; serial = l.serial })
 
@@ -175,7 +178,8 @@ after-sends v n payload (Receives x w m) port k fits p q =
 after-sends v n payload (Drops h) port k fits p q =
     either (λ (u : View). MaySend u port k → MaySend v port k) (is_received h.kind)
     (record (less v h) { borrowed = put v.borrowed (way_of h) (v.borrowed (way_of h) - 1) }) (less v h)
-    (λ u r. less-sends v h port k (same-sends (less v h) (put v.borrowed (way_of h) (v.borrowed (way_of h) - 1)) v.forgot port k r)) (λ u. less-sends v h port k) q
+    (λ u r. less-sends v h port k (same-sends (less v h) (put v.borrowed (way_of h) (v.borrowed (way_of h) - 1)) v.forgot port k r))
+    (λ u. less-sends v h port k) q
 after-sends v n payload (DropsPort port') port k fits p q = absurd p
 after-sends v n payload (Forgets dead) port k fits p q =
     either (λ (u : View). MaySend u port k → MaySend v port k) (has_number dead v.forgot) v (record v { forgot = v.forgot ++ dead ∷ [] }) (λ u r. r)
@@ -189,9 +193,11 @@ not_more k p = omega arith
 no_more-lent : (v : View) (n : ℕ) (h : Handle) (port k : ℕ) → FitsHandles v n → FitsLoan v n h true → h.port ≡ port → h.message.serial ≡ k
     → MaySend (lends_one v h.port) port k → ⊥
 no_more-lent v n h port k fits p e f (inl q) =
-    not_more k (subst (λ a. a ≤ k) (ap (put_at v.loans h.port (v.loans h.port + 1)) (sym e) ∙ put_at-here v.loans h.port (v.loans h.port + 1) ∙ ap (λ a. a + 1) (sym p.stands.0 ∙ f)) q)
+    not_more k (subst (λ a. a ≤ k) (ap (put_at v.loans h.port (v.loans h.port + 1)) (sym e) ∙ put_at-here v.loans h.port (v.loans h.port + 1)
+    ∙ ap (λ a. a + 1) (sym p.stands.0 ∙ f)) q)
 no_more-lent v n h port k fits p e f (inr l) =
-    not_less k (subst (λ a. a < k) l.serial (subst (λ a. l.handle.message.serial < a) (ap v.loans (l.of_port ∙ sym e) ∙ sym p.stands.0 ∙ f) (fits.lent l.handle l.among l.loan)))
+    not_less k (subst (λ a. a < k) l.serial
+    (subst (λ a. l.handle.message.serial < a) (ap v.loans (l.of_port ∙ sym e) ∙ sym p.stands.0 ∙ f) (fits.lent l.handle l.among l.loan)))
 
 pub after-sent : (v : View) (n : ℕ) (payload : List ℕ) (o : Outcome) (port k : ℕ) → FitsHandles v n → FitsOutcome v n o
     → IsSent o port k → MaySend (after_call v n payload o) port k → ⊥

@@ -19,7 +19,8 @@ use Rattle.iox_ledger.proofs.Senders.{FitsOutcome, FitsHandles}
 
 here-numbered : (f : Fixed) (n : ℕ) → f.on_wire ≡ true → view (numbered f n) n ≡ counted (view f n)
 here-numbered f n e =
-    ap (λ (b : Bool). view (if b then record f { handles_made = put_at f.handles_made n (f.handles_made n + 1) } else record f { next_number = f.next_number + 1 }) n) e
+    ap (λ (b : Bool). view (if b then record f { handles_made = put_at f.handles_made n (f.handles_made n + 1) }
+    else record f { next_number = f.next_number + 1 }) n) e
     ∙ (λ i. record (view f n) { next = next_is i })
   where
     next_is : f.next_number + put_at f.handles_made n (f.handles_made n + 1) n ≡ f.next_number + f.handles_made n + 1
@@ -27,7 +28,8 @@ here-numbered f n e =
 
 else-numbered : (f : Fixed) (n n' : ℕ) → f.on_wire ≡ true → (n' == n) ≡ false → view (numbered f n) n' ≡ view f n'
 else-numbered f n n' e d =
-    ap (λ (b : Bool). view (if b then record f { handles_made = put_at f.handles_made n (f.handles_made n + 1) } else record f { next_number = f.next_number + 1 }) n') e
+    ap (λ (b : Bool). view (if b then record f { handles_made = put_at f.handles_made n (f.handles_made n + 1) }
+    else record f { next_number = f.next_number + 1 }) n') e
     ∙ (λ i. record (view f n') { next = f.next_number + put_at-else f.handles_made n (f.handles_made n + 1) n' d i })
 
 -- a received handle has the next number
@@ -56,7 +58,8 @@ copy-here : (f : Fixed) (h : Handle) (count n : ℕ) → f.on_wire ≡ true → 
     → view (sent_copy f h count) n ≡ (if is_request_loan h.kind then plus (counted (view f n)) (sent_handle h count) else view f n)
 copy-here f h count n wire e = by_case (is_request_loan h.kind)
   where
-    by_case : (b : Bool) → view (if b then added (numbered f h.node) (sent_handle h count) else f) n ≡ (if b then plus (counted (view f n)) (sent_handle h count) else view f n)
+    by_case : (b : Bool) → view (if b then added (numbered f h.node) (sent_handle h count) else f) n
+        ≡ (if b then plus (counted (view f n)) (sent_handle h count) else view f n)
     by_case true =
         here-added (numbered f h.node) (sent_handle h count) n e
         ∙ ap (λ v. plus v (sent_handle h count)) (ap (λ k. view (numbered f k) n) e ∙ here-numbered f n wire)
@@ -76,7 +79,8 @@ if-ports false u v e = refl
 copy-at : (f : Fixed) (h : Handle) (count n : ℕ) → f.on_wire ≡ true → h.node ≡ n → IsAt f.ports h.port n → IsAt (sent_copy f h count).ports h.port n
 copy-at f h count n wire e p =
     subst (λ ports. IsAt ports h.port n)
-    (sym (ap (λ (v : View). v.ports) (copy-here f h count n wire e) ∙ if-ports (is_request_loan h.kind) (plus (counted (view f n)) (sent_handle h count)) (view f n) refl)) p
+    (sym (ap (λ (v : View). v.ports) (copy-here f h count n wire e)
+    ∙ if-ports (is_request_loan h.kind) (plus (counted (view f n)) (sent_handle h count)) (view f n) refl)) p
 
 numbered-at : (f : Fixed) (port n : ℕ) → f.on_wire ≡ true → IsAt f.ports port n → IsAt (numbered f n).ports port n
 numbered-at f port n wire p = at-by (view (numbered f n) n) (counted (view f n)) port n (here-numbered f n wire) p
@@ -87,7 +91,8 @@ settled-here s n payload (Tells reply) wire hs p =
     either (λ (t : State). view t.fixed n ≡ view s.fixed n) (is_nothing reply) (with_fixed s (called s.fixed)) s (λ u. refl) (λ u. refl)
 settled-here s n payload (Loans h) wire hs p =
     here-lent (added (numbered s.fixed n) (holding h payload)) h.port n (numbered-at s.fixed h.port n wire p.of_port)
-    ∙ ap (λ v. lends_one v h.port) (here-added (numbered s.fixed n) (holding h payload) n p.of_node ∙ ap (λ v. plus v (holding h payload)) (here-numbered s.fixed n wire))
+    ∙ ap (λ v. lends_one v h.port) (here-added (numbered s.fixed n) (holding h payload) n p.of_node
+    ∙ ap (λ v. plus v (holding h payload)) (here-numbered s.fixed n wire))
 settled-here s n payload (Fills h) wire hs p = here-changed s.fixed h n p.of_node
 settled-here s n payload (Sends h true count) wire hs p =
     here-lent (sent_copy s.fixed h count) h.port n (copy-at s.fixed h count n wire p.of_node p.of_port)

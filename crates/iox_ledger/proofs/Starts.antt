@@ -49,7 +49,8 @@ pub record IsNamedBy (f : Fixed) (node : ℕ) (call : Call) (o : Option Subject)
 pub named-by : (f : Fixed) (node : ℕ) (call : Call) (o : Option Subject) → misnamed_by f node call o ≡ None → IsNamedBy f node call o
 named-by f node call None e = absurd (none-some _ (sym e))
 named-by f node call (Some x) e =
-    let p : (refused_if (not (node_of x == node)) ForeignNumber ≡ None) × (refused_if (not (suits f.on_wire call (kind_of x))) WrongKind ≡ None) = or_else-none _ _ e in
+    let p : (refused_if (not (node_of x == node)) ForeignNumber ≡ None) × (refused_if (not (suits f.on_wire call (kind_of x))) WrongKind ≡ None)
+    = or_else-none _ _ e in
     record {
       named = x;
       is = refl;
@@ -224,7 +225,8 @@ send-loan false true c d e = refl
 send-loan false false true d e = refl
 send-loan false false false d e = absurd (true≢false (sym e))
 
-begins-fits : (s : State) (n : ℕ) (c : Choice) (call : Call) (x : Subject) → HasOwnPorts s.fixed → ((p : ℕ) → s.fixed.expired p ≡ []) → s.fixed.on_wire ≡ true → FitsHandles (view s.fixed n) n
+begins-fits : (s : State) (n : ℕ) (c : Choice) (call : Call) (x : Subject) → HasOwnPorts s.fixed → ((p : ℕ) → s.fixed.expired p ≡ [])
+    → s.fixed.on_wire ≡ true → FitsHandles (view s.fixed n) n
     → IsThere s.fixed n x → node_of x ≡ n → suits true call (kind_of x) ≡ true → FitsDoing (view s.fixed n) n (begins_at s c call x)
 begins-fits s n c (Loan k l) x own expired wire fits is node e = lends-fits s n c x (ordered l false) own wire fits is node
 begins-fits s n c (LoanUninit k l) x own expired wire fits is node e = lends-fits s n c x (ordered l true) own wire fits is node
@@ -260,7 +262,8 @@ begins-fits s n c (Receive k) (TheHandle h) own expired wire fits is node e =
           ]
         ]
 
-    on : (w : Way) → (q : ℕ) × IsAmong q (others s.fixed h.node Server ++ (forgotten s.fixed h.node Server ++ s.fixed.expired h.port)) × (w ≡ response_way h.port h.lane q)
+    on : (w : Way) → (q : ℕ) × IsAmong q (others s.fixed h.node Server ++ (forgotten s.fixed h.node Server ++ s.fixed.expired h.port))
+        × (w ≡ response_way h.port h.lane q)
         → TakesOn (view s.fixed n) (record { port = h.port; role = Client; lane = h.lane; request = h.request }) w
     on w r = (
       ap (λ (u : Way). u.receiver) r.2,
@@ -278,7 +281,8 @@ begins-fits s n c (HasRequests k) (ThePort p) own expired wire fits is node e = 
 begins-fits s n c (HasResponse k) (TheHandle h) own expired wire fits is node e = seeking-fits (view s.fixed n) n (pending_ways s.fixed h)
 begins-fits s n c call x own expired wire fits is node e = tt
 
-start-fits : (s : State) (n : ℕ) (c : Choice) (call : Call) → HasOwnPorts s.fixed → ((p : ℕ) → s.fixed.expired p ≡ []) → s.fixed.on_wire ≡ true → FitsHandles (view s.fixed n) n
+start-fits : (s : State) (n : ℕ) (c : Choice) (call : Call) → HasOwnPorts s.fixed → ((p : ℕ) → s.fixed.expired p ≡ []) → s.fixed.on_wire ≡ true
+    → FitsHandles (view s.fixed n) n
     → misnamed s.fixed n call ≡ None → FitsDoing (view s.fixed n) n (start s n c call)
 start-fits s n c call own expired wire fits e =
     let p : IsNamedBy s.fixed n call (subject s.fixed n (number_of call)) = named-by s.fixed n call (subject s.fixed n (number_of call)) e in
@@ -287,7 +291,8 @@ start-fits s n c call own expired wire fits e =
     (there s.fixed n (number_of call) p.named (port_at s.fixed (number_of call)) (handle_at s.fixed n (number_of call)) refl refl p.is)
     p.of_node (ap (λ b. suits b call (kind_of p.named)) (sym wire) ∙ p.may))
 
-pub wire_start-fits : (s : State) (n : ℕ) (c : Choice) (call : WireCall) → HasOwnPorts s.fixed → ((p : ℕ) → s.fixed.expired p ≡ []) → s.fixed.on_wire ≡ true → FitsHandles (view s.fixed n) n
+pub wire_start-fits : (s : State) (n : ℕ) (c : Choice) (call : WireCall) → HasOwnPorts s.fixed → ((p : ℕ) → s.fixed.expired p ≡ [])
+    → s.fixed.on_wire ≡ true → FitsHandles (view s.fixed n) n
     → miscalled s n call ≡ None → FitsDoing (view s.fixed n) n (wire_start s n c call)
 wire_start-fits s n c (wire_calls.Port call) own expired wire fits e = start-fits s n c call own expired wire fits e
 wire_start-fits s n c (Forget dead) own expired wire fits e = tt

@@ -26,7 +26,8 @@ pub filter-same : {A : Type 0} (test also : A → Bool) (xs : List A) → ((x : 
 filter-same test also [] same = refl
 filter-same test also (x ∷ xs) same = by_case (test x) (also x) (same x (inl refl)) (filter-same test also xs (λ z a. same z (inr a)))
   where
-    by_case : (a b : Bool) → a ≡ b → filter test xs ≡ filter also xs → (if a then x ∷ filter test xs else filter test xs) ≡ (if b then x ∷ filter also xs else filter also xs)
+    by_case : (a b : Bool) → a ≡ b → filter test xs ≡ filter also xs
+        → (if a then x ∷ filter test xs else filter test xs) ≡ (if b then x ∷ filter also xs else filter also xs)
     by_case true true e rest = ap (λ ys. x ∷ ys) rest
     by_case false false e rest = rest
     by_case true false e rest = never true refl e

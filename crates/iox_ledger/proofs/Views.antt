@@ -169,12 +169,14 @@ else-lent f port n n' e h = λ i. record (view f n') {
 
 pub here-borrows : (f : Fixed) (w : Way) (n : ℕ) → IsAt f.ports w.receiver n → view (borrows f w) n ≡ takes_one (view f n) w
 here-borrows f w n e = λ i. record (view f n) {
-  borrowed = λ u. masked-here (λ (v : Way). node_in f.ports v.receiver == n) f.borrowed w u (λ k. k + 1) (same_way u w) (same_way-true u w) (mine f.ports w.receiver n e) i;
+  borrowed = λ u. masked-here (λ (v : Way). node_in f.ports v.receiver == n) f.borrowed w u (λ k. k + 1) (same_way u w) (same_way-true u w)
+      (mine f.ports w.receiver n e) i;
 }
 
 pub else-borrows : (f : Fixed) (w : Way) (n n' : ℕ) → IsAt f.ports w.receiver n → (n' == n) ≡ false → view (borrows f w) n' ≡ view f n'
 else-borrows f w n n' e h = λ i. record (view f n') {
-  borrowed = λ u. masked-else (λ (v : Way). node_in f.ports v.receiver == n') f.borrowed w u (f.borrowed w + 1) (same_way u w) (same_way-true u w) (others-port f.ports w.receiver n n' e h) i;
+  borrowed = λ u. masked-else (λ (v : Way). node_in f.ports v.receiver == n') f.borrowed w u (f.borrowed w + 1) (same_way u w) (same_way-true u w)
+      (others-port f.ports w.receiver n n' e h) i;
 }
 
 pub way_of-receiver : (h : Handle) → (way_of h).receiver ≡ h.port
@@ -189,7 +191,9 @@ here-gives_up f h n e = by_case (is_received h.kind)
         → view (if b then record f { borrowed = put f.borrowed (way_of h) (f.borrowed (way_of h) - 1) } else f) n
         ≡ (if b then record (view f n) { borrowed = put (view f n).borrowed (way_of h) ((view f n).borrowed (way_of h) - 1) } else view f n)
     by_case true = λ i. record (view f n) {
-      borrowed = λ u. masked-here (λ (v : Way). node_in f.ports v.receiver == n) f.borrowed (way_of h) u (λ k. k - 1) (same_way u (way_of h)) (same_way-true u (way_of h))
+      borrowed =
+          λ u. masked-here (λ (v : Way). node_in f.ports v.receiver == n) f.borrowed (way_of h) u (λ k. k - 1) (same_way u (way_of h))
+          (same_way-true u (way_of h))
           (mine f.ports (way_of h).receiver n (ap (node_in f.ports) (way_of-receiver h) ∙ e)) i;
     }
     by_case false = refl
@@ -200,7 +204,9 @@ else-gives_up f h n n' e d = by_case (is_received h.kind)
     by_case : (b : Bool)
         → view (if b then record f { borrowed = put f.borrowed (way_of h) (f.borrowed (way_of h) - 1) } else f) n' ≡ view f n'
     by_case true = λ i. record (view f n') {
-      borrowed = λ u. masked-else (λ (v : Way). node_in f.ports v.receiver == n') f.borrowed (way_of h) u (f.borrowed (way_of h) - 1) (same_way u (way_of h)) (same_way-true u (way_of h))
+      borrowed =
+          λ u. masked-else (λ (v : Way). node_in f.ports v.receiver == n') f.borrowed (way_of h) u (f.borrowed (way_of h) - 1) (same_way u (way_of h))
+          (same_way-true u (way_of h))
           (others-port f.ports (way_of h).receiver n n' (ap (node_in f.ports) (way_of-receiver h) ∙ e) d) i;
     }
     by_case false = refl

@@ -114,7 +114,8 @@ beat-fits w u (Begins n call c) beat fits = subst Fits (sym beat.2) (record {
   wire = fits.wire;
   own = fits.own;
   handles = fits.handles;
-  doing = λ k. call-fits w.state.fixed w.doing n k _ (wire_start-fits w.state n c call fits.own fits.expired fits.wire (fits.handles n) (begin-none w n call beat.0).1) (fits.doing k);
+  doing = λ k. call-fits w.state.fixed w.doing n k _
+      (wire_start-fits w.state n c call fits.own fits.expired fits.wire (fits.handles n) (begin-none w n call beat.0).1) (fits.doing k);
   waits = fits.waits;
   expired = fits.expired;
 })
@@ -125,15 +126,18 @@ beat-fits w u (Makes n m) beat fits =
       own = subst HasOwnPorts (sym same) fits.own;
       handles = λ k. subst (λ (f : Fixed). FitsHandles (view f k) k) (sym same) (fits.handles k);
       doing = λ k. subst (λ (f : Fixed). FitsCall (view f k) k (put_at w.doing n (Some (next w.state n beat.1 m).after) k)) (sym same)
-          (call-fits w.state.fixed w.doing n k _ (next-fits w.state n beat.1 m fits.own fits.waits beat.3 (doing-is w n beat.1 fits beat.2) beat.4) (fits.doing k));
-      waits = λ y x a. subst (λ (f : Fixed). OnWay f.ports y x) (sym same) (moved-waits w.state n beat.1 m (doing-is w n beat.1 fits beat.2) beat.4 fits.waits y x a);
+          (call-fits w.state.fixed w.doing n k _ (next-fits w.state n beat.1 m fits.own fits.waits beat.3 (doing-is w n beat.1 fits beat.2) beat.4)
+          (fits.doing k));
+      waits = λ y x a. subst (λ (f : Fixed). OnWay f.ports y x) (sym same)
+          (moved-waits w.state n beat.1 m (doing-is w n beat.1 fits beat.2) beat.4 fits.waits y x a);
       expired = λ p. ap (λ (f : Fixed). f.expired p) same ∙ fits.expired p;
     })
 beat-fits w u (Ends n reply payload) beat fits =
     let p : FitsOutcome (view w.state.fixed n) n beat.3 = ends-fits w.state n beat.1 beat.3 (doing-is w n beat.1 fits beat.2) beat.4 in
     subst Fits (sym beat.7) (record {
       wire = beat-wire w _ (Ends n reply payload) (beat.0, beat.1, beat.2, beat.3, beat.4, beat.5, beat.6, refl) fits.wire;
-      own = subst (λ (ports : List Port). NoRepeats (map (λ q. q.number) ports)) (sym (settled-ports w.state n payload beat.3 fits.wire (fits.handles n) p)) fits.own;
+      own = subst (λ (ports : List Port). NoRepeats (map (λ q. q.number) ports))
+          (sym (settled-ports w.state n payload beat.3 fits.wire (fits.handles n) p)) fits.own;
       handles = λ k. over-handles w.state n k payload beat.3 fits.wire fits.handles p;
       doing = λ k. over-doing w.state w.doing n k payload beat.3 fits.wire (fits.handles n) p (fits.doing k);
       waits = λ y x a. subst (λ (ports : List Port). OnWay ports y x) (sym (settled-ports w.state n payload beat.3 fits.wire (fits.handles n) p))

@@ -36,7 +36,8 @@ pub holds-held : (f : Fixed) (n q k : ℕ) → IsAt f.ports q n → is_held f q 
 holds-held f n q k at e =
     let r : (h : Handle) × IsAmong h (handles_of f q) × ((is_own h.kind && (h.message.serial == k)) ≡ true)
     = any-among (λ h. is_own h.kind && (h.message.serial == k)) (handles_of f q) e in
-    let t : IsAmong r.0 (f.handles (node_of_port f q)) × (((r.0).port == q) ≡ true) = filter-among (λ (h : Handle). h.port == q) r.0 (f.handles (node_of_port f q)) r.1 in
+    let t : IsAmong r.0 (f.handles (node_of_port f q)) × (((r.0).port == q) ≡ true)
+    = filter-among (λ (h : Handle). h.port == q) r.0 (f.handles (node_of_port f q)) r.1 in
     let o : (is_own (r.0).kind ≡ true) × (((r.0).message.serial == k) ≡ true) = split _ _ r.2 in
     record {
       handle = r.0;
@@ -49,7 +50,8 @@ holds-held f n q k at e =
 pub held-holds : (f : Fixed) (n q k : ℕ) → IsAt f.ports q n → HoldsOwn (view f n) q k → is_held f q k ≡ true
 held-holds f n q k at p =
     among-any (λ h. is_own h.kind && (h.message.serial == k)) p.handle (handles_of f q)
-    (among-filter (λ (h : Handle). h.port == q) p.handle (f.handles (node_of_port f q)) (subst (λ m. IsAmong p.handle (f.handles m)) (sym at) p.among) (eq-eqb p.handle.port q p.port))
+    (among-filter (λ (h : Handle). h.port == q) p.handle (f.handles (node_of_port f q)) (subst (λ m. IsAmong p.handle (f.handles m)) (sym at) p.among)
+    (eq-eqb p.handle.port q p.port))
     (both_true (is_own p.handle.kind) (p.handle.message.serial == k) p.own (eq-eqb p.handle.message.serial k p.serial))
 
 loan-own : (a b c : Bool) → (a || b) ≡ true → (a || (b || c)) ≡ true
@@ -73,7 +75,8 @@ less-holds : (v : View) (h : Handle) (q k : ℕ) → HoldsOwn (less v h) q k →
 less-holds v h q k p = record { handle = p.handle; among = (without-number h p.handle v.handles p.among).0; port = p.port; own = p.own; serial = p.serial }
 
 plus-holds : (v : View) (h : Handle) (q k : ℕ) → HoldsOwn (plus v h) q k → HoldsOwn v q k ⊎ ((h.port ≡ q) × (is_own h.kind ≡ true) × (h.message.serial ≡ k))
-plus-holds v h q k p = elim (among-last p.handle h v.handles p.among) as (λ u. HoldsOwn v q k ⊎ ((h.port ≡ q) × (is_own h.kind ≡ true) × (h.message.serial ≡ k))) [
+plus-holds v h q k p =
+    elim (among-last p.handle h v.handles p.among) as (λ u. HoldsOwn v q k ⊎ ((h.port ≡ q) × (is_own h.kind ≡ true) × (h.message.serial ≡ k))) [
   | inl a ↦ inl (record { handle = p.handle; among = a; port = p.port; own = p.own; serial = p.serial })
   | inr e ↦ inr (
     sym (ap (λ (g : Handle). g.port) e) ∙ p.port,
@@ -83,7 +86,8 @@ plus-holds v h q k p = elim (among-last p.handle h v.handles p.among) as (λ u. 
 ]
 
 -- what is put in another's place was held by that
-swapped-holds : (v : View) (n : ℕ) (h old : Handle) (q k : ℕ) → NoRepeats (map (λ k. k.number) v.handles) → IsAmong old v.handles → h.port ≡ old.port → is_own old.kind ≡ true
+swapped-holds : (v : View) (n : ℕ) (h old : Handle) (q k : ℕ) → NoRepeats (map (λ k. k.number) v.handles) → IsAmong old v.handles → h.port ≡ old.port
+    → is_own old.kind ≡ true
     → h.message.serial ≡ old.message.serial → HoldsOwn (swapped v h) q k → HoldsOwn v q k
 swapped-holds v n h old q k fits among port own serial p = elim (with-among h p.handle v.handles fits p.among) as (λ u. HoldsOwn v q k) [
   | inl e ↦ record {
@@ -103,7 +107,8 @@ taken-not-own false = refl
 -- ---- the end of a call
 
 -- what a port holds then it held before, or the call held it
-pub own-before : (v : View) (n : ℕ) (payload : List ℕ) (o : Outcome) (q k : ℕ) → NoRepeats (map (λ k. k.number) v.handles) → FitsEnd v n o → HoldsOwn (after_call v n payload o) q k
+pub own-before : (v : View) (n : ℕ) (payload : List ℕ) (o : Outcome) (q k : ℕ) → NoRepeats (map (λ k. k.number) v.handles) → FitsEnd v n o
+    → HoldsOwn (after_call v n payload o) q k
     → HoldsOwn v q k ⊎ (has_number k (serials_of_outcome q o) ≡ true)
 own-before v n payload (Tells reply) q k hs fits p = inl p
 own-before v n payload (Loans h) q k hs fits p = elim (plus-holds v (holding h payload) q k (same-holds _ (plus v (holding h payload)) q k refl p))
@@ -111,7 +116,8 @@ own-before v n payload (Loans h) q k hs fits p = elim (plus-holds v (holding h p
       | inl r ↦ inl r
       | inr r ↦ inr (made-serial h q k r.0 r.2)
     ]
-own-before v n payload (Fills h) q k hs fits p = inl (swapped-holds v n h fits.old q k hs fits.among fits.port (own-loan fits.old.kind fits.was_loan) fits.serial p)
+own-before v n payload (Fills h) q k hs fits p =
+    inl (swapped-holds v n h fits.old q k hs fits.among fits.port (own-loan fits.old.kind fits.was_loan) fits.serial p)
 own-before v n payload (Sends h true count') q k hs fits p =
     either (λ (u : View). HoldsOwn (lends_one u h.port) q k → HoldsOwn v q k ⊎ (has_number k (serials_of_loan h true q) ≡ true)) (is_request_loan h.kind)
     (plus (counted v) (sent_handle h count')) v
@@ -148,7 +154,8 @@ after-loans v n payload (Sends h true count') q fits =
     either (λ (u : View). v.loans q ≤ (lends_one u h.port).loans q) (is_request_loan h.kind) (plus (counted v) (sent_handle h count')) v
     (λ e. more-loans v.loans h.port q) (λ e. more-loans v.loans h.port q)
 after-loans v n payload (Sends h false count') q fits =
-    either (λ (u : View). v.loans q ≤ u.loans q) (is_request_loan h.kind) (swapped v (sent_handle h count')) (less v h) (λ e. same (v.loans q)) (λ e. same (v.loans q))
+    either (λ (u : View). v.loans q ≤ u.loans q) (is_request_loan h.kind) (swapped v (sent_handle h count')) (less v h) (λ e. same (v.loans q))
+    (λ e. same (v.loans q))
   where
     same : (a : ℕ) → a ≤ a
     same a = omega arith
@@ -162,7 +169,8 @@ after-loans v n payload (Drops h) q fits =
     same a = omega arith
 after-loans v n payload (DropsPort port) q fits = omega arith
 after-loans v n payload (Forgets dead) q fits =
-    either (λ (u : View). v.loans q ≤ u.loans q) (has_number dead v.forgot) v (record v { forgot = v.forgot ++ dead ∷ [] }) (λ e. same (v.loans q)) (λ e. same (v.loans q))
+    either (λ (u : View). v.loans q ≤ u.loans q) (has_number dead v.forgot) v (record v { forgot = v.forgot ++ dead ∷ [] }) (λ e. same (v.loans q))
+    (λ e. same (v.loans q))
   where
     same : (a : ℕ) → a ≤ a
     same a = omega arith

@@ -116,9 +116,11 @@ moved-kept w m d mo q k p fits is doing c e = elim (one_of (is_held (moved w.sta
           (ap (λ (f : Fixed). list_any (λ y. (moved w.state mo).delivered y k) (ways_from f q)) (sym (moved-fixed w.state mo)) ∙ h))
     ]
   where
-    out : (y : Way) × IsAmong y (ways_from w.state.fixed q) × ((moved w.state mo).delivered y k ≡ true) → (keeps w.state q k ≡ true) ⊎ (has_number k (under w q) ≡ true)
+    out : (y : Way) × IsAmong y (ways_from w.state.fixed q) × ((moved w.state mo).delivered y k ≡ true) → (keeps w.state q k ≡ true)
+        ⊎ (has_number k (under w q) ≡ true)
     out r = elim (moved-delivered w.state mo r.0 k r.2) as (λ z. (keeps w.state q k ≡ true) ⊎ (has_number k (under w q) ≡ true)) [
-      | inl h ↦ inl (or-right (is_held w.state.fixed q k) (is_outstanding w.state q k) (among-any (λ y. w.state.delivered y k) r.0 (ways_from w.state.fixed q) r.1 h))
+      | inl h ↦ inl (or-right (is_held w.state.fixed q k) (is_outstanding w.state q k)
+            (among-any (λ y. w.state.delivered y k) r.0 (ways_from w.state.fixed q) r.1 h))
       | inr h ↦ delivered-keeps w m d r.0 q k p is r.1 doing (is-put w.state m d mo r.0 k (doing-is w m d fits doing) c h)
     ]
 
@@ -150,9 +152,12 @@ made-follows w m d mo q p fits is doing c = record {
   loans = same-le (w.state.fixed.loans q) ((moved w.state mo).fixed.loans q) (sym (ap (λ (f : Fixed). f.loans q) (moved-fixed w.state mo)));
   kept = λ k. moved-kept w m d mo q k p fits is doing c;
   call = λ k e. changed-call w q m (Some (next w.state m d mo).after) (λ ks. has_number k ks ≡ true → IsNext w q p k) (here k) (λ h. inl h)
-      (ap (λ (f : Fixed). has_number k (under_at q (put_at w.doing m (Some (next w.state m d mo).after) (node_of_port f q)))) (sym (moved-fixed w.state mo)) ∙ e);
+      (ap (λ (f : Fixed). has_number k (under_at q (put_at w.doing m (Some (next w.state m d mo).after) (node_of_port f q)))) (sym
+      (moved-fixed w.state mo)) ∙ e);
   under_is = λ k. under-is w q k fits;
-  stays = λ k e. subst (λ (f : Fixed). (k < f.loans q) ⊎ (has_number k (under_at q (put_at w.doing m (Some (next w.state m d mo).after) (node_of_port f q))) ≡ true))
+  stays =
+      λ k e. subst (λ (f : Fixed). (k < f.loans q)
+      ⊎ (has_number k (under_at q (put_at w.doing m (Some (next w.state m d mo).after) (node_of_port f q))) ≡ true))
       (sym (moved-fixed w.state mo))
       (changed-call w q m (Some (next w.state m d mo).after) (λ ks. (k < w.state.fixed.loans q) ⊎ (has_number k ks ≡ true))
       (λ at. inr (next-stays w.state m q k d mo c (ap (has_number k) (sym (ap (under_at q) (ap w.doing at ∙ doing))) ∙ e))) (inr e));
@@ -161,7 +166,8 @@ made-follows w m d mo q p fits is doing c = record {
     here : (k : ℕ) → node_of_port w.state.fixed q ≡ m → has_number k (under_way q (next w.state m d mo).after) ≡ true → IsNext w q p k
     here k at e =
         next-under (Nexts w q p) w.state m d mo (picks w m d q p fits is at doing (doing-is w m d fits doing)) c
-        (λ q' j h same-le. inl (ap (has_number j) (ap (under_at q) (ap w.doing at ∙ doing)) ∙ ap (λ i. has_number j (under_way i d)) (sym same-le) ∙ h)) q k e refl
+        (λ q' j h same-le. inl (ap (has_number j) (ap (under_at q) (ap w.doing at ∙ doing)) ∙ ap (λ i. has_number j (under_way i d)) (sym same-le)
+        ∙ h)) q k e refl
 
 -- ---- an end
 
@@ -232,7 +238,9 @@ over-loans w m payload o q fits p = by_case (n == m) refl
         view-loans (subst (λ i. (view w.state.fixed i).loans q ≤ (view u i).loans q) (sym (eqb-true n m is))
         (subst (λ (v : View). (view w.state.fixed m).loans q ≤ v.loans q) (sym (settled-here w.state m payload o fits.wire (fits.handles m) p))
         (after-loans (view w.state.fixed m) m payload o q (fits-end (view w.state.fixed m) m o p))))
-    by_case false is = view-loans (same-le ((view w.state.fixed n).loans q) ((view u n).loans q) (ap (λ (v : View). v.loans q) (sym (settled-else w.state m n payload o fits.wire (fits.handles m) p is))))
+    by_case false is =
+        view-loans (same-le ((view w.state.fixed n).loans q) ((view u n).loans q)
+        (ap (λ (v : View). v.loans q) (sym (settled-else w.state m n payload o fits.wire (fits.handles m) p is))))
 
 -- what the call held is loaned now
 over-stays : (w : World) (m : ℕ) (d : Doing) (payload : List ℕ) (o : Outcome) (q k : ℕ) → Fits w → w.doing m ≡ Some d → ends w.state d ≡ Some o
@@ -242,14 +250,16 @@ over-stays w m d payload o q k fits doing ended p e =
     (changed-call w q m None (λ ks. (k < (settled w.state m payload o).fixed.loans q) ⊎ (has_number k ks ≡ true)) (λ at. inl (here at)) (inr e))
   where
     node : node_of_port (settled w.state m payload o).fixed q ≡ node_of_port w.state.fixed q
-    node = ap (λ ps. node_of_port (record ((settled w.state m payload o).fixed) { ports = ps }) q) (settled-ports w.state m payload o fits.wire (fits.handles m) p)
+    node =
+        ap (λ ps. node_of_port (record ((settled w.state m payload o).fixed) { ports = ps }) q) (settled-ports w.state m payload o fits.wire (fits.handles m) p)
 
     here : node_of_port w.state.fixed q ≡ m → k < (settled w.state m payload o).fixed.loans q
     here at =
         subst (λ j. j < (settled w.state m payload o).fixed.loans q) (sym (under-is w q k fits e ∙ sym (loans-is w.state.fixed q m at)))
         (subst (λ b. (view w.state.fixed m).loans q < b) (loans-is (settled w.state m payload o).fixed q m (node ∙ at))
         (subst (λ (v : View). (view w.state.fixed m).loans q < v.loans q) (sym (settled-here w.state m payload o fits.wire (fits.handles m) p))
-        (after-more (view w.state.fixed m) m payload o q k (ap (has_number k) (sym (ap (under_at q) (ap w.doing at ∙ doing) ∙ ends-same w.state q d o ended)) ∙ e))))
+        (after-more (view w.state.fixed m) m payload o q k
+        (ap (has_number k) (sym (ap (under_at q) (ap w.doing at ∙ doing) ∙ ends-same w.state q d o ended)) ∙ e))))
 
 over-follows : (w : World) (m : ℕ) (d : Doing) (payload : List ℕ) (o : Outcome) (q : ℕ) (p : Port) → Fits w → w.doing m ≡ Some d → ends w.state d ≡ Some o
     → FitsOutcome (view w.state.fixed m) m o → Follows w (over w m payload o) q p
@@ -266,7 +276,8 @@ over-follows w m d payload o q p fits doing ended fit = record {
 -- ---- beats and weaves
 
 beat-follows : (w u : World) (b : Beat) (q : ℕ) (p : Port) → IsBeat w b u → Fits w → port_at w.state.fixed q ≡ Some p → Follows w u q p
-beat-follows w u (Begins m call c) q p beat fits is = subst (λ x. Follows w x q p) (sym beat.2) (begun-follows w m c call q p fits is (begin-none w m call beat.0).0)
+beat-follows w u (Begins m call c) q p beat fits is =
+    subst (λ x. Follows w x q p) (sym beat.2) (begun-follows w m c call q p fits is (begin-none w m call beat.0).0)
 beat-follows w u (Makes m mo) q p beat fits is = subst (λ x. Follows w x q p) (sym beat.5) (made-follows w m beat.1 mo q p fits is beat.2 beat.4)
 beat-follows w u (Ends m reply payload) q p beat fits is =
     subst (λ x. Follows w x q p) (sym beat.7)
@@ -294,7 +305,8 @@ weave-ports w v (b ∷ bs) weave fits = weave-ports weave.0 v bs weave.2 (beat-f
 opened-keeping : (s : State) (q : ℕ) (p : Port) → Keeping (at_work (opened s)) q p
 opened-keeping s q p = record {
   lent = λ k e. absurd (nothing k e);
-  fits = at-most (no-longer (kept_in (at_work (opened s)) q) [] (no_repeats-filter (is_kept (opened s) q []) (range_with_len 0 1) (range-apart 0 1)) (λ k a. absurd (nothing k (filter-among (is_kept (opened s) q []) k (range_with_len 0 1) a).1))) (least p.pool);
+  fits = at-most (no-longer (kept_in (at_work (opened s)) q) [] (no_repeats-filter (is_kept (opened s) q []) (range_with_len 0 1) (range-apart 0 1))
+      (λ k a. absurd (nothing k (filter-among (is_kept (opened s) q []) k (range_with_len 0 1) a).1))) (least p.pool);
 }
   where
     none : (ws : List Way) → list_any (λ y. false) ws ≡ false

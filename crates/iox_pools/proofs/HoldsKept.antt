@@ -64,7 +64,8 @@ equal a b c p q = omega arith
 -- what is kept, and was loaned, is among the kept
 in-kept : (w : World) (q k : ℕ) → is_kept w.state q (under w q) k ≡ true → k ≤ w.state.fixed.loans q → IsAmong k (kept_in w q)
 in-kept w q k e p =
-    among-filter (is_kept w.state q (under w q)) k (range_with_len 0 (w.state.fixed.loans q + 1)) (range-has 0 (w.state.fixed.loans q + 1) k (least k) (below k (w.state.fixed.loans q) p)) e
+    among-filter (is_kept w.state q (under w q)) k (range_with_len 0 (w.state.fixed.loans q + 1))
+    (range-has 0 (w.state.fixed.loans q + 1) k (least k) (below k (w.state.fixed.loans q) p)) e
   where
     least : (a : ℕ) → 0 ≤ a
     least a = omega arith
@@ -75,9 +76,11 @@ in-kept w q k e p =
 -- the call's message is among the kept
 under-kept : (w u : World) (q : ℕ) (p : Port) (k : ℕ) → Follows w u q p → has_number k (under w q) ≡ true → IsAmong k (kept_in w q)
 under-kept w u q p k f e =
-    in-kept w q k (or-left (has_number k (under w q)) (keeps w.state q k) e) (equal k (w.state.fixed.loans q) (w.state.fixed.loans q) (f.under_is k e) (same (w.state.fixed.loans q)))
+    in-kept w q k (or-left (has_number k (under w q)) (keeps w.state q k) e)
+    (equal k (w.state.fixed.loans q) (w.state.fixed.loans q) (f.under_is k e) (same (w.state.fixed.loans q)))
 
-keeps-kept : (w u : World) (q : ℕ) (p : Port) (k : ℕ) → Follows w u q p → Keeping w q p → (keeps w.state q k ≡ true) ⊎ (has_number k (under w q) ≡ true) → IsAmong k (kept_in w q)
+keeps-kept : (w u : World) (q : ℕ) (p : Port) (k : ℕ) → Follows w u q p → Keeping w q p → (keeps w.state q k ≡ true)
+    ⊎ (has_number k (under w q) ≡ true) → IsAmong k (kept_in w q)
 keeps-kept w u q p k f keeping (inl e) = in-kept w q k (or-right (has_number k (under w q)) (keeps w.state q k) e) (lent-below (keeping.lent k e))
   where
     below : (a b : ℕ) → a < b → a ≤ b
@@ -102,7 +105,8 @@ all-old w u q p f = by_list (under u q) f.call
     by_list : (ks : List ℕ) → ((k : ℕ) → has_number k ks ≡ true → IsNext w q p k)
         → ((k : ℕ) → has_number k ks ≡ true → has_number k (under w q) ≡ true) ⊎ (length (kept_in w q) < p.pool)
     by_list [] each = inl (λ k e. absurd (true≢false (sym e)))
-    by_list (x ∷ xs) each = elim (each x (first x xs)) as (λ z. ((k : ℕ) → has_number k (x ∷ xs) ≡ true → has_number k (under w q) ≡ true) ⊎ (length (kept_in w q) < p.pool)) [
+    by_list (x ∷ xs) each =
+        elim (each x (first x xs)) as (λ z. ((k : ℕ) → has_number k (x ∷ xs) ≡ true → has_number k (under w q) ≡ true) ⊎ (length (kept_in w q) < p.pool)) [
       | inl e ↦ inl (λ k g. elim (each k g) as (λ z. has_number k (under w q) ≡ true) [ inl h ↦ h | inr h ↦ absurd (nothing x (under w q) h.1 e) ])
       | inr e ↦ inr e.2
     ]
@@ -112,7 +116,8 @@ pub follows-keeping : (w u : World) (q : ℕ) (p : Port) → Follows w u q p →
 follows-keeping w u q p f keeping = record {
   lent = λ k e. lent k (f.kept k e);
   fits = elim (all-old w u q p f) as (λ z. length (kept_in u q) ≤ p.pool) [
-    | inl old ↦ at-most (length (kept_in u q)) (length (kept_in w q)) p.pool (no-longer (kept_in u q) (kept_in w q) apart (λ k a. keeps-kept w u q p k f keeping (was old k (split k a)))) keeping.fits
+    | inl old ↦ at-most (length (kept_in u q)) (length (kept_in w q)) p.pool
+          (no-longer (kept_in u q) (kept_in w q) apart (λ k a. keeps-kept w u q p k f keeping (was old k (split k a)))) keeping.fits
     | inr room ↦ one-more (length (kept_in u q)) (length (kept_in w q)) p.pool
         (no-longer (kept_in u q) (w.state.fixed.loans q ∷ kept_in w q) apart (λ k a. new k (split k a))) room
   ];
@@ -133,9 +138,12 @@ follows-keeping w u q p f keeping = record {
     apart = no_repeats-filter (is_kept u.state q (under u q)) (range_with_len 0 (u.state.fixed.loans q + 1)) (range-apart 0 (u.state.fixed.loans q + 1))
 
     split : (k : ℕ) → IsAmong k (kept_in u q) → (has_number k (under u q) ≡ true) ⊎ (keeps u.state q k ≡ true)
-    split k a = one_of (has_number k (under u q)) (keeps u.state q k) (filter-among (is_kept u.state q (under u q)) k (range_with_len 0 (u.state.fixed.loans q + 1)) a).1
+    split k a =
+        one_of (has_number k (under u q)) (keeps u.state q k)
+        (filter-among (is_kept u.state q (under u q)) k (range_with_len 0 (u.state.fixed.loans q + 1)) a).1
 
-    was : ((k : ℕ) → has_number k (under u q) ≡ true → has_number k (under w q) ≡ true) → (k : ℕ) → (has_number k (under u q) ≡ true) ⊎ (keeps u.state q k ≡ true)
+    was : ((k : ℕ) → has_number k (under u q) ≡ true → has_number k (under w q) ≡ true) → (k : ℕ) → (has_number k (under u q) ≡ true)
+        ⊎ (keeps u.state q k ≡ true)
         → (keeps w.state q k ≡ true) ⊎ (has_number k (under w q) ≡ true)
     was old k (inl e) = inr (old k e)
     was old k (inr e) = f.kept k e

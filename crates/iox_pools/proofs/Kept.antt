@@ -62,7 +62,8 @@ own-server Response e f = absurd (true≢false e)
 abbrev own_handles : View → ℕ → ℕ
 own_handles v port = counts v port is_own
 
-own-of-client : (v : View) (port : ℕ) → FitsKinds v → is_client (role_in v.ports port) ≡ true → own_handles v port ≤ counts v port is_request_loan + counts v port is_pending
+own-of-client : (v : View) (port : ℕ) → FitsKinds v → is_client (role_in v.ports port) ≡ true
+    → own_handles v port ≤ counts v port is_request_loan + counts v port is_pending
 own-of-client v port fits client =
     at-most _ _ _ (count-fewer _ (λ h. ((h.port == port) && is_request_loan h.kind) || ((h.port == port) && is_pending h.kind)) v.handles each)
     (count-or (λ h. (h.port == port) && is_request_loan h.kind) (λ h. (h.port == port) && is_pending h.kind) v.handles)
@@ -71,7 +72,8 @@ own-of-client v port fits client =
     spread true b c e f = f
     spread false b c e f = absurd (true≢false (sym e))
 
-    each : (h : Handle) → IsAmong h v.handles → ((h.port == port) && is_own h.kind) ≡ true → (((h.port == port) && is_request_loan h.kind) || ((h.port == port) && is_pending h.kind)) ≡ true
+    each : (h : Handle) → IsAmong h v.handles → ((h.port == port) && is_own h.kind) ≡ true
+        → (((h.port == port) && is_request_loan h.kind) || ((h.port == port) && is_pending h.kind)) ≡ true
     each h a e =
         let q : ((h.port == port) ≡ true) × (is_own h.kind ≡ true) = split _ _ e in
         spread (h.port == port) (is_request_loan h.kind) (is_pending h.kind) q.0
@@ -103,9 +105,11 @@ pub record IsWayOf (f : Fixed) (port : ℕ) (role : Role) (w : Way) : Type 0 whe
   pub receiver : w.receiver ≡ to.number
   pub of_role : same_role to.role (other_role role) ≡ true
 
-pub of-role : (f : Fixed) (q : ℕ) (role : Role) → IsAmong q (ports_of_role f role) → (p : Port) × IsAmong p f.ports × (q ≡ p.number) × (same_role p.role role ≡ true)
+pub of-role : (f : Fixed) (q : ℕ) (role : Role) → IsAmong q (ports_of_role f role)
+    → (p : Port) × IsAmong p f.ports × (q ≡ p.number) × (same_role p.role role ≡ true)
 of-role f q role a =
-    let r : (p : Port) × IsAmong p (filter (λ p. same_role p.role role) f.ports) × (q ≡ p.number) = map-among (λ p. p.number) q (filter (λ p. same_role p.role role) f.ports) a in
+    let r : (p : Port) × IsAmong p (filter (λ p. same_role p.role role) f.ports) × (q ≡ p.number)
+    = map-among (λ p. p.number) q (filter (λ p. same_role p.role role) f.ports) a in
     let t : IsAmong r.0 f.ports × (same_role (r.0).role role ≡ true) = filter-among (λ p. same_role p.role role) r.0 f.ports r.1 in
     (r.0, t.0, r.2, t.1)
 
@@ -125,7 +129,8 @@ pub server-way : (f : Fixed) (port : ℕ) (w : Way) → IsAmong w (ways_from_ser
 server-way f port w a =
     let r : (q : ℕ) × IsAmong q (ports_of_role f Client) × IsAmong w (lanes_to f port q) = among-flat (lanes_to f port) w (ports_of_role f Client) a in
     let t : (p : Port) × IsAmong p f.ports × (r.0 ≡ p.number) × (same_role p.role Client ≡ true) = of-role f r.0 Client r.1 in
-    let l : (lane : ℕ) × IsAmong lane (range_with_len 0 (lanes_of f r.0)) × (w ≡ response_way r.0 lane port) = map-among (λ lane. response_way r.0 lane port) w (range_with_len 0 (lanes_of f r.0)) r.2 in
+    let l : (lane : ℕ) × IsAmong lane (range_with_len 0 (lanes_of f r.0)) × (w ≡ response_way r.0 lane port)
+    = map-among (λ lane. response_way r.0 lane port) w (range_with_len 0 (lanes_of f r.0)) r.2 in
     record {
       sender = ap (λ (u : Way). u.sender) l.2;
       to = t.0;
@@ -176,9 +181,11 @@ lanes-least f q own within a =
 server-ways : (f : Fixed) (port : ℕ) → HasOwnPorts f → IsWithin f → length (ways_from_server f port) ≤ f.limits.clients * pool_of_client f.limits
 server-ways f port own within =
     at-most _ _ _ (length-flat (lanes_to f port) (pool_of_client f.limits) (ports_of_role f Client)
-    (λ q a. subst (λ k. k ≤ pool_of_client f.limits) (sym (length-map (range_with_len 0 (lanes_of f q)) (λ lane. response_way q lane port) ∙ length-range_with_len 0 (lanes_of f q)))
+    (λ q a. subst (λ k. k ≤ pool_of_client f.limits)
+    (sym (length-map (range_with_len 0 (lanes_of f q)) (λ lane. response_way q lane port) ∙ length-range_with_len 0 (lanes_of f q)))
     (lanes-least f q own within a)))
-    (more (length (ports_of_role f Client)) f.limits.clients (pool_of_client f.limits) (subst (λ k. k ≤ f.limits.clients) (sym (role-count f Client)) (within.most Client)))
+    (more (length (ports_of_role f Client)) f.limits.clients (pool_of_client f.limits)
+    (subst (λ k. k ≤ f.limits.clients) (sym (role-count f Client)) (within.most Client)))
 
 -- ---- less than its pool
 
@@ -223,7 +230,8 @@ kept-server : (s : State) (n port : ℕ) (p : Port) → HasOwnPorts s.fixed → 
 kept-server s n port p own within fits spare is server enough keeps =
     sum (own-of-server (view s.fixed n) port fits (ap (λ (r : Role). is_client r) (role-is s.fixed port p is) ∙ server))
     (spare-server (view s.fixed n) port p spare is server)
-    (more (length (ways_from_server s.fixed port)) (s.fixed.limits.clients * pool_of_client s.fixed.limits) (most_out s.fixed.limits Server) (server-ways s.fixed port own within))
+    (more (length (ways_from_server s.fixed port)) (s.fixed.limits.clients * pool_of_client s.fixed.limits) (most_out s.fixed.limits Server)
+    (server-ways s.fixed port own within))
     enough keeps
   where
     sum : {kept own loans ways most l pool : ℕ} → own ≤ loans → loans < l → ways ≤ most → l + most ≤ pool → kept ≤ own + ways → kept < pool
@@ -244,14 +252,16 @@ kept-less s n port p own within fits spare is at enough each = by_role p.role re
     by_role Client e =
         let ways : ways_from s.fixed port ≡ ways_from_client s.fixed port
         = ap (λ (q : Role). if is_client q then ways_from_client s.fixed port else ways_from_server s.fixed port) (role ∙ e) in
-        kept-client s n port p within fits spare is (ap (λ (q : Role). is_client q) e) (subst (λ (q : Role). (if is_client q then pool_of_client s.fixed.limits else pool_of_server s.fixed.limits p.loaned_responses) ≤ p.pool) e enough)
+        kept-client s n port p within fits spare is (ap (λ (q : Role). is_client q) e)
+        (subst (λ (q : Role). (if is_client q then pool_of_client s.fixed.limits else pool_of_server s.fixed.limits p.loaned_responses) ≤ p.pool) e enough)
         (subst (λ ws. length (kept s port []) ≤ own_handles (view s.fixed n) port + length ws * most_out s.fixed.limits Client) ways
         (kept-length s n port (most_out s.fixed.limits Client) at (λ w a. (client-way s.fixed port w (subst (IsAmong w) ways a)).sender)
         (λ w a. subst (λ q. length (outstanding_on s w) ≤ most_out s.fixed.limits q) e (each w a))))
     by_role Server e =
         let ways : ways_from s.fixed port ≡ ways_from_server s.fixed port
         = ap (λ (q : Role). if is_client q then ways_from_client s.fixed port else ways_from_server s.fixed port) (role ∙ e) in
-        kept-server s n port p own within fits spare is (ap (λ (q : Role). is_client q) e) (subst (λ (q : Role). (if is_client q then pool_of_client s.fixed.limits else pool_of_server s.fixed.limits p.loaned_responses) ≤ p.pool) e enough)
+        kept-server s n port p own within fits spare is (ap (λ (q : Role). is_client q) e)
+        (subst (λ (q : Role). (if is_client q then pool_of_client s.fixed.limits else pool_of_server s.fixed.limits p.loaned_responses) ≤ p.pool) e enough)
         (subst (λ ws. length (kept s port []) ≤ own_handles (view s.fixed n) port + length ws * most_out s.fixed.limits Server) ways
         (kept-length s n port (most_out s.fixed.limits Server) at (λ w a. (server-way s.fixed port w (subst (IsAmong w) ways a)).sender)
         (λ w a. subst (λ q. length (outstanding_on s w) ≤ most_out s.fixed.limits q) e (each w a))))

@@ -52,7 +52,8 @@ back-at-pick : (v : World) (node : ℕ) (copies : Bool) (h : Handle) → HasAllB
 back-at-pick v node copies h back = all-back v node copies h back.1 back.2 back.3
 
 -- its call holds no message yet
-kept-at-pick : (v : World) (node : ℕ) (copies : Bool) (h : Handle) → IsLoanOf v.state.fixed node h → HasAllBack v node copies h → kept_in v h.port ≡ kept v.state h.port []
+kept-at-pick : (v : World) (node : ℕ) (copies : Bool) (h : Handle) → IsLoanOf v.state.fixed node h → HasAllBack v node copies h
+    → kept_in v h.port ≡ kept v.state h.port []
 kept-at-pick v node copies h loan back =
     ap (λ (o : Option Doing). kept v.state h.port (option_map_or (under_way h.port) o [])) (ap v.doing loan.of_port ∙ back.2)
 
@@ -69,7 +70,8 @@ loan_succeeds v node copies h p reach back is enough =
     let x : IsOnServed v = on-served v reach in
     let holds : Holding v = holds-at v x in
     ap (λ (b : Bool). if b then refused OutOfMemory else (if copies then sends v.state.fixed h true else Ended (Loans h)))
-    (gives x.state v x.beats node h p x.on holds.fits holds.spares back.0 (loan-at-pick v node copies h holds back) (back-at-pick v node copies h back) is enough)
+    (gives x.state v x.beats node h p x.on holds.fits holds.spares back.0 (loan-at-pick v node copies h holds back)
+    (back-at-pick v node copies h back) is enough)
 
 -- ---- a loan that has nobody to get back from
 

@@ -55,7 +55,8 @@ dropped-role port p = either (λ (q : Port). q.role ≡ p.role) (p.number == por
 dropped-pool : (port : ℕ) (p : Port) → (port_dropped port p).pool ≡ p.pool
 dropped-pool port p = either (λ (q : Port). q.pool ≡ p.pool) (p.number == port) (record p { held = false }) p (λ u. refl) (λ u. refl)
 
-count-dropped : (port : ℕ) (role : Role) (ports : List Port) → count (λ p. same_role p.role role) (map (port_dropped port) ports) ≡ count (λ p. same_role p.role role) ports
+count-dropped : (port : ℕ) (role : Role) (ports : List Port)
+    → count (λ p. same_role p.role role) (map (port_dropped port) ports) ≡ count (λ p. same_role p.role role) ports
 count-dropped port role [] = refl
 count-dropped port role (p ∷ ps) =
     count-cons (λ q. same_role q.role role) (port_dropped port p) (map (port_dropped port) ps)
@@ -83,17 +84,20 @@ within-dropped l ports port p = record {
 pub role-count : (f : Fixed) (role : Role) → length (ports_of_role f role) ≡ count (λ p. same_role p.role role) f.ports
 role-count f role = length-map (filter (λ p. same_role p.role role) f.ports) (λ p. p.number)
 
-pub room-for : (f : Fixed) (role : Role) (o : Options) (memory : Bool) → making_refusal f role o memory ≡ None → count (λ p. same_role p.role role) f.ports < most_ports f.limits role
+pub room-for : (f : Fixed) (role : Role) (o : Options) (memory : Bool) → making_refusal f role o memory ≡ None
+    → count (λ p. same_role p.role role) f.ports < most_ports f.limits role
 room-for f role o memory e = subst (λ n. n < most_ports f.limits role) (role-count f role) (less _ _ (free _ _ (or_else-none _ _ (or_else-none _ _ e).1).1))
   where
     free : (b : Bool) (r : Refusal) → refused_if b r ≡ None → b ≡ false
     free true r e = absurd (none-some r (sym e))
     free false r e = refl
 
-pub within-made : (f : Fixed) (node : ℕ) (role : Role) (id : UniqueSystemId) (o : Options) → count (λ p. same_role p.role role) f.ports < most_ports f.limits role
+pub within-made : (f : Fixed) (node : ℕ) (role : Role) (id : UniqueSystemId) (o : Options)
+    → count (λ p. same_role p.role role) f.ports < most_ports f.limits role
     → IsWithin f → Within f.limits (f.ports ++ new_port f node role id o ∷ [])
 within-made f node role id o room p = record {
-  most = λ other. subst (λ n. n ≤ most_ports f.limits other) (sym (count-last (λ q. same_role q.role other) f.ports (new_port f node role id o))) (more role other room (p.most other));
+  most = λ other. subst (λ n. n ≤ most_ports f.limits other) (sym (count-last (λ q. same_role q.role other) f.ports (new_port f node role id o)))
+      (more role other room (p.most other));
   lanes = λ q a c. elim (among-last q (new_port f node role id o) f.ports a) as (λ u. q.pool ≤ pool_of_client f.limits) [
     | inl b ↦ p.lanes q b c
     | inr is ↦ subst (λ n. n ≤ pool_of_client f.limits) (sym (ap (λ (x : Port). x.pool) is)) (of_client role (ap (λ (x : Port). is_client x.role) (sym is) ∙ c))
@@ -107,7 +111,8 @@ within-made f node role id o room p = record {
     same : (a b : ℕ) → a ≤ b → a + 0 ≤ b
     same a b p = omega arith
 
-    more : (role other : Role) → count (λ q. same_role q.role role) f.ports < most_ports f.limits role → count (λ q. same_role q.role other) f.ports ≤ most_ports f.limits other
+    more : (role other : Role) → count (λ q. same_role q.role role) f.ports < most_ports f.limits role
+        → count (λ q. same_role q.role other) f.ports ≤ most_ports f.limits other
         → count (λ q. same_role q.role other) f.ports + one_if (same_role role other) ≤ most_ports f.limits other
     more Client Client r q = next _ _ r
     more Client Server r q = same _ _ q

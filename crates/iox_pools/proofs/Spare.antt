@@ -65,7 +65,8 @@ pub count-both : {A : Type 0} (a b : A → Bool) (xs : List A) → count b (filt
 count-both a b [] = refl
 count-both a b (x ∷ xs) = by_case (a x) (count-both a b xs)
   where
-    again : (c : Bool) (n : ℕ) → n ≡ count (λ y. a y && b y) xs → one_if c + n ≡ length (if c then x ∷ filter (λ y. a y && b y) xs else filter (λ y. a y && b y) xs)
+    again : (c : Bool) (n : ℕ) → n ≡ count (λ y. a y && b y) xs
+        → one_if c + n ≡ length (if c then x ∷ filter (λ y. a y && b y) xs else filter (λ y. a y && b y) xs)
     again true n e = ap (λ k. 1 + k) e ∙ one (count (λ y. a y && b y) xs)
       where
         one : (k : ℕ) → 1 + k ≡ suc k
@@ -205,7 +206,8 @@ sent-suits : (v : View) (n : ℕ) (h : Handle) (copied : Bool) (count' : ℕ) �
     → Suits v.ports (sent_handle h count').kind h.port
 sent-suits v n h copied count' p e = (refl, sym e ∙ p.made.role)
 
-sent-plus : (v : View) (n : ℕ) (h : Handle) (copied : Bool) (count' : ℕ) → FitsLoan v n h copied → SparePending v h → is_request_loan h.kind ≡ true → FitsKinds v
+sent-plus : (v : View) (n : ℕ) (h : Handle) (copied : Bool) (count' : ℕ) → FitsLoan v n h copied → SparePending v h → is_request_loan h.kind ≡ true
+    → FitsKinds v
     → FitsKinds (plus v (sent_handle h count'))
 sent-plus v n h copied count' p spare e fits = record {
   suits = λ g a. elim (among-last g (sent_handle h count') v.handles a) as (λ u. Suits v.ports g.kind g.port) [
@@ -216,17 +218,20 @@ sent-plus v n h copied count' p spare e fits = record {
       (one-pending v h count' port spare e fits);
 }
 
-sent-swapped : (v : View) (n : ℕ) (h : Handle) (count' : ℕ) → NoRepeats (map (λ k. k.number) v.handles) → FitsLoan v n h false → SparePending v h → is_request_loan h.kind ≡ true → FitsKinds v
+sent-swapped : (v : View) (n : ℕ) (h : Handle) (count' : ℕ) → NoRepeats (map (λ k. k.number) v.handles) → FitsLoan v n h false → SparePending v h
+    → is_request_loan h.kind ≡ true → FitsKinds v
     → FitsKinds (swapped v (sent_handle h count'))
 sent-swapped v n h count' hs p spare e fits = record {
   suits = λ g a. elim (with-among (sent_handle h count') g v.handles hs a) as (λ u. Suits v.ports g.kind g.port) [
     | inl is ↦ subst (λ (k : Handle). Suits v.ports k.kind k.port) (sym is) (sent-suits v n h false count' p e)
     | inr b ↦ fits.suits g b.0
   ];
-  pending = λ port. at-most _ _ _ (count-with (λ g. (g.port == port) && is_pending g.kind) (sent_handle h count') v.handles) (one-pending v h count' port spare e fits);
+  pending = λ port. at-most _ _ _ (count-with (λ g. (g.port == port) && is_pending g.kind) (sent_handle h count') v.handles)
+      (one-pending v h count' port spare e fits);
 }
 
-filled-kinds : (v : View) (n : ℕ) (h : Handle) → NoRepeats (map (λ k. k.number) v.handles) → is_loan h.kind ≡ true → is_request_loan h.kind ≡ is_client (role_in v.ports h.port) → FitsKinds v
+filled-kinds : (v : View) (n : ℕ) (h : Handle) → NoRepeats (map (λ k. k.number) v.handles) → is_loan h.kind ≡ true
+    → is_request_loan h.kind ≡ is_client (role_in v.ports h.port) → FitsKinds v
     → FitsKinds (swapped v h)
 filled-kinds v n h hs loan role fits = record {
   suits = λ g a. elim (with-among h g v.handles hs a) as (λ u. Suits v.ports g.kind g.port) [
@@ -234,7 +239,8 @@ filled-kinds v n h hs loan role fits = record {
     | inr b ↦ fits.suits g b.0
   ];
   pending = λ port. same (counts (swapped v h) port is_pending) (counts v port is_pending) _ v.limits.active_requests
-      (count-with (λ g. (g.port == port) && is_pending g.kind) h v.handles) (ap one_if (not-counted h port (loan-kind h.kind loan).no_pending)) (fits.pending port);
+      (count-with (λ g. (g.port == port) && is_pending g.kind) h v.handles) (ap one_if (not-counted h port (loan-kind h.kind loan).no_pending))
+      (fits.pending port);
 }
   where
     same : (a b c d : ℕ) → a ≤ b + c → c ≡ 0 → b ≤ d → a ≤ d
@@ -260,13 +266,15 @@ pub taken-free : (b : Bool) → is_pending (if b then Response else ActiveReques
 taken-free true = refl
 taken-free false = refl
 
-pub after-kinds : (v : View) (gone : ℕ → Type 0) (out : Type 0) (n : ℕ) (payload : List ℕ) (o : Outcome) → NoRepeats (map (λ k. k.number) v.handles) → FitsEnd v n o
+pub after-kinds : (v : View) (gone : ℕ → Type 0) (out : Type 0) (n : ℕ) (payload : List ℕ) (o : Outcome) → NoRepeats (map (λ k. k.number) v.handles)
+    → FitsEnd v n o
     → SpareOutcome v gone out o → FitsKinds v
     → FitsKinds (after_call v n payload o)
 after-kinds v gone out n payload (Tells reply) hs p spare fits = fits
 after-kinds v gone out n payload (Loans h) hs p spare fits =
     others-kinds (plus v (holding h payload)) (v.next + 1) (lends_one (plus (counted v) (holding h payload)) h.port).loans v.borrowed v.forgot
-    (plus-kinds v (holding h payload) fits ((loan-kind h.kind p.loan).no_port, (loan-kind h.kind p.loan).of_client ∙ p.made.role) (loan-kind h.kind p.loan).no_pending)
+    (plus-kinds v (holding h payload) fits ((loan-kind h.kind p.loan).no_port, (loan-kind h.kind p.loan).of_client ∙ p.made.role)
+    (loan-kind h.kind p.loan).no_pending)
 after-kinds v gone out n payload (Fills h) hs p spare fits = filled-kinds v n h hs p.is_loan_still p.made.role fits
 after-kinds v gone out n payload (Sends h true count') hs p spare fits =
     either (λ (u : View). FitsKinds (lends_one u h.port)) (is_request_loan h.kind) (plus (counted v) (sent_handle h count')) v
@@ -282,7 +290,8 @@ after-kinds v gone out n payload (Receives x w m) hs p spare fits =
     (plus-kinds v (taken_handle v n x m) fits (taken-suits v n x m spare) (taken-free (is_client x.role)))
 after-kinds v gone out n payload (Drops h) hs p spare fits =
     either FitsKinds (is_received h.kind) (record (less v h) { borrowed = put v.borrowed (way_of h) (v.borrowed (way_of h) - 1) }) (less v h)
-    (λ u. others-kinds (less v h) v.next v.loans (put v.borrowed (way_of h) (v.borrowed (way_of h) - 1)) v.forgot (less-kinds v h fits)) (λ u. less-kinds v h fits)
+    (λ u. others-kinds (less v h) v.next v.loans (put v.borrowed (way_of h) (v.borrowed (way_of h) - 1)) v.forgot (less-kinds v h fits))
+    (λ u. less-kinds v h fits)
 after-kinds v gone out n payload (DropsPort port) hs p spare fits = fits
 after-kinds v gone out n payload (Forgets dead) hs p spare fits =
     either FitsKinds (has_number dead v.forgot) v (record v { forgot = v.forgot ++ dead ∷ [] }) (λ u. fits)

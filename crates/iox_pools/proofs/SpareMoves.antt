@@ -33,11 +33,13 @@ use Rattle.iox_pools.proofs.Spare.{is_pending, count-is, SpareLoan, SparePending
 
 -- ---- sends
 
-opening-spare : (v : View) (gone : ℕ → Type 0) (out : Type 0) (x : Sending) (left full : List Way) → SparePending v x.loan → SpareDoing v gone out (opening x left full)
+opening-spare : (v : View) (gone : ℕ → Type 0) (out : Type 0) (x : Sending) (left full : List Way) → SparePending v x.loan
+    → SpareDoing v gone out (opening x left full)
 opening-spare v gone out x [] full p = p
 opening-spare v gone out x (w ∷ left) full p = p
 
-looking-spare : (v : View) (gone : ℕ → Type 0) (out : Type 0) (x : Sending) (left full : List Way) → SparePending v x.loan → SpareDoing v gone out (looking x left full)
+looking-spare : (v : View) (gone : ℕ → Type 0) (out : Type 0) (x : Sending) (left full : List Way) → SparePending v x.loan
+    → SpareDoing v gone out (looking x left full)
 looking-spare v gone out x [] full p =
     either (SpareDoing v gone out) (list_any x.fails full) (Ended (FailsToSend x.loan x.copied UnableToDeliver)) (opening x (to_open x) full)
     (λ u. tt) (λ u. opening-spare v gone out x (to_open x) full p)
@@ -68,10 +70,12 @@ request-spare f n gone out h copied to at =
 response-spare : (f : Fixed) (n : ℕ) (gone : ℕ → Type 0) (out : Type 0) (h : Handle) (copied : Bool) → is_request_loan h.kind ≡ false
     → SpareDoing (view f n) gone out (sends_response f h copied)
 response-spare f n gone out h copied other =
-    either (SpareDoing (view f n) gone out) (has_number h.client (others f h.node Client)) (Asking (sending_of f h copied (h.client ∷ []))) (Ended (Sends h copied 0))
+    either (SpareDoing (view f n) gone out) (has_number h.client (others f h.node Client)) (Asking (sending_of f h copied (h.client ∷ [])))
+    (Ended (Sends h copied 0))
     (λ u e. absurd (true≢false (sym e ∙ other))) (λ u e. absurd (true≢false (sym e ∙ other)))
 
-pub sends-spare : (f : Fixed) (n : ℕ) (gone : ℕ → Type 0) (out : Type 0) (h : Handle) (copied : Bool) → IsAt f.ports h.port n → SpareDoing (view f n) gone out (sends f h copied)
+pub sends-spare : (f : Fixed) (n : ℕ) (gone : ℕ → Type 0) (out : Type 0) (h : Handle) (copied : Bool) → IsAt f.ports h.port n
+    → SpareDoing (view f n) gone out (sends f h copied)
 sends-spare f n gone out h copied at =
     either (SpareDoing (view f n) gone out) (is_request_loan h.kind) (sends_request f h copied (others f h.node Server)) (sends_response f h copied)
     (λ u. request-spare f n gone out h copied (others f h.node Server) at) (λ e. response-spare f n gone out h copied e)
@@ -80,19 +84,23 @@ pub loaning-spare : (s : State) (n : ℕ) (gone : ℕ → Type 0) (out : Type 0)
     → (left ≡ [] → is_dry s.fixed h.port (kept s h.port []) ≡ true → out) → SpareLoan (view s.fixed n) h.port
     → SpareDoing (view s.fixed n) gone out (loaning s copies h left)
 loaning-spare s n gone out copies h [] at dry p =
-    either (SpareDoing (view s.fixed n) gone out) (is_dry s.fixed h.port (kept s h.port [])) (refused OutOfMemory) (if copies then sends s.fixed h true else Ended (Loans h))
+    either (SpareDoing (view s.fixed n) gone out) (is_dry s.fixed h.port (kept s h.port [])) (refused OutOfMemory)
+    (if copies then sends s.fixed h true else Ended (Loans h))
     (λ e. dry refl e)
-    (λ u. either (SpareDoing (view s.fixed n) gone out) copies (sends s.fixed h true) (Ended (Loans h)) (λ y. sends-spare s.fixed n gone out h true at) (λ y. tt))
+    (λ u. either (SpareDoing (view s.fixed n) gone out) copies (sends s.fixed h true) (Ended (Loans h))
+    (λ y. sends-spare s.fixed n gone out h true at) (λ y. tt))
 loaning-spare s n gone out copies h (w ∷ left) at dry p = p
 
 -- ---- receives
 
-pub visiting-spare : (v : View) (gone : ℕ → Type 0) (out : Type 0) (x : Receiver) (left : List Way) (seen : Bool) → IsOfRole v x → SpareDoing v gone out (visiting x left seen)
+pub visiting-spare : (v : View) (gone : ℕ → Type 0) (out : Type 0) (x : Receiver) (left : List Way) (seen : Bool) → IsOfRole v x
+    → SpareDoing v gone out (visiting x left seen)
 visiting-spare v gone out x [] seen p =
     either (λ (r : Reply). SpareDoing v gone out (Ended (Tells r))) seen (Refused ExceedsMaxBorrows) Nothing (λ u. tt) (λ u. tt)
 visiting-spare v gone out x (w ∷ left) seen p = p
 
-took-spare : (v : View) (gone : ℕ → Type 0) (out : Type 0) (f : Fixed) (n : ℕ) (x : Receiver) (w : Way) (m : Message) (left : List Way) (seen : Bool) → IsOfRole v x
+took-spare : (v : View) (gone : ℕ → Type 0) (out : Type 0) (f : Fixed) (n : ℕ) (x : Receiver) (w : Way) (m : Message) (left : List Way) (seen : Bool)
+    → IsOfRole v x
     → SpareDoing v gone out (took f n x w m left seen)
 took-spare v gone out f n x w m left seen p =
     either (SpareDoing v gone out) (is_client x.role) (took_response f n x w m left seen) (took_request f x w m left seen)
@@ -109,7 +117,8 @@ closing-spare v gone out h (w ∷ left) = tt
 given_back-spare : (v : View) (gone : ℕ → Type 0) (out : Type 0) (h : Handle) → SpareDoing v gone out (given_back h)
 given_back-spare v gone out h = either (SpareDoing v gone out) (same_kind h.kind ActiveRequest) (Leaving h) (Ended (Drops h)) (λ u. tt) (λ u. tt)
 
-pub checking-spare : (v : View) (gone : ℕ → Type 0) (out : Type 0) (h : Handle) (hinted : Bool) (left : List Way) → SpareDoing v gone out (checking h hinted left)
+pub checking-spare : (v : View) (gone : ℕ → Type 0) (out : Type 0) (h : Handle) (hinted : Bool) (left : List Way)
+    → SpareDoing v gone out (checking h hinted left)
 checking-spare v gone out h hinted [] = tt
 checking-spare v gone out h hinted (w ∷ left) = tt
 
@@ -172,7 +181,8 @@ next-spare s n gone out (Seeking left) (SeesWaiting w) dry at c p = tt
 next-spare s n gone out d m dry at c p = absurd c
 
 -- what a call ends with
-pub ends-spare : (s : State) (v : View) (gone : ℕ → Type 0) (out : Type 0) (d : Doing) (o : Outcome) → SpareDoing v gone out d → ends s d ≡ Some o → SpareOutcome v gone out o
+pub ends-spare : (s : State) (v : View) (gone : ℕ → Type 0) (out : Type 0) (d : Doing) (o : Outcome) → SpareDoing v gone out d → ends s d ≡ Some o
+    → SpareOutcome v gone out o
 ends-spare s v gone out (Ended a) o p e = subst (SpareOutcome v gone out) (some-is a o e) p
 ends-spare s v gone out (Delivering x last [] count) o p e = by_case (is_over s last) e
   where

@@ -50,7 +50,8 @@ first-or-second true false v e = absurd (true≢false (sym e))
 first-or-second false true v e = refl
 first-or-second false false v e = e
 
-port-lends : (b : Bool) → (same_kind (if b then kinds.Client else kinds.Server) kinds.Client || same_kind (if b then kinds.Client else kinds.Server) ActiveRequest) ≡ true
+port-lends : (b : Bool) → (same_kind (if b then kinds.Client else kinds.Server) kinds.Client
+    || same_kind (if b then kinds.Client else kinds.Server) ActiveRequest) ≡ true
     → b ≡ true
 port-lends true e = refl
 port-lends false e = absurd (true≢false (sym e))
@@ -66,7 +67,8 @@ handle-lends PendingResponse e f = absurd (true≢false (sym f))
 handle-lends ActiveRequest e f = refl
 handle-lends Response e f = absurd (true≢false (sym f))
 
-port-receives : (b : Bool) → (same_kind (if b then kinds.Client else kinds.Server) kinds.Server || same_kind (if b then kinds.Client else kinds.Server) PendingResponse) ≡ true
+port-receives : (b : Bool) → (same_kind (if b then kinds.Client else kinds.Server) kinds.Server
+    || same_kind (if b then kinds.Client else kinds.Server) PendingResponse) ≡ true
     → b ≡ false
 port-receives true e = absurd (true≢false (sym e))
 port-receives false e = refl
@@ -140,19 +142,22 @@ loan-is f n p o client lane request is node spare = record {
   spare = spare;
 }
 
-lending-spare : (s : State) (n : ℕ) (gone Lender : ℕ → Type 0) (out : Type 0) (copies : Bool) (h : Handle) → DryAtOnce s n Lender out → Lender h.port → IsLoanOf s.fixed n h
+lending-spare : (s : State) (n : ℕ) (gone Lender : ℕ → Type 0) (out : Type 0) (copies : Bool) (h : Handle) → DryAtOnce s n Lender out → Lender h.port
+    → IsLoanOf s.fixed n h
     → SpareDoing (view s.fixed n) gone out (lending s copies h)
 lending-spare s n gone Lender out copies h dry by p = loaning-spare s n gone out copies h (lending_ways s.fixed h) p.of_port (dry h p by) p.spare
 
 memory-tolerated : (s : State) (out : Type 0) (c : Choice) (port : ℕ) → Tolerates out (memory_refusal s c port)
 memory-tolerated s out c port = if-tolerated out _ WantOfMemory tt
 
-lends_request-spare : (s : State) (n : ℕ) (gone Lender : ℕ → Type 0) (out : Type 0) (c : Choice) (p : Port) (o : Order) → DryAtOnce s n Lender out → Lender p.number
+lends_request-spare : (s : State) (n : ℕ) (gone Lender : ℕ → Type 0) (out : Type 0) (c : Choice) (p : Port) (o : Order) → DryAtOnce s n Lender out
+    → Lender p.number
     → port_at s.fixed p.number ≡ Some p → p.node ≡ n → is_client p.role ≡ true → SpareDoing (view s.fixed n) gone out (lends_request s c p o)
 lends_request-spare s n gone Lender out c p o dry by is node client =
     let h : Handle = loan_of s.fixed p o p.number c.lane (next_request s.fixed p.number) in
     unless-spare (view s.fixed n) gone out (request_loan_refusal s.fixed p o.elements) (unless_refused (memory_refusal s c p.number) (lending s o.copies h))
-    (or-tolerated out (refused_if (not (fits_size p s.fixed.limits.request o.elements)) ExceedsMaxLoanSize) _ (if-tolerated out _ ExceedsMaxLoanSize tt) (if-tolerated out _ ExceedsMaxLoans tt))
+    (or-tolerated out (refused_if (not (fits_size p s.fixed.limits.request o.elements)) ExceedsMaxLoanSize) _
+    (if-tolerated out _ ExceedsMaxLoanSize tt) (if-tolerated out _ ExceedsMaxLoans tt))
     (λ free. unless-spare (view s.fixed n) gone out (memory_refusal s c p.number) (lending s o.copies h) (memory-tolerated s out c p.number)
     (λ u. lending-spare s n gone Lender out o.copies h dry by (loan-is s.fixed n p o p.number c.lane (next_request s.fixed p.number) is node (spare free))))
   where
@@ -167,13 +172,15 @@ lends_request-spare s n gone Lender out c p o dry by is node client =
       server = λ server. absurd (true≢false (sym client ∙ server));
     }
 
-lends_response-spare : (s : State) (n : ℕ) (gone Lender : ℕ → Type 0) (out : Type 0) (c : Choice) (h : Handle) (p : Port) (o : Order) → DryAtOnce s n Lender out → Lender p.number
+lends_response-spare : (s : State) (n : ℕ) (gone Lender : ℕ → Type 0) (out : Type 0) (c : Choice) (h : Handle) (p : Port) (o : Order)
+    → DryAtOnce s n Lender out → Lender p.number
     → port_at s.fixed p.number ≡ Some p → p.node ≡ n → is_client p.role ≡ false → SpareDoing (view s.fixed n) gone out (lends_response s c h p o)
 lends_response-spare s n gone Lender out c h p o dry by is node server =
     let l : Handle = loan_of s.fixed p o h.client h.lane h.request in
     unless-spare (view s.fixed n) gone out (response_loan_refusal s.fixed h p o.elements) (unless_refused (memory_refusal s c p.number) (lending s o.copies l))
     (or-tolerated out (refused_if (not (fits_size p s.fixed.limits.response o.elements)) ExceedsMaxLoanSize) _ (if-tolerated out _ ExceedsMaxLoanSize tt)
-    (or-tolerated out (refused_if (nat_le p.loaned_responses (loans_of_request s.fixed h)) ExceedsMaxLoans) _ (if-tolerated out _ ExceedsMaxLoans tt) (if-tolerated out _ ExceedsMaxLoans tt)))
+    (or-tolerated out (refused_if (nat_le p.loaned_responses (loans_of_request s.fixed h)) ExceedsMaxLoans) _ (if-tolerated out _ ExceedsMaxLoans tt)
+    (if-tolerated out _ ExceedsMaxLoans tt)))
     (λ free. unless-spare (view s.fixed n) gone out (memory_refusal s c p.number) (lending s o.copies l) (memory-tolerated s out c p.number)
     (λ u. lending-spare s n gone Lender out o.copies l dry by (loan-is s.fixed n p o h.client h.lane h.request is node (spare free))))
   where
@@ -195,11 +202,13 @@ abbrev MayLend : Subject → Type 0
 MayLend (ThePort p) = is_client p.role ≡ true
 MayLend (TheHandle h) = is_of_client h.kind ≡ false
 
-may-lend : (f : Fixed) (n : ℕ) (x : Subject) → FitsKinds (view f n) → IsThere f n x → (same_kind (kind_of x) kinds.Client || same_kind (kind_of x) ActiveRequest) ≡ true → MayLend x
+may-lend : (f : Fixed) (n : ℕ) (x : Subject) → FitsKinds (view f n) → IsThere f n x
+    → (same_kind (kind_of x) kinds.Client || same_kind (kind_of x) ActiveRequest) ≡ true → MayLend x
 may-lend f n (ThePort p) fits is e = port-lends (is_client p.role) e
 may-lend f n (TheHandle h) fits is e = handle-lends h.kind (fits.suits h is).0 e
 
-lends_by-spare : (s : State) (n : ℕ) (gone Lender : ℕ → Type 0) (out : Type 0) (c : Choice) (x : Subject) (o : Order) → DryAtOnce s n Lender out → Lender (lender x) → HasOwnHandles s n
+lends_by-spare : (s : State) (n : ℕ) (gone Lender : ℕ → Type 0) (out : Type 0) (c : Choice) (x : Subject) (o : Order) → DryAtOnce s n Lender out
+    → Lender (lender x) → HasOwnHandles s n
     → FitsKinds (view s.fixed n) → IsThere s.fixed n x → node_of x ≡ n → MayLend x → SpareDoing (view s.fixed n) gone out (lends_by s c x o)
 lends_by-spare s n gone Lender out c (ThePort p) o dry by hs fits is node may = lends_request-spare s n gone Lender out c p o dry by is node may
 lends_by-spare s n gone Lender out c (TheHandle h) o dry by hs fits is node may = by_case (port_at s.fixed h.port) refl
@@ -213,13 +222,15 @@ lends_by-spare s n gone Lender out c (TheHandle h) o dry by hs fits is node may 
         (sym (ap (λ (y : Option Port). option_map_or (λ x. x.node) y 0) e) ∙ hs h is)
         (sym (ap (λ (r : Role). is_client r) (role-is s.fixed h.port p e)) ∙ sym (fits.suits h is).1 ∙ may)
 
-lends-spare : (s : State) (n : ℕ) (gone Lender : ℕ → Type 0) (out : Type 0) (c : Choice) (x : Subject) (o : Order) → DryAtOnce s n Lender out → Lender (lender x) → HasOwnHandles s n
+lends-spare : (s : State) (n : ℕ) (gone Lender : ℕ → Type 0) (out : Type 0) (c : Choice) (x : Subject) (o : Order) → DryAtOnce s n Lender out
+    → Lender (lender x) → HasOwnHandles s n
     → FitsKinds (view s.fixed n) → IsThere s.fixed n x → node_of x ≡ n → MayLend x → SpareDoing (view s.fixed n) gone out (lends s c x o)
 lends-spare s n gone Lender out c x o dry by hs fits is node may =
     either (SpareDoing (view s.fixed n) gone out) (is_count (shape_for s.fixed x) o.elements) (lends_by s c x o) (refused WrongLength)
     (λ u. lends_by-spare s n gone Lender out c x o dry by hs fits is node may) (λ u. tt)
 
-copies-spare : (s : State) (n : ℕ) (gone Lender : ℕ → Type 0) (out : Type 0) (c : Choice) (x : Subject) (k : Option ℕ) (words : List ℕ) → DryAtOnce s n Lender out → Lender (lender x)
+copies-spare : (s : State) (n : ℕ) (gone Lender : ℕ → Type 0) (out : Type 0) (c : Choice) (x : Subject) (k : Option ℕ) (words : List ℕ)
+    → DryAtOnce s n Lender out → Lender (lender x)
     → HasOwnHandles s n → FitsKinds (view s.fixed n) → IsThere s.fixed n x → node_of x ≡ n → MayLend x
     → SpareDoing (view s.fixed n) gone out (copies s c x k words)
 copies-spare s n gone Lender out c x None words dry by hs fits is node may = tt
@@ -245,7 +256,8 @@ releases-spare v gone out f h =
     (λ u. either (SpareDoing v gone out) (same_kind h.kind PendingResponse) (closing h (states_of f h)) (Ended (Drops h))
     (λ y. closing-spare v gone out h (states_of f h)) (λ y. tt))
 
-begins-spare : (s : State) (n : ℕ) (gone Lender : ℕ → Type 0) (out : Type 0) (wire : Bool) (c : Choice) (call : Call) (x : Subject) → DryAtOnce s n Lender out → Lender (lender x) → HasOwnHandles s n
+begins-spare : (s : State) (n : ℕ) (gone Lender : ℕ → Type 0) (out : Type 0) (wire : Bool) (c : Choice) (call : Call) (x : Subject)
+    → DryAtOnce s n Lender out → Lender (lender x) → HasOwnHandles s n
     → FitsKinds (view s.fixed n) → IsThere s.fixed n x → node_of x ≡ n → suits wire call (kind_of x) ≡ true
     → SpareDoing (view s.fixed n) gone out (begins_at s c call x)
 begins-spare s n gone Lender out wire c (Loan k l) x dry by hs fits is node e =
@@ -266,11 +278,14 @@ begins-spare s n gone Lender out wire c (Receive k) (TheHandle h) dry by hs fits
 begins-spare s n gone Lender out wire c (Read k) (TheHandle h) dry by hs fits is node e = reads-spare (view s.fixed n) gone out c h
 begins-spare s n gone Lender out wire c (Release k) (ThePort p) dry by hs fits is node e = tt
 begins-spare s n gone Lender out wire c (Release k) (TheHandle h) dry by hs fits is node e = releases-spare (view s.fixed n) gone out s.fixed h
-begins-spare s n gone Lender out wire c (IsConnected k) (TheHandle h) dry by hs fits is node e = checking-spare (view s.fixed n) gone out h false (states_of s.fixed h)
+begins-spare s n gone Lender out wire c (IsConnected k) (TheHandle h) dry by hs fits is node e =
+    checking-spare (view s.fixed n) gone out h false (states_of s.fixed h)
 begins-spare s n gone Lender out wire c (SetHint k) (TheHandle h) dry by hs fits is node e = hinting-spare (view s.fixed n) gone out h (states_of s.fixed h)
-begins-spare s n gone Lender out wire c (HasHint k) (TheHandle h) dry by hs fits is node e = checking-spare (view s.fixed n) gone out h true (states_of s.fixed h)
+begins-spare s n gone Lender out wire c (HasHint k) (TheHandle h) dry by hs fits is node e =
+    checking-spare (view s.fixed n) gone out h true (states_of s.fixed h)
 begins-spare s n gone Lender out wire c (HasRequests k) (ThePort p) dry by hs fits is node e = seeking-spare (view s.fixed n) gone out (server_ways s.fixed p)
-begins-spare s n gone Lender out wire c (HasResponse k) (TheHandle h) dry by hs fits is node e = seeking-spare (view s.fixed n) gone out (pending_ways s.fixed h)
+begins-spare s n gone Lender out wire c (HasResponse k) (TheHandle h) dry by hs fits is node e =
+    seeking-spare (view s.fixed n) gone out (pending_ways s.fixed h)
 begins-spare s n gone Lender out wire c call x dry by hs fits is node e = tt
 
 pub start-spare : (s : State) (n : ℕ) (gone Lender : ℕ → Type 0) (out : Type 0) (c : Choice) (call : Call) → DryAtOnce s n Lender out

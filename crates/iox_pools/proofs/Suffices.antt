@@ -48,7 +48,8 @@ pub record Spares (v : World) : Type 0 where
 spare-call : (v : View) (gone : ℕ → Type 0) (n : ℕ) (o : Option Doing) (d : Doing) → o ≡ Some d → SpareCall v gone n o → SpareDoing v gone (Reduced v n) d
 spare-call v gone n o d e p = subst (SpareCall v gone n) e p
 
-pub spare-is : (v : World) (n : ℕ) (d : Doing) → Spares v → v.doing n ≡ Some d → SpareDoing (view v.state.fixed n) (Gone v.state) (Reduced (view v.state.fixed n) n) d
+pub spare-is : (v : World) (n : ℕ) (d : Doing) → Spares v → v.doing n ≡ Some d
+    → SpareDoing (view v.state.fixed n) (Gone v.state) (Reduced (view v.state.fixed n) n) d
 spare-is v n d spares e = spare-call (view v.state.fixed n) (Gone v.state) n (v.doing n) d e (spares.doing n)
 
 -- ---- the port keeps less than its pool
@@ -83,9 +84,11 @@ refuses-reduced : (s : State) (v : World) (bs : List Beat) (n : ℕ) (h : Handle
     → IsLoanOf v.state.fixed n h → AllBack v n h → is_dry v.state.fixed h.port (kept v.state h.port []) ≡ true → Reduced (view v.state.fixed n) n
 refuses-reduced s v bs n h on fits spares living loan back dry all =
     let spare : SpareLoan (view v.state.fixed n) h.port = loan.spare in
-    let number : spare.there.number ≡ h.port = eqb-true spare.there.number h.port (find-among (λ (q : Port). q.number == h.port) spare.there v.state.fixed.ports spare.is).1 in
+    let number : spare.there.number ≡ h.port
+    = eqb-true spare.there.number h.port (find-among (λ (q : Port). q.number == h.port) spare.there v.state.fixed.ports spare.is).1 in
     true≢false (sym dry ∙ gives s v bs n h spare.there on fits spares living loan back spare.is
-    (all spare.there (ap (port_at v.state.fixed) number ∙ spare.is) (sym (node-is v.state.fixed h.port spare.there spare.there.node spare.is refl) ∙ loan.of_port)))
+    (all spare.there (ap (port_at v.state.fixed) number ∙ spare.is) (sym (node-is v.state.fixed h.port spare.there spare.there.node spare.is refl)
+    ∙ loan.of_port)))
 
 -- ---- a loan under way
 
@@ -96,8 +99,10 @@ pub loan-at : (f : Fixed) (n : ℕ) (d : Doing) → FitsDoing (view f n) n d →
 loan-at f n (Loaning copies h left) p = p.of_port
 loan-at f n d p = tt
 
-pub loan-is : (v : World) (n : ℕ) (copies : Bool) (h : Handle) (left : List Way) → Fits v → Spares v → v.doing n ≡ Some (Loaning copies h left) → IsLoanOf v.state.fixed n h
-loan-is v n copies h left fits spares e = loan-of v.state.fixed n h (doing-is v n (Loaning copies h left) fits e) (spare-is v n (Loaning copies h left) spares e)
+pub loan-is : (v : World) (n : ℕ) (copies : Bool) (h : Handle) (left : List Way) → Fits v → Spares v → v.doing n ≡ Some (Loaning copies h left)
+    → IsLoanOf v.state.fixed n h
+loan-is v n copies h left fits spares e =
+    loan-of v.state.fixed n h (doing-is v n (Loaning copies h left) fits e) (spare-is v n (Loaning copies h left) spares e)
 
 pub all-back : (v : World) (n : ℕ) (copies : Bool) (h : Handle) (left : List Way) → v.doing n ≡ Some (Loaning copies h left)
     → ((w : Way) → has_way w left ≡ true → v.state.returned w ≡ []) → AllBack v n h

@@ -75,11 +75,14 @@ asked-under Ok x shown p =
 sends-under : (Ok : ℕ → ℕ → Type 0) (f : Fixed) (h : Handle) (copied : Bool) → LoanIs Ok h copied → UnderIs Ok (sends f h copied)
 sends-under Ok f h copied p =
     either (UnderIs Ok) (is_request_loan h.kind) (sends_request f h copied (others f h.node Server)) (sends_response f h copied)
-    (λ u. either (UnderIs Ok) (is_active_spent f h) (Ended (FailsToSend h copied ExceedsMaxActiveRequests)) (emptying (sending_of f h copied (others f h.node Server)) _)
+    (λ u. either (UnderIs Ok) (is_active_spent f h) (Ended (FailsToSend h copied ExceedsMaxActiveRequests))
+    (emptying (sending_of f h copied (others f h.node Server)) _)
     (λ y. p) (λ y. emptying-under Ok (sending_of f h copied (others f h.node Server)) _ p))
-    (λ u. either (UnderIs Ok) (has_number h.client (others f h.node Client)) (Asking (sending_of f h copied (h.client ∷ []))) (Ended (Sends h copied 0)) (λ y. p) (λ y. p))
+    (λ u. either (UnderIs Ok) (has_number h.client (others f h.node Client)) (Asking (sending_of f h copied (h.client ∷ [])))
+    (Ended (Sends h copied 0)) (λ y. p) (λ y. p))
 
-loaning-under : (Ok : ℕ → ℕ → Type 0) (s : State) (copies : Bool) (h : Handle) (left : List Way) → (is_dry s.fixed h.port (kept s h.port []) ≡ false → LoanIs Ok h true)
+loaning-under : (Ok : ℕ → ℕ → Type 0) (s : State) (copies : Bool) (h : Handle) (left : List Way)
+    → (is_dry s.fixed h.port (kept s h.port []) ≡ false → LoanIs Ok h true)
     → UnderIs Ok (loaning s copies h left)
 loaning-under Ok s copies h [] p =
     either (UnderIs Ok) (is_dry s.fixed h.port (kept s h.port [])) (refused OutOfMemory) (if copies then sends s.fixed h true else Ended (Loans h))
@@ -93,7 +96,8 @@ visiting-under : (Ok : ℕ → ℕ → Type 0) (x : Receiver) (left : List Way) 
 visiting-under Ok x [] seen = none-so Ok
 visiting-under Ok x (w ∷ left) seen = none-so Ok
 
-took-under : (Ok : ℕ → ℕ → Type 0) (f : Fixed) (n : ℕ) (x : Receiver) (w : Way) (m : Message) (left : List Way) (seen : Bool) → UnderIs Ok (took f n x w m left seen)
+took-under : (Ok : ℕ → ℕ → Type 0) (f : Fixed) (n : ℕ) (x : Receiver) (w : Way) (m : Message) (left : List Way) (seen : Bool)
+    → UnderIs Ok (took f n x w m left seen)
 took-under Ok f n x w m left seen =
     either (UnderIs Ok) (is_client x.role) (took_response f n x w m left seen) (took_request f x w m left seen)
     (λ u. either (UnderIs Ok) (m.request == x.request) (Ended (Receives x w m)) (stale f n x w m left seen) (λ y. none-so Ok)
@@ -188,7 +192,8 @@ emptying-same q x (w ∷ left) = refl
 
 asked-same : (q : ℕ) (x : Sending) (shown : RequestState) → under_way q (asked x shown) ≡ serials_of_loan x.loan x.copied q
 asked-same q x shown =
-    either (λ (d : Doing). under_way q d ≡ serials_of_loan x.loan x.copied q) (names shown x.loan.request) (emptying x (targets x)) (Ended (Sends x.loan x.copied 0))
+    either (λ (d : Doing). under_way q d ≡ serials_of_loan x.loan x.copied q) (names shown x.loan.request) (emptying x (targets x))
+    (Ended (Sends x.loan x.copied 0))
     (λ u. emptying-same q x (targets x)) (λ u. refl)
 
 -- a call that holds nothing, or goes on holding it
@@ -303,7 +308,8 @@ begins-under s c (LoanUninit k l) x = lends-under s c x (ordered l true)
 begins-under s c (Write k p) (TheHandle h) = writes-under (GivesNext s) h p.elements p.words
 begins-under s c (Send k) (TheHandle h) = sends-under (GivesNext s) s.fixed h false (none-so (GivesNext s))
 begins-under s c (SendCopy k p) x = copies-under s c x p.elements p.words
-begins-under s c (Receive k) (ThePort p) = visiting-under (GivesNext s) (record { port = p.number; role = Server; lane = 0; request = 0 }) (server_ways s.fixed p) false
+begins-under s c (Receive k) (ThePort p) =
+    visiting-under (GivesNext s) (record { port = p.number; role = Server; lane = 0; request = 0 }) (server_ways s.fixed p) false
 begins-under s c (Receive k) (TheHandle h) =
     visiting-under (GivesNext s) (record { port = h.port; role = Client; lane = h.lane; request = h.request }) (pending_ways s.fixed h) false
 begins-under s c (Read k) (TheHandle h) =

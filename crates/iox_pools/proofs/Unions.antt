@@ -59,7 +59,8 @@ pub count-named : {A : Type 0} (test : A → Bool) (number : A → ℕ) (xs : Li
 count-named test number [] ns d = subst (λ n. n ≤ 0) (sym (count-none (λ k. false) ns (λ k a. refl))) (omega arith)
 count-named test number (x ∷ xs) ns d =
     joins (count (λ k. test x && (number x == k)) ns) (count (λ k. list_any (λ y. test y && (number y == k)) xs) ns) (one_if (test x)) (count test xs)
-    (count-or (λ k. test x && (number x == k)) (λ k. list_any (λ y. test y && (number y == k)) xs) ns) (one (test x)) (count-named test number xs ns d) (count-cons test x xs)
+    (count-or (λ k. test x && (number x == k)) (λ k. list_any (λ y. test y && (number y == k)) xs) ns) (one (test x))
+    (count-named test number xs ns d) (count-cons test x xs)
   where
     one : (b : Bool) → count (λ k. b && (number x == k)) ns ≤ one_if b
     one true = count-equal (number x) ns d

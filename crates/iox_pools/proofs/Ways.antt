@@ -52,7 +52,8 @@ out-most s v bs n w on live at back = by_case (has_way w back.left) refl
     call : v.doing (node_of_port v.state.fixed w.sender) ≡ Some (Loaning back.copies back.handle back.left)
     call = ap v.doing at ∙ back.doing
 
-    of_sender : (test : Doing → Bool) → option_map_or test (v.doing (node_of_port v.state.fixed w.sender)) false ≡ test (Loaning back.copies back.handle back.left)
+    of_sender : (test : Doing → Bool)
+        → option_map_or test (v.doing (node_of_port v.state.fixed w.sender)) false ≡ test (Loaning back.copies back.handle back.left)
     of_sender test = ap (λ (o : Option Doing). option_map_or test o false) call
 
     sees : (o : Bool) → has_way w back.left ≡ o → is_emptied v w ≡ not o
@@ -69,7 +70,8 @@ out-most s v bs n w on live at back = by_case (has_way w back.left) refl
     emptied : (b l : ℕ) {out most room : ℕ} → out ≡ most → most ≤ room → room ≡ b + l + 0 → out ≤ b + l
     emptied b l {out} {most} {room} p q r = omega arith
 
-    waits : (b l waiting had back hand x y : ℕ) {out : ℕ} → out ≡ (waiting + had + back) + hand → back ≡ 0 → waiting ≤ b + x → x ≡ 0 → had ≤ l → hand ≤ y → y ≡ 0 → out ≤ b + l
+    waits : (b l waiting had back hand x y : ℕ) {out : ℕ} → out ≡ (waiting + had + back) + hand → back ≡ 0 → waiting ≤ b + x → x ≡ 0 → had ≤ l
+        → hand ≤ y → y ≡ 0 → out ≤ b + l
     waits b l waiting had back hand x y {out} p q r t u o z = omega arith
 
     by_case : (o : Bool) → has_way w back.left ≡ o → length (outstanding_on v.state w) ≤ buffer_on v.state.fixed w + borrow_limit_on v.state.fixed w
@@ -77,7 +79,8 @@ out-most s v bs n w on live at back = by_case (has_way w back.left) refl
         emptied b l (outstanding_is_counted s v bs w on live) (ledger_stays_within s v bs w on live)
         (ap (λ (b : Bool). buffer_on v.state.fixed w + borrow_limit_on v.state.fixed w + (if b then 0 else 1)) (sees false e))
     by_case true e =
-        waits b l (length (v.state.waiting w)) (length (had_on v w)) (length (v.state.returned w)) (length (v.state.in_hand w)) _ _ (outstanding_is_counted s v bs w on live) (ap length (back.none e)) (buffer_holds s v bs w on)
+        waits b l (length (v.state.waiting w)) (length (had_on v w)) (length (v.state.returned w)) (length (v.state.in_hand w)) _ _
+        (outstanding_is_counted s v bs w on live) (ap length (back.none e)) (buffer_holds s v bs w on)
         (ap (λ (b : Bool). if b then 1 else 0) (of_sender (evicts_next w))) (borrow_limit_holds s v bs w on) (one_in_hand s v bs w on)
         (ap (λ (b : Bool). if b then 1 else 0) (of_sender (has_evicted w)))
 
@@ -92,9 +95,11 @@ others-has f n q role a known =
     let t : (p : Port) × IsAmong p f.ports × (q ≡ p.number) × (same_role p.role role ≡ true) = of-role f q role a in
     subst (λ k. IsAmong k (others f n role)) (sym t.2)
     (among-map (λ (p : Port). p.number) t.0 (filter (λ p. same_role p.role role && not (has_number p.node (f.forgot n))) f.ports)
-    (among-filter (λ p. same_role p.role role && not (has_number p.node (f.forgot n))) t.0 f.ports t.1 (both_true (same_role (t.0).role role) (not (has_number (t.0).node (f.forgot n))) t.3
+    (among-filter (λ p. same_role p.role role && not (has_number p.node (f.forgot n))) t.0 f.ports t.1
+    (both_true (same_role (t.0).role role) (not (has_number (t.0).node (f.forgot n))) t.3
     (not-so (has_number (t.0).node (f.forgot n)) (false_if (has_number (t.0).node (f.forgot n)) (λ e. never (forgot_port f n q)
-    (among-any (λ p. (p.number == q) && has_number p.node (f.forgot n)) t.0 f.ports t.1 (both_true ((t.0).number == q) (has_number (t.0).node (f.forgot n)) (eq-eqb (t.0).number q (sym t.2)) e)) known))))))
+    (among-any (λ p. (p.number == q) && has_number p.node (f.forgot n)) t.0 f.ports t.1
+    (both_true ((t.0).number == q) (has_number (t.0).node (f.forgot n)) (eq-eqb (t.0).number q (sym t.2)) e)) known))))))
 
 pub flat-among : {A B : Type 0} (f : A → List B) (b : B) (a : A) (xs : List A) → IsAmong a xs → IsAmong b (f a) → IsAmong b (flat_map f xs)
 flat-among f b a [] p q = absurd p
@@ -114,14 +119,16 @@ pub lends-on : (f : Fixed) (n : ℕ) (h : Handle) (w : Way) → IsLoanOf f n h �
     → has_way w (lending_ways f h) ≡ true
 lends-on f n h w loan a known =
     subst (λ k. has_way w (if is_request_loan h.kind then request_ways f k h.port else response_ways f k h.port) ≡ true) (sym loan.of_node)
-    (subst (λ b. has_way w (if b then request_ways f n h.port else response_ways f n h.port) ≡ true) (sym loan.role) (by_role (is_client (role_in f.ports h.port)) a))
+    (subst (λ b. has_way w (if b then request_ways f n h.port else response_ways f n h.port) ≡ true) (sym loan.role)
+    (by_role (is_client (role_in f.ports h.port)) a))
   where
     by_role : (b : Bool) → IsAmong w (if b then ways_from_client f h.port else ways_from_server f h.port)
         → has_way w (if b then request_ways f n h.port else response_ways f n h.port) ≡ true
     by_role true a =
         let r : (q : ℕ) × IsAmong q (ports_of_role f Server) × (w ≡ request_way h.port q) = map-among (request_way h.port) w (ports_of_role f Server) a in
         among-way w (request_ways f n h.port) (subst (λ u. IsAmong u (request_ways f n h.port)) (sym r.2)
-        (among-map (request_way h.port) r.0 (others f n Server) (others-has f n r.0 Server r.1 (ap (λ (u : Way). forgot_port f n u.receiver) (sym r.2) ∙ known))))
+        (among-map (request_way h.port) r.0 (others f n Server)
+        (others-has f n r.0 Server r.1 (ap (λ (u : Way). forgot_port f n u.receiver) (sym r.2) ∙ known))))
     by_role false a =
         let r : (q : ℕ) × IsAmong q (ports_of_role f Client) × IsAmong w (lanes_to f h.port q) = among-flat (lanes_to f h.port) w (ports_of_role f Client) a in
         among-way w (response_ways f n h.port) (flat-among (lanes_to f h.port) w r.0 (others f n Client)
@@ -137,7 +144,8 @@ abbrev pub ForgetsTheDead : State → Type 0
 ForgetsTheDead s = (m d : ℕ) → has_number d (s.fixed.forgot m) ≡ true → not_living s d ≡ None → ⊥
 
 pub way-of : (f : Fixed) (port : ℕ) (p : Port) (w : Way) → port_at f port ≡ Some p → IsAmong w (ways_from f port) → IsWayOf f port p.role w
-way-of f port p w is a = by_role p.role (subst (λ (q : Role). IsAmong w (if is_client q then ways_from_client f port else ways_from_server f port)) (role-is f port p is) a)
+way-of f port p w is a =
+    by_role p.role (subst (λ (q : Role). IsAmong w (if is_client q then ways_from_client f port else ways_from_server f port)) (role-is f port p is) a)
   where
     by_role : (r : Role) → IsAmong w (if is_client r then ways_from_client f port else ways_from_server f port) → IsWayOf f port r w
     by_role Client b = client-way f port w b
@@ -150,23 +158,27 @@ pub connected : (f : Fixed) (port : ℕ) (p : Port) → IsAmong p f.ports → po
 connected f port p a e = among-any (λ (x : Port). x.number == port) p f.ports a (eq-eqb p.number port (sym e))
 
 -- nobody forgot the node of a port that lives
-port-known : (s : State) (n m port : ℕ) → HasOwnPorts s.fixed → ForgetsTheDead s → not_living s n ≡ None → IsAt s.fixed.ports port n → forgot_port s.fixed m port ≡ false
+port-known : (s : State) (n m port : ℕ) → HasOwnPorts s.fixed → ForgetsTheDead s → not_living s n ≡ None → IsAt s.fixed.ports port n
+    → forgot_port s.fixed m port ≡ false
 port-known s n m port own dead living at =
     false_if (forgot_port s.fixed m port) (λ e. known (any-among (λ p. (p.number == port) && has_number p.node (s.fixed.forgot m)) s.fixed.ports e))
   where
     known : (p : Port) × IsAmong p s.fixed.ports × (((p.number == port) && has_number p.node (s.fixed.forgot m)) ≡ true) → ⊥
     known r =
         let q : (((r.0).number == port) ≡ true) × (has_number (r.0).node (s.fixed.forgot m) ≡ true) = split _ _ r.2 in
-        dead m n (subst (λ k. has_number k (s.fixed.forgot m) ≡ true) (sym (node-of s.fixed r.0 own r.1) ∙ ap (node_in s.fixed.ports) (eqb-true (r.0).number port q.0) ∙ at) q.1) living
+        dead m n (subst (λ k. has_number k (s.fixed.forgot m) ≡ true)
+        (sym (node-of s.fixed r.0 own r.1) ∙ ap (node_in s.fixed.ports) (eqb-true (r.0).number port q.0) ∙ at) q.1) living
 
-live-way : (s : State) (n port : ℕ) (p : Port) (role : Role) (w : Way) → HasOwnPorts s.fixed → ForgetsTheDead s → not_living s n ≡ None → port_at s.fixed port ≡ Some p
+live-way : (s : State) (n port : ℕ) (p : Port) (role : Role) (w : Way) → HasOwnPorts s.fixed → ForgetsTheDead s → not_living s n ≡ None
+    → port_at s.fixed port ≡ Some p
     → IsAt s.fixed.ports port n → IsWayOf s.fixed port role w → forgot_port s.fixed n w.receiver ≡ false → is_live s.fixed w ≡ true
 live-way s n port p role w own dead living is at way known =
     let f : IsAmong p s.fixed.ports × ((p.number == port) ≡ true) = find-among (λ (x : Port). x.number == port) p s.fixed.ports is in
     both_true (is_counted_on s.fixed w) (is_connected_port s.fixed w.receiver && not (forgot_port s.fixed (node_of_port s.fixed w.receiver) w.sender))
     (both_true (is_connected_port s.fixed w.sender) (not (forgot_port s.fixed (node_of_port s.fixed w.sender) w.receiver))
     (connected s.fixed w.sender p f.0 (way.sender ∙ sym (eqb-true p.number port f.1)))
-    (not-so (forgot_port s.fixed (node_of_port s.fixed w.sender) w.receiver) (ap (λ k. forgot_port s.fixed k w.receiver) (ap (node_in s.fixed.ports) way.sender ∙ at) ∙ known)))
+    (not-so (forgot_port s.fixed (node_of_port s.fixed w.sender) w.receiver)
+    (ap (λ k. forgot_port s.fixed k w.receiver) (ap (node_in s.fixed.ports) way.sender ∙ at) ∙ known)))
     (both_true (is_connected_port s.fixed w.receiver) (not (forgot_port s.fixed (node_of_port s.fixed w.receiver) w.sender))
     (connected s.fixed w.receiver way.to way.among way.receiver)
     (not-so (forgot_port s.fixed (node_of_port s.fixed w.receiver) w.sender)
@@ -183,22 +195,26 @@ nothing-there : (s : State) (v : World) (bs : List Beat) (n port : ℕ) (p : Por
 nothing-there s v bs n port p role w on own is at way forgot =
     gone (any-among (λ x. (x.number == w.receiver) && has_number x.node (v.state.fixed.forgot n)) v.state.fixed.ports forgot)
   where
-    gone : (q : Port) × IsAmong q v.state.fixed.ports × (((q.number == w.receiver) && has_number q.node (v.state.fixed.forgot n)) ≡ true) → outstanding_on v.state w ≡ []
+    gone : (q : Port) × IsAmong q v.state.fixed.ports × (((q.number == w.receiver) && has_number q.node (v.state.fixed.forgot n)) ≡ true)
+        → outstanding_on v.state w ≡ []
     gone r =
         let q : (((r.0).number == w.receiver) ≡ true) × (has_number (r.0).node (v.state.fixed.forgot n) ≡ true) = split _ _ r.2 in
         let f : IsAmong p v.state.fixed.ports × ((p.number == port) ≡ true) = find-among (λ (x : Port). x.number == port) p v.state.fixed.ports is in
         let number : p.number ≡ port = eqb-true p.number port f.1 in
         nothing_to_the_dead s v bs n (r.0).node w on q.1
         (both_true (has_number w.sender (ports_of_node v.state.fixed n)) (has_number w.receiver (ports_of_node v.state.fixed (r.0).node))
-        (of-node v.state.fixed p n w.sender f.0 (sym (node-of v.state.fixed p own f.0) ∙ ap (node_in v.state.fixed.ports) number ∙ at) (way.sender ∙ sym number))
+        (of-node v.state.fixed p n w.sender f.0 (sym (node-of v.state.fixed p own f.0) ∙ ap (node_in v.state.fixed.ports) number ∙ at)
+        (way.sender ∙ sym number))
         (of-node v.state.fixed r.0 (r.0).node w.receiver r.1 refl (sym (eqb-true (r.0).number w.receiver q.0))))
 
 -- the buffer and the limit of a way are those of its sender's role
-pub most-is : (f : Fixed) (port : ℕ) (p : Port) (w : Way) → HasOwnPorts f → port_at f port ≡ Some p → IsWayOf f port p.role w → buffer_on f w + borrow_limit_on f w ≡ most_out f.limits p.role
+pub most-is : (f : Fixed) (port : ℕ) (p : Port) (w : Way) → HasOwnPorts f → port_at f port ≡ Some p → IsWayOf f port p.role w
+    → buffer_on f w + borrow_limit_on f w ≡ most_out f.limits p.role
 most-is f port p w own is way =
     ap (λ (r : Role). buffer_of f.limits r + borrow_limit_on f w) (ap (role_in f.ports) way.sender ∙ role-is f port p is)
     ∙ ap (λ (r : Role). buffer_of f.limits p.role + borrow_limit_of f.limits r)
-    (ap (λ k. other_role (role_in f.ports k)) way.receiver ∙ ap (λ (r : Role). other_role r) (role-is f way.to.number way.to (find-own (λ (p : Port). p.number) f.ports way.to own way.among))
+    (ap (λ k. other_role (role_in f.ports k)) way.receiver
+    ∙ ap (λ (r : Role). other_role r) (role-is f way.to.number way.to (find-own (λ (p : Port). p.number) f.ports way.to own way.among))
     ∙ back (way.to).role p.role way.of_role)
   where
     back : (a b : Role) → same_role a (other_role b) ≡ true → other_role a ≡ b
@@ -223,7 +239,9 @@ each-way s v bs n h p on own dead living loan is back w a = by_case (forgot_port
     none k = omega arith
 
     by_case : (b : Bool) → forgot_port v.state.fixed n w.receiver ≡ b → length (outstanding_on v.state w) ≤ most_out v.state.fixed.limits p.role
-    by_case true e = subst (λ (ks : List ℕ). length ks ≤ most_out v.state.fixed.limits p.role) (sym (nothing-there s v bs n h.port p p.role w on own is loan.of_port way e)) (none _)
+    by_case true e =
+        subst (λ (ks : List ℕ). length ks ≤ most_out v.state.fixed.limits p.role)
+        (sym (nothing-there s v bs n h.port p p.role w on own is loan.of_port way e)) (none _)
     by_case false e =
         subst (λ k. length (outstanding_on v.state w) ≤ k) (most-is v.state.fixed h.port p w own is way)
         (back w (lends-on v.state.fixed n h w loan a e) (live-way v.state n h.port p p.role w own dead living is loan.of_port way e)

@@ -49,7 +49,8 @@ lives-before w u b d beat living = by_case (not_living w.state d) refl
     by_case None e = refl
     by_case (Some r) e =
         absurd (true≢false (sym (apart (not (node_of_beat b == d)) (not (d == d))
-        (the_dead_stay_dead w (record u { state = with_death u.state d }) (b ∷ Dies d ∷ []) d r (u, beat, (record u { state = with_death u.state d }, (living, refl), refl)) e))
+        (the_dead_stay_dead w (record u { state = with_death u.state d }) (b ∷ Dies d ∷ []) d r
+        (u, beat, (record u { state = with_death u.state d }, (living, refl), refl)) e))
         ∙ ap (λ x. not x) (eqb-refl d)))
 
 gone-before : (w u : World) (b : Beat) (d : ℕ) → IsBeat w b u → Gone w.state d → Gone u.state d
@@ -62,7 +63,8 @@ more-gone v before after n (Some d) f p = p
 
 -- ---- the call of one node changes
 
-call-spare : (v : ℕ → View) (gone : ℕ → Type 0) (doing : ℕ → Option Doing) (node n : ℕ) (o : Option Doing) → SpareCall (v node) gone node o → SpareCall (v n) gone n (doing n)
+call-spare : (v : ℕ → View) (gone : ℕ → Type 0) (doing : ℕ → Option Doing) (node n : ℕ) (o : Option Doing) → SpareCall (v node) gone node o
+    → SpareCall (v n) gone n (doing n)
     → SpareCall (v n) gone n (put_at doing node o n)
 call-spare v gone doing node n o p q = by_case (n == node) refl
   where
@@ -89,7 +91,8 @@ after-forgot v gone out n payload (Drops h) d fits p e =
     inl (either (λ (u : View). has_number d u.forgot ≡ true → has_number d v.forgot ≡ true) (is_received h.kind) _ _ (λ u f. f) (λ u f. f) e)
 after-forgot v gone out n payload (DropsPort port) d fits p e = absurd fits
 after-forgot v gone out n payload (Forgets dead) d fits p e =
-    either (λ (u : View). has_number d u.forgot ≡ true → (has_number d v.forgot ≡ true) ⊎ gone d) (has_number dead v.forgot) v (record v { forgot = v.forgot ++ dead ∷ [] })
+    either (λ (u : View). has_number d u.forgot ≡ true → (has_number d v.forgot ≡ true) ⊎ gone d) (has_number dead v.forgot) v
+    (record v { forgot = v.forgot ++ dead ∷ [] })
     (λ u f. inl f) (λ u f. last (among-append d v.forgot (dead ∷ []) (number-among d (v.forgot ++ dead ∷ []) f))) e
   where
     last : IsAmong d v.forgot ⊎ IsAmong d (dead ∷ []) → (has_number d v.forgot ≡ true) ⊎ gone d
@@ -97,25 +100,30 @@ after-forgot v gone out n payload (Forgets dead) d fits p e =
     last (inr (inl is)) = inr (subst gone (sym is) p)
     last (inr (inr a)) = absurd a
 
-over-kinds : (s : State) (n k : ℕ) (gone : ℕ → Type 0) (out : Type 0) (payload : List ℕ) (o : Outcome) → s.fixed.on_wire ≡ true → FitsHandles (view s.fixed n) n → FitsOutcome (view s.fixed n) n o
+over-kinds : (s : State) (n k : ℕ) (gone : ℕ → Type 0) (out : Type 0) (payload : List ℕ) (o : Outcome) → s.fixed.on_wire ≡ true
+    → FitsHandles (view s.fixed n) n → FitsOutcome (view s.fixed n) n o
     → SpareOutcome (view s.fixed n) gone out o → FitsKinds (view s.fixed n) → FitsKinds (view s.fixed k) → FitsKinds (view (settled s n payload o).fixed k)
 over-kinds s n k gone out payload o wire hs fits p here there = by_case (k == n) refl
   where
     by_case : (b : Bool) → (k == n) ≡ b → FitsKinds (view (settled s n payload o).fixed k)
     by_case true e =
         subst (λ m. FitsKinds (view (settled s n payload o).fixed m)) (sym (eqb-true k n e))
-        (subst FitsKinds (sym (settled-here s n payload o wire hs fits)) (after-kinds (view s.fixed n) gone out n payload o hs.apart (fits-end (view s.fixed n) n o fits) p here))
+        (subst FitsKinds (sym (settled-here s n payload o wire hs fits))
+        (after-kinds (view s.fixed n) gone out n payload o hs.apart (fits-end (view s.fixed n) n o fits) p here))
     by_case false e = subst FitsKinds (sym (settled-else s n k payload o wire hs fits e)) there
 
-over-call : (s : State) (doing : ℕ → Option Doing) (n k : ℕ) (gone : ℕ → Type 0) (payload : List ℕ) (o : Outcome) → s.fixed.on_wire ≡ true → FitsHandles (view s.fixed n) n
-    → FitsOutcome (view s.fixed n) n o → SpareCall (view s.fixed k) gone k (doing k) → SpareCall (view (settled s n payload o).fixed k) gone k (put_at doing n None k)
+over-call : (s : State) (doing : ℕ → Option Doing) (n k : ℕ) (gone : ℕ → Type 0) (payload : List ℕ) (o : Outcome) → s.fixed.on_wire ≡ true
+    → FitsHandles (view s.fixed n) n
+    → FitsOutcome (view s.fixed n) n o → SpareCall (view s.fixed k) gone k (doing k)
+    → SpareCall (view (settled s n payload o).fixed k) gone k (put_at doing n None k)
 over-call s doing n k gone payload o wire hs fits p = by_case (k == n) refl
   where
     by_case : (b : Bool) → (k == n) ≡ b → SpareCall (view (settled s n payload o).fixed k) gone k (if b then None else doing k)
     by_case true e = tt
     by_case false e = subst (λ v. SpareCall v gone k (doing k)) (sym (settled-else s n k payload o wire hs fits e)) p
 
-over-dead : (s : State) (n : ℕ) (out : Type 0) (payload : List ℕ) (o : Outcome) → s.fixed.on_wire ≡ true → FitsHandles (view s.fixed n) n → FitsOutcome (view s.fixed n) n o
+over-dead : (s : State) (n : ℕ) (out : Type 0) (payload : List ℕ) (o : Outcome) → s.fixed.on_wire ≡ true → FitsHandles (view s.fixed n) n
+    → FitsOutcome (view s.fixed n) n o
     → SpareOutcome (view s.fixed n) (Gone s) out o → ForgetsTheDead s → (m d : ℕ) → has_number d ((settled s n payload o).fixed.forgot m) ≡ true → Gone s d
 over-dead s n out payload o wire hs fits p dead m d e = by_case (m == n) refl
   where
@@ -126,7 +134,8 @@ over-dead s n out payload o wire hs fits p dead m d e = by_case (m == n) refl
     by_case : (b : Bool) → (m == n) ≡ b → Gone s d
     by_case true is =
         before (after-forgot (view s.fixed n) (Gone s) out n payload o d fits p
-        (ap (λ (v : View). has_number d v.forgot) (sym (settled-here s n payload o wire hs fits)) ∙ ap (λ k. has_number d ((settled s n payload o).fixed.forgot k)) (sym (eqb-true m n is)) ∙ e))
+        (ap (λ (v : View). has_number d v.forgot) (sym (settled-here s n payload o wire hs fits))
+        ∙ ap (λ k. has_number d ((settled s n payload o).fixed.forgot k)) (sym (eqb-true m n is)) ∙ e))
     by_case false is = dead m d (ap (λ (v : View). has_number d v.forgot) (sym (settled-else s n m payload o wire hs fits is)) ∙ e)
 
 -- ---- beats
@@ -135,7 +144,8 @@ beat-spares : (s : State) (w u : World) (bs : List Beat) (b : Beat) → IsOnWire
 beat-spares s w u bs (Begins n call c) on beat fits spares = subst Spares (sym beat.2) (record {
   kinds = spares.kinds;
   doing = λ k. call-spare (view w.state.fixed) (Gone w.state) w.doing n k _
-      (wire_start-spare w.state n (Reduced (view w.state.fixed n) n) c call (dry-at-once s w bs n on fits spares (or_else-none _ _ beat.0).0) (fits.handles n).of_port (spares.kinds n)
+      (wire_start-spare w.state n (Reduced (view w.state.fixed n) n) c call (dry-at-once s w bs n on fits spares (or_else-none _ _ beat.0).0)
+      (fits.handles n).of_port (spares.kinds n)
       (begin-none w n call beat.0).1) (spares.doing k);
   dead = spares.dead;
   within = spares.within;
@@ -144,7 +154,9 @@ beat-spares s w u bs (Makes n m) on beat fits spares =
     let same : (moved w.state m).fixed ≡ w.state.fixed = moved-fixed w.state m in
     subst Spares (sym beat.5) (record {
       kinds = λ k. subst (λ (f : Fixed). FitsKinds (view f k)) (sym same) (spares.kinds k);
-      doing = λ k. more-gone _ (Gone w.state) (Gone (moved w.state m)) k _ (λ d. gone-before w (made w n beat.1 m) (Makes n m) d (beat.0, beat.1, beat.2, beat.3, beat.4, refl))
+      doing =
+          λ k. more-gone _ (Gone w.state) (Gone (moved w.state m)) k _
+          (λ d. gone-before w (made w n beat.1 m) (Makes n m) d (beat.0, beat.1, beat.2, beat.3, beat.4, refl))
           (subst (λ (f : Fixed). SpareCall (view f k) (Gone w.state) k (put_at w.doing n (Some (next w.state n beat.1 m).after) k)) (sym same)
           (call-spare (view w.state.fixed) (Gone w.state) w.doing n k _
           (next-spare w.state n (Gone w.state) (Reduced (view w.state.fixed n) n) beat.1 m (dry-if s w bs n beat.1 m on fits spares beat.0 beat.2 beat.3)
@@ -160,7 +172,8 @@ beat-spares s w u bs (Ends n reply payload) on beat fits spares =
     let before : (d : ℕ) → Gone w.state d → Gone (settled w.state n payload beat.3) d
     = λ d. gone-before w (over w n payload beat.3) (Ends n reply payload) d (beat.0, beat.1, beat.2, beat.3, beat.4, beat.5, beat.6, refl) in
     subst Spares (sym beat.7) (record {
-      kinds = λ k. over-kinds w.state n k (Gone w.state) (Reduced (view w.state.fixed n) n) payload beat.3 fits.wire (fits.handles n) p q (spares.kinds n) (spares.kinds k);
+      kinds = λ k. over-kinds w.state n k (Gone w.state) (Reduced (view w.state.fixed n) n) payload beat.3 fits.wire (fits.handles n) p q
+          (spares.kinds n) (spares.kinds k);
       doing = λ k. more-gone _ (Gone w.state) (Gone (settled w.state n payload beat.3)) k _ before
           (over-call w.state w.doing n k (Gone w.state) payload beat.3 fits.wire (fits.handles n) p (spares.doing k));
       dead = λ k d e. before d (over-dead w.state n (Reduced (view w.state.fixed n) n) payload beat.3 fits.wire (fits.handles n) p q spares.dead k d e);

@@ -82,11 +82,13 @@ seeking_ends s node (w ∷ left) =
     by_cases (is_empty (s.waiting w))
     (λ e. step s node (Seeking (w ∷ left)) (SeesEmpty w) e (is_in-first w left)
     (subst (λ l. CanEnd s node (seeking l)) (sym (without-first w left)) (seeking_ends s node left)))
-    (λ e. step s node (Seeking (w ∷ left)) (SeesWaiting w) (ap not e) (is_in-first w left) (now s node (Ended (Tells (Answer true))) (Tells (Answer true)) refl))
+    (λ e. step s node (Seeking (w ∷ left)) (SeesWaiting w) (ap not e) (is_in-first w left)
+    (now s node (Ended (Tells (Answer true))) (Tells (Answer true)) refl))
 
 leaving_ends : (s : State) (node : ℕ) (h : Handle) → CanEnd s node (Leaving h)
 leaving_ends s node h =
-    step s node (Leaving h) (Close (own_state h) h.request) tt (both_true (same_way (own_state h) (own_state h)) (h.request == h.request) (same_way-refl (own_state h)) (eqb-refl h.request))
+    step s node (Leaving h) (Close (own_state h) h.request) tt
+    (both_true (same_way (own_state h) (own_state h)) (h.request == h.request) (same_way-refl (own_state h)) (eqb-refl h.request))
     (now (moved s (Close (own_state h) h.request)) node (Ended (Drops h)) (Drops h) refl)
 
 returning_ends : (s : State) (node : ℕ) (h : Handle) → CanEnd s node (Returning h)
@@ -94,7 +96,8 @@ returning_ends s node h =
     let t : State = moved s (GiveBack (way_of h) h.message.serial) in
     step s node (Returning h) (GiveBack (way_of h) h.message.serial) tt
     (both_true (same_way (way_of h) (way_of h)) (h.message.serial == h.message.serial) (same_way-refl (way_of h)) (eqb-refl h.message.serial))
-    (either (CanEnd t node) (same_kind h.kind ActiveRequest) (Leaving h) (Ended (Drops h)) (λ u. leaving_ends t node h) (λ u. now t node (Ended (Drops h)) (Drops h) refl))
+    (either (CanEnd t node) (same_kind h.kind ActiveRequest) (Leaving h) (Ended (Drops h)) (λ u. leaving_ends t node h)
+    (λ u. now t node (Ended (Drops h)) (Drops h) refl))
 
 -- ---- receives
 
@@ -135,7 +138,8 @@ again_ends node x w left seen later (m ∷ ms) s e =
 
 visiting_ends : (node : ℕ) (x : Receiver) (left : List Way) (s : State) (seen : Bool) → CanEnd s node (visiting x left seen)
 visiting_ends node x [] s seen = now s node (visiting x [] seen) _ refl
-visiting_ends node x (w ∷ left) s seen = visit_ends (s.waiting w) refl (λ t b. subst (λ l. CanEnd t node (visiting x l b)) (sym (without-first w left)) (visiting_ends node x left t b))
+visiting_ends node x (w ∷ left) s seen =
+    visit_ends (s.waiting w) refl (λ t b. subst (λ l. CanEnd t node (visiting x l b)) (sym (without-first w left)) (visiting_ends node x left t b))
   where
     visit_ends : (ms : List Message) → s.waiting w ≡ ms → ((t : State) (b : Bool) → CanEnd t node (visiting x (without_way w (w ∷ left)) b))
         → CanEnd s node (Visiting x (w ∷ left) seen)
@@ -239,7 +243,8 @@ gets_back node d w goes later (k ∷ ks) s p hand =
     let g : (next s node d (GetBack w k)).condition × ((next s node d (GetBack w k)).after ≡ d) = goes s k in
     step s node d (GetBack w k) h g.0
     (subst (CanEnd t node) (sym g.1)
-    (gets_back_all node d w goes later (t.returned w) t (subst (Ready t node) g.1 (ready_moved s node d (GetBack w k) p h g.0)) (put_there s.in_hand w []) refl))
+    (gets_back_all node d w goes later (t.returned w) t (subst (Ready t node) g.1 (ready_moved s node d (GetBack w k) p h g.0))
+    (put_there s.in_hand w []) refl))
 
 emptying_ends : (node : ℕ) (x : Sending) (left : List Way) (s : State) → Ready s node (emptying x left) → CanEnd s node (emptying x left)
 emptying_ends node x [] s p =
@@ -271,7 +276,8 @@ sends_end node s h copied =
     (λ u. either P (has_number h.client (others s.fixed h.node Client)) (Asking (sending_of s.fixed h copied (h.client ∷ []))) (Ended (Sends h copied 0))
     (λ v. asking_ends node (sending_of s.fixed h copied (h.client ∷ [])) s) (λ v q. now s node (Ended (Sends h copied 0)) (Sends h copied 0) refl))
 
-loaning_ends : (node : ℕ) (copies : Bool) (h : Handle) (left : List Way) (s : State) → Ready s node (loaning s copies h left) → CanEnd s node (loaning s copies h left)
+loaning_ends : (node : ℕ) (copies : Bool) (h : Handle) (left : List Way) (s : State) → Ready s node (loaning s copies h left)
+    → CanEnd s node (loaning s copies h left)
 loaning_ends node copies h [] s =
     let P : Doing → Type 0 = λ d. Ready s node d → CanEnd s node d in
     either P (is_dry s.fixed h.port (kept s h.port [])) (refused OutOfMemory) (if copies then sends s.fixed h true else Ended (Loans h))

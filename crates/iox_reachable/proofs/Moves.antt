@@ -141,7 +141,8 @@ delivered_within : (s : State) (node : ℕ) (x : Sending) (last : Option Way) (w
     → IsWithin s node last → IsWithin (moved s (Deliver w m)) node (may_evict x w)
 delivered_within s node x last w m own from room over p v of_node =
     by_cases (same_way v w)
-    (λ same. subst (λ u. nat_le (length (put s.waiting w (s.waiting w ++ m ∷ []) u)) (buffer_on s.fixed u + (if is_last u (may_evict x w) then 1 else 0)) ≡ true)
+    (λ same. subst (λ u. nat_le (length (put s.waiting w (s.waiting w ++ m ∷ []) u)) (buffer_on s.fixed u
+    + (if is_last u (may_evict x w) then 1 else 0)) ≡ true)
     (sym (same_way-true v w same))
     (subst (λ (xs : List Message). nat_le (length xs) (buffer_on s.fixed w + (if is_last w (may_evict x w) then 1 else 0)) ≡ true)
     (sym (put_there s.waiting w (s.waiting w ++ m ∷ [])))

@@ -72,7 +72,8 @@ made_kind Client false = (refl, refl)
 made_kind Server true = (refl, refl)
 made_kind Server false = (refl, refl)
 
-loan_fits : (f : Fixed) (p : Port) (o : Order) (client lane request : ℕ) → role_in f.ports p.number ≡ p.role → LoanFits f (loan_of f p o client lane request) true
+loan_fits : (f : Fixed) (p : Port) (o : Order) (client lane request : ℕ) → role_in f.ports p.number ≡ p.role
+    → LoanFits f (loan_of f p o client lane request) true
 loan_fits f p o client lane request role = (
   (made_kind p.role o.uninit).0,
   record { sender = refl; lane = refl; role = (made_kind p.role o.uninit).1 ∙ ap is_client (sym role) },
@@ -134,7 +135,8 @@ releases_holds : (f : Fixed) (h : Handle) → IsAmong h (f.handles h.node) → H
 releases_holds f h p =
     either (HoldsIn f) (is_received h.kind) (returning f h) (if same_kind h.kind PendingResponse then closing h (states_of f h) else Ended (Drops h))
     (λ u. either (HoldsIn f) (forgot_port f h.node (way_of h).sender) (Ended (Drops h)) (Returning h) (λ v. p) (λ v. p))
-    (λ u. either (HoldsIn f) (same_kind h.kind PendingResponse) (closing h (states_of f h)) (Ended (Drops h)) (λ v. closing_holds f h (states_of f h) p) (λ v. p))
+    (λ u. either (HoldsIn f) (same_kind h.kind PendingResponse) (closing h (states_of f h)) (Ended (Drops h))
+    (λ v. closing_holds f h (states_of f h) p) (λ v. p))
 
 -- a server receives by itself, a client by its pending responses
 server_receives : (f : Fixed) (n : ℕ) (p : Port) → suits f.on_wire (Receive n) (kind_of (ThePort p)) ≡ true → is_client p.role ≡ false
@@ -148,7 +150,8 @@ receives_holds f n (ThePort p) q suited =
     (sym (ap is_client q ∙ server_receives f n p suited), λ e. refl)
 receives_holds f n (TheHandle h) q suited =
     visiting_holds f (record { port = h.port; role = Client; lane = h.lane; request = h.request }) (pending_ways f h) false (
-      sym ((q.0).pending (or-rest (same_kind h.kind kinds.Server) (same_kind h.kind PendingResponse) suited (or-false (same_kind h.kind kinds.Client) (same_kind h.kind kinds.Server) (q.0).value).1)),
+      sym ((q.0).pending (or-rest (same_kind h.kind kinds.Server) (same_kind h.kind PendingResponse) suited
+      (or-false (same_kind h.kind kinds.Client) (same_kind h.kind kinds.Server) (q.0).value).1)),
       λ e. absurd (true≢false e),
     )
 
@@ -163,7 +166,8 @@ sent_loan h e =
     (λ no. or-right (is_request_loan h.kind) (is_response_loan h.kind)
     (or-left (same_kind h.kind ResponseMut) (same_kind h.kind ResponseMutUninit) (or-rest (same_kind h.kind RequestMut) (same_kind h.kind ResponseMut) e no)))
 
-begins_hold : (s : State) (c : Choice) (call : Call) (x : Subject) → HasOwnPorts s.fixed → SubjectHolds s.fixed x → suits s.fixed.on_wire call (kind_of x) ≡ true
+begins_hold : (s : State) (c : Choice) (call : Call) (x : Subject) → HasOwnPorts s.fixed → SubjectHolds s.fixed x
+    → suits s.fixed.on_wire call (kind_of x) ≡ true
     → HoldsIn s.fixed (begins_at s c call x)
 begins_hold s c (Loan n k) x own q suited = lends_holds s c x (ordered k false) own q
 begins_hold s c (LoanUninit n k) x own q suited = lends_holds s c x (ordered k true) own q
@@ -186,7 +190,8 @@ begins_hold s c (HasResponse n) (TheHandle h) own q suited = seeking_holds s.fix
 begins_hold s c call x own q suited = tt
 
 at_holds : (s : State) (node : ℕ) (c : Choice) (call : Call) (x : Option Subject) → HasOwnPorts s.fixed → AreKept s.fixed
-    → subject s.fixed node (number_of call) ≡ x → misnamed_by s.fixed node call x ≡ None → HoldsIn s.fixed (option_map_or (begins_at s c call) x (refused UnknownNumber))
+    → subject s.fixed node (number_of call) ≡ x → misnamed_by s.fixed node call x ≡ None
+    → HoldsIn s.fixed (option_map_or (begins_at s c call) x (refused UnknownNumber))
 at_holds s node c call None own kept is named = tt
 at_holds s node c call (Some x) own kept is named =
     let q : (refused_if (not (node_of x == node)) ForeignNumber ≡ None) × (refused_if (not (suits s.fixed.on_wire call (kind_of x))) WrongKind ≡ None)

@@ -43,7 +43,8 @@ search_for : (test : ℕ → Bool) (bound from count : ℕ) → nat_le (from + c
 search_for test bound from zero e fails = absurd (true≢false fails)
 search_for test bound from (suc count) e fails =
     by_cases (test from)
-    (λ passes. search_for test bound (from + 1) count (more from count bound e) (sym (ap (λ b. b && list_all test (range_with_len (from + 1) count)) passes) ∙ fails))
+    (λ passes. search_for test bound (from + 1) count (more from count bound e)
+    (sym (ap (λ b. b && list_all test (range_with_len (from + 1) count)) passes) ∙ fails))
     (λ here. (from, here, less from count bound e))
   where
     more : (a b c : ℕ) → nat_le (a + suc b) c ≡ true → nat_le (a + 1 + b) c ≡ true
@@ -63,7 +64,8 @@ open_lane f p =
           (or-right (nat_lt lane p.pool) (list_all (has_lane f p.number) (range_with_len 0 p.pool)) all),
     ))
     (λ some.
-    let free : (n : ℕ) × (has_lane f p.number n ≡ false) × (nat_lt n p.pool ≡ true) = search_for (has_lane f p.number) p.pool 0 p.pool (from_zero p.pool) some in (
+    let free : (n : ℕ) × (has_lane f p.number n ≡ false) × (nat_lt n p.pool ≡ true)
+    = search_for (has_lane f p.number) p.pool 0 p.pool (from_zero p.pool) some in (
       free.0,
       both_true (not (has_lane f p.number free.0)) (nat_lt free.0 p.pool || list_all (has_lane f p.number) (range_with_len 0 p.pool))
           (ap not free.1) (ap (λ b. b || list_all (has_lane f p.number) (range_with_len 0 p.pool)) free.2),

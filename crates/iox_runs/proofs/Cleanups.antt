@@ -51,7 +51,8 @@ IsValue f node n =
 port_named : (f : Fixed) (node n : ℕ) (p : Port) → Rests f → IsAmong p f.ports → p.number ≡ n → p.held ≡ true → subject f node n ≡ Some (ThePort p)
 port_named f node n p r among is held =
     ap (λ o. port_or_handle o (handle_at f node n))
-    (subst (λ k. find (λ q. q.number == k) f.ports ≡ Some p) is (find-own (λ (q : Port). q.number) f.ports p (distinct-no_repeats (map (λ q. q.number) f.ports) (r.numbered).0) among))
+    (subst (λ k. find (λ q. q.number == k) f.ports ≡ Some p) is
+    (find-own (λ (q : Port). q.number) f.ports p (distinct-no_repeats (map (λ q. q.number) f.ports) (r.numbered).0) among))
     ∙ ap (λ (b : Bool). if b then Some (ThePort p) else None) held
 
 pub handle_named : (f : Fixed) (node n : ℕ) (h : Handle) → Rests f → IsAmong h (f.handles node) → h.number ≡ n → subject f node n ≡ Some (TheHandle h)
@@ -84,7 +85,8 @@ releases_is : (f : Fixed) (h : Handle) → IsReleaseOf h (releases_handle f h)
 releases_is f h =
     either (IsReleaseOf h) (is_received h.kind) (returning f h) (if same_kind h.kind PendingResponse then closing h (states_of f h) else Ended (Drops h))
     (λ u. either (IsReleaseOf h) (forgot_port f h.node (way_of h).sender) (Ended (Drops h)) (Returning h) (λ v. refl) (λ v. refl))
-    (λ u. either (IsReleaseOf h) (same_kind h.kind PendingResponse) (closing h (states_of f h)) (Ended (Drops h)) (λ v. closing_is h h (states_of f h) refl) (λ v. refl))
+    (λ u. either (IsReleaseOf h) (same_kind h.kind PendingResponse) (closing h (states_of f h)) (Ended (Drops h))
+    (λ v. closing_is h h (states_of f h) refl) (λ v. refl))
 
 moved_is : (h : Handle) (s : State) (node : ℕ) (d : Doing) (m : Moment) → IsReleaseOf h d → (next s node d m).condition → IsReleaseOf h (next s node d m).after
 moved_is h s node (Ended o) m p c = absurd c
@@ -128,7 +130,9 @@ dropped_others f node n h is of_node k other (inr q) =
     )
   where
     here : put_at f.handles h.node (without_handle h (f.handles h.node)) node ≡ without_handle h (f.handles node)
-    here = subst (λ j. put_at f.handles j (without_handle h (f.handles j)) node ≡ without_handle h (f.handles node)) (sym of_node) (put_at-here f.handles node (without_handle h (f.handles node)))
+    here =
+        subst (λ j. put_at f.handles j (without_handle h (f.handles j)) node ≡ without_handle h (f.handles node)) (sym of_node)
+        (put_at-here f.handles node (without_handle h (f.handles node)))
 
 given_others : (f g : Fixed) (node n : ℕ) (h : Handle) → Others f g node n → Others f (gives_up g h) node n
 given_others f g node n h p =
@@ -176,7 +180,8 @@ Released s node n = (t : State) × IsWholeCall s node (Release n) Done t × Othe
 abbrev choice : Choice
 choice = record { lane = 0; memory = true }
 
-whole : (s : State) (node n : ℕ) (t : State) → misnamed s.fixed node (Release n) ≡ None → IsDone s node (Release n) Done t → IsWholeCall s node (Release n) Done t
+whole : (s : State) (node n : ℕ) (t : State) → misnamed s.fixed node (Release n) ≡ None → IsDone s node (Release n) Done t
+    → IsWholeCall s node (Release n) Done t
 whole s node n t named done = unrefused (misnamed s.fixed node (Release n)) named
   where
     unrefused : (q : Option Refusal) → q ≡ None → UnlessRefused q s Done t (IsDone s node (Release n) Done t)
@@ -186,7 +191,8 @@ whole s node n t named done = unrefused (misnamed s.fixed node (Release n)) name
 port_released : (s : State) (node n : ℕ) (p : Port) → Calm s → IsAmong p s.fixed.ports → p.number ≡ n → p.node ≡ node → p.held ≡ true → Released s node n
 port_released s node n p r among is of_node held =
     let named : subject s.fixed node n ≡ Some (ThePort p) = port_named s.fixed node n p (r.rests).fixed among is held in
-    let d : start s node choice (Release n) ≡ Ended (DropsPort p.number) = ap (λ x. option_map_or (begins_at s choice (Release n)) x (refused UnknownNumber)) named in
+    let d : start s node choice (Release n) ≡ Ended (DropsPort p.number)
+    = ap (λ x. option_map_or (begins_at s choice (Release n)) x (refused UnknownNumber)) named in
     let t : State = settled s node [] (DropsPort p.number) in (
       t,
       whole s node n t (release_suits s.fixed node n (ThePort p) ((r.rests).fixed).hub named of_node)
@@ -200,7 +206,8 @@ handle_released s node n h r among is =
     let fits : FitsHandle s.fixed.ports s.fixed.next_number node h = (((r.rests).fixed).handles node).each h among in
     let subject_is : subject s.fixed node n ≡ Some (TheHandle h) = handle_named s.fixed node n h (r.rests).fixed among is in
     let named : misnamed s.fixed node (Release n) ≡ None = release_suits s.fixed node n (TheHandle h) ((r.rests).fixed).hub subject_is fits.of_node in
-    let d : start s node choice (Release n) ≡ releases_handle s.fixed h = ap (λ x. option_map_or (begins_at s choice (Release n)) x (refused UnknownNumber)) subject_is in
+    let d : start s node choice (Release n) ≡ releases_handle s.fixed h
+    = ap (λ x. option_map_or (begins_at s choice (Release n)) x (refused UnknownNumber)) subject_is in
     let e : ComesToAnEnd s node (start s node choice (Release n)) = call_ends s node choice (Release n) [] r named tt in
     let o : e.2 ≡ Drops h
     = ends_with h (moved_by s e.0) (left_by s node (start s node choice (Release n)) e.0) e.2

@@ -28,13 +28,16 @@ use Rattle.iox_runs.proofs.Rests.{FitsHandle, Rests, Rested}
 
 -- so no handle belongs to it
 none_of : (xs : List Handle) (port : ℕ) (h : Handle) → is_empty (filter (λ k. k.port == port) xs) ≡ true → IsAmong h xs → (h.port == port) ≡ false
-none_of xs port h e among = false_if (h.port == port) (λ of_port. no_one (filter (λ (k : Handle). k.port == port) xs) h e (among-filter (λ (k : Handle). k.port == port) h xs among of_port))
+none_of xs port h e among =
+    false_if (h.port == port) (λ of_port. no_one (filter (λ (k : Handle). k.port == port) xs) h e
+    (among-filter (λ (k : Handle). k.port == port) h xs among of_port))
   where
     no_one : (ys : List Handle) (h : Handle) → is_empty ys ≡ true → IsAmong h ys → ⊥
     no_one [] h e p = p
     no_one (y ∷ ys) h e p = true≢false (sym e)
 
-pub others_belong : (f : Fixed) (gone n : ℕ) (h : Handle) → is_last_gone f gone ≡ true → IsAmong h (f.handles n) → IsPortIn f.ports n h.port → (h.port == gone) ≡ false
+pub others_belong : (f : Fixed) (gone n : ℕ) (h : Handle) → is_last_gone f gone ≡ true → IsAmong h (f.handles n) → IsPortIn f.ports n h.port
+    → (h.port == gone) ≡ false
 others_belong f gone n h last among own =
     by_cases (h.port == gone)
     (λ is. none_of (f.handles (node_of_port f gone)) gone h empty
@@ -61,7 +64,8 @@ gone_rests s gone last r = record {
           of_node = p.of_node;
           of_port = port_stays s.fixed.ports n h.port gone (others_belong s.fixed gone n h last among p.of_port) p.of_port;
           below = p.below;
-          no_port = false_if (any_at h.number (others_than gone s.fixed.ports)) (λ there. never (any_at h.number s.fixed.ports) (any_others gone h.number s.fixed.ports there).0 p.no_port);
+          no_port = false_if (any_at h.number (others_than gone s.fixed.ports))
+              (λ there. never (any_at h.number s.fixed.ports) (any_others gone h.number s.fixed.ports there).0 p.no_port);
         };
   };
 }
@@ -108,7 +112,8 @@ pub value_rests : (s : State) (port : ℕ) → Rested s → Rested (with_fixed s
 value_rests s port r = record {
   fixed = record {
     hub = (r.fixed).hub;
-    numbered = (subst AreDistinct (sym (same_numbers port s.fixed.ports)) ((r.fixed).numbered).0, same_below s.fixed.next_number port s.fixed.ports ((r.fixed).numbered).1);
+    numbered = (subst AreDistinct (sym (same_numbers port s.fixed.ports)) ((r.fixed).numbered).0,
+        same_below s.fixed.next_number port s.fixed.ports ((r.fixed).numbered).1);
     handles = λ n. record {
       apart = ((r.fixed).handles n).apart;
       each = λ h among.

@@ -31,7 +31,8 @@ put_count : (test : Handle → Bool) (handles : ℕ → List Handle) (n : ℕ) (
     → count test (put_at handles n hs k) ≤ count test (handles k)
 put_count test handles n hs k less =
     either (λ (xs : List Handle). count test xs ≤ count test (handles k)) (k == n) hs (handles k)
-    (λ is. subst (λ j. count test hs ≤ count test (handles j)) (sym (eqb-true k n is)) less) (λ u. same-le (count test (handles k)) (count test (handles k)) refl)
+    (λ is. subst (λ j. count test hs ≤ count test (handles j)) (sym (eqb-true k n is)) less)
+    (λ u. same-le (count test (handles k)) (count test (handles k)) refl)
 
 put_each : (P : Handle → Type 0) (handles : ℕ → List Handle) (n : ℕ) (hs : List Handle) → ((k : ℕ) (h : Handle) → IsAmong h (handles k) → P h)
     → ((h : Handle) → IsAmong h hs → P h) → (k : ℕ) (h : Handle) → IsAmong h (put_at handles n hs k) → P h
@@ -51,11 +52,14 @@ changes_few l ps next handles borrowed expired n hs p each less = record {
   away = p.away;
   within = p.within;
   nobody = p.nobody;
-  counts = λ y kept. at-most (had_in ps (put_at handles n hs) y) (had_in ps handles y) (borrowed y) (put_count (has_received y) handles n hs (node_in ps y.receiver) (less y)) (p.counts y kept);
-  few = λ y. at-most (had_in ps (put_at handles n hs) y) (had_in ps handles y) (limit_in l ps y) (put_count (has_received y) handles n hs (node_in ps y.receiver) (less y)) (p.few y);
+  counts = λ y kept. at-most (had_in ps (put_at handles n hs) y) (had_in ps handles y) (borrowed y)
+      (put_count (has_received y) handles n hs (node_in ps y.receiver) (less y)) (p.counts y kept);
+  few = λ y. at-most (had_in ps (put_at handles n hs) y) (had_in ps handles y) (limit_in l ps y)
+      (put_count (has_received y) handles n hs (node_in ps y.receiver) (less y)) (p.few y);
 }
 
-pub stood : (l : Limits) (ps : List Port) (next : ℕ) (handles : ℕ → List Handle) (borrowed : Way → ℕ) (expired : ℕ → List ℕ) → Holdings l ps next handles borrowed expired
+pub stood : (l : Limits) (ps : List Port) (next : ℕ) (handles : ℕ → List Handle) (borrowed : Way → ℕ) (expired : ℕ → List ℕ)
+    → Holdings l ps next handles borrowed expired
     → (n : ℕ) (h : Handle) → IsAmong h (handles n) → Stands ps next h
 stood l ps next handles borrowed expired p n h among = (p.kept n h among, p.known n h among)
 
@@ -119,11 +123,13 @@ gives_few l ps next handles borrowed expired h p among at received =
       known = q.known;
       away = q.away;
       within = λ y. either (λ b. b ≤ limit_in l ps y) (same_way y w) (borrowed w - 1) (borrowed y)
-          (λ same. subst (λ u. borrowed w - 1 ≤ limit_in l ps u) (sym (same_way-true y w same)) (one_less (borrowed w) (limit_in l ps w) (p.within w))) (λ u. p.within y);
+          (λ same. subst (λ u. borrowed w - 1 ≤ limit_in l ps u) (sym (same_way-true y w same))
+          (one_less (borrowed w) (limit_in l ps w) (p.within w))) (λ u. p.within y);
       nobody = λ y none. either (λ b. b ≡ 0) (same_way y w) (borrowed w - 1) (borrowed y)
           (λ same. still_none (borrowed w) (ap borrowed (sym (same_way-true y w same)) ∙ p.nobody y none)) (λ u. p.nobody y none);
       counts = λ y kept. either (λ b. had_in ps after y ≤ b) (same_way y w) (borrowed w - 1) (borrowed y)
-          (λ same. subst (λ u. had_in ps after u ≤ borrowed w - 1) (sym (same_way-true y w same)) (here after w (subst (λ u. is_lost ps expired u ≡ false) (same_way-true y w same) kept) refl refl))
+          (λ same. subst (λ u. had_in ps after u ≤ borrowed w - 1) (sym (same_way-true y w same))
+          (here after w (subst (λ u. is_lost ps expired u ≡ false) (same_way-true y w same) kept) refl refl))
           (λ u. q.counts y kept);
       few = q.few;
     }
@@ -163,7 +169,8 @@ pub takes_few : (l : Limits) (ps : List Port) (next : ℕ) (handles : ℕ → Li
     → Holdings l ps next (put_at handles h.node (handles h.node ++ h ∷ [])) (put borrowed w (borrowed w + 1)) expired
 takes_few l ps next handles borrowed expired h w p kept is below there_still was there = record {
   kept = put_each (KeptHandle ps) handles h.node (handles h.node ++ h ∷ []) p.kept
-      (λ k among. elim (among-last k h (handles h.node) among) as (λ u. KeptHandle ps k) [ inl q ↦ p.kept h.node k q | inr e ↦ subst (KeptHandle ps) (sym e) kept ]);
+      (λ k among. elim (among-last k h (handles h.node) among)
+      as (λ u. KeptHandle ps k) [ inl q ↦ p.kept h.node k q | inr e ↦ subst (KeptHandle ps) (sym e) kept ]);
   known = put_each (λ k. is_received k.kind ≡ true → nat_lt (way_of k).sender next ≡ true) handles h.node (handles h.node ++ h ∷ []) p.known
       (λ k among. elim (among-last k h (handles h.node) among) as (λ u. is_received k.kind ≡ true → nat_lt (way_of k).sender next ≡ true) [
         | inl q ↦ p.known h.node k q
@@ -175,11 +182,14 @@ takes_few l ps next handles borrowed expired h w p kept is below there_still was
   nobody = λ y none. either (λ b. b ≡ 0) (same_way y w) (borrowed w + 1) (borrowed y)
       (λ same. absurd (true≢false (sym there ∙ ap (λ (v : Way). any_at v.receiver ps) (sym (same_way-true y w same)) ∙ none))) (λ u. p.nobody y none);
   counts = λ y stays. either (λ b. had_in ps (put_at handles h.node (handles h.node ++ h ∷ [])) y ≤ b) (same_way y w) (borrowed w + 1) (borrowed y)
-      (λ same. subst (λ u. had_in ps (put_at handles h.node (handles h.node ++ h ∷ [])) u ≤ borrowed w + 1) (sym (same_way-true y w same)) (more_here w (borrowed w) (p.counts w there_still)))
-      (λ other. at-most (had_in ps (put_at handles h.node (handles h.node ++ h ∷ [])) y) (had_in ps handles y) (borrowed y) (as_many y other) (p.counts y stays));
+      (λ same. subst (λ u. had_in ps (put_at handles h.node (handles h.node ++ h ∷ [])) u ≤ borrowed w + 1) (sym (same_way-true y w same))
+      (more_here w (borrowed w) (p.counts w there_still)))
+      (λ other. at-most (had_in ps (put_at handles h.node (handles h.node ++ h ∷ [])) y) (had_in ps handles y) (borrowed y) (as_many y other)
+      (p.counts y stays));
   few = λ y. by_cases (same_way y w)
       (λ same. subst (λ u. had_in ps (put_at handles h.node (handles h.node ++ h ∷ [])) u ≤ limit_in l ps u) (sym (same_way-true y w same))
-      (at-most (had_in ps (put_at handles h.node (handles h.node ++ h ∷ [])) w) (borrowed w + 1) (limit_in l ps w) (more_here w (borrowed w) (p.counts w there_still)) below))
+      (at-most (had_in ps (put_at handles h.node (handles h.node ++ h ∷ [])) w) (borrowed w + 1) (limit_in l ps w)
+      (more_here w (borrowed w) (p.counts w there_still)) below))
       (λ other. at-most (had_in ps (put_at handles h.node (handles h.node ++ h ∷ [])) y) (had_in ps handles y) (limit_in l ps y) (as_many y other) (p.few y));
 }
   where
@@ -195,7 +205,8 @@ takes_few l ps next handles borrowed expired h w p kept is below there_still was
     -- on its own way there is one more at most
     more_here : (y : Way) (b : ℕ) → had_in ps handles y ≤ b → had_in ps (put_at handles h.node (handles h.node ++ h ∷ [])) y ≤ b + 1
     more_here y b less =
-        either (λ (xs : List Handle). count (has_received y) xs ≤ b + 1) (node_in ps y.receiver == h.node) (handles h.node ++ h ∷ []) (handles (node_in ps y.receiver))
+        either (λ (xs : List Handle). count (has_received y) xs ≤ b + 1) (node_in ps y.receiver == h.node) (handles h.node ++ h ∷ [])
+        (handles (node_in ps y.receiver))
         (λ same. more (count (has_received y) (handles h.node ++ h ∷ [])) (count (has_received y) (handles h.node)) (one_if (has_received y h)) b
         (count-last (has_received y) (handles h.node) h) (one-at-most (has_received y h))
         (subst (λ k. count (has_received y) (handles k) ≤ b) (eqb-true (node_in ps y.receiver) h.node same) less))

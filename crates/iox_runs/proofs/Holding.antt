@@ -126,7 +126,8 @@ emptying_holds f x (w ∷ left) p = p
 
 asked_holds : (f : Fixed) (x : Sending) (shown : RequestState) → SendFits f x → HoldsIn f (asked x shown)
 asked_holds f x shown p =
-    either (HoldsIn f) (names shown x.loan.request) (emptying x (targets x)) (Ended (Sends x.loan x.copied 0)) (λ u. emptying_holds f x (targets x) p) (λ u. p.0)
+    either (HoldsIn f) (names shown x.loan.request) (emptying x (targets x)) (Ended (Sends x.loan x.copied 0)) (λ u. emptying_holds f x (targets x) p)
+    (λ u. p.0)
 
 -- those of a role are connected, and have it
 others_are : (f : Fixed) (node n : ℕ) (role : Role) → HasOwnPorts f → IsAmong n (others f node role)
@@ -167,7 +168,8 @@ sends_holds f h copied own p =
 pub loaning_holds : (s : State) (copies : Bool) (h : Handle) (left : List Way) → HasOwnPorts s.fixed → LoanFits s.fixed h true
     → HoldsIn s.fixed (loaning s copies h left)
 loaning_holds s copies h [] own p =
-    either (HoldsIn s.fixed) (is_dry s.fixed h.port (kept s h.port [])) (refused OutOfMemory) (if copies then sends s.fixed h true else Ended (Loans h)) (λ u. tt)
+    either (HoldsIn s.fixed) (is_dry s.fixed h.port (kept s h.port [])) (refused OutOfMemory)
+    (if copies then sends s.fixed h true else Ended (Loans h)) (λ u. tt)
     (λ u. either (HoldsIn s.fixed) copies (sends s.fixed h true) (Ended (Loans h)) (λ v. sends_holds s.fixed h true own p) (λ v. p))
 loaning_holds s copies h (w ∷ left) own p = p
 

@@ -75,7 +75,8 @@ response_lane x w responds =
     either (λ ways. IsAmong w ways → w.lane ≡ x.loan.lane) (is_request x) (map (request_way x.loan.port) x.to)
     (map (λ client. response_way client x.loan.lane x.loan.port) x.to) (λ is. absurd (true≢false (sym is ∙ responds)))
     (λ u among.
-    let q : (n : ℕ) × IsAmong n x.to × (w ≡ response_way n x.loan.lane x.loan.port) = map-among (λ client. response_way client x.loan.lane x.loan.port) w x.to among in
+    let q : (n : ℕ) × IsAmong n x.to × (w ≡ response_way n x.loan.lane x.loan.port)
+    = map-among (λ client. response_way client x.loan.lane x.loan.port) w x.to among in
     ap (λ (v : Way). v.lane) q.2)
 
 delivered_fits : (f : Fixed) (node : ℕ) (x : Sending) (w : Way) → Rests f → IsPortOf f node w.sender → SendFits f x → IsAmong w (targets x)
@@ -163,5 +164,6 @@ moved_owned s node d m r fits p c o =
       gone = λ y gone.
           let before : any_at y.sender s.fixed.ports ≡ false = ap (λ (f : Fixed). any_at y.sender f.ports) (sym same) ∙ gone in
           subst (λ (f : Fixed). length ((moved s m).waiting y) ≤ most_in f.limits f.ports y) (sym same)
-          (at-most (length ((moved s m).waiting y)) (length (s.waiting y)) (most_in s.fixed.limits s.fixed.ports y) (moved_gone s node d m r fits p c y before) (o.gone y before));
+          (at-most (length ((moved s m).waiting y)) (length (s.waiting y)) (most_in s.fixed.limits s.fixed.ports y)
+          (moved_gone s node d m r fits p c y before) (o.gone y before));
     }

@@ -42,14 +42,17 @@ none_there [] no_one = refl
 none_there (x ∷ xs) no_one = absurd (no_one x (inl refl))
 
 -- no more waits than the buffer, by the receiver's role too
-pub there_within : (s : State) (y : Way) → Rested s → Owned s → any_at y.sender s.fixed.ports ≡ true → length (s.waiting y) ≤ most_in s.fixed.limits s.fixed.ports y
+pub there_within : (s : State) (y : Way) → Rested s → Owned s → any_at y.sender s.fixed.ports ≡ true
+    → length (s.waiting y) ≤ most_in s.fixed.limits s.fixed.ports y
 there_within s y r o there = by_list (s.waiting y) refl
   where
     by_list : (xs : List Message) → s.waiting y ≡ xs → length (s.waiting y) ≤ most_in s.fixed.limits s.fixed.ports y
     by_list [] e = length-none (s.waiting y) (most_in s.fixed.limits s.fixed.ports y) e
     by_list (m ∷ ms) e =
-        let fits : WaitFits s.fixed.ports s.fixed.next_number s.fixed.expired y m = o.waits y m (subst (λ (ys : List Message). IsAmong m ys) (sym e) (inl refl)) in
-        subst (λ role. length (s.waiting y) ≤ buffer_of s.fixed.limits role) (the_other (role_in s.fixed.ports y.sender) (role_in s.fixed.ports y.receiver) (fits.role there))
+        let fits : WaitFits s.fixed.ports s.fixed.next_number s.fixed.expired y m
+        = o.waits y m (subst (λ (ys : List Message). IsAmong m ys) (sym e) (inl refl)) in
+        subst (λ role. length (s.waiting y) ≤ buffer_of s.fixed.limits role)
+        (the_other (role_in s.fixed.ports y.sender) (role_in s.fixed.ports y.receiver) (fits.role there))
         (le-from (length (s.waiting y)) (buffer_on s.fixed y) (r.within (node_in s.fixed.ports y.sender) y (there, refl)))
 
 -- ---- who is expired once a port is gone
@@ -84,7 +87,8 @@ nothing_between : (s : State) (gone r : ℕ) → Owned s → any_at gone s.fixed
     → waits_between s gone r ≡ false
 nothing_between s gone r o there same =
     false_if (waits_between s gone r) (λ waits.
-    let lane : (lane : ℕ) × IsAmong lane (range_with_len 0 (lanes_between s.fixed r)) × (not (is_empty (s.waiting (record { sender = gone; receiver = r; lane = lane }))) ≡ true)
+    let lane : (lane : ℕ) × IsAmong lane (range_with_len 0 (lanes_between s.fixed r))
+        × (not (is_empty (s.waiting (record { sender = gone; receiver = r; lane = lane }))) ≡ true)
     = any-among (λ lane. not (is_empty (s.waiting (record { sender = gone; receiver = r; lane = lane })))) (range_with_len 0 (lanes_between s.fixed r)) waits in
     let y : Way = record { sender = gone; receiver = r; lane = lane.0 } in
     let m : (m : Message) × IsAmong m (s.waiting y) = some_there (s.waiting y) lane.2 in
@@ -96,7 +100,8 @@ pub expired_now : (s : State) (gone r : ℕ) → Owned s → any_at gone s.fixed
 expired_now s gone r o there other =
     ap (λ (b : Bool). if b then [] else (if same_role (role_at s.fixed r) (role_at s.fixed gone) then s.fixed.expired r else expired_after s gone r)) other
     ∙ either (λ (ns : List ℕ). ns ≡ expired_after s gone r) (same_role (role_at s.fixed r) (role_at s.fixed gone)) (s.fixed.expired r) (expired_after s gone r)
-    (λ same. sym (ap (λ (b : Bool). if b && nat_lt 0 (room_for_expired s.fixed (role_at s.fixed r)) then kept_expired (room_for_expired s.fixed (role_at s.fixed r)) (s.fixed.expired r) gone
+    (λ same. sym (ap (λ (b : Bool). if b && nat_lt 0 (room_for_expired s.fixed (role_at s.fixed r))
+    then kept_expired (room_for_expired s.fixed (role_at s.fixed r)) (s.fixed.expired r) gone
     else s.fixed.expired r) (nothing_between s gone r o there same)))
     (λ u. refl)
 
@@ -109,7 +114,8 @@ after_is s gone r n =
     (λ u among. elim (among-last n gone (if nat_le room (length (s.fixed.expired r)) then rest_of (s.fixed.expired r) else s.fixed.expired r) among)
     as (λ x. IsAmong n (s.fixed.expired r) ⊎ (n ≡ gone)) [
       | inl q ↦
-          inl (either (λ (ns : List ℕ). IsAmong n ns → IsAmong n (s.fixed.expired r)) (nat_le room (length (s.fixed.expired r))) (rest_of (s.fixed.expired r)) (s.fixed.expired r)
+          inl (either (λ (ns : List ℕ). IsAmong n ns → IsAmong n (s.fixed.expired r)) (nat_le room (length (s.fixed.expired r)))
+          (rest_of (s.fixed.expired r)) (s.fixed.expired r)
           (λ v a. rest-among n (s.fixed.expired r) a) (λ v a. a) q)
       | inr e ↦ inr e
     ])
@@ -120,7 +126,8 @@ once_is s gone r n e =
     either (λ (ns : List ℕ). IsAmong n ns → IsAmong n (s.fixed.expired r) ⊎ (n ≡ gone)) (r == gone) []
     (if same_role (role_at s.fixed r) (role_at s.fixed gone) then s.fixed.expired r else expired_after s gone r)
     (λ u among. absurd among)
-    (λ u. either (λ (ns : List ℕ). IsAmong n ns → IsAmong n (s.fixed.expired r) ⊎ (n ≡ gone)) (same_role (role_at s.fixed r) (role_at s.fixed gone)) (s.fixed.expired r) (expired_after s gone r)
+    (λ u. either (λ (ns : List ℕ). IsAmong n ns → IsAmong n (s.fixed.expired r) ⊎ (n ≡ gone)) (same_role (role_at s.fixed r) (role_at s.fixed gone))
+    (s.fixed.expired r) (expired_after s gone r)
     (λ v among. inl among) (λ v. after_is s gone r n)) (number-among n (expired_once s gone r) e)
 
 -- ---- what stays
@@ -129,11 +136,13 @@ stays_to : (s : State) (gone : ℕ) (y : Way) → stays s gone y ≡ true → (y
 stays_to s gone y e =
     by_cases (y.receiver == gone)
     (λ is. absurd (true≢false (sym e ∙ ap (λ (b : Bool). if b then false else
-    (if y.sender == gone || has_number y.sender (s.fixed.expired y.receiver) then has_number y.sender (expired_after s gone y.receiver) else true)) is))) (λ other. other)
+    (if y.sender == gone || has_number y.sender (s.fixed.expired y.receiver) then has_number y.sender (expired_after s gone y.receiver) else true))
+    is))) (λ other. other)
 
 -- where the receiver stays: what stays is of senders that do, or of an expired pair
 stays_is : (s : State) (gone : ℕ) (y : Way) → (y.receiver == gone) ≡ false
-    → stays s gone y ≡ (if y.sender == gone || has_number y.sender (s.fixed.expired y.receiver) then has_number y.sender (expired_after s gone y.receiver) else true)
+    → stays s gone y ≡ (if y.sender == gone || has_number y.sender (s.fixed.expired y.receiver)
+    then has_number y.sender (expired_after s gone y.receiver) else true)
 stays_is s gone y other =
     ap (λ (b : Bool). if b then false else
     (if y.sender == gone || has_number y.sender (s.fixed.expired y.receiver) then has_number y.sender (expired_after s gone y.receiver) else true)) other
@@ -148,7 +157,8 @@ lost_not false true e f = refl
 lost_not false false e f = absurd (true≢false e)
 
 -- a pair that stays is not lost, if it was not
-kept_stays : (s : State) (gone : ℕ) (y : Way) → Owned s → any_at gone s.fixed.ports ≡ true → stays s gone y ≡ true → is_lost s.fixed.ports s.fixed.expired y ≡ false
+kept_stays : (s : State) (gone : ℕ) (y : Way) → Owned s → any_at gone s.fixed.ports ≡ true → stays s gone y ≡ true
+    → is_lost s.fixed.ports s.fixed.expired y ≡ false
     → is_lost (others_than gone s.fixed.ports) (expired_once s gone) y ≡ false
 kept_stays s gone y o there e kept =
     let to : (y.receiver == gone) ≡ false = stays_to s gone y e in
@@ -180,10 +190,12 @@ not_lost_stays s gone y o there to kept =
     let now : has_number y.sender (expired_once s gone y.receiver) ≡ true
     = lost_not (any_at y.sender (others_than gone s.fixed.ports)) (has_number y.sender (expired_once s gone y.receiver)) kept away in (
       stays_is s gone y to
-          ∙ either (λ (b : Bool). b ≡ true) (y.sender == gone || has_number y.sender (s.fixed.expired y.receiver)) (has_number y.sender (expired_after s gone y.receiver)) true
+          ∙ either (λ (b : Bool). b ≡ true) (y.sender == gone || has_number y.sender (s.fixed.expired y.receiver)) (has_number y.sender
+          (expired_after s gone y.receiver)) true
           (λ u. ap (has_number y.sender) (sym (expired_now s gone y.receiver o there to)) ∙ now) (λ u. refl),
       elim (once_is s gone y.receiver y.sender now) as (λ u. is_lost s.fixed.ports s.fixed.expired y ≡ false) [
-        | inl q ↦ kept_if (any_at y.sender s.fixed.ports) (has_number y.sender (s.fixed.expired y.receiver)) (λ u. among-number y.sender (s.fixed.expired y.receiver) q)
+        | inl q ↦ kept_if (any_at y.sender s.fixed.ports) (has_number y.sender (s.fixed.expired y.receiver))
+              (λ u. among-number y.sender (s.fixed.expired y.receiver) q)
         | inr e ↦
             kept_if (any_at y.sender s.fixed.ports) (has_number y.sender (s.fixed.expired y.receiver))
             (λ u. absurd (true≢false (sym there ∙ ap (λ k. any_at k s.fixed.ports) (sym e) ∙ u)))
@@ -201,7 +213,8 @@ kept_same ps qs h same p = record {
   pending = λ pending. ap is_client same ∙ p.pending pending;
 }
 
-none_of_gone : (s : State) (gone n : ℕ) (y : Way) → Rested s → is_last_gone s.fixed gone ≡ true → (y.receiver == gone) ≡ true → count (has_received y) (s.fixed.handles n) ≡ 0
+none_of_gone : (s : State) (gone n : ℕ) (y : Way) → Rested s → is_last_gone s.fixed gone ≡ true → (y.receiver == gone) ≡ true
+    → count (has_received y) (s.fixed.handles n) ≡ 0
 none_of_gone s gone n y r last is =
     count-none (has_received y) (s.fixed.handles n)
     (λ h among.
@@ -217,7 +230,8 @@ gone_has s gone r o there last =
     let ps : List Port = others_than gone f.ports in
     record {
       kept = λ n h among.
-          kept_same f.ports ps h (role_same gone h.port f.ports (others_belong f gone n h last among (((r.fixed).handles n).each h among).of_port)) ((o.has).kept n h among);
+          kept_same f.ports ps h (role_same gone h.port f.ports (others_belong f gone n h last among (((r.fixed).handles n).each h among).of_port))
+          ((o.has).kept n h among);
       known = (o.has).known;
       away = λ k n among. elim (once_is s gone k n among) as (λ u. (any_at n ps ≡ false) × (nat_lt n f.next_number ≡ true)) [
         | inl q ↦
@@ -229,7 +243,8 @@ gone_has s gone r o there last =
         )
       ];
       within = λ y. either (λ b. b ≤ limit_in f.limits ps y) (stays s gone y) (f.borrowed y) 0
-          (λ e. subst (λ role. f.borrowed y ≤ borrow_limit_of f.limits (other_role role)) (sym (role_same gone y.receiver f.ports (stays_to s gone y e))) ((o.has).within y))
+          (λ e. subst (λ role. f.borrowed y ≤ borrow_limit_of f.limits (other_role role))
+          (sym (role_same gone y.receiver f.ports (stays_to s gone y e))) ((o.has).within y))
           (λ u. zero-le 0 (limit_in f.limits ps y) refl);
       nobody = λ y none. either (λ b. b ≡ 0) (stays s gone y) (f.borrowed y) 0
           (λ e. (o.has).nobody y (sym (any_same gone y.receiver f.ports (stays_to s gone y e)) ∙ none)) (λ u. refl);
@@ -243,12 +258,14 @@ gone_has s gone r o there last =
           (λ is. zero-le (had_in ps f.handles y) (limit_in f.limits ps y) (none_of_gone s gone (node_in ps y.receiver) y r last is))
           (λ other.
           subst (λ n. count (has_received y) (f.handles n) ≤ limit_in f.limits ps y) (sym (node_same gone y.receiver f.ports other))
-          (subst (λ role. had_in f.ports f.handles y ≤ borrow_limit_of f.limits (other_role role)) (sym (role_same gone y.receiver f.ports other)) ((o.has).few y)));
+          (subst (λ role. had_in f.ports f.handles y ≤ borrow_limit_of f.limits (other_role role)) (sym (role_same gone y.receiver f.ports other))
+          ((o.has).few y)));
     }
 
 gone_waits : (s : State) (gone : ℕ) → Owned s → any_at gone s.fixed.ports ≡ true → WaitsFit (disconnected s gone)
 gone_waits s gone o there y m =
-    either (λ (xs : List Message). IsAmong m xs → WaitFits (others_than gone s.fixed.ports) s.fixed.next_number (expired_once s gone) y m) (stays s gone y) (s.waiting y) []
+    either (λ (xs : List Message). IsAmong m xs → WaitFits (others_than gone s.fixed.ports) s.fixed.next_number (expired_once s gone) y m)
+    (stays s gone y) (s.waiting y) []
     (λ e among.
     let p : WaitFits s.fixed.ports s.fixed.next_number s.fixed.expired y m = o.waits y m among in
     let to : (y.receiver == gone) ≡ false = stays_to s gone y e in
@@ -257,7 +274,8 @@ gone_waits s gone o there y m =
       lane = λ client. p.lane (ap is_client (sym (role_same gone y.receiver s.fixed.ports to)) ∙ client);
       role = λ stands.
           let q : (any_at y.sender s.fixed.ports ≡ true) × ((y.sender == gone) ≡ false) = any_others gone y.sender s.fixed.ports stands in
-          ap is_client (role_same gone y.sender s.fixed.ports q.1) ∙ p.role q.0 ∙ ap (λ role. not (is_client role)) (sym (role_same gone y.receiver s.fixed.ports to));
+          ap is_client (role_same gone y.sender s.fixed.ports q.1) ∙ p.role q.0
+          ∙ ap (λ role. not (is_client role)) (sym (role_same gone y.receiver s.fixed.ports to));
       kept = kept_stays s gone y o there e p.kept;
       below = p.below;
       there = any_stay gone y.receiver s.fixed.ports to p.there;
@@ -269,7 +287,8 @@ gone_owned s gone r o there last = record {
   has = gone_has s gone r o there last;
   waits = gone_waits s gone o there;
   gone = λ y away. either (λ (xs : List Message). length xs ≤ most_in s.fixed.limits (others_than gone s.fixed.ports) y) (stays s gone y) (s.waiting y) []
-      (λ e. subst (λ role. length (s.waiting y) ≤ buffer_of s.fixed.limits (other_role role)) (sym (role_same gone y.receiver s.fixed.ports (stays_to s gone y e)))
+      (λ e. subst (λ role. length (s.waiting y) ≤ buffer_of s.fixed.limits (other_role role))
+      (sym (role_same gone y.receiver s.fixed.ports (stays_to s gone y e)))
       (by_cases (any_at y.sender s.fixed.ports) (there_within s y r o) (o.gone y)))
       (λ u. least (most_in s.fixed.limits (others_than gone s.fixed.ports) y));
 }

@@ -33,14 +33,16 @@ value_has f port p =
       kept = λ n h among. kept_same f.ports ps h (first_dropped (λ q. q.role) Client port h.port f.ports (λ q. refl)) (p.kept n h among);
       known = p.known;
       away = λ r n among. (any_dropped port n f.ports ∙ (p.away r n among).0, (p.away r n among).1);
-      within = λ y. subst (λ role. f.borrowed y ≤ borrow_limit_of f.limits (other_role role)) (sym (first_dropped (λ q. q.role) Client port y.receiver f.ports (λ q. refl))) (p.within y);
+      within = λ y. subst (λ role. f.borrowed y ≤ borrow_limit_of f.limits (other_role role))
+          (sym (first_dropped (λ q. q.role) Client port y.receiver f.ports (λ q. refl))) (p.within y);
       nobody = λ y none. p.nobody y (sym (any_dropped port y.receiver f.ports) ∙ none);
       counts = λ y kept.
           subst (λ n. count (has_received y) (f.handles n) ≤ f.borrowed y) (sym (first_dropped (λ q. q.node) 0 port y.receiver f.ports (λ q. refl)))
           (p.counts y (sym (ap (λ b. not b && not (has_number y.sender (f.expired y.receiver))) (any_dropped port y.sender f.ports)) ∙ kept));
       few = λ y.
           subst (λ n. count (has_received y) (f.handles n) ≤ limit_in f.limits ps y) (sym (first_dropped (λ q. q.node) 0 port y.receiver f.ports (λ q. refl)))
-          (subst (λ role. had_in f.ports f.handles y ≤ borrow_limit_of f.limits (other_role role)) (sym (first_dropped (λ q. q.role) Client port y.receiver f.ports (λ q. refl))) (p.few y));
+          (subst (λ role. had_in f.ports f.handles y ≤ borrow_limit_of f.limits (other_role role))
+          (sym (first_dropped (λ q. q.role) Client port y.receiver f.ports (λ q. refl))) (p.few y));
     }
 
 pub value_owned : (s : State) (port : ℕ) → Owned s → Owned (with_fixed s (record (s.fixed) { ports = map (port_dropped port) s.fixed.ports }))
@@ -61,7 +63,8 @@ value_owned s port o =
             there = any_dropped port y.receiver f.ports ∙ p.there;
           };
       gone = λ y away.
-          subst (λ role. length (s.waiting y) ≤ buffer_of f.limits (other_role role)) (sym (first_dropped (λ q. q.role) Client port y.receiver f.ports (λ q. refl)))
+          subst (λ role. length (s.waiting y) ≤ buffer_of f.limits (other_role role))
+          (sym (first_dropped (λ q. q.role) Client port y.receiver f.ports (λ q. refl)))
           (o.gone y (sym (any_dropped port y.sender f.ports) ∙ away));
     }
 
@@ -102,9 +105,11 @@ none_of_next f n y p later =
     let q : (is_received h.kind ≡ true) × (((h.port == y.receiver) && same_way (way_of h) y) ≡ true)
     = split (is_received h.kind) ((h.port == y.receiver) && same_way (way_of h) y) has in
     never (nat_lt y.sender f.next_number)
-    (subst (λ (v : Way). nat_lt v.sender f.next_number ≡ true) (same_way-true (way_of h) y (split (h.port == y.receiver) (same_way (way_of h) y) q.1).1) (p.known n h among q.0)) later))
+    (subst (λ (v : Way). nat_lt v.sender f.next_number ≡ true)
+    (same_way-true (way_of h) y (split (h.port == y.receiver) (same_way (way_of h) y) q.1).1) (p.known n h among q.0)) later))
 
-lost_more : (f : Fixed) (p : Port) (y : Way) → is_lost (f.ports ++ p ∷ []) f.expired y ≡ false → (is_lost f.ports f.expired y ≡ true) → any_at y.sender f.ports ≡ false → p.number ≡ y.sender
+lost_more : (f : Fixed) (p : Port) (y : Way) → is_lost (f.ports ++ p ∷ []) f.expired y ≡ false → (is_lost f.ports f.expired y ≡ true)
+    → any_at y.sender f.ports ≡ false → p.number ≡ y.sender
 lost_more f p y kept lost away =
     by_cases (any_at y.sender (f.ports ++ p ∷ [])) (λ there. at_last y.sender f.ports p there away)
     (λ none. absurd (true≢false
@@ -133,7 +138,8 @@ made_has f p is r q =
           (λ there. subst (λ n. count (has_received y) (f.handles n) ≤ f.borrowed y) (sym (node_more y.receiver f.ports p there))
           (by_cases (is_lost f.ports f.expired y)
           (λ lost.
-          let new : p.number ≡ y.sender = lost_more f p y kept lost (is_away (any_at y.sender f.ports) (not (has_number y.sender (f.expired y.receiver))) lost) in
+          let new : p.number ≡ y.sender
+          = lost_more f p y kept lost (is_away (any_at y.sender f.ports) (not (has_number y.sender (f.expired y.receiver))) lost) in
           zero-le (had_in f.ports f.handles y) (f.borrowed y)
           (none_of_next f (node_in f.ports y.receiver) y q (same-not-less y.sender f.next_number (sym new ∙ is))))
           (q.counts y)))
@@ -164,7 +170,8 @@ made_owned s p is r o =
             lane = λ client. q.lane (ap is_client (sym (role_more y.receiver f.ports p q.there)) ∙ client);
             role = λ there.
                 let before : any_at y.sender f.ports ≡ true = was_there y.sender f.ports p (subst (λ j. nat_lt y.sender j ≡ true) (sym is) q.below) there in
-                ap is_client (role_more y.sender f.ports p before) ∙ q.role before ∙ ap (λ role. not (is_client role)) (sym (role_more y.receiver f.ports p q.there));
+                ap is_client (role_more y.sender f.ports p before) ∙ q.role before
+                ∙ ap (λ role. not (is_client role)) (sym (role_more y.receiver f.ports p q.there));
             kept = still_kept f p y q.kept;
             below = less-next y.sender f.next_number q.below;
             there = at_more y.receiver f.ports p q.there;

@@ -137,7 +137,8 @@ adds f h r own new =
             no_port = subst (λ k. any_at k f.ports ≡ false) (sym new) (next_is_free f.next_number f.ports (r.numbered).1);
           })
           (λ among.
-          let k : (k : Handle) × IsAmong k (f.handles h.node) × (h.number ≡ k.number) = map-among (λ (k : Handle). k.number) h.number (f.handles h.node) among in
+          let k : (k : Handle) × IsAmong k (f.handles h.node) × (h.number ≡ k.number)
+          = map-among (λ (k : Handle). k.number) h.number (f.handles h.node) among in
           never (nat_lt (k.0).number f.next_number) ((r.handles h.node).each k.0 k.1).below (same-not-less (k.0).number f.next_number (sym k.2 ∙ new))));
     })
 

@@ -63,7 +63,8 @@ sent_kept ps h count request made = record {
   pending = λ u. sym made.role ∙ request;
 }
 
-received_kept : (ps : List Port) (f : Fixed) (node : ℕ) (x : Receiver) (m : Message) → KeptHandle ps (received_handle f node x m) × (is_received (received_handle f node x m).kind ≡ true)
+received_kept : (ps : List Port) (f : Fixed) (node : ℕ) (x : Receiver) (m : Message)
+    → KeptHandle ps (received_handle f node x m) × (is_received (received_handle f node x m).kind ≡ true)
 received_kept ps f node x m = (
   record {
     value = either (λ (k : Kind). is_port k ≡ false) (is_client x.role) Response ActiveRequest (λ u. refl) (λ u. refl);
@@ -79,7 +80,8 @@ received_kept ps f node x m = (
 -- a number is given
 numbers : (f : Fixed) (node : ℕ) → f.on_wire ≡ false → Has f → Has (numbered f node)
 numbers f node hub p =
-    subst Has (sym (numbered-hub f node hub)) (more_numbers f.limits f.ports f.next_number (f.next_number + 1) f.handles f.borrowed f.expired (le-next f.next_number) p)
+    subst Has (sym (numbered-hub f node hub))
+    (more_numbers f.limits f.ports f.next_number (f.next_number + 1) f.handles f.borrowed f.expired (le-next f.next_number) p)
 
 adds_own : (f : Fixed) (h : Handle) → f.on_wire ≡ false → Has f → KeptHandle f.ports h → is_received h.kind ≡ false → Has (added (numbered f h.node) h)
 adds_own f h hub p kept own =
@@ -87,8 +89,10 @@ adds_own f h hub p kept own =
     adds_few g.limits g.ports g.next_number g.handles g.borrowed g.expired h (numbers f h.node hub p)
     (subst (λ (x : Fixed). KeptHandle x.ports h) (sym (numbered-hub f h.node hub)) kept) own
 
-takes_own : (f : Fixed) (h : Handle) (w : Way) → f.on_wire ≡ false → Has f → KeptHandle f.ports h → way_of h ≡ w → f.borrowed w + 1 ≤ limit_in f.limits f.ports w
-    → is_lost f.ports f.expired w ≡ false → nat_lt w.sender f.next_number ≡ true → any_at w.receiver f.ports ≡ true → Has (borrows (added (numbered f h.node) h) w)
+takes_own : (f : Fixed) (h : Handle) (w : Way) → f.on_wire ≡ false → Has f → KeptHandle f.ports h → way_of h ≡ w
+    → f.borrowed w + 1 ≤ limit_in f.limits f.ports w
+    → is_lost f.ports f.expired w ≡ false → nat_lt w.sender f.next_number ≡ true → any_at w.receiver f.ports ≡ true
+    → Has (borrows (added (numbered f h.node) h) w)
 takes_own f h w hub p kept is below stays was there =
     subst (λ (g : Fixed). Has (borrows (added g h) w)) (sym (numbered-hub f h.node hub))
     (takes_few f.limits f.ports (f.next_number + 1) f.handles f.borrowed f.expired h w
@@ -118,7 +122,8 @@ with_owned s f o has ports limits expired next = record {
       (subst (λ ps. length (s.waiting y) ≤ most_in s.fixed.limits ps y) (sym ports) (o.gone y (ap (any_at y.sender) (sym ports) ∙ away)));
 }
   where
-    later : (ps : List Port) (expired : ℕ → List ℕ) (y : Way) (m : Message) → WaitFits ps s.fixed.next_number expired y m → WaitFits ps f.next_number expired y m
+    later : (ps : List Port) (expired : ℕ → List ℕ) (y : Way) (m : Message) → WaitFits ps s.fixed.next_number expired y m
+        → WaitFits ps f.next_number expired y m
     later ps expired y m p = record {
       sender = p.sender;
       lane = p.lane;
@@ -135,7 +140,8 @@ handles_owned s f o has ports limits expired next =
     with_owned s f o has ports limits expired (subst (λ n. nat_le s.fixed.next_number n ≡ true) (sym next) (le-refl s.fixed.next_number))
 
 -- and one number was given
-number_owned : (s : State) (f : Fixed) (node : ℕ) → s.fixed.on_wire ≡ false → Owned s → Has f → f.ports ≡ (numbered s.fixed node).ports → f.limits ≡ (numbered s.fixed node).limits
+number_owned : (s : State) (f : Fixed) (node : ℕ) → s.fixed.on_wire ≡ false → Owned s → Has f → f.ports ≡ (numbered s.fixed node).ports
+    → f.limits ≡ (numbered s.fixed node).limits
     → f.expired ≡ (numbered s.fixed node).expired → f.next_number ≡ (numbered s.fixed node).next_number → Owned (with_fixed s f)
 number_owned s f node hub o has ports limits expired next =
     let e : numbered s.fixed node ≡ record (s.fixed) { next_number = s.fixed.next_number + 1 } = numbered-hub s.fixed node hub in
@@ -190,7 +196,8 @@ received_owned s node x w m r o fits p =
     below : (a b : ℕ) → nat_le a b ≡ false → b + 1 ≤ a
     below a b e = grind (arith)
 
-released_handle : (s : State) (h : Handle) → Rested s → Owned s → IsAmong h (s.fixed.handles h.node) → Owned (released (with_fixed s (gives_up (dropped s.fixed h) h)) h.port)
+released_handle : (s : State) (h : Handle) → Rested s → Owned s → IsAmong h (s.fixed.handles h.node)
+    → Owned (released (with_fixed s (gives_up (dropped s.fixed h) h)) h.port)
 released_handle s h r o among =
     let fits : FitsHandle s.fixed.ports s.fixed.next_number h.node h = ((r.fixed).handles h.node).each h among in
     let f : Fixed = dropped s.fixed h in
@@ -232,6 +239,7 @@ pub record Calm (s : State) : Type 0 where
   pub rests : Rested s
   pub owned : Owned s
 
-pub settled_calm : (s : State) (node : ℕ) (payload : List ℕ) (o : Outcome) → Calm s → FitsOutcome s.fixed node o → HoldsEnd s.fixed o → Calm (settled s node payload o)
+pub settled_calm : (s : State) (node : ℕ) (payload : List ℕ) (o : Outcome) → Calm s → FitsOutcome s.fixed node o → HoldsEnd s.fixed o
+    → Calm (settled s node payload o)
 settled_calm s node payload o c fits p =
     record { rests = settled_rests s node payload o c.rests fits p; owned = settled_owned s node payload o c.rests c.owned fits p }

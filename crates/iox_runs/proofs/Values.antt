@@ -54,7 +54,8 @@ is_value node p = (p.node == node) && p.held
 port_among : (f : Fixed) (node k : ℕ) → IsAmong k (map (λ p. p.number) (filter (is_value node) f.ports))
     → (p : Port) × IsAmong p f.ports × (p.number ≡ k) × (p.node ≡ node) × (p.held ≡ true)
 port_among f node k a =
-    let q : (p : Port) × IsAmong p (filter (is_value node) f.ports) × (k ≡ p.number) = map-among (λ (p : Port). p.number) k (filter (is_value node) f.ports) a in
+    let q : (p : Port) × IsAmong p (filter (is_value node) f.ports) × (k ≡ p.number)
+    = map-among (λ (p : Port). p.number) k (filter (is_value node) f.ports) a in
     let t : IsAmong q.0 f.ports × (is_value node q.0 ≡ true) = filter-among (is_value node) q.0 f.ports q.1 in
     let s : (((q.0).node == node) ≡ true) × ((q.0).held ≡ true) = split ((q.0).node == node) (q.0).held t.1 in
     (q.0, t.0, sym q.2, eqb-true (q.0).node node s.0, s.1)
