@@ -76,7 +76,7 @@ amid-is s w y a =
       counted = λ k. count-out (is k) there y ∙ u.counts y ends k;
       size = elim (u.within y ends) as (λ z. out any (moved_by s ms) y (had_on there y) ≤ most_on s.fixed y + 1) [
         | inl p ↦ plus (out any (moved_by s ms) y (had_on there y)) (most_on s.fixed y)
-              (subst (λ (f : Fixed). out any (moved_by s ms) y (had_on there y) ≤ most_on f y) same p)
+            (subst (λ (f : Fixed). out any (moved_by s ms) y (had_on there y) ≤ most_on f y) same p)
         | inr p ↦ subst (λ n. n ≤ most_on s.fixed y + 1) (sym (length-out there y))
             (sums (length ((moved_by s ms).waiting y)) (length (had_on there y)) (length ((moved_by s ms).returned y)) (length ((moved_by s ms).in_hand y))
             (buffer_on s.fixed y) (borrow_limit_on s.fixed y) (one_if (evicts_next y d)) (one_if (has_evicted y d))

@@ -176,8 +176,11 @@ gone-may t port y k r there =
     (subst (λ q. any_at q t.fixed.ports ≡ true) (sym (eqb-true y.sender port goes)) there)))).1))
     (λ other. (
       λ e. (any_others port y.sender t.fixed.ports (may.0 e)).0,
-      ((may.1).0, subst (λ l. 1 ≤ count (is k) (loaned_in (t.fixed.handles (may.1).0) y.sender)
-      + one_if (nat_le l k)) (put_at-else t.fixed.loans port 0 y.sender other) (may.1).1),
+      (
+        (may.1).0,
+        subst (λ l. 1 ≤ count (is k) (loaned_in (t.fixed.handles (may.1).0) y.sender)
+            + one_if (nat_le l k)) (put_at-else t.fixed.loans port 0 y.sender other) (may.1).1,
+      ),
     )))
     (λ u may. may)
 
@@ -247,9 +250,11 @@ puts-along y = record {
   none = λ s k. (k, uses-none s.fixed s.fixed y (λ j may. may));
   both = λ s t u bs cs p q k.
       let a : Kept t × Uses s.fixed t.fixed y (all_put_on y bs) = p k in
-      let b : Kept u × Uses t.fixed u.fixed y (all_put_on y cs) = q a.0 in
-      (b.0, subst (Uses s.fixed u.fixed y) (sym (flat_map-append (put_on y) bs cs)) (uses-both s.fixed t.fixed u.fixed y (all_put_on y bs)
-      (all_put_on y cs) a.1 b.1));
+      let b : Kept u × Uses t.fixed u.fixed y (all_put_on y cs) = q a.0 in (
+        b.0,
+        subst (Uses s.fixed u.fixed y) (sym (flat_map-append (put_on y) bs cs)) (uses-both s.fixed t.fixed u.fixed y (all_put_on y bs)
+            (all_put_on y cs) a.1 b.1),
+      );
   nodes = λ s x k. (members-kept s x k, uses-none s.fixed s.fixed y (λ j may. may));
   port = λ s node role id o k.
       let p : Port = new_port s.fixed node role id o in

@@ -19,10 +19,11 @@ use Rattle.iox_model.specs.Weaves.{at_work}
 use Rattle.iox_model.proofs.MapLemmas.{either, same_way-true}
 use Rattle.iox_reachable.proofs.Sound.{IsPortOf, IsWithin}
 use Rattle.iox_ledger.specs.LedgerLaws.{out_on}
+use Rattle.iox_ledger.proofs.Outstanding.{outstanding-apart}
 use Rattle.iox_ledger.proofs.Emptied.{other-left}
-use Rattle.iox_ledger.proofs.Ranges.{no-longer, range-apart}
+use Rattle.iox_ledger.proofs.Ranges.{no-longer}
 use Rattle.iox_ledger.proofs.Truths.{never, by_cases, both_true}
-use Rattle.iox_ledger.proofs.Lists.{IsAmong, among-append, filter-among, find-among, no_repeats-filter, among-front, among-back}
+use Rattle.iox_ledger.proofs.Lists.{IsAmong, among-append, filter-among, find-among, among-front, among-back}
 use Rattle.iox_ledger.proofs.Views.{view}
 use Rattle.iox_model.proofs.WholeLemmas.{some-is}
 use Rattle.iox_pools.specs.PoolLaws.{IsUnreduced}
@@ -188,7 +189,7 @@ keeps_less s n h p bounds kinds ledger loan back is enough =
         let live : is_live s.fixed w ≡ true = is_live_way s.fixed w kinds.forgot from (connected s.fixed w.receiver way.to way.among way.receiver) in
         let numbers : List ℕ = range_with_len 0 (s.fixed.loans w.sender + 1) in
         at_most
-        (no-longer (outstanding_on s w) (out_on (at_work s) w) (no_repeats-filter (s.delivered w) numbers (range-apart 0 (s.fixed.loans w.sender + 1)))
+        (no-longer (outstanding_on s w) (out_on (at_work s) w) (outstanding-apart s w)
         (λ k among. ledger.out w k live (filter-among (s.delivered w) k numbers among).1))
         (out_most s n w bounds ledger (from, ap (node_of_port s.fixed) way.sender ∙ loan.of_port)
         (back w (lends-on s.fixed n h w loan a (none_forgot s.fixed n w.receiver kinds.forgot))))

@@ -1,7 +1,7 @@
 -- In each state that is left, ports keep to their pools.
 use Rattle.std.specs.Prelude.{◌≡◌, ℕ, ◌+◌, ◌≤◌, true, false, ◌&&◌, ◌==◌, List, [], ◌∷◌, ◌++◌, length, map, filter, Option, Some, None, find, ◌⊎◌}
 use Rattle.std.specs.Prelude.{refl}
-use Rattle.std.specs.List.{list_any, range_with_len}
+use Rattle.std.specs.List.{list_any}
 use Rattle.std.specs.Option.{option_map_or}
 use Rattle.std.proofs.Common.{sym, subst, ap, ◌∙◌, arith, true≢false, inl, inr}
 use Rattle.iox_model.specs.declared.kind.Role.TheVariants.{Client}
@@ -18,7 +18,7 @@ use Rattle.iox_model.specs.Makings.{new_port, with_port}
 use Rattle.iox_model.specs.Maps.{has_number}
 use Rattle.iox_model.specs.Moments.{Holds, moved, Moment}
 use Rattle.iox_model.specs.Names.{misnamed}
-use Rattle.iox_model.specs.Outstandings.{is_held, is_outstanding, is_kept}
+use Rattle.iox_model.specs.Outstandings.{is_held, is_outstanding}
 use Rattle.iox_model.specs.Peers.{port_at, node_of_port, ways_from}
 use Rattle.iox_model.specs.States.{Port, Fixed, State}
 use Rattle.iox_model.specs.Steps.{next, ends}
@@ -27,15 +27,14 @@ use Rattle.iox_model.specs.WholeCalls.{moved_by, left_by, MayCome}
 use Rattle.iox_model.proofs.WholeLemmas.{moved-fixed}
 use Rattle.iox_reachable.proofs.ServedPorts.{distinct_next}
 use Rattle.iox_ledger.proofs.Orders.{none-more}
-use Rattle.iox_ledger.proofs.Ranges.{no-longer, range-apart}
+use Rattle.iox_ledger.proofs.Ranges.{no-longer}
 use Rattle.iox_ledger.proofs.Truths.{never, one_of, none-some, by_cases, or-left, or-right}
-use Rattle.iox_ledger.proofs.Lists.{IsAmong, among-last, filter-among, find-among, any-among, among-any, distinct-no_repeats}
-use Rattle.iox_ledger.proofs.Lists.{no_repeats-filter}
+use Rattle.iox_ledger.proofs.Lists.{IsAmong, among-last, find-among, any-among, among-any, distinct-no_repeats}
 use Rattle.iox_ledger.proofs.Phases.{HasOwnPorts}
 use Rattle.iox_ledger.proofs.Views.{view}
 use Rattle.iox_pools.proofs.Holds.{HoldsOwn, holds-held}
 use Rattle.iox_pools.proofs.HoldsBeats.{fresh}
-use Rattle.iox_pools.proofs.HoldsKept.{keeps, Keeping, Follows, follows-keeping}
+use Rattle.iox_pools.proofs.HoldsKept.{keeps, Keeping, Follows, follows-keeping, kept-apart, kept-is}
 use Rattle.iox_pools.proofs.Ways.{way-of}
 use Rattle.iox_runs.proofs.Calls.{own_ports}
 use Rattle.iox_runs.proofs.Ports.{any_at, at_more, first_more, next_is_free}
@@ -174,8 +173,7 @@ made_keeps s p number rests k = record {
     new q r is none = record {
       lent = λ i e. absurd (no i e);
       fits = none-more (length (kept_in (at_work t) q)) r.pool (no-longer (kept_in (at_work t) q) []
-          (no_repeats-filter (is_kept t q []) (range_with_len 0 (s.fixed.loans q + 1)) (range-apart 0 (s.fixed.loans q + 1)))
-          (λ i a. absurd (no i (filter-among (is_kept t q []) i (range_with_len 0 (s.fixed.loans q + 1)) a).1)));
+          (kept-apart (at_work t) q) (λ i a. absurd (no i (kept-is (at_work t) q i a))));
     }
       where
         held : (i : ℕ) → HoldsOwn (view t.fixed (node_of_port t.fixed q)) q i → ⊥

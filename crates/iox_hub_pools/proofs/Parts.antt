@@ -106,9 +106,12 @@ pub was_found : (ps qs : List Port) (k : ℕ) (q : Port) → NoRepeats (map (λ 
     → (IsAmong q qs → WasPort ps q) → (p : Port) × (find (λ x. x.number == k) ps ≡ Some p) × SamePort p q
 was_found ps qs k q own e was =
     let f : IsAmong q qs × ((q.number == k) ≡ true) = find-among (λ (p : Port). p.number == k) q qs e in
-    let p : (p : Port) × IsAmong p ps × SamePort p q = was f.0 in
-    (p.0, ap (λ n. find (λ (x : Port). x.number == n) ps) (sym (eqb-true q.number k f.1) ∙ (p.2).number)
-    ∙ find-own (λ (x : Port). x.number) ps p.0 own p.1, p.2)
+    let p : (p : Port) × IsAmong p ps × SamePort p q = was f.0 in (
+      p.0,
+      ap (λ n. find (λ (x : Port). x.number == n) ps) (sym (eqb-true q.number k f.1) ∙ (p.2).number)
+          ∙ find-own (λ (x : Port). x.number) ps p.0 own p.1,
+      p.2,
+    )
 
 -- so it has the role that it had
 pub role_was : (ps qs : List Port) (k : ℕ) → NoRepeats (map (λ p. p.number) ps) → Were ps qs → any_at k qs ≡ true → role_in qs k ≡ role_in ps k

@@ -110,9 +110,9 @@ keeps-clear s u keeps clear y t k =
 has-more : (dead gone : ℕ) (ns : List ℕ) → has_number dead (ns ++ gone ∷ []) ≡ true → (has_number dead ns ≡ true) ⊎ (dead ≡ gone)
 has-more dead gone ns e =
     elim (among-append dead ns (gone ∷ []) (number-among dead (ns ++ gone ∷ []) e)) as (λ u. (has_number dead ns ≡ true) ⊎ (dead ≡ gone)) [
-  | inl a ↦ inl (among-number dead ns a)
-  | inr a ↦ inr (only a)
-]
+      | inl a ↦ inl (among-number dead ns a)
+      | inr a ↦ inr (only a)
+    ]
   where
     only : IsAmong dead (gone ∷ []) → dead ≡ gone
     only (inl e) = e

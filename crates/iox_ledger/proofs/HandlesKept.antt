@@ -22,8 +22,11 @@ with-among h g (k ∷ ks) d p = by_case (k.number == h.number) refl (with-among 
         → IsAmong g (if b then h ∷ ks else k ∷ with_handle h ks) → (g ≡ h) ⊎ (IsAmong g (k ∷ ks) × (g.number ≡ h.number → ⊥))
     by_case true e rest (inl q) = inl q
     by_case true e rest (inr q) =
-        inr (inr q, λ same. d.0 (subst (λ n. IsAmong n (map (λ x. x.number) ks)) (same ∙ sym (eqb-true k.number h.number e))
-        (among-map (λ x. x.number) g ks q)))
+        inr (
+          inr q,
+          λ same. d.0 (subst (λ n. IsAmong n (map (λ x. x.number) ks)) (same ∙ sym (eqb-true k.number h.number e))
+              (among-map (λ x. x.number) g ks q)),
+        )
     by_case false e rest (inl q) = inr (inl q, λ same. never (k.number == h.number) (eq-eqb k.number h.number (sym (ap (λ (x : Handle). x.number) q) ∙ same)) e)
     by_case false e rest (inr q) = elim (rest q) as (λ u. (g ≡ h) ⊎ (IsAmong g (k ∷ ks) × (g.number ≡ h.number → ⊥))) [
       | inl r ↦ inl r

@@ -104,9 +104,11 @@ next-fits s n (Visiting x left seen) (SeesEmpty w) own waits first p c =
     visiting-fits (view s.fixed n) n x (without_way w left) seen (fewer (view s.fixed n) n x w left p)
 next-fits s n (Visiting x left seen) (SeesWaiting w) own waits first p c =
     visiting-fits (view s.fixed n) n x (without_way w left) true (fewer (view s.fixed n) n x w left p)
-next-fits s n (Visiting x left seen) (Take w m) own waits first p c = took-fits (view s.fixed n) s.fixed n x w m left seen p
-    (p.1 w (way-among w left c.0), below s.fixed n w (subst (λ q. IsAt s.fixed.ports q n) (sym (p.1 w (way-among w left c.0)).0) p.0) c.1,
-    waits w m (first-among m (s.waiting w) first))
+next-fits s n (Visiting x left seen) (Take w m) own waits first p c = took-fits (view s.fixed n) s.fixed n x w m left seen p (
+  p.1 w (way-among w left c.0),
+  below s.fixed n w (subst (λ q. IsAt s.fixed.ports q n) (sym (p.1 w (way-among w left c.0)).0) p.0) c.1,
+  waits w m (first-among m (s.waiting w) first),
+)
 next-fits s n (Again x v left seen) (SeesEmpty w) own waits first p c =
     visiting-fits (view s.fixed n) n x (without_way v left) seen (fewer (view s.fixed n) n x v left p.0)
 next-fits s n (Again x v left seen) (Take w m) own waits first p c = took-fits (view s.fixed n) s.fixed n x v m left seen p.0

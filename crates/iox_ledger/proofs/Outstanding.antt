@@ -6,12 +6,13 @@ use Rattle.iox_model.specs.declared.way.Way.{Way}
 use Rattle.iox_model.specs.Doings.{Sending, Doing, Delivering, Evicted}
 use Rattle.iox_model.specs.Ledgers.{size_of}
 use Rattle.iox_model.specs.Outstandings.{outstanding_on}
+use Rattle.iox_model.specs.States.{State}
 use Rattle.iox_model.specs.Weaves.{World}
 use Rattle.iox_ledger.specs.LedgerLaws.{out_on, OutstandingIsCounted}
 use Rattle.iox_ledger.proofs.Orders.{same-le, le-is}
 use Rattle.iox_ledger.proofs.Counts.{count}
-use Rattle.iox_ledger.proofs.Ranges.{no-longer, range-apart, range-has}
-use Rattle.iox_ledger.proofs.Lists.{IsAmong, filter-among, among-filter, number-among, among-number, distinct-no_repeats, no_repeats-filter}
+use Rattle.iox_ledger.proofs.Ranges.{no-longer, range-apart, up-to}
+use Rattle.iox_ledger.proofs.Lists.{IsAmong, filter-among, among-filter, number-among, among-number, distinct-no_repeats, no_repeats-filter, NoRepeats}
 use Rattle.iox_ledger.proofs.Views.{View, view, node_in, mine}
 use Rattle.iox_ledger.proofs.Senders.{FitsHandles, FitsSending, Stands}
 use Rattle.iox_ledger.proofs.Worlds.{FitsCall}
@@ -63,13 +64,16 @@ delivered-below v y n r k p e = by_case (nat_le k (v.state.fixed.loans y.sender)
 
 -- ---- the law
 
+pub outstanding-apart : (s : State) (y : Way) → NoRepeats (outstanding_on s y)
+outstanding-apart s y =
+    no_repeats-filter (s.delivered y) (range_with_len 0 (s.fixed.loans y.sender + 1)) (range-apart 0 (s.fixed.loans y.sender + 1))
+
 -- where what is out is counted, and what is delivered was loaned
 pub counted-outstanding : (v : World) (y : Way) → IsCounted v y → ((k : ℕ) → v.state.delivered y k ≡ true → k ≤ v.state.fixed.loans y.sender)
     → length (outstanding_on v.state y) ≡ size_of v y + length (v.state.in_hand y)
 counted-outstanding v y counted below =
     equal (length (outstanding_on v.state y)) (length (out_on v y))
-    (no-longer (outstanding_on v.state y) (out_on v y)
-    (no_repeats-filter (v.state.delivered y) numbers (range-apart 0 (v.state.fixed.loans y.sender + 1))) is_out)
+    (no-longer (outstanding_on v.state y) (out_on v y) (outstanding-apart v.state y) is_out)
     (no-longer (out_on v y) (outstanding_on v.state y) (distinct-no_repeats (out_on v y) (counted-once v y counted)) is_outstanding)
     ∙ sym (count-all (out_on v y)) ∙ count-out any v y ∙ length-out v y
   where
@@ -82,17 +86,10 @@ counted-outstanding v y counted below =
     is_out : (k : ℕ) → IsAmong k (outstanding_on v.state y) → IsAmong k (out_on v y)
     is_out k a = number-among k (out_on v y) (sym (counted-record v y k counted) ∙ (filter-among (v.state.delivered y) k numbers a).1)
 
-    in_range : (a b : ℕ) → a ≤ b → a < 0 + (b + 1)
-    in_range a b p = omega arith
-
-    least : (a : ℕ) → 0 ≤ a
-    least a = omega arith
-
     is_outstanding : (k : ℕ) → IsAmong k (out_on v y) → IsAmong k (outstanding_on v.state y)
     is_outstanding k a =
         let e : v.state.delivered y k ≡ true = counted-record v y k counted ∙ among-number k (out_on v y) a in
-        among-filter (v.state.delivered y) k numbers
-        (range-has 0 (v.state.fixed.loans y.sender + 1) k (least k) (in_range k (v.state.fixed.loans y.sender) (below k e))) e
+        among-filter (v.state.delivered y) k numbers (up-to (v.state.fixed.loans y.sender) k (below k e)) e
 
 pub outstanding_is_counted : OutstandingIsCounted
 outstanding_is_counted s v bs y on live =

@@ -73,3 +73,7 @@ range-has a (suc n) k p q = by_case (a == k) refl (range-has (a + 1) n k)
     by_case : (b : Bool) → (a == k) ≡ b → (a + 1 ≤ k → k < a + 1 + n → IsAmong k (range_with_len (a + 1) n)) → (k ≡ a) ⊎ IsAmong k (range_with_len (a + 1) n)
     by_case true e rest = inl (sym (eqb-true a k e))
     by_case false e rest = inr (rest (next e) shift)
+
+-- the numbers up to one
+pub up-to : (n k : ℕ) → k ≤ n → IsAmong k (range_with_len 0 (n + 1))
+up-to n k p = range-has 0 (n + 1) k (omega arith) (omega arith)

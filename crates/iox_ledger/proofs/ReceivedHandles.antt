@@ -38,11 +38,11 @@ received-on y h e = by_case (same_way y (way_of h)) refl
 pub receipt-way : (x : Receiver) (w : Way) (m : Message) → w.receiver ≡ x.port → m.sender ≡ w.sender
     → (is_client x.role ≡ true → m.lane ≡ w.lane) → (is_client x.role ≡ false → w.lane ≡ 0)
     → (if same_kind (if is_client x.role then Response else ActiveRequest) ActiveRequest
-      then request_way (if is_client x.role then x.port else m.sender) x.port else response_way x.port m.lane m.sender) ≡ w
+    then request_way (if is_client x.role then x.port else m.sender) x.port else response_way x.port m.lane m.sender) ≡ w
 receipt-way x w m to from client server = by_case (is_client x.role) refl
   where
     by_case : (b : Bool) → is_client x.role ≡ b
         → (if same_kind (if b then Response else ActiveRequest) ActiveRequest
-          then request_way (if b then x.port else m.sender) x.port else response_way x.port m.lane m.sender) ≡ w
+        then request_way (if b then x.port else m.sender) x.port else response_way x.port m.lane m.sender) ≡ w
     by_case true e = λ i. record { sender = from i; receiver = sym to i; lane = client e i }
     by_case false e = λ i. record { sender = from i; receiver = sym to i; lane = sym (server e) i }

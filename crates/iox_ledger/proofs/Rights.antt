@@ -116,13 +116,13 @@ plus-sends : (v : View) (h : Handle) (port k : ℕ) → MaySend (plus (counted v
 plus-sends v h port k (inl e) = inl (inl e)
 plus-sends v h port k (inr l) =
     elim (among-last l.handle h v.handles l.among) as (λ u. MaySend v port k ⊎ ((is_loan h.kind ≡ true) × (h.port ≡ port) × (h.message.serial ≡ k))) [
-  | inl q ↦ inl (inr (record { handle = l.handle; among = q; loan = l.loan; of_port = l.of_port; serial = l.serial }))
-  | inr e ↦ inr (
-    subst (λ (g : Handle). is_loan g.kind ≡ true) e l.loan,
-    sym (ap (λ (g : Handle). g.port) e) ∙ l.of_port,
-    sym (ap (λ (g : Handle). g.message.serial) e) ∙ l.serial,
-  )
-]
+      | inl q ↦ inl (inr (record { handle = l.handle; among = q; loan = l.loan; of_port = l.of_port; serial = l.serial }))
+      | inr e ↦ inr (
+        subst (λ (g : Handle). is_loan g.kind ≡ true) e l.loan,
+        sym (ap (λ (g : Handle). g.port) e) ∙ l.of_port,
+        sym (ap (λ (g : Handle). g.message.serial) e) ∙ l.serial,
+      )
+    ]
 
 -- what is added is no loan
 plus-no_loan : (v : View) (h : Handle) (port k : ℕ) → (is_loan h.kind ≡ true → ⊥) → MaySend (plus (counted v) h) port k → MaySend v port k

@@ -36,6 +36,12 @@ pub and-first : (a : Bool) → (a && true) ≡ a
 and-first true = refl
 and-first false = refl
 
+pub and-flip : (a b : Bool) → (a && b) ≡ (b && a)
+and-flip true true = refl
+and-flip true false = refl
+and-flip false true = refl
+and-flip false false = refl
+
 pub second-fails : (a b : Bool) → b ≡ false → (a && b) ≡ false
 second-fails true b e = e
 second-fails false b e = refl

@@ -77,13 +77,13 @@ less-holds v h q k p = record { handle = p.handle; among = (without-number h p.h
 plus-holds : (v : View) (h : Handle) (q k : ℕ) → HoldsOwn (plus v h) q k → HoldsOwn v q k ⊎ ((h.port ≡ q) × (is_own h.kind ≡ true) × (h.message.serial ≡ k))
 plus-holds v h q k p =
     elim (among-last p.handle h v.handles p.among) as (λ u. HoldsOwn v q k ⊎ ((h.port ≡ q) × (is_own h.kind ≡ true) × (h.message.serial ≡ k))) [
-  | inl a ↦ inl (record { handle = p.handle; among = a; port = p.port; own = p.own; serial = p.serial })
-  | inr e ↦ inr (
-    sym (ap (λ (g : Handle). g.port) e) ∙ p.port,
-    subst (λ (g : Handle). is_own g.kind ≡ true) e p.own,
-    sym (ap (λ (g : Handle). g.message.serial) e) ∙ p.serial,
-  )
-]
+      | inl a ↦ inl (record { handle = p.handle; among = a; port = p.port; own = p.own; serial = p.serial })
+      | inr e ↦ inr (
+        sym (ap (λ (g : Handle). g.port) e) ∙ p.port,
+        subst (λ (g : Handle). is_own g.kind ≡ true) e p.own,
+        sym (ap (λ (g : Handle). g.message.serial) e) ∙ p.serial,
+      )
+    ]
 
 -- what is put in another's place was held by that
 swapped-holds : (v : View) (n : ℕ) (h old : Handle) (q k : ℕ) → NoRepeats (map (λ k. k.number) v.handles) → IsAmong old v.handles → h.port ≡ old.port

@@ -1,6 +1,6 @@
 -- What each beat adds to what a port keeps, and so every world keeps to its pools.
-use Rattle.std.specs.Prelude.{◌≡◌, ℕ, ◌+◌, ◌<◌, ◌≤◌, Bool, true, false, if◌then◌else◌, ◌==◌, nat_le, List, [], ◌∷◌, length, Option, Some, None, ◌⊎◌, refl}
-use Rattle.std.specs.List.{list_any, range_with_len}
+use Rattle.std.specs.Prelude.{◌≡◌, ℕ, ◌<◌, ◌≤◌, Bool, true, false, if◌then◌else◌, ◌==◌, nat_le, List, [], ◌∷◌, length, Option, Some, None, ◌⊎◌, refl}
+use Rattle.std.specs.List.{list_any}
 use Rattle.std.specs.Option.{option_map_or}
 use Rattle.std.proofs.Common.{sym, subst, ap, ◌∙◌, arith, eqb-true, true≢false, inl, inr}
 use Rattle.iox_model.specs.declared.way.Way.{Way}
@@ -12,7 +12,7 @@ use Rattle.iox_model.specs.Ends.{settled}
 use Rattle.iox_model.specs.Forgetting.{goes_to_dead}
 use Rattle.iox_model.specs.Loans.{Choice}
 use Rattle.iox_model.specs.Moments.{moved, Moment}
-use Rattle.iox_model.specs.Outstandings.{is_held, is_outstanding, is_kept, kept, is_dry}
+use Rattle.iox_model.specs.Outstandings.{is_held, is_outstanding, kept, is_dry}
 use Rattle.iox_model.specs.Ledgers.{serials_of_loan, under_way, kept_in}
 use Rattle.iox_model.specs.Steps.{next, ends}
 use Rattle.iox_model.specs.WireCalls.{opened}
@@ -21,9 +21,9 @@ use Rattle.iox_model.specs.Peers.{port_at, node_of_port, ways_from}
 use Rattle.iox_model.proofs.WholeLemmas.{moved-fixed}
 use Rattle.iox_ledger.specs.OnceLaws.{IsOnWire}
 use Rattle.iox_ledger.proofs.Orders.{same, same-le, less}
-use Rattle.iox_ledger.proofs.Ranges.{no-longer, range-apart}
+use Rattle.iox_ledger.proofs.Ranges.{no-longer}
 use Rattle.iox_ledger.proofs.Truths.{false_if, one_of, or-left, or-right}
-use Rattle.iox_ledger.proofs.Lists.{IsAmong, filter-among, any-among, among-any, number-among, no_repeats-filter}
+use Rattle.iox_ledger.proofs.Lists.{IsAmong, any-among, among-any, number-among}
 use Rattle.iox_ledger.proofs.Views.{View, view, IsAt}
 use Rattle.iox_ledger.proofs.Senders.{FitsOutcome, FitsDoing, Stands}
 use Rattle.iox_ledger.proofs.Settling.{settled-here, settled-else}
@@ -36,7 +36,7 @@ use Rattle.iox_pools.proofs.Spare.{fits-end}
 use Rattle.iox_pools.proofs.Ways.{way-of}
 use Rattle.iox_pools.proofs.Under.{PickIs, GivesNext, loan-serial, next-under, ends-under, next-stays, ends-same, start-under}
 use Rattle.iox_pools.proofs.Holds.{HoldsOwn, holds-held, held-holds, own-loan, made-serial, own-before, after-loans, after-more}
-use Rattle.iox_pools.proofs.HoldsKept.{keeps, under_at, under, Keeping, IsLent, IsNext, Follows, follows-keeping, under-fits, loans-is, IsPut, is-put}
+use Rattle.iox_pools.proofs.HoldsKept.{keeps, under_at, under, Keeping, IsLent, IsNext, Follows, follows-keeping, under-fits, loans-is, IsPut, is-put, kept-apart, kept-is}
 
 -- ---- the call of the port's node
 
@@ -120,7 +120,7 @@ moved-kept w m d mo q k p fits is doing c e = elim (one_of (is_held (moved w.sta
         ⊎ (has_number k (under w q) ≡ true)
     out r = elim (moved-delivered w.state mo r.0 k r.2) as (λ z. (keeps w.state q k ≡ true) ⊎ (has_number k (under w q) ≡ true)) [
       | inl h ↦ inl (or-right (is_held w.state.fixed q k) (is_outstanding w.state q k)
-            (among-any (λ y. w.state.delivered y k) r.0 (ways_from w.state.fixed q) r.1 h))
+          (among-any (λ y. w.state.delivered y k) r.0 (ways_from w.state.fixed q) r.1 h))
       | inr h ↦ delivered-keeps w m d r.0 q k p is r.1 doing (is-put w.state m d mo r.0 k (doing-is w m d fits doing) c h)
     ]
 
@@ -305,8 +305,8 @@ weave-ports w v (b ∷ bs) weave fits = weave-ports weave.0 v bs weave.2 (beat-f
 opened-keeping : (s : State) (q : ℕ) (p : Port) → Keeping (at_work (opened s)) q p
 opened-keeping s q p = record {
   lent = λ k e. absurd (nothing k e);
-  fits = at-most (no-longer (kept_in (at_work (opened s)) q) [] (no_repeats-filter (is_kept (opened s) q []) (range_with_len 0 1) (range-apart 0 1))
-      (λ k a. absurd (nothing k (filter-among (is_kept (opened s) q []) k (range_with_len 0 1) a).1))) (least p.pool);
+  fits = at-most (no-longer (kept_in (at_work (opened s)) q) [] (kept-apart (at_work (opened s)) q)
+      (λ k a. absurd (nothing k (kept-is (at_work (opened s)) q k a)))) (least p.pool);
 }
   where
     none : (ws : List Way) → list_any (λ y. false) ws ≡ false
@@ -331,8 +331,9 @@ on-wire-keeping s v bs q p on is =
 
 -- the next serial is none of those kept, where no call holds it
 pub fresh : (v : World) (q : ℕ) (p : Port) → Keeping v q p → under v q ≡ [] → has_number (v.state.fixed.loans q) (kept_in v q) ≡ false
-fresh v q p keeping none = false_if (has_number k (kept_in v q)) (λ e. old (one_of (has_number k (under v q)) (keeps v.state q k)
-    (filter-among (is_kept v.state q (under v q)) k (range_with_len 0 (v.state.fixed.loans q + 1)) (number-among k (kept_in v q) e)).1))
+fresh v q p keeping none =
+    false_if (has_number k (kept_in v q))
+    (λ e. old (one_of (has_number k (under v q)) (keeps v.state q k) (kept-is v q k (number-among k (kept_in v q) e))))
   where
     k : ℕ
     k = v.state.fixed.loans q

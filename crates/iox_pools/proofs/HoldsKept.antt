@@ -15,7 +15,7 @@ use Rattle.iox_model.specs.Weaves.{World}
 use Rattle.iox_model.specs.Peers.{node_of_port}
 use Rattle.iox_model.proofs.MapLemmas.{same_way-true}
 use Rattle.iox_ledger.proofs.Orders.{at-most, same}
-use Rattle.iox_ledger.proofs.Ranges.{no-longer, range-apart, range-has}
+use Rattle.iox_ledger.proofs.Ranges.{no-longer, range-apart, up-to}
 use Rattle.iox_ledger.proofs.Truths.{one_of, or-left, or-right}
 use Rattle.iox_ledger.proofs.Lists.{IsAmong, NoRepeats, filter-among, among-filter, way-among, among-number, no_repeats-filter}
 use Rattle.iox_ledger.proofs.Views.{View, view, IsAt, mine}
@@ -64,14 +64,14 @@ equal a b c p q = omega arith
 -- what is kept, and was loaned, is among the kept
 in-kept : (w : World) (q k : ℕ) → is_kept w.state q (under w q) k ≡ true → k ≤ w.state.fixed.loans q → IsAmong k (kept_in w q)
 in-kept w q k e p =
-    among-filter (is_kept w.state q (under w q)) k (range_with_len 0 (w.state.fixed.loans q + 1))
-    (range-has 0 (w.state.fixed.loans q + 1) k (least k) (below k (w.state.fixed.loans q) p)) e
-  where
-    least : (a : ℕ) → 0 ≤ a
-    least a = omega arith
+    among-filter (is_kept w.state q (under w q)) k (range_with_len 0 (w.state.fixed.loans q + 1)) (up-to (w.state.fixed.loans q) k p) e
 
-    below : (a b : ℕ) → a ≤ b → a < 0 + (b + 1)
-    below a b p = omega arith
+pub kept-apart : (w : World) (q : ℕ) → NoRepeats (kept_in w q)
+kept-apart w q =
+    no_repeats-filter (is_kept w.state q (under w q)) (range_with_len 0 (w.state.fixed.loans q + 1)) (range-apart 0 (w.state.fixed.loans q + 1))
+
+pub kept-is : (w : World) (q k : ℕ) → IsAmong k (kept_in w q) → is_kept w.state q (under w q) k ≡ true
+kept-is w q k a = (filter-among (is_kept w.state q (under w q)) k (range_with_len 0 (w.state.fixed.loans q + 1)) a).1
 
 -- the call's message is among the kept
 under-kept : (w u : World) (q : ℕ) (p : Port) (k : ℕ) → Follows w u q p → has_number k (under w q) ≡ true → IsAmong k (kept_in w q)
@@ -107,9 +107,9 @@ all-old w u q p f = by_list (under u q) f.call
     by_list [] each = inl (λ k e. absurd (true≢false (sym e)))
     by_list (x ∷ xs) each =
         elim (each x (first x xs)) as (λ z. ((k : ℕ) → has_number k (x ∷ xs) ≡ true → has_number k (under w q) ≡ true) ⊎ (length (kept_in w q) < p.pool)) [
-      | inl e ↦ inl (λ k g. elim (each k g) as (λ z. has_number k (under w q) ≡ true) [ inl h ↦ h | inr h ↦ absurd (nothing x (under w q) h.1 e) ])
-      | inr e ↦ inr e.2
-    ]
+          | inl e ↦ inl (λ k g. elim (each k g) as (λ z. has_number k (under w q) ≡ true) [ inl h ↦ h | inr h ↦ absurd (nothing x (under w q) h.1 e) ])
+          | inr e ↦ inr e.2
+        ]
 
 -- So the port's messages stay within its pool.
 pub follows-keeping : (w u : World) (q : ℕ) (p : Port) → Follows w u q p → Keeping w q p → Keeping u q p
@@ -117,7 +117,7 @@ follows-keeping w u q p f keeping = record {
   lent = λ k e. lent k (f.kept k e);
   fits = elim (all-old w u q p f) as (λ z. length (kept_in u q) ≤ p.pool) [
     | inl old ↦ at-most (length (kept_in u q)) (length (kept_in w q)) p.pool
-          (no-longer (kept_in u q) (kept_in w q) apart (λ k a. keeps-kept w u q p k f keeping (was old k (split k a)))) keeping.fits
+        (no-longer (kept_in u q) (kept_in w q) apart (λ k a. keeps-kept w u q p k f keeping (was old k (split k a)))) keeping.fits
     | inr room ↦ one-more (length (kept_in u q)) (length (kept_in w q)) p.pool
         (no-longer (kept_in u q) (w.state.fixed.loans q ∷ kept_in w q) apart (λ k a. new k (split k a))) room
   ];
@@ -135,12 +135,10 @@ follows-keeping w u q p f keeping = record {
     lent k (inr e) = f.stays k e
 
     apart : NoRepeats (kept_in u q)
-    apart = no_repeats-filter (is_kept u.state q (under u q)) (range_with_len 0 (u.state.fixed.loans q + 1)) (range-apart 0 (u.state.fixed.loans q + 1))
+    apart = kept-apart u q
 
     split : (k : ℕ) → IsAmong k (kept_in u q) → (has_number k (under u q) ≡ true) ⊎ (keeps u.state q k ≡ true)
-    split k a =
-        one_of (has_number k (under u q)) (keeps u.state q k)
-        (filter-among (is_kept u.state q (under u q)) k (range_with_len 0 (u.state.fixed.loans q + 1)) a).1
+    split k a = one_of (has_number k (under u q)) (keeps u.state q k) (kept-is u q k a)
 
     was : ((k : ℕ) → has_number k (under u q) ≡ true → has_number k (under w q) ≡ true) → (k : ℕ) → (has_number k (under u q) ≡ true)
         ⊎ (keeps u.state q k ≡ true)

@@ -21,7 +21,7 @@ use Rattle.iox_model.specs.Peers.{ports_of_role}
 use Rattle.iox_model.proofs.MapLemmas.{either}
 use Rattle.iox_model.proofs.WholeLemmas.{or_else-none}
 use Rattle.iox_reachable.specs.Worlds.{IsServed}
-use Rattle.iox_ledger.proofs.Orders.{less}
+use Rattle.iox_ledger.proofs.Orders.{less, at-most}
 use Rattle.iox_ledger.proofs.Counts.{count-filter, count, one_if, count-cons, count-last}
 use Rattle.iox_ledger.proofs.Truths.{none-some}
 use Rattle.iox_ledger.proofs.Lists.{IsAmong, among-last, filter-among}
@@ -41,13 +41,10 @@ IsWithin f = Within f.limits f.ports
 
 within-filter : (l : Limits) (ports : List Port) (keep : Port → Bool) → Within l ports → Within l (filter keep ports)
 within-filter l ports keep p = record {
-  most = λ role. less (count-filter (λ q. same_role q.role role) keep ports) (p.most role);
+  most = λ role. at-most _ _ _ (count-filter (λ q. same_role q.role role) keep ports) (p.most role);
   lanes = λ q a. p.lanes q (filter-among keep q ports a).0;
   some = p.some;
 }
-  where
-    less : {a b c : ℕ} → a ≤ b → b ≤ c → a ≤ c
-    less {a} {b} {c} p q = omega arith
 
 dropped-role : (port : ℕ) (p : Port) → (port_dropped port p).role ≡ p.role
 dropped-role port p = either (λ (q : Port). q.role ≡ p.role) (p.number == port) (record p { held = false }) p (λ u. refl) (λ u. refl)

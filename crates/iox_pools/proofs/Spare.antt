@@ -1,6 +1,6 @@
 -- How many handles of each kind a port has, and that a call under way finds its counts as it did at
 -- its tests.
-use Rattle.std.specs.Prelude.{◌≡◌, ℕ, suc, ◌+◌, ◌*◌, ◌-◌, ◌<◌, ◌≤◌, Bool, true, false, ◌&&◌, ◌||◌, if◌then◌else◌, ◌==◌, List, [], ◌∷◌, ◌++◌, length, map, filter, Some, find, ⊤, refl}
+use Rattle.std.specs.Prelude.{◌≡◌, ℕ, ◌+◌, ◌*◌, ◌-◌, ◌<◌, ◌≤◌, Bool, true, false, ◌&&◌, ◌||◌, if◌then◌else◌, ◌==◌, List, [], ◌∷◌, ◌++◌, length, map, filter, Some, find, ⊤, refl}
 use Rattle.std.proofs.Common.{sym, subst, ap, ◌∙◌, arith, true≢false, eqb-true, inl, inr}
 use Rattle.iox_model.specs.declared.kind.Kind.{Kind}
 use Rattle.iox_model.specs.declared.kind.Kind.TheVariants.{RequestMutUninit, RequestMut, ResponseMutUninit, ResponseMut, PendingResponse, ActiveRequest, Response}
@@ -18,7 +18,9 @@ use Rattle.iox_model.specs.Messages.{Message}
 use Rattle.iox_model.specs.Names.{is_port}
 use Rattle.iox_model.specs.Counts.{sent_handle, holding}
 use Rattle.iox_model.proofs.MapLemmas.{either}
-use Rattle.iox_ledger.proofs.Counts.{count-with, count, one_if, count-cons, count-last, count-less}
+use Rattle.iox_ledger.proofs.Truths.{and-flip}
+use Rattle.iox_ledger.proofs.Tallies.{filter-twice, filter-same}
+use Rattle.iox_ledger.proofs.Counts.{count-with, count, one_if, count-last, count-less}
 use Rattle.iox_ledger.proofs.Orders.{at-most}
 use Rattle.iox_ledger.proofs.Lists.{IsAmong, NoRepeats, among-last}
 use Rattle.iox_ledger.proofs.Views.{View, view, IsAt, role_in, plus, counted, lends_one, swapped, less, taken_handle, after_call}
@@ -62,24 +64,8 @@ abbrev pub counts : View → ℕ → (Kind → Bool) → ℕ
 counts v port test = count (λ h. (h.port == port) && test h.kind) v.handles
 
 pub count-both : {A : Type 0} (a b : A → Bool) (xs : List A) → count b (filter a xs) ≡ count (λ x. a x && b x) xs
-count-both a b [] = refl
-count-both a b (x ∷ xs) = by_case (a x) (count-both a b xs)
-  where
-    again : (c : Bool) (n : ℕ) → n ≡ count (λ y. a y && b y) xs
-        → one_if c + n ≡ length (if c then x ∷ filter (λ y. a y && b y) xs else filter (λ y. a y && b y) xs)
-    again true n e = ap (λ k. 1 + k) e ∙ one (count (λ y. a y && b y) xs)
-      where
-        one : (k : ℕ) → 1 + k ≡ suc k
-        one k = omega arith
-    again false n e = none n ∙ e
-      where
-        none : (k : ℕ) → 0 + k ≡ k
-        none k = omega arith
-
-    by_case : (c : Bool) → count b (filter a xs) ≡ count (λ y. a y && b y) xs
-        → count b (if c then x ∷ filter a xs else filter a xs) ≡ length (if c && b x then x ∷ filter (λ y. a y && b y) xs else filter (λ y. a y && b y) xs)
-    by_case true e = count-cons b x (filter a xs) ∙ again (b x) (count b (filter a xs)) e
-    by_case false e = e
+count-both a b xs =
+    ap length (filter-twice b a xs ∙ filter-same (λ x. b x && a x) (λ x. a x && b x) xs (λ x p. and-flip (b x) (a x)))
 
 -- what the model counts is what the view counts
 pub count-is : (f : Fixed) (n port : ℕ) (test : Kind → Bool) → IsAt f.ports port n → count_of f port test ≡ counts (view f n) port test

@@ -115,8 +115,14 @@ comes-about plan e = (
   beats_by first plan,
   (
     served,
-    (narrow, λ words sender receiver. actions.FollowBackpressureStrategy, process 1, set_up [], is_set_up [],
-    is_run_to (service narrow) (set_up []) (is_set_up []) [] refl refl),
+    (
+      narrow,
+      λ words sender receiver. actions.FollowBackpressureStrategy,
+      process 1,
+      set_up [],
+      is_set_up [],
+      is_run_to (service narrow) (set_up []) (is_set_up []) [] refl refl,
+    ),
     refl,
   ),
   is_weave first plan (beats_by first plan) e refl,

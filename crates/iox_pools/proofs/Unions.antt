@@ -4,6 +4,8 @@ use Rattle.std.specs.List.{list_any}
 use Rattle.std.proofs.Common.{sym, subst, arith, eqb-true, inl, inr}
 use Rattle.std.proofs.lemmas.List.{length-append}
 use Rattle.std.proofs.Math.Nat.{suc-mul}
+use Rattle.iox_ledger.proofs.Truths.{false_if}
+use Rattle.iox_ledger.proofs.Orders.{zero-le}
 use Rattle.iox_ledger.proofs.Counts.{count, one_if, count-cons, count-none}
 use Rattle.iox_ledger.proofs.Lists.{IsAmong, NoRepeats}
 
@@ -35,12 +37,9 @@ count-any test most (w ∷ ws) xs f =
 -- ---- numbers that stand in a list
 
 absent : (n : ℕ) (ns : List ℕ) → (IsAmong n ns → ⊥) → count (λ k. n == k) ns ≤ 0
-absent n [] f = omega arith
-absent n (k ∷ ks) f = by_case (n == k) refl (absent n ks (λ p. f (inr p)))
-  where
-    by_case : (b : Bool) → (n == k) ≡ b → count (λ j. n == j) ks ≤ 0 → length (if b then k ∷ filter (λ j. n == j) ks else filter (λ j. n == j) ks) ≤ 0
-    by_case true e p = absurd (f (inl (eqb-true n k e)))
-    by_case false e p = p
+absent n ns f =
+    zero-le (count (λ k. n == k) ns) 0
+    (count-none (λ k. n == k) ns (λ k a. false_if (n == k) (λ e. f (subst (λ j. IsAmong j ns) (sym (eqb-true n k e)) a))))
 
 pub count-equal : (n : ℕ) (ns : List ℕ) → NoRepeats ns → count (λ k. n == k) ns ≤ 1
 count-equal n [] d = omega arith

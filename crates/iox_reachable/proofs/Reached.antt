@@ -110,9 +110,11 @@ over_sound w node payload d o is ended p =
       on_wire = settled_on_wire s node payload o p.on_wire;
       distinct = subst (λ ps. AreDistinct (map (λ (q : Port). q.number) ps)) (sym (settled_ports s node payload o p.on_wire p.own fits).ports) p.distinct;
       own = settled_own s node payload o p.on_wire p.own fits;
-      calls = put_sound t w.doing node None
-          (within_kept s t node None (settled_ports s node payload o p.on_wire p.own fits) (λ v of_node. settled_waiting s node payload o p.on_wire
-          v) (ended_within s node d o ended mine.0), tt)
+      calls = put_sound t w.doing node None (
+        within_kept s t node None (settled_ports s node payload o p.on_wire p.own fits) (λ v of_node. settled_waiting s node payload o p.on_wire
+            v) (ended_within s node d o ended mine.0),
+        tt,
+      )
           (λ n other. sound_kept s t n (w.doing n) (settled_leaves s node payload o n p.on_wire p.own fits other) (p.calls n));
     }
 

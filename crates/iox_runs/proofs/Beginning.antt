@@ -151,7 +151,7 @@ receives_holds f n (ThePort p) q suited =
 receives_holds f n (TheHandle h) q suited =
     visiting_holds f (record { port = h.port; role = Client; lane = h.lane; request = h.request }) (pending_ways f h) false (
       sym ((q.0).pending (or-rest (same_kind h.kind kinds.Server) (same_kind h.kind PendingResponse) suited
-      (or-false (same_kind h.kind kinds.Client) (same_kind h.kind kinds.Server) (q.0).value).1)),
+          (or-false (same_kind h.kind kinds.Client) (same_kind h.kind kinds.Server) (q.0).value).1)),
       λ e. absurd (true≢false e),
     )
 

@@ -112,8 +112,10 @@ pub value_rests : (s : State) (port : ℕ) → Rested s → Rested (with_fixed s
 value_rests s port r = record {
   fixed = record {
     hub = (r.fixed).hub;
-    numbered = (subst AreDistinct (sym (same_numbers port s.fixed.ports)) ((r.fixed).numbered).0,
-        same_below s.fixed.next_number port s.fixed.ports ((r.fixed).numbered).1);
+    numbered = (
+      subst AreDistinct (sym (same_numbers port s.fixed.ports)) ((r.fixed).numbered).0,
+      same_below s.fixed.next_number port s.fixed.ports ((r.fixed).numbered).1,
+    );
     handles = λ n. record {
       apart = ((r.fixed).handles n).apart;
       each = λ h among.

@@ -88,7 +88,7 @@ nothing_between : (s : State) (gone r : ℕ) → Owned s → any_at gone s.fixed
 nothing_between s gone r o there same =
     false_if (waits_between s gone r) (λ waits.
     let lane : (lane : ℕ) × IsAmong lane (range_with_len 0 (lanes_between s.fixed r))
-        × (not (is_empty (s.waiting (record { sender = gone; receiver = r; lane = lane }))) ≡ true)
+    × (not (is_empty (s.waiting (record { sender = gone; receiver = r; lane = lane }))) ≡ true)
     = any-among (λ lane. not (is_empty (s.waiting (record { sender = gone; receiver = r; lane = lane })))) (range_with_len 0 (lanes_between s.fixed r)) waits in
     let y : Way = record { sender = gone; receiver = r; lane = lane.0 } in
     let m : (m : Message) × IsAmong m (s.waiting y) = some_there (s.waiting y) lane.2 in
@@ -195,7 +195,7 @@ not_lost_stays s gone y o there to kept =
           (λ u. ap (has_number y.sender) (sym (expired_now s gone y.receiver o there to)) ∙ now) (λ u. refl),
       elim (once_is s gone y.receiver y.sender now) as (λ u. is_lost s.fixed.ports s.fixed.expired y ≡ false) [
         | inl q ↦ kept_if (any_at y.sender s.fixed.ports) (has_number y.sender (s.fixed.expired y.receiver))
-              (λ u. among-number y.sender (s.fixed.expired y.receiver) q)
+            (λ u. among-number y.sender (s.fixed.expired y.receiver) q)
         | inr e ↦
             kept_if (any_at y.sender s.fixed.ports) (has_number y.sender (s.fixed.expired y.receiver))
             (λ u. absurd (true≢false (sym there ∙ ap (λ k. any_at k s.fixed.ports) (sym e) ∙ u)))
