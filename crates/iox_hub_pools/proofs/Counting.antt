@@ -35,7 +35,7 @@ use Rattle.iox_runs.proofs.Calls.{own_ports}
 use Rattle.iox_runs.proofs.Ports.{first_more}
 use Rattle.iox_runs.proofs.Rests.{Rests}
 use Rattle.iox_runs.proofs.Settling.{Calm}
-use Rattle.iox_hub_pools.proofs.Inductions.{IsKept}
+use Rattle.iox_hub_pools.proofs.Inductions.{IsKeptCalm}
 use Rattle.iox_hub_pools.proofs.Goings.{Any, any_onward, Going, going_start, going_next}
 use Rattle.iox_hub_pools.proofs.Parts.{Leaves, settled_leaves, role_was}
 use Rattle.iox_hub_pools.proofs.Handles.{hub_view, end_fits, settled_handles}
@@ -195,7 +195,7 @@ made_kinds s node role id o memory rests allowed k = record {
 abbrev pub KindsOf : State → Type 0
 KindsOf s = Kinds s.fixed
 
-pub kinds_kept : IsKept KindsOf
+pub kinds_kept : IsKeptCalm KindsOf
 kinds_kept = record {
   first = λ l acts id. record {
     kinds = λ n. record { suits = λ h a. absurd a; pending = λ port. none _ };

@@ -1,8 +1,7 @@
 -- What is so as a service is created, and stays so with each step where all is calm, is so of each
 -- state that is left.
-use Rattle.std.specs.Prelude.{◌≡◌, ℕ, Bool, List, None}
+use Rattle.std.specs.Prelude.{◌≡◌, ℕ, Bool, None}
 use Rattle.iox_types.specs.declared.identifiers.system_id.UniqueSystemId.{UniqueSystemId}
-use Rattle.iox_model.specs.declared.backpressure.BackpressureAction.{BackpressureAction}
 use Rattle.iox_model.specs.declared.kind.Role.{Role}
 use Rattle.iox_model.specs.Commands.{Reply, Call, Options}
 use Rattle.iox_model.specs.Counts.{with_fixed}
@@ -10,26 +9,24 @@ use Rattle.iox_model.specs.Joins.{with_members}
 use Rattle.iox_model.specs.Makings.{making_refusal, new_port, with_port}
 use Rattle.iox_model.specs.Names.{misnamed}
 use Rattle.iox_model.specs.Runs.{created}
-use Rattle.iox_model.specs.Settings.{Limits}
 use Rattle.iox_model.specs.States.{Members, State}
 use Rattle.iox_model.specs.WholeCalls.{IsDone}
-use Rattle.iox_reachable.proofs.Inductions as inductions
+use Rattle.iox_reachable.proofs.Inductions.{IsKept, IsFirst}
 use Rattle.iox_runs.specs.Lefts.{IsLeft}
 use Rattle.iox_runs.proofs.Along as along
 use Rattle.iox_runs.proofs.Runs.{calm_kept, created_calm}
 use Rattle.iox_runs.proofs.Settling.{Calm}
 
--- It is so as a service is created, and no step makes it false: not one of the nodes alone, nor the
--- making of a port, nor a whole call.
-pub record IsKept (P : State → Type 0) : Type 0 where
-  pub first : (l : Limits) (acts : List ℕ → ℕ → ℕ → BackpressureAction) (id : UniqueSystemId) → P (created l acts id)
+-- It is so as a service is created, and no step makes it false where all is calm.
+pub record IsKeptCalm (P : State → Type 0) : Type 0 where
+  pub first : IsFirst P
   pub nodes : (s : State) (x : Members) → P s → P (with_members s x)
   pub makes : (s : State) (node : ℕ) (role : Role) (id : UniqueSystemId) (o : Options) (memory : Bool) → Calm s
       → making_refusal s.fixed role o memory ≡ None → P s → P (with_fixed s (with_port s.fixed (new_port s.fixed node role id o)))
   pub calls : (s : State) (node : ℕ) (call : Call) (reply : Reply) (t : State) → Calm s → Calm t
       → misnamed s.fixed node call ≡ None → IsDone s node call reply t → P s → P t
 
-with_calm : (P : State → Type 0) → IsKept P → inductions.IsKept (λ s. Calm s × P s)
+with_calm : (P : State → Type 0) → IsKeptCalm P → IsKept (λ s. Calm s × P s)
 with_calm P k = record {
   nodes = λ s x u p. (calm_kept.nodes s x u p.0, k.nodes s x p.1);
   makes = λ s node role id o memory allowed p.
@@ -40,6 +37,6 @@ with_calm P k = record {
 }
 
 -- So it is so of each state that is left.
-pub left_keeps : (P : State → Type 0) (s : State) → IsKept P → IsLeft s → P s
+pub left_keeps : (P : State → Type 0) (s : State) → IsKeptCalm P → IsLeft s → P s
 left_keeps P s k left =
     (along.left_keeps (λ t. Calm t × P t) (with_calm P k) (λ l acts id. (created_calm l acts id, k.first l acts id)) s left).1

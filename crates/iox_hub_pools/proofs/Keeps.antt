@@ -41,7 +41,7 @@ use Rattle.iox_runs.proofs.Ports.{any_at, at_more, first_more, next_is_free}
 use Rattle.iox_runs.proofs.Rests.{Rests}
 use Rattle.iox_runs.proofs.Settling.{Calm}
 use Rattle.iox_hub_pools.specs.PoolsRest.{PoolsRestWithin, NextRestsFresh}
-use Rattle.iox_hub_pools.proofs.Inductions.{IsKept, left_keeps}
+use Rattle.iox_hub_pools.proofs.Inductions.{IsKeptCalm, left_keeps}
 use Rattle.iox_hub_pools.proofs.Goings.{Any, any_onward, Going, going_start, going_next, Recorded, moved_recorded}
 use Rattle.iox_hub_pools.proofs.Follows.{calls, start_follows, next_follows, nothing}
 use Rattle.iox_hub_pools.proofs.Parts.{WasPort, SamePort, same_port, was_found, was_way, Leaves, settled_leaves}
@@ -191,7 +191,7 @@ made_keeps s p number rests k = record {
 
 -- ---- over runs
 
-pub keeps_to : IsKept KeepsTo
+pub keeps_to : IsKeptCalm KeepsTo
 keeps_to = record {
   first = λ l acts id. record { recorded = λ y k e. absurd (true≢false (sym e)); keeping = λ q p is. absurd (none-some p is) };
   nodes = λ s x k. record { recorded = k.recorded; keeping = λ q p is. record { lent = (k.keeping q p is).lent; fits = (k.keeping q p is).fits } };

@@ -16,8 +16,8 @@ use Rattle.iox_ledger.proofs.Orders.{at-most, same-le, less-le}
 use Rattle.iox_ledger.proofs.Counts.{count-gone, count-swap, count, one_if, count-last, count-less, one-at-most}
 use Rattle.iox_ledger.proofs.Truths.{never, by_cases}
 use Rattle.iox_ledger.proofs.Lists.{IsAmong, among-last, filter-among}
-use Rattle.iox_ledger.proofs.Views.{way_of-receiver}
-use Rattle.iox_runs.proofs.Ports.{any_at, node_in}
+use Rattle.iox_ledger.proofs.Views.{way_of-receiver, node_in}
+use Rattle.iox_runs.proofs.Ports.{any_at}
 use Rattle.iox_runs.proofs.Holding.{is_lost}
 use Rattle.iox_runs.proofs.Beginning.{KeptHandle}
 use Rattle.iox_runs.proofs.Owning.{limit_in, had_in, Holdings}

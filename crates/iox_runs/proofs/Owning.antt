@@ -22,10 +22,10 @@ use Rattle.iox_ledger.proofs.Orders.{same, at-most}
 use Rattle.iox_ledger.proofs.Lists.{IsAmong, among-last, map-among, way-among, rest-among, length-rest}
 use Rattle.iox_ledger.proofs.Phases.{target-of}
 use Rattle.iox_ledger.proofs.Senders.{IsMade}
-use Rattle.iox_ledger.proofs.Views.{role_in}
+use Rattle.iox_ledger.proofs.Views.{role_in, node_in}
 use Rattle.iox_reachable.proofs.Kept.{from_own}
 use Rattle.iox_reachable.proofs.Sound.{IsPortOf, Fits}
-use Rattle.iox_runs.proofs.Ports.{any_at, node_in, at_below}
+use Rattle.iox_runs.proofs.Ports.{any_at, at_below}
 use Rattle.iox_runs.proofs.Rests.{Rests}
 use Rattle.iox_runs.proofs.Holding.{is_lost, IsOther, SendFits, WaitFits, WaitsFit, HoldsIn}
 use Rattle.iox_runs.proofs.Beginning.{KeptHandle}

@@ -21,8 +21,8 @@ use Rattle.iox_ledger.proofs.Orders.{zero-le, least, le-from}
 use Rattle.iox_ledger.proofs.Truths.{false_if, never, by_cases, or-false}
 use Rattle.iox_ledger.proofs.Lists.{IsAmong, any-among, among-last, number-among, among-number, length-none, rest-among}
 use Rattle.iox_ledger.proofs.Senders.{IsMade}
-use Rattle.iox_ledger.proofs.Views.{role_in}
-use Rattle.iox_runs.proofs.Ports.{any_at, others_than, node_in, any_others, first_others, any_stay, at_below}
+use Rattle.iox_ledger.proofs.Views.{role_in, node_in}
+use Rattle.iox_runs.proofs.Ports.{any_at, others_than, any_others, first_others, any_stay, at_below}
 use Rattle.iox_runs.proofs.Rests.{Rested}
 use Rattle.iox_runs.proofs.Gone.{others_belong}
 use Rattle.iox_runs.proofs.Holding.{is_lost, WaitFits, WaitsFit}

@@ -17,8 +17,8 @@ use Rattle.iox_model.proofs.PlayedRuns.{split}
 use Rattle.iox_ledger.proofs.Counts.{count, count-none}
 use Rattle.iox_ledger.proofs.Orders.{zero-le, less-next, same-not-less}
 use Rattle.iox_ledger.proofs.Truths.{false_if, never, by_cases, second-fails}
-use Rattle.iox_ledger.proofs.Views.{role_in}
-use Rattle.iox_runs.proofs.Ports.{any_at, node_in, any_dropped, first_dropped, at_more, at_last, first_more}
+use Rattle.iox_ledger.proofs.Views.{role_in, node_in}
+use Rattle.iox_runs.proofs.Ports.{any_at, any_dropped, first_dropped, at_more, at_last, first_more}
 use Rattle.iox_runs.proofs.Rests.{Rests, Rested}
 use Rattle.iox_runs.proofs.Holding.{is_lost, WaitFits}
 use Rattle.iox_runs.proofs.Owning.{limit_in, most_in, had_in, Has, Owned}

@@ -9,6 +9,7 @@ use Rattle.iox_model.proofs.CallLaws.{not-true}
 use Rattle.iox_model.proofs.MapLemmas.{either, eqb-refl}
 use Rattle.iox_model.proofs.PlayedRuns.{split}
 use Rattle.iox_reachable.proofs.ServedPorts.{below}
+use Rattle.iox_ledger.proofs.Views.{node_in}
 use Rattle.iox_ledger.proofs.Truths.{by_cases, or-left, or-right, or-rest, or-false, or-neither}
 
 abbrev pub any_at : ℕ → List Port → Bool
@@ -137,9 +138,6 @@ any_stay gone k (p ∷ ps) other e =
     (λ u. any_stay gone k ps other (or-rest (p.number == k) (any_at k ps) e differs)))
 
 -- ---- the ports of a node
-
-abbrev pub node_in : List Port → ℕ → ℕ
-node_in ps port = option_map_or (λ p. p.node) (first_at port ps) 0
 
 -- the port is among them, and the node's
 abbrev pub IsPortIn : List Port → ℕ → ℕ → Type 0

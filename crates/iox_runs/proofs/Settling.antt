@@ -17,11 +17,12 @@ use Rattle.iox_model.specs.Names.{is_port}
 use Rattle.iox_model.specs.Settings.{is_client}
 use Rattle.iox_model.specs.States.{Port, Handle, Fixed, State}
 use Rattle.iox_model.proofs.MapLemmas.{either}
+use Rattle.iox_ledger.proofs.Views.{node_in}
 use Rattle.iox_ledger.proofs.Orders.{le-refl, le-next, less-le, less-next}
 use Rattle.iox_ledger.proofs.Lists.{IsAmong}
 use Rattle.iox_ledger.proofs.Senders.{is_loan, IsMade}
 use Rattle.iox_reachable.proofs.Sound.{IsOwn, FitsOutcome}
-use Rattle.iox_runs.proofs.Ports.{any_at, node_in, any_dropped}
+use Rattle.iox_runs.proofs.Ports.{any_at, any_dropped}
 use Rattle.iox_runs.proofs.Rests.{FitsHandle, Rested, numbered-hub}
 use Rattle.iox_runs.proofs.Holding.{is_lost, HoldsEnd, WaitFits}
 use Rattle.iox_runs.proofs.Beginning.{KeptHandle}
