@@ -1,13 +1,14 @@
--- The parts of a step make a step, and a step keeps what its party's laws keep.
-use Rattle.std.proofs.Common.{◌≡◌, ◌∙◌, ℕ, Bool, false, List, [], ◌∷◌, ◌<◌, ◌++◌, refl, sym, subst, Option, Result, set, get_or, length}
-use Rattle.std.proofs.lemmas.List.{get_or_default}
+-- The parts of a step make a step. A step and a begin keep what their party's laws keep.
+use Rattle.std.proofs.Common.{◌≡◌, ◌∙◌, ℕ, Bool, false, List, [], ◌∷◌, ◌<◌, ◌++◌, refl, sym, subst, Option, Result, Ok, Err, OnOk, OnErr, set, get_or, length}
+use Rattle.std.proofs.lemmas.List.{get_or_default, set-get_or}
 use Rattle.std.specs.Option.{option_to_list}
+use Rattle.iox_steps.specs.Playables.{IsKeptByBegins}
 use Rattle.iox_steps.specs.declared.access.Access.{Access}
 use Rattle.iox_steps.specs.declared.access.Progress.{Progress}
 use Rattle.iox_steps.specs.declared.error.MachineError.{MachineError}
 use Rattle.iox_steps.specs.Accesses.{seen_at, words_after}
 use Rattle.iox_steps.specs.declared.machine.Entry.{Entry}
-use Rattle.iox_steps.specs.Worlds.{World, IsParty, seen_in, after_access, Stepped, Entered, AllEntered}
+use Rattle.iox_steps.specs.Worlds.{World, IsParty, with_party, seen_in, after_access, Stepped, Entered, AllEntered}
 
 module _ {P E R C : Type 0} (asks : P → Access) (leads : P → ℕ → Progress R → P → Type 0) (happens : P → ℕ → Option E) (at_rest : P → Bool) (begins : P → C → Result P MachineError → Type 0) where
   -- `looked` is the party again, as it was looked at
@@ -30,6 +31,14 @@ module _ {P E R C : Type 0} (asks : P → Access) (leads : P → ℕ → Progres
       → leads party (seen_in world (asks party)) answer after → Holds (after_access world number (asks party) after (happens party (seen_in world (asks party)))))
       → (old : World P E) (number : ℕ) (answer : Progress R) (new : World P E) → Holds old → Stepped asks leads happens at_rest begins old number answer new → Holds new
   step_keeps Holds keeps old number answer new holds step = subst Holds (sym step.leads_to) (keeps old number step.party step.after answer holds step.is_party step.under_way step.leads_on)
+
+  -- a party that refuses the call is as before
+  pub begin_keeps : (Holds : World P E → Type 0) → IsKeptByBegins Holds begins → (old : World P E) (number : ℕ) (call : C) (party after : P) {A : Type 0} (result : Result A MachineError)
+      → number < length old.parties → party ≡ get_or old.parties number party → OnOk result (begins party call (Ok after)) → OnErr result (after ≡ party)
+      → Holds old → Holds (with_party old number after)
+  begin_keeps Holds starts old number call party after (Ok done) within is begun same holds = starts old number call party after holds (within, is) begun
+  begin_keeps Holds starts old number call party after (Err error) within is begun same holds =
+      rw (same, is, set-get_or old.parties number party) holds
 
   -- one entry more
   pub all_entered_more : (old : World P E) (entries : List (Entry C)) (mid : World P E) (entry : Entry C) (new : World P E)

@@ -14,9 +14,9 @@ mod site;
 
 pub use access::{Access, Next, Party, Progress};
 pub use error::MachineError;
-pub use machine::{Entry, Machine, perform};
+pub use machine::{Entry, Machine, perform, tell};
 pub use playable::Playable;
 pub use pop::{EmptyLook, Pop};
 pub use push::{FullLook, Push, PushReply};
-pub use seat::{Moment, Popping, Pushing, Reply};
+pub use seat::{Moment, Popping, Pushing, Reply, tell_moment};
 pub use site::{QueueKind, Site};

@@ -62,9 +62,9 @@ pub fn perform(words: &mut Vec<u64>, access: Access) -> u64
     }
 }
 
-/// Adds what happened to the events, which have room for it.
+/// Writes what happened, if anything, behind the events, which have room for it.
 #[inline]
-pub(crate) fn tell<E: Copy>(events: &mut Vec<E>, event: Option<E>)
+pub fn tell<E: Copy>(events: &mut Vec<E>, event: Option<E>)
     requires { vec_len events.old < vec_capacity events.old }
     ensures { events.new.items ≡ events.old.items ++ option_to_list event }
 {
@@ -157,14 +157,7 @@ impl<P: Playable> Machine<P> {
         if party >= self.parties.len() {
             return Err(MachineError::UnknownParty);
         }
-        let playing = self.parties[party];
-        match playing.begin(call) {
-            Ok(begun) => {
-                self.parties[party] = begun;
-                Ok(())
-            }
-            Err(error) => Err(error),
-        }
+        self.parties[party].begin(call)
     }
 
     /// What the words say, wherever the parties are.

@@ -1,5 +1,4 @@
 //! A whole step of a queue's party: its next access, and what it does with what it found.
-ghost use Rattle.std.specs.Prelude.{◌≡◌, ◌<◌, ◌++◌, vec_len};
 ghost use Rattle.std.specs.Option.{option_to_list};
 ghost use Rattle.std.specs.Vec.{vec_capacity};
 ghost use Rattle.iox_steps.specs.Runs.{told as told_of};
@@ -8,20 +7,8 @@ use crate::access::{Next, Progress};
 use crate::machine::{perform, tell};
 use crate::pop::{EmptyLook, Pop};
 use crate::push::{FullLook, Push};
-use crate::seat::{Moment, Popping, Pushing, Reply, push_reply};
+use crate::seat::{Moment, Popping, Pushing, Reply, push_reply, tell_moment};
 use crate::site::Site;
-
-/// Adds the moment to the events, if it is one.
-#[inline]
-fn tell_moment(events: &mut Vec<Moment>, moment: Moment)
-    requires { vec_len events.old < vec_capacity events.old }
-    ensures { events.new.items ≡ events.old.items ++ option_to_list (told_of moment) }
-{
-    match moment {
-        Moment::Quiet => tell(events, None),
-        moment => tell(events, Some(moment)),
-    }
-}
 
 // Each arm of a `play` names its place, so that the compiler makes a step of its own for each place,
 // and a step looks at its place once.

@@ -1,5 +1,5 @@
 //! Parties that a machine can play.
-ghost use Rattle.std.specs.Prelude.{◌≡◌, ℕ, Bool, ◌<◌, ◌++◌, length, Option, Result, vec_len};
+ghost use Rattle.std.specs.Prelude.{◌≡◌, ℕ, Bool, ◌<◌, ◌++◌, length, Option, Result, Ok, Err, IfErr, OnOk, OnErr, vec_len};
 ghost use Rattle.std.specs.Option.{option_to_list};
 ghost use Rattle.std.specs.Vec.{vec_capacity};
 ghost use Rattle.iox_steps.specs.declared.access.Progress.{Progress};
@@ -13,7 +13,7 @@ use crate::error::MachineError;
 use crate::machine::{perform, tell};
 
 /// Parties that share words, by what these say wherever each party is.
-pub trait Playable: Party + Copy {
+pub trait Playable: Party + Drop {
     type Call: Copy;
 
     type Event: Copy;
@@ -37,9 +37,11 @@ pub trait Playable: Party + Copy {
     fn event(&self, seen: u64) -> Option<Self::Event>
         ensures { result ≡ happens self.now seen };
 
-    /// The party once it began the call.
-    fn begin(&self, call: Self::Call) -> Result<Self, MachineError>
-        ensures { begins self.now call result };
+    /// Begins the call, with no access.
+    fn begin(&mut self, call: Self::Call) -> Result<(), MachineError>
+        ensures begun { OnOk result (begins self.old call (Ok self.new)) }
+        ensures refused { IfErr result (λ error. begins self.old call (Err error)) }
+        ensures unchanged { OnErr result (self.new ≡ self.old) };
 
     /// Makes the next access, tells what that does or sees, and goes on: `access`, `event` and
     /// `advance` in one.

@@ -1,8 +1,12 @@
 //! The two parties of a queue, each at rest or inside one of its programs.
-ghost use Rattle.std.specs.Prelude.{◌≡◌};
+ghost use Rattle.std.specs.Prelude.{◌≡◌, ◌<◌, ◌++◌, vec_len};
+ghost use Rattle.std.specs.Option.{option_to_list};
+ghost use Rattle.std.specs.Vec.{vec_capacity};
 ghost use Rattle.iox_steps.specs.Replies.{push_reply as reply_of};
+ghost use Rattle.iox_steps.specs.Runs.{told};
 
 use crate::access::{Access, Next, Progress};
+use crate::machine::tell;
 use crate::pop::{EmptyLook, Pop};
 use crate::push::{FullLook, Push, PushReply};
 use crate::site::{QueueKind, Site};
@@ -194,5 +198,17 @@ pub(crate) fn push_reply(kind: QueueKind, reply: PushReply) -> Reply
         (QueueKind::Overflowing, PushReply::Refused(value)) => Reply::HandedBack(Some(value)),
         (QueueKind::Overflowing, PushReply::Pushed) => Reply::HandedBack(None),
         (QueueKind::Overflowing, PushReply::PushedOut(old)) => Reply::HandedBack(Some(old)),
+    }
+}
+
+/// Writes the moment, unless it is quiet, behind the events, which have room for it.
+#[inline]
+pub fn tell_moment(events: &mut Vec<Moment>, moment: Moment)
+    requires { vec_len events.old < vec_capacity events.old }
+    ensures { events.new.items ≡ events.old.items ++ option_to_list (told moment) }
+{
+    match moment {
+        Moment::Quiet => tell(events, None),
+        moment => tell(events, Some(moment)),
     }
 }
