@@ -73,21 +73,25 @@ impl<T: Words, const WIDTH: usize> Playable for CellParty<T, WIDTH> {
         }
     }
 
-    fn begin(&self, call: CellCall<T>) -> Result<CellParty<T, WIDTH>, MachineError> {
+    fn begin(&mut self, call: CellCall<T>) -> Result<(), MachineError> {
         match (self.seat, call) {
             (CellSeat::Pusher(CellPushing::AtRest), CellCall::Push(value)) => {
                 value.known();
                 let push = CellPush::LoadsWrite(value);
-                Ok(self.at(CellSeat::Pusher(CellPushing::Pushes(push))))
+                self.seat = CellSeat::Pusher(CellPushing::Pushes(push));
+                Ok(())
             }
             (CellSeat::Pusher(CellPushing::AtRest), CellCall::IsFull) => {
-                Ok(self.at(CellSeat::Pusher(CellPushing::Looks(FullLook::LoadsWrite))))
+                self.seat = CellSeat::Pusher(CellPushing::Looks(FullLook::LoadsWrite));
+                Ok(())
             }
             (CellSeat::Popper(CellPopping::AtRest), CellCall::Pop) => {
-                Ok(self.at(CellSeat::Popper(CellPopping::Pops(CellPop::LoadsRead))))
+                self.seat = CellSeat::Popper(CellPopping::Pops(CellPop::LoadsRead));
+                Ok(())
             }
             (CellSeat::Popper(CellPopping::AtRest), CellCall::IsEmpty) => {
-                Ok(self.at(CellSeat::Popper(CellPopping::Looks(EmptyLook::LoadsRead))))
+                self.seat = CellSeat::Popper(CellPopping::Looks(EmptyLook::LoadsRead));
+                Ok(())
             }
             (CellSeat::Pusher(_), CellCall::Push(_)) => Err(MachineError::Busy),
             (CellSeat::Pusher(_), CellCall::IsFull) => Err(MachineError::Busy),
@@ -105,23 +109,6 @@ impl<T: Words, const WIDTH: usize> Playable for CellParty<T, WIDTH> {
     ghost keeps = { cell_keeps ⟦<T as Words>⟧ };
 
     ghost starts = { cell_starts ⟦<T as Words>⟧ };
-}
-
-impl<T: Words, const WIDTH: usize> CellParty<T, WIDTH> {
-    ghost use Rattle.iox_cell_queues.specs.CellSeatings.{IsSeatReady};
-
-    /// The party elsewhere in its calls.
-    #[inline]
-    fn at(self, seat: CellSeat<T, WIDTH>) -> CellParty<T, WIDTH>
-        requires { IsSeatReady self.place seat }
-        ensures place { result.place ≡ self.place }
-        ensures seat { result.seat ≡ seat }
-    {
-        CellParty {
-            place: self.place,
-            seat,
-        }
-    }
 }
 
 /// The moment, if it is one.
@@ -147,7 +134,10 @@ pub(crate) fn at_rest<T: Words, const WIDTH: usize>(
         place,
         seat: CellSeat::Pusher(CellPushing::AtRest),
     };
-    let popper = pusher.at(CellSeat::Popper(CellPopping::AtRest));
+    let popper = CellParty {
+        place,
+        seat: CellSeat::Popper(CellPopping::AtRest),
+    };
     let mut parties = Vec::with_capacity(alloc, 2)?;
     parties.push(pusher)?;
     parties.push(popper)?;

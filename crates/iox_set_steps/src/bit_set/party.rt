@@ -187,12 +187,12 @@ impl Playable for BitParty {
         self.program.event(seen)
     }
 
-    fn begin(&self, call: BitCall) -> Result<BitParty, MachineError> {
+    fn begin(&mut self, call: BitCall) -> Result<(), MachineError> {
         match self.program {
-            BitProgram::AtRest => Ok(BitParty {
-                site: self.site,
-                program: BitProgram::start(self.site, call),
-            }),
+            BitProgram::AtRest => {
+                self.program = BitProgram::start(self.site, call);
+                Ok(())
+            }
             _ => Err(MachineError::Busy),
         }
     }

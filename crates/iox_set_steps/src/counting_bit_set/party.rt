@@ -152,12 +152,12 @@ impl Playable for CountParty {
         self.program.event(seen)
     }
 
-    fn begin(&self, call: CountCall) -> Result<CountParty, MachineError> {
+    fn begin(&mut self, call: CountCall) -> Result<(), MachineError> {
         match self.program {
-            CountProgram::AtRest => Ok(CountParty {
-                site: self.site,
-                program: CountProgram::start(self.site, call),
-            }),
+            CountProgram::AtRest => {
+                self.program = CountProgram::start(self.site, call);
+                Ok(())
+            }
             _ => Err(MachineError::Busy),
         }
     }

@@ -198,18 +198,17 @@ impl<const N: usize> Playable for AtomicParty<N> {
         self.program.event(seen)
     }
 
-    fn begin(&self, call: AtomicCall<N>) -> Result<AtomicParty<N>, MachineError> {
+    fn begin(&mut self, call: AtomicCall<N>) -> Result<(), MachineError> {
         let program = match call {
             AtomicCall::Store(_) if !self.stores => return Err(MachineError::UnknownParty),
             AtomicCall::Store(value) => AtomicProgram::LoadsToStore(value),
             AtomicCall::Load => AtomicProgram::LoadsToLoad,
         };
         match self.program {
-            AtomicProgram::AtRest => Ok(AtomicParty {
-                base: self.base,
-                stores: self.stores,
-                program,
-            }),
+            AtomicProgram::AtRest => {
+                self.program = program;
+                Ok(())
+            }
             _ => Err(MachineError::Busy),
         }
     }
