@@ -5,7 +5,6 @@
 mod access;
 mod error;
 mod machine;
-mod play;
 mod playable;
 mod pop;
 mod push;

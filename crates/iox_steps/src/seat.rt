@@ -188,7 +188,7 @@ impl Popping {
 
 /// What a push of a queue of this kind answers.
 #[inline]
-pub(crate) fn push_reply(kind: QueueKind, reply: PushReply) -> Reply
+fn push_reply(kind: QueueKind, reply: PushReply) -> Reply
     ensures { result ≡ reply_of kind reply }
 {
     match (kind, reply) {
