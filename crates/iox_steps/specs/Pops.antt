@@ -1,6 +1,6 @@
 -- The programs of the party that pops, place by place: what a place asks, where it goes, and what
 -- happens to the queue.
-use Rattle.std.specs.Prelude.{ℕ, Bool, true, ◌+◌, ◌==◌, if◌then◌else◌, List, Option, Some, None}
+use Rattle.std.specs.Prelude.{ℕ, Bool, true, ◌+◌, ◌==◌, if◌then◌else◌, Option, Some, None}
 use Rattle.iox_steps.specs.declared.access.Access.{Access}
 use Rattle.iox_steps.specs.declared.access.Access.TheVariants.{Load, Store, CompareExchange}
 use Rattle.iox_steps.specs.declared.access.Next.{Next}
@@ -14,7 +14,6 @@ use Rattle.iox_steps.specs.declared.pop.EmptyLook.{EmptyLook}
 use Rattle.iox_steps.specs.declared.pop.EmptyLook.TheVariants as look
 use Rattle.iox_steps.specs.declared.seat.Moment.{Moment}
 use Rattle.iox_steps.specs.declared.seat.Moment.TheVariants.{Quiet, HandOut, SeesEmpty, SeesWaiting}
-use Rattle.iox_steps.specs.Accesses.{seen_at}
 use Rattle.iox_steps.specs.Sites.{cell_at, position_after, is_empty}
 
 -- the access that moves the read position on: with no push that evicts, only this party does
@@ -33,10 +32,6 @@ pop_access site pop.LoadsRead = Load (site.base + 1)
 pop_access site (pop.LoadsWrite read) = Load site.base
 pop_access site (pop.LoadsCell read cell) = Load cell
 pop_access site (pop.Takes read value) = take_access site.kind (site.base + 1) read
-
--- what it sees in these words
-abbrev pub pop_sees : Site → Pop → List ℕ → ℕ
-pop_sees site place words = seen_at (pop_access site place) words
 
 -- where a pop goes
 abbrev pub pop_next : Site → Pop → ℕ → Next Pop (Option ℕ)
@@ -64,9 +59,6 @@ pop_moment site (pop.Takes read value) seen =
 abbrev pub empty_look_access : Site → EmptyLook → Access
 empty_look_access site look.LoadsRead = Load (site.base + 1)
 empty_look_access site (look.LoadsWrite read) = Load site.base
-
-abbrev pub empty_look_sees : Site → EmptyLook → List ℕ → ℕ
-empty_look_sees site place words = seen_at (empty_look_access site place) words
 
 abbrev pub empty_look_next : Site → EmptyLook → ℕ → Next EmptyLook Bool
 empty_look_next site look.LoadsRead seen = Goes (look.LoadsWrite seen)

@@ -1,6 +1,6 @@
 -- The programs of the party that pushes, place by place: what a place asks, where it goes, and what
 -- happens to the queue.
-use Rattle.std.specs.Prelude.{ℕ, Bool, ◌+◌, ◌==◌, ◌||◌, if◌then◌else◌, List, Option, Some, None}
+use Rattle.std.specs.Prelude.{ℕ, Bool, ◌+◌, ◌==◌, ◌||◌, if◌then◌else◌, Option, Some, None}
 use Rattle.iox_steps.specs.declared.access.Access.{Access}
 use Rattle.iox_steps.specs.declared.access.Access.TheVariants.{Load, Store, CompareExchange}
 use Rattle.iox_steps.specs.declared.access.Next.{Next}
@@ -16,7 +16,6 @@ use Rattle.iox_steps.specs.declared.push.FullLook.{FullLook}
 use Rattle.iox_steps.specs.declared.push.FullLook.TheVariants as look
 use Rattle.iox_steps.specs.declared.seat.Moment.{Moment}
 use Rattle.iox_steps.specs.declared.seat.Moment.TheVariants.{Quiet, Publish, Evict, GetBack, SeesFull, SeesRoom, SeesEnd}
-use Rattle.iox_steps.specs.Accesses.{seen_at}
 use Rattle.iox_steps.specs.Sites.{cell_at, last_position, position_after, is_full}
 
 -- what a push asks
@@ -27,10 +26,6 @@ push_access site (push.StoresCell value cell next full) = Store cell value
 push_access site (push.StoresWrite value next full) = Store site.base next
 push_access site (push.Evicts read) = CompareExchange (site.base + 1) read (position_after read)
 push_access site (push.TakesOld cell) = Load cell
-
--- what it sees in these words
-abbrev pub push_sees : Site → Push → List ℕ → ℕ
-push_sees site place words = seen_at (push_access site place) words
 
 -- is a push refused that saw this?
 abbrev pub is_refused : QueueKind → Bool → Bool → Bool
@@ -80,9 +75,6 @@ push_moment site (push.TakesOld cell) seen = GetBack seen
 abbrev pub full_look_access : Site → FullLook → Access
 full_look_access site look.LoadsWrite = Load site.base
 full_look_access site (look.LoadsRead write) = Load (site.base + 1)
-
-abbrev pub full_look_sees : Site → FullLook → List ℕ → ℕ
-full_look_sees site place words = seen_at (full_look_access site place) words
 
 abbrev pub full_look_next : Site → FullLook → ℕ → Next FullLook Bool
 full_look_next site look.LoadsWrite seen = Goes (look.LoadsRead seen)
