@@ -88,11 +88,11 @@ pub use Rattle.iox_queue_runs.specs.Lists as QueueLists
 pub use Rattle.iox_queue_runs.specs.Alone
 pub use Rattle.iox_queue_runs.specs.Calls as QueueCalls
 -- a queue whose parties are kept in memory
-pub use Rattle.iox_queue_runs.specs.Stored as StoredParties
-pub use Rattle.iox_queue_runs.specs.declared.stored.answer.StepAnswer
-pub use Rattle.iox_queue_runs.specs.declared.stored.pusher.StoredPusher
-pub use Rattle.iox_queue_runs.specs.declared.stored.popper.StoredPopper
-pub use Rattle.iox_queue_runs.specs.declared.stored.queue.StoredQueue
+pub use Rattle.iox_queue_steps.specs.Stored as StoredParties
+pub use Rattle.iox_queue_steps.specs.declared.stored.answer.StepAnswer
+pub use Rattle.iox_queue_steps.specs.declared.stored.pusher.StoredPusher
+pub use Rattle.iox_queue_steps.specs.declared.stored.popper.StoredPopper
+pub use Rattle.iox_queue_steps.specs.declared.stored.queue.StoredQueue
 -- the same for a queue of values of several words
 pub use Rattle.iox_cell_steps.specs.Cells
 pub use Rattle.iox_cell_steps.specs.CellPrograms

@@ -2,11 +2,10 @@
 //! in their modules of bits, counts and values. `push`, `pop`, `is_full` and `is_empty` are whole
 //! calls on the words of a queue. A `StoredQueue` keeps its two parties in memory and writes down no
 //! events.
-pub use iox_queue_runs::{
-    StepAnswer, StoredPopper, StoredPusher, StoredQueue, holds_when_empty, is_empty, is_full, pop,
-    push,
+pub use iox_queue_runs::{holds_when_empty, is_empty, is_full, pop, push};
+pub use iox_queue_steps::{
+    Call, QueueMachine, QueueParty, Seat, StepAnswer, StoredPopper, StoredPusher, StoredQueue,
 };
-pub use iox_queue_steps::{Call, QueueMachine, QueueParty, Seat};
 pub use iox_set_steps::{bit_set, counting_bit_set, unrestricted_atomic};
 pub use iox_steps::{
     Access, EmptyLook, Entry, FullLook, Machine, MachineError, Moment, Next, Party, Playable, Pop,

@@ -4,5 +4,3 @@ pub mod FinishLemmas
 pub mod PushChains
 pub mod PopChains
 pub mod WholeLemmas
-pub mod CellLemmas
-pub mod StoredLemmas

@@ -1,4 +1,3 @@
 pub mod Lists
 pub mod Alone
 pub mod Calls
-pub mod Stored

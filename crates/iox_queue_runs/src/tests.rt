@@ -1,5 +1,6 @@
 //! Whole calls on the words of a queue.
-use crate::{StepAnswer, StoredQueue, holds_when_empty, is_empty, is_full, pop, push};
+use crate::{holds_when_empty, is_empty, is_full, pop, push};
+use iox_queue_steps::{StepAnswer, StoredQueue};
 use iox_queues::spsc::index_queue::IndexQueue;
 use iox_queues::spsc::safely_overflowing_index_queue::SafelyOverflowingIndexQueue;
 use iox_steps::{QueueKind, Reply, Site};

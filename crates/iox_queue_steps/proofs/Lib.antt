@@ -1,2 +1,4 @@
 pub mod NewMachines
 pub mod MomentLemmas
+pub mod CellLemmas
+pub mod StoredLemmas

@@ -2,3 +2,4 @@ pub mod Queues
 pub mod QueueLaws
 pub mod BeginLaws
 pub mod Machines
+pub mod Stored

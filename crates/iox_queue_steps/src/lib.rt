@@ -5,9 +5,11 @@
 mod machine;
 mod party;
 mod queue;
+mod stored;
 
 pub use machine::QueueMachine;
 pub use queue::{Call, QueueParty, Seat};
+pub use stored::{StepAnswer, StoredPopper, StoredPusher, StoredQueue};
 
 #[cfg(test)]
 mod tests;

@@ -1,5 +1,5 @@
-use Rattle.iox_queue_runs.proofs.StoredLemmas.{pop_within, pop_played}
-use Rattle.iox_queue_runs.proofs.stored.queue.StoredQueue.step_pop.Goals as goal
+use Rattle.iox_queue_steps.proofs.StoredLemmas.{pop_within, pop_played}
+use Rattle.iox_queue_steps.proofs.stored.queue.StoredQueue.step_pop.Goals as goal
 
 pub step-requires : goal.step-requires
 step-requires c = record { within = pop_within c.self.inside.words.items c.self.inside.words.items c.self.inside.pusher c.self.inside.popper c.self.invariant }

@@ -1,5 +1,5 @@
-use Rattle.iox_queue_runs.proofs.StoredLemmas.{push_within, push_played}
-use Rattle.iox_queue_runs.proofs.stored.queue.StoredQueue.step_push.Goals as goal
+use Rattle.iox_queue_steps.proofs.StoredLemmas.{push_within, push_played}
+use Rattle.iox_queue_steps.proofs.stored.queue.StoredQueue.step_push.Goals as goal
 
 pub step-requires : goal.step-requires
 step-requires c = record { within = push_within c.self.inside.words.items c.self.inside.words.items c.self.inside.pusher c.self.inside.popper c.self.invariant }

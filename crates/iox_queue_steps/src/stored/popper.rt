@@ -32,7 +32,7 @@ pub struct StoredPopper {
 }
 
 impl Model for StoredPopper {
-    ghost use Rattle.iox_queue_runs.specs.Stored.{Popper, popping_of, KnowsCell};
+    ghost use Rattle.iox_queue_steps.specs.Stored.{Popper, popping_of, KnowsCell};
 
     ghost Value = { Popper };
 
@@ -49,7 +49,7 @@ impl StoredPopper {
     ghost use Rattle.iox_steps.specs.Accesses.{IsWithin, words_after};
     ghost use Rattle.iox_steps.specs.Sites.{size};
     ghost use Rattle.iox_steps.specs.Seats.{popping_access, popping_sees, popping_after};
-    ghost use Rattle.iox_queue_runs.specs.Stored.{popping_says};
+    ghost use Rattle.iox_queue_steps.specs.Stored.{popping_says};
 
     /// A party at rest.
     pub fn new(site: Site) -> StoredPopper

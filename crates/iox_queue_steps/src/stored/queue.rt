@@ -18,7 +18,7 @@ pub struct StoredQueue {
 
 impl Model for StoredQueue {
     ghost use Rattle.std.specs.Prelude.{◌≡◌};
-    ghost use Rattle.iox_queue_runs.specs.Stored.{Stored, IsPlayed};
+    ghost use Rattle.iox_queue_steps.specs.Stored.{Stored, IsPlayed};
 
     ghost Value = { Stored };
 
@@ -41,7 +41,7 @@ impl StoredQueue {
     ghost use Rattle.iox_steps.specs.declared.pop.Pop.TheVariants as pop;
     ghost use Rattle.iox_steps.specs.Sites.{size};
     ghost use Rattle.iox_queue_steps.specs.Queues.{IsEmptyAt};
-    ghost use Rattle.iox_queue_runs.specs.Stored.{HasPlayed, StepsPush, StepsPop};
+    ghost use Rattle.iox_queue_steps.specs.Stored.{HasPlayed, StepsPush, StepsPop};
 
     /// The empty queue at this place among the words, at whatever position it is.
     pub fn new(words: Vec<u64>, site: Site) -> StoredQueue

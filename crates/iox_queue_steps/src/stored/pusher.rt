@@ -39,7 +39,7 @@ pub struct StoredPusher {
 }
 
 impl Model for StoredPusher {
-    ghost use Rattle.iox_queue_runs.specs.Stored.{Pusher, pushing_of, KnowsCell};
+    ghost use Rattle.iox_queue_steps.specs.Stored.{Pusher, pushing_of, KnowsCell};
 
     ghost Value = { Pusher };
 
@@ -57,7 +57,7 @@ impl StoredPusher {
     ghost use Rattle.iox_steps.specs.Accesses.{IsWithin, words_after};
     ghost use Rattle.iox_steps.specs.Sites.{size};
     ghost use Rattle.iox_steps.specs.Seats.{pushing_access, pushing_sees, pushing_after};
-    ghost use Rattle.iox_queue_runs.specs.Stored.{pushing_says};
+    ghost use Rattle.iox_queue_steps.specs.Stored.{pushing_says};
 
     /// A party at rest.
     pub fn new(site: Site) -> StoredPusher

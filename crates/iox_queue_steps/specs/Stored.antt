@@ -20,13 +20,13 @@ use Rattle.iox_steps.specs.Seats.{pushing_access, pushing_sees, pushing_after, p
 use Rattle.iox_steps.specs.Plays.{Played}
 use Rattle.iox_steps.specs.Pushes.{push_next, full_at}
 use Rattle.iox_steps.specs.Pops.{pop_next}
-use Rattle.iox_queue_runs.specs.declared.stored.answer.StepAnswer.{StepAnswer}
-use Rattle.iox_queue_runs.specs.declared.stored.answer.StepAnswer.TheVariants.{Going, Done, Gives}
-use Rattle.iox_queue_runs.specs.declared.stored.cell.Cursor.{Cursor}
-use Rattle.iox_queue_runs.specs.declared.stored.pusher.PushAt.{PushAt}
-use Rattle.iox_queue_runs.specs.declared.stored.pusher.PushAt.TheVariants as push_at
-use Rattle.iox_queue_runs.specs.declared.stored.popper.PopAt.{PopAt}
-use Rattle.iox_queue_runs.specs.declared.stored.popper.PopAt.TheVariants as pop_at
+use Rattle.iox_queue_steps.specs.declared.stored.answer.StepAnswer.{StepAnswer}
+use Rattle.iox_queue_steps.specs.declared.stored.answer.StepAnswer.TheVariants.{Going, Done, Gives}
+use Rattle.iox_queue_steps.specs.declared.stored.cell.Cursor.{Cursor}
+use Rattle.iox_queue_steps.specs.declared.stored.pusher.PushAt.{PushAt}
+use Rattle.iox_queue_steps.specs.declared.stored.pusher.PushAt.TheVariants as push_at
+use Rattle.iox_queue_steps.specs.declared.stored.popper.PopAt.{PopAt}
+use Rattle.iox_queue_steps.specs.declared.stored.popper.PopAt.TheVariants as pop_at
 
 pub record Pusher : Type 0 where
   pub site : Site

@@ -5,7 +5,7 @@ use Rattle.iox_steps.specs.Accesses.{words_after, IsWithin}
 use Rattle.iox_steps.specs.Runs.{told}
 use Rattle.iox_steps.specs.Seats.{pushing_access, pushing_sees, pushing_after, pushing_moment, popping_access, popping_sees, popping_after, popping_moment}
 use Rattle.iox_steps.proofs.Plays.{pushing_within_words, popping_within_words, pushing_plays, popping_plays}
-use Rattle.iox_queue_runs.specs.Stored.{Pusher, Popper, IsPlayed}
+use Rattle.iox_queue_steps.specs.Stored.{Pusher, Popper, IsPlayed}
 
 module _ (words words' : List ℕ) (pusher : Pusher) (popper : Popper) (played : IsPlayed words pusher popper) where
   pub push_within : IsWithin 0 (length words) (pushing_access pusher.site pusher.place)

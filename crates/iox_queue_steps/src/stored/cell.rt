@@ -1,7 +1,7 @@
 //! Cells by compare and subtract.
 ghost use Rattle.std.specs.Prelude.{◌≡◌, ◌+◌};
 ghost use Rattle.iox_steps.specs.Sites.{cell_at as place_of_cell};
-ghost use Rattle.iox_queue_runs.specs.Stored.{KnowsCell};
+ghost use Rattle.iox_queue_steps.specs.Stored.{KnowsCell};
 
 use iox_steps::Site;
 
@@ -16,7 +16,7 @@ pub struct Cursor {
 impl Cursor {
     ghost use Rattle.std.specs.Prelude.{◌≡◌, ◌+◌, ◌^◌, ◌<◌};
     ghost use Rattle.iox_steps.specs.Sites.{size, cell_at as place_of_cell};
-    ghost use Rattle.iox_queue_runs.specs.Stored.{KnowsCell};
+    ghost use Rattle.iox_queue_steps.specs.Stored.{KnowsCell};
 
     /// Expects the first position.
     pub fn new(site: Site) -> Cursor

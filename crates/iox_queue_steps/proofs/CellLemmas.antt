@@ -4,7 +4,7 @@ use Rattle.std.proofs.Math.Nat.{suc-mod, mod-eq_of_lt, mod_self}
 use Rattle.std.proofs.lemmas.Nat.{mod_below}
 use Rattle.iox_steps.specs.declared.site.Site.{Site}
 use Rattle.iox_steps.specs.Sites.{cells, cell_at}
-use Rattle.iox_queue_runs.specs.Stored.{KnowsCell}
+use Rattle.iox_queue_steps.specs.Stored.{KnowsCell}
 
 next_mod : (n p : ℕ) → (p + 1) % n ≡ (p % n + 1) % n
 next_mod n p =
