@@ -26,11 +26,11 @@ module _ (site : Site) (total : ℕ) where
   within_by zero words seat reply after ends = absurd ends
   within_by (suc more) words seat reply after ends = ends.0
 
-  pub is_within : (made : ℕ) (words : List ℕ) (seat : Seat) (reply : Reply) (after : List ℕ) (at : Site) (access : Access)
-      → site.base + size site ≤ length words → at ≡ site → access ≡ seat_access at seat
+  pub is_within : (made : ℕ) (words : List ℕ) (seat : Seat) (reply : Reply) (after : List ℕ) (access : Access)
+      → site.base + size site ≤ length words → access ≡ seat_access site seat
       → IsLeft made words seat reply after → IsWithin 0 (length words) access
-  is_within made words seat reply after at access room same asked left =
-      rw (asked, same) (within_wider (seat_access site seat) site.base (size site) 0 (length words) (omega arith) (omega arith)
+  is_within made words seat reply after access room asked left =
+      rw asked (within_wider (seat_access site seat) site.base (size site) 0 (length words) (omega arith) (omega arith)
       (within_by left.0 words seat reply after left.1.1))
 
   made_all : (made more : ℕ) (words : List ℕ) (seat : Seat) (reply : Reply) (after : List ℕ) → total ≡ made + more → total ≤ made
@@ -42,11 +42,11 @@ module _ (site : Site) (total : ℕ) where
   all_made made words seat reply after few left = made_all made left.0 words seat reply after left.1.0 few left.1.1
 
   -- one access
-  module _ (made : ℕ) (words words' : List ℕ) (seat seat' : Seat) (reply : Reply) (after : List ℕ) (at : Site) (access : Access) (seen : ℕ)
+  module _ (made : ℕ) (words words' : List ℕ) (seat seat' : Seat) (reply : Reply) (after : List ℕ) (access : Access) (seen : ℕ)
       (answer : Progress Reply)
-      (same : at ≡ site) (asked : access ≡ seat_access at seat) (found : seen ≡ seen_by access (λ place. get_or words place 0))
+      (asked : access ≡ seat_access site seat) (found : seen ≡ seen_by access (λ place. get_or words place 0))
       (become : words' ≡ words_after access words)
-      (led : seat' ≡ seat_after at seat seen) (said : answer ≡ seat_progress at seat seen) where
+      (led : seat' ≡ seat_after site seat seen) (said : answer ≡ seat_progress site seat seen) where
     goes_by : (more : ℕ) → seat_progress site seat (seen_by (seat_access site seat) (λ place. get_or words place 0)) ≡ Going → total ≡ made + more
         → EndsAfter more site words seat reply after
         → IsLeft (made + 1) (words_after (seat_access site seat) words)
@@ -56,8 +56,8 @@ module _ (site : Site) (total : ℕ) where
 
     pub one_more_made : answer ≡ Going → IsLeft made words seat reply after → IsLeft (made + 1) words' seat' reply after
     one_more_made going left =
-        let goes : seat_progress site seat (seen_by (seat_access site seat) (λ place. get_or words place 0)) ≡ Going = rw (said, found, asked, same) at going in
-        rw (become, led, found, asked, same) (goes_by left.0 goes left.1.0 left.1.1)
+        let goes : seat_progress site seat (seen_by (seat_access site seat) (λ place. get_or words place 0)) ≡ Going = rw (said, found, asked) at going in
+        rw (become, led, found, asked) (goes_by left.0 goes left.1.0 left.1.1)
 
     ends_by : (more : ℕ) (reply' : Reply) → seat_progress site seat (seen_by (seat_access site seat) (λ place. get_or words place 0)) ≡ Done reply'
         → EndsAfter more site words seat reply after
@@ -68,5 +68,5 @@ module _ (site : Site) (total : ℕ) where
     pub last_made : (reply' : Reply) → answer ≡ Done reply' → IsLeft made words seat reply after → (reply' ≡ reply) × (words' ≡ after)
     last_made reply' done left =
         let ends : seat_progress site seat (seen_by (seat_access site seat) (λ place. get_or words place 0)) ≡ Done reply' =
-        rw (said, found, asked, same) at done in
-        rw (become, asked, same) (ends_by left.0 reply' ends left.1.1)
+        rw (said, found, asked) at done in
+        rw (become, asked) (ends_by left.0 reply' ends left.1.1)

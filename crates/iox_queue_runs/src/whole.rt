@@ -6,10 +6,9 @@ ghost use Rattle.iox_queue_runs.specs.Lists.{values, queue_at, HoldsQueue};
 ghost use Rattle.iox_queue_runs.specs.Alone.{EndsAfter, EndsWithin, IsEndOf, full_looker, empty_looker};
 ghost use Rattle.iox_queue_runs.specs.Calls.{PushesAt, MakesPush, PopsAt, MakesPop, LooksFull, LooksEmpty, KeepsOutside};
 
-use iox_queue_steps::{QueueParty, Seat};
+use iox_queue_steps::Seat;
 use iox_steps::{
-    EmptyLook, FullLook, Party, Pop, Popping, Progress, Push, Pushing, QueueKind, Reply, Site,
-    perform,
+    EmptyLook, FullLook, Pop, Popping, Progress, Push, Pushing, QueueKind, Reply, Site, perform,
 };
 
 /// Words with two equal positions are those of an empty queue, at whatever position it is.
@@ -89,12 +88,12 @@ fn finish(words: &mut Vec<u64>, site: Site, seat: Seat) -> Reply
     ensures { IsEndOf site words.old.items seat result words.new.items }
 {
     let _length = words.len();
-    let mut party = QueueParty { site, seat };
+    let mut party = seat;
     for step in 0..6u64 {
         let _step = step;
-        let access = party.access();
+        let access = party.access(site);
         let seen = perform(words, access);
-        match party.advance(seen) {
+        match party.advance(site, seen) {
             Progress::Going => {}
             Progress::Done(reply) => return reply,
         }

@@ -17,8 +17,7 @@ use Rattle.iox_steps.proofs.ListSteps.{pushing_step_in_list, popping_step_in_lis
 use Rattle.iox_steps.proofs.AnswerLemmas.{pushing_answers, popping_answers}
 use Rattle.iox_queue_steps.specs.declared.queue.Seat.{Seat}
 use Rattle.iox_queue_steps.specs.declared.queue.Seat.TheVariants.{Pusher, Popper}
-use Rattle.iox_queue_steps.specs.declared.queue.QueueParty.{QueueParty}
-use Rattle.iox_queue_steps.specs.Queues.{seat_access, seat_after, seat_progress, seat_moment, queue_asks, queue_happens, QueueLeads, QueueHolds, BothPlayed, PartiesPlayed}
+use Rattle.iox_queue_steps.specs.Queues.{Seated, seat_access, seat_after, seat_progress, seat_moment, queue_asks, queue_happens, QueueLeads, QueueHolds, BothPlayed, PartiesPlayed}
 use Rattle.iox_queue_steps.specs.Machines.{QueueWorld, QueueStepped, SeatsShow, IsMoment}
 
 -- what an access of the seat `party`, after which the seats are these, is to the queue
@@ -62,12 +61,12 @@ second_moment site words (Pusher pushes) (Pusher other) events played = absurd p
 second_moment site words (Popper pops) b events played = absurd played
 
 -- what an access of this party is to the world
-abbrev Is : List ℕ → List QueueParty → List Moment → ℕ → QueueParty → Progress Reply → QueueParty → Type 0
+abbrev Is : List ℕ → List Seated → List Moment → ℕ → Seated → Progress Reply → Seated → Type 0
 Is words parties events number after answer party =
     let old : QueueWorld = record { words = words; parties = parties; events = events } in
     QueueLeads party (seen_in old (queue_asks party)) answer after → IsMoment old (after_access old number (queue_asks party) after (queue_happens party (seen_in old (queue_asks party)))) answer
 
-moment_at : (words : List ℕ) (parties : List QueueParty) (events : List Moment) (number : ℕ) (party after : QueueParty) (answer : Progress Reply) → PartiesPlayed words parties events → number < length parties → party ≡ slice_index_or parties number party
+moment_at : (words : List ℕ) (parties : List Seated) (events : List Moment) (number : ℕ) (party after : Seated) (answer : Progress Reply) → PartiesPlayed words parties events → number < length parties → party ≡ slice_index_or parties number party
     → Is words parties events number after answer party
 moment_at words (a ∷ b ∷ []) events zero party after answer played below is = subst (Is words (a ∷ b ∷ []) events 0 after answer) (sym is) (λ leads.
     let did = first_moment a.site words a.seat b.seat events played.1 in

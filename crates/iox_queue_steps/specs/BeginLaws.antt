@@ -13,10 +13,9 @@ use Rattle.iox_queue_steps.specs.declared.queue.Seat.{Seat}
 use Rattle.iox_queue_steps.specs.declared.queue.Seat.TheVariants.{Pusher, Popper}
 use Rattle.iox_queue_steps.specs.declared.queue.Call.{Call}
 use Rattle.iox_queue_steps.specs.declared.queue.Call.TheVariants.{Push, IsFull, Pop, IsEmpty}
-use Rattle.iox_queue_steps.specs.declared.queue.QueueParty.{QueueParty}
 use Rattle.iox_steps.specs.Plays.{Played}
 use Rattle.iox_steps.specs.Worlds.{World, IsParty, with_party}
-use Rattle.iox_queue_steps.specs.Queues.{IsBegun, QueueBegins, BothPlayed, PartiesPlayed, QueueHolds}
+use Rattle.iox_queue_steps.specs.Queues.{Seated, IsBegun, QueueBegins, BothPlayed, PartiesPlayed, QueueHolds}
 use Rattle.iox_steps.proofs.Plays.{pushing_begun, popping_begun}
 
 -- a begin keeps what the words say
@@ -43,11 +42,11 @@ second_begins site words (Pusher pushes) (Pusher other) after call events played
 second_begins site words (Popper pops) b after call events played begun = absurd played
 
 -- what a begin of this party, which leaves it as `after`, makes of a world with these parties afterwards
-abbrev Starts : List ℕ → List Moment → Call → QueueParty → List QueueParty → QueueParty → Type 0
+abbrev Starts : List ℕ → List Moment → Call → Seated → List Seated → Seated → Type 0
 Starts words events call after parties party = after.site ≡ party.site → IsBegun party.seat call after.seat
     → PartiesPlayed words parties events
 
-starts : (words : List ℕ) (parties : List QueueParty) (events : List Moment) (number : ℕ) (call : Call) (party after : QueueParty)
+starts : (words : List ℕ) (parties : List Seated) (events : List Moment) (number : ℕ) (call : Call) (party after : Seated)
     → PartiesPlayed words parties events → number < length parties
     → party ≡ slice_index_or parties number party
     → Starts words events call after (slice_set parties number after) party
@@ -61,7 +60,7 @@ starts words [] events number call party after played below is = absurd played
 starts words (a ∷ []) events number call party after played below is = absurd played
 starts words (a ∷ b ∷ c ∷ others) events number call party after played below is = absurd played
 
-pub queue_starts : (world : World QueueParty Moment) (number : ℕ) (call : Call) (party after : QueueParty)
+pub queue_starts : (world : World Seated Moment) (number : ℕ) (call : Call) (party after : Seated)
     → QueueHolds world → IsParty world number party → QueueBegins party call (Ok after)
     → QueueHolds (with_party world number after)
 queue_starts world number call party after holds is begun = starts world.words world.parties world.events number call party after holds is.0 is.1 begun.0 begun.1

@@ -3,3 +3,5 @@ pub mod QueueLaws
 pub mod BeginLaws
 pub mod Machines
 pub mod Stored
+pub mod StoredPlaces
+pub mod Roles

@@ -16,12 +16,11 @@ use Rattle.iox_steps.specs.Worlds.{World, Stepped, IsStepRefused, Begun, IsBegin
 use Rattle.iox_queue_steps.specs.declared.queue.Seat.{Seat}
 use Rattle.iox_queue_steps.specs.declared.queue.Seat.TheVariants.{Pusher, Popper}
 use Rattle.iox_queue_steps.specs.declared.queue.Call.{Call}
-use Rattle.iox_queue_steps.specs.declared.queue.QueueParty.{QueueParty}
-use Rattle.iox_queue_steps.specs.Queues.{queue_asks, queue_happens, queue_rests, QueueLeads, QueueBegins}
+use Rattle.iox_queue_steps.specs.Queues.{Seated, queue_asks, queue_happens, queue_rests, QueueLeads, QueueBegins}
 
 -- the entries of a machine, at a queue's parties
 abbrev pub QueueWorld : Type 0
-QueueWorld = World QueueParty Moment
+QueueWorld = World Seated Moment
 
 abbrev pub QueueStepped : QueueWorld → ℕ → Progress Reply → QueueWorld → Type 0
 QueueStepped = Stepped queue_asks QueueLeads queue_happens queue_rests QueueBegins
@@ -44,7 +43,7 @@ SeatsShow site words (Pusher pushes) (Popper pops) line = (slice_index words sit
     × Fits site (λ place. slice_index words place) line.waiting line.hand pushes pops
 SeatsShow site words a b line = ⊥
 
-abbrev pub PartiesShow : Site → List ℕ → List QueueParty → Line → Type 0
+abbrev pub PartiesShow : Site → List ℕ → List Seated → Line → Type 0
 PartiesShow site words (a ∷ b ∷ []) line = (a.site ≡ site) × (b.site ≡ site)
     × SeatsShow site words a.seat b.seat line
 PartiesShow site words parties line = ⊥

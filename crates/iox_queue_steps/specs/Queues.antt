@@ -17,11 +17,15 @@ use Rattle.iox_queue_steps.specs.declared.queue.Seat.{Seat}
 use Rattle.iox_queue_steps.specs.declared.queue.Seat.TheVariants.{Pusher, Popper}
 use Rattle.iox_queue_steps.specs.declared.queue.Call.{Call}
 use Rattle.iox_queue_steps.specs.declared.queue.Call.TheVariants.{Push, IsFull, Pop, IsEmpty}
-use Rattle.iox_queue_steps.specs.declared.queue.QueueParty.{QueueParty}
 use Rattle.iox_steps.specs.Seats.{pushing_access, pushing_after, pushing_progress, pushing_moment, popping_access, popping_after, popping_progress, popping_moment}
 use Rattle.iox_steps.specs.Runs.{told}
 use Rattle.iox_steps.specs.Plays.{Played}
 use Rattle.iox_steps.specs.Worlds.{World}
+
+-- a party: where its queue stands, which of the two it is, and where it is
+pub record Seated : Type 0 where
+  pub site : Site
+  pub seat : Seat
 
 -- what a party asks, where it goes, what it answers, and what happens
 abbrev pub seat_access : Site → Seat → Access
@@ -45,17 +49,17 @@ rests (Pusher pushing.AtRest) = true
 rests (Popper popping.AtRest) = true
 rests seat = false
 
-abbrev pub queue_asks : QueueParty → Access
+abbrev pub queue_asks : Seated → Access
 queue_asks party = seat_access party.site party.seat
 
-abbrev pub queue_happens : QueueParty → ℕ → Option Moment
+abbrev pub queue_happens : Seated → ℕ → Option Moment
 queue_happens party seen = told (seat_moment party.site party.seat seen)
 
-abbrev pub queue_rests : QueueParty → Bool
+abbrev pub queue_rests : Seated → Bool
 queue_rests party = rests party.seat
 
 -- the party goes on after an access that found this word
-abbrev pub QueueLeads : QueueParty → ℕ → Progress Reply → QueueParty → Type 0
+abbrev pub QueueLeads : Seated → ℕ → Progress Reply → Seated → Type 0
 QueueLeads party seen answer after = (after.site ≡ party.site)
     × (after.seat ≡ seat_after party.site party.seat seen)
     × (answer ≡ seat_progress party.site party.seat seen)
@@ -79,7 +83,7 @@ IsNotBegun (Popper pops) Pop error = (error ≡ Busy) × (rests (Popper pops) �
 IsNotBegun (Popper pops) IsEmpty error = (error ≡ Busy) × (rests (Popper pops) ≡ false)
 IsNotBegun seat call error = error ≡ UnknownParty
 
-abbrev pub QueueBegins : QueueParty → Call → Result QueueParty MachineError → Type 0
+abbrev pub QueueBegins : Seated → Call → Result Seated MachineError → Type 0
 QueueBegins party call result = MatchResult result (λ after. (after.site ≡ party.site) × IsBegun party.seat call after.seat) (λ error. IsNotBegun party.seat call error)
 
 abbrev pub BothPlayed : Site → List ℕ → Seat → Seat → List Moment → Type 0
@@ -87,11 +91,11 @@ BothPlayed site words (Pusher pushes) (Popper pops) events = Played site words p
 BothPlayed site words a b events = ⊥
 
 -- party 0 pushes and looks at fullness, party 1 pops and looks at emptiness, both at one queue
-abbrev pub PartiesPlayed : List ℕ → List QueueParty → List Moment → Type 0
+abbrev pub PartiesPlayed : List ℕ → List Seated → List Moment → Type 0
 PartiesPlayed words (a ∷ b ∷ []) events = (b.site ≡ a.site) × BothPlayed a.site words a.seat b.seat events
 PartiesPlayed words parties events = ⊥
 
-abbrev pub QueueHolds : World QueueParty Moment → Type 0
+abbrev pub QueueHolds : World Seated Moment → Type 0
 QueueHolds world = PartiesPlayed world.words world.parties world.events
 
 -- the positions of the queue at this site are equal, so nothing waits
@@ -99,10 +103,10 @@ abbrev pub IsEmptyAt : Site → List ℕ → Type 0
 IsEmptyAt site words = slice_index words site.base ≡ slice_index words (site.base + 1)
 
 -- both parties are at rest at this queue, and nothing happened yet
-abbrev pub AtRestAt : Site → List QueueParty → Type 0
+abbrev pub AtRestAt : Site → List Seated → Type 0
 AtRestAt site (a ∷ b ∷ []) = (a.site ≡ site) × (b.site ≡ site) × (a.seat ≡ Pusher pushing.AtRest)
     × (b.seat ≡ Popper popping.AtRest)
 AtRestAt site parties = ⊥
 
-abbrev pub IsNewMachine : List ℕ → Site → World QueueParty Moment → Type 0
+abbrev pub IsNewMachine : List ℕ → Site → World Seated Moment → Type 0
 IsNewMachine words site world = (world.words ≡ words) × AtRestAt site world.parties × (world.events ≡ [])

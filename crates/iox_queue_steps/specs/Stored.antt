@@ -1,32 +1,31 @@
 -- A party of a queue that is kept in memory between its steps, as plain data: its queue, and where it is.
-use Rattle.std.specs.Prelude.{◌≡◌, ℕ, ◌+◌, ◌^◌, ◌<◌, List, Bool, Option, Some, None}
+use Rattle.std.specs.Prelude.{◌≡◌, ℕ, List, Bool, true, false, Option, Some, None}
 use Rattle.iox_steps.specs.declared.access.Next.{Next}
 use Rattle.iox_steps.specs.declared.access.Next.TheVariants.{Goes, Ends}
+use Rattle.iox_steps.specs.declared.access.Progress.{Progress}
+use Rattle.iox_steps.specs.declared.access.Progress.TheVariants as progress
+use Rattle.iox_steps.specs.declared.site.QueueKind.{QueueKind}
+use Rattle.iox_steps.specs.declared.site.QueueKind.TheVariants.{Index, Overflowing}
 use Rattle.iox_steps.specs.declared.site.Site.{Site}
+use Rattle.iox_steps.specs.declared.seat.Reply.{Reply}
+use Rattle.iox_steps.specs.declared.seat.Reply.TheVariants as reply
+use Rattle.iox_steps.specs.declared.seat.Reply.TheVariants.{HandedBack, Full, Popped, Empty}
 use Rattle.iox_steps.specs.declared.push.Push.{Push}
-use Rattle.iox_steps.specs.declared.push.Push.TheVariants as push
 use Rattle.iox_steps.specs.declared.push.PushReply.{PushReply}
 use Rattle.iox_steps.specs.declared.push.PushReply.TheVariants.{Pushed, PushedOut, Refused}
 use Rattle.iox_steps.specs.declared.pop.Pop.{Pop}
-use Rattle.iox_steps.specs.declared.pop.Pop.TheVariants as pop
 use Rattle.iox_steps.specs.declared.seat.Pushing.{Pushing}
 use Rattle.iox_steps.specs.declared.seat.Pushing.TheVariants as pushing
 use Rattle.iox_steps.specs.declared.seat.Popping.{Popping}
 use Rattle.iox_steps.specs.declared.seat.Popping.TheVariants as popping
 use Rattle.iox_steps.specs.declared.seat.Moment.{Moment}
 use Rattle.iox_steps.specs.Accesses.{words_after}
-use Rattle.iox_steps.specs.Sites.{cells, size, cell_at}
 use Rattle.iox_steps.specs.Seats.{pushing_access, pushing_sees, pushing_after, popping_access, popping_sees, popping_after}
 use Rattle.iox_steps.specs.Plays.{Played}
-use Rattle.iox_steps.specs.Pushes.{push_next, full_at}
-use Rattle.iox_steps.specs.Pops.{pop_next}
+use Rattle.iox_steps.specs.Pushes.{push_next, full_look_next}
+use Rattle.iox_steps.specs.Pops.{pop_next, empty_look_next}
 use Rattle.iox_queue_steps.specs.declared.stored.answer.StepAnswer.{StepAnswer}
-use Rattle.iox_queue_steps.specs.declared.stored.answer.StepAnswer.TheVariants.{Going, Done, Gives}
-use Rattle.iox_queue_steps.specs.declared.stored.cell.Cursor.{Cursor}
-use Rattle.iox_queue_steps.specs.declared.stored.pusher.PushAt.{PushAt}
-use Rattle.iox_queue_steps.specs.declared.stored.pusher.PushAt.TheVariants as push_at
-use Rattle.iox_queue_steps.specs.declared.stored.popper.PopAt.{PopAt}
-use Rattle.iox_queue_steps.specs.declared.stored.popper.PopAt.TheVariants as pop_at
+use Rattle.iox_queue_steps.specs.declared.stored.answer.StepAnswer.TheVariants.{Going, Done, Gives, Refuses, Sees}
 
 pub record Pusher : Type 0 where
   pub site : Site
@@ -42,11 +41,28 @@ abbrev pub push_says : Next Push PushReply → StepAnswer
 push_says (Goes place) = Going
 push_says (Ends Pushed) = Done
 push_says (Ends (PushedOut oldest)) = Gives oldest
-push_says (Ends (Refused value)) = Gives value
+push_says (Ends (Refused value)) = Refuses value
+
+-- what a step of a look says
+abbrev pub look_says : {Look : Type 0} → Next Look Bool → StepAnswer
+look_says (Goes place) = Going
+look_says (Ends seen) = Sees seen
 
 abbrev pub pushing_says : Site → Pushing → ℕ → StepAnswer
 pushing_says site (pushing.Pushes place) seen = push_says (push_next site place seen)
-pushing_says site party seen = Going
+pushing_says site (pushing.Looks place) seen = look_says (full_look_next site place seen)
+pushing_says site pushing.AtRest seen = Going
+
+-- the same as a machine answers it, for a queue of this kind
+abbrev pub push_progress : QueueKind → StepAnswer → Progress Reply
+push_progress kind Going = progress.Going
+push_progress kind (Sees full) = progress.Done (Full full)
+push_progress Index Done = progress.Done (reply.Pushed true)
+push_progress Index (Gives value) = progress.Done (reply.Pushed true)
+push_progress Index (Refuses value) = progress.Done (reply.Pushed false)
+push_progress Overflowing Done = progress.Done (HandedBack None)
+push_progress Overflowing (Gives value) = progress.Done (HandedBack (Some value))
+push_progress Overflowing (Refuses value) = progress.Done (HandedBack (Some value))
 
 -- what a step of a pop says
 abbrev pub pop_says : Next Pop (Option ℕ) → StepAnswer
@@ -56,7 +72,15 @@ pop_says (Ends (Some value)) = Gives value
 
 abbrev pub popping_says : Site → Popping → ℕ → StepAnswer
 popping_says site (popping.Pops place) seen = pop_says (pop_next site place seen)
-popping_says site party seen = Going
+popping_says site (popping.Looks place) seen = look_says (empty_look_next site place seen)
+popping_says site popping.AtRest seen = Going
+
+abbrev pub pop_progress : StepAnswer → Progress Reply
+pop_progress Going = progress.Going
+pop_progress (Sees empty) = progress.Done (Empty empty)
+pop_progress Done = progress.Done (Popped None)
+pop_progress (Gives value) = progress.Done (Popped (Some value))
+pop_progress (Refuses value) = progress.Done (Popped (Some value))
 
 -- a queue among words with both its parties
 pub record Stored : Type 0 where
@@ -87,32 +111,6 @@ pub record StepsPop (old : Stored) (says : StepAnswer) (new : Stored) : Type 0 w
     pushes = old.pushes;
     pops = popping_after old.site old.pops (popping_sees old.site old.pops old.words);
   }
-
--- for proofs of this crate alone: the place by its name, and what is kept for it
-abbrev pub pushing_of : PushAt → ℕ → ℕ → Bool → ℕ → ℕ → ℕ → Pushing
-pushing_of push_at.Rest value position full read cell old = pushing.AtRest
-pushing_of push_at.LoadsWrite value position full read cell old = pushing.Pushes (push.LoadsWrite value)
-pushing_of push_at.LoadsRead value position full read cell old =
-    pushing.Pushes (push.LoadsRead value position)
-pushing_of push_at.StoresCell value position full read cell old =
-    pushing.Pushes (push.StoresCell value cell position (full_at full read))
-pushing_of push_at.StoresWrite value position full read cell old =
-    pushing.Pushes (push.StoresWrite value position (full_at full read))
-pushing_of push_at.Evicts value position full read cell old = pushing.Pushes (push.Evicts read)
-pushing_of push_at.TakesOld value position full read cell old = pushing.Pushes (push.TakesOld old)
-
-abbrev pub popping_of : PopAt → ℕ → ℕ → ℕ → Popping
-popping_of pop_at.Rest position value cell = popping.AtRest
-popping_of pop_at.LoadsRead position value cell = popping.Pops pop.LoadsRead
-popping_of pop_at.LoadsWrite position value cell = popping.Pops (pop.LoadsWrite position)
-popping_of pop_at.LoadsCell position value cell = popping.Pops (pop.LoadsCell position cell)
-popping_of pop_at.Takes position value cell = popping.Pops (pop.Takes position value)
-
--- the queue is in memory, and these are the cell of a position and the place of the last cell
-pub record KnowsCell (site : Site) (cursor : Cursor) : Type 0 where
-  pub memory : site.base + size site < 2 ^ 64
-  pub end : cursor.last ≡ site.base + 1 + cells site
-  pub stands : cursor.cell ≡ cell_at site cursor.next
 
 -- a queue, by its parts
 pub record IsPlayed (words : List ℕ) (pusher : Pusher) (popper : Popper) : Type 0 where

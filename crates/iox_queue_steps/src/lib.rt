@@ -8,7 +8,8 @@ mod queue;
 mod stored;
 
 pub use machine::QueueMachine;
-pub use queue::{Call, QueueParty, Seat};
+pub use party::QueueParty;
+pub use queue::{Call, Seat};
 pub use stored::{StepAnswer, StoredPopper, StoredPusher, StoredQueue};
 
 #[cfg(test)]

@@ -1,8 +1,8 @@
 //! The machine of one queue.
 ghost use Rattle.std.specs.Prelude.{◌≡◌};
 
-use crate::party::at_rest;
-use crate::queue::{Call, QueueParty};
+use crate::party::{QueueParty, at_rest};
+use crate::queue::Call;
 use iox_steps::{Entry, Machine, MachineError, Moment, Progress, QueueKind, Reply, Site};
 use std::alloc::{AllocError, Global};
 use std::marker::Model;
@@ -35,8 +35,8 @@ impl QueueMachine {
         requires some { site.kind ≡ QueueKind.Overflowing → 0 < site.capacity }
         ensures made { IfOk result (IsNewMachine words.items site) }
     {
-        let _position = words[site.base];
-        let parties = at_rest(alloc, site)?;
+        let position = words[site.base];
+        let parties = at_rest(alloc, site, position)?;
         Ok(QueueMachine {
             machine: Machine::new(alloc, words, parties),
         })

@@ -1,17 +1,68 @@
-//! How a machine plays the parties of a queue.
+//! The parties of a queue as a machine plays them: number 0 pushes and looks at fullness, number 1 pops
+//! and looks at emptiness. Each is kept in memory, and stepped where it lies.
 ghost use Rattle.std.specs.Prelude.{◌≡◌, ◌+◌, ◌^◌, ◌<◌, IfOk};
 ghost use Rattle.iox_steps.specs.Sites.{size};
-ghost use Rattle.iox_steps.specs.Runs.{told as told_of};
 ghost use Rattle.iox_queue_steps.specs.Queues.{queue_asks, queue_happens, queue_rests, QueueLeads, QueueBegins, QueueHolds, AtRestAt};
 ghost use Rattle.iox_queue_steps.specs.QueueLaws.{queue_stays_in, queue_keeps};
 ghost use Rattle.iox_queue_steps.specs.BeginLaws.{queue_starts};
+ghost use Rattle.iox_queue_steps.specs.Stored.{push_progress as pushing_progress_of, pop_progress as popping_progress_of};
 
-use crate::queue::{Call, QueueParty, Seat};
-use iox_steps::{
-    Access, EmptyLook, FullLook, MachineError, Moment, Party, Playable, Pop, Popping, Progress,
-    Push, Pushing, Reply, Site,
-};
+use crate::queue::Call;
+use crate::stored::{StepAnswer, StoredPopper, StoredPusher};
+use iox_steps::{Access, MachineError, Moment, Party, Playable, Progress, QueueKind, Reply, Site};
 use std::alloc::{AllocError, Global};
+use std::marker::Model;
+
+/// Which of the two parties it is.
+#[derive(Drop)]
+enum Role {
+    Pusher(StoredPusher),
+    Popper(StoredPopper),
+}
+
+/// A party of the queue that stands at a place among shared words.
+#[derive(Drop)]
+pub struct QueueParty {
+    role: Role,
+}
+
+impl Model for QueueParty {
+    ghost use Rattle.iox_queue_steps.specs.Queues.{Seated};
+
+    ghost Value = { Seated };
+
+    ghost use Rattle.iox_queue_steps.specs.Roles.{seated};
+
+    ghost view = { λ p. seated p.role };
+}
+
+impl QueueParty {
+    ghost use Rattle.std.specs.Prelude.{◌≡◌, ◌+◌, ◌^◌, ◌<◌};
+    ghost use Rattle.iox_steps.specs.declared.seat.Pushing.TheVariants as pushing;
+    ghost use Rattle.iox_steps.specs.declared.seat.Popping.TheVariants as popping;
+    ghost use Rattle.iox_steps.specs.Sites.{size};
+    ghost use Rattle.iox_queue_steps.specs.declared.queue.Seat.TheVariants.{Pusher, Popper};
+
+    /// The party that pushes, at rest, which expects this write position first.
+    pub fn pusher(site: Site, position: u64) -> QueueParty
+        requires { site.base + size site < 2 ^ 64 }
+        ensures { result ≡ record { site = site; seat = Pusher pushing.AtRest } }
+    {
+        QueueParty {
+            role: Role::Pusher(StoredPusher::new(site, position)),
+        }
+    }
+
+    /// The party that pops, at rest, which expects this read position first.
+    pub fn popper(site: Site, position: u64) -> QueueParty
+        requires { site.base + size site < 2 ^ 64 }
+        ensures { result ≡ record { site = site; seat = Popper popping.AtRest } }
+    {
+        QueueParty {
+            role: Role::Popper(StoredPopper::new(site, position)),
+        }
+    }
+}
 
 impl Party for QueueParty {
     type Reply = Reply;
@@ -20,27 +71,17 @@ impl Party for QueueParty {
 
     ghost leads = { QueueLeads };
 
-    #[inline]
     fn access(&self) -> Access {
-        match self.seat {
-            Seat::Pusher(pushes) => pushes.access(self.site),
-            Seat::Popper(pops) => pops.access(self.site),
+        match &self.role {
+            Role::Pusher(pusher) => pusher.access(),
+            Role::Popper(popper) => popper.access(),
         }
     }
 
-    #[inline]
     fn advance(&mut self, seen: u64) -> Progress<Reply> {
-        match self.seat {
-            Seat::Pusher(mut pushes) => {
-                let progress = pushes.advance(self.site, seen);
-                self.seat = Seat::Pusher(pushes);
-                progress
-            }
-            Seat::Popper(mut pops) => {
-                let progress = pops.advance(self.site, seen);
-                self.seat = Seat::Popper(pops);
-                progress
-            }
+        match &mut self.role {
+            Role::Pusher(pusher) => pusher.advance(seen),
+            Role::Popper(popper) => popper.advance(seen),
         }
     }
 }
@@ -58,52 +99,48 @@ impl Playable for QueueParty {
 
     ghost begins = { QueueBegins };
 
+    #[inline]
     fn is_at_rest(&self) -> bool {
-        match self.seat {
-            Seat::Pusher(Pushing::AtRest) => true,
-            Seat::Popper(Popping::AtRest) => true,
-            _ => false,
+        match &self.role {
+            Role::Pusher(pusher) => pusher.is_at_rest(),
+            Role::Popper(popper) => popper.is_at_rest(),
         }
     }
 
     fn event(&self, seen: u64) -> Option<Moment> {
-        match self.seat {
-            Seat::Pusher(pushes) => told(pushes.moment(self.site, seen)),
-            Seat::Popper(pops) => told(pops.moment(self.site, seen)),
+        let moment = match &self.role {
+            Role::Pusher(pusher) => pusher.moment(seen),
+            Role::Popper(popper) => popper.moment(seen),
+        };
+        match moment {
+            Moment::Quiet => None,
+            moment => Some(moment),
         }
     }
 
-    fn begin(&self, call: Call) -> Result<QueueParty, MachineError> {
-        match (self.seat, call) {
-            (Seat::Pusher(Pushing::AtRest), Call::Push(value)) => {
-                Ok(self.at(Seat::Pusher(Pushing::Pushes(Push::LoadsWrite(value)))))
-            }
-            (Seat::Pusher(Pushing::AtRest), Call::IsFull) => {
-                Ok(self.at(Seat::Pusher(Pushing::Looks(FullLook::LoadsWrite))))
-            }
-            (Seat::Popper(Popping::AtRest), Call::Pop) => {
-                Ok(self.at(Seat::Popper(Popping::Pops(Pop::LoadsRead))))
-            }
-            (Seat::Popper(Popping::AtRest), Call::IsEmpty) => {
-                Ok(self.at(Seat::Popper(Popping::Looks(EmptyLook::LoadsRead))))
-            }
-            (Seat::Pusher(_), Call::Push(_)) => Err(MachineError::Busy),
-            (Seat::Pusher(_), Call::IsFull) => Err(MachineError::Busy),
-            (Seat::Popper(_), Call::Pop) => Err(MachineError::Busy),
-            (Seat::Popper(_), Call::IsEmpty) => Err(MachineError::Busy),
-            (Seat::Pusher(_), Call::Pop) => Err(MachineError::UnknownParty),
-            (Seat::Pusher(_), Call::IsEmpty) => Err(MachineError::UnknownParty),
-            (Seat::Popper(_), Call::Push(_)) => Err(MachineError::UnknownParty),
-            (Seat::Popper(_), Call::IsFull) => Err(MachineError::UnknownParty),
+    fn begin(&mut self, call: Call) -> Result<(), MachineError> {
+        let begun = match (&mut self.role, call) {
+            (Role::Pusher(pusher), Call::Push(value)) => pusher.begin_push(value),
+            (Role::Pusher(pusher), Call::IsFull) => pusher.begin_is_full(),
+            (Role::Popper(popper), Call::Pop) => popper.begin_pop(),
+            (Role::Popper(popper), Call::IsEmpty) => popper.begin_is_empty(),
+            (Role::Pusher(_), Call::Pop) => return Err(MachineError::UnknownParty),
+            (Role::Pusher(_), Call::IsEmpty) => return Err(MachineError::UnknownParty),
+            (Role::Popper(_), Call::Push(_)) => return Err(MachineError::UnknownParty),
+            (Role::Popper(_), Call::IsFull) => return Err(MachineError::UnknownParty),
+        };
+        if begun {
+            Ok(())
+        } else {
+            Err(MachineError::Busy)
         }
     }
 
     #[inline(never)]
     fn play(&mut self, words: &mut Vec<u64>, events: &mut Vec<Moment>) -> Progress<Reply> {
-        let site = self.site;
-        match &mut self.seat {
-            Seat::Pusher(pushes) => pushes.play(site, words, events),
-            Seat::Popper(pops) => pops.play(site, words, events),
+        match &mut self.role {
+            Role::Pusher(pusher) => push_progress(pusher.kind(), pusher.step_heard(words, events)),
+            Role::Popper(popper) => pop_progress(popper.step_heard(words, events)),
         }
     }
 
@@ -114,42 +151,50 @@ impl Playable for QueueParty {
     ghost starts = { queue_starts };
 }
 
-impl QueueParty {
-    /// The party elsewhere in its calls.
-    #[inline]
-    fn at(self, seat: Seat) -> QueueParty
-        ensures site { result.site ≡ self.site }
-        ensures seat { result.seat ≡ seat }
-    {
-        QueueParty {
-            site: self.site,
-            seat,
+/// What the machine answers where the pushing party of a queue of this kind says this.
+#[inline]
+fn push_progress(kind: QueueKind, says: StepAnswer) -> Progress<Reply>
+    ensures { result ≡ pushing_progress_of kind says }
+{
+    match (kind, says) {
+        (_, StepAnswer::Going) => Progress::Going,
+        (_, StepAnswer::Sees(full)) => Progress::Done(Reply::Full(full)),
+        (QueueKind::Index, StepAnswer::Refuses(_)) => Progress::Done(Reply::Pushed(false)),
+        (QueueKind::Index, StepAnswer::Done) => Progress::Done(Reply::Pushed(true)),
+        (QueueKind::Index, StepAnswer::Gives(_)) => Progress::Done(Reply::Pushed(true)),
+        (QueueKind::Overflowing, StepAnswer::Done) => Progress::Done(Reply::HandedBack(None)),
+        (QueueKind::Overflowing, StepAnswer::Gives(value) | StepAnswer::Refuses(value)) => {
+            Progress::Done(Reply::HandedBack(Some(value)))
         }
     }
 }
 
-/// The moment, if it is one.
-fn told(moment: Moment) -> Option<Moment>
-    ensures { result ≡ told_of moment }
+/// What the machine answers where the popping party says this. A pop refuses nothing.
+#[inline]
+fn pop_progress(says: StepAnswer) -> Progress<Reply>
+    ensures { result ≡ popping_progress_of says }
 {
-    match moment {
-        Moment::Quiet => None,
-        moment => Some(moment),
+    match says {
+        StepAnswer::Going => Progress::Going,
+        StepAnswer::Sees(empty) => Progress::Done(Reply::Empty(empty)),
+        StepAnswer::Done => Progress::Done(Reply::Popped(None)),
+        StepAnswer::Gives(value) | StepAnswer::Refuses(value) => {
+            Progress::Done(Reply::Popped(Some(value)))
+        }
     }
 }
 
-/// The two parties of a queue, both at rest.
-pub(crate) fn at_rest(alloc: Global, site: Site) -> Result<Vec<QueueParty>, AllocError>
+/// The two parties of a queue at this position, both at rest.
+pub(crate) fn at_rest(
+    alloc: Global,
+    site: Site,
+    position: u64,
+) -> Result<Vec<QueueParty>, AllocError>
     requires { site.base + size site < 2 ^ 64 }
     ensures { IfOk result (λ parties. AtRestAt site parties.items) }
 {
-    let pusher = QueueParty {
-        site,
-        seat: Seat::Pusher(Pushing::AtRest),
-    };
-    let popper = pusher.at(Seat::Popper(Popping::AtRest));
     let mut parties = Vec::with_capacity(alloc, 2)?;
-    parties.push(pusher)?;
-    parties.push(popper)?;
+    parties.push(QueueParty::pusher(site, position))?;
+    parties.push(QueueParty::popper(site, position))?;
     Ok(parties)
 }

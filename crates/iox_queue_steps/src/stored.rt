@@ -2,6 +2,7 @@
 //! cell from call to call, so that a step in turn divides nothing.
 mod answer;
 mod cell;
+mod hearing;
 mod popper;
 mod pusher;
 mod queue;

@@ -9,4 +9,8 @@ pub enum StepAnswer {
     Done,
     /// it is done, and gives this value
     Gives(u64),
+    /// it is a push that is refused, and gives its own value back
+    Refuses(u64),
+    /// it is a look, is done, and answers this
+    Sees(bool),
 }

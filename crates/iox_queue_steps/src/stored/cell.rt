@@ -1,7 +1,7 @@
 //! Cells by compare and subtract.
-ghost use Rattle.std.specs.Prelude.{◌≡◌, ◌+◌};
-ghost use Rattle.iox_steps.specs.Sites.{cell_at as place_of_cell};
-ghost use Rattle.iox_queue_steps.specs.Stored.{KnowsCell};
+ghost use Rattle.std.specs.Prelude.{◌≡◌, ◌+◌, ◌<◌, ◌≤◌};
+ghost use Rattle.iox_steps.specs.Sites.{cells, cell_at as place_of_cell};
+ghost use Rattle.iox_queue_steps.specs.StoredPlaces.{KnowsCell};
 
 use iox_steps::Site;
 
@@ -16,22 +16,21 @@ pub struct Cursor {
 impl Cursor {
     ghost use Rattle.std.specs.Prelude.{◌≡◌, ◌+◌, ◌^◌, ◌<◌};
     ghost use Rattle.iox_steps.specs.Sites.{size, cell_at as place_of_cell};
-    ghost use Rattle.iox_queue_steps.specs.Stored.{KnowsCell};
+    ghost use Rattle.iox_queue_steps.specs.StoredPlaces.{KnowsCell};
 
-    /// Expects the first position.
-    pub fn new(site: Site) -> Cursor
+    /// Expects this position first. It divides.
+    pub fn new(site: Site, position: u64) -> Cursor
         requires { site.base + size site < 2 ^ 64 }
         ensures { KnowsCell site result }
     {
         Cursor {
-            next: 0,
-            cell: site.cell_at(0),
+            next: position,
+            cell: site.cell_at(position),
             last: site.base + 1 + site.cells(),
         }
     }
 
-    /// The cell of a position, after which the next is expected. It divides only if another
-    /// position was expected.
+    /// The cell of a position, after which the next is expected.
     #[inline]
     pub fn visit(&mut self, site: Site, position: u64) -> usize
         requires { KnowsCell site self.old }
@@ -41,13 +40,28 @@ impl Cursor {
         let cell = if position == self.next {
             self.cell
         } else {
-            site.cell_at(position)
+            self.cell_elsewhere(site, position)
         };
         if position != u64::MAX {
             self.cell = cell_after(site, self.last, position, cell);
             self.next = position + 1;
         }
         cell
+    }
+
+    /// The cell of a position that may be ahead of the expected one. It divides only if the position
+    /// is more than a round ahead, or behind.
+    #[cold]
+    fn cell_elsewhere(&self, site: Site, position: u64) -> usize
+        requires { KnowsCell site self.now }
+        ensures { result ≡ place_of_cell site position }
+    {
+        if position > self.next && position - self.next <= site.cells() as u64 {
+            let ahead = (position - self.next) as usize;
+            cell_ahead(site, *self, ahead)
+        } else {
+            site.cell_at(position)
+        }
     }
 
     /// The cell of a position that may be one round before the expected one: both have one cell.
@@ -74,4 +88,20 @@ fn cell_after(site: Site, last: usize, position: u64, cell: usize) -> usize
     // the contract alone speaks of the position
     let _position = position;
     if cell < last { cell + 1 } else { site.base + 2 }
+}
+
+/// The cell of the position that is so many ahead of the expected one, a round at most.
+#[inline]
+fn cell_ahead(site: Site, cursor: Cursor, ahead: usize) -> usize
+    requires knows { KnowsCell site cursor }
+    requires some { 0 < ahead }
+    requires round { ahead ≤ cells site }
+    ensures { result ≡ place_of_cell site (cursor.next + ahead) }
+{
+    let behind = cursor.last - cursor.cell;
+    if ahead <= behind {
+        cursor.cell + ahead
+    } else {
+        site.base + 1 + (ahead - behind)
+    }
 }

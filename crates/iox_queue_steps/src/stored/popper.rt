@@ -1,13 +1,16 @@
-//! The party that pops, kept in memory.
+//! The party that pops and looks at emptiness, kept in memory.
 ghost use Rattle.std.specs.Prelude.{◌≡◌};
 ghost use Rattle.iox_steps.specs.Pops.{is_taken as was_taken};
 
+mod place;
+
 use super::answer::StepAnswer;
 use super::cell::Cursor;
-use iox_steps::{Access, Pop, QueueKind, Site, perform};
+use super::hearing::{Hears, Nobody};
+use iox_steps::{Access, EmptyLook, Moment, Pop, QueueKind, Site, perform};
 use std::marker::Model;
 
-/// The place of a pop, by its name alone.
+/// The place of a pop or of a look at emptiness, by its name alone.
 #[derive(Clone, Copy)]
 pub enum PopAt {
     Rest,
@@ -15,9 +18,11 @@ pub enum PopAt {
     LoadsWrite,
     LoadsCell,
     Takes,
+    LookLoadsRead,
+    LookLoadsWrite,
 }
 
-/// A party that pops, kept in memory between its steps.
+/// A party that pops and looks at emptiness, kept in memory between its steps.
 #[derive(Drop)]
 pub struct StoredPopper {
     site: Site,
@@ -32,7 +37,8 @@ pub struct StoredPopper {
 }
 
 impl Model for StoredPopper {
-    ghost use Rattle.iox_queue_steps.specs.Stored.{Popper, popping_of, KnowsCell};
+    ghost use Rattle.iox_queue_steps.specs.Stored.{Popper};
+    ghost use Rattle.iox_queue_steps.specs.StoredPlaces.{popping_of, KnowsCell};
 
     ghost Value = { Popper };
 
@@ -44,15 +50,17 @@ impl Model for StoredPopper {
 impl StoredPopper {
     ghost use Rattle.std.specs.Prelude.{◌≡◌, ◌↔◌, ◌+◌, ◌^◌, ◌<◌, IsTrue, length};
     ghost use Rattle.std.specs.Bool.{OnTrue, OnFalse};
-    ghost use Rattle.iox_steps.specs.declared.seat.Popping.TheVariants.{AtRest, Pops};
+    ghost use Rattle.iox_steps.specs.declared.seat.Popping.TheVariants.{AtRest, Pops, Looks};
     ghost use Rattle.iox_steps.specs.declared.pop.Pop.TheVariants.{LoadsRead};
+    ghost use Rattle.iox_steps.specs.declared.pop.EmptyLook.TheVariants as empty_look;
     ghost use Rattle.iox_steps.specs.Accesses.{IsWithin, words_after};
     ghost use Rattle.iox_steps.specs.Sites.{size};
-    ghost use Rattle.iox_steps.specs.Seats.{popping_access, popping_sees, popping_after};
+    ghost use Rattle.iox_steps.specs.Seats.{popping_access, popping_sees, popping_after, popping_moment};
     ghost use Rattle.iox_queue_steps.specs.Stored.{popping_says};
+    ghost use Rattle.iox_queue_steps.specs.StoredPlaces.{IsPop};
 
-    /// A party at rest.
-    pub fn new(site: Site) -> StoredPopper
+    /// A party at rest, which expects this read position first.
+    pub fn new(site: Site, position: u64) -> StoredPopper
         requires { site.base + size site < 2 ^ 64 }
         ensures { result ≡ record { site = site; place = AtRest } }
     {
@@ -62,7 +70,7 @@ impl StoredPopper {
             position: 0,
             value: 0,
             cell: 0,
-            cursor: Cursor::new(site),
+            cursor: Cursor::new(site, position),
         }
     }
 
@@ -83,6 +91,29 @@ impl StoredPopper {
         }
     }
 
+    /// Begins a look at emptiness, with no access, if no call is under way.
+    #[inline]
+    pub fn begin_is_empty(&mut self) -> bool
+        ensures free { IsTrue result ↔ (self.old.place ≡ AtRest) }
+        ensures begun { OnTrue result
+            (self.new ≡ record { site = self.old.site; place = Looks empty_look.LoadsRead }) }
+        ensures busy { OnFalse result (self.new ≡ self.old) }
+    {
+        let free = matches!(self.at, PopAt::Rest);
+        if free {
+            self.at = PopAt::LookLoadsRead;
+        }
+        free
+    }
+
+    /// Is no call under way?
+    #[inline]
+    pub(crate) fn is_at_rest(&self) -> bool
+        ensures { IsTrue result ↔ (self.now.place ≡ AtRest) }
+    {
+        matches!(self.at, PopAt::Rest)
+    }
+
     /// Makes its next access, and goes on.
     #[inline]
     pub fn step(&mut self, words: &mut Vec<u64>) -> StepAnswer
@@ -96,14 +127,72 @@ impl StoredPopper {
         ensures answer { result ≡ popping_says self.old.site self.old.place
             (popping_sees self.old.site self.old.place words.old.items) }
     {
+        self.step_heard(words, &mut Nobody)
+    }
+
+    /// The same; it also tells `ear` what the access does to the queue, or sees there.
+    #[inline(always)]
+    pub(crate) fn step_heard<H: Hears>(&mut self, words: &mut Vec<u64>, ear: &mut H) -> StepAnswer
+        requires within { IsWithin 0 (length words.old.items)
+            (popping_access self.old.site self.old.place) }
+        requires listens { H.can_hear ear.old }
+        ensures words { words.new.items ≡
+            words_after (popping_access self.old.site self.old.place) words.old.items }
+        ensures heard { H.heard ear.old (popping_moment self.old.site self.old.place
+            (popping_sees self.old.site self.old.place words.old.items)) ear.new }
+        ensures site { self.new.site ≡ self.old.site }
+        ensures place { self.new.place ≡ popping_after self.old.site self.old.place
+            (popping_sees self.old.site self.old.place words.old.items) }
+        ensures answer { result ≡ popping_says self.old.site self.old.place
+            (popping_sees self.old.site self.old.place words.old.items) }
+    {
         match self.at {
-            PopAt::Rest => {}
+            PopAt::Rest => ear.hear(Moment::Quiet),
+            PopAt::LookLoadsRead => {
+                self.position = perform(words, Access::Load(self.site.base + 1));
+                ear.hear(Moment::Quiet);
+                self.at = PopAt::LookLoadsWrite;
+            }
+            PopAt::LookLoadsWrite => {
+                let write = perform(words, Access::Load(self.site.base));
+                let look = EmptyLook::LoadsWrite(self.position);
+                ear.hear(look.moment(self.site, write));
+                self.at = PopAt::Rest;
+                return StepAnswer::Sees(self.site.is_empty(self.position, write));
+            }
+            PopAt::LoadsRead | PopAt::LoadsWrite | PopAt::LoadsCell | PopAt::Takes => {
+                return self.pop_on(words, ear);
+            }
+        }
+        StepAnswer::Going
+    }
+
+    /// The same of a pop.
+    #[inline(always)]
+    fn pop_on<H: Hears>(&mut self, words: &mut Vec<u64>, ear: &mut H) -> StepAnswer
+        requires pop { IsPop self.old.place }
+        requires within { IsWithin 0 (length words.old.items)
+            (popping_access self.old.site self.old.place) }
+        requires listens { H.can_hear ear.old }
+        ensures words { words.new.items ≡
+            words_after (popping_access self.old.site self.old.place) words.old.items }
+        ensures heard { H.heard ear.old (popping_moment self.old.site self.old.place
+            (popping_sees self.old.site self.old.place words.old.items)) ear.new }
+        ensures site { self.new.site ≡ self.old.site }
+        ensures place { self.new.place ≡ popping_after self.old.site self.old.place
+            (popping_sees self.old.site self.old.place words.old.items) }
+        ensures answer { result ≡ popping_says self.old.site self.old.place
+            (popping_sees self.old.site self.old.place words.old.items) }
+    {
+        match self.at {
             PopAt::LoadsRead => {
                 self.position = perform(words, Access::Load(self.site.base + 1));
+                ear.hear(Moment::Quiet);
                 self.at = PopAt::LoadsWrite;
             }
             PopAt::LoadsWrite => {
                 let write = perform(words, Access::Load(self.site.base));
+                ear.hear(Pop::LoadsWrite(self.position).moment(self.site, write));
                 if self.site.is_empty(self.position, write) {
                     self.at = PopAt::Rest;
                     return StepAnswer::Done;
@@ -113,11 +202,13 @@ impl StoredPopper {
             }
             PopAt::LoadsCell => {
                 self.value = perform(words, Access::Load(self.cell));
+                ear.hear(Moment::Quiet);
                 self.at = PopAt::Takes;
             }
             PopAt::Takes => {
                 let place = Pop::Takes(self.position, self.value);
                 let seen = perform(words, place.access(self.site));
+                ear.hear(place.moment(self.site, seen));
                 if is_taken(self.site.kind, self.position, seen) {
                     self.at = PopAt::Rest;
                     return StepAnswer::Gives(self.value);
@@ -126,6 +217,7 @@ impl StoredPopper {
                 self.position = seen;
                 self.at = PopAt::LoadsCell;
             }
+            PopAt::Rest | PopAt::LookLoadsRead | PopAt::LookLoadsWrite => unreachable!(),
         }
         StepAnswer::Going
     }

@@ -1,14 +1,17 @@
-//! The party that pushes, kept in memory.
+//! The party that pushes and looks at fullness, kept in memory.
 ghost use Rattle.std.specs.Prelude.{◌≡◌, ◌==◌};
 ghost use Rattle.iox_steps.specs.Sites.{last_position};
 ghost use Rattle.iox_steps.specs.Pushes.{is_refused};
 
+mod place;
+
 use super::answer::StepAnswer;
 use super::cell::Cursor;
-use iox_steps::{Access, Push, QueueKind, Site, perform};
+use super::hearing::{Hears, Nobody};
+use iox_steps::{Access, FullLook, Moment, Push, QueueKind, Site, perform};
 use std::marker::Model;
 
-/// The place of a push, by its name alone.
+/// The place of a push or of a look at fullness, by its name alone.
 #[derive(Clone, Copy)]
 pub enum PushAt {
     Rest,
@@ -18,9 +21,11 @@ pub enum PushAt {
     StoresWrite,
     Evicts,
     TakesOld,
+    LookLoadsWrite,
+    LookLoadsRead,
 }
 
-/// A party that pushes, kept in memory between its steps.
+/// A party that pushes and looks at fullness, kept in memory between its steps.
 #[derive(Drop)]
 pub struct StoredPusher {
     site: Site,
@@ -39,7 +44,8 @@ pub struct StoredPusher {
 }
 
 impl Model for StoredPusher {
-    ghost use Rattle.iox_queue_steps.specs.Stored.{Pusher, pushing_of, KnowsCell};
+    ghost use Rattle.iox_queue_steps.specs.Stored.{Pusher};
+    ghost use Rattle.iox_queue_steps.specs.StoredPlaces.{pushing_of, KnowsCell};
 
     ghost Value = { Pusher };
 
@@ -52,15 +58,17 @@ impl Model for StoredPusher {
 impl StoredPusher {
     ghost use Rattle.std.specs.Prelude.{◌≡◌, ◌↔◌, ◌+◌, ◌^◌, ◌<◌, IsTrue, length};
     ghost use Rattle.std.specs.Bool.{OnTrue, OnFalse};
-    ghost use Rattle.iox_steps.specs.declared.seat.Pushing.TheVariants.{AtRest, Pushes};
+    ghost use Rattle.iox_steps.specs.declared.seat.Pushing.TheVariants.{AtRest, Pushes, Looks};
     ghost use Rattle.iox_steps.specs.declared.push.Push.TheVariants.{LoadsWrite};
+    ghost use Rattle.iox_steps.specs.declared.push.FullLook.TheVariants as full_look;
     ghost use Rattle.iox_steps.specs.Accesses.{IsWithin, words_after};
     ghost use Rattle.iox_steps.specs.Sites.{size};
-    ghost use Rattle.iox_steps.specs.Seats.{pushing_access, pushing_sees, pushing_after};
+    ghost use Rattle.iox_steps.specs.Seats.{pushing_access, pushing_sees, pushing_after, pushing_moment};
     ghost use Rattle.iox_queue_steps.specs.Stored.{pushing_says};
+    ghost use Rattle.iox_queue_steps.specs.StoredPlaces.{IsPush};
 
-    /// A party at rest.
-    pub fn new(site: Site) -> StoredPusher
+    /// A party at rest, which expects this write position first.
+    pub fn new(site: Site, position: u64) -> StoredPusher
         requires { site.base + size site < 2 ^ 64 }
         ensures { result ≡ record { site = site; place = AtRest } }
     {
@@ -72,7 +80,7 @@ impl StoredPusher {
             full: false,
             read: 0,
             cell: 0,
-            cursor: Cursor::new(site),
+            cursor: Cursor::new(site, position),
             oldest: 0,
         }
     }
@@ -95,6 +103,37 @@ impl StoredPusher {
         }
     }
 
+    /// Begins a look at fullness, with no access, if no call is under way.
+    #[inline]
+    pub fn begin_is_full(&mut self) -> bool
+        ensures free { IsTrue result ↔ (self.old.place ≡ AtRest) }
+        ensures begun { OnTrue result
+            (self.new ≡ record { site = self.old.site; place = Looks full_look.LoadsWrite }) }
+        ensures busy { OnFalse result (self.new ≡ self.old) }
+    {
+        let free = matches!(self.at, PushAt::Rest);
+        if free {
+            self.at = PushAt::LookLoadsWrite;
+        }
+        free
+    }
+
+    /// Where its queue refuses or pushes out.
+    #[inline]
+    pub(crate) fn kind(&self) -> QueueKind
+        ensures { result ≡ self.now.site.kind }
+    {
+        self.site.kind
+    }
+
+    /// Is no call under way?
+    #[inline]
+    pub(crate) fn is_at_rest(&self) -> bool
+        ensures { IsTrue result ↔ (self.now.place ≡ AtRest) }
+    {
+        matches!(self.at, PushAt::Rest)
+    }
+
     /// Makes its next access, and goes on.
     #[inline]
     pub fn step(&mut self, words: &mut Vec<u64>) -> StepAnswer
@@ -108,17 +147,79 @@ impl StoredPusher {
         ensures answer { result ≡ pushing_says self.old.site self.old.place
             (pushing_sees self.old.site self.old.place words.old.items) }
     {
+        self.step_heard(words, &mut Nobody)
+    }
+
+    /// The same; it also tells `ear` what the access does to the queue, or sees there.
+    #[inline(always)]
+    pub(crate) fn step_heard<H: Hears>(&mut self, words: &mut Vec<u64>, ear: &mut H) -> StepAnswer
+        requires within { IsWithin 0 (length words.old.items)
+            (pushing_access self.old.site self.old.place) }
+        requires listens { H.can_hear ear.old }
+        ensures words { words.new.items ≡
+            words_after (pushing_access self.old.site self.old.place) words.old.items }
+        ensures heard { H.heard ear.old (pushing_moment self.old.site self.old.place
+            (pushing_sees self.old.site self.old.place words.old.items)) ear.new }
+        ensures site { self.new.site ≡ self.old.site }
+        ensures place { self.new.place ≡ pushing_after self.old.site self.old.place
+            (pushing_sees self.old.site self.old.place words.old.items) }
+        ensures answer { result ≡ pushing_says self.old.site self.old.place
+            (pushing_sees self.old.site self.old.place words.old.items) }
+    {
         match self.at {
-            PushAt::Rest => {}
+            PushAt::Rest => ear.hear(Moment::Quiet),
+            PushAt::LookLoadsWrite => {
+                self.position = perform(words, Access::Load(self.site.base));
+                ear.hear(Moment::Quiet);
+                self.at = PushAt::LookLoadsRead;
+            }
+            PushAt::LookLoadsRead => {
+                let read = perform(words, Access::Load(self.site.base + 1));
+                let look = FullLook::LoadsRead(self.position);
+                ear.hear(look.moment(self.site, read));
+                let full = self.site.is_full(read, self.position);
+                return ends(&mut self.at, StepAnswer::Sees(full));
+            }
+            PushAt::LoadsWrite
+            | PushAt::LoadsRead
+            | PushAt::StoresCell
+            | PushAt::StoresWrite
+            | PushAt::Evicts
+            | PushAt::TakesOld => return self.push_on(words, ear),
+        }
+        StepAnswer::Going
+    }
+
+    /// The same of a push.
+    #[inline(always)]
+    fn push_on<H: Hears>(&mut self, words: &mut Vec<u64>, ear: &mut H) -> StepAnswer
+        requires push { IsPush self.old.place }
+        requires within { IsWithin 0 (length words.old.items)
+            (pushing_access self.old.site self.old.place) }
+        requires listens { H.can_hear ear.old }
+        ensures words { words.new.items ≡
+            words_after (pushing_access self.old.site self.old.place) words.old.items }
+        ensures heard { H.heard ear.old (pushing_moment self.old.site self.old.place
+            (pushing_sees self.old.site self.old.place words.old.items)) ear.new }
+        ensures site { self.new.site ≡ self.old.site }
+        ensures place { self.new.place ≡ pushing_after self.old.site self.old.place
+            (pushing_sees self.old.site self.old.place words.old.items) }
+        ensures answer { result ≡ pushing_says self.old.site self.old.place
+            (pushing_sees self.old.site self.old.place words.old.items) }
+    {
+        match self.at {
             PushAt::LoadsWrite => {
                 self.position = perform(words, Access::Load(self.site.base));
+                ear.hear(Moment::Quiet);
                 self.at = PushAt::LoadsRead;
             }
             PushAt::LoadsRead => {
                 self.read = perform(words, Access::Load(self.site.base + 1));
+                let place = Push::LoadsRead(self.value, self.position);
+                ear.hear(place.moment(self.site, self.read));
                 self.full = self.site.is_full(self.read, self.position);
                 if refuses(self.site.kind, self.full, self.position) {
-                    return ends(&mut self.at, StepAnswer::Gives(self.value));
+                    return ends(&mut self.at, StepAnswer::Refuses(self.value));
                 }
                 self.cell = self.cursor.visit(self.site, self.position);
                 self.position += 1;
@@ -126,10 +227,12 @@ impl StoredPusher {
             }
             PushAt::StoresCell => {
                 perform(words, Access::Store(self.cell, self.value));
+                ear.hear(Moment::Quiet);
                 self.at = PushAt::StoresWrite;
             }
             PushAt::StoresWrite => {
                 perform(words, Access::Store(self.site.base, self.position));
+                ear.hear(Moment::Publish(self.value));
                 if !self.full {
                     return ends(&mut self.at, StepAnswer::Done);
                 }
@@ -137,15 +240,19 @@ impl StoredPusher {
             }
             PushAt::Evicts => {
                 if perform(words, Push::Evicts(self.read).access(self.site)) != self.read {
+                    ear.hear(Moment::Quiet);
                     return ends(&mut self.at, StepAnswer::Done);
                 }
+                ear.hear(Moment::Evict);
                 self.oldest = self.cursor.before(self.site, self.read);
                 self.at = PushAt::TakesOld;
             }
             PushAt::TakesOld => {
                 let oldest = perform(words, Access::Load(self.oldest));
+                ear.hear(Moment::GetBack(oldest));
                 return ends(&mut self.at, StepAnswer::Gives(oldest));
             }
+            PushAt::Rest | PushAt::LookLoadsWrite | PushAt::LookLoadsRead => unreachable!(),
         }
         StepAnswer::Going
     }

@@ -38,7 +38,9 @@ impl StoredQueue {
     ghost use Rattle.iox_steps.specs.declared.seat.Pushing.TheVariants as pushing;
     ghost use Rattle.iox_steps.specs.declared.seat.Popping.TheVariants as popping;
     ghost use Rattle.iox_steps.specs.declared.push.Push.TheVariants as push;
+    ghost use Rattle.iox_steps.specs.declared.push.FullLook.TheVariants as full_look;
     ghost use Rattle.iox_steps.specs.declared.pop.Pop.TheVariants as pop;
+    ghost use Rattle.iox_steps.specs.declared.pop.EmptyLook.TheVariants as empty_look;
     ghost use Rattle.iox_steps.specs.Sites.{size};
     ghost use Rattle.iox_queue_steps.specs.Queues.{IsEmptyAt};
     ghost use Rattle.iox_queue_steps.specs.Stored.{HasPlayed, StepsPush, StepsPop};
@@ -55,12 +57,11 @@ impl StoredQueue {
           pops = popping.AtRest;
         } }
     {
-        // what is read is a word, so the position is below 2^64: the proof rests on it
-        let _position = words[site.base];
+        let position = words[site.base];
         StoredQueue {
             words,
-            pusher: StoredPusher::new(site),
-            popper: StoredPopper::new(site),
+            pusher: StoredPusher::new(site, position),
+            popper: StoredPopper::new(site, position),
         }
     }
 
@@ -87,7 +88,22 @@ impl StoredQueue {
         self.pusher.begin_push(value)
     }
 
-    /// One access of the push.
+    /// Begins a look at fullness, with no access, if the pushing party is at rest.
+    #[inline]
+    pub fn begin_is_full(&mut self) -> bool
+        ensures free { IsTrue result ↔ (self.old.pushes ≡ pushing.AtRest) }
+        ensures begun { OnTrue result (self.new ≡ record {
+          site = self.old.site;
+          words = self.old.words;
+          pushes = pushing.Looks full_look.LoadsWrite;
+          pops = self.old.pops;
+        }) }
+        ensures busy { OnFalse result (self.new ≡ self.old) }
+    {
+        self.pusher.begin_is_full()
+    }
+
+    /// One access of the push, or of the look at fullness.
     #[inline]
     pub fn step_push(&mut self) -> StepAnswer
         ensures { StepsPush self.old result self.new }
@@ -110,7 +126,22 @@ impl StoredQueue {
         self.popper.begin_pop()
     }
 
-    /// One access of the pop.
+    /// Begins a look at emptiness, with no access, if the popping party is at rest.
+    #[inline]
+    pub fn begin_is_empty(&mut self) -> bool
+        ensures free { IsTrue result ↔ (self.old.pops ≡ popping.AtRest) }
+        ensures begun { OnTrue result (self.new ≡ record {
+          site = self.old.site;
+          words = self.old.words;
+          pushes = self.old.pushes;
+          pops = popping.Looks empty_look.LoadsRead;
+        }) }
+        ensures busy { OnFalse result (self.new ≡ self.old) }
+    {
+        self.popper.begin_is_empty()
+    }
+
+    /// One access of the pop, or of the look at emptiness.
     #[inline]
     pub fn step_pop(&mut self) -> StepAnswer
         ensures { StepsPop self.old result self.new }

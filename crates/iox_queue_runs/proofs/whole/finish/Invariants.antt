@@ -7,6 +7,6 @@ use Rattle.iox_queue_runs.proofs.FinishLemmas.{IsLeft}
 use Rattle.iox_queue_runs.proofs.whole.finish.Given as goal
 
 abbrev pub invariant-loop-step : goal.invariant-loop-step
-invariant-loop-step l = (l.party.site ≡ l.fn.site) × (l.fn.site.base + size l.fn.site ≤ length l.words.items)
+invariant-loop-step l = (l.fn.site.base + size l.fn.site ≤ length l.words.items)
     × ((total : ℕ) (reply : Reply)
-    (after : List ℕ) → EndsAfter total l.fn.site l.fn.words.items l.fn.seat reply after → IsLeft l.fn.site total l.step l.words.items l.party.seat reply after)
+    (after : List ℕ) → EndsAfter total l.fn.site l.fn.words.items l.fn.seat reply after → IsLeft l.fn.site total l.step l.words.items l.party reply after)
