@@ -81,7 +81,7 @@ pub use Rattle.iox_steps.specs.declared.seat.Pushing
 pub use Rattle.iox_steps.specs.declared.seat.Popping
 pub use Rattle.iox_queue_steps.specs.declared.queue.Seat
 pub use Rattle.iox_queue_steps.specs.declared.queue.Call
-pub use Rattle.iox_queue_steps.specs.declared.queue.QueueParty
+pub use Rattle.iox_queue_steps.specs.declared.party.QueueParty
 pub use Rattle.iox_queue_steps.specs.declared.machine.QueueMachine
 -- whole calls on the words of a queue
 pub use Rattle.iox_queue_runs.specs.Lists as QueueLists

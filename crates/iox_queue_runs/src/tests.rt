@@ -109,8 +109,8 @@ fn end_push(rt: &impl Abort, queue: &mut StoredQueue) -> Option<u64> {
     for _ in 0..6u64 {
         match queue.step_push() {
             StepAnswer::Going => {}
-            StepAnswer::Done => return None,
-            StepAnswer::Gives(value) => return Some(value),
+            StepAnswer::Gives(value) | StepAnswer::Refuses(value) => return Some(value),
+            _ => return None,
         }
     }
     assert!(rt; false);
@@ -122,8 +122,8 @@ fn end_pop(rt: &impl Abort, queue: &mut StoredQueue) -> Option<u64> {
     for _ in 0..6u64 {
         match queue.step_pop() {
             StepAnswer::Going => {}
-            StepAnswer::Done => return None,
             StepAnswer::Gives(value) => return Some(value),
+            _ => return None,
         }
     }
     assert!(rt; false);

@@ -2,14 +2,7 @@
 use Rattle.std.specs.Prelude.{◌≡◌, ℕ, List, Bool, true, false, Option, Some, None}
 use Rattle.iox_steps.specs.declared.access.Next.{Next}
 use Rattle.iox_steps.specs.declared.access.Next.TheVariants.{Goes, Ends}
-use Rattle.iox_steps.specs.declared.access.Progress.{Progress}
-use Rattle.iox_steps.specs.declared.access.Progress.TheVariants as progress
-use Rattle.iox_steps.specs.declared.site.QueueKind.{QueueKind}
-use Rattle.iox_steps.specs.declared.site.QueueKind.TheVariants.{Index, Overflowing}
 use Rattle.iox_steps.specs.declared.site.Site.{Site}
-use Rattle.iox_steps.specs.declared.seat.Reply.{Reply}
-use Rattle.iox_steps.specs.declared.seat.Reply.TheVariants as reply
-use Rattle.iox_steps.specs.declared.seat.Reply.TheVariants.{HandedBack, Full, Popped, Empty}
 use Rattle.iox_steps.specs.declared.push.Push.{Push}
 use Rattle.iox_steps.specs.declared.push.PushReply.{PushReply}
 use Rattle.iox_steps.specs.declared.push.PushReply.TheVariants.{Pushed, PushedOut, Refused}
@@ -25,7 +18,7 @@ use Rattle.iox_steps.specs.Plays.{Played}
 use Rattle.iox_steps.specs.Pushes.{push_next, full_look_next}
 use Rattle.iox_steps.specs.Pops.{pop_next, empty_look_next}
 use Rattle.iox_queue_steps.specs.declared.stored.answer.StepAnswer.{StepAnswer}
-use Rattle.iox_queue_steps.specs.declared.stored.answer.StepAnswer.TheVariants.{Going, Done, Gives, Refuses, Sees}
+use Rattle.iox_queue_steps.specs.declared.stored.answer.StepAnswer.TheVariants.{Going, Done, Gives, Refuses, Yes, No}
 
 pub record Pusher : Type 0 where
   pub site : Site
@@ -44,25 +37,18 @@ push_says (Ends (PushedOut oldest)) = Gives oldest
 push_says (Ends (Refused value)) = Refuses value
 
 -- what a step of a look says
+abbrev pub seen_says : Bool → StepAnswer
+seen_says true = Yes
+seen_says false = No
+
 abbrev pub look_says : {Look : Type 0} → Next Look Bool → StepAnswer
 look_says (Goes place) = Going
-look_says (Ends seen) = Sees seen
+look_says (Ends seen) = seen_says seen
 
 abbrev pub pushing_says : Site → Pushing → ℕ → StepAnswer
 pushing_says site (pushing.Pushes place) seen = push_says (push_next site place seen)
 pushing_says site (pushing.Looks place) seen = look_says (full_look_next site place seen)
 pushing_says site pushing.AtRest seen = Going
-
--- the same as a machine answers it, for a queue of this kind
-abbrev pub push_progress : QueueKind → StepAnswer → Progress Reply
-push_progress kind Going = progress.Going
-push_progress kind (Sees full) = progress.Done (Full full)
-push_progress Index Done = progress.Done (reply.Pushed true)
-push_progress Index (Gives value) = progress.Done (reply.Pushed true)
-push_progress Index (Refuses value) = progress.Done (reply.Pushed false)
-push_progress Overflowing Done = progress.Done (HandedBack None)
-push_progress Overflowing (Gives value) = progress.Done (HandedBack (Some value))
-push_progress Overflowing (Refuses value) = progress.Done (HandedBack (Some value))
 
 -- what a step of a pop says
 abbrev pub pop_says : Next Pop (Option ℕ) → StepAnswer
@@ -74,13 +60,6 @@ abbrev pub popping_says : Site → Popping → ℕ → StepAnswer
 popping_says site (popping.Pops place) seen = pop_says (pop_next site place seen)
 popping_says site (popping.Looks place) seen = look_says (empty_look_next site place seen)
 popping_says site popping.AtRest seen = Going
-
-abbrev pub pop_progress : StepAnswer → Progress Reply
-pop_progress Going = progress.Going
-pop_progress (Sees empty) = progress.Done (Empty empty)
-pop_progress Done = progress.Done (Popped None)
-pop_progress (Gives value) = progress.Done (Popped (Some value))
-pop_progress (Refuses value) = progress.Done (Popped (Some value))
 
 -- a queue among words with both its parties
 pub record Stored : Type 0 where

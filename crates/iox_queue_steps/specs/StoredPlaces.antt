@@ -41,11 +41,21 @@ popping_of pop_at.Takes position value cell = popping.Pops (pop.Takes position v
 popping_of pop_at.LookLoadsRead position value cell = popping.Looks empty_look.LoadsRead
 popping_of pop_at.LookLoadsWrite position value cell = popping.Looks (empty_look.LoadsWrite position)
 
--- the party is in a push, and in a pop
-abbrev pub IsPush : Pushing → Type 0
-IsPush (pushing.Pushes place) = Unit {0}
-IsPush party = ⊥
+-- the party is in a push that has its value still to publish
+abbrev pub IsPublishing : Pushing → Type 0
+IsPublishing (pushing.Pushes (push.LoadsWrite value)) = Unit {0}
+IsPublishing (pushing.Pushes (push.LoadsRead value write)) = Unit {0}
+IsPublishing (pushing.Pushes (push.StoresCell value cell next full)) = Unit {0}
+IsPublishing (pushing.Pushes (push.StoresWrite value next full)) = Unit {0}
+IsPublishing party = ⊥
 
+-- it is in one that has published it, and pushes the oldest out
+abbrev pub IsEvicting : Pushing → Type 0
+IsEvicting (pushing.Pushes (push.Evicts read)) = Unit {0}
+IsEvicting (pushing.Pushes (push.TakesOld cell)) = Unit {0}
+IsEvicting party = ⊥
+
+-- the party is in a pop
 abbrev pub IsPop : Popping → Type 0
 IsPop (popping.Pops place) = Unit {0}
 IsPop party = ⊥

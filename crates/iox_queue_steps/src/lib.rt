@@ -1,5 +1,6 @@
 //! A queue whose two parties are played access by access: whatever the schedule, the values that
-//! leave are, in order, the first of those published, and the rest waits.
+//! leave are, in order, the first of those published, and the rest waits. Its parties are kept in
+//! memory, and can be had without the machine.
 #![tactic(auto)]
 
 mod machine;

@@ -5,7 +5,7 @@ ghost use Rattle.iox_steps.specs.Sites.{size};
 ghost use Rattle.iox_queue_steps.specs.Queues.{queue_asks, queue_happens, queue_rests, QueueLeads, QueueBegins, QueueHolds, AtRestAt};
 ghost use Rattle.iox_queue_steps.specs.QueueLaws.{queue_stays_in, queue_keeps};
 ghost use Rattle.iox_queue_steps.specs.BeginLaws.{queue_starts};
-ghost use Rattle.iox_queue_steps.specs.Stored.{push_progress as pushing_progress_of, pop_progress as popping_progress_of};
+ghost use Rattle.iox_queue_steps.specs.Roles.{push_progress as pushing_progress_of, pop_progress as popping_progress_of};
 
 use crate::queue::Call;
 use crate::stored::{StepAnswer, StoredPopper, StoredPusher};
@@ -41,7 +41,13 @@ impl QueueParty {
     ghost use Rattle.iox_steps.specs.declared.seat.Pushing.TheVariants as pushing;
     ghost use Rattle.iox_steps.specs.declared.seat.Popping.TheVariants as popping;
     ghost use Rattle.iox_steps.specs.Sites.{size};
+    ghost use Rattle.std.specs.Prelude.{◌++◌, length, vec_len};
+    ghost use Rattle.std.specs.Option.{option_to_list};
+    ghost use Rattle.std.specs.Vec.{vec_capacity};
+    ghost use Rattle.iox_steps.specs.Accesses.{IsWithin, seen_at, words_after};
     ghost use Rattle.iox_queue_steps.specs.declared.queue.Seat.TheVariants.{Pusher, Popper};
+    ghost use Rattle.iox_queue_steps.specs.Queues.{queue_asks, queue_happens, seat_after};
+    ghost use Rattle.iox_queue_steps.specs.Roles.{seat_says};
 
     /// The party that pushes, at rest, which expects this write position first.
     pub fn pusher(site: Site, position: u64) -> QueueParty
@@ -60,6 +66,27 @@ impl QueueParty {
     {
         QueueParty {
             role: Role::Popper(StoredPopper::new(site, position)),
+        }
+    }
+
+    /// Makes its next access, writes down what that does or sees, and goes on. What it says fits two
+    /// registers.
+    #[inline(never)]
+    fn step_told(&mut self, words: &mut Vec<u64>, events: &mut Vec<Moment>) -> StepAnswer
+        requires within { IsWithin 0 (length words.old.items) (queue_asks self.old) }
+        requires room { vec_len events.old < vec_capacity events.old }
+        ensures words { words.new.items ≡ words_after (queue_asks self.old) words.old.items }
+        ensures told { events.new.items ≡ events.old.items ++ option_to_list (queue_happens self.old
+            (seen_at (queue_asks self.old) words.old.items)) }
+        ensures site { self.new.site ≡ self.old.site }
+        ensures seat { self.new.seat ≡ seat_after self.old.site self.old.seat
+            (seen_at (queue_asks self.old) words.old.items) }
+        ensures says { result ≡ seat_says self.old.site self.old.seat
+            (seen_at (queue_asks self.old) words.old.items) }
+    {
+        match &mut self.role {
+            Role::Pusher(pusher) => pusher.step_heard(words, events),
+            Role::Popper(popper) => popper.step_heard(words, events),
         }
     }
 }
@@ -136,11 +163,12 @@ impl Playable for QueueParty {
         }
     }
 
-    #[inline(never)]
+    #[inline]
     fn play(&mut self, words: &mut Vec<u64>, events: &mut Vec<Moment>) -> Progress<Reply> {
-        match &mut self.role {
-            Role::Pusher(pusher) => push_progress(pusher.kind(), pusher.step_heard(words, events)),
-            Role::Popper(popper) => pop_progress(popper.step_heard(words, events)),
+        let says = self.step_told(words, events);
+        match &self.role {
+            Role::Pusher(pusher) => push_progress(pusher.kind(), says),
+            Role::Popper(_) => pop_progress(says),
         }
     }
 
@@ -158,7 +186,8 @@ fn push_progress(kind: QueueKind, says: StepAnswer) -> Progress<Reply>
 {
     match (kind, says) {
         (_, StepAnswer::Going) => Progress::Going,
-        (_, StepAnswer::Sees(full)) => Progress::Done(Reply::Full(full)),
+        (_, StepAnswer::Yes) => Progress::Done(Reply::Full(true)),
+        (_, StepAnswer::No) => Progress::Done(Reply::Full(false)),
         (QueueKind::Index, StepAnswer::Refuses(_)) => Progress::Done(Reply::Pushed(false)),
         (QueueKind::Index, StepAnswer::Done) => Progress::Done(Reply::Pushed(true)),
         (QueueKind::Index, StepAnswer::Gives(_)) => Progress::Done(Reply::Pushed(true)),
@@ -176,7 +205,8 @@ fn pop_progress(says: StepAnswer) -> Progress<Reply>
 {
     match says {
         StepAnswer::Going => Progress::Going,
-        StepAnswer::Sees(empty) => Progress::Done(Reply::Empty(empty)),
+        StepAnswer::Yes => Progress::Done(Reply::Empty(true)),
+        StepAnswer::No => Progress::Done(Reply::Empty(false)),
         StepAnswer::Done => Progress::Done(Reply::Popped(None)),
         StepAnswer::Gives(value) | StepAnswer::Refuses(value) => {
             Progress::Done(Reply::Popped(Some(value)))

@@ -11,3 +11,6 @@ pub use answer::StepAnswer;
 pub use popper::StoredPopper;
 pub use pusher::StoredPusher;
 pub use queue::StoredQueue;
+
+#[cfg(test)]
+mod tests;

@@ -51,7 +51,7 @@ impl Cursor {
 
     /// The cell of a position that may be ahead of the expected one. It divides only if the position
     /// is more than a round ahead, or behind.
-    #[cold]
+    #[inline(always)]
     fn cell_elsewhere(&self, site: Site, position: u64) -> usize
         requires { KnowsCell site self.now }
         ensures { result ≡ place_of_cell site position }

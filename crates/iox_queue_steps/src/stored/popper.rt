@@ -4,7 +4,7 @@ ghost use Rattle.iox_steps.specs.Pops.{is_taken as was_taken};
 
 mod place;
 
-use super::answer::StepAnswer;
+use super::answer::{StepAnswer, look_answer};
 use super::cell::Cursor;
 use super::hearing::{Hears, Nobody};
 use iox_steps::{Access, EmptyLook, Moment, Pop, QueueKind, Site, perform};
@@ -13,13 +13,13 @@ use std::marker::Model;
 /// The place of a pop or of a look at emptiness, by its name alone.
 #[derive(Clone, Copy)]
 pub enum PopAt {
-    Rest,
     LoadsRead,
     LoadsWrite,
     LoadsCell,
     Takes,
     LookLoadsRead,
     LookLoadsWrite,
+    Rest,
 }
 
 /// A party that pops and looks at emptiness, kept in memory between its steps.
@@ -99,7 +99,7 @@ impl StoredPopper {
             (self.new ≡ record { site = self.old.site; place = Looks empty_look.LoadsRead }) }
         ensures busy { OnFalse result (self.new ≡ self.old) }
     {
-        let free = matches!(self.at, PopAt::Rest);
+        let free = self.is_at_rest();
         if free {
             self.at = PopAt::LookLoadsRead;
         }
@@ -154,11 +154,11 @@ impl StoredPopper {
                 self.at = PopAt::LookLoadsWrite;
             }
             PopAt::LookLoadsWrite => {
-                let write = perform(words, Access::Load(self.site.base));
-                let look = EmptyLook::LoadsWrite(self.position);
-                ear.hear(look.moment(self.site, write));
+                let (site, read) = (self.site, self.position);
+                let write = perform(words, Access::Load(site.base));
+                ear.hear(EmptyLook::LoadsWrite(read).moment(site, write));
                 self.at = PopAt::Rest;
-                return StepAnswer::Sees(self.site.is_empty(self.position, write));
+                return look_answer(site.is_empty(read, write));
             }
             PopAt::LoadsRead | PopAt::LoadsWrite | PopAt::LoadsCell | PopAt::Takes => {
                 return self.pop_on(words, ear);
@@ -191,13 +191,14 @@ impl StoredPopper {
                 self.at = PopAt::LoadsWrite;
             }
             PopAt::LoadsWrite => {
+                let read = self.position;
                 let write = perform(words, Access::Load(self.site.base));
-                ear.hear(Pop::LoadsWrite(self.position).moment(self.site, write));
-                if self.site.is_empty(self.position, write) {
+                ear.hear(Pop::LoadsWrite(read).moment(self.site, write));
+                if self.site.is_empty(read, write) {
                     self.at = PopAt::Rest;
                     return StepAnswer::Done;
                 }
-                self.cell = self.cursor.visit(self.site, self.position);
+                self.cell = self.cursor.visit(self.site, read);
                 self.at = PopAt::LoadsCell;
             }
             PopAt::LoadsCell => {
@@ -206,18 +207,19 @@ impl StoredPopper {
                 self.at = PopAt::Takes;
             }
             PopAt::Takes => {
-                let place = Pop::Takes(self.position, self.value);
+                let (read, value) = (self.position, self.value);
+                let place = Pop::Takes(read, value);
                 let seen = perform(words, place.access(self.site));
                 ear.hear(place.moment(self.site, seen));
-                if is_taken(self.site.kind, self.position, seen) {
+                if is_taken(self.site.kind, read, seen) {
                     self.at = PopAt::Rest;
-                    return StepAnswer::Gives(self.value);
+                    return StepAnswer::Gives(value);
                 }
                 self.cell = self.cursor.visit(self.site, seen);
                 self.position = seen;
                 self.at = PopAt::LoadsCell;
             }
-            PopAt::Rest | PopAt::LookLoadsRead | PopAt::LookLoadsWrite => unreachable!(),
+            _ => unreachable!(),
         }
         StepAnswer::Going
     }

@@ -5,7 +5,7 @@ ghost use Rattle.iox_steps.specs.Pushes.{is_refused};
 
 mod place;
 
-use super::answer::StepAnswer;
+use super::answer::{StepAnswer, look_answer};
 use super::cell::Cursor;
 use super::hearing::{Hears, Nobody};
 use iox_steps::{Access, FullLook, Moment, Push, QueueKind, Site, perform};
@@ -14,7 +14,6 @@ use std::marker::Model;
 /// The place of a push or of a look at fullness, by its name alone.
 #[derive(Clone, Copy)]
 pub enum PushAt {
-    Rest,
     LoadsWrite,
     LoadsRead,
     StoresCell,
@@ -23,6 +22,7 @@ pub enum PushAt {
     TakesOld,
     LookLoadsWrite,
     LookLoadsRead,
+    Rest,
 }
 
 /// A party that pushes and looks at fullness, kept in memory between its steps.
@@ -65,7 +65,7 @@ impl StoredPusher {
     ghost use Rattle.iox_steps.specs.Sites.{size};
     ghost use Rattle.iox_steps.specs.Seats.{pushing_access, pushing_sees, pushing_after, pushing_moment};
     ghost use Rattle.iox_queue_steps.specs.Stored.{pushing_says};
-    ghost use Rattle.iox_queue_steps.specs.StoredPlaces.{IsPush};
+    ghost use Rattle.iox_queue_steps.specs.StoredPlaces.{IsPublishing, IsEvicting};
 
     /// A party at rest, which expects this write position first.
     pub fn new(site: Site, position: u64) -> StoredPusher
@@ -111,7 +111,7 @@ impl StoredPusher {
             (self.new ≡ record { site = self.old.site; place = Looks full_look.LoadsWrite }) }
         ensures busy { OnFalse result (self.new ≡ self.old) }
     {
-        let free = matches!(self.at, PushAt::Rest);
+        let free = self.is_at_rest();
         if free {
             self.at = PushAt::LookLoadsWrite;
         }
@@ -174,26 +174,23 @@ impl StoredPusher {
                 self.at = PushAt::LookLoadsRead;
             }
             PushAt::LookLoadsRead => {
-                let read = perform(words, Access::Load(self.site.base + 1));
-                let look = FullLook::LoadsRead(self.position);
-                ear.hear(look.moment(self.site, read));
-                let full = self.site.is_full(read, self.position);
-                return ends(&mut self.at, StepAnswer::Sees(full));
+                let (site, write) = (self.site, self.position);
+                let read = perform(words, Access::Load(site.base + 1));
+                ear.hear(FullLook::LoadsRead(write).moment(site, read));
+                return ends(&mut self.at, look_answer(site.is_full(read, write)));
             }
-            PushAt::LoadsWrite
-            | PushAt::LoadsRead
-            | PushAt::StoresCell
-            | PushAt::StoresWrite
-            | PushAt::Evicts
-            | PushAt::TakesOld => return self.push_on(words, ear),
+            PushAt::LoadsWrite | PushAt::LoadsRead | PushAt::StoresCell | PushAt::StoresWrite => {
+                return self.push_on(words, ear);
+            }
+            PushAt::Evicts | PushAt::TakesOld => return self.evict_on(words, ear),
         }
         StepAnswer::Going
     }
 
-    /// The same of a push.
+    /// The same of a push that has its value still to publish.
     #[inline(always)]
     fn push_on<H: Hears>(&mut self, words: &mut Vec<u64>, ear: &mut H) -> StepAnswer
-        requires push { IsPush self.old.place }
+        requires push { IsPublishing self.old.place }
         requires within { IsWithin 0 (length words.old.items)
             (pushing_access self.old.site self.old.place) }
         requires listens { H.can_hear ear.old }
@@ -214,15 +211,17 @@ impl StoredPusher {
                 self.at = PushAt::LoadsRead;
             }
             PushAt::LoadsRead => {
-                self.read = perform(words, Access::Load(self.site.base + 1));
-                let place = Push::LoadsRead(self.value, self.position);
-                ear.hear(place.moment(self.site, self.read));
-                self.full = self.site.is_full(self.read, self.position);
-                if refuses(self.site.kind, self.full, self.position) {
+                let write = self.position;
+                let read = perform(words, Access::Load(self.site.base + 1));
+                let full = self.site.is_full(read, write);
+                self.full = full;
+                self.read = read;
+                ear.hear(Push::LoadsRead(self.value, write).moment(self.site, read));
+                if refuses(self.site.kind, full, write) {
                     return ends(&mut self.at, StepAnswer::Refuses(self.value));
                 }
-                self.cell = self.cursor.visit(self.site, self.position);
-                self.position += 1;
+                self.cell = self.cursor.visit(self.site, write);
+                self.position = write + 1;
                 self.at = PushAt::StoresCell;
             }
             PushAt::StoresCell => {
@@ -238,13 +237,37 @@ impl StoredPusher {
                 }
                 self.at = PushAt::Evicts;
             }
+            _ => unreachable!(),
+        }
+        StepAnswer::Going
+    }
+
+    /// The same of a push that has published its value, and pushes the oldest out.
+    #[inline(always)]
+    fn evict_on<H: Hears>(&mut self, words: &mut Vec<u64>, ear: &mut H) -> StepAnswer
+        requires push { IsEvicting self.old.place }
+        requires within { IsWithin 0 (length words.old.items)
+            (pushing_access self.old.site self.old.place) }
+        requires listens { H.can_hear ear.old }
+        ensures words { words.new.items ≡
+            words_after (pushing_access self.old.site self.old.place) words.old.items }
+        ensures heard { H.heard ear.old (pushing_moment self.old.site self.old.place
+            (pushing_sees self.old.site self.old.place words.old.items)) ear.new }
+        ensures site { self.new.site ≡ self.old.site }
+        ensures place { self.new.place ≡ pushing_after self.old.site self.old.place
+            (pushing_sees self.old.site self.old.place words.old.items) }
+        ensures answer { result ≡ pushing_says self.old.site self.old.place
+            (pushing_sees self.old.site self.old.place words.old.items) }
+    {
+        match self.at {
             PushAt::Evicts => {
-                if perform(words, Push::Evicts(self.read).access(self.site)) != self.read {
+                let read = self.read;
+                if perform(words, Push::Evicts(read).access(self.site)) != read {
                     ear.hear(Moment::Quiet);
                     return ends(&mut self.at, StepAnswer::Done);
                 }
                 ear.hear(Moment::Evict);
-                self.oldest = self.cursor.before(self.site, self.read);
+                self.oldest = self.cursor.before(self.site, read);
                 self.at = PushAt::TakesOld;
             }
             PushAt::TakesOld => {
@@ -252,7 +275,7 @@ impl StoredPusher {
                 ear.hear(Moment::GetBack(oldest));
                 return ends(&mut self.at, StepAnswer::Gives(oldest));
             }
-            PushAt::Rest | PushAt::LookLoadsWrite | PushAt::LookLoadsRead => unreachable!(),
+            _ => unreachable!(),
         }
         StepAnswer::Going
     }
