@@ -1,5 +1,5 @@
 -- Whatever the call comes to from its beginning, it still comes to from here, with so many accesses fewer.
-use Rattle.std.proofs.Common.{◌≡◌, ℕ, ◌+◌, ◌≤◌, List, length}
+use Rattle.std.proofs.Common.{ℕ, ◌+◌, ◌≤◌, List, length}
 use Rattle.iox_steps.specs.declared.seat.Reply.{Reply}
 use Rattle.iox_steps.specs.Sites.{size}
 use Rattle.iox_queue_runs.specs.Alone.{EndsAfter}
