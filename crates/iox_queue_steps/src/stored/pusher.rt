@@ -118,7 +118,7 @@ impl StoredPusher {
         free
     }
 
-    /// Where its queue refuses or pushes out.
+    /// What its pushes do to a full queue.
     #[inline]
     pub(crate) fn kind(&self) -> QueueKind
         ensures { result ≡ self.now.site.kind }
