@@ -22,22 +22,28 @@ use Rattle.iox_steps.specs.Pops.{is_taken}
 use Rattle.iox_steps.specs.Replies.{push_reply}
 use Rattle.iox_steps.specs.Seats.{progress, pushing_progress, pushing_moment, popping_progress, popping_moment}
 use Rattle.iox_steps.specs.Fits.{PushingKnows}
-use Rattle.iox_steps.specs.Answers.{Answers}
+use Rattle.iox_steps.specs.Answers.{Answers, unpublished}
 
 -- a push that sees both positions
 refused_answers : (kind : QueueKind) (site : Site) (value write read : ℕ) (end full : Bool)
-    → Answers (progress (push_reply kind) (if is_refused kind end full then Ends (Refused value) else Goes (push.StoresCell value (cell_at site write) (write + 1) (full_at full read)))) (if end then SeesEnd else (if full then SeesFull else SeesRoom))
+    → Answers (Some value)
+    (progress (push_reply kind) (if is_refused kind end full then Ends (Refused value)
+    else Goes (push.StoresCell value (cell_at site write) (write + 1) (full_at full read))))
+    (if end then SeesEnd else (if full then SeesFull else SeesRoom))
 refused_answers Index site value write read true full = inr refl
 refused_answers Index site value write read false true = inl refl
 refused_answers Index site value write read false false = tt
-refused_answers Overflowing site value write read true full = inr refl
+refused_answers Overflowing site value write read true full = (refl, refl)
 refused_answers Overflowing site value write read false full = tt
 
-pushed_answers : (kind : QueueKind) (value : ℕ) → Answers (Done (push_reply kind Pushed)) (Publish value)
-pushed_answers Index value = (value, refl)
-pushed_answers Overflowing value = inl (value, refl)
+pushed_answers : (kind : QueueKind) (value : ℕ)
+    → Answers (Some value) (Done (push_reply kind Pushed)) (Publish value)
+pushed_answers Index value = refl
+pushed_answers Overflowing value = refl
 
-pub pushing_answers : (site : Site) (word : ℕ → ℕ) (waiting hand : List ℕ) (pushes : Pushing) (seen : ℕ) → PushingKnows site word waiting hand pushes → Answers (pushing_progress site pushes seen) (pushing_moment site pushes seen)
+pub pushing_answers : (site : Site) (word : ℕ → ℕ) (waiting hand : List ℕ) (pushes : Pushing) (seen : ℕ)
+    → PushingKnows site word waiting hand pushes
+    → Answers (unpublished pushes) (pushing_progress site pushes seen) (pushing_moment site pushes seen)
 pushing_answers site word waiting hand pushing.AtRest seen knows = tt
 pushing_answers site word waiting hand (pushing.Pushes (push.LoadsWrite value)) seen knows = tt
 pushing_answers site word waiting hand (pushing.Pushes (push.LoadsRead value write)) seen knows = refused_answers site.kind site value write seen (eqb write last_position) (is_full site seen write)
@@ -46,13 +52,14 @@ pushing_answers site word waiting hand (pushing.Pushes (push.StoresWrite value n
 pushing_answers site word waiting hand (pushing.Pushes (push.StoresWrite value next (Some read))) seen knows = tt
 pushing_answers site word waiting hand (pushing.Pushes (push.Evicts read)) seen knows = elim (cases_Bool (eqb seen read)) [
   | inl hit ↦ rw hit tt
-  | inr missed ↦ rw (missed, ap (λ kind. push_reply kind Pushed) knows.1) (inr refl)
+  | inr missed ↦ rw (missed, ap (λ kind. push_reply kind Pushed) knows.1) refl
 ]
-pushing_answers site word waiting hand (pushing.Pushes (push.TakesOld cell)) seen knows = rw (ap (λ kind. push_reply kind (PushedOut seen)) knows.1) (inl refl)
+pushing_answers site word waiting hand (pushing.Pushes (push.TakesOld cell)) seen knows = rw (ap (λ kind. push_reply kind (PushedOut seen)) knows.1) refl
 pushing_answers site word waiting hand (pushing.Looks full_look.LoadsWrite) seen knows = tt
 pushing_answers site word waiting hand (pushing.Looks (full_look.LoadsRead write)) seen knows = elim (cases_Bool (is_full site seen write)) [ inl full ↦ rw full refl | inr room ↦ rw room refl ]
 
-pub popping_answers : (site : Site) (pops : Popping) (seen : ℕ) → Answers (popping_progress site pops seen) (popping_moment site pops seen)
+pub popping_answers : (site : Site) (pops : Popping) (seen : ℕ)
+    → Answers None (popping_progress site pops seen) (popping_moment site pops seen)
 popping_answers site popping.AtRest seen = tt
 popping_answers site (popping.Pops pop.LoadsRead) seen = tt
 popping_answers site (popping.Pops (pop.LoadsWrite read)) seen = elim (cases_Bool (is_empty site read seen)) [ inl none ↦ rw none refl | inr some ↦ rw some tt ]

@@ -158,13 +158,13 @@ module _ (site : Site) (word : ℕ → ℕ) where
           (knows.0, omega (arith, knows.1), omega (arith, knows.2))
   pushing_step waiting hand (pushing.Pushes (push.StoresWrite value next None)) pops fits =
       let free = fits.push.2 in
-      (free_cell site word waiting None fits.push.0.1 free, publishes None fits (fits.push.0.0, omega (arith, free, length_push waiting value)))
+      ((free_cell site word waiting None fits.push.0.1 free, omega (arith, fits.push.1.0, fits.push.1.1)), publishes None fits (fits.push.0.0, omega (arith, free, length_push waiting value)))
   pushing_step waiting hand (pushing.Pushes (push.StoresWrite value next (Some read))) pops fits =
       let full = fits.push.2 in
       let is_next = fits.push.1.0 in
       let write_new = put-same word site.base next in
       let read_same = put-other word site.base next (site.base + 1) (omega arith) in
-      (free_cell site word waiting (Some read) fits.push.0.1 full, publishes (Some read) fits (fits.push.0.0, full.0, omega (arith, full.1), omega (arith, full.2)))
+      ((free_cell site word waiting (Some read) fits.push.0.1 full, omega (arith, fits.push.1.0, fits.push.1.1)), publishes (Some read) fits (fits.push.0.0, full.0, omega (arith, full.1), omega (arith, full.2)))
   pushing_step waiting hand (pushing.Pushes (push.Evicts read)) pops fits =
       let position = fits.position in
       elim (cases_Bool (eqb (read_of site word) read)) [

@@ -1,9 +1,10 @@
 -- What one access of a party does to a queue. The crates above stand on these two laws.
-use Rattle.std.specs.Prelude.{ℕ, List}
+use Rattle.std.specs.Prelude.{◌≡◌, ℕ, ◌+◌, ◌<◌, ◌≤◌, ◌⊎◌, List, length, slice_index}
 use Rattle.iox_steps.specs.declared.site.Site.{Site}
 use Rattle.iox_steps.specs.declared.seat.Pushing.{Pushing}
 use Rattle.iox_steps.specs.declared.seat.Popping.{Popping}
 use Rattle.iox_steps.specs.Accesses.{seen_by, word_after}
+use Rattle.iox_steps.specs.Sites.{size}
 use Rattle.iox_steps.specs.Seats.{pushing_access, pushing_after, pushing_moment, popping_access, popping_after, popping_moment}
 use Rattle.iox_steps.specs.Moments.{IsTrueOf, waiting_after, hand_after}
 use Rattle.iox_steps.specs.Fits.{write_of, Fits}
@@ -27,3 +28,9 @@ PoppingKeeps site word waiting hand pushes pops =
     IsTrueOf site (write_of site word) waiting hand moment
     × Fits site (word_after access word) (waiting_after moment waiting) (hand_after moment waiting hand)
     pushes (popping_after site pops seen)
+
+-- no word of a list changed but those of the queue
+abbrev pub KeepsOutside : Site → List ℕ → List ℕ → Type 0
+KeepsOutside site words after = (length after ≡ length words)
+    × ((place : ℕ) → (place < site.base) ⊎ (site.base + size site ≤ place)
+    → slice_index after place ≡ slice_index words place)

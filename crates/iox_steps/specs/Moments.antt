@@ -44,7 +44,9 @@ hand_after SeesEnd waiting hand = hand
 -- what a moment says is true of a queue with this write position, in which this waits and this is
 -- in hand
 abbrev pub IsTrueOf : Site → ℕ → List ℕ → List ℕ → Moment → Type 0
-IsTrueOf site write waiting hand (Publish value) = length waiting < cells site
+-- there is a cell, and a position after this one
+IsTrueOf site write waiting hand (Publish value) =
+    (length waiting < cells site) × (write < last_position)
 IsTrueOf site write waiting hand (HandOut value) = waiting ≡ value ∷ rest waiting
 IsTrueOf site write waiting hand Evict = (hand ≡ []) × (length waiting ≡ site.capacity + 1)
 IsTrueOf site write waiting hand (GetBack value) = hand ≡ value ∷ []
