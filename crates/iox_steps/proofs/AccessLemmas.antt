@@ -3,7 +3,7 @@ use Rattle.std.proofs.Common.{◌≡◌, ◌≢◌, ◌⊎◌, ℕ, ◌+◌, ◌
 use Rattle.std.proofs.lemmas.Bool.{cases_Bool, eqb-true, eqb-false}
 use Rattle.iox_steps.specs.declared.access.Access.{Access}
 use Rattle.iox_steps.specs.declared.access.Access.TheVariants.{Local, Load, Store, CompareExchange, FetchAdd, FetchSub, FetchOr, FetchAnd}
-use Rattle.iox_steps.specs.Accesses.{place_of, change_of, put, word_after, words_after, IsWithin, Changes}
+use Rattle.iox_steps.specs.Accesses.{place_of, change_of, put, word_after, words_after, IsPlace, IsWithin, Changes}
 use Rattle.iox_steps.proofs.Places.{put-same, put-other}
 
 -- no word but the one that is named changes
@@ -96,3 +96,65 @@ outside (FetchAdd place value) word base size at within out = word_after-other (
 outside (FetchSub place value) word base size at within out = word_after-other (FetchSub place value) word at (elim out [ inl below ↦ omega (arith, within.0) | inr above ↦ omega (arith, within.1) ])
 outside (FetchOr place value) word base size at within out = word_after-other (FetchOr place value) word at (elim out [ inl below ↦ omega (arith, within.0) | inr above ↦ omega (arith, within.1) ])
 outside (FetchAnd place value) word base size at within out = word_after-other (FetchAnd place value) word at (elim out [ inl below ↦ omega (arith, within.0) | inr above ↦ omega (arith, within.1) ])
+
+-- an access changes one word at most
+pub after_changes : (access : Access) (word : ℕ → ℕ)
+    → Changes word (place_of access) (change_of access (word (place_of access))) (word_after access word)
+after_changes access word = (word_after-same access word, λ at other. word_after-other access word at other)
+
+-- words that changed so are as before wherever words after it are
+pub changes_outside : (access : Access) (word word' : ℕ → ℕ) (base size at : ℕ)
+    → Changes word (place_of access) (change_of access (word (place_of access))) word'
+    → IsWithin base size access → (at < base) ⊎ (base + size ≤ at) → word' at ≡ word at
+changes_outside access word word' base size at changes within out =
+    changed_are_after access word word' changes at ∙ outside access word base size at within out
+
+-- and one word of a list at most, which is then as long as before
+pub list_changes : (access : Access) (words : List ℕ) → IsWithin 0 (length words) access
+    → let word : ℕ → ℕ = λ place. get_or words place 0 in
+    Changes word (place_of access) (change_of access (word (place_of access))) (λ place. get_or (words_after access words) place 0)
+list_changes access words within = (
+  reads_after access words within (place_of access) ∙ word_after-same access (λ place. get_or words place 0),
+  λ at other. reads_after access words within at ∙ word_after-other access (λ place. get_or words place 0) at other,
+)
+
+-- no word of a list but the one that is named, wherever that is
+pub words_after-other : (access : Access) (words : List ℕ) (at : ℕ) → at ≢ place_of access
+    → get_or (words_after access words) at 0 ≡ get_or words at 0
+words_after-other Local words at other = refl
+words_after-other (Load place) words at other = refl
+words_after-other (Store place value) words at other = get_or-set_other words place at value 0 other
+words_after-other (CompareExchange place old new) words at other = elim (cases_Bool (eqb (get_or words place 0) old)) [
+  | inl same ↦ rw same (get_or-set_other words place at new 0 other)
+  | inr apart ↦ rw apart refl
+]
+words_after-other (FetchAdd place value) words at other = get_or-set_other words place at _ 0 other
+words_after-other (FetchSub place value) words at other = get_or-set_other words place at _ 0 other
+words_after-other (FetchOr place value) words at other = get_or-set_other words place at _ 0 other
+words_after-other (FetchAnd place value) words at other = get_or-set_other words place at _ 0 other
+
+-- what is outside a stretch is not the place of an access within it
+other_place : (access : Access) (base size at : ℕ) → IsPlace base size (place_of access)
+    → (at < base) ⊎ (base + size ≤ at) → at ≢ place_of access
+other_place access base size at within out = elim out [
+  | inl below ↦ omega (arith, within.0)
+  | inr above ↦ omega (arith, within.1)
+]
+
+-- so no word of a list changes outside that stretch
+pub outside_in_list : (access : Access) (words : List ℕ) (base size at : ℕ) → IsWithin base size access
+    → (at < base) ⊎ (base + size ≤ at) → get_or (words_after access words) at 0 ≡ get_or words at 0
+outside_in_list Local words base size at within out = refl
+outside_in_list (Load place) words base size at within out = refl
+outside_in_list (Store place value) words base size at within out =
+    words_after-other (Store place value) words at (other_place (Store place value) base size at within out)
+outside_in_list (CompareExchange place old new) words base size at within out =
+    words_after-other (CompareExchange place old new) words at (other_place (CompareExchange place old new) base size at within out)
+outside_in_list (FetchAdd place value) words base size at within out =
+    words_after-other (FetchAdd place value) words at (other_place (FetchAdd place value) base size at within out)
+outside_in_list (FetchSub place value) words base size at within out =
+    words_after-other (FetchSub place value) words at (other_place (FetchSub place value) base size at within out)
+outside_in_list (FetchOr place value) words base size at within out =
+    words_after-other (FetchOr place value) words at (other_place (FetchOr place value) base size at within out)
+outside_in_list (FetchAnd place value) words base size at within out =
+    words_after-other (FetchAnd place value) words at (other_place (FetchAnd place value) base size at within out)

@@ -1,5 +1,5 @@
 -- A queue's parties stay within its words, and no word but these counts.
-use Rattle.std.proofs.Common.{◌≡◌, ℕ, ◌+◌, ◌^◌, ◌<◌, ◌≤◌, List, [], length, refl, ◌∙◌, inl, inr, arith}
+use Rattle.std.proofs.Common.{◌≡◌, ℕ, ◌+◌, ◌^◌, ◌<◌, ◌≤◌, ◌⊎◌, List, [], length, get_or, refl, ◌∙◌, inl, inr, arith}
 use Rattle.iox_steps.specs.declared.access.Access.{Access}
 use Rattle.iox_steps.specs.declared.site.QueueKind.{QueueKind}
 use Rattle.iox_steps.specs.declared.site.QueueKind.TheVariants.{Index, Overflowing}
@@ -12,7 +12,7 @@ use Rattle.iox_steps.specs.declared.seat.Pushing.{Pushing}
 use Rattle.iox_steps.specs.declared.seat.Pushing.TheVariants as pushing
 use Rattle.iox_steps.specs.declared.seat.Popping.{Popping}
 use Rattle.iox_steps.specs.declared.seat.Popping.TheVariants as popping
-use Rattle.iox_steps.specs.Accesses.{word_after, IsPlace, IsWithin, AreApart}
+use Rattle.iox_steps.specs.Accesses.{word_after, words_after, IsPlace, IsWithin, Changes, AreApart}
 use Rattle.iox_steps.specs.Sites.{cells, size}
 use Rattle.iox_steps.specs.Pops.{take_access}
 use Rattle.iox_steps.specs.Seats.{pushing_access, popping_access}
@@ -20,7 +20,7 @@ use Rattle.iox_steps.specs.Fits.{write_of, read_of, PushingKnows, PoppingKnows, 
 use Rattle.iox_steps.proofs.Places.{cell_place}
 use Rattle.iox_steps.proofs.Rings.{ring_frame}
 use Rattle.iox_steps.proofs.Knowledge.{free_cell, pushing_knows_less, popping_knows_more}
-use Rattle.iox_steps.proofs.AccessLemmas.{outside}
+use Rattle.iox_steps.proofs.AccessLemmas.{outside, outside_in_list}
 
 -- the access of the party that pushes is within the queue's words
 pub pushing_within : (site : Site) (word : ℕ → ℕ) (waiting hand : List ℕ) (pushes : Pushing) → PushingKnows site word waiting hand pushes → IsWithin site.base (size site) (pushing_access site pushes)
@@ -70,12 +70,53 @@ fits_frame site word word' waiting hand pushes pops same fits =
       pop = popping_knows_more site word word' waiting waiting read_same (omega arith) (λ _. refl) pops fits.pop;
     }
 
--- an access elsewhere leaves a queue as it is
-pub fits_elsewhere : (site : Site) (word : ℕ → ℕ) (waiting hand : List ℕ) (pushes : Pushing) (pops : Popping) (access : Access) (base' size' : ℕ)
-    → IsWithin base' size' access → AreApart site.base (size site) base' size' → Fits site word waiting hand pushes pops → Fits site (word_after access word) waiting hand pushes pops
+-- two stretches are apart whichever is named first
+pub apart_sym : (base size base' size' : ℕ) → AreApart base size base' size' → AreApart base' size' base size
+apart_sym base size base' size' (inl before) = inr before
+apart_sym base size base' size' (inr behind) = inl behind
+
+-- a place of the one is outside the other
+apart_outside : (base size base' size' at : ℕ) → AreApart base size base' size' → IsPlace base size at
+    → (at < base') ⊎ (base' + size' ≤ at)
+apart_outside base size base' size' at (inl before) place = inl (omega (arith, place.1))
+apart_outside base size base' size' at (inr behind) place = inr (omega (arith, place.0))
+
+-- what changes no word but in a stretch elsewhere leaves a queue as it is
+pub fits_apart : (site : Site) (word word' : ℕ → ℕ) (waiting hand : List ℕ) (pushes : Pushing) (pops : Popping) (base' size' : ℕ)
+    → ((at : ℕ) → (at < base') ⊎ (base' + size' ≤ at) → word' at ≡ word at)
+    → AreApart site.base (size site) base' size'
+    → Fits site word waiting hand pushes pops → Fits site word' waiting hand pushes pops
+fits_apart site word word' waiting hand pushes pops base' size' same apart fits =
+    fits_frame site word word' waiting hand pushes pops
+    (λ at place. same at (apart_outside site.base (size site) base' size' at apart place)) fits
+
+-- an access elsewhere, of words by their places
+pub fits_elsewhere : (site : Site) (word : ℕ → ℕ) (waiting hand : List ℕ) (pushes : Pushing) (pops : Popping)
+    (access : Access) (base' size' : ℕ)
+    → IsWithin base' size' access → AreApart site.base (size site) base' size'
+    → Fits site word waiting hand pushes pops → Fits site (word_after access word) waiting hand pushes pops
 fits_elsewhere site word waiting hand pushes pops access base' size' within apart fits =
-    fits_frame site word (word_after access word) waiting hand pushes pops
-    (λ at place. outside access word base' size' at within (elim apart [ inl before ↦ inl (omega (arith, place.1)) | inr behind ↦ inr (omega (arith, place.0)) ])) fits
+    fits_apart site word (word_after access word) waiting hand pushes pops base' size'
+    (λ at out. outside access word base' size' at within out) apart fits
+
+-- of a list of words
+pub fits_elsewhere_in_list : (site : Site) (words waiting hand : List ℕ) (pushes : Pushing) (pops : Popping)
+    (access : Access) (base' size' : ℕ)
+    → IsWithin base' size' access → AreApart site.base (size site) base' size'
+    → Fits site (λ place. get_or words place 0) waiting hand pushes pops
+    → Fits site (λ place. get_or (words_after access words) place 0) waiting hand pushes pops
+fits_elsewhere_in_list site words waiting hand pushes pops access base' size' within apart fits =
+    fits_apart site (λ place. get_or words place 0) (λ place. get_or (words_after access words) place 0)
+    waiting hand pushes pops base' size' (λ at out. outside_in_list access words base' size' at within out) apart fits
+
+-- of words that are told one change at a time, as those of a table are
+pub fits_elsewhere_changed : (site : Site) (word word' : ℕ → ℕ) (waiting hand : List ℕ) (pushes : Pushing) (pops : Popping)
+    (place new base' size' : ℕ) → Changes word place new word' → IsPlace base' size' place
+    → AreApart site.base (size site) base' size'
+    → Fits site word waiting hand pushes pops → Fits site word' waiting hand pushes pops
+fits_elsewhere_changed site word word' waiting hand pushes pops place new base' size' changes within apart fits =
+    fits_apart site word word' waiting hand pushes pops base' size'
+    (λ at out. changes.1 at (elim out [ inl below ↦ omega (arith, within.0) | inr above ↦ omega (arith, within.1) ])) apart fits
 
 -- an empty queue, at whatever position, with both parties at rest
 pub fits_empty : (site : Site) (word : ℕ → ℕ) → (site.kind ≡ Overflowing → 0 < site.capacity) → write_of site word ≡ read_of site word → write_of site word < 2 ^ 64 → Fits site word [] [] pushing.AtRest popping.AtRest

@@ -8,10 +8,11 @@ pub mod Frames
 pub mod Begins
 pub mod WorldLemmas
 pub mod Writes
+pub mod AnswerLemmas
+pub mod Turns
 pub mod ListSteps
 pub mod RunLemmas
 pub mod Plays
-pub mod AnswerLemmas
 pub mod ResultLemmas
 pub mod Tables
 pub mod Stores

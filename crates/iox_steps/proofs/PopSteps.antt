@@ -15,10 +15,10 @@ use Rattle.iox_steps.specs.Sites.{position_after, is_empty}
 use Rattle.iox_steps.specs.Pops.{is_taken, take_access}
 use Rattle.iox_steps.specs.Moments.{rest}
 use Rattle.iox_steps.specs.Fits.{write_of, read_of, Ring, IsSeen, PoppingKnows, Fits}
-use Rattle.iox_steps.specs.Laws.{PoppingKeeps}
+use Rattle.iox_steps.specs.Laws.{popping_turn}
 use Rattle.iox_steps.proofs.Places.{cases_kind}
 use Rattle.iox_steps.proofs.Knowledge.{seen_before, pushing_knows_less}
-use Rattle.iox_steps.proofs.PushSteps.{taken, write_kept, read_moved, cells_kept}
+use Rattle.iox_steps.proofs.PushSteps.{StepsTo, taken, write_kept, read_moved, cells_kept}
 
 -- what was seen just now is the read position
 seen_now : (site : Site) (word : ℕ → ℕ) (kind : QueueKind) → IsSeen site word kind (read_of site word)
@@ -64,7 +64,8 @@ module _ (site : Site) (word : ℕ → ℕ) where
         },
       )
 
-  pub popping_step : (waiting hand : List ℕ) (pushes : Pushing) (pops : Popping) → Fits site word waiting hand pushes pops → PoppingKeeps site word waiting hand pushes pops
+  pub popping_step : (waiting hand : List ℕ) (pushes : Pushing) (pops : Popping)
+      → Fits site word waiting hand pushes pops → StepsTo site word waiting hand (popping_turn site word pushes pops)
   popping_step waiting hand pushes popping.AtRest fits = (tt, fits)
   popping_step waiting hand pushes (popping.Pops pop.LoadsRead) fits = (tt, pops_on fits (seen_now site word site.kind, λ late. absurd (omega arith)))
   popping_step waiting hand pushes (popping.Pops (pop.LoadsWrite read)) fits =

@@ -10,15 +10,20 @@ use Rattle.iox_steps.specs.declared.push.FullLook.TheVariants as full_look
 use Rattle.iox_steps.specs.declared.seat.Pushing.{Pushing}
 use Rattle.iox_steps.specs.declared.seat.Pushing.TheVariants as pushing
 use Rattle.iox_steps.specs.declared.seat.Popping.{Popping}
-use Rattle.iox_steps.specs.Accesses.{put, IsPlace}
+use Rattle.iox_steps.specs.Accesses.{put, word_after, IsPlace}
 use Rattle.iox_steps.specs.Sites.{cells, cell_at, last_position, position_after, is_full}
 use Rattle.iox_steps.specs.Pushes.{is_refused}
-use Rattle.iox_steps.specs.Moments.{rest, front}
+use Rattle.iox_steps.specs.Moments.{rest, front, IsTrueOf, waiting_after, hand_after}
 use Rattle.iox_steps.specs.Fits.{write_of, read_of, Ring, RoomKnows, PushingKnows, PoppingKnows, Fits}
-use Rattle.iox_steps.specs.Laws.{PushingKeeps}
+use Rattle.iox_steps.specs.Laws.{Turn, pushing_turn}
 use Rattle.iox_steps.proofs.Places.{put-same, put-other, cases_kind, cell_place, cells-overflowing}
 use Rattle.iox_steps.proofs.Rings.{ring_store, ring_publish, ring_take}
 use Rattle.iox_steps.proofs.Knowledge.{free_cell, popping_knows_more, popping_knows_evicted}
+
+-- a turn's moment is true, and the words after it fit
+abbrev pub StepsTo : Site → (ℕ → ℕ) → List ℕ → List ℕ → Turn → Type 0
+StepsTo site word waiting hand turn = IsTrueOf site (write_of site word) waiting hand turn.moment
+    × Fits site (word_after turn.access word) (waiting_after turn.moment waiting) (hand_after turn.moment waiting hand) turn.pushes turn.pops
 
 -- at the last position every push is refused
 pub refused_at_end : (kind : QueueKind) (full : Bool) → is_refused kind true full ≡ true
@@ -104,7 +109,8 @@ module _ (site : Site) (word : ℕ → ℕ) where
         pop = popping_knows_more site word (put word site.base next) waiting (waiting ++ value ∷ []) read_same (omega (arith, length_push waiting value)) (λ some. get_or_append_left waiting (value ∷ []) 0 0 some) pops fits.pop;
       }
 
-  pub pushing_step : (waiting hand : List ℕ) (pushes : Pushing) (pops : Popping) → Fits site word waiting hand pushes pops → PushingKeeps site word waiting hand pushes pops
+  pub pushing_step : (waiting hand : List ℕ) (pushes : Pushing) (pops : Popping)
+      → Fits site word waiting hand pushes pops → StepsTo site word waiting hand (pushing_turn site word pushes pops)
   pushing_step waiting hand pushing.AtRest pops fits = (tt, fits)
   pushing_step waiting hand (pushing.Pushes (push.LoadsWrite value)) pops fits = (tt, pushes_on fits (fits.push, refl))
   pushing_step waiting hand (pushing.Pushes (push.LoadsRead value write)) pops fits =

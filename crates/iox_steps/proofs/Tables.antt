@@ -1,4 +1,5 @@
--- The laws of the accesses over words that are told one change at a time, as those of a table are, and what holds of an access whatever it finds.
+-- The laws of the accesses over words that are told one change at a time, as those of a table are, part by part, and what
+-- holds of an access whatever it finds.
 use Rattle.std.proofs.Common.{ℕ, ◌+◌, ◌<◌, ◌≤◌, List, arith, inl, inr, eqb, Some, None}
 use Rattle.std.proofs.lemmas.Bool.{cases_Bool}
 use Rattle.iox_steps.specs.declared.site.QueueKind.{QueueKind}
@@ -12,7 +13,7 @@ use Rattle.iox_steps.specs.declared.seat.Pushing.{Pushing}
 use Rattle.iox_steps.specs.declared.seat.Pushing.TheVariants as pushing
 use Rattle.iox_steps.specs.declared.seat.Popping.{Popping}
 use Rattle.iox_steps.specs.declared.seat.Popping.TheVariants as popping
-use Rattle.iox_steps.specs.Accesses.{place_of, change_of, seen_by, word_after, IsWithin, Changes}
+use Rattle.iox_steps.specs.Accesses.{place_of, change_of, seen_by, IsWithin, Changes}
 use Rattle.iox_steps.specs.Sites.{cells, size, cell_at, last_position, is_full, is_empty}
 use Rattle.iox_steps.specs.Pushes.{is_refused}
 use Rattle.iox_steps.specs.Pops.{take_access, is_taken}
@@ -20,25 +21,23 @@ use Rattle.iox_steps.specs.Seats.{pushing_access, pushing_after, pushing_moment,
 use Rattle.iox_steps.specs.Moments.{IsTrueOf, waiting_after, hand_after}
 use Rattle.iox_steps.specs.Fits.{write_of, Fits}
 use Rattle.iox_steps.proofs.Places.{cell_place}
-use Rattle.iox_steps.proofs.AccessLemmas.{changed_are_after}
-use Rattle.iox_steps.proofs.PushSteps.{pushing_step}
-use Rattle.iox_steps.proofs.PopSteps.{popping_step}
-use Rattle.iox_steps.proofs.Frames.{fits_frame}
+use Rattle.iox_steps.proofs.Turns.{pushing_keeps_changed, popping_keeps_changed}
 
-module _ (site : Site) (word word' : ℕ → ℕ) (waiting hand : List ℕ) (pushes : Pushing) (pops : Popping) (fits : Fits site word waiting hand pushes pops) where
+module _ (site : Site) (word word' : ℕ → ℕ) (waiting hand : List ℕ) (pushes : Pushing) (pops : Popping)
+    (fits : Fits site word waiting hand pushes pops) where
   pub pushing_changes : let access = pushing_access site pushes in let seen = seen_by access word in let moment = pushing_moment site pushes seen in
       Changes word (place_of access) (change_of access (word (place_of access))) word'
-      → IsTrueOf site (write_of site word) waiting hand moment × Fits site word' (waiting_after moment waiting) (hand_after moment waiting hand) (pushing_after site pushes seen) pops
+      → IsTrueOf site (write_of site word) waiting hand moment
+      × Fits site word' (waiting_after moment waiting) (hand_after moment waiting hand) (pushing_after site pushes seen) pops
   pushing_changes changes =
-      let keeps = pushing_step site word waiting hand pushes pops fits in
-      (keeps.0, fits_frame site (word_after (pushing_access site pushes) word) word' _ _ _ _ (λ at place. changed_are_after (pushing_access site pushes) word word' changes at) keeps.1)
+      let keeps = pushing_keeps_changed site word waiting hand pushes pops fits word' changes in (keeps.is_true, keeps.fits)
 
   pub popping_changes : let access = popping_access site pops in let seen = seen_by access word in let moment = popping_moment site pops seen in
       Changes word (place_of access) (change_of access (word (place_of access))) word'
-      → IsTrueOf site (write_of site word) waiting hand moment × Fits site word' (waiting_after moment waiting) (hand_after moment waiting hand) pushes (popping_after site pops seen)
+      → IsTrueOf site (write_of site word) waiting hand moment
+      × Fits site word' (waiting_after moment waiting) (hand_after moment waiting hand) pushes (popping_after site pops seen)
   popping_changes changes =
-      let keeps = popping_step site word waiting hand pushes pops fits in
-      (keeps.0, fits_frame site (word_after (popping_access site pops) word) word' _ _ _ _ (λ at place. changed_are_after (popping_access site pops) word word' changes at) keeps.1)
+      let keeps = popping_keeps_changed site word waiting hand pushes pops fits word' changes in (keeps.is_true, keeps.fits)
 
 module _ (site : Site) (some : 0 < cells site) where
   -- a cell's load or store is within the queue's words

@@ -1,36 +1,102 @@
--- What one access of a party does to a queue. The crates above stand on these two laws.
-use Rattle.std.specs.Prelude.{◌≡◌, ℕ, ◌+◌, ◌<◌, ◌≤◌, ◌⊎◌, List, length, slice_index}
+-- What one access of a party does to a queue. The crates above stand on these laws.
+use Rattle.std.specs.Prelude.{◌≡◌, ℕ, ◌+◌, ◌<◌, ◌≤◌, ◌⊎◌, List, Option, None, length, slice_index}
+use Rattle.iox_steps.specs.declared.access.Access.{Access}
+use Rattle.iox_steps.specs.declared.access.Progress.{Progress}
 use Rattle.iox_steps.specs.declared.site.Site.{Site}
+use Rattle.iox_steps.specs.declared.seat.Moment.{Moment}
+use Rattle.iox_steps.specs.declared.seat.Reply.{Reply}
 use Rattle.iox_steps.specs.declared.seat.Pushing.{Pushing}
 use Rattle.iox_steps.specs.declared.seat.Popping.{Popping}
-use Rattle.iox_steps.specs.Accesses.{seen_by, word_after}
+use Rattle.iox_steps.specs.Accesses.{place_of, change_of, seen_by, word_after, words_after, IsWithin, Changes, AreApart}
 use Rattle.iox_steps.specs.Sites.{size}
-use Rattle.iox_steps.specs.Seats.{pushing_access, pushing_after, pushing_moment, popping_access, popping_after, popping_moment}
+use Rattle.iox_steps.specs.Seats.{pushing_access, pushing_after, pushing_progress, pushing_moment, popping_access, popping_after, popping_progress, popping_moment}
 use Rattle.iox_steps.specs.Moments.{IsTrueOf, waiting_after, hand_after}
 use Rattle.iox_steps.specs.Fits.{write_of, Fits}
+use Rattle.iox_steps.specs.Runs.{write_after}
+use Rattle.iox_steps.specs.Answers.{Answers, unpublished}
 
--- the access of the party that pushes is a moment that is true, and leads to what fits after it
-abbrev pub PushingKeeps : Site → (ℕ → ℕ) → List ℕ → List ℕ → Pushing → Popping → Type 0
-PushingKeeps site word waiting hand pushes pops =
-    let access = pushing_access site pushes in
-    let seen = seen_by access word in
-    let moment = pushing_moment site pushes seen in
-    IsTrueOf site (write_of site word) waiting hand moment
-    × Fits site (word_after access word) (waiting_after moment waiting) (hand_after moment waiting hand)
-    (pushing_after site pushes seen) pops
+-- A turn of a party: one access, and what it comes to.
+pub record Turn : Type 0 where
+  pub access : Access
+  -- what the access does to the queue, or sees there
+  pub moment : Moment
+  -- the value that the party had still to publish
+  pub own : Option ℕ
+  pub answer : Progress Reply
+  -- where both parties are after it
+  pub pushes : Pushing
+  pub pops : Popping
 
--- the same of the party that pops
-abbrev pub PoppingKeeps : Site → (ℕ → ℕ) → List ℕ → List ℕ → Pushing → Popping → Type 0
-PoppingKeeps site word waiting hand pushes pops =
-    let access = popping_access site pops in
-    let seen = seen_by access word in
-    let moment = popping_moment site pops seen in
-    IsTrueOf site (write_of site word) waiting hand moment
-    × Fits site (word_after access word) (waiting_after moment waiting) (hand_after moment waiting hand)
-    pushes (popping_after site pops seen)
+-- the turn of the party that pushes, at these words
+abbrev pub pushing_turn : Site → (ℕ → ℕ) → Pushing → Popping → Turn
+pushing_turn site word pushes pops = let seen = seen_by (pushing_access site pushes) word in record {
+  access = pushing_access site pushes;
+  moment = pushing_moment site pushes seen;
+  own = unpublished pushes;
+  answer = pushing_progress site pushes seen;
+  pushes = pushing_after site pushes seen;
+  pops = pops;
+}
 
--- no word of a list changed but those of the queue
+-- the turn of the party that pops
+abbrev pub popping_turn : Site → (ℕ → ℕ) → Pushing → Popping → Turn
+popping_turn site word pushes pops = let seen = seen_by (popping_access site pops) word in record {
+  access = popping_access site pops;
+  moment = popping_moment site pops seen;
+  own = None;
+  answer = popping_progress site pops seen;
+  pushes = pushes;
+  pops = popping_after site pops seen;
+}
+
+-- no word changed but those of the queue
+abbrev pub IsSameOutside : Site → (ℕ → ℕ) → (ℕ → ℕ) → Type 0
+IsSameOutside site word word' = (place : ℕ)
+    → (place < site.base) ⊎ (site.base + size site ≤ place) → word' place ≡ word place
+
+-- the same of a list of words
 abbrev pub KeepsOutside : Site → List ℕ → List ℕ → Type 0
 KeepsOutside site words after = (length after ≡ length words)
-    × ((place : ℕ) → (place < site.base) ⊎ (site.base + size site ≤ place)
-    → slice_index after place ≡ slice_index words place)
+    × IsSameOutside site (λ place. slice_index words place) (λ place. slice_index after place)
+
+-- A turn, from these words to those, keeps the queue in which `waiting` waits and `hand` is in hand.
+pub record Keeps (site : Site) (word word' : ℕ → ℕ) (waiting hand : List ℕ) (turn : Turn) : Type 0 where
+  -- it names no word but the queue's
+  pub within : IsWithin site.base (size site) turn.access
+  -- one word at most changed, as the access says
+  pub changes : let place = place_of turn.access in
+      Changes word place (change_of turn.access (word place)) word'
+  pub outside : IsSameOutside site word word'
+  -- its moment is true
+  pub is_true : IsTrueOf site (write_of site word) waiting hand turn.moment
+  -- the write position counts what is published
+  pub counts : write_of site word' ≡ write_after turn.moment (write_of site word)
+  -- the words after it fit
+  pub fits : Fits site word' (waiting_after turn.moment waiting) (hand_after turn.moment waiting hand) turn.pushes turn.pops
+  -- its answer says what happened
+  pub answers : Answers turn.own turn.answer turn.moment
+
+-- the same of a turn at a list of words
+abbrev pub KeepsInList : Site → List ℕ → List ℕ → List ℕ → Turn → Type 0
+KeepsInList site words waiting hand turn = let after = words_after turn.access words in
+    IsWithin 0 (length words) turn.access × KeepsOutside site words after
+    × Keeps site (λ place. slice_index words place) (λ place. slice_index after place) waiting hand turn
+
+-- Whatever the queue, and wherever both parties are, each turn keeps it.
+module _ (turn_of : Site → (ℕ → ℕ) → Pushing → Popping → Turn) where
+  abbrev pub EveryTurnKeeps : Type 0
+  EveryTurnKeeps = (site : Site) (word : ℕ → ℕ) (waiting hand : List ℕ) (pushes : Pushing) (pops : Popping)
+      → Fits site word waiting hand pushes pops
+      → let turn = turn_of site word pushes pops in Keeps site word (word_after turn.access word) waiting hand turn
+
+  -- and leaves each queue as it is that stands elsewhere in the same list of words
+  abbrev pub EveryTurnLeavesOthers : Type 0
+  EveryTurnLeavesOthers = (site : Site) (words waiting hand : List ℕ) (pushes : Pushing) (pops : Popping)
+      → Fits site (λ place. slice_index words place) waiting hand pushes pops
+      → site.base + size site ≤ length words
+      → (other : Site) (waiting' hand' : List ℕ) (pushes' : Pushing) (pops' : Popping)
+      → Fits other (λ place. slice_index words place) waiting' hand' pushes' pops'
+      → AreApart site.base (size site) other.base (size other)
+      → let turn = turn_of site (λ place. slice_index words place) pushes pops in
+      KeepsInList site words waiting hand turn
+      × Fits other (λ place. slice_index (words_after turn.access words) place) waiting' hand' pushes' pops'

@@ -6,11 +6,11 @@ pub mod Replies
 pub mod Seats
 pub mod Moments
 pub mod Fits
+pub mod Runs
+pub mod Answers
 pub mod Laws
 pub mod Stores
 pub mod Worlds
 pub mod Playables
-pub mod Runs
 pub mod Plays
-pub mod Answers
 pub mod Results

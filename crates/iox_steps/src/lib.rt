@@ -4,6 +4,7 @@
 
 mod access;
 mod error;
+mod law;
 mod machine;
 mod playable;
 mod pop;
@@ -13,6 +14,7 @@ mod site;
 
 pub use access::{Access, Next, Party, Progress};
 pub use error::MachineError;
+pub use law::{every_access_keeps_the_queue, queues_apart_stay_apart};
 pub use machine::{Entry, Machine, perform, tell};
 pub use playable::Playable;
 pub use pop::{EmptyLook, Pop};
