@@ -1,6 +1,6 @@
 -- One access to shared words: the word that it names, what it finds there and what it leaves.
 -- `word` reads a word by its place.
-use Rattle.std.specs.Prelude.{ℕ, ◌+◌, ◌-◌, ◌%◌, ◌^◌, ◌==◌, ◌<◌, ◌≤◌, ◌≡◌, ◌⊎◌, List, if◌then◌else◌, slice_index, slice_set, bit_or, bit_and}
+use Rattle.std.specs.Prelude.{ℕ, ◌+◌, ◌-◌, ◌%◌, ◌^◌, ◌==◌, ◌<◌, ◌≤◌, ◌≡◌, ◌⊎◌, List, length, if◌then◌else◌, slice_index, slice_set, bit_or, bit_and}
 use Rattle.iox_steps.specs.declared.access.Access.{Access}
 use Rattle.iox_steps.specs.declared.access.Access.TheVariants.{Local, Load, Store, CompareExchange, FetchAdd, FetchSub, FetchOr, FetchAnd}
 
@@ -97,3 +97,13 @@ Changes word place new word' = (word' place ≡ new) × ((at : ℕ) → (at ≡ 
 -- two stretches of words have no word in common
 abbrev pub AreApart : ℕ → ℕ → ℕ → ℕ → Type 0
 AreApart base size base' size' = (base + size ≤ base') ⊎ (base' + size' ≤ base)
+
+-- no word changed but in this stretch
+abbrev pub IsSameOutside : ℕ → ℕ → (ℕ → ℕ) → (ℕ → ℕ) → Type 0
+IsSameOutside base size word word' = (place : ℕ)
+    → (place < base) ⊎ (base + size ≤ place) → word' place ≡ word place
+
+-- the same of a list of words
+abbrev pub KeepsOutside : ℕ → ℕ → List ℕ → List ℕ → Type 0
+KeepsOutside base size words after = (length after ≡ length words)
+    × IsSameOutside base size (λ place. slice_index words place) (λ place. slice_index after place)

@@ -1,5 +1,5 @@
 -- What one access of a party does to a queue. The crates above stand on these laws.
-use Rattle.std.specs.Prelude.{◌≡◌, ℕ, ◌+◌, ◌<◌, ◌≤◌, ◌⊎◌, List, Option, None, length, slice_index}
+use Rattle.std.specs.Prelude.{◌≡◌, ℕ, ◌+◌, ◌≤◌, List, Option, None, length, slice_index}
 use Rattle.iox_steps.specs.declared.access.Access.{Access}
 use Rattle.iox_steps.specs.declared.access.Progress.{Progress}
 use Rattle.iox_steps.specs.declared.site.Site.{Site}
@@ -7,7 +7,7 @@ use Rattle.iox_steps.specs.declared.seat.Moment.{Moment}
 use Rattle.iox_steps.specs.declared.seat.Reply.{Reply}
 use Rattle.iox_steps.specs.declared.seat.Pushing.{Pushing}
 use Rattle.iox_steps.specs.declared.seat.Popping.{Popping}
-use Rattle.iox_steps.specs.Accesses.{place_of, change_of, seen_by, word_after, words_after, IsWithin, Changes, AreApart}
+use Rattle.iox_steps.specs.Accesses.{place_of, change_of, seen_by, word_after, words_after, IsWithin, Changes, AreApart, IsSameOutside, KeepsOutside}
 use Rattle.iox_steps.specs.Sites.{size}
 use Rattle.iox_steps.specs.Seats.{pushing_access, pushing_after, pushing_progress, pushing_moment, popping_access, popping_after, popping_progress, popping_moment}
 use Rattle.iox_steps.specs.Moments.{IsTrueOf, waiting_after, hand_after}
@@ -49,16 +49,6 @@ popping_turn site word pushes pops = let seen = seen_by (popping_access site pop
   pops = popping_after site pops seen;
 }
 
--- no word changed but those of the queue
-abbrev pub IsSameOutside : Site → (ℕ → ℕ) → (ℕ → ℕ) → Type 0
-IsSameOutside site word word' = (place : ℕ)
-    → (place < site.base) ⊎ (site.base + size site ≤ place) → word' place ≡ word place
-
--- the same of a list of words
-abbrev pub KeepsOutside : Site → List ℕ → List ℕ → Type 0
-KeepsOutside site words after = (length after ≡ length words)
-    × IsSameOutside site (λ place. slice_index words place) (λ place. slice_index after place)
-
 -- A turn, from these words to those, keeps the queue in which `waiting` waits and `hand` is in hand.
 pub record Keeps (site : Site) (word word' : ℕ → ℕ) (waiting hand : List ℕ) (turn : Turn) : Type 0 where
   -- it names no word but the queue's
@@ -66,7 +56,7 @@ pub record Keeps (site : Site) (word word' : ℕ → ℕ) (waiting hand : List �
   -- one word at most changed, as the access says
   pub changes : let place = place_of turn.access in
       Changes word place (change_of turn.access (word place)) word'
-  pub outside : IsSameOutside site word word'
+  pub outside : IsSameOutside site.base (size site) word word'
   -- its moment is true
   pub is_true : IsTrueOf site (write_of site word) waiting hand turn.moment
   -- the write position counts what is published
@@ -79,7 +69,7 @@ pub record Keeps (site : Site) (word word' : ℕ → ℕ) (waiting hand : List �
 -- the same of a turn at a list of words
 abbrev pub KeepsInList : Site → List ℕ → List ℕ → List ℕ → Turn → Type 0
 KeepsInList site words waiting hand turn = let after = words_after turn.access words in
-    IsWithin 0 (length words) turn.access × KeepsOutside site words after
+    IsWithin 0 (length words) turn.access × KeepsOutside site.base (size site) words after
     × Keeps site (λ place. slice_index words place) (λ place. slice_index after place) waiting hand turn
 
 -- Whatever the queue, and wherever both parties are, each turn keeps it.
