@@ -7,6 +7,7 @@ pub mod AccessLemmas
 pub mod Frames
 pub mod Begins
 pub mod WorldLemmas
+pub mod Schedules
 pub mod Writes
 pub mod AnswerLemmas
 pub mod Turns
