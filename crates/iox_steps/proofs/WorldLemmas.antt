@@ -1,4 +1,4 @@
--- The parts of a step make a step. A step and a begin keep what their party's laws keep.
+-- The parts of a step make a step, and a begin keeps what its party's law keeps.
 use Rattle.std.proofs.Common.{◌≡◌, ◌∙◌, ℕ, Bool, false, List, [], ◌∷◌, ◌<◌, ◌++◌, refl, sym, subst, Option, Result, Ok, Err, OnOk, OnErr, set, get_or, length}
 use Rattle.std.proofs.lemmas.List.{get_or_default, set-get_or}
 use Rattle.std.specs.Option.{option_to_list}
@@ -8,7 +8,7 @@ use Rattle.iox_steps.specs.declared.access.Progress.{Progress}
 use Rattle.iox_steps.specs.declared.error.MachineError.{MachineError}
 use Rattle.iox_steps.specs.Accesses.{seen_at, words_after}
 use Rattle.iox_steps.specs.declared.machine.Entry.{Entry}
-use Rattle.iox_steps.specs.Worlds.{World, IsParty, with_party, seen_in, after_access, Stepped, Entered, AllEntered}
+use Rattle.iox_steps.specs.Worlds.{World, with_party, Stepped, Entered, AllEntered}
 
 module _ {P E R C : Type 0} (asks : P → Access) (leads : P → ℕ → Progress R → P → Type 0) (happens : P → ℕ → Option E) (at_rest : P → Bool) (begins : P → C → Result P MachineError → Type 0) where
   -- `looked` is the party again, as it was looked at
@@ -25,12 +25,6 @@ module _ {P E R C : Type 0} (asks : P → Access) (leads : P → ℕ → Progres
     leads_on = led;
     leads_to = rw (told, had, become) refl;
   }
-
-  pub step_keeps : (Holds : World P E → Type 0)
-      → ((world : World P E) (number : ℕ) (party after : P) (answer : Progress R) → Holds world → IsParty world number party → at_rest party ≡ false
-      → leads party (seen_in world (asks party)) answer after → Holds (after_access world number (asks party) after (happens party (seen_in world (asks party)))))
-      → (old : World P E) (number : ℕ) (answer : Progress R) (new : World P E) → Holds old → Stepped asks leads happens at_rest begins old number answer new → Holds new
-  step_keeps Holds keeps old number answer new holds step = subst Holds (sym step.leads_to) (keeps old number step.party step.after answer holds step.is_party step.under_way step.leads_on)
 
   -- a party that refuses the call is as before
   pub begin_keeps : (Holds : World P E → Type 0) → IsKeptByBegins Holds begins → (old : World P E) (number : ℕ) (call : C) (party after : P) {A : Type 0} (result : Result A MachineError)

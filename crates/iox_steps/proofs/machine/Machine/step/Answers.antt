@@ -1,7 +1,8 @@
 -- An access keeps what the parties' words say, by the law of its party.
 use Rattle.std.proofs.Common.{◌<◌, length, arith, subst, set}
 use Rattle.iox_steps.specs.Worlds.{World, Stepped}
-use Rattle.iox_steps.proofs.WorldLemmas.{step_of, step_keeps}
+use Rattle.iox_steps.proofs.WorldLemmas.{step_of}
+use Rattle.iox_steps.proofs.Schedules.{stepped_keeps}
 use Rattle.iox_steps.proofs.machine.Machine.step.Goals as goal
 
 pub play-answer-requires-clause-within : goal.play-answer-requires-clause-within
@@ -13,7 +14,8 @@ pub invariant_of-self-2 : goal.invariant_of-self-2
 invariant_of-self-2 g c =
     let within : c.args.party < length c.self.inside.parties.items = omega (arith, c.len.ensures, c.self.inside.parties.ok.0, c.if-party-len.false) in
     let old : World _ _ = record { words = c.self.inside.words.items; parties = c.self.inside.parties.items; events = c.self.inside.events.items } in
-    step_keeps g.P.Party.asks g.P.Party.leads g.P.Playable.happens g.P.Playable.at_rest g.P.Playable.begins g.P.Playable.Holds g.met.P.Playable.keeps old c.args.party c.play-answer.result _ c.self.invariant
+    stepped_keeps g.P.Party.asks g.P.Party.leads g.P.Playable.happens g.P.Playable.at_rest g.P.Playable.begins g.P.Playable.Holds g.met.P.Playable.keeps
+    old c.args.party c.play-answer.result _ c.self.invariant
     (step_of g.P.Party.asks g.P.Party.leads g.P.Playable.happens g.P.Playable.at_rest g.P.Playable.begins old c.args.party c.index.result.now c.index_mut.result.now c.play-answer.new.self c.play-answer.result
     c.play-answer.new.words.items c.is_at_rest.result c.reserve.new.self.items c.play-answer.new.events.items
     within c.index.ensures c.index_mut.ensures.value c.is_at_rest.ensures c.if-is_at_rest.false c.play-answer.ensures.words c.play-answer.ensures.led c.reserve.ensures.items c.play-answer.ensures.told)
