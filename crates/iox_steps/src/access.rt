@@ -32,7 +32,8 @@ pub enum Next<P, R> {
     Ends(R),
 }
 
-/// One whose call is under way, one access after another.
+/// One whose call is under way, one access after another. An `Access` has one place, so each access
+/// names one word at most.
 pub trait Party {
     type Reply: Copy;
 

@@ -19,7 +19,7 @@ pub struct Site {
 }
 
 impl Site {
-    ghost use Rattle.std.specs.Prelude.{◌≡◌, ◌+◌, ◌^◌, ◌<◌};
+    ghost use Rattle.std.specs.Prelude.{◌≡◌, ◌+◌, ◌^◌, ◌<◌, ◌≤◌, ◌↔◌, IsTrue};
     ghost use Rattle.iox_steps.specs.Sites.{cells, size, cell_at, is_full, is_empty};
 
     /// How many cells there are.
@@ -32,6 +32,20 @@ impl Site {
             QueueKind::Index => self.capacity,
             QueueKind::Overflowing => self.capacity + 1,
         }
+    }
+
+    /// Do the words of the queue all stand in a list of this many? Whatever the numbers, it can be asked.
+    #[inline]
+    pub fn is_within(&self, words: usize) -> bool
+        ensures { IsTrue result ↔ (self.now.base + size self.now ≤ words) }
+    {
+        let others = match self.kind {
+            QueueKind::Index => 2,
+            QueueKind::Overflowing => 3,
+        };
+        self.base <= words
+            && others <= words - self.base
+            && self.capacity <= words - self.base - others
     }
 
     /// The place of the cell of a position.
