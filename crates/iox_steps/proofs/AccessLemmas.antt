@@ -1,5 +1,6 @@
 -- An access changes one word at most; and lists of words and words told one by one agree with words by their places.
-use Rattle.std.proofs.Common.{◌≡◌, ◌≢◌, ◌⊎◌, ℕ, ◌+◌, ◌<◌, ◌≤◌, List, length, get_or, set, refl, sym, ◌∙◌, inl, inr, arith, eqb, length-set, get_or-set_same, get_or-set_other}
+use Rattle.std.proofs.Common.{◌≡◌, ◌≢◌, ◌⊎◌, ℕ, ◌+◌, ◌<◌, ◌≤◌, List, length, get_or, set, refl, sym, ◌∙◌, inl, inr, arith, eqb}
+use Rattle.std.proofs.Common.{length-set, get_or-set_same, get_or-set_other}
 use Rattle.std.proofs.lemmas.Bool.{cases_Bool, eqb-true, eqb-false}
 use Rattle.iox_steps.specs.declared.access.Access.{Access}
 use Rattle.iox_steps.specs.declared.access.Access.TheVariants.{Local, Load, Store, CompareExchange, FetchAdd, FetchSub, FetchOr, FetchAnd}
@@ -35,7 +36,8 @@ word_after-same (FetchOr place value) word = put-same word place _
 word_after-same (FetchAnd place value) word = put-same word place _
 
 -- words of which one changed as the access says are the words after it
-pub changed_are_after : (access : Access) (word word' : ℕ → ℕ) → Changes word (place_of access) (change_of access (word (place_of access))) word' → (at : ℕ) → word' at ≡ word_after access word at
+pub changed_are_after : (access : Access) (word word' : ℕ → ℕ) → Changes word (place_of access) (change_of access (word (place_of access))) word'
+    → (at : ℕ) → word' at ≡ word_after access word at
 changed_are_after access word word' changes at = elim (cases_Bool (eqb at (place_of access))) [
   | inl same ↦ (let here = eqb-true _ _ same in rw here (changes.0 ∙ sym (word_after-same access word)))
   | inr apart ↦ (let other : at ≢ place_of access = eqb-false _ _ apart in changes.1 at other ∙ sym (word_after-other access word at other))
@@ -49,7 +51,8 @@ set-put words place value at inside = elim (cases_Bool (eqb at place)) [
 ]
 
 -- a list of words after an access
-pub reads_after : (access : Access) (words : List ℕ) → IsWithin 0 (length words) access → (at : ℕ) → get_or (words_after access words) at 0 ≡ word_after access (λ i. get_or words i 0) at
+pub reads_after : (access : Access) (words : List ℕ) → IsWithin 0 (length words) access → (at : ℕ)
+    → get_or (words_after access words) at 0 ≡ word_after access (λ i. get_or words i 0) at
 reads_after Local words within at = refl
 reads_after (Load place) words within at = refl
 reads_after (Store place value) words within at = set-put words place value at (omega (arith, within.1))
@@ -76,7 +79,8 @@ length-words_after (FetchOr place value) words = length-set words place _
 length-words_after (FetchAnd place value) words = length-set words place _
 
 -- an access within one stretch is within a wider one
-pub within_wider : (access : Access) (base size base' size' : ℕ) → base' ≤ base → base + size ≤ base' + size' → IsWithin base size access → IsWithin base' size' access
+pub within_wider : (access : Access) (base size base' size' : ℕ) → base' ≤ base → base + size ≤ base' + size' → IsWithin base size access
+    → IsWithin base' size' access
 within_wider Local base size base' size' low high within = tt
 within_wider (Load place) base size base' size' low high within = (omega (arith, within.0), omega (arith, within.1))
 within_wider (Store place value) base size base' size' low high within = (omega (arith, within.0), omega (arith, within.1))
@@ -87,15 +91,22 @@ within_wider (FetchOr place value) base size base' size' low high within = (omeg
 within_wider (FetchAnd place value) base size base' size' low high within = (omega (arith, within.0), omega (arith, within.1))
 
 -- and changes nothing outside it
-pub outside : (access : Access) (word : ℕ → ℕ) (base size at : ℕ) → IsWithin base size access → (at < base) ⊎ (base + size ≤ at) → word_after access word at ≡ word at
+pub outside : (access : Access) (word : ℕ → ℕ) (base size at : ℕ) → IsWithin base size access → (at < base) ⊎ (base + size ≤ at)
+    → word_after access word at ≡ word at
 outside Local word base size at within out = refl
 outside (Load place) word base size at within out = refl
-outside (Store place value) word base size at within out = word_after-other (Store place value) word at (elim out [ inl below ↦ omega (arith, within.0) | inr above ↦ omega (arith, within.1) ])
-outside (CompareExchange place old new) word base size at within out = word_after-other (CompareExchange place old new) word at (elim out [ inl below ↦ omega (arith, within.0) | inr above ↦ omega (arith, within.1) ])
-outside (FetchAdd place value) word base size at within out = word_after-other (FetchAdd place value) word at (elim out [ inl below ↦ omega (arith, within.0) | inr above ↦ omega (arith, within.1) ])
-outside (FetchSub place value) word base size at within out = word_after-other (FetchSub place value) word at (elim out [ inl below ↦ omega (arith, within.0) | inr above ↦ omega (arith, within.1) ])
-outside (FetchOr place value) word base size at within out = word_after-other (FetchOr place value) word at (elim out [ inl below ↦ omega (arith, within.0) | inr above ↦ omega (arith, within.1) ])
-outside (FetchAnd place value) word base size at within out = word_after-other (FetchAnd place value) word at (elim out [ inl below ↦ omega (arith, within.0) | inr above ↦ omega (arith, within.1) ])
+outside (Store place value) word base size at within out =
+    word_after-other (Store place value) word at (elim out [ inl below ↦ omega (arith, within.0) | inr above ↦ omega (arith, within.1) ])
+outside (CompareExchange place old new) word base size at within out =
+    word_after-other (CompareExchange place old new) word at (elim out [ inl below ↦ omega (arith, within.0) | inr above ↦ omega (arith, within.1) ])
+outside (FetchAdd place value) word base size at within out =
+    word_after-other (FetchAdd place value) word at (elim out [ inl below ↦ omega (arith, within.0) | inr above ↦ omega (arith, within.1) ])
+outside (FetchSub place value) word base size at within out =
+    word_after-other (FetchSub place value) word at (elim out [ inl below ↦ omega (arith, within.0) | inr above ↦ omega (arith, within.1) ])
+outside (FetchOr place value) word base size at within out =
+    word_after-other (FetchOr place value) word at (elim out [ inl below ↦ omega (arith, within.0) | inr above ↦ omega (arith, within.1) ])
+outside (FetchAnd place value) word base size at within out =
+    word_after-other (FetchAnd place value) word at (elim out [ inl below ↦ omega (arith, within.0) | inr above ↦ omega (arith, within.1) ])
 
 -- an access changes one word at most
 pub after_changes : (access : Access) (word : ℕ → ℕ)

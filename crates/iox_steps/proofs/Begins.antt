@@ -12,7 +12,8 @@ use Rattle.iox_steps.specs.declared.seat.Popping.TheVariants as popping
 use Rattle.iox_steps.specs.Seats.{pushing_rested, popping_rested}
 use Rattle.iox_steps.specs.Fits.{PushingKnows, PoppingKnows, Fits}
 
-pushing_knows_begun : (site : Site) (word : ℕ → ℕ) (waiting hand : List ℕ) (pushes : Pushing) → PushingKnows site word waiting hand (pushing_rested pushes) → PushingKnows site word waiting hand pushes
+pushing_knows_begun : (site : Site) (word : ℕ → ℕ) (waiting hand : List ℕ) (pushes : Pushing)
+    → PushingKnows site word waiting hand (pushing_rested pushes) → PushingKnows site word waiting hand pushes
 pushing_knows_begun site word waiting hand pushing.AtRest knows = knows
 pushing_knows_begun site word waiting hand (pushing.Pushes (push.LoadsWrite value)) knows = knows
 pushing_knows_begun site word waiting hand (pushing.Pushes (push.LoadsRead value write)) knows = knows
@@ -23,7 +24,8 @@ pushing_knows_begun site word waiting hand (pushing.Pushes (push.TakesOld cell))
 pushing_knows_begun site word waiting hand (pushing.Looks full_look.LoadsWrite) knows = knows
 pushing_knows_begun site word waiting hand (pushing.Looks (full_look.LoadsRead write)) knows = knows
 
-popping_knows_begun : (site : Site) (word : ℕ → ℕ) (waiting : List ℕ) (pops : Popping) → PoppingKnows site word waiting (popping_rested pops) → PoppingKnows site word waiting pops
+popping_knows_begun : (site : Site) (word : ℕ → ℕ) (waiting : List ℕ) (pops : Popping) → PoppingKnows site word waiting (popping_rested pops)
+    → PoppingKnows site word waiting pops
 popping_knows_begun site word waiting popping.AtRest knows = knows
 popping_knows_begun site word waiting (popping.Pops pop.LoadsRead) knows = knows
 popping_knows_begun site word waiting (popping.Pops (pop.LoadsWrite read)) knows = knows
@@ -32,10 +34,12 @@ popping_knows_begun site word waiting (popping.Pops (pop.Takes read value)) know
 popping_knows_begun site word waiting (popping.Looks empty_look.LoadsRead) knows = knows
 popping_knows_begun site word waiting (popping.Looks (empty_look.LoadsWrite read)) knows = knows
 
-pub pushing_begins : (site : Site) (word : ℕ → ℕ) (waiting hand : List ℕ) (pushes : Pushing) (pops : Popping) → Fits site word waiting hand (pushing_rested pushes) pops → Fits site word waiting hand pushes pops
+pub pushing_begins : (site : Site) (word : ℕ → ℕ) (waiting hand : List ℕ) (pushes : Pushing) (pops : Popping)
+    → Fits site word waiting hand (pushing_rested pushes) pops → Fits site word waiting hand pushes pops
 pushing_begins site word waiting hand pushes pops fits =
     record { some = fits.some; position = fits.position; ring = fits.ring; push = pushing_knows_begun site word waiting hand pushes fits.push; pop = fits.pop }
 
-pub popping_begins : (site : Site) (word : ℕ → ℕ) (waiting hand : List ℕ) (pushes : Pushing) (pops : Popping) → Fits site word waiting hand pushes (popping_rested pops) → Fits site word waiting hand pushes pops
+pub popping_begins : (site : Site) (word : ℕ → ℕ) (waiting hand : List ℕ) (pushes : Pushing) (pops : Popping)
+    → Fits site word waiting hand pushes (popping_rested pops) → Fits site word waiting hand pushes pops
 popping_begins site word waiting hand pushes pops fits =
     record { some = fits.some; position = fits.position; ring = fits.ring; push = fits.push; pop = popping_knows_begun site word waiting pops fits.pop }

@@ -23,7 +23,8 @@ use Rattle.iox_steps.proofs.Knowledge.{free_cell, pushing_knows_less, popping_kn
 use Rattle.iox_steps.proofs.AccessLemmas.{outside, outside_in_list}
 
 -- the access of the party that pushes is within the queue's words
-pub pushing_within : (site : Site) (word : ℕ → ℕ) (waiting hand : List ℕ) (pushes : Pushing) → PushingKnows site word waiting hand pushes → IsWithin site.base (size site) (pushing_access site pushes)
+pub pushing_within : (site : Site) (word : ℕ → ℕ) (waiting hand : List ℕ) (pushes : Pushing) → PushingKnows site word waiting hand pushes
+    → IsWithin site.base (size site) (pushing_access site pushes)
 pushing_within site word waiting hand pushing.AtRest knows = tt
 pushing_within site word waiting hand (pushing.Pushes (push.LoadsWrite value)) knows = (omega arith, omega arith)
 pushing_within site word waiting hand (pushing.Pushes (push.LoadsRead value write)) knows = (omega arith, omega arith)
@@ -43,7 +44,8 @@ take_within site Index read = (omega arith, omega arith)
 take_within site Overflowing read = (omega arith, omega arith)
 
 -- and so is that of the party that pops
-pub popping_within : (site : Site) (word : ℕ → ℕ) (waiting : List ℕ) (pops : Popping) → length waiting ≤ cells site → PoppingKnows site word waiting pops → IsWithin site.base (size site) (popping_access site pops)
+pub popping_within : (site : Site) (word : ℕ → ℕ) (waiting : List ℕ) (pops : Popping) → length waiting ≤ cells site
+    → PoppingKnows site word waiting pops → IsWithin site.base (size site) (popping_access site pops)
 popping_within site word waiting popping.AtRest bounded knows = tt
 popping_within site word waiting (popping.Pops pop.LoadsRead) bounded knows = (omega arith, omega arith)
 popping_within site word waiting (popping.Pops (pop.LoadsWrite read)) bounded knows = (omega arith, omega arith)
@@ -66,7 +68,9 @@ fits_frame site word word' waiting hand pushes pops same fits =
       some = fits.some;
       position = rw write_same fits.position;
       ring = ring_frame site word word' waiting same fits.ring;
-      push = pushing_knows_less site word word' waiting waiting hand write_same (omega arith) (omega arith) (λ at place. same at (omega (arith, place.0), omega (arith, place.1))) pushes fits.push;
+      push =
+          pushing_knows_less site word word' waiting waiting hand write_same (omega arith) (omega arith)
+          (λ at place. same at (omega (arith, place.0), omega (arith, place.1))) pushes fits.push;
       pop = popping_knows_more site word word' waiting waiting read_same (omega arith) (λ _. refl) pops fits.pop;
     }
 
@@ -119,7 +123,8 @@ fits_elsewhere_changed site word word' waiting hand pushes pops place new base' 
     (λ at out. changes.1 at (elim out [ inl below ↦ omega (arith, within.0) | inr above ↦ omega (arith, within.1) ])) apart fits
 
 -- an empty queue, at whatever position, with both parties at rest
-pub fits_empty : (site : Site) (word : ℕ → ℕ) → (site.kind ≡ Overflowing → 0 < site.capacity) → write_of site word ≡ read_of site word → write_of site word < 2 ^ 64 → Fits site word [] [] pushing.AtRest popping.AtRest
+pub fits_empty : (site : Site) (word : ℕ → ℕ) → (site.kind ≡ Overflowing → 0 < site.capacity) → write_of site word ≡ read_of site word
+    → write_of site word < 2 ^ 64 → Fits site word [] [] pushing.AtRest popping.AtRest
 fits_empty site word some empty position = record {
   some = some;
   position = position;

@@ -26,10 +26,12 @@ use Rattle.iox_steps.proofs.RunLemmas.{run_told, in_order}
 
 module _ (site : Site) (words : List ℕ) where
   -- a moment more: what fits the words by their places fits them as a list
-  played_on : (pushes pushes' : Pushing) (pops pops' : Popping) (events : List Moment) (access : Access) (moment : Moment) (played : Played site words pushes pops events)
+  played_on : (pushes pushes' : Pushing) (pops pops' : Popping) (events : List Moment) (access : Access) (moment : Moment)
+      (played : Played site words pushes pops events)
       → IsWithin 0 (length words) access → write_of site (word_after access (λ place. get_or words place 0)) ≡ write_after moment (get_or words site.base 0)
       → IsTrueOf site (get_or words site.base 0) played.waiting played.hand moment
-      → Fits site (word_after access (λ place. get_or words place 0)) (waiting_after moment played.waiting) (hand_after moment played.waiting played.hand) pushes' pops'
+      → Fits site (word_after access (λ place. get_or words place 0)) (waiting_after moment played.waiting)
+      (hand_after moment played.waiting played.hand) pushes' pops'
       → Played site (words_after access words) pushes' pops' (events ++ option_to_list (told moment))
   played_on pushes pushes' pops pops' events access moment played within writes holds fits =
       let reads = reads_after access words within in
@@ -45,16 +47,22 @@ module _ (site : Site) (words : List ℕ) where
         bounded = waits_at_most site _ _ _ pushes' pops' fits;
         run = run;
         room = rw length-words_after played.room;
-        fits = fits_frame site (word_after access (λ place. get_or words place 0)) (λ place. get_or (words_after access words) place 0) _ _ pushes' pops' (λ at place. reads at) fits;
+        fits =
+            fits_frame site (word_after access (λ place. get_or words place 0)) (λ place. get_or (words_after access words) place 0) _ _ pushes' pops'
+            (λ at place. reads at) fits;
       }
 
-  pub pushing_within_words : (pushes : Pushing) (pops : Popping) (events : List Moment) → Played site words pushes pops events → IsWithin 0 (length words) (pushing_access site pushes)
+  pub pushing_within_words : (pushes : Pushing) (pops : Popping) (events : List Moment) → Played site words pushes pops events
+      → IsWithin 0 (length words) (pushing_access site pushes)
   pushing_within_words pushes pops events played = let room = played.room in
-      within_wider (pushing_access site pushes) site.base (size site) 0 (length words) (omega arith) (omega arith) (pushing_within site (λ place. get_or words place 0) played.waiting played.hand pushes played.fits.push)
+      within_wider (pushing_access site pushes) site.base (size site) 0 (length words) (omega arith) (omega arith)
+      (pushing_within site (λ place. get_or words place 0) played.waiting played.hand pushes played.fits.push)
 
-  pub popping_within_words : (pushes : Pushing) (pops : Popping) (events : List Moment) → Played site words pushes pops events → IsWithin 0 (length words) (popping_access site pops)
+  pub popping_within_words : (pushes : Pushing) (pops : Popping) (events : List Moment) → Played site words pushes pops events
+      → IsWithin 0 (length words) (popping_access site pops)
   popping_within_words pushes pops events played = let room = played.room in
-      within_wider (popping_access site pops) site.base (size site) 0 (length words) (omega arith) (omega arith) (popping_within site (λ place. get_or words place 0) played.waiting pops played.fits.ring.bounded played.fits.pop)
+      within_wider (popping_access site pops) site.base (size site) 0 (length words) (omega arith) (omega arith)
+      (popping_within site (λ place. get_or words place 0) played.waiting pops played.fits.ring.bounded played.fits.pop)
 
   pub pushing_plays : (pushes : Pushing) (pops : Popping) (events : List Moment) → Played site words pushes pops events
       → let access = pushing_access site pushes in let seen = seen_by access (λ place. get_or words place 0) in
@@ -62,7 +70,8 @@ module _ (site : Site) (words : List ℕ) where
   pushing_plays pushes pops events played =
       let word : ℕ → ℕ = λ place. get_or words place 0 in
       let keeps = pushing_step site word played.waiting played.hand pushes pops played.fits in
-      played_on pushes _ pops pops events (pushing_access site pushes) (pushing_moment site pushes (seen_by (pushing_access site pushes) word)) played (pushing_within_words pushes pops events played)
+      played_on pushes _ pops pops events (pushing_access site pushes) (pushing_moment site pushes (seen_by (pushing_access site pushes) word)) played
+      (pushing_within_words pushes pops events played)
       (pushing_writes site word played.waiting played.hand pushes pops played.fits) keeps.0 keeps.1
 
   pub popping_plays : (pushes : Pushing) (pops : Popping) (events : List Moment) → Played site words pushes pops events
@@ -71,11 +80,13 @@ module _ (site : Site) (words : List ℕ) where
   popping_plays pushes pops events played =
       let word : ℕ → ℕ = λ place. get_or words place 0 in
       let keeps = popping_step site word played.waiting played.hand pushes pops played.fits in
-      played_on pushes pushes pops _ events (popping_access site pops) (popping_moment site pops (seen_by (popping_access site pops) word)) played (popping_within_words pushes pops events played)
+      played_on pushes pushes pops _ events (popping_access site pops) (popping_moment site pops (seen_by (popping_access site pops) word)) played
+      (popping_within_words pushes pops events played)
       (popping_writes site word pops played.waiting played.fits.pop) keeps.0 keeps.1
 
   -- a party that begins a call changes nothing else
-  pub pushing_begun : (pushes : Pushing) (pops : Popping) (events : List Moment) → Played site words (pushing_rested pushes) pops events → Played site words pushes pops events
+  pub pushing_begun : (pushes : Pushing) (pops : Popping) (events : List Moment) → Played site words (pushing_rested pushes) pops events
+      → Played site words pushes pops events
   pushing_begun pushes pops events played =
       let fits = pushing_begins site (λ place. get_or words place 0) played.waiting played.hand pushes pops played.fits in
       record {
@@ -89,7 +100,8 @@ module _ (site : Site) (words : List ℕ) where
         bounded = waits_at_most site (λ place. get_or words place 0) played.waiting played.hand pushes pops fits;
       }
 
-  pub popping_begun : (pushes : Pushing) (pops : Popping) (events : List Moment) → Played site words pushes (popping_rested pops) events → Played site words pushes pops events
+  pub popping_begun : (pushes : Pushing) (pops : Popping) (events : List Moment) → Played site words pushes (popping_rested pops) events
+      → Played site words pushes pops events
   popping_begun pushes pops events played =
       let fits = popping_begins site (λ place. get_or words place 0) played.waiting played.hand pushes pops played.fits in
       record {
@@ -104,7 +116,8 @@ module _ (site : Site) (words : List ℕ) where
       }
 
   -- an empty queue, at whatever position
-  pub played_empty : (site.kind ≡ Overflowing → 0 < site.capacity) → site.base + size site ≤ length words → get_or words site.base 0 ≡ get_or words (site.base + 1) 0 → get_or words site.base 0 < 2 ^ 64
+  pub played_empty : (site.kind ≡ Overflowing → 0 < site.capacity) → site.base + size site ≤ length words
+      → get_or words site.base 0 ≡ get_or words (site.base + 1) 0 → get_or words site.base 0 < 2 ^ 64
       → Played site words pushing.AtRest popping.AtRest []
   played_empty some room empty position =
       let fits = fits_empty site (λ place. get_or words place 0) some empty position in

@@ -27,17 +27,20 @@ seen_now site word Overflowing = omega arith
 
 module _ (site : Site) (word : ℕ → ℕ) where
   -- the party that pops is elsewhere
-  pops_on : {waiting hand : List ℕ} {pushes : Pushing} {pops pops' : Popping} → Fits site word waiting hand pushes pops → PoppingKnows site word waiting pops' → Fits site word waiting hand pushes pops'
+  pops_on : {waiting hand : List ℕ} {pushes : Pushing} {pops pops' : Popping} → Fits site word waiting hand pushes pops
+      → PoppingKnows site word waiting pops' → Fits site word waiting hand pushes pops'
   pops_on fits knows = record { some = fits.some; position = fits.position; ring = fits.ring; push = fits.push; pop = knows }
 
   -- a look at the write position shows whether something waits
-  empty_shows : (waiting : List ℕ) (read : ℕ) → Ring site word waiting → IsSeen site word site.kind read → is_empty site read (write_of site word) ≡ true → waiting ≡ []
+  empty_shows : (waiting : List ℕ) (read : ℕ) → Ring site word waiting → IsSeen site word site.kind read
+      → is_empty site read (write_of site word) ≡ true → waiting ≡ []
   empty_shows waiting read ring seen empty =
       let counts = ring.counts in
       let before = seen_before site word site.kind read seen in
       nil_from_length waiting (omega (arith, leb-true _ _ empty))
 
-  waiting_shows : (waiting : List ℕ) (read : ℕ) → Ring site word waiting → (read < read_of site word → 0 < length waiting) → is_empty site read (write_of site word) ≡ false → 0 < length waiting
+  waiting_shows : (waiting : List ℕ) (read : ℕ) → Ring site word waiting → (read < read_of site word → 0 < length waiting)
+      → is_empty site read (write_of site word) ≡ false → 0 < length waiting
   waiting_shows waiting read ring late more =
       let counts = ring.counts in
       elim (cases_lt read (read_of site word)) [
@@ -46,7 +49,8 @@ module _ (site : Site) (word : ℕ → ℕ) where
       ]
 
   -- the access that takes the first value
-  takes : (waiting hand : List ℕ) (value : ℕ) (pushes : Pushing) (pops : Popping) → Fits site word waiting hand pushes pops → 0 < length waiting → value ≡ get_or waiting 0 0
+  takes : (waiting hand : List ℕ) (value : ℕ) (pushes : Pushing) (pops : Popping) → Fits site word waiting hand pushes pops → 0 < length waiting
+      → value ≡ get_or waiting 0 0
       → (waiting ≡ value ∷ rest waiting) × Fits site (put word (site.base + 1) (position_after (read_of site word))) (rest waiting) hand pushes popping.AtRest
   takes [] hand value pushes pops fits some is_first = absurd (omega arith)
   takes (first ∷ others) hand value pushes pops fits some is_first =
@@ -59,7 +63,9 @@ module _ (site : Site) (word : ℕ → ℕ) where
           some = fits.some;
           position = rw write_same position;
           ring = taken site word first others ring position;
-          push = pushing_knows_less site word (put word (site.base + 1) (position_after (read_of site word))) (first ∷ others) others hand write_same (omega arith) (omega arith) (cells_kept site word first others ring position) pushes fits.push;
+          push =
+              pushing_knows_less site word (put word (site.base + 1) (position_after (read_of site word))) (first ∷ others) others hand write_same
+              (omega arith) (omega arith) (cells_kept site word first others ring position) pushes fits.push;
           pop = tt;
         },
       )

@@ -1,5 +1,6 @@
 -- Each access of the party that pushes keeps what the words say, and is one moment.
-use Rattle.std.proofs.Common.{◌≡◌, ℕ, ◌+◌, ◌^◌, ◌<◌, ◌≤◌, List, [], ◌∷◌, ◌++◌, length, refl, ap, sym, ◌∙◌, inl, inr, arith, eqb, true, false, Bool, Option, Some, None}
+use Rattle.std.proofs.Common.{◌≡◌, ℕ, ◌+◌, ◌^◌, ◌<◌, ◌≤◌, List, [], ◌∷◌, ◌++◌, length, refl, ap, sym, ◌∙◌, inl, inr, arith}
+use Rattle.std.proofs.Common.{eqb, true, false, Bool, Option, Some, None}
 use Rattle.std.proofs.lemmas.List.{get_or_append_left, length_push}
 use Rattle.std.proofs.lemmas.Bool.{cases_Bool, leb-true, leb-false, eqb-true, eqb-false}
 use Rattle.iox_steps.specs.declared.site.QueueKind.{QueueKind}
@@ -65,14 +66,17 @@ module _ (site : Site) (word : ℕ → ℕ) (first : ℕ) (others : List ℕ) (r
 
 module _ (site : Site) (word : ℕ → ℕ) where
   -- the party that pushes is elsewhere, and has something else in hand
-  pushes_on : {waiting hand hand' : List ℕ} {pushes pushes' : Pushing} {pops : Popping} → Fits site word waiting hand pushes pops → PushingKnows site word waiting hand' pushes' → Fits site word waiting hand' pushes' pops
+  pushes_on : {waiting hand hand' : List ℕ} {pushes pushes' : Pushing} {pops : Popping} → Fits site word waiting hand pushes pops
+      → PushingKnows site word waiting hand' pushes' → Fits site word waiting hand' pushes' pops
   pushes_on fits knows = record { some = fits.some; position = fits.position; ring = fits.ring; push = knows; pop = fits.pop }
 
   -- the exchange that evicts
-  evicts : (waiting hand : List ℕ) (read : ℕ) (pops : Popping) → site.kind ≡ Overflowing → 0 < site.capacity → Ring site word waiting → write_of site word < 2 ^ 64
+  evicts : (waiting hand : List ℕ) (read : ℕ) (pops : Popping) → site.kind ≡ Overflowing → 0 < site.capacity → Ring site word waiting
+      → write_of site word < 2 ^ 64
       → hand ≡ [] → read + (site.capacity + 1) ≡ write_of site word → read_of site word ≡ read → PoppingKnows site word waiting pops
       → ((hand ≡ []) × (length waiting ≡ site.capacity + 1))
-      × Fits site (put word (site.base + 1) (position_after (read_of site word))) (rest waiting) (front waiting) (pushing.Pushes (push.TakesOld (cell_at site (read_of site word)))) pops
+      × Fits site (put word (site.base + 1) (position_after (read_of site word))) (rest waiting) (front waiting)
+      (pushing.Pushes (push.TakesOld (cell_at site (read_of site word)))) pops
   evicts [] hand read pops kind some ring position none full at knows = let counts = ring.counts in absurd (omega arith)
   evicts (first ∷ others) hand read pops kind some ring position none full at knows =
       let counts = ring.counts in
@@ -82,21 +86,33 @@ module _ (site : Site) (word : ℕ → ℕ) where
           some = λ _. some;
           position = rw (write_kept site word first others ring position) position;
           ring = taken site word first others ring position;
-          push = (ap (λ v. v ∷ []) (sym (cells_kept site word first others ring position (cell_at site (read_of site word)) place ∙ first_stands site word first others ring position)), kind, omega arith, place);
-          pop = popping_knows_evicted site word (put word (site.base + 1) (position_after (read_of site word))) (first ∷ others) others kind (read_moved site word first others ring position) (omega arith) pops knows;
+          push = (
+            ap (λ v. v ∷ []) (sym (cells_kept site word first others ring position (cell_at site (read_of site word)) place
+                ∙ first_stands site word first others ring position)),
+            kind,
+            omega arith,
+            place,
+          );
+          pop =
+              popping_knows_evicted site word (put word (site.base + 1) (position_after (read_of site word))) (first ∷ others) others kind
+              (read_moved site word first others ring position) (omega arith) pops knows;
         },
       )
 
   -- a look at the read position shows whether as many wait as may
-  full_shows : (waiting : List ℕ) (write : ℕ) → Ring site word waiting → length waiting ≤ site.capacity → write ≡ write_of site word → is_full site (read_of site word) write ≡ true → length waiting ≡ site.capacity
+  full_shows : (waiting : List ℕ) (write : ℕ) → Ring site word waiting → length waiting ≤ site.capacity → write ≡ write_of site word
+      → is_full site (read_of site word) write ≡ true → length waiting ≡ site.capacity
   full_shows waiting write ring bounded at full = let counts = ring.counts in omega (arith, leb-true _ _ full)
 
-  room_shows : (waiting : List ℕ) (write : ℕ) → Ring site word waiting → write ≡ write_of site word → is_full site (read_of site word) write ≡ false → length waiting < site.capacity
+  room_shows : (waiting : List ℕ) (write : ℕ) → Ring site word waiting → write ≡ write_of site word → is_full site (read_of site word) write ≡ false
+      → length waiting < site.capacity
   room_shows waiting write ring at room = let counts = ring.counts in omega (arith, leb-false _ _ room)
 
   -- a store of the next write position publishes the value that was stored
-  publishes : {waiting hand : List ℕ} {value next : ℕ} (full : Option ℕ) {pushes' : Pushing} {pops : Popping} → Fits site word waiting hand (pushing.Pushes (push.StoresWrite value next full)) pops
-      → PushingKnows site (put word site.base next) (waiting ++ value ∷ []) hand pushes' → Fits site (put word site.base next) (waiting ++ value ∷ []) hand pushes' pops
+  publishes : {waiting hand : List ℕ} {value next : ℕ} (full : Option ℕ) {pushes' : Pushing} {pops : Popping}
+      → Fits site word waiting hand (pushing.Pushes (push.StoresWrite value next full)) pops
+      → PushingKnows site (put word site.base next) (waiting ++ value ∷ []) hand pushes' → Fits site (put word site.base next)
+      (waiting ++ value ∷ []) hand pushes' pops
   publishes {waiting} {hand} {value} {next} full {pushes'} {pops} fits knows =
       let write_new = put-same word site.base next in
       let read_same = put-other word site.base next (site.base + 1) (omega arith) in
@@ -106,7 +122,9 @@ module _ (site : Site) (word : ℕ → ℕ) where
         position = rw write_new fits.push.1.1;
         ring = ring_publish site word waiting value next fits.ring free fits.push.3 fits.push.1.0;
         push = knows;
-        pop = popping_knows_more site word (put word site.base next) waiting (waiting ++ value ∷ []) read_same (omega (arith, length_push waiting value)) (λ some. get_or_append_left waiting (value ∷ []) 0 0 some) pops fits.pop;
+        pop =
+            popping_knows_more site word (put word site.base next) waiting (waiting ++ value ∷ []) read_same
+            (omega (arith, length_push waiting value)) (λ some. get_or_append_left waiting (value ∷ []) 0 0 some) pops fits.pop;
       }
 
   pub pushing_step : (waiting hand : List ℕ) (pushes : Pushing) (pops : Popping)
@@ -129,7 +147,8 @@ module _ (site : Site) (word : ℕ → ℕ) where
                   let counts = fits.ring.counts in
                   elim (cases_kind site.kind) [
                     | inl kind ↦ rw (more, full, refused_when_full site.kind kind) (length_is, pushes_on fits fits.push.0)
-                    | inr kind ↦ rw (more, full, overflows site.kind kind) (length_is, pushes_on fits (fits.push.0, next, (kind, omega arith, omega arith), here))
+                    | inr kind ↦ rw (more, full, overflows site.kind kind)
+                        (length_is, pushes_on fits (fits.push.0, next, (kind, omega arith, omega arith), here))
                   ]
                   )
               | inr room ↦ (
@@ -163,18 +182,24 @@ module _ (site : Site) (word : ℕ → ℕ) where
           let read_same = put-other word (cell_at site (write_of site word)) value (site.base + 1) (omega arith) in
           (knows.0, omega (arith, knows.1), omega (arith, knows.2))
   pushing_step waiting hand (pushing.Pushes (push.StoresWrite value next None)) pops fits =
-      let free = fits.push.2 in
-      ((free_cell site word waiting None fits.push.0.1 free, omega (arith, fits.push.1.0, fits.push.1.1)), publishes None fits (fits.push.0.0, omega (arith, free, length_push waiting value)))
+      let free = fits.push.2 in (
+        (free_cell site word waiting None fits.push.0.1 free, omega (arith, fits.push.1.0, fits.push.1.1)),
+        publishes None fits (fits.push.0.0, omega (arith, free, length_push waiting value)),
+      )
   pushing_step waiting hand (pushing.Pushes (push.StoresWrite value next (Some read))) pops fits =
       let full = fits.push.2 in
       let is_next = fits.push.1.0 in
       let write_new = put-same word site.base next in
-      let read_same = put-other word site.base next (site.base + 1) (omega arith) in
-      ((free_cell site word waiting (Some read) fits.push.0.1 full, omega (arith, fits.push.1.0, fits.push.1.1)), publishes (Some read) fits (fits.push.0.0, full.0, omega (arith, full.1), omega (arith, full.2)))
+      let read_same = put-other word site.base next (site.base + 1) (omega arith) in (
+        (free_cell site word waiting (Some read) fits.push.0.1 full, omega (arith, fits.push.1.0, fits.push.1.1)),
+        publishes (Some read) fits (fits.push.0.0, full.0, omega (arith, full.1), omega (arith, full.2)),
+      )
   pushing_step waiting hand (pushing.Pushes (push.Evicts read)) pops fits =
       let position = fits.position in
       elim (cases_Bool (eqb (read_of site word) read)) [
-        | inl hit ↦ (let at = eqb-true _ _ hit in rw (hit, ← at) (evicts waiting hand read pops fits.push.1 (fits.some fits.push.1) fits.ring fits.position fits.push.0 fits.push.2 at fits.pop))
+        | inl hit ↦ (
+            let at = eqb-true _ _ hit in
+            rw (hit, ← at) (evicts waiting hand read pops fits.push.1 (fits.some fits.push.1) fits.ring fits.position fits.push.0 fits.push.2 at fits.pop))
         | inr missed ↦ (
             let other = eqb-false _ _ missed in
             let counts = fits.ring.counts in

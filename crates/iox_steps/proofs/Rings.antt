@@ -9,7 +9,8 @@ use Rattle.iox_steps.specs.Fits.{write_of, read_of, Ring}
 use Rattle.iox_steps.proofs.Places.{put-same, put-other, mod_apart, cell_place}
 
 -- nothing but the words of the queue counts
-pub ring_frame : (site : Site) (word word' : ℕ → ℕ) (waiting : List ℕ) → ((at : ℕ) → IsPlace site.base (size site) at → word' at ≡ word at) → Ring site word waiting → Ring site word' waiting
+pub ring_frame : (site : Site) (word word' : ℕ → ℕ) (waiting : List ℕ) → ((at : ℕ) → IsPlace site.base (size site) at → word' at ≡ word at)
+    → Ring site word waiting → Ring site word' waiting
 ring_frame site word word' waiting same ring =
     let write_same = same site.base (omega arith, omega arith) in
     let read_same = same (site.base + 1) (omega arith, omega arith) in
@@ -24,7 +25,8 @@ ring_frame site word word' waiting same ring =
 
 module _ (site : Site) (word : ℕ → ℕ) where
   -- a store into the free cell
-  pub ring_store : (waiting : List ℕ) (value : ℕ) → Ring site word waiting → length waiting < cells site → Ring site (put word (cell_at site (write_of site word)) value) waiting
+  pub ring_store : (waiting : List ℕ) (value : ℕ) → Ring site word waiting → length waiting < cells site
+      → Ring site (put word (cell_at site (write_of site word)) value) waiting
   ring_store waiting value ring free =
       let cell = cell_at site (write_of site word) in
       let write_same = put-other word cell value site.base (omega arith) in
@@ -39,7 +41,8 @@ module _ (site : Site) (word : ℕ → ℕ) where
       }
 
   -- the write position goes on, and the value in the free cell waits
-  pub ring_publish : (waiting : List ℕ) (value next : ℕ) → Ring site word waiting → length waiting < cells site → word (cell_at site (write_of site word)) ≡ value → next ≡ write_of site word + 1
+  pub ring_publish : (waiting : List ℕ) (value next : ℕ) → Ring site word waiting → length waiting < cells site
+      → word (cell_at site (write_of site word)) ≡ value → next ≡ write_of site word + 1
       → Ring site (put word site.base next) (waiting ++ value ∷ [])
   ring_publish waiting value next ring free stands is_next =
       let counts = ring.counts in
@@ -61,7 +64,8 @@ module _ (site : Site) (word : ℕ → ℕ) where
       }
 
   -- the read position goes on, and the first is taken
-  pub ring_take : (first : ℕ) (others : List ℕ) (next : ℕ) → Ring site word (first ∷ others) → next ≡ read_of site word + 1 → Ring site (put word (site.base + 1) next) others
+  pub ring_take : (first : ℕ) (others : List ℕ) (next : ℕ) → Ring site word (first ∷ others) → next ≡ read_of site word + 1
+      → Ring site (put word (site.base + 1) next) others
   ring_take first others next ring is_next =
       let bounded = ring.bounded in
       let counts = ring.counts in

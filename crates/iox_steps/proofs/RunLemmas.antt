@@ -8,13 +8,15 @@ use Rattle.iox_steps.specs.Moments.{rest, front, IsTrueOf}
 use Rattle.iox_steps.specs.Runs.{Line, line_after, Run, published, handed_out, told}
 
 -- a run goes on by one moment
-run_more : (site : Site) (before : Line) (moments : List Moment) (mid : Line) (moment : Moment) → Run site before moments mid → IsTrueOf site mid.write mid.waiting mid.hand moment
+run_more : (site : Site) (before : Line) (moments : List Moment) (mid : Line) (moment : Moment) → Run site before moments mid
+    → IsTrueOf site mid.write mid.waiting mid.hand moment
     → Run site before (moments ++ moment ∷ []) (line_after moment mid)
 run_more site before [] mid moment run holds = (subst (λ l. IsTrueOf site l.write l.waiting l.hand moment) run holds, ap (line_after moment) run)
 run_more site before (first ∷ moments) mid moment run holds = (run.0, run_more site (line_after first before) moments mid moment run.1 holds)
 
 -- which is written down if it is one
-pub run_told : (site : Site) (before : Line) (moments : List Moment) (mid : Line) (moment : Moment) → Run site before moments mid → IsTrueOf site mid.write mid.waiting mid.hand moment
+pub run_told : (site : Site) (before : Line) (moments : List Moment) (mid : Line) (moment : Moment) → Run site before moments mid
+    → IsTrueOf site mid.write mid.waiting mid.hand moment
     → Run site before (moments ++ option_to_list (told moment)) (line_after moment mid)
 run_told site before moments mid Quiet run holds = rw append-nil run
 run_told site before moments mid (Publish value) run holds = run_more site before moments mid (Publish value) run holds
@@ -32,11 +34,13 @@ split_front : (waiting more : List ℕ) → waiting ++ more ≡ front waiting ++
 split_front [] more = refl
 split_front (first ∷ others) more = refl
 
-pub in_order : (site : Site) (before : Line) (moments : List Moment) (after : Line) → Run site before moments after → before.waiting ++ published moments ≡ handed_out before.waiting moments ++ after.waiting
+pub in_order : (site : Site) (before : Line) (moments : List Moment) (after : Line) → Run site before moments after
+    → before.waiting ++ published moments ≡ handed_out before.waiting moments ++ after.waiting
 in_order site before [] after run = append-nil before.waiting ∙ ap (λ l. l.waiting) (sym run)
 in_order site before (Publish value ∷ moments) after run =
     sym (append_assoc before.waiting (value ∷ []) (published moments)) ∙ in_order site (line_after (Publish value) before) moments after run.1
-in_order site before (HandOut value ∷ moments) after run = ap (λ l. l ++ published moments) run.0 ∙ ap (λ l. value ∷ l) (in_order site (line_after (HandOut value) before) moments after run.1)
+in_order site before (HandOut value ∷ moments) after run =
+    ap (λ l. l ++ published moments) run.0 ∙ ap (λ l. value ∷ l) (in_order site (line_after (HandOut value) before) moments after run.1)
 in_order site before (Evict ∷ moments) after run =
     split_front before.waiting (published moments) ∙ ap (λ l. front before.waiting ++ l) (in_order site (line_after Evict before) moments after run.1)
     ∙ sym (append_assoc (front before.waiting) (handed_out (rest before.waiting) moments) after.waiting)

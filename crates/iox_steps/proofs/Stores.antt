@@ -36,6 +36,7 @@ popping_is_blind site popping.AtRest store seen seen' = absurd store
 popping_is_blind site (popping.Pops pop.LoadsRead) store seen seen' = absurd store
 popping_is_blind site (popping.Pops (pop.LoadsWrite read)) store seen seen' = absurd store
 popping_is_blind site (popping.Pops (pop.LoadsCell read cell)) store seen seen' = absurd store
-popping_is_blind site (popping.Pops (pop.Takes read value)) store seen seen' = rw (taken site.kind (site.base + 1) read seen store, taken site.kind (site.base + 1) read seen' store) (refl, refl, refl)
+popping_is_blind site (popping.Pops (pop.Takes read value)) store seen seen' =
+    rw (taken site.kind (site.base + 1) read seen store, taken site.kind (site.base + 1) read seen' store) (refl, refl, refl)
 popping_is_blind site (popping.Looks empty_look.LoadsRead) store seen seen' = absurd store
 popping_is_blind site (popping.Looks (empty_look.LoadsWrite read)) store seen seen' = absurd store

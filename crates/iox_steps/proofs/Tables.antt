@@ -45,13 +45,15 @@ module _ (site : Site) (some : 0 < cells site) where
   cell_inside position = let place = cell_place site position some in (omega (arith, place.0), omega (arith, place.1))
 
   -- whatever an access finds, the next one is within the queue's words too
-  pub pushing_stays : (pushes : Pushing) (seen : ℕ) → IsWithin site.base (size site) (pushing_access site pushes) → IsWithin site.base (size site) (pushing_access site (pushing_after site pushes seen))
+  pub pushing_stays : (pushes : Pushing) (seen : ℕ) → IsWithin site.base (size site) (pushing_access site pushes) → IsWithin site.base (size site)
+      (pushing_access site (pushing_after site pushes seen))
   pushing_stays pushing.AtRest seen within = tt
   pushing_stays (pushing.Pushes (push.LoadsWrite value)) seen within = (omega arith, omega arith)
-  pushing_stays (pushing.Pushes (push.LoadsRead value write)) seen within = elim (cases_Bool (is_refused site.kind (eqb write last_position) (is_full site seen write))) [
-    | inl refused ↦ rw refused tt
-    | inr goes ↦ rw goes (cell_inside write)
-  ]
+  pushing_stays (pushing.Pushes (push.LoadsRead value write)) seen within =
+      elim (cases_Bool (is_refused site.kind (eqb write last_position) (is_full site seen write))) [
+        | inl refused ↦ rw refused tt
+        | inr goes ↦ rw goes (cell_inside write)
+      ]
   pushing_stays (pushing.Pushes (push.StoresCell value cell next full)) seen within = (omega arith, omega arith)
   pushing_stays (pushing.Pushes (push.StoresWrite value next None)) seen within = tt
   pushing_stays (pushing.Pushes (push.StoresWrite value next (Some read))) seen within = (omega arith, omega arith)
@@ -67,7 +69,8 @@ module _ (site : Site) (some : 0 < cells site) where
   take_inside Index read = (omega arith, omega arith)
   take_inside Overflowing read = (omega arith, omega arith)
 
-  pub popping_stays : (pops : Popping) (seen : ℕ) → IsWithin site.base (size site) (popping_access site pops) → IsWithin site.base (size site) (popping_access site (popping_after site pops seen))
+  pub popping_stays : (pops : Popping) (seen : ℕ) → IsWithin site.base (size site) (popping_access site pops) → IsWithin site.base (size site)
+      (popping_access site (popping_after site pops seen))
   popping_stays popping.AtRest seen within = tt
   popping_stays (popping.Pops pop.LoadsRead) seen within = (omega arith, omega arith)
   popping_stays (popping.Pops (pop.LoadsWrite read)) seen within = elim (cases_Bool (is_empty site read seen)) [

@@ -1,5 +1,5 @@
 -- Each turn keeps the queue: over words by their places, over a list of words, and over words that are told one change at a time.
-use Rattle.std.proofs.Common.{◌≡◌, ℕ, ◌+◌, ◌≤◌, List, length, get_or, ◌∙◌, arith}
+use Rattle.std.proofs.Common.{◌≡◌, ℕ, ◌+◌, ◌≤◌, None, List, length, get_or, ◌∙◌, arith}
 use Rattle.iox_steps.specs.declared.site.Site.{Site}
 use Rattle.iox_steps.specs.declared.seat.Pushing.{Pushing}
 use Rattle.iox_steps.specs.declared.seat.Popping.{Popping}
@@ -8,23 +8,24 @@ use Rattle.iox_steps.specs.Sites.{size}
 use Rattle.iox_steps.specs.Seats.{pushing_access, popping_access}
 use Rattle.iox_steps.specs.Fits.{write_of, Fits}
 use Rattle.iox_steps.specs.Runs.{write_after}
-use Rattle.iox_steps.specs.Answers.{Answers}
+use Rattle.iox_steps.specs.Answers.{Answers, OnProgress, unpublished_after}
 use Rattle.iox_steps.specs.Laws.{Turn, pushing_turn, popping_turn, Keeps, KeepsInList}
 use Rattle.iox_steps.proofs.AccessLemmas.{changed_are_after, changes_outside, after_changes, list_changes, length-words_after, within_wider}
 use Rattle.iox_steps.proofs.PushSteps.{StepsTo, pushing_step}
 use Rattle.iox_steps.proofs.PopSteps.{popping_step}
 use Rattle.iox_steps.proofs.Frames.{fits_frame, fits_apart, apart_sym, pushing_within, popping_within}
 use Rattle.iox_steps.proofs.Writes.{pushing_writes, popping_writes}
-use Rattle.iox_steps.proofs.AnswerLemmas.{pushing_answers, popping_answers}
+use Rattle.iox_steps.proofs.AnswerLemmas.{pushing_answers, popping_answers, pushing_own, popping_own}
 
 -- a turn whose parts are known, at words of which one changed as its access says
 turn_keeps : (site : Site) (word word' : ℕ → ℕ) (waiting hand : List ℕ) (turn : Turn)
     → IsWithin site.base (size site) turn.access → StepsTo site word waiting hand turn
     → write_of site (word_after turn.access word) ≡ write_after turn.moment (write_of site word)
     → Answers turn.own turn.answer turn.moment
+    → OnProgress turn.answer (turn.left ≡ unpublished_after turn.moment turn.own) (λ reply. turn.left ≡ None)
     → Changes word (place_of turn.access) (change_of turn.access (word (place_of turn.access))) word'
     → Keeps site word word' waiting hand turn
-turn_keeps site word word' waiting hand turn within steps writes answers changes =
+turn_keeps site word word' waiting hand turn within steps writes answers own changes =
     let same = changed_are_after turn.access word word' changes in
     record {
       within = within;
@@ -34,6 +35,7 @@ turn_keeps site word word' waiting hand turn within steps writes answers changes
       counts = same site.base ∙ writes;
       fits = fits_frame site (word_after turn.access word) word' _ _ turn.pushes turn.pops (λ at place. same at) steps.1;
       answers = answers;
+      own_stays = own;
     }
 
 module _ (site : Site) (word : ℕ → ℕ) (waiting hand : List ℕ) (pushes : Pushing) (pops : Popping)
@@ -44,7 +46,8 @@ module _ (site : Site) (word : ℕ → ℕ) (waiting hand : List ℕ) (pushes : 
   pushing_keeps_changed word' changes = turn_keeps site word word' waiting hand (pushing_turn site word pushes pops)
       (pushing_within site word waiting hand pushes fits.push) (pushing_step site word waiting hand pushes pops fits)
       (pushing_writes site word waiting hand pushes pops fits)
-      (pushing_answers site word waiting hand pushes (seen_by (pushing_access site pushes) word) fits.push) changes
+      (pushing_answers site word waiting hand pushes (seen_by (pushing_access site pushes) word) fits.push)
+      (pushing_own site pushes (seen_by (pushing_access site pushes) word)) changes
 
   pub popping_keeps_changed : (word' : ℕ → ℕ) → let access = popping_access site pops in
       Changes word (place_of access) (change_of access (word (place_of access))) word'
@@ -52,7 +55,8 @@ module _ (site : Site) (word : ℕ → ℕ) (waiting hand : List ℕ) (pushes : 
   popping_keeps_changed word' changes = turn_keeps site word word' waiting hand (popping_turn site word pushes pops)
       (popping_within site word waiting pops fits.ring.bounded fits.pop) (popping_step site word waiting hand pushes pops fits)
       (popping_writes site word pops waiting fits.pop)
-      (popping_answers site pops (seen_by (popping_access site pops) word)) changes
+      (popping_answers site pops (seen_by (popping_access site pops) word))
+      (popping_own (popping_turn site word pushes pops).answer (popping_turn site word pushes pops).moment) changes
 
   pub pushing_keeps : Keeps site word (word_after (pushing_access site pushes) word) waiting hand (pushing_turn site word pushes pops)
   pushing_keeps = pushing_keeps_changed (word_after (pushing_access site pushes) word) (after_changes (pushing_access site pushes) word)

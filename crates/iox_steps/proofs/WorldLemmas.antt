@@ -10,10 +10,12 @@ use Rattle.iox_steps.specs.Accesses.{seen_at, words_after}
 use Rattle.iox_steps.specs.declared.machine.Entry.{Entry}
 use Rattle.iox_steps.specs.Worlds.{World, with_party, Stepped, Entered, AllEntered}
 
-module _ {P E R C : Type 0} (asks : P → Access) (leads : P → ℕ → Progress R → P → Type 0) (happens : P → ℕ → Option E) (at_rest : P → Bool) (begins : P → C → Result P MachineError → Type 0) where
+module _ {P E R C : Type 0} (asks : P → Access) (leads : P → ℕ → Progress R → P → Type 0) (happens : P → ℕ → Option E) (at_rest : P → Bool)
+    (begins : P → C → Result P MachineError → Type 0) where
   -- `looked` is the party again, as it was looked at
   pub step_of : (old : World P E) (number : ℕ) (looked party after : P) (answer : Progress R) (words : List ℕ) (resting : Bool) (room events : List E)
-      → number < length old.parties → looked ≡ get_or old.parties number looked → party ≡ get_or old.parties number party → resting ≡ at_rest looked → resting ≡ false
+      → number < length old.parties → looked ≡ get_or old.parties number looked → party ≡ get_or old.parties number party → resting ≡ at_rest looked
+      → resting ≡ false
       → words ≡ words_after (asks party) old.words → leads party (seen_at (asks party) old.words) answer after
       → room ≡ old.events → events ≡ room ++ option_to_list (happens party (seen_at (asks party) old.words))
       → Stepped asks leads happens at_rest begins old number answer (record { words = words; parties = set old.parties number after; events = events })
@@ -27,7 +29,8 @@ module _ {P E R C : Type 0} (asks : P → Access) (leads : P → ℕ → Progres
   }
 
   -- a party that refuses the call is as before
-  pub begin_keeps : (Holds : World P E → Type 0) → IsKeptByBegins Holds begins → (old : World P E) (number : ℕ) (call : C) (party after : P) {A : Type 0} (result : Result A MachineError)
+  pub begin_keeps : (Holds : World P E → Type 0) → IsKeptByBegins Holds begins → (old : World P E) (number : ℕ) (call : C) (party after : P)
+      {A : Type 0} (result : Result A MachineError)
       → number < length old.parties → party ≡ get_or old.parties number party → OnOk result (begins party call (Ok after)) → OnErr result (after ≡ party)
       → Holds old → Holds (with_party old number after)
   begin_keeps Holds starts old number call party after (Ok done) within is begun same holds = starts old number call party after holds (within, is) begun
@@ -36,6 +39,7 @@ module _ {P E R C : Type 0} (asks : P → Access) (leads : P → ℕ → Progres
 
   -- one entry more
   pub all_entered_more : (old : World P E) (entries : List (Entry C)) (mid : World P E) (entry : Entry C) (new : World P E)
-      → AllEntered asks leads happens at_rest begins old entries mid → Entered asks leads happens at_rest begins mid entry new → AllEntered asks leads happens at_rest begins old (entries ++ entry ∷ []) new
+      → AllEntered asks leads happens at_rest begins old entries mid → Entered asks leads happens at_rest begins mid entry new
+      → AllEntered asks leads happens at_rest begins old (entries ++ entry ∷ []) new
   all_entered_more old [] mid entry new is last = (new, (subst (λ w. Entered asks leads happens at_rest begins w entry new) is last, refl))
   all_entered_more old (first ∷ entries) mid entry new is last = (is.0, (is.1.0, all_entered_more is.0 entries mid entry new is.1.1 last))

@@ -29,7 +29,8 @@ room_moment-write : (site : Site) (read write n : ℕ) → n ≡ write_after (ro
 room_moment-write site read write n = elim (cases_Bool (is_full site read write)) [ inl full ↦ rw full refl | inr room ↦ rw room refl ]
 
 pub pushing_writes : (site : Site) (word : ℕ → ℕ) (waiting hand : List ℕ) (pushes : Pushing) (pops : Popping) → Fits site word waiting hand pushes pops
-    → let access = pushing_access site pushes in write_of site (word_after access word) ≡ write_after (pushing_moment site pushes (seen_by access word)) (write_of site word)
+    → let access = pushing_access site pushes in write_of site (word_after access word) ≡ write_after (pushing_moment site pushes (seen_by access word))
+    (write_of site word)
 pushing_writes site word waiting hand pushing.AtRest pops fits = refl
 pushing_writes site word waiting hand (pushing.Pushes (push.LoadsWrite value)) pops fits = refl
 pushing_writes site word waiting hand (pushing.Pushes (push.LoadsRead value write)) pops fits = elim (cases_Bool (eqb write last_position)) [
@@ -52,10 +53,12 @@ pushing_writes site word waiting hand (pushing.Looks (full_look.LoadsRead write)
 
 -- a pop publishes nothing
 pub popping_writes : (site : Site) (word : ℕ → ℕ) (pops : Popping) (waiting : List ℕ) → PoppingKnows site word waiting pops
-    → let access = popping_access site pops in write_of site (word_after access word) ≡ write_after (popping_moment site pops (seen_by access word)) (write_of site word)
+    → let access = popping_access site pops in write_of site (word_after access word) ≡ write_after (popping_moment site pops (seen_by access word))
+    (write_of site word)
 popping_writes site word popping.AtRest waiting knows = refl
 popping_writes site word (popping.Pops pop.LoadsRead) waiting knows = refl
-popping_writes site word (popping.Pops (pop.LoadsWrite read)) waiting knows = elim (cases_Bool (is_empty site read (write_of site word))) [ inl none ↦ rw none refl | inr some ↦ rw some refl ]
+popping_writes site word (popping.Pops (pop.LoadsWrite read)) waiting knows =
+    elim (cases_Bool (is_empty site read (write_of site word))) [ inl none ↦ rw none refl | inr some ↦ rw some refl ]
 popping_writes site word (popping.Pops (pop.LoadsCell read cell)) waiting knows = refl
 popping_writes site word (popping.Pops (pop.Takes read value)) waiting knows = take_writes site.kind
   where
@@ -67,10 +70,12 @@ popping_writes site word (popping.Pops (pop.Takes read value)) waiting knows = t
       | inr missed ↦ rw missed refl
     ]
 popping_writes site word (popping.Looks empty_look.LoadsRead) waiting knows = refl
-popping_writes site word (popping.Looks (empty_look.LoadsWrite read)) waiting knows = elim (cases_Bool (is_empty site read (write_of site word))) [ inl none ↦ rw none refl | inr some ↦ rw some refl ]
+popping_writes site word (popping.Looks (empty_look.LoadsWrite read)) waiting knows =
+    elim (cases_Bool (is_empty site read (write_of site word))) [ inl none ↦ rw none refl | inr some ↦ rw some refl ]
 
 -- how much waits at most
-pub waits_at_most : (site : Site) (word : ℕ → ℕ) (waiting hand : List ℕ) (pushes : Pushing) (pops : Popping) → Fits site word waiting hand pushes pops → length waiting ≤ most_waiting site pushes
+pub waits_at_most : (site : Site) (word : ℕ → ℕ) (waiting hand : List ℕ) (pushes : Pushing) (pops : Popping) → Fits site word waiting hand pushes pops
+    → length waiting ≤ most_waiting site pushes
 waits_at_most site word waiting hand pushing.AtRest pops fits = fits.push.1
 waits_at_most site word waiting hand (pushing.Pushes (push.LoadsWrite value)) pops fits = fits.push.1
 waits_at_most site word waiting hand (pushing.Pushes (push.LoadsRead value write)) pops fits = fits.push.0.1

@@ -26,6 +26,11 @@ unpublished pushing.AtRest = None
 unpublished (pushing.Pushes place) = unpublished_of place
 unpublished (pushing.Looks place) = None
 
+-- what is still to be published after a moment
+abbrev pub unpublished_after : Moment → Option ℕ → Option ℕ
+unpublished_after (Publish value) own = None
+unpublished_after moment own = own
+
 -- the reply of a push that had still to publish its value
 abbrev pub SaysPushed : ℕ → Reply → Moment → Type 0
 -- this access published it

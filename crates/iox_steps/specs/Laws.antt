@@ -13,7 +13,7 @@ use Rattle.iox_steps.specs.Seats.{pushing_access, pushing_after, pushing_progres
 use Rattle.iox_steps.specs.Moments.{IsTrueOf, waiting_after, hand_after}
 use Rattle.iox_steps.specs.Fits.{write_of, Fits}
 use Rattle.iox_steps.specs.Runs.{write_after}
-use Rattle.iox_steps.specs.Answers.{Answers, unpublished}
+use Rattle.iox_steps.specs.Answers.{Answers, OnProgress, unpublished, unpublished_after}
 
 -- A turn of a party: one access, and what it comes to.
 pub record Turn : Type 0 where
@@ -22,6 +22,8 @@ pub record Turn : Type 0 where
   pub moment : Moment
   -- the value that the party had still to publish
   pub own : Option ℕ
+  -- and what it has after it
+  pub left : Option ℕ
   pub answer : Progress Reply
   -- where both parties are after it
   pub pushes : Pushing
@@ -33,6 +35,7 @@ pushing_turn site word pushes pops = let seen = seen_by (pushing_access site pus
   access = pushing_access site pushes;
   moment = pushing_moment site pushes seen;
   own = unpublished pushes;
+  left = unpublished (pushing_after site pushes seen);
   answer = pushing_progress site pushes seen;
   pushes = pushing_after site pushes seen;
   pops = pops;
@@ -44,6 +47,7 @@ popping_turn site word pushes pops = let seen = seen_by (popping_access site pop
   access = popping_access site pops;
   moment = popping_moment site pops seen;
   own = None;
+  left = None;
   answer = popping_progress site pops seen;
   pushes = pushes;
   pops = popping_after site pops seen;
@@ -65,6 +69,8 @@ pub record Keeps (site : Site) (word word' : ℕ → ℕ) (waiting hand : List �
   pub fits : Fits site word' (waiting_after turn.moment waiting) (hand_after turn.moment waiting hand) turn.pushes turn.pops
   -- its answer says what happened
   pub answers : Answers turn.own turn.answer turn.moment
+  -- a call that goes on keeps its value, until it is published
+  pub own_stays : OnProgress turn.answer (turn.left ≡ unpublished_after turn.moment turn.own) (λ reply. turn.left ≡ None)
 
 -- the same of a turn at a list of words
 abbrev pub KeepsInList : Site → List ℕ → List ℕ → List ℕ → Turn → Type 0

@@ -21,3 +21,6 @@ pub use pop::{EmptyLook, Pop};
 pub use push::{FullLook, Push, PushReply};
 pub use seat::{Moment, Popping, Pushing, Reply, tell_moment};
 pub use site::{QueueKind, Site};
+
+#[cfg(test)]
+mod tests;

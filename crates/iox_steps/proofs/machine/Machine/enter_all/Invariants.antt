@@ -3,4 +3,6 @@ use Rattle.iox_steps.specs.Worlds.{AllEntered}
 use Rattle.iox_steps.proofs.machine.Machine.enter_all.Given as goal
 
 abbrev pub invariant-loop-entry : goal.invariant-loop-entry
-invariant-loop-entry g l = AllEntered g.P.Party.asks g.P.Party.leads g.P.Playable.happens g.P.Playable.at_rest g.P.Playable.begins l.fn.self (take l.entry-index l.schedule) l.self
+invariant-loop-entry g l =
+    AllEntered g.P.Party.asks g.P.Party.leads g.P.Playable.happens g.P.Playable.at_rest g.P.Playable.begins l.fn.self
+    (take l.entry-index l.schedule) l.self
