@@ -2,3 +2,5 @@ pub mod NewMachines
 pub mod MomentLemmas
 pub mod CellLemmas
 pub mod StoredLemmas
+pub mod LineLemmas
+pub mod PlaysLemmas

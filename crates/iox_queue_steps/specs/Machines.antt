@@ -1,5 +1,5 @@
 -- What a machine of a queue promises, step by step and for every schedule.
-use Rattle.std.specs.Prelude.{◌≡◌, ℕ, ◌+◌, ◌<◌, ◌≤◌, ◌⊎◌, ◌++◌, List, [], ◌∷◌, length, slice_index}
+use Rattle.std.specs.Prelude.{◌≡◌, ℕ, ◌++◌, List, [], ◌∷◌, Option, None, slice_index}
 use Rattle.std.specs.Option.{option_to_list}
 use Rattle.iox_steps.specs.declared.access.Progress.{Progress}
 use Rattle.iox_steps.specs.declared.error.MachineError.{MachineError}
@@ -7,12 +7,13 @@ use Rattle.iox_steps.specs.declared.machine.Entry.{Entry}
 use Rattle.iox_steps.specs.declared.site.Site.{Site}
 use Rattle.iox_steps.specs.declared.seat.Moment.{Moment}
 use Rattle.iox_steps.specs.declared.seat.Reply.{Reply}
+use Rattle.iox_steps.specs.Accesses.{KeepsOutside}
 use Rattle.iox_steps.specs.Sites.{size}
 use Rattle.iox_steps.specs.Moments.{IsTrueOf}
 use Rattle.iox_steps.specs.Fits.{Fits}
-use Rattle.iox_steps.specs.Runs.{Line, line_after, told}
-use Rattle.iox_steps.specs.Answers.{Answers}
-use Rattle.iox_steps.specs.Worlds.{World, Stepped, IsStepRefused, Begun, IsBeginRefused, AllEntered}
+use Rattle.iox_steps.specs.Runs.{Line, line_after, Run, published, handed_out, told}
+use Rattle.iox_steps.specs.Answers.{Answers, unpublished}
+use Rattle.iox_steps.specs.Worlds.{World, IsParty, Stepped, IsStepRefused, Begun, IsBeginRefused, AllEntered}
 use Rattle.iox_queue_steps.specs.declared.queue.Seat.{Seat}
 use Rattle.iox_queue_steps.specs.declared.queue.Seat.TheVariants.{Pusher, Popper}
 use Rattle.iox_queue_steps.specs.declared.queue.Call.{Call}
@@ -48,19 +49,44 @@ PartiesShow site words (a ∷ b ∷ []) line = (a.site ≡ site) × (b.site ≡ 
     × SeatsShow site words a.seat b.seat line
 PartiesShow site words parties line = ⊥
 
--- One access is one moment: it is true of the queue before, leads to the queue after, is written down, and the reply says it.
-pub record IsMoment (old new : QueueWorld) (answer : Progress Reply) : Type 0 where
+-- the value that this seat's push has still to publish
+abbrev pub seat_unpublished : Seat → Option ℕ
+seat_unpublished (Pusher pushes) = unpublished pushes
+seat_unpublished (Popper pops) = None
+
+-- One access of the party of this number is one moment: it is true of the queue before, leads to
+-- the queue after, is written down, and the reply says it.
+pub record IsMoment (old : QueueWorld) (number : ℕ) (answer : Progress Reply)
+    (new : QueueWorld) : Type 0 where
   pub site : Site
   pub line : Line
+  pub party : Seated
   pub moment : Moment
   pub shown : PartiesShow site old.words old.parties line
+  pub is_party : IsParty old number party
   pub is_true : IsTrueOf site line.write line.waiting line.hand moment
   pub leads_to : PartiesShow site new.words new.parties (line_after moment line)
   pub events : new.events ≡ old.events ++ option_to_list (told moment)
-  pub answers : Answers answer moment
+  pub answers : Answers (seat_unpublished party.seat) answer moment
   -- one word changed at most, and none outside the queue
-  pub length_stays : length new.words ≡ length old.words
   pub one_word : (place : ℕ)
-      × ((other : ℕ) → (other ≡ place → ⊥) → slice_index new.words other ≡ slice_index old.words other)
-  pub outside : (place : ℕ) → (place < site.base) ⊎ (site.base + size site ≤ place)
-      → slice_index new.words place ≡ slice_index old.words place
+      × ((other : ℕ) → (other ≡ place → ⊥)
+      → slice_index new.words other ≡ slice_index old.words other)
+  pub outside : KeepsOutside site.base (size site) old.words new.words
+
+-- What was played on a queue between two worlds: moments, each true when it came, and each
+-- written down.
+pub record Plays (old new : QueueWorld) : Type 0 where
+  pub site : Site
+  pub before : Line
+  pub moments : List Moment
+  pub after : Line
+  pub shown : PartiesShow site old.words old.parties before
+  pub run : Run site before moments after
+  pub leads_to : PartiesShow site new.words new.parties after
+  pub events : new.events ≡ old.events ++ moments
+  -- what left, and then what waits, is what waited before, and then what was published
+  pub order : before.waiting ++ published moments
+      ≡ handed_out before.waiting moments ++ after.waiting
+  -- no word changed outside the queue
+  pub outside : KeepsOutside site.base (size site) old.words new.words

@@ -26,7 +26,7 @@ impl QueueMachine {
     ghost use Rattle.std.specs.Prelude.{◌≡◌, ℕ, ◌+◌, ◌<◌, ◌≤◌, [], length, take, IfOk, IfErr, OnOk, OnErr};
     ghost use Rattle.iox_steps.specs.Sites.{size};
     ghost use Rattle.iox_queue_steps.specs.Queues.{IsNewMachine, IsEmptyAt, QueueHolds};
-    ghost use Rattle.iox_queue_steps.specs.Machines.{QueueStepped, IsQueueStepRefused, QueueBegun, IsQueueBeginRefused, AllQueueEntered, IsMoment};
+    ghost use Rattle.iox_queue_steps.specs.Machines.{QueueStepped, IsQueueStepRefused, QueueBegun, IsQueueBeginRefused, AllQueueEntered, IsMoment, Plays};
 
     /// A machine of the empty queue at this place among the words, at whatever position it is.
     pub fn new(alloc: Global, words: Vec<u64>, site: Site) -> Result<QueueMachine, AllocError>
@@ -68,23 +68,34 @@ impl QueueMachine {
     /// One access of the party's call.
     #[inline]
     pub fn step(&mut self, party: usize) -> Result<Progress<Reply>, MachineError>
-        ensures moment { IfOk result (IsMoment self.old self.new) }
+        ensures moment { IfOk result (λ answer. IsMoment self.old party answer self.new) }
         ensures stepped { IfOk result (λ answer. QueueStepped self.old party answer self.new) }
         ensures refused { IfErr result (IsQueueStepRefused self.old party) }
         ensures unchanged { OnErr result (self.new ≡ self.old) }
     {
-        self.machine.holds();
+        self.holds();
         self.machine.step(party)
     }
 
-    /// Plays a schedule to its end, or to the step that wants memory. Whatever the schedule, the
-    /// values that left are, in order, the first of those published, and the rest waits.
+    /// What the words say, wherever the parties are: the values that left are, in order, the first
+    /// of those published, and the rest waits.
+    pub fn holds(&self)
+        ensures { QueueHolds self.now }
+    {
+        self.machine.holds()
+    }
+
+    /// Plays a schedule to its end, or to the step that wants memory. Whatever the schedule, each
+    /// event that it adds was true of the queue when it came, and the values that left are, in
+    /// order, the first of those published, and the rest waits.
     pub fn run(&mut self, schedule: &[Entry<Call>]) -> Result<(), MachineError>
+        ensures moments { Plays self.old self.new }
         ensures queue { QueueHolds self.new }
         ensures played { (count : ℕ) × AllQueueEntered self.old (take count schedule.now) self.new }
         ensures whole { OnOk result (AllQueueEntered self.old schedule.now self.new) }
         ensures refused { IfErr result (λ error. error ≡ MachineError.WantOfMemory) }
     {
+        self.holds();
         self.machine.run(schedule)
     }
 }

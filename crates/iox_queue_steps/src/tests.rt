@@ -1,6 +1,8 @@
 //! Worked runs of two parties at one queue.
+mod events;
+
 use crate::{Call, QueueMachine};
-use iox_steps::{Entry, MachineError, Moment, Progress, QueueKind, Reply, Site};
+use iox_steps::{Entry, MachineError, Progress, QueueKind, Reply, Site};
 use std::alloc::Global;
 use std::process::Abort;
 use std::test::Fail;
@@ -127,40 +129,6 @@ fn an_overflowing_queue_hands_back_the_oldest(rt: HostRuntime) -> Result<(), Fai
         call(&rt, &mut machine, 1, Call::Pop, 2)?,
         Reply::Popped(None)
     );
-    Ok(())
-}
-
-#[test]
-fn a_pop_comes_before_the_eviction(rt: HostRuntime) -> Result<(), Fail> {
-    let mut machine = machine_of(rt.alloc(), &rt, QueueKind::Overflowing, 2)?;
-    assert_eq!(rt;
-        call(&rt, &mut machine, 0, Call::Push(1), 4)?,
-        Reply::HandedBack(None)
-    );
-    assert_eq!(rt;
-        call(&rt, &mut machine, 0, Call::Push(2), 4)?,
-        Reply::HandedBack(None)
-    );
-    machine.begin(0, Call::Push(3))?;
-    machine.run(&[
-        Entry::Step(0),
-        Entry::Step(0),
-        Entry::Step(0),
-        Entry::Step(0),
-    ])?;
-    let mut published = 0u64;
-    for event in machine.events() {
-        if let Moment::Publish(_) = *event {
-            published = published.saturating_add(1);
-        }
-        assert!(rt; *event != Moment::Evict);
-    }
-    assert_eq!(rt; published, 3);
-    assert_eq!(rt;
-        call(&rt, &mut machine, 1, Call::Pop, 4)?,
-        Reply::Popped(Some(1))
-    );
-    assert_eq!(rt; machine.step(0)?, Progress::Done(Reply::HandedBack(None)));
     Ok(())
 }
 
