@@ -110,7 +110,7 @@ module _ {A : Type 0} (words : A → List ℕ) (of_words : List ℕ → Option A
         let write_new = put-same word place.base next in
         let read_same = put-other word place.base next (place.base + 1) (omega arith) in (
           at_write,
-          knows.free,
+          (knows.free, omega (arith, knows.is_next, knows.in_range)),
           write_new ∙ knows.is_next,
           record {
             position = rw write_new knows.in_range;
@@ -118,7 +118,7 @@ module _ {A : Type 0} (words : A → List ℕ) (of_words : List ℕ → Option A
             push = tt;
             pop = pop_knows_more words of_words place word (put word place.base next) waiting (waiting ++ value ∷ []) read_same (omega (arith, length_push waiting value)) (λ some. item-push_old words of_words waiting value 0 some) pops fits.pop;
           },
-          (value, refl),
+          refl,
         )
 
     looks_at_read : (write : ℕ) → let pushes : CellPushing A = pushing.Looks (full_look.LoadsRead write) in

@@ -1,5 +1,5 @@
 -- What one access of a party does to a queue of values.
-use Rattle.std.specs.Prelude.{◌≡◌, ℕ, List, Option, Some}
+use Rattle.std.specs.Prelude.{◌≡◌, ℕ, ◌+◌, ◌<◌, ◌≤◌, ◌⊎◌, List, length, slice_index, Option, Some, None}
 use Rattle.iox_steps.specs.Accesses.{seen_by, word_after, IsWithin}
 use Rattle.iox_cell_steps.specs.declared.place.Place.{Place}
 use Rattle.iox_cell_steps.specs.declared.seat.CellPushing.{CellPushing}
@@ -8,7 +8,7 @@ use Rattle.iox_cell_steps.specs.Cells.{size}
 use Rattle.iox_cell_steps.specs.CellSeats.{pushing_access, pushing_after, pushing_progress, pushing_moment, popping_access, popping_after, popping_progress, popping_moment}
 use Rattle.iox_cell_steps.specs.CellMoments.{waiting_after, IsTrueOf}
 use Rattle.iox_cell_steps.specs.CellRuns.{write_after}
-use Rattle.iox_cell_steps.specs.CellAnswers.{Answers}
+use Rattle.iox_cell_steps.specs.CellAnswers.{unpublished, Answers}
 use Rattle.iox_cell_steps.specs.CellFits.{write_of, Fits}
 
 module _ {A : Type 0} {width : ℕ} (words : A → List ℕ) (of_words : List ℕ → Option A)
@@ -22,8 +22,9 @@ module _ {A : Type 0} {width : ℕ} (words : A → List ℕ) (of_words : List �
       let moment = pushing_moment place pushes seen in
       IsWithin place.base (size place) access × IsTrueOf place (write_of place word) waiting moment
       × (write_of place (word_after access word) ≡ write_after moment (write_of place word))
-      × Fits words of_words place (word_after access word) (waiting_after moment waiting) (pushing_after place pushes seen) pops
-      × Answers (pushing_progress place pushes seen) moment
+      × Fits words of_words place (word_after access word) (waiting_after moment waiting)
+      (pushing_after place pushes seen) pops
+      × Answers (unpublished pushes) (pushing_progress place pushes seen) moment
 
   -- the same of the party that pops
   abbrev pub PoppingKeeps : Type 0
@@ -32,8 +33,15 @@ module _ {A : Type 0} {width : ℕ} (words : A → List ℕ) (of_words : List �
       let moment = popping_moment of_words place pops seen in
       IsWithin place.base (size place) access × IsTrueOf place (write_of place word) waiting moment
       × (write_of place (word_after access word) ≡ write_after moment (write_of place word))
-      × Fits words of_words place (word_after access word) (waiting_after moment waiting) pushes (popping_after of_words place pops seen)
-      × Answers (popping_progress of_words place pops seen) moment
+      × Fits words of_words place (word_after access word) (waiting_after moment waiting)
+      pushes (popping_after of_words place pops seen)
+      × Answers None (popping_progress of_words place pops seen) moment
+
+-- no word of a list changed but those of the queue
+abbrev pub KeepsOutside : Place → List ℕ → List ℕ → Type 0
+KeepsOutside place words after = (length after ≡ length words)
+    × ((at : ℕ) → (at < place.base) ⊎ (place.base + size place ≤ at)
+    → slice_index after at ≡ slice_index words at)
 
 -- whatever the place, the capacity and the width, and wherever both parties are
 abbrev pub EveryPushingKeeps : {A : Type 0} → (A → List ℕ) → (List ℕ → Option A) → Type 0

@@ -66,7 +66,9 @@ waiting_after moment waiting = waiting
 -- what a moment says is true of a queue with this write position, in which this waits
 abbrev pub IsTrueOf : {A : Type 0} → Place → ℕ → List A → CellMoment A → Type 0
 IsTrueOf place write waiting Quiet = Unit {0}
-IsTrueOf place write waiting (Publish value) = length waiting < place.capacity
+-- there is a cell, and a position after this one
+IsTrueOf place write waiting (Publish value) =
+    (length waiting < place.capacity) × (write < last_position)
 IsTrueOf place write waiting (HandOut value) = waiting ≡ value ∷ rest waiting
 IsTrueOf place write waiting SeesEmpty = waiting ≡ []
 IsTrueOf place write waiting SeesWaiting = 0 < length waiting
