@@ -1,2 +1,4 @@
+pub mod Schedules
 pub mod NewMachines
 pub mod MomentLemmas
+pub mod PlaysLemmas

@@ -33,7 +33,7 @@ impl<T: Words, const WIDTH: usize> CellMachine<T, WIDTH> {
     ghost use Rattle.iox_cell_steps.specs.Cells.{size};
     ghost use Rattle.iox_cell_queues.specs.CellSizes.{PartyFits};
     ghost use Rattle.iox_cell_queues.specs.CellQueues.{IsNewMachine, IsEmptyAt, CellHolds};
-    ghost use Rattle.iox_cell_queues.specs.CellMachines.{CellStepped, IsCellStepRefused, CellBegun, IsCellBeginRefused, AllCellsEntered, IsMoment};
+    ghost use Rattle.iox_cell_queues.specs.CellMachines.{CellStepped, IsCellStepRefused, CellBegun, IsCellBeginRefused, AllCellsEntered, IsMoment, Plays};
 
     /// A machine of the empty queue at this place among the words, at whatever position it is.
     pub fn new(
@@ -84,7 +84,7 @@ impl<T: Words, const WIDTH: usize> CellMachine<T, WIDTH> {
     /// One access of the party's call.
     pub fn step(&mut self, party: usize) -> Result<Progress<CellReply<T>>, MachineError>
         requires fits { PartyFits T.row WIDTH.row }
-        ensures moment { IfOk result (IsMoment T.Words self.old self.new) }
+        ensures moment { IfOk result (λ answer. IsMoment T.Words self.old party answer self.new) }
         ensures stepped { IfOk result (λ answer. CellStepped T.Words self.old party answer self.new) }
         ensures refused { IfErr result (IsCellStepRefused T.Words self.old party) }
         ensures unchanged { OnErr result (self.new ≡ self.old) }
@@ -93,15 +93,25 @@ impl<T: Words, const WIDTH: usize> CellMachine<T, WIDTH> {
         self.machine.step(party)
     }
 
+    /// What the words say, wherever the parties are.
+    pub fn holds(&self)
+        requires fits { PartyFits T.row WIDTH.row }
+        ensures { CellHolds T.Words self.now }
+    {
+        self.machine.holds();
+    }
+
     /// Plays a schedule to its end, or to the step that wants memory. Whatever the schedule, the
     /// values that were handed out are, in order, the first of those published, and the rest waits.
     pub fn run(&mut self, schedule: &[Entry<CellCall<T>>]) -> Result<(), MachineError>
         requires fits { PartyFits T.row WIDTH.row }
         ensures queue { CellHolds T.Words self.new }
+        ensures moments { Plays T.Words self.old self.new }
         ensures played { (count : ℕ) × AllCellsEntered T.Words self.old (take count schedule.now) self.new }
         ensures whole { OnOk result (AllCellsEntered T.Words self.old schedule.now self.new) }
         ensures refused { IfErr result (λ error. error ≡ MachineError.WantOfMemory) }
     {
+        self.machine.holds();
         self.machine.run(schedule)
     }
 }

@@ -5,4 +5,6 @@ use Rattle.iox_cell_queues.proofs.MomentLemmas.{moments_of}
 use Rattle.iox_cell_queues.proofs.machine.CellMachine.step.Goals as goal
 
 pub returns-clause-moment : goal.returns-clause-moment
-returns-clause-moment g c = subst (λ (w : CellWorld _ _). IfOk c.step.result (IsMoment g.T.Words w c.step.new.self)) c.self.view_is (moments_of g.T.Words _ _ _ c.step.result c.holds.ensures c.step.ensures.stepped)
+returns-clause-moment g c =
+    subst (λ (w : CellWorld _ _). IfOk c.step.result (λ answer. IsMoment g.T.Words w c.args.party answer c.step.new.self)) c.self.view_is
+    (moments_of g.T.Words _ _ c.args.party c.step.result c.holds.ensures c.step.ensures.stepped)
