@@ -99,15 +99,75 @@ fn a_push_goes_on_while_a_pop_loads_its_cell(rt: HostRuntime) -> Result<(), Fail
     assert_eq!(rt; answer, CellReply::Pushed(true));
     let answer = call(&rt, &mut machine, 1, CellCall::Pop, 5)?;
     assert_eq!(rt; answer, CellReply::Popped(Some(SECOND)));
-    let mut told = 0u64;
-    for event in machine.events() {
-        match *event {
-            CellMoment::Publish(_) => told = told.wrapping_add(1),
-            CellMoment::HandOut(_) => told = told.wrapping_add(100),
-            _ => {}
-        }
-    }
-    assert_eq!(rt; told, 202);
+    let told = [
+        CellMoment::SeesRoom,
+        CellMoment::Publish(FIRST),
+        CellMoment::SeesWaiting,
+        CellMoment::SeesRoom,
+        CellMoment::HandOut(FIRST),
+        CellMoment::Publish(SECOND),
+        CellMoment::SeesWaiting,
+        CellMoment::HandOut(SECOND),
+    ];
+    assert_eq!(rt; machine.events(), told.as_slice());
+    Ok(())
+}
+
+#[test]
+fn looks_say_what_they_see(rt: HostRuntime) -> Result<(), Fail> {
+    let mut machine = machine_at(rt.alloc(), &rt, 1, 5)?;
+    let answer = call(&rt, &mut machine, 0, CellCall::IsFull, 2)?;
+    assert_eq!(rt; answer, CellReply::Full(false));
+    let answer = call(&rt, &mut machine, 1, CellCall::IsEmpty, 2)?;
+    assert_eq!(rt; answer, CellReply::Empty(true));
+    let answer = call(&rt, &mut machine, 0, CellCall::Push(FIRST), 5)?;
+    assert_eq!(rt; answer, CellReply::Pushed(true));
+    let answer = call(&rt, &mut machine, 0, CellCall::IsFull, 2)?;
+    assert_eq!(rt; answer, CellReply::Full(true));
+    let answer = call(&rt, &mut machine, 1, CellCall::IsEmpty, 2)?;
+    assert_eq!(rt; answer, CellReply::Empty(false));
+    let told = [
+        CellMoment::SeesRoom,
+        CellMoment::SeesEmpty,
+        CellMoment::SeesRoom,
+        CellMoment::Publish(FIRST),
+        CellMoment::SeesFull,
+        CellMoment::SeesWaiting,
+    ];
+    assert_eq!(rt; machine.events(), told.as_slice());
+    Ok(())
+}
+
+#[test]
+fn a_look_goes_by_what_it_loaded_first(rt: HostRuntime) -> Result<(), Fail> {
+    let mut machine = machine_at(rt.alloc(), &rt, 1, 0)?;
+    machine.run(&[
+        Entry::Begin(1, CellCall::IsEmpty),
+        Entry::Step(1),
+        Entry::Begin(0, CellCall::Push(FIRST)),
+        Entry::Step(0),
+        Entry::Step(0),
+        Entry::Step(0),
+        Entry::Step(0),
+        Entry::Step(0),
+    ])?;
+    let answer = finish(&rt, &mut machine, 1, 1)?;
+    assert_eq!(rt; answer, CellReply::Empty(false));
+    machine.begin(0, CellCall::IsFull)?;
+    assert!(rt; machine.step(0)? == Progress::Going);
+    let answer = call(&rt, &mut machine, 1, CellCall::Pop, 5)?;
+    assert_eq!(rt; answer, CellReply::Popped(Some(FIRST)));
+    let answer = finish(&rt, &mut machine, 0, 1)?;
+    assert_eq!(rt; answer, CellReply::Full(false));
+    let told = [
+        CellMoment::SeesRoom,
+        CellMoment::Publish(FIRST),
+        CellMoment::SeesWaiting,
+        CellMoment::SeesWaiting,
+        CellMoment::HandOut(FIRST),
+        CellMoment::SeesRoom,
+    ];
+    assert_eq!(rt; machine.events(), told.as_slice());
     Ok(())
 }
 
@@ -126,6 +186,17 @@ fn a_full_queue_refuses(rt: HostRuntime) -> Result<(), Fail> {
     assert_eq!(rt; answer, CellReply::Empty(true));
     let answer = call(&rt, &mut machine, 1, CellCall::Pop, 2)?;
     assert_eq!(rt; answer, CellReply::Popped(None));
+    let told = [
+        CellMoment::SeesRoom,
+        CellMoment::Publish(FIRST),
+        CellMoment::SeesFull,
+        CellMoment::SeesFull,
+        CellMoment::SeesWaiting,
+        CellMoment::HandOut(FIRST),
+        CellMoment::SeesEmpty,
+        CellMoment::SeesEmpty,
+    ];
+    assert_eq!(rt; machine.events(), told.as_slice());
     Ok(())
 }
 
@@ -141,6 +212,15 @@ fn the_last_position_is_never_passed(rt: HostRuntime) -> Result<(), Fail> {
     let answer = call(&rt, &mut machine, 1, CellCall::Pop, 2)?;
     assert_eq!(rt; answer, CellReply::Popped(None));
     assert!(rt; machine.words().len() == 12 && machine.words()[1] == u64::MAX);
+    let told = [
+        CellMoment::SeesRoom,
+        CellMoment::Publish(FIRST),
+        CellMoment::SeesEnd,
+        CellMoment::SeesWaiting,
+        CellMoment::HandOut(FIRST),
+        CellMoment::SeesEmpty,
+    ];
+    assert_eq!(rt; machine.events(), told.as_slice());
     Ok(())
 }
 
