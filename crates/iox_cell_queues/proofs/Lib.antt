@@ -1,4 +1,3 @@
-pub mod Schedules
 pub mod NewMachines
 pub mod MomentLemmas
 pub mod PlaysLemmas

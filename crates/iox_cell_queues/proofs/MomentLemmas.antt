@@ -121,8 +121,8 @@ module _ {A : Type 0} {width : ℕ} (W : Ghosts A) where
           let did = first_moment W.words W.of_words a.place list line a.seat b.seat shows (subst (λ p. HasRoom p list) (sym shown.0) room) in
           (record {
             place = a.place;
-            party = a;
             line = line;
+            party = a;
             moment = seat_moment W.of_words a.place a.seat (seen_by (cell_asks W a) (λ at. slice_index list at));
             is_party = (below, refl);
             shown = (refl, shown.1 ∙ sym shown.0, shows);
@@ -130,13 +130,15 @@ module _ {A : Type 0} {width : ℕ} (W : Ghosts A) where
             leads_to = (leads.0, shown.1 ∙ sym shown.0, rw leads.1 did.leads_to);
             events = refl;
             answers = rw leads.2 did.answers;
-            length_stays = length-words_after (cell_asks W a) list;
             one_word = (
               place_of (cell_asks W a),
               λ other apart. reads_after (cell_asks W a) list did.inside other ∙ word_after-other (cell_asks W a) (λ at. slice_index list at) other apart,
             );
-            outside = λ at out. reads_after (cell_asks W a) list did.inside at
-                ∙ outside (cell_asks W a) (λ at. slice_index list at) a.place.base (size a.place) at did.within out;
+            outside = (
+              length-words_after (cell_asks W a) list,
+              λ at out. reads_after (cell_asks W a) list did.inside at
+                  ∙ outside (cell_asks W a) (λ at. slice_index list at) a.place.base (size a.place) at did.within out,
+            );
           }, (shown.0, refl)))
   moment_at place line list (a ∷ b ∷ []) events (suc zero) party after answer shown room below is =
       subst (Is place line list (a ∷ b ∷ []) events 1 after answer) (sym is) (λ leads.
@@ -144,8 +146,8 @@ module _ {A : Type 0} {width : ℕ} (W : Ghosts A) where
           let did = second_moment W.words W.of_words b.place list line a.seat b.seat shows (subst (λ p. HasRoom p list) (sym shown.1) room) in
           (record {
             place = b.place;
-            party = b;
             line = line;
+            party = b;
             moment = seat_moment W.of_words b.place b.seat (seen_by (cell_asks W b) (λ at. slice_index list at));
             is_party = (below, refl);
             shown = (shown.0 ∙ sym shown.1, refl, shows);
@@ -153,13 +155,15 @@ module _ {A : Type 0} {width : ℕ} (W : Ghosts A) where
             leads_to = (shown.0 ∙ sym shown.1, leads.0, rw leads.1 did.leads_to);
             events = refl;
             answers = rw leads.2 did.answers;
-            length_stays = length-words_after (cell_asks W b) list;
             one_word = (
               place_of (cell_asks W b),
               λ other apart. reads_after (cell_asks W b) list did.inside other ∙ word_after-other (cell_asks W b) (λ at. slice_index list at) other apart,
             );
-            outside = λ at out. reads_after (cell_asks W b) list did.inside at
-                ∙ outside (cell_asks W b) (λ at. slice_index list at) b.place.base (size b.place) at did.within out;
+            outside = (
+              length-words_after (cell_asks W b) list,
+              λ at out. reads_after (cell_asks W b) list did.inside at
+                  ∙ outside (cell_asks W b) (λ at. slice_index list at) b.place.base (size b.place) at did.within out,
+            );
           }, (shown.1, refl)))
   moment_at place line list (a ∷ b ∷ []) events (suc (suc number)) party after answer shown room below is = absurd (omega arith)
   moment_at place line list [] events number party after answer shown room below is = absurd shown

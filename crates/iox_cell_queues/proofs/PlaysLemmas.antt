@@ -3,11 +3,13 @@ use Rattle.std.proofs.Common.{◌≡◌, ℕ, zero, suc, ◌<◌, ◌++◌, List
 use Rattle.std.specs.Option.{option_to_list}
 use Rattle.iox_words.specs.declared.word_list.Words.{Ghosts}
 use Rattle.iox_steps.specs.declared.access.Progress.{Progress}
+use Rattle.iox_steps.specs.Accesses.{KeepsOutside}
+use Rattle.iox_steps.proofs.Schedules.{begun_keeps, stepped_keeps, all_entered_keeps}
 use Rattle.iox_steps.specs.declared.machine.Entry.{Entry}
 use Rattle.iox_cell_steps.specs.declared.place.Place.{Place}
 use Rattle.iox_cell_steps.specs.declared.moment.CellReply.{CellReply}
 use Rattle.iox_cell_steps.specs.CellFits.{IsWhole}
-use Rattle.iox_cell_steps.specs.CellLaws.{KeepsOutside}
+use Rattle.iox_cell_steps.specs.Cells.{size}
 use Rattle.iox_cell_steps.specs.CellRuns.{CellLine, line_after, Run, told}
 use Rattle.iox_cell_steps.proofs.CellRunLemmas.{run_told, in_order}
 use Rattle.iox_cell_queues.specs.declared.queue.CellSeat.{CellSeat}
@@ -21,7 +23,6 @@ use Rattle.iox_cell_queues.specs.CellQueueLaws.{cell_keeps}
 use Rattle.iox_cell_queues.specs.CellBeginLaws.{cell_starts}
 use Rattle.iox_cell_queues.specs.CellMachines.{CellStepped, CellBegun, AllCellsEntered, SeatsShow, PartiesShow, Plays}
 use Rattle.iox_cell_queues.proofs.MomentLemmas.{parties_show, moment_from}
-use Rattle.iox_cell_queues.proofs.Schedules.{begun_keeps, stepped_keeps, all_entered_keeps}
 
 module _ {A : Type 0} {width : ℕ} (count : ℕ) (words : A → List ℕ) (of_words : List ℕ → Option A) (place : Place) (list : List ℕ) (line : CellLine A) where
   -- a party that begins a call leaves what waits
@@ -123,7 +124,7 @@ module _ {A : Type 0} {width : ℕ} (W : Ghosts A) where
       let line : plays.after ≡ m.line = sym at.1.1 in
       let so_far = subst (λ l. Run m.place plays.before plays.moments l) line (subst (λ p. Run p plays.before plays.moments plays.after) place plays.run) in
       let run = run_told m.place plays.before plays.moments m.line m.moment so_far m.is_true in
-      let kept = subst (λ p. KeepsOutside p old.words mid.words) place plays.outside in
+      let kept = subst (λ p. KeepsOutside p.base (size p) old.words mid.words) place plays.outside in
       record {
         place = m.place;
         before = plays.before;
@@ -134,7 +135,7 @@ module _ {A : Type 0} {width : ℕ} (W : Ghosts A) where
         leads_to = m.leads_to;
         events = m.events ∙ ap (λ l. l ++ option_to_list (told m.moment)) plays.events ∙ append_assoc old.events plays.moments (option_to_list (told m.moment));
         order = in_order m.place plays.before _ _ run;
-        outside = (m.length_stays ∙ kept.0, λ at out. m.outside at out ∙ kept.1 at out);
+        outside = (m.outside.0 ∙ kept.0, λ at out. m.outside.1 at out ∙ kept.1 at out);
       }
 
   -- whatever the schedule

@@ -5,6 +5,7 @@ use Rattle.iox_words.specs.declared.word_list.Words.{Ghosts}
 use Rattle.iox_steps.specs.declared.access.Progress.{Progress}
 use Rattle.iox_steps.specs.declared.error.MachineError.{MachineError}
 use Rattle.iox_steps.specs.declared.machine.Entry.{Entry}
+use Rattle.iox_steps.specs.Accesses.{KeepsOutside}
 use Rattle.iox_steps.specs.Worlds.{IsParty, Stepped, IsStepRefused, Begun, IsBeginRefused, AllEntered}
 use Rattle.iox_cell_steps.specs.declared.place.Place.{Place}
 use Rattle.iox_cell_steps.specs.declared.moment.CellMoment.{CellMoment}
@@ -14,7 +15,6 @@ use Rattle.iox_cell_steps.specs.CellMoments.{IsTrueOf}
 use Rattle.iox_cell_steps.specs.CellFits.{Fits}
 use Rattle.iox_cell_steps.specs.CellRuns.{CellLine, line_after, Run, published, handed_out, told}
 use Rattle.iox_cell_steps.specs.CellAnswers.{unpublished, Answers}
-use Rattle.iox_cell_steps.specs.CellLaws.{KeepsOutside}
 use Rattle.iox_cell_queues.specs.declared.queue.CellSeat.{CellSeat}
 use Rattle.iox_cell_queues.specs.declared.queue.CellSeat.TheVariants.{Pusher, Popper}
 use Rattle.iox_cell_queues.specs.declared.queue.CellCall.{CellCall}
@@ -30,7 +30,7 @@ SeatsShow words of_words place list (Pusher pushes) (Popper pops) line =
     × Fits words of_words place (λ at. slice_index list at) line.waiting pushes pops
 SeatsShow words of_words place list a b line = ⊥
 
--- the value that the party has still to publish
+-- the value that this seat's push has still to publish
 abbrev pub seat_unpublished : {A : Type 0} → {width : ℕ} → CellSeat A width → Option A
 seat_unpublished (Pusher pushes) = unpublished pushes
 seat_unpublished (Popper pops) = None
@@ -63,27 +63,25 @@ module _ {A : Type 0} {width : ℕ} (W : Ghosts A) where
       × SeatsShow W.words W.of_words place list a.seat b.seat line
   PartiesShow place list parties line = ⊥
 
-  -- One access is one moment: it is true of the queue before, leads to the queue after, is written
-  -- down, and the reply of the party of this number says it.
+  -- One access of the party of this number is one moment: it is true of the queue before, leads to
+  -- the queue after, is written down, and the reply says it.
   pub record IsMoment (old : CellWorld A width) (number : ℕ) (answer : Progress (CellReply A))
       (new : CellWorld A width) : Type 0 where
     pub place : Place
-    pub party : CellParty A width
     pub line : CellLine A
+    pub party : CellParty A width
     pub moment : CellMoment A
-    pub is_party : IsParty old number party
     pub shown : PartiesShow place old.words old.parties line
+    pub is_party : IsParty old number party
     pub is_true : IsTrueOf place line.write line.waiting moment
     pub leads_to : PartiesShow place new.words new.parties (line_after moment line)
     pub events : new.events ≡ old.events ++ option_to_list (told moment)
     pub answers : Answers (seat_unpublished party.seat) answer moment
     -- one word changed at most, and none outside the queue
-    pub length_stays : length new.words ≡ length old.words
     pub one_word : (at : ℕ)
         × ((other : ℕ) → (other ≡ at → ⊥)
         → slice_index new.words other ≡ slice_index old.words other)
-    pub outside : (at : ℕ) → (at < place.base) ⊎ (place.base + size place ≤ at)
-        → slice_index new.words at ≡ slice_index old.words at
+    pub outside : KeepsOutside place.base (size place) old.words new.words
 
   -- What was played on a queue between two worlds: moments, each true when it came, and each
   -- written down.
@@ -99,4 +97,4 @@ module _ {A : Type 0} {width : ℕ} (W : Ghosts A) where
     -- what was handed out, and then what waits, is what waited before, and then what was published
     pub order : before.waiting ++ published moments ≡ handed_out moments ++ after.waiting
     -- no word changed outside the queue
-    pub outside : KeepsOutside place old.words new.words
+    pub outside : KeepsOutside place.base (size place) old.words new.words

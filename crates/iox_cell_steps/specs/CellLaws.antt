@@ -1,5 +1,5 @@
 -- What one access of a party does to a queue of values.
-use Rattle.std.specs.Prelude.{◌≡◌, ℕ, ◌+◌, ◌<◌, ◌≤◌, ◌⊎◌, List, length, slice_index, Option, Some, None}
+use Rattle.std.specs.Prelude.{◌≡◌, ℕ, List, Option, Some, None}
 use Rattle.iox_steps.specs.Accesses.{seen_by, word_after, IsWithin}
 use Rattle.iox_cell_steps.specs.declared.place.Place.{Place}
 use Rattle.iox_cell_steps.specs.declared.seat.CellPushing.{CellPushing}
@@ -36,12 +36,6 @@ module _ {A : Type 0} {width : ℕ} (words : A → List ℕ) (of_words : List �
       × Fits words of_words place (word_after access word) (waiting_after moment waiting)
       pushes (popping_after of_words place pops seen)
       × Answers None (popping_progress of_words place pops seen) moment
-
--- no word of a list changed but those of the queue
-abbrev pub KeepsOutside : Place → List ℕ → List ℕ → Type 0
-KeepsOutside place words after = (length after ≡ length words)
-    × ((at : ℕ) → (at < place.base) ⊎ (place.base + size place ≤ at)
-    → slice_index after at ≡ slice_index words at)
 
 -- whatever the place, the capacity and the width, and wherever both parties are
 abbrev pub EveryPushingKeeps : {A : Type 0} → (A → List ℕ) → (List ℕ → Option A) → Type 0
