@@ -38,7 +38,8 @@ module _ {A : Type 0} {width : ℕ} (words : A → List ℕ) (of_words : List �
     within : IsWithin place.base (size place) (seat_access words place party)
     inside : IsWithin 0 (length list) (seat_access words place party)
     is_true : IsTrueOf place line.write line.waiting (seat_moment of_words place party (seat_seen party))
-    leads_to : SeatsShow words of_words place (words_after (seat_access words place party) list) a b (line_after (seat_moment of_words place party (seat_seen party)) line)
+    leads_to : SeatsShow words of_words place (words_after (seat_access words place party) list) a b
+        (line_after (seat_moment of_words place party (seat_seen party)) line)
     answers : Answers (seat_unpublished party) (seat_progress of_words place party (seat_seen party)) (seat_moment of_words place party (seat_seen party))
 
   first_moment : (line : CellLine A) (a b : CellSeat A width) → SeatsShow words of_words place list a b line → HasRoom place list
@@ -78,7 +79,8 @@ module _ {A : Type 0} {width : ℕ} (words : A → List ℕ) (of_words : List �
   -- a queue that was played on shows what waits, and has its words
   seats_show : (a b : CellSeat A width) (events : List (CellMoment A)) → BothPlayed words of_words place list a b events
       → ((line : CellLine A) × SeatsShow words of_words place list a b line) × HasRoom place list
-  seats_show (Pusher pushes) (Popper pops) events played = ((record { write = slice_index list place.base; waiting = played.waiting }, (refl, played.fits)), played.room)
+  seats_show (Pusher pushes) (Popper pops) events played =
+      ((record { write = slice_index list place.base; waiting = played.waiting }, (refl, played.fits)), played.room)
   seats_show (Pusher pushes) (Pusher other) events played = absurd played
   seats_show (Popper pops) b events played = absurd played
 
@@ -117,54 +119,58 @@ module _ {A : Type 0} {width : ℕ} (W : Ghosts A) where
       → number < length parties → party ≡ slice_index_or parties number party → Is place line list parties events number after answer party
   moment_at place line list (a ∷ b ∷ []) events zero party after answer shown room below is =
       subst (Is place line list (a ∷ b ∷ []) events 0 after answer) (sym is) (λ leads.
-          let shows = subst (λ p. SeatsShow W.words W.of_words p list a.seat b.seat line) (sym shown.0) shown.2 in
-          let did = first_moment W.words W.of_words a.place list line a.seat b.seat shows (subst (λ p. HasRoom p list) (sym shown.0) room) in
-          (record {
-            place = a.place;
-            line = line;
-            party = a;
-            moment = seat_moment W.of_words a.place a.seat (seen_by (cell_asks W a) (λ at. slice_index list at));
-            is_party = (below, refl);
-            shown = (refl, shown.1 ∙ sym shown.0, shows);
-            is_true = did.is_true;
-            leads_to = (leads.0, shown.1 ∙ sym shown.0, rw leads.1 did.leads_to);
-            events = refl;
-            answers = rw leads.2 did.answers;
-            one_word = (
-              place_of (cell_asks W a),
-              λ other apart. reads_after (cell_asks W a) list did.inside other ∙ word_after-other (cell_asks W a) (λ at. slice_index list at) other apart,
-            );
-            outside = (
-              length-words_after (cell_asks W a) list,
-              λ at out. reads_after (cell_asks W a) list did.inside at
-                  ∙ outside (cell_asks W a) (λ at. slice_index list at) a.place.base (size a.place) at did.within out,
-            );
-          }, (shown.0, refl)))
+      let shows = subst (λ p. SeatsShow W.words W.of_words p list a.seat b.seat line) (sym shown.0) shown.2 in
+      let did = first_moment W.words W.of_words a.place list line a.seat b.seat shows (subst (λ p. HasRoom p list) (sym shown.0) room) in (
+        record {
+          place = a.place;
+          line = line;
+          party = a;
+          moment = seat_moment W.of_words a.place a.seat (seen_by (cell_asks W a) (λ at. slice_index list at));
+          is_party = (below, refl);
+          shown = (refl, shown.1 ∙ sym shown.0, shows);
+          is_true = did.is_true;
+          leads_to = (leads.0, shown.1 ∙ sym shown.0, rw leads.1 did.leads_to);
+          events = refl;
+          answers = rw leads.2 did.answers;
+          one_word = (
+            place_of (cell_asks W a),
+            λ other apart. reads_after (cell_asks W a) list did.inside other ∙ word_after-other (cell_asks W a) (λ at. slice_index list at) other apart,
+          );
+          outside = (
+            length-words_after (cell_asks W a) list,
+            λ at out. reads_after (cell_asks W a) list did.inside at
+                ∙ outside (cell_asks W a) (λ at. slice_index list at) a.place.base (size a.place) at did.within out,
+          );
+        },
+        (shown.0, refl),
+      ))
   moment_at place line list (a ∷ b ∷ []) events (suc zero) party after answer shown room below is =
       subst (Is place line list (a ∷ b ∷ []) events 1 after answer) (sym is) (λ leads.
-          let shows = subst (λ p. SeatsShow W.words W.of_words p list a.seat b.seat line) (sym shown.1) shown.2 in
-          let did = second_moment W.words W.of_words b.place list line a.seat b.seat shows (subst (λ p. HasRoom p list) (sym shown.1) room) in
-          (record {
-            place = b.place;
-            line = line;
-            party = b;
-            moment = seat_moment W.of_words b.place b.seat (seen_by (cell_asks W b) (λ at. slice_index list at));
-            is_party = (below, refl);
-            shown = (shown.0 ∙ sym shown.1, refl, shows);
-            is_true = did.is_true;
-            leads_to = (shown.0 ∙ sym shown.1, leads.0, rw leads.1 did.leads_to);
-            events = refl;
-            answers = rw leads.2 did.answers;
-            one_word = (
-              place_of (cell_asks W b),
-              λ other apart. reads_after (cell_asks W b) list did.inside other ∙ word_after-other (cell_asks W b) (λ at. slice_index list at) other apart,
-            );
-            outside = (
-              length-words_after (cell_asks W b) list,
-              λ at out. reads_after (cell_asks W b) list did.inside at
-                  ∙ outside (cell_asks W b) (λ at. slice_index list at) b.place.base (size b.place) at did.within out,
-            );
-          }, (shown.1, refl)))
+      let shows = subst (λ p. SeatsShow W.words W.of_words p list a.seat b.seat line) (sym shown.1) shown.2 in
+      let did = second_moment W.words W.of_words b.place list line a.seat b.seat shows (subst (λ p. HasRoom p list) (sym shown.1) room) in (
+        record {
+          place = b.place;
+          line = line;
+          party = b;
+          moment = seat_moment W.of_words b.place b.seat (seen_by (cell_asks W b) (λ at. slice_index list at));
+          is_party = (below, refl);
+          shown = (shown.0 ∙ sym shown.1, refl, shows);
+          is_true = did.is_true;
+          leads_to = (shown.0 ∙ sym shown.1, leads.0, rw leads.1 did.leads_to);
+          events = refl;
+          answers = rw leads.2 did.answers;
+          one_word = (
+            place_of (cell_asks W b),
+            λ other apart. reads_after (cell_asks W b) list did.inside other ∙ word_after-other (cell_asks W b) (λ at. slice_index list at) other apart,
+          );
+          outside = (
+            length-words_after (cell_asks W b) list,
+            λ at out. reads_after (cell_asks W b) list did.inside at
+                ∙ outside (cell_asks W b) (λ at. slice_index list at) b.place.base (size b.place) at did.within out,
+          );
+        },
+        (shown.1, refl),
+      ))
   moment_at place line list (a ∷ b ∷ []) events (suc (suc number)) party after answer shown room below is = absurd (omega arith)
   moment_at place line list [] events number party after answer shown room below is = absurd shown
   moment_at place line list (a ∷ []) events number party after answer shown room below is = absurd shown

@@ -11,10 +11,14 @@ use Rattle.iox_cell_queues.specs.declared.queue.CellParty.{CellParty}
 use Rattle.iox_cell_queues.specs.CellQueueLaws.{same_seats}
 use Rattle.iox_cell_queues.specs.CellQueues.{PartiesPlayed, AtRestAt}
 
-pub new_parties_played : {A : Type 0} → {width : ℕ} → (W : Ghosts A) → (place : Place) (list : List ℕ) (parties : List (CellParty A width)) → AtRestAt place parties → place.base + size place ≤ length list
+pub new_parties_played : {A : Type 0} → {width : ℕ} → (W : Ghosts A) → (place : Place) (list : List ℕ) (parties : List (CellParty A width))
+    → AtRestAt place parties → place.base + size place ≤ length list
     → slice_index list place.base ≡ slice_index list (place.base + 1) → slice_index list place.base < 2 ^ 64 → PartiesPlayed W list parties []
-new_parties_played W place list (a ∷ b ∷ []) rest room empty position =
-    (rest.1 ∙ sym rest.0, same_seats W.words W.of_words place a.place list (Pusher pushing.AtRest) a.seat (Popper popping.AtRest) b.seat [] rest.0 rest.2 rest.3 (played_empty W.words W.of_words place list room empty position))
+new_parties_played W place list (a ∷ b ∷ []) rest room empty position = (
+  rest.1 ∙ sym rest.0,
+  same_seats W.words W.of_words place a.place list (Pusher pushing.AtRest) a.seat (Popper popping.AtRest) b.seat [] rest.0 rest.2
+      rest.3 (played_empty W.words W.of_words place list room empty position),
+)
 new_parties_played W place list [] rest room empty position = absurd rest
 new_parties_played W place list (a ∷ []) rest room empty position = absurd rest
 new_parties_played W place list (a ∷ b ∷ c ∷ others) rest room empty position = absurd rest

@@ -1,5 +1,6 @@
 -- What a schedule does to the queue of a machine: moments, one after another.
-use Rattle.std.proofs.Common.{◌≡◌, ℕ, zero, suc, ◌<◌, ◌++◌, List, [], ◌∷◌, length, slice_index_or, slice_set, refl, ap, sym, subst, ◌∙◌, arith, append_assoc, append-nil, Option}
+use Rattle.std.proofs.Common.{◌≡◌, ℕ, zero, suc, ◌<◌, ◌++◌, List, [], ◌∷◌, length, slice_index_or, slice_set, refl, ap, sym, subst, ◌∙◌, arith}
+use Rattle.std.proofs.Common.{append_assoc, append-nil, Option}
 use Rattle.std.specs.Option.{option_to_list}
 use Rattle.iox_words.specs.declared.word_list.Words.{Ghosts}
 use Rattle.iox_steps.specs.declared.access.Progress.{Progress}
@@ -68,11 +69,11 @@ module _ {A : Type 0} {width : ℕ} (W : Ghosts A) where
       → Shows place line list call after (slice_set parties number after) party
   begun_shows whole place line list (a ∷ b ∷ []) zero call party after shown below is =
       subst (Shows place line list call after (after ∷ b ∷ [])) (sym is) (λ same begun.
-          let wide : W.WORDS ≡ place.width = whole ∙ sym a.wide ∙ ap (λ (p : Place). p.width) shown.0 in
-          (same ∙ shown.0, shown.1, first_shows W.WORDS W.words W.of_words place list line a.seat b.seat after.seat call wide shown.2 begun))
+      let wide : W.WORDS ≡ place.width = whole ∙ sym a.wide ∙ ap (λ (p : Place). p.width) shown.0 in
+      (same ∙ shown.0, shown.1, first_shows W.WORDS W.words W.of_words place list line a.seat b.seat after.seat call wide shown.2 begun))
   begun_shows whole place line list (a ∷ b ∷ []) (suc zero) call party after shown below is =
       subst (Shows place line list call after (a ∷ after ∷ [])) (sym is) (λ same begun.
-          (shown.0, same ∙ shown.1, second_shows W.WORDS W.words W.of_words place list line a.seat b.seat after.seat call shown.2 begun))
+      (shown.0, same ∙ shown.1, second_shows W.WORDS W.words W.of_words place list line a.seat b.seat after.seat call shown.2 begun))
   begun_shows whole place line list (a ∷ b ∷ []) (suc (suc number)) call party after shown below is = absurd (omega arith)
   begun_shows whole place line list [] number call party after shown below is = absurd shown
   begun_shows whole place line list (a ∷ []) number call party after shown below is = absurd shown
@@ -99,8 +100,9 @@ module _ {A : Type 0} {width : ℕ} (W : Ghosts A) where
   pub plays_begun : (old mid : CellWorld A width) (number : ℕ) (call : CellCall A) (new : CellWorld A width)
       → CellHolds W mid → Plays W old mid → CellBegun W mid number call new → Plays W old new
   plays_begun old mid number call new holds plays begun =
-      let shows = begun_shows holds.0 plays.place plays.after mid.words mid.parties number call begun.party begun.after plays.leads_to begun.is_party.0 begun.is_party.1
-          begun.begins_with.0 begun.begins_with.1 in
+      let shows = begun_shows holds.0 plays.place plays.after mid.words mid.parties number call begun.party begun.after plays.leads_to begun.is_party.0
+      begun.is_party.1
+      begun.begins_with.0 begun.begins_with.1 in
       subst (Plays W old) (sym begun.leads_to) (record {
         place = plays.place;
         before = plays.before;

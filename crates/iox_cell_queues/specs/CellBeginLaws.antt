@@ -23,11 +23,14 @@ use Rattle.iox_cell_queues.specs.CellQueues.{BothPlayed, PartiesPlayed, CellHold
 module _ {A : Type 0} {width : ℕ} (count : ℕ) (words : A → List ℕ) (of_words : List ℕ → Option A) where
   -- a begin keeps what the words say
   first_begins : (place : Place) (list : List ℕ) (a b after : CellSeat A width) (call : CellCall A) (events : List (CellMoment A))
-      → count ≡ place.width → BothPlayed words of_words place list a b events → IsBegun count words of_words a call after → BothPlayed words of_words place list after b events
+      → count ≡ place.width → BothPlayed words of_words place list a b events → IsBegun count words of_words a call after
+      → BothPlayed words of_words place list after b events
   first_begins place list (Pusher pushes) (Popper pops) after (Push value) events wide played begun =
-      subst (λ seat. BothPlayed words of_words place list seat (Popper pops) events) (sym begun.1) (pushing_begun words of_words place list pushes (pushing.Pushes (push.LoadsWrite value)) pops events played (λ waiting. rw (← wide) begun.2))
+      subst (λ seat. BothPlayed words of_words place list seat (Popper pops) events) (sym begun.1)
+      (pushing_begun words of_words place list pushes (pushing.Pushes (push.LoadsWrite value)) pops events played (λ waiting. rw (← wide) begun.2))
   first_begins place list (Pusher pushes) (Popper pops) after IsFull events wide played begun =
-      subst (λ seat. BothPlayed words of_words place list seat (Popper pops) events) (sym begun.1) (pushing_begun words of_words place list pushes (pushing.Looks full_look.LoadsWrite) pops events played (λ waiting. tt))
+      subst (λ seat. BothPlayed words of_words place list seat (Popper pops) events) (sym begun.1)
+      (pushing_begun words of_words place list pushes (pushing.Looks full_look.LoadsWrite) pops events played (λ waiting. tt))
   first_begins place list (Pusher pushes) (Popper pops) after Pop events wide played begun = absurd begun
   first_begins place list (Pusher pushes) (Popper pops) after IsEmpty events wide played begun = absurd begun
   first_begins place list (Pusher pushes) (Pusher other) after call events wide played begun = absurd played
@@ -36,9 +39,11 @@ module _ {A : Type 0} {width : ℕ} (count : ℕ) (words : A → List ℕ) (of_w
   second_begins : (place : Place) (list : List ℕ) (a b after : CellSeat A width) (call : CellCall A) (events : List (CellMoment A))
       → BothPlayed words of_words place list a b events → IsBegun count words of_words b call after → BothPlayed words of_words place list a after events
   second_begins place list (Pusher pushes) (Popper pops) after Pop events played begun =
-      subst (λ seat. BothPlayed words of_words place list (Pusher pushes) seat events) (sym begun.1) (popping_begun words of_words place list pushes pops (popping.Pops pop.LoadsRead) events played (λ waiting. tt))
+      subst (λ seat. BothPlayed words of_words place list (Pusher pushes) seat events) (sym begun.1)
+      (popping_begun words of_words place list pushes pops (popping.Pops pop.LoadsRead) events played (λ waiting. tt))
   second_begins place list (Pusher pushes) (Popper pops) after IsEmpty events played begun =
-      subst (λ seat. BothPlayed words of_words place list (Pusher pushes) seat events) (sym begun.1) (popping_begun words of_words place list pushes pops (popping.Looks empty_look.LoadsRead) events played (λ waiting. tt))
+      subst (λ seat. BothPlayed words of_words place list (Pusher pushes) seat events) (sym begun.1)
+      (popping_begun words of_words place list pushes pops (popping.Looks empty_look.LoadsRead) events played (λ waiting. tt))
   second_begins place list (Pusher pushes) (Popper pops) after (Push value) events played begun = absurd begun
   second_begins place list (Pusher pushes) (Popper pops) after IsFull events played begun = absurd begun
   second_begins place list (Pusher pushes) (Pusher other) after call events played begun = absurd played
@@ -50,15 +55,21 @@ module _ {A : Type 0} {width : ℕ} (W : Ghosts A) where
   Starts list events call after parties party = after.place ≡ party.place → IsBegun W.WORDS W.words W.of_words party.seat call after.seat
       → PartiesPlayed W list parties events
 
-  starts : W.WORDS ≡ width → (list : List ℕ) (parties : List (CellParty A width)) (events : List (CellMoment A)) (number : ℕ) (call : CellCall A) (party after : CellParty A width)
+  starts : W.WORDS ≡ width → (list : List ℕ) (parties : List (CellParty A width)) (events : List (CellMoment A)) (number : ℕ) (call : CellCall A)
+      (party after : CellParty A width)
       → PartiesPlayed W list parties events → number < length parties
       → party ≡ slice_index_or parties number party
       → Starts list events call after (slice_set parties number after) party
   starts whole list (a ∷ b ∷ []) events zero call party after played below is =
       subst (Starts list events call after (after ∷ b ∷ [])) (sym is)
-      (λ same begun. (played.0 ∙ sym same, subst (λ place. BothPlayed W.words W.of_words place list after.seat b.seat events) (sym same) (first_begins W.WORDS W.words W.of_words a.place list a.seat b.seat after.seat call events (whole ∙ sym a.wide) played.1 begun)))
+      (λ same begun. (
+        played.0 ∙ sym same,
+        subst (λ place. BothPlayed W.words W.of_words place list after.seat b.seat events) (sym same)
+            (first_begins W.WORDS W.words W.of_words a.place list a.seat b.seat after.seat call events (whole ∙ sym a.wide) played.1 begun),
+      ))
   starts whole list (a ∷ b ∷ []) events (suc zero) call party after played below is =
-      subst (Starts list events call after (a ∷ after ∷ [])) (sym is) (λ same begun. (same ∙ played.0, second_begins W.WORDS W.words W.of_words a.place list a.seat b.seat after.seat call events played.1 begun))
+      subst (Starts list events call after (a ∷ after ∷ [])) (sym is)
+      (λ same begun. (same ∙ played.0, second_begins W.WORDS W.words W.of_words a.place list a.seat b.seat after.seat call events played.1 begun))
   starts whole list (a ∷ b ∷ []) events (suc (suc number)) call party after played below is = absurd (omega arith)
   starts whole list [] events number call party after played below is = absurd played
   starts whole list (a ∷ []) events number call party after played below is = absurd played
@@ -67,4 +78,5 @@ module _ {A : Type 0} {width : ℕ} (W : Ghosts A) where
   pub cell_starts : (world : World (CellParty A width) (CellMoment A)) (number : ℕ) (call : CellCall A) (party after : CellParty A width)
       → CellHolds W world → IsParty world number party → CellBegins W party call (Ok after)
       → CellHolds W (with_party world number after)
-  cell_starts world number call party after holds is begun = (holds.0, starts holds.0 world.words world.parties world.events number call party after holds.1 is.0 is.1 begun.0 begun.1)
+  cell_starts world number call party after holds is begun =
+      (holds.0, starts holds.0 world.words world.parties world.events number call party after holds.1 is.0 is.1 begun.0 begun.1)

@@ -1,5 +1,5 @@
 -- What a machine of a queue of values does, step by step and for every schedule.
-use Rattle.std.specs.Prelude.{◌≡◌, ℕ, ◌+◌, ◌<◌, ◌≤◌, ◌⊎◌, ◌++◌, List, [], ◌∷◌, length, slice_index, Option, None}
+use Rattle.std.specs.Prelude.{◌≡◌, ℕ, ◌++◌, List, [], ◌∷◌, slice_index, Option, None}
 use Rattle.std.specs.Option.{option_to_list}
 use Rattle.iox_words.specs.declared.word_list.Words.{Ghosts}
 use Rattle.iox_steps.specs.declared.access.Progress.{Progress}

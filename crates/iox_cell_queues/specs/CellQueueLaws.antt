@@ -36,7 +36,8 @@ module _ {A : Type 0} {width : ℕ} (words : A → List ℕ) (of_words : List �
   first_plays : (place : Place) (list : List ℕ) (a b : CellSeat A width) (events : List (CellMoment A))
       → BothPlayed words of_words place list a b events
       → let access = seat_access words place a in let seen = seen_by access (λ at. slice_index list at) in
-      BothPlayed words of_words place (words_after access list) (seat_after of_words place a seen) b (events ++ option_to_list (told (seat_moment of_words place a seen)))
+      BothPlayed words of_words place (words_after access list)
+      (seat_after of_words place a seen) b (events ++ option_to_list (told (seat_moment of_words place a seen)))
   first_plays place list (Pusher pushes) (Popper pops) events played = pushing_plays words of_words place list pushes pops events played
   first_plays place list (Pusher pushes) (Pusher other) events played = absurd played
   first_plays place list (Popper pops) b events played = absurd played
@@ -44,7 +45,8 @@ module _ {A : Type 0} {width : ℕ} (words : A → List ℕ) (of_words : List �
   second_plays : (place : Place) (list : List ℕ) (a b : CellSeat A width) (events : List (CellMoment A))
       → BothPlayed words of_words place list a b events
       → let access = seat_access words place b in let seen = seen_by access (λ at. slice_index list at) in
-      BothPlayed words of_words place (words_after access list) a (seat_after of_words place b seen) (events ++ option_to_list (told (seat_moment of_words place b seen)))
+      BothPlayed words of_words place (words_after access list) a (seat_after of_words place b seen)
+      (events ++ option_to_list (told (seat_moment of_words place b seen)))
   second_plays place list (Pusher pushes) (Popper pops) events played = popping_plays words of_words place list pushes pops events played
   second_plays place list (Pusher pushes) (Pusher other) events played = absurd played
   second_plays place list (Popper pops) b events played = absurd played
@@ -58,9 +60,12 @@ module _ {A : Type 0} {width : ℕ} (W : Ghosts A) where
       → PartiesPlayed W list parties events → number < length parties
       → party ≡ slice_index_or parties number party
       → IsWithin 0 (length list) (cell_asks W party)
-  within list (a ∷ b ∷ []) events zero party played below is = subst (λ (p : CellParty A width). IsWithin 0 (length list) (cell_asks W p)) (sym is) (first_within W.words W.of_words a.place list a.seat b.seat events played.1)
+  within list (a ∷ b ∷ []) events zero party played below is =
+      subst (λ (p : CellParty A width). IsWithin 0 (length list) (cell_asks W p)) (sym is)
+      (first_within W.words W.of_words a.place list a.seat b.seat events played.1)
   within list (a ∷ b ∷ []) events (suc zero) party played below is = subst (λ (p : CellParty A width). IsWithin 0 (length list) (cell_asks W p)) (sym is)
-      (subst (λ place. IsWithin 0 (length list) (seat_access W.words place b.seat)) (sym played.0) (second_within W.words W.of_words a.place list a.seat b.seat events played.1))
+      (subst (λ place. IsWithin 0 (length list) (seat_access W.words place b.seat)) (sym played.0)
+      (second_within W.words W.of_words a.place list a.seat b.seat events played.1))
   within list (a ∷ b ∷ []) events (suc (suc number)) party played below is = absurd (omega arith)
   within list [] events number party played below is = absurd played
   within list (a ∷ []) events number party played below is = absurd played
@@ -88,15 +93,18 @@ module _ {A : Type 0} {width : ℕ} (W : Ghosts A) where
       → PartiesPlayed W list (a ∷ b ∷ []) events → Keeps list events after (a ∷ after ∷ []) b
   second_keeps list a b events after played same goes = (
     same ∙ played.0,
-    same_seats W.words W.of_words _ _ _ _ _ _ _ _ (sym played.0) refl goes (second_plays W.words W.of_words b.place list a.seat b.seat events (same_seats W.words W.of_words _ _ _ _ _ _ _ _ played.0 refl refl played.1)),
+    same_seats W.words W.of_words _ _ _ _ _ _ _ _ (sym played.0) refl goes
+        (second_plays W.words W.of_words b.place list a.seat b.seat events (same_seats W.words W.of_words _ _ _ _ _ _ _ _ played.0 refl refl played.1)),
   )
 
   keeps : (list : List ℕ) (parties : List (CellParty A width)) (events : List (CellMoment A)) (number : ℕ) (party after : CellParty A width)
       → PartiesPlayed W list parties events → number < length parties
       → party ≡ slice_index_or parties number party
       → Keeps list events after (slice_set parties number after) party
-  keeps list (a ∷ b ∷ []) events zero party after played below is = subst (Keeps list events after (after ∷ b ∷ [])) (sym is) (first_keeps list a b events after played)
-  keeps list (a ∷ b ∷ []) events (suc zero) party after played below is = subst (Keeps list events after (a ∷ after ∷ [])) (sym is) (second_keeps list a b events after played)
+  keeps list (a ∷ b ∷ []) events zero party after played below is =
+      subst (Keeps list events after (after ∷ b ∷ [])) (sym is) (first_keeps list a b events after played)
+  keeps list (a ∷ b ∷ []) events (suc zero) party after played below is =
+      subst (Keeps list events after (a ∷ after ∷ [])) (sym is) (second_keeps list a b events after played)
   keeps list (a ∷ b ∷ []) events (suc (suc number)) party after played below is = absurd (omega arith)
   keeps list [] events number party after played below is = absurd played
   keeps list (a ∷ []) events number party after played below is = absurd played
@@ -106,4 +114,5 @@ module _ {A : Type 0} {width : ℕ} (W : Ghosts A) where
       → CellHolds W world → IsParty world number party → rests party.seat ≡ false
       → CellLeads W party (seen_in world (cell_asks W party)) answer after
       → CellHolds W (after_access world number (cell_asks W party) after (cell_happens W party (seen_in world (cell_asks W party))))
-  cell_keeps world number party after answer holds is awake leads = (holds.0, keeps world.words world.parties world.events number party after holds.1 is.0 is.1 leads.0 leads.1)
+  cell_keeps world number party after answer holds is awake leads =
+      (holds.0, keeps world.words world.parties world.events number party after holds.1 is.0 is.1 leads.0 leads.1)

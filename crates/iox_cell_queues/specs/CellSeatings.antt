@@ -11,7 +11,8 @@ use Rattle.iox_cell_steps.specs.declared.push.CellPush.TheVariants as push
 use Rattle.iox_cell_steps.specs.declared.pop.CellPop.TheVariants as pop
 use Rattle.iox_cell_steps.specs.declared.seat.CellPushing.TheVariants as pushing
 use Rattle.iox_cell_steps.specs.declared.seat.CellPopping.TheVariants as popping
-use Rattle.iox_cell_steps.specs.CellSeats.{pushing_access, pushing_after, pushing_progress, pushing_moment, popping_access, popping_after, popping_progress, popping_moment}
+use Rattle.iox_cell_steps.specs.CellSeats.{pushing_access, pushing_after, pushing_progress, pushing_moment}
+use Rattle.iox_cell_steps.specs.CellSeats.{popping_access, popping_after, popping_progress, popping_moment}
 use Rattle.iox_cell_steps.specs.CellReady.{IsWordInMemory, IsPusherReady, IsPopperReady}
 use Rattle.iox_cell_queues.specs.declared.queue.CellSeat.{CellSeat}
 use Rattle.iox_cell_queues.specs.declared.queue.CellSeat.TheVariants.{Pusher, Popper}

@@ -24,7 +24,8 @@ module _ {A : Type 0} (words : A → List ℕ) (of_words : List ℕ → Option A
         let stands = word_place place position i some inside in
         same _ (omega (arith, stands.0), omega (arith, stands.1))
 
-    pub fits_frame : {width : ℕ} → (waiting : List A) (pushes : CellPushing A) (pops : CellPopping width) → Fits words of_words place word waiting pushes pops → Fits words of_words place word' waiting pushes pops
+    pub fits_frame : {width : ℕ} → (waiting : List A) (pushes : CellPushing A) (pops : CellPopping width)
+        → Fits words of_words place word waiting pushes pops → Fits words of_words place word' waiting pushes pops
     fits_frame waiting pushes pops fits =
         let ring = fits.ring in
         let bounded = ring.bounded in
@@ -41,7 +42,8 @@ module _ {A : Type 0} (words : A → List ℕ) (of_words : List ℕ → Option A
         }
 
   -- nothing waits where the positions are equal
-  pub fits_empty : {width : ℕ} → (word : ℕ → ℕ) → write_of place word ≡ read_of place word → write_of place word < 2 ^ 64 → Fits words of_words place word {width = width} [] pushing.AtRest popping.AtRest
+  pub fits_empty : {width : ℕ} → (word : ℕ → ℕ) → write_of place word ≡ read_of place word → write_of place word < 2 ^ 64
+      → Fits words of_words place word {width = width} [] pushing.AtRest popping.AtRest
   fits_empty word empty position = record {
     position = position;
     ring = record { counts = omega arith; bounded = omega arith; whole = tt; items = λ k below. absurd (omega arith) };

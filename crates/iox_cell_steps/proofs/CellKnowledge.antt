@@ -14,20 +14,31 @@ use Rattle.iox_cell_steps.specs.CellFits.{write_of, read_of, item, Publishes, Pu
 
 module _ {A : Type 0} (words : A → List ℕ) (of_words : List ℕ → Option A) (place : Place) (word word' : ℕ → ℕ) (waiting waiting' : List A) where
   -- where the read position stays, a pop knows the first value; more may wait
-  module _ (same : read_of place word' ≡ read_of place word) (more : length waiting ≤ length waiting') (first : 0 < length waiting → item words waiting' 0 ≡ item words waiting 0) where
-    pub pop_knows_more : {width : ℕ} → (pops : CellPopping width) → PoppingKnows words of_words place word waiting pops → PoppingKnows words of_words place word' waiting' pops
+  module _ (same : read_of place word' ≡ read_of place word) (more : length waiting ≤ length waiting')
+      (first : 0 < length waiting → item words waiting' 0 ≡ item words waiting 0) where
+    pub pop_knows_more : {width : ℕ} → (pops : CellPopping width) → PoppingKnows words of_words place word waiting pops
+        → PoppingKnows words of_words place word' waiting' pops
     pop_knows_more popping.AtRest knows = tt
     pop_knows_more (popping.Pops pop.LoadsRead) knows = tt
     pop_knows_more (popping.Pops (pop.LoadsWrite read)) knows = knows ∙ sym same
-    pop_knows_more (popping.Pops (pop.LoadsWord read cell got loaded)) knows =
-        (knows.0 ∙ sym same, omega (arith, knows.1), knows.2, knows.3, knows.4, λ i below. knows.5 i below ∙ ap (λ (l : List ℕ). get_or l i 0) (sym (first knows.1)))
+    pop_knows_more (popping.Pops (pop.LoadsWord read cell got loaded)) knows = (
+      knows.0 ∙ sym same,
+      omega (arith, knows.1),
+      knows.2,
+      knows.3,
+      knows.4,
+      λ i below. knows.5 i below
+          ∙ ap (λ (l : List ℕ). get_or l i 0) (sym (first knows.1)),
+    )
     pop_knows_more (popping.Pops (pop.StoresRead read got)) knows = (knows.0 ∙ sym same, omega (arith, knows.1), knows.2 ∙ sym (first knows.1))
     pop_knows_more (popping.Looks empty_look.LoadsRead) knows = tt
     pop_knows_more (popping.Looks (empty_look.LoadsWrite read)) knows = knows ∙ sym same
 
   -- where the write position and the cells stay, a push knows its free cell; fewer may wait
-  module _ (same : write_of place word' ≡ write_of place word) (less : length waiting' ≤ length waiting) (cells_same : 0 < place.capacity → (position i : ℕ) → i < place.width → word' (cell_at place position + i) ≡ word (cell_at place position + i)) where
-    publishes_less : (value : A) (next stored : ℕ) → stored ≤ place.width → Publishes words of_words place word waiting value next stored → Publishes words of_words place word' waiting' value next stored
+  module _ (same : write_of place word' ≡ write_of place word) (less : length waiting' ≤ length waiting)
+      (cells_same : 0 < place.capacity → (position i : ℕ) → i < place.width → word' (cell_at place position + i) ≡ word (cell_at place position + i)) where
+    publishes_less : (value : A) (next stored : ℕ) → stored ≤ place.width → Publishes words of_words place word waiting value next stored
+        → Publishes words of_words place word' waiting' value next stored
     publishes_less value next stored few knows =
         let free = knows.free in
         record {
@@ -38,11 +49,13 @@ module _ {A : Type 0} (words : A → List ℕ) (of_words : List ℕ → Option A
           holds = λ i below. rw same (cells_same (omega arith) (write_of place word) i (omega arith) ∙ knows.holds i below);
         }
 
-    pub push_knows_less : (pushes : CellPushing A) → PushingKnows words of_words place word waiting pushes → PushingKnows words of_words place word' waiting' pushes
+    pub push_knows_less : (pushes : CellPushing A) → PushingKnows words of_words place word waiting pushes
+        → PushingKnows words of_words place word' waiting' pushes
     push_knows_less pushing.AtRest knows = tt
     push_knows_less (pushing.Pushes (push.LoadsWrite value)) knows = knows
     push_knows_less (pushing.Pushes (push.LoadsRead value write)) knows = (knows.0, knows.1 ∙ sym same)
-    push_knows_less (pushing.Pushes (push.StoresWord value cell next stored)) knows = (publishes_less value next stored (omega (arith, knows.2)) knows.0, knows.1 ∙ ap (cell_at place) (sym same), knows.2)
+    push_knows_less (pushing.Pushes (push.StoresWord value cell next stored)) knows =
+        (publishes_less value next stored (omega (arith, knows.2)) knows.0, knows.1 ∙ ap (cell_at place) (sym same), knows.2)
     push_knows_less (pushing.Pushes (push.StoresWrite value next)) knows = publishes_less value next place.width (omega arith) knows
     push_knows_less (pushing.Looks full_look.LoadsWrite) knows = tt
     push_knows_less (pushing.Looks (full_look.LoadsRead write)) knows = knows ∙ sym same

@@ -28,7 +28,8 @@ words_apart place a b i j less near first second same =
     ]
 
 -- a word of a cell is one of the queue's words
-pub word_place : (place : Place) (position i : ℕ) → 0 < place.capacity → i < place.width → IsPlace (place.base + 2) (place.capacity * place.width) (cell_at place position + i)
+pub word_place : (place : Place) (position i : ℕ) → 0 < place.capacity → i < place.width
+    → IsPlace (place.base + 2) (place.capacity * place.width) (cell_at place position + i)
 word_place place position i some inside =
     let below = mod_below position (max 1 place.capacity) (omega arith) in
     let under = cells_apart place.width (position % max 1 place.capacity) place.capacity i 0 (omega arith) inside in

@@ -23,7 +23,8 @@ use Rattle.iox_cell_steps.proofs.CellRunLemmas.{run_told, in_order}
 
 module _ {A : Type 0} {width : ℕ} (words : A → List ℕ) (of_words : List ℕ → Option A) (place : Place) (list : List ℕ) where
   -- a moment more: what fits the words by their places fits them as a list
-  played_on : (pushes pushes' : CellPushing A) (pops pops' : CellPopping width) (events : List (CellMoment A)) (access : Access) (moment : CellMoment A) (played : Played words of_words place list pushes pops events)
+  played_on : (pushes pushes' : CellPushing A) (pops pops' : CellPopping width) (events : List (CellMoment A)) (access : Access) (moment : CellMoment A)
+      (played : Played words of_words place list pushes pops events)
       → IsWithin 0 (length list) access → write_of place (word_after access (λ at. get_or list at 0)) ≡ write_after moment (get_or list place.base 0)
       → IsTrueOf place (get_or list place.base 0) played.waiting moment
       → Fits words of_words place (word_after access (λ at. get_or list at 0)) (waiting_after moment played.waiting) pushes' pops'
@@ -41,34 +42,43 @@ module _ {A : Type 0} {width : ℕ} (words : A → List ℕ) (of_words : List �
         bounded = fits.ring.bounded;
         run = run;
         room = rw length-words_after played.room;
-        fits = fits_frame words of_words place (word_after access (λ at. get_or list at 0)) (λ at. get_or (words_after access list) at 0) (λ at inside. reads at) _ pushes' pops' fits;
+        fits = fits_frame words of_words place (word_after access (λ at. get_or list at 0)) (λ at. get_or (words_after access list) at 0)
+            (λ at inside. reads at) _ pushes' pops' fits;
       }
 
-  module _ (pushes : CellPushing A) (pops : CellPopping width) (events : List (CellMoment A)) (played : Played words of_words place list pushes pops events) where
+  module _ (pushes : CellPushing A) (pops : CellPopping width) (events : List (CellMoment A))
+      (played : Played words of_words place list pushes pops events) where
     pub pushing_within_list : IsWithin 0 (length list) (pushing_access words place pushes)
     pushing_within_list = let room = played.room in
-        within_wider (pushing_access words place pushes) place.base (size place) 0 (length list) (omega arith) (omega arith) (pushing_step words of_words place (λ at. get_or list at 0) played.waiting pops pushes played.fits).0
+        within_wider (pushing_access words place pushes) place.base (size place) 0 (length list) (omega arith) (omega arith)
+        (pushing_step words of_words place (λ at. get_or list at 0) played.waiting pops pushes played.fits).0
 
     pub popping_within_list : IsWithin 0 (length list) (popping_access place pops)
     popping_within_list = let room = played.room in
-        within_wider (popping_access place pops) place.base (size place) 0 (length list) (omega arith) (omega arith) (popping_step words of_words place (λ at. get_or list at 0) played.waiting pushes pops played.fits).0
+        within_wider (popping_access place pops) place.base (size place) 0 (length list) (omega arith) (omega arith)
+        (popping_step words of_words place (λ at. get_or list at 0) played.waiting pushes pops played.fits).0
 
     pub pushing_plays : let access = pushing_access words place pushes in let seen = seen_by access (λ at. get_or list at 0) in
-        Played words of_words place (words_after access list) (pushing_after place pushes seen) pops (events ++ option_to_list (told (pushing_moment place pushes seen)))
+        Played words of_words place (words_after access list)
+        (pushing_after place pushes seen) pops (events ++ option_to_list (told (pushing_moment place pushes seen)))
     pushing_plays =
         let word : ℕ → ℕ = λ at. get_or list at 0 in
         let keeps = pushing_step words of_words place word played.waiting pops pushes played.fits in
-        played_on pushes _ pops pops events (pushing_access words place pushes) (pushing_moment place pushes (seen_by (pushing_access words place pushes) word)) played pushing_within_list keeps.2 keeps.1 keeps.3
+        played_on pushes _ pops pops events (pushing_access words place pushes)
+        (pushing_moment place pushes (seen_by (pushing_access words place pushes) word)) played pushing_within_list keeps.2 keeps.1 keeps.3
 
     pub popping_plays : let access = popping_access place pops in let seen = seen_by access (λ at. get_or list at 0) in
-        Played words of_words place (words_after access list) pushes (popping_after of_words place pops seen) (events ++ option_to_list (told (popping_moment of_words place pops seen)))
+        Played words of_words place (words_after access list) pushes (popping_after of_words place pops seen)
+        (events ++ option_to_list (told (popping_moment of_words place pops seen)))
     popping_plays =
         let word : ℕ → ℕ = λ at. get_or list at 0 in
         let keeps = popping_step words of_words place word played.waiting pushes pops played.fits in
-        played_on pushes pushes pops _ events (popping_access place pops) (popping_moment of_words place pops (seen_by (popping_access place pops) word)) played popping_within_list keeps.2 keeps.1 keeps.3
+        played_on pushes pushes pops _ events (popping_access place pops)
+        (popping_moment of_words place pops (seen_by (popping_access place pops) word)) played popping_within_list keeps.2 keeps.1 keeps.3
 
   -- a party that begins a call changes nothing else
-  pub pushing_begun : (pushes pushes' : CellPushing A) (pops : CellPopping width) (events : List (CellMoment A)) → Played words of_words place list pushes pops events
+  pub pushing_begun : (pushes pushes' : CellPushing A) (pops : CellPopping width) (events : List (CellMoment A))
+      → Played words of_words place list pushes pops events
       → ((waiting : List A) → PushingKnows words of_words place (λ at. get_or list at 0) waiting pushes') → Played words of_words place list pushes' pops events
   pushing_begun pushes pushes' pops events played knows = record {
     first = played.first;
@@ -80,7 +90,8 @@ module _ {A : Type 0} {width : ℕ} (words : A → List ℕ) (of_words : List �
     fits = record { position = played.fits.position; ring = played.fits.ring; push = knows played.waiting; pop = played.fits.pop };
   }
 
-  pub popping_begun : (pushes : CellPushing A) (pops pops' : CellPopping width) (events : List (CellMoment A)) → Played words of_words place list pushes pops events
+  pub popping_begun : (pushes : CellPushing A) (pops pops' : CellPopping width) (events : List (CellMoment A))
+      → Played words of_words place list pushes pops events
       → ((waiting : List A) → PoppingKnows words of_words place (λ at. get_or list at 0) waiting pops') → Played words of_words place list pushes pops' events
   popping_begun pushes pops pops' events played knows = record {
     first = played.first;

@@ -1,5 +1,6 @@
 -- Each access of the party that pops keeps what the words say, and is one moment.
-use Rattle.std.proofs.Common.{◌≡◌, ℕ, ◌+◌, ◌<◌, ◌≤◌, List, [], ◌∷◌, length, get_or, set, replicate, refl, sym, ◌∙◌, inl, inr, arith, Option, Some, nat_le, length-set, get_or-set_same, get_or-set_other}
+use Rattle.std.proofs.Common.{◌≡◌, ℕ, ◌+◌, ◌<◌, ◌≤◌, List, [], ◌∷◌, length, get_or, set, replicate, refl, sym, ◌∙◌, inl, inr, arith, Option, Some, nat_le}
+use Rattle.std.proofs.Common.{length-set, get_or-set_same, get_or-set_other}
 use Rattle.std.proofs.lemmas.List.{nil_from_length, length-replicate}
 use Rattle.std.proofs.lemmas.Bool.{cases_Bool, cases_lt, leb-true, leb-false, ne_eqb, lt-leb}
 use Rattle.std.proofs.lemmas.Grind.{same_number_lists}
@@ -21,7 +22,8 @@ use Rattle.iox_cell_steps.proofs.CellRings.{ring_take}
 use Rattle.iox_cell_steps.proofs.CellKnowledge.{push_knows_less}
 
 -- a look at the write position, at a queue in which this waits
-pub empty_is : (place : Place) (word : ℕ → ℕ) (read count : ℕ) → read ≡ read_of place word → write_of place word ≡ read_of place word + count → count ≤ place.capacity → is_empty place read (write_of place word) ≡ nat_le count 0
+pub empty_is : (place : Place) (word : ℕ → ℕ) (read count : ℕ) → read ≡ read_of place word → write_of place word ≡ read_of place word + count
+    → count ≤ place.capacity → is_empty place read (write_of place word) ≡ nat_le count 0
 empty_is place word read count is counts bounded = elim (cases_Bool (nat_le (write_of place word) read)) [
   | inl empty ↦ (let none : count ≡ 0 = omega (arith, leb-true _ _ empty) in rw (empty, none) refl)
   | inr more ↦ (
@@ -44,11 +46,14 @@ module _ {A : Type 0} (words : A → List ℕ) (of_words : List ℕ → Option A
   oldest_is_wide word (first ∷ others) ring some = ring.whole.0.0
 
   -- once so many words are loaded
-  loads_on : (width : ℕ) → (word : ℕ → ℕ) (waiting : List A) (read cell : ℕ) (got : List ℕ) (loaded : ℕ) → Ring words of_words place word waiting → read ≡ read_of place word → 0 < length waiting → cell ≡ cell_at place read
-      → loaded ≤ place.width → length got ≡ place.width → ((i : ℕ) → i < loaded → get_or got i 0 ≡ get_or (item words waiting 0) i 0) → PopKnows words of_words place word {width = width} waiting (load_from place read cell got loaded)
+  loads_on : (width : ℕ) → (word : ℕ → ℕ) (waiting : List A) (read cell : ℕ) (got : List ℕ) (loaded : ℕ) → Ring words of_words place word waiting
+      → read ≡ read_of place word → 0 < length waiting → cell ≡ cell_at place read
+      → loaded ≤ place.width → length got ≡ place.width → ((i : ℕ) → i < loaded → get_or got i 0 ≡ get_or (item words waiting 0) i 0)
+      → PopKnows words of_words place word {width = width} waiting (load_from place read cell got loaded)
   loads_on width word waiting read cell got loaded ring is some at few wide first = elim (cases_Bool (nat_le place.width loaded)) [
     | inl all ↦ (
-        let same : got ≡ item words waiting 0 = same_number_lists got (item words waiting 0) (wide ∙ sym (oldest_is_wide word waiting ring some)) (λ i below. first i (omega (arith, leb-true _ _ all))) in
+        let same : got ≡ item words waiting 0 = same_number_lists got (item words waiting 0) (wide ∙ sym (oldest_is_wide word waiting ring some))
+        (λ i below. first i (omega (arith, leb-true _ _ all))) in
         rw all (is, some, same)
         )
     | inr more ↦ (let less : loaded < place.width = omega (arith, leb-false _ _ more) in rw more (is, some, at, less, wide, first))
@@ -56,7 +61,8 @@ module _ {A : Type 0} (words : A → List ℕ) (of_words : List ℕ → Option A
 
   module _ {width : ℕ} (word : ℕ → ℕ) (waiting : List A) (pushes : CellPushing A) where
     -- the party is elsewhere
-    pops_on : {pops pops' : CellPopping width} → Fits words of_words place word waiting pushes pops → PoppingKnows words of_words place word waiting pops' → Fits words of_words place word waiting pushes pops'
+    pops_on : {pops pops' : CellPopping width} → Fits words of_words place word waiting pushes pops → PoppingKnows words of_words place word waiting pops'
+        → Fits words of_words place word waiting pushes pops'
     pops_on fits knows = record { position = fits.position; ring = fits.ring; push = fits.push; pop = knows }
 
     loads_write : (read : ℕ) → let pops : CellPopping width = popping.Pops (pop.LoadsWrite read) in
@@ -69,7 +75,15 @@ module _ {A : Type 0} (words : A → List ℕ) (of_words : List ℕ → Option A
           | inl empty ↦ rw (here, empty) (at_write, nil_from_length waiting (omega (arith, leb-true _ _ empty)), refl, pops_on fits tt, refl)
           | inr more ↦ (
               let some : 0 < length waiting = omega (arith, leb-false _ _ more) in
-              rw (here, more) (at_write, some, refl, pops_on fits (loads_on width word waiting read (cell_at place read) (replicate place.width 0) 0 fits.ring is some refl (omega arith) (length-replicate place.width 0) (λ i below. absurd (omega arith))), tt)
+              rw (here, more) (
+                at_write,
+                some,
+                refl,
+                pops_on fits
+                    (loads_on width word waiting read (cell_at place read) (replicate place.width 0) 0 fits.ring is some refl (omega arith)
+                    (length-replicate place.width 0) (λ i below. absurd (omega arith))),
+                tt,
+              )
               )
         ]
 
@@ -99,15 +113,17 @@ module _ {A : Type 0} (words : A → List ℕ) (of_words : List ℕ → Option A
           (omega (arith, stands.0), omega (arith, stands.1)),
           tt,
           refl,
-          pops_on fits (loads_on width word waiting read cell (set got loaded (word (cell + loaded))) (loaded + 1) fits.ring is some at (omega arith) (length-set got loaded _ ∙ wide) (λ i below. elim (cases_lt i loaded) [
-            | inl old ↦ get_or-set_other got loaded i (word (cell + loaded)) 0 (omega arith) ∙ fits.pop.5 i old
-            | inr new ↦ (let last : i ≡ loaded = omega arith in rw last (get_or-set_same got loaded (word (cell + loaded)) 0 (omega arith) ∙ seen))
-          ])),
+          pops_on fits (loads_on width word waiting read cell (set got loaded (word (cell + loaded))) (loaded + 1) fits.ring is some at (omega arith)
+              (length-set got loaded _ ∙ wide) (λ i below. elim (cases_lt i loaded) [
+                | inl old ↦ get_or-set_other got loaded i (word (cell + loaded)) 0 (omega arith) ∙ fits.pop.5 i old
+                | inr new ↦ (let last : i ≡ loaded = omega arith in rw last (get_or-set_same got loaded (word (cell + loaded)) 0 (omega arith) ∙ seen))
+              ])),
           tt,
         )
 
   -- the oldest value is taken
-  stores_read : {width : ℕ} → (word : ℕ → ℕ) (waiting : List A) (pushes : CellPushing A) (read : ℕ) (got : List ℕ) → let pops : CellPopping width = popping.Pops (pop.StoresRead read got) in
+  stores_read : {width : ℕ} → (word : ℕ → ℕ) (waiting : List A) (pushes : CellPushing A) (read : ℕ) (got : List ℕ)
+      → let pops : CellPopping width = popping.Pops (pop.StoresRead read got) in
       Fits words of_words place word waiting pushes pops → PoppingKeeps words of_words place word waiting pushes pops
   stores_read word [] pushes read got fits = let some = fits.pop.1 in absurd (omega arith)
   stores_read word (first ∷ others) pushes read got fits =
@@ -131,7 +147,8 @@ module _ {A : Type 0} (words : A → List ℕ) (of_words : List ℕ → Option A
         refl,
       )
 
-  pub popping_step : {width : ℕ} → (word : ℕ → ℕ) (waiting : List A) (pushes : CellPushing A) (pops : CellPopping width) → Fits words of_words place word waiting pushes pops → PoppingKeeps words of_words place word waiting pushes pops
+  pub popping_step : {width : ℕ} → (word : ℕ → ℕ) (waiting : List A) (pushes : CellPushing A) (pops : CellPopping width)
+      → Fits words of_words place word waiting pushes pops → PoppingKeeps words of_words place word waiting pushes pops
   popping_step word waiting pushes popping.AtRest fits = (tt, tt, refl, fits, tt)
   popping_step word waiting pushes (popping.Pops pop.LoadsRead) fits = (at_read, tt, refl, pops_on word waiting pushes fits refl, tt)
   popping_step word waiting pushes (popping.Pops (pop.LoadsWrite read)) fits = loads_write word waiting pushes read fits

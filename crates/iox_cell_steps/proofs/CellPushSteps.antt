@@ -21,7 +21,8 @@ use Rattle.iox_cell_steps.proofs.CellKnowledge.{pop_knows_more}
 
 module _ {A : Type 0} (words : A → List ℕ) (of_words : List ℕ → Option A) (place : Place) where
   -- once so many words are stored
-  stores_on : (word : ℕ → ℕ) (waiting : List A) (value : A) (cell next stored : ℕ) → cell ≡ cell_at place (write_of place word) → stored ≤ place.width → Publishes words of_words place word waiting value next stored
+  stores_on : (word : ℕ → ℕ) (waiting : List A) (value : A) (cell next stored : ℕ) → cell ≡ cell_at place (write_of place word) → stored ≤ place.width
+      → Publishes words of_words place word waiting value next stored
       → PushKnows words of_words place word waiting (store_from place value cell next stored)
   stores_on word waiting value cell next stored at few knows = elim (cases_Bool (nat_le place.width stored)) [
     | inl all ↦ (
@@ -41,7 +42,8 @@ module _ {A : Type 0} (words : A → List ℕ) (of_words : List ℕ → Option A
 
   module _ {width : ℕ} (word : ℕ → ℕ) (waiting : List A) (pops : CellPopping width) where
     -- the party is elsewhere
-    pushes_on : {pushes pushes' : CellPushing A} → Fits words of_words place word waiting pushes pops → PushingKnows words of_words place word waiting pushes' → Fits words of_words place word waiting pushes' pops
+    pushes_on : {pushes pushes' : CellPushing A} → Fits words of_words place word waiting pushes pops
+        → PushingKnows words of_words place word waiting pushes' → Fits words of_words place word waiting pushes' pops
     pushes_on fits knows = record { position = fits.position; ring = fits.ring; push = knows; pop = fits.pop }
 
     loads_read : (value : A) (write : ℕ) → let pushes : CellPushing A = pushing.Pushes (push.LoadsRead value write) in
@@ -60,8 +62,21 @@ module _ {A : Type 0} (words : A → List ℕ) (of_words : List ℕ → Option A
                 | inl full ↦ rw (on, full) (at_read, omega (arith, leb-true _ _ full), refl, pushes_on fits tt, inl refl)
                 | inr room ↦ (
                     let free : length waiting < place.capacity = omega (arith, leb-false _ _ room) in
-                    let knows : Publishes words of_words place word waiting value (write + 1) 0 = record { is_next = ap (λ n. n + 1) at; in_range = omega arith; free = free; whole = whole; holds = λ i below. absurd (omega arith) } in
-                    rw (on, room) (at_read, free, refl, pushes_on fits (stores_on word waiting value (cell_at place write) (write + 1) 0 (ap (cell_at place) at) (omega arith) knows), tt)
+                    let knows : Publishes words of_words place word waiting value (write + 1) 0 = record {
+                      is_next = ap (λ n. n + 1) at;
+                      in_range = omega arith;
+                      free = free;
+                      whole = whole;
+                      holds = λ i below. absurd (omega arith);
+                    } in
+                    rw (on, room) (
+                      at_read,
+                      free,
+                      refl,
+                      pushes_on fits
+                          (stores_on word waiting value (cell_at place write) (write + 1) 0 (ap (cell_at place) at) (omega arith) knows),
+                      tt,
+                    )
                     )
               ]
               )
@@ -97,7 +112,8 @@ module _ {A : Type 0} (words : A → List ℕ) (of_words : List ℕ → Option A
           record {
             position = rw write_same fits.position;
             ring = ring_store words of_words place word waiting stored there fits.ring free less;
-            push = stores_on word' waiting value (cell_at place (write_of place word)) next (stored + 1) (ap (cell_at place) (sym write_same)) (omega arith) more;
+            push = stores_on word' waiting value (cell_at place (write_of place word)) next (stored + 1) (ap (cell_at place) (sym write_same))
+                (omega arith) more;
             pop = pop_knows_more words of_words place word word' waiting waiting read_same (omega arith) (λ _. refl) pops fits.pop;
           },
           tt,
@@ -116,7 +132,8 @@ module _ {A : Type 0} (words : A → List ℕ) (of_words : List ℕ → Option A
             position = rw write_new knows.in_range;
             ring = ring_publish words of_words place word waiting value next fits.ring knows.free knows.whole knows.holds knows.is_next;
             push = tt;
-            pop = pop_knows_more words of_words place word (put word place.base next) waiting (waiting ++ value ∷ []) read_same (omega (arith, length_push waiting value)) (λ some. item-push_old words of_words waiting value 0 some) pops fits.pop;
+            pop = pop_knows_more words of_words place word (put word place.base next) waiting (waiting ++ value ∷ []) read_same
+                (omega (arith, length_push waiting value)) (λ some. item-push_old words of_words waiting value 0 some) pops fits.pop;
           },
           refl,
         )
@@ -132,7 +149,8 @@ module _ {A : Type 0} (words : A → List ℕ) (of_words : List ℕ → Option A
           | inr room ↦ rw room (at_read, omega (arith, leb-false _ _ room), refl, pushes_on fits tt, refl)
         ]
 
-    pub pushing_step : (pushes : CellPushing A) → Fits words of_words place word waiting pushes pops → PushingKeeps words of_words place word waiting pushes pops
+    pub pushing_step : (pushes : CellPushing A) → Fits words of_words place word waiting pushes pops
+        → PushingKeeps words of_words place word waiting pushes pops
     pushing_step pushing.AtRest fits = (tt, tt, refl, fits, tt)
     pushing_step (pushing.Pushes (push.LoadsWrite value)) fits = (at_write, tt, refl, pushes_on fits (fits.push, refl), tt)
     pushing_step (pushing.Pushes (push.LoadsRead value write)) fits = loads_read value write fits

@@ -18,13 +18,15 @@ module _ {A : Type 0} (words : A → List ℕ) (of_words : List ℕ → Option A
   item-push_new : (waiting : List A) (value : A) (k : ℕ) → k ≡ length waiting → item words (waiting ++ value ∷ []) k ≡ words value
   item-push_new waiting value k new = rw map-append (get_or_push (map words waiting) (words value) [] k (length-map waiting words ∙ sym new))
 
-  AreWhole-push : (width : ℕ) (waiting : List A) (value : A) → AreWhole words of_words width waiting → IsWhole words of_words width value → AreWhole words of_words width (waiting ++ value ∷ [])
+  AreWhole-push : (width : ℕ) (waiting : List A) (value : A) → AreWhole words of_words width waiting → IsWhole words of_words width value
+      → AreWhole words of_words width (waiting ++ value ∷ [])
   AreWhole-push width [] value all one = (one, tt)
   AreWhole-push width (first ∷ others) value all one = (all.0, AreWhole-push width others value all.1 one)
 
   module _ (place : Place) (word : ℕ → ℕ) where
     -- a store into a word of the free cell
-    pub ring_store : (waiting : List A) (i value : ℕ) → Ring words of_words place word waiting → length waiting < place.capacity → i < place.width → Ring words of_words place (put word (cell_at place (write_of place word) + i) value) waiting
+    pub ring_store : (waiting : List A) (i value : ℕ) → Ring words of_words place word waiting → length waiting < place.capacity → i < place.width
+        → Ring words of_words place (put word (cell_at place (write_of place word) + i) value) waiting
     ring_store waiting i value ring free inside =
         let at = cell_at place (write_of place word) + i in
         let write_same = put-other word at value place.base (omega arith) in
@@ -40,8 +42,10 @@ module _ {A : Type 0} (words : A → List ℕ) (of_words : List ℕ → Option A
         }
 
     -- the write position goes on, and the value in the free cell waits
-    pub ring_publish : (waiting : List A) (value : A) (next : ℕ) → Ring words of_words place word waiting → length waiting < place.capacity → IsWhole words of_words place.width value
-        → Holds word (cell_at place (write_of place word)) (words value) place.width → next ≡ write_of place word + 1 → Ring words of_words place (put word place.base next) (waiting ++ value ∷ [])
+    pub ring_publish : (waiting : List A) (value : A) (next : ℕ) → Ring words of_words place word waiting → length waiting < place.capacity
+        → IsWhole words of_words place.width value
+        → Holds word (cell_at place (write_of place word)) (words value) place.width → next ≡ write_of place word + 1
+        → Ring words of_words place (put word place.base next) (waiting ++ value ∷ [])
     ring_publish waiting value next ring free whole holds is_next =
         let counts = ring.counts in
         let more = length_push waiting value in
@@ -63,7 +67,8 @@ module _ {A : Type 0} (words : A → List ℕ) (of_words : List ℕ → Option A
         }
 
     -- the read position goes on, and the first is taken
-    pub ring_take : (first : A) (others : List A) (next : ℕ) → Ring words of_words place word (first ∷ others) → next ≡ read_of place word + 1 → Ring words of_words place (put word (place.base + 1) next) others
+    pub ring_take : (first : A) (others : List A) (next : ℕ) → Ring words of_words place word (first ∷ others) → next ≡ read_of place word + 1
+        → Ring words of_words place (put word (place.base + 1) next) others
     ring_take first others next ring is_next =
         let bounded = ring.bounded in
         let counts = ring.counts in

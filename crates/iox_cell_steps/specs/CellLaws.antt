@@ -5,7 +5,8 @@ use Rattle.iox_cell_steps.specs.declared.place.Place.{Place}
 use Rattle.iox_cell_steps.specs.declared.seat.CellPushing.{CellPushing}
 use Rattle.iox_cell_steps.specs.declared.seat.CellPopping.{CellPopping}
 use Rattle.iox_cell_steps.specs.Cells.{size}
-use Rattle.iox_cell_steps.specs.CellSeats.{pushing_access, pushing_after, pushing_progress, pushing_moment, popping_access, popping_after, popping_progress, popping_moment}
+use Rattle.iox_cell_steps.specs.CellSeats.{pushing_access, pushing_after, pushing_progress, pushing_moment}
+use Rattle.iox_cell_steps.specs.CellSeats.{popping_access, popping_after, popping_progress, popping_moment}
 use Rattle.iox_cell_steps.specs.CellMoments.{waiting_after, IsTrueOf}
 use Rattle.iox_cell_steps.specs.CellRuns.{write_after}
 use Rattle.iox_cell_steps.specs.CellAnswers.{unpublished, Answers}

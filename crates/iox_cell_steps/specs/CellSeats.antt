@@ -20,7 +20,8 @@ use Rattle.iox_cell_steps.specs.declared.seat.CellPushing.{CellPushing}
 use Rattle.iox_cell_steps.specs.declared.seat.CellPushing.TheVariants as pushing
 use Rattle.iox_cell_steps.specs.declared.seat.CellPopping.{CellPopping}
 use Rattle.iox_cell_steps.specs.declared.seat.CellPopping.TheVariants as popping
-use Rattle.iox_cell_steps.specs.CellPrograms.{push_access, push_next, pop_access, pop_next, full_look_access, full_look_next, empty_look_access, empty_look_next}
+use Rattle.iox_cell_steps.specs.CellPrograms.{push_access, push_next, pop_access, pop_next}
+use Rattle.iox_cell_steps.specs.CellPrograms.{full_look_access, full_look_next, empty_look_access, empty_look_next}
 use Rattle.iox_cell_steps.specs.CellMoments.{push_moment, pop_moment, full_look_moment, empty_look_moment}
 
 -- what the party asks that pushes

@@ -7,6 +7,7 @@ pub new-requires : goal.new-requires
 new-requires g c =
     let room = c.requires.room in
     let inside : c.args.place.base < length c.args.words.items = omega arith in
-    let at : c.index-position.result.now ≡ slice_index c.args.words.items c.args.place.base = c.index-position.ensures ∙ get_or_default_zero c.args.words.items c.args.place.base _ inside in
+    let at : c.index-position.result.now ≡ slice_index c.args.words.items c.args.place.base = c.index-position.ensures
+    ∙ get_or_default_zero c.args.words.items c.args.place.base _ inside in
     let position : slice_index c.args.words.items c.args.place.base < 2 ^ 64 = omega (arith, at, c.type_inv._position) in
     (c.requires.words, new_parties_played g.T.Words _ _ c.in_ok-parties.parties.items c.in_ok-parties.ensures c.requires.room c.requires.empty position)
