@@ -89,20 +89,22 @@ impl<T: Words, const WIDTH: usize> CellMachine<T, WIDTH> {
         ensures refused { IfErr result (IsCellStepRefused T.Words self.old party) }
         ensures unchanged { OnErr result (self.new ≡ self.old) }
     {
-        self.machine.holds();
+        self.holds();
         self.machine.step(party)
     }
 
-    /// What the words say, wherever the parties are.
+    /// What the words say, wherever the parties are: the values that were handed out are, in order,
+    /// the first of those published, and the rest waits.
     pub fn holds(&self)
         requires fits { PartyFits T.row WIDTH.row }
         ensures { CellHolds T.Words self.now }
     {
-        self.machine.holds();
+        self.machine.holds()
     }
 
-    /// Plays a schedule to its end, or to the step that wants memory. Whatever the schedule, the
-    /// values that were handed out are, in order, the first of those published, and the rest waits.
+    /// Plays a schedule to its end, or to the step that wants memory. Whatever the schedule, each
+    /// event that it adds was true of the queue when it came, and the values that were handed out are,
+    /// in order, the first of those published, and the rest waits.
     pub fn run(&mut self, schedule: &[Entry<CellCall<T>>]) -> Result<(), MachineError>
         requires fits { PartyFits T.row WIDTH.row }
         ensures queue { CellHolds T.Words self.new }
@@ -111,7 +113,7 @@ impl<T: Words, const WIDTH: usize> CellMachine<T, WIDTH> {
         ensures whole { OnOk result (AllCellsEntered T.Words self.old schedule.now self.new) }
         ensures refused { IfErr result (λ error. error ≡ MachineError.WantOfMemory) }
     {
-        self.machine.holds();
+        self.holds();
         self.machine.run(schedule)
     }
 }

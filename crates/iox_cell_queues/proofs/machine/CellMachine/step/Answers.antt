@@ -1,10 +1,11 @@
-use Rattle.std.proofs.Common.{subst, IfOk}
-use Rattle.iox_cell_queues.specs.CellQueues.{CellWorld}
+use Rattle.std.proofs.Common.{sym, subst, IfOk}
+use Rattle.iox_cell_queues.specs.CellQueues.{CellWorld, CellHolds}
 use Rattle.iox_cell_queues.specs.CellMachines.{IsMoment}
 use Rattle.iox_cell_queues.proofs.MomentLemmas.{moments_of}
 use Rattle.iox_cell_queues.proofs.machine.CellMachine.step.Goals as goal
 
 pub returns-clause-moment : goal.returns-clause-moment
 returns-clause-moment g c =
+    let holds = subst (λ (w : CellWorld _ _). CellHolds g.T.Words w) (sym c.self.view_is) c.holds.ensures in
     subst (λ (w : CellWorld _ _). IfOk c.step.result (λ answer. IsMoment g.T.Words w c.args.party answer c.step.new.self)) c.self.view_is
-    (moments_of g.T.Words _ _ c.args.party c.step.result c.holds.ensures c.step.ensures.stepped)
+    (moments_of g.T.Words _ _ c.args.party c.step.result holds c.step.ensures.stepped)
