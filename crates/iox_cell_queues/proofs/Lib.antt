@@ -1,3 +1,4 @@
 pub mod NewMachines
 pub mod MomentLemmas
 pub mod PlaysLemmas
+pub mod LineLemmas
