@@ -1,4 +1,6 @@
 // The twins: the same work in C++, and boost's spsc_queue. Each answers the sum that its Rattle counterpart answers.
+// Above each stands what it lacks. None tests its places: a vector is indexed as it is.
+#include <array>
 #include <atomic>
 #include <boost/lockfree/spsc_queue.hpp>
 #include <cstdint>
@@ -7,11 +9,13 @@
 
 namespace {
 
-// A ring of first place and length, as the Rattle queues. `Cell` is a value or a std::optional of one.
-template <class Cell> struct RingOf {
-    std::vector<Cell> cells;
+// A ring of first place and length. `Cell` is a value or a std::optional of one; `Cells` is a vector, or an array whose
+// size the compiler sees. It lacks a last position: it takes values for ever, where a Rattle queue ends after 2^64 - 1.
+template <class Cell, class Cells = std::vector<Cell>> struct RingOf {
+    Cells cells{};
     size_t oldest = 0;
     size_t len = 0;
+    RingOf() = default;
     explicit RingOf(size_t capacity) : cells(capacity) {}
     bool push(uint64_t value) {
         if (len == cells.size()) return false;
@@ -31,8 +35,9 @@ template <class Cell> struct RingOf {
     }
 };
 using Ring = RingOf<uint64_t>;
+using FixedRing = RingOf<uint64_t, std::array<uint64_t, 128>>;
 
-// The same, where a push into a full ring takes the place of the oldest and hands it back.
+// The same, where a push into a full ring takes the place of the oldest and hands it back. It lacks what the ring lacks.
 struct Overflowing : Ring {
     using Ring::Ring;
     std::optional<uint64_t> push(uint64_t value) {
@@ -45,7 +50,7 @@ struct Overflowing : Ring {
     }
 };
 
-// A ring of two positions and `%`, as upstream's queue.
+// A ring of two positions and `%`, as upstream's queue. It lacks a last position, and that its positions are atomic.
 struct Positions {
     std::vector<uint64_t> cells;
     uint64_t write = 0;
@@ -65,7 +70,8 @@ struct Positions {
     }
 };
 
-// A ring of two atomic positions and `%`, with one cell more than its capacity, as SoFi of iceoryx 2.
+// A ring of two atomic positions and `%`, with one cell more than its capacity, as SoFi of iceoryx. It is to be used by
+// two threads, as the queues of the other twins, but for boost's, and of the rows are not. It lacks a last position.
 struct SoFi {
     std::vector<uint64_t> cells;
     std::atomic<uint64_t> write{0};
@@ -93,7 +99,7 @@ struct SoFi {
     }
 };
 
-// Free indices on a stack.
+// Free indices on a stack. It lacks the lock, and a bound: a released index finds room even where none was taken.
 struct Stack {
     std::vector<uint32_t> free;
     explicit Stack(uint32_t capacity) {
@@ -108,6 +114,7 @@ struct Stack {
     void release(uint32_t index) { free.push_back(index); }
 };
 
+// Bits in words. It lacks a test that the bit is one of its bits.
 struct Bits {
     std::vector<uint64_t> words;
     explicit Bits(size_t capacity) : words((capacity + 63) / 64) {}
@@ -135,6 +142,7 @@ struct Bits {
     }
 };
 
+// A count for each id. It lacks a test that the id is one of its ids.
 struct Counts {
     std::vector<uint64_t> counts;
     explicit Counts(size_t capacity) : counts(capacity) {}
@@ -153,7 +161,7 @@ struct Counts {
     }
 };
 
-// Owners of indices, and a bit for each free index.
+// Owners of indices, and a bit for each free index. It lacks the lock, and a test that a released index is held.
 struct Owners {
     std::vector<std::optional<uint64_t>> owners;
     Bits free;
@@ -172,83 +180,215 @@ struct Owners {
     }
 };
 
-// The pusher and the popper of a queue among words, one access at a time, with their events.
-enum class At : uint8_t { Rest, PushLoadsWrite, PushLoadsRead, StoresCell, StoresWrite, PopLoadsRead, PopLoadsWrite, LoadsCell, StoresRead };
-struct Event { uint64_t kind; uint64_t value; };
-struct Player { At at = At::Rest; uint64_t value = 0, position = 0; };
-struct Steps {
+// Where a queue stands among words: the write position, the read position, and the cells.
+struct Site {
+    bool overflows;
+    size_t base, capacity;
+    size_t cells() const { return capacity + (overflows ? 1 : 0); }
+    size_t cell_at(uint64_t position) const { return base + 2 + position % cells(); }
+    bool is_full(uint64_t read, uint64_t write) const { return write - read >= capacity; }
+};
+
+// Whole calls on the words of a queue. They lack nothing that the Rattle calls do.
+struct Words {
     std::vector<uint64_t> words;
-    size_t capacity;
-    Player parties[2];
+    Site site;
+    Words(bool overflows, size_t capacity) : words(capacity + 3), site{overflows, 0, capacity} {}
+    // of a queue that refuses: was there room?
+    bool pushed(uint64_t value) {
+        uint64_t write = words[site.base], read = words[site.base + 1];
+        if (write == UINT64_MAX || site.is_full(read, write)) return false;
+        words[site.cell_at(write)] = value;
+        words[site.base] = write + 1;
+        return true;
+    }
+    // of one that overflows: the oldest, if it had to go; at the last position the value itself
+    std::optional<uint64_t> push(uint64_t value) {
+        uint64_t write = words[site.base], read = words[site.base + 1];
+        if (write == UINT64_MAX) return value;
+        words[site.cell_at(write)] = value;
+        words[site.base] = write + 1;
+        if (!site.is_full(read, write)) return std::nullopt;
+        words[site.base + 1] = read + 1;
+        return words[site.cell_at(read)];
+    }
+    std::optional<uint64_t> pop() {
+        uint64_t read = words[site.base + 1];
+        if (words[site.base] <= read) return std::nullopt;
+        uint64_t value = words[site.cell_at(read)];
+        words[site.base + 1] = read + 1;
+        return value;
+    }
+};
+
+// Where a party of a queue is: at rest, in a push, in a look at fullness, in a pop, or in a look at emptiness.
+enum class At : uint8_t {
+    Rest, PushLoadsWrite, PushLoadsRead, StoresCell, StoresWrite, Evicts, TakesOld, FullLoadsWrite, FullLoadsRead,
+    PopLoadsRead, PopLoadsWrite, LoadsCell, Takes, EmptyLoadsRead, EmptyLoadsWrite
+};
+enum class What : uint64_t { Publish, HandOut, Evict, GetBack, SeesEmpty, SeesWaiting, SeesFull, SeesRoom, SeesEnd };
+enum class Says : uint64_t { Going, Done, Gives, Refused };
+struct Answer { Says says; uint64_t value; };
+struct Party {
+    At at = At::Rest;
+    bool full = false;
+    uint64_t value = 0, write = 0, read = 0;
+    Answer ends(Says says, uint64_t answer) { at = At::Rest; return {says, answer}; }
+    Answer goes(At next) { at = next; return {Says::Going, 0}; }
+};
+
+// One access of the party that pushes; `tell` takes what happened.
+template <class Tell> Answer step_pusher(std::vector<uint64_t> &words, const Site &site, Party &p, Tell tell) {
+    switch (p.at) {
+    case At::PushLoadsWrite: p.write = words[site.base]; return p.goes(At::PushLoadsRead);
+    case At::PushLoadsRead:
+        p.read = words[site.base + 1];
+        if (p.write == UINT64_MAX) { tell(What::SeesEnd, 0); return p.ends(Says::Gives, p.value); }
+        p.full = site.is_full(p.read, p.write);
+        tell(p.full ? What::SeesFull : What::SeesRoom, 0);
+        if (p.full && !site.overflows) return p.ends(Says::Gives, p.value);
+        return p.goes(At::StoresCell);
+    case At::StoresCell: words[site.cell_at(p.write)] = p.value; return p.goes(At::StoresWrite);
+    case At::StoresWrite:
+        words[site.base] = p.write + 1;
+        tell(What::Publish, p.value);
+        return p.full ? p.goes(At::Evicts) : p.ends(Says::Done, 0);
+    case At::Evicts:
+        if (words[site.base + 1] != p.read) return p.ends(Says::Done, 0);
+        words[site.base + 1] = p.read + 1;
+        tell(What::Evict, 0);
+        return p.goes(At::TakesOld);
+    case At::TakesOld: p.value = words[site.cell_at(p.read)]; tell(What::GetBack, p.value); return p.ends(Says::Gives, p.value);
+    case At::FullLoadsWrite: p.write = words[site.base]; return p.goes(At::FullLoadsRead);
+    case At::FullLoadsRead:
+        p.full = site.is_full(words[site.base + 1], p.write);
+        tell(p.full ? What::SeesFull : What::SeesRoom, 0);
+        return p.ends(Says::Gives, p.full);
+    default: return {Says::Refused, 0};
+    }
+}
+
+// One access of the party that pops.
+template <class Tell> Answer step_popper(std::vector<uint64_t> &words, const Site &site, Party &p, Tell tell) {
+    switch (p.at) {
+    case At::PopLoadsRead: p.read = words[site.base + 1]; return p.goes(At::PopLoadsWrite);
+    case At::PopLoadsWrite:
+        if (words[site.base] <= p.read) { tell(What::SeesEmpty, 0); return p.ends(Says::Done, 0); }
+        tell(What::SeesWaiting, 0);
+        return p.goes(At::LoadsCell);
+    case At::LoadsCell: p.value = words[site.cell_at(p.read)]; return p.goes(At::Takes);
+    case At::Takes:
+        if (site.overflows && words[site.base + 1] != p.read) { p.read = words[site.base + 1]; return p.goes(At::LoadsCell); }
+        words[site.base + 1] = p.read + 1;
+        tell(What::HandOut, p.value);
+        return p.ends(Says::Gives, p.value);
+    case At::EmptyLoadsRead: p.read = words[site.base + 1]; return p.goes(At::EmptyLoadsWrite);
+    case At::EmptyLoadsWrite:
+        p.full = words[site.base] <= p.read;
+        tell(p.full ? What::SeesEmpty : What::SeesWaiting, 0);
+        return p.ends(Says::Gives, p.full);
+    default: return {Says::Refused, 0};
+    }
+}
+
+// A machine of both parties, which writes down what happened. It lacks an answer where memory runs out, and a list of
+// parties: they are two. A cell's place is divided for where it is used, once in each push and once in each pop.
+struct Machine {
+    struct Event { What what; uint64_t value; };
+    std::vector<uint64_t> words;
+    Site site;
+    Party parties[2];
     std::vector<Event> events;
-    explicit Steps(size_t capacity) : words(capacity + 2), capacity(capacity) {}
+    Machine(bool overflows, size_t capacity) : words(capacity + 3), site{overflows, 0, capacity} {}
     bool begin(size_t party, At at, uint64_t value) {
-        if (party >= 2 || parties[party].at != At::Rest) return false;
+        if (party >= 2 || (party == 0) != (at < At::PopLoadsRead) || parties[party].at != At::Rest) return false;
         parties[party].at = at;
         parties[party].value = value;
         return true;
     }
-    // 0: goes on; 1: done; 2: done with a value
-    int step(size_t party, uint64_t &answer) {
-        Player &p = parties[party];
-        switch (p.at) {
-        case At::Rest: return 3;
-        case At::PushLoadsWrite: p.position = words[0]; p.at = At::PushLoadsRead; return 0;
-        case At::PushLoadsRead:
-            if (p.position - words[1] >= capacity) { events.push_back({2, 0}); p.at = At::Rest; return 1; }
-            events.push_back({3, 0}); p.at = At::StoresCell; return 0;
-        case At::StoresCell: words[2 + p.position % capacity] = p.value; p.at = At::StoresWrite; return 0;
-        case At::StoresWrite: words[0] = p.position + 1; events.push_back({0, p.value}); p.at = At::Rest; return 1;
-        case At::PopLoadsRead: p.position = words[1]; p.at = At::PopLoadsWrite; return 0;
-        case At::PopLoadsWrite:
-            if (words[0] <= p.position) { events.push_back({4, 0}); p.at = At::Rest; return 1; }
-            events.push_back({5, 0}); p.at = At::LoadsCell; return 0;
-        case At::LoadsCell: p.value = words[2 + p.position % capacity]; p.at = At::StoresRead; return 0;
-        case At::StoresRead: words[1] = p.position + 1; events.push_back({1, p.value}); p.at = At::Rest; answer = p.value; return 2;
-        }
-        return 3;
+    Answer step(size_t party) {
+        if (party >= 2) return {Says::Refused, 0};
+        auto tell = [&](What what, uint64_t value) { events.push_back({what, value}); };
+        return party == 0 ? step_pusher(words, site, parties[0], tell) : step_popper(words, site, parties[1], tell);
     }
 };
 
-// The same two parties, each kept in memory and stepped by a call: no machine and no events. A step says 0: goes on;
-// 1: done; 2: done with a value.
-struct Answer { uint64_t kind; uint64_t value; };
+// The same parties, each kept in memory and stepped by a call: no machine and no events. It divides as the machine does.
 struct Stored {
-    At at = At::Rest;
-    uint64_t value = 0, position = 0, base = 0, capacity = 0;
-};
-struct StoredQueue {
     std::vector<uint64_t> words;
-    Stored pusher, popper;
-    explicit StoredQueue(size_t capacity) : words(capacity + 2) { pusher.capacity = popper.capacity = capacity; }
-    bool begin(Stored &p, At at, uint64_t value) {
-        if (p.at != At::Rest) return false;
-        p.at = at;
-        p.value = value;
+    Site site;
+    Party pusher, popper;
+    Stored(bool overflows, size_t capacity) : words(capacity + 3), site{overflows, 0, capacity} {}
+    bool begin(Party &party, At at, uint64_t value) {
+        if (party.at != At::Rest) return false;
+        party.at = at;
+        party.value = value;
         return true;
     }
-    Answer step_push() {
-        Stored &p = pusher;
-        switch (p.at) {
-        case At::PushLoadsWrite: p.position = words[p.base]; p.at = At::PushLoadsRead; return {0, 0};
-        case At::PushLoadsRead:
-            if (p.position - words[p.base + 1] >= p.capacity) { p.at = At::Rest; return {2, p.value}; }
-            p.at = At::StoresCell; return {0, 0};
-        case At::StoresCell: words[p.base + 2 + p.position % p.capacity] = p.value; p.at = At::StoresWrite; return {0, 0};
-        case At::StoresWrite: words[p.base] = p.position + 1; p.at = At::Rest; return {1, 0};
-        default: return {0, 0};
-        }
+    Answer step_push() { return step_pusher(words, site, pusher, [](What, uint64_t) {}); }
+    Answer step_pop() { return step_popper(words, site, popper, [](What, uint64_t) {}); }
+};
+
+// A machine of a queue of values of WIDTH words that refuses. It lacks what the other machine lacks.
+template <size_t WIDTH> struct CellMachine {
+    using Value = std::array<uint64_t, WIDTH>;
+    struct Event { What what; Value value; };
+    struct Seat { At at = At::Rest; bool full = false; uint64_t write = 0, read = 0; size_t word = 0; Value value{}; };
+    struct Said { Says says; Value value; };
+    std::vector<uint64_t> words;
+    size_t capacity;
+    Seat parties[2];
+    std::vector<Event> events;
+    explicit CellMachine(size_t capacity) : words(2 + capacity * WIDTH), capacity(capacity) {}
+    bool begin(size_t party, At at, Value value) {
+        if (party >= 2 || (party == 0) != (at < At::PopLoadsRead) || parties[party].at != At::Rest) return false;
+        parties[party].at = at;
+        parties[party].value = value;
+        return true;
     }
-    Answer step_pop() {
-        Stored &p = popper;
+    static Said goes(Seat &p, At next) { p.at = next; return {Says::Going, {}}; }
+    static Said ends(Seat &p, Says says, Value answer) { p.at = At::Rest; return {says, answer}; }
+    uint64_t &word(uint64_t position, size_t index) { return words[2 + position % capacity * WIDTH + index]; }
+    Said step(size_t party) {
+        if (party >= 2) return {Says::Refused, {}};
+        Seat &p = parties[party];
+        auto tell = [&](What what, Value value) { events.push_back({what, value}); };
         switch (p.at) {
-        case At::PopLoadsRead: p.position = words[p.base + 1]; p.at = At::PopLoadsWrite; return {0, 0};
+        case At::PushLoadsWrite: p.write = words[0]; return goes(p, At::PushLoadsRead);
+        case At::PushLoadsRead:
+            p.read = words[1];
+            if (p.write == UINT64_MAX) { tell(What::SeesEnd, {}); return ends(p, Says::Done, {}); }
+            p.full = p.write - p.read >= capacity;
+            tell(p.full ? What::SeesFull : What::SeesRoom, {});
+            p.word = 0;
+            return p.full ? ends(p, Says::Done, {}) : goes(p, At::StoresCell);
+        case At::StoresCell:
+            word(p.write, p.word) = p.value[p.word];
+            p.word += 1;
+            return goes(p, p.word == WIDTH ? At::StoresWrite : At::StoresCell);
+        case At::StoresWrite: words[0] = p.write + 1; tell(What::Publish, p.value); return ends(p, Says::Done, {});
+        case At::FullLoadsWrite: p.write = words[0]; return goes(p, At::FullLoadsRead);
+        case At::FullLoadsRead:
+            p.full = p.write - words[1] >= capacity;
+            tell(p.full ? What::SeesFull : What::SeesRoom, {});
+            return ends(p, Says::Gives, {p.full});
+        case At::PopLoadsRead: p.read = words[1]; return goes(p, At::PopLoadsWrite);
         case At::PopLoadsWrite:
-            if (words[p.base] <= p.position) { p.at = At::Rest; return {1, 0}; }
-            p.at = At::LoadsCell; return {0, 0};
-        case At::LoadsCell: p.value = words[p.base + 2 + p.position % p.capacity]; p.at = At::StoresRead; return {0, 0};
-        case At::StoresRead: words[p.base + 1] = p.position + 1; p.at = At::Rest; return {2, p.value};
-        default: return {0, 0};
+            if (words[0] <= p.read) { tell(What::SeesEmpty, {}); return ends(p, Says::Done, {}); }
+            tell(What::SeesWaiting, {});
+            p.word = 0;
+            return goes(p, At::LoadsCell);
+        case At::LoadsCell:
+            p.value[p.word] = word(p.read, p.word);
+            p.word += 1;
+            return goes(p, p.word == WIDTH ? At::Takes : At::LoadsCell);
+        case At::Takes: words[1] = p.read + 1; tell(What::HandOut, p.value); return ends(p, Says::Gives, p.value);
+        case At::EmptyLoadsRead: p.read = words[1]; return goes(p, At::EmptyLoadsWrite);
+        case At::EmptyLoadsWrite:
+            p.full = words[0] <= p.read;
+            tell(p.full ? What::SeesEmpty : What::SeesWaiting, {});
+            return ends(p, Says::Gives, {p.full});
+        default: return {Says::Refused, {}};
         }
     }
 };
@@ -277,8 +417,8 @@ template <class Q> uint64_t boost_push_and_pop(Q &&queue, uint64_t rounds, uint6
 }
 
 // A push a round, at a queue that is full.
-template <class Q> uint64_t push_over(Q &&queue, uint64_t rounds) {
-    for (uint64_t value = 0; value < 128; ++value) queue.push(value);
+template <class Q> uint64_t push_over(Q &&queue, uint64_t rounds, uint64_t capacity = 128) {
+    for (uint64_t value = 0; value < capacity; ++value) queue.push(value);
     uint64_t sum = 0;
     for (uint64_t value = 0; value < rounds; ++value)
         if (std::optional<uint64_t> old = queue.push(value)) sum += *old;
@@ -289,8 +429,31 @@ __attribute__((noinline)) std::optional<uint32_t> call_acquire(Stack &set) { ret
 __attribute__((noinline)) bool call_push(Ring &ring, uint64_t value) { return ring.push(value); }
 __attribute__((noinline)) std::optional<uint64_t> call_pop(Ring &ring) { return ring.pop(); }
 
-__attribute__((noinline)) Answer call_step_push(StoredQueue &queue) { return queue.step_push(); }
-__attribute__((noinline)) Answer call_step_pop(StoredQueue &queue) { return queue.step_pop(); }
+__attribute__((noinline)) bool call_push(FixedRing &ring, uint64_t value) { return ring.push(value); }
+__attribute__((noinline)) std::optional<uint64_t> call_pop(FixedRing &ring) { return ring.pop(); }
+using FixedBoost = boost::lockfree::spsc_queue<uint64_t, boost::lockfree::capacity<128>>;
+__attribute__((noinline)) bool call_push(FixedBoost &queue, uint64_t value) { return queue.push(value); }
+__attribute__((noinline)) std::optional<uint64_t> call_pop(FixedBoost &queue) {
+    uint64_t popped;
+    if (!queue.pop(popped)) return std::nullopt;
+    return popped;
+}
+
+__attribute__((noinline)) Answer call_step_push(Stored &queue) { return queue.step_push(); }
+__attribute__((noinline)) Answer call_step_pop(Stored &queue) { return queue.step_pop(); }
+
+template <class Q> uint64_t push_and_pop_by_calls(Q &&queue, uint64_t rounds) {
+    return push_and_pop(rounds, [&](uint64_t value) { call_push(queue, value); }, [&] { return call_pop(queue); });
+}
+
+// Whole calls on the words of a queue in which half as many wait as may.
+uint64_t whole_calls(uint64_t capacity, uint64_t rounds) {
+    Words words(false, capacity);
+    return push_and_pop(rounds, [&](uint64_t value) { words.pushed(value); }, [&] { return words.pop(); }, capacity / 2);
+}
+uint64_t overflowing_whole_calls(uint64_t capacity, uint64_t rounds) {
+    return push_and_pop(Words(true, capacity), rounds, capacity / 2);
+}
 
 uint64_t bits(size_t capacity, uint64_t rounds) {
     Bits set(capacity);
@@ -311,7 +474,7 @@ uint64_t twin_boost_spsc_queue(uint64_t rounds) {
     return boost_push_and_pop(boost::lockfree::spsc_queue<uint64_t>(128), rounds);
 }
 uint64_t twin_boost_fixed_spsc_queue(uint64_t rounds) {
-    return boost_push_and_pop(boost::lockfree::spsc_queue<uint64_t, boost::lockfree::capacity<128>>(), rounds);
+    return boost_push_and_pop(FixedBoost(), rounds);
 }
 uint64_t twin_ring(uint64_t rounds) { return push_and_pop(Ring(128), rounds); }
 uint64_t twin_ring_empty(uint64_t rounds) { return push_and_pop(Ring(128), rounds, 0); }
@@ -323,14 +486,31 @@ uint64_t twin_boost_last_cell(uint64_t rounds) {
     return boost_push_and_pop(boost::lockfree::spsc_queue<uint64_t>(128), rounds, 127);
 }
 uint64_t twin_positions(uint64_t rounds) { return push_and_pop(Positions(128), rounds); }
+uint64_t twin_any_ring(uint64_t capacity, uint64_t rounds) { return push_and_pop(Ring(capacity), rounds, capacity / 2); }
+uint64_t twin_any_positions(uint64_t capacity, uint64_t rounds) {
+    return push_and_pop(Positions(capacity), rounds, capacity / 2);
+}
+uint64_t twin_any_boost(uint64_t capacity, uint64_t rounds) {
+    return boost_push_and_pop(boost::lockfree::spsc_queue<uint64_t>(capacity), rounds, capacity / 2);
+}
 uint64_t twin_optional_ring(uint64_t rounds) { return push_and_pop(RingOf<std::optional<uint64_t>>(128), rounds); }
 uint64_t twin_overflowing_ring(uint64_t rounds) { return push_and_pop(Overflowing(128), rounds); }
 uint64_t twin_overflowing_ring_full(uint64_t rounds) { return push_over(Overflowing(128), rounds); }
 uint64_t twin_sofi(uint64_t rounds) { return push_and_pop(SoFi(128), rounds); }
 uint64_t twin_sofi_full(uint64_t rounds) { return push_over(SoFi(128), rounds); }
 uint64_t twin_ring_by_calls(uint64_t rounds) {
-    Ring ring(128);
-    return push_and_pop(rounds, [&](uint64_t value) { call_push(ring, value); }, [&] { return call_pop(ring); });
+    return push_and_pop_by_calls(Ring(128), rounds);
+}
+uint64_t twin_fixed_ring_by_calls(uint64_t rounds) { return push_and_pop_by_calls(FixedRing(), rounds); }
+uint64_t twin_fixed_boost_by_calls(uint64_t rounds) { return push_and_pop_by_calls(FixedBoost(), rounds); }
+uint64_t twin_whole_calls(uint64_t capacity, uint64_t rounds) { return whole_calls(capacity, rounds); }
+uint64_t twin_fixed_whole_calls(uint64_t rounds) { return whole_calls(128, rounds); }
+uint64_t twin_overflowing_whole_calls(uint64_t capacity, uint64_t rounds) {
+    return overflowing_whole_calls(capacity, rounds);
+}
+uint64_t twin_fixed_overflowing_whole_calls(uint64_t rounds) { return overflowing_whole_calls(127, rounds); }
+uint64_t twin_evicting_whole_calls(uint64_t capacity, uint64_t rounds) {
+    return push_over(Words(true, capacity), rounds, capacity);
 }
 uint64_t twin_stack(uint64_t rounds) {
     Stack set(128);
@@ -413,26 +593,43 @@ uint64_t twin_counting_bit_set_all(uint64_t rounds) {
     return sum;
 }
 uint64_t twin_queue_machine(uint64_t rounds) {
-    Steps machine(128);
-    uint64_t sum = 0, answer = 0;
+    Machine machine(false, 128);
+    uint64_t sum = 0;
     for (uint64_t value = 0; value < rounds; ++value) {
         if (!machine.begin(0, At::PushLoadsWrite, value)) return 0;
-        for (int i = 0; i < 4; ++i) if (machine.step(0, answer) == 3) return 0;
+        for (int i = 0; i < 4; ++i) if (machine.step(0).says == Says::Refused) return 0;
         if (!machine.begin(1, At::PopLoadsRead, 0)) return 0;
-        for (int i = 0; i < 4; ++i) if (machine.step(1, answer) == 2) sum += answer;
+        for (int i = 0; i < 4; ++i) {
+            Answer answer = machine.step(1);
+            if (answer.says == Says::Gives) sum += answer.value;
+        }
+    }
+    return sum;
+}
+uint64_t twin_cell_machine(uint64_t rounds) {
+    CellMachine<2> machine(128);
+    uint64_t sum = 0;
+    for (uint64_t value = 0; value < rounds; ++value) {
+        if (!machine.begin(0, At::PushLoadsWrite, {value, 0})) return 0;
+        for (int i = 0; i < 5; ++i) if (machine.step(0).says == Says::Refused) return 0;
+        if (!machine.begin(1, At::PopLoadsRead, {})) return 0;
+        for (int i = 0; i < 5; ++i) {
+            auto said = machine.step(1);
+            if (said.says == Says::Gives) sum += said.value[0];
+        }
     }
     return sum;
 }
 uint64_t twin_stored_steps(uint64_t rounds) {
-    StoredQueue queue(128);
+    Stored queue(false, 128);
     uint64_t sum = 0;
     for (uint64_t value = 0; value < rounds; ++value) {
         if (!queue.begin(queue.pusher, At::PushLoadsWrite, value)) return 0;
-        for (int i = 0; i < 4; ++i) if (call_step_push(queue).kind == 2) return 0;
+        for (int i = 0; i < 4; ++i) if (call_step_push(queue).says == Says::Gives) return 0;
         if (!queue.begin(queue.popper, At::PopLoadsRead, 0)) return 0;
         for (int i = 0; i < 4; ++i) {
             Answer answer = call_step_pop(queue);
-            if (answer.kind == 2) sum += answer.value;
+            if (answer.says == Says::Gives) sum += answer.value;
         }
     }
     return sum;
