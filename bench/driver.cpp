@@ -1,5 +1,5 @@
-// Runs one row: driver NAME ROUNDS CAPACITY. It prints the sum and the nanoseconds a round. The capacity is that of the rows that are
-// told it as the program runs. With no name it prints the names.
+// Runs one row: driver NAME ROUNDS CAPACITY. It prints the sum and the nanoseconds a round. The capacity is for the
+// rows that are told theirs as the program runs. With no name it prints the names.
 #include <chrono>
 #include <cstdint>
 #include <cstdio>
@@ -9,6 +9,7 @@
 #define ROWS(ROW) \
     ROW(iox_index_queue) ROW(iox_index_queue_empty) ROW(iox_index_queue_last_cell) ROW(iox_fixed_index_queue) \
     ROW(iox_index_queue_by_calls) ROW(iox_fixed_index_queue_by_calls) ROW(iox_overflowing_queue) \
+    ROW(iox_overflowing_queue_empty) ROW(iox_overflowing_queue_last_cell) \
     ROW(iox_overflowing_queue_full) ROW(iox_value_queue) ROW(iox_unique_index_set) \
     ROW(iox_unique_index_option) ROW(iox_unique_index_window) ROW(iox_unique_index_pair) \
     ROW(iox_robust_unique_index_set) ROW(iox_bit_set) ROW(iox_large_bit_set) ROW(iox_bit_set_all) \
@@ -18,6 +19,7 @@
     ROW(twin_ring) ROW(twin_ring_empty) ROW(twin_ring_last_cell) ROW(twin_positions) ROW(twin_ring_by_calls) \
     ROW(twin_fixed_ring_by_calls) ROW(twin_fixed_boost_by_calls) \
     ROW(twin_optional_ring) ROW(twin_overflowing_ring) ROW(twin_overflowing_ring_full) ROW(twin_sofi) \
+    ROW(twin_overflowing_ring_empty) ROW(twin_overflowing_ring_last_cell) \
     ROW(twin_sofi_full) ROW(twin_stack) ROW(twin_stack_window) ROW(twin_stack_pair) \
     ROW(twin_owners) ROW(twin_bit_set) ROW(twin_large_bit_set) ROW(twin_bit_set_all) \
     ROW(twin_counting_bit_set_all) ROW(twin_fixed_whole_calls) ROW(twin_fixed_overflowing_whole_calls) \

@@ -394,7 +394,8 @@ template <size_t WIDTH> struct CellMachine {
 };
 
 // A push and a pop a round, at a queue in which so many wait.
-template <class Push, class Pop> uint64_t push_and_pop(uint64_t rounds, Push push, Pop pop, uint64_t waiting = 64) {
+template <class Push, class Pop>
+__attribute__((always_inline)) inline uint64_t push_and_pop(uint64_t rounds, Push push, Pop pop, uint64_t waiting = 64) {
     for (uint64_t value = 0; value < waiting; ++value) push(value);
     uint64_t sum = 0;
     for (uint64_t value = 0; value < rounds; ++value) {
@@ -404,7 +405,8 @@ template <class Push, class Pop> uint64_t push_and_pop(uint64_t rounds, Push pus
     return sum;
 }
 
-template <class Q> uint64_t push_and_pop(Q &&queue, uint64_t rounds, uint64_t waiting = 64) {
+template <class Q>
+__attribute__((always_inline)) inline uint64_t push_and_pop(Q &&queue, uint64_t rounds, uint64_t waiting = 64) {
     return push_and_pop(rounds, [&](uint64_t value) { queue.push(value); }, [&] { return queue.pop(); }, waiting);
 }
 
@@ -447,11 +449,11 @@ template <class Q> uint64_t push_and_pop_by_calls(Q &&queue, uint64_t rounds) {
 }
 
 // Whole calls on the words of a queue in which half as many wait as may.
-uint64_t whole_calls(uint64_t capacity, uint64_t rounds) {
+__attribute__((always_inline)) inline uint64_t whole_calls(uint64_t capacity, uint64_t rounds) {
     Words words(false, capacity);
     return push_and_pop(rounds, [&](uint64_t value) { words.pushed(value); }, [&] { return words.pop(); }, capacity / 2);
 }
-uint64_t overflowing_whole_calls(uint64_t capacity, uint64_t rounds) {
+__attribute__((always_inline)) inline uint64_t overflowing_whole_calls(uint64_t capacity, uint64_t rounds) {
     return push_and_pop(Words(true, capacity), rounds, capacity / 2);
 }
 
@@ -495,6 +497,8 @@ uint64_t twin_any_boost(uint64_t capacity, uint64_t rounds) {
 }
 uint64_t twin_optional_ring(uint64_t rounds) { return push_and_pop(RingOf<std::optional<uint64_t>>(128), rounds); }
 uint64_t twin_overflowing_ring(uint64_t rounds) { return push_and_pop(Overflowing(128), rounds); }
+uint64_t twin_overflowing_ring_empty(uint64_t rounds) { return push_and_pop(Overflowing(128), rounds, 0); }
+uint64_t twin_overflowing_ring_last_cell(uint64_t rounds) { return push_and_pop(Overflowing(128), rounds, 127); }
 uint64_t twin_overflowing_ring_full(uint64_t rounds) { return push_over(Overflowing(128), rounds); }
 uint64_t twin_sofi(uint64_t rounds) { return push_and_pop(SoFi(128), rounds); }
 uint64_t twin_sofi_full(uint64_t rounds) { return push_over(SoFi(128), rounds); }
