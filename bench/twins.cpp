@@ -70,8 +70,8 @@ struct Positions {
     }
 };
 
-// A ring of two atomic positions and `%`, with one cell more than its capacity, as SoFi of iceoryx. It is to be used by
-// two threads, as the queues of the other twins, but for boost's, and of the rows are not. It lacks a last position.
+// A ring of two atomic positions and `%`, with one cell more than its capacity, as SoFi of iceoryx. Like boost's queue it
+// serves two threads, which the rows and the other twins do not. It lacks a last position.
 struct SoFi {
     std::vector<uint64_t> cells;
     std::atomic<uint64_t> write{0};
@@ -189,7 +189,8 @@ struct Site {
     bool is_full(uint64_t read, uint64_t write) const { return write - read >= capacity; }
 };
 
-// Whole calls on the words of a queue. They lack nothing that the Rattle calls do.
+// Whole calls on the words of a queue, of either kind, with its last position. They lack the exchange by which an
+// overflowing queue moves its read position (nobody comes between), and looks.
 struct Words {
     std::vector<uint64_t> words;
     Site site;
