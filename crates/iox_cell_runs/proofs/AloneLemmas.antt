@@ -1,8 +1,8 @@
 -- One access of a call that its party plays alone: it goes on or is the last.
-use Rattle.std.proofs.Common.{◌≡◌, ℕ, suc, ◌+◌, ◌≤◌, List, length, get_or, refl, sym, ◌∙◌, arith}
+use Rattle.std.proofs.Common.{◌≡◌, ℕ, suc, ◌+◌, ◌≤◌, List, length, get_or, refl, ◌∙◌, arith}
 use Rattle.iox_words.specs.declared.word_list.Words.{Ghosts}
 use Rattle.iox_steps.specs.declared.access.Progress.TheVariants.{Going, Done}
-use Rattle.iox_steps.specs.Accesses.{IsWithin, seen_by, words_after}
+use Rattle.iox_steps.specs.Accesses.{IsWithin, seen_by, words_after, KeepsOutside}
 use Rattle.iox_steps.proofs.AccessLemmas.{reads_after, length-words_after, outside, within_wider}
 use Rattle.iox_cell_steps.specs.declared.place.Place.{Place}
 use Rattle.iox_cell_steps.specs.declared.moment.CellReply.{CellReply}
@@ -18,7 +18,7 @@ use Rattle.iox_cell_queues.specs.declared.queue.CellSeat.{CellSeat}
 use Rattle.iox_cell_queues.specs.declared.queue.CellSeat.TheVariants.{Pusher, Popper}
 use Rattle.iox_cell_queues.specs.CellSeatings.{seat_access, seat_after, seat_progress, seat_moment}
 use Rattle.iox_cell_queues.specs.CellMachines.{SeatsShow}
-use Rattle.iox_cell_runs.specs.Alone.{EndsAfter, KeepsOutside}
+use Rattle.iox_cell_runs.specs.Alone.{EndsAfter}
 
 module _ {A : Type 0} (width : ℕ) (W : Ghosts A) (place : Place) where
   -- the words are those of this line, and no seat but this is in a call
@@ -34,7 +34,7 @@ module _ {A : Type 0} (width : ℕ) (W : Ghosts A) (place : Place) where
     pub within : IsWithin place.base (size place) (seat_access W.words place seat)
     pub shows : ShowsAlone (words_after (seat_access W.words place seat) list) (seat_after W.of_words place seat (seen_by (seat_access W.words place seat) (λ at. get_or list at 0))) (line_after (seat_moment W.of_words place seat (seen_by (seat_access W.words place seat) (λ at. get_or list at 0))) line)
     pub room : place.base + size place ≤ length (words_after (seat_access W.words place seat) list)
-    pub outside : KeepsOutside place list (words_after (seat_access W.words place seat) list)
+    pub outside : KeepsOutside place.base (size place) list (words_after (seat_access W.words place seat) list)
 
   pub step_alone : (list : List ℕ) (seat : CellSeat A width) (line : CellLine A) → place.base + size place ≤ length list → ShowsAlone list seat line → Step list seat line
   step_alone list (Pusher pushes) line room shows =
@@ -66,7 +66,7 @@ module _ {A : Type 0} (width : ℕ) (W : Ghosts A) (place : Place) where
     pub ends : EndsAfter W accesses place list seat reply after
     pub shows : ShowsAtRest after line
     pub room : place.base + size place ≤ length after
-    pub outside : KeepsOutside place list after
+    pub outside : KeepsOutside place.base (size place) list after
 
   module _ (list : List ℕ) (seat : CellSeat A width) (line : CellLine A) (room : place.base + size place ≤ length list) (shows : ShowsAlone list seat line) where
     -- the access goes on

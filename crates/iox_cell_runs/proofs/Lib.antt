@@ -4,3 +4,4 @@ pub mod FinishLemmas
 pub mod PushChains
 pub mod PopChains
 pub mod WholeLemmas
+pub mod ApartLemmas

@@ -1,5 +1,5 @@
 -- A push, and a look at fullness, that are played alone.
-use Rattle.std.proofs.Common.{◌≡◌, ◌↔◌, ℕ, zero, suc, ◌+◌, ◌-◌, ◌≤◌, ◌^◌, ◌<◌, ◌++◌, List, [], ◌∷◌, length, get_or, refl, sym, ap, arith, inl, inr, eqb, true, false, nat_le}
+use Rattle.std.proofs.Common.{◌≡◌, ℕ, zero, suc, ◌+◌, ◌-◌, ◌≤◌, ◌^◌, ◌++◌, List, [], ◌∷◌, length, get_or, refl, sym, ap, arith, inl, inr, Bool, eqb, true, false, nat_le}
 use Rattle.std.proofs.lemmas.Bool.{cases_Bool, false≢true, le-ltb, lt-ltb, le-leb, lt-leb, leb-true, leb-false, eqb-true, eqb-false}
 use Rattle.iox_words.specs.declared.word_list.Words.{Ghosts}
 use Rattle.iox_queues.specs.BoundedQueues.{BoundedQueueOf, is_spent, is_full}
@@ -29,11 +29,11 @@ queue place write waiting = record { capacity = place.capacity; waiting = waitin
 
 -- how a push ends
 pub record PushEnds {A : Type 0} (width : ℕ) (W : Ghosts A) (place : Place) (list : List ℕ) (value : A) (write : ℕ) (waiting : List A) : Type 0 where
-  pub reply : CellReply A
+  pub room : Bool
   pub write' : ℕ
   pub waiting' : List A
-  pub ended : Ended width W place list (Pusher (pushing.Pushes (push.LoadsWrite value))) (push_accesses place.width (queue place write waiting)) reply (line write' waiting')
-  pub pushes : Pushes (queue place write waiting) value reply (queue place write' waiting')
+  pub ended : Ended width W place list (Pusher (pushing.Pushes (push.LoadsWrite value))) (push_accesses place.width (queue place write waiting)) (Pushed room) (line write' waiting')
+  pub pushes : Pushes (queue place write waiting) value room (queue place write' waiting')
 
 module _ {A : Type 0} (width : ℕ) (W : Ghosts A) (place : Place) where
   -- inside a push
@@ -118,7 +118,7 @@ module _ {A : Type 0} (width : ℕ) (W : Ghosts A) (place : Place) where
       pub push_ends : PushEnds width W place list value write waiting
       push_ends = elim (cases_Bool (eqb write last_position)) [
         | inl last ↦ record {
-          reply = Pushed false;
+          room = false;
           write' = write;
           waiting' = waiting;
           ended = rw (spent last) (ends_at_end last);
@@ -126,14 +126,14 @@ module _ {A : Type 0} (width : ℕ) (W : Ghosts A) (place : Place) where
         }
         | inr on ↦ elim (cases_Bool (nat_le place.capacity (length waiting))) [
           | inl many ↦ record {
-            reply = Pushed false;
+            room = false;
             write' = write;
             waiting' = waiting;
             ended = rw (not_spent on, full many) (ends_when_full on many);
             pushes = ((λ is. absurd (false≢true is), λ has. absurd (omega (arith, has.0, leb-true _ _ many))), tt, refl);
           }
           | inr few ↦ record {
-            reply = Pushed true;
+            room = true;
             write' = write + 1;
             waiting' = waiting ++ value ∷ [];
             ended = rw (not_spent on, not_full few) (ends_pushed on few);

@@ -1,24 +1,39 @@
 -- What whole calls answer and leave, for those who know that they end.
-use Rattle.std.proofs.Common.{◌≡◌, ◌↔◌, ℕ, ◌+◌, ◌*◌, ◌-◌, ◌^◌, ◌<◌, ◌≤◌, List, [], ◌∷◌, length, drop, get_or, refl, sym, ap, arith, subst, inl, inr, nat_le, IsTrue, ◌∙◌}
+use Rattle.std.proofs.Common.{◌≡◌, ◌↔◌, ℕ, ◌+◌, ◌<◌, ◌≤◌, List, [], ◌∷◌, length, drop, get_or, refl, sym, ap, arith, subst, inl, inr, nat_le, Bool, IsTrue, true, Option, None, ◌∙◌}
 use Rattle.std.proofs.Math.Nat.{mul-le-mul_right}
 use Rattle.std.proofs.lemmas.Bool.{cases_Bool, cases_lt, leb-true, le-leb, lt-ltb, le-ltb, false≢true}
 use Rattle.iox_words.specs.declared.word_list.Words.{Ghosts}
 use Rattle.iox_words.specs.WordLists.{AreWords}
-use Rattle.iox_queues.specs.BoundedQueues.{BoundedQueueOf, first, is_spent, is_full}
+use Rattle.iox_queues.specs.BoundedQueues.{first, is_spent}
 use Rattle.iox_cell_steps.specs.declared.place.Place.{Place}
 use Rattle.iox_cell_steps.specs.declared.moment.CellReply.{CellReply}
-use Rattle.iox_cell_steps.specs.declared.moment.CellReply.TheVariants.{Full, Popped, Empty}
+use Rattle.iox_cell_steps.specs.declared.moment.CellReply.TheVariants.{Pushed, Full, Popped, Empty}
 use Rattle.iox_cell_steps.specs.Cells.{size}
+use Rattle.iox_steps.specs.Accesses.{KeepsOutside}
 use Rattle.iox_cell_steps.specs.CellFits.{IsWhole}
 use Rattle.iox_cell_steps.specs.CellRuns.{CellLine}
 use Rattle.iox_cell_queues.specs.declared.queue.CellSeat.{CellSeat}
 use Rattle.iox_cell_runs.specs.Lists.{values, queue_at, line_at, HoldsQueue}
-use Rattle.iox_cell_runs.specs.Alone.{EndsAfter, EndsWithin, IsEndOf, KeepsOutside, pusher, popper, full_looker, empty_looker}
+use Rattle.iox_cell_runs.specs.Alone.{EndsAfter, EndsWithin, IsEndOf, pusher, popper, full_looker, empty_looker}
+use Rattle.iox_cell_runs.specs.Replies.{IsOfPush, IsOfFullLook, IsOfPop, IsOfEmptyLook}
 use Rattle.iox_cell_runs.specs.Calls.{Pushes, Pops, LooksFull, LooksEmpty, push_accesses, pop_accesses}
 use Rattle.iox_cell_runs.proofs.ValueLemmas.{waiting_is_values}
 use Rattle.iox_cell_runs.proofs.AloneLemmas.{Ended, ShowsAtRest}
 use Rattle.iox_cell_runs.proofs.PushChains.{line, queue, PushEnds, push_ends, full_look_ends}
 use Rattle.iox_cell_runs.proofs.PopChains.{is_nil, pop_ends, pop_ends_empty, empty_look_ends}
+
+-- what a reply says, of whichever call it is
+abbrev said : {A : Type 0} → CellReply A → Bool
+said (Pushed room) = room
+said (Full full) = full
+said (Popped out) = true
+said (Empty empty) = empty
+
+abbrev given : {A : Type 0} → CellReply A → Option A
+given (Popped out) = out
+given (Pushed room) = None
+given (Full full) = None
+given (Empty empty) = None
 
 module _ {A : Type 0} (width : ℕ) (W : Ghosts A) (place : Place) (list : List ℕ) where
   -- a call that was played to its end
@@ -27,7 +42,7 @@ module _ {A : Type 0} (width : ℕ) (W : Ghosts A) (place : Place) (list : List 
     pub ends : EndsAfter W accesses place list seat result new
     pub leaves : line' ≡ line_at W place new
     pub holds : HoldsQueue W place new
-    pub outside : KeepsOutside place list new
+    pub outside : KeepsOutside place.base (size place) list new
 
   played : (seat : CellSeat A width) (accesses : ℕ) (reply : CellReply A) (line' : CellLine A) (result : CellReply A) (new : List ℕ) → Ended width W place list seat accesses reply line' → IsEndOf W place list seat result new
       → Played seat accesses reply line' result new
@@ -74,18 +89,22 @@ module _ {A : Type 0} (width : ℕ) (W : Ghosts A) (place : Place) (list : List 
       pub push_soon : (most : ℕ) → size place + 1 ≤ most → EndsWithin {width = width} W most place list (pusher value)
       push_soon most memory = soon most _ _ _ _ (omega (arith, few_pushes)) push_is.ended
 
-      pub record Pushed (result : CellReply A) (new : List ℕ) : Type 0 where
-        pub queue : Pushes (queue_at W place list) value result (queue_at W place new)
-        pub accesses : EndsAfter {width = width} W (push_accesses place.width (queue_at W place list)) place list (pusher value) result new
-        pub holds : HoldsQueue W place new
-        pub outside : KeepsOutside place list new
+      pub push_says : (reply : CellReply A) (new : List ℕ) → IsEndOf {width = width} W place list (pusher value) reply new → IsOfPush reply
+      push_says reply new is_end = rw (played _ _ _ _ reply new push_is.ended is_end).answers tt
 
-      pub pushed : (result : CellReply A) (new : List ℕ) → IsEndOf {width = width} W place list (pusher value) result new → Pushed result new
-      pushed result new is_end =
-          let did = played _ _ _ _ result new push_is.ended is_end in
+      pub record Pushes_it (room : Bool) (new : List ℕ) : Type 0 where
+        pub queue : Pushes (queue_at W place list) value room (queue_at W place new)
+        pub accesses : EndsAfter {width = width} W (push_accesses place.width (queue_at W place list)) place list (pusher value) (Pushed room) new
+        pub holds : HoldsQueue W place new
+        pub outside : KeepsOutside place.base (size place) list new
+
+      pub pushed : (reply : CellReply A) (room : Bool) (new : List ℕ) → IsEndOf {width = width} W place list (pusher value) reply new → reply ≡ Pushed room → Pushes_it room new
+      pushed reply room new is_end is =
+          let did = played _ _ _ _ reply new push_is.ended is_end in
+          let same : room ≡ push_is.room = ap said (sym is ∙ did.answers) in
           record {
-            queue = rw did.answers (subst (λ (l : CellLine A). Pushes (queue_at W place list) value push_is.reply (queue place l.write l.waiting)) did.leaves push_is.pushes);
-            accesses = did.ends;
+            queue = rw same (subst (λ (l : CellLine A). Pushes (queue_at W place list) value push_is.room (queue place l.write l.waiting)) did.leaves push_is.pushes);
+            accesses = rw is at did.ends;
             holds = did.holds;
             outside = did.outside;
           }
@@ -98,18 +117,21 @@ module _ {A : Type 0} (width : ℕ) (W : Ghosts A) (place : Place) (list : List 
     pub pop_soon : (most : ℕ) → size place + 1 ≤ most → EndsWithin W most place list (popper A width)
     pop_soon most memory = soon most _ _ _ _ (omega (arith, few_pops (values W place list) held.2.bounded)) (pop_is (values W place list) rests_here)
 
-    pub record Taken (result : CellReply A) (new : List ℕ) : Type 0 where
-      pub queue : Pops (queue_at W place list) result (queue_at W place new)
-      pub accesses : EndsAfter W (pop_accesses place.width (values W place list)) place list (popper A width) result new
-      pub holds : HoldsQueue W place new
-      pub outside : KeepsOutside place list new
+    pub pop_says : (reply : CellReply A) (new : List ℕ) → IsEndOf W place list (popper A width) reply new → IsOfPop reply
+    pop_says reply new is_end = rw (played _ _ _ _ reply new (pop_is (values W place list) rests_here) is_end).answers tt
 
-    pub popped : (result : CellReply A) (new : List ℕ) → IsEndOf W place list (popper A width) result new → Taken result new
-    popped result new is_end =
-        let did = played _ _ _ _ result new (pop_is (values W place list) rests_here) is_end in
+    pub record Taken (out : Option A) (new : List ℕ) : Type 0 where
+      pub queue : Pops (queue_at W place list) out (queue_at W place new)
+      pub accesses : EndsAfter W (pop_accesses place.width (values W place list)) place list (popper A width) (Popped out) new
+      pub holds : HoldsQueue W place new
+      pub outside : KeepsOutside place.base (size place) list new
+
+    pub popped : (reply : CellReply A) (out : Option A) (new : List ℕ) → IsEndOf W place list (popper A width) reply new → reply ≡ Popped out → Taken out new
+    popped reply out new is_end is =
+        let did = played _ _ _ _ reply new (pop_is (values W place list) rests_here) is_end in
         record {
-          queue = (did.answers, ap (λ (l : CellLine A). queue place l.write l.waiting) (sym did.leaves));
-          accesses = did.ends;
+          queue = (ap given (sym is ∙ did.answers), ap (λ (l : CellLine A). queue place l.write l.waiting) (sym did.leaves));
+          accesses = rw is at did.ends;
           holds = did.holds;
           outside = did.outside;
         }
@@ -126,18 +148,24 @@ module _ {A : Type 0} (width : ℕ) (W : Ghosts A) (place : Place) (list : List 
     pub empty_soon : (most : ℕ) → 2 ≤ most → EndsWithin W most place list (empty_looker A width)
     empty_soon most memory = soon most _ _ _ _ memory empty_is
 
-    pub record Looked (seat : CellSeat A width) (Answers : CellReply A → Type 0) (result : CellReply A) (new : List ℕ) : Type 0 where
-      pub queue : Answers result
-      pub accesses : EndsAfter W 2 place list seat result new
+    -- a look that ended with this reply
+    pub record Looked (seat : CellSeat A width) (Answers : Type 0) (reply : CellReply A) (new : List ℕ) : Type 0 where
+      pub queue : Answers
+      pub accesses : EndsAfter W 2 place list seat reply new
       pub unchanged : new ≡ list
 
-    pub looked_full : (result : CellReply A) (new : List ℕ) → IsEndOf W place list (full_looker A width) result new → Looked (full_looker A width) (LooksFull (queue_at W place list)) result new
-    looked_full result new is_end =
-        let did = played _ _ _ _ result new full_is is_end in
+    pub full_says : (reply : CellReply A) (new : List ℕ) → IsEndOf W place list (full_looker A width) reply new → IsOfFullLook reply
+    full_says reply new is_end = rw (played _ _ _ _ reply new full_is is_end).answers tt
+
+    pub looked_full : (reply : CellReply A) (full : Bool) (new : List ℕ) → IsEndOf W place list (full_looker A width) reply new → reply ≡ Full full
+        → Looked (full_looker A width) (LooksFull (queue_at W place list) full) (Full full) new
+    looked_full reply full new is_end is =
+        let did = played _ _ _ _ reply new full_is is_end in
         let bounded = held.2.bounded in
+        let same : full ≡ nat_le place.capacity (length (values W place list)) = ap said (sym is ∙ did.answers) in
         record {
-          queue = rw did.answers (λ is. omega (arith, leb-true _ _ is), λ many. le-leb _ _ (omega arith));
-          accesses = did.ends;
+          queue = rw same (λ is. omega (arith, leb-true _ _ is), λ many. le-leb _ _ (omega arith));
+          accesses = rw is at did.ends;
           unchanged = did.ends.1.1.2;
         }
 
@@ -145,12 +173,17 @@ module _ {A : Type 0} (width : ℕ) (W : Ghosts A) (place : Place) (list : List 
     nil [] = (λ is. refl, λ is. refl)
     nil (oldest ∷ others) = (λ is. absurd (false≢true is), λ is. absurd (omega (arith, ap (λ (l : List A). length l) is)))
 
-    pub looked_empty : (result : CellReply A) (new : List ℕ) → IsEndOf W place list (empty_looker A width) result new → Looked (empty_looker A width) (LooksEmpty (queue_at W place list)) result new
-    looked_empty result new is_end =
-        let did = played _ _ _ _ result new empty_is is_end in
+    pub empty_says : (reply : CellReply A) (new : List ℕ) → IsEndOf W place list (empty_looker A width) reply new → IsOfEmptyLook reply
+    empty_says reply new is_end = rw (played _ _ _ _ reply new empty_is is_end).answers tt
+
+    pub looked_empty : (reply : CellReply A) (empty : Bool) (new : List ℕ) → IsEndOf W place list (empty_looker A width) reply new → reply ≡ Empty empty
+        → Looked (empty_looker A width) (LooksEmpty (queue_at W place list) empty) (Empty empty) new
+    looked_empty reply empty new is_end is =
+        let did = played _ _ _ _ reply new empty_is is_end in
+        let same : empty ≡ is_nil (values W place list) = ap said (sym is ∙ did.answers) in
         record {
-          queue = rw did.answers (nil (values W place list));
-          accesses = did.ends;
+          queue = rw same (nil (values W place list));
+          accesses = rw is at did.ends;
           unchanged = did.ends.1.1.2;
         }
 

@@ -1,11 +1,10 @@
 -- A call that its party plays to its end, with nobody between its accesses.
-use Rattle.std.specs.Prelude.{◌≡◌, ℕ, zero, suc, ◌+◌, ◌≤◌, ◌<◌, ◌⊎◌, List, length, slice_index}
+use Rattle.std.specs.Prelude.{◌≡◌, ℕ, zero, suc, ◌≤◌, List, slice_index}
 use Rattle.iox_words.specs.declared.word_list.Words.{Ghosts}
-use Rattle.iox_steps.specs.declared.access.Progress.{Progress}
-use Rattle.iox_steps.specs.declared.access.Progress.TheVariants.{Going, Done}
 use Rattle.iox_steps.specs.declared.push.FullLook.TheVariants as full_look
 use Rattle.iox_steps.specs.declared.pop.EmptyLook.TheVariants as empty_look
 use Rattle.iox_steps.specs.Accesses.{IsWithin, seen_by, words_after}
+use Rattle.iox_steps.specs.Answers.{OnProgress}
 use Rattle.iox_cell_steps.specs.declared.place.Place.{Place}
 use Rattle.iox_cell_steps.specs.declared.push.CellPush.TheVariants as push
 use Rattle.iox_cell_steps.specs.declared.pop.CellPop.TheVariants as pop
@@ -16,10 +15,6 @@ use Rattle.iox_cell_steps.specs.Cells.{size}
 use Rattle.iox_cell_queues.specs.declared.queue.CellSeat.{CellSeat}
 use Rattle.iox_cell_queues.specs.declared.queue.CellSeat.TheVariants.{Pusher, Popper}
 use Rattle.iox_cell_queues.specs.CellSeatings.{seat_access, seat_after, seat_progress}
-
-abbrev pub OnProgress : {R : Type 0} → Progress R → Type 0 → (R → Type 0) → Type 0
-OnProgress Going going done = going
-OnProgress (Done reply) going done = done reply
 
 -- `W` has the words of the values
 module _ {A : Type 0} {width : ℕ} (W : Ghosts A) where
@@ -64,9 +59,3 @@ module _ (A : Type 0) (width : ℕ) where
 
   abbrev pub empty_looker : CellSeat A width
   empty_looker = Popper (popping.Looks empty_look.LoadsRead)
-
--- no word changed but those of the queue
-abbrev pub KeepsOutside : Place → List ℕ → List ℕ → Type 0
-KeepsOutside place list after = (length after ≡ length list)
-    × ((at : ℕ) → (at < place.base) ⊎ (place.base + size place ≤ at)
-    → slice_index after at ≡ slice_index list at)

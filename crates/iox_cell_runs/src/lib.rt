@@ -2,8 +2,11 @@
 //! answer and leave what the calls of the plain queue do.
 #![tactic(auto)]
 
+mod answer;
+mod law;
 mod whole;
 
+pub use law::queues_apart_stay;
 pub use whole::{holds_when_empty, is_empty, is_full, pop, push};
 
 #[cfg(test)]

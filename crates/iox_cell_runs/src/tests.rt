@@ -1,6 +1,6 @@
 //! Whole calls on the words of a queue of values of two words.
 use crate::{holds_when_empty, is_empty, is_full, pop, push};
-use iox_cell_steps::{CellReply, Place};
+use iox_cell_steps::Place;
 use iox_queues::spsc::queue::Queue;
 use std::alloc::Global;
 use std::test::Fail;
@@ -32,26 +32,18 @@ fn whole_calls_answer_as_the_plain_queue(rt: HostRuntime) -> Result<(), Fail> {
     };
     assert!(rt; words.len() == 8 && words[1] == words[2]);
     holds_when_empty::<u128>(&words, place);
-    assert!(rt;
-        push::<u128, 2>(&mut words, place, value(1)) == CellReply::Pushed(plain.push(&value(1)))
-    );
-    assert!(rt;
-        push::<u128, 2>(&mut words, place, value(2)) == CellReply::Pushed(plain.push(&value(2)))
-    );
-    assert!(rt;
-        push::<u128, 2>(&mut words, place, value(3)) == CellReply::Pushed(plain.push(&value(3)))
-    );
-    assert!(rt; is_full::<u128, 2>(&mut words, place) == CellReply::Full(plain.is_full()));
+    assert!(rt; push::<u128, 2>(&mut words, place, value(1)) == plain.push(&value(1)));
+    assert!(rt; push::<u128, 2>(&mut words, place, value(2)) == plain.push(&value(2)));
+    assert!(rt; push::<u128, 2>(&mut words, place, value(3)) == plain.push(&value(3)));
+    assert!(rt; is_full::<u128, 2>(&mut words, place) == plain.is_full());
     assert!(rt; words.len() == 8 && words[3] == 1 && words[4] == 5 && words[5] == 2);
-    assert!(rt; pop::<u128, 2>(&mut words, place) == CellReply::Popped(plain.pop()));
-    assert!(rt;
-        push::<u128, 2>(&mut words, place, value(4)) == CellReply::Pushed(plain.push(&value(4)))
-    );
-    assert!(rt; pop::<u128, 2>(&mut words, place) == CellReply::Popped(plain.pop()));
-    assert!(rt; is_empty::<u128, 2>(&mut words, place) == CellReply::Empty(plain.is_empty()));
-    assert!(rt; pop::<u128, 2>(&mut words, place) == CellReply::Popped(plain.pop()));
-    assert!(rt; pop::<u128, 2>(&mut words, place) == CellReply::Popped(plain.pop()));
-    assert!(rt; is_empty::<u128, 2>(&mut words, place) == CellReply::Empty(plain.is_empty()));
+    assert!(rt; pop::<u128, 2>(&mut words, place) == plain.pop());
+    assert!(rt; push::<u128, 2>(&mut words, place, value(4)) == plain.push(&value(4)));
+    assert!(rt; pop::<u128, 2>(&mut words, place) == plain.pop());
+    assert!(rt; is_empty::<u128, 2>(&mut words, place) == plain.is_empty());
+    assert!(rt; pop::<u128, 2>(&mut words, place) == plain.pop());
+    assert!(rt; pop::<u128, 2>(&mut words, place) == plain.pop());
+    assert!(rt; is_empty::<u128, 2>(&mut words, place) == plain.is_empty());
     assert!(rt; words.len() == 8 && words[0] == 77 && words[7] == 0 && words[1] == 3);
     Ok(())
 }
@@ -66,9 +58,9 @@ fn nothing_is_pushed_past_the_last_position(rt: HostRuntime) -> Result<(), Fail>
     };
     assert!(rt; words.len() == 8 && words[1] == words[2]);
     holds_when_empty::<u128>(&words, place);
-    assert!(rt; push::<u128, 2>(&mut words, place, value(5)) == CellReply::Pushed(true));
-    assert!(rt; push::<u128, 2>(&mut words, place, value(6)) == CellReply::Pushed(false));
-    assert!(rt; pop::<u128, 2>(&mut words, place) == CellReply::Popped(Some(value(5))));
-    assert!(rt; pop::<u128, 2>(&mut words, place) == CellReply::Popped(None));
+    assert!(rt; push::<u128, 2>(&mut words, place, value(5)));
+    assert!(rt; !push::<u128, 2>(&mut words, place, value(6)));
+    assert!(rt; pop::<u128, 2>(&mut words, place) == Some(value(5)));
+    assert!(rt; pop::<u128, 2>(&mut words, place) == None);
     Ok(())
 }

@@ -1,12 +1,15 @@
 //! Whole calls: a party begins, and nobody else makes an access until it ends.
 ghost use Rattle.std.specs.Prelude.{◌≡◌, ◌+◌, ◌-◌, ◌^◌, ◌<◌, ◌≤◌, [], length};
+ghost use Rattle.iox_steps.specs.Accesses.{KeepsOutside};
+ghost use Rattle.iox_cell_steps.specs.declared.moment.CellReply.TheVariants as reply;
 ghost use Rattle.iox_cell_steps.specs.Cells.{size};
 ghost use Rattle.iox_cell_queues.specs.CellQueues.{IsEmptyAt};
 ghost use Rattle.iox_cell_queues.specs.CellSizes.{PartyFits};
 ghost use Rattle.iox_cell_runs.specs.Lists.{values, queue_at, HoldsQueue};
-ghost use Rattle.iox_cell_runs.specs.Alone.{EndsAfter, EndsWithin, IsEndOf, KeepsOutside, full_looker, empty_looker};
+ghost use Rattle.iox_cell_runs.specs.Alone.{EndsAfter, EndsWithin, IsEndOf, full_looker, empty_looker};
 ghost use Rattle.iox_cell_runs.specs.Calls.{PushesAt, MakesPush, PopsAt, MakesPop, LooksFull, LooksEmpty};
 
+use crate::answer::{of_empty_look, of_full_look, of_pop, of_push};
 use iox_cell_queues::{CellParty, CellSeat};
 use iox_cell_steps::{CellPop, CellPopping, CellPush, CellPushing, CellReply, Place};
 use iox_steps::{EmptyLook, FullLook, Party, Progress, perform};
@@ -20,14 +23,10 @@ pub fn holds_when_empty<T: Words>(words: &Vec<u64>, place: Place)
     ensures waiting { values T.Words place words.now.items ≡ [] }
 {}
 
-/// A push, whose program makes two accesses where nothing is pushed, else three and one for each
-/// word.
+/// A push, which says whether there was room. Its program makes two accesses where nothing is
+/// pushed, else three and one for each word.
 #[inline]
-pub fn push<T: Words, const WIDTH: usize>(
-    words: &mut Vec<u64>,
-    place: Place,
-    value: T,
-) -> CellReply<T>
+pub fn push<T: Words, const WIDTH: usize>(words: &mut Vec<u64>, place: Place, value: T) -> bool
     requires holds { HoldsQueue T.Words place words.old.items }
     requires wide { place.width ≡ WIDTH }
     requires words { T.WORDS ≡ WIDTH }
@@ -35,54 +34,54 @@ pub fn push<T: Words, const WIDTH: usize>(
     ensures queue { PushesAt T.Words place words.old.items value result words.new.items }
     ensures accesses { MakesPush T.Words place words.old.items WIDTH value result words.new.items }
     ensures holds { HoldsQueue T.Words place words.new.items }
-    ensures outside { KeepsOutside place words.old.items words.new.items }
+    ensures outside { KeepsOutside place.base (size place) words.old.items words.new.items }
 {
     value.known();
     let seat = CellSeat::Pusher(CellPushing::Pushes(CellPush::LoadsWrite(value)));
-    finish(words, CellParty::<T, WIDTH> { place, seat })
+    of_push(finish(words, CellParty::<T, WIDTH> { place, seat }))
 }
 
 /// A look at fullness, whose program makes two accesses.
 #[inline]
-pub fn is_full<T: Words, const WIDTH: usize>(words: &mut Vec<u64>, place: Place) -> CellReply<T>
+pub fn is_full<T: Words, const WIDTH: usize>(words: &mut Vec<u64>, place: Place) -> bool
     requires holds { HoldsQueue T.Words place words.old.items }
     requires wide { place.width ≡ WIDTH }
     requires fits { PartyFits T.row WIDTH.row }
     ensures queue { LooksFull (queue_at T.Words place words.old.items) result }
-    ensures accesses { EndsAfter T.Words 2 place words.old.items (full_looker T WIDTH) result words.new.items }
+    ensures accesses { EndsAfter T.Words 2 place words.old.items (full_looker T WIDTH) (reply.Full result) words.new.items }
     ensures unchanged { words.new.items ≡ words.old.items }
 {
     let seat = CellSeat::Pusher(CellPushing::Looks(FullLook::LoadsWrite));
-    finish(words, CellParty::<T, WIDTH> { place, seat })
+    of_full_look(finish(words, CellParty::<T, WIDTH> { place, seat }))
 }
 
 /// A pop, whose program makes two accesses where nothing waits, else three and one for each word.
 #[inline]
-pub fn pop<T: Words, const WIDTH: usize>(words: &mut Vec<u64>, place: Place) -> CellReply<T>
+pub fn pop<T: Words, const WIDTH: usize>(words: &mut Vec<u64>, place: Place) -> Option<T>
     requires holds { HoldsQueue T.Words place words.old.items }
     requires wide { place.width ≡ WIDTH }
     requires fits { PartyFits T.row WIDTH.row }
     ensures queue { PopsAt T.Words place words.old.items result words.new.items }
     ensures accesses { MakesPop T.Words place words.old.items WIDTH result words.new.items }
     ensures holds { HoldsQueue T.Words place words.new.items }
-    ensures outside { KeepsOutside place words.old.items words.new.items }
+    ensures outside { KeepsOutside place.base (size place) words.old.items words.new.items }
 {
     let seat = CellSeat::Popper(CellPopping::Pops(CellPop::LoadsRead));
-    finish(words, CellParty::<T, WIDTH> { place, seat })
+    of_pop(finish(words, CellParty::<T, WIDTH> { place, seat }))
 }
 
 /// A look at emptiness, whose program makes two accesses.
 #[inline]
-pub fn is_empty<T: Words, const WIDTH: usize>(words: &mut Vec<u64>, place: Place) -> CellReply<T>
+pub fn is_empty<T: Words, const WIDTH: usize>(words: &mut Vec<u64>, place: Place) -> bool
     requires holds { HoldsQueue T.Words place words.old.items }
     requires wide { place.width ≡ WIDTH }
     requires fits { PartyFits T.row WIDTH.row }
     ensures queue { LooksEmpty (queue_at T.Words place words.old.items) result }
-    ensures accesses { EndsAfter T.Words 2 place words.old.items (empty_looker T WIDTH) result words.new.items }
+    ensures accesses { EndsAfter T.Words 2 place words.old.items (empty_looker T WIDTH) (reply.Empty result) words.new.items }
     ensures unchanged { words.new.items ≡ words.old.items }
 {
     let seat = CellSeat::Popper(CellPopping::Looks(EmptyLook::LoadsRead));
-    finish(words, CellParty::<T, WIDTH> { place, seat })
+    of_empty_look(finish(words, CellParty::<T, WIDTH> { place, seat }))
 }
 
 /// Makes the accesses of a call until it ends.

@@ -5,7 +5,7 @@ use Rattle.iox_steps.specs.declared.site.Site.{Site}
 use Rattle.iox_steps.specs.declared.seat.Reply.{Reply}
 use Rattle.iox_steps.specs.declared.seat.Pushing.TheVariants as pushing
 use Rattle.iox_steps.specs.declared.seat.Popping.TheVariants as popping
-use Rattle.iox_steps.specs.Accesses.{IsWithin, seen_by, words_after}
+use Rattle.iox_steps.specs.Accesses.{IsWithin, seen_by, words_after, KeepsOutside}
 use Rattle.iox_steps.specs.Sites.{size}
 use Rattle.iox_steps.specs.Moments.{IsTrueOf}
 use Rattle.iox_steps.specs.Runs.{Line, line_after}
@@ -17,7 +17,6 @@ use Rattle.iox_queue_steps.specs.declared.queue.Seat.TheVariants.{Pusher, Popper
 use Rattle.iox_queue_steps.specs.Queues.{seat_access, seat_after, seat_progress, seat_moment}
 use Rattle.iox_queue_steps.specs.Machines.{SeatsShow}
 use Rattle.iox_queue_runs.specs.Alone.{EndsAfter}
-use Rattle.iox_queue_runs.specs.Calls.{KeepsOutside}
 
 -- the words are those of this line, and no seat but this is in a call
 abbrev pub ShowsAlone : Site → List ℕ → Seat → Line → Type 0
@@ -35,7 +34,7 @@ pub record Step (site : Site) (words : List ℕ) (seat : Seat) (line : Line) : T
       (seat_after site seat (seen_by (seat_access site seat) (λ place. get_or words place 0)))
       (line_after (seat_moment site seat (seen_by (seat_access site seat) (λ place. get_or words place 0))) line)
   pub room : site.base + size site ≤ length (words_after (seat_access site seat) words)
-  pub outside : KeepsOutside site words (words_after (seat_access site seat) words)
+  pub outside : KeepsOutside site.base (size site) words (words_after (seat_access site seat) words)
 
 pub step_alone : (site : Site) (words : List ℕ) (seat : Seat) (line : Line) → site.base + size site ≤ length words → ShowsAlone site words seat line
     → Step site words seat line
@@ -70,7 +69,7 @@ pub record Ended (site : Site) (words : List ℕ) (seat : Seat) (accesses : ℕ)
   pub ends : EndsAfter accesses site words seat reply after
   pub shows : ShowsAtRest site after line
   pub room : site.base + size site ≤ length after
-  pub outside : KeepsOutside site words after
+  pub outside : KeepsOutside site.base (size site) words after
 
 module _ (site : Site) (words : List ℕ) (seat : Seat) (line : Line) (room : site.base + size site ≤ length words)
     (shows : ShowsAlone site words seat line) where

@@ -1,18 +1,19 @@
 -- What whole calls answer and leave, for those who know that they end.
-use Rattle.std.proofs.Common.{◌≡◌, ◌↔◌, ℕ, ◌+◌, ◌-◌, ◌^◌, ◌<◌, ◌≤◌, List, [], ◌∷◌, length, drop, get_or, refl, sym, ap, arith, subst, inl, inr, nat_le, IsTrue}
+use Rattle.std.proofs.Common.{◌≡◌, ◌↔◌, ℕ, ◌+◌, ◌-◌, ◌^◌, ◌<◌, ◌≤◌, List, [], ◌∷◌, length, drop, get_or, refl, sym, ap, arith, subst, inl, inr, nat_le, Bool, IsTrue, true, Option, None, ◌∙◌}
 use Rattle.std.proofs.lemmas.Bool.{cases_Bool, leb-true, le-leb, false≢true}
 use Rattle.iox_queues.specs.BoundedQueues.{BoundedQueue, first, is_spent, is_full}
 use Rattle.iox_steps.specs.declared.site.QueueKind.{QueueKind}
 use Rattle.iox_steps.specs.declared.site.QueueKind.TheVariants.{Index, Overflowing}
 use Rattle.iox_steps.specs.declared.site.Site.{Site}
 use Rattle.iox_steps.specs.declared.seat.Reply.{Reply}
-use Rattle.iox_steps.specs.declared.seat.Reply.TheVariants.{Full, Popped, Empty}
+use Rattle.iox_steps.specs.declared.seat.Reply.TheVariants.{Pushed, HandedBack, Full, Popped, Empty}
 use Rattle.iox_steps.specs.declared.push.Push.TheVariants as push
 use Rattle.iox_steps.specs.declared.push.FullLook.TheVariants as full_look
 use Rattle.iox_steps.specs.declared.pop.Pop.TheVariants as pop
 use Rattle.iox_steps.specs.declared.pop.EmptyLook.TheVariants as empty_look
 use Rattle.iox_steps.specs.declared.seat.Pushing.TheVariants as pushing
 use Rattle.iox_steps.specs.declared.seat.Popping.TheVariants as popping
+use Rattle.iox_steps.specs.Accesses.{KeepsOutside}
 use Rattle.iox_steps.specs.Sites.{size}
 use Rattle.iox_steps.specs.Runs.{Line}
 use Rattle.iox_steps.proofs.Frames.{fits_empty}
@@ -20,11 +21,27 @@ use Rattle.iox_queue_steps.specs.declared.queue.Seat.{Seat}
 use Rattle.iox_queue_steps.specs.declared.queue.Seat.TheVariants.{Pusher, Popper}
 use Rattle.iox_queue_runs.specs.Lists.{values, queue_at, line_at, HoldsQueue}
 use Rattle.iox_queue_runs.specs.Alone.{EndsAfter, EndsWithin, IsEndOf}
-use Rattle.iox_queue_runs.specs.Calls.{Pushes, Pops, LooksFull, LooksEmpty, push_accesses, pop_accesses, KeepsOutside}
+use Rattle.iox_queue_runs.specs.Replies.{IsOfFullLook, IsOfPop, IsOfEmptyLook}
+use Rattle.iox_queue_runs.specs.Calls.{Pushes, Pops, LooksFull, LooksEmpty, push_accesses, pop_accesses}
 use Rattle.iox_queue_runs.proofs.ValueLemmas.{waiting_is_values}
 use Rattle.iox_queue_runs.proofs.AloneLemmas.{Ended, ShowsAtRest}
 use Rattle.iox_queue_runs.proofs.PushChains.{line, queue, PushEnds, push_ends}
 use Rattle.iox_queue_runs.proofs.PopChains.{is_nil, pop_ends, pop_ends_empty, empty_look_ends, full_look_ends}
+
+-- what a reply says, of whichever call it is
+abbrev said : Reply → Bool
+said (Pushed room) = room
+said (HandedBack out) = true
+said (Full full) = full
+said (Popped out) = true
+said (Empty empty) = empty
+
+abbrev given : Reply → Option ℕ
+given (Popped out) = out
+given (HandedBack out) = out
+given (Pushed room) = None
+given (Full full) = None
+given (Empty empty) = None
 
 -- words with two equal positions hold nothing
 pub values-empty : (site : Site) (words : List ℕ) → get_or words site.base 0 ≡ get_or words (site.base + 1) 0 → values site words ≡ []
@@ -44,7 +61,7 @@ pub record Played (site : Site) (words : List ℕ) (seat : Seat) (accesses : ℕ
   pub ends : EndsAfter accesses site words seat result new
   pub leaves : line' ≡ line_at site new
   pub holds : HoldsQueue site new
-  pub outside : KeepsOutside site words new
+  pub outside : KeepsOutside site.base (size site) words new
 
 played : (site : Site) (words : List ℕ) (seat : Seat) (accesses : ℕ) (reply : Reply) (line' : Line) (result : Reply) (new : List ℕ)
     → Ended site words seat accesses reply line' → IsEndOf site words seat result new
@@ -81,14 +98,14 @@ module _ (site : Site) (words : List ℕ) (held : HoldsQueue site words) where
   pub push_soon : (value : ℕ) → EndsWithin 6 site words (Pusher (pushing.Pushes (push.LoadsWrite value)))
   push_soon value = soon site words _ _ _ _ (few_pushes site.kind (queue_at site words)) (push_is value).ended
 
-  pub record Pushed (value : ℕ) (result : Reply) (new : List ℕ) : Type 0 where
+  pub record Pushes_it (value : ℕ) (result : Reply) (new : List ℕ) : Type 0 where
     pub queue : Pushes site.kind (queue_at site words) value result (queue_at site new)
     pub accesses : EndsAfter (push_accesses site.kind (queue_at site words)) site words (Pusher (pushing.Pushes (push.LoadsWrite value))) result new
     pub holds : HoldsQueue site new
-    pub outside : KeepsOutside site words new
+    pub outside : KeepsOutside site.base (size site) words new
 
   pub pushed : (value : ℕ) (result : Reply) (new : List ℕ) → IsEndOf site words (Pusher (pushing.Pushes (push.LoadsWrite value))) result new
-      → Pushed value result new
+      → Pushes_it value result new
   pushed value result new is_end =
       let is = push_is value in
       let did = played site words _ _ _ _ result new is.ended is_end in
@@ -113,18 +130,22 @@ module _ (site : Site) (words : List ℕ) (held : HoldsQueue site words) where
   pub pop_soon : EndsWithin 6 site words (Popper (popping.Pops pop.LoadsRead))
   pop_soon = soon site words _ _ _ _ (few_pops (values site words)) (pop_is (values site words) held.1)
 
-  pub record Taken (result : Reply) (new : List ℕ) : Type 0 where
-    pub queue : Pops (queue_at site words) result (queue_at site new)
-    pub accesses : EndsAfter (pop_accesses (values site words)) site words (Popper (popping.Pops pop.LoadsRead)) result new
-    pub holds : HoldsQueue site new
-    pub outside : KeepsOutside site words new
+  pub pop_says : (reply : Reply) (new : List ℕ) → IsEndOf site words (Popper (popping.Pops pop.LoadsRead)) reply new → IsOfPop reply
+  pop_says reply new is_end = rw (played site words _ _ _ _ reply new (pop_is (values site words) held.1) is_end).answers tt
 
-  pub popped : (result : Reply) (new : List ℕ) → IsEndOf site words (Popper (popping.Pops pop.LoadsRead)) result new → Taken result new
-  popped result new is_end =
-      let did = played site words _ _ _ _ result new (pop_is (values site words) held.1) is_end in
+  pub record Taken (out : Option ℕ) (new : List ℕ) : Type 0 where
+    pub queue : Pops (queue_at site words) out (queue_at site new)
+    pub accesses : EndsAfter (pop_accesses (values site words)) site words (Popper (popping.Pops pop.LoadsRead)) (Popped out) new
+    pub holds : HoldsQueue site new
+    pub outside : KeepsOutside site.base (size site) words new
+
+  pub popped : (reply : Reply) (out : Option ℕ) (new : List ℕ) → IsEndOf site words (Popper (popping.Pops pop.LoadsRead)) reply new
+      → reply ≡ Popped out → Taken out new
+  popped reply out new is_end is =
+      let did = played site words _ _ _ _ reply new (pop_is (values site words) held.1) is_end in
       record {
-        queue = (did.answers, ap (λ (l : Line). queue site l.write l.waiting) (sym did.leaves));
-        accesses = did.ends;
+        queue = (ap given (sym is ∙ did.answers), ap (λ (l : Line). queue site l.write l.waiting) (sym did.leaves));
+        accesses = rw is at did.ends;
         holds = did.holds;
         outside = did.outside;
       }
@@ -143,19 +164,25 @@ module _ (site : Site) (words : List ℕ) (held : HoldsQueue site words) where
   pub empty_soon : EndsWithin 6 site words (Popper (popping.Looks empty_look.LoadsRead))
   empty_soon = soon site words _ _ _ _ (omega arith) empty_is
 
-  pub record Looked (seat : Seat) (Answers : Reply → Type 0) (result : Reply) (new : List ℕ) : Type 0 where
-    pub queue : Answers result
-    pub accesses : EndsAfter 2 site words seat result new
+  -- a look that ended with this reply
+  pub record Looked (seat : Seat) (Answers : Type 0) (reply : Reply) (new : List ℕ) : Type 0 where
+    pub queue : Answers
+    pub accesses : EndsAfter 2 site words seat reply new
     pub unchanged : new ≡ words
 
-  pub looked_full : (result : Reply) (new : List ℕ) → IsEndOf site words (Pusher (pushing.Looks full_look.LoadsWrite)) result new
-      → Looked (Pusher (pushing.Looks full_look.LoadsWrite)) (LooksFull (queue_at site words)) result new
-  looked_full result new is_end =
-      let did = played site words _ _ _ _ result new full_is is_end in
+  pub full_says : (reply : Reply) (new : List ℕ) → IsEndOf site words (Pusher (pushing.Looks full_look.LoadsWrite)) reply new → IsOfFullLook reply
+  full_says reply new is_end = rw (played site words _ _ _ _ reply new full_is is_end).answers tt
+
+  pub looked_full : (reply : Reply) (full : Bool) (new : List ℕ) → IsEndOf site words (Pusher (pushing.Looks full_look.LoadsWrite)) reply new
+      → reply ≡ Full full
+      → Looked (Pusher (pushing.Looks full_look.LoadsWrite)) (LooksFull (queue_at site words) full) (Full full) new
+  looked_full reply full new is_end is =
+      let did = played site words _ _ _ _ reply new full_is is_end in
       let bounded = held.1.1.push.1 in
+      let same : full ≡ nat_le site.capacity (length (values site words)) = ap said (sym is ∙ did.answers) in
       record {
-        queue = rw did.answers (λ is. omega (arith, leb-true _ _ is), λ many. le-leb _ _ (omega arith));
-        accesses = did.ends;
+        queue = rw same (λ is. omega (arith, leb-true _ _ is), λ many. le-leb _ _ (omega arith));
+        accesses = rw is at did.ends;
         unchanged = did.ends.1.1.2;
       }
 
@@ -163,12 +190,17 @@ module _ (site : Site) (words : List ℕ) (held : HoldsQueue site words) where
   nil [] = (λ is. refl, λ is. refl)
   nil (oldest ∷ others) = (λ is. absurd (false≢true is), λ is. absurd (omega (arith, ap (λ (l : List ℕ). length l) is)))
 
-  pub looked_empty : (result : Reply) (new : List ℕ) → IsEndOf site words (Popper (popping.Looks empty_look.LoadsRead)) result new
-      → Looked (Popper (popping.Looks empty_look.LoadsRead)) (LooksEmpty (queue_at site words)) result new
-  looked_empty result new is_end =
-      let did = played site words _ _ _ _ result new empty_is is_end in
+  pub empty_says : (reply : Reply) (new : List ℕ) → IsEndOf site words (Popper (popping.Looks empty_look.LoadsRead)) reply new → IsOfEmptyLook reply
+  empty_says reply new is_end = rw (played site words _ _ _ _ reply new empty_is is_end).answers tt
+
+  pub looked_empty : (reply : Reply) (empty : Bool) (new : List ℕ) → IsEndOf site words (Popper (popping.Looks empty_look.LoadsRead)) reply new
+      → reply ≡ Empty empty
+      → Looked (Popper (popping.Looks empty_look.LoadsRead)) (LooksEmpty (queue_at site words) empty) (Empty empty) new
+  looked_empty reply empty new is_end is =
+      let did = played site words _ _ _ _ reply new empty_is is_end in
+      let same : empty ≡ is_nil (values site words) = ap said (sym is ∙ did.answers) in
       record {
-        queue = rw did.answers (nil (values site words));
-        accesses = did.ends;
+        queue = rw same (nil (values site words));
+        accesses = rw is at did.ends;
         unchanged = did.ends.1.1.2;
       }

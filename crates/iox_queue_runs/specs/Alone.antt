@@ -1,10 +1,9 @@
 -- A call that its party plays to its end, with nobody between its accesses.
 use Rattle.std.specs.Prelude.{◌≡◌, ℕ, zero, suc, ◌≤◌, List, slice_index}
-use Rattle.iox_steps.specs.declared.access.Progress.{Progress}
-use Rattle.iox_steps.specs.declared.access.Progress.TheVariants.{Going, Done}
 use Rattle.iox_steps.specs.declared.site.Site.{Site}
 use Rattle.iox_steps.specs.declared.seat.Reply.{Reply}
 use Rattle.iox_steps.specs.Accesses.{IsWithin, seen_by, words_after}
+use Rattle.iox_steps.specs.Answers.{OnProgress}
 use Rattle.iox_steps.specs.Sites.{size}
 use Rattle.iox_steps.specs.declared.push.Push.TheVariants as push
 use Rattle.iox_steps.specs.declared.push.FullLook.TheVariants as full_look
@@ -15,10 +14,6 @@ use Rattle.iox_steps.specs.declared.seat.Popping.TheVariants as popping
 use Rattle.iox_queue_steps.specs.declared.queue.Seat.{Seat}
 use Rattle.iox_queue_steps.specs.declared.queue.Seat.TheVariants.{Pusher, Popper}
 use Rattle.iox_queue_steps.specs.Queues.{seat_access, seat_after, seat_progress}
-
-abbrev pub OnProgress : {R : Type 0} → Progress R → Type 0 → (R → Type 0) → Type 0
-OnProgress Going going done = going
-OnProgress (Done reply) going done = done reply
 
 -- the call makes this many accesses, all to words of the queue; the last ends it with this reply,
 -- and leaves these words

@@ -1,14 +1,13 @@
 -- What whole calls answer and leave, in the words of the plain queues, and how many accesses they
 -- make.
-use Rattle.std.specs.Prelude.{◌≡◌, ◌↔◌, ℕ, ◌+◌, ◌<◌, ◌≤◌, ◌⊎◌, List, [], ◌∷◌, length, if◌then◌else◌, IsTrue, slice_index}
+use Rattle.std.specs.Prelude.{◌≡◌, ◌↔◌, ℕ, List, [], ◌∷◌, length, if◌then◌else◌, Bool, IsTrue, Option}
 use Rattle.std.specs.Bool.{OnTrue, OnFalse}
 use Rattle.iox_queues.specs.BoundedQueues.{BoundedQueue, HasRoom, with_pushed, first, without_first, is_spent, is_full, handed_back, with_overflow}
 use Rattle.iox_steps.specs.declared.site.QueueKind.{QueueKind}
 use Rattle.iox_steps.specs.declared.site.QueueKind.TheVariants.{Index, Overflowing}
 use Rattle.iox_steps.specs.declared.site.Site.{Site}
 use Rattle.iox_steps.specs.declared.seat.Reply.{Reply}
-use Rattle.iox_steps.specs.declared.seat.Reply.TheVariants.{Pushed, HandedBack, Full, Popped, Empty}
-use Rattle.iox_steps.specs.Sites.{size}
+use Rattle.iox_steps.specs.declared.seat.Reply.TheVariants.{Pushed, HandedBack, Popped}
 use Rattle.iox_queue_runs.specs.Lists.{values, queue_at}
 use Rattle.iox_queue_runs.specs.Alone.{EndsAfter, pusher, popper}
 
@@ -21,18 +20,16 @@ Pushes Overflowing queue value (HandedBack out) after = (out ≡ handed_back que
 Pushes kind queue value reply after = ⊥
 
 -- a pop
-abbrev pub Pops : BoundedQueue → Reply → BoundedQueue → Type 0
-Pops queue reply after = (reply ≡ Popped (first queue.waiting)) × (after ≡ without_first queue)
+abbrev pub Pops : BoundedQueue → Option ℕ → BoundedQueue → Type 0
+Pops queue out after = (out ≡ first queue.waiting) × (after ≡ without_first queue)
 
 -- a look at fullness
-abbrev pub LooksFull : BoundedQueue → Reply → Type 0
-LooksFull queue (Full full) = IsTrue full ↔ (length queue.waiting ≡ queue.capacity)
-LooksFull queue reply = ⊥
+abbrev pub LooksFull : BoundedQueue → Bool → Type 0
+LooksFull queue full = IsTrue full ↔ (length queue.waiting ≡ queue.capacity)
 
 -- a look at emptiness
-abbrev pub LooksEmpty : BoundedQueue → Reply → Type 0
-LooksEmpty queue (Empty empty) = IsTrue empty ↔ (queue.waiting ≡ [])
-LooksEmpty queue reply = ⊥
+abbrev pub LooksEmpty : BoundedQueue → Bool → Type 0
+LooksEmpty queue empty = IsTrue empty ↔ (queue.waiting ≡ [])
 
 -- a push makes two accesses where nothing is pushed, six where the oldest goes, else four
 abbrev pub push_accesses : QueueKind → BoundedQueue → ℕ
@@ -54,15 +51,9 @@ MakesPush site words value reply after =
     EndsAfter (push_accesses site.kind (queue_at site words)) site words (pusher value) reply after
 
 -- a pop
-abbrev pub PopsAt : Site → List ℕ → Reply → List ℕ → Type 0
-PopsAt site words reply after = Pops (queue_at site words) reply (queue_at site after)
+abbrev pub PopsAt : Site → List ℕ → Option ℕ → List ℕ → Type 0
+PopsAt site words out after = Pops (queue_at site words) out (queue_at site after)
 
-abbrev pub MakesPop : Site → List ℕ → Reply → List ℕ → Type 0
-MakesPop site words reply after =
-    EndsAfter (pop_accesses (values site words)) site words popper reply after
-
--- no word changed but those of the queue
-abbrev pub KeepsOutside : Site → List ℕ → List ℕ → Type 0
-KeepsOutside site words after = (length after ≡ length words)
-    × ((place : ℕ) → (place < site.base) ⊎ (site.base + size site ≤ place)
-    → slice_index after place ≡ slice_index words place)
+abbrev pub MakesPop : Site → List ℕ → Option ℕ → List ℕ → Type 0
+MakesPop site words out after =
+    EndsAfter (pop_accesses (values site words)) site words popper (Popped out) after

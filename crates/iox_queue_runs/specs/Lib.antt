@@ -1,3 +1,5 @@
 pub mod Lists
 pub mod Alone
+pub mod Replies
 pub mod Calls
+pub mod Apart

@@ -1,5 +1,5 @@
 //! Whole calls on the words of a queue.
-use crate::{holds_when_empty, is_empty, is_full, pop, push};
+use crate::{holds_when_empty, is_empty, is_full, pop, push, push_and_pop};
 use iox_queue_steps::{StepAnswer, StoredQueue};
 use iox_queues::spsc::index_queue::IndexQueue;
 use iox_queues::spsc::safely_overflowing_index_queue::SafelyOverflowingIndexQueue;
@@ -32,15 +32,15 @@ fn whole_calls_answer_as_the_plain_queue(rt: HostRuntime) -> Result<(), Fail> {
     holds_when_empty(&words, site);
     assert!(rt; push(&mut words, site, 1) == Reply::Pushed(plain.push(1)));
     assert!(rt; push(&mut words, site, 2) == Reply::Pushed(plain.push(2)));
-    assert!(rt; is_full(&mut words, site) == Reply::Full(plain.is_full()));
+    assert!(rt; is_full(&mut words, site) == plain.is_full());
     assert!(rt; push(&mut words, site, 3) == Reply::Pushed(plain.push(3)));
-    assert!(rt; pop(&mut words, site) == Reply::Popped(plain.pop()));
+    assert!(rt; pop(&mut words, site) == plain.pop());
     assert!(rt; push(&mut words, site, 4) == Reply::Pushed(plain.push(4)));
-    assert!(rt; pop(&mut words, site) == Reply::Popped(plain.pop()));
-    assert!(rt; is_empty(&mut words, site) == Reply::Empty(plain.is_empty()));
-    assert!(rt; pop(&mut words, site) == Reply::Popped(plain.pop()));
-    assert!(rt; pop(&mut words, site) == Reply::Popped(plain.pop()));
-    assert!(rt; is_empty(&mut words, site) == Reply::Empty(plain.is_empty()));
+    assert!(rt; pop(&mut words, site) == plain.pop());
+    assert!(rt; is_empty(&mut words, site) == plain.is_empty());
+    assert!(rt; pop(&mut words, site) == plain.pop());
+    assert!(rt; pop(&mut words, site) == plain.pop());
+    assert!(rt; is_empty(&mut words, site) == plain.is_empty());
     assert!(rt; words.len() == 8 && words[0] == 77 && words[6] == 0);
     Ok(())
 }
@@ -58,9 +58,9 @@ fn an_overflowing_push_hands_back_the_oldest(rt: HostRuntime) -> Result<(), Fail
     assert!(rt; push(&mut words, site, 1) == Reply::HandedBack(None));
     assert!(rt; push(&mut words, site, 2) == Reply::HandedBack(None));
     assert!(rt; push(&mut words, site, 3) == Reply::HandedBack(Some(1)));
-    assert!(rt; pop(&mut words, site) == Reply::Popped(Some(2)));
-    assert!(rt; pop(&mut words, site) == Reply::Popped(Some(3)));
-    assert!(rt; pop(&mut words, site) == Reply::Popped(None));
+    assert!(rt; pop(&mut words, site) == Some(2));
+    assert!(rt; pop(&mut words, site) == Some(3));
+    assert!(rt; pop(&mut words, site) == None);
     Ok(())
 }
 
@@ -86,9 +86,32 @@ fn nothing_is_pushed_past_the_last_position(rt: HostRuntime) -> Result<(), Fail>
         } else {
             assert!(rt; first == Reply::Pushed(true) && second == Reply::Pushed(false));
         }
-        assert!(rt; pop(&mut words, site) == Reply::Popped(Some(5)));
-        assert!(rt; pop(&mut words, site) == Reply::Popped(None));
+        assert!(rt; pop(&mut words, site) == Some(5));
+        assert!(rt; pop(&mut words, site) == None);
     }
+    Ok(())
+}
+
+#[test]
+fn two_queues_in_one_list_answer_each_for_itself(rt: HostRuntime) -> Result<(), Fail> {
+    let mut words = words_at(rt.alloc(), 0)?;
+    let first = Site {
+        kind: QueueKind::Index,
+        base: 4,
+        capacity: 2,
+    };
+    let second = Site {
+        kind: QueueKind::Overflowing,
+        base: 0,
+        capacity: 1,
+    };
+    assert!(rt; words.len() == 8 && words[4] == words[5]);
+    words[0] = 0;
+    assert!(rt; words[0] == words[1] && words[4] == words[5]);
+    holds_when_empty(&words, first);
+    holds_when_empty(&words, second);
+    assert!(rt; push_and_pop(&mut words, first, 7, second) == (Reply::Pushed(true), None));
+    assert!(rt; words.len() == 8 && words[6] == 7 && words[4] == 1 && words[0] == 0);
     Ok(())
 }
 

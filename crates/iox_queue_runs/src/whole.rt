@@ -1,11 +1,14 @@
 //! Whole calls: a party begins, and nobody else makes an access until it ends.
 ghost use Rattle.std.specs.Prelude.{◌≡◌, ◌+◌, ◌<◌, ◌≤◌, [], length};
+ghost use Rattle.iox_steps.specs.declared.seat.Reply.TheVariants as reply;
+ghost use Rattle.iox_steps.specs.Accesses.{KeepsOutside};
 ghost use Rattle.iox_steps.specs.Sites.{size};
 ghost use Rattle.iox_queue_steps.specs.Queues.{IsEmptyAt};
 ghost use Rattle.iox_queue_runs.specs.Lists.{values, queue_at, HoldsQueue};
 ghost use Rattle.iox_queue_runs.specs.Alone.{EndsAfter, EndsWithin, IsEndOf, full_looker, empty_looker};
-ghost use Rattle.iox_queue_runs.specs.Calls.{PushesAt, MakesPush, PopsAt, MakesPop, LooksFull, LooksEmpty, KeepsOutside};
+ghost use Rattle.iox_queue_runs.specs.Calls.{PushesAt, MakesPush, PopsAt, MakesPop, LooksFull, LooksEmpty};
 
+use crate::answer::{of_empty_look, of_full_look, of_pop};
 use iox_queue_steps::Seat;
 use iox_steps::{
     EmptyLook, FullLook, Pop, Popping, Progress, Push, Pushing, QueueKind, Reply, Site, perform,
@@ -29,7 +32,7 @@ pub fn push(words: &mut Vec<u64>, site: Site, value: u64) -> Reply
     ensures queue { PushesAt site words.old.items value result words.new.items }
     ensures accesses { MakesPush site words.old.items value result words.new.items }
     ensures holds { HoldsQueue site words.new.items }
-    ensures outside { KeepsOutside site words.old.items words.new.items }
+    ensures outside { KeepsOutside site.base (size site) words.old.items words.new.items }
 {
     finish(
         words,
@@ -40,44 +43,44 @@ pub fn push(words: &mut Vec<u64>, site: Site, value: u64) -> Reply
 
 /// A look at fullness. It makes two accesses.
 #[inline]
-pub fn is_full(words: &mut Vec<u64>, site: Site) -> Reply
+pub fn is_full(words: &mut Vec<u64>, site: Site) -> bool
     requires { HoldsQueue site words.old.items }
     ensures queue { LooksFull (queue_at site words.old.items) result }
-    ensures accesses { EndsAfter 2 site words.old.items full_looker result words.new.items }
+    ensures accesses { EndsAfter 2 site words.old.items full_looker (reply.Full result) words.new.items }
     ensures unchanged { words.new.items ≡ words.old.items }
 {
-    finish(
+    of_full_look(finish(
         words,
         site,
         Seat::Pusher(Pushing::Looks(FullLook::LoadsWrite)),
-    )
+    ))
 }
 
 /// A pop. It makes four accesses, and two where nothing waits.
 #[inline]
-pub fn pop(words: &mut Vec<u64>, site: Site) -> Reply
+pub fn pop(words: &mut Vec<u64>, site: Site) -> Option<u64>
     requires { HoldsQueue site words.old.items }
     ensures queue { PopsAt site words.old.items result words.new.items }
     ensures accesses { MakesPop site words.old.items result words.new.items }
     ensures holds { HoldsQueue site words.new.items }
-    ensures outside { KeepsOutside site words.old.items words.new.items }
+    ensures outside { KeepsOutside site.base (size site) words.old.items words.new.items }
 {
-    finish(words, site, Seat::Popper(Popping::Pops(Pop::LoadsRead)))
+    of_pop(finish(words, site, Seat::Popper(Popping::Pops(Pop::LoadsRead))))
 }
 
 /// A look at emptiness. It makes two accesses.
 #[inline]
-pub fn is_empty(words: &mut Vec<u64>, site: Site) -> Reply
+pub fn is_empty(words: &mut Vec<u64>, site: Site) -> bool
     requires { HoldsQueue site words.old.items }
     ensures queue { LooksEmpty (queue_at site words.old.items) result }
-    ensures accesses { EndsAfter 2 site words.old.items empty_looker result words.new.items }
+    ensures accesses { EndsAfter 2 site words.old.items empty_looker (reply.Empty result) words.new.items }
     ensures unchanged { words.new.items ≡ words.old.items }
 {
-    finish(
+    of_empty_look(finish(
         words,
         site,
         Seat::Popper(Popping::Looks(EmptyLook::LoadsRead)),
-    )
+    ))
 }
 
 /// Makes the accesses of a call until it ends.
