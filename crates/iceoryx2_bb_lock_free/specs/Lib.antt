@@ -56,6 +56,9 @@ pub use Rattle.iox_steps.specs.Accesses
 pub use Rattle.iox_steps.specs.Worlds
 pub use Rattle.iox_steps.specs.Playables
 pub use Rattle.iox_steps.specs.Sites
+pub use Rattle.iox_steps.specs.Pushes
+pub use Rattle.iox_steps.specs.Pops
+pub use Rattle.iox_steps.specs.Replies
 pub use Rattle.iox_steps.specs.Moments
 pub use Rattle.iox_steps.specs.Runs
 pub use Rattle.iox_steps.specs.Seats
@@ -63,11 +66,13 @@ pub use Rattle.iox_steps.specs.Fits
 pub use Rattle.iox_steps.specs.Plays
 pub use Rattle.iox_steps.specs.Answers
 pub use Rattle.iox_steps.specs.Laws
+pub use Rattle.iox_steps.specs.Stores
 pub use Rattle.iox_steps.specs.Results
 pub use Rattle.iox_queue_steps.specs.Queues
 pub use Rattle.iox_queue_steps.specs.Machines
 pub use Rattle.iox_steps.specs.declared.access.Access
 pub use Rattle.iox_steps.specs.declared.access.Progress
+pub use Rattle.iox_steps.specs.declared.access.Next
 pub use Rattle.iox_steps.specs.declared.access.Party
 pub use Rattle.iox_steps.specs.declared.error.MachineError
 pub use Rattle.iox_steps.specs.declared.machine.Entry
@@ -75,6 +80,11 @@ pub use Rattle.iox_steps.specs.declared.machine.Machine
 pub use Rattle.iox_steps.specs.declared.playable.Playable
 pub use Rattle.iox_steps.specs.declared.site.QueueKind
 pub use Rattle.iox_steps.specs.declared.site.Site
+pub use Rattle.iox_steps.specs.declared.push.Push
+pub use Rattle.iox_steps.specs.declared.push.PushReply
+pub use Rattle.iox_steps.specs.declared.push.FullLook
+pub use Rattle.iox_steps.specs.declared.pop.Pop
+pub use Rattle.iox_steps.specs.declared.pop.EmptyLook
 pub use Rattle.iox_steps.specs.declared.seat.Moment
 pub use Rattle.iox_steps.specs.declared.seat.Reply
 pub use Rattle.iox_steps.specs.declared.seat.Pushing
@@ -87,6 +97,7 @@ pub use Rattle.iox_queue_steps.specs.declared.machine.QueueMachine
 pub use Rattle.iox_queue_runs.specs.Lists as QueueLists
 pub use Rattle.iox_queue_runs.specs.Alone
 pub use Rattle.iox_queue_runs.specs.Calls as QueueCalls
+pub use Rattle.iox_queue_runs.specs.Apart as QueueApart
 -- a queue whose parties are kept in memory
 pub use Rattle.iox_queue_steps.specs.Stored as StoredParties
 pub use Rattle.iox_queue_steps.specs.declared.stored.answer.StepAnswer
@@ -103,9 +114,14 @@ pub use Rattle.iox_cell_steps.specs.CellRuns
 pub use Rattle.iox_cell_steps.specs.CellAnswers
 pub use Rattle.iox_cell_steps.specs.CellPlays
 pub use Rattle.iox_cell_steps.specs.CellLaws
+pub use Rattle.iox_cell_steps.specs.CellReady
 pub use Rattle.iox_cell_steps.specs.declared.moment.CellMoment
 pub use Rattle.iox_cell_steps.specs.declared.moment.CellReply
 pub use Rattle.iox_cell_steps.specs.declared.place.Place
+pub use Rattle.iox_cell_steps.specs.declared.push.CellPush
+pub use Rattle.iox_cell_steps.specs.declared.pop.CellPop
+pub use Rattle.iox_cell_steps.specs.declared.seat.CellPushing
+pub use Rattle.iox_cell_steps.specs.declared.seat.CellPopping
 pub use Rattle.iox_cell_queues.specs.CellSeatings
 pub use Rattle.iox_cell_queues.specs.CellParties
 pub use Rattle.iox_cell_queues.specs.CellQueues
@@ -113,9 +129,12 @@ pub use Rattle.iox_cell_queues.specs.CellMachines
 pub use Rattle.iox_cell_queues.specs.CellSizes
 pub use Rattle.iox_cell_queues.specs.declared.machine.CellMachine
 pub use Rattle.iox_cell_queues.specs.declared.queue.CellParty
+pub use Rattle.iox_cell_queues.specs.declared.queue.CellSeat
+pub use Rattle.iox_cell_queues.specs.declared.queue.CellCall
 pub use Rattle.iox_cell_runs.specs.Lists as CellLists
 pub use Rattle.iox_cell_runs.specs.Alone as CellAlone
 pub use Rattle.iox_cell_runs.specs.Calls as CellCalls
+pub use Rattle.iox_cell_runs.specs.Apart as CellApart
 -- bits, counts and values as steps
 pub use Rattle.iox_set_steps.specs.Bits
 pub use Rattle.iox_set_steps.specs.BitPrograms

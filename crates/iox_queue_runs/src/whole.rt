@@ -26,7 +26,7 @@ pub fn holds_when_empty(words: &Vec<u64>, site: Site)
 }
 
 /// A push. It makes four accesses; two where nothing is pushed, and six where the oldest goes.
-#[inline]
+#[inline(always)]
 pub fn push(words: &mut Vec<u64>, site: Site, value: u64) -> Reply
     requires { HoldsQueue site words.old.items }
     ensures queue { PushesAt site words.old.items value result words.new.items }
@@ -42,7 +42,7 @@ pub fn push(words: &mut Vec<u64>, site: Site, value: u64) -> Reply
 }
 
 /// A look at fullness. It makes two accesses.
-#[inline]
+#[inline(always)]
 pub fn is_full(words: &mut Vec<u64>, site: Site) -> bool
     requires { HoldsQueue site words.old.items }
     ensures queue { LooksFull (queue_at site words.old.items) result }
@@ -57,7 +57,7 @@ pub fn is_full(words: &mut Vec<u64>, site: Site) -> bool
 }
 
 /// A pop. It makes four accesses, and two where nothing waits.
-#[inline]
+#[inline(always)]
 pub fn pop(words: &mut Vec<u64>, site: Site) -> Option<u64>
     requires { HoldsQueue site words.old.items }
     ensures queue { PopsAt site words.old.items result words.new.items }
@@ -69,7 +69,7 @@ pub fn pop(words: &mut Vec<u64>, site: Site) -> Option<u64>
 }
 
 /// A look at emptiness. It makes two accesses.
-#[inline]
+#[inline(always)]
 pub fn is_empty(words: &mut Vec<u64>, site: Site) -> bool
     requires { HoldsQueue site words.old.items }
     ensures queue { LooksEmpty (queue_at site words.old.items) result }
@@ -84,7 +84,7 @@ pub fn is_empty(words: &mut Vec<u64>, site: Site) -> bool
 }
 
 /// Makes the accesses of a call until it ends.
-#[inline]
+#[inline(always)]
 fn finish(words: &mut Vec<u64>, site: Site, seat: Seat) -> Reply
     requires room { site.base + size site ≤ length words.old.items }
     requires soon { EndsWithin 6 site words.old.items seat }
