@@ -66,28 +66,34 @@ pub record Keeps (site : Site) (word word' : ℕ → ℕ) (waiting hand : List �
   -- the write position counts what is published
   pub counts : write_of site word' ≡ write_after turn.moment (write_of site word)
   -- the words after it fit
-  pub fits : Fits site word' (waiting_after turn.moment waiting) (hand_after turn.moment waiting hand) turn.pushes turn.pops
+  pub fits : Fits site word' (waiting_after turn.moment waiting) (hand_after turn.moment waiting hand)
+      turn.pushes turn.pops
   -- its answer says what happened
   pub answers : Answers turn.own turn.answer turn.moment
   -- a call that goes on keeps its value, until it is published
-  pub own_stays : OnProgress turn.answer (turn.left ≡ unpublished_after turn.moment turn.own) (λ reply. turn.left ≡ None)
+  pub own_stays : OnProgress turn.answer (turn.left ≡ unpublished_after turn.moment turn.own)
+      (λ reply. turn.left ≡ None)
 
 -- the same of a turn at a list of words
 abbrev pub KeepsInList : Site → List ℕ → List ℕ → List ℕ → Turn → Type 0
 KeepsInList site words waiting hand turn = let after = words_after turn.access words in
     IsWithin 0 (length words) turn.access × KeepsOutside site.base (size site) words after
-    × Keeps site (λ place. slice_index words place) (λ place. slice_index after place) waiting hand turn
+    × Keeps site (λ place. slice_index words place) (λ place. slice_index after place)
+    waiting hand turn
 
 -- Whatever the queue, and wherever both parties are, each turn keeps it.
 module _ (turn_of : Site → (ℕ → ℕ) → Pushing → Popping → Turn) where
   abbrev pub EveryTurnKeeps : Type 0
-  EveryTurnKeeps = (site : Site) (word : ℕ → ℕ) (waiting hand : List ℕ) (pushes : Pushing) (pops : Popping)
+  EveryTurnKeeps = (site : Site) (word : ℕ → ℕ) (waiting hand : List ℕ)
+      (pushes : Pushing) (pops : Popping)
       → Fits site word waiting hand pushes pops
-      → let turn = turn_of site word pushes pops in Keeps site word (word_after turn.access word) waiting hand turn
+      → let turn = turn_of site word pushes pops in
+      Keeps site word (word_after turn.access word) waiting hand turn
 
   -- and leaves each queue as it is that stands elsewhere in the same list of words
   abbrev pub EveryTurnLeavesOthers : Type 0
-  EveryTurnLeavesOthers = (site : Site) (words waiting hand : List ℕ) (pushes : Pushing) (pops : Popping)
+  EveryTurnLeavesOthers = (site : Site) (words waiting hand : List ℕ)
+      (pushes : Pushing) (pops : Popping)
       → Fits site (λ place. slice_index words place) waiting hand pushes pops
       → site.base + size site ≤ length words
       → (other : Site) (waiting' hand' : List ℕ) (pushes' : Pushing) (pops' : Popping)
@@ -95,4 +101,5 @@ module _ (turn_of : Site → (ℕ → ℕ) → Pushing → Popping → Turn) whe
       → AreApart site.base (size site) other.base (size other)
       → let turn = turn_of site (λ place. slice_index words place) pushes pops in
       KeepsInList site words waiting hand turn
-      × Fits other (λ place. slice_index (words_after turn.access words) place) waiting' hand' pushes' pops'
+      × Fits other (λ place. slice_index (words_after turn.access words) place)
+      waiting' hand' pushes' pops'

@@ -39,28 +39,38 @@ module _ (site : Site) (seen : ℕ) (line : Line) where
   -- an access of a push that has this value still to publish
   pub data PublishResult (value : ℕ) (place : Push) : Type 0 where
     -- it goes on, and still has to
-    goes : (further : Push) → push_next site place seen ≡ Goes further → unpublished_of further ≡ Some value
+    goes : (further : Push) → push_next site place seen ≡ Goes further
+        → unpublished_of further ≡ Some value
         → push_leaves site place seen line ≡ line → PublishResult value place
     -- the value waits, and the push ends: there was room
     publishes : push_next site place seen ≡ Ends Pushed
         → length line.waiting < site.capacity → line.write < last_position
-        → push_leaves site place seen line ≡ record line { write = line.write + 1; waiting = line.waiting ++ value ∷ [] }
+        → push_leaves site place seen line ≡ record line {
+          write = line.write + 1;
+          waiting = line.waiting ++ value ∷ [];
+        }
         → PublishResult value place
     -- the value waits, and the oldest may have to go
     publishes_full : (read : ℕ) → push_next site place seen ≡ Goes (push.Evicts read)
         → site.kind ≡ Overflowing → line.write < last_position
-        → push_leaves site place seen line ≡ record line { write = line.write + 1; waiting = line.waiting ++ value ∷ [] }
+        → push_leaves site place seen line ≡ record line {
+          write = line.write + 1;
+          waiting = line.waiting ++ value ∷ [];
+        }
         → PublishResult value place
     -- nothing changes
-    refused : push_next site place seen ≡ Ends (Refused value) → RefusesPush site.kind site.capacity line
+    refused : push_next site place seen ≡ Ends (Refused value)
+        → RefusesPush site.kind site.capacity line
         → push_leaves site place seen line ≡ line → PublishResult value place
 
   -- the exchange of a push that found the queue full, and has nothing in hand
   pub data EvictResult (read : ℕ) : Type 0 where
     -- the oldest is in hand, and as many wait as may
-    evicts : (cell first : ℕ) (others : List ℕ) → push_next site (push.Evicts read) seen ≡ Goes (push.TakesOld cell)
+    evicts : (cell first : ℕ) (others : List ℕ)
+        → push_next site (push.Evicts read) seen ≡ Goes (push.TakesOld cell)
         → line.hand ≡ [] → line.waiting ≡ first ∷ others → length others ≡ site.capacity
-        → push_leaves site (push.Evicts read) seen line ≡ record line { waiting = others; hand = first ∷ [] }
+        → push_leaves site (push.Evicts read) seen line ≡
+        record line { waiting = others; hand = first ∷ [] }
         → EvictResult read
     -- a pop was faster, so that no more wait than may
     too_late : push_next site (push.Evicts read) seen ≡ Ends Pushed
@@ -71,7 +81,8 @@ module _ (site : Site) (seen : ℕ) (line : Line) where
   pub data GetBackResult (cell : ℕ) : Type 0 where
     gets_back : push_next site (push.TakesOld cell) seen ≡ Ends (PushedOut seen)
         → line.hand ≡ seen ∷ [] → length line.waiting ≤ site.capacity
-        → push_leaves site (push.TakesOld cell) seen line ≡ record line { hand = [] } → GetBackResult cell
+        → push_leaves site (push.TakesOld cell) seen line ≡ record line { hand = [] }
+        → GetBackResult cell
 
   -- a look at fullness
   pub data FullLookResult (place : FullLook) : Type 0 where
@@ -88,7 +99,8 @@ module _ (site : Site) (seen : ℕ) (line : Line) where
         → pop_leaves site place seen line ≡ line → PopResult place
     -- it takes the oldest value
     takes : (value : ℕ) (others : List ℕ) → pop_next site place seen ≡ Ends (Some value)
-        → line.waiting ≡ value ∷ others → pop_leaves site place seen line ≡ record line { waiting = others }
+        → line.waiting ≡ value ∷ others
+        → pop_leaves site place seen line ≡ record line { waiting = others }
         → PopResult place
     -- nothing waits
     finds_none : pop_next site place seen ≡ Ends None → line.waiting ≡ []
