@@ -1,6 +1,7 @@
 //! Callers, as the README shows them.
 ghost use Rattle.std.specs.Prelude.{◌≡◌, ◌+◌, ◌<◌, ◌≤◌, IfOk, Some, length, slice_index};
-ghost use Rattle.iceoryx2_bb_lock_free.specs.Queues.{QueueHolds};
+ghost use Rattle.iceoryx2_bb_lock_free.specs.Queues.{QueueHolds, IsNewMachine};
+ghost use Rattle.iceoryx2_bb_lock_free.specs.Machines.{QueueWorld, Plays};
 ghost use Rattle.iceoryx2_bb_lock_free.specs.Sites.{size};
 
 use crate::machine::{Call, Entry, MachineError, QueueKind, QueueMachine, Site};
@@ -59,7 +60,9 @@ pub fn played(
     requires room { site.base + size site ≤ length words.items }
     requires empty { slice_index words.items site.base ≡ slice_index words.items (site.base + 1) }
     requires some { site.kind ≡ QueueKind.Overflowing → 0 < site.capacity }
-    ensures { IfOk result (λ machine. QueueHolds machine) }
+    ensures queue { IfOk result (λ machine. QueueHolds machine) }
+    ensures moments { IfOk result (λ machine. (start : QueueWorld)
+        × (IsNewMachine words.items site start × Plays start machine)) }
 {
     let Ok(mut machine) = QueueMachine::new(alloc, words, site) else {
         return Err(MachineError::WantOfMemory);

@@ -8,7 +8,6 @@ use Rattle.iox_model.specs.Counts.{with_fixed}
 use Rattle.iox_model.specs.Joins.{with_members}
 use Rattle.iox_model.specs.Makings.{making_refusal, new_port, with_port}
 use Rattle.iox_model.specs.Names.{misnamed}
-use Rattle.iox_model.specs.Runs.{created}
 use Rattle.iox_model.specs.States.{Members, State}
 use Rattle.iox_model.specs.WholeCalls.{IsDone}
 use Rattle.iox_reachable.proofs.Inductions.{IsKept, IsFirst}

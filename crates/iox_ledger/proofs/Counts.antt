@@ -1,5 +1,5 @@
 -- How many of a list pass a test.
-use Rattle.std.specs.Prelude.{◌≡◌, ℕ, suc, ◌+◌, ◌≤◌, Bool, true, false, not, ◌&&◌, if◌then◌else◌, ◌==◌, List, [], ◌∷◌, ◌++◌, length, filter, refl}
+use Rattle.std.specs.Prelude.{◌≡◌, ℕ, suc, ◌+◌, ◌≤◌, Bool, true, false, not, if◌then◌else◌, ◌==◌, List, [], ◌∷◌, ◌++◌, length, filter, refl}
 use Rattle.std.proofs.Common.{sym, subst, ap, ◌∙◌, arith, eq-eqb, true≢false, inl, inr}
 use Rattle.iox_model.specs.Counts.{without_handle, with_handle}
 use Rattle.iox_model.specs.States.{Handle}

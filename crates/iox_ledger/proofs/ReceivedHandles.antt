@@ -1,6 +1,6 @@
 -- What a received handle's way is, and on which ways it counts.
 use Rattle.std.specs.Prelude.{◌≡◌, Bool, true, false, ◌&&◌, if◌then◌else◌, ◌==◌, refl}
-use Rattle.std.proofs.Common.{sym, subst, ap, ◌∙◌, eq-eqb}
+use Rattle.std.proofs.Common.{sym, subst, ap, eq-eqb}
 use Rattle.iox_model.specs.declared.kind.Kind.TheVariants.{ActiveRequest, Response}
 use Rattle.iox_model.specs.declared.way.Way.{Way}
 use Rattle.iox_model.specs.Doings.{Receiver}
