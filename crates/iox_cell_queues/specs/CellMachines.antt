@@ -6,7 +6,7 @@ use Rattle.iox_steps.specs.declared.access.Progress.{Progress}
 use Rattle.iox_steps.specs.declared.error.MachineError.{MachineError}
 use Rattle.iox_steps.specs.declared.machine.Entry.{Entry}
 use Rattle.iox_steps.specs.Accesses.{KeepsOutside}
-use Rattle.iox_steps.specs.Worlds.{IsParty, Stepped, IsStepRefused, Begun, IsBeginRefused, AllEntered}
+use Rattle.iox_steps.specs.Worlds.{IsParty, Stepped, IsStepRefused, Begun, IsBeginRefused, AllEntered, StopsAtStep}
 use Rattle.iox_cell_steps.specs.declared.place.Place.{Place}
 use Rattle.iox_cell_steps.specs.declared.moment.CellMoment.{CellMoment}
 use Rattle.iox_cell_steps.specs.declared.moment.CellReply.{CellReply}
@@ -57,6 +57,11 @@ module _ {A : Type 0} {width : ℕ} (W : Ghosts A) where
       → Type 0
   AllCellsEntered =
       AllEntered (cell_asks W) (CellLeads W) (cell_happens W) cell_rests (CellBegins W)
+
+  abbrev pub CellsStopAtStep : CellWorld A width → List (Entry (CellCall A)) → CellWorld A width
+      → Type 0
+  CellsStopAtStep =
+      StopsAtStep (cell_asks W) (CellLeads W) (cell_happens W) cell_rests (CellBegins W)
 
   abbrev pub PartiesShow : Place → List ℕ → List (CellParty A width) → CellLine A → Type 0
   PartiesShow place list (a ∷ b ∷ []) line = (a.place ≡ place) × (b.place ≡ place)

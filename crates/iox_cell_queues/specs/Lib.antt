@@ -4,4 +4,5 @@ pub mod CellQueues
 pub mod CellQueueLaws
 pub mod CellBeginLaws
 pub mod CellMachines
+pub mod CellEntries
 pub mod CellSizes

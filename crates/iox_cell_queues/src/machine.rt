@@ -29,11 +29,13 @@ impl<T: Words, const WIDTH: usize> Model for CellMachine<T, WIDTH> {
 }
 
 impl<T: Words, const WIDTH: usize> CellMachine<T, WIDTH> {
-    ghost use Rattle.std.specs.Prelude.{◌≡◌, ℕ, ◌+◌, ◌≤◌, length, take, IfOk, IfErr, OnOk, OnErr};
+    ghost use Rattle.std.specs.Prelude.{◌≡◌, ℕ, ◌+◌, ◌≤◌, ◌++◌, length, take, IfOk, IfErr, OnOk, OnErr};
     ghost use Rattle.iox_cell_steps.specs.Cells.{size};
     ghost use Rattle.iox_cell_queues.specs.CellSizes.{PartyFits};
     ghost use Rattle.iox_cell_queues.specs.CellQueues.{IsNewMachine, IsEmptyAt, CellHolds};
-    ghost use Rattle.iox_cell_queues.specs.CellMachines.{CellStepped, IsCellStepRefused, CellBegun, IsCellBeginRefused, AllCellsEntered, IsMoment, Plays};
+    ghost use Rattle.iox_cell_queues.specs.CellMachines.{CellStepped, IsCellStepRefused, CellBegun, IsCellBeginRefused, AllCellsEntered, CellsStopAtStep, IsMoment, Plays};
+    ghost use Rattle.iox_cell_queues.specs.CellEntries.{plain, new_machine, place_of, waiting_of, plain_entered, plain_after, plain_answer, new_after};
+    ghost use Rattle.iox_cell_steps.specs.CellRuns.{published, handed_out};
 
     /// A machine of the empty queue at this place among the words, at whatever position it is.
     pub fn new(
@@ -47,12 +49,42 @@ impl<T: Words, const WIDTH: usize> CellMachine<T, WIDTH> {
         requires words { T.WORDS ≡ WIDTH }
         requires fits { PartyFits T.row WIDTH.row }
         ensures made { IfOk result (IsNewMachine words.items place) }
+        ensures is_new { IfOk result (λ machine. plain machine ≡ new_machine words.items place) }
+        ensures stands { IfOk result (λ machine. place_of machine ≡ place) }
     {
         let _position = words[place.base];
         let parties = at_rest(alloc, place)?;
         Ok(CellMachine {
             machine: Machine::new(alloc, words, parties),
         })
+    }
+
+    /// A machine of the empty queue at this place, once it played the schedule to its end.
+    pub fn played(
+        alloc: Global,
+        words: Vec<u64>,
+        place: Place,
+        schedule: &[Entry<CellCall<T>>],
+    ) -> Result<CellMachine<T, WIDTH>, MachineError>
+        requires room { place.base + size place ≤ length words.items }
+        requires empty { IsEmptyAt place words.items }
+        requires wide { place.width ≡ WIDTH }
+        requires words { T.WORDS ≡ WIDTH }
+        requires fits { PartyFits T.row WIDTH.row }
+        ensures after { IfOk result (λ machine. plain machine
+            ≡ new_after T.Words WIDTH words.items place schedule.now) }
+        ensures words { IfOk result (λ machine. machine.words
+            ≡ (new_after T.Words WIDTH words.items place schedule.now).words) }
+        ensures events { IfOk result (λ machine. machine.events
+            ≡ (new_after T.Words WIDTH words.items place schedule.now).events) }
+        ensures stands { IfOk result (λ machine. place_of machine ≡ place) }
+        ensures refused { IfErr result (λ error. error ≡ MachineError.WantOfMemory) }
+    {
+        let Ok(mut machine) = CellMachine::new(alloc, words, place) else {
+            return Err(MachineError::WantOfMemory);
+        };
+        machine.run(schedule)?;
+        Ok(machine)
     }
 
     /// The shared words.
@@ -77,6 +109,9 @@ impl<T: Words, const WIDTH: usize> CellMachine<T, WIDTH> {
         ensures begun { OnOk result (CellBegun T.Words self.old party call self.new) }
         ensures refused { IfErr result (IsCellBeginRefused T.Words self.old party call) }
         ensures unchanged { OnErr result (self.new ≡ self.old) }
+        ensures entered { plain self.new
+            ≡ plain_entered T.Words (plain self.old) (Entry.Begin party call) }
+        ensures stands { place_of self.new ≡ place_of self.old }
     {
         self.machine.begin(party, call)
     }
@@ -88,6 +123,11 @@ impl<T: Words, const WIDTH: usize> CellMachine<T, WIDTH> {
         ensures stepped { IfOk result (λ answer. CellStepped T.Words self.old party answer self.new) }
         ensures refused { IfErr result (IsCellStepRefused T.Words self.old party) }
         ensures unchanged { OnErr result (self.new ≡ self.old) }
+        ensures entered { OnOk result (plain self.new
+            ≡ plain_entered T.Words (plain self.old) (Entry.Step party)) }
+        ensures answer { IfOk result (λ answer. answer
+            ≡ plain_answer T.Words (plain self.old) party) }
+        ensures stands { place_of self.new ≡ place_of self.old }
     {
         self.holds();
         self.machine.step(party)
@@ -97,23 +137,35 @@ impl<T: Words, const WIDTH: usize> CellMachine<T, WIDTH> {
     /// the first of those published, and the rest waits.
     pub fn holds(&self)
         requires fits { PartyFits T.row WIDTH.row }
-        ensures { CellHolds T.Words self.now }
+        ensures queue { CellHolds T.Words self.now }
+        ensures order { published self.now.events
+            ≡ handed_out self.now.events ++ waiting_of T.Words self.now }
+        ensures bounded { length (waiting_of T.Words self.now) ≤ (place_of self.now).capacity }
     {
         self.machine.holds()
     }
 
     /// Plays a schedule to its end, or to the step that wants memory. Whatever the schedule, each
-    /// event that it adds was true of the queue when it came, and the values that were handed out are,
-    /// in order, the first of those published, and the rest waits.
+    /// event that it adds was true of the queue when it came, and the values that were handed out
+    /// are, in order, the first of those published, and the rest waits. A schedule that is played to
+    /// its end has one end.
     pub fn run(&mut self, schedule: &[Entry<CellCall<T>>]) -> Result<(), MachineError>
         requires fits { PartyFits T.row WIDTH.row }
         ensures queue { CellHolds T.Words self.new }
         ensures moments { Plays T.Words self.old self.new }
         ensures played { (count : ℕ) × AllCellsEntered T.Words self.old (take count schedule.now) self.new }
         ensures whole { OnOk result (AllCellsEntered T.Words self.old schedule.now self.new) }
+        ensures stopped { OnErr result (CellsStopAtStep T.Words self.old schedule.now self.new) }
         ensures refused { IfErr result (λ error. error ≡ MachineError.WantOfMemory) }
+        ensures after { OnOk result (plain self.new
+            ≡ plain_after T.Words (plain self.old) schedule.now) }
+        ensures order { published self.new.events
+            ≡ handed_out self.new.events ++ waiting_of T.Words self.new }
+        ensures stands { place_of self.new ≡ place_of self.old }
     {
         self.holds();
-        self.machine.run(schedule)
+        let played = self.machine.run(schedule);
+        self.holds();
+        played
     }
 }

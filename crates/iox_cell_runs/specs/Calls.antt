@@ -1,5 +1,5 @@
--- What whole calls answer and leave, in the words of the plain queue, and how many accesses they
--- make.
+-- What whole calls answer and leave, in the words of the plain queue, and in how many accesses
+-- their programs do.
 use Rattle.std.specs.Prelude.{◌≡◌, ◌↔◌, ℕ, ◌+◌, List, [], ◌∷◌, length, if◌then◌else◌, Bool, IsTrue, Option}
 use Rattle.std.specs.Bool.{OnTrue, OnFalse}
 use Rattle.iox_words.specs.declared.word_list.Words.{Ghosts}
@@ -26,11 +26,12 @@ LooksFull queue full = IsTrue full ↔ (length queue.waiting ≡ queue.capacity)
 abbrev pub LooksEmpty : {A : Type 0} → BoundedQueueOf A → Bool → Type 0
 LooksEmpty queue empty = IsTrue empty ↔ (queue.waiting ≡ [])
 
--- a push makes two accesses where nothing is pushed, else three and one for each word of the value
+-- the program of a push makes two accesses where nothing is pushed, else three and one for each
+-- word
 abbrev pub push_accesses : {A : Type 0} → ℕ → BoundedQueueOf A → ℕ
 push_accesses width queue = if is_spent queue then 2 else (if is_full queue then 2 else 3 + width)
 
--- a pop makes two where nothing waits, else three and one for each word
+-- that of a pop makes two where nothing waits, else three and one for each word
 abbrev pub pop_accesses : {A : Type 0} → ℕ → List A → ℕ
 pop_accesses width [] = 2
 pop_accesses width (oldest ∷ others) = 3 + width

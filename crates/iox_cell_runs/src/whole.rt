@@ -23,8 +23,8 @@ pub fn holds_when_empty<T: Words>(words: &Vec<u64>, place: Place)
     ensures waiting { values T.Words place words.now.items ≡ [] }
 {}
 
-/// A push, which says whether there was room. Its program makes two accesses where nothing is
-/// pushed, else three and one for each word.
+/// A push, which says whether there was room. It answers and leaves what the program does in two
+/// accesses where nothing is pushed, else in three and one for each word.
 #[inline]
 pub fn push<T: Words, const WIDTH: usize>(words: &mut Vec<u64>, place: Place, value: T) -> bool
     requires holds { HoldsQueue T.Words place words.old.items }
@@ -41,7 +41,7 @@ pub fn push<T: Words, const WIDTH: usize>(words: &mut Vec<u64>, place: Place, va
     of_push(finish(words, CellParty::<T, WIDTH> { place, seat }))
 }
 
-/// A look at fullness, whose program makes two accesses.
+/// A look at fullness. It answers and leaves what the program does in two accesses.
 #[inline]
 pub fn is_full<T: Words, const WIDTH: usize>(words: &mut Vec<u64>, place: Place) -> bool
     requires holds { HoldsQueue T.Words place words.old.items }
@@ -55,7 +55,8 @@ pub fn is_full<T: Words, const WIDTH: usize>(words: &mut Vec<u64>, place: Place)
     of_full_look(finish(words, CellParty::<T, WIDTH> { place, seat }))
 }
 
-/// A pop, whose program makes two accesses where nothing waits, else three and one for each word.
+/// A pop. It answers and leaves what the program does in two accesses where nothing waits, else in
+/// three and one for each word.
 #[inline]
 pub fn pop<T: Words, const WIDTH: usize>(words: &mut Vec<u64>, place: Place) -> Option<T>
     requires holds { HoldsQueue T.Words place words.old.items }
@@ -70,7 +71,7 @@ pub fn pop<T: Words, const WIDTH: usize>(words: &mut Vec<u64>, place: Place) -> 
     of_pop(finish(words, CellParty::<T, WIDTH> { place, seat }))
 }
 
-/// A look at emptiness, whose program makes two accesses.
+/// A look at emptiness. It answers and leaves what the program does in two accesses.
 #[inline]
 pub fn is_empty<T: Words, const WIDTH: usize>(words: &mut Vec<u64>, place: Place) -> bool
     requires holds { HoldsQueue T.Words place words.old.items }
@@ -84,7 +85,7 @@ pub fn is_empty<T: Words, const WIDTH: usize>(words: &mut Vec<u64>, place: Place
     of_empty_look(finish(words, CellParty::<T, WIDTH> { place, seat }))
 }
 
-/// Makes the accesses of a call until it ends.
+/// Answers and leaves what the call comes to.
 #[inline]
 fn finish<T: Words, const WIDTH: usize>(
     words: &mut Vec<u64>,

@@ -1,4 +1,5 @@
 pub mod CellPlaces
+pub mod CellContentLemmas
 pub mod CellRings
 pub mod CellKnowledge
 pub mod CellPushSteps

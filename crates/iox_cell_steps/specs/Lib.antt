@@ -3,6 +3,7 @@ pub mod CellPrograms
 pub mod CellMoments
 pub mod CellSeats
 pub mod CellFits
+pub mod CellContents
 pub mod CellRuns
 pub mod CellAnswers
 pub mod CellPlays

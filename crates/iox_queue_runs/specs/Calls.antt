@@ -1,5 +1,5 @@
--- What whole calls answer and leave, in the words of the plain queues, and how many accesses they
--- make.
+-- What whole calls answer and leave, in the words of the plain queues, and in how many accesses
+-- their programs do.
 use Rattle.std.specs.Prelude.{◌≡◌, ◌↔◌, ℕ, List, [], ◌∷◌, length, if◌then◌else◌, Bool, IsTrue, Option}
 use Rattle.std.specs.Bool.{OnTrue, OnFalse}
 use Rattle.iox_queues.specs.BoundedQueues.{BoundedQueue, HasRoom, with_pushed, first, without_first, is_spent, is_full, handed_back, with_overflow}
@@ -31,12 +31,13 @@ LooksFull queue full = IsTrue full ↔ (length queue.waiting ≡ queue.capacity)
 abbrev pub LooksEmpty : BoundedQueue → Bool → Type 0
 LooksEmpty queue empty = IsTrue empty ↔ (queue.waiting ≡ [])
 
--- a push makes two accesses where nothing is pushed, six where the oldest goes, else four
+-- the program of a push makes two accesses where nothing is pushed, six where the oldest goes, else
+-- four
 abbrev pub push_accesses : QueueKind → BoundedQueue → ℕ
 push_accesses Index queue = if is_spent queue then 2 else (if is_full queue then 2 else 4)
 push_accesses Overflowing queue = if is_spent queue then 2 else (if is_full queue then 6 else 4)
 
--- a pop makes two where nothing waits, else four
+-- that of a pop makes two where nothing waits, else four
 abbrev pub pop_accesses : List ℕ → ℕ
 pop_accesses [] = 2
 pop_accesses (oldest ∷ others) = 4

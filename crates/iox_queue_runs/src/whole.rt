@@ -25,7 +25,8 @@ pub fn holds_when_empty(words: &Vec<u64>, site: Site)
     let _position = words[site.base];
 }
 
-/// A push. It makes four accesses; two where nothing is pushed, and six where the oldest goes.
+/// A push. It answers and leaves what the program does in four accesses; in two where nothing is
+/// pushed, and in six where the oldest goes.
 #[inline(always)]
 pub fn push(words: &mut Vec<u64>, site: Site, value: u64) -> Reply
     requires { HoldsQueue site words.old.items }
@@ -41,7 +42,7 @@ pub fn push(words: &mut Vec<u64>, site: Site, value: u64) -> Reply
     )
 }
 
-/// A look at fullness. It makes two accesses.
+/// A look at fullness. It answers and leaves what the program does in two accesses.
 #[inline(always)]
 pub fn is_full(words: &mut Vec<u64>, site: Site) -> bool
     requires { HoldsQueue site words.old.items }
@@ -56,7 +57,8 @@ pub fn is_full(words: &mut Vec<u64>, site: Site) -> bool
     ))
 }
 
-/// A pop. It makes four accesses, and two where nothing waits.
+/// A pop. It answers and leaves what the program does in four accesses, and in two where nothing
+/// waits.
 #[inline(always)]
 pub fn pop(words: &mut Vec<u64>, site: Site) -> Option<u64>
     requires { HoldsQueue site words.old.items }
@@ -68,7 +70,7 @@ pub fn pop(words: &mut Vec<u64>, site: Site) -> Option<u64>
     of_pop(finish(words, site, Seat::Popper(Popping::Pops(Pop::LoadsRead))))
 }
 
-/// A look at emptiness. It makes two accesses.
+/// A look at emptiness. It answers and leaves what the program does in two accesses.
 #[inline(always)]
 pub fn is_empty(words: &mut Vec<u64>, site: Site) -> bool
     requires { HoldsQueue site words.old.items }
@@ -83,7 +85,7 @@ pub fn is_empty(words: &mut Vec<u64>, site: Site) -> bool
     ))
 }
 
-/// Makes the accesses of a call until it ends.
+/// Answers and leaves what the call comes to.
 #[inline(always)]
 fn finish(words: &mut Vec<u64>, site: Site, seat: Seat) -> Reply
     requires room { site.base + size site ≤ length words.old.items }

@@ -4,3 +4,4 @@ pub mod CellLemmas
 pub mod StoredLemmas
 pub mod LineLemmas
 pub mod PlaysLemmas
+pub mod EntryLemmas

@@ -13,7 +13,7 @@ use Rattle.iox_steps.specs.Moments.{IsTrueOf}
 use Rattle.iox_steps.specs.Fits.{Fits}
 use Rattle.iox_steps.specs.Runs.{Line, line_after, Run, published, handed_out, told}
 use Rattle.iox_steps.specs.Answers.{Answers, unpublished}
-use Rattle.iox_steps.specs.Worlds.{World, IsParty, Stepped, IsStepRefused, Begun, IsBeginRefused, AllEntered}
+use Rattle.iox_steps.specs.Worlds.{World, IsParty, Stepped, IsStepRefused, Begun, IsBeginRefused, AllEntered, StopsAtStep}
 use Rattle.iox_queue_steps.specs.declared.queue.Seat.{Seat}
 use Rattle.iox_queue_steps.specs.declared.queue.Seat.TheVariants.{Pusher, Popper}
 use Rattle.iox_queue_steps.specs.declared.queue.Call.{Call}
@@ -37,6 +37,9 @@ IsQueueBeginRefused = IsBeginRefused queue_asks QueueLeads queue_happens queue_r
 
 abbrev pub AllQueueEntered : QueueWorld → List (Entry Call) → QueueWorld → Type 0
 AllQueueEntered = AllEntered queue_asks QueueLeads queue_happens queue_rests QueueBegins
+
+abbrev pub QueueStopsAtStep : QueueWorld → List (Entry Call) → QueueWorld → Type 0
+QueueStopsAtStep = StopsAtStep queue_asks QueueLeads queue_happens queue_rests QueueBegins
 
 -- the words and both parties are those of the queue at this site in which the line waits
 abbrev pub SeatsShow : Site → List ℕ → Seat → Seat → Line → Type 0

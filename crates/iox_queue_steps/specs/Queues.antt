@@ -102,11 +102,11 @@ QueueHolds world = PartiesPlayed world.words world.parties world.events
 abbrev pub IsEmptyAt : Site → List ℕ → Type 0
 IsEmptyAt site words = slice_index words site.base ≡ slice_index words (site.base + 1)
 
--- both parties are at rest at this queue, and nothing happened yet
-abbrev pub AtRestAt : Site → List Seated → Type 0
-AtRestAt site (a ∷ b ∷ []) = (a.site ≡ site) × (b.site ≡ site) × (a.seat ≡ Pusher pushing.AtRest)
-    × (b.seat ≡ Popper popping.AtRest)
-AtRestAt site parties = ⊥
+-- both parties at rest at this queue
+abbrev pub at_rest_at : Site → List Seated
+at_rest_at site = record { site = site; seat = Pusher pushing.AtRest }
+    ∷ record { site = site; seat = Popper popping.AtRest } ∷ []
 
-abbrev pub IsNewMachine : List ℕ → Site → World Seated Moment → Type 0
-IsNewMachine words site world = (world.words ≡ words) × AtRestAt site world.parties × (world.events ≡ [])
+-- these words, both parties at rest at this queue, and nothing happened yet
+abbrev pub new_machine : List ℕ → Site → World Seated Moment
+new_machine words site = record { words = words; parties = at_rest_at site; events = [] }

@@ -23,17 +23,19 @@ impl Model for QueueMachine {
 }
 
 impl QueueMachine {
-    ghost use Rattle.std.specs.Prelude.{◌≡◌, ℕ, ◌+◌, ◌<◌, ◌≤◌, [], length, take, IfOk, IfErr, OnOk, OnErr};
-    ghost use Rattle.iox_steps.specs.Sites.{size};
-    ghost use Rattle.iox_queue_steps.specs.Queues.{IsNewMachine, IsEmptyAt, QueueHolds};
-    ghost use Rattle.iox_queue_steps.specs.Machines.{QueueStepped, IsQueueStepRefused, QueueBegun, IsQueueBeginRefused, AllQueueEntered, IsMoment, Plays};
+    ghost use Rattle.std.specs.Prelude.{◌≡◌, ℕ, ◌+◌, ◌<◌, ◌≤◌, ◌++◌, [], length, take, IfOk, IfErr, OnOk, OnErr};
+    ghost use Rattle.iox_steps.specs.Sites.{cells, size};
+    ghost use Rattle.iox_queue_steps.specs.Queues.{new_machine, IsEmptyAt, QueueHolds};
+    ghost use Rattle.iox_queue_steps.specs.Entries.{site_of, waiting_of, queue_entered, queue_after, queue_answer};
+    ghost use Rattle.iox_steps.specs.Runs.{published, handed_out};
+    ghost use Rattle.iox_queue_steps.specs.Machines.{QueueStepped, IsQueueStepRefused, QueueBegun, IsQueueBeginRefused, AllQueueEntered, QueueStopsAtStep, IsMoment, Plays};
 
     /// A machine of the empty queue at this place among the words, at whatever position it is.
     pub fn new(alloc: Global, words: Vec<u64>, site: Site) -> Result<QueueMachine, AllocError>
         requires room { site.base + size site ≤ length words.items }
         requires empty { IsEmptyAt site words.items }
         requires some { site.kind ≡ QueueKind.Overflowing → 0 < site.capacity }
-        ensures made { IfOk result (IsNewMachine words.items site) }
+        ensures made { IfOk result (λ machine. machine ≡ new_machine words.items site) }
     {
         let position = words[site.base];
         let parties = at_rest(alloc, site, position)?;
@@ -61,6 +63,8 @@ impl QueueMachine {
         ensures begun { OnOk result (QueueBegun self.old party call self.new) }
         ensures refused { IfErr result (IsQueueBeginRefused self.old party call) }
         ensures unchanged { OnErr result (self.new ≡ self.old) }
+        ensures entered { self.new ≡ queue_entered self.old (Entry.Begin party call) }
+        ensures stands { site_of self.new ≡ site_of self.old }
     {
         self.machine.begin(party, call)
     }
@@ -72,6 +76,9 @@ impl QueueMachine {
         ensures stepped { IfOk result (λ answer. QueueStepped self.old party answer self.new) }
         ensures refused { IfErr result (IsQueueStepRefused self.old party) }
         ensures unchanged { OnErr result (self.new ≡ self.old) }
+        ensures entered { OnOk result (self.new ≡ queue_entered self.old (Entry.Step party)) }
+        ensures answer { IfOk result (λ answer. answer ≡ queue_answer self.old party) }
+        ensures stands { site_of self.new ≡ site_of self.old }
     {
         self.holds();
         self.machine.step(party)
@@ -80,22 +87,33 @@ impl QueueMachine {
     /// What the words say, wherever the parties are: the values that left are, in order, the first
     /// of those published, and the rest waits.
     pub fn holds(&self)
-        ensures { QueueHolds self.now }
+        ensures queue { QueueHolds self.now }
+        ensures order { published self.now.events
+            ≡ handed_out [] self.now.events ++ waiting_of self.now }
+        ensures bounded { length (waiting_of self.now) ≤ cells (site_of self.now) }
     {
         self.machine.holds()
     }
 
     /// Plays a schedule to its end, or to the step that wants memory. Whatever the schedule, each
     /// event that it adds was true of the queue when it came, and the values that left are, in
-    /// order, the first of those published, and the rest waits.
+    /// order, the first of those published, and the rest waits. A schedule that is played to its
+    /// end has one end.
     pub fn run(&mut self, schedule: &[Entry<Call>]) -> Result<(), MachineError>
         ensures moments { Plays self.old self.new }
         ensures queue { QueueHolds self.new }
         ensures played { (count : ℕ) × AllQueueEntered self.old (take count schedule.now) self.new }
         ensures whole { OnOk result (AllQueueEntered self.old schedule.now self.new) }
+        ensures stopped { OnErr result (QueueStopsAtStep self.old schedule.now self.new) }
         ensures refused { IfErr result (λ error. error ≡ MachineError.WantOfMemory) }
+        ensures after { OnOk result (self.new ≡ queue_after self.old schedule.now) }
+        ensures order { published self.new.events
+            ≡ handed_out [] self.new.events ++ waiting_of self.new }
+        ensures stands { site_of self.new ≡ site_of self.old }
     {
         self.holds();
-        self.machine.run(schedule)
+        let played = self.machine.run(schedule);
+        self.holds();
+        played
     }
 }

@@ -2,7 +2,7 @@
 //! and looks at emptiness. Each is kept in memory, and stepped where it lies.
 ghost use Rattle.std.specs.Prelude.{◌≡◌, ◌+◌, ◌^◌, ◌<◌, IfOk};
 ghost use Rattle.iox_steps.specs.Sites.{size};
-ghost use Rattle.iox_queue_steps.specs.Queues.{queue_asks, queue_happens, queue_rests, QueueLeads, QueueBegins, QueueHolds, AtRestAt};
+ghost use Rattle.iox_queue_steps.specs.Queues.{queue_asks, queue_happens, queue_rests, QueueLeads, QueueBegins, QueueHolds, at_rest_at};
 ghost use Rattle.iox_queue_steps.specs.QueueLaws.{queue_stays_in, queue_keeps};
 ghost use Rattle.iox_queue_steps.specs.BeginLaws.{queue_starts};
 ghost use Rattle.iox_queue_steps.specs.Roles.{push_progress as pushing_progress_of, pop_progress as popping_progress_of};
@@ -221,7 +221,7 @@ pub(crate) fn at_rest(
     position: u64,
 ) -> Result<Vec<QueueParty>, AllocError>
     requires { site.base + size site < 2 ^ 64 }
-    ensures { IfOk result (λ parties. AtRestAt site parties.items) }
+    ensures { IfOk result (λ parties. parties.items ≡ at_rest_at site) }
 {
     let mut parties = Vec::with_capacity(alloc, 2)?;
     parties.push(QueueParty::pusher(site, position))?;

@@ -7,6 +7,7 @@ pub mod AccessLemmas
 pub mod Frames
 pub mod Begins
 pub mod WorldLemmas
+pub mod EntryLemmas
 pub mod Schedules
 pub mod Writes
 pub mod AnswerLemmas
@@ -16,4 +17,5 @@ pub mod RunLemmas
 pub mod Plays
 pub mod ResultLemmas
 pub mod Tables
+pub mod ContentLemmas
 pub mod Stores

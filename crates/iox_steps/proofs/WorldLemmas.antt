@@ -1,6 +1,6 @@
 -- The parts of a step make a step, and a begin keeps what its party's law keeps.
-use Rattle.std.proofs.Common.{◌≡◌, ◌∙◌, ℕ, Bool, false, List, [], ◌∷◌, ◌<◌, ◌++◌, refl, sym, subst, Option, Result, Ok, Err, OnOk, OnErr, set, get_or, length}
-use Rattle.std.proofs.lemmas.List.{get_or_default, set-get_or}
+use Rattle.std.proofs.Common.{◌≡◌, ◌∙◌, ap, ℕ, Bool, false, List, [], ◌∷◌, ◌<◌, ◌++◌, refl, sym, subst, Option, Result, Ok, Err, OnOk, OnErr, set, get_or, length, take, drop, drop-cons, suc}
+use Rattle.std.proofs.lemmas.List.{get_or_default, set-get_or, take-append-drop}
 use Rattle.std.specs.Option.{option_to_list}
 use Rattle.iox_steps.specs.Playables.{IsKeptByBegins}
 use Rattle.iox_steps.specs.declared.access.Access.{Access}
@@ -8,7 +8,7 @@ use Rattle.iox_steps.specs.declared.access.Progress.{Progress}
 use Rattle.iox_steps.specs.declared.error.MachineError.{MachineError}
 use Rattle.iox_steps.specs.Accesses.{seen_at, words_after}
 use Rattle.iox_steps.specs.declared.machine.Entry.{Entry}
-use Rattle.iox_steps.specs.Worlds.{World, with_party, Stepped, Entered, AllEntered}
+use Rattle.iox_steps.specs.Worlds.{World, with_party, Stepped, Entered, AllEntered, IsStepUnderWay, StopsAtStep}
 
 module _ {P E R C : Type 0} (asks : P → Access) (leads : P → ℕ → Progress R → P → Type 0) (happens : P → ℕ → Option E) (at_rest : P → Bool)
     (begins : P → C → Result P MachineError → Type 0) where
@@ -43,3 +43,17 @@ module _ {P E R C : Type 0} (asks : P → Access) (leads : P → ℕ → Progres
       → AllEntered asks leads happens at_rest begins old (entries ++ entry ∷ []) new
   all_entered_more old [] mid entry new is last = (new, (subst (λ w. Entered asks leads happens at_rest begins w entry new) is last, refl))
   all_entered_more old (first ∷ entries) mid entry new is last = (is.0, (is.1.0, all_entered_more is.0 entries mid entry new is.1.1 last))
+
+  -- what was played before the entry of this number, that entry, and the others
+  pub stops_at : (old : World P E) (entries : List (Entry C)) (count : ℕ) (entry : Entry C) (new : World P E) → count < length entries
+      → entry ≡ get_or entries count entry → AllEntered asks leads happens at_rest begins old (take count entries) new
+      → IsStepUnderWay asks leads happens at_rest begins new entry → StopsAtStep asks leads happens at_rest begins old entries new
+  stops_at old entries count entry new below is played wants = record {
+    before = take count entries;
+    entry = entry;
+    others = drop (suc count) entries;
+    parts = sym (take-append-drop count entries)
+        ∙ ap (λ l. take count entries ++ l) (drop-cons entries count entry below ∙ ap (λ e. e ∷ drop (suc count) entries) (sym is));
+    played = played;
+    under_way = wants;
+  }

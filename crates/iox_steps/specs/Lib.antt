@@ -6,11 +6,13 @@ pub mod Replies
 pub mod Seats
 pub mod Moments
 pub mod Fits
+pub mod Contents
 pub mod Runs
 pub mod Answers
 pub mod Laws
 pub mod Stores
 pub mod Worlds
+pub mod Entries
 pub mod Playables
 pub mod Plays
 pub mod Results

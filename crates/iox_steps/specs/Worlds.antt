@@ -77,15 +77,34 @@ module _ {P E R C : Type 0} (asks : P → Access) (leads : P → ℕ → Progres
   IsBeginRefused world number call error = ((error ≡ UnknownParty) × (length world.parties ≤ number))
       ⊎ ((party : P) × (IsParty world number party × begins party call (Err error)))
 
-  -- one entry of a schedule; one that is refused changes nothing and counts as absent
+  -- why a schedule passes over a step: there is no such party, or it has no call under way
+  abbrev pub IsStepPassedOver : World P E → ℕ → Type 0
+  IsStepPassedOver world number = (length world.parties ≤ number) ⊎ IsAtRest world number
+
+  -- one entry of a schedule; one that is passed over changes nothing and counts as absent
   abbrev pub Entered : World P E → Entry C → World P E → Type 0
   Entered old (Begin number call) new = Begun old number call new
       ⊎ (((error : MachineError) × IsBeginRefused old number call error) × (new ≡ old))
   Entered old (Step number) new = ((answer : Progress R) × Stepped old number answer new)
-      ⊎ (((error : MachineError) × IsStepRefused old number error) × (new ≡ old))
+      ⊎ (IsStepPassedOver old number × (new ≡ old))
 
   -- all entries, one after the other
   abbrev pub AllEntered : World P E → List (Entry C) → World P E → Type 0
   AllEntered old [] new = new ≡ old
   AllEntered old (entry ∷ entries) new = (mid : World P E)
       × (Entered old entry mid × AllEntered mid entries new)
+
+  -- a step of a party whose call is under way: the one entry that may want memory
+  abbrev pub IsStepUnderWay : World P E → Entry C → Type 0
+  IsStepUnderWay world (Begin number call) = ⊥
+  IsStepUnderWay world (Step number) = IsUnderWay world number
+
+  -- a schedule that wants memory stopped before such a step
+  pub record StopsAtStep (old : World P E) (entries : List (Entry C))
+      (new : World P E) : Type 0 where
+    pub before : List (Entry C)
+    pub entry : Entry C
+    pub others : List (Entry C)
+    pub parts : entries ≡ before ++ entry ∷ others
+    pub played : AllEntered old before new
+    pub under_way : IsStepUnderWay new entry

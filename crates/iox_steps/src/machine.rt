@@ -96,7 +96,7 @@ impl<P: Playable> Model for Machine<P> {
 
 impl<P: Playable> Machine<P> {
     ghost use Rattle.std.specs.Prelude.{◌≡◌, ℕ, ◌<◌, [], length, take, IfOk, IfErr, OnOk, OnErr};
-    ghost use Rattle.iox_steps.specs.Worlds.{World, Stepped, IsStepRefused, Begun, IsBeginRefused, Entered, AllEntered};
+    ghost use Rattle.iox_steps.specs.Worlds.{World, Stepped, IsStepRefused, Begun, IsBeginRefused, Entered, AllEntered, IsStepUnderWay, StopsAtStep};
 
     /// Parties that are to play on these words.
     pub fn new(alloc: Global, words: Vec<u64>, parties: Vec<P>) -> Machine<P>
@@ -172,6 +172,8 @@ impl<P: Playable> Machine<P> {
         ensures entered { IfOk result (λ _. Entered P.asks P.leads P.happens P.at_rest P.begins
             self.old entry self.new) }
         ensures refused { IfErr result (λ error. error ≡ MachineError.WantOfMemory) }
+        ensures wants { OnErr result (IsStepUnderWay P.asks P.leads P.happens P.at_rest P.begins
+            self.old entry) }
         ensures unchanged { OnErr result (self.new ≡ self.old) }
     {
         match entry {
@@ -195,6 +197,8 @@ impl<P: Playable> Machine<P> {
             self.old (take count schedule.now) self.new }
         ensures whole { OnOk result (AllEntered P.asks P.leads P.happens P.at_rest P.begins
             self.old schedule.now self.new) }
+        ensures stopped { OnErr result (StopsAtStep P.asks P.leads P.happens P.at_rest P.begins
+            self.old schedule.now self.new) }
         ensures refused { IfErr result (λ error. error ≡ MachineError.WantOfMemory) }
         ensures holds { P.Holds self.new }
     {
@@ -207,6 +211,8 @@ impl<P: Playable> Machine<P> {
         ensures played { (count : ℕ) × AllEntered P.asks P.leads P.happens P.at_rest P.begins
             self.old (take count schedule.now) self.new }
         ensures whole { OnOk result (AllEntered P.asks P.leads P.happens P.at_rest P.begins
+            self.old schedule.now self.new) }
+        ensures stopped { OnErr result (StopsAtStep P.asks P.leads P.happens P.at_rest P.begins
             self.old schedule.now self.new) }
         ensures refused { IfErr result (λ error. error ≡ MachineError.WantOfMemory) }
     {
