@@ -1,8 +1,14 @@
 pub mod SiteLemmas
+pub mod HoldLemmas
+pub mod EntryLemmas
+pub mod BitTellLemmas
 pub mod BitMomentLemmas
+pub mod CountTellLemmas
 pub mod CountMomentLemmas
+pub mod AtomicTellLemmas
 pub mod AtomicMomentLemmas
 pub mod AtomicRunLemmas
 pub mod TypedLemmas
 pub mod TypedMoments
 pub mod TypedRunLemmas
+pub mod LaidLemmas

@@ -20,9 +20,16 @@ use Rattle.iox_set_steps.specs.Values.{value_now, LeadsOn}
 use Rattle.iox_set_steps.specs.AtomicPlays.{AtomicWorld, AtomicAnswers, atomics_ask, atomics_happen, IsAtValue, AtomicsHold}
 use Rattle.iox_set_steps.specs.AtomicMoments.{atomic_makes}
 use Rattle.iox_set_steps.specs.AtomicMachines.{AtomicsStepped, AtomicsBegun, IsNewAtomic}
-use Rattle.iox_set_steps.specs.TypedValues.{TypedAnswers, TypedRun, IsTypedMoment, answer_words, call_words}
-use Rattle.iox_set_steps.specs.TypedWords.{AreLaid, AreOfType, IsCallOf, IsNewValue, answer_of, event_of, or_else, shown, stored_by, words_now}
-use Rattle.iox_set_steps.proofs.AtomicMomentLemmas.{atomic_answers}
+use Rattle.iox_set_steps.specs.TypedValues.{BeginsValueCall, IsCallOf, IsInValueCall, SaysOfValue, TypedAnswers, TypedRun, IsTypedMoment, answer_words, call_words}
+use Rattle.iox_set_steps.specs.TypedWords.{AreLaid, AreOfType, IsNewValue, answer_of, event_of, or_else, shown, stored_by, words_now}
+use Rattle.iox_set_steps.proofs.AtomicMomentLemmas.{atomic_answers, begin_of, tells}
+use Rattle.iox_set_steps.proofs.HoldLemmas.{party_put, party_stays}
+use Rattle.iox_steps.specs.Answers.{OnProgress}
+use Rattle.iox_steps.specs.declared.access.Next.{Next}
+use Rattle.iox_steps.specs.declared.access.Next.TheVariants.{Goes, Ends}
+use Rattle.iox_set_steps.specs.declared.unrestricted_atomic.AtomicProgram.{AtomicProgram}
+use Rattle.iox_set_steps.specs.AtomicPrograms.{atomic_next, program_of, progress_of}
+use Rattle.iox_set_steps.specs.AtomicCalls.{IsDoing, Tells}
 use Rattle.iox_set_steps.proofs.TypedLemmas.{given, list_of, loaded_event, same_words, stored_event, stored_next}
 
 -- a party after one was exchanged: it, or another as it was
@@ -115,10 +122,63 @@ module _ {T : Type 0} (count : ℕ) (is_value : T → Type 0) (words : T → Lis
     unfolding happened
     answers = rw (step.leads_on.3) (atomic_answers size step.party.program _)
 
-    pub typed_moment : IsTypedMoment (shown of other base old) (shown of other base new) (answer_of of other answer)
+    -- a load hands out the value that is current
+    got : (list : List ℕ) → happened ≡ Some (event.Loaded list) → or_else (of list) other ≡ or_else (of (words_now size base old.words)) other
+    got list is =
+        let on = subst (λ e. LeadsOn size (value_now size base old.words) e (value_now size base new.words)) is leads in
+        ap (λ l. or_else (of l) other) (list_of size (value_now size base old.words) list (is_loaded list is) on.0)
+
+    -- the call of the party goes on, or ends in a reply that tells of it
+    goes : (call : ValueCall T) (what : Option (AtomicEvent size)) (next : Next (AtomicProgram size) (AtomicReply size)) (answer : Progress
+        (AtomicReply size)) → IsCallOf is_value call
+        → Tells size base (call_words words call) (record { found = old.words; event = what }) next → answer ≡ progress_of next
+        → ((list : List ℕ) → what ≡ Some (event.Loaded list) → or_else (of list) other ≡ or_else (of (words_now size base old.words)) other)
+        → (IsDoing (call_words words call) (program_of next) → IsInValueCall words is_value (shown of other base new) number call)
+        → OnProgress (answer_of of other answer) ((option_map (event_of of other) what ≡ None) × IsInValueCall words is_value
+        (shown of other base new) number call)
+        (SaysOfValue (shown of other base old) call (option_map (event_of of other) what))
+    goes call what (Goes program) answer known says_so says is_got on = rw (says) (rw (says_so.0) refl, on says_so.1)
+    goes (Store value) what (Ends (reply.Stored true)) answer known says_so says is_got on = rw (says, says_so, laws.back value known) refl
+    goes (Store value) what (Ends (reply.Stored false)) answer known says_so says is_got on = rw (says) (rw (says_so.0) refl, says_so.1)
+    goes (Store value) what (Ends (reply.Loaded list)) answer known says_so says is_got on = absurd says_so
+    goes Load what (Ends (reply.Loaded list)) answer known says_so says is_got on = rw (says) (rw (says_so) refl, is_got list says_so)
+    goes Load what (Ends (reply.Stored true)) answer known says_so says is_got on = absurd says_so
+    goes Load what (Ends (reply.Stored false)) answer known says_so says is_got on = absurd says_so
+
+    call_of : (call : ValueCall T) → IsInValueCall words is_value (shown of other base old) number call
+        → OnProgress (answer_of of other answer) ((option_map (event_of of other) happened ≡ None) × IsInValueCall words is_value
+        (shown of other base new) number call)
+        (SaysOfValue (shown of other base old) call (option_map (event_of of other) happened))
+    unfolding happened
+    call_of call is_in = goes call happened (atomic_next size step.party.program (seen_in old (atomics_ask size step.party))) answer is_in.known
+        (subst (λ b. Tells size b (call_words words call) (record { found = old.words; event = happened }) (atomic_next size step.party.program (seen_in old
+        (atomics_ask size step.party)))) base_is
+        (tells size old holds number step.party step.after answer step.is_party step.leads_on (call_words words call) is_in.is_in))
+        step.leads_on.3 got
+        (λ doing. record {
+          known = is_in.known;
+          is_in = record {
+            party = step.after;
+            is_party = party_put old new number step.after (ap (λ (w : AtomicWorld size). w.parties) step.leads_to) step.is_party.0;
+            doing = rw (step.leads_on.2) doing;
+          };
+        })
+
+    pub typed_moment : IsTypedMoment words is_value (shown of other base old) number (answer_of of other answer) (shown of other base new)
     unfolding happened
     typed_moment = record {
       event = option_map (event_of of other) happened;
+      here = refl;
+      call = call_of;
+      others = λ another call apart was. record {
+        known = was.known;
+        is_in = record {
+          party = was.is_in.party;
+          is_party = party_stays old new number step.after (ap (λ
+              (w : AtomicWorld size). w.parties) step.leads_to) another was.is_in.party apart was.is_in.is_party;
+          doing = was.is_in.doing;
+        };
+      };
       told = ap (λ (w : AtomicWorld size). map (event_of of other) w.events) step.leads_to ∙ told_more old.events happened;
       run = (led happened refl leads).run;
       answers = typed_answers answer happened answers;
@@ -186,6 +246,26 @@ module _ {T : Type 0} (count : ℕ) (is_value : T → Type 0) (words : T → Lis
         | inr was ↦ typed.stores n that list was to_store
       ];
     }
+
+  -- a begin begins its call
+  begins_at : (old new : AtomicWorld size) (number : ℕ) (call : ValueCall T) → AtomicsHold size old → IsCallOf is_value call
+      → AtomicsBegun size old number (call_words words call) new
+      → BeginsValueCall words is_value (shown of other base old) number call (shown of other base new)
+  begins_at old new number call holds known begun = let begins = begin_of size old holds number (call_words words call) new begun in record {
+    here = refl;
+    value = ap (λ w. or_else (of (words_now size base w)) other) begins.words;
+    events = ap (map (event_of of other)) begins.events;
+    begun = record { known = known; is_in = begins.begun };
+    others = λ another that apart was. record { known = was.known; is_in = begins.others another (call_words words that) apart was.is_in };
+  }
+
+  -- whatever it answers
+  pub begins_typed : {A : Type 0} → (old new : AtomicWorld size) (number : ℕ) (call : ValueCall T) (result : Result A MachineError) → AtomicsHold size old
+      → IsCallOf is_value call
+      → OnOk result (AtomicsBegun size old number (call_words words call) new)
+      → OnOk result (BeginsValueCall words is_value (shown of other base old) number call (shown of other base new))
+  begins_typed old new number call (Ok answer) holds known begun = begins_at old new number call holds known begun
+  begins_typed old new number call (Err error) holds known begun = tt
 
   -- whatever a begin answers
   module _ {A : Type 0} (old new : AtomicWorld size) (number : ℕ) (call : ValueCall T) where

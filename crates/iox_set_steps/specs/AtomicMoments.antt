@@ -1,6 +1,6 @@
 -- One access of a party at a value: it leads on to the next value, and its party knows what it has to.
 use Rattle.std.specs.Prelude.{List, None}
-use Rattle.std.proofs.Common.{◌≡◌, ℕ, ◌+◌, ◌^◌, ◌<◌, ◌≤◌, length, get_or, set, replicate, refl, sym, ap, ◌∙◌, inl}
+use Rattle.std.proofs.Common.{◌≡◌, ◌≢◌, ℕ, ◌+◌, ◌^◌, ◌<◌, ◌≤◌, length, get_or, set, replicate, refl, sym, ap, ◌∙◌, inl}
 use Rattle.std.proofs.Common.{inr, arith, length-set, get_or-set_same, get_or-set_other}
 use Rattle.std.proofs.lemmas.List.{length-replicate}
 use Rattle.std.proofs.lemmas.Bool.{cases_eq, eq-eqb, ne_eqb}
@@ -9,7 +9,7 @@ use Rattle.iox_set_steps.specs.declared.unrestricted_atomic.AtomicProgram.{Atomi
 use Rattle.iox_set_steps.specs.declared.unrestricted_atomic.AtomicProgram.TheVariants.{AtRest, LoadsToStore, StoresWord, Raises, LoadsToLoad, LoadsWord}
 use Rattle.iox_set_steps.specs.declared.unrestricted_atomic.AtomicProgram.TheVariants.{LoadsAgain}
 use Rattle.iox_set_steps.specs.Values.{cell_of, version_now, word_of, value_now, AgreeUpTo, words_of, LeadsOn}
-use Rattle.iox_set_steps.specs.AtomicPrograms.{last_version, version_behind, index_behind, atomic_access, atomic_next, atomic_event, program_of}
+use Rattle.iox_set_steps.specs.AtomicPrograms.{last_version, version_behind, index_behind, stores_from, atomic_access, atomic_next, atomic_event, program_of}
 use Rattle.iox_set_steps.specs.AtomicPlays.{IsStoring, IsLoading, AtomicsKnow}
 use Rattle.iox_set_steps.specs.AtomicKnowledge.{Follows}
 use Rattle.iox_set_steps.specs.AtomicLemmas.{word_place_is, other_cell_stays, written_more, loaded_more, stores_from_knows, loads_from_knows}
@@ -30,11 +30,15 @@ module _ (size base : ℕ) (words : List ℕ) (room : base + 1 + size + size ≤
       → AtomicsKnow size base words (program_of (atomic_next size program seen)) → Makes size base words program words seen
   quiet program seen none knows = record { leads = rw (none) (λ at inside. refl); follows = unchanged; knows = knows; version = small }
 
+  stores_first : (list : List ℕ) → version_now base words ≢ last_version
+      → AtomicsKnow size base words (stores_from size list (version_now base words) 0)
+  stores_first list more = stores_from_knows size base words list (version_now base words) 0 (omega arith)
+      (record { current = refl; behind = omega (arith, more, small); written = λ at inside. absurd (omega arith) })
+
   loads_to_store : (list : List ℕ) → AtomicsKnow size base words (program_of (atomic_next size (LoadsToStore list) (version_now base words)))
   loads_to_store list = elim (cases_eq (version_now base words) last_version) [
     | inl last ↦ rw (eq-eqb _ _ last) tt
-    | inr more ↦ rw (ne_eqb _ _ more) (stores_from_knows size base words list (version_now base words) 0 (omega arith)
-        (record { current = refl; behind = omega arith; written = λ at inside. absurd (omega arith) }))
+    | inr more ↦ rw (ne_eqb _ _ more) (stores_first list more)
   ]
 
   loads_first : (list : List ℕ) → length list ≡ size → IsLoading size base words (version_now base words) list 0

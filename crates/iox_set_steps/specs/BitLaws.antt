@@ -20,20 +20,27 @@ use Rattle.iox_set_steps.specs.declared.bit_set.BitProgram.TheVariants.{AtRest, 
 use Rattle.iox_set_steps.specs.declared.bit_set.party.BitParty.{BitParty}
 use Rattle.iox_set_steps.specs.Bits.{bit_words, bit_now, set_by, cleared_by, times_set, times_cleared}
 use Rattle.iox_set_steps.specs.BitPrograms.{bit_access, bit_event, bit_start}
-use Rattle.iox_set_steps.specs.BitPlays.{BitWorld, bits_ask, bits_happen, bits_rest, BitsLead, BitsBegin, BitsKnow, IsAtBits, BitsHold}
+use Rattle.iox_set_steps.specs.BitPlays.{BitWorld, bits_ask, bits_happen, bits_rest, BitsLead, BitsBegin, BitsKnow, IsAtBits, BitsHoldAt, BitsHold}
 use Rattle.iox_set_steps.specs.BitMoments.{bit_access_within, bit_makes_up, bit_words_stay, bit_next_knows}
 
 -- what each party knows, this one does
-pub knows_of : (world : BitWorld) (number : ℕ) (party : BitParty) (holds : BitsHold world) → IsParty world number party
-    → IsAtBits holds.site party
-knows_of world number party holds is =
-    subst (IsAtBits holds.site) (sym is.1) (All-get_or (IsAtBits holds.site) world.parties number party is.0 holds.parties)
+pub knows_of : (site : BitSite) (world : BitWorld) (number : ℕ) (party : BitParty)
+    → BitsHoldAt site world → IsParty world number party
+    → IsAtBits site party
+knows_of site world number party holds is =
+    subst (IsAtBits site) (sym is.1) (All-get_or
+    (IsAtBits site) world.parties number party is.0 holds.parties)
+
+pub bits_stay_in_at : (site : BitSite) (world : BitWorld) (number : ℕ) (party : BitParty)
+    → BitsHoldAt site world → IsParty world number party
+    → IsWithin 0 (length world.words) (bits_ask party)
+bits_stay_in_at site world number party holds is =
+    let known = knows_of site world number party holds is in
+    rw (known.0) (bit_access_within site world.words holds.room holds.memory party.program known.1)
 
 pub bits_stay_in : (world : BitWorld) (number : ℕ) (party : BitParty) → BitsHold world → IsParty world number party
     → IsWithin 0 (length world.words) (bits_ask party)
-bits_stay_in world number party holds is =
-    let known = knows_of world number party holds is in
-    rw (known.0) (bit_access_within holds.site world.words holds.room holds.memory party.program known.1)
+bits_stay_in world number party holds is = bits_stay_in_at holds.0 world number party holds.1 is
 
 -- each bit that is set or cleared is told
 conserved_more : (site : BitSite) (words : List ℕ) (events : List BitEvent) (id : ℕ) (program : BitProgram) → site.base + bit_words site.capacity ≤ length words
@@ -73,43 +80,61 @@ inside_more site events id program seen knows past none =
     let more = none_past site id program seen knows past in
     sum_by-append (set_by id) events (option_to_list (bit_event program seen)) ∙ omega arith
 
-pub bits_keep : (world : BitWorld) (number : ℕ) (party after : BitParty) (answer : Progress BitReply) → BitsHold world → IsParty world number party
+pub bits_keep_at : (site : BitSite) (world : BitWorld) (number : ℕ) (party after : BitParty)
+    (answer : Progress BitReply) → BitsHoldAt site world → IsParty world number party
     → bits_rest party ≡ false
     → BitsLead party (seen_in world (bits_ask party)) answer after
-    → BitsHold (after_access world number (bits_ask party) after (bits_happen party (seen_in world (bits_ask party))))
-bits_keep world number party after answer holds is awake leads =
-    let known = knows_of world number party holds is in
+    → BitsHoldAt site (after_access world number (bits_ask party) after (bits_happen party
+    (seen_in world (bits_ask party))))
+bits_keep_at site world number party after answer holds is awake leads =
+    let known = knows_of site world number party holds is in
     record {
-      site = holds.site;
-      conserved = λ id. rw (known.0) (conserved_more holds.site world.words world.events id party.program holds.room holds.memory known.1 (holds.conserved id));
-      inside = λ id past. inside_more holds.site world.events id party.program (seen_in world (bits_ask party)) known.1 past (holds.inside id past);
+      conserved = λ id. rw (known.0) (conserved_more site world.words world.events id party.program holds.room holds.memory known.1 (holds.conserved id));
+      inside = λ id past. inside_more site world.events id party.program (seen_in world
+          (bits_ask party)) known.1 past (holds.inside id past);
       room = simp length-words_after (holds.room);
       memory = simp length-words_after (holds.memory);
-      words = rw (known.0) (bit_words_stay holds.site world.words holds.room holds.memory party.program holds.words);
-      parties = All-set (IsAtBits holds.site) world.parties number after (
+      words = rw (known.0) (bit_words_stay site world.words holds.room holds.memory party.program holds.words);
+      parties = All-set (IsAtBits site) world.parties number after (
         leads.0 ∙ known.0,
         rw (leads.1, known.0)
-            (bit_next_knows holds.site world.words holds.room holds.memory party.program holds.words known.1),
+            (bit_next_knows site world.words holds.room holds.memory party.program holds.words known.1),
       ) holds.parties;
     }
 
-start_knows : (site : BitSite) (call : BitCall) → BitsKnow site (bit_start site call)
+pub bits_keep : (world : BitWorld) (number : ℕ) (party after : BitParty)
+    (answer : Progress BitReply) → BitsHold world → IsParty world number party
+    → bits_rest party ≡ false
+    → BitsLead party (seen_in world (bits_ask party)) answer after
+    → BitsHold (after_access world number (bits_ask party) after (bits_happen party (seen_in world
+    (bits_ask party))))
+bits_keep world number party after answer holds is awake leads =
+    (holds.0, bits_keep_at holds.0 world number party after answer holds.1 is awake leads)
+
+pub start_knows : (site : BitSite) (call : BitCall) → BitsKnow site (bit_start site call)
 start_knows site (call.Set id) = elim (cases_lt id site.capacity) [ inl below ↦ rw (lt-ltb _ _ below) below | inr past ↦ rw (le-ltb _ _ past) tt ]
 start_knows site call.ResetNext = elim (cases_eq site.capacity 0) [ inl none ↦ rw (eq-eqb _ _ none) tt | inr some ↦ rw (ne_eqb _ _ some) (omega arith) ]
 start_knows site call.ResetAll = elim (cases_eq site.capacity 0) [ inl none ↦ rw (eq-eqb _ _ none) tt | inr some ↦ rw (ne_eqb _ _ some) (omega arith) ]
 
-pub bits_start : (world : BitWorld) (number : ℕ) (call : BitCall) (party after : BitParty) → BitsHold world → IsParty world number party
+pub bits_start_at : (site : BitSite) (world : BitWorld) (number : ℕ) (call : BitCall)
+    (party after : BitParty) → BitsHoldAt site world → IsParty world number party
     → BitsBegin party call (Ok after)
-    → BitsHold (with_party world number after)
-bits_start world number call party after holds is begins =
-    let known = knows_of world number party holds is in
+    → BitsHoldAt site (with_party world number after)
+bits_start_at site world number call party after holds is begins =
+    let known = knows_of site world number party holds is in
     record {
-      site = holds.site;
       conserved = holds.conserved;
       inside = holds.inside;
       room = holds.room;
       memory = holds.memory;
       words = holds.words;
-      parties = All-set (IsAtBits holds.site) world.parties number after
-          (begins.1 ∙ known.0, rw (begins.2, known.0) (start_knows holds.site call)) holds.parties;
+      parties = All-set (IsAtBits site) world.parties number after
+          (begins.1 ∙ known.0, rw (begins.2, known.0) (start_knows site call)) holds.parties;
     }
+
+pub bits_start : (world : BitWorld) (number : ℕ) (call : BitCall) (party after : BitParty)
+    → BitsHold world → IsParty world number party
+    → BitsBegin party call (Ok after)
+    → BitsHold (with_party world number after)
+bits_start world number call party after holds is begins =
+    (holds.0, bits_start_at holds.0 world number call party after holds.1 is begins)

@@ -75,9 +75,8 @@ BitsKnow site (ClearsAll word) = word < bit_words site.capacity
 abbrev pub IsAtBits : BitSite → BitParty → Type 0
 IsAtBits site party = (party.site ≡ site) × BitsKnow site party.program
 
--- Bits that parties played on:
-pub record BitsHold (world : BitWorld) : Type 0 where
-  pub site : BitSite
+-- Bits of this site that parties played on:
+pub record BitsHoldAt (site : BitSite) (world : BitWorld) : Type 0 where
   -- for each bit, the `set` calls that changed it are as many as the times it was cleared, and one more where it is set now
   pub conserved : (id : ℕ) → times_set id world.events ≡ times_cleared id world.events + bit_now site world.words id
   -- and no bit past the capacity was ever set
@@ -86,3 +85,6 @@ pub record BitsHold (world : BitWorld) : Type 0 where
   pub memory : length world.words < 2 ^ 64
   pub words : All (λ word. word < 2 ^ 64) world.words
   pub parties : All (IsAtBits site) world.parties
+
+abbrev pub BitsHold : BitWorld → Type 0
+BitsHold world = (site : BitSite) × BitsHoldAt site world

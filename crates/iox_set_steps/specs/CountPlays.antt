@@ -70,9 +70,8 @@ CountsKnow site (Takes id) = id < site.capacity
 abbrev pub IsAtCounts : CountSite → CountParty → Type 0
 IsAtCounts site party = (party.site ≡ site) × CountsKnow site party.program
 
--- Counts that parties played on:
-pub record CountsHold (world : CountWorld) : Type 0 where
-  pub site : CountSite
+-- Counts of this site that parties played on:
+pub record CountsHoldAt (site : CountSite) (world : CountWorld) : Type 0 where
   -- for each bit, as much was added as was taken out and is there now
   pub conserved : (id : ℕ) → times_added id world.events ≡ taken_out id world.events + count_now site world.words id
   -- and nothing to a bit past the capacity
@@ -81,3 +80,6 @@ pub record CountsHold (world : CountWorld) : Type 0 where
   pub memory : length world.words < 2 ^ 64
   pub words : All (λ word. word < 2 ^ 64) world.words
   pub parties : All (IsAtCounts site) world.parties
+
+abbrev pub CountsHold : CountWorld → Type 0
+CountsHold world = (site : CountSite) × CountsHoldAt site world

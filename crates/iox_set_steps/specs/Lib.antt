@@ -1,16 +1,23 @@
+pub mod Turns
 pub mod Bits
 pub mod BitPrograms
 pub mod BitPlays
+pub mod BitCalls
 pub mod BitMachines
+pub mod BitEntries
 pub mod Counts
 pub mod CountPrograms
 pub mod CountPlays
+pub mod CountCalls
 pub mod CountMachines
+pub mod CountEntries
 pub mod Values
 pub mod AtomicPrograms
 pub mod AtomicPlays
+pub mod AtomicCalls
 pub mod AtomicMachines
 pub mod TypedValues
+pub mod AtomicEntries
 pub mod TypedWords
 pub mod Sites
 -- for proofs of this crate alone

@@ -1,5 +1,5 @@
 -- How a value of a type stands in words, and what keeps it one.
-use Rattle.std.specs.Prelude.{◌≡◌, ℕ, ◌+◌, ◌^◌, ◌<◌, ◌⊎◌, List, [], Option, Some, None, length, map, slice_index}
+use Rattle.std.specs.Prelude.{◌≡◌, ℕ, ◌+◌, ◌^◌, ◌<◌, ◌++◌, ◌⊎◌, List, [], ◌∷◌, take, drop, Option, Some, None, length, map, slice_index}
 use Rattle.std.specs.List.{range_with_len}
 use Rattle.iox_steps.specs.Worlds.{IsParty}
 use Rattle.iox_steps.specs.declared.access.Progress.{Progress}
@@ -11,8 +11,6 @@ use Rattle.iox_set_steps.specs.declared.unrestricted_atomic.AtomicEvent.TheVaria
 use Rattle.iox_set_steps.specs.declared.unrestricted_atomic.AtomicProgram.{AtomicProgram}
 use Rattle.iox_set_steps.specs.declared.unrestricted_atomic.AtomicProgram.TheVariants.{LoadsToStore, StoresWord, Raises}
 use Rattle.iox_set_steps.specs.declared.unrestricted_atomic.party.AtomicParty.{AtomicParty}
-use Rattle.iox_set_steps.specs.declared.unrestricted_atomic.value.ValueCall.{ValueCall}
-use Rattle.iox_set_steps.specs.declared.unrestricted_atomic.value.ValueCall.TheVariants.{Store, Load}
 use Rattle.iox_set_steps.specs.declared.unrestricted_atomic.value.ValueReply.{ValueReply}
 use Rattle.iox_set_steps.specs.declared.unrestricted_atomic.value.ValueReply.TheVariants as typed_reply
 use Rattle.iox_set_steps.specs.declared.unrestricted_atomic.value.ValueEvent.{ValueEvent}
@@ -45,15 +43,11 @@ module _ {T : Type 0} (of : List ℕ → Option T) (other : T) where
   -- what the words and the parties show
   abbrev pub shown : {size : ℕ} → ℕ → AtomicWorld size → ValueWorld T size
   shown {size} base world = record {
+    base = base;
     value = or_else (of (words_now size base world.words)) other;
     events = map event_of world.events;
     plays = world;
   }
-
--- the value of a call is one of its type
-abbrev pub IsCallOf : {T : Type 0} → (T → Type 0) → ValueCall T → Type 0
-IsCallOf is_value (Store value) = is_value value
-IsCallOf is_value Load = Unit {0}
 
 -- the words of the value that a party stores, if it does
 abbrev pub stored_by : {size : ℕ} → AtomicProgram size → Option (List ℕ)
@@ -82,6 +76,10 @@ pub record AreLaid (size base : ℕ) (list old new : List ℕ) : Type 0 where
       → slice_index new (base + 1 + index) ≡ slice_index list index
   pub others : (place : ℕ) → (place < base) ⊎ (base + size < place)
       → slice_index new place ≡ slice_index old place
+
+-- those words
+abbrev pub laid_words : ℕ → List ℕ → List ℕ → List ℕ
+laid_words base list words = take base words ++ 0 ∷ (list ++ drop (base + 1 + length list) words)
 
 -- a value stands in words, this many parties are at rest, and nothing happened yet
 pub record IsNewValue {T : Type 0} {size : ℕ} (words : T → List ℕ) (value : T) (base count : ℕ)

@@ -10,22 +10,29 @@ use std::marker::Model;
 #[derive(Drop)]
 pub struct BitSetMachine {
     machine: Machine<BitParty>,
+    site: BitSite,
 }
 
 impl Model for BitSetMachine {
-    ghost use Rattle.iox_set_steps.specs.BitPlays.{BitWorld};
+    ghost use Rattle.iox_set_steps.specs.BitPlays.{BitsHoldAt};
+    ghost use Rattle.iox_set_steps.specs.BitMachines.{SitedBits};
 
-    ghost Value = { BitWorld };
+    ghost Value = { SitedBits };
 
-    ghost view = { λ m. m.machine };
+    ghost view = { λ m. record { site = m.site; world = m.machine } };
+
+    ghost invariant = { λ m. BitsHoldAt m.site m.machine };
 }
 
 impl BitSetMachine {
     ghost use Rattle.std.specs.Prelude.{◌≡◌, ℕ, ◌+◌, ◌≤◌, length, take, IfOk, IfErr, OnOk, OnErr};
     ghost use Rattle.iox_set_steps.specs.Bits.{bit_words};
-    ghost use Rattle.iox_set_steps.specs.BitPlays.{BitsHold};
-    ghost use Rattle.iox_set_steps.specs.BitMachines.{AllBitsEntered, AreClear, AreNewBits, BitsBegun, BitsStepped, IsBitBeginRefused};
-    ghost use Rattle.iox_set_steps.specs.BitMachines.{IsBitMoment, IsBitStepRefused, site_of};
+    ghost use Rattle.iox_set_steps.specs.Bits.{bit_now, times_cleared, times_set};
+    ghost use Rattle.iox_set_steps.specs.BitPlays.{BitsHoldAt};
+    ghost use Rattle.iox_set_steps.specs.BitMachines.{AllBitsEntered, AreClear, AreNewBits, BitsBegun, BitsStopAtStep};
+    ghost use Rattle.iox_set_steps.specs.BitMachines.{BeginsBitCall, BitsStepped, IsBitBeginRefused};
+    ghost use Rattle.iox_set_steps.specs.BitMachines.{IsBitMoment, IsBitStepRefused, PlayBits, bits_answer, bits_begun, bits_stepped, new_bits, site_of};
+    ghost use Rattle.iox_set_steps.specs.BitEntries.{bits_after};
     ghost use Rattle.iox_set_steps.specs.Sites.{StayAtSites};
 
     /// A machine of this many parties at the bits of a site, none of which is set.
@@ -38,6 +45,7 @@ impl BitSetMachine {
         requires room { site.base + bit_words site.capacity ≤ length words.items }
         requires clear { AreClear site words.items }
         ensures made { IfOk result (AreNewBits words.items site parties) }
+        ensures is { IfOk result (λ bits. bits ≡ new_bits words.items site parties) }
     {
         let party = BitParty {
             site,
@@ -46,27 +54,44 @@ impl BitSetMachine {
         let parties = vec![in alloc; party; parties]?;
         Ok(BitSetMachine {
             machine: Machine::new(alloc, words, parties),
+            site,
         })
     }
 
     /// The shared words.
     pub fn words(&self) -> &[u64]
-        ensures { result.now ≡ self.now.words }
+        ensures { result.now ≡ self.now.world.words }
     {
         self.machine.words()
     }
 
+    /// Where the bits stand.
+    pub fn site(&self) -> BitSite
+        ensures { result ≡ self.now.site }
+    {
+        self.site
+    }
+
     /// What happened so far.
     pub fn events(&self) -> &[BitEvent]
-        ensures { result.now ≡ self.now.events }
+        ensures { result.now ≡ self.now.world.events }
     {
         self.machine.events()
     }
 
+    /// What the words say, wherever the parties are.
+    pub fn holds(&self)
+        ensures { BitsHoldAt self.now.site self.now.world }
+    {
+        let _words = self.machine.words();
+    }
+
     /// The party begins the call, with no access.
     pub fn begin(&mut self, party: usize, call: BitCall) -> Result<(), MachineError>
-        ensures begun { OnOk result (BitsBegun self.old party call self.new) }
-        ensures refused { IfErr result (IsBitBeginRefused self.old party call) }
+        ensures begins { OnOk result (BeginsBitCall self.old party call self.new) }
+        ensures next { OnOk result (self.new ≡ bits_begun self.old party call) }
+        ensures begun { OnOk result (BitsBegun self.old.world party call self.new.world) }
+        ensures refused { IfErr result (IsBitBeginRefused self.old.world party call) }
         ensures unchanged { OnErr result (self.new ≡ self.old) }
     {
         self.machine.begin(party, call)
@@ -74,22 +99,35 @@ impl BitSetMachine {
 
     /// One access of the party's call.
     pub fn step(&mut self, party: usize) -> Result<Progress<BitReply>, MachineError>
-        ensures moment { IfOk result (IsBitMoment self.old self.new) }
-        ensures stepped { IfOk result (λ answer. BitsStepped self.old party answer self.new) }
-        ensures refused { IfErr result (IsBitStepRefused self.old party) }
+        ensures moment { IfOk result (λ answer. IsBitMoment self.old party answer self.new) }
+        ensures next { OnOk result (self.new ≡ bits_stepped self.old party) }
+        ensures answer { IfOk result (λ answer. answer ≡ bits_answer self.old party) }
+        ensures stepped { IfOk result (λ answer.
+            BitsStepped self.old.world party answer self.new.world) }
+        ensures refused { IfErr result (IsBitStepRefused self.old.world party) }
         ensures unchanged { OnErr result (self.new ≡ self.old) }
     {
-        self.machine.holds();
         self.machine.step(party)
     }
 
-    /// Plays a schedule to its end, or to the step that wants memory. Whatever the schedule, the `set` calls
-    /// that changed a bit are as many as the times it was cleared, and one more where it is set.
+    /// Plays a schedule to its end, or to the step that wants memory. Whatever the schedule, the
+    /// `set` calls that changed a bit are as many as the times it was cleared, and one more where it
+    /// is set. A schedule that is played to its end has one end.
     pub fn run(&mut self, schedule: &[Entry<BitCall>]) -> Result<(), MachineError>
-        ensures bits { BitsHold self.new }
-        ensures sites { StayAtSites site_of self.old self.new }
-        ensures played { (count : ℕ) × AllBitsEntered self.old (take count schedule.now) self.new }
-        ensures whole { OnOk result (AllBitsEntered self.old schedule.now self.new) }
+        ensures bits { (id : ℕ) → times_set id self.new.world.events
+            ≡ times_cleared id self.new.world.events + bit_now self.new.site self.new.world.words id }
+        ensures inside { (id : ℕ) → self.new.site.capacity ≤ id
+            → times_set id self.new.world.events ≡ 0 }
+        ensures holds { BitsHoldAt self.new.site self.new.world }
+        ensures moments { (count : ℕ) × PlayBits self.old (take count schedule.now) self.new }
+        ensures all_moments { OnOk result (PlayBits self.old schedule.now self.new) }
+        ensures here { self.new.site ≡ self.old.site }
+        ensures sites { StayAtSites site_of self.old.world self.new.world }
+        ensures played { (count : ℕ)
+            × AllBitsEntered self.old.world (take count schedule.now) self.new.world }
+        ensures whole { OnOk result (AllBitsEntered self.old.world schedule.now self.new.world) }
+        ensures stopped { OnErr result (BitsStopAtStep self.old.world schedule.now self.new.world) }
+        ensures after { OnOk result (self.new ≡ bits_after self.old schedule.now) }
         ensures refused { IfErr result (λ error. error ≡ MachineError.WantOfMemory) }
     {
         self.machine.run(schedule)

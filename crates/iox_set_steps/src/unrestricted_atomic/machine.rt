@@ -27,8 +27,10 @@ impl<const N: usize> Model for AtomicMachine<N> {
 impl<const N: usize> AtomicMachine<N> {
     ghost use Rattle.std.specs.Prelude.{◌≡◌, ℕ, ◌+◌, ◌^◌, ◌<◌, ◌≤◌, length, take, IfOk, IfErr, OnOk, OnErr};
     ghost use Rattle.iox_set_steps.specs.AtomicPlays.{AtomicsHold};
-    ghost use Rattle.iox_set_steps.specs.AtomicMachines.{AllAtomicsEntered, AtomicsBegun, AtomicsStepped, IsAtomicBeginRefused, IsAtomicMoment};
-    ghost use Rattle.iox_set_steps.specs.AtomicMachines.{IsAtomicStepRefused, IsNewAtomic, MayCall, RunsOn, base_of};
+    ghost use Rattle.iox_set_steps.specs.AtomicMachines.{AllAtomicsEntered, AtomicsBegun, AtomicsStepped, AtomicsStopAtStep, BeginsAtomicCall, IsAtomicBeginRefused};
+    ghost use Rattle.iox_set_steps.specs.AtomicMachines.{IsAtomicMoment, IsAtomicStepRefused, IsNewAtomic, MayCall, PlayAtomics, RunsOn, base_of};
+    ghost use Rattle.iox_set_steps.specs.AtomicMachines.{atomics_answer, atomics_begun, atomics_stepped, new_atomics};
+    ghost use Rattle.iox_set_steps.specs.AtomicEntries.{atomics_after};
     ghost use Rattle.iox_set_steps.specs.Sites.{StayAtSites};
 
     /// A machine of this many parties at the value whose version stands at `base`, and behind it its two
@@ -42,6 +44,7 @@ impl<const N: usize> AtomicMachine<N> {
         requires small { N < 2 ^ 56 }
         requires room { base + 1 + N + N ≤ length words.items }
         ensures made { IfOk result (IsNewAtomic words.items base parties) }
+        ensures is { IfOk result (λ world. world ≡ new_atomics words.items base parties) }
     {
         let _version = words[base];
         let parties = parties_at(alloc, base, parties)?;
@@ -67,6 +70,8 @@ impl<const N: usize> AtomicMachine<N> {
     /// The party begins the call, with no access. A store by another party than 0 is refused.
     pub fn begin(&mut self, party: usize, call: AtomicCall<N>) -> Result<(), MachineError>
         ensures storer { OnOk result (MayCall party call.entry) }
+        ensures begins { OnOk result (BeginsAtomicCall N self.old party call.entry self.new) }
+        ensures next { OnOk result (self.new ≡ atomics_begun self.old party call.entry) }
         ensures begun { OnOk result (AtomicsBegun N self.old party call.entry self.new) }
         ensures refused { IfErr result (IsAtomicBeginRefused N self.old party call.entry) }
         ensures unchanged { OnErr result (self.new ≡ self.old) }
@@ -77,7 +82,9 @@ impl<const N: usize> AtomicMachine<N> {
 
     /// One access of the party's call.
     pub fn step(&mut self, party: usize) -> Result<Progress<AtomicReply<N>>, MachineError>
-        ensures moment { IfOk result (IsAtomicMoment N self.old self.new) }
+        ensures moment { IfOk result (λ answer. IsAtomicMoment N self.old party answer self.new) }
+        ensures next { OnOk result (self.new ≡ atomics_stepped self.old party) }
+        ensures answer { IfOk result (λ answer. answer ≡ atomics_answer self.old party) }
         ensures stepped { IfOk result (λ answer. AtomicsStepped N self.old party answer self.new) }
         ensures refused { IfErr result (IsAtomicStepRefused N self.old party) }
         ensures unchanged { OnErr result (self.new ≡ self.old) }
@@ -87,13 +94,18 @@ impl<const N: usize> AtomicMachine<N> {
     }
 
     /// Plays a schedule to its end, or to the step that wants memory. Whatever the schedule, each load hands
-    /// out the value that is current at its last access.
+    /// out the value that is current at its last access. A schedule that is played to its end has one
+    /// end.
     pub fn run(&mut self, schedule: &[Entry<AtomicCall<N>>]) -> Result<(), MachineError>
         ensures value { RunsOn N self.old self.new }
+        ensures moments { (count : ℕ) × PlayAtomics N self.old (take count schedule.now) self.new }
+        ensures all_moments { OnOk result (PlayAtomics N self.old schedule.now self.new) }
         ensures holds { AtomicsHold N self.new }
         ensures sites { StayAtSites base_of self.old self.new }
         ensures played { (count : ℕ) × AllAtomicsEntered N self.old (take count schedule.now) self.new }
         ensures whole { OnOk result (AllAtomicsEntered N self.old schedule.now self.new) }
+        ensures stopped { OnErr result (AtomicsStopAtStep N self.old schedule.now self.new) }
+        ensures after { OnOk result (self.new ≡ atomics_after self.old schedule.now) }
         ensures refused { IfErr result (λ error. error ≡ MachineError.WantOfMemory) }
     {
         self.machine.holds();

@@ -1,6 +1,6 @@
 //! A party at a value: one access after another.
 ghost use Rattle.std.specs.Prelude.{◌≡◌, IfOk, slice_set};
-ghost use Rattle.iox_set_steps.specs.AtomicMachines.{AreNewParties};
+ghost use Rattle.iox_set_steps.specs.AtomicMachines.{AreNewParties, new_parties};
 ghost use Rattle.iox_set_steps.specs.AtomicPlays.{atomics_ask, atomics_happen, atomics_rest, AtomicsLead, AtomicsBegin, AtomicsHold};
 ghost use Rattle.iox_set_steps.specs.AtomicLaws.{atomics_stay_in, atomics_keep};
 ghost use Rattle.iox_set_steps.specs.AtomicBegins.{atomics_start};
@@ -226,7 +226,8 @@ pub(crate) fn parties_at<const N: usize>(
     base: usize,
     count: usize,
 ) -> Result<Vec<AtomicParty<N>>, AllocError>
-    ensures { IfOk result (λ parties. AreNewParties base count parties.items) }
+    ensures new { IfOk result (λ parties. AreNewParties base count parties.items) }
+    ensures are { IfOk result (λ parties. parties.items ≡ new_parties base count) }
 {
     let loads = AtomicParty {
         base,

@@ -1,7 +1,7 @@
 //! Values of a type as words, and back.
 ghost use Rattle.std.specs.Prelude.{◌≡◌, ◌+◌, ◌≤◌, length};
-ghost use Rattle.iox_set_steps.specs.TypedValues.{call_words};
-ghost use Rattle.iox_set_steps.specs.TypedWords.{AreLaid, IsCallOf, answer_of as typed_answer, or_else};
+ghost use Rattle.iox_set_steps.specs.TypedValues.{IsCallOf, call_words};
+ghost use Rattle.iox_set_steps.specs.TypedWords.{AreLaid, answer_of as typed_answer, or_else};
 
 use super::value::{ValueCall, ValueReply};
 use super::{AtomicCall, AtomicReply};

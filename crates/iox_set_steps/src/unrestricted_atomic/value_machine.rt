@@ -31,12 +31,13 @@ impl<T: Words, const N: usize> Model for ValueMachine<T, N> {
 }
 
 impl<T: Words, const N: usize> ValueMachine<T, N> {
-    ghost use Rattle.std.specs.Prelude.{◌≡◌, ℕ, ◌+◌, ◌^◌, ◌<◌, ◌≤◌, Err, IfErr, IfOk, OnErr, OnOk, length, slice_get, take};
+    ghost use Rattle.std.specs.Prelude.{◌≡◌, ℕ, ◌+◌, ◌^◌, ◌<◌, ◌≤◌, [], ◌∷◌, Err, IfErr, IfOk, OnErr, OnOk, length, slice_get, take};
     ghost use Rattle.iox_steps.specs.declared.error.MachineError.TheVariants.{UnknownParty, WantOfMemory};
-    ghost use Rattle.iox_set_steps.specs.AtomicMachines.{IsAtomicStepRefused};
-    ghost use Rattle.iox_set_steps.specs.TypedValues.{AllTypedEntered, IsTypedBeginRefused, IsTypedMoment, MayCallTyped, TypedBegun};
-    ghost use Rattle.iox_set_steps.specs.TypedValues.{TypedEntered, TypedRunsOn, TypedStepped};
-    ghost use Rattle.iox_set_steps.specs.TypedWords.{IsNewValue};
+    ghost use Rattle.iox_set_steps.specs.AtomicMachines.{IsAtomicStepRefused, new_atomics};
+    ghost use Rattle.iox_set_steps.specs.TypedValues.{AllTypedEntered, BeginsValueCall, IsTypedBeginRefused, IsTypedMoment, LoadsCurrent, MayCallTyped, PlayValues};
+    ghost use Rattle.iox_set_steps.specs.TypedValues.{IsTypedStepUnderWay, TypedBegun, TypedEntered, TypedRunsOn, TypedStepped, TypedStopsAtStep};
+    ghost use Rattle.iox_set_steps.specs.AtomicEntries.{plays_after};
+    ghost use Rattle.iox_set_steps.specs.TypedWords.{IsNewValue, laid_words};
 
     /// A machine of this many parties at a value, whose version stands at `base`, and behind it its
     /// two cells.
@@ -51,6 +52,8 @@ impl<T: Words, const N: usize> ValueMachine<T, N> {
         requires small { N < 2 ^ 56 }
         requires room { base + 1 + N + N ≤ length words.items }
         ensures made { IfOk result (IsNewValue T.words value base parties words.items) }
+        ensures plays { IfOk result (λ machine. machine.plays
+            ≡ new_atomics (laid_words base (T.words value) words.items) base parties) }
     {
         let mut words = words;
         lay(&mut words, base, value_words::<T, N>(value));
@@ -83,6 +86,8 @@ impl<T: Words, const N: usize> ValueMachine<T, N> {
     pub fn begin(&mut self, party: usize, call: ValueCall<T>) -> Result<(), MachineError>
         ensures storer { OnOk result (MayCallTyped party call) }
         ensures others { (MayCallTyped party call → ⊥) → result ≡ Err UnknownParty }
+        ensures begins { OnOk result
+            (BeginsValueCall T.words T.is_value self.old party call self.new) }
         ensures begun { OnOk result (TypedBegun T.words self.old party call self.new) }
         ensures refused { IfErr result (IsTypedBeginRefused T.words self.old party call) }
         ensures unchanged { OnErr result (self.new ≡ self.old) }
@@ -95,7 +100,9 @@ impl<T: Words, const N: usize> ValueMachine<T, N> {
 
     /// One access of the party's call.
     pub fn step(&mut self, party: usize) -> Result<Progress<ValueReply<T>>, MachineError>
-        ensures moment { IfOk result (IsTypedMoment self.old self.new) }
+        ensures moment { IfOk result (λ answer.
+            IsTypedMoment T.words T.is_value self.old party answer self.new) }
+        ensures loaded { IfOk result (LoadsCurrent self.old) }
         ensures stepped { IfOk result (λ answer. TypedStepped T.words self.old party answer self.new) }
         ensures refused { IfErr result (IsAtomicStepRefused N self.old.plays party) }
         ensures unchanged { OnErr result (self.new ≡ self.old) }
@@ -106,11 +113,18 @@ impl<T: Words, const N: usize> ValueMachine<T, N> {
     }
 
     /// Plays a schedule to its end, or to the step that wants memory. Whatever the schedule, each
-    /// load hands out the value that is current at its last access.
+    /// load hands out the value that is current at its last access. A schedule that is played to its
+    /// end has one end.
     pub fn run(&mut self, schedule: &[Entry<ValueCall<T>>]) -> Result<(), MachineError>
         ensures value { TypedRunsOn self.old self.new }
+        ensures moments { (count : ℕ)
+            × PlayValues T.words T.is_value self.old (take count schedule.now) self.new }
+        ensures all_moments { OnOk result
+            (PlayValues T.words T.is_value self.old schedule.now self.new) }
         ensures played { (count : ℕ) × AllTypedEntered T.words self.old (take count schedule.now) self.new }
         ensures whole { OnOk result (AllTypedEntered T.words self.old schedule.now self.new) }
+        ensures stopped { OnErr result (TypedStopsAtStep T.words self.old schedule.now self.new) }
+        ensures after { OnOk result (self.new.plays ≡ plays_after T.words self.old schedule.now) }
         ensures refused { IfErr result (λ error. error ≡ WantOfMemory) }
     {
         for entry in schedule {
@@ -122,8 +136,11 @@ impl<T: Words, const N: usize> ValueMachine<T, N> {
     /// One entry of a schedule.
     fn enter(&mut self, entry: Entry<ValueCall<T>>) -> Result<(), MachineError>
         ensures value { TypedRunsOn self.old self.new }
+        ensures moments { OnOk result
+            (PlayValues T.words T.is_value self.old (entry ∷ []) self.new) }
         ensures entered { OnOk result (TypedEntered T.words self.old entry self.new) }
         ensures refused { IfErr result (λ error. error ≡ WantOfMemory) }
+        ensures wants { OnErr result (IsTypedStepUnderWay T.words self.old entry) }
         ensures unchanged { OnErr result (self.new ≡ self.old) }
     {
         match entry {

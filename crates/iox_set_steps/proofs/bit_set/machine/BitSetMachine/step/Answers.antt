@@ -1,8 +1,23 @@
-use Rattle.std.proofs.Common.{subst, IfOk}
-use Rattle.iox_set_steps.specs.BitPlays.{BitWorld}
-use Rattle.iox_set_steps.specs.BitMachines.{IsBitMoment}
-use Rattle.iox_set_steps.proofs.BitMomentLemmas.{moments_of}
+use Rattle.std.proofs.Common.{◌≡◌, subst, IfOk, OnOk}
+use Rattle.iox_set_steps.specs.BitMachines.{IsBitMoment, SitedBits, bits_answer, bits_stepped}
+use Rattle.iox_set_steps.proofs.BitMomentLemmas.{answers_are, bits_hold_after_step, moments_of, steps_are}
 use Rattle.iox_set_steps.proofs.bit_set.machine.BitSetMachine.step.Goals as goal
 
+pub invariant_of-self : goal.invariant_of-self
+invariant_of-self c = bits_hold_after_step _ _ _ _ c.step.result c.self.invariant c.step.ensures.stepped c.step.ensures.unchanged
+
 pub returns-clause-moment : goal.returns-clause-moment
-returns-clause-moment c = subst (λ (w : BitWorld). IfOk c.step.result (IsBitMoment w c.step.new.self)) c.self.view_is (moments_of _ _ _ c.step.result c.holds.ensures c.step.ensures.stepped)
+returns-clause-moment c =
+    subst (λ (w : SitedBits). IfOk c.step.result (λ answer. IsBitMoment w c.args.party answer
+    (record { site = c.self.inside.site; world = c.step.new.self }))) c.self.view_is
+    (moments_of c.self.inside.site _ c.self.invariant c.args.party c.step.new.self c.step.result c.step.ensures.stepped)
+
+pub returns-clause-next : goal.returns-clause-next
+returns-clause-next c =
+    subst (λ (w : SitedBits). OnOk c.step.result (record { site = c.self.inside.site; world = c.step.new.self } ≡ bits_stepped w c.args.party)) c.self.view_is
+    (steps_are c.self.inside.site _ _ c.args.party c.self.invariant c.step.result c.step.ensures.stepped)
+
+pub returns-clause-answer : goal.returns-clause-answer
+returns-clause-answer c =
+    subst (λ (w : SitedBits). IfOk c.step.result (λ answer. answer ≡ bits_answer w c.args.party)) c.self.view_is
+    (answers_are c.self.inside.site _ _ c.args.party c.self.invariant c.step.result c.step.ensures.stepped)

@@ -1,7 +1,10 @@
-use Rattle.std.proofs.Common.{subst}
+use Rattle.std.proofs.Common.{◌≡◌, ℕ, subst, take, OnOk}
 use Rattle.iox_set_steps.specs.AtomicPlays.{atomics_ask, atomics_happen, atomics_rest, AtomicsLead, AtomicsBegin, AtomicWorld}
-use Rattle.iox_set_steps.specs.AtomicMachines.{base_of, RunsOn}
+use Rattle.iox_set_steps.specs.AtomicMachines.{base_of, PlayAtomics, RunsOn}
+use Rattle.iox_set_steps.specs.AtomicEntries.{atomics_after}
 use Rattle.iox_set_steps.specs.Sites.{StayAtSites}
+use Rattle.iox_set_steps.proofs.EntryLemmas.{atomics_end}
+use Rattle.iox_set_steps.proofs.AtomicMomentLemmas.{atomics_play, atomics_play_whole}
 use Rattle.iox_set_steps.proofs.AtomicRunLemmas.{runs_on}
 use Rattle.iox_set_steps.proofs.SiteLemmas.{all_entered_stay}
 use Rattle.iox_set_steps.proofs.unrestricted_atomic.machine.AtomicMachine.run.Goals as goal
@@ -14,3 +17,18 @@ returns-clause-sites g c =
 pub returns-clause-value : goal.returns-clause-value
 returns-clause-value g c =
     subst (λ (w : AtomicWorld g.row.N). RunsOn g.row.N w c.run.new.self) c.self.view_is (runs_on g.row.N _ _ _ c.holds.ensures c.run.ensures.played.1)
+
+pub returns-clause-moments : goal.returns-clause-moments
+returns-clause-moments g c =
+    subst (λ (w : AtomicWorld g.row.N). (count : ℕ) × PlayAtomics g.row.N w (take count c.args.schedule.now) c.run.new.self) c.self.view_is
+    (c.run.ensures.played.0, atomics_play g.row.N _ _ _ c.holds.ensures c.run.ensures.played.1)
+
+pub returns-clause-all_moments : goal.returns-clause-all_moments
+returns-clause-all_moments g c =
+    subst (λ (w : AtomicWorld g.row.N). OnOk c.run.result (PlayAtomics g.row.N w c.args.schedule.now c.run.new.self)) c.self.view_is
+    (atomics_play_whole g.row.N _ _ _ c.run.result c.holds.ensures c.run.ensures.whole)
+
+pub returns-clause-after : goal.returns-clause-after
+returns-clause-after g c =
+    subst (λ (w : AtomicWorld g.row.N). OnOk c.run.result (c.run.new.self ≡ atomics_after w c.args.schedule.now)) c.self.view_is
+    (atomics_end g.row.N _ c.args.schedule.now c.run.new.self c.run.result c.run.ensures.whole)

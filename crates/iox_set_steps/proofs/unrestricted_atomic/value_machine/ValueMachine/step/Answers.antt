@@ -3,6 +3,7 @@ use Rattle.iox_set_steps.specs.TypedValues.{IsTypedMoment, ValueWorld, answer_wo
 use Rattle.iox_set_steps.specs.TypedWords.{shown}
 use Rattle.iox_set_steps.specs.AtomicMachines.{AtomicsStepped}
 use Rattle.iox_set_steps.proofs.TypedMoments.{typed_kept, typed_moment, typed_stepped}
+use Rattle.iox_set_steps.proofs.TypedRunLemmas.{loads_of_moment}
 use Rattle.iox_set_steps.proofs.unrestricted_atomic.value_machine.ValueMachine.step.Goals as goal
 
 pub invariant_of-self-2 : goal.invariant_of-self-2
@@ -12,7 +13,8 @@ invariant_of-self-2 g c =
 
 pub returns-clause-moment : goal.returns-clause-moment
 returns-clause-moment g c =
-    subst (λ (w : ValueWorld g.row.T.Denot g.row.N). IsTypedMoment w (shown g.T.Words.of_words c.self.inside.first c.self.inside.base c.step.new.self) c.answer_of.result) c.self.view_is
+    subst (λ (w : ValueWorld g.row.T.Denot g.row.N). IsTypedMoment g.T.Words.words g.T.Words.is_value w c.args.party c.answer_of.result
+    (shown g.T.Words.of_words c.self.inside.first c.self.inside.base c.step.new.self)) c.self.view_is
     (rw (c.answer_of.ensures) (typed_moment g.T.Words.WORDS g.T.Words.is_value g.T.Words.words g.T.Words.is_words g.T.Words.of_words g.met.T.Words.laws c.self.inside.first g.row.N c.self.inside.base
     c.self.inside.machine c.step.new.self c.args.party c.in_ok-answer.answer c.holds.ensures c.self.invariant c.in_ok-answer.ensures.stepped))
 
@@ -21,3 +23,6 @@ returns-clause-stepped g c =
     subst (λ (w : ValueWorld g.row.T.Denot g.row.N). AtomicsStepped g.row.N w.plays c.args.party (answer_words g.T.Words.words c.answer_of.result) c.step.new.self) c.self.view_is
     (rw (c.answer_of.ensures) (typed_stepped g.T.Words.WORDS g.T.Words.is_value g.T.Words.words g.T.Words.is_words g.T.Words.of_words g.met.T.Words.laws c.self.inside.first g.row.N c.self.inside.base
     c.self.inside.machine c.step.new.self c.args.party c.in_ok-answer.answer c.holds.ensures c.self.invariant c.in_ok-answer.ensures.stepped))
+
+pub returns-clause-loaded : goal.returns-clause-loaded
+returns-clause-loaded g c = loads_of_moment g.T.Words.words g.T.Words.is_value c.args.self.now c.args.party c.answer_of.result _ (returns-clause-moment g c)

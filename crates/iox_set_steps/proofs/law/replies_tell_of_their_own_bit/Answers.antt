@@ -1,0 +1,5 @@
+use Rattle.iox_set_steps.proofs.BitTellLemmas.{replies_tell}
+use Rattle.iox_set_steps.proofs.law.replies_tell_of_their_own_bit.Goals as goal
+
+pub returns : goal.returns
+returns c = replies_tell
