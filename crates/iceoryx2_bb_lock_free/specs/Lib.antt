@@ -54,6 +54,7 @@ pub use Rattle.iox_container.specs.declared.mpmc.container.failures.ContainerRem
 -- the machine, and the queue that it plays
 pub use Rattle.iox_steps.specs.Accesses
 pub use Rattle.iox_steps.specs.Worlds
+pub use Rattle.iox_steps.specs.Entries
 pub use Rattle.iox_steps.specs.Playables
 pub use Rattle.iox_steps.specs.Sites
 pub use Rattle.iox_steps.specs.Pushes
@@ -63,6 +64,7 @@ pub use Rattle.iox_steps.specs.Moments
 pub use Rattle.iox_steps.specs.Runs
 pub use Rattle.iox_steps.specs.Seats
 pub use Rattle.iox_steps.specs.Fits
+pub use Rattle.iox_steps.specs.Contents
 pub use Rattle.iox_steps.specs.Plays
 pub use Rattle.iox_steps.specs.Answers
 pub use Rattle.iox_steps.specs.Laws
@@ -70,6 +72,7 @@ pub use Rattle.iox_steps.specs.Stores
 pub use Rattle.iox_steps.specs.Results
 pub use Rattle.iox_queue_steps.specs.Queues
 pub use Rattle.iox_queue_steps.specs.Machines
+pub use Rattle.iox_queue_steps.specs.Entries as QueueEntries
 pub use Rattle.iox_steps.specs.declared.access.Access
 pub use Rattle.iox_steps.specs.declared.access.Progress
 pub use Rattle.iox_steps.specs.declared.access.Next
@@ -110,6 +113,7 @@ pub use Rattle.iox_cell_steps.specs.CellPrograms
 pub use Rattle.iox_cell_steps.specs.CellMoments
 pub use Rattle.iox_cell_steps.specs.CellSeats
 pub use Rattle.iox_cell_steps.specs.CellFits
+pub use Rattle.iox_cell_steps.specs.CellContents
 pub use Rattle.iox_cell_steps.specs.CellRuns
 pub use Rattle.iox_cell_steps.specs.CellAnswers
 pub use Rattle.iox_cell_steps.specs.CellPlays
@@ -126,6 +130,7 @@ pub use Rattle.iox_cell_queues.specs.CellSeatings
 pub use Rattle.iox_cell_queues.specs.CellParties
 pub use Rattle.iox_cell_queues.specs.CellQueues
 pub use Rattle.iox_cell_queues.specs.CellMachines
+pub use Rattle.iox_cell_queues.specs.CellEntries
 pub use Rattle.iox_cell_queues.specs.CellSizes
 pub use Rattle.iox_cell_queues.specs.declared.machine.CellMachine
 pub use Rattle.iox_cell_queues.specs.declared.queue.CellParty
@@ -136,19 +141,26 @@ pub use Rattle.iox_cell_runs.specs.Alone as CellAlone
 pub use Rattle.iox_cell_runs.specs.Calls as CellCalls
 pub use Rattle.iox_cell_runs.specs.Apart as CellApart
 -- bits, counts and values as steps
+pub use Rattle.iox_set_steps.specs.Turns as SetTurns
 pub use Rattle.iox_set_steps.specs.Bits
 pub use Rattle.iox_set_steps.specs.BitPrograms
 pub use Rattle.iox_set_steps.specs.BitPlays
+pub use Rattle.iox_set_steps.specs.BitCalls
 pub use Rattle.iox_set_steps.specs.BitMachines
+pub use Rattle.iox_set_steps.specs.BitEntries
 pub use Rattle.iox_set_steps.specs.Counts
 pub use Rattle.iox_set_steps.specs.CountPrograms
 pub use Rattle.iox_set_steps.specs.CountPlays
+pub use Rattle.iox_set_steps.specs.CountCalls
 pub use Rattle.iox_set_steps.specs.CountMachines
+pub use Rattle.iox_set_steps.specs.CountEntries
 pub use Rattle.iox_set_steps.specs.Values as StepValues
 pub use Rattle.iox_set_steps.specs.AtomicPrograms
 pub use Rattle.iox_set_steps.specs.AtomicPlays
+pub use Rattle.iox_set_steps.specs.AtomicCalls
 pub use Rattle.iox_set_steps.specs.AtomicMachines
 pub use Rattle.iox_set_steps.specs.TypedValues
+pub use Rattle.iox_set_steps.specs.AtomicEntries
 pub use Rattle.iox_set_steps.specs.TypedWords
 pub use Rattle.iox_set_steps.specs.declared.bit_set.machine.BitSetMachine
 pub use Rattle.iox_set_steps.specs.declared.counting_bit_set.machine.CountingBitSetMachine

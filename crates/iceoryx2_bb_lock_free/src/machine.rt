@@ -6,7 +6,10 @@ pub use iox_queue_runs::{holds_when_empty, is_empty, is_full, pop, push, queues_
 pub use iox_queue_steps::{
     Call, QueueMachine, QueueParty, Seat, StepAnswer, StoredPopper, StoredPusher, StoredQueue,
 };
-pub use iox_set_steps::{bit_set, counting_bit_set, unrestricted_atomic};
+pub use iox_set_steps::{
+    bit_set, counting_bit_set, replies_tell_of_their_own_bit, replies_tell_of_their_own_count,
+    replies_tell_of_their_own_value, unrestricted_atomic,
+};
 pub use iox_steps::{
     Access, EmptyLook, Entry, FullLook, Machine, MachineError, Moment, Next, Party, Playable, Pop,
     Popping, Progress, Push, PushReply, Pushing, QueueKind, Reply, Site,

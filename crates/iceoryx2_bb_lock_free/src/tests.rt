@@ -1,4 +1,5 @@
-use crate::machine::{Call, Entry, Moment, QueueKind, Site};
+use crate::machine::cells::{CellCall, CellMachine, CellMoment, Place};
+use crate::machine::{Call, Entry, Moment, Progress, QueueKind, Reply, Site};
 use crate::mpmc::bit_set::FixedSizeBitSet;
 use crate::mpmc::counting_bit_set::{CountingBitSet, FixedSizeCountingBitSet};
 use crate::mpmc::robust_unique_index_set::{
@@ -7,7 +8,9 @@ use crate::mpmc::robust_unique_index_set::{
 use crate::mpmc::unique_index_set::{FixedSizeUniqueIndexSet, HeadDetails, UniqueIndexSet};
 use crate::mpmc::unique_index_set_enums::{ReleaseMode, ReleaseState};
 use crate::spsc::index_queue::{FixedSizeIndexQueue, IndexQueue};
-use crate::uses::{index_for_a_moment, index_of_some_set, lower_bit, oldest_of, played};
+use crate::uses::cells::{cells_played, seven_handed_out};
+use crate::uses::queues::{both_left, played, pushed_and_popped};
+use crate::uses::{index_for_a_moment, index_of_some_set, lower_bit, oldest_of};
 use std::test::Fail;
 
 #[test]
@@ -74,5 +77,49 @@ fn a_schedule_is_played(rt: HostRuntime) -> Result<(), Fail> {
         machine.events(),
         [Moment::SeesRoom, Moment::Publish(9)].as_slice()
     );
+    Ok(())
+}
+
+#[test]
+fn worked_schedules_end_as_they_say(rt: HostRuntime) -> Result<(), Fail> {
+    let reply = pushed_and_popped(rt.alloc(), 7)?;
+    assert_eq!(rt; reply, Progress::Done(Reply::Popped(Some(7))));
+    let machine = both_left(rt.alloc(), 7, 8)?;
+    assert_eq!(rt;
+        machine.events(),
+        [
+            Moment::SeesRoom,
+            Moment::Publish(7),
+            Moment::SeesFull,
+            Moment::Publish(8),
+            Moment::Evict,
+            Moment::GetBack(7),
+            Moment::SeesWaiting,
+            Moment::HandOut(8),
+        ]
+        .as_slice()
+    );
+    Ok(())
+}
+
+#[test]
+fn a_schedule_of_values_is_played(rt: HostRuntime) -> Result<(), Fail> {
+    let words = vec![in rt.alloc(); 0u64; 4]?;
+    assert!(rt; words.len() == 4 && words[0] == words[1]);
+    let place = Place {
+        base: 0,
+        capacity: 1,
+        width: 2,
+    };
+    let mut schedule = [Entry::Step(0); 6];
+    schedule[0] = Entry::Begin(0, CellCall::Push(7u128));
+    let machine: CellMachine<u128, 2> = cells_played(rt.alloc(), words, place, &schedule)?;
+    assert_eq!(rt; machine.words(), [1, 0, 0, 7].as_slice());
+    assert_eq!(rt;
+        machine.events(),
+        [CellMoment::SeesRoom, CellMoment::Publish(7)].as_slice()
+    );
+    let machine = seven_handed_out(rt.alloc())?;
+    assert_eq!(rt; machine.words(), [1, 1, 7].as_slice());
     Ok(())
 }

@@ -1,10 +1,9 @@
 //! Callers, as the README shows them.
-ghost use Rattle.std.specs.Prelude.{◌≡◌, ◌+◌, ◌<◌, ◌≤◌, IfOk, Some, length, slice_index};
-ghost use Rattle.iceoryx2_bb_lock_free.specs.Queues.{QueueHolds, IsNewMachine};
-ghost use Rattle.iceoryx2_bb_lock_free.specs.Machines.{QueueWorld, Plays};
-ghost use Rattle.iceoryx2_bb_lock_free.specs.Sites.{size};
+pub mod cells;
+pub mod queues;
 
-use crate::machine::{Call, Entry, MachineError, QueueKind, QueueMachine, Site};
+ghost use Rattle.std.specs.Prelude.{◌≡◌, IfOk, Some};
+
 use crate::mpmc::bit_set::BitSet;
 use crate::mpmc::unique_index_set::{FixedSizeUniqueIndexSet, UniqueIndexSet};
 use crate::mpmc::unique_index_set_enums::UniqueIndexSetAcquireFailure;
@@ -47,26 +46,4 @@ pub fn index_of_some_set(set: &mut UniqueIndexSet) -> Result<u32, UniqueIndexSet
 {
     let index = set.acquire()?;
     Ok(index.value())
-}
-
-/// Plays a schedule of single accesses at an empty queue. Whatever the schedule, the values that left
-/// are, in order, the first of those published, and the rest waits.
-pub fn played(
-    alloc: Global,
-    words: Vec<u64>,
-    site: Site,
-    schedule: &[Entry<Call>],
-) -> Result<QueueMachine, MachineError>
-    requires room { site.base + size site ≤ length words.items }
-    requires empty { slice_index words.items site.base ≡ slice_index words.items (site.base + 1) }
-    requires some { site.kind ≡ QueueKind.Overflowing → 0 < site.capacity }
-    ensures queue { IfOk result (λ machine. QueueHolds machine) }
-    ensures moments { IfOk result (λ machine. (start : QueueWorld)
-        × (IsNewMachine words.items site start × Plays start machine)) }
-{
-    let Ok(mut machine) = QueueMachine::new(alloc, words, site) else {
-        return Err(MachineError::WantOfMemory);
-    };
-    machine.run(schedule)?;
-    Ok(machine)
 }
