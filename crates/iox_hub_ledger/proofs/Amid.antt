@@ -5,7 +5,7 @@ use Rattle.iox_model.specs.declared.way.Way.{Way}
 use Rattle.iox_model.specs.Begins.{start}
 use Rattle.iox_model.specs.Commands.{Call}
 use Rattle.iox_model.specs.Doings.{Doing, Delivering, Evicted}
-use Rattle.iox_model.specs.Ledgers.{had_on}
+use Rattle.iox_weaves.specs.Ledgers.{had_on}
 use Rattle.iox_model.specs.Loans.{Choice}
 use Rattle.iox_model.specs.Moments.{Moment}
 use Rattle.iox_model.specs.Names.{misnamed}
@@ -13,8 +13,8 @@ use Rattle.iox_model.specs.Peers.{buffer_on, borrow_limit_on}
 use Rattle.iox_model.specs.States.{Fixed, State}
 use Rattle.iox_model.specs.Weaves.{World}
 use Rattle.iox_model.specs.WholeCalls.{moved_by, left_by, MayCome}
-use Rattle.iox_model.proofs.PlayedRuns.{split}
-use Rattle.iox_model.proofs.WholeLemmas.{moved_by-fixed}
+use Rattle.iox_weaves.proofs.WholeLemmas.{split}
+use Rattle.iox_weaves.proofs.WholeLemmas.{moved_by-fixed}
 use Rattle.iox_ledger.specs.QueueLaws.{evicts_next, has_evicted}
 use Rattle.iox_ledger.proofs.Orders.{none-more, le-is}
 use Rattle.iox_ledger.proofs.Counts.{count, one_if}
@@ -35,7 +35,7 @@ use Rattle.iox_hub_ledger.proofs.Books.{begins-underway}
 use Rattle.iox_hub_ledger.proofs.Laws.{live-ends}
 use Rattle.iox_hub_ledger.proofs.Moments.{has_ends}
 use Rattle.iox_hub_ledger.proofs.Rights.{loaned_in, rights, fits_handles}
-use Rattle.iox_hub_ledger.proofs.Runs.{Kept, left-kept}
+use Rattle.iox_hub_ledger.proofs.Runs.{Kept, reached-kept}
 use Rattle.iox_hub_ledger.proofs.Underway.{Stands}
 
 -- what holds in the midst of the call
@@ -112,7 +112,7 @@ amid-is s w y a =
 
     u : Underway (moved_by s ms) node d
     u =
-        let k : Kept s = left-kept s a.0 in
+        let k : Kept s = reached-kept s a.0 in
         underway_by s node (start s node c call) ms (begins-underway s node c call k.calm k.books named) may
 
     same : (moved_by s ms).fixed ≡ s.fixed

@@ -5,7 +5,7 @@ use Rattle.std.proofs.Common.{sym, subst, ap, ◌∙◌, true≢false, arith, in
 use Rattle.iox_model.specs.declared.kind.Role.TheVariants.{Client}
 use Rattle.iox_model.specs.declared.way.Way.{Way}
 use Rattle.iox_model.specs.Doings.{Doing, Delivering, Evicted}
-use Rattle.iox_model.specs.Ledgers.{is_emptied_by}
+use Rattle.iox_weaves.specs.Ledgers.{is_emptied_by}
 use Rattle.iox_model.specs.Maps.{same_way, has_way}
 use Rattle.iox_model.specs.Moments.{Holds, moved, Moment, Deliver, Evict, GetBack}
 use Rattle.iox_model.specs.Peers.{is_counted_on, forgot_port, node_of_port, buffer_on, borrow_limit_on}
@@ -13,9 +13,9 @@ use Rattle.iox_model.specs.Settings.{is_client}
 use Rattle.iox_model.specs.States.{Port, Fixed, State}
 use Rattle.iox_model.specs.Steps.{next}
 use Rattle.iox_model.specs.WholeCalls.{moved_by, left_by, MayCome}
-use Rattle.iox_model.proofs.PlayedRuns.{split}
-use Rattle.iox_model.proofs.MapLemmas.{nobody_is_forgotten}
-use Rattle.iox_model.proofs.WholeLemmas.{moved-fixed}
+use Rattle.iox_weaves.proofs.WholeLemmas.{split}
+use Rattle.iox_weaves.proofs.MapLemmas.{nobody_is_forgotten}
+use Rattle.iox_weaves.proofs.WholeLemmas.{moved-fixed}
 use Rattle.iox_ledger.specs.QueueLaws.{has_evicted}
 use Rattle.iox_ledger.proofs.Truths.{by_cases}
 use Rattle.iox_ledger.proofs.Counts.{count, one_if}

@@ -19,7 +19,7 @@ use Rattle.iox_model.specs.Releases.{states_of, closing, returning, releases_han
 use Rattle.iox_model.specs.Responses.{lending, lends_response, lends_by, lends, copies, shape_for, ordered}
 use Rattle.iox_model.specs.Settings.{is_client, is_count}
 use Rattle.iox_model.specs.States.{Port, Handle, Fixed, State}
-use Rattle.iox_model.proofs.MapLemmas.{either}
+use Rattle.iox_weaves.proofs.MapLemmas.{either}
 use Rattle.iox_ledger.proofs.Lists.{IsAmong, find-among}
 use Rattle.iox_ledger.proofs.Phases.{HasOwnPorts, sends-fits, loaning-fits}
 use Rattle.iox_ledger.proofs.Senders.{is_loan, FitsHandles, FitsLoan}

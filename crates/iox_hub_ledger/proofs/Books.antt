@@ -8,7 +8,8 @@ use Rattle.iox_model.specs.Begins.{start}
 use Rattle.iox_model.specs.Commands.{Call}
 use Rattle.iox_model.specs.Counts.{with_fixed}
 use Rattle.iox_model.specs.Doings.{Outcome, Sends, Doing, Ended, Delivering, Evicted}
-use Rattle.iox_model.specs.Ledgers.{has_received, held_on, is_emptied_by}
+use Rattle.iox_weaves.specs.Ledgers.{has_received, held_on, is_emptied_by}
+use Rattle.iox_model.specs.Handles.{handle_at}
 use Rattle.iox_model.specs.Loans.{Choice}
 use Rattle.iox_model.specs.Messages.{serials_of, Message}
 use Rattle.iox_model.specs.Names.{misnamed}
@@ -17,8 +18,9 @@ use Rattle.iox_model.specs.Requests.{is_over}
 use Rattle.iox_model.specs.Settings.{other_role, buffer_of, borrow_limit_of}
 use Rattle.iox_model.specs.States.{Port, Handle, Fixed, State}
 use Rattle.iox_model.specs.Steps.{ends}
-use Rattle.iox_model.proofs.PlayedRuns.{split}
-use Rattle.iox_model.proofs.MapLemmas.{nobody_is_forgotten}
+use Rattle.iox_model.specs.Values.{Filling, MayFill}
+use Rattle.iox_weaves.proofs.WholeLemmas.{split}
+use Rattle.iox_weaves.proofs.MapLemmas.{nobody_is_forgotten}
 use Rattle.iox_ledger.specs.QueueLaws.{has_evicted}
 use Rattle.iox_ledger.proofs.Orders.{le-from}
 use Rattle.iox_ledger.proofs.Counts.{count, one_if}
@@ -29,19 +31,22 @@ use Rattle.iox_ledger.proofs.HadEnds.{ended-held}
 use Rattle.iox_ledger.proofs.Lists.{distinct-no_repeats, no-length}
 use Rattle.iox_ledger.proofs.Once.{IsPassed}
 use Rattle.iox_ledger.proofs.Outs.{out, is}
+use Rattle.iox_ledger.proofs.Quiet.{held-quiet}
 use Rattle.iox_ledger.proofs.Rights.{IsSent}
 use Rattle.iox_ledger.proofs.Senders.{FitsHandles}
 use Rattle.iox_ledger.proofs.Tallies.{count-all}
 use Rattle.iox_ledger.proofs.Views.{view, node_in}
-use Rattle.iox_model.proofs.WholeLemmas.{some-is}
-use Rattle.iox_runs.proofs.Calls.{begins}
+use Rattle.iox_weaves.proofs.WholeLemmas.{some-is}
+use Rattle.iox_runs.proofs.Calls.{Goes, begins}
 use Rattle.iox_runs.proofs.Ports.{any_at}
 use Rattle.iox_runs.proofs.Settling.{Calm}
 use Rattle.iox_hub_ledger.proofs.Balance.{most_on, Underway}
 use Rattle.iox_hub_ledger.proofs.Beginnings.{IsHub, start-stands}
+use Rattle.iox_hub_ledger.proofs.Fillings.{fills, filling-filled, filling-goes}
 use Rattle.iox_hub_ledger.proofs.Moments.{has_ends, IsIdle}
 use Rattle.iox_hub_ledger.proofs.Receiving.{had_while}
 use Rattle.iox_hub_ledger.proofs.Rights.{rights, AreFew, fits_handles}
+use Rattle.iox_hub_ledger.proofs.Underway.{Stands}
 
 -- what a receiver has of a way between calls
 abbrev pub had_in : Fixed → Way → List ℕ
@@ -93,12 +98,14 @@ are-few s b n port k =
     less : (a b : ℕ) → a + b ≤ 1 → a ≤ 1
     less a b p = omega arith
 
-pub begins-underway : (s : State) (n : ℕ) (c : Choice) (call : Call) → Calm s → Books s → misnamed s.fixed n call ≡ None → Underway s n (start s n c call)
-begins-underway s n c call r b named = record {
-  goes = begins s n c call r named;
+-- what begins well is under way
+pub well-underway : (s : State) (n : ℕ) (d : Doing) → Calm s → Books s → Goes s n d → Stands (view s.fixed n) n d
+    → ((y : Way) → BeginsWell s.fixed n y d) → Underway s n d
+well-underway s n d r b goes stands well = record {
+  goes = goes;
   hub = b.hub;
   few = are-few s b;
-  stands = start-stands s n c call (distinct-no_repeats (map (λ (p : Port). p.number) s.fixed.ports) (((r.rests).fixed).numbered).0) b.hub fits named;
+  stands = stands;
   release = (well (record { sender = 0; receiver = 0; lane = 0 })).release;
   hand = λ y. subst (λ ks. length ks ≤ one_if (has_evicted y d)) (sym (b.hand y)) (least (one_if (has_evicted y d)));
   emptied = λ y e. never (is_emptied_by s.fixed y d) e (well y).empties;
@@ -108,15 +115,6 @@ begins-underway s n c call r b named = record {
   within = λ y ends. inl (subst (λ ks. out any s y ks ≤ most_on s.fixed y) (sym (had y)) (is-within s y r b ends));
 }
   where
-    d : Doing
-    d = start s n c call
-
-    fits : FitsHandles (view s.fixed n) n
-    fits = fits_handles s.fixed n (r.rests).fixed ((r.owned).has).kept (are-few s b)
-
-    well : (y : Way) → BeginsWell s.fixed n y d
-    well y = wire_start-well s n c (wire_calls.Port call) y fits named
-
     least : (a : ℕ) → 0 ≤ a
     least a = omega arith
 
@@ -130,6 +128,22 @@ begins-underway s n c call r b named = record {
             subst (λ j. held_on y (s.fixed.handles j) (Some d) ≡ held_on y (s.fixed.handles j) None) (sym (eqb-true (node_in s.fixed.ports y.receiver) n e))
             ((well y).held (nobody_is_forgotten s.fixed n y.sender ((b.hub).forgot n)))
         by_case false e = refl
+
+pub begins-underway : (s : State) (n : ℕ) (c : Choice) (call : Call) → Calm s → Books s → misnamed s.fixed n call ≡ None → Underway s n (start s n c call)
+begins-underway s n c call r b named =
+    well-underway s n (start s n c call) r b (begins s n c call r named)
+    (start-stands s n c call (distinct-no_repeats (map (λ (p : Port). p.number) s.fixed.ports) (((r.rests).fixed).numbered).0) b.hub fits named)
+    (λ y. wire_start-well s n c (wire_calls.Port call) y fits named)
+  where
+    fits : FitsHandles (view s.fixed n) n
+    fits = fits_handles s.fixed n (r.rests).fixed ((r.owned).has).kept (are-few s b)
+
+-- a loan that is filled is a call that ends as it begins
+pub filling-underway : (s : State) (n number : ℕ) (h : Handle) (x : Filling) → Calm s → Books s → handle_at s.fixed n number ≡ Some h → MayFill s.fixed h x
+    → Underway s n (fills h x)
+filling-underway s n number h x r b there may =
+    well-underway s n (fills h x) r b (filling-goes s n number h x r there may) (filling-filled s n number h x r there may)
+    (λ y. record { held = λ known. held-quiet y (s.fixed.handles n) (fills h x) refl; release = tt; empties = refl })
 
 -- ---- the end of a call, before a port goes
 

@@ -14,9 +14,9 @@ use Rattle.iox_model.specs.Maps.{put, put_at}
 use Rattle.iox_model.specs.Messages.{Message}
 use Rattle.iox_model.specs.Settings.{is_client}
 use Rattle.iox_model.specs.States.{Handle, Fixed}
-use Rattle.iox_model.proofs.CallLaws.{put_at-else}
-use Rattle.iox_model.proofs.MapLemmas.{either}
-use Rattle.iox_model.proofs.WholeLemmas.{put_at-here}
+use Rattle.iox_weaves.proofs.CallLaws.{put_at-else}
+use Rattle.iox_weaves.proofs.MapLemmas.{either}
+use Rattle.iox_weaves.proofs.WholeLemmas.{put_at-here}
 use Rattle.iox_ledger.proofs.ReceivedHandles.{no_received}
 use Rattle.iox_ledger.proofs.Truths.{by_cases}
 use Rattle.iox_ledger.proofs.Counts.{count, one_if}

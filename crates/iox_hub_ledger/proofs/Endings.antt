@@ -7,7 +7,7 @@ use Rattle.iox_model.specs.declared.way.Way.{Way}
 use Rattle.iox_model.specs.Counts.{without_handle}
 use Rattle.iox_model.specs.Doings.{Receiver, Outcome, Receives, Drops, Ended}
 use Rattle.iox_model.specs.Handles.{is_received, way_of}
-use Rattle.iox_model.specs.Ledgers.{if_on, has_received, held_on}
+use Rattle.iox_weaves.specs.Ledgers.{if_on, has_received, held_on}
 use Rattle.iox_model.specs.Maps.{put_at, same_way}
 use Rattle.iox_model.specs.Messages.{Message}
 use Rattle.iox_model.specs.States.{Handle}
@@ -20,7 +20,7 @@ use Rattle.iox_ledger.proofs.Senders.{is_loan}
 use Rattle.iox_ledger.proofs.Tallies.{filter-last, without-passes}
 use Rattle.iox_ledger.proofs.Views.{not-equal}
 use Rattle.iox_hub_ledger.proofs.Rights.{is_loan_from, loaned_in, right_of, plus-rights}
-use Rattle.iox_model.proofs.CallLaws.{put_at-else}
+use Rattle.iox_weaves.proofs.CallLaws.{put_at-else}
 
 -- ---- what is had
 

@@ -2,7 +2,7 @@
 use Rattle.std.specs.Prelude.{◌≡◌, ℕ, ◌+◌, ◌≤◌, Bool, true, false, not, ◌&&◌, nat_le, length, refl}
 use Rattle.std.proofs.Common.{sym, subst, ap, ◌∙◌, true≢false, arith}
 use Rattle.iox_model.specs.declared.way.Way.{Way}
-use Rattle.iox_model.specs.Ledgers.{is_live, size_of}
+use Rattle.iox_weaves.specs.Ledgers.{is_live, size_of}
 use Rattle.iox_model.specs.Peers.{is_connected_port, forgot_port, node_of_port, buffer_on, borrow_limit_on}
 use Rattle.iox_model.specs.States.{Fixed, State}
 use Rattle.iox_model.specs.Weaves.{at_work}
@@ -10,12 +10,12 @@ use Rattle.iox_ledger.proofs.Counts.{count, one_if}
 use Rattle.iox_ledger.proofs.LedgerHolds.{count-out, length-out, IsCounted, counted-once, counted-record}
 use Rattle.iox_ledger.proofs.Outs.{is}
 use Rattle.iox_ledger.proofs.Outstanding.{counted-outstanding}
-use Rattle.iox_runs.specs.Lefts.{IsLeft}
+use Rattle.iox_model.specs.Runs.{IsReachableState}
 use Rattle.iox_hub_ledger.specs.LedgerRests.{NothingRestsInHand, OutRestsOnce, RecordRestsAsOut, OutstandingRestsCounted, LedgerRestsWithin}
 use Rattle.iox_hub_ledger.proofs.Books.{Books, is-within}
 use Rattle.iox_hub_ledger.proofs.Moments.{has_ends}
 use Rattle.iox_hub_ledger.proofs.Rights.{loaned_in, rights}
-use Rattle.iox_hub_ledger.proofs.Runs.{Kept, left-kept}
+use Rattle.iox_hub_ledger.proofs.Runs.{Kept, reached-kept}
 
 -- a live way has both its ends
 pub live-ends : (f : Fixed) (y : Way) → is_live f y ≡ true → has_ends f y ≡ true
@@ -30,17 +30,17 @@ live-ends f y e =
     all true false true true e = absurd (true≢false (sym e))
     all false b c d e = absurd (true≢false (sym e))
 
-is-counted : (s : State) (y : Way) → IsLeft s → is_live s.fixed y ≡ true → IsCounted (at_work s) y
-is-counted s y left live k = count-out (is k) (at_work s) y ∙ ((left-kept s left).books).counts y (live-ends s.fixed y live) k
+is-counted : (s : State) (y : Way) → IsReachableState s → is_live s.fixed y ≡ true → IsCounted (at_work s) y
+is-counted s y reached live k = count-out (is k) (at_work s) y ∙ ((reached-kept s reached).books).counts y (live-ends s.fixed y live) k
 
 pub nothing_rests_in_hand : NothingRestsInHand
-nothing_rests_in_hand s y left = ((left-kept s left).books).hand y
+nothing_rests_in_hand s y reached = ((reached-kept s reached).books).hand y
 
 pub out_rests_once : OutRestsOnce
-out_rests_once s y left live = counted-once (at_work s) y (is-counted s y left live)
+out_rests_once s y reached live = counted-once (at_work s) y (is-counted s y reached live)
 
 pub record_rests_as_out : RecordRestsAsOut
-record_rests_as_out s y k left live = counted-record (at_work s) y k (is-counted s y left live)
+record_rests_as_out s y k reached live = counted-record (at_work s) y k (is-counted s y reached live)
 
 -- ---- how many are out
 
@@ -61,12 +61,12 @@ nothing-more s y b = ap (λ ks. size_of (at_work s) y + length ks) (b.hand y) �
     none a = omega arith
 
 pub outstanding_rests_counted : OutstandingRestsCounted
-outstanding_rests_counted s y left live =
-    let b : Books s = (left-kept s left).books in
-    counted-outstanding (at_work s) y (is-counted s y left live) (λ k. was-loaned s y k b) ∙ nothing-more s y b
+outstanding_rests_counted s y reached live =
+    let b : Books s = (reached-kept s reached).books in
+    counted-outstanding (at_work s) y (is-counted s y reached live) (λ k. was-loaned s y k b) ∙ nothing-more s y b
 
 pub ledger_rests_within : LedgerRestsWithin
-ledger_rests_within s y left live =
-    let k : Kept s = left-kept s left in
+ledger_rests_within s y reached live =
+    let k : Kept s = reached-kept s reached in
     subst (λ n. n ≤ buffer_on s.fixed y + borrow_limit_on s.fixed y) (length-out (at_work s) y ∙ nothing-more s y k.books)
     (is-within s y k.calm k.books (live-ends s.fixed y live))

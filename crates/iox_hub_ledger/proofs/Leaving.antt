@@ -7,15 +7,15 @@ use Rattle.iox_model.specs.declared.way.Way.{Way}
 use Rattle.iox_model.specs.Counts.{with_fixed}
 use Rattle.iox_model.specs.Expiries.{expired_after, stays, is_end, disconnected, is_last_gone, released}
 use Rattle.iox_model.specs.Handles.{is_received, way_of}
-use Rattle.iox_model.specs.Ledgers.{has_received, held_on}
+use Rattle.iox_weaves.specs.Ledgers.{has_received, held_on}
 use Rattle.iox_model.specs.Makings.{with_port}
 use Rattle.iox_model.specs.Maps.{has_number, put_at, same_way}
 use Rattle.iox_model.specs.Messages.{serials_of, Message}
 use Rattle.iox_model.specs.Settings.{other_role, buffer_of, borrow_limit_of}
 use Rattle.iox_model.specs.States.{Port, Handle, Fixed, State}
-use Rattle.iox_model.proofs.CallLaws.{put_at-else}
-use Rattle.iox_model.proofs.PlayedRuns.{split}
-use Rattle.iox_model.proofs.MapLemmas.{either, same_way-true}
+use Rattle.iox_weaves.proofs.CallLaws.{put_at-else}
+use Rattle.iox_weaves.proofs.WholeLemmas.{split}
+use Rattle.iox_weaves.proofs.MapLemmas.{either, same_way-true}
 use Rattle.iox_ledger.proofs.Orders.{same-not-less}
 use Rattle.iox_ledger.proofs.Counts.{count, one_if}
 use Rattle.iox_ledger.proofs.Truths.{never, false_if, by_cases, or-false, or-neither, second-fails}

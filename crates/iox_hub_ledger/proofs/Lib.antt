@@ -4,6 +4,7 @@ pub mod Beginnings
 pub mod Receiving
 pub mod Moments
 pub mod Balance
+pub mod Fillings
 pub mod Books
 pub mod Leaving
 pub mod Endings

@@ -3,15 +3,15 @@ use Rattle.std.specs.Prelude.{◌≡◌, ℕ, ◌+◌, ◌≤◌, Bool, true, fa
 use Rattle.std.proofs.Common.{sym, subst, ap, ◌∙◌, true≢false, arith, inl, inr}
 use Rattle.iox_model.specs.declared.way.Way.{Way}
 use Rattle.iox_model.specs.Doings.{Receives, Doing, Ended, Delivering, Evicted, Visiting, Again, Judging, Stale, Returning}
-use Rattle.iox_model.specs.Ledgers.{is_emptied_by}
+use Rattle.iox_weaves.specs.Ledgers.{is_emptied_by}
 use Rattle.iox_model.specs.Maps.{is_empty, rest_of, put_at, same_way, without_way}
 use Rattle.iox_model.specs.Messages.{serials_of, names, Message}
 use Rattle.iox_model.specs.Moments.{Holds, moved, Moment, Deliver, Evict, Take, GiveBack, GetBack, SeesEmpty, SeesWaiting, Look}
 use Rattle.iox_model.specs.Peers.{is_counted_on, forgot_port, node_of_port}
 use Rattle.iox_model.specs.States.{Handle, Fixed, State}
 use Rattle.iox_model.specs.Steps.{next}
-use Rattle.iox_model.proofs.MapLemmas.{either, same_way-true}
-use Rattle.iox_model.proofs.WholeLemmas.{moved-fixed}
+use Rattle.iox_weaves.proofs.MapLemmas.{either, same_way-true}
+use Rattle.iox_weaves.proofs.WholeLemmas.{moved-fixed}
 use Rattle.iox_ledger.specs.QueueLaws.{has_evicted}
 use Rattle.iox_ledger.proofs.Counts.{count, one_if}
 use Rattle.iox_ledger.proofs.Orders.{least, none-more}

@@ -1,28 +1,30 @@
--- Over runs of a service and its hub no message is delivered twice on a way, and none is received twice.
-use Rattle.std.specs.Prelude.{◌≡◌, ℕ, ◌+◌, ◌≤◌, Bool, true, false, if◌then◌else◌, ◌==◌, nat_lt, nat_le, List, [], ◌∷◌, ◌++◌, map, None, ◌⊎◌, refl}
+-- Over histories of a service and its hub no message is delivered twice on a way, and none is received twice.
+use Rattle.std.specs.Prelude.{◌≡◌, ℕ, ◌+◌, ◌≤◌, Bool, true, false, if◌then◌else◌, ◌==◌, nat_lt, nat_le, List, [], ◌∷◌, ◌++◌, map, Some, None, ◌⊎◌, refl}
 use Rattle.std.proofs.Common.{sym, subst, ◌∙◌, true≢false, eqb-true, arith, inl, inr}
 use Rattle.std.proofs.lemmas.Grind.{flat_map-append}
 use Rattle.iox_model.specs.declared.way.Way.{Way}
 use Rattle.iox_model.specs.Begins.{start}
 use Rattle.iox_model.specs.Commands.{Reply, Call}
 use Rattle.iox_model.specs.Counts.{with_fixed}
-use Rattle.iox_model.specs.Doings.{Outcome, Doing}
+use Rattle.iox_model.specs.Doings.{Outcome, Fills, Doing}
 use Rattle.iox_model.specs.Ends.{settled}
+use Rattle.iox_model.specs.Handles.{handle_at}
 use Rattle.iox_model.specs.Expiries.{disconnected, is_last_gone, released}
 use Rattle.iox_model.specs.Makings.{new_port, with_port}
 use Rattle.iox_model.specs.Maps.{same_way}
 use Rattle.iox_model.specs.Messages.{serials_of}
 use Rattle.iox_model.specs.Moments.{moved, Moment, Deliver}
 use Rattle.iox_model.specs.Names.{misnamed}
-use Rattle.iox_model.specs.OrderLaws.{put_on, all_put_on, all_taken_from}
-use Rattle.iox_model.specs.States.{Port, Fixed, State}
+use Rattle.iox_weaves.specs.OrderLaws.{put_on, all_put_on, all_taken_from}
+use Rattle.iox_model.specs.States.{Port, Handle, Fixed, State}
 use Rattle.iox_model.specs.Steps.{next}
+use Rattle.iox_model.specs.Values.{Filling, filled_as, MayFill}
 use Rattle.iox_model.specs.Weaves.{Beat, Makes}
 use Rattle.iox_model.specs.WholeCalls.{moved_by, left_by, MayCome, IsDone}
-use Rattle.iox_model.proofs.CallLaws.{put_at-else}
-use Rattle.iox_model.proofs.PlayedRuns.{split}
-use Rattle.iox_model.proofs.MapLemmas.{either, same_way-true}
-use Rattle.iox_model.proofs.WholeLemmas.{moved-fixed, moved_by-fixed}
+use Rattle.iox_weaves.proofs.CallLaws.{put_at-else}
+use Rattle.iox_weaves.proofs.WholeLemmas.{split}
+use Rattle.iox_weaves.proofs.MapLemmas.{either, same_way-true}
+use Rattle.iox_weaves.proofs.WholeLemmas.{moved-fixed, moved_by-fixed}
 use Rattle.iox_ledger.proofs.Counts.{count, one_if}
 use Rattle.iox_ledger.proofs.Orders.{less-le, less-next, at-most, same-not-less}
 use Rattle.iox_ledger.proofs.Truths.{never, by_cases}
@@ -31,18 +33,19 @@ use Rattle.iox_ledger.proofs.Lists.{IsAmong, NoRepeats, among-append, no_repeats
 use Rattle.iox_ledger.proofs.Once.{IsPassed, next-passed, gives-apart, front-apart}
 use Rattle.iox_ledger.proofs.Outs.{is, no-head}
 use Rattle.iox_ledger.proofs.Rights.{IsSent}
-use Rattle.iox_runs.specs.Lefts.{IsLeft}
-use Rattle.iox_runs.specs.Traces.{beats_of_done, beats_of_left}
-use Rattle.iox_runs.proofs.Along.{IsAlong, left_along}
+use Rattle.iox_model.specs.Runs.{IsReachableState}
+use Rattle.iox_runs.specs.Traces.{beats_of_done, beats_of_reached}
+use Rattle.iox_runs.proofs.Along.{IsAlong, reached_along}
 use Rattle.iox_runs.proofs.InOrder.{in_order_over_runs}
 use Rattle.iox_runs.proofs.Ports.{any_at, any_others, at_below, at_last}
 use Rattle.iox_runs.proofs.Rests.{Rests}
 use Rattle.iox_hub_ledger.specs.OnceOverRuns.{DeliveredOnceOverRuns, ReceivedOnceOverRuns}
 use Rattle.iox_hub_ledger.proofs.Balance.{Underway, moved-underway, underway_by}
-use Rattle.iox_hub_ledger.proofs.Books.{Leaves, sent-or-not, begins-underway}
+use Rattle.iox_hub_ledger.proofs.Books.{Leaves, sent-or-not, begins-underway, filling-underway}
+use Rattle.iox_hub_ledger.proofs.Fillings.{fills}
 use Rattle.iox_hub_ledger.proofs.Moments.{delivers-ends, put-passed, put-unpassed, put-right}
 use Rattle.iox_hub_ledger.proofs.Rights.{loaned_in, rights}
-use Rattle.iox_hub_ledger.proofs.Runs.{Kept, members-kept, made-kept, done-kept, created-kept}
+use Rattle.iox_hub_ledger.proofs.Runs.{Kept, members-kept, made-kept, done-kept, filled-kept, created-kept}
 use Rattle.iox_hub_ledger.proofs.Settled.{HoldsAfter, settled-holds}
 
 -- ---- what may yet be put onto a way
@@ -233,6 +236,15 @@ call-uses y s n call reply t k named done = record {
     after : (j : ℕ) → MayPut t.fixed y j → MayPut (settled last n done.6 done.4).fixed y j
     after j may = subst (λ (x : State). MayPut x.fixed y j) done.9 may
 
+-- a loan that is filled puts nothing, and its node keeps the right to send it
+filling-uses : (y : Way) (s : State) (n number : ℕ) (h : Handle) (x : Filling) → handle_at s.fixed n number ≡ Some h → MayFill s.fixed h x → Kept s
+    → Uses s.fixed (settled s n [] (Fills (filled_as h x))).fixed y []
+filling-uses y s n number h x there may k =
+    let o : Outcome = Fills (filled_as h x) in
+    let spends : Spends y s o (settled s n [] o) =
+    settled-holds (Spends y s o) s n (fills h x) [] o (filling-underway s n number h x k.calm k.books there may) refl (spends-after y s n o) in
+    uses-none s.fixed (settled s n [] o).fixed y spends.0
+
 -- a port that is made had the rights before
 port-shrinks : (y : Way) (f : Fixed) (p : Port) (k : ℕ) → p.number ≡ f.next_number → MayPut (with_port f p) y k → MayPut f y k
 port-shrinks y f p k new may = (
@@ -260,18 +272,19 @@ puts-along y = record {
       let p : Port = new_port s.fixed node role id o in
       (made-kept s p refl k, uses-none s.fixed (with_port s.fixed p) y (λ j. port-shrinks y s.fixed p j refl));
   call = λ s node call reply t named done k. (done-kept s node call reply t k named done, call-uses y s node call reply t k named done);
+  fill = λ s node number h x there may k. (filled-kept s node number h x there may k, filling-uses y s node number h x there may k);
 }
 
-pub put-once : (s : State) (left : IsLeft s) (y : Way) → NoRepeats (all_put_on y (beats_of_left s left))
-put-once s left y =
-    (left_along (Puts y) (puts-along y) s left (created-kept (left.2).0 (left.2).1 (left.2).2)).1.apart
+pub put-once : (s : State) (reached : IsReachableState s) (y : Way) → NoRepeats (all_put_on y (beats_of_reached s reached))
+put-once s reached y =
+    (reached_along (Puts y) (puts-along y) s reached (created-kept reached.limits reached.acts reached.id)).1.apart
 
 pub delivered_once_over_runs : DeliveredOnceOverRuns
-delivered_once_over_runs s left y = no_repeats-distinct (all_put_on y (beats_of_left s left)) (put-once s left y)
+delivered_once_over_runs s reached y = no_repeats-distinct (all_put_on y (beats_of_reached s reached)) (put-once s reached y)
 
 pub received_once_over_runs : ReceivedOnceOverRuns
-received_once_over_runs s left y =
-    let bs : List Beat = beats_of_left s left in
+received_once_over_runs s reached y =
+    let bs : List Beat = beats_of_reached s reached in
     no_repeats-distinct (all_taken_from y bs)
     (front-apart (all_taken_from y bs) (serials_of (s.waiting y))
-    (gives-apart (all_put_on y bs) (all_taken_from y bs ++ serials_of (s.waiting y)) (in_order_over_runs s left y) (put-once s left y)))
+    (gives-apart (all_put_on y bs) (all_taken_from y bs ++ serials_of (s.waiting y)) (in_order_over_runs s reached y) (put-once s reached y)))

@@ -4,12 +4,12 @@ use Rattle.std.proofs.Common.{sym, subst, ap, ap₂, ◌∙◌, true≢false, eq
 use Rattle.iox_model.specs.declared.way.Way.{Way}
 use Rattle.iox_model.specs.Counts.{without_handle}
 use Rattle.iox_model.specs.Doings.{Outcome, Ended}
-use Rattle.iox_model.specs.Ledgers.{held_on}
+use Rattle.iox_weaves.specs.Ledgers.{held_on}
 use Rattle.iox_model.specs.Maps.{put_at}
 use Rattle.iox_model.specs.Peers.{role_at}
 use Rattle.iox_model.specs.States.{Port, Handle, Fixed}
-use Rattle.iox_model.proofs.MapLemmas.{either}
-use Rattle.iox_model.proofs.WholeLemmas.{put_at-here}
+use Rattle.iox_weaves.proofs.MapLemmas.{either}
+use Rattle.iox_weaves.proofs.WholeLemmas.{put_at-here}
 use Rattle.iox_ledger.proofs.Counts.{count, one_if}
 use Rattle.iox_ledger.proofs.Orders.{same}
 use Rattle.iox_ledger.proofs.Truths.{never, by_cases}

@@ -4,15 +4,15 @@ use Rattle.std.proofs.Common.{sym, subst, ap, ◌∙◌, eqb-true, eq-eqb}
 use Rattle.iox_model.specs.declared.way.Way.{Way}
 use Rattle.iox_model.specs.Doings.{Receives, Doing, Ended, Visiting, Again, Judging, Stale, Returning}
 use Rattle.iox_model.specs.Handles.{way_of}
-use Rattle.iox_model.specs.Ledgers.{if_on, has_received, held_on}
+use Rattle.iox_weaves.specs.Ledgers.{if_on, has_received, held_on}
 use Rattle.iox_model.specs.Maps.{same_way, without_way}
 use Rattle.iox_model.specs.Messages.{names, Message}
 use Rattle.iox_model.specs.Moments.{Moment, Take, GiveBack, SeesEmpty, SeesWaiting, Look}
 use Rattle.iox_model.specs.Peers.{forgot_port}
 use Rattle.iox_model.specs.States.{Fixed, State}
 use Rattle.iox_model.specs.Steps.{next}
-use Rattle.iox_model.proofs.PlayedRuns.{split}
-use Rattle.iox_model.proofs.MapLemmas.{either, same_way-true}
+use Rattle.iox_weaves.proofs.WholeLemmas.{split}
+use Rattle.iox_weaves.proofs.MapLemmas.{either, same_way-true}
 use Rattle.iox_ledger.proofs.Counts.{count}
 use Rattle.iox_ledger.proofs.Truths.{never}
 use Rattle.iox_ledger.proofs.Had.{taken_on, given_on, FitsRelease}

@@ -3,7 +3,7 @@ use Rattle.std.specs.Prelude.{◌≡◌, ℕ, ◌+◌, ◌≤◌, ◌<◌, Bool,
 use Rattle.std.proofs.Common.{sym, subst, ap, ◌∙◌, eqb-true, eq-eqb, arith, inl, inr}
 use Rattle.iox_model.specs.Counts.{is_same_handle, without_handle, with_handle}
 use Rattle.iox_model.specs.States.{Handle, Fixed}
-use Rattle.iox_model.proofs.MapLemmas.{eqb-refl}
+use Rattle.iox_weaves.proofs.MapLemmas.{eqb-refl}
 use Rattle.iox_ledger.proofs.Truths.{by_cases}
 use Rattle.iox_ledger.proofs.Counts.{count, one_if, count-cons}
 use Rattle.iox_ledger.proofs.HadMoves.{HasOwnHandles}

@@ -1,26 +1,30 @@
--- Each command leaves what holds of the record between calls, so it holds of each state that is left.
-use Rattle.std.specs.Prelude.{◌≡◌, ℕ, ◌+◌, ◌≤◌, Bool, true, false, nat_le, List, None, refl}
+-- Each step leaves what holds of the record between calls, so it holds of each state that is reached.
+use Rattle.std.specs.Prelude.{◌≡◌, ℕ, ◌+◌, ◌≤◌, Bool, true, false, nat_le, List, [], Some, None, refl}
 use Rattle.std.proofs.Common.{sym, subst, arith, inr}
 use Rattle.iox_types.specs.declared.identifiers.system_id.UniqueSystemId.{UniqueSystemId}
 use Rattle.iox_model.specs.declared.backpressure.BackpressureAction.{BackpressureAction}
 use Rattle.iox_model.specs.Begins.{start}
 use Rattle.iox_model.specs.Commands.{Reply, Call}
 use Rattle.iox_model.specs.Counts.{with_fixed}
-use Rattle.iox_model.specs.Doings.{Doing}
+use Rattle.iox_model.specs.Doings.{Fills, Doing}
+use Rattle.iox_model.specs.Ends.{settled}
+use Rattle.iox_model.specs.Handles.{handle_at}
 use Rattle.iox_model.specs.Joins.{with_members}
 use Rattle.iox_model.specs.Makings.{new_port, with_port}
 use Rattle.iox_model.specs.Names.{misnamed}
 use Rattle.iox_model.specs.Runs.{created}
 use Rattle.iox_model.specs.Settings.{Limits}
-use Rattle.iox_model.specs.States.{Members, Port, State}
+use Rattle.iox_model.specs.States.{Members, Port, Handle, State}
+use Rattle.iox_model.specs.Values.{Filling, filled_as, MayFill}
 use Rattle.iox_model.specs.WholeCalls.{moved_by, left_by, IsDone}
-use Rattle.iox_runs.specs.Lefts.{IsLeft}
-use Rattle.iox_runs.proofs.Along.{left_keeps}
+use Rattle.iox_model.specs.Runs.{IsReachableState}
+use Rattle.iox_reachable.proofs.Inductions.{reached_keeps}
 use Rattle.iox_runs.proofs.Calls.{done_calm}
-use Rattle.iox_runs.proofs.Runs.{same_calm, created_calm, made_calm}
+use Rattle.iox_runs.proofs.Runs.{same_calm, created_calm, made_calm, calm_kept}
 use Rattle.iox_runs.proofs.Settling.{Calm}
 use Rattle.iox_hub_ledger.proofs.Balance.{underway_by}
-use Rattle.iox_hub_ledger.proofs.Books.{Books, begins-underway}
+use Rattle.iox_hub_ledger.proofs.Books.{Books, begins-underway, filling-underway}
+use Rattle.iox_hub_ledger.proofs.Fillings.{fills}
 use Rattle.iox_hub_ledger.proofs.Leaving.{made-books}
 use Rattle.iox_hub_ledger.proofs.Settled.{settled-books}
 use Rattle.iox_ledger.proofs.Counts.{one_if}
@@ -53,11 +57,24 @@ members-books s x b = record { hub = b.hub; fresh = b.fresh; hand = b.hand; idle
 pub members-kept : (s : State) (x : Members) → Kept s → Kept (with_members s x)
 members-kept s x k = record { calm = same_calm s (with_members s x) refl refl k.calm; books = members-books s x k.books }
 
+-- ---- a loan is filled
+
+filled-books : (s : State) (n number : ℕ) (h : Handle) (x : Filling) → handle_at s.fixed n number ≡ Some h → MayFill s.fixed h x → Kept s
+    → Books (settled s n [] (Fills (filled_as h x)))
+filled-books s n number h x there may k =
+    settled-books s n (fills h x) [] (Fills (filled_as h x)) (filling-underway s n number h x k.calm k.books there may) refl
+
+pub filled-kept : (s : State) (n number : ℕ) (h : Handle) (x : Filling) → handle_at s.fixed n number ≡ Some h → MayFill s.fixed h x → Kept s
+    → Kept (settled s n [] (Fills (filled_as h x)))
+filled-kept s n number h x there may k =
+    record { calm = calm_kept.fills s n number h x there may k.calm; books = filled-books s n number h x there may k }
+
 kept-kept : IsKept Kept
 kept-kept = record {
   nodes = λ s x u k. members-kept s x k;
   makes = λ s n role id o memory allowed k. made-kept s (new_port s.fixed n role id o) refl k;
   calls = λ s n call reply t named done k. done-kept s n call reply t k named done;
+  fills = filled-kept;
 }
 
 -- ---- from the creation on
@@ -80,5 +97,5 @@ created-kept l acts id = record {
     few false = omega arith
 
 -- Whatever was asked before, the record is what is out between calls.
-pub left-kept : (s : State) → IsLeft s → Kept s
-left-kept = left_keeps Kept kept-kept created-kept
+pub reached-kept : (s : State) → IsReachableState s → Kept s
+reached-kept = reached_keeps Kept kept-kept created-kept

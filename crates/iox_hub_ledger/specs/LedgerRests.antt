@@ -1,38 +1,39 @@
 -- Between calls of a hub: what is out on a way is what its sender's record says, and how much it is.
 use Rattle.std.specs.Prelude.{◌≡◌, ℕ, ◌+◌, ◌≤◌, [], length, IsTrue}
 use Rattle.iox_model.specs.declared.way.Way.{Way}
-use Rattle.iox_model.specs.Ledgers.{is_live, size_of}
+use Rattle.iox_weaves.specs.Ledgers.{is_live, size_of}
 use Rattle.iox_model.specs.Maps.{has_number, AreDistinct}
 use Rattle.iox_model.specs.Outstandings.{outstanding_on}
 use Rattle.iox_model.specs.Peers.{buffer_on, borrow_limit_on}
 use Rattle.iox_model.specs.States.{State}
 use Rattle.iox_model.specs.Weaves.{at_work}
 use Rattle.iox_ledger.specs.LedgerLaws.{out_on}
-use Rattle.iox_runs.specs.Lefts.{IsLeft}
+use Rattle.iox_model.specs.Runs.{IsReachableState}
 
 -- Between calls no sender has in hand what it evicted.
 abbrev pub NothingRestsInHand : Type 0
-NothingRestsInHand = (s : State) (y : Way) → IsLeft s → s.in_hand y ≡ []
+NothingRestsInHand = (s : State) (y : Way) → IsReachableState s → s.in_hand y ≡ []
 
 -- On a live way each message is out once: it waits, or is had, or was given back.
 abbrev pub OutRestsOnce : Type 0
 OutRestsOnce =
-    (s : State) (y : Way) → IsLeft s → IsTrue (is_live s.fixed y) → AreDistinct (out_on (at_work s) y)
+    (s : State) (y : Way) → IsReachableState s → IsTrue (is_live s.fixed y)
+    → AreDistinct (out_on (at_work s) y)
 
 -- What the sender counts as delivered and not got back is just what is out.
 abbrev pub RecordRestsAsOut : Type 0
 RecordRestsAsOut =
-    (s : State) (y : Way) (k : ℕ) → IsLeft s → IsTrue (is_live s.fixed y)
+    (s : State) (y : Way) (k : ℕ) → IsReachableState s → IsTrue (is_live s.fixed y)
     → s.delivered y k ≡ has_number k (out_on (at_work s) y)
 
 -- As many are outstanding as wait, are had and were given back,
 abbrev pub OutstandingRestsCounted : Type 0
 OutstandingRestsCounted =
-    (s : State) (y : Way) → IsLeft s → IsTrue (is_live s.fixed y)
+    (s : State) (y : Way) → IsReachableState s → IsTrue (is_live s.fixed y)
     → length (outstanding_on s y) ≡ size_of (at_work s) y
 
 -- and they are no more than the buffer and the borrow limit.
 abbrev pub LedgerRestsWithin : Type 0
 LedgerRestsWithin =
-    (s : State) (y : Way) → IsLeft s → IsTrue (is_live s.fixed y)
+    (s : State) (y : Way) → IsReachableState s → IsTrue (is_live s.fixed y)
     → size_of (at_work s) y ≤ buffer_on s.fixed y + borrow_limit_on s.fixed y

@@ -3,7 +3,7 @@ use Rattle.std.specs.Prelude.{◌≡◌, ℕ, ◌+◌, ◌≤◌, List, length, 
 use Rattle.iox_model.specs.declared.way.Way.{Way}
 use Rattle.iox_model.specs.Begins.{start}
 use Rattle.iox_model.specs.Commands.{Call}
-use Rattle.iox_model.specs.Ledgers.{is_live, size_of}
+use Rattle.iox_weaves.specs.Ledgers.{is_live, size_of}
 use Rattle.iox_model.specs.Loans.{Choice}
 use Rattle.iox_model.specs.Maps.{has_number, AreDistinct}
 use Rattle.iox_model.specs.Moments.{Moment}
@@ -14,13 +14,13 @@ use Rattle.iox_model.specs.States.{State}
 use Rattle.iox_model.specs.Weaves.{World}
 use Rattle.iox_model.specs.WholeCalls.{MayCome}
 use Rattle.iox_ledger.specs.LedgerLaws.{out_on}
-use Rattle.iox_runs.specs.Lefts.{IsLeft}
+use Rattle.iox_model.specs.Runs.{IsReachableState}
 use Rattle.iox_runs.specs.Moving.{amid}
 
--- the world after some moments of a call, from a state that is left; the way is live
+-- the world after some moments of a call, from a state that is reached; the way is live
 abbrev pub IsAmid : State → World → Way → Type 0
 IsAmid s w y =
-    IsLeft s × IsTrue (is_live s.fixed y)
+    IsReachableState s × IsTrue (is_live s.fixed y)
     × (node : ℕ) × (call : Call) × (c : Choice) × (ms : List Moment)
     × (misnamed s.fixed node call ≡ None) × MayCome s node (start s node c call) ms
     × (w ≡ amid s node call c ms)

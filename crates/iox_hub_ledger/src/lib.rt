@@ -36,7 +36,7 @@ pub fn ledger_stays_below()
     ensures { LedgerStaysBelow }
 {}
 
-/// Over each run of a service and its hub no message is delivered twice on a way, and none is
+/// Over each history of a service and its hub no message is delivered twice on a way, and none is
 /// received twice.
 pub fn messages_come_at_most_once()
     ensures delivered { DeliveredOnceOverRuns }

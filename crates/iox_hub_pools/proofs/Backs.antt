@@ -6,7 +6,7 @@ use Rattle.std.proofs.Common.{sym, subst, ap, ◌∙◌, arith, eqb-true, eq-eqb
 use Rattle.std.proofs.lemmas.List.{length-map, length-append}
 use Rattle.iox_model.specs.declared.way.Way.{Way}
 use Rattle.iox_model.specs.Doings.{Doing, Loaning}
-use Rattle.iox_model.specs.Ledgers.{has_received, had_on, is_live}
+use Rattle.iox_weaves.specs.Ledgers.{has_received, had_on, is_live}
 use Rattle.iox_model.specs.Loans.{lending_ways}
 use Rattle.iox_model.specs.Maps.{is_empty, first_of, rest_of, has_number, put_at, same_way, has_way}
 use Rattle.iox_model.specs.Messages.{Message, serials_of}
@@ -16,7 +16,7 @@ use Rattle.iox_model.specs.Peers.{port_at, is_connected_port, node_of_port, forg
 use Rattle.iox_model.specs.States.{Port, Handle, Fixed, State}
 use Rattle.iox_model.specs.Steps.{next}
 use Rattle.iox_model.specs.Weaves.{at_work}
-use Rattle.iox_model.proofs.MapLemmas.{either, same_way-true}
+use Rattle.iox_weaves.proofs.MapLemmas.{either, same_way-true}
 use Rattle.iox_reachable.proofs.Sound.{IsPortOf, IsWithin}
 use Rattle.iox_ledger.specs.LedgerLaws.{out_on}
 use Rattle.iox_ledger.proofs.Outstanding.{outstanding-apart}
@@ -25,7 +25,7 @@ use Rattle.iox_ledger.proofs.Ranges.{no-longer}
 use Rattle.iox_ledger.proofs.Truths.{never, by_cases, both_true}
 use Rattle.iox_ledger.proofs.Lists.{IsAmong, among-append, filter-among, find-among, among-front, among-back}
 use Rattle.iox_ledger.proofs.Views.{view}
-use Rattle.iox_model.proofs.WholeLemmas.{some-is}
+use Rattle.iox_weaves.proofs.WholeLemmas.{some-is}
 use Rattle.iox_pools.specs.PoolLaws.{IsUnreduced}
 use Rattle.iox_pools.proofs.Kept.{IsWayOf, most_out, kept-less}
 use Rattle.iox_pools.proofs.SpareStarts.{IsLoanOf, node-is}

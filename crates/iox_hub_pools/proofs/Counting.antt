@@ -1,4 +1,4 @@
--- In each state that is left handles suit their ports and their counts keep to the limits, and so do
+-- In each state that is reached handles suit their ports and their counts keep to the limits, and so do
 -- the ports; and nobody forgot anybody.
 use Rattle.std.specs.Prelude.{◌≡◌, ℕ, ◌≤◌, Bool, true, false, ◌&&◌, if◌then◌else◌, ◌==◌, List, [], ◌∷◌, ◌++◌, Option, Some, None, ⊤, refl}
 use Rattle.std.specs.Option.{option_map_or}
@@ -20,9 +20,10 @@ use Rattle.iox_model.specs.Names.{is_port, misnamed}
 use Rattle.iox_model.specs.Settings.{is_client, Limits}
 use Rattle.iox_model.specs.States.{Port, Handle, Fixed, State}
 use Rattle.iox_model.specs.Steps.{next, ends}
+use Rattle.iox_model.specs.Values.{filled_as}
 use Rattle.iox_model.specs.WholeCalls.{moved_by, left_by, MayCome}
-use Rattle.iox_model.proofs.MapLemmas.{either}
-use Rattle.iox_model.proofs.WholeLemmas.{moved-fixed}
+use Rattle.iox_weaves.proofs.MapLemmas.{either}
+use Rattle.iox_weaves.proofs.WholeLemmas.{moved-fixed}
 use Rattle.iox_reachable.proofs.Sound.{Fits}
 use Rattle.iox_ledger.proofs.Counts.{count}
 use Rattle.iox_ledger.proofs.Lists.{IsAmong}
@@ -35,8 +36,9 @@ use Rattle.iox_runs.proofs.Calls.{own_ports}
 use Rattle.iox_runs.proofs.Ports.{first_more}
 use Rattle.iox_runs.proofs.Rests.{Rests}
 use Rattle.iox_runs.proofs.Settling.{Calm}
+use Rattle.iox_hub_ledger.proofs.Fillings.{fills}
 use Rattle.iox_hub_pools.proofs.Inductions.{IsKeptCalm}
-use Rattle.iox_hub_pools.proofs.Goings.{Any, any_onward, Going, going_start, going_next}
+use Rattle.iox_hub_pools.proofs.Goings.{Any, any_onward, Going, going_start, going_next, going_fills}
 use Rattle.iox_hub_pools.proofs.Parts.{Leaves, settled_leaves, role_was}
 use Rattle.iox_hub_pools.proofs.Handles.{hub_view, end_fits, settled_handles}
 use Rattle.iox_hub_pools.proofs.Ends.{Ending, ending}
@@ -208,6 +210,9 @@ kinds_kept = record {
       subst KindsOf (sym d.9) (end_kinds (moved_by s d.2) node (left_by s node (start s node d.0 call) d.2) d.6 d.4 d.5
       (subst (λ (u : State). Rests u.fixed) d.9 (after.rests).fixed)
       (moments_spare s node (start s node d.0 call) d.2 d.3 (start_spares s node d.0 call calm named k)));
+  fills = λ s node number h x calm after there may k.
+      end_kinds s node (fills h x) [] (Fills (filled_as h x)) refl (after.rests).fixed
+      (record { going = going_fills s node number h x calm there may; kinds = k; spare = tt });
 }
   where
     none : (k : ℕ) → 0 ≤ k

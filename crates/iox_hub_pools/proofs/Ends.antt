@@ -6,7 +6,7 @@ use Rattle.iox_model.specs.declared.way.Way.{Way}
 use Rattle.iox_model.specs.declared.kind.Role.TheVariants.{Client}
 use Rattle.iox_model.specs.Doings.{Outcome, Doing}
 use Rattle.iox_model.specs.Ends.{settled}
-use Rattle.iox_model.specs.Ledgers.{serials_of_outcome, under_way}
+use Rattle.iox_model.specs.Keeping.{serials_of_outcome, under_way}
 use Rattle.iox_model.specs.Maps.{has_number}
 use Rattle.iox_model.specs.Outstandings.{is_held, is_outstanding}
 use Rattle.iox_model.specs.Peers.{port_at, role_at, node_of_port, ways_from}

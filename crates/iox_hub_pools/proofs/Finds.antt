@@ -1,43 +1,39 @@
 -- No call of a service is answered that memory is out, where no pool of its node was reduced.
-use Rattle.std.specs.Prelude.{◌≡◌, ℕ, Bool, true, not, ◌&&◌, ◌||◌, if◌then◌else◌, ◌==◌, ◌^◌, nat_le, List, [], ◌∷◌, length, Option, Some, None, ⊤}
-use Rattle.std.specs.Prelude.{refl}
-use Rattle.std.specs.Option.{option_map_or}
+use Rattle.std.specs.Prelude.{◌≡◌, ℕ, Bool, true, ◌&&◌, if◌then◌else◌, ◌^◌, nat_le, List, [], ◌∷◌, None, ⊤}
 use Rattle.std.proofs.Common.{sym, subst, ap, ◌∙◌, true≢false}
 use Rattle.iox_model.specs.declared.kind.Role.{Role}
 use Rattle.iox_model.specs.declared.kind.Role.TheVariants.{Client, Server}
 use Rattle.iox_model.specs.declared.way.Way.{Way}
-use Rattle.iox_model.specs.declared.command.PortCommand.TheVariants.{Create, Use}
-use Rattle.iox_model.specs.declared.reply.Refusal.TheVariants.{OutOfMemory, UnknownNode, NodeIsDead, ForeignNumber, UnknownNumber, WrongKind, CallsSpent}
-use Rattle.iox_model.specs.declared.reply.Refusal.TheVariants.{UnableToCreatePortTag, UnableToCreateDataSegment}
+use Rattle.iox_model.specs.Commands.{Create, Use}
+use Rattle.iox_model.specs.declared.reply.Refusal.TheVariants.{OutOfMemory, CallsSpent}
 use Rattle.iox_model.specs.declared.reply.Reply.TheVariants.{Refused}
 use Rattle.iox_model.specs.Begins.{start}
-use Rattle.iox_model.specs.Commands.{Refusal, Call, Options, number_of}
+use Rattle.iox_model.specs.Commands.{Call, asking, number_of}
 use Rattle.iox_model.specs.Doings.{refused, Loans, Doing, Ended, Loaning}
-use Rattle.iox_model.specs.Handles.{subject, Subject, kind_of, node_of, is_elsewhere}
-use Rattle.iox_model.specs.Joins.{node_at, not_living}
+use Rattle.iox_model.specs.Handles.{subject}
+use Rattle.iox_model.specs.Joins.{not_living}
 use Rattle.iox_model.specs.Loans.{Choice, lending_ways}
-use Rattle.iox_model.specs.Makings.{is_large, most_ports, making_refusal, too_many_ports, port_reply}
-use Rattle.iox_model.specs.Maps.{has_way, without_way, refused_if, or_else}
+use Rattle.iox_model.specs.Makings.{making_refusal, port_reply}
+use Rattle.iox_model.specs.Maps.{has_way, without_way}
 use Rattle.iox_model.specs.Moments.{Holds, moved, Moment, SeesNoneBack}
-use Rattle.iox_model.specs.Names.{suits, misnamed_by, misnamed}
-use Rattle.iox_model.specs.Peers.{port_at, ports_of_role}
+use Rattle.iox_model.specs.Names.{misnamed}
+use Rattle.iox_model.specs.Peers.{port_at}
 use Rattle.iox_model.specs.Responses.{sends}
 use Rattle.iox_model.specs.Services.{with_own_id}
-use Rattle.iox_model.specs.States.{Node, Handle, Fixed, State}
+use Rattle.iox_model.specs.States.{Handle, Fixed, State}
 use Rattle.iox_model.specs.Steps.{next}
-use Rattle.iox_model.specs.WholeCalls.{moved_by, left_by, MayCome, UnlessRefused, is_counted, spent, IsDone}
-use Rattle.iox_model.proofs.MapLemmas.{either}
-use Rattle.iox_model.proofs.WholeLemmas.{moved-fixed, moved_by-fixed, some-is}
+use Rattle.iox_model.specs.WholeCalls.{moved_by, left_by, MayCome, is_counted, spent, IsDone}
+use Rattle.iox_weaves.proofs.WholeLemmas.{moved-fixed, moved_by-fixed, some-is}
 use Rattle.iox_reachable.proofs.Sound.{IsOwn}
 use Rattle.iox_ledger.proofs.Truths.{by_cases}
 use Rattle.iox_ledger.proofs.Views.{view}
 use Rattle.iox_pools.specs.PoolLaws.{lender}
-use Rattle.iox_pools.proofs.Spare.{SpareLoan, RefusedIf, TellsIf, SpareDoing}
+use Rattle.iox_pools.proofs.Spare.{SpareLoan, TellsIf, SpareDoing}
 use Rattle.iox_pools.proofs.SpareMoves.{DryIf, next-spare, ends-spare}
-use Rattle.iox_pools.proofs.SpareStarts.{IsLoanOf, Tolerates, if-tolerated, or-tolerated, start-spare}
+use Rattle.iox_pools.proofs.SpareStarts.{IsLoanOf, if-tolerated, start-spare}
 use Rattle.iox_pools.proofs.Suffices.{Reduced}
 use Rattle.iox_pools.proofs.Worlds.{replied-if}
-use Rattle.iox_runs.specs.Lefts.{IsLeft}
+use Rattle.iox_model.specs.Runs.{IsReachableState}
 use Rattle.iox_runs.proofs.Calls.{Goes}
 use Rattle.iox_runs.proofs.Holding.{LoanFits}
 use Rattle.iox_runs.proofs.Runs.{left_calm}
@@ -45,9 +41,10 @@ use Rattle.iox_runs.proofs.Settling.{Calm}
 use Rattle.iox_hub_pools.specs.Decisions.{GotAllBack}
 use Rattle.iox_hub_pools.specs.Finding.{IsUnreducedNode, NoCallRunsOut, NoPortCommandRunsOut, NoCommandRunsOut, KeepsLessThere, LoanSucceedsThere}
 use Rattle.iox_hub_pools.specs.Finding.{BeginsSucceedThere}
-use Rattle.iox_hub_pools.proofs.Inductions.{left_keeps}
+use Rattle.iox_hub_pools.proofs.Inductions.{reached_holds}
 use Rattle.iox_hub_pools.proofs.Goings.{Going, going_start, going_next}
 use Rattle.iox_hub_pools.proofs.Counting.{Kinds, KindsOf, kinds_kept, NoOne, own_handles, loan_at}
+use Rattle.iox_hub_pools.proofs.Refusals.{unless_out, misnamed_other, making_other, living_other}
 use Rattle.iox_hub_pools.proofs.Backs.{Ledgered, GetsBack, begins_back, gets_on, Bounded, keeps_less, gives, refuses_reduced}
 
 -- ---- a call under way
@@ -99,50 +96,11 @@ moments_find : (s : State) (n : ℕ) (d : Doing) (ms : List Moment) → MayCome 
 moments_find s n d [] may p = p
 moments_find s n d (m ∷ ms) may p = moments_find (moved s m) n (next s n d m).after ms may.2 (next_finds s n d m may.0 may.1 p)
 
--- ---- refusals
-
-unless_out : (q : Option Refusal) (s t : State) (Q : Type 0) → Tolerates ⊥ q → (q ≡ None → Q → ⊥) → UnlessRefused q s (Refused OutOfMemory) t Q → ⊥
-unless_out (Some r) s t Q other f u = subst (TellsIf ⊥) (sym u.0) other
-unless_out None s t Q other f u = f refl u
-
-misnamed_other : (f : Fixed) (n : ℕ) (call : Call) (x : Option Subject) → Tolerates ⊥ (misnamed_by f n call x)
-misnamed_other f n call None = either (RefusedIf ⊥) (is_elsewhere f (number_of call)) ForeignNumber UnknownNumber (λ u. tt) (λ u. tt)
-misnamed_other f n call (Some x) =
-    or-tolerated ⊥ (refused_if (not (node_of x == n)) ForeignNumber) (refused_if (not (suits f.on_wire call (kind_of x))) WrongKind)
-    (if-tolerated ⊥ (not (node_of x == n)) ForeignNumber tt) (if-tolerated ⊥ (not (suits f.on_wire call (kind_of x))) WrongKind tt)
-
-making_other : (f : Fixed) (role : Role) (o : Options) (memory : Bool) → Tolerates ⊥ (making_refusal f role o memory)
-making_other f role o memory =
-    or-tolerated ⊥ (refused_if tags UnableToCreatePortTag) (or_else (refused_if large UnableToCreateDataSegment) (refused_if many (too_many_ports role)))
-    (if-tolerated ⊥ tags UnableToCreatePortTag tt)
-    (or-tolerated ⊥ (refused_if large UnableToCreateDataSegment) (refused_if many (too_many_ports role))
-    (if-tolerated ⊥ large UnableToCreateDataSegment tt) (if-tolerated ⊥ many (too_many_ports role) (other role)))
-  where
-    tags : Bool
-    tags = nat_le (2 ^ 32) f.ports_made
-
-    large : Bool
-    large = is_large f.limits role o || not memory
-
-    many : Bool
-    many = nat_le (most_ports f.limits role) (length (ports_of_role f role))
-
-    other : (role : Role) → RefusedIf ⊥ (too_many_ports role)
-    other Client = tt
-    other Server = tt
-
-living_other : (s : State) (n : ℕ) → Tolerates ⊥ (not_living s n)
-living_other s n = by_node (node_at s n)
-  where
-    by_node : (o : Option Node) → Tolerates ⊥ (option_map_or (λ m. refused_if (not m.alive) NodeIsDead) o (Some UnknownNode))
-    by_node None = tt
-    by_node (Some m) = if-tolerated ⊥ (not m.alive) NodeIsDead tt
-
 -- ---- the laws, where the record is right
 
--- what is recorded in each state that is left is out there
+-- what is recorded in each state that is reached is out there
 abbrev pub IsLedgered : Type 0
-IsLedgered = (s : State) → IsLeft s → Ledgered s
+IsLedgered = (s : State) → IsReachableState s → Ledgered s
 
 done_finds : (s t : State) (n : ℕ) (call : Call) → Calm s → Kinds s.fixed → Ledgered s → misnamed s.fixed n call ≡ None → IsUnreducedNode s.fixed n
     → IsDone s n call (Refused OutOfMemory) t → ⊥
@@ -156,25 +114,26 @@ done_finds s t n call calm k ledger named all d =
     reduced (subst (λ g. IsUnreducedNode g n) (sym (moved_by-fixed s d.2)) all)
 
 pub no_call_runs_out : IsLedgered → NoCallRunsOut
-no_call_runs_out ledger s t n call left all =
+no_call_runs_out ledger s t n call reached all =
     unless_out (misnamed s.fixed n call) s t _ (misnamed_other s.fixed n call (subject s.fixed n (number_of call)))
     (λ named. unless_out (spent s.fixed call) s t (IsDone s n call (Refused OutOfMemory) t)
     (if-tolerated ⊥ (is_counted call && nat_le (2 ^ 56) s.fixed.calls) CallsSpent tt)
-    (λ u. done_finds s t n call (left_calm s left) (left_keeps KindsOf s kinds_kept left) (ledger s left) named all))
+    (λ u. done_finds s t n call (left_calm s reached) (reached_holds KindsOf s kinds_kept reached) (ledger s reached) named all))
 
 pub no_port_command_runs_out : IsLedgered → NoPortCommandRunsOut
-no_port_command_runs_out ledger s t n (Create role id o) left all c =
+no_port_command_runs_out ledger s t n (Create role id o) reached all c =
     unless_out (making_refusal s.fixed role o c.0) s t _ (making_other s.fixed role o c.0)
     (λ allowed made. subst (TellsIf ⊥) (sym made.0) (made_one role s.fixed.next_number)) c.1
   where
     made_one : (role : Role) (k : ℕ) → TellsIf ⊥ (port_reply role k)
     made_one Client k = tt
     made_one Server k = tt
-no_port_command_runs_out ledger s t n (Use call) left all c = no_call_runs_out ledger s t n call left all c
+no_port_command_runs_out ledger s t n (Use call) reached all c = no_call_runs_out ledger s t n call reached all c
 
 pub no_command_runs_out : IsLedgered → NoCommandRunsOut
-no_command_runs_out ledger s t n command left all =
-    unless_out (not_living s n) s t _ (living_other s n) (λ u. no_port_command_runs_out ledger s t n (with_own_id s n command) left all)
+no_command_runs_out ledger s t command reached all =
+    let n : ℕ = (asking command).0 in
+    unless_out (not_living s n) s t _ (living_other s n) (λ u. no_port_command_runs_out ledger s t n (with_own_id s n (asking command).1) reached all)
 
 -- ---- where the pool decides
 
@@ -184,7 +143,7 @@ finds_there now n copies h x ledger =
     subst (λ u. Finds u n (Loaning copies h x.ways)) (sym x.now_is)
     (subst (Finds (moved_by s x.moments) n) x.lends
     (moments_find s n (start s n x.choice x.call) x.moments x.come
-    (start_finds s n x.choice x.call (left_calm s x.left) x.named (left_keeps KindsOf s kinds_kept x.left) (ledger s x.left))))
+    (start_finds s n x.choice x.call (left_calm s x.reached) x.named (reached_holds KindsOf s kinds_kept x.reached) (ledger s x.reached))))
 
 back_there : (now : State) (n : ℕ) (copies : Bool) (h : Handle) (x : GotAllBack now n copies h) → Finds now n (Loaning copies h x.ways)
     → (y : Way) → has_way y (lending_ways now.fixed h) ≡ true → now.returned y ≡ []
@@ -204,11 +163,11 @@ loan_succeeds_there ledger now n copies h p x is enough =
     (back_there now n copies h x z) is enough)
 
 pub begins_succeed_there : IsLedgered → BeginsSucceedThere
-begins_succeed_there ledger s n call c x p left named is there enough out =
-    let calm : Calm s = left_calm s left in
-    let k : Kinds s.fixed = left_keeps KindsOf s kinds_kept left in
+begins_succeed_there ledger s n call c x p reached named is there enough out =
+    let calm : Calm s = left_calm s reached in
+    let k : Kinds s.fixed = reached_holds KindsOf s kinds_kept reached in
     subst (SpareDoing (view s.fixed n) NoOne ⊥) out
     (start-spare s n NoOne (λ q. q ≡ lender x) ⊥ c call
-    (λ h loan same none dry. true≢false (sym dry ∙ gives s n h p (bounded_rest s n calm) k (ledger s left) loan
+    (λ h loan same none dry. true≢false (sym dry ∙ gives s n h p (bounded_rest s n calm) k (ledger s reached) loan
     (λ y lends. absurd (true≢false (sym lends ∙ ap (has_way y) none))) (ap (port_at s.fixed) same ∙ there) enough))
     (λ y e. ap lender (some-is y x (sym e ∙ is))) (own_handles s n (calm.rests).fixed) (k.kinds n) named)

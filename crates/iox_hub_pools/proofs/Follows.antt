@@ -8,7 +8,7 @@ use Rattle.iox_model.specs.declared.call.WireCall.TheVariants as wire_calls
 use Rattle.iox_model.specs.Begins.{start}
 use Rattle.iox_model.specs.Commands.{Call}
 use Rattle.iox_model.specs.Doings.{Doing, Loaning}
-use Rattle.iox_model.specs.Ledgers.{serials_of_loan, under_way, kept_in}
+use Rattle.iox_model.specs.Keeping.{serials_of_loan, under_way, kept_in}
 use Rattle.iox_model.specs.Loans.{Choice}
 use Rattle.iox_model.specs.Maps.{has_number, put_at}
 use Rattle.iox_model.specs.Moments.{moved, Moment}
@@ -16,9 +16,10 @@ use Rattle.iox_model.specs.Outstandings.{is_held, is_outstanding, kept, is_dry}
 use Rattle.iox_model.specs.Peers.{port_at, node_of_port, ways_from}
 use Rattle.iox_model.specs.States.{Port, Handle, Fixed, State}
 use Rattle.iox_model.specs.Steps.{next}
+use Rattle.iox_model.specs.Values.{Filling}
 use Rattle.iox_model.specs.Weaves.{at_work, World}
-use Rattle.iox_model.proofs.MapLemmas.{eqb-refl}
-use Rattle.iox_model.proofs.WholeLemmas.{moved-fixed}
+use Rattle.iox_weaves.proofs.MapLemmas.{eqb-refl}
+use Rattle.iox_weaves.proofs.WholeLemmas.{moved-fixed}
 use Rattle.iox_ledger.proofs.Orders.{same, same-le, less}
 use Rattle.iox_ledger.proofs.Truths.{one_of, or-left, or-right}
 use Rattle.iox_ledger.proofs.Lists.{IsAmong, any-among, among-any}
@@ -27,6 +28,7 @@ use Rattle.iox_pools.proofs.Holds.{held-holds, own-loan, made-serial}
 use Rattle.iox_pools.proofs.HoldsKept.{keeps, under_at, under, IsNext, Follows}
 use Rattle.iox_pools.proofs.Under.{PickIs, GivesNext, loan-serial, start-under, next-under, next-stays}
 use Rattle.iox_pools.proofs.Ways.{way-of}
+use Rattle.iox_hub_ledger.proofs.Fillings.{fills}
 use Rattle.iox_hub_pools.proofs.Stands.{StandsBy, Stands, under_next}
 use Rattle.iox_hub_pools.proofs.Goings.{Going, IsSent, sent_by}
 
@@ -72,6 +74,16 @@ start_follows s n c call q p is = record {
   where
     next : (k : ℕ) → GivesNext s q k → (k ≡ s.fixed.loans q) × (under (at_work s) q ≡ []) × (length (kept_in (at_work s) q) < p.pool)
     next k g = (g.0, refl, room s q p is g.1)
+
+-- a loan that is filled adds nothing
+pub filling_follows : (s : State) (n : ℕ) (h : Handle) (x : Filling) (q : ℕ) (p : Port) → Follows (at_work s) (calls s n (fills h x)) q p
+filling_follows s n h x q p = record {
+  loans = same (s.fixed.loans q);
+  kept = λ k e. inl e;
+  call = λ k. of_call s n (fills h x) q (λ ks. has_number k ks ≡ true → IsNext (at_work s) q p k) (λ at e. nothing k e) (λ e. nothing k e);
+  under_is = λ k e. nothing k e;
+  stays = λ k e. nothing k e;
+}
 
 -- ---- a moment
 

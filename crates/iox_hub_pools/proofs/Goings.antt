@@ -1,20 +1,23 @@
 -- A call of a service under way: what its moments deliver, and who is at the ends of the record.
-use Rattle.std.specs.Prelude.{◌≡◌, ℕ, Bool, true, false, if◌then◌else◌, List, [], ◌∷◌, None, refl}
+use Rattle.std.specs.Prelude.{◌≡◌, ℕ, Bool, true, false, if◌then◌else◌, List, [], ◌∷◌, Some, None, refl}
 use Rattle.std.proofs.Common.{sym, subst, ap, ◌∙◌, inl, inr}
 use Rattle.iox_model.specs.declared.way.Way.{Way}
 use Rattle.iox_model.specs.Begins.{start}
 use Rattle.iox_model.specs.Commands.{Call}
 use Rattle.iox_model.specs.Doings.{Sending, Doing, Loaning, Delivering}
-use Rattle.iox_model.specs.Ledgers.{serials_of_loan, under_way}
+use Rattle.iox_model.specs.Handles.{handle_at}
+use Rattle.iox_model.specs.Keeping.{serials_of_loan, under_way}
 use Rattle.iox_model.specs.Loans.{Choice}
 use Rattle.iox_model.specs.Maps.{same_way}
 use Rattle.iox_model.specs.Moments.{Holds, moved, Moment, Deliver, GetBack, SeesNoneBack}
 use Rattle.iox_model.specs.Names.{misnamed}
 use Rattle.iox_model.specs.States.{Handle, Fixed, State}
 use Rattle.iox_model.specs.Steps.{next}
+use Rattle.iox_model.specs.Values.{Filling, MayFill}
 use Rattle.iox_model.specs.WholeCalls.{moved_by, left_by, MayCome}
-use Rattle.iox_model.proofs.MapLemmas.{same_way-true}
-use Rattle.iox_model.proofs.WholeLemmas.{moved-fixed}
+use Rattle.iox_weaves.proofs.MapLemmas.{same_way-true}
+use Rattle.iox_weaves.proofs.WholeLemmas.{moved-fixed}
+use Rattle.iox_reachable.proofs.Fillings.{named_among}
 use Rattle.iox_reachable.proofs.Sound.{Fits, IsOwn}
 use Rattle.iox_ledger.proofs.Had.{put_on}
 use Rattle.iox_ledger.proofs.Lists.{IsAmong, way-among}
@@ -24,6 +27,7 @@ use Rattle.iox_runs.proofs.Calls.{Goes, goes_by, begins}
 use Rattle.iox_runs.proofs.Holding.{SendFits, HoldsIn}
 use Rattle.iox_runs.proofs.Ports.{any_at}
 use Rattle.iox_runs.proofs.Settling.{Calm}
+use Rattle.iox_hub_ledger.proofs.Fillings.{fills, filling-goes}
 use Rattle.iox_hub_pools.proofs.Stands.{StandsBy, Stands, Onward, Begins, next_stands, start_stands}
 
 -- ---- the call
@@ -56,6 +60,14 @@ pub goings : (s : State) (n : ℕ) (d : Doing) (ms : List Moment) → MayCome s 
 goings s n d [] may g = g
 goings s n d (m ∷ ms) may g =
     goings (moved s m) n (next s n d m).after ms may.2 (going_next Any Any s n d m g (any_onward d m) may.0 may.1)
+
+-- a loan that is filled is a call that has ended
+pub going_fills : (s : State) (n number : ℕ) (h : Handle) (x : Filling) → Calm s → handle_at s.fixed n number ≡ Some h → MayFill s.fixed h x
+    → Going Any s n (fills h x)
+going_fills s n number h x calm there may = record {
+  goes = filling-goes s n number h x calm there may;
+  stands = record { old = h; among = (named_among s.fixed n number h there).0; number = refl; port = refl; serial = refl; was_loan = may.loan };
+}
 
 -- ---- what is delivered
 

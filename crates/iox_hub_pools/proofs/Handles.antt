@@ -9,7 +9,7 @@ use Rattle.iox_model.specs.Expiries.{disconnected, is_last_gone, released}
 use Rattle.iox_model.specs.Handles.{is_request_loan, is_received, way_of, new_number}
 use Rattle.iox_model.specs.Maps.{put_at, put}
 use Rattle.iox_model.specs.States.{Handle, Fixed, State}
-use Rattle.iox_model.proofs.MapLemmas.{either}
+use Rattle.iox_weaves.proofs.MapLemmas.{either}
 use Rattle.iox_reachable.proofs.Sound.{IsOwn, FitsOutcome}
 use Rattle.iox_ledger.proofs.Senders.{FitsLoan}
 use Rattle.iox_ledger.proofs.Views.{View, plus, counted, lends_one, swapped, less, after_call}

@@ -1,4 +1,4 @@
--- In each state that is left, ports keep to their pools.
+-- In each state that is reached, ports keep to their pools.
 use Rattle.std.specs.Prelude.{◌≡◌, ℕ, ◌≤◌, true, false, ◌&&◌, ◌==◌, List, [], ◌∷◌, ◌++◌, length, map, filter, Option, Some, None, find, ◌⊎◌}
 use Rattle.std.specs.Prelude.{refl}
 use Rattle.std.specs.List.{list_any}
@@ -9,10 +9,10 @@ use Rattle.iox_model.specs.declared.way.Way.{Way}
 use Rattle.iox_model.specs.Begins.{start}
 use Rattle.iox_model.specs.Commands.{Call}
 use Rattle.iox_model.specs.Counts.{with_fixed}
-use Rattle.iox_model.specs.Doings.{Outcome, Doing}
+use Rattle.iox_model.specs.Doings.{Outcome, Fills, Doing}
 use Rattle.iox_model.specs.Ends.{settled}
-use Rattle.iox_model.specs.Handles.{is_own}
-use Rattle.iox_model.specs.Ledgers.{kept_in}
+use Rattle.iox_model.specs.Handles.{is_own, handle_at}
+use Rattle.iox_model.specs.Keeping.{kept_in}
 use Rattle.iox_model.specs.Loans.{Choice}
 use Rattle.iox_model.specs.Makings.{new_port, with_port}
 use Rattle.iox_model.specs.Maps.{has_number}
@@ -20,12 +20,13 @@ use Rattle.iox_model.specs.Moments.{Holds, moved, Moment}
 use Rattle.iox_model.specs.Names.{misnamed}
 use Rattle.iox_model.specs.Outstandings.{is_held, is_outstanding}
 use Rattle.iox_model.specs.Peers.{port_at, node_of_port, ways_from}
-use Rattle.iox_model.specs.States.{Port, Fixed, State}
+use Rattle.iox_model.specs.States.{Port, Handle, Fixed, State}
 use Rattle.iox_model.specs.Steps.{next, ends}
+use Rattle.iox_model.specs.Values.{Filling, filled_as, MayFill}
 use Rattle.iox_model.specs.Weaves.{at_work}
 use Rattle.iox_model.specs.WholeCalls.{moved_by, left_by, MayCome}
-use Rattle.iox_model.proofs.WholeLemmas.{moved-fixed}
-use Rattle.iox_reachable.proofs.ServedPorts.{distinct_next}
+use Rattle.iox_weaves.proofs.WholeLemmas.{moved-fixed}
+use Rattle.iox_reachable.proofs.ReachedPorts.{distinct_next}
 use Rattle.iox_ledger.proofs.Orders.{none-more}
 use Rattle.iox_ledger.proofs.Ranges.{no-longer}
 use Rattle.iox_ledger.proofs.Truths.{never, one_of, none-some, by_cases, or-left, or-right}
@@ -40,10 +41,11 @@ use Rattle.iox_runs.proofs.Calls.{own_ports}
 use Rattle.iox_runs.proofs.Ports.{any_at, at_more, first_more, next_is_free}
 use Rattle.iox_runs.proofs.Rests.{Rests}
 use Rattle.iox_runs.proofs.Settling.{Calm}
+use Rattle.iox_hub_ledger.proofs.Fillings.{fills}
 use Rattle.iox_hub_pools.specs.PoolsRest.{PoolsRestWithin, NextRestsFresh}
-use Rattle.iox_hub_pools.proofs.Inductions.{IsKeptCalm, left_keeps}
-use Rattle.iox_hub_pools.proofs.Goings.{Any, any_onward, Going, going_start, going_next, Recorded, moved_recorded}
-use Rattle.iox_hub_pools.proofs.Follows.{calls, start_follows, next_follows, nothing}
+use Rattle.iox_hub_pools.proofs.Inductions.{IsKeptCalm, reached_holds}
+use Rattle.iox_hub_pools.proofs.Goings.{Any, any_onward, Going, going_start, going_next, going_fills, Recorded, moved_recorded}
+use Rattle.iox_hub_pools.proofs.Follows.{calls, start_follows, filling_follows, next_follows, nothing}
 use Rattle.iox_hub_pools.proofs.Parts.{WasPort, SamePort, same_port, was_found, was_way, Leaves, settled_leaves}
 use Rattle.iox_hub_pools.proofs.Ends.{Ending, ending, end_follows}
 
@@ -63,6 +65,14 @@ start_keeps s n c call calm named k = record {
   going = going_start Any s n c call calm (λ h. tt) named;
   recorded = k.recorded;
   keeping = λ q p is. follows-keeping (at_work s) (calls s n (start s n c call)) q p (start_follows s n c call q p is) (k.keeping q p is);
+}
+
+filling_keeps : (s : State) (n number : ℕ) (h : Handle) (x : Filling) → Calm s → handle_at s.fixed n number ≡ Some h → MayFill s.fixed h x → KeepsTo s
+    → KeepsOn s n (fills h x)
+filling_keeps s n number h x calm there may k = record {
+  going = going_fills s n number h x calm there may;
+  recorded = k.recorded;
+  keeping = λ q p is. follows-keeping (at_work s) (calls s n (fills h x)) q p (filling_follows s n h x q p) (k.keeping q p is);
 }
 
 next_keeps : (s : State) (n : ℕ) (d : Doing) (m : Moment) → Holds s m → (next s n d m).condition → KeepsOn s n d → KeepsOn (moved s m) n (next s n d m).after
@@ -200,12 +210,14 @@ keeps_to = record {
       subst KeepsTo (sym d.9) (end_keeps (moved_by s d.2) node (left_by s node (start s node d.0 call) d.2) d.6 d.4 d.5
       (subst (λ (u : State). Rests u.fixed) d.9 (after.rests).fixed)
       (moments_keep s node (start s node d.0 call) d.2 d.3 (start_keeps s node d.0 call calm named k)));
+  fills = λ s node number h x calm after there may k.
+      end_keeps s node (fills h x) [] (Fills (filled_as h x)) refl (after.rests).fixed (filling_keeps s node number h x calm there may k);
 }
 
 -- No port keeps more than its pool has,
 pub pools_rest_within : PoolsRestWithin
-pools_rest_within s port p left is = ((left_keeps KeepsTo s keeps_to left).keeping port p is).fits
+pools_rest_within s port p reached is = ((reached_holds KeepsTo s keeps_to reached).keeping port p is).fits
 
 -- and the next that it lends is none of them.
 pub next_rests_fresh : NextRestsFresh
-next_rests_fresh s port p left is = fresh (at_work s) port p ((left_keeps KeepsTo s keeps_to left).keeping port p is) refl
+next_rests_fresh s port p reached is = fresh (at_work s) port p ((reached_holds KeepsTo s keeps_to reached).keeping port p is) refl

@@ -2,36 +2,31 @@
 use Rattle.std.specs.Prelude.{◌≡◌, ℕ, List, [], ◌∷◌, refl, true, false}
 use Rattle.std.proofs.Common.{ap, inl, inr}
 use Rattle.iox_model.specs.declared.backpressure.BackpressureAction.TheVariants as actions
-use Rattle.iox_model.specs.declared.call.Call.TheVariants.{Loan, SendCopy, Receive, Release}
+use Rattle.iox_model.specs.declared.call.Call.TheVariants.{Loan}
+use Rattle.iox_model.specs.declared.command.PortCommand.TheVariants as asks
+use Rattle.iox_model.specs.declared.command.Command.TheVariants.{Port}
 use Rattle.iox_model.specs.declared.kind.Role.TheVariants.{Client, Server}
 use Rattle.iox_model.specs.declared.way.Way.{Way}
-use Rattle.iox_model.specs.Commands.{Command}
+use Rattle.iox_model.specs.Commands.{Reply, Command}
 use Rattle.iox_model.specs.Loans.{loan_of}
 use Rattle.iox_model.specs.Messages.{request_way}
 use Rattle.iox_model.specs.Responses.{ordered}
-use Rattle.iox_model.specs.Scripts.{process, service, of_node, request_saying, a_response, set_up}
+use Rattle.iox_worked.specs.Scripts.{process, service, request_saying, a_response, set_up}
 use Rattle.iox_model.specs.States.{State}
-use Rattle.iox_model.proofs.PlayedRuns.{are_answered, replies_by, state_by, is_run_to}
+use Rattle.iox_worked.proofs.Shapes.{words_are_shaped}
+use Rattle.iox_weaves.proofs.PlayedRuns.{are_answered, replies_by, state_by, is_run_to}
 use Rattle.iox_ledger.proofs.Lists.{IsAmong, way-among}
 use Rattle.iox_pools.proofs.Tight.{narrow, client, server, lanes}
-use Rattle.iox_runs.specs.Lefts.{IsLeft}
+use Rattle.iox_model.specs.Runs.{IsReachableState}
+use Rattle.iox_reachable.proofs.Inductions.{run_is_reached}
 use Rattle.iox_hub_pools.specs.TightRests.{SomeLoanTakesTheLastThere, NoLessWouldDoThere}
 
--- what a run leaves is left
-runs-to : (cs : List Command) (chosen : List ℕ) → are_answered (service narrow) cs chosen ≡ true → IsLeft (state_by (service narrow) cs chosen)
-runs-to cs chosen e = (
-  state_by (service narrow) cs chosen,
-  [],
-  (
-    narrow,
-    λ words sender receiver. actions.FollowBackpressureStrategy,
-    process 1,
-    cs,
-    replies_by (service narrow) cs chosen,
-    is_run_to (service narrow) cs (replies_by (service narrow) cs chosen) chosen e refl,
-  ),
-  refl,
-)
+-- what a run leads to is reached
+runs-to : (cs : List Command) (chosen : List ℕ) → are_answered (service narrow) cs chosen ≡ true → IsReachableState (state_by (service narrow) cs chosen)
+runs-to cs chosen e =
+    let rs : List Reply = replies_by (service narrow) cs chosen in
+    run_is_reached narrow (λ words sender receiver. actions.FollowBackpressureStrategy) (process 1) cs rs (state_by (service narrow) cs chosen)
+    (words_are_shaped 56) (words_are_shaped 48) (is_run_to (service narrow) cs rs chosen e refl)
 
 -- ---- the client
 
@@ -39,12 +34,12 @@ runs-to cs chosen e = (
 abbrev three_requests : List Command
 three_requests =
     set_up
-    (of_node 0 (SendCopy 0 (request_saying 1))
-    ∷ of_node 1 (Receive 1)
-    ∷ of_node 0 (Release 2)
-    ∷ of_node 0 (SendCopy 0 (request_saying 2))
-    ∷ of_node 0 (Release 4)
-    ∷ of_node 0 (SendCopy 0 (request_saying 3))
+    (Port (asks.SendCopy 0 0 (request_saying 1))
+    ∷ Port (asks.Receive 1 1)
+    ∷ Port (asks.Release 0 2)
+    ∷ Port (asks.SendCopy 0 0 (request_saying 2))
+    ∷ Port (asks.Release 0 4)
+    ∷ Port (asks.SendCopy 0 0 (request_saying 3))
     ∷ [])
 
 abbrev client_lends : State
@@ -58,7 +53,7 @@ client_takes_the_last = (
   client,
   record {
     first = client_lends;
-    left = runs-to three_requests [] refl;
+    reached = runs-to three_requests [] refl;
     call = Loan 0 1;
     named = refl;
     choice = record { lane = 1; memory = true };
@@ -81,13 +76,13 @@ client_takes_the_last = (
 -- a request has two responses, of which the client receives one
 abbrev round : (pending active : ℕ) → List Command → List Command
 round pending active rest =
-    of_node 0 (SendCopy 0 (request_saying 1))
-    ∷ of_node 1 (Receive 1)
-    ∷ of_node 1 (SendCopy active (a_response 1))
-    ∷ of_node 0 (Receive pending)
-    ∷ of_node 1 (SendCopy active (a_response 2))
-    ∷ of_node 0 (Release pending)
-    ∷ of_node 1 (Release active)
+    Port (asks.SendCopy 0 0 (request_saying 1))
+    ∷ Port (asks.Receive 1 1)
+    ∷ Port (asks.SendCopy 1 active (a_response 1))
+    ∷ Port (asks.Receive 0 pending)
+    ∷ Port (asks.SendCopy 1 active (a_response 2))
+    ∷ Port (asks.Release 0 pending)
+    ∷ Port (asks.Release 1 active)
     ∷ rest
 
 -- on each of the client's lanes one response waits, and the client has one
@@ -95,7 +90,7 @@ abbrev eight_responses : List Command
 eight_responses =
     set_up
     (round 2 3 (round 5 6 (round 8 9 (round 11 12
-    (of_node 0 (SendCopy 0 (request_saying 5)) ∷ of_node 1 (Receive 1) ∷ [])))))
+    (Port (asks.SendCopy 0 0 (request_saying 5)) ∷ Port (asks.Receive 1 1) ∷ [])))))
 
 -- the lane of each command's loan
 abbrev each_lane : List ℕ
@@ -125,7 +120,7 @@ server_takes_the_last = (
   server,
   record {
     first = server_lends;
-    left = runs-to eight_responses each_lane refl;
+    reached = runs-to eight_responses each_lane refl;
     call = Loan 15 1;
     named = refl;
     choice = record { lane = 0; memory = true };

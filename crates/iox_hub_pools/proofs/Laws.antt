@@ -1,4 +1,4 @@
--- The laws of pools over runs: what is recorded in each state that is left is out there.
+-- The laws of pools over runs: what is recorded in each state that is reached is out there.
 use Rattle.std.proofs.Common.{sym, ◌∙◌}
 use Rattle.iox_model.specs.Weaves.{at_work}
 use Rattle.iox_ledger.specs.LedgerLaws.{out_on}
@@ -11,9 +11,9 @@ use Rattle.iox_hub_pools.proofs.Finds.{IsLedgered, no_call_runs_out, no_port_com
 use Rattle.iox_hub_pools.proofs.Finds.{begins_succeed_there}
 
 is_ledgered : IsLedgered
-is_ledgered s left = record {
-  hand = λ y. nothing_rests_in_hand s y left;
-  out = λ y k live e. number-among k (out_on (at_work s) y) (sym (record_rests_as_out s y k left live) ∙ e);
+is_ledgered s reached = record {
+  hand = λ y. nothing_rests_in_hand s y reached;
+  out = λ y k live e. number-among k (out_on (at_work s) y) (sym (record_rests_as_out s y k reached live) ∙ e);
 }
 
 pub no_call : NoCallRunsOut

@@ -8,6 +8,7 @@ pub mod Ends
 pub mod Keeps
 pub mod Counting
 pub mod Backs
+pub mod Refusals
 pub mod Finds
 pub mod Lasts
 pub mod Histories

@@ -13,14 +13,14 @@ use Rattle.iox_model.specs.Doings.{Outcome, Tells, Loans, Fills, Sends, FailsToS
 use Rattle.iox_model.specs.Ends.{sent_loan, is_nothing, port_dropped, settled}
 use Rattle.iox_model.specs.Expiries.{disconnected, is_end, is_last_gone, released}
 use Rattle.iox_model.specs.Handles.{is_request_loan, is_received, way_of}
-use Rattle.iox_model.specs.Ledgers.{serials_of_outcome}
+use Rattle.iox_model.specs.Keeping.{serials_of_outcome}
 use Rattle.iox_model.specs.Maps.{has_number, put_at, put}
 use Rattle.iox_model.specs.Messages.{request_way, response_way}
 use Rattle.iox_model.specs.Peers.{role_at, lanes_of, ports_of_role, ways_from_client, lanes_to, ways_from_server, ways_from}
 use Rattle.iox_model.specs.Settings.{is_client, same_role}
 use Rattle.iox_model.specs.States.{Port, Handle, Fixed, State}
-use Rattle.iox_model.proofs.CallLaws.{put_at-else}
-use Rattle.iox_model.proofs.MapLemmas.{either}
+use Rattle.iox_weaves.proofs.CallLaws.{put_at-else}
+use Rattle.iox_weaves.proofs.MapLemmas.{either}
 use Rattle.iox_ledger.proofs.Orders.{same, at-most}
 use Rattle.iox_ledger.proofs.Truths.{never, none-some, or-false}
 use Rattle.iox_ledger.proofs.HandlesKept.{more-loans}

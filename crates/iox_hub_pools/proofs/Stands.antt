@@ -38,8 +38,8 @@ use Rattle.iox_model.specs.Looks.{checking, is_shown, hinting}
 use Rattle.iox_model.specs.Settings.{is_client, is_count}
 use Rattle.iox_model.specs.States.{Port, Handle, Fixed, State}
 use Rattle.iox_model.specs.Steps.{next, ends}
-use Rattle.iox_model.proofs.MapLemmas.{either}
-use Rattle.iox_model.proofs.WholeLemmas.{some-is}
+use Rattle.iox_weaves.proofs.MapLemmas.{either}
+use Rattle.iox_weaves.proofs.WholeLemmas.{some-is}
 use Rattle.iox_ledger.proofs.Truths.{none-some}
 use Rattle.iox_ledger.proofs.Lists.{IsAmong}
 use Rattle.iox_ledger.proofs.Senders.{is_loan}

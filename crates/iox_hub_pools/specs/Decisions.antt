@@ -10,13 +10,13 @@ use Rattle.iox_model.specs.Moments.{Moment}
 use Rattle.iox_model.specs.Names.{misnamed}
 use Rattle.iox_model.specs.States.{Handle, State}
 use Rattle.iox_model.specs.WholeCalls.{moved_by, left_by, MayCome}
-use Rattle.iox_runs.specs.Lefts.{IsLeft}
+use Rattle.iox_model.specs.Runs.{IsReachableState}
 
--- From a state that is left these moments led a call of the node to a loan that has got back all
+-- From a state that is reached these moments led a call of the node to a loan that has got back all
 -- there is: on the ways that it has yet to see, nothing waits to be got back.
 pub record GotAllBack (now : State) (node : ℕ) (copies : Bool) (h : Handle) : Type 0 where
   pub first : State
-  pub left : IsLeft first
+  pub reached : IsReachableState first
   pub call : Call
   pub named : misnamed first.fixed node call ≡ None
   pub choice : Choice

@@ -2,25 +2,25 @@
 use Rattle.std.specs.Prelude.{◌≡◌, ℕ, ◌<◌, ◌≤◌, Bool, true, if◌then◌else◌, List, [], length, All, Some, None, ⊤}
 use Rattle.iox_model.specs.declared.reply.Refusal.TheVariants.{OutOfMemory}
 use Rattle.iox_model.specs.declared.reply.Reply.TheVariants.{Refused}
-use Rattle.iox_model.specs.declared.command.Command.TheVariants.{OfNode}
-use Rattle.iox_model.specs.declared.command.PortCommand.TheVariants.{Create, Use}
+use Rattle.iox_model.specs.declared.command.Command.TheVariants.{Join}
+use Rattle.iox_model.specs.declared.command.Command.TheVariants as commands
 use Rattle.iox_model.specs.Begins.{start}
-use Rattle.iox_model.specs.Commands.{Call, PortCommand, number_of}
+use Rattle.iox_model.specs.Commands.{Call, PortCommand, HubCommand, Create, Use, asking, number_of}
 use Rattle.iox_model.specs.Doings.{refused, Loans, Ended}
 use Rattle.iox_model.specs.Handles.{subject, Subject}
 use Rattle.iox_model.specs.Loans.{Choice}
-use Rattle.iox_model.specs.Makings.{worst_pool, IsPortCommand}
+use Rattle.iox_model.specs.Makings.{worst_pool, IsHubCommand}
 use Rattle.iox_model.specs.Names.{misnamed}
 use Rattle.iox_model.specs.Outstandings.{kept}
 use Rattle.iox_model.specs.Peers.{port_at}
 use Rattle.iox_model.specs.Responses.{sends, loaned}
-use Rattle.iox_model.specs.Runs.{IsHistory, Record}
+use Rattle.iox_model.specs.Runs.{ServiceStep, OfService, OfHub, IsHistory}
 use Rattle.iox_model.specs.Services.{IsCommand}
 use Rattle.iox_model.specs.Settings.{Limits}
 use Rattle.iox_model.specs.States.{Port, Handle, Fixed, State}
 use Rattle.iox_model.specs.WholeCalls.{IsWholeCall}
 use Rattle.iox_pools.specs.PoolLaws.{IsUnreduced, lender}
-use Rattle.iox_runs.specs.Lefts.{IsLeft}
+use Rattle.iox_model.specs.Runs.{IsReachableState}
 use Rattle.iox_hub_pools.specs.Decisions.{GotAllBack}
 
 -- no pool of the node's ports was reduced
@@ -31,20 +31,22 @@ IsUnreducedNode f node =
 -- No whole call of such a node is answered that memory is out,
 abbrev pub NoCallRunsOut : Type 0
 NoCallRunsOut =
-    (s t : State) (node : ℕ) (call : Call) → IsLeft s → IsUnreducedNode s.fixed node
+    (s t : State) (node : ℕ) (call : Call) → IsReachableState s → IsUnreducedNode s.fixed node
     → IsWholeCall s node call (Refused OutOfMemory) t → ⊥
 
 -- nor is a command of it, of a hub
 abbrev pub NoPortCommandRunsOut : Type 0
 NoPortCommandRunsOut =
-    (s t : State) (node : ℕ) (command : PortCommand) → IsLeft s → IsUnreducedNode s.fixed node
-    → IsPortCommand s node command (Refused OutOfMemory) t → ⊥
+    (s t : State) (node : ℕ) (command : HubCommand) → IsReachableState s
+    → IsUnreducedNode s.fixed node
+    → IsHubCommand s node command (Refused OutOfMemory) t → ⊥
 
 -- or of a service.
 abbrev pub NoCommandRunsOut : Type 0
 NoCommandRunsOut =
-    (s t : State) (node : ℕ) (command : PortCommand) → IsLeft s → IsUnreducedNode s.fixed node
-    → IsCommand s (OfNode node command) (Refused OutOfMemory) t → ⊥
+    (s t : State) (command : PortCommand) → IsReachableState s
+    → IsUnreducedNode s.fixed (asking command).0
+    → IsCommand s (commands.Port command) (Refused OutOfMemory) t → ⊥
 
 -- ---- a whole history
 
@@ -53,16 +55,29 @@ abbrev pub IsUnreducedHub : Fixed → Type 0
 IsUnreducedHub f = (p : Port) → port_at f p.number ≡ Some p → IsUnreduced f p
 
 -- who makes a port chooses no pool, or one that has no less than the port needs
-abbrev pub ChoosesEnough : Limits → PortCommand → Type 0
+abbrev pub ChoosesEnough : Limits → HubCommand → Type 0
 ChoosesEnough l (Create role id o) = (n : ℕ) → o.pool ≡ Some n → worst_pool l role o ≤ n
 ChoosesEnough l (Use call) = ⊤
 
--- So where no pool is reduced, nothing that a hub is asked is answered that memory is out.
+-- So it is in a step; and what an opener asks of types and attributes is not refused for memory.
+abbrev pub ChoosesEnoughIn : Limits → ServiceStep → Type 0
+ChoosesEnoughIn l (OfService (commands.Port command) reply) = ChoosesEnough l (asking command).1
+ChoosesEnoughIn l (OfService (Join id asked) reply) = asked ≡ Some OutOfMemory → ⊥
+ChoosesEnoughIn l (OfHub node command reply) = ChoosesEnough l command
+ChoosesEnoughIn l x = ⊤
+
+-- The step is answered that memory is out; fillings of loans and releases of values have no answer.
+abbrev pub RunsOut : ServiceStep → Type 0
+RunsOut (OfService command reply) = reply ≡ Refused OutOfMemory
+RunsOut (OfHub node command reply) = reply ≡ Refused OutOfMemory
+RunsOut x = ⊥
+
+-- So where no pool is reduced, nothing that a service and its hub are asked is answered so.
 abbrev pub NoHistoryRunsOut : Type 0
 NoHistoryRunsOut =
-    (s t : State) (cs : List Record) → IsLeft s → IsHistory s cs t → IsUnreducedHub s.fixed
-    → All (λ c. ChoosesEnough s.fixed.limits c.command) cs
-    → All (λ c. c.reply ≡ Refused OutOfMemory → ⊥) cs
+    (s t : State) (steps : List ServiceStep) → IsReachableState s → IsHistory s steps t
+    → IsUnreducedHub s.fixed → All (ChoosesEnoughIn s.fixed.limits) steps
+    → All (λ x. RunsOut x → ⊥) steps
 
 -- ---- where the pool decides
 
@@ -86,7 +101,7 @@ LoanSucceedsThere =
 abbrev pub BeginsSucceedThere : Type 0
 BeginsSucceedThere =
     (s : State) (node : ℕ) (call : Call) (c : Choice) (x : Subject) (p : Port)
-    → IsLeft s → misnamed s.fixed node call ≡ None
+    → IsReachableState s → misnamed s.fixed node call ≡ None
     → subject s.fixed node (number_of call) ≡ Some x
     → port_at s.fixed (lender x) ≡ Some p → IsUnreduced s.fixed p
     → start s node c call ≡ refused OutOfMemory → ⊥

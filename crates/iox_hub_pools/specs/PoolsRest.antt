@@ -4,16 +4,16 @@ use Rattle.iox_model.specs.Maps.{has_number}
 use Rattle.iox_model.specs.Outstandings.{kept}
 use Rattle.iox_model.specs.Peers.{port_at}
 use Rattle.iox_model.specs.States.{Port, State}
-use Rattle.iox_runs.specs.Lefts.{IsLeft}
+use Rattle.iox_model.specs.Runs.{IsReachableState}
 
 -- No port keeps more messages than its pool has, also where that was reduced;
 abbrev pub PoolsRestWithin : Type 0
 PoolsRestWithin =
-    (s : State) (port : ℕ) (p : Port) → IsLeft s → port_at s.fixed port ≡ Some p
+    (s : State) (port : ℕ) (p : Port) → IsReachableState s → port_at s.fixed port ≡ Some p
     → length (kept s port []) ≤ p.pool
 
 -- and the message that its next loan takes is none that it keeps.
 abbrev pub NextRestsFresh : Type 0
 NextRestsFresh =
-    (s : State) (port : ℕ) (p : Port) → IsLeft s → port_at s.fixed port ≡ Some p
+    (s : State) (port : ℕ) (p : Port) → IsReachableState s → port_at s.fixed port ≡ Some p
     → has_number (s.fixed.loans port) (kept s port []) ≡ false

@@ -4,7 +4,8 @@
 
 ghost use Rattle.iox_hub_pools.specs.Finding.{BeginsSucceedThere, KeepsLessThere};
 ghost use Rattle.iox_hub_pools.specs.Finding.{LoanSucceedsThere, NoCallRunsOut};
-ghost use Rattle.iox_hub_pools.specs.Finding.{NoCommandRunsOut, NoHistoryRunsOut, NoPortCommandRunsOut};
+ghost use Rattle.iox_hub_pools.specs.Finding.{NoCommandRunsOut, NoHistoryRunsOut};
+ghost use Rattle.iox_hub_pools.specs.Finding.{NoPortCommandRunsOut};
 ghost use Rattle.iox_hub_pools.specs.PoolsRest.{NextRestsFresh, PoolsRestWithin};
 ghost use Rattle.iox_hub_pools.specs.TightRests.{NoLessWouldDoThere};
 
@@ -23,7 +24,8 @@ pub fn pools_suffice()
     ensures begins { BeginsSucceedThere }
 {}
 
-/// No call of a node whose pools were not reduced is answered that memory is out, and no command.
+/// No call of a node whose pools were not reduced is answered that memory is out, and no command;
+/// and no step of a whole history of a service and its hub, in which nobody reduces a pool.
 pub fn no_call_runs_out_of_memory()
     ensures calls { NoCallRunsOut }
     ensures of_ports { NoPortCommandRunsOut }
@@ -31,7 +33,7 @@ pub fn no_call_runs_out_of_memory()
     ensures histories { NoHistoryRunsOut }
 {}
 
-/// No smaller pool suffices: in some state that a run leaves a loan of a client, and in some a loan
+/// No smaller pool suffices: in some state that is reached a loan of a client, and in some a loan
 /// of a server, takes the last message of a pool that has just what its port needs.
 pub fn no_smaller_pool_suffices()
     ensures { NoLessWouldDoThere }

@@ -4,7 +4,7 @@ use Rattle.std.proofs.Common.{sym, subst, ap, ◌∙◌, arith, eqb-true, eq-eqb
 use Rattle.std.proofs.lemmas.List.{length-map}
 use Rattle.iox_model.specs.declared.way.Way.{Way}
 use Rattle.iox_model.specs.Doings.{Doing, Delivering}
-use Rattle.iox_model.specs.Ledgers.{is_emptied_by, held_on}
+use Rattle.iox_weaves.specs.Ledgers.{is_emptied_by, held_on}
 use Rattle.iox_model.specs.Maps.{is_empty, put_at, same_way}
 use Rattle.iox_model.specs.Messages.{serials_of, Message}
 use Rattle.iox_model.specs.Moments.{Holds, moved, Moment, Deliver, Evict}
@@ -12,7 +12,7 @@ use Rattle.iox_model.specs.Peers.{buffer_on, borrow_limit_on}
 use Rattle.iox_model.specs.States.{Fixed, State}
 use Rattle.iox_model.specs.Steps.{next}
 use Rattle.iox_model.specs.Weaves.{World}
-use Rattle.iox_model.proofs.MapLemmas.{same_way-true}
+use Rattle.iox_weaves.proofs.MapLemmas.{same_way-true}
 use Rattle.iox_ledger.specs.QueueLaws.{evicts_next, has_evicted}
 use Rattle.iox_ledger.proofs.Counts.{count, one_if}
 use Rattle.iox_ledger.proofs.Lists.{no-length}
@@ -105,7 +105,7 @@ hand-few s y o holding = at_most_one (of_call has_evicted y o) holding.hand
 
 -- ---- what the sender puts there
 
-else-put : (s : State) (node n : ℕ) (d : Doing) (m : Moment) (y : Way) → FitsDoing (view s.fixed node) node d → (next s node d m).condition
+pub else-put : (s : State) (node n : ℕ) (d : Doing) (m : Moment) (y : Way) → FitsDoing (view s.fixed node) node d → (next s node d m).condition
     → IsAt s.fixed.ports y.sender n → (n ≡ node → ⊥) → put_on y m ≡ []
 else-put s node n d (Deliver x m) y p c at apart = by_case (same_way y x) (same_way-true y x)
   where
@@ -132,7 +132,7 @@ put-few s n d m y c = at_least (one_if (is_emptied_by s.fixed y d))
 -- ---- the size
 
 -- where nothing was given back, nothing is in hand, and the last delivery leaves no more than the buffer
-saw-within : (w : World) (n r : ℕ) (d : Doing) (m : Moment) (y : Way) → Fits w → w.doing n ≡ Some d → Holds w.state m → SawNone y d m
+pub saw-within : (w : World) (n r : ℕ) (d : Doing) (m : Moment) (y : Way) → Fits w → w.doing n ≡ Some d → Holds w.state m → SawNone y d m
     → IsAt w.state.fixed.ports y.receiver r → Holding w.state y (w.doing n) → BorrowFits (view w.state.fixed r) r
     → out any w.state y (had_of w.state.fixed w.doing y r) ≤ buffer_on w.state.fixed y + borrow_limit_on w.state.fixed y
 saw-within w n r d m y fits at_work holds saw at holding borrows =
@@ -254,6 +254,19 @@ moved-counted s m y before after holds follows counts new k =
     same : (a b c d e f : ℕ) → a + b ≡ c + d → c ≡ e → f + b ≡ e + d → a ≡ f
     same a b c d e f p q r = omega arith
 
+-- what is out from one moment to the next: what is put there is more, and what is got back is less
+pub moved-out : (w : World) (node n r : ℕ) (d : Doing) (m : Moment) (y : Way) (value : ℕ → Bool) → Fits w → w.doing node ≡ Some d → Holds w.state m
+    → (next w.state node d m).condition → IsAt w.state.fixed.ports y.sender n → IsAt w.state.fixed.ports y.receiver r → IsLive w.state.fixed y
+    → CallRelease (w.doing r) → Holding w.state y (w.doing n)
+    → out value (moved w.state m) y (had_of w.state.fixed (put_at w.doing node (Some (next w.state node d m).after)) y r) + count value (got_on y m)
+    ≡ out value w.state y (had_of w.state.fixed w.doing y r) + count value (put_on y m)
+moved-out w node n r d m y value fits at_work holds c at there live release holding =
+    out-follows value w.state (moved w.state m) y m (had_of w.state.fixed w.doing y r)
+    (had_of w.state.fixed (put_at w.doing node (Some (next w.state node d m).after)) y r)
+    (moved-shifts value w.state m y holds (live-counted w.state.fixed y live) (hand-few w.state y (w.doing n) holding)
+    (hand-fits w node n d m y fits at_work c at holding))
+    (had-follows w node r d m y value fits at_work c there live release)
+
 pub moved-balanced : (w : World) (node n r : ℕ) (d : Doing) (m : Moment) (y : Way) → Fits w → w.doing node ≡ Some d → Holds w.state m
     → (next w.state node d m).condition → IsAt w.state.fixed.ports y.sender n → IsAt w.state.fixed.ports y.receiver r → IsLive w.state.fixed y
     → CallRelease (w.doing r) → Holding w.state y (w.doing n) → BorrowFits (view w.state.fixed r) r
@@ -271,8 +284,4 @@ moved-balanced w node n r d m y fits at_work holds c at there live release holdi
     after = had_of w.state.fixed (put_at w.doing node (Some (next w.state node d m).after)) y r
 
     follows : (value : ℕ → Bool) → out value (moved w.state m) y after + count value (got_on y m) ≡ out value w.state y before + count value (put_on y m)
-    follows value =
-        out-follows value w.state (moved w.state m) y m before after
-        (moved-shifts value w.state m y holds (live-counted w.state.fixed y live) (hand-few w.state y (w.doing n) holding)
-        (hand-fits w node n d m y fits at_work c at holding))
-        (had-follows w node r d m y value fits at_work c there live release)
+    follows value = moved-out w node n r d m y value fits at_work holds c at there live release holding

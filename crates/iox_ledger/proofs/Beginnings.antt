@@ -14,7 +14,7 @@ use Rattle.iox_model.specs.Begins.{written, writes, reads, begins_at, start}
 use Rattle.iox_model.specs.Commands.{Refusal, Call, WireCall, number_of}
 use Rattle.iox_model.specs.Doings.{refused, Tells, Fills, Drops, Doing, Ended, Returning}
 use Rattle.iox_model.specs.Handles.{is_received, same_kind, way_of, subject, handle_at, Subject, ThePort, TheHandle}
-use Rattle.iox_model.specs.Ledgers.{has_received, held_on}
+use Rattle.iox_weaves.specs.Ledgers.{has_received, held_on}
 use Rattle.iox_model.specs.Loans.{loan_of, next_request, request_loan_refusal, response_loan_refusal, memory_refusal, lending_ways, unless_refused, Choice, Order}
 use Rattle.iox_model.specs.Maps.{same_way, has_way}
 use Rattle.iox_model.specs.Names.{misnamed}
@@ -25,7 +25,7 @@ use Rattle.iox_model.specs.Responses.{lends_response, lends_by, lends, copies, s
 use Rattle.iox_model.specs.Settings.{is_count}
 use Rattle.iox_model.specs.States.{Port, Handle, Fixed, State}
 use Rattle.iox_model.specs.Weaves.{wire_start, miscalled}
-use Rattle.iox_model.proofs.MapLemmas.{either, same_way-true}
+use Rattle.iox_weaves.proofs.MapLemmas.{either, same_way-true}
 use Rattle.iox_ledger.proofs.ReceivedHandles.{no_received, received-on}
 use Rattle.iox_ledger.proofs.Truths.{false_if}
 use Rattle.iox_ledger.proofs.Lists.{IsAmong}

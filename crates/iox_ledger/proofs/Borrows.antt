@@ -10,14 +10,14 @@ use Rattle.iox_model.specs.Doings.{Receiver, Outcome, Tells, Loans, Fills, Sends
 use Rattle.iox_model.specs.States.{Handle, Fixed, State}
 use Rattle.iox_model.specs.WireCalls.{opened}
 use Rattle.iox_model.specs.Handles.{is_request_loan, is_received, way_of}
-use Rattle.iox_model.specs.Ledgers.{has_received, is_given_up, taken_by, held_on}
+use Rattle.iox_weaves.specs.Ledgers.{has_received, is_given_up, taken_by, held_on}
 use Rattle.iox_model.specs.Maps.{has_number, put, same_way}
 use Rattle.iox_model.specs.Messages.{Message}
 use Rattle.iox_model.specs.Counts.{without_handle, with_handle, sent_handle, holding}
 use Rattle.iox_model.specs.Ends.{settled}
-use Rattle.iox_model.proofs.PlayedRuns.{split}
-use Rattle.iox_model.proofs.MapLemmas.{either, same_way-true}
-use Rattle.iox_model.proofs.WholeLemmas.{moved-fixed}
+use Rattle.iox_weaves.proofs.WholeLemmas.{split}
+use Rattle.iox_weaves.proofs.MapLemmas.{either, same_way-true}
+use Rattle.iox_weaves.proofs.WholeLemmas.{moved-fixed}
 use Rattle.iox_ledger.specs.BorrowLaws.{BorrowLimitHolds}
 use Rattle.iox_ledger.proofs.ReceivedHandles.{no_received, received-itself, received-elsewhere, receipt-way}
 use Rattle.iox_ledger.proofs.Orders.{at-most, least}

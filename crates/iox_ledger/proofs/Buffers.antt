@@ -15,10 +15,10 @@ use Rattle.iox_model.specs.Moments.{is_overfull, room_on, Holds, moved, Moment, 
 use Rattle.iox_model.specs.Messages.{serials_of, Message}
 use Rattle.iox_model.specs.Steps.{next, ends}
 use Rattle.iox_model.specs.Peers.{role_at, buffer_on, overflows_on}
-use Rattle.iox_model.proofs.CallLaws.{not-true}
-use Rattle.iox_model.proofs.MapLemmas.{same_way-refl, same_way-true}
-use Rattle.iox_model.proofs.WholeLemmas.{moved-fixed}
-use Rattle.iox_model.proofs.WireLemmas.{settled_same}
+use Rattle.iox_weaves.proofs.CallLaws.{not-true}
+use Rattle.iox_weaves.proofs.MapLemmas.{same_way-refl, same_way-true}
+use Rattle.iox_weaves.proofs.WholeLemmas.{moved-fixed}
+use Rattle.iox_weaves.proofs.WireLemmas.{settled_same}
 use Rattle.iox_ledger.specs.OnceLaws.{IsOnWire}
 use Rattle.iox_ledger.specs.QueueLaws.{evicts_next, has_evicted, BufferHolds, OneInHand}
 use Rattle.iox_ledger.proofs.Orders.{at-most, same}

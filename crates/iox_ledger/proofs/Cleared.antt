@@ -15,9 +15,9 @@ use Rattle.iox_model.specs.Moments.{moved, Moment, Deliver, GetBack}
 use Rattle.iox_model.specs.Messages.{Message}
 use Rattle.iox_model.specs.Steps.{next}
 use Rattle.iox_model.specs.Peers.{ports_of_node}
-use Rattle.iox_model.proofs.PlayedRuns.{split}
-use Rattle.iox_model.proofs.MapLemmas.{same_way-true}
-use Rattle.iox_model.proofs.WholeLemmas.{moved-fixed}
+use Rattle.iox_weaves.proofs.WholeLemmas.{split}
+use Rattle.iox_weaves.proofs.MapLemmas.{same_way-true}
+use Rattle.iox_weaves.proofs.WholeLemmas.{moved-fixed}
 use Rattle.iox_ledger.specs.ForgetLaws.{NothingToTheDead}
 use Rattle.iox_ledger.proofs.Truths.{never}
 use Rattle.iox_ledger.proofs.Lists.{IsAmong, NoRepeats, among-append, filter-among, map-among, among-any, number-among, among-number, way-among, find-own, filter-none}

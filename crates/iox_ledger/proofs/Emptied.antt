@@ -10,7 +10,7 @@ use Rattle.iox_model.specs.declared.reply.Refusal.TheVariants.{OutOfMemory, Exce
 use Rattle.iox_model.specs.declared.reply.Reply.TheVariants.{Answer}
 use Rattle.iox_model.specs.Doings.{refused, Receiver, Sending, Tells, Loans, Sends, FailsToSend, Receives, Drops, Doing, Ended, Loaning, Asking, Emptying, Looking, Opening, Delivering, Evicted, Visiting, Again, Judging, Stale, Closing, Returning, Leaving, Checking, Hinting, Seeking}
 use Rattle.iox_model.specs.States.{Handle, Fixed, State}
-use Rattle.iox_model.specs.Ledgers.{is_emptied_by}
+use Rattle.iox_weaves.specs.Ledgers.{is_emptied_by}
 use Rattle.iox_model.specs.Handles.{is_request_loan, same_kind}
 use Rattle.iox_model.specs.Loans.{lending_ways}
 use Rattle.iox_model.specs.Looks.{checking, checked, is_shown, hinting}
@@ -25,9 +25,9 @@ use Rattle.iox_model.specs.Requests.{targets, to_open, sending_of, opening, look
 use Rattle.iox_model.specs.Responses.{sends_response, asked, sends, loaning}
 use Rattle.iox_model.specs.Settings.{is_client}
 use Rattle.iox_model.specs.Steps.{next}
-use Rattle.iox_model.proofs.CallLaws.{not-true}
-use Rattle.iox_model.proofs.PlayedRuns.{split}
-use Rattle.iox_model.proofs.MapLemmas.{either, same_way-true}
+use Rattle.iox_weaves.proofs.CallLaws.{not-true}
+use Rattle.iox_weaves.proofs.WholeLemmas.{split}
+use Rattle.iox_weaves.proofs.MapLemmas.{either, same_way-true}
 use Rattle.iox_ledger.specs.QueueLaws.{evicts_next, has_evicted}
 use Rattle.iox_ledger.proofs.Truths.{never}
 use Rattle.iox_ledger.proofs.Lists.{IsAmong, NoRepeats, filter-among, way-among, among-way, without-among, without-itself}

@@ -7,7 +7,7 @@ use Rattle.iox_model.specs.declared.kind.Kind.TheVariants.{ActiveRequest, Respon
 use Rattle.iox_model.specs.declared.way.Way.{Way}
 use Rattle.iox_model.specs.Doings.{Receiver, Outcome, Tells, Loans, Fills, Sends, FailsToSend, Receives, Drops, DropsPort, Forgets, Doing, Ended, Delivering}
 use Rattle.iox_model.specs.States.{Handle, State}
-use Rattle.iox_model.specs.Ledgers.{if_on, has_received, held_on}
+use Rattle.iox_weaves.specs.Ledgers.{if_on, has_received, held_on}
 use Rattle.iox_model.specs.Counts.{without_handle, with_handle, sent_handle, holding}
 use Rattle.iox_model.specs.Handles.{is_request_loan, is_received, way_of}
 use Rattle.iox_model.specs.Maps.{has_number, put, same_way}
@@ -15,8 +15,8 @@ use Rattle.iox_model.specs.Messages.{Message}
 use Rattle.iox_model.specs.Requests.{is_over}
 use Rattle.iox_model.specs.Settings.{is_client}
 use Rattle.iox_model.specs.Steps.{ends}
-use Rattle.iox_model.proofs.MapLemmas.{either}
-use Rattle.iox_model.proofs.WholeLemmas.{some-is}
+use Rattle.iox_weaves.proofs.MapLemmas.{either}
+use Rattle.iox_weaves.proofs.WholeLemmas.{some-is}
 use Rattle.iox_ledger.proofs.ReceivedHandles.{no_received, received-on}
 use Rattle.iox_ledger.proofs.Truths.{none-some}
 use Rattle.iox_ledger.proofs.Lists.{IsAmong, only-one}

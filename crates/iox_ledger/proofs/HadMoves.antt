@@ -6,7 +6,7 @@ use Rattle.iox_model.specs.declared.kind.Kind.TheVariants.{ActiveRequest}
 use Rattle.iox_model.specs.declared.way.Way.{Way}
 use Rattle.iox_model.specs.Doings.{Receiver, Receives, Drops, Doing, Ended, Loaning, Asking, Emptying, Looking, Opening, Delivering, Evicted, Visiting, Again, Judging, Stale, Closing, Returning, Leaving, Checking, Hinting, Seeking}
 use Rattle.iox_model.specs.States.{Handle, Fixed, State}
-use Rattle.iox_model.specs.Ledgers.{if_on, has_received, held_on}
+use Rattle.iox_weaves.specs.Ledgers.{if_on, has_received, held_on}
 use Rattle.iox_model.specs.Handles.{is_received, same_kind, way_of}
 use Rattle.iox_model.specs.Maps.{same_way, without_way}
 use Rattle.iox_model.specs.Messages.{names, Message}
@@ -16,8 +16,8 @@ use Rattle.iox_model.specs.Receives.{stale, took_response, took_request, took}
 use Rattle.iox_model.specs.Releases.{closing}
 use Rattle.iox_model.specs.Settings.{is_client}
 use Rattle.iox_model.specs.Steps.{next}
-use Rattle.iox_model.proofs.PlayedRuns.{split}
-use Rattle.iox_model.proofs.MapLemmas.{either, same_way-true}
+use Rattle.iox_weaves.proofs.WholeLemmas.{split}
+use Rattle.iox_weaves.proofs.MapLemmas.{either, same_way-true}
 use Rattle.iox_ledger.proofs.ReceivedHandles.{received-on, no_received}
 use Rattle.iox_ledger.proofs.Counts.{count, one_if}
 use Rattle.iox_ledger.proofs.Truths.{never}

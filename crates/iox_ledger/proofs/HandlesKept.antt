@@ -9,7 +9,7 @@ use Rattle.iox_ledger.proofs.Truths.{never}
 use Rattle.iox_ledger.proofs.Lists.{IsAmong, NoRepeats, among-last, filter-among, map-among, among-map, no_repeats-last, no_repeats-map_filter}
 use Rattle.iox_ledger.proofs.Views.{View, IsAt, plus, counted, lends_one, swapped, less}
 use Rattle.iox_ledger.proofs.Senders.{is_loan, IsMade, FitsHandles}
-use Rattle.iox_model.proofs.CallLaws.{not-true}
+use Rattle.iox_weaves.proofs.CallLaws.{not-true}
 
 -- ---- lists of handles
 

@@ -3,13 +3,13 @@ use Rattle.std.specs.Prelude.{◌≡◌, ℕ, ◌+◌, ◌≤◌, Bool, true, fa
 use Rattle.std.proofs.Common.{sym, subst, ◌∙◌, arith, eqb-true, inl, inr}
 use Rattle.std.proofs.lemmas.List.{length-map}
 use Rattle.iox_model.specs.declared.way.Way.{Way}
-use Rattle.iox_model.specs.Ledgers.{had_on, is_emptied, size_of, room_of}
+use Rattle.iox_weaves.specs.Ledgers.{had_on, is_emptied, size_of, room_of}
 use Rattle.iox_model.specs.Maps.{has_number, AreDistinct}
 use Rattle.iox_model.specs.Messages.{serials_of, Message}
 use Rattle.iox_model.specs.Peers.{buffer_on, borrow_limit_on}
 use Rattle.iox_model.specs.States.{Port, State}
 use Rattle.iox_model.specs.WireCalls.{opened}
-use Rattle.iox_model.specs.Weaves.{at_work, IsWeave, World, Beat}
+use Rattle.iox_model.specs.Weaves.{at_work, IsBeat, IsWeave, World, Beat}
 use Rattle.iox_ledger.specs.LedgerLaws.{ReturnsFit, out_on, OutOnce, RecordIsWhatIsOut, LedgerStaysWithin}
 use Rattle.iox_ledger.specs.OnceLaws.{IsOnWire}
 use Rattle.iox_ledger.proofs.Orders.{least}
@@ -34,18 +34,21 @@ pub record Holds (v : World) (y : Way) (n r : ℕ) : Type 0 where
   pub receiver : IsAt v.state.fixed.ports y.receiver r
   pub ledger : Ledger v y n r
 
-weave-holds : (w v : World) (bs : List Beat) (n r : ℕ) (y : Way) → IsWeave w bs v → Holds w y n r → Holds v y n r
-weave-holds w v [] n r y weave p = subst (λ u. Holds u y n r) (sym weave) p
-weave-holds w v (b ∷ bs) n r y weave p =
-    let ports : weave.0.state.fixed.ports ≡ w.state.fixed.ports = beat-ports w weave.0 b weave.1 p.fits in
-    weave-holds weave.0 v bs n r y weave.2 (record {
-      fits = beat-fits w weave.0 b weave.1 p.fits;
+pub beat-holds : (w u : World) (b : Beat) (n r : ℕ) (y : Way) → IsBeat w b u → Holds w y n r → Holds u y n r
+beat-holds w u b n r y beat p =
+    let ports : u.state.fixed.ports ≡ w.state.fixed.ports = beat-ports w u b beat p.fits in
+    record {
+      fits = beat-fits w u b beat p.fits;
       sender = subst (λ (ps : List Port). IsAt ps y.sender n) (sym ports) p.sender;
       receiver = subst (λ (ps : List Port). IsAt ps y.receiver r) (sym ports) p.receiver;
-      ledger = beat-ledger w weave.0 b n r y weave.1 p.fits p.sender p.receiver p.ledger;
-    })
+      ledger = beat-ledger w u b n r y beat p.fits p.sender p.receiver p.ledger;
+    }
 
-opened-holds : (s : State) (y : Way) → Fits (at_work (opened s))
+pub weave-holds : (w v : World) (bs : List Beat) (n r : ℕ) (y : Way) → IsWeave w bs v → Holds w y n r → Holds v y n r
+weave-holds w v [] n r y weave p = subst (λ u. Holds u y n r) (sym weave) p
+weave-holds w v (b ∷ bs) n r y weave p = weave-holds weave.0 v bs n r y weave.2 (beat-holds w weave.0 b n r y weave.1 p)
+
+pub opened-holds : (s : State) (y : Way) → Fits (at_work (opened s))
     → Holds (at_work (opened s)) y (node_in s.fixed.ports y.sender) (node_in s.fixed.ports y.receiver)
 opened-holds s y fits = record {
   fits = fits;

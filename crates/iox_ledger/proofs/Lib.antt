@@ -30,4 +30,7 @@ pub mod Outs
 pub mod Balance
 pub mod LedgerKept
 pub mod LedgerHolds
+pub mod CallsEmptied
+pub mod Emptiers
+pub mod Stays
 pub mod Outstanding

@@ -1,11 +1,11 @@
 -- What is among a list, and lists without repeats.
-use Rattle.std.specs.Prelude.{◌≡◌, ℕ, suc, ◌+◌, ◌≤◌, Bool, true, false, ◌||◌, if◌then◌else◌, ◌==◌, nat_le, List, [], ◌∷◌, ◌++◌, length, map, filter, Some, find, ⊤, ◌⊎◌, refl}
+use Rattle.std.specs.Prelude.{◌≡◌, ℕ, suc, ◌+◌, ◌≤◌, Bool, true, false, ◌||◌, if◌then◌else◌, ◌==◌, nat_le, List, [], ◌∷◌, ◌++◌, length, map, filter, flat_map, Some, find, ⊤, ◌⊎◌, refl}
 use Rattle.std.specs.List.{list_any}
 use Rattle.std.proofs.Common.{sym, subst, ap, ◌∙◌, arith, true≢false, eqb-true, inl, inr}
 use Rattle.iox_model.specs.declared.way.Way.{Way}
 use Rattle.iox_model.specs.Maps.{first_of, rest_of, has_number, same_way, has_way, without_way, AreDistinct}
-use Rattle.iox_model.proofs.MapLemmas.{eqb-refl, same_way-refl, same_way-true}
-use Rattle.iox_model.proofs.WholeLemmas.{some-is}
+use Rattle.iox_weaves.proofs.MapLemmas.{eqb-refl, same_way-refl, same_way-true}
+use Rattle.iox_weaves.proofs.WholeLemmas.{some-is}
 use Rattle.iox_ledger.proofs.Orders.{le-zero}
 use Rattle.iox_ledger.proofs.Truths.{false_if, never, one_of, none-some}
 
@@ -80,6 +80,13 @@ pub map-among : {A B : Type 0} (f : A → B) (b : B) (xs : List A) → IsAmong b
 map-among f b [] p = absurd p
 map-among f b (x ∷ xs) (inl e) = (x, inl refl, e)
 map-among f b (x ∷ xs) (inr p) = let r : (a : _) × IsAmong a xs × (b ≡ f a) = map-among f b xs p in (r.0, inr r.1, r.2)
+
+pub flat-among : {A B : Type 0} (f : A → List B) (b : B) (xs : List A) → IsAmong b (flat_map f xs) → (a : A) × IsAmong a xs × IsAmong b (f a)
+flat-among f b [] p = absurd p
+flat-among f b (x ∷ xs) p = elim (among-append b (f x) (flat_map f xs) p) as (λ u. (a : _) × IsAmong a (x ∷ xs) × IsAmong b (f a)) [
+  | inl q ↦ (x, inl refl, q)
+  | inr q ↦ let r : (a : _) × IsAmong a xs × IsAmong b (f a) = flat-among f b xs q in (r.0, inr r.1, r.2)
+]
 
 pub among-map : {A B : Type 0} (f : A → B) (a : A) (xs : List A) → IsAmong a xs → IsAmong (f a) (map f xs)
 among-map f a [] p = absurd p

@@ -10,15 +10,15 @@ use Rattle.iox_model.specs.Doings.{Outcome, Doing, Loaning}
 use Rattle.iox_model.specs.Ends.{settled}
 use Rattle.iox_model.specs.Forgetting.{goes_to_dead, forgets}
 use Rattle.iox_model.specs.Handles.{is_request_loan}
-use Rattle.iox_model.specs.Ledgers.{is_live, is_emptied_by}
+use Rattle.iox_weaves.specs.Ledgers.{is_live, is_emptied_by}
 use Rattle.iox_model.specs.Maps.{has_number, has_way}
 use Rattle.iox_model.specs.Messages.{request_way, response_way}
 use Rattle.iox_model.specs.Peers.{is_counted_on, is_connected_port, forgot_port, node_of_port}
 use Rattle.iox_model.specs.Settings.{same_role}
 use Rattle.iox_model.specs.States.{Port, Handle, Fixed, State}
-use Rattle.iox_model.proofs.CallLaws.{not-true}
-use Rattle.iox_model.proofs.PlayedRuns.{split}
-use Rattle.iox_model.proofs.WholeLemmas.{put_at-here}
+use Rattle.iox_weaves.proofs.CallLaws.{not-true}
+use Rattle.iox_weaves.proofs.WholeLemmas.{split}
+use Rattle.iox_weaves.proofs.WholeLemmas.{put_at-here}
 use Rattle.iox_ledger.proofs.Truths.{never, both_true}
 use Rattle.iox_ledger.proofs.Lists.{IsAmong, any-among, among-any, among-number, number-among, among-front}
 use Rattle.iox_ledger.proofs.Views.{View, view, IsAt}

@@ -12,9 +12,9 @@ use Rattle.iox_model.specs.Settings.{is_client}
 use Rattle.iox_model.specs.Peers.{borrow_limit_on}
 use Rattle.iox_model.specs.Moments.{Holds, moved, Moment, Deliver, Evict, Take, GiveBack, GetBack, SeesEmpty, SeesWaiting, SeesFull, SeesRoom, SeesNoneBack, Open, Close, Hint, Look}
 use Rattle.iox_model.specs.Steps.{next, ends}
-use Rattle.iox_model.proofs.CallLaws.{not-true}
-use Rattle.iox_model.proofs.MapLemmas.{either, same_way-true}
-use Rattle.iox_model.proofs.WholeLemmas.{some-is}
+use Rattle.iox_weaves.proofs.CallLaws.{not-true}
+use Rattle.iox_weaves.proofs.MapLemmas.{either, same_way-true}
+use Rattle.iox_weaves.proofs.WholeLemmas.{some-is}
 use Rattle.iox_ledger.proofs.Orders.{less}
 use Rattle.iox_ledger.proofs.Truths.{never, none-some}
 use Rattle.iox_ledger.proofs.Lists.{IsAmong, among-last, map-among, way-among, without-among, no_repeats-without, first-among, rest-among}

@@ -6,17 +6,17 @@ use Rattle.iox_model.specs.Weaves.{wire_start, made, over, at_work, IsBeat, IsWe
 use Rattle.iox_model.specs.Doings.{Sending, Outcome, Sends, Doing, Delivering, Evicted}
 use Rattle.iox_model.specs.States.{Port, Fixed, State}
 use Rattle.iox_model.specs.WireCalls.{opened}
-use Rattle.iox_model.specs.OrderLaws.{put_on, all_put_on, all_taken_from, Gives}
+use Rattle.iox_weaves.specs.OrderLaws.{put_on, all_put_on, all_taken_from, Gives}
 use Rattle.iox_model.specs.Requests.{is_over}
 use Rattle.iox_model.specs.Maps.{put_at, same_way, without_way}
 use Rattle.iox_model.specs.Ends.{settled}
 use Rattle.iox_model.specs.Moments.{moved, Moment, Deliver, Evict, GetBack}
 use Rattle.iox_model.specs.Messages.{serials_of, Message}
 use Rattle.iox_model.specs.Steps.{next, ends}
-use Rattle.iox_model.proofs.CallLaws.{put_at-else}
-use Rattle.iox_model.proofs.InOrder.{in_order}
-use Rattle.iox_model.proofs.MapLemmas.{same_way-true}
-use Rattle.iox_model.proofs.WholeLemmas.{put_at-here, moved-fixed, some-is}
+use Rattle.iox_weaves.proofs.CallLaws.{put_at-else}
+use Rattle.iox_weaves.proofs.InOrder.{in_order}
+use Rattle.iox_weaves.proofs.MapLemmas.{same_way-true}
+use Rattle.iox_weaves.proofs.WholeLemmas.{put_at-here, moved-fixed, some-is}
 use Rattle.iox_ledger.specs.OnceLaws.{DeliveredOnce, ReceivedOnce}
 use Rattle.iox_ledger.proofs.Truths.{none-some}
 use Rattle.iox_ledger.proofs.Lists.{IsAmong, NoRepeats, way-among, without-among, without-itself, no_repeats-distinct, among-front}

@@ -7,8 +7,8 @@ use Rattle.iox_model.specs.Messages.{serials_of, Message}
 use Rattle.iox_model.specs.Moments.{Holds, moved, Moment, Deliver, Evict, Take, GiveBack, GetBack}
 use Rattle.iox_model.specs.Peers.{is_counted_on}
 use Rattle.iox_model.specs.States.{State}
-use Rattle.iox_model.proofs.MapLemmas.{same_way-true}
-use Rattle.iox_model.proofs.WholeLemmas.{some-is}
+use Rattle.iox_weaves.proofs.MapLemmas.{same_way-true}
+use Rattle.iox_weaves.proofs.WholeLemmas.{some-is}
 use Rattle.iox_ledger.proofs.Counts.{count, one_if, count-cons}
 use Rattle.iox_ledger.proofs.Truths.{never, none-some}
 use Rattle.iox_ledger.proofs.Tallies.{count-append}

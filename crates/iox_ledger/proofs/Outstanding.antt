@@ -4,7 +4,7 @@ use Rattle.std.specs.List.{range_with_len}
 use Rattle.std.proofs.Common.{sym, subst, ap, ◌∙◌, arith, inl}
 use Rattle.iox_model.specs.declared.way.Way.{Way}
 use Rattle.iox_model.specs.Doings.{Sending, Doing, Delivering, Evicted}
-use Rattle.iox_model.specs.Ledgers.{size_of}
+use Rattle.iox_weaves.specs.Ledgers.{size_of}
 use Rattle.iox_model.specs.Outstandings.{outstanding_on}
 use Rattle.iox_model.specs.States.{State}
 use Rattle.iox_model.specs.Weaves.{World}

@@ -23,10 +23,10 @@ use Rattle.iox_model.specs.Handles.{is_request_loan, same_kind}
 use Rattle.iox_model.specs.Maps.{has_number, has_way, without_way}
 use Rattle.iox_model.specs.Messages.{request_way, response_way, names, Message}
 use Rattle.iox_model.specs.Outstandings.{kept, is_dry}
-use Rattle.iox_model.specs.Peers.{others, forgot_port}
-use Rattle.iox_model.proofs.CallLaws.{not-true}
-use Rattle.iox_model.proofs.PlayedRuns.{split}
-use Rattle.iox_model.proofs.MapLemmas.{either}
+use Rattle.iox_model.specs.Peers.{others, forgot_port, ports_of_role}
+use Rattle.iox_weaves.proofs.CallLaws.{not-true}
+use Rattle.iox_weaves.proofs.WholeLemmas.{split}
+use Rattle.iox_weaves.proofs.MapLemmas.{either}
 use Rattle.iox_ledger.proofs.Truths.{never, false_if}
 use Rattle.iox_ledger.proofs.Lists.{IsAmong, NoRepeats, filter-among, map-among, any-among, number-among, no_repeats-filter, no_repeats-map_filter, no_repeats-map, only-one, without-among, find-own}
 use Rattle.iox_ledger.proofs.Views.{View, view, role_in, forgot_in}
@@ -60,22 +60,29 @@ others-apart f n role d = no_repeats-map_filter (λ p. p.number) (λ p. same_rol
 
 -- ---- ports
 
--- those of a role have it
-pub role-of : (f : Fixed) (q : ℕ) (role : Role) (test : Port → Bool) → HasOwnPorts f
-    → IsAmong q (map (λ p. p.number) (filter (λ p. same_role p.role role && test p) f.ports)) → is_client (role_in f.ports q) ≡ is_client role
-role-of f q role test d a =
-    let r : (p : Port) × IsAmong p (filter (λ p. same_role p.role role && test p) f.ports) × (q ≡ p.number)
-    = map-among (λ p. p.number) q (filter (λ p. same_role p.role role && test p) f.ports) a in
-    let t : IsAmong r.0 f.ports × ((same_role (r.0).role role && test r.0) ≡ true) = filter-among (λ p. same_role p.role role && test p) r.0 f.ports r.1 in
+-- those that are chosen by their role have it
+role-by : (f : Fixed) (q : ℕ) (role : Role) (test : Port → Bool) → ((p : Port) → test p ≡ true → same_role p.role role ≡ true) → HasOwnPorts f
+    → IsAmong q (map (λ p. p.number) (filter test f.ports)) → is_client (role_in f.ports q) ≡ is_client role
+role-by f q role test by_role d a =
+    let r : (p : Port) × IsAmong p (filter test f.ports) × (q ≡ p.number) = map-among (λ p. p.number) q (filter test f.ports) a in
+    let t : IsAmong r.0 f.ports × (test r.0 ≡ true) = filter-among test r.0 f.ports r.1 in
     ap (λ k. is_client (role_in f.ports k)) r.2
     ∙ ap (λ (o : Option Port). is_client (option_map_or (λ p. p.role) o Client)) (find-own (λ (p : Port). p.number) f.ports r.0 d t.0)
-    ∙ same (is_client (r.0).role) (is_client role) (split _ _ t.1).0
+    ∙ same (is_client (r.0).role) (is_client role) (by_role r.0 t.1)
   where
     same : (a b : Bool) → beq a b ≡ true → a ≡ b
     same true true e = refl
     same false false e = refl
     same true false e = absurd (never (beq true false) e refl)
     same false true e = absurd (never (beq false true) e refl)
+
+-- all of a role, and those of a role that pass a test
+pub role-of-all : (f : Fixed) (q : ℕ) (role : Role) → HasOwnPorts f → IsAmong q (ports_of_role f role) → is_client (role_in f.ports q) ≡ is_client role
+role-of-all f q role d a = role-by f q role (λ p. same_role p.role role) (λ p e. e) d a
+
+pub role-of : (f : Fixed) (q : ℕ) (role : Role) (test : Port → Bool) → HasOwnPorts f
+    → IsAmong q (map (λ p. p.number) (filter (λ p. same_role p.role role && test p) f.ports)) → is_client (role_in f.ports q) ≡ is_client role
+role-of f q role test d a = role-by f q role (λ p. same_role p.role role && test p) (λ p e. (split _ _ e).0) d a
 
 -- ---- sends
 

@@ -10,7 +10,7 @@ use Rattle.iox_model.specs.declared.reply.Refusal.TheVariants.{OutOfMemory, Exce
 use Rattle.iox_model.specs.declared.reply.Reply.TheVariants.{Answer}
 use Rattle.iox_model.specs.Doings.{refused, Receiver, Sending, Outcome, Tells, Loans, Sends, FailsToSend, Receives, Drops, Doing, Ended, Asking, Judging, Stale, Closing, Returning, Leaving}
 use Rattle.iox_model.specs.States.{Handle, Fixed, State}
-use Rattle.iox_model.specs.Ledgers.{has_received, held_on}
+use Rattle.iox_weaves.specs.Ledgers.{has_received, held_on}
 use Rattle.iox_model.specs.Requests.{targets, to_open, sending_of, opening, looking, emptying, is_active_spent, sends_request}
 use Rattle.iox_model.specs.Responses.{sends_response, asked, sends, loaning}
 use Rattle.iox_model.specs.Receives.{visiting, seeking}
@@ -20,7 +20,7 @@ use Rattle.iox_model.specs.Maps.{has_number, without_way}
 use Rattle.iox_model.specs.Messages.{request_way, names}
 use Rattle.iox_model.specs.Outstandings.{kept, is_dry}
 use Rattle.iox_model.specs.Peers.{others}
-use Rattle.iox_model.proofs.MapLemmas.{either}
+use Rattle.iox_weaves.proofs.MapLemmas.{either}
 use Rattle.iox_ledger.proofs.Truths.{and-first}
 use Rattle.iox_ledger.proofs.Tallies.{filter-same}
 

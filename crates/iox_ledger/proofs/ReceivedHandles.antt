@@ -5,12 +5,12 @@ use Rattle.iox_model.specs.declared.kind.Kind.TheVariants.{ActiveRequest, Respon
 use Rattle.iox_model.specs.declared.way.Way.{Way}
 use Rattle.iox_model.specs.Doings.{Receiver}
 use Rattle.iox_model.specs.Handles.{is_received, same_kind, way_of}
-use Rattle.iox_model.specs.Ledgers.{has_received}
+use Rattle.iox_weaves.specs.Ledgers.{has_received}
 use Rattle.iox_model.specs.Maps.{same_way}
 use Rattle.iox_model.specs.Messages.{request_way, response_way, Message}
 use Rattle.iox_model.specs.Settings.{is_client}
 use Rattle.iox_model.specs.States.{Handle}
-use Rattle.iox_model.proofs.MapLemmas.{same_way-refl, same_way-true, same_way-flip}
+use Rattle.iox_weaves.proofs.MapLemmas.{same_way-refl, same_way-true, same_way-flip}
 use Rattle.iox_ledger.proofs.Truths.{all_three, second-fails}
 use Rattle.iox_ledger.proofs.Views.{way_of-receiver}
 

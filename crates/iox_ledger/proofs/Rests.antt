@@ -9,8 +9,8 @@ use Rattle.iox_model.specs.Handles.{is_request_loan, is_received}
 use Rattle.iox_model.specs.Maps.{put_at}
 use Rattle.iox_model.specs.Counts.{added, changed, dropped, numbered, lent, called, borrows, gives_up, with_fixed, received_handle, sent_handle, holding}
 use Rattle.iox_model.specs.Ends.{sent_copy, is_nothing, settled}
-use Rattle.iox_model.proofs.MapLemmas.{either}
-use Rattle.iox_model.proofs.WireLemmas.{released-wire}
+use Rattle.iox_weaves.proofs.MapLemmas.{either}
+use Rattle.iox_weaves.proofs.WireLemmas.{released-wire}
 use Rattle.iox_ledger.proofs.Views.{view}
 use Rattle.iox_ledger.proofs.Senders.{FitsOutcome}
 

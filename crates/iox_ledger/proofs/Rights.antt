@@ -11,8 +11,8 @@ use Rattle.iox_model.specs.Handles.{is_request_loan, is_received, way_of}
 use Rattle.iox_model.specs.Maps.{has_number, put_at, put}
 use Rattle.iox_model.specs.Messages.{Message}
 use Rattle.iox_model.specs.Counts.{sent_handle, holding}
-use Rattle.iox_model.proofs.MapLemmas.{either}
-use Rattle.iox_model.proofs.WholeLemmas.{put_at-here}
+use Rattle.iox_weaves.proofs.MapLemmas.{either}
+use Rattle.iox_weaves.proofs.WholeLemmas.{put_at-here}
 use Rattle.iox_ledger.proofs.Orders.{at-most}
 use Rattle.iox_ledger.proofs.Lists.{IsAmong, among-last}
 use Rattle.iox_ledger.proofs.Views.{View, plus, counted, lends_one, swapped, less, taken_handle, after_call}

@@ -10,10 +10,10 @@ use Rattle.iox_model.specs.Counts.{added, changed, dropped, numbered, called, gi
 use Rattle.iox_model.specs.Ends.{sent_copy, is_nothing, settled}
 use Rattle.iox_model.specs.Expiries.{released}
 use Rattle.iox_model.specs.Forgetting.{has_forgotten, forgets}
-use Rattle.iox_model.proofs.CallLaws.{put_at-else}
-use Rattle.iox_model.proofs.MapLemmas.{either}
-use Rattle.iox_model.proofs.WholeLemmas.{put_at-here}
-use Rattle.iox_model.proofs.WireLemmas.{released-wire}
+use Rattle.iox_weaves.proofs.CallLaws.{put_at-else}
+use Rattle.iox_weaves.proofs.MapLemmas.{either}
+use Rattle.iox_weaves.proofs.WholeLemmas.{put_at-here}
+use Rattle.iox_weaves.proofs.WireLemmas.{released-wire}
 use Rattle.iox_ledger.proofs.Views.{View, view, IsAt, plus, counted, lends_one, swapped, less, takes_one, gives_one, taken_handle, after_call, here-added, else-added, here-changed, else-changed, here-dropped, else-dropped, here-lent, else-lent, here-borrows, else-borrows, here-gives_up, else-gives_up}
 use Rattle.iox_ledger.proofs.Senders.{FitsOutcome, FitsHandles}
 

@@ -19,24 +19,24 @@ use Rattle.iox_model.specs.Settings.{is_client}
 use Rattle.iox_model.specs.States.{Port, Handle, Fixed, State}
 use Rattle.iox_model.specs.Loans.{kind_of_loan, loan_of, next_request, request_loan_refusal, response_loan_refusal, memory_refusal, lending_ways, unless_refused, Choice, Order}
 use Rattle.iox_model.specs.Handles.{same_kind, is_request_loan, is_response_loan, is_received, way_of, handle_at, subject, port_or_handle, kind_of, node_of, Subject, ThePort, TheHandle}
-use Rattle.iox_model.specs.Maps.{has_number, refused_if}
+use Rattle.iox_model.specs.Maps.{refused_if}
 use Rattle.iox_model.specs.Names.{is_port, suits, misnamed_by, misnamed}
 use Rattle.iox_model.specs.Begins.{written, writes, reads, begins_at, start}
 use Rattle.iox_model.specs.Settings.{is_count}
 use Rattle.iox_model.specs.Responses.{lends_request, lends_response, lends_by, lends, copies, shape_for, lending, ordered}
-use Rattle.iox_model.specs.Receives.{server_ways, pending_ways, late_clients}
+use Rattle.iox_model.specs.Receives.{server_ways, pending_ways, clients_to_visit}
 use Rattle.iox_model.specs.Releases.{states_of, closing, returning, releases_handle}
 use Rattle.iox_model.specs.Commands.{Refusal, Call, WireCall, number_of}
 use Rattle.iox_model.specs.Messages.{request_way, response_way}
-use Rattle.iox_model.specs.Peers.{port_at, others, forgotten, forgot_port}
-use Rattle.iox_model.proofs.CallLaws.{not-true}
-use Rattle.iox_model.proofs.MapLemmas.{either}
-use Rattle.iox_model.proofs.WholeLemmas.{some-is, or_else-none}
+use Rattle.iox_model.specs.Peers.{port_at, ports_of_role, forgot_port}
+use Rattle.iox_weaves.proofs.CallLaws.{not-true}
+use Rattle.iox_weaves.proofs.MapLemmas.{either}
+use Rattle.iox_weaves.proofs.WholeLemmas.{some-is, or_else-none}
 use Rattle.iox_ledger.proofs.Truths.{never, none-some, passed, not-false, or-right}
 use Rattle.iox_ledger.proofs.Lists.{among-append, IsAmong, find-among, map-among}
 use Rattle.iox_ledger.proofs.Views.{role_in, View, view, IsAt, mine}
 use Rattle.iox_ledger.proofs.Senders.{is_loan, FitsHandles, FitsLoan, FitsDoing, TakesOn, IsFilled}
-use Rattle.iox_ledger.proofs.Phases.{role-of, HasOwnPorts, sends-fits, loaning-fits, visiting-fits, closing-fits, checking-fits, hinting-fits, seeking-fits}
+use Rattle.iox_ledger.proofs.Phases.{role-of-all, HasOwnPorts, sends-fits, loaning-fits, visiting-fits, closing-fits, checking-fits, hinting-fits, seeking-fits}
 
 -- ---- what a call names
 
@@ -239,30 +239,24 @@ begins-fits s n c (SendCopy k p) x own expired wire fits is node e = copies-fits
 begins-fits s n c (Receive k) (ThePort p) own expired wire fits is node e =
     visiting-fits (view s.fixed n) n (record { port = p.number; role = Server; lane = 0; request = 0 }) (server_ways s.fixed p) false (
       ap (λ (q : Option Port). option_map_or (λ x. x.node) q 0) is ∙ node,
-      λ w a. on w (map-among (λ client. request_way client p.number) w (others s.fixed p.node Client ++ late_clients s.fixed p) a),
+      λ w a. on w (map-among (λ client. request_way client p.number) w (clients_to_visit s.fixed p) a),
     )
   where
-    on : (w : Way) → (q : ℕ) × IsAmong q (others s.fixed p.node Client ++ late_clients s.fixed p) × (w ≡ request_way q p.number)
+    on : (w : Way) → (q : ℕ) × IsAmong q (clients_to_visit s.fixed p) × (w ≡ request_way q p.number)
         → TakesOn (view s.fixed n) (record { port = p.number; role = Server; lane = 0; request = 0 }) w
     on w r = (ap (λ (u : Way). u.receiver) r.2, λ client. absurd (true≢false (sym client)), λ server. ap (λ (u : Way). u.lane) r.2)
 begins-fits s n c (Receive k) (TheHandle h) own expired wire fits is node e =
     visiting-fits (view s.fixed n) n (record { port = h.port; role = Client; lane = h.lane; request = h.request }) (pending_ways s.fixed h) false (
       fits.of_port h is,
-      λ w a. on w (map-among (response_way h.port h.lane) w (others s.fixed h.node Server ++ (forgotten s.fixed h.node Server ++ s.fixed.expired h.port)) a),
+      λ w a. on w (map-among (response_way h.port h.lane) w (s.fixed.expired h.port ++ ports_of_role s.fixed Server) a),
     )
   where
-    server : (q : ℕ) → IsAmong q (others s.fixed h.node Server ++ (forgotten s.fixed h.node Server ++ s.fixed.expired h.port))
-        → is_client (role_in s.fixed.ports q) ≡ false
-    server q a = elim (among-append q (others s.fixed h.node Server) (forgotten s.fixed h.node Server ++ s.fixed.expired h.port) a)
-        as (λ u. is_client (role_in s.fixed.ports q) ≡ false) [
-          | inl r ↦ role-of s.fixed q Server (λ p. not (has_number p.node (s.fixed.forgot h.node))) own r
-          | inr r ↦ elim (among-append q (forgotten s.fixed h.node Server) (s.fixed.expired h.port) r) as (λ u. is_client (role_in s.fixed.ports q) ≡ false) [
-            | inl t ↦ role-of s.fixed q Server (λ p. has_number p.node (s.fixed.forgot h.node)) own t
-            | inr t ↦ absurd (subst (IsAmong q) (expired h.port) t)
-          ]
-        ]
+    server : (q : ℕ) → IsAmong q (s.fixed.expired h.port ++ ports_of_role s.fixed Server) → is_client (role_in s.fixed.ports q) ≡ false
+    server q a = elim (among-append q (s.fixed.expired h.port) (ports_of_role s.fixed Server) a)
+        as (λ u. is_client (role_in s.fixed.ports q) ≡ false)
+        [ inl t ↦ absurd (subst (IsAmong q) (expired h.port) t) | inr t ↦ role-of-all s.fixed q Server own t ]
 
-    on : (w : Way) → (q : ℕ) × IsAmong q (others s.fixed h.node Server ++ (forgotten s.fixed h.node Server ++ s.fixed.expired h.port))
+    on : (w : Way) → (q : ℕ) × IsAmong q (s.fixed.expired h.port ++ ports_of_role s.fixed Server)
         × (w ≡ response_way h.port h.lane q)
         → TakesOn (view s.fixed n) (record { port = h.port; role = Client; lane = h.lane; request = h.request }) w
     on w r = (

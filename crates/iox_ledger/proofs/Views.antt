@@ -14,9 +14,9 @@ use Rattle.iox_model.specs.Handles.{is_request_loan, is_received, same_kind, way
 use Rattle.iox_model.specs.Maps.{has_number, put_at, put, same_way}
 use Rattle.iox_model.specs.Messages.{Message, request_way, response_way}
 use Rattle.iox_model.specs.Counts.{without_handle, with_handle, added, changed, dropped, lent, borrows, gives_up, sent_handle, holding}
-use Rattle.iox_model.proofs.CallLaws.{put_at-else}
-use Rattle.iox_model.proofs.MapLemmas.{either, same_way-true}
-use Rattle.iox_model.proofs.WholeLemmas.{put_at-here}
+use Rattle.iox_weaves.proofs.CallLaws.{put_at-else}
+use Rattle.iox_weaves.proofs.MapLemmas.{either, same_way-true}
+use Rattle.iox_weaves.proofs.WholeLemmas.{put_at-here}
 use Rattle.iox_ledger.proofs.Truths.{never}
 
 -- what a node has: its handles, the number of its next one, how many loans its ports made, what its

@@ -11,8 +11,8 @@ use Rattle.iox_model.specs.Maps.{put_at, refused_if}
 use Rattle.iox_model.specs.Ends.{settled}
 use Rattle.iox_model.specs.Moments.{moved}
 use Rattle.iox_model.specs.Steps.{next}
-use Rattle.iox_model.proofs.WholeLemmas.{moved-fixed, or_else-none}
-use Rattle.iox_model.proofs.WireLemmas.{beat-wire, settled_same}
+use Rattle.iox_weaves.proofs.WholeLemmas.{moved-fixed, or_else-none}
+use Rattle.iox_weaves.proofs.WireLemmas.{beat-wire, settled_same}
 use Rattle.iox_ledger.specs.OnceLaws.{HasOwnNumbers}
 use Rattle.iox_ledger.proofs.Truths.{none-some}
 use Rattle.iox_ledger.proofs.Lists.{IsAmong, NoRepeats, distinct-no_repeats}

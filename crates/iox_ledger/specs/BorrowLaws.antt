@@ -3,7 +3,7 @@ use Rattle.std.specs.Prelude.{◌≤◌, List, length}
 use Rattle.iox_model.specs.declared.way.Way.{Way}
 use Rattle.iox_model.specs.Weaves.{World, Beat}
 use Rattle.iox_model.specs.States.{State}
-use Rattle.iox_model.specs.Ledgers.{had_on}
+use Rattle.iox_weaves.specs.Ledgers.{had_on}
 use Rattle.iox_model.specs.Peers.{borrow_limit_on}
 use Rattle.iox_ledger.specs.OnceLaws.{IsOnWire}
 

@@ -1,13 +1,15 @@
 -- What is out on a way is what the sender's record says, and how much that may be.
-use Rattle.std.specs.Prelude.{◌≡◌, ℕ, ◌+◌, ◌≤◌, List, ◌++◌, length, IsTrue}
+use Rattle.std.specs.Prelude.{◌≡◌, ℕ, ◌+◌, ◌≤◌, List, [], ◌∷◌, ◌++◌, length, IsTrue}
 use Rattle.iox_model.specs.declared.way.Way.{Way}
-use Rattle.iox_model.specs.Weaves.{World, Beat}
+use Rattle.iox_model.specs.Weaves.{IsBeat, World, Beat, Makes}
+use Rattle.iox_weaves.specs.OrderLaws.{all_put_on}
+use Rattle.iox_model.specs.Moments.{SeesNoneBack}
 use Rattle.iox_model.specs.States.{State}
-use Rattle.iox_model.specs.Ledgers.{had_on, is_live, size_of, room_of}
+use Rattle.iox_weaves.specs.Ledgers.{had_on, is_emptied, is_live, size_of, room_of}
 use Rattle.iox_model.specs.Maps.{has_number, AreDistinct}
 use Rattle.iox_model.specs.Messages.{serials_of}
 use Rattle.iox_model.specs.Outstandings.{outstanding_on}
-use Rattle.iox_model.specs.Peers.{buffer_on, borrow_limit_on}
+use Rattle.iox_model.specs.Peers.{node_of_port, buffer_on, borrow_limit_on}
 use Rattle.iox_ledger.specs.OnceLaws.{IsOnWire}
 
 -- the serials that are out on the way: what waits, what the receiver has, what it gave back, and
@@ -42,6 +44,33 @@ LedgerStaysWithin =
     (s : State) (v : World) (bs : List Beat) (y : Way) → IsOnWire s bs v
     → IsTrue (is_live v.state.fixed y)
     → size_of v y + length (v.state.in_hand y) ≤ room_of v y
+
+-- Nobody but its sender's node empties a way.
+abbrev pub SendersEmpty : Type 0
+SendersEmpty =
+    (s : State) (w v : World) (bs : List Beat) (node : ℕ) (y : Way) → IsOnWire s bs w
+    → IsBeat w (Makes node (SeesNoneBack y)) v → node_of_port w.state.fixed y.sender ≡ node
+
+-- of the emptyings of the way and the deliveries there in these beats, the last is an emptying
+abbrev pub EmptiedLast : Way → List Beat → Type 0
+EmptiedLast y bs =
+    (node : ℕ) × (before after : List Beat)
+    × (bs ≡ before ++ Makes node (SeesNoneBack y) ∷ after) × (all_put_on y after ≡ [])
+
+-- What the sender's call under way emptied, and did not deliver on since, is such a way.
+abbrev pub CallsEmptiedLast : Type 0
+CallsEmptiedLast =
+    (s : State) (v : World) (bs : List Beat) (y : Way) → IsOnWire s bs v
+    → IsTrue (is_emptied v y) → EmptiedLast y bs
+
+-- From an emptying of the way to the next delivery there they are no more than the buffer and the
+-- borrow limit, also once that call has ended, and whatever calls come next.
+abbrev pub EmptiedStaysWithin : Type 0
+EmptiedStaysWithin =
+    (s : State) (v : World) (bs : List Beat) (y : Way) → IsOnWire s bs v
+    → IsTrue (is_live v.state.fixed y) → EmptiedLast y bs
+    → size_of v y + length (v.state.in_hand y)
+    ≤ buffer_on v.state.fixed y + borrow_limit_on v.state.fixed y
 
 -- So a queue of the buffer, the borrow limit and one more takes all that is given back.
 abbrev pub ReturnsFit : Type 0

@@ -2,7 +2,7 @@
 use Rattle.std.specs.Prelude.{List, map}
 use Rattle.iox_model.specs.declared.way.Way.{Way}
 use Rattle.iox_model.specs.Weaves.{at_work, IsWeave, World, Beat}
-use Rattle.iox_model.specs.OrderLaws.{all_put_on, all_taken_from}
+use Rattle.iox_weaves.specs.OrderLaws.{all_put_on, all_taken_from}
 use Rattle.iox_model.specs.WireCalls.{opened}
 use Rattle.iox_model.specs.States.{State}
 use Rattle.iox_model.specs.Maps.{AreDistinct}

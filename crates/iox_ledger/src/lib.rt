@@ -7,6 +7,7 @@ ghost use Rattle.iox_ledger.specs.ForgetLaws.{NothingToTheDead};
 ghost use Rattle.iox_ledger.specs.BorrowLaws.{BorrowLimitHolds};
 ghost use Rattle.iox_ledger.specs.QueueLaws.{BufferHolds, OneInHand};
 ghost use Rattle.iox_ledger.specs.LedgerLaws.{LedgerStaysWithin, ReturnsFit};
+ghost use Rattle.iox_ledger.specs.LedgerLaws.{SendersEmpty, CallsEmptiedLast, EmptiedStaysWithin};
 ghost use Rattle.iox_ledger.specs.LedgerLaws.{OutOnce, OutstandingIsCounted, RecordIsWhatIsOut};
 
 /// On each way no message is delivered twice, and none is received twice.
@@ -41,8 +42,13 @@ pub fn record_is_what_is_out()
 {}
 
 /// On a live way no more is out than the buffer and the borrow limit, and one more where the
-/// sender's call under way did not empty the way. So a queue for so many returns is never full.
+/// sender's call under way did not empty the way. From an emptying, which is its sender's alone, to
+/// the next delivery there is no one more, also once that call has ended. So a queue for so many
+/// returns is never full.
 pub fn ledger_stays_within()
     ensures out { LedgerStaysWithin }
+    ensures by_sender { SendersEmpty }
+    ensures by_call { CallsEmptiedLast }
+    ensures emptied { EmptiedStaysWithin }
     ensures returns { ReturnsFit }
 {}

@@ -2,7 +2,6 @@
 use Rattle.std.specs.Prelude.{ℕ, Bool, true, false, not, ◌&&◌, ◌||◌, if◌then◌else◌, ◌==◌, nat_lt, List, ◌++◌, Option, Some, None, IsTrue}
 use Rattle.std.specs.List.{list_all, range_with_len}
 use Rattle.std.specs.Option.{option_map_or}
-use Rattle.iox_model.specs.declared.kind.Kind.TheVariants.{RequestMut, ResponseMut}
 use Rattle.iox_model.specs.declared.call.Call.TheVariants.{Loan, LoanUninit, Write, Send, SendCopy, Receive, Read, Release, IsConnected, SetHint, HasHint, HasRequests, HasResponse}
 use Rattle.iox_model.specs.declared.reply.Refusal.TheVariants.{UnknownNumber, WrongKind, WrongLength, WantOfMemory}
 use Rattle.iox_model.specs.declared.reply.Reply.TheVariants.{Words}
@@ -11,7 +10,7 @@ use Rattle.iox_model.specs.Releases.{states_of, releases}
 use Rattle.iox_model.specs.Doings.{refused, Tells, Fills, Doing, Ended}
 use Rattle.iox_model.specs.States.{Port, Handle, Fixed, State}
 use Rattle.iox_model.specs.Loans.{Choice}
-use Rattle.iox_model.specs.Handles.{is_request_loan, subject, has_lane, Subject, ThePort, TheHandle}
+use Rattle.iox_model.specs.Handles.{filled_kind, subject, has_lane, Subject, ThePort, TheHandle}
 use Rattle.iox_model.specs.Looks.{checking, hinting}
 use Rattle.iox_model.specs.Commands.{Call, number_of}
 use Rattle.iox_model.specs.Responses.{sends, lends, copies, ordered}
@@ -19,7 +18,7 @@ use Rattle.iox_model.specs.Responses.{sends, lends, copies, ordered}
 -- the loan with its payload written, whole
 abbrev pub written : Handle → List ℕ → Handle
 written h words = record h {
-  kind = if is_request_loan h.kind then RequestMut else ResponseMut;
+  kind = filled_kind h.kind;
   message = record (h.message) { payload = words };
   filled = h.message.elements;
 }

@@ -3,11 +3,17 @@ use Rattle.iox_model.specs.declared.call.Call as the_call
 use Rattle.iox_model.specs.declared.call.WireCall as the_wire_call
 use Rattle.iox_model.specs.declared.command.PortOptions as the_options
 use Rattle.iox_model.specs.declared.command.PortCommand as the_port_command
+use Rattle.iox_model.specs.declared.command.PortCommand.TheVariants as port_commands
 use Rattle.iox_model.specs.declared.command.Command as the_command
 use Rattle.iox_model.specs.declared.reply.Refusal as the_refusal
+use Rattle.iox_model.specs.declared.reply.PortReply as the_port_reply
+use Rattle.iox_model.specs.declared.reply.PortReply.TheVariants as port_replies
 use Rattle.iox_model.specs.declared.reply.Reply as the_reply
+use Rattle.iox_model.specs.declared.reply.Reply.TheVariants as replies
 use Rattle.std.specs.Prelude.{ℕ, List, Option}
+use Rattle.iox_types.specs.declared.identifiers.system_id.UniqueSystemId.{UniqueSystemId}
 use Rattle.iox_model.specs.declared.kind.Role.{Role}
+use Rattle.iox_model.specs.declared.kind.Role.TheVariants.{Client, Server}
 use Rattle.iox_model.specs.declared.call.Call.TheVariants.{Loan, LoanUninit, Write, Send, SendCopy, Receive, Read, Release, IsConnected, SetHint, HasHint, HasRequests, HasResponse}
 
 -- The payload of a call: of which role's messages, how many elements (None for no whole number of
@@ -28,6 +34,9 @@ Refusal = the_refusal.Refusal Cause
 abbrev pub Reply : Type 0
 Reply = the_reply.Reply (List ℕ) Cause
 
+abbrev pub PortReply : Type 0
+PortReply = the_port_reply.PortReply (List ℕ) Cause
+
 abbrev pub Call : Type 0
 Call = the_call.Call Payload
 
@@ -41,10 +50,48 @@ Options = the_options.PortOptions (List ℕ)
 abbrev pub PortCommand : Type 0
 PortCommand = the_port_command.PortCommand Payload (List ℕ)
 
--- What an opener asks of types and attributes is told by the first refusal of those tests, if one
--- applies: the types of requests, those of responses, then the attributes.
+-- An `Option Refusal` stands for what an opener asks of types and attributes: the first of these
+-- tests that fails, if one does: types of requests, types of responses, attributes.
 abbrev pub Command : Type 0
 Command = the_command.Command Payload (List ℕ) (Option Refusal)
+
+-- ---- commands of a hub, more shortly
+
+-- A port is made, or a port or handle is called.
+pub data HubCommand : Type 0 where
+  Create : (role : Role) (id : UniqueSystemId) (options : Options) → HubCommand
+  Use : (call : Call) → HubCommand
+
+-- the node that asks, and what it asks
+abbrev pub asking : PortCommand → ℕ × HubCommand
+asking (port_commands.Client node id o) = (node, Create Client id o)
+asking (port_commands.Server node id o) = (node, Create Server id o)
+asking (port_commands.Loan node n k) = (node, Use (Loan n k))
+asking (port_commands.Write node n p) = (node, Use (Write n p))
+asking (port_commands.Send node n) = (node, Use (Send n))
+asking (port_commands.SendCopy node n p) = (node, Use (SendCopy n p))
+asking (port_commands.Receive node n) = (node, Use (Receive n))
+asking (port_commands.Read node n) = (node, Use (Read n))
+asking (port_commands.Release node n) = (node, Use (Release n))
+asking (port_commands.IsConnected node n) = (node, Use (IsConnected n))
+asking (port_commands.SetHint node n) = (node, Use (SetHint n))
+asking (port_commands.HasHint node n) = (node, Use (HasHint n))
+asking (port_commands.HasRequests node n) = (node, Use (HasRequests n))
+asking (port_commands.HasResponse node n) = (node, Use (HasResponse n))
+
+-- what a hub answers is what its service answers
+abbrev pub answer_of : PortReply → Reply
+answer_of (port_replies.Client n) = replies.Client n
+answer_of (port_replies.Server n) = replies.Server n
+answer_of (port_replies.Handle n) = replies.Handle n
+answer_of (port_replies.Sent count) = replies.Sent count
+answer_of port_replies.Done = replies.Done
+answer_of port_replies.Nothing = replies.Nothing
+answer_of (port_replies.Words words) = replies.Words words
+answer_of (port_replies.Answer told) = replies.Answer told
+answer_of (port_replies.Refused r) = replies.Refused r
+
+-- ---- calls
 
 -- the number of the port or handle that a call names
 abbrev pub number_of : Call → ℕ

@@ -21,7 +21,7 @@ pub record Sending : Type 0 where
   pub copied : Bool
   -- the ports that it goes to
   pub to : List ℕ
-  -- whether a full receiver gives up its oldest message; else, where the send fails if one is full
+  -- whether the oldest that waits gives way to a new one; if not, at which full receivers it fails
   pub overflow : Bool
   pub fails : Way → Bool
 
@@ -52,7 +52,7 @@ pub data Doing : Type 0 where
   Asking : (send : Sending) → Doing
   -- a send gets back what it can
   Emptying : (send : Sending) (left : List Way) → Doing
-  -- it looks who is full
+  -- it looks who is full; `full` are the ways seen full
   Looking : (send : Sending) (left full : List Way) → Doing
   -- a request opens its states
   Opening : (send : Sending) (left full : List Way) → Doing

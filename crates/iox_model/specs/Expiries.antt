@@ -80,5 +80,6 @@ is_last_gone f port =
     not f.on_wire
     && (not (list_any (λ p. (p.number == port) && p.held) f.ports) && is_empty (handles_of f port))
 
+-- the port disconnects if its value and all its handles are gone
 abbrev pub released : State → ℕ → State
 released s port = if is_last_gone s.fixed port then disconnected s port else s

@@ -33,6 +33,10 @@ is_request_loan k = same_kind k RequestMut || same_kind k RequestMutUninit
 abbrev pub is_response_loan : Kind → Bool
 is_response_loan k = same_kind k ResponseMut || same_kind k ResponseMutUninit
 
+-- what a loan is once it is filled
+abbrev pub filled_kind : Kind → Kind
+filled_kind k = if is_request_loan k then RequestMut else ResponseMut
+
 -- whether the handle holds a message of its own port, and whether it holds a received one
 abbrev pub is_own : Kind → Bool
 is_own k = is_request_loan k || (is_response_loan k || same_kind k PendingResponse)

@@ -10,7 +10,6 @@ use Rattle.iox_model.specs.States.{Node, Members, State}
 use Rattle.iox_model.specs.WholeCalls.{UnlessRefused}
 use Rattle.iox_model.specs.Maps.{or_else, refused_if}
 use Rattle.iox_model.specs.Commands.{Refusal, Reply}
-use Rattle.iox_model.specs.Responses.{asked}
 
 abbrev pub node_at : State → ℕ → Option Node
 node_at s n = find (λ m. m.number == n) s.members.nodes
@@ -49,6 +48,7 @@ new_node number id = record { number = number; id = id; alive = true }
 abbrev pub joined : Members → UniqueSystemId → Members
 joined x id = record x { nodes = x.nodes ++ new_node x.joins id ∷ []; joins = x.joins + 1 }
 
+-- a node joins, or is refused
 abbrev pub IsOpening : State → UniqueSystemId → Option Refusal → Reply → State → Type 0
 IsOpening s id asked reply s' =
     (memory : Bool) × UnlessRefused (opening_refusal s id asked memory) s reply s'

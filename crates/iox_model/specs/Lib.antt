@@ -30,16 +30,5 @@ pub mod Services
 pub mod Runs
 pub mod WireCalls
 pub mod Weaves
+pub mod Keeping
 pub mod Schedules
-pub mod Ledgers
-pub mod Tallies
-pub mod Bounds
--- laws
-pub mod Laws
-pub mod OrderLaws
--- examples
-pub mod Scripts
-pub mod WorkedRuns
-pub mod ExpiredRuns
-pub mod WorkedWeaves
-pub mod EvictionWeaves

@@ -5,7 +5,7 @@ use Rattle.iox_model.specs.declared.kind.Role.{Role}
 use Rattle.iox_model.specs.declared.kind.Role.TheVariants.{Client, Server}
 use Rattle.iox_types.specs.declared.identifiers.system_id.UniqueSystemId.{UniqueSystemId}
 use Rattle.iox_model.specs.declared.backpressure.BackpressureStrategy.{BackpressureStrategy}
-use Rattle.iox_model.specs.declared.command.PortCommand.TheVariants.{Create, Use}
+use Rattle.iox_model.specs.declared.backpressure.AllocationStrategy.{AllocationStrategy}
 use Rattle.iox_model.specs.declared.reply.Refusal.TheVariants.{UnableToCreatePortTag, UnableToCreateDataSegment, ExceedsMaxSupportedClients, ExceedsMaxSupportedServers}
 use Rattle.iox_model.specs.declared.reply.Reply.TheVariants as replies
 use Rattle.iox_model.specs.Settings.{message_size, has_layout, shape_of, is_static, Shape, Limits}
@@ -13,7 +13,7 @@ use Rattle.iox_model.specs.States.{Port, Fixed, State}
 use Rattle.iox_model.specs.WholeCalls.{UnlessRefused, IsWholeCall}
 use Rattle.iox_model.specs.Maps.{or_else, refused_if}
 use Rattle.iox_model.specs.Counts.{with_fixed}
-use Rattle.iox_model.specs.Commands.{Refusal, Reply, Options, PortCommand}
+use Rattle.iox_model.specs.Commands.{Refusal, Reply, Options, PortCommand, PortReply, HubCommand, Create, Use, asking, answer_of}
 use Rattle.iox_model.specs.Peers.{ports_of_role}
 
 -- the most messages that a client ever needs at once: those loaned, those active, and at each
@@ -36,7 +36,7 @@ pool_of_server l loans =
     (l.response_buffer + l.borrowed_responses)
 
 abbrev pub loans_of_one : Limits → Options → ℕ
-loans_of_one l o = max 1 (unwrap_or o.max_loaned_responses l.loaned_responses)
+loans_of_one l o = max 1 (unwrap_or o.loaned_responses l.loaned_responses)
 
 abbrev pub worst_pool : Limits → Role → Options → ℕ
 worst_pool l Client o = pool_of_client l
@@ -48,7 +48,7 @@ chosen_pool l role o =
     option_map_or (λ n. max 1 (min n (worst_pool l role o))) o.pool (worst_pool l role o)
 
 abbrev pub longest_of : Shape → Options → ℕ
-longest_of x o = if x.many then unwrap_or o.max_slice_len 1 else 1
+longest_of x o = if x.many then o.max_slice_len else 1
 
 abbrev pub most_ports : Limits → Role → ℕ
 most_ports l Client = l.clients
@@ -61,6 +61,10 @@ too_many_ports Server = ExceedsMaxSupportedServers
 abbrev pub strategy_of : Limits → Role → BackpressureStrategy
 strategy_of l Client = l.client_strategy
 strategy_of l Server = l.server_strategy
+
+abbrev pub allocation_of : Limits → Role → AllocationStrategy
+allocation_of l Client = l.client_allocation
+allocation_of l Server = l.server_allocation
 
 -- a pool past its bound, a count or a size of bytes past 2^64, or a message with no layout
 abbrev pub is_large : Limits → Role → Options → Bool
@@ -88,9 +92,9 @@ new_port f node role id o = record {
   id = record id { counter = f.ports_made };
   pool = chosen_pool f.limits role o;
   longest = longest_of (shape_of f.limits role) o;
-  grows = option_map_or (λ a. not (is_static a)) o.allocation_strategy false;
-  strategy = unwrap_or o.backpressure_strategy (strategy_of f.limits role);
-  handler = o.backpressure_handler;
+  grows = not (is_static (unwrap_or o.allocation (allocation_of f.limits role)));
+  strategy = unwrap_or o.strategy (strategy_of f.limits role);
+  handler = o.handler;
   loaned_responses = loans_of_one f.limits o;
   held = true;
 }
@@ -107,13 +111,19 @@ abbrev pub port_reply : Role → ℕ → Reply
 port_reply Client n = replies.Client n
 port_reply Server n = replies.Server n
 
+-- the making of a port, with its reply and the state that it leaves
 abbrev pub IsMaking : State → ℕ → Role → UniqueSystemId → Options → Reply → State → Type 0
 IsMaking s node role id o reply s' =
     (memory : Bool) × UnlessRefused (making_refusal s.fixed role o memory) s reply s'
     ((reply ≡ port_reply role s.fixed.next_number)
     × (s' ≡ with_fixed s (with_port s.fixed (new_port s.fixed node role id o))))
 
--- what one command of a hub is; it reads and changes no node
-abbrev pub IsPortCommand : State → ℕ → PortCommand → Reply → State → Type 0
-IsPortCommand s node (Create role id o) reply s' = IsMaking s node role id o reply s'
-IsPortCommand s node (Use call) reply s' = IsWholeCall s node call reply s'
+-- what one command of a hub is, asked by that node; it reads and changes no node of a service
+abbrev pub IsHubCommand : State → ℕ → HubCommand → Reply → State → Type 0
+IsHubCommand s node (Create role id o) reply s' = IsMaking s node role id o reply s'
+IsHubCommand s node (Use call) reply s' = IsWholeCall s node call reply s'
+
+-- the same of the command that the code is given, with the code's reply
+abbrev pub IsPortCommand : State → PortCommand → PortReply → State → Type 0
+IsPortCommand s command reply s' =
+    IsHubCommand s (asking command).0 (asking command).1 (answer_of reply) s'

@@ -19,7 +19,8 @@ pub record Message : Type 0 where
   pub sender : ℕ
   pub serial : ℕ
   -- the header: the ids of the sender's node and of the sender, the lane and the id of the
-  -- request that it is or answers, and how many elements its payload has
+  -- request that it is or answers, and how many elements its payload has. The words of a
+  -- response's header leave out the lane, which is its way's
   pub node_id : UniqueSystemId
   pub port_id : UniqueSystemId
   pub lane : ℕ
@@ -28,11 +29,6 @@ pub record Message : Type 0 where
   -- the words of the user header, and of the payload
   pub user : List ℕ
   pub payload : List ℕ
-
--- A body that keeps the messages of one sender in numbered slots tells which serial each slot
--- holds, if any. No two slots hold the same one.
-abbrev pub TellsApart : (ℕ → Option ℕ) → Type 0
-TellsApart serial_in = (i j k : ℕ) → serial_in i ≡ Some k → serial_in j ≡ Some k → i ≡ j
 
 abbrev pub serials_of : List Message → List ℕ
 serials_of ms = map (λ m. m.serial) ms

@@ -10,6 +10,7 @@ use Rattle.iox_model.specs.Maps.{is_empty, first_of, rest_of, put_at, put}
 use Rattle.iox_model.specs.Messages.{serials_of, closed_for, hinted_for, Message}
 use Rattle.iox_model.specs.Peers.{is_counted_on, buffer_on, overflows_on}
 
+-- One change or one look, on that way; a serial names a message, an id a request.
 pub data Moment : Type 0 where
   Deliver : (way : Way) (message : Message) → Moment
   Evict : (way : Way) → Moment
@@ -24,7 +25,7 @@ pub data Moment : Type 0 where
 abbrev pub is_overfull : State → Way → Bool
 is_overfull s w = nat_lt (buffer_on s.fixed w) (length (s.waiting w))
 
--- the most that may wait before one more is delivered
+-- the most that may wait once one more is delivered
 abbrev pub room_on : Fixed → Way → ℕ
 room_on f w = buffer_on f w + (if overflows_on f w then 1 else 0)
 

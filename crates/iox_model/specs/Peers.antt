@@ -39,16 +39,11 @@ abbrev pub forgot_port : Fixed → ℕ → ℕ → Bool
 forgot_port f node port =
     list_any (λ p. (p.number == port) && has_number p.node (f.forgot node)) f.ports
 
--- the connected ports of a role that the node did not forget, and those that it did
+-- the connected ports of a role that the node did not forget
 abbrev pub others : Fixed → ℕ → Role → List ℕ
 others f node role =
     map (λ p. p.number)
     (filter (λ p. same_role p.role role && not (has_number p.node (f.forgot node))) f.ports)
-
-abbrev pub forgotten : Fixed → ℕ → Role → List ℕ
-forgotten f node role =
-    map (λ p. p.number)
-    (filter (λ p. same_role p.role role && has_number p.node (f.forgot node)) f.ports)
 
 -- whether the sender still counts what it delivered on the way: it is connected, and its node did
 -- not forget the receiver's

@@ -10,22 +10,21 @@ use Rattle.iox_model.specs.Settings.{is_client}
 use Rattle.iox_model.specs.States.{Port, Handle, Fixed}
 use Rattle.iox_model.specs.Handles.{Subject, ThePort, TheHandle}
 use Rattle.iox_model.specs.Messages.{request_way, response_way, names, Message}
-use Rattle.iox_model.specs.Peers.{forgot_port, others, forgotten, borrow_limit_on}
+use Rattle.iox_model.specs.Peers.{forgot_port, ports_of_role, others, borrow_limit_on}
 
--- whom a server, and a pending response, visits: what the forgotten and the gone delivered may
--- still be taken, a request only under fire-and-forget
-abbrev pub late_clients : Fixed → Port → List ℕ
-late_clients f p =
-    if f.limits.fire_and_forget then forgotten f p.node Client ++ f.expired p.number else []
+-- Whom a server, and a pending response, visits: those that are gone, oldest first, then the
+-- connected ones in ascending order, also forgotten ones. Of the gone and the forgotten a server
+-- takes requests only under fire-and-forget.
+abbrev pub clients_to_visit : Fixed → Port → List ℕ
+clients_to_visit f p =
+    if f.limits.fire_and_forget then f.expired p.number ++ ports_of_role f Client
+    else others f p.node Client
 
 abbrev pub server_ways : Fixed → Port → List Way
-server_ways f p =
-    map (λ client. request_way client p.number) (others f p.node Client ++ late_clients f p)
+server_ways f p = map (λ client. request_way client p.number) (clients_to_visit f p)
 
 abbrev pub pending_ways : Fixed → Handle → List Way
-pending_ways f h =
-    map (response_way h.port h.lane)
-    (others f h.node Server ++ (forgotten f h.node Server ++ f.expired h.port))
+pending_ways f h = map (response_way h.port h.lane) (f.expired h.port ++ ports_of_role f Server)
 
 -- all were visited, and nothing was got
 abbrev pub visiting : Receiver → List Way → Bool → Doing

@@ -1,18 +1,21 @@
--- Runs: a service as it is created, and commands one after another, each with its reply.
-use Rattle.std.specs.Prelude.{◌≡◌, ℕ, ◌-◌, ◌^◌, Bool, false, not, ◌||◌, nat_lt, List, [], ◌∷◌, Option, max}
+-- Runs: a service as it is created, commands one after another with their replies, and all states.
+use Rattle.std.specs.Prelude.{◌≡◌, ℕ, ◌-◌, ◌^◌, Bool, true, false, not, ◌||◌, nat_lt, List, [], ◌∷◌, Option, Some, None, is_some, max, IsTrue, ⊤}
 use Rattle.iox_types.specs.declared.identifiers.system_id.UniqueSystemId.{UniqueSystemId}
 use Rattle.iox_model.specs.declared.way.RequestState.TheVariants.{Closed}
 use Rattle.iox_model.specs.declared.backpressure.BackpressureAction.{BackpressureAction}
 use Rattle.iox_model.specs.declared.reply.Refusal.TheVariants.{WantOfMemory, InvalidNodeId, LimitTooLarge}
-use Rattle.iox_model.specs.Makings.{IsPortCommand}
-use Rattle.iox_model.specs.Settings.{Limits}
+use Rattle.iox_model.specs.declared.reply.Reply.TheVariants.{Refused}
+use Rattle.iox_model.specs.declared.reply.Reply.TheVariants as replies
+use Rattle.iox_model.specs.Makings.{IsHubCommand}
+use Rattle.iox_model.specs.Settings.{IsShape, Limits}
 use Rattle.iox_model.specs.States.{Members, Fixed, State}
 use Rattle.iox_model.specs.Maps.{or_else, refused_if}
 use Rattle.iox_types.specs.Identifiers.{is_node_id}
-use Rattle.iox_model.specs.Joins.{new_node}
+use Rattle.iox_model.specs.Joins.{node_at, new_node}
 use Rattle.iox_model.specs.Services.{IsCommand}
-use Rattle.iox_model.specs.Commands.{Refusal, Reply, PortCommand, Command}
-use Rattle.iox_model.specs.Responses.{asked}
+use Rattle.iox_model.specs.Commands.{Refusal, Reply, HubCommand, Command}
+use Rattle.iox_model.specs.Values.{Filling, IsFilling, IsRelease}
+use Rattle.iox_model.specs.declared.kind.Kind.{Kind}
 
 -- a limit of 0 is raised to 1, the expired buffers excepted
 abbrev pub raised : Limits → Limits
@@ -38,10 +41,10 @@ creation_refusal l id asked memory =
     (or_else asked
     (or_else (refused_if (is_too_large l) LimitTooLarge) (refused_if (not memory) WantOfMemory)))
 
--- nobody made anything yet
+-- nobody made anything yet; the limits of a service and of a hub are raised here
 abbrev pub untouched : Limits → (List ℕ → ℕ → ℕ → BackpressureAction) → Fixed
 untouched l acts = record {
-  limits = l;
+  limits = raised l;
   acts = acts;
   on_wire = false;
   ports = [];
@@ -72,7 +75,17 @@ at_rest x f = record {
 abbrev pub created : Limits → (List ℕ → ℕ → ℕ → BackpressureAction) → UniqueSystemId → State
 created l acts id =
     at_rest (record { nodes = new_node 0 id ∷ []; joins = 1; closed = false })
-    (untouched (raised l) acts)
+    (untouched l acts)
+
+-- what a creation is answered, and the service that it makes where it is not refused
+abbrev pub MakesUnless : Option Refusal → State → Reply → Option State → Type 0
+MakesUnless (Some r) first reply made = (reply ≡ Refused r) × (made ≡ None)
+MakesUnless None first reply made = (reply ≡ replies.Node 0) × (made ≡ Some first)
+
+abbrev pub IsCreation : Limits → (List ℕ → ℕ → ℕ → BackpressureAction) → UniqueSystemId
+    → Option Refusal → Reply → Option State → Type 0
+IsCreation l acts id asked reply made =
+    (memory : Bool) × MakesUnless (creation_refusal l id asked memory) (created l acts id) reply made
 
 -- from a state, a service's commands may have these replies and lead to that state
 abbrev pub IsRun : State → List Command → List Reply → State → Type 0
@@ -81,14 +94,62 @@ IsRun s (c ∷ cs) (r ∷ rs) s' = (mid : State) × IsCommand s c r mid × IsRun
 IsRun s [] (r ∷ rs) s' = ⊥
 IsRun s (c ∷ cs) [] s' = ⊥
 
--- a command of a hub, with the node that it names, and its reply
-pub record Record : Type 0 where
-  pub node : ℕ
-  pub command : PortCommand
-  pub reply : Reply
+-- ---- every state of a service or a hub
 
--- the same for a hub
-abbrev pub IsHistory : State → List Record → State → Type 0
+-- One step: a command of the service with its reply, a command that a node asks of the hub
+-- directly, a loan that its holder fills, or a value that its holder releases.
+pub data ServiceStep : Type 0 where
+  OfService : (command : Command) (reply : Reply) → ServiceStep
+  OfHub : (node : ℕ) (command : HubCommand) (reply : Reply) → ServiceStep
+  OfLoan : (node number : ℕ) (filling : Filling) → ServiceStep
+  OfValue : (node number : ℕ) (kind : Kind) → ServiceStep
+
+-- from a state, the step may lead to that state
+abbrev pub IsServiceStep : State → ServiceStep → State → Type 0
+IsServiceStep s (OfService command reply) s' = IsCommand s command reply s'
+IsServiceStep s (OfHub node command reply) s' = IsHubCommand s node command reply s'
+IsServiceStep s (OfLoan node number filling) s' = IsFilling s node number filling s'
+IsServiceStep s (OfValue node number kind) s' = IsRelease s node number kind s'
+
+-- from a state, these steps may come one after another, and lead to that state
+abbrev pub IsHistory : State → List ServiceStep → State → Type 0
 IsHistory s [] s' = s' ≡ s
-IsHistory s (c ∷ cs) s' =
-    (mid : State) × IsPortCommand s c.node c.command c.reply mid × IsHistory mid cs s'
+IsHistory s (x ∷ xs) s' = (mid : State) × IsServiceStep s x mid × IsHistory mid xs s'
+
+-- The states that a service and its hub come to, whatever was asked of them: from a creation with
+-- shapes that make sense (also one that a service would refuse), steps lead there.
+pub record IsReachableState (s : State) : Type 0 where
+  pub limits : Limits
+  pub acts : List ℕ → ℕ → ℕ → BackpressureAction
+  pub id : UniqueSystemId
+  pub request : IsShape limits.request
+  pub response : IsShape limits.response
+  pub steps : List ServiceStep
+  pub history : IsHistory (created limits acts id) steps s
+
+-- ---- a service's own states
+
+abbrev pub is_member : State → ℕ → Bool
+is_member s node = is_some (node_at s node)
+
+-- what is asked of a service's hub is asked by a node of the service, living or dead
+abbrev pub IsOfMember : State → ServiceStep → Type 0
+IsOfMember s (OfHub node command reply) = IsTrue (is_member s node)
+IsOfMember s x = ⊤
+
+-- the same, where only nodes of the service ask its hub
+abbrev pub IsMembersHistory : State → List ServiceStep → State → Type 0
+IsMembersHistory s [] s' = s' ≡ s
+IsMembersHistory s (x ∷ xs) s' =
+    (mid : State) × IsOfMember s x × IsServiceStep s x mid × IsMembersHistory mid xs s'
+
+-- The states of a service: its creation was not refused, and only its nodes asked its hub.
+pub record IsServed (s : State) : Type 0 where
+  pub limits : Limits
+  pub acts : List ℕ → ℕ → ℕ → BackpressureAction
+  pub id : UniqueSystemId
+  pub request : IsShape limits.request
+  pub response : IsShape limits.response
+  pub allowed : creation_refusal limits id None true ≡ None
+  pub steps : List ServiceStep
+  pub history : IsMembersHistory (created limits acts id) steps s

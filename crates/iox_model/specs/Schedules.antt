@@ -1,4 +1,4 @@
--- What of a weave is seen, and how a schedule brings it about.
+-- What is seen of a weave, and how a schedule brings it about.
 use Rattle.std.specs.Prelude.{◌≡◌, ℕ, ◌+◌, List, [], ◌∷◌, ◌++◌, map, Option, Some, None}
 use Rattle.iox_model.specs.declared.event.Event.{Event}
 use Rattle.iox_model.specs.Weaves.{begin_refusal, IsWeave, World, Beat, Begins, Makes, Ends, Dies}
@@ -7,6 +7,7 @@ use Rattle.iox_model.specs.Maps.{put_at}
 use Rattle.iox_model.specs.Joins.{not_living}
 use Rattle.iox_model.specs.Moments.{event_of, Moment}
 use Rattle.iox_model.specs.Commands.{Refusal, Reply, WireCall}
+use Rattle.iox_model.specs.WireCalls.{WordsCall, said_on_wire, in_wire_words}
 
 -- the moments, each with its node
 abbrev pub moments_of : List Beat → List (ℕ × Moment)
@@ -20,16 +21,16 @@ moments_of (Dies node ∷ bs) = moments_of bs
 abbrev pub events_of : List Beat → List (ℕ × Event)
 events_of bs = map (λ e. (e.0, event_of e.1)) (moments_of bs)
 
--- a finished call, with the number of events at its begin and at its end
+-- a finished call, in words, with the number of events at its begin and at its end
 pub record Finished : Type 0 where
   pub node : ℕ
-  pub call : WireCall
+  pub call : WordsCall
   pub reply : Reply
   pub begun : ℕ
   pub ended : ℕ
 
 pub record UnderWay : Type 0 where
-  pub call : WireCall
+  pub call : WordsCall
   pub begun : ℕ
 
 abbrev pub finish : Option UnderWay → ℕ → Reply → ℕ → List Finished → List Finished
@@ -40,24 +41,27 @@ finish (Some u) node reply events rest =
 abbrev pub finished_from : ℕ → (ℕ → Option UnderWay) → List Beat → List Finished
 finished_from events under [] = []
 finished_from events under (Begins node call c ∷ bs) =
-    finished_from events (put_at under node (Some (record { call = call; begun = events }))) bs
+    finished_from events
+    (put_at under node (Some (record { call = in_wire_words call; begun = events }))) bs
 finished_from events under (Makes node m ∷ bs) = finished_from (events + 1) under bs
 finished_from events under (Ends node reply payload ∷ bs) =
     finish (under node) node reply events (finished_from events (put_at under node None) bs)
 finished_from events under (Dies node ∷ bs) = finished_from events under bs
 
--- the finished calls in the order of their ends
+-- the finished calls in the order of their ends, of a weave that starts with no call under way
 abbrev pub replies_of : List Beat → List Finished
 replies_of bs = finished_from 0 (λ n. None) bs
 
 -- ---- schedules
 
+-- a call is begun with words; what they are, the world tells in which it begins
 pub data Entry : Type 0 where
-  Begin : (node : ℕ) (call : WireCall) → Entry
+  Begin : (node : ℕ) (call : WordsCall) → Entry
   Step : (node : ℕ) → Entry
   Die : (node : ℕ) → Entry
 
--- a step makes one moment of its node or none, and may end its call
+-- a step makes one moment of its node or none, and may end its call; how long a call goes on is
+-- said of its accesses, not here
 pub data IsStepOf (node : ℕ) : List Beat → Type 0 where
   nothing : IsStepOf node []
   makes : (m : Moment) → IsStepOf node (Makes node m ∷ [])
@@ -76,7 +80,9 @@ IsDeathOf None node bs = bs ≡ Dies node ∷ []
 
 -- these beats are what the entry brings at that world
 abbrev pub IsEntry : World → Entry → List Beat → Type 0
-IsEntry w (Begin node call) bs = IsBeginOf (begin_refusal w node call) node call bs
+IsEntry w (Begin node call) bs =
+    let meant : WireCall = said_on_wire w.state.fixed node call in
+    IsBeginOf (begin_refusal w node meant) node meant bs
 IsEntry w (Step node) bs = IsStepOf node bs
 IsEntry w (Die node) bs = IsDeathOf (not_living w.state node) node bs
 

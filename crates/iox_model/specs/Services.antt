@@ -3,21 +3,19 @@ use Rattle.std.specs.Prelude.{◌≡◌, ℕ, false, not, ◌&&◌, ◌||◌, if
 use Rattle.std.specs.Option.{option_map_or}
 use Rattle.iox_model.specs.declared.kind.Role.TheVariants.{Client, Server}
 use Rattle.iox_model.specs.declared.call.Call.TheVariants.{Release}
-use Rattle.iox_model.specs.declared.command.PortCommand.TheVariants.{Create, Use}
-use Rattle.iox_model.specs.declared.command.Command.TheVariants.{OfNode, Leave, DeclareDead, Cleanup, ListNodes, ListClients, ListServers}
+use Rattle.iox_model.specs.declared.command.Command.TheVariants.{Join, Leave, DeclareDead, Cleanup, ListNodes, ListClients, ListServers}
 use Rattle.iox_model.specs.declared.command.Command.TheVariants as commands
 use Rattle.iox_model.specs.declared.reply.Refusal.TheVariants.{HasPorts}
 use Rattle.iox_model.specs.declared.reply.Reply.TheVariants.{Done, Listed}
-use Rattle.iox_model.specs.Makings.{IsPortCommand}
+use Rattle.iox_model.specs.Makings.{IsHubCommand}
 use Rattle.iox_model.specs.States.{Node, Fixed, State}
 use Rattle.iox_model.specs.WholeCalls.{UnlessRefused, IsWholeCall}
 use Rattle.iox_model.specs.Maps.{is_empty, or_else, refused_if}
 use Rattle.iox_model.specs.Joins.{node_at, not_living, not_dead, with_members, IsOpening}
-use Rattle.iox_model.specs.Commands.{Refusal, Reply, PortCommand, Command}
-use Rattle.iox_model.specs.Responses.{asked}
+use Rattle.iox_model.specs.Commands.{Refusal, Reply, HubCommand, Create, Use, Command, asking}
 use Rattle.iox_model.specs.Peers.{ports_of_role}
 
--- the step after which no node is left closes the service for good
+-- the node is gone; once none is left the service is closed for good
 abbrev pub without_node : State → ℕ → State
 without_node s node =
     let left : List Node = filter (λ m. not (m.number == node)) s.members.nodes in
@@ -37,6 +35,7 @@ numbers_of_node f node =
     ascending (map (λ p. p.number) (filter (λ p. (p.node == node) && p.held) f.ports)
     ++ map (λ h. h.number) (f.handles node))
 
+-- a node leaves only while it lives and has nothing
 abbrev pub leaving_refusal : State → ℕ → Option Refusal
 leaving_refusal s node =
     or_else (not_living s node)
@@ -45,6 +44,7 @@ leaving_refusal s node =
 abbrev pub dies : ℕ → Node → Node
 dies node m = if m.number == node then record m { alive = false } else m
 
+-- the node is dead
 abbrev pub with_death : State → ℕ → State
 with_death s node =
     with_members s (record (s.members) { nodes = map (dies node) s.members.nodes })
@@ -55,6 +55,7 @@ Releases s node [] s' = s' ≡ s
 Releases s node (n ∷ ns) s' =
     (mid : State) × IsWholeCall s node (Release n) Done mid × Releases mid node ns s'
 
+-- all that the node has is released, and then the node is gone
 abbrev pub IsCleanup : State → ℕ → Reply → State → Type 0
 IsCleanup s node reply s' =
     (mid : State) × Releases s node (numbers_of_node s.fixed node) mid
@@ -63,16 +64,21 @@ IsCleanup s node reply s' =
 -- ---- a command
 
 -- a port that a node makes has the id with which the node joined
-abbrev pub with_own_id : State → ℕ → PortCommand → PortCommand
+abbrev pub with_own_id : State → ℕ → HubCommand → HubCommand
 with_own_id s node (Create role id o) = Create role (option_map_or (λ m. m.id) (node_at s node) id) o
 with_own_id s node (Use call) = Use call
 
+-- what a node asks of the hub, as long as it lives
+abbrev pub IsNodeCommand : State → ℕ → HubCommand → Reply → State → Type 0
+IsNodeCommand s node command reply s' =
+    UnlessRefused (not_living s node) s reply s'
+    (IsHubCommand s node (with_own_id s node command) reply s')
+
 -- from a state, the command may have this reply and lead to that state
 abbrev pub IsCommand : State → Command → Reply → State → Type 0
-IsCommand s (commands.Open id asked) reply s' = IsOpening s id asked reply s'
-IsCommand s (OfNode node command) reply s' =
-    UnlessRefused (not_living s node) s reply s'
-    (IsPortCommand s node (with_own_id s node command) reply s')
+IsCommand s (Join id asked) reply s' = IsOpening s id asked reply s'
+IsCommand s (commands.Port command) reply s' =
+    IsNodeCommand s (asking command).0 (asking command).1 reply s'
 IsCommand s (Leave node) reply s' =
     UnlessRefused (leaving_refusal s node) s reply s' ((reply ≡ Done) × (s' ≡ without_node s node))
 IsCommand s (DeclareDead node) reply s' =

@@ -1,5 +1,6 @@
 -- The settings of a service: shapes of messages, limits, and what a sender does at a full receiver.
-use Rattle.std.specs.Prelude.{ℕ, ◌+◌, ◌*◌, ◌-◌, ◌/◌, ◌^◌, Bool, true, false, ◌||◌, ◌==◌, nat_lt, List, Option}
+use Rattle.std.specs.Prelude.{◌≡◌, ℕ, ◌+◌, ◌*◌, ◌-◌, ◌/◌, ◌^◌, Bool, true, false, ◌||◌, ◌==◌, nat_lt, List, length, Option, IfSome}
+use Rattle.std.specs.Int.{IsPowerOfTwo}
 use Rattle.std.specs.Bool.{beq}
 use Rattle.iox_model.specs.declared.kind.Role.{Role}
 use Rattle.iox_model.specs.declared.kind.Role.TheVariants.{Client, Server}
@@ -28,6 +29,10 @@ pub record Part : Type 0 where
   pub size : ℕ
   pub alignment : ℕ
 
+-- its alignment is a power of two
+abbrev pub IsPart : Part → Type 0
+IsPart p = IsPowerOfTwo p.alignment
+
 -- What the messages of one role are made of.
 pub record Shape : Type 0 where
   -- one element, or as many as are asked for
@@ -41,6 +46,13 @@ pub record Shape : Type 0 where
   pub header_part : Part
   pub user_part : Part
   pub element_part : Part
+
+-- A shape makes sense: the default of an element has its words, and each part may stand somewhere.
+pub record IsShape (x : Shape) : Type 0 where
+  pub default : IfSome x.default (λ words. length words ≡ x.width)
+  pub header : IsPart x.header_part
+  pub user : IsPart x.user_part
+  pub element : IsPart x.element_part
 
 -- the least multiple of the alignment that is not below
 abbrev pub aligned : ℕ → ℕ → ℕ
@@ -64,6 +76,7 @@ is_count x k = x.many || (k == 1)
 
 -- ---- limits
 
+-- The settings of a service.
 pub record Limits : Type 0 where
   pub clients : ℕ
   pub servers : ℕ
@@ -82,6 +95,9 @@ pub record Limits : Type 0 where
   pub fire_and_forget : Bool
   pub client_strategy : BackpressureStrategy
   pub server_strategy : BackpressureStrategy
+  -- whether messages grow past the greatest length, where a port's maker does not say
+  pub client_allocation : AllocationStrategy
+  pub server_allocation : AllocationStrategy
   pub request : Shape
   pub response : Shape
 

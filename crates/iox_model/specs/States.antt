@@ -12,17 +12,19 @@ use Rattle.iox_model.specs.Messages.{Message}
 
 -- ---- nodes, ports and handles
 
+-- A node of a service, with the id with which it joined.
 pub record Node : Type 0 where
   pub number : ℕ
   pub id : UniqueSystemId
   pub alive : Bool
 
--- the nodes that did not leave, dead ones included; how many ever joined; closed for good
+-- the nodes that neither left nor were cleaned up, the dead too; how many ever joined; closed for good
 pub record Members : Type 0 where
   pub nodes : List Node
   pub joins : ℕ
   pub closed : Bool
 
+-- A connected port.
 pub record Port : Type 0 where
   pub number : ℕ
   pub node : ℕ
@@ -39,9 +41,10 @@ pub record Port : Type 0 where
   pub handler : Option (List ℕ)
   -- of a server: how many loans one request may have
   pub loaned_responses : ℕ
-  -- whether the port's own value is not released
+  -- whether the port's own value is still there
   pub held : Bool
 
+-- A loan, a pending response, an active request or a response.
 pub record Handle : Type 0 where
   pub node : ℕ
   pub number : ℕ
@@ -80,13 +83,14 @@ pub record Fixed : Type 0 where
   pub calls : ℕ
   -- how many loans of each port succeeded
   pub loans : ℕ → ℕ
-  -- on each way how many received messages its receiver has as handles
+  -- on each way how many received messages its receiver has as handles; 0 once the pair is given up
   pub borrowed : Way → ℕ
   -- the senders of each receiver's expired pairs, oldest first
   pub expired : ℕ → List ℕ
   -- the dead nodes that each node forgot
   pub forgot : ℕ → List ℕ
 
+-- All that the machine holds.
 pub record State : Type 0 where
   pub members : Members
   pub fixed : Fixed

@@ -15,6 +15,7 @@ use Rattle.iox_model.specs.Looks.{checked, hinting, is_hinted_or_gone}
 use Rattle.iox_model.specs.Messages.{names}
 use Rattle.iox_model.specs.Responses.{asked, loaning, copies}
 
+-- a condition, and what is left to do once the moment was made
 pub record Step : Type 1 where
   pub condition : Type 0
   pub after : Doing
@@ -25,6 +26,7 @@ when condition after = record { condition = condition; after = after }
 abbrev pub IsIn : Way → List Way → Type 0
 IsIn w left = IsTrue (has_way w left)
 
+-- Whether that moment may come next in the node's call, and what is left to do then.
 abbrev pub next : State → ℕ → Doing → Moment → Step
 -- a way is emptied by getting back all that was given back there
 next s node (Loaning copies h left) (GetBack w k) = when (IsIn w left) (Loaning copies h left)
@@ -41,7 +43,7 @@ next s node (Looking x left full) (SeesRoom w) =
     when (IsIn w left) (looking x (without_way w left) full)
 next s node (Opening x left full) (Open w id) =
     when (IsIn w left × IsTrue (id == x.loan.request)) (opening x (without_way w left) full)
--- it goes on only where its last delivery left not one too many
+-- it goes on only where no more waits on the way of its last delivery than the buffer holds
 next s node (Delivering x last left count) (Deliver w m) =
     when (IsIn w left × (m ≡ x.loan.message) × IsTrue (not (is_over s last)))
     (Delivering x (may_evict x w) (without_way w left) (count + 1))

@@ -25,6 +25,7 @@ pub record World : Type 0 where
 abbrev pub at_work : State → World
 at_work s = record { state = s; doing = λ n. None }
 
+-- What happens at one time: a call begins, makes a moment or ends, or a node dies.
 pub data Beat : Type 0 where
   Begins : (node : ℕ) (call : WireCall) (choice : Choice) → Beat
   Makes : (node : ℕ) (moment : Moment) → Beat
@@ -37,12 +38,13 @@ abbrev pub miscalled : State → ℕ → WireCall → Option Refusal
 miscalled s node (wire_calls.Port call) = misnamed s.fixed node call
 miscalled s node (Forget dead) = not_dead s dead
 
+-- why a call may not begin: the node, a call under way, what the call names
 abbrev pub begin_refusal : World → ℕ → WireCall → Option Refusal
 begin_refusal w node call =
     or_else (not_living w.state node)
     (or_else (refused_if (is_some (w.doing node)) Busy) (miscalled w.state node call))
 
--- a wire counts its accesses, and no call is refused for their number
+-- a wire counts accesses in place of calls, so that no call is refused as spent
 abbrev pub wire_start : State → ℕ → Choice → WireCall → Doing
 wire_start s node c (wire_calls.Port call) = start s node c call
 wire_start s node c (Forget dead) = Ended (Forgets dead)
@@ -81,6 +83,7 @@ IsBeat w (Ends node reply payload) w' =
 IsBeat w (Dies node) w' =
     (not_living w.state node ≡ None) × (w' ≡ record w { state = with_death w.state node })
 
+-- from a world, these beats may come one after another, and lead to that world
 abbrev pub IsWeave : World → List Beat → World → Type 0
 IsWeave w [] w' = w' ≡ w
 IsWeave w (b ∷ bs) w' = (mid : World) × IsBeat w b mid × IsWeave mid bs w'

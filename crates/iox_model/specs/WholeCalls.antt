@@ -43,6 +43,7 @@ replied f node (Forgets dead) = Done
 abbrev pub default_payload : Shape → ℕ → List ℕ
 default_payload x k = flat_map (λ n. unwrap_or x.default []) (range_with_len 0 k)
 
+-- the payload that a new loan may hold
 abbrev pub PayloadMayBe : (uninit on_wire : Bool) → Shape → ℕ → List ℕ → Type 0
 -- a loan that is handed out unfilled holds nothing
 PayloadMayBe true on_wire x k payload = payload ≡ []

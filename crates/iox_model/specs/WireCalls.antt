@@ -1,5 +1,8 @@
 -- The calls of a wire, where a payload is words alone, and what its opening asks.
 use Rattle.iox_model.specs.declared.call.Call as the_call
+use Rattle.iox_model.specs.declared.call.WireCall as the_wire_call
+use Rattle.iox_model.specs.declared.call.WireCall.TheVariants as wire_calls
+use Rattle.iox_model.specs.declared.call.WireCall.TheVariants.{Forget}
 use Rattle.std.specs.Prelude.{ℕ, ◌*◌, ◌/◌, ◌^◌, Bool, true, not, ◌&&◌, ◌||◌, if◌then◌else◌, ◌==◌, nat_lt, nat_le, List, [], ◌++◌, length, map, Option, Some, None, is_some}
 use Rattle.std.specs.List.{list_any}
 use Rattle.iox_model.specs.declared.kind.Role.TheVariants.{Client, Server}
@@ -12,7 +15,7 @@ use Rattle.iox_model.specs.States.{Fixed, State}
 use Rattle.iox_model.specs.Handles.{is_request_loan, subject, Subject, ThePort, TheHandle}
 use Rattle.iox_model.specs.WholeCalls.{shape_of_loan}
 use Rattle.iox_model.specs.Maps.{is_empty, or_else, refused_if}
-use Rattle.iox_model.specs.Commands.{Refusal, Call, Payload}
+use Rattle.iox_model.specs.Commands.{Refusal, Call, WireCall, Payload}
 
 -- how many elements these words are, if they are a whole number of elements
 abbrev pub whole_number : ℕ → ℕ → Option ℕ
@@ -20,7 +23,8 @@ whole_number width n =
     if width == 0 then (if n == 0 then Some 0 else None)
     else (if (n / width) * width == n then Some (n / width) else None)
 
--- elements without words count as none, and where a message has one element as that one
+-- where elements have no words, no words are no elements of a list, and the one element of a
+-- message that has one
 abbrev pub elements_of : Shape → List ℕ → Option ℕ
 elements_of x words =
     if not x.many && ((x.width == 0) && is_empty words) then Some 1
@@ -44,21 +48,41 @@ written_payload f (Some (TheHandle h)) words = record {
 }
 written_payload f subject words = record { role = Client; elements = None; words = words }
 
--- what a node says by a call with words
+-- the same call with other payloads, made from the number that it names and the payload that it had
+abbrev pub with_payloads : {P Q : Type 0} → (write copy : ℕ → P → Q) → the_call.Call P → the_call.Call Q
+with_payloads write copy (Loan n k) = Loan n k
+with_payloads write copy (LoanUninit n k) = LoanUninit n k
+with_payloads write copy (Write n p) = Write n (write n p)
+with_payloads write copy (Send n) = Send n
+with_payloads write copy (SendCopy n p) = SendCopy n (copy n p)
+with_payloads write copy (Receive n) = Receive n
+with_payloads write copy (Read n) = Read n
+with_payloads write copy (Release n) = Release n
+with_payloads write copy (IsConnected n) = IsConnected n
+with_payloads write copy (SetHint n) = SetHint n
+with_payloads write copy (HasHint n) = HasHint n
+with_payloads write copy (HasRequests n) = HasRequests n
+with_payloads write copy (HasResponse n) = HasResponse n
+
+-- what a node says by a call with words, and the words of such a call
 abbrev pub said : Fixed → ℕ → the_call.Call (List ℕ) → Call
-said f node (Loan n k) = Loan n k
-said f node (LoanUninit n k) = LoanUninit n k
-said f node (Write n words) = Write n (written_payload f (subject f node n) words)
-said f node (Send n) = Send n
-said f node (SendCopy n words) = SendCopy n (copied_payload f (subject f node n) words)
-said f node (Receive n) = Receive n
-said f node (Read n) = Read n
-said f node (Release n) = Release n
-said f node (IsConnected n) = IsConnected n
-said f node (SetHint n) = SetHint n
-said f node (HasHint n) = HasHint n
-said f node (HasRequests n) = HasRequests n
-said f node (HasResponse n) = HasResponse n
+said f node =
+    with_payloads (λ n. written_payload f (subject f node n)) (λ n. copied_payload f (subject f node n))
+
+abbrev pub in_words : Call → the_call.Call (List ℕ)
+in_words = with_payloads (λ n p. p.words) (λ n p. p.words)
+
+-- the same of a call of a wire
+abbrev pub WordsCall : Type 0
+WordsCall = the_wire_call.WireCall (List ℕ)
+
+abbrev pub said_on_wire : Fixed → ℕ → WordsCall → WireCall
+said_on_wire f node (wire_calls.Port call) = wire_calls.Port (said f node call)
+said_on_wire f node (Forget dead) = Forget dead
+
+abbrev pub in_wire_words : WireCall → WordsCall
+in_wire_words (wire_calls.Port call) = wire_calls.Port (in_words call)
+in_wire_words (Forget dead) = Forget dead
 
 -- ---- the opening of a wire
 

@@ -1,5 +1,4 @@
 //! The one machine that copies messages: its commands, replies and moments, and its definitions.
-//! The functions have nothing to do: each is there for its contract.
 #![tactic(auto)]
 
 pub mod backpressure;
@@ -7,7 +6,5 @@ pub mod call;
 pub mod command;
 pub mod event;
 pub mod kind;
-pub mod laws;
 pub mod reply;
 pub mod way;
-pub mod worked;

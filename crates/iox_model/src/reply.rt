@@ -49,9 +49,11 @@ pub enum Refusal<C> {
     Busy,
     AtRest,
     AccessesSpent,
+    // a begin of a call that threads do not have
+    NotOnThreads,
 }
 
-/// What is answered, with lists `L` of numbers.
+/// What a command of a service is answered, with lists `L` of numbers.
 pub enum Reply<L, C> {
     /// A node joined, with this number.
     Node(u64),
@@ -73,5 +75,26 @@ pub enum Reply<L, C> {
     Answer(bool),
     /// The numbers asked for, ascending.
     Listed(L),
+    Refused(Refusal<C>),
+}
+
+/// What a command of a hub is answered, with lists `L` of numbers.
+pub enum PortReply<L, C> {
+    /// A client was made, with this number.
+    Client(u64),
+    /// A server was made, with this number.
+    Server(u64),
+    /// A handle was made, with this number.
+    Handle(u64),
+    /// A loaned request was sent, to so many servers.
+    Sent(u64),
+    /// It was done.
+    Done,
+    /// Nothing was there to receive.
+    Nothing,
+    /// The words of a message.
+    Words(L),
+    /// The answer to a question.
+    Answer(bool),
     Refused(Refusal<C>),
 }

@@ -4,3 +4,4 @@ pub mod Received
 pub mod Sending
 pub mod Sent
 pub mod Overflowing
+pub mod WorkedPlainHolds

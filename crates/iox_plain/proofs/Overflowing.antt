@@ -7,7 +7,7 @@ use Rattle.iox_model.specs.declared.way.Way.{Way}
 use Rattle.iox_model.specs.declared.call.Call.TheVariants.{Send}
 use Rattle.iox_model.specs.declared.reply.Refusal.TheVariants.{UnknownNumber, ExceedsMaxActiveRequests}
 use Rattle.iox_plain.specs.Sends.{without_all, emptied_at, emptied, opened_at}
-use Rattle.iox_plain.specs.Overflows.{evicted_from, pushed, pushed_to, sent_over, sent_over_to, EachOverflowingSendIsWhole}
+use Rattle.iox_plain.specs.Overflows.{NotOver, evicted_from, pushed, pushed_to, sent_over, sent_over_to, EachOverflowingSendIsWhole}
 use Rattle.iox_plain.specs.Answers.{answered}
 use Rattle.iox_plain.proofs.Sent.{doing_by}
 use Rattle.iox_plain.proofs.Received.{ample}
@@ -26,7 +26,7 @@ use Rattle.iox_model.specs.Begins.{begins_at, start}
 use Rattle.iox_model.specs.Messages.{request_way, response_way, serials_of, Message}
 use Rattle.iox_model.specs.Responses.{sends_response}
 use Rattle.iox_model.specs.Peers.{role_at, others, buffer_on, overflows_on}
-use Rattle.iox_model.proofs.MapLemmas.{either, same_way-refl, is_in-first, same_way-flip, put_twice, put_there, put-else, put_same}
+use Rattle.iox_weaves.proofs.MapLemmas.{either, same_way-refl, is_in-first, same_way-flip, put_twice, put_there, put-else, put_same}
 
 -- ---- one eviction
 
@@ -66,10 +66,6 @@ evicts t node x w ws count (m ∷ ms) hand e over =
     (evicted_is t w m ms hand e) (stays _ _ _)))
 
 -- ---- all deliveries
-
-abbrev NotOver : State → List Way → Type 0
-NotOver s [] = Unit {0}
-NotOver s (w ∷ ws) = (is_overfull s w ≡ false) × NotOver s ws
 
 or_parts : (a b : Bool) → (a || b) ≡ false → (a ≡ false) × (b ≡ false)
 or_parts true b e = absurd (true≢false e)
@@ -169,9 +165,9 @@ opened-same : (s : State) (id : ℕ) (ws : List Way)
 opened-same s id [] = (refl, (refl, refl))
 opened-same s id (w ∷ ws) = opened-same (moved s (Open w id)) id ws
 
-all_not_over : (s : State) (ws : List Way) → ((w : Way) → is_overfull s w ≡ false) → NotOver s ws
-all_not_over s [] p = tt
-all_not_over s (w ∷ ws) p = (p w, all_not_over s ws p)
+all_not_over : (s u : State) (ws : List Way) → ((w : Way) → is_overfull u w ≡ is_overfull s w) → NotOver s ws → NotOver u ws
+all_not_over s u [] same p = tt
+all_not_over s u (w ∷ ws) same p = (same w ∙ p.0, all_not_over s u ws same p.1)
 
 requests_overflow : (s : State) (port : ℕ) (ns : List ℕ) → overflow_of s.fixed.limits (role_at s.fixed port) ≡ true → Overflow s (map (request_way port) ns)
 requests_overflow s port [] e = tt
@@ -181,7 +177,7 @@ no_one_full : (ws : List Way) → not_in [] ws ≡ ws
 no_one_full [] = refl
 no_one_full (w ∷ ws) = ap (λ vs. w ∷ vs) (no_one_full ws)
 
-sends_over : (s : State) (node : ℕ) (x : Sending) → x.overflow ≡ true → NoneInHand s → ((w : Way) → is_overfull s w ≡ false)
+sends_over : (s : State) (node : ℕ) (x : Sending) → x.overflow ≡ true → NoneInHand s → NotOver s (targets x)
     → Overflow s (targets x) → AreApart (targets x) → Ends s node (emptying x (targets x)) (sent_over s x).1 x (length (targets x))
 sends_over s node x on hand p room apart =
     let to : List Way = targets x in
@@ -195,7 +191,7 @@ sends_over s node x on hand p room apart =
     let opens_next : emptying x [] ≡ opening x (to_open x) [] = ap (λ (c : Bool). if c then opening x (to_open x) [] else looking x (targets x) []) on in
     let last : Ends u node (Delivering x None to 0) (pushed_to u x.loan.message to) x (0 + length to)
     = pushes u node x None to 0 on refl (overflow_after s u to fixed room) (λ w. ap (λ (f : Way → List ℕ). f w) held ∙ hand w)
-    (all_not_over u to (λ w. ap₂ (λ (f : Fixed) (g : Way → List Message). nat_lt (buffer_on f w) (length (g w))) fixed waits ∙ p w)) apart in
+    (all_not_over s u to (λ w. ap₂ (λ (f : Fixed) (g : Way → List Message). nat_lt (buffer_on f w) (length (g w))) fixed waits) p) apart in
     let number : 0 + length to ≡ length to = omega arith in (
       last.0,
       joins s node (emptying x to) t (emptying x []) _ _ (empties s node x to hand)
@@ -232,4 +228,4 @@ each_overflowing_send_is_whole s node n h is request on apart hand p =
     ∙ ap (λ (ws : List Way). if is_active_spent s.fixed h then Ended (FailsToSend h false ExceedsMaxActiveRequests) else emptying x ws) (sym to) in
     whole s node (Send n) (answered s node (sent_over_to s h servers))
     (by_limit_over s node n h x (is_active_spent s.fixed h) starts
-    (sends_over s node x on hand p (subst (Overflow s) (sym to) (requests_overflow s h.port servers on)) (subst AreApart (sym to) apart)))
+    (sends_over s node x on hand (subst (NotOver s) (sym to) p) (subst (Overflow s) (sym to) (requests_overflow s h.port servers on)) (subst AreApart (sym to) apart)))

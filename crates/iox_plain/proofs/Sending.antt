@@ -13,7 +13,7 @@ use Rattle.iox_model.specs.Maps.{is_empty, first_of, rest_of, put_at, same_way, 
 use Rattle.iox_model.specs.Moments.{moved, Deliver, GetBack, SeesFull, SeesRoom, SeesNoneBack, Open}
 use Rattle.iox_model.specs.Messages.{Message}
 use Rattle.iox_model.specs.Peers.{buffer_on}
-use Rattle.iox_model.proofs.MapLemmas.{same_way-refl, is_in-first, eqb-refl, same_way-true, same_way-flip, put_twice, put_there, put-else, put_same}
+use Rattle.iox_weaves.proofs.MapLemmas.{same_way-refl, is_in-first, eqb-refl, same_way-true, same_way-flip, put_twice, put_there, put-else, put_same}
 
 -- ---- emptying one way
 

@@ -12,8 +12,8 @@ use Rattle.iox_model.specs.Maps.{is_empty, first_of, rest_of, put, without_way}
 use Rattle.iox_model.specs.Moments.{moved, Take, GiveBack, SeesEmpty, SeesWaiting, Look}
 use Rattle.iox_model.specs.Messages.{serials_of, names, Message}
 use Rattle.iox_model.specs.Peers.{is_counted_on}
-use Rattle.iox_model.proofs.Plays.{back}
-use Rattle.iox_model.proofs.MapLemmas.{same_way-refl, is_in-first, eqb-refl, put_twice, put_there, put_same, nobody_is_forgotten}
+use Rattle.iox_weaves.proofs.Plays.{back}
+use Rattle.iox_weaves.proofs.MapLemmas.{same_way-refl, is_in-first, eqb-refl, put_twice, put_there, put_same, nobody_is_forgotten}
 
 -- ---- what was taken fits or is given back
 

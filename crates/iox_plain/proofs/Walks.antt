@@ -12,8 +12,8 @@ use Rattle.iox_model.specs.Moments.{Holds, moved, Moment}
 use Rattle.iox_model.specs.Begins.{start, MayChoose}
 use Rattle.iox_model.specs.Commands.{Refusal, Reply, Call}
 use Rattle.iox_model.specs.Steps.{next, ends}
-use Rattle.iox_model.proofs.PlayedWeaves.{may}
-use Rattle.iox_model.proofs.PlayedCalls.{ended}
+use Rattle.iox_weaves.proofs.PlayedWeaves.{may}
+use Rattle.iox_weaves.proofs.PlayedCalls.{ended}
 
 pub moved_by-append : (s : State) (ms ns : List Moment) → moved_by s (ms ++ ns) ≡ moved_by (moved_by s ms) ns
 moved_by-append s [] ns = refl

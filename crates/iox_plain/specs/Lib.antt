@@ -3,3 +3,5 @@ pub mod Answers
 pub mod Searches
 pub mod Sends
 pub mod Overflows
+-- examples
+pub mod WorkedPlain

@@ -1,5 +1,5 @@
 -- The send of a request with overflow as a function of lists.
-use Rattle.std.specs.Prelude.{◌≡◌, ℕ, true, false, if◌then◌else◌, List, [], ◌∷◌, length, map, Some, take}
+use Rattle.std.specs.Prelude.{◌≡◌, ℕ, true, false, if◌then◌else◌, List, [], ◌∷◌, length, map, Some, take, ⊤}
 use Rattle.iox_model.specs.declared.kind.Role.TheVariants.{Server}
 use Rattle.iox_model.specs.declared.way.Way.{Way}
 use Rattle.iox_model.specs.declared.call.Call.TheVariants.{Send}
@@ -17,6 +17,11 @@ use Rattle.iox_model.specs.Moments.{is_overfull, moved, Deliver}
 use Rattle.iox_model.specs.Commands.{Reply}
 use Rattle.iox_model.specs.Messages.{request_way, serials_of, Message}
 use Rattle.iox_model.specs.Peers.{role_at, others}
+
+-- nowhere on these ways one too many waits
+abbrev pub NotOver : State → List Way → Type 0
+NotOver s [] = ⊤
+NotOver s (w ∷ ws) = (is_overfull s w ≡ false) × NotOver s ws
 
 -- the first in line is given up, and outstanding no more
 abbrev pub evicted_from : State → Way → State
@@ -53,13 +58,14 @@ sent_over_by s node n h =
     unless_misnamed s node (Send n)
     (answered s node (sent_over_to s h (others s.fixed h.node Server)))
 
--- It is a whole call, where requests overflow, the servers' numbers differ, nothing is in hand, and
--- nowhere one too many waits, as it is between whole calls.
+-- It is a whole call, where requests overflow, the servers' numbers differ, nothing is in hand, and on
+-- none of its targets one too many waits, as it is between whole calls.
 abbrev pub EachOverflowingSendIsWhole : Type 0
 EachOverflowingSendIsWhole =
     (s : State) (node n : ℕ) (h : Handle) → subject s.fixed node n ≡ Some (TheHandle h)
     → is_request_loan h.kind ≡ true
     → overflow_of s.fixed.limits (role_at s.fixed h.port) ≡ true
     → AreApart (map (request_way h.port) (others s.fixed h.node Server))
-    → ((w : Way) → s.in_hand w ≡ []) → ((w : Way) → is_overfull s w ≡ false)
+    → ((w : Way) → s.in_hand w ≡ [])
+    → NotOver s (map (request_way h.port) (others s.fixed h.node Server))
     → IsWholeCall s node (Send n) (sent_over_by s node n h).0 (sent_over_by s node n h).1

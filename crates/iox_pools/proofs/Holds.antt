@@ -10,11 +10,11 @@ use Rattle.iox_model.specs.Handles.{is_own, is_request_loan, is_response_loan, i
 use Rattle.iox_model.specs.Maps.{has_number, put_at}
 use Rattle.iox_model.specs.Counts.{sent_handle, holding}
 use Rattle.iox_model.specs.Outstandings.{is_held}
-use Rattle.iox_model.specs.Ledgers.{serials_of_loan, serials_of_outcome}
+use Rattle.iox_model.specs.Keeping.{serials_of_loan, serials_of_outcome}
 use Rattle.iox_model.specs.Peers.{node_of_port}
-use Rattle.iox_model.proofs.PlayedRuns.{split}
-use Rattle.iox_model.proofs.MapLemmas.{either}
-use Rattle.iox_model.proofs.WholeLemmas.{put_at-here}
+use Rattle.iox_weaves.proofs.WholeLemmas.{split}
+use Rattle.iox_weaves.proofs.MapLemmas.{either}
+use Rattle.iox_weaves.proofs.WholeLemmas.{put_at-here}
 use Rattle.iox_ledger.proofs.Truths.{both_true}
 use Rattle.iox_ledger.proofs.Lists.{IsAmong, NoRepeats, among-last, filter-among, among-filter, any-among, among-any}
 use Rattle.iox_ledger.proofs.Views.{View, view, IsAt, plus, counted, lends_one, swapped, less, taken_handle, after_call}

@@ -13,12 +13,12 @@ use Rattle.iox_model.specs.Forgetting.{goes_to_dead}
 use Rattle.iox_model.specs.Loans.{Choice}
 use Rattle.iox_model.specs.Moments.{moved, Moment}
 use Rattle.iox_model.specs.Outstandings.{is_held, is_outstanding, kept, is_dry}
-use Rattle.iox_model.specs.Ledgers.{serials_of_loan, under_way, kept_in}
+use Rattle.iox_model.specs.Keeping.{serials_of_loan, under_way, kept_in}
 use Rattle.iox_model.specs.Steps.{next, ends}
 use Rattle.iox_model.specs.WireCalls.{opened}
 use Rattle.iox_model.specs.Weaves.{at_work, wire_start, begun, made, over, IsBeat, IsWeave, World, Beat, Begins, Makes, Ends, Dies}
 use Rattle.iox_model.specs.Peers.{port_at, node_of_port, ways_from}
-use Rattle.iox_model.proofs.WholeLemmas.{moved-fixed}
+use Rattle.iox_weaves.proofs.WholeLemmas.{moved-fixed}
 use Rattle.iox_ledger.specs.OnceLaws.{IsOnWire}
 use Rattle.iox_ledger.proofs.Orders.{same, same-le, less}
 use Rattle.iox_ledger.proofs.Ranges.{no-longer}

@@ -9,11 +9,11 @@ use Rattle.iox_model.specs.States.{Port, Handle, Fixed, State}
 use Rattle.iox_model.specs.Maps.{has_number, same_way}
 use Rattle.iox_model.specs.Moments.{Moment, Deliver}
 use Rattle.iox_model.specs.Outstandings.{is_held, is_outstanding, is_kept}
-use Rattle.iox_model.specs.Ledgers.{serials_of_loan, under_way, kept_in}
+use Rattle.iox_model.specs.Keeping.{serials_of_loan, under_way, kept_in}
 use Rattle.iox_model.specs.Steps.{next}
 use Rattle.iox_model.specs.Weaves.{World}
 use Rattle.iox_model.specs.Peers.{node_of_port}
-use Rattle.iox_model.proofs.MapLemmas.{same_way-true}
+use Rattle.iox_weaves.proofs.MapLemmas.{same_way-true}
 use Rattle.iox_ledger.proofs.Orders.{at-most, same}
 use Rattle.iox_ledger.proofs.Ranges.{no-longer, range-apart, up-to}
 use Rattle.iox_ledger.proofs.Truths.{one_of, or-left, or-right}

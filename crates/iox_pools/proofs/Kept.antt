@@ -19,8 +19,8 @@ use Rattle.iox_model.specs.Messages.{request_way, response_way}
 use Rattle.iox_model.specs.Makings.{pool_of_client, pool_of_server}
 use Rattle.iox_model.specs.Outstandings.{outstanding_on, is_held, is_outstanding, kept}
 use Rattle.iox_model.specs.Peers.{port_at, lanes_of, ports_of_role, ways_from_client, lanes_to, ways_from_server, ways_from}
-use Rattle.iox_model.proofs.PlayedRuns.{split}
-use Rattle.iox_model.proofs.WholeLemmas.{some-is}
+use Rattle.iox_weaves.proofs.WholeLemmas.{split}
+use Rattle.iox_weaves.proofs.WholeLemmas.{some-is}
 use Rattle.iox_ledger.proofs.Orders.{at-most, same-le}
 use Rattle.iox_ledger.proofs.Truths.{both_true}
 use Rattle.iox_ledger.proofs.Counts.{count, count-fewer}

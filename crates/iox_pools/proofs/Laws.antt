@@ -10,11 +10,12 @@ use Rattle.iox_model.specs.Outstandings.{kept}
 use Rattle.iox_model.specs.Responses.{sends}
 use Rattle.iox_model.specs.Begins.{start}
 use Rattle.iox_model.specs.Weaves.{begun, IsWeave, World, Beat}
-use Rattle.iox_model.specs.Ledgers.{under_way, kept_in}
-use Rattle.iox_reachable.specs.Worlds.{IsServed, IsReachable}
-use Rattle.iox_reachable.proofs.ServedPorts.{served_ports}
+use Rattle.iox_model.specs.Keeping.{under_way, kept_in}
+use Rattle.iox_model.specs.Runs.{IsReachableState}
+use Rattle.iox_reachable.specs.Worlds.{IsReachable}
+use Rattle.iox_reachable.proofs.ReachedPorts.{reached_ports}
 use Rattle.iox_ledger.specs.OnceLaws.{IsOnWire}
-use Rattle.iox_model.proofs.WholeLemmas.{some-is, or_else-none, put_at-here}
+use Rattle.iox_weaves.proofs.WholeLemmas.{some-is, or_else-none, put_at-here}
 use Rattle.iox_ledger.proofs.Views.{view}
 use Rattle.iox_ledger.proofs.Worlds.{begin-none}
 use Rattle.iox_pools.specs.PoolLaws.{HasAllBack, KeepsLess, LoanSucceeds, lender, BeginsSucceed, NeverOutOfMemory, PoolsHold, NextIsFresh}
@@ -26,22 +27,22 @@ use Rattle.iox_pools.proofs.HoldsBeats.{on-wire-keeping, fresh}
 use Rattle.iox_pools.proofs.Worlds.{Holding, on-wire-holds, replied-if}
 
 -- a world that may come about is on the wire of a service
-record IsOnServed (v : World) : Type 0 where
+record IsOnReached (v : World) : Type 0 where
   pub state : State
   pub beats : List Beat
-  pub served : IsServed state
+  pub reached : IsReachableState state
   pub on : IsOnWire state beats v
 
-on-served : (v : World) → IsReachable v → IsOnServed v
-on-served v reach = record {
+on-reached : (v : World) → IsReachable v → IsOnReached v
+on-reached v reach = record {
   state = reach.2.0;
   beats = reach.1;
-  served = reach.2.1;
-  on = (served_ports reach.2.0 reach.2.1, subst (λ (w : World). IsWeave w reach.1 v) reach.2.2 reach.3);
+  reached = reach.2.1;
+  on = (reached_ports reach.2.0 reach.2.1, subst (λ (w : World). IsWeave w reach.1 v) reach.2.3 reach.3);
 }
 
-holds-at : (v : World) (x : IsOnServed v) → Holding v
-holds-at v x = on-wire-holds x.state v x.beats x.served x.on
+holds-at : (v : World) (x : IsOnReached v) → Holding v
+holds-at v x = on-wire-holds x.state v x.beats x.reached x.on
 
 -- ---- a loan that got back all there is
 
@@ -59,7 +60,7 @@ kept-at-pick v node copies h loan back =
 
 pub keeps_less : KeepsLess
 keeps_less v node copies h p reach back is enough =
-    let x : IsOnServed v = on-served v reach in
+    let x : IsOnReached v = on-reached v reach in
     let holds : Holding v = holds-at v x in
     let loan : IsLoanOf v.state.fixed node h = loan-at-pick v node copies h holds back in
     subst (λ (ks : List ℕ). length ks < p.pool) (sym (kept-at-pick v node copies h loan back))
@@ -67,7 +68,7 @@ keeps_less v node copies h p reach back is enough =
 
 pub loan_succeeds : LoanSucceeds
 loan_succeeds v node copies h p reach back is enough =
-    let x : IsOnServed v = on-served v reach in
+    let x : IsOnReached v = on-reached v reach in
     let holds : Holding v = holds-at v x in
     ap (λ (b : Bool). if b then refused OutOfMemory else (if copies then sends v.state.fixed h true else Ended (Loans h)))
     (gives x.state v x.beats node h p x.on holds.fits holds.spares back.0 (loan-at-pick v node copies h holds back)
@@ -77,7 +78,7 @@ loan_succeeds v node copies h p reach back is enough =
 
 pub begins_succeed : BeginsSucceed
 begins_succeed v u node call c x p reach beat is there enough out =
-    let w : IsOnServed v = on-served v reach in
+    let w : IsOnReached v = on-reached v reach in
     let holds : Holding v = holds-at v w in
     let dry : DryAtOnce v.state node (λ q. q ≡ lender x) ⊥
     = gives-at-once w.state v w.beats node (lender x) p w.on holds.fits holds.spares (or_else-none _ _ beat.0).0 there enough in
@@ -93,7 +94,7 @@ begins_succeed v u node call c x p reach beat is there enough out =
 
 pub never_out_of_memory : NeverOutOfMemory
 never_out_of_memory v u node payload reach all beat =
-    let x : IsOnServed v = on-served v reach in
+    let x : IsOnReached v = on-reached v reach in
     let holds : Holding v = holds-at v x in
     let out : Type 0 = Reduced (view v.state.fixed node) node in
     let p : SpareOutcome (view v.state.fixed node) (Gone v.state) out beat.3
@@ -104,10 +105,10 @@ never_out_of_memory v u node payload reach all beat =
 
 pub pools_hold : PoolsHold
 pools_hold v port p reach is =
-    let x : IsOnServed v = on-served v reach in
+    let x : IsOnReached v = on-reached v reach in
     (on-wire-keeping x.state v x.beats port p x.on is).fits
 
 pub next_is_fresh : NextIsFresh
 next_is_fresh v port p reach is none =
-    let x : IsOnServed v = on-served v reach in
+    let x : IsOnReached v = on-reached v reach in
     fresh v port p (on-wire-keeping x.state v x.beats port p x.on is) none

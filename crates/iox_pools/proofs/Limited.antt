@@ -16,15 +16,15 @@ use Rattle.iox_model.specs.Makings.{pool_of_client, most_ports, chosen_pool, mak
 use Rattle.iox_model.specs.Runs.{raised}
 use Rattle.iox_model.specs.Commands.{Refusal, Options}
 use Rattle.iox_model.specs.Peers.{ports_of_role}
-use Rattle.iox_model.proofs.MapLemmas.{either}
-use Rattle.iox_model.proofs.WholeLemmas.{or_else-none}
-use Rattle.iox_reachable.specs.Worlds.{IsServed}
+use Rattle.iox_weaves.proofs.MapLemmas.{either}
+use Rattle.iox_weaves.proofs.WholeLemmas.{or_else-none}
+use Rattle.iox_model.specs.Runs.{IsReachableState}
 use Rattle.iox_ledger.proofs.Orders.{less, at-most}
 use Rattle.iox_ledger.proofs.Counts.{count-filter, count, one_if, count-cons, count-last}
 use Rattle.iox_ledger.proofs.Truths.{none-some}
 use Rattle.iox_ledger.proofs.Lists.{IsAmong, among-last, filter-among}
 use Rattle.iox_reachable.proofs.PortsKept.{IsSteady, settled_says, is_kept}
-use Rattle.iox_reachable.proofs.Inductions.{served_keeps}
+use Rattle.iox_reachable.proofs.Inductions.{reached_keeps}
 
 -- no more ports of a role than the limit, and no client with more lanes than it ever needs
 pub record Within (l : Limits) (ports : List Port) : Type 0 where
@@ -150,10 +150,10 @@ created-within l = record {
     one : (a b c : ℕ) → 1 ≤ a → 1 ≤ a + b + c
     one a b c e = omega arith
 
--- What a run of a service left keeps to its limits.
-pub served_within : (s : State) → IsServed s → IsWithin s.fixed
-served_within =
-    served_keeps (λ t. IsWithin t.fixed)
+-- What a service and its hub come to keeps to its limits.
+pub reached_within : (s : State) → IsReachableState s → IsWithin s.fixed
+reached_within =
+    reached_keeps (λ t. IsWithin t.fixed)
     (is_kept (λ l ps n. Within l ps) steady
     (λ f node role id o memory allowed. within-made f node role id o (room-for f role o memory allowed)))
     (λ l acts id. created-within l)

@@ -17,7 +17,7 @@ use Rattle.iox_model.specs.Maps.{has_number, put}
 use Rattle.iox_model.specs.Messages.{Message}
 use Rattle.iox_model.specs.Names.{is_port}
 use Rattle.iox_model.specs.Counts.{sent_handle, holding}
-use Rattle.iox_model.proofs.MapLemmas.{either}
+use Rattle.iox_weaves.proofs.MapLemmas.{either}
 use Rattle.iox_ledger.proofs.Truths.{and-flip}
 use Rattle.iox_ledger.proofs.Tallies.{filter-twice, filter-same}
 use Rattle.iox_ledger.proofs.Counts.{count-with, count, one_if, count-last, count-less}

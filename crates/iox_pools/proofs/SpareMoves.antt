@@ -24,8 +24,8 @@ use Rattle.iox_model.specs.Outstandings.{kept, is_dry}
 use Rattle.iox_model.specs.Peers.{others, forgot_port}
 use Rattle.iox_model.specs.Moments.{Moment, Deliver, Evict, Take, GiveBack, GetBack, SeesEmpty, SeesWaiting, SeesFull, SeesRoom, SeesNoneBack, Open, Close, Hint, Look}
 use Rattle.iox_model.specs.Steps.{next, ends}
-use Rattle.iox_model.proofs.MapLemmas.{either}
-use Rattle.iox_model.proofs.WholeLemmas.{some-is}
+use Rattle.iox_weaves.proofs.MapLemmas.{either}
+use Rattle.iox_weaves.proofs.WholeLemmas.{some-is}
 use Rattle.iox_ledger.proofs.Orders.{less}
 use Rattle.iox_ledger.proofs.Truths.{none-some}
 use Rattle.iox_ledger.proofs.Views.{View, view, IsAt}

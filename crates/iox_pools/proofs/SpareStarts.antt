@@ -28,9 +28,9 @@ use Rattle.iox_model.specs.Commands.{Refusal, Call, WireCall, number_of}
 use Rattle.iox_model.specs.Outstandings.{kept, is_dry}
 use Rattle.iox_model.specs.Joins.{node_at, not_living, not_dead}
 use Rattle.iox_model.specs.Peers.{port_at, forgot_port}
-use Rattle.iox_model.proofs.PlayedRuns.{split}
-use Rattle.iox_model.proofs.MapLemmas.{either}
-use Rattle.iox_model.proofs.WholeLemmas.{or_else-none}
+use Rattle.iox_weaves.proofs.WholeLemmas.{split}
+use Rattle.iox_weaves.proofs.MapLemmas.{either}
+use Rattle.iox_weaves.proofs.WholeLemmas.{or_else-none}
 use Rattle.iox_ledger.proofs.Orders.{less}
 use Rattle.iox_ledger.proofs.Truths.{none-some, passed}
 use Rattle.iox_ledger.proofs.Lists.{IsAmong, find-among}

@@ -12,7 +12,7 @@ use Rattle.iox_model.specs.Doings.{Doing, Loaning}
 use Rattle.iox_model.specs.Moments.{Holds, Moment, SeesNoneBack}
 use Rattle.iox_model.specs.Weaves.{World, Beat}
 use Rattle.iox_model.specs.Peers.{port_at}
-use Rattle.iox_model.proofs.MapLemmas.{same_way-true}
+use Rattle.iox_weaves.proofs.MapLemmas.{same_way-true}
 use Rattle.iox_ledger.specs.OnceLaws.{IsOnWire}
 use Rattle.iox_ledger.proofs.Lists.{IsAmong, find-among, way-among}
 use Rattle.iox_ledger.proofs.Views.{View, view}

@@ -5,7 +5,7 @@ use Rattle.iox_model.specs.declared.call.Call.TheVariants.{Loan, SendCopy, Recei
 use Rattle.iox_model.specs.declared.call.WireCall.TheVariants as wire_calls
 use Rattle.iox_model.specs.declared.backpressure.BackpressureStrategy.TheVariants as strategies
 use Rattle.iox_model.specs.declared.backpressure.BackpressureAction.TheVariants as actions
-use Rattle.iox_model.specs.EvictionWeaves.{ones}
+use Rattle.iox_worked.specs.EvictionWeaves.{ones}
 use Rattle.iox_model.specs.declared.way.Way.{Way}
 use Rattle.iox_model.specs.Loans.{loan_of}
 use Rattle.iox_model.specs.Responses.{ordered}
@@ -17,10 +17,12 @@ use Rattle.iox_model.specs.Weaves.{at_work, World}
 use Rattle.iox_model.specs.Settings.{Limits}
 use Rattle.iox_model.specs.States.{Port, State}
 use Rattle.iox_model.specs.WireCalls.{opened}
-use Rattle.iox_model.specs.Scripts.{process, service, request_saying, a_response, set_up, is_set_up, of_length_one}
-use Rattle.iox_model.proofs.PlayedWeaves.{world_by, beats_by, is_weave, all_may, Plan, begin, step, stop}
-use Rattle.iox_model.proofs.PlayedRuns.{state_by, is_run_to}
+use Rattle.iox_worked.specs.Scripts.{process, service, request_saying, a_response, set_up, is_set_up, of_length_one}
+use Rattle.iox_weaves.proofs.PlayedWeaves.{world_by, beats_by, is_weave, all_may, Plan, begin, step, stop}
+use Rattle.iox_weaves.proofs.PlayedRuns.{state_by, is_run_to}
+use Rattle.iox_worked.proofs.Shapes.{words_are_shaped}
 use Rattle.iox_reachable.specs.Worlds.{IsReachable}
+use Rattle.iox_reachable.proofs.Inductions.{run_is_reached}
 use Rattle.iox_pools.specs.TightPools.{SomeLoanTakesTheLast, NoLessWouldDo}
 
 -- all limits are 1, and what a full queue cannot take is discarded
@@ -115,14 +117,9 @@ comes-about plan e = (
   beats_by first plan,
   (
     served,
-    (
-      narrow,
-      λ words sender receiver. actions.FollowBackpressureStrategy,
-      process 1,
-      set_up [],
-      is_set_up [],
-      is_run_to (service narrow) (set_up []) (is_set_up []) [] refl refl,
-    ),
+    run_is_reached narrow (λ words sender receiver. actions.FollowBackpressureStrategy) (process 1) (set_up []) (is_set_up []) served
+        (words_are_shaped 56) (words_are_shaped 48) (is_run_to (service narrow) (set_up []) (is_set_up []) [] refl refl),
+    refl,
     refl,
   ),
   is_weave first plan (beats_by first plan) e refl,

@@ -30,10 +30,10 @@ use Rattle.iox_model.specs.Messages.{names, Message}
 use Rattle.iox_model.specs.Moments.{Moment, Deliver, Evict, Take, GiveBack, GetBack, SeesEmpty, SeesWaiting, SeesFull, SeesRoom, SeesNoneBack, Open, Close, Hint, Look}
 use Rattle.iox_model.specs.Outstandings.{kept, is_dry}
 use Rattle.iox_model.specs.Peers.{port_at, others, forgot_port}
-use Rattle.iox_model.specs.Ledgers.{serials_of_loan, serials_of_outcome, under_way}
+use Rattle.iox_model.specs.Keeping.{serials_of_loan, serials_of_outcome, under_way}
 use Rattle.iox_model.specs.Steps.{next, ends}
-use Rattle.iox_model.proofs.MapLemmas.{either}
-use Rattle.iox_model.proofs.WholeLemmas.{some-is}
+use Rattle.iox_weaves.proofs.MapLemmas.{either}
+use Rattle.iox_weaves.proofs.WholeLemmas.{some-is}
 use Rattle.iox_ledger.proofs.Truths.{none-some}
 
 -- each of these serials is as it may be: the first number is the port's

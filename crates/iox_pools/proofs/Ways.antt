@@ -16,7 +16,7 @@ use Rattle.iox_model.specs.Joins.{not_living}
 use Rattle.iox_model.specs.Outstandings.{outstanding_on}
 use Rattle.iox_model.specs.Doings.{Doing, Loaning}
 use Rattle.iox_model.specs.Weaves.{World, Beat}
-use Rattle.iox_model.specs.Ledgers.{had_on, is_emptied_by, is_emptied, is_live}
+use Rattle.iox_weaves.specs.Ledgers.{had_on, is_emptied_by, is_emptied, is_live}
 use Rattle.iox_model.specs.Peers.{port_at, is_connected_port, node_of_port, ports_of_role, ports_of_node, forgot_port, others, is_counted_on, buffer_on, borrow_limit_on, ways_from_client, lanes_to, ways_from_server, ways_from}
 use Rattle.iox_ledger.specs.OnceLaws.{IsOnWire}
 use Rattle.iox_ledger.specs.QueueLaws.{evicts_next, has_evicted}
@@ -31,7 +31,7 @@ use Rattle.iox_ledger.proofs.Borrows.{borrow_limit_holds}
 use Rattle.iox_ledger.proofs.Cleared.{nothing_to_the_dead}
 use Rattle.iox_pools.proofs.SpareStarts.{IsLoanOf, role-is}
 use Rattle.iox_pools.proofs.Kept.{among-flat, of-role, IsWayOf, client-way, server-way, most_out}
-use Rattle.iox_model.proofs.PlayedRuns.{split}
+use Rattle.iox_weaves.proofs.WholeLemmas.{split}
 
 -- ---- where all is back
 

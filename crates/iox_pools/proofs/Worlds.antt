@@ -14,13 +14,13 @@ use Rattle.iox_model.specs.WholeCalls.{replied}
 use Rattle.iox_model.specs.WireCalls.{opened}
 use Rattle.iox_model.specs.Ends.{settled}
 use Rattle.iox_model.specs.Moments.{moved}
-use Rattle.iox_model.specs.Laws.{node_of_beat}
+use Rattle.iox_weaves.specs.Laws.{node_of_beat}
 use Rattle.iox_model.specs.Steps.{next}
 use Rattle.iox_model.specs.Weaves.{at_work, made, over, IsBeat, IsWeave, World, Beat, Begins, Makes, Ends, Dies}
-use Rattle.iox_model.proofs.MapLemmas.{either, eqb-refl}
-use Rattle.iox_model.proofs.WholeLemmas.{moved-fixed, or_else-none}
-use Rattle.iox_model.proofs.DeathLaws.{the_dead_stay_dead}
-use Rattle.iox_reachable.specs.Worlds.{IsServed}
+use Rattle.iox_weaves.proofs.MapLemmas.{either, eqb-refl}
+use Rattle.iox_weaves.proofs.WholeLemmas.{moved-fixed, or_else-none}
+use Rattle.iox_weaves.proofs.DeathLaws.{the_dead_stay_dead}
+use Rattle.iox_model.specs.Runs.{IsReachableState}
 use Rattle.iox_ledger.specs.OnceLaws.{IsOnWire}
 use Rattle.iox_ledger.proofs.Lists.{IsAmong, among-append, number-among, among-number}
 use Rattle.iox_ledger.proofs.Views.{View, view, after_call}
@@ -28,7 +28,7 @@ use Rattle.iox_ledger.proofs.Senders.{FitsHandles, FitsOutcome}
 use Rattle.iox_ledger.proofs.Settling.{settled-here, settled-else}
 use Rattle.iox_ledger.proofs.Moves.{ends-fits}
 use Rattle.iox_ledger.proofs.Worlds.{Fits, opened-fits, doing-is, begin-none, beat-fits}
-use Rattle.iox_pools.proofs.Limited.{IsWithin, settled_keeps, served_within}
+use Rattle.iox_pools.proofs.Limited.{IsWithin, settled_keeps, reached_within}
 use Rattle.iox_pools.proofs.Spare.{FitsKinds, TellsIf, SpareOutcome, fits-end, after-kinds}
 use Rattle.iox_pools.proofs.SpareMoves.{next-spare, ends-spare}
 use Rattle.iox_pools.proofs.SpareStarts.{wire_start-spare}
@@ -220,10 +220,10 @@ opened-spares s within = record {
     none k = omega arith
 
 -- In each world on the wire of a service all that holds.
-pub on-wire-holds : (s : State) (v : World) (bs : List Beat) → IsServed s → IsOnWire s bs v → Holding v
-on-wire-holds s v bs served on =
+pub on-wire-holds : (s : State) (v : World) (bs : List Beat) → IsReachableState s → IsOnWire s bs v → Holding v
+on-wire-holds s v bs reached on =
     weave-holds s (at_work (opened s)) v [] bs (on.0, refl) on.1
-    (record { fits = opened-fits s on.0; spares = opened-spares s (served_within s served) })
+    (record { fits = opened-fits s on.0; spares = opened-spares s (reached_within s reached) })
 
 -- ---- answers
 

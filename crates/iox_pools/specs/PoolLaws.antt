@@ -19,7 +19,7 @@ use Rattle.iox_model.specs.Peers.{port_at, node_of_port}
 use Rattle.iox_model.specs.Joins.{not_living}
 use Rattle.iox_model.specs.Makings.{pool_of_client, pool_of_server, new_port}
 use Rattle.iox_model.specs.Weaves.{IsBeat, World, Begins, Ends}
-use Rattle.iox_model.specs.Ledgers.{under_way, kept_in}
+use Rattle.iox_model.specs.Keeping.{under_way, kept_in}
 use Rattle.iox_reachable.specs.Worlds.{IsReachable}
 
 -- ---- what a port needs

@@ -3,7 +3,7 @@ use Rattle.std.specs.Prelude.{◌≡◌, ℕ, ◌+◌, false, length, Some}
 use Rattle.iox_model.specs.declared.kind.Role.{Role}
 use Rattle.iox_model.specs.States.{Port, Handle}
 use Rattle.iox_model.specs.Weaves.{World}
-use Rattle.iox_model.specs.Ledgers.{kept_in}
+use Rattle.iox_model.specs.Keeping.{kept_in}
 use Rattle.iox_model.specs.Peers.{port_at}
 use Rattle.iox_reachable.specs.Worlds.{IsReachable}
 use Rattle.iox_pools.specs.PoolLaws.{needed_by, HasAllBack}

@@ -23,9 +23,9 @@ use Rattle.iox_model.specs.Outstandings.{kept, is_dry}
 use Rattle.iox_model.specs.Responses.{sends, sends_response, loaning}
 use Rattle.iox_model.specs.Steps.{next, ends}
 use Rattle.iox_model.specs.Peers.{forgot_port, others, buffer_on}
-use Rattle.iox_model.proofs.MapLemmas.{either, same_way-refl, is_in-first, eqb-refl, put_there}
-use Rattle.iox_model.proofs.Plays.{has_room, is_full}
-use Rattle.iox_model.proofs.WholeLemmas.{moved-fixed}
+use Rattle.iox_weaves.proofs.MapLemmas.{either, same_way-refl, is_in-first, eqb-refl, put_there}
+use Rattle.iox_weaves.proofs.Plays.{has_room, is_full}
+use Rattle.iox_weaves.proofs.WholeLemmas.{moved-fixed}
 use Rattle.iox_reachable.proofs.PortLemmas.{AreDistinctPorts}
 use Rattle.iox_reachable.proofs.Sound.{SoundCall}
 use Rattle.iox_reachable.proofs.MovesFit.{moved_sound}

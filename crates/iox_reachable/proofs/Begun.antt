@@ -10,7 +10,7 @@ use Rattle.iox_model.specs.declared.call.WireCall.TheVariants.{Forget}
 use Rattle.iox_model.specs.declared.call.WireCall.TheVariants as wire_calls
 use Rattle.iox_model.specs.declared.reply.Refusal.TheVariants.{UnknownNumber, ForeignNumber, WrongKind, WrongLength, WantOfMemory}
 use Rattle.iox_model.specs.declared.reply.Reply.TheVariants.{Words}
-use Rattle.iox_model.specs.Receives.{late_clients, server_ways, pending_ways, receives}
+use Rattle.iox_model.specs.Receives.{clients_to_visit, server_ways, pending_ways, receives}
 use Rattle.iox_model.specs.Releases.{states_of, closing, returning, releases_handle}
 use Rattle.iox_model.specs.Doings.{refused, Receiver, Tells, Fills, Drops, Doing, Ended, Returning}
 use Rattle.iox_model.specs.Weaves.{wire_start, miscalled}
@@ -24,11 +24,11 @@ use Rattle.iox_model.specs.Commands.{Refusal, Call, WireCall, number_of}
 use Rattle.iox_model.specs.Settings.{is_client, is_count}
 use Rattle.iox_model.specs.Responses.{lends_response, lends_by, lends, copies, ordered, shape_for, lending}
 use Rattle.iox_model.specs.Messages.{request_way, response_way}
-use Rattle.iox_model.specs.Peers.{is_connected_port, others, forgotten, port_at, node_of_port, forgot_port}
+use Rattle.iox_model.specs.Peers.{is_connected_port, ports_of_role, others, port_at, node_of_port, forgot_port}
 use Rattle.iox_model.specs.declared.kind.Kind.TheVariants as kinds
-use Rattle.iox_model.proofs.MapLemmas.{either}
-use Rattle.iox_model.proofs.PlayedRuns.{split}
-use Rattle.iox_model.proofs.WholeLemmas.{some-is, or_else-none}
+use Rattle.iox_weaves.proofs.MapLemmas.{either}
+use Rattle.iox_weaves.proofs.WholeLemmas.{split}
+use Rattle.iox_weaves.proofs.WholeLemmas.{some-is, or_else-none}
 use Rattle.iox_reachable.proofs.WayLemmas.{all_map, from-lending}
 use Rattle.iox_reachable.proofs.Sound.{IsTo, IsPortOf, is_port_of, IsOwn, has_own, Fits, IsWithin}
 use Rattle.iox_reachable.proofs.PortLemmas.{AreDistinctPorts}
@@ -154,12 +154,11 @@ receives_fits : (s : State) (node : ℕ) (x : Subject) → IsSubject s.fixed nod
 receives_fits s node (ThePort p) own =
     let x : Receiver = record { port = p.number; role = Server; lane = 0; request = 0 } in
     visiting_fits s node x (server_ways s.fixed p) false own.1
-    (all_map (IsTo x) (λ client. request_way client p.number) (λ n. (refl, refl)) (others s.fixed p.node Client ++ late_clients s.fixed p))
+    (all_map (IsTo x) (λ client. request_way client p.number) (λ n. (refl, refl)) (clients_to_visit s.fixed p))
 receives_fits s node (TheHandle h) own =
     let x : Receiver = record { port = h.port; role = Client; lane = h.lane; request = h.request } in
     visiting_fits s node x (pending_ways s.fixed h) false own.1
-    (all_map (IsTo x) (response_way h.port h.lane) (λ n. (refl, refl))
-    (others s.fixed h.node Server ++ (forgotten s.fixed h.node Server ++ s.fixed.expired h.port)))
+    (all_map (IsTo x) (response_way h.port h.lane) (λ n. (refl, refl)) (s.fixed.expired h.port ++ ports_of_role s.fixed Server))
 
 releases_fits : (s : State) (node : ℕ) (h : Handle) → Fits s node (releases_handle s.fixed h)
 releases_fits s node h =

@@ -21,8 +21,8 @@ use Rattle.iox_model.specs.Looks.{checking, checked, hinting, is_shown}
 use Rattle.iox_model.specs.Outstandings.{kept, is_dry}
 use Rattle.iox_model.specs.Responses.{asked, sends, sends_response, loaning}
 use Rattle.iox_model.specs.Peers.{role_at, forgot_port, others, buffer_on, overflows_on}
-use Rattle.iox_model.proofs.MapLemmas.{either}
-use Rattle.iox_model.proofs.Plays.{has_room}
+use Rattle.iox_weaves.proofs.MapLemmas.{either}
+use Rattle.iox_weaves.proofs.Plays.{has_room}
 use Rattle.iox_reachable.proofs.WayLemmas.{not_in-has, apart-not_in, apart-requests, from_map, from-targets}
 use Rattle.iox_reachable.proofs.PortLemmas.{AreDistinctPorts, distinct-others}
 use Rattle.iox_reachable.proofs.Sound.{AreFrom, AreTo, IsTo, IsPortOf, IsOwn, HaveRoom, IsSending, Fits, IsWithin}

@@ -8,7 +8,7 @@ use Rattle.iox_model.specs.Joins.{not_living}
 use Rattle.iox_model.specs.Moments.{Moment}
 use Rattle.iox_model.specs.Commands.{Reply}
 use Rattle.iox_model.specs.Steps.{next, ends}
-use Rattle.iox_model.proofs.WholeLemmas.{moved-members, not_living-members, put_at-here}
+use Rattle.iox_weaves.proofs.WholeLemmas.{moved-members, not_living-members, put_at-here}
 use Rattle.iox_reachable.specs.Endings.{EachComesToItsEnd}
 use Rattle.iox_reachable.proofs.Sound.{SoundCall}
 use Rattle.iox_reachable.proofs.GoesOn.{some_holds}

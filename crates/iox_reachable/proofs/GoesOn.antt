@@ -13,8 +13,8 @@ use Rattle.iox_model.specs.Joins.{not_living}
 use Rattle.iox_model.specs.Moments.{Moment, Deliver, Evict, GetBack}
 use Rattle.iox_model.specs.Responses.{copies}
 use Rattle.iox_model.specs.Steps.{ends}
-use Rattle.iox_model.proofs.MapLemmas.{same_way-refl, is_in-first}
-use Rattle.iox_model.proofs.Plays.{chosen, MayBe, chosen_may_come}
+use Rattle.iox_weaves.proofs.MapLemmas.{same_way-refl, is_in-first}
+use Rattle.iox_weaves.proofs.Plays.{chosen, MayBe, chosen_may_come}
 use Rattle.iox_reachable.specs.GoingOn.{MayMove, MayEnd}
 use Rattle.iox_reachable.proofs.Sound.{Fits}
 use Rattle.iox_ledger.proofs.Truths.{by_cases}

@@ -13,7 +13,7 @@ use Rattle.iox_model.specs.Maps.{is_empty, not_in}
 use Rattle.iox_model.specs.Moments.{room_on}
 use Rattle.iox_model.specs.Responses.{copies}
 use Rattle.iox_model.specs.Peers.{role_at, node_of_port, buffer_on}
-use Rattle.iox_model.proofs.Plays.{has_room}
+use Rattle.iox_weaves.proofs.Plays.{has_room}
 use Rattle.iox_reachable.proofs.WayLemmas.{not_in-has, from-targets}
 use Rattle.iox_reachable.proofs.Sound.{AreFrom, IsPortOf, IsOwn, HaveRoom, IsSending, FitsOutcome, Fits, FitsCall, last_of, IsWithin, SoundCall}
 use Rattle.iox_ledger.proofs.Orders.{le-le, le-less}

@@ -9,8 +9,9 @@ pub mod Begun
 pub mod Settled
 pub mod GoesOn
 pub mod Inductions
+pub mod Fillings
 pub mod PortsKept
-pub mod ServedPorts
+pub mod ReachedPorts
 pub mod Reached
 pub mod Waiting
 pub mod Alone

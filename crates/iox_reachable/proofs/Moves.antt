@@ -12,9 +12,9 @@ use Rattle.iox_model.specs.Messages.{serials_of, Message}
 use Rattle.iox_model.specs.Responses.{copies}
 use Rattle.iox_model.specs.Steps.{next}
 use Rattle.iox_model.specs.Peers.{role_at, node_of_port, buffer_on}
-use Rattle.iox_model.proofs.CallLaws.{not-true}
-use Rattle.iox_model.proofs.MapLemmas.{either, same_way-refl, same_way-true, put_there, put-else, eqb-refl}
-use Rattle.iox_model.proofs.WholeLemmas.{moved-fixed}
+use Rattle.iox_weaves.proofs.CallLaws.{not-true}
+use Rattle.iox_weaves.proofs.MapLemmas.{either, same_way-refl, same_way-true, put_there, put-else, eqb-refl}
+use Rattle.iox_weaves.proofs.WholeLemmas.{moved-fixed}
 use Rattle.iox_reachable.proofs.Sound.{IsPortOf, IsLast, IsSending, Fits, last_of, IsWithin}
 use Rattle.iox_reachable.proofs.Kept.{Leaves, from_own}
 use Rattle.iox_reachable.proofs.Continues.{within_any}

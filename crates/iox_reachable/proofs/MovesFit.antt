@@ -11,8 +11,8 @@ use Rattle.iox_model.specs.Messages.{serials_of, Message}
 use Rattle.iox_model.specs.Responses.{copies}
 use Rattle.iox_model.specs.Steps.{next}
 use Rattle.iox_model.specs.Peers.{buffer_on, overflows_on}
-use Rattle.iox_model.proofs.MapLemmas.{either, same_way-true, put_there, put-else}
-use Rattle.iox_model.proofs.Plays.{has_room}
+use Rattle.iox_weaves.proofs.MapLemmas.{either, same_way-true, put_there, put-else}
+use Rattle.iox_weaves.proofs.Plays.{has_room}
 use Rattle.iox_reachable.proofs.WayLemmas.{has_way-without, apart-gone, apart-without}
 use Rattle.iox_reachable.proofs.Sound.{AreFrom, AreTo, IsLast, HaveRoom, Fits, last_of, IsWithin, SoundCall}
 use Rattle.iox_reachable.proofs.PortLemmas.{AreDistinctPorts}

@@ -16,8 +16,8 @@ use Rattle.iox_model.specs.Maps.{put_at, put}
 use Rattle.iox_model.specs.Settings.{Limits}
 use Rattle.iox_model.specs.States.{Port, Handle, Fixed, State}
 use Rattle.iox_model.specs.WholeCalls.{moved_by}
-use Rattle.iox_model.proofs.MapLemmas.{either}
-use Rattle.iox_model.proofs.WholeLemmas.{moved_by-fixed}
+use Rattle.iox_weaves.proofs.MapLemmas.{either}
+use Rattle.iox_weaves.proofs.WholeLemmas.{moved_by-fixed}
 use Rattle.iox_reachable.proofs.Inductions.{IsKept}
 
 abbrev pub OfPorts : Type 1
@@ -85,4 +85,5 @@ is_kept P k makes = record {
   calls = λ s node call reply t named d p.
       subst (λ (x : State). Says P x.fixed) (sym d.9)
       (settled_says P k (moved_by s d.2) node d.6 d.4 (subst (Says P) (sym (moved_by-fixed s d.2)) p));
+  fills = λ s node number h x there may p. p;
 }

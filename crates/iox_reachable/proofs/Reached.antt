@@ -16,8 +16,8 @@ use Rattle.iox_model.specs.Services.{with_death}
 use Rattle.iox_model.specs.Commands.{Refusal, WireCall}
 use Rattle.iox_model.specs.Steps.{next, ends}
 use Rattle.iox_model.specs.Peers.{buffer_on}
-use Rattle.iox_model.proofs.MapLemmas.{either}
-use Rattle.iox_model.proofs.WholeLemmas.{moved-fixed, or_else-none, some-is}
+use Rattle.iox_weaves.proofs.MapLemmas.{either}
+use Rattle.iox_weaves.proofs.WholeLemmas.{moved-fixed, or_else-none, some-is}
 use Rattle.iox_reachable.specs.Worlds.{IsReachable}
 use Rattle.iox_reachable.specs.GoingOn.{NeverStuck}
 use Rattle.iox_reachable.specs.OnWires.{ReachableIsOnWire}
@@ -30,7 +30,7 @@ use Rattle.iox_reachable.proofs.MovesFit.{moved_sound}
 use Rattle.iox_reachable.proofs.Begun.{start_fits}
 use Rattle.iox_reachable.proofs.Settled.{settled_on_wire, settled_ports, settled_own, settled_waiting, settled_leaves}
 use Rattle.iox_reachable.proofs.GoesOn.{goes_on}
-use Rattle.iox_reachable.proofs.ServedPorts.{served_ports}
+use Rattle.iox_reachable.proofs.ReachedPorts.{reached_ports}
 use Rattle.iox_ledger.proofs.Truths.{by_cases, none-some}
 use Rattle.iox_ledger.proofs.Orders.{le-refl, le-zero}
 
@@ -157,13 +157,13 @@ opened_sound s distinct = record {
 pub reachable_sound : (w : World) → IsReachable w → Sound w
 reachable_sound w reach =
     weave_sound reach.0 w reach.1 reach.3
-    (subst Sound (sym reach.2.2) (opened_sound reach.2.0 (served_ports reach.2.0 reach.2.1)))
+    (subst Sound (sym reach.2.3) (opened_sound reach.2.0 (reached_ports reach.2.0 reach.2.1)))
 
--- and on a wire that opened on what a service left.
+-- and on a wire that opened on a state that is reached.
 pub reachable_is_on_wire : ReachableIsOnWire
 reachable_is_on_wire w reach =
     let s : State = reach.2.0 in
-    (s, reach.1, reach.2.1, (served_ports s reach.2.1, subst (λ first. IsWeave first reach.1 w) reach.2.2 reach.3))
+    (s, reach.1, reach.2.1, (reached_ports s reach.2.1, subst (λ first. IsWeave first reach.1 w) reach.2.3 reach.3))
 
 pub never_stuck : NeverStuck
 never_stuck w node d reach live is =

@@ -14,9 +14,9 @@ use Rattle.iox_model.specs.Messages.{Message}
 use Rattle.iox_model.specs.Ends.{sent_loan, sent_copy, is_nothing, settled}
 use Rattle.iox_model.specs.Peers.{is_connected_port, node_of_port}
 use Rattle.iox_model.specs.Counts.{is_same_handle, without_handle, with_handle, added, changed, dropped, numbered, called, gives_up, with_fixed, received_handle, sent_handle, holding}
-use Rattle.iox_model.proofs.MapLemmas.{either}
-use Rattle.iox_model.proofs.PlayedRuns.{split}
-use Rattle.iox_model.proofs.WireLemmas.{released-wire, settled_same}
+use Rattle.iox_weaves.proofs.MapLemmas.{either}
+use Rattle.iox_weaves.proofs.WholeLemmas.{split}
+use Rattle.iox_weaves.proofs.WireLemmas.{released-wire, settled_same}
 use Rattle.iox_reachable.proofs.Sound.{IsPortOf, is_port_of, IsOwn, has_own, FitsOutcome}
 use Rattle.iox_reachable.proofs.Kept.{Leaves, SamePorts}
 use Rattle.iox_ledger.proofs.Orders.{le-refl}

@@ -11,7 +11,7 @@ use Rattle.iox_model.specs.Requests.{targets, is_last}
 use Rattle.iox_model.specs.Maps.{is_empty, has_way, not_in, AreApart, AreDistinct}
 use Rattle.iox_model.specs.Responses.{copies}
 use Rattle.iox_model.specs.Peers.{is_connected_port, role_at, node_of_port, buffer_on}
-use Rattle.iox_model.proofs.Plays.{has_room}
+use Rattle.iox_weaves.proofs.Plays.{has_room}
 
 -- ---- ways and handles of a node
 

@@ -8,7 +8,7 @@ use Rattle.iox_model.specs.Settings.{overflow_of}
 use Rattle.iox_model.specs.States.{State}
 use Rattle.iox_model.specs.Requests.{is_last}
 use Rattle.iox_model.specs.Peers.{role_at, node_of_port, overflows_on}
-use Rattle.iox_model.proofs.MapLemmas.{same_way-true}
+use Rattle.iox_weaves.proofs.MapLemmas.{same_way-true}
 use Rattle.iox_reachable.specs.Receipts.{ReceivesItsOwn}
 use Rattle.iox_ledger.specs.QueueLaws.{evicts_next}
 use Rattle.iox_reachable.specs.Waits.{OnlyOverflowEvicts}

@@ -12,8 +12,8 @@ use Rattle.iox_model.specs.Handles.{is_request_loan}
 use Rattle.iox_model.specs.Maps.{has_number, same_way, has_way, without_way, not_in, AreApart, AreDistinct}
 use Rattle.iox_model.specs.Messages.{request_way, response_way}
 use Rattle.iox_model.specs.Peers.{lanes_of, others, lanes_to}
-use Rattle.iox_model.proofs.CallLaws.{not-true}
-use Rattle.iox_model.proofs.MapLemmas.{either, same_way-true, same_way-flip}
+use Rattle.iox_weaves.proofs.CallLaws.{not-true}
+use Rattle.iox_weaves.proofs.MapLemmas.{either, same_way-true, same_way-flip}
 use Rattle.iox_ledger.proofs.Truths.{by_cases, or-left, or-right, or-rest, or-false, or-neither, or-through, false_if}
 
 -- ---- truths

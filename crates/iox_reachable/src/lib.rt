@@ -4,14 +4,19 @@
 
 ghost use Rattle.iox_reachable.specs.Endings.{EachComesToItsEnd};
 ghost use Rattle.iox_reachable.specs.GoingOn.{NeverStuck};
-ghost use Rattle.iox_reachable.specs.OnWires.{ReachableIsOnWire, ServedHasOwnNumbers};
+ghost use Rattle.iox_reachable.specs.OnWires.{PortsHaveOwnNumbers, ReachableIsOnWire, ServedIsReachable};
 ghost use Rattle.iox_reachable.specs.Receipts.{ReceivesItsOwn};
 ghost use Rattle.iox_reachable.specs.Waits.{OnlyOverflowEvicts};
 
-/// A service gives each port a number of its own, so whatever the ledger says of a wire holds in
-/// every world that may come about.
+/// A service comes by itself to some of the states that it comes to with its hub.
+pub fn services_reach_states_of_hubs()
+    ensures { ServedIsReachable }
+{}
+
+/// A service and its hub give each port a number of its own, so whatever the ledger says of a wire
+/// holds in every world that may come about.
 pub fn worlds_are_on_a_wire()
-    ensures numbers { ServedHasOwnNumbers }
+    ensures numbers { PortsHaveOwnNumbers }
     ensures on_wire { ReachableIsOnWire }
 {}
 

@@ -1,25 +1,23 @@
 -- Each command is answered, so each list of commands is a run.
-use Rattle.std.specs.Prelude.{◌≡◌, ℕ, true, List, [], ◌∷◌, map, Option, Some, None, refl}
-use Rattle.std.proofs.Common.{ap}
+use Rattle.std.specs.Prelude.{◌≡◌, ℕ, true, List, [], ◌∷◌, Option, Some, None, refl}
 use Rattle.iox_model.specs.declared.command.Command.TheVariants as commands
-use Rattle.iox_model.specs.declared.command.Command.TheVariants.{OfNode, Leave, DeclareDead, Cleanup, ListNodes, ListClients, ListServers}
-use Rattle.iox_model.specs.declared.command.PortCommand.TheVariants.{Create, Use}
+use Rattle.iox_model.specs.declared.command.Command.TheVariants.{Leave, DeclareDead, Cleanup, ListNodes, ListClients, ListServers}
 use Rattle.iox_model.specs.declared.reply.Reply.TheVariants as replies
 use Rattle.iox_model.specs.declared.reply.Reply.TheVariants.{Refused, Done}
 use Rattle.iox_model.specs.Begins.{start, MayChoose}
-use Rattle.iox_model.specs.Commands.{Refusal, Reply, Call, PortCommand, Command}
+use Rattle.iox_model.specs.Commands.{Refusal, Reply, Call, HubCommand, Create, Use, Command, asking}
 use Rattle.iox_model.specs.Counts.{with_fixed}
 use Rattle.iox_model.specs.Ends.{settled}
 use Rattle.iox_model.specs.Joins.{not_living, not_dead, opening_refusal, with_members, joined}
 use Rattle.iox_model.specs.Loans.{Choice}
-use Rattle.iox_model.specs.Makings.{making_refusal, new_port, with_port, port_reply, IsPortCommand}
+use Rattle.iox_model.specs.Makings.{making_refusal, new_port, with_port, port_reply, IsHubCommand}
 use Rattle.iox_model.specs.Names.{misnamed}
-use Rattle.iox_model.specs.Runs.{created, IsRun, IsHistory, Record}
-use Rattle.iox_model.specs.Services.{leaving_refusal, numbers_of_node, with_own_id, without_node, with_death, Releases, IsCleanup, IsCommand}
+use Rattle.iox_model.specs.Runs.{created, IsRun, IsHistory, ServiceStep, OfHub}
+use Rattle.iox_model.specs.Services.{leaving_refusal, numbers_of_node, with_own_id, without_node, with_death, Releases, IsCleanup, IsNodeCommand, IsCommand}
 use Rattle.iox_model.specs.States.{State}
 use Rattle.iox_model.specs.WholeCalls.{replied, moved_by, MayHold, UnlessRefused, spent, IsDone, IsWholeCall}
 use Rattle.iox_reachable.proofs.GoesOn.{some_holds}
-use Rattle.iox_runs.specs.Answering.{ComesToAnEnd, EachCallEnds, EachPortCommandIsAnswered, EachCommandIsAnswered, EachRunGoesOn, EachHistoryGoesOn}
+use Rattle.iox_runs.specs.Answering.{ComesToAnEnd, EachCallEnds, EachPortCommandIsAnswered, EachCommandIsAnswered, EachRunGoesOn, AnswerIt, EachHistoryGoesOn}
 use Rattle.iox_runs.proofs.Settling.{Calm}
 use Rattle.iox_runs.proofs.Calls.{call_ends}
 use Rattle.iox_runs.proofs.Choices.{something_may_be_chosen}
@@ -61,7 +59,7 @@ call_answered s node call r =
           (c.0, c.2, e.0, e.1, e.2, e.3, p.0, p.1, refl, refl),
         )
 
-port_command_answered : (s : State) (node : ℕ) (c : PortCommand) → Calm s → Answers (IsPortCommand s node c)
+port_command_answered : (s : State) (node : ℕ) (c : HubCommand) → Calm s → Answers (IsHubCommand s node c)
 port_command_answered s node (Create role id o) r =
     let reply : Reply = port_reply role s.fixed.next_number in
     let t : State = with_fixed s (with_port s.fixed (new_port s.fixed node role id o)) in
@@ -75,15 +73,18 @@ each_port_command_is_answered s node command left = port_command_answered s node
 
 -- ---- the service
 
+node_command_answered : (s : State) (node : ℕ) (c : HubCommand) → Calm s → Answers (IsNodeCommand s node c)
+node_command_answered s node c r =
+    unless (not_living s node) s (IsHubCommand s node (with_own_id s node c)) (λ u. port_command_answered s node (with_own_id s node c) r)
+
 command_answered : (s : State) (c : Command) → Calm s → Answers (IsCommand s c)
-command_answered s (commands.Open id asked) r =
+command_answered s (commands.Join id asked) r =
     let reply : Reply = replies.Node s.members.joins in
     let t : State = with_members s (joined s.members id) in
     let q : Option Refusal = opening_refusal s id asked true in
     let a : Answers (λ r u. UnlessRefused q s r u ((r ≡ reply) × (u ≡ t))) = exactly q s reply t in
     (a.0, a.1, (true, a.2))
-command_answered s (OfNode node command) r =
-    unless (not_living s node) s (IsPortCommand s node (with_own_id s node command)) (λ u. port_command_answered s node (with_own_id s node command) r)
+command_answered s (commands.Port c) r = node_command_answered s (asking c).0 (asking c).1 r
 command_answered s (Leave node) r = exactly (leaving_refusal s node) s Done (without_node s node)
 command_answered s (DeclareDead node) r = exactly (not_living s node) s Done (with_death s node)
 command_answered s (Cleanup node) r =
@@ -111,14 +112,13 @@ runs_on s (c ∷ cs) r =
 pub each_run_goes_on : EachRunGoesOn
 each_run_goes_on l acts id cs = runs_on (created l acts id) cs (created_calm l acts id)
 
-histories_go_on : (s : State) (asked : List (ℕ × PortCommand)) → Calm s
-    → (cs : List Record) × (t : State) × (map (λ c. (c.node, c.command)) cs ≡ asked) × IsHistory s cs t
-histories_go_on s [] r = ([], s, refl, refl)
+histories_go_on : (s : State) (asked : List (ℕ × HubCommand)) → Calm s → (xs : List ServiceStep) × (t : State) × AnswerIt asked xs × IsHistory s xs t
+histories_go_on s [] r = ([], s, tt, refl)
 histories_go_on s (q ∷ qs) r =
-    let a : Answers (IsPortCommand s q.0 q.1) = port_command_answered s q.0 q.1 r in
-    let rest : (cs : List Record) × (t : State) × (map (λ c. (c.node, c.command)) cs ≡ qs) × IsHistory a.1 cs t
+    let a : Answers (IsHubCommand s q.0 q.1) = port_command_answered s q.0 q.1 r in
+    let rest : (xs : List ServiceStep) × (t : State) × AnswerIt qs xs × IsHistory a.1 xs t
     = histories_go_on a.1 qs (port_command_calm s q.0 q.1 a.0 a.1 r a.2) in
-    (record { node = q.0; command = q.1; reply = a.0 } ∷ rest.0, rest.1, ap (λ xs. q ∷ xs) rest.2, (a.1, a.2, rest.3))
+    (OfHub q.0 q.1 a.0 ∷ rest.0, rest.1, (refl, rest.2), (a.1, a.2, rest.3))
 
 pub each_history_goes_on : EachHistoryGoesOn
 each_history_goes_on s asked left = histories_go_on s asked (left_calm s left)

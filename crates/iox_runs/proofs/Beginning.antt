@@ -23,8 +23,8 @@ use Rattle.iox_model.specs.Releases.{states_of, closing, returning, releases_han
 use Rattle.iox_model.specs.Responses.{lends_response, lends_by, lends, copies, ordered, shape_for, lending}
 use Rattle.iox_model.specs.Settings.{is_client, is_count}
 use Rattle.iox_model.specs.States.{Port, Handle, Fixed, State}
-use Rattle.iox_model.proofs.MapLemmas.{either}
-use Rattle.iox_model.proofs.WholeLemmas.{some-is, or_else-none}
+use Rattle.iox_weaves.proofs.MapLemmas.{either}
+use Rattle.iox_weaves.proofs.WholeLemmas.{some-is, or_else-none}
 use Rattle.iox_ledger.proofs.Truths.{passes, none-some, by_cases, or-left, or-right, or-rest, or-false}
 use Rattle.iox_ledger.proofs.Lists.{IsAmong, find-among}
 use Rattle.iox_ledger.proofs.Phases.{HasOwnPorts}

@@ -5,14 +5,14 @@ use Rattle.std.proofs.lemmas.List.{length-map, length-append}
 use Rattle.iox_model.specs.declared.way.Way.{Way}
 use Rattle.iox_model.specs.Begins.{start}
 use Rattle.iox_model.specs.Doings.{Receives, Doing, Ended, Judging, Stale}
-use Rattle.iox_model.specs.Ledgers.{has_received, is_given_up, taken_by, held_on, had_on}
+use Rattle.iox_weaves.specs.Ledgers.{has_received, is_given_up, taken_by, held_on, had_on}
 use Rattle.iox_model.specs.Maps.{same_way}
 use Rattle.iox_model.specs.Peers.{node_of_port, borrow_limit_on}
 use Rattle.iox_model.specs.States.{Handle, Fixed, State}
 use Rattle.iox_model.specs.WholeCalls.{moved_by, left_by}
-use Rattle.iox_model.proofs.PlayedRuns.{split}
-use Rattle.iox_model.proofs.MapLemmas.{either, same_way-true}
-use Rattle.iox_model.proofs.WholeLemmas.{moved_by-fixed}
+use Rattle.iox_weaves.proofs.WholeLemmas.{split}
+use Rattle.iox_weaves.proofs.MapLemmas.{either, same_way-true}
+use Rattle.iox_weaves.proofs.WholeLemmas.{moved_by-fixed}
 use Rattle.iox_ledger.proofs.Counts.{count, count-fewer}
 use Rattle.iox_runs.specs.Moving.{amid, BorrowsStayWithin}
 use Rattle.iox_runs.proofs.Calls.{Goes, goes_by, begins}

@@ -5,11 +5,11 @@ use Rattle.std.proofs.lemmas.List.{length-map}
 use Rattle.iox_model.specs.declared.way.Way.{Way}
 use Rattle.iox_model.specs.Begins.{start}
 use Rattle.iox_model.specs.Doings.{Doing}
-use Rattle.iox_model.specs.Ledgers.{has_received}
+use Rattle.iox_weaves.specs.Ledgers.{has_received}
 use Rattle.iox_model.specs.Peers.{is_connected_port, node_of_port, buffer_on, borrow_limit_on}
 use Rattle.iox_model.specs.States.{Handle, Fixed, State}
 use Rattle.iox_model.specs.WholeCalls.{moved_by, left_by}
-use Rattle.iox_model.proofs.WholeLemmas.{moved_by-fixed}
+use Rattle.iox_weaves.proofs.WholeLemmas.{moved_by-fixed}
 use Rattle.iox_ledger.proofs.Truths.{by_cases}
 use Rattle.iox_ledger.proofs.Orders.{le-from, le-is}
 use Rattle.iox_ledger.specs.QueueLaws.{evicts_next}

@@ -14,8 +14,8 @@ use Rattle.iox_model.specs.States.{Port, Fixed, State}
 use Rattle.iox_model.specs.Steps.{next, ends}
 use Rattle.iox_model.specs.WholeCalls.{moved_by, left_by, MayCome, IsDone}
 use Rattle.iox_model.specs.Maps.{rest_of, same_way, put}
-use Rattle.iox_model.proofs.MapLemmas.{either, put-else, same_way-true}
-use Rattle.iox_model.proofs.WholeLemmas.{moved-fixed}
+use Rattle.iox_weaves.proofs.MapLemmas.{either, put-else, same_way-true}
+use Rattle.iox_weaves.proofs.WholeLemmas.{moved-fixed}
 use Rattle.iox_reachable.proofs.Alone.{ends_alone}
 use Rattle.iox_runs.specs.Answering.{ComesToAnEnd}
 use Rattle.iox_reachable.proofs.Begun.{call_fits}

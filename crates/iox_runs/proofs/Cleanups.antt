@@ -26,10 +26,10 @@ use Rattle.iox_model.specs.States.{Port, Handle, Fixed, State}
 use Rattle.iox_model.specs.Steps.{next, ends}
 use Rattle.iox_model.specs.WholeCalls.{moved_by, left_by, MayCome, UnlessRefused, IsDone, IsWholeCall}
 use Rattle.iox_model.specs.Maps.{without_way}
-use Rattle.iox_model.proofs.CallLaws.{not-true}
-use Rattle.iox_model.proofs.MapLemmas.{either, eqb-refl}
-use Rattle.iox_model.proofs.PlayedRuns.{split}
-use Rattle.iox_model.proofs.WholeLemmas.{moved_by-fixed, some-is, put_at-here}
+use Rattle.iox_weaves.proofs.CallLaws.{not-true}
+use Rattle.iox_weaves.proofs.MapLemmas.{either, eqb-refl}
+use Rattle.iox_weaves.proofs.WholeLemmas.{split}
+use Rattle.iox_weaves.proofs.WholeLemmas.{moved_by-fixed, some-is, put_at-here}
 use Rattle.iox_ledger.proofs.Truths.{false_if, never, none-some}
 use Rattle.iox_ledger.proofs.Lists.{IsAmong, NoRepeats, among-filter, among-map, among-any, distinct-no_repeats, find-own}
 use Rattle.iox_runs.specs.Answering.{ComesToAnEnd}
@@ -221,7 +221,7 @@ handle_released s node n h r among is =
           (subst (λ f. Others s.fixed (dropped f h) node n) (sym (moved_by-fixed s e.0)) (dropped_others s.fixed node n h is fits.of_node))),
     )
 
-value_released : (s : State) (node n : ℕ) → Calm s → IsValue s.fixed node n → Released s node n
+pub value_released : (s : State) (node n : ℕ) → Calm s → IsValue s.fixed node n → Released s node n
 value_released s node n r (inl q) = port_released s node n q.0 r q.1 q.2 q.3 q.4
 value_released s node n r (inr q) = handle_released s node n q.0 r q.1 q.2
 

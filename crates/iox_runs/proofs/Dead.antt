@@ -1,8 +1,11 @@
--- A node that died or left lives no more, whatever a service is asked.
+-- A node that died or left lives no more, whatever a service or its hub is asked.
 use Rattle.std.specs.Prelude.{◌≡◌, ℕ, Bool, true, false, not, if◌then◌else◌, ◌==◌, nat_lt, List, [], ◌∷◌, ◌++◌, filter, Option, Some, None, find, refl}
 use Rattle.std.proofs.Common.{sym, subst, ap, ◌∙◌, true≢false, eqb-true, arith, inl, inr}
 use Rattle.iox_model.specs.declared.reply.Reply.TheVariants.{Refused}
-use Rattle.iox_model.specs.Commands.{Refusal, Reply, Call}
+use Rattle.iox_model.specs.Commands.{Refusal, Reply, Call, asking}
+use Rattle.iox_model.specs.Doings.{Fills}
+use Rattle.iox_model.specs.Ends.{settled}
+use Rattle.iox_model.specs.Values.{filled_as}
 use Rattle.iox_model.specs.Counts.{with_fixed}
 use Rattle.iox_model.specs.Joins.{not_living, new_node, with_members}
 use Rattle.iox_model.specs.Makings.{new_port, with_port}
@@ -10,13 +13,13 @@ use Rattle.iox_model.specs.Moments.{moved, Moment}
 use Rattle.iox_model.specs.Services.{without_node}
 use Rattle.iox_model.specs.States.{Node, Members, State}
 use Rattle.iox_model.specs.WholeCalls.{moved_by, UnlessRefused, IsDone}
-use Rattle.iox_model.proofs.DeathLaws.{IsGone, found, living_in, stays_gone, settled-members}
-use Rattle.iox_model.proofs.MapLemmas.{either}
-use Rattle.iox_model.proofs.WholeLemmas.{moved-members}
+use Rattle.iox_weaves.proofs.DeathLaws.{IsGone, found, living_in, stays_gone, settled-members}
+use Rattle.iox_weaves.proofs.MapLemmas.{either}
+use Rattle.iox_weaves.proofs.WholeLemmas.{moved-members}
 use Rattle.iox_runs.specs.Dying.{TheDeadStayDead}
 use Rattle.iox_ledger.proofs.Truths.{by_cases, not-false}
 use Rattle.iox_ledger.proofs.Orders.{less-next}
-use Rattle.iox_reachable.proofs.Inductions.{IsOfNodes, IsKept, run_keeps}
+use Rattle.iox_reachable.proofs.Inductions.{IsOfNodes, IsKept, history_keeps}
 
 -- ---- lists of nodes
 
@@ -60,7 +63,7 @@ moved_by-members : (s : State) (ms : List Moment) → (moved_by s ms).members �
 moved_by-members s [] = refl
 moved_by-members s (m ∷ ms) = moved_by-members (moved s m) ms ∙ moved-members s m
 
--- ---- runs
+-- ---- histories
 
 -- a node that had joined, and does not live
 record IsOver (node : ℕ) (s : State) : Type 0 where
@@ -100,6 +103,7 @@ over_kept node = record {
   nodes = nodes_over node;
   makes = λ s n role id o memory allowed p. same_over node s (with_fixed s (with_port s.fixed (new_port s.fixed n role id o))) refl p;
   calls = λ s n call reply t named done p. same_over node s t (done_members s n call reply t done) p;
+  fills = λ s n number h x there may p. same_over node s (settled s n [] (Fills (filled_as h x))) refl p;
 }
 
 refused_if_gone : (o : Option Refusal) (t : State) (reply : Reply) (u : State) (P : Type 0) → IsGone o → UnlessRefused o t reply u P
@@ -108,6 +112,7 @@ refused_if_gone (Some q) t reply u P gone done = (q, done.0, done.1)
 refused_if_gone None t reply u P gone done = absurd gone
 
 pub the_dead_stay_dead : TheDeadStayDead
-the_dead_stay_dead s t u cs rs node r joined gone run command reply done =
-    refused_if_gone (not_living t node) t reply u _
-    (run_keeps (IsOver node) (over_kept node) s cs rs t (record { joined = joined; gone = subst IsGone (sym gone) tt }) run).gone done
+the_dead_stay_dead s t u xs node r joined gone history command reply asks done =
+    refused_if_gone (not_living t (asking command).0) t reply u _
+    (subst (λ n. IsGone (not_living t n)) (sym asks)
+    (history_keeps (IsOver node) (over_kept node) s xs t (record { joined = joined; gone = subst IsGone (sym gone) tt }) history).gone) done

@@ -12,8 +12,8 @@ use Rattle.iox_model.specs.States.{Fixed, State}
 use Rattle.iox_model.specs.Steps.{next}
 use Rattle.iox_model.specs.Weaves.{Beat, Makes}
 use Rattle.iox_model.specs.WholeCalls.{MayCome}
-use Rattle.iox_model.proofs.MapLemmas.{same_way-true}
-use Rattle.iox_model.proofs.WholeLemmas.{moved-fixed}
+use Rattle.iox_weaves.proofs.MapLemmas.{same_way-true}
+use Rattle.iox_weaves.proofs.WholeLemmas.{moved-fixed}
 use Rattle.iox_reachable.proofs.Waiting.{over_overflows}
 use Rattle.iox_runs.specs.TraceLaws.{evicts_on, OnlyOverflowEvicts}
 use Rattle.iox_runs.proofs.Along.{whole_along}

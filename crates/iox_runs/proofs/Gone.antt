@@ -13,13 +13,13 @@ use Rattle.iox_model.specs.Messages.{Message}
 use Rattle.iox_model.specs.Ends.{port_dropped}
 use Rattle.iox_model.specs.Counts.{with_fixed}
 use Rattle.iox_model.specs.Peers.{node_of_port, role_at, buffer_on}
-use Rattle.iox_model.proofs.MapLemmas.{either}
-use Rattle.iox_model.proofs.PlayedRuns.{split}
+use Rattle.iox_weaves.proofs.MapLemmas.{either}
+use Rattle.iox_weaves.proofs.WholeLemmas.{split}
 use Rattle.iox_ledger.proofs.Orders.{le-zero}
 use Rattle.iox_ledger.proofs.Truths.{false_if, never, by_cases}
 use Rattle.iox_ledger.proofs.Lists.{IsAmong, among-filter}
 use Rattle.iox_reachable.proofs.PortLemmas.{distinct-filter}
-use Rattle.iox_reachable.proofs.ServedPorts.{below_filter, same_numbers, same_below}
+use Rattle.iox_reachable.proofs.ReachedPorts.{below_filter, same_numbers, same_below}
 use Rattle.iox_reachable.proofs.Sound.{IsWithin}
 use Rattle.iox_runs.proofs.Ports.{any_at, first_at, others_than, IsPortIn, any_dropped, first_dropped, any_others, first_others, port_still, port_was, port_stays, port_stood}
 use Rattle.iox_runs.proofs.Rests.{FitsHandle, Rests, Rested}

@@ -5,12 +5,12 @@ use Rattle.iox_model.specs.declared.way.Way.{Way}
 use Rattle.iox_model.specs.Counts.{is_same_handle, without_handle, with_handle, received_handle}
 use Rattle.iox_model.specs.Doings.{Receiver}
 use Rattle.iox_model.specs.Handles.{is_received, way_of}
-use Rattle.iox_model.specs.Ledgers.{has_received}
+use Rattle.iox_weaves.specs.Ledgers.{has_received}
 use Rattle.iox_model.specs.Maps.{put, put_at, same_way}
 use Rattle.iox_model.specs.Messages.{Message}
 use Rattle.iox_model.specs.Settings.{is_client, Limits}
 use Rattle.iox_model.specs.States.{Port, Handle, Fixed}
-use Rattle.iox_model.proofs.MapLemmas.{either, same_way-true}
+use Rattle.iox_weaves.proofs.MapLemmas.{either, same_way-true}
 use Rattle.iox_ledger.proofs.ReceivedHandles.{received-itself, no_received, received-elsewhere, receipt-way}
 use Rattle.iox_ledger.proofs.Orders.{at-most, same-le, less-le}
 use Rattle.iox_ledger.proofs.Counts.{count-gone, count-swap, count, one_if, count-last, count-less, one-at-most}

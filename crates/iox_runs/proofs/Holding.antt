@@ -25,9 +25,9 @@ use Rattle.iox_model.specs.Settings.{is_client, same_role}
 use Rattle.iox_model.specs.declared.kind.Role.{Role}
 use Rattle.iox_model.specs.States.{Port, Handle, Fixed, State}
 use Rattle.iox_model.specs.Steps.{next, ends}
-use Rattle.iox_model.proofs.CallLaws.{not-true}
-use Rattle.iox_model.proofs.MapLemmas.{either, eqb-refl, same_way-true}
-use Rattle.iox_model.proofs.WholeLemmas.{some-is}
+use Rattle.iox_weaves.proofs.CallLaws.{not-true}
+use Rattle.iox_weaves.proofs.MapLemmas.{either, eqb-refl, same_way-true}
+use Rattle.iox_weaves.proofs.WholeLemmas.{some-is}
 use Rattle.iox_model.specs.Handles.{new_number}
 use Rattle.iox_model.specs.Maps.{first_of, has_way}
 use Rattle.iox_model.specs.Moments.{Holds}

@@ -14,16 +14,16 @@ use Rattle.iox_model.specs.Forgetting.{has_forgotten, forgets}
 use Rattle.iox_model.specs.Handles.{is_request_loan}
 use Rattle.iox_model.specs.Messages.{serials_of, Message}
 use Rattle.iox_model.specs.Moments.{moved, Moment}
-use Rattle.iox_model.specs.OrderLaws.{put_on, taken_from, all_put_on, all_taken_from, Gives}
+use Rattle.iox_weaves.specs.OrderLaws.{put_on, taken_from, all_put_on, all_taken_from, Gives}
 use Rattle.iox_model.specs.States.{Handle, Fixed, State}
 use Rattle.iox_model.specs.Steps.{next}
 use Rattle.iox_model.specs.Weaves.{Beat, Makes}
 use Rattle.iox_model.specs.WholeCalls.{moved_by, MayCome, IsDone}
-use Rattle.iox_model.proofs.InOrder.{leaves_out, gives_itself, Comes, unchanged, moment_comes}
-use Rattle.iox_model.proofs.MapLemmas.{either}
+use Rattle.iox_weaves.proofs.InOrder.{leaves_out, gives_itself, Comes, unchanged, moment_comes}
+use Rattle.iox_weaves.proofs.MapLemmas.{either}
 use Rattle.iox_runs.specs.TraceLaws.{AreInOrder, InOrderOverRuns, InOrderInACall}
-use Rattle.iox_runs.proofs.Along.{IsAlong, created_for, left_along}
-use Rattle.iox_runs.specs.Traces.{beats_of_done, beats_of_left}
+use Rattle.iox_runs.proofs.Along.{IsAlong, created_for, reached_along}
+use Rattle.iox_runs.specs.Traces.{beats_of_done, beats_of_reached}
 
 -- what comes from where the beats lead comes with them from where they begin
 abbrev InOrder : Way → State → List Beat → State → Type 0
@@ -114,6 +114,7 @@ in_order_along y = record {
   nodes = λ s x later taken p. p;
   port = λ s node role id o later taken p. p;
   call = λ s node call reply t named. call_in_order y s node call reply t;
+  fill = λ s node number h x there may later taken p. p;
 }
 
 -- where the way was empty, all that came was put there
@@ -126,10 +127,10 @@ from_nothing y s t bs empty along =
 
 pub in_order_over_runs : InOrderOverRuns
 in_order_over_runs s left y =
-    from_nothing y (created_for s left) s (beats_of_left s left) refl (left_along (InOrder y) (in_order_along y) s left)
+    from_nothing y (created_for s left) s (beats_of_reached s left) refl (reached_along (InOrder y) (in_order_along y) s left)
 
 pub in_order_in_a_call : InOrderInACall
 in_order_in_a_call s left y node call c ms may =
-    from_nothing y (created_for s left) (moved_by s ms) (beats_of_left s left ++ map (Makes node) ms) refl
-    (both_in_order y (created_for s left) s (moved_by s ms) (beats_of_left s left) (map (Makes node) ms)
-    (left_along (InOrder y) (in_order_along y) s left) (moments_in_order y s node (start s node c call) ms may))
+    from_nothing y (created_for s left) (moved_by s ms) (beats_of_reached s left ++ map (Makes node) ms) refl
+    (both_in_order y (created_for s left) s (moved_by s ms) (beats_of_reached s left) (map (Makes node) ms)
+    (reached_along (InOrder y) (in_order_along y) s left) (moments_in_order y s node (start s node c call) ms may))

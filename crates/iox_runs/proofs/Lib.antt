@@ -13,6 +13,7 @@ pub mod Calls
 pub mod Runs
 pub mod Choices
 pub mod Cleanups
+pub mod Releasing
 pub mod Values
 pub mod Answered
 pub mod Bounded

@@ -1,11 +1,11 @@
--- What handles and queues hold in each state that is left: no more than receivers may borrow, and no
+-- What handles and queues hold in each state that is reached: no more than receivers may borrow, and no
 -- more than the buffer, also of senders that are gone.
 use Rattle.std.specs.Prelude.{◌≡◌, ℕ, ◌≤◌, Bool, true, false, not, ◌&&◌, nat_lt, List, [], ◌∷◌, ◌++◌, length, map, ◌⊎◌}
 use Rattle.std.proofs.Common.{sym, subst, ap, ◌∙◌, true≢false, inl, inr}
 use Rattle.iox_model.specs.declared.way.Way.{Way}
 use Rattle.iox_model.specs.Doings.{Sending, Doing, Delivering}
 use Rattle.iox_model.specs.Handles.{is_received, way_of}
-use Rattle.iox_model.specs.Ledgers.{has_received}
+use Rattle.iox_weaves.specs.Ledgers.{has_received}
 use Rattle.iox_model.specs.Maps.{has_number, put, rest_of, same_way}
 use Rattle.iox_model.specs.Messages.{request_way, response_way, Message}
 use Rattle.iox_model.specs.Moments.{moved, Moment, Deliver, Evict, Take}
@@ -13,9 +13,9 @@ use Rattle.iox_model.specs.Requests.{is_request, targets}
 use Rattle.iox_model.specs.Settings.{is_client, other_role, borrow_limit_of, buffer_of, Limits}
 use Rattle.iox_model.specs.States.{Port, Handle, Fixed, State}
 use Rattle.iox_model.specs.Steps.{next}
-use Rattle.iox_model.proofs.CallLaws.{not-true}
-use Rattle.iox_model.proofs.MapLemmas.{either, put-else, same_way-true}
-use Rattle.iox_model.proofs.WholeLemmas.{moved-fixed}
+use Rattle.iox_weaves.proofs.CallLaws.{not-true}
+use Rattle.iox_weaves.proofs.MapLemmas.{either, put-else, same_way-true}
+use Rattle.iox_weaves.proofs.WholeLemmas.{moved-fixed}
 use Rattle.iox_ledger.proofs.Truths.{false_if}
 use Rattle.iox_ledger.proofs.Counts.{count}
 use Rattle.iox_ledger.proofs.Orders.{same, at-most}

@@ -7,15 +7,15 @@ use Rattle.iox_model.specs.declared.kind.Role.{Role}
 use Rattle.iox_model.specs.declared.kind.Role.TheVariants.{Client, Server}
 use Rattle.iox_model.specs.declared.way.Way.{Way}
 use Rattle.iox_model.specs.Expiries.{room_for_expired, lanes_between, waits_between, kept_expired, expired_after, stays, expired_once, disconnected, is_last_gone}
-use Rattle.iox_model.specs.Ledgers.{has_received}
+use Rattle.iox_weaves.specs.Ledgers.{has_received}
 use Rattle.iox_model.specs.Maps.{is_empty, rest_of, has_number, same_way}
 use Rattle.iox_model.specs.Handles.{is_received, way_of}
 use Rattle.iox_model.specs.Messages.{Message}
 use Rattle.iox_model.specs.Peers.{buffer_on, role_at}
 use Rattle.iox_model.specs.Settings.{is_client, same_role, other_role, buffer_of, borrow_limit_of}
 use Rattle.iox_model.specs.States.{Port, Handle, Fixed, State}
-use Rattle.iox_model.proofs.MapLemmas.{either, eqb-refl}
-use Rattle.iox_model.proofs.PlayedRuns.{split}
+use Rattle.iox_weaves.proofs.MapLemmas.{either, eqb-refl}
+use Rattle.iox_weaves.proofs.WholeLemmas.{split}
 use Rattle.iox_ledger.proofs.Counts.{count, count-none}
 use Rattle.iox_ledger.proofs.Orders.{zero-le, least, le-from}
 use Rattle.iox_ledger.proofs.Truths.{false_if, never, by_cases, or-false}

@@ -7,13 +7,13 @@ use Rattle.iox_model.specs.declared.way.Way.{Way}
 use Rattle.iox_model.specs.Counts.{with_fixed}
 use Rattle.iox_model.specs.Ends.{port_dropped}
 use Rattle.iox_model.specs.Handles.{is_received, way_of}
-use Rattle.iox_model.specs.Ledgers.{has_received}
+use Rattle.iox_weaves.specs.Ledgers.{has_received}
 use Rattle.iox_model.specs.Makings.{with_port}
 use Rattle.iox_model.specs.Maps.{has_number, same_way}
 use Rattle.iox_model.specs.Settings.{is_client, other_role, borrow_limit_of, buffer_of}
 use Rattle.iox_model.specs.States.{Port, Fixed, State}
-use Rattle.iox_model.proofs.MapLemmas.{same_way-true}
-use Rattle.iox_model.proofs.PlayedRuns.{split}
+use Rattle.iox_weaves.proofs.MapLemmas.{same_way-true}
+use Rattle.iox_weaves.proofs.WholeLemmas.{split}
 use Rattle.iox_ledger.proofs.Counts.{count, count-none}
 use Rattle.iox_ledger.proofs.Orders.{zero-le, less-next, same-not-less}
 use Rattle.iox_ledger.proofs.Truths.{false_if, never, by_cases, second-fails}

@@ -5,10 +5,10 @@ use Rattle.std.specs.Option.{option_map_or}
 use Rattle.std.proofs.Common.{sym, subst, ap, ◌∙◌, true≢false, eqb-true, arith}
 use Rattle.iox_model.specs.States.{Port}
 use Rattle.iox_model.specs.Ends.{port_dropped}
-use Rattle.iox_model.proofs.CallLaws.{not-true}
-use Rattle.iox_model.proofs.MapLemmas.{either, eqb-refl}
-use Rattle.iox_model.proofs.PlayedRuns.{split}
-use Rattle.iox_reachable.proofs.ServedPorts.{below}
+use Rattle.iox_weaves.proofs.CallLaws.{not-true}
+use Rattle.iox_weaves.proofs.MapLemmas.{either, eqb-refl}
+use Rattle.iox_weaves.proofs.WholeLemmas.{split}
+use Rattle.iox_reachable.proofs.ReachedPorts.{below}
 use Rattle.iox_ledger.proofs.Views.{node_in}
 use Rattle.iox_ledger.proofs.Truths.{by_cases, or-left, or-right, or-rest, or-false, or-neither}
 

@@ -24,10 +24,10 @@ use Rattle.iox_model.specs.Settings.{is_client}
 use Rattle.iox_model.specs.States.{Handle, Fixed, State}
 use Rattle.iox_model.specs.Steps.{next, ends}
 use Rattle.iox_model.specs.WholeCalls.{replied, moved_by, left_by, MayCome, UnlessRefused, spent, IsDone, IsWholeCall}
-use Rattle.iox_model.proofs.CallLaws.{Keeps}
-use Rattle.iox_model.proofs.MapLemmas.{either}
-use Rattle.iox_model.proofs.NamedLaws.{ShowsNamed, ByLook, next_by_look}
-use Rattle.iox_model.proofs.WholeLemmas.{moved-fixed, moved_by-fixed, put_at-here, some-is}
+use Rattle.iox_weaves.proofs.CallLaws.{Keeps}
+use Rattle.iox_weaves.proofs.MapLemmas.{either}
+use Rattle.iox_weaves.proofs.NamedLaws.{ShowsNamed, ByLook, next_by_look}
+use Rattle.iox_weaves.proofs.WholeLemmas.{moved-fixed, moved_by-fixed, put_at-here, some-is}
 use Rattle.iox_reachable.proofs.Sound.{FitsOutcome}
 use Rattle.iox_ledger.proofs.Truths.{none-some}
 use Rattle.iox_ledger.proofs.Lists.{IsAmong}

@@ -2,30 +2,29 @@
 use Rattle.std.specs.Prelude.{◌≡◌, ℕ, true, if◌then◌else◌, List, [], ◌∷◌, map, ◌⊎◌, refl}
 use Rattle.std.proofs.Common.{sym, subst, ◌∙◌, true≢false, inl, inr}
 use Rattle.iox_model.specs.declared.command.Command.TheVariants as commands
-use Rattle.iox_model.specs.declared.command.Command.TheVariants.{OfNode, Leave, DeclareDead, Cleanup, ListNodes, ListClients, ListServers}
-use Rattle.iox_model.specs.declared.command.PortCommand.TheVariants.{Create, Use}
+use Rattle.iox_model.specs.declared.command.Command.TheVariants.{Leave, DeclareDead, Cleanup, ListNodes, ListClients, ListServers}
 use Rattle.iox_model.specs.declared.reply.Reply.TheVariants as replies
 use Rattle.iox_model.specs.declared.reply.Reply.TheVariants.{Sent, Done, Refused}
 use Rattle.iox_model.specs.declared.way.Way.{Way}
 use Rattle.iox_model.specs.Begins.{start}
-use Rattle.iox_model.specs.Commands.{Reply, Call, PortCommand}
+use Rattle.iox_model.specs.Commands.{Refusal, Reply, Call, HubCommand, Create, Use, asking}
 use Rattle.iox_model.specs.Doings.{Outcome, Tells, Loans, Fills, Sends, FailsToSend, Receives, Drops, DropsPort, Forgets, Doing}
 use Rattle.iox_model.specs.Handles.{is_request_loan, new_number}
 use Rattle.iox_model.specs.Joins.{not_living, not_dead}
-use Rattle.iox_model.specs.Laws.{is_refused}
-use Rattle.iox_model.specs.Makings.{IsPortCommand}
+use Rattle.iox_weaves.specs.Laws.{is_refused}
+use Rattle.iox_model.specs.Makings.{IsHubCommand}
 use Rattle.iox_model.specs.Moments.{moved, Moment, Deliver}
-use Rattle.iox_model.specs.OrderLaws.{all_put_on}
-use Rattle.iox_model.specs.Services.{numbers_of_node, with_own_id, IsCleanup}
+use Rattle.iox_weaves.specs.OrderLaws.{all_put_on}
+use Rattle.iox_model.specs.Services.{numbers_of_node, with_own_id, IsCleanup, IsNodeCommand}
 use Rattle.iox_model.specs.States.{Fixed, State}
 use Rattle.iox_model.specs.Steps.{next}
 use Rattle.iox_model.specs.Weaves.{Beat, Makes}
 use Rattle.iox_model.specs.WholeCalls.{replied, moved_by, left_by, MayCome, IsDone, IsWholeCall}
-use Rattle.iox_model.proofs.CallLaws.{Keeps}
-use Rattle.iox_model.proofs.DeliveredLaws.{HasDelivered, goes_on_delivering, only_sends_deliver, sends_in_the_end}
-use Rattle.iox_model.proofs.MapLemmas.{either}
+use Rattle.iox_weaves.proofs.CallLaws.{Keeps}
+use Rattle.iox_weaves.proofs.DeliveredLaws.{HasDelivered, goes_on_delivering, only_sends_deliver, sends_in_the_end}
+use Rattle.iox_weaves.proofs.MapLemmas.{either}
 use Rattle.iox_runs.specs.TraceLaws.{RefusedPortCommandDeliversNothing, RefusedCommandDeliversNothing}
-use Rattle.iox_runs.specs.Traces.{beats_of_done, beats_of_call, beats_of_port_command, beats_of_releases}
+use Rattle.iox_runs.specs.Traces.{beats_of_done, beats_of_call, beats_of_port_command, beats_of_releases, beats_of_node_command}
 use Rattle.iox_runs.proofs.Along.{unless_along, whole_along}
 
 -- ---- moments back to back
@@ -94,15 +93,20 @@ pub refused_port_command_delivers_nothing : RefusedPortCommandDeliversNothing
 refused_port_command_delivers_nothing s t node (Create role id o) r y done = refl
 refused_port_command_delivers_nothing s t node (Use call) r y done = call_delivers_nothing s node call (Refused r) t y tt done
 
-pub refused_command_delivers_nothing : RefusedCommandDeliversNothing
-refused_command_delivers_nothing s t (OfNode node command) r y done =
-    let own : PortCommand = with_own_id s node command in
-    unless_along (PutsNothing y) (λ a. refl) (not_living s node) s (Refused r) t (IsPortCommand s node own (Refused r) t)
+refused_node_command_delivers_nothing : (s t : State) (node : ℕ) (command : HubCommand) (r : Refusal) (y : Way)
+    → (done : IsNodeCommand s node command (Refused r) t) → all_put_on y (beats_of_node_command s node command (Refused r) t done) ≡ []
+refused_node_command_delivers_nothing s t node command r y done =
+    let own : HubCommand = with_own_id s node command in
+    unless_along (PutsNothing y) (λ a. refl) (not_living s node) s (Refused r) t (IsHubCommand s node own (Refused r) t)
     (beats_of_port_command s node own (Refused r) t) (λ u. refused_port_command_delivers_nothing s t node own r y) done
+
+pub refused_command_delivers_nothing : RefusedCommandDeliversNothing
+refused_command_delivers_nothing s t (commands.Port command) r y done =
+    refused_node_command_delivers_nothing s t (asking command).0 (asking command).1 r y done
 refused_command_delivers_nothing s t (Cleanup node) r y done =
     unless_along (PutsNothing y) (λ a. refl) (not_dead s node) s (Refused r) t (IsCleanup s node (Refused r) t)
     (λ c. beats_of_releases s node (numbers_of_node s.fixed node) c.0 c.1) (λ u c. absurd (subst IsRefused c.2 tt)) done
-refused_command_delivers_nothing s t (commands.Open id asked) r y done = refl
+refused_command_delivers_nothing s t (commands.Join id asked) r y done = refl
 refused_command_delivers_nothing s t (Leave node) r y done = refl
 refused_command_delivers_nothing s t (DeclareDead node) r y done = refl
 refused_command_delivers_nothing s t ListNodes r y done = refl

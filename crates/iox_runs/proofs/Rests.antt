@@ -1,4 +1,4 @@
--- What holds of each state that a run leaves: ports and handles have numbers of their own, a handle
+-- What holds of each state that is reached: ports and handles have numbers of their own, a handle
 -- belongs to a port of its node, and no more waits than the buffer holds.
 use Rattle.std.specs.Prelude.{◌≡◌, ℕ, ◌+◌, ◌-◌, Bool, true, false, not, if◌then◌else◌, ◌==◌, nat_lt, List, [], ◌∷◌, ◌++◌, map, None, refl}
 use Rattle.std.specs.List.{list_all}
@@ -8,13 +8,13 @@ use Rattle.iox_model.specs.States.{Port, Handle, Fixed, State}
 use Rattle.iox_model.specs.Handles.{is_received, way_of}
 use Rattle.iox_model.specs.Maps.{put_at, put, AreDistinct}
 use Rattle.iox_model.specs.Counts.{is_same_handle, without_handle, with_handle, added, changed, dropped, numbered, gives_up}
-use Rattle.iox_model.proofs.MapLemmas.{either}
+use Rattle.iox_weaves.proofs.MapLemmas.{either}
 use Rattle.iox_ledger.proofs.HandlesKept.{with-numbers}
 use Rattle.iox_ledger.proofs.Orders.{less-next, next-is-less, same-not-less}
 use Rattle.iox_ledger.proofs.Truths.{never, both_true}
 use Rattle.iox_ledger.proofs.Lists.{IsAmong, NoRepeats, among-last, filter-among, map-among, no_repeats-last, no_repeats-map_filter}
 use Rattle.iox_reachable.proofs.Settled.{is-port_of}
-use Rattle.iox_reachable.proofs.ServedPorts.{below, IsNumbered, numbered_keeps}
+use Rattle.iox_reachable.proofs.ReachedPorts.{below, IsNumbered, numbered_keeps}
 use Rattle.iox_reachable.proofs.Sound.{IsPortOf, is_port_of, has_own, IsWithin}
 use Rattle.iox_runs.proofs.Ports.{any_at, IsPortIn, next_is_free}
 

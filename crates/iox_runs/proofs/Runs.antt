@@ -1,35 +1,41 @@
--- Each command leaves what holds between calls, so it holds of each state that is left.
-use Rattle.std.specs.Prelude.{◌≡◌, ℕ, ◌+◌, ◌≤◌, true, false, nat_lt, nat_le, List, [], ◌∷◌, ◌++◌, length, None, refl}
+-- Each command leaves what holds between calls, so it holds of each state that is reached.
+use Rattle.std.specs.Prelude.{◌≡◌, ℕ, ◌+◌, ◌≤◌, true, false, nat_lt, nat_le, List, [], ◌∷◌, ◌++◌, length, Some, None, refl}
 use Rattle.std.specs.Option.{option_map_or}
 use Rattle.std.proofs.Common.{sym, subst, ap, ◌∙◌, true≢false, arith}
 use Rattle.iox_types.specs.declared.identifiers.system_id.UniqueSystemId.{UniqueSystemId}
 use Rattle.iox_model.specs.declared.backpressure.BackpressureAction.{BackpressureAction}
 use Rattle.iox_model.specs.declared.kind.Role.TheVariants.{Client}
 use Rattle.iox_model.specs.declared.way.Way.{Way}
-use Rattle.iox_model.specs.Commands.{Reply, Call, PortCommand, Command}
+use Rattle.iox_model.specs.Commands.{Reply, Call, HubCommand, Command}
 use Rattle.iox_model.specs.WholeCalls.{IsWholeCall}
 use Rattle.iox_model.specs.Counts.{with_fixed}
 use Rattle.iox_model.specs.Joins.{with_members}
-use Rattle.iox_model.specs.Makings.{new_port, with_port, IsPortCommand}
+use Rattle.iox_model.specs.Makings.{new_port, with_port, IsHubCommand}
 use Rattle.iox_model.specs.Messages.{Message}
 use Rattle.iox_model.specs.Peers.{buffer_on}
 use Rattle.iox_model.specs.Runs.{raised, created}
 use Rattle.iox_model.specs.Services.{IsCommand}
 use Rattle.iox_model.specs.Settings.{Limits, buffer_of}
-use Rattle.iox_model.specs.States.{Port, Fixed, State}
+use Rattle.iox_model.specs.States.{Port, Handle, Fixed, State}
+use Rattle.iox_model.specs.Values.{Filling, filled_as, MayFill}
+use Rattle.iox_model.specs.Handles.{handle_at}
+use Rattle.iox_model.specs.Doings.{Fills}
+use Rattle.iox_model.specs.Ends.{settled}
+use Rattle.iox_reachable.proofs.Fillings.{IsLoanAs, still_a_loan, named_among}
+use Rattle.iox_ledger.proofs.Senders.{IsMade}
 use Rattle.iox_reachable.proofs.Inductions.{IsKept, whole_keeps, port_command_keeps, command_keeps}
-use Rattle.iox_reachable.proofs.ServedPorts.{distinct_next, below_next}
+use Rattle.iox_reachable.proofs.ReachedPorts.{distinct_next, below_next}
 use Rattle.iox_reachable.proofs.Sound.{IsPortOf, IsWithin}
-use Rattle.iox_runs.specs.Lefts.{IsLeft}
+use Rattle.iox_model.specs.Runs.{IsReachableState}
 use Rattle.iox_ledger.proofs.Truths.{by_cases}
 use Rattle.iox_ledger.proofs.Orders.{not-less-next, less-next, same-not-less}
 use Rattle.iox_ledger.proofs.Lists.{IsAmong, le-none}
-use Rattle.iox_runs.proofs.Along.{left_keeps}
+use Rattle.iox_reachable.proofs.Inductions.{reached_keeps}
 use Rattle.iox_runs.proofs.Ports.{any_at, first_at, at_last, first_more, port_more}
 use Rattle.iox_runs.proofs.Rests.{FitsHandle, Rests, Rested}
 use Rattle.iox_runs.proofs.Calls.{done_calm}
 use Rattle.iox_runs.proofs.Porting.{made_owned}
-use Rattle.iox_runs.proofs.Settling.{Calm}
+use Rattle.iox_runs.proofs.Settling.{Calm, settled_calm}
 use Rattle.iox_runs.proofs.Holding.{WaitFits}
 use Rattle.iox_runs.proofs.Owning.{Has, Owned, limit_in, most_in}
 
@@ -111,17 +117,30 @@ same_calm s t fixed waiting c = record { rests = same_rests s t fixed waiting c.
 
 -- ---- commands
 
+-- ---- a loan is filled
+
+filled_calm : (s : State) (node number : ℕ) (h : Handle) (x : Filling) → handle_at s.fixed node number ≡ Some h → MayFill s.fixed h x
+    → Calm s → Calm (settled s node [] (Fills (filled_as h x)))
+filled_calm s node number h x there may c =
+    let among : IsAmong h (s.fixed.handles node) = (named_among s.fixed node number h there).0 in
+    let fits : FitsHandle s.fixed.ports s.fixed.next_number node h = ((c.rests).fixed.handles node).each h among in
+    let made : IsMade s.fixed.ports h = (((c.owned).has).kept node h among).loan may.loan in
+    let still : IsLoanAs h.kind x.kind = still_a_loan h.kind x.kind may.loan may.kind in
+    settled_calm s node [] (Fills (filled_as h x)) c (fits.of_node, fits.of_port)
+    (still.0, record { sender = made.sender; lane = made.lane; role = still.1 ∙ made.role })
+
 pub calm_kept : IsKept Calm
 calm_kept = record {
   nodes = λ s x u c. same_calm s (with_members s x) refl refl c;
   makes = λ s node role id o memory allowed c. made_calm s (new_port s.fixed node role id o) refl c;
   calls = λ s node call reply t named done c. done_calm s node call reply t c named done;
+  fills = λ s node number h x there may c. filled_calm s node number h x there may c;
 }
 
 pub whole_calm : (s : State) (node : ℕ) (call : Call) (reply : Reply) (t : State) → Calm s → IsWholeCall s node call reply t → Calm t
 whole_calm = whole_keeps Calm calm_kept
 
-pub port_command_calm : (s : State) (node : ℕ) (c : PortCommand) (reply : Reply) (t : State) → Calm s → IsPortCommand s node c reply t → Calm t
+pub port_command_calm : (s : State) (node : ℕ) (c : HubCommand) (reply : Reply) (t : State) → Calm s → IsHubCommand s node c reply t → Calm t
 port_command_calm = port_command_keeps Calm calm_kept
 
 pub command_calm : (s : State) (c : Command) (reply : Reply) (t : State) → Calm s → IsCommand s c reply t → Calm t
@@ -159,5 +178,5 @@ created_calm l acts id = record {
     nothing n = omega arith
 
 -- Whatever was asked before, it is calm between calls.
-pub left_calm : (s : State) → IsLeft s → Calm s
-left_calm = left_keeps Calm calm_kept created_calm
+pub left_calm : (s : State) → IsReachableState s → Calm s
+left_calm = reached_keeps Calm calm_kept created_calm

@@ -9,7 +9,7 @@ use Rattle.iox_model.specs.Handles.{is_request_loan, is_received, way_of, new_nu
 use Rattle.iox_model.specs.Maps.{put}
 use Rattle.iox_model.specs.Ends.{sent_loan, sent_copy, is_nothing, port_dropped, settled}
 use Rattle.iox_model.specs.Counts.{added, changed, dropped, numbered, lent, called, borrows, gives_up, with_fixed, received_handle, sent_handle, holding}
-use Rattle.iox_model.proofs.MapLemmas.{either}
+use Rattle.iox_weaves.proofs.MapLemmas.{either}
 use Rattle.iox_reachable.proofs.Settled.{of_own}
 use Rattle.iox_reachable.proofs.Sound.{IsOwn, IsPortOf, FitsOutcome}
 use Rattle.iox_runs.proofs.Rests.{Rests, Rested, numbered-hub, rests_same, adds, changes, drops}

@@ -16,7 +16,7 @@ use Rattle.iox_model.specs.Messages.{Message}
 use Rattle.iox_model.specs.Names.{is_port}
 use Rattle.iox_model.specs.Settings.{is_client}
 use Rattle.iox_model.specs.States.{Port, Handle, Fixed, State}
-use Rattle.iox_model.proofs.MapLemmas.{either}
+use Rattle.iox_weaves.proofs.MapLemmas.{either}
 use Rattle.iox_ledger.proofs.Views.{node_in}
 use Rattle.iox_ledger.proofs.Orders.{le-refl, le-next, less-le, less-next}
 use Rattle.iox_ledger.proofs.Lists.{IsAmong}
@@ -235,7 +235,7 @@ settled_owned s node payload (Forgets dead) r o fits p =
 
 -- ---- between calls
 
--- what holds of each state that is left
+-- what holds of each state that is reached
 pub record Calm (s : State) : Type 0 where
   pub rests : Rested s
   pub owned : Owned s

@@ -3,8 +3,8 @@ use Rattle.std.specs.Prelude.{◌≡◌, ℕ, Bool, true, false, ◌&&◌, if◌
 use Rattle.std.proofs.Common.{sym, subst, eqb-true, inl, inr}
 use Rattle.iox_model.specs.Services.{insert_number, ascending, numbers_of_node}
 use Rattle.iox_model.specs.States.{Port, Handle, Fixed}
-use Rattle.iox_model.proofs.MapLemmas.{eqb-refl}
-use Rattle.iox_model.proofs.PlayedRuns.{split}
+use Rattle.iox_weaves.proofs.MapLemmas.{eqb-refl}
+use Rattle.iox_weaves.proofs.WholeLemmas.{split}
 use Rattle.iox_ledger.proofs.Truths.{never}
 use Rattle.iox_ledger.proofs.Lists.{IsAmong, NoRepeats, among-append, among-any, map-among, filter-among, no_repeats-map_filter, distinct-no_repeats, no_repeats-distinct, no_repeats-append}
 use Rattle.iox_runs.specs.Resting.{ValuesHaveOwnNumbers}

@@ -11,12 +11,12 @@ use Rattle.iox_model.specs.Doings.{Outcome, Tells}
 use Rattle.iox_model.specs.Ends.{settled}
 use Rattle.iox_model.specs.Makings.{new_port, with_port}
 use Rattle.iox_model.specs.Runs.{IsHistory}
-use Rattle.iox_model.specs.Scripts.{defaults, of_length_one, process, service, request_saying}
+use Rattle.iox_worked.specs.Scripts.{defaults, of_length_one, process, service, request_saying}
 use Rattle.iox_model.specs.States.{State}
 use Rattle.iox_model.specs.WholeCalls.{moved_by, IsDone}
-use Rattle.iox_model.specs.WorkedWeaves.{on_lane}
-use Rattle.iox_model.proofs.PlayedCalls.{many, moments, end_of}
-use Rattle.iox_model.proofs.Plays.{played_may_come}
+use Rattle.iox_weaves.specs.Laws.{on_lane}
+use Rattle.iox_weaves.proofs.PlayedCalls.{many, moments, end_of}
+use Rattle.iox_weaves.proofs.Plays.{played_may_come}
 use Rattle.iox_runs.specs.WorkedTraces.{receives_one_of_two, TracesTheRequests}
 
 -- what the call comes to, and the state that it leaves

@@ -1,5 +1,4 @@
--- In reading order: the states that are left, what runs made, what is answered, and what holds.
-pub mod Lefts
+-- In reading order: the states that are reached, what runs made, what is answered, and what holds.
 pub mod Traces
 pub mod Answering
 pub mod Resting

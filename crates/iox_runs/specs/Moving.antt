@@ -1,9 +1,9 @@
--- What holds in the midst of a call, from each state that is left.
+-- What holds in the midst of a call, from each state that is reached.
 use Rattle.std.specs.Prelude.{◌≡◌, ℕ, ◌+◌, ◌≤◌, if◌then◌else◌, List, length, Some, None, IsTrue}
 use Rattle.iox_model.specs.declared.way.Way.{Way}
 use Rattle.iox_model.specs.Begins.{start}
 use Rattle.iox_model.specs.Commands.{Call}
-use Rattle.iox_model.specs.Ledgers.{had_on}
+use Rattle.iox_weaves.specs.Ledgers.{had_on}
 use Rattle.iox_model.specs.Loans.{Choice}
 use Rattle.iox_model.specs.Maps.{put_at}
 use Rattle.iox_model.specs.Moments.{Moment}
@@ -13,14 +13,14 @@ use Rattle.iox_model.specs.States.{State}
 use Rattle.iox_model.specs.Weaves.{World}
 use Rattle.iox_model.specs.WholeCalls.{moved_by, left_by, MayCome}
 use Rattle.iox_ledger.specs.QueueLaws.{evicts_next}
-use Rattle.iox_runs.specs.Lefts.{IsLeft}
+use Rattle.iox_model.specs.Runs.{IsReachableState}
 
 -- After any moments of a call, what waits of a connected port is at most the buffer, and one more
 -- on the way where the call delivered last and may still evict.
 abbrev pub QueuesStayWithin : Type 0
 QueuesStayWithin =
     (s : State) (node : ℕ) (call : Call) (c : Choice) (ms : List Moment) (v : Way)
-    → IsLeft s → misnamed s.fixed node call ≡ None → MayCome s node (start s node c call) ms
+    → IsReachableState s → misnamed s.fixed node call ≡ None → MayCome s node (start s node c call) ms
     → IsTrue (is_connected_port s.fixed v.sender)
     → length ((moved_by s ms).waiting v) ≤ buffer_on s.fixed v
     + (if evicts_next v (left_by s node (start s node c call) ms) then 1 else 0)
@@ -37,5 +37,5 @@ amid s node call c ms = record {
 abbrev pub BorrowsStayWithin : Type 0
 BorrowsStayWithin =
     (s : State) (node : ℕ) (call : Call) (c : Choice) (ms : List Moment) (v : Way)
-    → IsLeft s → misnamed s.fixed node call ≡ None → MayCome s node (start s node c call) ms
+    → IsReachableState s → misnamed s.fixed node call ≡ None → MayCome s node (start s node c call) ms
     → length (had_on (amid s node call c ms) v) ≤ borrow_limit_on s.fixed v

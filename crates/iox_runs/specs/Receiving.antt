@@ -1,4 +1,4 @@
--- What a receive hands out, in each state that is left.
+-- What a receive hands out, in each state that is reached.
 use Rattle.std.specs.Prelude.{◌≡◌, ℕ, false, Some, IsTrue}
 use Rattle.iox_model.specs.declared.call.Call.TheVariants.{Receive}
 use Rattle.iox_model.specs.declared.kind.Kind.TheVariants.{ActiveRequest, Response}
@@ -7,13 +7,13 @@ use Rattle.iox_model.specs.Handles.{own_state, subject, ThePort, TheHandle}
 use Rattle.iox_model.specs.Messages.{names}
 use Rattle.iox_model.specs.States.{Port, Handle, State}
 use Rattle.iox_model.specs.WholeCalls.{IsWholeCall}
-use Rattle.iox_runs.specs.Lefts.{IsLeft}
+use Rattle.iox_model.specs.Runs.{IsReachableState}
 
 -- The handle that a pending response's receive answers is a response on its lane, to its request.
 abbrev pub ResponsesNameTheirRequest : Type 0
 ResponsesNameTheirRequest =
     (s t : State) (node n k : ℕ) (h : Handle)
-    → IsLeft s → subject s.fixed node n ≡ Some (TheHandle h)
+    → IsReachableState s → subject s.fixed node n ≡ Some (TheHandle h)
     → IsWholeCall s node (Receive n) (replies.Handle k) t
     → (g : Handle) × (subject t.fixed node k ≡ Some (TheHandle g))
     × (g.kind ≡ Response) × (g.port ≡ h.port)
@@ -24,7 +24,7 @@ ResponsesNameTheirRequest =
 abbrev pub RequestsAreNamed : Type 0
 RequestsAreNamed =
     (s t : State) (node n k : ℕ) (p : Port)
-    → IsLeft s → subject s.fixed node n ≡ Some (ThePort p)
+    → IsReachableState s → subject s.fixed node n ≡ Some (ThePort p)
     → IsWholeCall s node (Receive n) (replies.Handle k) t
     → (g : Handle) × (subject t.fixed node k ≡ Some (TheHandle g))
     × (g.kind ≡ ActiveRequest) × (g.port ≡ p.number)

@@ -1,19 +1,19 @@
--- What holds between calls, in each state that is left.
+-- What holds between calls, in each state that is reached.
 use Rattle.std.specs.Prelude.{ℕ, ◌≤◌, length, IsTrue}
 use Rattle.iox_model.specs.declared.way.Way.{Way}
-use Rattle.iox_model.specs.Ledgers.{had_on}
+use Rattle.iox_weaves.specs.Ledgers.{had_on}
 use Rattle.iox_model.specs.Maps.{AreDistinct}
 use Rattle.iox_model.specs.Peers.{is_connected_port, role_at, buffer_on, borrow_limit_on}
 use Rattle.iox_model.specs.Services.{numbers_of_node}
 use Rattle.iox_model.specs.Settings.{other_role, buffer_of}
 use Rattle.iox_model.specs.States.{Fixed, State}
 use Rattle.iox_model.specs.Weaves.{at_work}
-use Rattle.iox_runs.specs.Lefts.{IsLeft}
+use Rattle.iox_model.specs.Runs.{IsReachableState}
 
 -- Of what a connected port sent, no more waits on a way than the buffer holds.
 abbrev pub QueuesRestWithin : Type 0
 QueuesRestWithin =
-    (s : State) (v : Way) → IsLeft s → IsTrue (is_connected_port s.fixed v.sender)
+    (s : State) (v : Way) → IsReachableState s → IsTrue (is_connected_port s.fixed v.sender)
     → length (s.waiting v) ≤ buffer_on s.fixed v
 
 -- the buffer of those that send to the way's receiver, whether the sender is there or gone
@@ -23,14 +23,14 @@ buffer_to f v = buffer_of f.limits (other_role (role_at f v.receiver))
 -- And no more than that waits of a sender that is gone.
 abbrev pub QueuesOfTheGoneRestWithin : Type 0
 QueuesOfTheGoneRestWithin =
-    (s : State) (v : Way) → IsLeft s → length (s.waiting v) ≤ buffer_to s.fixed v
+    (s : State) (v : Way) → IsReachableState s → length (s.waiting v) ≤ buffer_to s.fixed v
 
 -- Of each way a receiver has at most as many messages as it may borrow.
 abbrev pub BorrowsRestWithin : Type 0
 BorrowsRestWithin =
-    (s : State) (v : Way) → IsLeft s → length (had_on (at_work s) v) ≤ borrow_limit_on s.fixed v
+    (s : State) (v : Way) → IsReachableState s → length (had_on (at_work s) v) ≤ borrow_limit_on s.fixed v
 
 -- No two of a node's ports and handles have one number.
 abbrev pub ValuesHaveOwnNumbers : Type 0
 ValuesHaveOwnNumbers =
-    (s : State) (node : ℕ) → IsLeft s → AreDistinct (numbers_of_node s.fixed node)
+    (s : State) (node : ℕ) → IsReachableState s → AreDistinct (numbers_of_node s.fixed node)

@@ -4,20 +4,20 @@ use Rattle.std.specs.List.{list_any}
 use Rattle.iox_model.specs.declared.way.Way.{Way}
 use Rattle.iox_model.specs.declared.reply.Reply.TheVariants.{Refused}
 use Rattle.iox_model.specs.Begins.{start}
-use Rattle.iox_model.specs.Commands.{Refusal, Reply, Call, PortCommand, Command}
+use Rattle.iox_model.specs.Commands.{Refusal, Reply, Call, HubCommand, Command}
 use Rattle.iox_model.specs.Loans.{Choice}
-use Rattle.iox_model.specs.Makings.{IsPortCommand}
+use Rattle.iox_model.specs.Makings.{IsHubCommand}
 use Rattle.iox_model.specs.Maps.{same_way}
 use Rattle.iox_model.specs.Messages.{serials_of}
 use Rattle.iox_model.specs.Moments.{Moment, Evict}
-use Rattle.iox_model.specs.OrderLaws.{all_put_on, all_taken_from, Gives}
+use Rattle.iox_weaves.specs.OrderLaws.{all_put_on, all_taken_from, Gives}
 use Rattle.iox_model.specs.Peers.{overflows_on}
 use Rattle.iox_model.specs.Services.{IsCommand}
 use Rattle.iox_model.specs.States.{State}
 use Rattle.iox_model.specs.Weaves.{Beat, Makes}
 use Rattle.iox_model.specs.WholeCalls.{moved_by, MayCome, IsWholeCall}
-use Rattle.iox_runs.specs.Lefts.{IsLeft}
-use Rattle.iox_runs.specs.Traces.{beats_of_call, beats_of_port_command, beats_of_command, beats_of_left}
+use Rattle.iox_model.specs.Runs.{IsReachableState}
+use Rattle.iox_runs.specs.Traces.{beats_of_call, beats_of_port_command, beats_of_command, beats_of_reached}
 
 -- On the way what the beats delivered gives, in its order, what they took, and then what waits.
 abbrev pub AreInOrder : Way → List Beat → State → Type 0
@@ -27,21 +27,21 @@ AreInOrder y bs s = Gives (all_put_on y bs) (all_taken_from y bs ++ serials_of (
 -- that went cut off.
 abbrev pub InOrderOverRuns : Type 0
 InOrderOverRuns =
-    (s : State) (left : IsLeft s) (y : Way) → AreInOrder y (beats_of_left s left) s
+    (s : State) (reached : IsReachableState s) (y : Way) → AreInOrder y (beats_of_reached s reached) s
 
 -- And so it is after any moments of a call that follows.
 abbrev pub InOrderInACall : Type 0
 InOrderInACall =
-    (s : State) (left : IsLeft s) (y : Way)
+    (s : State) (reached : IsReachableState s) (y : Way)
     → (node : ℕ) (call : Call) (c : Choice) (ms : List Moment)
     → MayCome s node (start s node c call) ms
-    → AreInOrder y (beats_of_left s left ++ map (Makes node) ms) (moved_by s ms)
+    → AreInOrder y (beats_of_reached s reached ++ map (Makes node) ms) (moved_by s ms)
 
 -- A command of a port that is refused delivered nothing, on any way,
 abbrev pub RefusedPortCommandDeliversNothing : Type 0
 RefusedPortCommandDeliversNothing =
-    (s t : State) (node : ℕ) (command : PortCommand) (r : Refusal) (y : Way)
-    → (done : IsPortCommand s node command (Refused r) t)
+    (s t : State) (node : ℕ) (command : HubCommand) (r : Refusal) (y : Way)
+    → (done : IsHubCommand s node command (Refused r) t)
     → all_put_on y (beats_of_port_command s node command (Refused r) t done) ≡ []
 
 -- and so did a command of the service.
@@ -60,6 +60,6 @@ evicts_on y b = false
 abbrev pub OnlyOverflowEvicts : Type 0
 OnlyOverflowEvicts =
     (s t : State) (node : ℕ) (call : Call) (reply : Reply) (y : Way)
-    → IsLeft s → (done : IsWholeCall s node call reply t)
+    → IsReachableState s → (done : IsWholeCall s node call reply t)
     → IsTrue (list_any (evicts_on y) (beats_of_call s node call reply t done))
     → IsTrue (overflows_on s.fixed y)

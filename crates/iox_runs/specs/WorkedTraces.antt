@@ -1,30 +1,25 @@
 -- A worked history of a hub: a request is sent and received, and its trace tells so.
-use Rattle.std.specs.Prelude.{◌≡◌, ℕ, List, [], ◌∷◌}
+use Rattle.std.specs.Prelude.{◌≡◌, List, [], ◌∷◌}
 use Rattle.iox_model.specs.declared.call.Call.TheVariants.{SendCopy, Receive}
-use Rattle.iox_model.specs.declared.command.PortCommand.TheVariants.{Create, Use}
+use Rattle.iox_model.specs.Commands.{Create, Use}
 use Rattle.iox_model.specs.declared.kind.Role.TheVariants.{Client, Server}
 use Rattle.iox_model.specs.declared.reply.Reply.TheVariants as replies
-use Rattle.iox_model.specs.Commands.{Reply, PortCommand}
 use Rattle.iox_model.specs.Messages.{request_way}
-use Rattle.iox_model.specs.OrderLaws.{all_put_on, all_taken_from}
-use Rattle.iox_model.specs.Runs.{IsHistory, Record}
-use Rattle.iox_model.specs.Scripts.{defaults, of_length_one, process, service, request_saying}
+use Rattle.iox_weaves.specs.OrderLaws.{all_put_on, all_taken_from}
+use Rattle.iox_model.specs.Runs.{ServiceStep, OfHub, IsHistory}
+use Rattle.iox_worked.specs.Scripts.{defaults, of_length_one, process, service, request_saying}
 use Rattle.iox_model.specs.States.{State}
 use Rattle.iox_model.specs.Weaves.{Beat}
 use Rattle.iox_runs.specs.Traces.{beats_of_history}
 
--- a command of that node, and its reply
-abbrev pub asks : ℕ → PortCommand → Reply → Record
-asks node command reply = record { node = node; command = command; reply = reply }
-
 -- client 0 of node 0 sends two requests, and server 1 of node 1 receives the first
-abbrev pub receives_one_of_two : List Record
+abbrev pub receives_one_of_two : List ServiceStep
 receives_one_of_two =
-    asks 0 (Create Client (process 1) of_length_one) (replies.Client 0)
-    ∷ asks 1 (Create Server (process 2) of_length_one) (replies.Server 1)
-    ∷ asks 0 (Use (SendCopy 0 (request_saying 7))) (replies.Handle 2)
-    ∷ asks 0 (Use (SendCopy 0 (request_saying 8))) (replies.Handle 3)
-    ∷ asks 1 (Use (Receive 1)) (replies.Handle 4) ∷ []
+    OfHub 0 (Create Client (process 1) of_length_one) (replies.Client 0)
+    ∷ OfHub 1 (Create Server (process 2) of_length_one) (replies.Server 1)
+    ∷ OfHub 0 (Use (SendCopy 0 (request_saying 7))) (replies.Handle 2)
+    ∷ OfHub 0 (Use (SendCopy 0 (request_saying 8))) (replies.Handle 3)
+    ∷ OfHub 1 (Use (Receive 1)) (replies.Handle 4) ∷ []
 
 abbrev pub trace_of : (t : State) → IsHistory (service defaults) receives_one_of_two t → List Beat
 trace_of t h = beats_of_history (service defaults) receives_one_of_two t h

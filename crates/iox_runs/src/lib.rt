@@ -3,7 +3,8 @@
 #![tactic(auto)]
 
 ghost use Rattle.iox_runs.specs.Answering.{EachCallEnds, EachCommandIsAnswered, EachHistoryGoesOn};
-ghost use Rattle.iox_runs.specs.Answering.{EachPortCommandIsAnswered, EachRunGoesOn, SomethingMayBeChosen};
+ghost use Rattle.iox_runs.specs.Answering.{EachPortCommandIsAnswered, EachRunGoesOn};
+ghost use Rattle.iox_runs.specs.Answering.{EachValueIsReleased, SomethingMayBeChosen};
 ghost use Rattle.iox_runs.specs.Dying.{TheDeadStayDead};
 ghost use Rattle.iox_runs.specs.Moving.{BorrowsStayWithin, QueuesStayWithin};
 ghost use Rattle.iox_runs.specs.Receiving.{RequestsAreNamed, ResponsesNameTheirRequest};
@@ -19,12 +20,14 @@ pub fn calls_come_to_their_end()
     ensures ends { EachCallEnds }
 {}
 
-/// Whatever a service or its hub is asked, it answers: no run is ever stuck.
+/// Whatever a service or its hub is asked, it answers, and values may be released at any time: no
+/// run is ever stuck.
 pub fn commands_are_answered()
     ensures of_ports { EachPortCommandIsAnswered }
     ensures of_services { EachCommandIsAnswered }
     ensures runs { EachRunGoesOn }
     ensures histories { EachHistoryGoesOn }
+    ensures values { EachValueIsReleased }
 {}
 
 /// Between calls no more waits on a way than its buffer holds, whether the sender is there or gone.
@@ -77,7 +80,8 @@ pub fn messages_come_at_their_request()
     ensures requests { RequestsAreNamed }
 {}
 
-/// A node that died or left never asks anything again.
+/// Whatever history follows, each later command of a port or handle by a node that died or left is
+/// refused by the service, and changes nothing.
 pub fn the_dead_do_nothing()
     ensures { TheDeadStayDead }
 {}

@@ -1,4 +1,5 @@
 use Rattle.iox_runs.proofs.Answered.{each_port_command_is_answered, each_command_is_answered, each_run_goes_on, each_history_goes_on}
+use Rattle.iox_runs.proofs.Releasing.{each_value_is_released}
 use Rattle.iox_runs.proofs.commands_are_answered.Goals as goal
 
 pub returns-clause-of_ports : goal.returns-clause-of_ports
@@ -12,3 +13,6 @@ returns-clause-runs c = each_run_goes_on
 
 pub returns-clause-histories : goal.returns-clause-histories
 returns-clause-histories c = each_history_goes_on
+
+pub returns-clause-values : goal.returns-clause-values
+returns-clause-values c = each_value_is_released

@@ -1,0 +1,14 @@
+pub mod MapLemmas
+pub mod WholeLemmas
+pub mod Plays
+pub mod PlayedCalls
+pub mod PlayedRuns
+pub mod PlayedWeaves
+pub mod CallLaws
+pub mod NamedLaws
+pub mod DeliveredLaws
+pub mod DeathLaws
+pub mod WireLemmas
+pub mod InOrder
+pub mod KeptWords
+pub mod Apart

@@ -1,0 +1,4 @@
+pub mod WorkedRunsHold
+pub mod WorkedWeavesHold
+pub mod Shapes
+pub mod WorkedStepsHold

@@ -1,0 +1,55 @@
+//! Worked runs and weaves: commands with the replies that the definitions allow.
+//! The functions have nothing to do: each is there for its contract.
+#![tactic(auto)]
+
+ghost use Rattle.iox_worked.specs.Scripts.{IsPlayed};
+ghost use Rattle.iox_worked.specs.WorkedRuns.{responds_in_order, evicts_the_oldest, keeps_the_active_limit, refuses_a_full_server};
+ghost use Rattle.iox_worked.specs.WorkedRuns.{RaisesLimits, RefusesIds, RefusesLimits};
+ghost use Rattle.iox_worked.specs.WorkedRuns.{asks_and_hints, grows_as_its_maker_says, grows_as_the_service_says};
+ghost use Rattle.iox_worked.specs.WorkedRuns.{discards_for_a_full_server, cleans_up_the_dead, keeps_the_borrow_limit, skips_a_stale_request};
+ghost use Rattle.iox_worked.specs.ExpiredRuns.{expires_two, expires_one, expires_none};
+ghost use Rattle.iox_worked.specs.WorkedSteps.{FillsALoan, ReleasesAWrittenLoan};
+ghost use Rattle.iox_worked.specs.WorkedWeaves.{RefusesGrowingPorts, StopsAndIsForgotten};
+ghost use Rattle.iox_worked.specs.EvictionWeaves.{KeepsTwo};
+
+/// Requests, responses, limits, a full server, a dead node, messages that grow, hints.
+pub fn runs()
+    ensures in_order { IsPlayed responds_in_order }
+    ensures evicted { IsPlayed evicts_the_oldest }
+    ensures active_limit { IsPlayed keeps_the_active_limit }
+    ensures undeliverable { IsPlayed refuses_a_full_server }
+    ensures discarded { IsPlayed discards_for_a_full_server }
+    ensures cleaned_up { IsPlayed cleans_up_the_dead }
+    ensures borrow_limit { IsPlayed keeps_the_borrow_limit }
+    ensures stale { IsPlayed skips_a_stale_request }
+    ensures grows { IsPlayed grows_as_the_service_says }
+    ensures grows_by_option { IsPlayed grows_as_its_maker_says }
+    ensures asked { IsPlayed asks_and_hints }
+{}
+
+/// Creations: limits of 0 are raised, too large ones and ids that are none refused.
+pub fn creations()
+    ensures raised { RaisesLimits }
+    ensures limits { RefusesLimits }
+    ensures ids { RefusesIds }
+{}
+
+/// Pairs whose servers are gone.
+pub fn expired_runs()
+    ensures two { IsPlayed expires_two }
+    ensures one { IsPlayed expires_one }
+    ensures none { IsPlayed expires_none }
+{}
+
+/// Wires: a node that stops and is forgotten, what is outstanding at the limits, and a refused opening.
+pub fn weaves()
+    ensures stopped { StopsAndIsForgotten }
+    ensures outstanding { KeepsTwo }
+    ensures growing { RefusesGrowingPorts }
+{}
+
+/// Loans that their holders fill, and a value that is released once a command wrote its loan.
+pub fn histories()
+    ensures filled { FillsALoan }
+    ensures released { ReleasesAWrittenLoan }
+{}
