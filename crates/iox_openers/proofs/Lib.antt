@@ -1,0 +1,4 @@
+pub mod CompatibilityLemmas
+pub mod LackLemmas
+pub mod AnswerLemmas
+pub mod TellingLemmas

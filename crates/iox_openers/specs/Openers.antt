@@ -1,0 +1,59 @@
+-- What an opener of a service is refused by types and attributes: the first test that fails.
+use Rattle.std.specs.Prelude.{List, Option, Some, None}
+use Rattle.iox_types.specs.Compatibility.{AreCompatible}
+use Rattle.iox_names.specs.declared.attribute.Attribute.{Attribute}
+use Rattle.iox_attributes.specs.Verifiers.{Requirements, Meets, Lacks}
+use Rattle.iox_attributes.specs.declared.verification_error.AttributeVerificationError.TheVariants.{IncompatibleAttribute, NonExistingKey}
+use Rattle.iox_model.specs.Commands.{Refusal, Cause, MissingPair, MissingKey}
+use Rattle.iox_model.specs.declared.reply.Refusal.TheVariants.{IncompatibleRequestTypes, IncompatibleResponseTypes, IncompatibleAttributes}
+use Rattle.iox_openers.specs.declared.message_types.MessageTypes.{MessageTypes}
+use Rattle.iox_openers.specs.declared.service_description.ServiceDescription.{ServiceDescription}
+
+-- an opener: the types of its messages, and what it requires
+pub record Opener : Type 0 where
+  pub types : MessageTypes
+  pub required : Requirements
+
+abbrev pub opener : MessageTypes → Requirements → Opener
+opener types required = record { types = types; required = required }
+
+-- messages of my types may be read where messages of theirs are laid out
+pub record Suit (mine theirs : MessageTypes) : Type 0 where
+  pub request : AreCompatible mine.request theirs.request
+  pub response : AreCompatible mine.response theirs.response
+
+-- the first of the two tests of types that fails, if one does
+abbrev pub IsRefusedByTypes : MessageTypes → MessageTypes → Option Refusal → Type 0
+-- both are passed
+IsRefusedByTypes mine theirs None = Suit mine theirs
+-- the types of requests do not suit
+IsRefusedByTypes mine theirs (Some IncompatibleRequestTypes) = ¬ AreCompatible mine.request theirs.request
+-- those of requests do, those of responses do not
+IsRefusedByTypes mine theirs (Some IncompatibleResponseTypes) =
+    AreCompatible mine.request theirs.request × ¬ AreCompatible mine.response theirs.response
+-- there is no other such refusal
+IsRefusedByTypes mine theirs (Some _) = ⊥
+
+-- why what is defined does not meet what is required
+abbrev pub IsLacking : Requirements → List Attribute → Cause → Type 0
+-- a pair is missing: the least such
+IsLacking required defined (MissingPair key value) = Lacks required defined (IncompatibleAttribute key value)
+-- no pair is missing, but a key: the first such
+IsLacking required defined (MissingKey key) = Lacks required defined (NonExistingKey key)
+
+-- The first of an opener's tests that fails, if one does: of the types of requests, of those of
+-- responses, each compared to the service's, then of the attributes.
+abbrev pub IsAsked : ServiceDescription → Opener → Option Refusal → Type 0
+-- all are passed
+IsAsked service opener None =
+    Suit opener.types service.types × Meets opener.required service.attributes
+-- the types suit, the attributes do not
+IsAsked service opener (Some (IncompatibleAttributes cause)) =
+    Suit opener.types service.types × IsLacking opener.required service.attributes cause
+-- the types do not suit
+IsAsked service opener (Some other) = IsRefusedByTypes opener.types service.types (Some other)
+
+-- A service that is created: the first of two tests that fails, if one does. The types that the
+-- service has by itself are compared to those that its creator gives.
+abbrev pub IsAskedOfCreator : MessageTypes → MessageTypes → Option Refusal → Type 0
+IsAskedOfCreator own given = IsRefusedByTypes own given

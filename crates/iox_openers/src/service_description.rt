@@ -1,0 +1,42 @@
+//! What the creator and the openers of a service are compared with.
+use crate::message_types::MessageTypes;
+use iox_attributes::{AttributeSpecifier, AttributeVerificationError, AttributeVerifier};
+use iox_model::reply::Refusal;
+
+/// What the creator and the openers of a service are compared with: the types of its messages, and
+/// its attributes.
+#[derive(Drop)]
+pub struct ServiceDescription {
+    pub types: MessageTypes,
+    pub attributes: AttributeSpecifier,
+}
+
+impl ServiceDescription {
+    ghost use Rattle.iox_openers.specs.Causes.{told};
+    ghost use Rattle.iox_openers.specs.Openers.{IsAsked, IsAskedOfCreator, opener};
+
+    /// What a creator whose own messages have these types is refused by them, if it is refused.
+    pub fn creator_refusal(&self, own: &MessageTypes) -> Option<Refusal<AttributeVerificationError>>
+        ensures { IsAskedOfCreator own.now self.now.types (told result) }
+    {
+        own.incompatibility_to(&self.types)
+    }
+
+    /// What an opener whose messages have these types, and that requires this, is refused by types
+    /// and attributes, if it is refused.
+    pub fn opener_refusal(
+        &self,
+        types: &MessageTypes,
+        verifier: &AttributeVerifier,
+    ) -> Option<Refusal<AttributeVerificationError>>
+        ensures { IsAsked self.now (opener types.now verifier.now) (told result) }
+    {
+        if let Some(refusal) = types.incompatibility_to(&self.types) {
+            return Some(refusal);
+        }
+        match verifier.verify_requirements(self.attributes.attributes()) {
+            Ok(()) => None,
+            Err(error) => Some(Refusal::IncompatibleAttributes(error)),
+        }
+    }
+}
