@@ -1,0 +1,14 @@
+pub mod Lists
+pub mod Comes
+pub mod Orders
+pub mod Serials
+pub mod Took
+pub mod Receipts
+pub mod Holdings
+pub mod WireHoldings
+pub mod Carries
+pub mod Sendings
+pub mod Readings
+pub mod Origins
+pub mod OnWires
+pub mod WorkedReadsHold

@@ -1,0 +1,58 @@
+//! What is read at a receiver is what was sent to it: the whole message, not its serial alone.
+//! The functions have nothing to do: each is there for its contract.
+#![tactic(auto)]
+
+ghost use Rattle.iox_message_laws.specs.Holdings.{HadAsDelivered, HadAsDeliveredOnWires};
+ghost use Rattle.iox_message_laws.specs.OnWires.{CallDeliversWhatIsSent, EachWasSentOnWires};
+ghost use Rattle.iox_message_laws.specs.OnWires.{ReadOnWiresAsSent};
+ghost use Rattle.iox_message_laws.specs.Orders.{SerialsAreOfMessages, SerialsFollowMessages};
+ghost use Rattle.iox_message_laws.specs.Orders.{WholeInACall, WholeOnWires, WholeOverRuns};
+ghost use Rattle.iox_message_laws.specs.Origins.{EachWasSent, ReadAsSent};
+ghost use Rattle.iox_message_laws.specs.Readings.{ReadAsDelivered, ReadsItsMessage};
+ghost use Rattle.iox_message_laws.specs.Sendings.{DeliversWhatIsSent};
+ghost use Rattle.iox_message_laws.specs.WorkedReads.{ReadsTheFirst};
+
+/// What was taken on a way was delivered there in that order, each message whole.
+pub fn messages_come_whole()
+    ensures runs { WholeOverRuns }
+    ensures in_a_call { WholeInACall }
+    ensures wires { WholeOnWires }
+{}
+
+/// What is known of serials in order follows.
+pub fn serials_follow_messages()
+    ensures images { SerialsAreOfMessages }
+    ensures order { SerialsFollowMessages }
+{}
+
+/// What a receiver has was delivered on its way, and taken from there, the whole message.
+pub fn received_is_delivered()
+    ensures services { HadAsDelivered }
+    ensures wires { HadAsDeliveredOnWires }
+{}
+
+/// Whatever a call delivers is the message of its send, as its loan has it when the call begins.
+pub fn delivered_is_sent()
+    ensures services { DeliversWhatIsSent }
+    ensures wires { CallDeliversWhatIsSent }
+{}
+
+/// What is read at a receiver are the words of a message that was delivered to it.
+pub fn messages_are_read_as_delivered()
+    ensures words { ReadsItsMessage }
+    ensures received { ReadAsDelivered }
+{}
+
+/// From end to end: each message that was delivered was sent, and what is read at a receiver are
+/// the words of a message that was sent to it.
+pub fn messages_are_read_as_sent()
+    ensures origins { EachWasSent }
+    ensures words { ReadAsSent }
+    ensures origins_on_wires { EachWasSentOnWires }
+    ensures words_on_wires { ReadOnWiresAsSent }
+{}
+
+/// A worked history, in which a server reads the request that was sent first.
+pub fn worked_reads()
+    ensures { ReadsTheFirst }
+{}
