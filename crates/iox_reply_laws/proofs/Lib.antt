@@ -1,0 +1,12 @@
+pub mod Ways
+pub mod Hands
+pub mod Telling
+pub mod Lending
+pub mod Sending
+pub mod Taking
+pub mod Steady
+pub mod Choosing
+pub mod OnWires
+pub mod Laws
+pub mod Remembering
+pub mod Plainly
