@@ -1,0 +1,16 @@
+pub mod Ascending
+pub mod Listings
+pub mod Joins
+pub mod Ordered
+pub mod Releasing
+pub mod Frames
+pub mod Cleaning
+pub mod Stories
+pub mod Openings
+pub mod Quiet
+pub mod GotBacks
+pub mod Dropped
+pub mod Refusals
+pub mod Gone
+pub mod Needed
+pub mod Closed

@@ -1,0 +1,117 @@
+-- What a refusal leaves as it was.
+use Rattle.std.specs.Prelude.{◌≡◌, ℕ, not, ◌&&◌, ◌||◌, if◌then◌else◌, ◌==◌, List, ◌++◌, Option, Some, IsTrue}
+use Rattle.std.specs.Option.{option_map_or}
+use Rattle.iox_types.specs.declared.identifiers.system_id.UniqueSystemId.{UniqueSystemId}
+use Rattle.iox_model.specs.declared.call.Call.TheVariants.{Loan, LoanUninit, Send, SendCopy, Receive}
+use Rattle.iox_model.specs.declared.command.Command.TheVariants.{Join}
+use Rattle.iox_model.specs.declared.command.Command.TheVariants as commands
+use Rattle.iox_model.specs.declared.reply.Refusal.TheVariants.{OutOfMemory, ExceedsMaxActiveRequests, UnableToDeliver, ExceedsMaxBorrows}
+use Rattle.iox_model.specs.declared.reply.Reply.TheVariants.{Refused}
+use Rattle.iox_model.specs.declared.way.Way.{Way}
+use Rattle.iox_model.specs.Commands.{Refusal, Call, HubCommand, Create, Use, Command, asking, number_of}
+use Rattle.iox_model.specs.Counts.{dropped, lent, called, with_fixed}
+use Rattle.iox_model.specs.Expiries.{released}
+use Rattle.iox_model.specs.Handles.{handle_at, subject, Subject, ThePort, TheHandle}
+use Rattle.iox_model.specs.Makings.{IsHubCommand}
+use Rattle.iox_model.specs.Maps.{is_empty, has_number}
+use Rattle.iox_model.specs.Messages.{serials_of, Message}
+use Rattle.iox_model.specs.Peers.{is_counted_on}
+use Rattle.iox_model.specs.Runs.{IsReachableState}
+use Rattle.iox_model.specs.Services.{IsCommand}
+use Rattle.iox_model.specs.States.{Handle, State}
+
+-- A refused join changes nothing: nobody is a node for it, and the next number stays.
+abbrev pub RefusedJoinsChangeNothing : Type 0
+RefusedJoinsChangeNothing =
+    (s t : State) (id : UniqueSystemId) (asked : Option Refusal) (r : Refusal)
+    → IsCommand s (Join id asked) (Refused r) t → t ≡ s
+
+-- ---- what three refusals change
+
+-- The port got back some of what was given back to it, oldest first, and counts that no more.
+-- All else is as it was.
+pub record GotBack (s : State) (port : ℕ) (t : State) : Type 0 where
+  pub members : t.members ≡ s.members
+  pub fixed : t.fixed ≡ s.fixed
+  pub waiting : t.waiting ≡ s.waiting
+  pub in_hand : t.in_hand ≡ s.in_hand
+  pub naming : t.naming ≡ s.naming
+  pub back : (w : Way) → (ks : List ℕ) × IsTrue (is_empty ks || (w.sender == port))
+      × (s.returned w ≡ ks ++ t.returned w)
+      × ((k : ℕ) → t.delivered w k ≡ (s.delivered w k && not (has_number k ks)))
+
+-- The port took some of what waits for it, oldest first, found it stale, and gave it back to
+-- those senders that still count it. All else is as it was.
+pub record DroppedStale (s : State) (port : ℕ) (t : State) : Type 0 where
+  pub members : t.members ≡ s.members
+  pub fixed : t.fixed ≡ s.fixed
+  pub in_hand : t.in_hand ≡ s.in_hand
+  pub delivered : t.delivered ≡ s.delivered
+  pub naming : t.naming ≡ s.naming
+  pub stale : (w : Way) → (ms : List Message) × IsTrue (is_empty ms || (w.receiver == port))
+      × (s.waiting w ≡ ms ++ t.waiting w)
+      × (t.returned w
+      ≡ (if is_counted_on s.fixed w then s.returned w ++ serials_of ms else s.returned w))
+
+-- the port that a call names, or whose handle it names
+abbrev pub port_of : Subject → ℕ
+port_of (ThePort p) = p.number
+port_of (TheHandle h) = h.port
+
+abbrev pub port_called : State → ℕ → Call → ℕ
+port_called s node call = option_map_or port_of (subject s.fixed node (number_of call)) 0
+
+-- a send that made its loan itself counts it, and itself, though it was refused
+abbrev pub counted : State → ℕ → State
+counted s port = with_fixed s (called (lent s.fixed port))
+
+-- another releases the loan
+abbrev pub given_up : State → Handle → State
+given_up s h = released (with_fixed s (dropped s.fixed h)) h.port
+
+-- ---- which refusal changes what
+
+-- What a call that is refused leaves: the state as it was, but for these.
+abbrev pub RefusalLeaves : State → ℕ → Call → Refusal → State → Type 0
+-- a loan gets back what it can before it finds no memory
+RefusalLeaves s node (Loan n k) OutOfMemory t = GotBack s (port_called s node (Loan n k)) t
+RefusalLeaves s node (LoanUninit n k) OutOfMemory t =
+    GotBack s (port_called s node (LoanUninit n k)) t
+RefusalLeaves s node (SendCopy n p) OutOfMemory t =
+    GotBack s (port_called s node (SendCopy n p)) t
+-- and a send before it fails
+RefusalLeaves s node (SendCopy n p) ExceedsMaxActiveRequests t =
+    let port : ℕ = port_called s node (SendCopy n p) in
+    (u : State) × GotBack s port u × (t ≡ counted u port)
+RefusalLeaves s node (SendCopy n p) UnableToDeliver t =
+    let port : ℕ = port_called s node (SendCopy n p) in
+    (u : State) × GotBack s port u × (t ≡ counted u port)
+RefusalLeaves s node (Send n) ExceedsMaxActiveRequests t =
+    (h : Handle) × (handle_at s.fixed node n ≡ Some h) × (t ≡ given_up s h)
+RefusalLeaves s node (Send n) UnableToDeliver t =
+    (h : Handle) × (handle_at s.fixed node n ≡ Some h)
+    × (u : State) × GotBack s h.port u × (t ≡ given_up u h)
+-- a receive drops what is stale before it sees what it may not have
+RefusalLeaves s node (Receive n) ExceedsMaxBorrows t =
+    DroppedStale s (port_called s node (Receive n)) t
+RefusalLeaves s node call r t = t ≡ s
+
+abbrev pub PortRefusalLeaves : State → ℕ → HubCommand → Refusal → State → Type 0
+PortRefusalLeaves s node (Create role id options) r t = t ≡ s
+PortRefusalLeaves s node (Use call) r t = RefusalLeaves s node call r t
+
+abbrev pub CommandRefusalLeaves : State → Command → Refusal → State → Type 0
+CommandRefusalLeaves s (commands.Port command) r t =
+    PortRefusalLeaves s (asking command).0 (asking command).1 r t
+CommandRefusalLeaves s command r t = t ≡ s
+
+-- So it is of each command of a port, and of each of a service.
+abbrev pub RefusedPortCommandLeaves : Type 0
+RefusedPortCommandLeaves =
+    (s t : State) (node : ℕ) (command : HubCommand) (r : Refusal) → IsReachableState s
+    → IsHubCommand s node command (Refused r) t → PortRefusalLeaves s node command r t
+
+abbrev pub RefusedCommandLeaves : Type 0
+RefusedCommandLeaves =
+    (s t : State) (command : Command) (r : Refusal) → IsReachableState s
+    → IsCommand s command (Refused r) t → CommandRefusalLeaves s command r t
