@@ -1,0 +1,82 @@
+#!/usr/bin/env python3
+"""Writes docs/DEFINITIONS-INDEX.md: every definition of the theory crates, with the comment above it.
+
+    tools/definitions_index.py            writes the page
+    tools/definitions_index.py --check    says whether the page is as it would be written; exit 1 if not
+
+A crate's files come in the order of its specs/Lib.antt.
+"""
+import pathlib
+import re
+import sys
+
+TOP = pathlib.Path(__file__).resolve().parent.parent
+PAGE = TOP / "docs" / "DEFINITIONS-INDEX.md"
+CRATES = """iox_model iox_openers iox_weaves iox_worked iox_plain iox_ledger iox_reachable iox_pools iox_runs
+iox_hub_ledger iox_hub_pools iox_reply_laws iox_service_laws iox_message_laws""".split()
+NAMED = re.compile(r"^(?:abbrev pub|pub record|pub data) ([A-Za-z_0-9-]+)")
+
+
+def sentence(lines):
+    """The text of comment lines, as one line."""
+    return " ".join(line[3:].strip() for line in lines).strip()
+
+
+def definitions(text):
+    """The head sentence of a file, and each definition with the comment above it, if it has one."""
+    lines = text.splitlines()
+    head, rest = [], 0
+    for rest, line in enumerate(lines):
+        if not line.startswith("-- "):
+            break
+        head.append(line)
+    found, comment = [], []
+    for line in lines[rest:]:
+        name = NAMED.match(line)
+        if line.startswith("-- ----"):
+            comment = []
+        elif line.startswith("-- "):
+            comment.append(line)
+        elif name:
+            found.append((name.group(1), sentence(comment)))
+            comment = []
+        elif not line.strip():
+            comment = []
+    return sentence(head), found
+
+
+def section(crate):
+    """The part of the page on one crate."""
+    specs = TOP / "crates" / crate / "specs"
+    out = [f"## `{crate}`", ""]
+    for name in re.findall(r"^pub mod (\w+)", (specs / "Lib.antt").read_text(), re.M):
+        head, found = definitions((specs / f"{name}.antt").read_text())
+        out += [f"### `{name}.antt`", "", head, ""]
+        out += [f"- `{it}`: {text}" for it, text in found if text]
+        bare = ", ".join(f"`{it}`" for it, text in found if not text)
+        out += [f"- beside them: {bare}"] if bare else []
+        out += [""]
+    return out
+
+
+def page():
+    """The whole page."""
+    out = [
+        "# Every definition of the machine and its laws",
+        "",
+        "This page is written by `tools/definitions_index.py` from the comments of the definitions. To read the machine,",
+        "begin with [MODEL.md](MODEL.md); this is where a name is looked up.",
+        "",
+    ]
+    for crate in CRATES:
+        if (TOP / "crates" / crate).is_dir():
+            out += section(crate)
+    return "\n".join(out).rstrip() + "\n"
+
+
+if __name__ == "__main__":
+    if sys.argv[1:] == ["--check"]:
+        if not PAGE.exists() or PAGE.read_text() != page():
+            sys.exit(f"{PAGE.relative_to(TOP)} is not what tools/definitions_index.py writes")
+    else:
+        PAGE.write_text(page())
