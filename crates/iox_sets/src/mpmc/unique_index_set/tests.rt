@@ -24,15 +24,9 @@ fn a_capacity_of_zero_or_past_the_greatest_is_refused(rt: HostRuntime) -> Result
 fn the_last_that_was_given_back_is_taken_first(rt: HostRuntime) -> Result<(), Fail> {
     let mut set = UniqueIndexSet::new(rt.alloc(), 3)?;
     assert_eq!(rt; set.capacity(), 3);
-    let Ok(zero) = set.acquire_raw_index() else {
-        return Ok(());
-    };
-    let Ok(one) = set.acquire_raw_index() else {
-        return Ok(());
-    };
-    let Ok(two) = set.acquire_raw_index() else {
-        return Ok(());
-    };
+    let zero = set.acquire_raw_index()?;
+    let one = set.acquire_raw_index()?;
+    let two = set.acquire_raw_index()?;
     assert_eq!(rt; [zero, one, two], [0, 1, 2]);
     assert_eq!(rt;
         set.acquire_raw_index(),
@@ -41,9 +35,7 @@ fn the_last_that_was_given_back_is_taken_first(rt: HostRuntime) -> Result<(), Fa
     set.release_raw_index(zero, ReleaseMode::Default);
     set.release_raw_index(two, ReleaseMode::Default);
     assert_eq!(rt; set.borrowed_indices(), 1);
-    let Ok(again) = set.acquire_raw_index() else {
-        return Ok(());
-    };
+    let again = set.acquire_raw_index()?;
     assert_eq!(rt; again, 2);
     let unlocked = set.release_raw_index(again, ReleaseMode::LockIfLastIndex);
     assert_eq!(rt; unlocked, ReleaseState::Unlocked);
@@ -61,9 +53,7 @@ fn the_last_that_was_given_back_is_taken_first(rt: HostRuntime) -> Result<(), Fa
 #[test]
 fn the_last_index_locks_for_good(rt: HostRuntime) -> Result<(), Fail> {
     let mut set = FixedSizeUniqueIndexSet::<2>::new(rt.alloc())?;
-    let Ok(index) = set.acquire_raw_index() else {
-        return Ok(());
-    };
+    let index = set.acquire_raw_index()?;
     let state = set.release_raw_index(index, ReleaseMode::LockIfLastIndex);
     assert_eq!(rt; state, ReleaseState::Locked);
     assert!(rt; set.is_locked());
