@@ -12,8 +12,9 @@ import sys
 
 TOP = pathlib.Path(__file__).resolve().parent.parent
 PAGE = TOP / "docs" / "DEFINITIONS-INDEX.md"
-CRATES = """iox_model iox_openers iox_weaves iox_worked iox_plain iox_ledger iox_reachable iox_pools iox_runs
-iox_hub_ledger iox_hub_pools iox_reply_laws iox_service_laws iox_message_laws""".split()
+CRATES = """iox_model iox_openers iox_weave_laws iox_worked iox_call_functions iox_weave_ledger iox_weave_worlds iox_weave_pools iox_run_laws
+iox_run_ledger iox_run_pools iox_reply_laws iox_service_laws iox_message_laws iox_weave_beats iox_wire_slots
+iox_word_map iox_wire_words iox_wire_moments iox_wire_locals iox_hub_states""".split()
 NAMED = re.compile(r"^(?:abbrev pub|pub record|pub data) ([A-Za-z_0-9-]+)")
 
 

@@ -13,14 +13,14 @@ pub use Rattle.iox_steps.proofs.AccessLemmas
 pub use Rattle.iox_steps.proofs.Turns
 pub use Rattle.iox_steps.proofs.Schedules
 pub use Rattle.iox_steps.proofs.Stores
-pub use Rattle.iox_steps.proofs.Plays
--- of a machine's queue, that each step is a moment
-pub use Rattle.iox_queue_steps.proofs.MomentLemmas
+pub use Rattle.iox_steps.proofs.AfterCalls
+-- of a machine's queue, that each step is an event
+pub use Rattle.iox_queue_steps.proofs.EventLemmas
 -- of a queue of values, the same laws
-pub use Rattle.iox_cell_steps.proofs.CellPushSteps
-pub use Rattle.iox_cell_steps.proofs.CellPopSteps
-pub use Rattle.iox_cell_steps.proofs.CellFrames
-pub use Rattle.iox_cell_queues.proofs.MomentLemmas as CellMomentLemmas
+pub use Rattle.iox_cell_queues.specs.CellPushSteps
+pub use Rattle.iox_cell_queues.specs.CellPopSteps
+pub use Rattle.iox_cell_queues.specs.CellFrames
+pub use Rattle.iox_cell_queues.proofs.EventLemmas as CellMomentLemmas
 -- of sets, what their lists are
 pub use Rattle.iox_sets.proofs.BitSetLemmas
 pub use Rattle.iox_sets.proofs.CountLemmas

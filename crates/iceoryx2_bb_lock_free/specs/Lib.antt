@@ -1,7 +1,16 @@
--- the words of the clauses, and the types that they speak of: values as words
+-- the words of the clauses, and the types that they name: values as words
 pub use Rattle.iox_words.specs.WordLists
 pub use Rattle.iox_words.specs.declared.word_list.Words
+pub use Rattle.iox_words.specs.declared.zero_copy_send.ZeroCopySend
 pub use Rattle.iox_words.specs.declared.callback_progression.CallbackProgression
+-- for types of callers: words in parts, or of values that pass a test, and the words of std's types
+pub use Rattle.iox_words.specs.WordParts
+pub use Rattle.iox_words.specs.WordLaws
+pub use Rattle.iox_words.specs.WhereLaws
+pub use Rattle.iox_words.specs.Numbers
+pub use Rattle.iox_words.specs.NumberLaws
+pub use Rattle.iox_words.specs.SignedLaws
+pub use Rattle.iox_words.specs.PlainLaws
 -- queues
 pub use Rattle.iox_queues.specs.BoundedQueues
 pub use Rattle.iox_queues.specs.declared.spsc.index_queue.IndexQueue
@@ -47,25 +56,26 @@ pub use Rattle.iox_container.specs.States as ContainerStates
 pub use Rattle.iox_container.specs.Failures as ContainerFailures
 pub use Rattle.iox_container.specs.declared.mpmc.container.Container
 pub use Rattle.iox_container.specs.declared.mpmc.container.fixed_size.FixedSizeContainer
+pub use Rattle.iox_container.specs.declared.mpmc.container.entries.Entry as ContainerEntry
 pub use Rattle.iox_container.specs.declared.mpmc.container.container_handle.ContainerHandle
 pub use Rattle.iox_container.specs.declared.mpmc.container.container_state.ContainerState
 pub use Rattle.iox_container.specs.declared.mpmc.container.failures.ContainerAddFailure
 pub use Rattle.iox_container.specs.declared.mpmc.container.failures.ContainerRemoveError
 -- the machine, and the queue that it plays
 pub use Rattle.iox_steps.specs.Accesses
-pub use Rattle.iox_steps.specs.Worlds
+pub use Rattle.iox_steps.specs.MachineStates
 pub use Rattle.iox_steps.specs.Entries
-pub use Rattle.iox_steps.specs.Playables
+pub use Rattle.iox_steps.specs.MachineParties
 pub use Rattle.iox_steps.specs.Sites
 pub use Rattle.iox_steps.specs.Pushes
 pub use Rattle.iox_steps.specs.Pops
 pub use Rattle.iox_steps.specs.Replies
-pub use Rattle.iox_steps.specs.Moments
-pub use Rattle.iox_steps.specs.Runs
-pub use Rattle.iox_steps.specs.Seats
+pub use Rattle.iox_steps.specs.Events
+pub use Rattle.iox_steps.specs.EventLists
+pub use Rattle.iox_steps.specs.Sides
 pub use Rattle.iox_steps.specs.Fits
 pub use Rattle.iox_steps.specs.Contents
-pub use Rattle.iox_steps.specs.Plays
+pub use Rattle.iox_steps.specs.AfterCalls
 pub use Rattle.iox_steps.specs.Answers
 pub use Rattle.iox_steps.specs.Laws
 pub use Rattle.iox_steps.specs.Stores
@@ -80,7 +90,7 @@ pub use Rattle.iox_steps.specs.declared.access.Party
 pub use Rattle.iox_steps.specs.declared.error.MachineError
 pub use Rattle.iox_steps.specs.declared.machine.Entry
 pub use Rattle.iox_steps.specs.declared.machine.Machine
-pub use Rattle.iox_steps.specs.declared.playable.Playable
+pub use Rattle.iox_steps.specs.declared.machine_party.MachineParty
 pub use Rattle.iox_steps.specs.declared.site.QueueKind
 pub use Rattle.iox_steps.specs.declared.site.Site
 pub use Rattle.iox_steps.specs.declared.push.Push
@@ -88,19 +98,19 @@ pub use Rattle.iox_steps.specs.declared.push.PushReply
 pub use Rattle.iox_steps.specs.declared.push.FullLook
 pub use Rattle.iox_steps.specs.declared.pop.Pop
 pub use Rattle.iox_steps.specs.declared.pop.EmptyLook
-pub use Rattle.iox_steps.specs.declared.seat.Moment
-pub use Rattle.iox_steps.specs.declared.seat.Reply
-pub use Rattle.iox_steps.specs.declared.seat.Pushing
-pub use Rattle.iox_steps.specs.declared.seat.Popping
-pub use Rattle.iox_queue_steps.specs.declared.queue.Seat
+pub use Rattle.iox_steps.specs.declared.side.QueueEvent
+pub use Rattle.iox_steps.specs.declared.side.QueueReply
+pub use Rattle.iox_steps.specs.declared.side.Pushing
+pub use Rattle.iox_steps.specs.declared.side.Popping
+pub use Rattle.iox_queue_steps.specs.declared.queue.Side
 pub use Rattle.iox_queue_steps.specs.declared.queue.Call
 pub use Rattle.iox_queue_steps.specs.declared.party.QueueParty
 pub use Rattle.iox_queue_steps.specs.declared.machine.QueueMachine
 -- whole calls on the words of a queue
-pub use Rattle.iox_queue_runs.specs.Lists as QueueLists
-pub use Rattle.iox_queue_runs.specs.Alone
-pub use Rattle.iox_queue_runs.specs.Calls as QueueCalls
-pub use Rattle.iox_queue_runs.specs.Apart as QueueApart
+pub use Rattle.iox_queue_calls.specs.Lists as QueueLists
+pub use Rattle.iox_queue_calls.specs.Alone
+pub use Rattle.iox_queue_calls.specs.Calls as QueueCalls
+pub use Rattle.iox_queue_calls.specs.Apart as QueueApart
 -- a queue whose parties are kept in memory
 pub use Rattle.iox_queue_steps.specs.Stored as StoredParties
 pub use Rattle.iox_queue_steps.specs.declared.stored.answer.StepAnswer
@@ -108,25 +118,25 @@ pub use Rattle.iox_queue_steps.specs.declared.stored.pusher.StoredPusher
 pub use Rattle.iox_queue_steps.specs.declared.stored.popper.StoredPopper
 pub use Rattle.iox_queue_steps.specs.declared.stored.queue.StoredQueue
 -- the same for a queue of values of several words
-pub use Rattle.iox_cell_steps.specs.Cells
-pub use Rattle.iox_cell_steps.specs.CellPrograms
-pub use Rattle.iox_cell_steps.specs.CellMoments
-pub use Rattle.iox_cell_steps.specs.CellSeats
-pub use Rattle.iox_cell_steps.specs.CellFits
-pub use Rattle.iox_cell_steps.specs.CellContents
-pub use Rattle.iox_cell_steps.specs.CellRuns
-pub use Rattle.iox_cell_steps.specs.CellAnswers
-pub use Rattle.iox_cell_steps.specs.CellPlays
-pub use Rattle.iox_cell_steps.specs.CellLaws
-pub use Rattle.iox_cell_steps.specs.CellReady
-pub use Rattle.iox_cell_steps.specs.declared.moment.CellMoment
-pub use Rattle.iox_cell_steps.specs.declared.moment.CellReply
-pub use Rattle.iox_cell_steps.specs.declared.place.Place
-pub use Rattle.iox_cell_steps.specs.declared.push.CellPush
-pub use Rattle.iox_cell_steps.specs.declared.pop.CellPop
-pub use Rattle.iox_cell_steps.specs.declared.seat.CellPushing
-pub use Rattle.iox_cell_steps.specs.declared.seat.CellPopping
-pub use Rattle.iox_cell_queues.specs.CellSeatings
+pub use Rattle.iox_cell_queues.specs.Cells
+pub use Rattle.iox_cell_queues.specs.CellPrograms
+pub use Rattle.iox_cell_queues.specs.CellEvents
+pub use Rattle.iox_cell_queues.specs.CellSides
+pub use Rattle.iox_cell_queues.specs.CellFits
+pub use Rattle.iox_cell_queues.specs.CellContents
+pub use Rattle.iox_cell_queues.specs.CellEventLists
+pub use Rattle.iox_cell_queues.specs.CellAnswers
+pub use Rattle.iox_cell_queues.specs.CellAfterCalls
+pub use Rattle.iox_cell_queues.specs.CellLaws
+pub use Rattle.iox_cell_queues.specs.CellReady
+pub use Rattle.iox_cell_queues.specs.declared.event.CellEvent
+pub use Rattle.iox_cell_queues.specs.declared.event.CellReply
+pub use Rattle.iox_cell_queues.specs.declared.site.CellSite
+pub use Rattle.iox_cell_queues.specs.declared.push.CellPush
+pub use Rattle.iox_cell_queues.specs.declared.pop.CellPop
+pub use Rattle.iox_cell_queues.specs.declared.side.CellPushing
+pub use Rattle.iox_cell_queues.specs.declared.side.CellPopping
+pub use Rattle.iox_cell_queues.specs.CellPartySides
 pub use Rattle.iox_cell_queues.specs.CellParties
 pub use Rattle.iox_cell_queues.specs.CellQueues
 pub use Rattle.iox_cell_queues.specs.CellMachines
@@ -134,14 +144,16 @@ pub use Rattle.iox_cell_queues.specs.CellEntries
 pub use Rattle.iox_cell_queues.specs.CellSizes
 pub use Rattle.iox_cell_queues.specs.declared.machine.CellMachine
 pub use Rattle.iox_cell_queues.specs.declared.queue.CellParty
-pub use Rattle.iox_cell_queues.specs.declared.queue.CellSeat
+pub use Rattle.iox_cell_queues.specs.declared.queue.CellSide
 pub use Rattle.iox_cell_queues.specs.declared.queue.CellCall
-pub use Rattle.iox_cell_runs.specs.Lists as CellLists
-pub use Rattle.iox_cell_runs.specs.Alone as CellAlone
-pub use Rattle.iox_cell_runs.specs.Calls as CellCalls
-pub use Rattle.iox_cell_runs.specs.Apart as CellApart
+pub use Rattle.iox_cell_queues.specs.Lists as CellLists
+pub use Rattle.iox_cell_queues.specs.Alone as CellAlone
+pub use Rattle.iox_cell_queues.specs.Calls as CellCalls
+pub use Rattle.iox_cell_queues.specs.Apart as CellApart
 -- bits, counts and values as steps
 pub use Rattle.iox_set_steps.specs.Turns as SetTurns
+pub use Rattle.iox_set_steps.specs.Kinds
+pub use Rattle.iox_set_steps.specs.SitedMachines
 pub use Rattle.iox_set_steps.specs.Bits
 pub use Rattle.iox_set_steps.specs.BitPrograms
 pub use Rattle.iox_set_steps.specs.BitPlays
@@ -167,5 +179,5 @@ pub use Rattle.iox_set_steps.specs.declared.counting_bit_set.machine.CountingBit
 pub use Rattle.iox_set_steps.specs.declared.unrestricted_atomic.machine.AtomicMachine
 pub use Rattle.iox_set_steps.specs.declared.unrestricted_atomic.value_machine.ValueMachine
 -- a value for one thread
-pub use Rattle.iox_atomics.specs.Values as AtomicValues
-pub use Rattle.iox_atomics.specs.declared.spmc.unrestricted_atomic.UnrestrictedAtomic
+pub use Rattle.iox_queues.specs.Values as AtomicValues
+pub use Rattle.iox_queues.specs.declared.spmc.unrestricted_atomic.UnrestrictedAtomic

@@ -8,8 +8,3 @@ pub mod spmc;
 pub mod spsc;
 
 pub use iox_words::{CallbackProgression, Words, ZeroCopySend};
-
-#[cfg(test)]
-mod tests;
-#[cfg(test)]
-mod uses;

@@ -1,2 +1,2 @@
 //! A value that one stores and that anyone loads, in the form for one thread.
-pub use iox_atomics::spmc::unrestricted_atomic;
+pub use iox_queues::spmc::unrestricted_atomic;

@@ -1,5 +1,6 @@
-//! What services start from where nothing else is said.
+//! The settings of services where nobody sets others.
 pub use iox_configs::config::{
     Blackboard, Config, Defaults, Event, Global, PublishSubscribe, RequestResonse,
 };
 pub use iox_configs::path::{Path, PathError};
+pub use iox_types::{AllocationStrategy, BackpressureStrategy};

@@ -1,6 +1,6 @@
 //! Identifiers of nodes, ports and services.
 pub use iox_types::identifiers::{
-    Time, UniqueClientId, UniqueListenerId, UniqueNodeId, UniqueNodeIdError, UniqueNotifierId,
-    UniquePortId, UniquePublisherId, UniqueReaderId, UniqueServerId, UniqueServiceId,
-    UniqueSubscriberId, UniqueSystemId, UniqueWriterId,
+    Time, UniqueClientId, UniqueId, UniqueListenerId, UniqueNodeId, UniqueNodeIdError,
+    UniqueNotifierId, UniquePortId, UniquePublisherId, UniqueReaderId, UniqueServerId,
+    UniqueServiceId, UniqueSubscriberId, UniqueSystemId, UniqueWriterId, kind,
 };

@@ -5,8 +5,8 @@ use Rattle.std.specs.Cmp.Lexicographic.{nat_list_eq_equiv, on_texts, same_text}
 use Rattle.std.specs.Ordering.{is_gt, is_lt, ordering_reverse, ordering_then}
 use Rattle.std.specs.declared.cmp.Ordering.{Ordering}
 use Rattle.std.specs.declared.cmp.Ordering.TheVariants.{Equal, Less, Greater}
-use Rattle.iox_texts.specs.Texts.{text_cmp, text_eq}
-use Rattle.iox_texts.proofs.OrderLemmas.{same-text_cmp, text_cmp-same}
+use Rattle.iox_names.specs.Texts.{text_cmp, text_eq}
+use Rattle.iox_names.proofs.OrderLemmas.{same-text_cmp, text_cmp-same}
 use Rattle.iox_names.specs.Pairs.{is_before, pair_cmp, pair_eq}
 use Rattle.iox_names.specs.declared.attribute.Attribute.{Attribute}
 

@@ -3,7 +3,7 @@ use Rattle.std.proofs.Common.{ℕ, suc, zero, ◌≡◌, ◌≢◌, ◌∙◌, �
 use Rattle.std.specs.List.{count_by, filter, slice_get}
 use Rattle.std.proofs.lemmas.List.{length-map}
 use Rattle.std.proofs.lemmas.List.Sums.{length-filter}
-use Rattle.iox_texts.specs.Texts.{text_eq}
+use Rattle.iox_names.specs.Texts.{text_eq}
 use Rattle.iox_names.specs.declared.attribute.Attribute.{Attribute}
 use Rattle.iox_attributes.specs.Sets.{values_of}
 

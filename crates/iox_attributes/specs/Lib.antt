@@ -2,5 +2,5 @@
 pub mod Sets
 pub mod Verifiers
 pub mod Visits
--- for proofs of this crate alone
+-- only for proofs of this crate
 pub mod Storage

@@ -2,7 +2,7 @@
 use Rattle.std.specs.Prelude.{ℕ, ◌+◌, ◌&&◌, Bool, true, not, List, [], ◌∷◌, map, if◌then◌else◌}
 use Rattle.std.specs.Cmp.Lexicographic.{pointwise}
 use Rattle.std.specs.List.{filter, list_all}
-use Rattle.iox_texts.specs.Texts.{text_eq}
+use Rattle.iox_names.specs.Texts.{text_eq}
 use Rattle.iox_names.specs.Pairs.{is_before, pair_eq}
 use Rattle.iox_names.specs.declared.attribute.Attribute.{Attribute}
 

@@ -1,7 +1,7 @@
 -- A service meets what is required if it has each required pair and an attribute of each required key.
 use Rattle.std.specs.Prelude.{ℕ, ◌≡◌, ◌++◌, Bool, false, IsTrue, List, ◌∷◌}
 use Rattle.std.specs.List.{list_all, list_any}
-use Rattle.iox_texts.specs.Texts.{text_eq}
+use Rattle.iox_names.specs.Texts.{text_eq}
 use Rattle.iox_names.specs.Pairs.{is_before, pair_eq}
 use Rattle.iox_names.specs.declared.attribute.Attribute.{Attribute}
 use Rattle.iox_attributes.specs.declared.verification_error.AttributeVerificationError.{AttributeVerificationError}
@@ -31,8 +31,11 @@ pub record Meets (required : Requirements) (defined : List Attribute) : Type 0 w
 
 -- the least of the required pairs that are not defined
 pub record IsLeastMissing (required defined : List Attribute) (pair : Attribute) : Type 0 where
+  -- the pair is required
   pub stands : IsTrue (has_pair required pair)
+  -- the pair is not defined
   pub missing : has_pair defined pair ≡ false
+  -- each required pair before it is defined
   pub least : (other : Attribute) → IsTrue (has_pair required other) → IsTrue (is_before other pair) →
       IsTrue (has_pair defined other)
 
@@ -40,8 +43,11 @@ pub record IsLeastMissing (required defined : List Attribute) (pair : Attribute)
 pub record IsFirstMissing (required : List (List ℕ)) (defined : List Attribute) (key : List ℕ) : Type 0 where
   pub front : List (List ℕ)
   pub rest : List (List ℕ)
+  -- the key is required, after the keys of `front`
   pub stands : required ≡ front ++ key ∷ rest
+  -- each key of `front` is defined
   pub earlier : IsTrue (list_all (has_key defined) front)
+  -- the key is not defined
   pub missing : has_key defined key ≡ false
 
 -- why what is defined does not meet what is required

@@ -1,4 +1,4 @@
--- A callback visits items from the front on, as far as it says that the visit goes on.
+-- A callback visits items from the first on, until it says stop.
 use Rattle.std.specs.Prelude.{List, [], ◌∷◌, ◌⊎◌, ⊤}
 use Rattle.iox_words.specs.declared.callback_progression.CallbackProgression.{CallbackProgression}
 use Rattle.iox_words.specs.declared.callback_progression.CallbackProgression.TheVariants.{Continue, Stop}

@@ -1,7 +1,7 @@
 //! Attributes in the order of their bytes.
 ghost use Rattle.std.specs.Prelude.{◌≡◌, ◌+◌, ◌<◌, ◌≤◌, ◌==◌, ◌↔◌, [], IfSome, IfNone, IsSome, IsTrue, Some, None, length, take};
 ghost use Rattle.std.specs.List.{count_by, insert, slice_get};
-ghost use Rattle.iox_texts.specs.Texts.{text_eq};
+ghost use Rattle.iox_names.specs.Texts.{text_eq};
 ghost use Rattle.std.specs.Fn.{CalledAt};
 ghost use Rattle.iox_attributes.specs.Sets.{is_sorted, max_pairs, values_of, with_pair};
 ghost use Rattle.iox_attributes.specs.Storage.{place_of};

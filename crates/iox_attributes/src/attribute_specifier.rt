@@ -1,5 +1,5 @@
 //! What a service says of itself.
-ghost use Rattle.std.specs.Prelude.{◌≡◌, ◌<◌, ◌↔◌, [], IfErr, IfOk, IsOk, length};
+ghost use Rattle.std.specs.Prelude.{◌≡◌, ◌<◌, ◌↔◌, [], IfErr, IfOk, IsOk, OnErr, OnOk, length};
 ghost use Rattle.iox_attributes.specs.Sets.{max_pairs, with_pair};
 ghost use Rattle.iox_attributes.specs.Verifiers.{pair};
 
@@ -9,7 +9,7 @@ use iox_names::attribute::{Attribute, AttributeKey, AttributeValue};
 use std::marker::Model;
 
 /// Builds the attributes that a service is created with. It takes no memory.
-#[derive(Drop)]
+#[derive(Debug, Drop)]
 pub struct AttributeSpecifier {
     attributes: AttributeSet,
 }
@@ -33,7 +33,9 @@ impl AttributeSpecifier {
         }
     }
 
-    /// With an attribute more. A builder that has 64 is handed back as it was.
+    /// With one more attribute. A builder that has 64 is handed back unchanged.
+    ///
+    /// Each call of a chain takes some 20 KB of stack; where there are many, call `try_define`.
     pub fn define(
         mut self,
         key: &AttributeKey,
@@ -43,14 +45,30 @@ impl AttributeSpecifier {
         ensures defined { IfOk result (λ it. it ≡ with_pair (pair key.now value.now) self) }
         ensures unchanged { IfErr result (λ refusal. refusal.builder ≡ self) }
     {
-        if self.attributes.is_full() {
-            return Err(DefinitionRefusal {
+        match self.try_define(key, value) {
+            Ok(()) => Ok(self),
+            Err(error) => Err(DefinitionRefusal {
                 builder: self,
-                error: AttributeDefinitionError::ExceedsMaxSupportedAttributes,
-            });
+                error,
+            }),
+        }
+    }
+
+    /// Adds an attribute. A builder that has 64 stays as it is.
+    pub fn try_define(
+        &mut self,
+        key: &AttributeKey,
+        value: &AttributeValue,
+    ) -> Result<(), AttributeDefinitionError>
+        ensures room { IsOk result ↔ (length self.old < max_pairs) }
+        ensures defined { OnOk result (self.new ≡ with_pair (pair key.now value.now) self.old) }
+        ensures unchanged { OnErr result (self.new ≡ self.old) }
+    {
+        if self.attributes.is_full() {
+            return Err(AttributeDefinitionError::ExceedsMaxSupportedAttributes);
         }
         self.attributes.insert(&Attribute::new(key, value));
-        Ok(self)
+        Ok(())
     }
 
     /// The attributes that were defined.

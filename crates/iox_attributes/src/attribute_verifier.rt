@@ -1,5 +1,5 @@
 //! What is required of a service.
-ghost use Rattle.std.specs.Prelude.{◌≡◌, ◌<◌, ◌↔◌, [], IfErr, IfOk, IfSome, IfNone, IsOk, IsTrue, length};
+ghost use Rattle.std.specs.Prelude.{◌≡◌, ◌<◌, ◌↔◌, [], IfErr, IfOk, IfSome, IfNone, IsOk, IsTrue, OnErr, OnOk, length};
 ghost use Rattle.std.specs.List.{list_all, push};
 ghost use Rattle.iox_attributes.specs.Sets.{is_sorted, max_pairs, with_pair};
 ghost use Rattle.iox_attributes.specs.Verifiers.{IsFirstMissing, IsLeastMissing, Lacks, Meets};
@@ -13,7 +13,7 @@ use iox_names::attribute::{Attribute, AttributeKey, AttributeValue};
 use std::marker::Model;
 
 /// Builds what a service that is opened has to have. It takes no memory.
-#[derive(Drop)]
+#[derive(Debug, Drop)]
 pub struct AttributeVerifier {
     attributes: AttributeSet,
     keys: KeyList,
@@ -38,7 +38,9 @@ impl AttributeVerifier {
         }
     }
 
-    /// With an attribute more. A builder that has 64 is handed back as it was.
+    /// With one more attribute. A builder that has 64 is handed back unchanged.
+    ///
+    /// Each call of a chain takes some 20 KB of stack; where there are many, call `try_require`.
     pub fn require(
         mut self,
         key: &AttributeKey,
@@ -49,17 +51,35 @@ impl AttributeVerifier {
             record { pairs = with_pair (pair key.now value.now) self.pairs; keys = self.keys }) }
         ensures unchanged { IfErr result (λ refusal. refusal.builder ≡ self) }
     {
-        if self.attributes.is_full() {
-            return Err(DefinitionRefusal {
+        match self.try_require(key, value) {
+            Ok(()) => Ok(self),
+            Err(error) => Err(DefinitionRefusal {
                 builder: self,
-                error: AttributeDefinitionError::ExceedsMaxSupportedAttributes,
-            });
+                error,
+            }),
         }
-        self.attributes.insert(&Attribute::new(key, value));
-        Ok(self)
     }
 
-    /// With a key more. A builder that has 64 is handed back as it was.
+    /// Adds an attribute. A builder that has 64 stays as it is.
+    pub fn try_require(
+        &mut self,
+        key: &AttributeKey,
+        value: &AttributeValue,
+    ) -> Result<(), AttributeDefinitionError>
+        ensures room { IsOk result ↔ (length self.old.pairs < max_pairs) }
+        ensures required { OnOk result (self.new ≡
+            record { pairs = with_pair (pair key.now value.now) self.old.pairs; keys = self.old.keys }) }
+        ensures unchanged { OnErr result (self.new ≡ self.old) }
+    {
+        if self.attributes.is_full() {
+            return Err(AttributeDefinitionError::ExceedsMaxSupportedAttributes);
+        }
+        self.attributes.insert(&Attribute::new(key, value));
+        Ok(())
+    }
+
+    /// With one more key. A builder that has 64 is handed back unchanged. Where there are many,
+    /// call `try_require_key`.
     pub fn require_key(
         mut self,
         key: &AttributeKey,
@@ -69,14 +89,27 @@ impl AttributeVerifier {
             record { pairs = self.pairs; keys = push self.keys key.now }) }
         ensures unchanged { IfErr result (λ refusal. refusal.builder ≡ self) }
     {
-        if self.keys.is_full() {
-            return Err(DefinitionRefusal {
+        match self.try_require_key(key) {
+            Ok(()) => Ok(self),
+            Err(error) => Err(DefinitionRefusal {
                 builder: self,
-                error: AttributeDefinitionError::ExceedsMaxSupportedAttributes,
-            });
+                error,
+            }),
+        }
+    }
+
+    /// Adds a key. A builder that has 64 stays as it is.
+    pub fn try_require_key(&mut self, key: &AttributeKey) -> Result<(), AttributeDefinitionError>
+        ensures room { IsOk result ↔ (length self.old.keys < max_pairs) }
+        ensures required { OnOk result (self.new ≡
+            record { pairs = self.old.pairs; keys = push self.old.keys key.now }) }
+        ensures unchanged { OnErr result (self.new ≡ self.old) }
+    {
+        if self.keys.is_full() {
+            return Err(AttributeDefinitionError::ExceedsMaxSupportedAttributes);
         }
         self.keys.push(key);
-        Ok(self)
+        Ok(())
     }
 
     /// The attributes that are required.
@@ -93,7 +126,7 @@ impl AttributeVerifier {
         self.keys.as_slice()
     }
 
-    /// Whether a service of these attributes has all that is required, or else what it lacks.
+    /// Whether a service of these attributes has all that is required, or else what is missing.
     pub fn verify_requirements(
         &self,
         defined: &AttributeSet,

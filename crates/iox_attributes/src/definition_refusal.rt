@@ -1,5 +1,6 @@
-//! Why a builder takes nothing more.
+//! Why a builder takes no more attributes.
 
+use std::{error, fmt};
 use thiserror::Error;
 
 /// Why an attribute or a key can't be added.
@@ -10,12 +11,27 @@ pub enum AttributeDefinitionError {
     ExceedsMaxSupportedAttributes,
 }
 
-/// A builder that took nothing more, as it was, and why.
+/// A builder that took no more, unchanged, and why.
 #[derive(Drop)]
 pub struct DefinitionRefusal<B> {
     pub builder: B,
     pub error: AttributeDefinitionError,
 }
+
+impl<B> fmt::Debug for DefinitionRefusal<B> {
+    fn fmt<W: fmt::Write>(&self, f: &mut fmt::Formatter<W>) -> fmt::Result {
+        write!(f, "DefinitionRefusal {{ error: {:?}, .. }}", self.error)
+    }
+}
+
+/// What is against the definition.
+impl<B> fmt::Display for DefinitionRefusal<B> {
+    fn fmt<W: fmt::Write>(&self, f: &mut fmt::Formatter<W>) -> fmt::Result {
+        fmt::Display::fmt(&self.error, f)
+    }
+}
+
+impl<B: Drop> error::Error for DefinitionRefusal<B> {}
 
 impl<B: Drop> From<DefinitionRefusal<B>> for AttributeDefinitionError {
     ghost use Rattle.std.specs.Prelude.{◌≡◌};

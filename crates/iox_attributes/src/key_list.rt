@@ -4,6 +4,7 @@ ghost use Rattle.std.specs.List.{push};
 ghost use Rattle.iox_attributes.specs.Sets.{max_pairs};
 
 use iox_names::attribute::AttributeKey;
+use std::fmt;
 use std::marker::Model;
 
 const CAPACITY: usize = 64;
@@ -56,6 +57,12 @@ impl KeyList {
         ensures { result.now ≡ self.now }
     {
         &self.keys[..self.len]
+    }
+}
+
+impl fmt::Debug for KeyList {
+    fn fmt<W: fmt::Write>(&self, f: &mut fmt::Formatter<W>) -> fmt::Result {
+        fmt::Debug::fmt(self.as_slice(), f)
     }
 }
 

@@ -15,6 +15,3 @@ pub use attribute_specifier::AttributeSpecifier;
 pub use attribute_verifier::AttributeVerifier;
 pub use definition_refusal::{AttributeDefinitionError, DefinitionRefusal};
 pub use verification_error::AttributeVerificationError;
-
-#[cfg(test)]
-mod tests;

@@ -1,4 +1,4 @@
-//! What a service lacks.
+//! What a service is missing.
 use iox_names::attribute::{AttributeKey, AttributeValue};
 use thiserror::Error;
 

@@ -1,5 +1,13 @@
+pub mod CellContentLemmas
 pub mod NewMachines
-pub mod MomentLemmas
+pub mod EventLemmas
 pub mod PlaysLemmas
-pub mod LineLemmas
+pub mod QueueStateLemmas
 pub mod EntryLemmas
+pub mod ValueLemmas
+pub mod AloneLemmas
+pub mod FinishLemmas
+pub mod PushChains
+pub mod PopChains
+pub mod WholeLemmas
+pub mod ApartLemmas

@@ -1,5 +1,5 @@
--- What entries of a schedule make of a machine of a queue of values, as functions, and where its
--- queue stands.
+-- What a schedule makes of the step machine of a queue of values, as functions, and where the queue
+-- stands.
 use Rattle.std.specs.Prelude.{ℕ, Bool, List, [], ◌∷◌, Option, Some, None}
 use Rattle.std.specs.List.{slice_get}
 use Rattle.std.specs.Option.{option_map}
@@ -10,103 +10,111 @@ use Rattle.iox_steps.specs.declared.access.Progress.TheVariants.{Going}
 use Rattle.iox_steps.specs.declared.machine.Entry.{Entry}
 use Rattle.iox_steps.specs.declared.push.FullLook.TheVariants as full_look
 use Rattle.iox_steps.specs.declared.pop.EmptyLook.TheVariants as empty_look
-use Rattle.iox_steps.specs.Worlds.{World, seen_in}
+use Rattle.iox_steps.specs.MachineStates.{MachineState, seen_in}
 use Rattle.iox_steps.specs.Entries.{of_party, seen_as, entered, all_entered}
-use Rattle.iox_cell_steps.specs.declared.place.Place.{Place}
-use Rattle.iox_cell_steps.specs.declared.push.CellPush.TheVariants as push
-use Rattle.iox_cell_steps.specs.declared.pop.CellPop.TheVariants as pop
-use Rattle.iox_cell_steps.specs.declared.moment.CellMoment.{CellMoment}
-use Rattle.iox_cell_steps.specs.declared.moment.CellReply.{CellReply}
-use Rattle.iox_cell_steps.specs.declared.seat.CellPushing.TheVariants as pushing
-use Rattle.iox_cell_steps.specs.declared.seat.CellPopping.TheVariants as popping
-use Rattle.iox_cell_steps.specs.CellContents.{values}
-use Rattle.iox_cell_steps.specs.CellRuns.{told}
-use Rattle.iox_cell_queues.specs.declared.queue.CellSeat.{CellSeat}
-use Rattle.iox_cell_queues.specs.declared.queue.CellSeat.TheVariants.{Pusher, Popper}
+use Rattle.iox_cell_queues.specs.declared.site.CellSite.{CellSite}
+use Rattle.iox_cell_queues.specs.declared.push.CellPush.TheVariants as push
+use Rattle.iox_cell_queues.specs.declared.pop.CellPop.TheVariants as pop
+use Rattle.iox_cell_queues.specs.declared.event.CellEvent.{CellEvent}
+use Rattle.iox_cell_queues.specs.declared.event.CellReply.{CellReply}
+use Rattle.iox_cell_queues.specs.declared.side.CellPushing.TheVariants as pushing
+use Rattle.iox_cell_queues.specs.declared.side.CellPopping.TheVariants as popping
+use Rattle.iox_cell_queues.specs.CellContents.{values}
+use Rattle.iox_cell_queues.specs.CellEventLists.{told}
+use Rattle.iox_cell_queues.specs.declared.queue.CellSide.{CellSide}
+use Rattle.iox_cell_queues.specs.declared.queue.CellSide.TheVariants.{Pusher, Popper}
 use Rattle.iox_cell_queues.specs.declared.queue.CellCall.{CellCall}
 use Rattle.iox_cell_queues.specs.declared.queue.CellCall.TheVariants.{Push, IsFull, Pop, IsEmpty}
 use Rattle.iox_cell_queues.specs.declared.queue.CellParty.{CellParty}
-use Rattle.iox_cell_queues.specs.CellSeatings.{seat_access, seat_after, seat_progress, seat_moment, rests}
-use Rattle.iox_cell_queues.specs.CellQueues.{CellWorld}
+use Rattle.iox_cell_queues.specs.CellPartySides.{side_access, side_after, side_progress, side_event, rests}
+use Rattle.iox_cell_queues.specs.CellQueues.{CellMachineState}
 
--- a party as plain data: where its queue stands, which of the two it is, and where it is
-pub record Seated (A : Type 0) (width : ℕ) : Type 0 where
-  pub place : Place
-  pub seat : CellSeat A width
+-- a party as clauses see it: the site of its queue, which of the two it is, and where it is in its
+-- call
+pub record PartyView (A : Type 0) (width : ℕ) : Type 0 where
+  pub site : CellSite
+  pub side : CellSide A width
 
-abbrev pub seated : {A : Type 0} → {width : ℕ} → CellParty A width → Seated A width
-seated party = record { place = party.place; seat = party.seat }
+-- the party as clauses see it
+abbrev pub party_view : {A : Type 0} → {width : ℕ} → CellParty A width → PartyView A width
+party_view party = record { site = party.site; side = party.side }
 
--- a machine as plain data
-abbrev pub PlainWorld : Type 0 → ℕ → Type 0
-PlainWorld A width = World (Seated A width) (CellMoment A)
+-- a step machine as clauses see it
+abbrev pub PlainMachineState : Type 0 → ℕ → Type 0
+PlainMachineState A width = MachineState (PartyView A width) (CellEvent A)
 
-abbrev pub plain : {A : Type 0} → {width : ℕ} → CellWorld A width → PlainWorld A width
-plain world = seen_as seated world
+-- the step machine with each party as clauses see it
+abbrev pub plain : {A : Type 0} → {width : ℕ} → CellMachineState A width → PlainMachineState A width
+plain machine = seen_as party_view machine
 
--- these words, both parties at rest at this queue, and nothing happened yet
-abbrev pub new_machine : {A : Type 0} → {width : ℕ} → List ℕ → Place → PlainWorld A width
-new_machine list place = record {
+-- a new machine: these words, both parties at rest at this queue, and no event
+abbrev pub new_machine : {A : Type 0} → {width : ℕ} → List ℕ → CellSite → PlainMachineState A width
+new_machine list site = record {
   words = list;
-  parties = record { place = place; seat = Pusher pushing.AtRest }
-      ∷ record { place = place; seat = Popper popping.AtRest } ∷ [];
+  parties = record { site = site; side = Pusher pushing.AtRest }
+      ∷ record { site = site; side = Popper popping.AtRest } ∷ [];
   events = [];
 }
 
--- where the queue stands: the place of party 0; a machine has always two parties
-abbrev pub place_of : {A : Type 0} → {width : ℕ} → CellWorld A width → Place
-place_of world = of_party (record { base = 0; capacity = 0; width = 0 }) (λ party. party.place)
-    (slice_get world.parties 0)
+-- where the queue stands: the site of party 0; a machine always has two parties
+abbrev pub site_of : {A : Type 0} → {width : ℕ} → CellMachineState A width → CellSite
+site_of machine = of_party (record { base = 0; capacity = 0; width = 0 }) (λ party. party.site)
+    (slice_get machine.parties 0)
 
--- a party at rest begins a call of its role, and no other
-abbrev pub seat_begun : {A : Type 0} → {width : ℕ} → CellSeat A width → CellCall A
-    → Option (CellSeat A width)
-seat_begun (Pusher pushing.AtRest) (Push value) =
+-- the side once it began the call: a party at rest begins the calls of its side, and no others
+abbrev pub side_begun : {A : Type 0} → {width : ℕ} → CellSide A width → CellCall A
+    → Option (CellSide A width)
+side_begun (Pusher pushing.AtRest) (Push value) =
     Some (Pusher (pushing.Pushes (push.LoadsWrite value)))
-seat_begun (Pusher pushing.AtRest) IsFull = Some (Pusher (pushing.Looks full_look.LoadsWrite))
-seat_begun (Popper popping.AtRest) Pop = Some (Popper (popping.Pops pop.LoadsRead))
-seat_begun (Popper popping.AtRest) IsEmpty = Some (Popper (popping.Looks empty_look.LoadsRead))
-seat_begun seat call = None
+side_begun (Pusher pushing.AtRest) IsFull = Some (Pusher (pushing.Looks full_look.LoadsWrite))
+side_begun (Popper popping.AtRest) Pop = Some (Popper (popping.Pops pop.LoadsRead))
+side_begun (Popper popping.AtRest) IsEmpty = Some (Popper (popping.Looks empty_look.LoadsRead))
+side_begun side call = None
 
-abbrev pub plain_begun : {A : Type 0} → {width : ℕ} → Seated A width → CellCall A
-    → Option (Seated A width)
+-- the party once it began the call, if it may
+abbrev pub plain_begun : {A : Type 0} → {width : ℕ} → PartyView A width → CellCall A
+    → Option (PartyView A width)
 plain_begun party call =
-    option_map (λ seat. record { place = party.place; seat = seat }) (seat_begun party.seat call)
+    option_map (λ side. record { site = party.site; side = side }) (side_begun party.side call)
 
-abbrev pub plain_rests : {A : Type 0} → {width : ℕ} → Seated A width → Bool
-plain_rests party = rests party.seat
+-- is the party at rest?
+abbrev pub plain_rests : {A : Type 0} → {width : ℕ} → PartyView A width → Bool
+plain_rests party = rests party.side
 
 -- `W` has the words of the values
 module _ {A : Type 0} {width : ℕ} (W : Ghosts A) where
   -- the values that wait, as the words hold them
-  abbrev pub waiting_of : CellWorld A width → List A
-  waiting_of world = values W (place_of world) world.words
+  abbrev pub waiting_of : CellMachineState A width → List A
+  waiting_of machine = values W (site_of machine) machine.words
 
-  abbrev pub plain_asks : Seated A width → Access
-  plain_asks party = seat_access W.words party.place party.seat
+  -- the access that the party makes next
+  abbrev pub plain_asks : PartyView A width → Access
+  plain_asks party = side_access W.words party.site party.side
 
-  abbrev pub plain_happens : Seated A width → ℕ → Option (CellMoment A)
-  plain_happens party seen = told (seat_moment W.of_words party.place party.seat seen)
+  -- the event that is written down of an access that found `seen`, if there is one
+  abbrev pub plain_happens : PartyView A width → ℕ → Option (CellEvent A)
+  plain_happens party seen = told (side_event W.of_words party.site party.side seen)
 
   -- where a party is after an access that found this word
-  abbrev pub plain_goes : Seated A width → ℕ → Seated A width
+  abbrev pub plain_goes : PartyView A width → ℕ → PartyView A width
   plain_goes party seen =
-      record { place = party.place; seat = seat_after W.of_words party.place party.seat seen }
+      record { site = party.site; side = side_after W.of_words party.site party.side seen }
 
-  -- the machine after an entry, and after all of them
-  abbrev pub plain_entered : PlainWorld A width → Entry (CellCall A) → PlainWorld A width
+  -- the machine after one entry of a schedule
+  abbrev pub plain_entered : PlainMachineState A width → Entry (CellCall A) → PlainMachineState A width
   plain_entered = entered plain_asks plain_goes plain_happens plain_rests plain_begun
 
-  abbrev pub plain_after : PlainWorld A width → List (Entry (CellCall A)) → PlainWorld A width
+  -- the machine after all entries of a schedule
+  abbrev pub plain_after : PlainMachineState A width → List (Entry (CellCall A)) → PlainMachineState A width
   plain_after = all_entered plain_asks plain_goes plain_happens plain_rests plain_begun
 
   -- what the next access of the party of this number answers
-  abbrev pub plain_answer : PlainWorld A width → ℕ → Progress (CellReply A)
-  plain_answer world number = of_party Going
-      (λ party. seat_progress W.of_words party.place party.seat (seen_in world (plain_asks party)))
-      (slice_get world.parties number)
+  abbrev pub plain_answer : PlainMachineState A width → ℕ → Progress (CellReply A)
+  plain_answer machine number = of_party Going
+      (λ party. side_progress W.of_words party.site party.side (seen_in machine (plain_asks party)))
+      (slice_get machine.parties number)
 
--- a new machine with cells of so many words, once it played these entries
-abbrev pub new_after : {A : Type 0} → Ghosts A → (width : ℕ) → List ℕ → Place
-    → List (Entry (CellCall A)) → PlainWorld A width
-new_after W width list place entries = plain_after W (new_machine list place) entries
+-- a new machine with cells of `width` words, after these entries
+abbrev pub new_after : {A : Type 0} → Ghosts A → (width : ℕ) → List ℕ → CellSite
+    → List (Entry (CellCall A)) → PlainMachineState A width
+new_after W width list site entries = plain_after W (new_machine list site) entries

@@ -1,14 +1,25 @@
-//! A queue of values of any type with words, whose two parties are played access by access:
-//! whatever the schedule, the values that are handed out are, in order, the first of those
-//! published, whole, and the rest waits.
+//! A queue of values of any type with words, as single accesses to shared words: the parties'
+//! programs, a step machine for any schedule, and whole calls. Whatever the schedule, the values
+//! that are handed out are, in order, the first of those published, whole, and the rest waits.
 #![tactic(auto)]
 
+mod answer;
+mod event;
+mod law;
 mod machine;
 mod party;
+mod pop;
+mod push;
 mod queue;
+mod side;
+mod site;
+pub mod whole;
 
+pub use event::{CellEvent, CellReply};
+pub use law::{every_access_keeps_the_queue, every_access_keeps_the_values, queues_apart_stay};
 pub use machine::CellMachine;
-pub use queue::{CellCall, CellParty, CellSeat};
-
-#[cfg(test)]
-mod tests;
+pub use pop::CellPop;
+pub use push::CellPush;
+pub use queue::{CellCall, CellParty, CellSide};
+pub use side::{CellPopping, CellPushing};
+pub use site::CellSite;

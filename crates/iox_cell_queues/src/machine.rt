@@ -1,9 +1,10 @@
 //! The machine of one queue of values.
 ghost use Rattle.std.specs.Prelude.{◌≡◌};
 
+use crate::event::{CellEvent, CellReply};
 use crate::party::at_rest;
 use crate::queue::{CellCall, CellParty};
-use iox_cell_steps::{CellMoment, CellReply, Place};
+use crate::site::CellSite;
 use iox_steps::{Entry, Machine, MachineError, Progress};
 use iox_words::Words;
 use std::alloc::{AllocError, Global};
@@ -18,10 +19,10 @@ pub struct CellMachine<T: Words, const WIDTH: usize> {
 
 impl<T: Words, const WIDTH: usize> Model for CellMachine<T, WIDTH> {
     ghost use Rattle.std.specs.Coded.{codes};
-    ghost use Rattle.iox_cell_queues.specs.CellSeatings.{ready_code};
-    ghost use Rattle.iox_cell_queues.specs.CellQueues.{CellWorld};
+    ghost use Rattle.iox_cell_queues.specs.CellPartySides.{ready_code};
+    ghost use Rattle.iox_cell_queues.specs.CellQueues.{CellMachineState};
 
-    ghost Value = { CellWorld T WIDTH };
+    ghost Value = { CellMachineState T WIDTH };
 
     ghost coded = { Prim.hlevel (codes, T.code, ready_code) };
 
@@ -30,57 +31,57 @@ impl<T: Words, const WIDTH: usize> Model for CellMachine<T, WIDTH> {
 
 impl<T: Words, const WIDTH: usize> CellMachine<T, WIDTH> {
     ghost use Rattle.std.specs.Prelude.{◌≡◌, ℕ, ◌+◌, ◌≤◌, ◌++◌, length, take, IfOk, IfErr, OnOk, OnErr};
-    ghost use Rattle.iox_cell_steps.specs.Cells.{size};
+    ghost use Rattle.iox_cell_queues.specs.Cells.{size};
     ghost use Rattle.iox_cell_queues.specs.CellSizes.{PartyFits};
-    ghost use Rattle.iox_cell_queues.specs.CellQueues.{IsNewMachine, IsEmptyAt, CellHolds};
-    ghost use Rattle.iox_cell_queues.specs.CellMachines.{CellStepped, IsCellStepRefused, CellBegun, IsCellBeginRefused, AllCellsEntered, CellsStopAtStep, IsMoment, Plays};
-    ghost use Rattle.iox_cell_queues.specs.CellEntries.{plain, new_machine, place_of, waiting_of, plain_entered, plain_after, plain_answer, new_after};
-    ghost use Rattle.iox_cell_steps.specs.CellRuns.{published, handed_out};
+    ghost use Rattle.iox_cell_queues.specs.CellQueues.{IsNewMachine, IsEmptyAt, CellInvariant};
+    ghost use Rattle.iox_cell_queues.specs.CellMachines.{CellStepped, IsCellStepRefused, CellBegun, IsCellBeginRefused, AllCellsEntered, CellsStopAtStep, IsEvent, IsInterleaving};
+    ghost use Rattle.iox_cell_queues.specs.CellEntries.{plain, new_machine, site_of, waiting_of, plain_entered, plain_after, plain_answer, new_after};
+    ghost use Rattle.iox_cell_queues.specs.CellEventLists.{published, departed};
 
-    /// A machine of the empty queue at this place among the words, at whatever position it is.
+    /// A machine of the empty queue at this site among the words, at whatever position it is.
     pub fn new(
         alloc: Global,
         words: Vec<u64>,
-        place: Place,
+        site: CellSite,
     ) -> Result<CellMachine<T, WIDTH>, AllocError>
-        requires room { place.base + size place ≤ length words.items }
-        requires empty { IsEmptyAt place words.items }
-        requires wide { place.width ≡ WIDTH }
+        requires room { site.base + size site ≤ length words.items }
+        requires empty { IsEmptyAt site words.items }
+        requires wide { site.width ≡ WIDTH }
         requires words { T.WORDS ≡ WIDTH }
         requires fits { PartyFits T.row WIDTH.row }
-        ensures made { IfOk result (IsNewMachine words.items place) }
-        ensures is_new { IfOk result (λ machine. plain machine ≡ new_machine words.items place) }
-        ensures stands { IfOk result (λ machine. place_of machine ≡ place) }
+        ensures made { IfOk result (IsNewMachine words.items site) }
+        ensures is_new { IfOk result (λ machine. plain machine ≡ new_machine words.items site) }
+        ensures stands { IfOk result (λ machine. site_of machine ≡ site) }
     {
-        let _position = words[place.base];
-        let parties = at_rest(alloc, place)?;
+        let _position = words[site.base];
+        let parties = at_rest(alloc, site)?;
         Ok(CellMachine {
             machine: Machine::new(alloc, words, parties),
         })
     }
 
-    /// A machine of the empty queue at this place, once it played the schedule to its end.
+    /// A machine of the empty queue at this site, once it played the schedule to its end.
     pub fn played(
         alloc: Global,
         words: Vec<u64>,
-        place: Place,
+        site: CellSite,
         schedule: &[Entry<CellCall<T>>],
     ) -> Result<CellMachine<T, WIDTH>, MachineError>
-        requires room { place.base + size place ≤ length words.items }
-        requires empty { IsEmptyAt place words.items }
-        requires wide { place.width ≡ WIDTH }
+        requires room { site.base + size site ≤ length words.items }
+        requires empty { IsEmptyAt site words.items }
+        requires wide { site.width ≡ WIDTH }
         requires words { T.WORDS ≡ WIDTH }
         requires fits { PartyFits T.row WIDTH.row }
         ensures after { IfOk result (λ machine. plain machine
-            ≡ new_after T.Words WIDTH words.items place schedule.now) }
+            ≡ new_after T.Words WIDTH words.items site schedule.now) }
         ensures words { IfOk result (λ machine. machine.words
-            ≡ (new_after T.Words WIDTH words.items place schedule.now).words) }
+            ≡ (new_after T.Words WIDTH words.items site schedule.now).words) }
         ensures events { IfOk result (λ machine. machine.events
-            ≡ (new_after T.Words WIDTH words.items place schedule.now).events) }
-        ensures stands { IfOk result (λ machine. place_of machine ≡ place) }
+            ≡ (new_after T.Words WIDTH words.items site schedule.now).events) }
+        ensures stands { IfOk result (λ machine. site_of machine ≡ site) }
         ensures refused { IfErr result (λ error. error ≡ MachineError.WantOfMemory) }
     {
-        let Ok(mut machine) = CellMachine::new(alloc, words, place) else {
+        let Ok(mut machine) = CellMachine::new(alloc, words, site) else {
             return Err(MachineError::WantOfMemory);
         };
         machine.run(schedule)?;
@@ -96,7 +97,7 @@ impl<T: Words, const WIDTH: usize> CellMachine<T, WIDTH> {
     }
 
     /// What happened so far.
-    pub fn events(&self) -> &[CellMoment<T>]
+    pub fn events(&self) -> &[CellEvent<T>]
         requires fits { PartyFits T.row WIDTH.row }
         ensures { result.now ≡ self.now.events }
     {
@@ -111,7 +112,7 @@ impl<T: Words, const WIDTH: usize> CellMachine<T, WIDTH> {
         ensures unchanged { OnErr result (self.new ≡ self.old) }
         ensures entered { plain self.new
             ≡ plain_entered T.Words (plain self.old) (Entry.Begin party call) }
-        ensures stands { place_of self.new ≡ place_of self.old }
+        ensures stands { site_of self.new ≡ site_of self.old }
     {
         self.machine.begin(party, call)
     }
@@ -119,7 +120,7 @@ impl<T: Words, const WIDTH: usize> CellMachine<T, WIDTH> {
     /// One access of the party's call.
     pub fn step(&mut self, party: usize) -> Result<Progress<CellReply<T>>, MachineError>
         requires fits { PartyFits T.row WIDTH.row }
-        ensures moment { IfOk result (λ answer. IsMoment T.Words self.old party answer self.new) }
+        ensures event { IfOk result (λ answer. IsEvent T.Words self.old party answer self.new) }
         ensures stepped { IfOk result (λ answer. CellStepped T.Words self.old party answer self.new) }
         ensures refused { IfErr result (IsCellStepRefused T.Words self.old party) }
         ensures unchanged { OnErr result (self.new ≡ self.old) }
@@ -127,32 +128,31 @@ impl<T: Words, const WIDTH: usize> CellMachine<T, WIDTH> {
             ≡ plain_entered T.Words (plain self.old) (Entry.Step party)) }
         ensures answer { IfOk result (λ answer. answer
             ≡ plain_answer T.Words (plain self.old) party) }
-        ensures stands { place_of self.new ≡ place_of self.old }
+        ensures stands { site_of self.new ≡ site_of self.old }
     {
         self.holds();
         self.machine.step(party)
     }
 
-    /// What the words say, wherever the parties are: the values that were handed out are, in order,
-    /// the first of those published, and the rest waits.
+    /// What holds wherever the parties are in their calls: the values published are, in order,
+    /// those handed out and then those that wait.
     pub fn holds(&self)
         requires fits { PartyFits T.row WIDTH.row }
-        ensures queue { CellHolds T.Words self.now }
+        ensures queue { CellInvariant T.Words self.now }
         ensures order { published self.now.events
-            ≡ handed_out self.now.events ++ waiting_of T.Words self.now }
-        ensures bounded { length (waiting_of T.Words self.now) ≤ (place_of self.now).capacity }
+            ≡ departed self.now.events ++ waiting_of T.Words self.now }
+        ensures bounded { length (waiting_of T.Words self.now) ≤ (site_of self.now).capacity }
     {
         self.machine.holds()
     }
 
-    /// Plays a schedule to its end, or to the step that wants memory. Whatever the schedule, each
-    /// event that it adds was true of the queue when it came, and the values that were handed out
-    /// are, in order, the first of those published, and the rest waits. A schedule that is played to
-    /// its end has one end.
+    /// Plays a schedule to its end, or to the step that finds no memory. Each event that it adds
+    /// was true of the queue when it came. The values published are, in order, those handed out and
+    /// then those that wait. A schedule played to its end has only one result.
     pub fn run(&mut self, schedule: &[Entry<CellCall<T>>]) -> Result<(), MachineError>
         requires fits { PartyFits T.row WIDTH.row }
-        ensures queue { CellHolds T.Words self.new }
-        ensures moments { Plays T.Words self.old self.new }
+        ensures queue { CellInvariant T.Words self.new }
+        ensures happened { IsInterleaving T.Words self.old self.new }
         ensures played { (count : ℕ) × AllCellsEntered T.Words self.old (take count schedule.now) self.new }
         ensures whole { OnOk result (AllCellsEntered T.Words self.old schedule.now self.new) }
         ensures stopped { OnErr result (CellsStopAtStep T.Words self.old schedule.now self.new) }
@@ -160,8 +160,8 @@ impl<T: Words, const WIDTH: usize> CellMachine<T, WIDTH> {
         ensures after { OnOk result (plain self.new
             ≡ plain_after T.Words (plain self.old) schedule.now) }
         ensures order { published self.new.events
-            ≡ handed_out self.new.events ++ waiting_of T.Words self.new }
-        ensures stands { place_of self.new ≡ place_of self.old }
+            ≡ departed self.new.events ++ waiting_of T.Words self.new }
+        ensures stands { site_of self.new ≡ site_of self.old }
     {
         self.holds();
         let played = self.machine.run(schedule);

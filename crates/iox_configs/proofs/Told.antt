@@ -3,26 +3,26 @@ use Rattle.std.proofs.Common.{ℕ, suc, zero, ◌≡◌, ◌*◌, ◌^◌, ◌�
 use Rattle.std.specs.Prelude.{Option}
 use Rattle.std.proofs.Math.Nat.{le-mul_of_pos_right}
 use Rattle.std.proofs.lemmas.Bool.Decides.{nat_tests}
-use Rattle.iox_types.specs.Layouts.{told}
+use Rattle.iox_types.specs.Layouts.{as_usize}
 
 -- what can't be told is past every `usize`
-past-told : (n : ℕ) → None ≡ told n → 2 ^ 64 ≤ n
+past-told : (n : ℕ) → None ≡ as_usize n → 2 ^ 64 ≤ n
 past-told n h = grind (arith, nat_tests)
 
-untold-past : (n : ℕ) → 2 ^ 64 ≤ n → None ≡ told n
+untold-past : (n : ℕ) → 2 ^ 64 ≤ n → None ≡ as_usize n
 untold-past n h = grind (arith, nat_tests)
 
-zero-told : (n : ℕ) → n ≡ 0 → Some 0 ≡ told n
+zero-told : (n : ℕ) → n ≡ 0 → Some 0 ≡ as_usize n
 zero-told n h = grind (arith, nat_tests)
 
 -- a product with a number that can't be told
-pub untold-product : (m n : ℕ) → None ≡ told m → (Some 0 ≡ told n → ⊥) → None ≡ told (m * n)
-untold-product m n past some = elim n as (λ k. n ≡ k → None ≡ told (m * n)) [
+pub untold-product : (m n : ℕ) → None ≡ as_usize m → (Some 0 ≡ as_usize n → ⊥) → None ≡ as_usize (m * n)
+untold-product m n past some = elim n as (λ k. n ≡ k → None ≡ as_usize (m * n)) [
   | zero ↦ λ e. absurd (some (zero-told n e))
   | suc k ↦ λ e. untold-past (m * n)
       (let bound : m ≤ m * n = le-mul_of_pos_right m (omega arith) in
       let large : 2 ^ 64 ≤ m = past-told m past in omega arith)
 ] refl
 
-pub product-untold : (m n : ℕ) → None ≡ told n → (Some 0 ≡ told m → ⊥) → None ≡ told (m * n)
+pub product-untold : (m n : ℕ) → None ≡ as_usize n → (Some 0 ≡ as_usize m → ⊥) → None ≡ as_usize (m * n)
 product-untold m n past some = rw (mul_comm m n) (untold-product n m past some)

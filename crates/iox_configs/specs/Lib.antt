@@ -1,4 +1,5 @@
--- where a configuration's files lie, what services start from, how many messages their ports need
+-- where a configuration's files are, the settings before anybody changes them, how many messages
+-- ports need
 pub mod Paths
 pub mod FirstSettings
 pub mod Pools

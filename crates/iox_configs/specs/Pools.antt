@@ -1,6 +1,6 @@
--- How many messages a port's data segment needs, so that no loan within its limits ever lacks one.
+-- How many messages a port's data segment needs, so that every loan within its limits finds one.
 use Rattle.std.specs.Prelude.{ℕ, ◌+◌, ◌*◌}
-use Rattle.iox_model.specs.Makings.{client_pool, server_pool}
+use Rattle.iox_types.specs.PoolSizes.{client_pool, server_pool}
 use Rattle.iox_configs.specs.declared.config.patterns.RequestResonse.{RequestResonse}
 use Rattle.iox_configs.specs.declared.config.patterns.PublishSubscribe.{PublishSubscribe}
 

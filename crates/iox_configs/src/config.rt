@@ -1,4 +1,4 @@
-//! What services start from where nothing else is said.
+//! The settings of services where nobody sets others.
 ghost use Rattle.std.specs.Prelude.{◌≡◌};
 
 pub use defaults::Defaults;

@@ -7,5 +7,3 @@ pub mod event_id;
 pub mod path;
 mod pools;
 pub mod static_config;
-#[cfg(test)]
-mod tests;

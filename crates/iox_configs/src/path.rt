@@ -1,7 +1,7 @@
 //! Paths of directories.
 ghost use Rattle.std.specs.Prelude.{◌≡◌, ◌++◌, IfErr, IfOk, Some, None};
 
-use iox_texts::{BoundedText, TextError};
+use iox_names::{BoundedText, TextError};
 use std::fmt;
 use std::marker::Model;
 use thiserror::Error;
@@ -50,7 +50,7 @@ impl Model for Path {
 }
 
 impl Path {
-    ghost use Rattle.iox_texts.specs.Texts.{text_refusal};
+    ghost use Rattle.iox_names.specs.Texts.{text_refusal};
     ghost use Rattle.iox_configs.specs.Paths.{path_refusal};
 
     /// The path of that text.

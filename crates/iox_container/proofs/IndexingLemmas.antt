@@ -36,6 +36,22 @@ module _ {T : Type 0} where
           few = omega arith;
         }
 
+    -- there are as many slots as indices
+    pub same_size : length held ≡ length slots
+    same_size = ap length is.owned ∙ length-map slots owner
+
+    -- where an index is free, its slot is
+    pub free_slot : get_or held index None ≡ None → get_or slots index None ≡ None
+    free_slot free = elim (cases_lt index (length slots)) [
+      | inl within ↦ none_of (get_or slots index None)
+          (sym (get_or-map owner slots index None None within) ∙ ap (λ owners. get_or owners index None) (sym is.owned) ∙ free)
+      | inr past ↦ get_or_past slots index None past
+    ]
+      where
+        none_of : (slot : Option (Entry T)) → owner slot ≡ None → slot ≡ None
+        none_of None none = refl
+        none_of (Some entry) none = cc
+
     -- a slot that has an entry is one of them, and its index is held
     module _ (has : IsSome (get_or slots index None)) where
       pub slot_within : index < length slots

@@ -16,6 +16,10 @@ pub from_not : (b : Bool) → false ≡ not b → b ≡ true
 from_not true is = refl
 from_not false is = is
 
+pub is_not : (b : Bool) → true ≡ not b → b ≡ false
+is_not true is = is
+is_not false is = refl
+
 -- where an entry went, the mode decides
 pub state_after_fewer : (mode : ReleaseMode) (old : OwnedIndices) (held : ℕ) → held < held_count old
     → state_after_recovery mode old held ≡ state_after mode held

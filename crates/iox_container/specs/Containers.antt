@@ -8,12 +8,13 @@ use Rattle.iox_container.specs.declared.mpmc.container.entries.Entry.{Entry}
 use Rattle.iox_container.specs.declared.mpmc.container.failures.ContainerAddFailure.{ContainerAddFailure}
 use Rattle.iox_container.specs.declared.mpmc.container.failures.ContainerAddFailure.TheVariants.{OutOfSpace, IsLocked}
 
+-- a container: its number, its slots, whether it is locked, and the next ticket
 pub record Contents (T : Type 0) : Type 0 where
   -- the number that stands in the container's handles
   pub id : ℕ
   -- for each slot from 0 on its entry, if it has one: a value, its owner and its ticket
   pub slots : List (Option (Entry T))
-  -- a locked container takes no entry any more
+  -- whether it is locked: a locked container takes no more entries
   pub locked : Bool
   -- the ticket of the next entry; those of earlier entries are below it
   pub next_ticket : ℕ
@@ -38,7 +39,7 @@ count contents = held_count (indices contents)
 abbrev pub entry_in : {T : Type 0} → Contents T → ℕ → Option (Entry T)
 entry_in contents index = slice_index_or contents.slots index None
 
--- a slot has this entry now, or none, and the others are as they were
+-- the container with this entry in a slot, or none; the other slots are unchanged
 abbrev pub with_entry : {T : Type 0} → Contents T → ℕ → Option (Entry T) → Contents T
 with_entry contents index entry = record contents { slots = slice_set contents.slots index entry }
 
@@ -70,11 +71,11 @@ entries_from id index (Some entry ∷ slots) =
 abbrev pub entries : {T : Type 0} → Contents T → List (ContainerHandle × Entry T)
 entries contents = entries_from contents.id 0 contents.slots
 
--- each entry has a ticket of its own, below this one
+-- the greatest number of tickets: each entry has a ticket of its own below it
 abbrev pub max_ticket : ℕ
 max_ticket = 2 ^ 64 - 1
 
--- why nothing is added
+-- why nothing is added, if anything is against it
 abbrev pub add_refusal : {T : Type 0} → Contents T → Option ContainerAddFailure
 add_refusal contents =
     if contents.locked then Some IsLocked
@@ -89,12 +90,13 @@ entry_for value owner ticket = record { value = value; owner = owner; ticket = t
 -- From old, a value is added for an owner, which leaves new.
 pub record Adds {T : Type 0} (value : T) (owner : ℕ) (old : Contents T) (handle : ContainerHandle)
     (new : Contents T) : Type 0 where
-  -- nothing spoke against it
+  -- no refusal applied
   pub allowed : add_refusal old ≡ None
   -- the slot was the lowest free one
   pub lowest : lowest_free (indices old) ≡ Some handle.index
-  -- the handle has the next ticket, which no other has
+  -- the handle names this container
   pub own : handle.container_id ≡ old.id
+  -- the handle has the next ticket, which no other has
   pub fresh : handle.ticket ≡ old.next_ticket
   -- the slot has the value now, and nothing else changed
   pub left : new ≡ record (with_entry old handle.index (Some (entry_for value owner handle.ticket))) {

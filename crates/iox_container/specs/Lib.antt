@@ -3,5 +3,5 @@ pub mod Handles
 pub mod Leaving
 pub mod States
 pub mod Failures
--- for proofs of this crate alone
+-- only for proofs of this crate
 pub mod Indexing

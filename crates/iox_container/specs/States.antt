@@ -1,4 +1,4 @@
--- What a container had at one moment, as a state shows it.
+-- What a container had at one time, kept as a state.
 use Rattle.std.specs.Prelude.{◌≡◌, ◌⊎◌, ⊤, ℕ, List, [], ◌∷◌, Option, None, length, slice_index_or}
 use Rattle.std.specs.Option.{option_map}
 use Rattle.iox_words.specs.declared.callback_progression.CallbackProgression.{CallbackProgression}
@@ -7,6 +7,7 @@ use Rattle.iox_container.specs.declared.mpmc.container.container_handle.Containe
 use Rattle.iox_container.specs.declared.mpmc.container.entries.Entry.{Entry}
 use Rattle.iox_container.specs.Containers.{Contents, entries_from}
 
+-- what a container had when the state was taken: its number and its slots
 pub record Snapshot (T : Type 0) : Type 0 where
   -- the number of the container
   pub id : ℕ
@@ -30,7 +31,8 @@ shown state = entries_from state.id 0 state.slots
 abbrev pub value_in : {T : Type 0} → Snapshot T → ℕ → Option T
 value_in state index = option_map (λ entry. entry.value) (slice_index_or state.slots index None)
 
--- The closure is called with the entries in slot order, until it says stop.
+-- The closure is called with the entries in slot order, until it says stop. The call drops it, so
+-- that no clause says that it was not called once more; the tests count its calls.
 abbrev pub IsCalledUntilStop : {F T : Type 0}
     → (F → ContainerHandle → T → CallbackProgression → F → Type 0)
     → F → List (ContainerHandle × Entry T) → Type 0

@@ -22,10 +22,10 @@ use Rattle.iox_model.specs.Requests.{targets, to_open, opening, looking, emptyin
 use Rattle.iox_model.specs.Responses.{asked, sends, sends_response, loaning}
 use Rattle.iox_model.specs.Settings.{is_client}
 use Rattle.iox_model.specs.States.{Handle, Fixed, State}
-use Rattle.iox_model.specs.Steps.{next}
+use Rattle.iox_model.specs.Transitions.{next}
 use Rattle.iox_model.specs.Weaves.{Makes}
 use Rattle.iox_model.specs.WholeCalls.{MayCome}
-use Rattle.iox_weaves.proofs.MapLemmas.{either}
+use Rattle.iox_weave_laws.proofs.MapLemmas.{either}
 use Rattle.iox_message_laws.specs.Deliveries.{message_put_on, messages_put_on}
 use Rattle.iox_message_laws.specs.Lists.{IsOneOf}
 

@@ -8,9 +8,9 @@ use Rattle.iox_model.specs.Moments.{Holds, moved, Moment, Deliver, Evict, Take}
 use Rattle.iox_model.specs.States.{State}
 use Rattle.iox_model.specs.Weaves.{at_work, IsBeat, IsWeave, World, Beat, Begins, Makes, Ends, Dies}
 use Rattle.iox_model.specs.WireCalls.{opened}
-use Rattle.iox_weaves.proofs.MapLemmas.{same_way-true}
-use Rattle.iox_weaves.proofs.WholeLemmas.{some-is}
-use Rattle.iox_weaves.proofs.WireLemmas.{settled_same, beat-wire}
+use Rattle.iox_weave_laws.proofs.MapLemmas.{same_way-true}
+use Rattle.iox_weave_laws.proofs.WholeLemmas.{some-is}
+use Rattle.iox_weave_laws.proofs.WireLemmas.{settled_same, beat-wire}
 use Rattle.iox_message_laws.specs.Deliveries.{message_put_on, message_taken_from, messages_put_on, messages_taken_from}
 use Rattle.iox_message_laws.specs.Lists.{GivesThese}
 use Rattle.iox_message_laws.specs.Orders.{WholeOnWires}

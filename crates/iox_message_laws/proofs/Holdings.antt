@@ -18,19 +18,19 @@ use Rattle.iox_model.specs.Ends.{settled}
 use Rattle.iox_model.specs.Handles.{handle_at}
 use Rattle.iox_model.specs.Weaves.{Beat, Makes}
 use Rattle.iox_model.specs.WholeCalls.{moved_by, left_by, IsDone}
-use Rattle.iox_weaves.proofs.WholeLemmas.{moved_by-fixed}
-use Rattle.iox_ledger.proofs.Borrows.{loan-own}
-use Rattle.iox_ledger.proofs.Lists.{IsAmong}
-use Rattle.iox_reachable.proofs.Fillings.{still_a_loan}
-use Rattle.iox_reachable.proofs.Reached.{ended_fits}
-use Rattle.iox_reachable.proofs.Sound.{FitsOutcome}
-use Rattle.iox_runs.proofs.Along.{IsAlong, created_for, reached_along}
-use Rattle.iox_runs.proofs.Calls.{Goes, goes_by, begins, done_calm}
-use Rattle.iox_runs.proofs.Having.{taken_way}
-use Rattle.iox_runs.proofs.Holding.{HoldsEnd, ended_holds}
-use Rattle.iox_runs.proofs.Runs.{same_calm, made_calm, calm_kept, created_calm}
-use Rattle.iox_runs.proofs.Settling.{Calm}
-use Rattle.iox_runs.specs.Traces.{beats_of_done, beats_of_reached}
+use Rattle.iox_weave_laws.proofs.WholeLemmas.{moved_by-fixed}
+use Rattle.iox_weave_ledger.proofs.Borrows.{loan-own}
+use Rattle.iox_weave_ledger.proofs.Lists.{IsAmong}
+use Rattle.iox_weave_worlds.proofs.Fillings.{still_a_loan}
+use Rattle.iox_weave_worlds.proofs.Reached.{ended_fits}
+use Rattle.iox_weave_worlds.proofs.Sound.{FitsOutcome}
+use Rattle.iox_run_laws.proofs.Along.{IsAlong, created_for, reached_along}
+use Rattle.iox_run_laws.proofs.Calls.{Goes, goes_by, begins, done_calm}
+use Rattle.iox_run_laws.proofs.Having.{taken_way}
+use Rattle.iox_run_laws.proofs.Holding.{HoldsEnd, ended_holds}
+use Rattle.iox_run_laws.proofs.Runs.{same_calm, made_calm, calm_kept, created_calm}
+use Rattle.iox_run_laws.proofs.Settling.{Calm}
+use Rattle.iox_run_laws.specs.Traces.{beats_of_done, beats_of_reached}
 use Rattle.iox_message_laws.specs.Deliveries.{messages_put_on, messages_taken_from}
 use Rattle.iox_message_laws.specs.Holdings.{CameBy, HadAsDelivered}
 use Rattle.iox_message_laws.specs.Lists.{IsOneOf}
@@ -83,17 +83,17 @@ on_its_way s node (Receives x w m) fits p = taken_way s.fixed node x w m (fits.1
 on_its_way s node o fits p = tt
 
 -- each received handle in the end was there before, or was taken by the beats
-abbrev Holds : State → List Beat → State → Type 0
-Holds s bs t =
+abbrev HoldingsFollow : State → List Beat → State → Type 0
+HoldingsFollow s bs t =
     (node : ℕ) (h : Handle) → IsAmong h (t.fixed.handles node) → is_received h.kind ≡ true → IsAmong h (s.fixed.handles node) ⊎ WasTaken bs h
 
 abbrev HoldsAlong : State → List Beat → State → Type 0
-HoldsAlong s bs t = Calm s → Calm t × Holds s bs t
+HoldsAlong s bs t = Calm s → Calm t × HoldingsFollow s bs t
 
 both_hold : (s t u : State) (bs cs : List Beat) → HoldsAlong s bs t → HoldsAlong t cs u → HoldsAlong s (bs ++ cs) u
 both_hold s t u bs cs first then calm =
-    let p : Calm t × Holds s bs t = first calm in
-    let q : Calm u × Holds t cs u = then p.0 in (
+    let p : Calm t × HoldingsFollow s bs t = first calm in
+    let q : Calm u × HoldingsFollow t cs u = then p.0 in (
       q.0,
       λ node h among received. elim (q.1 node h among received) as (λ x. IsAmong h (s.fixed.handles node) ⊎ WasTaken (bs ++ cs) h) [
         | inl there ↦
@@ -156,7 +156,7 @@ one-among a (x ∷ xs) (inr p) = inr (one-among a xs p)
 pub had_as_delivered : HadAsDelivered
 had_as_delivered s reached node h among received =
     let first : State = created_for s reached in
-    let held : Holds first (beats_of_reached s reached) s
+    let held : HoldingsFollow first (beats_of_reached s reached) s
     = (reached_along HoldsAlong holds_along s reached (created_calm reached.limits reached.acts reached.id)).1 in
     came_by (way_of h) h.message (beats_of_reached s reached) s (whole_over_runs s reached (way_of h))
     (elim (held node h (one-among h (s.fixed.handles node) among) received) as (λ x. WasTaken (beats_of_reached s reached) h) [

@@ -14,15 +14,15 @@ use Rattle.iox_model.specs.Maps.{put_at}
 use Rattle.iox_model.specs.Messages.{Message}
 use Rattle.iox_model.specs.Peers.{port_at}
 use Rattle.iox_model.specs.States.{Handle, State}
-use Rattle.iox_model.specs.Steps.{next}
+use Rattle.iox_model.specs.Transitions.{next}
 use Rattle.iox_model.specs.Handles.{TheHandle}
 use Rattle.iox_model.specs.Weaves.{at_work, wire_start, begun, IsBeat, IsWeave, World, Beat, Begins, Makes, Ends, Dies}
 use Rattle.iox_model.specs.WireCalls.{opened}
-use Rattle.iox_weaves.specs.Laws.{IsDuring}
-use Rattle.iox_weaves.proofs.CallLaws.{Keeps, Has, along}
-use Rattle.iox_weaves.proofs.MapLemmas.{either}
-use Rattle.iox_weaves.proofs.WholeLemmas.{put_at-here, some-is}
-use Rattle.iox_ledger.proofs.Starts.{there}
+use Rattle.iox_weave_laws.specs.Laws.{IsDuring}
+use Rattle.iox_weave_laws.proofs.CallLaws.{StepsKeep, Has, along}
+use Rattle.iox_weave_laws.proofs.MapLemmas.{either}
+use Rattle.iox_weave_laws.proofs.WholeLemmas.{put_at-here, some-is}
+use Rattle.iox_weave_ledger.proofs.Starts.{there}
 use Rattle.iox_message_laws.specs.Deliveries.{message_put_on, messages_put_on}
 use Rattle.iox_message_laws.specs.Holdings.{CameBy}
 use Rattle.iox_message_laws.specs.Lists.{IsOneOf}
@@ -34,7 +34,7 @@ use Rattle.iox_message_laws.proofs.Sendings.{IsSent, start_carries}
 use Rattle.iox_message_laws.proofs.WireHoldings.{had_as_delivered_on_wires}
 
 -- what is left to do while a call goes on
-during_has : (P : Doing → Type 0) (w v : World) (node : ℕ) (call : Call) (c : Choice) (bs : List Beat) → Keeps node P → P (start w.state node c call)
+during_has : (P : Doing → Type 0) (w v : World) (node : ℕ) (call : Call) (c : Choice) (bs : List Beat) → StepsKeep node P → P (start w.state node c call)
     → IsDuring w node (wire_calls.Port call) c bs v → Has v node P
 during_has P w v node call c bs keeps first during =
     let d : Doing = start w.state node c call in
@@ -143,7 +143,7 @@ each_was_sent_on_wires s v bs y m weave among =
 
 -- ---- reads
 
-keeps_so : (s : State) (node n : ℕ) → Keeps node (TellsSo s node n)
+keeps_so : (s : State) (node n : ℕ) → StepsKeep node (TellsSo s node n)
 keeps_so s node n t (Ended (Tells reply)) a p h c = absurd c
 keeps_so s node n t d a p h c = absurd p
 

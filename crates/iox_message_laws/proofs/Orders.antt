@@ -1,25 +1,20 @@
 -- Over runs of a service and its hub messages come in order, whole.
-use Rattle.std.specs.Prelude.{◌≡◌, ℕ, true, false, List, [], ◌∷◌, ◌++◌, map, ◌⊎◌, refl}
+use Rattle.std.specs.Prelude.{◌≡◌, ℕ, List, [], ◌∷◌, ◌++◌, map, refl}
 use Rattle.std.proofs.Common.{sym, subst, inl, inr}
 use Rattle.std.proofs.lemmas.List.{append-nil}
 use Rattle.iox_model.specs.declared.way.Way.{Way}
 use Rattle.iox_model.specs.Begins.{start}
 use Rattle.iox_model.specs.Commands.{Reply, Call}
-use Rattle.iox_model.specs.Counts.{changed, dropped, called, gives_up, with_fixed, sent_handle}
-use Rattle.iox_model.specs.Doings.{Outcome, Tells, Loans, Fills, Sends, FailsToSend, Receives, Drops, DropsPort, Forgets, Doing}
-use Rattle.iox_model.specs.Ends.{sent_loan, is_nothing, port_dropped, settled}
-use Rattle.iox_model.specs.Expiries.{stays, disconnected, is_last_gone, released}
-use Rattle.iox_model.specs.Forgetting.{has_forgotten, forgets}
-use Rattle.iox_model.specs.Handles.{is_request_loan}
+use Rattle.iox_model.specs.Doings.{Doing}
 use Rattle.iox_model.specs.Messages.{Message}
 use Rattle.iox_model.specs.Moments.{moved, Moment}
-use Rattle.iox_model.specs.States.{Handle, Fixed, State}
-use Rattle.iox_model.specs.Steps.{next}
+use Rattle.iox_model.specs.States.{State}
+use Rattle.iox_model.specs.Transitions.{next}
 use Rattle.iox_model.specs.Weaves.{Beat, Makes}
 use Rattle.iox_model.specs.WholeCalls.{moved_by, MayCome, IsDone}
-use Rattle.iox_weaves.proofs.MapLemmas.{either}
-use Rattle.iox_runs.proofs.Along.{IsAlong, created_for, reached_along}
-use Rattle.iox_runs.specs.Traces.{beats_of_done, beats_of_reached}
+use Rattle.iox_run_laws.proofs.Along.{IsAlong, created_for, reached_along}
+use Rattle.iox_run_laws.specs.Traces.{beats_of_done, beats_of_reached}
+use Rattle.iox_run_laws.proofs.InOrder.{Cuts, settled_cuts}
 use Rattle.iox_message_laws.specs.Deliveries.{message_put_on, message_taken_from, messages_put_on, messages_taken_from}
 use Rattle.iox_message_laws.specs.Lists.{GivesThese}
 use Rattle.iox_message_laws.specs.Orders.{AreWholeInOrder, WholeOverRuns, WholeInACall}
@@ -53,35 +48,6 @@ moments_in_order y s node d (m ∷ ms) may =
         (moment_comes s node m y later taken may.0 p))
 
 -- ---- the end of a call
-
--- each way is as it was, or is cut
-abbrev Cuts : State → State → Type 0
-Cuts s t = (y : Way) → (t.waiting y ≡ s.waiting y) ⊎ (t.waiting y ≡ [])
-
-released_cuts : (s : State) (f : Fixed) (port : ℕ) → Cuts s (released (with_fixed s f) port)
-released_cuts s f port =
-    either (Cuts s) (is_last_gone f port) (disconnected (with_fixed s f) port) (with_fixed s f)
-    (λ u y. either (λ (ms : List Message). (ms ≡ s.waiting y) ⊎ (ms ≡ [])) (stays (with_fixed s f) port y) (s.waiting y) [] (λ v. inl refl) (λ v. inr refl))
-    (λ u y. inl refl)
-
-sent_cuts : (s : State) (h : Handle) (count : ℕ) → Cuts s (sent_loan s h count)
-sent_cuts s h count =
-    either (Cuts s) (is_request_loan h.kind) (with_fixed s (changed s.fixed (sent_handle h count))) (released (with_fixed s (dropped s.fixed h)) h.port)
-    (λ u y. inl refl) (λ u. released_cuts s (dropped s.fixed h) h.port)
-
-settled_cuts : (s : State) (node : ℕ) (payload : List ℕ) (o : Outcome) → Cuts s (settled s node payload o)
-settled_cuts s node payload (Tells reply) = either (Cuts s) (is_nothing reply) (with_fixed s (called s.fixed)) s (λ u y. inl refl) (λ u y. inl refl)
-settled_cuts s node payload (Loans h) = λ y. inl refl
-settled_cuts s node payload (Fills h) = λ y. inl refl
-settled_cuts s node payload (Sends h true count) = λ y. inl refl
-settled_cuts s node payload (Sends h false count) = sent_cuts s h count
-settled_cuts s node payload (FailsToSend h true refusal) = λ y. inl refl
-settled_cuts s node payload (FailsToSend h false refusal) = released_cuts s (dropped s.fixed h) h.port
-settled_cuts s node payload (Receives x w m) = λ y. inl refl
-settled_cuts s node payload (Drops h) = released_cuts s (gives_up (dropped s.fixed h) h) h.port
-settled_cuts s node payload (DropsPort port) = released_cuts s (record (s.fixed) { ports = map (port_dropped port) s.fixed.ports }) port
-settled_cuts s node payload (Forgets dead) =
-    either (Cuts s) (has_forgotten s.fixed node dead) s (forgets s node dead) (λ u y. inl refl) (λ u y. inl refl)
 
 -- what is cut is left out
 cut_in_order : (y : Way) (s t : State) → Cuts s t → InOrder y s [] t

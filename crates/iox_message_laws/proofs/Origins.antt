@@ -17,8 +17,8 @@ use Rattle.iox_model.specs.States.{State}
 use Rattle.iox_model.specs.Values.{still_has, IsReleaseWhere}
 use Rattle.iox_model.specs.Weaves.{Beat}
 use Rattle.iox_model.specs.WholeCalls.{UnlessRefused, IsWholeCall}
-use Rattle.iox_ledger.proofs.Truths.{none-some}
-use Rattle.iox_runs.specs.Traces.{unless_refused, beats_of_call, beats_of_port_command, beats_of_releases, beats_of_command, beats_of_release, beats_of_step, beats_of_history}
+use Rattle.iox_weave_ledger.proofs.Truths.{none-some}
+use Rattle.iox_run_laws.specs.Traces.{unless_refused, beats_of_call, beats_of_port_command, beats_of_releases, beats_of_command, beats_of_release, beats_of_step, beats_of_history}
 use Rattle.iox_message_laws.specs.Deliveries.{message_put_on, messages_put_on}
 use Rattle.iox_message_laws.specs.Lists.{IsOneOf}
 use Rattle.iox_message_laws.specs.Origins.{sent_by_command, sent_by_step, IsSentAlong, EachWasSent, ReadAsSent}

@@ -13,12 +13,12 @@ use Rattle.iox_model.specs.Loans.{Choice}
 use Rattle.iox_model.specs.Moments.{Moment}
 use Rattle.iox_model.specs.Names.{misnamed}
 use Rattle.iox_model.specs.States.{Handle, State}
-use Rattle.iox_model.specs.Steps.{ends}
+use Rattle.iox_model.specs.Transitions.{ends}
 use Rattle.iox_model.specs.WholeCalls.{replied, moved_by, left_by, MayCome, UnlessRefused, spent, IsDone}
-use Rattle.iox_weaves.proofs.MapLemmas.{either}
-use Rattle.iox_weaves.proofs.WholeLemmas.{moved_by-fixed, some-is}
-use Rattle.iox_ledger.proofs.Lists.{IsAmong}
-use Rattle.iox_ledger.proofs.Starts.{there}
+use Rattle.iox_weave_laws.proofs.MapLemmas.{either}
+use Rattle.iox_weave_laws.proofs.WholeLemmas.{moved_by-fixed, some-is}
+use Rattle.iox_weave_ledger.proofs.Lists.{IsAmong}
+use Rattle.iox_weave_ledger.proofs.Starts.{there}
 use Rattle.iox_model.specs.Handles.{handle_at}
 use Rattle.iox_model.specs.Peers.{port_at}
 use Rattle.iox_message_laws.specs.Lists.{IsOneOf}

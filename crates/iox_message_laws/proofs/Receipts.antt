@@ -9,8 +9,8 @@ use Rattle.iox_model.specs.Forgetting.{has_forgotten, forgets}
 use Rattle.iox_model.specs.Handles.{is_request_loan, is_received, way_of}
 use Rattle.iox_model.specs.Maps.{put_at, put}
 use Rattle.iox_model.specs.States.{Handle, Fixed, State}
-use Rattle.iox_weaves.proofs.MapLemmas.{either}
-use Rattle.iox_ledger.proofs.Lists.{IsAmong, among-last, filter-among}
+use Rattle.iox_weave_laws.proofs.MapLemmas.{either}
+use Rattle.iox_weave_ledger.proofs.Lists.{IsAmong, among-last, filter-among}
 
 -- each received handle of the later ones is one of the earlier, or this one
 abbrev Adds : (Handle → Type 0) → (ℕ → List Handle) → (ℕ → List Handle) → Type 0

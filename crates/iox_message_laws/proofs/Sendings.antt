@@ -22,8 +22,8 @@ use Rattle.iox_model.specs.Settings.{is_count}
 use Rattle.iox_model.specs.States.{Port, Handle, Fixed, State}
 use Rattle.iox_model.specs.Weaves.{Beat}
 use Rattle.iox_model.specs.WholeCalls.{UnlessRefused, spent, IsDone}
-use Rattle.iox_weaves.proofs.MapLemmas.{either}
-use Rattle.iox_runs.specs.Traces as traces
+use Rattle.iox_weave_laws.proofs.MapLemmas.{either}
+use Rattle.iox_run_laws.specs.Traces as traces
 use Rattle.iox_message_laws.specs.Deliveries.{messages_put_on}
 use Rattle.iox_message_laws.specs.Lists.{IsOneOf}
 use Rattle.iox_message_laws.specs.Sendings.{own_message, copied_order, copied_message, sent_message, DeliversWhatIsSent}

@@ -6,7 +6,7 @@ use Rattle.iox_model.specs.Maps.{same_way}
 use Rattle.iox_model.specs.Messages.{serials_of, Message}
 use Rattle.iox_model.specs.Moments.{Deliver, Take}
 use Rattle.iox_model.specs.Weaves.{Beat, Makes}
-use Rattle.iox_weaves.specs.OrderLaws.{put_on, taken_from, all_put_on, all_taken_from}
+use Rattle.iox_weave_laws.specs.OrderLaws.{put_on, taken_from, all_put_on, all_taken_from}
 use Rattle.iox_message_laws.specs.Deliveries.{message_put_on, message_taken_from, messages_put_on, messages_taken_from}
 use Rattle.iox_message_laws.specs.Orders.{SerialsAreOfMessages, SerialsFollowMessages}
 

@@ -26,13 +26,13 @@ use Rattle.iox_model.specs.Requests.{is_over}
 use Rattle.iox_model.specs.Responses.{copies, lends_response, lending, lends_by, lends, shape_for, ordered}
 use Rattle.iox_model.specs.Settings.{is_client, is_count}
 use Rattle.iox_model.specs.States.{Port, Handle, Fixed, State}
-use Rattle.iox_model.specs.Steps.{next, ends}
+use Rattle.iox_model.specs.Transitions.{next, ends}
 use Rattle.iox_model.specs.Weaves.{wire_start, Beat, Makes}
 use Rattle.iox_model.specs.WholeCalls.{left_by, MayCome}
-use Rattle.iox_weaves.proofs.MapLemmas.{either, same_way-refl, same_way-true}
-use Rattle.iox_weaves.proofs.WholeLemmas.{some-is}
-use Rattle.iox_ledger.proofs.Truths.{none-some}
-use Rattle.iox_ledger.proofs.Quiet.{IsQuiet, asked-quiet, emptying-quiet, looking-quiet, opening-quiet, loaning-quiet, sends-quiet, visiting-quiet, checking-quiet, checked-quiet, hinting-quiet, seeking-quiet}
+use Rattle.iox_weave_laws.proofs.MapLemmas.{either, same_way-refl, same_way-true}
+use Rattle.iox_weave_laws.proofs.WholeLemmas.{some-is}
+use Rattle.iox_weave_ledger.proofs.Truths.{none-some}
+use Rattle.iox_weave_ledger.proofs.Quiet.{IsQuiet, asked-quiet, emptying-quiet, looking-quiet, opening-quiet, loaning-quiet, sends-quiet, visiting-quiet, checking-quiet, checked-quiet, hinting-quiet, seeking-quiet}
 use Rattle.iox_message_laws.specs.Deliveries.{message_taken_from, messages_taken_from}
 use Rattle.iox_message_laws.specs.Lists.{IsOneOf}
 use Rattle.iox_message_laws.proofs.Lists.{one-front, one-back}

@@ -6,17 +6,17 @@ use Rattle.iox_model.specs.Doings.{Outcome, Loans, Fills, Receives, Doing, Ended
 use Rattle.iox_model.specs.Handles.{is_received, way_of}
 use Rattle.iox_model.specs.Maps.{put_at}
 use Rattle.iox_model.specs.States.{Handle, Fixed, State}
-use Rattle.iox_model.specs.Steps.{next}
+use Rattle.iox_model.specs.Transitions.{next}
 use Rattle.iox_model.specs.Weaves.{at_work, wire_start, IsBeat, IsWeave, World, Beat, Begins, Makes, Ends, Dies}
 use Rattle.iox_model.specs.WireCalls.{opened}
-use Rattle.iox_weaves.proofs.MapLemmas.{either}
-use Rattle.iox_weaves.proofs.WholeLemmas.{moved-fixed}
-use Rattle.iox_ledger.proofs.Borrows.{loan-own, taken-way}
-use Rattle.iox_ledger.proofs.Lists.{IsAmong}
-use Rattle.iox_ledger.proofs.Moves.{ends-fits}
-use Rattle.iox_ledger.proofs.Senders.{FitsOutcome}
-use Rattle.iox_ledger.proofs.Views.{View, view}
-use Rattle.iox_ledger.proofs.Worlds.{Fits, opened-fits, doing-is, beat-fits}
+use Rattle.iox_weave_laws.proofs.MapLemmas.{either}
+use Rattle.iox_weave_laws.proofs.WholeLemmas.{moved-fixed}
+use Rattle.iox_weave_ledger.proofs.Borrows.{loan-own, taken-way}
+use Rattle.iox_weave_ledger.proofs.Lists.{IsAmong}
+use Rattle.iox_weave_ledger.proofs.Moves.{ends-fits}
+use Rattle.iox_weave_ledger.proofs.Senders.{FitsOutcome}
+use Rattle.iox_weave_ledger.proofs.Views.{View, view}
+use Rattle.iox_weave_ledger.proofs.Worlds.{SoundWorld, opened-fits, doing-is, beat-fits}
 use Rattle.iox_message_laws.specs.Holdings.{HadAsDeliveredOnWires}
 use Rattle.iox_message_laws.proofs.Comes.{whole_on_wires}
 use Rattle.iox_message_laws.proofs.Holdings.{WasTaken, OnItsWay, came_by, receipt_taken, one-among}
@@ -60,7 +60,7 @@ on_its_way s node o p = tt
 
 -- ---- one beat
 
-beat_held : (w v : World) (b : Beat) (bs : List Beat) → IsBeat w b v → Fits w → Held w bs → Held v (bs ++ b ∷ [])
+beat_held : (w v : World) (b : Beat) (bs : List Beat) → IsBeat w b v → SoundWorld w → Held w bs → Held v (bs ++ b ∷ [])
 beat_held w v (Begins node call c) bs beat fits p = subst (λ u. Held u (bs ++ Begins node call c ∷ [])) (sym beat.2) (record {
   handles = more_handles w bs (Begins node call c ∷ []) p;
   calls = put_calls bs (Begins node call c ∷ []) w.doing node (Some (wire_start w.state node c call))
@@ -89,7 +89,7 @@ beat_held w v (Dies node) bs beat fits p = subst (λ u. Held u (bs ++ Dies node 
   calls = λ n. more_calls bs (Dies node ∷ []) (w.doing n) (p.calls n);
 })
 
-weave_held : (w v : World) (bs cs : List Beat) → IsWeave w cs v → Fits w → Held w bs → Held v (bs ++ cs)
+weave_held : (w v : World) (bs cs : List Beat) → IsWeave w cs v → SoundWorld w → Held w bs → Held v (bs ++ cs)
 weave_held w v bs [] weave fits p = subst (λ ds. Held v ds) (sym (append-nil bs)) (subst (λ u. Held u bs) (sym weave) p)
 weave_held w v bs (c ∷ cs) weave fits p =
     subst (Held v) (append_assoc bs (c ∷ []) cs)

@@ -1,4 +1,4 @@
--- What a receiver has is what was delivered to it.
+-- What a receiver has was delivered to it.
 use Rattle.std.specs.Prelude.{ℕ, List, IsTrue}
 use Rattle.iox_model.specs.declared.way.Way.{Way}
 use Rattle.iox_model.specs.Handles.{is_received, way_of}
@@ -6,25 +6,26 @@ use Rattle.iox_model.specs.Messages.{Message}
 use Rattle.iox_model.specs.Runs.{IsReachableState}
 use Rattle.iox_model.specs.States.{Handle, State}
 use Rattle.iox_model.specs.Weaves.{World, Beat}
-use Rattle.iox_ledger.specs.OnceLaws.{IsOnWire}
-use Rattle.iox_runs.specs.Traces.{beats_of_reached}
+use Rattle.iox_weave_ledger.specs.OnceLaws.{IsOnWire}
+use Rattle.iox_run_laws.specs.Traces.{beats_of_reached}
 use Rattle.iox_message_laws.specs.Deliveries.{messages_put_on, messages_taken_from}
 use Rattle.iox_message_laws.specs.Lists.{IsOneOf}
 
--- the beats delivered this very message on the way, and took it from there
+-- the beats delivered this message on the way, and took it from there
 pub record CameBy (y : Way) (m : Message) (bs : List Beat) : Type 0 where
   pub delivered : IsOneOf m (messages_put_on y bs)
   pub taken : IsOneOf m (messages_taken_from y bs)
 
--- What a handle of a receiver has was delivered on its way, and taken from there, whole: in each
--- state that a service and its hub come to,
+-- In each reachable state, the message of a receiver's handle was delivered on its way and taken
+-- from there, whole.
 abbrev pub HadAsDelivered : Type 0
 HadAsDelivered =
     (s : State) (reached : IsReachableState s) (node : ℕ) (h : Handle)
     → IsOneOf h (s.fixed.handles node) → IsTrue (is_received h.kind)
     → CameBy (way_of h) h.message (beats_of_reached s reached)
 
--- and in each world of a wire.
+-- In each world of a wire, the message of a receiver's handle was delivered on its way and taken
+-- from there, whole.
 abbrev pub HadAsDeliveredOnWires : Type 0
 HadAsDeliveredOnWires =
     (s : State) (v : World) (bs : List Beat) (node : ℕ) (h : Handle) → IsOnWire s bs v

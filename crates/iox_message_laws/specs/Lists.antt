@@ -1,12 +1,12 @@
--- Lists of anything: what is one of them, and what a list gives.
+-- Lists of any values: which values are in a list, and which come in its order.
 use Rattle.std.specs.Prelude.{◌≡◌, List, [], ◌∷◌, ⊤, ◌⊎◌}
 
--- it is one of these
+-- the value is in the list
 abbrev pub IsOneOf : {A : Type 0} → A → List A → Type 0
 IsOneOf a [] = ⊥
 IsOneOf a (x ∷ xs) = (a ≡ x) ⊎ IsOneOf a xs
 
--- the list gives these, in this order; it may leave some out
+-- these are values of the list, in its order; it may have others in between
 abbrev pub GivesThese : {A : Type 0} → List A → List A → Type 0
 GivesThese [] [] = ⊤
 GivesThese [] (x ∷ xs) = ⊥

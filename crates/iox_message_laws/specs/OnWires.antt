@@ -1,4 +1,4 @@
--- On a wire: what a call delivers is what it sends, and what is read was sent, from end to end.
+-- On a wire: what a call delivers is what it sends, and what is read was sent.
 use Rattle.std.specs.Prelude.{◌≡◌, ℕ, List, [], ◌∷◌, Some, IsTrue, ◌⊎◌}
 use Rattle.iox_model.specs.declared.call.Call.TheVariants.{Read}
 use Rattle.iox_model.specs.declared.call.WireCall.TheVariants as wire_calls
@@ -12,8 +12,8 @@ use Rattle.iox_model.specs.Moments.{Deliver}
 use Rattle.iox_model.specs.States.{Handle, State}
 use Rattle.iox_model.specs.Weaves.{at_work, IsBeat, IsWeave, World, Beat, Begins, Makes, Ends}
 use Rattle.iox_model.specs.WireCalls.{opened}
-use Rattle.iox_ledger.specs.OnceLaws.{IsOnWire}
-use Rattle.iox_weaves.specs.Laws.{IsDuring}
+use Rattle.iox_weave_ledger.specs.OnceLaws.{IsOnWire}
+use Rattle.iox_weave_laws.specs.Laws.{IsDuring}
 use Rattle.iox_message_laws.specs.Deliveries.{messages_put_on}
 use Rattle.iox_message_laws.specs.Holdings.{CameBy}
 use Rattle.iox_message_laws.specs.Lists.{IsOneOf}
@@ -21,7 +21,7 @@ use Rattle.iox_message_laws.specs.Readings.{words_of}
 use Rattle.iox_message_laws.specs.Sendings.{sent_message}
 
 -- Whatever other nodes do in between, what a call delivers is the message that it sends, as it was
--- at the begin.
+-- when the call began.
 abbrev pub CallDeliversWhatIsSent : Type 0
 CallDeliversWhatIsSent =
     (w v u : World) (node : ℕ) (call : Call) (c : Choice) (bs : List Beat) (y : Way) (m : Message)
@@ -41,15 +41,15 @@ IsSentIn y m w [] v weave = ⊥
 IsSentIn y m w (b ∷ bs) v weave =
     (BeginsToSend m w b × IsOneOf m (messages_put_on y bs)) ⊎ IsSentIn y m weave.0 bs v weave.2
 
--- Each message that is delivered on a wire was sent,
+-- Each message that is delivered on a wire was sent.
 abbrev pub EachWasSentOnWires : Type 0
 EachWasSentOnWires =
     (s : State) (v : World) (bs : List Beat) (y : Way) (m : Message)
     → (weave : IsWeave (at_work (opened s)) bs v) → IsOneOf m (messages_put_on y bs)
     → IsSentIn y m (at_work (opened s)) bs v weave
 
--- and what a read answers at a receiver, whatever other nodes do in between, are the words of a
--- message that was sent before the read began, and delivered to the receiver, and taken there.
+-- Whatever other nodes do in between, a receiver reads a message that was sent before the read
+-- began, delivered to it and taken there.
 abbrev pub ReadOnWiresAsSent : Type 0
 ReadOnWiresAsSent =
     (s : State) (w v u : World) (before bs : List Beat) (node n : ℕ) (h : Handle) (c : Choice)

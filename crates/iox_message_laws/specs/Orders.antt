@@ -11,24 +11,26 @@ use Rattle.iox_model.specs.States.{State}
 use Rattle.iox_model.specs.Weaves.{at_work, IsWeave, World, Beat, Makes}
 use Rattle.iox_model.specs.WholeCalls.{moved_by, MayCome}
 use Rattle.iox_model.specs.WireCalls.{opened}
-use Rattle.iox_weaves.specs.OrderLaws.{all_put_on, all_taken_from, Gives}
-use Rattle.iox_runs.specs.Traces.{beats_of_reached}
+use Rattle.iox_weave_laws.specs.OrderLaws.{all_put_on, all_taken_from, Gives}
+use Rattle.iox_run_laws.specs.Traces.{beats_of_reached}
 use Rattle.iox_message_laws.specs.Deliveries.{messages_put_on, messages_taken_from}
 use Rattle.iox_message_laws.specs.Lists.{GivesThese}
 
--- On the way what the beats delivered gives, in its order, what they took, and then what waits:
--- each message as it was delivered, with its header, its user header and its payload.
+-- On this way, what the beats took and what still waits comes in the order of delivery, each
+-- message whole: header, user header and payload.
 abbrev pub AreWholeInOrder : Way → List Beat → State → Type 0
 AreWholeInOrder y bs s =
     GivesThese (messages_put_on y bs) (messages_taken_from y bs ++ s.waiting y)
 
--- So it is of each state that a service and its hub come to, on each way,
+-- In each reachable state and on each way, what was taken and what still waits comes in the order
+-- of delivery, whole.
 abbrev pub WholeOverRuns : Type 0
 WholeOverRuns =
     (s : State) (reached : IsReachableState s) (y : Way)
     → AreWholeInOrder y (beats_of_reached s reached) s
 
--- and after any moments of a call that follows,
+-- After any moments of a call, too, what was taken and what still waits comes in the order of
+-- delivery, whole.
 abbrev pub WholeInACall : Type 0
 WholeInACall =
     (s : State) (reached : IsReachableState s) (y : Way)
@@ -36,20 +38,21 @@ WholeInACall =
     → MayCome s node (start s node c call) ms
     → AreWholeInOrder y (beats_of_reached s reached ++ map (Makes node) ms) (moved_by s ms)
 
--- and on a wire, where the calls of nodes come in between each other.
+-- On a wire, where the calls of nodes interleave, what was taken and what still waits comes in the
+-- order of delivery, whole.
 abbrev pub WholeOnWires : Type 0
 WholeOnWires =
     (s : State) (v : World) (bs : List Beat) (y : Way)
     → IsWeave (at_work (opened s)) bs v → AreWholeInOrder y bs v.state
 
--- The order of serials is the image of this one: the serials of a trace are those of its messages,
+-- The serials that a trace delivers and takes are those of its messages.
 abbrev pub SerialsAreOfMessages : Type 0
 SerialsAreOfMessages =
     (y : Way) (bs : List Beat)
     → (all_put_on y bs ≡ serials_of (messages_put_on y bs))
     × (all_taken_from y bs ≡ serials_of (messages_taken_from y bs))
 
--- and messages that are given in order have serials that are given in order.
+-- Messages that come in an order have serials that come in the same order.
 abbrev pub SerialsFollowMessages : Type 0
 SerialsFollowMessages =
     (put given : List Message) → GivesThese put given → Gives (serials_of put) (serials_of given)

@@ -1,4 +1,4 @@
--- From end to end: what is read at a receiver, a step of the same history sent.
+-- What is read at a receiver was sent by a step of the same history.
 use Rattle.std.specs.Prelude.{◌≡◌, ℕ, List, [], ◌∷◌, Option, Some, None, IsTrue, ◌⊎◌}
 use Rattle.iox_model.specs.declared.call.Call.TheVariants.{Read}
 use Rattle.iox_model.specs.declared.command.Command.TheVariants.{Port}
@@ -10,7 +10,7 @@ use Rattle.iox_model.specs.Messages.{Message}
 use Rattle.iox_model.specs.Runs.{created, ServiceStep, OfService, OfHub, IsHistory, IsReachableState}
 use Rattle.iox_model.specs.States.{Handle, Fixed, State}
 use Rattle.iox_model.specs.WholeCalls.{IsWholeCall}
-use Rattle.iox_runs.specs.Traces.{beats_of_step, beats_of_reached}
+use Rattle.iox_run_laws.specs.Traces.{beats_of_step, beats_of_reached}
 use Rattle.iox_message_laws.specs.Deliveries.{messages_put_on}
 use Rattle.iox_message_laws.specs.Lists.{IsOneOf}
 use Rattle.iox_message_laws.specs.Readings.{words_of}
@@ -21,6 +21,7 @@ abbrev pub sent_by_command : Fixed → ℕ → ℕ → HubCommand → Option Mes
 sent_by_command f node lane (Use call) = sent_message f node lane call
 sent_by_command f node lane (Create role id o) = None
 
+-- the message that a step of a history sends, if it sends one
 abbrev pub sent_by_step : Fixed → ℕ → ServiceStep → Option Message
 sent_by_step f lane (OfService (Port command) reply) =
     sent_by_command f (asking command).0 lane (asking command).1
@@ -36,17 +37,18 @@ IsSentAlong y m s (x ∷ xs) t history =
     × ((lane : ℕ) × (sent_by_step s.fixed lane x ≡ Some m)))
     ⊎ IsSentAlong y m history.0 xs t history.2
 
+-- some step of the history that led to the state sent this message on the way
 abbrev pub WasSent : (s : State) → IsReachableState s → Way → Message → Type 0
 WasSent s reached y m =
     IsSentAlong y m (created reached.limits reached.acts reached.id) reached.steps s reached.history
 
--- Each message that was delivered was sent,
+-- Each message that was delivered was sent.
 abbrev pub EachWasSent : Type 0
 EachWasSent =
     (s : State) (reached : IsReachableState s) (y : Way) (m : Message)
     → IsOneOf m (messages_put_on y (beats_of_reached s reached)) → WasSent s reached y m
 
--- and what is read at a receiver are the words of a message that was sent to it.
+-- What a receiver reads are the words of a message that was sent to it.
 abbrev pub ReadAsSent : Type 0
 ReadAsSent =
     (s t : State) (reached : IsReachableState s) (node n : ℕ) (h : Handle) (words : List ℕ)

@@ -7,7 +7,7 @@ use Rattle.iox_model.specs.Messages.{Message}
 use Rattle.iox_model.specs.Runs.{IsReachableState}
 use Rattle.iox_model.specs.States.{Handle, State}
 use Rattle.iox_model.specs.WholeCalls.{IsWholeCall}
-use Rattle.iox_runs.specs.Traces.{beats_of_reached}
+use Rattle.iox_run_laws.specs.Traces.{beats_of_reached}
 use Rattle.iox_message_laws.specs.Holdings.{CameBy}
 
 -- the words of a message: of its user header, and of its payload
@@ -20,7 +20,8 @@ ReadsItsMessage =
     (s t : State) (node n : ℕ) (words : List ℕ) → IsWholeCall s node (Read n) (Words words) t
     → (h : Handle) × (subject s.fixed node n ≡ Some (TheHandle h)) × (words ≡ words_of h.message)
 
--- Where the handle received it, that message was delivered on the handle's way, and taken there.
+-- A read of a received handle answers the words of its message, which was delivered on the handle's
+-- way and taken there.
 abbrev pub ReadAsDelivered : Type 0
 ReadAsDelivered =
     (s t : State) (reached : IsReachableState s) (node n : ℕ) (h : Handle) (words : List ℕ)

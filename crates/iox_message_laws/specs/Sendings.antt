@@ -10,22 +10,22 @@ use Rattle.iox_model.specs.Messages.{Message}
 use Rattle.iox_model.specs.Peers.{port_at}
 use Rattle.iox_model.specs.States.{Fixed, State}
 use Rattle.iox_model.specs.WholeCalls.{IsWholeCall}
-use Rattle.iox_runs.specs.Traces.{beats_of_call}
+use Rattle.iox_run_laws.specs.Traces.{beats_of_call}
 use Rattle.iox_message_laws.specs.Deliveries.{messages_put_on}
 use Rattle.iox_message_laws.specs.Lists.{IsOneOf}
 
--- a loan has its message, as it was filled
+-- the message of a loan, as it was filled
 abbrev pub own_message : Subject → Option Message
 own_message (ThePort p) = None
 own_message (TheHandle h) = Some h.message
 
--- the words that a send copies, as so many elements
+-- what a send that copies is asked for: these words, as so many elements
 abbrev pub copied_order : ℕ → List ℕ → Order
 copied_order k words =
     record { elements = k; filled = k; payload = words; copies = true; uninit = false }
 
--- with them a client has its next request, on an open lane, and a server its next response to the
--- request that it received
+-- the message that these words become: a client's next request, on an open lane, or a server's next
+-- response to the request that it received
 abbrev pub copied_message : Fixed → ℕ → Order → Subject → Option Message
 copied_message f lane o (ThePort p) = Some (next_message f p o lane (next_request f p.number))
 copied_message f lane o (TheHandle h) =
@@ -41,7 +41,8 @@ sent_message f node lane (SendCopy n p) =
     p.elements None
 sent_message f node lane call = None
 
--- Whatever a call delivers, on whatever way, is the message that it sends, as it was at the begin.
+-- Whatever a call delivers, on any way, is the message that it sends, as it was when the call
+-- began.
 abbrev pub DeliversWhatIsSent : Type 0
 DeliversWhatIsSent =
     (s t : State) (node : ℕ) (call : Call) (reply : Reply) (done : IsWholeCall s node call reply t)

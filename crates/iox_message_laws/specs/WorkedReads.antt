@@ -8,8 +8,8 @@ use Rattle.iox_model.specs.Messages.{request_way}
 use Rattle.iox_model.specs.Runs.{ServiceStep, OfHub, IsHistory}
 use Rattle.iox_model.specs.States.{State}
 use Rattle.iox_model.specs.Weaves.{Beat}
-use Rattle.iox_worked.specs.Scripts.{defaults, of_length_one, process, service, request_saying}
-use Rattle.iox_runs.specs.Traces.{beats_of_history}
+use Rattle.iox_worked.specs.Examples.{defaults, of_length_one, process, service, request_saying}
+use Rattle.iox_run_laws.specs.Traces.{beats_of_history}
 use Rattle.iox_message_laws.specs.Deliveries.{messages_put_on, messages_taken_from}
 use Rattle.iox_message_laws.specs.Readings.{words_of}
 
@@ -23,10 +23,11 @@ reads_one_of_two =
     ∷ OfHub 1 (Use (Receive 1)) (replies.Handle 4)
     ∷ OfHub 1 (Use (Read 4)) (replies.Words (7 ∷ [])) ∷ []
 
+-- the beats of the worked history
 abbrev pub beats_of_reads : (t : State) → IsHistory (service defaults) reads_one_of_two t → List Beat
 beats_of_reads t h = beats_of_history (service defaults) reads_one_of_two t h
 
--- the words of both were delivered, and those of the first were taken
+-- the words of both requests were delivered, and those of the first were taken
 abbrev pub ReadsTheFirst : Type 0
 ReadsTheFirst =
     (t : State) × (h : IsHistory (service defaults) reads_one_of_two t)

@@ -1,4 +1,4 @@
-//! What is read at a receiver is what was sent to it: the whole message, not its serial alone.
+//! What is read at a receiver is what was sent to it: the whole message, not only its serial.
 //! The functions have nothing to do: each is there for its contract.
 #![tactic(auto)]
 
@@ -19,7 +19,7 @@ pub fn messages_come_whole()
     ensures wires { WholeOnWires }
 {}
 
-/// What is known of serials in order follows.
+/// The laws of serials in order follow.
 pub fn serials_follow_messages()
     ensures images { SerialsAreOfMessages }
     ensures order { SerialsFollowMessages }
@@ -43,8 +43,8 @@ pub fn messages_are_read_as_delivered()
     ensures received { ReadAsDelivered }
 {}
 
-/// From end to end: each message that was delivered was sent, and what is read at a receiver are
-/// the words of a message that was sent to it.
+/// Each message that was delivered was sent, and what is read at a receiver are the words of a
+/// message that was sent to it.
 pub fn messages_are_read_as_sent()
     ensures origins { EachWasSent }
     ensures words { ReadAsSent }

@@ -23,17 +23,19 @@ written h words = record h {
   filled = h.message.elements;
 }
 
+-- a write: refused unless the payload is of whole elements, as many as the loan has
 abbrev pub writes : Handle → Option ℕ → List ℕ → Doing
 writes h None words = refused WrongLength
 writes h (Some k) words =
     if k == h.message.elements then Ended (Fills (written h words)) else refused WrongLength
 
--- the words take memory where they are handed out
+-- a read: it answers the message's words, which takes memory
 abbrev pub reads : Choice → Handle → Doing
 reads c h =
     if c.memory then Ended (Tells (Words (h.message.user ++ h.message.payload)))
     else refused WantOfMemory
 
+-- how a call begins, given the port or handle that its number names
 abbrev pub begins_at : State → Choice → Call → Subject → Doing
 begins_at s c (Loan n k) x = lends s c x (ordered k false)
 begins_at s c (LoanUninit n k) x = lends s c x (ordered k true)
@@ -48,7 +50,7 @@ begins_at s c (SetHint n) (TheHandle h) = hinting h (states_of s.fixed h)
 begins_at s c (HasHint n) (TheHandle h) = checking h true (states_of s.fixed h)
 begins_at s c (HasRequests n) (ThePort p) = seeking (server_ways s.fixed p)
 begins_at s c (HasResponse n) (TheHandle h) = seeking (pending_ways s.fixed h)
--- what does not suit
+-- any other call does not fit what its number names
 begins_at s c call x = refused WrongKind
 
 -- what a call has to do, as it begins
@@ -58,24 +60,27 @@ start s node c call =
 
 -- ---- what is left open
 
--- a lane that no loaned request or pending response has, one of the pool's unless all are taken
+-- whether the lane is open: no loaned request or pending response has it, and it is one of the
+-- pool's unless all are taken
 abbrev pub is_open_lane : Fixed → Port → ℕ → Bool
 is_open_lane f p lane =
     not (has_lane f p.number lane)
     && (nat_lt lane p.pool || list_all (has_lane f p.number) (range_with_len 0 p.pool))
 
+-- whether a call may choose this lane: for a client an open one; a handle has its own
 abbrev pub lane_may_be : Fixed → Choice → Option Subject → Bool
 lane_may_be f c (Some (ThePort p)) = is_open_lane f p c.lane
 lane_may_be f c (Some (TheHandle h)) = true
 lane_may_be f c None = true
 
+-- whether the call makes a loan
 abbrev pub lends_lane : Call → Bool
 lends_lane (Loan n k) = true
 lends_lane (LoanUninit n k) = true
 lends_lane (SendCopy n p) = true
 lends_lane call = false
 
--- a loan has an open lane, and on a wire memory is there
+-- what a call may choose: a loan an open lane; and on a wire memory is there
 abbrev pub MayChoose : Fixed → ℕ → Choice → Call → Type 0
 MayChoose f node c call =
     IsTrue (c.memory || not f.on_wire)

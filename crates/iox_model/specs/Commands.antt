@@ -1,4 +1,4 @@
--- What is asked of the machine and what it answers: the enums of the code, with lists of words.
+-- What the machine is asked and what it answers: the enums of the code, with lists of words.
 use Rattle.iox_model.specs.declared.call.Call as the_call
 use Rattle.iox_model.specs.declared.call.WireCall as the_wire_call
 use Rattle.iox_model.specs.declared.command.PortOptions as the_options
@@ -17,7 +17,7 @@ use Rattle.iox_model.specs.declared.kind.Role.TheVariants.{Client, Server}
 use Rattle.iox_model.specs.declared.call.Call.TheVariants.{Loan, LoanUninit, Write, Send, SendCopy, Receive, Read, Release, IsConnected, SetHint, HasHint, HasRequests, HasResponse}
 
 -- The payload of a call: of which role's messages, how many elements (None for no whole number of
--- them), and the words. Elements may have no words, so the words do not tell their number.
+-- them), and the words. Elements may have no words, so their number is not known from the words.
 pub record Payload : Type 0 where
   pub role : Role
   pub elements : Option ℕ
@@ -28,36 +28,42 @@ pub data Cause : Type 0 where
   MissingPair : (key value : List ℕ) → Cause
   MissingKey : (key : List ℕ) → Cause
 
+-- a refusal, with the attribute that an opener misses
 abbrev pub Refusal : Type 0
 Refusal = the_refusal.Refusal Cause
 
+-- a reply of a service, whose lists are of numbers
 abbrev pub Reply : Type 0
 Reply = the_reply.Reply (List ℕ) Cause
 
+-- a reply of a hub, whose lists are of words
 abbrev pub PortReply : Type 0
 PortReply = the_port_reply.PortReply (List ℕ) Cause
 
+-- a call of a port or handle, with its payload
 abbrev pub Call : Type 0
 Call = the_call.Call Payload
 
+-- a call of a node of a wire, with its payload
 abbrev pub WireCall : Type 0
 WireCall = the_wire_call.WireCall Payload
 
--- what a port is made with; a backpressure handler is told by its words
+-- the options with which a port is made; a backpressure handler is given by its words
 abbrev pub Options : Type 0
 Options = the_options.PortOptions (List ℕ)
 
+-- a command of a hub
 abbrev pub PortCommand : Type 0
 PortCommand = the_port_command.PortCommand Payload (List ℕ)
 
--- An `Option Refusal` stands for what an opener asks of types and attributes: the first of these
--- tests that fails, if one does: types of requests, types of responses, attributes.
+-- A command of a service. Its `Option Refusal` is the first of the opener's tests that fails, if
+-- one does: types of requests, types of responses, attributes.
 abbrev pub Command : Type 0
 Command = the_command.Command Payload (List ℕ) (Option Refusal)
 
 -- ---- commands of a hub, more shortly
 
--- A port is made, or a port or handle is called.
+-- A command of a hub: it makes a port, or calls a port or a handle.
 pub data HubCommand : Type 0 where
   Create : (role : Role) (id : UniqueSystemId) (options : Options) → HubCommand
   Use : (call : Call) → HubCommand

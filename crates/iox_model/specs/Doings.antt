@@ -1,4 +1,4 @@
--- What a call under way has still to do, and what a finished call changes.
+-- What a call under way has yet to do, and what a finished call changes.
 use Rattle.std.specs.Prelude.{ℕ, Bool, List, Option}
 use Rattle.iox_model.specs.declared.kind.Role.{Role}
 use Rattle.iox_model.specs.declared.way.Way.{Way}
@@ -9,19 +9,23 @@ use Rattle.iox_model.specs.Messages.{Message}
 
 -- Who receives: a server, or a pending response by its lane and its request.
 pub record Receiver : Type 0 where
+  -- the client or server that receives
   pub port : ℕ
   pub role : Role
+  -- of a pending response: its lane, and the id of its request
   pub lane : ℕ
   pub request : ℕ
 
 -- A send, with all that it needs of its port, fixed at its begin.
 pub record Sending : Type 0 where
-  -- the loan, and whether the same call made it, so that it is no handle yet
+  -- the loan that is sent
   pub loan : Handle
+  -- whether the same call made the loan, so that it is no handle yet
   pub copied : Bool
   -- the ports that it goes to
   pub to : List ℕ
-  -- whether the oldest that waits gives way to a new one; if not, at which full receivers it fails
+  -- whether a new message pushes out the oldest that waits; if not, at which full receivers the
+  -- send fails
   pub overflow : Bool
   pub fails : Way → Bool
 
@@ -43,7 +47,7 @@ pub data Outcome : Type 0 where
   -- the dead node is forgotten
   Forgets : (dead : ℕ) → Outcome
 
--- What a call has still to do. `left` are the ways that it has yet to visit, in any order.
+-- What a call has yet to do. `left` are the ways that it has yet to visit, in any order.
 pub data Doing : Type 0 where
   Ended : (outcome : Outcome) → Doing
   -- a loan gets back what it can; if it copies, a send follows
@@ -52,7 +56,7 @@ pub data Doing : Type 0 where
   Asking : (send : Sending) → Doing
   -- a send gets back what it can
   Emptying : (send : Sending) (left : List Way) → Doing
-  -- it looks who is full; `full` are the ways seen full
+  -- it looks which queues are full; `full` are the ways seen full
   Looking : (send : Sending) (left full : List Way) → Doing
   -- a request opens its states
   Opening : (send : Sending) (left full : List Way) → Doing
@@ -62,7 +66,7 @@ pub data Doing : Type 0 where
   Evicted : (send : Sending) (way : Way) (left : List Way) (count : ℕ) → Doing
   -- a receive visits a way, `waiting` if it saw a message where it may have no more
   Visiting : (receiver : Receiver) (left : List Way) (waiting : Bool) → Doing
-  -- it goes on where it took what did not fit
+  -- it continues on the way where it took what did not fit
   Again : (receiver : Receiver) (way : Way) (left : List Way) (waiting : Bool) → Doing
   -- it asks whether the request that it took is still named
   Judging : (receiver : Receiver) (way : Way) (message : Message) (left : List Way) (waiting : Bool)
@@ -82,5 +86,6 @@ pub data Doing : Type 0 where
   -- a look for a message that waits
   Seeking : (left : List Way) → Doing
 
+-- the call ends, refused
 abbrev pub refused : Refusal → Doing
 refused r = Ended (Tells (Refused r))

@@ -9,31 +9,36 @@ use Rattle.iox_model.specs.Handles.{is_request_loan}
 use Rattle.iox_model.specs.Counts.{added, changed, dropped, numbered, lent, called, borrows, gives_up, with_fixed, received_handle, sent_handle, holding}
 use Rattle.iox_model.specs.Commands.{Reply}
 
--- a request's loan becomes its pending response
+-- the state once a loan is sent: a request's becomes its pending response, a response's is released
 abbrev pub sent_loan : State → Handle → ℕ → State
 sent_loan s h count =
     if is_request_loan h.kind then with_fixed s (changed s.fixed (sent_handle h count))
     else released (with_fixed s (dropped s.fixed h)) h.port
 
--- a call that made its loan counts both, and only a request gets a number
+-- the fixed part of the state once a call sent the loan that it made: only a request gets a number
+-- and a handle
 abbrev pub sent_copy : Fixed → Handle → ℕ → Fixed
 sent_copy f h count =
     if is_request_loan h.kind then added (numbered f h.node) (sent_handle h count) else f
 
+-- the state after a send that was not refused; `copied` says that the call also made the loan
 abbrev pub after_send : State → Handle → Bool → ℕ → State
 after_send s h true count = with_fixed s (called (called (lent (sent_copy s.fixed h count) h.port)))
 after_send s h false count =
     let t : State = sent_loan s h count in with_fixed t (called t.fixed)
 
--- a refused send releases its loan, which was made all the same
+-- the state after a refused send, whose loan is released; a loan that the call made is still
+-- counted
 abbrev pub after_refused_send : State → Handle → Bool → State
 after_refused_send s h true = with_fixed s (called (lent s.fixed h.port))
 after_refused_send s h false = released (with_fixed s (dropped s.fixed h)) h.port
 
+-- whether the reply says that there was nothing to receive
 abbrev pub is_nothing : Reply → Bool
 is_nothing Nothing = true
 is_nothing r = false
 
+-- the port; if it has that number, its own value is released
 abbrev pub port_dropped : ℕ → Port → Port
 port_dropped port p = if p.number == port then record p { held = false } else p
 

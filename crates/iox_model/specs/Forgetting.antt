@@ -5,6 +5,7 @@ use Rattle.iox_model.specs.States.{Fixed, State}
 use Rattle.iox_model.specs.Maps.{has_number, put_at}
 use Rattle.iox_model.specs.Peers.{ports_of_node}
 
+-- whether the node made its Forget of the dead one
 abbrev pub has_forgotten : Fixed → ℕ → ℕ → Bool
 has_forgotten f node dead = has_number dead (f.forgot node)
 
@@ -13,8 +14,8 @@ abbrev pub goes_to_dead : Fixed → ℕ → ℕ → Way → Bool
 goes_to_dead f node dead w =
     has_number w.sender (ports_of_node f node) && has_number w.receiver (ports_of_node f dead)
 
--- Nothing of the node's is outstanding to the dead: it has none of the node's messages. What waits
--- and what was given back stays as it is, and nobody comes for it.
+-- The state once nothing of the node's is outstanding to the dead node. What waits or was given
+-- back is unchanged, and nobody takes it.
 abbrev pub forgets : State → ℕ → ℕ → State
 forgets s node dead = record s {
   fixed = record (s.fixed) { forgot = put_at s.fixed.forgot node (s.fixed.forgot node ++ dead ∷ []) };

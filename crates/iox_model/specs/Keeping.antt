@@ -12,6 +12,7 @@ use Rattle.iox_model.specs.Weaves.{World}
 abbrev pub serials_of_loan : Handle → Bool → ℕ → List ℕ
 serials_of_loan h made port = if made && (h.port == port) then h.message.serial ∷ [] else []
 
+-- the serials of a loan in the outcome of a call, before the call ends
 abbrev pub serials_of_outcome : ℕ → Outcome → List ℕ
 serials_of_outcome port (Loans h) = serials_of_loan h true port
 serials_of_outcome port (Sends h copied count) = serials_of_loan h copied port

@@ -15,7 +15,7 @@ pub mod Responses
 pub mod Receives
 pub mod Releases
 pub mod Looks
-pub mod Steps
+pub mod Transitions
 pub mod Names
 pub mod Begins
 pub mod Expiries

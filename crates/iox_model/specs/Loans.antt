@@ -16,7 +16,7 @@ use Rattle.iox_model.specs.Messages.{request_way, Message}
 use Rattle.iox_model.specs.Outstandings.{kept_after, is_dry}
 use Rattle.iox_model.specs.Peers.{others, lanes_to}
 
--- what a call leaves open as it begins: the lane of a request, and whether memory is there
+-- what is open as a call begins: the lane of a request, and whether memory is there
 pub record Choice : Type 0 where
   pub lane : ℕ
   pub memory : Bool
@@ -31,6 +31,7 @@ pub record Order : Type 0 where
   -- whether it is handed out unfilled
   pub uninit : Bool
 
+-- the kind of a loan of this role, filled or unfilled
 abbrev pub kind_of_loan : Role → Bool → Kind
 kind_of_loan Client uninit = if uninit then RequestMutUninit else RequestMut
 kind_of_loan Server uninit = if uninit then ResponseMutUninit else ResponseMut
@@ -64,27 +65,29 @@ loan_of f p o client lane request = record {
   connections = 0;
 }
 
--- a client's request ids count its loans
+-- the id of a client's next request: how many loans it made, modulo 2^62
 abbrev pub next_request : Fixed → ℕ → ℕ
 next_request f client = f.loans client % 2 ^ 62
 
+-- whether the port may have a message of that length: it has a layout, and is not too long or grows
 abbrev pub fits_size : Port → Shape → ℕ → Bool
 fits_size p shape k = (p.grows || nat_le k p.longest) && has_layout shape k
 
--- how many loans the request has whose responses a server lends
+-- how many loans a server has of responses to this request
 abbrev pub loans_of_request : Fixed → Handle → ℕ
 loans_of_request f h =
     length (filter
     (λ l. is_response_loan l.kind && ((l.client == h.client) && (l.request == h.request)))
     (handles_of f h.port))
 
--- the size, then the counts of loans
+-- why a request is not lent: its size, then the counts of loans
 abbrev pub request_loan_refusal : Fixed → Port → ℕ → Option Refusal
 request_loan_refusal f p k =
     or_else (refused_if (not (fits_size p f.limits.request k)) ExceedsMaxLoanSize)
     (refused_if (nat_le f.limits.loaned_requests (count_of f p.number is_request_loan))
     ExceedsMaxLoans)
 
+-- why a response is not lent: its size, the loans of its request, those of the port
 abbrev pub response_loan_refusal : Fixed → Handle → Port → ℕ → Option Refusal
 response_loan_refusal f h p k =
     or_else (refused_if (not (fits_size p f.limits.response k)) ExceedsMaxLoanSize)
@@ -94,22 +97,26 @@ response_loan_refusal f h p k =
     (count_of f p.number is_response_loan))
     ExceedsMaxLoans))
 
--- want of memory is told only where the pool will not refuse
+-- a loan may be refused for want of memory only where the pool will not refuse it
 abbrev pub memory_refusal : State → Choice → ℕ → Option Refusal
 memory_refusal s c port =
     refused_if (not c.memory && not (is_dry s.fixed port (kept_after s port))) WantOfMemory
 
--- the ways from which a port of the node gets back as it lends: of a client, and of a server
+-- the ways on which a client's loan gets back: those to all servers that the node did not forget
 abbrev pub request_ways : Fixed → ℕ → ℕ → List Way
 request_ways f node client = map (request_way client) (others f node Server)
 
+-- the ways on which a server's loan gets back: all lanes of all clients that the node did not
+-- forget
 abbrev pub response_ways : Fixed → ℕ → ℕ → List Way
 response_ways f node server = flat_map (lanes_to f server) (others f node Client)
 
+-- the ways on which a loan gets back
 abbrev pub lending_ways : Fixed → Handle → List Way
 lending_ways f h =
     if is_request_loan h.kind then request_ways f h.node h.port else response_ways f h.node h.port
 
+-- the call continues unless there is a refusal
 abbrev pub unless_refused : Option Refusal → Doing → Doing
 unless_refused (Some r) d = refused r
 unless_refused None d = d

@@ -8,7 +8,7 @@ use Rattle.iox_model.specs.States.{Handle}
 use Rattle.iox_model.specs.Maps.{without_way}
 use Rattle.iox_model.specs.Messages.{names, names_with_hint}
 
--- no state left to look at names the request
+-- looks for the request with these ways left; once none is left, the answer is false
 abbrev pub checking : Handle → Bool → List Way → Doing
 checking h hinted [] = Ended (Tells (Answer false))
 checking h hinted (w ∷ left) = Checking h hinted (w ∷ left)
@@ -18,11 +18,13 @@ abbrev pub is_shown : Handle → Bool → RequestState → Bool
 is_shown h hinted shown =
     if hinted then names_with_hint shown h.request else names shown h.request
 
+-- after a look at one request state: the answer is true, or the looks continue on the ways left
 abbrev pub checked : Handle → Bool → List Way → Way → RequestState → Doing
 checked h hinted left w shown =
     if is_shown h hinted shown then Ended (Tells (Answer true))
     else checking h hinted (without_way w left)
 
+-- sets the hint on the ways left, one after another
 abbrev pub hinting : Handle → List Way → Doing
 hinting h [] = Ended (Tells Done)
 hinting h (w ∷ left) = Hinting h (w ∷ left)

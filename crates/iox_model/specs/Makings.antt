@@ -3,9 +3,10 @@ use Rattle.std.specs.Prelude.{◌≡◌, ℕ, ◌+◌, ◌*◌, ◌-◌, ◌^◌
 use Rattle.std.specs.Option.{option_map_or}
 use Rattle.iox_model.specs.declared.kind.Role.{Role}
 use Rattle.iox_model.specs.declared.kind.Role.TheVariants.{Client, Server}
+use Rattle.iox_types.specs.PoolSizes.{client_pool, server_pool}
 use Rattle.iox_types.specs.declared.identifiers.system_id.UniqueSystemId.{UniqueSystemId}
-use Rattle.iox_model.specs.declared.backpressure.BackpressureStrategy.{BackpressureStrategy}
-use Rattle.iox_model.specs.declared.backpressure.AllocationStrategy.{AllocationStrategy}
+use Rattle.iox_types.specs.declared.backpressure.BackpressureStrategy.{BackpressureStrategy}
+use Rattle.iox_types.specs.declared.backpressure.AllocationStrategy.{AllocationStrategy}
 use Rattle.iox_model.specs.declared.reply.Refusal.TheVariants.{UnableToCreatePortTag, UnableToCreateDataSegment, ExceedsMaxSupportedClients, ExceedsMaxSupportedServers}
 use Rattle.iox_model.specs.declared.reply.Reply.TheVariants as replies
 use Rattle.iox_model.specs.Settings.{message_size, has_layout, shape_of, is_static, Shape, Limits}
@@ -16,57 +17,56 @@ use Rattle.iox_model.specs.Counts.{with_fixed}
 use Rattle.iox_model.specs.Commands.{Refusal, Reply, Options, PortCommand, PortReply, HubCommand, Create, Use, asking, answer_of}
 use Rattle.iox_model.specs.Peers.{ports_of_role}
 
--- the most messages that a client ever needs at once: those loaned, those active, and at each
--- server as many that wait and as many that it has
-abbrev pub client_pool : ℕ → ℕ → ℕ → ℕ
-client_pool loaned active servers = loaned + active + 2 * servers * active
-
--- the most that a server ever needs: the loans of each active request of each client, and on each
--- of a client's lanes what waits and what the client has
-abbrev pub server_pool : ℕ → ℕ → ℕ → ℕ → ℕ → ℕ
-server_pool loans active clients lanes each =
-    loans * active * clients + clients * lanes * each
-
+-- the most messages that a client needs
 abbrev pub pool_of_client : Limits → ℕ
 pool_of_client l = client_pool l.loaned_requests l.active_requests l.servers
 
+-- the most messages that a server needs, with so many loans of one request
 abbrev pub pool_of_server : Limits → ℕ → ℕ
 pool_of_server l loans =
     server_pool loans l.active_requests l.clients (pool_of_client l)
     (l.response_buffer + l.borrowed_responses)
 
+-- how many loans one request may have: the maker's number, or the service's, and at least 1
 abbrev pub loans_of_one : Limits → Options → ℕ
 loans_of_one l o = max 1 (unwrap_or o.loaned_responses l.loaned_responses)
 
+-- the most messages that a port needs
 abbrev pub worst_pool : Limits → Role → Options → ℕ
 worst_pool l Client o = pool_of_client l
 worst_pool l Server o = pool_of_server l (loans_of_one l o)
 
--- an override stays between 1 and the most that is needed
+-- the pool that a maker chose, raised to at least 1 and cut to the most that is needed
 abbrev pub chosen_pool : Limits → Role → Options → ℕ
 chosen_pool l role o =
     option_map_or (λ n. max 1 (min n (worst_pool l role o))) o.pool (worst_pool l role o)
 
+-- the greatest length of the port's messages: 1 where an element is a message
 abbrev pub longest_of : Shape → Options → ℕ
 longest_of x o = if x.many then o.max_slice_len else 1
 
+-- how many ports of a role a service may have
 abbrev pub most_ports : Limits → Role → ℕ
 most_ports l Client = l.clients
 most_ports l Server = l.servers
 
+-- the refusal where there are as many ports of the role as there may be
 abbrev pub too_many_ports : Role → Refusal
 too_many_ports Client = ExceedsMaxSupportedClients
 too_many_ports Server = ExceedsMaxSupportedServers
 
+-- the service's strategy for a full receiver
 abbrev pub strategy_of : Limits → Role → BackpressureStrategy
 strategy_of l Client = l.client_strategy
 strategy_of l Server = l.server_strategy
 
+-- the service's strategy for messages that grow
 abbrev pub allocation_of : Limits → Role → AllocationStrategy
 allocation_of l Client = l.client_allocation
 allocation_of l Server = l.server_allocation
 
--- a pool past its bound, a count or a size of bytes past 2^64, or a message with no layout
+-- whether a port is too large: a pool past its bound, a count or a size of bytes past 2^64, or a
+-- message with no layout
 abbrev pub is_large : Limits → Role → Options → Bool
 is_large l role o =
     let x : Shape = shape_of l role in
@@ -74,7 +74,8 @@ is_large l role o =
     || (not (has_layout x (longest_of x o))
     || nat_le (2 ^ 64) (chosen_pool l role o * message_size x (longest_of x o)))
 
--- `memory` says whether memory is there
+-- why the making of a port is refused: the first test that fails; `memory` says whether memory is
+-- there
 abbrev pub making_refusal : Fixed → Role → Options → Bool → Option Refusal
 making_refusal f role o memory =
     or_else (refused_if (nat_le (2 ^ 32) f.ports_made) UnableToCreatePortTag)
@@ -82,7 +83,7 @@ making_refusal f role o memory =
     (refused_if (nat_le (most_ports f.limits role) (length (ports_of_role f role)))
     (too_many_ports role)))
 
--- the id of a port is its node's, with the count of ports made before it
+-- the new port; its id is its node's with the count of ports made before it
 abbrev pub new_port : Fixed → ℕ → Role → UniqueSystemId → Options → Port
 new_port f node role id o = record {
   number = f.next_number;
@@ -99,6 +100,7 @@ new_port f node role id o = record {
   held = true;
 }
 
+-- the fixed part of the state, with one more port
 abbrev pub with_port : Fixed → Port → Fixed
 with_port f p =
     record f {
@@ -107,6 +109,7 @@ with_port f p =
       ports_made = f.ports_made + 1;
     }
 
+-- the reply to the making of a port
 abbrev pub port_reply : Role → ℕ → Reply
 port_reply Client n = replies.Client n
 port_reply Server n = replies.Server n
@@ -118,12 +121,13 @@ IsMaking s node role id o reply s' =
     ((reply ≡ port_reply role s.fixed.next_number)
     × (s' ≡ with_fixed s (with_port s.fixed (new_port s.fixed node role id o))))
 
--- what one command of a hub is, asked by that node; it reads and changes no node of a service
+-- A command that this node asks of a hub may have this reply and lead to that state. It reads and
+-- changes no node of a service.
 abbrev pub IsHubCommand : State → ℕ → HubCommand → Reply → State → Type 0
 IsHubCommand s node (Create role id o) reply s' = IsMaking s node role id o reply s'
 IsHubCommand s node (Use call) reply s' = IsWholeCall s node call reply s'
 
--- the same of the command that the code is given, with the code's reply
+-- a command as the code is given it, with the code's reply
 abbrev pub IsPortCommand : State → PortCommand → PortReply → State → Type 0
 IsPortCommand s command reply s' =
     IsHubCommand s (asking command).0 (asking command).1 (answer_of reply) s'

@@ -13,14 +13,13 @@ request_way client server = record { sender = client; receiver = server; lane = 
 abbrev pub response_way : ℕ → ℕ → ℕ → Way
 response_way client lane server = record { sender = server; receiver = client; lane = lane }
 
--- A message is known by its sender and its serial, the count of that sender's loans before it. No
--- header holds the serial; a request's id is its serial, as long as ids do not run around.
+-- A message is known by its sender and its serial, the number of that sender's loans before it. No
+-- header holds the serial; a request's id is its serial as long as ids do not wrap around.
 pub record Message : Type 0 where
   pub sender : ℕ
   pub serial : ℕ
-  -- the header: the ids of the sender's node and of the sender, the lane and the id of the
-  -- request that it is or answers, and how many elements its payload has. The words of a
-  -- response's header leave out the lane, which is its way's
+  -- The header: the ids of the sender's node and of the sender, the request's lane and id, and how
+  -- many elements the payload has. In words, a response's header leaves out the lane.
   pub node_id : UniqueSystemId
   pub port_id : UniqueSystemId
   pub lane : ℕ
@@ -30,6 +29,7 @@ pub record Message : Type 0 where
   pub user : List ℕ
   pub payload : List ℕ
 
+-- the serials of messages
 abbrev pub serials_of : List Message → List ℕ
 serials_of ms = map (λ m. m.serial) ms
 
@@ -38,13 +38,15 @@ abbrev pub names : RequestState → ℕ → Bool
 names Closed id = false
 names (Named n hinted) id = n == id
 
+-- the request state is open for this request, with a hint
 abbrev pub names_with_hint : RequestState → ℕ → Bool
 names_with_hint Closed id = false
 names_with_hint (Named n hinted) id = (n == id) && hinted
 
--- the state after a close of the request, and after a hint: they act only where it is named
+-- the request state after a close of this request: it changes only where it names that request
 abbrev pub closed_for : RequestState → ℕ → RequestState
 closed_for shown id = if names shown id then Closed else shown
 
+-- the request state after a hint to this request: it changes only where it names that request
 abbrev pub hinted_for : RequestState → ℕ → RequestState
 hinted_for shown id = if names shown id then Named id true else shown

@@ -21,7 +21,7 @@ pub data Moment : Type 0 where
   Open Close Hint : (way : Way) (id : ℕ) → Moment
   Look : (way : Way) (shown : RequestState) → Moment
 
--- more messages wait than the buffer holds
+-- whether more messages wait than the buffer holds
 abbrev pub is_overfull : State → Way → Bool
 is_overfull s w = nat_lt (buffer_on s.fixed w) (length (s.waiting w))
 
@@ -29,18 +29,18 @@ is_overfull s w = nat_lt (buffer_on s.fixed w) (length (s.waiting w))
 abbrev pub room_on : Fixed → Way → ℕ
 room_on f w = buffer_on f w + (if overflows_on f w then 1 else 0)
 
--- What the moment asks, and what it says, is true.
+-- What the moment requires of the state, and what it says of it, is true.
 abbrev pub Holds : State → Moment → Type 0
 -- there is room, or with overflow at most the buffer waits
 Holds s (Deliver w m) = IsTrue (nat_lt (length (s.waiting w)) (room_on s.fixed w))
 -- there is one too many
 Holds s (Evict w) = IsTrue (is_overfull s w)
--- it is the first in line
+-- it is the first that waits
 Holds s (Take w m) = first_of (s.waiting w) ≡ Some m
 Holds s (GiveBack w k) = ⊤
 -- it is the one in hand, or else the first of those given back
 Holds s (GetBack w k) = first_of (s.in_hand w ++ s.returned w) ≡ Some k
--- what is seen is so
+-- a look is true: what it says it saw is in the state
 Holds s (SeesEmpty w) = IsTrue (is_empty (s.waiting w))
 Holds s (SeesWaiting w) = IsTrue (not (is_empty (s.waiting w)))
 Holds s (SeesFull w) = IsTrue (nat_le (buffer_on s.fixed w) (length (s.waiting w)))
@@ -49,37 +49,37 @@ Holds s (SeesNoneBack w) = IsTrue (is_empty (s.returned w))
 Holds s (Open w id) = ⊤
 Holds s (Close w id) = ⊤
 Holds s (Hint w id) = ⊤
-Holds s (Look w shown) = shown ≡ s.naming w
+Holds s (Look w shown) = shown ≡ s.request_state w
 
 -- The state after the moment.
 abbrev pub moved : State → Moment → State
--- the message is last in line, and outstanding
+-- the message waits as the last, and is outstanding
 moved s (Deliver w m) = record s {
   waiting = put s.waiting w (s.waiting w ++ m ∷ []);
   delivered = put s.delivered w (put_at (s.delivered w) m.serial true);
 }
--- the first in line is in its sender's hand
+-- the first that waits is in its sender's hand
 moved s (Evict w) = record s {
   waiting = put s.waiting w (rest_of (s.waiting w));
   in_hand = put s.in_hand w (serials_of (take 1 (s.waiting w)));
 }
--- the receiver has the first in line
+-- the first that waits goes to the receiver
 moved s (Take w m) = record s { waiting = put s.waiting w (rest_of (s.waiting w)) }
--- the receiver has it no more, and a sender that still counts it may get it back
+-- the receiver has it no longer, and a sender that still counts it may get it back
 moved s (GiveBack w k) = record s {
   returned =
       put s.returned w (if is_counted_on s.fixed w then s.returned w ++ k ∷ [] else s.returned w);
 }
--- it is outstanding no more
+-- it is no longer outstanding
 moved s (GetBack w k) = record s {
   in_hand = put s.in_hand w [];
   returned = put s.returned w (if is_empty (s.in_hand w) then rest_of (s.returned w) else s.returned w);
   delivered = put s.delivered w (put_at (s.delivered w) k false);
 }
--- the state names the request; a close and a hint act only where it names theirs
-moved s (Open w id) = record s { naming = put s.naming w (Named id false) }
-moved s (Close w id) = record s { naming = put s.naming w (closed_for (s.naming w) id) }
-moved s (Hint w id) = record s { naming = put s.naming w (hinted_for (s.naming w) id) }
+-- the request state names the request; a close and a hint change it only where it names theirs
+moved s (Open w id) = record s { request_state = put s.request_state w (Named id false) }
+moved s (Close w id) = record s { request_state = put s.request_state w (closed_for (s.request_state w) id) }
+moved s (Hint w id) = record s { request_state = put s.request_state w (hinted_for (s.request_state w) id) }
 -- looks change nothing
 moved s (SeesEmpty w) = s
 moved s (SeesWaiting w) = s
@@ -88,7 +88,7 @@ moved s (SeesRoom w) = s
 moved s (SeesNoneBack w) = s
 moved s (Look w shown) = s
 
--- What the code of a wire can tell of a moment: messages by their serials.
+-- A moment as the code of a wire can name it: messages by their serials.
 abbrev pub event_of : Moment → Event
 event_of (Deliver w m) = events.Deliver w m.serial
 event_of (Evict w) = events.Evict w

@@ -11,10 +11,12 @@ use Rattle.iox_model.specs.Handles.{same_kind, is_request_loan, is_response_loan
 use Rattle.iox_model.specs.Maps.{or_else, refused_if}
 use Rattle.iox_model.specs.Commands.{Refusal, Call, number_of}
 
+-- whether the kind is a client or a server
 abbrev pub is_port : Kind → Bool
 is_port k = same_kind k kinds.Client || same_kind k kinds.Server
 
--- what a call may be made of; ports are released where no wire is open
+-- which kinds of ports and handles a call may be made of; ports are released only where no wire is
+-- open
 abbrev pub suits : Bool → Call → Kind → Bool
 suits on_wire (Loan n k) x = same_kind x kinds.Client || same_kind x ActiveRequest
 suits on_wire (LoanUninit n k) x =
@@ -33,6 +35,7 @@ suits on_wire (HasHint n) x = same_kind x ActiveRequest
 suits on_wire (HasRequests n) x = same_kind x kinds.Server
 suits on_wire (HasResponse n) x = same_kind x PendingResponse
 
+-- why a call may not be made of what its number names
 abbrev pub misnamed_by : Fixed → ℕ → Call → Option Subject → Option Refusal
 misnamed_by f node call None =
     Some (if is_elsewhere f (number_of call) then ForeignNumber else UnknownNumber)
@@ -40,6 +43,7 @@ misnamed_by f node call (Some x) =
     or_else (refused_if (not (node_of x == node)) ForeignNumber)
     (refused_if (not (suits f.on_wire call (kind_of x))) WrongKind)
 
--- the first of UnknownNumber, ForeignNumber and WrongKind that applies
+-- why a call's number is refused: the first of UnknownNumber, ForeignNumber and WrongKind that
+-- applies
 abbrev pub misnamed : Fixed → ℕ → Call → Option Refusal
 misnamed f node call = misnamed_by f node call (subject f node (number_of call))

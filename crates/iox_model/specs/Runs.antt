@@ -17,7 +17,7 @@ use Rattle.iox_model.specs.Commands.{Refusal, Reply, HubCommand, Command}
 use Rattle.iox_model.specs.Values.{Filling, IsFilling, IsRelease}
 use Rattle.iox_model.specs.declared.kind.Kind.{Kind}
 
--- a limit of 0 is raised to 1, the expired buffers excepted
+-- the limits with each 0 raised to 1, but for the expired buffers
 abbrev pub raised : Limits → Limits
 raised l = record l {
   clients = max 1 l.clients;
@@ -30,18 +30,21 @@ raised l = record l {
   loaned_responses = max 1 l.loaned_responses;
 }
 
+-- whether a limit of clients, servers or nodes is greater than 2^24 - 2
 abbrev pub is_too_large : Limits → Bool
 is_too_large l =
     nat_lt (2 ^ 24 - 2) l.clients || (nat_lt (2 ^ 24 - 2) l.servers || nat_lt (2 ^ 24 - 2) l.nodes)
 
--- `asked` is the first refusal by types, if one applies
+-- why a creation is refused: the first test that fails; `asked` is the first refusal by types, if
+-- one applies
 abbrev pub creation_refusal : Limits → UniqueSystemId → Option Refusal → Bool → Option Refusal
 creation_refusal l id asked memory =
     or_else (refused_if (not (is_node_id id)) InvalidNodeId)
     (or_else asked
     (or_else (refused_if (is_too_large l) LimitTooLarge) (refused_if (not memory) WantOfMemory)))
 
--- nobody made anything yet; the limits of a service and of a hub are raised here
+-- the fixed part of the state at first: nobody made anything yet; the limits of a service and of a
+-- hub are raised here
 abbrev pub untouched : Limits → (List ℕ → ℕ → ℕ → BackpressureAction) → Fixed
 untouched l acts = record {
   limits = raised l;
@@ -59,7 +62,7 @@ untouched l acts = record {
   forgot = λ n. [];
 }
 
--- nothing is under way
+-- the state with this fixed part and nothing on any way
 abbrev pub at_rest : Members → Fixed → State
 at_rest x f = record {
   members = x;
@@ -68,7 +71,7 @@ at_rest x f = record {
   returned = λ w. [];
   in_hand = λ w. [];
   delivered = λ w k. false;
-  naming = λ w. Closed;
+  request_state = λ w. Closed;
 }
 
 -- a service as it is created: node 0, and nothing else
@@ -82,6 +85,7 @@ abbrev pub MakesUnless : Option Refusal → State → Reply → Option State →
 MakesUnless (Some r) first reply made = (reply ≡ Refused r) × (made ≡ None)
 MakesUnless None first reply made = (reply ≡ replies.Node 0) × (made ≡ Some first)
 
+-- a creation of a service has this reply and leaves this state, or none
 abbrev pub IsCreation : Limits → (List ℕ → ℕ → ℕ → BackpressureAction) → UniqueSystemId
     → Option Refusal → Reply → Option State → Type 0
 IsCreation l acts id asked reply made =
@@ -96,8 +100,8 @@ IsRun s (c ∷ cs) [] s' = ⊥
 
 -- ---- every state of a service or a hub
 
--- One step: a command of the service with its reply, a command that a node asks of the hub
--- directly, a loan that its holder fills, or a value that its holder releases.
+-- One step: a command of the service or one that a node asks of the hub, with its reply; a filling
+-- of a loan; or a release of a value.
 pub data ServiceStep : Type 0 where
   OfService : (command : Command) (reply : Reply) → ServiceStep
   OfHub : (node : ℕ) (command : HubCommand) (reply : Reply) → ServiceStep
@@ -116,8 +120,8 @@ abbrev pub IsHistory : State → List ServiceStep → State → Type 0
 IsHistory s [] s' = s' ≡ s
 IsHistory s (x ∷ xs) s' = (mid : State) × IsServiceStep s x mid × IsHistory mid xs s'
 
--- The states that a service and its hub come to, whatever was asked of them: from a creation with
--- shapes that make sense (also one that a service would refuse), steps lead there.
+-- The states that a service and its hub can reach, whatever they are asked. Steps lead there from a
+-- creation whose shapes make sense, even one that a service would refuse.
 pub record IsReachableState (s : State) : Type 0 where
   pub limits : Limits
   pub acts : List ℕ → ℕ → ℕ → BackpressureAction
@@ -129,15 +133,18 @@ pub record IsReachableState (s : State) : Type 0 where
 
 -- ---- a service's own states
 
+-- whether the node joined and did not leave
 abbrev pub is_member : State → ℕ → Bool
 is_member s node = is_some (node_at s node)
 
--- what is asked of a service's hub is asked by a node of the service, living or dead
+-- whether the service's own nodes may make the step: its hub is asked only by nodes of the service,
+-- living or dead
 abbrev pub IsOfMember : State → ServiceStep → Type 0
 IsOfMember s (OfHub node command reply) = IsTrue (is_member s node)
 IsOfMember s x = ⊤
 
--- the same, where only nodes of the service ask its hub
+-- from a state, these steps of the service's own nodes may come one after another, and lead to that
+-- state
 abbrev pub IsMembersHistory : State → List ServiceStep → State → Type 0
 IsMembersHistory s [] s' = s' ≡ s
 IsMembersHistory s (x ∷ xs) s' =

@@ -15,16 +15,18 @@ use Rattle.iox_model.specs.Joins.{node_at, not_living, not_dead, with_members, I
 use Rattle.iox_model.specs.Commands.{Refusal, Reply, HubCommand, Create, Use, Command, asking}
 use Rattle.iox_model.specs.Peers.{ports_of_role}
 
--- the node is gone; once none is left the service is closed for good
+-- the state once the node is gone; once no node is left the service is closed for good
 abbrev pub without_node : State → ℕ → State
 without_node s node =
     let left : List Node = filter (λ m. not (m.number == node)) s.members.nodes in
     with_members s (record (s.members) { nodes = left; closed = s.members.closed || is_empty left })
 
+-- a number put into an ascending list
 abbrev pub insert_number : ℕ → List ℕ → List ℕ
 insert_number n [] = n ∷ []
 insert_number n (k ∷ ks) = if nat_lt n k then n ∷ k ∷ ks else k ∷ insert_number n ks
 
+-- the numbers in ascending order
 abbrev pub ascending : List ℕ → List ℕ
 ascending [] = []
 ascending (n ∷ ns) = insert_number n (ascending ns)
@@ -35,16 +37,17 @@ numbers_of_node f node =
     ascending (map (λ p. p.number) (filter (λ p. (p.node == node) && p.held) f.ports)
     ++ map (λ h. h.number) (f.handles node))
 
--- a node leaves only while it lives and has nothing
+-- why a node may not leave: it does not live, or it has ports or handles
 abbrev pub leaving_refusal : State → ℕ → Option Refusal
 leaving_refusal s node =
     or_else (not_living s node)
     (refused_if (not (is_empty (numbers_of_node s.fixed node))) HasPorts)
 
+-- the node, dead if it has this number
 abbrev pub dies : ℕ → Node → Node
 dies node m = if m.number == node then record m { alive = false } else m
 
--- the node is dead
+-- the state once the node of that number is dead
 abbrev pub with_death : State → ℕ → State
 with_death s node =
     with_members s (record (s.members) { nodes = map (dies node) s.members.nodes })
@@ -63,12 +66,13 @@ IsCleanup s node reply s' =
 
 -- ---- a command
 
--- a port that a node makes has the id with which the node joined
+-- the command of a node, in which a port gets the id with which the node joined
 abbrev pub with_own_id : State → ℕ → HubCommand → HubCommand
 with_own_id s node (Create role id o) = Create role (option_map_or (λ m. m.id) (node_at s node) id) o
 with_own_id s node (Use call) = Use call
 
--- what a node asks of the hub, as long as it lives
+-- a command that a node asks of the hub may have this reply and lead to that state; it is refused
+-- unless the node lives
 abbrev pub IsNodeCommand : State → ℕ → HubCommand → Reply → State → Type 0
 IsNodeCommand s node command reply s' =
     UnlessRefused (not_living s node) s reply s'

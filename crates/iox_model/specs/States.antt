@@ -5,7 +5,7 @@ use Rattle.iox_model.specs.declared.kind.Kind.{Kind}
 use Rattle.iox_model.specs.declared.way.Way.{Way}
 use Rattle.iox_types.specs.declared.identifiers.system_id.UniqueSystemId.{UniqueSystemId}
 use Rattle.iox_model.specs.declared.way.RequestState.{RequestState}
-use Rattle.iox_model.specs.declared.backpressure.BackpressureStrategy.{BackpressureStrategy}
+use Rattle.iox_types.specs.declared.backpressure.BackpressureStrategy.{BackpressureStrategy}
 use Rattle.iox_model.specs.declared.backpressure.BackpressureAction.{BackpressureAction}
 use Rattle.iox_model.specs.Settings.{Limits}
 use Rattle.iox_model.specs.Messages.{Message}
@@ -18,7 +18,8 @@ pub record Node : Type 0 where
   pub id : UniqueSystemId
   pub alive : Bool
 
--- the nodes that neither left nor were cleaned up, the dead too; how many ever joined; closed for good
+-- the nodes that neither left nor were cleaned up, dead ones too; how many ever joined; whether the
+-- service is closed for good
 pub record Members : Type 0 where
   pub nodes : List Node
   pub joins : ℕ
@@ -29,13 +30,16 @@ pub record Port : Type 0 where
   pub number : ℕ
   pub node : ℕ
   pub role : Role
+  -- the id of its node, and its own id
   pub node_id : UniqueSystemId
   pub id : UniqueSystemId
   -- how many messages its pool has; a client has as many lanes
   pub pool : ℕ
   -- the greatest length of a message, unless the port's messages grow
   pub longest : ℕ
+  -- whether its messages may grow past that length
   pub grows : Bool
+  -- what it does at a full receiver, unless a handler says otherwise
   pub strategy : BackpressureStrategy
   -- the words of its backpressure handler, if one is set
   pub handler : Option (List ℕ)
@@ -83,9 +87,9 @@ pub record Fixed : Type 0 where
   pub calls : ℕ
   -- how many loans of each port succeeded
   pub loans : ℕ → ℕ
-  -- on each way how many received messages its receiver has as handles; 0 once the pair is given up
+  -- on each way how many received messages its receiver has as handles; 0 once the way is given up
   pub borrowed : Way → ℕ
-  -- the senders of each receiver's expired pairs, oldest first
+  -- of each receiver the disconnected senders whose messages it still keeps, oldest first
   pub expired : ℕ → List ℕ
   -- the dead nodes that each node forgot
   pub forgot : ℕ → List ℕ
@@ -103,4 +107,4 @@ pub record State : Type 0 where
   -- on each way the serials that its sender delivered and did not get back
   pub delivered : Way → ℕ → Bool
   -- on each way of responses the state of the request there
-  pub naming : Way → RequestState
+  pub request_state : Way → RequestState

@@ -10,20 +10,22 @@ use Rattle.iox_model.specs.Handles.{same_kind, is_request_loan, is_response_loan
 use Rattle.iox_model.specs.WholeCalls.{shape_of_loan, is_uninit, IsWholeCall}
 use Rattle.iox_model.specs.Ends.{settled}
 
--- a handle may still be what it was, or a loan that is filled by now
+-- whether a value of the old kind may still be one of the new kind: the same, or a loan that is
+-- filled by now
 abbrev pub is_still : Kind → Kind → Bool
 is_still old new = same_kind new old || (is_uninit old && same_kind new (filled_kind old))
 
 -- ---- loans that are filled
 
--- What the holder of a loan writes: the kind that it has then, the user header, the words of the
--- payload so far, and how many elements they are.
+-- What the holder of a loan writes: its kind then, the user header, the payload's words so far, and
+-- how many elements they are.
 pub record Filling : Type 0 where
   pub kind : Kind
   pub user : List ℕ
   pub payload : List ℕ
   pub count : ℕ
 
+-- the handle with what was filled in
 abbrev pub filled_as : Handle → Filling → Handle
 filled_as h x = record h {
   kind = x.kind;
@@ -31,7 +33,8 @@ filled_as h x = record h {
   filled = x.count;
 }
 
--- a loan that is not filled has no more elements than were loaned, another just as many
+-- how many elements may be filled: in an unfilled loan at most as many as were loaned, in any other
+-- exactly as many
 abbrev pub CountMayBe : (uninit : Bool) → (elements count : ℕ) → Type 0
 CountMayBe true elements count = count ≤ elements
 CountMayBe false elements count = count ≡ elements
@@ -58,12 +61,13 @@ abbrev pub still_has : Fixed → ℕ → ℕ → Kind → Bool
 still_has f node n kind =
     option_map_or (λ x. (node_of x == node) && is_still kind (kind_of x)) (subject f node n) false
 
+-- a value is released by a release call, or nothing is left to release
 abbrev pub IsReleaseWhere : Bool → State → ℕ → ℕ → State → Type 0
 IsReleaseWhere true s node number s' = IsWholeCall s node (Release number) Done s'
 IsReleaseWhere false s node number s' = s' ≡ s
 
--- The release of a value asks nothing: one that the hub does not have any more, since a command
--- released it or sent it, just ends. A loan that a command wrote is still the loan of its value.
+-- A value may be released at any time. If a command already released or sent what it stood for,
+-- nothing changes. A loan that a command wrote is still the loan of its value.
 abbrev pub IsRelease : State → ℕ → ℕ → Kind → State → Type 0
 IsRelease s node number kind s' =
     IsReleaseWhere (still_has s.fixed node number kind) s node number s'

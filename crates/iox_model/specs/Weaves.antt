@@ -15,13 +15,14 @@ use Rattle.iox_model.specs.Moments.{Holds, moved, Moment}
 use Rattle.iox_model.specs.Begins.{start, MayChoose}
 use Rattle.iox_model.specs.Services.{with_death}
 use Rattle.iox_model.specs.Commands.{Refusal, Reply, WireCall}
-use Rattle.iox_model.specs.Steps.{next, ends}
+use Rattle.iox_model.specs.Transitions.{next, ends}
 
--- the state, and what each node's call under way has still to do
+-- the state, and what each node's call under way has yet to do
 pub record World : Type 0 where
   pub state : State
   pub doing : ℕ → Option Doing
 
+-- a world between calls
 abbrev pub at_work : State → World
 at_work s = record { state = s; doing = λ n. None }
 
@@ -33,7 +34,7 @@ pub data Beat : Type 0 where
   Ends : (node : ℕ) (reply : Reply) (payload : List ℕ) → Beat
   Dies : (node : ℕ) → Beat
 
--- a Forget names a node, any other call a number
+-- why a call names nothing fitting: a Forget names a dead node, any other call a port or handle
 abbrev pub miscalled : State → ℕ → WireCall → Option Refusal
 miscalled s node (wire_calls.Port call) = misnamed s.fixed node call
 miscalled s node (Forget dead) = not_dead s dead
@@ -44,31 +45,35 @@ begin_refusal w node call =
     or_else (not_living w.state node)
     (or_else (refused_if (is_some (w.doing node)) Busy) (miscalled w.state node call))
 
--- a wire counts accesses in place of calls, so that no call is refused as spent
+-- what a call on a wire has to do, as it begins; a wire counts accesses in place of calls, so that
+-- none is refused as spent
 abbrev pub wire_start : State → ℕ → Choice → WireCall → Doing
 wire_start s node c (wire_calls.Port call) = start s node c call
 wire_start s node c (Forget dead) = Ended (Forgets dead)
 
+-- what a call on a wire may be given: a lane and memory; a Forget takes neither
 abbrev pub WireMayChoose : Fixed → ℕ → Choice → WireCall → Type 0
 WireMayChoose f node c (wire_calls.Port call) = MayChoose f node c call
 WireMayChoose f node c (Forget dead) = ⊤
 
--- the world as a node's call begins, has made a moment, has ended
+-- the world once a node's call began
 abbrev pub begun : World → ℕ → Choice → WireCall → World
 begun w node c call =
     record w { doing = put_at w.doing node (Some (wire_start w.state node c call)) }
 
+-- the world after a node's moment
 abbrev pub made : World → ℕ → Doing → Moment → World
 made w node d m = record {
   state = moved w.state m;
   doing = put_at w.doing node (Some (next w.state node d m).after);
 }
 
+-- the world after a node's call ended with this outcome
 abbrev pub over : World → ℕ → List ℕ → Outcome → World
 over w node payload o =
     record { state = settled w.state node payload o; doing = put_at w.doing node None }
 
--- What may come next. A dead node begins, makes and ends nothing; its call stays as it was.
+-- What may come next. A dead node begins, makes and ends nothing; its call is unchanged.
 abbrev pub IsBeat : World → Beat → World → Type 0
 IsBeat w (Begins node call c) w' =
     (begin_refusal w node call ≡ None) × WireMayChoose w.state.fixed node c call

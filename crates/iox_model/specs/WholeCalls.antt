@@ -1,4 +1,4 @@
--- One whole call: its moments back to back, and then the change of handles, counts and ports.
+-- One whole call: its moments one after another, and then the change of handles, counts and ports.
 use Rattle.std.specs.Prelude.{◌≡◌, ℕ, ◌*◌, ◌^◌, Bool, true, false, ◌&&◌, ◌||◌, if◌then◌else◌, nat_le, List, [], ◌∷◌, length, flat_map, Option, Some, None, ⊤, unwrap_or}
 use Rattle.std.specs.List.{range_with_len}
 use Rattle.iox_model.specs.declared.kind.Kind.{Kind}
@@ -18,9 +18,9 @@ use Rattle.iox_model.specs.Ends.{settled}
 use Rattle.iox_model.specs.Moments.{Holds, moved, Moment}
 use Rattle.iox_model.specs.Begins.{start, MayChoose}
 use Rattle.iox_model.specs.Commands.{Refusal, Reply, Call}
-use Rattle.iox_model.specs.Steps.{next, ends}
+use Rattle.iox_model.specs.Transitions.{next, ends}
 
--- a request that its call copied gets its number as it is sent
+-- the reply to a send; a request that its call copied gets its number as it is sent
 abbrev pub sent_reply : Fixed → ℕ → Handle → Bool → ℕ → Reply
 sent_reply f node h copied count =
     if is_request_loan h.kind then (if copied then replies.Handle (new_number f node) else Sent count)
@@ -40,6 +40,7 @@ replied f node (Forgets dead) = Done
 
 -- ---- what a new loan holds
 
+-- the payload of so many elements with their default words
 abbrev pub default_payload : Shape → ℕ → List ℕ
 default_payload x k = flat_map (λ n. unwrap_or x.default []) (range_with_len 0 k)
 
@@ -51,30 +52,33 @@ PayloadMayBe true on_wire x k payload = payload ≡ []
 PayloadMayBe false true x k payload = length payload ≡ k * x.width
 PayloadMayBe false false x k payload = payload ≡ default_payload x k
 
+-- the shape of a loan's messages
 abbrev pub shape_of_loan : Fixed → Handle → Shape
 shape_of_loan f h = if is_request_loan h.kind then f.limits.request else f.limits.response
 
+-- whether the kind is a loan in which nothing is filled
 abbrev pub is_uninit : Kind → Bool
 is_uninit k = same_kind k RequestMutUninit || same_kind k ResponseMutUninit
 
+-- a loan is handed out with a payload that it may have
 abbrev pub MayHold : Fixed → Outcome → List ℕ → Type 0
 MayHold f (Loans h) payload =
     PayloadMayBe (is_uninit h.kind) f.on_wire (shape_of_loan f h) h.message.elements payload
 MayHold f o payload = ⊤
 
--- ---- moments back to back
+-- ---- moments one after another
 
 -- the state after these moments
 abbrev pub moved_by : State → List Moment → State
 moved_by s [] = s
 moved_by s (m ∷ ms) = moved_by (moved s m) ms
 
--- what is left to do after them
+-- what is left to do after these moments
 abbrev pub left_by : State → ℕ → Doing → List Moment → Doing
 left_by s node d [] = d
 left_by s node d (m ∷ ms) = left_by (moved s m) node (next s node d m).after ms
 
--- each holds where it is made, and is what the call does next
+-- each moment is true of the state where it is made, and may come next in the call
 abbrev pub MayCome : State → ℕ → Doing → List Moment → Type 0
 MayCome s node d [] = ⊤
 MayCome s node d (m ∷ ms) =
@@ -82,11 +86,12 @@ MayCome s node d (m ∷ ms) =
 
 -- ---- the whole call
 
--- the refusal, with nothing changed, or else what follows
+-- if there is a refusal, it is the reply and nothing changed; else the statement holds
 abbrev pub UnlessRefused : Option Refusal → State → Reply → State → Type 0 → Type 0
 UnlessRefused (Some r) s reply s' P = (reply ≡ Refused r) × (s' ≡ s)
 UnlessRefused None s reply s' P = P
 
+-- whether the call is one of those that are counted: loans, sends and receives
 abbrev pub is_counted : Call → Bool
 is_counted (Loan n k) = true
 is_counted (LoanUninit n k) = true
@@ -95,6 +100,7 @@ is_counted (SendCopy n p) = true
 is_counted (Receive n) = true
 is_counted call = false
 
+-- why a counted call is refused: 2^56 calls were counted already
 abbrev pub spent : Fixed → Call → Option Refusal
 spent f call = refused_if (is_counted call && nat_le (2 ^ 56) f.calls) CallsSpent
 

@@ -1,13 +1,4 @@
-//! What a sender does where a receiver has no room.
-
-/// What happens to a message for a full receiver.
-#[derive(Clone, Copy, Debug, PartialEq, Eq)]
-pub enum BackpressureStrategy {
-    /// That receiver does not get it.
-    DiscardData,
-    /// The whole send is refused, before anybody gets it.
-    RetryUntilDelivered,
-}
+//! What a handler says where a receiver has no room.
 
 /// What a handler answers for a full receiver.
 #[derive(Clone, Copy, Debug, PartialEq, Eq)]
@@ -15,12 +6,4 @@ pub enum BackpressureAction {
     FollowBackpressureStrategy,
     DiscardData,
     DiscardDataAndFail,
-}
-
-/// Whether a port's messages may grow past its greatest length.
-#[derive(Clone, Copy, Debug, PartialEq, Eq)]
-pub enum AllocationStrategy {
-    Static,
-    BestFit,
-    PowerOfTwo,
 }

@@ -1,9 +1,10 @@
 //! The commands of a hub and of a service.
-use crate::backpressure::{AllocationStrategy, BackpressureStrategy};
 use iox_types::identifiers::{UniqueNodeId, UniqueSystemId};
+use iox_types::{AllocationStrategy, BackpressureStrategy};
 
 /// What the making of a port is given, with handlers `H`. Where nothing is given, the service's
 /// settings hold, the pool is the most that is ever needed, and there is no handler.
+#[derive(Debug, Drop)]
 pub struct PortOptions<H> {
     /// The greatest length of its messages, in elements.
     pub max_slice_len: u64,
@@ -18,6 +19,7 @@ pub struct PortOptions<H> {
 
 /// A command of a hub: a port is made, or a port or handle is called by its number. The node that
 /// asks comes first. `P` is a payload, `H` a backpressure handler.
+#[derive(Debug, Drop)]
 pub enum PortCommand<P, H> {
     /// Makes a client, of a node with that id.
     Client {
@@ -88,6 +90,7 @@ pub enum PortCommand<P, H> {
 }
 
 /// A command of a service; `V` is what an opener asks of types and attributes.
+#[derive(Debug, Drop)]
 pub enum Command<P, H, V> {
     /// A node opens the service, with these four numbers as its id.
     Join { id: UniqueSystemId, asked: V },

@@ -4,15 +4,15 @@ use crate::way::{RequestState, Way};
 /// One change, or one look, by one node. Messages are named by their serials.
 #[derive(Clone, Copy, Debug, PartialEq, Eq)]
 pub enum Event {
-    /// The message is last in line.
+    /// The message waits, as the last.
     Deliver { way: Way, serial: u64 },
-    /// The first in line is taken out by its sender, since one too many waits.
+    /// The first that waits is pushed out by its sender, since one too many waits.
     Evict { way: Way },
-    /// The first in line goes to the receiver.
+    /// The first that waits goes to the receiver.
     Take { way: Way, serial: u64 },
-    /// The receiver has it no more.
+    /// The receiver has it no longer.
     GiveBack { way: Way, serial: u64 },
-    /// Its sender counts it no more.
+    /// It is no longer outstanding.
     GetBack { way: Way, serial: u64 },
     /// Nothing waits.
     SeesEmpty { way: Way },
@@ -24,12 +24,12 @@ pub enum Event {
     SeesRoom { way: Way },
     /// Nothing waits to be got back.
     SeesNoneBack { way: Way },
-    /// The state names the request.
+    /// The request state names the request.
     Open { way: Way, id: u64 },
-    /// It is closed, where it named this one.
+    /// The request state is closed, if it named this request.
     Close { way: Way, id: u64 },
-    /// It is hinted, where it named this one.
+    /// The request state has a hint, if it named this request.
     Hint { way: Way, id: u64 },
-    /// The state is this.
+    /// The request state is this.
     Look { way: Way, shown: RequestState },
 }

@@ -54,6 +54,7 @@ pub enum Refusal<C> {
 }
 
 /// What a command of a service is answered, with lists `L` of numbers.
+#[derive(Debug, Drop)]
 pub enum Reply<L, C> {
     /// A node joined, with this number.
     Node(u64),

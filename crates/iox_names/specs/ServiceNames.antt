@@ -1,18 +1,19 @@
--- A service's name is a name that does not begin as the names of internal services do.
+-- The name of a service is a name that does not begin with the prefix of internal services.
 use Rattle.std.specs.Prelude.{ℕ, Bool, List, length, codes, nat_eq, nat_le, not, ◌||◌, Option, Some, None, if◌then◌else◌}
 use Rattle.std.specs.List.{starts_with}
 use Rattle.iox_words.specs.WordLists.{is_name}
 use Rattle.iox_names.specs.declared.service_name_error.ServiceNameError.{ServiceNameError}
 use Rattle.iox_names.specs.declared.service_name_error.ServiceNameError.TheVariants.{ExceedsMaximumLength, InvalidContent}
 
--- the longest name
+-- the most bytes of a service's name
 abbrev pub max_service_name_length : ℕ
 max_service_name_length = 255
 
--- what the names of internal services begin with
+-- the prefix of the names of internal services
 abbrev pub internal_prefix : List ℕ
 internal_prefix = codes "iox2://"
 
+-- whether these bytes begin with the prefix of internal services
 abbrev pub has_internal_prefix : List ℕ → Bool
 has_internal_prefix bytes = starts_with nat_eq bytes internal_prefix
 

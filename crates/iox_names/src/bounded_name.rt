@@ -1,8 +1,8 @@
 //! A text of one byte at least.
 ghost use Rattle.std.specs.Prelude.{◌≡◌, ◌++◌, IfErr, IfOk, Some, None};
 
+use crate::bounded_text::BoundedText;
 use crate::service_name_error::ServiceNameError;
-use iox_texts::BoundedText;
 use std::convert::AsStr;
 use std::fmt;
 use std::marker::Model;

@@ -1,15 +1,30 @@
-//! Laws of names, attributes and hashes.
-ghost use Rattle.std.specs.Prelude.{◌≡◌, List, ℕ};
+//! Laws of texts, names, attributes and hashes.
+ghost use Rattle.std.specs.Prelude.{◌≡◌, ◌↔◌, ◌++◌, ◌∷◌, ◌<◌, IsTrue, List, ℕ};
+ghost use Rattle.std.specs.declared.cmp.Ordering.TheVariants.{Equal, Less};
 ghost use Rattle.std.specs.Hash as fed;
 ghost use Rattle.iox_names.specs.Pairs.{pair_cmp, pair_eq};
 ghost use Rattle.iox_names.specs.ServiceHashes.{service_text};
 ghost use Rattle.iox_names.specs.declared.attribute.Attribute.{Attribute as Pair};
 ghost use Rattle.iox_names.specs.declared.messaging_pattern.MessagingPattern.{MessagingPattern as Pattern};
-ghost use Rattle.iox_texts.specs.Texts.{text_cmp, text_eq};
+ghost use Rattle.iox_names.specs.Texts.{text_cmp, text_eq};
 
 use crate::attribute::{Attribute, AttributeKey, AttributeValue};
 use crate::service_name::ServiceName;
 use std::hash::Hash;
+
+/// Comparison and hash agree: they tell two texts apart if and only if their bytes differ.
+pub fn comparisons_of_texts_agree()
+    ensures equal { (a b : List ℕ) → IsTrue (text_eq a b) ↔ (a ≡ b) }
+    ensures ordered { (a b : List ℕ) → (text_cmp a b ≡ Equal) ↔ (a ≡ b) }
+    ensures hashed { (a b : List ℕ) → (fed.str a ≡ fed.str b) ↔ (a ≡ b) }
+{}
+
+/// The first byte that differs decides, and a text stands before what it is the front of, whatever the lengths.
+pub fn texts_are_ordered_by_their_bytes()
+    ensures front { (a : List ℕ) (byte : ℕ) (rest : List ℕ) → text_cmp a (a ++ byte ∷ rest) ≡ Less }
+    ensures first { (front : List ℕ) (less more : ℕ) (a b : List ℕ) → less < more →
+        text_cmp (front ++ less ∷ a) (front ++ more ∷ b) ≡ Less }
+{}
 
 /// Services' names are compared, ordered and hashed by their bytes.
 pub fn service_names_are_their_bytes()

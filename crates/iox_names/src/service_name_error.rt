@@ -1,7 +1,7 @@
 //! Why bytes are no name.
 ghost use Rattle.std.specs.Prelude.{◌≡◌};
 
-use iox_texts::TextError;
+use crate::text_error::TextError;
 use thiserror::Error;
 
 /// Why bytes are no name of a service, and no key or value of an attribute.

@@ -7,7 +7,7 @@ use Rattle.iox_attributes.specs.declared.verification_error.AttributeVerificatio
 use Rattle.iox_model.specs.Commands.{Refusal, Cause, MissingPair, MissingKey}
 use Rattle.iox_model.specs.declared.reply.Refusal as the_refusal
 use Rattle.iox_model.specs.declared.reply.Refusal.TheVariants.{IncompatibleAttributes}
-use Rattle.iox_openers.specs.Causes.{told, with_cause}
+use Rattle.iox_openers.specs.Causes.{as_refusal, with_cause}
 
 -- with its own cause a refusal is itself
 pub same-refusal : (refusal : Refusal) → with_cause (λ cause. cause) refusal ≡ refusal
@@ -22,12 +22,12 @@ error_of (MissingKey key) = NonExistingKey key
 abbrev untold : Option Refusal → Option (the_refusal.Refusal AttributeVerificationError)
 untold = option_map (with_cause error_of)
 
-untold-told : (a : Option (the_refusal.Refusal AttributeVerificationError)) → untold (told a) ≡ a
+untold-told : (a : Option (the_refusal.Refusal AttributeVerificationError)) → untold (as_refusal a) ≡ a
 untold-told None = refl
 untold-told (Some (IncompatibleAttributes (IncompatibleAttribute key value))) = refl
 untold-told (Some (IncompatibleAttributes (NonExistingKey key))) = refl
 untold-told (Some _) = refl
 
 -- two answers that are told alike are one
-pub told-apart : (a b : Option (the_refusal.Refusal AttributeVerificationError)) → told a ≡ told b → a ≡ b
+pub told-apart : (a b : Option (the_refusal.Refusal AttributeVerificationError)) → as_refusal a ≡ as_refusal b → a ≡ b
 told-apart a b h = sym (untold-told a) ∙ ap untold h ∙ untold-told b

@@ -1,4 +1,4 @@
--- The code's refusals as those of the definitions: the cause is told by bytes.
+-- The code's refusals as those of the definitions, in which a cause is bytes.
 use Rattle.std.specs.Prelude.{Option}
 use Rattle.std.specs.Option.{option_map}
 use Rattle.iox_attributes.specs.declared.verification_error.AttributeVerificationError.{AttributeVerificationError}
@@ -7,7 +7,7 @@ use Rattle.iox_model.specs.Commands.{Refusal, Cause, MissingPair, MissingKey}
 use Rattle.iox_model.specs.declared.reply.Refusal as the_refusal
 use Rattle.iox_model.specs.declared.reply.Refusal.TheVariants.{IncompatibleAttributes, UnknownNode, NodeIsDead, NodeIsAlive, UnknownNumber, ForeignNumber, WrongKind, CallsSpent, WrongLength, ExceedsMaxLoanSize, ExceedsMaxLoans, OutOfMemory, WantOfMemory, ExceedsMaxActiveRequests, UnableToDeliver, ExceedsMaxBorrows, UnableToCreatePortTag, UnableToCreateDataSegment, ExceedsMaxSupportedClients, ExceedsMaxSupportedServers, MarkedForDestruction, InvalidNodeId, NodeIdInUse, IncompatibleRequestTypes, IncompatibleResponseTypes, LimitTooLarge, ExceedsMaxNumberOfNodes, HasPorts, MessagesUnderWay, GrowingStrategy, HandlerSet, UnsuitableAlignment, TooManyWords, Busy, AtRest, AccessesSpent, NotOnThreads}
 
--- which attribute is missing
+-- the cause that an error of the code names: which attribute is missing
 abbrev pub cause_of : AttributeVerificationError → Cause
 cause_of (IncompatibleAttribute key value) = MissingPair key value
 cause_of (NonExistingKey key) = MissingKey key
@@ -52,6 +52,6 @@ with_cause of AtRest = AtRest
 with_cause of AccessesSpent = AccessesSpent
 with_cause of NotOnThreads = NotOnThreads
 
--- an answer of the code as one of the definitions
-abbrev pub told : Option (the_refusal.Refusal AttributeVerificationError) → Option Refusal
-told = option_map (with_cause cause_of)
+-- an answer of the code as an answer of the definitions
+abbrev pub as_refusal : Option (the_refusal.Refusal AttributeVerificationError) → Option Refusal
+as_refusal = option_map (with_cause cause_of)

@@ -1,4 +1,4 @@
--- What an opener of a service is refused by types and attributes: the first test that fails.
+-- Why an opener of a service is refused, by its types and attributes: the first test that fails.
 use Rattle.std.specs.Prelude.{List, Option, Some, None}
 use Rattle.iox_types.specs.Compatibility.{AreCompatible}
 use Rattle.iox_names.specs.declared.attribute.Attribute.{Attribute}
@@ -14,10 +14,11 @@ pub record Opener : Type 0 where
   pub types : MessageTypes
   pub required : Requirements
 
+-- an opener with these types and these requirements
 abbrev pub opener : MessageTypes → Requirements → Opener
 opener types required = record { types = types; required = required }
 
--- messages of my types may be read where messages of theirs are laid out
+-- messages of the types `mine` may be read where messages of the types `theirs` are laid out
 pub record Suit (mine theirs : MessageTypes) : Type 0 where
   pub request : AreCompatible mine.request theirs.request
   pub response : AreCompatible mine.response theirs.response
@@ -26,12 +27,12 @@ pub record Suit (mine theirs : MessageTypes) : Type 0 where
 abbrev pub IsRefusedByTypes : MessageTypes → MessageTypes → Option Refusal → Type 0
 -- both are passed
 IsRefusedByTypes mine theirs None = Suit mine theirs
--- the types of requests do not suit
+-- the types of requests are not compatible
 IsRefusedByTypes mine theirs (Some IncompatibleRequestTypes) = ¬ AreCompatible mine.request theirs.request
--- those of requests do, those of responses do not
+-- those of requests are compatible, those of responses are not
 IsRefusedByTypes mine theirs (Some IncompatibleResponseTypes) =
     AreCompatible mine.request theirs.request × ¬ AreCompatible mine.response theirs.response
--- there is no other such refusal
+-- no other refusal is one of types
 IsRefusedByTypes mine theirs (Some _) = ⊥
 
 -- why what is defined does not meet what is required
@@ -41,19 +42,19 @@ IsLacking required defined (MissingPair key value) = Lacks required defined (Inc
 -- no pair is missing, but a key: the first such
 IsLacking required defined (MissingKey key) = Lacks required defined (NonExistingKey key)
 
--- The first of an opener's tests that fails, if one does: of the types of requests, of those of
--- responses, each compared to the service's, then of the attributes.
+-- The first of an opener's tests that fails, if one does: types of requests, types of responses,
+-- attributes. Each is compared to the service's.
 abbrev pub IsAsked : ServiceDescription → Opener → Option Refusal → Type 0
 -- all are passed
 IsAsked service opener None =
     Suit opener.types service.types × Meets opener.required service.attributes
--- the types suit, the attributes do not
+-- the types are compatible, the attributes do not meet what is required
 IsAsked service opener (Some (IncompatibleAttributes cause)) =
     Suit opener.types service.types × IsLacking opener.required service.attributes cause
--- the types do not suit
+-- the types are not compatible
 IsAsked service opener (Some other) = IsRefusedByTypes opener.types service.types (Some other)
 
--- A service that is created: the first of two tests that fails, if one does. The types that the
--- service has by itself are compared to those that its creator gives.
+-- Why a creation is refused: the first of two tests that fails, if one does. The service's own
+-- types are compared to those that its creator gives.
 abbrev pub IsAskedOfCreator : MessageTypes → MessageTypes → Option Refusal → Type 0
 IsAskedOfCreator own given = IsRefusedByTypes own given

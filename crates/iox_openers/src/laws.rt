@@ -9,13 +9,13 @@ pub fn openers_are_answered()
     ensures some { EachOpenerIsAnswered }
 {}
 
-/// So it is for a creator.
+/// A creator, too, has exactly one answer.
 pub fn creators_are_answered()
     ensures one { OneAnswerForACreator }
     ensures some { EachCreatorIsAnswered }
 {}
 
-/// As an answer of the code is told in the words of the definitions, nothing of it is lost.
+/// Different answers of the code stay different in the terms of the definitions.
 pub fn answers_are_told_whole()
     ensures named { RefusalsKeepTheirNames }
     ensures apart { AnswersAreToldApart }

@@ -5,19 +5,19 @@ use iox_model::reply::Refusal;
 
 /// What the creator and the openers of a service are compared with: the types of its messages, and
 /// its attributes.
-#[derive(Drop)]
+#[derive(Debug, Drop)]
 pub struct ServiceDescription {
     pub types: MessageTypes,
     pub attributes: AttributeSpecifier,
 }
 
 impl ServiceDescription {
-    ghost use Rattle.iox_openers.specs.Causes.{told};
+    ghost use Rattle.iox_openers.specs.Causes.{as_refusal};
     ghost use Rattle.iox_openers.specs.Openers.{IsAsked, IsAskedOfCreator, opener};
 
     /// What a creator whose own messages have these types is refused by them, if it is refused.
     pub fn creator_refusal(&self, own: &MessageTypes) -> Option<Refusal<AttributeVerificationError>>
-        ensures { IsAskedOfCreator own.now self.now.types (told result) }
+        ensures { IsAskedOfCreator own.now self.now.types (as_refusal result) }
     {
         own.incompatibility_to(&self.types)
     }
@@ -29,7 +29,7 @@ impl ServiceDescription {
         types: &MessageTypes,
         verifier: &AttributeVerifier,
     ) -> Option<Refusal<AttributeVerificationError>>
-        ensures { IsAsked self.now (opener types.now verifier.now) (told result) }
+        ensures { IsAsked self.now (opener types.now verifier.now) (as_refusal result) }
     {
         if let Some(refusal) = types.incompatibility_to(&self.types) {
             return Some(refusal);

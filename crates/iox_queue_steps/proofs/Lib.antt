@@ -1,7 +1,7 @@
 pub mod NewMachines
-pub mod MomentLemmas
+pub mod EventLemmas
 pub mod CellLemmas
 pub mod StoredLemmas
-pub mod LineLemmas
+pub mod QueueStateLemmas
 pub mod PlaysLemmas
 pub mod EntryLemmas

@@ -3,10 +3,10 @@ use Rattle.std.proofs.Common.{◌≡◌, ℕ, ◌+◌, ◌^◌, ◌<◌, ◌≤�
 use Rattle.iox_steps.specs.declared.site.QueueKind.TheVariants.{Overflowing}
 use Rattle.iox_steps.specs.declared.site.Site.{Site}
 use Rattle.iox_steps.specs.Sites.{size}
-use Rattle.iox_steps.proofs.Plays.{played_empty}
-use Rattle.iox_queue_steps.specs.Queues.{Seated, PartiesPlayed, at_rest_at}
+use Rattle.iox_steps.proofs.AfterCalls.{played_empty}
+use Rattle.iox_queue_steps.specs.Queues.{PartyView, PartiesAfterCalls, at_rest_at}
 
-pub new_parties_played : (site : Site) (words : List ℕ) (parties : List Seated) → parties ≡ at_rest_at site → (site.kind ≡ Overflowing → 0 < site.capacity)
+pub new_parties_played : (site : Site) (words : List ℕ) (parties : List PartyView) → parties ≡ at_rest_at site → (site.kind ≡ Overflowing → 0 < site.capacity)
     → site.base + size site ≤ length words
-    → slice_index words site.base ≡ slice_index words (site.base + 1) → slice_index words site.base < 2 ^ 64 → PartiesPlayed words parties []
+    → slice_index words site.base ≡ slice_index words (site.base + 1) → slice_index words site.base < 2 ^ 64 → PartiesAfterCalls words parties []
 new_parties_played site words parties rest some room empty position = rw rest (refl, played_empty site words some room empty position)

@@ -5,4 +5,4 @@ pub mod Machines
 pub mod Entries
 pub mod Stored
 pub mod StoredPlaces
-pub mod Roles
+pub mod StoredSides

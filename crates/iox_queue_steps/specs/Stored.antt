@@ -1,4 +1,5 @@
--- A party of a queue that is kept in memory between its steps, as plain data: its queue, and where it is.
+-- A queue's party that is kept in memory between its steps, as clauses see it: its queue's site,
+-- and where it is in its call.
 use Rattle.std.specs.Prelude.{◌≡◌, ℕ, List, Bool, true, false, Option, Some, None}
 use Rattle.iox_steps.specs.declared.access.Next.{Next}
 use Rattle.iox_steps.specs.declared.access.Next.TheVariants.{Goes, Ends}
@@ -7,44 +8,48 @@ use Rattle.iox_steps.specs.declared.push.Push.{Push}
 use Rattle.iox_steps.specs.declared.push.PushReply.{PushReply}
 use Rattle.iox_steps.specs.declared.push.PushReply.TheVariants.{Pushed, PushedOut, Refused}
 use Rattle.iox_steps.specs.declared.pop.Pop.{Pop}
-use Rattle.iox_steps.specs.declared.seat.Pushing.{Pushing}
-use Rattle.iox_steps.specs.declared.seat.Pushing.TheVariants as pushing
-use Rattle.iox_steps.specs.declared.seat.Popping.{Popping}
-use Rattle.iox_steps.specs.declared.seat.Popping.TheVariants as popping
-use Rattle.iox_steps.specs.declared.seat.Moment.{Moment}
+use Rattle.iox_steps.specs.declared.side.Pushing.{Pushing}
+use Rattle.iox_steps.specs.declared.side.Pushing.TheVariants as pushing
+use Rattle.iox_steps.specs.declared.side.Popping.{Popping}
+use Rattle.iox_steps.specs.declared.side.Popping.TheVariants as popping
+use Rattle.iox_steps.specs.declared.side.QueueEvent.{QueueEvent}
 use Rattle.iox_steps.specs.Accesses.{words_after}
-use Rattle.iox_steps.specs.Seats.{pushing_access, pushing_sees, pushing_after, popping_access, popping_sees, popping_after}
-use Rattle.iox_steps.specs.Plays.{Played}
+use Rattle.iox_steps.specs.Sides.{pushing_access, pushing_sees, pushing_after, popping_access, popping_sees, popping_after}
+use Rattle.iox_steps.specs.AfterCalls.{AfterCalls}
 use Rattle.iox_steps.specs.Pushes.{push_next, full_look_next}
 use Rattle.iox_steps.specs.Pops.{pop_next, empty_look_next}
 use Rattle.iox_queue_steps.specs.declared.stored.answer.StepAnswer.{StepAnswer}
 use Rattle.iox_queue_steps.specs.declared.stored.answer.StepAnswer.TheVariants.{Going, Done, Gives, Refuses, Yes, No}
 
+-- the party that pushes: its queue's site, and where it is in its call
 pub record Pusher : Type 0 where
   pub site : Site
   pub place : Pushing
 
+-- the party that pops: its queue's site, and where it is in its call
 pub record Popper : Type 0 where
   pub site : Site
   pub place : Popping
 
--- what a step of a push says: nothing comes back of a value that was pushed, unless it pushed out
--- the oldest; a refused one comes back itself
+-- what a step of a push says. A pushed value gives nothing back, unless it pushed out the oldest; a
+-- refused value comes back.
 abbrev pub push_says : Next Push PushReply → StepAnswer
 push_says (Goes place) = Going
 push_says (Ends Pushed) = Done
 push_says (Ends (PushedOut oldest)) = Gives oldest
 push_says (Ends (Refused value)) = Refuses value
 
--- what a step of a look says
+-- what the last step of a look says
 abbrev pub seen_says : Bool → StepAnswer
 seen_says true = Yes
 seen_says false = No
 
+-- what a step of a look says
 abbrev pub look_says : {Look : Type 0} → Next Look Bool → StepAnswer
 look_says (Goes place) = Going
 look_says (Ends seen) = seen_says seen
 
+-- what a step of the pushing party says, whose access found `seen`
 abbrev pub pushing_says : Site → Pushing → ℕ → StepAnswer
 pushing_says site (pushing.Pushes place) seen = push_says (push_next site place seen)
 pushing_says site (pushing.Looks place) seen = look_says (full_look_next site place seen)
@@ -56,6 +61,7 @@ pop_says (Goes place) = Going
 pop_says (Ends None) = Done
 pop_says (Ends (Some value)) = Gives value
 
+-- what a step of the popping party says, whose access found `seen`
 abbrev pub popping_says : Site → Popping → ℕ → StepAnswer
 popping_says site (popping.Pops place) seen = pop_says (pop_next site place seen)
 popping_says site (popping.Looks place) seen = look_says (empty_look_next site place seen)
@@ -68,11 +74,11 @@ pub record Stored : Type 0 where
   pub pushes : Pushing
   pub pops : Popping
 
--- the words are those of a queue that was played on, and the parties are in step with them
-abbrev pub HasPlayed : Stored → Type 0
-HasPlayed queue = (events : List Moment) × Played queue.site queue.words queue.pushes queue.pops events
+-- the words and both parties are as they are after any calls on the queue
+abbrev pub IsAfterCalls : Stored → Type 0
+IsAfterCalls queue = (events : List QueueEvent) × AfterCalls queue.site queue.words queue.pushes queue.pops events
 
--- a step of the pushing party, which says this, and of the popping one
+-- a step of the pushing party, which says this
 pub record StepsPush (old : Stored) (says : StepAnswer) (new : Stored) : Type 0 where
   pub answers : says ≡ pushing_says old.site old.pushes (pushing_sees old.site old.pushes old.words)
   pub leaves : new ≡ record {
@@ -82,6 +88,7 @@ pub record StepsPush (old : Stored) (says : StepAnswer) (new : Stored) : Type 0 
     pops = old.pops;
   }
 
+-- a step of the popping party, which says this
 pub record StepsPop (old : Stored) (says : StepAnswer) (new : Stored) : Type 0 where
   pub answers : says ≡ popping_says old.site old.pops (popping_sees old.site old.pops old.words)
   pub leaves : new ≡ record {
@@ -91,7 +98,7 @@ pub record StepsPop (old : Stored) (says : StepAnswer) (new : Stored) : Type 0 w
     pops = popping_after old.site old.pops (popping_sees old.site old.pops old.words);
   }
 
--- a queue, by its parts
-pub record IsPlayed (words : List ℕ) (pusher : Pusher) (popper : Popper) : Type 0 where
+-- words and two stored parties that are one queue after any calls on it
+pub record ArePartsAfterCalls (words : List ℕ) (pusher : Pusher) (popper : Popper) : Type 0 where
   pub same : popper.site ≡ pusher.site
-  pub played : (events : List Moment) × Played pusher.site words pusher.place popper.place events
+  pub played : (events : List QueueEvent) × AfterCalls pusher.site words pusher.place popper.place events

@@ -1,6 +1,6 @@
-//! A queue whose two parties are played access by access: whatever the schedule, the values that
-//! leave are, in order, the first of those published, and the rest waits. Its parties are kept in
-//! memory, and can be had without the machine.
+//! A queue whose two parties make single accesses: whatever the schedule, the values published are,
+//! in order, those that left and then those that wait. Its parties are kept in memory, and can be
+//! had without the machine.
 #![tactic(auto)]
 
 mod machine;
@@ -10,8 +10,5 @@ mod stored;
 
 pub use machine::QueueMachine;
 pub use party::QueueParty;
-pub use queue::{Call, Seat};
+pub use queue::{Call, Side};
 pub use stored::{StepAnswer, StoredPopper, StoredPusher, StoredQueue};
-
-#[cfg(test)]
-mod tests;

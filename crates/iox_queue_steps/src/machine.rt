@@ -3,7 +3,7 @@ ghost use Rattle.std.specs.Prelude.{◌≡◌};
 
 use crate::party::{QueueParty, at_rest};
 use crate::queue::Call;
-use iox_steps::{Entry, Machine, MachineError, Moment, Progress, QueueKind, Reply, Site};
+use iox_steps::{Entry, Machine, MachineError, Progress, QueueEvent, QueueKind, QueueReply, Site};
 use std::alloc::{AllocError, Global};
 use std::marker::Model;
 
@@ -15,9 +15,9 @@ pub struct QueueMachine {
 }
 
 impl Model for QueueMachine {
-    ghost use Rattle.iox_queue_steps.specs.Machines.{QueueWorld};
+    ghost use Rattle.iox_queue_steps.specs.Machines.{QueueMachineState};
 
-    ghost Value = { QueueWorld };
+    ghost Value = { QueueMachineState };
 
     ghost view = { λ m. m.machine };
 }
@@ -25,10 +25,10 @@ impl Model for QueueMachine {
 impl QueueMachine {
     ghost use Rattle.std.specs.Prelude.{◌≡◌, ℕ, ◌+◌, ◌<◌, ◌≤◌, ◌++◌, [], length, take, IfOk, IfErr, OnOk, OnErr};
     ghost use Rattle.iox_steps.specs.Sites.{cells, size};
-    ghost use Rattle.iox_queue_steps.specs.Queues.{new_machine, IsEmptyAt, QueueHolds};
+    ghost use Rattle.iox_queue_steps.specs.Queues.{new_machine, IsEmptyAt, QueueInvariant};
     ghost use Rattle.iox_queue_steps.specs.Entries.{site_of, waiting_of, queue_entered, queue_after, queue_answer};
-    ghost use Rattle.iox_steps.specs.Runs.{published, handed_out};
-    ghost use Rattle.iox_queue_steps.specs.Machines.{QueueStepped, IsQueueStepRefused, QueueBegun, IsQueueBeginRefused, AllQueueEntered, QueueStopsAtStep, IsMoment, Plays};
+    ghost use Rattle.iox_steps.specs.EventLists.{published, departed};
+    ghost use Rattle.iox_queue_steps.specs.Machines.{QueueStepped, IsQueueStepRefused, QueueBegun, IsQueueBeginRefused, AllQueueEntered, QueueStopsAtStep, IsEvent, IsInterleaving};
 
     /// A machine of the empty queue at this place among the words, at whatever position it is.
     pub fn new(alloc: Global, words: Vec<u64>, site: Site) -> Result<QueueMachine, AllocError>
@@ -52,7 +52,7 @@ impl QueueMachine {
     }
 
     /// What happened so far.
-    pub fn events(&self) -> &[Moment]
+    pub fn events(&self) -> &[QueueEvent]
         ensures { result.now ≡ self.now.events }
     {
         self.machine.events()
@@ -71,8 +71,8 @@ impl QueueMachine {
 
     /// One access of the party's call.
     #[inline]
-    pub fn step(&mut self, party: usize) -> Result<Progress<Reply>, MachineError>
-        ensures moment { IfOk result (λ answer. IsMoment self.old party answer self.new) }
+    pub fn step(&mut self, party: usize) -> Result<Progress<QueueReply>, MachineError>
+        ensures event { IfOk result (λ answer. IsEvent self.old party answer self.new) }
         ensures stepped { IfOk result (λ answer. QueueStepped self.old party answer self.new) }
         ensures refused { IfErr result (IsQueueStepRefused self.old party) }
         ensures unchanged { OnErr result (self.new ≡ self.old) }
@@ -84,31 +84,30 @@ impl QueueMachine {
         self.machine.step(party)
     }
 
-    /// What the words say, wherever the parties are: the values that left are, in order, the first
-    /// of those published, and the rest waits.
+    /// What holds wherever the parties are in their calls: the values published are, in order,
+    /// those that left and then those that wait.
     pub fn holds(&self)
-        ensures queue { QueueHolds self.now }
+        ensures queue { QueueInvariant self.now }
         ensures order { published self.now.events
-            ≡ handed_out [] self.now.events ++ waiting_of self.now }
+            ≡ departed [] self.now.events ++ waiting_of self.now }
         ensures bounded { length (waiting_of self.now) ≤ cells (site_of self.now) }
     {
         self.machine.holds()
     }
 
-    /// Plays a schedule to its end, or to the step that wants memory. Whatever the schedule, each
-    /// event that it adds was true of the queue when it came, and the values that left are, in
-    /// order, the first of those published, and the rest waits. A schedule that is played to its
-    /// end has one end.
+    /// Plays a schedule to its end, or to the step that finds no memory. Each event that it adds
+    /// was true of the queue when it came. The values published are, in order, those that left and
+    /// then those that wait. A schedule played to its end has only one result.
     pub fn run(&mut self, schedule: &[Entry<Call>]) -> Result<(), MachineError>
-        ensures moments { Plays self.old self.new }
-        ensures queue { QueueHolds self.new }
+        ensures happened { IsInterleaving self.old self.new }
+        ensures queue { QueueInvariant self.new }
         ensures played { (count : ℕ) × AllQueueEntered self.old (take count schedule.now) self.new }
         ensures whole { OnOk result (AllQueueEntered self.old schedule.now self.new) }
         ensures stopped { OnErr result (QueueStopsAtStep self.old schedule.now self.new) }
         ensures refused { IfErr result (λ error. error ≡ MachineError.WantOfMemory) }
         ensures after { OnOk result (self.new ≡ queue_after self.old schedule.now) }
         ensures order { published self.new.events
-            ≡ handed_out [] self.new.events ++ waiting_of self.new }
+            ≡ departed [] self.new.events ++ waiting_of self.new }
         ensures stands { site_of self.new ≡ site_of self.old }
     {
         self.holds();

@@ -1,13 +1,13 @@
-//! The seats of the two parties of a queue, and what they can be asked to do.
+//! The sides of the two parties of a queue, and what they can be asked to do.
 ghost use Rattle.std.specs.Prelude.{◌≡◌, ◌+◌, ◌^◌, ◌<◌};
 ghost use Rattle.iox_steps.specs.Sites.{size};
-ghost use Rattle.iox_queue_steps.specs.Queues.{seat_access, seat_after, seat_progress};
+ghost use Rattle.iox_queue_steps.specs.Queues.{side_access, side_after, side_progress};
 
-use iox_steps::{Access, Popping, Progress, Pushing, Reply, Site};
+use iox_steps::{Access, Popping, Progress, Pushing, QueueReply, Site};
 
 /// One of the two parties of a queue, and where it is.
 #[derive(Clone, Copy)]
-pub enum Seat {
+pub enum Side {
     Pusher(Pushing),
     Popper(Popping),
 }
@@ -21,29 +21,29 @@ pub enum Call {
     IsEmpty,
 }
 
-impl Seat {
+impl Side {
     /// The access that the party makes next.
     #[inline]
     pub fn access(self, site: Site) -> Access
         requires { site.base + size site < 2 ^ 64 }
-        ensures { result ≡ seat_access site self }
+        ensures { result ≡ side_access site self }
     {
         match self {
-            Seat::Pusher(pushes) => pushes.access(site),
-            Seat::Popper(pops) => pops.access(site),
+            Side::Pusher(pushes) => pushes.access(site),
+            Side::Popper(pops) => pops.access(site),
         }
     }
 
-    /// Goes on after an access that found `seen`.
+    /// Continues after an access that found `seen`.
     #[inline]
-    pub fn advance(&mut self, site: Site, seen: u64) -> Progress<Reply>
+    pub fn advance(&mut self, site: Site, seen: u64) -> Progress<QueueReply>
         requires { site.base + size site < 2 ^ 64 }
-        ensures place { self.new ≡ seat_after site self.old seen }
-        ensures answer { result ≡ seat_progress site self.old seen }
+        ensures place { self.new ≡ side_after site self.old seen }
+        ensures answer { result ≡ side_progress site self.old seen }
     {
         match self {
-            Seat::Pusher(pushes) => pushes.advance(site, seen),
-            Seat::Popper(pops) => pops.advance(site, seen),
+            Side::Pusher(pushes) => pushes.advance(site, seen),
+            Side::Popper(pops) => pops.advance(site, seen),
         }
     }
 }

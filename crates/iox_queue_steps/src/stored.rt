@@ -1,5 +1,5 @@
-//! The parties of a queue as they are kept in memory between their steps. Each keeps a position and its
-//! cell from call to call, so that a step in turn divides nothing.
+//! The parties of a queue as they are kept in memory between their steps. Each keeps a position and
+//! its cell from call to call, so that a step at the expected position makes no division.
 mod answer;
 mod cell;
 mod hearing;
@@ -11,6 +11,3 @@ pub use answer::StepAnswer;
 pub use popper::StoredPopper;
 pub use pusher::StoredPusher;
 pub use queue::StoredQueue;
-
-#[cfg(test)]
-mod tests;

@@ -1,6 +1,7 @@
 -- A bounded queue, as its callers see it.
 use Rattle.std.specs.Prelude.{◌^◌, ◌+◌, ◌-◌, ◌<◌, ◌++◌, ◌∷◌, [], ℕ, Bool, List, Option, None, Some, drop, if◌then◌else◌, length, nat_lt, not, slice_get}
 
+-- a bounded queue: its capacity, the values that wait, and how many were ever pushed
 pub record BoundedQueueOf (A : Type 0) : Type 0 where
   -- how many values may wait at once
   pub capacity : ℕ

@@ -1,5 +1,7 @@
 pub mod BoundedQueues
 pub mod Guards
 pub mod Refusals
--- for proofs of this crate alone
+-- a value that one producer stores
+pub mod Values
+-- only for proofs of this crate
 pub mod Rings

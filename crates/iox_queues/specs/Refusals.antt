@@ -1,4 +1,4 @@
--- Why no overflowing queue is made, and how that is shown.
+-- Why no overflowing queue is made, and the text of that error.
 use Rattle.std.specs.Prelude.{ℕ, List, ◌==◌, codes, if◌then◌else◌}
 use Rattle.iox_queues.specs.declared.spsc.safely_overflowing_index_queue.new_error.SafelyOverflowingIndexQueueNewError.{SafelyOverflowingIndexQueueNewError}
 use Rattle.iox_queues.specs.declared.spsc.safely_overflowing_index_queue.new_error.SafelyOverflowingIndexQueueNewError.TheVariants.{CapacityIsZero, WantOfMemory}
@@ -7,7 +7,7 @@ use Rattle.iox_queues.specs.declared.spsc.safely_overflowing_index_queue.new_err
 abbrev pub new_refusal : ℕ → SafelyOverflowingIndexQueueNewError
 new_refusal capacity = if capacity == 0 then CapacityIsZero else WantOfMemory
 
--- each is shown by the name of its type and its own
+-- the text by which the error is shown
 abbrev pub new_error_text : SafelyOverflowingIndexQueueNewError → List ℕ
 new_error_text CapacityIsZero = codes "SafelyOverflowingIndexQueueNewError::CapacityIsZero"
 new_error_text WantOfMemory = codes "SafelyOverflowingIndexQueueNewError::WantOfMemory"

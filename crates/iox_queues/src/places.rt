@@ -3,8 +3,9 @@ ghost use Rattle.std.specs.Prelude.{◌≡◌, ◌⊎◌, ◌+◌, ◌-◌, ◌^
 ghost use Rattle.std.specs.Bool.{OnTrue};
 ghost use Rattle.iox_queues.specs.Rings.{AreWithin, EvictsAt, HasRoomAt, StartsAsBefore, count_at, pushed_at};
 
-/// Where the next pop and the next push find their cells. Each goes on without a look at the other
-/// up to an end, and only there looks how far it may go next: one compare a call, as a rule.
+/// Where the next pop and the next push find their cells. Each continues up to an end without a
+/// look at the other. Only there it looks how far it may go next: as a rule one comparison for each
+/// call.
 ///
 /// A place that has come to the end of the ring is put back to 0 by the next look.
 #[derive(Debug, Drop)]

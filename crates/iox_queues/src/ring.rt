@@ -6,9 +6,6 @@ ghost use Rattle.iox_queues.specs.BoundedQueues.{HasRoom, empty_queue, first, ha
 use crate::places::Places;
 use std::marker::Model;
 
-#[cfg(test)]
-pub(crate) mod tests;
-
 /// A queue of at most as many values as there are cells.
 #[derive(Debug, Drop)]
 pub(crate) struct Ring<T> {
@@ -97,7 +94,7 @@ impl<T: Copy> Ring<T> {
     }
 
     /// Puts a value into the cell of the oldest, where the queue is known to be full, and hands the
-    /// oldest back; `None`, and nothing changes, where that is not known.
+    /// oldest back. Where that is not known, it answers `None` and changes nothing.
     #[inline]
     fn replace(&mut self, value: T) -> Option<T>
         ensures full { OnSome result (IsTrue (is_full self.old)) }
@@ -159,7 +156,7 @@ impl<T: Copy> Ring<T> {
         self.len() == 0
     }
 
-    /// Whether as many values wait as may.
+    /// Whether the queue is full.
     #[inline]
     pub(crate) fn is_full(&self) -> bool
         ensures full { IsTrue result ↔ (length self.now.waiting ≡ self.now.capacity) }

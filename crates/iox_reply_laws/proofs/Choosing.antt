@@ -25,8 +25,8 @@ use Rattle.iox_model.specs.Responses.{lending, lends_request, lends_response, le
 use Rattle.iox_model.specs.Settings.{is_client, is_count}
 use Rattle.iox_model.specs.States.{Port, Handle, Fixed, State}
 use Rattle.iox_model.specs.WholeCalls.{IsDone}
-use Rattle.iox_weaves.proofs.WholeLemmas.{split}
-use Rattle.iox_ledger.proofs.Starts.{IsNamedBy, named-by}
+use Rattle.iox_weave_laws.proofs.WholeLemmas.{split}
+use Rattle.iox_weave_ledger.proofs.Starts.{IsNamedBy, named-by}
 use Rattle.iox_reply_laws.specs.Determined.{takes_memory}
 use Rattle.iox_reply_laws.proofs.Hands.{NoneInHand, AnyWay, HandsFit, hands_any, hands_moved}
 use Rattle.iox_reply_laws.proofs.Telling.{sends_told, kept_yet, loaned_or, lent_told, told, loaning_told}
@@ -56,12 +56,12 @@ with_memory call memory a b e (inr want) = absurd (true≢false (sym e ∙ want.
 abbrev as_loan : Handle → Role → Bool → ℕ → Message → Handle
 as_loan h role uninit lane m = record h { kind = kind_of_loan role uninit; lane = lane; message = m }
 
-lane_told : (f : Fixed) (waiting : Way → List Message) (naming : Way → RequestState) (node : ℕ) (copied : Bool) (role : Role) (uninit : Bool) (h : Handle)
+lane_told : (f : Fixed) (waiting : Way → List Message) (request_state : Way → RequestState) (node : ℕ) (copied : Bool) (role : Role) (uninit : Bool) (h : Handle)
     (i j : ℕ) (m n : Message) → is_client role ≡ true
-    → sends_told f waiting naming node (as_loan h role uninit i m) copied ≡ sends_told f waiting naming node (as_loan h role uninit j n) copied
-lane_told f waiting naming node copied Client true h i j m n e = refl
-lane_told f waiting naming node copied Client false h i j m n e = refl
-lane_told f waiting naming node copied Server uninit h i j m n e = absurd (true≢false (sym e))
+    → sends_told f waiting request_state node (as_loan h role uninit i m) copied ≡ sends_told f waiting request_state node (as_loan h role uninit j n) copied
+lane_told f waiting request_state node copied Client true h i j m n e = refl
+lane_told f waiting request_state node copied Client false h i j m n e = refl
+lane_told f waiting request_state node copied Server uninit h i j m n e = absurd (true≢false (sym e))
 
 -- a request's loan on either lane
 loan_told : (s : State) (node : ℕ) (p : Port) (o : Order) (request i j : ℕ) → is_client p.role ≡ true
@@ -76,7 +76,7 @@ loan_told s node p o request i j e =
     loan l = loan_of s.fixed p o p.number l request
 
     by_copies : (b : Bool) → lent_told s node b (loan_of s.fixed p o p.number i request) ≡ lent_told s node b (loan_of s.fixed p o p.number j request)
-    by_copies true = lane_told s.fixed s.waiting s.naming node true p.role o.uninit (loan_of s.fixed p o p.number 0 request) i j
+    by_copies true = lane_told s.fixed s.waiting s.request_state node true p.role o.uninit (loan_of s.fixed p o p.number 0 request) i j
         (next_message s.fixed p o i request) (next_message s.fixed p o j request) e
     by_copies false = refl
 

@@ -14,11 +14,11 @@ use Rattle.iox_model.specs.Maps.{same_way}
 use Rattle.iox_model.specs.Moments.{moved, Moment, Evict, GetBack}
 use Rattle.iox_model.specs.Runs.{IsReachableState}
 use Rattle.iox_model.specs.States.{Handle, State}
-use Rattle.iox_model.specs.Steps.{next, ends}
+use Rattle.iox_model.specs.Transitions.{next, ends}
 use Rattle.iox_model.specs.WholeCalls.{moved_by, left_by, MayCome, IsDone}
-use Rattle.iox_reachable.proofs.Inductions.{IsKept, reached_keeps}
-use Rattle.iox_weaves.proofs.MapLemmas.{either, put-else, same_way-true}
-use Rattle.iox_ledger.proofs.Truths.{none-some}
+use Rattle.iox_weave_worlds.proofs.Inductions.{IsKept, reached_keeps}
+use Rattle.iox_weave_laws.proofs.MapLemmas.{either, put-else, same_way-true}
+use Rattle.iox_weave_ledger.proofs.Truths.{none-some}
 
 abbrev pub NoneInHand : State → Type 0
 NoneInHand s = (y : Way) → s.in_hand y ≡ []

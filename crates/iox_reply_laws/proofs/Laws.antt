@@ -20,7 +20,7 @@ use Rattle.iox_model.specs.Peers.{ports_of_role}
 use Rattle.iox_model.specs.Services.{leaving_refusal, with_own_id, IsCommand}
 use Rattle.iox_model.specs.States.{Fixed, State}
 use Rattle.iox_model.specs.WholeCalls.{UnlessRefused, spent, IsDone, IsWholeCall}
-use Rattle.iox_ledger.proofs.Truths.{never}
+use Rattle.iox_weave_ledger.proofs.Truths.{never}
 use Rattle.iox_reply_laws.specs.Determined.{CallsHaveOneReply, MakingsHaveOneReply, JoinsHaveOneReply, takes_memory, OnlyWantIsToldInstead, tells_want, AreOne, HubCommandsHaveOneReply, CommandsHaveOneReply}
 use Rattle.iox_reply_laws.proofs.Hands.{NoneInHand, none_in_hand}
 use Rattle.iox_reply_laws.proofs.Choosing.{answer, IsTold, with_memory, done_like}
@@ -47,10 +47,10 @@ only_want_is_told_instead s t u node call a b left named one other e =
 
 -- ---- replies of commands
 
-abbrev IsNear : Reply → Reply → Type 0
+abbrev pub IsNear : Reply → Reply → Type 0
 IsNear a b = (a ≡ b) ⊎ (tells_want a ≡ true)
 
-near_one : (a b c : Reply) → IsNear a c → IsNear b c → AreOne a b
+pub near_one : (a b c : Reply) → IsNear a c → IsNear b c → AreOne a b
 near_one a b c (inl e) (inl f) p q = e ∙ sym f
 near_one a b c (inl e) (inr f) p q = never (tells_want b) f q
 near_one a b c (inr e) f p q = never (tells_want a) e p
@@ -76,7 +76,7 @@ done_near call memory a b (inr want) = inr (ap tells_want want.2)
 abbrev pub whole_answer : State → ℕ → Call → Reply
 whole_answer s node call = reply_or (misnamed s.fixed node call) (reply_or (spent s.fixed call) (answer s node call))
 
-whole_near : (s t : State) (node : ℕ) (call : Call) (a : Reply) → NoneInHand s → IsWholeCall s node call a t → IsNear a (whole_answer s node call)
+pub whole_near : (s t : State) (node : ℕ) (call : Call) (a : Reply) → NoneInHand s → IsWholeCall s node call a t → IsNear a (whole_answer s node call)
 whole_near s t node call a none =
     near_unless (misnamed s.fixed node call) s t a (reply_or (spent s.fixed call) (answer s node call)) _
     (λ named. near_unless (spent s.fixed call) s t a (answer s node call) (IsDone s node call a t)

@@ -8,10 +8,10 @@ use Rattle.iox_model.specs.Moments.{Holds, moved, GetBack, SeesNoneBack}
 use Rattle.iox_model.specs.Outstandings.{is_held, is_dry}
 use Rattle.iox_model.specs.Peers.{ways_from}
 use Rattle.iox_model.specs.States.{Handle, State}
-use Rattle.iox_weaves.proofs.CallLaws.{put_at-else, eqb-flip}
-use Rattle.iox_weaves.proofs.MapLemmas.{eqb-refl, same_way-true, put_there, put-else}
-use Rattle.iox_weaves.proofs.WholeLemmas.{put_at-here}
-use Rattle.iox_ledger.proofs.Truths.{by_cases}
+use Rattle.iox_weave_laws.proofs.CallLaws.{put_at-else, eqb-flip}
+use Rattle.iox_weave_laws.proofs.MapLemmas.{eqb-refl, same_way-true, put_there, put-else}
+use Rattle.iox_weave_laws.proofs.WholeLemmas.{put_at-here}
+use Rattle.iox_weave_ledger.proofs.Truths.{by_cases}
 use Rattle.iox_reply_laws.proofs.Telling.{kept_yet, loaned_or, lent_told, loaned_told}
 use Rattle.iox_reply_laws.proofs.Ways.{and-none, first-rest, empty-is, has_other}
 

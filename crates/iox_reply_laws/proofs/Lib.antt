@@ -10,3 +10,4 @@ pub mod OnWires
 pub mod Laws
 pub mod Remembering
 pub mod Plainly
+pub mod Ready

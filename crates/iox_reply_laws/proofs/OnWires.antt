@@ -11,18 +11,18 @@ use Rattle.iox_model.specs.Names.{misnamed}
 use Rattle.iox_model.specs.States.{Fixed, State}
 use Rattle.iox_model.specs.Weaves.{World}
 use Rattle.iox_model.specs.WholeCalls.{IsDone}
-use Rattle.iox_weaves.proofs.WholeLemmas.{moved-fixed}
-use Rattle.iox_ledger.specs.QueueLaws.{has_evicted, by_sender}
-use Rattle.iox_ledger.proofs.Buffers.{one_in_hand}
-use Rattle.iox_ledger.proofs.Lists.{no-length}
-use Rattle.iox_reachable.specs.Worlds.{IsReachable}
-use Rattle.iox_reachable.proofs.Begun.{call_fits}
-use Rattle.iox_reachable.proofs.Continues.{within_any}
-use Rattle.iox_reachable.proofs.Kept.{from_own}
-use Rattle.iox_reachable.proofs.MovesFit.{moved_sound}
-use Rattle.iox_reachable.proofs.PortLemmas.{AreDistinctPorts}
-use Rattle.iox_reachable.proofs.Reached.{reachable_sound, reachable_is_on_wire}
-use Rattle.iox_reachable.proofs.Sound.{IsPortOf, last_of, IsWithin, SoundCall, Sound}
+use Rattle.iox_weave_laws.proofs.WholeLemmas.{moved-fixed}
+use Rattle.iox_weave_ledger.specs.QueueLaws.{has_evicted, by_sender}
+use Rattle.iox_weave_ledger.proofs.Buffers.{one_in_hand}
+use Rattle.iox_weave_ledger.proofs.Lists.{no-length}
+use Rattle.iox_weave_worlds.specs.Worlds.{IsReachable}
+use Rattle.iox_weave_worlds.proofs.Begun.{call_fits}
+use Rattle.iox_weave_worlds.proofs.Continues.{within_any}
+use Rattle.iox_weave_worlds.proofs.Kept.{from_own}
+use Rattle.iox_weave_worlds.proofs.MovesFit.{moved_sound}
+use Rattle.iox_weave_worlds.proofs.PortLemmas.{AreDistinctPorts}
+use Rattle.iox_weave_worlds.proofs.Reached.{reachable_sound, reachable_is_on_wire}
+use Rattle.iox_weave_worlds.proofs.Sound.{IsPortOf, last_of, IsWithin, SoundCall, Sound}
 use Rattle.iox_reply_laws.specs.Determined.{WireCallsHaveOneReply}
 use Rattle.iox_reply_laws.proofs.Choosing.{answer, with_memory, done_told}
 use Rattle.iox_reply_laws.proofs.Hands.{NoneOn, HandsFit, hands_any, hands_moved}

@@ -12,20 +12,20 @@ use Rattle.iox_model.specs.Peers.{is_connected_port, others, port_at, buffer_on}
 use Rattle.iox_model.specs.Runs.{IsReachableState}
 use Rattle.iox_model.specs.States.{Handle, State}
 use Rattle.iox_model.specs.WholeCalls.{spent, IsDone, IsWholeCall}
-use Rattle.iox_ledger.proofs.Lists.{IsAmong}
-use Rattle.iox_ledger.proofs.Starts.{there}
-use Rattle.iox_plain.specs.Overflows.{NotOver, sent_over_by}
-use Rattle.iox_plain.specs.Searches.{received}
-use Rattle.iox_plain.specs.Sends.{sent_by}
-use Rattle.iox_plain.proofs.Received.{each_receive_is_whole}
-use Rattle.iox_plain.proofs.Sent.{each_send_is_whole}
-use Rattle.iox_plain.proofs.Overflowing.{each_overflowing_send_is_whole}
-use Rattle.iox_reachable.proofs.PortLemmas.{distinct-others}
-use Rattle.iox_reachable.proofs.ReachedPorts.{reached_ports}
-use Rattle.iox_reachable.proofs.WayLemmas.{apart-requests}
-use Rattle.iox_runs.proofs.Bounded.{queues_rest_within}
-use Rattle.iox_runs.proofs.Rests.{FitsHandle}
-use Rattle.iox_runs.proofs.Runs.{left_calm}
+use Rattle.iox_weave_ledger.proofs.Lists.{IsAmong}
+use Rattle.iox_weave_ledger.proofs.Starts.{there}
+use Rattle.iox_call_functions.specs.Overflows.{NotOver, sent_over_by}
+use Rattle.iox_call_functions.specs.Searches.{received}
+use Rattle.iox_call_functions.specs.Sends.{sent_by}
+use Rattle.iox_call_functions.proofs.Received.{each_receive_is_whole}
+use Rattle.iox_call_functions.proofs.Sent.{each_send_is_whole}
+use Rattle.iox_call_functions.proofs.Overflowing.{each_overflowing_send_is_whole}
+use Rattle.iox_weave_worlds.proofs.PortLemmas.{distinct-others}
+use Rattle.iox_weave_worlds.proofs.ReachedPorts.{reached_ports}
+use Rattle.iox_weave_worlds.proofs.WayLemmas.{apart-requests}
+use Rattle.iox_run_laws.proofs.Bounded.{queues_rest_within}
+use Rattle.iox_run_laws.proofs.Rests.{FitsHandle}
+use Rattle.iox_run_laws.proofs.Runs.{left_calm}
 use Rattle.iox_reply_laws.specs.Determined.{takes_memory}
 use Rattle.iox_reply_laws.specs.PlainReplies.{ReceivesAnswerPlainly, SendsAnswerPlainly, OverflowingSendsAnswerPlainly}
 use Rattle.iox_reply_laws.proofs.Choosing.{answer, IsTold, done_like}
@@ -46,7 +46,7 @@ whole_is s t node call a none e =
     (λ named. exact_unless (spent s.fixed call) s t a (answer s node call) (IsDone s node call a t)
     (λ u done. without_memory call (done.0).memory a (answer s node call) e (done_like s t node call a none named done)))
 
-whole_one : (s t u : State) (node : ℕ) (call : Call) (a b : Reply) → IsReachableState s → takes_memory call ≡ false
+pub whole_one : (s t u : State) (node : ℕ) (call : Call) (a b : Reply) → IsReachableState s → takes_memory call ≡ false
     → IsWholeCall s node call a t → IsWholeCall s node call b u → a ≡ b
 whole_one s t u node call a b left e one other =
     whole_is s t node call a (none_in_hand s left) e one ∙ sym (whole_is s u node call b (none_in_hand s left) e other)
@@ -58,7 +58,7 @@ receives_answer_plainly s t node n reply left call =
 
 -- ---- sends
 
-servers_apart : (s : State) (h : Handle) → IsReachableState s → AreApart (map (request_way h.port) (others s.fixed h.node Server))
+pub servers_apart : (s : State) (h : Handle) → IsReachableState s → AreApart (map (request_way h.port) (others s.fixed h.node Server))
 servers_apart s h left =
     apart-requests h.port (others s.fixed h.node Server) (distinct-others s.fixed h.node Server (reached_ports s left))
 
@@ -68,7 +68,7 @@ sends_answer_plainly s t node n h reply left is loan overflow call =
     (each_send_is_whole s node n h is loan overflow (servers_apart s h left) (none_in_hand s left))
 
 -- between calls nowhere one too many waits
-not_over : (s : State) (port : ℕ) → IsReachableState s → is_connected_port s.fixed port ≡ true → (servers : List ℕ)
+pub not_over : (s : State) (port : ℕ) → IsReachableState s → is_connected_port s.fixed port ≡ true → (servers : List ℕ)
     → NotOver s (map (request_way port) servers)
 not_over s port left known [] = tt
 not_over s port left known (n ∷ ns) = (
@@ -79,7 +79,7 @@ not_over s port left known (n ∷ ns) = (
     within : (k b : ℕ) → k ≤ b → nat_lt b k ≡ false
     within k b e = grind (arith)
 
-known_port : (s : State) (node n : ℕ) (h : Handle) → IsReachableState s → subject s.fixed node n ≡ Some (TheHandle h)
+pub known_port : (s : State) (node n : ℕ) (h : Handle) → IsReachableState s → subject s.fixed node n ≡ Some (TheHandle h)
     → is_connected_port s.fixed h.port ≡ true
 known_port s node n h left is =
     let among : IsAmong h (s.fixed.handles node) = there s.fixed node n (TheHandle h) (port_at s.fixed n) (handle_at s.fixed node n) refl refl is in

@@ -30,12 +30,12 @@ use Rattle.iox_model.specs.Responses.{sends_response, sends, loaning, lending, l
 use Rattle.iox_model.specs.Runs.{IsReachableState}
 use Rattle.iox_model.specs.Settings.{is_client, is_count}
 use Rattle.iox_model.specs.States.{Port, Handle, Fixed, State}
-use Rattle.iox_model.specs.Steps.{next, ends}
+use Rattle.iox_model.specs.Transitions.{next, ends}
 use Rattle.iox_model.specs.WholeCalls.{moved_by, left_by, MayCome, IsDone}
-use Rattle.iox_reachable.proofs.Inductions.{IsKept, reached_keeps}
-use Rattle.iox_weaves.proofs.MapLemmas.{either}
-use Rattle.iox_weaves.proofs.WholeLemmas.{some-is, moved_by-fixed}
-use Rattle.iox_ledger.proofs.Truths.{by_cases, none-some}
+use Rattle.iox_weave_worlds.proofs.Inductions.{IsKept, reached_keeps}
+use Rattle.iox_weave_laws.proofs.MapLemmas.{either}
+use Rattle.iox_weave_laws.proofs.WholeLemmas.{some-is, moved_by-fixed}
+use Rattle.iox_weave_ledger.proofs.Truths.{by_cases, none-some}
 
 -- ---- what a call has to do is not to forget
 

@@ -9,10 +9,10 @@ use Rattle.iox_model.specs.Moments.{Holds, SeesFull, SeesRoom}
 use Rattle.iox_model.specs.Peers.{buffer_on}
 use Rattle.iox_model.specs.Requests.{targets, is_over}
 use Rattle.iox_model.specs.States.{State}
-use Rattle.iox_model.specs.Steps.{ends}
+use Rattle.iox_model.specs.Transitions.{ends}
 use Rattle.iox_model.specs.WholeCalls.{sent_reply, replied}
-use Rattle.iox_weaves.proofs.WholeLemmas.{some-is}
-use Rattle.iox_ledger.proofs.Truths.{by_cases, none-some, and-first}
+use Rattle.iox_weave_laws.proofs.WholeLemmas.{some-is}
+use Rattle.iox_weave_ledger.proofs.Truths.{by_cases, none-some, and-first}
 use Rattle.iox_reply_laws.proofs.Telling.{is_full_at, sent_or, spared, fails_among, looked_told, told}
 use Rattle.iox_reply_laws.proofs.Ways.{and-none, or-in, any_split, any_without, full_more, full_less, length_without}
 

@@ -14,11 +14,11 @@ use Rattle.iox_model.specs.Messages.{names, Message}
 use Rattle.iox_model.specs.Moments.{Holds, moved, Moment, Deliver, Evict, Take, GiveBack, GetBack, SeesEmpty, SeesWaiting, SeesFull, SeesRoom, SeesNoneBack, Open, Close, Hint, Look}
 use Rattle.iox_model.specs.Receives.{took, state_of_request, is_at_limit}
 use Rattle.iox_model.specs.States.{Handle, State}
-use Rattle.iox_model.specs.Steps.{next, ends}
+use Rattle.iox_model.specs.Transitions.{next, ends}
 use Rattle.iox_model.specs.WholeCalls.{replied, moved_by, left_by, MayCome}
-use Rattle.iox_weaves.proofs.CallLaws.{not-true}
-use Rattle.iox_weaves.proofs.MapLemmas.{either, same_way-true}
-use Rattle.iox_weaves.proofs.WholeLemmas.{moved-fixed}
+use Rattle.iox_weave_laws.proofs.CallLaws.{not-true}
+use Rattle.iox_weave_laws.proofs.MapLemmas.{either, same_way-true}
+use Rattle.iox_weave_laws.proofs.WholeLemmas.{moved-fixed}
 use Rattle.iox_reply_laws.proofs.Telling.{asked_told, again_told, told, opening_told, looking_told, emptying_told, asked-told, loaning_told, visiting_told, closing_told, checking_told, hinting_told, seeking_told}
 use Rattle.iox_reply_laws.proofs.Lending.{loan_gets_back, loan_leaves}
 use Rattle.iox_reply_laws.proofs.Sending.{send_sees_full, send_sees_room, one_more, ended_told}
@@ -34,9 +34,9 @@ takes_on s node x left seen v w m is =
     (λ holds. took_told (moved s (Take v m)) node x v m left seen ∙ again_takes s node x left seen v m holds)
 
 checks : (s : State) (node : ℕ) (h : Handle) (hinted : Bool) (left : List Way) (w : Way) (shown : RequestState) → has_way w left ≡ true
-    → shown ≡ s.naming w → told s node (checked h hinted left w shown) ≡ Answer (list_any (λ v. is_shown h hinted (s.naming v)) left)
+    → shown ≡ s.request_state w → told s node (checked h hinted left w shown) ≡ Answer (list_any (λ v. is_shown h hinted (s.request_state v)) left)
 checks s node h hinted left w shown e holds =
-    let test : Way → Bool = λ v. is_shown h hinted (s.naming v) in
+    let test : Way → Bool = λ v. is_shown h hinted (s.request_state v) in
     let here : test w ≡ is_shown h hinted shown = ap (is_shown h hinted) (sym holds) in
     either (λ d. told s node d ≡ Answer (list_any test left)) (is_shown h hinted shown) (Ended (Tells (Answer true)))
     (checking h hinted (without_way w left)) (λ does. ap Answer (sym (any_in test w left e (here ∙ does))))
@@ -54,7 +54,7 @@ steady s node (Loaning copies h left) (SeesNoneBack w) p holds c =
     loaning_told s node copies h (without_way w left) ∙ loan_leaves s node copies h left w holds
 steady s node (Asking x) (Look w shown) p holds c =
     asked-told s node x shown
-    ∙ ap (asked_told s.fixed s.waiting node x) (holds ∙ ap s.naming (same_way-true w (own_state x.loan) c))
+    ∙ ap (asked_told s.fixed s.waiting node x) (holds ∙ ap s.request_state (same_way-true w (own_state x.loan) c))
 steady s node (Emptying x left) (GetBack w k) p holds c = refl
 steady s node (Emptying x left) (SeesNoneBack w) p holds c = emptying_told s node x (without_way w left)
 steady s node (Looking x left full) (SeesFull w) p holds c =
@@ -77,7 +77,7 @@ steady s node (Again x v left seen) (SeesEmpty w) p holds c =
 steady s node (Again x v left seen) (Take w m) p holds c = takes_on s node x left seen v w m (same_way-true w v c) holds
 steady s node (Judging x v m left seen) (Look w shown) p holds c =
     judged_told s node x v m left seen shown
-    ∙ ap (λ r. again_told s node x v left seen (names r m.request)) (holds ∙ ap s.naming (same_way-true w (state_of_request v m) c))
+    ∙ ap (λ r. again_told s node x v left seen (names r m.request)) (holds ∙ ap s.request_state (same_way-true w (state_of_request v m) c))
 steady s node (Stale x v m left seen) (GiveBack w k) p holds c = refl
 steady s node (Closing h left) (Close w id) p holds c = closing_told (moved s (Close w id)) node h (without_way w left)
 steady s node (Returning h) (GiveBack w k) p holds c =

@@ -23,7 +23,7 @@ use Rattle.iox_model.specs.Responses.{sends_response, asked, sends, loaning}
 use Rattle.iox_model.specs.Settings.{is_client}
 use Rattle.iox_model.specs.States.{Handle, Fixed, State}
 use Rattle.iox_model.specs.WholeCalls.{sent_reply, replied}
-use Rattle.iox_ledger.proofs.Truths.{and-first}
+use Rattle.iox_weave_ledger.proofs.Truths.{and-first}
 use Rattle.iox_reply_laws.proofs.Ways.{or-none, elsewhere}
 
 -- ---- a send
@@ -65,15 +65,15 @@ request_told f waiting node h copied servers =
     if is_active_spent f h then Refused ExceedsMaxActiveRequests else emptied_told f waiting node (sending_of f h copied servers)
 
 abbrev pub response_told : Fixed → (Way → List Message) → (Way → RequestState) → ℕ → Handle → Bool → Reply
-response_told f waiting naming node h copied =
+response_told f waiting request_state node h copied =
     if has_number h.client (others f h.node Client)
-    then asked_told f waiting node (sending_of f h copied (h.client ∷ [])) (naming (own_state h))
+    then asked_told f waiting node (sending_of f h copied (h.client ∷ [])) (request_state (own_state h))
     else sent_reply f node h copied 0
 
 abbrev pub sends_told : Fixed → (Way → List Message) → (Way → RequestState) → ℕ → Handle → Bool → Reply
-sends_told f waiting naming node h copied =
+sends_told f waiting request_state node h copied =
     if is_request_loan h.kind then request_told f waiting node h copied (others f h.node Server)
-    else response_told f waiting naming node h copied
+    else response_told f waiting request_state node h copied
 
 -- ---- a loan
 
@@ -90,7 +90,7 @@ loaned_or dry reply = if dry then Refused OutOfMemory else reply
 
 abbrev pub lent_told : State → ℕ → Bool → Handle → Reply
 lent_told s node copies h =
-    if copies then sends_told s.fixed s.waiting s.naming node h true else replies.Handle (new_number s.fixed node)
+    if copies then sends_told s.fixed s.waiting s.request_state node h true else replies.Handle (new_number s.fixed node)
 
 abbrev pub loaned_told : State → ℕ → Bool → Handle → List Way → Reply
 loaned_told s node copies h left = loaned_or (is_dry s.fixed h.port (kept_yet s h.port left)) (lent_told s node copies h)
@@ -98,12 +98,12 @@ loaned_told s node copies h left = loaned_or (is_dry s.fixed h.port (kept_yet s 
 -- ---- a receive
 
 abbrev pub fits_now : Fixed → (Way → RequestState) → Receiver → Way → Message → Bool
-fits_now f naming x w m =
-    if is_client x.role then m.request == x.request else (f.limits.fire_and_forget || names (naming (state_of_request w m)) m.request)
+fits_now f request_state x w m =
+    if is_client x.role then m.request == x.request else (f.limits.fire_and_forget || names (request_state (state_of_request w m)) m.request)
 
 -- the way gives a message that fits; it has one that the receiver may not take
 abbrev pub gives : State → Receiver → Way → Bool
-gives s x w = not (is_at_limit s.fixed w) && list_any (fits_now s.fixed s.naming x w) (s.waiting w)
+gives s x w = not (is_at_limit s.fixed w) && list_any (fits_now s.fixed s.request_state x w) (s.waiting w)
 
 abbrev pub blocks : State → Way → Bool
 blocks s w = is_at_limit s.fixed w && not (is_empty (s.waiting w))
@@ -118,7 +118,7 @@ visited_told s node x left seen = got s.fixed node (list_any (gives s x) left) (
 
 -- this message fits, or one behind it on its way, or one elsewhere
 abbrev pub gives_on : State → Receiver → Way → List Way → Bool
-gives_on s x v left = list_any (fits_now s.fixed s.naming x v) (s.waiting v) || list_any (elsewhere v (gives s x)) left
+gives_on s x v left = list_any (fits_now s.fixed s.request_state x v) (s.waiting v) || list_any (elsewhere v (gives s x)) left
 
 abbrev pub again_told : State → ℕ → Receiver → Way → List Way → Bool → Bool → Reply
 again_told s node x v left seen fits =
@@ -129,7 +129,7 @@ again_told s node x v left seen fits =
 abbrev pub told : State → ℕ → Doing → Reply
 told s node (Ended o) = replied s.fixed node o
 told s node (Loaning copies h left) = loaned_told s node copies h left
-told s node (Asking x) = asked_told s.fixed s.waiting node x (s.naming (own_state x.loan))
+told s node (Asking x) = asked_told s.fixed s.waiting node x (s.request_state (own_state x.loan))
 told s node (Emptying x left) = emptied_told s.fixed s.waiting node x
 told s node (Looking x left full) = looked_told s.fixed s.waiting node x left full
 told s node (Opening x left full) = opened_told s.fixed node x full
@@ -137,12 +137,12 @@ told s node (Delivering x last left count) = sent_reply s.fixed node x.loan x.co
 told s node (Evicted x w left count) = sent_reply s.fixed node x.loan x.copied (count + length left)
 told s node (Visiting x left seen) = visited_told s node x left seen
 told s node (Again x v left seen) = again_told s node x v left seen false
-told s node (Judging x v m left seen) = again_told s node x v left seen (names (s.naming (state_of_request v m)) m.request)
+told s node (Judging x v m left seen) = again_told s node x v left seen (names (s.request_state (state_of_request v m)) m.request)
 told s node (Stale x v m left seen) = again_told s node x v left seen false
 told s node (Closing h left) = Done
 told s node (Returning h) = Done
 told s node (Leaving h) = Done
-told s node (Checking h hinted left) = Answer (list_any (λ w. is_shown h hinted (s.naming w)) left)
+told s node (Checking h hinted left) = Answer (list_any (λ w. is_shown h hinted (s.request_state w)) left)
 told s node (Hinting h left) = Done
 told s node (Seeking left) = Answer (list_any (λ w. not (is_empty (s.waiting w))) left)
 
@@ -185,7 +185,7 @@ asked-told s node x shown =
     (emptying_told s node x (targets x)) refl
 
 pub sends-told : (s : State) (node : ℕ) (h : Handle) (copied : Bool)
-    → told s node (sends s.fixed h copied) ≡ sends_told s.fixed s.waiting s.naming node h copied
+    → told s node (sends s.fixed h copied) ≡ sends_told s.fixed s.waiting s.request_state node h copied
 sends-told s node h copied =
     let x : Sending = sending_of s.fixed h copied (others s.fixed h.node Server) in
     let ways : List Way = map (request_way h.port) (others s.fixed h.node Server) in
@@ -220,7 +220,7 @@ closing_told s node h [] = refl
 closing_told s node h (w ∷ left) = refl
 
 pub checking_told : (s : State) (node : ℕ) (h : Handle) (hinted : Bool) (left : List Way)
-    → told s node (checking h hinted left) ≡ Answer (list_any (λ w. is_shown h hinted (s.naming w)) left)
+    → told s node (checking h hinted left) ≡ Answer (list_any (λ w. is_shown h hinted (s.request_state w)) left)
 checking_told s node h hinted [] = refl
 checking_told s node h hinted (w ∷ left) = refl
 

@@ -4,9 +4,9 @@ use Rattle.std.specs.List.{list_any}
 use Rattle.std.proofs.Common.{sym, ap, ap₂, ◌∙◌, true≢false, arith}
 use Rattle.iox_model.specs.declared.way.Way.{Way}
 use Rattle.iox_model.specs.Maps.{is_empty, first_of, rest_of, same_way, has_way, without_way}
-use Rattle.iox_weaves.proofs.MapLemmas.{either, same_way-true, same_way-flip}
-use Rattle.iox_weaves.proofs.WholeLemmas.{some-is}
-use Rattle.iox_ledger.proofs.Truths.{by_cases, none-some, or-left, or-right, or-rest, both_true, second-fails}
+use Rattle.iox_weave_laws.proofs.MapLemmas.{either, same_way-true, same_way-flip}
+use Rattle.iox_weave_laws.proofs.WholeLemmas.{some-is}
+use Rattle.iox_weave_ledger.proofs.Truths.{by_cases, none-some, or-left, or-right, or-rest, both_true, second-fails}
 
 -- ---- truths
 

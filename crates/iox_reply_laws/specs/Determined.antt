@@ -1,4 +1,5 @@
--- From one state a call has one reply, whatever it leaves open: its lane, the order of its visits.
+-- From one state a call has only one reply, whatever lane it takes and in whatever order it visits
+-- its ways.
 use Rattle.std.specs.Prelude.{◌≡◌, ℕ, Bool, true, false, Option, None, ◌⊎◌}
 use Rattle.iox_types.specs.declared.identifiers.system_id.UniqueSystemId.{UniqueSystemId}
 use Rattle.iox_model.specs.declared.call.Call.TheVariants.{Read}
@@ -15,12 +16,12 @@ use Rattle.iox_model.specs.Services.{IsCommand}
 use Rattle.iox_model.specs.States.{State}
 use Rattle.iox_model.specs.Weaves.{World}
 use Rattle.iox_model.specs.WholeCalls.{IsDone}
-use Rattle.iox_reachable.specs.Worlds.{IsReachable}
+use Rattle.iox_weave_worlds.specs.Worlds.{IsReachable}
 
 -- ---- where memory is there
 
--- A call is made twice from one state, each time by a choice and by moments of its own: it has the
--- same reply.
+-- A call that is made twice from one reachable state, with any choices and moments, has the same
+-- reply.
 abbrev pub CallsHaveOneReply : Type 0
 CallsHaveOneReply =
     (s t u : State) (node : ℕ) (call : Call) (a b : Reply) → IsReachableState s
@@ -28,36 +29,37 @@ CallsHaveOneReply =
     → (one : IsDone s node call a t) (other : IsDone s node call b u)
     → (one.0).memory ≡ true → (other.0).memory ≡ true → a ≡ b
 
--- So has the making of a port,
+-- The making of a port, made twice from one state, has the same reply.
 abbrev pub MakingsHaveOneReply : Type 0
 MakingsHaveOneReply =
     (s t u : State) (node : ℕ) (role : Role) (id : UniqueSystemId) (o : Options) (a b : Reply)
     → (one : IsMaking s node role id o a t) (other : IsMaking s node role id o b u)
     → one.0 ≡ true → other.0 ≡ true → a ≡ b
 
--- and a node that joins, with the same refusal of its types and attributes.
+-- A join, made twice from one state with the same test of types and attributes, has the same reply.
 abbrev pub JoinsHaveOneReply : Type 0
 JoinsHaveOneReply =
     (s t u : State) (id : UniqueSystemId) (asked : Option Refusal) (a b : Reply)
     → (one : IsOpening s id asked a t) (other : IsOpening s id asked b u)
     → one.0 ≡ true → other.0 ≡ true → a ≡ b
 
--- On a wire, too, a call that nobody disturbs has one reply, from each world in which its node is
--- at rest.
+-- On a wire, a call with no beats of other nodes in between has only one reply, from each reachable
+-- world in which its node is between calls.
 abbrev pub WireCallsHaveOneReply : Type 0
 WireCallsHaveOneReply =
     (w : World) (t u : State) (node : ℕ) (call : Call) (a b : Reply) → IsReachable w
     → w.doing node ≡ None → misnamed w.state.fixed node call ≡ None
     → IsDone w.state node call a t → IsDone w.state node call b u → a ≡ b
 
--- ---- where it may be wanting
+-- ---- where memory may be missing
 
--- loans take memory, and words that are handed out
+-- whether a call takes memory: a loan, or a read
 abbrev pub takes_memory : Call → Bool
 takes_memory (Read n) = true
 takes_memory call = lends_lane call
 
--- A call that takes memory may tell that it is wanting in place of that reply. No other one does.
+-- Without memory, a call that takes some may be refused by `WantOfMemory` in place of that reply.
+-- Any other call has that reply.
 abbrev pub OnlyWantIsToldInstead : Type 0
 OnlyWantIsToldInstead =
     (s t u : State) (node : ℕ) (call : Call) (a b : Reply) → IsReachableState s
@@ -65,24 +67,27 @@ OnlyWantIsToldInstead =
     → (one : IsDone s node call a t) (other : IsDone s node call b u)
     → (one.0).memory ≡ true → (b ≡ a) ⊎ ((takes_memory call ≡ true) × (b ≡ Refused WantOfMemory))
 
--- ---- commands, whose replies tell it
+-- ---- commands
 
+-- the replies that say that there was no memory
 abbrev pub tells_want : Reply → Bool
 tells_want (Refused WantOfMemory) = true
 tells_want (Refused UnableToCreateDataSegment) = true
 tells_want reply = false
 
--- the same, unless one of them tells of want of memory
+-- the replies are the same, unless one of them says that there was no memory
 abbrev pub AreOne : Reply → Reply → Type 0
 AreOne a b = tells_want a ≡ false → tells_want b ≡ false → a ≡ b
 
--- What a hub is asked has one reply,
+-- A hub's command, made twice from one reachable state, has the same reply, unless memory was
+-- missing.
 abbrev pub HubCommandsHaveOneReply : Type 0
 HubCommandsHaveOneReply =
     (s t u : State) (node : ℕ) (command : HubCommand) (a b : Reply) → IsReachableState s
     → IsHubCommand s node command a t → IsHubCommand s node command b u → AreOne a b
 
--- and so has what a service is asked.
+-- A service's command, made twice from one reachable state, has the same reply, unless memory was
+-- missing.
 abbrev pub CommandsHaveOneReply : Type 0
 CommandsHaveOneReply =
     (s t u : State) (command : Command) (a b : Reply) → IsReachableState s

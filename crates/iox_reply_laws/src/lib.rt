@@ -1,6 +1,6 @@
-//! Replies are determined: from one state that a service and its hub come to, what is asked has one
-//! reply; so has a call on a wire that nobody disturbs. The functions have nothing to do: each is
-//! there for its contract.
+//! Replies are determined: in each reachable state of a service and its hub, and on a wire without
+//! other nodes' beats, a call has one reply.
+//! The functions have nothing to do: each is there for its contract.
 #![tactic(auto)]
 
 ghost use Rattle.iox_reply_laws.specs.Determined.{CallsHaveOneReply, WireCallsHaveOneReply};
@@ -9,9 +9,11 @@ ghost use Rattle.iox_reply_laws.specs.Determined.{MakingsHaveOneReply, JoinsHave
 ghost use Rattle.iox_reply_laws.specs.Determined.{OnlyWantIsToldInstead};
 ghost use Rattle.iox_reply_laws.specs.PlainReplies.{ReceivesAnswerPlainly, SendsAnswerPlainly};
 ghost use Rattle.iox_reply_laws.specs.PlainReplies.{OverflowingSendsAnswerPlainly};
+ghost use Rattle.iox_reply_laws.specs.PlainReplies.{ReachableStatesAreReady, CallsAnswerPlainly};
+ghost use Rattle.iox_reply_laws.specs.PlainReplies.{TakingCallsAnswerPlainly};
 
-/// Where memory is there, it changes nothing of a reply which lane a loan takes, which ways a call
-/// visits first, and which moments it makes. So on a wire, while no other node moves.
+/// Where memory is there, a reply does not depend on the lane of a loan, on the order of visits or
+/// on the moments. The same holds on a wire while no other node makes a beat.
 pub fn replies_are_determined()
     ensures calls { CallsHaveOneReply }
     ensures makings { MakingsHaveOneReply }
@@ -19,16 +21,20 @@ pub fn replies_are_determined()
     ensures wires { WireCallsHaveOneReply }
 {}
 
-/// Where memory may be wanting, that may be told in place of the one reply, and nothing else.
+/// Where memory may be missing, the reply is that one, or says that there was no memory.
 pub fn only_want_of_memory_is_told_instead()
     ensures calls { OnlyWantIsToldInstead }
     ensures of_ports { HubCommandsHaveOneReply }
     ensures of_services { CommandsHaveOneReply }
 {}
 
-/// The functions of lists that receive and send requests tell the reply of each such call.
+/// The functions of lists compute the reply of each call, and what they ask of a state holds between
+/// calls.
 pub fn plain_functions_tell_the_reply()
     ensures receives { ReceivesAnswerPlainly }
     ensures sends { SendsAnswerPlainly }
     ensures sends_over { OverflowingSendsAnswerPlainly }
+    ensures ready { ReachableStatesAreReady }
+    ensures calls { CallsAnswerPlainly }
+    ensures taking_calls { TakingCallsAnswerPlainly }
 {}

@@ -2,7 +2,7 @@
 use Rattle.std.proofs.Common.{◌≡◌, ℕ, zero, suc, ◌+◌, ◌<◌, Bool, true, false, cond, List, [], ◌∷◌, ◌||◌, nat_lt, count_by, map, All, length, get_or, set, refl, ap, ap₂, ◌∙◌, arith}
 use Rattle.std.specs.List.{list_any}
 use Rattle.std.proofs.lemmas.List.Elements.{All-head, All-tail}
-use Rattle.iox_run.specs.Machines.{Thing}
+use Rattle.iox_run.specs.ScriptStates.{Subject}
 use Rattle.iox_run.specs.Ports.{changed_at}
 use Rattle.std.proofs.lemmas.Bool.Decides.{nat_tests}
 use Rattle.std.proofs.lemmas.List.Sums.{sum_by-cons}
@@ -26,8 +26,8 @@ map-same f g P same (x ∷ xs) all =
     ap₂ (λ y ys. y ∷ ys) (same x (All-head P x xs all)) (map-same f g P same xs (All-tail P x xs all))
 
 -- a thing changed is another in its place
-pub changed_at-set : (change : Thing → Thing) (things : List Thing) (i : ℕ) (d : Thing) → i < length things
-    → changed_at i change things ≡ set things i (change (get_or things i d))
+pub changed_at-set : (change : Subject → Subject) (subjects : List Subject) (i : ℕ) (d : Subject) → i < length subjects
+    → changed_at i change subjects ≡ set subjects i (change (get_or subjects i d))
 changed_at-set change [] i d inside = absurd (omega arith)
-changed_at-set change (thing ∷ things) zero d inside = refl
-changed_at-set change (thing ∷ things) (suc i) d inside = ap (λ rest. thing ∷ rest) (changed_at-set change things i d (omega arith))
+changed_at-set change (subject ∷ subjects) zero d inside = refl
+changed_at-set change (subject ∷ subjects) (suc i) d inside = ap (λ rest. subject ∷ rest) (changed_at-set change subjects i d (omega arith))

@@ -5,8 +5,8 @@ use Rattle.std.proofs.lemmas.Bool.{false≢true}
 use Rattle.std.proofs.lemmas.List.Elements.{All-push, All-weaker, All-drop, All-nil, All-cons}
 use Rattle.iceoryx2_bb_lock_free.specs.BoundedQueues.{BoundedQueue, HasRoom, empty_queue, with_pushed, without_first}
 use Rattle.iox_run.specs.declared.hub.entry.RequestSlot.{RequestSlot}
-use Rattle.iox_run.specs.declared.hub.entry.Entry.{Entry}
-use Rattle.iox_run.specs.declared.hub.entry.Entry.TheVariants as entries
+use Rattle.iox_run.specs.declared.hub.entry.SubjectSlots.{SubjectSlots}
+use Rattle.iox_run.specs.declared.hub.entry.SubjectSlots.TheVariants as entries
 use Rattle.iox_run.specs.Limits.{max_active_requests, max_waiting_responses}
 use Rattle.iox_run.specs.Soundness.{request_slots, response_slots, queues, IsQueueOver, IsSoundEntry, IsSound}
 
@@ -20,21 +20,21 @@ IsQueueOver-pushed capacity n k q is over =
 pub IsQueueOver-popped : (capacity n : ℕ) (q : BoundedQueue) → IsQueueOver capacity n q → IsQueueOver capacity n (without_first q)
 IsQueueOver-popped capacity n q over = (over.0, over.1, All-drop (λ k. k < n) 1 q.waiting over.2)
 
-pub IsSoundEntry-more : (n n' m m' : ℕ) (e : Entry) → n ≤ n' → m ≤ m' → IsSoundEntry n m e → IsSoundEntry n' m' e
+pub IsSoundEntry-more : (n n' m m' : ℕ) (e : SubjectSlots) → n ≤ n' → m ≤ m' → IsSoundEntry n m e → IsSoundEntry n' m' e
 IsSoundEntry-more n n' m m' e ns ms sound = (
   All-weaker (λ k. k < n) (λ k. k < n') (λ k below. omega arith) (request_slots e) sound.0,
   All-weaker (λ k. k < m) (λ k. k < m') (λ k below. omega arith) (response_slots e) sound.1,
   All-weaker (IsQueueOver max_waiting_responses m) (IsQueueOver max_waiting_responses m') (λ q. IsQueueOver-more max_waiting_responses m m' q ms) (queues e) sound.2,
 )
 
-pub entries-more : (n n' m m' : ℕ) (es : List Entry) → n ≤ n' → m ≤ m' → All (IsSoundEntry n m) es → All (IsSoundEntry n' m') es
+pub entries-more : (n n' m m' : ℕ) (es : List SubjectSlots) → n ≤ n' → m ≤ m' → All (IsSoundEntry n m) es → All (IsSoundEntry n' m') es
 entries-more n n' m m' es ns ms = All-weaker (IsSoundEntry n m) (IsSoundEntry n' m') (λ e. IsSoundEntry-more n n' m m' e ns ms) es
 
 pub requests-more : (n m : ℕ) (rs : List RequestSlot) → n ≤ m → All (λ (r : RequestSlot). r.pending < n) rs → All (λ (r : RequestSlot). r.pending < m) rs
 requests-more n m rs more = All-weaker (λ (r : RequestSlot). r.pending < n) (λ (r : RequestSlot). r.pending < m) (λ r below. omega arith) rs
 
 -- one more entry
-pub IsSound-entry : (es : List Entry) (rs : List RequestSlot) (q : BoundedQueue) (ps : List (List ℕ)) (e : Entry) → IsSound es rs q ps → IsSoundEntry (length rs) (length ps) e
+pub IsSound-entry : (es : List SubjectSlots) (rs : List RequestSlot) (q : BoundedQueue) (ps : List (List ℕ)) (e : SubjectSlots) → IsSound es rs q ps → IsSoundEntry (length rs) (length ps) e
     → IsSound (es ++ e ∷ []) rs q ps
 IsSound-entry es rs q ps e sound here = (
   All-push (IsSoundEntry (length rs) (length ps)) es e sound.0 here,
@@ -48,7 +48,7 @@ length-push xs x = length-append xs (x ∷ [])
 pub All-one : {X : Type 0} (P : X → Type 0) (x : X) → P x → All P (x ∷ [])
 All-one P x here = All-cons P x [] here (All-nil P)
 
-pub IsSound-same : (es es' : List Entry) (rs rs' : List RequestSlot) (q : BoundedQueue) (ps ps' : List (List ℕ)) → es' ≡ es → rs' ≡ rs → ps' ≡ ps
+pub IsSound-same : (es es' : List SubjectSlots) (rs rs' : List RequestSlot) (q : BoundedQueue) (ps ps' : List (List ℕ)) → es' ≡ es → rs' ≡ rs → ps' ≡ ps
     → IsSound es rs q ps → IsSound es' rs' q ps'
 IsSound-same es es' rs rs' q ps ps' e r p sound = rw (e, r, p) sound
 
@@ -61,7 +61,7 @@ new_pending n m node = (
 )
 
 -- one more request, with its entry, and the queue with it or without
-pub IsSound-request : (es : List Entry) (rs : List RequestSlot) (q q' : BoundedQueue) (ps : List (List ℕ)) (node : ℕ) (r : RequestSlot) → IsSound es rs q ps
+pub IsSound-request : (es : List SubjectSlots) (rs : List RequestSlot) (q q' : BoundedQueue) (ps : List (List ℕ)) (node : ℕ) (r : RequestSlot) → IsSound es rs q ps
     → r.pending ≡ length es → IsQueueOver max_active_requests (length rs + 1) q'
     → IsSound (es ++ entries.PendingResponse node (length rs) (empty_queue max_waiting_responses) ∷ []) (rs ++ r ∷ []) q' ps
 IsSound-request es rs q q' ps node r sound is over =
@@ -77,7 +77,7 @@ IsSound-request es rs q q' ps node r sound is over =
     )
 
 -- the same, of lists and a slot that are so
-pub IsSound-started : (es es₀ es' : List Entry) (rs rs' : List RequestSlot) (q q₀ q' : BoundedQueue) (ps : List (List ℕ)) (node k : ℕ) (r : RequestSlot)
+pub IsSound-started : (es es₀ es' : List SubjectSlots) (rs rs' : List RequestSlot) (q q₀ q' : BoundedQueue) (ps : List (List ℕ)) (node k : ℕ) (r : RequestSlot)
     → IsSound es rs q ps → r.pending ≡ length es → k ≡ length rs → q₀ ≡ empty_queue max_waiting_responses
     → es₀ ≡ es → es' ≡ es₀ ++ entries.PendingResponse node k q₀ ∷ [] → rs' ≡ rs ++ r ∷ []
     → IsQueueOver max_active_requests (length rs + 1) q' → IsSound es' rs' q' ps
@@ -91,7 +91,7 @@ queue-took capacity n q q' true k over few free room pushed = pushed
 queue-took capacity n q q' false k over few free room pushed = absurd (false≢true (room.1 (omega (arith, over.0), omega (arith, over.1))))
 
 -- the entry at a place names slots that there are
-pub entry-sound : (es : List Entry) (rs : List RequestSlot) (q : BoundedQueue) (ps : List (List ℕ)) (i : ℕ) (e e' : Entry) → IsSound es rs q ps → i < length es → e ≡ get_or es i e → e ≡ e'
+pub entry-sound : (es : List SubjectSlots) (rs : List RequestSlot) (q : BoundedQueue) (ps : List (List ℕ)) (i : ℕ) (e e' : SubjectSlots) → IsSound es rs q ps → i < length es → e ≡ get_or es i e → e ≡ e'
     → IsSoundEntry (length rs) (length ps) e'
 entry-sound es rs q ps i e e' sound inside is here = rw (sym here, is) (sound.0 i e inside)
 
@@ -109,7 +109,7 @@ pub response-sound : (n m node pending k : ℕ) → k < m → IsSoundEntry n m (
 response-sound n m node pending k below = (All-nil (λ j. j < n), All-one (λ j. j < m) k below, All-nil (IsQueueOver max_waiting_responses m))
 
 -- an entry was pushed, or there was no memory for it
-pub IsSound-pushed : (es es' : List Entry) (rs : List RequestSlot) (q : BoundedQueue) (ps : List (List ℕ)) (e : Entry) (b : Bool) → IsSound es rs q ps → IsSoundEntry (length rs) (length ps) e
+pub IsSound-pushed : (es es' : List SubjectSlots) (rs : List RequestSlot) (q : BoundedQueue) (ps : List (List ℕ)) (e : SubjectSlots) (b : Bool) → IsSound es rs q ps → IsSoundEntry (length rs) (length ps) e
     → es' ≡ (if b then es ++ e ∷ [] else es) → IsSound es' rs q ps
 IsSound-pushed es es' rs q ps e true sound here is = rw is (IsSound-entry es rs q ps e sound here)
 IsSound-pushed es es' rs q ps e false sound here is = rw is sound
@@ -119,7 +119,7 @@ first-below n k [] all is = cc
 first-below n k (x ∷ xs) all is = let here : k ≡ x = cc in rw here (all 0 0 (omega arith))
 
 -- the oldest request went over to an entry
-pub IsSound-received : (es es₀ es' : List Entry) (rs : List RequestSlot) (q q' : BoundedQueue) (ps : List (List ℕ)) (e : Entry) → IsSound es rs q ps → IsSoundEntry (length rs) (length ps) e
+pub IsSound-received : (es es₀ es' : List SubjectSlots) (rs : List RequestSlot) (q q' : BoundedQueue) (ps : List (List ℕ)) (e : SubjectSlots) → IsSound es rs q ps → IsSoundEntry (length rs) (length ps) e
     → q' ≡ without_first q → es₀ ≡ es → es' ≡ es₀ ++ e ∷ [] → IsSound es' rs q' ps
 IsSound-received es es₀ es' rs q q' ps e sound here left reserved is =
     let more = IsSound-entry es rs q ps e sound here in

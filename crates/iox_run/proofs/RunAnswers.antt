@@ -3,30 +3,30 @@ use Rattle.std.proofs.Common.{◌≡◌, ℕ, ◌+◌, ◌-◌, List, [], ◌∷
 use Rattle.std.proofs.lemmas.Bool.{cases_lt}
 use Rattle.std.proofs.lemmas.List.{map-append, length-map, length-take, take_all, take_at, take-append-le, nil_from_length}
 use Rattle.std.proofs.Math.Seq.{take-append-add}
-use Rattle.iox_script.specs.declared.command.Cause.{Cause}
-use Rattle.iox_script.specs.declared.command.Command.{Command}
-use Rattle.iox_script.specs.Lines.{ended_lines, rest_of, line_of_rest, lines_of}
+use Rattle.iox_script.specs.declared.command.LineCause.{LineCause}
+use Rattle.iox_script.specs.declared.command.ScriptCommand.{ScriptCommand}
+use Rattle.iox_script.specs.Lines.{ended_lines, rest_of}
 use Rattle.iox_script.specs.Grammar.{meaning}
 use Rattle.iox_script.proofs.LineLemmas.{ended_lines-append, meaning-take}
-use Rattle.iox_run.specs.Machines.{Machine, new_machine}
-use Rattle.iox_run.specs.Answers.{replies_to, answer_text, answer_texts, text_of_lines, text_of}
+use Rattle.iox_run.specs.ScriptStates.{ScriptState, new_machine}
+use Rattle.iox_run.specs.Answers.{replies_to, answer_text, answer_texts, text_of_lines}
 use Rattle.iox_run.specs.Runs.{IsBeginningOf}
 use Rattle.iox_run.specs.Standings.{answer_to, after_line, after_lines, kept}
 
 -- the reply to the first line, and then those to the others
-pub replies_to-cons : (m : Machine) (said : Result Command Cause) (rest : List (Result Command Cause))
+pub replies_to-cons : (m : ScriptState) (said : Result ScriptCommand LineCause) (rest : List (Result ScriptCommand LineCause))
     → replies_to m (said ∷ rest) ≡ answer_to m said ∷ replies_to (after_line m said) rest
 replies_to-cons m (Ok command) rest = refl
 replies_to-cons m (Err cause) rest = refl
 
 -- what lines leave, one after another
-pub after_lines-append : (m : Machine) (a b : List (Result Command Cause))
+pub after_lines-append : (m : ScriptState) (a b : List (Result ScriptCommand LineCause))
     → after_lines m (a ++ b) ≡ after_lines (after_lines m a) b
 after_lines-append m [] b = refl
 after_lines-append m (said ∷ a) b = after_lines-append (after_line m said) a b
 
 -- the answers to lines, one after another
-pub answer_texts-append : (number : ℕ) (m : Machine) (a b : List (Result Command Cause))
+pub answer_texts-append : (number : ℕ) (m : ScriptState) (a b : List (Result ScriptCommand LineCause))
     → answer_texts number (replies_to m (a ++ b))
     ≡ answer_texts number (replies_to m a) ++ answer_texts (number + length a) (replies_to (after_lines m a) b)
 answer_texts-append number m [] b =
@@ -76,28 +76,20 @@ after_lines-push lines line =
     ap (after_lines new_machine) (map-append meaning lines (line ∷ []))
     ∙ after_lines-append new_machine (map meaning lines) (meaning line ∷ [])
 
--- the lines that have ended stand at the front of the lines of a script that goes on
-pub lines_of-append : (a b : List ℕ)
-    → lines_of (a ++ b) ≡ ended_lines a ++ (ended_lines (rest_of a ++ b) ++ line_of_rest (rest_of (a ++ b)))
-lines_of-append a b =
-    let behind = line_of_rest (rest_of (a ++ b)) in
-    ap (λ lines. lines ++ behind) (ended_lines-append a b)
-    ∙ append_assoc (ended_lines a) (ended_lines (rest_of a ++ b)) behind
-
--- their answers are a beginning of its text
-pub ended_answers_begin : (a b : List ℕ) → IsBeginningOf (text_of_lines (ended_lines a)) (text_of (a ++ b))
+-- the answers to the lines that have ended are a beginning of those to the ended lines of a script that goes on
+pub ended_answers_begin : (a b : List ℕ)
+    → IsBeginningOf (text_of_lines (ended_lines a)) (text_of_lines (ended_lines (a ++ b)))
 ended_answers_begin a b = (
   _,
-  ap text_of_lines (lines_of-append a b)
-      ∙ text_of_lines-append (ended_lines a) (ended_lines (rest_of a ++ b) ++ line_of_rest (rest_of (a ++ b))),
+  ap text_of_lines (ended_lines-append a b) ∙ text_of_lines-append (ended_lines a) (ended_lines (rest_of a ++ b)),
 )
 
 -- and they are the answers to its first lines
 pub ended_answers_are_first : (a b : List ℕ)
-    → text_of_lines (ended_lines a) ≡ text_of_lines (take (length (ended_lines a)) (lines_of (a ++ b)))
+    → text_of_lines (ended_lines a) ≡ text_of_lines (take (length (ended_lines a)) (ended_lines (a ++ b)))
 ended_answers_are_first a b =
     let n = length (ended_lines a) in
-    ap text_of_lines (sym (ap (take n) (lines_of-append a b) ∙ take_at (ended_lines a) _ n refl))
+    ap text_of_lines (sym (ap (take n) (ended_lines-append a b) ∙ take_at (ended_lines a) _ n refl))
 
 -- a line says what its kept bytes say
 pub meaning-kept : (line : List ℕ) → meaning (kept line) ≡ meaning line

@@ -1,12 +1,12 @@
 -- What was sent, where a run ends or stops.
-use Rattle.std.proofs.Common.{◌≡◌, ◌≢◌, ℕ, List, [], ◌∷◌, ◌++◌, length, take, Result, Ok, Err, refl, sym, ap, subst, ◌∙◌, append_assoc, append-nil, arith}
+use Rattle.std.proofs.Common.{◌≡◌, ◌≢◌, ℕ, List, [], ◌∷◌, ◌++◌, length, take, Result, Ok, Err, inr, refl, sym, ap, subst, ◌∙◌, append_assoc, append-nil, arith}
 use Rattle.iox_script.specs.Lines.{ended_lines, rest_of, line_of_rest, lines_of}
 use Rattle.iox_script.proofs.LineLemmas.{lines_of-ended, ended_lines-append_line}
 use Rattle.iox_run.specs.declared.fault.Fault.{Fault}
 use Rattle.iox_run.specs.declared.fault.Fault.TheVariants.{WantOfMemory, Write}
 use Rattle.iox_run.specs.declared.run.player.Player.{Player}
 use Rattle.iox_run.specs.Answers.{text_of_lines, text_of}
-use Rattle.iox_run.specs.Runs.{IsBeginningOf, Answers}
+use Rattle.iox_run.specs.Runs.{IsBeginningOf, Stops}
 use Rattle.iox_run.specs.Standings.{kept, Stands, Goes, SendsAll, Finishes}
 use Rattle.iox_run.proofs.RunAnswers.{ended_answers_begin, ended_answers_are_first, nil_from_kept, kept-nil}
 
@@ -23,20 +23,21 @@ IsBeginningOf-append sent more waits text begins whole = (
 -- a write failed after a beginning of what waits
 pub write_failed : (script rest whole sent more : List ℕ) (player : Player) → script ++ rest ≡ whole
     → Stands script sent player → IsBeginningOf more player.answers.items
-    → Answers {E = Unit {0}} (Err Write) whole (sent ++ more)
+    → Stops Write whole (sent ++ more)
 write_failed script rest whole sent more player is stands begins =
-    let all : IsBeginningOf (sent ++ player.answers.items) (text_of whole) =
-    subst (λ t. IsBeginningOf t (text_of whole)) (sym stands.answers) (subst (λ s. IsBeginningOf (text_of_lines (ended_lines script)) (text_of s)) is (ended_answers_begin script rest)) in
-    IsBeginningOf-append sent more player.answers.items (text_of whole) begins all
+    let text : List ℕ = text_of_lines (ended_lines whole) in
+    let all : IsBeginningOf (sent ++ player.answers.items) text =
+    subst (λ t. IsBeginningOf t text) (sym stands.answers) (subst (λ s. IsBeginningOf (text_of_lines (ended_lines script)) (text_of_lines (ended_lines s))) is (ended_answers_begin script rest)) in
+    IsBeginningOf-append sent more player.answers.items text begins all
 
 -- memory ran out after all that waits was sent
 pub memory_ran_out : (script rest whole sent more : List ℕ) (player : Player) → script ++ rest ≡ whole
     → Stands script sent player → more ≡ player.answers.items
-    → Answers {E = Unit {0}} (Err WantOfMemory) whole (sent ++ more)
+    → Stops WantOfMemory whole (sent ++ more)
 memory_ran_out script rest whole sent more player is stands all = (
   length (ended_lines script),
   ap (λ t. sent ++ t) all ∙ stands.answers ∙ ended_answers_are_first script rest
-      ∙ ap (λ s. text_of_lines (take (length (ended_lines script)) (lines_of s))) is,
+      ∙ ap (λ s. text_of_lines (take (length (ended_lines script)) (ended_lines s))) is,
 )
 
 -- all is answered of a script whose last line has ended
@@ -72,7 +73,9 @@ pub Finishes-sent : (player : Player) (last : List ℕ) (result : Result (Unit {
     → ((script sent : List ℕ) → Stands script sent player → sent ++ last ≡ text_of script)
     → SendsAll last result more
     → Finishes player result more
-Finishes-sent player last (Ok _) more text all script sent stands none short = (short, ap (λ t. sent ++ t) all ∙ text script sent stands)
-Finishes-sent player last (Err fault) more text all script sent stands none short =
-    subst (λ f. Answers {E = Unit {0}} (Err f) script (sent ++ more)) (sym all.0)
-    (IsBeginningOf-append sent more last (text_of script) all.1 ([], sym (text script sent stands) ∙ sym (append-nil (sent ++ last))))
+Finishes-sent player last (Ok _) more text all script sent stands none short reader end = (short, ap (λ t. sent ++ t) all ∙ text script sent stands)
+Finishes-sent player last (Err fault) more text all script sent stands none short reader end = inr (
+  end,
+  all.0,
+  IsBeginningOf-append sent more last (text_of script) all.1 ([], sym (text script sent stands) ∙ sym (append-nil (sent ++ last))),
+)

@@ -5,7 +5,7 @@ use Rattle.std.specs.Io.KnownBytes.{Appends}
 use Rattle.iox_run.specs.declared.fault.Fault.{Fault}
 use Rattle.iox_run.specs.declared.fault.Fault.TheVariants.{WantOfMemory, Write}
 use Rattle.iox_run.specs.declared.run.player.Player.{Player}
-use Rattle.iox_run.specs.Runs.{IsBeginningOf, Answers}
+use Rattle.iox_run.specs.Runs.{IsBeginningOf, Stops}
 use Rattle.iox_run.specs.Standings.{Goes, IsSent, TakesUpTo, Sends, SendsAll, Waits, PlaysOn}
 use Rattle.iox_run.proofs.RunSteps.{Goes-nil, Goes-trans, Goes-sent}
 use Rattle.iox_run.proofs.RunFaults.{write_failed, memory_ran_out}
@@ -61,8 +61,8 @@ Playing-failed writer writer' writer'' bytes rest waits a b c fault playing same
   λ script sent stands.
       let stands' = playing.goes script sent stands in
       let whole = append_assoc script playing.front rest ∙ ap (λ t. script ++ t) (sym playing.cut) in
-      subst (λ f. Answers {E = Unit {0}} (Err f) (script ++ bytes) (sent ++ (playing.more ++ sends.0))) (sym sends.2.0)
-      (subst (Answers {E = Unit {0}} (Err Write) (script ++ bytes)) (append_assoc sent playing.more sends.0)
+      subst (λ f. Stops f (script ++ bytes) (sent ++ (playing.more ++ sends.0))) (sym sends.2.0)
+      (subst (Stops Write (script ++ bytes)) (append_assoc sent playing.more sends.0)
       (write_failed (script ++ playing.front) rest (script ++ bytes) (sent ++ playing.more) sends.0 b whole stands' (subst (IsBeginningOf sends.0) same sends.2.1))),
 )
 
@@ -77,7 +77,7 @@ Playing-stopped writer writer' writer'' bytes rest waits a b c playing same send
   λ script sent stands.
       let stands' = playing.goes script sent stands in
       let whole = append_assoc script playing.front rest ∙ ap (λ t. script ++ t) (sym playing.cut) in
-      subst (Answers {E = Unit {0}} (Err WantOfMemory) (script ++ bytes)) (append_assoc sent playing.more sends.0)
+      subst (Stops WantOfMemory (script ++ bytes)) (append_assoc sent playing.more sends.0)
       (memory_ran_out (script ++ playing.front) rest (script ++ bytes) (sent ++ playing.more) sends.0 b whole stands' (sends.2 ∙ same)),
 )
 

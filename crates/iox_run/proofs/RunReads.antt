@@ -1,17 +1,17 @@
 -- A run, read after read.
-use Rattle.std.proofs.Common.{◌≡◌, ℕ, ◌+◌, ◌-◌, ◌^◌, ◌<◌, ◌≤◌, List, [], ◌++◌, length, take, Option, Result, Ok, Err, refl, sym, ap, subst, ◌∙◌, append-nil, length-append, arith}
+use Rattle.std.proofs.Common.{◌≡◌, ℕ, ◌+◌, ◌-◌, ◌^◌, ◌<◌, ◌≤◌, List, [], ◌++◌, length, take, Option, Result, Ok, Err, inl, refl, sym, ap, subst, ◌∙◌, append-nil, length-append, arith}
 use Rattle.std.proofs.Math.Seq.{take-append-add}
 use Rattle.std.proofs.lemmas.List.{length-take}
 use Rattle.std.proofs.lemmas.List.Splits.{length-slice_split}
 use Rattle.std.proofs.lemmas.List.Sums.{count_by-le-length}
 use Rattle.std.proofs.KnownBytes.{Appends-nil, Appends-trans, Consumes-nil, Consumes-trans}
-use Rattle.std.specs.Io.KnownBytes.{Appends, Consumes}
+use Rattle.std.specs.Io.KnownBytes.{Appends, Consumes, IsAtEnd}
 use Rattle.iox_script.specs.Lines.{is_line_feed, pieces_of, ended_lines}
 use Rattle.iox_run.specs.declared.fault.Fault.{Fault}
 use Rattle.iox_run.specs.declared.fault.Fault.TheVariants.{WantOfMemory}
 use Rattle.iox_run.specs.declared.run.player.Player.{Player}
 use Rattle.iox_run.specs.Answers.{text_of_lines}
-use Rattle.iox_run.specs.Runs.{Answers, Plays, max_script}
+use Rattle.iox_run.specs.Runs.{Stops, Plays, max_script}
 use Rattle.iox_run.specs.Standings.{ReadsWithin, Stands, IsSent, Sends, PlaysOn, Finishes}
 
 -- A script was taken from the reader, which may give so many bytes more, and all its answers so far went to the writer.
@@ -72,7 +72,7 @@ Plays-stopped reader reader' reader'' writer writer' writer'' room bytes a b fau
   running.sent ++ sends.0,
   Consumes-trans reader reader' reader'' running.script bytes running.came came,
   Appends-trans writer writer' writer'' running.sent sends.0 running.went sends.1,
-  sends.2 running.script running.sent running.stands,
+  inl (sends.2 running.script running.sent running.stands),
 )
 
 -- a read failed, or gave a byte too many
@@ -90,22 +90,22 @@ Plays-cut reader reader' reader'' writer writer' room player fault chunk running
       running.sent,
       Consumes-trans reader reader' reader'' running.script more running.came fails.1.1,
       running.went,
-      subst (λ f. Answers {E = Unit {0}} (Err f) (running.script ++ more) running.sent) (sym fails.0) (all ∙ ap (λ s. text_of_lines (ended_lines s)) (sym front)),
+      inl (subst (λ f. Stops f (running.script ++ more) running.sent) (sym fails.0) (all ∙ ap (λ s. text_of_lines (ended_lines s)) (sym front))),
     )
 
 -- the script ended
 pub Plays-finished : (reader reader' reader'' writer writer' writer'' : Option (List ℕ)) (room : ℕ) (player : Player) (result : Result (Unit {0}) Fault)
-    → Running reader reader' writer writer' room player → Consumes reader' reader'' []
+    → Running reader reader' writer writer' room player → Consumes reader' reader'' [] → IsAtEnd reader''
     → Sends writer' writer'' (Finishes player result) → Plays reader reader'' writer writer'' result
-Plays-finished reader reader' reader'' writer writer' writer'' room player result running came sends = (
+Plays-finished reader reader' reader'' writer writer' writer'' room player result running came end sends = (
   running.script,
   running.sent ++ sends.0,
   subst (Consumes reader reader'') (append-nil running.script) (Consumes-trans reader reader' reader'' running.script [] running.came came),
   Appends-trans writer writer' writer'' running.sent sends.0 running.went sends.1,
-  sends.2 running.script running.sent running.stands running.none (omega (arith, running.within)),
+  sends.2 running.script running.sent running.stands running.none (omega (arith, running.within)) reader'' end,
 )
 
 -- there was no memory to begin with
 pub Plays-nothing : (reader writer : Option (List ℕ))
     → Plays {E = Unit {0}} reader reader writer writer (Err WantOfMemory)
-Plays-nothing reader writer = ([], [], Consumes-nil reader, Appends-nil writer, (0, refl))
+Plays-nothing reader writer = ([], [], Consumes-nil reader, Appends-nil writer, inl (0, refl))

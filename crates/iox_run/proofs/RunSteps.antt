@@ -1,13 +1,13 @@
 -- Where a player stands after each kind of step.
 use Rattle.std.proofs.Common.{◌≡◌, ℕ, ◌+◌, ◌-◌, List, [], ◌∷◌, ◌++◌, map, length, take, Result, sym, ap, ap₂, subst, ◌∙◌, append_assoc, append-nil}
 use Rattle.std.proofs.lemmas.List.{length_push}
-use Rattle.iox_script.specs.declared.command.Cause.{Cause}
-use Rattle.iox_script.specs.declared.command.Command.{Command}
+use Rattle.iox_script.specs.declared.command.LineCause.{LineCause}
+use Rattle.iox_script.specs.declared.command.ScriptCommand.{ScriptCommand}
 use Rattle.iox_script.specs.Lines.{ended_lines, rest_of}
 use Rattle.iox_script.specs.Grammar.{meaning}
 use Rattle.iox_script.proofs.LineLemmas.{ended_lines-append_none, rest_of-append_none, ended_lines-append_line, rest_of-append_line}
 use Rattle.iox_run.specs.declared.run.player.Player.{Player}
-use Rattle.iox_run.specs.Machines.{new_machine}
+use Rattle.iox_run.specs.ScriptStates.{new_machine}
 use Rattle.iox_run.specs.Answers.{answer_text, text_of_lines}
 use Rattle.iox_run.specs.Cuts.{HasNoLineFeed}
 use Rattle.iox_run.specs.Standings.{answer_to, after_line, after_lines, kept, Stands, Goes, IsSent, Waits}
@@ -72,7 +72,7 @@ said_from_kept script sent bytes line player stands grown =
     ∙ ap meaning (sym (kept-append (rest_of script) bytes) ∙ ap (λ front. front ++ take (65537 - length front) bytes) (sym stands.line) ∙ sym grown)
 
 -- a line feed ends a line that says so
-pub Goes-line : (bytes : List ℕ) (said : Result Command Cause) (a b : Player) → HasNoLineFeed bytes
+pub Goes-line : (bytes : List ℕ) (said : Result ScriptCommand LineCause) (a b : Player) → HasNoLineFeed bytes
     → ((script sent : List ℕ) → Stands script sent a → meaning (rest_of script ++ bytes) ≡ said)
     → b.session ≡ after_line a.session said → b.count ≡ a.count + 1 → b.line.items ≡ []
     → b.answers.items ≡ a.answers.items ++ answer_text (a.count + 1) (answer_to a.session said)

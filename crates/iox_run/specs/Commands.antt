@@ -1,99 +1,124 @@
--- What each command is answered, and what it leaves.
-use Rattle.std.specs.Prelude.{ℕ, not, ◌||◌, [], ◌∷◌, ◌++◌, length, nat_lt, count_by, Option, Some, None, Result, Ok, Err}
+-- What each command is answered, and the state that it leaves.
+use Rattle.std.specs.Prelude.{ℕ, Bool, not, ◌||◌, ◌&&◌, [], ◌∷◌, ◌++◌, length, nat_lt, count_by, Option, Some, None, Result, Ok, Err}
 use Rattle.std.specs.List.{list_any}
-use Rattle.iox_script.specs.declared.command.NodeId.{NodeId}
+use Rattle.std.specs.Option.{is_none}
+use Rattle.iox_types.specs.declared.identifiers.system_id.UniqueSystemId.{UniqueSystemId}
+use Rattle.iox_types.specs.Identifiers.{is_node_id}
+use Rattle.iox_model.specs.declared.command.Command.TheVariants.{Join, Port}
+use Rattle.iox_model.specs.declared.command.PortCommand.TheVariants as port_commands
+use Rattle.iox_model.specs.declared.reply.Reply.TheVariants.{Done, Node, Words}
+use Rattle.iox_model.specs.declared.reply.Reply.TheVariants as replies
+use Rattle.iox_model.specs.declared.reply.Refusal.TheVariants.{InvalidNodeId, NodeIdInUse, ExceedsMaxNumberOfNodes, UnknownNode, UnableToCreateDataSegment, ExceedsMaxSupportedClients, ExceedsMaxSupportedServers}
 use Rattle.iox_script.specs.declared.command.Key.{Key}
 use Rattle.iox_script.specs.declared.command.Key.TheVariants.{RequestOverflow, ResponseOverflow}
-use Rattle.iox_script.specs.declared.command.Command.{Command}
-use Rattle.iox_script.specs.declared.command.Command.TheVariants as commands
-use Rattle.iox_script.specs.declared.reply.Reply.{Reply}
-use Rattle.iox_script.specs.declared.reply.Reply.TheVariants.{Done, Node, Words, Refused}
-use Rattle.iox_script.specs.declared.reply.Reply.TheVariants as replies
-use Rattle.iox_script.specs.declared.reply.Refusal.{Refusal}
-use Rattle.iox_script.specs.declared.reply.Refusal.TheVariants.{ServiceExists, NoService, Unsupported, ExceedsMaximumLength, InvalidContent, InvalidNodeId, NodeIdInUse, ExceedsMaxNumberOfNodes, UnknownNode, UnableToCreateDataSegment, ExceedsMaxSupportedClients, ExceedsMaxSupportedServers}
-use Rattle.iox_run.specs.Machines.{Machine, Service, Client, Server}
-use Rattle.iox_run.specs.Limits.{max_nodes, max_clients, max_servers, client_pool, server_pool, request_header, response_header, has_region, is_node_id, is_same_id, is_short_name, is_name_content}
-use Rattle.iox_run.specs.Steps.{◌>>=◌, unless}
-use Rattle.iox_run.specs.Ports.{owned, with_thing, sent, received}
-use Rattle.iox_run.specs.Things.{is_client, is_server, words_in}
+use Rattle.iox_script.specs.declared.command.ScriptCommand.{ScriptCommand}
+use Rattle.iox_script.specs.declared.command.ScriptCommand.TheVariants as commands
+use Rattle.iox_script.specs.declared.reply.ScriptReply.{ScriptReply}
+use Rattle.iox_script.specs.declared.reply.ScriptReply.TheVariants as answers
+use Rattle.iox_script.specs.declared.reply.ScriptRefusal.TheVariants.{ServiceExists, NoService, Unsupported, ExceedsMaximumLength, InvalidContent}
+use Rattle.iox_script.specs.Commands.{Options, ServiceCommand, ServiceReply}
+use Rattle.iox_run.specs.declared.refusal.Refusal.{Refusal}
+use Rattle.iox_run.specs.declared.refusal.Refusal.TheVariants.{ByScript, ByService}
+use Rattle.iox_run.specs.ScriptStates.{ScriptState, ServiceState, Client, Server}
+use Rattle.iox_run.specs.Limits.{max_nodes, max_clients, max_servers, client_pool, server_pool, request_header, response_header, has_region, is_same_id, is_short_name, is_name_content}
+use Rattle.iox_run.specs.Checks.{◌>>=◌, unless}
+use Rattle.iox_run.specs.Ports.{owned, with_subject, sent, received}
+use Rattle.iox_run.specs.Subjects.{is_client, is_server, words_in}
 
--- a setting changed: 0 is off
-abbrev pub with_setting : Machine → Key → ℕ → Machine
+-- the state with a setting changed; 0 switches it off
+abbrev pub with_setting : ScriptState → Key → ℕ → ScriptState
 with_setting m RequestOverflow value = record m { request_overflow = nat_lt 0 value }
 with_setting m ResponseOverflow value = record m { response_overflow = nat_lt 0 value }
 
--- a service with its first node
-abbrev pub service_of : NodeId → Service
-service_of id = record { nodes = id ∷ []; things = []; requests = [] }
+-- a new service: its first node, with this id, and nothing else
+abbrev pub service_of : UniqueSystemId → ServiceState
+service_of id = record { nodes = id ∷ []; subjects = []; requests = [] }
 
--- before the service is created
-abbrev pub prepared : Machine → Command → Result (Reply × Machine) Refusal
+-- what a command does before the service is created
+abbrev pub prepared : ScriptState → ScriptCommand → Result (ServiceReply × ScriptState) Refusal
 prepared m (commands.Set key value) = Ok (Done, with_setting m key value)
 prepared m (commands.Create name id) = do
-  _ ← unless (not (m.request_overflow || m.response_overflow)) Unsupported
-  _ ← unless (is_short_name name) ExceedsMaximumLength
-  _ ← unless (is_name_content name) InvalidContent
-  _ ← unless (is_node_id id) InvalidNodeId
+  _ ← unless (not (m.request_overflow || m.response_overflow)) (ByScript Unsupported)
+  _ ← unless (is_short_name name) (ByScript ExceedsMaximumLength)
+  _ ← unless (is_name_content name) (ByScript InvalidContent)
+  _ ← unless (is_node_id id) (ByService InvalidNodeId)
   Ok (Node 0, record m { service = Some (service_of id) })
-prepared m _ = Err NoService
+prepared m (commands.Service command) = Err (ByScript NoService)
 
--- once it is created
-abbrev pub served : Service → Command → Result (Reply × Service) Refusal
-served s (commands.Set key value) = Err ServiceExists
-served s (commands.Create name id) = Err ServiceExists
-served s (commands.Open id) = do
-  _ ← unless (is_node_id id) InvalidNodeId
-  _ ← unless (not (list_any (is_same_id id) s.nodes)) NodeIdInUse
-  _ ← unless (nat_lt (length s.nodes) max_nodes) ExceedsMaxNumberOfNodes
+-- whether nothing but the greatest length of a message is chosen for a port; other options are not
+-- supported
+abbrev pub is_plain : Options → Bool
+is_plain o = is_none o.pool && is_none o.strategy && is_none o.allocation && is_none o.loaned_responses
+
+-- what the service does for each of its commands; commands not listed are refused as unsupported
+abbrev pub served : ServiceState → ServiceCommand → Result (ServiceReply × ServiceState) Refusal
+served s (Join id asked) = do
+  _ ← unless (is_node_id id) (ByService InvalidNodeId)
+  _ ← unless (not (list_any (is_same_id id) s.nodes)) (ByService NodeIdInUse)
+  _ ← unless (nat_lt (length s.nodes) max_nodes) (ByService ExceedsMaxNumberOfNodes)
   Ok (Node (length s.nodes), record s { nodes = s.nodes ++ id ∷ [] })
-served s (commands.Client node limit) = do
-  _ ← unless (nat_lt node (length s.nodes)) UnknownNode
-  _ ← unless (has_region request_header client_pool limit) UnableToCreateDataSegment
-  _ ← unless (nat_lt (count_by is_client s.things) max_clients) ExceedsMaxSupportedClients
-  Ok (replies.Client (length s.things), with_thing s (Client node limit))
-served s (commands.Server node limit) = do
-  _ ← unless (nat_lt node (length s.nodes)) UnknownNode
-  _ ← unless (has_region response_header server_pool limit) UnableToCreateDataSegment
-  _ ← unless (nat_lt (count_by is_server s.things) max_servers) ExceedsMaxSupportedServers
-  Ok (replies.Server (length s.things), with_thing s (Server node limit))
-served s (commands.SendCopy node number words) = do
-  thing ← owned s node number
-  sent s thing words
-served s (commands.Receive node number) = do
-  thing ← owned s node number
-  received s number thing
-served s (commands.Read node number) = do
-  thing ← owned s node number
-  words ← words_in thing
+served s (Port (port_commands.Client node id options)) = do
+  _ ← unless (is_plain options) (ByScript Unsupported)
+  _ ← unless (nat_lt node (length s.nodes)) (ByService UnknownNode)
+  _ ← unless (has_region request_header client_pool options.max_slice_len) (ByService UnableToCreateDataSegment)
+  _ ← unless (nat_lt (count_by is_client s.subjects) max_clients) (ByService ExceedsMaxSupportedClients)
+  Ok (replies.Client (length s.subjects), with_subject s (Client node options.max_slice_len))
+served s (Port (port_commands.Server node id options)) = do
+  _ ← unless (is_plain options) (ByScript Unsupported)
+  _ ← unless (nat_lt node (length s.nodes)) (ByService UnknownNode)
+  _ ← unless (has_region response_header server_pool options.max_slice_len) (ByService UnableToCreateDataSegment)
+  _ ← unless (nat_lt (count_by is_server s.subjects) max_servers) (ByService ExceedsMaxSupportedServers)
+  Ok (replies.Server (length s.subjects), with_subject s (Server node options.max_slice_len))
+served s (Port (port_commands.SendCopy node number words)) = do
+  subject ← owned s node number
+  sent s subject words
+served s (Port (port_commands.Receive node number)) = do
+  subject ← owned s node number
+  received s number subject
+served s (Port (port_commands.Read node number)) = do
+  subject ← owned s node number
+  words ← words_in subject
   Ok (Words words, s)
+served s _ = Err (ByScript Unsupported)
 
--- a machine whose service went on
-abbrev pub in_machine : Machine → Result (Reply × Service) Refusal
-    → Result (Reply × Machine) Refusal
+-- the outcome with the service put back into the script's state
+abbrev pub in_machine : ScriptState → Result (ServiceReply × ServiceState) Refusal
+    → Result (ServiceReply × ScriptState) Refusal
 in_machine m outcome = do
   x ← outcome
   Ok (x.0, record m { service = Some x.1 })
 
--- a command's answer and what it leaves, or the first refusal
-abbrev pub outcome_with : Machine → Option Service → Command → Result (Reply × Machine) Refusal
+-- a command's answer and the state that it leaves, or the first refusal, where the service is this
+-- or none
+abbrev pub outcome_with : ScriptState → Option ServiceState → ScriptCommand
+    → Result (ServiceReply × ScriptState) Refusal
 outcome_with m None command = prepared m command
-outcome_with m (Some s) command = in_machine m (served s command)
+outcome_with m (Some s) (commands.Service command) = in_machine m (served s command)
+outcome_with m (Some s) _ = Err (ByScript ServiceExists)
 
-abbrev pub outcome_of : Machine → Command → Result (Reply × Machine) Refusal
+-- a command's answer and the state that it leaves, or the first refusal
+abbrev pub outcome_of : ScriptState → ScriptCommand → Result (ServiceReply × ScriptState) Refusal
 outcome_of m command = outcome_with m m.service command
 
--- the reply to a command
-abbrev pub reply_in : {M : Type 0} → Result (Reply × M) Refusal → Reply
-reply_in (Ok (reply, after)) = reply
-reply_in (Err refusal) = Refused refusal
+-- the answer that names a refusal
+abbrev pub refused : Refusal → ScriptReply
+refused (ByScript refusal) = answers.Refused refusal
+refused (ByService refusal) = answers.Service (replies.Refused refusal)
 
-abbrev pub reply_to : Machine → Command → Reply
+-- the reply to a command of this outcome
+abbrev pub reply_in : {M : Type 0} → Result (ServiceReply × M) Refusal → ScriptReply
+reply_in (Ok (reply, after)) = answers.Service reply
+reply_in (Err refusal) = refused refusal
+
+-- the reply to a command in this state
+abbrev pub reply_to : ScriptState → ScriptCommand → ScriptReply
 reply_to m command = reply_in (outcome_of m command)
 
--- what a command leaves: where it is refused, all as it was
-abbrev pub left_in : {M : Type 0} → M → Result (Reply × M) Refusal → M
+-- the state that a command of this outcome leaves; after a refusal it is unchanged
+abbrev pub left_in : {M : Type 0} → M → Result (ServiceReply × M) Refusal → M
 left_in before (Ok (reply, after)) = after
 left_in before (Err refusal) = before
 
-abbrev pub after : Machine → Command → Machine
+-- the state that a command leaves; after a refusal it is unchanged
+abbrev pub after : ScriptState → ScriptCommand → ScriptState
 after m command = left_in m (outcome_of m command)

@@ -1,4 +1,4 @@
--- For proofs of this crate alone: where the first line of some bytes ends.
+-- Only for proofs of this crate: where the first line of some bytes ends.
 use Rattle.std.specs.Prelude.{◌≡◌, ℕ, false, All, List, ◌∷◌, ◌++◌}
 use Rattle.iox_script.specs.Lines.{is_line_feed}
 

@@ -1,14 +1,15 @@
--- In reading order: the machine that copies messages, its limits, what each command does to it, the
--- answers to a script, and what a run reads and writes.
-pub mod Machines
+-- In reading order: the state, its limits, what each command does, the answers to a script, what
+-- the program reads and writes, and its exit status.
+pub mod ScriptStates
 pub mod Limits
-pub mod Steps
-pub mod Things
+pub mod Checks
+pub mod Subjects
 pub mod Ports
 pub mod Commands
 pub mod Answers
 pub mod Runs
--- for proofs of this crate alone
+pub mod Statuses
+-- only for proofs of this crate
 pub mod Outcomes
 pub mod Slots
 pub mod Soundness

@@ -1,27 +1,28 @@
--- For proofs of this crate alone: where a player stands in a script, and what each of its calls does.
+-- Only for proofs of this crate: how far a player is in a script, and what each of its calls does.
 use Rattle.std.specs.Prelude.{◌≡◌, ℕ, ◌+◌, ◌≤◌, List, [], ◌∷◌, ◌++◌, length, take, map, Option, Result, Ok, Err}
 use Rattle.std.specs.Io.KnownBytes.{Appends, Consumes, IsAtEnd}
-use Rattle.iox_script.specs.declared.command.Cause.{Cause}
-use Rattle.iox_script.specs.declared.command.Command.{Command}
-use Rattle.iox_script.specs.declared.reply.Reply.{Reply}
+use Rattle.iox_script.specs.declared.command.LineCause.{LineCause}
+use Rattle.iox_script.specs.declared.command.ScriptCommand.{ScriptCommand}
+use Rattle.iox_script.specs.declared.reply.ScriptReply.{ScriptReply}
 use Rattle.iox_script.specs.Lines.{ended_lines, rest_of}
 use Rattle.iox_script.specs.Grammar.{max_line, meaning}
 use Rattle.iox_run.specs.declared.fault.Fault.{Fault}
 use Rattle.iox_run.specs.declared.fault.Fault.TheVariants.{Read, Write}
 use Rattle.iox_run.specs.declared.run.player.Player.{Player}
-use Rattle.iox_run.specs.Machines.{Machine, new_machine}
+use Rattle.iox_run.specs.ScriptStates.{ScriptState, new_machine}
 use Rattle.iox_run.specs.Commands.{reply_to, after}
 use Rattle.iox_run.specs.Answers.{text_of_lines}
-use Rattle.iox_run.specs.Runs.{IsBeginningOf, Answers, max_script}
+use Rattle.iox_run.specs.Runs.{IsBeginningOf, Stops, Answers, max_script}
 
--- So many bytes came, as many as there was room for at most, and none only at the end.
+-- A read gave `n` bytes: at most as many as there was room for, and none only at the end.
 pub record Comes (room : ℕ) (reader reader' : Option (List ℕ)) (n : ℕ) (chunk : List ℕ) : Type 0 where
   pub within : n ≤ length chunk
   pub room_left : n ≤ room
   pub bytes : Consumes reader reader' (take n chunk)
   pub end : n ≡ 0 → IsAtEnd reader'
 
--- One read of at most so many bytes; where it failed, or a byte too many came, none of what came counts.
+-- One read of at most `room` bytes; if it failed, or one byte too many came, none of its bytes
+-- count.
 abbrev pub ReadsWithin : ℕ → (reader reader' : Option (List ℕ)) → Result ℕ Fault → List ℕ → Type 0
 ReadsWithin room reader reader' (Ok n) chunk = Comes room reader reader' n chunk
 ReadsWithin room reader reader' (Err fault) chunk =
@@ -31,38 +32,38 @@ ReadsWithin room reader reader' (Err fault) chunk =
 abbrev pub Sends : (writer writer' : Option (List ℕ)) → (List ℕ → Type 0) → Type 0
 Sends writer writer' P = (more : List ℕ) × Appends writer writer' more × P more
 
--- all the bytes went out, or a beginning of them
+-- all the bytes were written, or a beginning of them
 abbrev pub SendsAll : List ℕ → Result (Unit {0}) Fault → List ℕ → Type 0
 SendsAll bytes (Ok _) more = more ≡ bytes
 SendsAll bytes (Err fault) more = (fault ≡ Write) × IsBeginningOf more bytes
 
 -- the answer to what a line says
-abbrev pub answer_to : Machine → Result Command Cause → Result Reply Cause
+abbrev pub answer_to : ScriptState → Result ScriptCommand LineCause → Result ScriptReply LineCause
 answer_to m (Ok command) = Ok (reply_to m command)
 answer_to m (Err cause) = Err cause
 
--- what the line leaves
-abbrev pub after_line : Machine → Result Command Cause → Machine
+-- the state that a line leaves
+abbrev pub after_line : ScriptState → Result ScriptCommand LineCause → ScriptState
 after_line m (Ok command) = after m command
 after_line m (Err cause) = m
 
--- what lines leave
-abbrev pub after_lines : Machine → List (Result Command Cause) → Machine
+-- the state that these lines leave
+abbrev pub after_lines : ScriptState → List (Result ScriptCommand LineCause) → ScriptState
 after_lines m [] = m
 after_lines m (said ∷ rest) = after_lines (after_line m said) rest
 
--- the bytes of a line that are kept: they tell what it says
+-- the bytes of a line that are kept: enough to know what the line says
 unfoldable pub kept : List ℕ → List ℕ
 kept line = take (max_line + 1) line
 
--- Where the player stands when this much of a script has come and these answers were sent.
+-- How far the player is once it has read this much of a script and sent these answers.
 pub record Stands (script sent : List ℕ) (player : Player) : Type 0 where
   pub session : player.session ≡ after_lines new_machine (map meaning (ended_lines script))
   pub count : player.count ≡ length (ended_lines script)
   pub line : player.line.items ≡ kept (rest_of script)
   pub answers : sent ++ player.answers.items ≡ text_of_lines (ended_lines script)
 
--- The player took these bytes, and these answers were sent.
+-- The player took these further bytes, and sent these further answers.
 abbrev pub Goes : (bytes more : List ℕ) → (player player' : Player) → Type 0
 Goes bytes more player player' = (script sent : List ℕ) → Stands script sent player → Stands (script ++ bytes) (sent ++ more) player'
 
@@ -74,19 +75,20 @@ IsSent player = player.answers.items ≡ []
 abbrev pub TakesUpTo : (rest bytes : List ℕ) → (player player' : Player) → Type 0
 TakesUpTo rest bytes player player' = (front : List ℕ) × (bytes ≡ front ++ rest) × Goes front [] player player'
 
--- all but the answers stayed as it was
+-- nothing changed but the answers
 pub record Waits (player player' : Player) : Type 0 where
   pub session : player'.session ≡ player.session
   pub count : player'.count ≡ player.count
   pub line : player'.line.items ≡ player.line.items
 
--- the bytes were played, or the answers up to the fault are as they should be
+-- the bytes were played; or a fault came, and what was sent is as `Stops` says
 abbrev pub PlaysOn : List ℕ → (player player' : Player) → Result (Unit {0}) Fault → List ℕ → Type 0
 PlaysOn bytes player player' (Ok _) more = Goes bytes more player player' × IsSent player'
 PlaysOn bytes player player' (Err fault) more =
-    (script sent : List ℕ) → Stands script sent player → Answers {E = Unit {0}} (Err fault) (script ++ bytes) (sent ++ more)
+    (script sent : List ℕ) → Stands script sent player → Stops fault (script ++ bytes) (sent ++ more)
 
--- the script ended there, and all is answered
+-- the reader is at its end, and the whole script is answered
 abbrev pub Finishes : Player → Result (Unit {0}) Fault → List ℕ → Type 0
 Finishes player result more =
-    (script sent : List ℕ) → Stands script sent player → IsSent player → length script ≤ max_script → Answers result script (sent ++ more)
+    (script sent : List ℕ) → Stands script sent player → IsSent player → length script ≤ max_script
+    → (reader : Option (List ℕ)) → IsAtEnd reader → Answers reader result script (sent ++ more)

@@ -3,12 +3,16 @@ ghost use Rattle.std.specs.Prelude.{◌≡◌, ◌<◌, length};
 ghost use Rattle.iox_run.specs.Soundness.{IsSound};
 
 use crate::limits::MAX_ACTIVE_REQUESTS;
+use crate::refusal::Refusal;
 use crate::registry::Registry;
-use entry::{Entry, RequestSlot};
+use entry::{RequestSlot, SubjectSlots};
 use failure::Failure;
 use iceoryx2_bb_lock_free::spsc::index_queue::IndexQueue;
-use iox_script::{Command, NodeId, Payload, Refusal, Reply};
+use iox_model::command::{Command, PortCommand};
+use iox_script::{Payload, ScriptRefusal, ServiceCommand, ServiceRefusal, ServiceReply};
+use iox_types::identifiers::UniqueSystemId;
 use std::alloc::{AllocError, Global};
+use std::convert::Infallible;
 
 mod entry;
 pub mod failure;
@@ -19,12 +23,13 @@ mod send;
 
 /// A service with one client and one server.
 ///
-/// A message stays in the slot of its sender. Queues and handles name slots, and nothing is released.
+/// A message stays in the slot of its sender. Queues and handles name slots, and no slot is ever
+/// released.
 #[derive(Drop)]
 pub struct Hub {
     registry: Registry,
     // Ports and handles, by their numbers.
-    entries: Vec<Entry>,
+    entries: Vec<SubjectSlots>,
     // The client's slots, and the queue of those that wait for the server.
     requests: Vec<RequestSlot>,
     waiting: IndexQueue,
@@ -36,13 +41,14 @@ pub struct Hub {
 impl Hub {
     ghost use Rattle.std.specs.Prelude.{IfOk, IfErr, Err, count_by};
     ghost use Rattle.std.specs.List.{list_any};
+    ghost use Rattle.iox_model.specs.declared.command.Command.TheVariants.{Port};
     ghost use Rattle.iox_run.specs.Commands.{service_of};
     ghost use Rattle.iox_run.specs.Ports.{owned};
-    ghost use Rattle.iox_run.specs.Things.{is_client, is_server, is_pending, is_active, is_response_to};
+    ghost use Rattle.iox_run.specs.Subjects.{is_client, is_server, is_pending, is_active, is_response_to};
     ghost use Rattle.iox_run.specs.Hubs.{Owns, Serves, service_in};
 
     /// The service with its first node.
-    pub fn new(alloc: Global, id: NodeId) -> Result<Hub, AllocError>
+    pub fn new(alloc: Global, id: UniqueSystemId) -> Result<Hub, AllocError>
         ensures { IfOk result (λ hub. service_in hub ≡ service_of id) }
     {
         let registry = Registry::new(alloc, id)?;
@@ -56,24 +62,41 @@ impl Hub {
         })
     }
 
-    /// Does a command, once the service is created.
-    pub fn serve(&mut self, alloc: Global, command: Command) -> Result<Reply, Failure>
+    /// Does a command.
+    pub fn serve(&mut self, alloc: Global, command: ServiceCommand) -> Result<ServiceReply, Failure>
         ensures { Serves self.old command result self.new }
     {
         match command {
-            Command::Set(_, _) => Err(Failure::Refused(Refusal::ServiceExists)),
-            Command::Create(_, _) => Err(Failure::Refused(Refusal::ServiceExists)),
-            Command::Open(id) => self.open(id),
-            Command::Client(node, limit) => self.make_client(node, limit),
-            Command::Server(node, limit) => self.make_server(node, limit),
-            Command::SendCopy(node, number, words) => self.send_copy(alloc, node, number, words),
-            Command::Receive(node, number) => self.receive(node, number),
-            Command::Read(node, handle) => self.read(alloc, node, handle),
+            Command::Join { id, .. } => self.open(id),
+            Command::Port(command) => self.call(alloc, command),
+            _ => Err(Failure::from(ScriptRefusal::Unsupported)),
+        }
+    }
+
+    /// Does a command of a port or a handle.
+    fn call(
+        &mut self,
+        alloc: Global,
+        command: PortCommand<Payload, Infallible>,
+    ) -> Result<ServiceReply, Failure>
+        ensures { Serves self.old (Port command) result self.new }
+    {
+        match command {
+            PortCommand::Client { node, options, .. } => self.make_client(node, options),
+            PortCommand::Server { node, options, .. } => self.make_server(node, options),
+            PortCommand::SendCopy {
+                node,
+                number,
+                payload,
+            } => self.send_copy(alloc, node, number, payload),
+            PortCommand::Receive { node, number } => self.receive(node, number),
+            PortCommand::Read { node, number } => self.read(alloc, node, number),
+            _ => Err(Failure::from(ScriptRefusal::Unsupported)),
         }
     }
 
     fn clients(&self) -> usize
-        ensures { result ≡ count_by is_client (service_in self.now).things }
+        ensures { result ≡ count_by is_client (service_in self.now).subjects }
     {
         self.entries
             .iter()
@@ -82,7 +105,7 @@ impl Hub {
     }
 
     fn servers(&self) -> usize
-        ensures { result ≡ count_by is_server (service_in self.now).things }
+        ensures { result ≡ count_by is_server (service_in self.now).subjects }
     {
         self.entries
             .iter()
@@ -92,13 +115,13 @@ impl Hub {
 
     #[tactic(auto, using(crate::proofs::HubLists::counts))]
     fn has_server(&self) -> bool
-        ensures { result ≡ list_any is_server (service_in self.now).things }
+        ensures { result ≡ list_any is_server (service_in self.now).subjects }
     {
         self.servers() > 0
     }
 
     fn pending_responses(&self) -> usize
-        ensures { result ≡ count_by is_pending (service_in self.now).things }
+        ensures { result ≡ count_by is_pending (service_in self.now).subjects }
     {
         self.entries
             .iter()
@@ -107,7 +130,7 @@ impl Hub {
     }
 
     fn active_requests(&self) -> usize
-        ensures { result ≡ count_by is_active (service_in self.now).things }
+        ensures { result ≡ count_by is_active (service_in self.now).subjects }
     {
         self.entries
             .iter()
@@ -117,7 +140,7 @@ impl Hub {
 
     /// How many responses the pending response of that number has received.
     fn responses_to(&self, number: u64) -> usize
-        ensures { result ≡ count_by (is_response_to number) (service_in self.now).things }
+        ensures { result ≡ count_by (is_response_to number) (service_in self.now).subjects }
     {
         self.entries
             .iter()
@@ -132,14 +155,14 @@ impl Hub {
         ensures refused { IfErr result (λ refusal. owned (service_in self.now) node number ≡ Err refusal) }
     {
         if node >= self.registry.len() as u64 {
-            return Err(Refusal::UnknownNode);
+            return Err(Refusal::ByService(ServiceRefusal::UnknownNode));
         }
         if number >= self.entries.len() as u64 {
-            return Err(Refusal::UnknownNumber);
+            return Err(Refusal::ByService(ServiceRefusal::UnknownNumber));
         }
         let place = number as usize;
         if self.entries[place].owner() != node {
-            return Err(Refusal::ForeignNumber);
+            return Err(Refusal::ByService(ServiceRefusal::ForeignNumber));
         }
         Ok(place)
     }

@@ -1,9 +1,10 @@
-//! How many of everything there may be, and which names, ids and lengths there may be.
+//! How many nodes, ports and messages there may be, and which names, ids and lengths.
 ghost use Rattle.std.specs.Prelude.{◌≡◌, bytes_eq, codes, take};
 ghost use Rattle.std.specs.List.{list_all};
-ghost use Rattle.iox_run.specs.Limits.{has_region, is_name_byte, is_name_content, is_node_id, is_same_id, is_short_name};
+ghost use Rattle.iox_run.specs.Limits.{has_region, is_name_byte, is_name_content, is_same_id, is_short_name};
+ghost use Rattle.iox_types.specs.Identifiers.{is_node_id};
 
-use iox_script::NodeId;
+use iox_types::identifiers::UniqueSystemId;
 
 pub const MAX_NODES: usize = 2;
 
@@ -53,13 +54,13 @@ pub fn has_region(header: usize, pool: usize, len: u64) -> bool
 }
 
 /// Whether an id may be a node's.
-pub fn is_node_id(id: NodeId) -> bool
+pub fn is_node_id(id: UniqueSystemId) -> bool
     ensures { result ≡ is_node_id id }
 {
-    id.process != 0 || id.counter != 0
+    id.process > 0 || id.counter > 0
 }
 
-pub fn is_same_id(a: NodeId, b: NodeId) -> bool
+pub fn is_same_id(a: UniqueSystemId, b: UniqueSystemId) -> bool
     ensures { result ≡ is_same_id a b }
 {
     a.process == b.process

@@ -5,21 +5,22 @@ ghost use Rattle.iox_run.specs.Limits.{is_same_id};
 
 use crate::hub::failure::Failure;
 use crate::limits::{MAX_NODES, is_node_id, is_same_id};
-use iox_script::{NodeId, Refusal};
+use iox_script::ServiceRefusal;
+use iox_types::identifiers::UniqueSystemId;
 use std::alloc::{AllocError, Global};
 use std::marker::Model;
 
 /// The ids of the nodes that have joined, by their numbers.
 #[derive(Drop)]
 pub struct Registry {
-    ids: Vec<NodeId>,
+    ids: Vec<UniqueSystemId>,
 }
 
 impl Model for Registry {
     ghost use Rattle.std.specs.Prelude.{List};
-    ghost use Rattle.iox_script.specs.declared.command.NodeId.{NodeId};
+    ghost use Rattle.iox_types.specs.declared.identifiers.system_id.UniqueSystemId.{UniqueSystemId};
 
-    ghost Value = { List NodeId };
+    ghost Value = { List UniqueSystemId };
 
     ghost view = { λ r. r.ids.items };
 }
@@ -28,7 +29,7 @@ impl Registry {
     ghost use Rattle.iox_run.specs.Outcomes.{Leaves, joined};
 
     /// The registry with a first node.
-    pub fn new(alloc: Global, id: NodeId) -> Result<Registry, AllocError>
+    pub fn new(alloc: Global, id: UniqueSystemId) -> Result<Registry, AllocError>
         ensures { IfOk result (λ registry. registry ≡ id ∷ []) }
     {
         let mut ids = Vec::with_capacity(alloc, MAX_NODES)?;
@@ -43,25 +44,25 @@ impl Registry {
         self.ids.len()
     }
 
-    fn has(&self, id: NodeId) -> bool
+    fn has(&self, id: UniqueSystemId) -> bool
         ensures { result ≡ list_any (is_same_id id) self.now }
     {
         self.ids.iter().any(|joined| is_same_id(id, *joined))
     }
 
     /// Lets a node join, and answers its number.
-    pub fn join(&mut self, id: NodeId) -> Result<u64, Failure>
+    pub fn join(&mut self, id: UniqueSystemId) -> Result<u64, Failure>
         ensures { Leaves self.old (joined self.old id) result self.new }
     {
         if !is_node_id(id) {
-            return Err(Failure::Refused(Refusal::InvalidNodeId));
+            return Err(Failure::from(ServiceRefusal::InvalidNodeId));
         }
         if self.has(id) {
-            return Err(Failure::Refused(Refusal::NodeIdInUse));
+            return Err(Failure::from(ServiceRefusal::NodeIdInUse));
         }
         let number = self.ids.len();
         if number >= MAX_NODES {
-            return Err(Failure::Refused(Refusal::ExceedsMaxNumberOfNodes));
+            return Err(Failure::from(ServiceRefusal::ExceedsMaxNumberOfNodes));
         }
         self.ids.push(id)?;
         Ok(number as u64)

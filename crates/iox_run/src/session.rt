@@ -4,7 +4,11 @@ ghost use Rattle.std.specs.Prelude.{◌≡◌, IfOk, OnErr, OnOk};
 use crate::hub::Hub;
 use crate::hub::failure::Failure;
 use crate::limits::{is_name_content, is_node_id, is_short_name};
-use iox_script::{Command, Key, NodeId, Refusal, Reply, Text};
+use iox_model::reply::Reply;
+use iox_script::{
+    Key, ScriptCommand, ScriptRefusal, ScriptReply, ServiceRefusal, ServiceReply, Text,
+};
+use iox_types::identifiers::UniqueSystemId;
 use std::alloc::{AllocError, Global};
 use std::marker::Model;
 
@@ -20,9 +24,9 @@ pub struct Session {
 }
 
 impl Model for Session {
-    ghost use Rattle.iox_run.specs.Machines.{Machine};
+    ghost use Rattle.iox_run.specs.ScriptStates.{ScriptState};
 
-    ghost Value = { Machine };
+    ghost Value = { ScriptState };
 
     ghost use Rattle.std.specs.Prelude.{option_map};
     ghost use Rattle.iox_run.specs.Hubs.{service_in};
@@ -35,8 +39,8 @@ impl Model for Session {
 }
 
 impl Session {
-    ghost use Rattle.iox_script.specs.declared.command.Command.TheVariants as commands;
-    ghost use Rattle.iox_run.specs.Machines.{new_machine};
+    ghost use Rattle.iox_script.specs.declared.command.ScriptCommand.TheVariants as commands;
+    ghost use Rattle.iox_run.specs.ScriptStates.{new_machine};
     ghost use Rattle.iox_run.specs.Commands.{after, outcome_of, prepared, reply_to, with_setting};
     ghost use Rattle.iox_run.specs.Outcomes.{Leaves};
 
@@ -52,43 +56,41 @@ impl Session {
     }
 
     /// Plays a command. A command that is refused, or that finds no memory, changes nothing.
-    pub fn play(&mut self, alloc: Global, command: Command) -> Result<Reply, AllocError>
+    pub fn play(&mut self, alloc: Global, command: ScriptCommand) -> Result<ScriptReply, AllocError>
         ensures reply { IfOk result (λ reply. reply ≡ reply_to self.old command) }
         ensures after { OnOk result (self.new ≡ after self.old command) }
         ensures unchanged { OnErr result (self.new ≡ self.old) }
     {
         match self.outcome(alloc, command) {
-            Ok(reply) => Ok(reply),
-            Err(Failure::Refused(refusal)) => Ok(Reply::Refused(refusal)),
+            Ok(reply) => Ok(ScriptReply::Service(reply)),
+            Err(Failure::Refused(refusal)) => Ok(refusal.answer()),
             Err(Failure::WantOfMemory) => Err(AllocError),
         }
     }
 
-    fn outcome(&mut self, alloc: Global, command: Command) -> Result<Reply, Failure>
+    fn outcome(&mut self, alloc: Global, command: ScriptCommand) -> Result<ServiceReply, Failure>
         ensures { Leaves self.old (outcome_of self.old command) result self.new }
     {
         match &mut self.service {
-            Some(hub) => hub.serve(alloc, command),
+            Some(hub) => match command {
+                ScriptCommand::Service(command) => hub.serve(alloc, command),
+                _ => Err(Failure::from(ScriptRefusal::ServiceExists)),
+            },
             None => self.prepare(alloc, command),
         }
     }
 
     /// Does a command, before the service is created.
-    fn prepare(&mut self, alloc: Global, command: Command) -> Result<Reply, Failure>
+    fn prepare(&mut self, alloc: Global, command: ScriptCommand) -> Result<ServiceReply, Failure>
         ensures { Leaves self.old (prepared self.old command) result self.new }
     {
         match command {
-            Command::Set(key, value) => {
+            ScriptCommand::Set { key, value } => {
                 self.set(key, value);
                 Ok(Reply::Done)
             }
-            Command::Create(name, id) => self.create(alloc, name, id),
-            Command::Open(_) => Err(Failure::Refused(Refusal::NoService)),
-            Command::Client(_, _) => Err(Failure::Refused(Refusal::NoService)),
-            Command::Server(_, _) => Err(Failure::Refused(Refusal::NoService)),
-            Command::SendCopy(_, _, _) => Err(Failure::Refused(Refusal::NoService)),
-            Command::Receive(_, _) => Err(Failure::Refused(Refusal::NoService)),
-            Command::Read(_, _) => Err(Failure::Refused(Refusal::NoService)),
+            ScriptCommand::Create { name, id } => self.create(alloc, name, id),
+            ScriptCommand::Service(_) => Err(Failure::from(ScriptRefusal::NoService)),
         }
     }
 
@@ -103,20 +105,25 @@ impl Session {
     }
 
     /// Creates the service, with its first node.
-    fn create(&mut self, alloc: Global, name: Text, id: NodeId) -> Result<Reply, Failure>
+    fn create(
+        &mut self,
+        alloc: Global,
+        name: Text,
+        id: UniqueSystemId,
+    ) -> Result<ServiceReply, Failure>
         ensures { Leaves self.old (prepared self.old (commands.Create name id)) result self.new }
     {
         if self.request_overflow || self.response_overflow {
-            return Err(Failure::Refused(Refusal::Unsupported));
+            return Err(Failure::from(ScriptRefusal::Unsupported));
         }
         if !is_short_name(name.as_bytes()) {
-            return Err(Failure::Refused(Refusal::ExceedsMaximumLength));
+            return Err(Failure::from(ScriptRefusal::ExceedsMaximumLength));
         }
         if !is_name_content(name.as_bytes()) {
-            return Err(Failure::Refused(Refusal::InvalidContent));
+            return Err(Failure::from(ScriptRefusal::InvalidContent));
         }
         if !is_node_id(id) {
-            return Err(Failure::Refused(Refusal::InvalidNodeId));
+            return Err(Failure::from(ServiceRefusal::InvalidNodeId));
         }
         self.service = Some(Hub::new(alloc, id)?);
         Ok(Reply::Node(0))

@@ -5,12 +5,12 @@ use Rattle.std.specs.List.{list_all}
 use Rattle.std.specs.Str.Parse.{digits_value_after}
 use Rattle.std.proofs.lemmas.Bool.{cases_Bool, cond-false, ltb-false, lt-ltb, le-ltb, and_right}
 use Rattle.std.proofs.lemmas.Bool.Decides.{nat_tests}
-use Rattle.iox_script.specs.declared.command.Cause.{Cause}
-use Rattle.iox_script.specs.declared.command.Cause.TheVariants.{BadNumber}
+use Rattle.iox_script.specs.declared.command.LineCause.{LineCause}
+use Rattle.iox_script.specs.declared.command.LineCause.TheVariants.{BadNumber}
 use Rattle.iox_script.specs.Numerals.{is_digit, number_below}
 
 -- the number that further digits make of the number so far, if it is below the bound
-abbrev pub number_after : ℕ → ℕ → List ℕ → Result ℕ Cause
+abbrev pub number_after : ℕ → ℕ → List ℕ → Result ℕ LineCause
 number_after bound number rest =
     if list_all is_digit rest && nat_lt (digits_value_after 10 number rest) bound then Ok (digits_value_after 10 number rest) else Err BadNumber
 

@@ -1,28 +1,31 @@
 -- What a line says: a command, or the first cause against it.
 use Rattle.std.specs.Prelude.{ℕ, List, [], ◌∷◌, length, nat_lt, if◌then◌else◌, Option, Some, None, Result, Ok, Err}
+use Rattle.iox_types.specs.declared.identifiers.system_id.UniqueSystemId.{UniqueSystemId}
+use Rattle.iox_model.specs.declared.command.Command.TheVariants.{Join, Port}
+use Rattle.iox_model.specs.declared.command.PortCommand.TheVariants as port_commands
 use Rattle.iox_script.specs.Lines.{words_of}
 use Rattle.iox_script.specs.Names.{keyword_of, key_of}
 use Rattle.iox_script.specs.Numerals.{number_of, id_number_of, number_below, bytes_of}
-use Rattle.iox_script.specs.declared.command.NodeId.{NodeId}
-use Rattle.iox_script.specs.declared.command.Cause.{Cause}
-use Rattle.iox_script.specs.declared.command.Cause.TheVariants.{TooLong, UnknownCommand, WrongCount}
+use Rattle.iox_script.specs.declared.command.LineCause.{LineCause}
+use Rattle.iox_script.specs.declared.command.LineCause.TheVariants.{TooLong, UnknownCommand, WrongCount}
 use Rattle.iox_script.specs.declared.command.Keyword.{Keyword}
 use Rattle.iox_script.specs.declared.command.Keyword.TheVariants as keywords
-use Rattle.iox_script.specs.declared.command.Command.{Command}
-use Rattle.iox_script.specs.declared.command.Command.TheVariants as commands
+use Rattle.iox_script.specs.declared.command.ScriptCommand.{ScriptCommand}
+use Rattle.iox_script.specs.declared.command.ScriptCommand.TheVariants.{Set, Create, Service}
+use Rattle.iox_script.specs.Commands.{Options}
 
--- the second step, if the first gave a value: so the first bad word from the left is the cause
 infixl 10 ◌>>=◌
-abbrev pub ◌>>=◌ : {A B : Type 0} → Result A Cause → (A → Result B Cause) → Result B Cause
+-- the second step, if the first gave a value, so that the first bad word from the left is the cause
+abbrev pub ◌>>=◌ : {A B : Type 0} → Result A LineCause → (A → Result B LineCause) → Result B LineCause
 (Ok x) >>= f = f x
 (Err cause) >>= f = Err cause
 
 -- a setting's value: 0, until overflowing queues are supported
-abbrev pub value_of : List ℕ → Result ℕ Cause
+abbrev pub value_of : List ℕ → Result ℕ LineCause
 value_of word = number_below 1 word
 
 -- each word a number
-abbrev pub numbers_of : List (List ℕ) → Result (List ℕ) Cause
+abbrev pub numbers_of : List (List ℕ) → Result (List ℕ) LineCause
 numbers_of [] = Ok []
 numbers_of (word ∷ words) = do
   number ← number_of word
@@ -30,7 +33,7 @@ numbers_of (word ∷ words) = do
   Ok (number ∷ numbers)
 
 -- the four words of a node's id
-abbrev pub id_of : List ℕ → List ℕ → List ℕ → List ℕ → Result NodeId Cause
+abbrev pub id_of : List ℕ → List ℕ → List ℕ → List ℕ → Result UniqueSystemId LineCause
 id_of process seconds nanoseconds counter = do
   p ← id_number_of process
   s ← id_number_of seconds
@@ -38,57 +41,73 @@ id_of process seconds nanoseconds counter = do
   c ← id_number_of counter
   Ok (record { process = p; seconds = s; nanoseconds = n; counter = c })
 
+-- The id in the making of a port. Which one does not matter: a service gives a port the id with which
+-- its node joined.
+abbrev pub any_id : UniqueSystemId
+any_id = record { process = 1; seconds = 0; nanoseconds = 0; counter = 0 }
+
+-- what a port is made with: the greatest length of its messages, and nothing else
+abbrev pub options_of : ℕ → Options
+options_of limit = record {
+  max_slice_len = limit;
+  pool = None;
+  strategy = None;
+  allocation = None;
+  loaned_responses = None;
+  handler = None;
+}
+
 -- what a command's first word and the words behind it say
-abbrev pub command_of : Keyword → List (List ℕ) → Result Command Cause
+abbrev pub command_of : Keyword → List (List ℕ) → Result ScriptCommand LineCause
 -- set KEY VALUE
 command_of keywords.Set (key ∷ value ∷ []) = do
   k ← key_of key
   v ← value_of value
-  Ok (commands.Set k v)
+  Ok (Set k v)
 -- create NAME PROCESS SECONDS NANOSECONDS COUNTER
 command_of keywords.Create (name ∷ process ∷ seconds ∷ nanoseconds ∷ counter ∷ []) = do
   text ← bytes_of name
   id ← id_of process seconds nanoseconds counter
-  Ok (commands.Create text id)
+  Ok (Create text id)
 -- open PROCESS SECONDS NANOSECONDS COUNTER
 command_of keywords.Open (process ∷ seconds ∷ nanoseconds ∷ counter ∷ []) = do
   id ← id_of process seconds nanoseconds counter
-  Ok (commands.Open id)
+  Ok (Service (Join id tt))
 -- client NODE LIMIT
 command_of keywords.Client (node ∷ limit ∷ []) = do
   n ← number_of node
   l ← number_of limit
-  Ok (commands.Client n l)
+  Ok (Service (Port (port_commands.Client n any_id (options_of l))))
 -- server NODE LIMIT
 command_of keywords.Server (node ∷ limit ∷ []) = do
   n ← number_of node
   l ← number_of limit
-  Ok (commands.Server n l)
+  Ok (Service (Port (port_commands.Server n any_id (options_of l))))
 -- send-copy NODE NUMBER WORD..
 command_of keywords.SendCopy (node ∷ number ∷ words) = do
   n ← number_of node
   k ← number_of number
   ws ← numbers_of words
-  Ok (commands.SendCopy n k ws)
+  Ok (Service (Port (port_commands.SendCopy n k ws)))
 -- receive NODE NUMBER
 command_of keywords.Receive (node ∷ number ∷ []) = do
   n ← number_of node
   k ← number_of number
-  Ok (commands.Receive n k)
+  Ok (Service (Port (port_commands.Receive n k)))
 -- read NODE HANDLE
 command_of keywords.Read (node ∷ handle ∷ []) = do
   n ← number_of node
   k ← number_of handle
-  Ok (commands.Read n k)
+  Ok (Service (Port (port_commands.Read n k)))
 command_of _ _ = Err WrongCount
 
 -- what the words behind a command's name say, if it is one
-abbrev pub named : Option Keyword → List (List ℕ) → Result Command Cause
+abbrev pub named : Option Keyword → List (List ℕ) → Result ScriptCommand LineCause
 named None words = Err UnknownCommand
 named (Some keyword) words = command_of keyword words
 
 -- what the words of a line say, the first of them the command's name
-abbrev pub said_by : List (List ℕ) → Result Command Cause
+abbrev pub said_by : List (List ℕ) → Result ScriptCommand LineCause
 said_by [] = Err UnknownCommand
 said_by (name ∷ words) = named (keyword_of name) words
 
@@ -97,5 +116,5 @@ abbrev pub max_line : ℕ
 max_line = 65536
 
 -- what a line says
-abbrev pub meaning : List ℕ → Result Command Cause
+abbrev pub meaning : List ℕ → Result ScriptCommand LineCause
 meaning line = if nat_lt max_line (length line) then Err TooLong else said_by (words_of line)

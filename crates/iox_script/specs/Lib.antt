@@ -1,8 +1,9 @@
--- In reading order: what a line is, what its words are, what it says, what a parse may answer to it,
--- and the text of what is answered.
+-- In reading order: lines and their words, what a service may be asked, what a line says, what a
+-- parse may answer, and the text of an answer.
 pub mod Lines
 pub mod Numerals
 pub mod Names
+pub mod Commands
 pub mod Grammar
 pub mod Meanings
 pub mod Texts

@@ -1,11 +1,11 @@
 -- What a parse may answer to a line.
 use Rattle.std.specs.Prelude.{◌≡◌, Result, Ok, Err, IsOk}
-use Rattle.iox_script.specs.declared.command.Cause.{Cause}
+use Rattle.iox_script.specs.declared.command.LineCause.{LineCause}
 use Rattle.iox_script.specs.declared.parser.ParseError.{ParseError}
 use Rattle.iox_script.specs.declared.parser.ParseError.TheVariants.{Bad, WantOfMemory}
 
 -- A parse gives what the line says. Memory runs out only for a line that says a command.
-abbrev pub IsMeaning : {A : Type 0} → Result A ParseError → Result A Cause → Type 0
+abbrev pub IsMeaning : {A : Type 0} → Result A ParseError → Result A LineCause → Type 0
 IsMeaning (Ok command) said = said ≡ Ok command
 IsMeaning (Err (Bad cause)) said = said ≡ Err cause
 IsMeaning (Err WantOfMemory) said = IsOk said

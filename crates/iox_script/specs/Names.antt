@@ -2,8 +2,8 @@
 use Rattle.std.specs.Prelude.{ℕ, List, if◌then◌else◌, codes, bytes_eq, Option, Some, None, Result, Ok, Err}
 use Rattle.iox_script.specs.declared.command.Key.{Key}
 use Rattle.iox_script.specs.declared.command.Key.TheVariants.{RequestOverflow, ResponseOverflow}
-use Rattle.iox_script.specs.declared.command.Cause.{Cause}
-use Rattle.iox_script.specs.declared.command.Cause.TheVariants.{BadText}
+use Rattle.iox_script.specs.declared.command.LineCause.{LineCause}
+use Rattle.iox_script.specs.declared.command.LineCause.TheVariants.{BadText}
 use Rattle.iox_script.specs.declared.command.Keyword.{Keyword}
 use Rattle.iox_script.specs.declared.command.Keyword.TheVariants as keywords
 
@@ -21,7 +21,7 @@ keyword_of word =
     else None
 
 -- the settings by their names
-abbrev pub key_of : List ℕ → Result Key Cause
+abbrev pub key_of : List ℕ → Result Key LineCause
 key_of word =
     if bytes_eq word (codes "request-overflow") then Ok RequestOverflow
     else if bytes_eq word (codes "response-overflow") then Ok ResponseOverflow

@@ -1,10 +1,13 @@
 //! What a line of a script says.
 
 use crate::payload::{Payload, Text};
+use iox_model::command::Command;
+use iox_types::identifiers::UniqueSystemId;
+use std::convert::Infallible;
 
 /// Why a line is no command, in the order in which lines are tested.
 #[derive(Clone, Copy, Debug, PartialEq, Eq)]
-pub enum Cause {
+pub enum LineCause {
     /// The line has more than 65,536 bytes.
     TooLong,
     /// The first word names no command.
@@ -39,32 +42,17 @@ pub enum Key {
     ResponseOverflow,
 }
 
-/// The four numbers that tell one node from all others.
-#[derive(Clone, Copy, Debug, PartialEq, Eq)]
-pub struct NodeId {
-    pub process: u32,
-    pub seconds: u32,
-    pub nanoseconds: u32,
-    pub counter: u32,
-}
+/// A command of the service. No script sets a backpressure handler, and its openers require nothing
+/// of types and attributes.
+pub type ServiceCommand = Command<Payload, Infallible, ()>;
 
 /// A command, with its words read.
 #[derive(Debug, Drop)]
-pub enum Command {
+pub enum ScriptCommand {
     /// Changes a setting.
-    Set(Key, u64),
+    Set { key: Key, value: u64 },
     /// Creates the service of that name, with its first node.
-    Create(Text, NodeId),
-    /// Lets a further node join.
-    Open(NodeId),
-    /// Makes a client for a node, with the greatest length of its requests.
-    Client(u64, u64),
-    /// Makes a server for a node, with the greatest length of its responses.
-    Server(u64, u64),
-    /// Sends the words: through a client a request, through an active request its response.
-    SendCopy(u64, u64, Payload),
-    /// Receives: at a server a request, at a pending response its response.
-    Receive(u64, u64),
-    /// Shows the words of a handle's message.
-    Read(u64, u64),
+    Create { name: Text, id: UniqueSystemId },
+    /// Is for the service.
+    Service(ServiceCommand),
 }

@@ -8,11 +8,8 @@ mod payload;
 mod print;
 mod reply;
 
-pub use command::{Cause, Command, Key, Keyword, NodeId};
+pub use command::{Key, Keyword, LineCause, ScriptCommand, ServiceCommand};
 pub use parser::{ParseError, parse};
 pub use payload::{Payload, Text};
 pub use print::{push_bad_line, push_reply};
-pub use reply::{Refusal, Reply};
-
-#[cfg(test)]
-mod tests;
+pub use reply::{ScriptRefusal, ScriptReply, ServiceRefusal, ServiceReply};

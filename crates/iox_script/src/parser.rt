@@ -8,54 +8,69 @@ mod numerals;
 mod texts;
 mod words;
 
-use crate::command::{Cause, Command, Keyword};
+use crate::command::{Keyword, LineCause, ScriptCommand};
 use commands::{client, create, open, read, receive, send_copy, server, set};
 use names::keyword;
 use std::alloc::Global;
-use thiserror::Error;
+use std::error::Error;
+use std::fmt;
 use words::Words;
 
 /// The most bytes of a line, without its line feed.
 const MAX_LINE: usize = 65536;
 
 /// Why a line gave no command.
-#[derive(Debug, Drop, Error)]
+#[derive(Debug, Drop)]
 pub enum ParseError {
     /// It says none.
-    #[error("{0}")]
-    Bad(Cause),
+    Bad(LineCause),
     /// It says one, for whose words no memory is left.
-    #[error("out of memory")]
     WantOfMemory,
 }
 
-impl From<Cause> for ParseError {
+impl From<LineCause> for ParseError {
     ghost use Rattle.std.specs.Prelude.{◌≡◌};
     ghost use Rattle.iox_script.specs.declared.parser.ParseError.TheVariants.{Bad};
 
     ghost from_gives = { λ cause error. error ≡ Bad cause };
 
-    fn from(cause: Cause) -> ParseError {
+    fn from(cause: LineCause) -> ParseError {
         ParseError::Bad(cause)
     }
 }
 
+impl fmt::Display for ParseError {
+    ghost use Rattle.std.specs.Prelude.{Some};
+    ghost use Rattle.iox_script.specs.Texts.{error_text};
+
+    ghost output = { λ error. Some (error_text error) };
+
+    fn fmt<W: fmt::Write>(&self, f: &mut fmt::Formatter<W>) -> fmt::Result {
+        match self {
+            ParseError::Bad(why) => fmt::Display::fmt(why, f),
+            ParseError::WantOfMemory => f.write_str("out of memory"),
+        }
+    }
+}
+
+impl Error for ParseError {}
+
 /// What a line says (the bytes between two line feeds).
-pub fn parse(alloc: Global, line: &[u8]) -> Result<Command, ParseError>
+pub fn parse(alloc: Global, line: &[u8]) -> Result<ScriptCommand, ParseError>
     ensures { IsMeaning result (meaning line.now) }
 {
     if line.len() > MAX_LINE {
-        return Err(ParseError::Bad(Cause::TooLong));
+        return Err(ParseError::Bad(LineCause::TooLong));
     }
     let (name, words) = Words::split(line);
     match keyword(name) {
         Some(keyword) => command(alloc, keyword, words),
-        None => Err(ParseError::Bad(Cause::UnknownCommand)),
+        None => Err(ParseError::Bad(LineCause::UnknownCommand)),
     }
 }
 
 /// What the words behind a command's name say.
-fn command(alloc: Global, keyword: Keyword, words: Words<'_>) -> Result<Command, ParseError>
+fn command(alloc: Global, keyword: Keyword, words: Words<'_>) -> Result<ScriptCommand, ParseError>
     ensures { IsMeaning result (command_of keyword words.entry) }
 {
     match keyword {

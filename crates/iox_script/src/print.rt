@@ -1,15 +1,16 @@
 //! From an answer to its text.
 ghost use Rattle.std.specs.Prelude.{◌≡◌, ◌++◌, codes, length, take, flat_map, IsOk, OnOk, OnErr};
-ghost use Rattle.iox_script.specs.Texts.{as_line, bad_line_text, cause_text, refusal_text, reply_text, spaced};
+ghost use Rattle.iox_script.specs.Texts.{as_line, bad_line_text, cause_text, refusal_text, reply_text, script_refusal_text, service_text, spaced};
 
-use crate::command::Cause;
-use crate::reply::{Refusal, Reply};
+use crate::command::LineCause;
+use crate::reply::{ScriptRefusal, ScriptReply, ServiceRefusal, ServiceReply};
+use iox_model::reply::{Refusal, Reply};
 use itoa::Buffer;
 use std::alloc::AllocError;
 use std::fmt;
 
-/// Appends a reply as a line. Where memory runs out `out` stays as it was.
-pub fn push_reply(out: &mut Vec<u8>, reply: &Reply) -> Result<(), AllocError>
+/// Appends a reply as a line. Where there is no memory, `out` is unchanged.
+pub fn push_reply(out: &mut Vec<u8>, reply: &ScriptReply) -> Result<(), AllocError>
     ensures written { OnOk result (out.new.items ≡ out.old.items ++ as_line (reply_text reply.now)) }
     ensures unchanged { OnErr result (out.new.items ≡ out.old.items) }
 {
@@ -18,9 +19,9 @@ pub fn push_reply(out: &mut Vec<u8>, reply: &Reply) -> Result<(), AllocError>
     end_line(out, start, written)
 }
 
-/// Appends the answer to a line that is no command, by the line's number. Where memory runs out
-/// `out` stays as it was.
-pub fn push_bad_line(out: &mut Vec<u8>, number: u64, cause: Cause) -> Result<(), AllocError>
+/// Appends the answer to a line that is no command, by the line's number. Where there is no memory,
+/// `out` is unchanged.
+pub fn push_bad_line(out: &mut Vec<u8>, number: u64, cause: LineCause) -> Result<(), AllocError>
     ensures written { OnOk result
         (out.new.items ≡ out.old.items ++ as_line (bad_line_text number cause)) }
     ensures unchanged { OnErr result (out.new.items ≡ out.old.items) }
@@ -50,23 +51,37 @@ fn end_line(
     ended
 }
 
-fn push_reply_text(out: &mut Vec<u8>, reply: &Reply) -> Result<(), AllocError>
+fn push_reply_text(out: &mut Vec<u8>, reply: &ScriptReply) -> Result<(), AllocError>
     ensures written { OnOk result (out.new.items ≡ out.old.items ++ reply_text reply.now) }
     ensures begun { take (length out.old.items) out.new.items ≡ out.old.items }
 {
     match reply {
-        Reply::Done => out.extend_from_slice(b"ok"),
+        ScriptReply::Service(reply) => push_service_text(out, reply),
+        ScriptReply::Refused(refusal) => push_refused(out, script_refusal_text(*refusal)),
+    }
+}
+
+fn push_service_text(out: &mut Vec<u8>, reply: &ServiceReply) -> Result<(), AllocError>
+    ensures written { OnOk result (out.new.items ≡ out.old.items ++ service_text reply.now) }
+    ensures begun { take (length out.old.items) out.new.items ≡ out.old.items }
+{
+    match reply {
         Reply::Node(number) => push_named(out, b"node", *number),
         Reply::Client(number) => push_named(out, b"client", *number),
         Reply::Server(number) => push_named(out, b"server", *number),
         Reply::Handle(number) => push_named(out, b"handle", *number),
+        Reply::Sent(count) => push_named(out, b"sent", *count),
+        Reply::Done => out.extend_from_slice(b"ok"),
         Reply::Nothing => out.extend_from_slice(b"none"),
-        Reply::Words(words) => push_words(out, words.as_slice()),
-        Reply::Refused(refusal) => push_refused(out, *refusal),
+        Reply::Words(words) => push_listed(out, b"words", words.as_slice()),
+        Reply::Answer(true) => out.extend_from_slice(b"true"),
+        Reply::Answer(false) => out.extend_from_slice(b"false"),
+        Reply::Listed(numbers) => push_listed(out, b"list", numbers.as_slice()),
+        Reply::Refused(refusal) => push_refused(out, refusal_text(*refusal)),
     }
 }
 
-fn push_bad_line_text(out: &mut Vec<u8>, number: u64, cause: Cause) -> Result<(), AllocError>
+fn push_bad_line_text(out: &mut Vec<u8>, number: u64, cause: LineCause) -> Result<(), AllocError>
     ensures written { OnOk result (out.new.items ≡ out.old.items ++ bad_line_text number cause) }
     ensures begun { take (length out.old.items) out.new.items ≡ out.old.items }
 {
@@ -75,23 +90,22 @@ fn push_bad_line_text(out: &mut Vec<u8>, number: u64, cause: Cause) -> Result<()
     out.extend_from_slice(cause_text(cause).as_bytes())
 }
 
-fn push_refused(out: &mut Vec<u8>, refusal: Refusal) -> Result<(), AllocError>
-    ensures written { OnOk result
-        (out.new.items ≡ out.old.items ++ (codes "refused " ++ refusal_text refusal)) }
+fn push_refused(out: &mut Vec<u8>, name: &str) -> Result<(), AllocError>
+    ensures written { OnOk result (out.new.items ≡ out.old.items ++ (codes "refused " ++ name.now)) }
     ensures begun { take (length out.old.items) out.new.items ≡ out.old.items }
 {
     out.extend_from_slice(b"refused ")?;
-    out.extend_from_slice(refusal_text(refusal).as_bytes())
+    out.extend_from_slice(name.as_bytes())
 }
 
-fn push_words(out: &mut Vec<u8>, words: &[u64]) -> Result<(), AllocError>
+fn push_listed(out: &mut Vec<u8>, name: &[u8], numbers: &[u64]) -> Result<(), AllocError>
     ensures written { OnOk result
-        (out.new.items ≡ out.old.items ++ (codes "words" ++ flat_map spaced words.now)) }
+        (out.new.items ≡ out.old.items ++ (name.now ++ flat_map spaced numbers.now)) }
     ensures begun { take (length out.old.items) out.new.items ≡ out.old.items }
 {
-    out.extend_from_slice(b"words")?;
-    for word in words {
-        push_spaced(out, *word)?;
+    out.extend_from_slice(name)?;
+    for number in numbers {
+        push_spaced(out, *number)?;
     }
     Ok(())
 }
@@ -114,47 +128,82 @@ fn push_spaced(out: &mut Vec<u8>, number: u64) -> Result<(), AllocError>
     out.extend_from_slice(digits.format(number).as_bytes())
 }
 
-impl fmt::Display for Cause {
+impl fmt::Display for LineCause {
+    ghost use Rattle.std.specs.Prelude.{Some};
+
+    ghost output = { λ cause. Some (cause_text cause) };
+
     fn fmt<W: fmt::Write>(&self, f: &mut fmt::Formatter<W>) -> fmt::Result {
         f.write_str(cause_text(*self))
     }
 }
 
-fn cause_text(cause: Cause) -> &'static str
+fn cause_text(cause: LineCause) -> &'static str
     ensures { result.now ≡ cause_text cause }
 {
     match cause {
-        Cause::TooLong => "too long",
-        Cause::UnknownCommand => "unknown command",
-        Cause::WrongCount => "wrong count",
-        Cause::BadNumber => "bad number",
-        Cause::BadText => "bad text",
+        LineCause::TooLong => "too long",
+        LineCause::UnknownCommand => "unknown command",
+        LineCause::WrongCount => "wrong count",
+        LineCause::BadNumber => "bad number",
+        LineCause::BadText => "bad text",
     }
 }
 
-/// The refusal's name.
-fn refusal_text(refusal: Refusal) -> &'static str
+/// The name of a refusal of the script's rules.
+fn script_refusal_text(refusal: ScriptRefusal) -> &'static str
+    ensures { result.now ≡ script_refusal_text refusal }
+{
+    match refusal {
+        ScriptRefusal::ServiceExists => "ServiceExists",
+        ScriptRefusal::NoService => "NoService",
+        ScriptRefusal::Unsupported => "Unsupported",
+        ScriptRefusal::ExceedsMaximumLength => "ExceedsMaximumLength",
+        ScriptRefusal::InvalidContent => "InvalidContent",
+    }
+}
+
+/// The name of a service's refusal.
+fn refusal_text(refusal: ServiceRefusal) -> &'static str
     ensures { result.now ≡ refusal_text refusal }
 {
     match refusal {
-        Refusal::ServiceExists => "ServiceExists",
-        Refusal::NoService => "NoService",
-        Refusal::Unsupported => "Unsupported",
-        Refusal::ExceedsMaximumLength => "ExceedsMaximumLength",
-        Refusal::InvalidContent => "InvalidContent",
-        Refusal::InvalidNodeId => "InvalidNodeId",
-        Refusal::NodeIdInUse => "NodeIdInUse",
-        Refusal::ExceedsMaxNumberOfNodes => "ExceedsMaxNumberOfNodes",
         Refusal::UnknownNode => "UnknownNode",
+        Refusal::NodeIsDead => "NodeIsDead",
+        Refusal::NodeIsAlive => "NodeIsAlive",
         Refusal::UnknownNumber => "UnknownNumber",
         Refusal::ForeignNumber => "ForeignNumber",
         Refusal::WrongKind => "WrongKind",
-        Refusal::UnableToCreateDataSegment => "UnableToCreateDataSegment",
-        Refusal::ExceedsMaxSupportedClients => "ExceedsMaxSupportedClients",
-        Refusal::ExceedsMaxSupportedServers => "ExceedsMaxSupportedServers",
+        Refusal::CallsSpent => "CallsSpent",
+        Refusal::WrongLength => "WrongLength",
         Refusal::ExceedsMaxLoanSize => "ExceedsMaxLoanSize",
+        Refusal::ExceedsMaxLoans => "ExceedsMaxLoans",
+        Refusal::OutOfMemory => "OutOfMemory",
+        Refusal::WantOfMemory => "WantOfMemory",
         Refusal::ExceedsMaxActiveRequests => "ExceedsMaxActiveRequests",
         Refusal::UnableToDeliver => "UnableToDeliver",
         Refusal::ExceedsMaxBorrows => "ExceedsMaxBorrows",
+        Refusal::UnableToCreatePortTag => "UnableToCreatePortTag",
+        Refusal::UnableToCreateDataSegment => "UnableToCreateDataSegment",
+        Refusal::ExceedsMaxSupportedClients => "ExceedsMaxSupportedClients",
+        Refusal::ExceedsMaxSupportedServers => "ExceedsMaxSupportedServers",
+        Refusal::MarkedForDestruction => "MarkedForDestruction",
+        Refusal::InvalidNodeId => "InvalidNodeId",
+        Refusal::NodeIdInUse => "NodeIdInUse",
+        Refusal::IncompatibleRequestTypes => "IncompatibleRequestTypes",
+        Refusal::IncompatibleResponseTypes => "IncompatibleResponseTypes",
+        Refusal::IncompatibleAttributes(cause) => match cause {},
+        Refusal::LimitTooLarge => "LimitTooLarge",
+        Refusal::ExceedsMaxNumberOfNodes => "ExceedsMaxNumberOfNodes",
+        Refusal::HasPorts => "HasPorts",
+        Refusal::MessagesUnderWay => "MessagesUnderWay",
+        Refusal::GrowingStrategy => "GrowingStrategy",
+        Refusal::HandlerSet => "HandlerSet",
+        Refusal::UnsuitableAlignment => "UnsuitableAlignment",
+        Refusal::TooManyWords => "TooManyWords",
+        Refusal::Busy => "Busy",
+        Refusal::AtRest => "AtRest",
+        Refusal::AccessesSpent => "AccessesSpent",
+        Refusal::NotOnThreads => "NotOnThreads",
     }
 }

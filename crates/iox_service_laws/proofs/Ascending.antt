@@ -1,10 +1,10 @@
 -- Ascending numbers below the next one stay so.
 use Rattle.std.specs.Prelude.{◌≡◌, ℕ, ◌+◌, Bool, true, nat_lt, List, [], ◌∷◌, ◌++◌, map, filter, refl}
 use Rattle.std.specs.List.{list_all}
-use Rattle.iox_weaves.proofs.MapLemmas.{either}
-use Rattle.iox_weaves.proofs.WholeLemmas.{split}
-use Rattle.iox_ledger.proofs.Truths.{both_true}
-use Rattle.iox_ledger.proofs.Orders.{less-next, next-is-less}
+use Rattle.iox_weave_laws.proofs.MapLemmas.{either}
+use Rattle.iox_weave_laws.proofs.WholeLemmas.{split}
+use Rattle.iox_weave_ledger.proofs.Truths.{both_true}
+use Rattle.iox_weave_ledger.proofs.Orders.{less-next, next-is-less}
 use Rattle.iox_service_laws.specs.Listings.{are_ascending}
 
 abbrev pub are_below : ℕ → List ℕ → Bool

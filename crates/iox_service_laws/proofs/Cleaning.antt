@@ -15,10 +15,10 @@ use Rattle.iox_model.specs.Runs.{IsRun}
 use Rattle.iox_model.specs.Services.{leaving_refusal, numbers_of_node, without_node, Releases, IsCleanup}
 use Rattle.iox_model.specs.States.{Node, Members, State}
 use Rattle.iox_model.specs.WholeCalls.{UnlessRefused, IsWholeCall}
-use Rattle.iox_weaves.proofs.DeathLaws.{found, living_in}
-use Rattle.iox_ledger.proofs.Truths.{none-some, by_cases}
-use Rattle.iox_reachable.proofs.Inductions.{unless_done}
-use Rattle.iox_runs.proofs.Runs.{left_calm}
+use Rattle.iox_weave_laws.proofs.DeathLaws.{found, living_in}
+use Rattle.iox_weave_ledger.proofs.Truths.{none-some, by_cases}
+use Rattle.iox_weave_worlds.proofs.Inductions.{unless_done}
+use Rattle.iox_run_laws.proofs.Runs.{left_calm}
 use Rattle.iox_service_laws.specs.Cleaning.{lives, with_life, releases_and_leave, CleanupsAreReleases}
 use Rattle.iox_service_laws.proofs.Frames.{release_with}
 use Rattle.iox_service_laws.proofs.Joins.{never_refused}

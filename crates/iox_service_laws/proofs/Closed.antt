@@ -18,15 +18,15 @@ use Rattle.iox_model.specs.Services.{without_node, with_death, dies, leaving_ref
 use Rattle.iox_model.specs.States.{Node, Members, Port, Fixed, State}
 use Rattle.iox_model.specs.Values.{still_has, IsReleaseWhere}
 use Rattle.iox_model.specs.WholeCalls.{moved_by, IsDone, IsWholeCall}
-use Rattle.iox_weaves.proofs.MapLemmas.{either}
-use Rattle.iox_weaves.proofs.WholeLemmas.{moved_by-fixed, or_else-none}
-use Rattle.iox_ledger.proofs.Lists.{IsAmong, among-filter, among-front, among-last, among-map, filter-among, find-among, map-among}
-use Rattle.iox_ledger.proofs.Truths.{by_cases, none-some, passed, not-false}
-use Rattle.iox_reachable.proofs.Inductions.{unless_keeps, unless_done, step_keeps, releases_keep, served_is_reachable}
-use Rattle.iox_reachable.proofs.PortsKept.{OfPorts, IsSteady, settled_says}
-use Rattle.iox_runs.proofs.Ports.{any_at}
-use Rattle.iox_runs.proofs.Runs.{created_calm}
-use Rattle.iox_runs.proofs.Settling.{Calm}
+use Rattle.iox_weave_laws.proofs.MapLemmas.{either}
+use Rattle.iox_weave_laws.proofs.WholeLemmas.{moved_by-fixed, or_else-none}
+use Rattle.iox_weave_ledger.proofs.Lists.{IsAmong, among-filter, among-front, among-last, among-map, filter-among, find-among, map-among}
+use Rattle.iox_weave_ledger.proofs.Truths.{by_cases, none-some, passed, not-false}
+use Rattle.iox_weave_worlds.proofs.Inductions.{unless_keeps, unless_done, step_keeps, releases_keep, served_is_reachable}
+use Rattle.iox_weave_worlds.proofs.PortsKept.{OfPorts, IsSteady, settled_says}
+use Rattle.iox_run_laws.proofs.Ports.{any_at}
+use Rattle.iox_run_laws.proofs.Runs.{created_calm}
+use Rattle.iox_run_laws.proofs.Settling.{Calm}
 use Rattle.iox_service_laws.specs.Closing.{ClosedWithTheLastNode, ClosedServicesAreBare, PortsAreOfNodes}
 use Rattle.iox_service_laws.proofs.Cleaning.{whole_members}
 use Rattle.iox_service_laws.proofs.Gone.{Clear, left_clear, calm_waits}
@@ -241,7 +241,7 @@ closed_services_are_bare s x closed =
       returned = λ w. (c.1).returned w (gone w.sender);
       in_hand = λ w. ((c.0).1).hand w;
       delivered = λ w. (c.1).delivered w (gone w.sender);
-      naming = λ w. (c.1).naming w (gone w.receiver);
+      request_state = λ w. (c.1).request_state w (gone w.receiver);
     }
   where
     none_of : s.members.nodes ≡ [] → (n : ℕ) → IsIn s.members.nodes n → ⊥

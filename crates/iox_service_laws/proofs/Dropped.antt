@@ -8,8 +8,8 @@ use Rattle.iox_model.specs.Messages.{serials_of, Message}
 use Rattle.iox_model.specs.Moments.{Holds, moved, Take, GiveBack}
 use Rattle.iox_model.specs.Peers.{is_counted_on}
 use Rattle.iox_model.specs.States.{Fixed, State}
-use Rattle.iox_weaves.proofs.MapLemmas.{same_way-true, eqb-refl}
-use Rattle.iox_ledger.proofs.Truths.{or-right}
+use Rattle.iox_weave_laws.proofs.MapLemmas.{same_way-true, eqb-refl}
+use Rattle.iox_weave_ledger.proofs.Truths.{or-right}
 use Rattle.iox_service_laws.specs.Refusing.{DroppedStale}
 use Rattle.iox_service_laws.proofs.GotBacks.{first_rest}
 
@@ -29,7 +29,7 @@ pub record Taken (s : State) (port : ℕ) (w : Way) (m : Message) (t : State) : 
   pub fixed : t.fixed ≡ s.fixed
   pub in_hand : t.in_hand ≡ s.in_hand
   pub delivered : t.delivered ≡ s.delivered
-  pub naming : t.naming ≡ s.naming
+  pub request_state : t.request_state ≡ s.request_state
   pub stale : (v : Way) → IsDropped s port v (held_on w m v) (t.waiting v) (t.returned v)
 
 append_none : (b : Bool) (ns : List ℕ) → ns ≡ (if b then ns ++ [] else ns)
@@ -42,7 +42,7 @@ dropped_none s port = record {
   fixed = refl;
   in_hand = refl;
   delivered = refl;
-  naming = refl;
+  request_state = refl;
   stale = λ w. ([], refl, refl, append_none (is_counted_on s.fixed w) (s.returned w));
 }
 
@@ -53,7 +53,7 @@ takes_one s port u w m holds p = record {
   fixed = p.fixed;
   in_hand = p.in_hand;
   delivered = p.delivered;
-  naming = p.naming;
+  request_state = p.request_state;
   stale = λ v. by_case v (same_way v w) refl;
 }
   where
@@ -75,7 +75,7 @@ gives_one s port u w m at p = record {
   fixed = p.fixed;
   in_hand = p.in_hand;
   delivered = p.delivered;
-  naming = p.naming;
+  request_state = p.request_state;
   stale = λ v. by_case v (same_way v w) refl (p.stale v);
 }
   where

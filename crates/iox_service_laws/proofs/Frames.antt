@@ -21,7 +21,7 @@ use Rattle.iox_model.specs.Names.{misnamed}
 use Rattle.iox_model.specs.Requests.{is_over}
 use Rattle.iox_model.specs.Responses.{loaning}
 use Rattle.iox_model.specs.States.{Members, Handle, State}
-use Rattle.iox_model.specs.Steps.{next, ends, Step}
+use Rattle.iox_model.specs.Transitions.{next, ends, Transition}
 use Rattle.iox_model.specs.WholeCalls.{moved_by, left_by, MayCome, UnlessRefused, spent, IsDone, IsWholeCall}
 
 -- ---- a moment
@@ -67,7 +67,7 @@ over_with s x None = refl
 over_with s x (Some w) = refl
 
 -- what may come, and what is left to do then
-abbrev pub Same : Step → Step → Type 0
+abbrev pub Same : Transition → Transition → Type 0
 Same a b = (a.condition → b.condition) × (b.after ≡ a.after)
 
 next_with : (s : State) (x : Members) (node : ℕ) (d : Doing) (m : Moment) → Same (next s node d m) (next (with_members s x) node d m)

@@ -6,9 +6,9 @@ use Rattle.iox_model.specs.declared.way.Way.{Way}
 use Rattle.iox_model.specs.Maps.{is_empty, first_of, rest_of, has_number, put_at, same_way}
 use Rattle.iox_model.specs.Moments.{Holds, moved, GetBack}
 use Rattle.iox_model.specs.States.{State}
-use Rattle.iox_weaves.proofs.MapLemmas.{put_same, same_way-true, eqb-refl}
-use Rattle.iox_weaves.proofs.WholeLemmas.{some-is}
-use Rattle.iox_ledger.proofs.Truths.{none-some, or-right}
+use Rattle.iox_weave_laws.proofs.MapLemmas.{put_same, same_way-true, eqb-refl}
+use Rattle.iox_weave_laws.proofs.WholeLemmas.{some-is}
+use Rattle.iox_weave_ledger.proofs.Truths.{none-some, or-right}
 use Rattle.iox_service_laws.specs.Refusing.{GotBack}
 use Rattle.iox_service_laws.proofs.Quiet.{Quiet}
 
@@ -28,7 +28,7 @@ got_none s port = record {
   fixed = refl;
   waiting = refl;
   in_hand = refl;
-  naming = refl;
+  request_state = refl;
   back = λ w. ([], refl, refl, λ k. and_true (s.delivered w k));
 }
 
@@ -77,7 +77,7 @@ got_more s port u w k q from holds g = record {
   fixed = g.fixed;
   waiting = g.waiting;
   in_hand = put_same u.in_hand w [] empty ∙ g.in_hand;
-  naming = g.naming;
+  request_state = g.request_state;
   back = λ v. by_case v (same_way v w) refl;
 }
   where

@@ -16,13 +16,13 @@ use Rattle.iox_model.specs.Settings.{same_role}
 use Rattle.iox_model.specs.States.{Node, Members, Port, State}
 use Rattle.iox_model.specs.WholeCalls.{moved_by, IsDone}
 use Rattle.iox_model.specs.Moments.{moved, Moment}
-use Rattle.iox_weaves.proofs.DeathLaws.{settled-members}
-use Rattle.iox_weaves.proofs.MapLemmas.{either}
-use Rattle.iox_weaves.proofs.WholeLemmas.{moved-members}
-use Rattle.iox_ledger.proofs.Truths.{and-first}
-use Rattle.iox_reachable.proofs.Inductions.{IsOfNodes, IsKept, reached_keeps}
-use Rattle.iox_reachable.proofs.PortsKept.{OfPorts, IsSteady, is_kept}
-use Rattle.iox_reachable.proofs.ReachedPorts.{same_numbers}
+use Rattle.iox_weave_laws.proofs.DeathLaws.{settled-members}
+use Rattle.iox_weave_laws.proofs.MapLemmas.{either}
+use Rattle.iox_weave_laws.proofs.WholeLemmas.{moved-members}
+use Rattle.iox_weave_ledger.proofs.Truths.{and-first}
+use Rattle.iox_weave_worlds.proofs.Inductions.{IsOfNodes, IsKept, reached_keeps}
+use Rattle.iox_weave_worlds.proofs.PortsKept.{OfPorts, IsSteady, is_kept}
+use Rattle.iox_weave_worlds.proofs.ReachedPorts.{same_numbers}
 use Rattle.iox_service_laws.specs.Listings.{are_ascending, is_port_of_role, NodesAreListed, ClientsAreListed, ServersAreListed}
 use Rattle.iox_service_laws.proofs.Ascending.{Counted, counted_filter, counted_more, counted_last, ascends_filter}
 

@@ -17,19 +17,19 @@ use Rattle.iox_model.specs.Peers.{node_of_port}
 use Rattle.iox_model.specs.States.{Port, Handle, Fixed, State}
 use Rattle.iox_model.specs.Values.{filled_as}
 use Rattle.iox_model.specs.WholeCalls.{moved_by, left_by, IsDone}
-use Rattle.iox_weaves.proofs.MapLemmas.{either}
-use Rattle.iox_weaves.proofs.WholeLemmas.{moved_by-fixed, split}
-use Rattle.iox_weaves.proofs.CallLaws.{not-true}
-use Rattle.iox_ledger.proofs.Lists.{IsAmong, NoRepeats, among-filter, among-front, among-last, any-among, distinct-no_repeats, filter-among, find-own, map-among, only-one}
-use Rattle.iox_ledger.proofs.Truths.{by_cases}
-use Rattle.iox_reachable.proofs.Fillings.{named_among}
-use Rattle.iox_reachable.proofs.Inductions.{IsKept}
-use Rattle.iox_reachable.proofs.ReachedPorts.{same_numbers}
-use Rattle.iox_runs.proofs.Calls.{Goes, begins, goes_by}
-use Rattle.iox_runs.proofs.Holding.{HoldsEnd, ended_holds}
-use Rattle.iox_runs.proofs.Rests.{Rests, numbered-hub}
-use Rattle.iox_runs.proofs.Runs.{calm_kept}
-use Rattle.iox_runs.proofs.Settling.{Calm}
+use Rattle.iox_weave_laws.proofs.MapLemmas.{either}
+use Rattle.iox_weave_laws.proofs.WholeLemmas.{moved_by-fixed, split}
+use Rattle.iox_weave_laws.proofs.CallLaws.{not-true}
+use Rattle.iox_weave_ledger.proofs.Lists.{IsAmong, NoRepeats, among-filter, among-front, among-last, any-among, distinct-no_repeats, filter-among, find-own, map-among, only-one}
+use Rattle.iox_weave_ledger.proofs.Truths.{by_cases}
+use Rattle.iox_weave_worlds.proofs.Fillings.{named_among}
+use Rattle.iox_weave_worlds.proofs.Inductions.{IsKept}
+use Rattle.iox_weave_worlds.proofs.ReachedPorts.{same_numbers}
+use Rattle.iox_run_laws.proofs.Calls.{Goes, begins, goes_by}
+use Rattle.iox_run_laws.proofs.Holding.{HoldsEnd, ended_holds}
+use Rattle.iox_run_laws.proofs.Rests.{Rests, numbered-hub}
+use Rattle.iox_run_laws.proofs.Runs.{calm_kept}
+use Rattle.iox_run_laws.proofs.Settling.{Calm}
 use Rattle.iox_service_laws.proofs.Quiet.{Stands, any_story, done_told}
 use Rattle.iox_service_laws.proofs.Stories.{ToldEnd}
 

@@ -22,9 +22,9 @@ use Rattle.iox_model.specs.Releases.{states_of, closing, returning, releases}
 use Rattle.iox_model.specs.Responses.{lends_response, lends_by, lends, copies, ordered, shape_for, lending}
 use Rattle.iox_model.specs.Settings.{is_count}
 use Rattle.iox_model.specs.States.{Node, Port, Handle, Fixed, State}
-use Rattle.iox_weaves.proofs.MapLemmas.{either}
-use Rattle.iox_ledger.proofs.Lists.{IsAmong, find-among, map-among, way-among}
-use Rattle.iox_reachable.proofs.WayLemmas.{from-lending}
+use Rattle.iox_weave_laws.proofs.MapLemmas.{either}
+use Rattle.iox_weave_ledger.proofs.Lists.{IsAmong, find-among, map-among, way-among}
+use Rattle.iox_weave_worlds.proofs.WayLemmas.{from-lending}
 use Rattle.iox_service_laws.specs.Refusing.{port_of}
 use Rattle.iox_service_laws.proofs.Stories.{AreInto, Story, Told, sends_told, loaning_told, visiting_told, closing_told, checking_told, hinting_told, seeking_told}
 

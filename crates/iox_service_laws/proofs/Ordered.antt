@@ -3,12 +3,12 @@ use Rattle.std.specs.Prelude.{◌≡◌, ℕ, Bool, true, false, ◌&&◌, if◌
 use Rattle.std.specs.List.{list_all}
 use Rattle.std.proofs.Common.{arith, inl, inr}
 use Rattle.iox_model.specs.Services.{insert_number, ascending, numbers_of_node}
-use Rattle.iox_weaves.proofs.WholeLemmas.{split}
-use Rattle.iox_ledger.proofs.Lists.{IsAmong, NoRepeats}
-use Rattle.iox_ledger.proofs.Orders.{le-le}
-use Rattle.iox_ledger.proofs.Truths.{both_true}
-use Rattle.iox_runs.proofs.Runs.{left_calm}
-use Rattle.iox_runs.proofs.Values.{numbers_apart}
+use Rattle.iox_weave_laws.proofs.WholeLemmas.{split}
+use Rattle.iox_weave_ledger.proofs.Lists.{IsAmong, NoRepeats}
+use Rattle.iox_weave_ledger.proofs.Orders.{le-le}
+use Rattle.iox_weave_ledger.proofs.Truths.{both_true}
+use Rattle.iox_run_laws.proofs.Runs.{left_calm}
+use Rattle.iox_run_laws.proofs.Values.{numbers_apart}
 use Rattle.iox_service_laws.specs.Cleaning.{ReleasesAscend}
 use Rattle.iox_service_laws.specs.Listings.{are_ascending}
 

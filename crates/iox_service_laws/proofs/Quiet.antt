@@ -21,19 +21,19 @@ use Rattle.iox_model.specs.Names.{misnamed}
 use Rattle.iox_model.specs.Peers.{port_at}
 use Rattle.iox_model.specs.Runs.{IsReachableState}
 use Rattle.iox_model.specs.States.{Handle, Fixed, State}
-use Rattle.iox_model.specs.Steps.{next, ends}
+use Rattle.iox_model.specs.Transitions.{next, ends}
 use Rattle.iox_model.specs.WholeCalls.{moved_by, left_by, MayCome, IsDone}
-use Rattle.iox_weaves.proofs.MapLemmas.{either, put-else, same_way-true}
-use Rattle.iox_weaves.proofs.WholeLemmas.{moved_by-fixed}
-use Rattle.iox_ledger.proofs.Lists.{IsAmong}
-use Rattle.iox_ledger.proofs.Starts.{named-by, IsNamedBy}
-use Rattle.iox_ledger.proofs.Truths.{none-some}
-use Rattle.iox_reachable.proofs.Fillings.{named_among}
-use Rattle.iox_reachable.proofs.Inductions.{IsKept, reached_keeps}
-use Rattle.iox_runs.proofs.Ports.{any_at, any_dropped}
-use Rattle.iox_runs.proofs.Rests.{Rests}
-use Rattle.iox_runs.proofs.Runs.{calm_kept, created_calm}
-use Rattle.iox_runs.proofs.Settling.{Calm}
+use Rattle.iox_weave_laws.proofs.MapLemmas.{either, put-else, same_way-true}
+use Rattle.iox_weave_laws.proofs.WholeLemmas.{moved_by-fixed}
+use Rattle.iox_weave_ledger.proofs.Lists.{IsAmong}
+use Rattle.iox_weave_ledger.proofs.Starts.{named-by, IsNamedBy}
+use Rattle.iox_weave_ledger.proofs.Truths.{none-some}
+use Rattle.iox_weave_worlds.proofs.Fillings.{named_among}
+use Rattle.iox_weave_worlds.proofs.Inductions.{IsKept, reached_keeps}
+use Rattle.iox_run_laws.proofs.Ports.{any_at, any_dropped}
+use Rattle.iox_run_laws.proofs.Rests.{Rests}
+use Rattle.iox_run_laws.proofs.Runs.{calm_kept, created_calm}
+use Rattle.iox_run_laws.proofs.Settling.{Calm}
 use Rattle.iox_service_laws.specs.Refusing.{port_of}
 use Rattle.iox_service_laws.proofs.Openings.{Opens, begins_told}
 use Rattle.iox_service_laws.proofs.Releasing.{handle_found}

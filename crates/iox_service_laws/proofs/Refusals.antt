@@ -22,8 +22,8 @@ use Rattle.iox_model.specs.Peers.{port_at, forgot_port}
 use Rattle.iox_model.specs.Services.{leaving_refusal, with_own_id, IsNodeCommand}
 use Rattle.iox_model.specs.States.{Handle, Fixed, State}
 use Rattle.iox_model.specs.WholeCalls.{replied, spent, moved_by, left_by, UnlessRefused, IsDone, IsWholeCall}
-use Rattle.iox_weaves.proofs.MapLemmas.{either, nobody_is_forgotten}
-use Rattle.iox_ledger.proofs.Starts.{named-by, IsNamedBy}
+use Rattle.iox_weave_laws.proofs.MapLemmas.{either, nobody_is_forgotten}
+use Rattle.iox_weave_ledger.proofs.Starts.{named-by, IsNamedBy}
 use Rattle.iox_service_laws.specs.Refusing.{GotBack, DroppedStale, port_of, port_called, counted, RefusalLeaves, PortRefusalLeaves, RefusedPortCommandLeaves, RefusedCommandLeaves}
 use Rattle.iox_service_laws.proofs.Dropped.{Taken, dropped_none, takes_one, gives_one}
 use Rattle.iox_service_laws.proofs.GotBacks.{got_none, got_more}

@@ -3,83 +3,38 @@ use Rattle.std.specs.Prelude.{◌≡◌, ℕ, ◌-◌, Bool, true, false, not, �
 use Rattle.std.specs.Option.{option_map_or}
 use Rattle.std.proofs.Common.{sym, subst, ap, ◌∙◌, true≢false, eqb-true, inl, inr}
 use Rattle.iox_model.specs.declared.call.Call.TheVariants.{Release}
-use Rattle.iox_model.specs.declared.kind.Kind.TheVariants.{PendingResponse, ActiveRequest}
 use Rattle.iox_model.specs.declared.reply.Refusal.TheVariants.{UnknownNumber}
 use Rattle.iox_model.specs.declared.reply.Reply.TheVariants.{Done}
-use Rattle.iox_model.specs.declared.way.Way.{Way}
 use Rattle.iox_model.specs.Begins.{begins_at, start}
 use Rattle.iox_model.specs.Commands.{Refusal}
 use Rattle.iox_model.specs.Counts.{is_same_handle, without_handle, dropped, gives_up, with_fixed}
-use Rattle.iox_model.specs.Doings.{refused, Outcome, Drops, DropsPort, Doing, Ended, Closing, Returning, Leaving}
+use Rattle.iox_model.specs.Doings.{refused, Outcome, Drops, DropsPort, Doing, Ended}
 use Rattle.iox_model.specs.Ends.{port_dropped, settled}
 use Rattle.iox_model.specs.Expiries.{disconnected, is_last_gone, released}
-use Rattle.iox_model.specs.Handles.{handle_at, is_received, same_kind, node_of, port_or_handle, subject, way_of, Subject, ThePort, TheHandle}
-use Rattle.iox_model.specs.Maps.{put, put_at, without_way}
-use Rattle.iox_model.specs.Moments.{moved, Moment, GiveBack, Close, Look}
+use Rattle.iox_model.specs.Handles.{handle_at, is_received, node_of, port_or_handle, subject, way_of, Subject, ThePort, TheHandle}
+use Rattle.iox_model.specs.Maps.{put, put_at}
+use Rattle.iox_model.specs.Moments.{Moment}
 use Rattle.iox_model.specs.Names.{misnamed}
-use Rattle.iox_model.specs.Peers.{port_at, forgot_port}
-use Rattle.iox_model.specs.Releases.{states_of, closing, returning, releases_handle}
+use Rattle.iox_model.specs.Peers.{port_at}
+use Rattle.iox_model.specs.Releases.{releases_handle}
 use Rattle.iox_model.specs.Services.{numbers_of_node, Releases}
 use Rattle.iox_model.specs.States.{Port, Handle, Fixed, State}
-use Rattle.iox_model.specs.Steps.{next, ends}
+use Rattle.iox_model.specs.Transitions.{next, ends}
 use Rattle.iox_model.specs.WholeCalls.{moved_by, left_by, MayCome, UnlessRefused, spent, IsDone, IsWholeCall}
-use Rattle.iox_weaves.proofs.MapLemmas.{either, eqb-refl}
-use Rattle.iox_weaves.proofs.WholeLemmas.{moved_by-fixed, put_at-here, some-is}
-use Rattle.iox_ledger.proofs.Truths.{none-some, never}
-use Rattle.iox_ledger.proofs.Lists.{IsAmong, among-any, among-filter, among-front, among-back, among-map, filter-among, find-among, map-among}
-use Rattle.iox_ledger.proofs.Starts.{named-by, IsNamedBy}
-use Rattle.iox_reachable.proofs.Fillings.{named_among}
-use Rattle.iox_runs.proofs.Cleanups.{IsValue}
-use Rattle.iox_runs.proofs.Ports.{any_at}
-use Rattle.iox_runs.proofs.Rests.{Rests}
-use Rattle.iox_runs.proofs.Runs.{whole_calm}
-use Rattle.iox_runs.proofs.Settling.{Calm}
-use Rattle.iox_runs.proofs.Values.{numbers_are_values}
+use Rattle.iox_weave_laws.proofs.MapLemmas.{either, eqb-refl}
+use Rattle.iox_weave_laws.proofs.WholeLemmas.{moved_by-fixed, put_at-here, some-is}
+use Rattle.iox_weave_ledger.proofs.Truths.{none-some, never}
+use Rattle.iox_weave_ledger.proofs.Lists.{IsAmong, among-any, among-filter, among-front, among-back, among-map, filter-among, find-among, map-among}
+use Rattle.iox_weave_ledger.proofs.Starts.{named-by, IsNamedBy}
+use Rattle.iox_weave_worlds.proofs.Fillings.{named_among}
+use Rattle.iox_run_laws.proofs.Cleanups.{IsValue, IsReleaseOf, releases_is, left_is, ends_with}
+use Rattle.iox_run_laws.proofs.Ports.{any_at}
+use Rattle.iox_run_laws.proofs.Rests.{Rests}
+use Rattle.iox_run_laws.proofs.Runs.{whole_calm}
+use Rattle.iox_run_laws.proofs.Settling.{Calm}
+use Rattle.iox_run_laws.proofs.Values.{numbers_are_values}
 use Rattle.iox_service_laws.proofs.Joins.{never_refused}
 use Rattle.iox_service_laws.proofs.Ordered.{among-ascending}
-
--- ---- what a release of a handle leads to
-
-abbrev IsReleaseOf : Handle → Doing → Type 0
-IsReleaseOf h (Ended (Drops g)) = g ≡ h
-IsReleaseOf h (Closing g left) = g ≡ h
-IsReleaseOf h (Returning g) = g ≡ h
-IsReleaseOf h (Leaving g) = g ≡ h
-IsReleaseOf h d = ⊥
-
-closing_is : (h g : Handle) (left : List Way) → g ≡ h → IsReleaseOf h (closing g left)
-closing_is h g [] e = e
-closing_is h g (w ∷ left) e = e
-
-releases_is : (f : Fixed) (h : Handle) → IsReleaseOf h (releases_handle f h)
-releases_is f h =
-    either (IsReleaseOf h) (is_received h.kind) (returning f h) (if same_kind h.kind PendingResponse then closing h (states_of f h) else Ended (Drops h))
-    (λ u. either (IsReleaseOf h) (forgot_port f h.node (way_of h).sender) (Ended (Drops h)) (Returning h) (λ v. refl) (λ v. refl))
-    (λ u. either (IsReleaseOf h) (same_kind h.kind PendingResponse) (closing h (states_of f h)) (Ended (Drops h))
-    (λ v. closing_is h h (states_of f h) refl) (λ v. refl))
-
-moved_is : (h : Handle) (s : State) (node : ℕ) (d : Doing) (m : Moment) → IsReleaseOf h d → (next s node d m).condition → IsReleaseOf h (next s node d m).after
-moved_is h s node (Ended o) m p c = absurd c
-moved_is h s node (Closing g left) (Close w id) p c = closing_is h g (without_way w left) p
-moved_is h s node (Closing g left) m p c = absurd c
-moved_is h s node (Returning g) (GiveBack w k) p c =
-    either (IsReleaseOf h) (same_kind g.kind ActiveRequest) (Leaving g) (Ended (Drops g)) (λ u. p) (λ u. p)
-moved_is h s node (Returning g) m p c = absurd c
-moved_is h s node (Leaving g) (Look w shown) p c = p
-moved_is h s node (Leaving g) (Close w id) p c = p
-moved_is h s node (Leaving g) m p c = absurd c
-moved_is h s node d m p c = absurd p
-
-left_is : (h : Handle) (s : State) (node : ℕ) (d : Doing) (ms : List Moment) → IsReleaseOf h d → MayCome s node d ms → IsReleaseOf h (left_by s node d ms)
-left_is h s node d [] p may = p
-left_is h s node d (m ∷ ms) p may = left_is h (moved s m) node (next s node d m).after ms (moved_is h s node d m p may.1) may.2
-
-ends_with : (h : Handle) (t : State) (d : Doing) (o : Outcome) → IsReleaseOf h d → ends t d ≡ Some o → o ≡ Drops h
-ends_with h t (Ended (Drops g)) o p e = sym (some-is (Drops g) o e) ∙ ap (λ k. Drops k) p
-ends_with h t (Closing g left) o p e = none-some o e
-ends_with h t (Returning g) o p e = none-some o e
-ends_with h t (Leaving g) o p e = none-some o e
-ends_with h t d o p e = absurd p
 
 -- a call that ends at once makes no moment
 at_once : (s : State) (node : ℕ) (d : Doing) (o q : Outcome) (ms : List Moment) → d ≡ Ended o → MayCome s node d ms

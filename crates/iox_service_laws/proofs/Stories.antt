@@ -25,14 +25,14 @@ use Rattle.iox_model.specs.Requests.{targets, to_open, is_request, opening, look
 use Rattle.iox_model.specs.Responses.{asked, sends, sends_response, loaned, loaning}
 use Rattle.iox_model.specs.Settings.{is_client}
 use Rattle.iox_model.specs.States.{Handle, Fixed, State}
-use Rattle.iox_model.specs.Steps.{next, ends}
+use Rattle.iox_model.specs.Transitions.{next, ends}
 use Rattle.iox_model.specs.WholeCalls.{moved_by, left_by, MayCome}
-use Rattle.iox_weaves.proofs.MapLemmas.{either, same_way-true}
-use Rattle.iox_ledger.proofs.Lists.{among-way, way-among, without-among, map-among}
-use Rattle.iox_reachable.proofs.Sound.{AreFrom}
-use Rattle.iox_reachable.proofs.WayLemmas.{from_map, from-targets}
-use Rattle.iox_weaves.proofs.WholeLemmas.{split, some-is}
-use Rattle.iox_ledger.proofs.Truths.{none-some}
+use Rattle.iox_weave_laws.proofs.MapLemmas.{either, same_way-true}
+use Rattle.iox_weave_ledger.proofs.Lists.{among-way, way-among, without-among, map-among}
+use Rattle.iox_weave_worlds.proofs.Sound.{AreFrom}
+use Rattle.iox_weave_worlds.proofs.WayLemmas.{from_map, from-targets}
+use Rattle.iox_weave_laws.proofs.WholeLemmas.{split, some-is}
+use Rattle.iox_weave_ledger.proofs.Truths.{none-some}
 
 -- all these ways go to the port
 abbrev pub AreInto : ℕ → List Way → Type 0

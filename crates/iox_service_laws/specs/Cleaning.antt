@@ -11,10 +11,11 @@ use Rattle.iox_model.specs.Services.{numbers_of_node, IsCommand}
 use Rattle.iox_model.specs.States.{Node, Fixed, State}
 use Rattle.iox_service_laws.specs.Listings.{are_ascending}
 
--- the same state, but that the node lives
+-- the node, living if it has this number
 abbrev pub lives : ℕ → Node → Node
 lives node m = if m.number == node then record m { alive = true } else m
 
+-- the same state, but with this node living
 abbrev pub with_life : State → ℕ → State
 with_life s node =
     with_members s (record (s.members) { nodes = map (lives node) s.members.nodes })
@@ -24,15 +25,15 @@ abbrev pub releases_and_leave : Fixed → ℕ → List Command
 releases_and_leave f node =
     map (λ n. commands.Port (Release node n)) (numbers_of_node f node) ++ Leave node ∷ []
 
--- The cleanup of a dead node leaves the state that these commands would leave, had the node lived:
--- each is done, none is refused.
+-- The cleanup of a dead node leaves the state that these commands leave if the node lives. Each of
+-- them is done, none is refused.
 abbrev pub CleanupsAreReleases : Type 0
 CleanupsAreReleases =
     (s t : State) (node : ℕ) → IsReachableState s → IsCommand s (Cleanup node) Done t
     → IsRun (with_life s node) (releases_and_leave s.fixed node)
     (map (λ c. Done) (releases_and_leave s.fixed node)) t
 
--- And the numbers ascend, so none comes twice.
+-- The numbers of a node's ports and handles ascend, so that none comes twice.
 abbrev pub ReleasesAscend : Type 0
 ReleasesAscend =
     (s : State) (node : ℕ) → IsReachableState s

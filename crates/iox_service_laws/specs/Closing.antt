@@ -11,9 +11,10 @@ use Rattle.iox_model.specs.States.{Port, State}
 abbrev pub NothingIsForTheGone : Type 0
 NothingIsForTheGone =
     (s : State) (w : Way) → IsReachableState s → is_connected_port s.fixed w.receiver ≡ false
-    → (s.waiting w ≡ []) × (s.naming w ≡ Closed)
+    → (s.waiting w ≡ []) × (s.request_state w ≡ Closed)
 
--- On a way whose sender is gone nothing is given back, and nothing is outstanding. Some may wait.
+-- On a way whose sender is gone nothing is given back, and nothing is outstanding. Messages may
+-- still wait.
 abbrev pub NothingIsOwedToTheGone : Type 0
 NothingIsOwedToTheGone =
     (s : State) (w : Way) → IsReachableState s → is_connected_port s.fixed w.sender ≡ false
@@ -25,7 +26,7 @@ NothingIsInHand = (s : State) (w : Way) → IsReachableState s → s.in_hand w �
 
 -- ---- a service that its own nodes use
 
--- Nobody is there, and nothing is on any way.
+-- There is no node, no port and no handle, and nothing on any way.
 pub record IsBare (s : State) : Type 0 where
   pub nodes : s.members.nodes ≡ []
   pub ports : s.fixed.ports ≡ []
@@ -34,17 +35,17 @@ pub record IsBare (s : State) : Type 0 where
   pub returned : (w : Way) → s.returned w ≡ []
   pub in_hand : (w : Way) → s.in_hand w ≡ []
   pub delivered : (w : Way) (k : ℕ) → s.delivered w k ≡ false
-  pub naming : (w : Way) → s.naming w ≡ Closed
+  pub request_state : (w : Way) → s.request_state w ≡ Closed
 
--- A service is closed exactly if it has no node,
+-- A service is closed exactly if it has no node.
 abbrev pub ClosedWithTheLastNode : Type 0
 ClosedWithTheLastNode = (s : State) → IsServed s → s.members.closed ≡ is_empty s.members.nodes
 
--- and then nothing is left of it.
+-- A closed service has nothing left.
 abbrev pub ClosedServicesAreBare : Type 0
 ClosedServicesAreBare = (s : State) → IsServed s → IsTrue s.members.closed → IsBare s
 
--- Each connected port is that of a node that did not leave.
+-- Each connected port belongs to a node that did not leave.
 abbrev pub PortsAreOfNodes : Type 0
 PortsAreOfNodes =
     (s : State) (n : ℕ) (p : Port) → IsServed s → port_at s.fixed n ≡ Some p

@@ -1,4 +1,4 @@
--- What a refusal leaves as it was.
+-- What a refused command leaves unchanged.
 use Rattle.std.specs.Prelude.{◌≡◌, ℕ, not, ◌&&◌, ◌||◌, if◌then◌else◌, ◌==◌, List, ◌++◌, Option, Some, IsTrue}
 use Rattle.std.specs.Option.{option_map_or}
 use Rattle.iox_types.specs.declared.identifiers.system_id.UniqueSystemId.{UniqueSystemId}
@@ -20,7 +20,7 @@ use Rattle.iox_model.specs.Runs.{IsReachableState}
 use Rattle.iox_model.specs.Services.{IsCommand}
 use Rattle.iox_model.specs.States.{Handle, State}
 
--- A refused join changes nothing: nobody is a node for it, and the next number stays.
+-- A refused join changes nothing: no node is added, and the next number is unchanged.
 abbrev pub RefusedJoinsChangeNothing : Type 0
 RefusedJoinsChangeNothing =
     (s t : State) (id : UniqueSystemId) (asked : Option Refusal) (r : Refusal)
@@ -28,26 +28,26 @@ RefusedJoinsChangeNothing =
 
 -- ---- what three refusals change
 
--- The port got back some of what was given back to it, oldest first, and counts that no more.
--- All else is as it was.
+-- The port got back some of what was given back to it, oldest first, and that is no longer
+-- outstanding. All else is unchanged.
 pub record GotBack (s : State) (port : ℕ) (t : State) : Type 0 where
   pub members : t.members ≡ s.members
   pub fixed : t.fixed ≡ s.fixed
   pub waiting : t.waiting ≡ s.waiting
   pub in_hand : t.in_hand ≡ s.in_hand
-  pub naming : t.naming ≡ s.naming
+  pub request_state : t.request_state ≡ s.request_state
   pub back : (w : Way) → (ks : List ℕ) × IsTrue (is_empty ks || (w.sender == port))
       × (s.returned w ≡ ks ++ t.returned w)
       × ((k : ℕ) → t.delivered w k ≡ (s.delivered w k && not (has_number k ks)))
 
--- The port took some of what waits for it, oldest first, found it stale, and gave it back to
--- those senders that still count it. All else is as it was.
+-- The port took some of the messages that wait for it, oldest first, found them stale, and gave
+-- them back to the senders that still count them. All else is unchanged.
 pub record DroppedStale (s : State) (port : ℕ) (t : State) : Type 0 where
   pub members : t.members ≡ s.members
   pub fixed : t.fixed ≡ s.fixed
   pub in_hand : t.in_hand ≡ s.in_hand
   pub delivered : t.delivered ≡ s.delivered
-  pub naming : t.naming ≡ s.naming
+  pub request_state : t.request_state ≡ s.request_state
   pub stale : (w : Way) → (ms : List Message) × IsTrue (is_empty ms || (w.receiver == port))
       × (s.waiting w ≡ ms ++ t.waiting w)
       × (t.returned w
@@ -58,20 +58,21 @@ abbrev pub port_of : Subject → ℕ
 port_of (ThePort p) = p.number
 port_of (TheHandle h) = h.port
 
+-- the port whose call it is
 abbrev pub port_called : State → ℕ → Call → ℕ
 port_called s node call = option_map_or port_of (subject s.fixed node (number_of call)) 0
 
--- a send that made its loan itself counts it, and itself, though it was refused
+-- the state once a refused call that made its own loan counted the loan and itself
 abbrev pub counted : State → ℕ → State
 counted s port = with_fixed s (called (lent s.fixed port))
 
--- another releases the loan
+-- the state once a refused send released its loan
 abbrev pub given_up : State → Handle → State
 given_up s h = released (with_fixed s (dropped s.fixed h)) h.port
 
 -- ---- which refusal changes what
 
--- What a call that is refused leaves: the state as it was, but for these.
+-- What a refused call leaves: the state unchanged, but in these cases.
 abbrev pub RefusalLeaves : State → ℕ → Call → Refusal → State → Type 0
 -- a loan gets back what it can before it finds no memory
 RefusalLeaves s node (Loan n k) OutOfMemory t = GotBack s (port_called s node (Loan n k)) t
@@ -79,7 +80,7 @@ RefusalLeaves s node (LoanUninit n k) OutOfMemory t =
     GotBack s (port_called s node (LoanUninit n k)) t
 RefusalLeaves s node (SendCopy n p) OutOfMemory t =
     GotBack s (port_called s node (SendCopy n p)) t
--- and a send before it fails
+-- a send gets back what it can before it fails
 RefusalLeaves s node (SendCopy n p) ExceedsMaxActiveRequests t =
     let port : ℕ = port_called s node (SendCopy n p) in
     (u : State) × GotBack s port u × (t ≡ counted u port)
@@ -91,26 +92,29 @@ RefusalLeaves s node (Send n) ExceedsMaxActiveRequests t =
 RefusalLeaves s node (Send n) UnableToDeliver t =
     (h : Handle) × (handle_at s.fixed node n ≡ Some h)
     × (u : State) × GotBack s h.port u × (t ≡ given_up u h)
--- a receive drops what is stale before it sees what it may not have
+-- a receive drops stale messages before it sees one that it may not have
 RefusalLeaves s node (Receive n) ExceedsMaxBorrows t =
     DroppedStale s (port_called s node (Receive n)) t
 RefusalLeaves s node call r t = t ≡ s
 
+-- what a refused port command leaves: a making the state unchanged, a call what its refusal leaves
 abbrev pub PortRefusalLeaves : State → ℕ → HubCommand → Refusal → State → Type 0
 PortRefusalLeaves s node (Create role id options) r t = t ≡ s
 PortRefusalLeaves s node (Use call) r t = RefusalLeaves s node call r t
 
+-- what a refused command of the service leaves: the state unchanged, but for calls of ports
 abbrev pub CommandRefusalLeaves : State → Command → Refusal → State → Type 0
 CommandRefusalLeaves s (commands.Port command) r t =
     PortRefusalLeaves s (asking command).0 (asking command).1 r t
 CommandRefusalLeaves s command r t = t ≡ s
 
--- So it is of each command of a port, and of each of a service.
+-- Each refused command of a port leaves the state as `PortRefusalLeaves` says.
 abbrev pub RefusedPortCommandLeaves : Type 0
 RefusedPortCommandLeaves =
     (s t : State) (node : ℕ) (command : HubCommand) (r : Refusal) → IsReachableState s
     → IsHubCommand s node command (Refused r) t → PortRefusalLeaves s node command r t
 
+-- Each refused command of a service leaves the state as `CommandRefusalLeaves` says.
 abbrev pub RefusedCommandLeaves : Type 0
 RefusedCommandLeaves =
     (s t : State) (command : Command) (r : Refusal) → IsReachableState s

@@ -5,30 +5,30 @@ use Rattle.std.specs.Option.{option_to_list}
 use Rattle.iox_steps.specs.declared.access.Progress.{Progress}
 use Rattle.iox_steps.specs.declared.machine.Entry.{Entry}
 use Rattle.iox_steps.specs.declared.machine.Entry.TheVariants.{Begin, Step}
-use Rattle.iox_steps.specs.Worlds.{Entered, seen_in}
+use Rattle.iox_steps.specs.MachineStates.{Entered, seen_in}
 use Rattle.iox_set_steps.specs.declared.unrestricted_atomic.AtomicCall.{AtomicCall}
 use Rattle.iox_set_steps.specs.declared.unrestricted_atomic.AtomicReply.{AtomicReply}
 use Rattle.iox_set_steps.specs.declared.unrestricted_atomic.AtomicEvent.{AtomicEvent}
 use Rattle.iox_set_steps.specs.declared.unrestricted_atomic.AtomicEvent.TheVariants.{Stored, Loaded}
 use Rattle.iox_set_steps.specs.Values.{value_now, AgreeUpTo, words_of, ValueRun, LeadsOn}
-use Rattle.iox_set_steps.specs.AtomicPlays.{AtomicWorld, atomics_ask, atomics_happen, atomics_rest, AtomicsLead, AtomicsBegin, AtomicsHold}
-use Rattle.iox_set_steps.specs.AtomicMoments.{atomic_makes}
+use Rattle.iox_set_steps.specs.AtomicPlays.{AtomicMachineState, atomics_ask, atomics_happen, atomics_rest, AtomicsLead, AtomicsBegin, AtomicsHold}
+use Rattle.iox_set_steps.specs.AtomicEvents.{atomic_makes}
 use Rattle.iox_set_steps.specs.AtomicLaws.{atomics_keep, kept}
 use Rattle.iox_set_steps.specs.AtomicBegins.{atomics_start, started}
 use Rattle.iox_set_steps.specs.AtomicMachines.{AtomicsStepped, AtomicsBegun, AllAtomicsEntered, RunsOn}
 
 -- what one entry leaves: the parties' words hold at the same base, and the value was led on
-record Leaves (size base : ℕ) (old new : AtomicWorld size) : Type 0 where
+record Leaves (size base : ℕ) (old new : AtomicMachineState size) : Type 0 where
   holds : AtomicsHold size new
   stays : holds.base ≡ base
   event : Option (AtomicEvent size)
   told : new.events ≡ old.events ++ option_to_list event
   leads : LeadsOn size (value_now size base old.words) event (value_now size base new.words)
 
-same_leaves : (size : ℕ) (old : AtomicWorld size) (holds : AtomicsHold size old) → Leaves size holds.base old old
+same_leaves : (size : ℕ) (old : AtomicMachineState size) (holds : AtomicsHold size old) → Leaves size holds.base old old
 same_leaves size old holds = record { holds = holds; stays = refl; event = None; told = sym (append-nil old.events); leads = λ at inside. refl }
 
-step_leaves : (size : ℕ) (old new : AtomicWorld size) (number : ℕ) (answer : Progress (AtomicReply size)) (holds : AtomicsHold size old) → AtomicsStepped size old number answer new → Leaves size holds.base old new
+step_leaves : (size : ℕ) (old new : AtomicMachineState size) (number : ℕ) (answer : Progress (AtomicReply size)) (holds : AtomicsHold size old) → AtomicsStepped size old number answer new → Leaves size holds.base old new
 unfolding atomics_keep kept
 step_leaves size old new number answer holds step =
     subst (Leaves size holds.base old) (sym step.leads_to)
@@ -42,7 +42,7 @@ step_leaves size old new number answer holds step =
       leads = rw (at.here) (makes.leads);
     })
 
-begin_leaves : (size : ℕ) (old new : AtomicWorld size) (number : ℕ) (call : AtomicCall size) (holds : AtomicsHold size old) → AtomicsBegun size old number call new → Leaves size holds.base old new
+begin_leaves : (size : ℕ) (old new : AtomicMachineState size) (number : ℕ) (call : AtomicCall size) (holds : AtomicsHold size old) → AtomicsBegun size old number call new → Leaves size holds.base old new
 unfolding atomics_start started
 begin_leaves size old new number call holds begun =
     subst (Leaves size holds.base old) (sym begun.leads_to) (record {
@@ -53,7 +53,7 @@ begin_leaves size old new number call holds begun =
       leads = λ at inside. refl;
     })
 
-entry_leaves : (size : ℕ) (old : AtomicWorld size) (entry : Entry (AtomicCall size)) (new : AtomicWorld size) (holds : AtomicsHold size old)
+entry_leaves : (size : ℕ) (old : AtomicMachineState size) (entry : Entry (AtomicCall size)) (new : AtomicMachineState size) (holds : AtomicsHold size old)
     → Entered (atomics_ask size) (AtomicsLead size) atomics_happen atomics_rest AtomicsBegin old entry new → Leaves size holds.base old new
 entry_leaves size old (Begin number call) new holds (inl begun) = begin_leaves size old new number call holds begun
 entry_leaves size old (Begin number call) new holds (inr refused) = subst (Leaves size holds.base old) (sym refused.1) (same_leaves size old holds)
@@ -73,12 +73,12 @@ run_first size old None mid events last leads run = run_from size mid old events
 run_first size old (Some (Stored list)) mid events last leads run = run_from size mid (words_of list) events last leads run
 run_first size old (Some (Loaded list)) mid events last leads run = (leads.0, run_from size mid old events last leads.1 run)
 
-record Runs (size base : ℕ) (old new : AtomicWorld size) : Type 0 where
+record Runs (size base : ℕ) (old new : AtomicMachineState size) : Type 0 where
   more : List (AtomicEvent size)
   told : new.events ≡ old.events ++ more
   run : ValueRun size (value_now size base old.words) more (value_now size base new.words)
 
-all_run : (size : ℕ) (old : AtomicWorld size) (entries : List (Entry (AtomicCall size))) (new : AtomicWorld size) (base : ℕ) (holds : AtomicsHold size old) → holds.base ≡ base → AllAtomicsEntered size old entries new → Runs size base old new
+all_run : (size : ℕ) (old : AtomicMachineState size) (entries : List (Entry (AtomicCall size))) (new : AtomicMachineState size) (base : ℕ) (holds : AtomicsHold size old) → holds.base ≡ base → AllAtomicsEntered size old entries new → Runs size base old new
 all_run size old [] new base holds at entered = subst (Runs size base old) (sym entered) (record { more = []; told = sym (append-nil old.events); run = λ index inside. refl })
 all_run size old (entry ∷ entries) new base holds at entered =
     let mid = entered.0 in
@@ -90,7 +90,7 @@ all_run size old (entry ∷ entries) new base holds at entered =
       run = run_first size (value_now size base old.words) left.event (value_now size base mid.words) rest.more _ left.leads rest.run;
     }
 
-pub runs_on : (size : ℕ) (old : AtomicWorld size) (entries : List (Entry (AtomicCall size))) (new : AtomicWorld size) → AtomicsHold size old → AllAtomicsEntered size old entries new → RunsOn size old new
+pub runs_on : (size : ℕ) (old : AtomicMachineState size) (entries : List (Entry (AtomicCall size))) (new : AtomicMachineState size) → AtomicsHold size old → AllAtomicsEntered size old entries new → RunsOn size old new
 runs_on size old entries new holds entered =
     let runs = all_run size old entries new holds.base holds refl entered in
     record { base = holds.base; more = runs.more; parties = λ number party is. (holds.parties number party is).here; told = runs.told; run = runs.run }

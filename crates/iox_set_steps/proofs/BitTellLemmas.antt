@@ -1,29 +1,26 @@
 -- Each access of a call of a party at bits tells of the call's own bit.
 use Rattle.std.specs.Prelude.{List, [], ◌∷◌}
 use Rattle.std.specs.Int.{bit_at, w64}
-use Rattle.std.proofs.Common.{◌≡◌, ℕ, ◌+◌, ◌-◌, ◌/◌, ◌%◌, ◌^◌, ◌<◌, ◌≤◌, ◌⊎◌, lit≤, length, get_or, refl, ap, sym, ◌∙◌, subst, inl, inr, arith, min}
+use Rattle.std.proofs.Common.{◌≡◌, ℕ, ◌+◌, ◌-◌, ◌/◌, ◌%◌, ◌^◌, ◌<◌, ◌≤◌, lit≤, length, get_or, refl, ap, sym, ◌∙◌, subst, inl, inr, arith, min}
 use Rattle.std.proofs.lemmas.Bool.{cases_eq, cases_lt, lt-ltb, le-ltb, eq-eqb, ne_eqb}
 use Rattle.std.proofs.lemmas.Nat.Bits.{bit_at-lt, bit_at-zero, bit_at-trailing_zeros}
-use Rattle.std.proofs.lemmas.List.{get_or_past}
-use Rattle.std.proofs.lemmas.List.Elements.{All-get_or}
-use Rattle.iox_steps.specs.declared.access.Next.{Next}
-use Rattle.iox_steps.specs.declared.access.Next.TheVariants.{Goes, Ends}
 use Rattle.iox_set_steps.specs.declared.bit_set.BitSite.{BitSite}
 use Rattle.iox_set_steps.specs.declared.bit_set.BitCall.{BitCall}
 use Rattle.iox_set_steps.specs.declared.bit_set.BitCall.TheVariants.{Set, ResetNext, ResetAll}
-use Rattle.iox_set_steps.specs.declared.bit_set.BitReply.{BitReply}
 use Rattle.iox_set_steps.specs.declared.bit_set.BitProgram.{BitProgram}
 use Rattle.iox_set_steps.specs.declared.bit_set.BitProgram.TheVariants.{AtRest, Replies, Sets, Looks, Clears, ClearsAll}
 use Rattle.iox_set_steps.specs.Bits.{bit_words, place_of_word, bit_now}
-use Rattle.iox_set_steps.specs.BitPrograms.{bit_next, bit_start, program_of}
-use Rattle.iox_set_steps.specs.BitPlays.{BitsKnow}
+use Rattle.iox_set_steps.specs.BitPrograms.{bit_next, bit_start}
+use Rattle.iox_set_steps.specs.BitPlays.{BitsKnow, bit_kind}
 use Rattle.iox_set_steps.specs.BitLemmas.{place_is, now_is}
-use Rattle.iox_set_steps.specs.BitMoments.{bit_next_knows}
-use Rattle.iox_set_steps.specs.BitLaws.{start_knows}
-use Rattle.iox_set_steps.specs.Turns.{AtSome, AtEach}
-use Rattle.iox_set_steps.specs.BitCalls.{BitTurn, FoundClear, LeftClear, SetsNone, IsDoing, Tells, HaveBits, seen_in_words, turn_of, program_after, turns_of, RepliesTellOfTheirBits}
+use Rattle.iox_set_steps.specs.BitLaws.{bit_laws}
+use Rattle.iox_set_steps.specs.SitedLaws.{word_below}
+use Rattle.iox_set_steps.specs.Kinds.{HaveSite, Tells, seen_in_words, turn_of}
+use Rattle.iox_set_steps.proofs.SitedTellLemmas.{Telling, replies_tell as replies_tell_of}
+use Rattle.iox_set_steps.specs.Turns.{AtSome}
+use Rattle.iox_set_steps.specs.BitCalls.{BitTurn, FoundClear, LeftClear, SetsNone, IsDoing, RepliesTellOfTheirBits, bit_calls}
 
-module _ (site : BitSite) (words : List ℕ) (have : HaveBits site words) where
+module _ (site : BitSite) (words : List ℕ) (have : HaveSite bit_kind site words) where
   room : site.base + bit_words site.capacity ≤ length words
   room = have.room
 
@@ -42,7 +39,7 @@ module _ (site : BitSite) (words : List ℕ) (have : HaveBits site words) where
   past_clear id past = rw (le-ltb (id / 64) (bit_words site.capacity) past) refl
 
   set_tells : (id : ℕ) (earlier : List BitTurn) → id < site.capacity
-      → Tells site (Set id) earlier (turn_of site (Sets id) words) (bit_next site (Sets id) (seen_in_words site (Sets id) words))
+      → Tells bit_calls site (Set id) earlier (turn_of bit_kind site (Sets id) words) (bit_next site (Sets id) (seen_in_words bit_kind site (Sets id) words))
   set_tells id earlier below =
       let seen = get_or words (place_of_word site (id / 64)) 0 in
       let is = seen_is (id / 64) id (omega (arith, below)) refl in
@@ -54,10 +51,10 @@ module _ (site : BitSite) (words : List ℕ) (have : HaveBits site words) where
 
   -- each bit of the words up to this one was clear, once it was so of those before it
   look_tells : (word : ℕ) (earlier : List BitTurn) → word < bit_words site.capacity → IsDoing site ResetNext earlier (Looks word)
-      → Tells site ResetNext earlier (turn_of site (Looks word) words) (bit_next site (Looks word) (seen_in_words site (Looks word) words))
+      → Tells bit_calls site ResetNext earlier (turn_of bit_kind site (Looks word) words) (bit_next site (Looks word) (seen_in_words bit_kind site (Looks word) words))
   look_tells word earlier below doing =
       let seen = get_or words (place_of_word site word) 0 in
-      let turn = turn_of site (Looks word) words in
+      let turn = turn_of bit_kind site (Looks word) words in
       elim (cases_eq seen 0) [
         | inl none ↦ rw (eq-eqb seen 0 none) (
             let upto : (id : ℕ) → id / 64 < word + 1 → AtSome (FoundClear site id) (turn ∷ earlier) = λ id under. elim (cases_lt (id / 64) word) [
@@ -78,19 +75,13 @@ module _ (site : BitSite) (words : List ℕ) (have : HaveBits site words) where
         | inr some ↦ rw (ne_eqb seen 0 some) (
           refl,
           λ id under. inr (doing id (
-              let lowest = bit_at-trailing_zeros w64 seen (omega (arith, some)) (seen_below word) in
+              let lowest = bit_at-trailing_zeros w64 seen (omega (arith, some)) (word_below words (place_of_word site word) have.small) in
               let at = lowest.0 in omega (arith, under, at))),
         )
       ]
-    where
-      seen_below : (word : ℕ) → get_or words (place_of_word site word) 0 < 2 ^ 64
-      seen_below word = elim (cases_lt (place_of_word site word) (length words)) [
-        | inl inside ↦ All-get_or (λ word. word < 2 ^ 64) words (place_of_word site word) 0 inside have.small
-        | inr past ↦ rw (get_or_past words (place_of_word site word) 0 past) (lit≤ tt)
-      ]
 
   clear_tells : (bit : ℕ) (earlier : List BitTurn) → bit / 64 < bit_words site.capacity → IsDoing site ResetNext earlier (Clears bit)
-      → Tells site ResetNext earlier (turn_of site (Clears bit) words) (bit_next site (Clears bit) (seen_in_words site (Clears bit) words))
+      → Tells bit_calls site ResetNext earlier (turn_of bit_kind site (Clears bit) words) (bit_next site (Clears bit) (seen_in_words bit_kind site (Clears bit) words))
   clear_tells bit earlier below doing =
       let seen = get_or words (place_of_word site (bit / 64)) 0 in
       let is = seen_is (bit / 64) bit below refl in
@@ -100,7 +91,7 @@ module _ (site : BitSite) (words : List ℕ) (have : HaveBits site words) where
       ]
 
   -- what an access that clears a word tells
-  all_left : (word : ℕ) → word < bit_words site.capacity → (id : ℕ) → id / 64 ≡ word → LeftClear site id (turn_of site (ClearsAll word) words)
+  all_left : (word : ℕ) → word < bit_words site.capacity → (id : ℕ) → id / 64 ≡ word → LeftClear site id (turn_of bit_kind site (ClearsAll word) words)
   all_left word below id here =
       let seen = get_or words (place_of_word site word) 0 in
       let is = seen_is word id below here in
@@ -113,14 +104,14 @@ module _ (site : BitSite) (words : List ℕ) (have : HaveBits site words) where
         ]
       ]
 
-  sets_none : (word : ℕ) → SetsNone site (turn_of site (ClearsAll word) words)
+  sets_none : (word : ℕ) → SetsNone site (turn_of bit_kind site (ClearsAll word) words)
   sets_none word id = let seen = get_or words (place_of_word site word) 0 in
       elim (cases_eq seen 0) [ inl none ↦ rw (eq-eqb seen 0 none) refl | inr some ↦ rw (ne_eqb seen 0 some) refl ]
 
   all_tells : (word : ℕ) (earlier : List BitTurn) → word < bit_words site.capacity → IsDoing site ResetAll earlier (ClearsAll word)
-      → Tells site ResetAll earlier (turn_of site (ClearsAll word) words) (bit_next site (ClearsAll word) (seen_in_words site (ClearsAll word) words))
+      → Tells bit_calls site ResetAll earlier (turn_of bit_kind site (ClearsAll word) words) (bit_next site (ClearsAll word) (seen_in_words bit_kind site (ClearsAll word) words))
   all_tells word earlier below doing =
-      let turn = turn_of site (ClearsAll word) words in
+      let turn = turn_of bit_kind site (ClearsAll word) words in
       let upto : (id : ℕ) → id / 64 < word + 1 → AtSome (LeftClear site id) (turn ∷ earlier) = λ id under. elim (cases_lt (id / 64) word) [
         | inl before ↦ inr (doing id before)
         | inr not_before ↦ inl (all_left word below id (omega (arith, under, not_before)))
@@ -138,9 +129,9 @@ module _ (site : BitSite) (words : List ℕ) (have : HaveBits site words) where
       ]
 
   pub bit_tells : (call : BitCall) (earlier : List BitTurn) (program : BitProgram) → BitsKnow site program → IsDoing site call earlier program
-      → Tells site call earlier (turn_of site program words) (bit_next site program (seen_in_words site program words))
+      → Tells bit_calls site call earlier (turn_of bit_kind site program words) (bit_next site program (seen_in_words bit_kind site program words))
   bit_tells (Set id) earlier (Sets bit) knows doing =
-      subst (λ i. Tells site (Set i) earlier (turn_of site (Sets bit) words) (bit_next site (Sets bit) (seen_in_words site (Sets bit) words))) doing
+      subst (λ i. Tells bit_calls site (Set i) earlier (turn_of bit_kind site (Sets bit) words) (bit_next site (Sets bit) (seen_in_words bit_kind site (Sets bit) words))) doing
       (set_tells bit earlier knows)
   bit_tells (Set id) earlier (Replies done) knows doing = rw (doing.0) (refl, inr doing.1)
   bit_tells (Set id) earlier AtRest knows doing = absurd doing
@@ -173,36 +164,8 @@ start_doing site ResetAll = elim (cases_eq site.capacity 0) [
       (λ id below. absurd (omega (arith, below)))
 ]
 
--- a call that goes on is still doing it, and one that ended rests
-goes_or_rests : (site : BitSite) (call : BitCall) (earlier : List BitTurn) (turn : BitTurn) (next : Next BitProgram BitReply)
-    → Tells site call earlier turn next
-    → IsDoing site call (turn ∷ earlier) (program_of next) ⊎ (program_of next ≡ AtRest)
-goes_or_rests site call earlier turn (Goes program) tells = inl tells.1
-goes_or_rests site call earlier turn (Ends reply) tells = inr refl
-
-module _ (site : BitSite) (call : BitCall) where
-  known_after : (earlier : List (List ℕ)) → AtEach (HaveBits site) earlier → BitsKnow site (program_after site call earlier)
-  known_after [] have = start_knows site call
-  known_after (words ∷ earlier) have =
-      bit_next_knows site words (have.0).room (have.0).memory (program_after site call earlier) (have.0).small (known_after earlier have.1)
-
-  doing_after : (earlier : List (List ℕ)) → AtEach (HaveBits site) earlier
-      → IsDoing site call (turns_of site call earlier) (program_after site call earlier) ⊎ (program_after site call earlier ≡ AtRest)
-  doing_after [] have = inl (start_doing site call)
-  doing_after (words ∷ earlier) have = let program = program_after site call earlier in elim (doing_after earlier have.1) [
-    | inl doing ↦ goes_or_rests site call (turns_of site call earlier) (turn_of site program words) _
-        (bit_tells site words have.0 call (turns_of site call earlier) program (known_after earlier have.1) doing)
-    | inr rests ↦ inr (rw (rests) refl)
-  ]
-
--- no reply comes from a call that ended
-rests_no_reply : (site : BitSite) (program : BitProgram) (seen : ℕ) (reply : BitReply) → program ≡ AtRest → bit_next site program seen ≡ Ends reply → ⊥
-rests_no_reply site program seen reply rests ends =
-    let now : Goes AtRest ≡ Ends reply = subst (λ p. bit_next site p seen ≡ Ends reply) rests ends in absurd (cc)
+pub bit_telling : Telling bit_kind bit_calls
+bit_telling = record { tells = bit_tells; start_doing = start_doing }
 
 pub replies_tell : RepliesTellOfTheirBits
-replies_tell site call earlier words reply have ends = let program = program_after site call earlier in elim (doing_after site call earlier have.1) [
-  | inl doing ↦ subst (Tells site call (turns_of site call earlier) (turn_of site program words)) ends
-      (bit_tells site words have.0 call (turns_of site call earlier) program (known_after site call earlier have.1) doing)
-  | inr rests ↦ absurd (rests_no_reply site program _ reply rests ends)
-]
+replies_tell = replies_tell_of bit_kind bit_laws bit_calls bit_telling

@@ -1,25 +1,23 @@
 -- Each access of a call of a party at counts tells of the call's own count.
 use Rattle.std.specs.Prelude.{List, [], ◌∷◌, None}
-use Rattle.std.proofs.Common.{◌≡◌, ℕ, ◌+◌, ◌-◌, ◌^◌, ◌<◌, ◌≤◌, ◌⊎◌, length, get_or, refl, ap, sym, ◌∙◌, subst, inl, inr, arith, min}
+use Rattle.std.proofs.Common.{◌≡◌, ℕ, ◌+◌, ◌-◌, ◌^◌, ◌<◌, ◌≤◌, length, get_or, refl, ap, sym, ◌∙◌, subst, inl, inr, arith, min}
 use Rattle.std.proofs.lemmas.Bool.{cases_eq, cases_lt, lt-ltb, le-ltb, eq-eqb, ne_eqb}
-use Rattle.iox_steps.specs.declared.access.Next.{Next}
-use Rattle.iox_steps.specs.declared.access.Next.TheVariants.{Goes, Ends}
 use Rattle.iox_set_steps.specs.declared.counting_bit_set.CountSite.{CountSite}
 use Rattle.iox_set_steps.specs.declared.counting_bit_set.CountCall.{CountCall}
 use Rattle.iox_set_steps.specs.declared.counting_bit_set.CountCall.TheVariants.{Set, ResetAll}
-use Rattle.iox_set_steps.specs.declared.counting_bit_set.CountReply.{CountReply}
 use Rattle.iox_set_steps.specs.declared.counting_bit_set.CountProgram.{CountProgram}
 use Rattle.iox_set_steps.specs.declared.counting_bit_set.CountProgram.TheVariants.{AtRest, Replies, Loads, Exchanges, Takes}
 use Rattle.iox_set_steps.specs.Counts.{max_count, place_of_count, count_now}
-use Rattle.iox_set_steps.specs.CountPrograms.{count_next, count_start, adds_to, program_of}
-use Rattle.iox_set_steps.specs.CountPlays.{CountsKnow}
+use Rattle.iox_set_steps.specs.CountPrograms.{count_next, count_start, adds_to}
+use Rattle.iox_set_steps.specs.CountPlays.{CountsKnow, count_kind}
 use Rattle.iox_set_steps.specs.CountLemmas.{count_place_is, count_is}
-use Rattle.iox_set_steps.specs.CountMoments.{count_next_knows}
-use Rattle.iox_set_steps.specs.CountLaws.{start_knows}
-use Rattle.iox_set_steps.specs.Turns.{AtSome, AtEach}
-use Rattle.iox_set_steps.specs.CountCalls.{CountTurn, TookAll, AddedNone, IsDoing, Tells, HaveCounts, seen_in_words, turn_of, program_after, turns_of, RepliesTellOfTheirCounts}
+use Rattle.iox_set_steps.specs.CountLaws.{count_laws}
+use Rattle.iox_set_steps.specs.Kinds.{HaveSite, Tells, seen_in_words, turn_of}
+use Rattle.iox_set_steps.proofs.SitedTellLemmas.{Telling, replies_tell as replies_tell_of}
+use Rattle.iox_set_steps.specs.Turns.{AtSome}
+use Rattle.iox_set_steps.specs.CountCalls.{CountTurn, TookAll, AddedNone, IsDoing, RepliesTellOfTheirCounts, count_calls}
 
-module _ (site : CountSite) (words : List ℕ) (have : HaveCounts site words) where
+module _ (site : CountSite) (words : List ℕ) (have : HaveSite count_kind site words) where
   room : site.base + site.capacity ≤ length words
   room = have.room
 
@@ -38,14 +36,14 @@ module _ (site : CountSite) (words : List ℕ) (have : HaveCounts site words) wh
 
   -- an access that sees the count, and adds nothing
   add_tells : (id : ℕ) (earlier : List CountTurn) → id < site.capacity
-      → Tells site (Set id) earlier (record { found = words; event = None }) (adds_to id (get_or words (place_of_count site id) 0))
+      → Tells count_calls site (Set id) earlier (record { found = words; event = None }) (adds_to id (get_or words (place_of_count site id) 0))
   add_tells id earlier below = let seen = get_or words (place_of_count site id) 0 in elim (cases_eq seen max_count) [
     | inl full ↦ rw (eq-eqb seen max_count full) (refl, inl (seen_is id below ∙ full))
     | inr more ↦ rw (ne_eqb seen max_count more) (refl, refl)
   ]
 
   exchange_tells : (id count : ℕ) (earlier : List CountTurn) → id < site.capacity → count < max_count
-      → Tells site (Set id) earlier (turn_of site (Exchanges id count) words) (count_next site (Exchanges id count) (seen_in_words site
+      → Tells count_calls site (Set id) earlier (turn_of count_kind site (Exchanges id count) words) (count_next site (Exchanges id count) (seen_in_words count_kind site
       (Exchanges id count) words))
   exchange_tells id count earlier below small = let seen = get_or words (place_of_count site id) 0 in elim (cases_eq seen count) [
     | inl hit ↦ rw (eq-eqb seen count hit) (let is = seen_is id below in (refl, omega (arith, is, hit, small), below))
@@ -53,20 +51,20 @@ module _ (site : CountSite) (words : List ℕ) (have : HaveCounts site words) wh
   ]
 
   -- what an access that takes a count out tells
-  took : (id : ℕ) → id < site.capacity → TookAll site id (turn_of site (Takes id) words)
+  took : (id : ℕ) → id < site.capacity → TookAll site id (turn_of count_kind site (Takes id) words)
   took id below = let seen = get_or words (place_of_count site id) 0 in let is = seen_is id below in elim (cases_eq seen 0) [
     | inl none ↦ rw (eq-eqb seen 0 none) (omega (arith, is, none))
     | inr some ↦ rw (ne_eqb seen 0 some, eq-eqb id id refl) (omega (arith, is))
   ]
 
-  added_none : (id : ℕ) → AddedNone site (turn_of site (Takes id) words)
+  added_none : (id : ℕ) → AddedNone site (turn_of count_kind site (Takes id) words)
   added_none id other = let seen = get_or words (place_of_count site id) 0 in
       elim (cases_eq seen 0) [ inl none ↦ rw (eq-eqb seen 0 none) refl | inr some ↦ rw (ne_eqb seen 0 some) refl ]
 
   take_tells : (bit : ℕ) (earlier : List CountTurn) → bit < site.capacity → IsDoing site ResetAll earlier (Takes bit)
-      → Tells site ResetAll earlier (turn_of site (Takes bit) words) (count_next site (Takes bit) (seen_in_words site (Takes bit) words))
+      → Tells count_calls site ResetAll earlier (turn_of count_kind site (Takes bit) words) (count_next site (Takes bit) (seen_in_words count_kind site (Takes bit) words))
   take_tells bit earlier below doing =
-      let turn = turn_of site (Takes bit) words in
+      let turn = turn_of count_kind site (Takes bit) words in
       let upto : (id : ℕ) → id < bit + 1 → AtSome (TookAll site id) (turn ∷ earlier) = λ id under. elim (cases_eq id bit) [
         | inl same ↦ inl (subst (λ i. TookAll site i turn) (sym same) (took bit below))
         | inr apart ↦ inr (doing id (omega (arith, under, apart)))
@@ -83,19 +81,19 @@ module _ (site : CountSite) (words : List ℕ) (have : HaveCounts site words) wh
         )
       ]
     where
-      past_took : (bit id : ℕ) → site.capacity ≤ id → bit < id → TookAll site id (turn_of site (Takes bit) words)
+      past_took : (bit id : ℕ) → site.capacity ≤ id → bit < id → TookAll site id (turn_of count_kind site (Takes bit) words)
       past_took bit id past over = let seen = get_or words (place_of_count site bit) 0 in elim (cases_eq seen 0) [
         | inl none ↦ rw (eq-eqb seen 0 none) (past_zero id past)
         | inr some ↦ rw (ne_eqb seen 0 some, ne_eqb id bit (omega (arith, over))) (past_zero id past)
       ]
 
   pub count_tells : (call : CountCall) (earlier : List CountTurn) (program : CountProgram) → CountsKnow site program → IsDoing site call earlier program
-      → Tells site call earlier (turn_of site program words) (count_next site program (seen_in_words site program words))
+      → Tells count_calls site call earlier (turn_of count_kind site program words) (count_next site program (seen_in_words count_kind site program words))
   count_tells (Set id) earlier (Loads bit) knows doing =
-      subst (λ i. Tells site (Set i) earlier (turn_of site (Loads bit) words) (count_next site (Loads bit) (seen_in_words site (Loads bit) words))) doing
+      subst (λ i. Tells count_calls site (Set i) earlier (turn_of count_kind site (Loads bit) words) (count_next site (Loads bit) (seen_in_words count_kind site (Loads bit) words))) doing
       (add_tells bit earlier knows)
   count_tells (Set id) earlier (Exchanges bit count) knows doing =
-      subst (λ i. Tells site (Set i) earlier (turn_of site (Exchanges bit count) words) (count_next site (Exchanges bit count) (seen_in_words site
+      subst (λ i. Tells count_calls site (Set i) earlier (turn_of count_kind site (Exchanges bit count) words) (count_next site (Exchanges bit count) (seen_in_words count_kind site
       (Exchanges bit count) words))) doing
       (exchange_tells bit count earlier knows.0 knows.1)
   count_tells (Set id) earlier (Replies done) knows doing = rw (doing.0) (refl, inr doing.1)
@@ -115,36 +113,8 @@ start_doing site ResetAll = elim (cases_eq site.capacity 0) [
       (λ id below. absurd (omega (arith, below)))
 ]
 
--- a call that goes on is still doing it, and one that ended rests
-goes_or_rests : (site : CountSite) (call : CountCall) (earlier : List CountTurn) (turn : CountTurn) (next : Next CountProgram CountReply)
-    → Tells site call earlier turn next
-    → IsDoing site call (turn ∷ earlier) (program_of next) ⊎ (program_of next ≡ AtRest)
-goes_or_rests site call earlier turn (Goes program) tells = inl tells.1
-goes_or_rests site call earlier turn (Ends reply) tells = inr refl
-
-module _ (site : CountSite) (call : CountCall) where
-  known_after : (earlier : List (List ℕ)) → AtEach (HaveCounts site) earlier → CountsKnow site (program_after site call earlier)
-  known_after [] have = start_knows site call
-  known_after (words ∷ earlier) have =
-      count_next_knows site words (have.0).room (have.0).memory (program_after site call earlier) (have.0).small (known_after earlier have.1)
-
-  doing_after : (earlier : List (List ℕ)) → AtEach (HaveCounts site) earlier
-      → IsDoing site call (turns_of site call earlier) (program_after site call earlier) ⊎ (program_after site call earlier ≡ AtRest)
-  doing_after [] have = inl (start_doing site call)
-  doing_after (words ∷ earlier) have = let program = program_after site call earlier in elim (doing_after earlier have.1) [
-    | inl doing ↦ goes_or_rests site call (turns_of site call earlier) (turn_of site program words) _
-        (count_tells site words have.0 call (turns_of site call earlier) program (known_after earlier have.1) doing)
-    | inr rests ↦ inr (rw (rests) refl)
-  ]
-
--- no reply comes from a call that ended
-rests_no_reply : (site : CountSite) (program : CountProgram) (seen : ℕ) (reply : CountReply) → program ≡ AtRest → count_next site program seen ≡ Ends reply → ⊥
-rests_no_reply site program seen reply rests ends =
-    let now : Goes AtRest ≡ Ends reply = subst (λ p. count_next site p seen ≡ Ends reply) rests ends in absurd (cc)
+pub count_telling : Telling count_kind count_calls
+count_telling = record { tells = count_tells; start_doing = start_doing }
 
 pub replies_tell : RepliesTellOfTheirCounts
-replies_tell site call earlier words reply have ends = let program = program_after site call earlier in elim (doing_after site call earlier have.1) [
-  | inl doing ↦ subst (Tells site call (turns_of site call earlier) (turn_of site program words)) ends
-      (count_tells site words have.0 call (turns_of site call earlier) program (known_after site call earlier have.1) doing)
-  | inr rests ↦ absurd (rests_no_reply site program _ reply rests ends)
-]
+replies_tell = replies_tell_of count_kind count_laws count_calls count_telling

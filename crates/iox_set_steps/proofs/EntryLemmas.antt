@@ -1,34 +1,22 @@
--- Entries of a schedule have one end each, at bits, at counts and at a value.
+-- Entries of a schedule have one end each, at a site and at a value.
 use Rattle.std.proofs.Common.{◌≡◌, ◌∙◌, ℕ, Bool, List, refl, sym, ap, ap₂, subst, Option, Some, None, Result, Ok, Err, OnOk, inl, inr}
+use Rattle.std.specs.Prelude.{if◌then◌else◌}
 use Rattle.std.proofs.lemmas.List.{map-id}
 use Rattle.iox_steps.specs.declared.access.Access.{Access}
 use Rattle.iox_steps.specs.declared.access.Progress.{Progress}
 use Rattle.iox_steps.specs.declared.error.MachineError.{MachineError}
 use Rattle.iox_steps.specs.declared.machine.Entry.{Entry}
 use Rattle.iox_steps.specs.Entries.{all_entered, seen_as}
-use Rattle.iox_steps.specs.Worlds.{World, AllEntered}
+use Rattle.iox_steps.specs.MachineStates.{MachineState, AllEntered}
 use Rattle.iox_steps.proofs.EntryLemmas.{all_enter}
-use Rattle.iox_set_steps.specs.declared.bit_set.BitSite.{BitSite}
-use Rattle.iox_set_steps.specs.declared.bit_set.BitCall.{BitCall}
-use Rattle.iox_set_steps.specs.declared.bit_set.BitReply.{BitReply}
-use Rattle.iox_set_steps.specs.declared.bit_set.BitProgram.{BitProgram}
-use Rattle.iox_set_steps.specs.declared.bit_set.party.BitParty.{BitParty}
-use Rattle.iox_set_steps.specs.BitPlays.{BitWorld, bits_ask, bits_happen, bits_rest, BitsLead, BitsBegin}
-use Rattle.iox_set_steps.specs.BitMachines.{AllBitsEntered, SitedBits}
-use Rattle.iox_set_steps.specs.BitEntries.{bits_go, bit_call_begun, bits_after}
-use Rattle.iox_set_steps.specs.declared.counting_bit_set.CountSite.{CountSite}
-use Rattle.iox_set_steps.specs.declared.counting_bit_set.CountCall.{CountCall}
-use Rattle.iox_set_steps.specs.declared.counting_bit_set.CountReply.{CountReply}
-use Rattle.iox_set_steps.specs.declared.counting_bit_set.CountProgram.{CountProgram}
-use Rattle.iox_set_steps.specs.declared.counting_bit_set.party.CountParty.{CountParty}
-use Rattle.iox_set_steps.specs.CountPlays.{CountWorld, counts_ask, counts_happen, counts_rest, CountsLead, CountsBegin}
-use Rattle.iox_set_steps.specs.CountMachines.{AllCountsEntered, SitedCounts}
-use Rattle.iox_set_steps.specs.CountEntries.{counts_go, count_call_begun, counts_after}
+use Rattle.iox_set_steps.specs.Kinds.{Kind, asks, happens, party_rests, Leads, Begins}
+use Rattle.iox_set_steps.specs.SitedMachines.{Sited, AllKindEntered, goes, call_begun, sited_after}
+use Rattle.iox_set_steps.specs.SitedLaws.{Laws}
 use Rattle.iox_set_steps.specs.declared.unrestricted_atomic.AtomicCall.{AtomicCall}
 use Rattle.iox_set_steps.specs.declared.unrestricted_atomic.AtomicReply.{AtomicReply}
 use Rattle.iox_set_steps.specs.declared.unrestricted_atomic.AtomicProgram.{AtomicProgram}
 use Rattle.iox_set_steps.specs.declared.unrestricted_atomic.party.AtomicParty.{AtomicParty}
-use Rattle.iox_set_steps.specs.AtomicPlays.{AtomicWorld, atomics_ask, atomics_happen, atomics_rest, AtomicsLead, AtomicsBegin}
+use Rattle.iox_set_steps.specs.AtomicPlays.{AtomicMachineState, atomics_ask, atomics_happen, atomics_rest, AtomicsLead, AtomicsBegin}
 use Rattle.iox_set_steps.specs.AtomicMachines.{AllAtomicsEntered}
 use Rattle.iox_set_steps.specs.AtomicEntries.{atomics_go, atomic_call_begun, atomics_after}
 
@@ -38,53 +26,44 @@ module _ {P E R C : Type 0} (asks : P → Access) (goes : P → ℕ → P) (happ
     (led : (party after : P) (seen : ℕ) (answer : Progress R) → leads party seen answer after → after ≡ goes party seen)
     (began : (party after : P) (call : C) → begins party call (Ok after) → begins_to party call ≡ Some after)
     (refused : (party : P) (call : C) (error : MachineError) → begins party call (Err error) → begins_to party call ≡ None) where
-  seen_as_is : (world : World P E) → seen_as (λ party. party) world ≡ world
-  seen_as_is world = rw (map-id world.parties) refl
+  seen_as_is : (machine : MachineState P E) → seen_as (λ party. party) machine ≡ machine
+  seen_as_is machine = rw (map-id machine.parties) refl
 
-  pub one_end : (old : World P E) (entries : List (Entry C)) (new : World P E) → AllEntered asks leads happens at_rest begins old entries new
+  pub one_end : (old : MachineState P E) (entries : List (Entry C)) (new : MachineState P E) → AllEntered asks leads happens at_rest begins old entries new
       → new ≡ all_entered asks goes happens at_rest begins_to old entries
   one_end old entries new all =
       let is = all_enter (λ party. party) asks goes happens at_rest begins_to leads begins led began refused old entries new all in
-      subst (λ (w : World P E). new ≡ all_entered asks goes happens at_rest begins_to w entries) (seen_as_is old) (sym (seen_as_is new) ∙ is)
+      subst (λ (w : MachineState P E). new ≡ all_entered asks goes happens at_rest begins_to w entries) (seen_as_is old) (sym (seen_as_is new) ∙ is)
 
--- bits
-bits_led : (party after : BitParty) (seen : ℕ) (answer : Progress BitReply) → BitsLead party seen answer after → after ≡ bits_go party seen
-bits_led party after seen answer leads = ap₂ (λ (site : BitSite) (program : BitProgram). record { site = site; program = program }) leads.0 leads.1
+-- parties at a site
+module _ {S G P C R E : Type 0} (kind : Kind S G P C R E) (laws : Laws kind) where
+  made : (party after : P) (program : G) → kind.site_of after ≡ kind.site_of party → kind.program_of after ≡ program
+      → after ≡ kind.party_of (kind.site_of party) program
+  made party after program here at = laws.is_whole after ∙ ap₂ kind.party_of here at
 
-bits_began : (party after : BitParty) (call : BitCall) → BitsBegin party call (Ok after) → bit_call_begun party call ≡ Some after
-bits_began party after call begins =
-    rw (begins.0) (ap₂ (λ (site : BitSite) (program : BitProgram). Some (record { site = site; program = program })) (sym begins.1) (sym begins.2))
+  kind_led : (party after : P) (seen : ℕ) (answer : Progress R) → Leads kind party seen answer after → after ≡ goes kind party seen
+  kind_led party after seen answer leads = made party after _ leads.0 leads.1
 
-bits_refused : (party : BitParty) (call : BitCall) (error : MachineError) → BitsBegin party call (Err error) → bit_call_begun party call ≡ None
-bits_refused party call error begins = rw (begins.1) refl
+  abbrev begun_by : P → C → P
+  begun_by party call = kind.party_of (kind.site_of party) (kind.start (kind.site_of party) call)
 
-pub bits_end : {A B : Type 0} (site : BitSite) (old : BitWorld) (entries : List (Entry BitCall)) (new : BitWorld) (result : Result A B)
-    → OnOk result (AllBitsEntered old entries new)
-    → let before : SitedBits = record { site = site; world = old } in let after : SitedBits = record { site = site; world = new } in
-    OnOk result (after ≡ bits_after before entries)
-bits_end site old entries new (Ok done) all =
-    rw (one_end bits_ask bits_go bits_happen bits_rest bit_call_begun BitsLead BitsBegin bits_led bits_began bits_refused old entries new all) refl
-bits_end site old entries new (Err error) all = tt
+  kind_began : (party after : P) (call : C) → Begins kind party call (Ok after) → call_begun kind party call ≡ Some after
+  kind_began party after call begins =
+      subst (λ (at_rest : Bool). (if at_rest then Some (begun_by party call) else None) ≡ Some after)
+      (sym (ap kind.rests begins.0 ∙ laws.rests)) (ap Some (sym (made party after _ begins.1 begins.2)))
 
--- counts
-counts_led : (party after : CountParty) (seen : ℕ) (answer : Progress CountReply) → CountsLead party seen answer after → after ≡ counts_go party seen
-counts_led party after seen answer leads = ap₂ (λ (site : CountSite) (program : CountProgram). record { site = site; program = program }) leads.0 leads.1
+  kind_refused : (party : P) (call : C) (error : MachineError) → Begins kind party call (Err error) → call_begun kind party call ≡ None
+  kind_refused party call error begins =
+      subst (λ (at_rest : Bool). (if at_rest then Some (begun_by party call) else None) ≡ None) (sym begins.1) refl
 
-counts_began : (party after : CountParty) (call : CountCall) → CountsBegin party call (Ok after) → count_call_begun party call ≡ Some after
-counts_began party after call begins =
-    rw (begins.0) (ap₂ (λ (site : CountSite) (program : CountProgram). Some (record { site = site; program = program })) (sym begins.1) (sym begins.2))
-
-counts_refused : (party : CountParty) (call : CountCall) (error : MachineError) → CountsBegin party call (Err error) → count_call_begun party call ≡ None
-counts_refused party call error begins = rw (begins.1) refl
-
-pub counts_end : {A B : Type 0} (site : CountSite) (old : CountWorld) (entries : List (Entry CountCall)) (new : CountWorld) (result : Result A B)
-    → OnOk result (AllCountsEntered old entries new)
-    → let before : SitedCounts = record { site = site; world = old } in let after : SitedCounts = record { site = site; world = new } in
-    OnOk result (after ≡ counts_after before entries)
-counts_end site old entries new (Ok done) all =
-    rw (one_end counts_ask counts_go counts_happen counts_rest count_call_begun CountsLead CountsBegin
-    counts_led counts_began counts_refused old entries new all) refl
-counts_end site old entries new (Err error) all = tt
+  pub sited_end : {A B : Type 0} (site : S) (old : MachineState P E) (entries : List (Entry C)) (new : MachineState P E) (result : Result A B)
+      → OnOk result (AllKindEntered kind old entries new)
+      → let before : Sited S P E = record { site = site; machine = old } in let after : Sited S P E = record { site = site; machine = new } in
+      OnOk result (after ≡ sited_after kind before entries)
+  sited_end site old entries new (Ok done) all = ap (λ (w : MachineState P E). record { site = site; machine = w })
+      (one_end (asks kind) (goes kind) (happens kind) (party_rests kind) (call_begun kind) (Leads kind) (Begins kind)
+      kind_led kind_began kind_refused old entries new all)
+  sited_end site old entries new (Err error) all = tt
 
 -- a value
 module _ (size : ℕ) where
@@ -108,13 +87,13 @@ module _ (size : ℕ) where
     | inr busy ↦ rw (busy.1, busy.2) refl
   ]
 
-  pub atomics_enter : (old : AtomicWorld size) (entries : List (Entry (AtomicCall size))) (new : AtomicWorld size) → AllAtomicsEntered size old entries new
+  pub atomics_enter : (old : AtomicMachineState size) (entries : List (Entry (AtomicCall size))) (new : AtomicMachineState size) → AllAtomicsEntered size old entries new
       → new ≡ atomics_after old entries
   atomics_enter old entries new all =
       one_end (atomics_ask size) atomics_go atomics_happen atomics_rest atomic_call_begun (AtomicsLead size) AtomicsBegin
       atomics_led atomics_began atomics_refused old entries new all
 
-  pub atomics_end : {A B : Type 0} (old : AtomicWorld size) (entries : List (Entry (AtomicCall size))) (new : AtomicWorld size) (result : Result A B)
+  pub atomics_end : {A B : Type 0} (old : AtomicMachineState size) (entries : List (Entry (AtomicCall size))) (new : AtomicMachineState size) (result : Result A B)
       → OnOk result (AllAtomicsEntered size old entries new) → OnOk result (new ≡ atomics_after old entries)
   atomics_end old entries new (Ok done) all = atomics_enter old entries new all
   atomics_end old entries new (Err error) all = tt

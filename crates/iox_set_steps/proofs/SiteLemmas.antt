@@ -6,7 +6,7 @@ use Rattle.iox_steps.specs.declared.access.Progress.{Progress}
 use Rattle.iox_steps.specs.declared.error.MachineError.{MachineError}
 use Rattle.iox_steps.specs.declared.machine.Entry.{Entry}
 use Rattle.iox_steps.specs.declared.machine.Entry.TheVariants.{Begin, Step}
-use Rattle.iox_steps.specs.Worlds.{World, Entered, AllEntered}
+use Rattle.iox_steps.specs.MachineStates.{MachineState, Entered, AllEntered}
 use Rattle.iox_set_steps.specs.Sites.{StayAtSites}
 
 module _ {P E R C S : Type 0} (asks : P → Access) (leads : P → ℕ → Progress R → P → Type 0) (happens : P → ℕ → Option E) (at_rest : P → Bool) (begins : P → C → Result P MachineError → Type 0)
@@ -20,14 +20,14 @@ module _ {P E R C S : Type 0} (asks : P → Access) (leads : P → ℕ → Progr
       ∙ sym (map-set site_of parties number (get_or parties number party))
       ∙ ap (map site_of) (set-get_or parties number party)
 
-  entered_stays : (old : World P E) (entry : Entry C) (new : World P E) → Entered asks leads happens at_rest begins old entry new → StayAtSites site_of old new
+  entered_stays : (old : MachineState P E) (entry : Entry C) (new : MachineState P E) → Entered asks leads happens at_rest begins old entry new → StayAtSites site_of old new
   entered_stays old (Begin number call) new (inl begun) =
-      ap (λ (w : World P E). map site_of w.parties) begun.leads_to ∙ with_stay old.parties number begun.party begun.after begun.is_party.1 (begins_stay _ _ _ begun.begins_with)
-  entered_stays old (Begin number call) new (inr refused) = ap (λ (w : World P E). map site_of w.parties) refused.1
+      ap (λ (w : MachineState P E). map site_of w.parties) begun.leads_to ∙ with_stay old.parties number begun.party begun.after begun.is_party.1 (begins_stay _ _ _ begun.begins_with)
+  entered_stays old (Begin number call) new (inr refused) = ap (λ (w : MachineState P E). map site_of w.parties) refused.1
   entered_stays old (Step number) new (inl stepped) =
-      ap (λ (w : World P E). map site_of w.parties) stepped.1.leads_to ∙ with_stay old.parties number stepped.1.party stepped.1.after stepped.1.is_party.1 (leads_stay _ _ _ _ stepped.1.leads_on)
-  entered_stays old (Step number) new (inr refused) = ap (λ (w : World P E). map site_of w.parties) refused.1
+      ap (λ (w : MachineState P E). map site_of w.parties) stepped.1.leads_to ∙ with_stay old.parties number stepped.1.party stepped.1.after stepped.1.is_party.1 (leads_stay _ _ _ _ stepped.1.leads_on)
+  entered_stays old (Step number) new (inr refused) = ap (λ (w : MachineState P E). map site_of w.parties) refused.1
 
-  pub all_entered_stay : (old : World P E) (entries : List (Entry C)) (new : World P E) → AllEntered asks leads happens at_rest begins old entries new → StayAtSites site_of old new
-  all_entered_stay old [] new entered = ap (λ (w : World P E). map site_of w.parties) entered
+  pub all_entered_stay : (old : MachineState P E) (entries : List (Entry C)) (new : MachineState P E) → AllEntered asks leads happens at_rest begins old entries new → StayAtSites site_of old new
+  all_entered_stay old [] new entered = ap (λ (w : MachineState P E). map site_of w.parties) entered
   all_entered_stay old (entry ∷ entries) new entered = all_entered_stay entered.0 entries new entered.1.1 ∙ entered_stays old entry entered.0 entered.1.0

@@ -6,14 +6,14 @@ use Rattle.std.proofs.lemmas.List.{map-append, take-append-drop}
 use Rattle.iox_steps.specs.declared.access.Access.{Access}
 use Rattle.iox_steps.specs.declared.error.MachineError.{MachineError}
 use Rattle.iox_steps.specs.declared.machine.Entry.{Entry}
-use Rattle.iox_steps.specs.Worlds.{World, AllEntered, IsStepUnderWay, StopsAtStep}
+use Rattle.iox_steps.specs.MachineStates.{MachineState, AllEntered, IsStepUnderWay, StopsAtStep}
 use Rattle.iox_steps.specs.declared.access.Progress.{Progress}
 use Rattle.iox_steps.specs.declared.access.Progress.TheVariants.{Going, Done}
 use Rattle.iox_set_steps.specs.declared.unrestricted_atomic.value.ValueReply.{ValueReply}
 use Rattle.iox_set_steps.specs.declared.unrestricted_atomic.value.ValueReply.TheVariants as typed_reply
 use Rattle.iox_set_steps.specs.declared.unrestricted_atomic.value.ValueEvent.{ValueEvent}
 use Rattle.iox_set_steps.specs.declared.unrestricted_atomic.value.ValueEvent.TheVariants.{Stored, Loaded}
-use Rattle.iox_set_steps.specs.TypedValues.{LoadsCurrent, TypedAnswers, ValueWorld, IsTypedMoment, TypedRun, TypedRunsOn}
+use Rattle.iox_set_steps.specs.TypedValues.{LoadsCurrent, TypedAnswers, ValueMachineState, IsTypedEvent, TypedRun, TypedRunsOn}
 
 module _ {T : Type 0} where
   -- a run from the same value
@@ -28,15 +28,15 @@ module _ {T : Type 0} where
   run_append value (Loaded got ∷ events) mid others last run rest = (run.0, run_append value events mid others last run.1 rest)
 
   module _ {size : ℕ} where
-    pub runs_of_moment : (words : T → List ℕ) (is_value : T → Type 0) (old new : ValueWorld T size) (number : ℕ) (answer : Progress (ValueReply T))
-        → IsTypedMoment words is_value old number answer new → TypedRunsOn old new
-    runs_of_moment words is_value old new number answer moment = record { more = option_to_list moment.event; told = moment.told; run = moment.run }
+    pub runs_of_event : (words : T → List ℕ) (is_value : T → Type 0) (old new : ValueMachineState T size) (number : ℕ) (answer : Progress (ValueReply T))
+        → IsTypedEvent words is_value old number answer new → TypedRunsOn old new
+    runs_of_event words is_value old new number answer event = record { more = option_to_list event.event; told = event.told; run = event.run }
 
     -- nothing happened
-    pub runs_same : (old new : ValueWorld T size) → new.value ≡ old.value → new.events ≡ old.events → TypedRunsOn old new
+    pub runs_same : (old new : ValueMachineState T size) → new.value ≡ old.value → new.events ≡ old.events → TypedRunsOn old new
     runs_same old new value events = record { more = []; told = events ∙ sym (append-nil old.events); run = value }
 
-    pub runs_append : (old mid new : ValueWorld T size) → TypedRunsOn old mid → TypedRunsOn mid new → TypedRunsOn old new
+    pub runs_append : (old mid new : ValueMachineState T size) → TypedRunsOn old mid → TypedRunsOn mid new → TypedRunsOn old new
     runs_append old mid new first second = record {
       more = first.more ++ second.more;
       told = second.told ∙ ap (λ events. events ++ second.more) first.told ∙ append_assoc old.events first.more second.more;
@@ -44,7 +44,7 @@ module _ {T : Type 0} where
     }
 
     -- what a load answers, is current
-    loads_current : (old new : ValueWorld T size) (answer : Progress (ValueReply T)) (event : Option (ValueEvent T)) → TypedAnswers answer event
+    loads_current : (old new : ValueMachineState T size) (answer : Progress (ValueReply T)) (event : Option (ValueEvent T)) → TypedAnswers answer event
         → TypedRun old.value (option_to_list event) new.value → LoadsCurrent old answer
     loads_current old new Going event says run = tt
     loads_current old new (Done (typed_reply.Stored done)) event says run = tt
@@ -52,15 +52,15 @@ module _ {T : Type 0} where
     loads_current old new (Done (typed_reply.Loaded value)) (Some (Stored told)) says run = absurd says
     loads_current old new (Done (typed_reply.Loaded value)) (Some (Loaded told)) says run = sym says ∙ run.0
 
-    pub loads_of_moment : (words : T → List ℕ) (is_value : T
-        → Type 0) (old : ValueWorld T size) (number : ℕ) (answer : Progress (ValueReply T)) (new : ValueWorld T size)
-        → IsTypedMoment words is_value old number answer new → LoadsCurrent old answer
-    loads_of_moment words is_value old number answer new moment = loads_current old new answer moment.event moment.answers moment.run
+    pub loads_of_event : (words : T → List ℕ) (is_value : T
+        → Type 0) (old : ValueMachineState T size) (number : ℕ) (answer : Progress (ValueReply T)) (new : ValueMachineState T size)
+        → IsTypedEvent words is_value old number answer new → LoadsCurrent old answer
+    loads_of_event words is_value old number answer new event = loads_current old new answer event.event event.answers event.run
 
 -- a schedule that is entered as another stops at the entry that this one's entry is there
 module _ {P E R C D : Type 0} (asks : P → Access) (leads : P → ℕ → Progress R → P → Type 0) (happens : P → ℕ → Option E) (at_rest : P → Bool)
     (begins : P → C → Result P MachineError → Type 0) (seen : Entry D → Entry C) where
-  pub stops_as : {A : Type 0} (old : World P E) (entries : List (Entry D)) (count : ℕ) (entry : Entry D) (new : World P E) (result : Result A MachineError)
+  pub stops_as : {A : Type 0} (old : MachineState P E) (entries : List (Entry D)) (count : ℕ) (entry : Entry D) (new : MachineState P E) (result : Result A MachineError)
       → count < length entries → entry ≡ get_or entries count entry → AllEntered asks leads happens at_rest begins old (map seen (take count entries)) new
       → IsStepUnderWay asks leads happens at_rest begins new (seen entry)
       → OnErr result (StopsAtStep asks leads happens at_rest begins old (map seen entries) new)

@@ -6,8 +6,8 @@ use Rattle.iox_set_steps.specs.declared.unrestricted_atomic.AtomicCall.{AtomicCa
 use Rattle.iox_set_steps.specs.declared.unrestricted_atomic.party.AtomicParty.{AtomicParty}
 use Rattle.iox_set_steps.specs.declared.unrestricted_atomic.value.ValueCall.{ValueCall}
 use Rattle.iox_set_steps.specs.AtomicPrograms.{atomic_next, program_of}
-use Rattle.iox_set_steps.specs.AtomicPlays.{AtomicWorld, atomics_ask, atomics_happen, atomics_rest, atomic_start, may_call}
-use Rattle.iox_set_steps.specs.TypedValues.{ValueWorld, entry_words}
+use Rattle.iox_set_steps.specs.AtomicPlays.{AtomicMachineState, atomics_ask, atomics_happen, atomics_rest, atomic_start, may_call}
+use Rattle.iox_set_steps.specs.TypedValues.{ValueMachineState, entry_words}
 
 module _ {size : ℕ} where
   -- where a party is after an access that found this word
@@ -18,7 +18,7 @@ module _ {size : ℕ} where
     program = program_of (atomic_next size party.program seen);
   }
 
-  -- a party at rest begins each call that it may make, and no other
+  -- the party once it began the call: one at rest begins each call that it may make
   abbrev pub atomic_call_begun : AtomicParty size → AtomicCall size → Option (AtomicParty size)
   atomic_call_begun party call = if may_call party call then
       if atomics_rest party then Some (record {
@@ -29,11 +29,11 @@ module _ {size : ℕ} where
       else None
 
   -- the machine after all entries
-  abbrev pub atomics_after : AtomicWorld size → List (Entry (AtomicCall size)) → AtomicWorld size
+  abbrev pub atomics_after : AtomicMachineState size → List (Entry (AtomicCall size)) → AtomicMachineState size
   atomics_after =
       all_entered (atomics_ask size) atomics_go atomics_happen atomics_rest atomic_call_begun
 
   -- the words and parties of a value of a type after all entries
-  abbrev pub plays_after : {T : Type 0} → (T → List ℕ) → ValueWorld T size
-      → List (Entry (ValueCall T)) → AtomicWorld size
-  plays_after words world entries = atomics_after world.plays (map (entry_words words) entries)
+  abbrev pub plays_after : {T : Type 0} → (T → List ℕ) → ValueMachineState T size
+      → List (Entry (ValueCall T)) → AtomicMachineState size
+  plays_after words machine entries = atomics_after machine.plays (map (entry_words words) entries)

@@ -5,7 +5,7 @@ use Rattle.std.proofs.Common.{ltb, length-set, get_or-set_same, get_or-set_other
 use Rattle.std.proofs.lemmas.Bool.{cases_eq, cases_Bool, eqb-true, ne_eqb}
 use Rattle.iox_steps.specs.declared.access.Progress.{Progress}
 use Rattle.iox_steps.specs.Accesses.{words_after, IsWithin}
-use Rattle.iox_steps.specs.Worlds.{IsParty, with_party, seen_in, after_access}
+use Rattle.iox_steps.specs.MachineStates.{IsParty, with_party, seen_in, after_access}
 use Rattle.iox_steps.proofs.AccessLemmas.{length-words_after}
 use Rattle.iox_set_steps.specs.declared.unrestricted_atomic.AtomicReply.{AtomicReply}
 use Rattle.iox_set_steps.specs.declared.unrestricted_atomic.AtomicProgram.{AtomicProgram}
@@ -13,18 +13,19 @@ use Rattle.iox_set_steps.specs.declared.unrestricted_atomic.AtomicProgram.TheVar
 use Rattle.iox_set_steps.specs.declared.unrestricted_atomic.AtomicProgram.TheVariants.{LoadsAgain}
 use Rattle.iox_set_steps.specs.declared.unrestricted_atomic.party.AtomicParty.{AtomicParty}
 use Rattle.iox_set_steps.specs.AtomicPrograms.{index_behind, atomic_access, atomic_next, program_of}
-use Rattle.iox_set_steps.specs.AtomicPlays.{AtomicWorld, atomics_ask, atomics_happen, atomics_rest, AtomicsLead, is_storing, IsAtValue, AtomicsHold}
+use Rattle.iox_set_steps.specs.AtomicPlays.{AtomicMachineState, atomics_ask, atomics_happen, atomics_rest, AtomicsLead, is_storing, IsAtValue, AtomicsHold}
 use Rattle.iox_set_steps.specs.AtomicLemmas.{run_more}
 use Rattle.iox_set_steps.specs.AtomicKnowledge.{Follows, atomic_access_within, survives}
-use Rattle.iox_set_steps.specs.AtomicMoments.{Makes, atomic_makes}
+use Rattle.iox_set_steps.specs.AtomicEvents.{Makes, atomic_makes}
 
-pub atomics_stay_in : (size : ℕ) (world : AtomicWorld size) (number : ℕ) (party : AtomicParty size) → AtomicsHold size world → IsParty world number party
-    → IsWithin 0 (length world.words) (atomics_ask size party)
-atomics_stay_in size world number party holds is =
+-- the access of each party names a word that exists
+pub atomics_stay_in : (size : ℕ) (machine : AtomicMachineState size) (number : ℕ) (party : AtomicParty size) → AtomicsHold size machine → IsParty machine number party
+    → IsWithin 0 (length machine.words) (atomics_ask size party)
+atomics_stay_in size machine number party holds is =
     let at = holds.parties number party is in
-    rw (at.here) (atomic_access_within size holds.base world.words holds.room holds.memory holds.version party.program at.knows)
+    rw (at.here) (atomic_access_within size holds.base machine.words holds.room holds.memory holds.version party.program at.knows)
 
--- an access of a party that stores nothing leaves the words
+-- an access of a party that is in no store leaves the words unchanged
 words_stay : (size base : ℕ) (words : List ℕ) (program : AtomicProgram size) → is_storing program ≡ false
     → words_after (atomic_access size base program) words ≡ words
 words_stay size base words AtRest other = refl
@@ -35,7 +36,7 @@ words_stay size base words LoadsToLoad other = refl
 words_stay size base words (LoadsWord version list index) other = refl
 words_stay size base words (LoadsAgain version list) other = refl
 
--- another party knows what it knew
+-- what held of another party still holds
 other_knows : (size base : ℕ) (words : List ℕ) (number other : ℕ) (party that : AtomicParty size) → IsAtValue size base words number party
     → IsAtValue size base words other that → other ≢ number
     → Follows size base words (words_after (atomic_access size base party.program) words)
@@ -52,7 +53,7 @@ other_knows size base words number other party that at known apart follows = rec
   ];
 }
 
--- a party that neither calls nor is called to store does not store
+-- a program that is in no store goes to none
 next_stores : (size : ℕ) (program : AtomicProgram size) (seen : ℕ) → is_storing program ≡ false
     → is_storing (program_of (atomic_next size program seen)) ≡ false
 next_stores size AtRest seen other = refl
@@ -67,16 +68,19 @@ next_stores size (LoadsAgain version list) seen other = elim (cases_Bool (eqb se
   | inr moved ↦ rw moved (elim (cases_Bool (ltb 0 size)) [ inl some ↦ rw some refl | inr none ↦ rw none refl ])
 ]
 
-module _ (size : ℕ) (world : AtomicWorld size) (number : ℕ) (party after : AtomicParty size) (answer : Progress (AtomicReply size))
-    (holds : AtomicsHold size world) (is : IsParty world number party)
-    (leads : AtomicsLead size party (seen_in world (atomics_ask size party)) answer after) where
-  at : IsAtValue size holds.base world.words number party
+module _ (size : ℕ) (machine : AtomicMachineState size) (number : ℕ) (party after : AtomicParty size) (answer : Progress (AtomicReply size))
+    (holds : AtomicsHold size machine) (is : IsParty machine number party)
+    (leads : AtomicsLead size party (seen_in machine (atomics_ask size party)) answer after) where
+  -- the party is at the value
+  at : IsAtValue size holds.base machine.words number party
   at = holds.parties number party is
 
-  pub makes : Makes size holds.base world.words party.program (words_after (atomics_ask size party) world.words) (seen_in world (atomics_ask size party))
-  makes = rw (at.here) (atomic_makes size holds.base world.words holds.room holds.memory holds.version party.program at.knows)
+  -- what the access makes of the words and of the party
+  pub makes : Makes size holds.base machine.words party.program (words_after (atomics_ask size party) machine.words) (seen_in machine (atomics_ask size party))
+  makes = rw (at.here) (atomic_makes size holds.base machine.words holds.room holds.memory holds.version party.program at.knows)
 
-  own : IsAtValue size holds.base (words_after (atomics_ask size party) world.words) number after
+  -- the party is at the value after its access
+  own : IsAtValue size holds.base (words_after (atomics_ask size party) machine.words) number after
   own = record {
     here = leads.0 ∙ at.here;
     role = leads.1 ∙ at.role;
@@ -84,37 +88,41 @@ module _ (size : ℕ) (world : AtomicWorld size) (number : ℕ) (party after : A
     knows = rw (leads.2) (makes.knows);
   }
 
-  others : (other : ℕ) (that : AtomicParty size) → other ≢ number → IsParty world other that
-      → IsAtValue size holds.base (words_after (atomics_ask size party) world.words) other that
+  -- each other party is at the value after the access
+  others : (other : ℕ) (that : AtomicParty size) → other ≢ number → IsParty machine other that
+      → IsAtValue size holds.base (words_after (atomics_ask size party) machine.words) other that
   others other that apart known =
       let follows = makes.follows in
-      rw (at.here) (other_knows size holds.base world.words number other party that at (holds.parties other that known) apart (rw (at.here) at follows))
+      rw (at.here) (other_knows size holds.base machine.words number other party that at (holds.parties other that known) apart (rw (at.here) at follows))
 
-  pub all : (other : ℕ) (that : AtomicParty size) → IsParty (with_party world number after) other that
-      → IsAtValue size holds.base (words_after (atomics_ask size party) world.words) other that
+  -- each party is at the value after the access
+  pub all : (other : ℕ) (that : AtomicParty size) → IsParty (with_party machine number after) other that
+      → IsAtValue size holds.base (words_after (atomics_ask size party) machine.words) other that
   all other that known = elim (cases_eq other number) [
-    | inl same ↦ (let one : that ≡ after = known.1 ∙ ap (λ n. get_or (set world.parties number after) n that) same
-        ∙ get_or-set_same world.parties number after that is.0 in rw (same, one) own)
+    | inl same ↦ (let one : that ≡ after = known.1 ∙ ap (λ n. get_or (set machine.parties number after) n that) same
+        ∙ get_or-set_same machine.parties number after that is.0 in rw (same, one) own)
     | inr apart ↦ others other that apart (
-      omega (arith, known.0, length-set world.parties number after),
-      known.1 ∙ get_or-set_other world.parties number other after that apart,
+      omega (arith, known.0, length-set machine.parties number after),
+      known.1 ∙ get_or-set_other machine.parties number other after that apart,
     )
   ]
 
-  unfoldable pub kept : AtomicsHold size (after_access world number (atomics_ask size party) after
-      (atomics_happen party (seen_in world (atomics_ask size party))))
+  -- the invariant holds after the access
+  unfoldable pub kept : AtomicsHold size (after_access machine number (atomics_ask size party) after
+      (atomics_happen party (seen_in machine (atomics_ask size party))))
   kept = record {
     base = holds.base;
     first = holds.first;
-    run = run_more size holds.first world.events _ _ _ holds.run makes.leads;
+    run = run_more size holds.first machine.events _ _ _ holds.run makes.leads;
     room = simp length-words_after (holds.room);
     memory = simp length-words_after (holds.memory);
     version = makes.version;
     parties = all;
   }
 
-unfoldable pub atomics_keep : (size : ℕ) (world : AtomicWorld size) (number : ℕ) (party after : AtomicParty size) (answer : Progress (AtomicReply size))
-    → AtomicsHold size world → IsParty world number party → atomics_rest party ≡ false
-    → AtomicsLead size party (seen_in world (atomics_ask size party)) answer after
-    → AtomicsHold size (after_access world number (atomics_ask size party) after (atomics_happen party (seen_in world (atomics_ask size party))))
-atomics_keep size world number party after answer holds is awake leads = kept size world number party after answer holds is leads
+-- each access of a party whose call is under way keeps the invariant
+unfoldable pub atomics_keep : (size : ℕ) (machine : AtomicMachineState size) (number : ℕ) (party after : AtomicParty size) (answer : Progress (AtomicReply size))
+    → AtomicsHold size machine → IsParty machine number party → atomics_rest party ≡ false
+    → AtomicsLead size party (seen_in machine (atomics_ask size party)) answer after
+    → AtomicsHold size (after_access machine number (atomics_ask size party) after (atomics_happen party (seen_in machine (atomics_ask size party))))
+atomics_keep size machine number party after answer holds is awake leads = kept size machine number party after answer holds is leads

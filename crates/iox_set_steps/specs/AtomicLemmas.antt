@@ -1,4 +1,5 @@
--- What one access does to a value: the two cells are apart, and a version that stands has its words.
+-- What one access does to a value: the two cells have no word in common, and an unchanged version
+-- keeps its words.
 use Rattle.std.specs.Prelude.{List, [], ◌∷◌, Option, Some, None}
 use Rattle.std.specs.Option.{option_to_list}
 use Rattle.std.proofs.Common.{◌≡◌, ℕ, ◌+◌, ◌%◌, ◌^◌, ◌<◌, ◌≤◌, ◌⊎◌, ◌++◌, length, set, refl, ◌∙◌, inl, inr, arith, get_or-set_same, get_or-set_other}
@@ -9,11 +10,12 @@ use Rattle.iox_set_steps.specs.Values.{cell_of, word_of, AgreeUpTo, words_of, Va
 use Rattle.iox_set_steps.specs.AtomicPrograms.{word_place, stores_from, loads_from}
 use Rattle.iox_set_steps.specs.AtomicPlays.{IsStoring, IsLoading, AtomicsKnow}
 
--- the cells of a version and of the one behind it are two
+-- the cells of a version and of the next one are two, and begin at 0 and at `size`
 pub record AreTwoCells (size here there : ℕ) : Type 0 where
   pub inside : (here ≤ size) × (there ≤ size)
   pub apart : ((here ≡ 0) × (there ≡ size)) ⊎ ((here ≡ size) × (there ≡ 0))
 
+-- the cells of a version and of the next one are two
 pub two_cells : (size version : ℕ) → AreTwoCells size (cell_of size version) (cell_of size (version + 1))
 two_cells size version = elim (cases_eq (version % 2) 0) [
   | inl even ↦ rw (eq-eqb (version % 2) 0 even, ne_eqb ((version + 1) % 2) 0 (omega arith))
@@ -22,12 +24,12 @@ two_cells size version = elim (cases_eq (version % 2) 0) [
       (record { inside = (omega arith, omega arith); apart = inr (refl, refl) })
 ]
 
--- where a word of a value stands
+-- the place of a word of a value
 pub word_place_is : (size base version index : ℕ) → index < size → base + 1 + size + size < 2 ^ 64
     → word_place size base version index ≡ base + 1 + cell_of size version + index
 word_place_is size base version index below memory = let cells = two_cells size version in let cell = cells.inside.0 in omega arith
 
--- a store in the other cell leaves the version, and the value that is current
+-- a store in the other cell leaves the value of the current version unchanged
 pub other_cell_stays : (size base : ℕ) (words : List ℕ) (version index value at : ℕ) → index < size → at < size
     → word_of size base (set words (base + 1 + cell_of size (version + 1) + index) value) version at ≡ word_of size base words version at
 other_cell_stays size base words version index value at below inside =
@@ -55,7 +57,7 @@ loaded_more list index word value below is loaded at inside = elim (cases_eq at 
   | inr apart ↦ get_or-set_other list index at word 0 apart ∙ loaded at (omega arith)
 ]
 
--- a run goes on
+-- a list of events continues with one more event
 pub run_more : (size : ℕ) (first : ℕ → ℕ) (events : List (AtomicEvent size)) (last : ℕ → ℕ) (event : Option (AtomicEvent size)) (new : ℕ → ℕ)
     → ValueRun size first events last → LeadsOn size last event new → ValueRun size first (events ++ option_to_list event) new
 run_more size first [] last None new run leads = λ at inside. leads at inside ∙ run at inside
@@ -66,6 +68,7 @@ run_more size first (Stored list ∷ events) last event new run leads = run_more
 run_more size first (Loaded list ∷ events) last event new run leads = (run.0, run_more size first events last event new run.1 leads)
 
 module _ (size base : ℕ) (words : List ℕ) where
+  -- what holds of a store where its next access begins
   pub stores_from_knows : (list : List ℕ) (version index : ℕ) → index ≤ size → IsStoring size base words list version index
       → AtomicsKnow size base words (stores_from size list version index)
   stores_from_knows list version index most storing = elim (cases_lt index size) [
@@ -74,6 +77,7 @@ module _ (size base : ℕ) (words : List ℕ) where
         (record { current = storing.current; behind = storing.behind; written = λ at inside. storing.written at (omega arith) })
   ]
 
+  -- what holds of a load where its next access begins
   pub loads_from_knows : (version : ℕ) (list : List ℕ) (index : ℕ) → index ≤ size → IsLoading size base words version list index
       → AtomicsKnow size base words (loads_from size version list index)
   loads_from_knows version list index most loading = elim (cases_lt index size) [

@@ -1,4 +1,4 @@
--- What a store in one word does to the bits, and how an event makes up for it.
+-- What a store in one word does to the bits, and which event accounts for it.
 use Rattle.std.specs.Prelude.{List, Some, None, ◌==◌}
 use Rattle.std.specs.Option.{option_to_list}
 use Rattle.std.specs.Int.{bit_at}
@@ -11,7 +11,7 @@ use Rattle.iox_set_steps.specs.declared.bit_set.BitEvent.{BitEvent}
 use Rattle.iox_set_steps.specs.declared.bit_set.BitEvent.TheVariants.{Set, Cleared, ClearedAll}
 use Rattle.iox_set_steps.specs.Bits.{bit_words, place_of_word, bit_now, times_set, times_cleared}
 
--- where a word of the bits stands
+-- the place of a word of the bits
 pub place_is : (site : BitSite) (word : ℕ) → word < bit_words site.capacity
     → site.base + bit_words site.capacity < 2 ^ 64 → place_of_word site word ≡ site.base + word
 place_is site word below memory = omega arith
@@ -29,7 +29,7 @@ module _ (site : BitSite) (words : List ℕ) (word value : ℕ) (below : word < 
       now_is site (set words (site.base + word) value) word id below here
       ∙ ap (λ n. bit_at n (id % 64)) (get_or-set_same words (site.base + word) value 0 (omega arith))
 
-  -- and the others stay
+  -- after a store in one word, the bits of the other words are unchanged
   pub now-other : (id : ℕ) → id / 64 ≢ word → bit_now site (set words (site.base + word) value) id ≡ bit_now site words id
   now-other id apart = elim (cases_lt (id / 64) (bit_words site.capacity)) [
     | inl inside ↦ now_is site (set words (site.base + word) value) (id / 64) id inside refl
@@ -38,7 +38,7 @@ module _ (site : BitSite) (words : List ℕ) (word value : ℕ) (below : word < 
     | inr past ↦ rw (le-ltb (id / 64) (bit_words site.capacity) past) refl
   ]
 
--- and if it changes one bit alone, so do all others
+-- after a store that changes only one bit, all other bits are unchanged
 pub now-others : (site : BitSite) (words : List ℕ) (bit value id : ℕ) → bit / 64 < bit_words site.capacity
     → site.base + bit_words site.capacity ≤ length words
     → ((i : ℕ) → i < 64 → i ≢ bit % 64 → bit_at value i ≡ bit_at (get_or words (site.base + bit / 64) 0) i)
@@ -50,11 +50,11 @@ now-others site words bit value id below room same other = elim (cases_eq (id / 
   | inr apart ↦ now-other site words (bit / 64) value below room id apart
 ]
 
--- a bit that was `old` and is `new` now: the events make up for the change
+-- the events account for the change of a bit from `old` to `new`
 abbrev pub MakesUp : ℕ → ℕ → List BitEvent → ℕ → Type 0
 MakesUp id old events new = old + times_set id events ≡ times_cleared id events + new
 
--- a bit is set, and told if it was not set before
+-- a bit is set, and the event says so if it was clear
 pub set_makes_up : (bit id word old new : ℕ) → (id ≡ bit → (old ≡ bit_at word (bit % 64)) × (new ≡ 1)) → (id ≢ bit → new ≡ old)
     → MakesUp id old (option_to_list (if bit_at word (bit % 64) == 1 then None else Some (Set bit))) new
 set_makes_up bit id word old new this others =
@@ -68,7 +68,7 @@ set_makes_up bit id word old new this others =
       ])
     ]
 
--- a bit is cleared, and told if it was set before
+-- a bit is cleared, and the event says so if it was set
 pub clear_makes_up : (bit id word old new : ℕ) → (id ≡ bit → (old ≡ bit_at word (bit % 64)) × (new ≡ 0)) → (id ≢ bit → new ≡ old)
     → MakesUp id old (option_to_list (if bit_at word (bit % 64) == 1 then Some (Cleared bit) else None)) new
 clear_makes_up bit id word old new this others =
@@ -82,7 +82,7 @@ clear_makes_up bit id word old new this others =
           [ inl same ↦ (let at = this same in omega arith) | inr apart ↦ (let at = others apart in omega arith) ])
     ]
 
--- all bits of a word are cleared, and told if one was set before
+-- all bits of a word are cleared, and the event says so if one was set
 pub clear_all_makes_up : (place id word old new : ℕ) → (id / 64 ≡ place → (old ≡ bit_at word (id % 64)) × (new ≡ 0)) → (id / 64 ≢ place → new ≡ old)
     → MakesUp id old (option_to_list (if word == 0 then None else Some (ClearedAll place word))) new
 clear_all_makes_up place id word old new this others = elim (cases_eq word 0) [

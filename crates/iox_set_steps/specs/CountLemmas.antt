@@ -1,4 +1,4 @@
--- What a store in one word does to the counts, and how an event makes up for it.
+-- What a store in one word does to the counts, and which event accounts for it.
 use Rattle.std.specs.Prelude.{List, Some, None, ◌==◌}
 use Rattle.std.specs.Option.{option_to_list}
 use Rattle.std.proofs.Common.{◌≡◌, ◌≢◌, ℕ, ◌+◌, ◌^◌, ◌<◌, ◌≤◌, if◌then◌else◌, length, get_or, set, refl, sym}
@@ -9,7 +9,7 @@ use Rattle.iox_set_steps.specs.declared.counting_bit_set.CountEvent.{CountEvent}
 use Rattle.iox_set_steps.specs.declared.counting_bit_set.CountEvent.TheVariants.{Taken}
 use Rattle.iox_set_steps.specs.Counts.{place_of_count, count_now, times_added, taken_out}
 
--- where the count of a bit stands
+-- the place of the count of a bit
 pub count_place_is : (site : CountSite) (id : ℕ) → id < site.capacity → site.base + site.capacity < 2 ^ 64
     → place_of_count site id ≡ site.base + id
 count_place_is site id below memory = omega arith
@@ -25,7 +25,7 @@ module _ (site : CountSite) (words : List ℕ) (bit value : ℕ) (below : bit < 
   pub count-same : (id : ℕ) → id ≡ bit → count_now site (set words (site.base + bit) value) id ≡ value
   count-same id same = rw (same) (count_is site (set words (site.base + bit) value) bit below ∙ get_or-set_same words (site.base + bit) value 0 (omega arith))
 
-  -- and the others stay
+  -- after a store in the word of a bit, the other counts are unchanged
   pub count-other : (id : ℕ) → id ≢ bit → count_now site (set words (site.base + bit) value) id ≡ count_now site words id
   count-other id apart = elim (cases_lt id site.capacity) [
     | inl inside ↦ count_is site (set words (site.base + bit) value) id inside
@@ -34,11 +34,11 @@ module _ (site : CountSite) (words : List ℕ) (bit value : ℕ) (below : bit < 
     | inr past ↦ rw (le-ltb id site.capacity past) refl
   ]
 
--- a count that was `old` and is `new` now: the events make up for the change
+-- the events account for the change of a count from `old` to `new`
 abbrev pub CountMakesUp : ℕ → ℕ → List CountEvent → ℕ → Type 0
 CountMakesUp id old events new = old + times_added id events ≡ taken_out id events + new
 
--- a count is taken out, and told if it was not 0
+-- a count is taken out, and the event says so if it was not 0
 pub take_makes_up : (bit id seen old new : ℕ) → (id ≡ bit → (old ≡ seen) × (new ≡ 0)) → (id ≢ bit → new ≡ old)
     → CountMakesUp id old (option_to_list (if seen == 0 then None else Some (Taken bit seen))) new
 take_makes_up bit id seen old new this others = elim (cases_eq seen 0) [

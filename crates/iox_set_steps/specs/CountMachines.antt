@@ -1,42 +1,43 @@
--- What a machine of counts promises, step by step and for every schedule.
-use Rattle.std.specs.Prelude.{◌≡◌, ℕ, ◌+◌, ◌<◌, ◌++◌, List, [], ◌∷◌, Option, All, length, slice_index, slice_index_or, replicate}
-use Rattle.std.specs.Option.{option_to_list}
+-- What a step machine of counts promises, step by step and for every schedule.
+use Rattle.std.specs.Prelude.{◌≡◌, ℕ, ◌+◌, ◌<◌, List, slice_index}
 use Rattle.iox_steps.specs.declared.access.Progress.{Progress}
 use Rattle.iox_steps.specs.declared.error.MachineError.{MachineError}
 use Rattle.iox_steps.specs.declared.machine.Entry.{Entry}
-use Rattle.iox_steps.specs.Worlds.{IsParty, with_party, seen_in, after_access, Stepped, IsStepRefused, Begun, IsBeginRefused, AllEntered, StopsAtStep}
-use Rattle.iox_steps.specs.Answers.{OnProgress}
 use Rattle.iox_set_steps.specs.declared.counting_bit_set.CountSite.{CountSite}
 use Rattle.iox_set_steps.specs.declared.counting_bit_set.CountCall.{CountCall}
 use Rattle.iox_set_steps.specs.declared.counting_bit_set.CountReply.{CountReply}
 use Rattle.iox_set_steps.specs.declared.counting_bit_set.CountEvent.{CountEvent}
-use Rattle.iox_set_steps.specs.declared.counting_bit_set.CountProgram.TheVariants.{AtRest}
 use Rattle.iox_set_steps.specs.declared.counting_bit_set.party.CountParty.{CountParty}
-use Rattle.iox_set_steps.specs.Counts.{count_now, times_added, taken_out}
-use Rattle.iox_set_steps.specs.CountPrograms.{count_next, count_start, program_of, progress_of}
-use Rattle.iox_set_steps.specs.Turns.{Plays}
-use Rattle.iox_set_steps.specs.CountCalls.{CountTurn, GoesOn, IsDoing, Says}
-use Rattle.iox_set_steps.specs.CountPlays.{CountWorld, CountAnswers, counts_ask, counts_happen, counts_rest, CountsLead, CountsBegin}
+use Rattle.iox_set_steps.specs.CountPlays.{CountMachineState, count_kind}
+use Rattle.iox_set_steps.specs.CountCalls.{CountTurn, count_calls}
+use Rattle.iox_set_steps.specs.SitedMachines.{Sited, KindStepped, IsKindStepRefused, KindBegun, IsKindBeginRefused, AllKindEntered, KindStopsAtStep}
+use Rattle.iox_set_steps.specs.SitedMachines.{AreNew, IsInCall, IsEvent, BeginsCall, PlaySited, sited_begun, sited_answer, sited_stepped, new_sited}
 
--- the entries of a machine, at parties at counts
-abbrev pub CountsStepped : CountWorld → ℕ → Progress CountReply → CountWorld → Type 0
-CountsStepped = Stepped counts_ask CountsLead counts_happen counts_rest CountsBegin
+-- one access of the party of this number, whose call is under way, with its answer
+abbrev pub CountsStepped : CountMachineState → ℕ → Progress CountReply → CountMachineState → Type 0
+CountsStepped = KindStepped count_kind
 
-abbrev pub IsCountStepRefused : CountWorld → ℕ → MachineError → Type 0
-IsCountStepRefused = IsStepRefused counts_ask CountsLead counts_happen counts_rest CountsBegin
+-- why a step is refused
+abbrev pub IsCountStepRefused : CountMachineState → ℕ → MachineError → Type 0
+IsCountStepRefused = IsKindStepRefused count_kind
 
-abbrev pub CountsBegun : CountWorld → ℕ → CountCall → CountWorld → Type 0
-CountsBegun = Begun counts_ask CountsLead counts_happen counts_rest CountsBegin
+-- the party of this number began the call, and nothing else changed
+abbrev pub CountsBegun : CountMachineState → ℕ → CountCall → CountMachineState → Type 0
+CountsBegun = KindBegun count_kind
 
-abbrev pub IsCountBeginRefused : CountWorld → ℕ → CountCall → MachineError → Type 0
-IsCountBeginRefused = IsBeginRefused counts_ask CountsLead counts_happen counts_rest CountsBegin
+-- why a begin is refused: there is no such party, or the party refuses the call
+abbrev pub IsCountBeginRefused : CountMachineState → ℕ → CountCall → MachineError → Type 0
+IsCountBeginRefused = IsKindBeginRefused count_kind
 
-abbrev pub AllCountsEntered : CountWorld → List (Entry CountCall) → CountWorld → Type 0
-AllCountsEntered = AllEntered counts_ask CountsLead counts_happen counts_rest CountsBegin
+-- all entries lead from one machine to the other, one after another
+abbrev pub AllCountsEntered : CountMachineState → List (Entry CountCall) → CountMachineState → Type 0
+AllCountsEntered = AllKindEntered count_kind
 
-abbrev pub CountsStopAtStep : CountWorld → List (Entry CountCall) → CountWorld → Type 0
-CountsStopAtStep = StopsAtStep counts_ask CountsLead counts_happen counts_rest CountsBegin
+-- a schedule that found no memory stopped before a step of a party whose call is under way
+abbrev pub CountsStopAtStep : CountMachineState → List (Entry CountCall) → CountMachineState → Type 0
+CountsStopAtStep = KindStopsAtStep count_kind
 
+-- the site at which the party is
 abbrev pub count_site_of : CountParty → CountSite
 count_site_of party = party.site
 
@@ -44,101 +45,42 @@ count_site_of party = party.site
 abbrev pub AreZero : CountSite → List ℕ → Type 0
 AreZero site words = (id : ℕ) → id < site.capacity → slice_index words (site.base + id) ≡ 0
 
-abbrev pub IsAtRestAt : CountSite → CountParty → Type 0
-IsAtRestAt site party = (party.site ≡ site) × (party.program ≡ AtRest)
+-- a step machine of counts at one site, as its callers see it
+abbrev pub SitedCounts : Type 0
+SitedCounts = Sited CountSite CountParty CountEvent
 
--- Counts as their callers see them: where they stand, and what is played on them.
-pub record SitedCounts : Type 0 where
-  pub site : CountSite
-  pub world : CountWorld
-
--- this many parties, all at rest, and nothing happened yet
+-- a new machine: these words, `count` parties at rest at this site, and no event
 abbrev pub AreNewCounts : List ℕ → CountSite → ℕ → SitedCounts → Type 0
-AreNewCounts words site count counts = (counts.site ≡ site) × (counts.world.words ≡ words)
-    × (counts.world.events ≡ []) × All (IsAtRestAt site) counts.world.parties × (length counts.world.parties ≡ count)
+AreNewCounts = AreNew count_kind
 
--- The party of this number is in this call, which made these accesses, the last first.
-pub record IsInCountCall (counts : SitedCounts) (number : ℕ) (call : CountCall)
-    (turns : List CountTurn) : Type 0 where
-  pub party : CountParty
-  pub is_party : IsParty counts.world number party
-  pub here : party.site ≡ counts.site
-  pub doing : IsDoing counts.site call turns party.program
+-- the party of this number is in this call, which made these accesses so far, the last first
+abbrev pub IsInCountCall : SitedCounts → ℕ → CountCall → List CountTurn → Type 0
+IsInCountCall = IsInCall count_kind count_calls
 
--- One access of the party of this number: what it does to the counts is told, and nothing else; and
--- the reply says it, of the call's own count.
-pub record IsCountMoment (old : SitedCounts) (number : ℕ) (answer : Progress CountReply)
-    (new : SitedCounts) : Type 0 where
-  pub event : Option CountEvent
-  pub here : new.site ≡ old.site
-  pub told : new.world.events ≡ old.world.events ++ option_to_list event
-  -- a count grows by what is added, falls by what is taken out, and else it stays
-  pub counts : (id : ℕ) → count_now old.site old.world.words id + times_added id
-      (option_to_list event)
-      ≡ taken_out id (option_to_list event) + count_now old.site new.world.words id
-  pub answers : CountAnswers answer event
-  -- whatever call the party is in, this is one access more of it, or its reply tells of it
-  pub call : (call : CountCall) (earlier : List CountTurn) → IsInCountCall old number call earlier
-      → let turn : CountTurn = record { found = old.world.words; event = event } in
-      OnProgress answer (GoesOn old.site call turn × IsInCountCall new number call (turn ∷ earlier))
-      (Says old.site call earlier turn)
-  -- the others are where they were
-  pub others : (other : ℕ) (call : CountCall) (earlier : List CountTurn) → (other ≡ number → ⊥)
-      → IsInCountCall old other call earlier → IsInCountCall new other call earlier
-  -- one word changed at most
-  pub length_stays : length new.world.words ≡ length old.world.words
-  pub one_word : (place : ℕ)
-      × ((other : ℕ) → (other ≡ place → ⊥)
-      → slice_index new.world.words other ≡ slice_index old.world.words other)
+-- one access of the party of this number, with its event and its answer
+abbrev pub IsCountEvent : SitedCounts → ℕ → Progress CountReply → SitedCounts → Type 0
+IsCountEvent = IsEvent count_kind count_calls
 
--- The party of this number begins the call, and has made no access of it; the others are where
--- they were.
-pub record BeginsCountCall (old : SitedCounts) (number : ℕ) (call : CountCall)
-    (new : SitedCounts) : Type 0 where
-  pub here : new.site ≡ old.site
-  pub words : new.world.words ≡ old.world.words
-  pub events : new.world.events ≡ old.world.events
-  pub begun : IsInCountCall new number call []
-  pub others : (other : ℕ) (that : CountCall) (earlier : List CountTurn) → (other ≡ number → ⊥)
-      → IsInCountCall old other that earlier → IsInCountCall new other that earlier
+-- the party of this number began the call, and made no access yet
+abbrev pub BeginsCountCall : SitedCounts → ℕ → CountCall → SitedCounts → Type 0
+BeginsCountCall = BeginsCall count_kind count_calls
 
--- a schedule, entry by entry
+-- what a schedule came to: each entry begins a call, is one event, or changes nothing
 abbrev pub PlayCounts : SitedCounts → List (Entry CountCall) → SitedCounts → Type 0
-PlayCounts = Plays BeginsCountCall IsCountMoment
+PlayCounts = PlaySited count_kind count_calls
 
--- The machine computed: the party of a number, and the counts once it begins a call or makes its
--- access.
-abbrev pub party_at : SitedCounts → ℕ → CountParty
-party_at counts number =
-    slice_index_or counts.world.parties number (record { site = counts.site; program = AtRest })
-
+-- the machine once the party of this number began the call
 abbrev pub counts_begun : SitedCounts → ℕ → CountCall → SitedCounts
-counts_begun counts number call = record {
-  site = counts.site;
-  world = with_party counts.world number
-      (record { site = counts.site; program = count_start counts.site call });
-}
+counts_begun = sited_begun count_kind
 
+-- what the next access of the party of this number answers
 abbrev pub counts_answer : SitedCounts → ℕ → Progress CountReply
-counts_answer counts number = let party = party_at counts number in
-    progress_of (count_next counts.site party.program (seen_in counts.world (counts_ask party)))
+counts_answer = sited_answer count_kind
 
+-- the machine once the party of this number made its next access
 abbrev pub counts_stepped : SitedCounts → ℕ → SitedCounts
-counts_stepped counts number = let party = party_at counts number in
-    let seen = seen_in counts.world (counts_ask party) in
-    let program = program_of (count_next counts.site party.program seen) in record {
-      site = counts.site;
-      world = after_access counts.world number (counts_ask party)
-          (record { site = counts.site; program = program })
-          (counts_happen party seen);
-    }
+counts_stepped = sited_stepped count_kind
 
+-- a new machine: these words, `count` parties at rest at this site, and no event
 abbrev pub new_counts : List ℕ → CountSite → ℕ → SitedCounts
-new_counts words site count = record {
-  site = site;
-  world = record {
-    words = words;
-    parties = replicate count (record { site = site; program = AtRest });
-    events = [];
-  };
-}
+new_counts = new_sited count_kind

@@ -22,7 +22,7 @@ abbrev pub added_by : ℕ → CountEvent → ℕ
 added_by id (Added other) = if id == other then 1 else 0
 added_by id (Taken other count) = 0
 
--- what of the bit's count the event took out, and handed out
+-- how much of the bit's count the event took out and handed out
 abbrev pub taken_by : ℕ → CountEvent → ℕ
 taken_by id (Added other) = 0
 taken_by id (Taken other count) = if id == other then count else 0

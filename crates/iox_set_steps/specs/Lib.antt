@@ -1,4 +1,6 @@
 pub mod Turns
+pub mod Kinds
+pub mod SitedMachines
 pub mod Bits
 pub mod BitPrograms
 pub mod BitPlays
@@ -20,15 +22,16 @@ pub mod TypedValues
 pub mod AtomicEntries
 pub mod TypedWords
 pub mod Sites
--- for proofs of this crate alone
+-- proofs that the laws of the parties' traits need
+pub mod SitedLaws
 pub mod BitLemmas
-pub mod BitMoments
+pub mod BitEvents
 pub mod BitLaws
 pub mod CountLemmas
-pub mod CountMoments
+pub mod CountEvents
 pub mod CountLaws
 pub mod AtomicLemmas
 pub mod AtomicKnowledge
-pub mod AtomicMoments
+pub mod AtomicEvents
 pub mod AtomicLaws
 pub mod AtomicBegins

@@ -1,7 +1,7 @@
--- How a value of a type stands in words, and what keeps it one.
+-- How a value of a type stands in words, and that the words stay those of a value.
 use Rattle.std.specs.Prelude.{◌≡◌, ℕ, ◌+◌, ◌^◌, ◌<◌, ◌++◌, ◌⊎◌, List, [], ◌∷◌, take, drop, Option, Some, None, length, map, slice_index}
 use Rattle.std.specs.List.{range_with_len}
-use Rattle.iox_steps.specs.Worlds.{IsParty}
+use Rattle.iox_steps.specs.MachineStates.{IsParty}
 use Rattle.iox_steps.specs.declared.access.Progress.{Progress}
 use Rattle.iox_steps.specs.declared.access.Progress.TheVariants.{Going, Done}
 use Rattle.iox_set_steps.specs.declared.unrestricted_atomic.AtomicReply.{AtomicReply}
@@ -16,37 +16,38 @@ use Rattle.iox_set_steps.specs.declared.unrestricted_atomic.value.ValueReply.The
 use Rattle.iox_set_steps.specs.declared.unrestricted_atomic.value.ValueEvent.{ValueEvent}
 use Rattle.iox_set_steps.specs.declared.unrestricted_atomic.value.ValueEvent.TheVariants.{Stored, Loaded}
 use Rattle.iox_set_steps.specs.Values.{value_now}
-use Rattle.iox_set_steps.specs.AtomicPlays.{AtomicWorld}
+use Rattle.iox_set_steps.specs.AtomicPlays.{AtomicMachineState}
 use Rattle.iox_set_steps.specs.AtomicMachines.{AreNewParties}
-use Rattle.iox_set_steps.specs.TypedValues.{ValueWorld}
+use Rattle.iox_set_steps.specs.TypedValues.{ValueMachineState}
 
 -- the words of the value that is current
 abbrev pub words_now : ℕ → ℕ → List ℕ → List ℕ
 words_now size base words = map (value_now size base words) (range_with_len 0 size)
 
+-- the value, if there is one, and else the other
 abbrev pub or_else : {T : Type 0} → Option T → T → T
 or_else None other = other
 or_else (Some value) other = value
 
 module _ {T : Type 0} (of : List ℕ → Option T) (other : T) where
-  -- the value of an event's words; where they are those of none, another
+  -- the event with the value of its words, or with another where they are not those of a value
   abbrev pub event_of : {size : ℕ} → AtomicEvent size → ValueEvent T
   event_of (event.Stored list) = Stored (or_else (of list) other)
   event_of (event.Loaded list) = Loaded (or_else (of list) other)
 
-  -- an answer, in the same way
+  -- the answer with the value of its words, or with another where they are not those of a value
   abbrev pub answer_of : {size : ℕ} → Progress (AtomicReply size) → Progress (ValueReply T)
   answer_of Going = Going
   answer_of (Done (reply.Stored done)) = Done (typed_reply.Stored done)
   answer_of (Done (reply.Loaded list)) = Done (typed_reply.Loaded (or_else (of list) other))
 
-  -- what the words and the parties show
-  abbrev pub shown : {size : ℕ} → ℕ → AtomicWorld size → ValueWorld T size
-  shown {size} base world = record {
+  -- the step machine of a value of the type that the words and the parties make up
+  abbrev pub shown : {size : ℕ} → ℕ → AtomicMachineState size → ValueMachineState T size
+  shown {size} base machine = record {
     base = base;
-    value = or_else (of (words_now size base world.words)) other;
-    events = map event_of world.events;
-    plays = world;
+    value = or_else (of (words_now size base machine.words)) other;
+    events = map event_of machine.events;
+    plays = machine;
   }
 
 -- the words of the value that a party stores, if it does
@@ -58,17 +59,20 @@ stored_by program = None
 
 -- the value that is current is of the type, and so is each that is to be stored
 pub record AreOfType {size : ℕ} (count : ℕ) (are : List ℕ → Type 0) (base : ℕ)
-    (world : AtomicWorld size) : Type 0 where
+    (machine : AtomicMachineState size) : Type 0 where
+  -- a value of the type has as many words as the cells have
   pub sized : count ≡ size
   pub small : size < 2 ^ 56
-  pub current : are (words_now size base world.words)
-  pub here : (number : ℕ) (party : AtomicParty size) → IsParty world number party
+  pub current : are (words_now size base machine.words)
+  -- all parties are at this value
+  pub here : (number : ℕ) (party : AtomicParty size) → IsParty machine number party
       → party.base ≡ base
-  pub stores : (number : ℕ) (party : AtomicParty size) (list : List ℕ) → IsParty world number party
+  -- each value that is yet to be stored is one of the type
+  pub stores : (number : ℕ) (party : AtomicParty size) (list : List ℕ) → IsParty machine number party
       → stored_by party.program ≡ Some list → are list
 
--- the words from a place on are version 0 and behind it a value of `size` words, and the others are
--- as they were
+-- from `base` on the new words are version 0 and then the `size` words of the value; all others are
+-- unchanged
 pub record AreLaid (size base : ℕ) (list old new : List ℕ) : Type 0 where
   pub length_stays : length new ≡ length old
   pub version : slice_index new base ≡ 0
@@ -77,14 +81,14 @@ pub record AreLaid (size base : ℕ) (list old new : List ℕ) : Type 0 where
   pub others : (place : ℕ) → (place < base) ⊎ (base + size < place)
       → slice_index new place ≡ slice_index old place
 
--- those words
+-- the words once version 0 and the words of a value stand from `base` on
 abbrev pub laid_words : ℕ → List ℕ → List ℕ → List ℕ
 laid_words base list words = take base words ++ 0 ∷ (list ++ drop (base + 1 + length list) words)
 
--- a value stands in words, this many parties are at rest, and nothing happened yet
+-- a new machine: the value stands in the words, `count` parties are at rest, and no event
 pub record IsNewValue {T : Type 0} {size : ℕ} (words : T → List ℕ) (value : T) (base count : ℕ)
-    (old : List ℕ) (world : ValueWorld T size) : Type 0 where
-  pub is : world.value ≡ value
-  pub none : world.events ≡ []
-  pub laid : AreLaid size base (words value) old world.plays.words
-  pub parties : AreNewParties base count world.plays.parties
+    (old : List ℕ) (machine : ValueMachineState T size) : Type 0 where
+  pub is : machine.value ≡ value
+  pub none : machine.events ≡ []
+  pub laid : AreLaid size base (words value) old machine.plays.words
+  pub parties : AreNewParties base count machine.plays.parties

@@ -5,8 +5,6 @@ pub use party::BitParty;
 
 mod machine;
 mod party;
-#[cfg(test)]
-mod tests;
 
 /// How many bits a word has.
 const WORD_BITS: usize = 64;
@@ -47,7 +45,8 @@ pub enum BitEvent {
     Set(usize),
     /// the bit was set, is not now, and is handed out
     Cleared(usize),
-    /// the bits of this word that were set are not now, and are handed out: the word, as it was
+    /// all bits of this word are cleared, and those that were set are handed out: the word as it
+    /// was before
     ClearedAll(usize, u64),
 }
 

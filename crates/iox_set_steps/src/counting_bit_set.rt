@@ -4,8 +4,6 @@ pub use party::CountParty;
 
 mod machine;
 mod party;
-#[cfg(test)]
-mod tests;
 
 /// The counts that stand in words from `base` on, one a bit.
 #[derive(Clone, Copy)]

@@ -1,5 +1,5 @@
-//! Bits, counts and values as steps: parties whose calls are accesses to shared words, one after another.
-//! Whatever the schedule, nothing that was set, added or stored is lost or told twice.
+//! Bits, counts and values as steps: parties whose calls are accesses to shared words, one after
+//! another. Whatever the schedule, nothing that was set, added or stored is lost or answered twice.
 #![tactic(auto)]
 
 pub use law::{

@@ -6,18 +6,14 @@ pub use value_machine::ValueMachine;
 
 mod machine;
 mod party;
-#[cfg(test)]
-mod tests;
 mod typed_words;
 mod value;
 mod value_machine;
-#[cfg(test)]
-mod value_tests;
 
 /// What a party can be asked to do.
 #[derive(Clone, Copy)]
 pub enum AtomicCall<const N: usize> {
-    /// stores the words of a value; party 0 alone does
+    /// stores the words of a value; only party 0 does
     Store([u64; N]),
     Load,
 }

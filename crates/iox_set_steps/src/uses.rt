@@ -1,4 +1,4 @@
-//! Callers, which are proved by the clauses of the calls alone.
+//! Callers, which are proved only by the clauses of the calls.
 ghost use Rattle.std.specs.Prelude.{◌≡◌, ℕ, ◌+◌, [], ◌∷◌, IfOk, IfSome, true, false};
 ghost use Rattle.iox_steps.specs.declared.access.Progress.TheVariants.{Done, Going};
 ghost use Rattle.iox_set_steps.specs.declared.unrestricted_atomic.AtomicReply.TheVariants.{Stored, Loaded};
@@ -22,8 +22,8 @@ pub fn sets_are_clears(
     bits: &mut BitSetMachine,
     schedule: &[Entry<BitCall>],
 ) -> Result<(), MachineError>
-    ensures { (id : ℕ) → times_set id bits.new.world.events
-        ≡ times_cleared id bits.new.world.events + bit_now bits.new.site bits.new.world.words id }
+    ensures { (id : ℕ) → times_set id bits.new.machine.events
+        ≡ times_cleared id bits.new.machine.events + bit_now bits.new.site bits.new.machine.words id }
 {
     bits.run(schedule)
 }
@@ -56,9 +56,9 @@ pub fn added_is_taken_out(
     counts: &mut CountingBitSetMachine,
     schedule: &[Entry<CountCall>],
 ) -> Result<(), MachineError>
-    ensures { (id : ℕ) → times_added id counts.new.world.events
-        ≡ taken_out id counts.new.world.events
-        + count_now counts.new.site counts.new.world.words id }
+    ensures { (id : ℕ) → times_added id counts.new.machine.events
+        ≡ taken_out id counts.new.machine.events
+        + count_now counts.new.site counts.new.machine.words id }
 {
     counts.run(schedule)
 }
@@ -137,7 +137,7 @@ pub fn what_is_stored_is_loaded(
 /// A schedule of two parties: both set the same bit, and then one takes out all that are set. The
 /// bit is set once, and handed out once.
 pub fn a_bit_is_set_and_taken_out(alloc: Global) -> Result<BitSetMachine, MachineError>
-    ensures { IfOk result (λ bits. bits.world.events
+    ensures { IfOk result (λ bits. bits.machine.events
         ≡ bit_event.Set 3 ∷ bit_event.ClearedAll 0 8 ∷ []) }
 {
     let Ok(words) = vec![in alloc; 0u64; 1] else {
@@ -164,7 +164,7 @@ pub fn a_bit_is_set_and_taken_out(alloc: Global) -> Result<BitSetMachine, Machin
 /// A schedule of two parties: both add to the same count, where one has to try again, and then all
 /// counts are taken out.
 pub fn two_are_added_and_taken_out(alloc: Global) -> Result<CountingBitSetMachine, MachineError>
-    ensures { IfOk result (λ counts. counts.world.events
+    ensures { IfOk result (λ counts. counts.machine.events
         ≡ count_event.Added 1 ∷ count_event.Added 1 ∷ count_event.Taken 1 2 ∷ []) }
 {
     let Ok(words) = vec![in alloc; 0u64; 2] else {

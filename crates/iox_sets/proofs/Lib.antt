@@ -6,6 +6,7 @@ pub mod BitScanLemmas
 pub mod CallLemmas
 pub mod CountLemmas
 pub mod FreeListLemmas
+pub mod KeptLemmas
 pub mod RangeLemmas
 pub mod OwnedLemmas
 pub mod RecoveryLemmas

@@ -28,7 +28,7 @@ module _ (owners : List (Option ℕ)) (free : List Bool) (held : ℕ) (locked : 
           ∙ ap (λ bits. get_or bits index false) (sym is.bits) ∙ lowest-set free index first))
     ]
 
-    was_none : get_or owners index None ≡ None
+    pub was_none : get_or owners index None ≡ None
     was_none = none_of _ (sym (get_or-map is_none owners index None false taken_within)
         ∙ ap (λ bits. get_or bits index false) (sym is.bits) ∙ lowest-set free index first)
 

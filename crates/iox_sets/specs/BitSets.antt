@@ -9,11 +9,11 @@ no_bits capacity = replicate capacity false
 abbrev pub bit : List Bool → ℕ → Bool
 bit bits id = slice_index_or bits id false
 
--- a bit is set now, and the others are as they were
+-- the bits once this one is set; the others are unchanged
 abbrev pub with_bit : List Bool → ℕ → List Bool
 with_bit bits id = slice_set bits id true
 
--- a bit is not set now, and the others are as they were
+-- the bits once this one is cleared; the others are unchanged
 abbrev pub without_bit : List Bool → ℕ → List Bool
 without_bit bits id = slice_set bits id false
 

@@ -14,7 +14,7 @@ no_counts capacity = replicate capacity 0
 abbrev pub count_of : List ℕ → ℕ → ℕ
 count_of counts id = slice_index counts id
 
--- a bit was set once more, and the others are as they were
+-- the counts once this bit was set once more; the others are unchanged
 abbrev pub with_one_more : List ℕ → ℕ → List ℕ
 with_one_more counts id = slice_set counts id (count_of counts id + 1)
 

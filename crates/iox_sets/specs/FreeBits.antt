@@ -1,8 +1,8 @@
--- How the free indices are kept beside the owners.
+-- How the free indices agree with the owners.
 use Rattle.std.specs.Prelude.{◌≡◌, ◌<◌, ◌≤◌, ℕ, List, Bool, true, Option, count_by, is_none, is_some, length, map}
 use Rattle.iox_sets.specs.IndexSets.{max_capacity}
 
--- a bit for each index says whether it is free, and the held ones are counted
+-- the bits say which indices are free, and `held` counts the others
 pub record IsIndexed (owners : List (Option ℕ)) (free : List Bool) (held : ℕ)
     (locked : Bool) : Type 0 where
   pub some : 0 < length owners

@@ -1,4 +1,4 @@
--- What a set of indices ends as, where it is borrowed by the guard of an index.
+-- What a set of indices is at the end of a borrow by the guard of an index.
 use Rattle.std.specs.Prelude.{◌≡◌, ℕ, Result}
 use Rattle.std.specs.Borrow.{Fml, MutBor, RattleType, RestsIfErr}
 use Rattle.iox_sets.specs.IndexSets.{IndexSet}
@@ -7,7 +7,7 @@ use Rattle.iox_sets.specs.declared.mpmc.unique_index_set.fixed_size_unique_index
 use Rattle.iox_sets.specs.contracts.mpmc.unique_index_set.UniqueIndexSet as indices
 use Rattle.iox_sets.specs.contracts.mpmc.unique_index_set.fixed_size.FixedSizeUniqueIndexSet as fixed
 
--- the set ends as the guard leaves it, and as it was where no index is taken
+-- at its end the set is as the guard leaves it, and unchanged where no index was taken
 abbrev pub ends_with_guard : {E : Type 0} → MutBor IndexSet → Result UniqueIndex E → Fml
 ends_with_guard set taken =
     RestsIfErr indices.the_row set (λ guard. guard.set.ghost_name) taken (λ last. last ≡ set.now)

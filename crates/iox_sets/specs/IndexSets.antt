@@ -11,12 +11,14 @@ use Rattle.iox_sets.specs.declared.mpmc.unique_index_set_enums.UniqueIndexSetAcq
 use Rattle.iox_sets.specs.declared.mpmc.unique_index_set_enums.UniqueIndexSetNewError.{UniqueIndexSetNewError}
 use Rattle.iox_sets.specs.declared.mpmc.unique_index_set_enums.UniqueIndexSetNewError.TheVariants.{CapacityIsZero, CapacityTooLarge, ExceedsCapacity}
 
+-- a set of indices: its capacity, the free ones in the order in which they are taken, and whether
+-- it is locked
 pub record IndexSet : Type 0 where
   -- the indices are the numbers below it
   pub capacity : ℕ
   -- the free indices, the next one first; the others are held
   pub free : List ℕ
-  -- a locked set gives no index any more
+  -- whether it is locked: a locked set gives no more indices
   pub locked : Bool
 
 -- all indices are free, the lowest first
@@ -31,7 +33,7 @@ IsHeld set index = (index < set.capacity) × ¬ Contains set.free index
 abbrev pub held_count : IndexSet → ℕ
 held_count set = set.capacity - length set.free
 
--- why no index is taken
+-- why no index is taken, if anything is against it
 abbrev pub acquire_refusal : IndexSet → Option UniqueIndexSetAcquireFailure
 acquire_refusal set =
     if set.locked then Some IsLocked
@@ -55,11 +57,13 @@ state_after LockIfLastIndex zero = Locked
 state_after LockIfLastIndex (suc held) = Unlocked
 state_after Default held = Unlocked
 
+-- whether a release that answers this locks the set
 abbrev pub is_locked : ReleaseState → Bool
 is_locked Locked = true
 is_locked Unlocked = false
 
--- an index that was held is the next free one, and the set is locked as the answer says
+-- the set once a held index is released: that is the next free one, and the set is locked if the
+-- release says so
 abbrev pub with_released : IndexSet → ℕ → ReleaseState → IndexSet
 with_released set index state = record set { free = index ∷ set.free; locked = is_locked state }
 

@@ -6,7 +6,7 @@ pub mod Heads
 pub mod IndexSets
 pub mod OwnedIndices
 pub mod Refusals
--- for proofs of this crate alone
+-- only for proofs of this crate
 pub mod BitWords
 pub mod FreeBits
 pub mod FreeLists

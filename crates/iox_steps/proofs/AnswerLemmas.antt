@@ -11,25 +11,25 @@ use Rattle.iox_steps.specs.declared.pop.Pop.TheVariants as pop
 use Rattle.iox_steps.specs.declared.pop.EmptyLook.TheVariants as empty_look
 use Rattle.iox_steps.specs.declared.access.Progress.{Progress}
 use Rattle.iox_steps.specs.declared.access.Progress.TheVariants.{Going, Done}
-use Rattle.iox_steps.specs.declared.seat.Reply.{Reply}
-use Rattle.iox_steps.specs.declared.seat.Moment.{Moment}
+use Rattle.iox_steps.specs.declared.side.QueueReply.{QueueReply}
+use Rattle.iox_steps.specs.declared.side.QueueEvent.{QueueEvent}
 use Rattle.iox_steps.specs.declared.access.Next.TheVariants.{Goes, Ends}
-use Rattle.iox_steps.specs.declared.seat.Moment.TheVariants.{Quiet, Publish, HandOut, Evict, GetBack, SeesEmpty, SeesWaiting, SeesFull, SeesRoom, SeesEnd}
-use Rattle.iox_steps.specs.declared.seat.Pushing.{Pushing}
-use Rattle.iox_steps.specs.declared.seat.Pushing.TheVariants as pushing
-use Rattle.iox_steps.specs.declared.seat.Popping.{Popping}
-use Rattle.iox_steps.specs.declared.seat.Popping.TheVariants as popping
+use Rattle.iox_steps.specs.declared.side.QueueEvent.TheVariants.{Quiet, Publish, HandOut, Evict, Learn, SeesEmpty, SeesWaiting, SeesFull, SeesRoom, SeesEnd}
+use Rattle.iox_steps.specs.declared.side.Pushing.{Pushing}
+use Rattle.iox_steps.specs.declared.side.Pushing.TheVariants as pushing
+use Rattle.iox_steps.specs.declared.side.Popping.{Popping}
+use Rattle.iox_steps.specs.declared.side.Popping.TheVariants as popping
 use Rattle.iox_steps.specs.Sites.{last_position, is_full, is_empty, cell_at}
 use Rattle.iox_steps.specs.Pushes.{is_refused, full_at}
 use Rattle.iox_steps.specs.Pops.{is_taken}
 use Rattle.iox_steps.specs.Replies.{push_reply}
-use Rattle.iox_steps.specs.Seats.{progress, in_push, pushing_after, pushing_progress, pushing_moment, popping_progress, popping_moment}
+use Rattle.iox_steps.specs.Sides.{progress, in_push, pushing_after, pushing_progress, pushing_event, popping_progress, popping_event}
 use Rattle.iox_steps.specs.Fits.{PushingKnows}
-use Rattle.iox_steps.specs.Answers.{Answers, OnProgress, unpublished, unpublished_after}
+use Rattle.iox_steps.specs.Answers.{ReplyIsTrue, OnProgress, unpublished, unpublished_after}
 
 -- a push that sees both positions
 refused_answers : (kind : QueueKind) (site : Site) (value write read : ℕ) (end full : Bool)
-    → Answers (Some value)
+    → ReplyIsTrue (Some value)
     (progress (push_reply kind) (if is_refused kind end full then Ends (Refused value)
     else Goes (push.StoresCell value (cell_at site write) (write + 1) (full_at full read))))
     (if end then SeesEnd else (if full then SeesFull else SeesRoom))
@@ -40,13 +40,13 @@ refused_answers Overflowing site value write read true full = (refl, refl)
 refused_answers Overflowing site value write read false full = tt
 
 pushed_answers : (kind : QueueKind) (value : ℕ)
-    → Answers (Some value) (Done (push_reply kind Pushed)) (Publish value)
+    → ReplyIsTrue (Some value) (Done (push_reply kind Pushed)) (Publish value)
 pushed_answers Index value = refl
 pushed_answers Overflowing value = refl
 
 pub pushing_answers : (site : Site) (word : ℕ → ℕ) (waiting hand : List ℕ) (pushes : Pushing) (seen : ℕ)
     → PushingKnows site word waiting hand pushes
-    → Answers (unpublished pushes) (pushing_progress site pushes seen) (pushing_moment site pushes seen)
+    → ReplyIsTrue (unpublished pushes) (pushing_progress site pushes seen) (pushing_event site pushes seen)
 pushing_answers site word waiting hand pushing.AtRest seen knows = tt
 pushing_answers site word waiting hand (pushing.Pushes (push.LoadsWrite value)) seen knows = tt
 pushing_answers site word waiting hand (pushing.Pushes (push.LoadsRead value write)) seen knows =
@@ -64,7 +64,7 @@ pushing_answers site word waiting hand (pushing.Looks (full_look.LoadsRead write
     elim (cases_Bool (is_full site seen write)) [ inl full ↦ rw full refl | inr room ↦ rw room refl ]
 
 pub popping_answers : (site : Site) (pops : Popping) (seen : ℕ)
-    → Answers None (popping_progress site pops seen) (popping_moment site pops seen)
+    → ReplyIsTrue None (popping_progress site pops seen) (popping_event site pops seen)
 popping_answers site popping.AtRest seen = tt
 popping_answers site (popping.Pops pop.LoadsRead) seen = tt
 popping_answers site (popping.Pops (pop.LoadsWrite read)) seen = elim (cases_Bool (is_empty site read seen)) [ inl none ↦ rw none refl | inr some ↦ rw some tt ]
@@ -90,7 +90,7 @@ refused_own Overflowing site value write read false false = refl
 
 pub pushing_own : (site : Site) (pushes : Pushing) (seen : ℕ)
     → OnProgress (pushing_progress site pushes seen)
-    (unpublished (pushing_after site pushes seen) ≡ unpublished_after (pushing_moment site pushes seen) (unpublished pushes))
+    (unpublished (pushing_after site pushes seen) ≡ unpublished_after (pushing_event site pushes seen) (unpublished pushes))
     (λ reply. unpublished (pushing_after site pushes seen) ≡ None)
 pushing_own site pushing.AtRest seen = refl
 pushing_own site (pushing.Pushes (push.LoadsWrite value)) seen = refl
@@ -107,12 +107,12 @@ pushing_own site (pushing.Pushes (push.TakesOld cell)) seen = refl
 pushing_own site (pushing.Looks full_look.LoadsWrite) seen = refl
 pushing_own site (pushing.Looks (full_look.LoadsRead write)) seen = refl
 
-none_stays : (moment : Moment) → None ≡ unpublished_after moment None
+none_stays : (event : QueueEvent) → None ≡ unpublished_after event None
 none_stays Quiet = refl
 none_stays (Publish value) = refl
 none_stays (HandOut value) = refl
 none_stays Evict = refl
-none_stays (GetBack value) = refl
+none_stays (Learn value) = refl
 none_stays SeesEmpty = refl
 none_stays SeesWaiting = refl
 none_stays SeesFull = refl
@@ -120,7 +120,7 @@ none_stays SeesRoom = refl
 none_stays SeesEnd = refl
 
 -- a party that pops has nothing to publish
-pub popping_own : (progress : Progress Reply) (moment : Moment)
-    → OnProgress progress (None ≡ unpublished_after moment None) (λ reply. ◌≡◌ {A = Option ℕ} None None)
-popping_own Going moment = none_stays moment
-popping_own (Done reply) moment = refl
+pub popping_own : (progress : Progress QueueReply) (event : QueueEvent)
+    → OnProgress progress (None ≡ unpublished_after event None) (λ reply. ◌≡◌ {A = Option ℕ} None None)
+popping_own Going event = none_stays event
+popping_own (Done reply) event = refl

@@ -5,11 +5,11 @@ use Rattle.iox_steps.specs.declared.push.Push.TheVariants as push
 use Rattle.iox_steps.specs.declared.push.FullLook.TheVariants as full_look
 use Rattle.iox_steps.specs.declared.pop.Pop.TheVariants as pop
 use Rattle.iox_steps.specs.declared.pop.EmptyLook.TheVariants as empty_look
-use Rattle.iox_steps.specs.declared.seat.Pushing.{Pushing}
-use Rattle.iox_steps.specs.declared.seat.Pushing.TheVariants as pushing
-use Rattle.iox_steps.specs.declared.seat.Popping.{Popping}
-use Rattle.iox_steps.specs.declared.seat.Popping.TheVariants as popping
-use Rattle.iox_steps.specs.Seats.{pushing_rested, popping_rested}
+use Rattle.iox_steps.specs.declared.side.Pushing.{Pushing}
+use Rattle.iox_steps.specs.declared.side.Pushing.TheVariants as pushing
+use Rattle.iox_steps.specs.declared.side.Popping.{Popping}
+use Rattle.iox_steps.specs.declared.side.Popping.TheVariants as popping
+use Rattle.iox_steps.specs.Sides.{pushing_rested, popping_rested}
 use Rattle.iox_steps.specs.Fits.{PushingKnows, PoppingKnows, Fits}
 
 pushing_knows_begun : (site : Site) (word : ℕ → ℕ) (waiting hand : List ℕ) (pushes : Pushing)

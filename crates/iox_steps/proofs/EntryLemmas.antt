@@ -9,7 +9,7 @@ use Rattle.iox_steps.specs.declared.access.Progress.{Progress}
 use Rattle.iox_steps.specs.declared.error.MachineError.{MachineError}
 use Rattle.iox_steps.specs.declared.machine.Entry.{Entry}
 use Rattle.iox_steps.specs.declared.machine.Entry.TheVariants.{Begin, Step}
-use Rattle.iox_steps.specs.Worlds.{World, IsParty, Stepped, Begun, IsBeginRefused, IsAtRest, Entered, AllEntered}
+use Rattle.iox_steps.specs.MachineStates.{MachineState, IsParty, Stepped, Begun, IsBeginRefused, IsAtRest, Entered, AllEntered}
 use Rattle.iox_steps.specs.Entries.{seen_as, entered, all_entered}
 
 module _ {P Q E R C : Type 0} (plain : P → Q) (asks : Q → Access) (goes : Q → ℕ → Q) (happens : Q → ℕ → Option E) (at_rest : Q → Bool)
@@ -26,24 +26,24 @@ module _ {P Q E R C : Type 0} (plain : P → Q) (asks : Q → Access) (goes : Q 
   abbrev rested : P → Bool
   rested party = at_rest (plain party)
 
-  abbrev enter : World P E → Entry C → World Q E
-  enter world entry = entered asks goes happens at_rest begins_to (seen_as plain world) entry
+  abbrev enter : MachineState P E → Entry C → MachineState Q E
+  enter machine entry = entered asks goes happens at_rest begins_to (seen_as plain machine) entry
 
-  party_at : (world : World P E) (number : ℕ) (party : P) → IsParty world number party → slice_get (map plain world.parties) number ≡ Some (plain party)
-  party_at world number party is =
-      slice_get-map plain world.parties number ∙ ap (option_map plain) (slice_get_read world.parties (length world.parties) number party refl is.0 is.1)
+  party_at : (machine : MachineState P E) (number : ℕ) (party : P) → IsParty machine number party → slice_get (map plain machine.parties) number ≡ Some (plain party)
+  party_at machine number party is =
+      slice_get-map plain machine.parties number ∙ ap (option_map plain) (slice_get_read machine.parties (length machine.parties) number party refl is.0 is.1)
 
-  no_party_at : (world : World P E) (number : ℕ) → length world.parties ≤ number → slice_get (map plain world.parties) number ≡ None
-  no_party_at world number past =
-      let same : length (map plain world.parties) ≡ length world.parties = length-map world.parties plain in
-      slice_get_past (map plain world.parties) number (omega arith)
+  no_party_at : (machine : MachineState P E) (number : ℕ) → length machine.parties ≤ number → slice_get (map plain machine.parties) number ≡ None
+  no_party_at machine number past =
+      let same : length (map plain machine.parties) ≡ length machine.parties = length-map machine.parties plain in
+      slice_get_past (map plain machine.parties) number (omega arith)
 
-  pub begun_enters : (old : World P E) (number : ℕ) (call : C) (new : World P E) → Begun asked leads happened rested begins old number call new
+  pub begun_enters : (old : MachineState P E) (number : ℕ) (call : C) (new : MachineState P E) → Begun asked leads happened rested begins old number call new
       → seen_as plain new ≡ enter old (Begin number call)
   begun_enters old number call new is =
       rw (is.leads_to, map-set plain old.parties number is.after, party_at old number is.party is.is_party, began is.party is.after call is.begins_with) refl
 
-  pub unbegun_enters : (old : World P E) (number : ℕ) (call : C) (error : MachineError)
+  pub unbegun_enters : (old : MachineState P E) (number : ℕ) (call : C) (error : MachineError)
       → IsBeginRefused asked leads happened rested begins old number call error
       → seen_as plain old ≡ enter old (Begin number call)
   unbegun_enters old number call error is = elim is [
@@ -51,7 +51,7 @@ module _ {P Q E R C : Type 0} (plain : P → Q) (asks : Q → Access) (goes : Q 
     | inr by ↦ rw (party_at old number by.0 by.1.0, refused by.0 call error by.1.1) refl
   ]
 
-  pub stepped_enters : (old : World P E) (number : ℕ) (answer : Progress R) (new : World P E) → Stepped asked leads happened rested begins old number answer new
+  pub stepped_enters : (old : MachineState P E) (number : ℕ) (answer : Progress R) (new : MachineState P E) → Stepped asked leads happened rested begins old number answer new
       → seen_as plain new ≡ enter old (Step number)
   stepped_enters old number answer new is =
       rw (
@@ -62,14 +62,14 @@ module _ {P Q E R C : Type 0} (plain : P → Q) (asks : Q → Access) (goes : Q 
         led is.party is.after _ answer is.leads_on,
       ) refl
 
-  pub passed_over_enters : (old : World P E) (number : ℕ) → (length old.parties ≤ number) ⊎ IsAtRest asked leads happened rested begins old number
+  pub passed_over_enters : (old : MachineState P E) (number : ℕ) → (length old.parties ≤ number) ⊎ IsAtRest asked leads happened rested begins old number
       → seen_as plain old ≡ enter old (Step number)
   passed_over_enters old number is = elim is [
     | inl none ↦ rw (no_party_at old number none) refl
     | inr by ↦ rw (party_at old number by.0 by.1.0, by.1.1) refl
   ]
 
-  pub enters : (old : World P E) (entry : Entry C) (new : World P E) → Entered asked leads happened rested begins old entry new
+  pub enters : (old : MachineState P E) (entry : Entry C) (new : MachineState P E) → Entered asked leads happened rested begins old entry new
       → seen_as plain new ≡ enter old entry
   enters old (Begin number call) new is = elim is [
     | inl did ↦ begun_enters old number call new did
@@ -80,8 +80,8 @@ module _ {P Q E R C : Type 0} (plain : P → Q) (asks : Q → Access) (goes : Q 
     | inr past ↦ ap (seen_as plain) past.1 ∙ passed_over_enters old number past.0
   ]
 
-  pub all_enter : (old : World P E) (entries : List (Entry C)) (new : World P E) → AllEntered asked leads happened rested begins old entries new
+  pub all_enter : (old : MachineState P E) (entries : List (Entry C)) (new : MachineState P E) → AllEntered asked leads happened rested begins old entries new
       → seen_as plain new ≡ all_entered asks goes happens at_rest begins_to (seen_as plain old) entries
   all_enter old [] new is = ap (seen_as plain) is
   all_enter old (entry ∷ entries) new is =
-      all_enter is.0 entries new is.1.1 ∙ ap (λ (w : World Q E). all_entered asks goes happens at_rest begins_to w entries) (enters old entry is.0 is.1.0)
+      all_enter is.0 entries new is.1.1 ∙ ap (λ (w : MachineState Q E). all_entered asks goes happens at_rest begins_to w entries) (enters old entry is.0 is.1.0)

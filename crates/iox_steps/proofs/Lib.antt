@@ -6,7 +6,7 @@ pub mod PopSteps
 pub mod AccessLemmas
 pub mod Frames
 pub mod Begins
-pub mod WorldLemmas
+pub mod MachineStateLemmas
 pub mod EntryLemmas
 pub mod Schedules
 pub mod Writes
@@ -14,7 +14,7 @@ pub mod AnswerLemmas
 pub mod Turns
 pub mod ListSteps
 pub mod RunLemmas
-pub mod Plays
+pub mod AfterCalls
 pub mod ResultLemmas
 pub mod Tables
 pub mod ContentLemmas

@@ -1,4 +1,4 @@
--- Each access of the party that pops keeps what the words say, and is one moment.
+-- Each access of the party that pops keeps what the words say, and is one event.
 use Rattle.std.proofs.Common.{◌≡◌, ℕ, ◌+◌, ◌<◌, List, [], ◌∷◌, length, get_or, refl, ap, sym, inl, inr, arith, eqb, true, false, subst}
 use Rattle.std.proofs.lemmas.List.{nil_from_length}
 use Rattle.std.proofs.lemmas.Bool.{cases_lt, cases_Bool, leb-true, leb-false, eqb-true}
@@ -7,13 +7,13 @@ use Rattle.iox_steps.specs.declared.site.QueueKind.TheVariants.{Index, Overflowi
 use Rattle.iox_steps.specs.declared.site.Site.{Site}
 use Rattle.iox_steps.specs.declared.pop.Pop.TheVariants as pop
 use Rattle.iox_steps.specs.declared.pop.EmptyLook.TheVariants as empty_look
-use Rattle.iox_steps.specs.declared.seat.Pushing.{Pushing}
-use Rattle.iox_steps.specs.declared.seat.Popping.{Popping}
-use Rattle.iox_steps.specs.declared.seat.Popping.TheVariants as popping
+use Rattle.iox_steps.specs.declared.side.Pushing.{Pushing}
+use Rattle.iox_steps.specs.declared.side.Popping.{Popping}
+use Rattle.iox_steps.specs.declared.side.Popping.TheVariants as popping
 use Rattle.iox_steps.specs.Accesses.{put}
 use Rattle.iox_steps.specs.Sites.{position_after, is_empty}
 use Rattle.iox_steps.specs.Pops.{is_taken, take_access}
-use Rattle.iox_steps.specs.Moments.{rest}
+use Rattle.iox_steps.specs.Events.{rest}
 use Rattle.iox_steps.specs.Fits.{write_of, read_of, Ring, IsSeen, PoppingKnows, Fits}
 use Rattle.iox_steps.specs.Laws.{popping_turn}
 use Rattle.iox_steps.proofs.Places.{cases_kind}

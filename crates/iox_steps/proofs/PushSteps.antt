@@ -1,4 +1,4 @@
--- Each access of the party that pushes keeps what the words say, and is one moment.
+-- Each access of the party that pushes keeps what the words say, and is one event.
 use Rattle.std.proofs.Common.{◌≡◌, ℕ, ◌+◌, ◌^◌, ◌<◌, ◌≤◌, List, [], ◌∷◌, ◌++◌, length, refl, ap, sym, ◌∙◌, inl, inr, arith}
 use Rattle.std.proofs.Common.{eqb, true, false, Bool, Option, Some, None}
 use Rattle.std.proofs.lemmas.List.{get_or_append_left, length_push}
@@ -8,23 +8,23 @@ use Rattle.iox_steps.specs.declared.site.QueueKind.TheVariants.{Index, Overflowi
 use Rattle.iox_steps.specs.declared.site.Site.{Site}
 use Rattle.iox_steps.specs.declared.push.Push.TheVariants as push
 use Rattle.iox_steps.specs.declared.push.FullLook.TheVariants as full_look
-use Rattle.iox_steps.specs.declared.seat.Pushing.{Pushing}
-use Rattle.iox_steps.specs.declared.seat.Pushing.TheVariants as pushing
-use Rattle.iox_steps.specs.declared.seat.Popping.{Popping}
+use Rattle.iox_steps.specs.declared.side.Pushing.{Pushing}
+use Rattle.iox_steps.specs.declared.side.Pushing.TheVariants as pushing
+use Rattle.iox_steps.specs.declared.side.Popping.{Popping}
 use Rattle.iox_steps.specs.Accesses.{put, word_after, IsPlace}
 use Rattle.iox_steps.specs.Sites.{cells, cell_at, last_position, position_after, is_full}
 use Rattle.iox_steps.specs.Pushes.{is_refused}
-use Rattle.iox_steps.specs.Moments.{rest, front, IsTrueOf, waiting_after, hand_after}
+use Rattle.iox_steps.specs.Events.{rest, front, IsTrueOf, waiting_after, hand_after}
 use Rattle.iox_steps.specs.Fits.{write_of, read_of, Ring, RoomKnows, PushingKnows, PoppingKnows, Fits}
 use Rattle.iox_steps.specs.Laws.{Turn, pushing_turn}
 use Rattle.iox_steps.proofs.Places.{put-same, put-other, cases_kind, cell_place, cells-overflowing}
 use Rattle.iox_steps.proofs.Rings.{ring_store, ring_publish, ring_take}
 use Rattle.iox_steps.proofs.Knowledge.{free_cell, popping_knows_more, popping_knows_evicted}
 
--- a turn's moment is true, and the words after it fit
+-- a turn's event is true, and the words after it fit
 abbrev pub StepsTo : Site → (ℕ → ℕ) → List ℕ → List ℕ → Turn → Type 0
-StepsTo site word waiting hand turn = IsTrueOf site (write_of site word) waiting hand turn.moment
-    × Fits site (word_after turn.access word) (waiting_after turn.moment waiting) (hand_after turn.moment waiting hand) turn.pushes turn.pops
+StepsTo site word waiting hand turn = IsTrueOf site (write_of site word) waiting hand turn.event
+    × Fits site (word_after turn.access word) (waiting_after turn.event waiting) (hand_after turn.event waiting hand) turn.pushes turn.pops
 
 -- at the last position every push is refused
 pub refused_at_end : (kind : QueueKind) (full : Bool) → is_refused kind true full ≡ true

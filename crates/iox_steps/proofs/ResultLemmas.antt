@@ -13,72 +13,72 @@ use Rattle.iox_steps.specs.declared.pop.Pop.{Pop}
 use Rattle.iox_steps.specs.declared.pop.Pop.TheVariants as pop
 use Rattle.iox_steps.specs.declared.pop.EmptyLook.{EmptyLook}
 use Rattle.iox_steps.specs.declared.pop.EmptyLook.TheVariants as empty_look
-use Rattle.iox_steps.specs.declared.seat.Moment.{Moment}
-use Rattle.iox_steps.specs.declared.seat.Pushing.{Pushing}
-use Rattle.iox_steps.specs.declared.seat.Pushing.TheVariants as pushing
-use Rattle.iox_steps.specs.declared.seat.Popping.{Popping}
-use Rattle.iox_steps.specs.declared.seat.Popping.TheVariants as popping
+use Rattle.iox_steps.specs.declared.side.QueueEvent.{QueueEvent}
+use Rattle.iox_steps.specs.declared.side.Pushing.{Pushing}
+use Rattle.iox_steps.specs.declared.side.Pushing.TheVariants as pushing
+use Rattle.iox_steps.specs.declared.side.Popping.{Popping}
+use Rattle.iox_steps.specs.declared.side.Popping.TheVariants as popping
 use Rattle.iox_steps.specs.Accesses.{seen_by}
 use Rattle.iox_steps.specs.Sites.{last_position, is_full, is_empty, cell_at}
-use Rattle.iox_steps.specs.Pushes.{push_access, push_next, push_moment, full_look_access, full_look_moment}
-use Rattle.iox_steps.specs.Pops.{is_taken, pop_access, pop_moment, empty_look_access, empty_look_moment}
-use Rattle.iox_steps.specs.Seats.{in_push}
-use Rattle.iox_steps.specs.Moments.{rest, IsTrueOf, waiting_after, hand_after}
+use Rattle.iox_steps.specs.Pushes.{push_access, push_next, push_event, full_look_access, full_look_event}
+use Rattle.iox_steps.specs.Pops.{is_taken, pop_access, pop_event, empty_look_access, empty_look_event}
+use Rattle.iox_steps.specs.Sides.{in_push}
+use Rattle.iox_steps.specs.Events.{rest, IsTrueOf, waiting_after, hand_after}
 use Rattle.iox_steps.specs.Fits.{write_of, PushingKnows}
-use Rattle.iox_steps.specs.Runs.{Line}
+use Rattle.iox_steps.specs.EventLists.{QueueState}
 use Rattle.iox_steps.specs.Answers.{unpublished_of}
 use Rattle.iox_steps.specs.Laws.{pushing_turn, popping_turn, Keeps}
 use Rattle.iox_steps.proofs.Places.{cases_kind}
 use Rattle.iox_steps.proofs.PushSteps.{refused_at_end, refused_when_full, overflows, welcome}
-use Rattle.iox_steps.specs.Results.{RefusesPush, PublishResult, EvictResult, GetBackResult, FullLookResult, PopResult, EmptyLookResult}
+use Rattle.iox_steps.specs.Results.{RefusesPush, PublishResult, EvictResult, LearnResult, FullLookResult, PopResult, EmptyLookResult}
 
 -- at the last position each kind refuses
-refuses_at_end : (kind : QueueKind) (capacity : ℕ) (line : Line) → line.write ≡ last_position → RefusesPush kind capacity line
-refuses_at_end Index capacity line end = inr end
-refuses_at_end Overflowing capacity line end = end
+refuses_at_end : (kind : QueueKind) (capacity : ℕ) (state : QueueState) → state.write ≡ last_position → RefusesPush kind capacity state
+refuses_at_end Index capacity state end = inr end
+refuses_at_end Overflowing capacity state end = end
 
-refuses_when_full : (kind : QueueKind) (capacity : ℕ) (line : Line) → kind ≡ Index → length line.waiting ≡ capacity
-    → RefusesPush kind capacity line
-refuses_when_full kind capacity line index full = rw index (inl full)
+refuses_when_full : (kind : QueueKind) (capacity : ℕ) (state : QueueState) → kind ≡ Index → length state.waiting ≡ capacity
+    → RefusesPush kind capacity state
+refuses_when_full kind capacity state index full = rw index (inl full)
 
--- the moment of an access is true of this queue
-abbrev IsTrueHere : Site → Line → Moment → Type 0
-IsTrueHere site line moment = IsTrueOf site line.write line.waiting line.hand moment
+-- the event of an access is true of this queue
+abbrev IsTrueHere : Site → QueueState → QueueEvent → Type 0
+IsTrueHere site state event = IsTrueOf site state.write state.waiting state.hand event
 
-pop_of : (site : Site) (place : Pop) (seen : ℕ) (line : Line) → IsTrueHere site line (pop_moment site place seen)
-    → PopResult site seen line place
-pop_of site pop.LoadsRead seen line holds = PopResult.goes _ refl refl
-pop_of site (pop.LoadsWrite read) seen line holds = elim (cases_Bool (is_empty site read seen)) [
-  | inl none ↦ (let nothing : line.waiting ≡ [] = rw none at holds in PopResult.finds_none (rw none refl) nothing (rw none refl))
+pop_of : (site : Site) (place : Pop) (seen : ℕ) (state : QueueState) → IsTrueHere site state (pop_event site place seen)
+    → PopResult site seen state place
+pop_of site pop.LoadsRead seen state holds = PopResult.goes _ refl refl
+pop_of site (pop.LoadsWrite read) seen state holds = elim (cases_Bool (is_empty site read seen)) [
+  | inl none ↦ (let nothing : state.waiting ≡ [] = rw none at holds in PopResult.finds_none (rw none refl) nothing (rw none refl))
   | inr some ↦ PopResult.goes (pop.LoadsCell read (cell_at site read)) (rw some refl) (rw some refl)
 ]
-pop_of site (pop.LoadsCell read cell) seen line holds = PopResult.goes _ refl refl
-pop_of site (pop.Takes read value) seen line holds = elim (cases_Bool (is_taken site.kind read seen)) [
+pop_of site (pop.LoadsCell read cell) seen state holds = PopResult.goes _ refl refl
+pop_of site (pop.Takes read value) seen state holds = elim (cases_Bool (is_taken site.kind read seen)) [
   | inl taken ↦ (
-      let first : line.waiting ≡ value ∷ rest line.waiting = rw taken at holds in
-      PopResult.takes value (rest line.waiting) (rw taken refl) first (rw taken refl)
+      let first : state.waiting ≡ value ∷ rest state.waiting = rw taken at holds in
+      PopResult.takes value (rest state.waiting) (rw taken refl) first (rw taken refl)
       )
   | inr missed ↦ PopResult.goes (pop.LoadsCell seen (cell_at site seen)) (rw missed refl) (rw missed refl)
 ]
 
-empty_look_of : (site : Site) (place : EmptyLook) (seen : ℕ) (line : Line) → IsTrueHere site line (empty_look_moment site place seen)
-    → EmptyLookResult site seen line place
-empty_look_of site empty_look.LoadsRead seen line holds = EmptyLookResult.goes _ refl refl
-empty_look_of site (empty_look.LoadsWrite read) seen line holds = elim (cases_Bool (is_empty site read seen)) [
-  | inl none ↦ (let nothing : line.waiting ≡ [] = rw none at holds in EmptyLookResult.finds_none (rw none refl) nothing (rw none refl))
-  | inr some ↦ (let waits : 0 < length line.waiting = rw some at holds in EmptyLookResult.finds_some (rw some refl) waits (rw some refl))
+empty_look_of : (site : Site) (place : EmptyLook) (seen : ℕ) (state : QueueState) → IsTrueHere site state (empty_look_event site place seen)
+    → EmptyLookResult site seen state place
+empty_look_of site empty_look.LoadsRead seen state holds = EmptyLookResult.goes _ refl refl
+empty_look_of site (empty_look.LoadsWrite read) seen state holds = elim (cases_Bool (is_empty site read seen)) [
+  | inl none ↦ (let nothing : state.waiting ≡ [] = rw none at holds in EmptyLookResult.finds_none (rw none refl) nothing (rw none refl))
+  | inr some ↦ (let waits : 0 < length state.waiting = rw some at holds in EmptyLookResult.finds_some (rw some refl) waits (rw some refl))
 ]
 
-full_look_of : (site : Site) (place : FullLook) (seen : ℕ) (line : Line) → IsTrueHere site line (full_look_moment site place seen)
-    → FullLookResult site seen line place
-full_look_of site full_look.LoadsWrite seen line holds = FullLookResult.goes _ refl refl
-full_look_of site (full_look.LoadsRead write) seen line holds = elim (cases_Bool (is_full site seen write)) [
+full_look_of : (site : Site) (place : FullLook) (seen : ℕ) (state : QueueState) → IsTrueHere site state (full_look_event site place seen)
+    → FullLookResult site seen state place
+full_look_of site full_look.LoadsWrite seen state holds = FullLookResult.goes _ refl refl
+full_look_of site (full_look.LoadsRead write) seen state holds = elim (cases_Bool (is_full site seen write)) [
   | inl full ↦ (
-      let many : length line.waiting ≡ site.capacity = rw full at holds in
+      let many : length state.waiting ≡ site.capacity = rw full at holds in
       FullLookResult.finds_full (rw full refl) many (rw full refl)
       )
   | inr room ↦ (
-      let free : length line.waiting < site.capacity = rw room at holds in
+      let free : length state.waiting < site.capacity = rw room at holds in
       FullLookResult.finds_room (rw room refl) free (rw room refl)
       )
 ]
@@ -94,26 +94,26 @@ IsSome (Some value) = Unit {0}
 none_is : (value : ℕ) → None ≡ Some value → ⊥
 none_is value is = subst IsSome (sym is) tt
 
--- the moment of a push is true, and this is what the party knows after it
-module _ (site : Site) (word' : ℕ → ℕ) (seen : ℕ) (line : Line) where
+-- the event of a push is true, and this is what the party knows after it
+module _ (site : Site) (word' : ℕ → ℕ) (seen : ℕ) (state : QueueState) where
   abbrev KnowsAfter : Push → Type 0
-  KnowsAfter place = let moment = push_moment site place seen in
-      PushingKnows site word' (waiting_after moment line.waiting) (hand_after moment line.waiting line.hand) (in_push (push_next site place seen))
+  KnowsAfter place = let event = push_event site place seen in
+      PushingKnows site word' (waiting_after event state.waiting) (hand_after event state.waiting state.hand) (in_push (push_next site place seen))
 
-  publish_of : (value : ℕ) (place : Push) → unpublished_of place ≡ Some value → IsTrueHere site line (push_moment site place seen)
-      → KnowsAfter place → PublishResult site seen line value place
+  publish_of : (value : ℕ) (place : Push) → unpublished_of place ≡ Some value → IsTrueHere site state (push_event site place seen)
+      → KnowsAfter place → PublishResult site seen state value place
   publish_of value (push.LoadsWrite v) is holds after = PublishResult.goes _ refl is refl
   publish_of value (push.LoadsRead v w) is holds after = elim (cases_Bool (eqb w last_position)) [
     | inl last ↦ (
-        let end : line.write ≡ last_position = rw last at holds in
-        PublishResult.refused (rw (last, refused_at_end, ap value_in is) refl) (refuses_at_end site.kind site.capacity line end) (rw last refl)
+        let end : state.write ≡ last_position = rw last at holds in
+        PublishResult.refused (rw (last, refused_at_end, ap value_in is) refl) (refuses_at_end site.kind site.capacity state end) (rw last refl)
         )
     | inr more ↦ elim (cases_Bool (is_full site seen w)) [
       | inl full ↦ (
-          let many : length line.waiting ≡ site.capacity = rw (more, full) at holds in
+          let many : length state.waiting ≡ site.capacity = rw (more, full) at holds in
           elim (cases_kind site.kind) [
             | inl kind ↦ PublishResult.refused (rw (more, full, refused_when_full site.kind kind, ap value_in is) refl)
-                (refuses_when_full site.kind site.capacity line kind many) (rw (more, full) refl)
+                (refuses_when_full site.kind site.capacity state kind many) (rw (more, full) refl)
             | inr kind ↦ PublishResult.goes (push.StoresCell v (cell_at site w) (w + 1) (Some seen)) (rw (more, full, overflows site.kind kind) refl)
                 is (rw (more, full) refl)
           ]
@@ -124,37 +124,37 @@ module _ (site : Site) (word' : ℕ → ℕ) (seen : ℕ) (line : Line) where
   ]
   publish_of value (push.StoresCell v cell next full) is holds after = PublishResult.goes _ refl is refl
   publish_of value (push.StoresWrite v next None) is holds after =
-      PublishResult.publishes refl (omega (arith, after.1, length_push line.waiting v)) holds.1 (rw (ap value_in is) refl)
+      PublishResult.publishes refl (omega (arith, after.1, length_push state.waiting v)) holds.1 (rw (ap value_in is) refl)
   publish_of value (push.StoresWrite v next (Some read)) is holds after = PublishResult.publishes_full read refl after.1 holds.1 (rw (ap value_in is) refl)
   publish_of value (push.Evicts read) is holds after = absurd (none_is value is)
   publish_of value (push.TakesOld cell) is holds after = absurd (none_is value is)
 
-  gets_back_of : (cell : ℕ) → IsTrueHere site line (push_moment site (push.TakesOld cell) seen) → KnowsAfter (push.TakesOld cell)
-      → GetBackResult site seen line cell
-  gets_back_of cell holds after = GetBackResult.gets_back refl holds after.1 refl
+  gets_back_of : (cell : ℕ) → IsTrueHere site state (push_event site (push.TakesOld cell) seen) → KnowsAfter (push.TakesOld cell)
+      → LearnResult site seen state cell
+  gets_back_of cell holds after = LearnResult.learns refl holds after.1 refl
 
-  evict_of : (read : ℕ) → IsTrueHere site line (push_moment site (push.Evicts read) seen) → KnowsAfter (push.Evicts read)
-      → EvictResult site seen line read
+  evict_of : (read : ℕ) → IsTrueHere site state (push_event site (push.Evicts read) seen) → KnowsAfter (push.Evicts read)
+      → EvictResult site seen state read
   evict_of read holds after = elim (cases_Bool (eqb seen read)) [
     | inl hit ↦ (
-        let over : (line.hand ≡ []) × (length line.waiting ≡ site.capacity + 1) = rw hit at holds in
-        first_goes hit over.0 line.waiting refl over.1
+        let over : (state.hand ≡ []) × (length state.waiting ≡ site.capacity + 1) = rw hit at holds in
+        first_goes hit over.0 state.waiting refl over.1
         )
     | inr missed ↦ (
-        let knows : (line.hand ≡ []) × (length line.waiting ≤ site.capacity) = rw missed at after in
+        let knows : (state.hand ≡ []) × (length state.waiting ≤ site.capacity) = rw missed at after in
         EvictResult.too_late (rw missed refl) knows.0 knows.1 (rw missed refl)
         )
   ]
     where
-      first_goes : eqb seen read ≡ true → line.hand ≡ [] → (waiting : List ℕ) → line.waiting ≡ waiting
-          → length line.waiting ≡ site.capacity + 1 → EvictResult site seen line read
+      first_goes : eqb seen read ≡ true → state.hand ≡ [] → (waiting : List ℕ) → state.waiting ≡ waiting
+          → length state.waiting ≡ site.capacity + 1 → EvictResult site seen state read
       first_goes hit none [] is over = absurd (omega (arith, over, ap length is))
       first_goes hit none (first ∷ others) is over =
           EvictResult.evicts (cell_at site read) first others (rw hit refl) none is (omega (arith, over, ap length is)) (rw (hit, is) refl)
 
 -- the same of a turn that keeps the queue
 module _ (site : Site) (word word' : ℕ → ℕ) (waiting hand : List ℕ) where
-  abbrev here : Line
+  abbrev here : QueueState
   here = record { write = write_of site word; waiting = waiting; hand = hand }
 
   module _ (pops : Popping) where
@@ -169,9 +169,9 @@ module _ (site : Site) (word word' : ℕ → ℕ) (waiting hand : List ℕ) wher
     evict_result read keeps =
         evict_of site word' (seen_by (push_access site (push.Evicts read)) word) here read keeps.is_true keeps.fits.push
 
-    pub get_back_result : (cell : ℕ) → Keeps site word word' waiting hand (pushing_turn site word (pushing.Pushes (push.TakesOld cell)) pops)
-        → GetBackResult site (seen_by (push_access site (push.TakesOld cell)) word) here cell
-    get_back_result cell keeps =
+    pub learn_result : (cell : ℕ) → Keeps site word word' waiting hand (pushing_turn site word (pushing.Pushes (push.TakesOld cell)) pops)
+        → LearnResult site (seen_by (push_access site (push.TakesOld cell)) word) here cell
+    learn_result cell keeps =
         gets_back_of site word' (seen_by (push_access site (push.TakesOld cell)) word) here cell keeps.is_true keeps.fits.push
 
     pub full_look_result : (place : FullLook) → Keeps site word word' waiting hand (pushing_turn site word (pushing.Looks place) pops)

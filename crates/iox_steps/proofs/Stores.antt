@@ -7,12 +7,12 @@ use Rattle.iox_steps.specs.declared.push.Push.TheVariants as push
 use Rattle.iox_steps.specs.declared.push.FullLook.TheVariants as full_look
 use Rattle.iox_steps.specs.declared.pop.Pop.TheVariants as pop
 use Rattle.iox_steps.specs.declared.pop.EmptyLook.TheVariants as empty_look
-use Rattle.iox_steps.specs.declared.seat.Pushing.{Pushing}
-use Rattle.iox_steps.specs.declared.seat.Pushing.TheVariants as pushing
-use Rattle.iox_steps.specs.declared.seat.Popping.{Popping}
-use Rattle.iox_steps.specs.declared.seat.Popping.TheVariants as popping
+use Rattle.iox_steps.specs.declared.side.Pushing.{Pushing}
+use Rattle.iox_steps.specs.declared.side.Pushing.TheVariants as pushing
+use Rattle.iox_steps.specs.declared.side.Popping.{Popping}
+use Rattle.iox_steps.specs.declared.side.Popping.TheVariants as popping
 use Rattle.iox_steps.specs.Pops.{take_access, is_taken}
-use Rattle.iox_steps.specs.Seats.{pushing_access, popping_access}
+use Rattle.iox_steps.specs.Sides.{pushing_access, popping_access}
 use Rattle.iox_steps.specs.Stores.{IsStore, PushingIsBlind, PoppingIsBlind}
 
 pub pushing_is_blind : (site : Site) (pushes : Pushing) → IsStore (pushing_access site pushes) → PushingIsBlind site pushes

@@ -9,33 +9,33 @@ use Rattle.iox_steps.specs.declared.push.Push.TheVariants as push
 use Rattle.iox_steps.specs.declared.push.FullLook.TheVariants as full_look
 use Rattle.iox_steps.specs.declared.pop.Pop.TheVariants as pop
 use Rattle.iox_steps.specs.declared.pop.EmptyLook.TheVariants as empty_look
-use Rattle.iox_steps.specs.declared.seat.Pushing.{Pushing}
-use Rattle.iox_steps.specs.declared.seat.Pushing.TheVariants as pushing
-use Rattle.iox_steps.specs.declared.seat.Popping.{Popping}
-use Rattle.iox_steps.specs.declared.seat.Popping.TheVariants as popping
+use Rattle.iox_steps.specs.declared.side.Pushing.{Pushing}
+use Rattle.iox_steps.specs.declared.side.Pushing.TheVariants as pushing
+use Rattle.iox_steps.specs.declared.side.Popping.{Popping}
+use Rattle.iox_steps.specs.declared.side.Popping.TheVariants as popping
 use Rattle.iox_steps.specs.Accesses.{place_of, change_of, seen_by, IsWithin, Changes}
 use Rattle.iox_steps.specs.Sites.{cells, size, cell_at, last_position, is_full, is_empty}
 use Rattle.iox_steps.specs.Pushes.{is_refused}
 use Rattle.iox_steps.specs.Pops.{take_access, is_taken}
-use Rattle.iox_steps.specs.Seats.{pushing_access, pushing_after, pushing_moment, popping_access, popping_after, popping_moment}
-use Rattle.iox_steps.specs.Moments.{IsTrueOf, waiting_after, hand_after}
+use Rattle.iox_steps.specs.Sides.{pushing_access, pushing_after, pushing_event, popping_access, popping_after, popping_event}
+use Rattle.iox_steps.specs.Events.{IsTrueOf, waiting_after, hand_after}
 use Rattle.iox_steps.specs.Fits.{write_of, Fits}
 use Rattle.iox_steps.proofs.Places.{cell_place}
 use Rattle.iox_steps.proofs.Turns.{pushing_keeps_changed, popping_keeps_changed}
 
 module _ (site : Site) (word word' : ℕ → ℕ) (waiting hand : List ℕ) (pushes : Pushing) (pops : Popping)
     (fits : Fits site word waiting hand pushes pops) where
-  pub pushing_changes : let access = pushing_access site pushes in let seen = seen_by access word in let moment = pushing_moment site pushes seen in
+  pub pushing_changes : let access = pushing_access site pushes in let seen = seen_by access word in let event = pushing_event site pushes seen in
       Changes word (place_of access) (change_of access (word (place_of access))) word'
-      → IsTrueOf site (write_of site word) waiting hand moment
-      × Fits site word' (waiting_after moment waiting) (hand_after moment waiting hand) (pushing_after site pushes seen) pops
+      → IsTrueOf site (write_of site word) waiting hand event
+      × Fits site word' (waiting_after event waiting) (hand_after event waiting hand) (pushing_after site pushes seen) pops
   pushing_changes changes =
       let keeps = pushing_keeps_changed site word waiting hand pushes pops fits word' changes in (keeps.is_true, keeps.fits)
 
-  pub popping_changes : let access = popping_access site pops in let seen = seen_by access word in let moment = popping_moment site pops seen in
+  pub popping_changes : let access = popping_access site pops in let seen = seen_by access word in let event = popping_event site pops seen in
       Changes word (place_of access) (change_of access (word (place_of access))) word'
-      → IsTrueOf site (write_of site word) waiting hand moment
-      × Fits site word' (waiting_after moment waiting) (hand_after moment waiting hand) pushes (popping_after site pops seen)
+      → IsTrueOf site (write_of site word) waiting hand event
+      × Fits site word' (waiting_after event waiting) (hand_after event waiting hand) pushes (popping_after site pops seen)
   popping_changes changes =
       let keeps = popping_keeps_changed site word waiting hand pushes pops fits word' changes in (keeps.is_true, keeps.fits)
 

@@ -1,14 +1,14 @@
 -- Each turn keeps the queue: over words by their places, over a list of words, and over words that are told one change at a time.
 use Rattle.std.proofs.Common.{◌≡◌, ℕ, ◌+◌, ◌≤◌, None, List, length, get_or, ◌∙◌, arith}
 use Rattle.iox_steps.specs.declared.site.Site.{Site}
-use Rattle.iox_steps.specs.declared.seat.Pushing.{Pushing}
-use Rattle.iox_steps.specs.declared.seat.Popping.{Popping}
+use Rattle.iox_steps.specs.declared.side.Pushing.{Pushing}
+use Rattle.iox_steps.specs.declared.side.Popping.{Popping}
 use Rattle.iox_steps.specs.Accesses.{place_of, change_of, seen_by, word_after, words_after, IsWithin, Changes, AreApart}
 use Rattle.iox_steps.specs.Sites.{size}
-use Rattle.iox_steps.specs.Seats.{pushing_access, popping_access}
+use Rattle.iox_steps.specs.Sides.{pushing_access, popping_access}
 use Rattle.iox_steps.specs.Fits.{write_of, Fits}
-use Rattle.iox_steps.specs.Runs.{write_after}
-use Rattle.iox_steps.specs.Answers.{Answers, OnProgress, unpublished_after}
+use Rattle.iox_steps.specs.EventLists.{write_after}
+use Rattle.iox_steps.specs.Answers.{ReplyIsTrue, OnProgress, unpublished_after}
 use Rattle.iox_steps.specs.Laws.{Turn, pushing_turn, popping_turn, Keeps, KeepsInList}
 use Rattle.iox_steps.proofs.AccessLemmas.{changed_are_after, changes_outside, after_changes, list_changes, length-words_after, within_wider}
 use Rattle.iox_steps.proofs.PushSteps.{StepsTo, pushing_step}
@@ -20,9 +20,9 @@ use Rattle.iox_steps.proofs.AnswerLemmas.{pushing_answers, popping_answers, push
 -- a turn whose parts are known, at words of which one changed as its access says
 turn_keeps : (site : Site) (word word' : ℕ → ℕ) (waiting hand : List ℕ) (turn : Turn)
     → IsWithin site.base (size site) turn.access → StepsTo site word waiting hand turn
-    → write_of site (word_after turn.access word) ≡ write_after turn.moment (write_of site word)
-    → Answers turn.own turn.answer turn.moment
-    → OnProgress turn.answer (turn.left ≡ unpublished_after turn.moment turn.own) (λ reply. turn.left ≡ None)
+    → write_of site (word_after turn.access word) ≡ write_after turn.event (write_of site word)
+    → ReplyIsTrue turn.own turn.answer turn.event
+    → OnProgress turn.answer (turn.own_after ≡ unpublished_after turn.event turn.own) (λ reply. turn.own_after ≡ None)
     → Changes word (place_of turn.access) (change_of turn.access (word (place_of turn.access))) word'
     → Keeps site word word' waiting hand turn
 turn_keeps site word word' waiting hand turn within steps writes answers own changes =
@@ -56,7 +56,7 @@ module _ (site : Site) (word : ℕ → ℕ) (waiting hand : List ℕ) (pushes : 
       (popping_within site word waiting pops fits.ring.bounded fits.pop) (popping_step site word waiting hand pushes pops fits)
       (popping_writes site word pops waiting fits.pop)
       (popping_answers site pops (seen_by (popping_access site pops) word))
-      (popping_own (popping_turn site word pushes pops).answer (popping_turn site word pushes pops).moment) changes
+      (popping_own (popping_turn site word pushes pops).answer (popping_turn site word pushes pops).event) changes
 
   pub pushing_keeps : Keeps site word (word_after (pushing_access site pushes) word) waiting hand (pushing_turn site word pushes pops)
   pushing_keeps = pushing_keeps_changed (word_after (pushing_access site pushes) word) (after_changes (pushing_access site pushes) word)

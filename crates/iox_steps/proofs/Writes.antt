@@ -8,34 +8,34 @@ use Rattle.iox_steps.specs.declared.push.Push.TheVariants as push
 use Rattle.iox_steps.specs.declared.push.FullLook.TheVariants as full_look
 use Rattle.iox_steps.specs.declared.pop.Pop.TheVariants as pop
 use Rattle.iox_steps.specs.declared.pop.EmptyLook.TheVariants as empty_look
-use Rattle.iox_steps.specs.declared.seat.Moment.TheVariants.{Quiet, HandOut}
-use Rattle.iox_steps.specs.declared.seat.Pushing.{Pushing}
-use Rattle.iox_steps.specs.declared.seat.Pushing.TheVariants as pushing
-use Rattle.iox_steps.specs.declared.seat.Popping.{Popping}
-use Rattle.iox_steps.specs.declared.seat.Popping.TheVariants as popping
+use Rattle.iox_steps.specs.declared.side.QueueEvent.TheVariants.{Quiet, HandOut}
+use Rattle.iox_steps.specs.declared.side.Pushing.{Pushing}
+use Rattle.iox_steps.specs.declared.side.Pushing.TheVariants as pushing
+use Rattle.iox_steps.specs.declared.side.Popping.{Popping}
+use Rattle.iox_steps.specs.declared.side.Popping.TheVariants as popping
 use Rattle.iox_steps.specs.Accesses.{seen_by, word_after}
 use Rattle.iox_steps.specs.Sites.{last_position, is_full, is_empty}
-use Rattle.iox_steps.specs.Pushes.{room_moment}
+use Rattle.iox_steps.specs.Pushes.{room_event}
 use Rattle.iox_steps.specs.Pops.{take_access, is_taken}
-use Rattle.iox_steps.specs.Seats.{pushing_access, pushing_moment, popping_access, popping_moment}
+use Rattle.iox_steps.specs.Sides.{pushing_access, pushing_event, popping_access, popping_event}
 use Rattle.iox_steps.specs.Fits.{write_of, PoppingKnows, Fits}
-use Rattle.iox_steps.specs.Runs.{write_after}
-use Rattle.iox_steps.specs.Plays.{most_waiting}
+use Rattle.iox_steps.specs.EventLists.{write_after}
+use Rattle.iox_steps.specs.AfterCalls.{most_waiting}
 use Rattle.iox_steps.proofs.Places.{put-same, put-other, cell_place}
 use Rattle.iox_steps.proofs.Knowledge.{free_cell}
 
 -- a look at a position publishes nothing
-room_moment-write : (site : Site) (read write n : ℕ) → n ≡ write_after (room_moment site read write) n
-room_moment-write site read write n = elim (cases_Bool (is_full site read write)) [ inl full ↦ rw full refl | inr room ↦ rw room refl ]
+room_event-write : (site : Site) (read write n : ℕ) → n ≡ write_after (room_event site read write) n
+room_event-write site read write n = elim (cases_Bool (is_full site read write)) [ inl full ↦ rw full refl | inr room ↦ rw room refl ]
 
 pub pushing_writes : (site : Site) (word : ℕ → ℕ) (waiting hand : List ℕ) (pushes : Pushing) (pops : Popping) → Fits site word waiting hand pushes pops
-    → let access = pushing_access site pushes in write_of site (word_after access word) ≡ write_after (pushing_moment site pushes (seen_by access word))
+    → let access = pushing_access site pushes in write_of site (word_after access word) ≡ write_after (pushing_event site pushes (seen_by access word))
     (write_of site word)
 pushing_writes site word waiting hand pushing.AtRest pops fits = refl
 pushing_writes site word waiting hand (pushing.Pushes (push.LoadsWrite value)) pops fits = refl
 pushing_writes site word waiting hand (pushing.Pushes (push.LoadsRead value write)) pops fits = elim (cases_Bool (eqb write last_position)) [
   | inl last ↦ rw last refl
-  | inr more ↦ rw more (room_moment-write site _ write _)
+  | inr more ↦ rw more (room_event-write site _ write _)
 ]
 pushing_writes site word waiting hand (pushing.Pushes (push.StoresCell value cell next full)) pops fits =
     let at = fits.push.3 in
@@ -49,11 +49,11 @@ pushing_writes site word waiting hand (pushing.Pushes (push.Evicts read)) pops f
 ]
 pushing_writes site word waiting hand (pushing.Pushes (push.TakesOld cell)) pops fits = refl
 pushing_writes site word waiting hand (pushing.Looks full_look.LoadsWrite) pops fits = refl
-pushing_writes site word waiting hand (pushing.Looks (full_look.LoadsRead write)) pops fits = room_moment-write site _ write _
+pushing_writes site word waiting hand (pushing.Looks (full_look.LoadsRead write)) pops fits = room_event-write site _ write _
 
 -- a pop publishes nothing
 pub popping_writes : (site : Site) (word : ℕ → ℕ) (pops : Popping) (waiting : List ℕ) → PoppingKnows site word waiting pops
-    → let access = popping_access site pops in write_of site (word_after access word) ≡ write_after (popping_moment site pops (seen_by access word))
+    → let access = popping_access site pops in write_of site (word_after access word) ≡ write_after (popping_event site pops (seen_by access word))
     (write_of site word)
 popping_writes site word popping.AtRest waiting knows = refl
 popping_writes site word (popping.Pops pop.LoadsRead) waiting knows = refl

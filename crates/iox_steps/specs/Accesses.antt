@@ -26,7 +26,7 @@ change_of (FetchSub place value) n = (n + (2 ^ 64 - value)) % 2 ^ 64
 change_of (FetchOr place value) n = bit_or n value
 change_of (FetchAnd place value) n = bit_and n value
 
--- what the party is told, where the word was n
+-- what the party sees, where the word was n
 abbrev pub seen_of : Access → ℕ → ℕ
 seen_of Local n = 0
 seen_of (Load place) n = n
@@ -37,14 +37,15 @@ seen_of (FetchSub place value) n = n
 seen_of (FetchOr place value) n = n
 seen_of (FetchAnd place value) n = n
 
+-- what the party sees, where `word` gives the word at each place
 abbrev pub seen_by : Access → (ℕ → ℕ) → ℕ
 seen_by access word = seen_of access (word (place_of access))
 
--- what the party is told, of a list of words
+-- what the party sees in a list of words
 abbrev pub seen_at : Access → List ℕ → ℕ
 seen_at access words = seen_by access (λ place. slice_index words place)
 
--- one word is another, and all others stay
+-- the words where this one is replaced, and all others stay
 abbrev pub put : (ℕ → ℕ) → ℕ → ℕ → ℕ → ℕ
 put word place value at = if at == place then value else word at
 
@@ -59,7 +60,7 @@ word_after (FetchSub place value) word = put word place (change_of (FetchSub pla
 word_after (FetchOr place value) word = put word place (change_of (FetchOr place value) (word place))
 word_after (FetchAnd place value) word = put word place (change_of (FetchAnd place value) (word place))
 
--- the same of a list of words
+-- the list of words after an access
 abbrev pub words_after : Access → List ℕ → List ℕ
 words_after Local words = words
 words_after (Load place) words = words
@@ -75,11 +76,11 @@ words_after (FetchOr place value) words =
 words_after (FetchAnd place value) words =
     slice_set words place (change_of (FetchAnd place value) (slice_index words place))
 
--- the place is one of the `size` from `base` on
+-- the place is one of the `size` places from `base` on
 abbrev pub IsPlace : ℕ → ℕ → ℕ → Type 0
 IsPlace base size place = (base ≤ place) × (place < base + size)
 
--- the access names no word but those
+-- the access names no word outside the `size` places from `base` on
 abbrev pub IsWithin : ℕ → ℕ → Access → Type 0
 IsWithin base size Local = Unit {0}
 IsWithin base size (Load place) = IsPlace base size place
@@ -103,7 +104,7 @@ abbrev pub IsSameOutside : ℕ → ℕ → (ℕ → ℕ) → (ℕ → ℕ) → T
 IsSameOutside base size word word' = (place : ℕ)
     → (place < base) ⊎ (base + size ≤ place) → word' place ≡ word place
 
--- the same of a list of words
+-- the lists are equally long, and no word changed but in this stretch
 abbrev pub KeepsOutside : ℕ → ℕ → List ℕ → List ℕ → Type 0
 KeepsOutside base size words after = (length after ≡ length words)
     × IsSameOutside base size (λ place. slice_index words place) (λ place. slice_index after place)

@@ -10,9 +10,11 @@ module _ (site : Site) (words : List ℕ) where
   values_from position (suc count) =
       slice_index words (cell_at site position) ∷ values_from (position + 1) count
 
+  -- the write position, as the words hold it
   abbrev pub write : ℕ
   write = slice_index words site.base
 
+  -- the read position, as the words hold it
   abbrev pub read : ℕ
   read = slice_index words (site.base + 1)
 

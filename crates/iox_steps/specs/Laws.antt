@@ -3,29 +3,30 @@ use Rattle.std.specs.Prelude.{◌≡◌, ℕ, ◌+◌, ◌≤◌, List, Option, 
 use Rattle.iox_steps.specs.declared.access.Access.{Access}
 use Rattle.iox_steps.specs.declared.access.Progress.{Progress}
 use Rattle.iox_steps.specs.declared.site.Site.{Site}
-use Rattle.iox_steps.specs.declared.seat.Moment.{Moment}
-use Rattle.iox_steps.specs.declared.seat.Reply.{Reply}
-use Rattle.iox_steps.specs.declared.seat.Pushing.{Pushing}
-use Rattle.iox_steps.specs.declared.seat.Popping.{Popping}
+use Rattle.iox_steps.specs.declared.side.QueueEvent.{QueueEvent}
+use Rattle.iox_steps.specs.declared.side.QueueReply.{QueueReply}
+use Rattle.iox_steps.specs.declared.side.Pushing.{Pushing}
+use Rattle.iox_steps.specs.declared.side.Popping.{Popping}
 use Rattle.iox_steps.specs.Accesses.{place_of, change_of, seen_by, word_after, words_after, IsWithin, Changes, AreApart, IsSameOutside, KeepsOutside}
 use Rattle.iox_steps.specs.Sites.{size}
-use Rattle.iox_steps.specs.Seats.{pushing_access, pushing_after, pushing_progress, pushing_moment, popping_access, popping_after, popping_progress, popping_moment}
-use Rattle.iox_steps.specs.Moments.{IsTrueOf, waiting_after, hand_after}
+use Rattle.iox_steps.specs.Sides.{pushing_access, pushing_after, pushing_progress, pushing_event, popping_access, popping_after, popping_progress, popping_event}
+use Rattle.iox_steps.specs.Events.{IsTrueOf, waiting_after, hand_after}
 use Rattle.iox_steps.specs.Fits.{write_of, Fits}
-use Rattle.iox_steps.specs.Runs.{write_after}
-use Rattle.iox_steps.specs.Answers.{Answers, OnProgress, unpublished, unpublished_after}
+use Rattle.iox_steps.specs.EventLists.{write_after}
+use Rattle.iox_steps.specs.Answers.{ReplyIsTrue, OnProgress, unpublished, unpublished_after}
 
--- A turn of a party: one access, and what it comes to.
+-- A turn of a party: one access, and all that it comes to.
 pub record Turn : Type 0 where
   pub access : Access
   -- what the access does to the queue, or sees there
-  pub moment : Moment
-  -- the value that the party had still to publish
+  pub event : QueueEvent
+  -- the value that the party has yet to publish before the access
   pub own : Option ℕ
-  -- and what it has after it
-  pub left : Option ℕ
-  pub answer : Progress Reply
-  -- where both parties are after it
+  -- the value that it has yet to publish after the access
+  pub own_after : Option ℕ
+  -- whether the call continues, and else its reply
+  pub answer : Progress QueueReply
+  -- where both parties are after the access
   pub pushes : Pushing
   pub pops : Popping
 
@@ -33,21 +34,21 @@ pub record Turn : Type 0 where
 abbrev pub pushing_turn : Site → (ℕ → ℕ) → Pushing → Popping → Turn
 pushing_turn site word pushes pops = let seen = seen_by (pushing_access site pushes) word in record {
   access = pushing_access site pushes;
-  moment = pushing_moment site pushes seen;
+  event = pushing_event site pushes seen;
   own = unpublished pushes;
-  left = unpublished (pushing_after site pushes seen);
+  own_after = unpublished (pushing_after site pushes seen);
   answer = pushing_progress site pushes seen;
   pushes = pushing_after site pushes seen;
   pops = pops;
 }
 
--- the turn of the party that pops
+-- the turn of the party that pops, at these words
 abbrev pub popping_turn : Site → (ℕ → ℕ) → Pushing → Popping → Turn
 popping_turn site word pushes pops = let seen = seen_by (popping_access site pops) word in record {
   access = popping_access site pops;
-  moment = popping_moment site pops seen;
+  event = popping_event site pops seen;
   own = None;
-  left = None;
+  own_after = None;
   answer = popping_progress site pops seen;
   pushes = pushes;
   pops = popping_after site pops seen;
@@ -55,34 +56,36 @@ popping_turn site word pushes pops = let seen = seen_by (popping_access site pop
 
 -- A turn, from these words to those, keeps the queue in which `waiting` waits and `hand` is in hand.
 pub record Keeps (site : Site) (word word' : ℕ → ℕ) (waiting hand : List ℕ) (turn : Turn) : Type 0 where
-  -- it names no word but the queue's
+  -- the access names only words of the queue
   pub within : IsWithin site.base (size site) turn.access
   -- one word at most changed, as the access says
   pub changes : let place = place_of turn.access in
       Changes word place (change_of turn.access (word place)) word'
+  -- no word outside the queue changed
   pub outside : IsSameOutside site.base (size site) word word'
-  -- its moment is true
-  pub is_true : IsTrueOf site (write_of site word) waiting hand turn.moment
+  -- its event is true
+  pub is_true : IsTrueOf site (write_of site word) waiting hand turn.event
   -- the write position counts what is published
-  pub counts : write_of site word' ≡ write_after turn.moment (write_of site word)
+  pub counts : write_of site word' ≡ write_after turn.event (write_of site word)
   -- the words after it fit
-  pub fits : Fits site word' (waiting_after turn.moment waiting) (hand_after turn.moment waiting hand)
+  pub fits : Fits site word' (waiting_after turn.event waiting) (hand_after turn.event waiting hand)
       turn.pushes turn.pops
-  -- its answer says what happened
-  pub answers : Answers turn.own turn.answer turn.moment
-  -- a call that goes on keeps its value, until it is published
-  pub own_stays : OnProgress turn.answer (turn.left ≡ unpublished_after turn.moment turn.own)
-      (λ reply. turn.left ≡ None)
+  -- a reply says what the event was
+  pub answers : ReplyIsTrue turn.own turn.answer turn.event
+  -- a call that continues keeps its value until that is published
+  pub own_stays : OnProgress turn.answer (turn.own_after ≡ unpublished_after turn.event turn.own)
+      (λ reply. turn.own_after ≡ None)
 
--- the same of a turn at a list of words
+-- the turn keeps a queue in a list of words, and the words outside it
 abbrev pub KeepsInList : Site → List ℕ → List ℕ → List ℕ → Turn → Type 0
 KeepsInList site words waiting hand turn = let after = words_after turn.access words in
     IsWithin 0 (length words) turn.access × KeepsOutside site.base (size site) words after
     × Keeps site (λ place. slice_index words place) (λ place. slice_index after place)
     waiting hand turn
 
--- Whatever the queue, and wherever both parties are, each turn keeps it.
+-- Each turn keeps its queue, whatever the queue is and wherever in their calls both parties are.
 module _ (turn_of : Site → (ℕ → ℕ) → Pushing → Popping → Turn) where
+  -- each turn keeps its queue
   abbrev pub EveryTurnKeeps : Type 0
   EveryTurnKeeps = (site : Site) (word : ℕ → ℕ) (waiting hand : List ℕ)
       (pushes : Pushing) (pops : Popping)
@@ -90,7 +93,7 @@ module _ (turn_of : Site → (ℕ → ℕ) → Pushing → Popping → Turn) whe
       → let turn = turn_of site word pushes pops in
       Keeps site word (word_after turn.access word) waiting hand turn
 
-  -- and leaves each queue as it is that stands elsewhere in the same list of words
+  -- each turn keeps its queue, and leaves every queue elsewhere in the same words unchanged
   abbrev pub EveryTurnLeavesOthers : Type 0
   EveryTurnLeavesOthers = (site : Site) (words waiting hand : List ℕ)
       (pushes : Pushing) (pops : Popping)

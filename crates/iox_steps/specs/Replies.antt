@@ -4,10 +4,11 @@ use Rattle.iox_steps.specs.declared.site.QueueKind.{QueueKind}
 use Rattle.iox_steps.specs.declared.site.QueueKind.TheVariants.{Index, Overflowing}
 use Rattle.iox_steps.specs.declared.push.PushReply.{PushReply}
 use Rattle.iox_steps.specs.declared.push.PushReply.TheVariants as push
-use Rattle.iox_steps.specs.declared.seat.Reply.{Reply}
-use Rattle.iox_steps.specs.declared.seat.Reply.TheVariants.{Pushed, HandedBack}
+use Rattle.iox_steps.specs.declared.side.QueueReply.{QueueReply}
+use Rattle.iox_steps.specs.declared.side.QueueReply.TheVariants.{Pushed, HandedBack}
 
-abbrev pub push_reply : QueueKind → PushReply → Reply
+-- the reply of a push that ended so, in a queue of this kind
+abbrev pub push_reply : QueueKind → PushReply → QueueReply
 -- was there room?
 push_reply Index push.Pushed = Pushed true
 push_reply Index (push.PushedOut old) = Pushed true

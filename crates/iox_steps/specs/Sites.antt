@@ -4,6 +4,8 @@ use Rattle.iox_steps.specs.declared.site.QueueKind.{QueueKind}
 use Rattle.iox_steps.specs.declared.site.QueueKind.TheVariants.{Index, Overflowing}
 use Rattle.iox_steps.specs.declared.site.Site.{Site}
 
+-- how many cells a queue of this kind and capacity has: an overflowing one has one more than may
+-- wait
 abbrev pub cells_of : QueueKind → ℕ → ℕ
 cells_of Index capacity = capacity
 cells_of Overflowing capacity = capacity + 1

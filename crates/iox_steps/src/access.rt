@@ -10,7 +10,7 @@ pub enum Access {
     Local,
     Load(usize),
     Store(usize, u64),
-    /// the place, the word that has to stand there, and the word that takes its place
+    /// the place, the word expected there, and the word that replaces it
     CompareExchange(usize, u64, u64),
     FetchAdd(usize, u64),
     FetchSub(usize, u64),
@@ -18,22 +18,22 @@ pub enum Access {
     FetchAnd(usize, u64),
 }
 
-/// What a party says after an access: its call goes on, or is done with a reply.
+/// What a party answers after an access: its call continues, or is done with a reply.
 #[derive(Clone, Copy, Debug, PartialEq, Eq)]
 pub enum Progress<R> {
     Going,
     Done(R),
 }
 
-/// Where a program of accesses goes after one: on to a place, or to its end.
+/// Where a program of accesses goes after one: on in the program, or to its end.
 #[derive(Clone, Copy)]
 pub enum Next<P, R> {
     Goes(P),
     Ends(R),
 }
 
-/// One whose call is under way, one access after another. An `Access` has one place, so each access
-/// names one word at most.
+/// One who makes accesses, one after another. An `Access` has one place, so that each access names
+/// one word at most.
 pub trait Party {
     type Reply: Copy;
 

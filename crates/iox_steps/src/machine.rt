@@ -6,7 +6,7 @@ ghost use Rattle.iox_steps.specs.Accesses.{IsWithin, seen_by, words_after};
 
 use crate::access::{Access, Progress};
 use crate::error::MachineError;
-use crate::playable::Playable;
+use crate::machine_party::MachineParty;
 use std::alloc::Global;
 use std::marker::Model;
 
@@ -62,7 +62,7 @@ pub fn perform(words: &mut Vec<u64>, access: Access) -> u64
     }
 }
 
-/// Writes what happened, if anything, behind the events, which have room for it.
+/// Writes the event, if there is one, behind the others; there is room for it.
 #[inline]
 pub fn tell<E: Copy>(events: &mut Vec<E>, event: Option<E>)
     requires { vec_len events.old < vec_capacity events.old }
@@ -76,31 +76,31 @@ pub fn tell<E: Copy>(events: &mut Vec<E>, event: Option<E>)
 
 /// Shared words, the parties that play on them, and what happened.
 #[derive(Drop)]
-pub struct Machine<P: Playable> {
+pub struct Machine<P: MachineParty> {
     words: Vec<u64>,
     parties: Vec<P>,
     events: Vec<P::Event>,
 }
 
-impl<P: Playable> Model for Machine<P> {
-    ghost use Rattle.iox_steps.specs.Worlds.{World};
+impl<P: MachineParty> Model for Machine<P> {
+    ghost use Rattle.iox_steps.specs.MachineStates.{MachineState};
 
-    ghost Value = { World P P.Event };
+    ghost Value = { MachineState P P.Event };
 
     ghost view = { λ m.
         record { words = m.words.items; parties = m.parties.items; events = m.events.items } };
 
-    ghost invariant = { λ m. P.Holds
+    ghost invariant = { λ m. P.Invariant
         (record { words = m.words.items; parties = m.parties.items; events = m.events.items }) };
 }
 
-impl<P: Playable> Machine<P> {
+impl<P: MachineParty> Machine<P> {
     ghost use Rattle.std.specs.Prelude.{◌≡◌, ℕ, ◌<◌, [], length, take, IfOk, IfErr, OnOk, OnErr};
-    ghost use Rattle.iox_steps.specs.Worlds.{World, Stepped, IsStepRefused, Begun, IsBeginRefused, Entered, AllEntered, IsStepUnderWay, StopsAtStep};
+    ghost use Rattle.iox_steps.specs.MachineStates.{MachineState, Stepped, IsStepRefused, Begun, IsBeginRefused, Entered, AllEntered, IsStepUnderWay, StopsAtStep};
 
     /// Parties that are to play on these words.
     pub fn new(alloc: Global, words: Vec<u64>, parties: Vec<P>) -> Machine<P>
-        requires { P.Holds (record { words = words.items; parties = parties.items; events = [] }) }
+        requires { P.Invariant (record { words = words.items; parties = parties.items; events = [] }) }
         ensures { result ≡ record { words = words.items; parties = parties.items; events = [] } }
     {
         Machine {
@@ -142,7 +142,7 @@ impl<P: Playable> Machine<P> {
         if self.events.reserve(1).is_err() {
             return Err(MachineError::WantOfMemory);
         }
-        let answer = self.parties[party].play(&mut self.words, &mut self.events);
+        let answer = self.parties[party].step(&mut self.words, &mut self.events);
         Ok(answer)
     }
 
@@ -160,9 +160,9 @@ impl<P: Playable> Machine<P> {
         self.parties[party].begin(call)
     }
 
-    /// What the words say, wherever the parties are.
+    /// What holds wherever the parties are in their calls.
     pub fn holds(&self)
-        ensures { P.Holds self.now }
+        ensures { P.Invariant self.now }
     {
         let _words = &self.words;
     }
@@ -191,7 +191,7 @@ impl<P: Playable> Machine<P> {
         }
     }
 
-    /// Plays a schedule to its end, or to the step that wants memory.
+    /// Plays a schedule to its end, or to the step that finds no memory.
     pub fn run(&mut self, schedule: &[Entry<P::Call>]) -> Result<(), MachineError>
         ensures played { (count : ℕ) × AllEntered P.asks P.leads P.happens P.at_rest P.begins
             self.old (take count schedule.now) self.new }
@@ -200,7 +200,7 @@ impl<P: Playable> Machine<P> {
         ensures stopped { OnErr result (StopsAtStep P.asks P.leads P.happens P.at_rest P.begins
             self.old schedule.now self.new) }
         ensures refused { IfErr result (λ error. error ≡ MachineError.WantOfMemory) }
-        ensures holds { P.Holds self.new }
+        ensures holds { P.Invariant self.new }
     {
         let played = self.enter_all(schedule);
         self.holds();

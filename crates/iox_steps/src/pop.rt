@@ -1,9 +1,9 @@
 //! The programs of the party that pops: a pop and a look at emptiness.
 ghost use Rattle.std.specs.Prelude.{◌≡◌, ◌+◌, ◌^◌, ◌<◌};
-ghost use Rattle.iox_steps.specs.Pops.{waiting_moment as seen_waiting, is_taken as was_taken};
+ghost use Rattle.iox_steps.specs.Pops.{waiting_event as seen_waiting, is_taken as was_taken};
 
 use crate::access::{Access, Next};
-use crate::seat::Moment;
+use crate::side::QueueEvent;
 use crate::site::{QueueKind, Site};
 
 /// Where a pop is.
@@ -29,7 +29,7 @@ pub enum EmptyLook {
 impl Pop {
     ghost use Rattle.std.specs.Prelude.{◌≡◌, ◌+◌, ◌^◌, ◌<◌};
     ghost use Rattle.iox_steps.specs.Sites.{size};
-    ghost use Rattle.iox_steps.specs.Pops.{pop_access, pop_next, pop_moment};
+    ghost use Rattle.iox_steps.specs.Pops.{pop_access, pop_next, pop_event};
 
     /// The access that it makes next.
     #[inline]
@@ -79,18 +79,18 @@ impl Pop {
 
     /// What an access that found `seen` does to the queue, or sees there.
     #[inline]
-    pub fn moment(self, site: Site, seen: u64) -> Moment
-        ensures { result ≡ pop_moment site self seen }
+    pub fn event(self, site: Site, seen: u64) -> QueueEvent
+        ensures { result ≡ pop_event site self seen }
     {
         match self {
-            Pop::LoadsRead => Moment::Quiet,
-            Pop::LoadsWrite(read) => waiting_moment(site, read, seen),
-            Pop::LoadsCell(_, _) => Moment::Quiet,
+            Pop::LoadsRead => QueueEvent::Quiet,
+            Pop::LoadsWrite(read) => waiting_event(site, read, seen),
+            Pop::LoadsCell(_, _) => QueueEvent::Quiet,
             Pop::Takes(read, value) => {
                 if is_taken(site.kind, read, seen) {
-                    Moment::HandOut(value)
+                    QueueEvent::HandOut(value)
                 } else {
-                    Moment::Quiet
+                    QueueEvent::Quiet
                 }
             }
         }
@@ -100,7 +100,7 @@ impl Pop {
 impl EmptyLook {
     ghost use Rattle.std.specs.Prelude.{◌≡◌, ◌+◌, ◌^◌, ◌<◌};
     ghost use Rattle.iox_steps.specs.Sites.{size};
-    ghost use Rattle.iox_steps.specs.Pops.{empty_look_access, empty_look_next, empty_look_moment};
+    ghost use Rattle.iox_steps.specs.Pops.{empty_look_access, empty_look_next, empty_look_event};
 
     /// The access that it makes next.
     #[inline]
@@ -127,12 +127,12 @@ impl EmptyLook {
 
     /// What an access that found `seen` sees.
     #[inline]
-    pub fn moment(self, site: Site, seen: u64) -> Moment
-        ensures { result ≡ empty_look_moment site self seen }
+    pub fn event(self, site: Site, seen: u64) -> QueueEvent
+        ensures { result ≡ empty_look_event site self seen }
     {
         match self {
-            EmptyLook::LoadsRead => Moment::Quiet,
-            EmptyLook::LoadsWrite(read) => waiting_moment(site, read, seen),
+            EmptyLook::LoadsRead => QueueEvent::Quiet,
+            EmptyLook::LoadsWrite(read) => waiting_event(site, read, seen),
         }
     }
 }
@@ -150,12 +150,12 @@ fn is_taken(kind: QueueKind, read: u64, seen: u64) -> bool
 
 /// What a look at the write position shows.
 #[inline]
-fn waiting_moment(site: Site, read: u64, write: u64) -> Moment
+fn waiting_event(site: Site, read: u64, write: u64) -> QueueEvent
     ensures { result ≡ seen_waiting site read write }
 {
     if site.is_empty(read, write) {
-        Moment::SeesEmpty
+        QueueEvent::SeesEmpty
     } else {
-        Moment::SeesWaiting
+        QueueEvent::SeesWaiting
     }
 }

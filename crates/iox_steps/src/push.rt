@@ -1,10 +1,10 @@
 //! The programs of the party that pushes: a push and a look at fullness.
 ghost use Rattle.std.specs.Prelude.{◌≡◌, ◌+◌, ◌^◌, ◌<◌};
 ghost use Rattle.iox_steps.specs.Sites.{size};
-ghost use Rattle.iox_steps.specs.Pushes.{with_positions as after_positions, room_moment as seen_room};
+ghost use Rattle.iox_steps.specs.Pushes.{with_positions as after_positions, room_event as seen_room};
 
 use crate::access::{Access, Next};
-use crate::seat::Moment;
+use crate::side::QueueEvent;
 use crate::site::{QueueKind, Site};
 
 /// Where a push is.
@@ -45,7 +45,7 @@ pub enum FullLook {
 impl Push {
     ghost use Rattle.std.specs.Prelude.{◌≡◌, ◌+◌, ◌^◌, ◌<◌};
     ghost use Rattle.iox_steps.specs.Sites.{size};
-    ghost use Rattle.iox_steps.specs.Pushes.{push_access, push_next, push_moment};
+    ghost use Rattle.iox_steps.specs.Pushes.{push_access, push_next, push_event};
 
     /// The access that it makes next.
     #[inline]
@@ -92,28 +92,28 @@ impl Push {
 
     /// What an access that found `seen` does to the queue, or sees there.
     #[inline]
-    pub fn moment(self, site: Site, seen: u64) -> Moment
-        ensures { result ≡ push_moment site self seen }
+    pub fn event(self, site: Site, seen: u64) -> QueueEvent
+        ensures { result ≡ push_event site self seen }
     {
         match self {
-            Push::LoadsWrite(_) => Moment::Quiet,
+            Push::LoadsWrite(_) => QueueEvent::Quiet,
             Push::LoadsRead(_, write) => {
                 if write == u64::MAX {
-                    Moment::SeesEnd
+                    QueueEvent::SeesEnd
                 } else {
-                    room_moment(site, seen, write)
+                    room_event(site, seen, write)
                 }
             }
-            Push::StoresCell(_, _, _, _) => Moment::Quiet,
-            Push::StoresWrite(value, _, _) => Moment::Publish(value),
+            Push::StoresCell(_, _, _, _) => QueueEvent::Quiet,
+            Push::StoresWrite(value, _, _) => QueueEvent::Publish(value),
             Push::Evicts(read) => {
                 if seen == read {
-                    Moment::Evict
+                    QueueEvent::Evict
                 } else {
-                    Moment::Quiet
+                    QueueEvent::Quiet
                 }
             }
-            Push::TakesOld(_) => Moment::GetBack(seen),
+            Push::TakesOld(_) => QueueEvent::Learn(seen),
         }
     }
 }
@@ -121,7 +121,7 @@ impl Push {
 impl FullLook {
     ghost use Rattle.std.specs.Prelude.{◌≡◌, ◌+◌, ◌^◌, ◌<◌};
     ghost use Rattle.iox_steps.specs.Sites.{size};
-    ghost use Rattle.iox_steps.specs.Pushes.{full_look_access, full_look_next, full_look_moment};
+    ghost use Rattle.iox_steps.specs.Pushes.{full_look_access, full_look_next, full_look_event};
 
     /// The access that it makes next.
     #[inline]
@@ -148,12 +148,12 @@ impl FullLook {
 
     /// What an access that found `seen` sees.
     #[inline]
-    pub fn moment(self, site: Site, seen: u64) -> Moment
-        ensures { result ≡ full_look_moment site self seen }
+    pub fn event(self, site: Site, seen: u64) -> QueueEvent
+        ensures { result ≡ full_look_event site self seen }
     {
         match self {
-            FullLook::LoadsWrite => Moment::Quiet,
-            FullLook::LoadsRead(write) => room_moment(site, seen, write),
+            FullLook::LoadsWrite => QueueEvent::Quiet,
+            FullLook::LoadsRead(write) => room_event(site, seen, write),
         }
     }
 }
@@ -178,12 +178,12 @@ fn with_positions(site: Site, value: u64, write: u64, read: u64) -> Next<Push, P
 
 /// What a look at the read position shows.
 #[inline]
-fn room_moment(site: Site, read: u64, write: u64) -> Moment
+fn room_event(site: Site, read: u64, write: u64) -> QueueEvent
     ensures { result ≡ seen_room site read write }
 {
     if site.is_full(read, write) {
-        Moment::SeesFull
+        QueueEvent::SeesFull
     } else {
-        Moment::SeesRoom
+        QueueEvent::SeesRoom
     }
 }

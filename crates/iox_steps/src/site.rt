@@ -57,7 +57,7 @@ impl Site {
         self.base + 2 + (position % (self.cells() as u64).max(1)) as usize
     }
 
-    /// Do as many values as may wait stand between these positions?
+    /// Is the queue full at these positions?
     #[inline]
     pub fn is_full(self, read: u64, write: u64) -> bool
         ensures { result ≡ is_full self read write }

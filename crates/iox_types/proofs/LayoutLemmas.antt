@@ -8,7 +8,7 @@ use Rattle.std.proofs.lemmas.Bool.{cases_lt}
 use Rattle.std.proofs.lemmas.Bool.Decides.{nat_tests}
 use Rattle.iox_types.specs.Compatibility.{AreCompatible, AreAligned}
 use Rattle.iox_types.specs.Places.{IsAlignedTo, aligned_place}
-use Rattle.iox_types.specs.Layouts.{LaysOut, StandsAt, message_bytes, message_layout, message_size, payload_place, told, user_header_place}
+use Rattle.iox_types.specs.Layouts.{LaysOut, StandsAt, message_bytes, message_layout, message_size, payload_place, as_usize, user_header_place}
 use Rattle.iox_types.specs.declared.message_type_details.MessageTypeDetails.{MessageTypeDetails}
 
 -- a power of two is not 0
@@ -80,7 +80,7 @@ told-cases n m true e = cc
 told-cases n m false e = absurd (cc)
 
 -- a number that is told
-pub told-some : (n m : ℕ) → Some n ≡ told m → n ≡ m
+pub told-some : (n m : ℕ) → Some n ≡ as_usize m → n ≡ m
 told-some n m e = told-cases n m (nat_lt m (2 ^ 64)) e
 
 -- a message whose bytes are too many has no layout

@@ -1,4 +1,4 @@
--- Which messages suit each other, by what is told of their three parts.
+-- Which messages are compatible, by the descriptions of their three parts.
 use Rattle.std.specs.Int.{IsPowerOfTwo}
 use Rattle.iox_types.specs.Details.{IsCompatible}
 use Rattle.iox_types.specs.declared.message_type_details.MessageTypeDetails.{MessageTypeDetails}

@@ -1,10 +1,11 @@
--- What is told of a type, and which types suit each other.
+-- The description of a type, and which types are compatible.
 use Rattle.std.specs.Prelude.{ℕ, ◌≡◌, ◌≤◌, List, length, nat_le, not, Bool, IsTrue, Option, Some, None, if◌then◌else◌}
 use Rattle.std.specs.Int.{is_power_of_two}
 use Rattle.iox_types.specs.declared.type_detail.TypeVariant.{TypeVariant}
 use Rattle.iox_types.specs.declared.type_detail.TypeDetailError.{TypeDetailError}
 use Rattle.iox_types.specs.declared.type_detail.TypeDetailError.TheVariants.{NameTooLong, AlignmentNotPowerOfTwo}
 
+-- the description of a type of messages
 pub record Detail : Type 0 where
   -- whether a message has one value or several
   pub variant : TypeVariant
@@ -12,19 +13,19 @@ pub record Detail : Type 0 where
   pub name : List ℕ
   -- how many bytes a value takes
   pub size : ℕ
-  -- what a value's place is a multiple of
+  -- the number of bytes that a value's address is a multiple of
   pub alignment : ℕ
 
--- what is told of a type of that name, size and alignment
+-- the description of a type of that name, size and alignment
 abbrev pub detail : TypeVariant → List ℕ → ℕ → ℕ → Detail
 detail variant name size alignment =
     record { variant = variant; name = name; size = size; alignment = alignment }
 
--- the longest name
+-- the most bytes of a type's name
 abbrev pub max_name_length : ℕ
 max_name_length = 256
 
--- a name is not too long
+-- whether a type's name is not too long
 abbrev pub is_short : List ℕ → Bool
 is_short name = nat_le (length name) max_name_length
 

@@ -1,4 +1,4 @@
--- Seven words are a request's header, six a response's.
+-- A request's header is seven words of 64 bits, a response's six.
 use Rattle.std.proofs.Common.{ℕ, ◌+◌, ◌<◌, ◌^◌, ◌++◌, List, Option, refl, lit≤}
 use Rattle.iox_words.specs.WordLists.{AreWords}
 use Rattle.iox_words.specs.WordLaws.{AreWords-option_map, AreWords-pair}
@@ -10,6 +10,7 @@ use Rattle.iox_types.specs.IdentifierLaws.{two_words_are_an_id, two_words_are_a_
 use Rattle.iox_types.specs.Headers.{tail_words, IsTail, IsTailWords, tail_of_words, request_header_words, IsRequestHeader, IsRequestHeaderWords, request_header_of, request_header_of_words, response_header_words, IsResponseHeader, IsResponseHeaderWords, response_header_of, response_header_of_words}
 use Rattle.iox_types.specs.declared.identifiers.system_id.UniqueSystemId.{UniqueSystemId}
 
+-- the end of a header is two words
 two_words_are_a_tail : AreWords 2 IsTail tail_words IsTailWords tail_of_words
 two_words_are_a_tail =
     AreWords-pair 1 1 (λ n. n < 2 ^ 62) one_word (IsOneWord (2 ^ 62)) (of_one_word (2 ^ 62))
@@ -32,18 +33,23 @@ after_node_id : {A : Type 0} (n : ℕ) (IsA : A → Type 0) (words : A → List 
 after_node_id n IsA words are of laws =
     AreWords-pair 2 n IsNodeId id_words IsNodeIdWords node_id_of_words IsA words are of two_words_are_a_node_id laws
 
+-- the words of a channel's number and of the end of a header
 abbrev channel_and_tail_words : ℕ × (ℕ × ℕ) → List ℕ
 channel_and_tail_words p = one_word p.0 ++ tail_words p.1
 
+-- these are a channel's number and the end of a header
 abbrev IsChannelAndTail : ℕ × (ℕ × ℕ) → Type 0
 IsChannelAndTail p = (p.0 < 2 ^ 64) × IsTail p.1
 
+-- these are the words of a channel's number and of the end of a header
 abbrev are_channel_and_tail : List ℕ → Type 0
 are_channel_and_tail = IsWordsInParts 1 (IsOneWord (2 ^ 64)) IsTailWords
 
+-- the channel's number and the end of a header that these words stand for
 abbrev channel_and_tail_of : List ℕ → Option (ℕ × (ℕ × ℕ))
 channel_and_tail_of = of_parts 1 (of_one_word (2 ^ 64)) tail_of_words
 
+-- a channel's number and the end of a header are three words
 three_words_are_channel_and_tail : AreWords 3 IsChannelAndTail channel_and_tail_words are_channel_and_tail channel_and_tail_of
 three_words_are_channel_and_tail =
     AreWords-pair 1 2 (λ n. n < 2 ^ 64) one_word (IsOneWord (2 ^ 64)) (of_one_word

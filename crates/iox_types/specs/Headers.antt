@@ -31,7 +31,7 @@ request_header_words header =
     ++ (id_words header.client_id
     ++ (one_word header.channel_id ++ tail_words (header.request_id, header.number_of_elements)))
 
--- each field is one of its type
+-- each field has a value of its type
 abbrev pub IsRequestHeader : RequestHeader → Type 0
 IsRequestHeader header =
     IsNodeId header.node_id

@@ -8,6 +8,7 @@ use Rattle.iox_words.specs.NumberLaws.{two_words_are_a_number}
 use Rattle.iox_types.specs.Identifiers.{IsId, id_value, id_of_value, id_words, id_of_words, is_node_id, IsNodeId, IsNodeIdWords, node_id_of_words}
 use Rattle.iox_types.specs.declared.identifiers.system_id.UniqueSystemId.{UniqueSystemId}
 
+-- an identifier is a number below 2 ^ 128, and is read back from it
 there : (id : UniqueSystemId) → IsId id → (id_value id < 2 ^ 128) × (id_of_value (id_value id) ≡ id)
 there id h =
     let p : id_value id / 2 ^ 96 ≡ id.process = omega arith in
@@ -16,6 +17,7 @@ there id h =
     let c : id_value id % 2 ^ 32 ≡ id.counter = omega arith in
     (omega arith, rw (p, s, n, c) refl)
 
+-- a number below 2 ^ 128 is an identifier's, and is read back from it
 here : (n : ℕ) → n < 2 ^ 128 → IsId (id_of_value n) × (id_value (id_of_value n) ≡ n)
 here n h = (
   record {

@@ -14,11 +14,11 @@ pub record IsId (id : UniqueSystemId) : Type 0 where
   pub nanoseconds : id.nanoseconds < 2 ^ 32
   pub counter : id.counter < 2 ^ 32
 
--- the four as one number, the process number the most significant
+-- the identifier as one number of 128 bits, its process number the most significant
 abbrev pub id_value : UniqueSystemId → ℕ
 id_value id = id.process * 2 ^ 96 + id.seconds * 2 ^ 64 + id.nanoseconds * 2 ^ 32 + id.counter
 
--- and back
+-- the identifier that a number of 128 bits stands for
 abbrev pub id_of_value : ℕ → UniqueSystemId
 id_of_value n = record {
   process = n / 2 ^ 96;
@@ -39,7 +39,7 @@ id_words id = two_words (id_value id)
 abbrev pub id_of_words : List ℕ → Option UniqueSystemId
 id_of_words list = option_map id_of_value (of_two_words list)
 
--- a node has a process number or a counter
+-- whether the identifier may be a node's: its process number or its counter is not 0
 abbrev pub is_node_id : UniqueSystemId → Bool
 is_node_id id = nat_lt 0 id.process || nat_lt 0 id.counter
 

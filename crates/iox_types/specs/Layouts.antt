@@ -2,22 +2,28 @@
 use Rattle.std.specs.Prelude.{ℕ, ◌+◌, ◌-◌, ◌*◌, ◌^◌, ◌<◌, ◌≤◌, nat_lt, Option, Some, None, if◌then◌else◌}
 use Rattle.iox_types.specs.Compatibility.{AreCompatible, AreAligned}
 use Rattle.iox_types.specs.declared.message_type_details.MessageTypeDetails.{MessageTypeDetails}
+use Rattle.iox_types.specs.Details.{Detail}
+use Rattle.iox_types.specs.Parts.{Part, bytes_of_parts, size_of_parts}
 use Rattle.iox_types.specs.Places.{IsAlignedTo, aligned_place}
 use Rattle.iox_types.specs.declared.layout.SampleLayout.{SampleLayout}
+
+-- a type as a part of a message
+abbrev pub part_of : Detail → Part
+part_of it = record { size = it.size; alignment = it.alignment }
 
 -- the bytes that a message of n elements takes at most, wherever its header stands
 abbrev pub message_bytes : MessageTypeDetails → ℕ → ℕ
 message_bytes details n =
-    details.header.size + details.user_header.size + (details.user_header.alignment - 1)
-    + n * details.payload.size + (details.payload.alignment - 1)
+    bytes_of_parts (part_of details.header) (part_of details.user_header) (part_of details.payload) n
 
 -- a number of bytes that fits `usize`
-abbrev pub told : ℕ → Option ℕ
-told bytes = if nat_lt bytes (2 ^ 64) then Some bytes else None
+abbrev pub as_usize : ℕ → Option ℕ
+as_usize bytes = if nat_lt bytes (2 ^ 64) then Some bytes else None
 
 -- the size of a message of n elements: these bytes, rounded up to the header's alignment
 abbrev pub message_size : MessageTypeDetails → ℕ → ℕ
-message_size details n = aligned_place (message_bytes details n) details.header.alignment
+message_size details n =
+    size_of_parts (part_of details.header) (part_of details.user_header) (part_of details.payload) n
 
 -- size and alignment of a message, if the size is at most `isize::MAX`
 abbrev pub message_layout : MessageTypeDetails → ℕ → Option SampleLayout
@@ -35,12 +41,12 @@ abbrev pub payload_place : MessageTypeDetails → ℕ → ℕ
 payload_place details place =
     aligned_place (user_header_place details place + details.user_header.size) details.payload.alignment
 
--- a message whose header stands at `place` ends, even without elements, where a place can be told
+-- a message whose header stands at `place` ends at a place that fits `usize`, even without elements
 abbrev pub HasRoomAt : MessageTypeDetails → ℕ → Type 0
 HasRoomAt details place = place + message_bytes details 0 < 2 ^ 64
 
--- The parts of a message that `mine` tells of, at the places that `service` lays out from `start`
--- on: each is aligned, each begins behind the one before, and all end within `size` bytes.
+-- The parts of a message, as `mine` describes them, stand where `service` lays them out from
+-- `start` on. Each is aligned, begins behind the one before, and ends within `size` bytes.
 pub record StandsAt (service mine : MessageTypeDetails) (n size start : ℕ) : Type 0 where
   pub header_aligned : IsAlignedTo mine.header.alignment start
   pub user_header_behind : start + mine.header.size ≤ user_header_place service start
@@ -49,8 +55,8 @@ pub record StandsAt (service mine : MessageTypeDetails) (n size start : ℕ) : T
   pub payload_aligned : IsAlignedTo mine.payload.alignment (payload_place service start)
   pub within : payload_place service start + n * mine.payload.size ≤ start + size
 
--- Message i begins at i times the size: there its parts stand for the service itself and for every
--- opener whose details are compatible to the service's.
+-- Message i begins at i times the size. There its parts stand, for the service itself and for every
+-- opener with compatible details.
 abbrev pub LaysOut : MessageTypeDetails → ℕ → ℕ → Type 0
 LaysOut service n size =
     (mine : MessageTypeDetails) → AreAligned mine → AreCompatible mine service → (i : ℕ) →

@@ -6,7 +6,7 @@ use crate::identifiers::{UniqueClientId, UniqueNodeId, UniqueServerId};
 use iox_words::{Words, ZeroCopySend};
 
 /// The header of a request.
-#[derive(Clone, Copy, Debug)]
+#[derive(Clone, Copy, Debug, PartialEq, Eq)]
 pub struct RequestHeader {
     pub node_id: UniqueNodeId,
     pub client_id: UniqueClientId,
@@ -117,7 +117,7 @@ impl ZeroCopySend for RequestHeader {
 }
 
 /// The header of a response.
-#[derive(Clone, Copy, Debug)]
+#[derive(Clone, Copy, Debug, PartialEq, Eq)]
 pub struct ResponseHeader {
     pub node_id: UniqueNodeId,
     pub server_id: UniqueServerId,

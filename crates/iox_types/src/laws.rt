@@ -28,7 +28,7 @@ pub fn aligned_places_are_least()
         aligned_place place alignment ≤ other }
 {}
 
-/// Where a whole message fits, its places can be told.
+/// Where a whole message fits, its places fit `usize`.
 pub fn a_message_that_fits_has_room()
     ensures { (details : MessageTypeDetails) (n place : ℕ) → 0 < details.header.alignment →
         place + message_size details n < 2 ^ 64 → HasRoomAt details place }

@@ -1,4 +1,4 @@
-//! What is told of a message, and where its parts stand.
+//! The description of a message, and where its parts stand.
 ghost use Rattle.std.specs.Prelude.{◌≡◌, ◌↔◌, ◌&&◌, IfErr, IfOk, IfSome, IsOk, IsTrue, OnSome};
 ghost use Rattle.std.specs.Bool.{OnTrue};
 ghost use Rattle.std.specs.Int.{IsPowerOfTwo};
@@ -7,8 +7,8 @@ use crate::layout::{SampleLayout, aligned_place};
 use crate::type_detail::{TypeDetail, TypeDetailError, TypeVariant};
 use iox_words::ZeroCopySend;
 
-/// What is told of a message: of its header, its user header and its payload.
-#[derive(Clone, Copy, Debug)]
+/// The description of a message: of its header, its user header and its payload.
+#[derive(Clone, Copy, Debug, PartialEq, Eq)]
 pub struct MessageTypeDetails {
     pub header: TypeDetail,
     pub user_header: TypeDetail,
@@ -18,11 +18,11 @@ pub struct MessageTypeDetails {
 impl MessageTypeDetails {
     ghost use Rattle.iox_types.specs.Details.{AllShort, detail};
     ghost use Rattle.iox_types.specs.Compatibility.{AreAligned, AreCompatible};
-    ghost use Rattle.iox_types.specs.Layouts.{HasRoomAt, LaysOut, message_bytes, message_layout, told};
+    ghost use Rattle.iox_types.specs.Layouts.{HasRoomAt, LaysOut, message_bytes, message_layout, as_usize};
     ghost use Rattle.iox_types.specs.Layouts.{payload_place, user_header_place};
     ghost use Rattle.iox_types.specs.declared.type_detail.TypeVariant.TheVariants.{FixedSize};
 
-    /// What is told of a message of these types, one payload value or several of them.
+    /// The description of a message of these types, with one payload value or several.
     pub fn from<Header: ZeroCopySend, UserHeader: ZeroCopySend, Payload: ZeroCopySend>(
         variant: TypeVariant,
     ) -> Result<MessageTypeDetails, TypeDetailError>
@@ -87,9 +87,9 @@ impl MessageTypeDetails {
         )
     }
 
-    /// The bytes that a message of so many elements takes at most, if they can be told.
+    /// The bytes that a message of so many elements takes at most, if they fit `usize`.
     fn bytes(&self, number_of_elements: usize) -> Option<usize>
-        ensures value { result ≡ told (message_bytes self.now number_of_elements) }
+        ensures value { result ≡ as_usize (message_bytes self.now number_of_elements) }
         ensures user_header { IsPowerOfTwo self.now.user_header.alignment }
         ensures payload { IsPowerOfTwo self.now.payload.alignment }
     {

@@ -1,9 +1,9 @@
-//! What is told of a type.
+//! The description of a type.
 ghost use Rattle.std.specs.Prelude.{◌≡◌, ◌≤◌, ◌↔◌, IfErr, IfOk, IsOk, IsTrue, Some, None, length};
 ghost use Rattle.std.specs.Int.{IsPowerOfTwo};
 ghost use Rattle.iox_words.specs.WordLists.{is_name};
 
-use iox_texts::{BoundedText, is_text};
+use iox_names::{BoundedText, is_text};
 use iox_words::ZeroCopySend;
 use std::marker::Model;
 use thiserror::Error;
@@ -19,7 +19,7 @@ pub enum TypeVariant {
     Dynamic,
 }
 
-/// Why a type can't be told of.
+/// Why a type cannot be described.
 #[derive(Clone, Copy, Debug, Error, PartialEq, Eq)]
 pub enum TypeDetailError {
     #[error("TypeDetailError::NameTooLong")]
@@ -28,8 +28,8 @@ pub enum TypeDetailError {
     AlignmentNotPowerOfTwo,
 }
 
-/// What is told of a type: its name, the size of a value, and what a value's place is a multiple of.
-#[derive(Clone, Copy, Debug)]
+/// The description of a type: its name, the size of a value, and its alignment, all in bytes.
+#[derive(Clone, Copy, Debug, PartialEq, Eq)]
 pub struct TypeDetail {
     variant: TypeVariant,
     type_name: TypeName,
@@ -53,7 +53,7 @@ impl Model for TypeDetail {
 impl TypeDetail {
     ghost use Rattle.iox_types.specs.Details.{IsCompatible, detail, detail_refusal, is_short};
 
-    /// What is told of the type `T`.
+    /// The description of the type `T`.
     pub fn new<T: ZeroCopySend>(variant: TypeVariant) -> Result<TypeDetail, TypeDetailError>
         ensures made { IfOk result (λ it. it ≡ detail variant T.name T.SIZE T.ALIGNMENT) }
         ensures succeeds { IsOk result ↔ IsTrue (is_short T.name) }
@@ -77,7 +77,7 @@ impl TypeDetail {
         !name.is_empty() && is_text(name.as_bytes())
     }
 
-    /// What is told of a type by its parts.
+    /// The description of a type with these parts.
     pub fn from_parts(
         variant: TypeVariant,
         name: &str,

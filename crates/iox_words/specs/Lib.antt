@@ -1,5 +1,5 @@
 pub mod WordLists
--- for a type of your own
+-- for types of callers
 pub mod WordParts
 pub mod WordLaws
 pub mod WhereLaws

@@ -5,35 +5,41 @@ use Rattle.std.proofs.lemmas.Bool.Decides.{nat_tests, Decides-ltb, Decides-and}
 use Rattle.iox_words.specs.WordLists.{AreWords}
 use Rattle.iox_words.specs.Numbers.{one_word, IsOneWord, of_one_word, two_words, IsTwoWords, of_two_words}
 
--- a test gives a value: where what it tells holds, the value keeps what follows from it
+-- a value is given only if a test passes, so that what follows from the test holds of the value
 given_by_test : {A : Type 0} (b : Bool) (P : Type 0) → Decides b P → (value : A) (Q : A → Type 0) → (P →
     Q value) → MatchOption (if b then Some value else None) (P → ⊥) Q
 given_by_test true P tells value Q follows = follows (tells.0 refl)
 given_by_test false P tells value Q follows = λ p. let no : false ≡ true = tells.1 p in cc
 
+-- one word below a bound is a list of words below it
 all_one : (bound word : ℕ) → word < bound → All (λ w. w < bound) (word ∷ [])
 all_one bound word h zero d _ = h
 all_one bound word h (suc k) d in_list = absurd (omega arith)
 
+-- two words below a bound are a list of words below it
 all_two : (bound high low : ℕ) → high < bound → low < bound → All (λ w. w < bound) (high ∷ low ∷ [])
 all_two bound high low p q zero d _ = p
 all_two bound high low p q (suc zero) d _ = q
 all_two bound high low p q (suc (suc k)) d in_list = absurd (omega arith)
 
+-- a number below a limit is one word
 counted-one : (limit : ℕ) (list : List ℕ) → IsOneWord limit list → length list ≡ 1
 counted-one limit [] h = absurd h
 counted-one limit (word ∷ []) h = refl
 counted-one limit (word ∷ other ∷ list) h = absurd h
 
+-- the one word has at most 64 bits
 bounded-one : (limit : ℕ) → limit ≤ 2 ^ 64 → (list : List ℕ) → IsOneWord limit list → All
     (λ word. word < 2 ^ 64) list
 bounded-one limit within [] h = absurd h
 bounded-one limit within (word ∷ []) h = all_one (2 ^ 64) word (omega arith)
 bounded-one limit within (word ∷ other ∷ list) h = absurd h
 
+-- a number is read back from its word
 back-one : (limit value : ℕ) → value < limit → of_one_word limit (one_word value) ≡ Some value
 back-one limit value h = grind (arith, nat_tests)
 
+-- a word that is read is that of its number; a list that is not one such word is not read
 forth-one : (limit : ℕ) (list : List ℕ) →
     MatchOption (of_one_word limit list) (IsOneWord limit list → ⊥) (λ value. IsOneWord limit list ×
     (value < limit) × (one_word value ≡ list))
@@ -54,21 +60,25 @@ one_word_is_a_number limit within = record {
   forth = forth-one limit;
 }
 
+-- a number below 2 ^ 128 is two words
 counted-two : (list : List ℕ) → IsTwoWords list → length list ≡ 2
 counted-two [] h = absurd h
 counted-two (high ∷ []) h = absurd h
 counted-two (high ∷ low ∷ []) h = refl
 counted-two (high ∷ low ∷ other ∷ list) h = absurd h
 
+-- each of the two words has at most 64 bits
 bounded-two : (list : List ℕ) → IsTwoWords list → All (λ word. word < 2 ^ 64) list
 bounded-two [] h = absurd h
 bounded-two (high ∷ []) h = absurd h
 bounded-two (high ∷ low ∷ []) h = all_two (2 ^ 64) high low h.0 h.1
 bounded-two (high ∷ low ∷ other ∷ list) h = absurd h
 
+-- the two words of a number are two words
 meets-two : (value : ℕ) → value < 2 ^ 128 → IsTwoWords (two_words value)
 meets-two value h = (omega arith, omega arith)
 
+-- a number is read back from its two words
 back-two : (value : ℕ) → value < 2 ^ 128 → of_two_words (two_words value) ≡ Some value
 back-two value h =
     let high : value / 2 ^ 64 < 2 ^ 64 = (meets-two value h).0 in
@@ -76,12 +86,14 @@ back-two value h =
     let whole : value / 2 ^ 64 * 2 ^ 64 + value % 2 ^ 64 ≡ value = omega arith in
     grind (arith, nat_tests)
 
+-- the two words of a number are its upper and its lower 64 bits
 two_words-of : (high low : ℕ) → low < 2 ^ 64 → two_words (high * 2 ^ 64 + low) ≡ high ∷ low ∷ []
 two_words-of high low h =
     let top : (high * 2 ^ 64 + low) / 2 ^ 64 ≡ high = omega arith in
     let rest : (high * 2 ^ 64 + low) % 2 ^ 64 ≡ low = omega arith in
     cc
 
+-- two words that are read are those of their number; a list that is not two such words is not read
 forth-two : (list : List ℕ) →
     MatchOption (of_two_words list) (IsTwoWords list → ⊥) (λ value. IsTwoWords list × (value < 2 ^ 128) ×
     (two_words value ≡ list))

@@ -11,10 +11,12 @@ use Rattle.iox_words.specs.WordLaws.{AreWords-option_map}
 use Rattle.iox_words.specs.Numbers.{one_word, IsOneWord, of_one_word, two_words, IsTwoWords, of_two_words, signed_word, of_signed_word, signed_words, of_signed_words}
 use Rattle.iox_words.specs.NumberLaws.{one_word_is_a_number, two_words_are_a_number}
 
+-- a signed number is an unsigned one of its width, and is read back from it
 signed_there : (w : Width) (z : ℤ) → FitsSigned w z → (cast_unsigned w z < 2 ^ bits w) × (cast_signed w
     (cast_unsigned w z) ≡ z)
 signed_there w z h = ((of_z_fits w z h).fits, to_z-of_z w z h)
 
+-- an unsigned number of that width is a signed one's, and is read back from it
 signed_here : (w : Width) (n : ℕ) → n < 2 ^ bits w → FitsSigned w (cast_signed w n) × (cast_unsigned w
     (cast_signed w n) ≡ n)
 signed_here w n h = (to_z-Fits w n (Fits-of_lt h), of_z-to_z w n h)

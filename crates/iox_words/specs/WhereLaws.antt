@@ -7,18 +7,22 @@ use Rattle.iox_words.specs.WordParts.{IsWordsWhere, passing, of_where}
 module _ {A : Type 0} (test : A → Bool) (count : ℕ) (IsA : A → Type 0) (words : A → List ℕ)
     (are : List ℕ → Type 0) (of : List ℕ → Option A)
     (laws : AreWords count IsA words are of) where
+  -- the words of a value that passes the test are such words
   meets-where : (a : A) → IsA a × IsTrue (test a) → IsWordsWhere test are of (words a)
   meets-where a h = (laws.meets a h.0, rw (laws.back a h.0) h.1)
 
+  -- a value that passes the test is read back from its words
   back-where : (a : A) → IsA a × IsTrue (test a) → of_where test of (words a) ≡ Some a
   back-where a h = let passes : test a ≡ true = h.1 in rw (laws.back a h.0, passes) refl
 
+  -- a value that was read is taken only if it passes the test
   forth-test : (list : List ℕ) (a : A) (b : Bool) → test a ≡ b → are list × IsA a × (words a ≡ list) →
       MatchOption (if b then Some a else None) (are list × IsTrue (test a) → ⊥)
       (λ value. (are list × IsTrue (test a)) × (IsA value × IsTrue (test value)) × (words value ≡ list))
   forth-test list a true e h = ((h.0, e), (h.1, e), h.2)
   forth-test list a false e h = λ k. let no : test a ≡ true = k.1 in absurd (cc)
 
+  -- words that are read and pass the test are those of their value
   forth-passing : (list : List ℕ) (o : Option A) → MatchOption o (are list → ⊥) (λ value. are list ×
       IsA value × (words value ≡ list)) →
       MatchOption (passing test o) (are list × IfSome o (λ value. IsTrue (test value)) → ⊥)

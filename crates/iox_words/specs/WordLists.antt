@@ -1,18 +1,18 @@
--- Values as lists of words: what a type's words have to meet.
+-- Values as lists of words: the laws of a type's words.
 use Rattle.std.specs.Prelude.{ℕ, ◌≡◌, ◌<◌, ◌^◌, ◌&&◌, Bool, List, length, All, Option, Some, MatchOption, nat_lt}
 use Rattle.std.specs.List.{list_all}
 
--- A type's words: how many a value has, which values there are, the words of a value, the lists
--- that are words of the type, and the value of a list.
+-- The laws of a type's words: how many there are, which values there are, a value's words, which
+-- lists are such words, and a list's value.
 pub record AreWords {V : Type 0} (count : ℕ) (is_value : V → Type 0) (words : V → List ℕ)
     (is_words : List ℕ → Type 0) (of_words : List ℕ → Option V) : Type 0 where
-  -- words of the type are as many as the type says
+  -- words of the type have the length that the type says
   pub counted : (list : List ℕ) → is_words list → length list ≡ count
   -- each of them has 64 bits
   pub bounded : (list : List ℕ) → is_words list → All (λ word. word < 2 ^ 64) list
   -- the words of a value are words of the type
   pub meets : (value : V) → is_value value → is_words (words value)
-  -- and they give the value back
+  -- a value is read back from its words
   pub back : (value : V) → is_value value → of_words (words value) ≡ Some value
   -- a list gives no value if it is not words of the type, else the value whose words it is
   pub forth : (list : List ℕ) →

@@ -13,6 +13,3 @@ mod zero_copy_send;
 pub use callback_progression::CallbackProgression;
 pub use word_list::Words;
 pub use zero_copy_send::ZeroCopySend;
-
-#[cfg(test)]
-mod tests;

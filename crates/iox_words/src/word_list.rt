@@ -2,7 +2,7 @@
 ghost use Rattle.std.specs.Prelude.{◌≡◌, ◌<◌, ℕ, List, Option, slice_index};
 ghost use Rattle.iox_words.specs.WordLists.{AreWords};
 
-/// A type each value of which is a list of words of 64 bits, and is told by it.
+/// A type whose values are lists of words of 64 bits: each value is read back from its list.
 pub trait Words: Copy {
     ghost WORDS: { ℕ };
 

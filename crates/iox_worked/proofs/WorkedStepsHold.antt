@@ -16,9 +16,9 @@ use Rattle.iox_model.specs.WholeCalls.{shape_of_loan, is_uninit}
 use Rattle.iox_model.specs.Makings.{new_port, with_port}
 use Rattle.iox_model.specs.States.{Handle, Fixed, State}
 use Rattle.iox_model.specs.Values.{is_still, filled_as, CountMayBe, MayFill}
-use Rattle.iox_weaves.specs.Laws.{on_lane}
-use Rattle.iox_weaves.proofs.PlayedCalls.{called_by, played_is_whole}
-use Rattle.iox_worked.specs.Scripts.{defaults, of_length_one, process, service, request_saying}
+use Rattle.iox_weave_laws.specs.Laws.{on_lane}
+use Rattle.iox_weave_laws.proofs.PlayedCalls.{called_by, played_is_whole}
+use Rattle.iox_worked.specs.Examples.{defaults, of_length_one, process, service, request_saying}
 use Rattle.iox_worked.specs.WorkedSteps.{wrote, FillsALoan, ReleasesAWrittenLoan}
 
 abbrev after : State → Call → State

@@ -4,19 +4,19 @@ use Rattle.iox_model.specs.declared.call.Call.TheVariants.{Loan, SendCopy, Recei
 use Rattle.iox_model.specs.declared.call.WireCall.TheVariants.{Forget}
 use Rattle.iox_model.specs.declared.call.WireCall.TheVariants as wire_calls
 use Rattle.iox_model.specs.Runs.{IsRun}
-use Rattle.iox_model.specs.declared.backpressure.AllocationStrategy.TheVariants.{PowerOfTwo}
+use Rattle.iox_types.specs.declared.backpressure.AllocationStrategy.TheVariants.{PowerOfTwo}
 use Rattle.iox_worked.specs.EvictionWeaves.{ones, deliver_beats, evict_beats, get_back_beats, next_loan_beats, KeepsTwo}
 use Rattle.iox_model.specs.Weaves.{at_work, World, Beat}
 use Rattle.iox_model.specs.Commands.{WireCall}
-use Rattle.iox_model.specs.Schedules.{Entry, Begin, Step, Die, IsEntry, IsWeaveOf, nothing, makes, ends_alone, makes_and_ends}
-use Rattle.iox_weaves.specs.Laws.{on_lane}
+use Rattle.iox_model.specs.Schedules.{Entry, Begin, Transition, Die, IsEntry, IsWeaveOf, nothing, makes, ends_alone, makes_and_ends}
+use Rattle.iox_weave_laws.specs.Laws.{on_lane}
 use Rattle.iox_model.specs.Settings.{Limits}
 use Rattle.iox_model.specs.States.{State}
 use Rattle.iox_model.specs.WireCalls.{opened, WordsCall}
-use Rattle.iox_worked.specs.Scripts.{defaults, service, request_saying, set_up, is_set_up}
+use Rattle.iox_worked.specs.Examples.{defaults, service, request_saying, set_up, is_set_up}
 use Rattle.iox_worked.specs.WorkedWeaves.{stop_beats, stop_entries, loan_beats, StopsAndIsForgotten, RefusesGrowingPorts}
-use Rattle.iox_weaves.proofs.PlayedWeaves.{world_by, beats_by, is_weave, all_may, Plan, begin, step, stop, die}
-use Rattle.iox_weaves.proofs.PlayedRuns.{replies_by, are_answered, state_by, is_run_to}
+use Rattle.iox_weave_laws.proofs.PlayedWeaves.{world_by, beats_by, is_weave, all_may, Plan, begin, step, stop, die}
+use Rattle.iox_weave_laws.proofs.PlayedRuns.{replies_by, are_answered, state_by, is_run_to}
 
 abbrev sure : true ≡ true
 sure = refl
@@ -133,89 +133,89 @@ abbrev left_15 : List Entry
 left_15 = []
 
 abbrev left_14 : List Entry
-left_14 = Step 0 ∷ left_15
+left_14 = Transition 0 ∷ left_15
 
 abbrev left_13 : List Entry
 left_13 = Begin 0 ask_words ∷ left_14
 
 abbrev left_12 : List Entry
-left_12 = Step 0 ∷ left_13
+left_12 = Transition 0 ∷ left_13
 
 abbrev left_11 : List Entry
 left_11 = Begin 0 (Forget 1) ∷ left_12
 
 abbrev left_10 : List Entry
-left_10 = Step 1 ∷ left_11
+left_10 = Transition 1 ∷ left_11
 
 abbrev left_9 : List Entry
 left_9 = Die 1 ∷ left_10
 
 abbrev left_8 : List Entry
-left_8 = Step 0 ∷ left_9
+left_8 = Transition 0 ∷ left_9
 
 abbrev left_7 : List Entry
 left_7 = Begin 0 ask_words ∷ left_8
 
 abbrev left_6 : List Entry
-left_6 = Step 1 ∷ left_7
+left_6 = Transition 1 ∷ left_7
 
 abbrev left_5 : List Entry
 left_5 = Begin 1 (wire_calls.Port (Receive 1)) ∷ left_6
 
 abbrev left_4 : List Entry
-left_4 = Step 0 ∷ left_5
+left_4 = Transition 0 ∷ left_5
 
 abbrev left_3 : List Entry
-left_3 = Step 0 ∷ left_4
+left_3 = Transition 0 ∷ left_4
 
 abbrev left_2 : List Entry
-left_2 = Step 0 ∷ left_3
+left_2 = Transition 0 ∷ left_3
 
 abbrev left_1 : List Entry
-left_1 = Step 0 ∷ left_2
+left_1 = Transition 0 ∷ left_2
 
 -- what the last so many entries bring
 abbrev from_14 : Brings w13 left_14 w14
-from_14 = turn w13 (Step 0) left_15 (stop 0 [] ∷ []) w14 refl (ends_alone _ _) ([], (refl, refl))
+from_14 = turn w13 (Transition 0) left_15 (stop 0 [] ∷ []) w14 refl (ends_alone _ _) ([], (refl, refl))
 
 abbrev from_13 : Brings w12 left_13 w14
 from_13 = turn w12 (Begin 0 ask_words) left_14 (begin 0 ask 0 ∷ []) w14 refl (on_lane 0, refl) from_14
 
 abbrev from_12 : Brings w11 left_12 w14
-from_12 = turn w11 (Step 0) left_13 (stop 0 [] ∷ []) w14 refl (ends_alone _ _) from_13
+from_12 = turn w11 (Transition 0) left_13 (stop 0 [] ∷ []) w14 refl (ends_alone _ _) from_13
 
 abbrev from_11 : Brings w10 left_11 w14
 from_11 = turn w10 (Begin 0 (Forget 1)) left_12 (begin 0 (Forget 1) 0 ∷ []) w14 refl (on_lane 0, refl) from_12
 
 abbrev from_10 : Brings w10 left_10 w14
-from_10 = turn w10 (Step 1) left_11 ([]) w14 refl nothing from_11
+from_10 = turn w10 (Transition 1) left_11 ([]) w14 refl nothing from_11
 
 abbrev from_9 : Brings w9 left_9 w14
 from_9 = turn w9 (Die 1) left_10 (die 1 ∷ []) w14 refl refl from_10
 
 abbrev from_8 : Brings w8 left_8 w14
-from_8 = turn w8 (Step 0) left_9 (step 0 ∷ stop 0 [] ∷ []) w14 refl (makes_and_ends _ _ _) from_9
+from_8 = turn w8 (Transition 0) left_9 (step 0 ∷ stop 0 [] ∷ []) w14 refl (makes_and_ends _ _ _) from_9
 
 abbrev from_7 : Brings w7 left_7 w14
 from_7 = turn w7 (Begin 0 ask_words) left_8 (begin 0 ask 0 ∷ []) w14 refl (on_lane 0, refl) from_8
 
 abbrev from_6 : Brings w6 left_6 w14
-from_6 = turn w6 (Step 1) left_7 (step 1 ∷ []) w14 refl (makes _) from_7
+from_6 = turn w6 (Transition 1) left_7 (step 1 ∷ []) w14 refl (makes _) from_7
 
 abbrev from_5 : Brings w5 left_5 w14
 from_5 = turn w5 (Begin 1 (wire_calls.Port (Receive 1))) left_6 (begin 1 (wire_calls.Port (Receive 1)) 0 ∷ []) w14 refl (on_lane 0, refl) from_6
 
 abbrev from_4 : Brings w4 left_4 w14
-from_4 = turn w4 (Step 0) left_5 (step 0 ∷ stop 0 [] ∷ []) w14 refl (makes_and_ends _ _ _) from_5
+from_4 = turn w4 (Transition 0) left_5 (step 0 ∷ stop 0 [] ∷ []) w14 refl (makes_and_ends _ _ _) from_5
 
 abbrev from_3 : Brings w3 left_3 w14
-from_3 = turn w3 (Step 0) left_4 (step 0 ∷ []) w14 refl (makes _) from_4
+from_3 = turn w3 (Transition 0) left_4 (step 0 ∷ []) w14 refl (makes _) from_4
 
 abbrev from_2 : Brings w2 left_2 w14
-from_2 = turn w2 (Step 0) left_3 (step 0 ∷ []) w14 refl (makes _) from_3
+from_2 = turn w2 (Transition 0) left_3 (step 0 ∷ []) w14 refl (makes _) from_3
 
 abbrev from_1 : Brings w1 left_1 w14
-from_1 = turn w1 (Step 0) left_2 (step 0 ∷ []) w14 refl (makes _) from_2
+from_1 = turn w1 (Transition 0) left_2 (step 0 ∷ []) w14 refl (makes _) from_2
 
 abbrev from_0 : Brings stop_0 stop_entries w14
 from_0 = turn stop_0 (Begin 0 (wire_calls.Port (SendCopy 0 (7 ∷ [])))) left_1 (begin 0 send 0 ∷ []) w14 refl (on_lane 0, refl) from_1

@@ -1,4 +1,4 @@
--- A worked weave with all limits 1: what is outstanding as a full queue gives its oldest back.
+-- A worked weave with all limits 1: what is outstanding while a full queue pushes its oldest out.
 use Rattle.std.specs.Prelude.{◌≡◌, ℕ, List, [], ◌∷◌, length}
 use Rattle.iox_model.specs.declared.call.Call.TheVariants.{Loan, SendCopy, Receive, Release}
 use Rattle.iox_model.specs.declared.call.WireCall.TheVariants as wire_calls
@@ -10,12 +10,13 @@ use Rattle.iox_model.specs.Keeping.{kept_in}
 use Rattle.iox_model.specs.States.{State}
 use Rattle.iox_model.specs.WireCalls.{opened}
 use Rattle.iox_model.specs.Moments.{Deliver, Evict, Take, GetBack, SeesNoneBack, Open, Close}
-use Rattle.iox_worked.specs.Scripts.{defaults, request_saying}
+use Rattle.iox_worked.specs.Examples.{defaults, request_saying}
 use Rattle.iox_model.specs.Messages.{request_way, response_way}
-use Rattle.iox_weaves.specs.Laws.{on_lane}
+use Rattle.iox_weave_laws.specs.Laws.{on_lane}
 use Rattle.iox_worked.specs.WorkedWeaves.{request_sent, IsSetUp}
 use Rattle.iox_model.specs.Outstandings.{outstanding}
 
+-- limits that are all 1, but for nodes and expired messages
 abbrev pub ones : Limits
 ones = record defaults {
   clients = 1;
@@ -58,12 +59,15 @@ deliver_beats =
     ∷ Makes 0 (Deliver (request_way 0 1) (request_sent 2 2 3))
     ∷ []
 
+-- the third request pushes the second out
 abbrev pub evict_beats : List Beat
 evict_beats = Makes 0 (Evict (request_way 0 1)) ∷ []
 
+-- the client gets back what was pushed out, and its call ends
 abbrev pub get_back_beats : List Beat
 get_back_beats = Makes 0 (GetBack (request_way 0 1) 1) ∷ Ends 0 (replies.Handle 4) [] ∷ []
 
+-- the client's next loan succeeds
 abbrev pub next_loan_beats : List Beat
 next_loan_beats =
     Begins 0 (wire_calls.Port (Loan 0 1)) (on_lane 0)
@@ -71,11 +75,13 @@ next_loan_beats =
     ∷ Ends 0 (replies.Handle 5) (0 ∷ [])
     ∷ []
 
+-- how many requests are outstanding on the way from client 0 to server 1
 abbrev pub requests_out : World → ℕ
 requests_out w = length (outstanding w.state 0 1 0)
 
--- With all limits 1, three are outstanding after the third delivery and after the eviction, two once
--- it is got back; the client then keeps two messages, and its next loan succeeds.
+-- With all limits 1, three requests are outstanding after the third delivery and after the
+-- eviction, and two once the client got one back. Then it keeps two messages, and its next loan
+-- succeeds.
 abbrev pub KeepsTwo : Type 0
 KeepsTwo =
     (s : State) × IsSetUp ones s

@@ -4,10 +4,10 @@ use Rattle.iox_model.specs.declared.command.PortCommand.TheVariants as asks
 use Rattle.iox_model.specs.declared.command.Command.TheVariants.{Port}
 use Rattle.iox_model.specs.declared.reply.Reply.TheVariants.{Done, Nothing, Words}
 use Rattle.iox_model.specs.declared.reply.Reply.TheVariants as replies
-use Rattle.iox_worked.specs.Scripts.{defaults, of_length_one, process, request_saying, a_response, Script}
+use Rattle.iox_worked.specs.Examples.{defaults, of_length_one, process, request_saying, a_response, Example}
 
 -- Two servers answer and go: with room for two pairs, both responses come, the older first.
-abbrev pub expires_two : Script
+abbrev pub expires_two : Example
 expires_two = record {
   limits = record defaults { client_expired = 2 };
   commands =
@@ -23,8 +23,8 @@ expires_two = record {
       ∷ Words (10 ∷ []) ∷ Words (20 ∷ []) ∷ [];
 }
 
--- With room for one, the younger comes.
-abbrev pub expires_one : Script
+-- Two servers answer and go: with room for one pair, only the response of the younger comes.
+abbrev pub expires_one : Example
 expires_one = record {
   limits = record defaults { client_expired = 1 };
   commands =
@@ -38,8 +38,8 @@ expires_one = record {
       ∷ Done ∷ Done ∷ Done ∷ Done ∷ replies.Handle 6 ∷ Nothing ∷ Words (20 ∷ []) ∷ [];
 }
 
--- With none, neither.
-abbrev pub expires_none : Script
+-- Two servers answer and go: with room for no pair, neither response comes.
+abbrev pub expires_none : Example
 expires_none = record {
   limits = record defaults { client_expired = 0 };
   commands =

@@ -1,7 +1,7 @@
 -- Worked runs.
 use Rattle.std.specs.Prelude.{◌≡◌, ◌-◌, ◌^◌, true, false, [], ◌∷◌, Some, None}
-use Rattle.iox_model.specs.declared.backpressure.BackpressureStrategy.TheVariants as strategies
-use Rattle.iox_model.specs.declared.backpressure.AllocationStrategy.TheVariants as allocations
+use Rattle.iox_types.specs.declared.backpressure.BackpressureStrategy.TheVariants as strategies
+use Rattle.iox_types.specs.declared.backpressure.AllocationStrategy.TheVariants as allocations
 use Rattle.iox_model.specs.declared.command.PortCommand.TheVariants as asks
 use Rattle.iox_model.specs.declared.command.Command.TheVariants.{Port, DeclareDead, Cleanup, ListServers}
 use Rattle.iox_model.specs.declared.reply.Refusal.TheVariants.{InvalidNodeId, LimitTooLarge, ExceedsMaxLoanSize, ExceedsMaxActiveRequests, UnableToDeliver, ExceedsMaxBorrows}
@@ -9,10 +9,10 @@ use Rattle.iox_model.specs.declared.reply.Reply.TheVariants.{Sent, Done, Nothing
 use Rattle.iox_model.specs.declared.reply.Reply.TheVariants as replies
 use Rattle.iox_model.specs.Runs.{IsCreation}
 use Rattle.iox_model.specs.States.{State}
-use Rattle.iox_worked.specs.Scripts.{defaults, follow, of_length_one, process, request_saying, a_response, Script}
+use Rattle.iox_worked.specs.Examples.{defaults, follow, of_length_one, process, request_saying, a_response, Example}
 
 -- Two responses to one request come in the order of their sending.
-abbrev pub responds_in_order : Script
+abbrev pub responds_in_order : Example
 responds_in_order = record {
   limits = defaults;
   commands =
@@ -26,7 +26,7 @@ responds_in_order = record {
 }
 
 -- A full server gives up the older of two requests.
-abbrev pub evicts_the_oldest : Script
+abbrev pub evicts_the_oldest : Example
 evicts_the_oldest = record {
   limits = record defaults { active_requests = 1 };
   commands =
@@ -39,7 +39,7 @@ evicts_the_oldest = record {
 }
 
 -- A client with as many pending responses as it may sends no more.
-abbrev pub keeps_the_active_limit : Script
+abbrev pub keeps_the_active_limit : Example
 keeps_the_active_limit = record {
   limits = record defaults { active_requests = 1 };
   commands =
@@ -49,7 +49,7 @@ keeps_the_active_limit = record {
 }
 
 -- Without overflow a request to a full server is refused, and its message is free.
-abbrev pub refuses_a_full_server : Script
+abbrev pub refuses_a_full_server : Example
 refuses_a_full_server = record {
   limits = record defaults { active_requests = 1; request_overflow = false };
   commands =
@@ -60,7 +60,7 @@ refuses_a_full_server = record {
 }
 
 -- Where data is discarded, it is sent to nobody.
-abbrev pub discards_for_a_full_server : Script
+abbrev pub discards_for_a_full_server : Example
 discards_for_a_full_server = record {
   limits = record defaults {
     active_requests = 1;
@@ -75,7 +75,7 @@ discards_for_a_full_server = record {
 }
 
 -- What a dead server delivered comes until its cleanup.
-abbrev pub cleans_up_the_dead : Script
+abbrev pub cleans_up_the_dead : Example
 cleans_up_the_dead = record {
   limits = defaults;
   commands =
@@ -89,7 +89,7 @@ cleans_up_the_dead = record {
 }
 
 -- With one response borrowed, the next is received only after its release.
-abbrev pub keeps_the_borrow_limit : Script
+abbrev pub keeps_the_borrow_limit : Example
 keeps_the_borrow_limit = record {
   limits = record defaults { borrowed_responses = 1 };
   commands =
@@ -103,7 +103,7 @@ keeps_the_borrow_limit = record {
 }
 
 -- Without fire-and-forget a server is handed no request that its client gave up.
-abbrev pub skips_a_stale_request : Script
+abbrev pub skips_a_stale_request : Example
 skips_a_stale_request = record {
   limits = record defaults { fire_and_forget = false };
   commands =
@@ -113,16 +113,16 @@ skips_a_stale_request = record {
       replies.Handle 2 ∷ Done ∷ Answer true ∷ Nothing ∷ Answer false ∷ [];
 }
 
--- Where the service says that a client's messages grow, a loan past the greatest length succeeds,
-abbrev pub grows_as_the_service_says : Script
+-- Where the service says that a client's messages grow, a loan past the greatest length succeeds.
+abbrev pub grows_as_the_service_says : Example
 grows_as_the_service_says = record {
   limits = record defaults { client_allocation = allocations.BestFit };
   commands = Port (asks.Loan 0 0 33) ∷ [];
   replies = replies.Handle 2 ∷ [];
 }
 
--- unless the client's maker says that they do not; and the other way round.
-abbrev pub grows_as_its_maker_says : Script
+-- What the client's maker says of growing goes before what the service says, in both directions.
+abbrev pub grows_as_its_maker_says : Example
 grows_as_its_maker_says = record {
   limits = record defaults { client_allocation = allocations.BestFit };
   commands =
@@ -135,7 +135,7 @@ grows_as_its_maker_says = record {
 }
 
 -- A server asks for a hint, before and after its client gives one; a client asks for a response.
-abbrev pub asks_and_hints : Script
+abbrev pub asks_and_hints : Example
 asks_and_hints = record {
   limits = defaults;
   commands =
@@ -150,16 +150,17 @@ asks_and_hints = record {
 
 -- ---- creations
 
--- A limit of 0 is raised to 1,
+-- A limit of 0 is raised to 1.
 abbrev pub RaisesLimits : Type 0
 RaisesLimits =
     (s : State) × IsCreation (record defaults { clients = 0; client_expired = 0 }) follow (process 1) None (replies.Node 0) (Some s)
     × (s.fixed.limits.clients ≡ 1) × (s.fixed.limits.client_expired ≡ 0)
 
--- and one too large is refused, as is an id that is none.
+-- A limit that is too large is refused.
 abbrev pub RefusesLimits : Type 0
 RefusesLimits =
     IsCreation (record defaults { nodes = 2 ^ 24 - 1 }) follow (process 1) None (Refused LimitTooLarge) None
 
+-- An id that is not a node's id is refused.
 abbrev pub RefusesIds : Type 0
 RefusesIds = IsCreation defaults follow (process 0) None (Refused InvalidNodeId) None

@@ -10,7 +10,7 @@ use Rattle.iox_model.specs.Commands.{Create, Use}
 use Rattle.iox_model.specs.Runs.{ServiceStep, OfHub, OfLoan, OfValue, IsHistory}
 use Rattle.iox_model.specs.States.{State}
 use Rattle.iox_model.specs.Values.{Filling}
-use Rattle.iox_worked.specs.Scripts.{defaults, of_length_one, process, service, request_saying}
+use Rattle.iox_worked.specs.Examples.{defaults, of_length_one, process, service, request_saying}
 
 -- what a holder wrote so far
 abbrev pub wrote : Kind → List ℕ → ℕ → Filling
@@ -28,6 +28,7 @@ fills =
     with_a_loan (OfLoan 0 1 (wrote RequestMutUninit (5 ∷ []) 1) ∷ OfLoan 0 1 (wrote RequestMut (6 ∷ []) 1)
     ∷ OfHub 0 (Use (Read 1)) (Words (6 ∷ [])) ∷ [])
 
+-- In a worked history the holder of a loan writes 5, then 6 in its place, and a read gives 6.
 abbrev pub FillsALoan : Type 0
 FillsALoan = (t : State) × IsHistory (service defaults) fills t
 
@@ -36,6 +37,7 @@ abbrev pub writes_and_releases : List ServiceStep
 writes_and_releases =
     with_a_loan (OfHub 0 (Use (Write 1 (request_saying 5))) Done ∷ OfValue 0 1 RequestMutUninit ∷ [])
 
+-- In a worked history a command writes a loan, and the release of its value still frees it.
 abbrev pub ReleasesAWrittenLoan : Type 0
 ReleasesAWrittenLoan =
     (t : State) × IsHistory (service defaults) writes_and_releases t × (t.fixed.handles 0 ≡ [])

@@ -1,7 +1,7 @@
 -- A worked weave, on the wire of a service with two nodes, a client of the first, a server of the
 -- second: a node stops.
 use Rattle.std.specs.Prelude.{◌≡◌, ℕ, true, false, List, [], ◌∷◌, Some, None}
-use Rattle.iox_model.specs.declared.backpressure.AllocationStrategy.TheVariants.{PowerOfTwo}
+use Rattle.iox_types.specs.declared.backpressure.AllocationStrategy.TheVariants.{PowerOfTwo}
 use Rattle.iox_model.specs.declared.way.RequestState.TheVariants.{Named}
 use Rattle.iox_model.specs.declared.call.Call.TheVariants.{Loan, SendCopy, Receive, IsConnected}
 use Rattle.iox_model.specs.declared.call.WireCall.TheVariants.{Forget}
@@ -14,11 +14,11 @@ use Rattle.iox_model.specs.Weaves.{at_work, begun, IsWeave, World, Beat, Begins,
 use Rattle.iox_model.specs.Settings.{Limits}
 use Rattle.iox_model.specs.Keeping.{kept_in}
 use Rattle.iox_model.specs.States.{State}
-use Rattle.iox_model.specs.Schedules.{replies_of, Finished, Entry, Begin, Step, Die, IsWeaveOf}
+use Rattle.iox_model.specs.Schedules.{replies_of, Finished, Entry, Begin, Transition, Die, IsWeaveOf}
 use Rattle.iox_model.specs.WireCalls.{wire_refusal, opened, WordsCall}
-use Rattle.iox_weaves.specs.Laws.{on_lane}
+use Rattle.iox_weave_laws.specs.Laws.{on_lane}
 use Rattle.iox_model.specs.Moments.{Deliver, Take, SeesNoneBack, Open, Look}
-use Rattle.iox_worked.specs.Scripts.{defaults, process, service, request_saying, set_up, is_set_up}
+use Rattle.iox_worked.specs.Examples.{defaults, process, service, request_saying, set_up, is_set_up}
 use Rattle.iox_model.specs.Commands.{Reply}
 use Rattle.iox_model.specs.Messages.{request_way, response_way, Message}
 use Rattle.iox_model.specs.Outstandings.{outstanding}
@@ -47,7 +47,7 @@ RefusesGrowingPorts =
     (s : State) × IsRun (service (record defaults { server_allocation = PowerOfTwo })) (set_up []) (is_set_up []) s
     × (wire_refusal s 0 true ≡ Some GrowingStrategy)
 
--- The server took a request, and then made no step any more; its node dies and is forgotten.
+-- The server took a request and makes no further step; its node dies and is forgotten.
 abbrev pub stop_beats : List Beat
 stop_beats =
     Begins 0 (wire_calls.Port (SendCopy 0 (request_saying 7))) (on_lane 0)
@@ -68,21 +68,24 @@ stop_beats =
     ∷ Ends 0 (Answer false) []
     ∷ []
 
--- The schedule that brings this about: begins with words, steps, and a death. A step of the dead
--- makes nothing.
+-- The schedule that leads to these beats: begins with words, steps and a death. A step of a dead
+-- node does nothing.
 abbrev pub stop_entries : List Entry
 stop_entries =
-    Begin 0 (wire_calls.Port (SendCopy 0 (7 ∷ []))) ∷ Step 0 ∷ Step 0 ∷ Step 0 ∷ Step 0
-    ∷ Begin 1 (wire_calls.Port (Receive 1)) ∷ Step 1
-    ∷ Begin 0 (wire_calls.Port (IsConnected 2)) ∷ Step 0
-    ∷ Die 1 ∷ Step 1
-    ∷ Begin 0 (Forget 1) ∷ Step 0
-    ∷ Begin 0 (wire_calls.Port (IsConnected 2)) ∷ Step 0 ∷ []
+    Begin 0 (wire_calls.Port (SendCopy 0 (7 ∷ []))) ∷ Transition 0 ∷ Transition 0 ∷ Transition 0 ∷ Transition 0
+    ∷ Begin 1 (wire_calls.Port (Receive 1)) ∷ Transition 1
+    ∷ Begin 0 (wire_calls.Port (IsConnected 2)) ∷ Transition 0
+    ∷ Die 1 ∷ Transition 1
+    ∷ Begin 0 (Forget 1) ∷ Transition 0
+    ∷ Begin 0 (wire_calls.Port (IsConnected 2)) ∷ Transition 0 ∷ []
 
+-- a finished call of node 0, with its reply, and how many moments came before it began and before
+-- it ended
 abbrev pub finished : WordsCall → Reply → ℕ → ℕ → Finished
 finished call reply begun ended =
     record { node = 0; call = call; reply = reply; begun = begun; ended = ended }
 
+-- the finished calls of that weave, with their replies
 abbrev pub stop_replies : List Finished
 stop_replies =
     finished (wire_calls.Port (SendCopy 0 (7 ∷ []))) (replies.Handle 2) 0 4
@@ -91,7 +94,7 @@ stop_replies =
     ∷ finished (wire_calls.Port (IsConnected 2)) (Answer false) 6 6
     ∷ []
 
--- its client's loans go on succeeding, up to their limit
+-- the client's loans continue to succeed, up to their limit
 abbrev pub loan_beats : List Beat
 loan_beats =
     Begins 0 (wire_calls.Port (Loan 0 1)) (on_lane 1)
@@ -102,8 +105,8 @@ loan_beats =
     ∷ Ends 0 (Refused ExceedsMaxLoans) []
     ∷ []
 
--- The client's node sees the server connected, and once it forgot the dead node it sees it gone,
--- with nothing outstanding there; its pending response keeps the one message.
+-- A server stops. Its client sees it connected, and gone once its node forgot the dead one. Then
+-- nothing is outstanding there; the pending response keeps its message.
 abbrev pub StopsAndIsForgotten : Type 0
 StopsAndIsForgotten =
     (s : State) × IsSetUp defaults s

@@ -2,7 +2,7 @@
 //! The functions have nothing to do: each is there for its contract.
 #![tactic(auto)]
 
-ghost use Rattle.iox_worked.specs.Scripts.{IsPlayed};
+ghost use Rattle.iox_worked.specs.Examples.{IsWorked};
 ghost use Rattle.iox_worked.specs.WorkedRuns.{responds_in_order, evicts_the_oldest, keeps_the_active_limit, refuses_a_full_server};
 ghost use Rattle.iox_worked.specs.WorkedRuns.{RaisesLimits, RefusesIds, RefusesLimits};
 ghost use Rattle.iox_worked.specs.WorkedRuns.{asks_and_hints, grows_as_its_maker_says, grows_as_the_service_says};
@@ -14,17 +14,17 @@ ghost use Rattle.iox_worked.specs.EvictionWeaves.{KeepsTwo};
 
 /// Requests, responses, limits, a full server, a dead node, messages that grow, hints.
 pub fn runs()
-    ensures in_order { IsPlayed responds_in_order }
-    ensures evicted { IsPlayed evicts_the_oldest }
-    ensures active_limit { IsPlayed keeps_the_active_limit }
-    ensures undeliverable { IsPlayed refuses_a_full_server }
-    ensures discarded { IsPlayed discards_for_a_full_server }
-    ensures cleaned_up { IsPlayed cleans_up_the_dead }
-    ensures borrow_limit { IsPlayed keeps_the_borrow_limit }
-    ensures stale { IsPlayed skips_a_stale_request }
-    ensures grows { IsPlayed grows_as_the_service_says }
-    ensures grows_by_option { IsPlayed grows_as_its_maker_says }
-    ensures asked { IsPlayed asks_and_hints }
+    ensures in_order { IsWorked responds_in_order }
+    ensures evicted { IsWorked evicts_the_oldest }
+    ensures active_limit { IsWorked keeps_the_active_limit }
+    ensures undeliverable { IsWorked refuses_a_full_server }
+    ensures discarded { IsWorked discards_for_a_full_server }
+    ensures cleaned_up { IsWorked cleans_up_the_dead }
+    ensures borrow_limit { IsWorked keeps_the_borrow_limit }
+    ensures stale { IsWorked skips_a_stale_request }
+    ensures grows { IsWorked grows_as_the_service_says }
+    ensures grows_by_option { IsWorked grows_as_its_maker_says }
+    ensures asked { IsWorked asks_and_hints }
 {}
 
 /// Creations: limits of 0 are raised, too large ones and ids that are none refused.
@@ -36,9 +36,9 @@ pub fn creations()
 
 /// Pairs whose servers are gone.
 pub fn expired_runs()
-    ensures two { IsPlayed expires_two }
-    ensures one { IsPlayed expires_one }
-    ensures none { IsPlayed expires_none }
+    ensures two { IsWorked expires_two }
+    ensures one { IsWorked expires_one }
+    ensures none { IsWorked expires_none }
 {}
 
 /// Wires: a node that stops and is forgotten, what is outstanding at the limits, and a refused opening.

@@ -1,2 +1,2 @@
-//! What is told of messages, and where their parts stand.
+//! The description of messages, and where their parts stand.
 pub use iox_types::{MessageTypeDetails, SampleLayout, TypeDetail, TypeDetailError, TypeVariant};

@@ -12,14 +12,14 @@ pub struct Global {
 impl Global {
     ghost use Rattle.iox_configs.specs.Paths.{path_refusal, service_dir_of, node_dir_of};
 
-    /// Where everything lies.
+    /// The root directory of all files.
     pub fn root_path(&self) -> &Path
         ensures { result.now ≡ self.now.root_path }
     {
         &self.root_path
     }
 
-    /// Has everything lie there.
+    /// Sets the root directory of all files.
     pub fn set_root_path(&mut self, value: &Path)
         ensures { self.new.root_path ≡ value.now }
     {

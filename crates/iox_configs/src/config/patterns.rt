@@ -2,7 +2,7 @@
 ghost use Rattle.std.specs.Prelude.{◌≡◌};
 
 use crate::event_id::EventId;
-use iox_model::backpressure::{AllocationStrategy, BackpressureStrategy};
+use iox_types::{AllocationStrategy, BackpressureStrategy};
 use std::time::Duration;
 
 /// How many ports and nodes a request-response service has room for, how many messages each of
@@ -92,8 +92,8 @@ impl Default for PublishSubscribe {
     }
 }
 
-/// How many ports and nodes an event service has room for, how far its events are numbered, how
-/// late an event may be, and which events tell of the notifiers themselves.
+/// The settings of an event service: how many ports and nodes it has room for, the greatest event
+/// number, the latest time of an event, and which events report the notifiers themselves.
 #[derive(Clone, Copy, Debug, PartialEq, Eq)]
 pub struct Event {
     pub max_notifiers: usize,

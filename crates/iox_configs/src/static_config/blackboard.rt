@@ -5,7 +5,7 @@ use crate::config::Blackboard;
 use iox_types::TypeDetail;
 
 /// The type of a service's keys, and its settings.
-#[derive(Clone, Copy, Debug)]
+#[derive(Clone, Copy, Debug, PartialEq, Eq)]
 pub struct StaticConfig {
     type_details: TypeDetail,
     settings: Blackboard,
@@ -23,7 +23,7 @@ impl StaticConfig {
         }
     }
 
-    /// What is told of keys.
+    /// The description of keys.
     pub fn type_details(&self) -> &TypeDetail
         ensures { result.now ≡ self.now.type_details }
     {

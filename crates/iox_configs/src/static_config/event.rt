@@ -6,7 +6,7 @@ use crate::event_id::EventId;
 use std::time::Duration;
 
 /// The settings of a service.
-#[derive(Clone, Copy, Debug)]
+#[derive(Clone, Copy, Debug, PartialEq, Eq)]
 pub struct StaticConfig {
     settings: Event,
 }
@@ -54,28 +54,28 @@ impl StaticConfig {
         self.settings.event_id_max_value
     }
 
-    /// How long after an event the next one comes at the latest, if that is told.
+    /// How long after an event the next one comes at the latest, if that is set.
     pub fn deadline(&self) -> Option<Duration>
         ensures { result ≡ self.now.settings.deadline }
     {
         self.settings.deadline
     }
 
-    /// The event that tells of a new notifier.
+    /// The event that reports a new notifier.
     pub fn notifier_created_event(&self) -> Option<EventId>
         ensures { result ≡ self.now.settings.notifier_created_event }
     {
         self.settings.notifier_created_event
     }
 
-    /// The event that tells that a notifier is gone.
+    /// The event that reports that a notifier is gone.
     pub fn notifier_dropped_event(&self) -> Option<EventId>
         ensures { result ≡ self.now.settings.notifier_dropped_event }
     {
         self.settings.notifier_dropped_event
     }
 
-    /// The event that tells that a notifier's node died.
+    /// The event that reports that a notifier's node died.
     pub fn notifier_dead_event(&self) -> Option<EventId>
         ensures { result ≡ self.now.settings.notifier_dead_event }
     {

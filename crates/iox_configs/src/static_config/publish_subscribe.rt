@@ -6,14 +6,14 @@ use crate::pools::{number, product, sum};
 use iox_types::MessageTypeDetails;
 
 /// The types of a service's samples, and its settings.
-#[derive(Clone, Copy, Debug)]
+#[derive(Clone, Copy, Debug, PartialEq, Eq)]
 pub struct StaticConfig {
     message_type_details: MessageTypeDetails,
     settings: PublishSubscribe,
 }
 
 impl StaticConfig {
-    ghost use Rattle.iox_types.specs.Layouts.{told};
+    ghost use Rattle.iox_types.specs.Layouts.{as_usize};
     ghost use Rattle.iox_configs.specs.Pools.{publisher_samples};
 
     /// The configuration of those types and settings.
@@ -33,7 +33,7 @@ impl StaticConfig {
         &self,
         publisher_max_loaned_samples: usize,
     ) -> Option<usize>
-        ensures { result ≡ told (publisher_samples self.now.settings publisher_max_loaned_samples) }
+        ensures { result ≡ as_usize (publisher_samples self.now.settings publisher_max_loaned_samples) }
     {
         let settings = &self.settings;
         let each = sum(
@@ -45,7 +45,7 @@ impl StaticConfig {
         sum(kept, number(publisher_max_loaned_samples))
     }
 
-    /// What is told of samples.
+    /// The description of samples.
     pub fn message_type_details(&self) -> &MessageTypeDetails
         ensures { result.now ≡ self.now.message_type_details }
     {

@@ -6,7 +6,7 @@ use crate::pools::{number, product, sum};
 use iox_types::MessageTypeDetails;
 
 /// The types of a service's requests and responses, and its settings.
-#[derive(Clone, Copy, Debug)]
+#[derive(Clone, Copy, Debug, PartialEq, Eq)]
 pub struct StaticConfig {
     request_message_type_details: MessageTypeDetails,
     response_message_type_details: MessageTypeDetails,
@@ -14,7 +14,7 @@ pub struct StaticConfig {
 }
 
 impl StaticConfig {
-    ghost use Rattle.iox_types.specs.Layouts.{told};
+    ghost use Rattle.iox_types.specs.Layouts.{as_usize};
     ghost use Rattle.iox_configs.specs.Pools.{client_chunks, server_chunks};
 
     /// The configuration of those types and settings.
@@ -40,7 +40,7 @@ impl StaticConfig {
         &self,
         max_loaned_requests: usize,
     ) -> Option<usize>
-        ensures { result ≡ told (client_chunks self.now.settings max_loaned_requests) }
+        ensures { result ≡ as_usize (client_chunks self.now.settings max_loaned_requests) }
     {
         let active = self.settings.max_active_requests_per_client;
         active
@@ -56,7 +56,7 @@ impl StaticConfig {
         &self,
         max_loaned_responses_per_request: usize,
     ) -> Option<usize>
-        ensures { result ≡ told (server_chunks self.now.settings max_loaned_responses_per_request) }
+        ensures { result ≡ as_usize (server_chunks self.now.settings max_loaned_responses_per_request) }
     {
         let settings = &self.settings;
         let clients = number(settings.max_clients);
@@ -77,14 +77,14 @@ impl StaticConfig {
         )
     }
 
-    /// What is told of requests.
+    /// The description of requests.
     pub fn request_message_type_details(&self) -> &MessageTypeDetails
         ensures { result.now ≡ self.now.request_message_type_details }
     {
         &self.request_message_type_details
     }
 
-    /// What is told of responses.
+    /// The description of responses.
     pub fn response_message_type_details(&self) -> &MessageTypeDetails
         ensures { result.now ≡ self.now.response_message_type_details }
     {

@@ -1,12 +1,12 @@
-//! A container whose entries are told by handles.
-ghost use Rattle.std.specs.Prelude.{◌≡◌, ◌≢◌, ◌+◌, ◌<◌, ◌↔◌, IfErr, IfOk, IsSome, IsTrue, None, OnErr, OnOk, Some, false, length};
+//! A container whose entries are named by handles.
+ghost use Rattle.std.specs.Prelude.{◌≡◌, ◌≢◌, ◌+◌, ◌<◌, ◌↔◌, IfErr, IfOk, IfSome, IsSome, IsTrue, None, OnErr, OnOk, Some, false, length};
 ghost use Rattle.std.specs.Bool.{OnFalse, OnTrue};
 ghost use Rattle.iox_sets.specs.declared.mpmc.unique_index_set_enums.UniqueIndexSetNewError.TheVariants.{WantOfMemory};
 ghost use Rattle.iox_sets.specs.Refusals.{IsRefusal};
 ghost use Rattle.iox_sets.specs.IndexSets.{capacity_refusal};
-ghost use Rattle.iox_container.specs.Containers.{Adds, add_refusal, count, entries, entry_in, entry_of, new_contents};
-ghost use Rattle.iox_container.specs.Handles.{KeepsOrLoses};
-ghost use Rattle.iox_container.specs.Leaving.{Finds, Frees, Recovers};
+ghost use Rattle.iox_container.specs.Containers.{Adds, add_refusal, count, entries, entry_for, entry_in, entry_of, new_contents};
+ghost use Rattle.iox_container.specs.Handles.{Inserts, KeepsOrLoses, Removes};
+ghost use Rattle.iox_container.specs.Leaving.{Finds, Frees, IsAccepted, KeepsOthers, KeepsRefused, Recovers};
 ghost use Rattle.iox_container.specs.States.{IsStateOf, state_of};
 
 pub use container_handle::ContainerHandle;
@@ -25,8 +25,6 @@ mod container_state;
 mod entries;
 mod failures;
 mod fixed_size;
-#[cfg(test)]
-mod tests;
 
 /// A container with `capacity` slots, each free or with an entry. It takes memory when it is made,
 /// and never again.
@@ -108,6 +106,11 @@ impl<T: Words> Container<T> {
     /// Adds a value for an owner, in the lowest free slot.
     pub fn add(&mut self, value: T, owner: OwnerId) -> Result<ContainerHandle, ContainerAddFailure>
         ensures added { IfOk result (λ handle. Adds value owner self.old handle self.new) }
+        // A container is a finite map from handles, and this puts an entry into it.
+        ensures inserted { IfOk result (λ handle. Inserts handle (entry_for value owner handle.ticket) self.old self.new) }
+        ensures has { IfOk result (λ handle. IsSome (entry_of self.new handle)) }
+        ensures within { IfOk result (λ handle. handle.index < length self.new.slots) }
+        ensures capacity { length self.new.slots ≡ length self.old.slots }
         ensures handles { KeepsOrLoses self.old self.new }
         ensures refused { IfErr result (λ failure. add_refusal self.old ≡ Some failure) }
         ensures unchanged { OnErr result (self.new ≡ self.old) }
@@ -129,7 +132,9 @@ impl<T: Words> Container<T> {
     /// The handle of the first entry in slot order whose value and handle `f` accepts.
     pub fn find<F: FnMut(T, ContainerHandle) -> bool>(&self, mut f: F) -> Option<ContainerHandle>
         requires { F.IsAlwaysCallable f }
-        ensures { Finds F.step f (entries self.now) result }
+        ensures found { Finds F.step f (entries self.now) result }
+        ensures has { IfSome result (λ handle. IsSome (entry_of self.now handle)) }
+        ensures accepted { IfSome result (λ handle. IsAccepted F.step self.now handle) }
     {
         for index in 0..self.slots.len() {
             let Some(entry) = self.slots[index] else {
@@ -151,6 +156,8 @@ impl<T: Words> Container<T> {
     ) -> Result<ReleaseState, ContainerRemoveError>
         ensures removed { IfOk result (λ state. Frees handle.index mode self.old state self.new) }
         ensures had { OnOk result (IsSome (entry_of self.old handle)) }
+        ensures gone { OnOk result (Removes handle self.old self.new) }
+        ensures capacity { length self.new.slots ≡ length self.old.slots }
         ensures handles { KeepsOrLoses self.old self.new }
         ensures refused { OnErr result (entry_of self.old handle ≡ None) }
         ensures unchanged { OnErr result (self.new ≡ self.old) }
@@ -170,6 +177,9 @@ impl<T: Words> Container<T> {
     ) -> ReleaseState
         requires { F.IsAlwaysCallable f }
         ensures recovered { Recovers F.step f owner mode self.old result self.new }
+        ensures kept { KeepsRefused F.step owner self.new }
+        ensures others { KeepsOthers owner self.old self.new }
+        ensures capacity { length self.new.slots ≡ length self.old.slots }
         ensures handles { KeepsOrLoses self.old self.new }
     {
         let mut state = if self.is_locked() {

@@ -5,7 +5,7 @@ ghost use Rattle.iox_queue_steps.specs.Stored.{seen_says};
 /// What a step of a stored party says. It fits two registers.
 #[derive(Clone, Copy, Debug, PartialEq, Eq)]
 pub enum StepAnswer {
-    /// the call goes on
+    /// the call continues
     Going,
     /// it is done, and gives no value
     Done,

@@ -85,12 +85,13 @@ fn cell_after(site: Site, last: usize, position: u64, cell: usize) -> usize
     requires { KnowsCell site (record { next = position; cell = cell; last = last }) }
     ensures { result ≡ place_of_cell site (position + 1) }
 {
-    // the contract alone speaks of the position
+    // only the contract names the position
     let _position = position;
     if cell < last { cell + 1 } else { site.base + 2 }
 }
 
-/// The cell of the position that is so many ahead of the expected one, a round at most.
+/// The cell of the position that is `ahead` positions after the expected one, at most one round of
+/// the cells.
 #[inline]
 fn cell_ahead(site: Site, cursor: Cursor, ahead: usize) -> usize
     requires knows { KnowsCell site cursor }

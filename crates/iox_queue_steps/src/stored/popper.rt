@@ -7,10 +7,10 @@ mod place;
 use super::answer::{StepAnswer, look_answer};
 use super::cell::Cursor;
 use super::hearing::{Hears, Nobody};
-use iox_steps::{Access, EmptyLook, Moment, Pop, QueueKind, Site, perform};
+use iox_steps::{Access, EmptyLook, Pop, QueueEvent, QueueKind, Site, perform};
 use std::marker::Model;
 
-/// The place of a pop or of a look at emptiness, by its name alone.
+/// Where a pop or a look at emptiness is, as a bare name without its numbers.
 #[derive(Clone, Copy)]
 pub enum PopAt {
     LoadsRead,
@@ -50,12 +50,12 @@ impl Model for StoredPopper {
 impl StoredPopper {
     ghost use Rattle.std.specs.Prelude.{◌≡◌, ◌↔◌, ◌+◌, ◌^◌, ◌<◌, IsTrue, length};
     ghost use Rattle.std.specs.Bool.{OnTrue, OnFalse};
-    ghost use Rattle.iox_steps.specs.declared.seat.Popping.TheVariants.{AtRest, Pops, Looks};
+    ghost use Rattle.iox_steps.specs.declared.side.Popping.TheVariants.{AtRest, Pops, Looks};
     ghost use Rattle.iox_steps.specs.declared.pop.Pop.TheVariants.{LoadsRead};
     ghost use Rattle.iox_steps.specs.declared.pop.EmptyLook.TheVariants as empty_look;
     ghost use Rattle.iox_steps.specs.Accesses.{IsWithin, words_after};
     ghost use Rattle.iox_steps.specs.Sites.{size};
-    ghost use Rattle.iox_steps.specs.Seats.{popping_access, popping_sees, popping_after, popping_moment};
+    ghost use Rattle.iox_steps.specs.Sides.{popping_access, popping_sees, popping_after, popping_event};
     ghost use Rattle.iox_queue_steps.specs.Stored.{popping_says};
     ghost use Rattle.iox_queue_steps.specs.StoredPlaces.{IsPop};
 
@@ -114,7 +114,7 @@ impl StoredPopper {
         matches!(self.at, PopAt::Rest)
     }
 
-    /// Makes its next access, and goes on.
+    /// Makes its next access, and continues.
     #[inline]
     pub fn step(&mut self, words: &mut Vec<u64>) -> StepAnswer
         requires within { IsWithin 0 (length words.old.items)
@@ -130,7 +130,7 @@ impl StoredPopper {
         self.step_heard(words, &mut Nobody)
     }
 
-    /// The same; it also tells `ear` what the access does to the queue, or sees there.
+    /// The same; it also gives `ear` the event of the access.
     #[inline(always)]
     pub(crate) fn step_heard<H: Hears>(&mut self, words: &mut Vec<u64>, ear: &mut H) -> StepAnswer
         requires within { IsWithin 0 (length words.old.items)
@@ -138,7 +138,7 @@ impl StoredPopper {
         requires listens { H.can_hear ear.old }
         ensures words { words.new.items ≡
             words_after (popping_access self.old.site self.old.place) words.old.items }
-        ensures heard { H.heard ear.old (popping_moment self.old.site self.old.place
+        ensures heard { H.heard ear.old (popping_event self.old.site self.old.place
             (popping_sees self.old.site self.old.place words.old.items)) ear.new }
         ensures site { self.new.site ≡ self.old.site }
         ensures place { self.new.place ≡ popping_after self.old.site self.old.place
@@ -147,16 +147,16 @@ impl StoredPopper {
             (popping_sees self.old.site self.old.place words.old.items) }
     {
         match self.at {
-            PopAt::Rest => ear.hear(Moment::Quiet),
+            PopAt::Rest => ear.hear(QueueEvent::Quiet),
             PopAt::LookLoadsRead => {
                 self.position = perform(words, Access::Load(self.site.base + 1));
-                ear.hear(Moment::Quiet);
+                ear.hear(QueueEvent::Quiet);
                 self.at = PopAt::LookLoadsWrite;
             }
             PopAt::LookLoadsWrite => {
                 let (site, read) = (self.site, self.position);
                 let write = perform(words, Access::Load(site.base));
-                ear.hear(EmptyLook::LoadsWrite(read).moment(site, write));
+                ear.hear(EmptyLook::LoadsWrite(read).event(site, write));
                 self.at = PopAt::Rest;
                 return look_answer(site.is_empty(read, write));
             }
@@ -176,7 +176,7 @@ impl StoredPopper {
         requires listens { H.can_hear ear.old }
         ensures words { words.new.items ≡
             words_after (popping_access self.old.site self.old.place) words.old.items }
-        ensures heard { H.heard ear.old (popping_moment self.old.site self.old.place
+        ensures heard { H.heard ear.old (popping_event self.old.site self.old.place
             (popping_sees self.old.site self.old.place words.old.items)) ear.new }
         ensures site { self.new.site ≡ self.old.site }
         ensures place { self.new.place ≡ popping_after self.old.site self.old.place
@@ -187,13 +187,13 @@ impl StoredPopper {
         match self.at {
             PopAt::LoadsRead => {
                 self.position = perform(words, Access::Load(self.site.base + 1));
-                ear.hear(Moment::Quiet);
+                ear.hear(QueueEvent::Quiet);
                 self.at = PopAt::LoadsWrite;
             }
             PopAt::LoadsWrite => {
                 let read = self.position;
                 let write = perform(words, Access::Load(self.site.base));
-                ear.hear(Pop::LoadsWrite(read).moment(self.site, write));
+                ear.hear(Pop::LoadsWrite(read).event(self.site, write));
                 if self.site.is_empty(read, write) {
                     self.at = PopAt::Rest;
                     return StepAnswer::Done;
@@ -203,14 +203,14 @@ impl StoredPopper {
             }
             PopAt::LoadsCell => {
                 self.value = perform(words, Access::Load(self.cell));
-                ear.hear(Moment::Quiet);
+                ear.hear(QueueEvent::Quiet);
                 self.at = PopAt::Takes;
             }
             PopAt::Takes => {
                 let (read, value) = (self.position, self.value);
                 let place = Pop::Takes(read, value);
                 let seen = perform(words, place.access(self.site));
-                ear.hear(place.moment(self.site, seen));
+                ear.hear(place.event(self.site, seen));
                 if is_taken(self.site.kind, read, seen) {
                     self.at = PopAt::Rest;
                     return StepAnswer::Gives(value);

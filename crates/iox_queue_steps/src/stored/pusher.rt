@@ -8,10 +8,10 @@ mod place;
 use super::answer::{StepAnswer, look_answer};
 use super::cell::Cursor;
 use super::hearing::{Hears, Nobody};
-use iox_steps::{Access, FullLook, Moment, Push, QueueKind, Site, perform};
+use iox_steps::{Access, FullLook, Push, QueueEvent, QueueKind, Site, perform};
 use std::marker::Model;
 
-/// The place of a push or of a look at fullness, by its name alone.
+/// Where a push or a look at fullness is, as a bare name without its numbers.
 #[derive(Clone, Copy)]
 pub enum PushAt {
     LoadsWrite,
@@ -58,12 +58,12 @@ impl Model for StoredPusher {
 impl StoredPusher {
     ghost use Rattle.std.specs.Prelude.{◌≡◌, ◌↔◌, ◌+◌, ◌^◌, ◌<◌, IsTrue, length};
     ghost use Rattle.std.specs.Bool.{OnTrue, OnFalse};
-    ghost use Rattle.iox_steps.specs.declared.seat.Pushing.TheVariants.{AtRest, Pushes, Looks};
+    ghost use Rattle.iox_steps.specs.declared.side.Pushing.TheVariants.{AtRest, Pushes, Looks};
     ghost use Rattle.iox_steps.specs.declared.push.Push.TheVariants.{LoadsWrite};
     ghost use Rattle.iox_steps.specs.declared.push.FullLook.TheVariants as full_look;
     ghost use Rattle.iox_steps.specs.Accesses.{IsWithin, words_after};
     ghost use Rattle.iox_steps.specs.Sites.{size};
-    ghost use Rattle.iox_steps.specs.Seats.{pushing_access, pushing_sees, pushing_after, pushing_moment};
+    ghost use Rattle.iox_steps.specs.Sides.{pushing_access, pushing_sees, pushing_after, pushing_event};
     ghost use Rattle.iox_queue_steps.specs.Stored.{pushing_says};
     ghost use Rattle.iox_queue_steps.specs.StoredPlaces.{IsPublishing, IsEvicting};
 
@@ -134,7 +134,7 @@ impl StoredPusher {
         matches!(self.at, PushAt::Rest)
     }
 
-    /// Makes its next access, and goes on.
+    /// Makes its next access, and continues.
     #[inline]
     pub fn step(&mut self, words: &mut Vec<u64>) -> StepAnswer
         requires within { IsWithin 0 (length words.old.items)
@@ -150,7 +150,7 @@ impl StoredPusher {
         self.step_heard(words, &mut Nobody)
     }
 
-    /// The same; it also tells `ear` what the access does to the queue, or sees there.
+    /// The same; it also gives `ear` the event of the access.
     #[inline(always)]
     pub(crate) fn step_heard<H: Hears>(&mut self, words: &mut Vec<u64>, ear: &mut H) -> StepAnswer
         requires within { IsWithin 0 (length words.old.items)
@@ -158,7 +158,7 @@ impl StoredPusher {
         requires listens { H.can_hear ear.old }
         ensures words { words.new.items ≡
             words_after (pushing_access self.old.site self.old.place) words.old.items }
-        ensures heard { H.heard ear.old (pushing_moment self.old.site self.old.place
+        ensures heard { H.heard ear.old (pushing_event self.old.site self.old.place
             (pushing_sees self.old.site self.old.place words.old.items)) ear.new }
         ensures site { self.new.site ≡ self.old.site }
         ensures place { self.new.place ≡ pushing_after self.old.site self.old.place
@@ -167,16 +167,16 @@ impl StoredPusher {
             (pushing_sees self.old.site self.old.place words.old.items) }
     {
         match self.at {
-            PushAt::Rest => ear.hear(Moment::Quiet),
+            PushAt::Rest => ear.hear(QueueEvent::Quiet),
             PushAt::LookLoadsWrite => {
                 self.position = perform(words, Access::Load(self.site.base));
-                ear.hear(Moment::Quiet);
+                ear.hear(QueueEvent::Quiet);
                 self.at = PushAt::LookLoadsRead;
             }
             PushAt::LookLoadsRead => {
                 let (site, write) = (self.site, self.position);
                 let read = perform(words, Access::Load(site.base + 1));
-                ear.hear(FullLook::LoadsRead(write).moment(site, read));
+                ear.hear(FullLook::LoadsRead(write).event(site, read));
                 return ends(&mut self.at, look_answer(site.is_full(read, write)));
             }
             PushAt::LoadsWrite | PushAt::LoadsRead | PushAt::StoresCell | PushAt::StoresWrite => {
@@ -196,7 +196,7 @@ impl StoredPusher {
         requires listens { H.can_hear ear.old }
         ensures words { words.new.items ≡
             words_after (pushing_access self.old.site self.old.place) words.old.items }
-        ensures heard { H.heard ear.old (pushing_moment self.old.site self.old.place
+        ensures heard { H.heard ear.old (pushing_event self.old.site self.old.place
             (pushing_sees self.old.site self.old.place words.old.items)) ear.new }
         ensures site { self.new.site ≡ self.old.site }
         ensures place { self.new.place ≡ pushing_after self.old.site self.old.place
@@ -207,7 +207,7 @@ impl StoredPusher {
         match self.at {
             PushAt::LoadsWrite => {
                 self.position = perform(words, Access::Load(self.site.base));
-                ear.hear(Moment::Quiet);
+                ear.hear(QueueEvent::Quiet);
                 self.at = PushAt::LoadsRead;
             }
             PushAt::LoadsRead => {
@@ -216,7 +216,7 @@ impl StoredPusher {
                 let full = self.site.is_full(read, write);
                 self.full = full;
                 self.read = read;
-                ear.hear(Push::LoadsRead(self.value, write).moment(self.site, read));
+                ear.hear(Push::LoadsRead(self.value, write).event(self.site, read));
                 if refuses(self.site.kind, full, write) {
                     return ends(&mut self.at, StepAnswer::Refuses(self.value));
                 }
@@ -226,12 +226,12 @@ impl StoredPusher {
             }
             PushAt::StoresCell => {
                 perform(words, Access::Store(self.cell, self.value));
-                ear.hear(Moment::Quiet);
+                ear.hear(QueueEvent::Quiet);
                 self.at = PushAt::StoresWrite;
             }
             PushAt::StoresWrite => {
                 perform(words, Access::Store(self.site.base, self.position));
-                ear.hear(Moment::Publish(self.value));
+                ear.hear(QueueEvent::Publish(self.value));
                 if !self.full {
                     return ends(&mut self.at, StepAnswer::Done);
                 }
@@ -251,7 +251,7 @@ impl StoredPusher {
         requires listens { H.can_hear ear.old }
         ensures words { words.new.items ≡
             words_after (pushing_access self.old.site self.old.place) words.old.items }
-        ensures heard { H.heard ear.old (pushing_moment self.old.site self.old.place
+        ensures heard { H.heard ear.old (pushing_event self.old.site self.old.place
             (pushing_sees self.old.site self.old.place words.old.items)) ear.new }
         ensures site { self.new.site ≡ self.old.site }
         ensures place { self.new.place ≡ pushing_after self.old.site self.old.place
@@ -263,16 +263,16 @@ impl StoredPusher {
             PushAt::Evicts => {
                 let read = self.read;
                 if perform(words, Push::Evicts(read).access(self.site)) != read {
-                    ear.hear(Moment::Quiet);
+                    ear.hear(QueueEvent::Quiet);
                     return ends(&mut self.at, StepAnswer::Done);
                 }
-                ear.hear(Moment::Evict);
+                ear.hear(QueueEvent::Evict);
                 self.oldest = self.cursor.before(self.site, read);
                 self.at = PushAt::TakesOld;
             }
             PushAt::TakesOld => {
                 let oldest = perform(words, Access::Load(self.oldest));
-                ear.hear(Moment::GetBack(oldest));
+                ear.hear(QueueEvent::Learn(oldest));
                 return ends(&mut self.at, StepAnswer::Gives(oldest));
             }
             _ => unreachable!(),

@@ -18,7 +18,7 @@ pub struct StoredQueue {
 
 impl Model for StoredQueue {
     ghost use Rattle.std.specs.Prelude.{◌≡◌};
-    ghost use Rattle.iox_queue_steps.specs.Stored.{Stored, IsPlayed};
+    ghost use Rattle.iox_queue_steps.specs.Stored.{Stored, ArePartsAfterCalls};
 
     ghost Value = { Stored };
 
@@ -29,21 +29,21 @@ impl Model for StoredQueue {
       pops = q.popper.place;
     } };
 
-    ghost invariant = { λ q. IsPlayed q.words.items q.pusher q.popper };
+    ghost invariant = { λ q. ArePartsAfterCalls q.words.items q.pusher q.popper };
 }
 
 impl StoredQueue {
     ghost use Rattle.std.specs.Prelude.{◌≡◌, ◌↔◌, ◌+◌, ◌<◌, ◌≤◌, IsTrue, length};
     ghost use Rattle.std.specs.Bool.{OnTrue, OnFalse};
-    ghost use Rattle.iox_steps.specs.declared.seat.Pushing.TheVariants as pushing;
-    ghost use Rattle.iox_steps.specs.declared.seat.Popping.TheVariants as popping;
+    ghost use Rattle.iox_steps.specs.declared.side.Pushing.TheVariants as pushing;
+    ghost use Rattle.iox_steps.specs.declared.side.Popping.TheVariants as popping;
     ghost use Rattle.iox_steps.specs.declared.push.Push.TheVariants as push;
     ghost use Rattle.iox_steps.specs.declared.push.FullLook.TheVariants as full_look;
     ghost use Rattle.iox_steps.specs.declared.pop.Pop.TheVariants as pop;
     ghost use Rattle.iox_steps.specs.declared.pop.EmptyLook.TheVariants as empty_look;
     ghost use Rattle.iox_steps.specs.Sites.{size};
     ghost use Rattle.iox_queue_steps.specs.Queues.{IsEmptyAt};
-    ghost use Rattle.iox_queue_steps.specs.Stored.{HasPlayed, StepsPush, StepsPop};
+    ghost use Rattle.iox_queue_steps.specs.Stored.{IsAfterCalls, StepsPush, StepsPop};
 
     /// The empty queue at this place among the words, at whatever position it is.
     pub fn new(words: Vec<u64>, site: Site) -> StoredQueue
@@ -68,7 +68,7 @@ impl StoredQueue {
     /// The shared words.
     pub fn words(&self) -> &[u64]
         ensures words { result.now ≡ self.now.words }
-        ensures queue { HasPlayed self.now }
+        ensures queue { IsAfterCalls self.now }
     {
         &self.words
     }

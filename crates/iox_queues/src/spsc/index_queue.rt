@@ -13,8 +13,6 @@ use std::marker::Model;
 mod consumer;
 mod fixed_size;
 mod producer;
-#[cfg(test)]
-mod tests;
 
 /// A queue of at most `capacity` numbers. It takes memory when it is made, and never again.
 ///
@@ -53,7 +51,7 @@ impl IndexQueue {
 
     /// Adds a number behind the others, and says whether there was room.
     ///
-    /// Room lacks when the queue is full. It also lacks, for good, once 2^64 - 1 numbers were pushed.
+    /// There is no room when the queue is full, and never again once 2^64 - 1 numbers were pushed.
     #[inline]
     pub fn push(&mut self, value: u64) -> bool
         ensures room { IsTrue result ↔ HasRoom self.old }
@@ -98,7 +96,7 @@ impl IndexQueue {
         self.ring.is_empty()
     }
 
-    /// Whether as many numbers wait as may, so that a push would find no room.
+    /// Whether the queue is full, so that a push would find no room.
     #[inline]
     pub fn is_full(&self) -> bool
         ensures full { IsTrue result ↔ (length self.now.waiting ≡ self.now.capacity) }

@@ -12,8 +12,6 @@ use std::marker::Model;
 
 mod consumer;
 mod producer;
-#[cfg(test)]
-mod tests;
 
 /// A queue of at most `CAPACITY` values. It takes memory when it is made, and never again.
 ///
@@ -57,7 +55,7 @@ impl<T: Words, const CAPACITY: usize> Queue<T, CAPACITY> {
 
     /// Adds a copy of the value behind the others, and says whether there was room.
     ///
-    /// Room lacks when the queue is full. It also lacks, for good, once 2^64 - 1 values were pushed.
+    /// There is no room when the queue is full, and never again once 2^64 - 1 values were pushed.
     #[inline]
     pub fn push(&mut self, t: &T) -> bool
         ensures room { IsTrue result ↔ HasRoom self.old }
@@ -103,7 +101,7 @@ impl<T: Words, const CAPACITY: usize> Queue<T, CAPACITY> {
         self.ring.is_empty()
     }
 
-    /// Whether as many values wait as may, so that a push would find no room.
+    /// Whether the queue is full, so that a push would find no room.
     #[inline]
     pub fn is_full(&self) -> bool
         ensures full { IsTrue result ↔ (length self.now.waiting ≡ self.now.capacity) }

@@ -15,8 +15,6 @@ mod consumer;
 mod fixed_size;
 mod new_error;
 mod producer;
-#[cfg(test)]
-mod tests;
 
 /// A queue of at most `capacity` numbers, 1 or more. It takes memory when it is made, and never again.
 ///
@@ -64,7 +62,8 @@ impl SafelyOverflowingIndexQueue {
     /// Adds a number behind the others. Where the queue is full, the oldest makes room and is
     /// handed back.
     ///
-    /// Once 2^64 - 1 numbers were pushed, no more is: the number itself is handed back.
+    /// Once 2^64 - 1 numbers were pushed, no further one is pushed: the number itself is handed
+    /// back.
     #[inline]
     pub fn push(&mut self, value: u64) -> Option<u64>
         ensures handed_back { result ≡ handed_back self.old value }
@@ -109,7 +108,7 @@ impl SafelyOverflowingIndexQueue {
         self.ring.is_empty()
     }
 
-    /// Whether as many numbers wait as may, so that the next push finds no free place.
+    /// Whether the queue is full, so that the next push finds no free cell.
     #[inline]
     pub fn is_full(&self) -> bool
         ensures full { IsTrue result ↔ (length self.now.waiting ≡ self.now.capacity) }

@@ -13,7 +13,7 @@ pub struct RequestSlot {
 
 /// A port or a handle, with the node that it belongs to. A handle names its message's slot.
 #[derive(Drop)]
-pub enum Entry {
+pub enum SubjectSlots {
     Client {
         node: u64,
         limit: u64,
@@ -41,46 +41,46 @@ pub enum Entry {
     },
 }
 
-impl Entry {
+impl SubjectSlots {
     ghost use Rattle.std.specs.Prelude.{nat_lt};
     ghost use Rattle.iceoryx2_bb_lock_free.specs.BoundedQueues.{first};
-    ghost use Rattle.iox_run.specs.Things.{is_client, is_server, is_pending, is_active, is_response_to, owner_of};
+    ghost use Rattle.iox_run.specs.Subjects.{is_client, is_server, is_pending, is_active, is_response_to, owner_of};
     ghost use Rattle.iox_run.specs.Slots.{outline, waiting_slots, HasRoomForResponse, with_response, without_response};
 
     pub fn owner(&self) -> u64
         ensures { result ≡ owner_of (outline self.now) }
     {
         match self {
-            Entry::Client { node, .. } => *node,
-            Entry::Server { node, .. } => *node,
-            Entry::PendingResponse { node, .. } => *node,
-            Entry::ActiveRequest { node, .. } => *node,
-            Entry::Response { node, .. } => *node,
+            SubjectSlots::Client { node, .. } => *node,
+            SubjectSlots::Server { node, .. } => *node,
+            SubjectSlots::PendingResponse { node, .. } => *node,
+            SubjectSlots::ActiveRequest { node, .. } => *node,
+            SubjectSlots::Response { node, .. } => *node,
         }
     }
 
     pub fn is_client(&self) -> bool
         ensures { result ≡ is_client (outline self.now) }
     {
-        matches!(self, Entry::Client { .. })
+        matches!(self, SubjectSlots::Client { .. })
     }
 
     pub fn is_server(&self) -> bool
         ensures { result ≡ is_server (outline self.now) }
     {
-        matches!(self, Entry::Server { .. })
+        matches!(self, SubjectSlots::Server { .. })
     }
 
     pub fn is_pending_response(&self) -> bool
         ensures { result ≡ is_pending (outline self.now) }
     {
-        matches!(self, Entry::PendingResponse { .. })
+        matches!(self, SubjectSlots::PendingResponse { .. })
     }
 
     pub fn is_active_request(&self) -> bool
         ensures { result ≡ is_active (outline self.now) }
     {
-        matches!(self, Entry::ActiveRequest { .. })
+        matches!(self, SubjectSlots::ActiveRequest { .. })
     }
 
     /// Whether it is a response that the pending response of that number received.
@@ -88,11 +88,8 @@ impl Entry {
         ensures { result ≡ is_response_to number (outline self.now) }
     {
         match self {
-            Entry::Response { pending, .. } => *pending == number,
-            Entry::Client { .. } => false,
-            Entry::Server { .. } => false,
-            Entry::PendingResponse { .. } => false,
-            Entry::ActiveRequest { .. } => false,
+            SubjectSlots::Response { pending, .. } => *pending == number,
+            _ => false,
         }
     }
 
@@ -101,11 +98,8 @@ impl Entry {
         ensures { result ≡ length (waiting_slots self.now) }
     {
         match self {
-            Entry::PendingResponse { waiting, .. } => waiting.len(),
-            Entry::Client { .. } => 0,
-            Entry::Server { .. } => 0,
-            Entry::ActiveRequest { .. } => 0,
-            Entry::Response { .. } => 0,
+            SubjectSlots::PendingResponse { waiting, .. } => waiting.len(),
+            _ => 0,
         }
     }
 
@@ -115,13 +109,10 @@ impl Entry {
         ensures { self.new ≡ with_response response self.old }
     {
         match self {
-            Entry::PendingResponse { waiting, .. } => {
+            SubjectSlots::PendingResponse { waiting, .. } => {
                 let _ = waiting.push(response);
             }
-            Entry::Client { .. } => {}
-            Entry::Server { .. } => {}
-            Entry::ActiveRequest { .. } => {}
-            Entry::Response { .. } => {}
+            _ => {}
         }
     }
 
@@ -131,11 +122,8 @@ impl Entry {
         ensures left { self.new ≡ without_response self.old }
     {
         match self {
-            Entry::PendingResponse { waiting, .. } => waiting.pop(),
-            Entry::Client { .. } => None,
-            Entry::Server { .. } => None,
-            Entry::ActiveRequest { .. } => None,
-            Entry::Response { .. } => None,
+            SubjectSlots::PendingResponse { waiting, .. } => waiting.pop(),
+            _ => None,
         }
     }
 }

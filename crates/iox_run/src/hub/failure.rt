@@ -1,8 +1,10 @@
 //! Why a call of the hub was not done.
 ghost use Rattle.std.specs.Prelude.{◌≡◌};
 ghost use Rattle.iox_run.specs.declared.hub.failure.Failure.TheVariants.{Refused, WantOfMemory};
+ghost use Rattle.iox_run.specs.declared.refusal.Refusal.TheVariants.{ByScript, ByService};
 
-use iox_script::Refusal;
+use crate::refusal::Refusal;
+use iox_script::{ScriptRefusal, ServiceRefusal};
 use std::alloc::{AllocError, AllocFailed};
 
 /// Why a call was not done. It changed nothing.
@@ -19,6 +21,22 @@ impl From<Refusal> for Failure {
 
     fn from(refusal: Refusal) -> Failure {
         Failure::Refused(refusal)
+    }
+}
+
+impl From<ScriptRefusal> for Failure {
+    ghost from_gives = { λ refusal failure. failure ≡ Refused (ByScript refusal) };
+
+    fn from(refusal: ScriptRefusal) -> Failure {
+        Failure::Refused(Refusal::ByScript(refusal))
+    }
+}
+
+impl From<ServiceRefusal> for Failure {
+    ghost from_gives = { λ refusal failure. failure ≡ Refused (ByService refusal) };
+
+    fn from(refusal: ServiceRefusal) -> Failure {
+        Failure::Refused(Refusal::ByService(refusal))
     }
 }
 

@@ -2,19 +2,27 @@
 ghost use Rattle.std.specs.Prelude.{◌<◌, length};
 
 use super::Hub;
-use super::entry::Entry;
+use super::entry::SubjectSlots;
 use super::failure::Failure;
-use iox_script::{Payload, Refusal, Reply};
+use crate::refusal::Refusal;
+use iox_model::reply::Reply;
+use iox_script::{Payload, ServiceRefusal, ServiceReply};
 use std::alloc::Global;
 
 impl Hub {
     ghost use Rattle.std.specs.Prelude.{IfOk, IfErr, Ok, Err};
-    ghost use Rattle.iox_script.specs.declared.command.Command.TheVariants as commands;
+    ghost use Rattle.iox_model.specs.declared.command.Command.TheVariants.{Port};
+    ghost use Rattle.iox_model.specs.declared.command.PortCommand.TheVariants as port_commands;
     ghost use Rattle.iox_run.specs.Hubs.{HasWords, Serves};
 
     /// Shows the words of a handle's message.
-    pub(super) fn read(&self, alloc: Global, node: u64, number: u64) -> Result<Reply, Failure>
-        ensures { Serves self.now (commands.Read node number) result self.now }
+    pub(super) fn read(
+        &self,
+        alloc: Global,
+        node: u64,
+        number: u64,
+    ) -> Result<ServiceReply, Failure>
+        ensures { Serves self.now (Port (port_commands.Read node number)) result self.now }
     {
         let place = self.owned(node, number)?;
         let words = self.words_at(place)?;
@@ -29,11 +37,14 @@ impl Hub {
         ensures refused { IfErr result (λ refusal. HasWords self.now place (Err refusal)) }
     {
         match &self.entries[place] {
-            Entry::PendingResponse { request, .. } => Ok(&self.requests[*request as usize].words),
-            Entry::ActiveRequest { request, .. } => Ok(&self.requests[*request as usize].words),
-            Entry::Response { response, .. } => Ok(&self.responses[*response as usize]),
-            Entry::Client { .. } => Err(Refusal::WrongKind),
-            Entry::Server { .. } => Err(Refusal::WrongKind),
+            SubjectSlots::PendingResponse { request, .. } => Ok(
+                &self.requests[*request as usize].words,
+            ),
+            SubjectSlots::ActiveRequest { request, .. } => Ok(
+                &self.requests[*request as usize].words,
+            ),
+            SubjectSlots::Response { response, .. } => Ok(&self.responses[*response as usize]),
+            _ => Err(Refusal::ByService(ServiceRefusal::WrongKind)),
         }
     }
 }

@@ -2,18 +2,21 @@
 ghost use Rattle.std.specs.Prelude.{◌≡◌, ◌<◌, length};
 
 use super::Hub;
-use super::entry::{Entry, RequestSlot};
+use super::entry::{RequestSlot, SubjectSlots};
 use super::failure::Failure;
 use crate::limits::{MAX_ACTIVE_REQUESTS, MAX_WAITING_RESPONSES};
+use crate::refusal::Refusal;
 use iceoryx2_bb_lock_free::spsc::index_queue::IndexQueue;
-use iox_script::{Payload, Refusal, Reply};
+use iox_model::reply::Reply;
+use iox_script::{Payload, ServiceRefusal, ServiceReply};
 use std::alloc::{AllocError, Global};
 
 impl Hub {
     ghost use Rattle.std.specs.Prelude.{ℕ, IfOk, OnOk, IfErr, OnErr, Err};
-    ghost use Rattle.iox_script.specs.declared.command.Command.TheVariants as commands;
+    ghost use Rattle.iox_model.specs.declared.command.Command.TheVariants.{Port};
+    ghost use Rattle.iox_model.specs.declared.command.PortCommand.TheVariants as port_commands;
     ghost use Rattle.iceoryx2_bb_lock_free.specs.BoundedQueues.{empty_queue};
-    ghost use Rattle.iox_run.specs.Machines.{ActiveRequest, Client};
+    ghost use Rattle.iox_run.specs.ScriptStates.{ActiveRequest, Client};
     ghost use Rattle.iox_run.specs.Limits.{max_waiting_responses};
     ghost use Rattle.iox_run.specs.Ports.{sent};
     ghost use Rattle.iox_run.specs.Slots.{request_at};
@@ -26,23 +29,21 @@ impl Hub {
         node: u64,
         number: u64,
         words: Payload,
-    ) -> Result<Reply, Failure>
-        ensures { Serves self.old (commands.SendCopy node number words) result self.new }
+    ) -> Result<ServiceReply, Failure>
+        ensures { Serves self.old (Port (port_commands.SendCopy node number words)) result self.new }
     {
         let place = self.owned(node, number)?;
         match &self.entries[place] {
-            Entry::Client { limit, .. } => {
+            SubjectSlots::Client { limit, .. } => {
                 let limit = *limit;
                 self.send_request(alloc, node, limit, words)
             }
-            Entry::ActiveRequest { limit, request, .. } => {
+            SubjectSlots::ActiveRequest { limit, request, .. } => {
                 let limit = *limit;
                 let request = *request;
                 self.send_response(limit, request, words)
             }
-            Entry::Server { .. } => Err(Failure::Refused(Refusal::WrongKind)),
-            Entry::PendingResponse { .. } => Err(Failure::Refused(Refusal::WrongKind)),
-            Entry::Response { .. } => Err(Failure::Refused(Refusal::WrongKind)),
+            _ => Err(Failure::from(ServiceRefusal::WrongKind)),
         }
     }
 
@@ -52,7 +53,7 @@ impl Hub {
         node: u64,
         limit: u64,
         words: Payload,
-    ) -> Result<Reply, Failure>
+    ) -> Result<ServiceReply, Failure>
         ensures { Sends self.old (Client node limit) words result self.new }
     {
         self.may_request(words.as_slice(), limit)?;
@@ -67,13 +68,13 @@ impl Hub {
         ensures refused { IfErr result (λ refusal. (node : ℕ) → sent (service_in self.now) (Client node limit) words.now ≡ Err refusal) }
     {
         if words.len() as u64 > limit {
-            return Err(Refusal::ExceedsMaxLoanSize);
+            return Err(Refusal::ByService(ServiceRefusal::ExceedsMaxLoanSize));
         }
         if self.pending_responses() >= MAX_ACTIVE_REQUESTS {
-            return Err(Refusal::ExceedsMaxActiveRequests);
+            return Err(Refusal::ByService(ServiceRefusal::ExceedsMaxActiveRequests));
         }
         if self.has_server() && self.waiting.is_full() {
-            return Err(Refusal::UnableToDeliver);
+            return Err(Refusal::ByService(ServiceRefusal::UnableToDeliver));
         }
         Ok(())
     }
@@ -87,7 +88,7 @@ impl Hub {
     ) -> Result<u64, AllocError>
         requires empty { responses ≡ empty_queue max_waiting_responses }
         requires room { HasRoomForRequest (service_in self.old) }
-        ensures number { IfOk result (λ number. number ≡ length (service_in self.old).things) }
+        ensures number { IfOk result (λ number. number ≡ length (service_in self.old).subjects) }
         ensures started { IfOk result (λ number. service_in self.new ≡ requested (service_in self.old) node number words) }
         ensures unchanged { OnErr result (service_in self.new ≡ service_in self.old) }
     {
@@ -102,7 +103,7 @@ impl Hub {
         if has_server {
             let _ = self.waiting.push(request);
         }
-        let handle = Entry::PendingResponse {
+        let handle = SubjectSlots::PendingResponse {
             node,
             request,
             waiting: responses,
@@ -111,16 +112,21 @@ impl Hub {
         Ok(number)
     }
 
-    fn send_response(&mut self, limit: u64, request: u64, words: Payload) -> Result<Reply, Failure>
+    fn send_response(
+        &mut self,
+        limit: u64,
+        request: u64,
+        words: Payload,
+    ) -> Result<ServiceReply, Failure>
         requires { request < length self.old.requests.items }
         ensures { (node : ℕ) → Sends self.old (ActiveRequest node limit (request_at self.old.requests.items request)) words result self.new }
     {
         if words.as_slice().len() as u64 > limit {
-            return Err(Failure::Refused(Refusal::ExceedsMaxLoanSize));
+            return Err(Failure::from(ServiceRefusal::ExceedsMaxLoanSize));
         }
         let pending = self.pending_of(request);
         if self.responses_waiting_for(pending) >= MAX_WAITING_RESPONSES {
-            return Err(Failure::Refused(Refusal::UnableToDeliver));
+            return Err(Failure::from(ServiceRefusal::UnableToDeliver));
         }
         self.deliver_response(pending, words)?;
         Ok(Reply::Done)

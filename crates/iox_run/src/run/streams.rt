@@ -67,12 +67,20 @@ pub(super) fn send<W: Write>(writer: &mut W, bytes: &[u8]) -> Result<(), Fault>
     Err(Fault::Write)
 }
 
+/// Flushes. A flush that a signal interrupted is tried again, as writes are.
 fn flush<W: Write>(writer: &mut W) -> Result<(), Fault>
     ensures bytes { Keeps (W.contents writer.old) (W.contents writer.new) }
     ensures fault { IfErr result (λ fault. fault ≡ Fault.Write) }
 {
-    match writer.flush() {
-        Ok(()) => Ok(()),
-        Err(_) => Err(Fault::Write),
+    'flushes: for _ in 0..u64::MAX {
+        match writer.flush() {
+            Ok(()) => return Ok(()),
+            Err(error) => {
+                if error.kind() != ErrorKind::Interrupted {
+                    return Err(Fault::Write);
+                }
+            }
+        }
     }
+    Err(Fault::Write)
 }

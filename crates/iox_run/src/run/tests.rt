@@ -124,6 +124,7 @@ impl<T: Write> Write for Interrupted<T> {
     }
 
     fn flush(&mut self) -> io::Result<()> {
+        self.turn()?;
         self.inner.flush()
     }
 }
@@ -233,6 +234,49 @@ fn a_line_of_more_than_65536_bytes_is_too_long(rt: HostRuntime) -> Result<(), Fa
         let text = b"bad line 1: too long\nok\nrefused NoService\n";
         assert_eq!(rt; found.as_slice(), text.as_slice(), "in pieces of {most}");
     }
+    Ok(())
+}
+
+/// A script whose client sends as many words as a line can have, and shows them.
+fn longest_request(alloc: Global) -> Result<Vec<u8>, AllocError> {
+    let mut script = Vec::from_slice(
+        alloc,
+        b"set request-overflow 0\nset response-overflow 0\ncreate 61 1 0 0 0\nclient 0 32761\nsend-copy 0 0",
+    )?;
+    for _ in 0..32_761 {
+        script.extend_from_slice(b" 7")?;
+    }
+    script.extend_from_slice(b"\nread 0 1\n")?;
+    Ok(script)
+}
+
+#[test]
+fn the_longest_request_is_shown_whole(rt: HostRuntime) -> Result<(), Fail> {
+    let alloc = rt.alloc();
+    let mut text = Vec::from_slice(alloc, b"ok\nok\nnode 0\nclient 0\nhandle 1\nwords")?;
+    for _ in 0..32_761 {
+        text.extend_from_slice(b" 7")?;
+    }
+    text.extend_from_slice(b"\n")?;
+    let found = answers(alloc, longest_request(alloc)?.as_slice(), 8192)?;
+    assert!(rt; found.as_slice() == text.as_slice());
+    Ok(())
+}
+
+#[test]
+fn the_longest_name_is_refused_for_its_length(rt: HostRuntime) -> Result<(), Fail> {
+    let alloc = rt.alloc();
+    let mut script = Vec::from_slice(
+        alloc,
+        b"set request-overflow 0\nset response-overflow 0\ncreate ",
+    )?;
+    for _ in 0..32_760 {
+        script.extend_from_slice(b"61")?;
+    }
+    script.extend_from_slice(b" 1 0 0 0\n")?;
+    let found = answers(alloc, script.as_slice(), 8192)?;
+    let text = b"ok\nok\nrefused ExceedsMaximumLength\n";
+    assert_eq!(rt; found.as_slice(), text.as_slice());
     Ok(())
 }
 

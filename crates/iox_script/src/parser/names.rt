@@ -2,7 +2,7 @@
 ghost use Rattle.std.specs.Prelude.{◌≡◌};
 ghost use Rattle.iox_script.specs.Names.{keyword_of, key_of};
 
-use crate::command::{Cause, Key, Keyword};
+use crate::command::{Key, Keyword, LineCause};
 
 /// The command of that name.
 pub(super) fn keyword(word: &[u8]) -> Option<Keyword>
@@ -30,7 +30,7 @@ pub(super) fn keyword(word: &[u8]) -> Option<Keyword>
 }
 
 /// The setting of that name.
-pub(super) fn key(word: &[u8]) -> Result<Key, Cause>
+pub(super) fn key(word: &[u8]) -> Result<Key, LineCause>
     ensures { result ≡ key_of word.now }
 {
     if word == b"request-overflow".as_slice() {
@@ -38,6 +38,6 @@ pub(super) fn key(word: &[u8]) -> Result<Key, Cause>
     } else if word == b"response-overflow".as_slice() {
         Ok(Key::ResponseOverflow)
     } else {
-        Err(Cause::BadText)
+        Err(LineCause::BadText)
     }
 }

@@ -2,17 +2,17 @@
 ghost use Rattle.std.specs.Prelude.{ℕ, ◌≡◌, ◌+◌, ◌-◌, ◌*◌, ◌^◌, ◌≤◌, ◌&&◌, nat_lt, if◌then◌else◌, IfOk};
 ghost use Rattle.iox_script.specs.Numerals.{is_digit, number_below, number_of, id_number_of};
 
-use crate::command::Cause;
+use crate::command::LineCause;
 
 /// A number of 64 bits.
-pub(super) fn number(word: &[u8]) -> Result<u64, Cause>
+pub(super) fn number(word: &[u8]) -> Result<u64, LineCause>
     ensures { result ≡ number_of word.now }
 {
     number_up_to(word, u64::MAX)
 }
 
 /// A number of 32 bits.
-pub(super) fn id_number(word: &[u8]) -> Result<u32, Cause>
+pub(super) fn id_number(word: &[u8]) -> Result<u32, LineCause>
     ensures { result ≡ id_number_of word.now }
 {
     let number = number_up_to(word, u64::from(u32::MAX))?;
@@ -20,16 +20,16 @@ pub(super) fn id_number(word: &[u8]) -> Result<u32, Cause>
 }
 
 /// A number that is not above `most`.
-pub(super) fn number_up_to(word: &[u8], most: u64) -> Result<u64, Cause>
+pub(super) fn number_up_to(word: &[u8], most: u64) -> Result<u64, LineCause>
     ensures value { result ≡ number_below (most + 1) word.now }
     ensures within { IfOk result (λ number. number ≤ most) }
 {
     if word.is_empty() {
-        return Err(Cause::BadNumber);
+        return Err(LineCause::BadNumber);
     }
     let mut number = 0;
     for byte in word {
-        number = with_digit(number, *byte, most).ok_or(Cause::BadNumber)?;
+        number = with_digit(number, *byte, most).ok_or(LineCause::BadNumber)?;
     }
     Ok(number)
 }

@@ -2,7 +2,7 @@
 ghost use Rattle.std.specs.Prelude.{◌≡◌, ◌≤◌, length, count_by};
 ghost use Rattle.iox_script.specs.Lines.{is_space, words_of};
 
-use crate::command::Cause;
+use crate::command::LineCause;
 use std::marker::Model;
 
 /// The words of a line that are not read yet.
@@ -23,7 +23,7 @@ impl<'a> Model for Words<'a> {
 
 impl<'a> Words<'a> {
     ghost use Rattle.std.specs.Prelude.{List, ℕ, [], ◌∷◌, MatchOption, IfOk, IfErr, OnOk};
-    ghost use Rattle.iox_script.specs.declared.command.Cause.TheVariants.{WrongCount};
+    ghost use Rattle.iox_script.specs.declared.command.LineCause.TheVariants.{WrongCount};
 
     /// The first word of a line, and the words behind it.
     pub(super) fn split(line: &'a [u8]) -> (&'a [u8], Words<'a>)
@@ -59,22 +59,22 @@ impl<'a> Words<'a> {
         Some(word)
     }
 
-    /// The next word of a command that goes on.
-    pub(super) fn take(&mut self) -> Result<&'a [u8], Cause>
+    /// The next word of a command that continues.
+    pub(super) fn take(&mut self) -> Result<&'a [u8], LineCause>
         ensures taken { IfOk result (λ word. self.old ≡ word.now ∷ self.new) }
         ensures missing { IfErr result (λ cause. (cause ≡ WrongCount) × (self.old ≡ [])) }
     {
-        self.next_word().ok_or(Cause::WrongCount)
+        self.next_word().ok_or(LineCause::WrongCount)
     }
 
     /// Whether a command with no more words ends here.
-    pub(super) fn finish(mut self) -> Result<(), Cause>
+    pub(super) fn finish(mut self) -> Result<(), LineCause>
         ensures ended { OnOk result (self.entry ≡ []) }
         ensures more { IfErr result (λ cause. (cause ≡ WrongCount)
             × ((word : List ℕ) × (words : List (List ℕ)) × (self.entry ≡ word ∷ words))) }
     {
         match self.next_word() {
-            Some(_) => Err(Cause::WrongCount),
+            Some(_) => Err(LineCause::WrongCount),
             None => Ok(()),
         }
     }

@@ -19,7 +19,7 @@ impl Model for BitSetMachine {
 
     ghost Value = { SitedBits };
 
-    ghost view = { λ m. record { site = m.site; world = m.machine } };
+    ghost view = { λ m. record { site = m.site; machine = m.machine } };
 
     ghost invariant = { λ m. BitsHoldAt m.site m.machine };
 }
@@ -31,7 +31,7 @@ impl BitSetMachine {
     ghost use Rattle.iox_set_steps.specs.BitPlays.{BitsHoldAt};
     ghost use Rattle.iox_set_steps.specs.BitMachines.{AllBitsEntered, AreClear, AreNewBits, BitsBegun, BitsStopAtStep};
     ghost use Rattle.iox_set_steps.specs.BitMachines.{BeginsBitCall, BitsStepped, IsBitBeginRefused};
-    ghost use Rattle.iox_set_steps.specs.BitMachines.{IsBitMoment, IsBitStepRefused, PlayBits, bits_answer, bits_begun, bits_stepped, new_bits, site_of};
+    ghost use Rattle.iox_set_steps.specs.BitMachines.{IsBitEvent, IsBitStepRefused, PlayBits, bits_answer, bits_begun, bits_stepped, new_bits, site_of};
     ghost use Rattle.iox_set_steps.specs.BitEntries.{bits_after};
     ghost use Rattle.iox_set_steps.specs.Sites.{StayAtSites};
 
@@ -60,7 +60,7 @@ impl BitSetMachine {
 
     /// The shared words.
     pub fn words(&self) -> &[u64]
-        ensures { result.now ≡ self.now.world.words }
+        ensures { result.now ≡ self.now.machine.words }
     {
         self.machine.words()
     }
@@ -74,14 +74,14 @@ impl BitSetMachine {
 
     /// What happened so far.
     pub fn events(&self) -> &[BitEvent]
-        ensures { result.now ≡ self.now.world.events }
+        ensures { result.now ≡ self.now.machine.events }
     {
         self.machine.events()
     }
 
-    /// What the words say, wherever the parties are.
+    /// What holds wherever the parties are in their calls.
     pub fn holds(&self)
-        ensures { BitsHoldAt self.now.site self.now.world }
+        ensures { BitsHoldAt self.now.site self.now.machine }
     {
         let _words = self.machine.words();
     }
@@ -90,8 +90,8 @@ impl BitSetMachine {
     pub fn begin(&mut self, party: usize, call: BitCall) -> Result<(), MachineError>
         ensures begins { OnOk result (BeginsBitCall self.old party call self.new) }
         ensures next { OnOk result (self.new ≡ bits_begun self.old party call) }
-        ensures begun { OnOk result (BitsBegun self.old.world party call self.new.world) }
-        ensures refused { IfErr result (IsBitBeginRefused self.old.world party call) }
+        ensures begun { OnOk result (BitsBegun self.old.machine party call self.new.machine) }
+        ensures refused { IfErr result (IsBitBeginRefused self.old.machine party call) }
         ensures unchanged { OnErr result (self.new ≡ self.old) }
     {
         self.machine.begin(party, call)
@@ -99,34 +99,34 @@ impl BitSetMachine {
 
     /// One access of the party's call.
     pub fn step(&mut self, party: usize) -> Result<Progress<BitReply>, MachineError>
-        ensures moment { IfOk result (λ answer. IsBitMoment self.old party answer self.new) }
+        ensures event { IfOk result (λ answer. IsBitEvent self.old party answer self.new) }
         ensures next { OnOk result (self.new ≡ bits_stepped self.old party) }
         ensures answer { IfOk result (λ answer. answer ≡ bits_answer self.old party) }
         ensures stepped { IfOk result (λ answer.
-            BitsStepped self.old.world party answer self.new.world) }
-        ensures refused { IfErr result (IsBitStepRefused self.old.world party) }
+            BitsStepped self.old.machine party answer self.new.machine) }
+        ensures refused { IfErr result (IsBitStepRefused self.old.machine party) }
         ensures unchanged { OnErr result (self.new ≡ self.old) }
     {
         self.machine.step(party)
     }
 
-    /// Plays a schedule to its end, or to the step that wants memory. Whatever the schedule, the
-    /// `set` calls that changed a bit are as many as the times it was cleared, and one more where it
-    /// is set. A schedule that is played to its end has one end.
+    /// Plays a schedule to its end, or to the step that finds no memory. As many `set` calls
+    /// changed a bit as times it was cleared, and one more where it is set. A schedule played to
+    /// its end has only one result.
     pub fn run(&mut self, schedule: &[Entry<BitCall>]) -> Result<(), MachineError>
-        ensures bits { (id : ℕ) → times_set id self.new.world.events
-            ≡ times_cleared id self.new.world.events + bit_now self.new.site self.new.world.words id }
+        ensures bits { (id : ℕ) → times_set id self.new.machine.events
+            ≡ times_cleared id self.new.machine.events + bit_now self.new.site self.new.machine.words id }
         ensures inside { (id : ℕ) → self.new.site.capacity ≤ id
-            → times_set id self.new.world.events ≡ 0 }
-        ensures holds { BitsHoldAt self.new.site self.new.world }
-        ensures moments { (count : ℕ) × PlayBits self.old (take count schedule.now) self.new }
-        ensures all_moments { OnOk result (PlayBits self.old schedule.now self.new) }
+            → times_set id self.new.machine.events ≡ 0 }
+        ensures holds { BitsHoldAt self.new.site self.new.machine }
+        ensures happened { (count : ℕ) × PlayBits self.old (take count schedule.now) self.new }
+        ensures all_events { OnOk result (PlayBits self.old schedule.now self.new) }
         ensures here { self.new.site ≡ self.old.site }
-        ensures sites { StayAtSites site_of self.old.world self.new.world }
+        ensures sites { StayAtSites site_of self.old.machine self.new.machine }
         ensures played { (count : ℕ)
-            × AllBitsEntered self.old.world (take count schedule.now) self.new.world }
-        ensures whole { OnOk result (AllBitsEntered self.old.world schedule.now self.new.world) }
-        ensures stopped { OnErr result (BitsStopAtStep self.old.world schedule.now self.new.world) }
+            × AllBitsEntered self.old.machine (take count schedule.now) self.new.machine }
+        ensures whole { OnOk result (AllBitsEntered self.old.machine schedule.now self.new.machine) }
+        ensures stopped { OnErr result (BitsStopAtStep self.old.machine schedule.now self.new.machine) }
         ensures after { OnOk result (self.new ≡ bits_after self.old schedule.now) }
         ensures refused { IfErr result (λ error. error ≡ MachineError.WantOfMemory) }
     {

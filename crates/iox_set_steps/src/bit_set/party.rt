@@ -5,7 +5,7 @@ ghost use Rattle.iox_set_steps.specs.BitLaws.{bits_stay_in, bits_keep, bits_star
 ghost use Rattle.iox_set_steps.specs.BitPrograms.{is_set as is_bit_set, lowest_in as lowest_bit_in, mask as mask_of};
 
 use super::{BitCall, BitEvent, BitProgram, BitReply, BitSite, WORD_BITS};
-use iox_steps::{Access, MachineError, Next, Party, Playable, Progress};
+use iox_steps::{Access, MachineError, MachineParty, Next, Party, Progress};
 
 /// A party at the bits of a site.
 #[derive(Clone, Copy)]
@@ -14,7 +14,7 @@ pub struct BitParty {
     pub program: BitProgram,
 }
 
-/// The word in which this bit alone is set.
+/// The word in which only this bit is set.
 #[inline]
 fn mask(id: usize) -> u64
     ensures { result ≡ mask_of id }
@@ -166,12 +166,12 @@ impl Party for BitParty {
     }
 }
 
-impl Playable for BitParty {
+impl MachineParty for BitParty {
     type Call = BitCall;
 
     type Event = BitEvent;
 
-    ghost Holds = { BitsHold };
+    ghost Invariant = { BitsHold };
 
     ghost at_rest = { bits_rest };
 

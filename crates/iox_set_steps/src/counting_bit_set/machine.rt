@@ -19,7 +19,7 @@ impl Model for CountingBitSetMachine {
 
     ghost Value = { SitedCounts };
 
-    ghost view = { λ m. record { site = m.site; world = m.machine } };
+    ghost view = { λ m. record { site = m.site; machine = m.machine } };
 
     ghost invariant = { λ m. CountsHoldAt m.site m.machine };
 }
@@ -29,7 +29,7 @@ impl CountingBitSetMachine {
     ghost use Rattle.iox_set_steps.specs.Counts.{count_now, taken_out, times_added};
     ghost use Rattle.iox_set_steps.specs.CountPlays.{CountsHoldAt};
     ghost use Rattle.iox_set_steps.specs.CountMachines.{AllCountsEntered, AreZero, AreNewCounts, BeginsCountCall, CountsBegun, CountsStepped, CountsStopAtStep};
-    ghost use Rattle.iox_set_steps.specs.CountMachines.{IsCountBeginRefused, IsCountMoment, IsCountStepRefused, PlayCounts, counts_answer, counts_begun, counts_stepped, count_site_of, new_counts};
+    ghost use Rattle.iox_set_steps.specs.CountMachines.{IsCountBeginRefused, IsCountEvent, IsCountStepRefused, PlayCounts, counts_answer, counts_begun, counts_stepped, count_site_of, new_counts};
     ghost use Rattle.iox_set_steps.specs.CountEntries.{counts_after};
     ghost use Rattle.iox_set_steps.specs.Sites.{StayAtSites};
 
@@ -58,7 +58,7 @@ impl CountingBitSetMachine {
 
     /// The shared words.
     pub fn words(&self) -> &[u64]
-        ensures { result.now ≡ self.now.world.words }
+        ensures { result.now ≡ self.now.machine.words }
     {
         self.machine.words()
     }
@@ -72,14 +72,14 @@ impl CountingBitSetMachine {
 
     /// What happened so far.
     pub fn events(&self) -> &[CountEvent]
-        ensures { result.now ≡ self.now.world.events }
+        ensures { result.now ≡ self.now.machine.events }
     {
         self.machine.events()
     }
 
-    /// What the words say, wherever the parties are.
+    /// What holds wherever the parties are in their calls.
     pub fn holds(&self)
-        ensures { CountsHoldAt self.now.site self.now.world }
+        ensures { CountsHoldAt self.now.site self.now.machine }
     {
         let _words = self.machine.words();
     }
@@ -88,8 +88,8 @@ impl CountingBitSetMachine {
     pub fn begin(&mut self, party: usize, call: CountCall) -> Result<(), MachineError>
         ensures begins { OnOk result (BeginsCountCall self.old party call self.new) }
         ensures next { OnOk result (self.new ≡ counts_begun self.old party call) }
-        ensures begun { OnOk result (CountsBegun self.old.world party call self.new.world) }
-        ensures refused { IfErr result (IsCountBeginRefused self.old.world party call) }
+        ensures begun { OnOk result (CountsBegun self.old.machine party call self.new.machine) }
+        ensures refused { IfErr result (IsCountBeginRefused self.old.machine party call) }
         ensures unchanged { OnErr result (self.new ≡ self.old) }
     {
         self.machine.begin(party, call)
@@ -97,35 +97,34 @@ impl CountingBitSetMachine {
 
     /// One access of the party's call.
     pub fn step(&mut self, party: usize) -> Result<Progress<CountReply>, MachineError>
-        ensures moment { IfOk result (λ answer. IsCountMoment self.old party answer self.new) }
+        ensures event { IfOk result (λ answer. IsCountEvent self.old party answer self.new) }
         ensures next { OnOk result (self.new ≡ counts_stepped self.old party) }
         ensures answer { IfOk result (λ answer. answer ≡ counts_answer self.old party) }
         ensures stepped { IfOk result (λ answer.
-            CountsStepped self.old.world party answer self.new.world) }
-        ensures refused { IfErr result (IsCountStepRefused self.old.world party) }
+            CountsStepped self.old.machine party answer self.new.machine) }
+        ensures refused { IfErr result (IsCountStepRefused self.old.machine party) }
         ensures unchanged { OnErr result (self.new ≡ self.old) }
     {
         self.machine.step(party)
     }
 
-    /// Plays a schedule to its end, or to the step that wants memory. Whatever the schedule, as
-    /// much was added to each count as was taken out and is there. A schedule that is played to its
-    /// end has one end.
+    /// Plays a schedule to its end, or to the step that finds no memory. As much was added to each
+    /// count as was taken out and is there now. A schedule played to its end has only one result.
     pub fn run(&mut self, schedule: &[Entry<CountCall>]) -> Result<(), MachineError>
-        ensures counts { (id : ℕ) → times_added id self.new.world.events
-            ≡ taken_out id self.new.world.events + count_now self.new.site self.new.world.words id }
+        ensures counts { (id : ℕ) → times_added id self.new.machine.events
+            ≡ taken_out id self.new.machine.events + count_now self.new.site self.new.machine.words id }
         ensures inside { (id : ℕ) → self.new.site.capacity ≤ id
-            → times_added id self.new.world.events ≡ 0 }
-        ensures holds { CountsHoldAt self.new.site self.new.world }
-        ensures moments { (count : ℕ) × PlayCounts self.old (take count schedule.now) self.new }
-        ensures all_moments { OnOk result (PlayCounts self.old schedule.now self.new) }
+            → times_added id self.new.machine.events ≡ 0 }
+        ensures holds { CountsHoldAt self.new.site self.new.machine }
+        ensures happened { (count : ℕ) × PlayCounts self.old (take count schedule.now) self.new }
+        ensures all_events { OnOk result (PlayCounts self.old schedule.now self.new) }
         ensures here { self.new.site ≡ self.old.site }
-        ensures sites { StayAtSites count_site_of self.old.world self.new.world }
+        ensures sites { StayAtSites count_site_of self.old.machine self.new.machine }
         ensures played { (count : ℕ)
-            × AllCountsEntered self.old.world (take count schedule.now) self.new.world }
-        ensures whole { OnOk result (AllCountsEntered self.old.world schedule.now self.new.world) }
+            × AllCountsEntered self.old.machine (take count schedule.now) self.new.machine }
+        ensures whole { OnOk result (AllCountsEntered self.old.machine schedule.now self.new.machine) }
         ensures stopped { OnErr result
-            (CountsStopAtStep self.old.world schedule.now self.new.world) }
+            (CountsStopAtStep self.old.machine schedule.now self.new.machine) }
         ensures after { OnOk result (self.new ≡ counts_after self.old schedule.now) }
         ensures refused { IfErr result (λ error. error ≡ MachineError.WantOfMemory) }
     {

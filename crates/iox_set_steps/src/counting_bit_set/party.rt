@@ -3,7 +3,7 @@ ghost use Rattle.iox_set_steps.specs.CountPlays.{counts_ask, counts_happen, coun
 ghost use Rattle.iox_set_steps.specs.CountLaws.{counts_stay_in, counts_keep, counts_start};
 
 use super::{CountCall, CountEvent, CountProgram, CountReply, CountSite};
-use iox_steps::{Access, MachineError, Next, Party, Playable, Progress};
+use iox_steps::{Access, MachineError, MachineParty, Next, Party, Progress};
 
 /// A party at the counts of a site.
 #[derive(Clone, Copy)]
@@ -16,7 +16,7 @@ impl CountProgram {
     ghost use Rattle.std.specs.Prelude.{◌≡◌};
     ghost use Rattle.iox_set_steps.specs.CountPrograms.{adds_to, count_access, count_event, count_next, count_start, taken_behind};
 
-    /// Goes on to add one to the count, unless it is the greatest.
+    /// Continues by adding one to the count, unless it is the greatest.
     #[inline]
     fn adds_to(id: usize, count: u64) -> Next<CountProgram, CountReply>
         ensures { result ≡ adds_to id count }
@@ -28,7 +28,7 @@ impl CountProgram {
         }
     }
 
-    /// Goes on to the count behind this one, if there is one.
+    /// Continues at the next count, if there is one.
     #[inline]
     fn taken_behind(site: CountSite, id: usize) -> Next<CountProgram, CountReply>
         ensures { result ≡ taken_behind site id }
@@ -131,12 +131,12 @@ impl Party for CountParty {
     }
 }
 
-impl Playable for CountParty {
+impl MachineParty for CountParty {
     type Call = CountCall;
 
     type Event = CountEvent;
 
-    ghost Holds = { CountsHold };
+    ghost Invariant = { CountsHold };
 
     ghost at_rest = { counts_rest };
 

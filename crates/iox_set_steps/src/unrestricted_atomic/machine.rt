@@ -7,7 +7,8 @@ use iox_steps::{Entry, Machine, MachineError, Progress};
 use std::alloc::{AllocError, Global};
 use std::marker::Model;
 
-/// A value of `N` words among shared words, and the parties that store and load it: party 0 alone stores.
+/// A value of `N` words among shared words, and the parties that store and load it: only party 0
+/// stores.
 #[derive(Drop)]
 pub struct AtomicMachine<const N: usize> {
     machine: Machine<AtomicParty<N>>,
@@ -15,9 +16,9 @@ pub struct AtomicMachine<const N: usize> {
 
 impl<const N: usize> Model for AtomicMachine<N> {
     ghost use Rattle.std.specs.Prelude.{◌^◌, ◌<◌};
-    ghost use Rattle.iox_set_steps.specs.AtomicPlays.{AtomicWorld};
+    ghost use Rattle.iox_set_steps.specs.AtomicPlays.{AtomicMachineState};
 
-    ghost Value = { AtomicWorld N };
+    ghost Value = { AtomicMachineState N };
 
     ghost view = { λ m. m.machine };
 
@@ -28,13 +29,13 @@ impl<const N: usize> AtomicMachine<N> {
     ghost use Rattle.std.specs.Prelude.{◌≡◌, ℕ, ◌+◌, ◌^◌, ◌<◌, ◌≤◌, length, take, IfOk, IfErr, OnOk, OnErr};
     ghost use Rattle.iox_set_steps.specs.AtomicPlays.{AtomicsHold};
     ghost use Rattle.iox_set_steps.specs.AtomicMachines.{AllAtomicsEntered, AtomicsBegun, AtomicsStepped, AtomicsStopAtStep, BeginsAtomicCall, IsAtomicBeginRefused};
-    ghost use Rattle.iox_set_steps.specs.AtomicMachines.{IsAtomicMoment, IsAtomicStepRefused, IsNewAtomic, MayCall, PlayAtomics, RunsOn, base_of};
+    ghost use Rattle.iox_set_steps.specs.AtomicMachines.{IsAtomicEvent, IsAtomicStepRefused, IsNewAtomic, MayCall, PlayAtomics, RunsOn, base_of};
     ghost use Rattle.iox_set_steps.specs.AtomicMachines.{atomics_answer, atomics_begun, atomics_stepped, new_atomics};
     ghost use Rattle.iox_set_steps.specs.AtomicEntries.{atomics_after};
     ghost use Rattle.iox_set_steps.specs.Sites.{StayAtSites};
 
-    /// A machine of this many parties at the value whose version stands at `base`, and behind it its two
-    /// cells: the value is the one that they have now.
+    /// A machine of this many parties at the value whose version stands at `base`, with its two
+    /// cells behind it. The value is the one that the words hold.
     pub fn new(
         alloc: Global,
         words: Vec<u64>,
@@ -44,7 +45,7 @@ impl<const N: usize> AtomicMachine<N> {
         requires small { N < 2 ^ 56 }
         requires room { base + 1 + N + N ≤ length words.items }
         ensures made { IfOk result (IsNewAtomic words.items base parties) }
-        ensures is { IfOk result (λ world. world ≡ new_atomics words.items base parties) }
+        ensures is { IfOk result (λ machine. machine ≡ new_atomics words.items base parties) }
     {
         let _version = words[base];
         let parties = parties_at(alloc, base, parties)?;
@@ -82,7 +83,7 @@ impl<const N: usize> AtomicMachine<N> {
 
     /// One access of the party's call.
     pub fn step(&mut self, party: usize) -> Result<Progress<AtomicReply<N>>, MachineError>
-        ensures moment { IfOk result (λ answer. IsAtomicMoment N self.old party answer self.new) }
+        ensures event { IfOk result (λ answer. IsAtomicEvent N self.old party answer self.new) }
         ensures next { OnOk result (self.new ≡ atomics_stepped self.old party) }
         ensures answer { IfOk result (λ answer. answer ≡ atomics_answer self.old party) }
         ensures stepped { IfOk result (λ answer. AtomicsStepped N self.old party answer self.new) }
@@ -93,13 +94,12 @@ impl<const N: usize> AtomicMachine<N> {
         self.machine.step(party)
     }
 
-    /// Plays a schedule to its end, or to the step that wants memory. Whatever the schedule, each load hands
-    /// out the value that is current at its last access. A schedule that is played to its end has one
-    /// end.
+    /// Plays a schedule to its end, or to the step that finds no memory. Each load hands out the
+    /// value that is current at its last access. A schedule played to its end has only one result.
     pub fn run(&mut self, schedule: &[Entry<AtomicCall<N>>]) -> Result<(), MachineError>
         ensures value { RunsOn N self.old self.new }
-        ensures moments { (count : ℕ) × PlayAtomics N self.old (take count schedule.now) self.new }
-        ensures all_moments { OnOk result (PlayAtomics N self.old schedule.now self.new) }
+        ensures happened { (count : ℕ) × PlayAtomics N self.old (take count schedule.now) self.new }
+        ensures all_events { OnOk result (PlayAtomics N self.old schedule.now self.new) }
         ensures holds { AtomicsHold N self.new }
         ensures sites { StayAtSites base_of self.old self.new }
         ensures played { (count : ℕ) × AllAtomicsEntered N self.old (take count schedule.now) self.new }
@@ -112,7 +112,7 @@ impl<const N: usize> AtomicMachine<N> {
         self.machine.run(schedule)
     }
 
-    /// What the words say, wherever the parties are.
+    /// What holds wherever the parties are in their calls.
     pub(crate) fn holds(&self)
         ensures { AtomicsHold N self.now }
     {

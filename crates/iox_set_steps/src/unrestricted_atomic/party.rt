@@ -7,7 +7,7 @@ ghost use Rattle.iox_set_steps.specs.AtomicBegins.{atomics_start};
 ghost use Rattle.iox_set_steps.specs.AtomicPrograms.{word_in, word_place};
 
 use super::{AtomicCall, AtomicEvent, AtomicProgram, AtomicReply};
-use iox_steps::{Access, MachineError, Next, Party, Playable, Progress};
+use iox_steps::{Access, MachineError, MachineParty, Next, Party, Progress};
 use std::alloc::{AllocError, Global};
 
 /// A party at the value whose version stands at `base`, and behind it the two cells of its words.
@@ -177,12 +177,12 @@ impl<const N: usize> Party for AtomicParty<N> {
     }
 }
 
-impl<const N: usize> Playable for AtomicParty<N> {
+impl<const N: usize> MachineParty for AtomicParty<N> {
     type Call = AtomicCall<N>;
 
     type Event = AtomicEvent<N>;
 
-    ghost Holds = { AtomicsHold N };
+    ghost Invariant = { AtomicsHold N };
 
     ghost at_rest = { atomics_rest };
 
@@ -220,7 +220,7 @@ impl<const N: usize> Playable for AtomicParty<N> {
     ghost starts = { atomics_start N };
 }
 
-/// Parties at a value, all at rest, of which the first alone stores.
+/// Parties at a value, all at rest, of which only the first stores.
 pub(crate) fn parties_at<const N: usize>(
     alloc: Global,
     base: usize,

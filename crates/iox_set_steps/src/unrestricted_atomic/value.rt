@@ -3,7 +3,7 @@
 /// What a party can be asked to do.
 #[derive(Clone, Copy)]
 pub enum ValueCall<T> {
-    /// stores a value; party 0 alone does
+    /// stores a value; only party 0 does
     Store(T),
     Load,
 }

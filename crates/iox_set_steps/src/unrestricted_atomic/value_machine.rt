@@ -9,7 +9,7 @@ use iox_words::Words;
 use std::alloc::{AllocError, Global};
 use std::marker::Model;
 
-/// A value among shared words, and the parties that store and load it: party 0 alone stores. `N` is
+/// A value among shared words, and the parties that store and load it: only party 0 stores. `N` is
 /// how many words a value has.
 #[derive(Drop)]
 pub struct ValueMachine<T: Words, const N: usize> {
@@ -20,10 +20,10 @@ pub struct ValueMachine<T: Words, const N: usize> {
 }
 
 impl<T: Words, const N: usize> Model for ValueMachine<T, N> {
-    ghost use Rattle.iox_set_steps.specs.TypedValues.{ValueWorld};
+    ghost use Rattle.iox_set_steps.specs.TypedValues.{ValueMachineState};
     ghost use Rattle.iox_set_steps.specs.TypedWords.{AreOfType, shown};
 
-    ghost Value = { ValueWorld T N };
+    ghost Value = { ValueMachineState T N };
 
     ghost view = { λ m. shown T.of_words m.first m.base m.machine };
 
@@ -34,7 +34,7 @@ impl<T: Words, const N: usize> ValueMachine<T, N> {
     ghost use Rattle.std.specs.Prelude.{◌≡◌, ℕ, ◌+◌, ◌^◌, ◌<◌, ◌≤◌, [], ◌∷◌, Err, IfErr, IfOk, OnErr, OnOk, length, slice_get, take};
     ghost use Rattle.iox_steps.specs.declared.error.MachineError.TheVariants.{UnknownParty, WantOfMemory};
     ghost use Rattle.iox_set_steps.specs.AtomicMachines.{IsAtomicStepRefused, new_atomics};
-    ghost use Rattle.iox_set_steps.specs.TypedValues.{AllTypedEntered, BeginsValueCall, IsTypedBeginRefused, IsTypedMoment, LoadsCurrent, MayCallTyped, PlayValues};
+    ghost use Rattle.iox_set_steps.specs.TypedValues.{AllTypedEntered, BeginsValueCall, IsTypedBeginRefused, IsTypedEvent, LoadsCurrent, MayCallTyped, PlayValues};
     ghost use Rattle.iox_set_steps.specs.TypedValues.{IsTypedStepUnderWay, TypedBegun, TypedEntered, TypedRunsOn, TypedStepped, TypedStopsAtStep};
     ghost use Rattle.iox_set_steps.specs.AtomicEntries.{plays_after};
     ghost use Rattle.iox_set_steps.specs.TypedWords.{IsNewValue, laid_words};
@@ -100,8 +100,8 @@ impl<T: Words, const N: usize> ValueMachine<T, N> {
 
     /// One access of the party's call.
     pub fn step(&mut self, party: usize) -> Result<Progress<ValueReply<T>>, MachineError>
-        ensures moment { IfOk result (λ answer.
-            IsTypedMoment T.words T.is_value self.old party answer self.new) }
+        ensures event { IfOk result (λ answer.
+            IsTypedEvent T.words T.is_value self.old party answer self.new) }
         ensures loaded { IfOk result (LoadsCurrent self.old) }
         ensures stepped { IfOk result (λ answer. TypedStepped T.words self.old party answer self.new) }
         ensures refused { IfErr result (IsAtomicStepRefused N self.old.plays party) }
@@ -112,14 +112,13 @@ impl<T: Words, const N: usize> ValueMachine<T, N> {
         Ok(answer_of(answer, self.first))
     }
 
-    /// Plays a schedule to its end, or to the step that wants memory. Whatever the schedule, each
-    /// load hands out the value that is current at its last access. A schedule that is played to its
-    /// end has one end.
+    /// Plays a schedule to its end, or to the step that finds no memory. Each load hands out the
+    /// value that is current at its last access. A schedule played to its end has only one result.
     pub fn run(&mut self, schedule: &[Entry<ValueCall<T>>]) -> Result<(), MachineError>
         ensures value { TypedRunsOn self.old self.new }
-        ensures moments { (count : ℕ)
+        ensures happened { (count : ℕ)
             × PlayValues T.words T.is_value self.old (take count schedule.now) self.new }
-        ensures all_moments { OnOk result
+        ensures all_events { OnOk result
             (PlayValues T.words T.is_value self.old schedule.now self.new) }
         ensures played { (count : ℕ) × AllTypedEntered T.words self.old (take count schedule.now) self.new }
         ensures whole { OnOk result (AllTypedEntered T.words self.old schedule.now self.new) }
@@ -136,7 +135,7 @@ impl<T: Words, const N: usize> ValueMachine<T, N> {
     /// One entry of a schedule.
     fn enter(&mut self, entry: Entry<ValueCall<T>>) -> Result<(), MachineError>
         ensures value { TypedRunsOn self.old self.new }
-        ensures moments { OnOk result
+        ensures happened { OnOk result
             (PlayValues T.words T.is_value self.old (entry ∷ []) self.new) }
         ensures entered { OnOk result (TypedEntered T.words self.old entry self.new) }
         ensures refused { IfErr result (λ error. error ≡ WantOfMemory) }

@@ -9,8 +9,6 @@ use std::alloc::{AllocError, Global};
 use std::marker::Model;
 
 mod fixed_size;
-#[cfg(test)]
-mod tests;
 
 /// A set of `capacity` bits. It takes memory when it is made, and never again.
 #[derive(Debug, Drop)]

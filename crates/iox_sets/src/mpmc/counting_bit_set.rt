@@ -12,8 +12,6 @@ use std::marker::Model;
 
 mod bit_state;
 mod fixed_size;
-#[cfg(test)]
-mod tests;
 
 /// A set of `capacity` counted bits. It takes memory when it is made, and never again.
 #[derive(Debug, Drop)]

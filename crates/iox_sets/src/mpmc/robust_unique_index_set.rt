@@ -1,9 +1,10 @@
 //! A set of indices that keeps the owner of each, so that what an owner holds can be recovered.
-ghost use Rattle.std.specs.Prelude.{◌≡◌, ◌<◌, ◌+◌, IfErr, IfOk, IsSome, IsTrue, None, OnErr, OnOk, Some, false, length, replicate, true};
+ghost use Rattle.std.specs.Prelude.{◌≡◌, ◌<◌, ◌+◌, IfErr, IfOk, IfSome, IsSome, IsTrue, None, OnErr, OnOk, Some, false, length, replicate, true};
 ghost use Rattle.iox_sets.specs.declared.mpmc.unique_index_set_enums.UniqueIndexSetNewError.TheVariants.{WantOfMemory};
 ghost use Rattle.iox_sets.specs.Refusals.{IsRefusal};
 ghost use Rattle.iox_sets.specs.IndexSets.{capacity_refusal, is_locked, state_after};
-ghost use Rattle.iox_sets.specs.OwnedIndices.{FindsFrom, Recovers, TakesFor, acquire_refusal, held_count, is_owned_by};
+ghost use Rattle.iox_sets.specs.OwnedIndices.{FindsFrom, IsAccepted, KeepsOthers, KeepsRefused, Recovers, TakesFor};
+ghost use Rattle.iox_sets.specs.OwnedIndices.{acquire_refusal, held_count, is_owned_by};
 ghost use Rattle.iox_sets.specs.OwnedIndices.{new_owned_indices, owner_of, state_after_recovery, with_owner};
 
 use crate::mpmc::bit_set::BitSet;
@@ -18,8 +19,6 @@ use std::marker::Model;
 
 mod fixed_size;
 mod owner_id;
-#[cfg(test)]
-mod tests;
 
 /// A set of the indices below `capacity`, each free or held by an owner. It takes memory when it is
 /// made, and never again.
@@ -99,6 +98,9 @@ impl RobustUniqueIndexSet {
     #[inline]
     pub fn acquire(&mut self, owner: OwnerId) -> Result<u32, UniqueIndexSetAcquireFailure>
         ensures acquired { IfOk result (λ index. TakesFor owner self.old index self.new) }
+        ensures was_free { IfOk result (λ index. owner_of self.old index ≡ None) }
+        ensures within { IfOk result (λ index. index < length self.new.owners) }
+        ensures capacity { length self.new.owners ≡ length self.old.owners }
         ensures refused { IfErr result (λ failure. acquire_refusal self.old ≡ Some failure) }
         ensures unchanged { OnErr result (self.new ≡ self.old) }
     {
@@ -116,7 +118,9 @@ impl RobustUniqueIndexSet {
     /// The lowest held index whose owner `f` accepts. It is asked about the owners of lower ones first.
     pub fn find<F: FnMut(OwnerId) -> bool>(&self, mut f: F) -> Option<u32>
         requires { F.IsAlwaysCallable f }
-        ensures { FindsFrom F.step f 0 self.now.owners result }
+        ensures found { FindsFrom F.step f 0 self.now.owners result }
+        ensures held { IfSome result (λ index. IsSome (owner_of self.now index)) }
+        ensures accepted { IfSome result (λ index. IsAccepted F.step self.now index) }
     {
         let mut next = 0;
         while next < self.capacity() {
@@ -137,6 +141,7 @@ impl RobustUniqueIndexSet {
     pub fn release(&mut self, index: u32, mode: ReleaseMode) -> ReleaseState
         requires { IsSome (owner_of self.old index) }
         ensures owners { self.new.owners ≡ (with_owner self.old index None).owners }
+        ensures capacity { length self.new.owners ≡ length self.old.owners }
         ensures locked { self.new.locked ≡ is_locked result }
         ensures state { result ≡ state_after mode (held_count self.new) }
         ensures unlocked { self.old.locked ≡ false }
@@ -154,6 +159,9 @@ impl RobustUniqueIndexSet {
     ) -> ReleaseState
         requires { F.IsAlwaysCallable f }
         ensures owners { Recovers F.step f owner self.old self.new }
+        ensures kept { KeepsRefused F.step owner self.new }
+        ensures others { KeepsOthers owner self.old self.new }
+        ensures capacity { length self.new.owners ≡ length self.old.owners }
         ensures locked { self.new.locked ≡ is_locked result }
         ensures state { result ≡ state_after_recovery mode self.old (held_count self.new) }
     {

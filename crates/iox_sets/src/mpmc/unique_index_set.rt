@@ -18,8 +18,6 @@ pub use unique_index::UniqueIndex;
 mod fixed_size;
 mod fixed_size_unique_index;
 mod head_details;
-#[cfg(test)]
-mod tests;
 mod unique_index;
 
 /// The greatest capacity of a set of indices.

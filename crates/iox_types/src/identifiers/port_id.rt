@@ -7,7 +7,7 @@ use iox_words::Words;
 use std::fmt;
 use std::marker::{Model, PhantomData};
 
-/// The identifier of something of a kind, such as a client.
+/// The identifier of a port or other item of a kind, such as a client.
 #[derive_where(Clone, Copy, Debug, PartialEq, Eq, PartialOrd, Ord, Hash)]
 pub struct UniqueId<Kind> {
     id: UniqueSystemId,

@@ -4,14 +4,14 @@ ghost use Rattle.std.specs.Prelude.{◌≡◌, Some};
 use iox_words::Words;
 use std::{fmt, str};
 
-/// When something was made.
+/// The time at which an item was made.
 #[derive(Clone, Copy, Debug, PartialEq, Eq, PartialOrd, Ord, Hash)]
 pub struct Time {
     pub seconds: u32,
     pub nanoseconds: u32,
 }
 
-/// Who made something, and when: the process number, the time, and how many it made before.
+/// Who made an item, and when: the process number, the time, and how many it made before.
 ///
 /// Identifiers are ordered by these four numbers, the process number first.
 #[derive(Clone, Copy, Debug, PartialEq, Eq, PartialOrd, Ord, Hash)]

@@ -1,7 +1,7 @@
-//! What an entry of a container is told by.
+//! The handle that names an entry of a container.
 ghost use Rattle.std.specs.Prelude.{◌≡◌};
 
-/// Tells an entry of a container. No container gives a handle twice.
+/// Names an entry of a container. No container gives a handle twice.
 #[derive(Clone, Copy, Debug, PartialEq, Eq)]
 pub struct ContainerHandle {
     pub(crate) container_id: u64,

@@ -9,8 +9,8 @@ use std::fmt;
 /// Why nothing is added.
 #[derive(Clone, Copy, Debug, PartialEq, Eq)]
 pub enum ContainerAddFailure {
-    /// Each slot has an entry: remove one first. A container that has given 2^64 - 1 handles has no
-    /// more of them, and is full for good.
+    /// Each slot has an entry: remove one first. A container that gave 2^64 - 1 handles gives no
+    /// more, and is full for good.
     OutOfSpace,
     /// The container was locked as its last entry went, and stays so.
     IsLocked,

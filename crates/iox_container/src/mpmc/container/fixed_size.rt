@@ -1,12 +1,12 @@
 //! The container whose capacity is known when the program is built.
-ghost use Rattle.std.specs.Prelude.{◌≡◌, ◌≢◌, ◌↔◌, IfErr, IfOk, IsSome, IsTrue, None, OnErr, OnOk, Some, length};
+ghost use Rattle.std.specs.Prelude.{◌≡◌, ◌≢◌, ◌<◌, ◌↔◌, IfErr, IfOk, IfSome, IsSome, IsTrue, None, OnErr, OnOk, Some, length};
 ghost use Rattle.std.specs.Bool.{OnFalse, OnTrue};
 ghost use Rattle.iox_sets.specs.declared.mpmc.unique_index_set_enums.UniqueIndexSetNewError.TheVariants.{WantOfMemory};
 ghost use Rattle.iox_sets.specs.Refusals.{IsRefusal};
 ghost use Rattle.iox_sets.specs.IndexSets.{capacity_refusal};
-ghost use Rattle.iox_container.specs.Containers.{Adds, add_refusal, count, entries, entry_of, new_contents};
-ghost use Rattle.iox_container.specs.Handles.{KeepsOrLoses};
-ghost use Rattle.iox_container.specs.Leaving.{Finds, Frees, Recovers};
+ghost use Rattle.iox_container.specs.Containers.{Adds, add_refusal, count, entries, entry_for, entry_of, new_contents};
+ghost use Rattle.iox_container.specs.Handles.{Inserts, KeepsOrLoses, Removes};
+ghost use Rattle.iox_container.specs.Leaving.{Finds, Frees, IsAccepted, KeepsOthers, KeepsRefused, Recovers};
 ghost use Rattle.iox_container.specs.States.{IsStateOf, state_of};
 
 use super::{
@@ -25,11 +25,14 @@ pub struct FixedSizeContainer<T: Words, const CAPACITY: usize> {
 }
 
 impl<T: Words, const CAPACITY: usize> Model for FixedSizeContainer<T, CAPACITY> {
+    ghost use Rattle.std.specs.Prelude.{◌≡◌, length};
     ghost use Rattle.iox_container.specs.Containers.{Contents};
 
     ghost Value = { Contents T };
 
     ghost view = { λ c. c.container };
+
+    ghost invariant = { λ c. length c.container.slots ≡ CAPACITY };
 }
 
 impl<T: Words, const CAPACITY: usize> FixedSizeContainer<T, CAPACITY> {
@@ -43,11 +46,12 @@ impl<T: Words, const CAPACITY: usize> FixedSizeContainer<T, CAPACITY> {
         Ok(FixedSizeContainer { container })
     }
 
-    /// How many slots there are.
+    /// How many slots there are, which is `CAPACITY`.
     #[inline]
     pub fn capacity(&self) -> usize
         ensures capacity { result ≡ length self.now.slots }
         ensures allowed { capacity_refusal result ≡ None }
+        ensures fixed { result ≡ CAPACITY }
     {
         self.container.capacity()
     }
@@ -80,6 +84,12 @@ impl<T: Words, const CAPACITY: usize> FixedSizeContainer<T, CAPACITY> {
     /// Adds a value for an owner, in the lowest free slot.
     pub fn add(&mut self, value: T, owner: OwnerId) -> Result<ContainerHandle, ContainerAddFailure>
         ensures added { IfOk result (λ handle. Adds value owner self.old handle self.new) }
+        // A container is a finite map from handles, and this puts an entry into it.
+        ensures inserted { IfOk result (λ handle. Inserts handle (entry_for value owner handle.ticket) self.old self.new) }
+        ensures has { IfOk result (λ handle. IsSome (entry_of self.new handle)) }
+        ensures within { IfOk result (λ handle. handle.index < length self.new.slots) }
+        ensures fits { IfOk result (λ handle. handle.index < CAPACITY) }
+        ensures capacity { length self.new.slots ≡ length self.old.slots }
         ensures handles { KeepsOrLoses self.old self.new }
         ensures refused { IfErr result (λ failure. add_refusal self.old ≡ Some failure) }
         ensures unchanged { OnErr result (self.new ≡ self.old) }
@@ -90,7 +100,9 @@ impl<T: Words, const CAPACITY: usize> FixedSizeContainer<T, CAPACITY> {
     /// The handle of the first entry in slot order whose value and handle `f` accepts.
     pub fn find<F: FnMut(T, ContainerHandle) -> bool>(&self, f: F) -> Option<ContainerHandle>
         requires { F.IsAlwaysCallable f }
-        ensures { Finds F.step f (entries self.now) result }
+        ensures found { Finds F.step f (entries self.now) result }
+        ensures has { IfSome result (λ handle. IsSome (entry_of self.now handle)) }
+        ensures accepted { IfSome result (λ handle. IsAccepted F.step self.now handle) }
     {
         self.container.find(f)
     }
@@ -103,6 +115,8 @@ impl<T: Words, const CAPACITY: usize> FixedSizeContainer<T, CAPACITY> {
     ) -> Result<ReleaseState, ContainerRemoveError>
         ensures removed { IfOk result (λ state. Frees handle.index mode self.old state self.new) }
         ensures had { OnOk result (IsSome (entry_of self.old handle)) }
+        ensures gone { OnOk result (Removes handle self.old self.new) }
+        ensures capacity { length self.new.slots ≡ length self.old.slots }
         ensures handles { KeepsOrLoses self.old self.new }
         ensures refused { OnErr result (entry_of self.old handle ≡ None) }
         ensures unchanged { OnErr result (self.new ≡ self.old) }
@@ -119,6 +133,9 @@ impl<T: Words, const CAPACITY: usize> FixedSizeContainer<T, CAPACITY> {
     ) -> ReleaseState
         requires { F.IsAlwaysCallable f }
         ensures recovered { Recovers F.step f owner mode self.old result self.new }
+        ensures kept { KeepsRefused F.step owner self.new }
+        ensures others { KeepsOthers owner self.old self.new }
+        ensures capacity { length self.new.slots ≡ length self.old.slots }
         ensures handles { KeepsOrLoses self.old self.new }
     {
         self.container.recover(owner, f, mode)

@@ -1,16 +1,15 @@
 //! The place of the party that pops as the definitions have it, and back.
 ghost use Rattle.std.specs.Prelude.{◌≡◌};
-ghost use Rattle.iox_steps.specs.Seats.{popping_access, popping_after, popping_progress, popping_moment};
 
 use super::{PopAt, StoredPopper};
-use iox_steps::{Access, EmptyLook, Moment, Pop, Popping, Progress, Reply};
+use iox_steps::{EmptyLook, Pop, Popping, Site};
 
 impl StoredPopper {
-    ghost use Rattle.std.specs.Prelude.{◌≡◌};
-    ghost use Rattle.iox_steps.specs.Seats.{popping_access, popping_after, popping_progress, popping_moment};
+    ghost use Rattle.std.specs.Prelude.{◌≡◌, ◌+◌, ◌^◌, ◌<◌};
+    ghost use Rattle.iox_steps.specs.Sites.{size};
 
     /// Where it is.
-    fn place(&self) -> Popping
+    pub(crate) fn place(&self) -> Popping
         ensures { result ≡ self.now.place }
     {
         match self.at {
@@ -25,7 +24,7 @@ impl StoredPopper {
     }
 
     /// Goes to this place.
-    fn put(&mut self, place: Popping)
+    pub(crate) fn put(&mut self, place: Popping)
         ensures { self.new ≡ record { site = self.old.site; place = place } }
     {
         match place {
@@ -53,31 +52,11 @@ impl StoredPopper {
         }
     }
 
-    /// The access that it makes next.
-    pub(crate) fn access(&self) -> Access
-        ensures { result ≡ popping_access self.now.site self.now.place }
+    /// The queue that it is a party of, which is in memory.
+    pub(crate) fn site(&self) -> Site
+        ensures site { result ≡ self.now.site }
+        ensures memory { result.base + size result < 2 ^ 64 }
     {
-        self.place().access(self.site)
-    }
-
-    /// Goes on after an access that found `seen`.
-    pub(crate) fn advance(&mut self, seen: u64) -> Progress<Reply>
-        ensures leads { self.new ≡ record {
-          site = self.old.site;
-          place = popping_after self.old.site self.old.place seen;
-        } }
-        ensures answer { result ≡ popping_progress self.old.site self.old.place seen }
-    {
-        let mut place = self.place();
-        let answer = place.advance(self.site, seen);
-        self.put(place);
-        answer
-    }
-
-    /// What an access that found `seen` does to the queue, or sees there.
-    pub(crate) fn moment(&self, seen: u64) -> Moment
-        ensures { result ≡ popping_moment self.now.site self.now.place seen }
-    {
-        self.place().moment(self.site, seen)
+        self.site
     }
 }

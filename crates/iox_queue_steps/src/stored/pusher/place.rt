@@ -1,16 +1,15 @@
 //! The place of the party that pushes as the definitions have it, and back.
 ghost use Rattle.std.specs.Prelude.{◌≡◌};
-ghost use Rattle.iox_steps.specs.Seats.{pushing_access, pushing_after, pushing_progress, pushing_moment};
 
 use super::{PushAt, StoredPusher};
-use iox_steps::{Access, FullLook, Moment, Progress, Push, Pushing, Reply};
+use iox_steps::{FullLook, Push, Pushing, Site};
 
 impl StoredPusher {
-    ghost use Rattle.std.specs.Prelude.{◌≡◌};
-    ghost use Rattle.iox_steps.specs.Seats.{pushing_access, pushing_after, pushing_progress, pushing_moment};
+    ghost use Rattle.std.specs.Prelude.{◌≡◌, ◌+◌, ◌^◌, ◌<◌};
+    ghost use Rattle.iox_steps.specs.Sites.{size};
 
     /// Where it is.
-    fn place(&self) -> Pushing
+    pub(crate) fn place(&self) -> Pushing
         ensures { result ≡ self.now.place }
     {
         let full = if self.full { Some(self.read) } else { None };
@@ -32,7 +31,7 @@ impl StoredPusher {
     }
 
     /// Goes to this place.
-    fn put(&mut self, place: Pushing)
+    pub(crate) fn put(&mut self, place: Pushing)
         ensures { self.new ≡ record { site = self.old.site; place = place } }
     {
         match place {
@@ -77,31 +76,11 @@ impl StoredPusher {
         }
     }
 
-    /// The access that it makes next.
-    pub(crate) fn access(&self) -> Access
-        ensures { result ≡ pushing_access self.now.site self.now.place }
+    /// The queue that it is a party of, which is in memory.
+    pub(crate) fn site(&self) -> Site
+        ensures site { result ≡ self.now.site }
+        ensures memory { result.base + size result < 2 ^ 64 }
     {
-        self.place().access(self.site)
-    }
-
-    /// Goes on after an access that found `seen`.
-    pub(crate) fn advance(&mut self, seen: u64) -> Progress<Reply>
-        ensures leads { self.new ≡ record {
-          site = self.old.site;
-          place = pushing_after self.old.site self.old.place seen;
-        } }
-        ensures answer { result ≡ pushing_progress self.old.site self.old.place seen }
-    {
-        let mut place = self.place();
-        let answer = place.advance(self.site, seen);
-        self.put(place);
-        answer
-    }
-
-    /// What an access that found `seen` does to the queue, or sees there.
-    pub(crate) fn moment(&self, seen: u64) -> Moment
-        ensures { result ≡ pushing_moment self.now.site self.now.place seen }
-    {
-        self.place().moment(self.site, seen)
+        self.site
     }
 }

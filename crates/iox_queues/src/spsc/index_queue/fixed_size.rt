@@ -9,7 +9,7 @@ use std::marker::Model;
 
 mod guards;
 
-/// An [`IndexQueue`] of at most `CAPACITY` numbers, which its type tells. Its calls are the same.
+/// An [`IndexQueue`] of at most `CAPACITY` numbers, as its type says. Its calls are the same.
 #[derive(Debug, Drop)]
 pub struct FixedSizeIndexQueue<const CAPACITY: usize> {
     queue: IndexQueue,
@@ -37,7 +37,7 @@ impl<const CAPACITY: usize> FixedSizeIndexQueue<CAPACITY> {
 
     /// Adds a number behind the others, and says whether there was room.
     ///
-    /// Room lacks when the queue is full. It also lacks, for good, once 2^64 - 1 numbers were pushed.
+    /// There is no room when the queue is full, and never again once 2^64 - 1 numbers were pushed.
     #[inline]
     pub fn push(&mut self, value: u64) -> bool
         ensures room { IsTrue result ↔ HasRoom self.old }
@@ -83,7 +83,7 @@ impl<const CAPACITY: usize> FixedSizeIndexQueue<CAPACITY> {
         self.queue.is_empty()
     }
 
-    /// Whether as many numbers wait as may, so that a push would find no room.
+    /// Whether the queue is full, so that a push would find no room.
     #[inline]
     pub fn is_full(&self) -> bool
         ensures full { IsTrue result ↔ (length self.now.waiting ≡ self.now.capacity) }

@@ -9,8 +9,8 @@ use std::marker::Model;
 
 mod guards;
 
-/// A [`SafelyOverflowingIndexQueue`] of at most `CAPACITY` numbers, which its type tells. Its calls
-/// are the same.
+/// A [`SafelyOverflowingIndexQueue`] of at most `CAPACITY` numbers, as its type says. Its calls are
+/// the same.
 #[derive(Debug, Drop)]
 pub struct FixedSizeSafelyOverflowingIndexQueue<const CAPACITY: usize> {
     queue: SafelyOverflowingIndexQueue,
@@ -41,7 +41,8 @@ impl<const CAPACITY: usize> FixedSizeSafelyOverflowingIndexQueue<CAPACITY> {
     /// Adds a number behind the others. Where the queue is full, the oldest makes room and is
     /// handed back.
     ///
-    /// Once 2^64 - 1 numbers were pushed, no more is: the number itself is handed back.
+    /// Once 2^64 - 1 numbers were pushed, no further one is pushed: the number itself is handed
+    /// back.
     #[inline]
     pub fn push(&mut self, value: u64) -> Option<u64>
         ensures handed_back { result ≡ handed_back self.old value }
@@ -87,7 +88,7 @@ impl<const CAPACITY: usize> FixedSizeSafelyOverflowingIndexQueue<CAPACITY> {
         self.queue.is_empty()
     }
 
-    /// Whether as many numbers wait as may, so that the next push finds no free place.
+    /// Whether the queue is full, so that the next push finds no free cell.
     #[inline]
     pub fn is_full(&self) -> bool
         ensures full { IsTrue result ↔ (length self.now.waiting ≡ self.now.capacity) }

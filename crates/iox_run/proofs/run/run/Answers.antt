@@ -27,7 +27,7 @@ finish-requires g c = count_fits _ _ _ _ _ 1 _ c.reads.invariant.1 (omega arith)
 pub returns-then-n-eq0-clause-text : goal.returns-then-n-eq0-clause-text
 returns-then-n-eq0-clause-text g c =
     let came = rw c.if-n-eq0.true at c.in_ok-n.ensures.bytes in
-    Plays-finished _ _ _ _ _ _ _ _ c.finish.result c.reads.invariant.1 came c.finish.ensures
+    Plays-finished _ _ _ _ _ _ _ _ c.finish.result c.reads.invariant.1 came (c.in_ok-n.ensures.end c.if-n-eq0.true) c.finish.ensures
 
 pub returns-then-n-eq0-clause-ended : goal.returns-then-n-eq0-clause-ended
 returns-then-n-eq0-clause-ended g c = OnOk-from c.finish.result _ (c.in_ok-n.ensures.end c.if-n-eq0.true)

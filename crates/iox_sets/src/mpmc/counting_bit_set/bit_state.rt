@@ -1,4 +1,4 @@
-//! What a counting set tells of a bit.
+//! What a counting set answers of a bit.
 ghost use Rattle.std.specs.Prelude.{◌≡◌};
 
 /// A bit that was set, and how often.

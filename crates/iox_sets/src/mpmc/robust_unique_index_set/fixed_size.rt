@@ -1,9 +1,10 @@
 //! The set of owned indices whose greatest capacity is known when the program is built.
-ghost use Rattle.std.specs.Prelude.{◌≡◌, IfErr, IfOk, IsSome, IsTrue, None, OnErr, OnOk, Some, false, length};
+ghost use Rattle.std.specs.Prelude.{◌≡◌, ◌<◌, ◌≤◌, IfErr, IfOk, IfSome, IsSome, IsTrue, None, OnErr, OnOk, Some, false, length};
 ghost use Rattle.iox_sets.specs.declared.mpmc.unique_index_set_enums.UniqueIndexSetNewError.TheVariants.{WantOfMemory};
 ghost use Rattle.iox_sets.specs.Refusals.{IsRefusal};
 ghost use Rattle.iox_sets.specs.IndexSets.{capacity_refusal, is_locked, reduced_refusal, state_after};
-ghost use Rattle.iox_sets.specs.OwnedIndices.{FindsFrom, Recovers, TakesFor, acquire_refusal, held_count, new_owned_indices};
+ghost use Rattle.iox_sets.specs.OwnedIndices.{FindsFrom, IsAccepted, KeepsOthers, KeepsRefused, Recovers, TakesFor};
+ghost use Rattle.iox_sets.specs.OwnedIndices.{acquire_refusal, held_count, new_owned_indices};
 ghost use Rattle.iox_sets.specs.OwnedIndices.{owner_of, state_after_recovery, with_owner};
 
 use super::{OwnerId, RobustUniqueIndexSet};
@@ -21,11 +22,14 @@ pub struct StaticRobustUniqueIndexSet<const CAPACITY: usize> {
 }
 
 impl<const CAPACITY: usize> Model for StaticRobustUniqueIndexSet<CAPACITY> {
+    ghost use Rattle.std.specs.Prelude.{◌≤◌, length};
     ghost use Rattle.iox_sets.specs.OwnedIndices.{OwnedIndices};
 
     ghost Value = { OwnedIndices };
 
     ghost view = { λ s. s.set };
+
+    ghost invariant = { λ s. length s.set.owners ≤ CAPACITY };
 }
 
 impl<const CAPACITY: usize> StaticRobustUniqueIndexSet<CAPACITY> {
@@ -39,7 +43,7 @@ impl<const CAPACITY: usize> StaticRobustUniqueIndexSet<CAPACITY> {
         Ok(StaticRobustUniqueIndexSet { set })
     }
 
-    /// Makes an open set of the indices below `capacity` alone, from 1 to `CAPACITY`.
+    /// Makes an open set of only the indices below `capacity`, which is from 1 to `CAPACITY`.
     pub fn new_with_reduced_capacity(
         alloc: Global,
         capacity: usize,
@@ -64,11 +68,12 @@ impl<const CAPACITY: usize> StaticRobustUniqueIndexSet<CAPACITY> {
         Ok(StaticRobustUniqueIndexSet { set })
     }
 
-    /// How many indices there are.
+    /// How many indices there are, at most `CAPACITY`.
     #[inline]
     pub fn capacity(&self) -> usize
         ensures capacity { result ≡ length self.now.owners }
         ensures allowed { capacity_refusal result ≡ None }
+        ensures fits { result ≤ CAPACITY }
     {
         self.set.capacity()
     }
@@ -94,6 +99,10 @@ impl<const CAPACITY: usize> StaticRobustUniqueIndexSet<CAPACITY> {
     #[inline]
     pub fn acquire(&mut self, owner: OwnerId) -> Result<u32, UniqueIndexSetAcquireFailure>
         ensures acquired { IfOk result (λ index. TakesFor owner self.old index self.new) }
+        ensures was_free { IfOk result (λ index. owner_of self.old index ≡ None) }
+        ensures within { IfOk result (λ index. index < length self.new.owners) }
+        ensures fits { IfOk result (λ index. index < CAPACITY) }
+        ensures capacity { length self.new.owners ≡ length self.old.owners }
         ensures refused { IfErr result (λ failure. acquire_refusal self.old ≡ Some failure) }
         ensures unchanged { OnErr result (self.new ≡ self.old) }
     {
@@ -103,7 +112,9 @@ impl<const CAPACITY: usize> StaticRobustUniqueIndexSet<CAPACITY> {
     /// The lowest held index whose owner `f` accepts. It is asked about the owners of lower ones first.
     pub fn find<F: FnMut(OwnerId) -> bool>(&self, f: F) -> Option<u32>
         requires { F.IsAlwaysCallable f }
-        ensures { FindsFrom F.step f 0 self.now.owners result }
+        ensures found { FindsFrom F.step f 0 self.now.owners result }
+        ensures held { IfSome result (λ index. IsSome (owner_of self.now index)) }
+        ensures accepted { IfSome result (λ index. IsAccepted F.step self.now index) }
     {
         self.set.find(f)
     }
@@ -113,6 +124,7 @@ impl<const CAPACITY: usize> StaticRobustUniqueIndexSet<CAPACITY> {
     pub fn release(&mut self, index: u32, mode: ReleaseMode) -> ReleaseState
         requires { IsSome (owner_of self.old index) }
         ensures owners { self.new.owners ≡ (with_owner self.old index None).owners }
+        ensures capacity { length self.new.owners ≡ length self.old.owners }
         ensures locked { self.new.locked ≡ is_locked result }
         ensures state { result ≡ state_after mode (held_count self.new) }
         ensures unlocked { self.old.locked ≡ false }
@@ -129,6 +141,9 @@ impl<const CAPACITY: usize> StaticRobustUniqueIndexSet<CAPACITY> {
     ) -> ReleaseState
         requires { F.IsAlwaysCallable f }
         ensures owners { Recovers F.step f owner self.old self.new }
+        ensures kept { KeepsRefused F.step owner self.new }
+        ensures others { KeepsOthers owner self.old self.new }
+        ensures capacity { length self.new.owners ≡ length self.old.owners }
         ensures locked { self.new.locked ≡ is_locked result }
         ensures state { result ≡ state_after_recovery mode self.old (held_count self.new) }
     {

@@ -1,5 +1,5 @@
 //! The set of indices whose greatest capacity is known when the program is built.
-ghost use Rattle.std.specs.Prelude.{◌≡◌, ◌≤◌, ◌-◌, IfErr, IfOk, IsTrue, None, OnErr, OnOk, Some, false, length};
+ghost use Rattle.std.specs.Prelude.{◌≡◌, ◌<◌, ◌≤◌, ◌-◌, IfErr, IfOk, IsTrue, None, OnErr, OnOk, Some, false, length};
 ghost use Rattle.iox_sets.specs.declared.mpmc.unique_index_set_enums.UniqueIndexSetNewError.TheVariants.{WantOfMemory};
 ghost use Rattle.iox_sets.specs.Refusals.{IsRefusal};
 ghost use Rattle.iox_sets.specs.IndexSets.{IsHeld, Takes, acquire_refusal, capacity_refusal, held_count, new_index_set};
@@ -19,11 +19,14 @@ pub struct FixedSizeUniqueIndexSet<const CAPACITY: usize> {
 }
 
 impl<const CAPACITY: usize> Model for FixedSizeUniqueIndexSet<CAPACITY> {
+    ghost use Rattle.std.specs.Prelude.{◌≤◌};
     ghost use Rattle.iox_sets.specs.IndexSets.{IndexSet};
 
     ghost Value = { IndexSet };
 
     ghost view = { λ s. s.set };
+
+    ghost invariant = { λ s. s.set.capacity ≤ CAPACITY };
 }
 
 impl<const CAPACITY: usize> FixedSizeUniqueIndexSet<CAPACITY> {
@@ -37,7 +40,7 @@ impl<const CAPACITY: usize> FixedSizeUniqueIndexSet<CAPACITY> {
         Ok(FixedSizeUniqueIndexSet { set })
     }
 
-    /// Makes an open set of the indices below `capacity` alone, from 1 to `CAPACITY`.
+    /// Makes an open set of only the indices below `capacity`, which is from 1 to `CAPACITY`.
     pub fn new_with_reduced_capacity(
         alloc: Global,
         capacity: usize,
@@ -62,10 +65,11 @@ impl<const CAPACITY: usize> FixedSizeUniqueIndexSet<CAPACITY> {
         Ok(FixedSizeUniqueIndexSet { set })
     }
 
-    /// How many indices there are.
+    /// How many indices there are, at most `CAPACITY`.
     #[inline]
     pub fn capacity(&self) -> usize
         ensures capacity { result ≡ self.now.capacity }
+        ensures fits { result ≤ CAPACITY }
         ensures allowed { capacity_refusal result ≡ None }
     {
         self.set.capacity()
@@ -93,6 +97,7 @@ impl<const CAPACITY: usize> FixedSizeUniqueIndexSet<CAPACITY> {
     #[inline]
     pub fn acquire_raw_index(&mut self) -> Result<u32, UniqueIndexSetAcquireFailure>
         ensures acquired { IfOk result (λ index. Takes self.old index self.new) }
+        ensures within { IfOk result (λ index. index < CAPACITY) }
         ensures refused { IfErr result (λ failure. acquire_refusal self.old ≡ Some failure) }
         ensures unchanged { OnErr result (self.new ≡ self.old) }
     {

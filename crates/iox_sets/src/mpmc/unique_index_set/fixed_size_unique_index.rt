@@ -34,7 +34,7 @@ impl<const CAPACITY: usize> Drop for FixedSizeUniqueIndex<'_, CAPACITY> {
 }
 
 impl<const CAPACITY: usize> FixedSizeUniqueIndexSet<CAPACITY> {
-    ghost use Rattle.std.specs.Prelude.{◌≡◌, IfErr, IfOk, Some};
+    ghost use Rattle.std.specs.Prelude.{◌≡◌, ◌<◌, IfErr, IfOk, Some};
     ghost use Rattle.std.specs.Borrow.{sem};
     ghost use Rattle.iox_sets.specs.IndexSets.{Takes, acquire_refusal};
     ghost use Rattle.iox_sets.specs.Guards.{ends_with_fixed_guard};
@@ -47,6 +47,7 @@ impl<const CAPACITY: usize> FixedSizeUniqueIndexSet<CAPACITY> {
         ensures* rests { sem 𝓛 (ends_with_fixed_guard CAPACITY.row self.entry result) }
         ensures same_set { IfOk result (λ guard. guard.set.ghost_name ≡ self.entry.ghost_name) }
         ensures acquired { IfOk result (λ guard. Takes self.old guard.value guard.set.now) }
+        ensures within { IfOk result (λ guard. guard.value < CAPACITY) }
         ensures refused { IfErr result (λ failure. acquire_refusal self.old ≡ Some failure) }
     {
         let value = self.acquire_raw_index()?;

@@ -1,7 +1,7 @@
 use Rattle.std.proofs.Common.{◌≡◌, ◌∙◌, ◌∷◌, ℕ, List, true, sym, subst, ap, arith, inl, rules, of_calls}
 use Rattle.std.proofs.lemmas.Grind.{common_steps}
 use Rattle.std.specs.Fn.{CalledAt}
-use Rattle.iox_texts.specs.Texts.{text_eq}
+use Rattle.iox_names.specs.Texts.{text_eq}
 use Rattle.iox_attributes.specs.Sets.{values_of}
 use Rattle.iox_attributes.specs.Visits.{Visits}
 use Rattle.iox_words.specs.declared.callback_progression.CallbackProgression.TheVariants.{Stop}

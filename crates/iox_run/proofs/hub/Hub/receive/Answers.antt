@@ -1,8 +1,8 @@
 use Rattle.std.proofs.Common.{◌≡◌, ◌∙◌, ap, sym, subst, List, ℕ, map, get_or, []}
-use Rattle.iox_run.specs.Machines.{PendingResponse}
+use Rattle.iox_run.specs.ScriptStates.{PendingResponse}
 use Rattle.iox_run.specs.Outcomes.{Leaves}
 use Rattle.iox_run.specs.Ports.{received}
-use Rattle.iox_run.specs.Things.{owner_of}
+use Rattle.iox_run.specs.Subjects.{owner_of}
 use Rattle.iox_run.specs.Slots.{outline, response_at, waiting_slots}
 use Rattle.iox_run.specs.Hubs.{service_in}
 use Rattle.iox_run.proofs.HubResponses.{waiting_for-shown}

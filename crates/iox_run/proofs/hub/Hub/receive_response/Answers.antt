@@ -1,8 +1,8 @@
 use Rattle.std.proofs.Common.{◌≡◌, ◌<◌, ◌∙◌, refl, ap, arith, get_or, subst, List, count_by, map}
 use Rattle.std.proofs.lemmas.Bool.{lt-ltb}
 use Rattle.std.proofs.lemmas.List.{length-map}
-use Rattle.iox_run.specs.declared.hub.entry.Entry.{Entry}
-use Rattle.iox_run.specs.Things.{is_response_to}
+use Rattle.iox_run.specs.declared.hub.entry.SubjectSlots.{SubjectSlots}
+use Rattle.iox_run.specs.Subjects.{is_response_to}
 use Rattle.iox_run.specs.Limits.{max_borrowed_responses}
 use Rattle.iox_run.specs.Slots.{shown, response_at, waiting_slots}
 use Rattle.iox_run.specs.Hubs.{service_in}
@@ -17,7 +17,7 @@ pub invariant_of-self-in-Some : goal.invariant_of-self-in-Some
 invariant_of-self-in-Some c =
     let h = c.args.self.now in
     let e = c.index_mut.result.now in
-    let is : e ≡ get_or h.entries.items c.args.pending e = subst (λ (es : List Entry). e ≡ get_or es c.args.pending e) c.reserve.ensures.items c.index_mut.ensures.value in
+    let is : e ≡ get_or h.entries.items c.args.pending e = subst (λ (es : List SubjectSlots). e ≡ get_or es c.args.pending e) c.reserve.ensures.items c.index_mut.ensures.value in
     record {
       sound = rw (c.push_reserved.ensures.items, c.in-Some.ensures.left, c.reserve.ensures.items)
           (IsSound-taken h.entries.items h.requests.items h.waiting h.responses.items c.args.node c.args.pending c.in-Some.response e h.sound c.requires is c.in-Some.ensures.oldest);
@@ -27,7 +27,7 @@ pub invariant_of-self-in-None : goal.invariant_of-self-in-None
 invariant_of-self-in-None c =
     let h = c.args.self.now in
     let e = c.index_mut.result.now in
-    let is : e ≡ get_or h.entries.items c.args.pending e = subst (λ (es : List Entry). e ≡ get_or es c.args.pending e) c.reserve.ensures.items c.index_mut.ensures.value in
+    let is : e ≡ get_or h.entries.items c.args.pending e = subst (λ (es : List SubjectSlots). e ≡ get_or es c.args.pending e) c.reserve.ensures.items c.index_mut.ensures.value in
     absurd (oldest-waits h.registry h.entries.items h.requests.items h.waiting.waiting h.responses.items c.args.pending _ e c.requires is
     c.responses_waiting_for.ensures c.if-responses_waiting_for-eq0.false c.in-None.ensures.oldest)
 
@@ -36,8 +36,8 @@ returns-in-Some c = λ words.
     let h = c.args.self.now in
     let s = service_in h in
     let e = c.index_mut.result.now in
-    let is : e ≡ get_or h.entries.items c.args.pending e = subst (λ (es : List Entry). e ≡ get_or es c.args.pending e) c.reserve.ensures.items c.index_mut.ensures.value in
-    let few : count_by (is_response_to c.args.pending) s.things < max_borrowed_responses = rw (← c.responses_to.ensures) c.if-responses_to-ge-MAX_BORROWED_RESPONSES.false in
+    let is : e ≡ get_or h.entries.items c.args.pending e = subst (λ (es : List SubjectSlots). e ≡ get_or es c.args.pending e) c.reserve.ensures.items c.index_mut.ensures.value in
+    let few : count_by (is_response_to c.args.pending) s.subjects < max_borrowed_responses = rw (← c.responses_to.ensures) c.if-responses_to-ge-MAX_BORROWED_RESPONSES.false in
     taken-first s _ _ _ (response_at h.responses.items c.in-Some.response) _ _ _ (lt-ltb _ _ few)
     (waiting_for-shown h.registry h.entries.items h.requests.items h.waiting.waiting h.responses.items c.args.pending e c.requires is
     ∙ ap (map (response_at h.responses.items)) (front c.in-Some.response (waiting_slots e) c.in-Some.ensures.oldest))
@@ -49,6 +49,6 @@ pub returns-in-None : goal.returns-in-None
 returns-in-None c = λ words.
     let h = c.args.self.now in
     let e = c.index_mut.result.now in
-    let is : e ≡ get_or h.entries.items c.args.pending e = subst (λ (es : List Entry). e ≡ get_or es c.args.pending e) c.reserve.ensures.items c.index_mut.ensures.value in
+    let is : e ≡ get_or h.entries.items c.args.pending e = subst (λ (es : List SubjectSlots). e ≡ get_or es c.args.pending e) c.reserve.ensures.items c.index_mut.ensures.value in
     absurd (oldest-waits h.registry h.entries.items h.requests.items h.waiting.waiting h.responses.items c.args.pending _ e c.requires is
     c.responses_waiting_for.ensures c.if-responses_waiting_for-eq0.false c.in-None.ensures.oldest)

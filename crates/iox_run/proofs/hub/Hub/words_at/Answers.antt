@@ -1,9 +1,9 @@
 use Rattle.std.proofs.Common.{◌∙◌, ap, sym, arith, Ok, Result, List, [], ℕ}
-use Rattle.iox_script.specs.declared.reply.Refusal.{Refusal}
+use Rattle.iox_run.specs.declared.refusal.Refusal.{Refusal}
 use Rattle.iox_run.specs.declared.hub.entry.RequestSlot.{RequestSlot}
 use Rattle.std.proofs.lemmas.List.{get_or_read}
-use Rattle.iox_run.specs.declared.hub.entry.Entry.{Entry}
-use Rattle.iox_run.specs.Things.{words_in}
+use Rattle.iox_run.specs.declared.hub.entry.SubjectSlots.{SubjectSlots}
+use Rattle.iox_run.specs.Subjects.{words_in}
 use Rattle.iox_run.specs.Slots.{shown}
 use Rattle.iox_run.proofs.HubSound.{entry-sound}
 use Rattle.iox_run.proofs.hub.Hub.words_at.Goals as goal
@@ -24,7 +24,7 @@ index-requires-in-Response c =
     omega (arith, (entry-sound h.entries.items h.requests.items h.waiting h.responses.items c.args.place _ _ h.sound c.requires c.index.ensures c.in-Response.is).1 0 0 (omega arith), h.responses.ok.0)
 
 pub returns-in-PendingResponse-clause-words : goal.returns-in-PendingResponse-clause-words
-returns-in-PendingResponse-clause-words c = λ (d : Entry).
+returns-in-PendingResponse-clause-words c = λ (d : SubjectSlots).
     let h = c.args.self.now in
     let below = (entry-sound h.entries.items h.requests.items h.waiting h.responses.items c.args.place _ _ h.sound c.requires c.index.ensures c.in-PendingResponse.is).0 0 0 (omega arith) in
     let given : List ℕ → Result (List ℕ) Refusal = λ words. Ok words in
@@ -32,7 +32,7 @@ returns-in-PendingResponse-clause-words c = λ (d : Entry).
     ∙ ap (λ (r : RequestSlot). given r.words) (sym (get_or_read h.requests.items c.in-PendingResponse.request _ below c.index-in-PendingResponse.ensures (record { pending = 0; words = [] })))
 
 pub returns-in-ActiveRequest-clause-words : goal.returns-in-ActiveRequest-clause-words
-returns-in-ActiveRequest-clause-words c = λ (d : Entry).
+returns-in-ActiveRequest-clause-words c = λ (d : SubjectSlots).
     let h = c.args.self.now in
     let below = (entry-sound h.entries.items h.requests.items h.waiting h.responses.items c.args.place _ _ h.sound c.requires c.index.ensures c.in-ActiveRequest.is).0 0 0 (omega arith) in
     let given : List ℕ → Result (List ℕ) Refusal = λ words. Ok words in
@@ -40,7 +40,7 @@ returns-in-ActiveRequest-clause-words c = λ (d : Entry).
     ∙ ap (λ (r : RequestSlot). given r.words) (sym (get_or_read h.requests.items c.in-ActiveRequest.request _ below c.index-in-ActiveRequest.ensures (record { pending = 0; words = [] })))
 
 pub returns-in-Response-clause-words : goal.returns-in-Response-clause-words
-returns-in-Response-clause-words c = λ (d : Entry).
+returns-in-Response-clause-words c = λ (d : SubjectSlots).
     let h = c.args.self.now in
     let below = (entry-sound h.entries.items h.requests.items h.waiting h.responses.items c.args.place _ _ h.sound c.requires c.index.ensures c.in-Response.is).1 0 0 (omega arith) in
     let given : List ℕ → Result (List ℕ) Refusal = λ words. Ok words in

@@ -2,7 +2,7 @@ use Rattle.std.proofs.Common.{◌+◌, ◌∙◌, ap, sym, drop, get_or, arith}
 use Rattle.std.specs.Option.{ok_or}
 use Rattle.std.proofs.lemmas.List.{at_drop_more}
 use Rattle.std.proofs.lemmas.Result.{err_from_is_err_and}
-use Rattle.iox_script.specs.declared.command.Cause.TheVariants.{BadNumber}
+use Rattle.iox_script.specs.declared.command.LineCause.TheVariants.{BadNumber}
 use Rattle.iox_script.proofs.NumeralLemmas.{number_after, number_after-stop, number_below-after}
 use Rattle.iox_script.proofs.parser.numerals.number_up_to.Goals as goal
 

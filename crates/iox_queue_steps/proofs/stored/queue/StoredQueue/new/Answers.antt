@@ -1,6 +1,6 @@
 use Rattle.std.proofs.Common.{◌≡◌, ◌<◌, ◌^◌, [], length, slice_index, arith, sym, ap, ◌∙◌}
 use Rattle.std.proofs.lemmas.Grind.{get_or_default_zero}
-use Rattle.iox_steps.proofs.Plays.{played_empty}
+use Rattle.iox_steps.proofs.AfterCalls.{played_empty}
 use Rattle.iox_queue_steps.proofs.stored.queue.StoredQueue.new.Goals as goal
 
 pub invariant_of-result : goal.invariant_of-result

@@ -1,4 +1,4 @@
-use Rattle.std.proofs.Common.{◌≡◌, ◌≢◌, ℕ, List, [], ◌++◌, true, false, eqb, vec_len, sym, ap, ◌∙◌, length, arith}
+use Rattle.std.proofs.Common.{◌≡◌, ◌≢◌, ℕ, List, [], ◌++◌, true, false, eqb, vec_len, inl, sym, ap, ◌∙◌, length, arith}
 use Rattle.std.proofs.KnownBytes.{Appends-nil}
 use Rattle.std.proofs.lemmas.Bool.{eqb-true, eqb-false}
 use Rattle.std.proofs.lemmas.List.{append-nil, nil_from_length}
@@ -12,7 +12,7 @@ use Rattle.iox_run.proofs.run.player.Player.finish.Goals as goal
 pub returns-in_err-end_line : goal.returns-in_err-end_line
 returns-in_err-end_line g c =
     let p = err_from_is_err_and c.from_residual.result c.from_residual.ensures.1 in
-    rw (p.1, p.2) ([], Appends-nil _, λ script sent stands sends short. memory_ran_out script [] script sent [] c.args.self (append-nil script) stands (sym sends))
+    rw (p.1, p.2) ([], Appends-nil _, λ script sent stands sends short reader end. inl (memory_ran_out script [] script sent [] c.args.self (append-nil script) stands (sym sends)))
 
 pub returns : goal.returns
 returns g c =

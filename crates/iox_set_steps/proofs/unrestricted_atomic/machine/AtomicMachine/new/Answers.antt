@@ -1,6 +1,6 @@
 use Rattle.std.proofs.Common.{rules, ◌≡◌, ◌<◌, ◌^◌, length, arith, ◌∙◌, slice_index}
 use Rattle.std.proofs.lemmas.Grind.{get_or_default_zero}
-use Rattle.iox_set_steps.proofs.AtomicMomentLemmas.{new_atomic_holds}
+use Rattle.iox_set_steps.proofs.AtomicEventLemmas.{new_atomic_holds}
 use Rattle.iox_set_steps.proofs.unrestricted_atomic.machine.AtomicMachine.new.Goals as goal
 
 pub new-requires : goal.new-requires

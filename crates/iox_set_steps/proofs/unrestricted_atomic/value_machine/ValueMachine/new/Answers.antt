@@ -1,8 +1,8 @@
-use Rattle.std.proofs.Common.{◌≡◌, ◌∙◌, ap, arith, List, ℕ, subst}
-use Rattle.iox_set_steps.specs.TypedWords.{AreLaid, laid_words}
+use Rattle.std.proofs.Common.{◌∙◌, ap, arith, List, ℕ, subst}
+use Rattle.iox_set_steps.specs.TypedWords.{AreLaid}
 use Rattle.iox_set_steps.specs.AtomicMachines.{new_atomics}
 use Rattle.iox_set_steps.proofs.LaidLemmas.{laid_are}
-use Rattle.iox_set_steps.proofs.TypedMoments.{new_of_type, new_world}
+use Rattle.iox_set_steps.proofs.TypedEvents.{new_of_type, new_machine}
 use Rattle.iox_set_steps.proofs.unrestricted_atomic.value_machine.ValueMachine.new.Goals as goal
 
 pub invariant_of-result : goal.invariant_of-result
@@ -14,7 +14,7 @@ invariant_of-result g c =
 
 pub returns : goal.returns
 returns g c = record {
-  made = new_world g.T.Words.WORDS g.T.Words.is_value g.T.Words.words g.T.Words.is_words g.T.Words.of_words g.met.T.Words.laws c.args.value g.row.N c.args.base
+  made = new_machine g.T.Words.WORDS g.T.Words.is_value g.T.Words.words g.T.Words.is_words g.T.Words.of_words g.met.T.Words.laws c.args.value g.row.N c.args.base
       c.args.value c.value_words.ensures.known c.requires.sized c.args.words.items c.lay.new.words.items
       (subst (λ list. AreLaid g.row.N c.args.base list c.args.words.items c.lay.new.words.items) c.value_words.ensures.words c.lay.ensures)
       c.args.parties c.in_ok-machine.machine c.in_ok-machine.ensures.made;

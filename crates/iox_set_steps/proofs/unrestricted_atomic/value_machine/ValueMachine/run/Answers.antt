@@ -1,9 +1,9 @@
 use Rattle.std.proofs.Common.{◌≡◌, arith, map, subst, take, take_all}
 use Rattle.std.proofs.lemmas.List.{map-append, take_more}
-use Rattle.iox_steps.proofs.WorldLemmas.{all_entered_more}
+use Rattle.iox_steps.proofs.MachineStateLemmas.{all_entered_more}
 use Rattle.iox_set_steps.specs.AtomicPlays.{atomics_ask, atomics_happen, atomics_rest, AtomicsLead, AtomicsBegin}
 use Rattle.iox_set_steps.specs.AtomicMachines.{AllAtomicsEntered}
-use Rattle.iox_set_steps.specs.TypedValues.{BeginsValueCall, IsTypedMoment, entry_words}
+use Rattle.iox_set_steps.specs.TypedValues.{BeginsValueCall, IsTypedEvent, entry_words}
 use Rattle.iox_set_steps.proofs.EntryLemmas.{atomics_enter}
 use Rattle.iox_set_steps.proofs.HoldLemmas.{plays_append}
 use Rattle.iox_set_steps.proofs.TypedRunLemmas.{runs_append, stops_as}
@@ -17,10 +17,10 @@ loop-entry-preserved g c =
           (all_entered_more (atomics_ask g.row.N) (AtomicsLead g.row.N) atomics_happen atomics_rest AtomicsBegin _ (map (entry_words g.T.Words.words) (take c.loop-entry.entry-index c.args.schedule.now)) _
           (entry_words g.T.Words.words item) _ c.loop-entry.invariant.played c.in_ok-enter.ensures.entered);
       value = runs_append _ _ _ c.loop-entry.invariant.value c.in_ok-enter.ensures.value;
-      moments = rw (take_more c.args.schedule.now c.loop-entry.entry-index item c.loop-entry-test.true, ← c.entry-item.is)
-          (plays_append (BeginsValueCall g.T.Words.words g.T.Words.is_value) (IsTypedMoment g.T.Words.words g.T.Words.is_value) _
+      happened = rw (take_more c.args.schedule.now c.loop-entry.entry-index item c.loop-entry-test.true, ← c.entry-item.is)
+          (plays_append (BeginsValueCall g.T.Words.words g.T.Words.is_value) (IsTypedEvent g.T.Words.words g.T.Words.is_value) _
           (take c.loop-entry.entry-index c.args.schedule.now) _ _ _
-          c.loop-entry.invariant.moments c.in_ok-enter.ensures.moments);
+          c.loop-entry.invariant.happened c.in_ok-enter.ensures.happened);
     }
 
 pub returns-in_err-enter-clause-stopped : goal.returns-in_err-enter-clause-stopped

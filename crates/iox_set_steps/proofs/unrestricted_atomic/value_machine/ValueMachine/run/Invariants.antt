@@ -8,5 +8,5 @@ abbrev pub invariant-loop-entry : goal.invariant-loop-entry
 invariant-loop-entry g l = record {
   played : AllAtomicsEntered g.row.N l.fn.self.plays (map (entry_words g.T.Words.words) (take l.entry-index l.schedule)) l.self.plays;
   value : TypedRunsOn l.fn.self l.self;
-  moments : PlayValues g.T.Words.words g.T.Words.is_value l.fn.self (take l.entry-index l.schedule) l.self;
+  happened : PlayValues g.T.Words.words g.T.Words.is_value l.fn.self (take l.entry-index l.schedule) l.self;
 }

@@ -1,0 +1,2 @@
+//! Which request a channel serves.
+pub use iox_types::{ChannelState, RequestId};

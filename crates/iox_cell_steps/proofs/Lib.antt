@@ -1,9 +1,0 @@
-pub mod CellPlaces
-pub mod CellContentLemmas
-pub mod CellRings
-pub mod CellKnowledge
-pub mod CellPushSteps
-pub mod CellPopSteps
-pub mod CellRunLemmas
-pub mod CellFrames
-pub mod CellPlayLemmas

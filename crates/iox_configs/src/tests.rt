@@ -1,3 +1,0 @@
-//! What no clause says, and each function once.
-mod configs;
-mod patterns;

@@ -1,0 +1,6 @@
+//! The sets of one thread.
+mod bit_set;
+mod callers;
+mod counting_bit_set;
+mod robust_unique_index_set;
+mod unique_index_set;

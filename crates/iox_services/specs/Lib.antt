@@ -1,3 +1,0 @@
--- what is told of a service
-pub mod Patterns
-pub mod Services

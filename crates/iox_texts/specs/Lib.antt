@@ -1,5 +1,0 @@
--- in reading order
-pub mod Texts
--- for proofs of this crate alone
-pub mod Padding
-pub mod PaddingLaws

@@ -1,0 +1,4 @@
+pub mod LiveWays
+pub mod Rooms
+pub mod Fresh
+pub mod GetBacks

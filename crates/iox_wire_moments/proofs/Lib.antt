@@ -1,0 +1,2 @@
+pub mod EventCases
+pub mod Moments

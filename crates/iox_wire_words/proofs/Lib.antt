@@ -1,0 +1,3 @@
+pub mod PieceLemmas
+pub mod Steps
+pub mod Begins

@@ -1,0 +1,74 @@
+#!/usr/bin/env python3
+"""Writes the list of crates in docs/ARCHITECTURE.md from crates.txt and the first sentence of each crate.
+
+    tools/crate_list.py            writes it
+    tools/crate_list.py --check    says whether it is as it would be written; exit 1 if not
+
+In crates.txt a comment line above a group of crates is the group's title. A crate's sentence is the first one of the
+`//!` lines of its src/lib.rt or src/main.rt. A library of the toolchain is named as crates.txt names it.
+"""
+import pathlib
+import re
+import sys
+
+TOP = pathlib.Path(__file__).resolve().parent.parent
+PAGE = TOP / "docs" / "ARCHITECTURE.md"
+BEGIN, END = "<!-- crates: written by tools/crate_list.py -->", "<!-- end of crates -->"
+CRATE = re.compile(r"^([a-z0-9_]+)(?: staticlib)?:(.*)$")
+
+
+def groups():
+    """The titles of crates.txt, each with its crates and what they stand on."""
+    found = []
+    for line in (TOP / "crates.txt").read_text().splitlines()[1:]:
+        crate = CRATE.match(line)
+        if line.startswith("# "):
+            found.append((line[2:].strip(), []))
+        elif crate:
+            if not found:
+                sys.exit(f"crate_list: {crate[1]} in crates.txt stands below no title")
+            found[-1][1].append((crate[1], crate[2].split()))
+    return found
+
+
+def sentence(name):
+    """The first sentence of a crate's own description."""
+    roots = [TOP / "crates" / name / "src" / file for file in ("lib.rt", "main.rt")]
+    root = next(it for it in roots if it.exists())
+    head = []
+    for line in root.read_text().splitlines():
+        if not line.startswith("//!"):
+            break
+        head.append(line[3:].strip())
+    text = " ".join(head)
+    first = re.match(r"(.*?\.)(?:\s|$)", text)
+    if not first:
+        sys.exit(f"crate_list: {name} has no sentence at the head of {root.name}")
+    return first[1]
+
+
+def section():
+    lines = [BEGIN, ""]
+    for title, crates in groups():
+        lines += [f"### {title}", "", "| Crate | Has | Stands on |", "|---|---|---|"]
+        for name, below in crates:
+            shown = f"**`{name}`**" if name.startswith("iceoryx2") or name == "iox_run" else f"`{name}`"
+            lines.append(f"| {shown} | {sentence(name)} | {', '.join(f'`{it}`' for it in below)} |")
+        lines.append("")
+    return "\n".join(lines + [END])
+
+
+def main():
+    page = PAGE.read_text()
+    if page.count(BEGIN) != 1 or page.count(END) != 1:
+        sys.exit(f"crate_list: {PAGE.name} lacks its two marks")
+    before, rest = page.split(BEGIN)
+    wanted = before + section() + rest.split(END)[1]
+    if "--check" not in sys.argv:
+        PAGE.write_text(wanted)
+    elif page != wanted:
+        sys.exit("crate_list: docs/ARCHITECTURE.md is not as tools/crate_list.py writes it")
+
+
+if __name__ == "__main__":
+    main()

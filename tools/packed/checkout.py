@@ -1,0 +1,149 @@
+"""Copies a checkout, finds or builds its libraries, and tries the edits of all its crates side by side."""
+import io
+import os
+import re
+import resource
+import shutil
+import tempfile
+import threading
+import time
+import types
+from concurrent.futures import ThreadPoolExecutor
+
+from packed.edits import Edit
+from packed.kit import stop, tell
+from packed.said import REFUSED, UNTOLD
+from packed.trial import FLAGS, Slots, Trial, linked
+
+# How an edit's file is named, as rt wants it of those in must-fail/. A .md file beside them is only to be read.
+NAME = re.compile(r"[A-Za-z0-9_-][A-Za-z0-9_.-]*\.edit")
+
+
+def processor():
+    """Returns the processor time of all checks so far, in seconds."""
+    return sum(resource.getrusage(resource.RUSAGE_CHILDREN)[:2])
+
+
+def times(folder, parts):
+    """Returns the times of the files below these parts of a folder."""
+    files = [f"{at}/{it}" for part in parts for at, _, names in os.walk(f"{folder}/{part}") for it in names]
+    return [os.lstat(it).st_mtime for it in files]
+
+
+class Checkout:
+    """A copy of the checkout in which all is tried, so that nothing is written in the checkout itself."""
+
+    def __init__(self, kit, root, folder, slots):
+        self.kit, self.root, self.folder, self.slots, self.printing = kit, root, folder, slots, threading.Lock()
+        if not os.path.isfile(f"{root}/crates.txt") or not os.path.isdir(f"{root}/crates"):
+            stop("run it at the top of a repository, where crates.txt and crates/ stand")
+        top = f"{tempfile.gettempdir()}/repository"
+        leaves_out = lambda at, _: ["out"] if os.path.dirname(at) == f"{root}/crates" else []
+        shutil.copytree(f"{root}/crates", f"{top}/crates", ignore=leaves_out)
+        shutil.copy(f"{root}/crates.txt", top)
+        self.crates = {it.name: it for it in kit.rt.rtlib.crates_below(top)}
+
+    def edits_of(self, name):
+        """Returns the crate's edits, and the files that are none."""
+        at = f"{self.crates[name].folder}/{self.folder}"
+        files = sorted(os.listdir(at)) if os.path.isdir(at) else []
+        good = [it for it in files if NAME.fullmatch(it)]
+        return [Edit(f"{at}/{it}") for it in good], [it for it in files if it not in good and not it.endswith(".md")]
+
+    def link(self, crate, part):
+        """Takes what out/ has of the crate."""
+        of, to = f"{self.root}/crates/{crate.name}", f"{crate.folder}/out/{part}"
+        if os.path.isdir(f"{of}/out/{part}") and not os.path.isdir(to):
+            held = self.kit.rt.rtlib.lock([types.SimpleNamespace(folder=of)])
+            linked(f"{of}/out/{part}", to)
+            any(map(os.close, held))
+
+    def made_by_ci(self, libraries):
+        """Whether out/ holds the libraries as rt ci makes them: with no stamp, and each newer than its text and the libraries below."""
+        newest = {}
+        for it in libraries:
+            at = f"{self.root}/crates/{it.name}"
+            made = times(at, ["out/rlib"])
+            texts = [os.lstat(f"{self.root}/crates.txt").st_mtime, *times(at, ["src", "specs", "proofs"])]
+            below = [newest.get(dep.name, 0) for dep in it.below()]
+            if not made or os.path.exists(f"{at}/out/rlib/stamp") or min(made) < max(texts + below):
+                return False
+            newest[it.name] = max(made)
+        return True
+
+    def make_libraries(self, libraries):
+        """Finds or builds the libraries. Returns, by name, why one is not there."""
+        if self.made_by_ci(libraries):
+            for it in libraries:
+                self.link(it, "rlib")
+            return {}
+        made = {}
+        with ThreadPoolExecutor(len(libraries) or 1) as pool:
+            for it in libraries:
+                made[it.name] = pool.submit(self.make_library, it, [made[dep.name] for dep in it.below()])
+            return {name: why.result() for name, why in made.items() if why.result()}
+
+    def make_library(self, it, below):
+        lacking = [why.result() for why in below if why.result()]
+        if lacking:
+            return lacking[0]
+        self.link(it, "rlib")
+        if it.is_built():
+            return None
+        tell(f"proving {it.name}, which out/ lacks (rt check in its folder would keep it)")
+        self.link(it, "incremental")
+        it.out = io.StringIO()
+        with self.slots.taken(10**9, self.kit.rt.need(it)):
+            if it.build_rlib(FLAGS, anew=False):
+                return f"its library {it.name} is not proved: {' / '.join(it.out.getvalue().splitlines()[-3:])[:300]}"
+        return None
+
+    def try_crate(self, name, edits, lost, is_single):
+        """Tries the edits of one crate, prints their verdicts, and returns how many were refused, and how many not."""
+        start, crate = time.time(), self.crates[name]
+        trial = Trial(self.kit, crate, f"{crate.folder}/out/incremental", edits, self.slots)
+        why = next((lost[it.name] for it in crate.below() if it.name in lost), None)
+        if not why:
+            self.link(crate, "incremental")
+            os.makedirs(trial.kept, exist_ok=True)
+            why = trial.check_clean()
+        if not why:
+            trial.run(is_single)
+        shutil.rmtree(trial.kept, ignore_errors=True)
+        with self.printing:
+            for it in edits:
+                if why:
+                    it.settle(UNTOLD, why)
+                print(f"{name}/{it.name}: {it.verdict}{' ' * bool(it.where)}{it.where}{': ' * bool(it.said)}{it.said[:300]}", flush=True)
+        passed = sum(it.verdict == REFUSED for it in edits)
+        what = f"{len(edits)} edits, {trial.rounds} rounds and {trial.alone} single checks in {time.time() - start:.0f} s"
+        tell(f"{name}: {passed} passed, {len(edits) - passed} failed; {what}")
+        return passed, len(edits) - passed
+
+    def try_all(self, names, is_single):
+        """Tries the edits of these crates, or else of all, and returns the status."""
+        if {*names} - {*self.crates}:
+            stop(f"crates.txt names no crate {' '.join({*names} - {*self.crates})}")
+        found = {name: self.edits_of(name) for name in names or self.crates}
+        bad = [f"{name}/{self.folder}/{it}" for name, (_, others) in found.items() for it in others]
+        edits = {name: those for name, (those, _) in found.items() if those}
+        lacking = [it for it in names if it not in edits] or ([] if edits else ["any crate"])
+        if lacking:
+            stop(f"there is no edit in the folder {self.folder} of {', '.join(lacking)}")
+        libraries = [it for it in self.crates.values() if any(it in self.crates[name].below() for name in edits)]
+        lost = self.make_libraries(libraries)
+        with ThreadPoolExecutor(len(edits)) as pool:
+            tried = [pool.submit(self.try_crate, name, those, lost, is_single) for name, those in edits.items()]
+            counts = [it.result() for it in tried]
+        for it in bad:
+            print(f"{it}: not judged: an edit's name is of letters, digits, _, - and . and ends in .edit", flush=True)
+        passed, failed = sum(it[0] for it in counts), sum(it[1] for it in counts) + len(bad)
+        tell(f"all checks took {processor() / 60:.1f} processor minutes")
+        print(f"{passed} passed, {failed} failed", flush=True)
+        return 1 if failed else 0
+
+
+def try_checkout(kit, root, names, folder, jobs, is_single):
+    """Tries the edits of a checkout's crates, and returns the status."""
+    slots = Slots(jobs or kit.rt.processors(), 0.85 * kit.rt.free())
+    return Checkout(kit, root, folder, slots).try_all(names, is_single)

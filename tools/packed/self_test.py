@@ -1,0 +1,67 @@
+"""Tries the tool on a tiny crate whose verdicts are known."""
+import contextlib
+import io
+import os
+import tempfile
+
+from packed.checkout import try_checkout
+from packed.said import REFUSED, UNTOLD, WEAK, rows_of, verdict
+
+TINY = """//! Two functions.
+#![tactic(auto)]
+ghost use Rattle.std.specs.Prelude.{◌≤◌, ◌+◌};
+
+pub fn smaller(a: u8, b: u8) -> u8
+    ensures first { result ≤ a }
+    ensures second { result ≤ b }
+{
+    if a < b { a } else { b }
+}
+
+pub fn above(a: u8, b: u8) -> u8
+    ensures first { result ≤ a + 1 }
+    ensures second { result ≤ b + 1 }
+{
+    let least = smaller(a, b);
+    if least < 255 { least + 1 } else { least }
+}
+"""
+# What each edit puts in the place of what, and how its line begins.
+EDITS = {
+    "1_wrong": ("if a < b { a }", "if a < b { b }", "refused tiny::smaller: "),
+    "2_wrong_above_it": ("{ least + 1 }", "{ a }", "refused tiny::above: "),
+    "3_no_rust": ("else { b }", "else { bb }", "not judged: "),
+    "4_right": ("if least < 255 {", "if 254 >= least {", "PROVED (survives)"),
+    "5_does_not_apply": ("if least < 256 {", "if 254 >= least {", "not judged: "),
+}
+# What a check prints of a function, and the verdict on it.
+GAVE_UP = "note: src/lib.rt:3:5: it is not proved that it holds (`returns`); `search` gave up at one of its limits\n"
+FALSE = "note: src/lib.rt:4:5: it is not proved that it holds (`first`); the facts known there allow values at which this goal is false\n"
+NAME = "./proofs/f/Answers.antt:1:1: error: `first`: module `Rattle.tiny.proofs.f.Goals`\n  has no `first` that can be named from here\n"
+UNFIT = "./proofs/f/Answers.antt:1:1: error: `first`: expected type `A`, but this has type `B`\n"
+ROW = "fn tiny::f: no proof: `search` did not prove it\n"
+PRINTED = {GAVE_UP + ROW: WEAK, GAVE_UP + FALSE + ROW: REFUSED, UNFIT + GAVE_UP + ROW: REFUSED, NAME + GAVE_UP + ROW: WEAK, NAME + ROW: UNTOLD}
+
+
+def self_test(kit):
+    """Tries the edits of the tiny crate, and returns the status."""
+    misread = [said for said, wanted in PRINTED.items() if verdict(rows_of(said)["tiny::f"].goals)[0] != wanted]
+    if misread:
+        print(f"{misread[0]}self-test FAILED: this is judged another way than is wanted")
+        return 1
+    root = f"{tempfile.gettempdir()}/tiny"
+    texts = {"crates.txt": "tiny:\n", "crates/tiny/src/lib.rt": TINY}
+    for name, (old, new, _) in EDITS.items():
+        texts[f"crates/tiny/wrong-bodies/{name}.edit"] = f"file: src/lib.rt\nold: {old}\nnew: {new}\n"
+    for path, text in texts.items():
+        os.makedirs(os.path.dirname(f"{root}/{path}"), exist_ok=True)
+        with open(f"{root}/{path}", "w", encoding="utf-8") as it:
+            it.write(text)
+    with contextlib.redirect_stdout(io.StringIO()) as said:
+        status = try_checkout(kit, root, [], "wrong-bodies", 1, False)
+    passing = sum(it[2].startswith("refused") for it in EDITS.values())
+    wanted = [f"tiny/{name}: {it[2]}" for name, it in EDITS.items()] + [f"{passing} passed, {len(EDITS) - passing} failed"]
+    lines = said.getvalue().splitlines()
+    is_well = status == 1 and len(lines) == len(wanted) and all(a.startswith(b) for a, b in zip(lines, wanted))
+    print("\n".join([*lines, "self-test ok" if is_well else "self-test FAILED: these are not the verdicts that are wanted"]))
+    return 0 if is_well else 1

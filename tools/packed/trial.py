@@ -1,0 +1,165 @@
+"""Tries the edits of one crate, many in one check."""
+import contextlib
+import heapq
+import os
+import re
+import shutil
+import tempfile
+import threading
+from concurrent.futures import ThreadPoolExecutor
+
+from packed import said as reads
+from packed.edits import Functions
+from packed.kit import tell
+from packed.said import PROVED, REFUSED, UNTOLD, WAITS, WEAK
+
+FLAGS = ["--jobs", "1"]
+
+
+class Slots:
+    """Lets as many checks run at a time as there are processors and memory for, those of the crate with most to do first."""
+
+    def __init__(self, limit, memory):
+        self.limit, self.memory, self.running, self.turn = limit, memory, 0, 0
+        self.free, self.queue = threading.Condition(), []
+
+    @contextlib.contextmanager
+    def taken(self, weight, need):
+        with self.free:
+            self.turn += 1
+            mine = (-weight, self.turn)
+            heapq.heappush(self.queue, mine)
+            fits = lambda: self.running < self.limit and (need <= self.memory or not self.running)
+            self.free.wait_for(lambda: self.queue[0] == mine and fits())
+            heapq.heappop(self.queue)
+            self.running, self.memory = self.running + 1, self.memory - need
+            self.free.notify_all()
+        try:
+            yield
+        finally:
+            with self.free:
+                self.running, self.memory = self.running - 1, self.memory + need
+                self.free.notify_all()
+
+
+def linked(of, to):
+    """Copies a folder by hard links where it can. rattle writes each file anew and renames it, so the first one stays as it is."""
+    def link(a, b):
+        try:
+            os.link(a, b)
+        except OSError:
+            shutil.copy2(a, b)
+
+    shutil.copytree(of, to, copy_function=link)
+
+
+class Trial:
+    """The trial of one crate's edits, over the work that kept holds."""
+
+    def __init__(self, kit, crate, kept, edits, slots):
+        self.kit, self.crate, self.kept, self.edits, self.slots = kit, crate, kept, edits, slots
+        self.rounds, self.alone, self.need = 0, 0, kit.rt.need(crate)
+        self.weight = crate.count(rb"\n") + 300 * len(edits)
+
+    def over_copy(self, call, *given):
+        """Calls with a copy of the kept work, so that no check sees another's."""
+        with self.slots.taken(self.weight, self.need), tempfile.TemporaryDirectory(prefix="try-") as folder:
+            linked(self.kept, f"{folder}/kept")
+            return call(self.crate, *given, FLAGS, f"{folder}/kept")
+
+    def check_clean(self):
+        """Checks the crate as it stands, and reads its functions. Returns why nothing can be tried, or None."""
+        with self.slots.taken(self.weight, self.need):
+            ran = self.kit.rt.checked(self.crate, {}, FLAGS, self.kept)
+        if ran.returncode or not re.search(r"(?m)^logic=proved ", ran.stdout):
+            return f"the crate itself is not proved: {' / '.join(ran.stdout.rstrip().splitlines()[-3:])[:300]}"
+        self.functions = Functions(self.kit, self.crate, reads.rows_of(ran.stdout))
+        return None
+
+    def try_round(self, edits):
+        """Checks these edits at once, and settles each as far as the check tells."""
+        if not edits:
+            return
+        self.rounds += 1
+        texts, places = self.functions.written(edits)
+        said = self.over_copy(self.kit.rt.checked, texts).stdout
+        is_in = lambda edit, file, line: places[edit][0] == file and int(line) in places[edit][1]
+        rows, edited = reads.rows_of(said), {symbol for it in edits for symbol in it.symbols}
+        # (beside verdicts an error still shows where the prover cannot read an edited text)
+        errors = [found for found in map(reads.ERROR.match, said.split("\n")) if found and (not rows or self.kit.rt.unread(found.string, texts))]
+        wrong = [it for it in edits if any(is_in(it, *error.groups()) for error in errors)]
+        for it in wrong:
+            it.settle(UNTOLD, "the compiler finds an error in it")
+        if wrong:
+            return self.try_round([it for it in edits if it not in wrong])
+        strange = [it for it, row in rows.items() if it not in edited and reads.FELL.match(row.words) and row.goals]
+        if errors or not rows or strange:
+            edits[0].settle(UNTOLD, f"the round came to no verdict {strange[:1]}")
+            half = len(edits) // 2
+            if half:
+                self.try_round(edits[:half])
+                self.try_round(edits[half:])
+            return
+        for edit in edits:
+            self.settle(edit, rows, lambda goal: not goal.file or is_in(edit, goal.file, goal.line))
+
+    @staticmethod
+    def settle(edit, rows, is_own):
+        """Settles an edit by what a round's check says of its function."""
+        found = {it: rows[it] for it in edit.symbols if it in rows}
+        fell = {it: row for it, row in found.items() if reads.FELL.match(row.words)}
+        own = {it: [goal for goal in row.goals if is_own(goal)] for it, row in fell.items()}
+        goals = [goal for row in fell.values() for goal in row.goals]
+        if any(own.values()):
+            best = min((goal for those in own.values() for goal in those), key=reads.rank)
+            where = next(it for it, those in own.items() if best in those)
+            found, text = reads.verdict([best])
+            # (goals that wait for a callee's proof have not been tried, and one of them may show more)
+            is_all = found == REFUSED or not reads.WAITING.search(fell[where].words)
+            edit.settle(found if is_all else WAITS, text, where)
+        elif found and all(row.words.startswith("proved") for row in found.values()):
+            edit.settle(PROVED)
+        elif fell and not goals and all(reads.WAITING.search(row.words) for row in fell.values()):
+            edit.settle(WAITS)
+        else:
+            edit.settle(UNTOLD, next(iter(fell.values())).words if fell else "the check does not tell this function's verdict")
+
+    def try_alone(self, edit):
+        """Has rt try the edit by itself."""
+        self.alone += 1
+        refused, text, said = self.over_copy(self.kit.must_fail, edit.file)
+        text = " ".join((text.partition(f"/{edit.name}.edit: ")[2] or text).split("\n"))
+        if not refused:
+            return edit.settle(*((PROVED,) if text.startswith("NOT REFUSED") else (UNTOLD, text)))
+        found, best = reads.verdict(reads.all_goals(said))
+        # (no goal is open, for example, where the borrow checker does not cover what the body does)
+        edit.settle(found, best or f"rt refuses it, but no goal is open, so no contract was tried: {edit.said or text}")
+
+    def run(self, is_single):
+        """Tries all edits: in rounds, and then singly what no round refused."""
+        for it in self.edits if not is_single else []:
+            self.functions.place(it)
+        left = [it for it in self.edits if it.function]
+        with ThreadPoolExecutor(self.slots.limit) as pool:
+            while len(left) > 1:
+                rounds = in_rounds(left)
+                tell(f"{self.crate.name}: {len(left)} edits in {len(rounds)} rounds")
+                list(pool.map(self.try_round, rounds))
+                waiting = [it for it in left if it.verdict == WAITS]
+                left = waiting if len(waiting) < len(left) else []
+            alone = [it for it in self.edits if it.verdict not in (REFUSED, WEAK)]
+            if alone:
+                tell(f"{self.crate.name}: {len(alone)} edits singly")
+            list(pool.map(self.try_alone, alone))
+
+
+def in_rounds(edits):
+    """Deals the edits out to rounds in which one check can tell them apart."""
+    rounds = []
+    for it in edits:
+        fitting = next((those for those in rounds if all(map(it.goes_with, those))), None)
+        if fitting is None:
+            rounds.append([it])
+        else:
+            fitting.append(it)
+    return rounds
