@@ -1,0 +1,12 @@
+mod IdLemmas
+mod KeptLemmas
+mod CountLemmas
+mod StandingLemmas
+mod RecoveryLemmas
+mod HandleLemmas
+mod RegisterLemmas
+mod AddLemmas
+mod ReleaseLemmas
+mod NodeLemmas
+mod LawLemmas
+mod NumberLemmas

@@ -1,0 +1,25 @@
+//! What calls of the registers answer.
+use iox_types::identifiers::{UniqueNodeId, UniqueNodeIdError, UniqueSystemId};
+
+mod blackboards;
+mod details;
+mod events;
+mod expected;
+mod nodes;
+mod ports;
+mod requests;
+mod samples;
+
+/// The node of that process with that counter.
+fn node(process: u32, counter: u32) -> Result<UniqueNodeId, UniqueNodeIdError> {
+    UniqueNodeId::new(system_id(process, counter))
+}
+
+fn system_id(process: u32, counter: u32) -> UniqueSystemId {
+    UniqueSystemId {
+        process,
+        seconds: 7,
+        nanoseconds: 8,
+        counter,
+    }
+}
