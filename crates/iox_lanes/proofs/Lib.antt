@@ -1,0 +1,3 @@
+pub mod CallerLemmas
+pub mod Returns
+pub mod Visiting

@@ -1,0 +1,13 @@
+//! The lanes on which messages go from one port to another, by their places in their sender's pool.
+//! A lane takes its memory when it is made, and never again.
+#![tactic(auto)]
+
+pub mod incoming;
+pub mod lane;
+pub mod pipe;
+pub mod search;
+pub mod states;
+#[cfg(test)]
+mod tests;
+pub mod uses;
+pub mod wanted;

@@ -1,0 +1,300 @@
+//! All lanes from one port to another.
+ghost use Rattle.std.specs.Prelude.{◌≡◌, ◌+◌, ◌^◌, ◌<◌, IfOk, None, false, length, replicate, slice_get, true};
+ghost use Rattle.iox_lanes.specs.Lanes.{offered, empty_lane, has_room, has_waiting, is_full, is_taken, oldest, released, without_oldest, without_returned, without_taken};
+ghost use Rattle.iox_lanes.specs.Pipes.{NoneToGetBelow, PipeState, closed, has_returned_at, has_waiting_on_any, hinted, lane_to_get, new_pipe, on_lane, opened, with_lane};
+ghost use Rattle.iox_lanes.specs.Searches.{state_on};
+ghost use Rattle.iox_lanes.specs.Visited.{pipe_visit, pipe_visited, pool_on};
+
+use crate::lane::Lane;
+use crate::search::{LaneVisit, visit_lane};
+use crate::states::{after_close, after_hint, state_of};
+use crate::wanted::{Labels, Wanted};
+use iox_model::way::RequestState;
+use std::alloc::{AllocError, Global};
+use std::marker::Model;
+
+/// All lanes from one port to its receiver. Beside the lane of requests from a client stand the
+/// states of the requests that it has open here.
+///
+/// It takes memory when it is made, and never again. Where it has no lane of a number, nothing
+/// waits there, and nothing is delivered.
+#[derive(Drop)]
+pub struct Pipe {
+    sender: u64,
+    lanes: Vec<Lane>,
+    states: Vec<RequestState>,
+    // on no lane below is anything left to get back
+    none_below: usize,
+}
+
+impl Model for Pipe {
+    ghost use Rattle.iox_lanes.specs.Pipes.{NoneToGetBelow, PipeState};
+
+    ghost Value = { PipeState };
+
+    ghost view = { λ p. record { sender = p.sender; lanes = p.lanes.items; states = p.states.items } };
+
+    ghost invariant = { λ p. NoneToGetBelow p.none_below p.lanes.items };
+}
+
+fn new_lanes(
+    alloc: Global,
+    count: usize,
+    pool: usize,
+    buffer: usize,
+    limit: usize,
+) -> Result<Vec<Lane>, AllocError>
+    requires { buffer + limit < 2 ^ 64 }
+    ensures { IfOk result (λ lanes. lanes.items ≡ replicate count (empty_lane pool buffer limit)) }
+{
+    let mut lanes = Vec::with_capacity(alloc, count)?;
+    for _ in 0..count {
+        lanes.push(Lane::new(alloc, pool, buffer, limit)?)?;
+    }
+    Ok(lanes)
+}
+
+/// The first lane from there on on which something is left to get back, or a number past the last.
+fn next_to_get(lanes: &[Lane], from: usize) -> usize
+    requires { NoneToGetBelow from lanes.now }
+    ensures none { NoneToGetBelow result lanes.now }
+    ensures found { result < length lanes.now → has_returned_at lanes.now result ≡ true }
+{
+    for lane in from..lanes.len() {
+        if lanes[lane].has_returned() {
+            return lane;
+        }
+    }
+    if from < lanes.len() {
+        return lanes.len();
+    }
+    from
+}
+
+impl Pipe {
+    /// Makes the lanes from a sender to one receiver, and the states of the requests there. It
+    /// fails only for want of memory.
+    pub fn new(
+        alloc: Global,
+        sender: u64,
+        pool: usize,
+        lanes: usize,
+        buffer: usize,
+        limit: usize,
+        states: usize,
+    ) -> Result<Pipe, AllocError>
+        requires { buffer + limit < 2 ^ 64 }
+        ensures { IfOk result (λ p. p ≡ new_pipe sender pool lanes buffer limit states) }
+    {
+        Ok(Pipe {
+            sender,
+            lanes: new_lanes(alloc, lanes, pool, buffer, limit)?,
+            states: vec![in alloc; RequestState::Closed; states]?,
+            none_below: 0,
+        })
+    }
+
+    /// From which port the messages come.
+    #[inline]
+    pub fn sender(&self) -> u64
+        ensures { result ≡ self.now.sender }
+    {
+        self.sender
+    }
+
+    /// How many lanes there are.
+    #[inline]
+    pub fn lanes_len(&self) -> usize
+        ensures { result ≡ length self.now.lanes }
+    {
+        self.lanes.len()
+    }
+
+    /// The pool of that lane's places.
+    #[inline]
+    pub fn pool(&self, lane: usize) -> usize
+        ensures { result ≡ pool_on self.now lane }
+    {
+        if lane < self.lanes.len() {
+            return self.lanes[lane].pool();
+        }
+        0
+    }
+
+    /// Whether as many messages wait on that lane as may.
+    #[inline]
+    pub fn is_full(&self, lane: usize) -> bool
+        ensures { result ≡ on_lane is_full true self.now lane }
+    {
+        if lane < self.lanes.len() {
+            return self.lanes[lane].is_full();
+        }
+        true
+    }
+
+    /// Whether something waits on that lane.
+    #[inline]
+    pub fn has_waiting(&self, lane: usize) -> bool
+        ensures { result ≡ on_lane has_waiting false self.now lane }
+    {
+        if lane < self.lanes.len() {
+            return !self.lanes[lane].is_empty();
+        }
+        false
+    }
+
+    /// How many messages of that lane the receiver has.
+    #[inline]
+    pub fn taken_len(&self, lane: usize) -> usize
+        ensures { result ≡ on_lane (λ l. length l.taken) 0 self.now lane }
+    {
+        if lane < self.lanes.len() {
+            return self.lanes[lane].taken_len();
+        }
+        0
+    }
+
+    /// Whether something waits on some lane.
+    pub fn has_waiting_on_any(&self) -> bool
+        ensures { result ≡ has_waiting_on_any self.now }
+    {
+        self.lanes.iter().any(|lane| !lane.is_empty())
+    }
+
+    // ---- the sender
+
+    /// Puts a message last in line on that lane, and says whether there was room.
+    #[inline]
+    #[tactic(auto, using(crate::proofs::Returns::kept))]
+    pub fn deliver(&mut self, lane: usize, place: u64) -> bool
+        ensures room { result ≡ on_lane has_room false self.old lane }
+        ensures delivered { self.new ≡ with_lane (λ l. offered l place) self.old lane }
+    {
+        if lane < self.lanes.len() {
+            return self.lanes[lane].deliver(place);
+        }
+        false
+    }
+
+    /// Pushes the oldest message of that lane out, if any waits: it is its sender's again.
+    #[inline]
+    #[tactic(auto, using(crate::proofs::Returns::kept))]
+    pub fn evict(&mut self, lane: usize) -> Option<u64>
+        ensures oldest { result ≡ on_lane oldest None self.old lane }
+        ensures evicted { self.new ≡ with_lane without_oldest self.old lane }
+    {
+        if lane < self.lanes.len() {
+            return self.lanes[lane].evict();
+        }
+        None
+    }
+
+    /// Gets back the oldest message of those that were given back on that lane, if there is one.
+    #[inline]
+    #[tactic(auto, using(crate::proofs::Returns::kept))]
+    pub fn get_back(&mut self, lane: usize) -> Option<u64>
+        ensures oldest { result ≡ on_lane (λ l. slice_get l.returned 0) None self.old lane }
+        ensures got_back { self.new ≡ with_lane without_returned self.old lane }
+    {
+        if lane < self.lanes.len() {
+            return self.lanes[lane].get_back();
+        }
+        None
+    }
+
+    /// The lowest lane on which something that was given back is left to get back, if there is one.
+    #[inline]
+    #[tactic(auto, using(crate::proofs::Returns::to_get))]
+    pub fn lane_to_get(&mut self) -> Option<usize>
+        ensures lowest { result ≡ lane_to_get self.old }
+        ensures unchanged { self.new ≡ self.old }
+    {
+        let lane = next_to_get(&self.lanes, self.none_below);
+        self.none_below = lane;
+        if lane < self.lanes.len() {
+            return Some(lane);
+        }
+        None
+    }
+
+    // ---- the receiver
+
+    /// Takes the oldest message on that lane that is wanted, unless the receiver has as many as it
+    /// may.
+    #[tactic(auto, using(crate::proofs::Returns::kept))]
+    pub fn visit<L: Labels>(&mut self, lane: usize, wanted: Wanted, labels: &L) -> LaneVisit
+        ensures visit { result ≡ pipe_visit wanted (L.label_of labels.now) lane self.old }
+        ensures visited { self.new ≡ pipe_visited wanted (L.label_of labels.now) lane self.old }
+    {
+        if lane < self.lanes.len() {
+            self.none_below = self.none_below.min(lane);
+            let l = &mut self.lanes[lane];
+            return visit_lane(l, wanted, labels, &self.states);
+        }
+        LaneVisit::Nothing
+    }
+
+    /// Gives a message of that lane back that the receiver has, and says whether it had it.
+    #[tactic(auto, using(crate::proofs::Returns::kept))]
+    pub fn release(&mut self, lane: usize, place: u64) -> bool
+        ensures taken { result ≡ on_lane (λ l. is_taken l place) false self.old lane }
+        ensures released { self.new ≡ with_lane (λ l. released l place) self.old lane }
+    {
+        if lane < self.lanes.len() {
+            let lower = self.none_below.min(lane);
+            self.none_below = lower;
+            return self.lanes[lane].release(place);
+        }
+        false
+    }
+
+    /// Takes a message of that lane from its receiver whose sender is gone, and says whether it had
+    /// it.
+    #[tactic(auto, using(crate::proofs::Returns::kept))]
+    pub fn let_go(&mut self, lane: usize, place: u64) -> bool
+        ensures taken { result ≡ on_lane (λ l. is_taken l place) false self.old lane }
+        ensures left { self.new ≡ with_lane (λ l. without_taken l place) self.old lane }
+    {
+        if lane < self.lanes.len() {
+            return self.lanes[lane].let_go(place);
+        }
+        false
+    }
+
+    // ---- the states of requests
+
+    /// The request state of that lane; closed where there is none.
+    #[inline]
+    pub fn state(&self, lane: u64) -> RequestState
+        ensures { result ≡ state_on self.now.states lane }
+    {
+        state_of(&self.states, lane)
+    }
+
+    /// Opens a request on that lane.
+    pub fn open_request(&mut self, lane: usize, id: u64)
+        ensures { self.new ≡ opened self.old lane id }
+    {
+        if lane < self.states.len() {
+            self.states[lane] = RequestState::Named { id, hinted: false };
+        }
+    }
+
+    /// Closes the request on that lane, if it is the open one.
+    pub fn close_request(&mut self, lane: usize, id: u64)
+        ensures { self.new ≡ closed self.old lane id }
+    {
+        if lane < self.states.len() {
+            self.states[lane] = after_close(self.states[lane], id);
+        }
+    }
+
+    /// Says of the request on that lane that its client lost interest, if it is the open one.
+    pub fn hint_request(&mut self, lane: usize, id: u64)
+        ensures { self.new ≡ hinted self.old lane id }
+    {
+        if lane < self.states.len() {
+            self.states[lane] = after_hint(self.states[lane], id);
+        }
+    }
+}

@@ -1,0 +1,3 @@
+//! What no clause says, and each function once.
+mod lanes;
+mod visits;
