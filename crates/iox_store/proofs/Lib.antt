@@ -1,0 +1,2 @@
+pub mod WidthLemmas
+pub mod FillLemmas

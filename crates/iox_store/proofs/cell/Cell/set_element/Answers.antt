@@ -1,0 +1,21 @@
+use Rattle.std.proofs.Common.{ℕ, List, [], ◌<◌, ap, ap₂, subst, sym, length}
+use Rattle.std.specs.Vec.{vec_capacity}
+use Rattle.std.proofs.lemmas.List.{length-set}
+use Rattle.iox_store.specs.Stored.{Stored}
+use Rattle.iox_store.proofs.WidthLemmas.{words-set}
+use Rattle.iox_store.proofs.cell.Cell.set_element.Goals as goal
+
+-- the cell with so many filled elements, and these words
+with_words : Stored → ℕ → List ℕ → Stored
+with_words x filled payload = record x { filled = filled; payload = payload }
+
+pub returns : goal.returns
+unfolding with_words
+returns g c =
+    let within : c.args.index < length c.self.inside.payload.items =
+    subst (λ (n : ℕ). c.args.index < n) (ap (λ (x : Stored). x.filled) (sym c.self.view_is)) c.requires in
+    rw (← c.self.view_is)
+    (ap₂
+    (with_words (record { room = vec_capacity c.self.inside.payload; elements = c.self.inside.elements; filled = 0; user = g.H.Words.words c.self.inside.user; payload = [] }))
+    (length-set c.self.inside.payload.items c.args.index c.args.value)
+    (words-set g.E.Words.WORDS g.E.Words.words c.self.inside.payload.items c.args.index c.args.value c.self.invariant.payload within))

@@ -1,0 +1,2 @@
+mod lengths;
+mod stores;
