@@ -1,0 +1,5 @@
+pub mod NumberLemmas
+pub mod PlaceLemmas
+pub mod VacancyLemmas
+pub mod TableLemmas
+pub mod CountLemmas

@@ -1,0 +1,3 @@
+pub mod Tables
+-- for proofs of this crate alone
+pub mod Places

@@ -1,0 +1,59 @@
+-- The handles of a hub, as callers see them: a list by number, which is oldest first.
+use Rattle.std.specs.Prelude.{ℕ, ◌+◌, ◌-◌, ◌==◌, ◌&&◌, Bool, not, if◌then◌else◌, List, [], ◌∷◌, ◌++◌, Option, filter, find, length}
+use Rattle.iox_model.specs.declared.kind.Kind.{Kind}
+use Rattle.iox_model.specs.Handles.{same_kind}
+use Rattle.iox_handles.specs.declared.entry.Entry.{Entry}
+
+-- The handles, how many more may be added, and a number above theirs.
+pub record Contents : Type 0 where
+  pub room : ℕ
+  pub next : ℕ
+  pub handles : List Entry
+
+-- no handle, and room for so many
+abbrev pub new_contents : ℕ → Contents
+new_contents room = record { room = room; next = 0; handles = [] }
+
+-- whether a handle has that number
+abbrev pub has_that : ℕ → Entry → Bool
+has_that number h = h.number == number
+
+-- the handle of that number
+abbrev pub handle_at : Contents → ℕ → Option Entry
+handle_at table number = find (has_that number) table.handles
+
+-- the handles of a node
+abbrev pub handles_of : Contents → ℕ → List Entry
+handles_of table node = filter (λ h. h.node == node) table.handles
+
+-- whether it is a handle of that port and kind
+abbrev pub is_of : ℕ → Kind → Entry → Bool
+is_of port kind h = (h.port == port) && same_kind h.kind kind
+
+-- how many handles of that kind a port has
+abbrev pub count_of : Contents → ℕ → Kind → ℕ
+count_of table port kind = length (filter (is_of port kind) table.handles)
+
+-- one handle more, newer than all others
+abbrev pub added : Contents → Entry → Contents
+added table h = record {
+  room = table.room - 1;
+  next = h.number + 1;
+  handles = table.handles ++ h ∷ [];
+}
+
+-- the handle of that number is gone
+abbrev pub removed : Contents → ℕ → Contents
+removed table number = record table {
+  room = table.room + 1;
+  handles = filter (λ h. not (has_that number h)) table.handles;
+}
+
+-- the handles, with the one of that number as it is now
+abbrev pub with_handle : Entry → List Entry → List Entry
+with_handle h [] = []
+with_handle h (k ∷ ks) = if has_that h.number k then h ∷ ks else k ∷ with_handle h ks
+
+-- one handle is as it is now
+abbrev pub changed : Contents → Entry → Contents
+changed table h = record table { handles = with_handle h table.handles }

@@ -1,0 +1,15 @@
+//! The handles of a hub: a table that is searched by number, whose places are taken again. Callers
+//! see the list of handles, oldest first.
+#![tactic(auto)]
+
+mod entry;
+mod places;
+mod table;
+
+pub use entry::Entry;
+pub use table::Table;
+
+#[cfg(test)]
+mod tests;
+#[cfg(test)]
+mod uses;

@@ -1,0 +1,82 @@
+//! How a table is searched.
+ghost use Rattle.std.specs.Prelude.{◌≡◌, IfSome, None, count_by, position, true};
+ghost use Rattle.iox_handles.specs.Places.{has_at, in_places, is_numbered, passes};
+ghost use Rattle.iox_handles.specs.Tables.{is_of};
+ghost use Rattle.iox_model.specs.Handles.{kind_code, same_kind};
+
+use crate::entry::Entry;
+use iox_model::kind::Kind;
+
+/// Whether there is a handle of that number.
+#[inline]
+pub fn is_handle(place: Option<Entry>, number: u64) -> bool
+    ensures { result ≡ is_numbered number place }
+{
+    match place {
+        Some(entry) => entry.number == number,
+        None => false,
+    }
+}
+
+/// The place of the handle of that number. It is looked for at the hint first.
+pub fn place_of(places: &[Option<Entry>], number: u64, hint: usize) -> Option<usize>
+    ensures found { IfSome result (λ place. has_at number places.now place ≡ true) }
+    ensures missing { result ≡ None → in_places places.now number ≡ None }
+{
+    if hint < places.len() && is_handle(places[hint], number) {
+        return Some(hint);
+    }
+    first_of(places, number)
+}
+
+/// The first place with a handle of that number.
+fn first_of(places: &[Option<Entry>], number: u64) -> Option<usize>
+    ensures { result ≡ position (is_numbered number) places.now }
+{
+    places.iter().position(|place| is_handle(*place, number))
+}
+
+/// Whether two kinds are one.
+#[inline]
+fn is_same_kind(kind: Kind, other: Kind) -> bool
+    ensures { result ≡ same_kind kind other }
+{
+    code(kind) == code(other)
+}
+
+/// A number for each kind.
+fn code(kind: Kind) -> u64
+    ensures { result ≡ kind_code kind }
+{
+    match kind {
+        Kind::Client => 0,
+        Kind::Server => 1,
+        Kind::RequestMutUninit => 2,
+        Kind::RequestMut => 3,
+        Kind::ResponseMutUninit => 4,
+        Kind::ResponseMut => 5,
+        Kind::PendingResponse => 6,
+        Kind::ActiveRequest => 7,
+        Kind::Response => 8,
+    }
+}
+
+/// Whether there is a handle of that port and kind.
+fn is_counted(place: Option<Entry>, port: u64, kind: Kind) -> bool
+    ensures { result ≡ passes (is_of port kind) place }
+{
+    let Some(entry) = place else {
+        return false;
+    };
+    entry.port == port && is_same_kind(entry.kind, kind)
+}
+
+/// How many places have handles of that port and kind.
+pub fn count_in(places: &[Option<Entry>], port: u64, kind: Kind) -> usize
+    ensures { result ≡ count_by (passes (is_of port kind)) places.now }
+{
+    places
+        .iter()
+        .filter(|place| is_counted(**place, port, kind))
+        .count()
+}

@@ -1,0 +1,136 @@
+//! The table of a hub's handles.
+ghost use Rattle.std.specs.Prelude.{◌≡◌, ◌<◌, ◌≤◌, ◌+◌, ◌^◌, IfOk, IsSome, None, OnErr, OnOk, Some};
+ghost use Rattle.iox_handles.specs.Tables.{added, changed, count_of, handle_at, new_contents, removed};
+
+use crate::entry::Entry;
+use crate::places::{count_in, place_of};
+use iox_model::kind::Kind;
+use std::alloc::{AllocError, Global};
+use std::marker::Model;
+
+/// A hub's handles, by their numbers. Room for them is reserved before they come: only `new` and
+/// `reserve` take memory.
+#[derive(Drop)]
+pub struct Table {
+    places: Vec<Option<Entry>>,
+    // The vacant places.
+    free: Vec<usize>,
+    // How many handles may come, in vacant places or in new ones.
+    room: usize,
+    // Above the number of each handle.
+    next: u64,
+}
+
+impl Model for Table {
+    ghost use Rattle.std.specs.Prelude.{vec_capacity};
+    ghost use Rattle.iox_handles.specs.Tables.{Contents};
+    ghost use Rattle.iox_handles.specs.Places.{IsTable, handles_in};
+
+    ghost Value = { Contents };
+
+    ghost view = { λ t. record { room = t.room; next = t.next; handles = handles_in t.places.items t.next } };
+
+    ghost invariant = { λ t. IsTable t.places.items t.free.items t.room t.next (vec_capacity t.places) (vec_capacity t.free) };
+}
+
+impl Table {
+    /// A table with room for so many handles.
+    pub fn new(alloc: Global, room: usize) -> Result<Table, AllocError>
+        ensures { IfOk result (λ table. table ≡ new_contents room) }
+    {
+        let places = Vec::with_capacity(alloc, room)?;
+        let free = Vec::with_capacity(alloc, room)?;
+        Ok(Table {
+            places,
+            free,
+            room,
+            next: 0,
+        })
+    }
+
+    /// How many handles may be added.
+    #[inline]
+    pub fn room(&self) -> usize
+        ensures { result ≡ self.now.room }
+    {
+        self.room
+    }
+
+    /// Makes room for so many handles more.
+    pub fn reserve(&mut self, more: usize) -> Result<(), AllocError>
+        ensures reserved { OnOk result (self.new ≡ record (self.old) { room = self.old.room + more }) }
+        ensures unchanged { OnErr result (self.new ≡ self.old) }
+    {
+        let Some(room) = self.room.checked_add(more) else {
+            return Err(AllocError);
+        };
+        self.places.reserve(room - self.free.len())?;
+        self.free.reserve(self.places.capacity() - self.free.len())?;
+        self.room = room;
+        Ok(())
+    }
+
+    /// Adds a handle that is newer than all others, and tells its place.
+    pub fn add(&mut self, entry: Entry) -> usize
+        requires room { 0 < self.old.room }
+        requires newer { self.old.next ≤ entry.number }
+        requires number { entry.number + 1 < 2 ^ 64 }
+        ensures added { self.new ≡ added self.old entry }
+        ensures has { handle_at self.new entry.number ≡ Some entry }
+    {
+        self.room -= 1;
+        self.next = entry.number + 1;
+        match self.free.pop() {
+            Some(place) => {
+                self.places[place] = Some(entry);
+                place
+            }
+            None => {
+                self.places.push_reserved(Some(entry));
+                self.places.len() - 1
+            }
+        }
+    }
+
+    /// The handle of that number, which is looked for at the hint first.
+    pub fn find(&self, number: u64, hint: usize) -> Option<Entry>
+        ensures { result ≡ handle_at self.now number }
+    {
+        let place = place_of(&self.places, number, hint)?;
+        self.places[place]
+    }
+
+    /// Removes the handle of that number, which is looked for at the hint first.
+    pub fn remove(&mut self, number: u64, hint: usize) -> Option<Entry>
+        ensures found { result ≡ handle_at self.old number }
+        ensures removed { IsSome result → self.new ≡ removed self.old number }
+        ensures gone { handle_at self.new number ≡ None }
+        ensures unchanged { result ≡ None → self.new ≡ self.old }
+    {
+        let place = place_of(&self.places, number, hint)?;
+        let entry = self.places[place];
+        self.places[place] = None;
+        self.free.push_reserved(place);
+        self.room += 1;
+        entry
+    }
+
+    /// Changes the handle of that number, which is looked for at the hint first.
+    pub fn change(&mut self, entry: Entry, hint: usize) -> Option<Entry>
+        ensures found { result ≡ handle_at self.old entry.number }
+        ensures changed { IsSome result → self.new ≡ changed self.old entry }
+        ensures unchanged { result ≡ None → self.new ≡ self.old }
+    {
+        let place = place_of(&self.places, entry.number, hint)?;
+        let old = self.places[place];
+        self.places[place] = Some(entry);
+        old
+    }
+
+    /// How many handles of that kind a port has. It looks at all places.
+    pub fn count(&self, port: u64, kind: Kind) -> usize
+        ensures { result ≡ count_of self.now port kind }
+    {
+        count_in(&self.places, port, kind)
+    }
+}
