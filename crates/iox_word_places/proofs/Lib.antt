@@ -1,0 +1,7 @@
+pub mod PortLemmas
+pub mod PlanLemmas
+pub mod PairLemmas
+pub mod SlotLemmas
+pub mod WayLemmas
+pub mod NewLemmas
+pub mod PlanLawProofs

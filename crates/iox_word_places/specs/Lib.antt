@@ -1,0 +1,8 @@
+-- In reading order: what a plan says of the wire, and the layout that it describes; why no map is
+-- made; the laws of such layouts
+pub mod Plans
+pub mod Refusals
+pub mod PlanLaws
+-- for proofs of this crate alone: sums over ports, and the fields of a map
+pub mod PortSums
+pub mod MapFields
