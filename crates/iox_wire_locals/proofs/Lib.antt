@@ -1,0 +1,9 @@
+pub mod Busy
+pub mod Visits
+pub mod KnowingLemmas
+pub mod CourseProofs
+pub mod StepProofs
+pub mod BeginProofs
+pub mod ReplyProofs
+pub mod EndProofs
+pub mod StateWords
