@@ -1,18 +1,45 @@
 #!/usr/bin/env python3
-"""Plays each script of examples/ with the program, and compares what it writes.
+"""Plays each script of examples/ with the program, and cases that end in each of its exit statuses, and compares.
 
     tools/play_examples.py [PROGRAM]
 
 PROGRAM is crates/iox_run/out/iox_run if left out, which `rt ci` builds. Beside examples/NAME.script stands
 NAME.script.stdout, what the program has to write, and NAME.script.status, its exit status (0 where there is no such
-file). Exit 1 if one of them differs, 2 if there is no program or no script.
+file). The cases below end as docs/SCRIPT.md says: with 1 where standard input fails, with 2 where standard output
+fails, and with 3 where there is no memory. Exit 1 if one of them differs, 2 if there is no program or no script.
+A script of more than 2^32 bytes, which ends with 1 too, is not tried.
 """
+import os
 import pathlib
+import resource
+import select
+import signal
 import subprocess
 import sys
+import tempfile
+import tty
 
 TOP = pathlib.Path(__file__).resolve().parent.parent
 SECONDS = 60
+# Lines that have ended, and the answers to them.
+LINES = b"set request-overflow 0\nset response-overflow 0\ncreate 612f62 1 0 0 0\nclient 0 50000\n"
+ANSWERS = b"ok\nok\nnode 0\nclient 0\n"
+
+
+def difference(found, wanted):
+    """Where two texts differ, or None."""
+    if found == wanted:
+        return None
+    pairs = zip(found.split(b"\n"), wanted.split(b"\n"))
+    line = next((n for n, (a, b) in enumerate(pairs, 1) if a != b), "past the end")
+    return f"the answers differ, first at line {line}"
+
+
+def fault_of_end(status, found, wanted_status, wanted):
+    """What is wrong with how the program ended and what it wrote, or None."""
+    if status != wanted_status:
+        return f"exit status {status}, wanted {wanted_status}"
+    return difference(found, wanted)
 
 
 def fault_of(program, script):
@@ -22,13 +49,94 @@ def fault_of(program, script):
     status = int(status_file.read_text()) if status_file.exists() else 0
     with script.open("rb") as given:
         ran = subprocess.run([program], stdin=given, stdout=subprocess.PIPE, timeout=SECONDS, check=False)
-    if ran.returncode != status:
-        return f"exit status {ran.returncode}, wanted {status}"
-    if ran.stdout == wanted:
+    return fault_of_end(ran.returncode, ran.stdout, status, wanted)
+
+
+def a_read_that_fails_at_once(program):
+    """Standard input is a folder: nothing is written."""
+    given = os.open(TOP, os.O_RDONLY)
+    try:
+        ran = subprocess.run([program], stdin=given, stdout=subprocess.PIPE, timeout=SECONDS, check=False)
+    finally:
+        os.close(given)
+    return fault_of_end(ran.returncode, ran.stdout, 1, b"")
+
+
+def a_read_that_fails_within_a_line(program):
+    """Standard input is a terminal that goes away within a line: the lines before it are answered, and it is not."""
+    try:
+        given, terminal = os.openpty()
+    except OSError as error:
+        print(f"not tried, since no terminal can be opened here ({error}): a read that fails within a line")
         return None
-    pairs = zip(ran.stdout.split(b"\n"), wanted.split(b"\n"))
-    line = next((n for n, (a, b) in enumerate(pairs, 1) if a != b), "past the end")
-    return f"the answers differ, first at line {line}"
+    tty.setraw(terminal)
+    with subprocess.Popen([program], stdin=given, stdout=subprocess.PIPE) as running:
+        os.close(given)
+        os.write(terminal, LINES + b"server 0 1")
+        os.close(terminal)
+        found, _ = running.communicate(timeout=SECONDS)
+    return fault_of_end(running.returncode, found, 1, ANSWERS)
+
+
+def a_write_that_fails_at_once(program):
+    """Standard output is a device with no room."""
+    with open("/dev/full", "wb") as full:
+        ran = subprocess.run([program], input=LINES, stdout=full, timeout=SECONDS, check=False)
+    return fault_of_end(ran.returncode, b"", 2, b"")
+
+
+def a_write_that_fails_midway(program):
+    """Standard output is a file that may have so many bytes: it has the first of the answers."""
+    room = 10
+
+    def limit():
+        signal.signal(signal.SIGXFSZ, signal.SIG_IGN)
+        resource.setrlimit(resource.RLIMIT_FSIZE, (room, room))
+
+    with tempfile.TemporaryFile() as file:
+        ran = subprocess.run([program], input=LINES, stdout=file, timeout=SECONDS, check=False, preexec_fn=limit)
+        file.seek(0)
+        found = file.read()
+    return fault_of_end(ran.returncode, found, 2, ANSWERS[:room])
+
+
+def read_exactly(file, count):
+    """Reads so many bytes, or fewer where no more come in time."""
+    found = b""
+    while len(found) < count and select.select([file], [], [], SECONDS)[0]:
+        more = os.read(file.fileno(), count - len(found))
+        if not more:
+            break
+        found += more
+    return found
+
+
+def no_memory_for_a_message(program):
+    """Once the first lines are answered the program gets no more memory. A message of 30,000 words has no room then."""
+    with subprocess.Popen([program], stdin=subprocess.PIPE, stdout=subprocess.PIPE) as running:
+        running.stdin.write(LINES)
+        running.stdin.flush()
+        found = read_exactly(running.stdout, len(ANSWERS))
+        resource.prlimit(running.pid, resource.RLIMIT_AS, (0, 0))
+        more, _ = running.communicate(b"server 0 1\nsend-copy 0 0" + 30000 * b" 1" + b"\nopen 2 0 0 0\n", timeout=SECONDS)
+    return fault_of_end(running.returncode, found + more, 3, ANSWERS + b"server 1\n")
+
+
+CASES = (
+    a_read_that_fails_at_once,
+    a_read_that_fails_within_a_line,
+    a_write_that_fails_at_once,
+    a_write_that_fails_midway,
+    no_memory_for_a_message,
+)
+
+
+def fault_of_case(case, program):
+    """What is wrong with a case, or None."""
+    try:
+        return case(program)
+    except (OSError, subprocess.TimeoutExpired) as error:
+        return f"it could not be tried: {error}"
 
 
 def main():
@@ -38,6 +146,7 @@ def main():
         print(f"play_examples: there is no {program if scripts else 'script'}", file=sys.stderr)
         return 2
     faults = {script.name: fault_of(program, script) for script in scripts}
+    faults |= {case.__name__.replace("_", " "): fault_of_case(case, program) for case in CASES}
     for name, fault in faults.items():
         print(f"{name}: {fault or 'as it should be'}")
     return 1 if any(faults.values()) else 0

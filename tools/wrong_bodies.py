@@ -1,12 +1,13 @@
 #!/usr/bin/env python3
 """Tries wrong bodies on the crates of this repository, many in one check.
 
-usage: wrong_bodies.py [--dir FOLDER] [--jobs N] [--single] [CRATE ..]
+usage: wrong_bodies.py [--must-fail | --dir FOLDER] [--jobs N] [--single] [CRATE ..]
        wrong_bodies.py --self-test
 
 Run it at the top of the checkout. For each crate that is named, or else for each that has any, it takes the edits
-crates/CRATE/FOLDER/*.edit (FOLDER: wrong-bodies if left out; must-fail works too), written as for rt must-fail. The prover
-must refuse each, and a goal of a contract must fall. One line is printed for each edit, and last 'N passed, M failed':
+crates/CRATE/FOLDER/*.edit (FOLDER: wrong-bodies if left out), written as for rt must-fail. With --must-fail it takes those of
+crates/CRATE/must-fail, whose weak refusals rt must-fail does not tell. The prover must refuse each, and a goal of a contract
+must fall. One line is printed for each edit, and last 'N passed, M failed':
 
   CRATE/EDIT: refused FUNCTION: GOAL    passed: the function's own GOAL is open
   CRATE/EDIT: refused: ..               passed: the same, of an edit that was tried singly
@@ -65,6 +66,7 @@ def guard(kit):
 def main():
     words = argparse.ArgumentParser(usage=__doc__.split("usage: ", 1)[1])
     words.add_argument("--dir", default="wrong-bodies")
+    words.add_argument("--must-fail", dest="dir", action="store_const", const="must-fail")
     words.add_argument("--jobs", type=int, default=0)
     words.add_argument("--single", action="store_true")
     words.add_argument("--self-test", action="store_true")
