@@ -28,6 +28,19 @@ pub use Rattle.iox_types.specs.declared.message_type_details.MessageTypeDetails
 pub use Rattle.iox_configs.specs.Paths
 pub use Rattle.iox_configs.specs.FirstSettings
 pub use Rattle.iox_configs.specs.Pools
+-- what is registered with a service
+pub use Rattle.iox_registry.specs.Registers
+pub use Rattle.iox_registry.specs.Changes
+pub use Rattle.iox_registry.specs.DynamicConfigs
+pub use Rattle.iox_sets.specs.Refusals as RegistryRefusals
+pub use Rattle.iox_registry.specs.declared.has_node.HasNode
+pub use Rattle.iox_registry.specs.declared.roles.Role
+pub use Rattle.iox_registry.specs.declared.refusals.RegisterNodeError
+pub use Rattle.iox_registry.specs.declared.refusals.RegistryNewError
+pub use Rattle.iox_registry.specs.declared.refusals.ReleaseError
+pub use Rattle.iox_registry.specs.declared.remaining_owners.RemainingOwners
+pub use Rattle.iox_registry.specs.declared.dynamic_config.config.DynamicConfig
+pub use Rattle.iox_registry.specs.declared.dynamic_config.messaging_pattern.MessagingPattern as DynamicPattern
 -- the description of a service
 pub mod Patterns
 pub mod Services

@@ -1,10 +1,12 @@
-//! Descriptions of services: names, attributes, identifiers, types, layouts and configurations, at
-//! the paths of their modules. The crates below hold all but what a service itself is made with.
+//! Descriptions of services: names, attributes, identifiers, types, layouts, configurations and what
+//! is registered, at the paths of their modules. The crates below hold all but what a service itself
+//! is made with.
 #![tactic(auto)]
 
 pub mod attribute;
 pub mod channel_state;
 pub mod config;
+pub mod dynamic_config;
 pub mod event_id;
 pub mod header;
 pub mod identifiers;

@@ -4,7 +4,7 @@ ghost use Rattle.std.specs.Fn.{CalledAt};
 ghost use Rattle.iox_sets.specs.Refusals.{IsRefusal};
 ghost use Rattle.iox_registry.specs.declared.refusals.RegistryNewError.TheVariants.{WantOfMemory};
 ghost use Rattle.iox_registry.specs.Registers.{Adds, KeepsOrLoses, Removes, add_refusal, details_of, is_own, limit_refusal, listed, new_register, recovered, release_refusal, room_of};
-ghost use Rattle.iox_registry.specs.Visits.{Visits};
+ghost use Rattle.iox_attributes.specs.Visits.{Visits};
 
 use crate::handle::RegistryHandle;
 use crate::has_node::HasNode;

@@ -1,10 +1,10 @@
 //! Callers of the registers: what they rely on follows from the contracts alone.
 ghost use Rattle.std.specs.Prelude.{◌≡◌, IfOk, IfSome, None, Some, length};
-ghost use Rattle.iox_registry.specs.Registers.{listed};
+ghost use Rattle.iox_registry.specs.Registers.{listed, recovered};
 ghost use Rattle.iox_registry.specs.declared.remaining_owners.RemainingOwners.TheVariants.{NoMoreOwners};
 
 use crate::details::ClientDetails;
-use crate::dynamic_config::{Nodes, request_response};
+use crate::dynamic_config::{DynamicConfig, MessagingPattern, Nodes, request_response};
 use crate::{RegisterNodeError, RegistryHandle};
 use iox_types::identifiers::UniqueNodeId;
 
@@ -47,4 +47,25 @@ pub fn registered_and_told(
 {
     let handle = nodes.register_node_id(id)?;
     Ok(nodes.node_id(handle))
+}
+
+/// A client comes to a request-response service, and no node comes or goes.
+pub fn adds_to_a_service(
+    config: &mut DynamicConfig,
+    details: ClientDetails,
+) -> Option<RegistryHandle>
+    ensures { config.new.nodes ≡ config.old.nodes }
+{
+    match &mut config.messaging_pattern {
+        MessagingPattern::RequestResponse(ports) => ports.add_client_id(details),
+        _ => None,
+    }
+}
+
+/// A dead node leaves the other nodes of a service.
+pub fn counts_the_living(config: &mut DynamicConfig, id: &UniqueNodeId) -> usize
+    ensures { result ≡ length (listed (recovered (λ node. node) id.now config.old.nodes)) }
+{
+    let _owners = config.remove_dead_node_id(id);
+    config.nodes.number_of_nodes()
 }

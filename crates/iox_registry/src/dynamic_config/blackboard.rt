@@ -5,9 +5,9 @@ ghost use Rattle.iox_sets.specs.Refusals.{IsRefusal};
 ghost use Rattle.iox_registry.specs.declared.refusals.RegistryNewError.TheVariants.{WantOfMemory};
 ghost use Rattle.iox_registry.specs.declared.roles.Role.TheVariants.{Reader, Writer};
 ghost use Rattle.iox_registry.specs.Registers.{Adds, KeepsOrLoses, Removes, add_refusal, details_of, limits_refusal, listed, new_register, recovered, release_refusal};
-ghost use Rattle.iox_registry.specs.Visits.{Visits};
+ghost use Rattle.iox_attributes.specs.Visits.{Visits};
 
-use crate::details::{ReaderDetails, WriterDetails};
+pub use crate::details::{ReaderDetails, WriterDetails};
 use crate::handle::RegistryHandle;
 use crate::refusals::{RegistryNewError, ReleaseError};
 use crate::register::{Register, check_limit};

@@ -5,7 +5,7 @@ ghost use Rattle.iox_sets.specs.Refusals.{IsRefusal};
 ghost use Rattle.iox_registry.specs.declared.refusals.RegistryNewError.TheVariants.{WantOfMemory};
 ghost use Rattle.iox_registry.specs.declared.roles.Role.TheVariants.{Node};
 ghost use Rattle.iox_registry.specs.Registers.{Adds, KeepsOrLoses, Removes, details_of, limit_refusal, listed, new_register, recovered, register_refusal, release_refusal, remaining};
-ghost use Rattle.iox_registry.specs.Visits.{Visits};
+ghost use Rattle.iox_attributes.specs.Visits.{Visits};
 
 use crate::handle::RegistryHandle;
 use crate::refusals::{RegisterNodeError, RegistryNewError, ReleaseError};

@@ -2,7 +2,7 @@ use Rattle.std.proofs.Common.{length}
 use Rattle.std.specs.Fn.{CalledAt}
 use Rattle.iox_registry.specs.Registers.{details_in, listed}
 use Rattle.iox_registry.specs.Standing.{shown_slots}
-use Rattle.iox_registry.specs.Visits.{Visits}
+use Rattle.iox_attributes.specs.Visits.{Visits}
 use Rattle.iox_registry.proofs.register.Register.list.Given as goal
 
 -- the visit to come is that of the rest
