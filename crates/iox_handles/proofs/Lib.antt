@@ -2,4 +2,5 @@ pub mod NumberLemmas
 pub mod PlaceLemmas
 pub mod VacancyLemmas
 pub mod TableLemmas
+pub mod SoundLemmas
 pub mod CountLemmas

@@ -100,7 +100,7 @@ find-none test (x ∷ xs) ys e = over (test x) (find-none test xs ys) e
     over false more is = more is
 
 -- none has a number that is not below
-not_there : (at : ℕ → Option Entry) (n k : ℕ) → AreOwn at → n ≤ k → find (has_that k) (by_number at n) ≡ None
+pub not_there : (at : ℕ → Option Entry) (n k : ℕ) → AreOwn at → n ≤ k → find (has_that k) (by_number at n) ≡ None
 not_there at zero k own h = refl
 not_there at (suc n) k own h =
     find-none (has_that k) (by_number at n) (option_list (at n)) (not_there at n k own (omega arith)) ∙ last (at n) (own n)

@@ -1,7 +1,8 @@
 -- The handles of a hub, as callers see them: a list by number, which is oldest first.
-use Rattle.std.specs.Prelude.{ℕ, ◌+◌, ◌-◌, ◌==◌, ◌&&◌, Bool, not, if◌then◌else◌, List, [], ◌∷◌, ◌++◌, Option, filter, find, length}
+use Rattle.std.specs.Prelude.{◌≡◌, ℕ, ◌+◌, ◌-◌, ◌≤◌, ◌==◌, ◌&&◌, Bool, not, if◌then◌else◌, List, [], ◌∷◌, ◌++◌, Option, None, filter, find, length, map}
 use Rattle.iox_model.specs.declared.kind.Kind.{Kind}
 use Rattle.iox_model.specs.Handles.{same_kind}
+use Rattle.iox_model.specs.Maps.{AreDistinct}
 use Rattle.iox_handles.specs.declared.entry.Entry.{Entry}
 
 -- The handles, how many more may be added, and a number above theirs.
@@ -57,3 +58,8 @@ with_handle h (k ∷ ks) = if has_that h.number k then h ∷ ks else k ∷ with_
 -- one handle is as it is now
 abbrev pub changed : Contents → Entry → Contents
 changed table h = record table { handles = with_handle h table.handles }
+
+-- What is so of each table: a number is one handle's, and is below the next.
+pub record IsSound (table : Contents) : Type 0 where
+  pub apart : AreDistinct (map (λ h. h.number) table.handles)
+  pub below : (number : ℕ) → table.next ≤ number → handle_at table number ≡ None

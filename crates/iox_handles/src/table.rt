@@ -1,6 +1,6 @@
 //! The table of a hub's handles.
 ghost use Rattle.std.specs.Prelude.{◌≡◌, ◌<◌, ◌≤◌, ◌+◌, ◌^◌, IfOk, IsSome, None, OnErr, OnOk, Some};
-ghost use Rattle.iox_handles.specs.Tables.{added, changed, count_of, handle_at, new_contents, removed};
+ghost use Rattle.iox_handles.specs.Tables.{IsSound, added, changed, count_of, handle_at, new_contents, removed};
 
 use crate::entry::Entry;
 use crate::places::{count_in, place_of};
@@ -51,7 +51,8 @@ impl Table {
     /// How many handles may be added.
     #[inline]
     pub fn room(&self) -> usize
-        ensures { result ≡ self.now.room }
+        ensures room { result ≡ self.now.room }
+        ensures sound { IsSound self.now }
     {
         self.room
     }
@@ -94,7 +95,8 @@ impl Table {
 
     /// The handle of that number, which is looked for at the hint first.
     pub fn find(&self, number: u64, hint: usize) -> Option<Entry>
-        ensures { result ≡ handle_at self.now number }
+        ensures found { result ≡ handle_at self.now number }
+        ensures sound { IsSound self.now }
     {
         let place = place_of(&self.places, number, hint)?;
         self.places[place]
