@@ -1,0 +1,7 @@
+pub mod ListLemmas
+pub mod FreeListLemmas
+pub mod SlotLemmas
+pub mod CountLemmas
+-- for crates above
+pub mod PlaceLemmas
+pub mod CallerLemmas

@@ -1,0 +1,16 @@
+//! The pools of message slots of a hub's ports: which slots are free, how many have each of the
+//! others, and what a receiver is told of the message there.
+#![tactic(auto)]
+
+mod place;
+mod pool;
+mod pools;
+mod slot;
+
+pub use pools::Pools;
+pub use slot::Slot;
+
+#[cfg(test)]
+mod tests;
+#[cfg(test)]
+mod uses;

@@ -1,0 +1,276 @@
+//! The pools of a hub, by place.
+ghost use Rattle.std.specs.Prelude.{◌≡◌, ◌<◌, ◌^◌, ◌-◌, ◌+◌, ◌↔◌, ℕ, IfOk, IfSome, None, OnErr, OnOk, Some, [], count_by, false, length, nat_lt, option_map, position, is_none, slice_get, true};
+ghost use Rattle.std.specs.List.{list_all};
+ghost use Rattle.std.specs.Bool.{OnFalse};
+ghost use Rattle.std.specs.Option.{option_map_or};
+ghost use Rattle.iox_hub_states.specs.States.{no_id, node_id_of, port_id_of};
+ghost use Rattle.iox_hub_states.specs.Tables.{labels_of, owner_of, pool_at, slot_at, slots_of};
+ghost use Rattle.iox_slots.specs.FreeLists.{has_free_slot};
+ghost use Rattle.iox_slots.specs.Pools.{Acquires, free_count, freed_by_one, has_slot, is_idle, is_taken_at, place_for_one, with_one_more, with_slot, without_pool};
+ghost use Rattle.iox_slots.specs.Slots.{held, is_free, is_taken, let_go, new_pool, slot_in, with_slot_of, written};
+
+use crate::place::{
+    acquire_in, free_len_of, hold_in, ids_of, len_of, let_go_in, port_of, slot_of, write_in,
+};
+use crate::pool::Pool;
+use crate::slot::Slot;
+use iox_lanes::wanted::{Label, Labels};
+use iox_types::identifiers::UniqueSystemId;
+use std::alloc::{AllocError, Global};
+use std::marker::Model;
+
+/// The pools of message slots of a hub's ports, by place. A port's pool stays where the port is
+/// gone, until nobody has a message of it.
+///
+/// Only `add` takes memory.
+#[derive(Drop)]
+pub struct Pools {
+    pools: Vec<Option<Pool>>,
+}
+
+impl Model for Pools {
+    ghost use Rattle.std.specs.Prelude.{List, Option};
+    ghost use Rattle.iox_hub_states.specs.Tables.{PoolState};
+
+    ghost Value = { List (Option PoolState) };
+
+    ghost view = { λ p. p.pools.items };
+}
+
+impl Pools {
+    /// No pool.
+    pub fn new(alloc: Global) -> Pools
+        ensures { result ≡ [] }
+    {
+        Pools {
+            pools: Vec::new(alloc),
+        }
+    }
+
+    /// The slot of that number, of the pool in this place.
+    #[inline]
+    pub fn slot(&self, place: usize, slot: u64) -> Option<Slot>
+        ensures { result ≡ slice_get (slots_of self.now place) slot }
+    {
+        if place < self.pools.len() {
+            return slot_of(&self.pools[place], slot);
+        }
+        None
+    }
+
+    /// Writes another message into a slot, and says whether there is such a slot. Who has the slot
+    /// still has it.
+    #[inline]
+    pub fn write(
+        &mut self,
+        place: usize,
+        slot: u64,
+        serial: u64,
+        lane: u64,
+        request: u64,
+        elements: u64,
+    ) -> bool
+        ensures there { result ≡ has_slot self.old place slot }
+        ensures written { self.new ≡ with_slot (written serial lane request elements) self.old place slot }
+    {
+        if place < self.pools.len() {
+            let pool = &mut self.pools[place];
+            return write_in(pool, slot, serial, lane, request, elements);
+        }
+        false
+    }
+
+    #[inline]
+    fn acquire_at(&mut self, place: usize) -> Option<u64>
+        ensures free { IfSome result (λ k. has_free_slot self.old place k ≡ true) }
+        ensures acquired { IfSome result (λ k. self.new ≡ with_slot held self.old place k) }
+        ensures full { result ≡ None ↔ free_count self.old place ≡ 0 }
+        ensures unchanged { result ≡ None → self.new ≡ self.old }
+    {
+        if place < self.pools.len() {
+            return acquire_in(&mut self.pools[place]);
+        }
+        None
+    }
+
+    /// One has a slot that nobody had, and this is its number. It is `None` exactly if there is none,
+    /// and then nothing changes.
+    #[inline]
+    pub fn acquire(&mut self, place: usize) -> Option<u64>
+        ensures acquired { IfSome result (λ k. Acquires self.old place k self.new) }
+        ensures counted { IfSome result (λ k. free_count self.new place + 1 ≡ free_count self.old place) }
+        ensures full { result ≡ None ↔ free_count self.old place ≡ 0 }
+        ensures unchanged { result ≡ None → self.new ≡ self.old }
+    {
+        match self.acquire_at(place) {
+            Some(slot) => Some(slot),
+            None => None,
+        }
+    }
+
+    #[inline]
+    fn hold_at(&mut self, place: usize, slot: u64)
+        requires taken { 0 < (slot_at self.old place slot).holders }
+        requires fits { (slot_at self.old place slot).holders < 2 ^ 64 - 1 }
+        ensures { self.new ≡ with_slot held self.old place slot }
+    {
+        if place < self.pools.len() {
+            hold_in(&mut self.pools[place], slot);
+        }
+    }
+
+    /// One more has a slot that somebody has.
+    #[inline]
+    pub fn hold(&mut self, place: usize, slot: u64)
+        requires taken { 0 < (slot_at self.old place slot).holders }
+        requires fits { (slot_at self.old place slot).holders < 2 ^ 64 - 1 }
+        ensures held { self.new ≡ with_slot held self.old place slot }
+        ensures more { (slot_at self.new place slot).holders ≡ (slot_at self.old place slot).holders + 1 }
+        ensures counted { free_count self.new place ≡ free_count self.old place }
+    {
+        self.hold_at(place, slot);
+    }
+
+    #[inline]
+    fn let_go_at(&mut self, place: usize, slot: u64) -> bool
+        ensures had { result ≡ is_taken_at self.old place slot }
+        ensures left { self.new ≡ with_slot let_go self.old place slot }
+        ensures unchanged { OnFalse result (self.new ≡ self.old) }
+    {
+        if place < self.pools.len() {
+            return let_go_in(&mut self.pools[place], slot);
+        }
+        false
+    }
+
+    /// One less has a slot, and says whether anybody had it: where nobody did, and where there is no
+    /// such slot, nothing changes. A slot that nobody has can be acquired again.
+    #[inline]
+    pub fn let_go(&mut self, place: usize, slot: u64) -> bool
+        ensures had { result ≡ is_taken_at self.old place slot }
+        ensures left { self.new ≡ with_slot let_go self.old place slot }
+        ensures less { (slot_at self.new place slot).holders ≡ (slot_at self.old place slot).holders - 1 }
+        ensures counted { free_count self.new place ≡ free_count self.old place + freed_by_one self.old place slot }
+        ensures unchanged { OnFalse result (self.new ≡ self.old) }
+    {
+        self.let_go_at(place, slot)
+    }
+
+    // ---- what there is
+
+    /// How many slots the pool in this place has.
+    #[inline]
+    pub fn len(&self, place: usize) -> usize
+        ensures { result ≡ length (slots_of self.now place) }
+    {
+        if place < self.pools.len() {
+            return len_of(&self.pools[place]);
+        }
+        0
+    }
+
+    /// How many of them nobody has.
+    #[inline]
+    pub fn free_len(&self, place: usize) -> usize
+        ensures { result ≡ free_count self.now place }
+    {
+        if place < self.pools.len() {
+            return free_len_of(&self.pools[place]);
+        }
+        0
+    }
+
+    /// Whether nobody has any of them.
+    #[inline]
+    pub fn is_idle(&self, place: usize) -> bool
+        ensures { result ≡ is_idle self.now place }
+    {
+        self.free_len(place) == self.len(place)
+    }
+
+    /// The port whose pool it is; 0 where there is no pool.
+    #[inline]
+    pub fn owner(&self, place: usize) -> u64
+        ensures { result ≡ owner_of self.now place }
+    {
+        if place < self.pools.len() {
+            return port_of(&self.pools[place]);
+        }
+        0
+    }
+
+    /// The ids of that port's node and of the port itself.
+    #[inline]
+    pub fn ids(&self, place: usize) -> Option<(UniqueSystemId, UniqueSystemId)>
+        ensures { result ≡ option_map (λ p. (p.node_id, p.port_id)) (pool_at self.now place) }
+    {
+        if place < self.pools.len() {
+            return ids_of(&self.pools[place]);
+        }
+        None
+    }
+
+    // ---- pools come and go
+
+    /// The first vacant place, if there is one.
+    fn vacant(&self) -> Option<usize>
+        ensures first { result ≡ position is_none self.now }
+        ensures within { IfSome result (λ place. place < length self.now) }
+    {
+        self.pools.iter().position(|pool| pool.is_none())
+    }
+
+    /// Makes a pool of so many slots that nobody has, and tells its place: the first that is vacant,
+    /// or else a new one. It fails only for want of memory.
+    pub fn add(
+        &mut self,
+        alloc: Global,
+        port: u64,
+        node_id: UniqueSystemId,
+        port_id: UniqueSystemId,
+        size: usize,
+    ) -> Result<usize, AllocError>
+        ensures place { IfOk result (λ place. place ≡ place_for_one self.old) }
+        ensures added { OnOk result (self.new ≡ with_one_more self.old (new_pool port node_id port_id size)) }
+        ensures unchanged { OnErr result (self.new ≡ self.old) }
+    {
+        let pool = Pool::new(alloc, port, node_id, port_id, size)?;
+        match self.vacant() {
+            Some(place) => {
+                self.pools[place] = Some(pool);
+                Ok(place)
+            }
+            None => {
+                self.pools.push(Some(pool))?;
+                Ok(self.pools.len() - 1)
+            }
+        }
+    }
+
+    /// Removes the pool in this place, if there is one: the place is vacant then.
+    pub fn remove(&mut self, place: usize)
+        ensures { self.new ≡ without_pool self.old place }
+    {
+        if place < self.pools.len() {
+            self.pools[place] = None;
+        }
+    }
+}
+
+impl Labels for Pools {
+    ghost label_of = { labels_of };
+
+    #[inline]
+    fn label(&self, pool: usize, place: u64) -> Label {
+        match self.slot(pool, place) {
+            Some(slot) => Label {
+                lane: slot.lane(),
+                request: slot.request(),
+            },
+            None => Label {
+                lane: 0,
+                request: 0,
+            },
+        }
+    }
+}

@@ -1,0 +1,126 @@
+//! A message in its place of a pool, but for its words.
+ghost use Rattle.std.specs.Prelude.{◌≡◌, ◌<◌, ◌^◌, ◌-◌};
+ghost use Rattle.iox_hub_states.specs.Tables.{no_slot};
+ghost use Rattle.iox_slots.specs.Slots.{held, is_free, let_go, written};
+
+use std::marker::Model;
+
+/// A message in its place of a pool, but for its words, and how many lanes and handles have it.
+#[derive(Clone, Copy, Debug, PartialEq, Eq, Drop)]
+pub struct Slot {
+    serial: u64,
+    lane: u64,
+    request: u64,
+    elements: u64,
+    holders: u64,
+}
+
+impl Model for Slot {
+    ghost use Rattle.iox_hub_states.specs.Tables.{SlotState};
+
+    ghost Value = { SlotState };
+
+    ghost view = { λ s. record { serial = s.serial; lane = s.lane; request = s.request; elements = s.elements; holders = s.holders } };
+
+    ghost inverse = { λ v. record { serial = v.serial; lane = v.lane; request = v.request; elements = v.elements; holders = v.holders } };
+}
+
+impl Slot {
+    /// Its message's number, of all that its port ever sent.
+    #[inline]
+    pub fn serial(&self) -> u64
+        ensures { result ≡ self.now.serial }
+    {
+        self.serial
+    }
+
+    /// The lane of its responses.
+    #[inline]
+    pub fn lane(&self) -> u64
+        ensures { result ≡ self.now.lane }
+    {
+        self.lane
+    }
+
+    /// The request that it is or answers.
+    #[inline]
+    pub fn request(&self) -> u64
+        ensures { result ≡ self.now.request }
+    {
+        self.request
+    }
+
+    /// How many elements it has.
+    #[inline]
+    pub fn elements(&self) -> u64
+        ensures { result ≡ self.now.elements }
+    {
+        self.elements
+    }
+
+    /// How many lanes and handles have it.
+    #[inline]
+    pub fn holders(&self) -> u64
+        ensures { result ≡ self.now.holders }
+    {
+        self.holders
+    }
+
+    // ---- in its pool
+
+    /// A slot that nothing was ever written to.
+    pub(crate) fn new() -> Slot
+        ensures { result ≡ no_slot }
+    {
+        Slot {
+            serial: 0,
+            lane: 0,
+            request: 0,
+            elements: 0,
+            holders: 0,
+        }
+    }
+
+    /// Whether nobody has it.
+    #[inline]
+    pub(crate) fn is_free(&self) -> bool
+        ensures { result ≡ is_free self.now }
+    {
+        self.holders == 0
+    }
+
+    /// The slot as it is when one more has it.
+    #[inline]
+    pub(crate) fn held(self) -> Slot
+        requires { self.holders < 2 ^ 64 - 1 }
+        ensures { result ≡ held self }
+    {
+        let mut slot = self;
+        slot.holders += 1;
+        slot
+    }
+
+    /// The slot as it is when one less has it. Where nobody has it, it stays.
+    #[inline]
+    pub(crate) fn let_go(self) -> Slot
+        ensures { result ≡ let_go self }
+    {
+        let mut slot = self;
+        slot.holders = slot.holders.saturating_sub(1);
+        slot
+    }
+
+    /// The slot with another message. Who has the slot still has it.
+    #[inline]
+    pub(crate) fn written(self, serial: u64, lane: u64, request: u64, elements: u64) -> Slot
+        ensures { result ≡ written serial lane request elements self }
+    {
+        Slot {
+            serial,
+            lane,
+            request,
+            elements,
+            holders: self.holders,
+        }
+    }
+}
