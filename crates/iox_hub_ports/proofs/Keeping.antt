@@ -1,0 +1,149 @@
+-- What is so of the ports of a hub stays so where one is changed, and where one comes or goes.
+use Rattle.std.specs.Prelude.{◌≡◌, ℕ, zero, suc, ◌+◌, ◌-◌, ◌<◌, ◌≤◌, Bool, true, false, ◌||◌, if◌then◌else◌, ◌==◌, List, [], ◌∷◌, ◌++◌, length, slice_get, slice_set, Option, Some, None, is_some, refl}
+use Rattle.std.specs.List.{remove}
+use Rattle.std.specs.Option.{option_map_or}
+use Rattle.std.proofs.Common.{sym, ap, subst, ◌∙◌, arith, get_or, true≢false}
+use Rattle.std.proofs.lemmas.Bool.{false≢true}
+use Rattle.iox_model.specs.declared.way.Way.{Way}
+use Rattle.iox_model.specs.declared.way.RequestState.{RequestState}
+use Rattle.iox_model.specs.Maps.{AreDistinct, has_number}
+use Rattle.iox_lanes.specs.Lanes.{LaneState}
+use Rattle.iox_lanes.specs.Pipes.{with_lane, with_state}
+use Rattle.iox_hub_states.specs.Tables.{PortState, numbers_of, port_in}
+use Rattle.iox_hub_states.specs.Ways.{with_lane_on, with_lanes_on, with_state_on, with_states_on}
+use Rattle.iox_hub_states.proofs.Keys.{flip, lane_sender, same_mapped, same_number, state_sender}
+use Rattle.iox_hub_ports.proofs.Firsts.{first_gone, some_first}
+use Rattle.iox_hub_ports.specs.Ports.{IsPorts, way_from, with_lane_at, place_in, without_port, with_lane_from, with_state_from}
+
+-- ---- changes of ways keep all numbers
+
+pub lane_keeps : (g : LaneState → LaneState) (ports : List PortState) (w : Way) → numbers_of (with_lane_on g ports w) ≡ numbers_of ports
+lane_keeps g ports w =
+    same_mapped (λ p. p.number) (λ p. with_lane_from g p w.sender w.lane) (λ p. p.number)
+    (same_number (λ q. with_lane g q w.lane) (lane_sender g w.lane) w.sender) ports w.receiver
+
+pub state_keeps : (g : RequestState → RequestState) (ports : List PortState) (w : Way) → numbers_of (with_state_on g ports w) ≡ numbers_of ports
+state_keeps g ports w =
+    same_mapped (λ p. p.number) (λ p. with_state_from g p w.receiver w.lane) (λ p. p.number)
+    (same_number (λ q. with_state g q w.lane) (state_sender g w.lane) w.receiver) ports w.sender
+
+pub lane_at_keeps : (g : LaneState → LaneState) (ports : List PortState) (i s lane : ℕ) → numbers_of (with_lane_at g ports i s lane) ≡ numbers_of ports
+lane_at_keeps g ports i s lane = step (slice_get ports i)
+  where
+    step : (o : Option PortState) → numbers_of (option_map_or (λ p. with_lane_on g ports (way_from s lane p.number)) o ports) ≡ numbers_of ports
+    step (Some p) = lane_keeps g ports (way_from s lane p.number)
+    step None = refl
+
+pub lanes_keep : (g : LaneState → LaneState) (ports : List PortState) (ws : List Way) → numbers_of (with_lanes_on g ports ws) ≡ numbers_of ports
+lanes_keep g ports [] = refl
+lanes_keep g ports (w ∷ ws) = lanes_keep g (with_lane_on g ports w) ws ∙ lane_keeps g ports w
+
+pub states_keep : (g : RequestState → RequestState) (ports : List PortState) (ws : List Way) → numbers_of (with_states_on g ports ws) ≡ numbers_of ports
+states_keep g ports [] = refl
+states_keep g ports (w ∷ ws) = states_keep g (with_state_on g ports w) ws ∙ state_keeps g ports w
+
+-- ---- the ports stay apart, and there stays memory
+
+length-numbers : (ports : List PortState) → length (numbers_of ports) ≡ length ports
+length-numbers [] = refl
+length-numbers (p ∷ ps) = ap suc (length-numbers ps)
+
+pub IsPorts-kept : (xs ys : List PortState) (room cap cap' : ℕ) → IsPorts xs room cap → numbers_of ys ≡ numbers_of xs → cap' ≡ cap
+    → IsPorts ys room cap'
+IsPorts-kept xs ys room cap cap' i same e =
+    let size : length ys ≡ length xs = sym (length-numbers ys) ∙ ap length same ∙ length-numbers xs in record {
+      apart = subst (λ ns. AreDistinct ns) (sym same) i.apart;
+      fits = omega (arith, i.fits, size, e);
+    }
+
+set_number : (xs : List PortState) (n : ℕ) (p q : PortState) → p ≡ get_or xs n p → q.number ≡ p.number → numbers_of (slice_set xs n q) ≡ numbers_of xs
+set_number [] n p q e same = refl
+set_number (x ∷ xs) zero p q e same = ap (λ k. k ∷ numbers_of xs) (same ∙ ap (λ (r : PortState). r.number) e)
+set_number (x ∷ xs) (suc n) p q e same = ap (λ ks. x.number ∷ ks) (set_number xs n p q e same)
+
+pub IsPorts-set : (xs : List PortState) (n room cap : ℕ) (p q : PortState) → IsPorts xs room cap → p ≡ get_or xs n p → q.number ≡ p.number
+    → IsPorts (slice_set xs n q) room cap
+IsPorts-set xs n room cap p q i e same = IsPorts-kept xs (slice_set xs n q) room cap cap i (set_number xs n p q e same) refl
+
+-- ---- a port comes
+
+neither : (a b : Bool) → (a || b) ≡ false → (a ≡ false) × (b ≡ false)
+neither true b e = absurd (true≢false e)
+neither false b e = (refl, e)
+
+behind : (ns : List ℕ) (m n : ℕ) → has_number m ns ≡ false → (n == m) ≡ false → has_number m (ns ++ n ∷ []) ≡ false
+behind [] m n e h = ap (λ b. b || false) h
+behind (k ∷ ks) m n e h =
+    let parts = neither (k == m) (has_number m ks) e in
+    ap (λ b. b || has_number m (ks ++ n ∷ [])) parts.0 ∙ behind ks m n parts.1 h
+
+distinct_behind : (ns : List ℕ) (n : ℕ) → AreDistinct ns → has_number n ns ≡ false → AreDistinct (ns ++ n ∷ [])
+distinct_behind [] n apart e = (refl, tt)
+distinct_behind (k ∷ ks) n apart e =
+    let parts = neither (k == n) (has_number n ks) e in
+    (behind ks k n apart.0 (flip n k ∙ parts.0), distinct_behind ks n apart.1 parts.1)
+
+numbers_behind : (ports : List PortState) (p : PortState) → numbers_of (ports ++ p ∷ []) ≡ numbers_of ports ++ p.number ∷ []
+numbers_behind [] p = refl
+numbers_behind (q ∷ qs) p = ap (λ ns. q.number ∷ ns) (numbers_behind qs p)
+
+length_behind : (ports : List PortState) (p : PortState) → length (ports ++ p ∷ []) ≡ suc (length ports)
+length_behind [] p = refl
+length_behind (q ∷ qs) p = ap suc (length_behind qs p)
+
+pub IsPorts-added : (xs ys : List PortState) (room cap cap' : ℕ) (p : PortState) → IsPorts xs room cap → 0 < room
+    → has_number p.number (numbers_of xs) ≡ false → ys ≡ xs ++ p ∷ [] → cap' ≡ cap → IsPorts ys (room - 1) cap'
+IsPorts-added xs ys room cap cap' p i some fresh is e =
+    let size : length ys ≡ suc (length xs) = ap length is ∙ length_behind xs p in record {
+      apart = subst (λ (ps : List PortState). AreDistinct (numbers_of ps)) (sym is)
+          (subst (λ ns. AreDistinct ns) (sym (numbers_behind xs p)) (distinct_behind (numbers_of xs) p.number i.apart fresh));
+      fits = omega (arith, i.fits, size, e, some);
+    }
+
+-- ---- a port goes
+
+still_off : (xs : List PortState) (n m : ℕ) → has_number m (numbers_of xs) ≡ false → has_number m (numbers_of (without_port xs n)) ≡ false
+still_off [] n m e = refl
+still_off (x ∷ xs) n m e =
+    let parts = neither (x.number == m) (has_number m (numbers_of xs)) e in
+    step (x.number == n) parts.0 parts.1 (still_off xs n m parts.1)
+  where
+    step : (b : Bool) → (x.number == m) ≡ false → has_number m (numbers_of xs) ≡ false
+        → has_number m (numbers_of (without_port xs n)) ≡ false → has_number m (numbers_of (if b then xs else x ∷ without_port xs n)) ≡ false
+    step true f g rest = g
+    step false f g rest = ap (λ b. b || has_number m (numbers_of (without_port xs n))) f ∙ rest
+
+still_distinct : (xs : List PortState) (n : ℕ) → AreDistinct (numbers_of xs) → AreDistinct (numbers_of (without_port xs n))
+still_distinct [] n apart = tt
+still_distinct (x ∷ xs) n apart = step (x.number == n) (still_off xs n x.number apart.0) (still_distinct xs n apart.1)
+  where
+    step : (b : Bool) → has_number x.number (numbers_of (without_port xs n)) ≡ false → AreDistinct (numbers_of (without_port xs n))
+        → AreDistinct (numbers_of (if b then xs else x ∷ without_port xs n))
+    step true off rest = apart.1
+    step false off rest = (off, rest)
+
+one_less : (xs : List PortState) (n : ℕ) → is_some (port_in xs n) ≡ true → suc (length (without_port xs n)) ≡ length xs
+one_less [] n e = absurd (false≢true e)
+one_less (x ∷ xs) n e = step (x.number == n) (one_less xs n) e
+  where
+    step : (b : Bool) → (is_some (port_in xs n) ≡ true → suc (length (without_port xs n)) ≡ length xs)
+        → is_some (if b then Some x else port_in xs n) ≡ true → suc (length (if b then xs else x ∷ without_port xs n)) ≡ suc (length xs)
+    step true rest h = refl
+    step false rest h = ap suc (rest h)
+
+pub IsPorts-removed : (xs ys : List PortState) (room cap cap' n i : ℕ) → IsPorts xs room cap → place_in xs n ≡ Some i
+    → ys ≡ remove xs i → cap' ≡ cap → IsPorts ys (room + 1) cap'
+IsPorts-removed xs ys room cap cap' n i inv e is same =
+    let gone : ys ≡ without_port xs n = is ∙ first_gone (λ p. p.number) xs n i e in
+    let size : suc (length (without_port xs n)) ≡ length xs = one_less xs n (some_first (λ p. p.number) xs n 0 i e) in
+    let length_is : length ys ≡ length (without_port xs n) = ap length gone in record {
+      apart = subst (λ (ps : List PortState). AreDistinct (numbers_of ps)) (sym gone) (still_distinct xs n inv.apart);
+      fits = omega (arith, inv.fits, size, length_is, same);
+    }
+
+pub room_for_one : (xs : List PortState) (room cap n i : ℕ) → IsPorts xs room cap → place_in xs n ≡ Some i → suc room ≤ cap
+room_for_one xs room cap n i inv e =
+    let size : suc (length (without_port xs n)) ≡ length xs = one_less xs n (some_first (λ p. p.number) xs n 0 i e) in
+    omega (arith, inv.fits, size)
+
+pub ruleset kept = (IsPorts-kept, IsPorts-set)

@@ -1,0 +1,6 @@
+pub mod Firsts
+pub mod Places
+pub mod Seats
+pub mod Pushes
+pub mod Walking
+pub mod Keeping

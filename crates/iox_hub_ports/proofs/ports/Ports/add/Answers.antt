@@ -1,0 +1,13 @@
+use Rattle.std.proofs.Common.{◌≡◌, ◌<◌, false, subst, sym}
+use Rattle.iox_model.specs.Maps.{has_number}
+use Rattle.iox_hub_states.specs.Tables.{numbers_of}
+use Rattle.iox_hub_ports.specs.Ports.{PortsState}
+use Rattle.iox_hub_ports.proofs.Keeping.{IsPorts-added}
+use Rattle.iox_hub_ports.proofs.ports.Ports.add.Goals as goal
+
+pub invariant_of-self : goal.invariant_of-self
+invariant_of-self c =
+    IsPorts-added c.self.inside.ports.items c.push_reserved.new.self.items c.self.inside.room _ _ c.args.port c.self.invariant
+    (subst (λ (s : PortsState). 0 < s.room) (sym c.self.view_is) c.requires.room)
+    (subst (λ (s : PortsState). has_number c.args.port.number (numbers_of s.ports) ≡ false) (sym c.self.view_is) c.requires.fresh)
+    c.push_reserved.ensures.items c.push_reserved.ensures.capacity

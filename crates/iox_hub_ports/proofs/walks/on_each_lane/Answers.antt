@@ -1,0 +1,32 @@
+use Rattle.std.proofs.Common.{ap, ◌∙◌, arith}
+use Rattle.iox_hub_states.specs.Tables.{numbers_of}
+use Rattle.iox_hub_ports.proofs.Keeping.{lanes_keep}
+use Rattle.iox_hub_ports.specs.Ports.{if_role, ways_from, with_lane_from}
+use Rattle.iox_hub_ports.proofs.Walking.{each_lane, ends, set_size, turns}
+use Rattle.iox_hub_ports.proofs.walks.on_each_lane.Goals as goal
+
+pub loop-i-preserved : goal.loop-i-preserved
+loop-i-preserved g c = record {
+  walks = turns (if_role c.args.role (λ p. with_lane_from (g.S.LaneStep.changed c.args.step.now) p c.args.sender c.args.lane))
+      c.args.ports.now.items c.loop-i.ports.items c.loop-i.i c.index_mut.result.now c.on_lane_if.new.port
+      c.loop-i.invariant.walks (omega (arith, c.loop-i-test.true, c.loop-i.invariant.size)) c.index_mut.ensures.value
+      c.on_lane_if.ensures;
+  size = set_size c.loop-i.ports.items c.loop-i.i c.on_lane_if.new.port ∙ c.loop-i.invariant.size;
+  capacity = c.loop-i.invariant.capacity;
+}
+
+pub returns-clause-changed : goal.returns-clause-changed
+returns-clause-changed g c =
+    ends (if_role c.args.role (λ p. with_lane_from (g.S.LaneStep.changed c.args.step.now) p c.args.sender c.args.lane))
+    c.args.ports.now.items c.loop-i.ports.items c.loop-i.i c.loop-i.invariant.walks
+    (omega (arith, c.loop-i-test.false, c.loop-i.invariant.size))
+    ∙ each_lane (g.S.LaneStep.changed c.args.step.now) c.args.sender c.args.lane c.args.role c.args.ports.now.items c.requires.apart
+
+pub returns-clause-numbers : goal.returns-clause-numbers
+returns-clause-numbers g c =
+    ap numbers_of
+    (ends (if_role c.args.role (λ p. with_lane_from (g.S.LaneStep.changed c.args.step.now) p c.args.sender c.args.lane))
+    c.args.ports.now.items c.loop-i.ports.items c.loop-i.i c.loop-i.invariant.walks
+    (omega (arith, c.loop-i-test.false, c.loop-i.invariant.size))
+    ∙ each_lane (g.S.LaneStep.changed c.args.step.now) c.args.sender c.args.lane c.args.role c.args.ports.now.items c.requires.apart)
+    ∙ lanes_keep (g.S.LaneStep.changed c.args.step.now) c.args.ports.now.items (ways_from c.args.sender c.args.lane c.args.role c.args.ports.now.items)

@@ -1,0 +1,12 @@
+//! The connected ports of a hub, and what comes to each: a port is looked up by its number, and
+//! changed on one way.
+#![tactic(auto)]
+
+pub mod info;
+pub mod port;
+pub mod ports;
+pub mod steps;
+#[cfg(test)]
+mod tests;
+pub mod uses;
+pub mod walks;

@@ -1,0 +1,221 @@
+//! A connected port, and what comes to it.
+ghost use Rattle.std.specs.Prelude.{◌≡◌, ◌<◌, ◌+◌, ◌^◌, ◌-◌, None, List, ℕ, true};
+ghost use Rattle.iox_hub_states.specs.Asks.{waits_for};
+ghost use Rattle.iox_hub_states.specs.Receives.{both_visits, visited_port};
+ghost use Rattle.iox_lanes.specs.declared.incoming.Visits.TheVariants.{AtLimit};
+ghost use Rattle.iox_hub_states.specs.Tables.{PortState, pipe_from, pipes_of};
+ghost use Rattle.iox_lanes.specs.Incomings.{has_room_for};
+ghost use Rattle.iox_lanes.specs.Lanes.{is_full};
+ghost use Rattle.iox_lanes.specs.Visited.{all_visits};
+ghost use Rattle.iox_hub_ports.specs.Ports.{info_of, lane_to_get_on, on_lane_from, port_of, state_from, with_connected, with_lane_from, with_loan_counted, with_state_from, without_pipe_from, without_value};
+
+use crate::info::PortInfo;
+use crate::steps::{LaneStep, StateStep};
+use iox_lanes::incoming::{Incoming, Visits};
+use iox_lanes::pipe::Pipe;
+use iox_lanes::wanted::{Labels, Wanted};
+use iox_model::kind::Role;
+use iox_model::way::RequestState;
+use std::marker::Model;
+
+/// A connected port: what is said of it, and what comes to it. Pipes from ports that are gone stand
+/// before those from connected ports.
+#[derive(Drop)]
+pub struct Port {
+    info: PortInfo,
+    expired: Incoming,
+    incoming: Incoming,
+}
+
+impl Model for Port {
+    ghost use Rattle.iox_hub_states.specs.Tables.{PortState};
+    ghost use Rattle.iox_hub_ports.specs.Ports.{port_of};
+
+    ghost Value = { PortState };
+
+    ghost view = { λ p. port_of p.info p.expired p.incoming };
+}
+
+/// What visits come to after others that gave no message, since there was a lane at its limit.
+fn after_limit(visits: Visits) -> Visits
+    ensures { result ≡ both_visits AtLimit visits }
+{
+    match visits {
+        Visits::Got(sender, pool, place) => Visits::Got(sender, pool, place),
+        Visits::AtLimit => Visits::AtLimit,
+        Visits::Nothing => Visits::AtLimit,
+    }
+}
+
+impl Port {
+    /// A port to which these pipes lead.
+    pub fn new(info: PortInfo, expired: Incoming, incoming: Incoming) -> Port
+        ensures { result ≡ port_of info expired incoming }
+    {
+        Port {
+            info,
+            expired,
+            incoming,
+        }
+    }
+
+    /// What is said of it beside what comes to it.
+    #[inline]
+    pub fn info(&self) -> PortInfo
+        ensures { result ≡ info_of self.now }
+    {
+        self.info
+    }
+
+    /// Its number.
+    #[inline]
+    pub fn number(&self) -> u64
+        ensures { result ≡ self.now.number }
+    {
+        self.info.number
+    }
+
+    /// Its role.
+    #[inline]
+    pub fn role(&self) -> Role
+        ensures { result ≡ self.now.role }
+    {
+        self.info.role
+    }
+
+    /// Counts one loan more.
+    #[inline]
+    pub fn count_loan(&mut self)
+        requires { self.old.loans < 2 ^ 64 - 1 }
+        ensures { self.new ≡ with_loan_counted self.old }
+    {
+        self.info.loans += 1;
+    }
+
+    /// Its own value is gone.
+    #[inline]
+    pub fn release_value(&mut self)
+        ensures { self.new ≡ without_value self.old }
+    {
+        self.info.held = false;
+    }
+
+    // ---- one lane, or one request state
+
+    /// Takes a step on the lane of that number, of the pipe from this sender.
+    #[inline]
+    pub fn on_lane<S: LaneStep>(&mut self, sender: u64, lane: usize, step: &S) -> S::Answer
+        ensures told { result
+            ≡ on_lane_from (S.told step.now) (S.none step.now) self.old sender lane }
+        ensures changed { self.new ≡ with_lane_from (S.changed step.now) self.old sender lane }
+    {
+        match self.expired.rank(sender) {
+            Some(rank) => step.step(&mut self.expired, rank, lane),
+            None => match self.incoming.rank(sender) {
+                Some(rank) => step.step(&mut self.incoming, rank, lane),
+                None => step.nothing(),
+            },
+        }
+    }
+
+    /// Takes a step on the request state of that lane, beside the pipe from this sender.
+    #[inline]
+    pub fn on_state<S: StateStep>(&mut self, sender: u64, lane: usize, step: &S)
+        ensures { self.new ≡ with_state_from (S.changed step.now) self.old sender lane }
+    {
+        match self.expired.rank(sender) {
+            Some(rank) => step.step(&mut self.expired, rank, lane),
+            None => match self.incoming.rank(sender) {
+                Some(rank) => step.step(&mut self.incoming, rank, lane),
+                None => {}
+            },
+        }
+    }
+
+    /// Whether as many messages wait on that lane, from this sender, as may.
+    #[inline]
+    pub fn is_full(&self, sender: u64, lane: usize) -> bool
+        ensures { result ≡ on_lane_from is_full true self.now sender lane }
+    {
+        match self.expired.rank(sender) {
+            Some(rank) => self.expired.is_full(rank, lane),
+            None => match self.incoming.rank(sender) {
+                Some(rank) => self.incoming.is_full(rank, lane),
+                None => true,
+            },
+        }
+    }
+
+    /// The request state of that lane, beside the pipe from this sender; closed where there is none.
+    #[inline]
+    pub fn state(&self, sender: u64, lane: u64) -> RequestState
+        ensures { result ≡ state_from self.now sender lane }
+    {
+        match self.expired.rank(sender) {
+            Some(rank) => self.expired.state(rank, lane),
+            None => match self.incoming.rank(sender) {
+                Some(rank) => self.incoming.state(rank, lane),
+                None => RequestState::Closed,
+            },
+        }
+    }
+
+    /// The lowest lane from this sender on which something is left to get back, if there is one.
+    #[inline]
+    pub fn lane_to_get(&mut self, sender: u64) -> Option<usize>
+        ensures lowest { result ≡ lane_to_get_on (pipes_of self.old) sender }
+        ensures unchanged { self.new ≡ self.old }
+    {
+        match self.expired.rank(sender) {
+            Some(rank) => self.expired.lane_to_get(rank),
+            None => match self.incoming.rank(sender) {
+                Some(rank) => self.incoming.lane_to_get(rank),
+                None => None,
+            },
+        }
+    }
+
+    // ---- the receiver
+
+    /// Whether something waits on the lane of that number, from some sender.
+    pub fn has_waiting(&self, lane: usize) -> bool
+        ensures { result ≡ waits_for self.now lane }
+    {
+        self.expired.has_waiting_from_any(lane) || self.incoming.has_waiting_from_any(lane)
+    }
+
+    /// Visits the lane of that number of each sender until one gives a message: first of the
+    /// senders that are gone.
+    pub fn visit<L: Labels>(&mut self, lane: usize, wanted: Wanted, labels: &L) -> Visits
+        ensures visits { result
+            ≡ all_visits wanted (L.label_of labels.now) lane (pipes_of self.old) }
+        ensures visited { self.new ≡ visited_port wanted (L.label_of labels.now) lane self.old }
+    {
+        match self.expired.visit_all(lane, wanted, labels) {
+            Visits::Got(sender, pool, place) => Visits::Got(sender, pool, place),
+            Visits::Nothing => self.incoming.visit_all(lane, wanted, labels),
+            Visits::AtLimit => after_limit(self.incoming.visit_all(lane, wanted, labels)),
+        }
+    }
+
+    // ---- connected senders
+
+    /// One more pipe leads to the port. It says whether there was room.
+    pub fn connect(&mut self, pipe: Pipe) -> bool
+        ensures room { result ≡ has_room_for self.old.incoming }
+        ensures connected { self.new ≡ with_connected self.old pipe }
+    {
+        self.incoming.connect(pipe)
+    }
+
+    /// Takes the pipe from this connected sender out, if there is one.
+    pub fn disconnect(&mut self, sender: u64) -> Option<Pipe>
+        ensures pipe { result ≡ pipe_from self.old.incoming.pipes sender }
+        ensures disconnected { self.new ≡ without_pipe_from self.old sender }
+    {
+        match self.incoming.rank(sender) {
+            Some(rank) => self.incoming.disconnect(rank),
+            None => None,
+        }
+    }
+}

@@ -1,0 +1,224 @@
+//! The connected ports of a hub.
+#![tactic(auto, using(crate::proofs::Keeping::kept))]
+
+ghost use Rattle.std.specs.Prelude.{◌≡◌, ◌<◌, ◌^◌, ◌-◌, ◌+◌, IfOk, IsSome, OnErr, OnOk, None, false, length};
+ghost use Rattle.std.specs.Option.{option_map_or};
+ghost use Rattle.iox_model.specs.Maps.{AreDistinct, has_number};
+ghost use Rattle.iox_lanes.specs.Incomings.{has_room_for};
+ghost use Rattle.iox_lanes.specs.Lanes.{is_taken, released};
+ghost use Rattle.iox_lanes.specs.Visited.{all_visits};
+ghost use Rattle.iox_hub_states.specs.Asks.{waits_for};
+ghost use Rattle.iox_hub_states.specs.Receives.{visited_port};
+ghost use Rattle.iox_hub_states.specs.Tables.{numbers_of, pipe_from, pipes_to, port_in};
+ghost use Rattle.iox_hub_states.specs.Ways.{with_lane_on, with_port};
+ghost use Rattle.iox_hub_ports.specs.Ports.{info_at, info_in, no_ports, on_way, with_connected, with_loan_counted, with_port_added, with_port_removed, with_ports, without_pipe_from, without_value};
+
+mod sender;
+mod states;
+
+use crate::info::PortInfo;
+use crate::port::Port;
+use crate::steps::Release;
+use crate::walks::{on_lane_of, place_of};
+use iox_lanes::incoming::Visits;
+use iox_lanes::pipe::Pipe;
+use iox_lanes::wanted::{Labels, Wanted};
+use iox_model::way::Way;
+use std::alloc::{AllocError, Global};
+use std::marker::Model;
+
+/// The connected ports of a hub, oldest first. Room for them is reserved before they come: only
+/// `new` and `reserve` take memory.
+///
+/// Where there is no port of a number, or no such lane, nothing waits, and nothing is changed.
+#[derive(Drop)]
+pub struct Ports {
+    ports: Vec<Port>,
+    // How many may be added.
+    room: usize,
+}
+
+impl Model for Ports {
+    ghost use Rattle.std.specs.Vec.{vec_capacity};
+    ghost use Rattle.iox_hub_ports.specs.Ports.{IsPorts, PortsState};
+
+    ghost Value = { PortsState };
+
+    ghost view = { λ s. record { room = s.room; ports = s.ports.items } };
+
+    ghost invariant = { λ s. IsPorts s.ports.items s.room (vec_capacity s.ports) };
+}
+
+impl Ports {
+    /// No port, and room for so many.
+    pub fn new(alloc: Global, room: usize) -> Result<Ports, AllocError>
+        ensures { IfOk result (λ ports. ports ≡ no_ports room) }
+    {
+        Ok(Ports {
+            ports: Vec::with_capacity(alloc, room)?,
+            room,
+        })
+    }
+
+    /// How many ports are connected.
+    #[inline]
+    pub fn len(&self) -> usize
+        ensures len { result ≡ length self.now.ports }
+        ensures apart { AreDistinct (numbers_of self.now.ports) }
+    {
+        self.ports.len()
+    }
+
+    /// How many ports may be added.
+    #[inline]
+    pub fn room(&self) -> usize
+        ensures { result ≡ self.now.room }
+    {
+        self.room
+    }
+
+    /// Makes room for so many ports more.
+    pub fn reserve(&mut self, more: usize) -> Result<(), AllocError>
+        ensures reserved { OnOk result (self.new ≡ record (self.old) { room = self.old.room + more }) }
+        ensures unchanged { OnErr result (self.new ≡ self.old) }
+    {
+        let Some(room) = self.room.checked_add(more) else {
+            return Err(AllocError);
+        };
+        self.ports.reserve(room)?;
+        self.room = room;
+        Ok(())
+    }
+
+    /// Adds a port of a new number.
+    pub fn add(&mut self, port: Port)
+        requires room { 0 < self.old.room }
+        requires fresh { has_number port.number (numbers_of self.old.ports) ≡ false }
+        ensures { self.new ≡ with_port_added self.old port }
+    {
+        self.room -= 1;
+        self.ports.push_reserved(port);
+    }
+
+    /// Takes the port of that number out, if there is one.
+    pub fn remove(&mut self, number: u64) -> Option<Port>
+        ensures port { result ≡ port_in self.old.ports number }
+        ensures removed { IsSome result → self.new ≡ with_port_removed self.old number }
+        ensures unchanged { result ≡ None → self.new ≡ self.old }
+    {
+        match place_of(&self.ports, number) {
+            None => None,
+            Some(place) => {
+                self.room += 1;
+                Some(self.ports.remove(place))
+            }
+        }
+    }
+
+    /// What is said of the port of that number.
+    pub fn find(&self, number: u64) -> Option<PortInfo>
+        ensures { result ≡ info_in self.now.ports number }
+    {
+        match place_of(&self.ports, number) {
+            Some(place) => Some(self.ports[place].info()),
+            None => None,
+        }
+    }
+
+    /// What is said of the port in that place, of all in their order.
+    #[inline]
+    pub fn at(&self, place: usize) -> Option<PortInfo>
+        ensures { result ≡ info_at self.now.ports place }
+    {
+        if place < self.ports.len() {
+            return Some(self.ports[place].info());
+        }
+        None
+    }
+
+    /// Counts one loan more of the port of that number.
+    pub fn count_loan(&mut self, number: u64)
+        requires { option_map_or (λ p. p.loans) (port_in self.old.ports number) 0 < 2 ^ 64 - 1 }
+        ensures { self.new
+            ≡ with_ports self.old (with_port with_loan_counted self.old.ports number) }
+    {
+        match place_of(&self.ports, number) {
+            Some(place) => self.ports[place].count_loan(),
+            None => {}
+        }
+    }
+
+    /// The own value of the port of that number is gone.
+    pub fn release_value(&mut self, number: u64)
+        ensures { self.new ≡ with_ports self.old (with_port without_value self.old.ports number) }
+    {
+        match place_of(&self.ports, number) {
+            Some(place) => self.ports[place].release_value(),
+            None => {}
+        }
+    }
+
+    // ---- the receiver
+
+    /// Whether something waits for the port of that number on a lane, from some sender.
+    pub fn has_waiting(&self, number: u64, lane: u64) -> bool
+        ensures { result
+            ≡ option_map_or (λ p. waits_for p lane) (port_in self.now.ports number) false }
+    {
+        match place_of(&self.ports, number) {
+            Some(place) => self.ports[place].has_waiting(lane as usize),
+            None => false,
+        }
+    }
+
+    /// Visits that lane of each sender to the port of that number, until one gives a message.
+    pub fn visit<L: Labels>(&mut self, number: u64, lane: u64, wanted: Wanted, labels: &L) -> Visits
+        ensures visits { result
+            ≡ all_visits wanted (L.label_of labels.now) lane (pipes_to self.old.ports number) }
+        ensures visited { self.new ≡ with_ports self.old
+            (with_port (visited_port wanted (L.label_of labels.now) lane) self.old.ports number) }
+    {
+        match place_of(&self.ports, number) {
+            Some(place) => self.ports[place].visit(lane as usize, wanted, labels),
+            None => Visits::Nothing,
+        }
+    }
+
+    /// Gives a message of the way back that its receiver has, and says whether it had it.
+    pub fn release(&mut self, way: Way, place: u64) -> bool
+        ensures taken { result ≡ on_way (λ l. is_taken l place) false self.old.ports way }
+        ensures released { self.new
+            ≡ with_ports self.old (with_lane_on (λ l. released l place) self.old.ports way) }
+    {
+        on_lane_of(&mut self.ports, way, &Release { place })
+    }
+
+    // ---- connected senders
+
+    /// One more pipe leads to the port of that number. It says whether there was room.
+    pub fn connect(&mut self, number: u64, pipe: Pipe) -> bool
+        ensures room { result
+            ≡ option_map_or (λ p. has_room_for p.incoming) (port_in self.old.ports number) false }
+        ensures connected { self.new ≡ with_ports self.old
+            (with_port (λ p. with_connected p pipe) self.old.ports number) }
+    {
+        match place_of(&self.ports, number) {
+            Some(place) => self.ports[place].connect(pipe),
+            None => false,
+        }
+    }
+
+    /// Takes the pipe from this connected sender to the port of that number out, if there is one.
+    pub fn disconnect(&mut self, number: u64, sender: u64) -> Option<Pipe>
+        ensures pipe { result
+            ≡ option_map_or (λ p. pipe_from p.incoming.pipes sender)
+            (port_in self.old.ports number) None }
+        ensures disconnected { self.new ≡ with_ports self.old
+            (with_port (λ p. without_pipe_from p sender) self.old.ports number) }
+    {
+        match place_of(&self.ports, number) {
+            Some(place) => self.ports[place].disconnect(sender),
+            None => None,
+        }
+    }
+}

@@ -1,0 +1,154 @@
+//! Steps on the lanes and request states of ways, and walks over the ports of one role.
+ghost use Rattle.std.specs.Prelude.{◌≡◌, ◌<◌, IfSome, List, None, Some, false, length, true, ℕ};
+ghost use Rattle.std.specs.Vec.{vec_capacity};
+ghost use Rattle.iox_model.specs.Maps.{AreDistinct};
+ghost use Rattle.iox_model.specs.Settings.{same_role};
+ghost use Rattle.iox_hub_states.specs.Tables.{numbers_of};
+ghost use Rattle.iox_hub_states.specs.Ways.{with_lane_on, with_lanes_on, with_state_on, with_states_on};
+ghost use Rattle.iox_hub_ports.specs.Ports.{if_role, on_way, on_way_at, place_in, state_ways, ways_from, with_lane_at, with_lane_from, with_state_from};
+
+use crate::port::Port;
+use crate::steps::{LaneStep, StateStep};
+use iox_model::kind::Role;
+use iox_model::way::Way;
+
+/// The place of the port of that number.
+pub fn place_of(ports: &[Port], number: u64) -> Option<usize>
+    ensures first { result ≡ place_in ports.now number }
+    ensures within { IfSome result (λ place. place < length ports.now) }
+{
+    ports.iter().position(|port| port.number() == number)
+}
+
+/// Whether two roles are one.
+#[inline]
+pub fn is_same_role(role: Role, other: Role) -> bool
+    ensures { result ≡ same_role role other }
+{
+    match role {
+        Role::Client => match other {
+            Role::Client => true,
+            Role::Server => false,
+        },
+        Role::Server => match other {
+            Role::Client => false,
+            Role::Server => true,
+        },
+    }
+}
+
+// ---- one way
+
+/// Takes a step on the lane of a way.
+#[inline]
+pub fn on_lane_of<S: LaneStep>(ports: &mut Vec<Port>, way: Way, step: &S) -> S::Answer
+    ensures told { result ≡ on_way (S.told step.now) (S.none step.now) ports.old.items way }
+    ensures changed { ports.new.items ≡ with_lane_on (S.changed step.now) ports.old.items way }
+    ensures numbers { numbers_of ports.new.items ≡ numbers_of ports.old.items }
+    ensures capacity { vec_capacity ports.new ≡ vec_capacity ports.old }
+{
+    match place_of(ports, way.receiver) {
+        Some(place) => ports[place].on_lane(way.sender, way.lane as usize, step),
+        None => step.nothing(),
+    }
+}
+
+/// Takes a step on the request state of a way.
+#[inline]
+pub fn on_state_of<S: StateStep>(ports: &mut Vec<Port>, way: Way, step: &S)
+    ensures changed { ports.new.items ≡ with_state_on (S.changed step.now) ports.old.items way }
+    ensures numbers { numbers_of ports.new.items ≡ numbers_of ports.old.items }
+    ensures capacity { vec_capacity ports.new ≡ vec_capacity ports.old }
+{
+    match place_of(ports, way.sender) {
+        Some(place) => ports[place].on_state(way.receiver, way.lane as usize, step),
+        None => {}
+    }
+}
+
+/// Takes a step on the lane of that number, from the sender to the port in that place.
+#[inline]
+pub fn on_lane_at<S: LaneStep>(
+    ports: &mut Vec<Port>,
+    place: usize,
+    sender: u64,
+    lane: usize,
+    step: &S,
+) -> S::Answer
+    requires apart { AreDistinct (numbers_of ports.old.items) }
+    ensures told { result
+        ≡ on_way_at (S.told step.now) (S.none step.now) ports.old.items place sender lane }
+    ensures changed { ports.new.items
+        ≡ with_lane_at (S.changed step.now) ports.old.items place sender lane }
+    ensures numbers { numbers_of ports.new.items ≡ numbers_of ports.old.items }
+    ensures capacity { vec_capacity ports.new ≡ vec_capacity ports.old }
+{
+    if place < ports.len() {
+        return ports[place].on_lane(sender, lane, step);
+    }
+    step.nothing()
+}
+
+// ---- the ways to, or from, all ports of one role
+
+/// Takes a step on one lane of the port, if it is of the role.
+#[inline]
+fn on_lane_if<S: LaneStep>(port: &mut Port, role: Role, sender: u64, lane: usize, step: &S)
+    ensures { port.new
+        ≡ if_role role (λ p. with_lane_from (S.changed step.now) p sender lane) port.old }
+{
+    if is_same_role(port.role(), role) {
+        port.on_lane(sender, lane, step);
+    }
+}
+
+/// Takes a step on one request state of the port, if it is of the role.
+#[inline]
+fn on_state_if<S: StateStep>(port: &mut Port, role: Role, sender: u64, lane: usize, step: &S)
+    ensures { port.new
+        ≡ if_role role (λ p. with_state_from (S.changed step.now) p sender lane) port.old }
+{
+    if is_same_role(port.role(), role) {
+        port.on_state(sender, lane, step);
+    }
+}
+
+/// Takes a step on the lane of that number, from this sender to each port of the role.
+pub fn on_each_lane<S: LaneStep>(
+    ports: &mut Vec<Port>,
+    role: Role,
+    sender: u64,
+    lane: usize,
+    step: &S,
+)
+    requires apart { AreDistinct (numbers_of ports.old.items) }
+    ensures changed { ports.new.items
+        ≡ with_lanes_on (S.changed step.now) ports.old.items
+        (ways_from sender lane role ports.old.items) }
+    ensures numbers { numbers_of ports.new.items ≡ numbers_of ports.old.items }
+    ensures capacity { vec_capacity ports.new ≡ vec_capacity ports.old }
+{
+    for i in 0..ports.len() {
+        on_lane_if(&mut ports[i], role, sender, lane, step);
+    }
+}
+
+/// Takes a step on the request state of that lane, from each port of the role to this receiver.
+pub fn on_each_state<S: StateStep>(
+    ports: &mut Vec<Port>,
+    role: Role,
+    receiver: u64,
+    lane: usize,
+    step: &S,
+)
+    requires apart { AreDistinct (numbers_of ports.old.items) }
+    ensures changed { ports.new.items
+        ≡ with_states_on (S.changed step.now) ports.old.items
+        (state_ways receiver lane role ports.old.items) }
+    ensures numbers { numbers_of ports.new.items ≡ numbers_of ports.old.items }
+    ensures capacity { vec_capacity ports.new ≡ vec_capacity ports.old }
+{
+    for i in 0..ports.len() {
+        on_state_if(&mut ports[i], role, receiver, lane, step);
+    }
+}
