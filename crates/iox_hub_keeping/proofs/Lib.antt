@@ -1,0 +1,12 @@
+pub mod Starting
+pub mod Unholding
+pub mod Ordered
+pub mod NewLanes
+pub mod NewPorts
+pub mod NewNumbers
+pub mod NewHandles
+pub mod LeftPorts
+pub mod LeftHandles
+pub mod GonePools
+pub mod Reaching
+pub mod WorkedKeeps

@@ -1,0 +1,12 @@
+pub mod Owning
+pub mod Kept
+pub mod Emptied
+pub mod Back
+pub mod OneMore
+pub mod NewSlot
+pub mod Lent
+pub mod Filled
+pub mod Chosen
+pub mod Bared
+pub mod WholeLoans
+pub mod WorkedHolds
