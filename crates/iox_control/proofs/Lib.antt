@@ -1,0 +1,10 @@
+pub mod Starts
+pub mod EntryLemmas
+pub mod PendingLemmas
+pub mod WholeLemmas
+pub mod VisitCounts
+pub mod ReceiveLemmas
+pub mod ReceiveKept
+pub mod RequestReceived
+pub mod ResponseReceived
+pub mod HintKept

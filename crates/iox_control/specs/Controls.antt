@@ -1,0 +1,88 @@
+-- The tables of a hub as its code keeps them.
+use Rattle.std.specs.Prelude.{◌≡◌, ℕ, ◌≤◌, ◌+◌, ◌-◌, ◌^◌, List, Option}
+use Rattle.iox_handles.specs.Tables.{Contents}
+use Rattle.iox_hub_ports.specs.Ports.{PortsState}
+use Rattle.iox_hub_states.specs.Tables.{HandleState, HubSettings, HubTables, PoolState}
+use Rattle.iox_hub_making.specs.Starts.{no_ports}
+use Rattle.iox_model.specs.declared.kind.Role.{Role}
+use Rattle.iox_hub_states.specs.Ends.{with_added, with_call, DifferInHolders}
+use Rattle.iox_hub_states.specs.Changes.{with_states}
+use Rattle.iox_hub_states.specs.Receives.{got_handle}
+use Rattle.iox_hub_states.specs.Releases.{pending_states, request_of}
+use Rattle.iox_model.specs.Messages.{hinted_for}
+use Rattle.iox_slots.specs.Pools.{with_slot}
+use Rattle.iox_slots.specs.Slots.{held}
+use Rattle.iox_hub_books.specs.Counts.{OfAll, OfAllLanes}
+use Rattle.iox_hub_books.specs.Hubs.{AreInOrder}
+use Rattle.iox_hub_books.specs.Rooms.{CanCountHolders, HasRoomForAll}
+use Rattle.iox_control.specs.declared.settings.Settings.{Settings}
+use Rattle.iox_control.specs.Settings.{settings_of}
+use Rattle.iox_control.specs.Entries.{handles_of}
+
+-- The tables, and for how many handles and ports there is room.
+pub record ControlState : Type 0 where
+  pub tables : HubTables
+  pub room : ℕ
+  pub port_room : ℕ
+
+-- the tables that the parts are
+abbrev pub control_of :
+    Settings → ℕ → ℕ → ℕ → PortsState → Contents → List (Option PoolState) → ControlState
+control_of settings calls next_number ports_made ports handles pools = record {
+  tables = record {
+    settings = settings_of settings;
+    calls = calls;
+    next_number = next_number;
+    ports_made = ports_made;
+    ports = ports.ports;
+    handles = handles_of handles;
+    pools = pools;
+  };
+  room = handles.room;
+  port_room = ports.room;
+}
+
+-- no port was made, and there is room for none
+abbrev pub new_control : HubSettings → ControlState
+new_control settings = record { tables = no_ports settings; room = 0; port_room = 0 }
+
+-- the same room, with other tables
+abbrev pub with_tables : ControlState → HubTables → ControlState
+with_tables c t = record c { tables = t }
+
+-- one handle more, for which there was room
+abbrev pub with_handle : ControlState → HandleState → ControlState
+with_handle c h = record c { tables = with_added c.tables h; room = c.room - 1 }
+
+-- a port of that role got the message in that slot: it has a handle, and the call is counted
+abbrev pub with_got : ControlState → ℕ → Role → ℕ → ℕ → ℕ → ControlState
+with_got c node role port pool k =
+    let t : HubTables = with_call (with_added c.tables (got_handle c.tables node role port pool k)) in
+    record c { tables = record t { pools = with_slot held c.tables.pools pool k }; room = c.room - 1 }
+
+-- each server of the handle's request is told that its client lost interest
+abbrev pub with_hint : HubTables → HandleState → HubTables
+with_hint t h = with_states (λ r. hinted_for r (request_of t h)) t (pending_states t h)
+
+-- ---- what is so between calls
+
+-- Numbers can still be counted: each call gives at most one number to a handle, counts at most one
+-- loan of a port, and delivers at most once on a lane.
+pub record AreCounted (t : HubTables) : Type 0 where
+  pub calls : t.calls ≤ 2 ^ 56 + 1
+  pub ports : t.ports_made ≤ 2 ^ 32
+  pub numbers : t.next_number ≤ t.calls + t.ports_made
+  pub loans : OfAll (λ p. p.loans ≤ t.calls) t.ports
+  pub deliveries : OfAllLanes (λ l. l.deliveries ≤ t.calls) t.ports
+
+-- The tables are in order, and there is room for all handles that may still come.
+pub record IsControl (c : ControlState) : Type 0 where
+  pub order : AreInOrder c.tables
+  pub counted : AreCounted c.tables
+  pub room : HasRoomForAll c.room c.tables
+  pub holders : CanCountHolders c.room c.tables
+
+-- The tables are these, but for how many have each slot.
+pub record IsButHolders (t t' : HubTables) : Type 0 where
+  pub same : t' ≡ record t { pools = t'.pools }
+  pub holders : DifferInHolders t.pools t'.pools

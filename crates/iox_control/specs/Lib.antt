@@ -1,0 +1,4 @@
+pub mod Settings
+pub mod Entries
+pub mod Controls
+pub mod Replies

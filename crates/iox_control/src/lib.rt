@@ -1,0 +1,15 @@
+//! The tables of a hub, and each call of a port or handle as one call of them.
+#![tactic(auto)]
+
+mod control;
+mod questions;
+mod received;
+mod receives;
+mod settings;
+#[cfg(test)]
+mod tests;
+pub mod uses;
+
+pub use control::Control;
+pub use received::Received;
+pub use settings::Settings;

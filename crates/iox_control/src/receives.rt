@@ -1,0 +1,71 @@
+//! The receives of servers and of pending responses.
+ghost use Rattle.std.specs.Prelude.{◌≡◌, ◌<◌, ◌^◌, Some};
+ghost use Rattle.iox_hub_states.specs.Tables.{HandleState};
+ghost use Rattle.iox_hub_states.specs.Receives.{request_reply, response_reply, with_request, with_response};
+ghost use Rattle.iox_hub_states.specs.States.{Given, state_shown};
+ghost use Rattle.iox_hub_states.specs.Wirings.{IsPending, IsServer, handle_in};
+ghost use Rattle.iox_model.specs.WholeCalls.{IsWholeCall};
+ghost use Rattle.iox_model.specs.declared.call.Call.TheVariants.{Receive};
+ghost use Rattle.iox_control.specs.Controls.{IsButHolders, IsControl};
+ghost use Rattle.iox_control.specs.Replies.{reply_of_receive};
+
+use crate::control::Control;
+use crate::received::Received;
+use iox_lanes::incoming::Visits;
+use iox_lanes::wanted::Wanted;
+use iox_model::kind::Role;
+
+impl Control {
+    /// Receives a request for that server.
+    pub fn receive_request(&mut self, node: u64, server: u64) -> Received
+        requires server { IsServer self.old.tables node server }
+        requires order { IsControl self.old }
+        requires calls { self.old.tables.calls < 2 ^ 56 }
+        ensures reply { reply_of_receive result ≡ request_reply self.old.tables server }
+        ensures left { IsButHolders (with_request self.old.tables node server) self.new.tables }
+        ensures order { IsControl self.new }
+        ensures whole { (x : Given) → IsWholeCall (state_shown x self.old.tables) node
+            (Receive server) (reply_of_receive result) (state_shown x self.new.tables) }
+    {
+        let wanted = self.wanted_by_server();
+        match self.visit(server, 0, wanted) {
+            Visits::Got(_, pool, slot) => {
+                Received::Handle(self.got(node, Role::Server, server, pool, slot))
+            }
+            Visits::AtLimit => Received::AtLimit,
+            Visits::Nothing => {
+                self.count_call();
+                Received::Nothing
+            }
+        }
+    }
+
+    /// Receives a response for that pending response, whose handle is looked for at the hint first.
+    pub fn receive_response(&mut self, node: u64, number: u64, hint: usize) -> Received
+        requires pending { IsPending self.old.tables node number }
+        requires order { IsControl self.old }
+        requires calls { self.old.tables.calls < 2 ^ 56 }
+        ensures reply { (h : HandleState) → handle_in self.old.tables.handles node number ≡ Some h
+            → reply_of_receive result ≡ response_reply self.old.tables h }
+        ensures left { (h : HandleState) → handle_in self.old.tables.handles node number ≡ Some h
+            → IsButHolders (with_response self.old.tables node h) self.new.tables }
+        ensures order { IsControl self.new }
+        ensures whole { (x : Given) → IsWholeCall (state_shown x self.old.tables) node
+            (Receive number) (reply_of_receive result) (state_shown x self.new.tables) }
+    {
+        let Some(entry) = self.entry(node, number, hint) else {
+            unreachable!();
+        };
+        let label = self.label(entry.pool, entry.slot);
+        match self.visit(entry.port, label.lane, Wanted::Of(label.request)) {
+            Visits::Got(_, pool, slot) => {
+                Received::Handle(self.got(node, Role::Client, entry.port, pool, slot))
+            }
+            Visits::AtLimit => Received::AtLimit,
+            Visits::Nothing => {
+                self.count_call();
+                Received::Nothing
+            }
+        }
+    }
+}
