@@ -1,0 +1,107 @@
+//! Callers, proved from the clauses alone.
+ghost use Rattle.std.specs.Prelude.{◌≡◌, ◌+◌, ◌<◌, ◌^◌, ◌++◌, ◌∷◌, [], IfOk, Some, slice_index};
+ghost use Rattle.iox_model.specs.declared.kind.Kind.TheVariants.{Response};
+ghost use Rattle.iox_model.specs.Messages.{response_way};
+ghost use Rattle.iox_steps.specs.declared.access.Access.TheVariants.{Load};
+ghost use Rattle.iox_steps.specs.Sites.{size};
+ghost use Rattle.iox_wire_locals.specs.ReceiveCourses.{releasing};
+ghost use Rattle.iox_wire_locals.specs.Locals.{program_of};
+ghost use Rattle.iox_wire_locals.specs.Steps.{next};
+ghost use Rattle.iox_wire_words.specs.Programs.{program_access};
+ghost use Rattle.iox_wire_locals.specs.Tables.{Setting};
+ghost use Rattle.iox_word_places.specs.declared.way_index.WayIndex.TheVariants.{Responses};
+ghost use Rattle.iox_word_places.specs.Plans.{IsWayAt, way_at};
+ghost use Rattle.iox_wire_seats.specs.Seats.{Agrees, IsAimed};
+
+use crate::counts::Counts;
+use crate::desk::StoredDesk;
+use crate::entries::Entries;
+use crate::popper::Popper;
+use crate::pusher::Pusher;
+use crate::seat::StoredSeat;
+use iox_model::way::Way;
+use iox_steps::{Access, Site};
+use iox_wire_locals::{Borrowed, Entry};
+use iox_word_places::WordMap;
+use std::alloc::{AllocError, Global};
+
+/// What is added first is found.
+pub fn added_and_found(alloc: Global, entry: Entry) -> Result<Option<Entry>, AllocError>
+    ensures { IfOk result (λ found. found ≡ Some entry) }
+{
+    let mut entries = Entries::new(alloc, 1)?;
+    entries.add(entry);
+    Ok(entries.find(entry.number))
+}
+
+/// Where no way is counted, there is nothing to change.
+pub fn nothing_counted(counts: Vec<Borrowed>, way: Way) -> Counts
+    requires { counts.items ≡ [] }
+    ensures { result ≡ [] }
+{
+    let mut counts = Counts::new(counts);
+    counts.remove(way);
+    counts
+}
+
+/// With its last use a slot becomes free, behind all others.
+pub fn last_use_frees(desk: &mut StoredDesk, slot: usize)
+    requires { slice_index desk.old.uses slot ≡ 1 }
+    ensures { desk.new.free ≡ desk.old.free ++ slot ∷ [] }
+{
+    desk.use_less(slot);
+}
+
+/// A slot that is delivered or held elsewhere does not become free.
+pub fn other_use_keeps(desk: &mut StoredDesk, slot: usize)
+    requires { slice_index desk.old.uses slot ≡ 2 }
+    ensures { desk.new.free ≡ desk.old.free }
+{
+    desk.use_less(slot);
+}
+
+/// A push begins with a look at the write position.
+pub fn push_loads_first(site: Site, value: u64) -> Access
+    requires { site.base + size site < 2 ^ 64 }
+    ensures { result ≡ Load site.base }
+{
+    let mut pusher = Pusher::new();
+    pusher.push(value);
+    pusher.access(site)
+}
+
+/// A pop begins with a look at the read position.
+pub fn pop_loads_first(site: Site) -> Access
+    requires { site.base + size site < 2 ^ 64 }
+    ensures { result ≡ Load (site.base + 1) }
+{
+    let mut popper = Popper::new();
+    popper.pop();
+    popper.access(site)
+}
+
+/// What a node asks for is what its place in the call asks for.
+pub fn asks_at_its_place(seat: &StoredSeat) -> Access
+    ensures { (p : Setting) → IsAimed p seat.now → result ≡ program_access p.layout (program_of p seat.now.seat.local) }
+{
+    seat.asks()
+}
+
+/// A release begins, and makes its first step.
+pub fn released_by_one_step(
+    map: &WordMap,
+    seat: &mut StoredSeat,
+    entry: Entry,
+    client: usize,
+    server: usize,
+    seen: u64,
+) -> bool
+    requires kind { entry.kind ≡ Response }
+    requires way { IsWayAt map.now (Responses client server entry.lane) }
+    requires ports { way_at map.now (Responses client server entry.lane) ≡ response_way entry.port entry.lane entry.sender }
+    requires accesses { seat.old.seat.accesses + 1 < 2 ^ 64 }
+    ensures { (p : Setting) → Agrees p map.now → seat.new.seat ≡ next p (releasing p seat.old.seat entry) seen }
+{
+    seat.release_response(map, entry, client, server);
+    seat.go_on(seen)
+}
