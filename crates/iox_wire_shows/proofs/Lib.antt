@@ -1,0 +1,10 @@
+pub mod FreshCourses
+pub mod NextPlaces
+pub mod NextPrograms
+pub mod Ids
+pub mod StepsShow
+pub mod OwnedCalls
+pub mod OwnedWays
+pub mod OwnedSteps
+pub mod EndsShow
+pub mod OwnedWorlds
