@@ -24,6 +24,7 @@ impl Control {
         ensures reply { reply_of_receive result ≡ request_reply self.old.tables server }
         ensures left { IsButHolders (with_request self.old.tables node server) self.new.tables }
         ensures order { IsControl self.new }
+        ensures port_room { self.new.port_room ≡ self.old.port_room }
         ensures whole { (x : Given) → IsWholeCall (state_shown x self.old.tables) node
             (Receive server) (reply_of_receive result) (state_shown x self.new.tables) }
     {
@@ -50,6 +51,7 @@ impl Control {
         ensures left { (h : HandleState) → handle_in self.old.tables.handles node number ≡ Some h
             → IsButHolders (with_response self.old.tables node h) self.new.tables }
         ensures order { IsControl self.new }
+        ensures port_room { self.new.port_room ≡ self.old.port_room }
         ensures whole { (x : Given) → IsWholeCall (state_shown x self.old.tables) node
             (Receive number) (reply_of_receive result) (state_shown x self.new.tables) }
     {

@@ -28,7 +28,7 @@ pool_with port holders = record {
   slots = record { serial = 0; lane = 0; request = 7; elements = 1; holders = holders } ∷ [];
 }
 
--- Client 0 sent its request 7 to server 1, where it waits. So many have the request.
+-- Client 0 sent a request with the id 7 to server 1, where it waits. So many have the request.
 abbrev pub with_holders : ℕ → HubTables
 with_holders n = record one_request {
   handles = the_pending ∷ [];

@@ -16,7 +16,7 @@ use Rattle.iox_hub_lending.specs.Lending.{MayLend}
 abbrev pub the_client : PortState
 the_client = port_with 0 Client (new_pipe 1 1 1 1 1 0)
 
--- server 1 lends a response to request 7
+-- server 1 lends a response to the request with the id 7
 abbrev pub responder : Lender
 responder = record { port = port_with 1 Server requests; client = 0; lane = 0; request = 7 }
 

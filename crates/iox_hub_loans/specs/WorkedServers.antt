@@ -41,7 +41,7 @@ handle_with n kind port = record {
 abbrev pub taken_lane : LaneState
 taken_lane = record (empty_lane 0 1 1) { taken = 0 ∷ []; deliveries = 1 }
 
--- what comes to the server: the request 7 is open
+-- what comes to the server: the request with the id 7 is open
 abbrev pub taken_pipe : PipeState
 taken_pipe = record { sender = 0; lanes = taken_lane ∷ []; states = Named 7 false ∷ [] }
 
@@ -49,7 +49,7 @@ taken_pipe = record { sender = 0; lanes = taken_lane ∷ []; states = Named 7 fa
 abbrev pub the_server : PortState
 the_server = port_with 1 Server taken_pipe
 
--- the client sent its request 7, and the server received it
+-- the client sent the request with the id 7, and the server received it
 abbrev pub received_once : HubTables
 received_once = record at_first {
   calls = 3;

@@ -7,7 +7,8 @@ ghost use Rattle.iox_hub_states.specs.Tables.{PortState, pipe_from, pipes_of};
 ghost use Rattle.iox_lanes.specs.Incomings.{has_room_for};
 ghost use Rattle.iox_lanes.specs.Lanes.{is_full};
 ghost use Rattle.iox_lanes.specs.Visited.{all_visits};
-ghost use Rattle.iox_hub_ports.specs.Ports.{info_of, lane_to_get_on, on_lane_from, port_of, state_from, with_connected, with_lane_from, with_loan_counted, with_state_from, without_pipe_from, without_value};
+ghost use Rattle.iox_hub_ports.specs.Ports.{info_of, lane_to_get_on, on_lane_from, port_of, state_from, with_connected};
+ghost use Rattle.iox_hub_ports.specs.Ports.{with_lane_from, with_loan_counted, with_state_from, without_pipe_from, without_value};
 
 use crate::info::PortInfo;
 use crate::steps::{LaneStep, StateStep};

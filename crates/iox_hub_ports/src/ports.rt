@@ -11,7 +11,8 @@ ghost use Rattle.iox_hub_states.specs.Asks.{waits_for};
 ghost use Rattle.iox_hub_states.specs.Receives.{visited_port};
 ghost use Rattle.iox_hub_states.specs.Tables.{numbers_of, pipe_from, pipes_to, port_in};
 ghost use Rattle.iox_hub_states.specs.Ways.{with_lane_on, with_port};
-ghost use Rattle.iox_hub_ports.specs.Ports.{info_at, info_in, no_ports, on_way, with_connected, with_loan_counted, with_port_added, with_port_removed, with_ports, without_pipe_from, without_value};
+ghost use Rattle.iox_hub_ports.specs.Ports.{info_at, info_in, no_ports, on_way, with_connected, with_loan_counted};
+ghost use Rattle.iox_hub_ports.specs.Ports.{with_port_added, with_port_removed, with_ports, without_pipe_from, without_value};
 
 mod sender;
 mod states;
