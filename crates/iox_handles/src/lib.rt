@@ -3,10 +3,12 @@
 #![tactic(auto)]
 
 mod entry;
+mod entry_test;
 mod places;
 mod table;
 
 pub use entry::Entry;
+pub use entry_test::EntryTest;
 pub use table::Table;
 
 #[cfg(test)]

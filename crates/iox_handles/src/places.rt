@@ -5,6 +5,7 @@ ghost use Rattle.iox_handles.specs.Tables.{is_of};
 ghost use Rattle.iox_model.specs.Handles.{kind_code, same_kind};
 
 use crate::entry::Entry;
+use crate::entry_test::EntryTest;
 use iox_model::kind::Kind;
 
 /// Whether there is a handle of that number.
@@ -69,6 +70,26 @@ fn is_counted(place: Option<Entry>, port: u64, kind: Kind) -> bool
         return false;
     };
     entry.port == port && is_same_kind(entry.kind, kind)
+}
+
+/// Whether there is a handle, and it passes the test.
+fn does_pass<T: EntryTest>(place: Option<Entry>, test: &T) -> bool
+    ensures { result ≡ passes (T.passes test.now) place }
+{
+    let Some(entry) = place else {
+        return false;
+    };
+    test.passes(entry)
+}
+
+/// How many places have handles that pass the test.
+pub fn count_if_in<T: EntryTest>(places: &[Option<Entry>], test: &T) -> usize
+    ensures { result ≡ count_by (passes (T.passes test.now)) places.now }
+{
+    places
+        .iter()
+        .filter(|place| does_pass(**place, test))
+        .count()
 }
 
 /// How many places have handles of that port and kind.

@@ -1,9 +1,10 @@
 //! The table of a hub's handles.
-ghost use Rattle.std.specs.Prelude.{◌≡◌, ◌<◌, ◌≤◌, ◌+◌, ◌^◌, IfOk, IsSome, None, OnErr, OnOk, Some};
+ghost use Rattle.std.specs.Prelude.{◌≡◌, ◌<◌, ◌≤◌, ◌+◌, ◌^◌, IfOk, IsSome, None, OnErr, OnOk, Some, filter, length};
 ghost use Rattle.iox_handles.specs.Tables.{IsSound, added, changed, count_of, handle_at, new_contents, removed};
 
 use crate::entry::Entry;
-use crate::places::{count_in, place_of};
+use crate::entry_test::EntryTest;
+use crate::places::{count_if_in, count_in, place_of};
 use iox_model::kind::Kind;
 use std::alloc::{AllocError, Global};
 use std::marker::Model;
@@ -134,5 +135,11 @@ impl Table {
         ensures { result ≡ count_of self.now port kind }
     {
         count_in(&self.places, port, kind)
+    }
+    /// How many handles pass the test. It looks at all places.
+    pub fn count_if<T: EntryTest>(&self, test: &T) -> usize
+        ensures { result ≡ length (filter (T.passes test.now) self.now.handles) }
+    {
+        count_if_in(&self.places, test)
     }
 }

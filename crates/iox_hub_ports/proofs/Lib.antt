@@ -4,3 +4,4 @@ pub mod Seats
 pub mod Pushes
 pub mod Walking
 pub mod Keeping
+pub mod Sound

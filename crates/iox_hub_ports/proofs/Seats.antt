@@ -11,7 +11,7 @@ use Rattle.iox_hub_states.specs.Ways.{lanes_from, with_port}
 use Rattle.iox_hub_states.proofs.Keys.{flip}
 use Rattle.iox_hub_ports.specs.Ports.{on_lane_from, on_way_at, with_lane_at, with_lane_from}
 
-get_in : {A : Type 0} (xs : List A) (i : ℕ) (x : A) → i < length xs → x ≡ get_or xs i x → slice_get xs i ≡ Some x
+pub get_in : {A : Type 0} (xs : List A) (i : ℕ) (x : A) → i < length xs → x ≡ get_or xs i x → slice_get xs i ≡ Some x
 get_in [] i x h e = absurd (omega arith)
 get_in (y ∷ ys) zero x h e = ap (λ z. Some z) (sym e)
 get_in (y ∷ ys) (suc i) x h e = get_in ys i x (omega arith) e

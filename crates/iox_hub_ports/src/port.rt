@@ -5,6 +5,8 @@ ghost use Rattle.iox_hub_states.specs.Receives.{both_visits, visited_port};
 ghost use Rattle.iox_lanes.specs.declared.incoming.Visits.TheVariants.{AtLimit};
 ghost use Rattle.iox_hub_states.specs.Tables.{PortState, pipe_from, pipes_of};
 ghost use Rattle.iox_lanes.specs.Incomings.{has_room_for};
+ghost use Rattle.iox_lanes.specs.Pipes.{IsSoundAt};
+ghost use Rattle.iox_hub_states.specs.Ways.{lanes_from};
 ghost use Rattle.iox_lanes.specs.Lanes.{is_full};
 ghost use Rattle.iox_lanes.specs.Visited.{all_visits};
 ghost use Rattle.iox_hub_ports.specs.Ports.{info_of, lane_to_get_on, on_lane_from, port_of, state_from, with_connected};
@@ -136,7 +138,8 @@ impl Port {
     /// Whether as many messages wait on that lane, from this sender, as may.
     #[inline]
     pub fn is_full(&self, sender: u64, lane: usize) -> bool
-        ensures { result ≡ on_lane_from is_full true self.now sender lane }
+        ensures full { result ≡ on_lane_from is_full true self.now sender lane }
+        ensures sound { IsSoundAt (lanes_from (pipes_of self.now) sender) lane }
     {
         match self.expired.rank(sender) {
             Some(rank) => self.expired.is_full(rank, lane),

@@ -1,3 +1,4 @@
 pub mod CallerLemmas
 pub mod Returns
 pub mod Visiting
+pub mod Sound

@@ -128,6 +128,18 @@ released l k = if is_taken l k then with_returned (without_taken l k) k else l
 abbrev pub without_returned : LaneState → LaneState
 without_returned l = record l { returned = drop 1 l.returned }
 
+-- ---- a lane that is taken apart
+
+-- the places of all messages on the lane: given back, waiting, and those that its receiver has
+abbrev pub places : LaneState → List ℕ
+places l = l.returned ++ (l.waiting ++ l.taken)
+
+-- the first of them is on the lane no more
+abbrev pub without_first : LaneState → LaneState
+without_first l =
+    if has_returned l then without_returned l
+    else (if has_waiting l then without_oldest l else record l { taken = drop 1 l.taken })
+
 -- ---- for proofs of this crate alone
 
 -- one message waits no more, and is neither taken nor given back yet

@@ -1,11 +1,11 @@
 -- All lanes from one port to another, as callers see them.
-use Rattle.std.specs.Prelude.{◌≡◌, ◌<◌, ℕ, Bool, false, List, Option, slice_get, slice_set, replicate}
+use Rattle.std.specs.Prelude.{◌≡◌, ◌<◌, ℕ, Bool, false, List, Option, Some, slice_get, slice_set, replicate}
 use Rattle.std.specs.List.{list_any, position_from}
 use Rattle.std.specs.Option.{option_map_or}
 use Rattle.iox_model.specs.declared.way.RequestState.{RequestState}
 use Rattle.iox_model.specs.declared.way.RequestState.TheVariants.{Closed, Named}
 use Rattle.iox_model.specs.Messages.{closed_for, hinted_for}
-use Rattle.iox_lanes.specs.Lanes.{LaneState, empty_lane, has_returned, has_waiting}
+use Rattle.iox_lanes.specs.Lanes.{LaneState, IsSound, empty_lane, has_returned, has_waiting}
 
 pub record PipeState : Type 0 where
   -- the port from which the messages come
@@ -41,6 +41,10 @@ has_waiting_on_any p = list_any has_waiting p.lanes
 -- the lowest lane on which something is left to get back
 abbrev pub lane_to_get : PipeState → Option ℕ
 lane_to_get p = position_from has_returned 0 p.lanes
+
+-- the lane of that number is as each lane is, if there is one
+abbrev pub IsSoundAt : List LaneState → ℕ → Type 0
+IsSoundAt lanes lane = (l : LaneState) → slice_get lanes lane ≡ Some l → IsSound l
 
 -- ---- one request state of a pipe
 

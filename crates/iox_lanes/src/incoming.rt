@@ -3,7 +3,7 @@ ghost use Rattle.std.specs.Prelude.{◌≡◌, IfOk, IfSome, None, Some, ◌<◌
 ghost use Rattle.std.specs.Vec.{vec_capacity};
 ghost use Rattle.iox_model.specs.declared.way.RequestState.TheVariants.{Closed};
 ghost use Rattle.iox_lanes.specs.Lanes.{offered, has_room, is_full, is_taken, oldest, released, without_oldest, without_returned};
-ghost use Rattle.iox_lanes.specs.Pipes.{PipeState, closed, hinted, lane_to_get, opened};
+ghost use Rattle.iox_lanes.specs.Pipes.{IsSoundAt, PipeState, closed, hinted, lane_to_get, opened};
 ghost use Rattle.iox_lanes.specs.Searches.{state_on};
 ghost use Rattle.iox_lanes.specs.Visited.{all_visited, all_visits};
 ghost use Rattle.iox_lanes.specs.Incomings.{IncomingState, all_visited_of, connected, disconnected, has_room_for, has_waiting_from_any, no_pipes, on_lane_of, on_pipe, rank_from, with_lane_of, with_pipe};
@@ -137,8 +137,11 @@ impl Incoming {
 
     /// Whether as many messages wait on that lane as may.
     #[inline]
+    #[tactic(auto, using(crate::proofs::Sound::sound))]
     pub fn is_full(&self, rank: usize, lane: usize) -> bool
-        ensures { result ≡ on_lane_of is_full true self.now rank lane }
+        ensures full { result ≡ on_lane_of is_full true self.now rank lane }
+        ensures sound { (p : PipeState) → slice_get self.now.pipes rank ≡ Some p
+            → IsSoundAt p.lanes lane }
     {
         if rank < self.pipes.len() {
             return self.pipes[rank].is_full(lane);

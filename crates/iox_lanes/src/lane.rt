@@ -1,7 +1,7 @@
 //! What waits for a receiver, what it has, and what it gave back.
 ghost use Rattle.std.specs.Prelude.{◌≡◌, ◌+◌, ◌<◌, ◌≤◌, ◌^◌, IfOk, IfSome, OnSome, length, slice_get};
 ghost use Rattle.iox_model.specs.Maps.{is_empty};
-ghost use Rattle.iox_lanes.specs.Lanes.{HasOneInHand, IsSound, offered, empty_lane, has_returned, has_room, is_at_limit, is_full, is_taken, oldest, oldest_returned, oldest_taken, outstanding, rank_in, released, with_returned, with_taken, without_oldest, without_returned, without_taken};
+ghost use Rattle.iox_lanes.specs.Lanes.{HasOneInHand, IsSound, offered, empty_lane, has_returned, has_room, is_at_limit, is_full, is_taken, oldest, oldest_returned, oldest_taken, outstanding, places, rank_in, released, with_returned, with_taken, without_first, without_oldest, without_returned, without_taken};
 
 use iox_queues::spsc::index_queue::IndexQueue;
 use std::alloc::{AllocError, Global};
@@ -93,7 +93,8 @@ impl Lane {
     /// Whether as many messages wait as may.
     #[inline]
     pub fn is_full(&self) -> bool
-        ensures { result ≡ is_full self.now }
+        ensures full { result ≡ is_full self.now }
+        ensures sound { IsSound self.now }
     {
         self.buffer <= self.waiting.len()
     }
@@ -199,6 +200,26 @@ impl Lane {
                 true
             }
         }
+    }
+
+    // ---- a lane that is taken apart
+
+    /// Takes the first message off the lane, if there is one: of those that were given back, then of
+    /// those that wait, then of those that its receiver has.
+    pub fn take_off(&mut self) -> Option<u64>
+        ensures first { result ≡ slice_get (places self.old) 0 }
+        ensures left { self.new ≡ without_first self.old }
+    {
+        if self.has_returned() {
+            return self.get_back();
+        }
+        if !self.is_empty() {
+            return self.evict();
+        }
+        if self.taken.is_empty() {
+            return None;
+        }
+        Some(self.taken.remove(0))
     }
 
     // ---- steps of its receiver

@@ -1,7 +1,7 @@
 //! All lanes from one port to another.
-ghost use Rattle.std.specs.Prelude.{◌≡◌, ◌+◌, ◌^◌, ◌<◌, IfOk, None, false, length, replicate, slice_get, true};
+ghost use Rattle.std.specs.Prelude.{◌≡◌, ◌+◌, ◌-◌, ◌^◌, ◌<◌, IfOk, None, false, length, replicate, slice_get, take, true};
 ghost use Rattle.iox_lanes.specs.Lanes.{offered, empty_lane, has_room, has_waiting, is_full, is_taken, oldest, released, without_oldest, without_returned, without_taken};
-ghost use Rattle.iox_lanes.specs.Pipes.{NoneToGetBelow, PipeState, closed, has_returned_at, has_waiting_on_any, hinted, lane_to_get, new_pipe, on_lane, opened, with_lane};
+ghost use Rattle.iox_lanes.specs.Pipes.{IsSoundAt, NoneToGetBelow, PipeState, closed, has_returned_at, has_waiting_on_any, hinted, lane_to_get, new_pipe, on_lane, opened, with_lane};
 ghost use Rattle.iox_lanes.specs.Searches.{state_on};
 ghost use Rattle.iox_lanes.specs.Visited.{pipe_visit, pipe_visited, pool_on};
 
@@ -123,8 +123,10 @@ impl Pipe {
 
     /// Whether as many messages wait on that lane as may.
     #[inline]
+    #[tactic(auto, using(crate::proofs::Sound::sound))]
     pub fn is_full(&self, lane: usize) -> bool
-        ensures { result ≡ on_lane is_full true self.now lane }
+        ensures full { result ≡ on_lane is_full true self.now lane }
+        ensures sound { IsSoundAt self.now.lanes lane }
     {
         if lane < self.lanes.len() {
             return self.lanes[lane].is_full();
@@ -259,6 +261,18 @@ impl Pipe {
             return self.lanes[lane].let_go(place);
         }
         false
+    }
+
+    // ---- a pipe that is taken apart
+
+    /// Takes the last lane out, if there is one.
+    pub fn take_lane(&mut self) -> Option<Lane>
+        ensures last { result ≡ slice_get self.old.lanes (length self.old.lanes - 1) }
+        ensures left { self.new
+            ≡ record (self.old) { lanes = take (length self.old.lanes - 1) self.old.lanes } }
+    {
+        self.none_below = 0;
+        self.lanes.pop()
     }
 
     // ---- the states of requests

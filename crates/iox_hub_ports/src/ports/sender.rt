@@ -1,11 +1,11 @@
 //! What a sender does with the lanes to its receivers.
 #![tactic(auto, using(crate::proofs::Keeping::kept))]
 
-ghost use Rattle.std.specs.Prelude.{◌≡◌, None, false, slice_get, true};
-ghost use Rattle.iox_lanes.specs.Lanes.{has_room, is_full, offered, oldest, without_oldest, without_returned};
-ghost use Rattle.iox_hub_states.specs.Tables.{pipes_to};
-ghost use Rattle.iox_hub_states.specs.Ways.{with_lane_on};
-ghost use Rattle.iox_hub_ports.specs.Ports.{lane_to_get_on, on_way, on_way_at, pushed, pushed_out, with_lane_at, with_ports};
+ghost use Rattle.std.specs.Prelude.{◌≡◌, None, Some, false, slice_get, true};
+ghost use Rattle.iox_lanes.specs.Lanes.{IsSound, LaneState, has_room, is_full, offered, oldest, without_oldest, without_returned};
+ghost use Rattle.iox_hub_states.specs.Tables.{PortState, pipes_to};
+ghost use Rattle.iox_hub_states.specs.Ways.{lane_on, with_lane_on};
+ghost use Rattle.iox_hub_ports.specs.Ports.{lane_to_get_on, on_way, on_way_at, pushed, pushed_out, way_from, with_lane_at, with_ports};
 
 use crate::ports::Ports;
 use crate::steps::{Deliver, Evict, GetBack, Push};
@@ -36,7 +36,8 @@ impl Ports {
 
     /// Whether as many messages wait on the way as may.
     pub fn is_full(&self, way: Way) -> bool
-        ensures { result ≡ on_way is_full true self.now.ports way }
+        ensures full { result ≡ on_way is_full true self.now.ports way }
+        ensures sound { (l : LaneState) → lane_on self.now.ports way ≡ Some l → IsSound l }
     {
         match place_of(&self.ports, way.receiver) {
             Some(place) => self.ports[place].is_full(way.sender, way.lane as usize),
@@ -88,7 +89,9 @@ impl Ports {
     /// Whether as many messages wait for the port in that place, on the lane from the sender, as
     /// may.
     pub fn is_full_at(&self, at: usize, sender: u64, lane: u64) -> bool
-        ensures { result ≡ on_way_at is_full true self.now.ports at sender lane }
+        ensures full { result ≡ on_way_at is_full true self.now.ports at sender lane }
+        ensures sound { (p : PortState) → slice_get self.now.ports at ≡ Some p → (l : LaneState)
+            → lane_on self.now.ports (way_from sender lane p.number) ≡ Some l → IsSound l }
     {
         if at < self.ports.len() {
             return self.ports[at].is_full(sender, lane as usize);

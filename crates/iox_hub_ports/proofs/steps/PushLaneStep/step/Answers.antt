@@ -8,4 +8,4 @@ pub returns-then-is_full-clause-changed : goal.returns-then-is_full-clause-chang
 returns-then-is_full-clause-changed c =
     c.deliver.ensures.delivered
     ∙ ap (λ i. with_lane_of (λ l. offered l c.args.self.now.place) i c.args.rank c.args.lane) c.evict-oldest.ensures.evicted
-    ∙ pushes_full c.args.incoming.now c.args.rank c.args.lane c.args.self.now.place (sym c.is_full.ensures ∙ c.if-is_full.true)
+    ∙ pushes_full c.args.incoming.now c.args.rank c.args.lane c.args.self.now.place (sym c.is_full.ensures.full ∙ c.if-is_full.true)
