@@ -23,6 +23,7 @@ use Rattle.iox_hub_books.proofs.Little.{little_changes_keep_order}
 use Rattle.iox_hub_books.proofs.Released.{states_keep, states_total}
 use Rattle.iox_control.specs.Controls.{ControlState, IsControl, with_hint, with_tables}
 use Rattle.iox_control.specs.Entries.{handle_state}
+use Rattle.iox_control.proofs.RoomLemmas.{room_as, states_seats}
 use Rattle.iox_control.proofs.WholeLemmas.{is_whole_of}
 
 -- what is told to the servers, by the handle
@@ -60,7 +61,10 @@ module _ (c : ControlState) (g : RequestState → RequestState) (ws : List Way) 
   -- all that is so of a hub stays so as request states change
   pub states_keep_control : IsControl (with_tables c left)
   states_keep_control = record {
+    none = order.none;
+    buffers = order.buffers;
     order = (little_changes_keep_order t order.order).0 g ws;
+    ports = room_as t left refl (states_seats g t.ports ws) order.ports;
     counted = record {
       calls = order.counted.calls;
       ports = order.counted.ports;

@@ -8,3 +8,5 @@ pub mod ReceiveKept
 pub mod RequestReceived
 pub mod ResponseReceived
 pub mod HintKept
+pub mod ChangeLemmas
+pub mod RoomLemmas

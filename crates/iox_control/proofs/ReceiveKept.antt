@@ -9,20 +9,22 @@ use Rattle.iox_lanes.specs.declared.wanted.Wanted.{Wanted}
 use Rattle.iox_model.specs.declared.kind.Role.{Role}
 use Rattle.iox_model.specs.Commands.{Call, Reply}
 use Rattle.iox_model.specs.WholeCalls.{IsWholeCall}
-use Rattle.iox_hub_states.specs.Tables.{HubTables, PoolState, SlotState, slot_at}
+use Rattle.iox_hub_states.specs.Tables.{HubTables, PoolState, SlotState, labels_of, slot_at}
 use Rattle.iox_hub_states.specs.States.{Given, state_shown}
 use Rattle.iox_hub_states.specs.Ways.{with_port}
 use Rattle.iox_hub_states.specs.Ends.{DifferInHolders, with_call}
 use Rattle.iox_hub_states.specs.Receives as hub
 use Rattle.iox_hub_states.specs.Receives.{got_handle, got_reply, visits_at, with_visited}
 use Rattle.iox_hub_books.specs.Hubs.{AreInOrder}
+use Rattle.iox_hub_keeping.specs.Connected.{KeepsNone}
 use Rattle.iox_hub_books.specs.Rooms.{CanCountHolders, HasRoomForAll}
 use Rattle.iox_hub_books.specs.Keeps.{HasMoreHolders, bare_pool, bare_pools, bare_slot, got_once}
 use Rattle.iox_slots.specs.Pools.{with_slot}
 use Rattle.iox_slots.specs.Slots.{held, with_slot_of}
 use Rattle.iox_slots.proofs.CallerLemmas.{hold_differs_in_holders, holders_held, taken_is_there}
+use Rattle.iox_control.proofs.RoomLemmas.{room_as, seats_of, visit_seats}
 use Rattle.iox_control.proofs.VisitCounts.{got_one}
-use Rattle.iox_control.specs.Controls.{AreCounted, ControlState, IsButHolders, IsControl, with_got, with_tables}
+use Rattle.iox_control.specs.Controls.{AreCounted, ControlState, HaveBuffers, IsButHolders, IsControl, with_got, with_tables}
 use Rattle.iox_control.proofs.ReceiveLemmas.{counts_after, counts_stay, has_holders, holders_after_got, holders_after_none, not_own, room_after_got, room_after_none, room_for_one, visits_it}
 
 -- ---- pools that differ in holders
@@ -95,9 +97,16 @@ module _ (c : ControlState) (node n lane : ℕ) (wanted : Wanted) (role : Role) 
       → new ≡ with_got (with_tables c (with_visited t n lane wanted)) node role n pool k
       → IsReceived c node call after (got_reply t v) new
   got_is_received sender pool k got keeps whole new is = record {
-    left = record { same = same; holders = subst (λ (ps : List (Option PoolState)). DifferInHolders after.pools ps) (sym pools) differ };
+    left = record {
+      same = same;
+      holders = subst (λ (ps : List (Option PoolState)). DifferInHolders after.pools ps) (sym pools) differ;
+      bare = alike;
+    };
     order = record {
+      none = subst KeepsNone (sym settings) order.none;
+      buffers = subst HaveBuffers (sym settings) order.buffers;
       order = subst AreInOrder (sym same) (keeps new.tables.pools more);
+      ports = room_as t new.tables settings (ap seats_of ports ∙ visit_seats wanted (labels_of t.pools) lane t.ports n) order.ports;
       counted = counts_after t n lane wanted new.tables order.counted ports calls few number made;
       room = subst (λ m. HasRoomForAll m new.tables) (sym (ap (λ (d : ControlState). d.room) is))
           (room_after_got t n lane wanted new.tables c.room (got_handle t node role n pool k) sender pool k order.room got (not_own t node role n pool k) ports handles);
@@ -108,6 +117,9 @@ module _ (c : ControlState) (node n lane : ℕ) (wanted : Wanted) (role : Role) 
         (whole x new.tables.pools (subst (λ (ps : List (Option PoolState)). DifferInHolders after.pools ps) (sym pools) differ));
   }
     where
+      settings : new.tables.settings ≡ t.settings
+      settings = ap (λ (d : ControlState). d.tables.settings) is
+
       some : 0 < c.room
       some = room_for_one t n lane wanted c.room sender pool k order.room got
 
@@ -143,6 +155,9 @@ module _ (c : ControlState) (node n lane : ℕ) (wanted : Wanted) (role : Role) 
       differ : DifferInHolders after.pools (with_slot held t.pools pool k)
       differ = subst (λ (a : HubTables). DifferInHolders a.pools (with_slot held t.pools pool k)) (sym after_got) (hold_differs_in_holders t.pools pool k)
 
+      alike : bare_pools after.pools ≡ bare_pools new.tables.pools
+      alike = subst (λ (a : HubTables). bare_pools a.pools ≡ bare_pools new.tables.pools) (sym after_got) (held_bare t.pools pool k ∙ ap bare_pools (sym pools))
+
       more : HasMoreHolders t.pools new.tables.pools (got_once v)
       more = record {
         same = held_bare t.pools pool k ∙ ap bare_pools (sym pools);
@@ -158,9 +173,16 @@ module _ (c : ControlState) (node n lane : ℕ) (wanted : Wanted) (role : Role) 
       → new ≡ with_tables c (record (with_visited t n lane wanted) { calls = calls })
       → IsReceived c node call after (got_reply t v) new
   none_is_received w at calls leaves none once one_more keeps whole new is = record {
-    left = record { same = same; holders = subst (λ (ps : List (Option PoolState)). DifferInHolders after.pools ps) (sym pools) differ };
+    left = record {
+      same = same;
+      holders = subst (λ (ps : List (Option PoolState)). DifferInHolders after.pools ps) (sym pools) differ;
+      bare = alike;
+    };
     order = record {
+      none = subst KeepsNone (sym settings) order.none;
+      buffers = subst HaveBuffers (sym settings) order.buffers;
       order = subst AreInOrder (sym same) (keeps new.tables.pools more);
+      ports = room_as t new.tables settings (ap seats_of ports ∙ visit_seats wanted (labels_of t.pools) lane t.ports n) order.ports;
       counted = counted one_more;
       room = subst (λ m. HasRoomForAll m new.tables) (sym (ap (λ (d : ControlState). d.room) is))
           (room_after_none t n lane wanted new.tables c.room order.room (ap got_one at ∙ none) ports handles);
@@ -171,6 +193,9 @@ module _ (c : ControlState) (node n lane : ℕ) (wanted : Wanted) (role : Role) 
         (whole x new.tables.pools (subst (λ (ps : List (Option PoolState)). DifferInHolders after.pools ps) (sym pools) differ));
   }
     where
+      settings : new.tables.settings ≡ t.settings
+      settings = ap (λ (d : ControlState). d.tables.settings) is
+
       ports : new.tables.ports ≡ with_port (visits_it t n lane wanted) t.ports n
       ports = ap (λ (d : ControlState). d.tables.ports) is
 
@@ -197,6 +222,9 @@ module _ (c : ControlState) (node n lane : ℕ) (wanted : Wanted) (role : Role) 
 
       differ : DifferInHolders after.pools t.pools
       differ = subst (λ (a : HubTables). DifferInHolders a.pools t.pools) (sym after_none) (same_differ t.pools)
+
+      alike : bare_pools after.pools ≡ bare_pools new.tables.pools
+      alike = subst (λ (a : HubTables). bare_pools a.pools ≡ bare_pools new.tables.pools) (sym after_none) (ap bare_pools (sym pools))
 
       more : HasMoreHolders t.pools new.tables.pools (got_once v)
       more = record {

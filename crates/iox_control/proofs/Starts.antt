@@ -1,6 +1,7 @@
 -- A hub as it starts.
 use Rattle.std.specs.Prelude.{◌≡◌}
 use Rattle.std.proofs.Common.{arith}
+use Rattle.std.proofs.lemmas.Option.{none-some}
 use Rattle.iox_model.specs.Runs.{at_rest, raised, untouched}
 use Rattle.iox_model.specs.Settings.{Limits}
 use Rattle.iox_hub_states.specs.Tables.{HubSettings}
@@ -8,11 +9,15 @@ use Rattle.iox_hub_states.specs.States.{Given, limits_of, state_shown}
 use Rattle.iox_hub_making.specs.Starts.{no_ports}
 use Rattle.iox_hub_making.proofs.Starting.{each_start_is_shown}
 use Rattle.iox_hub_keeping.proofs.Starting.{starts_are_in_order}
-use Rattle.iox_control.specs.Controls.{IsControl, new_control}
+use Rattle.iox_hub_keeping.specs.Connected.{KeepsNone}
+use Rattle.iox_control.specs.Controls.{HaveBuffers, IsControl, new_control}
 
-pub new_is_control : (settings : HubSettings) → IsControl (new_control settings)
-new_is_control settings = record {
+pub new_is_control : (settings : HubSettings) → KeepsNone settings → HaveBuffers settings → IsControl (new_control settings)
+new_is_control settings none buffers = record {
+  none = none;
+  buffers = buffers;
   order = starts_are_in_order settings;
+  ports = record { few = λ role. omega arith; most = λ n p there. absurd (none-some p there) };
   counted = record { calls = omega arith; ports = omega arith; numbers = omega arith; loans = tt; deliveries = tt };
   room = omega arith;
   holders = omega arith;

@@ -1,19 +1,22 @@
 -- The tables of a hub as its code keeps them.
-use Rattle.std.specs.Prelude.{◌≡◌, ℕ, ◌≤◌, ◌+◌, ◌-◌, ◌^◌, List, Option}
+use Rattle.std.specs.Prelude.{◌≡◌, ℕ, ◌≤◌, ◌+◌, ◌-◌, ◌^◌, List, [], ◌∷◌, ◌++◌, Option}
 use Rattle.iox_handles.specs.Tables.{Contents}
-use Rattle.iox_hub_ports.specs.Ports.{PortsState}
-use Rattle.iox_hub_states.specs.Tables.{HandleState, HubSettings, HubTables, PoolState}
+use Rattle.iox_hub_ports.specs.Ports.{PortsState, without_port}
+use Rattle.iox_hub_states.specs.Tables.{HandleState, HubSettings, HubTables, PoolState, PortState}
 use Rattle.iox_hub_making.specs.Starts.{no_ports}
 use Rattle.iox_model.specs.declared.kind.Role.{Role}
-use Rattle.iox_hub_states.specs.Ends.{with_added, with_call, DifferInHolders}
+use Rattle.iox_hub_states.specs.Ends.{with_added, with_call, with_dropped, DifferInHolders}
 use Rattle.iox_hub_states.specs.Changes.{with_states}
 use Rattle.iox_hub_states.specs.Receives.{got_handle}
 use Rattle.iox_hub_states.specs.Releases.{pending_states, request_of}
 use Rattle.iox_model.specs.Messages.{hinted_for}
 use Rattle.iox_slots.specs.Pools.{with_slot}
 use Rattle.iox_slots.specs.Slots.{held}
+use Rattle.iox_hub_making.specs.OneByOne.{HaveRoom}
+use Rattle.iox_hub_keeping.specs.Connected.{KeepsNone}
 use Rattle.iox_hub_books.specs.Counts.{OfAll, OfAllLanes}
 use Rattle.iox_hub_books.specs.Hubs.{AreInOrder}
+use Rattle.iox_hub_books.specs.Keeps.{bare_pools}
 use Rattle.iox_hub_books.specs.Rooms.{CanCountHolders, HasRoomForAll}
 use Rattle.iox_control.specs.declared.settings.Settings.{Settings}
 use Rattle.iox_control.specs.Settings.{settings_of}
@@ -50,6 +53,37 @@ new_control settings = record { tables = no_ports settings; room = 0; port_room 
 abbrev pub with_tables : ControlState → HubTables → ControlState
 with_tables c t = record c { tables = t }
 
+-- with other ports
+abbrev pub with_ports : ControlState → List PortState → ControlState
+with_ports c ports = with_tables c (record (c.tables) { ports = ports })
+
+-- with other pools
+abbrev pub with_pools : ControlState → List (Option PoolState) → ControlState
+with_pools c pools = with_tables c (record (c.tables) { pools = pools })
+
+-- one port more, which is the last, and for which there was room
+abbrev pub with_port_added : ControlState → PortState → ControlState
+with_port_added c p =
+    record (with_ports c (c.tables.ports ++ p ∷ [])) { port_room = c.port_room - 1 }
+
+-- the first port of that number is gone, and leaves room
+abbrev pub with_port_removed : ControlState → ℕ → ControlState
+with_port_removed c n =
+    record (with_ports c (without_port c.tables.ports n)) { port_room = c.port_room + 1 }
+
+-- one port more is counted, and it has the next number
+abbrev pub with_number : ControlState → ControlState
+with_number c =
+    with_tables c (record (c.tables) {
+      next_number = c.tables.next_number + 1;
+      ports_made = c.tables.ports_made + 1;
+    })
+
+-- the node has the handle no more, and there is room for another
+abbrev pub with_handle_dropped : ControlState → ℕ → ℕ → ControlState
+with_handle_dropped c node n =
+    record (with_tables c (with_dropped c.tables node n)) { room = c.room + 1 }
+
 -- one handle more, for which there was room
 abbrev pub with_handle : ControlState → HandleState → ControlState
 with_handle c h = record c { tables = with_added c.tables h; room = c.room - 1 }
@@ -75,9 +109,18 @@ pub record AreCounted (t : HubTables) : Type 0 where
   pub loans : OfAll (λ p. p.loans ≤ t.calls) t.ports
   pub deliveries : OfAllLanes (λ l. l.deliveries ≤ t.calls) t.ports
 
--- The tables are in order, and there is room for all handles that may still come.
+-- At least one message may wait on each lane.
+pub record HaveBuffers (settings : HubSettings) : Type 0 where
+  pub requests : 1 ≤ settings.active_requests
+  pub responses : 1 ≤ settings.response_buffer
+
+-- The tables are in order, and there is room for all handles that may still come, and for pipes from
+-- all ports that there may be. No port keeps messages of ports that are gone.
 pub record IsControl (c : ControlState) : Type 0 where
+  pub none : KeepsNone c.tables.settings
+  pub buffers : HaveBuffers c.tables.settings
   pub order : AreInOrder c.tables
+  pub ports : HaveRoom c.tables
   pub counted : AreCounted c.tables
   pub room : HasRoomForAll c.room c.tables
   pub holders : CanCountHolders c.room c.tables
@@ -86,3 +129,4 @@ pub record IsControl (c : ControlState) : Type 0 where
 pub record IsButHolders (t t' : HubTables) : Type 0 where
   pub same : t' ≡ record t { pools = t'.pools }
   pub holders : DifferInHolders t.pools t'.pools
+  pub bare : bare_pools t.pools ≡ bare_pools t'.pools

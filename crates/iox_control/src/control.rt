@@ -4,6 +4,7 @@ ghost use Rattle.iox_control.specs.Settings.{settings_of};
 ghost use Rattle.iox_hub_states.specs.States.{Given, limits_of, state_shown};
 ghost use Rattle.iox_model.specs.Runs.{at_rest, raised, untouched};
 ghost use Rattle.iox_model.specs.Settings.{Limits};
+ghost use Rattle.iox_hub_keeping.specs.Connected.{KeepsNone};
 ghost use Rattle.iox_hub_states.specs.Ends.{with_call};
 ghost use Rattle.iox_hub_states.specs.Receives.{got_handle, visits_at, wanted_by_server, with_visited};
 ghost use Rattle.iox_hub_states.specs.Tables.{labels_of, port_in, slot_at};
@@ -16,7 +17,7 @@ ghost use Rattle.iox_hub_states.specs.Wirings.{handle_in};
 ghost use Rattle.std.specs.Option.{option_map, option_map_or};
 ghost use Rattle.iox_slots.specs.Pools.{with_slot};
 ghost use Rattle.iox_slots.specs.Slots.{held};
-ghost use Rattle.iox_control.specs.Controls.{ControlState, IsControl, new_control, with_got, with_handle, with_tables};
+ghost use Rattle.iox_control.specs.Controls.{ControlState, HaveBuffers, IsControl, new_control, with_got, with_handle, with_tables};
 ghost use Rattle.iox_control.specs.Entries.{handle_state};
 
 use crate::settings::Settings;
@@ -33,13 +34,13 @@ use std::marker::Model;
 /// handles and the slots of messages.
 #[derive(Drop)]
 pub struct Control {
-    settings: Settings,
-    calls: u64,
-    next_number: u64,
-    ports_made: u64,
-    ports: Ports,
-    handles: Table,
-    pools: Pools,
+    pub(crate) settings: Settings,
+    pub(crate) calls: u64,
+    pub(crate) next_number: u64,
+    pub(crate) ports_made: u64,
+    pub(crate) ports: Ports,
+    pub(crate) handles: Table,
+    pub(crate) pools: Pools,
 }
 
 impl Model for Control {
@@ -57,7 +58,8 @@ impl Control {
     /// A hub of these settings, in which no port was made yet. It fails only for want of memory.
     pub fn new(alloc: Global, settings: Settings) -> Result<Control, AllocError>
         ensures made { IfOk result (λ c. c ≡ new_control (settings_of settings)) }
-        ensures order { IfOk result IsControl }
+        ensures order { KeepsNone (settings_of settings) → HaveBuffers (settings_of settings)
+            → IfOk result IsControl }
         ensures shown { IfOk result (λ c. (x : Given) (l : Limits) → limits_of x c.tables ≡ raised l
             → state_shown x c.tables ≡ at_rest x.members (untouched l x.acts)) }
     {
@@ -85,7 +87,7 @@ impl Control {
 
     /// The label of the message in that slot.
     #[inline]
-    pub(crate) fn label(&self, pool: usize, slot: u64) -> Label
+    pub fn label(&self, pool: usize, slot: u64) -> Label
         ensures { result ≡ labels_of self.now.tables.pools pool slot }
     {
         self.pools.label(pool, slot)
@@ -93,7 +95,7 @@ impl Control {
 
     /// Whether something waits for the port on that lane, from some sender.
     #[inline]
-    pub(crate) fn has_waiting(&self, port: u64, lane: u64) -> bool
+    pub fn has_waiting(&self, port: u64, lane: u64) -> bool
         ensures { result ≡ option_map_or (λ p. waits_for p lane)
             (port_in self.now.tables.ports port) false }
     {
@@ -101,7 +103,7 @@ impl Control {
     }
 
     /// Says of that request, on its lane, to each server that its client lost interest.
-    pub(crate) fn hint_all(&mut self, client: u64, label: Label)
+    pub fn hint_all(&mut self, client: u64, label: Label)
         ensures { self.new ≡ with_tables self.old (with_states (λ r. hinted_for r label.request)
             self.old.tables (map (response_way client label.lane)
             (numbers_of_role Server self.old.tables.ports))) }
@@ -110,7 +112,7 @@ impl Control {
     }
 
     /// Visits that lane of each sender to the port, until one gives a message.
-    pub(crate) fn visit(&mut self, port: u64, lane: u64, wanted: Wanted) -> Visits
+    pub fn visit(&mut self, port: u64, lane: u64, wanted: Wanted) -> Visits
         ensures visits { result ≡ visits_at self.old.tables port lane wanted }
         ensures visited { self.new ≡ with_tables self.old (with_visited self.old.tables port lane wanted) }
     {
@@ -119,7 +121,7 @@ impl Control {
 
     /// Counts one call more.
     #[inline]
-    pub(crate) fn count_call(&mut self)
+    pub fn count_call(&mut self)
         requires { self.old.tables.calls + 1 < 2 ^ 64 }
         ensures { self.new ≡ with_tables self.old (with_call self.old.tables) }
     {
@@ -127,7 +129,7 @@ impl Control {
     }
 
     /// Adds a handle, whose number is the next one.
-    pub(crate) fn add_handle(&mut self, entry: Entry)
+    pub fn add_handle(&mut self, entry: Entry)
         requires room { 0 < self.old.room }
         requires number { entry.number ≡ self.old.tables.next_number }
         requires count { entry.number + 1 < 2 ^ 64 }
@@ -139,7 +141,7 @@ impl Control {
 
     /// What a server is handed: under fire-and-forget any request, else those that are still named.
     #[inline]
-    pub(crate) fn wanted_by_server(&self) -> Wanted
+    pub fn wanted_by_server(&self) -> Wanted
         ensures { result ≡ wanted_by_server self.now.tables.settings.fire_and_forget }
     {
         if self.settings.fire_and_forget {
@@ -150,7 +152,7 @@ impl Control {
 
     /// One more has a message that somebody has.
     #[inline]
-    pub(crate) fn hold(&mut self, pool: usize, slot: u64)
+    pub fn hold(&mut self, pool: usize, slot: u64)
         requires taken { 0 < (slot_at self.old.tables.pools pool slot).holders }
         requires fits { (slot_at self.old.tables.pools pool slot).holders < 2 ^ 64 - 1 }
         ensures { self.new ≡ with_tables self.old (record (self.old.tables) { pools = with_slot held self.old.tables.pools pool slot }) }
@@ -159,14 +161,7 @@ impl Control {
     }
 
     /// The handle of the message in that slot for a port of that role, with the next number.
-    pub(crate) fn got_entry(
-        &self,
-        node: u64,
-        role: Role,
-        port: u64,
-        pool: usize,
-        slot: u64,
-    ) -> Entry
+    pub fn got_entry(&self, node: u64, role: Role, port: u64, pool: usize, slot: u64) -> Entry
         ensures { handle_state result ≡ got_handle self.now.tables node role port pool slot }
     {
         let (kind, client) = match role {
@@ -187,7 +182,7 @@ impl Control {
 
     /// Hands the message in that slot to a port of that role: it has a handle, and the call is
     /// counted.
-    pub(crate) fn got(&mut self, node: u64, role: Role, port: u64, pool: usize, slot: u64) -> u64
+    pub fn got(&mut self, node: u64, role: Role, port: u64, pool: usize, slot: u64) -> u64
         requires room { 0 < self.old.room }
         requires number { self.old.tables.next_number + 1 < 2 ^ 64 }
         requires calls { self.old.tables.calls + 1 < 2 ^ 64 }

@@ -2,10 +2,14 @@
 #![tactic(auto)]
 
 mod control;
+mod lanes;
+mod making;
+mod parts;
 mod questions;
 mod received;
 mod receives;
 mod settings;
+mod slots;
 #[cfg(test)]
 mod tests;
 pub mod uses;

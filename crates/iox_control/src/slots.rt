@@ -1,0 +1,88 @@
+//! Single changes of slots and of handles.
+ghost use Rattle.std.specs.Prelude.{◌≡◌, ◌<◌, IfSome, IsSome, None, ◌↔◌};
+ghost use Rattle.std.specs.Bool.{OnFalse};
+ghost use Rattle.std.specs.Option.{option_map};
+ghost use Rattle.iox_hub_states.specs.Ends.{with_changed};
+ghost use Rattle.iox_hub_states.specs.Wirings.{handle_in};
+ghost use Rattle.iox_slots.specs.Pools.{Acquires, free_count, has_slot, is_taken_at, with_slot};
+ghost use Rattle.iox_slots.specs.Slots.{let_go, written};
+ghost use Rattle.iox_control.specs.Controls.{with_handle_dropped, with_pools, with_tables};
+ghost use Rattle.iox_control.specs.Entries.{handle_state};
+
+use crate::control::Control;
+use iox_handles::Entry;
+
+impl Control {
+    // ---- slots
+
+    /// One has a slot that nobody had, and this is its number. It is `None` exactly if there is none,
+    /// and then nothing changes.
+    pub fn acquire(&mut self, pool: usize) -> Option<u64>
+        ensures acquired { IfSome result (λ k. Acquires self.old.tables.pools pool k self.new.tables.pools) }
+        ensures left { self.new ≡ with_pools self.old self.new.tables.pools }
+        ensures full { result ≡ None ↔ free_count self.old.tables.pools pool ≡ 0 }
+        ensures unchanged { result ≡ None → self.new ≡ self.old }
+    {
+        self.pools.acquire(pool)
+    }
+
+    /// Writes another message into a slot, and says whether there is such a slot. Who has the slot
+    /// still has it.
+    pub fn write_slot(
+        &mut self,
+        pool: usize,
+        slot: u64,
+        serial: u64,
+        lane: u64,
+        request: u64,
+        elements: u64,
+    ) -> bool
+        ensures there { result ≡ has_slot self.old.tables.pools pool slot }
+        ensures written { self.new ≡ with_pools self.old
+            (with_slot (written serial lane request elements) self.old.tables.pools pool slot) }
+    {
+        self.pools
+            .write(pool, slot, serial, lane, request, elements)
+    }
+
+    /// One less has a slot, and says whether anybody had it: where nobody did, nothing changes.
+    pub fn let_go(&mut self, pool: usize, slot: u64) -> bool
+        ensures had { result ≡ is_taken_at self.old.tables.pools pool slot }
+        ensures left { self.new ≡ with_pools self.old (with_slot let_go self.old.tables.pools pool slot) }
+        ensures unchanged { OnFalse result (self.new ≡ self.old) }
+    {
+        self.pools.let_go(pool, slot)
+    }
+
+    // ---- handles
+
+    /// A handle of that node and number is as it is now; it is looked for at the hint first. Where
+    /// there is none, nothing changes.
+    pub fn change_handle(&mut self, entry: Entry, hint: usize)
+        ensures { self.new ≡ with_tables self.old (with_changed self.old.tables (handle_state entry)) }
+    {
+        match self.handles.find(entry.number, hint) {
+            None => {}
+            Some(old) => {
+                if old.node == entry.node {
+                    self.handles.change(entry, hint);
+                }
+            }
+        }
+    }
+
+    /// Removes the node's handle of that number, which is looked for at the hint first. It leaves
+    /// room for another.
+    pub fn remove_handle(&mut self, node: u64, number: u64, hint: usize) -> Option<Entry>
+        ensures found { option_map handle_state result ≡ handle_in self.old.tables.handles node number }
+        ensures dropped { IsSome result → self.new ≡ with_handle_dropped self.old node number }
+        ensures unchanged { result ≡ None → self.new ≡ self.old }
+    {
+        let entry = self.handles.find(number, hint)?;
+        if entry.node == node {
+            self.handles.remove(number, hint);
+            return Some(entry);
+        }
+        None
+    }
+}
