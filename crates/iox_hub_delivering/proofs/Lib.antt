@@ -1,0 +1,14 @@
+pub mod Pushed
+pub mod Delivered
+pub mod Before
+pub mod Sent
+pub mod Counted
+pub mod Both
+pub mod Slots
+pub mod Stepped
+pub mod Walked
+pub mod Loaned
+pub mod Copied
+pub mod CopySent
+pub mod LoanCounted
+pub mod WorkedHolds
