@@ -1,0 +1,6 @@
+pub mod Counting
+pub mod Walks
+pub mod Linking
+pub mod Vacant
+pub mod Made
+pub mod Told
