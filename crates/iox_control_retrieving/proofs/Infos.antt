@@ -1,0 +1,73 @@
+-- What is said of ports stays as lanes are emptied.
+use Rattle.std.specs.Prelude.{◌≡◌, ℕ, Bool, true, false, if◌then◌else◌, List, [], ◌∷◌, map, Option, Some, None, slice_get, refl}
+use Rattle.std.specs.Option.{option_map, option_map_or}
+use Rattle.std.proofs.Common.{sym, ap, ◌∙◌}
+use Rattle.std.proofs.lemmas.Option.{slice_get-map}
+use Rattle.iox_model.specs.declared.way.Way.{Way}
+use Rattle.iox_model.specs.Maps.{has_number}
+use Rattle.iox_lanes.specs.Lanes.{LaneState}
+use Rattle.iox_lanes.specs.Pipes.{PipeState, with_lane}
+use Rattle.iox_hub_states.specs.Tables.{PortState, first_by, port_in, senders_of}
+use Rattle.iox_hub_states.specs.Ways.{lane_on, with_lane_on, with_lanes_on, with_pipe_from, with_pipe_of, with_pipes}
+use Rattle.iox_hub_states.specs.Changes.{emptied_lane}
+use Rattle.iox_hub_states.proofs.Keys.{same_mapped}
+use Rattle.iox_hub_ports.specs.declared.info.PortInfo.{PortInfo}
+use Rattle.iox_hub_ports.specs.Ports.{info_at, info_in, info_of}
+use Rattle.iox_hub_books.proofs.Frames.{first_map, some_map}
+use Rattle.iox_hub_loans.specs.Lenders.{size_in}
+use Rattle.iox_control.specs.Controls.{ControlState, IsControl}
+use Rattle.iox_control_retrieving.specs.Retrieving.{GetsBack}
+
+-- what is said of all ports
+abbrev pub infos_of : List PortState → List PortInfo
+infos_of ports = map info_of ports
+
+pipe_info : (h : PipeState → PipeState) (s : ℕ) (p : PortState) → info_of (with_pipe_of h p s) ≡ info_of p
+pipe_info h s p = step (has_number s (senders_of p.expired.pipes))
+  where
+    step : (b : Bool)
+        → info_of (if b then record p { expired = with_pipes p.expired (with_pipe_from h p.expired.pipes s) } else record p { incoming = with_pipes p.incoming (with_pipe_from h p.incoming.pipes s) })
+        ≡ info_of p
+    step true = refl
+    step false = refl
+
+lanes_infos : (g : LaneState → LaneState) (ports : List PortState) (ws : List Way) → infos_of (with_lanes_on g ports ws) ≡ infos_of ports
+lanes_infos g ports [] = refl
+lanes_infos g ports (w ∷ ws) =
+    lanes_infos g (with_lane_on g ports w) ws
+    ∙ same_mapped (λ p. p.number) (λ p. with_pipe_of (λ q. with_lane g q w.lane) p w.sender) info_of (pipe_info (λ q. with_lane g q w.lane) w.sender) ports w.receiver
+
+pub infos_stay : (c new : ControlState) (ws : List Way) → GetsBack c ws new → infos_of new.tables.ports ≡ infos_of c.tables.ports
+infos_stay c new ws got = ap (λ (d : ControlState). infos_of d.tables.ports) got.left ∙ lanes_infos emptied_lane c.tables.ports ws
+
+-- ---- by number, and by place
+
+by_number : (ports : List PortState) (n : ℕ) → info_in ports n ≡ first_by (λ i. i.number) (infos_of ports) n
+by_number ports n = sym (first_map (λ p. p.number) (λ i. i.number) info_of (λ p. refl) ports n)
+
+pub same_info : (xs ys : List PortState) (n : ℕ) → infos_of xs ≡ infos_of ys → info_in xs n ≡ info_in ys n
+same_info xs ys n same = by_number xs n ∙ ap (λ is. first_by (λ i. i.number) is n) same ∙ sym (by_number ys n)
+
+pub same_info_at : (xs ys : List PortState) (i : ℕ) → infos_of xs ≡ infos_of ys → info_at xs i ≡ info_at ys i
+same_info_at xs ys i same = sym (slice_get-map info_of xs i) ∙ ap (λ is. slice_get is i) same ∙ slice_get-map info_of ys i
+
+size_by : (ports : List PortState) (n : ℕ) → size_in ports n ≡ option_map_or (λ i. i.size) (info_in ports n) 0
+size_by ports n = step (port_in ports n)
+  where
+    step : (o : Option PortState) → option_map_or (λ p. p.size) o 0 ≡ option_map_or (λ i. i.size) (option_map info_of o) 0
+    step (Some p) = refl
+    step None = refl
+
+pub same_size : (xs ys : List PortState) (n : ℕ) → infos_of xs ≡ infos_of ys → size_in xs n ≡ size_in ys n
+same_size xs ys n same = size_by xs n ∙ ap (λ o. option_map_or (λ (i : PortInfo). i.size) o 0) (same_info xs ys n same) ∙ sym (size_by ys n)
+
+-- the port of which that is said
+pub port_of_info : (ports : List PortState) (n : ℕ) (info : PortInfo) → info_in ports n ≡ Some info → (p : PortState) × (port_in ports n ≡ Some p) × (info_of p ≡ info)
+port_of_info ports n info said = some_map info_of (port_in ports n) info said
+
+-- messages that come from a port are of its pool
+pub pool_is : (c : ControlState) (info : PortInfo) (w : Way) → IsControl c → info_in c.tables.ports w.sender ≡ Some info
+    → (l : LaneState) → lane_on c.tables.ports w ≡ Some l → l.pool ≡ info.pool
+pool_is c info w order said l at =
+    let p = port_of_info c.tables.ports w.sender info said in
+    (order.order.lanes w l p.0 at p.1).of_pool ∙ ap (λ (i : PortInfo). i.pool) p.2

@@ -1,0 +1,6 @@
+pub mod KeptInOrder
+pub mod OneWay
+pub mod Together
+pub mod Infos
+pub mod Lanes
+pub mod Places

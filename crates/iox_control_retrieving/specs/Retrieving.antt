@@ -1,0 +1,26 @@
+-- What senders get back.
+use Rattle.std.specs.Prelude.{◌≡◌, ℕ, if◌then◌else◌, List, [], ◌∷◌}
+use Rattle.iox_model.specs.declared.kind.Role.{Role}
+use Rattle.iox_model.specs.declared.kind.Role.TheVariants.{Client, Server}
+use Rattle.iox_model.specs.declared.way.Way.{Way}
+use Rattle.iox_model.specs.Messages.{request_way}
+use Rattle.iox_model.specs.Settings.{is_client}
+use Rattle.iox_hub_ports.specs.declared.info.PortInfo.{PortInfo}
+use Rattle.iox_hub_states.specs.Tables.{HubTables}
+use Rattle.iox_hub_states.specs.Changes.{emptied_lane, with_lanes}
+use Rattle.iox_hub_loans.specs.Lenders.{ways_to_client}
+use Rattle.iox_hub_lending.specs.Emptying.{HasFewerHolders, returned_on}
+use Rattle.iox_control.specs.Controls.{ControlState, IsControl, with_tables}
+
+-- All that was given back on these ways is got back, and the tables stay in order.
+pub record GetsBack (c : ControlState) (ws : List Way) (new : ControlState) : Type 0 where
+  pub left :
+      new
+      ≡ with_tables c (record (with_lanes emptied_lane c.tables ws) { pools = new.tables.pools })
+  pub fewer : HasFewerHolders c.tables.pools new.tables.pools (returned_on c.tables ws)
+  pub order : IsControl new
+
+-- the ways on which the port of that number, which has that role, sends to another port
+abbrev pub ways_to : Role → HubTables → ℕ → PortInfo → List Way
+ways_to Client t n to = if is_client to.role then [] else request_way n to.number ∷ []
+ways_to Server t n to = if is_client to.role then ways_to_client t n to.number else []

@@ -1,0 +1,80 @@
+//! What was given back to one port.
+ghost use Rattle.std.specs.Prelude.{◌≡◌, Some};
+ghost use Rattle.iox_model.specs.declared.kind.Role.TheVariants.{Client, Server};
+ghost use Rattle.iox_hub_states.specs.Tables.{PortState, port_in};
+ghost use Rattle.iox_hub_ports.specs.Ports.{info_in};
+ghost use Rattle.iox_hub_loans.specs.Lenders.{ways_to_client};
+ghost use Rattle.iox_hub_lending.specs.Emptying.{AreGotBack, with_back};
+ghost use Rattle.iox_control.specs.Controls.{IsControl, with_tables};
+ghost use Rattle.iox_control_retrieving.specs.Retrieving.{GetsBack, ways_to};
+
+use crate::one_way::retrieve;
+use iox_control::Control;
+use iox_hub_ports::info::PortInfo;
+use iox_model::kind::Role;
+use iox_model::way::Way;
+
+/// Gets back all that the client gave back to the server, lane after lane on which there is
+/// something.
+fn retrieve_lanes(control: &mut Control, server: PortInfo, client: PortInfo)
+    requires order { IsControl control.old }
+    requires from { info_in control.old.tables.ports server.number ≡ Some server }
+    requires to { info_in control.old.tables.ports client.number ≡ Some client }
+    requires server { server.role ≡ Server }
+    requires client { client.role ≡ Client }
+    ensures { GetsBack control.old
+        (ways_to_client control.old.tables server.number client.number) control.new }
+{
+    while let Some(lane) = control.lane_to_get(server.number, client.number) {
+        let way = Way {
+            sender: server.number,
+            receiver: client.number,
+            lane: lane as u64,
+        };
+        retrieve(control, way, server.pool);
+    }
+}
+
+/// Gets back all that the one port gave back to the other.
+fn retrieve_from(control: &mut Control, sender: PortInfo, to: PortInfo)
+    requires order { IsControl control.old }
+    requires from { info_in control.old.tables.ports sender.number ≡ Some sender }
+    requires to { info_in control.old.tables.ports to.number ≡ Some to }
+    ensures { GetsBack control.old
+        (ways_to sender.role control.old.tables sender.number to) control.new }
+{
+    match (sender.role, to.role) {
+        (Role::Client, Role::Server) => {
+            let way = Way {
+                sender: sender.number,
+                receiver: to.number,
+                lane: 0,
+            };
+            retrieve(control, way, sender.pool);
+        }
+        (Role::Server, Role::Client) => retrieve_lanes(control, sender, to),
+        _ => {}
+    }
+}
+
+/// Gets back all that was given back to the port.
+pub fn retrieve_all(control: &mut Control, port: u64)
+    requires order { IsControl control.old }
+    requires there { (p : PortState) × (port_in control.old.tables.ports port ≡ Some p) }
+    ensures left { (p : PortState) → port_in control.old.tables.ports port ≡ Some p
+        → control.new ≡ with_tables control.old
+        (with_back control.old.tables p control.new.tables.pools) }
+    ensures back { (p : PortState) → port_in control.old.tables.ports port ≡ Some p
+        → AreGotBack control.old.tables p control.new.tables.pools }
+    ensures order { IsControl control.new }
+{
+    let Some(sender) = control.ports().find(port) else {
+        unreachable!();
+    };
+    for at in 0..control.ports().len() {
+        let Some(to) = control.ports().at(at) else {
+            unreachable!();
+        };
+        retrieve_from(control, sender, to);
+    }
+}
