@@ -1,0 +1,61 @@
+-- Handles are counted as the table keeps them.
+use Rattle.std.specs.Prelude.{◌≡◌, ℕ, ◌+◌, ◌<◌, ◌-◌, ◌&&◌, ◌||◌, ◌==◌, nat_lt, zero, suc, Bool, true, false, not, if◌then◌else◌, List, [], ◌∷◌, map, filter, find, length, Option, Some, refl}
+use Rattle.std.specs.List.{list_any, range_with_len}
+use Rattle.std.proofs.Common.{ap, ◌∙◌, sym, arith}
+use Rattle.std.proofs.lemmas.Bool.{lt-ltb}
+use Rattle.iox_model.specs.declared.kind.Kind.TheVariants.{PendingResponse}
+use Rattle.iox_model.specs.Handles.{is_request_loan, is_response_loan, same_kind}
+use Rattle.iox_handles.specs.declared.entry.Entry.{Entry}
+use Rattle.iox_hub_states.specs.Tables.{HandleState, PoolState, labels_of}
+use Rattle.iox_control.specs.Entries.{handle_state}
+
+-- as many pass as show a handle that passes
+pub counted_same : (test : HandleState → Bool) (hs : List Entry)
+    → length (filter (λ e. test (handle_state e)) hs) ≡ length (filter test (map handle_state hs))
+counted_same test [] = refl
+counted_same test (e ∷ es) = step (test (handle_state e)) (counted_same test es)
+  where
+    step : (b : Bool) → length (filter (λ e. test (handle_state e)) es) ≡ length (filter test (map handle_state es))
+        → length (if b then e ∷ filter (λ e. test (handle_state e)) es else filter (λ e. test (handle_state e)) es)
+        ≡ length (if b then handle_state e ∷ filter test (map handle_state es) else filter test (map handle_state es))
+    step true rest = ap suc rest
+    step false rest = rest
+
+-- some are counted where one passes
+pub some_pass : {A : Type 0} (test : A → Bool) (xs : List A) → nat_lt 0 (length (filter test xs)) ≡ list_any test xs
+some_pass test [] = refl
+some_pass test (x ∷ xs) = step (test x) (some_pass test xs)
+  where
+    step : (b : Bool) → nat_lt 0 (length (filter test xs)) ≡ list_any test xs
+        → nat_lt 0 (length (if b then x ∷ filter test xs else filter test xs)) ≡ (b || list_any test xs)
+    step true rest = lt-ltb 0 (suc (length (filter test xs))) (omega arith)
+    step false rest = rest
+
+-- the handle is a response on loan to that request
+abbrev pub shows_responding : List (Option PoolState) → ℕ → ℕ → ℕ → HandleState → Bool
+shows_responding pools port client request h =
+    (h.port == port) && (is_response_loan h.kind && ((h.client == client) && ((labels_of pools h.pool h.slot).request == request)))
+
+-- the handle is on that lane
+abbrev pub shows_on_lane : List (Option PoolState) → ℕ → ℕ → HandleState → Bool
+shows_on_lane pools port lane h =
+    (h.port == port) && ((is_request_loan h.kind || same_kind h.kind PendingResponse) && ((labels_of pools h.pool h.slot).lane == lane))
+
+-- ---- a search in ranges
+
+pub search_goes_on : (test : ℕ → Bool) (n i : ℕ) → i < n → test i ≡ false
+    → find test (range_with_len i (n - i)) ≡ find test (range_with_len (i + 1) (n - (i + 1)))
+search_goes_on test n i below e =
+    ap (λ m. find test (range_with_len i m)) (more n i below)
+    ∙ ap (λ (b : Bool). if b then Some i else find test (range_with_len (i + 1) (n - (i + 1)))) e
+  where
+    more : (n i : ℕ) → i < n → n - i ≡ suc (n - (i + 1))
+    more n i below = omega (arith, below)
+
+pub search_ends : (test : ℕ → Bool) (n i : ℕ) → i < n → test i ≡ true → find test (range_with_len i (n - i)) ≡ Some i
+search_ends test n i below e =
+    ap (λ m. find test (range_with_len i m)) (more n i below)
+    ∙ ap (λ (b : Bool). if b then Some i else find test (range_with_len (i + 1) (n - (i + 1)))) e
+  where
+    more : (n i : ℕ) → i < n → n - i ≡ suc (n - (i + 1))
+    more n i below = omega (arith, below)

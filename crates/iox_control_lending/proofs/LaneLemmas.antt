@@ -1,0 +1,56 @@
+-- The lane of a loan.
+use Rattle.std.specs.Prelude.{◌≡◌, ℕ, zero, suc, ◌+◌, ◌<◌, ◌≤◌, ◌&&◌, Bool, true, false, not, if◌then◌else◌, List, [], ◌∷◌, find, Option, Some, None, refl}
+use Rattle.std.specs.List.{list_all, range_with_len}
+use Rattle.std.proofs.Common.{sym, ap, ◌∙◌, arith, true≢false}
+use Rattle.std.proofs.lemmas.Option.{none-some, same_Some}
+use Rattle.iox_model.specs.declared.kind.Role.{Role}
+use Rattle.iox_model.specs.declared.kind.Role.TheVariants.{Client, Server}
+use Rattle.iox_hub_states.specs.Tables.{HubTables, PortState}
+use Rattle.iox_hub_books.specs.Hubs.{AreInOrder}
+use Rattle.iox_hub_loans.specs.Counts.{is_lane_taken}
+use Rattle.iox_hub_loans.specs.Lenders.{Lender}
+use Rattle.iox_hub_lending.specs.Choosing.{IsFreeSlot}
+use Rattle.iox_hub_lending.proofs.Chosen.{free_slots_have_lanes}
+use Rattle.iox_control_lending.specs.Lends.{lane_by}
+
+-- what is found passes, and is in the range
+pub found_passes : (test : ℕ → Bool) (a n k : ℕ) → find test (range_with_len a n) ≡ Some k → (test k ≡ true) × (k < a + n)
+found_passes test a zero k e = absurd (none-some k e)
+found_passes test a (suc n) k e = step (test a) refl e (found_passes test (a + 1) n k)
+  where
+    low : (k : ℕ) → a ≡ k → k < a + suc n
+    low k is = omega (arith, is)
+
+    more : k < a + 1 + n → k < a + suc n
+    more is = omega (arith, is)
+
+    step : (b : Bool) → test a ≡ b → (if b then Some a else find test (range_with_len (a + 1) n)) ≡ Some k
+        → (find test (range_with_len (a + 1) n) ≡ Some k → (test k ≡ true) × (k < a + 1 + n)) → (test k ≡ true) × (k < a + suc n)
+    step true is at rest = let same : a ≡ k = same_Some a k at in (ap test (sym same) ∙ is, low k same)
+    step false is at rest = let r = rest at in (r.0, more r.1)
+
+-- where none is found, all fail
+none_found : (test : ℕ → Bool) (xs : List ℕ) → find (λ k. not (test k)) xs ≡ None → list_all test xs ≡ true
+none_found test [] e = refl
+none_found test (x ∷ xs) e = step (test x) e (none_found test xs)
+  where
+    step : (b : Bool) → (if not b then Some x else find (λ k. not (test k)) xs) ≡ None
+        → (find (λ k. not (test k)) xs ≡ None → list_all test xs ≡ true) → (b && list_all test xs) ≡ true
+    step true at rest = rest at
+    step false at rest = absurd (none-some x (sym at))
+
+-- while nobody has some slot there is a lane
+pub has_lane : (t : HubTables) (n slot : ℕ) (y : Lender) → AreInOrder t → IsFreeSlot t n y.port t.pools slot → lane_by y.port.role t y ≡ None → ⊥
+has_lane t n slot y order is e = step y.port.role e
+  where
+    step : (role : Role) → lane_by role t y ≡ None → ⊥
+    step Client at = true≢false (sym (none_found (is_lane_taken t y.port.number) (range_with_len 0 y.port.size) at) ∙ free_slots_have_lanes t n slot y.port order is)
+    step Server at = none-some y.lane (sym at)
+
+-- a client's lane is below its size
+pub lane_within : (t : HubTables) (y : Lender) (lane : ℕ) → lane_by y.port.role t y ≡ Some lane → y.port.role ≡ Client → lane < y.port.size
+lane_within t y lane e role =
+    within (found_passes (λ k. not (is_lane_taken t y.port.number k)) 0 y.port.size lane (sym (ap (λ r. lane_by r t y) role) ∙ e)).1
+  where
+    within : lane < 0 + y.port.size → lane < y.port.size
+    within is = omega (arith, is)

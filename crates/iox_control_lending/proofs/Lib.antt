@@ -1,0 +1,11 @@
+pub mod CountLemmas
+pub mod Owns
+pub mod SlotLemmas
+pub mod LaneLemmas
+pub mod MadeLemmas
+pub mod FreeLemmas
+pub mod WholeLemmas
+pub mod LenderLemmas
+pub mod LendLemmas
+pub mod PortLemmas
+pub mod FillLemmas

@@ -1,0 +1,168 @@
+-- A port has fewer loans and pending responses than slots, while nobody has one of the slots.
+use Rattle.std.specs.Prelude.{◌≡◌, ℕ, zero, suc, ◌+◌, ◌<◌, ◌≤◌, ◌&&◌, ◌==◌, nat_lt, Bool, true, false, if◌then◌else◌, List, [], ◌∷◌, map, filter, length, refl}
+use Rattle.std.specs.List.{range_with_len}
+use Rattle.std.proofs.Common.{sym, ap, subst, ◌∙◌, arith, inl, inr, true≢false, eqb-true, eq-eqb}
+use Rattle.std.proofs.lemmas.List.FromFn.{length-range_with_len}
+use Rattle.iox_model.specs.Handles.{is_own}
+use Rattle.iox_weave_ledger.proofs.Lists.{IsAmong, NoRepeats, among-filter, filter-among, map-among}
+use Rattle.iox_weave_ledger.proofs.Ranges.{no-longer, range-has}
+use Rattle.iox_hub_states.specs.Tables.{HandleState, HubTables, PortState, slot_at}
+use Rattle.iox_hub_books.specs.Counts.{how_many, is_at, total}
+use Rattle.iox_hub_books.specs.Handles.{IsOfPort, is_own_at}
+use Rattle.iox_hub_books.specs.Hubs.{AreInOrder, IsUsed}
+use Rattle.iox_hub_books.specs.Rooms.{own_count}
+use Rattle.iox_hub_lending.specs.Choosing.{IsFreeSlot}
+use Rattle.iox_hub_lending.specs.Keeping.{has_holder}
+use Rattle.iox_hub_lending.proofs.Kept.{both, some_holder}
+use Rattle.iox_hub_lending.proofs.Owning.{of_each, port_is, two, used_among, used_within}
+
+-- ---- lists
+
+length_mapped : {A B : Type 0} (f : A → B) (xs : List A) → length (map f xs) ≡ length xs
+length_mapped f [] = refl
+length_mapped f (x ∷ xs) = ap suc (length_mapped f xs)
+
+no_more : {A : Type 0} (test : A → Bool) (xs : List A) → length (filter test xs) ≤ length xs
+no_more test [] = omega arith
+no_more test (x ∷ xs) = step (test x) (no_more test xs)
+  where
+    step : (b : Bool) → length (filter test xs) ≤ length xs → length (if b then x ∷ filter test xs else filter test xs) ≤ length (x ∷ xs)
+    step true rest = omega (arith, rest)
+    step false rest = omega (arith, rest)
+
+-- where one does not pass, fewer pass than there are
+one_less : {A : Type 0} (test : A → Bool) (a : A) (xs : List A) → IsAmong a xs → test a ≡ false → length (filter test xs) + 1 ≤ length xs
+one_less test a [] p e = absurd p
+one_less test a (x ∷ xs) (inl is) e = step (test x) (ap test (sym is) ∙ e) (no_more test xs)
+  where
+    step : (b : Bool) → b ≡ false → length (filter test xs) ≤ length xs → length (if b then x ∷ filter test xs else filter test xs) + 1 ≤ length (x ∷ xs)
+    step true off rest = absurd (true≢false off)
+    step false off rest = omega (arith, rest)
+one_less test a (x ∷ xs) (inr p) e = step (test x) (one_less test a xs p e)
+  where
+    step : (b : Bool) → length (filter test xs) + 1 ≤ length xs → length (if b then x ∷ filter test xs else filter test xs) + 1 ≤ length (x ∷ xs)
+    step true rest = omega (arith, rest)
+    step false rest = omega (arith, rest)
+
+-- how many pass is the length of those that do
+pub many_are : {A : Type 0} (test : A → Bool) (xs : List A) → how_many test xs ≡ length (filter test xs)
+many_are test [] = refl
+many_are test (x ∷ xs) = step (test x) (many_are test xs)
+  where
+    step : (b : Bool) → how_many test xs ≡ length (filter test xs)
+        → (if b then 1 else 0) + how_many test xs ≡ length (if b then x ∷ filter test xs else filter test xs)
+    step true rest = omega (arith, rest)
+    step false rest = omega (arith, rest)
+
+-- a test that passes counts for one
+one : (b : Bool) → b ≡ true → 1 ≤ (if b then 1 else 0)
+one true e = omega arith
+one false e = absurd (true≢false (sym e))
+
+below_each : {A : Type 0} (f g : A → ℕ) (xs : List A) → ((x : A) → IsAmong x xs → f x ≤ g x) → total f xs ≤ total g xs
+below_each f g [] less = omega arith
+below_each f g (x ∷ xs) less =
+    let first = less x (inl refl) in
+    let rest = below_each f g xs (λ y among. less y (inr among)) in
+    omega (arith, first, rest)
+
+-- one that passes is counted
+counts_one : (key : HandleState → ℕ) (test : HandleState → Bool) (h : HandleState) (hs : List HandleState) → IsAmong h hs → test h ≡ true
+    → 1 ≤ how_many (λ k. test k && (key k == key h)) hs
+counts_one key test h [] among e = absurd among
+counts_one key test h (k ∷ ks) (inl is) e =
+    let here : (test k && (key k == key h)) ≡ true = both (test k) (key k == key h) (ap test (sym is) ∙ e) (eq-eqb (key k) (key h) (ap key (sym is))) in
+    let first = one (test k && (key k == key h)) here in
+    omega (arith, first)
+counts_one key test h (k ∷ ks) (inr among) e = let rest = counts_one key test h ks among e in omega (arith, rest)
+
+-- where no key is counted twice, none is there twice
+once_each : (key : HandleState → ℕ) (test : HandleState → Bool) (hs : List HandleState)
+    → ((k : ℕ) → how_many (λ h. test h && (key h == k)) hs ≤ 1) → NoRepeats (map key (filter test hs))
+once_each key test [] few = tt
+once_each key test (h ∷ hs) few = step (test h) refl (once_each key test hs (λ k. less k (few k)))
+  where
+    less : (k : ℕ) → how_many (λ h. test h && (key h == k)) (h ∷ hs) ≤ 1 → how_many (λ h. test h && (key h == k)) hs ≤ 1
+    less k e = omega (arith, e)
+
+    twice : test h ≡ true → (y : HandleState) × IsAmong y (filter test hs) × (key h ≡ key y) → ⊥
+    twice e y =
+        let f = filter-among test y.0 hs y.1 in
+        let more : 1 ≤ how_many (λ k. test k && (key k == key y.0)) hs = counts_one key test y.0 hs f.0 f.1 in
+        let here : (test h && (key h == key y.0)) ≡ true = both (test h) (key h == key y.0) e (eq-eqb (key h) (key y.0) y.2) in
+        let first = one (test h && (key h == key y.0)) here in
+        let all = few (key y.0) in
+        omega (arith, more, first, all)
+
+    step : (b : Bool) → test h ≡ b → NoRepeats (map key (filter test hs)) → NoRepeats (map key (if b then h ∷ filter test hs else filter test hs))
+    step false e rest = rest
+    step true e rest = (λ among. twice e (map-among key (key h) (filter test hs) among), rest)
+
+-- ---- the port's own
+
+up : (k m : ℕ) → k < m → k < 0 + m
+up k m e = omega (arith, e)
+
+none_below : (k : ℕ) → 0 ≤ k
+none_below k = omega arith
+
+no_holder : (m : ℕ) → m ≡ 0 → nat_lt 0 m ≡ false
+no_holder m e = grind (arith, e)
+
+module _ (t : HubTables) (n slot : ℕ) (p : PortState) (order : AreInOrder t) (is : IsFreeSlot t n p t.pools slot) where
+  abbrev owns : HandleState → Bool
+  owns h = is_own h.kind && (h.port == p.number)
+
+  abbrev used : ℕ → Bool
+  used k = has_holder (slot_at t.pools p.pool k)
+
+  abbrev slots : List ℕ
+  slots = range_with_len 0 p.size
+
+  -- its message is in the port's pool
+  pool_of : (h : HandleState) → IsAmong h t.handles → owns h ≡ true → h.pool ≡ p.pool
+  pool_of h among e =
+      let parts = two (is_own h.kind) (h.port == p.number) e in
+      let of : IsOfPort t h = of_each (IsOfPort t) h t.handles order.ports among in
+      of.of_pool parts.0 ∙ ap (λ (q : PortState). q.pool) (port_is t order n p is.there h.port of.port of.there (eqb-true h.port p.number parts.1))
+
+  own_at : (k : ℕ) (h : HandleState) → IsAmong h t.handles
+      → (if owns h && (h.slot == k) then 1 else 0) ≤ (if is_own_at p.pool k h then 1 else 0)
+  own_at k h among = step (owns h && (h.slot == k)) refl
+    where
+      here : (owns h && (h.slot == k)) ≡ true → is_own_at p.pool k h ≡ true
+      here e =
+          let parts = two (owns h) (h.slot == k) e in
+          both (is_own h.kind) (is_at p.pool k h) (two (is_own h.kind) (h.port == p.number) parts.0).0
+          (both (h.pool == p.pool) (h.slot == k) (eq-eqb h.pool p.pool (pool_of h among parts.0)) parts.1)
+
+      step : (b : Bool) → (owns h && (h.slot == k)) ≡ b → (if b then 1 else 0) ≤ (if is_own_at p.pool k h then 1 else 0)
+      step true e = one (is_own_at p.pool k h) (here e)
+      step false e = omega arith
+
+  own_slots : NoRepeats (map (λ (h : HandleState). h.slot) (filter owns t.handles))
+  own_slots = once_each (λ h. h.slot) owns t.handles few
+    where
+      few : (k : ℕ) → how_many (λ h. owns h && (h.slot == k)) t.handles ≤ 1
+      few k =
+          let less = below_each (λ h. if owns h && (h.slot == k) then 1 else 0) (λ h. if is_own_at p.pool k h then 1 else 0) t.handles (own_at k) in
+          let all = order.own p.pool k in
+          omega (arith, less, all)
+
+  is_used : (k : ℕ) → IsAmong k (map (λ (h : HandleState). h.slot) (filter owns t.handles)) → IsAmong k (filter used slots)
+  is_used k among =
+      let y = map-among (λ (h : HandleState). h.slot) k (filter owns t.handles) among in
+      let f = filter-among owns y.0 t.handles y.1 in
+      let had : IsUsed t p.pool y.0.slot = subst (λ q. IsUsed t q y.0.slot) (pool_of y.0 f.0 f.1) (used_among t order y.0 f.0) in
+      subst (λ j. IsAmong j (filter used slots)) (sym y.2)
+      (among-filter used y.0.slot slots
+      (range-has 0 p.size y.0.slot (none_below y.0.slot) (up y.0.slot p.size (used_within t order n p is.there y.0.slot had))) (some_holder _ had))
+
+  pub own_are_fewer : own_count t.handles p + 1 ≤ p.size
+  own_are_fewer =
+      let many : own_count t.handles p ≡ length (filter owns t.handles) = many_are owns t.handles in
+      let as_many = length_mapped (λ (h : HandleState). h.slot) (filter owns t.handles) in
+      let fits = no-longer (map (λ (h : HandleState). h.slot) (filter owns t.handles)) (filter used slots) own_slots is_used in
+      let less = one_less used slot slots (range-has 0 p.size slot (none_below slot) (up slot p.size is.within)) (no_holder _ is.free) in
+      let size : length slots ≡ p.size = length-range_with_len 0 p.size in
+      omega (arith, many, as_many, fits, less, size)

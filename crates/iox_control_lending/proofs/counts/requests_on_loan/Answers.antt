@@ -1,0 +1,12 @@
+use Rattle.std.proofs.Common.{ap, ◌∙◌}
+use Rattle.std.specs.Prelude.{◌==◌, ◌&&◌, filter, length}
+use Rattle.iox_model.specs.Handles.{is_request_loan}
+use Rattle.iox_hub_states.specs.Tables.{HandleState}
+use Rattle.iox_control_lending.proofs.CountLemmas.{counted_same}
+use Rattle.iox_control_lending.proofs.counts.requests_on_loan.Goals as goal
+
+pub returns : goal.returns
+returns c =
+    c.count_if.ensures
+    ∙ counted_same (λ (h : HandleState). (h.port == c.args.client) && is_request_loan h.kind) c.handles.result.now.handles
+    ∙ ap (λ hs. length (filter (λ (h : HandleState). (h.port == c.args.client) && is_request_loan h.kind) hs)) c.handles.ensures.handles

@@ -1,0 +1,156 @@
+-- What is asked of a loan, and what a loan leaves.
+use Rattle.std.specs.Prelude.{◌≡◌, ℕ, ◌-◌, ◌<◌, true, not, if◌then◌else◌, List, [], Option, Some, None, find}
+use Rattle.std.specs.List.{list_all, range_with_len}
+use Rattle.iox_model.specs.declared.kind.Role.{Role}
+use Rattle.iox_model.specs.declared.kind.Role.TheVariants.{Client, Server}
+use Rattle.iox_model.specs.declared.reply.Refusal.TheVariants as refusals
+use Rattle.iox_model.specs.declared.reply.Reply.TheVariants as replies
+use Rattle.iox_model.specs.Commands.{Refusal, Reply}
+use Rattle.iox_model.specs.Settings.{Shape, has_layout, is_count}
+use Rattle.iox_model.specs.WholeCalls.{default_payload}
+use Rattle.iox_hub_states.specs.Tables.{HubTables, PoolState, PortState, SlotState, port_in, slot_at, slots_of}
+use Rattle.iox_hub_states.specs.States.{Given}
+use Rattle.iox_hub_ports.specs.Ports.{info_of}
+use Rattle.iox_slots.specs.Pools.{with_slot}
+use Rattle.iox_slots.specs.Slots.{written}
+use Rattle.iox_hub_loans.specs.Counts.{is_lane_taken}
+use Rattle.iox_hub_loans.specs.Lenders.{Lender, loan_refusal, shape_in}
+use Rattle.iox_hub_loans.specs.Loans.{loaned_handle, with_handed_out, with_loaned}
+use Rattle.iox_hub_loans.specs.Slots.{Contents, with_contents}
+use Rattle.iox_hub_lending.specs.Emptying.{AreGotBack, with_back}
+use Rattle.iox_hub_lending.specs.Keeping.{has_holder}
+use Rattle.iox_control.specs.Controls.{ControlState, with_tables}
+use Rattle.iox_control_lending.specs.declared.asked.Asked.{Asked}
+use Rattle.iox_control_lending.specs.declared.asked.Lending.{Lending}
+use Rattle.iox_control_lending.specs.declared.asked.Loaned.{Loaned}
+use Rattle.iox_control_lending.specs.declared.asked.LoanRefusal.{LoanRefusal}
+use Rattle.iox_control_lending.specs.declared.asked.LoanRefusal.TheVariants.{CallsSpent, WrongLength, ExceedsMaxLoanSize, ExceedsMaxLoans}
+use Rattle.iox_control_lending.specs.declared.asked.Lent.{Lent}
+use Rattle.iox_control_lending.specs.declared.asked.Lent.TheVariants.{Handle, Refused, OutOfMemory}
+
+-- ---- what is asked, and what is replied
+
+-- Messages of the shape may have so many elements, and can be addressed, where it was said so.
+pub record IsAskedOf (shape : Shape) (a : Asked) : Type 0 where
+  pub count : is_count shape a.elements ≡ a.is_count
+  pub layout : has_layout shape a.elements ≡ a.has_layout
+
+-- why no loan is made, but for the pool, as the machine says it
+abbrev pub refusal_of : LoanRefusal → Refusal
+refusal_of CallsSpent = refusals.CallsSpent
+refusal_of WrongLength = refusals.WrongLength
+refusal_of ExceedsMaxLoanSize = refusals.ExceedsMaxLoanSize
+refusal_of ExceedsMaxLoans = refusals.ExceedsMaxLoans
+
+-- what a loan answers
+abbrev pub reply_of_loan : Lent → Reply
+reply_of_loan (Handle l) = replies.Handle l.number
+reply_of_loan (Refused r) = replies.Refused (refusal_of r)
+reply_of_loan OutOfMemory = replies.Refused refusals.OutOfMemory
+
+-- the payload of a new loan: none where it is unfilled, else the default of each element
+abbrev pub first_payload : Shape → Asked → List ℕ
+first_payload shape a = if a.uninit then [] else default_payload shape a.elements
+
+-- the words of a new loan
+abbrev pub first_contents : Shape → Asked → Contents
+first_contents shape a =
+    record { user = shape.user; payload = first_payload shape a; filled = 0 }
+
+-- the words once the loan is made: its slot has new ones
+abbrev pub given_after : Given → Shape → Asked → Lent → Given
+given_after x shape a (Handle l) = with_contents x l.pool l.slot (first_contents shape a)
+given_after x shape a (Refused r) = x
+given_after x shape a OutOfMemory = x
+
+-- ---- who lends
+
+-- the port lends, for that request
+abbrev pub lender_of : PortState → Lending → Lender
+lender_of p l = record { port = p; client = l.client; lane = l.lane; request = l.request }
+
+-- the same lender, on another lane
+abbrev pub on_lane : Lender → ℕ → Lender
+on_lane y lane = record y { lane = lane }
+
+-- whatever the words are, that is why no such loan is made, but for the pool
+abbrev pub IsTold : HubTables → Lender → Asked → Option Refusal → Type 0
+IsTold t y a r =
+    (x : Given) → IsAskedOf (shape_in x t y.port) a → loan_refusal x t y a.elements ≡ r
+
+-- the lowest lane of the client that is not taken
+abbrev pub lowest_lane : HubTables → PortState → Option ℕ
+lowest_lane t p =
+    find (λ lane. not (is_lane_taken t p.number lane)) (range_with_len 0 p.size)
+
+-- the lane of a loan: a client's lowest that is not taken; a server's that of its request
+abbrev pub lane_by : Role → HubTables → Lender → Option ℕ
+lane_by Client t y = lowest_lane t y.port
+lane_by Server t y = Some y.lane
+
+-- what is known of the port of a lender
+pub record IsPortOf (t : HubTables) (l : Lending) : Type 0 where
+  pub port : PortState
+  pub there : port_in t.ports l.port.number ≡ Some port
+  pub info : l.port ≡ info_of port
+
+-- ---- what a loan leaves
+
+-- the loan is written to that slot, whoever has it, and handed out
+abbrev pub with_written_out : ControlState → Lender → Asked → ℕ → ControlState
+with_written_out c y a slot =
+    let f : SlotState → SlotState = written y.port.loans y.lane y.request a.elements in
+    record c {
+      tables = with_handed_out
+          (record (c.tables) { pools = with_slot f c.tables.pools y.port.pool slot })
+          (loaned_handle c.tables y a.uninit slot);
+      room = c.room - 1;
+    }
+
+-- The loan is made in a slot that nobody had.
+pub record IsMade (c : ControlState) (y : Lender) (a : Asked) (l : Loaned) (new : ControlState)
+    : Type 0 where
+  pub number : l.number ≡ c.tables.next_number
+  pub pool : l.pool ≡ y.port.pool
+  pub within : l.slot < y.port.size
+  pub free : (slot_at c.tables.pools y.port.pool l.slot).holders ≡ 0
+  pub lane : ℕ
+  pub chosen : lane_by y.port.role c.tables y ≡ Some lane
+  pub left :
+      new
+      ≡ record c {
+        tables = with_loaned c.tables (on_lane y lane) a.uninit a.elements l.slot;
+        room = c.room - 1;
+      }
+
+-- All that was given back to the port is got back first.
+pub record IsGotBack (c : ControlState) (p : PortState) (new : ControlState) : Type 0 where
+  pub left : new ≡ with_tables c (with_back c.tables p new.tables.pools)
+  pub back : AreGotBack c.tables p new.tables.pools
+
+-- No test refuses the loan. All is got back, and it is made.
+pub record IsLoaned (c : ControlState) (y : Lender) (a : Asked) (l : Loaned) (new : ControlState)
+    : Type 0 where
+  pub passes : IsTold c.tables y a None
+  pub between : ControlState
+  pub back : IsGotBack c y.port between
+  pub made : IsMade between y a l new
+
+-- No test refuses the loan. All is got back, and then somebody has each slot.
+pub record FindsDry (c : ControlState) (y : Lender) (a : Asked) (new : ControlState) : Type 0
+  where
+    pub passes : IsTold c.tables y a None
+    pub back : IsGotBack c y.port new
+    pub full : list_all has_holder (slots_of new.tables.pools y.port.pool) ≡ true
+
+-- A test refuses the loan, and nothing changes.
+pub record IsRefused (c : ControlState) (y : Lender) (a : Asked) (r : Refusal) (new : ControlState)
+    : Type 0 where
+  pub told : IsTold c.tables y a (Some r)
+  pub left : new ≡ c
+
+-- what the lender's loan comes to, and leaves
+abbrev pub Lends : ControlState → Lender → Asked → Lent → ControlState → Type 0
+Lends c y a (Handle l) new = IsLoaned c y a l new
+Lends c y a (Refused r) new = IsRefused c y a (refusal_of r) new
+Lends c y a OutOfMemory new = FindsDry c y a new

@@ -1,0 +1,98 @@
+//! The loans of clients and of active requests.
+ghost use Rattle.std.specs.Prelude.{◌≡◌, Some};
+ghost use Rattle.iox_model.specs.WholeCalls.{IsWholeCall};
+ghost use Rattle.iox_hub_states.specs.Tables.{HandleState, PortState, port_in};
+ghost use Rattle.iox_hub_states.specs.States.{Given, state_shown};
+ghost use Rattle.iox_hub_states.specs.Wirings.{handle_in};
+ghost use Rattle.iox_hub_loans.specs.Lenders.{IsActive, IsClient, lender_of_request, lender_of_response};
+ghost use Rattle.iox_hub_loans.specs.Loans.{loan_call};
+ghost use Rattle.iox_control.specs.Controls.{IsControl};
+ghost use Rattle.iox_control_lending.specs.Lends.{IsAskedOf, IsPortOf, Lends, given_after, lender_of, reply_of_loan};
+
+use crate::asked::{Asked, Lending, Lent};
+use crate::lend::lend_free;
+use crate::refusals::loan_refusal;
+use iox_control::Control;
+use iox_control_retrieving::retrieve_all;
+
+/// Lends for that lender.
+fn lend(control: &mut Control, lender: Lending, asked: Asked) -> Lent
+    requires port { IsPortOf control.old.tables lender }
+    requires order { IsControl control.old }
+    ensures left { (p : PortState) → port_in control.old.tables.ports lender.port.number ≡ Some p
+        → Lends control.old (lender_of p lender) asked result control.new }
+    ensures order { IsControl control.new }
+{
+    if let Some(refusal) = loan_refusal(control, lender, asked) {
+        return Lent::Refused(refusal);
+    }
+    retrieve_all(control, lender.port.number);
+    match lend_free(control, lender, asked) {
+        Some(loaned) => Lent::Handle(loaned),
+        None => Lent::OutOfMemory,
+    }
+}
+
+/// Lends a request of that client, on its lowest lane that is free. All that servers gave back to
+/// the client is got back first.
+///
+/// The new loan holds no elements or the default of each.
+pub fn lend_request(control: &mut Control, node: u64, client: u64, asked: Asked) -> Lent
+    requires client { IsClient control.old.tables node client }
+    requires order { IsControl control.old }
+    ensures left { (p : PortState) → port_in control.old.tables.ports client ≡ Some p
+        → Lends control.old (lender_of_request p 0) asked result control.new }
+    ensures order { IsControl control.new }
+    ensures whole { (x : Given) → IsAskedOf x.request asked
+        → IsWholeCall (state_shown x control.old.tables) node
+        (loan_call asked.uninit client asked.elements) (reply_of_loan result)
+        (state_shown (given_after x x.request asked result) control.new.tables) }
+{
+    let Some(port) = control.ports().find(client) else {
+        unreachable!();
+    };
+    let lender = Lending {
+        port,
+        client: port.number,
+        lane: 0,
+        request: port.loans % (1 << 62),
+    };
+    lend(control, lender, asked)
+}
+
+/// Lends a response to that active request, whose handle is looked for at the hint first. All that
+/// clients gave back to the server is got back first.
+pub fn lend_response(
+    control: &mut Control,
+    node: u64,
+    number: u64,
+    hint: usize,
+    asked: Asked,
+) -> Lent
+    requires active { IsActive control.old.tables node number }
+    requires order { IsControl control.old }
+    ensures left { (h : HandleState) (p : PortState)
+        → handle_in control.old.tables.handles node number ≡ Some h
+        → port_in control.old.tables.ports h.port ≡ Some p
+        → Lends control.old (lender_of_response control.old.tables h p) asked result control.new }
+    ensures order { IsControl control.new }
+    ensures whole { (x : Given) → IsAskedOf x.response asked
+        → IsWholeCall (state_shown x control.old.tables) node
+        (loan_call asked.uninit number asked.elements) (reply_of_loan result)
+        (state_shown (given_after x x.response asked result) control.new.tables) }
+{
+    let Some(entry) = control.entry(node, number, hint) else {
+        unreachable!();
+    };
+    let Some(port) = control.ports().find(entry.port) else {
+        unreachable!();
+    };
+    let label = control.label(entry.pool, entry.slot);
+    let lender = Lending {
+        port,
+        client: entry.client,
+        lane: label.lane,
+        request: label.request,
+    };
+    lend(control, lender, asked)
+}

@@ -1,0 +1,20 @@
+//! Loans of clients and of servers, and writes, as calls of a hub's tables.
+#![tactic(auto)]
+
+mod asked;
+mod calls;
+mod counts;
+mod lanes;
+mod lend;
+mod refusals;
+#[cfg(test)]
+mod tests;
+pub mod uses;
+mod writes;
+
+pub use asked::{Asked, Lending, Lent, LoanRefusal, Loaned, Place, Written};
+pub use calls::{lend_request, lend_response};
+pub use counts::{pendings_of, requests_on_loan, responses_on_loan, responses_to};
+pub use lanes::{free_lane, is_lane_taken};
+pub use refusals::loan_refusal;
+pub use writes::{fill, write};

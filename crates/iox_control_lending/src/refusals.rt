@@ -1,0 +1,108 @@
+//! Why a loan is not made, but for the pool.
+ghost use Rattle.std.specs.Prelude.{◌≡◌, ◌*◌, ◌<◌, ◌^◌, ◌||◌, None, nat_le};
+ghost use Rattle.std.specs.Option.{option_map};
+ghost use Rattle.iox_model.specs.declared.reply.Refusal.TheVariants.{ExceedsMaxLoans};
+ghost use Rattle.iox_model.specs.Maps.{refused_if};
+ghost use Rattle.iox_model.specs.Settings.{Shape};
+ghost use Rattle.iox_hub_states.specs.Tables.{PortState};
+ghost use Rattle.iox_hub_ports.specs.Ports.{info_of};
+ghost use Rattle.iox_hub_loans.specs.Counts.{requests_on_loan, responses_on_loan, responses_to};
+ghost use Rattle.iox_hub_loans.specs.Lenders.{count_refusal_by, size_refusal};
+ghost use Rattle.iox_control_lending.specs.Lends.{IsAskedOf, IsTold, lender_of, refusal_of};
+
+use crate::asked::{Asked, Lending, LoanRefusal};
+use crate::counts::{requests_on_loan, responses_on_loan, responses_to};
+use iox_control::Control;
+use iox_hub_ports::info::PortInfo;
+use iox_model::kind::Role;
+
+/// Whether so many are as many as the product, or more.
+fn reaches(many: u64, a: u64, b: u64, c: u64) -> bool
+    ensures { result ≡ nat_le (a * b * c) many }
+{
+    if c == 0 {
+        return true;
+    }
+    match a.checked_mul(b) {
+        None => false,
+        Some(ab) => match ab.checked_mul(c) {
+            None => false,
+            Some(all) => all <= many,
+        },
+    }
+}
+
+/// Why the port lends nothing of that length.
+fn size_refusal(port: PortInfo, asked: Asked) -> Option<LoanRefusal>
+    ensures { (p : PortState) (shape : Shape) → port ≡ info_of p → IsAskedOf shape asked
+        → option_map refusal_of result ≡ size_refusal p shape asked.elements }
+{
+    if !asked.is_count {
+        return Some(LoanRefusal::WrongLength);
+    }
+    if (port.grows || asked.elements <= port.longest) && asked.has_layout {
+        return None;
+    }
+    Some(LoanRefusal::ExceedsMaxLoanSize)
+}
+
+/// Whether the client has as many loans as it may.
+fn has_all_requests(control: &Control, client: u64) -> bool
+    ensures { result ≡ nat_le control.now.tables.settings.loaned_requests
+        (requests_on_loan control.now.tables client) }
+{
+    control.settings().loaned_requests <= requests_on_loan(control, client)
+}
+
+/// Whether the server has as many loans as it may, to that request or in all.
+fn has_all_responses(control: &Control, lender: Lending) -> bool
+    ensures { result ≡ (nat_le lender.port.loaned_responses
+        (responses_to control.now.tables lender.port.number lender.client lender.request)
+        || nat_le (lender.port.loaned_responses * control.now.tables.settings.active_requests
+        * control.now.tables.settings.clients)
+        (responses_on_loan control.now.tables lender.port.number)) }
+{
+    let port = lender.port;
+    let to_one = responses_to(control, port.number, lender.client, lender.request) as u64;
+    let in_all = responses_on_loan(control, port.number) as u64;
+    let settings = control.settings();
+    port.loaned_responses <= to_one
+        || reaches(
+            in_all,
+            port.loaned_responses,
+            settings.active_requests as u64,
+            settings.clients,
+        )
+}
+
+/// Whether the lender has as many loans as it may.
+fn has_all_loans(control: &Control, lender: Lending) -> bool
+    ensures { (p : PortState) → lender.port ≡ info_of p
+        → refused_if result ExceedsMaxLoans
+        ≡ count_refusal_by p.role control.now.tables (lender_of p lender) }
+{
+    match lender.port.role {
+        Role::Client => has_all_requests(control, lender.port.number),
+        Role::Server => has_all_responses(control, lender),
+    }
+}
+
+/// Why no such loan is made, but for the pool.
+pub fn loan_refusal(control: &Control, lender: Lending, asked: Asked) -> Option<LoanRefusal>
+    ensures few { result ≡ None → control.now.tables.calls < 2 ^ 56 }
+    ensures told { (p : PortState) → lender.port ≡ info_of p
+        → IsTold control.now.tables (lender_of p lender) asked (option_map refusal_of result) }
+{
+    if control.calls() >= 1 << 56 {
+        return Some(LoanRefusal::CallsSpent);
+    }
+    match size_refusal(lender.port, asked) {
+        Some(refusal) => Some(refusal),
+        None => {
+            if has_all_loans(control, lender) {
+                return Some(LoanRefusal::ExceedsMaxLoans);
+            }
+            None
+        }
+    }
+}

@@ -1,0 +1,136 @@
+//! Writes, and loans that are filled by who holds them.
+ghost use Rattle.std.specs.Prelude.{◌≡◌, Some, false, true};
+ghost use Rattle.iox_model.specs.declared.call.Call.TheVariants.{Write};
+ghost use Rattle.iox_model.specs.Commands.{Payload};
+ghost use Rattle.iox_model.specs.Handles.{filled_kind};
+ghost use Rattle.iox_model.specs.Names.{suits};
+ghost use Rattle.iox_model.specs.Values.{Filling, IsFilling, MayFill};
+ghost use Rattle.iox_model.specs.WholeCalls.{IsWholeCall};
+ghost use Rattle.iox_hub_states.specs.Tables.{HandleState};
+ghost use Rattle.iox_hub_states.specs.States.{Given, fixed_of, state_shown};
+ghost use Rattle.iox_hub_states.specs.Releases.{handle_shown};
+ghost use Rattle.iox_hub_states.specs.Wirings.{handle_in};
+ghost use Rattle.iox_hub_loans.specs.Fillings.{contents_of};
+ghost use Rattle.iox_hub_loans.specs.Slots.{with_contents};
+ghost use Rattle.iox_hub_lending.specs.Filling.{with_kind};
+ghost use Rattle.iox_control.specs.Controls.{IsControl, with_tables};
+ghost use Rattle.iox_control.specs.Entries.{handle_state};
+ghost use Rattle.iox_control_lending.specs.Fills.{IsLoan, Writes, fits_loan, given_written, kind_after, place_of, reply_of_write};
+
+use crate::asked::{Place, Written};
+use crate::counts::is_request_loan;
+use iox_control::Control;
+use iox_handles::Entry;
+use iox_model::kind::Kind;
+
+/// The kind of a loan once it is filled.
+fn filled_kind(kind: Kind) -> Kind
+    ensures { result ≡ filled_kind kind }
+{
+    if is_request_loan(kind) {
+        return Kind::RequestMut;
+    }
+    Kind::ResponseMut
+}
+
+/// The kind of a loan once its holder filled all of it, or some.
+fn kind_after(all: bool, kind: Kind) -> Kind
+    ensures { result ≡ kind_after all kind }
+{
+    if all {
+        return filled_kind(kind);
+    }
+    kind
+}
+
+/// The kind of the loan is another now.
+fn set_kind(control: &mut Control, entry: Entry, kind: Kind, hint: usize)
+    ensures { control.new ≡ with_tables control.old
+        (with_kind control.old.tables (handle_state entry) kind) }
+{
+    let changed = Entry {
+        node: entry.node,
+        number: entry.number,
+        kind,
+        port: entry.port,
+        pool: entry.pool,
+        slot: entry.slot,
+        client: entry.client,
+        connections: entry.connections,
+    };
+    control.change_handle(changed, hint);
+}
+
+/// Whether the handle's message has so many elements.
+fn has_elements(control: &Control, entry: Entry, elements: Option<u64>) -> bool
+    ensures { result ≡ fits_loan control.now.tables (handle_state entry) elements }
+{
+    let Some(count) = elements else {
+        return false;
+    };
+    match control.pools().slot(entry.pool, entry.slot) {
+        Some(slot) => count == slot.elements(),
+        None => count == 0,
+    }
+}
+
+/// Fills a loan with a payload of so many whole elements, or of no whole elements. Its handle is
+/// looked for at the hint first.
+pub fn write(
+    control: &mut Control,
+    node: u64,
+    number: u64,
+    hint: usize,
+    elements: Option<u64>,
+) -> Written
+    requires loan { IsLoan control.old.tables node number }
+    requires order { IsControl control.old }
+    ensures left { (h : HandleState) → handle_in control.old.tables.handles node number ≡ Some h
+        → Writes control.old h elements result control.new }
+    ensures order { IsControl control.new }
+    ensures whole { (x : Given) (h : HandleState) (p : Payload)
+        → handle_in control.old.tables.handles node number ≡ Some h
+        → suits false (Write number p) h.kind ≡ true → p.elements ≡ elements
+        → IsWholeCall (state_shown x control.old.tables) node (Write number p)
+        (reply_of_write result)
+        (state_shown (given_written x control.old.tables h p.words result) control.new.tables) }
+{
+    let Some(entry) = control.entry(node, number, hint) else {
+        unreachable!();
+    };
+    if !has_elements(control, entry, elements) {
+        return Written::WrongLength;
+    }
+    set_kind(control, entry, filled_kind(entry.kind), hint);
+    Written::Done(Place {
+        pool: entry.pool,
+        slot: entry.slot,
+    })
+}
+
+/// The holder of a loan filled some of it, or all of it, and this is where its words lie. Its handle
+/// is looked for at the hint first.
+pub fn fill(control: &mut Control, node: u64, number: u64, hint: usize, all: bool) -> Place
+    requires loan { IsLoan control.old.tables node number }
+    requires order { IsControl control.old }
+    ensures place { (h : HandleState) → handle_in control.old.tables.handles node number ≡ Some h
+        → result ≡ place_of h }
+    ensures left { (h : HandleState) → handle_in control.old.tables.handles node number ≡ Some h
+        → control.new ≡ with_tables control.old (with_kind control.old.tables h (kind_after all h.kind)) }
+    ensures order { IsControl control.new }
+    ensures filled { (x : Given) (h : HandleState) (z : Filling)
+        → handle_in control.old.tables.handles node number ≡ Some h
+        → z.kind ≡ kind_after all h.kind
+        → MayFill (fixed_of x control.old.tables) (handle_shown x control.old.tables h) z
+        → IsFilling (state_shown x control.old.tables) node number z
+        (state_shown (with_contents x h.pool h.slot (contents_of z)) control.new.tables) }
+{
+    let Some(entry) = control.entry(node, number, hint) else {
+        unreachable!();
+    };
+    set_kind(control, entry, kind_after(all, entry.kind), hint);
+    Place {
+        pool: entry.pool,
+        slot: entry.slot,
+    }
+}
