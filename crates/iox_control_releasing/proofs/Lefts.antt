@@ -1,0 +1,88 @@
+-- Whether anything of a port is left, as code tells it.
+use Rattle.std.specs.Prelude.{◌≡◌, ℕ, suc, Bool, true, false, not, ◌&&◌, ◌||◌, if◌then◌else◌, ◌==◌, List, [], ◌∷◌, map, filter, length, Option, Some, None, refl}
+use Rattle.std.specs.List.{list_any}
+use Rattle.std.specs.Option.{option_map}
+use Rattle.std.proofs.Common.{sym, ap, ap₂, ◌∙◌, arith, eqb-true}
+use Rattle.std.proofs.lemmas.Option.{none-some, same_Some}
+use Rattle.iox_handles.specs.declared.entry.Entry.{Entry}
+use Rattle.iox_hub_ports.specs.declared.info.PortInfo.{PortInfo}
+use Rattle.iox_hub_ports.specs.Ports.{info_in, info_of}
+use Rattle.iox_hub_states.specs.Tables.{HandleState, HubTables, PortState, port_in}
+use Rattle.iox_hub_states.specs.Ends.{OfEachHandle}
+use Rattle.iox_hub_books.specs.Handles.{IsOfPort}
+use Rattle.iox_hub_books.specs.Hubs.{AreInOrder}
+use Rattle.iox_hub_making.specs.Disconnections.{is_held_in, is_of_port, is_unused}
+use Rattle.iox_hub_making.proofs.Testing.{unused_is_told}
+use Rattle.iox_hub_keeping.proofs.Ordered.{at_home, names_apart}
+use Rattle.iox_control.specs.Entries.{handle_state}
+
+not_none : (k : ℕ) (b : Bool) → (suc k == 0) ≡ b → b ≡ false
+not_none k false e = refl
+not_none k true e = let zero : suc k ≡ 0 = eqb-true (suc k) 0 e in absurd (omega (arith, zero))
+
+-- the count of a port's handles tells whether there is one
+counted : (n : ℕ) (hs : List Entry) → (length (filter (λ h. h.port == n) hs) == 0) ≡ not (list_any (λ h. h.port == n) (map handle_state hs))
+counted n [] = refl
+counted n (h ∷ hs) = step (h.port == n) (counted n hs)
+  where
+    step : (b : Bool) → (length (filter (λ h. h.port == n) hs) == 0) ≡ not (list_any (λ h. h.port == n) (map handle_state hs))
+        → (length (if b then h ∷ filter (λ h. h.port == n) hs else filter (λ h. h.port == n) hs) == 0)
+        ≡ not (b || list_any (λ h. h.port == n) (map handle_state hs))
+    step true rest = not_none (length (filter (λ h. h.port == n) hs)) ((suc (length (filter (λ h. h.port == n) hs))) == 0) refl
+    step false rest = rest
+
+info_is : (ports : List PortState) (n : ℕ) (info : PortInfo) → Some info ≡ info_in ports n → (p : PortState) × (port_in ports n ≡ Some p) × (info.held ≡ p.held)
+info_is ports n info e = step (port_in ports n) refl e
+  where
+    step : (o : Option PortState) → port_in ports n ≡ o → Some info ≡ option_map info_of o → (p : PortState) × (port_in ports n ≡ Some p) × (info.held ≡ p.held)
+    step None at e = absurd (none-some info (sym e))
+    step (Some p) at e = (p, at, ap (λ (i : PortInfo). i.held) (same_Some info (info_of p) e))
+
+pub info_none : (ports : List PortState) (n : ℕ) → None ≡ info_in ports n → port_in ports n ≡ None
+info_none ports n e = step (port_in ports n) refl e
+  where
+    step : (o : Option PortState) → port_in ports n ≡ o → None ≡ option_map info_of o → port_in ports n ≡ None
+    step None at e = at
+    step (Some p) at e = absurd (none-some (info_of p) e)
+
+module _ (t : HubTables) (n : ℕ) (order : AreInOrder t) where
+  -- of a connected port
+  pub told_of_port : (info : PortInfo) (hs : List Entry) → Some info ≡ info_in t.ports n → map handle_state hs ≡ t.handles
+      → (not info.held && (length (filter (λ h. h.port == n) hs) == 0)) ≡ is_unused t n
+  told_of_port info hs found all =
+      let p = info_is t.ports n info found in
+      ap₂ (λ (a b : Bool). not a && b) p.2 (counted n hs ∙ ap (λ ks. not (list_any (λ h. h.port == n) ks)) all)
+      ∙ sym (unused_is_told t n p.0 p.1 (names_apart t order) (at_home t order))
+
+  -- of one that is not connected
+  pub told_of_none : port_in t.ports n ≡ None → true ≡ is_unused t n
+  told_of_none none =
+      sym (ap₂ (λ (a b : Bool). not a && not b) (held t.ports none) (handles t.handles order.ports))
+    where
+      and_false : (a b : Bool) → b ≡ false → (a && b) ≡ false
+      and_false true b e = e
+      and_false false b e = refl
+
+      held : (ports : List PortState) → port_in ports n ≡ None → is_held_in ports n ≡ false
+      held [] e = refl
+      held (p ∷ ps) e = step (p.number == n) e (held ps)
+        where
+          step : (b : Bool) → (if b then Some p else port_in ps n) ≡ None → (port_in ps n ≡ None → is_held_in ps n ≡ false)
+              → ((b && p.held) || is_held_in ps n) ≡ false
+          step true e rest = absurd (none-some p (sym e))
+          step false e rest = rest e
+
+      other : (h : HandleState) → IsOfPort t h → (b : Bool) → (h.port == n) ≡ b → b ≡ false
+      other h is false e = refl
+      other h is true e = absurd (none-some is.port (sym none ∙ ap (port_in t.ports) (sym (eqb-true h.port n e)) ∙ is.there))
+
+      handles : (hs : List HandleState) → OfEachHandle (IsOfPort t) hs → list_any (is_of_port t.ports n) hs ≡ false
+      handles [] a = refl
+      handles (h ∷ hs) a =
+          ap₂ (λ (b c : Bool). b || c) (and_false (h.node == _) (h.port == n) (other h a.0 (h.port == n) refl)) (handles hs a.1)
+
+  -- the same, with what code has found out
+  pub told : (info : PortInfo) (hs : List Entry) (count : ℕ) (free : Bool) → Some info ≡ info_in t.ports n → map handle_state hs ≡ t.handles
+      → count ≡ length (filter (λ h. h.port == n) hs) → not info.held ≡ free → (free && (count == 0)) ≡ is_unused t n
+  told info hs count free found all is held =
+      ap₂ (λ (b : Bool) (k : ℕ). b && (k == 0)) (sym held) is ∙ told_of_port info hs found all

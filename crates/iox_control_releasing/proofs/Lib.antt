@@ -1,0 +1,10 @@
+pub mod Settling
+pub mod Lanes
+pub mod Senders
+pub mod Walks
+pub mod Removed
+pub mod Lefts
+pub mod Gone
+pub mod Valued
+pub mod Ended
+pub mod Released

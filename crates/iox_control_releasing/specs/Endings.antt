@@ -1,0 +1,32 @@
+-- What the release of each kind of handle leaves, before its port may go.
+use Rattle.iox_model.specs.declared.kind.Kind.{Kind}
+use Rattle.iox_model.specs.declared.kind.Kind.TheVariants as kinds
+use Rattle.iox_model.specs.declared.way.Way.{Way}
+use Rattle.iox_model.specs.Messages.{closed_for, response_way}
+use Rattle.iox_hub_states.specs.Tables.{HandleState, HubTables}
+use Rattle.iox_hub_states.specs.Changes.{with_states}
+use Rattle.iox_hub_states.specs.Ends.{with_dropped}
+use Rattle.iox_hub_states.specs.Releases.{lane_of, pending_states, request_of, with_given_back, with_request_closed}
+use Rattle.iox_hub_books.specs.Handles.{way_in}
+
+-- the way whose request state is that of the handle's request
+abbrev pub own_way : HubTables → HandleState → Way
+own_way t h = response_way h.client (lane_of t h) h.port
+
+-- as a handle of that kind is given up, a received message is given back, and a request is closed
+-- whose pending response or active request it was
+abbrev pub given_up_as : Kind → HubTables → HandleState → HubTables
+given_up_as kinds.PendingResponse t h =
+    with_states (λ r. closed_for r (request_of t h)) t (pending_states t h)
+given_up_as kinds.ActiveRequest t h = with_request_closed t (way_in t.pools h) (own_way t h) h
+given_up_as kinds.Response t h = with_given_back t (way_in t.pools h) h
+given_up_as kinds.Client t h = t
+given_up_as kinds.Server t h = t
+given_up_as kinds.RequestMutUninit t h = t
+given_up_as kinds.RequestMut t h = t
+given_up_as kinds.ResponseMutUninit t h = t
+given_up_as kinds.ResponseMut t h = t
+
+-- and the node has the handle no more
+abbrev pub with_ended : HubTables → HandleState → HubTables
+with_ended t h = with_dropped (given_up_as h.kind t h) h.node h.number

@@ -1,0 +1,4 @@
+pub mod LettingGo
+pub mod Goings
+pub mod Named
+pub mod Endings

@@ -1,0 +1,96 @@
+//! The release of a handle.
+ghost use Rattle.std.specs.Prelude.{◌≡◌, ◌+◌, Some};
+ghost use Rattle.iox_hub_states.specs.States.{Given, state_shown};
+ghost use Rattle.iox_hub_states.specs.Tables.{HandleState};
+ghost use Rattle.iox_hub_states.specs.Wirings.{IsHandle, handle_in};
+ghost use Rattle.iox_hub_making.specs.Disconnections.{with_released};
+ghost use Rattle.iox_model.specs.WholeCalls.{IsWholeCall};
+ghost use Rattle.iox_model.specs.declared.call.Call.TheVariants.{Release};
+ghost use Rattle.iox_model.specs.declared.reply.Reply.TheVariants.{Done};
+ghost use Rattle.iox_slots.specs.Pools.{with_slot};
+ghost use Rattle.iox_slots.specs.Slots.{let_go};
+ghost use Rattle.iox_control.specs.Controls.{IsControl, with_tables};
+ghost use Rattle.iox_control.specs.Entries.{handle_state};
+ghost use Rattle.iox_control_releasing.specs.Endings.{given_up_as, with_ended};
+ghost use Rattle.iox_control_releasing.specs.Named.{IsNamed};
+
+use crate::disconnect::{disconnect_if_unused, drop_pool};
+use iox_control::Control;
+use iox_handles::Entry;
+use iox_model::kind::Kind;
+use iox_model::way::Way;
+
+/// Gives a received message back, and closes a request whose pending response or active request it
+/// was.
+fn give_up(control: &mut Control, entry: Entry)
+    ensures { control.new ≡ with_tables control.old
+        (given_up_as entry.kind control.old.tables (handle_state entry)) }
+{
+    let label = control.label(entry.pool, entry.slot);
+    match entry.kind {
+        Kind::PendingResponse => control.close_all(entry.port, label.lane, label.request),
+        Kind::ActiveRequest => {
+            let way = Way {
+                sender: entry.client,
+                receiver: entry.port,
+                lane: 0,
+            };
+            control.give_back(way, entry.slot);
+            let own = Way {
+                sender: entry.port,
+                receiver: entry.client,
+                lane: label.lane,
+            };
+            control.close(own, label.request);
+        }
+        Kind::Response => {
+            let way = Way {
+                sender: control.pools().owner(entry.pool),
+                receiver: entry.port,
+                lane: label.lane,
+            };
+            control.give_back(way, entry.slot);
+        }
+        Kind::Client => {}
+        Kind::Server => {}
+        Kind::RequestMutUninit => {}
+        Kind::RequestMut => {}
+        Kind::ResponseMutUninit => {}
+        Kind::ResponseMut => {}
+    }
+}
+
+/// Ends the handle: nobody has it or its message by it, and its port stays.
+fn end_handle(control: &mut Control, entry: Entry, hint: usize)
+    requires named { IsHandle control.old.tables entry.node entry.number (handle_state entry) }
+    ensures left { control.new.tables ≡ record (with_ended control.old.tables (handle_state entry)) {
+      pools = with_slot let_go control.old.tables.pools entry.pool entry.slot;
+    } }
+    ensures room { control.new.room ≡ control.old.room + 1 }
+{
+    give_up(control, entry);
+    control.let_go(entry.pool, entry.slot);
+    control.remove_handle(entry.node, entry.number, hint);
+}
+
+/// Releases the node's handle of that number, which is looked for at the hint first. Its port goes
+/// if nothing of it is left, and its message's pool if its port is gone and nobody has a message of
+/// it.
+pub fn release(control: &mut Control, node: u64, number: u64, hint: usize)
+    requires named { IsNamed control.old.tables node number }
+    requires order { IsControl control.old }
+    ensures left { (h : HandleState) → handle_in control.old.tables.handles node number ≡ Some h
+        → control.new.tables ≡ record (with_released (with_ended control.old.tables h) h.port) {
+          pools = control.new.tables.pools;
+        } }
+    ensures order { IsControl control.new }
+    ensures whole { (x : Given) → IsWholeCall (state_shown x control.old.tables) node
+        (Release number) Done (state_shown x control.new.tables) }
+{
+    let Some(entry) = control.entry(node, number, hint) else {
+        unreachable!();
+    };
+    end_handle(control, entry, hint);
+    disconnect_if_unused(control, entry.port);
+    drop_pool(control, entry.pool);
+}

@@ -1,0 +1,14 @@
+//! How handles and ports' own values are released, and how a port goes of which nothing is left.
+#![tactic(auto)]
+
+mod cutting;
+mod disconnect;
+mod handle;
+mod letting_go;
+mod port_value;
+mod unused;
+pub mod uses;
+
+pub use disconnect::{disconnect_if_unused, drop_pool};
+pub use handle::release;
+pub use port_value::release_port;
