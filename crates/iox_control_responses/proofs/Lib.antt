@@ -1,0 +1,7 @@
+pub mod Awaiting
+pub mod Lanes
+pub mod HandedOver
+pub mod Whole
+pub mod Offered
+pub mod Strategies
+pub mod Sent

@@ -1,0 +1,16 @@
+//! The send of a response.
+#![tactic(auto)]
+
+mod awaited;
+mod failing;
+mod handing;
+mod offering;
+mod responded;
+mod sending;
+pub mod uses;
+
+pub use awaited::is_awaited;
+pub use failing::fails_when_full;
+pub use offering::offer_response;
+pub use responded::Responded;
+pub use sending::send_response;

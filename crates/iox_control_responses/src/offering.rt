@@ -1,0 +1,90 @@
+//! A response that is offered to its client.
+ghost use Rattle.std.specs.Prelude.{◌≡◌, ◌<◌, ◌^◌, ◌&&◌, Some, not, true};
+ghost use Rattle.iox_lanes.specs.Lanes.{IsSound, LaneState, is_full};
+ghost use Rattle.iox_model.specs.WholeCalls.{IsWholeCall};
+ghost use Rattle.iox_model.specs.declared.call.Call.TheVariants.{Send};
+ghost use Rattle.iox_hub_states.specs.States.{Given, state_shown};
+ghost use Rattle.iox_hub_states.specs.Tables.{HandleState, HubTables};
+ghost use Rattle.iox_hub_states.specs.Ways.{lane_on};
+ghost use Rattle.iox_hub_states.specs.Wirings.{handle_in};
+ghost use Rattle.iox_hub_books.specs.Keeps.{bare_pools};
+ghost use Rattle.iox_hub_making.specs.Disconnections.{with_released};
+ghost use Rattle.iox_hub_ports.specs.Ports.{on_way};
+ghost use Rattle.iox_control.specs.Controls.{IsControl};
+ghost use Rattle.iox_control_responses.specs.Responses.{IsFailure, IsResponse, reply_of_send, response_reply, with_response_ended};
+
+use crate::awaited::is_awaited;
+use crate::handing::hand_over;
+use crate::responded::Responded;
+use iox_control::Control;
+use iox_control_ending::{count, end_loan};
+use iox_control_retrieving::retrieve;
+use iox_model::way::Way;
+
+/// Whether a response may not wait on the way: as many wait as may, and none of them is pushed out.
+fn is_shut(control: &Control, way: Way) -> bool
+    ensures shut { result ≡ (on_way is_full true control.now.tables.ports way
+        && not control.now.tables.settings.response_overflow) }
+    ensures sound { (l : LaneState) → lane_on control.now.tables.ports way ≡ Some l → IsSound l }
+{
+    let full = control.ports().is_full(way);
+    let overflow = control.settings().response_overflow;
+    full && !overflow
+}
+
+/// Offers a loaned response to its client, and ends its handle, which is looked for at the hint
+/// first: all of its send but the disconnection of the server, where nothing else of that is left.
+/// Whether the send fails where the client is full, the caller says, by the server's handler or its
+/// strategy.
+pub fn offer_response(
+    control: &mut Control,
+    node: u64,
+    number: u64,
+    hint: usize,
+    fails: bool,
+) -> Responded
+    requires response { IsResponse control.old.tables node number }
+    requires order { IsControl control.old }
+    requires calls { control.old.tables.calls < 2 ^ 56 }
+    ensures reply { (h : HandleState) → handle_in control.old.tables.handles node number ≡ Some h
+        → reply_of_send result ≡ response_reply control.old.tables h fails }
+    ensures left { (h : HandleState) → handle_in control.old.tables.handles node number ≡ Some h
+        → control.new.tables ≡ record (with_response_ended control.old.tables node number h fails) {
+          pools = control.new.tables.pools;
+        } }
+    ensures pools { bare_pools control.old.tables.pools ≡ bare_pools control.new.tables.pools }
+    ensures order { IsControl control.new }
+    ensures whole { (h : HandleState) → handle_in control.old.tables.handles node number ≡ Some h
+        → (x : Given) → IsFailure x control.old.tables h fails → (t : HubTables)
+        → state_shown x (with_released control.new.tables h.port) ≡ state_shown x t
+        → IsWholeCall (state_shown x control.old.tables) node (Send number)
+        (reply_of_send result) (state_shown x t) }
+{
+    let Some(entry) = control.entry(node, number, hint) else {
+        unreachable!();
+    };
+    let label = control.label(entry.pool, entry.slot);
+    let way = Way {
+        sender: entry.port,
+        receiver: entry.client,
+        lane: label.lane,
+    };
+    let shut = is_shut(control, way);
+    if !is_awaited(control, entry) {
+        count(control);
+        end_loan(control, node, number, hint);
+        return Responded::Done;
+    }
+    retrieve(control, way, entry.pool);
+    if !shut {
+        hand_over(control, node, number, hint, way, entry.pool, entry.slot);
+        return Responded::Done;
+    }
+    if fails {
+        end_loan(control, node, number, hint);
+        return Responded::Undelivered;
+    }
+    count(control);
+    end_loan(control, node, number, hint);
+    Responded::Done
+}
