@@ -1,0 +1,13 @@
+pub mod Counting
+pub mod Walks
+pub mod Takes
+pub mod Free
+pub mod Subs
+pub mod Gives
+pub mod Delivering
+pub mod Ready
+pub mod Opened
+pub mod Emptied
+pub mod Whole
+pub mod Offered
+pub mod Sent

@@ -1,0 +1,32 @@
+//! What a full receiver means for a send.
+ghost use Rattle.std.specs.Prelude.{◌≡◌, Bool};
+ghost use Rattle.iox_model.specs.Settings.{fails_by_strategy};
+ghost use Rattle.iox_model.specs.declared.way.Way.{Way};
+
+use iox_model::way::Way;
+use iox_types::backpressure::BackpressureStrategy;
+
+/// Whether a send fails where the receiver of a way is full.
+pub trait Backpressure {
+    ghost fails: { Self → Way → Bool };
+
+    fn fails(&self, way: Way) -> bool
+        ensures { result ≡ fails self.now way };
+}
+
+/// No handler is set: the strategy alone decides.
+#[derive(Clone, Copy, Drop)]
+pub struct ByStrategy {
+    pub strategy: BackpressureStrategy,
+}
+
+impl Backpressure for ByStrategy {
+    ghost fails = { λ s way. fails_by_strategy s.strategy };
+
+    fn fails(&self, way: Way) -> bool {
+        match self.strategy {
+            BackpressureStrategy::DiscardData => false,
+            BackpressureStrategy::RetryUntilDelivered => true,
+        }
+    }
+}

@@ -1,0 +1,23 @@
+//! The sends of loaned requests, over the tables of a hub.
+#![tactic(auto)]
+
+mod attempts;
+mod backpressure;
+mod counts;
+mod deliveries;
+mod offering;
+mod requested;
+mod sending;
+mod sends;
+mod servers;
+pub mod uses;
+
+pub use attempts::attempt;
+pub use backpressure::{Backpressure, ByStrategy};
+pub use counts::is_spent;
+pub use deliveries::deliver_to_all;
+pub use offering::offer_request;
+pub use requested::Requested;
+pub use sending::send_request;
+pub use sends::send_to_all;
+pub use servers::is_refused;

@@ -1,0 +1,81 @@
+//! A loaned request is opened, delivered, and becomes a pending response.
+ghost use Rattle.std.specs.Prelude.{◌≡◌, ◌<◌, ◌^◌, [], length, true};
+ghost use Rattle.iox_hub_delivering.specs.Deliveries.{HasDelivered};
+ghost use Rattle.iox_hub_states.specs.Ends.{with_call, with_changed};
+ghost use Rattle.iox_hub_states.specs.Releases.{pending_states, request_of};
+ghost use Rattle.iox_hub_states.specs.Sendings.{pending_of};
+ghost use Rattle.iox_hub_states.specs.Sends.{with_opened};
+ghost use Rattle.iox_hub_states.specs.Ways.{lane_on};
+ghost use Rattle.iox_hub_states.specs.Wirings.{IsHandle};
+ghost use Rattle.iox_hub_states.specs.Changes.{OnEach};
+ghost use Rattle.iox_lanes.specs.Lanes.{IsSound};
+ghost use Rattle.iox_model.specs.Handles.{is_request_loan};
+ghost use Rattle.iox_control.specs.Controls.{IsControl, with_tables};
+ghost use Rattle.iox_control.specs.Entries.{handle_state};
+ghost use Rattle.iox_control_requests.specs.Requests.{ways_of, with_request_sent};
+ghost use Rattle.iox_control_requests.specs.Servers.{request_ways};
+
+use crate::deliveries::deliver_to_all;
+use iox_control::Control;
+use iox_handles::Entry;
+use iox_model::kind::Kind;
+
+/// Opens the handle's request with each server.
+fn open_request(control: &mut Control, entry: Entry)
+    requires order { IsControl control.old }
+    ensures left { control.new ≡ with_tables control.old (with_opened control.old.tables
+        (request_of control.old.tables (handle_state entry))
+        (pending_states control.old.tables (handle_state entry))) }
+    ensures order { IsControl control.new }
+{
+    let label = control.label(entry.pool, entry.slot);
+    control.open_all(entry.port, label.lane, label.request);
+}
+
+/// The handle becomes a pending response with so many connections, and the call is counted.
+fn become_pending(control: &mut Control, entry: Entry, hint: usize, count: u64)
+    requires calls { control.old.tables.calls < 2 ^ 56 }
+    ensures { control.new ≡ with_tables control.old
+        (with_call (with_changed control.old.tables (pending_of (handle_state entry) count))) }
+{
+    let pending = Entry {
+        node: entry.node,
+        number: entry.number,
+        kind: Kind::PendingResponse,
+        port: entry.port,
+        pool: entry.pool,
+        slot: entry.slot,
+        client: entry.client,
+        connections: count,
+    };
+    control.change_handle(pending, hint);
+    control.count_call();
+}
+
+/// Sends a client's loaned request, once the client got all back, and says to how many servers. It
+/// is opened with each server, and a full one gets nothing, unless its oldest message is pushed
+/// out.
+pub fn send_to_all(control: &mut Control, entry: Entry, overflow: bool, hint: usize) -> u64
+    requires order { IsControl control.old }
+    requires calls { control.old.tables.calls < 2 ^ 56 }
+    requires named { IsHandle control.old.tables entry.node entry.number (handle_state entry) }
+    requires kind { is_request_loan entry.kind ≡ true }
+    requires returned { OnEach (λ w l. l.returned ≡ []) (lane_on control.old.tables.ports)
+        (request_ways entry.port control.old.tables.ports) }
+    ensures sound { OnEach (λ w l. IsSound l) (lane_on control.old.tables.ports)
+        (request_ways entry.port control.old.tables.ports) }
+    ensures count { result ≡ length (ways_of control.old.tables (handle_state entry) overflow) }
+    ensures left { control.new ≡ with_tables control.old
+        (record (with_request_sent control.old.tables (handle_state entry) overflow) {
+          pools = control.new.tables.pools;
+        }) }
+    ensures holders { HasDelivered overflow entry.slot (lane_on control.old.tables.ports)
+        (ways_of control.old.tables (handle_state entry) overflow)
+        control.old.tables.pools control.new.tables.pools }
+    ensures order { IsControl control.new }
+{
+    open_request(control, entry);
+    let count = deliver_to_all(control, entry, overflow);
+    become_pending(control, entry, hint, count);
+    count
+}
