@@ -1,0 +1,160 @@
+-- Words go on fitting the tables of a hub.
+use Rattle.std.specs.Prelude.{◌≡◌, ℕ, zero, suc, ◌≤◌, false, if◌then◌else◌, List, [], ◌∷◌, ◌++◌, length, map, Option, Some, None, slice_get, refl, ⊤}
+use Rattle.std.specs.Option.{option_map, option_map_or}
+use Rattle.std.proofs.Common.{sym, ap, subst, ◌∙◌, arith}
+use Rattle.std.proofs.lemmas.Option.{none-some}
+use Rattle.iox_lanes.specs.declared.incoming.Visits.{Visits}
+use Rattle.iox_lanes.specs.declared.incoming.Visits.TheVariants.{Got, AtLimit, Nothing}
+use Rattle.iox_lanes.specs.declared.wanted.Wanted.{Wanted}
+use Rattle.iox_lanes.specs.Visited.{all_visits}
+use Rattle.iox_lanes.specs.declared.wanted.Label.{Label}
+use Rattle.iox_lanes.specs.declared.wanted.Wanted.TheVariants.{Of}
+use Rattle.iox_lanes.specs.Pipes.{PipeState}
+use Rattle.iox_model.specs.declared.kind.Kind.TheVariants as kinds
+use Rattle.iox_model.specs.declared.way.RequestState.{RequestState}
+use Rattle.iox_model.specs.declared.kind.Role.{Role}
+use Rattle.iox_model.specs.declared.kind.Role.TheVariants.{Client, Server}
+use Rattle.iox_model.specs.declared.way.Way.{Way}
+use Rattle.iox_model.specs.Maps.{has_number}
+use Rattle.iox_model.specs.Messages.{hinted_for}
+use Rattle.iox_model.specs.Settings.{is_client, other_role}
+use Rattle.iox_weave_ledger.proofs.Lists.{number-among}
+use Rattle.iox_hub_states.specs.Tables.{HandleState, HubTables, PoolState, PortState, labels_of, pipes_of, port_in, senders_of, slots_of}
+use Rattle.iox_hub_states.specs.Ends.{OfEachHandle}
+use Rattle.iox_hub_states.specs.Changes.{with_states}
+use Rattle.iox_hub_states.specs.Receives.{got_handle, visited_port, visits_at, wanted_by_server, with_got, with_request, with_response, with_visited}
+use Rattle.iox_hub_states.specs.Ways.{lane_on, lanes_from, with_port}
+use Rattle.iox_hub_states.specs.Releases.{pending_states, request_of}
+use Rattle.iox_hub_states.specs.Wirings.{IsPending, IsServer, handle_in}
+use Rattle.iox_hub_books.specs.Hubs.{AreInOrder}
+use Rattle.iox_hub_books.specs.Keeps.{bare_pool, bare_pools, bare_slot}
+use Rattle.iox_hub_books.proofs.Frames.{AreAlike, bare_ports, port_before, states_on_bare, visits_bare}
+use Rattle.iox_hub_books.proofs.Going.{each_last}
+use Rattle.iox_hub_books.proofs.Sendable.{of_role}
+use Rattle.iox_hub_books.proofs.Visited.{GotFrom, got_is}
+use Rattle.iox_control.specs.Controls.{ControlState, IsButHolders, with_hint, with_tables}
+use Rattle.iox_hub.specs.Fits.{SuitsKind, WordsFit, are_requests_in, count_in, is_of_request}
+use Rattle.iox_hub.specs.Words.{Carried}
+
+-- ---- pools that differ in holders have the same slots
+
+mapped : {A B : Type 0} (f : A → B) (xs : List A) (i : ℕ) → slice_get (map f xs) i ≡ option_map f (slice_get xs i)
+mapped f [] i = refl
+mapped f (x ∷ xs) zero = refl
+mapped f (x ∷ xs) (suc i) = mapped f xs i
+
+mapped_length : {A B : Type 0} (f : A → B) (xs : List A) → length (map f xs) ≡ length xs
+mapped_length f [] = refl
+mapped_length f (x ∷ xs) = ap suc (mapped_length f xs)
+
+-- how many slots a pool has that may be there
+abbrev count_of : Option (Option PoolState) → ℕ
+count_of o = length (option_map_or (λ (p : PoolState). p.slots) (option_map_or (λ q. q) o None) [])
+
+count_bare : (o : Option (Option PoolState)) → count_of (option_map (option_map bare_pool) o) ≡ count_of o
+count_bare (Some (Some p)) = mapped_length bare_slot p.slots
+count_bare (Some None) = refl
+count_bare None = refl
+
+same_count : (old new : List (Option PoolState)) → bare_pools old ≡ bare_pools new → (place : ℕ) → length (slots_of new place) ≡ length (slots_of old place)
+same_count old new same place =
+    sym (count_bare (slice_get new place)) ∙ ap count_of (sym (mapped (option_map bare_pool) new place))
+    ∙ ap (λ ps. count_of (slice_get ps place)) (sym same)
+    ∙ ap count_of (mapped (option_map bare_pool) old place) ∙ count_bare (slice_get old place)
+
+-- ---- they go on fitting
+
+module _ (words : List (Option Carried)) (t : HubTables) (fit : WordsFit words t) where
+  pub fits_on : (t' : HubTables) → AreAlike t.ports t'.ports → bare_pools t.pools ≡ bare_pools t'.pools → OfEachHandle (SuitsKind words) t'.handles → WordsFit words t'
+  fits_on t' alike same handles = record {
+    pools = λ place. let old = fit.pools place in let count = same_count t.pools t'.pools same place in omega (arith, old, count);
+    ports = λ n p at.
+        let q = port_before t.ports t'.ports alike n p at in
+        subst (λ (z : PortState). are_requests_in words z.pool ≡ is_client z.role) q.2 (fit.ports n q.0 q.1);
+    handles = handles;
+  }
+
+  -- ---- a receive
+
+  -- a handle that was got, if one was
+  abbrev IsSuited : ℕ → Role → ℕ → Visits → Type 0
+  IsSuited node role n (Got sender pool k) = SuitsKind words (got_handle t node role n pool k)
+  IsSuited node role n AtLimit = ⊤
+  IsSuited node role n Nothing = ⊤
+
+  suits : (r : Role) → is_client (other_role r) ≡ is_of_request (if is_client r then kinds.Response else kinds.ActiveRequest)
+  suits Client = refl
+  suits Server = refl
+
+  module _ (order : AreInOrder t) (node n lane : ℕ) (p : PortState) (there : port_in t.ports n ≡ Some p) (role : Role) (role_is : p.role ≡ role) (wanted : Wanted) where
+    suited : (v : Visits) → GotFrom wanted (labels_of t.pools) lane (pipes_of p) v → IsSuited node role n v
+    suited (Got s pool k) c =
+        let w : Way = record { sender = s; receiver = n; lane = lane } in
+        let on_way : lane_on t.ports w ≡ Some c.0 = ap (λ o. slice_get (lanes_from (option_map_or pipes_of o []) s) lane) there ∙ c.1 in
+        let senders : senders_of (pipes_of p) ≡ senders_of p.incoming.pipes = ap (λ (es : List PipeState). senders_of (es ++ p.incoming.pipes)) (order.wired.none_kept n p there) in
+        let q = of_role t order (other_role p.role) s (number-among s _ (sym (ap (has_number s) (senders ∙ (order.wired.each n p there).senders)) ∙ c.4)) in
+        ap (are_requests_in words) (sym c.2 ∙ (order.lanes w c.0 q.0 on_way q.1).of_pool)
+        ∙ fit.ports s q.0 q.1 ∙ ap is_client (q.2 ∙ ap other_role role_is) ∙ suits role
+    suited AtLimit c = tt
+    suited Nothing c = tt
+
+    abbrev left : Visits → HubTables
+    left v = with_got (with_visited t n lane wanted) node role n v
+
+    left_handles : (v : Visits) → IsSuited node role n v → OfEachHandle (SuitsKind words) (left v).handles
+    left_handles (Got s pool k) one = each_last (SuitsKind words) t.handles (got_handle t node role n pool k) fit.handles one
+    left_handles AtLimit one = fit.handles
+    left_handles Nothing one = fit.handles
+
+    left_ports : (v : Visits) → (left v).ports ≡ with_port (visited_port wanted (labels_of t.pools) lane) t.ports n
+    left_ports (Got s pool k) = refl
+    left_ports AtLimit = refl
+    left_ports Nothing = refl
+
+    left_pools : (v : Visits) → (left v).pools ≡ t.pools
+    left_pools (Got s pool k) = refl
+    left_pools AtLimit = refl
+    left_pools Nothing = refl
+
+    came : GotFrom wanted (labels_of t.pools) lane (pipes_of p) (visits_at t n lane wanted)
+    came =
+        subst (λ o. GotFrom wanted (labels_of t.pools) lane (pipes_of p) (all_visits wanted (labels_of t.pools) lane (option_map_or pipes_of o []))) (sym there)
+        (got_is wanted (labels_of t.pools) lane (pipes_of p) false (order.wired.each n p there).apart)
+
+    pub fits_received : (t' : HubTables) → IsButHolders (left (visits_at t n lane wanted)) t' → WordsFit words t'
+    fits_received t' is =
+        let v : Visits = visits_at t n lane wanted in
+        fits_on t' (ap (λ (u : HubTables). bare_ports u.ports) is.same ∙ ap bare_ports (left_ports v) ∙ visits_bare wanted (labels_of t.pools) lane t.ports n)
+        (ap bare_pools (sym (left_pools v)) ∙ is.bare)
+        (subst (λ (u : HubTables). OfEachHandle (SuitsKind words) u.handles) (sym is.same) (left_handles v (suited v came)))
+
+-- ---- the calls
+
+module _ (words : List (Option Carried)) (t t' : HubTables) (fit : WordsFit words t) (order : AreInOrder t) (node n : ℕ) where
+  pub fits_request : IsServer t node n → IsButHolders (with_request t node n) t' → WordsFit words t'
+  fits_request server is =
+      fits_received words t fit order node n 0 server.port server.there Server server.server (wanted_by_server t.settings.fire_and_forget) t' is
+
+  pub fits_response : (pending : IsPending t node n) → IsButHolders (with_response t node pending.handle) t' → WordsFit words t'
+  fits_response pending is =
+      let h : HandleState = pending.handle in
+      let l : Label = labels_of t.pools h.pool h.slot in
+      fits_received words t fit order node h.port l.lane pending.port pending.there Client pending.client (Of l.request) t' is
+
+-- request states alone are others
+pub fits_states : (words : List (Option Carried)) (t : HubTables) (g : RequestState → RequestState) (ws : List Way) → WordsFit words t → WordsFit words (with_states g t ws)
+fits_states words t g ws fit = fits_on words t fit (with_states g t ws) (states_on_bare g t.ports ws) refl fit.handles
+
+pub fits_hint : (words : List (Option Carried)) (c d : ControlState) → WordsFit words c.tables → (node n : ℕ) → (pending : IsPending c.tables node n)
+    → ((h : HandleState) → handle_in c.tables.handles node n ≡ Some h → d ≡ with_tables c (with_hint c.tables h)) → WordsFit words d.tables
+fits_hint words c d fit node n pending is =
+    subst (λ (e : ControlState). WordsFit words e.tables) (sym (is pending.handle pending.named.there))
+    (fits_states words c.tables (λ r. hinted_for r (request_of c.tables pending.handle)) (pending_states c.tables pending.handle) fit)
+
+-- no pool, no port and no handle
+pub fits_none : (t : HubTables) → t.pools ≡ [] → t.ports ≡ [] → t.handles ≡ [] → (words : List (Option Carried)) → WordsFit words t
+fits_none t pools ports handles words = record {
+  pools = λ place. subst (λ (ps : List (Option PoolState)). length (slots_of ps place) ≤ count_in words place) (sym pools) (omega arith);
+  ports = λ n p at. absurd (none-some p (ap (λ (ps : List PortState). port_in ps n) (sym ports) ∙ at));
+  handles = subst (λ (hs : List HandleState). OfEachHandle (SuitsKind words) hs) (sym handles) tt;
+}

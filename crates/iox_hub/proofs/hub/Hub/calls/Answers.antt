@@ -1,0 +1,4 @@
+use Rattle.iox_hub.proofs.hub.Hub.calls.Goals as goal
+
+pub returns-clause-reached : goal.returns-clause-reached
+returns-clause-reached g c = rw (← c.self.view_is) c.self.invariant.reached

@@ -1,0 +1,65 @@
+-- A hub, as its callers see it, and the state that it shows.
+use Rattle.std.specs.Prelude.{◌≡◌, ℕ, List, Option, None, Some, ⊤}
+use Rattle.iox_model.specs.declared.kind.Kind.{Kind}
+use Rattle.iox_model.specs.Runs.{IsReachableState}
+use Rattle.iox_model.specs.Settings.{Shape}
+use Rattle.iox_model.specs.States.{State}
+use Rattle.iox_hub_states.specs.States.{Given, state_shown}
+use Rattle.iox_hub_states.specs.Tables.{HubTables}
+use Rattle.iox_hub_loans.specs.Questions.{kind_in}
+use Rattle.iox_control.specs.Controls.{ControlState, IsControl}
+use Rattle.iox_control.specs.declared.received.Received.{Received}
+use Rattle.iox_control.specs.declared.received.Received.TheVariants.{Handle, Nothing, AtLimit}
+use Rattle.iox_hub.specs.Fits.{WordsFit}
+use Rattle.iox_hub.specs.Words.{Carried, stored_in}
+
+-- The tables of a hub, what the messages of its pools carry, by place, and what messages are made of.
+pub record HubState : Type 0 where
+  pub control : ControlState
+  pub words : List (Option Carried)
+  pub request : Shape
+  pub response : Shape
+
+-- the same with other tables
+abbrev pub with_control : HubState → ControlState → HubState
+with_control h c = record h { control = c }
+
+-- what a hub gives beside its tables: no handler, its shapes, and the words of its messages
+abbrev pub given_by : Given → HubState → Given
+given_by x h = record x {
+  handler = λ n. None;
+  request = h.request;
+  response = h.response;
+  user = λ pool k. (stored_in h.words pool k).user;
+  payload = λ pool k. (stored_in h.words pool k).payload;
+  filled = λ pool k. (stored_in h.words pool k).filled;
+}
+
+-- The state that a hub shows. It lacks the nodes of its service, and what handlers would answer: these
+-- are given.
+abbrev pub state_of_hub : Given → HubState → State
+state_of_hub x h = state_shown (given_by x h) h.control.tables
+
+-- A service and its hub can reach the state that the hub shows.
+abbrev pub IsReached : HubState → Type 0
+IsReached h = (x : Given) × IsReachableState (state_of_hub x h)
+
+-- The tables are in order, the words fit them, and the state can be reached.
+pub record IsHub (h : HubState) : Type 0 where
+  pub control : IsControl h.control
+  pub words : WordsFit h.words h.control.tables
+  pub reached : IsReached h
+
+-- The node has a port or a handle of that number and kind, which is not released.
+abbrev pub HasValue : HubState → ℕ → ℕ → Kind → Type 0
+HasValue h node n kind = kind_in h.control.tables node n ≡ Some kind
+
+-- the node has what a receive gave, if it gave something, and it is of that kind
+abbrev pub IsGot : HubTables → ℕ → Kind → Received → Type 0
+IsGot t node kind (Handle n) = kind_in t node n ≡ Some kind
+IsGot t node kind Nothing = ⊤
+IsGot t node kind AtLimit = ⊤
+
+-- it is so of the hub
+abbrev pub HasReceived : HubState → ℕ → Kind → Received → Type 0
+HasReceived h node kind received = IsGot h.control.tables node kind received

@@ -1,0 +1,85 @@
+//! A hub.
+
+ghost use Rattle.std.specs.Prelude.{◌≡◌, IfOk};
+ghost use Rattle.iox_control.specs.Settings.{settings_of};
+ghost use Rattle.iox_hub.specs.Hubs.{IsReached};
+ghost use Rattle.iox_hub.specs.Shapes.{HaveParts, shape_of};
+ghost use Rattle.iox_hub.specs.Starts.{new_hub};
+
+use crate::settings::started;
+use crate::shape::{MessageShape, known};
+use crate::words::PoolWords;
+use iox_control::{Control, Settings};
+use iox_store::Payload;
+use iox_words::Words;
+use std::alloc::{AllocError, Global};
+use std::marker::Model;
+
+/// All ports of a service: requests of `Q` with user headers `QH`, responses of `P` with user headers
+/// `PH`.
+///
+/// A service and its hub can reach the state that a hub shows, so each law of the machine holds of it.
+#[derive(Drop)]
+pub struct Hub<Q: Payload, QH: Words, P: Payload, PH: Words> {
+    pub(crate) control: Control,
+    // Beside each pool of the tables.
+    pub(crate) words: Vec<Option<PoolWords<Q::Element, QH, P::Element, PH>>>,
+    pub(crate) request: MessageShape<Q::Element, QH>,
+    pub(crate) response: MessageShape<P::Element, PH>,
+}
+
+impl<Q: Payload, QH: Words, P: Payload, PH: Words> Model for Hub<Q, QH, P, PH> {
+    ghost use Rattle.iox_hub.specs.Hubs.{HubState, IsHub};
+    ghost use Rattle.iox_hub.specs.Shapes.{shape_of};
+    ghost use Rattle.iox_hub.specs.Words.{all_carried};
+
+    ghost Value = { HubState };
+
+    ghost view = { λ h. record {
+      control = h.control;
+      words = all_carried h.words.items;
+      request = shape_of Q.MANY Q.Element.WORDS Q.Element.words QH.words h.request;
+      response = shape_of P.MANY P.Element.WORDS P.Element.words PH.words h.response;
+    } };
+
+    ghost invariant = { λ h. IsHub (record {
+      control = h.control;
+      words = all_carried h.words.items;
+      request = shape_of Q.MANY Q.Element.WORDS Q.Element.words QH.words h.request;
+      response = shape_of P.MANY P.Element.WORDS P.Element.words PH.words h.response;
+    }) };
+}
+
+impl<Q: Payload, QH: Words, P: Payload, PH: Words> Hub<Q, QH, P, PH> {
+    /// A hub in which no port was made yet. A limit of 0 is raised to 1, and no port keeps messages of
+    /// ports that are gone. It fails only for want of memory.
+    pub fn new(
+        alloc: Global,
+        settings: Settings,
+        request: MessageShape<Q::Element, QH>,
+        response: MessageShape<P::Element, PH>,
+    ) -> Result<Self, AllocError>
+        requires request { HaveParts request }
+        requires response { HaveParts response }
+        ensures { IfOk result (λ h. h ≡ new_hub (settings_of settings)
+            (shape_of Q.MANY Q.Element.WORDS Q.Element.words QH.words request)
+            (shape_of P.MANY P.Element.WORDS P.Element.words PH.words response)) }
+    {
+        let control = Control::new(alloc, started(settings))?;
+        Ok(Hub {
+            control,
+            words: Vec::new(alloc),
+            request: known(request),
+            response: known(response),
+        })
+    }
+
+    /// How many calls were counted: the loans, sends and receives that were not refused.
+    #[inline]
+    pub fn calls(&self) -> u64
+        ensures calls { result ≡ self.now.control.tables.calls }
+        ensures reached { IsReached self.now }
+    {
+        self.control.calls()
+    }
+}

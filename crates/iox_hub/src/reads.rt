@@ -1,0 +1,111 @@
+//! What nodes read of the messages of their handles.
+ghost use Rattle.std.specs.Prelude.{◌≡◌, ◌++◌, ◌<◌, Some, false, flat_map, true};
+ghost use Rattle.iox_model.specs.declared.call.Call.TheVariants.{Read};
+ghost use Rattle.iox_model.specs.declared.reply.Reply.TheVariants.{Words};
+ghost use Rattle.iox_model.specs.WholeCalls.{IsWholeCall};
+ghost use Rattle.iox_hub_states.specs.States.{Given};
+ghost use Rattle.iox_hub_states.specs.Tables.{HandleState};
+ghost use Rattle.iox_hub_states.specs.Wirings.{handle_in};
+ghost use Rattle.iox_control.specs.Entries.{handle_state};
+ghost use Rattle.iox_hub.specs.Fits.{are_requests_in, carried_in, count_in};
+ghost use Rattle.iox_hub.specs.Hubs.{state_of_hub};
+ghost use Rattle.iox_hub.specs.Reads.{HasOf, has_request, has_response, message_in};
+ghost use Rattle.iox_hub.specs.Words.{all_carried};
+
+use crate::hub::Hub;
+use crate::words::PoolWords;
+use iox_handles::Entry;
+use iox_store::{Payload, Store};
+use iox_words::Words;
+
+/// What the requests carry whose pool is in this place.
+fn requests_in<QE: Words, QH: Words, PE: Words, PH: Words>(
+    words: &[Option<PoolWords<QE, QH, PE, PH>>],
+    pool: usize,
+) -> &Store<QE, QH>
+    requires requests { are_requests_in (all_carried words.now) pool ≡ true }
+    ensures { carried_in (all_carried words.now) pool ≡ Some (record { requests = true; contents = result.now }) }
+{
+    match words.get(pool) {
+        Some(Some(PoolWords::Requests(store))) => store,
+        _ => unreachable!(),
+    }
+}
+
+/// What the responses carry whose pool is in this place.
+fn responses_in<QE: Words, QH: Words, PE: Words, PH: Words>(
+    words: &[Option<PoolWords<QE, QH, PE, PH>>],
+    pool: usize,
+) -> &Store<PE, PH>
+    requires there { 0 < count_in (all_carried words.now) pool }
+    requires responses { are_requests_in (all_carried words.now) pool ≡ false }
+    ensures { carried_in (all_carried words.now) pool ≡ Some (record { requests = false; contents = result.now }) }
+{
+    match words.get(pool) {
+        Some(Some(PoolWords::Responses(store))) => store,
+        _ => unreachable!(),
+    }
+}
+
+impl<Q: Payload, QH: Words, P: Payload, PH: Words> Hub<Q, QH, P, PH> {
+    /// The node's handle of that number, which it has. It is looked for at the hint first.
+    fn handle(&self, node: u64, number: u64, hint: usize) -> Entry
+        requires has { (h : HandleState) × (handle_in self.now.control.tables.handles node number ≡ Some h) }
+        ensures { handle_in self.now.control.tables.handles node number ≡ Some (handle_state result) }
+    {
+        let Some(entry) = self.control.entry(node, number, hint) else {
+            unreachable!();
+        };
+        entry
+    }
+
+    /// The filled elements of the request that the handle has: an active request, a pending response
+    /// or a loaned request. The handle is looked for at the hint first.
+    pub fn request(&self, node: u64, number: u64, hint: usize) -> &[Q::Element]
+        requires has { HasOf has_request self.now node number }
+        ensures words { flat_map Q.Element.words result.now ≡ (message_in self.now node number).payload }
+        ensures whole { (x : Given) → IsWholeCall (state_of_hub x self.now) node (Read number)
+            (Words ((message_in self.now node number).user ++ flat_map Q.Element.words result.now))
+            (state_of_hub x self.now) }
+    {
+        let entry = self.handle(node, number, hint);
+        requests_in(&self.words, entry.pool).payload(entry.slot as usize)
+    }
+
+    /// The user header of the request that the handle has.
+    pub fn request_header(&self, node: u64, number: u64, hint: usize) -> &QH
+        requires has { HasOf has_request self.now node number }
+        ensures words { QH.words result.now ≡ (message_in self.now node number).user }
+        ensures whole { (x : Given) → IsWholeCall (state_of_hub x self.now) node (Read number)
+            (Words (QH.words result.now ++ (message_in self.now node number).payload))
+            (state_of_hub x self.now) }
+    {
+        let entry = self.handle(node, number, hint);
+        requests_in(&self.words, entry.pool).user_header(entry.slot as usize)
+    }
+
+    /// The filled elements of the response that the handle has: one that was received, or a loaned
+    /// one. The handle is looked for at the hint first.
+    pub fn response(&self, node: u64, number: u64, hint: usize) -> &[P::Element]
+        requires has { HasOf has_response self.now node number }
+        ensures words { flat_map P.Element.words result.now ≡ (message_in self.now node number).payload }
+        ensures whole { (x : Given) → IsWholeCall (state_of_hub x self.now) node (Read number)
+            (Words ((message_in self.now node number).user ++ flat_map P.Element.words result.now))
+            (state_of_hub x self.now) }
+    {
+        let entry = self.handle(node, number, hint);
+        responses_in(&self.words, entry.pool).payload(entry.slot as usize)
+    }
+
+    /// The user header of the response that the handle has.
+    pub fn response_header(&self, node: u64, number: u64, hint: usize) -> &PH
+        requires has { HasOf has_response self.now node number }
+        ensures words { PH.words result.now ≡ (message_in self.now node number).user }
+        ensures whole { (x : Given) → IsWholeCall (state_of_hub x self.now) node (Read number)
+            (Words (PH.words result.now ++ (message_in self.now node number).payload))
+            (state_of_hub x self.now) }
+    {
+        let entry = self.handle(node, number, hint);
+        responses_in(&self.words, entry.pool).user_header(entry.slot as usize)
+    }
+}

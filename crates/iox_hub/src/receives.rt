@@ -1,0 +1,39 @@
+//! The receives of servers and of pending responses.
+ghost use Rattle.std.specs.Prelude.{◌≡◌, ◌<◌, ◌^◌};
+ghost use Rattle.iox_model.specs.declared.call.Call.TheVariants.{Receive};
+ghost use Rattle.iox_model.specs.declared.kind.Kind.TheVariants.{ActiveRequest, PendingResponse, Response, Server};
+ghost use Rattle.iox_model.specs.WholeCalls.{IsWholeCall};
+ghost use Rattle.iox_hub_states.specs.States.{Given};
+ghost use Rattle.iox_control.specs.Replies.{reply_of_receive};
+ghost use Rattle.iox_hub.specs.Hubs.{HasReceived, HasValue, state_of_hub, with_control};
+
+use crate::hub::Hub;
+use iox_control::Received;
+use iox_store::Payload;
+use iox_words::Words;
+
+impl<Q: Payload, QH: Words, P: Payload, PH: Words> Hub<Q, QH, P, PH> {
+    /// Receives a request for that server.
+    pub fn receive_request(&mut self, node: u64, server: u64) -> Received
+        requires has { HasValue self.old node server Server }
+        requires calls { self.old.control.tables.calls < 2 ^ 56 }
+        ensures left { self.new ≡ with_control self.old self.new.control }
+        ensures whole { (x : Given) → IsWholeCall (state_of_hub x self.old) node
+            (Receive server) (reply_of_receive result) (state_of_hub x self.new) }
+        ensures has { HasReceived self.new node ActiveRequest result }
+    {
+        self.control.receive_request(node, server)
+    }
+
+    /// Receives a response for that pending response, whose handle is looked for at the hint first.
+    pub fn receive_response(&mut self, node: u64, number: u64, hint: usize) -> Received
+        requires has { HasValue self.old node number PendingResponse }
+        requires calls { self.old.control.tables.calls < 2 ^ 56 }
+        ensures left { self.new ≡ with_control self.old self.new.control }
+        ensures whole { (x : Given) → IsWholeCall (state_of_hub x self.old) node
+            (Receive number) (reply_of_receive result) (state_of_hub x self.new) }
+        ensures has { HasReceived self.new node Response result }
+    {
+        self.control.receive_response(node, number, hint)
+    }
+}

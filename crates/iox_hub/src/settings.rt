@@ -1,0 +1,25 @@
+//! The settings of a hub as it starts.
+ghost use Rattle.std.specs.Prelude.{◌≡◌};
+ghost use Rattle.iox_control.specs.Settings.{settings_of};
+ghost use Rattle.iox_hub.specs.Starts.{started};
+
+use iox_control::Settings;
+
+/// Each limit of 0 is 1, and no port keeps messages of ports that are gone.
+pub fn started(settings: Settings) -> Settings
+    ensures { settings_of result ≡ started (settings_of settings) }
+{
+    Settings {
+        clients: settings.clients.max(1),
+        servers: settings.servers.max(1),
+        nodes: settings.nodes.max(1),
+        active_requests: settings.active_requests.max(1),
+        loaned_requests: settings.loaned_requests.max(1),
+        response_buffer: settings.response_buffer.max(1),
+        borrowed_responses: settings.borrowed_responses.max(1),
+        loaned_responses: settings.loaned_responses.max(1),
+        client_expired: 0,
+        server_expired: 0,
+        ..settings
+    }
+}
