@@ -126,7 +126,7 @@ deliveries_back k l = step (is_taken l k)
     step true = inner (Rattle.iox_lanes.specs.Lanes.rank_in l.taken k)
     step false = refl
 
-bare_back : (k : ℕ) (l : LaneState) → Rattle.iox_hub_books.proofs.Frames.bare_lane (released l k) ≡ Rattle.iox_hub_books.proofs.Frames.bare_lane l
+pub bare_back : (k : ℕ) (l : LaneState) → Rattle.iox_hub_books.proofs.Frames.bare_lane (released l k) ≡ Rattle.iox_hub_books.proofs.Frames.bare_lane l
 bare_back k l = step (is_taken l k)
   where
     inner : (o : Option ℕ)

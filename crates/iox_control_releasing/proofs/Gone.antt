@@ -1,12 +1,14 @@
 -- All that is so of a hub stays so as a port goes of which nothing is left, and as its pool goes.
 use Rattle.std.specs.Prelude.{◌≡◌, ℕ, ◌+◌, ◌-◌, ◌≤◌, Bool, true, false, not, ◌&&◌, if◌then◌else◌, ◌==◌, List, [], ◌∷◌, map, filter, Option, Some, None, is_some, refl}
-use Rattle.std.specs.Option.{option_map_or}
-use Rattle.std.proofs.Common.{sym, ap, ap₂, subst, ◌∙◌, arith}
+use Rattle.std.specs.Option.{option_map, option_map_or}
+use Rattle.std.proofs.Common.{sym, ap, ap₂, subst, ◌∙◌, arith, true≢false}
+use Rattle.std.proofs.lemmas.Option.{none-some}
 use Rattle.iox_lanes.specs.Lanes.{LaneState}
 use Rattle.iox_hub_states.specs.Tables.{HubTables, PoolState, PortState, owner_of, pool_at, port_in, slot_at}
 use Rattle.iox_hub_states.specs.States.{Given, state_shown}
 use Rattle.iox_hub_states.specs.Steps.{is_there}
-use Rattle.iox_hub_ports.specs.Ports.{info_in, without_pipe_from, without_port}
+use Rattle.iox_hub_ports.specs.declared.info.PortInfo.{PortInfo}
+use Rattle.iox_hub_ports.specs.Ports.{info_in, info_of, without_pipe_from, without_port}
 use Rattle.iox_slots.specs.Pools.{is_idle, without_pool}
 use Rattle.iox_slots.proofs.PlaceLemmas.{idle_holders}
 use Rattle.iox_hub_books.specs.Counts.{OfAll, OfAllLanes, in_port, lane_count, on_lanes, total}
@@ -225,3 +227,17 @@ pool_gone_here c new place order idle none is =
     pool_gone c place order new
     (is ∙ ap₂ (λ (a b : Bool). with_pools c (if a && not b then without_pool c.tables.pools place else c.tables.pools)) (sym idle)
     (sym (ap (λ (o : Option PortState). is_some o) (info_none c.tables.ports (owner_of c.tables.pools place) none))))
+
+-- where its port is found, it stays
+pub pool_stays_here : (c : ControlState) (place : ℕ) (info : PortInfo) → Some info ≡ info_in c.tables.ports (owner_of c.tables.pools place)
+    → c ≡ with_pools c (with_left_pool_gone c.tables place)
+pool_stays_here c place info found = step (is_idle c.tables.pools place) (is_there c.tables.ports (owner_of c.tables.pools place)) (there (port_in c.tables.ports (owner_of c.tables.pools place)) found)
+  where
+    there : (o : Option PortState) → Some info ≡ option_map info_of o → is_some o ≡ true
+    there None e = absurd (none-some info (sym e))
+    there (Some p) e = refl
+
+    step : (a b : Bool) → b ≡ true → c ≡ with_pools c (if a && not b then without_pool c.tables.pools place else c.tables.pools)
+    step true true e = refl
+    step true false e = absurd (true≢false (sym e))
+    step false b e = refl

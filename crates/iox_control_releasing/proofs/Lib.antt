@@ -5,6 +5,9 @@ pub mod Walks
 pub mod Removed
 pub mod Lefts
 pub mod Gone
+pub mod Kept
 pub mod Valued
 pub mod Ended
 pub mod Released
+pub mod Tidy
+pub mod Loans

@@ -1,15 +1,16 @@
 //! A port goes of which nothing is left.
-ghost use Rattle.std.specs.Prelude.{◌≡◌, option_map, true};
+ghost use Rattle.std.specs.Prelude.{◌≡◌, Some, option_map, true};
 ghost use Rattle.iox_hub_states.specs.States.{Given, state_shown};
-ghost use Rattle.iox_hub_states.specs.Tables.{port_in};
+ghost use Rattle.iox_hub_states.specs.Tables.{PortState, port_in};
 ghost use Rattle.iox_hub_books.specs.Counts.{in_port, lane_count};
 ghost use Rattle.iox_hub_books.specs.Hubs.{AreInOrder};
+ghost use Rattle.iox_hub_keeping.specs.Keeps.{HasFewerHolders, lost_uses};
 ghost use Rattle.iox_hub_making.specs.Disconnections.{is_unused, with_disconnected, with_released};
 ghost use Rattle.iox_hub_ports.specs.Ports.{without_port};
 ghost use Rattle.std.specs.Option.{option_map_or};
 ghost use Rattle.iox_control.specs.Controls.{IsControl, with_pools};
 ghost use Rattle.iox_control_releasing.specs.LettingGo.{LetsGo};
-ghost use Rattle.iox_control_releasing.specs.Goings.{with_left_pool_gone};
+ghost use Rattle.iox_control_releasing.specs.Goings.{KeptPools, NoLeftPool, StaysTidy, with_left_pool_gone};
 
 use crate::cutting::cut_all;
 use crate::letting_go::let_port_go;
@@ -48,6 +49,9 @@ pub fn drop_pool(control: &mut Control, place: usize)
     ensures order { IsControl control.new }
     ensures shown { (x : Given) → state_shown x control.old.tables
         ≡ state_shown x control.new.tables }
+    ensures pools { KeptPools control.old.tables.pools control.new.tables.pools }
+    ensures gone { NoLeftPool control.new.tables place }
+    ensures tidy { StaysTidy control.old.tables control.new.tables }
 {
     let pools = control.pools();
     if pools.is_idle(place) {
@@ -58,23 +62,28 @@ pub fn drop_pool(control: &mut Control, place: usize)
     }
 }
 
-/// The port goes, of which nothing is left: with it go its pipes, and the messages on them.
+/// The port goes, of which nothing is left: with it go its pipes, and the messages on them. It tells
+/// the place of the port's pool, which stays.
 fn take_port(control: &mut Control, port: u64) -> Option<usize>
     requires order { IsControl control.old }
     requires unused { is_unused control.old.tables port ≡ true }
+    ensures pool { result ≡ option_map (λ p. p.pool) (port_in control.old.tables.ports port) }
     ensures left { control.new.tables ≡ record (with_disconnected control.old.tables port) {
       pools = control.new.tables.pools;
     } }
     ensures shown { (x : Given) → state_shown x (with_disconnected control.old.tables port)
         ≡ state_shown x control.new.tables }
     ensures order { IsControl control.new }
+    ensures fewer { HasFewerHolders control.old.tables.pools control.new.tables.pools
+        (lost_uses control.old.tables port) }
 {
     let pool = take_out(control, port);
     cut_all(control, port);
     pool
 }
 
-/// The port goes if nothing of it is left: neither its own value nor a handle.
+/// The port goes if nothing of it is left: neither its own value nor a handle. Its pool goes with it,
+/// unless somebody still has a message of that.
 pub fn disconnect_if_unused(control: &mut Control, port: u64)
     requires order { IsControl control.old }
     ensures left { control.new.tables
@@ -82,6 +91,10 @@ pub fn disconnect_if_unused(control: &mut Control, port: u64)
     ensures shown { (x : Given) → state_shown x (with_released control.old.tables port)
         ≡ state_shown x control.new.tables }
     ensures order { IsControl control.new }
+    ensures pools { KeptPools control.old.tables.pools control.new.tables.pools }
+    ensures gone { (p : PortState) → port_in control.old.tables.ports port ≡ Some p
+        → NoLeftPool control.new.tables p.pool }
+    ensures tidy { StaysTidy control.old.tables control.new.tables }
 {
     if is_unused(control, port) {
         match take_port(control, port) {

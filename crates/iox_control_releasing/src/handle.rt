@@ -12,6 +12,7 @@ ghost use Rattle.iox_slots.specs.Slots.{let_go};
 ghost use Rattle.iox_control.specs.Controls.{IsControl, with_tables};
 ghost use Rattle.iox_control.specs.Entries.{handle_state};
 ghost use Rattle.iox_control_releasing.specs.Endings.{given_up_as, with_ended};
+ghost use Rattle.iox_control_releasing.specs.Goings.{KeptPools, NoLeftPool, StaysTidy};
 ghost use Rattle.iox_control_releasing.specs.Named.{IsNamed};
 
 use crate::disconnect::{disconnect_if_unused, drop_pool};
@@ -84,6 +85,10 @@ pub fn release(control: &mut Control, node: u64, number: u64, hint: usize)
           pools = control.new.tables.pools;
         } }
     ensures order { IsControl control.new }
+    ensures pools { KeptPools control.old.tables.pools control.new.tables.pools }
+    ensures gone { (h : HandleState) → handle_in control.old.tables.handles node number ≡ Some h
+        → NoLeftPool control.new.tables h.pool }
+    ensures tidy { StaysTidy control.old.tables control.new.tables }
     ensures whole { (x : Given) → IsWholeCall (state_shown x control.old.tables) node
         (Release number) Done (state_shown x control.new.tables) }
 {

@@ -7,6 +7,7 @@ ghost use Rattle.iox_model.specs.WholeCalls.{IsWholeCall};
 ghost use Rattle.iox_model.specs.declared.call.Call.TheVariants.{Release};
 ghost use Rattle.iox_model.specs.declared.reply.Reply.TheVariants.{Done};
 ghost use Rattle.iox_control.specs.Controls.{IsControl};
+ghost use Rattle.iox_control_releasing.specs.Goings.{KeptPools, StaysTidy};
 ghost use Rattle.iox_control_releasing.specs.Named.{IsHeldPort};
 
 use crate::disconnect::disconnect_if_unused;
@@ -22,6 +23,8 @@ pub fn release_port(control: &mut Control, node: u64, port: u64)
           pools = control.new.tables.pools;
         } }
     ensures order { IsControl control.new }
+    ensures pools { KeptPools control.old.tables.pools control.new.tables.pools }
+    ensures tidy { StaysTidy control.old.tables control.new.tables }
     ensures whole { (x : Given) → IsWholeCall (state_shown x control.old.tables) node
         (Release port) Done (state_shown x control.new.tables) }
 {

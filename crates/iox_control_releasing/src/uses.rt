@@ -5,6 +5,7 @@ ghost use Rattle.iox_model.specs.WholeCalls.{IsWholeCall};
 ghost use Rattle.iox_model.specs.declared.call.Call.TheVariants.{Release};
 ghost use Rattle.iox_model.specs.declared.reply.Reply.TheVariants.{Done};
 ghost use Rattle.iox_control.specs.Controls.{IsControl};
+ghost use Rattle.iox_control_releasing.specs.Goings.{IsTidy};
 ghost use Rattle.iox_control_releasing.specs.Named.{IsHeldPort, IsNamed};
 
 use crate::disconnect::disconnect_if_unused;
@@ -30,4 +31,15 @@ pub fn releases_a_port(control: &mut Control, node: u64, port: u64)
         (Release port) Done (state_shown x control.new.tables) }
 {
     release_port(control, node, port);
+}
+
+/// No pool is left after releases, where none was left before.
+pub fn releases_and_is_tidy(control: &mut Control, node: u64, number: u64, port: u64)
+    requires named { IsNamed control.old.tables node number }
+    requires order { IsControl control.old }
+    requires tidy { IsTidy control.old.tables }
+    ensures { IsTidy control.new.tables }
+{
+    release(control, node, number, 0);
+    disconnect_if_unused(control, port);
 }

@@ -11,3 +11,4 @@ pub mod Emptied
 pub mod Whole
 pub mod Offered
 pub mod Sent
+pub mod Tidy

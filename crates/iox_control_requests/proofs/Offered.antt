@@ -51,6 +51,10 @@ released_pools u n = step (is_unused u n)
     step true = refl
     step false = refl
 
+-- the end of a loan leaves its message
+pub ended_bare : (c new : ControlState) (node n : ℕ) (h : HandleState) → new ≡ with_ended c node n h → bare_pools c.tables.pools ≡ bare_pools new.tables.pools
+ended_bare c new node n h ends = let_go_bare c.tables.pools h.pool h.slot ∙ ap (λ (d : ControlState). bare_pools d.tables.pools) (sym ends)
+
 -- ---- the send
 
 module _ (c : ControlState) (node n : ℕ) (order : IsControl c) (few : c.tables.calls < 2 ^ 56) (request : IsRequest c.tables node n)
@@ -134,7 +138,7 @@ module _ (c : ControlState) (node n : ℕ) (order : IsControl c) (few : c.tables
       is = its;
       whole = λ x failure u shown.
           subst (λ (v : m.State). IsWholeCall (state_shown x t) node (Send n) (replies.Refused refusals.ExceedsMaxActiveRequests) v)
-          (shows_lost (with_dropped t node n) new.tables refl (let_go_bare t.pools h.pool h.slot ∙ ap (λ (d : ControlState). bare_pools d.tables.pools) (sym ends)) its x u shown)
+          (shows_lost (with_dropped t node n) new.tables refl (ended_bare c new node n h ends) its x u shown)
           (is_refused t order.order order.none node n h named kind few x spent);
     }
       where

@@ -5,6 +5,7 @@ ghost use Rattle.iox_model.specs.declared.call.Call.TheVariants.{Send};
 ghost use Rattle.iox_hub_states.specs.States.{Given, state_shown};
 ghost use Rattle.iox_hub_states.specs.Tables.{HandleState, HubTables};
 ghost use Rattle.iox_hub_states.specs.Wirings.{handle_in};
+ghost use Rattle.iox_hub_books.specs.Keeps.{bare_pools};
 ghost use Rattle.iox_control.specs.Controls.{IsControl};
 ghost use Rattle.iox_control_requests.specs.Sendings.{AreFailures, IsRequest, reply_of_send, request_outcome, with_lost_released, with_request_ended};
 
@@ -34,6 +35,7 @@ pub fn offer_request<B: Backpressure>(
         → control.new.tables ≡ record (with_request_ended control.old.tables node number h result) {
           pools = control.new.tables.pools;
         } }
+    ensures pools { bare_pools control.old.tables.pools ≡ bare_pools control.new.tables.pools }
     ensures order { IsControl control.new }
     ensures whole { (h : HandleState) → handle_in control.old.tables.handles node number ≡ Some h
         → (x : Given) → AreFailures x control.old.tables h (B.fails backpressure.now)

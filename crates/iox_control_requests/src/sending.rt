@@ -6,6 +6,7 @@ ghost use Rattle.iox_hub_states.specs.States.{Given, state_shown};
 ghost use Rattle.iox_hub_states.specs.Tables.{HandleState};
 ghost use Rattle.iox_hub_states.specs.Wirings.{handle_in};
 ghost use Rattle.iox_control.specs.Controls.{IsControl};
+ghost use Rattle.iox_control_releasing.specs.Goings.{KeptPools, StaysTidy};
 ghost use Rattle.iox_control_requests.specs.Sendings.{AreFailures, IsRequest, reply_of_send, request_outcome, with_lost_released, with_request_ended};
 
 use crate::backpressure::Backpressure;
@@ -35,6 +36,8 @@ pub fn send_request<B: Backpressure>(
           pools = control.new.tables.pools;
         } }
     ensures order { IsControl control.new }
+    ensures pools { KeptPools control.old.tables.pools control.new.tables.pools }
+    ensures tidy { StaysTidy control.old.tables control.new.tables }
     ensures whole { (h : HandleState) → handle_in control.old.tables.handles node number ≡ Some h
         → (x : Given) → AreFailures x control.old.tables h (B.fails backpressure.now)
         → IsWholeCall (state_shown x control.old.tables) node (Send number)

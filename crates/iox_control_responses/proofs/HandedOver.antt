@@ -60,7 +60,7 @@ all_bare n (p ∷ ps) a = (a.0, all_bare n ps a.1)
 -- ---- one lane
 
 module _ (overflow : Bool) (k : ℕ) where
-  gives_bare : (l : LaneState) → bare_lane (delivers overflow k l) ≡ bare_lane l
+  pub gives_bare : (l : LaneState) → bare_lane (delivers overflow k l) ≡ bare_lane l
   gives_bare l = step overflow _
     where
       step : (b c : Bool) → bare_lane (if b then (if c then without_oldest (delivered l k) else delivered l k) else delivered l k) ≡ bare_lane l

@@ -5,3 +5,4 @@ pub mod Whole
 pub mod Offered
 pub mod Strategies
 pub mod Sent
+pub mod Tidy

@@ -1,17 +1,14 @@
 -- A response that is offered is sent once its server is gone, if nothing else of that is left.
-use Rattle.std.specs.Prelude.{◌≡◌, ℕ, Bool, true, false, if◌then◌else◌, List, Option, Some, None, refl}
-use Rattle.std.proofs.Common.{sym, ap, subst, ◌∙◌}
+use Rattle.std.specs.Prelude.{◌≡◌, ℕ, Bool, true, false, if◌then◌else◌, List, Option, Some, refl}
+use Rattle.std.proofs.Common.{sym, ap, ◌∙◌}
 use Rattle.std.proofs.lemmas.Option.{same_Some}
 use Rattle.iox_handles.specs.declared.entry.Entry.{Entry}
-use Rattle.iox_model.specs.declared.call.Call.TheVariants.{Send}
-use Rattle.iox_model.specs.Commands.{Reply}
-use Rattle.iox_model.specs.WholeCalls.{IsWholeCall}
 use Rattle.iox_hub_states.specs.Tables.{HandleState, HubTables, PoolState}
 use Rattle.iox_hub_states.specs.States.{Given, state_shown}
 use Rattle.iox_hub_states.specs.Wirings.{handle_in}
 use Rattle.iox_hub_making.specs.Disconnections.{is_unused, with_disconnected, with_released}
 use Rattle.iox_control.specs.Entries.{handle_state}
-use Rattle.iox_control_responses.specs.Responses.{IsFailure, with_response_ended}
+use Rattle.iox_control_responses.specs.Responses.{with_response_ended}
 
 -- a release does not see pools
 with_pools_released : (u : HubTables) (pools : List (Option PoolState)) (n : ℕ) → with_released (record u { pools = pools }) n ≡ record (with_released u n) { pools = pools }

@@ -9,6 +9,7 @@ ghost use Rattle.iox_hub_states.specs.Tables.{HandleState};
 ghost use Rattle.iox_hub_states.specs.Wirings.{handle_in};
 ghost use Rattle.iox_hub_making.specs.Disconnections.{with_released};
 ghost use Rattle.iox_control.specs.Controls.{IsControl};
+ghost use Rattle.iox_control_releasing.specs.Goings.{KeptPools, StaysTidy};
 ghost use Rattle.iox_control_responses.specs.Responses.{IsFailure, IsResponse, reply_of_send, response_reply, with_response_ended};
 
 use crate::offering::offer_response;
@@ -37,6 +38,8 @@ pub fn send_response(
           pools = control.new.tables.pools;
         } }
     ensures order { IsControl control.new }
+    ensures pools { KeptPools control.old.tables.pools control.new.tables.pools }
+    ensures tidy { StaysTidy control.old.tables control.new.tables }
     ensures whole { (h : HandleState) → handle_in control.old.tables.handles node number ≡ Some h
         → (x : Given) → IsFailure x control.old.tables h fails
         → IsWholeCall (state_shown x control.old.tables) node (Send number)

@@ -17,3 +17,8 @@ returns-clause-order c =
     let all = all_go c.args.control.now c.take_out-pool.new.control c.cut_all.new.control c.args.port c.requires.order
     c.take_out-pool.ensures.left c.take_out-pool.ensures.room c.take_out-pool.ensures.fewer c.cut_all.ensures.left c.cut_all.ensures.fewer in
     port_gone c.args.control.now c.cut_all.new.control c.args.port c.requires.order c.requires.unused all.1.0 all.0 all.1.1
+
+pub returns-clause-fewer : goal.returns-clause-fewer
+returns-clause-fewer c =
+    (all_go c.args.control.now c.take_out-pool.new.control c.cut_all.new.control c.args.port c.requires.order
+    c.take_out-pool.ensures.left c.take_out-pool.ensures.room c.take_out-pool.ensures.fewer c.cut_all.ensures.left c.cut_all.ensures.fewer).1.1

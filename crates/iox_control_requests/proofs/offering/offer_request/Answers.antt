@@ -2,7 +2,7 @@ use Rattle.std.proofs.Common.{ap, sym, ◌∙◌}
 use Rattle.iox_hub_states.specs.Tables.{HubSettings}
 use Rattle.iox_control.specs.Entries.{handle_state}
 use Rattle.iox_control_requests.specs.declared.requested.Requested.TheVariants.{To, ExceedsMaxActiveRequests, UnableToDeliver}
-use Rattle.iox_control_requests.proofs.Offered.{is_lost_so, is_sent_so, is_spent_so, left_for, named_so, whole_for}
+use Rattle.iox_control_requests.proofs.Offered.{ended_bare, is_lost_so, is_sent_so, is_spent_so, left_for, named_so, whole_for}
 use Rattle.iox_control_requests.proofs.offering.offer_request.Goals as goal
 
 pub attempt-requires-clause-named : goal.attempt-requires-clause-named
@@ -16,6 +16,11 @@ returns-then-is_spent-clause-left g c =
     left_for c.args.control.now c.args.node c.args.number c.requires.order c.requires.calls c.requires.request c.in-Some.entry c.in-Some.ensures (g.B.Backpressure.fails c.args.backpressure.now) ExceedsMaxActiveRequests c.end_loan.new.control.tables
     (is_spent_so c.args.control.now c.args.node c.args.number c.requires.order c.requires.calls c.requires.request c.in-Some.entry c.in-Some.ensures (g.B.Backpressure.fails c.args.backpressure.now) (sym c.is_spent.ensures ∙ c.if-is_spent.true) c.end_loan.new.control
     (c.end_loan.ensures.ended (handle_state c.in-Some.entry) (sym c.in-Some.ensures)))
+
+pub returns-then-is_spent-clause-pools : goal.returns-then-is_spent-clause-pools
+returns-then-is_spent-clause-pools g c =
+    ended_bare c.args.control.now c.end_loan.new.control c.args.node c.args.number (handle_state c.in-Some.entry)
+    (c.end_loan.ensures.ended (handle_state c.in-Some.entry) (sym c.in-Some.ensures))
 
 pub returns-then-is_spent-clause-whole : goal.returns-then-is_spent-clause-whole
 returns-then-is_spent-clause-whole g c =

@@ -1,0 +1,52 @@
+-- As a response is offered, no pool is left that was not left before.
+use Rattle.std.specs.Prelude.{◌≡◌, ℕ, Bool, true, false, if◌then◌else◌, [], ◌∷◌, Some, refl}
+use Rattle.std.proofs.Common.{sym, ap, subst, ◌∙◌}
+use Rattle.std.proofs.lemmas.Option.{same_Some}
+use Rattle.iox_model.specs.Handles.{is_own}
+use Rattle.iox_hub_states.specs.Tables.{HandleState, HubTables}
+use Rattle.iox_hub_states.specs.Changes.{emptied_lane, with_lanes}
+use Rattle.iox_hub_states.specs.Ends.{dropped_handles}
+use Rattle.iox_hub_states.specs.Wirings.{IsHandle, handle_in}
+use Rattle.iox_hub_books.specs.Hubs.{AreInOrder}
+use Rattle.iox_hub_books.specs.Keeps.{bare_pools, delivers}
+use Rattle.iox_hub_books.proofs.Frames.{AreAlike, bare_ports, lanes_on_bare}
+use Rattle.iox_hub_loans.specs.Questions.{is_named_by_client}
+use Rattle.iox_control_releasing.specs.Goings.{StaysTidy}
+use Rattle.iox_control_releasing.proofs.Loans.{loan_ends}
+use Rattle.iox_control_responses.specs.Responses.{IsResponse, is_shut, way_to_client, with_response_ended, with_response_offered, with_response_sent, with_way_emptied}
+use Rattle.iox_control_responses.proofs.HandedOver.{gives_bare}
+
+sent_alike : (t : HubTables) (h : HandleState) → AreAlike t.ports (with_response_sent t h).ports
+sent_alike t h = step (is_named_by_client t h false)
+  where
+    emptied : bare_ports (with_way_emptied t h).ports ≡ bare_ports t.ports
+    emptied = lanes_on_bare emptied_lane (λ l. refl) t.ports (way_to_client t h ∷ [])
+
+    offered : (b : Bool)
+        → bare_ports (if b then with_way_emptied t h else with_lanes (delivers t.settings.response_overflow h.slot) (with_way_emptied t h) (way_to_client t h ∷ [])).ports
+        ≡ bare_ports t.ports
+    offered true = emptied
+    offered false =
+        lanes_on_bare (delivers t.settings.response_overflow h.slot) (gives_bare t.settings.response_overflow h.slot) (with_way_emptied t h).ports (way_to_client t h ∷ []) ∙ emptied
+
+    step : (b : Bool) → bare_ports (if b then with_response_offered t h else t).ports ≡ bare_ports t.ports
+    step true = offered (is_shut t h)
+    step false = refl
+
+sent_handles : (t : HubTables) (h : HandleState) → (with_response_sent t h).handles ≡ t.handles
+sent_handles t h = step (is_named_by_client t h false) (is_shut t h)
+  where
+    step : (b c : Bool)
+        → (if b then (if c then with_way_emptied t h else with_lanes (delivers t.settings.response_overflow h.slot) (with_way_emptied t h) (way_to_client t h ∷ [])) else t).handles
+        ≡ t.handles
+    step true true = refl
+    step true false = refl
+    step false c = refl
+
+pub offered_tidies : (t u : HubTables) (node n : ℕ) (h : HandleState) (fails : Bool) → AreInOrder t → AreInOrder u → IsResponse t node n
+    → Some h ≡ handle_in t.handles node n → u ≡ record (with_response_ended t node n h fails) { pools = u.pools } → bare_pools t.pools ≡ bare_pools u.pools → StaysTidy t u
+offered_tidies t u node n h fails order after response found is same =
+    let its : response.handle ≡ h = same_Some response.handle h (sym response.named.there ∙ sym found) in
+    loan_ends t u order after (ap (λ (v : HubTables). bare_ports v.ports) is ∙ sent_alike t h) same node n h
+    (subst (IsHandle t node n) its response.named) (ap (λ (k : HandleState). is_own k.kind) (sym its) ∙ ap is_own response.kind)
+    (ap (λ (v : HubTables). v.handles) is ∙ ap (dropped_handles node n) (sent_handles t h))
