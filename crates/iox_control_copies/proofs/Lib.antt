@@ -1,0 +1,10 @@
+pub mod Pushed
+pub mod Kept
+pub mod Free
+pub mod Lanes
+pub mod InLine
+pub mod Outcomes
+pub mod Named
+pub mod Sent
+pub mod Machine
+pub mod Whole

@@ -1,0 +1,43 @@
+-- A copy that is written, counted and put last in line, one change after another.
+use Rattle.std.specs.Prelude.{◌≡◌, ℕ, [], ◌∷◌}
+use Rattle.std.proofs.Common.{ap, ◌∙◌}
+use Rattle.iox_model.specs.declared.way.Way.{Way}
+use Rattle.iox_hub_states.specs.Tables.{PortState}
+use Rattle.iox_hub_states.specs.Changes.{with_lanes}
+use Rattle.iox_hub_states.specs.Ends.{with_call, with_loan}
+use Rattle.iox_hub_ports.specs.declared.info.PortInfo.{PortInfo}
+use Rattle.iox_hub_ports.specs.Ports.{info_of, pushed}
+use Rattle.iox_slots.specs.Pools.{with_slot}
+use Rattle.iox_slots.specs.Slots.{written}
+use Rattle.iox_control.specs.Controls.{ControlState, with_pools, with_tables}
+use Rattle.iox_control_lending.specs.declared.asked.Asked.{Asked}
+use Rattle.iox_control_lending.specs.declared.asked.Lending.{Lending}
+use Rattle.iox_control_lending.specs.Lends.{lender_of}
+use Rattle.iox_control_responses.specs.Responses.{pools_after_push}
+use Rattle.iox_control_copies.specs.Answers.{with_copy_pushed}
+
+module _ (l : Lending) (a : Asked) (slot : ℕ) where
+  abbrev way : PortInfo → Way
+  way i = record { sender = i.number; receiver = l.client; lane = l.lane }
+
+  abbrev write : PortInfo → ControlState → ControlState
+  write i c = with_pools c (with_slot (written i.loans l.lane l.request a.elements) c.tables.pools i.pool slot)
+
+  abbrev lend : PortInfo → ControlState → ControlState
+  lend i c = with_tables c (with_loan c.tables i.number)
+
+  abbrev push : PortInfo → ControlState → ControlState
+  push i c = with_tables c (record (with_lanes (λ m. pushed m slot) c.tables (way i ∷ [])) { pools = pools_after_push c.tables (way i) i.pool })
+
+  abbrev call : ControlState → ControlState
+  call c = with_tables c (with_call c.tables)
+
+  pub pushed_so : (c c1 c2 c3 c4 c5 : ControlState) → c1 ≡ write l.port c → c2 ≡ lend l.port c1 → c3 ≡ push l.port c2 → c4 ≡ call c3 → c5 ≡ call c4
+      → (p : PortState) → l.port ≡ info_of p → c5 ≡ with_copy_pushed c (lender_of p l) a slot
+  pushed_so c c1 c2 c3 c4 c5 e1 e2 e3 e4 e5 p is =
+      e5
+      ∙ ap call e4
+      ∙ ap (λ d. call (call d)) e3
+      ∙ ap (λ d. call (call (push l.port d))) e2
+      ∙ ap (λ d. call (call (push l.port (lend l.port d)))) e1
+      ∙ ap (λ i. call (call (push i (lend i (write i c))))) is

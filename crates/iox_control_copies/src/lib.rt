@@ -1,0 +1,13 @@
+//! The copies of responses: loan, write and send in one.
+#![tactic(auto)]
+
+mod answered;
+mod answering;
+mod copying;
+mod lining;
+mod losing;
+mod shutting;
+pub mod uses;
+
+pub use answered::Answered;
+pub use copying::copy_response;

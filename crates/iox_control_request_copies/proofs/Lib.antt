@@ -1,0 +1,11 @@
+pub mod Free
+pub mod Lost
+pub mod Ready
+pub mod Sent
+pub mod Emptied
+pub mod Loaned
+pub mod Leads
+pub mod Machine
+pub mod Made
+pub mod Whole
+pub mod Left
