@@ -1,7 +1,7 @@
 -- Words go on fitting the tables of a hub.
-use Rattle.std.specs.Prelude.{◌≡◌, ℕ, zero, suc, ◌≤◌, false, if◌then◌else◌, List, [], ◌∷◌, ◌++◌, length, map, Option, Some, None, slice_get, refl, ⊤}
+use Rattle.std.specs.Prelude.{◌≡◌, ℕ, zero, suc, ◌<◌, ◌≤◌, false, if◌then◌else◌, List, [], ◌∷◌, ◌++◌, length, map, Option, Some, None, slice_get, refl, ⊤}
 use Rattle.std.specs.Option.{option_map, option_map_or}
-use Rattle.std.proofs.Common.{sym, ap, subst, ◌∙◌, arith}
+use Rattle.std.proofs.Common.{sym, ap, subst, ◌∙◌, arith, true≢false}
 use Rattle.std.proofs.lemmas.Option.{none-some}
 use Rattle.iox_lanes.specs.declared.incoming.Visits.{Visits}
 use Rattle.iox_lanes.specs.declared.incoming.Visits.TheVariants.{Got, AtLimit, Nothing}
@@ -19,7 +19,7 @@ use Rattle.iox_model.specs.Maps.{has_number}
 use Rattle.iox_model.specs.Messages.{hinted_for}
 use Rattle.iox_model.specs.Settings.{is_client, other_role}
 use Rattle.iox_weave_ledger.proofs.Lists.{number-among}
-use Rattle.iox_hub_states.specs.Tables.{HandleState, HubTables, PoolState, PortState, labels_of, pipes_of, port_in, senders_of, slots_of}
+use Rattle.iox_hub_states.specs.Tables.{HandleState, HubTables, PoolState, PortState, SlotState, labels_of, pipes_of, port_in, senders_of, slots_of}
 use Rattle.iox_hub_states.specs.Ends.{OfEachHandle}
 use Rattle.iox_hub_states.specs.Changes.{with_states}
 use Rattle.iox_hub_states.specs.Receives.{got_handle, visited_port, visits_at, wanted_by_server, with_got, with_request, with_response, with_visited}
@@ -31,9 +31,10 @@ use Rattle.iox_hub_books.specs.Keeps.{bare_pool, bare_pools, bare_slot}
 use Rattle.iox_hub_books.proofs.Frames.{AreAlike, bare_ports, port_before, states_on_bare, visits_bare}
 use Rattle.iox_hub_books.proofs.Going.{each_last}
 use Rattle.iox_hub_books.proofs.Sendable.{of_role}
+use Rattle.iox_hub_books.proofs.Structures.{same_slot}
 use Rattle.iox_hub_books.proofs.Visited.{GotFrom, got_is}
 use Rattle.iox_control.specs.Controls.{ControlState, IsButHolders, with_hint, with_tables}
-use Rattle.iox_hub.specs.Fits.{SuitsKind, WordsFit, are_requests_in, count_in, is_of_request}
+use Rattle.iox_hub.specs.Fits.{SuitsHandle, WordsFit, are_requests_in, count_in, is_full_loan, is_of_request, longest_in}
 use Rattle.iox_hub.specs.Words.{Carried}
 
 -- ---- pools that differ in holders have the same slots
@@ -65,12 +66,21 @@ same_count old new same place =
 -- ---- they go on fitting
 
 module _ (words : List (Option Carried)) (t : HubTables) (fit : WordsFit words t) where
-  pub fits_on : (t' : HubTables) → AreAlike t.ports t'.ports → bare_pools t.pools ≡ bare_pools t'.pools → OfEachHandle (SuitsKind words) t'.handles → WordsFit words t'
+  pub fits_on : (t' : HubTables) → AreAlike t.ports t'.ports → bare_pools t.pools ≡ bare_pools t'.pools → OfEachHandle (SuitsHandle words) t'.handles → WordsFit words t'
   fits_on t' alike same handles = record {
     pools = λ place. let old = fit.pools place in let count = same_count t.pools t'.pools same place in omega (arith, old, count);
+    elements = λ place k low.
+        fit.elements place k (let count = same_count t.pools t'.pools same place in omega (arith, low, count))
+        ∙ ap (λ (s : SlotState). s.elements) (same_slot t.pools t'.pools same place k);
     ports = λ n p at.
         let q = port_before t.ports t'.ports alike n p at in
         subst (λ (z : PortState). are_requests_in words z.pool ≡ is_client z.role) q.2 (fit.ports n q.0 q.1);
+    longest = λ n p at.
+        let q = port_before t.ports t'.ports alike n p at in
+        subst (λ (z : PortState). z.longest ≤ longest_in words z.pool) q.2 (fit.longest n q.0 q.1);
+    none_grow = λ n p at.
+        let q = port_before t.ports t'.ports alike n p at in
+        subst (λ (z : PortState). z.grows ≡ false) q.2 (fit.none_grow n q.0 q.1);
     handles = handles;
   }
 
@@ -78,13 +88,17 @@ module _ (words : List (Option Carried)) (t : HubTables) (fit : WordsFit words t
 
   -- a handle that was got, if one was
   abbrev IsSuited : ℕ → Role → ℕ → Visits → Type 0
-  IsSuited node role n (Got sender pool k) = SuitsKind words (got_handle t node role n pool k)
+  IsSuited node role n (Got sender pool k) = SuitsHandle words (got_handle t node role n pool k)
   IsSuited node role n AtLimit = ⊤
   IsSuited node role n Nothing = ⊤
 
   suits : (r : Role) → is_client (other_role r) ≡ is_of_request (if is_client r then kinds.Response else kinds.ActiveRequest)
   suits Client = refl
   suits Server = refl
+
+  no_loan : (r : Role) → is_full_loan (if is_client r then kinds.Response else kinds.ActiveRequest) ≡ false
+  no_loan Client = refl
+  no_loan Server = refl
 
   module _ (order : AreInOrder t) (node n lane : ℕ) (p : PortState) (there : port_in t.ports n ≡ Some p) (role : Role) (role_is : p.role ≡ role) (wanted : Wanted) where
     suited : (v : Visits) → GotFrom wanted (labels_of t.pools) lane (pipes_of p) v → IsSuited node role n v
@@ -93,16 +107,19 @@ module _ (words : List (Option Carried)) (t : HubTables) (fit : WordsFit words t
         let on_way : lane_on t.ports w ≡ Some c.0 = ap (λ o. slice_get (lanes_from (option_map_or pipes_of o []) s) lane) there ∙ c.1 in
         let senders : senders_of (pipes_of p) ≡ senders_of p.incoming.pipes = ap (λ (es : List PipeState). senders_of (es ++ p.incoming.pipes)) (order.wired.none_kept n p there) in
         let q = of_role t order (other_role p.role) s (number-among s _ (sym (ap (has_number s) (senders ∙ (order.wired.each n p there).senders)) ∙ c.4)) in
-        ap (are_requests_in words) (sym c.2 ∙ (order.lanes w c.0 q.0 on_way q.1).of_pool)
-        ∙ fit.ports s q.0 q.1 ∙ ap is_client (q.2 ∙ ap other_role role_is) ∙ suits role
+        record {
+          kind = ap (are_requests_in words) (sym c.2 ∙ (order.lanes w c.0 q.0 on_way q.1).of_pool)
+              ∙ fit.ports s q.0 q.1 ∙ ap is_client (q.2 ∙ ap other_role role_is) ∙ suits role;
+          full = λ e. absurd (true≢false (sym e ∙ no_loan role));
+        }
     suited AtLimit c = tt
     suited Nothing c = tt
 
     abbrev left : Visits → HubTables
     left v = with_got (with_visited t n lane wanted) node role n v
 
-    left_handles : (v : Visits) → IsSuited node role n v → OfEachHandle (SuitsKind words) (left v).handles
-    left_handles (Got s pool k) one = each_last (SuitsKind words) t.handles (got_handle t node role n pool k) fit.handles one
+    left_handles : (v : Visits) → IsSuited node role n v → OfEachHandle (SuitsHandle words) (left v).handles
+    left_handles (Got s pool k) one = each_last (SuitsHandle words) t.handles (got_handle t node role n pool k) fit.handles one
     left_handles AtLimit one = fit.handles
     left_handles Nothing one = fit.handles
 
@@ -126,7 +143,7 @@ module _ (words : List (Option Carried)) (t : HubTables) (fit : WordsFit words t
         let v : Visits = visits_at t n lane wanted in
         fits_on t' (ap (λ (u : HubTables). bare_ports u.ports) is.same ∙ ap bare_ports (left_ports v) ∙ visits_bare wanted (labels_of t.pools) lane t.ports n)
         (ap bare_pools (sym (left_pools v)) ∙ is.bare)
-        (subst (λ (u : HubTables). OfEachHandle (SuitsKind words) u.handles) (sym is.same) (left_handles v (suited v came)))
+        (subst (λ (u : HubTables). OfEachHandle (SuitsHandle words) u.handles) (sym is.same) (left_handles v (suited v came)))
 
 -- ---- the calls
 
@@ -155,6 +172,15 @@ fits_hint words c d fit node n pending is =
 pub fits_none : (t : HubTables) → t.pools ≡ [] → t.ports ≡ [] → t.handles ≡ [] → (words : List (Option Carried)) → WordsFit words t
 fits_none t pools ports handles words = record {
   pools = λ place. subst (λ (ps : List (Option PoolState)). length (slots_of ps place) ≤ count_in words place) (sym pools) (omega arith);
-  ports = λ n p at. absurd (none-some p (ap (λ (ps : List PortState). port_in ps n) (sym ports) ∙ at));
-  handles = subst (λ (hs : List HandleState). OfEachHandle (SuitsKind words) hs) (sym handles) tt;
+  elements = λ place k low. absurd (none place k low);
+  ports = λ n p at. absurd (missing n p at);
+  longest = λ n p at. absurd (missing n p at);
+  none_grow = λ n p at. absurd (missing n p at);
+  handles = subst (λ (hs : List HandleState). OfEachHandle (SuitsHandle words) hs) (sym handles) tt;
 }
+  where
+    none : (place k : ℕ) → k < length (slots_of t.pools place) → ⊥
+    none place k low = let is = ap (λ (ps : List (Option PoolState)). length (slots_of ps place)) pools in omega (arith, low, is)
+
+    missing : (n : ℕ) (p : PortState) → port_in t.ports n ≡ Some p → ⊥
+    missing n p at = none-some p (ap (λ (ps : List PortState). port_in ps n) (sym ports) ∙ at)

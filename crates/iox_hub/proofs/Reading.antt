@@ -25,7 +25,7 @@ use Rattle.iox_hub_books.proofs.Used.{handle_is, used_by_handle}
 use Rattle.iox_control.proofs.WholeLemmas.{is_whole_of}
 use Rattle.iox_handles.specs.declared.entry.Entry.{Entry}
 use Rattle.iox_control.specs.Entries.{handle_state}
-use Rattle.iox_hub.specs.Fits.{SuitsKind, are_requests_in, carried_in, count_in, is_of_request}
+use Rattle.iox_hub.specs.Fits.{SuitsHandle, are_requests_in, carried_in, count_in, is_of_request}
 use Rattle.iox_hub.specs.Hubs.{HubState, IsHub, given_by, state_of_hub}
 use Rattle.iox_hub.specs.Reads.{HasOf, has_request, has_response, message_in}
 use Rattle.iox_hub.specs.Words.{Carried, stored_in}
@@ -156,7 +156,7 @@ module _ (test : Kind → Bool) (pass : ArePassed test) {h : HubState} (hub : Is
     passing = subst (λ (k : HandleState). test k.kind ≡ true) (same_Some named.handle (handle_state e) (sym named.there ∙ at)) named.passes
 
     pub suits_kind : are_requests_in h.words e.pool ≡ is_of_request e.kind
-    suits_kind = handle_is (SuitsKind h.words) t.handles node n (handle_state e) hub.words.handles at
+    suits_kind = (handle_is (SuitsHandle h.words) t.handles node n (handle_state e) hub.words.handles at).kind
 
     pub has_words : e.slot < count_in h.words e.pool
     has_words =

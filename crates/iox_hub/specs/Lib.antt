@@ -4,3 +4,6 @@ pub mod Fits
 pub mod Hubs
 pub mod Starts
 pub mod Reads
+pub mod Making
+pub mod Sending
+pub mod Lending

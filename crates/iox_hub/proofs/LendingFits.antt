@@ -1,0 +1,117 @@
+-- Words go on fitting the tables as one message is another one.
+use Rattle.std.specs.Prelude.{◌≡◌, ℕ, ◌<◌, ◌≤◌, Bool, true, false, ◌&&◌, ◌==◌, List, [], ◌∷◌, length, Option, Some, refl}
+use Rattle.std.specs.List.{list_any}
+use Rattle.std.proofs.Common.{sym, ap, subst, ◌∙◌, arith, eqb-true}
+use Rattle.iox_store.specs.Stored.{Stored}
+use Rattle.iox_model.specs.Settings.{is_client}
+use Rattle.iox_hub_states.specs.Ends.{OfEachHandle}
+use Rattle.iox_hub_states.specs.Tables.{HandleState, HubTables, PortState, SlotState, port_in, slot_at, slots_of}
+use Rattle.iox_hub_loans.specs.Slots.{is_place}
+use Rattle.iox_hub_loans.proofs.Placed.{or_false}
+use Rattle.iox_hub.specs.Fits.{SuitsHandle, WordsFit, are_requests_in, count_in, is_full_loan, is_of_request, longest_in}
+use Rattle.iox_hub.specs.Lending.{with_message}
+use Rattle.iox_hub.specs.Words.{Carried, stored_in}
+use Rattle.iox_hub.proofs.LendingWords.{count_new, longest_new, requests_new, stored_else, stored_new}
+
+-- it is of the same port, but for how many loans it made, and what comes to it
+pub record IsAsBefore (q p : PortState) : Type 0 where
+  pub role : q.role ≡ p.role
+  pub pool : q.pool ≡ p.pool
+  pub longest : q.longest ≡ p.longest
+  pub grows : q.grows ≡ p.grows
+
+-- each port that is found was there before
+abbrev pub PortsWereThere : List PortState → List PortState → Type 0
+PortsWereThere old new =
+    (n : ℕ) (p : PortState) → port_in new n ≡ Some p → (q : PortState) × (port_in old n ≡ Some q) × IsAsBefore q p
+
+pub ports_stay : (ports : List PortState) → PortsWereThere ports ports
+ports_stay ports n p at = (p, at, record { role = refl; pool = refl; longest = refl; grows = refl })
+
+module _ (words : List (Option Carried)) (pool k : ℕ) (z : Stored) where
+  abbrev new : List (Option Carried)
+  new = with_message words pool k z
+
+  -- ---- handles
+
+  pub suits_else : (h : HandleState) → is_place pool k h.pool h.slot ≡ false → SuitsHandle words h → SuitsHandle new h
+  suits_else h other is = record {
+    kind = requests_new words pool k z h.pool ∙ is.kind;
+    full = λ e. subst (λ (s : Stored). s.filled ≡ s.elements) (sym (stored_else words pool k z h.pool h.slot other)) (is.full e);
+  }
+
+  -- whatever is filled, in the handle's own slot or in another
+  pub suits_full : k < count_in words pool → z.filled ≡ z.elements → (h : HandleState) → are_requests_in words h.pool ≡ is_of_request h.kind
+      → (is_full_loan h.kind ≡ true → (stored_in words h.pool h.slot).filled ≡ (stored_in words h.pool h.slot).elements) → SuitsHandle new h
+  suits_full low all h kind full = record {
+    kind = requests_new words pool k z h.pool ∙ kind;
+    full = λ e. step (h.pool == pool) (h.slot == k) refl refl (full e);
+  }
+    where
+      step : (a b : Bool) → (h.pool == pool) ≡ a → (h.slot == k) ≡ b → (stored_in words h.pool h.slot).filled ≡ (stored_in words h.pool h.slot).elements
+          → (stored_in new h.pool h.slot).filled ≡ (stored_in new h.pool h.slot).elements
+      step true true ea eb old =
+          subst (λ (s : Stored). s.filled ≡ s.elements)
+          (sym (ap (stored_in new h.pool) (eqb-true h.slot k eb) ∙ ap (λ q. stored_in new q k) (eqb-true h.pool pool ea) ∙ stored_new words pool k z low)) all
+      step true false ea eb old =
+          subst (λ (s : Stored). s.filled ≡ s.elements)
+          (sym (stored_else words pool k z h.pool h.slot (ap (λ a. a && (h.slot == k)) ea ∙ eb))) old
+      step false b ea eb old =
+          subst (λ (s : Stored). s.filled ≡ s.elements)
+          (sym (stored_else words pool k z h.pool h.slot (ap (λ a. a && (h.slot == k)) ea))) old
+
+  -- where nobody has the slot, each handle has what it had
+  pub each_suits_else : (hs : List HandleState) → list_any (λ h. is_place pool k h.pool h.slot) hs ≡ false → OfEachHandle (SuitsHandle words) hs
+      → OfEachHandle (SuitsHandle new) hs
+  each_suits_else [] none all = tt
+  each_suits_else (h ∷ hs) none all =
+      let both = or_false (is_place pool k h.pool h.slot) (list_any (λ h. is_place pool k h.pool h.slot) hs) none in
+      (suits_else h both.0 all.0, each_suits_else hs both.1 all.1)
+
+  -- where all is filled, each handle still has what it asks
+  pub each_suits_full : k < count_in words pool → z.filled ≡ z.elements → (hs : List HandleState) → OfEachHandle (SuitsHandle words) hs
+      → OfEachHandle (SuitsHandle new) hs
+  each_suits_full low all [] each = tt
+  each_suits_full low all (h ∷ hs) each = (suits_full low all h each.0.kind each.0.full, each_suits_full low all hs each.1)
+
+  -- ---- all
+
+  module _ (t t' : HubTables) (fit : WordsFit words t) (low : k < count_in words pool) where
+    pub fits_message : ((place : ℕ) → length (slots_of t'.pools place) ≡ length (slots_of t.pools place))
+        → z.elements ≡ (slot_at t'.pools pool k).elements
+        → ((p j : ℕ) → is_place pool k p j ≡ false → (slot_at t'.pools p j).elements ≡ (slot_at t.pools p j).elements)
+        → PortsWereThere t.ports t'.ports → OfEachHandle (SuitsHandle new) t'.handles → WordsFit new t'
+    fits_message counts here others ports handles = record {
+      pools = λ place.
+          let fits = fit.pools place in
+          let same = count_new words pool k z place in
+          let count = counts place in omega (arith, fits, same, count);
+      elements = λ place j within. elements place j within (place == pool) (j == k) refl refl;
+      ports = λ n p at.
+          let q = ports n p at in
+          requests_new words pool k z p.pool ∙ ap (are_requests_in words) (sym q.2.pool) ∙ fit.ports n q.0 q.1 ∙ ap is_client q.2.role;
+      longest = λ n p at.
+          let q = ports n p at in
+          let below : q.0.longest ≤ longest_in words q.0.pool = fit.longest n q.0 q.1 in
+          let there : longest_in words q.0.pool ≡ longest_in words p.pool = ap (longest_in words) q.2.pool in
+          let same = longest_new words pool k z p.pool in
+          let length_is = q.2.longest in omega (arith, below, there, same, length_is);
+      none_grow = λ n p at. let q = ports n p at in sym q.2.grows ∙ fit.none_grow n q.0 q.1;
+      handles = handles;
+    }
+      where
+        old_elements : (place j : ℕ) → j < length (slots_of t'.pools place) → is_place pool k place j ≡ false
+            → (stored_in new place j).elements ≡ (slot_at t'.pools place j).elements
+        old_elements place j within other =
+            ap (λ (s : Stored). s.elements) (stored_else words pool k z place j other)
+            ∙ fit.elements place j (let count = counts place in omega (arith, within, count)) ∙ sym (others place j other)
+
+        elements : (place j : ℕ) → j < length (slots_of t'.pools place) → (a b : Bool) → (place == pool) ≡ a → (j == k) ≡ b
+            → (stored_in new place j).elements ≡ (slot_at t'.pools place j).elements
+        elements place j within true true ea eb =
+            ap (λ (s : Stored). s.elements)
+            (ap (stored_in new place) (eqb-true j k eb) ∙ ap (λ q. stored_in new q k) (eqb-true place pool ea) ∙ stored_new words pool k z low)
+            ∙ here
+            ∙ ap (λ (s : SlotState). s.elements) (sym (ap (slot_at t'.pools place) (eqb-true j k eb) ∙ ap (λ q. slot_at t'.pools q k) (eqb-true place pool ea)))
+        elements place j within true false ea eb = old_elements place j within (ap (λ a. a && (j == k)) ea ∙ eb)
+        elements place j within false b ea eb = old_elements place j within (ap (λ a. a && (j == k)) ea)

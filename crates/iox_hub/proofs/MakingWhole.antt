@@ -1,0 +1,194 @@
+-- The making of a port in a hub is one command of the machine, and leads to a hub.
+use Rattle.std.specs.Prelude.{◌≡◌, ℕ, Bool, true, false, not, if◌then◌else◌, ◌==◌, ◌^◌, nat_le, List, [], Option, Some, None, refl, unwrap_or}
+use Rattle.std.specs.Option.{option_map_or}
+use Rattle.std.proofs.Common.{sym, ap, subst, ◌∙◌}
+use Rattle.iox_types.specs.declared.identifiers.system_id.UniqueSystemId.{UniqueSystemId}
+use Rattle.iox_model.specs.declared.kind.Kind.{Kind}
+use Rattle.iox_model.specs.declared.kind.Role.{Role}
+use Rattle.iox_model.specs.declared.kind.Role.TheVariants.{Client, Server}
+use Rattle.iox_model.specs.declared.reply.Reply.TheVariants.{Refused}
+use Rattle.iox_model.specs.Commands.{Create}
+use Rattle.iox_model.specs.Makings.{IsHubCommand, allocation_of, port_reply}
+use Rattle.iox_model.specs.Settings.{is_static}
+use Rattle.iox_model.specs.Runs.{IsReachableState, OfHub}
+use Rattle.iox_weave_worlds.proofs.Inductions.{step_is_reached}
+use Rattle.iox_store.specs.Stored.{Stored, unlent}
+use Rattle.iox_hub_states.specs.States.{Given, limits_of, state_shown}
+use Rattle.iox_hub_states.specs.Tables.{HandleState, HubTables}
+use Rattle.iox_hub_states.specs.Wirings.{handle_in}
+use Rattle.iox_hub_books.proofs.Used.{handle_is}
+use Rattle.iox_hub_keeping.proofs.Ordered.{places_become_free}
+use Rattle.iox_slots.specs.Pools.{place_for_one}
+use Rattle.iox_hub_making.specs.FreePools.{OthersStay}
+use Rattle.iox_hub_making.specs.NewPorts.{given_made}
+use Rattle.iox_control.specs.Controls.{ControlState, IsControl}
+use Rattle.iox_control_making.specs.declared.asked.Asked.{Asked}
+use Rattle.iox_control_making.specs.declared.asked.NotMade.{NotMade}
+use Rattle.iox_control_making.specs.declared.asked.NotMade.TheVariants.{DataSegment}
+use Rattle.iox_control_making.specs.Making.{IsAsked, MakesWhole, RefusesWhole, port_asked, refusal_of, with_asked}
+use Rattle.iox_control_making.proofs.Told.{no_memory, refused_whole}
+use Rattle.iox_hub_books.specs.Hubs.{AreInOrder}
+use Rattle.iox_hub_loans.specs.Questions.{kind_in, kind_of_role}
+use Rattle.iox_hub.specs.declared.options.Options.{Options}
+use Rattle.iox_hub.specs.Fits.{WordsFit}
+use Rattle.iox_hub.specs.Hubs.{HasValue, HubState, IsHub, given_by, state_of_hub, with_control}
+use Rattle.iox_hub.specs.Making.{AreWordsPut, IsAllowed, LeavesMessages, allocation_in, options_of, words_made}
+use Rattle.iox_hub.specs.Reads.{message_in}
+use Rattle.iox_hub.specs.Words.{Carried, stored_in}
+use Rattle.iox_hub.proofs.MakingFits.{fits_made, free, made_is_value, pool_put, stored_else, values_stay}
+
+abbrev none : Option (List ℕ)
+none = None
+
+no_handler : (b : Bool) → (if b then none else none) ≡ none
+no_handler true = refl
+no_handler false = refl
+
+module _ (h : HubState) (hub : IsHub h) where
+  -- ---- no port is made
+
+  -- a hub with the same tables, and more room
+  pub hub_stays : (c : ControlState) → c.tables ≡ h.control.tables → IsControl c → IsHub (with_control h c)
+  hub_stays c same order = record {
+    control = order;
+    words = subst (λ (u : HubTables). WordsFit h.words u) (sym same) hub.words;
+    reached = (
+      hub.reached.0,
+      subst (λ (u : HubTables). IsReachableState (state_shown (given_by hub.reached.0 h) u)) (sym same) hub.reached.1,
+    );
+  }
+
+  -- ---- a port is made
+
+  module _ (node : ℕ) (role : Role) (id : UniqueSystemId) (asked : Asked) (o : Options) (words : List (Option Carried)) (c : ControlState)
+      (put : AreWordsPut h.words (place_for_one h.control.tables.pools) (words_made h role asked.size asked.longest) words)
+      (same : c.tables ≡ with_asked h.control.tables (port_asked h.control.tables node role id asked)) where
+    abbrev t : HubTables
+    t = h.control.tables
+
+    abbrev after : HubState
+    after = record h { control = c; words = words }
+
+    given_is : (x : Given) → given_made (given_by x h) (given_by x after) t.next_number None ≡ given_by x after
+    given_is x = λ i. record (given_by x after) { handler = λ q. no_handler (q == t.next_number) i }
+
+    others : (x : Given) → OthersStay (place_for_one t.pools) (given_by x h) t.pools (given_by x after) c.tables.pools
+    others x =
+        subst (λ (u : HubTables). OthersStay (place_for_one t.pools) (given_by x h) t.pools (given_by x after) u.pools) (sym same)
+        (record {
+          pools = (pool_put t node role id asked hub.control.order).others;
+          user = λ q k other. ap (λ (s : Stored). s.user) (sym (stored_else h.words (place_for_one t.pools) (words_made h role asked.size asked.longest) words put q k other));
+          payload = λ q k other. ap (λ (s : Stored). s.payload) (sym (stored_else h.words (place_for_one t.pools) (words_made h role asked.size asked.longest) words put q k other));
+          filled = λ q k other. ap (λ (s : Stored). s.filled) (sym (stored_else h.words (place_for_one t.pools) (words_made h role asked.size asked.longest) words put q k other));
+        })
+
+    pub whole_made : ((x : Given) → IsAsked (given_by x h) t role (options_of o) asked) → MakesWhole t node role id asked c.tables → (x : Given)
+        → IsHubCommand (state_of_hub x h) node (Create role id (options_of o)) (port_reply role t.next_number) (state_of_hub x after)
+    whole_made is made x =
+        subst (λ (y : Given). IsHubCommand (state_of_hub x h) node (Create role id (options_of o)) (port_reply role t.next_number) (state_shown y c.tables)) (given_is x)
+        (made (given_by x h) (given_by x after) (options_of o) (is x) (others x))
+
+    pub hub_made : ((x : Given) → IsAsked (given_by x h) t role (options_of o) asked) → MakesWhole t node role id asked c.tables → asked.grows ≡ false → IsControl c
+        → IsHub after
+    hub_made is made grows order = record {
+      control = order;
+      words = subst (λ (u : HubTables). WordsFit words u) (sym same) (fits_made t node role id asked hub.control.order h words hub.words grows put);
+      reached = (
+        hub.reached.0,
+        step_is_reached (state_of_hub hub.reached.0 h) (state_of_hub hub.reached.0 after) (OfHub node (Create role id (options_of o)) (port_reply role t.next_number))
+            hub.reached.1 (whole_made is made hub.reached.0),
+      );
+    }
+
+same_allocation : (x : Given) (u : HubTables) (role : Role) → allocation_of (limits_of x u) role ≡ allocation_in u.settings role
+same_allocation x u Client = refl
+same_allocation x u Server = refl
+
+-- ---- in code: a hub as it was met, and what its parts are now
+
+module _ (inside now : HubState) (view : inside ≡ now) (hub : IsHub inside) (node : ℕ) (role : Role) (id : UniqueSystemId) (asked : Asked) (o : Options)
+    (is : (x : Given) → IsAsked (given_by x now) now.control.tables role (options_of o) asked) where
+  abbrev old : HubTables
+  old = inside.control.tables
+
+  is_inside : (x : Given) → IsAsked (given_by x inside) old role (options_of o) asked
+  is_inside = subst (λ (k : HubState). (x : Given) → IsAsked (given_by x k) k.control.tables role (options_of o) asked) (sym view) is
+
+  -- a port that is made is allowed
+  pub allowed : asked.large ≡ false → asked.grows ≡ false → IsAllowed now role o
+  allowed small still = record {
+    small = λ x. sym (is x).large ∙ small;
+    still = ap (λ a. not (is_static (unwrap_or o.allocation a))) (sym (same_allocation (given_by hub.reached.0 now) now.control.tables role))
+        ∙ (is hub.reached.0).grows small ∙ still;
+  }
+
+  module _ (ws : List (Option Carried)) (kept : ws ≡ inside.words) where
+    pub whole_no_memory : nat_le (2 ^ 32) old.ports_made ≡ false → (x : Given)
+        → IsHubCommand (state_of_hub x now) node (Create role id (options_of o)) (Refused (refusal_of role DataSegment)) (state_of_hub x (record inside { words = ws }))
+    whole_no_memory few x =
+        subst (λ (k : HubState). IsHubCommand (state_of_hub x k) node (Create role id (options_of o)) (Refused (refusal_of role DataSegment)) (state_of_hub x (record inside { words = ws }))) view
+        (subst (λ us. IsHubCommand (state_of_hub x inside) node (Create role id (options_of o)) (Refused (refusal_of role DataSegment)) (state_of_hub x (record inside { words = us }))) (sym kept)
+        (refused_whole (given_by x inside) old role (options_of o) asked (is_inside x) old node id DataSegment refl (false, no_memory old role asked few)))
+
+    pub whole_not_made : (c : ControlState) (r : NotMade) → RefusesWhole old node role id asked r c.tables → (x : Given)
+        → IsHubCommand (state_of_hub x now) node (Create role id (options_of o)) (Refused (refusal_of role r)) (state_of_hub x (record inside { control = c; words = ws }))
+    whole_not_made c r refuses x =
+        subst (λ (k : HubState). IsHubCommand (state_of_hub x k) node (Create role id (options_of o)) (Refused (refusal_of role r)) (state_of_hub x (record inside { control = c; words = ws }))) view
+        (subst (λ us. IsHubCommand (state_of_hub x inside) node (Create role id (options_of o)) (Refused (refusal_of role r)) (state_of_hub x (record inside { control = c; words = us }))) (sym kept)
+        (refuses (given_by x inside) (options_of o) (is_inside x)))
+
+    pub hub_not_made : (c : ControlState) → c.tables ≡ old → IsControl c → IsHub (record inside { control = c; words = ws })
+    hub_not_made c same order =
+        subst (λ us. IsHub (record inside { control = c; words = us })) (sym kept) (hub_stays inside hub c same order)
+
+    module _ (place : ℕ) (place_is : place ≡ place_for_one old.pools) (k : Carried) (new : k ≡ words_made now role asked.size asked.longest)
+        (words : List (Option Carried)) (put : AreWordsPut ws place k words) (c : ControlState)
+        (same : c.tables ≡ with_asked old (port_asked old node role id asked)) where
+      put_inside : AreWordsPut inside.words (place_for_one old.pools) (words_made inside role asked.size asked.longest) words
+      put_inside =
+          subst (λ us. AreWordsPut us (place_for_one old.pools) (words_made inside role asked.size asked.longest) words) kept
+          (subst (λ i. AreWordsPut ws i (words_made inside role asked.size asked.longest) words) place_is
+          (subst (λ w. AreWordsPut ws place w words) (new ∙ ap (λ (h : HubState). words_made h role asked.size asked.longest) (sym view)) put))
+
+      pub hub_with : MakesWhole old node role id asked c.tables → asked.grows ≡ false → IsControl c → IsHub (record inside { control = c; words = words })
+      hub_with made grows order = hub_made inside hub node role id asked o words c put_inside same is_inside made grows order
+
+      pub whole_with : MakesWhole old node role id asked c.tables → (n : ℕ) → n ≡ old.next_number → (x : Given)
+          → IsHubCommand (state_of_hub x now) node (Create role id (options_of o)) (port_reply role n) (state_of_hub x (record inside { control = c; words = words }))
+      whole_with made n number x =
+          subst (λ (h : HubState). IsHubCommand (state_of_hub x h) node (Create role id (options_of o)) (port_reply role n) (state_of_hub x (record inside { control = c; words = words }))) view
+          (subst (λ m. IsHubCommand (state_of_hub x inside) node (Create role id (options_of o)) (port_reply role m) (state_of_hub x (record inside { control = c; words = words }))) (sym number)
+          (whole_made inside hub node role id asked o words c put_inside same is_inside made x))
+
+      pub has_with : (n : ℕ) → n ≡ old.next_number → kind_in c.tables node n ≡ Some (kind_of_role role)
+      has_with n number =
+          ap (λ (u : HubTables). kind_in u node n) same
+          ∙ ap (λ m. kind_in (with_asked old (port_asked old node role id asked)) node m) number
+          ∙ made_is_value old node role id asked hub.control.order
+
+      pub keeps_with : IsControl c → (other n : ℕ) (kind : Kind) → HasValue now other n kind → kind_in c.tables other n ≡ Some kind
+      keeps_with order other n kind has =
+          ap (λ (u : HubTables). kind_in u other n) same
+          ∙ values_stay old node role id asked hub.control.order (subst (λ (u : HubTables). AreInOrder u) same order.order) other n kind
+          (subst (λ (h : HubState). HasValue h other n kind) (sym view) has)
+
+      calls_with : c.tables.calls ≡ now.control.tables.calls
+      calls_with = ap (λ (u : HubTables). u.calls) same ∙ ap (λ (h : HubState). h.control.tables.calls) view
+
+      messages_with : (other n : ℕ) → message_in (record inside { control = c; words = words }) other n ≡ message_in now other n
+      messages_with other n =
+          ap (λ (u : HubTables). option_map_or (λ (j : HandleState). stored_in words j.pool j.slot) (handle_in u.handles other n) (unlent 0 [])) same
+          ∙ step (handle_in old.handles other n) refl
+          ∙ ap (λ (h : HubState). message_in h other n) view
+        where
+          step : (j : Option HandleState) → handle_in old.handles other n ≡ j
+              → option_map_or (λ (i : HandleState). stored_in words i.pool i.slot) j (unlent 0 []) ≡ option_map_or (λ (i : HandleState). stored_in inside.words i.pool i.slot) (handle_in old.handles other n) (unlent 0 [])
+          step (Some j) at =
+              stored_else inside.words (place_for_one old.pools) (words_made inside role asked.size asked.longest) words put_inside j.pool j.slot
+              (handle_is (λ (i : HandleState). (i.pool == place_for_one old.pools) ≡ false) old.handles other n j
+              ((places_become_free old (place_for_one old.pools) hub.control.order).nobody (free old node role id asked hub.control.order)).handles at)
+              ∙ sym (ap (λ (o : Option HandleState). option_map_or (λ (i : HandleState). stored_in inside.words i.pool i.slot) o (unlent 0 [])) at)
+          step None at = sym (ap (λ (o : Option HandleState). option_map_or (λ (i : HandleState). stored_in inside.words i.pool i.slot) o (unlent 0 [])) at)
+
+      pub leaves_messages : LeavesMessages now (record inside { control = c; words = words })
+      leaves_messages = record { messages = messages_with; calls = calls_with }

@@ -1,0 +1,15 @@
+use Rattle.std.specs.Prelude.{Some, option_map, refl}
+use Rattle.std.proofs.Common.{ap, ◌∙◌}
+use Rattle.std.specs.Prelude.{false, flat_map}
+use Rattle.iox_store.specs.Stored.{filled_with}
+use Rattle.iox_hub.specs.Words.{carried}
+use Rattle.iox_hub.proofs.LendingPut.{put_is, there_is}
+use Rattle.iox_hub.proofs.contents.write_response_in.Goals as goal
+
+pub returns : goal.returns
+returns g c =
+    put_is c.args.words.now.items _ c.args.pool c.args.slot false c.in-Some-Responses.store _
+    (λ s. filled_with s (flat_map g.PE.Words.words c.args.values.now))
+    (there_is c.args.words.now.items c.args.pool c.args.slot c.index_mut.result.now c.requires.there c.index_mut.ensures.value
+    ∙ ap (option_map carried) (c.in-Some-Responses.is ∙ ap (λ p. Some p) c.in-Some-Responses.field-0-is))
+    refl c.write_from_slice.ensures

@@ -1,0 +1,37 @@
+use Rattle.std.proofs.Common.{ap, sym, ◌∙◌}
+use Rattle.iox_model.specs.declared.call.Call.TheVariants.{Release}
+use Rattle.iox_model.specs.declared.reply.Reply.TheVariants.{Done}
+use Rattle.iox_control.specs.Entries.{handle_state}
+use Rattle.iox_hub.specs.Hubs.{HubState}
+use Rattle.iox_hub.proofs.GoesOn.{hub_goes_on, whole_of_hub}
+use Rattle.iox_hub.proofs.Named.{found_is_handle}
+use Rattle.iox_hub.proofs.ReleasingFits.{fits_released}
+use Rattle.iox_hub.proofs.SendingHubs.{port_is_there, released_is_gone, whole_then}
+use Rattle.iox_hub.proofs.hub.Hub.release.Goals as goal
+
+pub unreachable-requires-in_default-find : goal.unreachable-requires-in_default-find
+unreachable-requires-in_default-find g c =
+    port_is_there c.self.inside.control.tables c.self.invariant.control.order c.args.node c.args.number (handle_state c.in-Some.entry) c.in-Some.ensures
+    c.ports.result.now.ports c.ports.ensures.ports c.find.result c.find.ensures c.in_default-find.is
+
+pub invariant_of-self : goal.invariant_of-self
+invariant_of-self g c =
+    hub_goes_on _ c.release.new.control c.args.node (Release c.args.number) Done c.self.invariant c.release.ensures.order
+    (fits_released _ c.self.inside.control.tables c.release.new.control.tables c.self.invariant.words c.release.ensures.pools (handle_state c.in-Some.entry)
+    (c.release.ensures.left (handle_state c.in-Some.entry) (sym c.in-Some.ensures)))
+    c.release.ensures.whole
+
+pub returns-clause-whole : goal.returns-clause-whole
+returns-clause-whole g c =
+    rw (← c.self.view_is)
+    (λ x. whole_then c.self.invariant c.release.new.control c.drop_words-2.new.self c.args.node (Release c.args.number) Done x
+    (whole_of_hub c.self.invariant c.release.new.control c.args.node (Release c.args.number) Done c.release.ensures.whole x)
+    (c.drop_words.ensures.shown x ∙ c.drop_words-2.ensures.shown x))
+
+pub returns-clause-gone : goal.returns-clause-gone
+returns-clause-gone g c =
+    released_is_gone c.self.inside.control.tables c.release.new.control.tables c.args.node c.args.number (handle_state c.in-Some.entry)
+    (found_is_handle c.self.inside.control.tables c.self.invariant.control.order c.args.node c.args.number (handle_state c.in-Some.entry) (sym c.in-Some.ensures))
+    c.drop_words-2.new.self
+    (ap (λ (d : HubState). d.control.tables) c.drop_words-2.ensures.left ∙ ap (λ (d : HubState). d.control.tables) c.drop_words.ensures.left)
+    (c.release.ensures.left (handle_state c.in-Some.entry) (sym c.in-Some.ensures))

@@ -1,0 +1,58 @@
+use Rattle.std.proofs.Common.{ap, sym, ◌∙◌}
+use Rattle.std.proofs.lemmas.Option.{same_Some}
+use Rattle.iox_model.specs.declared.call.Call.TheVariants.{Send}
+use Rattle.iox_model.specs.Settings.{fails_by_strategy}
+use Rattle.iox_hub_states.specs.Tables.{HandleState}
+use Rattle.iox_control.specs.Entries.{handle_state}
+use Rattle.iox_control_requests.specs.Sendings.{reply_of_send, request_outcome}
+use Rattle.iox_hub.specs.Hubs.{HubState}
+use Rattle.iox_hub.proofs.Named.{found_is_handle}
+use Rattle.iox_hub.proofs.SendingFits.{fits_request_sent}
+use Rattle.iox_hub.proofs.SendingHubs.{fails_as_told, given_of, hub_goes_on_as, loan_is_request, port_is_there, request_of_hub, sent_is_pending, strategy_told, whole_then}
+use Rattle.iox_hub.proofs.hub.Hub.send_request.Goals as goal
+
+pub unreachable-requires-in_default-find : goal.unreachable-requires-in_default-find
+unreachable-requires-in_default-find g c =
+    port_is_there c.self.inside.control.tables c.self.invariant.control.order c.args.node c.args.number (handle_state c.in-Some.entry) c.in-Some.ensures
+    c.ports.result.now.ports c.ports.ensures.ports c.find.result c.find.ensures c.in_default-find.is
+
+pub send_request-requested-requires-clause-request : goal.send_request-requested-requires-clause-request
+send_request-requested-requires-clause-request g c = request_of_hub c.self.invariant c.args.self.now c.self.view_is c.args.node c.args.number c.requires.has
+
+pub invariant_of-self : goal.invariant_of-self
+invariant_of-self g c =
+    hub_goes_on_as _ c.send_request-requested.new.control c.args.node (Send c.args.number) (reply_of_send c.send_request-requested.result)
+    c.self.invariant c.send_request-requested.ensures.order
+    (fits_request_sent _ c.self.inside.control.tables c.send_request-requested.new.control.tables c.self.invariant.words c.send_request-requested.ensures.pools
+    c.args.node c.args.number (handle_state c.in-Some.entry) (sym c.in-Some.ensures)
+    (loan_is_request c.self.inside.control.tables c.args.node c.args.number (handle_state c.in-Some.entry)
+    (request_of_hub c.self.invariant c.args.self.now c.self.view_is c.args.node c.args.number c.requires.has) c.in-Some.ensures)
+    c.send_request-requested.result (c.send_request-requested.ensures.left (handle_state c.in-Some.entry) (sym c.in-Some.ensures)))
+    (λ x. c.send_request-requested.ensures.whole (handle_state c.in-Some.entry) (sym c.in-Some.ensures) (given_of c.self.invariant x)
+    (fails_as_told c.self.invariant x c.ports.result.now.ports c.ports.ensures.ports c.in-Some.entry.port c.find.result c.find.ensures c.in-Some-find.port c.in-Some-find.is))
+
+pub returns-clause-reply : goal.returns-clause-reply
+returns-clause-reply g c =
+    rw (← c.self.view_is)
+    (λ h there p at.
+    c.send_request-requested.ensures.reply h there
+    ∙ ap (λ s. request_outcome (λ w. fails_by_strategy s) c.self.inside.control.tables h)
+    (strategy_told c.self.invariant c.self.invariant.reached.0 c.ports.result.now.ports c.ports.ensures.ports c.in-Some.entry.port c.find.result c.find.ensures c.in-Some-find.port c.in-Some-find.is
+    p h.port (ap (λ (k : HandleState). k.port) (sym (same_Some (handle_state c.in-Some.entry) h (c.in-Some.ensures ∙ there)))) at))
+
+pub returns-clause-whole : goal.returns-clause-whole
+returns-clause-whole g c =
+    rw (← c.self.view_is)
+    (λ x. whole_then c.self.invariant c.send_request-requested.new.control c.drop_words.new.self c.args.node (Send c.args.number) (reply_of_send c.send_request-requested.result) x
+    (c.send_request-requested.ensures.whole (handle_state c.in-Some.entry) (sym c.in-Some.ensures) (given_of c.self.invariant x)
+    (fails_as_told c.self.invariant x c.ports.result.now.ports c.ports.ensures.ports c.in-Some.entry.port c.find.result c.find.ensures c.in-Some-find.port c.in-Some-find.is))
+    (c.drop_words.ensures.shown x))
+
+pub returns-clause-has : goal.returns-clause-has
+returns-clause-has g c =
+    sent_is_pending c.self.inside.control.tables c.send_request-requested.new.control.tables c.args.node c.args.number (handle_state c.in-Some.entry)
+    (found_is_handle c.self.inside.control.tables c.self.invariant.control.order c.args.node c.args.number (handle_state c.in-Some.entry) (sym c.in-Some.ensures))
+    (loan_is_request c.self.inside.control.tables c.args.node c.args.number (handle_state c.in-Some.entry)
+    (request_of_hub c.self.invariant c.args.self.now c.self.view_is c.args.node c.args.number c.requires.has) c.in-Some.ensures)
+    c.send_request-requested.ensures.order.order c.drop_words.new.self (ap (λ (d : HubState). d.control.tables) c.drop_words.ensures.left)
+    c.send_request-requested.result (c.send_request-requested.ensures.left (handle_state c.in-Some.entry) (sym c.in-Some.ensures))

@@ -1,0 +1,47 @@
+use Rattle.std.specs.Prelude.{refl}
+use Rattle.std.proofs.Common.{ap, sym, ◌∙◌}
+use Rattle.std.proofs.lemmas.Option.{same_Some}
+use Rattle.iox_model.specs.declared.call.Call.TheVariants.{Send}
+use Rattle.iox_hub_states.specs.Tables.{HandleState}
+use Rattle.iox_control.specs.Entries.{handle_state}
+use Rattle.iox_control_responses.specs.Responses.{reply_of_send, response_reply, way_to_client}
+use Rattle.iox_hub.specs.Hubs.{HubState}
+use Rattle.iox_hub.proofs.Named.{found_is_handle}
+use Rattle.iox_hub.proofs.SendingFits.{fits_response_sent}
+use Rattle.iox_hub.proofs.SendingHubs.{fails_by_its_strategy, given_of, hub_goes_on_as, response_is_gone, whole_then}
+use Rattle.iox_hub.proofs.hub.Hub.send_response.Goals as goal
+
+pub invariant_of-self : goal.invariant_of-self
+invariant_of-self g c =
+    hub_goes_on_as _ c.send_response-responded.new.control c.args.node (Send c.args.number) (reply_of_send c.send_response-responded.result)
+    c.self.invariant c.send_response-responded.ensures.order
+    (fits_response_sent _ c.self.inside.control.tables c.send_response-responded.new.control.tables c.self.invariant.words c.send_response-responded.ensures.pools
+    c.args.node c.args.number (handle_state c.in-Some.entry) c.fails_when_full-fails.result
+    (c.send_response-responded.ensures.left (handle_state c.in-Some.entry) (sym c.in-Some.ensures)))
+    (λ x. c.send_response-responded.ensures.whole (handle_state c.in-Some.entry) (sym c.in-Some.ensures) (given_of c.self.invariant x)
+    (c.fails_when_full-fails.ensures (given_of c.self.invariant x) refl (way_to_client c.self.inside.control.tables (handle_state c.in-Some.entry)) refl))
+
+pub returns-clause-reply : goal.returns-clause-reply
+returns-clause-reply g c =
+    rw (← c.self.view_is)
+    (λ h there p at.
+    c.send_response-responded.ensures.reply h there
+    ∙ ap (response_reply c.self.inside.control.tables h)
+    (sym (c.fails_when_full-fails.ensures (given_of c.self.invariant c.self.invariant.reached.0) refl (way_to_client c.self.inside.control.tables h)
+    (ap (λ (k : HandleState). k.port) (sym (same_Some (handle_state c.in-Some.entry) h (c.in-Some.ensures ∙ there)))))
+    ∙ fails_by_its_strategy c.self.invariant c.self.invariant.reached.0 p (way_to_client c.self.inside.control.tables h) at))
+
+pub returns-clause-whole : goal.returns-clause-whole
+returns-clause-whole g c =
+    rw (← c.self.view_is)
+    (λ x. whole_then c.self.invariant c.send_response-responded.new.control c.drop_words.new.self c.args.node (Send c.args.number) (reply_of_send c.send_response-responded.result) x
+    (c.send_response-responded.ensures.whole (handle_state c.in-Some.entry) (sym c.in-Some.ensures) (given_of c.self.invariant x)
+    (c.fails_when_full-fails.ensures (given_of c.self.invariant x) refl (way_to_client c.self.inside.control.tables (handle_state c.in-Some.entry)) refl))
+    (c.drop_words.ensures.shown x))
+
+pub returns-clause-gone : goal.returns-clause-gone
+returns-clause-gone g c =
+    response_is_gone c.self.inside.control.tables c.send_response-responded.new.control.tables c.args.node c.args.number (handle_state c.in-Some.entry)
+    (found_is_handle c.self.inside.control.tables c.self.invariant.control.order c.args.node c.args.number (handle_state c.in-Some.entry) (sym c.in-Some.ensures))
+    c.drop_words.new.self (ap (λ (d : HubState). d.control.tables) c.drop_words.ensures.left) c.fails_when_full-fails.result
+    (c.send_response-responded.ensures.left (handle_state c.in-Some.entry) (sym c.in-Some.ensures))

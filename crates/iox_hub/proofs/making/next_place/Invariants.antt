@@ -1,0 +1,7 @@
+use Rattle.std.proofs.Common.{◌≡◌, ℕ, ◌<◌, true, is_some}
+use Rattle.iox_hub_states.specs.Tables.{pool_at}
+use Rattle.iox_hub.proofs.making.next_place.Given as goal
+
+-- no place so far is vacant
+abbrev pub invariant-loop-place : goal.invariant-loop-place
+invariant-loop-place l = (k : ℕ) → k < l.place → is_some (pool_at l.pools k) ≡ true

@@ -1,0 +1,122 @@
+//! What is lent and written in the pools of a hub.
+ghost use Rattle.std.specs.Prelude.{◌≡◌, ◌<◌, ◌≤◌, Bool, IsSome, false, flat_map, length, true};
+ghost use Rattle.iox_store.specs.Stored.{filled_with, stored_at, with_stored};
+ghost use Rattle.iox_hub.specs.Fits.{are_requests_in, count_in, longest_in};
+ghost use Rattle.iox_hub.specs.Lending.{first_stored, with_message};
+ghost use Rattle.iox_hub.specs.Shapes.{shape_of};
+ghost use Rattle.iox_hub.specs.Words.{all_carried, stored_in};
+
+use crate::shape::MessageShape;
+use crate::words::PoolWords;
+use iox_store::Store;
+use iox_words::Words;
+
+/// Lends the message in that slot for so many elements: unfilled, or each filled with its default.
+fn lend_in<E: Words, H: Words>(
+    store: &mut Store<E, H>,
+    slot: usize,
+    elements: usize,
+    uninit: bool,
+    shape: &MessageShape<E, H>,
+)
+    requires there { slot < length store.old.messages }
+    requires room { elements ≤ store.old.longest }
+    requires default { uninit ≡ false → IsSome shape.now.default }
+    ensures { (many : Bool) → store.new ≡ with_stored store.old slot
+        (first_stored (shape_of many E.WORDS E.words H.words shape.now) uninit elements
+        (stored_at store.old slot)) }
+{
+    let _room = store.room(slot);
+    if uninit {
+        store.lend_uninit(slot, elements, shape.user_header);
+        return;
+    }
+    let Some(value) = shape.default else {
+        unreachable!();
+    };
+    store.lend(slot, elements, shape.user_header, value);
+}
+
+/// Lends the request in that slot of the pool in this place.
+pub(crate) fn lend_request_in<QE: Words, QH: Words, PE: Words, PH: Words>(
+    words: &mut Vec<Option<PoolWords<QE, QH, PE, PH>>>,
+    pool: usize,
+    slot: usize,
+    elements: usize,
+    uninit: bool,
+    shape: &MessageShape<QE, QH>,
+)
+    requires requests { are_requests_in (all_carried words.old.items) pool ≡ true }
+    requires there { slot < count_in (all_carried words.old.items) pool }
+    requires room { elements ≤ longest_in (all_carried words.old.items) pool }
+    requires default { uninit ≡ false → IsSome shape.now.default }
+    ensures { (many : Bool) → all_carried words.new.items ≡ with_message (all_carried words.old.items) pool slot
+        (first_stored (shape_of many QE.WORDS QE.words QH.words shape.now) uninit elements
+        (stored_in (all_carried words.old.items) pool slot)) }
+{
+    match &mut words[pool] {
+        Some(PoolWords::Requests(store)) => lend_in(store, slot, elements, uninit, shape),
+        _ => unreachable!(),
+    }
+}
+
+/// Lends the response in that slot of the pool in this place.
+pub(crate) fn lend_response_in<QE: Words, QH: Words, PE: Words, PH: Words>(
+    words: &mut Vec<Option<PoolWords<QE, QH, PE, PH>>>,
+    pool: usize,
+    slot: usize,
+    elements: usize,
+    uninit: bool,
+    shape: &MessageShape<PE, PH>,
+)
+    requires responses { are_requests_in (all_carried words.old.items) pool ≡ false }
+    requires there { slot < count_in (all_carried words.old.items) pool }
+    requires room { elements ≤ longest_in (all_carried words.old.items) pool }
+    requires default { uninit ≡ false → IsSome shape.now.default }
+    ensures { (many : Bool) → all_carried words.new.items ≡ with_message (all_carried words.old.items) pool slot
+        (first_stored (shape_of many PE.WORDS PE.words PH.words shape.now) uninit elements
+        (stored_in (all_carried words.old.items) pool slot)) }
+{
+    match &mut words[pool] {
+        Some(PoolWords::Responses(store)) => lend_in(store, slot, elements, uninit, shape),
+        _ => unreachable!(),
+    }
+}
+
+/// Fills the request in that slot with copies of these elements.
+pub(crate) fn write_request_in<QE: Words, QH: Words, PE: Words, PH: Words>(
+    words: &mut Vec<Option<PoolWords<QE, QH, PE, PH>>>,
+    pool: usize,
+    slot: usize,
+    values: &[QE],
+)
+    requires requests { are_requests_in (all_carried words.old.items) pool ≡ true }
+    requires there { slot < count_in (all_carried words.old.items) pool }
+    requires equal { length values.now ≡ (stored_in (all_carried words.old.items) pool slot).elements }
+    ensures { all_carried words.new.items ≡ with_message (all_carried words.old.items) pool slot
+        (filled_with (stored_in (all_carried words.old.items) pool slot) (flat_map QE.words values.now)) }
+{
+    match &mut words[pool] {
+        Some(PoolWords::Requests(store)) => store.write_from_slice(slot, values),
+        _ => unreachable!(),
+    }
+}
+
+/// Fills the response in that slot with copies of these elements.
+pub(crate) fn write_response_in<QE: Words, QH: Words, PE: Words, PH: Words>(
+    words: &mut Vec<Option<PoolWords<QE, QH, PE, PH>>>,
+    pool: usize,
+    slot: usize,
+    values: &[PE],
+)
+    requires responses { are_requests_in (all_carried words.old.items) pool ≡ false }
+    requires there { slot < count_in (all_carried words.old.items) pool }
+    requires equal { length values.now ≡ (stored_in (all_carried words.old.items) pool slot).elements }
+    ensures { all_carried words.new.items ≡ with_message (all_carried words.old.items) pool slot
+        (filled_with (stored_in (all_carried words.old.items) pool slot) (flat_map PE.words values.now)) }
+{
+    match &mut words[pool] {
+        Some(PoolWords::Responses(store)) => store.write_from_slice(slot, values),
+        _ => unreachable!(),
+    }
+}

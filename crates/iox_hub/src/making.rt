@@ -1,0 +1,164 @@
+//! Ports are made.
+ghost use Rattle.std.specs.Prelude.{ℕ, ◌≡◌, ◌<◌, ◌≤◌, ◌^◌, IfOk, IfSome, IsErr, OnErr, OnOk, true, vec_capacity};
+ghost use Rattle.iox_model.specs.declared.kind.Kind.{Kind};
+ghost use Rattle.iox_hub_states.specs.States.{Given};
+ghost use Rattle.iox_hub_loans.specs.Questions.{kind_of_role};
+ghost use Rattle.iox_slots.specs.Pools.{place_for_one};
+ghost use Rattle.iox_control_making.specs.Making.{IsAsked};
+ghost use Rattle.iox_hub.specs.Hubs.{HasValue, given_by};
+ghost use Rattle.iox_hub.specs.Making.{AreWordsPut, IsAllowed, IsFormOf, IsWholeMaking, LeavesMessages, StaysAs};
+ghost use Rattle.iox_hub.specs.Making.{options_of, shape_in, words_made};
+ghost use Rattle.iox_hub.specs.Words.{all_carried, carried};
+
+use crate::hub::Hub;
+use crate::options::Options;
+use crate::pools::{Form, asked_of};
+use crate::words::PoolWords;
+use iox_control_making::{Asked, NotMade, make_port};
+use iox_model::kind::Role;
+use iox_slots::Pools;
+use iox_store::{Payload, Store};
+use iox_types::identifiers::UniqueSystemId;
+use iox_words::Words;
+use std::alloc::{AllocError, Global};
+
+/// Where the next pool will be: the first vacant place, or the one behind the last.
+fn next_place(pools: &Pools) -> Option<usize>
+    ensures { IfSome result (λ place. place ≡ place_for_one pools.now) }
+{
+    for place in 0..usize::MAX {
+        if pools.ids(place).is_none() {
+            return Some(place);
+        }
+    }
+    None
+}
+
+/// Makes room for words in this place. The words that there are stay.
+fn make_room<QE: Words, QH: Words, PE: Words, PH: Words>(
+    words: &mut Vec<Option<PoolWords<QE, QH, PE, PH>>>,
+    place: usize,
+) -> Result<(), AllocError>
+    ensures room { OnOk result (place < vec_capacity words.new) }
+    ensures unchanged { words.new.items ≡ words.old.items }
+{
+    let Some(more) = place.saturating_sub(words.len()).checked_add(1) else {
+        return Err(AllocError);
+    };
+    words.reserve(more)
+}
+
+/// Puts words in this place, for which there is room.
+fn put<QE: Words, QH: Words, PE: Words, PH: Words>(
+    words: &mut Vec<Option<PoolWords<QE, QH, PE, PH>>>,
+    place: usize,
+    new: PoolWords<QE, QH, PE, PH>,
+)
+    requires room { place < vec_capacity words.old }
+    ensures { AreWordsPut (all_carried words.old.items) place (carried new)
+        (all_carried words.new.items) }
+{
+    while words.len() <= place {
+        words.push_reserved(None);
+    }
+    words[place] = Some(new);
+}
+
+impl<Q: Payload, QH: Words, P: Payload, PH: Words> Hub<Q, QH, P, PH> {
+    /// What the size of a port of that role depends on.
+    fn form(&self, role: Role) -> Form
+        ensures { IsFormOf result (shape_in self.now role) }
+    {
+        match role {
+            Role::Client => Form {
+                many: Q::MANY,
+                header: self.request.header_part,
+                user: self.request.user_part,
+                element: self.request.element_part,
+            },
+            Role::Server => Form {
+                many: P::MANY,
+                header: self.response.header_part,
+                user: self.response.user_part,
+                element: self.response.element_part,
+            },
+        }
+    }
+
+    /// What the options ask for.
+    fn asked(&self, role: Role, options: Options) -> Asked
+        ensures { (x : Given) → IsAsked (given_by x self.now) self.now.control.tables role
+            (options_of options) result }
+    {
+        asked_of(self.control.settings(), self.form(role), role, options)
+    }
+
+    /// The words of a new port of that role, with so many messages, each of so many elements.
+    fn words_for(
+        &self,
+        alloc: Global,
+        role: Role,
+        size: usize,
+        longest: usize,
+    ) -> Result<PoolWords<Q::Element, QH, P::Element, PH>, AllocError>
+        ensures { IfOk result (λ words. carried words ≡ words_made self.now role size longest) }
+    {
+        match role {
+            Role::Client => Ok(PoolWords::Requests(Store::new(
+                alloc,
+                size,
+                longest,
+                self.request.user_header,
+            )?)),
+            Role::Server => Ok(PoolWords::Responses(Store::new(
+                alloc,
+                size,
+                longest,
+                self.response.user_header,
+            )?)),
+        }
+    }
+
+    /// Makes a port of that role for the node with that id, and tells its number. Where it is
+    /// refused, all stays. A port whose messages would grow is refused: there is no memory for it.
+    pub fn make_port(
+        &mut self,
+        alloc: Global,
+        node: u64,
+        role: Role,
+        id: UniqueSystemId,
+        options: Options,
+    ) -> Result<u64, NotMade>
+        ensures number { IfOk result (λ n. n ≡ self.old.control.tables.next_number) }
+        ensures has { IfOk result (λ n. HasValue self.new node n (kind_of_role role)) }
+        ensures allowed { OnOk result (IsAllowed self.old role options) }
+        ensures whole { IsWholeMaking self.old node role id options result self.new }
+        ensures unchanged { OnErr result (StaysAs self.old self.new) }
+        ensures keeps { (other : ℕ) (n : ℕ) (kind : Kind) → HasValue self.old other n kind
+            → HasValue self.new other n kind }
+        ensures messages { LeavesMessages self.old self.new }
+    {
+        let asked = self.asked(role, options);
+        if self.control.ports_made() >= 1 << 32 {
+            return Err(NotMade::PortTag);
+        }
+        if asked.large || asked.grows {
+            return Err(NotMade::DataSegment);
+        }
+        let Some(place) = next_place(self.control.pools()) else {
+            return Err(NotMade::DataSegment);
+        };
+        let Ok(words) = self.words_for(alloc, role, asked.size, asked.longest as usize) else {
+            return Err(NotMade::DataSegment);
+        };
+        if make_room(&mut self.words, place).is_err() {
+            return Err(NotMade::DataSegment);
+        }
+        let number = match make_port(&mut self.control, alloc, node, role, id, asked) {
+            Ok(number) => number,
+            Err(reason) => return Err(reason),
+        };
+        put(&mut self.words, place, words);
+        Ok(number)
+    }
+}

@@ -1,0 +1,81 @@
+//! The releases of handles and of ports' own values.
+ghost use Rattle.std.specs.Prelude.{◌≡◌, None, Some, slice_set};
+ghost use Rattle.iox_model.specs.declared.call.Call.TheVariants.{Release};
+ghost use Rattle.iox_model.specs.declared.reply.Reply.TheVariants.{Done};
+ghost use Rattle.iox_model.specs.Names.{is_port};
+ghost use Rattle.iox_model.specs.WholeCalls.{IsWholeCall};
+ghost use Rattle.iox_hub_states.specs.States.{Given};
+ghost use Rattle.iox_hub_states.specs.Tables.{HandleState, PortState, port_in};
+ghost use Rattle.iox_hub_states.specs.Wirings.{handle_in};
+ghost use Rattle.iox_hub.specs.Hubs.{state_of_hub, with_control};
+ghost use Rattle.iox_hub.specs.Reads.{HasOf};
+ghost use Rattle.iox_hub.specs.Sending.{HasNothing, is_handle, with_words_left};
+
+use crate::hub::Hub;
+use crate::words::PoolWords;
+use iox_store::Payload;
+use iox_words::Words;
+
+/// The words in that place go.
+fn vacate<QE: Words, QH: Words, PE: Words, PH: Words>(
+    words: &mut Vec<Option<PoolWords<QE, QH, PE, PH>>>,
+    place: usize,
+)
+    ensures { words.new.items ≡ slice_set words.old.items place None }
+{
+    if place < words.len() {
+        words[place] = None;
+    }
+}
+
+impl<Q: Payload, QH: Words, P: Payload, PH: Words> Hub<Q, QH, P, PH> {
+    /// The words beside the pool in that place go, if that pool is gone.
+    pub(crate) fn drop_words(&mut self, place: usize)
+        ensures left { self.new ≡ with_words_left self.old place }
+        ensures shown { (x : Given) → state_of_hub x self.old ≡ state_of_hub x self.new }
+    {
+        match self.control.pools().ids(place) {
+            Some(_) => {}
+            None => vacate(&mut self.words, place),
+        }
+    }
+
+    /// Releases the node's handle of that number, which is looked for at the hint first. Its port
+    /// goes if nothing of it is left, and pools go of which nobody has a message, with their words.
+    pub fn release(&mut self, node: u64, number: u64, hint: usize)
+        requires has { HasOf is_handle self.old node number }
+        ensures left { (h : HandleState) → handle_in self.old.control.tables.handles node number ≡ Some h
+            → (p : PortState) → port_in self.old.control.tables.ports h.port ≡ Some p
+            → self.new ≡ with_words_left
+            (with_words_left (with_control self.old self.new.control) h.pool) p.pool }
+        ensures whole { (x : Given) → IsWholeCall (state_of_hub x self.old) node
+            (Release number) Done (state_of_hub x self.new) }
+        ensures gone { HasNothing self.new node number }
+    {
+        let Some(entry) = self.control.entry(node, number, hint) else {
+            unreachable!();
+        };
+        let Some(port) = self.control.ports().find(entry.port) else {
+            unreachable!();
+        };
+        iox_control_releasing::release(&mut self.control, node, number, hint);
+        self.drop_words(entry.pool);
+        self.drop_words(port.pool);
+    }
+
+    /// Releases the own value of that port, which goes if nothing of it is left.
+    pub fn release_port(&mut self, node: u64, port: u64)
+        requires has { HasOf is_port self.old node port }
+        ensures left { (p : PortState) → port_in self.old.control.tables.ports port ≡ Some p
+            → self.new ≡ with_words_left (with_control self.old self.new.control) p.pool }
+        ensures whole { (x : Given) → IsWholeCall (state_of_hub x self.old) node
+            (Release port) Done (state_of_hub x self.new) }
+        ensures gone { HasNothing self.new node port }
+    {
+        let Some(info) = self.control.ports().find(port) else {
+            unreachable!();
+        };
+        iox_control_releasing::release_port(&mut self.control, node, port);
+        self.drop_words(info.pool);
+    }
+}

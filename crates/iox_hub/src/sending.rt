@@ -1,0 +1,88 @@
+//! The sends of loans. A hub has no handler: where a receiver is full, the port's strategy says what
+//! comes of a send.
+ghost use Rattle.std.specs.Prelude.{◌≡◌, ◌<◌, ◌^◌, Some};
+ghost use Rattle.iox_model.specs.declared.call.Call.TheVariants.{Send};
+ghost use Rattle.iox_model.specs.declared.kind.Kind.TheVariants.{RequestMut, ResponseMut};
+ghost use Rattle.iox_model.specs.Settings.{fails_by_strategy};
+ghost use Rattle.iox_model.specs.WholeCalls.{IsWholeCall};
+ghost use Rattle.iox_hub_states.specs.States.{Given};
+ghost use Rattle.iox_hub_states.specs.Tables.{HandleState, PortState, port_in};
+ghost use Rattle.iox_hub_states.specs.Wirings.{handle_in};
+ghost use Rattle.iox_control_requests.specs.Sendings as requests;
+ghost use Rattle.iox_control_responses.specs.Responses as responses;
+ghost use Rattle.iox_hub.specs.Hubs.{HasValue, state_of_hub, with_control};
+ghost use Rattle.iox_hub.specs.Sending.{HasNothing, HasSent, with_words_left};
+
+use crate::hub::Hub;
+use iox_control_requests::{ByStrategy, Requested};
+use iox_control_responses::{Responded, fails_when_full};
+use iox_store::Payload;
+use iox_words::Words;
+
+impl<Q: Payload, QH: Words, P: Payload, PH: Words> Hub<Q, QH, P, PH> {
+    /// Sends a loaned response to its client, and ends its handle, which is looked for at the hint
+    /// first; the server goes with it, if nothing else of that is left.
+    pub fn send_response(&mut self, node: u64, number: u64, hint: usize) -> Responded
+        requires has { HasValue self.old node number ResponseMut }
+        requires calls { self.old.control.tables.calls < 2 ^ 56 }
+        ensures reply { (h : HandleState) → handle_in self.old.control.tables.handles node number ≡ Some h
+            → (p : PortState) → port_in self.old.control.tables.ports h.port ≡ Some p
+            → responses.reply_of_send result
+            ≡ responses.response_reply self.old.control.tables h (fails_by_strategy p.strategy) }
+        ensures left { (h : HandleState) → handle_in self.old.control.tables.handles node number ≡ Some h
+            → self.new ≡ with_words_left (with_control self.old self.new.control) h.pool }
+        ensures whole { (x : Given) → IsWholeCall (state_of_hub x self.old) node
+            (Send number) (responses.reply_of_send result) (state_of_hub x self.new) }
+        ensures gone { HasNothing self.new node number }
+    {
+        let Some(entry) = self.control.entry(node, number, hint) else {
+            unreachable!();
+        };
+        let fails = fails_when_full(&self.control, entry.port);
+        let responded = iox_control_responses::send_response(
+            &mut self.control,
+            node,
+            number,
+            hint,
+            fails,
+        );
+        self.drop_words(entry.pool);
+        responded
+    }
+
+    /// Sends a loaned request, whose handle is looked for at the hint first, to all servers, and says
+    /// to how many: then the handle is a pending response. Where the request is lost, the client goes
+    /// with it, if nothing else of that is left.
+    pub fn send_request(&mut self, node: u64, number: u64, hint: usize) -> Requested
+        requires has { HasValue self.old node number RequestMut }
+        requires calls { self.old.control.tables.calls < 2 ^ 56 }
+        ensures reply { (h : HandleState) → handle_in self.old.control.tables.handles node number ≡ Some h
+            → (p : PortState) → port_in self.old.control.tables.ports h.port ≡ Some p
+            → result ≡ requests.request_outcome (λ w. fails_by_strategy p.strategy)
+            self.old.control.tables h }
+        ensures left { (h : HandleState) → handle_in self.old.control.tables.handles node number ≡ Some h
+            → self.new ≡ with_words_left (with_control self.old self.new.control) h.pool }
+        ensures whole { (x : Given) → IsWholeCall (state_of_hub x self.old) node
+            (Send number) (requests.reply_of_send result) (state_of_hub x self.new) }
+        ensures has { HasSent self.new node number result }
+    {
+        let Some(entry) = self.control.entry(node, number, hint) else {
+            unreachable!();
+        };
+        let Some(port) = self.control.ports().find(entry.port) else {
+            unreachable!();
+        };
+        let by = ByStrategy {
+            strategy: port.strategy,
+        };
+        let requested = iox_control_requests::send_request(
+            &mut self.control,
+            node,
+            number,
+            hint,
+            &by,
+        );
+        self.drop_words(entry.pool);
+        requested
+    }
+}

@@ -1,0 +1,98 @@
+//! Callers that make ports, proved from the clauses alone.
+ghost use Rattle.std.specs.Prelude.{◌≡◌, ◌<◌, ◌^◌, IfOk, OnErr, true};
+ghost use Rattle.iox_model.specs.declared.kind.Kind.TheVariants.{Client, Server};
+ghost use Rattle.iox_model.specs.declared.kind.Role.TheVariants as roles;
+ghost use Rattle.iox_hub.specs.Hubs.{HasValue, IsReached};
+ghost use Rattle.iox_hub.specs.Making.{StaysAs, would_grow};
+
+use crate::{Hub, Options};
+use iox_control::Received;
+use iox_control_making::NotMade;
+use iox_model::kind::{Kind, Role};
+use iox_store::{Many, One};
+use iox_types::identifiers::UniqueSystemId;
+use std::alloc::Global;
+
+/// A node that has a client makes a server, and has both.
+pub fn makes_server_beside(
+    hub: &mut Hub<Many<u64>, u32, One<u64>, ()>,
+    alloc: Global,
+    node: u64,
+    client: u64,
+    id: UniqueSystemId,
+    options: Options,
+) -> Result<u64, NotMade>
+    requires client { HasValue hub.old node client Client }
+    ensures client { HasValue hub.new node client Client }
+    ensures server { IfOk result (λ server. HasValue hub.new node server Server) }
+    ensures reached { IsReached hub.new }
+{
+    let server = hub.make_port(alloc, node, Role::Server, id, options);
+    hub.calls();
+    server
+}
+
+/// A node makes a client and then a server, and has both.
+pub fn makes_both(
+    hub: &mut Hub<Many<u64>, u32, One<u64>, ()>,
+    alloc: Global,
+    node: u64,
+    id: UniqueSystemId,
+    options: Options,
+) -> Result<(u64, u64), NotMade>
+    ensures client { IfOk result (λ both. HasValue hub.new node both.0 Client) }
+    ensures server { IfOk result (λ both. HasValue hub.new node both.1 Server) }
+    ensures reached { IsReached hub.new }
+{
+    let client = match hub.make_port(alloc, node, Role::Client, id, options) {
+        Ok(number) => number,
+        Err(reason) => {
+            hub.calls();
+            return Err(reason);
+        }
+    };
+    match makes_server_beside(hub, alloc, node, client, id, options) {
+        Ok(server) => Ok((client, server)),
+        Err(reason) => Err(reason),
+    }
+}
+
+/// A node receives with a server that it has just made.
+pub fn receives_with_a_new_server(
+    hub: &mut Hub<Many<u64>, u32, One<u64>, ()>,
+    alloc: Global,
+    node: u64,
+    id: UniqueSystemId,
+    options: Options,
+) -> Result<Received, NotMade>
+    ensures { OnErr result (StaysAs hub.old hub.new) }
+{
+    match hub.make_port(alloc, node, Role::Server, id, options) {
+        Ok(server) => {
+            if hub.calls() < 1 << 56 && hub.has(node, server, Kind::Server, 0) {
+                return Ok(hub.receive_request(node, server));
+            }
+            Ok(Received::Nothing)
+        }
+        Err(reason) => Err(reason),
+    }
+}
+
+/// A client whose messages would grow is not made, and all stays.
+pub fn makes_none_that_grows(
+    hub: &mut Hub<Many<u64>, u32, One<u64>, ()>,
+    alloc: Global,
+    node: u64,
+    id: UniqueSystemId,
+    options: Options,
+)
+    requires { would_grow hub.old roles.Client options ≡ true }
+    ensures { StaysAs hub.old hub.new }
+{
+    if hub
+        .make_port(alloc, node, Role::Client, id, options)
+        .is_ok()
+    {
+        unreachable!();
+    }
+}

@@ -1,0 +1,82 @@
+//! Writes to loans.
+ghost use Rattle.std.specs.Prelude.{◌≡◌, flat_map, length};
+ghost use Rattle.iox_model.specs.declared.call.Call.TheVariants.{Write};
+ghost use Rattle.iox_model.specs.declared.kind.Kind.TheVariants.{RequestMut, ResponseMut};
+ghost use Rattle.iox_model.specs.declared.kind.Role.TheVariants as roles;
+ghost use Rattle.iox_model.specs.Handles.{is_request_loan, is_response_loan};
+ghost use Rattle.iox_model.specs.WholeCalls.{IsWholeCall};
+ghost use Rattle.iox_hub_states.specs.States.{Given};
+ghost use Rattle.iox_control_lending.specs.Fills.{reply_of_write};
+ghost use Rattle.iox_hub.specs.Hubs.{state_of_hub};
+ghost use Rattle.iox_hub.specs.Lending.{HasWritten, LeavesWritten, payload_of};
+ghost use Rattle.iox_hub.specs.Reads.{HasOf};
+
+use crate::contents::{write_request_in, write_response_in};
+use crate::hub::Hub;
+use iox_control_lending::{Written, write};
+use iox_store::Payload;
+use iox_words::Words;
+
+impl<Q: Payload, QH: Words, P: Payload, PH: Words> Hub<Q, QH, P, PH> {
+    /// Fills a loaned request with copies of these elements, whatever was filled. Where they are not
+    /// as many as the loan has, nothing changes. Its handle is looked for at the hint first.
+    pub fn write_request(
+        &mut self,
+        node: u64,
+        number: u64,
+        hint: usize,
+        values: &[Q::Element],
+    ) -> Written
+        requires has { HasOf is_request_loan self.old node number }
+        ensures left { LeavesWritten self.old (flat_map Q.Element.words values.now) result self.new }
+        ensures whole { (x : Given) → IsWholeCall (state_of_hub x self.old) node
+            (Write number (payload_of roles.Client (length values.now)
+            (flat_map Q.Element.words values.now)))
+            (reply_of_write result) (state_of_hub x self.new) }
+        ensures has { HasWritten self.old node number RequestMut (length values.now)
+            (flat_map Q.Element.words values.now) result self.new }
+    {
+        let written = write(
+            &mut self.control,
+            node,
+            number,
+            hint,
+            Some(values.len() as u64),
+        );
+        if let Written::Done(place) = written {
+            write_request_in(&mut self.words, place.pool, place.slot as usize, values);
+        }
+        written
+    }
+
+    /// Fills a loaned response with copies of these elements, whatever was filled. Where they are
+    /// not as many as the loan has, nothing changes. Its handle is looked for at the hint first.
+    pub fn write_response(
+        &mut self,
+        node: u64,
+        number: u64,
+        hint: usize,
+        values: &[P::Element],
+    ) -> Written
+        requires has { HasOf is_response_loan self.old node number }
+        ensures left { LeavesWritten self.old (flat_map P.Element.words values.now) result self.new }
+        ensures whole { (x : Given) → IsWholeCall (state_of_hub x self.old) node
+            (Write number (payload_of roles.Server (length values.now)
+            (flat_map P.Element.words values.now)))
+            (reply_of_write result) (state_of_hub x self.new) }
+        ensures has { HasWritten self.old node number ResponseMut (length values.now)
+            (flat_map P.Element.words values.now) result self.new }
+    {
+        let written = write(
+            &mut self.control,
+            node,
+            number,
+            hint,
+            Some(values.len() as u64),
+        );
+        if let Written::Done(place) = written {
+            write_response_in(&mut self.words, place.pool, place.slot as usize, values);
+        }
+        written
+    }
+}
