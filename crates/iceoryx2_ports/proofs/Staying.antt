@@ -1,0 +1,218 @@
+-- A call that spends nothing keeps each value of each node.
+use Rattle.std.specs.Prelude.{◌≡◌, ℕ, ◌+◌, Bool, true, false, ◌&&◌, if◌then◌else◌, ◌==◌, List, [], ◌∷◌, ◌++◌, Option, Some, None, IsSome, find, refl}
+use Rattle.std.specs.Option.{option_map_or}
+use Rattle.std.proofs.Common.{sym, subst, ap, ap₂, ◌∙◌, true≢false, eqb-true, eq-eqb}
+use Rattle.iox_model.specs.declared.backpressure.BackpressureAction.TheVariants.{FollowBackpressureStrategy}
+use Rattle.iox_model.specs.declared.call.Call.TheVariants.{Loan, LoanUninit}
+use Rattle.iox_model.specs.declared.kind.Kind.{Kind}
+use Rattle.iox_model.specs.declared.kind.Kind.TheVariants.{RequestMutUninit, RequestMut, ResponseMutUninit, ResponseMut, PendingResponse, ActiveRequest, Response}
+use Rattle.iox_model.specs.declared.kind.Kind.TheVariants as kinds
+use Rattle.iox_model.specs.Begins.{start}
+use Rattle.iox_model.specs.Commands.{Refusal, Reply, Call, number_of}
+use Rattle.iox_model.specs.Counts.{with_fixed, added, borrows, lent, numbered, called, sent_handle, received_handle, holding}
+use Rattle.iox_model.specs.Doings.{Outcome, Tells, Loans, Sends, FailsToSend, Receives, Doing}
+use Rattle.iox_model.specs.Ends.{is_nothing, sent_copy, settled}
+use Rattle.iox_model.specs.Handles.{Subject, handle_at, has, is_request_loan, kind_code, kind_of, node_of, port_or_handle, same_kind, subject}
+use Rattle.iox_model.specs.Maps.{put_at}
+use Rattle.iox_model.specs.Names.{misnamed}
+use Rattle.iox_model.specs.Peers.{port_at}
+use Rattle.iox_model.specs.States.{Port, Handle, Fixed, State}
+use Rattle.iox_model.specs.WholeCalls.{IsDone, IsWholeCall, UnlessRefused, moved_by, left_by, spent}
+use Rattle.iox_weave_laws.proofs.MapLemmas.{either}
+use Rattle.iox_weave_laws.proofs.WholeLemmas.{moved_by-fixed}
+use Rattle.iox_weave_ledger.proofs.Truths.{none-some}
+use Rattle.iox_hub_states.specs.States.{Given}
+use Rattle.iox_hub_states.specs.Tables.{HubTables}
+use Rattle.iox_hub_loans.specs.Loans.{loan_call}
+use Rattle.iox_hub_loans.specs.Questions.{kind_in}
+use Rattle.iox_hub_loans.proofs.Asked.{each_value_is_there}
+use Rattle.iox_hub.specs.Hubs.{HasValue, HubState, given_by, state_of_hub}
+use Rattle.iceoryx2_ports.specs.Keeping.{KeepsValues, spends}
+use Rattle.iceoryx2_ports.proofs.Gathering.{Gathers, at_gathers, by_gathers, ended_gathers}
+
+-- ---- more handles
+
+-- no port changes, and each handle that is found is found still
+record Extends (f g : Fixed) : Type 0 where
+  pub ports : g.ports ≡ f.ports
+  pub handles : (a n : ℕ) (h : Handle) → handle_at f a n ≡ Some h → handle_at g a n ≡ Some h
+
+abbrev Stays : Fixed → Fixed → Type 0
+Stays f g = (a n : ℕ) (kind : Kind) → has f a n kind ≡ true → has g a n kind ≡ true
+
+stays : (f g : Fixed) → Extends f g → Stays f g
+stays f g more a n kind is =
+    step (port_at f n) (port_at g n) (ap (λ (ps : List Port). find (λ p. p.number == n) ps) more.ports) (handle_at f a n) refl is
+  where
+    test : Subject → Bool
+    test x = (node_of x == a) && same_kind (kind_of x) kind
+
+    step : (p q : Option Port) → q ≡ p → (o : Option Handle) → handle_at f a n ≡ o
+        → option_map_or test (port_or_handle p o) false ≡ true → option_map_or test (port_or_handle q (handle_at g a n)) false ≡ true
+    step (Some p) q same o at is = ap (λ r. option_map_or test (port_or_handle r (handle_at g a n)) false) same ∙ is
+    step None q same (Some h) at is =
+        ap₂ (λ r u. option_map_or test (port_or_handle r u) false) same (more.handles a n h at) ∙ is
+    step None q same None at is = absurd (true≢false (sym is))
+
+find-append : (test : Handle → Bool) (xs ys : List Handle) (h : Handle) → find test xs ≡ Some h → find test (xs ++ ys) ≡ Some h
+find-append test [] ys h e = none-some h e
+find-append test (x ∷ xs) ys h e = over (test x) (find-append test xs ys h) e
+  where
+    over : (b : Bool) → (find test xs ≡ Some h → find test (xs ++ ys) ≡ Some h) → (if b then Some x else find test xs) ≡ Some h
+        → (if b then Some x else find test (xs ++ ys)) ≡ Some h
+    over true more is = is
+    over false more is = more is
+
+adds_one : (f : Fixed) (k : Handle) → Extends f (added f k)
+adds_one f k = record {
+  ports = refl;
+  handles = λ a n h.
+      let found : List Handle → Type 0 = λ hs. find (λ j. j.number == n) hs ≡ Some h in
+      either (λ (hs : List Handle). found (f.handles a) → found hs) (a == k.node) (f.handles k.node ++ k ∷ []) (f.handles a)
+      (λ same at. find-append (λ j. j.number == n) (f.handles k.node) (k ∷ []) h (subst (λ b. found (f.handles b)) (eqb-true a k.node same) at))
+      (λ other at. at);
+}
+
+extends_same : (f : Fixed) → Extends f f
+extends_same f = record { ports = refl; handles = λ a n h at. at }
+
+extends_over : (f g k : Fixed) → Extends f g → Extends g k → Extends f k
+extends_over f g k more last = record {
+  ports = last.ports ∙ more.ports;
+  handles = λ a n h at. last.handles a n h (more.handles a n h at);
+}
+
+numbered_extends : (f : Fixed) (node : ℕ) → Extends f (numbered f node)
+numbered_extends f node =
+    either (Extends f) f.on_wire (record f { handles_made = put_at f.handles_made node (f.handles_made node + 1) })
+    (record f { next_number = f.next_number + 1 }) (λ u. record { ports = refl; handles = λ a n h at. at })
+    (λ u. record { ports = refl; handles = λ a n h at. at })
+
+makes_one : (f : Fixed) (node : ℕ) (k : Handle) → Extends f (added (numbered f node) k)
+makes_one f node k = extends_over f (numbered f node) (added (numbered f node) k) (numbered_extends f node) (adds_one (numbered f node) k)
+
+-- counts are no matter
+counts : (f g k : Fixed) → k.ports ≡ g.ports → k.handles ≡ g.handles → Extends f g → Extends f k
+counts f g k ports handles more =
+    extends_over f g k more (record {
+      ports = ports;
+      handles = λ a n h at. ap (λ (hs : ℕ → List Handle). find (λ j. j.number == n) (hs a)) handles ∙ at;
+    })
+
+copy_extends : (f : Fixed) (h : Handle) (count : ℕ) → Extends f (sent_copy f h count)
+copy_extends f h count =
+    either (Extends f) (is_request_loan h.kind) (added (numbered f h.node) (sent_handle h count)) f
+    (λ u. makes_one f h.node (sent_handle h count)) (λ u. extends_same f)
+
+settled_extends : (s : State) (node : ℕ) (payload : List ℕ) (o : Outcome) → Gathers o → Extends s.fixed (settled s node payload o).fixed
+settled_extends s node payload (Tells reply) p =
+    either (λ (t : State). Extends s.fixed t.fixed) (is_nothing reply) (with_fixed s (called s.fixed)) s
+    (λ u. counts s.fixed s.fixed (called s.fixed) refl refl (extends_same s.fixed)) (λ u. extends_same s.fixed)
+settled_extends s node payload (Loans h) p =
+    let g : Fixed = added (numbered s.fixed node) (holding h payload) in
+    counts s.fixed g (called (lent g h.port)) refl refl (makes_one s.fixed node (holding h payload))
+settled_extends s node payload (Sends h true count) p =
+    let g : Fixed = sent_copy s.fixed h count in
+    counts s.fixed g (called (called (lent g h.port))) refl refl (copy_extends s.fixed h count)
+settled_extends s node payload (Sends h false count) p = absurd (true≢false (sym p))
+settled_extends s node payload (FailsToSend h true refusal) p =
+    counts s.fixed s.fixed (called (lent s.fixed h.port)) refl refl (extends_same s.fixed)
+settled_extends s node payload (FailsToSend h false refusal) p = absurd (true≢false (sym p))
+settled_extends s node payload (Receives x w m) p =
+    let k : Handle = received_handle s.fixed node x m in
+    let g : Fixed = added (numbered s.fixed node) k in
+    counts s.fixed g (called (borrows g w)) refl refl (makes_one s.fixed node k)
+settled_extends s node payload o p = absurd p
+
+-- ---- a whole call
+
+done_stays : (s t : State) (node : ℕ) (call : Call) (reply : Reply) → spends call ≡ false → IsDone s node call reply t → Stays s.fixed t.fixed
+done_stays s t node call reply e done =
+    let d : Doing = start s node done.0 call in
+    let u : State = moved_by s done.2 in
+    let o : Gathers done.4 =
+    ended_gathers u (left_by s node d done.2) done.4
+    (by_gathers s node d done.2 (at_gathers s done.0 call (subject s.fixed node (number_of call)) e) done.3) done.5 in
+    stays s.fixed t.fixed
+    (subst (λ (v : State). Extends s.fixed v.fixed) (sym done.9)
+    (subst (λ (f : Fixed). Extends f (settled u node done.6 done.4).fixed) (moved_by-fixed s done.2) (settled_extends u node done.6 done.4 o)))
+
+unless_stays : (q : Option Refusal) (s t : State) (reply : Reply) (P : Type 0) → (P → Stays s.fixed t.fixed) → UnlessRefused q s reply t P → Stays s.fixed t.fixed
+unless_stays (Some r) s t reply P f p = subst (λ (v : State). Stays s.fixed v.fixed) (sym p.1) (λ a n kind is. is)
+unless_stays None s t reply P f p = f p
+
+whole_stays : (s t : State) (node : ℕ) (call : Call) (reply : Reply) → spends call ≡ false → IsWholeCall s node call reply t → Stays s.fixed t.fixed
+whole_stays s t node call reply e =
+    unless_stays (misnamed s.fixed node call) s t reply (UnlessRefused (spent s.fixed call) s reply t (IsDone s node call reply t))
+    (unless_stays (spent s.fixed call) s t reply (IsDone s node call reply t) (done_stays s t node call reply e))
+
+-- ---- the values of a hub
+
+abbrev kind_of_code : ℕ → Kind
+kind_of_code n =
+    if n == 0 then kinds.Client else if n == 1 then kinds.Server else if n == 2 then RequestMutUninit else if n == 3 then RequestMut
+    else if n == 4 then ResponseMutUninit else if n == 5 then ResponseMut else if n == 6 then PendingResponse else if n == 7 then ActiveRequest
+    else Response
+
+code_and_back : (k : Kind) → kind_of_code (kind_code k) ≡ k
+code_and_back kinds.Client = refl
+code_and_back kinds.Server = refl
+code_and_back RequestMutUninit = refl
+code_and_back RequestMut = refl
+code_and_back ResponseMutUninit = refl
+code_and_back ResponseMut = refl
+code_and_back PendingResponse = refl
+code_and_back ActiveRequest = refl
+code_and_back Response = refl
+
+same_kinds : (a b : Kind) → same_kind a b ≡ true → a ≡ b
+same_kinds a b e = sym (code_and_back a) ∙ ap kind_of_code (eqb-true (kind_code a) (kind_code b) e) ∙ code_and_back b
+
+found_kind : (o : Option Kind) (kind : Kind) → option_map_or (λ k. same_kind k kind) o false ≡ true → o ≡ Some kind
+found_kind None kind e = absurd (true≢false (sym e))
+found_kind (Some k) kind e = ap Some (same_kinds k kind e)
+
+-- what a hub gives, whatever its service
+any_given : HubState → Given
+any_given h = record {
+  members = record { nodes = []; joins = 0; closed = false };
+  acts = λ words sender receiver. FollowBackpressureStrategy;
+  handler = λ n. None;
+  request = h.request;
+  response = h.response;
+  user = λ pool k. [];
+  payload = λ pool k. [];
+  filled = λ pool k. 0;
+}
+
+-- where each node still has what it had, each value is kept
+pub kept_by : (old new : HubState) → ((a n : ℕ) (kind : Kind) → HasValue old a n kind → HasValue new a n kind) → KeepsValues old new
+kept_by old new still a n some = step (kind_in old.control.tables a n) refl some
+  where
+    step : (o : Option Kind) → kind_in old.control.tables a n ≡ o → IsSome o → kind_in new.control.tables a n ≡ kind_in old.control.tables a n
+    step (Some kind) is some = still a n kind is ∙ sym is
+    step None is some = absurd (true≢false (sym some))
+
+-- Where such a call is whole, each value is kept.
+module _ (old new : HubState) (node : ℕ) (call : Call) (reply : Reply) (e : spends call ≡ false)
+    (whole : (x : Given) → IsWholeCall (state_of_hub x old) node call reply (state_of_hub x new)) where
+  pub still : (a n : ℕ) (kind : Kind) → HasValue old a n kind → HasValue new a n kind
+  still a n kind has =
+      let x : Given = any_given old in
+      let t : HubTables = old.control.tables in
+      let u : HubTables = new.control.tables in
+      let before : option_map_or (λ k. same_kind k kind) (kind_in t a n) false ≡ true =
+      ap (λ (o : Option Kind). option_map_or (λ k. same_kind k kind) o false) has ∙ eq-eqb (kind_code kind) (kind_code kind) refl in
+      found_kind (kind_in u a n) kind
+      (sym (each_value_is_there (given_by x new) u a n kind).has_it
+      ∙ whole_stays (state_of_hub x old) (state_of_hub x new) node call reply e (whole x) a n kind
+      ((each_value_is_there (given_by x old) t a n kind).has_it ∙ before))
+
+  pub kept : KeepsValues old new
+  kept = kept_by old new still
+
+-- a loan spends nothing
+pub loan_keeps : (old new : HubState) (node : ℕ) (uninit : Bool) (n k : ℕ) (reply : Reply)
+    → ((x : Given) → IsWholeCall (state_of_hub x old) node (loan_call uninit n k) reply (state_of_hub x new)) → KeepsValues old new
+loan_keeps old new node true n k reply whole = kept old new node (LoanUninit n k) reply refl whole
+loan_keeps old new node false n k reply whole = kept old new node (Loan n k) reply refl whole

@@ -1,0 +1,19 @@
+-- Which values are still there after a call.
+use Rattle.std.specs.Prelude.{◌≡◌, ℕ, Bool, true, false, IsSome}
+use Rattle.iox_model.specs.declared.call.Call.TheVariants.{Release, Send, Write}
+use Rattle.iox_model.specs.Commands.{Call}
+use Rattle.iox_hub_loans.specs.Questions.{kind_in}
+use Rattle.iox_hub.specs.Hubs.{HubState}
+
+-- whether the call ends a value, or makes another of it
+abbrev pub spends : Call → Bool
+spends (Write n payload) = true
+spends (Send n) = true
+spends (Release n) = true
+spends call = false
+
+-- Each value that a node had, it still has.
+abbrev pub KeepsValues : HubState → HubState → Type 0
+KeepsValues old new =
+    (node n : ℕ) → IsSome (kind_in old.control.tables node n)
+    → kind_in new.control.tables node n ≡ kind_in old.control.tables node n

@@ -1,0 +1,17 @@
+-- What the release of a typed handle or port comes to.
+use Rattle.std.specs.Prelude.{◌≡◌, ℕ}
+use Rattle.iox_model.specs.declared.call.Call.TheVariants.{Release}
+use Rattle.iox_model.specs.declared.kind.Kind.{Kind}
+use Rattle.iox_model.specs.declared.reply.Reply.TheVariants.{Done}
+use Rattle.iox_model.specs.WholeCalls.{IsWholeCall}
+use Rattle.iox_hub_states.specs.States.{Given}
+use Rattle.iox_hub.specs.Hubs.{HasValue, HubState, state_of_hub}
+use Rattle.iox_hub.specs.Sending.{HasNothing}
+
+-- The node's value of that number and kind is released, if it has one; else nothing changes.
+pub record IsReleased (old : HubState) (node n : ℕ) (kind : Kind) (new : HubState) : Type 0 where
+  pub whole :
+      HasValue old node n kind → (x : Given)
+      → IsWholeCall (state_of_hub x old) node (Release n) Done (state_of_hub x new)
+  pub gone : HasValue old node n kind → HasNothing new node n
+  pub unchanged : (HasValue old node n kind → ⊥) → new ≡ old

@@ -1,0 +1,211 @@
+//! A request that a server received.
+ghost use Rattle.std.specs.Prelude.{◌≡◌, ◌≢◌, ◌++◌, ◌↔◌, IfErr, IfOk, IsSome, IsTrue, OnErr, false, flat_map, true};
+ghost use Rattle.iox_model.specs.declared.call.Call.TheVariants as calls;
+ghost use Rattle.iox_model.specs.declared.kind.Kind.TheVariants as kinds;
+ghost use Rattle.iox_model.specs.declared.kind.Role.TheVariants as roles;
+ghost use Rattle.iox_model.specs.declared.reply.Reply.TheVariants.{Answer, Words};
+ghost use Rattle.iox_model.specs.WholeCalls.{IsWholeCall};
+ghost use Rattle.iox_hub_states.specs.States.{Given};
+ghost use Rattle.iox_hub.specs.Hubs.{HasValue, state_of_hub, with_control};
+ghost use Rattle.iox_hub.specs.Lending.{IsFresh};
+ghost use Rattle.iox_hub.specs.Reads.{message_in};
+ghost use Rattle.iceoryx2_ports.specs.Keeping.{KeepsValues};
+ghost use Rattle.iceoryx2_ports.specs.Loans.{reply_of_loan};
+ghost use Rattle.iceoryx2_ports.specs.Releases.{IsReleased};
+ghost use Rattle.iceoryx2_ports.specs.declared.errors.LoanError.TheVariants.{OutOfMemory};
+
+use crate::errors::LoanError;
+use crate::loans::lend_response;
+use crate::releases::release_handle;
+use crate::response_mut::{ResponseMut, ResponseMutUninit};
+use iox_hub::Hub;
+use iox_model::kind::Kind;
+use iox_store::{Many, One, Payload};
+use iox_words::Words;
+use std::marker::PhantomData;
+
+/// A request that a server received, and may answer as often as it likes.
+pub struct ActiveRequest<Q, QH, P, PH> {
+    node: u64,
+    number: u64,
+    // Where the hub looks for it first. A wrong place is only slower.
+    hint: usize,
+    of: PhantomData<(Q, QH, P, PH)>,
+}
+
+impl<Q: Payload, QH: Words, P: Payload, PH: Words> ActiveRequest<Q, QH, P, PH> {
+    /// The node's active request of that number.
+    pub(crate) fn new(node: u64, number: u64) -> Self
+        ensures node { result.node ≡ node }
+        ensures number { result.number ≡ number }
+    {
+        ActiveRequest {
+            node,
+            number,
+            hint: usize::MAX,
+            of: PhantomData,
+        }
+    }
+
+    /// The payload of the request.
+    pub fn payload<'a>(&self, hub: &'a Hub<Q, QH, P, PH>) -> &'a [Q::Element]
+        requires has { HasValue hub.now self.now.node self.now.number kinds.ActiveRequest }
+        ensures words { flat_map Q.Element.words result.now
+            ≡ (message_in hub.now self.now.node self.now.number).payload }
+        ensures whole { (x : Given) → IsWholeCall (state_of_hub x hub.now) self.now.node
+            (calls.Read self.now.number)
+            (Words ((message_in hub.now self.now.node self.now.number).user
+            ++ flat_map Q.Element.words result.now))
+            (state_of_hub x hub.now) }
+    {
+        hub.request(self.node, self.number, self.hint)
+    }
+
+    /// The user header of the request.
+    pub fn user_header<'a>(&self, hub: &'a Hub<Q, QH, P, PH>) -> &'a QH
+        requires has { HasValue hub.now self.now.node self.now.number kinds.ActiveRequest }
+        ensures words { QH.words result.now
+            ≡ (message_in hub.now self.now.node self.now.number).user }
+        ensures whole { (x : Given) → IsWholeCall (state_of_hub x hub.now) self.now.node
+            (calls.Read self.now.number)
+            (Words (QH.words result.now
+            ++ (message_in hub.now self.now.node self.now.number).payload))
+            (state_of_hub x hub.now) }
+    {
+        hub.request_header(self.node, self.number, self.hint)
+    }
+
+    /// Whether the request is still open.
+    pub fn is_connected(&self, hub: &Hub<Q, QH, P, PH>) -> bool
+        requires has { HasValue hub.now self.now.node self.now.number kinds.ActiveRequest }
+        ensures whole { (x : Given) → IsWholeCall (state_of_hub x hub.now) self.now.node
+            (calls.IsConnected self.now.number) (Answer result) (state_of_hub x hub.now) }
+    {
+        hub.is_connected(self.node, self.number, self.hint)
+    }
+
+    /// Whether its client told that it wants no more responses.
+    pub fn has_disconnect_hint(&self, hub: &Hub<Q, QH, P, PH>) -> bool
+        requires has { HasValue hub.now self.now.node self.now.number kinds.ActiveRequest }
+        ensures whole { (x : Given) → IsWholeCall (state_of_hub x hub.now) self.now.node
+            (calls.HasHint self.now.number) (Answer result) (state_of_hub x hub.now) }
+    {
+        hub.has_hint(self.node, self.number, self.hint)
+    }
+
+    /// Whether the hub still has it.
+    pub fn exists(&self, hub: &Hub<Q, QH, P, PH>) -> bool
+        ensures { IsTrue result ↔ HasValue hub.now self.now.node self.now.number kinds.ActiveRequest }
+    {
+        hub.has(self.node, self.number, Kind::ActiveRequest, self.hint)
+    }
+
+    /// Gives it up. Where the hub no longer has it, nothing changes.
+    pub fn release(self, hub: &mut Hub<Q, QH, P, PH>)
+        ensures { IsReleased hub.old self.node self.number kinds.ActiveRequest hub.new }
+    {
+        let ActiveRequest {
+            node,
+            number,
+            hint,
+            of: _,
+        } = self;
+        release_handle(hub, node, number, Kind::ActiveRequest, hint);
+    }
+}
+
+impl<Q: Payload, QH: Words, E: Words, PH: Words> ActiveRequest<Q, QH, One<E>, PH> {
+    /// Loans a response that is not filled yet.
+    pub fn loan_uninit(
+        &self,
+        hub: &mut Hub<Q, QH, One<E>, PH>,
+    ) -> Result<ResponseMutUninit<Q, QH, One<E>, PH>, LoanError>
+        requires has { HasValue hub.old self.now.node self.now.number kinds.ActiveRequest }
+        ensures whole { (x : Given) → IsWholeCall (state_of_hub x hub.old) self.now.node
+            (calls.LoanUninit self.now.number 1) (reply_of_loan (λ loan. loan.number) result)
+            (state_of_hub x hub.new) }
+        ensures fresh { IfOk result (λ loan.
+            IsFresh hub.new loan.node loan.number roles.Server hub.old.response true 1) }
+        ensures node { IfOk result (λ loan. loan.node ≡ self.now.node) }
+        ensures keeps { KeepsValues hub.old hub.new }
+        ensures unchanged { IfErr result (λ error. error ≢ OutOfMemory → hub.new ≡ hub.old) }
+        ensures left { OnErr result (hub.new ≡ with_control hub.old hub.new.control) }
+    {
+        match lend_response(hub, self.node, self.number, self.hint, 1, true) {
+            Ok(number) => Ok(ResponseMutUninit::new(self.node, number)),
+            Err(error) => Err(error),
+        }
+    }
+
+    /// Loans a response that is filled with the default.
+    pub fn loan(
+        &self,
+        hub: &mut Hub<Q, QH, One<E>, PH>,
+    ) -> Result<ResponseMut<Q, QH, One<E>, PH>, LoanError>
+        requires has { HasValue hub.old self.now.node self.now.number kinds.ActiveRequest }
+        requires default { IsSome hub.old.response.default }
+        ensures whole { (x : Given) → IsWholeCall (state_of_hub x hub.old) self.now.node
+            (calls.Loan self.now.number 1) (reply_of_loan (λ loan. loan.number) result)
+            (state_of_hub x hub.new) }
+        ensures fresh { IfOk result (λ loan.
+            IsFresh hub.new loan.node loan.number roles.Server hub.old.response false 1) }
+        ensures node { IfOk result (λ loan. loan.node ≡ self.now.node) }
+        ensures keeps { KeepsValues hub.old hub.new }
+        ensures unchanged { IfErr result (λ error. error ≢ OutOfMemory → hub.new ≡ hub.old) }
+        ensures left { OnErr result (hub.new ≡ with_control hub.old hub.new.control) }
+    {
+        match lend_response(hub, self.node, self.number, self.hint, 1, false) {
+            Ok(number) => Ok(ResponseMut::new(self.node, number)),
+            Err(error) => Err(error),
+        }
+    }
+}
+
+impl<Q: Payload, QH: Words, E: Words, PH: Words> ActiveRequest<Q, QH, Many<E>, PH> {
+    /// Loans a response for so many elements, none of which is filled yet.
+    pub fn loan_slice_uninit(
+        &self,
+        hub: &mut Hub<Q, QH, Many<E>, PH>,
+        elements: usize,
+    ) -> Result<ResponseMutUninit<Q, QH, Many<E>, PH>, LoanError>
+        requires has { HasValue hub.old self.now.node self.now.number kinds.ActiveRequest }
+        ensures whole { (x : Given) → IsWholeCall (state_of_hub x hub.old) self.now.node
+            (calls.LoanUninit self.now.number elements) (reply_of_loan (λ loan. loan.number) result)
+            (state_of_hub x hub.new) }
+        ensures fresh { IfOk result (λ loan.
+            IsFresh hub.new loan.node loan.number roles.Server hub.old.response true elements) }
+        ensures node { IfOk result (λ loan. loan.node ≡ self.now.node) }
+        ensures keeps { KeepsValues hub.old hub.new }
+        ensures unchanged { IfErr result (λ error. error ≢ OutOfMemory → hub.new ≡ hub.old) }
+        ensures left { OnErr result (hub.new ≡ with_control hub.old hub.new.control) }
+    {
+        match lend_response(hub, self.node, self.number, self.hint, elements, true) {
+            Ok(number) => Ok(ResponseMutUninit::new(self.node, number)),
+            Err(error) => Err(error),
+        }
+    }
+
+    /// Loans a response of so many elements, each filled with the default.
+    pub fn loan_slice(
+        &self,
+        hub: &mut Hub<Q, QH, Many<E>, PH>,
+        elements: usize,
+    ) -> Result<ResponseMut<Q, QH, Many<E>, PH>, LoanError>
+        requires has { HasValue hub.old self.now.node self.now.number kinds.ActiveRequest }
+        requires default { IsSome hub.old.response.default }
+        ensures whole { (x : Given) → IsWholeCall (state_of_hub x hub.old) self.now.node
+            (calls.Loan self.now.number elements) (reply_of_loan (λ loan. loan.number) result)
+            (state_of_hub x hub.new) }
+        ensures fresh { IfOk result (λ loan.
+            IsFresh hub.new loan.node loan.number roles.Server hub.old.response false elements) }
+        ensures node { IfOk result (λ loan. loan.node ≡ self.now.node) }
+        ensures keeps { KeepsValues hub.old hub.new }
+        ensures unchanged { IfErr result (λ error. error ≢ OutOfMemory → hub.new ≡ hub.old) }
+        ensures left { OnErr result (hub.new ≡ with_control hub.old hub.new.control) }
+    {
+        match lend_response(hub, self.node, self.number, self.hint, elements, false) {
+            Ok(number) => Ok(ResponseMut::new(self.node, number)),
+            Err(error) => Err(error),
+        }
+    }
+}

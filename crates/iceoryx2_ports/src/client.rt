@@ -1,0 +1,167 @@
+//! A client.
+ghost use Rattle.std.specs.Prelude.{◌≡◌, ◌≢◌, ◌↔◌, IfErr, IfOk, IsOk, IsSome, IsTrue, OnErr, false, true};
+ghost use Rattle.iox_model.specs.declared.call.Call.TheVariants as calls;
+ghost use Rattle.iox_model.specs.declared.kind.Kind.TheVariants as kinds;
+ghost use Rattle.iox_model.specs.declared.kind.Role.TheVariants as roles;
+ghost use Rattle.iox_model.specs.WholeCalls.{IsWholeCall};
+ghost use Rattle.iox_hub_states.specs.States.{Given};
+ghost use Rattle.iox_hub.specs.Hubs.{HasValue, state_of_hub, with_control};
+ghost use Rattle.iox_hub.specs.Lending.{IsFresh};
+ghost use Rattle.iceoryx2_ports.specs.Keeping.{KeepsValues};
+ghost use Rattle.iceoryx2_ports.specs.Loans.{reply_of_loan};
+ghost use Rattle.iceoryx2_ports.specs.Releases.{IsReleased};
+ghost use Rattle.iceoryx2_ports.specs.declared.errors.LoanError.TheVariants.{OutOfMemory};
+
+use crate::errors::{ConnectionFailure, LoanError};
+use crate::loans::lend_request;
+use crate::releases::release_port;
+use crate::request_mut::{RequestMut, RequestMutUninit};
+use iox_hub::Hub;
+use iox_model::kind::Kind;
+use iox_store::{Many, One, Payload};
+use iox_words::Words;
+use std::marker::PhantomData;
+
+/// A client of a node: it sends requests.
+pub struct Client<Q, QH, P, PH> {
+    node: u64,
+    number: u64,
+    of: PhantomData<(Q, QH, P, PH)>,
+}
+
+impl<Q: Payload, QH: Words, P: Payload, PH: Words> Client<Q, QH, P, PH> {
+    /// The node's client of that number.
+    pub(crate) fn new(node: u64, number: u64) -> Self
+        ensures node { result.node ≡ node }
+        ensures number { result.number ≡ number }
+    {
+        Client {
+            node,
+            number,
+            of: PhantomData,
+        }
+    }
+
+    /// Does nothing: ports are connected as they are made.
+    pub fn update_connections(&self, _hub: &Hub<Q, QH, P, PH>) -> Result<(), ConnectionFailure>
+        requires has { HasValue _hub.now self.now.node self.now.number kinds.Client }
+        ensures { IsOk result }
+    {
+        Ok(())
+    }
+
+    /// Whether the hub still has it.
+    pub fn exists(&self, hub: &Hub<Q, QH, P, PH>) -> bool
+        ensures { IsTrue result ↔ HasValue hub.now self.now.node self.now.number kinds.Client }
+    {
+        hub.has(self.node, self.number, Kind::Client, 0)
+    }
+
+    /// Gives it up. Where the hub no longer has it, nothing changes.
+    pub fn release(self, hub: &mut Hub<Q, QH, P, PH>)
+        ensures { IsReleased hub.old self.node self.number kinds.Client hub.new }
+    {
+        let Client {
+            node,
+            number,
+            of: _,
+        } = self;
+        release_port(hub, node, number, Kind::Client);
+    }
+}
+
+impl<E: Words, QH: Words, P: Payload, PH: Words> Client<One<E>, QH, P, PH> {
+    /// Loans a request that is not filled yet.
+    pub fn loan_uninit(
+        &self,
+        hub: &mut Hub<One<E>, QH, P, PH>,
+    ) -> Result<RequestMutUninit<One<E>, QH, P, PH>, LoanError>
+        requires has { HasValue hub.old self.now.node self.now.number kinds.Client }
+        ensures whole { (x : Given) → IsWholeCall (state_of_hub x hub.old) self.now.node
+            (calls.LoanUninit self.now.number 1) (reply_of_loan (λ loan. loan.number) result)
+            (state_of_hub x hub.new) }
+        ensures fresh { IfOk result (λ loan.
+            IsFresh hub.new loan.node loan.number roles.Client hub.old.request true 1) }
+        ensures node { IfOk result (λ loan. loan.node ≡ self.now.node) }
+        ensures keeps { KeepsValues hub.old hub.new }
+        ensures unchanged { IfErr result (λ error. error ≢ OutOfMemory → hub.new ≡ hub.old) }
+        ensures left { OnErr result (hub.new ≡ with_control hub.old hub.new.control) }
+    {
+        match lend_request(hub, self.node, self.number, 1, true) {
+            Ok(number) => Ok(RequestMutUninit::new(self.node, number)),
+            Err(error) => Err(error),
+        }
+    }
+
+    /// Loans a request that is filled with the default.
+    pub fn loan(
+        &self,
+        hub: &mut Hub<One<E>, QH, P, PH>,
+    ) -> Result<RequestMut<One<E>, QH, P, PH>, LoanError>
+        requires has { HasValue hub.old self.now.node self.now.number kinds.Client }
+        requires default { IsSome hub.old.request.default }
+        ensures whole { (x : Given) → IsWholeCall (state_of_hub x hub.old) self.now.node
+            (calls.Loan self.now.number 1) (reply_of_loan (λ loan. loan.number) result)
+            (state_of_hub x hub.new) }
+        ensures fresh { IfOk result (λ loan.
+            IsFresh hub.new loan.node loan.number roles.Client hub.old.request false 1) }
+        ensures node { IfOk result (λ loan. loan.node ≡ self.now.node) }
+        ensures keeps { KeepsValues hub.old hub.new }
+        ensures unchanged { IfErr result (λ error. error ≢ OutOfMemory → hub.new ≡ hub.old) }
+        ensures left { OnErr result (hub.new ≡ with_control hub.old hub.new.control) }
+    {
+        match lend_request(hub, self.node, self.number, 1, false) {
+            Ok(number) => Ok(RequestMut::new(self.node, number)),
+            Err(error) => Err(error),
+        }
+    }
+}
+
+impl<E: Words, QH: Words, P: Payload, PH: Words> Client<Many<E>, QH, P, PH> {
+    /// Loans a request for so many elements, none of which is filled yet.
+    pub fn loan_slice_uninit(
+        &self,
+        hub: &mut Hub<Many<E>, QH, P, PH>,
+        elements: usize,
+    ) -> Result<RequestMutUninit<Many<E>, QH, P, PH>, LoanError>
+        requires has { HasValue hub.old self.now.node self.now.number kinds.Client }
+        ensures whole { (x : Given) → IsWholeCall (state_of_hub x hub.old) self.now.node
+            (calls.LoanUninit self.now.number elements) (reply_of_loan (λ loan. loan.number) result)
+            (state_of_hub x hub.new) }
+        ensures fresh { IfOk result (λ loan.
+            IsFresh hub.new loan.node loan.number roles.Client hub.old.request true elements) }
+        ensures node { IfOk result (λ loan. loan.node ≡ self.now.node) }
+        ensures keeps { KeepsValues hub.old hub.new }
+        ensures unchanged { IfErr result (λ error. error ≢ OutOfMemory → hub.new ≡ hub.old) }
+        ensures left { OnErr result (hub.new ≡ with_control hub.old hub.new.control) }
+    {
+        match lend_request(hub, self.node, self.number, elements, true) {
+            Ok(number) => Ok(RequestMutUninit::new(self.node, number)),
+            Err(error) => Err(error),
+        }
+    }
+
+    /// Loans a request of so many elements, each filled with the default.
+    pub fn loan_slice(
+        &self,
+        hub: &mut Hub<Many<E>, QH, P, PH>,
+        elements: usize,
+    ) -> Result<RequestMut<Many<E>, QH, P, PH>, LoanError>
+        requires has { HasValue hub.old self.now.node self.now.number kinds.Client }
+        requires default { IsSome hub.old.request.default }
+        ensures whole { (x : Given) → IsWholeCall (state_of_hub x hub.old) self.now.node
+            (calls.Loan self.now.number elements) (reply_of_loan (λ loan. loan.number) result)
+            (state_of_hub x hub.new) }
+        ensures fresh { IfOk result (λ loan.
+            IsFresh hub.new loan.node loan.number roles.Client hub.old.request false elements) }
+        ensures node { IfOk result (λ loan. loan.node ≡ self.now.node) }
+        ensures keeps { KeepsValues hub.old hub.new }
+        ensures unchanged { IfErr result (λ error. error ≢ OutOfMemory → hub.new ≡ hub.old) }
+        ensures left { OnErr result (hub.new ≡ with_control hub.old hub.new.control) }
+    {
+        match lend_request(hub, self.node, self.number, elements, false) {
+            Ok(number) => Ok(RequestMut::new(self.node, number)),
+            Err(error) => Err(error),
+        }
+    }
+}

@@ -1,0 +1,41 @@
+//! Clients and servers: the typed ports of a hub, and the handles of their messages. Each call is one
+//! whole call of the machine that copies messages.
+#![tactic(auto)]
+
+mod active_request;
+mod client;
+mod errors;
+mod loans;
+mod pending_response;
+mod port_factory_client;
+mod port_factory_server;
+mod releases;
+mod request_mut;
+mod response;
+mod response_mut;
+mod server;
+pub mod uses;
+pub mod uses_exchange;
+
+pub use active_request::ActiveRequest;
+pub use client::Client;
+pub use errors::{
+    ClientCreateError, ConnectionFailure, LoanError, ReceiveError, RequestSendError, SendError,
+    ServerCreateError,
+};
+pub use iox_control::Settings;
+pub use iox_hub::{Hub, MessageShape, Part};
+pub use iox_model::kind::{Kind, Role};
+pub use iox_store::{Many, One, Payload};
+pub use iox_types::{
+    AllocationStrategy, BackpressureStrategy, ChannelState, RequestHeader, RequestId,
+    ResponseHeader,
+};
+pub use iox_words::Words;
+pub use pending_response::PendingResponse;
+pub use port_factory_client::PortFactoryClient;
+pub use port_factory_server::PortFactoryServer;
+pub use request_mut::{RequestMut, RequestMutUninit};
+pub use response::Response;
+pub use response_mut::{ResponseMut, ResponseMutUninit};
+pub use server::Server;

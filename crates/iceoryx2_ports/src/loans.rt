@@ -1,0 +1,77 @@
+//! Loans of clients and of active requests, by their numbers.
+ghost use Rattle.std.specs.Prelude.{◌≡◌, ◌≢◌, IfErr, IfOk, IsSome, OnErr, false};
+ghost use Rattle.iox_model.specs.declared.kind.Kind.TheVariants as kinds;
+ghost use Rattle.iox_model.specs.declared.kind.Role.TheVariants as roles;
+ghost use Rattle.iox_model.specs.WholeCalls.{IsWholeCall};
+ghost use Rattle.iox_hub_loans.specs.Loans.{loan_call};
+ghost use Rattle.iox_hub_states.specs.States.{Given};
+ghost use Rattle.iox_hub.specs.Hubs.{HasValue, state_of_hub, with_control};
+ghost use Rattle.iox_hub.specs.Lending.{IsFresh};
+ghost use Rattle.iceoryx2_ports.specs.Keeping.{KeepsValues};
+ghost use Rattle.iceoryx2_ports.specs.Loans.{reply_of_loan};
+ghost use Rattle.iceoryx2_ports.specs.declared.errors.LoanError.TheVariants.{OutOfMemory};
+
+use crate::errors::LoanError;
+use iox_control_lending::{Lent, LoanRefusal};
+use iox_hub::Hub;
+use iox_store::Payload;
+use iox_words::Words;
+
+/// Loans a request of that client, and tells its number.
+pub(crate) fn lend_request<Q: Payload, QH: Words, P: Payload, PH: Words>(
+    hub: &mut Hub<Q, QH, P, PH>,
+    node: u64,
+    client: u64,
+    elements: usize,
+    uninit: bool,
+) -> Result<u64, LoanError>
+    requires has { HasValue hub.old node client kinds.Client }
+    requires default { uninit ≡ false → IsSome hub.old.request.default }
+    ensures whole { (x : Given) → IsWholeCall (state_of_hub x hub.old) node
+        (loan_call uninit client elements) (reply_of_loan (λ n. n) result)
+        (state_of_hub x hub.new) }
+    ensures fresh { IfOk result (λ n.
+        IsFresh hub.new node n roles.Client hub.old.request uninit elements) }
+    ensures keeps { KeepsValues hub.old hub.new }
+    ensures unchanged { IfErr result (λ error. error ≢ OutOfMemory → hub.new ≡ hub.old) }
+    ensures left { OnErr result (hub.new ≡ with_control hub.old hub.new.control) }
+{
+    match hub.lend_request(node, client, elements, uninit) {
+        Lent::Handle(loan) => Ok(loan.number),
+        Lent::Refused(LoanRefusal::CallsSpent) => Err(LoanError::CallsSpent),
+        Lent::Refused(LoanRefusal::WrongLength) => Err(LoanError::WrongLength),
+        Lent::Refused(LoanRefusal::ExceedsMaxLoanSize) => Err(LoanError::ExceedsMaxLoanSize),
+        Lent::Refused(LoanRefusal::ExceedsMaxLoans) => Err(LoanError::ExceedsMaxLoans),
+        Lent::OutOfMemory => Err(LoanError::OutOfMemory),
+    }
+}
+
+/// Loans a response to that active request, and tells its number.
+pub(crate) fn lend_response<Q: Payload, QH: Words, P: Payload, PH: Words>(
+    hub: &mut Hub<Q, QH, P, PH>,
+    node: u64,
+    number: u64,
+    hint: usize,
+    elements: usize,
+    uninit: bool,
+) -> Result<u64, LoanError>
+    requires has { HasValue hub.old node number kinds.ActiveRequest }
+    requires default { uninit ≡ false → IsSome hub.old.response.default }
+    ensures whole { (x : Given) → IsWholeCall (state_of_hub x hub.old) node
+        (loan_call uninit number elements) (reply_of_loan (λ n. n) result)
+        (state_of_hub x hub.new) }
+    ensures fresh { IfOk result (λ n.
+        IsFresh hub.new node n roles.Server hub.old.response uninit elements) }
+    ensures keeps { KeepsValues hub.old hub.new }
+    ensures unchanged { IfErr result (λ error. error ≢ OutOfMemory → hub.new ≡ hub.old) }
+    ensures left { OnErr result (hub.new ≡ with_control hub.old hub.new.control) }
+{
+    match hub.lend_response(node, number, hint, elements, uninit) {
+        Lent::Handle(loan) => Ok(loan.number),
+        Lent::Refused(LoanRefusal::CallsSpent) => Err(LoanError::CallsSpent),
+        Lent::Refused(LoanRefusal::WrongLength) => Err(LoanError::WrongLength),
+        Lent::Refused(LoanRefusal::ExceedsMaxLoanSize) => Err(LoanError::ExceedsMaxLoanSize),
+        Lent::Refused(LoanRefusal::ExceedsMaxLoans) => Err(LoanError::ExceedsMaxLoans),
+        Lent::OutOfMemory => Err(LoanError::OutOfMemory),
+    }
+}

@@ -1,0 +1,159 @@
+//! A request that was sent.
+ghost use Rattle.std.specs.Prelude.{◌≡◌, ◌++◌, ◌<◌, ◌^◌, ◌↔◌, IfErr, IfOk, IfSome, IsTrue, flat_map};
+ghost use Rattle.iox_model.specs.declared.call.Call.TheVariants as calls;
+ghost use Rattle.iox_model.specs.declared.kind.Kind.TheVariants as kinds;
+ghost use Rattle.iox_model.specs.declared.reply.Reply.TheVariants.{Answer, Done, Words};
+ghost use Rattle.iox_model.specs.WholeCalls.{IsWholeCall};
+ghost use Rattle.iox_hub_states.specs.States.{Given};
+ghost use Rattle.iox_hub.specs.Hubs.{HasValue, state_of_hub, with_control};
+ghost use Rattle.iox_hub.specs.Reads.{message_in};
+ghost use Rattle.iceoryx2_ports.specs.Answers.{reply_of_response};
+ghost use Rattle.iceoryx2_ports.specs.Keeping.{KeepsValues};
+ghost use Rattle.iceoryx2_ports.specs.Releases.{IsReleased};
+ghost use Rattle.iceoryx2_ports.specs.declared.errors.ReceiveError.TheVariants.{ExceedsMaxBorrows};
+
+use crate::errors::ReceiveError;
+use crate::releases::release_handle;
+use crate::response::Response;
+use iox_control::Received;
+use iox_hub::Hub;
+use iox_model::kind::Kind;
+use iox_store::Payload;
+use iox_words::Words;
+use std::marker::PhantomData;
+
+/// A request that was sent, and receives its responses.
+pub struct PendingResponse<Q, QH, P, PH> {
+    node: u64,
+    number: u64,
+    // Where the hub looks for it first. A wrong place is only slower.
+    hint: usize,
+    // To how many servers the request went.
+    servers: u64,
+    of: PhantomData<(Q, QH, P, PH)>,
+}
+
+impl<Q: Payload, QH: Words, P: Payload, PH: Words> PendingResponse<Q, QH, P, PH> {
+    /// The node's pending response of that number, whose request went to so many servers.
+    pub(crate) fn new(node: u64, number: u64, servers: u64) -> Self
+        ensures node { result.node ≡ node }
+        ensures number { result.number ≡ number }
+        ensures servers { result.servers ≡ servers }
+    {
+        PendingResponse {
+            node,
+            number,
+            hint: usize::MAX,
+            servers,
+            of: PhantomData,
+        }
+    }
+
+    /// To how many servers the request went.
+    pub fn number_of_server_connections(&self) -> u64
+        ensures { result ≡ self.now.servers }
+    {
+        self.servers
+    }
+
+    /// Receives a response, if one is there. A response to another request is released and skipped.
+    pub fn receive(
+        &self,
+        hub: &mut Hub<Q, QH, P, PH>,
+    ) -> Result<Option<Response<Q, QH, P, PH>>, ReceiveError>
+        requires has { HasValue hub.old self.now.node self.now.number kinds.PendingResponse }
+        requires calls { hub.old.control.tables.calls < 2 ^ 56 }
+        ensures left { hub.new ≡ with_control hub.old hub.new.control }
+        ensures whole { (x : Given) → IsWholeCall (state_of_hub x hub.old) self.now.node
+            (calls.Receive self.now.number) (reply_of_response result) (state_of_hub x hub.new) }
+        ensures has { IfOk result (λ got. IfSome got (λ response.
+            HasValue hub.new response.node response.number kinds.Response)) }
+        ensures node { IfOk result (λ got. IfSome got (λ response. response.node ≡ self.now.node)) }
+        ensures keeps { KeepsValues hub.old hub.new }
+        ensures refused { IfErr result (λ error. error ≡ ExceedsMaxBorrows) }
+    {
+        match hub.receive_response(self.node, self.number, self.hint) {
+            Received::Handle(number) => Ok(Some(Response::new(self.node, number))),
+            Received::Nothing => Ok(None),
+            Received::AtLimit => Err(ReceiveError::ExceedsMaxBorrows),
+        }
+    }
+
+    /// Whether a response waits. It may be one to another request, so that nothing is received then.
+    pub fn has_response(&self, hub: &Hub<Q, QH, P, PH>) -> bool
+        requires has { HasValue hub.now self.now.node self.now.number kinds.PendingResponse }
+        ensures whole { (x : Given) → IsWholeCall (state_of_hub x hub.now) self.now.node
+            (calls.HasResponse self.now.number) (Answer result) (state_of_hub x hub.now) }
+    {
+        hub.has_response(self.node, self.number, self.hint)
+    }
+
+    /// Tells each server that has the request open that its client wants no more responses.
+    pub fn set_disconnect_hint(&self, hub: &mut Hub<Q, QH, P, PH>)
+        requires has { HasValue hub.old self.now.node self.now.number kinds.PendingResponse }
+        ensures left { hub.new ≡ with_control hub.old hub.new.control }
+        ensures whole { (x : Given) → IsWholeCall (state_of_hub x hub.old) self.now.node
+            (calls.SetHint self.now.number) Done (state_of_hub x hub.new) }
+        ensures keeps { KeepsValues hub.old hub.new }
+    {
+        hub.set_hint(self.node, self.number, self.hint);
+    }
+
+    /// The payload of the request.
+    pub fn payload<'a>(&self, hub: &'a Hub<Q, QH, P, PH>) -> &'a [Q::Element]
+        requires has { HasValue hub.now self.now.node self.now.number kinds.PendingResponse }
+        ensures words { flat_map Q.Element.words result.now
+            ≡ (message_in hub.now self.now.node self.now.number).payload }
+        ensures whole { (x : Given) → IsWholeCall (state_of_hub x hub.now) self.now.node
+            (calls.Read self.now.number)
+            (Words ((message_in hub.now self.now.node self.now.number).user
+            ++ flat_map Q.Element.words result.now))
+            (state_of_hub x hub.now) }
+    {
+        hub.request(self.node, self.number, self.hint)
+    }
+
+    /// The user header of the request.
+    pub fn user_header<'a>(&self, hub: &'a Hub<Q, QH, P, PH>) -> &'a QH
+        requires has { HasValue hub.now self.now.node self.now.number kinds.PendingResponse }
+        ensures words { QH.words result.now
+            ≡ (message_in hub.now self.now.node self.now.number).user }
+        ensures whole { (x : Given) → IsWholeCall (state_of_hub x hub.now) self.now.node
+            (calls.Read self.now.number)
+            (Words (QH.words result.now
+            ++ (message_in hub.now self.now.node self.now.number).payload))
+            (state_of_hub x hub.now) }
+    {
+        hub.request_header(self.node, self.number, self.hint)
+    }
+
+    /// Whether the request is still open.
+    pub fn is_connected(&self, hub: &Hub<Q, QH, P, PH>) -> bool
+        requires has { HasValue hub.now self.now.node self.now.number kinds.PendingResponse }
+        ensures whole { (x : Given) → IsWholeCall (state_of_hub x hub.now) self.now.node
+            (calls.IsConnected self.now.number) (Answer result) (state_of_hub x hub.now) }
+    {
+        hub.is_connected(self.node, self.number, self.hint)
+    }
+
+    /// Whether the hub still has it.
+    pub fn exists(&self, hub: &Hub<Q, QH, P, PH>) -> bool
+        ensures { IsTrue result ↔ HasValue hub.now self.now.node self.now.number kinds.PendingResponse }
+    {
+        hub.has(self.node, self.number, Kind::PendingResponse, self.hint)
+    }
+
+    /// Gives it up. Where the hub no longer has it, nothing changes.
+    pub fn release(self, hub: &mut Hub<Q, QH, P, PH>)
+        ensures { IsReleased hub.old self.node self.number kinds.PendingResponse hub.new }
+    {
+        let PendingResponse {
+            node,
+            number,
+            hint,
+            servers: _,
+            of: _,
+        } = self;
+        release_handle(hub, node, number, Kind::PendingResponse, hint);
+    }
+}

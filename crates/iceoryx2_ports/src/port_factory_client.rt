@@ -1,0 +1,124 @@
+//! The making of clients.
+ghost use Rattle.std.specs.Prelude.{◌≡◌, ◌≢◌, IfErr, IfOk, OnErr, Some};
+ghost use Rattle.iox_model.specs.declared.kind.Kind.TheVariants as kinds;
+ghost use Rattle.iox_model.specs.declared.kind.Role.TheVariants as roles;
+ghost use Rattle.iox_model.specs.Commands.{Create};
+ghost use Rattle.iox_model.specs.Makings.{IsHubCommand};
+ghost use Rattle.iox_hub_states.specs.States.{Given};
+ghost use Rattle.iox_hub.specs.Hubs.{HasValue, state_of_hub};
+ghost use Rattle.iox_hub.specs.Making.{LeavesMessages, StaysAs, options_of};
+ghost use Rattle.iceoryx2_ports.specs.Keeping.{KeepsValues};
+ghost use Rattle.iceoryx2_ports.specs.Makings.{first_options, reply_of_client};
+ghost use Rattle.iceoryx2_ports.specs.declared.errors.ClientCreateError.TheVariants.{FailedToDeployThreadsafetyPolicy};
+
+use crate::client::Client;
+use crate::errors::ClientCreateError;
+use iox_control_making::NotMade;
+use iox_hub::{Hub, Options};
+use iox_model::kind::Role;
+use iox_store::Payload;
+use iox_types::identifiers::UniqueSystemId;
+use iox_types::{AllocationStrategy, BackpressureStrategy};
+use iox_words::Words;
+use std::alloc::Global;
+use std::marker::PhantomData;
+
+/// What a client is made with. Where nothing was said, the service's settings hold.
+#[derive(Drop)]
+pub struct PortFactoryClient<Q, QH, P, PH> {
+    node: u64,
+    node_id: UniqueSystemId,
+    options: Options,
+    of: PhantomData<(Q, QH, P, PH)>,
+}
+
+impl<Q: Payload, QH: Words, P: Payload, PH: Words> PortFactoryClient<Q, QH, P, PH> {
+    /// A client of this node, whose messages have at most one element.
+    pub fn new(node: u64, node_id: UniqueSystemId) -> Self
+        ensures node { result.node ≡ node }
+        ensures id { result.node_id ≡ node_id }
+        ensures options { result.options ≡ first_options }
+    {
+        PortFactoryClient {
+            node,
+            node_id,
+            options: Options {
+                max_slice_len: 1,
+                pool: None,
+                strategy: None,
+                allocation: None,
+                loaned_responses: None,
+            },
+            of: PhantomData,
+        }
+    }
+
+    /// What it does at a full server.
+    pub fn backpressure_strategy(self, value: BackpressureStrategy) -> Self
+        ensures { result ≡ record self { options = record (self.options) { strategy = Some value } } }
+    {
+        let options = Options {
+            strategy: Some(value),
+            ..self.options
+        };
+        PortFactoryClient { options, ..self }
+    }
+
+    /// How many requests it has memory for: raised to 1, and lowered to the most that are needed.
+    pub fn override_request_preallocation(self, value: u64) -> Self
+        ensures { result ≡ record self { options = record (self.options) { pool = Some value } } }
+    {
+        let options = Options {
+            pool: Some(value),
+            ..self.options
+        };
+        PortFactoryClient { options, ..self }
+    }
+
+    /// The greatest length of its requests; it counts where requests have many elements.
+    pub fn initial_max_slice_len(self, value: u64) -> Self
+        ensures { result ≡ record self { options = record (self.options) { max_slice_len = value } } }
+    {
+        let options = Options {
+            max_slice_len: value,
+            ..self.options
+        };
+        PortFactoryClient { options, ..self }
+    }
+
+    /// Whether its requests grow past the greatest length.
+    pub fn allocation_strategy(self, value: AllocationStrategy) -> Self
+        ensures { result ≡ record self { options = record (self.options) { allocation = Some value } } }
+    {
+        let options = Options {
+            allocation: Some(value),
+            ..self.options
+        };
+        PortFactoryClient { options, ..self }
+    }
+
+    /// Makes the client. Where it is refused, all stays. A client whose requests would grow is
+    /// refused: there is no memory for it.
+    pub fn create(
+        self,
+        alloc: Global,
+        hub: &mut Hub<Q, QH, P, PH>,
+    ) -> Result<Client<Q, QH, P, PH>, ClientCreateError>
+        ensures whole { (x : Given) → IsHubCommand (state_of_hub x hub.old) self.node
+            (Create roles.Client self.node_id (options_of self.options)) (reply_of_client result)
+            (state_of_hub x hub.new) }
+        ensures node { IfOk result (λ client. client.node ≡ self.node) }
+        ensures has { IfOk result (λ client. HasValue hub.new self.node client.number kinds.Client) }
+        ensures keeps { KeepsValues hub.old hub.new }
+        ensures messages { LeavesMessages hub.old hub.new }
+        ensures unchanged { OnErr result (StaysAs hub.old hub.new) }
+        ensures refused { IfErr result (λ error. error ≢ FailedToDeployThreadsafetyPolicy) }
+    {
+        match hub.make_port(alloc, self.node, Role::Client, self.node_id, self.options) {
+            Ok(number) => Ok(Client::new(self.node, number)),
+            Err(NotMade::PortTag) => Err(ClientCreateError::UnableToCreatePortTag),
+            Err(NotMade::DataSegment) => Err(ClientCreateError::UnableToCreateDataSegment),
+            Err(NotMade::TooManyPorts) => Err(ClientCreateError::ExceedsMaxSupportedClients),
+        }
+    }
+}

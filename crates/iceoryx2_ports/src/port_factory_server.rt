@@ -1,0 +1,136 @@
+//! The making of servers.
+ghost use Rattle.std.specs.Prelude.{◌≡◌, ◌≢◌, IfErr, IfOk, OnErr, Some};
+ghost use Rattle.iox_model.specs.declared.kind.Kind.TheVariants as kinds;
+ghost use Rattle.iox_model.specs.declared.kind.Role.TheVariants as roles;
+ghost use Rattle.iox_model.specs.Commands.{Create};
+ghost use Rattle.iox_model.specs.Makings.{IsHubCommand};
+ghost use Rattle.iox_hub_states.specs.States.{Given};
+ghost use Rattle.iox_hub.specs.Hubs.{HasValue, state_of_hub};
+ghost use Rattle.iox_hub.specs.Making.{LeavesMessages, StaysAs, options_of};
+ghost use Rattle.iceoryx2_ports.specs.Keeping.{KeepsValues};
+ghost use Rattle.iceoryx2_ports.specs.Makings.{first_options, reply_of_server};
+ghost use Rattle.iceoryx2_ports.specs.declared.errors.ServerCreateError.TheVariants.{FailedToDeployThreadsafetyPolicy};
+
+use crate::errors::ServerCreateError;
+use crate::server::Server;
+use iox_control_making::NotMade;
+use iox_hub::{Hub, Options};
+use iox_model::kind::Role;
+use iox_store::Payload;
+use iox_types::identifiers::UniqueSystemId;
+use iox_types::{AllocationStrategy, BackpressureStrategy};
+use iox_words::Words;
+use std::alloc::Global;
+use std::marker::PhantomData;
+
+/// What a server is made with. Where nothing was said, the service's settings hold.
+#[derive(Drop)]
+pub struct PortFactoryServer<Q, QH, P, PH> {
+    node: u64,
+    node_id: UniqueSystemId,
+    options: Options,
+    of: PhantomData<(Q, QH, P, PH)>,
+}
+
+impl<Q: Payload, QH: Words, P: Payload, PH: Words> PortFactoryServer<Q, QH, P, PH> {
+    /// A server of this node, whose messages have at most one element.
+    pub fn new(node: u64, node_id: UniqueSystemId) -> Self
+        ensures node { result.node ≡ node }
+        ensures id { result.node_id ≡ node_id }
+        ensures options { result.options ≡ first_options }
+    {
+        PortFactoryServer {
+            node,
+            node_id,
+            options: Options {
+                max_slice_len: 1,
+                pool: None,
+                strategy: None,
+                allocation: None,
+                loaned_responses: None,
+            },
+            of: PhantomData,
+        }
+    }
+
+    /// What it does at a full client.
+    pub fn backpressure_strategy(self, value: BackpressureStrategy) -> Self
+        ensures { result ≡ record self { options = record (self.options) { strategy = Some value } } }
+    {
+        let options = Options {
+            strategy: Some(value),
+            ..self.options
+        };
+        PortFactoryServer { options, ..self }
+    }
+
+    /// How many responses to one request may be loaned at once: raised to 1.
+    pub fn max_loaned_responses_per_request(self, value: u64) -> Self
+        ensures { result
+            ≡ record self { options = record (self.options) { loaned_responses = Some value } } }
+    {
+        let options = Options {
+            loaned_responses: Some(value),
+            ..self.options
+        };
+        PortFactoryServer { options, ..self }
+    }
+
+    /// How many responses it has memory for: raised to 1, and lowered to the most that are needed.
+    pub fn override_response_preallocation(self, value: u64) -> Self
+        ensures { result ≡ record self { options = record (self.options) { pool = Some value } } }
+    {
+        let options = Options {
+            pool: Some(value),
+            ..self.options
+        };
+        PortFactoryServer { options, ..self }
+    }
+
+    /// The greatest length of its responses; it counts where responses have many elements.
+    pub fn initial_max_slice_len(self, value: u64) -> Self
+        ensures { result ≡ record self { options = record (self.options) { max_slice_len = value } } }
+    {
+        let options = Options {
+            max_slice_len: value,
+            ..self.options
+        };
+        PortFactoryServer { options, ..self }
+    }
+
+    /// Whether its responses grow past the greatest length.
+    pub fn allocation_strategy(self, value: AllocationStrategy) -> Self
+        ensures { result ≡ record self { options = record (self.options) { allocation = Some value } } }
+    {
+        let options = Options {
+            allocation: Some(value),
+            ..self.options
+        };
+        PortFactoryServer { options, ..self }
+    }
+
+    /// Makes the server. Where it is refused, all stays. A server whose responses would grow is
+    /// refused: there is no memory for it.
+    pub fn create(
+        self,
+        alloc: Global,
+        hub: &mut Hub<Q, QH, P, PH>,
+    ) -> Result<Server<Q, QH, P, PH>, ServerCreateError>
+        ensures whole { (x : Given) → IsHubCommand (state_of_hub x hub.old) self.node
+            (Create roles.Server self.node_id (options_of self.options)) (reply_of_server result)
+            (state_of_hub x hub.new) }
+        ensures node { IfOk result (λ server. server.node ≡ self.node) }
+        ensures has { IfOk result (λ server. HasValue hub.new self.node server.number kinds.Server) }
+        ensures keeps { KeepsValues hub.old hub.new }
+        ensures messages { LeavesMessages hub.old hub.new }
+        ensures unchanged { OnErr result (StaysAs hub.old hub.new) }
+        ensures refused { IfErr result (λ error. error ≢ FailedToDeployThreadsafetyPolicy) }
+    {
+        match hub.make_port(alloc, self.node, Role::Server, self.node_id, self.options) {
+            Ok(number) => Ok(Server::new(self.node, number)),
+            Err(NotMade::PortTag) => Err(ServerCreateError::UnableToCreatePortTag),
+            Err(NotMade::DataSegment) => Err(ServerCreateError::UnableToCreateDataSegment),
+            Err(NotMade::TooManyPorts) => Err(ServerCreateError::ExceedsMaxSupportedServers),
+        }
+    }
+}

@@ -1,0 +1,41 @@
+//! The release of handles and ports, by their numbers.
+ghost use Rattle.std.specs.Prelude.{◌≡◌, true};
+ghost use Rattle.iox_model.specs.Names.{is_port};
+ghost use Rattle.iox_hub.specs.Sending.{is_handle};
+ghost use Rattle.iceoryx2_ports.specs.Releases.{IsReleased};
+
+use iox_hub::Hub;
+use iox_model::kind::Kind;
+use iox_store::Payload;
+use iox_words::Words;
+
+/// Releases the node's handle of that number and kind, if it has one.
+pub(crate) fn release_handle<Q: Payload, QH: Words, P: Payload, PH: Words>(
+    hub: &mut Hub<Q, QH, P, PH>,
+    node: u64,
+    number: u64,
+    kind: Kind,
+    hint: usize,
+)
+    requires { is_handle kind ≡ true }
+    ensures { IsReleased hub.old node number kind hub.new }
+{
+    if hub.has(node, number, kind, hint) {
+        hub.release(node, number, hint);
+    }
+}
+
+/// Releases the node's port of that number and kind, if it has one.
+pub(crate) fn release_port<Q: Payload, QH: Words, P: Payload, PH: Words>(
+    hub: &mut Hub<Q, QH, P, PH>,
+    node: u64,
+    number: u64,
+    kind: Kind,
+)
+    requires { is_port kind ≡ true }
+    ensures { IsReleased hub.old node number kind hub.new }
+{
+    if hub.has(node, number, kind, 0) {
+        hub.release_port(node, number);
+    }
+}

@@ -1,0 +1,247 @@
+//! Loaned requests.
+ghost use Rattle.std.specs.Prelude.{◌≡◌, ◌≢◌, ◌∷◌, ◌++◌, ◌<◌, ◌^◌, ◌↔◌, IfErr, IfOk, IsTrue, OnErr, [], flat_map, length};
+ghost use Rattle.std.specs.Mem.{FitsInMemory};
+ghost use Rattle.iox_model.specs.declared.call.Call.TheVariants as calls;
+ghost use Rattle.iox_model.specs.declared.kind.Kind.TheVariants as kinds;
+ghost use Rattle.iox_model.specs.declared.kind.Role.TheVariants as roles;
+ghost use Rattle.iox_model.specs.declared.reply.Reply.TheVariants.{Done, Words};
+ghost use Rattle.iox_model.specs.WholeCalls.{IsWholeCall};
+ghost use Rattle.iox_hub_states.specs.States.{Given};
+ghost use Rattle.iox_hub.specs.Hubs.{HasValue, state_of_hub};
+ghost use Rattle.iox_hub.specs.Lending.{IsWritten, payload_of};
+ghost use Rattle.iox_hub.specs.Reads.{message_in};
+ghost use Rattle.iox_hub.specs.Sending.{HasNothing};
+ghost use Rattle.iceoryx2_ports.specs.Loans.{reply_of_request_send, reply_of_write};
+ghost use Rattle.iceoryx2_ports.specs.Releases.{IsReleased};
+
+use crate::errors::{RequestSendError, SendError};
+use crate::pending_response::PendingResponse;
+use crate::releases::release_handle;
+use iox_control_lending::Written;
+use iox_control_requests::Requested;
+use iox_hub::Hub;
+use iox_model::kind::Kind;
+use iox_store::{One, Payload};
+use iox_words::Words;
+use std::marker::PhantomData;
+
+/// A loaned request that is not filled yet.
+pub struct RequestMutUninit<Q, QH, P, PH> {
+    node: u64,
+    number: u64,
+    // Where the hub looks for it first. A wrong place is only slower.
+    hint: usize,
+    of: PhantomData<(Q, QH, P, PH)>,
+}
+
+/// A loaned request that is filled: it may be sent.
+pub struct RequestMut<Q, QH, P, PH> {
+    node: u64,
+    number: u64,
+    // Where the hub looks for it first. A wrong place is only slower.
+    hint: usize,
+    of: PhantomData<(Q, QH, P, PH)>,
+}
+
+impl<Q: Payload, QH: Words, P: Payload, PH: Words> RequestMutUninit<Q, QH, P, PH> {
+    /// The node's unfilled request of that number.
+    pub(crate) fn new(node: u64, number: u64) -> Self
+        ensures node { result.node ≡ node }
+        ensures number { result.number ≡ number }
+    {
+        RequestMutUninit {
+            node,
+            number,
+            hint: usize::MAX,
+            of: PhantomData,
+        }
+    }
+
+    /// Fills the request with copies of these elements. Where they are not as many as it is loaned for,
+    /// nothing changes, and the loan is given back.
+    pub fn write_from_slice(
+        self,
+        hub: &mut Hub<Q, QH, P, PH>,
+        values: &[Q::Element],
+    ) -> Result<RequestMut<Q, QH, P, PH>, Self>
+        requires has { HasValue hub.old self.node self.number kinds.RequestMutUninit }
+        ensures whole { (x : Given) → IsWholeCall (state_of_hub x hub.old) self.node
+            (calls.Write self.number (payload_of roles.Client (length values.now)
+            (flat_map Q.Element.words values.now))) (reply_of_write result) (state_of_hub x hub.new) }
+        ensures written { IfOk result (λ filled. IsWritten hub.old filled.node filled.number
+            kinds.RequestMut (length values.now) (flat_map Q.Element.words values.now) hub.new) }
+        ensures node { IfOk result (λ filled. filled.node ≡ self.node) }
+        ensures number { IfOk result (λ filled. filled.number ≡ self.number) }
+        ensures refused { OnErr result
+            ((message_in hub.old self.node self.number).elements ≢ length values.now) }
+        ensures unchanged { OnErr result (hub.new ≡ hub.old) }
+        ensures same { IfErr result (λ loan. loan ≡ self) }
+    {
+        match hub.write_request(self.node, self.number, self.hint, values) {
+            Written::Done(_) => {
+                let RequestMutUninit {
+                    node,
+                    number,
+                    hint,
+                    of,
+                } = self;
+                Ok(RequestMut {
+                    node,
+                    number,
+                    hint,
+                    of,
+                })
+            }
+            Written::WrongLength => Err(self),
+        }
+    }
+
+    /// Whether the hub still has it.
+    pub fn exists(&self, hub: &Hub<Q, QH, P, PH>) -> bool
+        ensures { IsTrue result ↔ HasValue hub.now self.now.node self.now.number kinds.RequestMutUninit }
+    {
+        hub.has(self.node, self.number, Kind::RequestMutUninit, self.hint)
+    }
+
+    /// Gives it up. Where the hub no longer has it, nothing changes.
+    pub fn release(self, hub: &mut Hub<Q, QH, P, PH>)
+        ensures { IsReleased hub.old self.node self.number kinds.RequestMutUninit hub.new }
+    {
+        let RequestMutUninit {
+            node,
+            number,
+            hint,
+            of: _,
+        } = self;
+        release_handle(hub, node, number, Kind::RequestMutUninit, hint);
+    }
+}
+
+impl<E: Words, QH: Words, P: Payload, PH: Words> RequestMutUninit<One<E>, QH, P, PH> {
+    /// Fills the request with that value.
+    pub fn write_payload(
+        self,
+        hub: &mut Hub<One<E>, QH, P, PH>,
+        value: E,
+    ) -> RequestMut<One<E>, QH, P, PH>
+        requires has { HasValue hub.old self.node self.number kinds.RequestMutUninit }
+        requires small { FitsInMemory E.row }
+        requires one { (message_in hub.old self.node self.number).elements ≡ 1 }
+        ensures whole { (x : Given) → IsWholeCall (state_of_hub x hub.old) self.node
+            (calls.Write self.number (payload_of roles.Client 1 (flat_map E.words (value ∷ []))))
+            Done (state_of_hub x hub.new) }
+        ensures written { IsWritten hub.old self.node self.number kinds.RequestMut 1
+            (flat_map E.words (value ∷ [])) hub.new }
+        ensures node { result.node ≡ self.node }
+        ensures number { result.number ≡ self.number }
+    {
+        let RequestMutUninit {
+            node,
+            number,
+            hint,
+            of,
+        } = self;
+        let Written::Done(_) = hub.write_request(node, number, hint, &[value]) else {
+            unreachable!();
+        };
+        RequestMut {
+            node,
+            number,
+            hint,
+            of,
+        }
+    }
+}
+
+impl<Q: Payload, QH: Words, P: Payload, PH: Words> RequestMut<Q, QH, P, PH> {
+    /// The node's filled request of that number.
+    pub(crate) fn new(node: u64, number: u64) -> Self
+        ensures node { result.node ≡ node }
+        ensures number { result.number ≡ number }
+    {
+        RequestMut {
+            node,
+            number,
+            hint: usize::MAX,
+            of: PhantomData,
+        }
+    }
+
+    /// The payload of the request.
+    pub fn payload<'a>(&self, hub: &'a Hub<Q, QH, P, PH>) -> &'a [Q::Element]
+        requires has { HasValue hub.now self.now.node self.now.number kinds.RequestMut }
+        ensures words { flat_map Q.Element.words result.now
+            ≡ (message_in hub.now self.now.node self.now.number).payload }
+        ensures whole { (x : Given) → IsWholeCall (state_of_hub x hub.now) self.now.node
+            (calls.Read self.now.number)
+            (Words ((message_in hub.now self.now.node self.now.number).user
+            ++ flat_map Q.Element.words result.now))
+            (state_of_hub x hub.now) }
+    {
+        hub.request(self.node, self.number, self.hint)
+    }
+
+    /// The user header of the request.
+    pub fn user_header<'a>(&self, hub: &'a Hub<Q, QH, P, PH>) -> &'a QH
+        requires has { HasValue hub.now self.now.node self.now.number kinds.RequestMut }
+        ensures words { QH.words result.now
+            ≡ (message_in hub.now self.now.node self.now.number).user }
+        ensures whole { (x : Given) → IsWholeCall (state_of_hub x hub.now) self.now.node
+            (calls.Read self.now.number)
+            (Words (QH.words result.now
+            ++ (message_in hub.now self.now.node self.now.number).payload))
+            (state_of_hub x hub.now) }
+    {
+        hub.request_header(self.node, self.number, self.hint)
+    }
+
+    /// Sends the request to all servers. Where that fails, the request is lost.
+    pub fn send(
+        self,
+        hub: &mut Hub<Q, QH, P, PH>,
+    ) -> Result<PendingResponse<Q, QH, P, PH>, RequestSendError>
+        requires has { HasValue hub.old self.node self.number kinds.RequestMut }
+        requires calls { hub.old.control.tables.calls < 2 ^ 56 }
+        ensures whole { (x : Given) → IsWholeCall (state_of_hub x hub.old) self.node
+            (calls.Send self.number) (reply_of_request_send result) (state_of_hub x hub.new) }
+        ensures has { IfOk result (λ pending.
+            HasValue hub.new pending.node pending.number kinds.PendingResponse) }
+        ensures node { IfOk result (λ pending. pending.node ≡ self.node) }
+        ensures number { IfOk result (λ pending. pending.number ≡ self.number) }
+        ensures gone { OnErr result (HasNothing hub.new self.node self.number) }
+    {
+        let RequestMut {
+            node,
+            number,
+            hint,
+            of: _,
+        } = self;
+        match hub.send_request(node, number, hint) {
+            Requested::To(servers) => Ok(PendingResponse::new(node, number, servers)),
+            Requested::ExceedsMaxActiveRequests => Err(RequestSendError::ExceedsMaxActiveRequests),
+            Requested::UnableToDeliver => {
+                Err(RequestSendError::SendError(SendError::UnableToDeliver))
+            }
+        }
+    }
+
+    /// Whether the hub still has it.
+    pub fn exists(&self, hub: &Hub<Q, QH, P, PH>) -> bool
+        ensures { IsTrue result ↔ HasValue hub.now self.now.node self.now.number kinds.RequestMut }
+    {
+        hub.has(self.node, self.number, Kind::RequestMut, self.hint)
+    }
+
+    /// Gives it up. Where the hub no longer has it, nothing changes.
+    pub fn release(self, hub: &mut Hub<Q, QH, P, PH>)
+        ensures { IsReleased hub.old self.node self.number kinds.RequestMut hub.new }
+    {
+        let RequestMut {
+            node,
+            number,
+            hint,
+            of: _,
+        } = self;
+        release_handle(hub, node, number, Kind::RequestMut, hint);
+    }
+}

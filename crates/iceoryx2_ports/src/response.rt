@@ -1,0 +1,89 @@
+//! A response that was received.
+ghost use Rattle.std.specs.Prelude.{◌≡◌, ◌++◌, ◌↔◌, IsTrue, flat_map};
+ghost use Rattle.iox_model.specs.declared.call.Call.TheVariants.{Read};
+ghost use Rattle.iox_model.specs.declared.kind.Kind.TheVariants as kinds;
+ghost use Rattle.iox_model.specs.declared.reply.Reply.TheVariants.{Words};
+ghost use Rattle.iox_model.specs.WholeCalls.{IsWholeCall};
+ghost use Rattle.iox_hub_states.specs.States.{Given};
+ghost use Rattle.iox_hub.specs.Hubs.{HasValue, state_of_hub};
+ghost use Rattle.iox_hub.specs.Reads.{message_in};
+ghost use Rattle.iceoryx2_ports.specs.Releases.{IsReleased};
+
+use crate::releases::release_handle;
+use iox_hub::Hub;
+use iox_model::kind::Kind;
+use iox_store::Payload;
+use iox_words::Words;
+use std::marker::PhantomData;
+
+/// A response that a pending response received.
+pub struct Response<Q, QH, P, PH> {
+    node: u64,
+    number: u64,
+    // Where the hub looks for it first. A wrong place is only slower.
+    hint: usize,
+    of: PhantomData<(Q, QH, P, PH)>,
+}
+
+impl<Q: Payload, QH: Words, P: Payload, PH: Words> Response<Q, QH, P, PH> {
+    /// The node's response of that number.
+    pub(crate) fn new(node: u64, number: u64) -> Self
+        ensures node { result.node ≡ node }
+        ensures number { result.number ≡ number }
+    {
+        Response {
+            node,
+            number,
+            hint: usize::MAX,
+            of: PhantomData,
+        }
+    }
+
+    /// The payload of the response.
+    pub fn payload<'a>(&self, hub: &'a Hub<Q, QH, P, PH>) -> &'a [P::Element]
+        requires has { HasValue hub.now self.now.node self.now.number kinds.Response }
+        ensures words { flat_map P.Element.words result.now
+            ≡ (message_in hub.now self.now.node self.now.number).payload }
+        ensures whole { (x : Given) → IsWholeCall (state_of_hub x hub.now) self.now.node
+            (Read self.now.number)
+            (Words ((message_in hub.now self.now.node self.now.number).user
+            ++ flat_map P.Element.words result.now))
+            (state_of_hub x hub.now) }
+    {
+        hub.response(self.node, self.number, self.hint)
+    }
+
+    /// The user header of the response.
+    pub fn user_header<'a>(&self, hub: &'a Hub<Q, QH, P, PH>) -> &'a PH
+        requires has { HasValue hub.now self.now.node self.now.number kinds.Response }
+        ensures words { PH.words result.now
+            ≡ (message_in hub.now self.now.node self.now.number).user }
+        ensures whole { (x : Given) → IsWholeCall (state_of_hub x hub.now) self.now.node
+            (Read self.now.number)
+            (Words (PH.words result.now
+            ++ (message_in hub.now self.now.node self.now.number).payload))
+            (state_of_hub x hub.now) }
+    {
+        hub.response_header(self.node, self.number, self.hint)
+    }
+
+    /// Whether the hub still has it.
+    pub fn exists(&self, hub: &Hub<Q, QH, P, PH>) -> bool
+        ensures { IsTrue result ↔ HasValue hub.now self.now.node self.now.number kinds.Response }
+    {
+        hub.has(self.node, self.number, Kind::Response, self.hint)
+    }
+
+    /// Gives it up. Where the hub no longer has it, nothing changes.
+    pub fn release(self, hub: &mut Hub<Q, QH, P, PH>)
+        ensures { IsReleased hub.old self.node self.number kinds.Response hub.new }
+    {
+        let Response {
+            node,
+            number,
+            hint,
+            of: _,
+        } = self;
+        release_handle(hub, node, number, Kind::Response, hint);
+    }
+}

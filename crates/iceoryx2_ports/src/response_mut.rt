@@ -1,0 +1,236 @@
+//! Loaned responses.
+ghost use Rattle.std.specs.Prelude.{◌≡◌, ◌≢◌, ◌∷◌, ◌++◌, ◌<◌, ◌^◌, ◌↔◌, IfErr, IfOk, IsTrue, OnErr, [], flat_map, length};
+ghost use Rattle.std.specs.Mem.{FitsInMemory};
+ghost use Rattle.iox_model.specs.declared.call.Call.TheVariants as calls;
+ghost use Rattle.iox_model.specs.declared.kind.Kind.TheVariants as kinds;
+ghost use Rattle.iox_model.specs.declared.kind.Role.TheVariants as roles;
+ghost use Rattle.iox_model.specs.declared.reply.Reply.TheVariants.{Done, Words};
+ghost use Rattle.iox_model.specs.WholeCalls.{IsWholeCall};
+ghost use Rattle.iox_hub_states.specs.States.{Given};
+ghost use Rattle.iox_hub.specs.Hubs.{HasValue, state_of_hub};
+ghost use Rattle.iox_hub.specs.Lending.{IsWritten, payload_of};
+ghost use Rattle.iox_hub.specs.Reads.{message_in};
+ghost use Rattle.iox_hub.specs.Sending.{HasNothing};
+ghost use Rattle.iceoryx2_ports.specs.Loans.{reply_of_response_send, reply_of_write};
+ghost use Rattle.iceoryx2_ports.specs.Releases.{IsReleased};
+
+use crate::errors::SendError;
+use crate::releases::release_handle;
+use iox_control_lending::Written;
+use iox_control_responses::Responded;
+use iox_hub::Hub;
+use iox_model::kind::Kind;
+use iox_store::{One, Payload};
+use iox_words::Words;
+use std::marker::PhantomData;
+
+/// A loaned response that is not filled yet.
+pub struct ResponseMutUninit<Q, QH, P, PH> {
+    node: u64,
+    number: u64,
+    // Where the hub looks for it first. A wrong place is only slower.
+    hint: usize,
+    of: PhantomData<(Q, QH, P, PH)>,
+}
+
+/// A loaned response that is filled: it may be sent.
+pub struct ResponseMut<Q, QH, P, PH> {
+    node: u64,
+    number: u64,
+    // Where the hub looks for it first. A wrong place is only slower.
+    hint: usize,
+    of: PhantomData<(Q, QH, P, PH)>,
+}
+
+impl<Q: Payload, QH: Words, P: Payload, PH: Words> ResponseMutUninit<Q, QH, P, PH> {
+    /// The node's unfilled response of that number.
+    pub(crate) fn new(node: u64, number: u64) -> Self
+        ensures node { result.node ≡ node }
+        ensures number { result.number ≡ number }
+    {
+        ResponseMutUninit {
+            node,
+            number,
+            hint: usize::MAX,
+            of: PhantomData,
+        }
+    }
+
+    /// Fills the response with copies of these elements. Where they are not as many as it is loaned for,
+    /// nothing changes, and the loan is given back.
+    pub fn write_from_slice(
+        self,
+        hub: &mut Hub<Q, QH, P, PH>,
+        values: &[P::Element],
+    ) -> Result<ResponseMut<Q, QH, P, PH>, Self>
+        requires has { HasValue hub.old self.node self.number kinds.ResponseMutUninit }
+        ensures whole { (x : Given) → IsWholeCall (state_of_hub x hub.old) self.node
+            (calls.Write self.number (payload_of roles.Server (length values.now)
+            (flat_map P.Element.words values.now))) (reply_of_write result) (state_of_hub x hub.new) }
+        ensures written { IfOk result (λ filled. IsWritten hub.old filled.node filled.number
+            kinds.ResponseMut (length values.now) (flat_map P.Element.words values.now) hub.new) }
+        ensures node { IfOk result (λ filled. filled.node ≡ self.node) }
+        ensures number { IfOk result (λ filled. filled.number ≡ self.number) }
+        ensures refused { OnErr result
+            ((message_in hub.old self.node self.number).elements ≢ length values.now) }
+        ensures unchanged { OnErr result (hub.new ≡ hub.old) }
+        ensures same { IfErr result (λ loan. loan ≡ self) }
+    {
+        match hub.write_response(self.node, self.number, self.hint, values) {
+            Written::Done(_) => {
+                let ResponseMutUninit {
+                    node,
+                    number,
+                    hint,
+                    of,
+                } = self;
+                Ok(ResponseMut {
+                    node,
+                    number,
+                    hint,
+                    of,
+                })
+            }
+            Written::WrongLength => Err(self),
+        }
+    }
+
+    /// Whether the hub still has it.
+    pub fn exists(&self, hub: &Hub<Q, QH, P, PH>) -> bool
+        ensures { IsTrue result ↔ HasValue hub.now self.now.node self.now.number kinds.ResponseMutUninit }
+    {
+        hub.has(self.node, self.number, Kind::ResponseMutUninit, self.hint)
+    }
+
+    /// Gives it up. Where the hub no longer has it, nothing changes.
+    pub fn release(self, hub: &mut Hub<Q, QH, P, PH>)
+        ensures { IsReleased hub.old self.node self.number kinds.ResponseMutUninit hub.new }
+    {
+        let ResponseMutUninit {
+            node,
+            number,
+            hint,
+            of: _,
+        } = self;
+        release_handle(hub, node, number, Kind::ResponseMutUninit, hint);
+    }
+}
+
+impl<Q: Payload, QH: Words, E: Words, PH: Words> ResponseMutUninit<Q, QH, One<E>, PH> {
+    /// Fills the response with that value.
+    pub fn write_payload(
+        self,
+        hub: &mut Hub<Q, QH, One<E>, PH>,
+        value: E,
+    ) -> ResponseMut<Q, QH, One<E>, PH>
+        requires has { HasValue hub.old self.node self.number kinds.ResponseMutUninit }
+        requires small { FitsInMemory E.row }
+        requires one { (message_in hub.old self.node self.number).elements ≡ 1 }
+        ensures whole { (x : Given) → IsWholeCall (state_of_hub x hub.old) self.node
+            (calls.Write self.number (payload_of roles.Server 1 (flat_map E.words (value ∷ []))))
+            Done (state_of_hub x hub.new) }
+        ensures written { IsWritten hub.old self.node self.number kinds.ResponseMut 1
+            (flat_map E.words (value ∷ [])) hub.new }
+        ensures node { result.node ≡ self.node }
+        ensures number { result.number ≡ self.number }
+    {
+        let ResponseMutUninit {
+            node,
+            number,
+            hint,
+            of,
+        } = self;
+        let Written::Done(_) = hub.write_response(node, number, hint, &[value]) else {
+            unreachable!();
+        };
+        ResponseMut {
+            node,
+            number,
+            hint,
+            of,
+        }
+    }
+}
+
+impl<Q: Payload, QH: Words, P: Payload, PH: Words> ResponseMut<Q, QH, P, PH> {
+    /// The node's filled response of that number.
+    pub(crate) fn new(node: u64, number: u64) -> Self
+        ensures node { result.node ≡ node }
+        ensures number { result.number ≡ number }
+    {
+        ResponseMut {
+            node,
+            number,
+            hint: usize::MAX,
+            of: PhantomData,
+        }
+    }
+
+    /// The payload of the response.
+    pub fn payload<'a>(&self, hub: &'a Hub<Q, QH, P, PH>) -> &'a [P::Element]
+        requires has { HasValue hub.now self.now.node self.now.number kinds.ResponseMut }
+        ensures words { flat_map P.Element.words result.now
+            ≡ (message_in hub.now self.now.node self.now.number).payload }
+        ensures whole { (x : Given) → IsWholeCall (state_of_hub x hub.now) self.now.node
+            (calls.Read self.now.number)
+            (Words ((message_in hub.now self.now.node self.now.number).user
+            ++ flat_map P.Element.words result.now))
+            (state_of_hub x hub.now) }
+    {
+        hub.response(self.node, self.number, self.hint)
+    }
+
+    /// The user header of the response.
+    pub fn user_header<'a>(&self, hub: &'a Hub<Q, QH, P, PH>) -> &'a PH
+        requires has { HasValue hub.now self.now.node self.now.number kinds.ResponseMut }
+        ensures words { PH.words result.now
+            ≡ (message_in hub.now self.now.node self.now.number).user }
+        ensures whole { (x : Given) → IsWholeCall (state_of_hub x hub.now) self.now.node
+            (calls.Read self.now.number)
+            (Words (PH.words result.now
+            ++ (message_in hub.now self.now.node self.now.number).payload))
+            (state_of_hub x hub.now) }
+    {
+        hub.response_header(self.node, self.number, self.hint)
+    }
+
+    /// Sends the response to its client. Where that fails, the response is lost.
+    pub fn send(self, hub: &mut Hub<Q, QH, P, PH>) -> Result<(), SendError>
+        requires has { HasValue hub.old self.node self.number kinds.ResponseMut }
+        requires calls { hub.old.control.tables.calls < 2 ^ 56 }
+        ensures whole { (x : Given) → IsWholeCall (state_of_hub x hub.old) self.node
+            (calls.Send self.number) (reply_of_response_send result) (state_of_hub x hub.new) }
+        ensures gone { HasNothing hub.new self.node self.number }
+    {
+        let ResponseMut {
+            node,
+            number,
+            hint,
+            of: _,
+        } = self;
+        match hub.send_response(node, number, hint) {
+            Responded::Done => Ok(()),
+            Responded::Undelivered => Err(SendError::UnableToDeliver),
+        }
+    }
+
+    /// Whether the hub still has it.
+    pub fn exists(&self, hub: &Hub<Q, QH, P, PH>) -> bool
+        ensures { IsTrue result ↔ HasValue hub.now self.now.node self.now.number kinds.ResponseMut }
+    {
+        hub.has(self.node, self.number, Kind::ResponseMut, self.hint)
+    }
+
+    /// Gives it up. Where the hub no longer has it, nothing changes.
+    pub fn release(self, hub: &mut Hub<Q, QH, P, PH>)
+        ensures { IsReleased hub.old self.node self.number kinds.ResponseMut hub.new }
+    {
+        let ResponseMut {
+            node,
+            number,
+            hint,
+            of: _,
+        } = self;
+        release_handle(hub, node, number, Kind::ResponseMut, hint);
+    }
+}

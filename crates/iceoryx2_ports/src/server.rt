@@ -1,0 +1,105 @@
+//! A server.
+ghost use Rattle.std.specs.Prelude.{◌≡◌, ◌<◌, ◌^◌, ◌↔◌, IfErr, IfOk, IfSome, IsOk, IsTrue};
+ghost use Rattle.iox_model.specs.declared.call.Call.TheVariants.{HasRequests, Receive};
+ghost use Rattle.iox_model.specs.declared.kind.Kind.TheVariants as kinds;
+ghost use Rattle.iox_model.specs.declared.reply.Reply.TheVariants.{Answer};
+ghost use Rattle.iox_model.specs.WholeCalls.{IsWholeCall};
+ghost use Rattle.iox_hub_states.specs.States.{Given};
+ghost use Rattle.iox_hub.specs.Hubs.{HasValue, state_of_hub, with_control};
+ghost use Rattle.iceoryx2_ports.specs.Answers.{reply_of_request};
+ghost use Rattle.iceoryx2_ports.specs.Keeping.{KeepsValues};
+ghost use Rattle.iceoryx2_ports.specs.Releases.{IsReleased};
+ghost use Rattle.iceoryx2_ports.specs.declared.errors.ReceiveError.TheVariants.{ExceedsMaxBorrows};
+
+use crate::active_request::ActiveRequest;
+use crate::errors::{ConnectionFailure, ReceiveError};
+use crate::releases::release_port;
+use iox_control::Received;
+use iox_hub::Hub;
+use iox_model::kind::Kind;
+use iox_store::Payload;
+use iox_words::Words;
+use std::marker::PhantomData;
+
+/// A server of a node: it receives requests.
+pub struct Server<Q, QH, P, PH> {
+    node: u64,
+    number: u64,
+    of: PhantomData<(Q, QH, P, PH)>,
+}
+
+impl<Q: Payload, QH: Words, P: Payload, PH: Words> Server<Q, QH, P, PH> {
+    /// The node's server of that number.
+    pub(crate) fn new(node: u64, number: u64) -> Self
+        ensures node { result.node ≡ node }
+        ensures number { result.number ≡ number }
+    {
+        Server {
+            node,
+            number,
+            of: PhantomData,
+        }
+    }
+
+    /// Receives a request, if one is there. Without fire-and-forget a request that its client gave up
+    /// is released and skipped.
+    pub fn receive(
+        &self,
+        hub: &mut Hub<Q, QH, P, PH>,
+    ) -> Result<Option<ActiveRequest<Q, QH, P, PH>>, ReceiveError>
+        requires has { HasValue hub.old self.now.node self.now.number kinds.Server }
+        requires calls { hub.old.control.tables.calls < 2 ^ 56 }
+        ensures left { hub.new ≡ with_control hub.old hub.new.control }
+        ensures whole { (x : Given) → IsWholeCall (state_of_hub x hub.old) self.now.node
+            (Receive self.now.number) (reply_of_request result) (state_of_hub x hub.new) }
+        ensures has { IfOk result (λ got. IfSome got (λ request.
+            HasValue hub.new request.node request.number kinds.ActiveRequest)) }
+        ensures node { IfOk result (λ got. IfSome got (λ request. request.node ≡ self.now.node)) }
+        ensures keeps { KeepsValues hub.old hub.new }
+        ensures refused { IfErr result (λ error. error ≡ ExceedsMaxBorrows) }
+    {
+        match hub.receive_request(self.node, self.number) {
+            Received::Handle(number) => Ok(Some(ActiveRequest::new(self.node, number))),
+            Received::Nothing => Ok(None),
+            Received::AtLimit => Err(ReceiveError::ExceedsMaxBorrows),
+        }
+    }
+
+    /// Whether a request waits. It may be one that is skipped, so that nothing is received then.
+    pub fn has_requests(&self, hub: &Hub<Q, QH, P, PH>) -> Result<bool, ConnectionFailure>
+        requires has { HasValue hub.now self.now.node self.now.number kinds.Server }
+        ensures whole { IfOk result (λ waits. (x : Given)
+            → IsWholeCall (state_of_hub x hub.now) self.now.node
+            (HasRequests self.now.number) (Answer waits) (state_of_hub x hub.now)) }
+        ensures told { IsOk result }
+    {
+        Ok(hub.has_requests(self.node, self.number))
+    }
+
+    /// Does nothing: ports are connected as they are made.
+    pub fn update_connections(&self, _hub: &Hub<Q, QH, P, PH>) -> Result<(), ConnectionFailure>
+        requires has { HasValue _hub.now self.now.node self.now.number kinds.Server }
+        ensures { IsOk result }
+    {
+        Ok(())
+    }
+
+    /// Whether the hub still has it.
+    pub fn exists(&self, hub: &Hub<Q, QH, P, PH>) -> bool
+        ensures { IsTrue result ↔ HasValue hub.now self.now.node self.now.number kinds.Server }
+    {
+        hub.has(self.node, self.number, Kind::Server, 0)
+    }
+
+    /// Gives it up. Where the hub no longer has it, nothing changes.
+    pub fn release(self, hub: &mut Hub<Q, QH, P, PH>)
+        ensures { IsReleased hub.old self.node self.number kinds.Server hub.new }
+    {
+        let Server {
+            node,
+            number,
+            of: _,
+        } = self;
+        release_port(hub, node, number, Kind::Server);
+    }
+}
