@@ -1,0 +1,16 @@
+pub mod HeldElsewhere
+pub mod UnnamedSlots
+pub mod HoldingLaws
+pub mod HeldSteps
+pub mod HeldEnds
+pub mod TakenSlots
+pub mod HeldBegins
+pub mod WireWays
+pub mod OutNowhere
+pub mod FreeSlots
+pub mod UnsentSlots
+pub mod Aside
+pub mod FarSlots
+pub mod OthersNames
+pub mod PickedSlots
+pub mod WorkedSlots

@@ -1,0 +1,14 @@
+pub mod Opens
+pub mod RequestStates
+pub mod SendsClose
+pub mod CallsClose
+pub mod FirmOwners
+pub mod Releases
+pub mod Pushes
+pub mod PushesTold
+pub mod OpenedSends
+pub mod OpenedCalls
+pub mod OwnMoments
+pub mod SentStates
+pub mod WorkedOwners
+pub mod Borrowed
