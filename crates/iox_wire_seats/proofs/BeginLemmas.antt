@@ -28,7 +28,8 @@ use Rattle.iox_wire_locals.specs.Tables.{Setting, way_in}
 use Rattle.iox_wire_locals.specs.Known.{known}
 use Rattle.iox_wire_locals.specs.Courses.{placed, ended}
 use Rattle.iox_wire_locals.specs.ReceiveCourses.{releasing, returning, closing, states_for}
-use Rattle.iox_wire_seats.specs.Seats.{Agrees, ArePorts, IsInMemory, node_at}
+use Rattle.iox_wire_seats.specs.Seats.{Agrees, ArePorts, node_at}
+use Rattle.iox_wire_seats.specs.Aims.{IsInMemory}
 
 -- ---- memory
 

@@ -31,7 +31,7 @@ none_from w (b ∷ bs) h = by_case (same_way b.way w) refl h (none_from w bs)
     by_case true is h rest = absurd (omega (arith, h))
     by_case false is h rest = (is, rest (omega (arith, h)))
 
-some-none : {n : ℕ} → Some n ≡ None → ⊥
+pub some-none : {n : ℕ} → Some n ≡ None → ⊥
 some-none e = none-some _ (sym e)
 
 pub none_is : (w : Way) (bs : List Borrowed) → position (λ b. same_way b.way w) bs ≡ None → AreOfOtherWays w bs

@@ -1,4 +1,6 @@
 pub mod RowLemmas
 pub mod CountLemmas
 pub mod SlotLemmas
+pub mod PickLemmas
 pub mod BeginLemmas
+pub mod DeskLemmas

@@ -13,17 +13,17 @@ use Rattle.std.proofs.lemmas.List.FromFn.{length-range_with_len, map-range_with_
 use Rattle.std.specs.List.{range_with_len}
 use Rattle.iox_wire_seats.specs.Slots.{AreFreeSlots, HasRoomFor}
 
-within : (uses : List ℕ) (slot : ℕ) → 0 < slice_index uses slot → slot < length uses
+pub within : (uses : List ℕ) (slot : ℕ) → 0 < slice_index uses slot → slot < length uses
 within uses slot h = by_case (nat_lt slot (length uses)) refl
   where
     by_case : (t : Bool) → nat_lt slot (length uses) ≡ t → slot < length uses
     by_case true e = ltb-true _ _ e
     by_case false e = let past : get_or uses slot 0 ≡ 0 = get_or_past uses slot 0 (ltb-false _ _ e) in absurd (omega (arith, past, h))
 
-not_zero : (n : ℕ) → 0 < n → ◌≡◌ {A = ℕ} (cond (n == 0) 1 0) 0
+pub not_zero : (n : ℕ) → 0 < n → ◌≡◌ {A = ℕ} (cond (n == 0) 1 0) 0
 not_zero n h = ap (λ (b : Bool). cond {A = ℕ} b 1 0) (differ_up n 0 h)
 
-one_more : (uses : List ℕ) (slot : ℕ) → 0 < slice_index uses slot
+pub one_more : (uses : List ℕ) (slot : ℕ) → 0 < slice_index uses slot
     → count_by (λ n. n == 0) (set uses slot 0) ≡ count_by (λ n. n == 0) uses + 1
 one_more uses slot h =
     let e : count_by (λ n. n == 0) (set uses slot 0) + cond (get_or uses slot 0 == 0) 1 0 ≡ count_by (λ n. n == 0) uses + 1 =

@@ -2,9 +2,11 @@
 pub mod Rows
 -- how many messages of each way it has
 pub mod Counts
--- a desk
+-- a desk, and those of a node
 pub mod Slots
--- a seat
+pub mod Desks
+-- a seat, and the places that it knows of
 pub mod Seats
+pub mod Aims
 -- for proofs of this crate alone: where a party of a queue is
 pub mod Places

@@ -1,70 +1,81 @@
--- A node's own part of a wire in memory: what it stands for, and which places it knows of.
-use Rattle.std.specs.Prelude.{◌≡◌, ◌+◌, ◌<◌, ◌^◌, ℕ, Bool, true, false, List, [], ◌∷◌, map, slice_index, Option, Some, None}
-use Rattle.iox_model.specs.declared.kind.Kind.TheVariants.{ActiveRequest}
+-- A node's own part of a wire in memory: what it stands for.
+use Rattle.std.specs.Prelude.{◌≡◌, ℕ, Bool, List, [], ◌∷◌, map, slice_index}
 use Rattle.iox_model.specs.declared.reply.Reply.TheVariants as replies
+use Rattle.iox_model.specs.declared.way.Way.{Way}
 use Rattle.iox_model.specs.Commands.{Reply}
-use Rattle.iox_model.specs.Handles.{is_received, same_kind}
 use Rattle.iox_steps.specs.declared.site.Site.{Site}
 use Rattle.iox_steps.specs.declared.side.Pushing.{Pushing}
-use Rattle.iox_steps.specs.declared.side.QueueEvent.{QueueEvent}
-use Rattle.iox_steps.specs.declared.side.QueueEvent.TheVariants.{Publish}
-use Rattle.iox_steps.specs.Sites.{size}
-use Rattle.iox_word_map.specs.WordMaps.{ReturningQueue}
-use Rattle.iox_wire_words.specs.Programs.{site_of, state_place}
+use Rattle.iox_steps.specs.declared.side.Popping.{Popping}
 use Rattle.iox_word_places.specs.declared.plan.WirePlan.{WirePlan}
 use Rattle.iox_word_places.specs.declared.plan.PlanPort.{PlanPort}
 use Rattle.iox_word_places.specs.Plans.{layout_of}
 use Rattle.iox_wire_locals.specs.declared.table.Entry.{Entry}
 use Rattle.iox_wire_locals.specs.declared.table.Desk.{Desk}
 use Rattle.iox_wire_locals.specs.declared.table.Borrowed.{Borrowed}
+use Rattle.iox_wire_locals.specs.declared.local.CallRefusal.{CallRefusal}
 use Rattle.iox_wire_locals.specs.declared.local.Ending.TheVariants as endings
 use Rattle.iox_wire_locals.specs.declared.local.Local.{Local}
-use Rattle.iox_wire_locals.specs.declared.local.Local.TheVariants.{Idle, Ends, ReleaseReturns, ReleaseLooks, ReleaseExchanges}
+use Rattle.iox_wire_locals.specs.declared.local.Local.TheVariants.{Idle, Ends, ReleaseReturns, ReleaseLooks, ReleaseExchanges, ReleaseCloses, Reads, Writes, Checks, Hints, HintExchanges, Seeks}
 use Rattle.iox_wire_locals.specs.declared.seat.Seat.{Seat}
-use Rattle.iox_wire_locals.specs.Tables.{Setting, way_in, state_in}
-use Rattle.iox_wire_seats.specs.declared.seat.At.{At}
-use Rattle.iox_wire_seats.specs.declared.seat.At.TheVariants as at
+use Rattle.iox_wire_locals.specs.Tables.{Setting}
+use Rattle.iox_wire_locals.specs.Doings.{refusal_of}
+use Rattle.iox_wire_seats.specs.declared.at.At.{At}
+use Rattle.iox_wire_seats.specs.declared.at.At.TheVariants as at
+use Rattle.iox_wire_seats.specs.declared.at.SeatReply.{SeatReply}
+use Rattle.iox_wire_seats.specs.declared.at.SeatReply.TheVariants as seat_replies
+use Rattle.iox_wire_seats.specs.declared.message_places.MessagePlaces.{MessagePlaces}
+use Rattle.iox_wire_seats.specs.declared.stops.Stop.{Stop}
 
 -- A seat, for how many more handles it has room, and where the words stand that its call accesses:
--- a queue, and a request state.
+-- a queue, a request state, so many words of a message, and those of the ways that it visits next.
+-- And the words of the message, as far as it knows them.
 pub record Placed : Type 0 where
   pub seat : Seat
   pub room : ℕ
   pub site : Site
   pub state : ℕ
+  pub message : MessagePlaces
+  pub count : ℕ
+  pub words : List ℕ
+  pub left : List Stop
 
--- the place of a call that a name and the numbers beside it stand for
-abbrev pub local_of : At → Entry → Pushing → ℕ → Local
-local_of at.Idle e place seen = Idle
-local_of at.Drops e place seen = Ends (endings.Drops e)
-local_of at.ReleaseReturns e place seen = ReleaseReturns e place
-local_of at.ReleaseLooks e place seen = ReleaseLooks e
-local_of at.ReleaseExchanges e place seen = ReleaseExchanges e seen
+-- What stands beside the name of a place.
+pub record Beside : Type 0 where
+  pub entry : Entry
+  pub pushing : Pushing
+  pub popping : Popping
+  pub seen : ℕ
+  pub words : List ℕ
+  pub next : ℕ
+  pub refusal : CallRefusal
+  pub flag : Bool
+  pub way : Way
+  pub left : List Stop
 
--- the queue that stands there is in memory
-abbrev pub IsInMemory : Site → Type 0
-IsInMemory site = site.base + size site < 2 ^ 64
+-- the ways of stops
+abbrev pub ways_of : List Stop → List Way
+ways_of stops = map (λ s. s.way) stops
 
--- what is released was received
-abbrev pub IsReceivedAt : At → Entry → Type 0
-IsReceivedAt at.Idle e = Unit {0}
-IsReceivedAt name e = is_received e.kind ≡ true
-
--- the place that it knows of is that of the request state of the entry, if it is a request
-abbrev pub KnowsState : Setting → Entry → ℕ → Type 0
-KnowsState p e place =
-    same_kind e.kind ActiveRequest ≡ true → place ≡ state_place p.layout (state_in e)
-
--- the places that it knows of are those of the words that its call still accesses
-abbrev pub AreAimed : Setting → Local → Site → ℕ → Type 0
-AreAimed p (ReleaseReturns e place) site state =
-    (site ≡ site_of p.layout (ReturningQueue (way_in e))) × KnowsState p e state
-AreAimed p (ReleaseLooks e) site state = state ≡ state_place p.layout (state_in e)
-AreAimed p (ReleaseExchanges e old) site state = state ≡ state_place p.layout (state_in e)
-AreAimed p local site state = Unit {0}
-
-abbrev pub IsAimed : Setting → Placed → Type 0
-IsAimed p x = AreAimed p x.seat.local x.site x.state
+-- the place of a call that a name and what stands beside it stand for
+abbrev pub local_of : At → Beside → Local
+local_of at.Idle b = Idle
+local_of at.Drops b = Ends (endings.Drops b.entry)
+local_of at.DropsOwn b = Ends (endings.Drops b.entry)
+local_of at.Fills b = Ends (endings.Fills b.entry b.words)
+local_of at.Refuses b = Ends (endings.Refuses b.refusal)
+local_of at.TellsDone b = Ends endings.Done
+local_of at.TellsAnswer b = Ends (endings.Answers b.flag)
+local_of at.TellsWords b = Ends (endings.Words b.words)
+local_of at.ReleaseReturns b = ReleaseReturns b.entry b.pushing
+local_of at.ReleaseLooks b = ReleaseLooks b.entry
+local_of at.ReleaseExchanges b = ReleaseExchanges b.entry b.seen
+local_of at.ReleaseCloses b = ReleaseCloses b.entry b.way (ways_of b.left)
+local_of at.Reads b = Reads b.entry b.words
+local_of at.Writes b = Writes b.entry b.words b.next
+local_of at.Checks b = Checks b.entry b.flag b.way (ways_of b.left)
+local_of at.Hints b = Hints b.entry b.way (ways_of b.left)
+local_of at.HintExchanges b = HintExchanges b.entry b.way (ways_of b.left)
+local_of at.Seeks b = Seeks b.way b.popping (ways_of b.left)
 
 -- a node that did nothing yet
 abbrev pub new_seat : ℕ → List Desk → List Borrowed → Seat
@@ -79,15 +90,12 @@ new_seat node desks borrowed = record {
   local = Idle;
 }
 
--- a call that is over answers that it is done
-abbrev pub over_reply : Bool → Option Reply
-over_reply true = Some replies.Done
-over_reply false = None
-
--- a value joined those that wait
-abbrev pub is_publish : QueueEvent → Bool
-is_publish (Publish value) = true
-is_publish event = false
+-- what a call answers that is over, with these words loaded last
+abbrev pub reply_with : List ℕ → SeatReply → Reply
+reply_with words seat_replies.Done = replies.Done
+reply_with words (seat_replies.Answer told) = replies.Answer told
+reply_with words seat_replies.Words = replies.Words words
+reply_with words (seat_replies.Refused r) = replies.Refused (refusal_of r)
 
 -- ---- the plan
 

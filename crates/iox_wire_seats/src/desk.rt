@@ -7,6 +7,8 @@ ghost use Rattle.iox_model.specs.Handles.{is_request_loan, same_kind};
 ghost use Rattle.iox_wire_locals.specs.Desks.{counts_loan, gives_up, uses_less, uses_more};
 ghost use Rattle.iox_wire_seats.specs.Slots.{new_desk};
 
+mod lend;
+
 use iox_model::kind::Kind;
 use iox_model::way::Way;
 use iox_wire_locals::Entry;
@@ -44,7 +46,7 @@ pub struct StoredDesk {
 impl Model for StoredDesk {
     ghost use Rattle.std.specs.VecDeque.{deque_capacity};
     ghost use Rattle.iox_wire_locals.specs.declared.table.Desk.{Desk};
-    ghost use Rattle.iox_wire_seats.specs.Slots.{AreFreeSlots, HasRoomFor};
+    ghost use Rattle.iox_wire_seats.specs.Slots.{AreFreeSlots, HasRoomFor, HasSerials, MayBePicked};
 
     ghost Value = { Desk };
 
@@ -58,7 +60,8 @@ impl Model for StoredDesk {
       recorded = d.recorded.items;
     } };
 
-    ghost invariant = { λ d. AreFreeSlots d.uses.items d.free.items (deque_capacity d.free) × HasRoomFor d.uses.items (deque_capacity d.free_lanes) };
+    ghost invariant = { λ d. AreFreeSlots d.uses.items d.free.items (deque_capacity d.free) × HasRoomFor d.uses.items (deque_capacity d.free_lanes)
+        × MayBePicked d.uses.items d.free.items × HasSerials d.serials.items d.uses.items };
 }
 
 impl StoredDesk {
@@ -81,6 +84,14 @@ impl StoredDesk {
             free_lanes: numbers(alloc, lanes, pool)?,
             recorded: Vec::new(alloc),
         })
+    }
+
+    /// The port.
+    #[inline]
+    pub fn port(&self) -> u64
+        ensures { result ≡ self.now.port }
+    {
+        self.port
     }
 
     /// One more loan succeeded.

@@ -2,19 +2,26 @@
 //! is a few instructions and takes no memory.
 #![tactic(auto)]
 
+mod at;
 mod counts;
 mod desk;
+mod desks;
 mod entries;
+mod message_places;
 mod popper;
 mod pusher;
 mod seat;
-#[cfg(test)]
-mod tests;
+mod stops;
 mod uses;
+mod uses_calls;
 
+pub use at::SeatReply;
 pub use counts::Counts;
 pub use desk::StoredDesk;
+pub use desks::Desks;
 pub use entries::Entries;
+pub use message_places::MessagePlaces;
 pub use popper::Popper;
 pub use pusher::Pusher;
 pub use seat::StoredSeat;
+pub use stops::{Stop, Stops};

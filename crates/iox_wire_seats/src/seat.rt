@@ -1,36 +1,29 @@
 //! A node's own part of a wire.
-ghost use Rattle.std.specs.Prelude.{◌≡◌, ◌+◌, ◌-◌, length, map};
-ghost use Rattle.iox_model.specs.declared.kind.Kind.TheVariants.{ActiveRequest};
-ghost use Rattle.iox_model.specs.Handles.{same_kind};
-ghost use Rattle.iox_model.specs.Messages.{names};
-ghost use Rattle.iox_wire_locals.specs.Desks.{with_count};
-ghost use Rattle.iox_wire_locals.specs.Locals.{state_told};
-ghost use Rattle.iox_wire_locals.specs.Tables.{way_in as way_of_entry, without_entry};
-ghost use Rattle.iox_wire_seats.specs.Seats.{is_publish as joins};
+ghost use Rattle.std.specs.Prelude.{◌≡◌};
 
+mod ask;
+mod close;
+mod hint;
+mod read;
 mod release;
+mod seek;
+mod tell;
+mod write;
 
+use crate::at::{At, SeatReply};
 use crate::counts::Counts;
-use crate::desk::StoredDesk;
+use crate::desks::Desks;
 use crate::entries::Entries;
+use crate::message_places::MessagePlaces;
+use crate::popper::Popper;
 use crate::pusher::Pusher;
+use crate::stops::Stops;
 use iox_model::kind::Kind;
 use iox_model::way::Way;
-use iox_steps::{Access, QueueEvent, QueueKind, Site};
-use iox_wire_locals::Entry;
+use iox_steps::{Access, QueueKind, Site};
+use iox_wire_locals::{CallRefusal, Entry};
 use std::alloc::{AllocError, Global};
 use std::marker::Model;
-
-/// Where a node is in its call, without what belongs to it.
-#[derive(Clone, Copy)]
-pub enum At {
-    Idle,
-    /// No word is left to access: the entry is dropped.
-    Drops,
-    ReleaseReturns,
-    ReleaseLooks,
-    ReleaseExchanges,
-}
 
 const NO_ENTRY: Entry = Entry {
     number: 0,
@@ -51,6 +44,18 @@ const NO_SITE: Site = Site {
     capacity: 0,
 };
 
+const NO_WAY: Way = Way {
+    sender: 0,
+    receiver: 0,
+    lane: 0,
+};
+
+const NO_PLACES: MessagePlaces = MessagePlaces {
+    user: 0,
+    user_count: 0,
+    payload: 0,
+};
+
 /// What a node of a wire keeps for itself, and where it is in its call. Beside the name of that
 /// place stand the numbers of all places.
 #[derive(Drop)]
@@ -59,22 +64,38 @@ pub struct StoredSeat {
     accesses: u64,
     handles_made: u64,
     entries: Entries,
-    desks: Vec<StoredDesk>,
+    desks: Desks,
     counts: Counts,
     forgot: Vec<u64>,
     at: At,
     /// the handle that the call is of
     entry: Entry,
     pusher: Pusher,
+    popper: Popper,
     /// where the queue stands that the call accesses, and the request state
     site: Site,
     state: usize,
     /// what was seen of the request state
     seen: u64,
+    /// where the words of a message stand, so many; those that are known, and which one is stored
+    message: MessagePlaces,
+    count: usize,
+    words: Vec<u64>,
+    next: usize,
+    /// why the call is refused
+    refusal: CallRefusal,
+    /// whether it asks for a hint, or what it answers
+    flag: bool,
+    /// the way that it visits, and those that follow
+    way: Way,
+    left: Stops,
 }
 
 impl Model for StoredSeat {
-    ghost use Rattle.iox_wire_seats.specs.Seats.{IsInMemory, IsReceivedAt, Placed, local_of};
+    ghost use Rattle.std.specs.Prelude.{vec_capacity};
+    ghost use Rattle.iox_wire_seats.specs.Aims.{AreInMemory, AreVisited, HasWordsLeft, IsInMemory};
+    ghost use Rattle.iox_wire_seats.specs.Aims.{IsHeld, IsOfKind, MayBeHinted};
+    ghost use Rattle.iox_wire_seats.specs.Seats.{Placed, local_of};
 
     ghost Value = { Placed };
 
@@ -84,36 +105,55 @@ impl Model for StoredSeat {
         accesses = s.accesses;
         handles_made = s.handles_made;
         table = s.entries.entries;
-        desks = s.desks.items;
+        desks = s.desks;
         borrowed = s.counts;
         forgot = s.forgot.items;
-        local = local_of s.at s.entry s.pusher s.seen;
+        local = local_of s.at (record {
+          entry = s.entry;
+          pushing = s.pusher;
+          seen = s.seen;
+          popping = s.popper;
+          words = s.words.items;
+          next = s.next;
+          refusal = s.refusal;
+          flag = s.flag;
+          way = s.way;
+          left = s.left;
+        });
       };
       room = s.entries.room;
       site = s.site;
       state = s.state;
+      message = s.message;
+      count = s.count;
+      words = s.words.items;
+      left = s.left;
     } };
 
-    ghost invariant = { λ s. IsInMemory s.site × IsReceivedAt s.at s.entry };
+    ghost invariant = { λ s.
+        IsInMemory s.site × IsOfKind s.at s.entry × IsHeld s.at s.entry s.desks × AreInMemory s.message s.count
+        × HasWordsLeft s.at s.words.items s.next s.count (vec_capacity s.words)
+        × MayBeHinted s.at s.entry × AreVisited s.at s.site s.left };
 }
 
 impl StoredSeat {
-    ghost use Rattle.std.specs.Prelude.{◌≡◌, ◌+◌, ◌<◌, ◌^◌, IfOk, length};
+    ghost use Rattle.std.specs.Prelude.{◌≡◌, ◌+◌, ◌<◌, ◌^◌, IfOk};
     ghost use Rattle.iox_wire_words.specs.Programs.{program_access};
-    ghost use Rattle.iox_wire_locals.specs.Tables.{Setting};
+    ghost use Rattle.iox_wire_locals.specs.Begins.{is_busy};
+    ghost use Rattle.iox_wire_locals.specs.Tables.{Setting, entry_at};
     ghost use Rattle.iox_wire_locals.specs.Locals.{program_of};
-    ghost use Rattle.iox_wire_locals.specs.Steps.{next, tells};
-    ghost use Rattle.iox_wire_seats.specs.Seats.{IsAimed, new_seat, over_reply};
+    ghost use Rattle.iox_wire_seats.specs.Aims.{Answers, GoesOn, IsAimed, KeepsRoom, StaysAimed};
+    ghost use Rattle.iox_wire_seats.specs.Seats.{new_seat};
 
     /// A node between calls, with no handles and room for so many.
     pub fn new(
         alloc: Global,
         node: u64,
         room: usize,
-        desks: Vec<StoredDesk>,
+        desks: Desks,
         counts: Counts,
     ) -> Result<StoredSeat, AllocError>
-        ensures seat { IfOk result (λ s. s.seat ≡ new_seat node desks.items counts) }
+        ensures seat { IfOk result (λ s. s.seat ≡ new_seat node desks counts) }
         ensures room { IfOk result (λ s. s.room ≡ room) }
     {
         Ok(StoredSeat {
@@ -127,10 +167,40 @@ impl StoredSeat {
             at: At::Idle,
             entry: NO_ENTRY,
             pusher: Pusher::new(),
+            popper: Popper::new(),
             site: NO_SITE,
             state: 0,
             seen: 0,
+            message: NO_PLACES,
+            count: 0,
+            words: Vec::new(alloc),
+            next: 0,
+            refusal: CallRefusal::WrongKind,
+            flag: false,
+            way: NO_WAY,
+            left: Stops::new(alloc),
         })
+    }
+
+    /// Whether a call is under way.
+    pub fn is_busy(&self) -> bool
+        ensures { result ≡ is_busy self.now.seat.local }
+    {
+        !matches!(self.at, At::Idle)
+    }
+
+    /// The handle of that number.
+    pub fn entry(&self, number: u64) -> Option<Entry>
+        ensures { result ≡ entry_at number self.now.seat.table }
+    {
+        self.entries.find(number)
+    }
+
+    /// The words that its last call loaded.
+    pub fn words(&self) -> &[u64]
+        ensures { result.now ≡ self.now.words }
+    {
+        &self.words
     }
 
     /// The access that it makes next.
@@ -139,114 +209,53 @@ impl StoredSeat {
         ensures { (p : Setting) → IsAimed p self.now → result ≡ program_access p.layout (program_of p self.now.seat.local) }
     {
         match self.at {
-            At::Idle | At::Drops => Access::Local,
+            At::Idle | At::Drops | At::DropsOwn | At::Fills | At::Refuses => Access::Local,
+            At::TellsDone | At::TellsAnswer | At::TellsWords => Access::Local,
             At::ReleaseReturns => self.pusher.access(self.site),
             At::ReleaseLooks => Access::Load(self.state),
             At::ReleaseExchanges => Access::CompareExchange(self.state, self.seen, 0),
+            At::ReleaseCloses => Access::Store(self.state, 0),
+            At::Reads => {
+                let next = self.message.word(self.words.len(), self.count);
+                Access::Load(next)
+            }
+            At::Writes => Access::Store(self.message.payload + self.next, self.words[self.next]),
+            At::Checks | At::Hints => Access::Load(self.state),
+            At::HintExchanges => {
+                let named = self.entry.request + 1;
+                Access::CompareExchange(self.state, named, named + (1 << 63))
+            }
+            At::Seeks => self.popper.access(self.site),
         }
     }
 
-    /// Goes on after its access, which found `seen`, and says whether its call is over.
+    /// Goes on after its access, which found `seen`. If its call is over it says what that answers.
     #[inline]
-    pub fn go_on(&mut self, seen: u64) -> bool
+    pub fn go_on(&mut self, seen: u64) -> Option<SeatReply>
         requires { self.old.seat.accesses + 1 < 2 ^ 64 }
-        ensures next { (p : Setting) → IsAimed p self.old → self.new.seat ≡ next p self.old.seat seen }
-        ensures over { (p : Setting) → IsAimed p self.old → tells p self.old.seat seen ≡ over_reply result }
-        ensures aimed { (p : Setting) → IsAimed p self.old → IsAimed p self.new }
+        ensures next { GoesOn self.old seen self.new }
+        ensures over { Answers self.old seen result self.new }
+        ensures aimed { StaysAimed self.old self.new }
         ensures accesses { self.new.seat.accesses ≡ self.old.seat.accesses + 1 }
-        ensures room { self.new.room + length self.new.seat.table ≡ self.old.room + length self.old.seat.table }
+        ensures room { KeepsRoom self.old self.new }
     {
-        self.accesses += 1;
         match self.at {
-            At::Idle => return false,
-            At::Drops => {}
-            At::ReleaseReturns => {
-                let event = self.pusher.advance(self.site, seen);
-                if !is_publish(event) {
-                    return false;
-                }
-                if is_request(self.entry.kind) {
-                    self.at = At::ReleaseLooks;
-                    return false;
-                }
+            At::Idle => {
+                self.accesses += 1;
+                None
             }
-            At::ReleaseLooks => {
-                if is_named(seen, self.entry.request) {
-                    self.seen = seen;
-                    self.at = At::ReleaseExchanges;
-                    return false;
-                }
+            At::Drops | At::ReleaseReturns | At::ReleaseLooks | At::ReleaseExchanges => {
+                self.release_on(seen)
             }
-            At::ReleaseExchanges => {
-                if seen != self.seen && is_named(seen, self.entry.request) {
-                    self.seen = seen;
-                    return false;
-                }
+            At::Fills | At::Refuses | At::TellsDone | At::TellsAnswer | At::TellsWords => {
+                self.tell_on(seen)
             }
-        }
-        drop_received(&mut self.entries, &mut self.counts, self.entry);
-        self.at = At::Idle;
-        true
-    }
-}
-
-/// Whether a request state, as its word tells it, names that request.
-#[inline]
-fn is_named(word: u64, request: u64) -> bool
-    ensures { result ≡ names (state_told word) request }
-{
-    let hinted = (1 << 63) + 1;
-    if word == 0 {
-        false
-    } else if word >= hinted {
-        word - hinted == request
-    } else {
-        word - 1 == request
-    }
-}
-
-/// Whether a handle is an active request.
-#[inline]
-fn is_request(kind: Kind) -> bool
-    ensures { result ≡ same_kind kind ActiveRequest }
-{
-    matches!(kind, Kind::ActiveRequest)
-}
-
-/// The way on which a received message came.
-#[inline]
-fn way_in(entry: Entry) -> Way
-    ensures { result ≡ way_of_entry entry }
-{
-    if is_request(entry.kind) {
-        Way {
-            sender: entry.client,
-            receiver: entry.port,
-            lane: 0,
-        }
-    } else {
-        Way {
-            sender: entry.sender,
-            receiver: entry.port,
-            lane: entry.lane,
+            At::DropsOwn | At::ReleaseCloses => self.close_on(seen),
+            At::Reads => self.read_on(seen),
+            At::Writes => self.write_on(seen),
+            At::Checks => self.check_on(seen),
+            At::Hints | At::HintExchanges => self.hint_on(seen),
+            At::Seeks => self.seek_on(seen),
         }
     }
-}
-
-/// A received message is given up.
-fn drop_received(entries: &mut Entries, counts: &mut Counts, entry: Entry)
-    ensures entries { entries.new.entries ≡ without_entry entry entries.old.entries }
-    ensures room { entries.new.room + length entries.new.entries ≡ entries.old.room + length entries.old.entries }
-    ensures counts { counts.new ≡ map (with_count (way_of_entry entry) (λ n. n - 1)) counts.old }
-{
-    counts.remove(way_in(entry));
-    entries.remove(entry);
-}
-
-/// Whether a value joined those that wait.
-#[inline]
-fn is_publish(event: QueueEvent) -> bool
-    ensures { result ≡ joins event }
-{
-    matches!(event, QueueEvent::Publish(_))
 }

@@ -1,5 +1,5 @@
 //! Callers, proved from the clauses alone.
-ghost use Rattle.std.specs.Prelude.{◌≡◌, ◌+◌, ◌<◌, ◌^◌, ◌++◌, ◌∷◌, [], IfOk, Some, slice_index};
+ghost use Rattle.std.specs.Prelude.{◌≡◌, ◌+◌, ◌<◌, ◌^◌, ◌++◌, ◌∷◌, [], IfOk, IfSome, List, Some, map, slice_index, ℕ};
 ghost use Rattle.iox_model.specs.declared.kind.Kind.TheVariants.{Response};
 ghost use Rattle.iox_model.specs.Messages.{response_way};
 ghost use Rattle.iox_steps.specs.declared.access.Access.TheVariants.{Load};
@@ -11,10 +11,15 @@ ghost use Rattle.iox_wire_words.specs.Programs.{program_access};
 ghost use Rattle.iox_wire_locals.specs.Tables.{Setting};
 ghost use Rattle.iox_word_places.specs.declared.way_index.WayIndex.TheVariants.{Responses};
 ghost use Rattle.iox_word_places.specs.Plans.{IsWayAt, way_at};
-ghost use Rattle.iox_wire_seats.specs.Seats.{Agrees, IsAimed};
+ghost use Rattle.iox_wire_locals.specs.Desks.{counts_loan, on_desk};
+ghost use Rattle.iox_wire_seats.specs.Aims.{IsAimed};
+ghost use Rattle.iox_wire_seats.specs.Desks.{MayCount, free_at};
+ghost use Rattle.iox_wire_seats.specs.Seats.{Agrees};
 
+use crate::at::SeatReply;
 use crate::counts::Counts;
 use crate::desk::StoredDesk;
+use crate::desks::Desks;
 use crate::entries::Entries;
 use crate::popper::Popper;
 use crate::pusher::Pusher;
@@ -95,7 +100,7 @@ pub fn released_by_one_step(
     client: usize,
     server: usize,
     seen: u64,
-) -> bool
+) -> Option<SeatReply>
     requires kind { entry.kind ≡ Response }
     requires way { IsWayAt map.now (Responses client server entry.lane) }
     requires ports { way_at map.now (Responses client server entry.lane) ≡ response_way entry.port entry.lane entry.sender }
@@ -104,4 +109,27 @@ pub fn released_by_one_step(
 {
     seat.release_response(map, entry, client, server);
     seat.go_on(seen)
+}
+
+/// The first free slot is picked, and is free no more.
+pub fn picked_first(desk: &mut StoredDesk, serial: u64, lane: u64) -> Option<u64>
+    ensures { (slot : ℕ) → (free : List ℕ) → desk.old.free ≡ slot ∷ free → IfSome result (λ picked. picked ≡ slot) }
+{
+    desk.pick(serial, lane)
+}
+
+/// Without a free slot no desk changes.
+pub fn none_is_picked(desks: &mut Desks, port: u64, serial: u64, lane: u64)
+    requires { free_at port desks.old ≡ [] }
+    ensures { desks.new ≡ desks.old }
+{
+    desks.pick(port, serial, lane);
+}
+
+/// A loan that succeeds is counted at the desk of its port.
+pub fn counted_at_its_port(desks: &mut Desks, port: u64)
+    requires { MayCount port desks.old }
+    ensures { desks.new ≡ map (on_desk port counts_loan) desks.old }
+{
+    desks.count_loan(port);
 }

@@ -1,5 +1,5 @@
 use Rattle.std.proofs.Common.{subst, sym}
-use Rattle.iox_wire_seats.specs.Seats.{IsInMemory}
+use Rattle.iox_wire_seats.specs.Aims.{IsInMemory}
 use Rattle.iox_wire_seats.proofs.BeginLemmas.{queue_in_memory}
 use Rattle.iox_wire_seats.proofs.seat.release.site_back.Goals as goal
 

@@ -1,0 +1,66 @@
+//! The read of a message.
+ghost use Rattle.std.specs.Prelude.{◌≡◌, ◌<◌};
+
+use super::StoredSeat;
+use crate::at::{At, SeatReply};
+use crate::message_places::MessagePlaces;
+use iox_wire_locals::Entry;
+use std::alloc::AllocError;
+
+impl StoredSeat {
+    ghost use Rattle.std.specs.Prelude.{◌≡◌, ◌+◌, ◌<◌, ◌^◌, OnErr, OnOk};
+    ghost use Rattle.iox_wire_locals.specs.Tables.{Setting};
+    ghost use Rattle.iox_wire_locals.specs.Begins.{reads};
+    ghost use Rattle.iox_wire_seats.specs.Aims.{Answers, AreInMemory, GoesOn, IsAimed, IsReading};
+    ghost use Rattle.iox_wire_seats.specs.Aims.{KeepsRoom, StandAt, StaysAimed};
+
+    /// Begins to read the message of a handle: so many words, which stand there. It makes room for
+    /// them.
+    pub fn read(
+        &mut self,
+        entry: Entry,
+        message: MessagePlaces,
+        count: usize,
+    ) -> Result<(), AllocError>
+        requires { AreInMemory message count }
+        ensures begun { (p : Setting) → StandAt p entry message count → OnOk result (self.new.seat ≡ reads p self.old.seat entry) }
+        ensures aimed { (p : Setting) → StandAt p entry message count → OnOk result (IsAimed p self.new) }
+        ensures accesses { self.new.seat.accesses ≡ self.old.seat.accesses }
+        ensures room { self.new.room ≡ self.old.room }
+        ensures unchanged { OnErr result (self.new ≡ self.old) }
+    {
+        if self.words.capacity() < count {
+            self.words.reserve(count)?;
+        }
+        self.words.clear();
+        self.entry = entry;
+        self.message = message;
+        self.count = count;
+        self.at = if count == 0 {
+            At::TellsWords
+        } else {
+            At::Reads
+        };
+        Ok(())
+    }
+
+    /// A word of the message is loaded.
+    #[inline]
+    pub(super) fn read_on(&mut self, seen: u64) -> Option<SeatReply>
+        requires there { IsReading self.old.seat.local }
+        requires accesses { self.old.seat.accesses + 1 < 2 ^ 64 }
+        ensures next { GoesOn self.old seen self.new }
+        ensures over { Answers self.old seen result self.new }
+        ensures aimed { StaysAimed self.old self.new }
+        ensures accesses { self.new.seat.accesses ≡ self.old.seat.accesses + 1 }
+        ensures room { KeepsRoom self.old self.new }
+    {
+        self.accesses += 1;
+        self.words.push_reserved(seen);
+        if self.words.len() < self.count {
+            return None;
+        }
+        self.at = At::Idle;
+        Some(SeatReply::Words)
+    }
+}
