@@ -6,6 +6,9 @@
 
 In crates.txt a comment line above a group of crates is the group's title. A crate's sentence is the first one of the
 `//!` lines of its src/lib.rt or src/main.rt. A library of the toolchain is named as crates.txt names it.
+
+With --check it also refuses a library of ours in crates.txt that the crate does not name: rt sums up the files of a
+library once for each way that leads down to it, so each needless line makes the gate slower.
 """
 import pathlib
 import re
@@ -58,6 +61,23 @@ def section():
     return "\n".join(lines + [END])
 
 
+def text_of(name):
+    """All that the crate says: code, statements, proofs and edits."""
+    files = [it for part in ("src", "specs", "proofs", "must-fail", "wrong-bodies") for it in (TOP / "crates" / name / part).rglob("*.*")]
+    return "\n".join(it.read_text() for it in files if it.suffix in (".rt", ".antt", ".edit"))
+
+
+def unnamed():
+    """The libraries of ours that a crate is given and does not name, as pairs."""
+    crates = [crate for _, found in groups() for crate in found]
+    ours = {name for name, _ in crates}
+    for name, below in crates:
+        text = text_of(name)
+        for it in below:
+            if it in ours and not re.search(rf"\bRattle\.{it}\b|\b{it}::|\buse {it}\b", text):
+                yield f"{name}: {it}"
+
+
 def main():
     page = PAGE.read_text()
     if page.count(BEGIN) != 1 or page.count(END) != 1:
@@ -68,6 +88,8 @@ def main():
         PAGE.write_text(wanted)
     elif page != wanted:
         sys.exit("crate_list: docs/ARCHITECTURE.md is not as tools/crate_list.py writes it")
+    elif found := list(unnamed()):
+        sys.exit("crate_list: crates.txt gives crates libraries that they do not name: " + ", ".join(found))
 
 
 if __name__ == "__main__":

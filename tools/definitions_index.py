@@ -14,10 +14,12 @@ TOP = pathlib.Path(__file__).resolve().parent.parent
 PAGE = TOP / "docs" / "DEFINITIONS-INDEX.md"
 CRATES = """iox_model iox_openers iox_weave_laws iox_worked iox_call_functions iox_weave_ledger iox_weave_worlds iox_weave_pools iox_run_laws
 iox_run_ledger iox_run_pools iox_reply_laws iox_service_laws iox_message_laws iox_weave_beats iox_wire_slots
-iox_word_map iox_wire_words iox_wire_moments iox_wire_locals iox_wire_seats iox_wire_keeping iox_wire_shows iox_wire_regions iox_wire_layouts iox_hub_states
+iox_word_map iox_wire_words iox_wire_moments iox_wire_locals iox_wire_seats iox_wire_keeping iox_wire_shows iox_wire_regions
+iox_wire_owners iox_wire_holding iox_wire_layouts iox_wire_messages iox_hub_states
 iox_hub_making iox_hub_loans iox_slots iox_hub_ports iox_hub_phases iox_hub_books iox_hub_lending iox_hub_keeping
 iox_hub_delivering iox_control iox_control_making iox_control_retrieving iox_control_questions iox_control_lending
-iox_control_ending iox_control_releasing iox_control_responses iox_control_requests iox_hub""".split()
+iox_control_ending iox_control_releasing iox_control_responses iox_control_requests iox_control_copies iox_control_request_copies iox_hub
+iceoryx2_ports""".split()
 NAMED = re.compile(r"^(?:abbrev pub|pub record|pub data) ([A-Za-z_0-9-]+)")
 
 

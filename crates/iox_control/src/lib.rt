@@ -10,8 +10,6 @@ mod received;
 mod receives;
 mod settings;
 mod slots;
-#[cfg(test)]
-mod tests;
 pub mod uses;
 
 pub use control::Control;

@@ -7,8 +7,6 @@ mod counts;
 mod lanes;
 mod lend;
 mod refusals;
-#[cfg(test)]
-mod tests;
 pub mod uses;
 mod writes;
 

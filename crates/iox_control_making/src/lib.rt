@@ -10,8 +10,6 @@ mod pipes;
 mod places;
 mod room;
 mod sizes;
-#[cfg(test)]
-mod tests;
 pub mod uses;
 
 pub use asked::{Asked, NotMade};

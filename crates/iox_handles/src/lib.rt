@@ -10,8 +10,3 @@ mod table;
 pub use entry::Entry;
 pub use entry_test::EntryTest;
 pub use table::Table;
-
-#[cfg(test)]
-mod tests;
-#[cfg(test)]
-mod uses;

@@ -6,7 +6,5 @@ pub mod info;
 pub mod port;
 pub mod ports;
 pub mod steps;
-#[cfg(test)]
-mod tests;
 pub mod uses;
 pub mod walks;

@@ -7,7 +7,5 @@ pub mod lane;
 pub mod pipe;
 pub mod search;
 pub mod states;
-#[cfg(test)]
-mod tests;
 pub mod uses;
 pub mod wanted;

@@ -18,8 +18,3 @@ pub use has_node::HasNode;
 pub use refusals::{RegisterNodeError, RegistryNewError, ReleaseError};
 pub use remaining_owners::RemainingOwners;
 pub use roles::Role;
-
-#[cfg(test)]
-mod tests;
-#[cfg(test)]
-mod uses;

@@ -13,6 +13,8 @@ mod names;
 #[cfg(test)]
 mod openers;
 #[cfg(test)]
+mod registry;
+#[cfg(test)]
 mod script;
 #[cfg(test)]
 mod service;

@@ -9,8 +9,3 @@ mod slot;
 
 pub use pools::Pools;
 pub use slot::Slot;
-
-#[cfg(test)]
-mod tests;
-#[cfg(test)]
-mod uses;

@@ -8,8 +8,3 @@ mod store;
 
 pub use payload::{Many, One, Payload, is_length};
 pub use store::Store;
-
-#[cfg(test)]
-mod tests;
-#[cfg(test)]
-mod uses;

@@ -3,9 +3,7 @@
 
 mod checks;
 mod laws;
-#[cfg(test)]
-mod tests;
-mod uses;
+pub mod uses;
 
 pub use checks::is_plan;
 pub use laws::layouts_meet_the_laws;

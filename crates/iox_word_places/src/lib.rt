@@ -7,8 +7,6 @@ mod laws;
 mod new_error;
 mod part_words;
 mod plan;
-#[cfg(test)]
-mod tests;
 mod uses;
 mod way_index;
 mod word_map;

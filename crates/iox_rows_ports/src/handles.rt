@@ -1,0 +1,3 @@
+//! Tests and callers of `iox_handles`.
+mod callers;
+mod tables;

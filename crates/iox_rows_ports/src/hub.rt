@@ -1,0 +1,3 @@
+//! Tests and callers of `iox_hub`.
+mod makes;
+mod starts;

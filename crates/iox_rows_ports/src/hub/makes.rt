@@ -1,0 +1,135 @@
+use iox_control::Settings;
+use iox_control_making::NotMade;
+use iox_hub::{Hub, MessageShape, Options, Part};
+use iox_model::kind::{Kind, Role};
+use iox_store::{Many, One};
+use iox_types::identifiers::UniqueSystemId;
+use iox_types::{AllocationStrategy, BackpressureStrategy};
+use std::alloc::{AllocError, Global};
+use std::test::Fail;
+
+const NODE: UniqueSystemId = UniqueSystemId {
+    process: 1,
+    seconds: 2,
+    nanoseconds: 3,
+    counter: 0,
+};
+
+const PART: Part = Part {
+    size: 8,
+    alignment: 8,
+};
+
+const OPTIONS: Options = Options {
+    max_slice_len: 2,
+    pool: None,
+    strategy: None,
+    allocation: None,
+    loaned_responses: None,
+};
+
+fn settings(client_allocation: AllocationStrategy) -> Settings {
+    Settings {
+        clients: 8,
+        servers: 2,
+        nodes: 2,
+        active_requests: 4,
+        loaned_requests: 2,
+        response_buffer: 2,
+        borrowed_responses: 2,
+        loaned_responses: 2,
+        client_expired: 0,
+        server_expired: 0,
+        request_overflow: true,
+        response_overflow: true,
+        fire_and_forget: true,
+        client_strategy: BackpressureStrategy::DiscardData,
+        server_strategy: BackpressureStrategy::DiscardData,
+        client_allocation,
+        server_allocation: AllocationStrategy::Static,
+    }
+}
+
+fn hub(
+    alloc: Global,
+    client_allocation: AllocationStrategy,
+) -> Result<Hub<Many<u64>, u32, One<u64>, ()>, AllocError> {
+    let request: MessageShape<u64, u32> = MessageShape {
+        default: Some(7),
+        user_header: 3,
+        header_part: PART,
+        user_part: PART,
+        element_part: PART,
+    };
+    let response: MessageShape<u64, ()> = MessageShape {
+        default: None,
+        user_header: (),
+        header_part: PART,
+        user_part: PART,
+        element_part: PART,
+    };
+    Hub::new(alloc, settings(client_allocation), request, response)
+}
+
+// the number, or 99 where no port was made
+fn number(made: Result<u64, NotMade>) -> u64 {
+    match made {
+        Ok(number) => number,
+        Err(_) => 99,
+    }
+}
+
+// why no port was made, if none was
+fn reason(made: Result<u64, NotMade>) -> Option<NotMade> {
+    match made {
+        Ok(_) => None,
+        Err(reason) => Some(reason),
+    }
+}
+
+#[test]
+fn a_client_and_a_server_are_made(rt: HostRuntime) -> Result<(), Fail> {
+    let mut hub = hub(rt.alloc(), AllocationStrategy::Static)?;
+    let client = hub.make_port(rt.alloc(), 0, Role::Client, NODE, OPTIONS);
+    assert_eq!(rt; number(client), 0);
+    let server = hub.make_port(rt.alloc(), 1, Role::Server, NODE, OPTIONS);
+    assert_eq!(rt; number(server), 1);
+    assert!(rt; hub.has(0, 0, Kind::Client, 0));
+    assert!(rt; hub.has(1, 1, Kind::Server, 0));
+    assert!(rt; !hub.has(0, 1, Kind::Server, 0));
+    assert_eq!(rt; hub.calls(), 0);
+    Ok(())
+}
+
+#[test]
+fn the_ninth_client_of_eight_is_refused(rt: HostRuntime) -> Result<(), Fail> {
+    let mut hub = hub(rt.alloc(), AllocationStrategy::Static)?;
+    for expected in 0..8u64 {
+        let client = hub.make_port(rt.alloc(), 0, Role::Client, NODE, OPTIONS);
+        assert_eq!(rt; number(client), expected);
+    }
+    let ninth = hub.make_port(rt.alloc(), 0, Role::Client, NODE, OPTIONS);
+    assert_eq!(rt; reason(ninth), Some(NotMade::TooManyPorts));
+    assert_eq!(rt; hub.kind(0, 8, 0), None);
+    Ok(())
+}
+
+#[test]
+fn a_port_that_is_too_large_or_would_grow_is_refused(rt: HostRuntime) -> Result<(), Fail> {
+    let mut hub = hub(rt.alloc(), AllocationStrategy::BestFit)?;
+    let growing = hub.make_port(rt.alloc(), 0, Role::Client, NODE, OPTIONS);
+    assert_eq!(rt; reason(growing), Some(NotMade::DataSegment));
+    let fixed = Options {
+        allocation: Some(AllocationStrategy::Static),
+        ..OPTIONS
+    };
+    let large = Options {
+        max_slice_len: 1 << 60,
+        ..fixed
+    };
+    let refused = hub.make_port(rt.alloc(), 0, Role::Client, NODE, large);
+    assert_eq!(rt; reason(refused), Some(NotMade::DataSegment));
+    let client = hub.make_port(rt.alloc(), 0, Role::Client, NODE, fixed);
+    assert_eq!(rt; number(client), 0);
+    Ok(())
+}

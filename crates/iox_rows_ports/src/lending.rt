@@ -1,0 +1,2 @@
+//! Tests and callers of `iox_control_lending`.
+mod refusals;

@@ -1,0 +1,2 @@
+//! Tests and callers of `iox_control_making`.
+mod makes;

@@ -1,0 +1,3 @@
+//! Tests and callers of `iox_slots`.
+mod callers;
+mod pools;

@@ -1,0 +1,4 @@
+//! Tests and callers of `iox_store`.
+mod callers;
+mod lengths;
+mod stores;

@@ -1,0 +1,11 @@
+//! Tests of typed ports, by what `iceoryx2_ports` makes public.
+#![tactic(auto)]
+
+#[cfg(test)]
+mod errors;
+#[cfg(test)]
+mod exchange;
+#[cfg(test)]
+mod refusals;
+#[cfg(test)]
+mod rounds;

@@ -1,0 +1,92 @@
+//! What typed ports refuse, by name.
+
+use crate::exchange::{Active, Exchange, NODE, hub, ports, receive, tell};
+use iceoryx2_ports::{
+    AllocationStrategy, BackpressureStrategy, ClientCreateError, LoanError, Many, One,
+    PortFactoryClient,
+};
+use std::alloc::Global;
+use std::test::Fail;
+
+/// What comes of an answer that is too long, and of one that is not as long as its loan.
+fn wrong_lengths(hub: &mut Exchange, request: &Active) -> Option<(Option<LoanError>, bool)> {
+    if !request.exists(hub) {
+        return None;
+    }
+    let long = match request.loan_slice_uninit(hub, 5) {
+        Ok(loan) => {
+            loan.release(hub);
+            None
+        }
+        Err(error) => Some(error),
+    };
+    if !request.exists(hub) {
+        return None;
+    }
+    let Ok(loan) = request.loan_slice_uninit(hub, 2) else {
+        return None;
+    };
+    match loan.write_from_slice(hub, &[1, 2, 3]) {
+        Ok(response) => {
+            response.release(hub);
+            Some((long, true))
+        }
+        Err(loan) => {
+            loan.release(hub);
+            Some((long, false))
+        }
+    }
+}
+
+#[test]
+fn lengths_are_minded(rt: HostRuntime) -> Result<(), Fail> {
+    let mut hub = hub(rt.alloc(), true, BackpressureStrategy::DiscardData)?;
+    let (client, server) = ports(rt.alloc(), &mut hub)?;
+    let sent = tell(&mut hub, &client, 1);
+    let told = match receive(&mut hub, &server) {
+        Some(request) => {
+            let told = wrong_lengths(&mut hub, &request);
+            request.release(&mut hub);
+            told
+        }
+        None => None,
+    };
+    client.release(&mut hub);
+    server.release(&mut hub);
+    assert_eq!(rt; sent, Some(Ok(1)));
+    assert_eq!(rt; told, Some((Some(LoanError::ExceedsMaxLoanSize), false)));
+    Ok(())
+}
+
+/// Why such a client is not made.
+fn refused(
+    alloc: Global,
+    hub: &mut Exchange,
+    factory: PortFactoryClient<One<u64>, (), Many<u8>, u32>,
+) -> Option<ClientCreateError> {
+    match factory.create(alloc, hub) {
+        Ok(client) => {
+            client.release(hub);
+            None
+        }
+        Err(error) => Some(error),
+    }
+}
+
+#[test]
+fn clients_are_refused_by_name(rt: HostRuntime) -> Result<(), Fail> {
+    let mut hub = hub(rt.alloc(), true, BackpressureStrategy::DiscardData)?;
+    let growing = PortFactoryClient::new(0, NODE).allocation_strategy(
+        AllocationStrategy::PowerOfTwo,
+    );
+    let first = refused(rt.alloc(), &mut hub, growing);
+    let (client, server) = ports(rt.alloc(), &mut hub)?;
+    let second = refused(rt.alloc(), &mut hub, PortFactoryClient::new(0, NODE));
+    client.release(&mut hub);
+    let third = refused(rt.alloc(), &mut hub, PortFactoryClient::new(0, NODE));
+    server.release(&mut hub);
+    assert_eq!(rt; first, Some(ClientCreateError::UnableToCreateDataSegment));
+    assert_eq!(rt; second, Some(ClientCreateError::ExceedsMaxSupportedClients));
+    assert_eq!(rt; third, None);
+    Ok(())
+}

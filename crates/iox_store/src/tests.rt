@@ -1,2 +1,0 @@
-mod lengths;
-mod stores;
