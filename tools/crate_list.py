@@ -5,7 +5,7 @@
     tools/crate_list.py --check    says whether it is as it would be written; exit 1 if not
 
 In crates.txt a comment line above a group of crates is the group's title. A crate's sentence is the first one of the
-`//!` lines of its src/lib.rt or src/main.rt. A library of the toolchain is named as crates.txt names it.
+`//!` lines of its src/lib.rt or src/main.rt. A crate of laws has a line for each of its modules. A library of the toolchain is named as crates.txt names it.
 
 With --check it also refuses a library of ours in crates.txt that the crate does not name: rt sums up the files of a
 library once for each way that leads down to it, so each needless line makes the gate slower.
@@ -34,20 +34,30 @@ def groups():
     return found
 
 
-def sentence(name):
-    """The first sentence of a crate's own description."""
-    roots = [TOP / "crates" / name / "src" / file for file in ("lib.rt", "main.rt")]
-    root = next(it for it in roots if it.exists())
+def first_sentence(file):
+    """The first sentence of what a file says of itself."""
     head = []
-    for line in root.read_text().splitlines():
+    for line in file.read_text().splitlines():
         if not line.startswith("//!"):
             break
         head.append(line[3:].strip())
-    text = " ".join(head)
-    first = re.match(r"(.*?\.)(?:\s|$)", text)
+    first = re.match(r"(.*?\.)(?:\s|$)", " ".join(head))
     if not first:
-        sys.exit(f"crate_list: {name} has no sentence at the head of {root.name}")
+        sys.exit(f"crate_list: {file.relative_to(TOP)} has no sentence at its head")
     return first[1]
+
+
+def root_of(name):
+    roots = [TOP / "crates" / name / "src" / file for file in ("lib.rt", "main.rt")]
+    return next(it for it in roots if it.exists())
+
+
+def modules(name):
+    """The modules of a crate of laws, in the order of its definitions."""
+    root = root_of(name)
+    if "Each module is there for" in root.read_text():
+        for camel in re.findall(r"^pub mod (\w+)", (root.parent.parent / "specs" / "Lib.antt").read_text(), re.M):
+            yield re.sub(r"(?<!^)([A-Z])", r"_\1", camel).lower()
 
 
 def section():
@@ -56,7 +66,9 @@ def section():
         lines += [f"### {title}", "", "| Crate | Has | Stands on |", "|---|---|---|"]
         for name, below in crates:
             shown = f"**`{name}`**" if name.startswith("iceoryx2") or name == "iox_run" else f"`{name}`"
-            lines.append(f"| {shown} | {sentence(name)} | {', '.join(f'`{it}`' for it in below)} |")
+            lines.append(f"| {shown} | {first_sentence(root_of(name))} | {', '.join(f'`{it}`' for it in below)} |")
+            for module in modules(name):
+                lines.append(f"| `{name}::{module}` | {first_sentence(root_of(name).parent / f'{module}.rt')} | |")
         lines.append("")
     return "\n".join(lines + [END])
 

@@ -4,7 +4,7 @@
     tools/definitions_index.py            writes the page
     tools/definitions_index.py --check    says whether the page is as it would be written; exit 1 if not
 
-A crate's files come in the order of its specs/Lib.antt.
+A crate's files come in the order of its specs/Lib.antt, those of a folder in the order of the file beside it.
 """
 import pathlib
 import re
@@ -12,11 +12,9 @@ import sys
 
 TOP = pathlib.Path(__file__).resolve().parent.parent
 PAGE = TOP / "docs" / "DEFINITIONS-INDEX.md"
-CRATES = """iox_model iox_openers iox_weave_laws iox_worked iox_call_functions iox_weave_ledger iox_weave_worlds iox_weave_pools iox_run_laws
-iox_run_ledger iox_run_pools iox_reply_laws iox_service_laws iox_message_laws iox_weave_beats iox_wire_slots
-iox_word_map iox_wire_words iox_wire_moments iox_wire_locals iox_wire_seats iox_wire_keeping iox_wire_shows iox_wire_regions
-iox_wire_owners iox_wire_holding iox_wire_layouts iox_wire_messages iox_hub_states
-iox_hub_making iox_hub_loans iox_slots iox_hub_ports iox_hub_phases iox_hub_books iox_hub_lending iox_hub_keeping
+CRATES = """iox_model iox_openers iox_laws
+iox_word_map iox_wire_words iox_wire_moments iox_wire_locals iox_wire_laws iox_wire_seats
+iox_wire_layouts iox_wire_messages iox_tables iox_slots iox_hub_ports iox_hub_phases
 iox_hub_delivering iox_control iox_control_making iox_control_retrieving iox_control_questions iox_control_lending
 iox_control_ending iox_control_releasing iox_control_responses iox_control_requests iox_control_copies iox_control_request_copies iox_hub
 iceoryx2_ports""".split()
@@ -51,17 +49,29 @@ def definitions(text):
     return sentence(head), found
 
 
+def modules(lib):
+    """The modules that a file declares, in its order."""
+    return re.findall(r"^pub mod (\w+)", lib.read_text(), re.M)
+
+
+def part(file, shown):
+    """The part of the page on one file."""
+    head, found = definitions(file.read_text())
+    out = [f"### `{shown}.antt`", "", head, ""]
+    out += [f"- `{it}`: {text}" for it, text in found if text]
+    bare = ", ".join(f"`{it}`" for it, text in found if not text)
+    return out + ([f"- beside them: {bare}"] if bare else []) + [""]
+
+
 def section(crate):
-    """The part of the page on one crate."""
+    """The part of the page on one crate. A module that has modules is a folder."""
     specs = TOP / "crates" / crate / "specs"
     out = [f"## `{crate}`", ""]
-    for name in re.findall(r"^pub mod (\w+)", (specs / "Lib.antt").read_text(), re.M):
-        head, found = definitions((specs / f"{name}.antt").read_text())
-        out += [f"### `{name}.antt`", "", head, ""]
-        out += [f"- `{it}`: {text}" for it, text in found if text]
-        bare = ", ".join(f"`{it}`" for it, text in found if not text)
-        out += [f"- beside them: {bare}"] if bare else []
-        out += [""]
+    for name in modules(specs / "Lib.antt"):
+        inner = modules(specs / f"{name}.antt")
+        for it in inner:
+            out += part(specs / name / f"{it}.antt", f"{name}/{it}")
+        out += [] if inner else part(specs / f"{name}.antt", name)
     return out
 
 

@@ -4,8 +4,8 @@
     tools/laws_list.py            writes the page
     tools/laws_list.py --check    says whether it is as it would be written; exit 1 if not
 
-A law is a public function of a crate's src/lib.rt whose body is empty: it is there for its contract. The sentence of a
-clause is the comment above its definition in specs/; where it has none, or the clause says more than one name, it is
+A law is a public function whose body is empty, in a crate's src/lib.rt or in a module of a crate of laws: it is there for
+its contract. The sentence of a clause is the comment above its definition in specs/; where it has none, or the clause says more than one name, it is
 the function's own.
 """
 import pathlib
@@ -28,10 +28,10 @@ def joined(comment, mark):
     return " ".join(line.removeprefix(mark).strip() for line in comment.splitlines()).strip()
 
 
-def definitions(crate):
-    """The comment above each definition of a crate."""
+def definitions(specs):
+    """The comment above each definition of a crate, or of a module of it."""
     found = {}
-    for file in sorted((crate / "specs").glob("**/*.antt")):
+    for file in sorted(specs.glob("**/*.antt")):
         for comment, name in DEFINED.findall(file.read_text()):
             if comment and not comment.startswith("-- ----"):
                 found[name] = joined(comment, "--")
@@ -43,10 +43,10 @@ def as_sentence(text):
     return text if text.endswith(".") else text + "."
 
 
-def rows_of(crate):
-    """The laws of a crate as rows: function, clause, what it says."""
-    said, rows = definitions(crate), []
-    for comment, name, clauses in LAW.findall((crate / "src" / "lib.rt").read_text()):
+def rows_of(source, specs):
+    """The laws of a file as rows: function, clause, what it says."""
+    said, rows = definitions(specs), []
+    for comment, name, clauses in LAW.findall(source.read_text()):
         own = joined(comment, "///")
         for clause, text in CLAUSE.findall(clauses):
             text = " ".join(text.split())
@@ -56,16 +56,32 @@ def rows_of(crate):
     return rows
 
 
+def sources(crate):
+    """The files of a crate that have laws, each with its name on the page and the folder of its definitions."""
+    root = crate / "src" / "lib.rt"
+    text = root.read_text() if root.exists() else ""
+    if "each is there for its contract" in text:
+        yield root, crate.name, crate / "specs"
+    if "Each module is there for" in text:
+        order = re.findall(r"^pub mod (\w+)", (crate / "specs" / "Lib.antt").read_text(), re.M)
+        for module in sorted(re.findall(r"(?m)^pub mod (\w+);", text), key=lambda it: order.index(camel(it))):
+            yield crate / "src" / f"{module}.rt", f"{crate.name}::{module}", crate / "specs" / camel(module)
+
+
+def camel(name):
+    """A module's name as that of its definitions: `hub_books`, `HubBooks`."""
+    return "".join(part.capitalize() for part in name.split("_"))
+
+
 def page():
     lines = [HEAD]
     for name in re.findall(r"(?m)^(\w+):", (TOP / "crates.txt").read_text()):
-        crate = TOP / "crates" / name
-        root = crate / "src" / "lib.rt"
-        rows = rows_of(crate) if root.exists() and "each is there for its contract" in root.read_text() else []
-        if rows:
-            head = [it[3:].strip() for it in root.read_text().splitlines() if it.startswith("//!")]
-            title = re.match(r"(.*?\.)(?:\s|$)", " ".join(head))[1]
-            lines += [f"## `{name}`", "", title, "", "| Law | Clause | Says |", "|---|---|---|", *rows, ""]
+        for source, shown, specs in sources(TOP / "crates" / name):
+            rows = rows_of(source, specs)
+            if rows:
+                head = [it[3:].strip() for it in source.read_text().splitlines() if it.startswith("//!")]
+                title = re.match(r"(.*?\.)(?:\s|$)", " ".join(head))[1]
+                lines += [f"## `{shown}`", "", title, "", "| Law | Clause | Says |", "|---|---|---|", *rows, ""]
     return "\n".join(lines)
 
 

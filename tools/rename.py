@@ -20,6 +20,7 @@ the crates whose names change can be carried over as well. Kinds of lines in the
     member CRATES OLD NEW       a method or a field, in these crates (comma between them), wherever it follows a dot
     local FILE OLD NEW          every such word of one file, or of a crate
     prose CRATE OLD => NEW      words in comments of a crate, or on a page
+    joined OLD NEW MODULE       a crate that is a module of another now; applied last
     page FILE CRATE             the crate whose names a page has between backticks, where it names none
 """
 import pathlib
@@ -27,6 +28,7 @@ import re
 import sys
 
 import rename_check
+import rename_joined
 import rename_tree
 
 HERE = pathlib.Path(__file__).resolve().parent
@@ -38,7 +40,7 @@ class Rules:
     def __init__(self, path):
         self.moved, self.alias, self.crates, self.modules, self.sources = [], {}, {}, {}, {}
         self.names, self.variants, self.words, self.members, self.locals, self.prose = {}, {}, {}, {}, [], {}
-        self.pages, self.seen = {}, {}
+        self.pages, self.seen, self.joined = {}, {}, {}
         for line in path.read_text().splitlines():
             kind, *rest = line.split("#")[0].split() or [""]
             if kind == "prose":
@@ -88,6 +90,9 @@ class Rules:
 
     def add_page(self, path, crate):
         self.pages[path] = crate
+
+    def add_joined(self, old, new, module):
+        self.joined[old] = new, module
 
     def of(self, crate):
         """The crate by whose rules a crate's names go."""
@@ -141,6 +146,7 @@ def rename(root, rules, dry):
             made[tree.place(path)] = rename_tree.page(tree, path, text)
         else:
             made[path] = text
+    made = rename_joined.joined(made, rules)
     gone = [p for p in tree.old if p not in made]
     changed = [p for p, t in made.items() if tree.old.get(p) != t]
     for path in [] if dry else gone:

@@ -27,9 +27,9 @@ use Rattle.iox_model.specs.Settings.{is_client, is_count}
 use Rattle.iox_model.specs.States.{Port, Handle, Fixed, State}
 use Rattle.iox_model.specs.Transitions.{next, ends}
 use Rattle.iox_model.specs.WholeCalls.{left_by, MayCome}
-use Rattle.iox_weave_laws.proofs.MapLemmas.{either}
-use Rattle.iox_weave_laws.proofs.WholeLemmas.{some-is}
-use Rattle.iox_weave_ledger.proofs.Truths.{by_cases, none-some}
+use Rattle.iox_laws.proofs.WeaveLaws.MapLemmas.{either}
+use Rattle.iox_laws.proofs.WeaveLaws.WholeLemmas.{some-is}
+use Rattle.iox_laws.proofs.WeaveLedger.Truths.{by_cases, none-some}
 use Rattle.iceoryx2_ports.specs.Keeping.{spends}
 
 -- the end only adds handles

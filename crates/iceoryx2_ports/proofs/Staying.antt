@@ -18,14 +18,14 @@ use Rattle.iox_model.specs.Names.{misnamed}
 use Rattle.iox_model.specs.Peers.{port_at}
 use Rattle.iox_model.specs.States.{Port, Handle, Fixed, State}
 use Rattle.iox_model.specs.WholeCalls.{IsDone, IsWholeCall, UnlessRefused, moved_by, left_by, spent}
-use Rattle.iox_weave_laws.proofs.MapLemmas.{either}
-use Rattle.iox_weave_laws.proofs.WholeLemmas.{moved_by-fixed}
-use Rattle.iox_weave_ledger.proofs.Truths.{none-some}
-use Rattle.iox_hub_states.specs.States.{Given}
-use Rattle.iox_hub_states.specs.Tables.{HubTables}
-use Rattle.iox_hub_loans.specs.Loans.{loan_call}
-use Rattle.iox_hub_loans.specs.Questions.{kind_in}
-use Rattle.iox_hub_loans.proofs.Asked.{each_value_is_there}
+use Rattle.iox_laws.proofs.WeaveLaws.MapLemmas.{either}
+use Rattle.iox_laws.proofs.WeaveLaws.WholeLemmas.{moved_by-fixed}
+use Rattle.iox_laws.proofs.WeaveLedger.Truths.{none-some}
+use Rattle.iox_tables.specs.HubStates.States.{Given}
+use Rattle.iox_tables.specs.HubStates.Tables.{HubTables}
+use Rattle.iox_tables.specs.HubLoans.Loans.{loan_call}
+use Rattle.iox_tables.specs.HubLoans.Questions.{kind_in}
+use Rattle.iox_tables.proofs.HubLoans.Asked.{each_value_is_there}
 use Rattle.iox_hub.specs.Hubs.{HasValue, HubState, given_by, state_of_hub}
 use Rattle.iceoryx2_ports.specs.Keeping.{KeepsValues, spends}
 use Rattle.iceoryx2_ports.proofs.Gathering.{Gathers, at_gathers, by_gathers, ended_gathers}

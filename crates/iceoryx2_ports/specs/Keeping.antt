@@ -2,7 +2,7 @@
 use Rattle.std.specs.Prelude.{◌≡◌, ℕ, Bool, true, false, IsSome}
 use Rattle.iox_model.specs.declared.call.Call.TheVariants.{Release, Send, Write}
 use Rattle.iox_model.specs.Commands.{Call}
-use Rattle.iox_hub_loans.specs.Questions.{kind_in}
+use Rattle.iox_tables.specs.HubLoans.Questions.{kind_in}
 use Rattle.iox_hub.specs.Hubs.{HubState}
 
 -- whether the call ends a value, or makes another of it

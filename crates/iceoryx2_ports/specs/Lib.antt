@@ -5,7 +5,7 @@ pub use Rattle.iox_model.specs.declared.call.Call
 pub use Rattle.iox_model.specs.declared.kind.Kind
 pub use Rattle.iox_model.specs.declared.reply.Refusal
 pub use Rattle.iox_model.specs.declared.reply.Reply
-pub use Rattle.iox_hub_states.specs.States
+pub use Rattle.iox_tables.specs.HubStates.States
 pub use Rattle.iox_hub.specs.Hubs
 pub use Rattle.iox_hub.specs.Reads
 pub use Rattle.iox_hub.specs.Shapes

@@ -4,7 +4,7 @@ use Rattle.iox_model.specs.declared.call.Call.TheVariants.{Release}
 use Rattle.iox_model.specs.declared.kind.Kind.{Kind}
 use Rattle.iox_model.specs.declared.reply.Reply.TheVariants.{Done}
 use Rattle.iox_model.specs.WholeCalls.{IsWholeCall}
-use Rattle.iox_hub_states.specs.States.{Given}
+use Rattle.iox_tables.specs.HubStates.States.{Given}
 use Rattle.iox_hub.specs.Hubs.{HasValue, HubState, state_of_hub}
 use Rattle.iox_hub.specs.Sending.{HasNothing}
 

@@ -4,7 +4,7 @@ ghost use Rattle.iox_model.specs.declared.kind.Kind.TheVariants as kinds;
 ghost use Rattle.iox_model.specs.declared.kind.Role.TheVariants as roles;
 ghost use Rattle.iox_model.specs.Commands.{Create};
 ghost use Rattle.iox_model.specs.Makings.{IsHubCommand};
-ghost use Rattle.iox_hub_states.specs.States.{Given};
+ghost use Rattle.iox_tables.specs.HubStates.States.{Given};
 ghost use Rattle.iox_hub.specs.Hubs.{HasValue, state_of_hub};
 ghost use Rattle.iox_hub.specs.Making.{LeavesMessages, StaysAs, options_of};
 ghost use Rattle.iceoryx2_ports.specs.Keeping.{KeepsValues};

@@ -4,9 +4,9 @@ use Rattle.std.proofs.Common.{sym, ap, ◌∙◌}
 use Rattle.std.proofs.lemmas.Option.{none-some}
 use Rattle.iox_handles.specs.declared.entry.Entry.{Entry}
 use Rattle.iox_handles.specs.Tables.{Contents, IsSound, changed, handle_at, removed}
-use Rattle.iox_hub_states.specs.Tables.{HandleState, PoolState}
-use Rattle.iox_hub_states.specs.Ends.{changed_handles, with_changed}
-use Rattle.iox_hub_states.specs.Wirings.{handle_in}
+use Rattle.iox_tables.specs.HubStates.Tables.{HandleState, PoolState}
+use Rattle.iox_tables.specs.HubStates.Ends.{changed_handles, with_changed}
+use Rattle.iox_tables.specs.HubStates.Wirings.{handle_in}
 use Rattle.iox_hub_ports.specs.Ports.{PortsState}
 use Rattle.iox_control.specs.declared.settings.Settings.{Settings}
 use Rattle.iox_control.specs.Controls.{ControlState, control_of, with_handle_dropped, with_tables}

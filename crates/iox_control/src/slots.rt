@@ -2,8 +2,8 @@
 ghost use Rattle.std.specs.Prelude.{◌≡◌, ◌<◌, IfSome, IsSome, None, ◌↔◌};
 ghost use Rattle.std.specs.Bool.{OnFalse};
 ghost use Rattle.std.specs.Option.{option_map};
-ghost use Rattle.iox_hub_states.specs.Ends.{with_changed};
-ghost use Rattle.iox_hub_states.specs.Wirings.{handle_in};
+ghost use Rattle.iox_tables.specs.HubStates.Ends.{with_changed};
+ghost use Rattle.iox_tables.specs.HubStates.Wirings.{handle_in};
 ghost use Rattle.iox_slots.specs.Pools.{Acquires, free_count, has_slot, is_taken_at, with_slot};
 ghost use Rattle.iox_slots.specs.Slots.{let_go, written};
 ghost use Rattle.iox_control.specs.Controls.{with_handle_dropped, with_pools, with_tables};

@@ -5,11 +5,11 @@ use Rattle.std.proofs.Common.{sym, ap, subst, ◌∙◌, arith, true≢false, eq
 use Rattle.std.proofs.lemmas.List.Sums.{length-filter}
 use Rattle.iox_model.specs.declared.kind.Role.TheVariants.{Server}
 use Rattle.iox_model.specs.Settings.{is_client}
-use Rattle.iox_hub_states.specs.Tables.{HubTables, SlotState, no_slot, port_in, slot_at, slots_of}
-use Rattle.iox_hub_books.specs.Hubs.{AreInOrder}
-use Rattle.iox_hub_lending.specs.Lending.{MayLend}
-use Rattle.iox_hub_lending.proofs.Owning.{slot_count}
-use Rattle.iox_hub_loans.specs.Lenders.{Lender}
+use Rattle.iox_tables.specs.HubStates.Tables.{HubTables, SlotState, no_slot, port_in, slot_at, slots_of}
+use Rattle.iox_tables.specs.HubBooks.Hubs.{AreInOrder}
+use Rattle.iox_tables.specs.HubLending.Lending.{MayLend}
+use Rattle.iox_tables.proofs.HubLending.Owning.{slot_count}
+use Rattle.iox_tables.specs.HubLoans.Lenders.{Lender}
 use Rattle.iox_slots.specs.Pools.{free_count}
 use Rattle.iox_slots.specs.Slots.{is_free}
 

@@ -9,20 +9,20 @@ use Rattle.iox_model.specs.declared.way.Way.{Way}
 use Rattle.iox_model.specs.Loans.{kind_of_loan}
 use Rattle.iox_model.specs.Messages.{response_way}
 use Rattle.iox_lanes.specs.Lanes.{LaneState, is_full, oldest}
-use Rattle.iox_hub_states.specs.Tables.{HandleState, HubTables, PoolState, PortState, SlotState}
-use Rattle.iox_hub_states.specs.Ways.{OnWays, lane_on, with_lane_on, with_port}
-use Rattle.iox_hub_states.specs.Wirings.{IsHandle}
-use Rattle.iox_hub_books.specs.Handles.{is_loan}
-use Rattle.iox_hub_books.specs.Hubs.{AreInOrder}
-use Rattle.iox_hub_books.specs.Keeps.{AreTargetsOf, delivers}
-use Rattle.iox_hub_books.proofs.Little.{little_changes_keep_order}
-use Rattle.iox_hub_books.proofs.Targets.{each_has_its_targets}
-use Rattle.iox_hub_loans.specs.Lenders.{Lender}
-use Rattle.iox_hub_loans.specs.Loans.{loaned_handle, loaned_slot, with_loaned, with_loaned_slot}
-use Rattle.iox_hub_loans.proofs.Placed.{slot_is}
-use Rattle.iox_hub_lending.specs.Lending.{MayLend}
-use Rattle.iox_hub_lending.proofs.OneMore.{lanes_same, one_loan}
-use Rattle.iox_hub_lending.proofs.Owning.{slot_there}
+use Rattle.iox_tables.specs.HubStates.Tables.{HandleState, HubTables, PoolState, PortState, SlotState}
+use Rattle.iox_tables.specs.HubStates.Ways.{OnWays, lane_on, with_lane_on, with_port}
+use Rattle.iox_tables.specs.HubStates.Wirings.{IsHandle}
+use Rattle.iox_tables.specs.HubBooks.Handles.{is_loan}
+use Rattle.iox_tables.specs.HubBooks.Hubs.{AreInOrder}
+use Rattle.iox_tables.specs.HubBooks.Keeps.{AreTargetsOf, delivers}
+use Rattle.iox_tables.proofs.HubBooks.Little.{little_changes_keep_order}
+use Rattle.iox_tables.proofs.HubBooks.Targets.{each_has_its_targets}
+use Rattle.iox_tables.specs.HubLoans.Lenders.{Lender}
+use Rattle.iox_tables.specs.HubLoans.Loans.{loaned_handle, loaned_slot, with_loaned, with_loaned_slot}
+use Rattle.iox_tables.proofs.HubLoans.Placed.{slot_is}
+use Rattle.iox_tables.specs.HubLending.Lending.{MayLend}
+use Rattle.iox_tables.proofs.HubLending.OneMore.{lanes_same, one_loan}
+use Rattle.iox_tables.proofs.HubLending.Owning.{slot_there}
 use Rattle.iox_hub_delivering.specs.Deliveries.{HasHandedOver, pushed_out_by}
 use Rattle.iox_hub_delivering.specs.Steps.{HandsOver, with_out}
 use Rattle.iox_hub_delivering.proofs.Both.{pushed_out_is_the_oldest}

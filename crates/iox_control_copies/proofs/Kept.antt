@@ -5,18 +5,18 @@ use Rattle.std.proofs.Common.{ap, ◌∙◌, arith}
 use Rattle.iox_model.specs.declared.way.Way.{Way}
 use Rattle.iox_model.specs.Maps.{AreApart}
 use Rattle.iox_lanes.specs.Lanes.{LaneState}
-use Rattle.iox_hub_states.specs.Tables.{HubTables, PoolState, PortState, port_in}
-use Rattle.iox_hub_states.specs.Ways.{with_lanes_on, with_port}
-use Rattle.iox_hub_states.specs.Changes.{with_lanes}
-use Rattle.iox_hub_states.specs.Ends.{with_loan}
-use Rattle.iox_hub_books.specs.Counts.{on_lanes, total}
-use Rattle.iox_hub_books.specs.Hubs.{AreInOrder}
-use Rattle.iox_hub_books.specs.Keeps.{delivers}
-use Rattle.iox_hub_books.specs.Rooms.{CanCountHolders, HasRoomForAll, own_count, spare}
-use Rattle.iox_hub_books.proofs.Bounds.{all_lanes_from}
-use Rattle.iox_hub_books.proofs.Eachs.{all_first, all_from}
-use Rattle.iox_hub_books.proofs.Little.{little_changes_keep_order}
-use Rattle.iox_hub_lending.proofs.OneMore.{counts_same, one_loan}
+use Rattle.iox_tables.specs.HubStates.Tables.{HubTables, PoolState, PortState, port_in}
+use Rattle.iox_tables.specs.HubStates.Ways.{with_lanes_on, with_port}
+use Rattle.iox_tables.specs.HubStates.Changes.{with_lanes}
+use Rattle.iox_tables.specs.HubStates.Ends.{with_loan}
+use Rattle.iox_tables.specs.HubBooks.Counts.{on_lanes, total}
+use Rattle.iox_tables.specs.HubBooks.Hubs.{AreInOrder}
+use Rattle.iox_tables.specs.HubBooks.Keeps.{delivers}
+use Rattle.iox_tables.specs.HubBooks.Rooms.{CanCountHolders, HasRoomForAll, own_count, spare}
+use Rattle.iox_tables.proofs.HubBooks.Bounds.{all_lanes_from}
+use Rattle.iox_tables.proofs.HubBooks.Eachs.{all_first, all_from}
+use Rattle.iox_tables.proofs.HubBooks.Little.{little_changes_keep_order}
+use Rattle.iox_tables.proofs.HubLending.OneMore.{counts_same, one_loan}
 use Rattle.iox_hub_delivering.specs.Counts.{NeedsAsMuch}
 use Rattle.iox_hub_delivering.proofs.Counted.{each_send_is_counted, each_send_needs_as_much}
 use Rattle.iox_hub_delivering.proofs.LoanCounted.{counted_loans_keep_order}

@@ -12,20 +12,20 @@ use Rattle.iox_model.specs.declared.way.Way.{Way}
 use Rattle.iox_model.specs.Maps.{has_way, same_way}
 use Rattle.iox_model.specs.Messages.{response_way}
 use Rattle.iox_model.specs.Settings.{is_client, other_role}
-use Rattle.iox_weave_ledger.proofs.Lists.{IsAmong, among-back, among-front, among-way, number-among}
-use Rattle.iox_weave_ledger.proofs.Ranges.{range-has}
+use Rattle.iox_laws.proofs.WeaveLedger.Lists.{IsAmong, among-back, among-front, among-way, number-among}
+use Rattle.iox_laws.proofs.WeaveLedger.Ranges.{range-has}
 use Rattle.iox_lanes.specs.Lanes.{LaneState}
-use Rattle.iox_hub_states.specs.Tables.{HubTables, PortState, pipes_of, port_in}
-use Rattle.iox_hub_states.specs.Ways.{OnWays, lane_on, state_on, states_from, with_lane_on, with_lanes_on}
-use Rattle.iox_hub_states.specs.Changes.{emptied_lane}
-use Rattle.iox_hub_states.specs.Wirings.{numbers_of_role}
-use Rattle.iox_hub_states.proofs.Fixing.{first_key}
-use Rattle.iox_hub_states.proofs.Keys.{at_is, lane_turned}
-use Rattle.iox_hub_books.specs.Hubs.{AreInOrder}
-use Rattle.iox_hub_books.proofs.Sendable.{lane_there, of_role}
-use Rattle.iox_hub_loans.specs.CopySends.{is_lender_awaited}
-use Rattle.iox_hub_loans.specs.Lenders.{Lender, size_in, ways_by, ways_to_client, with_got_back}
-use Rattle.iox_hub_loans.specs.Questions.{names_request}
+use Rattle.iox_tables.specs.HubStates.Tables.{HubTables, PortState, pipes_of, port_in}
+use Rattle.iox_tables.specs.HubStates.Ways.{OnWays, lane_on, state_on, states_from, with_lane_on, with_lanes_on}
+use Rattle.iox_tables.specs.HubStates.Changes.{emptied_lane}
+use Rattle.iox_tables.specs.HubStates.Wirings.{numbers_of_role}
+use Rattle.iox_tables.proofs.HubStates.Fixing.{first_key}
+use Rattle.iox_tables.proofs.HubStates.Keys.{at_is, lane_turned}
+use Rattle.iox_tables.specs.HubBooks.Hubs.{AreInOrder}
+use Rattle.iox_tables.proofs.HubBooks.Sendable.{lane_there, of_role}
+use Rattle.iox_tables.specs.HubLoans.CopySends.{is_lender_awaited}
+use Rattle.iox_tables.specs.HubLoans.Lenders.{Lender, size_in, ways_by, ways_to_client, with_got_back}
+use Rattle.iox_tables.specs.HubLoans.Questions.{names_request}
 use Rattle.iox_control_copies.specs.Answers.{way_of}
 
 -- ---- lists

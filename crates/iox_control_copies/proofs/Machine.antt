@@ -19,36 +19,36 @@ use Rattle.iox_model.specs.Peers.{buffer_on, others}
 use Rattle.iox_model.specs.Settings.{shape_of}
 use Rattle.iox_model.specs.States as m
 use Rattle.iox_model.specs.WholeCalls.{IsWholeCall}
-use Rattle.iox_call_functions.specs.Calls.{call_by}
-use Rattle.iox_call_functions.specs.Copies.{MayCopy, to_copy}
-use Rattle.iox_call_functions.specs.Loans.{response_loan}
-use Rattle.iox_call_functions.specs.LoanSends.{MaySend, sending_ways}
-use Rattle.iox_call_functions.specs.Overflows.{NotOver}
-use Rattle.iox_call_functions.proofs.Copying.{each_copy_is_whole}
+use Rattle.iox_laws.specs.CallFunctions.Calls.{call_by}
+use Rattle.iox_laws.specs.CallFunctions.Copies.{MayCopy, to_copy}
+use Rattle.iox_laws.specs.CallFunctions.Loans.{response_loan}
+use Rattle.iox_laws.specs.CallFunctions.LoanSends.{MaySend, sending_ways}
+use Rattle.iox_laws.specs.CallFunctions.Overflows.{NotOver}
+use Rattle.iox_laws.proofs.CallFunctions.Copying.{each_copy_is_whole}
 use Rattle.iox_lanes.specs.Lanes.{IsSound, LaneState}
-use Rattle.iox_hub_states.specs.Tables.{HubTables, PortState, port_in}
-use Rattle.iox_hub_states.specs.Ways.{lane_on}
-use Rattle.iox_hub_states.specs.Releases.{handle_shown}
-use Rattle.iox_hub_states.specs.Shown.{waiting_in}
-use Rattle.iox_hub_states.specs.States.{Given, fixed_of, limits_of, message_of, port_of, state_shown}
-use Rattle.iox_hub_states.specs.Wirings.{buffer_from}
-use Rattle.iox_hub_states.proofs.Fixing.{buffer_is, find_port}
-use Rattle.iox_hub_states.proofs.Naming.{each_handle_is_named}
-use Rattle.iox_hub_books.proofs.Frames.{length_map}
-use Rattle.iox_hub_books.proofs.Rooms.{bare_pools_show_the_same}
-use Rattle.iox_hub_books.proofs.Used.{once_on}
-use Rattle.iox_hub_lending.specs.Emptying.{with_back}
-use Rattle.iox_hub_lending.proofs.Back.{dry_pools_have_holders}
-use Rattle.iox_hub_lending.proofs.Bared.{holders_may_come_back_first}
-use Rattle.iox_hub_lending.proofs.Chosen.{free_slots_may_take_loans}
-use Rattle.iox_hub_lending.proofs.Owning.{handles_are_on_nodes, number_is}
-use Rattle.iox_hub_loans.specs.Copies.{copy_refusal}
-use Rattle.iox_hub_loans.specs.CopySends.{IsCopyToMake, is_lender_awaited}
-use Rattle.iox_hub_loans.specs.Counts.{AreOnNodes}
-use Rattle.iox_hub_loans.specs.Lenders.{IsActive, IsLender, Lender, lender_of_response, shape_in, with_got_back}
-use Rattle.iox_hub_loans.proofs.CopyCalls.{unawaited_copies_go_to_nobody}
-use Rattle.iox_hub_loans.proofs.Copying.{copies_are_refused, copies_find_dry_pools}
-use Rattle.iox_hub_loans.proofs.Loaning.{each_choice_may_be}
+use Rattle.iox_tables.specs.HubStates.Tables.{HubTables, PortState, port_in}
+use Rattle.iox_tables.specs.HubStates.Ways.{lane_on}
+use Rattle.iox_tables.specs.HubStates.Releases.{handle_shown}
+use Rattle.iox_tables.specs.HubStates.Shown.{waiting_in}
+use Rattle.iox_tables.specs.HubStates.States.{Given, fixed_of, limits_of, message_of, port_of, state_shown}
+use Rattle.iox_tables.specs.HubStates.Wirings.{buffer_from}
+use Rattle.iox_tables.proofs.HubStates.Fixing.{buffer_is, find_port}
+use Rattle.iox_tables.proofs.HubStates.Naming.{each_handle_is_named}
+use Rattle.iox_tables.proofs.HubBooks.Frames.{length_map}
+use Rattle.iox_tables.proofs.HubBooks.Rooms.{bare_pools_show_the_same}
+use Rattle.iox_tables.proofs.HubBooks.Used.{once_on}
+use Rattle.iox_tables.specs.HubLending.Emptying.{with_back}
+use Rattle.iox_tables.proofs.HubLending.Back.{dry_pools_have_holders}
+use Rattle.iox_tables.proofs.HubLending.Bared.{holders_may_come_back_first}
+use Rattle.iox_tables.proofs.HubLending.Chosen.{free_slots_may_take_loans}
+use Rattle.iox_tables.proofs.HubLending.Owning.{handles_are_on_nodes, number_is}
+use Rattle.iox_tables.specs.HubLoans.Copies.{copy_refusal}
+use Rattle.iox_tables.specs.HubLoans.CopySends.{IsCopyToMake, is_lender_awaited}
+use Rattle.iox_tables.specs.HubLoans.Counts.{AreOnNodes}
+use Rattle.iox_tables.specs.HubLoans.Lenders.{IsActive, IsLender, Lender, lender_of_response, shape_in, with_got_back}
+use Rattle.iox_tables.proofs.HubLoans.CopyCalls.{unawaited_copies_go_to_nobody}
+use Rattle.iox_tables.proofs.HubLoans.Copying.{copies_are_refused, copies_find_dry_pools}
+use Rattle.iox_tables.proofs.HubLoans.Loaning.{each_choice_may_be}
 use Rattle.iox_control.specs.Controls.{ControlState, IsControl}
 use Rattle.iox_control.proofs.WholeLemmas.{is_whole_of}
 use Rattle.iox_control_lending.specs.declared.asked.Asked.{Asked}

@@ -4,19 +4,19 @@ use Rattle.std.proofs.Common.{sym, ap, ap₂, subst, ◌∙◌}
 use Rattle.iox_handles.specs.declared.entry.Entry.{Entry}
 use Rattle.iox_lanes.specs.declared.wanted.Label.{Label}
 use Rattle.iox_lanes.specs.Lanes.{IsSound, LaneState}
-use Rattle.iox_hub_states.specs.Ways.{lane_on}
+use Rattle.iox_tables.specs.HubStates.Ways.{lane_on}
 use Rattle.iox_model.specs.declared.kind.Role.TheVariants.{Client, Server}
 use Rattle.iox_model.specs.Maps.{has_number}
 use Rattle.iox_model.specs.Messages.{response_way}
-use Rattle.iox_hub_states.specs.Tables.{HandleState, HubTables, PortState, labels_of, port_in}
-use Rattle.iox_hub_states.specs.Wirings.{handle_in, numbers_of_role}
+use Rattle.iox_tables.specs.HubStates.Tables.{HandleState, HubTables, PortState, labels_of, port_in}
+use Rattle.iox_tables.specs.HubStates.Wirings.{handle_in, numbers_of_role}
 use Rattle.iox_hub_ports.specs.declared.info.PortInfo.{PortInfo}
 use Rattle.iox_hub_ports.specs.Ports.{info_in, info_of}
-use Rattle.iox_hub_books.specs.Hubs.{AreInOrder}
-use Rattle.iox_hub_lending.proofs.Owning.{number_is}
-use Rattle.iox_hub_loans.specs.CopySends.{is_lender_awaited}
-use Rattle.iox_hub_loans.specs.Lenders.{lender_of_response}
-use Rattle.iox_hub_loans.specs.Questions.{is_named_by_client, names_request, state_of}
+use Rattle.iox_tables.specs.HubBooks.Hubs.{AreInOrder}
+use Rattle.iox_tables.proofs.HubLending.Owning.{number_is}
+use Rattle.iox_tables.specs.HubLoans.CopySends.{is_lender_awaited}
+use Rattle.iox_tables.specs.HubLoans.Lenders.{lender_of_response}
+use Rattle.iox_tables.specs.HubLoans.Questions.{is_named_by_client, names_request, state_of}
 use Rattle.iox_control.specs.Controls.{ControlState}
 use Rattle.iox_control.specs.Entries.{handle_state}
 use Rattle.iox_control_lending.specs.declared.asked.Asked.{Asked}

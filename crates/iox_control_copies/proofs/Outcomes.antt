@@ -6,18 +6,18 @@ use Rattle.std.proofs.lemmas.Option.{same_Some}
 use Rattle.iox_model.specs.declared.kind.Role.TheVariants.{Server}
 use Rattle.iox_model.specs.Messages.{response_way}
 use Rattle.iox_lanes.specs.Lanes.{IsSound, LaneState, is_full}
-use Rattle.iox_hub_states.specs.Tables.{HubTables, PortState, port_in}
-use Rattle.iox_hub_states.specs.Ways.{lane_on}
-use Rattle.iox_hub_states.specs.Changes.{emptied_lane}
-use Rattle.iox_hub_states.specs.Wirings.{buffer_from}
-use Rattle.iox_hub_books.proofs.Eachs.{lane_is}
+use Rattle.iox_tables.specs.HubStates.Tables.{HubTables, PortState, port_in}
+use Rattle.iox_tables.specs.HubStates.Ways.{lane_on}
+use Rattle.iox_tables.specs.HubStates.Changes.{emptied_lane}
+use Rattle.iox_tables.specs.HubStates.Wirings.{buffer_from}
+use Rattle.iox_tables.proofs.HubBooks.Eachs.{lane_is}
 use Rattle.iox_hub_delivering.specs.Deliveries.{HasHandedOver}
-use Rattle.iox_hub_lending.specs.Emptying.{AreGotBack, with_back}
-use Rattle.iox_hub_lending.specs.Lending.{MayLend}
-use Rattle.iox_hub_lending.proofs.Back.{port_stays}
-use Rattle.iox_hub_loans.specs.CopySends.{is_lender_awaited}
-use Rattle.iox_hub_loans.specs.Lenders.{Lender}
-use Rattle.iox_hub_loans.specs.Loans.{loaned_handle, with_loaned_slot}
+use Rattle.iox_tables.specs.HubLending.Emptying.{AreGotBack, with_back}
+use Rattle.iox_tables.specs.HubLending.Lending.{MayLend}
+use Rattle.iox_tables.proofs.HubLending.Back.{port_stays}
+use Rattle.iox_tables.specs.HubLoans.CopySends.{is_lender_awaited}
+use Rattle.iox_tables.specs.HubLoans.Lenders.{Lender}
+use Rattle.iox_tables.specs.HubLoans.Loans.{loaned_handle, with_loaned_slot}
 use Rattle.iox_hub_ports.specs.declared.info.PortInfo.{PortInfo}
 use Rattle.iox_hub_ports.specs.Ports.{info_of, on_way}
 use Rattle.iox_slots.specs.Pools.{free_count}

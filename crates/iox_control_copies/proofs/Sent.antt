@@ -19,36 +19,36 @@ use Rattle.iox_model.specs.Maps.{AreApart, not_in}
 use Rattle.iox_model.specs.Messages.{request_way, response_way}
 use Rattle.iox_model.specs.Requests.{fails_at, targets, to_open}
 use Rattle.iox_model.specs.States as m
-use Rattle.iox_weave_laws.proofs.MapLemmas.{same_way-refl}
-use Rattle.iox_call_functions.specs.Calls.{call_by}
+use Rattle.iox_laws.proofs.WeaveLaws.MapLemmas.{same_way-refl}
+use Rattle.iox_laws.specs.CallFunctions.Calls.{call_by}
 use Rattle.iox_lanes.specs.Lanes.{LaneState, delivered, is_full}
-use Rattle.iox_hub_states.specs.Tables.{HandleState, HubTables, PoolState, PortState, SlotState, pool_at, port_in}
-use Rattle.iox_hub_states.specs.Ways.{OnWays, lane_on, state_on, with_lane_on}
-use Rattle.iox_hub_states.specs.Changes.{HasEachOnce, OfEachLane, OnEach, emptied_lane, with_lanes, with_states}
-use Rattle.iox_hub_states.specs.Sends.{MaySendFrom}
-use Rattle.iox_hub_states.specs.Shown.{MessagesByPlace}
-use Rattle.iox_hub_states.specs.States.{Given, fixed_of, message_of, state_shown}
-use Rattle.iox_hub_states.specs.Steps.{IsOpenToNew, IsOpenable, full_in, places_on}
-use Rattle.iox_hub_states.specs.Wirings.{IsHandle, buffer_from}
+use Rattle.iox_tables.specs.HubStates.Tables.{HandleState, HubTables, PoolState, PortState, SlotState, pool_at, port_in}
+use Rattle.iox_tables.specs.HubStates.Ways.{OnWays, lane_on, state_on, with_lane_on}
+use Rattle.iox_tables.specs.HubStates.Changes.{HasEachOnce, OfEachLane, OnEach, emptied_lane, with_lanes, with_states}
+use Rattle.iox_tables.specs.HubStates.Sends.{MaySendFrom}
+use Rattle.iox_tables.specs.HubStates.Shown.{MessagesByPlace}
+use Rattle.iox_tables.specs.HubStates.States.{Given, fixed_of, message_of, state_shown}
+use Rattle.iox_tables.specs.HubStates.Steps.{IsOpenToNew, IsOpenable, full_in, places_on}
+use Rattle.iox_tables.specs.HubStates.Wirings.{IsHandle, buffer_from}
 use Rattle.iox_model.specs.Maps.{has_number}
-use Rattle.iox_hub_books.specs.Handles.{is_loan}
-use Rattle.iox_hub_books.specs.Hubs.{AreInOrder}
-use Rattle.iox_hub_books.specs.Keeps.{bare_pool, bare_pools, bare_slot, delivers}
-use Rattle.iox_hub_books.proofs.Sendable.{open_to_new}
-use Rattle.iox_hub_books.proofs.Structures.{pool_bare}
-use Rattle.iox_hub_books.proofs.Used.{once_on}
-use Rattle.iox_hub_lending.specs.Emptying.{AreGotBack, with_back}
-use Rattle.iox_hub_lending.specs.Lending.{MayLend}
-use Rattle.iox_hub_lending.proofs.Back.{back_in_order}
-use Rattle.iox_hub_lending.proofs.Bared.{differ}
-use Rattle.iox_hub_lending.proofs.OneMore.{lanes_same, role_same, there_same}
-use Rattle.iox_hub_loans.specs.CopySends.{IsCopyToMake, copied, copy_sending, is_lender_awaited, with_copy, with_words}
-use Rattle.iox_hub_loans.specs.Lenders.{Lender, with_got_back}
-use Rattle.iox_hub_loans.specs.Loans.{loaned_contents, loaned_handle, loaned_slot, with_loaned, with_loaned_slot}
-use Rattle.iox_hub_loans.specs.Slots.{IsUnused, put_slot, put_slot_of}
-use Rattle.iox_hub_loans.proofs.CopyCalls.{copy_sent, copy_sent_over}
-use Rattle.iox_hub_loans.proofs.Lent.{fixed_back}
-use Rattle.iox_hub_loans.proofs.Placed.{slot_is, unused_slots_may_change}
+use Rattle.iox_tables.specs.HubBooks.Handles.{is_loan}
+use Rattle.iox_tables.specs.HubBooks.Hubs.{AreInOrder}
+use Rattle.iox_tables.specs.HubBooks.Keeps.{bare_pool, bare_pools, bare_slot, delivers}
+use Rattle.iox_tables.proofs.HubBooks.Sendable.{open_to_new}
+use Rattle.iox_tables.proofs.HubBooks.Structures.{pool_bare}
+use Rattle.iox_tables.proofs.HubBooks.Used.{once_on}
+use Rattle.iox_tables.specs.HubLending.Emptying.{AreGotBack, with_back}
+use Rattle.iox_tables.specs.HubLending.Lending.{MayLend}
+use Rattle.iox_tables.proofs.HubLending.Back.{back_in_order}
+use Rattle.iox_tables.proofs.HubLending.Bared.{differ}
+use Rattle.iox_tables.proofs.HubLending.OneMore.{lanes_same, role_same, there_same}
+use Rattle.iox_tables.specs.HubLoans.CopySends.{IsCopyToMake, copied, copy_sending, is_lender_awaited, with_copy, with_words}
+use Rattle.iox_tables.specs.HubLoans.Lenders.{Lender, with_got_back}
+use Rattle.iox_tables.specs.HubLoans.Loans.{loaned_contents, loaned_handle, loaned_slot, with_loaned, with_loaned_slot}
+use Rattle.iox_tables.specs.HubLoans.Slots.{IsUnused, put_slot, put_slot_of}
+use Rattle.iox_tables.proofs.HubLoans.CopyCalls.{copy_sent, copy_sent_over}
+use Rattle.iox_tables.proofs.HubLoans.Lent.{fixed_back}
+use Rattle.iox_tables.proofs.HubLoans.Placed.{slot_is, unused_slots_may_change}
 use Rattle.iox_hub_delivering.proofs.Copied.{named, v_order}
 use Rattle.iox_hub_phases.proofs.Agreeing.{same_stays}
 use Rattle.iox_hub_ports.specs.Ports.{on_way}

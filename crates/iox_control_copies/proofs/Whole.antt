@@ -11,25 +11,25 @@ use Rattle.iox_model.specs.Commands.{Payload, Reply}
 use Rattle.iox_model.specs.Messages.{response_way}
 use Rattle.iox_model.specs.Requests.{fails_at}
 use Rattle.iox_model.specs.Settings.{shape_of}
-use Rattle.iox_hub_states.specs.Releases.{lane_of}
-use Rattle.iox_hub_lending.proofs.Owning.{number_is}
+use Rattle.iox_tables.specs.HubStates.Releases.{lane_of}
+use Rattle.iox_tables.proofs.HubLending.Owning.{number_is}
 use Rattle.iox_control_responses.specs.Responses.{IsFailure}
 use Rattle.iox_model.specs.States as m
 use Rattle.iox_model.specs.WholeCalls.{IsWholeCall}
-use Rattle.iox_call_functions.specs.Calls.{call_by}
+use Rattle.iox_laws.specs.CallFunctions.Calls.{call_by}
 use Rattle.iox_lanes.specs.Lanes.{IsSound, LaneState, is_full}
-use Rattle.iox_hub_states.specs.Tables.{HandleState, HubTables, PortState, port_in}
-use Rattle.iox_hub_states.specs.Ways.{lane_on}
-use Rattle.iox_hub_states.specs.Changes.{with_lanes}
-use Rattle.iox_hub_states.specs.States.{Given, fixed_of, limits_of, state_shown}
-use Rattle.iox_hub_states.specs.Wirings.{handle_in}
-use Rattle.iox_hub_books.specs.Keeps.{delivers}
-use Rattle.iox_hub_books.proofs.Rooms.{bare_pools_show_the_same}
-use Rattle.iox_hub_lending.specs.Lending.{MayLend}
-use Rattle.iox_hub_loans.specs.CopySends.{IsCopyToMake, is_lender_awaited}
-use Rattle.iox_hub_loans.specs.Lenders.{IsActive, Lender, lender_of_response, with_got_back}
-use Rattle.iox_hub_loans.specs.Loans.{loaned_slot, with_loaned_slot}
-use Rattle.iox_hub_loans.specs.Slots.{with_contents}
+use Rattle.iox_tables.specs.HubStates.Tables.{HandleState, HubTables, PortState, port_in}
+use Rattle.iox_tables.specs.HubStates.Ways.{lane_on}
+use Rattle.iox_tables.specs.HubStates.Changes.{with_lanes}
+use Rattle.iox_tables.specs.HubStates.States.{Given, fixed_of, limits_of, state_shown}
+use Rattle.iox_tables.specs.HubStates.Wirings.{handle_in}
+use Rattle.iox_tables.specs.HubBooks.Keeps.{delivers}
+use Rattle.iox_tables.proofs.HubBooks.Rooms.{bare_pools_show_the_same}
+use Rattle.iox_tables.specs.HubLending.Lending.{MayLend}
+use Rattle.iox_tables.specs.HubLoans.CopySends.{IsCopyToMake, is_lender_awaited}
+use Rattle.iox_tables.specs.HubLoans.Lenders.{IsActive, Lender, lender_of_response, with_got_back}
+use Rattle.iox_tables.specs.HubLoans.Loans.{loaned_slot, with_loaned_slot}
+use Rattle.iox_tables.specs.HubLoans.Slots.{with_contents}
 use Rattle.iox_hub_ports.specs.Ports.{on_way}
 use Rattle.iox_control.specs.Controls.{ControlState, IsControl}
 use Rattle.iox_control_lending.specs.declared.asked.Asked.{Asked}

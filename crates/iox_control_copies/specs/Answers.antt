@@ -6,18 +6,18 @@ use Rattle.iox_model.specs.declared.way.Way.{Way}
 use Rattle.iox_model.specs.Commands.{Payload, Reply}
 use Rattle.iox_model.specs.Messages.{response_way}
 use Rattle.iox_lanes.specs.Lanes.{is_full}
-use Rattle.iox_hub_states.specs.Tables.{HubTables, PoolState}
-use Rattle.iox_hub_states.specs.Ways.{lane_on}
-use Rattle.iox_hub_states.specs.Changes.{with_lanes}
-use Rattle.iox_hub_states.specs.Ends.{with_call, with_loan}
-use Rattle.iox_hub_states.specs.States.{Given}
-use Rattle.iox_hub_books.specs.Keeps.{delivers}
+use Rattle.iox_tables.specs.HubStates.Tables.{HubTables, PoolState}
+use Rattle.iox_tables.specs.HubStates.Ways.{lane_on}
+use Rattle.iox_tables.specs.HubStates.Changes.{with_lanes}
+use Rattle.iox_tables.specs.HubStates.Ends.{with_call, with_loan}
+use Rattle.iox_tables.specs.HubStates.States.{Given}
+use Rattle.iox_tables.specs.HubBooks.Keeps.{delivers}
 use Rattle.iox_hub_delivering.specs.Deliveries.{HasHandedOver}
-use Rattle.iox_hub_lending.specs.Lending.{MayLend}
-use Rattle.iox_hub_loans.specs.CopySends.{is_lender_awaited}
-use Rattle.iox_hub_loans.specs.Lenders.{Lender}
-use Rattle.iox_hub_loans.specs.Loans.{loaned_handle, with_loaned_slot}
-use Rattle.iox_hub_loans.specs.Slots.{with_contents}
+use Rattle.iox_tables.specs.HubLending.Lending.{MayLend}
+use Rattle.iox_tables.specs.HubLoans.CopySends.{is_lender_awaited}
+use Rattle.iox_tables.specs.HubLoans.Lenders.{Lender}
+use Rattle.iox_tables.specs.HubLoans.Loans.{loaned_handle, with_loaned_slot}
+use Rattle.iox_tables.specs.HubLoans.Slots.{with_contents}
 use Rattle.iox_hub_ports.specs.Ports.{on_way, pushed}
 use Rattle.iox_slots.specs.Pools.{Acquires, with_slot}
 use Rattle.iox_slots.specs.Slots.{written}

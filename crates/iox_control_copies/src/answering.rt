@@ -1,9 +1,9 @@
 //! The copy of a lender's response.
 ghost use Rattle.std.specs.Prelude.{◌≡◌, ◌<◌, ◌^◌, Some};
 ghost use Rattle.iox_model.specs.declared.kind.Role.TheVariants.{Server};
-ghost use Rattle.iox_hub_states.specs.Tables.{PortState, port_in};
-ghost use Rattle.iox_hub_states.specs.Ways.{lane_on};
-ghost use Rattle.iox_hub_loans.specs.CopySends.{is_lender_awaited};
+ghost use Rattle.iox_tables.specs.HubStates.Tables.{PortState, port_in};
+ghost use Rattle.iox_tables.specs.HubStates.Ways.{lane_on};
+ghost use Rattle.iox_tables.specs.HubLoans.CopySends.{is_lender_awaited};
 ghost use Rattle.iox_hub_ports.specs.Ports.{info_of};
 ghost use Rattle.iox_lanes.specs.Lanes.{IsSound, LaneState};
 ghost use Rattle.iox_slots.specs.Pools.{free_count};

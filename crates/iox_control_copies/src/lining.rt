@@ -1,9 +1,9 @@
 //! The copy of a response that waits for its client.
 ghost use Rattle.std.specs.Prelude.{◌≡◌, ◌+◌, ◌-◌, ◌<◌, ◌^◌, ◌∷◌, []};
 ghost use Rattle.std.specs.Option.{option_map_or};
-ghost use Rattle.iox_hub_states.specs.Tables.{PortState, port_in};
+ghost use Rattle.iox_tables.specs.HubStates.Tables.{PortState, port_in};
 ghost use Rattle.iox_hub_ports.specs.Ports.{info_of, pushed};
-ghost use Rattle.iox_hub_states.specs.Changes.{with_lanes};
+ghost use Rattle.iox_tables.specs.HubStates.Changes.{with_lanes};
 ghost use Rattle.iox_control_responses.specs.Responses.{pools_after_push};
 ghost use Rattle.iox_slots.specs.Pools.{free_count};
 ghost use Rattle.iox_control_lending.specs.Lends.{lender_of};

@@ -1,7 +1,7 @@
 //! The copy of a response that nobody gets.
 ghost use Rattle.std.specs.Prelude.{◌≡◌, ◌+◌, ◌-◌, ◌<◌, ◌^◌};
 ghost use Rattle.std.specs.Option.{option_map_or};
-ghost use Rattle.iox_hub_states.specs.Tables.{port_in};
+ghost use Rattle.iox_tables.specs.HubStates.Tables.{port_in};
 ghost use Rattle.iox_control.specs.Controls.{with_tables};
 ghost use Rattle.iox_control_copies.specs.Answers.{with_copy_lost};
 

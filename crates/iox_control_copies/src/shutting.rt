@@ -1,7 +1,7 @@
 //! Whether a response may wait for its client.
 ghost use Rattle.std.specs.Prelude.{◌≡◌, ◌&&◌, Some, not, true};
 ghost use Rattle.iox_hub_ports.specs.Ports.{on_way};
-ghost use Rattle.iox_hub_states.specs.Ways.{lane_on};
+ghost use Rattle.iox_tables.specs.HubStates.Ways.{lane_on};
 ghost use Rattle.iox_lanes.specs.Lanes.{IsSound, LaneState, is_full};
 
 use iox_control::Control;

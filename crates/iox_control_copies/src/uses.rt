@@ -1,5 +1,5 @@
 //! Callers of the copy of a response, proved from the clauses alone.
-ghost use Rattle.iox_hub_loans.specs.Lenders.{IsActive};
+ghost use Rattle.iox_tables.specs.HubLoans.Lenders.{IsActive};
 ghost use Rattle.iox_control.specs.Controls.{IsControl};
 
 use crate::{Answered, copy_response};

@@ -8,22 +8,22 @@ use Rattle.iox_model.specs.declared.kind.Kind.{Kind}
 use Rattle.iox_model.specs.declared.kind.Kind.TheVariants as kinds
 use Rattle.iox_model.specs.Handles.{is_own, is_received}
 use Rattle.iox_model.specs.Maps.{AreDistinct, has_number}
-use Rattle.iox_hub_states.specs.Tables.{HandleState, HubTables, PoolState, PortState, SlotState, numbers_of, slot_at}
-use Rattle.iox_hub_states.specs.Ends.{dropped_handles, with_call}
-use Rattle.iox_hub_states.specs.Wirings.{handle_in}
-use Rattle.iox_hub_states.proofs.Keys.{flip}
-use Rattle.iox_hub_books.specs.Counts.{total}
-use Rattle.iox_hub_books.specs.Handles.{is_loan}
-use Rattle.iox_hub_books.specs.Keeps.{HasFewerHolders, bare_pool, bare_pools, bare_slot}
-use Rattle.iox_hub_books.specs.Rooms.{CanCountHolders, HasRoomForAll, own_count}
-use Rattle.iox_hub_books.proofs.Bounds.{all_lanes_from}
-use Rattle.iox_hub_books.proofs.Eachs.{all_from}
-use Rattle.iox_hub_books.proofs.HandleTotals.{handle_dropped}
-use Rattle.iox_hub_books.proofs.Little.{little_changes_keep_order}
-use Rattle.iox_hub_books.proofs.Release.{handles_apart}
-use Rattle.iox_hub_books.proofs.Released.{loan_releases_keep_order}
-use Rattle.iox_hub_books.proofs.Used.{used_by_handle}
-use Rattle.iox_hub_keeping.proofs.Ordered.{names_apart}
+use Rattle.iox_tables.specs.HubStates.Tables.{HandleState, HubTables, PoolState, PortState, SlotState, numbers_of, slot_at}
+use Rattle.iox_tables.specs.HubStates.Ends.{dropped_handles, with_call}
+use Rattle.iox_tables.specs.HubStates.Wirings.{handle_in}
+use Rattle.iox_tables.proofs.HubStates.Keys.{flip}
+use Rattle.iox_tables.specs.HubBooks.Counts.{total}
+use Rattle.iox_tables.specs.HubBooks.Handles.{is_loan}
+use Rattle.iox_tables.specs.HubBooks.Keeps.{HasFewerHolders, bare_pool, bare_pools, bare_slot}
+use Rattle.iox_tables.specs.HubBooks.Rooms.{CanCountHolders, HasRoomForAll, own_count}
+use Rattle.iox_tables.proofs.HubBooks.Bounds.{all_lanes_from}
+use Rattle.iox_tables.proofs.HubBooks.Eachs.{all_from}
+use Rattle.iox_tables.proofs.HubBooks.HandleTotals.{handle_dropped}
+use Rattle.iox_tables.proofs.HubBooks.Little.{little_changes_keep_order}
+use Rattle.iox_tables.proofs.HubBooks.Release.{handles_apart}
+use Rattle.iox_tables.proofs.HubBooks.Released.{loan_releases_keep_order}
+use Rattle.iox_tables.proofs.HubBooks.Used.{used_by_handle}
+use Rattle.iox_tables.proofs.HubKeeping.Ordered.{names_apart}
 use Rattle.iox_slots.specs.Pools.{with_slot}
 use Rattle.iox_slots.specs.Slots.{let_go, with_slot_of}
 use Rattle.iox_slots.proofs.CallerLemmas.{holders_let_go}

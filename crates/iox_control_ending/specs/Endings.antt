@@ -1,9 +1,9 @@
 -- What the end of a loan leaves of the tables of a hub, where its message goes to nobody.
 use Rattle.std.specs.Prelude.{◌≡◌, ℕ, ◌+◌, true}
-use Rattle.iox_hub_states.specs.Tables.{HandleState, HubTables}
-use Rattle.iox_hub_states.specs.Ends.{with_dropped}
-use Rattle.iox_hub_states.specs.Wirings.{IsHandle}
-use Rattle.iox_hub_books.specs.Handles.{is_loan}
+use Rattle.iox_tables.specs.HubStates.Tables.{HandleState, HubTables}
+use Rattle.iox_tables.specs.HubStates.Ends.{with_dropped}
+use Rattle.iox_tables.specs.HubStates.Wirings.{IsHandle}
+use Rattle.iox_tables.specs.HubBooks.Handles.{is_loan}
 use Rattle.iox_slots.specs.Pools.{with_slot}
 use Rattle.iox_slots.specs.Slots.{let_go}
 use Rattle.iox_control.specs.Controls.{ControlState}

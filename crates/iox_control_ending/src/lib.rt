@@ -2,9 +2,9 @@
 #![tactic(auto)]
 
 ghost use Rattle.std.specs.Prelude.{◌≡◌, ◌<◌, ◌^◌, Some};
-ghost use Rattle.iox_hub_states.specs.Ends.{with_call};
-ghost use Rattle.iox_hub_states.specs.Tables.{HandleState};
-ghost use Rattle.iox_hub_states.specs.Wirings.{handle_in};
+ghost use Rattle.iox_tables.specs.HubStates.Ends.{with_call};
+ghost use Rattle.iox_tables.specs.HubStates.Tables.{HandleState};
+ghost use Rattle.iox_tables.specs.HubStates.Wirings.{handle_in};
 ghost use Rattle.iox_control.specs.Controls.{IsControl, with_tables};
 ghost use Rattle.iox_control_ending.specs.Endings.{IsLoan, with_ended};
 

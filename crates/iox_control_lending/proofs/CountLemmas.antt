@@ -6,7 +6,7 @@ use Rattle.std.proofs.lemmas.Bool.{lt-ltb}
 use Rattle.iox_model.specs.declared.kind.Kind.TheVariants.{PendingResponse}
 use Rattle.iox_model.specs.Handles.{is_request_loan, is_response_loan, same_kind}
 use Rattle.iox_handles.specs.declared.entry.Entry.{Entry}
-use Rattle.iox_hub_states.specs.Tables.{HandleState, PoolState, labels_of}
+use Rattle.iox_tables.specs.HubStates.Tables.{HandleState, PoolState, labels_of}
 use Rattle.iox_control.specs.Entries.{handle_state}
 
 -- as many pass as show a handle that passes

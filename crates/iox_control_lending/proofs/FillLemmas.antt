@@ -16,23 +16,23 @@ use Rattle.iox_model.specs.Loans.{Choice}
 use Rattle.iox_model.specs.Names.{suits}
 use Rattle.iox_model.specs.Values.{Filling, IsFilling, MayFill}
 use Rattle.iox_model.specs.WholeCalls.{IsWholeCall}
-use Rattle.iox_call_functions.proofs.Holding.{each_write_is_whole}
-use Rattle.iox_hub_states.specs.Tables.{HandleState, HubTables, PortState}
-use Rattle.iox_hub_states.specs.States.{Given, fixed_of, state_shown}
-use Rattle.iox_hub_states.specs.Ends.{changed_handles}
-use Rattle.iox_hub_states.specs.Releases.{handle_shown}
-use Rattle.iox_hub_states.specs.Wirings.{IsHandle, handle_in}
-use Rattle.iox_hub_states.proofs.Naming.{handle_node, handle_number}
-use Rattle.iox_hub_books.specs.Counts.{on_lanes, total}
-use Rattle.iox_hub_books.specs.Handles.{is_loan}
-use Rattle.iox_hub_books.specs.Rooms.{CanCountHolders, HasRoomForAll, own_count, spare}
-use Rattle.iox_hub_books.proofs.HandleTotals.{handle_changed}
-use Rattle.iox_hub_books.proofs.Totals.{total_same}
-use Rattle.iox_hub_loans.specs.Fillings.{contents_of, written_contents}
-use Rattle.iox_hub_loans.specs.Slots.{with_contents}
-use Rattle.iox_hub_loans.proofs.Written.{fillings_are_shown, writes_are_made, writes_are_refused}
-use Rattle.iox_hub_lending.specs.Filling.{AreOfSameLoan, with_kind}
-use Rattle.iox_hub_lending.proofs.Filled.{kinds_may_change, loans_are_of_one_handle, writes_keep_loans}
+use Rattle.iox_laws.proofs.CallFunctions.Holding.{each_write_is_whole}
+use Rattle.iox_tables.specs.HubStates.Tables.{HandleState, HubTables, PortState}
+use Rattle.iox_tables.specs.HubStates.States.{Given, fixed_of, state_shown}
+use Rattle.iox_tables.specs.HubStates.Ends.{changed_handles}
+use Rattle.iox_tables.specs.HubStates.Releases.{handle_shown}
+use Rattle.iox_tables.specs.HubStates.Wirings.{IsHandle, handle_in}
+use Rattle.iox_tables.proofs.HubStates.Naming.{handle_node, handle_number}
+use Rattle.iox_tables.specs.HubBooks.Counts.{on_lanes, total}
+use Rattle.iox_tables.specs.HubBooks.Handles.{is_loan}
+use Rattle.iox_tables.specs.HubBooks.Rooms.{CanCountHolders, HasRoomForAll, own_count, spare}
+use Rattle.iox_tables.proofs.HubBooks.HandleTotals.{handle_changed}
+use Rattle.iox_tables.proofs.HubBooks.Totals.{total_same}
+use Rattle.iox_tables.specs.HubLoans.Fillings.{contents_of, written_contents}
+use Rattle.iox_tables.specs.HubLoans.Slots.{with_contents}
+use Rattle.iox_tables.proofs.HubLoans.Written.{fillings_are_shown, writes_are_made, writes_are_refused}
+use Rattle.iox_tables.specs.HubLending.Filling.{AreOfSameLoan, with_kind}
+use Rattle.iox_tables.proofs.HubLending.Filled.{kinds_may_change, loans_are_of_one_handle, writes_keep_loans}
 use Rattle.iox_control.specs.Controls.{ControlState, IsControl, with_tables}
 use Rattle.iox_control.specs.Entries.{handle_state}
 use Rattle.iox_control.proofs.RoomLemmas.{room_as}

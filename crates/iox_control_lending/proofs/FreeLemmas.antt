@@ -2,13 +2,13 @@
 use Rattle.std.specs.Prelude.{◌≡◌, ℕ, ◌+◌, ◌-◌, List, Option, Some, None}
 use Rattle.std.proofs.Common.{sym, ap, subst, ◌∙◌}
 use Rattle.std.proofs.lemmas.Option.{same_Some}
-use Rattle.iox_hub_states.specs.Tables.{HubTables, PoolState, PortState, port_in}
+use Rattle.iox_tables.specs.HubStates.Tables.{HubTables, PoolState, PortState, port_in}
 use Rattle.iox_hub_ports.specs.declared.info.PortInfo.{PortInfo}
 use Rattle.iox_hub_ports.specs.Ports.{info_of}
-use Rattle.iox_hub_books.specs.Hubs.{AreInOrder}
-use Rattle.iox_hub_loans.specs.Lenders.{Lender}
-use Rattle.iox_hub_loans.specs.Loans.{loaned_handle, loaned_slot, with_handed_out, with_loaned}
-use Rattle.iox_hub_lending.specs.Choosing.{IsFreeSlot}
+use Rattle.iox_tables.specs.HubBooks.Hubs.{AreInOrder}
+use Rattle.iox_tables.specs.HubLoans.Lenders.{Lender}
+use Rattle.iox_tables.specs.HubLoans.Loans.{loaned_handle, loaned_slot, with_handed_out, with_loaned}
+use Rattle.iox_tables.specs.HubLending.Choosing.{IsFreeSlot}
 use Rattle.iox_slots.specs.Pools.{Acquires, with_slot}
 use Rattle.iox_slots.specs.Slots.{held}
 use Rattle.iox_control.specs.Controls.{ControlState, with_pools}

@@ -5,12 +5,12 @@ use Rattle.std.proofs.Common.{sym, ap, ◌∙◌, arith, true≢false}
 use Rattle.std.proofs.lemmas.Option.{none-some, same_Some}
 use Rattle.iox_model.specs.declared.kind.Role.{Role}
 use Rattle.iox_model.specs.declared.kind.Role.TheVariants.{Client, Server}
-use Rattle.iox_hub_states.specs.Tables.{HubTables, PortState}
-use Rattle.iox_hub_books.specs.Hubs.{AreInOrder}
-use Rattle.iox_hub_loans.specs.Counts.{is_lane_taken}
-use Rattle.iox_hub_loans.specs.Lenders.{Lender}
-use Rattle.iox_hub_lending.specs.Choosing.{IsFreeSlot}
-use Rattle.iox_hub_lending.proofs.Chosen.{free_slots_have_lanes}
+use Rattle.iox_tables.specs.HubStates.Tables.{HubTables, PortState}
+use Rattle.iox_tables.specs.HubBooks.Hubs.{AreInOrder}
+use Rattle.iox_tables.specs.HubLoans.Counts.{is_lane_taken}
+use Rattle.iox_tables.specs.HubLoans.Lenders.{Lender}
+use Rattle.iox_tables.specs.HubLending.Choosing.{IsFreeSlot}
+use Rattle.iox_tables.proofs.HubLending.Chosen.{free_slots_have_lanes}
 use Rattle.iox_control_lending.specs.Lends.{lane_by}
 
 -- what is found passes, and is in the range

@@ -14,17 +14,17 @@ use Rattle.iox_model.specs.Handles.{is_request_loan, same_kind}
 use Rattle.iox_model.specs.Loans.{Choice}
 use Rattle.iox_model.specs.Settings.{Shape, shape_of}
 use Rattle.iox_model.specs.WholeCalls.{IsWholeCall}
-use Rattle.iox_run_laws.proofs.Choices.{something_may_be_chosen}
-use Rattle.iox_hub_states.specs.Tables.{HandleState, HubTables, PoolState, PortState, labels_of}
-use Rattle.iox_hub_states.specs.States.{Given, fixed_of, limits_of, state_shown}
-use Rattle.iox_hub_books.specs.Hubs.{AreInOrder}
-use Rattle.iox_hub_loans.specs.Counts.{is_lane_free, is_lane_taken, is_on_lane}
-use Rattle.iox_hub_loans.specs.Lenders.{IsActive, IsClient, Lender, lender_of_request, lender_of_response, shape_in}
-use Rattle.iox_hub_loans.specs.Loans.{loan_call}
-use Rattle.iox_hub_loans.proofs.Loaning.{each_choice_may_be}
-use Rattle.iox_hub_lending.specs.Emptying.{AreGotBack, with_back}
-use Rattle.iox_hub_lending.proofs.Bared.{differ}
-use Rattle.iox_hub_lending.proofs.Owning.{handles_are_on_nodes}
+use Rattle.iox_laws.proofs.RunLaws.Choices.{something_may_be_chosen}
+use Rattle.iox_tables.specs.HubStates.Tables.{HandleState, HubTables, PoolState, PortState, labels_of}
+use Rattle.iox_tables.specs.HubStates.States.{Given, fixed_of, limits_of, state_shown}
+use Rattle.iox_tables.specs.HubBooks.Hubs.{AreInOrder}
+use Rattle.iox_tables.specs.HubLoans.Counts.{is_lane_free, is_lane_taken, is_on_lane}
+use Rattle.iox_tables.specs.HubLoans.Lenders.{IsActive, IsClient, Lender, lender_of_request, lender_of_response, shape_in}
+use Rattle.iox_tables.specs.HubLoans.Loans.{loan_call}
+use Rattle.iox_tables.proofs.HubLoans.Loaning.{each_choice_may_be}
+use Rattle.iox_tables.specs.HubLending.Emptying.{AreGotBack, with_back}
+use Rattle.iox_tables.proofs.HubLending.Bared.{differ}
+use Rattle.iox_tables.proofs.HubLending.Owning.{handles_are_on_nodes}
 use Rattle.iox_control.specs.Controls.{ControlState}
 use Rattle.iox_control_lending.specs.declared.asked.Asked.{Asked}
 use Rattle.iox_control_lending.specs.declared.asked.Lent.{Lent}

@@ -10,23 +10,23 @@ use Rattle.iox_model.specs.declared.kind.Role.TheVariants.{Client, Server}
 use Rattle.iox_model.specs.Handles.{is_own}
 use Rattle.iox_model.specs.Loans.{kind_of_loan}
 use Rattle.iox_model.specs.Maps.{AreDistinct, has_number}
-use Rattle.iox_hub_states.specs.Tables.{HandleState, HubTables, PortState, first_by, numbers_of, pipes_of, port_in, slot_at, slots_of, with_first_by}
-use Rattle.iox_hub_states.specs.Ways.{with_port}
-use Rattle.iox_hub_states.specs.Ends.{OfEachHandle}
-use Rattle.iox_hub_states.proofs.Keys.{flip}
-use Rattle.iox_hub_books.specs.Counts.{OfAll, OfAllLanes, how_many, in_port, on_lanes, total}
-use Rattle.iox_hub_books.specs.Handles.{IsOfPort}
-use Rattle.iox_hub_books.specs.Hubs.{AreInOrder, HasPool, numbers_in}
-use Rattle.iox_hub_books.specs.Rooms.{CanCountHolders, HasRoomForAll, may_come, own_count, spare}
-use Rattle.iox_hub_books.proofs.Eachs.{all_first, all_from}
-use Rattle.iox_hub_books.proofs.Totals.{total-last, total_first, total_same}
-use Rattle.iox_hub_loans.specs.Lenders.{Lender}
-use Rattle.iox_hub_loans.specs.Loans.{loaned_handle, with_loaned}
-use Rattle.iox_hub_lending.specs.Choosing.{IsFreeSlot}
-use Rattle.iox_hub_lending.specs.Keeping.{HasMessage, HaveMessages}
-use Rattle.iox_hub_lending.specs.Lending.{MayLend}
-use Rattle.iox_hub_lending.proofs.Lent.{loans_keep_order}
-use Rattle.iox_weave_ledger.proofs.Lists.{distinct-no_repeats, no_repeats-distinct, NoRepeats}
+use Rattle.iox_tables.specs.HubStates.Tables.{HandleState, HubTables, PortState, first_by, numbers_of, pipes_of, port_in, slot_at, slots_of, with_first_by}
+use Rattle.iox_tables.specs.HubStates.Ways.{with_port}
+use Rattle.iox_tables.specs.HubStates.Ends.{OfEachHandle}
+use Rattle.iox_tables.proofs.HubStates.Keys.{flip}
+use Rattle.iox_tables.specs.HubBooks.Counts.{OfAll, OfAllLanes, how_many, in_port, on_lanes, total}
+use Rattle.iox_tables.specs.HubBooks.Handles.{IsOfPort}
+use Rattle.iox_tables.specs.HubBooks.Hubs.{AreInOrder, HasPool, numbers_in}
+use Rattle.iox_tables.specs.HubBooks.Rooms.{CanCountHolders, HasRoomForAll, may_come, own_count, spare}
+use Rattle.iox_tables.proofs.HubBooks.Eachs.{all_first, all_from}
+use Rattle.iox_tables.proofs.HubBooks.Totals.{total-last, total_first, total_same}
+use Rattle.iox_tables.specs.HubLoans.Lenders.{Lender}
+use Rattle.iox_tables.specs.HubLoans.Loans.{loaned_handle, with_loaned}
+use Rattle.iox_tables.specs.HubLending.Choosing.{IsFreeSlot}
+use Rattle.iox_tables.specs.HubLending.Keeping.{HasMessage, HaveMessages}
+use Rattle.iox_tables.specs.HubLending.Lending.{MayLend}
+use Rattle.iox_tables.proofs.HubLending.Lent.{loans_keep_order}
+use Rattle.iox_laws.proofs.WeaveLedger.Lists.{distinct-no_repeats, no_repeats-distinct, NoRepeats}
 use Rattle.iox_slots.specs.Pools.{has_slot}
 use Rattle.iox_control.specs.Controls.{AreCounted, ControlState, IsControl}
 use Rattle.iox_control.proofs.RoomLemmas.{loan_seats, room_as}

@@ -4,17 +4,17 @@ use Rattle.std.specs.List.{range_with_len}
 use Rattle.std.proofs.Common.{sym, ap, subst, ◌∙◌, arith, inl, inr, true≢false, eqb-true, eq-eqb}
 use Rattle.std.proofs.lemmas.List.FromFn.{length-range_with_len}
 use Rattle.iox_model.specs.Handles.{is_own}
-use Rattle.iox_weave_ledger.proofs.Lists.{IsAmong, NoRepeats, among-filter, filter-among, map-among}
-use Rattle.iox_weave_ledger.proofs.Ranges.{no-longer, range-has}
-use Rattle.iox_hub_states.specs.Tables.{HandleState, HubTables, PortState, slot_at}
-use Rattle.iox_hub_books.specs.Counts.{how_many, is_at, total}
-use Rattle.iox_hub_books.specs.Handles.{IsOfPort, is_own_at}
-use Rattle.iox_hub_books.specs.Hubs.{AreInOrder, IsUsed}
-use Rattle.iox_hub_books.specs.Rooms.{own_count}
-use Rattle.iox_hub_lending.specs.Choosing.{IsFreeSlot}
-use Rattle.iox_hub_lending.specs.Keeping.{has_holder}
-use Rattle.iox_hub_lending.proofs.Kept.{both, some_holder}
-use Rattle.iox_hub_lending.proofs.Owning.{of_each, port_is, two, used_among, used_within}
+use Rattle.iox_laws.proofs.WeaveLedger.Lists.{IsAmong, NoRepeats, among-filter, filter-among, map-among}
+use Rattle.iox_laws.proofs.WeaveLedger.Ranges.{no-longer, range-has}
+use Rattle.iox_tables.specs.HubStates.Tables.{HandleState, HubTables, PortState, slot_at}
+use Rattle.iox_tables.specs.HubBooks.Counts.{how_many, is_at, total}
+use Rattle.iox_tables.specs.HubBooks.Handles.{IsOfPort, is_own_at}
+use Rattle.iox_tables.specs.HubBooks.Hubs.{AreInOrder, IsUsed}
+use Rattle.iox_tables.specs.HubBooks.Rooms.{own_count}
+use Rattle.iox_tables.specs.HubLending.Choosing.{IsFreeSlot}
+use Rattle.iox_tables.specs.HubLending.Keeping.{has_holder}
+use Rattle.iox_tables.proofs.HubLending.Kept.{both, some_holder}
+use Rattle.iox_tables.proofs.HubLending.Owning.{of_each, port_is, two, used_among, used_within}
 
 -- ---- lists
 

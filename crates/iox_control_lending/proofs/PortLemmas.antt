@@ -5,13 +5,13 @@ use Rattle.std.proofs.Common.{sym, ap, subst, ◌∙◌}
 use Rattle.std.proofs.lemmas.Option.{same_Some}
 use Rattle.iox_handles.specs.declared.entry.Entry.{Entry}
 use Rattle.iox_lanes.specs.declared.wanted.Label.{Label}
-use Rattle.iox_hub_states.specs.Tables.{HandleState, HubTables, PortState, labels_of, port_in}
-use Rattle.iox_hub_states.specs.Wirings.{handle_in}
+use Rattle.iox_tables.specs.HubStates.Tables.{HandleState, HubTables, PortState, labels_of, port_in}
+use Rattle.iox_tables.specs.HubStates.Wirings.{handle_in}
 use Rattle.iox_hub_ports.specs.declared.info.PortInfo.{PortInfo}
 use Rattle.iox_hub_ports.specs.Ports.{info_in, info_of}
-use Rattle.iox_hub_books.specs.Hubs.{AreInOrder}
-use Rattle.iox_hub_loans.specs.Lenders.{Lender, lender_of_request, lender_of_response}
-use Rattle.iox_hub_lending.proofs.Owning.{number_is}
+use Rattle.iox_tables.specs.HubBooks.Hubs.{AreInOrder}
+use Rattle.iox_tables.specs.HubLoans.Lenders.{Lender, lender_of_request, lender_of_response}
+use Rattle.iox_tables.proofs.HubLending.Owning.{number_is}
 use Rattle.iox_control.specs.Controls.{ControlState}
 use Rattle.iox_control.specs.Entries.{handle_state}
 use Rattle.iox_control_lending.specs.declared.asked.Asked.{Asked}

@@ -6,10 +6,10 @@ use Rattle.std.proofs.Common.{sym, ap, ◌∙◌, arith}
 use Rattle.std.proofs.Common.{get_or}
 use Rattle.std.proofs.lemmas.List.Sums.{length-filter}
 use Rattle.std.proofs.lemmas.Option.{none-some, slice_get-get_or}
-use Rattle.iox_hub_states.specs.Tables.{PoolState, SlotState, no_slot, slot_at, slots_of}
-use Rattle.iox_hub_loans.specs.Slots.{put_slot, put_slot_of}
-use Rattle.iox_hub_loans.proofs.Placed.{set_there}
-use Rattle.iox_hub_lending.specs.Keeping.{has_holder}
+use Rattle.iox_tables.specs.HubStates.Tables.{PoolState, SlotState, no_slot, slot_at, slots_of}
+use Rattle.iox_tables.specs.HubLoans.Slots.{put_slot, put_slot_of}
+use Rattle.iox_tables.proofs.HubLoans.Placed.{set_there}
+use Rattle.iox_tables.specs.HubLending.Keeping.{has_holder}
 use Rattle.iox_slots.specs.Pools.{free_count, has_slot, with_pool, with_slot}
 use Rattle.iox_slots.specs.Slots.{held, is_free, with_slot_of, written}
 

@@ -19,24 +19,24 @@ use Rattle.iox_model.specs.Maps.{or_else}
 use Rattle.iox_model.specs.Settings.{Shape, shape_of}
 use Rattle.iox_model.specs.States as m
 use Rattle.iox_model.specs.WholeCalls.{IsWholeCall, default_payload}
-use Rattle.iox_call_functions.specs.Calls.{call_by}
-use Rattle.iox_call_functions.proofs.Lending.{each_loan_is_whole, each_uninit_loan_is_whole}
-use Rattle.iox_run_laws.proofs.Choices.{something_may_be_chosen}
-use Rattle.iox_hub_states.specs.Tables.{HandleState, HubTables, PoolState, PortState, labels_of, slot_at, slots_of}
-use Rattle.iox_hub_states.specs.States.{Given, fixed_of, limits_of, state_shown}
-use Rattle.iox_hub_states.specs.Releases.{lane_of}
-use Rattle.iox_hub_books.specs.Hubs.{AreInOrder}
-use Rattle.iox_hub_books.specs.Keeps.{bare_pools}
-use Rattle.iox_hub_loans.specs.Counts.{is_lane_free, is_lane_taken, is_on_lane}
-use Rattle.iox_hub_loans.specs.Lenders.{IsActive, IsClient, IsLender, Lender, calls_refusal, count_refusal_by, lender_of_request, lender_of_response, loan_refusal, shape_in, size_refusal}
-use Rattle.iox_hub_loans.specs.Loans.{loan_call, loaned_contents, with_loaned}
-use Rattle.iox_hub_loans.specs.Slots.{with_contents}
-use Rattle.iox_hub_loans.proofs.Loaning.{each_choice_may_be, loans_are_refused, loans_may_hold_defaults}
-use Rattle.iox_hub_lending.specs.Emptying.{AreGotBack, with_back}
-use Rattle.iox_hub_lending.specs.Keeping.{has_holder}
-use Rattle.iox_hub_lending.proofs.Bared.{differ}
-use Rattle.iox_hub_lending.proofs.Owning.{handles_are_on_nodes}
-use Rattle.iox_hub_lending.proofs.WholeLoans.{free_slots_are_lent, full_pools_refuse}
+use Rattle.iox_laws.specs.CallFunctions.Calls.{call_by}
+use Rattle.iox_laws.proofs.CallFunctions.Lending.{each_loan_is_whole, each_uninit_loan_is_whole}
+use Rattle.iox_laws.proofs.RunLaws.Choices.{something_may_be_chosen}
+use Rattle.iox_tables.specs.HubStates.Tables.{HandleState, HubTables, PoolState, PortState, labels_of, slot_at, slots_of}
+use Rattle.iox_tables.specs.HubStates.States.{Given, fixed_of, limits_of, state_shown}
+use Rattle.iox_tables.specs.HubStates.Releases.{lane_of}
+use Rattle.iox_tables.specs.HubBooks.Hubs.{AreInOrder}
+use Rattle.iox_tables.specs.HubBooks.Keeps.{bare_pools}
+use Rattle.iox_tables.specs.HubLoans.Counts.{is_lane_free, is_lane_taken, is_on_lane}
+use Rattle.iox_tables.specs.HubLoans.Lenders.{IsActive, IsClient, IsLender, Lender, calls_refusal, count_refusal_by, lender_of_request, lender_of_response, loan_refusal, shape_in, size_refusal}
+use Rattle.iox_tables.specs.HubLoans.Loans.{loan_call, loaned_contents, with_loaned}
+use Rattle.iox_tables.specs.HubLoans.Slots.{with_contents}
+use Rattle.iox_tables.proofs.HubLoans.Loaning.{each_choice_may_be, loans_are_refused, loans_may_hold_defaults}
+use Rattle.iox_tables.specs.HubLending.Emptying.{AreGotBack, with_back}
+use Rattle.iox_tables.specs.HubLending.Keeping.{has_holder}
+use Rattle.iox_tables.proofs.HubLending.Bared.{differ}
+use Rattle.iox_tables.proofs.HubLending.Owning.{handles_are_on_nodes}
+use Rattle.iox_tables.proofs.HubLending.WholeLoans.{free_slots_are_lent, full_pools_refuse}
 use Rattle.iox_control.specs.Controls.{ControlState, with_tables}
 use Rattle.iox_control.proofs.WholeLemmas.{is_whole_of}
 use Rattle.iox_control_lending.specs.declared.asked.Asked.{Asked}

@@ -6,13 +6,13 @@ use Rattle.iox_model.specs.declared.reply.Refusal.TheVariants as refusals
 use Rattle.iox_model.specs.declared.reply.Reply.TheVariants as replies
 use Rattle.iox_model.specs.Commands.{Reply}
 use Rattle.iox_model.specs.Handles.{filled_kind}
-use Rattle.iox_hub_states.specs.Tables.{HandleState, HubTables}
-use Rattle.iox_hub_states.specs.States.{Given}
-use Rattle.iox_hub_states.specs.Wirings.{IsHandle}
-use Rattle.iox_hub_books.specs.Handles.{is_loan}
-use Rattle.iox_hub_loans.specs.Fillings.{elements_of, written_contents}
-use Rattle.iox_hub_loans.specs.Slots.{with_contents}
-use Rattle.iox_hub_lending.specs.Filling.{with_kind}
+use Rattle.iox_tables.specs.HubStates.Tables.{HandleState, HubTables}
+use Rattle.iox_tables.specs.HubStates.States.{Given}
+use Rattle.iox_tables.specs.HubStates.Wirings.{IsHandle}
+use Rattle.iox_tables.specs.HubBooks.Handles.{is_loan}
+use Rattle.iox_tables.specs.HubLoans.Fillings.{elements_of, written_contents}
+use Rattle.iox_tables.specs.HubLoans.Slots.{with_contents}
+use Rattle.iox_tables.specs.HubLending.Filling.{with_kind}
 use Rattle.iox_control.specs.Controls.{ControlState, with_tables}
 use Rattle.iox_control_lending.specs.declared.asked.Place.{Place}
 use Rattle.iox_control_lending.specs.declared.asked.Written.{Written}

@@ -8,17 +8,17 @@ use Rattle.iox_model.specs.declared.reply.Reply.TheVariants as replies
 use Rattle.iox_model.specs.Commands.{Refusal, Reply}
 use Rattle.iox_model.specs.Settings.{Shape, has_layout, is_count}
 use Rattle.iox_model.specs.WholeCalls.{default_payload}
-use Rattle.iox_hub_states.specs.Tables.{HubTables, PoolState, PortState, SlotState, port_in, slot_at, slots_of}
-use Rattle.iox_hub_states.specs.States.{Given}
+use Rattle.iox_tables.specs.HubStates.Tables.{HubTables, PoolState, PortState, SlotState, port_in, slot_at, slots_of}
+use Rattle.iox_tables.specs.HubStates.States.{Given}
 use Rattle.iox_hub_ports.specs.Ports.{info_of}
 use Rattle.iox_slots.specs.Pools.{with_slot}
 use Rattle.iox_slots.specs.Slots.{written}
-use Rattle.iox_hub_loans.specs.Counts.{is_lane_taken}
-use Rattle.iox_hub_loans.specs.Lenders.{Lender, loan_refusal, shape_in}
-use Rattle.iox_hub_loans.specs.Loans.{loaned_handle, with_handed_out, with_loaned}
-use Rattle.iox_hub_loans.specs.Slots.{Contents, with_contents}
-use Rattle.iox_hub_lending.specs.Emptying.{AreGotBack, with_back}
-use Rattle.iox_hub_lending.specs.Keeping.{has_holder}
+use Rattle.iox_tables.specs.HubLoans.Counts.{is_lane_taken}
+use Rattle.iox_tables.specs.HubLoans.Lenders.{Lender, loan_refusal, shape_in}
+use Rattle.iox_tables.specs.HubLoans.Loans.{loaned_handle, with_handed_out, with_loaned}
+use Rattle.iox_tables.specs.HubLoans.Slots.{Contents, with_contents}
+use Rattle.iox_tables.specs.HubLending.Emptying.{AreGotBack, with_back}
+use Rattle.iox_tables.specs.HubLending.Keeping.{has_holder}
 use Rattle.iox_control.specs.Controls.{ControlState, with_tables}
 use Rattle.iox_control_lending.specs.declared.asked.Asked.{Asked}
 use Rattle.iox_control_lending.specs.declared.asked.Lending.{Lending}

@@ -1,11 +1,11 @@
 //! The loans of clients and of active requests.
 ghost use Rattle.std.specs.Prelude.{◌≡◌, Some};
 ghost use Rattle.iox_model.specs.WholeCalls.{IsWholeCall};
-ghost use Rattle.iox_hub_states.specs.Tables.{HandleState, PortState, port_in};
-ghost use Rattle.iox_hub_states.specs.States.{Given, state_shown};
-ghost use Rattle.iox_hub_states.specs.Wirings.{handle_in};
-ghost use Rattle.iox_hub_loans.specs.Lenders.{IsActive, IsClient, lender_of_request, lender_of_response};
-ghost use Rattle.iox_hub_loans.specs.Loans.{loan_call};
+ghost use Rattle.iox_tables.specs.HubStates.Tables.{HandleState, PortState, port_in};
+ghost use Rattle.iox_tables.specs.HubStates.States.{Given, state_shown};
+ghost use Rattle.iox_tables.specs.HubStates.Wirings.{handle_in};
+ghost use Rattle.iox_tables.specs.HubLoans.Lenders.{IsActive, IsClient, lender_of_request, lender_of_response};
+ghost use Rattle.iox_tables.specs.HubLoans.Loans.{loan_call};
 ghost use Rattle.iox_control.specs.Controls.{IsControl};
 ghost use Rattle.iox_control_lending.specs.Lends.{IsAskedOf, IsPortOf, Lends, given_after, lender_of, reply_of_loan};
 

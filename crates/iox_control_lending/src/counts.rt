@@ -2,8 +2,8 @@
 ghost use Rattle.std.specs.Prelude.{◌≡◌, ◌==◌, ◌&&◌};
 ghost use Rattle.iox_model.specs.Handles.{is_request_loan, is_response_loan, same_kind};
 ghost use Rattle.iox_model.specs.declared.kind.Kind.TheVariants.{PendingResponse};
-ghost use Rattle.iox_hub_states.specs.Tables.{labels_of};
-ghost use Rattle.iox_hub_loans.specs.Counts.{pendings_of, requests_on_loan, responses_on_loan, responses_to};
+ghost use Rattle.iox_tables.specs.HubStates.Tables.{labels_of};
+ghost use Rattle.iox_tables.specs.HubLoans.Counts.{pendings_of, requests_on_loan, responses_on_loan, responses_to};
 ghost use Rattle.iox_control_lending.specs.Tests.{is_responding};
 
 use iox_control::Control;

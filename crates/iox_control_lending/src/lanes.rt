@@ -1,8 +1,8 @@
 //! Which lanes of a client are taken.
 ghost use Rattle.std.specs.Prelude.{◌≡◌, find, not};
 ghost use Rattle.std.specs.List.{range_with_len};
-ghost use Rattle.iox_hub_states.specs.Tables.{labels_of};
-ghost use Rattle.iox_hub_loans.specs.Counts.{is_lane_taken};
+ghost use Rattle.iox_tables.specs.HubStates.Tables.{labels_of};
+ghost use Rattle.iox_tables.specs.HubLoans.Counts.{is_lane_taken};
 ghost use Rattle.iox_control_lending.specs.Tests.{is_on_lane_of};
 
 use crate::counts::{is_pending, is_request_loan};

@@ -3,10 +3,10 @@ ghost use Rattle.std.specs.Prelude.{◌≡◌, ◌+◌, ◌<◌, ◌^◌, ◌-�
 ghost use Rattle.std.specs.List.{list_all};
 ghost use Rattle.std.specs.Option.{option_map_or};
 ghost use Rattle.iox_model.specs.Loans.{kind_of_loan};
-ghost use Rattle.iox_hub_states.specs.Tables.{PortState, port_in, slots_of};
+ghost use Rattle.iox_tables.specs.HubStates.Tables.{PortState, port_in, slots_of};
 ghost use Rattle.iox_hub_ports.specs.Ports.{info_of};
-ghost use Rattle.iox_hub_loans.specs.Loans.{loaned_handle};
-ghost use Rattle.iox_hub_lending.specs.Keeping.{has_holder};
+ghost use Rattle.iox_tables.specs.HubLoans.Loans.{loaned_handle};
+ghost use Rattle.iox_tables.specs.HubLending.Keeping.{has_holder};
 ghost use Rattle.iox_control.specs.Controls.{IsControl};
 ghost use Rattle.iox_control.specs.Entries.{handle_state};
 ghost use Rattle.iox_control_lending.specs.Lends.{IsMade, IsPortOf, lane_by, lender_of, with_written_out};

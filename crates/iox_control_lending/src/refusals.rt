@@ -4,10 +4,10 @@ ghost use Rattle.std.specs.Option.{option_map};
 ghost use Rattle.iox_model.specs.declared.reply.Refusal.TheVariants.{ExceedsMaxLoans};
 ghost use Rattle.iox_model.specs.Maps.{refused_if};
 ghost use Rattle.iox_model.specs.Settings.{Shape};
-ghost use Rattle.iox_hub_states.specs.Tables.{PortState};
+ghost use Rattle.iox_tables.specs.HubStates.Tables.{PortState};
 ghost use Rattle.iox_hub_ports.specs.Ports.{info_of};
-ghost use Rattle.iox_hub_loans.specs.Counts.{requests_on_loan, responses_on_loan, responses_to};
-ghost use Rattle.iox_hub_loans.specs.Lenders.{count_refusal_by, size_refusal};
+ghost use Rattle.iox_tables.specs.HubLoans.Counts.{requests_on_loan, responses_on_loan, responses_to};
+ghost use Rattle.iox_tables.specs.HubLoans.Lenders.{count_refusal_by, size_refusal};
 ghost use Rattle.iox_control_lending.specs.Lends.{IsAskedOf, IsTold, lender_of, refusal_of};
 
 use crate::asked::{Asked, Lending, LoanRefusal};

@@ -1,5 +1,5 @@
 //! Callers of loans and writes, proved from the clauses alone.
-ghost use Rattle.iox_hub_loans.specs.Lenders.{IsClient};
+ghost use Rattle.iox_tables.specs.HubLoans.Lenders.{IsClient};
 ghost use Rattle.iox_control.specs.Controls.{IsControl};
 ghost use Rattle.iox_control_lending.specs.Fills.{IsLoan};
 

@@ -9,22 +9,22 @@ use Rattle.iox_model.specs.declared.kind.Role.TheVariants.{Client, Server}
 use Rattle.iox_model.specs.declared.way.Way.{Way}
 use Rattle.iox_model.specs.Maps.{AreDistinct, has_number}
 use Rattle.iox_model.specs.Settings.{is_client, other_role, same_role}
-use Rattle.iox_weave_laws.proofs.MapLemmas.{eqb-refl}
+use Rattle.iox_laws.proofs.WeaveLaws.MapLemmas.{eqb-refl}
 use Rattle.iox_lanes.specs.Lanes.{LaneState}
 use Rattle.iox_lanes.specs.Pipes.{PipeState}
-use Rattle.iox_hub_states.specs.Tables.{HubTables, PortState, first_by, numbers_of, pipe_from, pipes_of, pipes_to, port_in, senders_of}
-use Rattle.iox_hub_states.specs.Ways.{lane_on, lanes_from}
-use Rattle.iox_hub_states.specs.Wirings.{limit_from, numbers_of_role}
-use Rattle.iox_hub_states.proofs.Keys.{flip, has_some}
-use Rattle.iox_hub_books.specs.Counts.{OfAll, in_pipe, in_port, on_lanes, total}
-use Rattle.iox_hub_books.specs.Hubs.{AreInOrder, width_of}
-use Rattle.iox_hub_books.specs.Rooms.{own_count, spare}
-use Rattle.iox_hub_books.proofs.Bounds.{lanes_below}
-use Rattle.iox_hub_books.proofs.Eachs.{OfPipe, OfPort, all_from}
-use Rattle.iox_hub_making.proofs.Connecting.{other_twice, same_roles}
-use Rattle.iox_hub_making.proofs.Firsts.{first_among, has_first}
-use Rattle.iox_hub_keeping.proofs.NewPorts.{some_is}
-use Rattle.iox_hub_keeping.proofs.Ordered.{names_apart}
+use Rattle.iox_tables.specs.HubStates.Tables.{HubTables, PortState, first_by, numbers_of, pipe_from, pipes_of, pipes_to, port_in, senders_of}
+use Rattle.iox_tables.specs.HubStates.Ways.{lane_on, lanes_from}
+use Rattle.iox_tables.specs.HubStates.Wirings.{limit_from, numbers_of_role}
+use Rattle.iox_tables.proofs.HubStates.Keys.{flip, has_some}
+use Rattle.iox_tables.specs.HubBooks.Counts.{OfAll, in_pipe, in_port, on_lanes, total}
+use Rattle.iox_tables.specs.HubBooks.Hubs.{AreInOrder, width_of}
+use Rattle.iox_tables.specs.HubBooks.Rooms.{own_count, spare}
+use Rattle.iox_tables.proofs.HubBooks.Bounds.{lanes_below}
+use Rattle.iox_tables.proofs.HubBooks.Eachs.{OfPipe, OfPort, all_from}
+use Rattle.iox_tables.proofs.HubMaking.Connecting.{other_twice, same_roles}
+use Rattle.iox_tables.proofs.HubMaking.Firsts.{first_among, has_first}
+use Rattle.iox_tables.proofs.HubKeeping.NewPorts.{some_is}
+use Rattle.iox_tables.proofs.HubKeeping.Ordered.{names_apart}
 use Rattle.iox_control_making.specs.Bounds.{LanesAreBetween, NoMoreMayCome, count_of, sizes_of}
 
 -- ---- lists
@@ -106,7 +106,7 @@ module _ (t : HubTables) (order : AreInOrder t) (f : LaneState → ℕ) (b : Rol
           sym (ap (λ n. length (lanes_from (pipes_of p) n)) (sym number) ∙ ap (λ (o : Option PipeState). length (option_map_or (λ x. x.lanes) o [])) found) ∙ lanes
         where
           first_is : (ports : List PortState) (n : ℕ) (x : PortState) → port_in ports n ≡ Some x → x.number ≡ n
-          first_is ports n x at = Rattle.iox_hub_states.proofs.Fixing.first_key (λ (y : PortState). y.number) ports n x at
+          first_is ports n x at = Rattle.iox_tables.proofs.HubStates.Fixing.first_key (λ (y : PortState). y.number) ports n x at
 
       one_pipe : (q : PipeState) → pipe_from (pipes_of p) q.sender ≡ Some q → in_pipe f q ≡ width_of p * b p.role
       one_pipe q found = total_times f (b p.role) q.lanes (each_lane q found) ∙ ap (λ n. n * b p.role) (wide q found)

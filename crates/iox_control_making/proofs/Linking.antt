@@ -3,15 +3,15 @@ use Rattle.std.specs.Prelude.{◌≡◌, ℕ, Bool, true, false, ◌||◌, if◌
 use Rattle.std.proofs.Common.{sym, ap, ap₂, ◌∙◌}
 use Rattle.std.proofs.lemmas.Bool.{or_parts}
 use Rattle.iox_model.specs.Maps.{AreDistinct, has_number}
-use Rattle.iox_weave_laws.proofs.MapLemmas.{eqb-refl}
-use Rattle.iox_hub_states.specs.Tables.{HubSettings, HubTables, PortState, numbers_of, port_in}
-use Rattle.iox_hub_states.specs.Ways.{with_port}
-use Rattle.iox_hub_states.proofs.Keys.{flip}
-use Rattle.iox_hub_books.specs.Counts.{OfAll}
-use Rattle.iox_hub_books.proofs.Eachs.{all_from}
+use Rattle.iox_laws.proofs.WeaveLaws.MapLemmas.{eqb-refl}
+use Rattle.iox_tables.specs.HubStates.Tables.{HubSettings, HubTables, PortState, numbers_of, port_in}
+use Rattle.iox_tables.specs.HubStates.Ways.{with_port}
+use Rattle.iox_tables.proofs.HubStates.Keys.{flip}
+use Rattle.iox_tables.specs.HubBooks.Counts.{OfAll}
+use Rattle.iox_tables.proofs.HubBooks.Eachs.{all_from}
 use Rattle.iox_hub_ports.specs.Ports.{with_connected}
-use Rattle.iox_hub_making.specs.NewPorts.{connected_to, is_other, pipe_between}
-use Rattle.iox_hub_making.specs.OneByOne.{PipesHaveRoom}
+use Rattle.iox_tables.specs.HubMaking.NewPorts.{connected_to, is_other, pipe_between}
+use Rattle.iox_tables.specs.HubMaking.OneByOne.{PipesHaveRoom}
 use Rattle.iox_control_making.specs.declared.pipes.Link.{Link}
 use Rattle.iox_control_making.specs.Links.{all_linked, links_between}
 use Rattle.iox_control_making.proofs.Counting.{each_first}

@@ -9,23 +9,23 @@ use Rattle.iox_model.specs.declared.kind.Role.{Role}
 use Rattle.iox_model.specs.declared.kind.Role.TheVariants.{Client, Server}
 use Rattle.iox_model.specs.Maps.{has_number, or_else}
 use Rattle.iox_model.specs.Settings.{same_role}
-use Rattle.iox_hub_states.specs.Tables.{HubSettings, HubTables, PoolState, PortState, numbers_of}
-use Rattle.iox_hub_books.specs.Counts.{OfAll}
-use Rattle.iox_hub_books.specs.Hubs.{AreInOrder}
-use Rattle.iox_hub_books.specs.Rooms.{CanCountHolders}
-use Rattle.iox_hub_books.proofs.Eachs.{all-append}
+use Rattle.iox_tables.specs.HubStates.Tables.{HubSettings, HubTables, PoolState, PortState, numbers_of}
+use Rattle.iox_tables.specs.HubBooks.Counts.{OfAll}
+use Rattle.iox_tables.specs.HubBooks.Hubs.{AreInOrder}
+use Rattle.iox_tables.specs.HubBooks.Rooms.{CanCountHolders}
+use Rattle.iox_tables.proofs.HubBooks.Eachs.{all-append}
 use Rattle.iox_slots.specs.Pools.{place_for_one, with_one_more}
-use Rattle.iox_hub_making.specs.NewPorts.{connected_from, connected_to, pool_made, ports_with}
-use Rattle.iox_hub_making.specs.OneByOne.{HaveRoom, PipesHaveRoom, most_of}
-use Rattle.iox_hub_making.proofs.Connecting.{shows_same}
-use Rattle.iox_hub_making.proofs.Firsts.{has_first}
-use Rattle.iox_hub_making.proofs.Removing.{new_pipes_have_room}
-use Rattle.iox_hub_making.proofs.Rooming.{room_always_stays}
-use Rattle.iox_hub_keeping.specs.Connected.{KeepsNone}
-use Rattle.iox_hub_keeping.specs.Keeps.{MayBeMade}
-use Rattle.iox_hub_keeping.proofs.NewHandles.{makings_keep_order}
-use Rattle.iox_hub_keeping.proofs.NewLanes.{new_lanes_are}
-use Rattle.iox_hub_keeping.proofs.Ordered.{are_connected, names_apart, not_there, places_become_free}
+use Rattle.iox_tables.specs.HubMaking.NewPorts.{connected_from, connected_to, pool_made, ports_with}
+use Rattle.iox_tables.specs.HubMaking.OneByOne.{HaveRoom, PipesHaveRoom, most_of}
+use Rattle.iox_tables.proofs.HubMaking.Connecting.{shows_same}
+use Rattle.iox_tables.proofs.HubMaking.Firsts.{has_first}
+use Rattle.iox_tables.proofs.HubMaking.Removing.{new_pipes_have_room}
+use Rattle.iox_tables.proofs.HubMaking.Rooming.{room_always_stays}
+use Rattle.iox_tables.specs.HubKeeping.Connected.{KeepsNone}
+use Rattle.iox_tables.specs.HubKeeping.Keeps.{MayBeMade}
+use Rattle.iox_tables.proofs.HubKeeping.NewHandles.{makings_keep_order}
+use Rattle.iox_tables.proofs.HubKeeping.NewLanes.{new_lanes_are}
+use Rattle.iox_tables.proofs.HubKeeping.Ordered.{are_connected, names_apart, not_there, places_become_free}
 use Rattle.iox_control.specs.Controls.{AreCounted, ControlState, HaveBuffers, IsControl, with_number, with_port_added, with_ports}
 use Rattle.iox_control_making.specs.declared.asked.Asked.{Asked}
 use Rattle.iox_control_making.specs.declared.asked.NotMade.TheVariants.{DataSegment, PortTag, TooManyPorts}

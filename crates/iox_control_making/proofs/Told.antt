@@ -13,16 +13,16 @@ use Rattle.iox_model.specs.Makings.{IsHubCommand, is_large, most_ports, port_rep
 use Rattle.iox_model.specs.Maps.{or_else, refused_if}
 use Rattle.iox_model.specs.Settings.{other_role}
 use Rattle.iox_lanes.specs.Incomings.{no_pipes}
-use Rattle.iox_hub_states.specs.Tables.{HubSettings, HubTables, PortState}
-use Rattle.iox_hub_states.specs.States.{Given, limits_of, state_shown}
-use Rattle.iox_hub_books.specs.Hubs.{AreInOrder}
+use Rattle.iox_tables.specs.HubStates.Tables.{HubSettings, HubTables, PortState}
+use Rattle.iox_tables.specs.HubStates.States.{Given, limits_of, state_shown}
+use Rattle.iox_tables.specs.HubBooks.Hubs.{AreInOrder}
 use Rattle.iox_slots.specs.Pools.{place_for_one, with_one_more}
-use Rattle.iox_hub_making.specs.FreePools.{OthersStay}
-use Rattle.iox_hub_making.specs.NewPorts.{given_made, making_refused, pool_made, port_made, room_for_gone, with_port_made}
-use Rattle.iox_hub_making.specs.OneByOne.{most_of}
-use Rattle.iox_hub_making.proofs.Commanding.{each_making_is_shown}
-use Rattle.iox_hub_keeping.specs.Connected.{KeepsNone}
-use Rattle.iox_hub_keeping.proofs.Ordered.{order_is_ready_for_ports, places_become_free}
+use Rattle.iox_tables.specs.HubMaking.FreePools.{OthersStay}
+use Rattle.iox_tables.specs.HubMaking.NewPorts.{given_made, making_refused, pool_made, port_made, room_for_gone, with_port_made}
+use Rattle.iox_tables.specs.HubMaking.OneByOne.{most_of}
+use Rattle.iox_tables.proofs.HubMaking.Commanding.{each_making_is_shown}
+use Rattle.iox_tables.specs.HubKeeping.Connected.{KeepsNone}
+use Rattle.iox_tables.proofs.HubKeeping.Ordered.{order_is_ready_for_ports, places_become_free}
 use Rattle.iox_control_making.specs.declared.asked.Asked.{Asked}
 use Rattle.iox_control_making.specs.declared.asked.NotMade.{NotMade}
 use Rattle.iox_control_making.specs.declared.asked.NotMade.TheVariants.{DataSegment, PortTag, TooManyPorts}

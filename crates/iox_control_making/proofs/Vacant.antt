@@ -5,10 +5,10 @@ use Rattle.std.specs.Option.{option_map_or}
 use Rattle.std.proofs.Common.{sym, ap, ◌∙◌, arith}
 use Rattle.std.proofs.lemmas.Iterator.Adapters.{position_from-zero}
 use Rattle.std.proofs.lemmas.Option.{none-some}
-use Rattle.iox_hub_states.specs.Tables.{PoolState, pool_at}
+use Rattle.iox_tables.specs.HubStates.Tables.{PoolState, pool_at}
 use Rattle.iox_slots.specs.Pools.{place_for_one, with_one_more}
-use Rattle.iox_hub_making.specs.FreePools.{IsPut}
-use Rattle.iox_hub_making.proofs.Pooling.{new_pools_are_put}
+use Rattle.iox_tables.specs.HubMaking.FreePools.{IsPut}
+use Rattle.iox_tables.proofs.HubMaking.Pooling.{new_pools_are_put}
 
 within : (m : ℕ) (pools : List (Option PoolState)) (i : ℕ) → position_from is_none m pools ≡ Some i → i < m + length pools
 within m [] i e = absurd (none-some i e)

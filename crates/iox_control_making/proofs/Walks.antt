@@ -10,14 +10,14 @@ use Rattle.iox_model.specs.declared.kind.Role.TheVariants.{Client, Server}
 use Rattle.iox_model.specs.Settings.{same_role}
 use Rattle.iox_lanes.specs.Incomings.{IncomingState, connected}
 use Rattle.iox_lanes.specs.Pipes.{PipeState}
-use Rattle.iox_hub_states.specs.Tables.{HubSettings, PoolState, PortState, pool_at}
-use Rattle.iox_hub_states.specs.Ways.{with_port}
-use Rattle.iox_hub_books.proofs.Totals.{total-last}
+use Rattle.iox_tables.specs.HubStates.Tables.{HubSettings, PoolState, PortState, pool_at}
+use Rattle.iox_tables.specs.HubStates.Ways.{with_port}
+use Rattle.iox_tables.proofs.HubBooks.Totals.{total-last}
 use Rattle.iox_hub_ports.specs.declared.info.PortInfo.{PortInfo}
 use Rattle.iox_hub_ports.specs.Ports.{info_at, info_of, with_connected}
 use Rattle.iox_slots.specs.Pools.{place_for_one}
-use Rattle.iox_hub_making.specs.NewPorts.{is_other, pipe_between}
-use Rattle.iox_hub_making.specs.OneByOne.{all_connected}
+use Rattle.iox_tables.specs.HubMaking.NewPorts.{is_other, pipe_between}
+use Rattle.iox_tables.specs.HubMaking.OneByOne.{all_connected}
 use Rattle.iox_control.specs.Controls.{ControlState, with_ports}
 use Rattle.iox_control_making.specs.declared.pipes.Link.{Link}
 use Rattle.iox_control_making.specs.declared.sizes.Sizes.{Sizes}

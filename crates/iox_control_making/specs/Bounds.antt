@@ -3,11 +3,11 @@ use Rattle.std.specs.Prelude.{◌≡◌, ℕ, ◌+◌, ◌*◌, ◌≤◌, if◌
 use Rattle.iox_model.specs.declared.kind.Role.{Role}
 use Rattle.iox_model.specs.declared.kind.Role.TheVariants.{Client, Server}
 use Rattle.iox_model.specs.Settings.{same_role}
-use Rattle.iox_hub_states.specs.Tables.{HubSettings, HubTables, PortState}
-use Rattle.iox_hub_states.specs.Wirings.{numbers_of_role}
-use Rattle.iox_hub_books.specs.Counts.{on_lanes, total}
-use Rattle.iox_hub_books.specs.Hubs.{AreInOrder}
-use Rattle.iox_hub_books.specs.Rooms.{may_come}
+use Rattle.iox_tables.specs.HubStates.Tables.{HubSettings, HubTables, PortState}
+use Rattle.iox_tables.specs.HubStates.Wirings.{numbers_of_role}
+use Rattle.iox_tables.specs.HubBooks.Counts.{on_lanes, total}
+use Rattle.iox_tables.specs.HubBooks.Hubs.{AreInOrder}
+use Rattle.iox_tables.specs.HubBooks.Rooms.{may_come}
 
 -- how many ports there are of that role
 abbrev pub count_of : Role → List PortState → ℕ

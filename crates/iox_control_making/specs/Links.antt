@@ -1,11 +1,11 @@
 -- The pipes from a new port to others, and how they are connected one after another.
 use Rattle.std.specs.Prelude.{List, [], ◌∷◌, filter, map}
 use Rattle.iox_lanes.specs.Incomings.{no_pipes}
-use Rattle.iox_hub_states.specs.Tables.{HubSettings, PortState}
-use Rattle.iox_hub_states.specs.Ways.{with_port}
+use Rattle.iox_tables.specs.HubStates.Tables.{HubSettings, PortState}
+use Rattle.iox_tables.specs.HubStates.Ways.{with_port}
 use Rattle.iox_hub_ports.specs.declared.info.PortInfo.{PortInfo}
 use Rattle.iox_hub_ports.specs.Ports.{port_of, with_connected}
-use Rattle.iox_hub_making.specs.NewPorts.{is_other, pipe_between}
+use Rattle.iox_tables.specs.HubMaking.NewPorts.{is_other, pipe_between}
 use Rattle.iox_control_making.specs.declared.pipes.Link.{Link}
 
 -- the port, before anything comes to it

@@ -10,14 +10,14 @@ use Rattle.iox_model.specs.Makings.{IsHubCommand, allocation_of, chosen_pool, is
 use Rattle.iox_model.specs.Maps.{or_else}
 use Rattle.iox_model.specs.Settings.{is_static, other_role, shape_of}
 use Rattle.iox_lanes.specs.Incomings.{no_pipes}
-use Rattle.iox_hub_states.specs.Tables.{HubTables, PortState}
-use Rattle.iox_hub_states.specs.States.{Given, limits_of, state_shown}
+use Rattle.iox_tables.specs.HubStates.Tables.{HubTables, PortState}
+use Rattle.iox_tables.specs.HubStates.States.{Given, limits_of, state_shown}
 use Rattle.iox_hub_ports.specs.declared.info.PortInfo.{PortInfo}
 use Rattle.iox_hub_ports.specs.Ports.{port_of}
 use Rattle.iox_slots.specs.Pools.{place_for_one, with_one_more}
-use Rattle.iox_hub_making.specs.FreePools.{OthersStay}
-use Rattle.iox_hub_making.specs.NewPorts.{given_made, pool_made, room_for_gone, with_port_made}
-use Rattle.iox_hub_making.specs.OneByOne.{most_of}
+use Rattle.iox_tables.specs.HubMaking.FreePools.{OthersStay}
+use Rattle.iox_tables.specs.HubMaking.NewPorts.{given_made, pool_made, room_for_gone, with_port_made}
+use Rattle.iox_tables.specs.HubMaking.OneByOne.{most_of}
 use Rattle.iox_control.specs.Controls.{ControlState}
 use Rattle.iox_control_making.specs.declared.asked.Asked.{Asked}
 use Rattle.iox_control_making.specs.declared.asked.NotMade.{NotMade}

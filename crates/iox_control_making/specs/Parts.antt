@@ -2,11 +2,11 @@
 use Rattle.std.specs.Prelude.{◌≡◌, filter, map}
 use Rattle.iox_model.specs.Settings.{other_role}
 use Rattle.iox_lanes.specs.Incomings.{no_pipes}
-use Rattle.iox_hub_states.specs.Tables.{HubTables}
+use Rattle.iox_tables.specs.HubStates.Tables.{HubTables}
 use Rattle.iox_hub_ports.specs.declared.info.PortInfo.{PortInfo}
 use Rattle.iox_hub_ports.specs.Ports.{port_of}
-use Rattle.iox_hub_making.specs.NewPorts.{is_other, pipe_between, room_for_gone}
-use Rattle.iox_hub_making.specs.OneByOne.{all_connected, most_of}
+use Rattle.iox_tables.specs.HubMaking.NewPorts.{is_other, pipe_between, room_for_gone}
+use Rattle.iox_tables.specs.HubMaking.OneByOne.{all_connected, most_of}
 use Rattle.iox_control_making.specs.declared.making.Parts.{Parts}
 use Rattle.iox_control_making.specs.Links.{bare, links_between}
 

@@ -1,7 +1,7 @@
 //! A new port is connected.
 ghost use Rattle.std.specs.Prelude.{◌≡◌, ◌<◌, ◌+◌, ◌^◌, false};
 ghost use Rattle.iox_model.specs.Maps.{has_number};
-ghost use Rattle.iox_hub_states.specs.Tables.{numbers_of};
+ghost use Rattle.iox_tables.specs.HubStates.Tables.{numbers_of};
 ghost use Rattle.iox_control.specs.Controls.{with_number, with_port_added, with_ports};
 ghost use Rattle.iox_control_making.specs.Links.{all_linked};
 

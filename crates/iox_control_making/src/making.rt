@@ -1,7 +1,7 @@
 //! A port is made.
 ghost use Rattle.std.specs.Prelude.{◌≡◌, ◌⊎◌, ◌<◌, ◌+◌, ◌≤◌, ◌^◌};
 ghost use Rattle.std.specs.Prelude.{Bool, IfErr, IfOk, None, OnErr, OnOk, Some, true};
-ghost use Rattle.iox_hub_making.specs.NewPorts.{pool_made};
+ghost use Rattle.iox_tables.specs.HubMaking.NewPorts.{pool_made};
 ghost use Rattle.iox_slots.specs.Pools.{place_for_one, with_one_more};
 ghost use Rattle.iox_control.specs.Controls.{IsControl};
 ghost use Rattle.iox_control_making.specs.Making.{HasRoomFor, MakesWhole, RefusesWhole};

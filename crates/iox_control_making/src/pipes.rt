@@ -2,10 +2,10 @@
 ghost use Rattle.std.specs.Prelude.{◌≡◌, IfOk, filter, map};
 ghost use Rattle.iox_lanes.specs.Incomings.{no_pipes};
 ghost use Rattle.iox_model.specs.Settings.{other_role, same_role};
-ghost use Rattle.iox_hub_making.specs.NewPorts.{is_other, pipe_between};
-ghost use Rattle.iox_hub_making.specs.NewPorts.{room_for_gone, states_of, width_of};
-ghost use Rattle.iox_hub_making.specs.OneByOne.{all_connected, most_of};
-ghost use Rattle.iox_hub_states.specs.Wirings.{buffer_from, limit_from};
+ghost use Rattle.iox_tables.specs.HubMaking.NewPorts.{is_other, pipe_between};
+ghost use Rattle.iox_tables.specs.HubMaking.NewPorts.{room_for_gone, states_of, width_of};
+ghost use Rattle.iox_tables.specs.HubMaking.OneByOne.{all_connected, most_of};
+ghost use Rattle.iox_tables.specs.HubStates.Wirings.{buffer_from, limit_from};
 ghost use Rattle.iox_control.specs.Settings.{settings_of};
 ghost use Rattle.iox_control_making.specs.Links.{bare, links_between};
 

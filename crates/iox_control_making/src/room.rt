@@ -2,7 +2,7 @@
 ghost use Rattle.std.specs.Prelude.{◌≡◌, ◌⊎◌, ◌<◌, ◌+◌, ◌≤◌, Bool};
 ghost use Rattle.std.specs.Prelude.{IfOk, IfSome, OnErr, OnOk, nat_le, true};
 ghost use Rattle.iox_handles.specs.declared.entry.Entry.{Entry};
-ghost use Rattle.iox_hub_making.specs.OneByOne.{most_of};
+ghost use Rattle.iox_tables.specs.HubMaking.OneByOne.{most_of};
 ghost use Rattle.iox_control.specs.Settings.{settings_of};
 ghost use Rattle.iox_control_making.specs.Making.{HasRoomFor, count_in};
 

@@ -12,17 +12,17 @@ use Rattle.iox_model.specs.declared.way.RequestState.{RequestState}
 use Rattle.iox_model.specs.Maps.{has_number}
 use Rattle.iox_model.specs.Messages.{response_way}
 use Rattle.iox_model.specs.Settings.{is_client, same_role}
-use Rattle.iox_weave_ledger.proofs.Lists.{among-filter, among-map, among-number, number-among}
-use Rattle.iox_hub_states.specs.Tables.{HubTables, PortState, labels_of, port_in}
-use Rattle.iox_hub_states.specs.Releases.{lane_of, request_of}
-use Rattle.iox_hub_states.specs.Wirings.{numbers_of_role}
-use Rattle.iox_hub_states.proofs.Fixing.{first_key}
+use Rattle.iox_laws.proofs.WeaveLedger.Lists.{among-filter, among-map, among-number, number-among}
+use Rattle.iox_tables.specs.HubStates.Tables.{HubTables, PortState, labels_of, port_in}
+use Rattle.iox_tables.specs.HubStates.Releases.{lane_of, request_of}
+use Rattle.iox_tables.specs.HubStates.Wirings.{numbers_of_role}
+use Rattle.iox_tables.proofs.HubStates.Fixing.{first_key}
 use Rattle.iox_hub_ports.specs.declared.info.PortInfo.{PortInfo}
 use Rattle.iox_hub_ports.specs.Ports.{info_at, info_in, info_of, state_of_way}
-use Rattle.iox_hub_books.specs.Hubs.{AreInOrder}
-use Rattle.iox_hub_books.proofs.Sendable.{of_role}
-use Rattle.iox_hub_books.proofs.Ways.{first_among}
-use Rattle.iox_hub_loans.specs.Questions.{is_named_by_client, is_named_by_server, names_request, state_of}
+use Rattle.iox_tables.specs.HubBooks.Hubs.{AreInOrder}
+use Rattle.iox_tables.proofs.HubBooks.Sendable.{of_role}
+use Rattle.iox_tables.proofs.HubBooks.Ways.{first_among}
+use Rattle.iox_tables.specs.HubLoans.Questions.{is_named_by_client, is_named_by_server, names_request, state_of}
 use Rattle.iox_control.specs.Entries.{handle_state}
 use Rattle.iox_control_questions.specs.Naming.{is_named_with}
 

@@ -13,12 +13,12 @@ use Rattle.iox_model.specs.Commands.{Call, Refusal, number_of}
 use Rattle.iox_model.specs.Maps.{or_else, refused_if}
 use Rattle.iox_model.specs.States as m
 use Rattle.iox_model.specs.WholeCalls.{IsDone, IsWholeCall, UnlessRefused, is_counted}
-use Rattle.iox_hub_states.specs.Tables.{HandleState, HubTables}
-use Rattle.iox_hub_states.specs.States.{Given, state_shown}
-use Rattle.iox_hub_books.specs.Hubs.{AreInOrder}
-use Rattle.iox_hub_loans.specs.Refusals.{first_refusal, name_refusal, unnamed}
-use Rattle.iox_hub_loans.proofs.Refusing.{names_are_refused}
-use Rattle.iox_hub_lending.proofs.Owning.{handles_are_on_nodes}
+use Rattle.iox_tables.specs.HubStates.Tables.{HandleState, HubTables}
+use Rattle.iox_tables.specs.HubStates.States.{Given, state_shown}
+use Rattle.iox_tables.specs.HubBooks.Hubs.{AreInOrder}
+use Rattle.iox_tables.specs.HubLoans.Refusals.{first_refusal, name_refusal, unnamed}
+use Rattle.iox_tables.proofs.HubLoans.Refusing.{names_are_refused}
+use Rattle.iox_tables.proofs.HubLending.Owning.{handles_are_on_nodes}
 use Rattle.iox_control.specs.Entries.{handle_state, handles_of}
 use Rattle.iox_control_questions.specs.declared.asked.Asked.{Asked}
 use Rattle.iox_control_questions.specs.declared.asked.NotBegun.{NotBegun}

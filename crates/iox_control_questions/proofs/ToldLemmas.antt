@@ -7,15 +7,15 @@ use Rattle.iox_model.specs.declared.reply.Reply.TheVariants.{Answer}
 use Rattle.iox_model.specs.Loans.{Choice}
 use Rattle.iox_model.specs.Names.{suits}
 use Rattle.iox_model.specs.WholeCalls.{IsWholeCall}
-use Rattle.iox_call_functions.proofs.Looking.{each_question_is_whole}
-use Rattle.iox_hub_states.specs.Tables.{HandleState, HubTables}
-use Rattle.iox_hub_states.specs.States.{Given, state_shown}
-use Rattle.iox_hub_states.specs.Wirings.{IsHandle}
-use Rattle.iox_hub_books.specs.Handles.{IsOfPort}
-use Rattle.iox_hub_books.specs.Hubs.{AreInOrder}
-use Rattle.iox_hub_books.proofs.Used.{handle_is}
-use Rattle.iox_hub_loans.specs.Questions.{is_named, is_named_by_client}
-use Rattle.iox_hub_loans.proofs.Asked.{connections_are_told, hints_are_told}
+use Rattle.iox_laws.proofs.CallFunctions.Looking.{each_question_is_whole}
+use Rattle.iox_tables.specs.HubStates.Tables.{HandleState, HubTables}
+use Rattle.iox_tables.specs.HubStates.States.{Given, state_shown}
+use Rattle.iox_tables.specs.HubStates.Wirings.{IsHandle}
+use Rattle.iox_tables.specs.HubBooks.Handles.{IsOfPort}
+use Rattle.iox_tables.specs.HubBooks.Hubs.{AreInOrder}
+use Rattle.iox_tables.proofs.HubBooks.Used.{handle_is}
+use Rattle.iox_tables.specs.HubLoans.Questions.{is_named, is_named_by_client}
+use Rattle.iox_tables.proofs.HubLoans.Asked.{connections_are_told, hints_are_told}
 use Rattle.iox_control.proofs.WholeLemmas.{is_whole_of}
 
 -- a question leaves nothing to choose

@@ -4,8 +4,8 @@ use Rattle.iox_lanes.specs.declared.wanted.Label.{Label}
 use Rattle.iox_model.specs.Messages.{response_way}
 use Rattle.iox_model.specs.Settings.{is_client}
 use Rattle.iox_hub_ports.specs.declared.info.PortInfo.{PortInfo}
-use Rattle.iox_hub_states.specs.Tables.{HubTables}
-use Rattle.iox_hub_loans.specs.Questions.{names_request, state_of}
+use Rattle.iox_tables.specs.HubStates.Tables.{HubTables}
+use Rattle.iox_tables.specs.HubLoans.Questions.{names_request, state_of}
 
 -- the port is a server, and its request state on the client's lane names the request, with a hint
 -- if that is asked

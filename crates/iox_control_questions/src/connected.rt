@@ -5,10 +5,10 @@ ghost use Rattle.iox_model.specs.declared.kind.Kind.TheVariants.{ActiveRequest};
 ghost use Rattle.iox_model.specs.declared.reply.Reply.TheVariants.{Answer};
 ghost use Rattle.iox_model.specs.Names.{suits};
 ghost use Rattle.iox_model.specs.WholeCalls.{IsWholeCall};
-ghost use Rattle.iox_hub_states.specs.Tables.{HandleState};
-ghost use Rattle.iox_hub_states.specs.States.{Given, state_shown};
-ghost use Rattle.iox_hub_states.specs.Wirings.{IsHandle, handle_in};
-ghost use Rattle.iox_hub_loans.specs.Questions.{is_named, is_named_by_client};
+ghost use Rattle.iox_tables.specs.HubStates.Tables.{HandleState};
+ghost use Rattle.iox_tables.specs.HubStates.States.{Given, state_shown};
+ghost use Rattle.iox_tables.specs.HubStates.Wirings.{IsHandle, handle_in};
+ghost use Rattle.iox_tables.specs.HubLoans.Questions.{is_named, is_named_by_client};
 ghost use Rattle.iox_control.specs.Controls.{IsControl};
 
 use crate::naming::{is_named_by_its_client, is_named_by_some_server, is_pending};

@@ -4,7 +4,7 @@ ghost use Rattle.std.specs.Option.{option_map_or};
 ghost use Rattle.iox_model.specs.declared.kind.Kind.TheVariants.{PendingResponse};
 ghost use Rattle.iox_model.specs.Handles.{same_kind};
 ghost use Rattle.iox_hub_ports.specs.Ports.{info_at};
-ghost use Rattle.iox_hub_loans.specs.Questions.{is_named_by_client, is_named_by_server, names_request};
+ghost use Rattle.iox_tables.specs.HubLoans.Questions.{is_named_by_client, is_named_by_server, names_request};
 ghost use Rattle.iox_control.specs.Controls.{IsControl};
 ghost use Rattle.iox_control.specs.Entries.{handle_state};
 ghost use Rattle.iox_control_questions.specs.Naming.{is_named_with};

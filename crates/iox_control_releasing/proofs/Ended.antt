@@ -9,29 +9,29 @@ use Rattle.iox_model.specs.Handles.{is_own, is_received}
 use Rattle.iox_model.specs.Maps.{AreDistinct, has_number}
 use Rattle.iox_model.specs.Messages.{closed_for}
 use Rattle.iox_lanes.specs.Lanes.{LaneState, is_taken, released, without_taken}
-use Rattle.iox_hub_states.specs.Tables.{HandleState, HubTables, PoolState, PortState, numbers_of, slot_at}
-use Rattle.iox_hub_states.specs.Ways.{lane_on, with_lane_on, with_states_on}
-use Rattle.iox_hub_states.specs.Ends.{dropped_handles, with_dropped}
-use Rattle.iox_hub_states.specs.Releases.{pending_states, request_of}
-use Rattle.iox_hub_states.specs.Wirings.{IsHandle}
+use Rattle.iox_tables.specs.HubStates.Tables.{HandleState, HubTables, PoolState, PortState, numbers_of, slot_at}
+use Rattle.iox_tables.specs.HubStates.Ways.{lane_on, with_lane_on, with_states_on}
+use Rattle.iox_tables.specs.HubStates.Ends.{dropped_handles, with_dropped}
+use Rattle.iox_tables.specs.HubStates.Releases.{pending_states, request_of}
+use Rattle.iox_tables.specs.HubStates.Wirings.{IsHandle}
 use Rattle.iox_slots.specs.Pools.{with_slot}
 use Rattle.iox_slots.specs.Slots.{let_go}
 use Rattle.iox_slots.proofs.CallerLemmas.{holders_let_go, one_at}
-use Rattle.iox_hub_books.specs.Counts.{OfAll, OfAllLanes, is_at, on_lanes, total}
-use Rattle.iox_hub_books.specs.Handles.{way_in}
-use Rattle.iox_hub_books.specs.Hubs.{AreInOrder, IsUsed}
-use Rattle.iox_hub_books.specs.Keeps.{HasFewerHolders}
-use Rattle.iox_hub_books.specs.Rooms.{CanCountHolders, HasRoomForAll, own_count, spare}
-use Rattle.iox_hub_books.proofs.Eachs.{lane_keeps}
-use Rattle.iox_hub_books.proofs.Frames.{bare_port, bare_ports, lane_on_bare, states_on_bare}
-use Rattle.iox_hub_books.proofs.HandleTotals.{handle_dropped}
-use Rattle.iox_hub_books.proofs.LaneCounts.{fewer_taken}
-use Rattle.iox_hub_books.proofs.LaneLists.{lanes_same}
-use Rattle.iox_hub_books.proofs.LaneTotals.{lane_total}
-use Rattle.iox_hub_books.proofs.Released.{loan_releases_keep_order, pending_releases_keep_order, request_releases_keep_order, response_releases_keep_order, states_keep, states_total}
-use Rattle.iox_hub_books.proofs.Release.{handles_apart}
-use Rattle.iox_hub_books.proofs.Used.{handle_is}
-use Rattle.iox_hub_keeping.proofs.Ordered.{each_used, names_apart}
+use Rattle.iox_tables.specs.HubBooks.Counts.{OfAll, OfAllLanes, is_at, on_lanes, total}
+use Rattle.iox_tables.specs.HubBooks.Handles.{way_in}
+use Rattle.iox_tables.specs.HubBooks.Hubs.{AreInOrder, IsUsed}
+use Rattle.iox_tables.specs.HubBooks.Keeps.{HasFewerHolders}
+use Rattle.iox_tables.specs.HubBooks.Rooms.{CanCountHolders, HasRoomForAll, own_count, spare}
+use Rattle.iox_tables.proofs.HubBooks.Eachs.{lane_keeps}
+use Rattle.iox_tables.proofs.HubBooks.Frames.{bare_port, bare_ports, lane_on_bare, states_on_bare}
+use Rattle.iox_tables.proofs.HubBooks.HandleTotals.{handle_dropped}
+use Rattle.iox_tables.proofs.HubBooks.LaneCounts.{fewer_taken}
+use Rattle.iox_tables.proofs.HubBooks.LaneLists.{lanes_same}
+use Rattle.iox_tables.proofs.HubBooks.LaneTotals.{lane_total}
+use Rattle.iox_tables.proofs.HubBooks.Released.{loan_releases_keep_order, pending_releases_keep_order, request_releases_keep_order, response_releases_keep_order, states_keep, states_total}
+use Rattle.iox_tables.proofs.HubBooks.Release.{handles_apart}
+use Rattle.iox_tables.proofs.HubBooks.Used.{handle_is}
+use Rattle.iox_tables.proofs.HubKeeping.Ordered.{each_used, names_apart}
 use Rattle.iox_control.specs.Controls.{AreCounted, ControlState, IsControl}
 use Rattle.iox_control.proofs.RoomLemmas.{lane_seats, room_as, seats_of, states_seats}
 use Rattle.iox_control_releasing.specs.Endings.{given_up_as, own_way, with_ended}
@@ -126,16 +126,16 @@ deliveries_back k l = step (is_taken l k)
     step true = inner (Rattle.iox_lanes.specs.Lanes.rank_in l.taken k)
     step false = refl
 
-pub bare_back : (k : ℕ) (l : LaneState) → Rattle.iox_hub_books.proofs.Frames.bare_lane (released l k) ≡ Rattle.iox_hub_books.proofs.Frames.bare_lane l
+pub bare_back : (k : ℕ) (l : LaneState) → Rattle.iox_tables.proofs.HubBooks.Frames.bare_lane (released l k) ≡ Rattle.iox_tables.proofs.HubBooks.Frames.bare_lane l
 bare_back k l = step (is_taken l k)
   where
     inner : (o : Option ℕ)
-        → Rattle.iox_hub_books.proofs.Frames.bare_lane (Rattle.iox_lanes.specs.Lanes.with_returned (option_map_or (λ i. record l { taken = Rattle.std.specs.List.swap_remove l.taken i k }) o l) k)
-        ≡ Rattle.iox_hub_books.proofs.Frames.bare_lane l
+        → Rattle.iox_tables.proofs.HubBooks.Frames.bare_lane (Rattle.iox_lanes.specs.Lanes.with_returned (option_map_or (λ i. record l { taken = Rattle.std.specs.List.swap_remove l.taken i k }) o l) k)
+        ≡ Rattle.iox_tables.proofs.HubBooks.Frames.bare_lane l
     inner (Some i) = refl
     inner None = refl
 
-    step : (b : Bool) → Rattle.iox_hub_books.proofs.Frames.bare_lane (if b then Rattle.iox_lanes.specs.Lanes.with_returned (without_taken l k) k else l) ≡ Rattle.iox_hub_books.proofs.Frames.bare_lane l
+    step : (b : Bool) → Rattle.iox_tables.proofs.HubBooks.Frames.bare_lane (if b then Rattle.iox_lanes.specs.Lanes.with_returned (without_taken l k) k else l) ≡ Rattle.iox_tables.proofs.HubBooks.Frames.bare_lane l
     step true = inner (Rattle.iox_lanes.specs.Lanes.rank_in l.taken k)
     step false = refl
 
@@ -201,7 +201,7 @@ one_port true n (p ∷ ps) apart = step (n == p.number) refl (one_port true n ps
     nobody [] e = refl
     nobody (q ∷ qs) e =
         let parts = Rattle.iox_control_releasing.proofs.Senders.neither (q.number == n) (has_number n (numbers_of qs)) e in
-        ap₂ (λ (b : Bool) (k : ℕ). (if b then 1 else 0) + k) (Rattle.iox_hub_states.proofs.Keys.flip n q.number ∙ parts.0) (nobody qs parts.1)
+        ap₂ (λ (b : Bool) (k : ℕ). (if b then 1 else 0) + k) (Rattle.iox_tables.proofs.HubStates.Keys.flip n q.number ∙ parts.0) (nobody qs parts.1)
 
     step : (b : Bool) → (n == p.number) ≡ b → total (λ q. if true && (n == q.number) then 1 else 0) ps ≤ 1
         → (if b then 1 else 0) + total (λ q. if true && (n == q.number) then 1 else 0) ps ≤ 1
@@ -329,10 +329,10 @@ module _ (c new : ControlState) (h : HandleState) (order : IsControl c) (named :
 
     pub ended : IsControl new
     ended = record {
-      none = subst (λ (s : HubTables). Rattle.iox_hub_keeping.specs.Connected.KeepsNone s.settings) (sym is_u) order.none;
+      none = subst (λ (s : HubTables). Rattle.iox_tables.specs.HubKeeping.Connected.KeepsNone s.settings) (sym is_u) order.none;
       buffers = subst (λ (s : HubTables). Rattle.iox_control.specs.Controls.HaveBuffers s.settings) (sym is_u) order.buffers;
       order = subst AreInOrder (sym is) (in_order t h pools order.order named fewer h.kind refl);
-      ports = subst Rattle.iox_hub_making.specs.OneByOne.HaveRoom (sym is_u) (room_as t u refl given.seats order.ports);
+      ports = subst Rattle.iox_tables.specs.HubMaking.OneByOne.HaveRoom (sym is_u) (room_as t u refl given.seats order.ports);
       counted = subst AreCounted (sym is_u) (record {
         calls = order.counted.calls;
         ports = order.counted.ports;

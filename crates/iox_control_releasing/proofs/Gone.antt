@@ -4,28 +4,28 @@ use Rattle.std.specs.Option.{option_map, option_map_or}
 use Rattle.std.proofs.Common.{sym, ap, ap₂, subst, ◌∙◌, arith, true≢false}
 use Rattle.std.proofs.lemmas.Option.{none-some}
 use Rattle.iox_lanes.specs.Lanes.{LaneState}
-use Rattle.iox_hub_states.specs.Tables.{HubTables, PoolState, PortState, owner_of, pool_at, port_in, slot_at}
-use Rattle.iox_hub_states.specs.States.{Given, state_shown}
-use Rattle.iox_hub_states.specs.Steps.{is_there}
+use Rattle.iox_tables.specs.HubStates.Tables.{HubTables, PoolState, PortState, owner_of, pool_at, port_in, slot_at}
+use Rattle.iox_tables.specs.HubStates.States.{Given, state_shown}
+use Rattle.iox_tables.specs.HubStates.Steps.{is_there}
 use Rattle.iox_hub_ports.specs.declared.info.PortInfo.{PortInfo}
 use Rattle.iox_hub_ports.specs.Ports.{info_in, info_of, without_pipe_from, without_port}
 use Rattle.iox_slots.specs.Pools.{is_idle, without_pool}
 use Rattle.iox_slots.proofs.PlaceLemmas.{idle_holders}
-use Rattle.iox_hub_books.specs.Counts.{OfAll, OfAllLanes, in_port, lane_count, on_lanes, total}
-use Rattle.iox_hub_books.specs.Hubs.{AreInOrder}
-use Rattle.iox_hub_books.specs.Rooms.{CanCountHolders, HasRoomForAll, own_count, spare}
-use Rattle.iox_hub_books.proofs.Eachs.{OfPipe, OfPort, all-append, all-back, all-front}
-use Rattle.iox_hub_books.proofs.Rooms.{bare_pools_show_the_same}
-use Rattle.iox_hub_making.specs.Disconnections.{cut_from, is_unused, ports_without, with_disconnected}
-use Rattle.iox_hub_making.specs.FreePools.{with_pool_gone}
-use Rattle.iox_hub_making.proofs.Pooling.{free_pools_may_go}
-use Rattle.iox_hub_making.proofs.Rooming.{room_always_stays}
-use Rattle.iox_hub_making.proofs.Summing.{gone_lanes_count}
-use Rattle.iox_hub_keeping.specs.Connected.{IsFreePlace}
-use Rattle.iox_hub_keeping.specs.Keeps.{HasFewerHolders, lost_uses}
-use Rattle.iox_hub_keeping.proofs.GonePools.{pools_may_go}
-use Rattle.iox_hub_keeping.proofs.LeftHandles.{disconnections_keep_order}
-use Rattle.iox_hub_keeping.proofs.Ordered.{lanes_sum, places_become_free}
+use Rattle.iox_tables.specs.HubBooks.Counts.{OfAll, OfAllLanes, in_port, lane_count, on_lanes, total}
+use Rattle.iox_tables.specs.HubBooks.Hubs.{AreInOrder}
+use Rattle.iox_tables.specs.HubBooks.Rooms.{CanCountHolders, HasRoomForAll, own_count, spare}
+use Rattle.iox_tables.proofs.HubBooks.Eachs.{OfPipe, OfPort, all-append, all-back, all-front}
+use Rattle.iox_tables.proofs.HubBooks.Rooms.{bare_pools_show_the_same}
+use Rattle.iox_tables.specs.HubMaking.Disconnections.{cut_from, is_unused, ports_without, with_disconnected}
+use Rattle.iox_tables.specs.HubMaking.FreePools.{with_pool_gone}
+use Rattle.iox_tables.proofs.HubMaking.Pooling.{free_pools_may_go}
+use Rattle.iox_tables.proofs.HubMaking.Rooming.{room_always_stays}
+use Rattle.iox_tables.proofs.HubMaking.Summing.{gone_lanes_count}
+use Rattle.iox_tables.specs.HubKeeping.Connected.{IsFreePlace}
+use Rattle.iox_tables.specs.HubKeeping.Keeps.{HasFewerHolders, lost_uses}
+use Rattle.iox_tables.proofs.HubKeeping.GonePools.{pools_may_go}
+use Rattle.iox_tables.proofs.HubKeeping.LeftHandles.{disconnections_keep_order}
+use Rattle.iox_tables.proofs.HubKeeping.Ordered.{lanes_sum, places_become_free}
 use Rattle.iox_control.specs.Controls.{AreCounted, ControlState, IsControl, with_pools}
 use Rattle.iox_control.proofs.RoomLemmas.{room_as}
 use Rattle.iox_control_releasing.specs.Goings.{with_left_pool_gone}
@@ -93,10 +93,10 @@ module _ (c new : ControlState) (n : ℕ) (order : IsControl c) (unused : is_unu
 
     pub port_gone : IsControl new
     port_gone = record {
-      none = subst (λ (s : HubTables). Rattle.iox_hub_keeping.specs.Connected.KeepsNone s.settings) (sym is) order.none;
+      none = subst (λ (s : HubTables). Rattle.iox_tables.specs.HubKeeping.Connected.KeepsNone s.settings) (sym is) order.none;
       buffers = subst (λ (s : HubTables). Rattle.iox_control.specs.Controls.HaveBuffers s.settings) (sym is) order.buffers;
       order = subst AreInOrder (sym is) (disconnections_keep_order t n new.tables.pools order.order order.none unused fewer);
-      ports = subst Rattle.iox_hub_making.specs.OneByOne.HaveRoom (sym is)
+      ports = subst Rattle.iox_tables.specs.HubMaking.OneByOne.HaveRoom (sym is)
           (room_as (with_disconnected t n) u refl refl ((room_always_stays t).gone n order.ports));
       counted = subst AreCounted (sym is) counted;
       room = subst (λ k. HasRoomForAll k new.tables) (sym room) (subst (HasRoomForAll c.room) (sym is) all);

@@ -4,13 +4,13 @@ use Rattle.std.specs.List.{list_all}
 use Rattle.std.specs.Option.{option_map_or}
 use Rattle.std.proofs.Common.{sym, ap, ◌∙◌, true≢false}
 use Rattle.std.proofs.lemmas.Option.{none-some}
-use Rattle.iox_weave_laws.proofs.MapLemmas.{eqb-refl}
-use Rattle.iox_hub_states.specs.Tables.{HubTables, PoolState, PortState, owner_of, pool_at, port_in}
-use Rattle.iox_hub_states.specs.Steps.{is_there}
-use Rattle.iox_hub_states.proofs.Fixing.{first_key}
-use Rattle.iox_hub_books.specs.Hubs.{AreInOrder}
-use Rattle.iox_hub_books.specs.Keeps.{bare_pools}
-use Rattle.iox_hub_books.proofs.Structures.{pool_before}
+use Rattle.iox_laws.proofs.WeaveLaws.MapLemmas.{eqb-refl}
+use Rattle.iox_tables.specs.HubStates.Tables.{HubTables, PoolState, PortState, owner_of, pool_at, port_in}
+use Rattle.iox_tables.specs.HubStates.Steps.{is_there}
+use Rattle.iox_tables.proofs.HubStates.Fixing.{first_key}
+use Rattle.iox_tables.specs.HubBooks.Hubs.{AreInOrder}
+use Rattle.iox_tables.specs.HubBooks.Keeps.{bare_pools}
+use Rattle.iox_tables.proofs.HubBooks.Structures.{pool_before}
 use Rattle.iox_slots.specs.Pools.{is_idle, with_slot, without_pool}
 use Rattle.iox_slots.specs.Slots.{is_free, let_go}
 use Rattle.iox_slots.proofs.PlaceLemmas.{removed_pool}

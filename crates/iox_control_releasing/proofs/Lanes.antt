@@ -3,7 +3,7 @@ use Rattle.std.specs.Prelude.{◌≡◌, ℕ, zero, suc, ◌+◌, ◌-◌, ◌<�
 use Rattle.std.proofs.Common.{sym, ap, subst, ◌∙◌, arith}
 use Rattle.std.proofs.lemmas.Option.{none-some, same_Some}
 use Rattle.iox_lanes.specs.Lanes.{LaneState, has_returned, has_waiting, places, without_first, without_oldest, without_returned}
-use Rattle.iox_hub_books.specs.Counts.{how_often, lane_count, total}
+use Rattle.iox_tables.specs.HubBooks.Counts.{how_often, lane_count, total}
 use Rattle.iox_slots.proofs.CallerLemmas.{one_at}
 
 -- ---- a lane

@@ -7,13 +7,13 @@ use Rattle.std.proofs.lemmas.Option.{none-some, same_Some}
 use Rattle.iox_handles.specs.declared.entry.Entry.{Entry}
 use Rattle.iox_hub_ports.specs.declared.info.PortInfo.{PortInfo}
 use Rattle.iox_hub_ports.specs.Ports.{info_in, info_of}
-use Rattle.iox_hub_states.specs.Tables.{HandleState, HubTables, PortState, port_in}
-use Rattle.iox_hub_states.specs.Ends.{OfEachHandle}
-use Rattle.iox_hub_books.specs.Handles.{IsOfPort}
-use Rattle.iox_hub_books.specs.Hubs.{AreInOrder}
-use Rattle.iox_hub_making.specs.Disconnections.{is_held_in, is_of_port, is_unused}
-use Rattle.iox_hub_making.proofs.Testing.{unused_is_told}
-use Rattle.iox_hub_keeping.proofs.Ordered.{at_home, names_apart}
+use Rattle.iox_tables.specs.HubStates.Tables.{HandleState, HubTables, PortState, port_in}
+use Rattle.iox_tables.specs.HubStates.Ends.{OfEachHandle}
+use Rattle.iox_tables.specs.HubBooks.Handles.{IsOfPort}
+use Rattle.iox_tables.specs.HubBooks.Hubs.{AreInOrder}
+use Rattle.iox_tables.specs.HubMaking.Disconnections.{is_held_in, is_of_port, is_unused}
+use Rattle.iox_tables.proofs.HubMaking.Testing.{unused_is_told}
+use Rattle.iox_tables.proofs.HubKeeping.Ordered.{at_home, names_apart}
 use Rattle.iox_control.specs.Entries.{handle_state}
 
 not_none : (k : ℕ) (b : Bool) → (suc k == 0) ≡ b → b ≡ false

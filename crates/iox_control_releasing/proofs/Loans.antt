@@ -3,20 +3,20 @@ use Rattle.std.specs.Prelude.{◌≡◌, ℕ, ◌≤◌, Bool, true, false, if�
 use Rattle.std.specs.Option.{option_map_or}
 use Rattle.std.proofs.Common.{sym, ap, subst, ◌∙◌, arith, true≢false, eqb-true}
 use Rattle.iox_model.specs.Handles.{is_own}
-use Rattle.iox_hub_states.specs.Tables.{HandleState, HubTables, PoolState, PortState, pool_at}
-use Rattle.iox_hub_states.specs.Ends.{changed_handles, dropped_handles}
-use Rattle.iox_hub_states.specs.Sendings.{pending_of}
-use Rattle.iox_hub_states.specs.Steps.{is_there}
-use Rattle.iox_hub_states.specs.Wirings.{IsHandle}
-use Rattle.iox_hub_states.proofs.Fixing.{first_key}
-use Rattle.iox_hub_books.specs.Counts.{handle_uses, is_at}
-use Rattle.iox_hub_books.specs.Handles.{IsOfPort}
-use Rattle.iox_hub_books.specs.Hubs.{AreInOrder}
-use Rattle.iox_hub_books.specs.Keeps.{bare_pools}
-use Rattle.iox_hub_books.proofs.Frames.{AreAlike}
-use Rattle.iox_hub_books.proofs.Going.{same_there}
-use Rattle.iox_hub_books.proofs.HandleTotals.{handle_changed}
-use Rattle.iox_hub_books.proofs.Used.{handle_is}
+use Rattle.iox_tables.specs.HubStates.Tables.{HandleState, HubTables, PoolState, PortState, pool_at}
+use Rattle.iox_tables.specs.HubStates.Ends.{changed_handles, dropped_handles}
+use Rattle.iox_tables.specs.HubStates.Sendings.{pending_of}
+use Rattle.iox_tables.specs.HubStates.Steps.{is_there}
+use Rattle.iox_tables.specs.HubStates.Wirings.{IsHandle}
+use Rattle.iox_tables.proofs.HubStates.Fixing.{first_key}
+use Rattle.iox_tables.specs.HubBooks.Counts.{handle_uses, is_at}
+use Rattle.iox_tables.specs.HubBooks.Handles.{IsOfPort}
+use Rattle.iox_tables.specs.HubBooks.Hubs.{AreInOrder}
+use Rattle.iox_tables.specs.HubBooks.Keeps.{bare_pools}
+use Rattle.iox_tables.proofs.HubBooks.Frames.{AreAlike}
+use Rattle.iox_tables.proofs.HubBooks.Going.{same_there}
+use Rattle.iox_tables.proofs.HubBooks.HandleTotals.{handle_changed}
+use Rattle.iox_tables.proofs.HubBooks.Used.{handle_is}
 use Rattle.iox_control_releasing.specs.Goings.{StaysTidy}
 use Rattle.iox_control_releasing.proofs.Kept.{kept_bare}
 use Rattle.iox_control_releasing.proofs.Tidy.{none_more, others_have}

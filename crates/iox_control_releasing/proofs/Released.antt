@@ -14,24 +14,24 @@ use Rattle.iox_model.specs.declared.way.Way.{Way}
 use Rattle.iox_model.specs.Handles.{is_received, same_kind}
 use Rattle.iox_model.specs.Messages.{closed_for, request_way, response_way}
 use Rattle.iox_model.specs.WholeCalls.{IsWholeCall}
-use Rattle.iox_call_functions.specs.Releases.{released_by}
-use Rattle.iox_call_functions.proofs.Releasing.{each_release_is_whole}
-use Rattle.iox_hub_states.specs.Tables.{HandleState, HubTables, PoolState, labels_of, owner_of}
-use Rattle.iox_hub_states.specs.States.{Given, state_shown}
-use Rattle.iox_hub_states.specs.Changes.{with_lanes, with_states}
-use Rattle.iox_hub_states.specs.Ends.{with_dropped}
-use Rattle.iox_hub_states.specs.Wirings.{IsHandle, handle_in, numbers_of_role}
+use Rattle.iox_laws.specs.CallFunctions.Releases.{released_by}
+use Rattle.iox_laws.proofs.CallFunctions.Releasing.{each_release_is_whole}
+use Rattle.iox_tables.specs.HubStates.Tables.{HandleState, HubTables, PoolState, labels_of, owner_of}
+use Rattle.iox_tables.specs.HubStates.States.{Given, state_shown}
+use Rattle.iox_tables.specs.HubStates.Changes.{with_lanes, with_states}
+use Rattle.iox_tables.specs.HubStates.Ends.{with_dropped}
+use Rattle.iox_tables.specs.HubStates.Wirings.{IsHandle, handle_in, numbers_of_role}
 use Rattle.iox_slots.specs.Pools.{with_slot}
 use Rattle.iox_slots.specs.Slots.{let_go}
-use Rattle.iox_hub_books.specs.Handles.{way_in}
-use Rattle.iox_hub_books.specs.Hubs.{AreInOrder}
-use Rattle.iox_hub_books.specs.Keeps.{bare_pools}
-use Rattle.iox_hub_books.proofs.Held.{received_are_held}
-use Rattle.iox_hub_books.proofs.Rooms.{bare_pools_show_the_same}
-use Rattle.iox_hub_making.specs.Disconnections.{KeepsNoExpired, is_unused, with_disconnected, with_released}
-use Rattle.iox_hub_making.specs.WholeReleases.{answering}
-use Rattle.iox_hub_making.proofs.Ending.{loans_end, pendings_end, requests_end, responses_end}
-use Rattle.iox_hub_keeping.proofs.Ordered.{no_expired}
+use Rattle.iox_tables.specs.HubBooks.Handles.{way_in}
+use Rattle.iox_tables.specs.HubBooks.Hubs.{AreInOrder}
+use Rattle.iox_tables.specs.HubBooks.Keeps.{bare_pools}
+use Rattle.iox_tables.proofs.HubBooks.Held.{received_are_held}
+use Rattle.iox_tables.proofs.HubBooks.Rooms.{bare_pools_show_the_same}
+use Rattle.iox_tables.specs.HubMaking.Disconnections.{KeepsNoExpired, is_unused, with_disconnected, with_released}
+use Rattle.iox_tables.specs.HubMaking.WholeReleases.{answering}
+use Rattle.iox_tables.proofs.HubMaking.Ending.{loans_end, pendings_end, requests_end, responses_end}
+use Rattle.iox_tables.proofs.HubKeeping.Ordered.{no_expired}
 use Rattle.iox_control.specs.Controls.{ControlState, IsControl, with_tables}
 use Rattle.iox_control.specs.Entries.{handle_state}
 use Rattle.iox_control.proofs.WholeLemmas.{is_whole_of}

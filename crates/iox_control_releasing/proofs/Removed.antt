@@ -9,22 +9,22 @@ use Rattle.iox_model.specs.declared.kind.Role.{Role}
 use Rattle.iox_model.specs.declared.kind.Role.TheVariants.{Client, Server}
 use Rattle.iox_model.specs.Maps.{AreDistinct, has_number}
 use Rattle.iox_model.specs.Settings.{other_role, same_role}
-use Rattle.iox_weave_laws.proofs.MapLemmas.{eqb-refl}
+use Rattle.iox_laws.proofs.WeaveLaws.MapLemmas.{eqb-refl}
 use Rattle.iox_lanes.specs.Lanes.{LaneState}
 use Rattle.iox_lanes.specs.Pipes.{PipeState}
-use Rattle.iox_hub_states.specs.Tables.{HubTables, PortState, numbers_of, pipe_from, port_in, senders_of}
-use Rattle.iox_hub_states.specs.Wirings.{numbers_of_role}
-use Rattle.iox_hub_states.proofs.Fixing.{first_key}
+use Rattle.iox_tables.specs.HubStates.Tables.{HubTables, PortState, numbers_of, pipe_from, port_in, senders_of}
+use Rattle.iox_tables.specs.HubStates.Wirings.{numbers_of_role}
+use Rattle.iox_tables.proofs.HubStates.Fixing.{first_key}
 use Rattle.iox_hub_ports.specs.Ports.{without_first_by, without_pipe_from, without_port}
-use Rattle.iox_hub_books.specs.Counts.{OfAll, in_pipe, in_port, total}
-use Rattle.iox_hub_books.specs.Hubs.{AreInOrder}
-use Rattle.iox_hub_making.specs.Disconnections.{with_disconnected}
-use Rattle.iox_hub_making.specs.LaneSums.{sum_in_pipe, sum_in_port, sum_that_goes}
-use Rattle.iox_hub_making.specs.OneByOne as making
-use Rattle.iox_hub_making.proofs.Firsts.{has_first}
-use Rattle.iox_hub_making.proofs.Removing.{ports_go_one_by_one}
-use Rattle.iox_hub_keeping.specs.Connected.{KeepsNone}
-use Rattle.iox_hub_keeping.proofs.Ordered.{are_connected, names_apart, total_sum}
+use Rattle.iox_tables.specs.HubBooks.Counts.{OfAll, in_pipe, in_port, total}
+use Rattle.iox_tables.specs.HubBooks.Hubs.{AreInOrder}
+use Rattle.iox_tables.specs.HubMaking.Disconnections.{with_disconnected}
+use Rattle.iox_tables.specs.HubMaking.LaneSums.{sum_in_pipe, sum_in_port, sum_that_goes}
+use Rattle.iox_tables.specs.HubMaking.OneByOne as making
+use Rattle.iox_tables.proofs.HubMaking.Firsts.{has_first}
+use Rattle.iox_tables.proofs.HubMaking.Removing.{ports_go_one_by_one}
+use Rattle.iox_tables.specs.HubKeeping.Connected.{KeepsNone}
+use Rattle.iox_tables.proofs.HubKeeping.Ordered.{are_connected, names_apart, total_sum}
 use Rattle.iox_control.specs.Controls.{ControlState}
 use Rattle.iox_control_releasing.specs.LettingGo.{AreFrom, from_in}
 use Rattle.iox_control_releasing.proofs.Senders.{first_goes, neither}

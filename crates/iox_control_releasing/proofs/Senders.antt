@@ -5,10 +5,10 @@ use Rattle.std.proofs.Common.{sym, ap, subst, ◌∙◌, arith, true≢false, eq
 use Rattle.std.proofs.lemmas.Option.{none-some, same_Some}
 use Rattle.iox_model.specs.Maps.{AreDistinct, has_number}
 use Rattle.iox_lanes.specs.Pipes.{PipeState}
-use Rattle.iox_hub_states.specs.Tables.{first_by, senders_of}
-use Rattle.iox_hub_states.proofs.Keys.{flip}
+use Rattle.iox_tables.specs.HubStates.Tables.{first_by, senders_of}
+use Rattle.iox_tables.proofs.HubStates.Keys.{flip}
 use Rattle.iox_hub_ports.specs.Ports.{without_first_by}
-use Rattle.iox_hub_books.specs.Counts.{total}
+use Rattle.iox_tables.specs.HubBooks.Counts.{total}
 use Rattle.iox_control_releasing.specs.LettingGo.{AreFrom}
 
 -- ---- lists

@@ -3,8 +3,8 @@ use Rattle.std.specs.Prelude.{◌≡◌, ℕ, ◌+◌, ◌-◌, zero, suc, List,
 use Rattle.std.specs.Option.{option_map, option_map_or}
 use Rattle.std.proofs.Common.{sym, ap, subst, ◌∙◌, arith}
 use Rattle.std.proofs.lemmas.Option.{same_Some}
-use Rattle.iox_hub_states.specs.Tables.{PoolState, SlotState, slot_at}
-use Rattle.iox_hub_books.specs.Keeps.{bare_pool, bare_pools, bare_slot}
+use Rattle.iox_tables.specs.HubStates.Tables.{PoolState, SlotState, slot_at}
+use Rattle.iox_tables.specs.HubBooks.Keeps.{bare_pool, bare_pools, bare_slot}
 use Rattle.iox_slots.specs.Pools.{with_slot}
 use Rattle.iox_slots.specs.Slots.{let_go, with_slot_of}
 use Rattle.iox_slots.proofs.CallerLemmas.{holders_let_go, one_at}

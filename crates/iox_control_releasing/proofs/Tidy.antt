@@ -8,24 +8,24 @@ use Rattle.iox_model.specs.declared.kind.Kind.{Kind}
 use Rattle.iox_model.specs.declared.kind.Kind.TheVariants as kinds
 use Rattle.iox_model.specs.Messages.{closed_for}
 use Rattle.iox_lanes.specs.Lanes.{released}
-use Rattle.iox_hub_states.specs.Tables.{HandleState, HubTables, PoolState, PortState, SlotState, numbers_of, owner_of, pool_at, port_in, slot_at, slots_of}
-use Rattle.iox_hub_states.specs.Ends.{dropped_handles}
-use Rattle.iox_hub_states.specs.Releases.{pending_states, request_of, with_value_released}
-use Rattle.iox_hub_states.specs.Steps.{is_there, places_on}
-use Rattle.iox_hub_states.specs.Ways.{with_lane_on}
-use Rattle.iox_hub_states.specs.Wirings.{IsHandle}
-use Rattle.iox_hub_states.proofs.Fixing.{first_key}
-use Rattle.iox_hub_books.specs.Counts.{handle_uses, how_often, is_at, lane_count, on_lanes}
-use Rattle.iox_hub_books.specs.Handles.{way_in}
-use Rattle.iox_hub_books.specs.Hubs.{AreInOrder}
-use Rattle.iox_hub_books.specs.Keeps.{bare_pools}
-use Rattle.iox_hub_books.proofs.Frames.{AreAlike, lane_on_bare, port_bare, states_on_bare}
-use Rattle.iox_hub_books.proofs.Going.{same_there}
-use Rattle.iox_hub_books.proofs.HandleTotals.{handle_dropped}
-use Rattle.iox_hub_books.proofs.Release.{handles_apart}
-use Rattle.iox_hub_books.proofs.Ways.{between, some_lane}
-use Rattle.iox_hub_making.specs.Disconnections.{ports_without, with_disconnected}
-use Rattle.iox_hub_making.proofs.Disconnecting.{there_left}
+use Rattle.iox_tables.specs.HubStates.Tables.{HandleState, HubTables, PoolState, PortState, SlotState, numbers_of, owner_of, pool_at, port_in, slot_at, slots_of}
+use Rattle.iox_tables.specs.HubStates.Ends.{dropped_handles}
+use Rattle.iox_tables.specs.HubStates.Releases.{pending_states, request_of, with_value_released}
+use Rattle.iox_tables.specs.HubStates.Steps.{is_there, places_on}
+use Rattle.iox_tables.specs.HubStates.Ways.{with_lane_on}
+use Rattle.iox_tables.specs.HubStates.Wirings.{IsHandle}
+use Rattle.iox_tables.proofs.HubStates.Fixing.{first_key}
+use Rattle.iox_tables.specs.HubBooks.Counts.{handle_uses, how_often, is_at, lane_count, on_lanes}
+use Rattle.iox_tables.specs.HubBooks.Handles.{way_in}
+use Rattle.iox_tables.specs.HubBooks.Hubs.{AreInOrder}
+use Rattle.iox_tables.specs.HubBooks.Keeps.{bare_pools}
+use Rattle.iox_tables.proofs.HubBooks.Frames.{AreAlike, lane_on_bare, port_bare, states_on_bare}
+use Rattle.iox_tables.proofs.HubBooks.Going.{same_there}
+use Rattle.iox_tables.proofs.HubBooks.HandleTotals.{handle_dropped}
+use Rattle.iox_tables.proofs.HubBooks.Release.{handles_apart}
+use Rattle.iox_tables.proofs.HubBooks.Ways.{between, some_lane}
+use Rattle.iox_tables.specs.HubMaking.Disconnections.{ports_without, with_disconnected}
+use Rattle.iox_tables.proofs.HubMaking.Disconnecting.{there_left}
 use Rattle.iox_slots.specs.Pools.{with_slot}
 use Rattle.iox_slots.specs.Slots.{is_free, let_go, slot_in}
 use Rattle.iox_slots.proofs.PlaceLemmas.{idle_holders}

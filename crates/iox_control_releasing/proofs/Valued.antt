@@ -4,18 +4,18 @@ use Rattle.std.proofs.Common.{ap, ◌∙◌, arith}
 use Rattle.iox_model.specs.declared.call.Call.TheVariants.{Release}
 use Rattle.iox_model.specs.declared.reply.Reply.TheVariants.{Done}
 use Rattle.iox_model.specs.WholeCalls.{IsWholeCall}
-use Rattle.iox_call_functions.proofs.Releasing.{each_release_is_whole}
-use Rattle.iox_hub_states.specs.Tables.{HubTables, PortState}
-use Rattle.iox_hub_states.specs.Releases.{with_value_released}
-use Rattle.iox_hub_states.specs.States.{Given, state_shown}
-use Rattle.iox_hub_states.specs.Ways.{with_port}
-use Rattle.iox_hub_books.specs.Counts.{in_port, on_lanes, total}
-use Rattle.iox_hub_books.specs.Rooms.{CanCountHolders, HasRoomForAll, own_count, spare}
-use Rattle.iox_hub_books.proofs.Eachs.{OfPort, all_with_first}
-use Rattle.iox_hub_making.specs.Disconnections.{with_released}
-use Rattle.iox_hub_making.proofs.Ending.{ports_end}
-use Rattle.iox_hub_keeping.proofs.Ordered.{names_apart, no_expired}
-use Rattle.iox_hub_keeping.proofs.Unholding.{values_keep_order}
+use Rattle.iox_laws.proofs.CallFunctions.Releasing.{each_release_is_whole}
+use Rattle.iox_tables.specs.HubStates.Tables.{HubTables, PortState}
+use Rattle.iox_tables.specs.HubStates.Releases.{with_value_released}
+use Rattle.iox_tables.specs.HubStates.States.{Given, state_shown}
+use Rattle.iox_tables.specs.HubStates.Ways.{with_port}
+use Rattle.iox_tables.specs.HubBooks.Counts.{in_port, on_lanes, total}
+use Rattle.iox_tables.specs.HubBooks.Rooms.{CanCountHolders, HasRoomForAll, own_count, spare}
+use Rattle.iox_tables.proofs.HubBooks.Eachs.{OfPort, all_with_first}
+use Rattle.iox_tables.specs.HubMaking.Disconnections.{with_released}
+use Rattle.iox_tables.proofs.HubMaking.Ending.{ports_end}
+use Rattle.iox_tables.proofs.HubKeeping.Ordered.{names_apart, no_expired}
+use Rattle.iox_tables.proofs.HubKeeping.Unholding.{values_keep_order}
 use Rattle.iox_control.specs.Controls.{ControlState, IsControl, with_tables}
 use Rattle.iox_control.proofs.RoomLemmas.{room_as, value_seats}
 use Rattle.iox_control.proofs.WholeLemmas.{is_whole_of}

@@ -6,13 +6,13 @@ use Rattle.std.proofs.lemmas.Option.{none-some, same_Some}
 use Rattle.iox_model.specs.Maps.{AreDistinct, has_number}
 use Rattle.iox_lanes.specs.Lanes.{LaneState}
 use Rattle.iox_lanes.specs.Pipes.{PipeState}
-use Rattle.iox_hub_states.specs.Tables.{PortState, numbers_of, pipe_from, port_in, senders_of}
-use Rattle.iox_hub_states.specs.Ways.{with_port}
-use Rattle.iox_hub_states.proofs.Keys.{flip}
+use Rattle.iox_tables.specs.HubStates.Tables.{PortState, numbers_of, pipe_from, port_in, senders_of}
+use Rattle.iox_tables.specs.HubStates.Ways.{with_port}
+use Rattle.iox_tables.proofs.HubStates.Keys.{flip}
 use Rattle.iox_hub_ports.proofs.Walking.{Walks, begins, ends, set_size, turns}
 use Rattle.iox_hub_ports.specs.declared.info.PortInfo.{PortInfo}
 use Rattle.iox_hub_ports.specs.Ports.{info_at, info_of, without_pipe_from}
-use Rattle.iox_hub_books.specs.Counts.{in_pipe, lane_count, total}
+use Rattle.iox_tables.specs.HubBooks.Counts.{in_pipe, lane_count, total}
 use Rattle.iox_control.specs.Controls.{ControlState, with_pools, with_ports}
 use Rattle.iox_control_releasing.specs.LettingGo.{AreFrom, LetsGo, cut_at, from_in, with_cut}
 use Rattle.iox_control_releasing.proofs.Settling.{Settles, goes_on, pools_again, settled}

@@ -3,11 +3,11 @@ use Rattle.iox_model.specs.declared.kind.Kind.{Kind}
 use Rattle.iox_model.specs.declared.kind.Kind.TheVariants as kinds
 use Rattle.iox_model.specs.declared.way.Way.{Way}
 use Rattle.iox_model.specs.Messages.{closed_for, response_way}
-use Rattle.iox_hub_states.specs.Tables.{HandleState, HubTables}
-use Rattle.iox_hub_states.specs.Changes.{with_states}
-use Rattle.iox_hub_states.specs.Ends.{with_dropped}
-use Rattle.iox_hub_states.specs.Releases.{lane_of, pending_states, request_of, with_given_back, with_request_closed}
-use Rattle.iox_hub_books.specs.Handles.{way_in}
+use Rattle.iox_tables.specs.HubStates.Tables.{HandleState, HubTables}
+use Rattle.iox_tables.specs.HubStates.Changes.{with_states}
+use Rattle.iox_tables.specs.HubStates.Ends.{with_dropped}
+use Rattle.iox_tables.specs.HubStates.Releases.{lane_of, pending_states, request_of, with_given_back, with_request_closed}
+use Rattle.iox_tables.specs.HubBooks.Handles.{way_in}
 
 -- the way whose request state is that of the handle's request
 abbrev pub own_way : HubTables → HandleState → Way

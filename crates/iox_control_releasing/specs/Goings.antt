@@ -1,8 +1,8 @@
 -- When a pool goes, and what is left of pools.
 use Rattle.std.specs.Prelude.{◌≡◌, ℕ, true, not, ◌&&◌, if◌then◌else◌, List, Option, Some}
-use Rattle.iox_hub_states.specs.Tables.{HubTables, PoolState, owner_of, pool_at}
-use Rattle.iox_hub_states.specs.Steps.{is_there}
-use Rattle.iox_hub_books.specs.Keeps.{bare_pool}
+use Rattle.iox_tables.specs.HubStates.Tables.{HubTables, PoolState, owner_of, pool_at}
+use Rattle.iox_tables.specs.HubStates.Steps.{is_there}
+use Rattle.iox_tables.specs.HubBooks.Keeps.{bare_pool}
 use Rattle.iox_slots.specs.Pools.{is_idle, without_pool}
 
 -- the pools without the one in this place, if its port is gone and nobody has a message of it

@@ -4,10 +4,10 @@ use Rattle.std.specs.Option.{option_map_or}
 use Rattle.iox_model.specs.Maps.{has_number}
 use Rattle.iox_lanes.specs.Lanes.{LaneState}
 use Rattle.iox_lanes.specs.Pipes.{PipeState}
-use Rattle.iox_hub_states.specs.Tables.{PoolState, PortState, pipe_from, slot_at}
+use Rattle.iox_tables.specs.HubStates.Tables.{PoolState, PortState, pipe_from, slot_at}
 use Rattle.iox_hub_ports.specs.Ports.{without_pipe_from}
-use Rattle.iox_hub_books.specs.Counts.{OfAll, in_pipe}
-use Rattle.iox_hub_books.specs.Keeps.{bare_pools}
+use Rattle.iox_tables.specs.HubBooks.Counts.{OfAll, in_pipe}
+use Rattle.iox_tables.specs.HubBooks.Keeps.{bare_pools}
 use Rattle.iox_control.specs.Controls.{ControlState, with_tables}
 
 -- Pools differ in holders alone: each slot has so many less, or none where it had no more.

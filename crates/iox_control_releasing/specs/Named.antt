@@ -1,7 +1,7 @@
 -- What a number names whose release is asked for.
 use Rattle.std.specs.Prelude.{◌≡◌, ℕ, true, Some}
-use Rattle.iox_hub_states.specs.Tables.{HandleState, HubTables, PortState, port_in}
-use Rattle.iox_hub_states.specs.Wirings.{IsHandle}
+use Rattle.iox_tables.specs.HubStates.Tables.{HandleState, HubTables, PortState, port_in}
+use Rattle.iox_tables.specs.HubStates.Wirings.{IsHandle}
 
 -- The number names a port of the node, whose own value is still there.
 pub record IsHeldPort (t : HubTables) (node n : ℕ) : Type 0 where

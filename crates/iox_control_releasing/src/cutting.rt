@@ -1,7 +1,7 @@
 //! The pipes from a port are taken out.
 ghost use Rattle.std.specs.Prelude.{◌≡◌, map, slice_get, slice_set};
 ghost use Rattle.std.specs.Option.{option_map_or};
-ghost use Rattle.iox_hub_books.specs.Counts.{lane_count, total};
+ghost use Rattle.iox_tables.specs.HubBooks.Counts.{lane_count, total};
 ghost use Rattle.iox_hub_ports.specs.Ports.{without_pipe_from};
 ghost use Rattle.iox_control.specs.Controls.{with_tables};
 ghost use Rattle.iox_control_releasing.specs.LettingGo.{LetsGo, cut_at, from_in, with_cut};

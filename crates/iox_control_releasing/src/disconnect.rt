@@ -1,11 +1,11 @@
 //! A port goes of which nothing is left.
 ghost use Rattle.std.specs.Prelude.{◌≡◌, Some, option_map, true};
-ghost use Rattle.iox_hub_states.specs.States.{Given, state_shown};
-ghost use Rattle.iox_hub_states.specs.Tables.{PortState, port_in};
-ghost use Rattle.iox_hub_books.specs.Counts.{in_port, lane_count};
-ghost use Rattle.iox_hub_books.specs.Hubs.{AreInOrder};
-ghost use Rattle.iox_hub_keeping.specs.Keeps.{HasFewerHolders, lost_uses};
-ghost use Rattle.iox_hub_making.specs.Disconnections.{is_unused, with_disconnected, with_released};
+ghost use Rattle.iox_tables.specs.HubStates.States.{Given, state_shown};
+ghost use Rattle.iox_tables.specs.HubStates.Tables.{PortState, port_in};
+ghost use Rattle.iox_tables.specs.HubBooks.Counts.{in_port, lane_count};
+ghost use Rattle.iox_tables.specs.HubBooks.Hubs.{AreInOrder};
+ghost use Rattle.iox_tables.specs.HubKeeping.Keeps.{HasFewerHolders, lost_uses};
+ghost use Rattle.iox_tables.specs.HubMaking.Disconnections.{is_unused, with_disconnected, with_released};
 ghost use Rattle.iox_hub_ports.specs.Ports.{without_port};
 ghost use Rattle.std.specs.Option.{option_map_or};
 ghost use Rattle.iox_control.specs.Controls.{IsControl, with_pools};

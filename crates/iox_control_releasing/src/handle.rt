@@ -1,9 +1,9 @@
 //! The release of a handle.
 ghost use Rattle.std.specs.Prelude.{◌≡◌, ◌+◌, Some};
-ghost use Rattle.iox_hub_states.specs.States.{Given, state_shown};
-ghost use Rattle.iox_hub_states.specs.Tables.{HandleState};
-ghost use Rattle.iox_hub_states.specs.Wirings.{IsHandle, handle_in};
-ghost use Rattle.iox_hub_making.specs.Disconnections.{with_released};
+ghost use Rattle.iox_tables.specs.HubStates.States.{Given, state_shown};
+ghost use Rattle.iox_tables.specs.HubStates.Tables.{HandleState};
+ghost use Rattle.iox_tables.specs.HubStates.Wirings.{IsHandle, handle_in};
+ghost use Rattle.iox_tables.specs.HubMaking.Disconnections.{with_released};
 ghost use Rattle.iox_model.specs.WholeCalls.{IsWholeCall};
 ghost use Rattle.iox_model.specs.declared.call.Call.TheVariants.{Release};
 ghost use Rattle.iox_model.specs.declared.reply.Reply.TheVariants.{Done};

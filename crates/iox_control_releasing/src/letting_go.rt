@@ -1,8 +1,8 @@
 //! The messages of lanes that are taken out are let go.
 ghost use Rattle.std.specs.Prelude.{◌≡◌};
 ghost use Rattle.iox_model.specs.Maps.{AreDistinct};
-ghost use Rattle.iox_hub_states.specs.Tables.{numbers_of, senders_of};
-ghost use Rattle.iox_hub_books.specs.Counts.{in_pipe, lane_count, total};
+ghost use Rattle.iox_tables.specs.HubStates.Tables.{numbers_of, senders_of};
+ghost use Rattle.iox_tables.specs.HubBooks.Counts.{in_pipe, lane_count, total};
 ghost use Rattle.iox_control.specs.Controls.{with_pools};
 ghost use Rattle.iox_hub_ports.specs.Ports.{without_pipe_from};
 ghost use Rattle.iox_control_releasing.specs.LettingGo.{AreFrom, LetsGo, from_in};

@@ -1,8 +1,8 @@
 //! The release of a port's own value.
 ghost use Rattle.std.specs.Prelude.{◌≡◌};
-ghost use Rattle.iox_hub_states.specs.Releases.{with_value_released};
-ghost use Rattle.iox_hub_states.specs.States.{Given, state_shown};
-ghost use Rattle.iox_hub_making.specs.Disconnections.{with_released};
+ghost use Rattle.iox_tables.specs.HubStates.Releases.{with_value_released};
+ghost use Rattle.iox_tables.specs.HubStates.States.{Given, state_shown};
+ghost use Rattle.iox_tables.specs.HubMaking.Disconnections.{with_released};
 ghost use Rattle.iox_model.specs.WholeCalls.{IsWholeCall};
 ghost use Rattle.iox_model.specs.declared.call.Call.TheVariants.{Release};
 ghost use Rattle.iox_model.specs.declared.reply.Reply.TheVariants.{Done};

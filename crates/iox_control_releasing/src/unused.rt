@@ -1,6 +1,6 @@
 //! Whether anything of a port is left.
 ghost use Rattle.std.specs.Prelude.{◌≡◌, ◌==◌};
-ghost use Rattle.iox_hub_making.specs.Disconnections.{is_unused};
+ghost use Rattle.iox_tables.specs.HubMaking.Disconnections.{is_unused};
 ghost use Rattle.iox_control.specs.Controls.{IsControl};
 
 use iox_control::Control;

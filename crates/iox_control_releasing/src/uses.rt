@@ -1,6 +1,6 @@
 //! Callers of releases, proved from the clauses alone.
 ghost use Rattle.std.specs.Prelude.{◌≡◌};
-ghost use Rattle.iox_hub_states.specs.States.{Given, state_shown};
+ghost use Rattle.iox_tables.specs.HubStates.States.{Given, state_shown};
 ghost use Rattle.iox_model.specs.WholeCalls.{IsWholeCall};
 ghost use Rattle.iox_model.specs.declared.call.Call.TheVariants.{Release};
 ghost use Rattle.iox_model.specs.declared.reply.Reply.TheVariants.{Done};

@@ -5,13 +5,13 @@ use Rattle.std.proofs.Common.{sym, ap, subst, ◌∙◌, arith, inl, inr, true�
 use Rattle.std.proofs.lemmas.Option.{none-some, same_Some}
 use Rattle.iox_model.specs.declared.way.Way.{Way}
 use Rattle.iox_model.specs.Maps.{has_way, same_way}
-use Rattle.iox_weave_laws.proofs.MapLemmas.{is_in-first}
+use Rattle.iox_laws.proofs.WeaveLaws.MapLemmas.{is_in-first}
 use Rattle.iox_lanes.specs.Lanes.{IsSound, LaneState, is_full}
-use Rattle.iox_hub_states.specs.Changes.{emptied_lane, OnEach}
-use Rattle.iox_hub_states.specs.Steps.{full_in}
-use Rattle.iox_hub_states.specs.Tables.{PortState}
-use Rattle.iox_hub_states.specs.Ways.{OnWays, lane_on, with_lane_on, with_lanes_on}
-use Rattle.iox_hub_states.proofs.Keys.{at_is, lane_turned}
+use Rattle.iox_tables.specs.HubStates.Changes.{emptied_lane, OnEach}
+use Rattle.iox_tables.specs.HubStates.Steps.{full_in}
+use Rattle.iox_tables.specs.HubStates.Tables.{PortState}
+use Rattle.iox_tables.specs.HubStates.Ways.{OnWays, lane_on, with_lane_on, with_lanes_on}
+use Rattle.iox_tables.proofs.HubStates.Keys.{at_is, lane_turned}
 use Rattle.iox_hub_phases.proofs.Agreeing.{same_stays}
 
 turned : (ports : List PortState) (v w : Way) (b : Bool) → same_way w v ≡ b

@@ -20,16 +20,16 @@ use Rattle.iox_model.specs.States.{Handle, Port, State}
 use Rattle.iox_model.specs.WholeCalls.{IsWholeCall}
 use Rattle.std.specs.Prelude.{map}
 use Rattle.std.specs.Option.{option_map_or}
-use Rattle.iox_call_functions.specs.Answers.{NoneInHand, refusing}
-use Rattle.iox_call_functions.specs.Copies.{copied_by, copied_from, copied_of, sent_at_once, to_copy}
-use Rattle.iox_call_functions.specs.Loans.{handed_out, lent, lent_of_length, lent_unless, request_loan}
-use Rattle.iox_call_functions.specs.LoanSends.{requested}
-use Rattle.iox_call_functions.specs.Overflows.{sent_over}
-use Rattle.iox_call_functions.specs.Responses.{responded}
-use Rattle.iox_call_functions.specs.Sends.{emptied, sent}
-use Rattle.iox_call_functions.proofs.Emptyings.{empties_all, of_loan}
-use Rattle.iox_call_functions.proofs.Leads.{Leads, NoPayload, at_end, behind, is_whole, one_of}
-use Rattle.iox_call_functions.proofs.Lending.{GoesOn}
+use Rattle.iox_laws.specs.CallFunctions.Answers.{NoneInHand, refusing}
+use Rattle.iox_laws.specs.CallFunctions.Copies.{copied_by, copied_from, copied_of, sent_at_once, to_copy}
+use Rattle.iox_laws.specs.CallFunctions.Loans.{handed_out, lent, lent_of_length, lent_unless, request_loan}
+use Rattle.iox_laws.specs.CallFunctions.LoanSends.{requested}
+use Rattle.iox_laws.specs.CallFunctions.Overflows.{sent_over}
+use Rattle.iox_laws.specs.CallFunctions.Responses.{responded}
+use Rattle.iox_laws.specs.CallFunctions.Sends.{emptied, sent}
+use Rattle.iox_laws.proofs.CallFunctions.Emptyings.{empties_all, of_loan}
+use Rattle.iox_laws.proofs.CallFunctions.Leads.{Leads, NoPayload, at_end, behind, is_whole, one_of}
+use Rattle.iox_laws.proofs.CallFunctions.Lending.{GoesOn}
 
 module _ (s : State) (node n : ℕ) (c : Choice) (q : Payload) (k : ℕ) (p : Port) (hand : NoneInHand s) where
   abbrev o : Order

@@ -5,10 +5,10 @@ use Rattle.iox_model.specs.declared.reply.Refusal.TheVariants as refusals
 use Rattle.iox_model.specs.declared.way.Way.{Way}
 use Rattle.iox_model.specs.Maps.{or_else, refused_if}
 use Rattle.iox_model.specs.Settings.{Shape}
-use Rattle.iox_hub_states.specs.Tables.{PortState, port_in}
-use Rattle.iox_hub_lending.proofs.Owning.{number_is}
-use Rattle.iox_hub_loans.specs.Counts.{has_all_active}
-use Rattle.iox_hub_loans.specs.Lenders.{count_refusal_by, lender_of_request, shape_in, size_refusal}
+use Rattle.iox_tables.specs.HubStates.Tables.{PortState, port_in}
+use Rattle.iox_tables.proofs.HubLending.Owning.{number_is}
+use Rattle.iox_tables.specs.HubLoans.Counts.{has_all_active}
+use Rattle.iox_tables.specs.HubLoans.Lenders.{count_refusal_by, lender_of_request, shape_in, size_refusal}
 use Rattle.iox_control.specs.Controls.{ControlState, IsControl}
 use Rattle.iox_control_lending.specs.declared.asked.Asked.{Asked}
 use Rattle.iox_control_lending.specs.Lends.{IsAskedOf, IsRefused}

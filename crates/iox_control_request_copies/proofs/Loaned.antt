@@ -10,21 +10,21 @@ use Rattle.iox_model.specs.Loans.{kind_of_loan}
 use Rattle.iox_model.specs.Maps.{has_way}
 use Rattle.iox_model.specs.Messages.{request_way}
 use Rattle.iox_lanes.specs.Lanes.{IsSound, LaneState}
-use Rattle.iox_hub_states.specs.Changes.{OnEach, emptied_lane}
-use Rattle.iox_hub_states.specs.Steps.{IsOpenToNew}
-use Rattle.iox_hub_states.specs.Tables.{HandleState, HubTables, PortState, port_in}
-use Rattle.iox_hub_states.specs.Ways.{OnWays, lane_on, with_lanes_on}
-use Rattle.iox_hub_states.specs.Wirings.{IsHandle}
-use Rattle.iox_hub_books.specs.Hubs.{AreInOrder}
+use Rattle.iox_tables.specs.HubStates.Changes.{OnEach, emptied_lane}
+use Rattle.iox_tables.specs.HubStates.Steps.{IsOpenToNew}
+use Rattle.iox_tables.specs.HubStates.Tables.{HandleState, HubTables, PortState, port_in}
+use Rattle.iox_tables.specs.HubStates.Ways.{OnWays, lane_on, with_lanes_on}
+use Rattle.iox_tables.specs.HubStates.Wirings.{IsHandle}
+use Rattle.iox_tables.specs.HubBooks.Hubs.{AreInOrder}
 use Rattle.iox_hub_delivering.specs.Deliveries.{HasDelivered}
 use Rattle.iox_hub_delivering.proofs.Copied.{named}
-use Rattle.iox_hub_lending.specs.Lending.{MayLend}
-use Rattle.iox_hub_lending.proofs.Back.{getting_back_keeps_order}
-use Rattle.iox_hub_lending.proofs.OneMore.{lanes_same, roles_same}
-use Rattle.iox_hub_lending.proofs.Owning.{number_is}
-use Rattle.iox_hub_loans.specs.Lenders.{IsClient, Lender, lender_of_request, ways_by}
-use Rattle.iox_hub_loans.specs.Loans.{loaned_handle, with_loaned}
-use Rattle.iox_hub_making.specs.Worked.{at_first}
+use Rattle.iox_tables.specs.HubLending.Lending.{MayLend}
+use Rattle.iox_tables.proofs.HubLending.Back.{getting_back_keeps_order}
+use Rattle.iox_tables.proofs.HubLending.OneMore.{lanes_same, roles_same}
+use Rattle.iox_tables.proofs.HubLending.Owning.{number_is}
+use Rattle.iox_tables.specs.HubLoans.Lenders.{IsClient, Lender, lender_of_request, ways_by}
+use Rattle.iox_tables.specs.HubLoans.Loans.{loaned_handle, with_loaned}
+use Rattle.iox_tables.specs.HubMaking.Worked.{at_first}
 use Rattle.iox_control.specs.Controls.{ControlState, IsControl, with_tables}
 use Rattle.iox_control_lending.specs.declared.asked.Asked.{Asked}
 use Rattle.iox_control_lending.specs.declared.asked.Loaned.{Loaned}

@@ -3,12 +3,12 @@ use Rattle.std.specs.Prelude.{◌≡◌, ℕ, zero, suc, ◌-◌, ◌<◌, ◌^�
 use Rattle.std.specs.Option.{option_map_or}
 use Rattle.std.proofs.Common.{sym, ap, subst, ◌∙◌, arith}
 use Rattle.std.proofs.lemmas.Option.{same_Some}
-use Rattle.iox_hub_states.specs.Tables.{PortState, port_in}
-use Rattle.iox_hub_states.specs.Ends.{with_call, with_loan}
-use Rattle.iox_hub_lending.specs.Emptying.{AreGotBack, with_back}
-use Rattle.iox_hub_lending.proofs.Back.{getting_back_keeps_order}
-use Rattle.iox_hub_lending.proofs.Owning.{slot_count}
-use Rattle.iox_hub_loans.specs.Lenders.{lender_of_request}
+use Rattle.iox_tables.specs.HubStates.Tables.{PortState, port_in}
+use Rattle.iox_tables.specs.HubStates.Ends.{with_call, with_loan}
+use Rattle.iox_tables.specs.HubLending.Emptying.{AreGotBack, with_back}
+use Rattle.iox_tables.proofs.HubLending.Back.{getting_back_keeps_order}
+use Rattle.iox_tables.proofs.HubLending.Owning.{slot_count}
+use Rattle.iox_tables.specs.HubLoans.Lenders.{lender_of_request}
 use Rattle.iox_hub_ports.specs.declared.info.PortInfo.{PortInfo}
 use Rattle.iox_hub_ports.specs.Ports.{info_in, info_of}
 use Rattle.iox_slots.specs.Pools.{free_count}

@@ -18,31 +18,31 @@ use Rattle.iox_model.specs.Requests.{is_active_spent}
 use Rattle.iox_model.specs.Settings.{shape_of}
 use Rattle.iox_model.specs.States as m
 use Rattle.iox_model.specs.WholeCalls.{IsDone, IsWholeCall, UnlessRefused, spent}
-use Rattle.iox_run_laws.proofs.Choices.{something_may_be_chosen}
-use Rattle.iox_call_functions.specs.Answers.{NoneInHand, refusing}
-use Rattle.iox_call_functions.specs.Calls.{call_by}
-use Rattle.iox_call_functions.specs.Copies.{to_copy}
-use Rattle.iox_call_functions.specs.Loans.{handed_out, lent_from, lent_unless}
-use Rattle.iox_call_functions.proofs.Overflowing.{emptied-same}
-use Rattle.iox_hub_states.specs.Tables.{HubTables, PortState, port_in}
-use Rattle.iox_hub_states.specs.Ends.{with_call, with_loan}
-use Rattle.iox_hub_states.specs.States.{Given, fixed_of, limits_of, port_of, state_shown}
-use Rattle.iox_hub_states.proofs.Naming.{each_port_is_named}
-use Rattle.iox_hub_books.proofs.Rooms.{bare_pools_show_the_same}
-use Rattle.iox_hub_books.proofs.Used.{once_on}
-use Rattle.iox_hub_lending.proofs.Back.{dry_pools_have_holders}
-use Rattle.iox_hub_lending.proofs.Bared.{holders_may_come_back_first}
-use Rattle.iox_hub_lending.proofs.Chosen.{free_slots_may_take_loans}
-use Rattle.iox_hub_lending.proofs.Owning.{handles_are_on_nodes, number_is}
-use Rattle.iox_hub_loans.specs.Counts.{AreOnNodes, has_all_active}
-use Rattle.iox_hub_loans.specs.Lenders.{IsClient, IsLender, Lender, calls_refusal, count_refusal_by, is_pool_dry, lender_of_request, loan_refusal, shape_in, size_refusal, with_got_back}
-use Rattle.iox_hub_loans.proofs.Copying.{copies_are_refused, copies_find_dry_pools}
-use Rattle.iox_hub_loans.proofs.CopyCalls.{spent_copies_are_refused}
-use Rattle.iox_hub_loans.proofs.Counting.{each_count_is_the_same}
-use Rattle.iox_hub_loans.proofs.Lending.{lent_tested, loan_shown, tests_of}
-use Rattle.iox_hub_loans.proofs.Lent.{lent_is, with_memory}
-use Rattle.iox_hub_loans.specs.Copies.{copy_refusal}
-use Rattle.iox_hub_loans.proofs.Loaning.{Lends, lending_kind, lends_so}
+use Rattle.iox_laws.proofs.RunLaws.Choices.{something_may_be_chosen}
+use Rattle.iox_laws.specs.CallFunctions.Answers.{NoneInHand, refusing}
+use Rattle.iox_laws.specs.CallFunctions.Calls.{call_by}
+use Rattle.iox_laws.specs.CallFunctions.Copies.{to_copy}
+use Rattle.iox_laws.specs.CallFunctions.Loans.{handed_out, lent_from, lent_unless}
+use Rattle.iox_laws.proofs.CallFunctions.Overflowing.{emptied-same}
+use Rattle.iox_tables.specs.HubStates.Tables.{HubTables, PortState, port_in}
+use Rattle.iox_tables.specs.HubStates.Ends.{with_call, with_loan}
+use Rattle.iox_tables.specs.HubStates.States.{Given, fixed_of, limits_of, port_of, state_shown}
+use Rattle.iox_tables.proofs.HubStates.Naming.{each_port_is_named}
+use Rattle.iox_tables.proofs.HubBooks.Rooms.{bare_pools_show_the_same}
+use Rattle.iox_tables.proofs.HubBooks.Used.{once_on}
+use Rattle.iox_tables.proofs.HubLending.Back.{dry_pools_have_holders}
+use Rattle.iox_tables.proofs.HubLending.Bared.{holders_may_come_back_first}
+use Rattle.iox_tables.proofs.HubLending.Chosen.{free_slots_may_take_loans}
+use Rattle.iox_tables.proofs.HubLending.Owning.{handles_are_on_nodes, number_is}
+use Rattle.iox_tables.specs.HubLoans.Counts.{AreOnNodes, has_all_active}
+use Rattle.iox_tables.specs.HubLoans.Lenders.{IsClient, IsLender, Lender, calls_refusal, count_refusal_by, is_pool_dry, lender_of_request, loan_refusal, shape_in, size_refusal, with_got_back}
+use Rattle.iox_tables.proofs.HubLoans.Copying.{copies_are_refused, copies_find_dry_pools}
+use Rattle.iox_tables.proofs.HubLoans.CopyCalls.{spent_copies_are_refused}
+use Rattle.iox_tables.proofs.HubLoans.Counting.{each_count_is_the_same}
+use Rattle.iox_tables.proofs.HubLoans.Lending.{lent_tested, loan_shown, tests_of}
+use Rattle.iox_tables.proofs.HubLoans.Lent.{lent_is, with_memory}
+use Rattle.iox_tables.specs.HubLoans.Copies.{copy_refusal}
+use Rattle.iox_tables.proofs.HubLoans.Loaning.{Lends, lending_kind, lends_so}
 use Rattle.iox_model.specs.declared.kind.Kind.TheVariants as kinds
 use Rattle.iox_model.specs.Names.{suits}
 use Rattle.iox_model.specs.Settings.{is_client}

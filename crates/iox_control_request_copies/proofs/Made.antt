@@ -19,43 +19,43 @@ use Rattle.iox_model.specs.Messages.{request_way, response_way}
 use Rattle.iox_model.specs.Outstandings.{kept}
 use Rattle.iox_model.specs.Requests.{fails_at, targets, to_open}
 use Rattle.iox_model.specs.States as m
-use Rattle.iox_call_functions.specs.Calls.{call_by}
+use Rattle.iox_laws.specs.CallFunctions.Calls.{call_by}
 use Rattle.iox_lanes.specs.Lanes.{LaneState, delivered}
-use Rattle.iox_hub_states.specs.Changes.{HasEachOnce, OfEachLane, OnEach, emptied_lane, pushed_lane, with_lanes}
-use Rattle.iox_hub_states.specs.Ends.{changed_handles, with_added, with_call, with_loan}
-use Rattle.iox_hub_states.specs.Releases.{lane_of, pending_states, request_of}
-use Rattle.iox_hub_states.specs.Sendings.{pending_of}
-use Rattle.iox_hub_states.specs.Sends.{MaySendFrom, sent_count, with_opened, with_pushed, with_sent}
-use Rattle.iox_hub_states.specs.Shown.{MessagesByPlace}
-use Rattle.iox_hub_states.specs.States.{Given, fixed_of, message_of, state_shown}
-use Rattle.iox_hub_states.specs.Steps.{IsOpenToNew, full_in, places_on}
-use Rattle.iox_hub_states.specs.Tables.{HandleState, HubTables, PoolState, PortState, port_in}
-use Rattle.iox_hub_states.specs.Ways.{OnWays, lane_on, with_lanes_on, with_port, with_states_on}
-use Rattle.iox_hub_states.specs.Wirings.{IsHandle, numbers_of_role}
+use Rattle.iox_tables.specs.HubStates.Changes.{HasEachOnce, OfEachLane, OnEach, emptied_lane, pushed_lane, with_lanes}
+use Rattle.iox_tables.specs.HubStates.Ends.{changed_handles, with_added, with_call, with_loan}
+use Rattle.iox_tables.specs.HubStates.Releases.{lane_of, pending_states, request_of}
+use Rattle.iox_tables.specs.HubStates.Sendings.{pending_of}
+use Rattle.iox_tables.specs.HubStates.Sends.{MaySendFrom, sent_count, with_opened, with_pushed, with_sent}
+use Rattle.iox_tables.specs.HubStates.Shown.{MessagesByPlace}
+use Rattle.iox_tables.specs.HubStates.States.{Given, fixed_of, message_of, state_shown}
+use Rattle.iox_tables.specs.HubStates.Steps.{IsOpenToNew, full_in, places_on}
+use Rattle.iox_tables.specs.HubStates.Tables.{HandleState, HubTables, PoolState, PortState, port_in}
+use Rattle.iox_tables.specs.HubStates.Ways.{OnWays, lane_on, with_lanes_on, with_port, with_states_on}
+use Rattle.iox_tables.specs.HubStates.Wirings.{IsHandle, numbers_of_role}
 use Rattle.iox_model.specs.Maps.{has_number}
-use Rattle.iox_hub_books.specs.Hubs.{AreInOrder}
-use Rattle.iox_hub_books.specs.Keeps.{bare_pools, delivers}
-use Rattle.iox_hub_books.proofs.Held.{each_handle_from}
-use Rattle.iox_hub_books.proofs.Rooms.{bare_pools_show_the_same}
-use Rattle.iox_hub_books.proofs.Sendable.{requests_may_be_sent}
+use Rattle.iox_tables.specs.HubBooks.Hubs.{AreInOrder}
+use Rattle.iox_tables.specs.HubBooks.Keeps.{bare_pools, delivers}
+use Rattle.iox_tables.proofs.HubBooks.Held.{each_handle_from}
+use Rattle.iox_tables.proofs.HubBooks.Rooms.{bare_pools_show_the_same}
+use Rattle.iox_tables.proofs.HubBooks.Sendable.{requests_may_be_sent}
 use Rattle.iox_hub_delivering.proofs.Copied.{named, v_order}
 use Rattle.iox_hub_delivering.proofs.Loaned.{last_changed, loan_after, loan_after_states, next_is_new}
-use Rattle.iox_hub_lending.specs.Emptying.{with_back}
-use Rattle.iox_hub_lending.specs.Lending.{MayLend}
-use Rattle.iox_hub_lending.proofs.Back.{getting_back_keeps_order}
-use Rattle.iox_hub_lending.proofs.Bared.{differ}
-use Rattle.iox_hub_lending.proofs.Chosen.{free_slots_may_take_loans}
-use Rattle.iox_hub_lending.proofs.OneMore.{lanes_same, one_loan, roles_same}
-use Rattle.iox_hub_lending.proofs.Owning.{slot_there}
-use Rattle.iox_hub_loans.specs.CopySends.{IsCopyToMake, copied, copy_sending, goes_out, with_loan_call, with_words}
-use Rattle.iox_hub_loans.specs.Counts.{AreOnNodes, IsOnNode}
-use Rattle.iox_hub_loans.specs.Lenders.{IsClient, Lender, calls_refusal, count_refusal_by, loan_refusal, shape_in, size_refusal, ways_by, with_got_back}
-use Rattle.iox_hub_loans.specs.Loans.{MayTakeLoan, loaned_contents, loaned_handle, loaned_slot, with_loaned, with_loaned_slot}
-use Rattle.iox_hub_loans.specs.Slots.{IsUnused}
-use Rattle.iox_hub_loans.proofs.CopyCalls.{copy_sent, copy_sent_over}
-use Rattle.iox_hub_loans.proofs.CopyMay.{copies_may_be_sent}
-use Rattle.iox_hub_loans.proofs.Lent.{fixed_back}
-use Rattle.iox_hub_loans.proofs.Placed.{unused_slots_may_change}
+use Rattle.iox_tables.specs.HubLending.Emptying.{with_back}
+use Rattle.iox_tables.specs.HubLending.Lending.{MayLend}
+use Rattle.iox_tables.proofs.HubLending.Back.{getting_back_keeps_order}
+use Rattle.iox_tables.proofs.HubLending.Bared.{differ}
+use Rattle.iox_tables.proofs.HubLending.Chosen.{free_slots_may_take_loans}
+use Rattle.iox_tables.proofs.HubLending.OneMore.{lanes_same, one_loan, roles_same}
+use Rattle.iox_tables.proofs.HubLending.Owning.{slot_there}
+use Rattle.iox_tables.specs.HubLoans.CopySends.{IsCopyToMake, copied, copy_sending, goes_out, with_loan_call, with_words}
+use Rattle.iox_tables.specs.HubLoans.Counts.{AreOnNodes, IsOnNode}
+use Rattle.iox_tables.specs.HubLoans.Lenders.{IsClient, Lender, calls_refusal, count_refusal_by, loan_refusal, shape_in, size_refusal, ways_by, with_got_back}
+use Rattle.iox_tables.specs.HubLoans.Loans.{MayTakeLoan, loaned_contents, loaned_handle, loaned_slot, with_loaned, with_loaned_slot}
+use Rattle.iox_tables.specs.HubLoans.Slots.{IsUnused}
+use Rattle.iox_tables.proofs.HubLoans.CopyCalls.{copy_sent, copy_sent_over}
+use Rattle.iox_tables.proofs.HubLoans.CopyMay.{copies_may_be_sent}
+use Rattle.iox_tables.proofs.HubLoans.Lent.{fixed_back}
+use Rattle.iox_tables.proofs.HubLoans.Placed.{unused_slots_may_change}
 use Rattle.iox_control.specs.Controls.{ControlState, IsControl}
 use Rattle.iox_control_lending.specs.declared.asked.Asked.{Asked}
 use Rattle.iox_control_lending.specs.Lends.{IsAskedOf, IsGotBack}

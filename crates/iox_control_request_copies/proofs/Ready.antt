@@ -8,14 +8,14 @@ use Rattle.iox_model.specs.Handles.{is_request_loan}
 use Rattle.iox_model.specs.Messages.{request_way}
 use Rattle.iox_model.specs.declared.kind.Role.TheVariants.{Server}
 use Rattle.iox_lanes.specs.Lanes.{LaneState}
-use Rattle.iox_hub_states.specs.Changes.{OnEach}
-use Rattle.iox_hub_states.specs.Steps.{IsOpenToNew}
-use Rattle.iox_hub_states.specs.Tables.{HandleState, HubTables}
-use Rattle.iox_hub_states.specs.Ways.{lane_on}
-use Rattle.iox_hub_states.specs.Wirings.{IsHandle, buffer_from, numbers_of_role, role_in}
-use Rattle.iox_hub_books.specs.Hubs.{AreInOrder}
-use Rattle.iox_hub_books.proofs.Eachs.{lane_is}
-use Rattle.iox_hub_making.specs.Worked.{at_first}
+use Rattle.iox_tables.specs.HubStates.Changes.{OnEach}
+use Rattle.iox_tables.specs.HubStates.Steps.{IsOpenToNew}
+use Rattle.iox_tables.specs.HubStates.Tables.{HandleState, HubTables}
+use Rattle.iox_tables.specs.HubStates.Ways.{lane_on}
+use Rattle.iox_tables.specs.HubStates.Wirings.{IsHandle, buffer_from, numbers_of_role, role_in}
+use Rattle.iox_tables.specs.HubBooks.Hubs.{AreInOrder}
+use Rattle.iox_tables.proofs.HubBooks.Eachs.{lane_is}
+use Rattle.iox_tables.specs.HubMaking.Worked.{at_first}
 use Rattle.iox_control.specs.Controls.{AreCounted}
 use Rattle.iox_control_requests.specs.Deliveries.{CanTake}
 use Rattle.iox_control_requests.specs.Servers.{request_ways}

@@ -6,20 +6,20 @@ use Rattle.iox_model.specs.declared.way.RequestState.TheVariants.{Named}
 use Rattle.iox_model.specs.declared.way.Way.{Way}
 use Rattle.iox_model.specs.Handles.{is_own, is_request_loan, is_response_loan, same_kind}
 use Rattle.iox_lanes.specs.Lanes.{LaneState}
-use Rattle.iox_hub_states.specs.Changes.{with_lanes}
-use Rattle.iox_hub_states.specs.Ends.{with_call, with_changed}
-use Rattle.iox_hub_states.specs.Releases.{pending_states, request_of}
-use Rattle.iox_hub_states.specs.Sends.{with_opened}
-use Rattle.iox_hub_states.specs.Sendings.{pending_of}
-use Rattle.iox_hub_states.specs.Steps.{full_in}
-use Rattle.iox_hub_states.specs.Tables.{HandleState, HubTables, PoolState}
-use Rattle.iox_hub_states.specs.Ways.{OnWays, lane_on}
-use Rattle.iox_hub_states.specs.Wirings.{IsHandle}
-use Rattle.iox_hub_books.specs.Keeps.{AreTargetsOf, delivers}
-use Rattle.iox_hub_books.specs.Rooms.{may_come, most_holders}
-use Rattle.iox_hub_books.proofs.Frames.{AreAlike, lanes_on_bare}
-use Rattle.iox_hub_books.proofs.Little.{little_changes_keep_order}
-use Rattle.iox_hub_books.proofs.Targets.{each_has_its_targets}
+use Rattle.iox_tables.specs.HubStates.Changes.{with_lanes}
+use Rattle.iox_tables.specs.HubStates.Ends.{with_call, with_changed}
+use Rattle.iox_tables.specs.HubStates.Releases.{pending_states, request_of}
+use Rattle.iox_tables.specs.HubStates.Sends.{with_opened}
+use Rattle.iox_tables.specs.HubStates.Sendings.{pending_of}
+use Rattle.iox_tables.specs.HubStates.Steps.{full_in}
+use Rattle.iox_tables.specs.HubStates.Tables.{HandleState, HubTables, PoolState}
+use Rattle.iox_tables.specs.HubStates.Ways.{OnWays, lane_on}
+use Rattle.iox_tables.specs.HubStates.Wirings.{IsHandle}
+use Rattle.iox_tables.specs.HubBooks.Keeps.{AreTargetsOf, delivers}
+use Rattle.iox_tables.specs.HubBooks.Rooms.{may_come, most_holders}
+use Rattle.iox_tables.proofs.HubBooks.Frames.{AreAlike, lanes_on_bare}
+use Rattle.iox_tables.proofs.HubBooks.Little.{little_changes_keep_order}
+use Rattle.iox_tables.proofs.HubBooks.Targets.{each_has_its_targets}
 use Rattle.iox_hub_delivering.specs.Counts.{AreCountedBy, NeedsAsMuch}
 use Rattle.iox_hub_delivering.specs.Deliveries.{HasDelivered}
 use Rattle.iox_hub_delivering.proofs.Before.{named_stays}

@@ -22,37 +22,37 @@ use Rattle.iox_model.specs.Requests.{fails_at}
 use Rattle.iox_model.specs.Settings.{overflow_of, shape_of}
 use Rattle.iox_model.specs.States as m
 use Rattle.iox_model.specs.WholeCalls.{IsWholeCall}
-use Rattle.iox_weave_laws.proofs.MapLemmas.{others_are_all}
-use Rattle.iox_call_functions.specs.Calls.{call_by}
-use Rattle.iox_call_functions.specs.Copies.{MayCopy, to_copy}
-use Rattle.iox_call_functions.specs.Loans.{request_loan}
-use Rattle.iox_call_functions.specs.LoanSends.{MaySend, sending_ways}
-use Rattle.iox_call_functions.specs.Overflows.{NotOver}
-use Rattle.iox_call_functions.proofs.Copying.{each_copy_is_whole}
+use Rattle.iox_laws.proofs.WeaveLaws.MapLemmas.{others_are_all}
+use Rattle.iox_laws.specs.CallFunctions.Calls.{call_by}
+use Rattle.iox_laws.specs.CallFunctions.Copies.{MayCopy, to_copy}
+use Rattle.iox_laws.specs.CallFunctions.Loans.{request_loan}
+use Rattle.iox_laws.specs.CallFunctions.LoanSends.{MaySend, sending_ways}
+use Rattle.iox_laws.specs.CallFunctions.Overflows.{NotOver}
+use Rattle.iox_laws.proofs.CallFunctions.Copying.{each_copy_is_whole}
 use Rattle.iox_lanes.specs.declared.wanted.Label.{Label}
 use Rattle.iox_lanes.specs.Lanes.{LaneState}
-use Rattle.iox_hub_states.specs.Changes.{OnEach}
-use Rattle.iox_hub_states.specs.Shown.{waiting_in}
-use Rattle.iox_hub_states.specs.States.{Given, fixed_of, limits_of, message_of, port_of, state_shown}
-use Rattle.iox_hub_states.specs.Steps.{full_in}
-use Rattle.iox_hub_states.specs.Tables.{HandleState, HubTables, PoolState, PortState, port_in}
-use Rattle.iox_hub_states.specs.Ways.{lane_on}
-use Rattle.iox_hub_states.specs.Wirings.{buffer_from, numbers_of_role}
-use Rattle.iox_hub_states.proofs.Fixing.{buffer_is, role_is, roles_are}
-use Rattle.iox_hub_books.specs.Hubs.{AreInOrder}
-use Rattle.iox_hub_books.proofs.Frames.{length_map}
-use Rattle.iox_hub_books.proofs.Rooms.{bare_pools_show_the_same}
-use Rattle.iox_hub_lending.specs.Choosing.{IsFreeSlot}
-use Rattle.iox_hub_lending.specs.Emptying.{AreGotBack, with_back}
-use Rattle.iox_hub_lending.specs.Lending.{MayLend}
-use Rattle.iox_hub_lending.proofs.Back.{getting_back_keeps_order, ways_apart}
-use Rattle.iox_hub_lending.proofs.Bared.{differ}
-use Rattle.iox_hub_lending.proofs.Owning.{number_is}
-use Rattle.iox_hub_loans.specs.Counts.{has_all_active, is_lane_free, is_lane_taken, is_on_lane}
-use Rattle.iox_hub_loans.specs.Lenders.{IsClient, Lender, loan_refusal, ways_by}
-use Rattle.iox_hub_loans.specs.Loans.{with_loaned}
-use Rattle.iox_hub_loans.specs.Slots.{with_contents}
-use Rattle.iox_hub_loans.proofs.Loaning.{each_choice_may_be}
+use Rattle.iox_tables.specs.HubStates.Changes.{OnEach}
+use Rattle.iox_tables.specs.HubStates.Shown.{waiting_in}
+use Rattle.iox_tables.specs.HubStates.States.{Given, fixed_of, limits_of, message_of, port_of, state_shown}
+use Rattle.iox_tables.specs.HubStates.Steps.{full_in}
+use Rattle.iox_tables.specs.HubStates.Tables.{HandleState, HubTables, PoolState, PortState, port_in}
+use Rattle.iox_tables.specs.HubStates.Ways.{lane_on}
+use Rattle.iox_tables.specs.HubStates.Wirings.{buffer_from, numbers_of_role}
+use Rattle.iox_tables.proofs.HubStates.Fixing.{buffer_is, role_is, roles_are}
+use Rattle.iox_tables.specs.HubBooks.Hubs.{AreInOrder}
+use Rattle.iox_tables.proofs.HubBooks.Frames.{length_map}
+use Rattle.iox_tables.proofs.HubBooks.Rooms.{bare_pools_show_the_same}
+use Rattle.iox_tables.specs.HubLending.Choosing.{IsFreeSlot}
+use Rattle.iox_tables.specs.HubLending.Emptying.{AreGotBack, with_back}
+use Rattle.iox_tables.specs.HubLending.Lending.{MayLend}
+use Rattle.iox_tables.proofs.HubLending.Back.{getting_back_keeps_order, ways_apart}
+use Rattle.iox_tables.proofs.HubLending.Bared.{differ}
+use Rattle.iox_tables.proofs.HubLending.Owning.{number_is}
+use Rattle.iox_tables.specs.HubLoans.Counts.{has_all_active, is_lane_free, is_lane_taken, is_on_lane}
+use Rattle.iox_tables.specs.HubLoans.Lenders.{IsClient, Lender, loan_refusal, ways_by}
+use Rattle.iox_tables.specs.HubLoans.Loans.{with_loaned}
+use Rattle.iox_tables.specs.HubLoans.Slots.{with_contents}
+use Rattle.iox_tables.proofs.HubLoans.Loaning.{each_choice_may_be}
 use Rattle.iox_control.specs.Controls.{ControlState, IsControl}
 use Rattle.iox_control.proofs.WholeLemmas.{is_whole_of}
 use Rattle.iox_control_lending.specs.declared.asked.Asked.{Asked}

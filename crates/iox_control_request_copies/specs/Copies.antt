@@ -6,16 +6,16 @@ use Rattle.iox_model.specs.declared.reply.Reply.TheVariants as replies
 use Rattle.iox_model.specs.declared.way.Way.{Way}
 use Rattle.iox_model.specs.Commands.{Payload, Reply}
 use Rattle.iox_model.specs.Requests.{fails_at}
-use Rattle.iox_hub_states.specs.Changes.{OnEach}
-use Rattle.iox_hub_states.specs.Ends.{with_call, with_loan}
-use Rattle.iox_hub_states.specs.States.{Given, fixed_of}
-use Rattle.iox_hub_states.specs.Tables.{HandleState, HubTables, PortState}
-use Rattle.iox_hub_states.specs.Ways.{lane_on}
+use Rattle.iox_tables.specs.HubStates.Changes.{OnEach}
+use Rattle.iox_tables.specs.HubStates.Ends.{with_call, with_loan}
+use Rattle.iox_tables.specs.HubStates.States.{Given, fixed_of}
+use Rattle.iox_tables.specs.HubStates.Tables.{HandleState, HubTables, PortState}
+use Rattle.iox_tables.specs.HubStates.Ways.{lane_on}
 use Rattle.iox_hub_delivering.specs.Deliveries.{HasDelivered}
-use Rattle.iox_hub_lending.specs.Choosing.{IsFreeSlot}
-use Rattle.iox_hub_loans.specs.Counts.{has_all_active}
-use Rattle.iox_hub_loans.specs.Lenders.{lender_of_request}
-use Rattle.iox_hub_loans.specs.Slots.{with_contents}
+use Rattle.iox_tables.specs.HubLending.Choosing.{IsFreeSlot}
+use Rattle.iox_tables.specs.HubLoans.Counts.{has_all_active}
+use Rattle.iox_tables.specs.HubLoans.Lenders.{lender_of_request}
+use Rattle.iox_tables.specs.HubLoans.Slots.{with_contents}
 use Rattle.iox_control.specs.Controls.{ControlState, with_tables}
 use Rattle.iox_control_lending.specs.declared.asked.Asked.{Asked}
 use Rattle.iox_control_lending.specs.declared.asked.Loaned.{Loaned}

@@ -1,6 +1,6 @@
 //! The copy of a request that is lost.
 ghost use Rattle.std.specs.Prelude.{◌≡◌, Some};
-ghost use Rattle.iox_hub_states.specs.Tables.{PortState, port_in};
+ghost use Rattle.iox_tables.specs.HubStates.Tables.{PortState, port_in};
 ghost use Rattle.iox_control.specs.Controls.{IsControl};
 ghost use Rattle.iox_control_request_copies.specs.Copies.{Loses};
 

@@ -1,15 +1,15 @@
 //! A request that is lent is sent at once.
 ghost use Rattle.std.specs.Prelude.{◌≡◌, ◌<◌, ◌≤◌, ◌^◌, Some, [], false, length, true};
 ghost use Rattle.iox_hub_delivering.specs.Deliveries.{HasDelivered};
-ghost use Rattle.iox_hub_loans.specs.Lenders.{IsClient};
-ghost use Rattle.iox_hub_states.specs.Changes.{OnEach};
-ghost use Rattle.iox_hub_states.specs.Ends.{with_call, with_changed};
-ghost use Rattle.iox_hub_states.specs.Releases.{pending_states, request_of};
-ghost use Rattle.iox_hub_states.specs.Sendings.{pending_of};
-ghost use Rattle.iox_hub_states.specs.Sends.{with_opened};
-ghost use Rattle.iox_hub_states.specs.Tables.{PortState, port_in};
-ghost use Rattle.iox_hub_states.specs.Ways.{lane_on};
-ghost use Rattle.iox_hub_states.specs.Wirings.{IsHandle};
+ghost use Rattle.iox_tables.specs.HubLoans.Lenders.{IsClient};
+ghost use Rattle.iox_tables.specs.HubStates.Changes.{OnEach};
+ghost use Rattle.iox_tables.specs.HubStates.Ends.{with_call, with_changed};
+ghost use Rattle.iox_tables.specs.HubStates.Releases.{pending_states, request_of};
+ghost use Rattle.iox_tables.specs.HubStates.Sendings.{pending_of};
+ghost use Rattle.iox_tables.specs.HubStates.Sends.{with_opened};
+ghost use Rattle.iox_tables.specs.HubStates.Tables.{PortState, port_in};
+ghost use Rattle.iox_tables.specs.HubStates.Ways.{lane_on};
+ghost use Rattle.iox_tables.specs.HubStates.Wirings.{IsHandle};
 ghost use Rattle.iox_lanes.specs.Lanes.{IsSound};
 ghost use Rattle.iox_model.specs.Handles.{is_request_loan};
 ghost use Rattle.iox_control.specs.Controls.{IsControl, with_tables};

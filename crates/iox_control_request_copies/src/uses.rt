@@ -1,5 +1,5 @@
 //! Callers of the copy of a request, proved from the clauses alone.
-ghost use Rattle.iox_hub_loans.specs.Lenders.{IsClient};
+ghost use Rattle.iox_tables.specs.HubLoans.Lenders.{IsClient};
 ghost use Rattle.iox_control.specs.Controls.{IsControl};
 
 use crate::{Copied, copy_request};

@@ -5,8 +5,8 @@ use Rattle.iox_model.specs.declared.kind.Kind.TheVariants.{PendingResponse}
 use Rattle.iox_model.specs.Handles.{same_kind}
 use Rattle.iox_handles.specs.declared.entry.Entry.{Entry}
 use Rattle.iox_handles.specs.Tables.{Contents, count_of, is_of}
-use Rattle.iox_hub_states.specs.Tables.{HandleState, HubSettings, HubTables}
-use Rattle.iox_hub_loans.specs.Counts.{has_all_active}
+use Rattle.iox_tables.specs.HubStates.Tables.{HandleState, HubSettings, HubTables}
+use Rattle.iox_tables.specs.HubLoans.Counts.{has_all_active}
 use Rattle.iox_control.specs.Entries.{handle_state, handles_of}
 
 -- the same handles pass

@@ -12,16 +12,16 @@ use Rattle.iox_model.specs.Handles.{is_request_loan, is_response_loan}
 use Rattle.iox_model.specs.Messages.{request_way}
 use Rattle.iox_model.specs.Settings.{same_role}
 use Rattle.iox_lanes.specs.Lanes.{IsSound, LaneState, is_full}
-use Rattle.iox_hub_states.specs.Changes.{OnEach, with_lanes}
-use Rattle.iox_hub_states.specs.Tables.{HandleState, PoolState, PortState, slot_at}
-use Rattle.iox_hub_states.specs.Ways.{OnWays, lane_on, with_lane_on, with_lanes_on}
-use Rattle.iox_hub_states.specs.Wirings.{IsHandle}
+use Rattle.iox_tables.specs.HubStates.Changes.{OnEach, with_lanes}
+use Rattle.iox_tables.specs.HubStates.Tables.{HandleState, PoolState, PortState, slot_at}
+use Rattle.iox_tables.specs.HubStates.Ways.{OnWays, lane_on, with_lane_on, with_lanes_on}
+use Rattle.iox_tables.specs.HubStates.Wirings.{IsHandle}
 use Rattle.iox_hub_ports.specs.Ports.{on_way_at, way_from, with_lane_at}
-use Rattle.iox_hub_books.specs.Hubs.{AreInOrder}
-use Rattle.iox_hub_books.specs.Keeps.{AreTargetsOf, delivers}
-use Rattle.iox_hub_books.specs.Rooms.{CanCountHolders}
-use Rattle.iox_hub_books.proofs.Delivering.{lane_elsewhere}
-use Rattle.iox_hub_books.proofs.Targets.{each_has_its_targets}
+use Rattle.iox_tables.specs.HubBooks.Hubs.{AreInOrder}
+use Rattle.iox_tables.specs.HubBooks.Keeps.{AreTargetsOf, delivers}
+use Rattle.iox_tables.specs.HubBooks.Rooms.{CanCountHolders}
+use Rattle.iox_tables.proofs.HubBooks.Delivering.{lane_elsewhere}
+use Rattle.iox_tables.proofs.HubBooks.Targets.{each_has_its_targets}
 use Rattle.iox_slots.specs.Pools.{with_slot}
 use Rattle.iox_slots.specs.Slots.{held}
 use Rattle.iox_hub_delivering.specs.Deliveries.{HasDelivered, pushed_out_by}

@@ -10,24 +10,24 @@ use Rattle.iox_model.specs.declared.way.Way.{Way}
 use Rattle.iox_model.specs.Handles.{is_request_loan, is_response_loan, same_kind}
 use Rattle.iox_model.specs.Maps.{has_way, same_way}
 use Rattle.iox_model.specs.Messages.{request_way, response_way}
-use Rattle.iox_weave_laws.proofs.MapLemmas.{is_in-first}
+use Rattle.iox_laws.proofs.WeaveLaws.MapLemmas.{is_in-first}
 use Rattle.iox_lanes.specs.Lanes.{IsSound, LaneState}
-use Rattle.iox_hub_states.specs.Changes.{emptied_lane, with_lanes, OnEach}
+use Rattle.iox_tables.specs.HubStates.Changes.{emptied_lane, with_lanes, OnEach}
 use Rattle.iox_lanes.specs.declared.wanted.Label.{Label}
-use Rattle.iox_hub_states.specs.Ends.{with_call, with_changed, with_dropped}
-use Rattle.iox_hub_states.specs.Sendings.{pending_of}
-use Rattle.iox_hub_states.specs.Sends.{with_opened}
-use Rattle.iox_hub_states.specs.Tables.{HandleState, HubTables, PoolState, PortState, SlotState, labels_of, port_in, slot_at}
-use Rattle.iox_hub_states.specs.Ways.{lane_on, with_lane_on, with_lanes_on}
-use Rattle.iox_hub_states.specs.Wirings.{IsHandle, numbers_of_role}
-use Rattle.iox_hub_states.proofs.Fixing.{first_key}
-use Rattle.iox_hub_states.proofs.Keys.{at_is, lane_turned}
-use Rattle.iox_hub_loans.specs.Lenders.{ways_by}
-use Rattle.iox_hub_lending.specs.Emptying.{with_back}
-use Rattle.iox_hub_books.specs.Handles.{IsOfPort}
-use Rattle.iox_hub_books.specs.Keeps.{bare_pools, delivers}
-use Rattle.iox_hub_books.proofs.Frames.{lanes_on_bare}
-use Rattle.iox_hub_books.proofs.Structures.{slot_bare}
+use Rattle.iox_tables.specs.HubStates.Ends.{with_call, with_changed, with_dropped}
+use Rattle.iox_tables.specs.HubStates.Sendings.{pending_of}
+use Rattle.iox_tables.specs.HubStates.Sends.{with_opened}
+use Rattle.iox_tables.specs.HubStates.Tables.{HandleState, HubTables, PoolState, PortState, SlotState, labels_of, port_in, slot_at}
+use Rattle.iox_tables.specs.HubStates.Ways.{lane_on, with_lane_on, with_lanes_on}
+use Rattle.iox_tables.specs.HubStates.Wirings.{IsHandle, numbers_of_role}
+use Rattle.iox_tables.proofs.HubStates.Fixing.{first_key}
+use Rattle.iox_tables.proofs.HubStates.Keys.{at_is, lane_turned}
+use Rattle.iox_tables.specs.HubLoans.Lenders.{ways_by}
+use Rattle.iox_tables.specs.HubLending.Emptying.{with_back}
+use Rattle.iox_tables.specs.HubBooks.Handles.{IsOfPort}
+use Rattle.iox_tables.specs.HubBooks.Keeps.{bare_pools, delivers}
+use Rattle.iox_tables.proofs.HubBooks.Frames.{lanes_on_bare}
+use Rattle.iox_tables.proofs.HubBooks.Structures.{slot_bare}
 use Rattle.iox_hub_delivering.proofs.Before.{named_stays}
 use Rattle.iox_control.specs.Controls.{ControlState, IsControl, with_tables}
 use Rattle.iox_control_ending.specs.Endings.{IsLoan, with_ended}

@@ -4,11 +4,11 @@ use Rattle.std.specs.Option.{option_map_or}
 use Rattle.std.proofs.Common.{sym, ap, ◌∙◌, true≢false}
 use Rattle.iox_model.specs.declared.way.Way.{Way}
 use Rattle.iox_model.specs.Maps.{has_way, not_in, same_way}
-use Rattle.iox_weave_laws.proofs.MapLemmas.{is_in-first, same_way-true}
+use Rattle.iox_laws.proofs.WeaveLaws.MapLemmas.{is_in-first, same_way-true}
 use Rattle.iox_lanes.specs.Lanes.{LaneState, is_full}
-use Rattle.iox_hub_states.specs.Steps.{full_in}
-use Rattle.iox_hub_states.specs.Tables.{PortState}
-use Rattle.iox_hub_states.specs.Ways.{OnWays, lane_on}
+use Rattle.iox_tables.specs.HubStates.Steps.{full_in}
+use Rattle.iox_tables.specs.HubStates.Tables.{PortState}
+use Rattle.iox_tables.specs.HubStates.Ways.{OnWays, lane_on}
 use Rattle.iox_control_requests.specs.Deliveries.{ways_that_get}
 use Rattle.iox_control_requests.specs.Servers.{is_full_on}
 

@@ -3,12 +3,12 @@ use Rattle.std.specs.Prelude.{◌≡◌, ℕ, Bool, true, false, List, Option, S
 use Rattle.std.specs.Option.{option_map_or}
 use Rattle.std.proofs.Common.{sym, ap, ◌∙◌}
 use Rattle.iox_lanes.specs.Lanes.{LaneState, IsSound, is_full, offered}
-use Rattle.iox_hub_states.specs.Tables.{HandleState, PoolState, PortState}
-use Rattle.iox_hub_states.specs.Ways.{lane_on, with_lane_on}
+use Rattle.iox_tables.specs.HubStates.Tables.{HandleState, PoolState, PortState}
+use Rattle.iox_tables.specs.HubStates.Ways.{lane_on, with_lane_on}
 use Rattle.iox_hub_ports.specs.Ports.{on_way, on_way_at, pushed, pushed_out, way_from, with_lane_at}
 use Rattle.iox_hub_phases.specs.Phases.{DoSame}
 use Rattle.iox_hub_phases.proofs.Agreeing.{way_agree}
-use Rattle.iox_hub_books.specs.Keeps.{delivers}
+use Rattle.iox_tables.specs.HubBooks.Keeps.{delivers}
 use Rattle.iox_slots.specs.Pools.{with_slot}
 use Rattle.iox_slots.specs.Slots.{held, let_go}
 use Rattle.iox_hub_delivering.specs.Deliveries.{pushed_out_by}

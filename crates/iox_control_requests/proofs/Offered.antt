@@ -11,19 +11,19 @@ use Rattle.iox_model.specs.declared.way.Way.{Way}
 use Rattle.iox_model.specs.Handles.{is_request_loan}
 use Rattle.iox_model.specs.States as m
 use Rattle.iox_model.specs.WholeCalls.{IsWholeCall}
-use Rattle.iox_call_functions.specs.LoanSends.{loan_sent_by}
-use Rattle.iox_hub_states.specs.Tables.{HandleState, HubTables, PoolState}
-use Rattle.iox_hub_states.specs.Ways.{lane_on}
-use Rattle.iox_hub_states.specs.Changes.{OnEach}
-use Rattle.iox_hub_states.specs.Ends.{with_dropped}
-use Rattle.iox_hub_states.specs.States.{Given, state_shown}
-use Rattle.iox_hub_states.specs.Wirings.{IsHandle, handle_in}
-use Rattle.iox_hub_states.proofs.Naming.{handle_node, handle_number}
-use Rattle.iox_hub_books.specs.Handles.{is_loan}
-use Rattle.iox_hub_books.specs.Keeps.{bare_pools}
-use Rattle.iox_hub_books.proofs.Rooms.{bare_pools_show_the_same}
-use Rattle.iox_hub_loans.specs.Counts.{has_all_active}
-use Rattle.iox_hub_making.specs.Disconnections.{is_unused, with_disconnected, with_released}
+use Rattle.iox_laws.specs.CallFunctions.LoanSends.{loan_sent_by}
+use Rattle.iox_tables.specs.HubStates.Tables.{HandleState, HubTables, PoolState}
+use Rattle.iox_tables.specs.HubStates.Ways.{lane_on}
+use Rattle.iox_tables.specs.HubStates.Changes.{OnEach}
+use Rattle.iox_tables.specs.HubStates.Ends.{with_dropped}
+use Rattle.iox_tables.specs.HubStates.States.{Given, state_shown}
+use Rattle.iox_tables.specs.HubStates.Wirings.{IsHandle, handle_in}
+use Rattle.iox_tables.proofs.HubStates.Naming.{handle_node, handle_number}
+use Rattle.iox_tables.specs.HubBooks.Handles.{is_loan}
+use Rattle.iox_tables.specs.HubBooks.Keeps.{bare_pools}
+use Rattle.iox_tables.proofs.HubBooks.Rooms.{bare_pools_show_the_same}
+use Rattle.iox_tables.specs.HubLoans.Counts.{has_all_active}
+use Rattle.iox_tables.specs.HubMaking.Disconnections.{is_unused, with_disconnected, with_released}
 use Rattle.iox_control.specs.Controls.{ControlState, IsControl}
 use Rattle.iox_control.specs.Entries.{handle_state}
 use Rattle.iox_control_ending.specs.Endings.{IsLoan, with_ended}

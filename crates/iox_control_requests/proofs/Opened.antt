@@ -10,23 +10,23 @@ use Rattle.iox_model.specs.Handles.{is_own, is_request_loan, is_response_loan, s
 use Rattle.iox_model.specs.Messages.{request_way, response_way}
 use Rattle.iox_lanes.specs.declared.wanted.Label.{Label}
 use Rattle.iox_lanes.specs.Pipes.{with_state}
-use Rattle.iox_hub_states.specs.Changes.{with_lanes, with_states, OnEach}
-use Rattle.iox_hub_states.specs.Ends.{with_call, with_changed}
-use Rattle.iox_hub_states.specs.Releases.{pending_states, request_of}
-use Rattle.iox_hub_states.specs.Sendings.{pending_of}
-use Rattle.iox_hub_states.specs.Sends.{with_opened}
+use Rattle.iox_tables.specs.HubStates.Changes.{with_lanes, with_states, OnEach}
+use Rattle.iox_tables.specs.HubStates.Ends.{with_call, with_changed}
+use Rattle.iox_tables.specs.HubStates.Releases.{pending_states, request_of}
+use Rattle.iox_tables.specs.HubStates.Sendings.{pending_of}
+use Rattle.iox_tables.specs.HubStates.Sends.{with_opened}
 use Rattle.iox_model.specs.Maps.{not_in}
-use Rattle.iox_hub_states.specs.Steps.{full_in}
-use Rattle.iox_hub_states.specs.Tables.{HandleState, HubTables, PoolState, PortState, labels_of}
-use Rattle.iox_hub_states.specs.Ways.{OnWays, lane_on, with_pipe_of, with_state_on, with_states_on}
-use Rattle.iox_hub_states.specs.Wirings.{IsHandle, numbers_of_role}
+use Rattle.iox_tables.specs.HubStates.Steps.{full_in}
+use Rattle.iox_tables.specs.HubStates.Tables.{HandleState, HubTables, PoolState, PortState, labels_of}
+use Rattle.iox_tables.specs.HubStates.Ways.{OnWays, lane_on, with_pipe_of, with_state_on, with_states_on}
+use Rattle.iox_tables.specs.HubStates.Wirings.{IsHandle, numbers_of_role}
 use Rattle.iox_lanes.specs.Lanes.{LaneState}
-use Rattle.iox_hub_states.proofs.Keys.{all_lanes_stay, same_mapped}
-use Rattle.iox_hub_books.specs.Keeps.{AreTargetsOf, delivers}
-use Rattle.iox_hub_books.specs.Rooms.{may_come, most_holders}
-use Rattle.iox_hub_books.proofs.Frames.{AreAlike, lanes_on_bare, states_on_bare}
-use Rattle.iox_hub_books.proofs.Little.{little_changes_keep_order}
-use Rattle.iox_hub_books.proofs.Targets.{each_has_its_targets}
+use Rattle.iox_tables.proofs.HubStates.Keys.{all_lanes_stay, same_mapped}
+use Rattle.iox_tables.specs.HubBooks.Keeps.{AreTargetsOf, delivers}
+use Rattle.iox_tables.specs.HubBooks.Rooms.{may_come, most_holders}
+use Rattle.iox_tables.proofs.HubBooks.Frames.{AreAlike, lanes_on_bare, states_on_bare}
+use Rattle.iox_tables.proofs.HubBooks.Little.{little_changes_keep_order}
+use Rattle.iox_tables.proofs.HubBooks.Targets.{each_has_its_targets}
 use Rattle.iox_hub_delivering.specs.Counts.{AreCountedBy, NeedsAsMuch, SendsAreCounted}
 use Rattle.iox_hub_delivering.specs.Deliveries.{HasDelivered}
 use Rattle.iox_hub_delivering.proofs.Before.{named_stays}

@@ -3,9 +3,9 @@ use Rattle.std.specs.Prelude.{◌≡◌, ℕ, List, Option, Some, refl}
 use Rattle.std.proofs.Common.{sym, ap, ◌∙◌}
 use Rattle.std.proofs.lemmas.Option.{same_Some}
 use Rattle.iox_handles.specs.declared.entry.Entry.{Entry}
-use Rattle.iox_hub_states.specs.Tables.{HandleState, HubTables, PoolState}
-use Rattle.iox_hub_states.specs.States.{Given, state_shown}
-use Rattle.iox_hub_states.specs.Wirings.{handle_in}
+use Rattle.iox_tables.specs.HubStates.Tables.{HandleState, HubTables, PoolState}
+use Rattle.iox_tables.specs.HubStates.States.{Given, state_shown}
+use Rattle.iox_tables.specs.HubStates.Wirings.{handle_in}
 use Rattle.iox_control.specs.Entries.{handle_state}
 use Rattle.iox_control_requests.specs.declared.requested.Requested.{Requested}
 use Rattle.iox_control_requests.specs.declared.requested.Requested.TheVariants.{To, ExceedsMaxActiveRequests, UnableToDeliver}

@@ -3,11 +3,11 @@ use Rattle.std.specs.Prelude.{◌≡◌, suc, ◌≤◌, Bool, true, false, ◌|
 use Rattle.std.proofs.Common.{sym, ap, ◌∙◌, arith, true≢false}
 use Rattle.iox_model.specs.declared.way.Way.{Way}
 use Rattle.iox_model.specs.Maps.{AreApart, has_way, same_way}
-use Rattle.iox_weave_laws.proofs.MapLemmas.{same_way-flip}
-use Rattle.iox_hub_states.specs.Changes.{OnEach}
-use Rattle.iox_hub_states.specs.Tables.{HandleState, HubTables}
-use Rattle.iox_hub_states.specs.Ways.{OnWays}
-use Rattle.iox_hub_books.specs.Keeps.{AreTargetsOf}
+use Rattle.iox_laws.proofs.WeaveLaws.MapLemmas.{same_way-flip}
+use Rattle.iox_tables.specs.HubStates.Changes.{OnEach}
+use Rattle.iox_tables.specs.HubStates.Tables.{HandleState, HubTables}
+use Rattle.iox_tables.specs.HubStates.Ways.{OnWays}
+use Rattle.iox_tables.specs.HubBooks.Keeps.{AreTargetsOf}
 
 or_left : (a b : Bool) → a ≡ true → (a || b) ≡ true
 or_left true b e = refl

@@ -6,7 +6,7 @@ use Rattle.std.proofs.lemmas.List.{length-drop}
 use Rattle.iox_lanes.specs.Lanes.{LaneState, IsSound, delivered, has_room, is_full, offered, oldest, outstanding, without_oldest}
 use Rattle.iox_hub_ports.specs.Ports.{pushed, pushed_out, with_one_out}
 use Rattle.iox_hub_ports.proofs.Pushes.{pushed_where_room}
-use Rattle.iox_hub_books.specs.Keeps.{delivers}
+use Rattle.iox_tables.specs.HubBooks.Keeps.{delivers}
 use Rattle.iox_hub_delivering.specs.Deliveries.{pushed_out_by}
 use Rattle.iox_control_requests.specs.Deliveries.{CanTake}
 

@@ -13,12 +13,12 @@ use Rattle.iox_model.specs.Messages.{request_way}
 use Rattle.iox_model.specs.Settings.{same_role}
 use Rattle.iox_lanes.specs.Lanes.{LaneState}
 use Rattle.iox_lanes.specs.Pipes.{PipeState, with_lane}
-use Rattle.iox_hub_states.specs.Steps.{full_in}
+use Rattle.iox_tables.specs.HubStates.Steps.{full_in}
 use Rattle.iox_model.specs.Maps.{has_number}
-use Rattle.iox_hub_states.specs.Tables.{PortState, senders_of}
-use Rattle.iox_hub_states.specs.Ways.{lane_on, with_lane_on, with_lanes_on, with_pipe_from, with_pipe_of, with_pipes}
-use Rattle.iox_hub_states.specs.Wirings.{numbers_of_role}
-use Rattle.iox_hub_states.proofs.Keys.{same_mapped}
+use Rattle.iox_tables.specs.HubStates.Tables.{PortState, senders_of}
+use Rattle.iox_tables.specs.HubStates.Ways.{lane_on, with_lane_on, with_lanes_on, with_pipe_from, with_pipe_of, with_pipes}
+use Rattle.iox_tables.specs.HubStates.Wirings.{numbers_of_role}
+use Rattle.iox_tables.proofs.HubStates.Keys.{same_mapped}
 use Rattle.iox_hub_ports.specs.Ports.{on_way_at, on_way, way_from, with_lane_at}
 use Rattle.iox_control_requests.specs.Servers.{fails_on, is_full_on, request_ways, server_in}
 

@@ -3,7 +3,7 @@ use Rattle.std.specs.Prelude.{◌≡◌, ℕ, ◌^◌, ◌≤◌, ◌<◌, Bool,
 use Rattle.std.specs.List.{list_any}
 use Rattle.std.specs.Option.{option_map_or}
 use Rattle.std.proofs.Common.{sym, ap, ap₂, subst, ◌∙◌, arith, true≢false}
-use Rattle.iox_hub_books.proofs.Frames.{length_map}
+use Rattle.iox_tables.proofs.HubBooks.Frames.{length_map}
 use Rattle.std.proofs.lemmas.Option.{same_Some}
 use Rattle.iox_model.specs.declared.call.Call.TheVariants.{Send}
 use Rattle.iox_model.specs.declared.kind.Kind.TheVariants.{RequestMut}
@@ -23,40 +23,40 @@ use Rattle.iox_model.specs.Responses.{sends_response}
 use Rattle.iox_model.specs.Settings.{overflow_of}
 use Rattle.iox_model.specs.States as m
 use Rattle.iox_model.specs.WholeCalls.{IsWholeCall}
-use Rattle.iox_weave_laws.proofs.MapLemmas.{others_are_all}
-use Rattle.iox_call_functions.specs.Answers.{of_handle}
-use Rattle.iox_call_functions.specs.LoanSends.{MaySend, loan_sent_by, requested, sending_ways, sent_of}
-use Rattle.iox_call_functions.specs.Overflows.{NotOver, sent_over}
-use Rattle.iox_call_functions.specs.Responses.{responded}
-use Rattle.iox_call_functions.specs.Sends.{sent}
-use Rattle.iox_call_functions.proofs.Leads.{Leads, NoPayload, ample, at_end, is_whole, one_of}
-use Rattle.iox_call_functions.proofs.LoanSending.{each_loan_send_is_whole}
+use Rattle.iox_laws.proofs.WeaveLaws.MapLemmas.{others_are_all}
+use Rattle.iox_laws.specs.CallFunctions.Answers.{of_handle}
+use Rattle.iox_laws.specs.CallFunctions.LoanSends.{MaySend, loan_sent_by, requested, sending_ways, sent_of}
+use Rattle.iox_laws.specs.CallFunctions.Overflows.{NotOver, sent_over}
+use Rattle.iox_laws.specs.CallFunctions.Responses.{responded}
+use Rattle.iox_laws.specs.CallFunctions.Sends.{sent}
+use Rattle.iox_laws.proofs.CallFunctions.Leads.{Leads, NoPayload, ample, at_end, is_whole, one_of}
+use Rattle.iox_laws.proofs.CallFunctions.LoanSending.{each_loan_send_is_whole}
 use Rattle.iox_lanes.specs.Lanes.{LaneState}
-use Rattle.iox_hub_states.specs.Tables.{HandleState, HubTables}
-use Rattle.iox_hub_states.specs.Ways.{OnWays, lane_on}
-use Rattle.iox_hub_states.specs.Changes.{emptied_lane, with_lanes, OnEach}
-use Rattle.iox_hub_states.specs.Ends.{with_call, with_changed, with_dropped}
-use Rattle.iox_hub_states.specs.Releases.{handle_shown, lane_of, pending_states, request_of}
-use Rattle.iox_hub_states.specs.Sendings.{IsRequestToSend, pending_of, request_sending}
-use Rattle.iox_hub_states.specs.Sends.{MaySendFrom, with_opened}
-use Rattle.iox_hub_states.specs.Shown.{waiting_in}
-use Rattle.iox_hub_states.specs.States.{Given, fixed_of, message_of, state_shown}
-use Rattle.iox_hub_states.specs.Steps.{IsOpenToNew, full_in}
-use Rattle.iox_hub_states.specs.Wirings.{IsHandle, numbers_of_role}
-use Rattle.iox_hub_states.proofs.Fixing.{buffer_is, role_is, roles_are}
-use Rattle.iox_hub_states.proofs.Naming.{each_handle_is_named}
-use Rattle.iox_hub_books.specs.Handles.{IsOfPort}
-use Rattle.iox_hub_books.specs.Hubs.{AreInOrder}
-use Rattle.iox_hub_books.specs.Keeps.{delivers}
-use Rattle.iox_hub_books.proofs.Held.{each_handle_from}
-use Rattle.iox_hub_books.proofs.Sendable.{requests_may_be_sent}
-use Rattle.iox_hub_keeping.specs.Connected.{KeepsNone}
-use Rattle.iox_hub_keeping.proofs.Ordered.{no_expired}
-use Rattle.iox_hub_loans.specs.Counts.{AreOnNodes, IsOnNode, has_all_active}
-use Rattle.iox_hub_loans.proofs.Counting.{each_count_is_the_same}
-use Rattle.iox_hub_making.specs.Disconnections.{with_released}
-use Rattle.iox_hub_making.specs.WholeReleases.{answering, request_left}
-use Rattle.iox_hub_making.proofs.Ending.{request_sends_end, request_sends_over_end, spent_requests_end}
+use Rattle.iox_tables.specs.HubStates.Tables.{HandleState, HubTables}
+use Rattle.iox_tables.specs.HubStates.Ways.{OnWays, lane_on}
+use Rattle.iox_tables.specs.HubStates.Changes.{emptied_lane, with_lanes, OnEach}
+use Rattle.iox_tables.specs.HubStates.Ends.{with_call, with_changed, with_dropped}
+use Rattle.iox_tables.specs.HubStates.Releases.{handle_shown, lane_of, pending_states, request_of}
+use Rattle.iox_tables.specs.HubStates.Sendings.{IsRequestToSend, pending_of, request_sending}
+use Rattle.iox_tables.specs.HubStates.Sends.{MaySendFrom, with_opened}
+use Rattle.iox_tables.specs.HubStates.Shown.{waiting_in}
+use Rattle.iox_tables.specs.HubStates.States.{Given, fixed_of, message_of, state_shown}
+use Rattle.iox_tables.specs.HubStates.Steps.{IsOpenToNew, full_in}
+use Rattle.iox_tables.specs.HubStates.Wirings.{IsHandle, numbers_of_role}
+use Rattle.iox_tables.proofs.HubStates.Fixing.{buffer_is, role_is, roles_are}
+use Rattle.iox_tables.proofs.HubStates.Naming.{each_handle_is_named}
+use Rattle.iox_tables.specs.HubBooks.Handles.{IsOfPort}
+use Rattle.iox_tables.specs.HubBooks.Hubs.{AreInOrder}
+use Rattle.iox_tables.specs.HubBooks.Keeps.{delivers}
+use Rattle.iox_tables.proofs.HubBooks.Held.{each_handle_from}
+use Rattle.iox_tables.proofs.HubBooks.Sendable.{requests_may_be_sent}
+use Rattle.iox_tables.specs.HubKeeping.Connected.{KeepsNone}
+use Rattle.iox_tables.proofs.HubKeeping.Ordered.{no_expired}
+use Rattle.iox_tables.specs.HubLoans.Counts.{AreOnNodes, IsOnNode, has_all_active}
+use Rattle.iox_tables.proofs.HubLoans.Counting.{each_count_is_the_same}
+use Rattle.iox_tables.specs.HubMaking.Disconnections.{with_released}
+use Rattle.iox_tables.specs.HubMaking.WholeReleases.{answering, request_left}
+use Rattle.iox_tables.proofs.HubMaking.Ending.{request_sends_end, request_sends_over_end, spent_requests_end}
 use Rattle.iox_control.proofs.WholeLemmas.{is_whole_of}
 use Rattle.iox_control_requests.specs.Deliveries.{ways_that_get}
 use Rattle.iox_control_requests.specs.Requests.{is_failing, ways_of, with_request_sent, with_requests_back}

@@ -3,11 +3,11 @@ use Rattle.std.specs.Prelude.{◌≡◌, ℕ, ◌-◌, ◌<◌, ◌≤◌, ◌^�
 use Rattle.iox_model.specs.declared.way.Way.{Way}
 use Rattle.iox_model.specs.Maps.{not_in}
 use Rattle.iox_lanes.specs.Lanes.{LaneState}
-use Rattle.iox_hub_states.specs.Steps.{full_in}
-use Rattle.iox_hub_states.specs.Tables.{HandleState, PortState}
-use Rattle.iox_hub_states.specs.Ways.{lane_on}
+use Rattle.iox_tables.specs.HubStates.Steps.{full_in}
+use Rattle.iox_tables.specs.HubStates.Tables.{HandleState, PortState}
+use Rattle.iox_tables.specs.HubStates.Ways.{lane_on}
 use Rattle.iox_hub_ports.specs.Ports.{on_way_at, with_lane_at}
-use Rattle.iox_hub_books.specs.Keeps.{delivers}
+use Rattle.iox_tables.specs.HubBooks.Keeps.{delivers}
 use Rattle.iox_slots.specs.Pools.{with_slot}
 use Rattle.iox_slots.specs.Slots.{held}
 use Rattle.iox_hub_delivering.specs.Deliveries.{pushed_out_by}

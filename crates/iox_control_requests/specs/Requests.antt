@@ -2,15 +2,15 @@
 use Rattle.std.specs.Prelude.{ℕ, Bool, not, ◌&&◌, List, [], length}
 use Rattle.std.specs.List.{list_any}
 use Rattle.iox_model.specs.declared.way.Way.{Way}
-use Rattle.iox_hub_states.specs.Tables.{HandleState, HubTables, PortState}
-use Rattle.iox_hub_states.specs.Changes.{emptied_lane, with_lanes}
-use Rattle.iox_hub_states.specs.Ends.{with_call, with_changed}
-use Rattle.iox_hub_states.specs.Releases.{pending_states, request_of}
-use Rattle.iox_hub_states.specs.Sendings.{pending_of}
-use Rattle.iox_hub_states.specs.Sends.{with_opened}
-use Rattle.iox_hub_states.specs.Steps.{full_in}
-use Rattle.iox_hub_states.specs.Ways.{lane_on}
-use Rattle.iox_hub_books.specs.Keeps.{delivers}
+use Rattle.iox_tables.specs.HubStates.Tables.{HandleState, HubTables, PortState}
+use Rattle.iox_tables.specs.HubStates.Changes.{emptied_lane, with_lanes}
+use Rattle.iox_tables.specs.HubStates.Ends.{with_call, with_changed}
+use Rattle.iox_tables.specs.HubStates.Releases.{pending_states, request_of}
+use Rattle.iox_tables.specs.HubStates.Sendings.{pending_of}
+use Rattle.iox_tables.specs.HubStates.Sends.{with_opened}
+use Rattle.iox_tables.specs.HubStates.Steps.{full_in}
+use Rattle.iox_tables.specs.HubStates.Ways.{lane_on}
+use Rattle.iox_tables.specs.HubBooks.Keeps.{delivers}
 use Rattle.iox_control_requests.specs.Deliveries.{ways_that_get}
 use Rattle.iox_control_requests.specs.Servers.{request_ways}
 

@@ -6,12 +6,12 @@ use Rattle.iox_model.specs.declared.reply.Reply.TheVariants as replies
 use Rattle.iox_model.specs.declared.way.Way.{Way}
 use Rattle.iox_model.specs.Commands.{Reply}
 use Rattle.iox_model.specs.Requests.{fails_at}
-use Rattle.iox_hub_states.specs.Tables.{HandleState, HubTables}
-use Rattle.iox_hub_states.specs.Ends.{with_dropped}
-use Rattle.iox_hub_states.specs.States.{Given, fixed_of}
-use Rattle.iox_hub_states.specs.Wirings.{IsHandle}
-use Rattle.iox_hub_loans.specs.Counts.{has_all_active}
-use Rattle.iox_hub_making.specs.Disconnections.{with_released}
+use Rattle.iox_tables.specs.HubStates.Tables.{HandleState, HubTables}
+use Rattle.iox_tables.specs.HubStates.Ends.{with_dropped}
+use Rattle.iox_tables.specs.HubStates.States.{Given, fixed_of}
+use Rattle.iox_tables.specs.HubStates.Wirings.{IsHandle}
+use Rattle.iox_tables.specs.HubLoans.Counts.{has_all_active}
+use Rattle.iox_tables.specs.HubMaking.Disconnections.{with_released}
 use Rattle.iox_control_requests.specs.declared.requested.Requested.{Requested}
 use Rattle.iox_control_requests.specs.declared.requested.Requested.TheVariants.{To, ExceedsMaxActiveRequests, UnableToDeliver}
 use Rattle.iox_control_requests.specs.Requests.{is_failing, ways_of, with_request_sent, with_requests_back}

@@ -6,8 +6,8 @@ use Rattle.iox_model.specs.declared.way.Way.{Way}
 use Rattle.iox_model.specs.Messages.{request_way}
 use Rattle.iox_model.specs.Settings.{same_role}
 use Rattle.iox_lanes.specs.Lanes.{is_full}
-use Rattle.iox_hub_states.specs.Tables.{PortState}
-use Rattle.iox_hub_states.specs.Wirings.{numbers_of_role}
+use Rattle.iox_tables.specs.HubStates.Tables.{PortState}
+use Rattle.iox_tables.specs.HubStates.Wirings.{numbers_of_role}
 use Rattle.iox_hub_ports.specs.Ports.{on_way}
 
 -- the number of the port in that place, if it is a server

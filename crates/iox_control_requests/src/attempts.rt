@@ -1,12 +1,12 @@
 //! The send of a loaned request of a client that may have one more pending response, up to the
 //! disconnection that may follow where it fails.
 ghost use Rattle.std.specs.Prelude.{◌≡◌, ◌<◌, ◌≤◌, ◌^◌, None, Some, length, true, is_none, ℕ};
-ghost use Rattle.iox_hub_books.specs.Keeps.{bare_pools};
-ghost use Rattle.iox_hub_states.specs.Changes.{OnEach};
-ghost use Rattle.iox_hub_states.specs.Ways.{lane_on};
+ghost use Rattle.iox_tables.specs.HubBooks.Keeps.{bare_pools};
+ghost use Rattle.iox_tables.specs.HubStates.Changes.{OnEach};
+ghost use Rattle.iox_tables.specs.HubStates.Ways.{lane_on};
 ghost use Rattle.iox_control_requests.specs.Servers.{request_ways};
-ghost use Rattle.iox_hub_states.specs.Ends.{with_dropped};
-ghost use Rattle.iox_hub_states.specs.Wirings.{IsHandle};
+ghost use Rattle.iox_tables.specs.HubStates.Ends.{with_dropped};
+ghost use Rattle.iox_tables.specs.HubStates.Wirings.{IsHandle};
 ghost use Rattle.iox_model.specs.Handles.{is_request_loan};
 ghost use Rattle.iox_control.specs.Controls.{IsControl};
 ghost use Rattle.iox_control.specs.Entries.{handle_state};

@@ -1,6 +1,6 @@
 //! Whether a client may send one request more.
 ghost use Rattle.std.specs.Prelude.{◌≡◌};
-ghost use Rattle.iox_hub_loans.specs.Counts.{has_all_active};
+ghost use Rattle.iox_tables.specs.HubLoans.Counts.{has_all_active};
 
 use iox_control::Control;
 use iox_model::kind::Kind;

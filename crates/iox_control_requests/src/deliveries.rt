@@ -1,14 +1,14 @@
 //! The delivery of a request to all servers.
 ghost use Rattle.std.specs.Prelude.{◌≡◌, ◌<◌, ◌-◌, ◌^◌, ◌||◌, None, Some, length, not, slice_get, true};
 ghost use Rattle.std.specs.Bool.{OnFalse, OnTrue};
-ghost use Rattle.iox_hub_books.specs.Keeps.{delivers};
+ghost use Rattle.iox_tables.specs.HubBooks.Keeps.{delivers};
 ghost use Rattle.iox_hub_delivering.specs.Deliveries.{HasDelivered};
 ghost use Rattle.iox_hub_delivering.specs.Steps.{with_out};
 ghost use Rattle.iox_hub_ports.specs.Ports.{on_way_at, pushed, pushed_out, way_from, with_lane_at};
-ghost use Rattle.iox_hub_states.specs.Changes.{OnEach, with_lanes};
-ghost use Rattle.iox_hub_states.specs.Tables.{PortState, slot_at};
-ghost use Rattle.iox_hub_states.specs.Ways.{lane_on};
-ghost use Rattle.iox_hub_states.specs.Wirings.{IsHandle};
+ghost use Rattle.iox_tables.specs.HubStates.Changes.{OnEach, with_lanes};
+ghost use Rattle.iox_tables.specs.HubStates.Tables.{PortState, slot_at};
+ghost use Rattle.iox_tables.specs.HubStates.Ways.{lane_on};
+ghost use Rattle.iox_tables.specs.HubStates.Wirings.{IsHandle};
 ghost use Rattle.iox_lanes.specs.Lanes.{IsSound, LaneState, is_full};
 ghost use Rattle.iox_model.specs.Handles.{is_request_loan};
 ghost use Rattle.iox_control.specs.Controls.{IsControl, with_tables};

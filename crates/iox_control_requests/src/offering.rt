@@ -2,10 +2,10 @@
 ghost use Rattle.std.specs.Prelude.{◌≡◌, ◌<◌, ◌^◌, Some};
 ghost use Rattle.iox_model.specs.WholeCalls.{IsWholeCall};
 ghost use Rattle.iox_model.specs.declared.call.Call.TheVariants.{Send};
-ghost use Rattle.iox_hub_states.specs.States.{Given, state_shown};
-ghost use Rattle.iox_hub_states.specs.Tables.{HandleState, HubTables};
-ghost use Rattle.iox_hub_states.specs.Wirings.{handle_in};
-ghost use Rattle.iox_hub_books.specs.Keeps.{bare_pools};
+ghost use Rattle.iox_tables.specs.HubStates.States.{Given, state_shown};
+ghost use Rattle.iox_tables.specs.HubStates.Tables.{HandleState, HubTables};
+ghost use Rattle.iox_tables.specs.HubStates.Wirings.{handle_in};
+ghost use Rattle.iox_tables.specs.HubBooks.Keeps.{bare_pools};
 ghost use Rattle.iox_control.specs.Controls.{IsControl};
 ghost use Rattle.iox_control_requests.specs.Sendings.{AreFailures, IsRequest, reply_of_send, request_outcome, with_lost_released, with_request_ended};
 

@@ -1,8 +1,8 @@
 //! The servers of a hub, by their places.
 ghost use Rattle.std.specs.Prelude.{◌≡◌, Some, [], is_some};
 ghost use Rattle.std.specs.List.{list_any};
-ghost use Rattle.iox_hub_states.specs.Steps.{full_in};
-ghost use Rattle.iox_hub_states.specs.Ways.{lane_on};
+ghost use Rattle.iox_tables.specs.HubStates.Steps.{full_in};
+ghost use Rattle.iox_tables.specs.HubStates.Ways.{lane_on};
 ghost use Rattle.iox_control_requests.specs.Servers.{fails_on, request_ways, server_in};
 ghost use Rattle.iox_model.specs.Messages.{request_way};
 

@@ -9,14 +9,14 @@ use Rattle.iox_model.specs.declared.kind.Role.TheVariants.{Client, Server}
 use Rattle.iox_model.specs.declared.way.RequestState.{RequestState}
 use Rattle.iox_model.specs.Messages.{names, response_way}
 use Rattle.iox_model.specs.Settings.{is_client}
-use Rattle.iox_weave_ledger.proofs.Lists.{number-among}
-use Rattle.iox_hub_states.specs.Tables.{HandleState, HubTables, PortState, labels_of, port_in}
-use Rattle.iox_hub_states.specs.Wirings.{numbers_of_role}
-use Rattle.iox_hub_books.specs.Hubs.{AreInOrder}
-use Rattle.iox_hub_books.proofs.Frames.{some_map}
-use Rattle.iox_hub_books.proofs.Sendable.{of_role}
-use Rattle.iox_hub_keeping.proofs.NewPorts.{in_role, same_self}
-use Rattle.iox_hub_loans.specs.Questions.{has_client, is_named_by_client, names_request, state_of}
+use Rattle.iox_laws.proofs.WeaveLedger.Lists.{number-among}
+use Rattle.iox_tables.specs.HubStates.Tables.{HandleState, HubTables, PortState, labels_of, port_in}
+use Rattle.iox_tables.specs.HubStates.Wirings.{numbers_of_role}
+use Rattle.iox_tables.specs.HubBooks.Hubs.{AreInOrder}
+use Rattle.iox_tables.proofs.HubBooks.Frames.{some_map}
+use Rattle.iox_tables.proofs.HubBooks.Sendable.{of_role}
+use Rattle.iox_tables.proofs.HubKeeping.NewPorts.{in_role, same_self}
+use Rattle.iox_tables.specs.HubLoans.Questions.{has_client, is_named_by_client, names_request, state_of}
 use Rattle.iox_hub_ports.specs.declared.info.PortInfo.{PortInfo}
 use Rattle.iox_hub_ports.specs.Ports.{info_in, info_of, state_of_way}
 use Rattle.iox_control.specs.Entries.{handle_state}

@@ -6,33 +6,33 @@ use Rattle.std.proofs.lemmas.Option.{none-some, same_Some}
 use Rattle.iox_model.specs.declared.way.Way.{Way}
 use Rattle.iox_model.specs.Handles.{is_response_loan}
 use Rattle.iox_model.specs.Maps.{AreDistinct}
-use Rattle.iox_weave_laws.proofs.MapLemmas.{eqb-refl}
+use Rattle.iox_laws.proofs.WeaveLaws.MapLemmas.{eqb-refl}
 use Rattle.iox_lanes.specs.Lanes.{LaneState, delivered, is_full, oldest, without_oldest}
-use Rattle.iox_hub_states.specs.Tables.{HandleState, HubTables, PoolState, PortState, numbers_of, slot_at}
-use Rattle.iox_hub_states.specs.Ways.{lane_on, with_lane_on}
-use Rattle.iox_hub_states.specs.Changes.{with_lanes}
-use Rattle.iox_hub_states.specs.Ends.{dropped_handles, with_call, with_dropped}
-use Rattle.iox_hub_states.specs.Steps.{places_on}
-use Rattle.iox_hub_states.specs.Wirings.{IsHandle}
-use Rattle.iox_hub_books.specs.Counts.{OfAll, handle_uses, how_often, is_at, lane_count, lane_uses, on_lanes, total}
-use Rattle.iox_hub_books.specs.Hubs.{AreInOrder, HoldersAreCounted, IsUsed}
-use Rattle.iox_hub_books.specs.Keeps.{AreTargetsOf, bare_pools, delivers}
-use Rattle.iox_hub_books.specs.Rooms.{CanCountHolders, HasRoomForAll, own_count, spare}
-use Rattle.iox_hub_books.proofs.Delivering.{lanes_keep_at}
-use Rattle.iox_hub_books.proofs.Bounds.{all_lanes_from}
-use Rattle.iox_hub_books.proofs.Eachs.{lane_is}
-use Rattle.iox_hub_books.proofs.Frames.{bare_lane, bare_port, bare_ports, lanes_on_bare}
-use Rattle.iox_hub_books.proofs.HandleTotals.{handle_dropped}
-use Rattle.iox_hub_books.proofs.LaneCounts.{evicted_places}
-use Rattle.iox_hub_books.proofs.LaneLists.{lanes_same}
-use Rattle.iox_hub_books.proofs.LaneTotals.{lane_changed}
-use Rattle.iox_hub_books.proofs.Little.{little_changes_keep_order}
-use Rattle.iox_hub_books.proofs.LoanDeliveries.{response_deliveries_keep_order}
-use Rattle.iox_hub_books.proofs.Places.{has_often}
-use Rattle.iox_hub_books.proofs.Release.{handles_apart}
-use Rattle.iox_hub_books.proofs.Targets.{each_has_its_targets}
-use Rattle.iox_hub_books.proofs.Used.{used_on_lane}
-use Rattle.iox_hub_keeping.proofs.Ordered.{names_apart}
+use Rattle.iox_tables.specs.HubStates.Tables.{HandleState, HubTables, PoolState, PortState, numbers_of, slot_at}
+use Rattle.iox_tables.specs.HubStates.Ways.{lane_on, with_lane_on}
+use Rattle.iox_tables.specs.HubStates.Changes.{with_lanes}
+use Rattle.iox_tables.specs.HubStates.Ends.{dropped_handles, with_call, with_dropped}
+use Rattle.iox_tables.specs.HubStates.Steps.{places_on}
+use Rattle.iox_tables.specs.HubStates.Wirings.{IsHandle}
+use Rattle.iox_tables.specs.HubBooks.Counts.{OfAll, handle_uses, how_often, is_at, lane_count, lane_uses, on_lanes, total}
+use Rattle.iox_tables.specs.HubBooks.Hubs.{AreInOrder, HoldersAreCounted, IsUsed}
+use Rattle.iox_tables.specs.HubBooks.Keeps.{AreTargetsOf, bare_pools, delivers}
+use Rattle.iox_tables.specs.HubBooks.Rooms.{CanCountHolders, HasRoomForAll, own_count, spare}
+use Rattle.iox_tables.proofs.HubBooks.Delivering.{lanes_keep_at}
+use Rattle.iox_tables.proofs.HubBooks.Bounds.{all_lanes_from}
+use Rattle.iox_tables.proofs.HubBooks.Eachs.{lane_is}
+use Rattle.iox_tables.proofs.HubBooks.Frames.{bare_lane, bare_port, bare_ports, lanes_on_bare}
+use Rattle.iox_tables.proofs.HubBooks.HandleTotals.{handle_dropped}
+use Rattle.iox_tables.proofs.HubBooks.LaneCounts.{evicted_places}
+use Rattle.iox_tables.proofs.HubBooks.LaneLists.{lanes_same}
+use Rattle.iox_tables.proofs.HubBooks.LaneTotals.{lane_changed}
+use Rattle.iox_tables.proofs.HubBooks.Little.{little_changes_keep_order}
+use Rattle.iox_tables.proofs.HubBooks.LoanDeliveries.{response_deliveries_keep_order}
+use Rattle.iox_tables.proofs.HubBooks.Places.{has_often}
+use Rattle.iox_tables.proofs.HubBooks.Release.{handles_apart}
+use Rattle.iox_tables.proofs.HubBooks.Targets.{each_has_its_targets}
+use Rattle.iox_tables.proofs.HubBooks.Used.{used_on_lane}
+use Rattle.iox_tables.proofs.HubKeeping.Ordered.{names_apart}
 use Rattle.iox_hub_phases.proofs.Agreeing.{way_agree}
 use Rattle.iox_hub_ports.specs.Ports.{pushed, pushed_out, with_one_out}
 use Rattle.iox_slots.specs.Pools.{with_slot}

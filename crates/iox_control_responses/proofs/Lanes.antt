@@ -5,10 +5,10 @@ use Rattle.std.proofs.Common.{inl, inr, sym, ap, ap₂, ◌∙◌, arith, true�
 use Rattle.std.proofs.lemmas.Bool.{lt-ltb}
 use Rattle.std.proofs.lemmas.List.{length-drop}
 use Rattle.iox_lanes.specs.Lanes.{LaneState, delivered, has_room, is_full, oldest, outstanding, without_oldest}
-use Rattle.iox_hub_states.specs.Steps.{places_on}
-use Rattle.iox_hub_books.specs.Counts.{how_often, lane_count}
-use Rattle.iox_hub_books.specs.Keeps.{delivers}
-use Rattle.iox_hub_books.proofs.LaneCounts.{delivered_places, evicted_places, of_found}
+use Rattle.iox_tables.specs.HubStates.Steps.{places_on}
+use Rattle.iox_tables.specs.HubBooks.Counts.{how_often, lane_count}
+use Rattle.iox_tables.specs.HubBooks.Keeps.{delivers}
+use Rattle.iox_tables.proofs.HubBooks.LaneCounts.{delivered_places, evicted_places, of_found}
 use Rattle.iox_hub_phases.proofs.Agreeing.{pushes_are_the_machines}
 use Rattle.iox_hub_ports.specs.Ports.{pushed, pushed_out, with_one_out}
 

@@ -11,27 +11,27 @@ use Rattle.iox_model.specs.declared.reply.Reply.TheVariants as replies
 use Rattle.iox_model.specs.declared.way.Way.{Way}
 use Rattle.iox_model.specs.Handles.{is_own, is_response_loan}
 use Rattle.iox_model.specs.WholeCalls.{IsWholeCall}
-use Rattle.iox_weave_laws.proofs.MapLemmas.{same_way-refl}
-use Rattle.iox_call_functions.specs.LoanSends.{loan_sent_by}
+use Rattle.iox_laws.proofs.WeaveLaws.MapLemmas.{same_way-refl}
+use Rattle.iox_laws.specs.CallFunctions.LoanSends.{loan_sent_by}
 use Rattle.iox_lanes.specs.Lanes.{IsSound, LaneState, is_full}
-use Rattle.iox_hub_states.specs.Tables.{HandleState, HubTables, PoolState, PortState, port_in}
-use Rattle.iox_hub_states.specs.Ways.{lane_on, with_lanes_on}
-use Rattle.iox_hub_states.specs.Changes.{emptied_lane, with_lanes}
-use Rattle.iox_hub_states.specs.Ends.{with_call, with_dropped}
-use Rattle.iox_hub_states.specs.States.{Given, state_shown}
-use Rattle.iox_hub_states.specs.Steps.{IsOpenToNew}
-use Rattle.iox_hub_states.specs.Wirings.{IsHandle, handle_in}
-use Rattle.iox_hub_states.proofs.Keys.{at_is, lane_turned}
-use Rattle.iox_hub_books.specs.Handles.{IsOfPort, is_loan}
-use Rattle.iox_hub_books.specs.Keeps.{bare_pools, delivers}
-use Rattle.iox_hub_books.proofs.Eachs.{lane_is}
-use Rattle.iox_hub_books.proofs.Frames.{AreAlike, lanes_on_bare, port_before}
-use Rattle.iox_hub_books.proofs.Rooms.{bare_pools_show_the_same}
-use Rattle.iox_hub_books.proofs.Structures.{same_lane}
-use Rattle.iox_hub_books.proofs.Used.{handle_is}
-use Rattle.iox_hub_loans.specs.Questions.{is_named_by_client}
-use Rattle.iox_hub_making.specs.Disconnections.{is_unused, with_disconnected, with_released}
-use Rattle.iox_hub_making.specs.Worked.{at_first}
+use Rattle.iox_tables.specs.HubStates.Tables.{HandleState, HubTables, PoolState, PortState, port_in}
+use Rattle.iox_tables.specs.HubStates.Ways.{lane_on, with_lanes_on}
+use Rattle.iox_tables.specs.HubStates.Changes.{emptied_lane, with_lanes}
+use Rattle.iox_tables.specs.HubStates.Ends.{with_call, with_dropped}
+use Rattle.iox_tables.specs.HubStates.States.{Given, state_shown}
+use Rattle.iox_tables.specs.HubStates.Steps.{IsOpenToNew}
+use Rattle.iox_tables.specs.HubStates.Wirings.{IsHandle, handle_in}
+use Rattle.iox_tables.proofs.HubStates.Keys.{at_is, lane_turned}
+use Rattle.iox_tables.specs.HubBooks.Handles.{IsOfPort, is_loan}
+use Rattle.iox_tables.specs.HubBooks.Keeps.{bare_pools, delivers}
+use Rattle.iox_tables.proofs.HubBooks.Eachs.{lane_is}
+use Rattle.iox_tables.proofs.HubBooks.Frames.{AreAlike, lanes_on_bare, port_before}
+use Rattle.iox_tables.proofs.HubBooks.Rooms.{bare_pools_show_the_same}
+use Rattle.iox_tables.proofs.HubBooks.Structures.{same_lane}
+use Rattle.iox_tables.proofs.HubBooks.Used.{handle_is}
+use Rattle.iox_tables.specs.HubLoans.Questions.{is_named_by_client}
+use Rattle.iox_tables.specs.HubMaking.Disconnections.{is_unused, with_disconnected, with_released}
+use Rattle.iox_tables.specs.HubMaking.Worked.{at_first}
 use Rattle.iox_hub_ports.specs.Ports.{on_way}
 use Rattle.iox_control.specs.Controls.{ControlState, IsControl, with_tables}
 use Rattle.iox_control.specs.Entries.{handle_state}

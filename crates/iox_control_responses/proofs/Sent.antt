@@ -3,10 +3,10 @@ use Rattle.std.specs.Prelude.{◌≡◌, ℕ, Bool, true, false, if◌then◌els
 use Rattle.std.proofs.Common.{sym, ap, ◌∙◌}
 use Rattle.std.proofs.lemmas.Option.{same_Some}
 use Rattle.iox_handles.specs.declared.entry.Entry.{Entry}
-use Rattle.iox_hub_states.specs.Tables.{HandleState, HubTables, PoolState}
-use Rattle.iox_hub_states.specs.States.{Given, state_shown}
-use Rattle.iox_hub_states.specs.Wirings.{handle_in}
-use Rattle.iox_hub_making.specs.Disconnections.{is_unused, with_disconnected, with_released}
+use Rattle.iox_tables.specs.HubStates.Tables.{HandleState, HubTables, PoolState}
+use Rattle.iox_tables.specs.HubStates.States.{Given, state_shown}
+use Rattle.iox_tables.specs.HubStates.Wirings.{handle_in}
+use Rattle.iox_tables.specs.HubMaking.Disconnections.{is_unused, with_disconnected, with_released}
 use Rattle.iox_control.specs.Entries.{handle_state}
 use Rattle.iox_control_responses.specs.Responses.{with_response_ended}
 

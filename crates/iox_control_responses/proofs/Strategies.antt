@@ -7,10 +7,10 @@ use Rattle.iox_model.specs.declared.way.Way.{Way}
 use Rattle.iox_model.specs.Peers.{port_at}
 use Rattle.iox_model.specs.Requests.{fails_at, port_fails}
 use Rattle.iox_model.specs.Settings.{fails_by, fails_by_strategy}
-use Rattle.iox_hub_states.specs.Tables.{HubTables, PortState, port_in}
-use Rattle.iox_hub_states.specs.States.{Given, fixed_of, port_of}
-use Rattle.iox_hub_states.proofs.Fixing.{find_port, first_key}
-use Rattle.iox_hub_books.proofs.Frames.{some_map}
+use Rattle.iox_tables.specs.HubStates.Tables.{HubTables, PortState, port_in}
+use Rattle.iox_tables.specs.HubStates.States.{Given, fixed_of, port_of}
+use Rattle.iox_tables.proofs.HubStates.Fixing.{find_port, first_key}
+use Rattle.iox_tables.proofs.HubBooks.Frames.{some_map}
 use Rattle.iox_hub_ports.specs.declared.info.PortInfo.{PortInfo}
 use Rattle.iox_hub_ports.specs.Ports.{info_in, info_of}
 

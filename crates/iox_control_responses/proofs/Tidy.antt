@@ -3,14 +3,14 @@ use Rattle.std.specs.Prelude.{◌≡◌, ℕ, Bool, true, false, if◌then◌els
 use Rattle.std.proofs.Common.{sym, ap, subst, ◌∙◌}
 use Rattle.std.proofs.lemmas.Option.{same_Some}
 use Rattle.iox_model.specs.Handles.{is_own}
-use Rattle.iox_hub_states.specs.Tables.{HandleState, HubTables}
-use Rattle.iox_hub_states.specs.Changes.{emptied_lane, with_lanes}
-use Rattle.iox_hub_states.specs.Ends.{dropped_handles}
-use Rattle.iox_hub_states.specs.Wirings.{IsHandle, handle_in}
-use Rattle.iox_hub_books.specs.Hubs.{AreInOrder}
-use Rattle.iox_hub_books.specs.Keeps.{bare_pools, delivers}
-use Rattle.iox_hub_books.proofs.Frames.{AreAlike, bare_ports, lanes_on_bare}
-use Rattle.iox_hub_loans.specs.Questions.{is_named_by_client}
+use Rattle.iox_tables.specs.HubStates.Tables.{HandleState, HubTables}
+use Rattle.iox_tables.specs.HubStates.Changes.{emptied_lane, with_lanes}
+use Rattle.iox_tables.specs.HubStates.Ends.{dropped_handles}
+use Rattle.iox_tables.specs.HubStates.Wirings.{IsHandle, handle_in}
+use Rattle.iox_tables.specs.HubBooks.Hubs.{AreInOrder}
+use Rattle.iox_tables.specs.HubBooks.Keeps.{bare_pools, delivers}
+use Rattle.iox_tables.proofs.HubBooks.Frames.{AreAlike, bare_ports, lanes_on_bare}
+use Rattle.iox_tables.specs.HubLoans.Questions.{is_named_by_client}
 use Rattle.iox_control_releasing.specs.Goings.{StaysTidy}
 use Rattle.iox_control_releasing.proofs.Loans.{loan_ends}
 use Rattle.iox_control_responses.specs.Responses.{IsResponse, is_shut, way_to_client, with_response_ended, with_response_offered, with_response_sent, with_way_emptied}

@@ -20,39 +20,39 @@ use Rattle.iox_model.specs.Peers.{buffer_on, others}
 use Rattle.iox_model.specs.Requests.{fails_at, targets, to_open}
 use Rattle.iox_model.specs.States as m
 use Rattle.iox_model.specs.WholeCalls.{IsWholeCall}
-use Rattle.iox_weave_laws.proofs.MapLemmas.{same_way-refl}
-use Rattle.iox_call_functions.specs.LoanSends.{MaySend, loan_sent_by, sending_ways}
-use Rattle.iox_call_functions.specs.Overflows.{NotOver}
-use Rattle.iox_call_functions.specs.Responses.{is_awaited}
-use Rattle.iox_call_functions.proofs.LoanSending.{each_loan_send_is_whole}
+use Rattle.iox_laws.proofs.WeaveLaws.MapLemmas.{same_way-refl}
+use Rattle.iox_laws.specs.CallFunctions.LoanSends.{MaySend, loan_sent_by, sending_ways}
+use Rattle.iox_laws.specs.CallFunctions.Overflows.{NotOver}
+use Rattle.iox_laws.specs.CallFunctions.Responses.{is_awaited}
+use Rattle.iox_laws.proofs.CallFunctions.LoanSending.{each_loan_send_is_whole}
 use Rattle.iox_lanes.specs.Lanes.{LaneState, delivered, is_full}
-use Rattle.iox_hub_states.specs.Tables.{HandleState, HubTables, PortState}
-use Rattle.iox_hub_states.specs.Ways.{lane_on}
-use Rattle.iox_hub_states.specs.Changes.{emptied_lane, with_lanes, with_states, OnEach}
-use Rattle.iox_hub_states.specs.Ends.{with_call, with_dropped}
-use Rattle.iox_hub_states.specs.Releases.{handle_shown, lane_of}
-use Rattle.iox_hub_states.specs.Sendings.{IsResponseToSend, response_sending}
-use Rattle.iox_hub_states.specs.Sends.{MaySendFrom}
-use Rattle.iox_hub_states.specs.Shown.{waiting_in}
-use Rattle.iox_hub_states.specs.States.{Given, fixed_of, message_of, state_shown}
-use Rattle.iox_hub_states.specs.Steps.{IsOpenToNew, full_in}
-use Rattle.iox_hub_states.specs.Wirings.{IsHandle, buffer_from, role_in}
-use Rattle.iox_hub_states.proofs.Fixing.{buffer_is}
-use Rattle.iox_hub_states.proofs.Keys.{at_is, lane_turned}
-use Rattle.iox_hub_states.proofs.Naming.{each_handle_is_named}
-use Rattle.iox_hub_books.specs.Handles.{IsOfPort, role_for}
-use Rattle.iox_hub_books.specs.Hubs.{AreInOrder}
-use Rattle.iox_hub_books.specs.Keeps.{delivers}
-use Rattle.iox_hub_books.proofs.Frames.{length_map}
-use Rattle.iox_hub_books.proofs.Sendable.{responses_may_be_sent}
-use Rattle.iox_hub_books.proofs.Used.{handle_is}
-use Rattle.iox_hub_keeping.specs.Connected.{KeepsNone}
-use Rattle.iox_hub_keeping.proofs.Ordered.{no_expired}
-use Rattle.iox_hub_loans.specs.Questions.{is_named_by_client}
-use Rattle.iox_hub_loans.proofs.Asked.{awaited_are_named}
-use Rattle.iox_hub_making.specs.Disconnections.{with_released}
-use Rattle.iox_hub_making.specs.WholeReleases.{answering, response_left}
-use Rattle.iox_hub_making.proofs.Ending.{response_sends_end, response_sends_over_end, unawaited_end}
+use Rattle.iox_tables.specs.HubStates.Tables.{HandleState, HubTables, PortState}
+use Rattle.iox_tables.specs.HubStates.Ways.{lane_on}
+use Rattle.iox_tables.specs.HubStates.Changes.{emptied_lane, with_lanes, with_states, OnEach}
+use Rattle.iox_tables.specs.HubStates.Ends.{with_call, with_dropped}
+use Rattle.iox_tables.specs.HubStates.Releases.{handle_shown, lane_of}
+use Rattle.iox_tables.specs.HubStates.Sendings.{IsResponseToSend, response_sending}
+use Rattle.iox_tables.specs.HubStates.Sends.{MaySendFrom}
+use Rattle.iox_tables.specs.HubStates.Shown.{waiting_in}
+use Rattle.iox_tables.specs.HubStates.States.{Given, fixed_of, message_of, state_shown}
+use Rattle.iox_tables.specs.HubStates.Steps.{IsOpenToNew, full_in}
+use Rattle.iox_tables.specs.HubStates.Wirings.{IsHandle, buffer_from, role_in}
+use Rattle.iox_tables.proofs.HubStates.Fixing.{buffer_is}
+use Rattle.iox_tables.proofs.HubStates.Keys.{at_is, lane_turned}
+use Rattle.iox_tables.proofs.HubStates.Naming.{each_handle_is_named}
+use Rattle.iox_tables.specs.HubBooks.Handles.{IsOfPort, role_for}
+use Rattle.iox_tables.specs.HubBooks.Hubs.{AreInOrder}
+use Rattle.iox_tables.specs.HubBooks.Keeps.{delivers}
+use Rattle.iox_tables.proofs.HubBooks.Frames.{length_map}
+use Rattle.iox_tables.proofs.HubBooks.Sendable.{responses_may_be_sent}
+use Rattle.iox_tables.proofs.HubBooks.Used.{handle_is}
+use Rattle.iox_tables.specs.HubKeeping.Connected.{KeepsNone}
+use Rattle.iox_tables.proofs.HubKeeping.Ordered.{no_expired}
+use Rattle.iox_tables.specs.HubLoans.Questions.{is_named_by_client}
+use Rattle.iox_tables.proofs.HubLoans.Asked.{awaited_are_named}
+use Rattle.iox_tables.specs.HubMaking.Disconnections.{with_released}
+use Rattle.iox_tables.specs.HubMaking.WholeReleases.{answering, response_left}
+use Rattle.iox_tables.proofs.HubMaking.Ending.{response_sends_end, response_sends_over_end, unawaited_end}
 use Rattle.iox_hub_ports.specs.Ports.{on_way}
 use Rattle.iox_control.proofs.WholeLemmas.{is_whole_of}
 use Rattle.iox_control_responses.specs.Responses.{way_to_client, with_way_emptied}

@@ -9,14 +9,14 @@ use Rattle.iox_model.specs.Commands.{Reply}
 use Rattle.iox_model.specs.Messages.{response_way}
 use Rattle.iox_model.specs.Requests.{fails_at}
 use Rattle.iox_lanes.specs.Lanes.{is_full}
-use Rattle.iox_hub_states.specs.Tables.{HandleState, HubTables, PoolState}
-use Rattle.iox_hub_states.specs.Changes.{emptied_lane, with_lanes}
-use Rattle.iox_hub_states.specs.Ends.{with_call, with_dropped}
-use Rattle.iox_hub_states.specs.Releases.{lane_of}
-use Rattle.iox_hub_states.specs.States.{Given, fixed_of}
-use Rattle.iox_hub_states.specs.Wirings.{IsHandle}
-use Rattle.iox_hub_books.specs.Keeps.{delivers}
-use Rattle.iox_hub_loans.specs.Questions.{is_named_by_client}
+use Rattle.iox_tables.specs.HubStates.Tables.{HandleState, HubTables, PoolState}
+use Rattle.iox_tables.specs.HubStates.Changes.{emptied_lane, with_lanes}
+use Rattle.iox_tables.specs.HubStates.Ends.{with_call, with_dropped}
+use Rattle.iox_tables.specs.HubStates.Releases.{lane_of}
+use Rattle.iox_tables.specs.HubStates.States.{Given, fixed_of}
+use Rattle.iox_tables.specs.HubStates.Wirings.{IsHandle}
+use Rattle.iox_tables.specs.HubBooks.Keeps.{delivers}
+use Rattle.iox_tables.specs.HubLoans.Questions.{is_named_by_client}
 use Rattle.iox_hub_ports.specs.Ports.{on_way, pushed, pushed_out}
 use Rattle.iox_slots.specs.Pools.{with_slot}
 use Rattle.iox_slots.specs.Slots.{let_go}

@@ -1,6 +1,6 @@
 //! Whether the client of a response waits for it.
 ghost use Rattle.std.specs.Prelude.{◌≡◌, false};
-ghost use Rattle.iox_hub_loans.specs.Questions.{is_named_by_client};
+ghost use Rattle.iox_tables.specs.HubLoans.Questions.{is_named_by_client};
 ghost use Rattle.iox_control.specs.Controls.{IsControl};
 ghost use Rattle.iox_control.specs.Entries.{handle_state};
 

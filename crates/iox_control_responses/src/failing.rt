@@ -2,7 +2,7 @@
 ghost use Rattle.std.specs.Prelude.{◌≡◌, None};
 ghost use Rattle.iox_model.specs.Requests.{fails_at};
 ghost use Rattle.iox_model.specs.declared.way.Way.{Way};
-ghost use Rattle.iox_hub_states.specs.States.{Given, fixed_of};
+ghost use Rattle.iox_tables.specs.HubStates.States.{Given, fixed_of};
 
 use iox_control::Control;
 use iox_types::backpressure::BackpressureStrategy;

@@ -3,12 +3,12 @@ ghost use Rattle.std.specs.Prelude.{◌≡◌, ◌<◌, ◌^◌, ◌&&◌, Some,
 ghost use Rattle.iox_lanes.specs.Lanes.{IsSound, LaneState, is_full};
 ghost use Rattle.iox_model.specs.WholeCalls.{IsWholeCall};
 ghost use Rattle.iox_model.specs.declared.call.Call.TheVariants.{Send};
-ghost use Rattle.iox_hub_states.specs.States.{Given, state_shown};
-ghost use Rattle.iox_hub_states.specs.Tables.{HandleState, HubTables};
-ghost use Rattle.iox_hub_states.specs.Ways.{lane_on};
-ghost use Rattle.iox_hub_states.specs.Wirings.{handle_in};
-ghost use Rattle.iox_hub_books.specs.Keeps.{bare_pools};
-ghost use Rattle.iox_hub_making.specs.Disconnections.{with_released};
+ghost use Rattle.iox_tables.specs.HubStates.States.{Given, state_shown};
+ghost use Rattle.iox_tables.specs.HubStates.Tables.{HandleState, HubTables};
+ghost use Rattle.iox_tables.specs.HubStates.Ways.{lane_on};
+ghost use Rattle.iox_tables.specs.HubStates.Wirings.{handle_in};
+ghost use Rattle.iox_tables.specs.HubBooks.Keeps.{bare_pools};
+ghost use Rattle.iox_tables.specs.HubMaking.Disconnections.{with_released};
 ghost use Rattle.iox_hub_ports.specs.Ports.{on_way};
 ghost use Rattle.iox_control.specs.Controls.{IsControl};
 ghost use Rattle.iox_control_responses.specs.Responses.{IsFailure, IsResponse, reply_of_send, response_reply, with_response_ended};

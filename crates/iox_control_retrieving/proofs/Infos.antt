@@ -7,14 +7,14 @@ use Rattle.iox_model.specs.declared.way.Way.{Way}
 use Rattle.iox_model.specs.Maps.{has_number}
 use Rattle.iox_lanes.specs.Lanes.{LaneState}
 use Rattle.iox_lanes.specs.Pipes.{PipeState, with_lane}
-use Rattle.iox_hub_states.specs.Tables.{PortState, first_by, port_in, senders_of}
-use Rattle.iox_hub_states.specs.Ways.{lane_on, with_lane_on, with_lanes_on, with_pipe_from, with_pipe_of, with_pipes}
-use Rattle.iox_hub_states.specs.Changes.{emptied_lane}
-use Rattle.iox_hub_states.proofs.Keys.{same_mapped}
+use Rattle.iox_tables.specs.HubStates.Tables.{PortState, first_by, port_in, senders_of}
+use Rattle.iox_tables.specs.HubStates.Ways.{lane_on, with_lane_on, with_lanes_on, with_pipe_from, with_pipe_of, with_pipes}
+use Rattle.iox_tables.specs.HubStates.Changes.{emptied_lane}
+use Rattle.iox_tables.proofs.HubStates.Keys.{same_mapped}
 use Rattle.iox_hub_ports.specs.declared.info.PortInfo.{PortInfo}
 use Rattle.iox_hub_ports.specs.Ports.{info_at, info_in, info_of}
-use Rattle.iox_hub_books.proofs.Frames.{first_map, some_map}
-use Rattle.iox_hub_loans.specs.Lenders.{size_in}
+use Rattle.iox_tables.proofs.HubBooks.Frames.{first_map, some_map}
+use Rattle.iox_tables.specs.HubLoans.Lenders.{size_in}
 use Rattle.iox_control.specs.Controls.{ControlState, IsControl}
 use Rattle.iox_control_retrieving.specs.Retrieving.{GetsBack}
 

@@ -3,15 +3,15 @@ use Rattle.std.specs.Prelude.{◌≡◌, ℕ, ◌+◌, ◌-◌, ◌≤◌, List,
 use Rattle.std.proofs.Common.{sym, ap, ap₂, subst, ◌∙◌, arith}
 use Rattle.iox_model.specs.declared.way.Way.{Way}
 use Rattle.iox_model.specs.Maps.{AreApart}
-use Rattle.iox_hub_states.specs.Tables.{HubTables, PoolState, PortState}
-use Rattle.iox_hub_states.specs.Changes.{emptied_lane, with_lanes}
-use Rattle.iox_hub_books.specs.Counts.{OfAll, on_lanes, total}
-use Rattle.iox_hub_books.specs.Rooms.{CanCountHolders, HasRoomForAll, own_count, spare}
-use Rattle.iox_hub_books.proofs.Eachs.{lanes_keep}
-use Rattle.iox_hub_books.proofs.Frames.{bare_port, bare_ports, lanes_on_bare}
-use Rattle.iox_hub_books.proofs.LaneLists.{lanes_same}
-use Rattle.iox_hub_lending.specs.Emptying.{HasFewerHolders, returned_on}
-use Rattle.iox_hub_lending.proofs.Emptied.{emptying_keeps_order}
+use Rattle.iox_tables.specs.HubStates.Tables.{HubTables, PoolState, PortState}
+use Rattle.iox_tables.specs.HubStates.Changes.{emptied_lane, with_lanes}
+use Rattle.iox_tables.specs.HubBooks.Counts.{OfAll, on_lanes, total}
+use Rattle.iox_tables.specs.HubBooks.Rooms.{CanCountHolders, HasRoomForAll, own_count, spare}
+use Rattle.iox_tables.proofs.HubBooks.Eachs.{lanes_keep}
+use Rattle.iox_tables.proofs.HubBooks.Frames.{bare_port, bare_ports, lanes_on_bare}
+use Rattle.iox_tables.proofs.HubBooks.LaneLists.{lanes_same}
+use Rattle.iox_tables.specs.HubLending.Emptying.{HasFewerHolders, returned_on}
+use Rattle.iox_tables.proofs.HubLending.Emptied.{emptying_keeps_order}
 use Rattle.iox_control.specs.Controls.{ControlState, IsControl, with_tables}
 use Rattle.iox_control.proofs.RoomLemmas.{lanes_seats, room_as}
 

@@ -11,17 +11,17 @@ use Rattle.iox_model.specs.declared.way.Way.{Way}
 use Rattle.iox_model.specs.Maps.{AreApart, is_empty}
 use Rattle.iox_model.specs.Messages.{response_way}
 use Rattle.iox_model.specs.Settings.{is_client, other_role}
-use Rattle.iox_weave_ledger.proofs.Ranges.{range-apart}
+use Rattle.iox_laws.proofs.WeaveLedger.Ranges.{range-apart}
 use Rattle.iox_lanes.specs.Lanes.{LaneState, has_returned}
 use Rattle.iox_lanes.specs.Pipes.{PipeState, lane_to_get}
-use Rattle.iox_hub_states.specs.Tables.{PortState, pipe_from, pipes_of, pipes_to}
-use Rattle.iox_hub_states.specs.Ways.{lane_on, lanes_from, with_lane_on}
-use Rattle.iox_hub_states.specs.Changes.{emptied_lane}
-use Rattle.iox_hub_states.proofs.Fixing.{first_key}
+use Rattle.iox_tables.specs.HubStates.Tables.{PortState, pipe_from, pipes_of, pipes_to}
+use Rattle.iox_tables.specs.HubStates.Ways.{lane_on, lanes_from, with_lane_on}
+use Rattle.iox_tables.specs.HubStates.Changes.{emptied_lane}
+use Rattle.iox_tables.proofs.HubStates.Fixing.{first_key}
 use Rattle.iox_hub_ports.specs.declared.info.PortInfo.{PortInfo}
 use Rattle.iox_hub_ports.specs.Ports.{info_in, lane_to_get_on}
-use Rattle.iox_hub_books.proofs.Sendable.{apart_map}
-use Rattle.iox_hub_loans.specs.Lenders.{size_in, ways_to_client}
+use Rattle.iox_tables.proofs.HubBooks.Sendable.{apart_map}
+use Rattle.iox_tables.specs.HubLoans.Lenders.{size_in, ways_to_client}
 use Rattle.iox_control.specs.Controls.{ControlState, IsControl}
 use Rattle.iox_control_retrieving.specs.Retrieving.{GetsBack}
 use Rattle.iox_control_retrieving.proofs.Infos.{infos_stay, pool_is, port_of_info, same_info, same_size}

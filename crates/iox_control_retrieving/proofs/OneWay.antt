@@ -5,21 +5,21 @@ use Rattle.std.proofs.Common.{sym, ap, ap₂, subst, ◌∙◌, arith, eqb-true}
 use Rattle.std.proofs.lemmas.Bool.{eq-eqb}
 use Rattle.std.proofs.lemmas.Option.{none-some, same_Some}
 use Rattle.iox_model.specs.declared.way.Way.{Way}
-use Rattle.iox_weave_laws.proofs.MapLemmas.{same_way-refl}
+use Rattle.iox_laws.proofs.WeaveLaws.MapLemmas.{same_way-refl}
 use Rattle.iox_lanes.specs.Lanes.{LaneState, without_returned}
-use Rattle.iox_hub_states.specs.Tables.{HubTables, PoolState, PortState, SlotState, slot_at}
-use Rattle.iox_hub_states.specs.Ways.{OnWays, lane_on, with_lane_on, with_lanes_on}
-use Rattle.iox_hub_states.specs.Changes.{emptied_lane, with_lanes}
-use Rattle.iox_hub_states.specs.Steps.{places_on}
-use Rattle.iox_hub_states.proofs.Keys.{at_is, lane_turned}
+use Rattle.iox_tables.specs.HubStates.Tables.{HubTables, PoolState, PortState, SlotState, slot_at}
+use Rattle.iox_tables.specs.HubStates.Ways.{OnWays, lane_on, with_lane_on, with_lanes_on}
+use Rattle.iox_tables.specs.HubStates.Changes.{emptied_lane, with_lanes}
+use Rattle.iox_tables.specs.HubStates.Steps.{places_on}
+use Rattle.iox_tables.proofs.HubStates.Keys.{at_is, lane_turned}
 use Rattle.iox_hub_ports.specs.Ports.{on_way}
 use Rattle.iox_hub_phases.proofs.Agreeing.{emptying_is_one_by_one, same_stays}
-use Rattle.iox_hub_books.specs.Counts.{how_often, lane_count, on_lanes, uses}
-use Rattle.iox_hub_books.specs.Hubs.{AreInOrder}
-use Rattle.iox_hub_books.specs.Keeps.{bare_pool, bare_pools, bare_slot}
-use Rattle.iox_hub_books.proofs.LaneCounts.{emptied_places}
-use Rattle.iox_hub_books.proofs.LaneTotals.{lane_total}
-use Rattle.iox_hub_lending.specs.Emptying.{HasFewerHolders, returned_count, returned_on}
+use Rattle.iox_tables.specs.HubBooks.Counts.{how_often, lane_count, on_lanes, uses}
+use Rattle.iox_tables.specs.HubBooks.Hubs.{AreInOrder}
+use Rattle.iox_tables.specs.HubBooks.Keeps.{bare_pool, bare_pools, bare_slot}
+use Rattle.iox_tables.proofs.HubBooks.LaneCounts.{emptied_places}
+use Rattle.iox_tables.proofs.HubBooks.LaneTotals.{lane_total}
+use Rattle.iox_tables.specs.HubLending.Emptying.{HasFewerHolders, returned_count, returned_on}
 use Rattle.iox_slots.specs.Pools.{with_slot}
 use Rattle.iox_slots.specs.Slots.{let_go, with_slot_of}
 use Rattle.iox_slots.proofs.CallerLemmas.{holders_let_go, one_at}

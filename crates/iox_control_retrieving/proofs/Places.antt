@@ -11,15 +11,15 @@ use Rattle.iox_model.specs.declared.way.Way.{Way}
 use Rattle.iox_model.specs.Maps.{AreApart, AreDistinct, has_way, same_way}
 use Rattle.iox_model.specs.Messages.{request_way, response_way}
 use Rattle.iox_model.specs.Settings.{is_client, same_role}
-use Rattle.iox_hub_states.specs.Tables.{HubTables, PortState, numbers_of, port_in}
-use Rattle.iox_hub_states.proofs.Fixing.{first_key}
-use Rattle.iox_hub_states.proofs.Lists.{any-append}
+use Rattle.iox_tables.specs.HubStates.Tables.{HubTables, PortState, numbers_of, port_in}
+use Rattle.iox_tables.proofs.HubStates.Fixing.{first_key}
+use Rattle.iox_tables.proofs.HubStates.Lists.{any-append}
 use Rattle.iox_hub_ports.specs.declared.info.PortInfo.{PortInfo}
 use Rattle.iox_hub_ports.specs.Ports.{info_at, info_in, info_of}
 use Rattle.iox_hub_ports.proofs.Seats.{first_at}
-use Rattle.iox_hub_books.proofs.Frames.{some_map}
-use Rattle.iox_hub_loans.specs.Lenders.{ways_by, ways_to_client}
-use Rattle.iox_hub_lending.proofs.Back.{ways_apart}
+use Rattle.iox_tables.proofs.HubBooks.Frames.{some_map}
+use Rattle.iox_tables.specs.HubLoans.Lenders.{ways_by, ways_to_client}
+use Rattle.iox_tables.proofs.HubLending.Back.{ways_apart}
 use Rattle.iox_control.specs.Controls.{ControlState, IsControl}
 use Rattle.iox_control_retrieving.specs.Retrieving.{GetsBack, ways_to}
 use Rattle.iox_control_retrieving.proofs.Infos.{infos_of, infos_stay, same_info, same_info_at, same_size}

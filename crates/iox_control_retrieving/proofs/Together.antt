@@ -6,17 +6,17 @@ use Rattle.std.proofs.lemmas.Option.{same_Some, none-some}
 use Rattle.iox_model.specs.declared.way.Way.{Way}
 use Rattle.iox_model.specs.Maps.{AreApart, has_way, same_way}
 use Rattle.iox_lanes.specs.Lanes.{LaneState}
-use Rattle.iox_hub_states.specs.Tables.{PortState}
-use Rattle.iox_hub_states.specs.Ways.{OnWays, lane_on, with_lane_on, with_lanes_on}
-use Rattle.iox_hub_states.specs.Changes.{emptied_lane, with_lanes}
-use Rattle.iox_hub_states.specs.Shown.{by_lane}
-use Rattle.iox_hub_states.proofs.Keys.{at_is, lane_turned}
-use Rattle.iox_hub_states.proofs.Lists.{any-append}
+use Rattle.iox_tables.specs.HubStates.Tables.{PortState}
+use Rattle.iox_tables.specs.HubStates.Ways.{OnWays, lane_on, with_lane_on, with_lanes_on}
+use Rattle.iox_tables.specs.HubStates.Changes.{emptied_lane, with_lanes}
+use Rattle.iox_tables.specs.HubStates.Shown.{by_lane}
+use Rattle.iox_tables.proofs.HubStates.Keys.{at_is, lane_turned}
+use Rattle.iox_tables.proofs.HubStates.Lists.{any-append}
 use Rattle.iox_hub_phases.proofs.Agreeing.{same_stays}
-use Rattle.iox_hub_books.specs.Counts.{how_often, total}
-use Rattle.iox_hub_books.proofs.LaneLists.{elsewhere}
-use Rattle.iox_hub_books.proofs.Totals.{total-append}
-use Rattle.iox_hub_lending.specs.Emptying.{returned_count, returned_on}
+use Rattle.iox_tables.specs.HubBooks.Counts.{how_often, total}
+use Rattle.iox_tables.proofs.HubBooks.LaneLists.{elsewhere}
+use Rattle.iox_tables.proofs.HubBooks.Totals.{total-append}
+use Rattle.iox_tables.specs.HubLending.Emptying.{returned_count, returned_on}
 use Rattle.iox_control.specs.Controls.{ControlState, IsControl, with_tables}
 use Rattle.iox_control_retrieving.specs.Retrieving.{GetsBack}
 use Rattle.iox_control_retrieving.proofs.OneWay.{lane_after}

@@ -6,10 +6,10 @@ use Rattle.iox_model.specs.declared.way.Way.{Way}
 use Rattle.iox_model.specs.Messages.{request_way}
 use Rattle.iox_model.specs.Settings.{is_client}
 use Rattle.iox_hub_ports.specs.declared.info.PortInfo.{PortInfo}
-use Rattle.iox_hub_states.specs.Tables.{HubTables}
-use Rattle.iox_hub_states.specs.Changes.{emptied_lane, with_lanes}
-use Rattle.iox_hub_loans.specs.Lenders.{ways_to_client}
-use Rattle.iox_hub_lending.specs.Emptying.{HasFewerHolders, returned_on}
+use Rattle.iox_tables.specs.HubStates.Tables.{HubTables}
+use Rattle.iox_tables.specs.HubStates.Changes.{emptied_lane, with_lanes}
+use Rattle.iox_tables.specs.HubLoans.Lenders.{ways_to_client}
+use Rattle.iox_tables.specs.HubLending.Emptying.{HasFewerHolders, returned_on}
 use Rattle.iox_control.specs.Controls.{ControlState, IsControl, with_tables}
 
 -- All that was given back on these ways is got back, and the tables stay in order.

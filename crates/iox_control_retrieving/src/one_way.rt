@@ -1,9 +1,9 @@
 //! What was given back on one way.
 ghost use Rattle.std.specs.Prelude.{◌≡◌, ◌∷◌, [], Some};
 ghost use Rattle.iox_lanes.specs.Lanes.{LaneState};
-ghost use Rattle.iox_hub_states.specs.Changes.{emptied_lane, with_lanes};
-ghost use Rattle.iox_hub_states.specs.Ways.{lane_on};
-ghost use Rattle.iox_hub_lending.specs.Emptying.{HasFewerHolders, returned_on};
+ghost use Rattle.iox_tables.specs.HubStates.Changes.{emptied_lane, with_lanes};
+ghost use Rattle.iox_tables.specs.HubStates.Ways.{lane_on};
+ghost use Rattle.iox_tables.specs.HubLending.Emptying.{HasFewerHolders, returned_on};
 ghost use Rattle.iox_control.specs.Controls.{IsControl, with_tables};
 
 use iox_control::Control;

@@ -1,10 +1,10 @@
 //! What was given back to one port.
 ghost use Rattle.std.specs.Prelude.{◌≡◌, Some};
 ghost use Rattle.iox_model.specs.declared.kind.Role.TheVariants.{Client, Server};
-ghost use Rattle.iox_hub_states.specs.Tables.{PortState, port_in};
+ghost use Rattle.iox_tables.specs.HubStates.Tables.{PortState, port_in};
 ghost use Rattle.iox_hub_ports.specs.Ports.{info_in};
-ghost use Rattle.iox_hub_loans.specs.Lenders.{ways_to_client};
-ghost use Rattle.iox_hub_lending.specs.Emptying.{AreGotBack, with_back};
+ghost use Rattle.iox_tables.specs.HubLoans.Lenders.{ways_to_client};
+ghost use Rattle.iox_tables.specs.HubLending.Emptying.{AreGotBack, with_back};
 ghost use Rattle.iox_control.specs.Controls.{IsControl, with_tables};
 ghost use Rattle.iox_control_retrieving.specs.Retrieving.{GetsBack, ways_to};
 

@@ -7,10 +7,10 @@ use Rattle.iox_model.specs.declared.reply.Refusal.TheVariants.{ForeignNumber, Wr
 use Rattle.iox_model.specs.Commands.{Call, Refusal, number_of}
 use Rattle.iox_model.specs.Maps.{or_else, refused_if}
 use Rattle.iox_model.specs.Names.{suits}
-use Rattle.iox_hub_states.specs.Tables.{HandleState, HubTables, PortState, port_in}
-use Rattle.iox_hub_states.specs.Wirings.{handle_in}
-use Rattle.iox_hub_loans.specs.Questions.{kind_by, kind_in, kind_of_role}
-use Rattle.iox_hub_loans.specs.Refusals.{first_refusal, name_refusal, name_refusal_by, port_refusal}
+use Rattle.iox_tables.specs.HubStates.Tables.{HandleState, HubTables, PortState, port_in}
+use Rattle.iox_tables.specs.HubStates.Wirings.{handle_in}
+use Rattle.iox_tables.specs.HubLoans.Questions.{kind_by, kind_in, kind_of_role}
+use Rattle.iox_tables.specs.HubLoans.Refusals.{first_refusal, name_refusal, name_refusal_by, port_refusal}
 use Rattle.iox_control_questions.specs.declared.asked.Asked.{Asked}
 use Rattle.iox_control_questions.specs.declared.asked.Asked.TheVariants as asks
 use Rattle.iox_control_questions.specs.declared.asked.NotBegun.{NotBegun}
@@ -69,7 +69,7 @@ module _ (t : HubTables) (node : ℕ) (call : Call) where
   named_suits : (o : Option PortState) (q : Option HandleState) → name_refusal_by t node call o q ≡ None → option_map_or (suits false call) (kind_by node o q) false ≡ true
   named_suits (Some p) q e = step p.held refl e
     where
-      step : (a : Bool) → p.held ≡ a → (if a then port_refusal node call p else Some (Rattle.iox_hub_loans.specs.Refusals.unnamed t (number_of call))) ≡ None
+      step : (a : Bool) → p.held ≡ a → (if a then port_refusal node call p else Some (Rattle.iox_tables.specs.HubLoans.Refusals.unnamed t (number_of call))) ≡ None
           → option_map_or (suits false call) (if a && (p.node == node) then Some (kind_of_role p.role) else None) false ≡ true
       step true is f = port_suits p true (p.node == node) f
       step false is f = absurd (none-some _ (sym f))

@@ -18,21 +18,21 @@ use Rattle.iox_model.specs.declared.way.Way.{Way}
 use Rattle.iox_model.specs.Maps.{has_number}
 use Rattle.iox_model.specs.Messages.{hinted_for}
 use Rattle.iox_model.specs.Settings.{is_client, other_role}
-use Rattle.iox_weave_ledger.proofs.Lists.{number-among}
-use Rattle.iox_hub_states.specs.Tables.{HandleState, HubTables, PoolState, PortState, SlotState, labels_of, pipes_of, port_in, senders_of, slots_of}
-use Rattle.iox_hub_states.specs.Ends.{OfEachHandle}
-use Rattle.iox_hub_states.specs.Changes.{with_states}
-use Rattle.iox_hub_states.specs.Receives.{got_handle, visited_port, visits_at, wanted_by_server, with_got, with_request, with_response, with_visited}
-use Rattle.iox_hub_states.specs.Ways.{lane_on, lanes_from, with_port}
-use Rattle.iox_hub_states.specs.Releases.{pending_states, request_of}
-use Rattle.iox_hub_states.specs.Wirings.{IsPending, IsServer, handle_in}
-use Rattle.iox_hub_books.specs.Hubs.{AreInOrder}
-use Rattle.iox_hub_books.specs.Keeps.{bare_pool, bare_pools, bare_slot}
-use Rattle.iox_hub_books.proofs.Frames.{AreAlike, bare_ports, port_before, states_on_bare, visits_bare}
-use Rattle.iox_hub_books.proofs.Going.{each_last}
-use Rattle.iox_hub_books.proofs.Sendable.{of_role}
-use Rattle.iox_hub_books.proofs.Structures.{same_slot}
-use Rattle.iox_hub_books.proofs.Visited.{GotFrom, got_is}
+use Rattle.iox_laws.proofs.WeaveLedger.Lists.{number-among}
+use Rattle.iox_tables.specs.HubStates.Tables.{HandleState, HubTables, PoolState, PortState, SlotState, labels_of, pipes_of, port_in, senders_of, slots_of}
+use Rattle.iox_tables.specs.HubStates.Ends.{OfEachHandle}
+use Rattle.iox_tables.specs.HubStates.Changes.{with_states}
+use Rattle.iox_tables.specs.HubStates.Receives.{got_handle, visited_port, visits_at, wanted_by_server, with_got, with_request, with_response, with_visited}
+use Rattle.iox_tables.specs.HubStates.Ways.{lane_on, lanes_from, with_port}
+use Rattle.iox_tables.specs.HubStates.Releases.{pending_states, request_of}
+use Rattle.iox_tables.specs.HubStates.Wirings.{IsPending, IsServer, handle_in}
+use Rattle.iox_tables.specs.HubBooks.Hubs.{AreInOrder}
+use Rattle.iox_tables.specs.HubBooks.Keeps.{bare_pool, bare_pools, bare_slot}
+use Rattle.iox_tables.proofs.HubBooks.Frames.{AreAlike, bare_ports, port_before, states_on_bare, visits_bare}
+use Rattle.iox_tables.proofs.HubBooks.Going.{each_last}
+use Rattle.iox_tables.proofs.HubBooks.Sendable.{of_role}
+use Rattle.iox_tables.proofs.HubBooks.Structures.{same_slot}
+use Rattle.iox_tables.proofs.HubBooks.Visited.{GotFrom, got_is}
 use Rattle.iox_control.specs.Controls.{ControlState, IsButHolders, with_hint, with_tables}
 use Rattle.iox_hub.specs.Fits.{SuitsHandle, WordsFit, are_requests_in, count_in, is_full_loan, is_of_request, longest_in}
 use Rattle.iox_hub.specs.Words.{Carried}

@@ -3,8 +3,8 @@ use Rattle.std.specs.Prelude.{ℕ}
 use Rattle.iox_model.specs.Commands.{Call, Reply, Use}
 use Rattle.iox_model.specs.Runs.{OfHub}
 use Rattle.iox_model.specs.WholeCalls.{IsWholeCall}
-use Rattle.iox_weave_worlds.proofs.Inductions.{step_is_reached}
-use Rattle.iox_hub_states.specs.States.{Given, state_shown}
+use Rattle.iox_laws.proofs.WeaveWorlds.Inductions.{step_is_reached}
+use Rattle.iox_tables.specs.HubStates.States.{Given, state_shown}
 use Rattle.iox_control.specs.Controls.{ControlState, IsControl}
 use Rattle.iox_hub.specs.Fits.{WordsFit}
 use Rattle.iox_hub.specs.Hubs.{HubState, IsHub, given_by, state_of_hub, with_control}

@@ -8,14 +8,14 @@ use Rattle.iox_model.specs.declared.reply.Reply.TheVariants as replies
 use Rattle.iox_model.specs.Commands.{Reply}
 use Rattle.iox_model.specs.Settings.{Shape, is_client, shape_of}
 use Rattle.iox_model.specs.WholeCalls.{IsWholeCall}
-use Rattle.iox_hub_states.specs.States.{Given, limits_of, state_shown}
-use Rattle.iox_hub_states.specs.Tables.{HandleState, PortState, port_in}
-use Rattle.iox_hub_states.specs.Wirings.{handle_in}
-use Rattle.iox_hub_books.specs.Handles.{IsOfPort}
-use Rattle.iox_hub_books.proofs.Used.{handle_is}
-use Rattle.iox_hub_loans.specs.Lenders.{IsActive, IsClient, Lender, lender_of_request, lender_of_response, shape_in}
-use Rattle.iox_hub_loans.specs.Loans.{loan_call}
-use Rattle.iox_hub_loans.specs.Slots.{with_contents}
+use Rattle.iox_tables.specs.HubStates.States.{Given, limits_of, state_shown}
+use Rattle.iox_tables.specs.HubStates.Tables.{HandleState, PortState, port_in}
+use Rattle.iox_tables.specs.HubStates.Wirings.{handle_in}
+use Rattle.iox_tables.specs.HubBooks.Handles.{IsOfPort}
+use Rattle.iox_tables.proofs.HubBooks.Used.{handle_is}
+use Rattle.iox_tables.specs.HubLoans.Lenders.{IsActive, IsClient, Lender, lender_of_request, lender_of_response, shape_in}
+use Rattle.iox_tables.specs.HubLoans.Loans.{loan_call}
+use Rattle.iox_tables.specs.HubLoans.Slots.{with_contents}
 use Rattle.iox_control.specs.Controls.{ControlState, IsControl}
 use Rattle.iox_control_lending.specs.declared.asked.Asked.{Asked}
 use Rattle.iox_control_lending.specs.declared.asked.Loaned.{Loaned}

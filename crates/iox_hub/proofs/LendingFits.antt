@@ -4,10 +4,10 @@ use Rattle.std.specs.List.{list_any}
 use Rattle.std.proofs.Common.{sym, ap, subst, ◌∙◌, arith, eqb-true}
 use Rattle.iox_store.specs.Stored.{Stored}
 use Rattle.iox_model.specs.Settings.{is_client}
-use Rattle.iox_hub_states.specs.Ends.{OfEachHandle}
-use Rattle.iox_hub_states.specs.Tables.{HandleState, HubTables, PortState, SlotState, port_in, slot_at, slots_of}
-use Rattle.iox_hub_loans.specs.Slots.{is_place}
-use Rattle.iox_hub_loans.proofs.Placed.{or_false}
+use Rattle.iox_tables.specs.HubStates.Ends.{OfEachHandle}
+use Rattle.iox_tables.specs.HubStates.Tables.{HandleState, HubTables, PortState, SlotState, port_in, slot_at, slots_of}
+use Rattle.iox_tables.specs.HubLoans.Slots.{is_place}
+use Rattle.iox_tables.proofs.HubLoans.Placed.{or_false}
 use Rattle.iox_hub.specs.Fits.{SuitsHandle, WordsFit, are_requests_in, count_in, is_full_loan, is_of_request, longest_in}
 use Rattle.iox_hub.specs.Lending.{with_message}
 use Rattle.iox_hub.specs.Words.{Carried, stored_in}

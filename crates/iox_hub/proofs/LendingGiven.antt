@@ -5,12 +5,12 @@ use Rattle.iox_store.specs.Stored.{Stored}
 use Rattle.iox_model.specs.Commands.{Call, Reply, Use}
 use Rattle.iox_model.specs.Runs.{OfHub}
 use Rattle.iox_model.specs.WholeCalls.{IsWholeCall, is_uninit}
-use Rattle.iox_weave_worlds.proofs.Inductions.{step_is_reached}
-use Rattle.iox_hub_states.specs.Ends.{OfEachHandle, ShowsSame}
-use Rattle.iox_hub_states.specs.States.{Given, handle_of, message_of, state_shown}
-use Rattle.iox_hub_states.specs.Tables.{HandleState, HubTables}
-use Rattle.iox_hub_states.proofs.Ends.{free_slots_may_change}
-use Rattle.iox_hub_loans.specs.Slots.{Contents, is_place, put_place, with_contents}
+use Rattle.iox_laws.proofs.WeaveWorlds.Inductions.{step_is_reached}
+use Rattle.iox_tables.specs.HubStates.Ends.{OfEachHandle, ShowsSame}
+use Rattle.iox_tables.specs.HubStates.States.{Given, handle_of, message_of, state_shown}
+use Rattle.iox_tables.specs.HubStates.Tables.{HandleState, HubTables}
+use Rattle.iox_tables.proofs.HubStates.Ends.{free_slots_may_change}
+use Rattle.iox_tables.specs.HubLoans.Slots.{Contents, is_place, put_place, with_contents}
 use Rattle.iox_control.specs.Controls.{ControlState, IsControl}
 use Rattle.iox_hub.specs.Fits.{WordsFit, count_in}
 use Rattle.iox_hub.specs.Hubs.{HubState, IsHub, given_by, state_of_hub}

@@ -15,23 +15,23 @@ use Rattle.iox_model.specs.Loans.{kind_of_loan}
 use Rattle.iox_model.specs.Maps.{or_else, refused_if}
 use Rattle.iox_model.specs.Settings.{Shape, has_layout, is_client, is_count}
 use Rattle.iox_model.specs.WholeCalls.{IsWholeCall, default_payload, is_uninit}
-use Rattle.iox_hub_states.specs.Changes.{emptied_lane}
-use Rattle.iox_hub_states.specs.Ends.{OfEachHandle}
-use Rattle.iox_hub_states.specs.States.{Given, state_shown}
-use Rattle.iox_hub_states.specs.Tables.{HandleState, HubTables, PoolState, PortState, SlotState, first_by, pool_at, port_in, slot_at, slots_of}
-use Rattle.iox_hub_states.specs.Ways.{with_port}
-use Rattle.iox_hub_states.specs.Wirings.{handle_in}
-use Rattle.iox_hub_states.proofs.Keys.{same_mapped}
-use Rattle.iox_hub_books.specs.Hubs.{AreInOrder}
-use Rattle.iox_hub_books.proofs.Frames.{first_map, lanes_on_bare, some_map}
-use Rattle.iox_hub_books.proofs.Going.{each_last}
-use Rattle.iox_hub_loans.specs.Lenders.{Lender, count_refusal_by, calls_refusal, loan_refusal, shape_in, size_refusal, ways_by}
-use Rattle.iox_hub_loans.specs.Loans.{loaned_handle, loaned_slot, with_loaned}
-use Rattle.iox_hub_loans.specs.Slots.{Contents, IsUnused, is_place, put_slot, put_slot_of, with_contents}
-use Rattle.iox_hub_loans.proofs.Placed.{or_false, pool_is, slot_is, slot_stays}
-use Rattle.iox_hub_lending.specs.Emptying.{with_back}
-use Rattle.iox_hub_lending.proofs.Back.{back_in_order, getting_back_keeps_order}
-use Rattle.iox_hub_lending.proofs.Owning.{free_is_unused, slot_count, slot_there}
+use Rattle.iox_tables.specs.HubStates.Changes.{emptied_lane}
+use Rattle.iox_tables.specs.HubStates.Ends.{OfEachHandle}
+use Rattle.iox_tables.specs.HubStates.States.{Given, state_shown}
+use Rattle.iox_tables.specs.HubStates.Tables.{HandleState, HubTables, PoolState, PortState, SlotState, first_by, pool_at, port_in, slot_at, slots_of}
+use Rattle.iox_tables.specs.HubStates.Ways.{with_port}
+use Rattle.iox_tables.specs.HubStates.Wirings.{handle_in}
+use Rattle.iox_tables.proofs.HubStates.Keys.{same_mapped}
+use Rattle.iox_tables.specs.HubBooks.Hubs.{AreInOrder}
+use Rattle.iox_tables.proofs.HubBooks.Frames.{first_map, lanes_on_bare, some_map}
+use Rattle.iox_tables.proofs.HubBooks.Going.{each_last}
+use Rattle.iox_tables.specs.HubLoans.Lenders.{Lender, count_refusal_by, calls_refusal, loan_refusal, shape_in, size_refusal, ways_by}
+use Rattle.iox_tables.specs.HubLoans.Loans.{loaned_handle, loaned_slot, with_loaned}
+use Rattle.iox_tables.specs.HubLoans.Slots.{Contents, IsUnused, is_place, put_slot, put_slot_of, with_contents}
+use Rattle.iox_tables.proofs.HubLoans.Placed.{or_false, pool_is, slot_is, slot_stays}
+use Rattle.iox_tables.specs.HubLending.Emptying.{with_back}
+use Rattle.iox_tables.proofs.HubLending.Back.{back_in_order, getting_back_keeps_order}
+use Rattle.iox_tables.proofs.HubLending.Owning.{free_is_unused, slot_count, slot_there}
 use Rattle.iox_control.specs.Controls.{ControlState, IsControl}
 use Rattle.iox_control_lending.specs.declared.asked.Asked.{Asked}
 use Rattle.iox_control_lending.specs.declared.asked.Loaned.{Loaned}

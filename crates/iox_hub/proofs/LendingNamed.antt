@@ -7,13 +7,13 @@ use Rattle.iox_model.specs.declared.kind.Kind.TheVariants as kinds
 use Rattle.iox_model.specs.declared.kind.Role.{Role}
 use Rattle.iox_model.specs.declared.kind.Role.TheVariants.{Client, Server}
 use Rattle.iox_model.specs.Handles.{is_own, is_received, kind_code}
-use Rattle.iox_hub_states.specs.Tables.{HandleState, HubTables, PortState, port_in}
-use Rattle.iox_hub_states.specs.Wirings.{handle_in}
-use Rattle.iox_hub_books.specs.Handles.{IsOfPort, role_for}
-use Rattle.iox_hub_books.specs.Hubs.{AreInOrder}
-use Rattle.iox_hub_books.proofs.Used.{handle_is}
-use Rattle.iox_hub_loans.specs.Lenders.{IsActive, IsClient}
-use Rattle.iox_hub_loans.specs.Questions.{kind_by, kind_in, kind_of_role}
+use Rattle.iox_tables.specs.HubStates.Tables.{HandleState, HubTables, PortState, port_in}
+use Rattle.iox_tables.specs.HubStates.Wirings.{handle_in}
+use Rattle.iox_tables.specs.HubBooks.Handles.{IsOfPort, role_for}
+use Rattle.iox_tables.specs.HubBooks.Hubs.{AreInOrder}
+use Rattle.iox_tables.proofs.HubBooks.Used.{handle_is}
+use Rattle.iox_tables.specs.HubLoans.Lenders.{IsActive, IsClient}
+use Rattle.iox_tables.specs.HubLoans.Questions.{kind_by, kind_in, kind_of_role}
 use Rattle.iox_hub.specs.Hubs.{HasValue, HubState, IsHub}
 use Rattle.iox_hub.proofs.Named.{found_is_handle}
 

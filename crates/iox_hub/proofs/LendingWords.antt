@@ -5,8 +5,8 @@ use Rattle.std.proofs.Common.{sym, ap, ◌∙◌, arith, true≢false, eqb-true,
 use Rattle.std.proofs.lemmas.List.{get_or-set_other, get_or-set_same, length-set}
 use Rattle.std.proofs.lemmas.Option.{none-some}
 use Rattle.iox_store.specs.Stored.{Stored, stored_at, unlent}
-use Rattle.iox_hub_loans.specs.Slots.{is_place, put_place}
-use Rattle.iox_hub_loans.proofs.Placed.{set_else, set_there}
+use Rattle.iox_tables.specs.HubLoans.Slots.{is_place, put_place}
+use Rattle.iox_tables.proofs.HubLoans.Placed.{set_else, set_there}
 use Rattle.iox_hub.specs.Fits.{are_requests_in, carried_in, count_in, longest_in}
 use Rattle.iox_hub.specs.Lending.{with_carried, with_message}
 use Rattle.iox_hub.specs.Words.{Carried, stored_in}

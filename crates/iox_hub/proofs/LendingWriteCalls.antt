@@ -8,9 +8,9 @@ use Rattle.iox_model.specs.Commands.{Payload}
 use Rattle.iox_model.specs.Names.{suits}
 use Rattle.iox_model.specs.Settings.{is_client}
 use Rattle.iox_model.specs.WholeCalls.{IsWholeCall}
-use Rattle.iox_hub_states.specs.States.{Given, state_shown}
-use Rattle.iox_hub_states.specs.Tables.{HandleState}
-use Rattle.iox_hub_states.specs.Wirings.{handle_in}
+use Rattle.iox_tables.specs.HubStates.States.{Given, state_shown}
+use Rattle.iox_tables.specs.HubStates.Tables.{HandleState}
+use Rattle.iox_tables.specs.HubStates.Wirings.{handle_in}
 use Rattle.iox_control.specs.Controls.{ControlState, IsControl}
 use Rattle.iox_control_lending.specs.declared.asked.Place.{Place}
 use Rattle.iox_control_lending.specs.declared.asked.Written.{Written}

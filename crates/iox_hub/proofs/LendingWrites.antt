@@ -14,17 +14,17 @@ use Rattle.iox_model.specs.Handles.{filled_kind, is_request_loan, is_response_lo
 use Rattle.iox_model.specs.Names.{suits}
 use Rattle.iox_model.specs.Settings.{is_client}
 use Rattle.iox_model.specs.WholeCalls.{IsWholeCall}
-use Rattle.iox_hub_states.specs.Ends.{OfEachHandle, changed_handles}
-use Rattle.iox_hub_states.specs.States.{Given, state_shown}
-use Rattle.iox_hub_states.specs.Tables.{HandleState, HubTables, PortState, SlotState, no_slot, port_in, slots_of}
-use Rattle.iox_hub_states.specs.Wirings.{handle_in}
-use Rattle.iox_hub_books.specs.Handles.{is_loan}
-use Rattle.iox_hub_books.specs.Hubs.{IsUsed}
-use Rattle.iox_hub_books.proofs.Used.{handle_is, used_by_handle}
-use Rattle.iox_hub_loans.specs.Fillings.{elements_of, written_contents}
-use Rattle.iox_hub_loans.specs.Questions.{kind_by, kind_of_role}
-use Rattle.iox_hub_loans.specs.Slots.{with_contents}
-use Rattle.iox_hub_lending.specs.Filling.{with_kind}
+use Rattle.iox_tables.specs.HubStates.Ends.{OfEachHandle, changed_handles}
+use Rattle.iox_tables.specs.HubStates.States.{Given, state_shown}
+use Rattle.iox_tables.specs.HubStates.Tables.{HandleState, HubTables, PortState, SlotState, no_slot, port_in, slots_of}
+use Rattle.iox_tables.specs.HubStates.Wirings.{handle_in}
+use Rattle.iox_tables.specs.HubBooks.Handles.{is_loan}
+use Rattle.iox_tables.specs.HubBooks.Hubs.{IsUsed}
+use Rattle.iox_tables.proofs.HubBooks.Used.{handle_is, used_by_handle}
+use Rattle.iox_tables.specs.HubLoans.Fillings.{elements_of, written_contents}
+use Rattle.iox_tables.specs.HubLoans.Questions.{kind_by, kind_of_role}
+use Rattle.iox_tables.specs.HubLoans.Slots.{with_contents}
+use Rattle.iox_tables.specs.HubLending.Filling.{with_kind}
 use Rattle.iox_control.specs.Controls.{ControlState, IsControl, with_tables}
 use Rattle.iox_control_lending.specs.declared.asked.Place.{Place}
 use Rattle.iox_control_lending.specs.declared.asked.Written.TheVariants as written

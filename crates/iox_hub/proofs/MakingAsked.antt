@@ -9,9 +9,9 @@ use Rattle.iox_model.specs.declared.kind.Role.TheVariants.{Client, Server}
 use Rattle.iox_model.specs.Commands as machine
 use Rattle.iox_model.specs.Makings.{chosen_pool, is_large, longest_of, worst_pool}
 use Rattle.iox_model.specs.Settings.{Limits, Shape, has_layout, message_size, shape_of}
-use Rattle.iox_hub_states.specs.Tables.{HubSettings, HubTables}
-use Rattle.iox_hub_states.specs.States.{Given, limits_of}
-use Rattle.iox_hub_making.specs.Starts.{no_ports}
+use Rattle.iox_tables.specs.HubStates.Tables.{HubSettings, HubTables}
+use Rattle.iox_tables.specs.HubStates.States.{Given, limits_of}
+use Rattle.iox_tables.specs.HubMaking.Starts.{no_ports}
 use Rattle.iox_control_making.specs.declared.asked.Asked.{Asked}
 use Rattle.iox_control_making.specs.Making.{IsAsked}
 use Rattle.iox_hub.specs.declared.pools.Form.{Form}

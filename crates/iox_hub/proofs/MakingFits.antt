@@ -9,20 +9,20 @@ use Rattle.iox_model.specs.declared.kind.Kind.{Kind}
 use Rattle.iox_model.specs.declared.kind.Role.{Role}
 use Rattle.iox_model.specs.Maps.{or_else}
 use Rattle.iox_model.specs.Settings.{is_client}
-use Rattle.iox_weave_laws.proofs.MapLemmas.{eqb-refl}
+use Rattle.iox_laws.proofs.WeaveLaws.MapLemmas.{eqb-refl}
 use Rattle.iox_store.specs.Stored.{Stored, new_contents, stored_at, unlent}
 use Rattle.iox_lanes.specs.Pipes.{PipeState}
-use Rattle.iox_hub_states.specs.Tables.{HandleState, HubTables, PoolState, PortState, SlotState, no_slot, port_in, slot_at, slots_of}
-use Rattle.iox_hub_states.specs.Ends.{OfEachHandle}
-use Rattle.iox_hub_states.specs.Wirings.{handle_in}
-use Rattle.iox_hub_books.specs.Hubs.{AreInOrder}
-use Rattle.iox_hub_loans.specs.Questions.{kind_by, kind_in, kind_of_role}
+use Rattle.iox_tables.specs.HubStates.Tables.{HandleState, HubTables, PoolState, PortState, SlotState, no_slot, port_in, slot_at, slots_of}
+use Rattle.iox_tables.specs.HubStates.Ends.{OfEachHandle}
+use Rattle.iox_tables.specs.HubStates.Wirings.{handle_in}
+use Rattle.iox_tables.specs.HubBooks.Hubs.{AreInOrder}
+use Rattle.iox_tables.specs.HubLoans.Questions.{kind_by, kind_in, kind_of_role}
 use Rattle.iox_slots.specs.Pools.{place_for_one}
-use Rattle.iox_hub_making.specs.FreePools.{IsPut}
-use Rattle.iox_hub_making.specs.NewPorts.{connected_from, connected_to, is_other, pipe_between, pool_made}
-use Rattle.iox_hub_making.proofs.Connecting.{port_with, shows_same, there_is}
-use Rattle.iox_hub_keeping.specs.Connected.{IsFreePlace}
-use Rattle.iox_hub_keeping.proofs.Ordered.{not_there, places_become_free}
+use Rattle.iox_tables.specs.HubMaking.FreePools.{IsPut}
+use Rattle.iox_tables.specs.HubMaking.NewPorts.{connected_from, connected_to, is_other, pipe_between, pool_made}
+use Rattle.iox_tables.proofs.HubMaking.Connecting.{port_with, shows_same, there_is}
+use Rattle.iox_tables.specs.HubKeeping.Connected.{IsFreePlace}
+use Rattle.iox_tables.proofs.HubKeeping.Ordered.{not_there, places_become_free}
 use Rattle.iox_control_making.specs.declared.asked.Asked.{Asked}
 use Rattle.iox_control_making.specs.Making.{port_asked, with_asked}
 use Rattle.iox_control_making.proofs.Vacant.{one_more_is_put, vacant}

@@ -11,24 +11,24 @@ use Rattle.iox_model.specs.Commands.{Create}
 use Rattle.iox_model.specs.Makings.{IsHubCommand, allocation_of, port_reply}
 use Rattle.iox_model.specs.Settings.{is_static}
 use Rattle.iox_model.specs.Runs.{IsReachableState, OfHub}
-use Rattle.iox_weave_worlds.proofs.Inductions.{step_is_reached}
+use Rattle.iox_laws.proofs.WeaveWorlds.Inductions.{step_is_reached}
 use Rattle.iox_store.specs.Stored.{Stored, unlent}
-use Rattle.iox_hub_states.specs.States.{Given, limits_of, state_shown}
-use Rattle.iox_hub_states.specs.Tables.{HandleState, HubTables}
-use Rattle.iox_hub_states.specs.Wirings.{handle_in}
-use Rattle.iox_hub_books.proofs.Used.{handle_is}
-use Rattle.iox_hub_keeping.proofs.Ordered.{places_become_free}
+use Rattle.iox_tables.specs.HubStates.States.{Given, limits_of, state_shown}
+use Rattle.iox_tables.specs.HubStates.Tables.{HandleState, HubTables}
+use Rattle.iox_tables.specs.HubStates.Wirings.{handle_in}
+use Rattle.iox_tables.proofs.HubBooks.Used.{handle_is}
+use Rattle.iox_tables.proofs.HubKeeping.Ordered.{places_become_free}
 use Rattle.iox_slots.specs.Pools.{place_for_one}
-use Rattle.iox_hub_making.specs.FreePools.{OthersStay}
-use Rattle.iox_hub_making.specs.NewPorts.{given_made}
+use Rattle.iox_tables.specs.HubMaking.FreePools.{OthersStay}
+use Rattle.iox_tables.specs.HubMaking.NewPorts.{given_made}
 use Rattle.iox_control.specs.Controls.{ControlState, IsControl}
 use Rattle.iox_control_making.specs.declared.asked.Asked.{Asked}
 use Rattle.iox_control_making.specs.declared.asked.NotMade.{NotMade}
 use Rattle.iox_control_making.specs.declared.asked.NotMade.TheVariants.{DataSegment}
 use Rattle.iox_control_making.specs.Making.{IsAsked, MakesWhole, RefusesWhole, port_asked, refusal_of, with_asked}
 use Rattle.iox_control_making.proofs.Told.{no_memory, refused_whole}
-use Rattle.iox_hub_books.specs.Hubs.{AreInOrder}
-use Rattle.iox_hub_loans.specs.Questions.{kind_in, kind_of_role}
+use Rattle.iox_tables.specs.HubBooks.Hubs.{AreInOrder}
+use Rattle.iox_tables.specs.HubLoans.Questions.{kind_in, kind_of_role}
 use Rattle.iox_hub.specs.declared.options.Options.{Options}
 use Rattle.iox_hub.specs.Fits.{WordsFit}
 use Rattle.iox_hub.specs.Hubs.{HasValue, HubState, IsHub, given_by, state_of_hub, with_control}

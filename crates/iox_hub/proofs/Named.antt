@@ -9,14 +9,14 @@ use Rattle.iox_model.specs.declared.kind.Role.{Role}
 use Rattle.iox_model.specs.declared.kind.Role.TheVariants.{Client, Server}
 use Rattle.iox_model.specs.Handles.{is_own, is_received, kind_code}
 use Rattle.iox_model.specs.Maps.{AreDistinct, has_number}
-use Rattle.iox_hub_states.specs.Tables.{HandleState, HubTables, PortState, numbers_of, port_in}
-use Rattle.iox_hub_states.specs.Wirings.{IsHandle, IsPending, IsServer, handle_in}
-use Rattle.iox_hub_loans.specs.Questions.{kind_by, kind_in, kind_of_role}
-use Rattle.iox_hub_books.specs.Handles.{IsOfPort, role_for}
-use Rattle.iox_hub_books.specs.Hubs.{AreInOrder, numbers_in}
+use Rattle.iox_tables.specs.HubStates.Tables.{HandleState, HubTables, PortState, numbers_of, port_in}
+use Rattle.iox_tables.specs.HubStates.Wirings.{IsHandle, IsPending, IsServer, handle_in}
+use Rattle.iox_tables.specs.HubLoans.Questions.{kind_by, kind_in, kind_of_role}
+use Rattle.iox_tables.specs.HubBooks.Handles.{IsOfPort, role_for}
+use Rattle.iox_tables.specs.HubBooks.Hubs.{AreInOrder, numbers_in}
 use Rattle.iox_hub.specs.Hubs.{HasValue, HubState, IsHub}
-use Rattle.iox_hub_books.proofs.Received.{has_back}
-use Rattle.iox_hub_books.proofs.Used.{handle_is}
+use Rattle.iox_tables.proofs.HubBooks.Received.{has_back}
+use Rattle.iox_tables.proofs.HubBooks.Used.{handle_is}
 
 -- ---- lists of numbers
 

@@ -13,15 +13,15 @@ use Rattle.iox_model.specs.declared.reply.Reply.TheVariants.{Words}
 use Rattle.iox_model.specs.Names.{suits}
 use Rattle.iox_model.specs.States as m
 use Rattle.iox_model.specs.WholeCalls.{IsWholeCall}
-use Rattle.iox_call_functions.proofs.Holding.{each_read_is_whole}
-use Rattle.iox_call_functions.proofs.Leads.{ample}
-use Rattle.iox_hub_states.specs.States.{Given, state_shown}
-use Rattle.iox_hub_states.specs.Tables.{HandleState, HubTables, PortState, SlotState, no_slot, port_in, slots_of}
-use Rattle.iox_hub_states.specs.Wirings.{handle_in}
-use Rattle.iox_hub_loans.proofs.Asked.{each_is_read}
-use Rattle.iox_hub_loans.specs.Questions.{kind_by, kind_of_role}
-use Rattle.iox_hub_books.specs.Hubs.{IsUsed}
-use Rattle.iox_hub_books.proofs.Used.{handle_is, used_by_handle}
+use Rattle.iox_laws.proofs.CallFunctions.Holding.{each_read_is_whole}
+use Rattle.iox_laws.proofs.CallFunctions.Leads.{ample}
+use Rattle.iox_tables.specs.HubStates.States.{Given, state_shown}
+use Rattle.iox_tables.specs.HubStates.Tables.{HandleState, HubTables, PortState, SlotState, no_slot, port_in, slots_of}
+use Rattle.iox_tables.specs.HubStates.Wirings.{handle_in}
+use Rattle.iox_tables.proofs.HubLoans.Asked.{each_is_read}
+use Rattle.iox_tables.specs.HubLoans.Questions.{kind_by, kind_of_role}
+use Rattle.iox_tables.specs.HubBooks.Hubs.{IsUsed}
+use Rattle.iox_tables.proofs.HubBooks.Used.{handle_is, used_by_handle}
 use Rattle.iox_control.proofs.WholeLemmas.{is_whole_of}
 use Rattle.iox_handles.specs.declared.entry.Entry.{Entry}
 use Rattle.iox_control.specs.Entries.{handle_state}

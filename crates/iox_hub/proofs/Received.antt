@@ -13,11 +13,11 @@ use Rattle.iox_model.specs.declared.kind.Role.TheVariants.{Client, Server}
 use Rattle.iox_model.specs.declared.reply.Reply.TheVariants as replies
 use Rattle.iox_model.specs.Commands.{Reply}
 use Rattle.iox_model.specs.Settings.{is_client}
-use Rattle.iox_hub_states.specs.Tables.{HandleState, HubTables, labels_of}
-use Rattle.iox_hub_states.specs.Receives.{got_handle, got_reply, request_reply, response_reply, visits_at, wanted_by_server, with_got, with_request, with_response, with_visited}
-use Rattle.iox_hub_states.specs.Wirings.{IsPending, handle_in}
-use Rattle.iox_hub_loans.specs.Questions.{kind_in}
-use Rattle.iox_hub_books.specs.Hubs.{AreInOrder}
+use Rattle.iox_tables.specs.HubStates.Tables.{HandleState, HubTables, labels_of}
+use Rattle.iox_tables.specs.HubStates.Receives.{got_handle, got_reply, request_reply, response_reply, visits_at, wanted_by_server, with_got, with_request, with_response, with_visited}
+use Rattle.iox_tables.specs.HubStates.Wirings.{IsPending, handle_in}
+use Rattle.iox_tables.specs.HubLoans.Questions.{kind_in}
+use Rattle.iox_tables.specs.HubBooks.Hubs.{AreInOrder}
 use Rattle.iox_control.specs.Controls.{ControlState, IsButHolders, IsControl}
 use Rattle.iox_control.specs.declared.received.Received.{Received}
 use Rattle.iox_control.specs.declared.received.Received.TheVariants as received

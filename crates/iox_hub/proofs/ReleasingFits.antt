@@ -8,15 +8,15 @@ use Rattle.iox_model.specs.declared.kind.Kind.{Kind}
 use Rattle.iox_model.specs.declared.kind.Kind.TheVariants as kinds
 use Rattle.iox_model.specs.Messages.{closed_for}
 use Rattle.iox_model.specs.Settings.{is_client}
-use Rattle.iox_hub_states.specs.Tables.{HandleState, HubTables, PoolState, PortState, SlotState, no_slot, pool_at, port_in, slot_at, slots_of}
-use Rattle.iox_hub_states.specs.Ends.{OfEachHandle}
-use Rattle.iox_hub_states.specs.Releases.{pending_states, request_of, with_given_back, with_value_released}
-use Rattle.iox_hub_making.specs.Disconnections.{cut_from, is_unused, ports_without, with_disconnected, with_released}
-use Rattle.iox_hub_making.proofs.Disconnecting.{port_left}
-use Rattle.iox_hub_books.specs.Handles.{way_in}
-use Rattle.iox_hub_books.specs.Keeps.{bare_pool, bare_slot}
-use Rattle.iox_hub_books.proofs.Frames.{AreAlike, bare_lane, lanes_on_bare, length_map, port_bare, port_before, states_on_bare}
-use Rattle.iox_hub_books.proofs.Release.{each_left}
+use Rattle.iox_tables.specs.HubStates.Tables.{HandleState, HubTables, PoolState, PortState, SlotState, no_slot, pool_at, port_in, slot_at, slots_of}
+use Rattle.iox_tables.specs.HubStates.Ends.{OfEachHandle}
+use Rattle.iox_tables.specs.HubStates.Releases.{pending_states, request_of, with_given_back, with_value_released}
+use Rattle.iox_tables.specs.HubMaking.Disconnections.{cut_from, is_unused, ports_without, with_disconnected, with_released}
+use Rattle.iox_tables.proofs.HubMaking.Disconnecting.{port_left}
+use Rattle.iox_tables.specs.HubBooks.Handles.{way_in}
+use Rattle.iox_tables.specs.HubBooks.Keeps.{bare_pool, bare_slot}
+use Rattle.iox_tables.proofs.HubBooks.Frames.{AreAlike, bare_lane, lanes_on_bare, length_map, port_bare, port_before, states_on_bare}
+use Rattle.iox_tables.proofs.HubBooks.Release.{each_left}
 use Rattle.iox_control_releasing.specs.Endings.{given_up_as, own_way, with_ended}
 use Rattle.iox_control_releasing.specs.Goings.{KeptPools}
 use Rattle.iox_hub.specs.Fits.{SuitsHandle, WordsFit, are_requests_in, count_in, longest_in}

@@ -5,15 +5,15 @@ use Rattle.std.proofs.Common.{sym, ap, subst, ◌∙◌, arith, eqb-true}
 use Rattle.std.proofs.lemmas.Option.{none-some}
 use Rattle.iox_store.specs.Stored.{Stored, stored_at, unlent}
 use Rattle.iox_model.specs.Runs.{IsReachableState}
-use Rattle.iox_hub_states.specs.Tables.{HandleState, HubTables, PoolState, PortState, pool_at, port_in, slot_at, slots_of}
-use Rattle.iox_hub_states.specs.States.{Given}
-use Rattle.iox_hub_loans.proofs.Placed.{set_else}
-use Rattle.iox_hub_making.proofs.Pooling.{free_pools_may_change}
-use Rattle.iox_hub_books.specs.Hubs.{AreInOrder, IsUsed}
-use Rattle.iox_hub_books.proofs.Going.{each_both}
-use Rattle.iox_hub_books.proofs.Held.{each_handle_from}
-use Rattle.iox_hub_keeping.specs.Connected.{IsFreePlace}
-use Rattle.iox_hub_keeping.proofs.Ordered.{each_used, empty_free, nobody_has, used_else}
+use Rattle.iox_tables.specs.HubStates.Tables.{HandleState, HubTables, PoolState, PortState, pool_at, port_in, slot_at, slots_of}
+use Rattle.iox_tables.specs.HubStates.States.{Given}
+use Rattle.iox_tables.proofs.HubLoans.Placed.{set_else}
+use Rattle.iox_tables.proofs.HubMaking.Pooling.{free_pools_may_change}
+use Rattle.iox_tables.specs.HubBooks.Hubs.{AreInOrder, IsUsed}
+use Rattle.iox_tables.proofs.HubBooks.Going.{each_both}
+use Rattle.iox_tables.proofs.HubBooks.Held.{each_handle_from}
+use Rattle.iox_tables.specs.HubKeeping.Connected.{IsFreePlace}
+use Rattle.iox_tables.proofs.HubKeeping.Ordered.{each_used, empty_free, nobody_has, used_else}
 use Rattle.iox_hub.specs.Fits.{SuitsHandle, WordsFit, count_in}
 use Rattle.iox_hub.specs.Hubs.{HubState, IsHub, given_by, state_of_hub}
 use Rattle.iox_hub.specs.Sending.{with_words_left}

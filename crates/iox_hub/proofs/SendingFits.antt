@@ -3,19 +3,19 @@ use Rattle.std.specs.Prelude.{◌≡◌, ℕ, Bool, true, false, ◌&&◌, if◌
 use Rattle.std.proofs.Common.{sym, ap, subst, ◌∙◌, true≢false}
 use Rattle.iox_model.specs.declared.kind.Kind.TheVariants as kinds
 use Rattle.iox_model.specs.declared.way.RequestState.TheVariants.{Named}
-use Rattle.iox_hub_states.specs.Tables.{HandleState, HubTables}
-use Rattle.iox_hub_states.specs.Changes.{emptied_lane, with_lanes}
-use Rattle.iox_hub_states.specs.Ends.{OfEachHandle, changed_handles, with_dropped}
-use Rattle.iox_hub_states.specs.Releases.{pending_states, request_of}
-use Rattle.iox_hub_states.specs.Sendings.{pending_of}
-use Rattle.iox_hub_states.specs.Sends.{with_opened}
-use Rattle.iox_hub_states.specs.Wirings.{handle_in}
-use Rattle.iox_hub_loans.specs.Questions.{is_named_by_client}
-use Rattle.iox_hub_making.specs.Disconnections.{with_released}
-use Rattle.iox_hub_books.specs.Keeps.{delivers}
-use Rattle.iox_hub_books.proofs.Frames.{AreAlike, lanes_on_bare, states_on_bare}
-use Rattle.iox_hub_books.proofs.Release.{each_left}
-use Rattle.iox_hub_books.proofs.Used.{handle_is}
+use Rattle.iox_tables.specs.HubStates.Tables.{HandleState, HubTables}
+use Rattle.iox_tables.specs.HubStates.Changes.{emptied_lane, with_lanes}
+use Rattle.iox_tables.specs.HubStates.Ends.{OfEachHandle, changed_handles, with_dropped}
+use Rattle.iox_tables.specs.HubStates.Releases.{pending_states, request_of}
+use Rattle.iox_tables.specs.HubStates.Sendings.{pending_of}
+use Rattle.iox_tables.specs.HubStates.Sends.{with_opened}
+use Rattle.iox_tables.specs.HubStates.Wirings.{handle_in}
+use Rattle.iox_tables.specs.HubLoans.Questions.{is_named_by_client}
+use Rattle.iox_tables.specs.HubMaking.Disconnections.{with_released}
+use Rattle.iox_tables.specs.HubBooks.Keeps.{delivers}
+use Rattle.iox_tables.proofs.HubBooks.Frames.{AreAlike, lanes_on_bare, states_on_bare}
+use Rattle.iox_tables.proofs.HubBooks.Release.{each_left}
+use Rattle.iox_tables.proofs.HubBooks.Used.{handle_is}
 use Rattle.iox_hub_delivering.proofs.Counted.{gives_bare}
 use Rattle.iox_control_releasing.specs.Goings.{KeptPools}
 use Rattle.iox_control_requests.specs.declared.requested.Requested.{Requested}

@@ -13,22 +13,22 @@ use Rattle.iox_model.specs.Requests.{fails_at}
 use Rattle.iox_model.specs.Runs.{OfHub}
 use Rattle.iox_model.specs.Settings.{fails_by_strategy}
 use Rattle.iox_model.specs.WholeCalls.{IsWholeCall}
-use Rattle.iox_weave_worlds.proofs.Inductions.{step_is_reached}
-use Rattle.iox_hub_states.specs.Tables.{HandleState, HubTables, PortState, port_in}
-use Rattle.iox_hub_states.specs.Ends.{dropped_handles, with_dropped}
-use Rattle.iox_hub_states.specs.Releases.{with_value_released}
-use Rattle.iox_hub_states.specs.Sendings.{pending_of}
-use Rattle.iox_hub_states.proofs.Keys.{first_changed}
-use Rattle.iox_hub_states.specs.States.{Given, fixed_of}
-use Rattle.iox_hub_states.specs.Wirings.{IsHandle, handle_in}
-use Rattle.iox_hub_loans.specs.Questions.{kind_by, kind_in, kind_of_role}
-use Rattle.iox_hub_making.specs.Disconnections.{cut_from, is_unused, with_disconnected, with_released}
-use Rattle.iox_hub_making.proofs.Disconnecting.{port_left}
+use Rattle.iox_laws.proofs.WeaveWorlds.Inductions.{step_is_reached}
+use Rattle.iox_tables.specs.HubStates.Tables.{HandleState, HubTables, PortState, port_in}
+use Rattle.iox_tables.specs.HubStates.Ends.{dropped_handles, with_dropped}
+use Rattle.iox_tables.specs.HubStates.Releases.{with_value_released}
+use Rattle.iox_tables.specs.HubStates.Sendings.{pending_of}
+use Rattle.iox_tables.proofs.HubStates.Keys.{first_changed}
+use Rattle.iox_tables.specs.HubStates.States.{Given, fixed_of}
+use Rattle.iox_tables.specs.HubStates.Wirings.{IsHandle, handle_in}
+use Rattle.iox_tables.specs.HubLoans.Questions.{kind_by, kind_in, kind_of_role}
+use Rattle.iox_tables.specs.HubMaking.Disconnections.{cut_from, is_unused, with_disconnected, with_released}
+use Rattle.iox_tables.proofs.HubMaking.Disconnecting.{port_left}
 use Rattle.iox_hub_ports.specs.declared.info.PortInfo.{PortInfo}
 use Rattle.iox_hub_ports.specs.Ports.{info_in, info_of}
-use Rattle.iox_hub_books.specs.Handles.{IsOfPort}
-use Rattle.iox_hub_books.specs.Hubs.{AreInOrder}
-use Rattle.iox_hub_books.proofs.Used.{handle_is}
+use Rattle.iox_tables.specs.HubBooks.Handles.{IsOfPort}
+use Rattle.iox_tables.specs.HubBooks.Hubs.{AreInOrder}
+use Rattle.iox_tables.proofs.HubBooks.Used.{handle_is}
 use Rattle.iox_control.specs.Controls.{ControlState, IsControl}
 use Rattle.iox_control_releasing.specs.Endings.{given_up_as, with_ended}
 use Rattle.iox_control_releasing.specs.Named.{IsHeldPort, IsNamed}

@@ -9,13 +9,13 @@ use Rattle.iox_model.specs.declared.kind.Role.{Role}
 use Rattle.iox_model.specs.declared.kind.Role.TheVariants.{Client, Server}
 use Rattle.iox_model.specs.Handles.{is_own, is_received}
 use Rattle.iox_model.specs.Names.{is_port}
-use Rattle.iox_hub_states.specs.Tables.{HandleState, HubTables, PortState, port_in}
-use Rattle.iox_hub_states.specs.Ends.{changed_handles, dropped_handles}
-use Rattle.iox_hub_states.specs.Wirings.{IsHandle, handle_in}
-use Rattle.iox_hub_loans.specs.Questions.{kind_by, kind_in, kind_of_role}
-use Rattle.iox_hub_books.specs.Handles.{IsOfPort}
-use Rattle.iox_hub_books.specs.Hubs.{AreInOrder}
-use Rattle.iox_hub_books.proofs.Used.{handle_is}
+use Rattle.iox_tables.specs.HubStates.Tables.{HandleState, HubTables, PortState, port_in}
+use Rattle.iox_tables.specs.HubStates.Ends.{changed_handles, dropped_handles}
+use Rattle.iox_tables.specs.HubStates.Wirings.{IsHandle, handle_in}
+use Rattle.iox_tables.specs.HubLoans.Questions.{kind_by, kind_in, kind_of_role}
+use Rattle.iox_tables.specs.HubBooks.Handles.{IsOfPort}
+use Rattle.iox_tables.specs.HubBooks.Hubs.{AreInOrder}
+use Rattle.iox_tables.proofs.HubBooks.Used.{handle_is}
 use Rattle.iox_control_releasing.specs.Named.{IsHeldPort}
 use Rattle.iox_hub.proofs.Named.{found_is_handle, handle_is_value}
 use Rattle.iox_hub.proofs.ReleasingFits.{AreLeft}

@@ -5,11 +5,11 @@ use Rattle.iox_model.specs.declared.backpressure.BackpressureAction.TheVariants.
 use Rattle.iox_model.specs.Joins.{new_node}
 use Rattle.iox_model.specs.Runs.{IsReachableState}
 use Rattle.iox_model.specs.Settings.{IsShape, Shape}
-use Rattle.iox_hub_states.specs.States.{Given, limits_of, no_id}
-use Rattle.iox_hub_states.specs.Tables.{HubSettings}
-use Rattle.iox_hub_making.specs.Starts.{no_ports}
-use Rattle.iox_hub_making.proofs.Reaching.{starts_are_reached}
-use Rattle.iox_hub_keeping.specs.Connected.{KeepsNone}
+use Rattle.iox_tables.specs.HubStates.States.{Given, limits_of, no_id}
+use Rattle.iox_tables.specs.HubStates.Tables.{HubSettings}
+use Rattle.iox_tables.specs.HubMaking.Starts.{no_ports}
+use Rattle.iox_tables.proofs.HubMaking.Reaching.{starts_are_reached}
+use Rattle.iox_tables.specs.HubKeeping.Connected.{KeepsNone}
 use Rattle.iox_control.specs.Controls.{ControlState, HaveBuffers, IsControl, new_control}
 use Rattle.iox_hub.proofs.Fitting.{fits_none}
 use Rattle.iox_hub.specs.Hubs.{HubState, IsHub, given_by, state_of_hub}

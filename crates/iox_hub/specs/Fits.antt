@@ -5,8 +5,8 @@ use Rattle.iox_model.specs.declared.kind.Kind.{Kind}
 use Rattle.iox_model.specs.declared.kind.Kind.TheVariants.{ActiveRequest, PendingResponse, RequestMut, ResponseMut}
 use Rattle.iox_model.specs.Handles.{is_request_loan, same_kind}
 use Rattle.iox_model.specs.Settings.{is_client}
-use Rattle.iox_hub_states.specs.Tables.{HandleState, HubTables, PortState, port_in, slot_at, slots_of}
-use Rattle.iox_hub_states.specs.Ends.{OfEachHandle}
+use Rattle.iox_tables.specs.HubStates.Tables.{HandleState, HubTables, PortState, port_in, slot_at, slots_of}
+use Rattle.iox_tables.specs.HubStates.Ends.{OfEachHandle}
 use Rattle.iox_hub.specs.Words.{Carried, stored_in}
 
 -- what the messages of the pool in this place carry

@@ -10,8 +10,8 @@ use Rattle.iox_model.specs.Commands.{Create, Reply}
 use Rattle.iox_model.specs.Makings.{IsHubCommand, is_large, port_reply}
 use Rattle.iox_model.specs.Settings.{Shape, is_client, is_static}
 use Rattle.iox_store.specs.Stored.{new_contents}
-use Rattle.iox_hub_states.specs.Tables.{HubSettings}
-use Rattle.iox_hub_states.specs.States.{Given, limits_of}
+use Rattle.iox_tables.specs.HubStates.Tables.{HubSettings}
+use Rattle.iox_tables.specs.HubStates.States.{Given, limits_of}
 use Rattle.iox_control_making.specs.declared.asked.NotMade.{NotMade}
 use Rattle.iox_control_making.specs.Making.{refusal_of}
 use Rattle.iox_hub.specs.declared.options.Options.{Options}

@@ -5,9 +5,9 @@ use Rattle.iox_store.specs.Stored.{Stored, unlent}
 use Rattle.iox_model.specs.declared.kind.Kind.{Kind}
 use Rattle.iox_model.specs.declared.kind.Kind.TheVariants.{ActiveRequest, PendingResponse, RequestMut, Response, ResponseMut}
 use Rattle.iox_model.specs.Handles.{same_kind}
-use Rattle.iox_hub_states.specs.Tables.{HandleState}
-use Rattle.iox_hub_states.specs.Wirings.{handle_in}
-use Rattle.iox_hub_loans.specs.Questions.{kind_in}
+use Rattle.iox_tables.specs.HubStates.Tables.{HandleState}
+use Rattle.iox_tables.specs.HubStates.Wirings.{handle_in}
+use Rattle.iox_tables.specs.HubLoans.Questions.{kind_in}
 use Rattle.iox_hub.specs.Hubs.{HubState}
 use Rattle.iox_hub.specs.Words.{stored_in}
 

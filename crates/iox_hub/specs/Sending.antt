@@ -3,8 +3,8 @@ use Rattle.std.specs.Prelude.{◌≡◌, ℕ, Bool, not, if◌then◌else◌, Li
 use Rattle.iox_model.specs.declared.kind.Kind.{Kind}
 use Rattle.iox_model.specs.declared.kind.Kind.TheVariants.{PendingResponse}
 use Rattle.iox_model.specs.Names.{is_port}
-use Rattle.iox_hub_states.specs.Tables.{PoolState, pool_at}
-use Rattle.iox_hub_loans.specs.Questions.{kind_in}
+use Rattle.iox_tables.specs.HubStates.Tables.{PoolState, pool_at}
+use Rattle.iox_tables.specs.HubLoans.Questions.{kind_in}
 use Rattle.iox_control_requests.specs.declared.requested.Requested.{Requested}
 use Rattle.iox_control_requests.specs.declared.requested.Requested.TheVariants.{To, ExceedsMaxActiveRequests, UnableToDeliver}
 use Rattle.iox_hub.specs.Hubs.{HasValue, HubState}

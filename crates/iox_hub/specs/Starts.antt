@@ -1,7 +1,7 @@
 -- A hub as it starts.
 use Rattle.std.specs.Prelude.{[], max}
 use Rattle.iox_model.specs.Settings.{Shape}
-use Rattle.iox_hub_states.specs.Tables.{HubSettings}
+use Rattle.iox_tables.specs.HubStates.Tables.{HubSettings}
 use Rattle.iox_control.specs.Controls.{new_control}
 use Rattle.iox_hub.specs.Hubs.{HubState}
 

@@ -7,8 +7,8 @@ ghost use Rattle.iox_model.specs.declared.reply.Reply.TheVariants.{Answer, Refus
 ghost use Rattle.iox_model.specs.Commands.{Call, number_of};
 ghost use Rattle.iox_model.specs.Names.{suits};
 ghost use Rattle.iox_model.specs.WholeCalls.{IsWholeCall, is_counted};
-ghost use Rattle.iox_hub_loans.specs.Refusals.{first_refusal};
-ghost use Rattle.iox_hub_states.specs.States.{Given};
+ghost use Rattle.iox_tables.specs.HubLoans.Refusals.{first_refusal};
+ghost use Rattle.iox_tables.specs.HubStates.States.{Given};
 ghost use Rattle.iox_control_questions.specs.Asking.{asked_of, call_of, refusal_of};
 ghost use Rattle.iox_control_questions.specs.declared.asked.NotBegun.{NotBegun};
 ghost use Rattle.iox_hub.specs.Hubs.{HasValue, state_of_hub};

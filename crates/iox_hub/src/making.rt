@@ -1,8 +1,8 @@
 //! Ports are made.
 ghost use Rattle.std.specs.Prelude.{ℕ, ◌≡◌, ◌<◌, ◌≤◌, ◌^◌, IfOk, IfSome, IsErr, OnErr, OnOk, true, vec_capacity};
 ghost use Rattle.iox_model.specs.declared.kind.Kind.{Kind};
-ghost use Rattle.iox_hub_states.specs.States.{Given};
-ghost use Rattle.iox_hub_loans.specs.Questions.{kind_of_role};
+ghost use Rattle.iox_tables.specs.HubStates.States.{Given};
+ghost use Rattle.iox_tables.specs.HubLoans.Questions.{kind_of_role};
 ghost use Rattle.iox_slots.specs.Pools.{place_for_one};
 ghost use Rattle.iox_control_making.specs.Making.{IsAsked};
 ghost use Rattle.iox_hub.specs.Hubs.{HasValue, given_by};

@@ -4,7 +4,7 @@ ghost use Rattle.iox_model.specs.declared.call.Call.TheVariants.{HasRequests, Ha
 ghost use Rattle.iox_model.specs.declared.kind.Kind.TheVariants.{PendingResponse, Server};
 ghost use Rattle.iox_model.specs.declared.reply.Reply.TheVariants.{Answer, Done};
 ghost use Rattle.iox_model.specs.WholeCalls.{IsWholeCall};
-ghost use Rattle.iox_hub_states.specs.States.{Given};
+ghost use Rattle.iox_tables.specs.HubStates.States.{Given};
 ghost use Rattle.iox_hub.specs.Hubs.{HasValue, state_of_hub, with_control};
 
 use crate::hub::Hub;

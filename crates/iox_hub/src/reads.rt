@@ -3,9 +3,9 @@ ghost use Rattle.std.specs.Prelude.{◌≡◌, ◌++◌, ◌<◌, Some, false, f
 ghost use Rattle.iox_model.specs.declared.call.Call.TheVariants.{Read};
 ghost use Rattle.iox_model.specs.declared.reply.Reply.TheVariants.{Words};
 ghost use Rattle.iox_model.specs.WholeCalls.{IsWholeCall};
-ghost use Rattle.iox_hub_states.specs.States.{Given};
-ghost use Rattle.iox_hub_states.specs.Tables.{HandleState};
-ghost use Rattle.iox_hub_states.specs.Wirings.{handle_in};
+ghost use Rattle.iox_tables.specs.HubStates.States.{Given};
+ghost use Rattle.iox_tables.specs.HubStates.Tables.{HandleState};
+ghost use Rattle.iox_tables.specs.HubStates.Wirings.{handle_in};
 ghost use Rattle.iox_control.specs.Entries.{handle_state};
 ghost use Rattle.iox_hub.specs.Fits.{are_requests_in, carried_in, count_in};
 ghost use Rattle.iox_hub.specs.Hubs.{state_of_hub};

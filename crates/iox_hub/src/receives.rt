@@ -3,7 +3,7 @@ ghost use Rattle.std.specs.Prelude.{◌≡◌, ◌<◌, ◌^◌};
 ghost use Rattle.iox_model.specs.declared.call.Call.TheVariants.{Receive};
 ghost use Rattle.iox_model.specs.declared.kind.Kind.TheVariants.{ActiveRequest, PendingResponse, Response, Server};
 ghost use Rattle.iox_model.specs.WholeCalls.{IsWholeCall};
-ghost use Rattle.iox_hub_states.specs.States.{Given};
+ghost use Rattle.iox_tables.specs.HubStates.States.{Given};
 ghost use Rattle.iox_control.specs.Replies.{reply_of_receive};
 ghost use Rattle.iox_hub.specs.Hubs.{HasReceived, HasValue, state_of_hub, with_control};
 

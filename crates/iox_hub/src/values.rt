@@ -1,6 +1,6 @@
 //! Which values nodes have.
 ghost use Rattle.std.specs.Prelude.{◌≡◌, ◌↔◌, IsTrue, Some};
-ghost use Rattle.iox_hub_loans.specs.Questions.{kind_in, kind_of_role};
+ghost use Rattle.iox_tables.specs.HubLoans.Questions.{kind_in, kind_of_role};
 ghost use Rattle.iox_hub.specs.Hubs.{HasValue};
 
 use crate::hub::Hub;

@@ -5,7 +5,7 @@ ghost use Rattle.iox_model.specs.declared.kind.Kind.TheVariants.{RequestMut, Res
 ghost use Rattle.iox_model.specs.declared.kind.Role.TheVariants as roles;
 ghost use Rattle.iox_model.specs.Handles.{is_request_loan, is_response_loan};
 ghost use Rattle.iox_model.specs.WholeCalls.{IsWholeCall};
-ghost use Rattle.iox_hub_states.specs.States.{Given};
+ghost use Rattle.iox_tables.specs.HubStates.States.{Given};
 ghost use Rattle.iox_control_lending.specs.Fills.{reply_of_write};
 ghost use Rattle.iox_hub.specs.Hubs.{state_of_hub};
 ghost use Rattle.iox_hub.specs.Lending.{HasWritten, LeavesWritten, payload_of};

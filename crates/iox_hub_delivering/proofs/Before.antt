@@ -13,22 +13,22 @@ use Rattle.iox_model.specs.Handles.{is_request_loan, is_response_loan}
 use Rattle.iox_model.specs.Maps.{AreApart}
 use Rattle.iox_model.specs.Messages.{request_way, response_way}
 use Rattle.iox_model.specs.Requests.{targets, to_open}
-use Rattle.iox_hub_states.specs.Tables.{HandleState, HubTables, PoolState, PortState, port_in}
-use Rattle.iox_hub_states.specs.Ways.{lane_on}
-use Rattle.iox_hub_states.specs.States.{Given}
-use Rattle.iox_hub_states.specs.Changes.{emptied_lane}
-use Rattle.iox_hub_states.specs.Releases.{lane_of}
-use Rattle.iox_hub_states.specs.Sendings.{request_sending, response_sending}
-use Rattle.iox_hub_states.specs.Sends.{with_emptied, with_opened}
-use Rattle.iox_hub_states.specs.Wirings.{IsHandle, numbers_of_role}
-use Rattle.iox_hub_states.proofs.Keys.{all_lanes_stay}
-use Rattle.iox_hub_books.specs.Hubs.{AreInOrder}
-use Rattle.iox_hub_books.specs.Keeps.{AreTargetsOf, bare_pools}
-use Rattle.iox_hub_books.proofs.Frames.{AreAlike, lanes_on_bare, port_before, states_on_bare}
-use Rattle.iox_hub_books.proofs.Little.{little_changes_keep_order}
-use Rattle.iox_hub_books.proofs.Structures.{same_lane, same_role_in}
-use Rattle.iox_hub_books.proofs.Targets.{each_has_its_targets}
-use Rattle.iox_hub_lending.proofs.Emptied.{emptying_keeps_order}
+use Rattle.iox_tables.specs.HubStates.Tables.{HandleState, HubTables, PoolState, PortState, port_in}
+use Rattle.iox_tables.specs.HubStates.Ways.{lane_on}
+use Rattle.iox_tables.specs.HubStates.States.{Given}
+use Rattle.iox_tables.specs.HubStates.Changes.{emptied_lane}
+use Rattle.iox_tables.specs.HubStates.Releases.{lane_of}
+use Rattle.iox_tables.specs.HubStates.Sendings.{request_sending, response_sending}
+use Rattle.iox_tables.specs.HubStates.Sends.{with_emptied, with_opened}
+use Rattle.iox_tables.specs.HubStates.Wirings.{IsHandle, numbers_of_role}
+use Rattle.iox_tables.proofs.HubStates.Keys.{all_lanes_stay}
+use Rattle.iox_tables.specs.HubBooks.Hubs.{AreInOrder}
+use Rattle.iox_tables.specs.HubBooks.Keeps.{AreTargetsOf, bare_pools}
+use Rattle.iox_tables.proofs.HubBooks.Frames.{AreAlike, lanes_on_bare, port_before, states_on_bare}
+use Rattle.iox_tables.proofs.HubBooks.Little.{little_changes_keep_order}
+use Rattle.iox_tables.proofs.HubBooks.Structures.{same_lane, same_role_in}
+use Rattle.iox_tables.proofs.HubBooks.Targets.{each_has_its_targets}
+use Rattle.iox_tables.proofs.HubLending.Emptied.{emptying_keeps_order}
 use Rattle.iox_hub_delivering.specs.Keeps.{AreGotBackFor}
 
 -- ---- ports that are the same but for what is on lanes and in request states

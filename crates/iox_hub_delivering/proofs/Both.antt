@@ -4,7 +4,7 @@ use Rattle.std.specs.Option.{option_map_or}
 use Rattle.std.proofs.Common.{ap, ap₂, ◌∙◌, arith}
 use Rattle.std.proofs.lemmas.Bool.Decides.{nat_tests}
 use Rattle.iox_lanes.specs.Lanes.{LaneState}
-use Rattle.iox_hub_books.specs.Counts.{is_at}
+use Rattle.iox_tables.specs.HubBooks.Counts.{is_at}
 use Rattle.iox_hub_delivering.specs.Deliveries.{EachHandOverIsBoth, EachWayIsOneDelivery, OneLaneMayTakeOver, PushedOutIsTheOldest, in_count, out_count}
 
 -- ---- what is pushed out

@@ -8,26 +8,26 @@ use Rattle.iox_model.specs.Handles.{is_received, is_request_loan, is_response_lo
 use Rattle.iox_model.specs.Loans.{kind_of_loan}
 use Rattle.iox_model.specs.Maps.{has_number}
 use Rattle.iox_lanes.specs.Lanes.{LaneState}
-use Rattle.iox_hub_states.specs.Tables.{HandleState, HubTables, PoolState, PortState, numbers_of}
-use Rattle.iox_hub_states.specs.Ways.{OnWays, lane_on, with_lanes_on, with_port}
-use Rattle.iox_hub_states.specs.Ends.{changed_handles, dropped_handles}
-use Rattle.iox_hub_states.specs.Sendings.{pending_of}
-use Rattle.iox_hub_states.specs.Wirings.{IsHandle}
-use Rattle.iox_hub_books.specs.Handles.{IsOfPort}
-use Rattle.iox_hub_books.specs.Hubs.{AreInOrder, HaveNumbers}
-use Rattle.iox_hub_books.specs.Keeps.{AreTargetsOf, HasFewerHolders, bare_pools, delivers}
-use Rattle.iox_hub_books.proofs.Frames.{AreAlike, lanes_on_bare}
-use Rattle.iox_hub_books.proofs.Going.{of_port_stays}
-use Rattle.iox_hub_books.proofs.Held.{each_handle_from}
-use Rattle.iox_hub_books.proofs.Released.{loan_releases_keep_order}
-use Rattle.iox_hub_books.proofs.Structures.{lanes_stay, pool_before, pools_stay, same_lane, same_numbers, same_role_in, widths_stay, wired_stay}
-use Rattle.iox_hub_loans.specs.Lenders.{Lender}
-use Rattle.iox_hub_loans.specs.Loans.{loaned_handle, loaned_slot, with_loaned, with_loaned_slot}
-use Rattle.iox_hub_lending.specs.Keeping.{HasMessage, HaveMessages}
-use Rattle.iox_hub_lending.specs.Lending.{MayLend}
-use Rattle.iox_hub_lending.proofs.Lent.{loans_keep_order}
-use Rattle.iox_hub_lending.proofs.NewSlot as new_slot
-use Rattle.iox_hub_lending.proofs.OneMore.{lanes_same, numbers_same, one_loan, role_same}
+use Rattle.iox_tables.specs.HubStates.Tables.{HandleState, HubTables, PoolState, PortState, numbers_of}
+use Rattle.iox_tables.specs.HubStates.Ways.{OnWays, lane_on, with_lanes_on, with_port}
+use Rattle.iox_tables.specs.HubStates.Ends.{changed_handles, dropped_handles}
+use Rattle.iox_tables.specs.HubStates.Sendings.{pending_of}
+use Rattle.iox_tables.specs.HubStates.Wirings.{IsHandle}
+use Rattle.iox_tables.specs.HubBooks.Handles.{IsOfPort}
+use Rattle.iox_tables.specs.HubBooks.Hubs.{AreInOrder, HaveNumbers}
+use Rattle.iox_tables.specs.HubBooks.Keeps.{AreTargetsOf, HasFewerHolders, bare_pools, delivers}
+use Rattle.iox_tables.proofs.HubBooks.Frames.{AreAlike, lanes_on_bare}
+use Rattle.iox_tables.proofs.HubBooks.Going.{of_port_stays}
+use Rattle.iox_tables.proofs.HubBooks.Held.{each_handle_from}
+use Rattle.iox_tables.proofs.HubBooks.Released.{loan_releases_keep_order}
+use Rattle.iox_tables.proofs.HubBooks.Structures.{lanes_stay, pool_before, pools_stay, same_lane, same_numbers, same_role_in, widths_stay, wired_stay}
+use Rattle.iox_tables.specs.HubLoans.Lenders.{Lender}
+use Rattle.iox_tables.specs.HubLoans.Loans.{loaned_handle, loaned_slot, with_loaned, with_loaned_slot}
+use Rattle.iox_tables.specs.HubLending.Keeping.{HasMessage, HaveMessages}
+use Rattle.iox_tables.specs.HubLending.Lending.{MayLend}
+use Rattle.iox_tables.proofs.HubLending.Lent.{loans_keep_order}
+use Rattle.iox_tables.proofs.HubLending.NewSlot as new_slot
+use Rattle.iox_tables.proofs.HubLending.OneMore.{lanes_same, numbers_same, one_loan, role_same}
 use Rattle.iox_hub_delivering.specs.Copies.{FailedCopiesKeepOrder, RequestCopiesKeepOrder, ResponseCopiesKeepOrder}
 use Rattle.iox_hub_delivering.specs.Deliveries.{HasDelivered, HasHandedOver}
 use Rattle.iox_hub_delivering.proofs.Counted.{gives_bare}

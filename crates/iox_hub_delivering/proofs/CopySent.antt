@@ -11,28 +11,28 @@ use Rattle.iox_model.specs.Handles.{is_request_loan}
 use Rattle.iox_model.specs.Messages.{request_way, response_way}
 use Rattle.iox_model.specs.Requests.{targets, to_open}
 use Rattle.iox_lanes.specs.Lanes.{LaneState}
-use Rattle.iox_hub_states.specs.Tables.{HandleState, HubTables, PoolState, PortState, slot_at}
-use Rattle.iox_hub_states.specs.Ways.{OnWays, lane_on, with_lanes_on, with_states_on}
-use Rattle.iox_hub_states.specs.States.{Given}
-use Rattle.iox_hub_states.specs.Changes.{emptied_lane, with_lanes}
-use Rattle.iox_hub_states.specs.Ends.{with_call}
-use Rattle.iox_hub_states.specs.Sends.{free_targets, full_targets, with_emptied, with_sent}
-use Rattle.iox_hub_states.specs.Shown.{by_lane}
-use Rattle.iox_hub_states.proofs.Keys.{all_lanes_stay}
-use Rattle.iox_hub_books.specs.Counts.{total}
-use Rattle.iox_hub_books.specs.Hubs.{AreInOrder}
-use Rattle.iox_hub_books.specs.Keeps.{AreTargetsOf, HasFewerHolders, delivers}
-use Rattle.iox_hub_books.proofs.Frames.{AreAlike, lanes_on_bare, states_on_bare}
-use Rattle.iox_hub_books.proofs.Little.{little_changes_keep_order}
-use Rattle.iox_hub_books.proofs.Targets.{each_has_its_targets}
-use Rattle.iox_hub_loans.specs.CopySends.{copy_sending, with_copied, with_loan_call}
-use Rattle.iox_hub_loans.specs.Lenders.{Lender}
-use Rattle.iox_hub_loans.specs.Loans.{loaned_handle, with_loaned_slot}
-use Rattle.iox_hub_lending.specs.Emptying.{returned_count}
-use Rattle.iox_hub_lending.specs.Emptying as back
-use Rattle.iox_hub_lending.specs.Lending.{MayLend}
-use Rattle.iox_hub_lending.proofs.Emptied.{emptying_keeps_order}
-use Rattle.iox_hub_lending.proofs.OneMore.{roles_same}
+use Rattle.iox_tables.specs.HubStates.Tables.{HandleState, HubTables, PoolState, PortState, slot_at}
+use Rattle.iox_tables.specs.HubStates.Ways.{OnWays, lane_on, with_lanes_on, with_states_on}
+use Rattle.iox_tables.specs.HubStates.States.{Given}
+use Rattle.iox_tables.specs.HubStates.Changes.{emptied_lane, with_lanes}
+use Rattle.iox_tables.specs.HubStates.Ends.{with_call}
+use Rattle.iox_tables.specs.HubStates.Sends.{free_targets, full_targets, with_emptied, with_sent}
+use Rattle.iox_tables.specs.HubStates.Shown.{by_lane}
+use Rattle.iox_tables.proofs.HubStates.Keys.{all_lanes_stay}
+use Rattle.iox_tables.specs.HubBooks.Counts.{total}
+use Rattle.iox_tables.specs.HubBooks.Hubs.{AreInOrder}
+use Rattle.iox_tables.specs.HubBooks.Keeps.{AreTargetsOf, HasFewerHolders, delivers}
+use Rattle.iox_tables.proofs.HubBooks.Frames.{AreAlike, lanes_on_bare, states_on_bare}
+use Rattle.iox_tables.proofs.HubBooks.Little.{little_changes_keep_order}
+use Rattle.iox_tables.proofs.HubBooks.Targets.{each_has_its_targets}
+use Rattle.iox_tables.specs.HubLoans.CopySends.{copy_sending, with_copied, with_loan_call}
+use Rattle.iox_tables.specs.HubLoans.Lenders.{Lender}
+use Rattle.iox_tables.specs.HubLoans.Loans.{loaned_handle, with_loaned_slot}
+use Rattle.iox_tables.specs.HubLending.Emptying.{returned_count}
+use Rattle.iox_tables.specs.HubLending.Emptying as back
+use Rattle.iox_tables.specs.HubLending.Lending.{MayLend}
+use Rattle.iox_tables.proofs.HubLending.Emptied.{emptying_keeps_order}
+use Rattle.iox_tables.proofs.HubLending.OneMore.{roles_same}
 use Rattle.iox_hub_delivering.specs.CopySends.{FailedCopySendsInOrder, RequestCopiesPushInOrder, RequestCopiesSendInOrder, ResponseCopiesPushInOrder, ResponseCopiesSendInOrder}
 use Rattle.iox_hub_delivering.specs.Deliveries.{HasDelivered, HasHandedOver}
 use Rattle.iox_hub_delivering.specs.Keeps.{AreGotBackFor, IsInOrderWith}

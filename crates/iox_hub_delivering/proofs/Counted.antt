@@ -5,26 +5,26 @@ use Rattle.iox_model.specs.declared.way.Way.{Way}
 use Rattle.iox_model.specs.Handles.{is_own}
 use Rattle.iox_model.specs.Maps.{AreApart, AreDistinct, has_number}
 use Rattle.iox_lanes.specs.Lanes.{LaneState, delivered, without_oldest}
-use Rattle.iox_hub_states.specs.Tables.{HandleState, HubTables, PortState, numbers_of}
-use Rattle.iox_hub_states.specs.Ways.{with_lanes_on, with_port, with_states_on}
-use Rattle.iox_hub_states.specs.Changes.{emptied_lane}
-use Rattle.iox_hub_states.specs.Ends.{changed_handles, dropped_handles, with_changed}
-use Rattle.iox_hub_states.specs.Sendings.{pending_of}
-use Rattle.iox_hub_states.specs.Wirings.{IsHandle}
-use Rattle.iox_hub_states.proofs.Emptied.{has-append}
-use Rattle.iox_hub_books.specs.Counts.{OfAll, OfAllLanes, how_many, on_lanes, total}
-use Rattle.iox_hub_books.specs.Keeps.{delivers}
-use Rattle.iox_hub_books.specs.Rooms.{own_count, spare}
-use Rattle.iox_hub_books.proofs.Bounds.{all_lanes_from}
-use Rattle.iox_hub_books.proofs.Delivering.{lanes_keep_at}
-use Rattle.iox_hub_books.proofs.Eachs.{all_from, lane_is, lanes_keep}
-use Rattle.iox_hub_books.proofs.Frames.{AreAlike, bare_lane, bare_port, bare_ports, lanes_on_bare, states_on_bare}
-use Rattle.iox_hub_books.proofs.HandleTotals.{handle_changed, handle_dropped}
-use Rattle.iox_hub_books.proofs.LaneLists.{lanes_same}
-use Rattle.iox_hub_books.proofs.Release.{handles_apart}
-use Rattle.iox_hub_books.proofs.Released.{states_keep, states_total}
-use Rattle.iox_hub_books.proofs.Totals.{total_same}
-use Rattle.iox_hub_lending.proofs.OneMore.{all_same}
+use Rattle.iox_tables.specs.HubStates.Tables.{HandleState, HubTables, PortState, numbers_of}
+use Rattle.iox_tables.specs.HubStates.Ways.{with_lanes_on, with_port, with_states_on}
+use Rattle.iox_tables.specs.HubStates.Changes.{emptied_lane}
+use Rattle.iox_tables.specs.HubStates.Ends.{changed_handles, dropped_handles, with_changed}
+use Rattle.iox_tables.specs.HubStates.Sendings.{pending_of}
+use Rattle.iox_tables.specs.HubStates.Wirings.{IsHandle}
+use Rattle.iox_tables.proofs.HubStates.Emptied.{has-append}
+use Rattle.iox_tables.specs.HubBooks.Counts.{OfAll, OfAllLanes, how_many, on_lanes, total}
+use Rattle.iox_tables.specs.HubBooks.Keeps.{delivers}
+use Rattle.iox_tables.specs.HubBooks.Rooms.{own_count, spare}
+use Rattle.iox_tables.proofs.HubBooks.Bounds.{all_lanes_from}
+use Rattle.iox_tables.proofs.HubBooks.Delivering.{lanes_keep_at}
+use Rattle.iox_tables.proofs.HubBooks.Eachs.{all_from, lane_is, lanes_keep}
+use Rattle.iox_tables.proofs.HubBooks.Frames.{AreAlike, bare_lane, bare_port, bare_ports, lanes_on_bare, states_on_bare}
+use Rattle.iox_tables.proofs.HubBooks.HandleTotals.{handle_changed, handle_dropped}
+use Rattle.iox_tables.proofs.HubBooks.LaneLists.{lanes_same}
+use Rattle.iox_tables.proofs.HubBooks.Release.{handles_apart}
+use Rattle.iox_tables.proofs.HubBooks.Released.{states_keep, states_total}
+use Rattle.iox_tables.proofs.HubBooks.Totals.{total_same}
+use Rattle.iox_tables.proofs.HubLending.OneMore.{all_same}
 use Rattle.iox_hub_delivering.specs.Counts.{AreCountedBy, EachSendIsCounted, EachSendNeedsAsMuch, EndsNeedOneLess, NeedsAsMuch}
 use Rattle.iox_hub_delivering.proofs.Delivered.{its_name}
 

@@ -2,20 +2,20 @@
 use Rattle.std.specs.Prelude.{◌≡◌, ℕ, Bool, if◌then◌else◌, List, map, Option, Some}
 use Rattle.std.proofs.Common.{ap₂, ◌∙◌, arith}
 use Rattle.iox_model.specs.declared.way.Way.{Way}
-use Rattle.iox_hub_states.specs.Tables.{HandleState, HubTables, PoolState, numbers_of}
-use Rattle.iox_hub_states.specs.Ways.{lane_on}
-use Rattle.iox_hub_states.specs.Changes.{with_lanes}
-use Rattle.iox_hub_states.specs.Ends.{with_changed, with_dropped}
-use Rattle.iox_hub_states.specs.Sendings.{pending_of}
-use Rattle.iox_hub_states.specs.Wirings.{IsHandle, handle_in}
-use Rattle.iox_hub_states.proofs.Naming.{handle_node, handle_number}
-use Rattle.iox_hub_books.specs.Counts.{is_at, lane_count}
-use Rattle.iox_hub_books.specs.Hubs.{AreInOrder, HoldersAreCounted}
-use Rattle.iox_hub_books.specs.Keeps.{AreTargetsOf, delivers}
-use Rattle.iox_hub_books.proofs.HandleTotals.{handle_changed, handle_dropped}
-use Rattle.iox_hub_books.proofs.LaneLists.{lanes_total}
-use Rattle.iox_hub_books.proofs.LoanDeliveries.{request_deliveries_keep_order, response_deliveries_keep_order}
-use Rattle.iox_hub_books.proofs.Release.{handles_apart}
+use Rattle.iox_tables.specs.HubStates.Tables.{HandleState, HubTables, PoolState, numbers_of}
+use Rattle.iox_tables.specs.HubStates.Ways.{lane_on}
+use Rattle.iox_tables.specs.HubStates.Changes.{with_lanes}
+use Rattle.iox_tables.specs.HubStates.Ends.{with_changed, with_dropped}
+use Rattle.iox_tables.specs.HubStates.Sendings.{pending_of}
+use Rattle.iox_tables.specs.HubStates.Wirings.{IsHandle, handle_in}
+use Rattle.iox_tables.proofs.HubStates.Naming.{handle_node, handle_number}
+use Rattle.iox_tables.specs.HubBooks.Counts.{is_at, lane_count}
+use Rattle.iox_tables.specs.HubBooks.Hubs.{AreInOrder, HoldersAreCounted}
+use Rattle.iox_tables.specs.HubBooks.Keeps.{AreTargetsOf, delivers}
+use Rattle.iox_tables.proofs.HubBooks.HandleTotals.{handle_changed, handle_dropped}
+use Rattle.iox_tables.proofs.HubBooks.LaneLists.{lanes_total}
+use Rattle.iox_tables.proofs.HubBooks.LoanDeliveries.{request_deliveries_keep_order, response_deliveries_keep_order}
+use Rattle.iox_tables.proofs.HubBooks.Release.{handles_apart}
 use Rattle.iox_hub_delivering.specs.Deliveries.{HasDelivered, HasHandedOver}
 use Rattle.iox_hub_delivering.specs.Keeps.{DeliveredRequestsKeepOrder, DeliveredResponsesKeepOrder}
 use Rattle.iox_hub_delivering.proofs.Pushed.{lanes_give}

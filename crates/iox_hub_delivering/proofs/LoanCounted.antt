@@ -4,14 +4,14 @@ use Rattle.std.proofs.Common.{sym, ap, subst, ◌∙◌, arith, inl, inr}
 use Rattle.iox_model.specs.declared.way.Way.{Way}
 use Rattle.iox_model.specs.Maps.{AreDistinct, has_number}
 use Rattle.iox_lanes.specs.Lanes.{LaneState}
-use Rattle.iox_hub_states.specs.Tables.{HandleState, HubTables, PortState, pool_at, port_in, slot_at}
-use Rattle.iox_hub_states.specs.Ways.{OnWays, lane_on}
-use Rattle.iox_hub_states.specs.Ends.{with_loan}
-use Rattle.iox_hub_books.specs.Counts.{handle_uses, lane_count}
-use Rattle.iox_hub_books.specs.Handles.{IsFromLane, IsOfPoolOrGone, IsOfPort, way_in}
-use Rattle.iox_hub_books.specs.Hubs.{AreInOrder, HasEachPlaceOnce, HasPool, HaveNumbers, HavePools, HaveSerials, IsUsed}
-use Rattle.iox_hub_books.proofs.Held.{each_handle_from}
-use Rattle.iox_hub_lending.proofs.OneMore.{Was, all_same, counts_same, is_now, lanes_same, numbers_same, role_same, senders_stay, there_same, was, widths_stay, wired_stay}
+use Rattle.iox_tables.specs.HubStates.Tables.{HandleState, HubTables, PortState, pool_at, port_in, slot_at}
+use Rattle.iox_tables.specs.HubStates.Ways.{OnWays, lane_on}
+use Rattle.iox_tables.specs.HubStates.Ends.{with_loan}
+use Rattle.iox_tables.specs.HubBooks.Counts.{handle_uses, lane_count}
+use Rattle.iox_tables.specs.HubBooks.Handles.{IsFromLane, IsOfPoolOrGone, IsOfPort, way_in}
+use Rattle.iox_tables.specs.HubBooks.Hubs.{AreInOrder, HasEachPlaceOnce, HasPool, HaveNumbers, HavePools, HaveSerials, IsUsed}
+use Rattle.iox_tables.proofs.HubBooks.Held.{each_handle_from}
+use Rattle.iox_tables.proofs.HubLending.OneMore.{Was, all_same, counts_same, is_now, lanes_same, numbers_same, role_same, senders_stay, there_same, was, widths_stay, wired_stay}
 use Rattle.iox_hub_delivering.specs.Copies.{CountedLoansKeepOrder}
 
 module _ (t : HubTables) (n : ℕ) (order : AreInOrder t) where

@@ -6,14 +6,14 @@ use Rattle.iox_model.specs.declared.way.Way.{Way}
 use Rattle.iox_model.specs.Maps.{has_number}
 use Rattle.iox_lanes.specs.Lanes.{LaneState}
 use Rattle.iox_lanes.specs.Pipes.{PipeState, with_lane, with_state}
-use Rattle.iox_hub_states.specs.Tables.{HandleState, HubTables, PortState, numbers_of, port_in, senders_of, with_first_by}
-use Rattle.iox_hub_states.specs.Ways.{with_lane_on, with_lanes_on, with_pipe_from, with_pipe_of, with_pipes, with_port, with_state_on, with_states_on}
-use Rattle.iox_hub_states.specs.Ends.{changed_handles, dropped_handles}
-use Rattle.iox_hub_states.specs.Wirings.{handle_in}
-use Rattle.iox_hub_states.proofs.Emptied.{has-append}
-use Rattle.iox_hub_states.proofs.Keys.{lane_sender, same_number, state_sender}
-use Rattle.iox_hub_books.specs.Hubs.{AreInOrder, numbers_in}
-use Rattle.iox_hub_lending.proofs.OneMore.{one_loan}
+use Rattle.iox_tables.specs.HubStates.Tables.{HandleState, HubTables, PortState, numbers_of, port_in, senders_of, with_first_by}
+use Rattle.iox_tables.specs.HubStates.Ways.{with_lane_on, with_lanes_on, with_pipe_from, with_pipe_of, with_pipes, with_port, with_state_on, with_states_on}
+use Rattle.iox_tables.specs.HubStates.Ends.{changed_handles, dropped_handles}
+use Rattle.iox_tables.specs.HubStates.Wirings.{handle_in}
+use Rattle.iox_tables.proofs.HubStates.Emptied.{has-append}
+use Rattle.iox_tables.proofs.HubStates.Keys.{lane_sender, same_number, state_sender}
+use Rattle.iox_tables.specs.HubBooks.Hubs.{AreInOrder, numbers_in}
+use Rattle.iox_tables.proofs.HubLending.OneMore.{one_loan}
 
 -- ---- numbers
 

@@ -5,12 +5,12 @@ use Rattle.std.proofs.Common.{sym, ap, ◌∙◌, arith, length-append, true≢f
 use Rattle.std.proofs.lemmas.Bool.Decides.{nat_tests}
 use Rattle.iox_model.specs.declared.way.Way.{Way}
 use Rattle.iox_lanes.specs.Lanes.{LaneState, delivered, is_full, oldest, without_oldest}
-use Rattle.iox_hub_states.specs.Ways.{OnWays}
-use Rattle.iox_hub_states.specs.Shown.{by_lane}
-use Rattle.iox_hub_states.specs.Steps.{places_on}
-use Rattle.iox_hub_books.specs.Counts.{how_often, lane_count, total}
-use Rattle.iox_hub_books.specs.Keeps.{delivers}
-use Rattle.iox_hub_books.proofs.LaneCounts.{delivered_places, evicted_places}
+use Rattle.iox_tables.specs.HubStates.Ways.{OnWays}
+use Rattle.iox_tables.specs.HubStates.Shown.{by_lane}
+use Rattle.iox_tables.specs.HubStates.Steps.{places_on}
+use Rattle.iox_tables.specs.HubBooks.Counts.{how_often, lane_count, total}
+use Rattle.iox_tables.specs.HubBooks.Keeps.{delivers}
+use Rattle.iox_tables.proofs.HubBooks.LaneCounts.{delivered_places, evicted_places}
 use Rattle.iox_hub_delivering.specs.Deliveries.{delivered_on, in_count, out_count, pushed_on}
 
 -- one more is too many exactly where the lane is full

@@ -5,22 +5,22 @@ use Rattle.std.proofs.Common.{sym, ap, subst, ◌∙◌}
 use Rattle.iox_model.specs.declared.way.Way.{Way}
 use Rattle.iox_model.specs.Doings.{Sending}
 use Rattle.iox_model.specs.Requests.{targets, to_open}
-use Rattle.iox_hub_states.specs.Tables.{HandleState, HubTables, PoolState}
-use Rattle.iox_hub_states.specs.Ways.{OnWays, lane_on}
-use Rattle.iox_hub_states.specs.States.{Given}
-use Rattle.iox_hub_states.specs.Changes.{with_lanes}
-use Rattle.iox_hub_states.specs.Ends.{with_call, with_changed, with_dropped}
+use Rattle.iox_tables.specs.HubStates.Tables.{HandleState, HubTables, PoolState}
+use Rattle.iox_tables.specs.HubStates.Ways.{OnWays, lane_on}
+use Rattle.iox_tables.specs.HubStates.States.{Given}
+use Rattle.iox_tables.specs.HubStates.Changes.{with_lanes}
+use Rattle.iox_tables.specs.HubStates.Ends.{with_call, with_changed, with_dropped}
 use Rattle.iox_lanes.specs.Lanes.{LaneState}
-use Rattle.iox_hub_states.specs.Sendings.{pending_of, request_sending, response_sending}
-use Rattle.iox_hub_states.specs.Sends.{free_targets, full_targets, with_delivered, with_emptied, with_opened, with_pushed, with_sent}
-use Rattle.iox_hub_states.specs.Wirings.{IsHandle}
+use Rattle.iox_tables.specs.HubStates.Sendings.{pending_of, request_sending, response_sending}
+use Rattle.iox_tables.specs.HubStates.Sends.{free_targets, full_targets, with_delivered, with_emptied, with_opened, with_pushed, with_sent}
+use Rattle.iox_tables.specs.HubStates.Wirings.{IsHandle}
 use Rattle.iox_model.specs.Handles.{is_request_loan, is_response_loan}
-use Rattle.iox_hub_books.specs.Hubs.{AreInOrder}
-use Rattle.iox_hub_books.specs.Keeps.{AreTargetsOf, bare_pools, delivers}
-use Rattle.iox_hub_books.proofs.Little.{little_changes_keep_order}
-use Rattle.iox_hub_books.proofs.Released.{loan_releases_keep_order}
-use Rattle.iox_hub_books.proofs.Rooms.{bare_pools_show_the_same}
-use Rattle.iox_hub_books.proofs.Targets.{each_has_its_targets}
+use Rattle.iox_tables.specs.HubBooks.Hubs.{AreInOrder}
+use Rattle.iox_tables.specs.HubBooks.Keeps.{AreTargetsOf, bare_pools, delivers}
+use Rattle.iox_tables.proofs.HubBooks.Little.{little_changes_keep_order}
+use Rattle.iox_tables.proofs.HubBooks.Released.{loan_releases_keep_order}
+use Rattle.iox_tables.proofs.HubBooks.Rooms.{bare_pools_show_the_same}
+use Rattle.iox_tables.proofs.HubBooks.Targets.{each_has_its_targets}
 use Rattle.iox_hub_delivering.specs.Deliveries.{HasDelivered, HasHandedOver}
 use Rattle.iox_hub_delivering.specs.Keeps.{AreGotBackFor, FailedSendsKeepOrder, IsInOrderWith, RefusedSendsKeepOrder, RequestPushesKeepOrder, RequestSendsKeepOrder, ResponsePushesKeepOrder, ResponseSendsKeepOrder}
 use Rattle.iox_hub_delivering.proofs.Before.{emptied_alike, emptied_in_order, named_stays, opened_alike, opened_in_order, opened_lanes, opened_ports, request_targets, response_targets, targets_stay}

@@ -2,11 +2,11 @@
 use Rattle.std.specs.Prelude.{◌≡◌, ℕ, ◌+◌, ◌-◌, ◌<◌, Bool, true, false, ◌&&◌, if◌then◌else◌, ◌==◌, List, Option, Some, None, slice_get, slice_set, map, zero, suc, [], ◌∷◌, refl}
 use Rattle.std.specs.Option.{option_map, option_map_or}
 use Rattle.std.proofs.Common.{sym, ap, ap₂, ◌∙◌, arith, eqb-true}
-use Rattle.iox_hub_states.specs.Tables.{PoolState, SlotState, slot_at}
+use Rattle.iox_tables.specs.HubStates.Tables.{PoolState, SlotState, slot_at}
 use Rattle.iox_slots.specs.Pools.{with_slot}
 use Rattle.iox_slots.specs.Slots.{held, let_go, with_slot_of}
 use Rattle.iox_slots.proofs.CallerLemmas.{holders_held, holders_let_go, one_at, taken_is_there}
-use Rattle.iox_hub_books.specs.Keeps.{bare_pool, bare_pools, bare_slot}
+use Rattle.iox_tables.specs.HubBooks.Keeps.{bare_pool, bare_pools, bare_slot}
 use Rattle.iox_hub_delivering.specs.Steps.{LettingGoEndsHandles, with_out}
 
 map_set : {A B : Type 0} (show : A → B) (xs : List A) (i : ℕ) (x y : A) → slice_get xs i ≡ Some x → show y ≡ show x → map show xs ≡ map show (slice_set xs i y)

@@ -3,12 +3,12 @@ use Rattle.std.specs.Prelude.{◌≡◌, Bool, true, false, ◌||◌, List, [], 
 use Rattle.std.proofs.Common.{sym, ap, ◌∙◌, true≢false}
 use Rattle.iox_model.specs.declared.way.Way.{Way}
 use Rattle.iox_model.specs.Maps.{AreApart, has_way, same_way}
-use Rattle.iox_weave_laws.proofs.MapLemmas.{is_in-first, same_way-true}
+use Rattle.iox_laws.proofs.WeaveLaws.MapLemmas.{is_in-first, same_way-true}
 use Rattle.iox_lanes.specs.Lanes.{LaneState}
-use Rattle.iox_hub_states.specs.Tables.{PortState}
-use Rattle.iox_hub_states.specs.Ways.{with_lane_on, with_lanes_on}
-use Rattle.iox_hub_books.proofs.Delivering.{lane_elsewhere}
-use Rattle.iox_hub_loans.proofs.Dry.{or_right}
+use Rattle.iox_tables.specs.HubStates.Tables.{PortState}
+use Rattle.iox_tables.specs.HubStates.Ways.{with_lane_on, with_lanes_on}
+use Rattle.iox_tables.proofs.HubBooks.Delivering.{lane_elsewhere}
+use Rattle.iox_tables.proofs.HubLoans.Dry.{or_right}
 use Rattle.iox_hub_delivering.specs.Steps.{EachChangeIsOneMore, FirstWaysAreTargets, NoStepDeliversNothing}
 
 -- ---- ways

@@ -8,24 +8,24 @@ use Rattle.iox_model.specs.declared.way.Way.{Way}
 use Rattle.iox_model.specs.Handles.{is_own}
 use Rattle.iox_model.specs.Maps.{AreApart}
 use Rattle.iox_lanes.specs.Lanes.{LaneState}
-use Rattle.iox_hub_states.specs.Tables.{HandleState, HubTables, PoolState, PortState, port_in, slot_at}
-use Rattle.iox_hub_states.specs.Ways.{OnWays, lane_on, with_lanes_on}
-use Rattle.iox_hub_states.specs.Shown.{by_lane}
-use Rattle.iox_hub_states.specs.Steps.{places_on}
-use Rattle.iox_hub_states.specs.Wirings.{IsHandle}
+use Rattle.iox_tables.specs.HubStates.Tables.{HandleState, HubTables, PoolState, PortState, port_in, slot_at}
+use Rattle.iox_tables.specs.HubStates.Ways.{OnWays, lane_on, with_lanes_on}
+use Rattle.iox_tables.specs.HubStates.Shown.{by_lane}
+use Rattle.iox_tables.specs.HubStates.Steps.{places_on}
+use Rattle.iox_tables.specs.HubStates.Wirings.{IsHandle}
 use Rattle.iox_slots.specs.Pools.{with_slot}
 use Rattle.iox_slots.specs.Slots.{held}
 use Rattle.iox_slots.proofs.CallerLemmas.{one_at}
-use Rattle.iox_hub_books.specs.Counts.{how_often, lane_count, lane_uses, on_lanes, total}
-use Rattle.iox_hub_books.specs.Handles.{IsOfPort, is_loan}
-use Rattle.iox_hub_books.specs.Hubs.{AreInOrder, HasEachPlaceOnce}
-use Rattle.iox_hub_books.specs.Keeps.{AreTargetsOf, delivers}
-use Rattle.iox_hub_books.specs.Rooms.{most_holders}
-use Rattle.iox_hub_books.proofs.Bounds.{all_lanes_from, lane_once, lanes_below}
-use Rattle.iox_hub_books.proofs.LaneLists.{lanes_same, lanes_total}
-use Rattle.iox_hub_books.proofs.LoanDeliveries.{gives}
-use Rattle.iox_hub_books.proofs.Totals.{total-last}
-use Rattle.iox_hub_books.proofs.Used.{handle_below, handle_is, lane_below, on_no_lane}
+use Rattle.iox_tables.specs.HubBooks.Counts.{how_often, lane_count, lane_uses, on_lanes, total}
+use Rattle.iox_tables.specs.HubBooks.Handles.{IsOfPort, is_loan}
+use Rattle.iox_tables.specs.HubBooks.Hubs.{AreInOrder, HasEachPlaceOnce}
+use Rattle.iox_tables.specs.HubBooks.Keeps.{AreTargetsOf, delivers}
+use Rattle.iox_tables.specs.HubBooks.Rooms.{most_holders}
+use Rattle.iox_tables.proofs.HubBooks.Bounds.{all_lanes_from, lane_once, lanes_below}
+use Rattle.iox_tables.proofs.HubBooks.LaneLists.{lanes_same, lanes_total}
+use Rattle.iox_tables.proofs.HubBooks.LoanDeliveries.{gives}
+use Rattle.iox_tables.proofs.HubBooks.Totals.{total-last}
+use Rattle.iox_tables.proofs.HubBooks.Used.{handle_below, handle_is, lane_below, on_no_lane}
 use Rattle.iox_hub_delivering.specs.Deliveries.{HasDelivered, in_count, out_count, pushed_on, pushed_out_by}
 use Rattle.iox_hub_delivering.specs.Steps.{DeliversOneMore, EachStepDelivers, HandsOver, OneWayHandsOver, SentStaysHeld, with_out}
 use Rattle.iox_hub_delivering.proofs.Both.{one_lane_may_take_over}

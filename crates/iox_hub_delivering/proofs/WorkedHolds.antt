@@ -3,9 +3,9 @@ use Rattle.std.specs.Prelude.{◌≡◌, ℕ, ◌+◌, ◌<◌, zero, suc, Bool,
 use Rattle.std.proofs.Common.{arith, true≢false}
 use Rattle.std.proofs.lemmas.Bool.Decides.{nat_tests}
 use Rattle.iox_model.specs.Messages.{request_way}
-use Rattle.iox_hub_states.specs.Tables.{slot_at}
-use Rattle.iox_hub_states.specs.Ways.{lane_on}
-use Rattle.iox_hub_states.specs.Worked.{one_request}
+use Rattle.iox_tables.specs.HubStates.Tables.{slot_at}
+use Rattle.iox_tables.specs.HubStates.Ways.{lane_on}
+use Rattle.iox_tables.specs.HubStates.Worked.{one_request}
 use Rattle.iox_hub_delivering.specs.Deliveries.{delivered_on, pushed_on}
 use Rattle.iox_hub_delivering.specs.Worked.{TheSecondPushesOutTheFirst, pool_of_two}
 

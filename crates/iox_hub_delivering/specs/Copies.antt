@@ -2,16 +2,16 @@
 use Rattle.std.specs.Prelude.{◌≡◌, ℕ, Bool, false, List, Option}
 use Rattle.iox_model.specs.declared.kind.Role.TheVariants.{Client, Server}
 use Rattle.iox_model.specs.declared.way.Way.{Way}
-use Rattle.iox_hub_states.specs.Tables.{HandleState, HubTables, PoolState}
-use Rattle.iox_hub_states.specs.Ways.{lane_on}
-use Rattle.iox_hub_states.specs.Changes.{with_lanes}
-use Rattle.iox_hub_states.specs.Ends.{with_loan}
-use Rattle.iox_hub_books.specs.Hubs.{AreInOrder}
-use Rattle.iox_hub_books.specs.Keeps.{AreTargetsOf, HasFewerHolders, delivers}
-use Rattle.iox_hub_loans.specs.CopySends.{with_copied, with_loan_call}
-use Rattle.iox_hub_loans.specs.Lenders.{Lender}
-use Rattle.iox_hub_loans.specs.Loans.{loaned_handle, with_loaned_slot}
-use Rattle.iox_hub_lending.specs.Lending.{MayLend}
+use Rattle.iox_tables.specs.HubStates.Tables.{HandleState, HubTables, PoolState}
+use Rattle.iox_tables.specs.HubStates.Ways.{lane_on}
+use Rattle.iox_tables.specs.HubStates.Changes.{with_lanes}
+use Rattle.iox_tables.specs.HubStates.Ends.{with_loan}
+use Rattle.iox_tables.specs.HubBooks.Hubs.{AreInOrder}
+use Rattle.iox_tables.specs.HubBooks.Keeps.{AreTargetsOf, HasFewerHolders, delivers}
+use Rattle.iox_tables.specs.HubLoans.CopySends.{with_copied, with_loan_call}
+use Rattle.iox_tables.specs.HubLoans.Lenders.{Lender}
+use Rattle.iox_tables.specs.HubLoans.Loans.{loaned_handle, with_loaned_slot}
+use Rattle.iox_tables.specs.HubLending.Lending.{MayLend}
 use Rattle.iox_hub_delivering.specs.Deliveries.{HasDelivered, HasHandedOver}
 
 -- The ways of a copy's message, by the handle of its loan. The tables have the message in its slot,

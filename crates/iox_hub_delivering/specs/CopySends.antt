@@ -6,17 +6,17 @@ use Rattle.iox_model.specs.declared.kind.Role.{Role}
 use Rattle.iox_model.specs.declared.kind.Role.TheVariants.{Client, Server}
 use Rattle.iox_model.specs.Doings.{Sending}
 use Rattle.iox_model.specs.Requests.{targets}
-use Rattle.iox_hub_states.specs.Tables.{HandleState, HubTables, PoolState}
-use Rattle.iox_hub_states.specs.Ways.{lane_on}
-use Rattle.iox_hub_states.specs.States.{Given}
-use Rattle.iox_hub_states.specs.Ends.{with_call}
-use Rattle.iox_hub_states.specs.Sends.{free_targets, full_targets, with_emptied, with_pushed, with_sent}
-use Rattle.iox_hub_books.specs.Hubs.{AreInOrder}
-use Rattle.iox_hub_books.specs.Keeps.{HasFewerHolders}
-use Rattle.iox_hub_loans.specs.CopySends.{copy_sending, with_copied, with_loan_call}
-use Rattle.iox_hub_loans.specs.Lenders.{Lender}
-use Rattle.iox_hub_loans.specs.Loans.{loaned_handle, with_loaned_slot}
-use Rattle.iox_hub_lending.specs.Lending.{MayLend}
+use Rattle.iox_tables.specs.HubStates.Tables.{HandleState, HubTables, PoolState}
+use Rattle.iox_tables.specs.HubStates.Ways.{lane_on}
+use Rattle.iox_tables.specs.HubStates.States.{Given}
+use Rattle.iox_tables.specs.HubStates.Ends.{with_call}
+use Rattle.iox_tables.specs.HubStates.Sends.{free_targets, full_targets, with_emptied, with_pushed, with_sent}
+use Rattle.iox_tables.specs.HubBooks.Hubs.{AreInOrder}
+use Rattle.iox_tables.specs.HubBooks.Keeps.{HasFewerHolders}
+use Rattle.iox_tables.specs.HubLoans.CopySends.{copy_sending, with_copied, with_loan_call}
+use Rattle.iox_tables.specs.HubLoans.Lenders.{Lender}
+use Rattle.iox_tables.specs.HubLoans.Loans.{loaned_handle, with_loaned_slot}
+use Rattle.iox_tables.specs.HubLending.Lending.{MayLend}
 use Rattle.iox_hub_delivering.specs.Deliveries.{HasDelivered, HasHandedOver}
 use Rattle.iox_hub_delivering.specs.Keeps.{AreGotBackFor, IsInOrderWith}
 

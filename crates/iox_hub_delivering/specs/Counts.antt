@@ -4,16 +4,16 @@ use Rattle.iox_model.specs.declared.way.RequestState.{RequestState}
 use Rattle.iox_model.specs.declared.way.Way.{Way}
 use Rattle.iox_model.specs.Handles.{is_own}
 use Rattle.iox_model.specs.Maps.{AreApart}
-use Rattle.iox_hub_states.specs.Tables.{HandleState, HubTables, PortState}
-use Rattle.iox_hub_states.specs.Ways.{with_lanes_on, with_port, with_states_on}
-use Rattle.iox_hub_states.specs.Changes.{emptied_lane, with_lanes, with_states}
-use Rattle.iox_hub_states.specs.Ends.{with_changed, with_dropped}
-use Rattle.iox_hub_states.specs.Sendings.{pending_of}
-use Rattle.iox_hub_states.specs.Wirings.{IsHandle}
-use Rattle.iox_hub_books.specs.Counts.{OfAll, OfAllLanes}
-use Rattle.iox_hub_books.specs.Hubs.{AreInOrder}
-use Rattle.iox_hub_books.specs.Keeps.{delivers}
-use Rattle.iox_hub_books.specs.Rooms.{may_come, most_holders}
+use Rattle.iox_tables.specs.HubStates.Tables.{HandleState, HubTables, PortState}
+use Rattle.iox_tables.specs.HubStates.Ways.{with_lanes_on, with_port, with_states_on}
+use Rattle.iox_tables.specs.HubStates.Changes.{emptied_lane, with_lanes, with_states}
+use Rattle.iox_tables.specs.HubStates.Ends.{with_changed, with_dropped}
+use Rattle.iox_tables.specs.HubStates.Sendings.{pending_of}
+use Rattle.iox_tables.specs.HubStates.Wirings.{IsHandle}
+use Rattle.iox_tables.specs.HubBooks.Counts.{OfAll, OfAllLanes}
+use Rattle.iox_tables.specs.HubBooks.Hubs.{AreInOrder}
+use Rattle.iox_tables.specs.HubBooks.Keeps.{delivers}
+use Rattle.iox_tables.specs.HubBooks.Rooms.{may_come, most_holders}
 
 -- ---- counts
 

@@ -3,12 +3,12 @@ use Rattle.std.specs.Prelude.{◌≡◌, ℕ, ◌+◌, ◌≤◌, Bool, true, �
 use Rattle.std.specs.Option.{option_map_or}
 use Rattle.iox_model.specs.declared.way.Way.{Way}
 use Rattle.iox_lanes.specs.Lanes.{LaneState, delivered, is_full, oldest}
-use Rattle.iox_hub_states.specs.Tables.{HandleState, PoolState, slot_at}
-use Rattle.iox_hub_states.specs.Ways.{OnWays}
-use Rattle.iox_hub_states.specs.Changes.{OnEach}
-use Rattle.iox_hub_states.specs.Shown.{by_lane}
-use Rattle.iox_hub_books.specs.Counts.{is_at, total}
-use Rattle.iox_hub_books.specs.Keeps.{HasFewerHolders, bare_pools}
+use Rattle.iox_tables.specs.HubStates.Tables.{HandleState, PoolState, slot_at}
+use Rattle.iox_tables.specs.HubStates.Ways.{OnWays}
+use Rattle.iox_tables.specs.HubStates.Changes.{OnEach}
+use Rattle.iox_tables.specs.HubStates.Shown.{by_lane}
+use Rattle.iox_tables.specs.HubBooks.Counts.{is_at, total}
+use Rattle.iox_tables.specs.HubBooks.Keeps.{HasFewerHolders, bare_pools}
 
 -- ---- one lane
 

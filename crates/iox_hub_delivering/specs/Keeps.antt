@@ -6,18 +6,18 @@ use Rattle.iox_model.specs.Doings.{Sending}
 use Rattle.iox_model.specs.Handles.{is_received, is_request_loan, is_response_loan}
 use Rattle.iox_model.specs.Maps.{AreApart}
 use Rattle.iox_model.specs.Requests.{targets}
-use Rattle.iox_hub_states.specs.Tables.{HandleState, HubTables, PoolState}
-use Rattle.iox_hub_states.specs.Ways.{lane_on}
-use Rattle.iox_hub_states.specs.States.{Given, state_shown}
-use Rattle.iox_hub_states.specs.Changes.{with_lanes}
-use Rattle.iox_hub_states.specs.Ends.{with_changed, with_dropped}
-use Rattle.iox_hub_states.specs.Sendings.{pending_of, request_sending, response_sending}
-use Rattle.iox_hub_states.specs.Sends.{free_targets, full_targets, with_emptied, with_pushed, with_sent}
-use Rattle.iox_hub_states.specs.Wirings.{IsHandle}
-use Rattle.iox_hub_books.specs.Hubs.{AreInOrder}
-use Rattle.iox_hub_books.specs.Keeps.{AreTargetsOf, HasFewerHolders, delivers}
-use Rattle.iox_hub_lending.specs.Emptying as back
-use Rattle.iox_hub_making.specs.WholeReleases.{request_left}
+use Rattle.iox_tables.specs.HubStates.Tables.{HandleState, HubTables, PoolState}
+use Rattle.iox_tables.specs.HubStates.Ways.{lane_on}
+use Rattle.iox_tables.specs.HubStates.States.{Given, state_shown}
+use Rattle.iox_tables.specs.HubStates.Changes.{with_lanes}
+use Rattle.iox_tables.specs.HubStates.Ends.{with_changed, with_dropped}
+use Rattle.iox_tables.specs.HubStates.Sendings.{pending_of, request_sending, response_sending}
+use Rattle.iox_tables.specs.HubStates.Sends.{free_targets, full_targets, with_emptied, with_pushed, with_sent}
+use Rattle.iox_tables.specs.HubStates.Wirings.{IsHandle}
+use Rattle.iox_tables.specs.HubBooks.Hubs.{AreInOrder}
+use Rattle.iox_tables.specs.HubBooks.Keeps.{AreTargetsOf, HasFewerHolders, delivers}
+use Rattle.iox_tables.specs.HubLending.Emptying as back
+use Rattle.iox_tables.specs.HubMaking.WholeReleases.{request_left}
 use Rattle.iox_hub_delivering.specs.Deliveries.{HasDelivered, HasHandedOver}
 
 -- ---- deliveries

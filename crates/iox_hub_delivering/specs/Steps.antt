@@ -3,15 +3,15 @@ use Rattle.std.specs.Prelude.{◌≡◌, ℕ, ◌+◌, ◌<◌, ◌≤◌, Bool,
 use Rattle.iox_model.specs.declared.way.Way.{Way}
 use Rattle.iox_model.specs.Maps.{AreApart}
 use Rattle.iox_lanes.specs.Lanes.{LaneState}
-use Rattle.iox_hub_states.specs.Tables.{HandleState, HubTables, PoolState, PortState, slot_at}
-use Rattle.iox_hub_states.specs.Ways.{OnWays, lane_on, with_lane_on, with_lanes_on}
-use Rattle.iox_hub_states.specs.Wirings.{IsHandle}
+use Rattle.iox_tables.specs.HubStates.Tables.{HandleState, HubTables, PoolState, PortState, slot_at}
+use Rattle.iox_tables.specs.HubStates.Ways.{OnWays, lane_on, with_lane_on, with_lanes_on}
+use Rattle.iox_tables.specs.HubStates.Wirings.{IsHandle}
 use Rattle.iox_slots.specs.Pools.{with_slot}
 use Rattle.iox_slots.specs.Slots.{held, let_go}
-use Rattle.iox_hub_books.specs.Handles.{is_loan}
-use Rattle.iox_hub_books.specs.Hubs.{AreInOrder}
-use Rattle.iox_hub_books.specs.Keeps.{AreTargetsOf, HasFewerHolders}
-use Rattle.iox_hub_books.specs.Rooms.{most_holders}
+use Rattle.iox_tables.specs.HubBooks.Handles.{is_loan}
+use Rattle.iox_tables.specs.HubBooks.Hubs.{AreInOrder}
+use Rattle.iox_tables.specs.HubBooks.Keeps.{AreTargetsOf, HasFewerHolders}
+use Rattle.iox_tables.specs.HubBooks.Rooms.{most_holders}
 use Rattle.iox_hub_delivering.specs.Deliveries.{HasDelivered, HasHandedOver, pushed_out_by}
 
 -- one less has the message that was pushed out, if one was

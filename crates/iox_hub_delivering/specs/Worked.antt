@@ -3,10 +3,10 @@ use Rattle.std.specs.Prelude.{ℕ, true, false, List, [], ◌∷◌, Option, Som
 use Rattle.iox_model.specs.declared.way.Way.{Way}
 use Rattle.iox_model.specs.Messages.{request_way}
 use Rattle.iox_lanes.specs.Lanes.{LaneState}
-use Rattle.iox_hub_states.specs.Tables.{PoolState}
-use Rattle.iox_hub_states.specs.Ways.{OnWays, lane_on}
-use Rattle.iox_hub_states.specs.States.{no_id}
-use Rattle.iox_hub_states.specs.Worked.{one_request}
+use Rattle.iox_tables.specs.HubStates.Tables.{PoolState}
+use Rattle.iox_tables.specs.HubStates.Ways.{OnWays, lane_on}
+use Rattle.iox_tables.specs.HubStates.States.{no_id}
+use Rattle.iox_tables.specs.HubStates.Worked.{one_request}
 use Rattle.iox_hub_delivering.specs.Deliveries.{HasDelivered}
 
 -- the pool of client 0: so many have its first message, and so many its second

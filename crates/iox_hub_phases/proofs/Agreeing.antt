@@ -5,14 +5,14 @@ use Rattle.std.proofs.Common.{sym, ap, ◌∙◌, true≢false}
 use Rattle.std.proofs.lemmas.Option.{none-some}
 use Rattle.iox_model.specs.declared.way.Way.{Way}
 use Rattle.iox_model.specs.Maps.{has_number, has_way, or_else, same_way}
-use Rattle.iox_weave_laws.proofs.MapLemmas.{same_way-flip}
+use Rattle.iox_laws.proofs.WeaveLaws.MapLemmas.{same_way-flip}
 use Rattle.iox_lanes.specs.Lanes.{LaneState, without_returned}
 use Rattle.iox_lanes.specs.Pipes.{PipeState, with_lane}
-use Rattle.iox_hub_states.specs.Changes.{emptied_lane}
-use Rattle.iox_hub_states.specs.Tables.{PortState, first_by, pipe_from, pipes_of, senders_of, with_first_by}
-use Rattle.iox_hub_states.specs.Ways.{lane_on, with_lane_on, with_lanes_on, with_pipe_from, with_pipe_of, with_pipes, with_port}
-use Rattle.iox_hub_states.proofs.Keys.{at_is, first_append, has_some, lane_sender, lane_turned, same_mapped, same_number}
-use Rattle.iox_hub_states.proofs.Pipes.{set_same}
+use Rattle.iox_tables.specs.HubStates.Changes.{emptied_lane}
+use Rattle.iox_tables.specs.HubStates.Tables.{PortState, first_by, pipe_from, pipes_of, senders_of, with_first_by}
+use Rattle.iox_tables.specs.HubStates.Ways.{lane_on, with_lane_on, with_lanes_on, with_pipe_from, with_pipe_of, with_pipes, with_port}
+use Rattle.iox_tables.proofs.HubStates.Keys.{at_is, first_append, has_some, lane_sender, lane_turned, same_mapped, same_number}
+use Rattle.iox_tables.proofs.HubStates.Pipes.{set_same}
 use Rattle.iox_hub_ports.proofs.Pushes.{pushed_where_room}
 use Rattle.iox_hub_phases.specs.Phases.{ChangesAgree, DoSame, EmptyingIsOneByOne, OfEachWay, PushesAreTheMachines, TwoChangesAreOne}
 

@@ -4,12 +4,12 @@ use Rattle.std.specs.Option.{option_map, option_map_or}
 use Rattle.std.proofs.Common.{sym, ap, ◌∙◌, true≢false}
 use Rattle.iox_model.specs.declared.way.Way.{Way}
 use Rattle.iox_model.specs.Maps.{AreApart, has_way, not_in, same_way}
-use Rattle.iox_weave_laws.proofs.MapLemmas.{is_in-first, same_way-flip, same_way-true}
+use Rattle.iox_laws.proofs.WeaveLaws.MapLemmas.{is_in-first, same_way-flip, same_way-true}
 use Rattle.iox_lanes.specs.Lanes.{LaneState, delivered, is_full, offered}
-use Rattle.iox_hub_states.specs.Steps.{full_in}
-use Rattle.iox_hub_states.specs.Tables.{PortState}
-use Rattle.iox_hub_states.specs.Ways.{OnWays, lane_on, with_lane_on, with_lanes_on}
-use Rattle.iox_hub_states.proofs.Keys.{at_is, lane_turned}
+use Rattle.iox_tables.specs.HubStates.Steps.{full_in}
+use Rattle.iox_tables.specs.HubStates.Tables.{PortState}
+use Rattle.iox_tables.specs.HubStates.Ways.{OnWays, lane_on, with_lane_on, with_lanes_on}
+use Rattle.iox_tables.proofs.HubStates.Keys.{at_is, lane_turned}
 use Rattle.iox_hub_phases.proofs.Agreeing.{same_stays, way_agree}
 use Rattle.iox_hub_phases.specs.Phases.{DeliveriesAreToFree, HasRoomUnlessFull, OfEachWay}
 

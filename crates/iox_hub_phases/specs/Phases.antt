@@ -3,10 +3,10 @@ use Rattle.std.specs.Prelude.{◌≡◌, ℕ, ◌≤◌, true, not, List, [], �
 use Rattle.iox_model.specs.declared.way.Way.{Way}
 use Rattle.iox_model.specs.Maps.{AreApart, not_in}
 use Rattle.iox_lanes.specs.Lanes.{LaneState, delivered, has_room, is_full, offered, without_returned}
-use Rattle.iox_hub_states.specs.Tables.{PortState}
-use Rattle.iox_hub_states.specs.Ways.{lane_on, with_lane_on, with_lanes_on}
-use Rattle.iox_hub_states.specs.Changes.{emptied_lane, pushed_lane}
-use Rattle.iox_hub_states.specs.Steps.{full_in}
+use Rattle.iox_tables.specs.HubStates.Tables.{PortState}
+use Rattle.iox_tables.specs.HubStates.Ways.{lane_on, with_lane_on, with_lanes_on}
+use Rattle.iox_tables.specs.HubStates.Changes.{emptied_lane, pushed_lane}
+use Rattle.iox_tables.specs.HubStates.Steps.{full_in}
 use Rattle.iox_hub_ports.specs.Ports.{on_way, pushed, with_one_out}
 
 -- both do the same to the lane of the way, if it has one

@@ -11,10 +11,10 @@ use Rattle.iox_lanes.specs.Incomings.{IncomingState, disconnected, on_lane_of, o
 use Rattle.iox_lanes.specs.Lanes.{LaneState}
 use Rattle.iox_lanes.specs.Pipes.{PipeState, on_lane}
 use Rattle.iox_lanes.specs.Searches.{state_on}
-use Rattle.iox_hub_states.specs.Tables.{PortState, first_by, pipe_from, pipes_of, senders_of, with_first_by}
-use Rattle.iox_hub_states.specs.Ways.{with_pipe_of, with_pipe_from, with_pipes}
-use Rattle.iox_hub_states.proofs.Keys.{first_append, has_some}
-use Rattle.iox_hub_states.proofs.Placing.{ranks_are_of_senders}
+use Rattle.iox_tables.specs.HubStates.Tables.{PortState, first_by, pipe_from, pipes_of, senders_of, with_first_by}
+use Rattle.iox_tables.specs.HubStates.Ways.{with_pipe_of, with_pipe_from, with_pipes}
+use Rattle.iox_tables.proofs.HubStates.Keys.{first_append, has_some}
+use Rattle.iox_tables.proofs.HubStates.Placing.{ranks_are_of_senders}
 use Rattle.iox_hub_ports.specs.Ports.{on_lane_from, state_from, without_first_by, without_pipe_from}
 
 -- ---- the first of a number

@@ -9,9 +9,9 @@ use Rattle.iox_model.specs.declared.way.RequestState.{RequestState}
 use Rattle.iox_model.specs.Maps.{AreDistinct, has_number}
 use Rattle.iox_lanes.specs.Lanes.{LaneState}
 use Rattle.iox_lanes.specs.Pipes.{with_lane, with_state}
-use Rattle.iox_hub_states.specs.Tables.{PortState, numbers_of, port_in}
-use Rattle.iox_hub_states.specs.Ways.{with_lane_on, with_lanes_on, with_state_on, with_states_on}
-use Rattle.iox_hub_states.proofs.Keys.{flip, lane_sender, same_mapped, same_number, state_sender}
+use Rattle.iox_tables.specs.HubStates.Tables.{PortState, numbers_of, port_in}
+use Rattle.iox_tables.specs.HubStates.Ways.{with_lane_on, with_lanes_on, with_state_on, with_states_on}
+use Rattle.iox_tables.proofs.HubStates.Keys.{flip, lane_sender, same_mapped, same_number, state_sender}
 use Rattle.iox_hub_ports.proofs.Firsts.{first_gone, some_first}
 use Rattle.iox_hub_ports.specs.Ports.{IsPorts, way_from, with_lane_at, place_in, without_port, with_lane_from, with_state_from}
 

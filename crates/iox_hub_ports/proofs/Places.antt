@@ -10,9 +10,9 @@ use Rattle.iox_lanes.specs.declared.wanted.Wanted.{Wanted}
 use Rattle.iox_lanes.specs.Lanes.{LaneState}
 use Rattle.iox_lanes.specs.Searches.{LabelsByPlace}
 use Rattle.iox_lanes.specs.Visited.{all_visits}
-use Rattle.iox_hub_states.specs.Tables.{PortState, port_in, pipes_of}
-use Rattle.iox_hub_states.specs.Ways.{lanes_from, states_from, with_port}
-use Rattle.iox_hub_states.proofs.Placing.{places_are_of_numbers}
+use Rattle.iox_tables.specs.HubStates.Tables.{PortState, port_in, pipes_of}
+use Rattle.iox_tables.specs.HubStates.Ways.{lanes_from, states_from, with_port}
+use Rattle.iox_tables.proofs.HubStates.Placing.{places_are_of_numbers}
 use Rattle.iox_hub_ports.specs.Ports.{info_of, lane_to_get_on, on_lane_from, on_way, place_in, state_from, state_of_way}
 use Rattle.iox_hub_ports.proofs.Firsts.{none_changed, none_first, some_first}
 

@@ -6,8 +6,8 @@ use Rattle.std.proofs.lemmas.Option.{none-some}
 use Rattle.iox_lanes.specs.Incomings.{IncomingState, on_lane_of, with_lane_of}
 use Rattle.iox_lanes.specs.Lanes.{LaneState, delivered, has_room, is_full, offered, without_oldest}
 use Rattle.iox_lanes.specs.Pipes.{PipeState, on_lane, with_lane}
-use Rattle.iox_hub_states.specs.Changes.{pushed_lane}
-use Rattle.iox_hub_states.proofs.Pushing.{oldest_goes_first}
+use Rattle.iox_tables.specs.HubStates.Changes.{pushed_lane}
+use Rattle.iox_tables.proofs.HubStates.Pushing.{oldest_goes_first}
 use Rattle.iox_hub_ports.specs.Ports.{pushed, with_one_out}
 
 get_set : {A : Type 0} (xs : List A) (i : ℕ) (x y : A) → slice_get xs i ≡ Some x → slice_get (slice_set xs i y) i ≡ Some y

@@ -4,11 +4,11 @@ use Rattle.std.specs.Option.{option_map_or}
 use Rattle.std.proofs.Common.{sym, ap, ◌∙◌, arith, get_or, true≢false}
 use Rattle.std.proofs.lemmas.Option.{none-some}
 use Rattle.iox_model.specs.Maps.{AreDistinct, has_number}
-use Rattle.iox_weave_laws.proofs.MapLemmas.{eqb-refl}
+use Rattle.iox_laws.proofs.WeaveLaws.MapLemmas.{eqb-refl}
 use Rattle.iox_lanes.specs.Lanes.{LaneState}
-use Rattle.iox_hub_states.specs.Tables.{PortState, numbers_of, pipes_of, port_in}
-use Rattle.iox_hub_states.specs.Ways.{lanes_from, with_port}
-use Rattle.iox_hub_states.proofs.Keys.{flip}
+use Rattle.iox_tables.specs.HubStates.Tables.{PortState, numbers_of, pipes_of, port_in}
+use Rattle.iox_tables.specs.HubStates.Ways.{lanes_from, with_port}
+use Rattle.iox_tables.proofs.HubStates.Keys.{flip}
 use Rattle.iox_hub_ports.specs.Ports.{on_lane_from, on_way_at, with_lane_at, with_lane_from}
 
 pub get_in : {A : Type 0} (xs : List A) (i : ℕ) (x : A) → i < length xs → x ≡ get_or xs i x → slice_get xs i ≡ Some x

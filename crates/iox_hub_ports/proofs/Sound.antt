@@ -8,9 +8,9 @@ use Rattle.iox_model.specs.Maps.{AreDistinct}
 use Rattle.iox_lanes.specs.Incomings.{rank_from}
 use Rattle.iox_lanes.specs.Lanes.{IsSound, LaneState}
 use Rattle.iox_lanes.specs.Pipes.{IsSoundAt, PipeState}
-use Rattle.iox_hub_states.specs.Tables.{PortState, numbers_of, pipe_from, pipes_of, pipes_to, port_in}
-use Rattle.iox_hub_states.specs.Ways.{lane_on, lanes_from}
-use Rattle.iox_hub_states.proofs.Placing.{places_are_of_numbers}
+use Rattle.iox_tables.specs.HubStates.Tables.{PortState, numbers_of, pipe_from, pipes_of, pipes_to, port_in}
+use Rattle.iox_tables.specs.HubStates.Ways.{lane_on, lanes_from}
+use Rattle.iox_tables.proofs.HubStates.Placing.{places_are_of_numbers}
 use Rattle.iox_hub_ports.specs.Ports.{place_in, way_from}
 use Rattle.iox_hub_ports.proofs.Firsts.{from_expired, from_incoming, from_nobody, none_first}
 use Rattle.iox_hub_ports.proofs.Places.{found}

@@ -12,9 +12,9 @@ use Rattle.iox_model.specs.Settings.{same_role}
 use Rattle.iox_lanes.specs.Incomings.{IncomingState, connected}
 use Rattle.iox_lanes.specs.Lanes.{LaneState, is_full, offered, oldest, without_oldest}
 use Rattle.iox_lanes.specs.Pipes.{PipeState, lane_to_get, with_lane, with_state}
-use Rattle.iox_hub_states.specs.Tables.{PortState, numbers_of, pipe_from, pipes_of, port_in}
-use Rattle.iox_hub_states.specs.Ways.{lane_on, lanes_from, state_on, states_from, with_lane_on, with_pipe_of, with_pipes}
-use Rattle.iox_hub_states.specs.Wirings.{numbers_of_role}
+use Rattle.iox_tables.specs.HubStates.Tables.{PortState, numbers_of, pipe_from, pipes_of, port_in}
+use Rattle.iox_tables.specs.HubStates.Ways.{lane_on, lanes_from, state_on, states_from, with_lane_on, with_pipe_of, with_pipes}
+use Rattle.iox_tables.specs.HubStates.Wirings.{numbers_of_role}
 use Rattle.iox_hub_ports.specs.declared.info.PortInfo.{PortInfo}
 
 -- a port with that information, and what comes to it

@@ -1,12 +1,12 @@
 //! A connected port, and what comes to it.
 ghost use Rattle.std.specs.Prelude.{◌≡◌, ◌<◌, ◌+◌, ◌^◌, ◌-◌, None, List, ℕ, true};
-ghost use Rattle.iox_hub_states.specs.Asks.{waits_for};
-ghost use Rattle.iox_hub_states.specs.Receives.{both_visits, visited_port};
+ghost use Rattle.iox_tables.specs.HubStates.Asks.{waits_for};
+ghost use Rattle.iox_tables.specs.HubStates.Receives.{both_visits, visited_port};
 ghost use Rattle.iox_lanes.specs.declared.incoming.Visits.TheVariants.{AtLimit};
-ghost use Rattle.iox_hub_states.specs.Tables.{PortState, pipe_from, pipes_of};
+ghost use Rattle.iox_tables.specs.HubStates.Tables.{PortState, pipe_from, pipes_of};
 ghost use Rattle.iox_lanes.specs.Incomings.{has_room_for};
 ghost use Rattle.iox_lanes.specs.Pipes.{IsSoundAt};
-ghost use Rattle.iox_hub_states.specs.Ways.{lanes_from};
+ghost use Rattle.iox_tables.specs.HubStates.Ways.{lanes_from};
 ghost use Rattle.iox_lanes.specs.Lanes.{is_full};
 ghost use Rattle.iox_lanes.specs.Visited.{all_visits};
 ghost use Rattle.iox_hub_ports.specs.Ports.{info_of, lane_to_get_on, on_lane_from, port_of, state_from, with_connected};
@@ -31,7 +31,7 @@ pub struct Port {
 }
 
 impl Model for Port {
-    ghost use Rattle.iox_hub_states.specs.Tables.{PortState};
+    ghost use Rattle.iox_tables.specs.HubStates.Tables.{PortState};
     ghost use Rattle.iox_hub_ports.specs.Ports.{port_of};
 
     ghost Value = { PortState };

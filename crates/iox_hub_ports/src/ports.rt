@@ -7,10 +7,10 @@ ghost use Rattle.iox_model.specs.Maps.{AreDistinct, has_number};
 ghost use Rattle.iox_lanes.specs.Incomings.{has_room_for};
 ghost use Rattle.iox_lanes.specs.Lanes.{is_taken, released};
 ghost use Rattle.iox_lanes.specs.Visited.{all_visits};
-ghost use Rattle.iox_hub_states.specs.Asks.{waits_for};
-ghost use Rattle.iox_hub_states.specs.Receives.{visited_port};
-ghost use Rattle.iox_hub_states.specs.Tables.{numbers_of, pipe_from, pipes_to, port_in};
-ghost use Rattle.iox_hub_states.specs.Ways.{with_lane_on, with_port};
+ghost use Rattle.iox_tables.specs.HubStates.Asks.{waits_for};
+ghost use Rattle.iox_tables.specs.HubStates.Receives.{visited_port};
+ghost use Rattle.iox_tables.specs.HubStates.Tables.{numbers_of, pipe_from, pipes_to, port_in};
+ghost use Rattle.iox_tables.specs.HubStates.Ways.{with_lane_on, with_port};
 ghost use Rattle.iox_hub_ports.specs.Ports.{info_at, info_in, no_ports, on_way, with_connected, with_loan_counted};
 ghost use Rattle.iox_hub_ports.specs.Ports.{with_port_added, with_port_removed, with_ports, without_pipe_from, without_value};
 

@@ -3,8 +3,8 @@ ghost use Rattle.std.specs.Prelude.{◌≡◌, ◌<◌, IfSome, List, None, Some
 ghost use Rattle.std.specs.Vec.{vec_capacity};
 ghost use Rattle.iox_model.specs.Maps.{AreDistinct};
 ghost use Rattle.iox_model.specs.Settings.{same_role};
-ghost use Rattle.iox_hub_states.specs.Tables.{numbers_of};
-ghost use Rattle.iox_hub_states.specs.Ways.{with_lane_on, with_lanes_on, with_state_on, with_states_on};
+ghost use Rattle.iox_tables.specs.HubStates.Tables.{numbers_of};
+ghost use Rattle.iox_tables.specs.HubStates.Ways.{with_lane_on, with_lanes_on, with_state_on, with_states_on};
 ghost use Rattle.iox_hub_ports.specs.Ports.{if_role, on_way, on_way_at, place_in, state_ways};
 ghost use Rattle.iox_hub_ports.specs.Ports.{ways_from, with_lane_at, with_lane_from, with_state_from};
 

@@ -6,8 +6,8 @@ use Rattle.std.proofs.Common.{sym, ap, ◌∙◌, arith, eqb-true, true≢false}
 use Rattle.std.proofs.lemmas.Bool.{eq-eqb, lt-ltb}
 use Rattle.std.proofs.lemmas.Option.{slice_get_within}
 use Rattle.iox_lanes.specs.declared.wanted.Label.{Label}
-use Rattle.iox_hub_states.specs.Ends.{DifferInHolders}
-use Rattle.iox_hub_states.specs.Tables.{PoolState, SlotState, labels_of, no_slot, slot_at, slots_of}
+use Rattle.iox_tables.specs.HubStates.Ends.{DifferInHolders}
+use Rattle.iox_tables.specs.HubStates.Tables.{PoolState, SlotState, labels_of, no_slot, slot_at, slots_of}
 use Rattle.iox_slots.specs.FreeLists.{has_free_slot}
 use Rattle.iox_slots.specs.Pools.{Acquires, has_slot, with_slot}
 use Rattle.iox_slots.specs.Slots.{held, is_free, let_go, slot_in, written}

@@ -5,8 +5,8 @@ use Rattle.std.proofs.Common.{sym, ap, ◌∙◌, arith, eqb-true, true≢false}
 use Rattle.std.proofs.lemmas.Bool.{le-ltb, lt-ltb, ltb-false}
 use Rattle.std.proofs.lemmas.List.{length-set}
 use Rattle.std.proofs.lemmas.Option.{none-some, slice_get_within}
-use Rattle.iox_hub_states.specs.States.{no_id, node_id_of, port_id_of}
-use Rattle.iox_hub_states.specs.Tables.{PoolState, SlotState, no_slot, owner_of, pool_at, slot_at, slots_of}
+use Rattle.iox_tables.specs.HubStates.States.{no_id, node_id_of, port_id_of}
+use Rattle.iox_tables.specs.HubStates.Tables.{PoolState, SlotState, no_slot, owner_of, pool_at, slot_at, slots_of}
 use Rattle.iox_slots.specs.Pools.{has_slot, with_pool, with_slot}
 use Rattle.iox_slots.specs.Slots.{slot_in, with_slot_of}
 use Rattle.iox_slots.proofs.ListLemmas.{get_set}

@@ -2,7 +2,7 @@
 use Rattle.std.specs.Prelude.{ℕ, ◌+◌, ◌-◌, Bool, not, ◌==◌, List, slice_get, slice_set, replicate}
 use Rattle.std.specs.Option.{option_map_or}
 use Rattle.iox_types.specs.declared.identifiers.system_id.UniqueSystemId.{UniqueSystemId}
-use Rattle.iox_hub_states.specs.Tables.{SlotState, PoolState, no_slot}
+use Rattle.iox_tables.specs.HubStates.Tables.{SlotState, PoolState, no_slot}
 
 -- ---- one slot
 

@@ -26,7 +26,7 @@ pub struct Pool {
 
 impl Model for Pool {
     ghost use Rattle.std.specs.Vec.{vec_capacity};
-    ghost use Rattle.iox_hub_states.specs.Tables.{PoolState};
+    ghost use Rattle.iox_tables.specs.HubStates.Tables.{PoolState};
     ghost use Rattle.iox_slots.specs.FreeLists.{IsFreeList};
 
     ghost Value = { PoolState };

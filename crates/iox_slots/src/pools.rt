@@ -4,8 +4,8 @@ ghost use Rattle.std.specs.Prelude.{Some, [], count_by, false, length, nat_lt, o
 ghost use Rattle.std.specs.List.{list_all};
 ghost use Rattle.std.specs.Bool.{OnFalse};
 ghost use Rattle.std.specs.Option.{option_map_or};
-ghost use Rattle.iox_hub_states.specs.States.{no_id, node_id_of, port_id_of};
-ghost use Rattle.iox_hub_states.specs.Tables.{labels_of, owner_of, pool_at, slot_at, slots_of};
+ghost use Rattle.iox_tables.specs.HubStates.States.{no_id, node_id_of, port_id_of};
+ghost use Rattle.iox_tables.specs.HubStates.Tables.{labels_of, owner_of, pool_at, slot_at, slots_of};
 ghost use Rattle.iox_slots.specs.FreeLists.{has_free_slot};
 ghost use Rattle.iox_slots.specs.Pools.{Acquires, free_count, freed_by_one, has_slot, is_idle};
 ghost use Rattle.iox_slots.specs.Pools.{is_taken_at, place_for_one, with_one_more, with_slot, without_pool};
@@ -32,7 +32,7 @@ pub struct Pools {
 
 impl Model for Pools {
     ghost use Rattle.std.specs.Prelude.{List, Option};
-    ghost use Rattle.iox_hub_states.specs.Tables.{PoolState};
+    ghost use Rattle.iox_tables.specs.HubStates.Tables.{PoolState};
 
     ghost Value = { List (Option PoolState) };
 

@@ -1,6 +1,6 @@
 //! A message in its place of a pool, but for its words.
 ghost use Rattle.std.specs.Prelude.{◌≡◌, ◌<◌, ◌^◌, ◌-◌};
-ghost use Rattle.iox_hub_states.specs.Tables.{no_slot};
+ghost use Rattle.iox_tables.specs.HubStates.Tables.{no_slot};
 ghost use Rattle.iox_slots.specs.Slots.{held, is_free, let_go, written};
 
 use std::marker::Model;
@@ -16,7 +16,7 @@ pub struct Slot {
 }
 
 impl Model for Slot {
-    ghost use Rattle.iox_hub_states.specs.Tables.{SlotState};
+    ghost use Rattle.iox_tables.specs.HubStates.Tables.{SlotState};
 
     ghost Value = { SlotState };
 

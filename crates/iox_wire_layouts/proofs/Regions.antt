@@ -15,7 +15,7 @@ use Rattle.iox_word_places.specs.declared.plan.WirePlan.{WirePlan}
 use Rattle.iox_word_places.specs.Plans.{HasSlots, IsPlan, details_of, port_numbers}
 use Rattle.iox_wire_locals.specs.Stored.{header_length}
 use Rattle.iox_wire_locals.specs.Tables.{Setting, port_shape}
-use Rattle.iox_wire_regions.specs.Regions.{HasRegion, slot_bytes}
+use Rattle.iox_wire_laws.specs.WireRegions.Regions.{HasRegion, slot_bytes}
 use Rattle.iox_wire_layouts.specs.PlansOf.{IsAsPlanned, IsSettingOf, IsShapeOf}
 use Rattle.iox_wire_layouts.specs.LayoutLaws.{PortsHaveRegions}
 use Rattle.iox_wire_layouts.proofs.Planned.{Found, all_and, each_planned, find_planned}

@@ -4,14 +4,14 @@ use Rattle.iox_model.specs.Doings.{Outcome, DropsPort}
 use Rattle.iox_model.specs.Settings.{Limits}
 use Rattle.iox_model.specs.States.{Fixed, Port}
 use Rattle.iox_model.specs.Weaves.{World, Beat, Begins, Makes, Ends, Dies, IsBeat}
-use Rattle.iox_weave_beats.proofs.LiveWays.{Here, here}
-use Rattle.iox_weave_laws.proofs.WholeLemmas.{moved-fixed}
-use Rattle.iox_weave_ledger.proofs.Moves.{ends-fits}
-use Rattle.iox_weave_ledger.proofs.Once.{beat-ports}
-use Rattle.iox_weave_ledger.proofs.Senders.{FitsOutcome}
-use Rattle.iox_weave_ledger.proofs.Views.{view}
-use Rattle.iox_weave_ledger.proofs.Worlds.{SoundWorld, doing-is}
-use Rattle.iox_wire_keeping.proofs.Frames.{KeepsPorts, settled_frame}
+use Rattle.iox_laws.proofs.WeaveBeats.LiveWays.{Here, here}
+use Rattle.iox_laws.proofs.WeaveLaws.WholeLemmas.{moved-fixed}
+use Rattle.iox_laws.proofs.WeaveLedger.Moves.{ends-fits}
+use Rattle.iox_laws.proofs.WeaveLedger.Once.{beat-ports}
+use Rattle.iox_laws.proofs.WeaveLedger.Senders.{FitsOutcome}
+use Rattle.iox_laws.proofs.WeaveLedger.Views.{view}
+use Rattle.iox_laws.proofs.WeaveLedger.Worlds.{SoundWorld, doing-is}
+use Rattle.iox_wire_laws.proofs.WireKeeping.Frames.{KeepsPorts, settled_frame}
 use Rattle.iox_wire_layouts.specs.PlansOf.{IsPlanFor}
 use Rattle.iox_wire_layouts.specs.LayoutLaws.{PlansStay}
 

@@ -5,7 +5,7 @@ use Rattle.iox_model.specs.Maps.{has_number}
 use Rattle.iox_model.specs.Peers.{borrow_limit_on, buffer_on}
 use Rattle.iox_model.specs.States.{Fixed}
 use Rattle.iox_model.specs.Weaves.{World, Beat, IsBeat}
-use Rattle.iox_weave_worlds.specs.Worlds.{IsReachable}
+use Rattle.iox_laws.specs.WeaveWorlds.Worlds.{IsReachable}
 use Rattle.iox_word_map.specs.WordMaps.{IsWay, ReturningQueue}
 use Rattle.iox_word_places.specs.declared.plan.WirePlan.{WirePlan}
 use Rattle.iox_word_places.specs.Plans.{IsPlan, layout_of, sizes_of}
@@ -15,8 +15,8 @@ use Rattle.iox_wire_locals.specs.declared.seat.Seat.{Seat}
 use Rattle.iox_wire_locals.specs.Knowing.{Knows}
 use Rattle.iox_wire_locals.specs.Tables.{Setting}
 use Rattle.iox_wire_seats.specs.Seats.{Agrees}
-use Rattle.iox_wire_regions.specs.OwnedBegins.{LayoutFits}
-use Rattle.iox_wire_regions.specs.Regions.{HasRegion}
+use Rattle.iox_wire_laws.specs.WireRegions.OwnedBegins.{LayoutFits}
+use Rattle.iox_wire_laws.specs.WireRegions.Regions.{HasRegion}
 use Rattle.iox_wire_layouts.specs.PlansOf.{IsPlanOf, IsSettingOf}
 
 -- Each port of a plan that makes sense has its region.

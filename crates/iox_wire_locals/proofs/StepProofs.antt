@@ -33,7 +33,7 @@ use Rattle.iox_steps.specs.Sites.{last_position, is_full}
 use Rattle.iox_word_map.specs.WordMaps.{MessageQueue, ReturningQueue}
 use Rattle.iox_wire_words.specs.Programs.{site_of}
 use Rattle.iox_wire_moments.specs.MomentsOf.{Pools, push_moment, full_look_moment, pop_moment, empty_look_moment, give_back_moment, get_back_moment}
-use Rattle.iox_weave_laws.proofs.MapLemmas.{same_way-refl}
+use Rattle.iox_laws.proofs.WeaveLaws.MapLemmas.{same_way-refl}
 use Rattle.iox_wire_locals.specs.declared.table.Entry.{Entry}
 use Rattle.iox_wire_locals.specs.declared.table.NewLoan.{NewLoan}
 use Rattle.iox_wire_locals.specs.declared.local.Delivery.{Delivery}

@@ -10,7 +10,7 @@ use Rattle.iox_model.specs.Maps.{is_empty, first_of, rest_of, same_way}
 use Rattle.iox_model.specs.Moments.{room_on}
 use Rattle.iox_model.specs.Moments as moments
 use Rattle.iox_model.specs.Peers.{is_counted_on, buffer_on, overflows_on}
-use Rattle.iox_weave_laws.proofs.MapLemmas.{same_way-true}
+use Rattle.iox_laws.proofs.WeaveLaws.MapLemmas.{same_way-true}
 use Rattle.iox_steps.specs.declared.site.QueueKind.TheVariants.{Index, Overflowing}
 use Rattle.iox_steps.specs.declared.side.QueueEvent.{QueueEvent}
 use Rattle.iox_steps.specs.declared.side.QueueEvent.TheVariants.{Quiet, Publish, HandOut, Evict, Learn, SeesEmpty, SeesWaiting, SeesFull, SeesRoom, SeesEnd}

@@ -7,7 +7,7 @@ use Rattle.std.proofs.lemmas.Bool.{ltb-false}
 use Rattle.std.proofs.lemmas.List.Quantifiers.{position-Some}
 use Rattle.iox_model.specs.declared.way.Way.{Way}
 use Rattle.iox_model.specs.Maps.{same_way}
-use Rattle.iox_weave_laws.proofs.MapLemmas.{same_way-true}
+use Rattle.iox_laws.proofs.WeaveLaws.MapLemmas.{same_way-true}
 use Rattle.iox_wire_locals.specs.declared.table.Borrowed.{Borrowed}
 use Rattle.iox_wire_locals.specs.Desks.{with_count}
 use Rattle.iox_wire_seats.specs.Counts.{AreOfOtherWays, AreOfDifferentWays, IsBelow}

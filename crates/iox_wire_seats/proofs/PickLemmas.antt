@@ -1,6 +1,6 @@
 -- What is free is unused and stands once, whatever is lent and given back.
 use Rattle.std.proofs.Common.{◌≡◌, ℕ, zero, suc, ◌+◌, ◌<◌, ◌≤◌, ◌==◌, ◌||◌, Bool, true, false, cond, List, [], ◌∷◌, ◌++◌, replicate, length, not, get_or, set, slice_index, slice_set, refl, ap, sym, subst, ◌∙◌, arith, true≢false, eqb-true}
-use Rattle.iox_weave_laws.proofs.MapLemmas.{eqb-refl}
+use Rattle.iox_laws.proofs.WeaveLaws.MapLemmas.{eqb-refl}
 use Rattle.std.proofs.Common.{Result, Ok, Err}
 use Rattle.std.specs.Result.{is_err, is_ok}
 use Rattle.std.specs.Prelude.{if◌then◌else◌, Some, None, nat_lt, position}

@@ -5,7 +5,7 @@ ghost use Rattle.std.specs.Prelude.{◌≡◌, false};
 ghost use Rattle.iox_model.specs.declared.kind.Role.TheVariants.{Server};
 ghost use Rattle.iox_model.specs.declared.way.RequestState.TheVariants.{Named};
 ghost use Rattle.iox_model.specs.Messages.{closed_for, hinted_for};
-ghost use Rattle.iox_hub_states.specs.Ways.{with_state_on, with_states_on};
+ghost use Rattle.iox_tables.specs.HubStates.Ways.{with_state_on, with_states_on};
 ghost use Rattle.iox_hub_ports.specs.Ports.{state_of_way, state_ways, with_ports};
 
 use crate::ports::Ports;

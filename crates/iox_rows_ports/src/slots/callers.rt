@@ -1,6 +1,6 @@
 //! Callers, proved from the clauses alone.
 ghost use Rattle.std.specs.Prelude.{◌≡◌, ◌<◌, ◌+◌, ◌-◌, ◌^◌, IfOk, None, true};
-ghost use Rattle.iox_hub_states.specs.Tables.{slot_at, slots_of};
+ghost use Rattle.iox_tables.specs.HubStates.Tables.{slot_at, slots_of};
 ghost use Rattle.iox_slots.specs.Pools.{free_count, has_slot};
 
 use iox_slots::{Pools, Slot};

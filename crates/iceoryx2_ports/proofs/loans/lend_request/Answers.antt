@@ -1,6 +1,6 @@
 use Rattle.std.proofs.Common.{ap}
 use Rattle.iox_model.specs.declared.reply.Reply.TheVariants as replies
-use Rattle.iox_hub_loans.specs.Loans.{loan_call}
+use Rattle.iox_tables.specs.HubLoans.Loans.{loan_call}
 use Rattle.iox_control_lending.specs.Lends.{refusal_of, reply_of_loan}
 use Rattle.iox_control_lending.specs.declared.asked.LoanRefusal.TheVariants as refusals
 use Rattle.iceoryx2_ports.proofs.Staying.{loan_keeps}

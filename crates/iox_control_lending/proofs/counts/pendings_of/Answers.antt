@@ -2,7 +2,7 @@ use Rattle.std.proofs.Common.{ap, ◌∙◌}
 use Rattle.std.specs.Prelude.{◌==◌, ◌&&◌, filter, length}
 use Rattle.iox_model.specs.declared.kind.Kind.TheVariants.{PendingResponse}
 use Rattle.iox_model.specs.Handles.{same_kind}
-use Rattle.iox_hub_states.specs.Tables.{HandleState}
+use Rattle.iox_tables.specs.HubStates.Tables.{HandleState}
 use Rattle.iox_control_lending.proofs.CountLemmas.{counted_same}
 use Rattle.iox_control_lending.proofs.counts.pendings_of.Goals as goal
 

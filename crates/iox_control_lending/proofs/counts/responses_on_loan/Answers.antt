@@ -1,7 +1,7 @@
 use Rattle.std.proofs.Common.{ap, ◌∙◌}
 use Rattle.std.specs.Prelude.{◌==◌, ◌&&◌, filter, length}
 use Rattle.iox_model.specs.Handles.{is_response_loan}
-use Rattle.iox_hub_states.specs.Tables.{HandleState}
+use Rattle.iox_tables.specs.HubStates.Tables.{HandleState}
 use Rattle.iox_control_lending.proofs.CountLemmas.{counted_same}
 use Rattle.iox_control_lending.proofs.counts.responses_on_loan.Goals as goal
 

@@ -1,5 +1,5 @@
 use Rattle.std.proofs.Common.{ap, not, sym, arith, ◌∙◌}
-use Rattle.iox_hub_loans.specs.Counts.{is_lane_taken}
+use Rattle.iox_tables.specs.HubLoans.Counts.{is_lane_taken}
 use Rattle.iox_control_lending.proofs.CountLemmas.{search_goes_on}
 use Rattle.iox_control_lending.proofs.lanes.free_lane.Goals as goal
 

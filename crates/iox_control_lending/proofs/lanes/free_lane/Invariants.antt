@@ -1,6 +1,6 @@
 use Rattle.std.proofs.Common.{◌≡◌, ◌-◌, find, not}
 use Rattle.std.specs.List.{range_with_len}
-use Rattle.iox_hub_loans.specs.Counts.{is_lane_taken}
+use Rattle.iox_tables.specs.HubLoans.Counts.{is_lane_taken}
 use Rattle.iox_control_lending.proofs.lanes.free_lane.Given as goal
 
 abbrev pub invariant-loop-lane : goal.invariant-loop-lane

@@ -1,6 +1,6 @@
 use Rattle.std.proofs.Common.{◌<◌, ◌-◌, ◌^◌, sym, subst, ◌∙◌}
 use Rattle.std.specs.Option.{option_map_or}
-use Rattle.iox_hub_states.specs.Tables.{PortState, port_in}
+use Rattle.iox_tables.specs.HubStates.Tables.{PortState, port_in}
 use Rattle.iox_control.specs.Controls.{ControlState}
 use Rattle.iox_control_lending.specs.Lends.{lender_of}
 use Rattle.iox_control_lending.proofs.FreeLemmas.{is_free_slot, is_made}

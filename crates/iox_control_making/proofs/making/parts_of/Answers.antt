@@ -1,10 +1,10 @@
 use Rattle.std.proofs.Common.{ap₂, ◌∙◌, map, filter}
 use Rattle.iox_model.specs.Settings.{other_role}
 use Rattle.iox_lanes.specs.Incomings.{no_pipes}
-use Rattle.iox_hub_states.specs.Tables.{HubSettings}
+use Rattle.iox_tables.specs.HubStates.Tables.{HubSettings}
 use Rattle.iox_hub_ports.specs.Ports.{port_of}
-use Rattle.iox_hub_making.specs.NewPorts.{is_other, pipe_between, room_for_gone}
-use Rattle.iox_hub_making.specs.OneByOne.{all_connected, most_of}
+use Rattle.iox_tables.specs.HubMaking.NewPorts.{is_other, pipe_between, room_for_gone}
+use Rattle.iox_tables.specs.HubMaking.OneByOne.{all_connected, most_of}
 use Rattle.iox_control_making.specs.Links.{bare, links_between}
 use Rattle.iox_control_making.proofs.making.parts_of.Goals as goal
 

@@ -1,8 +1,8 @@
 use Rattle.std.proofs.Common.{ap, map, filter, ◌∙◌, arith, sym}
 use Rattle.iox_lanes.specs.Incomings.{no_pipes}
 use Rattle.iox_model.specs.Settings.{other_role}
-use Rattle.iox_hub_making.specs.NewPorts.{is_other, pipe_between}
-use Rattle.iox_hub_making.specs.OneByOne.{all_connected, most_of}
+use Rattle.iox_tables.specs.HubMaking.NewPorts.{is_other, pipe_between}
+use Rattle.iox_tables.specs.HubMaking.OneByOne.{all_connected, most_of}
 use Rattle.iox_control.specs.Settings.{settings_of}
 use Rattle.iox_control_making.specs.Links.{bare}
 use Rattle.iox_control_making.proofs.Walks.{comes_next, comes_not, take_whole}

@@ -1,4 +1,4 @@
-use Rattle.iox_hub_states.specs.Tables.{pool_at}
+use Rattle.iox_tables.specs.HubStates.Tables.{pool_at}
 use Rattle.iox_control_making.proofs.Walks.{is_vacant, not_vacant, place_is}
 use Rattle.iox_control_making.proofs.places.vacant_place.Goals as goal
 

@@ -1,5 +1,5 @@
 use Rattle.std.proofs.Common.{◌≡◌, ℕ, ◌<◌, true, is_some}
-use Rattle.iox_hub_states.specs.Tables.{pool_at}
+use Rattle.iox_tables.specs.HubStates.Tables.{pool_at}
 use Rattle.iox_control_making.proofs.places.vacant_place.Given as goal
 
 -- no place so far is vacant

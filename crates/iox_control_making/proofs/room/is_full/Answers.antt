@@ -1,5 +1,5 @@
 use Rattle.std.proofs.Common.{ap, sym, nat_le}
-use Rattle.iox_hub_making.specs.OneByOne.{most_of}
+use Rattle.iox_tables.specs.HubMaking.OneByOne.{most_of}
 use Rattle.iox_control.specs.Settings.{settings_of}
 use Rattle.iox_control_making.specs.Making.{count_in}
 use Rattle.iox_control_making.proofs.room.is_full.Goals as goal

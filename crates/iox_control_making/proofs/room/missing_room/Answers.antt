@@ -1,6 +1,6 @@
 use Rattle.std.proofs.Common.{◌≡◌, ℕ, ◌+◌, ◌-◌, ◌<◌, ◌≤◌, ◌^◌, Bool, true, if◌then◌else◌, List, [], ◌∷◌, length, filter, refl, ap, sym, ◌∙◌, arith, suc}
 use Rattle.iox_handles.specs.declared.entry.Entry.{Entry}
-use Rattle.iox_hub_states.specs.Tables.{HandleState, HubSettings}
+use Rattle.iox_tables.specs.HubStates.Tables.{HandleState, HubSettings}
 use Rattle.iox_control.specs.Entries.{handle_state}
 use Rattle.iox_control_making.specs.Sizes.{all_handles}
 use Rattle.iox_control_making.proofs.Counting.{length_map}

@@ -1,7 +1,7 @@
 use Rattle.std.proofs.Common.{true, ap, ◌∙◌}
 use Rattle.std.proofs.lemmas.Option.{same_Some}
-use Rattle.iox_hub_states.specs.Tables.{HandleState}
-use Rattle.iox_hub_loans.specs.Questions.{is_named_by_client}
+use Rattle.iox_tables.specs.HubStates.Tables.{HandleState}
+use Rattle.iox_tables.specs.HubLoans.Questions.{is_named_by_client}
 use Rattle.iox_control_questions.proofs.ToldLemmas.{hint_told}
 use Rattle.iox_control_questions.proofs.connected.has_hint.Goals as goal
 

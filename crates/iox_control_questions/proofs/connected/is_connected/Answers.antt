@@ -1,7 +1,7 @@
 use Rattle.std.proofs.Common.{false, if◌then◌else◌, ap, ◌∙◌}
 use Rattle.std.proofs.lemmas.Option.{same_Some}
-use Rattle.iox_hub_states.specs.Tables.{HandleState}
-use Rattle.iox_hub_loans.specs.Questions.{is_named, is_named_by_client, is_named_by_server}
+use Rattle.iox_tables.specs.HubStates.Tables.{HandleState}
+use Rattle.iox_tables.specs.HubLoans.Questions.{is_named, is_named_by_client, is_named_by_server}
 use Rattle.iox_control.specs.Entries.{handle_state}
 use Rattle.iox_control_questions.proofs.ToldLemmas.{connection_told}
 use Rattle.iox_control_questions.proofs.connected.is_connected.Goals as goal

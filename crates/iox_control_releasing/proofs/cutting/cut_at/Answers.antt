@@ -1,8 +1,8 @@
 use Rattle.std.proofs.Common.{refl, sym, ap, ◌∙◌, subst, arith, length, slice_get, ◌≡◌, Some}
 use Rattle.std.specs.Option.{option_map_or}
-use Rattle.iox_hub_books.specs.Counts.{in_pipe, lane_count}
+use Rattle.iox_tables.specs.HubBooks.Counts.{in_pipe, lane_count}
 use Rattle.iox_hub_ports.specs.Ports.{info_at}
-use Rattle.iox_hub_states.specs.Tables.{numbers_of}
+use Rattle.iox_tables.specs.HubStates.Tables.{numbers_of}
 use Rattle.iox_model.specs.Maps.{AreDistinct}
 use Rattle.iox_control.specs.Controls.{ControlState}
 use Rattle.iox_control_releasing.specs.LettingGo.{LetsGo, from_in}

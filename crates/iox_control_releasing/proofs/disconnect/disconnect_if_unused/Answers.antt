@@ -1,7 +1,7 @@
 use Rattle.std.specs.Prelude.{option_map}
 use Rattle.std.proofs.Common.{sym, ap, subst, ◌∙◌}
 use Rattle.std.proofs.lemmas.Option.{none-some, same_Some}
-use Rattle.iox_hub_states.specs.Tables.{PortState}
+use Rattle.iox_tables.specs.HubStates.Tables.{PortState}
 use Rattle.iox_control_releasing.specs.Goings.{NoLeftPool}
 use Rattle.iox_control_releasing.proofs.Kept.{kept_bare, kept_then, none_of_port}
 use Rattle.iox_control_releasing.proofs.Tidy.{pool_goes, port_goes}

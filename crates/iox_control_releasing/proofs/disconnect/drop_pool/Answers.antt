@@ -1,7 +1,7 @@
 use Rattle.std.proofs.Common.{sym, ap, ◌∙◌}
 use Rattle.iox_hub_ports.specs.Ports.{info_in}
 use Rattle.iox_slots.specs.Pools.{is_idle}
-use Rattle.iox_hub_states.specs.Tables.{owner_of}
+use Rattle.iox_tables.specs.HubStates.Tables.{owner_of}
 use Rattle.iox_control_releasing.proofs.Gone.{pool_gone_here, pool_stays_here}
 use Rattle.iox_control_releasing.proofs.disconnect.drop_pool.Goals as goal
 

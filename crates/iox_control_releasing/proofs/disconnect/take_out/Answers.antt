@@ -1,5 +1,5 @@
 use Rattle.std.proofs.Common.{refl, sym, ◌∙◌, subst}
-use Rattle.iox_hub_states.specs.Tables.{numbers_of}
+use Rattle.iox_tables.specs.HubStates.Tables.{numbers_of}
 use Rattle.iox_control.specs.Controls.{ControlState}
 use Rattle.iox_control_releasing.specs.LettingGo.{AreFrom}
 use Rattle.iox_control_releasing.proofs.Removed.{from_others, none_out}

@@ -1,5 +1,5 @@
 use Rattle.std.proofs.Common.{ap, ◌∙◌}
-use Rattle.iox_hub_states.specs.Tables.{owner_of}
+use Rattle.iox_tables.specs.HubStates.Tables.{owner_of}
 use Rattle.iox_control_releasing.proofs.Released.{active_up, pending_up, response_up}
 use Rattle.iox_control_releasing.proofs.handle.give_up.Goals as goal
 

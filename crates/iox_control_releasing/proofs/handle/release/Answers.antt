@@ -1,6 +1,6 @@
 use Rattle.std.proofs.Common.{ap, subst, ◌∙◌}
 use Rattle.std.proofs.lemmas.Option.{same_Some}
-use Rattle.iox_hub_states.specs.Tables.{HandleState, HubTables}
+use Rattle.iox_tables.specs.HubStates.Tables.{HandleState, HubTables}
 use Rattle.iox_control.specs.Entries.{handle_state}
 use Rattle.iox_control_releasing.specs.Goings.{NoLeftPool}
 use Rattle.iox_control_releasing.proofs.Ended.{ended}

@@ -1,6 +1,6 @@
 use Rattle.std.proofs.Common.{refl, sym, ap, ◌∙◌, ◌<◌, ◌+◌, subst, length}
 use Rattle.iox_lanes.specs.Lanes.{LaneState, places}
-use Rattle.iox_hub_books.specs.Counts.{lane_count}
+use Rattle.iox_tables.specs.HubBooks.Counts.{lane_count}
 use Rattle.iox_slots.proofs.CallerLemmas.{one_at}
 use Rattle.iox_control_releasing.proofs.Lanes.{lane_done, lane_goes, lane_shorter, pool_stays}
 use Rattle.iox_control_releasing.proofs.Settling.{begins, let_one_go, pools_again, settled}

@@ -1,6 +1,6 @@
 use Rattle.std.proofs.Common.{◌≡◌, length}
 use Rattle.iox_lanes.specs.Lanes.{places}
-use Rattle.iox_hub_books.specs.Counts.{lane_count}
+use Rattle.iox_tables.specs.HubBooks.Counts.{lane_count}
 use Rattle.iox_control.specs.Controls.{with_pools}
 use Rattle.iox_control_releasing.proofs.Settling.{Settles}
 use Rattle.iox_control_releasing.proofs.letting_go.let_lane_go.Given as goal

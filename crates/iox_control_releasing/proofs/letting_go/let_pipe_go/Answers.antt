@@ -1,6 +1,6 @@
 use Rattle.std.proofs.Common.{refl, sym, ap, ◌∙◌, ◌<◌, ◌+◌, subst, length}
 use Rattle.iox_lanes.specs.Pipes.{PipeState}
-use Rattle.iox_hub_books.specs.Counts.{in_pipe, lane_count}
+use Rattle.iox_tables.specs.HubBooks.Counts.{in_pipe, lane_count}
 use Rattle.iox_control_releasing.proofs.Lanes.{last_goes, last_none, last_shorter}
 use Rattle.iox_control_releasing.proofs.Settling.{begins, goes_on, pools_again, settled}
 use Rattle.iox_control_releasing.proofs.letting_go.let_pipe_go.Goals as goal

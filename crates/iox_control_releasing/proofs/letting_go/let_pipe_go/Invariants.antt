@@ -1,5 +1,5 @@
 use Rattle.std.proofs.Common.{◌≡◌, length}
-use Rattle.iox_hub_books.specs.Counts.{in_pipe, lane_count}
+use Rattle.iox_tables.specs.HubBooks.Counts.{in_pipe, lane_count}
 use Rattle.iox_control.specs.Controls.{with_pools}
 use Rattle.iox_control_releasing.proofs.Settling.{Settles}
 use Rattle.iox_control_releasing.proofs.letting_go.let_pipe_go.Given as goal

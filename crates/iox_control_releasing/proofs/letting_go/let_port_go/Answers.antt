@@ -1,6 +1,6 @@
 use Rattle.std.proofs.Common.{◌≡◌, ℕ, sym, ap, ◌∙◌, ◌+◌, subst, arith}
 use Rattle.iox_control.specs.Controls.{ControlState}
-use Rattle.iox_hub_states.specs.Tables.{PortState}
+use Rattle.iox_tables.specs.HubStates.Tables.{PortState}
 use Rattle.iox_hub_ports.specs.Ports.{info_at}
 use Rattle.iox_control_releasing.proofs.Walks.{Leaves, leaves_more, leaves_none, leaves_same}
 use Rattle.iox_control_releasing.proofs.letting_go.let_port_go.Goals as goal

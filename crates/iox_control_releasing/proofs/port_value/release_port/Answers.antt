@@ -1,6 +1,6 @@
 use Rattle.std.proofs.Common.{sym, ap, ◌∙◌, subst}
-use Rattle.iox_hub_states.specs.States.{state_shown}
-use Rattle.iox_hub_making.specs.Disconnections.{with_released}
+use Rattle.iox_tables.specs.HubStates.States.{state_shown}
+use Rattle.iox_tables.specs.HubMaking.Disconnections.{with_released}
 use Rattle.iox_control.specs.Controls.{ControlState, IsControl}
 use Rattle.iox_control_releasing.specs.Goings.{NoLeftPool}
 use Rattle.iox_control_releasing.proofs.Tidy.{value_goes}

@@ -1,6 +1,6 @@
 use Rattle.std.proofs.Common.{ap, arith, refl, sym, ◌∙◌}
 use Rattle.std.specs.Prelude.{false, true}
-use Rattle.iox_hub_states.specs.Tables.{HubSettings}
+use Rattle.iox_tables.specs.HubStates.Tables.{HubSettings}
 use Rattle.iox_control_lending.specs.declared.asked.LoanRefusal.TheVariants.{CallsSpent}
 use Rattle.iox_control_request_copies.specs.declared.copied.Copied.TheVariants.{Refused, ExceedsMaxActiveRequests, UnableToDeliver}
 use Rattle.iox_control_request_copies.specs.Copies.{to_fill}

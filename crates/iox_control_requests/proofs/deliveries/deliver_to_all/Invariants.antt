@@ -1,8 +1,8 @@
 use Rattle.std.proofs.Common.{◌≡◌, length}
 use Rattle.std.specs.Prelude.{take}
 use Rattle.iox_lanes.specs.Lanes.{IsSound}
-use Rattle.iox_hub_states.specs.Changes.{OnEach}
-use Rattle.iox_hub_states.specs.Ways.{lane_on}
+use Rattle.iox_tables.specs.HubStates.Changes.{OnEach}
+use Rattle.iox_tables.specs.HubStates.Ways.{lane_on}
 use Rattle.iox_control_requests.specs.Servers.{request_ways}
 use Rattle.iox_control.specs.Entries.{handle_state}
 use Rattle.iox_control_requests.proofs.Delivering.{IsGiven}

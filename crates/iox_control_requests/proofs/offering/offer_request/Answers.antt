@@ -1,5 +1,5 @@
 use Rattle.std.proofs.Common.{ap, sym, ◌∙◌}
-use Rattle.iox_hub_states.specs.Tables.{HubSettings}
+use Rattle.iox_tables.specs.HubStates.Tables.{HubSettings}
 use Rattle.iox_control.specs.Entries.{handle_state}
 use Rattle.iox_control_requests.specs.declared.requested.Requested.TheVariants.{To, ExceedsMaxActiveRequests, UnableToDeliver}
 use Rattle.iox_control_requests.proofs.Offered.{ended_bare, is_lost_so, is_sent_so, is_spent_so, left_for, named_so, whole_for}

@@ -1,5 +1,5 @@
 use Rattle.std.proofs.Common.{sym, ap, ◌∙◌}
-use Rattle.iox_hub_states.specs.States.{state_shown}
+use Rattle.iox_tables.specs.HubStates.States.{state_shown}
 use Rattle.iox_control.specs.Entries.{handle_state}
 use Rattle.iox_control_requests.specs.declared.requested.Requested.TheVariants.{ExceedsMaxActiveRequests, UnableToDeliver}
 use Rattle.iox_control_requests.specs.Sendings.{with_lost_released}

@@ -1,6 +1,6 @@
 use Rattle.std.proofs.Common.{false, subst, sym}
 use Rattle.iox_model.specs.declared.way.RequestState.TheVariants.{Named}
-use Rattle.iox_hub_states.specs.Releases.{pending_states, request_of}
+use Rattle.iox_tables.specs.HubStates.Releases.{pending_states, request_of}
 use Rattle.iox_control.specs.Controls.{IsControl}
 use Rattle.iox_control.specs.Entries.{handle_state}
 use Rattle.iox_control_requests.proofs.Opened.{opened_is, opens_keep}

@@ -1,6 +1,6 @@
 use Rattle.std.proofs.Common.{ap, ◌∙◌}
 use Rattle.iox_hub_ports.specs.Ports.{info_in, state_of_way}
-use Rattle.iox_hub_states.specs.Tables.{PortState}
+use Rattle.iox_tables.specs.HubStates.Tables.{PortState}
 use Rattle.std.specs.Prelude.{List}
 use Rattle.iox_model.specs.Messages.{response_way}
 use Rattle.iox_control_responses.proofs.Awaiting.{a_named_client, no_client, not_connected}

@@ -1,7 +1,7 @@
 use Rattle.std.specs.Prelude.{List}
 use Rattle.std.proofs.Common.{ap, ◌∙◌}
 use Rattle.iox_model.specs.Settings.{fails_by_strategy}
-use Rattle.iox_hub_states.specs.Tables.{PortState}
+use Rattle.iox_tables.specs.HubStates.Tables.{PortState}
 use Rattle.iox_hub_ports.specs.Ports.{info_in}
 use Rattle.iox_control_responses.proofs.Strategies.{by_strategy, no_port_fails}
 use Rattle.iox_control_responses.proofs.failing.fails_when_full.Goals as goal

@@ -1,6 +1,6 @@
 use Rattle.std.proofs.Common.{◌≡◌, ◌∷◌, [], Some}
 use Rattle.iox_lanes.specs.Lanes.{LaneState}
-use Rattle.iox_hub_states.specs.Ways.{lane_on}
+use Rattle.iox_tables.specs.HubStates.Ways.{lane_on}
 use Rattle.iox_control_retrieving.proofs.OneWay.{GoesOn, all_returned}
 use Rattle.iox_control_retrieving.proofs.one_way.retrieve.Given as goal
 

@@ -1,6 +1,6 @@
 use Rattle.std.proofs.Common.{sym, ap, subst, ◌∙◌, arith, length}
 use Rattle.iox_model.specs.Maps.{AreDistinct}
-use Rattle.iox_hub_states.specs.Tables.{numbers_of}
+use Rattle.iox_tables.specs.HubStates.Tables.{numbers_of}
 use Rattle.iox_hub_ports.specs.Ports.{info_at, info_in}
 use Rattle.iox_control_retrieving.proofs.Places.{begins, finishes, receiver_said, sender_said, turns, within_ports}
 use Rattle.iox_control_retrieving.proofs.port.retrieve_all.Goals as goal

@@ -1,6 +1,6 @@
 use Rattle.std.proofs.Common.{sym, ap, refl, ◌∙◌, not}
 use Rattle.iox_control.specs.Settings.{settings_of}
-use Rattle.iox_hub_making.specs.Starts.{no_ports}
+use Rattle.iox_tables.specs.HubMaking.Starts.{no_ports}
 use Rattle.iox_hub.specs.Making.{options_of}
 use Rattle.iox_hub.proofs.MakingAsked.{large_asked, large_is, longest_is, past_pool, size_is}
 use Rattle.iox_hub.proofs.pools.asked_of.Goals as goal

@@ -2,8 +2,8 @@ use Rattle.std.proofs.Common.{sym, ap, ◌∙◌, ◌+◌}
 use Rattle.iox_types.specs.Layouts.{as_usize}
 use Rattle.iox_types.specs.PoolSizes.{client_pool, server_pool}
 use Rattle.iox_model.specs.Makings.{worst_pool}
-use Rattle.iox_hub_states.specs.States.{limits_of}
-use Rattle.iox_hub_making.specs.Starts.{no_ports}
+use Rattle.iox_tables.specs.HubStates.States.{limits_of}
+use Rattle.iox_tables.specs.HubMaking.Starts.{no_ports}
 use Rattle.iox_control.specs.Settings.{settings_of}
 use Rattle.iox_hub.specs.Making.{options_of}
 use Rattle.iox_hub.proofs.pools.worst_pool.Goals as goal

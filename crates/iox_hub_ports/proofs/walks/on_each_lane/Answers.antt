@@ -1,5 +1,5 @@
 use Rattle.std.proofs.Common.{ap, ◌∙◌, arith}
-use Rattle.iox_hub_states.specs.Tables.{numbers_of}
+use Rattle.iox_tables.specs.HubStates.Tables.{numbers_of}
 use Rattle.iox_hub_ports.proofs.Keeping.{lanes_keep}
 use Rattle.iox_hub_ports.specs.Ports.{if_role, ways_from, with_lane_from}
 use Rattle.iox_hub_ports.proofs.Walking.{each_lane, ends, set_size, turns}

@@ -1,5 +1,5 @@
 use Rattle.std.proofs.Common.{ap, ◌∙◌, arith}
-use Rattle.iox_hub_states.specs.Tables.{numbers_of}
+use Rattle.iox_tables.specs.HubStates.Tables.{numbers_of}
 use Rattle.iox_hub_ports.proofs.Keeping.{states_keep}
 use Rattle.iox_hub_ports.specs.Ports.{if_role, state_ways, with_state_from}
 use Rattle.iox_hub_ports.proofs.Walking.{each_state, ends, set_size, turns}

@@ -1,5 +1,5 @@
 use Rattle.std.proofs.Common.{ap, ◌∙◌, slice_set, arith}
-use Rattle.iox_hub_states.specs.Tables.{numbers_of}
+use Rattle.iox_tables.specs.HubStates.Tables.{numbers_of}
 use Rattle.iox_hub_ports.proofs.Keeping.{lane_at_keeps}
 use Rattle.iox_hub_ports.proofs.Seats.{lane_changed_at, told_at, told_past, unchanged_past}
 use Rattle.iox_hub_ports.proofs.walks.on_lane_at.Goals as goal

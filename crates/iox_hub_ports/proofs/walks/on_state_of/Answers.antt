@@ -1,5 +1,5 @@
 use Rattle.std.proofs.Common.{ap, ◌∙◌, slice_set}
-use Rattle.iox_hub_states.specs.Tables.{numbers_of}
+use Rattle.iox_tables.specs.HubStates.Tables.{numbers_of}
 use Rattle.iox_hub_ports.proofs.Keeping.{state_keeps}
 use Rattle.iox_hub_ports.specs.Ports.{with_state_from}
 use Rattle.iox_hub_ports.proofs.Places.{changed, looked, unchanged}

@@ -2,7 +2,7 @@ use Rattle.std.proofs.Common.{ap, sym, ◌∙◌}
 use Rattle.std.proofs.lemmas.Option.{same_Some}
 use Rattle.iox_model.specs.declared.call.Call.TheVariants.{Send}
 use Rattle.iox_model.specs.Settings.{fails_by_strategy}
-use Rattle.iox_hub_states.specs.Tables.{HandleState}
+use Rattle.iox_tables.specs.HubStates.Tables.{HandleState}
 use Rattle.iox_control.specs.Entries.{handle_state}
 use Rattle.iox_control_requests.specs.Sendings.{reply_of_send, request_outcome}
 use Rattle.iox_hub.specs.Hubs.{HubState}

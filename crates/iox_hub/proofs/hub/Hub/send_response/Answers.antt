@@ -2,7 +2,7 @@ use Rattle.std.specs.Prelude.{refl}
 use Rattle.std.proofs.Common.{ap, sym, ◌∙◌}
 use Rattle.std.proofs.lemmas.Option.{same_Some}
 use Rattle.iox_model.specs.declared.call.Call.TheVariants.{Send}
-use Rattle.iox_hub_states.specs.Tables.{HandleState}
+use Rattle.iox_tables.specs.HubStates.Tables.{HandleState}
 use Rattle.iox_control.specs.Entries.{handle_state}
 use Rattle.iox_control_responses.specs.Responses.{reply_of_send, response_reply, way_to_client}
 use Rattle.iox_hub.specs.Hubs.{HubState}

@@ -1,5 +1,5 @@
 use Rattle.std.proofs.Common.{sym, ◌∙◌}
-use Rattle.iox_hub_states.proofs.Placing.{ranks_are_of_senders}
+use Rattle.iox_tables.proofs.HubStates.Placing.{ranks_are_of_senders}
 use Rattle.iox_hub_ports.specs.Ports.{port_of}
 use Rattle.iox_hub_ports.proofs.Firsts.{no_pipe_gone, none_first, pipe_gone}
 use Rattle.iox_hub_ports.proofs.port.Port.disconnect.Goals as goal

@@ -1,8 +1,8 @@
 use Rattle.std.proofs.Common.{sym, ap, ◌∙◌}
 use Rattle.iox_lanes.specs.declared.incoming.Visits.TheVariants.{AtLimit}
 use Rattle.iox_lanes.specs.Visited.{all_visits}
-use Rattle.iox_hub_states.specs.Receives.{both_visits}
-use Rattle.iox_hub_states.proofs.Both.{visits_are_of_both}
+use Rattle.iox_tables.specs.HubStates.Receives.{both_visits}
+use Rattle.iox_tables.proofs.HubStates.Both.{visits_are_of_both}
 use Rattle.iox_hub_ports.specs.Ports.{port_of}
 use Rattle.iox_hub_ports.proofs.port.Port.visit.Goals as goal
 

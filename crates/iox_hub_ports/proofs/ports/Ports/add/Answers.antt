@@ -1,6 +1,6 @@
 use Rattle.std.proofs.Common.{◌≡◌, ◌<◌, false, subst, sym}
 use Rattle.iox_model.specs.Maps.{has_number}
-use Rattle.iox_hub_states.specs.Tables.{numbers_of}
+use Rattle.iox_tables.specs.HubStates.Tables.{numbers_of}
 use Rattle.iox_hub_ports.specs.Ports.{PortsState}
 use Rattle.iox_hub_ports.proofs.Keeping.{IsPorts-added}
 use Rattle.iox_hub_ports.proofs.ports.Ports.add.Goals as goal

@@ -1,5 +1,5 @@
 use Rattle.std.proofs.Common.{ap, ◌∙◌, slice_set}
-use Rattle.iox_hub_states.specs.Tables.{PortState}
+use Rattle.iox_tables.specs.HubStates.Tables.{PortState}
 use Rattle.std.proofs.Common.{false}
 use Rattle.iox_lanes.specs.Incomings.{has_room_for}
 use Rattle.iox_hub_ports.specs.Ports.{with_connected}

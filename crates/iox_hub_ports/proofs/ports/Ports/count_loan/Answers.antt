@@ -1,8 +1,8 @@
 use Rattle.std.proofs.Common.{ap, ◌∙◌, slice_set}
-use Rattle.iox_hub_states.specs.Tables.{PortState}
+use Rattle.iox_tables.specs.HubStates.Tables.{PortState}
 use Rattle.std.proofs.Common.{◌<◌, ◌-◌, ◌^◌, ℕ, subst, sym}
 use Rattle.std.specs.Option.{option_map_or}
-use Rattle.iox_hub_states.specs.Tables.{port_in}
+use Rattle.iox_tables.specs.HubStates.Tables.{port_in}
 use Rattle.iox_hub_ports.specs.Ports.{PortsState, with_loan_counted}
 use Rattle.iox_hub_ports.proofs.Keeping.{IsPorts-set}
 use Rattle.iox_hub_ports.proofs.Places.{changed, looked, told, unchanged}

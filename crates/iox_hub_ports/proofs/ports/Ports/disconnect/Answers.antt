@@ -1,7 +1,7 @@
 use Rattle.std.proofs.Common.{ap, ◌∙◌, slice_set}
-use Rattle.iox_hub_states.specs.Tables.{PortState}
+use Rattle.iox_tables.specs.HubStates.Tables.{PortState}
 use Rattle.std.proofs.Common.{None}
-use Rattle.iox_hub_states.specs.Tables.{pipe_from}
+use Rattle.iox_tables.specs.HubStates.Tables.{pipe_from}
 use Rattle.iox_hub_ports.specs.Ports.{without_pipe_from}
 use Rattle.iox_hub_ports.proofs.Keeping.{IsPorts-set}
 use Rattle.iox_hub_ports.proofs.Places.{changed, looked, missing, told, unchanged}

@@ -1,5 +1,5 @@
 use Rattle.std.proofs.Common.{ap, ◌∙◌}
-use Rattle.iox_hub_states.specs.Tables.{port_in}
+use Rattle.iox_tables.specs.HubStates.Tables.{port_in}
 use Rattle.std.proofs.Common.{None, Some}
 use Rattle.iox_hub_ports.specs.Ports.{info_of}
 use Rattle.iox_hub_ports.proofs.Places.{info_said, looked, missing, told}

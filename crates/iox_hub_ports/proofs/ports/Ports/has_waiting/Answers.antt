@@ -1,6 +1,6 @@
 use Rattle.std.proofs.Common.{◌∙◌}
 use Rattle.std.proofs.Common.{false}
-use Rattle.iox_hub_states.specs.Asks.{waits_for}
+use Rattle.iox_tables.specs.HubStates.Asks.{waits_for}
 use Rattle.iox_hub_ports.proofs.Places.{looked, missing, told}
 use Rattle.iox_hub_ports.proofs.ports.Ports.has_waiting.Goals as goal
 

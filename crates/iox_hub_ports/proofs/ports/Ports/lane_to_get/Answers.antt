@@ -1,6 +1,6 @@
 use Rattle.std.proofs.Common.{◌∙◌}
 use Rattle.std.proofs.Common.{None}
-use Rattle.iox_hub_states.specs.Tables.{pipes_of, port_in}
+use Rattle.iox_tables.specs.HubStates.Tables.{pipes_of, port_in}
 use Rattle.iox_hub_ports.specs.Ports.{lane_to_get_on}
 use Rattle.iox_hub_ports.proofs.Places.{looked, lowest_said, missing, told}
 use Rattle.iox_hub_ports.proofs.ports.Ports.lane_to_get.Goals as goal

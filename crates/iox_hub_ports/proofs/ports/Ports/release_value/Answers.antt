@@ -1,5 +1,5 @@
 use Rattle.std.proofs.Common.{ap, ◌∙◌, slice_set}
-use Rattle.iox_hub_states.specs.Tables.{PortState}
+use Rattle.iox_tables.specs.HubStates.Tables.{PortState}
 use Rattle.iox_hub_ports.specs.Ports.{without_value}
 use Rattle.iox_hub_ports.proofs.Keeping.{IsPorts-set}
 use Rattle.iox_hub_ports.proofs.Places.{changed, looked, unchanged}

@@ -1,5 +1,5 @@
 use Rattle.std.proofs.Common.{◌+◌, ap, sym, ◌∙◌}
-use Rattle.iox_hub_states.proofs.Placing.{places_are_of_numbers}
+use Rattle.iox_tables.proofs.HubStates.Placing.{places_are_of_numbers}
 use Rattle.iox_hub_ports.proofs.Firsts.{first_gone, none_first}
 use Rattle.iox_hub_ports.proofs.Keeping.{IsPorts-removed}
 use Rattle.iox_hub_ports.proofs.Places.{found, looked}

@@ -1,9 +1,9 @@
 use Rattle.std.proofs.Common.{ap, ◌∙◌, slice_set}
-use Rattle.iox_hub_states.specs.Tables.{PortState}
+use Rattle.iox_tables.specs.HubStates.Tables.{PortState}
 use Rattle.iox_lanes.specs.declared.incoming.Visits.TheVariants.{Nothing}
 use Rattle.iox_lanes.specs.Visited.{all_visits}
-use Rattle.iox_hub_states.specs.Receives.{visited_port}
-use Rattle.iox_hub_states.specs.Tables.{pipes_of, port_in}
+use Rattle.iox_tables.specs.HubStates.Receives.{visited_port}
+use Rattle.iox_tables.specs.HubStates.Tables.{pipes_of, port_in}
 use Rattle.iox_hub_ports.proofs.Keeping.{IsPorts-set}
 use Rattle.iox_hub_ports.proofs.Places.{changed, looked, missing, told, visits_said, unchanged}
 use Rattle.iox_hub_ports.proofs.ports.Ports.visit.Goals as goal

@@ -1,6 +1,6 @@
 use Rattle.std.proofs.Common.{◌≡◌, List, ap, replicate, subst, sym, ◌∙◌}
 use Rattle.std.specs.Vec.{vec_capacity}
-use Rattle.iox_hub_states.specs.Tables.{SlotState, no_slot}
+use Rattle.iox_tables.specs.HubStates.Tables.{SlotState, no_slot}
 use Rattle.iox_slots.specs.FreeLists.{IsFreeList}
 use Rattle.iox_slots.proofs.FreeListLemmas.{IsFreeList-new}
 use Rattle.iox_slots.proofs.pool.Pool.new.Goals as goal

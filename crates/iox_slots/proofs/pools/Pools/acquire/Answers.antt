@@ -1,5 +1,5 @@
 use Rattle.std.proofs.Common.{◌+◌, ◌∙◌, List, Option, ap, sym, subst}
-use Rattle.iox_hub_states.specs.Tables.{PoolState}
+use Rattle.iox_tables.specs.HubStates.Tables.{PoolState}
 use Rattle.iox_slots.specs.Pools.{Acquires, free_count}
 use Rattle.iox_slots.proofs.CallerLemmas.{acquires}
 use Rattle.iox_slots.proofs.CountLemmas.{counted_acquire}

@@ -1,5 +1,5 @@
 use Rattle.std.proofs.Common.{◌∙◌, ℕ, nat_eq, ap}
-use Rattle.iox_hub_states.specs.Tables.{slots_of}
+use Rattle.iox_tables.specs.HubStates.Tables.{slots_of}
 use Rattle.iox_slots.specs.Pools.{free_count}
 use Rattle.iox_slots.proofs.FreeListLemmas.{idle_is}
 use Rattle.iox_slots.proofs.pools.Pools.is_idle.Goals as goal

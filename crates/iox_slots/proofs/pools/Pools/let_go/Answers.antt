@@ -1,5 +1,5 @@
 use Rattle.std.proofs.Common.{◌∙◌, List, Option, ap}
-use Rattle.iox_hub_states.specs.Tables.{PoolState, slot_at}
+use Rattle.iox_tables.specs.HubStates.Tables.{PoolState, slot_at}
 use Rattle.iox_slots.specs.Pools.{free_count}
 use Rattle.iox_slots.proofs.CallerLemmas.{one_less_here}
 use Rattle.iox_slots.proofs.CountLemmas.{counted_let_go}

@@ -1,8 +1,0 @@
-use Rattle.iox_call_functions.proofs.Holding.{each_write_is_whole, each_read_is_whole}
-use Rattle.iox_call_functions.proofs.contents.Goals as goal
-
-pub returns-clause-writes : goal.returns-clause-writes
-returns-clause-writes c = each_write_is_whole
-
-pub returns-clause-reads : goal.returns-clause-reads
-returns-clause-reads c = each_read_is_whole

@@ -1,8 +1,0 @@
-use Rattle.iox_call_functions.proofs.Lending.{each_loan_is_whole, each_uninit_loan_is_whole}
-use Rattle.iox_call_functions.proofs.loans.Goals as goal
-
-pub returns-clause-filled : goal.returns-clause-filled
-returns-clause-filled c = each_loan_is_whole
-
-pub returns-clause-unfilled : goal.returns-clause-unfilled
-returns-clause-unfilled c = each_uninit_loan_is_whole

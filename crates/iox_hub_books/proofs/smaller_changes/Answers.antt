@@ -1,9 +1,0 @@
-use Rattle.iox_hub_books.proofs.Lessening.{emptying_keeps_order}
-use Rattle.iox_hub_books.proofs.Little.{little_changes_keep_order}
-use Rattle.iox_hub_books.proofs.smaller_changes.Goals as goal
-
-pub returns-clause-empties : goal.returns-clause-empties
-returns-clause-empties c = emptying_keeps_order
-
-pub returns-clause-others : goal.returns-clause-others
-returns-clause-others c = little_changes_keep_order

@@ -1,9 +1,0 @@
-use Rattle.iox_hub_keeping.proofs.GonePools.{pools_may_go}
-use Rattle.iox_hub_keeping.proofs.LeftHandles.{disconnections_keep_order}
-use Rattle.iox_hub_keeping.proofs.disconnections.Goals as goal
-
-pub returns-clause-ports : goal.returns-clause-ports
-returns-clause-ports c = disconnections_keep_order
-
-pub returns-clause-pools : goal.returns-clause-pools
-returns-clause-pools c = pools_may_go

@@ -1,8 +1,0 @@
-use Rattle.iox_hub_keeping.proofs.Ordered.{places_become_free, order_is_ready_for_ports}
-use Rattle.iox_hub_keeping.proofs.places.Goals as goal
-
-pub returns-clause-ready : goal.returns-clause-ready
-returns-clause-ready c = order_is_ready_for_ports
-
-pub returns-clause-free : goal.returns-clause-free
-returns-clause-free c = places_become_free

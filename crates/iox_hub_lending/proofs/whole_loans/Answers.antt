@@ -1,8 +1,0 @@
-use Rattle.iox_hub_lending.proofs.WholeLoans.{free_slots_are_lent, full_pools_refuse}
-use Rattle.iox_hub_lending.proofs.whole_loans.Goals as goal
-
-pub returns-clause-refused : goal.returns-clause-refused
-returns-clause-refused c = full_pools_refuse
-
-pub returns-clause-made : goal.returns-clause-made
-returns-clause-made c = free_slots_are_lent

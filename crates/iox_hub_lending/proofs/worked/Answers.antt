@@ -1,8 +1,0 @@
-use Rattle.iox_hub_lending.proofs.WorkedHolds.{client_may_not_lend, server_may_lend}
-use Rattle.iox_hub_lending.proofs.worked.Goals as goal
-
-pub returns-clause-server : goal.returns-clause-server
-returns-clause-server c = server_may_lend
-
-pub returns-clause-client : goal.returns-clause-client
-returns-clause-client c = client_may_not_lend

@@ -1,8 +1,0 @@
-use Rattle.iox_hub_making.proofs.Working.{one_of_each_is_made, requests_go_with_clients}
-use Rattle.iox_hub_making.proofs.worked.Goals as goal
-
-pub returns-clause-made : goal.returns-clause-made
-returns-clause-made c = one_of_each_is_made
-
-pub returns-clause-goes : goal.returns-clause-goes
-returns-clause-goes c = requests_go_with_clients

@@ -1,8 +1,0 @@
-use Rattle.iox_hub_states.proofs.Steps.{one_lane_is_one_way, one_state_is_one_way}
-use Rattle.iox_hub_states.proofs.one_change_is_of_one_way.Goals as goal
-
-pub returns-clause-lanes : goal.returns-clause-lanes
-returns-clause-lanes c = one_lane_is_one_way
-
-pub returns-clause-states : goal.returns-clause-states
-returns-clause-states c = one_state_is_one_way

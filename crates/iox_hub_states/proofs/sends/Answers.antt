@@ -1,8 +1,0 @@
-use Rattle.iox_hub_states.proofs.SendSteps.{pushing_sends_are_shown, sends_are_shown}
-use Rattle.iox_hub_states.proofs.sends.Goals as goal
-
-pub returns-clause-plain : goal.returns-clause-plain
-returns-clause-plain c = sends_are_shown
-
-pub returns-clause-pushing : goal.returns-clause-pushing
-returns-clause-pushing c = pushing_sends_are_shown

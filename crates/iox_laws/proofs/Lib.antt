@@ -1,0 +1,13 @@
+pub mod WeaveLaws
+pub mod WorkedExamples
+pub mod CallFunctions
+pub mod WeaveLedger
+pub mod WeaveWorlds
+pub mod WeavePools
+pub mod WeaveBeats
+pub mod RunLaws
+pub mod MessageLaws
+pub mod ReplyLaws
+pub mod ServiceLaws
+pub mod RunLedger
+pub mod RunPools

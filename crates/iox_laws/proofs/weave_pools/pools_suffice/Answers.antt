@@ -1,0 +1,11 @@
+use Rattle.iox_laws.proofs.WeavePools.Laws.{keeps_less, loan_succeeds, begins_succeed}
+use Rattle.iox_laws.proofs.weave_pools.pools_suffice.Goals as goal
+
+pub returns-clause-kept : goal.returns-clause-kept
+returns-clause-kept c = keeps_less
+
+pub returns-clause-succeeds : goal.returns-clause-succeeds
+returns-clause-succeeds c = loan_succeeds
+
+pub returns-clause-begins : goal.returns-clause-begins
+returns-clause-begins c = begins_succeed

@@ -1,8 +1,0 @@
-use Rattle.iox_run_laws.proofs.Refusals.{refused_port_command_delivers_nothing, refused_command_delivers_nothing}
-use Rattle.iox_run_laws.proofs.refused_delivers_nothing.Goals as goal
-
-pub returns-clause-of_ports : goal.returns-clause-of_ports
-returns-clause-of_ports c = refused_port_command_delivers_nothing
-
-pub returns-clause-of_services : goal.returns-clause-of_services
-returns-clause-of_services c = refused_command_delivers_nothing

@@ -1,8 +1,0 @@
-use Rattle.iox_weave_ledger.proofs.Once.{delivered_once, received_once}
-use Rattle.iox_weave_ledger.proofs.messages_come_at_most_once.Goals as goal
-
-pub returns-clause-delivered : goal.returns-clause-delivered
-returns-clause-delivered c = delivered_once
-
-pub returns-clause-received : goal.returns-clause-received
-returns-clause-received c = received_once

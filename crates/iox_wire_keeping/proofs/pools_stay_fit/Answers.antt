@@ -1,9 +1,0 @@
-use Rattle.iox_wire_keeping.proofs.PicksFitted.{picks_fit}
-use Rattle.iox_wire_keeping.proofs.DeliveriesFitted.{deliveries_fit}
-use Rattle.iox_wire_keeping.proofs.pools_stay_fit.Goals as goal
-
-pub returns-clause-picks : goal.returns-clause-picks
-returns-clause-picks c = picks_fit
-
-pub returns-clause-deliveries : goal.returns-clause-deliveries
-returns-clause-deliveries c = deliveries_fit

@@ -1,8 +1,0 @@
-use Rattle.iox_wire_owners.proofs.RequestStates.{only_clients_open, others_open_nothing}
-use Rattle.iox_wire_owners.proofs.clients_open_their_states.Goals as goal
-
-pub returns-clause-opened : goal.returns-clause-opened
-returns-clause-opened c = only_clients_open
-
-pub returns-clause-others : goal.returns-clause-others
-returns-clause-others c = others_open_nothing

@@ -1,8 +1,0 @@
-use Rattle.iox_wire_owners.proofs.FirmOwners.{firm_owners_stay, firm_owners_go_on}
-use Rattle.iox_wire_owners.proofs.firm_owners_go_on.Goals as goal
-
-pub returns-clause-steps : goal.returns-clause-steps
-returns-clause-steps c = firm_owners_stay
-
-pub returns-clause-shown : goal.returns-clause-shown
-returns-clause-shown c = firm_owners_go_on

@@ -1,5 +1,0 @@
-use Rattle.iox_wire_owners.proofs.FirmOwners.{others_leave_firm}
-use Rattle.iox_wire_owners.proofs.others_leave_what_is_firm.Goals as goal
-
-pub returns : goal.returns
-returns c = others_leave_firm

@@ -1,9 +1,0 @@
-use Rattle.iox_wire_owners.proofs.Pushes.{deliveries_are_not_refused}
-use Rattle.iox_wire_owners.proofs.PushesTold.{pushes_are_told}
-use Rattle.iox_wire_owners.proofs.pushes_find_room.Goals as goal
-
-pub returns-clause-room : goal.returns-clause-room
-returns-clause-room c = deliveries_are_not_refused
-
-pub returns-clause-told : goal.returns-clause-told
-returns-clause-told c = pushes_are_told

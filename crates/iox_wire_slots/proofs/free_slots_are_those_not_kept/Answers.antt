@@ -1,8 +1,0 @@
-use Rattle.iox_wire_slots.proofs.Counting.{dry_if_none_is_free, free_and_kept_are_the_pool}
-use Rattle.iox_wire_slots.proofs.free_slots_are_those_not_kept.Goals as goal
-
-pub returns-clause-counted : goal.returns-clause-counted
-returns-clause-counted c = free_and_kept_are_the_pool
-
-pub returns-clause-dry : goal.returns-clause-dry
-returns-clause-dry c = dry_if_none_is_free

@@ -1,5 +1,0 @@
-use Rattle.iox_wire_slots.proofs.Deciding.{pools_decide_by_free_slots}
-use Rattle.iox_wire_slots.proofs.pools_decide_by_free_slots.Goals as goal
-
-pub returns : goal.returns
-returns c = pools_decide_by_free_slots
