@@ -28,6 +28,7 @@ pub use Rattle.iox_types.specs.declared.message_type_details.MessageTypeDetails
 pub use Rattle.iox_configs.specs.Paths
 pub use Rattle.iox_configs.specs.FirstSettings
 pub use Rattle.iox_configs.specs.Pools
+pub use Rattle.iox_configs.specs.Services as ServiceConfigs
 -- what is registered with a service
 pub use Rattle.iox_registry.specs.Registers
 pub use Rattle.iox_registry.specs.Changes

@@ -8,6 +8,7 @@ use iox_names::{ServiceHash, ServiceName};
 use iox_types::MessageTypeDetails;
 use iox_types::identifiers::UniqueServiceId;
 pub use messaging_pattern::MessagingPattern;
+use std::marker::Model;
 
 pub mod message_type_details;
 mod messaging_pattern;
@@ -22,6 +23,28 @@ pub struct StaticConfig {
     name: ServiceName,
     messaging_pattern: MessagingPattern,
     specifier: AttributeSpecifier,
+}
+
+impl Model for StaticConfig {
+    ghost use Rattle.iceoryx2_service.specs.Services.{ServiceDescription};
+
+    ghost Value = { ServiceDescription };
+
+    ghost view = { λ it. record {
+      service_hash = it.service_hash;
+      unique_service_id = it.unique_service_id;
+      name = it.name;
+      messaging_pattern = it.messaging_pattern;
+      attributes = it.specifier;
+    } };
+
+    ghost inverse = { λ it. record {
+      service_hash = it.service_hash;
+      unique_service_id = it.unique_service_id;
+      name = it.name;
+      messaging_pattern = it.messaging_pattern;
+      specifier = it.attributes;
+    } };
 }
 
 impl StaticConfig {
@@ -110,7 +133,7 @@ impl StaticConfig {
 
     /// The attributes of the service.
     pub fn attributes(&self) -> &AttributeSet
-        ensures { result.now ≡ self.now.specifier }
+        ensures { result.now ≡ self.now.attributes }
     {
         self.specifier.attributes()
     }

@@ -1,6 +1,5 @@
 -- Numbers that can be told, and those that are too large for it.
-use Rattle.std.proofs.Common.{ℕ, suc, zero, ◌≡◌, ◌*◌, ◌^◌, ◌≤◌, ◌<◌, true, false, arith, refl, sym, None, Some, mul_comm}
-use Rattle.std.specs.Prelude.{Option}
+use Rattle.std.proofs.Common.{ℕ, suc, zero, ◌≡◌, ◌*◌, ◌^◌, ◌≤◌, arith, refl, None, Some, mul_comm}
 use Rattle.std.proofs.Math.Nat.{le-mul_of_pos_right}
 use Rattle.std.proofs.lemmas.Bool.Decides.{nat_tests}
 use Rattle.iox_types.specs.Layouts.{as_usize}

@@ -3,3 +3,5 @@
 pub mod Paths
 pub mod FirstSettings
 pub mod Pools
+-- what a service was made with
+pub mod Services

@@ -3,6 +3,7 @@ ghost use Rattle.std.specs.Prelude.{◌≡◌};
 
 use crate::config::Blackboard;
 use iox_types::TypeDetail;
+use std::marker::Model;
 
 /// The type of a service's keys, and its settings.
 #[derive(Clone, Copy, Debug, PartialEq, Eq)]
@@ -11,10 +12,20 @@ pub struct StaticConfig {
     settings: Blackboard,
 }
 
+impl Model for StaticConfig {
+    ghost use Rattle.iox_configs.specs.Services.{BlackboardService};
+
+    ghost Value = { BlackboardService };
+
+    ghost view = { λ it. record { keys = it.type_details; settings = it.settings } };
+
+    ghost inverse = { λ it. record { type_details = it.keys; settings = it.settings } };
+}
+
 impl StaticConfig {
     /// The configuration of those types and settings.
     pub fn new(type_details: TypeDetail, settings: Blackboard) -> StaticConfig
-        ensures types { result.type_details ≡ type_details }
+        ensures types { result.keys ≡ type_details }
         ensures settings { result.settings ≡ settings }
     {
         StaticConfig {
@@ -25,7 +36,7 @@ impl StaticConfig {
 
     /// The description of keys.
     pub fn type_details(&self) -> &TypeDetail
-        ensures { result.now ≡ self.now.type_details }
+        ensures { result.now ≡ self.now.keys }
     {
         &self.type_details
     }

@@ -4,6 +4,7 @@ ghost use Rattle.std.specs.Prelude.{◌≡◌};
 use crate::config::PublishSubscribe;
 use crate::pools::{number, product, sum};
 use iox_types::MessageTypeDetails;
+use std::marker::Model;
 
 /// The types of a service's samples, and its settings.
 #[derive(Clone, Copy, Debug, PartialEq, Eq)]
@@ -12,13 +13,23 @@ pub struct StaticConfig {
     settings: PublishSubscribe,
 }
 
+impl Model for StaticConfig {
+    ghost use Rattle.iox_configs.specs.Services.{PublishSubscribeService};
+
+    ghost Value = { PublishSubscribeService };
+
+    ghost view = { λ it. record { samples = it.message_type_details; settings = it.settings } };
+
+    ghost inverse = { λ it. record { message_type_details = it.samples; settings = it.settings } };
+}
+
 impl StaticConfig {
     ghost use Rattle.iox_types.specs.Layouts.{as_usize};
     ghost use Rattle.iox_configs.specs.Pools.{publisher_samples};
 
     /// The configuration of those types and settings.
     pub fn new(message_type_details: MessageTypeDetails, settings: PublishSubscribe) -> StaticConfig
-        ensures types { result.message_type_details ≡ message_type_details }
+        ensures types { result.samples ≡ message_type_details }
         ensures settings { result.settings ≡ settings }
     {
         StaticConfig {
@@ -47,7 +58,7 @@ impl StaticConfig {
 
     /// The description of samples.
     pub fn message_type_details(&self) -> &MessageTypeDetails
-        ensures { result.now ≡ self.now.message_type_details }
+        ensures { result.now ≡ self.now.samples }
     {
         &self.message_type_details
     }

@@ -4,6 +4,7 @@ ghost use Rattle.std.specs.Prelude.{◌≡◌};
 use crate::config::RequestResonse;
 use crate::pools::{number, product, sum};
 use iox_types::MessageTypeDetails;
+use std::marker::Model;
 
 /// The types of a service's requests and responses, and its settings.
 #[derive(Clone, Copy, Debug, PartialEq, Eq)]
@@ -11,6 +12,24 @@ pub struct StaticConfig {
     request_message_type_details: MessageTypeDetails,
     response_message_type_details: MessageTypeDetails,
     settings: RequestResonse,
+}
+
+impl Model for StaticConfig {
+    ghost use Rattle.iox_configs.specs.Services.{RequestResponseService};
+
+    ghost Value = { RequestResponseService };
+
+    ghost view = { λ it. record {
+      request = it.request_message_type_details;
+      response = it.response_message_type_details;
+      settings = it.settings;
+    } };
+
+    ghost inverse = { λ it. record {
+      request_message_type_details = it.request;
+      response_message_type_details = it.response;
+      settings = it.settings;
+    } };
 }
 
 impl StaticConfig {
@@ -23,8 +42,8 @@ impl StaticConfig {
         response: MessageTypeDetails,
         settings: RequestResonse,
     ) -> StaticConfig
-        ensures request { result.request_message_type_details ≡ request }
-        ensures response { result.response_message_type_details ≡ response }
+        ensures request { result.request ≡ request }
+        ensures response { result.response ≡ response }
         ensures settings { result.settings ≡ settings }
     {
         StaticConfig {
@@ -79,14 +98,14 @@ impl StaticConfig {
 
     /// The description of requests.
     pub fn request_message_type_details(&self) -> &MessageTypeDetails
-        ensures { result.now ≡ self.now.request_message_type_details }
+        ensures { result.now ≡ self.now.request }
     {
         &self.request_message_type_details
     }
 
     /// The description of responses.
     pub fn response_message_type_details(&self) -> &MessageTypeDetails
-        ensures { result.now ≡ self.now.response_message_type_details }
+        ensures { result.now ≡ self.now.response }
     {
         &self.response_message_type_details
     }

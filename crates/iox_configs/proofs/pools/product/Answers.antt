@@ -1,4 +1,4 @@
-use Rattle.std.proofs.Common.{rules, ℕ, ◌≡◌, ◌*◌, ◌∙◌, sym, None, Some}
+use Rattle.std.proofs.Common.{rules, ◌≡◌, ◌∙◌, sym, Some}
 use Rattle.iox_types.specs.Layouts.{as_usize}
 use Rattle.iox_configs.proofs.Told.{untold-product, product-untold}
 use Rattle.iox_configs.proofs.pools.product.Goals as goal
