@@ -22,6 +22,6 @@ pub mod cells {
     pub use iox_cell_queues::{
         CellCall, CellEvent, CellMachine, CellParty, CellPop, CellPopping, CellPush, CellPushing,
         CellReply, CellSide, CellSite, every_access_keeps_the_queue, every_access_keeps_the_values,
-        queues_apart_stay,
+        queues_apart_stay, swapped_stores_break_the_queue, values_are_kept_until_published,
     };
 }

@@ -11,3 +11,4 @@ pub mod PushChains
 pub mod PopChains
 pub mod WholeLemmas
 pub mod ApartLemmas
+pub mod OwnLemmas

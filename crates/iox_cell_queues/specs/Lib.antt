@@ -9,6 +9,7 @@ pub mod CellEventLists
 pub mod CellAnswers
 pub mod CellAfterCalls
 pub mod CellLaws
+pub mod CellOwn
 -- the machine that plays the two parties
 pub mod CellPartySides
 pub mod CellParties

@@ -1,6 +1,6 @@
 -- Why a push stores its words before the write position, and a pop loads them before it stores the
 -- read position: what goes wrong the other way round. The queue has one cell of one word.
-use Rattle.std.specs.Prelude.{ℕ, true, List, [], ◌∷◌, slice_index}
+use Rattle.std.specs.Prelude.{ℕ, true, [], ◌∷◌, slice_index}
 use Rattle.iox_words.specs.declared.word_list.Words.{Ghosts}
 use Rattle.iox_cell_queues.specs.declared.site.CellSite.{CellSite}
 use Rattle.iox_cell_queues.specs.declared.event.CellReply.TheVariants.{Pushed, Popped}

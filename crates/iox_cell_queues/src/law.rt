@@ -1,6 +1,7 @@
 //! The laws of single accesses and of queues that stand apart, for those who call their empty
 //! functions.
 ghost use Rattle.iox_cell_queues.specs.CellLaws.{EveryPushingKeeps, EveryPoppingKeeps, own_words, own_value};
+ghost use Rattle.iox_cell_queues.specs.CellOwn.{OwnStays};
 ghost use Rattle.iox_cell_queues.specs.Apart.{StretchLeavesQueues};
 ghost use Rattle.iox_cell_queues.specs.SwappedStores.{OverwritesAWord, PopsAStrayWord};
 
@@ -17,6 +18,12 @@ pub fn every_access_keeps_the_queue()
 pub fn every_access_keeps_the_values<T: Words>()
     ensures push { EveryPushingKeeps T.words T.of_words }
     ensures pop { EveryPoppingKeeps T.words T.of_words }
+{}
+
+/// A push that goes on keeps its value until it has published it, whatever its access found. Once it
+/// ends it has none.
+pub fn values_are_kept_until_published<T>()
+    ensures { OwnStays T }
 {}
 
 /// Where a call changes words only in one stretch, as `push` and `pop` do, the words still hold

@@ -16,7 +16,10 @@ mod site;
 pub mod whole;
 
 pub use event::{CellEvent, CellReply};
-pub use law::{every_access_keeps_the_queue, every_access_keeps_the_values, queues_apart_stay};
+pub use law::{
+    every_access_keeps_the_queue, every_access_keeps_the_values, queues_apart_stay,
+    swapped_stores_break_the_queue, values_are_kept_until_published,
+};
 pub use machine::CellMachine;
 pub use pop::CellPop;
 pub use push::CellPush;

@@ -10,8 +10,8 @@ pub fn suits(
     service: &StaticConfig,
     verifier: &AttributeVerifier,
 ) -> Result<(), AttributeVerificationError>
-    ensures meets { IfOk result (λ _. Meets verifier.now service.now.specifier) }
-    ensures lacks { IfErr result (λ e. Lacks verifier.now service.now.specifier e) }
+    ensures meets { IfOk result (λ _. Meets verifier.now service.now.attributes) }
+    ensures lacks { IfErr result (λ e. Lacks verifier.now service.now.attributes e) }
 {
     let attributes: &AttributeSet = service.attributes();
     verifier.verify_requirements(attributes)
