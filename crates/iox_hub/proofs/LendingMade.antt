@@ -92,7 +92,7 @@ module _ (ports : List PortState) (m : ℕ) where
   abbrev lends_more : PortState → PortState
   lends_more p = record p { loans = p.loans + 1 }
 
-  lenders_were_there : PortsWereThere ports (with_port lends_more ports m)
+  pub lenders_were_there : PortsWereThere ports (with_port lends_more ports m)
   lenders_were_there n p at =
       let q = some_map show (port_in ports n) (show p)
       (sym (first_map (λ (r : PortState). r.number) (λ (r : PortState). r.number) show (λ r. refl) ports n)
@@ -111,7 +111,7 @@ module _ (ports : List PortState) (m : ℕ) where
 
 -- ---- slots
 
-put_counts : (pools : List (Option PoolState)) (pool k : ℕ) (slot : SlotState) (place : ℕ)
+pub put_counts : (pools : List (Option PoolState)) (pool k : ℕ) (slot : SlotState) (place : ℕ)
     → length (slots_of (put_slot pools pool k slot) place) ≡ length (slots_of pools place)
 put_counts pools pool k slot place =
     ap (λ o. length (option_map_or (λ (q : PoolState). q.slots) o [])) (pool_is pools pool k slot place) ∙ step (place == pool) (pool_at pools place)
@@ -163,7 +163,7 @@ module _ (words : List (Option Carried)) (t : HubTables) (fit : WordsFit words t
   pub loan_found : handle_in left.handles handle.node handle.number ≡ Some handle
   loan_found = added_is_found t order handle refl
 
-  no_others : (hs : List HandleState) → list_any (λ h. is_place y.port.pool slot h.pool h.slot) hs ≡ false → OfEachHandle (IsNoUnfilled y.port.pool slot) hs
+  pub no_others : (hs : List HandleState) → list_any (λ h. is_place y.port.pool slot h.pool h.slot) hs ≡ false → OfEachHandle (IsNoUnfilled y.port.pool slot) hs
   no_others [] none = tt
   no_others (h ∷ hs) none =
       let both = or_false (is_place y.port.pool slot h.pool h.slot) (list_any (λ h. is_place y.port.pool slot h.pool h.slot) hs) none in

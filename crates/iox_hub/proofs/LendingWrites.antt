@@ -56,7 +56,7 @@ no_port_is_loan Client Server = refl
 no_port_is_loan Server Client = refl
 no_port_is_loan Server Server = refl
 
-loan_is_one : (role : Role) (kind : Kind) → is_loan_of role kind ≡ true → is_loan kind ≡ true
+pub loan_is_one : (role : Role) (kind : Kind) → is_loan_of role kind ≡ true → is_loan kind ≡ true
 loan_is_one Client kind e = ap (λ b. b || is_response_loan kind) e
 loan_is_one Server kind e = step (is_request_loan kind) (is_response_loan kind) e
   where
@@ -101,7 +101,7 @@ filled_is_of Server = refl
 
 -- ---- handles
 
-each_changed : (P : HandleState → Type 0) (new : HandleState) (hs : List HandleState) → OfEachHandle P hs → P new → OfEachHandle P (changed_handles new hs)
+pub each_changed : (P : HandleState → Type 0) (new : HandleState) (hs : List HandleState) → OfEachHandle P hs → P new → OfEachHandle P (changed_handles new hs)
 each_changed P new [] all one = tt
 each_changed P new (k ∷ ks) all one = step ((k.node == new.node) && (k.number == new.number)) (each_changed P new ks all.1 one)
   where
@@ -126,7 +126,7 @@ found_has (k ∷ ks) node n h e = step ((k.node == node) && (k.number == n)) ref
         (ap (λ (x : HandleState). x.node) (sym same) ∙ eqb-true k.node node both.0, ap (λ (x : HandleState). x.number) (sym same) ∙ eqb-true k.number n both.1)
     step false is f rest = rest f
 
-changed_is_found : (hs : List HandleState) (node n : ℕ) (old new : HandleState) → new.node ≡ node → new.number ≡ n → handle_in hs node n ≡ Some old
+pub changed_is_found : (hs : List HandleState) (node n : ℕ) (old new : HandleState) → new.node ≡ node → new.number ≡ n → handle_in hs node n ≡ Some old
     → handle_in (changed_handles new hs) node n ≡ Some new
 changed_is_found [] node n old new on is e = absurd (none-some old e)
 changed_is_found (k ∷ ks) node n old new on is e =
@@ -143,7 +143,7 @@ changed_is_found (k ∷ ks) node n old new on is e =
     step false true same at f rest = absurd (true≢false (sym same))
     step false false same at f rest = ap (λ (c : Bool). if c then Some k else handle_in (changed_handles new ks) node n) at ∙ rest f
 
-low_if_used : (t : HubTables) (pool k : ℕ) → IsUsed t pool k → k < length (slots_of t.pools pool)
+pub low_if_used : (t : HubTables) (pool k : ℕ) → IsUsed t pool k → k < length (slots_of t.pools pool)
 low_if_used t pool k used = step (slots_of t.pools pool) k used
   where
     step : (ss : List SlotState) (i : ℕ) → 1 ≤ (option_map_or (λ (s : SlotState). s) (slice_get ss i) no_slot).holders → i < length ss

@@ -4,6 +4,7 @@ pub mod Received
 pub mod Starting
 pub mod Fitting
 pub mod Reading
+pub mod HeadersShown
 pub mod MakingSizes
 pub mod MakingAsked
 pub mod MakingWords
@@ -24,3 +25,16 @@ pub mod LendingNamed
 pub mod LendingCalls
 pub mod LendingPut
 pub mod LendingWriteCalls
+pub mod KeepingPorts
+pub mod KeepingHandles
+pub mod Keeping
+pub mod KeepingCalls
+pub mod KeepingLoans
+pub mod FillingAlone
+pub mod FillingKinds
+pub mod FillingPut
+pub mod FillingCalls
+pub mod FillingWays
+pub mod CopyingWords
+pub mod CopyingResponses
+pub mod CopyingRequests

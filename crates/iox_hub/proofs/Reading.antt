@@ -113,7 +113,7 @@ pub has_slot : (words : List (Option Carried)) (pool k : ℕ) (b : Bool) (c : Co
 has_slot words pool k b c is low = subst (λ o. k < option_map_or (λ (d : Carried). length d.contents.messages) o 0) is low
 
 -- a slot that somebody has is one of its pool
-low_if_used : (t : HubTables) (pool k : ℕ) → IsUsed t pool k → k < length (slots_of t.pools pool)
+pub low_if_used : (t : HubTables) (pool k : ℕ) → IsUsed t pool k → k < length (slots_of t.pools pool)
 low_if_used t pool k used = step (slots_of t.pools pool) k used
   where
     step : (ss : List SlotState) (i : ℕ) → 1 ≤ (option_map_or (λ (s : SlotState). s) (slice_get ss i) no_slot).holders → i < length ss

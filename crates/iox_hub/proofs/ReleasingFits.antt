@@ -186,7 +186,7 @@ given_up_alike kinds.RequestMut t h = refl
 given_up_alike kinds.ResponseMutUninit t h = refl
 given_up_alike kinds.ResponseMut t h = refl
 
-given_up_handles : (kind : Kind) (t : HubTables) (h : HandleState) → (given_up_as kind t h).handles ≡ t.handles
+pub given_up_handles : (kind : Kind) (t : HubTables) (h : HandleState) → (given_up_as kind t h).handles ≡ t.handles
 given_up_handles kinds.PendingResponse t h = refl
 given_up_handles kinds.ActiveRequest t h = refl
 given_up_handles kinds.Response t h = refl

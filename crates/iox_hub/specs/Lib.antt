@@ -4,6 +4,10 @@ pub mod Fits
 pub mod Hubs
 pub mod Starts
 pub mod Reads
+pub mod Headers
 pub mod Making
 pub mod Sending
 pub mod Lending
+pub mod Keeping
+pub mod Fillings
+pub mod Copying

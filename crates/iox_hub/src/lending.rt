@@ -7,6 +7,7 @@ ghost use Rattle.iox_tables.specs.HubStates.States.{Given};
 ghost use Rattle.iox_tables.specs.HubLoans.Loans.{loan_call};
 ghost use Rattle.iox_control_lending.specs.Lends.{reply_of_loan};
 ghost use Rattle.iox_hub.specs.Hubs.{HasValue, state_of_hub};
+ghost use Rattle.iox_hub.specs.Keeping.{IsNewLoan, KeepsAll};
 ghost use Rattle.iox_hub.specs.Lending.{HasLent, IsAskedFor, LeavesLent};
 
 use crate::contents::{lend_request_in, lend_response_in};
@@ -18,7 +19,7 @@ use iox_store::{Payload, is_length};
 use iox_words::Words;
 
 /// What is asked of a loan of such messages.
-fn asked_of<Q: Payload, H: Words>(
+pub(crate) fn asked_of<Q: Payload, H: Words>(
     shape: &MessageShape<Q::Element, H>,
     elements: usize,
     uninit: bool,
@@ -47,6 +48,8 @@ impl<Q: Payload, QH: Words, P: Payload, PH: Words> Hub<Q, QH, P, PH> {
         ensures whole { (x : Given) → IsWholeCall (state_of_hub x self.old) node
             (loan_call uninit client elements) (reply_of_loan result) (state_of_hub x self.new) }
         ensures has { HasLent self.new node roles.Client self.old.request uninit elements result }
+        ensures new { IsNewLoan self.old node result }
+        ensures keeps { KeepsAll self.old self.new }
     {
         let asked = asked_of::<Q, QH>(&self.request, elements, uninit);
         let lent = lend_request(&mut self.control, node, client, asked);
@@ -80,6 +83,8 @@ impl<Q: Payload, QH: Words, P: Payload, PH: Words> Hub<Q, QH, P, PH> {
         ensures whole { (x : Given) → IsWholeCall (state_of_hub x self.old) node
             (loan_call uninit number elements) (reply_of_loan result) (state_of_hub x self.new) }
         ensures has { HasLent self.new node roles.Server self.old.response uninit elements result }
+        ensures new { IsNewLoan self.old node result }
+        ensures keeps { KeepsAll self.old self.new }
     {
         let asked = asked_of::<P, PH>(&self.response, elements, uninit);
         let lent = lend_response(&mut self.control, node, number, hint, asked);

@@ -4,7 +4,13 @@
 
 mod asking;
 mod contents;
+mod copies;
+mod copying;
+mod filled;
+mod filling;
+mod headers;
 mod hub;
+mod invariant;
 mod layouts;
 mod lending;
 mod making;
@@ -19,6 +25,10 @@ mod settings;
 mod shape;
 mod sizes;
 pub mod uses;
+pub mod uses_copying;
+pub mod uses_filling;
+pub mod uses_headers;
+pub mod uses_keeping;
 pub mod uses_lending;
 pub mod uses_making;
 pub mod uses_sending;
@@ -26,6 +36,7 @@ mod values;
 mod words;
 mod writing;
 
+pub use headers::MessageHeader;
 pub use hub::Hub;
 pub use options::Options;
 pub use shape::{MessageShape, Part};

@@ -6,8 +6,10 @@ ghost use Rattle.iox_tables.specs.HubLoans.Questions.{kind_of_role};
 ghost use Rattle.iox_slots.specs.Pools.{place_for_one};
 ghost use Rattle.iox_control_making.specs.Making.{IsAsked};
 ghost use Rattle.iox_hub.specs.Hubs.{HasValue, given_by};
+ghost use Rattle.iox_hub.specs.Keeping.{KeepsAll};
 ghost use Rattle.iox_hub.specs.Making.{AreWordsPut, IsAllowed, IsFormOf, IsWholeMaking, LeavesMessages, StaysAs};
 ghost use Rattle.iox_hub.specs.Making.{options_of, shape_in, words_made};
+ghost use Rattle.iox_hub.specs.Sending.{HasNothing};
 ghost use Rattle.iox_hub.specs.Words.{all_carried, carried};
 
 use crate::hub::Hub;
@@ -134,8 +136,10 @@ impl<Q: Payload, QH: Words, P: Payload, PH: Words> Hub<Q, QH, P, PH> {
         ensures allowed { OnOk result (IsAllowed self.old role options) }
         ensures whole { IsWholeMaking self.old node role id options result self.new }
         ensures unchanged { OnErr result (StaysAs self.old self.new) }
+        ensures new { IfOk result (λ n. HasNothing self.old node n) }
         ensures keeps { (other : ℕ) (n : ℕ) (kind : Kind) → HasValue self.old other n kind
             → HasValue self.new other n kind }
+        ensures stays { KeepsAll self.old self.new }
         ensures messages { LeavesMessages self.old self.new }
     {
         let asked = self.asked(role, options);

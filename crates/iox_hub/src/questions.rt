@@ -6,6 +6,7 @@ ghost use Rattle.iox_model.specs.declared.reply.Reply.TheVariants.{Answer, Done}
 ghost use Rattle.iox_model.specs.WholeCalls.{IsWholeCall};
 ghost use Rattle.iox_tables.specs.HubStates.States.{Given};
 ghost use Rattle.iox_hub.specs.Hubs.{HasValue, state_of_hub, with_control};
+ghost use Rattle.iox_hub.specs.Keeping.{KeepsAll};
 
 use crate::hub::Hub;
 use iox_store::Payload;
@@ -38,6 +39,7 @@ impl<Q: Payload, QH: Words, P: Payload, PH: Words> Hub<Q, QH, P, PH> {
         ensures left { self.new ≡ with_control self.old self.new.control }
         ensures whole { (x : Given) → IsWholeCall (state_of_hub x self.old) node
             (SetHint number) Done (state_of_hub x self.new) }
+        ensures keeps { KeepsAll self.old self.new }
     {
         self.control.set_hint(node, number, hint);
     }

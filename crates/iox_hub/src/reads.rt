@@ -19,7 +19,7 @@ use iox_store::{Payload, Store};
 use iox_words::Words;
 
 /// What the requests carry whose pool is in this place.
-fn requests_in<QE: Words, QH: Words, PE: Words, PH: Words>(
+pub(crate) fn requests_in<QE: Words, QH: Words, PE: Words, PH: Words>(
     words: &[Option<PoolWords<QE, QH, PE, PH>>],
     pool: usize,
 ) -> &Store<QE, QH>
@@ -33,7 +33,7 @@ fn requests_in<QE: Words, QH: Words, PE: Words, PH: Words>(
 }
 
 /// What the responses carry whose pool is in this place.
-fn responses_in<QE: Words, QH: Words, PE: Words, PH: Words>(
+pub(crate) fn responses_in<QE: Words, QH: Words, PE: Words, PH: Words>(
     words: &[Option<PoolWords<QE, QH, PE, PH>>],
     pool: usize,
 ) -> &Store<PE, PH>
@@ -49,7 +49,7 @@ fn responses_in<QE: Words, QH: Words, PE: Words, PH: Words>(
 
 impl<Q: Payload, QH: Words, P: Payload, PH: Words> Hub<Q, QH, P, PH> {
     /// The node's handle of that number, which it has. It is looked for at the hint first.
-    fn handle(&self, node: u64, number: u64, hint: usize) -> Entry
+    pub(crate) fn handle(&self, node: u64, number: u64, hint: usize) -> Entry
         requires has { (h : HandleState) × (handle_in self.now.control.tables.handles node number ≡ Some h) }
         ensures { handle_in self.now.control.tables.handles node number ≡ Some (handle_state result) }
     {

@@ -6,6 +6,7 @@ ghost use Rattle.iox_model.specs.WholeCalls.{IsWholeCall};
 ghost use Rattle.iox_tables.specs.HubStates.States.{Given};
 ghost use Rattle.iox_control.specs.Replies.{reply_of_receive};
 ghost use Rattle.iox_hub.specs.Hubs.{HasReceived, HasValue, state_of_hub, with_control};
+ghost use Rattle.iox_hub.specs.Keeping.{IsNew, KeepsAll};
 
 use crate::hub::Hub;
 use iox_control::Received;
@@ -21,6 +22,8 @@ impl<Q: Payload, QH: Words, P: Payload, PH: Words> Hub<Q, QH, P, PH> {
         ensures whole { (x : Given) → IsWholeCall (state_of_hub x self.old) node
             (Receive server) (reply_of_receive result) (state_of_hub x self.new) }
         ensures has { HasReceived self.new node ActiveRequest result }
+        ensures new { IsNew self.old node result }
+        ensures keeps { KeepsAll self.old self.new }
     {
         self.control.receive_request(node, server)
     }
@@ -33,6 +36,8 @@ impl<Q: Payload, QH: Words, P: Payload, PH: Words> Hub<Q, QH, P, PH> {
         ensures whole { (x : Given) → IsWholeCall (state_of_hub x self.old) node
             (Receive number) (reply_of_receive result) (state_of_hub x self.new) }
         ensures has { HasReceived self.new node Response result }
+        ensures new { IsNew self.old node result }
+        ensures keeps { KeepsAll self.old self.new }
     {
         self.control.receive_response(node, number, hint)
     }

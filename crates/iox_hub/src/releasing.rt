@@ -8,6 +8,7 @@ ghost use Rattle.iox_tables.specs.HubStates.States.{Given};
 ghost use Rattle.iox_tables.specs.HubStates.Tables.{HandleState, PortState, port_in};
 ghost use Rattle.iox_tables.specs.HubStates.Wirings.{handle_in};
 ghost use Rattle.iox_hub.specs.Hubs.{state_of_hub, with_control};
+ghost use Rattle.iox_hub.specs.Keeping.{KeepsOthers};
 ghost use Rattle.iox_hub.specs.Reads.{HasOf};
 ghost use Rattle.iox_hub.specs.Sending.{HasNothing, is_handle, with_words_left};
 
@@ -51,6 +52,7 @@ impl<Q: Payload, QH: Words, P: Payload, PH: Words> Hub<Q, QH, P, PH> {
         ensures whole { (x : Given) → IsWholeCall (state_of_hub x self.old) node
             (Release number) Done (state_of_hub x self.new) }
         ensures gone { HasNothing self.new node number }
+        ensures keeps { KeepsOthers self.old node number self.new }
     {
         let Some(entry) = self.control.entry(node, number, hint) else {
             unreachable!();
@@ -71,6 +73,7 @@ impl<Q: Payload, QH: Words, P: Payload, PH: Words> Hub<Q, QH, P, PH> {
         ensures whole { (x : Given) → IsWholeCall (state_of_hub x self.old) node
             (Release port) Done (state_of_hub x self.new) }
         ensures gone { HasNothing self.new node port }
+        ensures keeps { KeepsOthers self.old node port self.new }
     {
         let Some(info) = self.control.ports().find(port) else {
             unreachable!();

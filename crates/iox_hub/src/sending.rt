@@ -11,6 +11,7 @@ ghost use Rattle.iox_tables.specs.HubStates.Wirings.{handle_in};
 ghost use Rattle.iox_control_requests.specs.Sendings as requests;
 ghost use Rattle.iox_control_responses.specs.Responses as responses;
 ghost use Rattle.iox_hub.specs.Hubs.{HasValue, state_of_hub, with_control};
+ghost use Rattle.iox_hub.specs.Keeping.{KeepsOthers};
 ghost use Rattle.iox_hub.specs.Sending.{HasNothing, HasSent, with_words_left};
 
 use crate::hub::Hub;
@@ -34,6 +35,7 @@ impl<Q: Payload, QH: Words, P: Payload, PH: Words> Hub<Q, QH, P, PH> {
         ensures whole { (x : Given) → IsWholeCall (state_of_hub x self.old) node
             (Send number) (responses.reply_of_send result) (state_of_hub x self.new) }
         ensures gone { HasNothing self.new node number }
+        ensures keeps { KeepsOthers self.old node number self.new }
     {
         let Some(entry) = self.control.entry(node, number, hint) else {
             unreachable!();
@@ -65,6 +67,7 @@ impl<Q: Payload, QH: Words, P: Payload, PH: Words> Hub<Q, QH, P, PH> {
         ensures whole { (x : Given) → IsWholeCall (state_of_hub x self.old) node
             (Send number) (requests.reply_of_send result) (state_of_hub x self.new) }
         ensures has { HasSent self.new node number result }
+        ensures keeps { KeepsOthers self.old node number self.new }
     {
         let Some(entry) = self.control.entry(node, number, hint) else {
             unreachable!();

@@ -8,6 +8,7 @@ ghost use Rattle.iox_model.specs.WholeCalls.{IsWholeCall};
 ghost use Rattle.iox_tables.specs.HubStates.States.{Given};
 ghost use Rattle.iox_control_lending.specs.Fills.{reply_of_write};
 ghost use Rattle.iox_hub.specs.Hubs.{state_of_hub};
+ghost use Rattle.iox_hub.specs.Keeping.{KeepsOthers};
 ghost use Rattle.iox_hub.specs.Lending.{HasWritten, LeavesWritten, payload_of};
 ghost use Rattle.iox_hub.specs.Reads.{HasOf};
 
@@ -35,6 +36,7 @@ impl<Q: Payload, QH: Words, P: Payload, PH: Words> Hub<Q, QH, P, PH> {
             (reply_of_write result) (state_of_hub x self.new) }
         ensures has { HasWritten self.old node number RequestMut (length values.now)
             (flat_map Q.Element.words values.now) result self.new }
+        ensures keeps { KeepsOthers self.old node number self.new }
     {
         let written = write(
             &mut self.control,
@@ -66,6 +68,7 @@ impl<Q: Payload, QH: Words, P: Payload, PH: Words> Hub<Q, QH, P, PH> {
             (reply_of_write result) (state_of_hub x self.new) }
         ensures has { HasWritten self.old node number ResponseMut (length values.now)
             (flat_map P.Element.words values.now) result self.new }
+        ensures keeps { KeepsOthers self.old node number self.new }
     {
         let written = write(
             &mut self.control,

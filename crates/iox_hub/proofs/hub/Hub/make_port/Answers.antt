@@ -3,6 +3,11 @@ use Rattle.std.proofs.Common.{ap, ◌∙◌}
 use Rattle.iox_slots.specs.Pools.{place_for_one}
 use Rattle.iox_control_making.proofs.Told.{below_is}
 use Rattle.iox_hub.specs.Words.{all_carried, carried}
+use Rattle.iox_tables.specs.HubStates.Tables.{HubTables}
+use Rattle.iox_tables.specs.HubStates.Wirings.{handle_in}
+use Rattle.iox_hub.specs.Hubs.{HubState}
+use Rattle.iox_hub.proofs.KeepingHandles.{next_is_nothing}
+use Rattle.iox_hub.proofs.KeepingLoans.{made_keeps}
 use Rattle.iox_hub.proofs.MakingWhole.{allowed, has_with, hub_not_made, hub_with, keeps_with, leaves_messages, whole_no_memory, whole_not_made, whole_with}
 use Rattle.iox_hub.proofs.hub.Hub.make_port.Goals as goal
 
@@ -52,13 +57,24 @@ returns-clause-has g c =
     (all_carried c.put.new.words.items) c.put.ensures c.make_port.new.control c.in-Ok-make_port.ensures.made
     c.in-Ok-make_port.number c.in-Ok-make_port.ensures.number
 
-pub returns-clause-keeps : goal.returns-clause-keeps
-returns-clause-keeps g c =
-    keeps_with _ c.args.self.now c.self.view_is c.self.invariant c.args.node c.args.role c.args.id c.asked-asked.result c.args.options c.asked-asked.ensures
+pub returns-clause-stays : goal.returns-clause-stays
+returns-clause-stays g c =
+    made_keeps c.args.self.now _
+    (keeps_with _ c.args.self.now c.self.view_is c.self.invariant c.args.node c.args.role c.args.id c.asked-asked.result c.args.options c.asked-asked.ensures
     (all_carried c.make_room.new.words.items) (ap all_carried c.make_room.ensures.unchanged)
     c.in-Some.place (c.in-Some.ensures ∙ ap place_for_one c.pools.ensures) (carried c.in-Ok.words) c.in-Ok.ensures
     (all_carried c.put.new.words.items) c.put.ensures c.make_port.new.control c.in-Ok-make_port.ensures.made
-    c.make_port.ensures.order
+    c.make_port.ensures.order)
+    (λ a m. ap (λ (u : HubTables). handle_in u.handles a m) c.in-Ok-make_port.ensures.made ∙ ap (λ (h : HubState). handle_in h.control.tables.handles a m) c.self.view_is)
+    (leaves_messages _ c.args.self.now c.self.view_is c.self.invariant c.args.node c.args.role c.args.id c.asked-asked.result c.args.options c.asked-asked.ensures
+    (all_carried c.make_room.new.words.items) (ap all_carried c.make_room.ensures.unchanged)
+    c.in-Some.place (c.in-Some.ensures ∙ ap place_for_one c.pools.ensures) (carried c.in-Ok.words) c.in-Ok.ensures
+    (all_carried c.put.new.words.items) c.put.ensures c.make_port.new.control c.in-Ok-make_port.ensures.made).messages
+
+pub returns-clause-new : goal.returns-clause-new
+returns-clause-new g c =
+    rw (← c.self.view_is)
+    (next_is_nothing c.self.inside.control.tables c.self.invariant.control.order c.args.node c.in-Ok-make_port.number c.in-Ok-make_port.ensures.number)
 
 pub returns-clause-allowed : goal.returns-clause-allowed
 returns-clause-allowed g c =
@@ -71,3 +87,11 @@ returns-clause-messages g c =
     (all_carried c.make_room.new.words.items) (ap all_carried c.make_room.ensures.unchanged)
     c.in-Some.place (c.in-Some.ensures ∙ ap place_for_one c.pools.ensures) (carried c.in-Ok.words) c.in-Ok.ensures
     (all_carried c.put.new.words.items) c.put.ensures c.make_port.new.control c.in-Ok-make_port.ensures.made
+
+pub returns-clause-keeps : goal.returns-clause-keeps
+returns-clause-keeps g c =
+    keeps_with _ c.args.self.now c.self.view_is c.self.invariant c.args.node c.args.role c.args.id c.asked-asked.result c.args.options c.asked-asked.ensures
+    (all_carried c.make_room.new.words.items) (ap all_carried c.make_room.ensures.unchanged)
+    c.in-Some.place (c.in-Some.ensures ∙ ap place_for_one c.pools.ensures) (carried c.in-Ok.words) c.in-Ok.ensures
+    (all_carried c.put.new.words.items) c.put.ensures c.make_port.new.control c.in-Ok-make_port.ensures.made
+    c.make_port.ensures.order

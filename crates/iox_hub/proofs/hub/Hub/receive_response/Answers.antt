@@ -4,6 +4,10 @@ use Rattle.iox_hub.proofs.Fitting.{fits_response}
 use Rattle.iox_hub.proofs.GoesOn.{hub_goes_on, whole_of_hub}
 use Rattle.iox_hub.proofs.Named.{pending_of_hub}
 use Rattle.iox_hub.proofs.Received.{response_is_value}
+use Rattle.iox_lanes.specs.declared.wanted.Wanted.TheVariants.{Of}
+use Rattle.iox_tables.specs.HubStates.Receives.{visits_at}
+use Rattle.iox_tables.specs.HubStates.Tables.{labels_of}
+use Rattle.iox_hub.proofs.KeepingCalls.{got_is_new, response_keeps}
 use Rattle.iox_hub.proofs.hub.Hub.receive_response.Goals as goal
 
 pub invariant_of-self : goal.invariant_of-self
@@ -31,3 +35,17 @@ returns-clause-has g c =
     c.self.invariant.control c.receive_response.ensures.order c.args.number
     (pending_of_hub c.self.invariant c.args.self.now c.self.view_is c.args.node c.args.number c.requires.has)
     c.receive_response.ensures.left c.receive_response.ensures.reply
+
+pub returns-clause-keeps : goal.returns-clause-keeps
+returns-clause-keeps g c =
+    rw (← c.self.view_is)
+    (response_keeps c.self.invariant c.receive_response.new.self c.receive_response.ensures.order c.args.node c.args.number
+    (pending_of_hub c.self.invariant c.args.self.now c.self.view_is c.args.node c.args.number c.requires.has) c.receive_response.ensures.left)
+
+pub returns-clause-new : goal.returns-clause-new
+returns-clause-new g c =
+    rw (← c.self.view_is)
+    (let pending = pending_of_hub c.self.invariant c.args.self.now c.self.view_is c.args.node c.args.number c.requires.has in
+    let l = labels_of c.self.inside.control.tables.pools pending.handle.pool pending.handle.slot in
+    got_is_new c.self.invariant c.args.node (visits_at c.self.inside.control.tables pending.handle.port l.lane (Of l.request))
+    c.receive_response.result (c.receive_response.ensures.reply pending.handle pending.named.there))

@@ -1,4 +1,4 @@
-use Rattle.std.proofs.Common.{ap, sym, ◌∙◌}
+use Rattle.std.proofs.Common.{ap, subst, sym, ◌∙◌}
 use Rattle.iox_model.specs.declared.call.Call.TheVariants.{Release}
 use Rattle.iox_model.specs.declared.reply.Reply.TheVariants.{Done}
 use Rattle.iox_control.specs.Entries.{handle_state}
@@ -7,6 +7,9 @@ use Rattle.iox_hub.proofs.GoesOn.{hub_goes_on, whole_of_hub}
 use Rattle.iox_hub.proofs.Named.{found_is_handle}
 use Rattle.iox_hub.proofs.ReleasingFits.{fits_released}
 use Rattle.iox_hub.proofs.SendingHubs.{port_is_there, released_is_gone, whole_then}
+use Rattle.iox_tables.specs.HubBooks.Hubs.{AreInOrder}
+use Rattle.iox_hub.specs.Keeping.{IsOther}
+use Rattle.iox_hub.proofs.KeepingCalls.{left_keeps, released_keeps}
 use Rattle.iox_hub.proofs.hub.Hub.release.Goals as goal
 
 pub unreachable-requires-in_default-find : goal.unreachable-requires-in_default-find
@@ -35,3 +38,14 @@ returns-clause-gone g c =
     c.drop_words-2.new.self
     (ap (λ (d : HubState). d.control.tables) c.drop_words-2.ensures.left ∙ ap (λ (d : HubState). d.control.tables) c.drop_words.ensures.left)
     (c.release.ensures.left (handle_state c.in-Some.entry) (sym c.in-Some.ensures))
+
+pub returns-clause-keeps : goal.returns-clause-keeps
+returns-clause-keeps g c =
+    rw (← c.self.view_is)
+    (left_keeps (IsOther c.args.node c.args.number) _ _ c.drop_words-2.new.self
+    (subst (λ (d : HubState). AreInOrder d.control.tables) (sym c.drop_words.ensures.left) c.release.ensures.order.order)
+    c.in-Some-find.port.pool c.drop_words-2.ensures.left
+    (left_keeps (IsOther c.args.node c.args.number) _ _ c.drop_words.new.self c.release.ensures.order.order c.in-Some.entry.pool c.drop_words.ensures.left
+    (released_keeps c.self.invariant c.release.new.control c.release.ensures.order c.args.node c.args.number
+    (handle_state c.in-Some.entry) (sym c.in-Some.ensures)
+    (c.release.ensures.left (handle_state c.in-Some.entry) (sym c.in-Some.ensures)))))

@@ -5,6 +5,8 @@ use Rattle.iox_hub.specs.Hubs.{HubState}
 use Rattle.iox_hub.proofs.GoesOn.{hub_goes_on, whole_of_hub}
 use Rattle.iox_hub.proofs.ReleasingFits.{fits_port_released}
 use Rattle.iox_hub.proofs.SendingHubs.{held_is_there, held_port_of_hub, port_is_gone, whole_then}
+use Rattle.iox_hub.specs.Keeping.{IsOther}
+use Rattle.iox_hub.proofs.KeepingCalls.{left_keeps, port_released_keeps}
 use Rattle.iox_hub.proofs.hub.Hub.release_port.Goals as goal
 
 pub unreachable-requires : goal.unreachable-requires
@@ -29,3 +31,10 @@ returns-clause-gone g c =
     port_is_gone c.self.inside.control.tables c.release_port.new.control.tables c.args.node c.args.port c.self.invariant.control.order
     (held_port_of_hub c.self.invariant c.args.self.now c.self.view_is c.args.node c.args.port c.requires.has)
     c.drop_words.new.self (ap (λ (d : HubState). d.control.tables) c.drop_words.ensures.left) c.release_port.ensures.left
+
+pub returns-clause-keeps : goal.returns-clause-keeps
+returns-clause-keeps g c =
+    rw (← c.self.view_is)
+    (left_keeps (IsOther c.args.node c.args.port) _ _ c.drop_words.new.self c.release_port.ensures.order.order c.in-Some.info.pool c.drop_words.ensures.left
+    (port_released_keeps c.self.invariant c.release_port.new.control c.release_port.ensures.order c.args.node c.args.port
+    (held_port_of_hub c.self.invariant c.args.self.now c.self.view_is c.args.node c.args.port c.requires.has) c.release_port.ensures.left))

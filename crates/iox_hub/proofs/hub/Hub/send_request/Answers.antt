@@ -9,6 +9,8 @@ use Rattle.iox_hub.specs.Hubs.{HubState}
 use Rattle.iox_hub.proofs.Named.{found_is_handle}
 use Rattle.iox_hub.proofs.SendingFits.{fits_request_sent}
 use Rattle.iox_hub.proofs.SendingHubs.{fails_as_told, given_of, hub_goes_on_as, loan_is_request, port_is_there, request_of_hub, sent_is_pending, strategy_told, whole_then}
+use Rattle.iox_hub.specs.Keeping.{IsOther}
+use Rattle.iox_hub.proofs.KeepingCalls.{left_keeps, request_sent_keeps}
 use Rattle.iox_hub.proofs.hub.Hub.send_request.Goals as goal
 
 pub unreachable-requires-in_default-find : goal.unreachable-requires-in_default-find
@@ -56,3 +58,11 @@ returns-clause-has g c =
     (request_of_hub c.self.invariant c.args.self.now c.self.view_is c.args.node c.args.number c.requires.has) c.in-Some.ensures)
     c.send_request-requested.ensures.order.order c.drop_words.new.self (ap (λ (d : HubState). d.control.tables) c.drop_words.ensures.left)
     c.send_request-requested.result (c.send_request-requested.ensures.left (handle_state c.in-Some.entry) (sym c.in-Some.ensures))
+
+pub returns-clause-keeps : goal.returns-clause-keeps
+returns-clause-keeps g c =
+    rw (← c.self.view_is)
+    (left_keeps (IsOther c.args.node c.args.number) _ _ c.drop_words.new.self c.send_request-requested.ensures.order.order c.in-Some.entry.pool c.drop_words.ensures.left
+    (request_sent_keeps c.self.invariant c.send_request-requested.new.control c.send_request-requested.ensures.order c.args.node c.args.number
+    (handle_state c.in-Some.entry) (sym c.in-Some.ensures) c.send_request-requested.result
+    (c.send_request-requested.ensures.left (handle_state c.in-Some.entry) (sym c.in-Some.ensures))))

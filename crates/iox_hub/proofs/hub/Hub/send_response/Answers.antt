@@ -9,6 +9,8 @@ use Rattle.iox_hub.specs.Hubs.{HubState}
 use Rattle.iox_hub.proofs.Named.{found_is_handle}
 use Rattle.iox_hub.proofs.SendingFits.{fits_response_sent}
 use Rattle.iox_hub.proofs.SendingHubs.{fails_by_its_strategy, given_of, hub_goes_on_as, response_is_gone, whole_then}
+use Rattle.iox_hub.specs.Keeping.{IsOther}
+use Rattle.iox_hub.proofs.KeepingCalls.{left_keeps, response_sent_keeps}
 use Rattle.iox_hub.proofs.hub.Hub.send_response.Goals as goal
 
 pub invariant_of-self : goal.invariant_of-self
@@ -45,3 +47,11 @@ returns-clause-gone g c =
     (found_is_handle c.self.inside.control.tables c.self.invariant.control.order c.args.node c.args.number (handle_state c.in-Some.entry) (sym c.in-Some.ensures))
     c.drop_words.new.self (ap (λ (d : HubState). d.control.tables) c.drop_words.ensures.left) c.fails_when_full-fails.result
     (c.send_response-responded.ensures.left (handle_state c.in-Some.entry) (sym c.in-Some.ensures))
+
+pub returns-clause-keeps : goal.returns-clause-keeps
+returns-clause-keeps g c =
+    rw (← c.self.view_is)
+    (left_keeps (IsOther c.args.node c.args.number) _ _ c.drop_words.new.self c.send_response-responded.ensures.order.order c.in-Some.entry.pool c.drop_words.ensures.left
+    (response_sent_keeps c.self.invariant c.send_response-responded.new.control c.send_response-responded.ensures.order c.args.node c.args.number
+    (handle_state c.in-Some.entry) c.fails_when_full-fails.result
+    (c.send_response-responded.ensures.left (handle_state c.in-Some.entry) (sym c.in-Some.ensures))))

@@ -2,6 +2,7 @@ use Rattle.std.specs.Prelude.{flat_map, length}
 use Rattle.iox_model.specs.declared.kind.Role.TheVariants as roles
 use Rattle.iox_hub.proofs.LendingWriteCalls.{call_equal, call_hub, call_left, call_of, call_whole, call_within, call_written, other_has, other_hub, other_left, other_whole}
 use Rattle.iox_hub.proofs.LendingWrites.{is_loan_there, loan_named}
+use Rattle.iox_hub.proofs.KeepingLoans.{other_write_keeps, write_keeps}
 use Rattle.iox_hub.proofs.hub.Hub.write_response.Goals as goal
 
 pub write-written-requires-clause-loan : goal.write-written-requires-clause-loan
@@ -112,4 +113,21 @@ returns-in_default g c = rw (← c.self.view_is) (record {
         order = c.write-written.ensures.order;
         whole = c.write-written.ensures.whole;
       });
+  keeps = other_write_keeps c.self.invariant roles.Server c.args.node c.args.number (length c.args.values.now) c.write-written.new.control c.write-written.result c.in_default.not-Done
+      (record {
+        loan = loan_named roles.Server c.self.invariant c.args.self.now c.self.view_is c.args.node c.args.number c.requires.has;
+        left = c.write-written.ensures.left;
+        order = c.write-written.ensures.order;
+        whole = c.write-written.ensures.whole;
+      });
 })
+
+pub returns-in-Done-clause-keeps : goal.returns-in-Done-clause-keeps
+returns-in-Done-clause-keeps g c =
+    rw (← c.self.view_is) (write_keeps c.self.invariant roles.Server c.args.node c.args.number (length c.args.values.now) c.write-written.new.control c.in-Done.place
+    (record {
+      loan = loan_named roles.Server c.self.invariant c.args.self.now c.self.view_is c.args.node c.args.number c.requires.has;
+      left = c.in-Done.ensures.left;
+      order = c.in-Done.ensures.order;
+      whole = c.in-Done.ensures.whole;
+    }) _ _ c.write_response_in.ensures)

@@ -1,0 +1,262 @@
+-- The copy of a response, by what it came to: it is one whole call, and leads to a hub.
+use Rattle.std.specs.Prelude.{◌≡◌, ℕ, ◌-◌, ◌<◌, ◌≤◌, Bool, true, false, List, Option, Some, None, refl}
+use Rattle.std.proofs.Common.{sym, ap, subst, ◌∙◌}
+use Rattle.std.proofs.lemmas.Option.{none-some, same_Some}
+use Rattle.iox_model.specs.declared.call.Call.TheVariants.{SendCopy}
+use Rattle.iox_model.specs.declared.kind.Role.TheVariants.{Server}
+use Rattle.iox_model.specs.Commands.{Payload}
+use Rattle.iox_model.specs.declared.way.Way.{Way}
+use Rattle.iox_model.specs.Requests.{fails_at}
+use Rattle.iox_model.specs.Settings.{fails_by_strategy, is_client, shape_of}
+use Rattle.iox_model.specs.WholeCalls.{IsWholeCall}
+use Rattle.iox_store.specs.Stored.{Stored}
+use Rattle.iox_tables.specs.HubBooks.Hubs.{AreInOrder}
+use Rattle.iox_tables.specs.HubLoans.Lenders.{IsActive, Lender, lender_of_response, shape_in}
+use Rattle.iox_tables.specs.HubLoans.Loans.{with_loaned}
+use Rattle.iox_tables.specs.HubLoans.Slots.{with_contents}
+use Rattle.iox_tables.specs.HubStates.Ends.{OfEachHandle}
+use Rattle.iox_tables.specs.HubStates.States.{Given, fixed_of, limits_of, state_shown}
+use Rattle.iox_tables.specs.HubStates.Tables.{HandleState, HubTables, PortState, port_in}
+use Rattle.iox_tables.specs.HubStates.Wirings.{handle_in}
+use Rattle.iox_control.specs.Controls.{ControlState, IsControl}
+use Rattle.iox_control_copies.specs.declared.answered.Answered.{Answered}
+use Rattle.iox_control_copies.specs.declared.answered.Answered.TheVariants.{Done, Refused, OutOfMemory, Undelivered}
+use Rattle.iox_control_copies.specs.Answers.{Answers, IsInLine, IsLost, given_after_copy, reply_of_copy, with_copy_sent}
+use Rattle.iox_control_lending.specs.declared.asked.Asked.{Asked}
+use Rattle.iox_control_lending.specs.declared.asked.Loaned.{Loaned}
+use Rattle.iox_control_lending.specs.declared.asked.Place.{Place}
+use Rattle.iox_control_lending.specs.Lends.{IsAskedOf, IsLoaned, lane_by, on_lane}
+use Rattle.iox_control_responses.specs.Responses.{IsFailure, way_to_client}
+use Rattle.iox_hub.specs.Copying.{LeavesAnswered, asked_of_copy, copied_stored, hub_with_copies, place_of}
+use Rattle.iox_hub.specs.Fits.{WordsFit, are_requests_in, count_in, longest_in}
+use Rattle.iox_hub.specs.Hubs.{HubState, IsHub, given_by, state_of_hub, with_control}
+use Rattle.iox_hub.specs.Lending.{payload_of, with_message}
+use Rattle.iox_hub.specs.Words.{Carried, stored_in}
+use Rattle.iox_hub.proofs.CopyingWords.{line_fits, lost_fits, none_there}
+use Rattle.iox_hub.proofs.LendingCalls.{refused_left}
+use Rattle.iox_hub.proofs.LendingGiven.{IsNoUnfilled, filled_unread, given_put, hub_is_left}
+use Rattle.iox_hub.proofs.LendingMade.{back_fits, back_order, lent_fits_room, lent_requests, lent_within}
+use Rattle.iox_hub.proofs.SendingHubs.{fails_by_its_strategy}
+
+-- A copy of so many elements was asked of a hub for that active request, and came to this result.
+pub record IsAnswerCall (h : HubState) (k : ℕ) (ws : List ℕ) (node n : ℕ) (new : ControlState) (result : Answered) : Type 0 where
+  pub active : IsActive h.control.tables node n
+  pub reply :
+      (j : HandleState) → handle_in h.control.tables.handles node n ≡ Some j → (p : PortState) → port_in h.control.tables.ports j.port ≡ Some p
+      → Answers h.control (lender_of_response h.control.tables j p) (asked_of_copy h.response k) (fails_by_strategy p.strategy) result new
+  pub order : IsControl new
+  pub whole :
+      (x : Given) → IsWholeCall (state_of_hub x h) node (SendCopy n (payload_of Server k ws)) (reply_of_copy result)
+      (state_shown (given_after_copy (given_by x h) (payload_of Server k ws) result) new.tables)
+
+module _ {h : HubState} (hub : IsHub h) (j : HandleState) (node n : ℕ) (found : Some j ≡ handle_in h.control.tables.handles node n) (fails : Bool)
+    (told : (x : Given) → x.handler j.port ≡ None → (w : Way) → w.sender ≡ j.port → fails_at (fixed_of x h.control.tables) w ≡ fails) where
+  pub answer_call : (a : Asked) (k : ℕ) (ws : List ℕ) (new : ControlState) (result : Answered) → a ≡ asked_of_copy h.response k → IsActive h.control.tables node n
+      → ((j : HandleState) (p : PortState) → handle_in h.control.tables.handles node n ≡ Some j → port_in h.control.tables.ports j.port ≡ Some p
+      → Answers h.control (lender_of_response h.control.tables j p) a fails result new) → IsControl new
+      → ((j : HandleState) → handle_in h.control.tables.handles node n ≡ Some j → (x : Given) (q : Payload) → IsAskedOf x.response a → IsFailure x h.control.tables j fails
+      → q.role ≡ Server → q.elements ≡ Some a.elements
+      → IsWholeCall (state_shown x h.control.tables) node (SendCopy n q) (reply_of_copy result) (state_shown (given_after_copy x q result) new.tables))
+      → IsAnswerCall h k ws node n new result
+  answer_call a k ws new result same is left order whole = record {
+    active = is;
+    reply = λ i at p there.
+        subst (λ f. Answers h.control (lender_of_response h.control.tables i p) (asked_of_copy h.response k) f result new)
+        (sym (told (given_by hub.reached.0 h) refl (way_to_client h.control.tables i) (ap (λ (m : HandleState). m.port) (sym (same_Some j i (found ∙ at)))))
+        ∙ fails_by_its_strategy hub hub.reached.0 p (way_to_client h.control.tables i) there)
+        (subst (λ b. Answers h.control (lender_of_response h.control.tables i p) b fails result new) same (left i p at there));
+    order = order;
+    whole = λ x.
+        whole j (sym found) (given_by x h) (payload_of Server k ws)
+        (subst (IsAskedOf h.response) (sym same) (record { count = refl; layout = refl }))
+        (told (given_by x h) refl (way_to_client h.control.tables j) refl) refl (ap (λ (b : Asked). Some b.elements) (sym same));
+  }
+
+-- what it comes to at the active request's own port
+pub left_of : {h : HubState} {k : ℕ} {ws : List ℕ} {node n : ℕ} {new : ControlState} {result : Answered} (c : IsAnswerCall h k ws node n new result)
+    → Answers h.control (lender_of_response h.control.tables c.active.handle c.active.port) (asked_of_copy h.response k) (fails_by_strategy c.active.port.strategy) result new
+left_of c = c.reply c.active.handle c.active.named.there c.active.port c.active.there
+
+module _ {h : HubState} (hub : IsHub h) (k : ℕ) (ws : List ℕ) (node n : ℕ) (new : ControlState) where
+  abbrev a : Asked
+  a = asked_of_copy h.response k
+
+  -- ---- it waits for its client
+
+  module _ (place : Place) (c : IsAnswerCall h k ws node n new (Done (Some place))) where
+    abbrev y : Lender
+    y = lender_of_response h.control.tables c.active.handle c.active.port
+
+    abbrev line : IsInLine h.control y a place new
+    line = (left_of c).1
+
+    abbrev mid : ControlState
+    mid = line.between
+
+    -- a loan of it would be made
+    abbrev l : Loaned
+    l = record { number = mid.tables.next_number; pool = y.port.pool; slot = place.slot }
+
+    abbrev loaned : ControlState
+    loaned = record mid { tables = with_loaned mid.tables (on_lane y y.lane) false k place.slot; room = mid.room - 1 }
+
+    as_loan : IsLoaned h.control y a l loaned
+    as_loan = record {
+      passes = line.may.passes;
+      between = mid;
+      back = line.may.back;
+      made = record {
+        number = refl;
+        pool = refl;
+        within = line.may.may.within;
+        free = line.may.may.free;
+        lane = y.lane;
+        chosen = ap (λ r. lane_by r mid.tables y) c.active.server;
+        left = refl;
+      };
+    }
+
+    of : (x : Given) → shape_in (given_by x h) h.control.tables y.port ≡ h.response
+    of x = ap (shape_of (limits_of (given_by x h) h.control.tables)) c.active.server
+
+    asked : IsAskedOf h.response a
+    asked = record { count = refl; layout = refl }
+
+    pub answer_within : place.slot < count_in h.words place.pool
+    answer_within =
+        subst (λ p. place.slot < count_in h.words p) (sym line.pool) (lent_within hub h.response a y c.active.handle.port c.active.there of asked l loaned as_loan)
+
+    pub answer_room : k ≤ longest_in h.words place.pool
+    answer_room =
+        subst (λ p. k ≤ longest_in h.words p) (sym line.pool) (lent_fits_room hub h.response a y c.active.handle.port c.active.there of asked l loaned as_loan)
+
+    pub answer_of : are_requests_in h.words place.pool ≡ false
+    answer_of =
+        ap (are_requests_in h.words) line.pool
+        ∙ lent_requests hub h.response a y c.active.handle.port c.active.there of asked l loaned as_loan false (ap is_client c.active.server)
+
+    module _ (words : List (Option Carried))
+        (put : words ≡ with_message h.words place.pool place.slot (copied_stored h.response.user k ws (stored_in h.words place.pool place.slot))) where
+      abbrev z : Stored
+      z = copied_stored h.response.user k ws (stored_in h.words place.pool place.slot)
+
+      abbrev h' : HubState
+      h' = record h { control = new; words = words }
+
+      mid_fits : WordsFit h.words mid.tables
+      mid_fits = back_fits h.words h.control mid hub.words hub.control.order c.active.handle.port y.port c.active.there line.may.back
+
+      mid_order : AreInOrder mid.tables
+      mid_order = back_order h.words h.control mid hub.words hub.control.order c.active.handle.port y.port c.active.there line.may.back
+
+      tables : new.tables ≡ record (with_copy_sent mid.tables y k place.slot) { pools = new.tables.pools }
+      tables = ap (λ (d : ControlState). d.tables) line.left
+
+      fits : WordsFit words new.tables
+      fits =
+          subst (λ (us : List (Option Carried)). WordsFit us new.tables) (sym put)
+          (subst (λ p. WordsFit (with_message h.words p place.slot z) new.tables) (sym line.pool)
+          (line_fits h.words mid.tables mid_fits mid_order y k place.slot line.may.may z refl new.tables tables line.handed.same))
+
+      unread : OfEachHandle (IsNoUnfilled place.pool place.slot) new.tables.handles
+      unread =
+          subst (λ p. OfEachHandle (IsNoUnfilled p place.slot) new.tables.handles) (sym line.pool)
+          (subst (λ (u : HubTables). OfEachHandle (IsNoUnfilled y.port.pool place.slot) u.handles) (sym tables)
+          (none_there h.words mid.tables mid_fits mid_order y k place.slot line.may.may))
+
+      shown : (x : Given) → state_shown (given_after_copy (given_by x h) (payload_of Server k ws) (Done (Some place))) new.tables ≡ state_of_hub x h'
+      shown x =
+          filled_unread (given_by x h) new.tables place.pool place.slot (record { user = h.response.user; payload = ws; filled = 0 }) k unread
+          ∙ ap (λ g. state_shown g new.tables) (given_put x h new place.pool place.slot z answer_within)
+          ∙ ap (λ (us : List (Option Carried)). state_of_hub x (record h { control = new; words = us })) (sym put)
+
+      pub answer_whole : (x : Given) → IsWholeCall (state_of_hub x h) node (SendCopy n (payload_of Server k ws)) (reply_of_copy (Done (Some place))) (state_of_hub x h')
+      answer_whole x =
+          subst (IsWholeCall (state_of_hub x h) node (SendCopy n (payload_of Server k ws)) (reply_of_copy (Done (Some place)))) (shown x) (c.whole x)
+
+      pub answer_hub : IsHub h'
+      answer_hub = hub_is_left h h' node (SendCopy n (payload_of Server k ws)) (reply_of_copy (Done (Some place))) hub c.order fits answer_whole
+
+      pub answer_left : h' ≡ hub_with_copies h new h.response k ws place
+      answer_left = ap (λ (us : List (Option Carried)). record h { control = new; words = us }) put
+
+  -- the same, where the result is said otherwise
+  module _ (r : Answered) (place : Place) (at : place_of r ≡ Some place) (c : IsAnswerCall h k ws node n new r) where
+    done_is : r ≡ Done (Some place)
+    done_is = step r at
+      where
+        step : (q : Answered) → place_of q ≡ Some place → q ≡ Done (Some place)
+        step (Done o) e = ap (λ p. Done p) e
+        step (Refused s) e = absurd (none-some place e)
+        step OutOfMemory e = absurd (none-some place e)
+        step Undelivered e = absurd (none-some place e)
+
+    as_done : IsAnswerCall h k ws node n new (Done (Some place))
+    as_done = subst (λ q. IsAnswerCall h k ws node n new q) done_is c
+
+    pub put_within : place.slot < count_in h.words place.pool
+    put_within = answer_within place as_done
+
+    pub put_room : k ≤ longest_in h.words place.pool
+    put_room = answer_room place as_done
+
+    pub put_of : are_requests_in h.words place.pool ≡ false
+    put_of = answer_of place as_done
+
+    module _ (words : List (Option Carried))
+        (put : words ≡ with_message h.words place.pool place.slot (copied_stored h.response.user k ws (stored_in h.words place.pool place.slot))) where
+      abbrev then : HubState
+      then = record h { control = new; words = words }
+
+      pub put_hub : IsHub then
+      put_hub = answer_hub place as_done words put
+
+      pub put_whole : (x : Given) → IsWholeCall (state_of_hub x h) node (SendCopy n (payload_of Server k ws)) (reply_of_copy r) (state_of_hub x then)
+      put_whole =
+          subst (λ q. (x : Given) → IsWholeCall (state_of_hub x h) node (SendCopy n (payload_of Server k ws)) (reply_of_copy q) (state_of_hub x then)) (sym done_is)
+          (answer_whole place as_done words put)
+
+      pub put_left : LeavesAnswered h k ws r then
+      put_left = subst (λ q. LeavesAnswered h k ws q then) (sym done_is) (answer_left place as_done words put)
+
+  -- ---- it does not
+
+  abbrev pub IsNone : Answered → Type 0
+  IsNone result = (place : Place) → result ≡ Done (Some place) → ⊥
+
+  pub none_is : (r : Answered) → place_of r ≡ None → IsNone r
+  none_is r none place e = none-some place (sym none ∙ ap place_of e)
+
+  pub other_whole : (result : Answered) → IsNone result → IsAnswerCall h k ws node n new result
+      → (x : Given) → IsWholeCall (state_of_hub x h) node (SendCopy n (payload_of Server k ws)) (reply_of_copy result) (state_of_hub x (with_control h new))
+  other_whole (Done (Some place)) never c = absurd (never place refl)
+  other_whole (Done None) never c = c.whole
+  other_whole (Refused r) never c = c.whole
+  other_whole OutOfMemory never c = c.whole
+  other_whole Undelivered never c = c.whole
+
+  lost_fits_then : (y : Lender) (port : ℕ) → port_in h.control.tables.ports port ≡ Some y.port → (fails : Bool) → IsLost h.control y a fails new → WordsFit h.words new.tables
+  lost_fits_then y port there fails is =
+      subst (λ (d : ControlState). WordsFit h.words d.tables) (sym is.left)
+      (lost_fits h.words fails is.between.tables y.port.number
+      (back_fits h.words h.control is.between hub.words hub.control.order port y.port there is.may.back))
+
+  pub other_hub : (result : Answered) → IsNone result → IsAnswerCall h k ws node n new result → IsHub (with_control h new)
+  other_hub (Done (Some place)) never c = absurd (never place refl)
+  other_hub (Done None) never c =
+      hub_is_left h (with_control h new) node (SendCopy n (payload_of Server k ws)) (reply_of_copy (Done None)) hub c.order
+      (lost_fits_then (lender_of_response h.control.tables c.active.handle c.active.port) c.active.handle.port c.active.there false (left_of c).2) c.whole
+  other_hub (Refused r) never c = subst IsHub (sym (refused_left h (lender_of_response h.control.tables c.active.handle c.active.port) a r new (left_of c))) hub
+  other_hub OutOfMemory never c =
+      hub_is_left h (with_control h new) node (SendCopy n (payload_of Server k ws)) (reply_of_copy OutOfMemory) hub c.order
+      (back_fits h.words h.control new hub.words hub.control.order c.active.handle.port c.active.port c.active.there (left_of c).back) c.whole
+  other_hub Undelivered never c =
+      hub_is_left h (with_control h new) node (SendCopy n (payload_of Server k ws)) (reply_of_copy Undelivered) hub c.order
+      (lost_fits_then (lender_of_response h.control.tables c.active.handle c.active.port) c.active.handle.port c.active.there true (left_of c).1) c.whole
+
+  pub other_left : (result : Answered) → IsNone result → IsAnswerCall h k ws node n new result → LeavesAnswered h k ws result (with_control h new)
+  other_left (Done (Some place)) never c = absurd (never place refl)
+  other_left (Done None) never c = refl
+  other_left (Refused r) never c = refused_left h (lender_of_response h.control.tables c.active.handle c.active.port) a r new (left_of c)
+  other_left OutOfMemory never c = refl
+  other_left Undelivered never c = refl

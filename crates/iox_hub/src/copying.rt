@@ -1,0 +1,126 @@
+//! Copies: loan, write and send in one. A hub has no handler: where a receiver is full, the port's
+//! strategy says what comes of a copy.
+ghost use Rattle.std.specs.Prelude.{◌≡◌, Some, flat_map, length};
+ghost use Rattle.iox_model.specs.declared.call.Call.TheVariants.{SendCopy};
+ghost use Rattle.iox_model.specs.declared.kind.Kind.TheVariants.{ActiveRequest, Client};
+ghost use Rattle.iox_model.specs.declared.kind.Role.TheVariants as roles;
+ghost use Rattle.iox_model.specs.Settings.{fails_by_strategy};
+ghost use Rattle.iox_model.specs.WholeCalls.{IsWholeCall};
+ghost use Rattle.iox_tables.specs.HubStates.States.{Given};
+ghost use Rattle.iox_tables.specs.HubStates.Tables.{HandleState, PortState, port_in};
+ghost use Rattle.iox_tables.specs.HubStates.Wirings.{handle_in};
+ghost use Rattle.iox_tables.specs.HubLoans.Lenders.{lender_of_response};
+ghost use Rattle.iox_control_copies.specs.Answers as responses;
+ghost use Rattle.iox_control_request_copies.specs.Copies as requests;
+ghost use Rattle.iox_hub.specs.Copying as spec;
+ghost use Rattle.iox_hub.specs.Copying.{HasCopied, LeavesAnswered, LeavesCopied, asked_of_copy};
+ghost use Rattle.iox_hub.specs.Hubs.{HasValue, state_of_hub};
+ghost use Rattle.iox_hub.specs.Lending.{payload_of};
+
+use crate::copies::{copy_request_in, copy_response_in};
+use crate::hub::Hub;
+use crate::lending::asked_of;
+use iox_control_copies::Answered;
+use iox_control_lending::Place;
+use iox_control_request_copies::Copied;
+use iox_control_requests::ByStrategy;
+use iox_control_responses::fails_when_full;
+use iox_store::Payload;
+use iox_words::Words;
+
+/// Where the words of the copy of a response belong, if it waits for its client.
+fn place_of(answered: Answered) -> Option<Place>
+    ensures { result ≡ spec.place_of answered }
+{
+    match answered {
+        Answered::Done(place) => place,
+        Answered::Refused(_) => None,
+        Answered::OutOfMemory => None,
+        Answered::Undelivered => None,
+    }
+}
+
+impl<Q: Payload, QH: Words, P: Payload, PH: Words> Hub<Q, QH, P, PH> {
+    /// Sends a request of that client with copies of these elements to all servers, and says to how
+    /// many: then the node has a pending response. What was given back to the client is got back
+    /// first.
+    pub fn copy_request(&mut self, node: u64, client: u64, values: &[Q::Element]) -> Copied
+        requires has { HasValue self.old node client Client }
+        ensures reply { (p : PortState) → port_in self.old.control.tables.ports client ≡ Some p
+            → requests.Copies self.old.control p (asked_of_copy self.old.request (length values.now))
+            (λ w. fails_by_strategy p.strategy) result self.new.control }
+        ensures left { LeavesCopied self.old (length values.now)
+            (flat_map Q.Element.words values.now) result self.new }
+        ensures whole { (x : Given) → IsWholeCall (state_of_hub x self.old) node
+            (SendCopy client (payload_of roles.Client (length values.now)
+            (flat_map Q.Element.words values.now)))
+            (requests.reply_of_copy result) (state_of_hub x self.new) }
+        ensures has { HasCopied self.new node (length values.now)
+            (flat_map Q.Element.words values.now) result }
+    {
+        let Some(port) = self.control.ports().find(client) else {
+            unreachable!();
+        };
+        let by = ByStrategy {
+            strategy: port.strategy,
+        };
+        let asked = asked_of::<Q, QH>(&self.request, values.len(), false);
+        let copied = iox_control_request_copies::copy_request(
+            &mut self.control,
+            node,
+            client,
+            asked,
+            &by,
+        );
+        if let Copied::To {
+            number: _,
+            servers: _,
+            place,
+        } = copied
+        {
+            copy_request_in(&mut self.words, place, values, self.request.user_header);
+        }
+        copied
+    }
+
+    /// Sends a response with copies of these elements to the client of that active request, whose
+    /// handle is looked for at the hint first. What was given back to the server is got back first.
+    pub fn copy_response(
+        &mut self,
+        node: u64,
+        number: u64,
+        hint: usize,
+        values: &[P::Element],
+    ) -> Answered
+        requires has { HasValue self.old node number ActiveRequest }
+        ensures reply { (h : HandleState) → handle_in self.old.control.tables.handles node number ≡ Some h
+            → (p : PortState) → port_in self.old.control.tables.ports h.port ≡ Some p
+            → responses.Answers self.old.control (lender_of_response self.old.control.tables h p)
+            (asked_of_copy self.old.response (length values.now)) (fails_by_strategy p.strategy) result
+            self.new.control }
+        ensures left { LeavesAnswered self.old (length values.now)
+            (flat_map P.Element.words values.now) result self.new }
+        ensures whole { (x : Given) → IsWholeCall (state_of_hub x self.old) node
+            (SendCopy number (payload_of roles.Server (length values.now)
+            (flat_map P.Element.words values.now)))
+            (responses.reply_of_copy result) (state_of_hub x self.new) }
+    {
+        let Some(entry) = self.control.entry(node, number, hint) else {
+            unreachable!();
+        };
+        let fails = fails_when_full(&self.control, entry.port);
+        let asked = asked_of::<P, PH>(&self.response, values.len(), false);
+        let answered = iox_control_copies::copy_response(
+            &mut self.control,
+            node,
+            number,
+            hint,
+            asked,
+            fails,
+        );
+        if let Some(place) = place_of(answered) {
+            copy_response_in(&mut self.words, place, values, self.response.user_header);
+        }
+        answered
+    }
+}

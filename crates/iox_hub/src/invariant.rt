@@ -1,0 +1,17 @@
+//! What is so of each hub between calls, for those who have one.
+ghost use Rattle.iox_hub.specs.Hubs.{IsHub};
+
+use crate::hub::Hub;
+use iox_store::Payload;
+use iox_words::Words;
+
+impl<Q: Payload, QH: Words, P: Payload, PH: Words> Hub<Q, QH, P, PH> {
+    /// The tables are in order, the words fit them, and a service and its hub can reach the state
+    /// that is shown. This does nothing: it is there for its contract.
+    #[inline]
+    pub fn is_in_order(&self)
+        ensures { IsHub self.now }
+    {
+        let _control = &self.control;
+    }
+}
