@@ -1,0 +1,7 @@
+use Rattle.iox_hub_laws.proofs.Receiving.{takes_response}
+use Rattle.iox_hub_laws.proofs.receives.receive_response.Goals as goal
+
+pub returns-clause-takes : goal.returns-clause-takes
+returns-clause-takes g c =
+    takes_response c.args.hub.now c.receive_response.new.self c.is_in_order.ensures c.args.node c.args.number c.receive_response.result
+    c.receive_response.ensures.whole c.receive_response.ensures.has

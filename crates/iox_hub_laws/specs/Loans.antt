@@ -1,0 +1,70 @@
+-- What a loan answers.
+use Rattle.std.specs.Prelude.{◌≡◌, ℕ, ◌<◌, ◌≤◌, ◌^◌, true, if◌then◌else◌, Some, ⊤}
+use Rattle.std.specs.Option.{option_map_or}
+use Rattle.iox_model.specs.Commands.{Reply}
+use Rattle.iox_model.specs.Settings.{Shape, has_layout, is_count}
+use Rattle.iox_model.specs.declared.reply.Refusal.TheVariants.{OutOfMemory}
+use Rattle.iox_model.specs.declared.reply.Reply.TheVariants.{Handle, Refused}
+use Rattle.iox_laws.specs.RunPools.Finding.{IsUnreducedNode}
+use Rattle.iox_tables.specs.HubLoans.Counts.{requests_on_loan}
+use Rattle.iox_tables.specs.HubLoans.Lenders.{Lender, is_pool_to_be_dry, lender_of_request, lender_of_response, loan_refusal}
+use Rattle.iox_tables.specs.HubStates.States.{Given}
+use Rattle.iox_tables.specs.HubStates.Tables.{HandleState, HubTables, PortState, port_in}
+use Rattle.iox_tables.specs.HubStates.Wirings.{handle_in}
+use Rattle.iox_control_lending.specs.Lends.{reply_of_loan}
+use Rattle.iox_control_lending.specs.declared.asked.Lent.{Lent}
+use Rattle.iox_control_lending.specs.declared.asked.Lent.TheVariants as lents
+use Rattle.iox_hub.specs.Hubs.{HubState, given_by}
+use Rattle.iox_hub_laws.specs.Shown.{nothing_given, shown}
+
+-- The first test that refuses the loan. If none does, the pool decides: it refuses exactly where the
+-- port keeps each of its messages, even once it got back all that was given back. Any other loan is
+-- made, and has the next number.
+abbrev pub loan_answer : Given → HubTables → Lender → ℕ → Reply
+loan_answer x t y k =
+    option_map_or Refused (loan_refusal x t y k)
+    (if is_pool_to_be_dry x t y.port then Refused OutOfMemory else Handle t.next_number)
+
+-- A client may lend so many elements: it has fewer loans than it may, messages of the shape may be
+-- that long, and so may those of the client.
+pub record IsWithinLimits (t : HubTables) (shape : Shape) (p : PortState) (k : ℕ) : Type 0 where
+  pub calls : t.calls < 2 ^ 56
+  pub count : is_count shape k ≡ true
+  pub length : k ≤ p.longest
+  pub layout : has_layout shape k ≡ true
+  pub loans : requests_on_loan t p.number < t.settings.loaned_requests
+
+-- ---- a hub
+
+-- what a loan answers, of a hub
+abbrev pub answer_of : HubState → Lender → ℕ → Reply
+answer_of h y k = loan_answer (given_by (nothing_given h) h) h.control.tables y k
+
+-- the client's loan answers that; which lane it takes does not matter
+abbrev pub AnswersOfClient : HubState → ℕ → ℕ → Lent → Type 0
+AnswersOfClient h client k lent =
+    (p : PortState) → port_in h.control.tables.ports client ≡ Some p
+    → reply_of_loan lent ≡ answer_of h (lender_of_request p 0) k
+
+-- the loan to that active request answers that
+abbrev pub AnswersOfRequest : HubState → ℕ → ℕ → ℕ → Lent → Type 0
+AnswersOfRequest h node number k lent =
+    (a : HandleState) → handle_in h.control.tables.handles node number ≡ Some a
+    → (p : PortState) → port_in h.control.tables.ports a.port ≡ Some p
+    → reply_of_loan lent ≡ answer_of h (lender_of_response h.control.tables a p) k
+
+-- no pool of the node's ports has fewer messages than its port may ever need
+abbrev pub HasFullPools : HubState → ℕ → Type 0
+HasFullPools h node = IsUnreducedNode (shown h).fixed node
+
+-- the loan is made
+abbrev pub IsLent : Lent → Type 0
+IsLent (lents.Handle l) = ⊤
+IsLent (lents.Refused r) = ⊥
+IsLent lents.OutOfMemory = ⊥
+
+-- Within its limits a client is lent so many elements, where its node has full pools.
+abbrev pub LendsWithinLimits : HubState → ℕ → ℕ → ℕ → Lent → Type 0
+LendsWithinLimits h node client k lent =
+    (p : PortState) → port_in h.control.tables.ports client ≡ Some p
+    → IsWithinLimits h.control.tables h.request p k → HasFullPools h node → IsLent lent

@@ -1,0 +1,35 @@
+-- The state that a hub shows, and the histories that may have led to it.
+use Rattle.std.specs.Prelude.{false, List, [], None}
+use Rattle.iox_model.specs.declared.backpressure.BackpressureAction.TheVariants.{FollowBackpressureStrategy}
+use Rattle.iox_model.specs.States.{Handle, State}
+use Rattle.iox_model.specs.Weaves.{Beat}
+use Rattle.iox_laws.specs.RunLaws.Traces.{beats_of_reached}
+use Rattle.iox_tables.specs.HubStates.Releases.{handle_shown}
+use Rattle.iox_tables.specs.HubStates.States.{Given}
+use Rattle.iox_tables.specs.HubStates.Tables.{HandleState}
+use Rattle.iox_hub.specs.Hubs.{HubState, IsReached, given_by, state_of_hub}
+
+-- what is given beside a hub where no node joined
+abbrev pub nothing_given : HubState → Given
+nothing_given h = record {
+  members = record { nodes = []; joins = 0; closed = false };
+  acts = λ handler sender receiver. FollowBackpressureStrategy;
+  handler = λ port. None;
+  request = h.request;
+  response = h.response;
+  user = λ pool k. [];
+  payload = λ pool k. [];
+  filled = λ pool k. 0;
+}
+
+-- the state that the hub shows, without nodes
+abbrev pub shown : HubState → State
+shown h = state_of_hub (nothing_given h) h
+
+-- the handle of the machine, with its message as the hub has it
+abbrev pub handle_of : HubState → HandleState → Handle
+handle_of h k = handle_shown (given_by (nothing_given h) h) h.control.tables k
+
+-- what happened in a history that led to the state that the hub shows
+abbrev pub beats_of : (h : HubState) → IsReached h → List Beat
+beats_of h r = beats_of_reached (state_of_hub r.0 h) r.1

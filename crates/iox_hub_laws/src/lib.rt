@@ -1,0 +1,17 @@
+//! The laws of the machine as laws about any hub, for those who have one. What a hub shows can be
+//! reached by a service and its hub, so each law of their runs holds of it.
+#![tactic(auto)]
+
+mod histories;
+mod limits;
+mod loans;
+mod receives;
+pub mod uses;
+
+pub use histories::{
+    messages_are_as_delivered, messages_come_at_most_once, messages_come_in_order,
+    messages_were_sent,
+};
+pub use limits::{borrows_hold, buffers_hold, nothing_is_kept_of_the_gone, slots_are_of_holders};
+pub use loans::{lend_request, lend_response};
+pub use receives::{receive_request, receive_response};

@@ -1,0 +1,57 @@
+//! Receives of a hub, with what they take.
+ghost use Rattle.std.specs.Prelude.{◌≡◌, ◌<◌, ◌^◌};
+ghost use Rattle.iox_model.specs.declared.call.Call.TheVariants.{Receive};
+ghost use Rattle.iox_model.specs.declared.kind.Kind.TheVariants.{ActiveRequest, PendingResponse};
+ghost use Rattle.iox_model.specs.declared.kind.Kind.TheVariants.{Response, Server};
+ghost use Rattle.iox_model.specs.WholeCalls.{IsWholeCall};
+ghost use Rattle.iox_tables.specs.HubStates.States.{Given};
+ghost use Rattle.iox_control.specs.Replies.{reply_of_receive};
+ghost use Rattle.iox_hub.specs.Hubs.{HasReceived, HasValue, state_of_hub, with_control};
+ghost use Rattle.iox_hub_laws.specs.Receives.{TakesRequest, TakesResponse};
+
+use iox_control::Received;
+use iox_hub::Hub;
+use iox_store::Payload;
+use iox_words::Words;
+
+/// Receives a request for that server: one that was delivered to it, that it did not get before,
+/// and that comes behind all that it took from that client.
+#[inline]
+pub fn receive_request<Q: Payload, QH: Words, P: Payload, PH: Words>(
+    hub: &mut Hub<Q, QH, P, PH>,
+    node: u64,
+    server: u64,
+) -> Received
+    requires has { HasValue hub.old node server Server }
+    requires calls { hub.old.control.tables.calls < 2 ^ 56 }
+    ensures takes { TakesRequest hub.old node server result hub.new }
+    ensures left { hub.new ≡ with_control hub.old hub.new.control }
+    ensures whole { (x : Given) → IsWholeCall (state_of_hub x hub.old) node
+        (Receive server) (reply_of_receive result) (state_of_hub x hub.new) }
+    ensures has { HasReceived hub.new node ActiveRequest result }
+{
+    hub.is_in_order();
+    hub.receive_request(node, server)
+}
+
+/// Receives a response for that pending response: one to its own request, that was delivered to it,
+/// that it did not get before, and that comes behind all that were taken on that way. Its handle is
+/// looked for at the hint first.
+#[inline]
+pub fn receive_response<Q: Payload, QH: Words, P: Payload, PH: Words>(
+    hub: &mut Hub<Q, QH, P, PH>,
+    node: u64,
+    number: u64,
+    hint: usize,
+) -> Received
+    requires has { HasValue hub.old node number PendingResponse }
+    requires calls { hub.old.control.tables.calls < 2 ^ 56 }
+    ensures takes { TakesResponse hub.old node number result hub.new }
+    ensures left { hub.new ≡ with_control hub.old hub.new.control }
+    ensures whole { (x : Given) → IsWholeCall (state_of_hub x hub.old) node
+        (Receive number) (reply_of_receive result) (state_of_hub x hub.new) }
+    ensures has { HasReceived hub.new node Response result }
+{
+    hub.is_in_order();
+    hub.receive_response(node, number, hint)
+}

@@ -1,0 +1,54 @@
+//! Callers of a hub and of its laws, proved from their clauses alone.
+ghost use Rattle.std.specs.Prelude.{◌≡◌, ◌<◌, ◌^◌, IfSome, Some, flat_map, length, true};
+ghost use Rattle.iox_model.specs.declared.kind.Kind.TheVariants.{Client, Server};
+ghost use Rattle.iox_model.specs.Handles.{way_of};
+ghost use Rattle.iox_laws.specs.MessageLaws.Deliveries.{messages_put_on};
+ghost use Rattle.iox_laws.specs.MessageLaws.Lists.{IsOneOf};
+ghost use Rattle.iox_tables.specs.HubStates.Tables.{HandleState, PortState, port_in};
+ghost use Rattle.iox_hub.specs.Hubs.{HasValue, HubState, IsReached};
+ghost use Rattle.iox_hub_laws.specs.Loans.{HasFullPools, IsWithinLimits};
+ghost use Rattle.iox_hub_laws.specs.Shown.{beats_of, handle_of};
+
+use crate::{lend_request, receive_request};
+use iox_control::Received;
+use iox_control_lending::Lent;
+use iox_hub::Hub;
+use iox_store::{Many, One};
+use iox_words::Words;
+
+/// A server that receives reads what was delivered to it, word by word, whatever history led there.
+pub fn reads_what_was_delivered<E: Words>(
+    hub: &mut Hub<Many<E>, u32, One<u64>, ()>,
+    node: u64,
+    server: u64,
+) -> Option<&[E]>
+    requires has { HasValue hub.old node server Server }
+    requires calls { hub.old.control.tables.calls < 2 ^ 56 }
+    ensures { IfSome result (λ read. (h : HandleState) × (new : HubState)
+        × (flat_map E.words read.now ≡ (handle_of new h).message.payload)
+        × ((r : IsReached hub.old) → IsOneOf (handle_of new h).message
+        (messages_put_on (way_of (handle_of new h)) (beats_of hub.old r)))) }
+{
+    match receive_request(hub, node, server) {
+        Received::Handle(number) => Some(hub.request(node, number, 0)),
+        _ => None,
+    }
+}
+
+/// Within its limits a client lends, where its node has full pools.
+pub fn lends_within_limits(
+    hub: &mut Hub<Many<u64>, u32, One<u64>, ()>,
+    node: u64,
+    client: u64,
+    elements: usize,
+) -> u64
+    requires has { HasValue hub.old node client Client }
+    requires within { (p : PortState) × (port_in hub.old.control.tables.ports client ≡ Some p)
+        × IsWithinLimits hub.old.control.tables hub.old.request p elements }
+    requires pools { HasFullPools hub.old node }
+{
+    match lend_request(hub, node, client, elements, true) {
+        Lent::Handle(loan) => loan.number,
+        _ => unreachable!(),
+    }
+}
