@@ -1,3 +1,4 @@
 pub mod Gathering
 pub mod Staying
 pub mod Telling
+pub mod Copying

@@ -11,7 +11,10 @@ pub use Rattle.iox_hub.specs.Reads
 pub use Rattle.iox_hub.specs.Shapes
 -- typed calls
 pub mod Answers
+pub mod Headers
 pub mod Keeping
 pub mod Makings
 pub mod Loans
+pub mod Payloads
+pub mod Copies
 pub mod Releases

@@ -6,23 +6,30 @@ ghost use Rattle.iox_model.specs.declared.kind.Role.TheVariants as roles;
 ghost use Rattle.iox_model.specs.declared.reply.Reply.TheVariants.{Answer, Words};
 ghost use Rattle.iox_model.specs.WholeCalls.{IsWholeCall};
 ghost use Rattle.iox_tables.specs.HubStates.States.{Given};
+ghost use Rattle.iox_hub.specs.Headers.{IsHeaderShown, header_in};
 ghost use Rattle.iox_hub.specs.Hubs.{HasValue, state_of_hub, with_control};
 ghost use Rattle.iox_hub.specs.Lending.{IsFresh};
 ghost use Rattle.iox_hub.specs.Reads.{message_in};
+ghost use Rattle.iceoryx2_ports.specs.Headers.{request_header_of};
 ghost use Rattle.iceoryx2_ports.specs.Keeping.{KeepsValues};
 ghost use Rattle.iceoryx2_ports.specs.Loans.{reply_of_loan};
 ghost use Rattle.iceoryx2_ports.specs.Releases.{IsReleased};
 ghost use Rattle.iceoryx2_ports.specs.declared.errors.LoanError.TheVariants.{OutOfMemory};
 
 use crate::errors::LoanError;
+use crate::headers::request_header;
 use crate::loans::lend_response;
 use crate::releases::release_handle;
 use crate::response_mut::{ResponseMut, ResponseMutUninit};
 use iox_hub::Hub;
 use iox_model::kind::Kind;
 use iox_store::{Many, One, Payload};
+use iox_types::RequestHeader;
+use iox_types::identifiers::{UniqueClientId, UniqueNodeIdError};
 use iox_words::Words;
 use std::marker::PhantomData;
+
+mod send_copy;
 
 /// A request that a server received, and may answer as often as it likes.
 pub struct ActiveRequest<Q, QH, P, PH> {
@@ -73,6 +80,26 @@ impl<Q: Payload, QH: Words, P: Payload, PH: Words> ActiveRequest<Q, QH, P, PH> {
             (state_of_hub x hub.now) }
     {
         hub.request_header(self.node, self.number, self.hint)
+    }
+
+    /// The header of the request. It fails where its client was made for an id that no node has.
+    pub fn header(&self, hub: &Hub<Q, QH, P, PH>) -> Result<RequestHeader, UniqueNodeIdError>
+        requires has { HasValue hub.now self.now.node self.now.number kinds.ActiveRequest }
+        ensures header { result ≡ request_header_of
+            (header_in hub.now self.now.node self.now.number) }
+        ensures shown { IsHeaderShown hub.now self.now.node self.now.number }
+    {
+        request_header(hub.message_header(self.node, self.number, self.hint))
+    }
+
+    /// The id of the client that sent the request.
+    pub fn origin(&self, hub: &Hub<Q, QH, P, PH>) -> UniqueClientId
+        requires has { HasValue hub.now self.now.node self.now.number kinds.ActiveRequest }
+        ensures id { result ≡ (header_in hub.now self.now.node self.now.number).port_id }
+        ensures shown { IsHeaderShown hub.now self.now.node self.now.number }
+    {
+        let header = hub.message_header(self.node, self.number, self.hint);
+        UniqueClientId::new(header.port_id)
     }
 
     /// Whether the request is still open.

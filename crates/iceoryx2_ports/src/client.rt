@@ -5,6 +5,7 @@ ghost use Rattle.iox_model.specs.declared.kind.Kind.TheVariants as kinds;
 ghost use Rattle.iox_model.specs.declared.kind.Role.TheVariants as roles;
 ghost use Rattle.iox_model.specs.WholeCalls.{IsWholeCall};
 ghost use Rattle.iox_tables.specs.HubStates.States.{Given};
+ghost use Rattle.iox_hub.specs.Headers.{IsIdShown, id_in};
 ghost use Rattle.iox_hub.specs.Hubs.{HasValue, state_of_hub, with_control};
 ghost use Rattle.iox_hub.specs.Lending.{IsFresh};
 ghost use Rattle.iceoryx2_ports.specs.Keeping.{KeepsValues};
@@ -19,8 +20,11 @@ use crate::request_mut::{RequestMut, RequestMutUninit};
 use iox_hub::Hub;
 use iox_model::kind::Kind;
 use iox_store::{Many, One, Payload};
+use iox_types::identifiers::UniqueClientId;
 use iox_words::Words;
 use std::marker::PhantomData;
+
+mod send_copy;
 
 /// A client of a node: it sends requests.
 pub struct Client<Q, QH, P, PH> {
@@ -40,6 +44,15 @@ impl<Q: Payload, QH: Words, P: Payload, PH: Words> Client<Q, QH, P, PH> {
             number,
             of: PhantomData,
         }
+    }
+
+    /// Its id.
+    pub fn id(&self, hub: &Hub<Q, QH, P, PH>) -> UniqueClientId
+        requires has { HasValue hub.now self.now.node self.now.number kinds.Client }
+        ensures id { result ≡ id_in hub.now self.now.number }
+        ensures shown { IsIdShown hub.now self.now.number }
+    {
+        UniqueClientId::new(hub.port_id(self.node, self.number))
     }
 
     /// Does nothing: ports are connected as they are made.

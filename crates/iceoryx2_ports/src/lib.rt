@@ -4,7 +4,9 @@
 
 mod active_request;
 mod client;
+mod copies;
 mod errors;
+mod headers;
 mod loans;
 mod pending_response;
 mod port_factory_client;
@@ -15,7 +17,10 @@ mod response;
 mod response_mut;
 mod server;
 pub mod uses;
+pub mod uses_copying;
 pub mod uses_exchange;
+pub mod uses_filling;
+pub mod uses_headers;
 
 pub use active_request::ActiveRequest;
 pub use client::Client;
@@ -27,6 +32,9 @@ pub use iox_control::Settings;
 pub use iox_hub::{Hub, MessageShape, Part};
 pub use iox_model::kind::{Kind, Role};
 pub use iox_store::{Many, One, Payload};
+pub use iox_types::identifiers::{
+    UniqueClientId, UniqueNodeId, UniqueNodeIdError, UniqueServerId, UniqueSystemId,
+};
 pub use iox_types::{
     AllocationStrategy, BackpressureStrategy, ChannelState, RequestHeader, RequestId,
     ResponseHeader,

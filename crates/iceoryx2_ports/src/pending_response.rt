@@ -5,20 +5,25 @@ ghost use Rattle.iox_model.specs.declared.kind.Kind.TheVariants as kinds;
 ghost use Rattle.iox_model.specs.declared.reply.Reply.TheVariants.{Answer, Done, Words};
 ghost use Rattle.iox_model.specs.WholeCalls.{IsWholeCall};
 ghost use Rattle.iox_tables.specs.HubStates.States.{Given};
+ghost use Rattle.iox_hub.specs.Headers.{IsHeaderShown, header_in};
 ghost use Rattle.iox_hub.specs.Hubs.{HasValue, state_of_hub, with_control};
 ghost use Rattle.iox_hub.specs.Reads.{message_in};
 ghost use Rattle.iceoryx2_ports.specs.Answers.{reply_of_response};
+ghost use Rattle.iceoryx2_ports.specs.Headers.{request_header_of};
 ghost use Rattle.iceoryx2_ports.specs.Keeping.{KeepsValues};
 ghost use Rattle.iceoryx2_ports.specs.Releases.{IsReleased};
 ghost use Rattle.iceoryx2_ports.specs.declared.errors.ReceiveError.TheVariants.{ExceedsMaxBorrows};
 
 use crate::errors::ReceiveError;
+use crate::headers::request_header;
 use crate::releases::release_handle;
 use crate::response::Response;
 use iox_control::Received;
 use iox_hub::Hub;
 use iox_model::kind::Kind;
 use iox_store::Payload;
+use iox_types::RequestHeader;
+use iox_types::identifiers::UniqueNodeIdError;
 use iox_words::Words;
 use std::marker::PhantomData;
 
@@ -125,6 +130,16 @@ impl<Q: Payload, QH: Words, P: Payload, PH: Words> PendingResponse<Q, QH, P, PH>
             (state_of_hub x hub.now) }
     {
         hub.request_header(self.node, self.number, self.hint)
+    }
+
+    /// The header of the request. It fails where its client was made for an id that no node has.
+    pub fn header(&self, hub: &Hub<Q, QH, P, PH>) -> Result<RequestHeader, UniqueNodeIdError>
+        requires has { HasValue hub.now self.now.node self.now.number kinds.PendingResponse }
+        ensures header { result ≡ request_header_of
+            (header_in hub.now self.now.node self.now.number) }
+        ensures shown { IsHeaderShown hub.now self.now.node self.now.number }
+    {
+        request_header(hub.message_header(self.node, self.number, self.hint))
     }
 
     /// Whether the request is still open.

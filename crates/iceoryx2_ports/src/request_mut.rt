@@ -7,14 +7,19 @@ ghost use Rattle.iox_model.specs.declared.kind.Role.TheVariants as roles;
 ghost use Rattle.iox_model.specs.declared.reply.Reply.TheVariants.{Done, Words};
 ghost use Rattle.iox_model.specs.WholeCalls.{IsWholeCall};
 ghost use Rattle.iox_tables.specs.HubStates.States.{Given};
+ghost use Rattle.iox_hub.specs.Headers.{IsHeaderShown, header_in};
 ghost use Rattle.iox_hub.specs.Hubs.{HasValue, state_of_hub};
 ghost use Rattle.iox_hub.specs.Lending.{IsWritten, payload_of};
 ghost use Rattle.iox_hub.specs.Reads.{message_in};
 ghost use Rattle.iox_hub.specs.Sending.{HasNothing};
+ghost use Rattle.iceoryx2_ports.specs.Headers.{request_header_of};
 ghost use Rattle.iceoryx2_ports.specs.Loans.{reply_of_request_send, reply_of_write};
 ghost use Rattle.iceoryx2_ports.specs.Releases.{IsReleased};
 
+mod payloads;
+
 use crate::errors::{RequestSendError, SendError};
+use crate::headers::request_header;
 use crate::pending_response::PendingResponse;
 use crate::releases::release_handle;
 use iox_control_lending::Written;
@@ -22,8 +27,12 @@ use iox_control_requests::Requested;
 use iox_hub::Hub;
 use iox_model::kind::Kind;
 use iox_store::{One, Payload};
+use iox_types::RequestHeader;
+use iox_types::identifiers::UniqueNodeIdError;
 use iox_words::Words;
 use std::marker::PhantomData;
+
+mod filling;
 
 /// A loaned request that is not filled yet.
 pub struct RequestMutUninit<Q, QH, P, PH> {
@@ -94,6 +103,17 @@ impl<Q: Payload, QH: Words, P: Payload, PH: Words> RequestMutUninit<Q, QH, P, PH
             }
             Written::WrongLength => Err(self),
         }
+    }
+
+    /// The header of the request. It fails where its client was made for an id that no node has.
+    pub fn header(&self, hub: &Hub<Q, QH, P, PH>) -> Result<RequestHeader, UniqueNodeIdError>
+        requires has { HasValue hub.now self.now.node self.now.number kinds.RequestMutUninit }
+        ensures header { result ≡ request_header_of
+            (header_in hub.now self.now.node self.now.number) }
+        ensures shown { IsHeaderShown hub.now self.now.node self.now.number }
+    {
+        let header = hub.message_header(self.node, self.number, self.hint);
+        request_header(header)
     }
 
     /// Whether the hub still has it.
@@ -193,6 +213,16 @@ impl<Q: Payload, QH: Words, P: Payload, PH: Words> RequestMut<Q, QH, P, PH> {
             (state_of_hub x hub.now) }
     {
         hub.request_header(self.node, self.number, self.hint)
+    }
+
+    /// The header of the request. It fails where its client was made for an id that no node has.
+    pub fn header(&self, hub: &Hub<Q, QH, P, PH>) -> Result<RequestHeader, UniqueNodeIdError>
+        requires has { HasValue hub.now self.now.node self.now.number kinds.RequestMut }
+        ensures header { result ≡ request_header_of
+            (header_in hub.now self.now.node self.now.number) }
+        ensures shown { IsHeaderShown hub.now self.now.node self.now.number }
+    {
+        request_header(hub.message_header(self.node, self.number, self.hint))
     }
 
     /// Sends the request to all servers. Where that fails, the request is lost.

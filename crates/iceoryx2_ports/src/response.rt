@@ -5,14 +5,19 @@ ghost use Rattle.iox_model.specs.declared.kind.Kind.TheVariants as kinds;
 ghost use Rattle.iox_model.specs.declared.reply.Reply.TheVariants.{Words};
 ghost use Rattle.iox_model.specs.WholeCalls.{IsWholeCall};
 ghost use Rattle.iox_tables.specs.HubStates.States.{Given};
+ghost use Rattle.iox_hub.specs.Headers.{IsHeaderShown, header_in};
 ghost use Rattle.iox_hub.specs.Hubs.{HasValue, state_of_hub};
 ghost use Rattle.iox_hub.specs.Reads.{message_in};
+ghost use Rattle.iceoryx2_ports.specs.Headers.{response_header_of};
 ghost use Rattle.iceoryx2_ports.specs.Releases.{IsReleased};
 
+use crate::headers::response_header;
 use crate::releases::release_handle;
 use iox_hub::Hub;
 use iox_model::kind::Kind;
 use iox_store::Payload;
+use iox_types::ResponseHeader;
+use iox_types::identifiers::{UniqueNodeIdError, UniqueServerId};
 use iox_words::Words;
 use std::marker::PhantomData;
 
@@ -65,6 +70,26 @@ impl<Q: Payload, QH: Words, P: Payload, PH: Words> Response<Q, QH, P, PH> {
             (state_of_hub x hub.now) }
     {
         hub.response_header(self.node, self.number, self.hint)
+    }
+
+    /// The header of the response. It fails where its server was made for an id that no node has.
+    pub fn header(&self, hub: &Hub<Q, QH, P, PH>) -> Result<ResponseHeader, UniqueNodeIdError>
+        requires has { HasValue hub.now self.now.node self.now.number kinds.Response }
+        ensures header { result ≡ response_header_of
+            (header_in hub.now self.now.node self.now.number) }
+        ensures shown { IsHeaderShown hub.now self.now.node self.now.number }
+    {
+        response_header(hub.message_header(self.node, self.number, self.hint))
+    }
+
+    /// The id of the server that sent the response.
+    pub fn origin(&self, hub: &Hub<Q, QH, P, PH>) -> UniqueServerId
+        requires has { HasValue hub.now self.now.node self.now.number kinds.Response }
+        ensures id { result ≡ (header_in hub.now self.now.node self.now.number).port_id }
+        ensures shown { IsHeaderShown hub.now self.now.node self.now.number }
+    {
+        let header = hub.message_header(self.node, self.number, self.hint);
+        UniqueServerId::new(header.port_id)
     }
 
     /// Whether the hub still has it.

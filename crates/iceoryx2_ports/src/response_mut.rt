@@ -7,22 +7,31 @@ ghost use Rattle.iox_model.specs.declared.kind.Role.TheVariants as roles;
 ghost use Rattle.iox_model.specs.declared.reply.Reply.TheVariants.{Done, Words};
 ghost use Rattle.iox_model.specs.WholeCalls.{IsWholeCall};
 ghost use Rattle.iox_tables.specs.HubStates.States.{Given};
+ghost use Rattle.iox_hub.specs.Headers.{IsHeaderShown, header_in};
 ghost use Rattle.iox_hub.specs.Hubs.{HasValue, state_of_hub};
 ghost use Rattle.iox_hub.specs.Lending.{IsWritten, payload_of};
 ghost use Rattle.iox_hub.specs.Reads.{message_in};
 ghost use Rattle.iox_hub.specs.Sending.{HasNothing};
+ghost use Rattle.iceoryx2_ports.specs.Headers.{response_header_of};
 ghost use Rattle.iceoryx2_ports.specs.Loans.{reply_of_response_send, reply_of_write};
 ghost use Rattle.iceoryx2_ports.specs.Releases.{IsReleased};
 
+mod payloads;
+
 use crate::errors::SendError;
+use crate::headers::response_header;
 use crate::releases::release_handle;
 use iox_control_lending::Written;
 use iox_control_responses::Responded;
 use iox_hub::Hub;
 use iox_model::kind::Kind;
 use iox_store::{One, Payload};
+use iox_types::ResponseHeader;
+use iox_types::identifiers::UniqueNodeIdError;
 use iox_words::Words;
 use std::marker::PhantomData;
+
+mod filling;
 
 /// A loaned response that is not filled yet.
 pub struct ResponseMutUninit<Q, QH, P, PH> {
@@ -93,6 +102,17 @@ impl<Q: Payload, QH: Words, P: Payload, PH: Words> ResponseMutUninit<Q, QH, P, P
             }
             Written::WrongLength => Err(self),
         }
+    }
+
+    /// The header of the response. It fails where its server was made for an id that no node has.
+    pub fn header(&self, hub: &Hub<Q, QH, P, PH>) -> Result<ResponseHeader, UniqueNodeIdError>
+        requires has { HasValue hub.now self.now.node self.now.number kinds.ResponseMutUninit }
+        ensures header { result ≡ response_header_of
+            (header_in hub.now self.now.node self.now.number) }
+        ensures shown { IsHeaderShown hub.now self.now.node self.now.number }
+    {
+        let header = hub.message_header(self.node, self.number, self.hint);
+        response_header(header)
     }
 
     /// Whether the hub still has it.
@@ -192,6 +212,16 @@ impl<Q: Payload, QH: Words, P: Payload, PH: Words> ResponseMut<Q, QH, P, PH> {
             (state_of_hub x hub.now) }
     {
         hub.response_header(self.node, self.number, self.hint)
+    }
+
+    /// The header of the response. It fails where its server was made for an id that no node has.
+    pub fn header(&self, hub: &Hub<Q, QH, P, PH>) -> Result<ResponseHeader, UniqueNodeIdError>
+        requires has { HasValue hub.now self.now.node self.now.number kinds.ResponseMut }
+        ensures header { result ≡ response_header_of
+            (header_in hub.now self.now.node self.now.number) }
+        ensures shown { IsHeaderShown hub.now self.now.node self.now.number }
+    {
+        response_header(hub.message_header(self.node, self.number, self.hint))
     }
 
     /// Sends the response to its client. Where that fails, the response is lost.

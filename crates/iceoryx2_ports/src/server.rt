@@ -5,6 +5,7 @@ ghost use Rattle.iox_model.specs.declared.kind.Kind.TheVariants as kinds;
 ghost use Rattle.iox_model.specs.declared.reply.Reply.TheVariants.{Answer};
 ghost use Rattle.iox_model.specs.WholeCalls.{IsWholeCall};
 ghost use Rattle.iox_tables.specs.HubStates.States.{Given};
+ghost use Rattle.iox_hub.specs.Headers.{IsIdShown, id_in};
 ghost use Rattle.iox_hub.specs.Hubs.{HasValue, state_of_hub, with_control};
 ghost use Rattle.iceoryx2_ports.specs.Answers.{reply_of_request};
 ghost use Rattle.iceoryx2_ports.specs.Keeping.{KeepsValues};
@@ -18,6 +19,7 @@ use iox_control::Received;
 use iox_hub::Hub;
 use iox_model::kind::Kind;
 use iox_store::Payload;
+use iox_types::identifiers::UniqueServerId;
 use iox_words::Words;
 use std::marker::PhantomData;
 
@@ -74,6 +76,15 @@ impl<Q: Payload, QH: Words, P: Payload, PH: Words> Server<Q, QH, P, PH> {
         ensures told { IsOk result }
     {
         Ok(hub.has_requests(self.node, self.number))
+    }
+
+    /// Its id.
+    pub fn id(&self, hub: &Hub<Q, QH, P, PH>) -> UniqueServerId
+        requires has { HasValue hub.now self.now.node self.now.number kinds.Server }
+        ensures id { result ≡ id_in hub.now self.now.number }
+        ensures shown { IsIdShown hub.now self.now.number }
+    {
+        UniqueServerId::new(hub.port_id(self.node, self.number))
     }
 
     /// Does nothing: ports are connected as they are made.

@@ -2,9 +2,13 @@
 #![tactic(auto)]
 
 #[cfg(test)]
+mod copies;
+#[cfg(test)]
 mod errors;
 #[cfg(test)]
 mod exchange;
+#[cfg(test)]
+mod fillings;
 #[cfg(test)]
 mod refusals;
 #[cfg(test)]

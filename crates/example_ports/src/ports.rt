@@ -1,0 +1,185 @@
+//! A client and a server: requests are one number, responses are as many bytes.
+
+use iceoryx2_ports::{
+    ActiveRequest, AllocationStrategy, BackpressureStrategy, Client, Hub, Many, MessageShape, One,
+    Part, PendingResponse, PortFactoryClient, PortFactoryServer, Server, Settings,
+};
+use iox_types::identifiers::UniqueSystemId;
+use std::alloc::{AllocError, Global};
+
+/// Requests of one number, responses of any number of bytes, and no user headers.
+pub type Bytes = Hub<One<u64>, (), Many<u8>, ()>;
+
+pub type Asker = Client<One<u64>, (), Many<u8>, ()>;
+
+pub type Answerer = Server<One<u64>, (), Many<u8>, ()>;
+
+type Pending = PendingResponse<One<u64>, (), Many<u8>, ()>;
+
+/// The node that has both ports.
+const NODE: u64 = 0;
+
+/// Who the node is.
+const NODE_ID: UniqueSystemId = UniqueSystemId {
+    process: 1,
+    seconds: 2,
+    nanoseconds: 3,
+    counter: 0,
+};
+
+/// The limits of the service.
+const SETTINGS: Settings = Settings {
+    clients: 2,
+    servers: 2,
+    nodes: 2,
+    active_requests: 2,
+    loaned_requests: 1,
+    response_buffer: 2,
+    borrowed_responses: 1,
+    loaned_responses: 1,
+    client_expired: 0,
+    server_expired: 0,
+    request_overflow: true,
+    response_overflow: true,
+    fire_and_forget: true,
+    client_strategy: BackpressureStrategy::DiscardData,
+    server_strategy: BackpressureStrategy::DiscardData,
+    client_allocation: AllocationStrategy::Static,
+    server_allocation: AllocationStrategy::Static,
+};
+
+/// Size and alignment of a part of a message, in bytes.
+const WORD: Part = Part {
+    size: 8,
+    alignment: 8,
+};
+
+const BYTE: Part = Part {
+    size: 1,
+    alignment: 1,
+};
+
+const NOTHING: Part = Part {
+    size: 0,
+    alignment: 1,
+};
+
+/// A hub in which no port was made.
+pub fn service(alloc: Global) -> Result<Bytes, AllocError> {
+    let request: MessageShape<u64, ()> = MessageShape {
+        default: None,
+        user_header: (),
+        header_part: WORD,
+        user_part: NOTHING,
+        element_part: WORD,
+    };
+    let response: MessageShape<u8, ()> = MessageShape {
+        default: None,
+        user_header: (),
+        header_part: WORD,
+        user_part: NOTHING,
+        element_part: BYTE,
+    };
+    Hub::new(alloc, SETTINGS, request, response)
+}
+
+/// A client, and a server whose responses have at most eight bytes.
+pub fn ports(alloc: Global, hub: &mut Bytes) -> Option<(Asker, Answerer)> {
+    let Ok(client) = PortFactoryClient::new(NODE, NODE_ID).create(alloc, hub) else {
+        return None;
+    };
+    let server = PortFactoryServer::new(NODE, NODE_ID).initial_max_slice_len(8);
+    match server.create(alloc, hub) {
+        Ok(server) => Some((client, server)),
+        Err(_) => {
+            client.release(hub);
+            None
+        }
+    }
+}
+
+/// Asks for that many bytes, and tells the sum of those that come back.
+pub fn round_trip(hub: &mut Bytes, client: &Asker, server: &Answerer, number: u64) -> Option<u64> {
+    let pending = ask(hub, client, number)?;
+    serve(hub, server);
+    let sum = hear(hub, &pending);
+    pending.release(hub);
+    sum
+}
+
+/// Asks for that many bytes.
+fn ask(hub: &mut Bytes, client: &Asker, number: u64) -> Option<Pending> {
+    if !client.exists(hub) {
+        return None;
+    }
+    let Ok(loan) = client.loan_uninit(hub) else {
+        return None;
+    };
+    let request = loan.write_payload(hub, number);
+    if hub.calls() >= 1 << 56 {
+        request.release(hub);
+        return None;
+    }
+    request.send(hub).ok()
+}
+
+/// Answers the next request, and says whether it was answered.
+fn serve(hub: &mut Bytes, server: &Answerer) -> bool {
+    if hub.calls() >= 1 << 56 || !server.exists(hub) {
+        return false;
+    }
+    match server.receive(hub) {
+        Ok(Some(request)) => {
+            let answered = answer(hub, &request);
+            request.release(hub);
+            answered
+        }
+        Ok(None) => false,
+        Err(_) => false,
+    }
+}
+
+/// Answers with as many bytes as were asked for: 1, 2, 3 ..
+fn answer(hub: &mut Bytes, request: &ActiveRequest<One<u64>, (), Many<u8>, ()>) -> bool {
+    if !request.exists(hub) {
+        return false;
+    }
+    let wanted = request.payload(hub).first().copied().unwrap_or(0);
+    let all = [1, 2, 3, 4, 5, 6, 7, 8];
+    let Some(bytes) = usize::try_from(wanted).ok().and_then(|n| all.get(..n)) else {
+        return false;
+    };
+    let Ok(loan) = request.loan_slice_uninit(hub, bytes.len()) else {
+        return false;
+    };
+    match loan.write_from_slice(hub, bytes) {
+        Ok(response) if hub.calls() < 1 << 56 => response.send(hub).is_ok(),
+        Ok(response) => {
+            response.release(hub);
+            false
+        }
+        Err(loan) => {
+            loan.release(hub);
+            false
+        }
+    }
+}
+
+/// The sum of the bytes of the next response.
+fn hear(hub: &mut Bytes, pending: &Pending) -> Option<u64> {
+    if hub.calls() >= 1 << 56 || !pending.exists(hub) {
+        return None;
+    }
+    match pending.receive(hub) {
+        Ok(Some(response)) => {
+            let mut sum = 0u64;
+            for byte in response.payload(hub) {
+                sum = sum.wrapping_add(u64::from(*byte));
+            }
+            response.release(hub);
+            Some(sum)
+        }
+        Ok(None) => None,
+        Err(_) => None,
+    }
+}

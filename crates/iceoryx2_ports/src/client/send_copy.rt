@@ -1,0 +1,57 @@
+//! Copies of a client: loan, write and send in one.
+ghost use Rattle.std.specs.Prelude.{◌≡◌, ◌∷◌, IfErr, IfOk, [], flat_map};
+ghost use Rattle.std.specs.Mem.{FitsInMemory};
+ghost use Rattle.iox_model.specs.declared.call.Call.TheVariants as calls;
+ghost use Rattle.iox_model.specs.declared.kind.Kind.TheVariants as kinds;
+ghost use Rattle.iox_model.specs.declared.kind.Role.TheVariants as roles;
+ghost use Rattle.iox_model.specs.WholeCalls.{IsWholeCall};
+ghost use Rattle.iox_tables.specs.HubStates.States.{Given};
+ghost use Rattle.iox_hub.specs.Copying.{IsAwaited};
+ghost use Rattle.iox_hub.specs.Hubs.{HasValue, state_of_hub};
+ghost use Rattle.iox_hub.specs.Lending.{payload_of};
+ghost use Rattle.iceoryx2_ports.specs.Copies.{LeavesUnasked, reply_of_request_copy};
+ghost use Rattle.iceoryx2_ports.specs.Keeping.{KeepsValues};
+
+use super::Client;
+use crate::copies::error_of_test;
+use crate::errors::{LoanError, RequestSendError, SendError};
+use crate::pending_response::PendingResponse;
+use iox_control_request_copies::Copied;
+use iox_hub::Hub;
+use iox_store::{One, Payload};
+use iox_words::Words;
+
+impl<E: Words, QH: Words, P: Payload, PH: Words> Client<One<E>, QH, P, PH> {
+    /// Sends a request with that value to all servers. What servers gave back is got back first.
+    pub fn send_copy(
+        &self,
+        hub: &mut Hub<One<E>, QH, P, PH>,
+        value: E,
+    ) -> Result<PendingResponse<One<E>, QH, P, PH>, RequestSendError>
+        requires has { HasValue hub.old self.now.node self.now.number kinds.Client }
+        requires small { FitsInMemory E.row }
+        ensures whole { (x : Given) → IsWholeCall (state_of_hub x hub.old) self.now.node
+            (calls.SendCopy self.now.number
+            (payload_of roles.Client 1 (flat_map E.words (value ∷ []))))
+            (reply_of_request_copy result) (state_of_hub x hub.new) }
+        ensures awaited { IfOk result (λ pending. IsAwaited hub.new pending.node pending.number
+            pending.servers 1 (flat_map E.words (value ∷ []))) }
+        ensures node { IfOk result (λ pending. pending.node ≡ self.now.node) }
+        ensures keeps { KeepsValues hub.old hub.new }
+        ensures left { IfErr result (λ error. LeavesUnasked hub.old error hub.new) }
+    {
+        match hub.copy_request(self.node, self.number, &[value]) {
+            Copied::To {
+                number,
+                servers,
+                place: _,
+            } => Ok(PendingResponse::new(self.node, number, servers)),
+            Copied::Refused(refusal) => { Err(RequestSendError::from(error_of_test(refusal))) }
+            Copied::OutOfMemory => Err(RequestSendError::from(LoanError::OutOfMemory)),
+            Copied::ExceedsMaxActiveRequests => Err(RequestSendError::ExceedsMaxActiveRequests),
+            Copied::UnableToDeliver => {
+                Err(RequestSendError::SendError(SendError::UnableToDeliver))
+            }
+        }
+    }
+}
