@@ -1,0 +1,16 @@
+pub mod Counting
+pub mod PoolsFit
+pub mod DeskUses
+pub mod RecordUses
+pub mod SeatUses
+pub mod CallSlots
+pub mod ReceiveSlots
+pub mod HeldSlots
+pub mod AccessUses
+pub mod BeginUses
+pub mod EndUses
+pub mod FoundUses
+pub mod AccessesFound
+pub mod KnownSlots
+pub mod WorkedUses
+pub mod EndedSlots
