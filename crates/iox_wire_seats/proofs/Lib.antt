@@ -1,5 +1,6 @@
 pub mod RowLemmas
 pub mod CountLemmas
+pub mod CountReads
 pub mod SlotLemmas
 pub mod PickLemmas
 pub mod BeginLemmas

@@ -8,5 +8,7 @@ pub mod Desks
 -- a seat, and the places that it knows of
 pub mod Seats
 pub mod Aims
+-- what a call leaves there that is kept beside the seat
+pub mod Keeps
 -- for proofs of this crate alone: where a party of a queue is
 pub mod Places

@@ -1,8 +1,9 @@
 //! How many messages of each way a node has as handles.
-ghost use Rattle.std.specs.Prelude.{◌≡◌, ◌+◌, ◌-◌, ◌<◌, ◌^◌, IfSome, length, map, position};
+ghost use Rattle.std.specs.Prelude.{◌≡◌, ◌+◌, ◌-◌, ◌<◌, ◌^◌, IfSome, length, map, nat_le, position};
+ghost use Rattle.std.specs.Bool.{OnFalse};
 ghost use Rattle.iox_model.specs.Maps.{same_way};
 ghost use Rattle.iox_wire_locals.specs.Desks.{with_count};
-ghost use Rattle.iox_wire_seats.specs.Counts.{AreOfDifferentWays, IsBelow};
+ghost use Rattle.iox_wire_seats.specs.Counts.{AreOfDifferentWays, IsBelow, count_at};
 
 use iox_model::way::Way;
 use iox_wire_locals::Borrowed;
@@ -43,6 +44,25 @@ impl Counts {
         self.counts
             .iter()
             .position(|borrowed| is_same_way(borrowed.way, way))
+    }
+
+    /// How many messages of the way are handles.
+    fn count(&self, way: Way) -> u64
+        ensures count { result ≡ count_at way self.now }
+        ensures apart { AreOfDifferentWays self.now }
+    {
+        match self.place(way) {
+            Some(place) => self.counts[place].count,
+            None => 0,
+        }
+    }
+
+    /// Whether as many messages of the way as that are handles.
+    pub fn has_as_many(&self, way: Way, limit: u64) -> bool
+        ensures many { result ≡ nat_le limit (count_at way self.now) }
+        ensures below { OnFalse result (IsBelow (2 ^ 64 - 1) way self.now) }
+    {
+        limit <= self.count(way)
     }
 
     /// One more message of the way is a handle.

@@ -4,6 +4,7 @@ ghost use Rattle.std.specs.Prelude.{◌≡◌};
 mod ask;
 mod close;
 mod hint;
+mod keep;
 mod read;
 mod release;
 mod seek;

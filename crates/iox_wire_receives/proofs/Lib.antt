@@ -1,0 +1,3 @@
+pub mod PlaceLemmas
+pub mod VisitLemmas
+pub mod LoadLemmas

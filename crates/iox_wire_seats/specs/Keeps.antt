@@ -1,0 +1,16 @@
+-- What a call that is kept beside the seat leaves there.
+use Rattle.std.specs.Prelude.{◌+◌, ◌-◌}
+use Rattle.iox_model.specs.declared.way.Way.{Way}
+use Rattle.iox_wire_locals.specs.declared.table.Entry.{Entry}
+use Rattle.iox_wire_locals.specs.Desks.{at_count}
+use Rattle.iox_wire_locals.specs.Settlements.{gains}
+use Rattle.iox_wire_locals.specs.Steps.{accessed}
+use Rattle.iox_wire_seats.specs.Seats.{Placed}
+
+-- one more access is counted
+abbrev pub counted : Placed → Placed
+counted x = record x { seat = accessed x.seat }
+
+-- there is one handle more, of a message that came on that way
+abbrev pub received : Placed → Entry → Way → Placed
+received x e w = record x { seat = at_count (gains x.seat e) w (λ n. n + 1); room = x.room - 1 }
