@@ -105,5 +105,5 @@ fn first_settings_are_the_documented_ones(rt: HostRuntime) {
         defaults.publish_subscribe.publisher_max_loaned_samples,
         2,
     );
-    equal(&rt, Config::default().defaults, defaults);
+    assert!(rt; Config::default().defaults == defaults);
 }
