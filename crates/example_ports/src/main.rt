@@ -21,7 +21,7 @@ fn main(rt: HostRuntime) -> io::Result<()> {
     for (number, heard) in [(3, three), (5, five), (9, nine)] {
         match heard {
             Some(sum) => println!(rt; "{number} bytes were heard, their sum is {sum}")?,
-            None => println!(rt; "{number} bytes are too many")?,
+            None => println!(rt; "of {number} bytes nothing was heard")?,
         }
     }
     Ok(())

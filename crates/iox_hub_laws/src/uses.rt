@@ -25,7 +25,7 @@ pub fn reads_what_was_delivered<E: Words>(
     requires has { HasValue hub.old node server Server }
     requires calls { hub.old.control.tables.calls < 2 ^ 56 }
     ensures { IfSome result (λ read. (h : HandleState) × (new : HubState)
-        × (flat_map E.words read.now ≡ (handle_of new h).message.payload)
+        × (h.port ≡ server) × (flat_map E.words read.now ≡ (handle_of new h).message.payload)
         × ((r : IsReached hub.old) → IsOneOf (handle_of new h).message
         (messages_put_on (way_of (handle_of new h)) (beats_of hub.old r)))) }
 {

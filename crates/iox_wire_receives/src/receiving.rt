@@ -159,7 +159,8 @@ impl Receiving {
     /// The access that it makes next.
     #[inline]
     pub fn asks(&self) -> Access
-        ensures { (p : Setting) → (x : Seat) → IsAimed p x self.now → result ≡ program_access p.layout (program_of p self.now.local) }
+        ensures { (p : Setting) → (x : Seat) → IsAimed p x self.now → result
+            ≡ program_access p.layout (program_of p self.now.local) }
     {
         match self.at {
             ReceiveAt::Rest | ReceiveAt::TellsNothing => Access::Local,

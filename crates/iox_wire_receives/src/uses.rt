@@ -1,5 +1,5 @@
 //! Callers, proved from the clauses alone.
-ghost use Rattle.std.specs.Prelude.{ℕ, ◌≡◌, ◌+◌, ◌<◌, ◌^◌, OnOk, true};
+ghost use Rattle.std.specs.Prelude.{ℕ, ◌≡◌, ◌+◌, ◌<◌, ◌^◌, OnOk, false, true};
 ghost use Rattle.iox_model.specs.declared.call.Call.TheVariants.{Receive};
 ghost use Rattle.iox_model.specs.Receives.{server_ways};
 ghost use Rattle.iox_model.specs.States.{Port};
@@ -32,8 +32,13 @@ pub fn response_receive_begins(
     terms: ReceiveTerms,
     sources: &[Source],
 ) -> Result<(), AllocError>
-    requires { AreWithin terms (received_length visit) sources.now }
-    ensures { (p : Setting) → (n : ℕ) → (e : Entry) → visit ≡ pending_visit e → ways_of sources.now ≡ ways_for p seat.now.seat e → AreSources p terms (received_length visit) sources.now → OnOk result (placed seat.now.seat receiving.new.local ≡ begins_at_entry p seat.now.seat (Receive n) e) }
+    requires rests { is_busy receiving.old.local ≡ false }
+    requires within { AreWithin terms (received_length visit) sources.now }
+    ensures { (p : Setting) → (n : ℕ) → (e : Entry) → visit ≡ pending_visit e
+        → ways_of sources.now ≡ ways_for p seat.now.seat e
+        → AreSources p terms (received_length visit) sources.now
+        → OnOk result (placed seat.now.seat receiving.new.local
+        ≡ begins_at_entry p seat.now.seat (Receive n) e) }
 {
     receiving.begin(seat, visit, terms, sources)
 }
@@ -46,15 +51,21 @@ pub fn request_receive_begins(
     terms: ReceiveTerms,
     sources: &[Source],
 ) -> Result<(), AllocError>
-    requires { AreWithin terms (received_length visit) sources.now }
-    ensures { (p : Setting) → (n : ℕ) → (q : Port) → visit ≡ server_visit q → ways_of sources.now ≡ server_ways (known p seat.now.seat) q → AreSources p terms (received_length visit) sources.now → OnOk result (placed seat.now.seat receiving.new.local ≡ begins_at_port p seat.now.seat (Receive n) q) }
+    requires rests { is_busy receiving.old.local ≡ false }
+    requires within { AreWithin terms (received_length visit) sources.now }
+    ensures { (p : Setting) → (n : ℕ) → (q : Port) → visit ≡ server_visit q → ways_of sources.now
+        ≡ server_ways (known p seat.now.seat) q
+        → AreSources p terms (received_length visit) sources.now
+        → OnOk result (placed seat.now.seat receiving.new.local
+        ≡ begins_at_port p seat.now.seat (Receive n) q) }
 {
     receiving.begin(seat, visit, terms, sources)
 }
 
 /// What it asks for is what its place asks for.
 pub fn asks_at_its_place(receiving: &Receiving) -> Access
-    ensures { (p : Setting) → (x : Seat) → IsAimed p x receiving.now → result ≡ program_access p.layout (program_of p receiving.now.local) }
+    ensures { (p : Setting) → (x : Seat) → IsAimed p x receiving.now → result
+        ≡ program_access p.layout (program_of p receiving.now.local) }
 {
     receiving.asks()
 }
@@ -69,7 +80,9 @@ pub fn received_by_one_step(
     requires accesses { seat.old.seat.accesses + 1 < 2 ^ 64 }
     requires may { MayReceive seat.old receiving.old.terms.number }
     requires counts { HasRoomFor seat.old.seat receiving.old.local }
-    ensures { (p : Setting) → IsAimed p seat.old.seat receiving.old → placed seat.new.seat receiving.new.local ≡ next p (placed seat.old.seat receiving.old.local) seen }
+    ensures { (p : Setting) → IsAimed p seat.old.seat receiving.old
+        → placed seat.new.seat receiving.new.local
+        ≡ next p (placed seat.old.seat receiving.old.local) seen }
 {
     receiving.go_on(seat, seen)
 }

@@ -22,7 +22,9 @@ impl Receiving {
     /// Pops again where it took what did not fit.
     pub(super) fn pop_again(&mut self)
         requires { IsOnWay self.old.local }
-        ensures local { self.new.local ≡ ReceivePops self.old.visit self.old.source.way true (Pops LoadsRead) (ways_of self.old.left) self.old.waiting }
+        ensures local { self.new.local
+            ≡ ReceivePops self.old.visit self.old.source.way true (Pops LoadsRead)
+            (ways_of self.old.left) self.old.waiting }
         ensures site { self.new.site ≡ messages_at self.old.terms self.old.source }
         ensures same { IsOnSameWay self.old self.new }
     {
@@ -35,7 +37,9 @@ impl Receiving {
     /// Gives back what it took.
     pub(super) fn give_back(&mut self)
         requires { IsOnWay self.old.local }
-        ensures local { self.new.local ≡ ReceiveReturns self.old.visit self.old.source.way self.old.slot (Pushes (LoadsWrite self.old.slot)) (ways_of self.old.left) self.old.waiting }
+        ensures local { self.new.local
+            ≡ ReceiveReturns self.old.visit self.old.source.way self.old.slot (Pushes
+            (LoadsWrite self.old.slot)) (ways_of self.old.left) self.old.waiting }
         ensures site { self.new.site ≡ returning_at self.old.terms self.old.source }
         ensures same { IsOnSameWay self.old self.new }
     {

@@ -28,7 +28,9 @@ impl Receiving {
     /// The handle of what it took.
     fn entry(&self) -> Entry
         requires { length self.now.header ≡ received_length self.now.visit }
-        ensures { result ≡ received_entry self.now.terms.number self.now.visit self.now.source.way self.now.slot self.now.header }
+        ensures { result
+            ≡ received_entry self.now.terms.number self.now.visit self.now.source.way self.now.slot
+            self.now.header }
     {
         let way = self.source.way;
         let visit = self.visit;
@@ -55,7 +57,10 @@ impl Receiving {
         requires header { length self.old.header ≡ received_length self.old.visit }
         requires may { MayReceive seat.old self.old.terms.number }
         requires below { IsBelow (2 ^ 64 - 1) self.old.source.way seat.old.seat.borrowed }
-        ensures seat { seat.new ≡ received seat.old (received_entry self.old.terms.number self.old.visit self.old.source.way self.old.slot self.old.header) self.old.source.way }
+        ensures seat { seat.new
+            ≡ received seat.old
+            (received_entry self.old.terms.number self.old.visit self.old.source.way self.old.slot
+            self.old.header) self.old.source.way }
         ensures over { self.new.local ≡ Idle }
         ensures reply { result ≡ Some (Handle self.old.terms.number) }
         ensures terms { self.new.terms ≡ self.old.terms }

@@ -23,7 +23,7 @@ impl Receiving {
     ghost use Rattle.iox_wire_receives.specs.Receipts.{reply_in};
     ghost use Rattle.iox_wire_receives.specs.Sources.{AreSources, AreWithin, ways_of};
 
-    /// Begins to receive from these ways.
+    /// Begins to receive from these ways. No receive may be under way: what it took would be lost.
     pub fn begin(
         &mut self,
         seat: &StoredSeat,
@@ -31,9 +31,13 @@ impl Receiving {
         terms: ReceiveTerms,
         sources: &[Source],
     ) -> Result<(), AllocError>
-        requires { AreWithin terms (received_length visit) sources.now }
-        ensures begun { (p : Setting) → AreSources p terms (received_length visit) sources.now → OnOk result (placed seat.now.seat self.new.local ≡ visiting p seat.now.seat visit (ways_of sources.now) false) }
-        ensures aimed { (p : Setting) → AreSources p terms (received_length visit) sources.now → KnowsTerms p seat.now.seat terms → OnOk result (IsAimed p seat.now.seat self.new) }
+        requires rests { is_busy self.old.local ≡ false }
+        requires within { AreWithin terms (received_length visit) sources.now }
+        ensures begun { (p : Setting) → AreSources p terms (received_length visit) sources.now
+            → OnOk result (placed seat.now.seat self.new.local
+            ≡ visiting p seat.now.seat visit (ways_of sources.now) false) }
+        ensures aimed { (p : Setting) → AreSources p terms (received_length visit) sources.now
+            → KnowsTerms p seat.now.seat terms → OnOk result (IsAimed p seat.now.seat self.new) }
         ensures counts { OnOk result (HasRoomFor seat.now.seat self.new.local) }
         ensures terms { OnOk result (self.new.terms ≡ terms) }
         ensures unchanged { OnErr result (self.new ≡ self.old) }
@@ -58,9 +62,19 @@ impl Receiving {
     pub(super) fn visit_next(&mut self, seat: &StoredSeat) -> Option<ReceiveReply>
         requires busy { is_busy self.old.local ≡ true }
         requires within { AreWithin self.old.terms (received_length self.old.visit) self.old.left }
-        ensures next { (p : Setting) → AreSources p self.old.terms (received_length self.old.visit) self.old.left → placed seat.now.seat self.new.local ≡ after p (visiting p seat.now.seat self.old.visit (ways_of self.old.left) self.old.waiting) }
-        ensures over { (p : Setting) → AreSources p self.old.terms (received_length self.old.visit) self.old.left → answered p (visiting p seat.now.seat self.old.visit (ways_of self.old.left) self.old.waiting) ≡ option_map reply_in result }
-        ensures aimed { (p : Setting) → AreSources p self.old.terms (received_length self.old.visit) self.old.left → KnowsTerms p seat.now.seat self.old.terms → IsAimed p seat.now.seat self.new }
+        ensures next { (p : Setting)
+            → AreSources p self.old.terms (received_length self.old.visit) self.old.left
+            → placed seat.now.seat self.new.local
+            ≡ after p (visiting p seat.now.seat self.old.visit
+            (ways_of self.old.left) self.old.waiting) }
+        ensures over { (p : Setting)
+            → AreSources p self.old.terms (received_length self.old.visit) self.old.left
+            → answered p (visiting p seat.now.seat self.old.visit
+            (ways_of self.old.left) self.old.waiting)
+            ≡ option_map reply_in result }
+        ensures aimed { (p : Setting)
+            → AreSources p self.old.terms (received_length self.old.visit) self.old.left
+            → KnowsTerms p seat.now.seat self.old.terms → IsAimed p seat.now.seat self.new }
         ensures counts { HasRoomFor seat.now.seat self.new.local }
         ensures terms { self.new.terms ≡ self.old.terms }
     {
