@@ -80,6 +80,7 @@ pub enum Reply<L, C> {
 }
 
 /// What a command of a hub is answered, with lists `L` of numbers.
+#[derive(Debug, Drop)]
 pub enum PortReply<L, C> {
     /// A client was made, with this number.
     Client(u64),
