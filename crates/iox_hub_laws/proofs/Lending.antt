@@ -1,12 +1,12 @@
 -- Loans of a hub answer what their tests and their pools say, and within limits they succeed.
-use Rattle.std.specs.Prelude.{◌≡◌, ℕ, ◌<◌, ◌^◌, Bool, true, false, not, ◌&&◌, ◌||◌, nat_le, if◌then◌else◌, Option, None, refl}
+use Rattle.std.specs.Prelude.{◌≡◌, ℕ, ◌*◌, ◌<◌, ◌^◌, Bool, true, false, not, ◌&&◌, ◌||◌, nat_le, if◌then◌else◌, Option, None, refl}
 use Rattle.std.specs.Option.{option_map_or}
 use Rattle.std.proofs.Common.{sym, ap, ap₂, subst, ◌∙◌, arith, true≢false}
 use Rattle.std.proofs.lemmas.Bool.{leb-true, le-leb}
 use Rattle.std.proofs.lemmas.Option.{same_Some}
 use Rattle.iox_model.specs.declared.kind.Kind.TheVariants as kinds
 use Rattle.iox_model.specs.declared.kind.Role.{Role}
-use Rattle.iox_model.specs.declared.kind.Role.TheVariants.{Client}
+use Rattle.iox_model.specs.declared.kind.Role.TheVariants.{Client, Server}
 use Rattle.iox_model.specs.declared.reply.Refusal.TheVariants.{CallsSpent, ExceedsMaxLoans, ExceedsMaxLoanSize, OutOfMemory, WrongLength}
 use Rattle.iox_model.specs.declared.reply.Reply.TheVariants as replies
 use Rattle.iox_model.specs.Commands.{Refusal, Reply}
@@ -20,14 +20,15 @@ use Rattle.iox_control_lending.specs.declared.asked.LoanRefusal.{LoanRefusal}
 use Rattle.iox_control_lending.specs.declared.asked.LoanRefusal.TheVariants as refusals
 use Rattle.iox_control_lending.specs.declared.asked.Lent.{Lent}
 use Rattle.iox_control_lending.specs.declared.asked.Lent.TheVariants as lents
-use Rattle.iox_tables.specs.HubLoans.Counts.{requests_on_loan}
+use Rattle.iox_tables.specs.HubLoans.Counts.{requests_on_loan, responses_on_loan, responses_to}
 use Rattle.iox_tables.specs.HubLoans.Lenders.{IsActive, IsClient, count_refusal_by, is_pool_to_be_dry, lender_of_request, lender_of_response, loan_refusal, shape_in, size_refusal}
 use Rattle.iox_tables.specs.HubLoans.Loans.{loan_call}
+use Rattle.iox_tables.specs.HubStates.Releases.{request_of}
 use Rattle.iox_tables.specs.HubStates.States.{Given, limits_of}
 use Rattle.iox_tables.specs.HubStates.Tables.{HandleState, HubTables, PortState, port_in}
 use Rattle.iox_hub.specs.Hubs.{HasValue, HubState, IsHub, given_by, state_of_hub}
 use Rattle.iox_hub.proofs.LendingNamed.{active_of_hub, client_of_hub}
-use Rattle.iox_hub_laws.specs.Loans.{AnswersOfClient, AnswersOfRequest, IsLent, IsWithinLimits, LendsWithinLimits, answer_of}
+use Rattle.iox_hub_laws.specs.Loans.{AnswersOfClient, AnswersOfRequest, IsLent, IsWithinLimits, IsWithinServersLimits, LendsWithinLimits, RespondsWithinLimits, answer_of}
 use Rattle.iox_hub_laws.specs.Shown.{nothing_given}
 use Rattle.iox_hub_laws.proofs.Loaned.{client_answers, server_answers}
 
@@ -132,5 +133,43 @@ module _ (old new : HubState) (hub : IsHub old) (node n k : ℕ) (uninit : Bool)
       (answers_of_client is p there
       ∙ ap (λ (o : Option Refusal). option_map_or replies.Refused o (if is_pool_to_be_dry y t p then replies.Refused OutOfMemory else replies.Handle t.next_number))
       (no_refusal p role within))
+      (λ e. no_call (state_of_hub hub.reached.0 old) (state_of_hub hub.reached.0 new) node (loan_call uninit n k) hub.reached.1 full
+      (subst (λ (l : Lent). IsWholeCall (state_of_hub hub.reached.0 old) node (loan_call uninit n k) (reply_of_loan l) (state_of_hub hub.reached.0 new)) e (whole hub.reached.0)))
+
+  -- ---- of a server
+
+  no_refusal_of_server : (a : HandleState) (p : PortState) → p.role ≡ Server → IsWithinServersLimits t old.response a p k
+      → loan_refusal y t (lender_of_response t a p) k ≡ None
+  no_refusal_of_server a p server within =
+      ap₂ (λ (b : Bool) (o : Option Refusal). or_else (refused_if b CallsSpent) o) (not_le t.calls (2 ^ 56) within.calls)
+      (ap₂ (λ (o q : Option Refusal). or_else o q) size count)
+    where
+      fits : (b : Bool) → (b || nat_le k p.longest) ≡ true
+      fits true = refl
+      fits false = le-leb k p.longest within.length
+
+      size : size_refusal p (shape_in y t p) k ≡ None
+      size =
+          ap (λ (role : Role). size_refusal p (shape_of (limits_of y t) role) k) server
+          ∙ ap₂ sized within.count (ap₂ (λ (b c : Bool). b && c) (fits p.grows) within.layout)
+
+      count : count_refusal_by p.role t (lender_of_response t a p) ≡ None
+      count =
+          ap (λ (role : Role). count_refusal_by role t (lender_of_response t a p)) server
+          ∙ ap₂ (λ (b c : Bool). or_else (refused_if b ExceedsMaxLoans) (refused_if c ExceedsMaxLoans))
+          (not_le (responses_to t p.number a.client (request_of t a)) p.loaned_responses within.loans_to_request)
+          (not_le (responses_on_loan t p.number) (p.loaned_responses * t.settings.active_requests * t.settings.clients) within.loans)
+
+  pub responds_within_limits : HasValue old node n kinds.ActiveRequest → RespondsWithinLimits old node n k lent
+  responds_within_limits is a named p there within full =
+      let active : IsActive t node n = active_of_hub hub old refl node n is in
+      let same : active.handle ≡ a = same_Some active.handle a (sym active.named.there ∙ named) in
+      let port : active.port ≡ p
+      = same_Some active.port p (sym active.there ∙ ap (λ (b : HandleState). port_in t.ports b.port) same ∙ there) in
+      let role : p.role ≡ Server = ap (λ (q : PortState). q.role) (sym port) ∙ active.server in
+      decided lent (is_pool_to_be_dry y t p)
+      (answers_of_request is a named p there
+      ∙ ap (λ (o : Option Refusal). option_map_or replies.Refused o (if is_pool_to_be_dry y t p then replies.Refused OutOfMemory else replies.Handle t.next_number))
+      (no_refusal_of_server a p role within))
       (λ e. no_call (state_of_hub hub.reached.0 old) (state_of_hub hub.reached.0 new) node (loan_call uninit n k) hub.reached.1 full
       (subst (λ (l : Lent). IsWholeCall (state_of_hub hub.reached.0 old) node (loan_call uninit n k) (reply_of_loan l) (state_of_hub hub.reached.0 new)) e (whole hub.reached.0)))

@@ -1,13 +1,14 @@
 -- What a loan answers.
-use Rattle.std.specs.Prelude.{◌≡◌, ℕ, ◌<◌, ◌≤◌, ◌^◌, true, if◌then◌else◌, Some, ⊤}
+use Rattle.std.specs.Prelude.{◌≡◌, ℕ, ◌*◌, ◌<◌, ◌≤◌, ◌^◌, true, if◌then◌else◌, Some, ⊤}
 use Rattle.std.specs.Option.{option_map_or}
 use Rattle.iox_model.specs.Commands.{Reply}
 use Rattle.iox_model.specs.Settings.{Shape, has_layout, is_count}
 use Rattle.iox_model.specs.declared.reply.Refusal.TheVariants.{OutOfMemory}
 use Rattle.iox_model.specs.declared.reply.Reply.TheVariants.{Handle, Refused}
 use Rattle.iox_laws.specs.RunPools.Finding.{IsUnreducedNode}
-use Rattle.iox_tables.specs.HubLoans.Counts.{requests_on_loan}
+use Rattle.iox_tables.specs.HubLoans.Counts.{requests_on_loan, responses_on_loan, responses_to}
 use Rattle.iox_tables.specs.HubLoans.Lenders.{Lender, is_pool_to_be_dry, lender_of_request, lender_of_response, loan_refusal}
+use Rattle.iox_tables.specs.HubStates.Releases.{request_of}
 use Rattle.iox_tables.specs.HubStates.States.{Given}
 use Rattle.iox_tables.specs.HubStates.Tables.{HandleState, HubTables, PortState, port_in}
 use Rattle.iox_tables.specs.HubStates.Wirings.{handle_in}
@@ -33,6 +34,20 @@ pub record IsWithinLimits (t : HubTables) (shape : Shape) (p : PortState) (k : �
   pub length : k ≤ p.longest
   pub layout : has_layout shape k ≡ true
   pub loans : requests_on_loan t p.number < t.settings.loaned_requests
+
+-- A server may lend so many elements to that active request: it has fewer loans to the request, and
+-- in all, than it may, messages of the shape may be that long, and so may those of the server.
+pub record IsWithinServersLimits (t : HubTables) (shape : Shape) (a : HandleState) (p : PortState)
+    (k : ℕ) : Type 0
+  where
+    pub calls : t.calls < 2 ^ 56
+    pub count : is_count shape k ≡ true
+    pub length : k ≤ p.longest
+    pub layout : has_layout shape k ≡ true
+    pub loans_to_request : responses_to t p.number a.client (request_of t a) < p.loaned_responses
+    pub loans :
+        responses_on_loan t p.number
+        < p.loaned_responses * t.settings.active_requests * t.settings.clients
 
 -- ---- a hub
 
@@ -68,3 +83,11 @@ abbrev pub LendsWithinLimits : HubState → ℕ → ℕ → ℕ → Lent → Typ
 LendsWithinLimits h node client k lent =
     (p : PortState) → port_in h.control.tables.ports client ≡ Some p
     → IsWithinLimits h.control.tables h.request p k → HasFullPools h node → IsLent lent
+
+-- Within its limits a server is lent so many elements to that active request, where its node has
+-- full pools.
+abbrev pub RespondsWithinLimits : HubState → ℕ → ℕ → ℕ → Lent → Type 0
+RespondsWithinLimits h node number k lent =
+    (a : HandleState) → handle_in h.control.tables.handles node number ≡ Some a
+    → (p : PortState) → port_in h.control.tables.ports a.port ≡ Some p
+    → IsWithinServersLimits h.control.tables h.response a p k → HasFullPools h node → IsLent lent

@@ -8,7 +8,8 @@ ghost use Rattle.iox_tables.specs.HubStates.States.{Given};
 ghost use Rattle.iox_control_lending.specs.Lends.{reply_of_loan};
 ghost use Rattle.iox_hub.specs.Hubs.{HasValue, state_of_hub};
 ghost use Rattle.iox_hub.specs.Lending.{HasLent, LeavesLent};
-ghost use Rattle.iox_hub_laws.specs.Loans.{AnswersOfClient, AnswersOfRequest, LendsWithinLimits};
+ghost use Rattle.iox_hub_laws.specs.Loans.{AnswersOfClient, AnswersOfRequest};
+ghost use Rattle.iox_hub_laws.specs.Loans.{LendsWithinLimits, RespondsWithinLimits};
 
 use iox_control_lending::Lent;
 use iox_hub::Hub;
@@ -40,8 +41,9 @@ pub fn lend_request<Q: Payload, QH: Words, P: Payload, PH: Words>(
 }
 
 /// Lends a response to that active request for so many elements, unfilled or each with its default.
-/// It is refused by the first test that fails, and then by the pool. The handle of the request is
-/// looked for at the hint first.
+/// It is refused by the first test that fails, and then by the pool; within its limits a server of
+/// a node with full pools is never refused. The handle of the request is looked for at the hint
+/// first.
 #[inline]
 pub fn lend_response<Q: Payload, QH: Words, P: Payload, PH: Words>(
     hub: &mut Hub<Q, QH, P, PH>,
@@ -54,6 +56,7 @@ pub fn lend_response<Q: Payload, QH: Words, P: Payload, PH: Words>(
     requires has { HasValue hub.old node number ActiveRequest }
     requires default { uninit ≡ false → IsSome hub.old.response.default }
     ensures answers { AnswersOfRequest hub.old node number elements result }
+    ensures within { RespondsWithinLimits hub.old node number elements result }
     ensures left { LeavesLent hub.old hub.old.response uninit elements result hub.new }
     ensures whole { (x : Given) → IsWholeCall (state_of_hub x hub.old) node
         (loan_call uninit number elements) (reply_of_loan result) (state_of_hub x hub.new) }

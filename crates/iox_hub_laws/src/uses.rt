@@ -1,15 +1,16 @@
 //! Callers of a hub and of its laws, proved from their clauses alone.
 ghost use Rattle.std.specs.Prelude.{◌≡◌, ◌<◌, ◌^◌, IfSome, Some, flat_map, length, true};
-ghost use Rattle.iox_model.specs.declared.kind.Kind.TheVariants.{Client, Server};
+ghost use Rattle.iox_model.specs.declared.kind.Kind.TheVariants.{ActiveRequest, Client, Server};
 ghost use Rattle.iox_model.specs.Handles.{way_of};
 ghost use Rattle.iox_laws.specs.MessageLaws.Deliveries.{messages_put_on};
 ghost use Rattle.iox_laws.specs.MessageLaws.Lists.{IsOneOf};
 ghost use Rattle.iox_tables.specs.HubStates.Tables.{HandleState, PortState, port_in};
+ghost use Rattle.iox_tables.specs.HubStates.Wirings.{handle_in};
 ghost use Rattle.iox_hub.specs.Hubs.{HasValue, HubState, IsReached};
-ghost use Rattle.iox_hub_laws.specs.Loans.{HasFullPools, IsWithinLimits};
+ghost use Rattle.iox_hub_laws.specs.Loans.{HasFullPools, IsWithinLimits, IsWithinServersLimits};
 ghost use Rattle.iox_hub_laws.specs.Shown.{beats_of, handle_of};
 
-use crate::{lend_request, receive_request};
+use crate::{lend_request, lend_response, receive_request};
 use iox_control::Received;
 use iox_control_lending::Lent;
 use iox_hub::Hub;
@@ -48,6 +49,25 @@ pub fn lends_within_limits(
     requires pools { HasFullPools hub.old node }
 {
     match lend_request(hub, node, client, elements, true) {
+        Lent::Handle(loan) => loan.number,
+        _ => unreachable!(),
+    }
+}
+
+/// Within its limits a server lends a response, where its node has full pools.
+pub fn responds_within_limits(
+    hub: &mut Hub<Many<u64>, u32, One<u64>, ()>,
+    node: u64,
+    number: u64,
+) -> u64
+    requires has { HasValue hub.old node number ActiveRequest }
+    requires within { (a : HandleState) × (p : PortState)
+        × (handle_in hub.old.control.tables.handles node number ≡ Some a)
+        × (port_in hub.old.control.tables.ports a.port ≡ Some p)
+        × IsWithinServersLimits hub.old.control.tables hub.old.response a p 1 }
+    requires pools { HasFullPools hub.old node }
+{
+    match lend_response(hub, node, number, 0, 1, true) {
         Lent::Handle(loan) => loan.number,
         _ => unreachable!(),
     }
