@@ -1,10 +1,12 @@
 //! A client and a server: requests are one number, responses are as many bytes.
+ghost use Rattle.iceoryx2_ports.specs.Hubs.{HasValue};
+ghost use Rattle.iceoryx2_ports.specs.Kind.TheVariants as kinds;
 
 use iceoryx2_ports::{
-    ActiveRequest, AllocationStrategy, BackpressureStrategy, Client, Hub, Many, MessageShape, One,
-    Part, PendingResponse, PortFactoryClient, PortFactoryServer, Server, Settings,
+    ActiveRequest, AllocationStrategy, BackpressureStrategy, Client, Hub, LoanError, Many,
+    MessageShape, One, Part, PendingResponse, PortFactoryClient, PortFactoryServer,
+    RequestSendError, SendError, Server, Settings, UniqueSystemId,
 };
-use iox_types::identifiers::UniqueSystemId;
 use std::alloc::{AllocError, Global};
 
 /// Requests of one number, responses of any number of bytes, and no user headers.
@@ -15,6 +17,8 @@ pub type Asker = Client<One<u64>, (), Many<u8>, ()>;
 pub type Answerer = Server<One<u64>, (), Many<u8>, ()>;
 
 type Pending = PendingResponse<One<u64>, (), Many<u8>, ()>;
+
+type Active = ActiveRequest<One<u64>, (), Many<u8>, ()>;
 
 /// The node that has both ports.
 const NODE: u64 = 0;
@@ -100,27 +104,23 @@ pub fn ports(alloc: Global, hub: &mut Bytes) -> Option<(Asker, Answerer)> {
 
 /// Asks for that many bytes, and tells the sum of those that come back.
 pub fn round_trip(hub: &mut Bytes, client: &Asker, server: &Answerer, number: u64) -> Option<u64> {
-    let pending = ask(hub, client, number)?;
+    if !client.exists(hub) {
+        return None;
+    }
+    let Ok(pending) = ask(hub, client, number) else {
+        return None;
+    };
     serve(hub, server);
     let sum = hear(hub, &pending);
     pending.release(hub);
     sum
 }
 
-/// Asks for that many bytes.
-fn ask(hub: &mut Bytes, client: &Asker, number: u64) -> Option<Pending> {
-    if !client.exists(hub) {
-        return None;
-    }
-    let Ok(loan) = client.loan_uninit(hub) else {
-        return None;
-    };
-    let request = loan.write_payload(hub, number);
-    if hub.calls() >= 1 << 56 {
-        request.release(hub);
-        return None;
-    }
-    request.send(hub).ok()
+/// A client asks for that many bytes.
+fn ask(hub: &mut Bytes, client: &Asker, number: u64) -> Result<Pending, RequestSendError>
+    requires { HasValue hub.old client.now.node client.now.number kinds.Client }
+{
+    client.send_copy(hub, number)
 }
 
 /// Answers the next request, and says whether it was answered.
@@ -130,7 +130,7 @@ fn serve(hub: &mut Bytes, server: &Answerer) -> bool {
     }
     match server.receive(hub) {
         Ok(Some(request)) => {
-            let answered = answer(hub, &request);
+            let answered = answer(hub, &request).is_ok();
             request.release(hub);
             answered
         }
@@ -139,30 +139,18 @@ fn serve(hub: &mut Bytes, server: &Answerer) -> bool {
     }
 }
 
-/// Answers with as many bytes as were asked for: 1, 2, 3 ..
-fn answer(hub: &mut Bytes, request: &ActiveRequest<One<u64>, (), Many<u8>, ()>) -> bool {
-    if !request.exists(hub) {
-        return false;
-    }
+/// A server answers with as many bytes as were asked for: 0, 1, 2 ..
+fn answer(hub: &mut Bytes, request: &Active) -> Result<(), SendError>
+    requires { HasValue hub.old request.now.node request.now.number kinds.ActiveRequest }
+{
     let wanted = request.payload(hub).first().copied().unwrap_or(0);
-    let all = [1, 2, 3, 4, 5, 6, 7, 8];
-    let Some(bytes) = usize::try_from(wanted).ok().and_then(|n| all.get(..n)) else {
-        return false;
-    };
-    let Ok(loan) = request.loan_slice_uninit(hub, bytes.len()) else {
-        return false;
-    };
-    match loan.write_from_slice(hub, bytes) {
-        Ok(response) if hub.calls() < 1 << 56 => response.send(hub).is_ok(),
-        Ok(response) => {
-            response.release(hub);
-            false
-        }
-        Err(loan) => {
-            loan.release(hub);
-            false
-        }
+    let loan = request.loan_slice_uninit(hub, wanted as usize)?;
+    let response = loan.write_from_fn(hub, |index| (index % 256) as u8);
+    if hub.calls() < 1 << 56 {
+        return response.send(hub);
     }
+    response.release(hub);
+    Err(SendError::from(LoanError::CallsSpent))
 }
 
 /// The sum of the bytes of the next response.
