@@ -3,6 +3,8 @@
 
     tools/crate_list.py            writes it
     tools/crate_list.py --check    says whether it is as it would be written; exit 1 if not
+    tools/crate_list.py --below NAME
+                                   prints the lines of crates.txt of that crate and of all that it stands on
 
 In crates.txt a comment line above a group of crates is the group's title. A crate's sentence is the first one of the
 `//!` lines of its src/lib.rt or src/main.rt. A crate of laws has a line for each of its modules. A library of the toolchain is named as crates.txt names it.
@@ -90,7 +92,26 @@ def unnamed():
                 yield f"{name}: {it}"
 
 
+def below(name):
+    """The crates that a crate stands on, and itself, as pairs, lowest first."""
+    crates = [crate for _, found in groups() for crate in found]
+    stands_on = dict(crates)
+    if name not in stands_on:
+        sys.exit(f"crate_list: crates.txt has no {name}")
+    found, left = set(), [name]
+    while left:
+        it = left.pop()
+        if it in stands_on and it not in found:
+            found.add(it)
+            left += stands_on[it]
+    return [crate for crate in crates if crate[0] in found]
+
+
 def main():
+    if len(sys.argv) == 3 and sys.argv[1] == "--below":
+        for name, libraries in below(sys.argv[2]):
+            print(f"{name}: {' '.join(libraries)}".strip())
+        return
     page = PAGE.read_text()
     if page.count(BEGIN) != 1 or page.count(END) != 1:
         sys.exit(f"crate_list: {PAGE.name} lacks its two marks")
