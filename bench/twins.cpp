@@ -93,13 +93,9 @@ uint64_t twin_boost_fixed_spsc_queue(uint64_t rounds) {
     return boost_push_and_pop(FixedBoost(), rounds);
 }
 uint64_t twin_ring(uint64_t rounds) { return push_and_pop(Ring(128), rounds); }
-uint64_t twin_ring_empty(uint64_t rounds) { return push_and_pop(Ring(128), rounds, 0); }
-uint64_t twin_ring_last_cell(uint64_t rounds) { return push_and_pop(Ring(128), rounds, 127); }
-uint64_t twin_boost_empty(uint64_t rounds) {
-    return boost_push_and_pop(boost::lockfree::spsc_queue<uint64_t>(128), rounds, 0);
-}
-uint64_t twin_boost_last_cell(uint64_t rounds) {
-    return boost_push_and_pop(boost::lockfree::spsc_queue<uint64_t>(128), rounds, 127);
+uint64_t twin_ring_waiting(uint64_t waiting, uint64_t rounds) { return push_and_pop(Ring(128), rounds, waiting); }
+uint64_t twin_boost_waiting(uint64_t waiting, uint64_t rounds) {
+    return boost_push_and_pop(boost::lockfree::spsc_queue<uint64_t>(128), rounds, waiting);
 }
 uint64_t twin_positions(uint64_t rounds) { return push_and_pop(Positions(128), rounds); }
 uint64_t twin_any_ring(uint64_t capacity, uint64_t rounds) { return push_and_pop(Ring(capacity), rounds, capacity / 2); }
@@ -111,8 +107,9 @@ uint64_t twin_any_boost(uint64_t capacity, uint64_t rounds) {
 }
 uint64_t twin_optional_ring(uint64_t rounds) { return push_and_pop(RingOf<std::optional<uint64_t>>(128), rounds); }
 uint64_t twin_overflowing_ring(uint64_t rounds) { return push_and_pop(Overflowing(128), rounds); }
-uint64_t twin_overflowing_ring_empty(uint64_t rounds) { return push_and_pop(Overflowing(128), rounds, 0); }
-uint64_t twin_overflowing_ring_last_cell(uint64_t rounds) { return push_and_pop(Overflowing(128), rounds, 127); }
+uint64_t twin_overflowing_ring_waiting(uint64_t waiting, uint64_t rounds) {
+    return push_and_pop(Overflowing(128), rounds, waiting);
+}
 uint64_t twin_overflowing_ring_full(uint64_t rounds) { return push_over(Overflowing(128), rounds); }
 uint64_t twin_sofi(uint64_t rounds) { return push_and_pop(SoFi(128), rounds); }
 uint64_t twin_sofi_full(uint64_t rounds) { return push_over(SoFi(128), rounds); }
@@ -156,21 +153,6 @@ uint64_t twin_stack_window(uint64_t rounds) {
             next = index;
         }
         place = next;
-    }
-    return sum;
-}
-uint64_t twin_stack_pair(uint64_t rounds) {
-    Stack set(128);
-    for (int i = 0; i < 64; ++i) set.acquire();
-    uint64_t sum = 0;
-    for (uint64_t round = 0; round < rounds; ++round) {
-        auto first = set.acquire();
-        if (!first) return 0;
-        auto second = set.acquire();
-        if (!second) return 0;
-        sum += *first;
-        set.release(*first);
-        set.release(*second);
     }
     return sum;
 }
