@@ -8,7 +8,7 @@ use Rattle.std.proofs.lemmas.List.Quantifiers.{position-Some}
 use Rattle.iox_wire_locals.specs.declared.table.Entry.{Entry}
 use Rattle.iox_wire_locals.specs.declared.table.Desk.{Desk}
 use Rattle.iox_wire_locals.specs.Desks.{on_desk}
-use Rattle.iox_wire_seats.specs.Desks.{AreOfOtherPorts, AreOfDifferentPorts, IsHeldAt, MayGiveUp, MayCount, free_at}
+use Rattle.iox_wire_seats.specs.Desks.{AreOfOtherPorts, AreOfDifferentPorts, IsHeldAt, MayGiveUp, MayCount, AtDesk, free_at}
 use Rattle.iox_wire_seats.proofs.CountLemmas.{some-none}
 
 -- ---- where no desk is of the port
@@ -104,6 +104,20 @@ pub count_there : (n : ℕ) (ds : List Desk) (i : ℕ) (d : Desk) → MayCount n
 count_there n ds i d may at read =
     let facts = position-Some (λ (x : Desk). x.port == n) ds i d (sym at) in
     subst (λ (x : Desk). x.loans + 1 < 2 ^ 64) (sym read) (count_at n ds i d may facts.0 facts.1)
+
+-- ---- what is so at the desk of the port
+
+so_at : (P : Desk → Type 0) (n : ℕ) (ds : List Desk) (i : ℕ) (e : Desk) → AtDesk P n ds → i < length ds
+    → ((get_or ds i e).port == n) ≡ true → P (get_or ds i e)
+so_at P n [] i e so h is = absurd (omega (arith, h))
+so_at P n (d ∷ ds) zero e so h is = so.0 is
+so_at P n (d ∷ ds) (suc i) e so h is = so_at P n ds i e so.1 (omega (arith, h)) is
+
+pub so_there : (P : Desk → Type 0) (n : ℕ) (ds : List Desk) (i : ℕ) (d : Desk) → AtDesk P n ds
+    → Some i ≡ position (λ x. x.port == n) ds → d ≡ get_or ds i d → P d
+so_there P n ds i d so at read =
+    let facts = position-Some (λ (x : Desk). x.port == n) ds i d (sym at) in
+    subst P (sym read) (so_at P n ds i d so facts.0 facts.1)
 
 -- ---- the free slots of a port
 

@@ -5,3 +5,4 @@ pub mod SlotLemmas
 pub mod PickLemmas
 pub mod BeginLemmas
 pub mod DeskLemmas
+pub mod RecordLemmas

@@ -4,6 +4,8 @@ use Rattle.iox_model.specs.declared.kind.Kind.TheVariants.{ActiveRequest}
 use Rattle.iox_model.specs.Handles.{is_received, same_kind}
 use Rattle.iox_model.specs.Messages.{names, names_with_hint}
 use Rattle.iox_model.specs.declared.way.RequestState.{RequestState}
+use Rattle.iox_steps.specs.declared.side.Pushing.{Pushing}
+use Rattle.iox_steps.specs.declared.side.Pushing.TheVariants as pushing
 use Rattle.iox_steps.specs.declared.side.QueueEvent.{QueueEvent}
 use Rattle.iox_steps.specs.declared.side.QueueEvent.TheVariants.{Publish}
 use Rattle.iox_steps.specs.declared.site.QueueKind.{QueueKind}
@@ -214,6 +216,11 @@ IsSeeking local = ⊥
 abbrev pub IsReading : Local → Type 0
 IsReading (Reads e words) = Unit {0}
 IsReading local = ⊥
+
+-- whether a party is in no program
+abbrev pub is_at_rest : Pushing → Bool
+is_at_rest pushing.AtRest = true
+is_at_rest party = false
 
 -- a value joined those that wait
 abbrev pub is_publish : QueueEvent → Bool

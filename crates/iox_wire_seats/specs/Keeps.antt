@@ -1,8 +1,8 @@
 -- What a call that is kept beside the seat leaves there.
-use Rattle.std.specs.Prelude.{◌+◌, ◌-◌}
+use Rattle.std.specs.Prelude.{◌+◌, ◌-◌, ℕ}
 use Rattle.iox_model.specs.declared.way.Way.{Way}
 use Rattle.iox_wire_locals.specs.declared.table.Entry.{Entry}
-use Rattle.iox_wire_locals.specs.Desks.{at_count}
+use Rattle.iox_wire_locals.specs.Desks.{at_count, at_desk, delivers, gets_back}
 use Rattle.iox_wire_locals.specs.Settlements.{gains}
 use Rattle.iox_wire_locals.specs.Steps.{accessed}
 use Rattle.iox_wire_seats.specs.Seats.{Placed}
@@ -14,3 +14,11 @@ counted x = record x { seat = accessed x.seat }
 -- there is one handle more, of a message that came on that way
 abbrev pub received : Placed → Entry → Way → Placed
 received x e w = record x { seat = at_count (gains x.seat e) w (λ n. n + 1); room = x.room - 1 }
+
+-- the message of a slot of that port was delivered on the way
+abbrev pub delivered : Placed → ℕ → Way → ℕ → Placed
+delivered x port w slot = record x { seat = at_desk x.seat port (delivers w slot) }
+
+-- it was got back from there
+abbrev pub got_back : Placed → ℕ → Way → ℕ → Placed
+got_back x port w slot = record x { seat = at_desk x.seat port (gets_back w slot) }

@@ -2,8 +2,9 @@
 pub mod Rows
 -- how many messages of each way it has
 pub mod Counts
--- a desk, and those of a node
+-- a desk, what it records on its ways, and the desks of a node
 pub mod Slots
+pub mod Records
 pub mod Desks
 -- a seat, and the places that it knows of
 pub mod Seats

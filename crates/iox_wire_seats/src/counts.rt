@@ -95,7 +95,7 @@ impl Counts {
 
 /// Whether two ways are the same.
 #[inline]
-fn is_same_way(way: Way, other: Way) -> bool
+pub(crate) fn is_same_way(way: Way, other: Way) -> bool
     ensures { result ≡ same_way way other }
 {
     way.sender == other.sender && way.receiver == other.receiver && way.lane == other.lane

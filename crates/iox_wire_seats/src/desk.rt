@@ -7,31 +7,17 @@ ghost use Rattle.iox_model.specs.Handles.{is_request_loan, same_kind};
 ghost use Rattle.iox_wire_locals.specs.Desks.{counts_loan, gives_up, uses_less, uses_more};
 ghost use Rattle.iox_wire_seats.specs.Slots.{new_desk};
 
+mod deliver;
 mod lend;
 
+use crate::records::Records;
 use iox_model::kind::Kind;
-use iox_model::way::Way;
 use iox_wire_locals::Entry;
 use std::alloc::{AllocError, Global};
 use std::collections::VecDeque;
 use std::marker::Model;
 
-/// The slots whose messages a port delivered on a way and did not get back.
-#[derive(Drop)]
-pub struct StoredRecorded {
-    way: Way,
-    slots: Vec<u64>,
-}
-
-impl Model for StoredRecorded {
-    ghost use Rattle.iox_wire_locals.specs.declared.table.Recorded.{Recorded};
-
-    ghost Value = { Recorded };
-
-    ghost view = { λ r. record { way = r.way; slots = r.slots.items } };
-}
-
-/// What a node keeps of one of its ports. It takes memory when it is made, and never again.
+/// What a node keeps of one of its ports. Only `new` and `add_way` take memory.
 #[derive(Drop)]
 pub struct StoredDesk {
     port: u64,
@@ -40,13 +26,15 @@ pub struct StoredDesk {
     uses: Vec<u64>,
     free: VecDeque<u64>,
     free_lanes: VecDeque<u64>,
-    recorded: Vec<StoredRecorded>,
+    recorded: Records,
 }
 
 impl Model for StoredDesk {
+    ghost use Rattle.std.specs.Prelude.{length};
     ghost use Rattle.std.specs.VecDeque.{deque_capacity};
     ghost use Rattle.iox_wire_locals.specs.declared.table.Desk.{Desk};
     ghost use Rattle.iox_wire_seats.specs.Slots.{AreFreeSlots, HasRoomFor, HasSerials, MayBePicked};
+    ghost use Rattle.iox_wire_seats.specs.Records.{HaveRoomFor, recorded_in};
 
     ghost Value = { Desk };
 
@@ -57,11 +45,12 @@ impl Model for StoredDesk {
       uses = d.uses.items;
       free = d.free.items;
       free_lanes = d.free_lanes.items;
-      recorded = d.recorded.items;
+      recorded = recorded_in d.recorded;
     } };
 
     ghost invariant = { λ d. AreFreeSlots d.uses.items d.free.items (deque_capacity d.free) × HasRoomFor d.uses.items (deque_capacity d.free_lanes)
-        × MayBePicked d.uses.items d.free.items × HasSerials d.serials.items d.uses.items };
+        × MayBePicked d.uses.items d.free.items × HasSerials d.serials.items d.uses.items
+        × HaveRoomFor (length d.uses.items) d.recorded };
 }
 
 impl StoredDesk {
@@ -82,7 +71,7 @@ impl StoredDesk {
             uses: zeros(alloc, pool)?,
             free: numbers(alloc, pool, pool)?,
             free_lanes: numbers(alloc, lanes, pool)?,
-            recorded: Vec::new(alloc),
+            recorded: Records::new(alloc),
         })
     }
 

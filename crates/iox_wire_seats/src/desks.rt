@@ -4,6 +4,7 @@ ghost use Rattle.iox_wire_locals.specs.Desks.{counts_loan, gives_up, on_desk, pi
 ghost use Rattle.iox_wire_seats.specs.Desks.{AreOfDifferentPorts, MayGiveUp};
 
 use crate::desk::StoredDesk;
+use iox_model::way::Way;
 use iox_wire_locals::Entry;
 use std::marker::Model;
 
@@ -28,8 +29,9 @@ impl Model for Desks {
 impl Desks {
     ghost use Rattle.std.specs.Prelude.{◌≡◌, ◌∷◌, [], IfSome, None, drop, map};
     ghost use Rattle.iox_wire_locals.specs.declared.table.NewLoan.{NewLoan};
-    ghost use Rattle.iox_wire_locals.specs.Desks.{counts_loan, gives_up, on_desk, picks};
-    ghost use Rattle.iox_wire_seats.specs.Desks.{MayCount, MayGiveUp, free_at};
+    ghost use Rattle.iox_wire_locals.specs.Desks.{counts_loan, delivers, gets_back, gives_up};
+    ghost use Rattle.iox_wire_locals.specs.Desks.{on_desk, picks, uses_less};
+    ghost use Rattle.iox_wire_seats.specs.Desks.{IsUsed, MayCount, MayDeliver, MayGiveUp, free_at};
 
     /// The desks of these ports, no two of which are the same.
     pub fn new(desks: Vec<StoredDesk>) -> Desks
@@ -64,6 +66,36 @@ impl Desks {
     {
         if let Some(place) = self.place(port) {
             self.desks[place].count_loan();
+        }
+    }
+
+    /// The message of a slot was delivered on a way.
+    pub fn deliver(&mut self, port: u64, way: Way, slot: u64)
+        requires { MayDeliver port way slot self.old }
+        ensures { self.new ≡ map (on_desk port (delivers way slot)) self.old }
+    {
+        if let Some(place) = self.place(port) {
+            self.desks[place].deliver(way, slot);
+        }
+    }
+
+    /// It was got back from there.
+    pub fn get_back(&mut self, port: u64, way: Way, slot: u64)
+        requires { IsUsed port slot self.old }
+        ensures { self.new ≡ map (on_desk port (gets_back way slot)) self.old }
+    {
+        if let Some(place) = self.place(port) {
+            self.desks[place].get_back(way, slot);
+        }
+    }
+
+    /// A slot of a port has one use less.
+    pub fn use_less(&mut self, port: u64, slot: u64)
+        requires { IsUsed port slot self.old }
+        ensures { self.new ≡ map (on_desk port (uses_less slot)) self.old }
+    {
+        if let Some(place) = self.place(port) {
+            self.desks[place].use_less(slot as usize);
         }
     }
 

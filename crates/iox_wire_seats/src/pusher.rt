@@ -50,6 +50,7 @@ impl Pusher {
     ghost use Rattle.iox_steps.specs.declared.push.FullLook.TheVariants as full_look;
     ghost use Rattle.iox_steps.specs.Sites.{size};
     ghost use Rattle.iox_steps.specs.Sides.{pushing_access, pushing_after, pushing_event};
+    ghost use Rattle.iox_wire_seats.specs.Aims.{is_at_rest};
     ghost use Rattle.iox_wire_seats.specs.Places.{IsComparing, IsPushingOut};
 
     /// A party at rest.
@@ -81,6 +82,14 @@ impl Pusher {
         ensures { self.new ≡ Looks full_look.LoadsWrite }
     {
         self.at = PushAt::LookLoadsWrite;
+    }
+
+    /// Whether it is in no program.
+    #[inline]
+    pub fn is_at_rest(&self) -> bool
+        ensures { result ≡ is_at_rest self.now }
+    {
+        matches!(self.at, PushAt::Rest)
     }
 
     /// The access that it makes next.

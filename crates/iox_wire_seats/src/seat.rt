@@ -8,6 +8,7 @@ mod keep;
 mod read;
 mod release;
 mod seek;
+mod send;
 mod tell;
 mod write;
 
@@ -23,6 +24,7 @@ use iox_model::kind::Kind;
 use iox_model::way::Way;
 use iox_steps::{Access, QueueKind, Site};
 use iox_wire_locals::{CallRefusal, Entry};
+pub use release::is_named;
 use std::alloc::{AllocError, Global};
 use std::marker::Model;
 

@@ -13,7 +13,7 @@ ghost use Rattle.iox_word_places.specs.declared.way_index.WayIndex.TheVariants.{
 ghost use Rattle.iox_word_places.specs.Plans.{IsWayAt, way_at};
 ghost use Rattle.iox_wire_locals.specs.Desks.{counts_loan, on_desk};
 ghost use Rattle.iox_wire_seats.specs.Aims.{IsAimed};
-ghost use Rattle.iox_wire_seats.specs.Desks.{MayCount, free_at};
+ghost use Rattle.iox_wire_seats.specs.Desks.{MayCount, MayDeliverAt, free_at};
 ghost use Rattle.iox_wire_seats.specs.Seats.{Agrees};
 
 use crate::at::SeatReply;
@@ -63,6 +63,36 @@ pub fn other_use_keeps(desk: &mut StoredDesk, slot: usize)
     ensures { desk.new.free ≡ desk.old.free }
 {
     desk.use_less(slot);
+}
+
+/// On a new way nothing is outstanding.
+pub fn desk_of_one_way(
+    alloc: Global,
+    port: u64,
+    pool: usize,
+    way: Way,
+) -> Result<StoredDesk, AllocError>
+    ensures { IfOk result (λ desk. desk.recorded ≡ record { way = way; slots = [] } ∷ []) }
+{
+    let mut desk = StoredDesk::new(alloc, port, pool, 0)?;
+    desk.add_way(alloc, way)?;
+    Ok(desk)
+}
+
+/// A slot whose last use was on a way is free once it is got back.
+pub fn last_get_back_frees(desk: &mut StoredDesk, way: Way, slot: u64)
+    requires { slice_index desk.old.uses slot ≡ 1 }
+    ensures { desk.new.free ≡ desk.old.free ++ slot ∷ [] }
+{
+    desk.get_back(way, slot);
+}
+
+/// A slot that is delivered does not become free.
+pub fn delivery_keeps_free_slots(desk: &mut StoredDesk, way: Way, slot: u64)
+    requires { MayDeliverAt way slot desk.old }
+    ensures { desk.new.free ≡ desk.old.free }
+{
+    desk.deliver(way, slot);
 }
 
 /// A push begins with a look at the write position.

@@ -153,7 +153,7 @@ fn site_back(map: &WordMap, way: WayIndex) -> Site
 
 /// Whether a request state, as its word tells it, names that request.
 #[inline]
-pub(super) fn is_named(word: u64, request: u64) -> bool
+pub fn is_named(word: u64, request: u64) -> bool
     ensures { result ≡ names (state_told word) request }
 {
     let hinted = (1 << 63) + 1;

@@ -3,6 +3,7 @@ use Rattle.std.specs.VecDeque.{deque_capacity}
 use Rattle.std.proofs.lemmas.List.{length-set}
 use Rattle.iox_wire_seats.specs.Slots.{AreFreeSlots, HasRoomFor, MayBePicked}
 use Rattle.iox_wire_seats.proofs.PickLemmas.{fewer_free, kept_if_picked}
+use Rattle.iox_wire_seats.specs.Records.{HaveRoomFor}
 use Rattle.iox_wire_seats.proofs.desk.StoredDesk.pick.Goals as goal
 
 pub invariant_of-self : goal.invariant_of-self
@@ -20,4 +21,5 @@ invariant_of-self c =
       subst (HasRoomFor (slice_set c.self.inside.uses.items c.in-Some.slot 1)) (sym c.remove_number.ensures.capacity) (omega (arith, same, c.self.invariant.1)),
       kept_if_picked _ _ c.in-Some.slot may,
       serials ∙ c.self.invariant.3 ∙ sym same,
+      subst (λ (n : ℕ). HaveRoomFor n c.self.inside.recorded) (sym same) c.self.invariant.4,
     )
