@@ -1,0 +1,18 @@
+//! What the send of a response is told of the wire.
+use iox_steps::Site;
+
+/// What the send of a response is told of its way, and of its client.
+#[derive(Clone, Copy)]
+pub struct ResponseTerms {
+    /// The queues in which messages wait for the client, and in which they return.
+    pub messages: Site,
+    pub returning: Site,
+    /// Where the request state stands.
+    pub state: usize,
+    /// Whether a full queue gives up its oldest message.
+    pub overflow: bool,
+    /// Whether the send fails where the client is full.
+    pub fails: bool,
+    /// The client's node.
+    pub node: u64,
+}
