@@ -6,3 +6,4 @@ pub mod PickLemmas
 pub mod BeginLemmas
 pub mod DeskLemmas
 pub mod RecordLemmas
+pub mod LendLemmas

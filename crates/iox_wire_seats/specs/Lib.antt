@@ -11,5 +11,6 @@ pub mod Seats
 pub mod Aims
 -- what a call leaves there that is kept beside the seat
 pub mod Keeps
+pub mod Lends
 -- for proofs of this crate alone: where a party of a queue is
 pub mod Places

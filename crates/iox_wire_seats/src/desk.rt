@@ -9,6 +9,7 @@ ghost use Rattle.iox_wire_seats.specs.Slots.{new_desk};
 
 mod deliver;
 mod lend;
+mod loans;
 
 use crate::records::Records;
 use iox_model::kind::Kind;

@@ -3,6 +3,8 @@ ghost use Rattle.std.specs.Prelude.{◌≡◌, ◌==◌, ◌<◌, IfSome, length
 ghost use Rattle.iox_wire_locals.specs.Desks.{counts_loan, gives_up, on_desk, picks};
 ghost use Rattle.iox_wire_seats.specs.Desks.{AreOfDifferentPorts, MayGiveUp};
 
+mod lend;
+
 use crate::desk::StoredDesk;
 use iox_model::way::Way;
 use iox_wire_locals::Entry;

@@ -3,6 +3,8 @@ ghost use Rattle.std.specs.Prelude.{◌≡◌, ◌+◌, ◌-◌, ◌<◌, ◌++�
 ghost use Rattle.iox_wire_locals.specs.Tables.{entry_at, with_entry, without_entry};
 ghost use Rattle.iox_wire_seats.specs.Rows.{AreBelow, IsAscending, IsLowerBound, IsMissing, IsOnlyAt};
 
+mod all;
+
 use iox_wire_locals::Entry;
 use std::alloc::{AllocError, Global};
 use std::marker::Model;

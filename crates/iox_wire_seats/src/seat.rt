@@ -5,6 +5,7 @@ mod ask;
 mod close;
 mod hint;
 mod keep;
+mod lend;
 mod read;
 mod release;
 mod seek;
