@@ -1,0 +1,4 @@
+pub mod RefusalLemmas
+pub mod LoanLemmas
+pub mod EmptyLemmas
+pub mod BeginLemmas

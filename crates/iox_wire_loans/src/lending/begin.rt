@@ -1,0 +1,209 @@
+//! How a loan begins.
+ghost use Rattle.std.specs.Prelude.{◌≡◌, ◌+◌, ◌≤◌, vec_capacity};
+ghost use Rattle.iox_wire_loans.specs.Lenders.{IsWhole};
+ghost use Rattle.iox_wire_loans.specs.Orders.{words_of};
+
+use super::Lending;
+use crate::at::LendAt;
+use crate::lender::Lender;
+use crate::order::Order;
+use iox_model::kind::{Kind, Role};
+use iox_wire_locals::{CallRefusal, Entry};
+use iox_wire_seats::{Stop, StoredSeat};
+use std::alloc::AllocError;
+
+impl Lending {
+    ghost use Rattle.std.specs.Prelude.{◌≡◌, [], OnErr, OnOk, false};
+    ghost use Rattle.iox_model.specs.Loans.{request_ways, response_ways};
+    ghost use Rattle.iox_steps.specs.declared.site.QueueKind.TheVariants.{Index};
+    ghost use Rattle.iox_wire_locals.specs.Begins.{is_busy};
+    ghost use Rattle.iox_wire_locals.specs.Courses.{loaning, placed};
+    ghost use Rattle.iox_wire_locals.specs.Known.{known};
+    ghost use Rattle.iox_wire_locals.specs.Lendings.{lends_request, lends_response, next_handle};
+    ghost use Rattle.iox_wire_locals.specs.NewLoans.{loan_words};
+    ghost use Rattle.iox_wire_locals.specs.Tables.{Setting};
+    ghost use Rattle.iox_wire_locals.specs.declared.local.Ending.TheVariants.{Refuses};
+    ghost use Rattle.iox_wire_locals.specs.declared.local.Local.TheVariants.{Ends};
+    ghost use Rattle.iox_wire_seats.specs.Aims.{QueuesInMemory};
+    ghost use Rattle.iox_wire_seats.specs.Seats.{ways_of};
+    ghost use Rattle.iox_wire_loans.specs.Aims.{IsAimed, IsOrdered, LeavesSeat, TellsOfSlot};
+    ghost use Rattle.iox_wire_loans.specs.Lenders.{AreReturning, AreSlots, IsClient, IsLender};
+    ghost use Rattle.iox_wire_loans.specs.Lenders.{IsServer};
+    ghost use Rattle.iox_wire_loans.specs.Orders.{loan_of};
+
+    /// Begins the loan of a request by a client, which gets back on these ways first. What was
+    /// under way would be lost.
+    pub fn lend_request(
+        &mut self,
+        seat: &mut StoredSeat,
+        lender: &Lender,
+        number: u64,
+        elements: u64,
+        stops: &[Stop],
+    ) -> Result<(), AllocError>
+        requires rests { is_busy self.old.local ≡ false }
+        requires seat { is_busy seat.old.seat.local ≡ false }
+        requires whole { IsWhole lender.now }
+        requires within { QueuesInMemory Index lender.now.room stops.now }
+        ensures begun { (p : Setting) → IsLender p lender.now → IsClient p lender.now
+            → number ≡ next_handle p seat.old.seat
+            → ways_of stops.now
+            ≡ request_ways (known p seat.old.seat) (p.port lender.now.port).node lender.now.port
+            → OnOk result (placed seat.new.seat self.new.local
+            ≡ lends_request p seat.old.seat (p.port lender.now.port) elements [] false) }
+        ensures aimed { (p : Setting) → IsLender p lender.now → IsClient p lender.now
+            → number ≡ next_handle p seat.old.seat → AreReturning p lender.now.room stops.now
+            → TellsOfSlot self.new.places self.new.local
+            → OnOk result (IsAimed p seat.new.seat self.new) }
+        ensures ordered { OnOk result (IsOrdered self.new number lender.now.port) }
+        ensures leaves { LeavesSeat seat.old seat.new }
+        ensures unchanged { OnErr result (self.new ≡ self.old) }
+        ensures seat_unchanged { OnErr result (seat.new ≡ seat.old) }
+    {
+        let port = lender.port;
+        let loans = seat.loans(port);
+        let order = Order {
+            number,
+            kind: Kind::RequestMut,
+            port,
+            client: port,
+            lane: seat.first_lane(port, lender.pool),
+            request: loans % (1 << 62),
+            serial: loans,
+            elements,
+        };
+        match lender.request_refusal(seat, elements) {
+            Some(refusal) => {
+                self.refuse(order, refusal);
+                Ok(())
+            }
+            None => self.begin(seat, lender, order, stops),
+        }
+    }
+
+    /// Begins the loan of a response by a server to a request that it received, which gets back on
+    /// these ways first. What was under way would be lost.
+    pub fn lend_response(
+        &mut self,
+        seat: &mut StoredSeat,
+        lender: &Lender,
+        request: Entry,
+        number: u64,
+        elements: u64,
+        stops: &[Stop],
+    ) -> Result<(), AllocError>
+        requires rests { is_busy self.old.local ≡ false }
+        requires seat { is_busy seat.old.seat.local ≡ false }
+        requires whole { IsWhole lender.now }
+        requires within { QueuesInMemory Index lender.now.room stops.now }
+        ensures begun { (p : Setting) → IsLender p lender.now → IsServer p lender.now
+            → request.port ≡ lender.now.port → number ≡ next_handle p seat.old.seat
+            → ways_of stops.now
+            ≡ response_ways (known p seat.old.seat) (p.port lender.now.port).node lender.now.port
+            → OnOk result (placed seat.new.seat self.new.local
+            ≡ lends_response p seat.old.seat request elements [] false) }
+        ensures aimed { (p : Setting) → IsLender p lender.now → IsServer p lender.now
+            → number ≡ next_handle p seat.old.seat → AreReturning p lender.now.room stops.now
+            → TellsOfSlot self.new.places self.new.local
+            → OnOk result (IsAimed p seat.new.seat self.new) }
+        ensures ordered { OnOk result (IsOrdered self.new number lender.now.port) }
+        ensures leaves { LeavesSeat seat.old seat.new }
+        ensures unchanged { OnErr result (self.new ≡ self.old) }
+        ensures seat_unchanged { OnErr result (seat.new ≡ seat.old) }
+    {
+        let port = lender.port;
+        let order = Order {
+            number,
+            kind: Kind::ResponseMut,
+            port,
+            client: request.client,
+            lane: request.lane,
+            request: request.request,
+            serial: seat.loans(port),
+            elements,
+        };
+        match lender.response_refusal(seat, request, elements) {
+            Some(refusal) => {
+                self.refuse(order, refusal);
+                Ok(())
+            }
+            None => self.begin(seat, lender, order, stops),
+        }
+    }
+
+    /// Begins a loan that is refused.
+    fn refuse(&mut self, order: Order, refusal: CallRefusal)
+        ensures local { self.new.local ≡ Ends (Refuses refusal) }
+        ensures order { self.new.order ≡ order }
+    {
+        self.order = order;
+        self.refusal = refusal;
+        self.at = LendAt::Refuses;
+    }
+
+    /// Begins a loan that is not refused by the node's own tables.
+    fn begin(
+        &mut self,
+        seat: &mut StoredSeat,
+        lender: &Lender,
+        order: Order,
+        stops: &[Stop],
+    ) -> Result<(), AllocError>
+        requires rests { is_busy self.old.local ≡ false }
+        requires seat { is_busy seat.old.seat.local ≡ false }
+        requires whole { IsWhole lender.now }
+        requires within { QueuesInMemory Index lender.now.room stops.now }
+        ensures begun { (p : Setting) → OnOk result (placed seat.new.seat self.new.local
+            ≡ loaning seat.old.seat (loan_of order) (ways_of stops.now)) }
+        ensures aimed { (p : Setting) → order.number ≡ next_handle p seat.old.seat
+            → words_of lender.now.role lender.now.ids.items lender.now.user.items order
+            ≡ loan_words p (loan_of order)
+            → AreSlots p order.port lender.now.places
+            → AreReturning p lender.now.room stops.now
+            → TellsOfSlot self.new.places self.new.local
+            → OnOk result (IsAimed p seat.new.seat self.new) }
+        ensures ordered { OnOk result (self.new.order ≡ order) }
+        ensures leaves { LeavesSeat seat.old seat.new }
+        ensures unchanged { OnErr result (self.new ≡ self.old) }
+        ensures seat_unchanged { OnErr result (seat.new ≡ seat.old) }
+    {
+        let count = lender.places.header + lender.places.user;
+        if self.words.capacity() < count {
+            self.words.reserve(count)?;
+        }
+        self.left.fill(stops)?;
+        fill_words(&mut self.words, lender, order);
+        self.order = order;
+        self.room = lender.room;
+        self.places = lender.places;
+        self.at = LendAt::Refuses;
+        self.refusal = CallRefusal::OutOfMemory;
+        if stops.len() == 0 {
+            self.take_slot(seat);
+        } else {
+            self.empty_next(seat);
+        }
+        Ok(())
+    }
+}
+
+/// Stores the words of a loan's message, in their order.
+fn fill_words(words: &mut Vec<u64>, lender: &Lender, order: Order)
+    requires whole { IsWhole lender.now }
+    requires room { lender.now.places.header + lender.now.places.user ≤ vec_capacity words.old }
+    ensures { words.new.items
+        ≡ words_of lender.now.role lender.now.ids.items lender.now.user.items order }
+{
+    words.clear();
+    if words.extend_from_slice(&lender.ids).is_err() {
+        unreachable!();
+    }
+    if let Role::Client = lender.role {
+        words.push_reserved(order.lane);
+    }
+    words.push_reserved(order.request);
+    words.push_reserved(order.elements);
+    if words.extend_from_slice(&lender.user).is_err() {
+        unreachable!();
+    }
+}

@@ -1,0 +1,43 @@
+//! What a loan in the making will be.
+ghost use Rattle.std.specs.Prelude.{◌≡◌};
+
+use iox_model::kind::Kind;
+use iox_wire_locals::Entry;
+
+/// What the handle and the message of a loan will say. Its payload is written later.
+#[derive(Clone, Copy)]
+pub struct Order {
+    pub number: u64,
+    pub kind: Kind,
+    pub port: u64,
+    pub client: u64,
+    pub lane: u64,
+    pub request: u64,
+    pub serial: u64,
+    pub elements: u64,
+}
+
+impl Order {
+    ghost use Rattle.std.specs.Prelude.{◌≡◌};
+    ghost use Rattle.iox_wire_locals.specs.NewLoans.{entry_in};
+    ghost use Rattle.iox_wire_loans.specs.Orders.{loan_of};
+
+    /// Its handle, once it has a slot.
+    #[inline]
+    pub fn entry(self, slot: u64) -> Entry
+        ensures { result ≡ entry_in (loan_of self) slot }
+    {
+        Entry {
+            number: self.number,
+            kind: self.kind,
+            port: self.port,
+            sender: self.port,
+            slot,
+            client: self.client,
+            lane: self.lane,
+            request: self.request,
+            elements: self.elements,
+            connections: 0,
+        }
+    }
+}
