@@ -1,0 +1,17 @@
+use Rattle.iox_model.specs.declared.reply.Reply.TheVariants.{Refused}
+use Rattle.iox_model.specs.Commands.{Create}
+use Rattle.iox_control_making.specs.Making.{refusal_of}
+use Rattle.iox_hub.specs.Hubs.{state_of_hub}
+use Rattle.iox_hub.specs.Making.{options_of}
+use Rattle.iox_port_commands.proofs.Calling.{asked}
+use Rattle.iox_port_commands.proofs.Making.{alike, refused_alike}
+use Rattle.iox_port_commands.proofs.makings.make_none.Goals as goal
+
+pub returns-clause-whole : goal.returns-clause-whole
+returns-clause-whole g c =
+    λ o size.
+    asked c.args.hub.now c.make_port.new.self c.args.node (Create c.args.role c.args.id o) c.not_made.result
+    (Refused (refusal_of c.args.role c.in-Err.reason)) c.not_made.ensures.reply
+    (λ x. refused_alike (state_of_hub x c.args.hub.now) c.args.node c.args.role c.args.id (options_of c.args.options) o
+    (refusal_of c.args.role c.in-Err.reason) (state_of_hub x c.make_port.new.self)
+    (alike (state_of_hub x c.args.hub.now).fixed c.args.role (options_of c.args.options) o size.longest size.pool size.loans) (c.in-Err.ensures.whole x))

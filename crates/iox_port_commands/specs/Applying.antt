@@ -1,0 +1,43 @@
+-- What a command of a hub comes to.
+use Rattle.std.specs.Prelude.{◌≡◌, ℕ, List, IsSome}
+use Rattle.std.specs.declared.vec.Vec.{Vec}
+use Rattle.iox_model.specs.declared.command.PortCommand as the_command
+use Rattle.iox_model.specs.declared.reply.PortReply as the_reply
+use Rattle.iox_model.specs.Commands.{Call, HubCommand, Use, asking}
+use Rattle.iox_model.specs.Makings.{IsHubCommand}
+use Rattle.iox_tables.specs.HubStates.States.{Given}
+use Rattle.iox_hub.specs.Hubs.{HubState, state_of_hub}
+use Rattle.iox_port_commands.specs.declared.elements.Elements.{Elements}
+use Rattle.iox_port_commands.specs.Asking.{command_for}
+use Rattle.iox_port_commands.specs.Telling.{IsToldAnd}
+
+-- What the node asks of the hub is answered so, and leaves that hub: it is one command of the
+-- machine, whatever there is besides.
+abbrev pub IsReplied :
+    {C Z : Type 0} → HubState → ℕ → HubCommand → the_reply.PortReply (Vec ℕ Z) C → HubState
+    → Type 0
+IsReplied old node command reply new =
+    (x : Given)
+    → IsToldAnd reply (λ r. IsHubCommand (state_of_hub x old) node command r (state_of_hub x new))
+
+-- the same of a call, which is one whole call then
+abbrev pub IsCalled :
+    {C Z : Type 0} → HubState → ℕ → Call → the_reply.PortReply (Vec ℕ Z) C → HubState → Type 0
+IsCalled old node call reply new = IsReplied old node (Use call) reply new
+
+-- the same of a command of the code, where these are the words of elements and handlers
+abbrev pub IsApplied :
+    {Q P H C Z : Type 0} → (Q → List ℕ) → (P → List ℕ) → (H → List ℕ) → HubState
+    → the_command.PortCommand (Elements Q P) H → the_reply.PortReply (Vec ℕ Z) C → HubState → Type 0
+IsApplied q p words old command reply new =
+    let (node, asked) = asking (command_for q p words command) in IsReplied old node asked reply new
+
+-- An element of a request has a default, and so has one of a response.
+pub record HaveDefaults (h : HubState) : Type 0 where
+  pub request : IsSome h.request.default
+  pub response : IsSome h.response.default
+
+-- Messages are made of the same.
+pub record HaveSameShapes (old new : HubState) : Type 0 where
+  pub request : new.request ≡ old.request
+  pub response : new.response ≡ old.response

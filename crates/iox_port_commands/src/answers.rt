@@ -1,0 +1,166 @@
+//! What calls come to, as replies.
+ghost use Rattle.std.specs.Prelude.{◌≡◌, false};
+ghost use Rattle.iox_model.specs.declared.reply.Reply.TheVariants.{Refused};
+ghost use Rattle.iox_model.specs.Makings.{port_reply};
+ghost use Rattle.iox_control.specs.Replies.{reply_of_receive};
+ghost use Rattle.iox_control_copies.specs.Answers as responses;
+ghost use Rattle.iox_control_lending.specs.Fills.{reply_of_write};
+ghost use Rattle.iox_control_lending.specs.Lends.{refusal_of as loan_refusal, reply_of_loan};
+ghost use Rattle.iox_control_making.specs.Making.{refusal_of as making_refusal};
+ghost use Rattle.iox_control_questions.specs.Asking.{refusal_of};
+ghost use Rattle.iox_control_request_copies.specs.Copies as requests;
+ghost use Rattle.iox_control_requests.specs.Sendings as request_sends;
+ghost use Rattle.iox_control_responses.specs.Responses as response_sends;
+ghost use Rattle.iox_port_commands.specs.Telling.{IsTheReply, wants_memory};
+
+use iox_control::Received;
+use iox_control_copies::Answered;
+use iox_control_lending::{Lent, LoanRefusal, Written};
+use iox_control_making::NotMade;
+use iox_control_questions::NotBegun;
+use iox_control_request_copies::Copied;
+use iox_control_requests::Requested;
+use iox_control_responses::Responded;
+use iox_model::kind::Role;
+use iox_model::reply::{PortReply, Refusal};
+
+/// The call is not begun.
+pub(crate) fn not_begun<C>(reason: NotBegun) -> PortReply<Vec<u64>, C>
+    ensures reply { IsTheReply result (Refused (refusal_of reason)) }
+    ensures memory { wants_memory result ≡ false }
+{
+    PortReply::Refused(match reason {
+        NotBegun::UnknownNumber => Refusal::UnknownNumber,
+        NotBegun::ForeignNumber => Refusal::ForeignNumber,
+        NotBegun::WrongKind => Refusal::WrongKind,
+        NotBegun::CallsSpent => Refusal::CallsSpent,
+    })
+}
+
+/// A port of that role was made, with that number.
+pub(crate) fn made<C>(role: Role, number: u64) -> PortReply<Vec<u64>, C>
+    ensures reply { IsTheReply result (port_reply role number) }
+    ensures memory { wants_memory result ≡ false }
+{
+    match role {
+        Role::Client => PortReply::Client(number),
+        Role::Server => PortReply::Server(number),
+    }
+}
+
+/// No port of that role was made.
+pub(crate) fn not_made<C>(role: Role, reason: NotMade) -> PortReply<Vec<u64>, C>
+    ensures reply { IsTheReply result (Refused (making_refusal role reason)) }
+    ensures memory { wants_memory result ≡ false }
+{
+    PortReply::Refused(match (reason, role) {
+        (NotMade::PortTag, _) => Refusal::UnableToCreatePortTag,
+        (NotMade::DataSegment, _) => Refusal::UnableToCreateDataSegment,
+        (NotMade::TooManyPorts, Role::Client) => Refusal::ExceedsMaxSupportedClients,
+        (NotMade::TooManyPorts, Role::Server) => Refusal::ExceedsMaxSupportedServers,
+    })
+}
+
+/// No loan was made, not even for a copy.
+fn not_lent<C>(reason: LoanRefusal) -> PortReply<Vec<u64>, C>
+    ensures reply { IsTheReply result (Refused (loan_refusal reason)) }
+    ensures memory { wants_memory result ≡ false }
+{
+    PortReply::Refused(match reason {
+        LoanRefusal::CallsSpent => Refusal::CallsSpent,
+        LoanRefusal::WrongLength => Refusal::WrongLength,
+        LoanRefusal::ExceedsMaxLoanSize => Refusal::ExceedsMaxLoanSize,
+        LoanRefusal::ExceedsMaxLoans => Refusal::ExceedsMaxLoans,
+    })
+}
+
+/// What a loan came to.
+pub(crate) fn lent<C>(lent: Lent) -> PortReply<Vec<u64>, C>
+    ensures reply { IsTheReply result (reply_of_loan lent) }
+    ensures memory { wants_memory result ≡ false }
+{
+    match lent {
+        Lent::Handle(loan) => PortReply::Handle(loan.number),
+        Lent::Refused(reason) => not_lent(reason),
+        Lent::OutOfMemory => PortReply::Refused(Refusal::OutOfMemory),
+    }
+}
+
+/// What a write came to.
+pub(crate) fn written<C>(written: Written) -> PortReply<Vec<u64>, C>
+    ensures reply { IsTheReply result (reply_of_write written) }
+    ensures memory { wants_memory result ≡ false }
+{
+    match written {
+        Written::Done(_) => PortReply::Done,
+        Written::WrongLength => PortReply::Refused(Refusal::WrongLength),
+    }
+}
+
+/// What the send of a request came to.
+pub(crate) fn requested<C>(requested: Requested) -> PortReply<Vec<u64>, C>
+    ensures reply { IsTheReply result (request_sends.reply_of_send requested) }
+    ensures memory { wants_memory result ≡ false }
+{
+    match requested {
+        Requested::To(servers) => PortReply::Sent(servers),
+        Requested::ExceedsMaxActiveRequests => {
+            PortReply::Refused(Refusal::ExceedsMaxActiveRequests)
+        }
+        Requested::UnableToDeliver => PortReply::Refused(Refusal::UnableToDeliver),
+    }
+}
+
+/// What the send of a response came to.
+pub(crate) fn responded<C>(responded: Responded) -> PortReply<Vec<u64>, C>
+    ensures reply { IsTheReply result (response_sends.reply_of_send responded) }
+    ensures memory { wants_memory result ≡ false }
+{
+    match responded {
+        Responded::Done => PortReply::Done,
+        Responded::Undelivered => PortReply::Refused(Refusal::UnableToDeliver),
+    }
+}
+
+/// What the copy of a request came to.
+pub(crate) fn copied<C>(copied: Copied) -> PortReply<Vec<u64>, C>
+    ensures reply { IsTheReply result (requests.reply_of_copy copied) }
+    ensures memory { wants_memory result ≡ false }
+{
+    match copied {
+        Copied::To {
+            number,
+            servers: _,
+            place: _,
+        } => PortReply::Handle(number),
+        Copied::Refused(reason) => not_lent(reason),
+        Copied::OutOfMemory => PortReply::Refused(Refusal::OutOfMemory),
+        Copied::ExceedsMaxActiveRequests => PortReply::Refused(Refusal::ExceedsMaxActiveRequests),
+        Copied::UnableToDeliver => PortReply::Refused(Refusal::UnableToDeliver),
+    }
+}
+
+/// What the copy of a response came to.
+pub(crate) fn answered<C>(answered: Answered) -> PortReply<Vec<u64>, C>
+    ensures reply { IsTheReply result (responses.reply_of_copy answered) }
+    ensures memory { wants_memory result ≡ false }
+{
+    match answered {
+        Answered::Done(_) => PortReply::Done,
+        Answered::Refused(reason) => not_lent(reason),
+        Answered::OutOfMemory => PortReply::Refused(Refusal::OutOfMemory),
+        Answered::Undelivered => PortReply::Refused(Refusal::UnableToDeliver),
+    }
+}
+
+/// What a receive came to.
+pub(crate) fn received<C>(received: Received) -> PortReply<Vec<u64>, C>
+    ensures reply { IsTheReply result (reply_of_receive received) }
+    ensures memory { wants_memory result ≡ false }
+{
+    match received {
+        Received::Handle(number) => PortReply::Handle(number),
+        Received::Nothing => PortReply::Nothing,
+        Received::AtLimit => PortReply::Refused(Refusal::ExceedsMaxBorrows),
+    }
+}

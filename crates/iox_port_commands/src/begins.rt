@@ -1,0 +1,45 @@
+//! How calls by number begin.
+ghost use Rattle.std.specs.Prelude.{◌≡◌, ◌<◌, ◌^◌, IfErr, IfOk, OnOk, false, true};
+ghost use Rattle.iox_model.specs.Commands.{Call, number_of};
+ghost use Rattle.iox_model.specs.Names.{suits};
+ghost use Rattle.iox_model.specs.WholeCalls.{is_counted};
+ghost use Rattle.iox_control_questions.specs.Asking.{asked_of, call_of};
+ghost use Rattle.iox_hub.specs.Hubs.{HasValue};
+ghost use Rattle.iox_port_commands.specs.Applying.{IsCalled};
+ghost use Rattle.iox_port_commands.specs.Telling.{wants_memory};
+
+use crate::answers::not_begun;
+use iox_control_questions::Asked;
+use iox_hub::Hub;
+use iox_model::kind::Kind;
+use iox_model::reply::PortReply;
+use iox_store::Payload;
+use iox_words::Words;
+
+/// Where handles are looked for first: nowhere, since a command names no place.
+pub(crate) const NOWHERE: usize = usize::MAX;
+
+/// Of what kind the node's value of that number is, of which that may be asked. Where it may not,
+/// the call is answered with the first reason, and nothing changes.
+pub(crate) fn begin<Q: Payload, QH: Words, P: Payload, PH: Words, C>(
+    hub: &Hub<Q, QH, P, PH>,
+    node: u64,
+    number: u64,
+    asked: Asked,
+) -> Result<Kind, PortReply<Vec<u64>, C>>
+    ensures refused { IfErr result (λ reply. (call : Call) → number_of call ≡ number
+        → asked_of call ≡ asked → IsCalled hub.now node call reply hub.now) }
+    ensures memory { IfErr result (λ reply. wants_memory reply ≡ false) }
+    ensures has { IfOk result (λ kind. HasValue hub.now node number kind) }
+    ensures suits { IfOk result (λ kind. suits false (call_of number asked) kind ≡ true) }
+    ensures calls { OnOk result (is_counted (call_of number asked) ≡ true
+        → hub.now.control.tables.calls < 2 ^ 56) }
+{
+    if let Some(reason) = hub.refusal(node, number, NOWHERE, asked) {
+        return Err(not_begun(reason));
+    }
+    match hub.kind(node, number, NOWHERE) {
+        Some(kind) => Ok(kind),
+        None => unreachable!(),
+    }
+}

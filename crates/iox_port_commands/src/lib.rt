@@ -1,0 +1,22 @@
+//! The commands of a hub: a port is made, or a port or a handle is called by a bare number. Each is
+//! one command of the machine that copies messages.
+#![tactic(auto)]
+
+mod answers;
+mod applying;
+mod begins;
+mod copies;
+mod elements;
+mod lending;
+mod makings;
+mod questions;
+mod reading;
+mod receives;
+mod releases;
+mod sends;
+pub mod uses;
+mod word_lists;
+mod writing;
+
+pub use applying::apply;
+pub use elements::Elements;

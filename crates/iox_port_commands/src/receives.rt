@@ -1,0 +1,31 @@
+//! Receives by number.
+ghost use Rattle.std.specs.Prelude.{◌≡◌, false};
+ghost use Rattle.iox_model.specs.declared.call.Call.TheVariants.{Receive};
+ghost use Rattle.iox_port_commands.specs.Applying.{IsCalled};
+ghost use Rattle.iox_port_commands.specs.Telling.{wants_memory};
+
+use crate::answers::received;
+use crate::begins::{NOWHERE, begin};
+use iox_control_questions::Asked;
+use iox_hub::Hub;
+use iox_model::kind::Kind;
+use iox_model::reply::PortReply;
+use iox_store::Payload;
+use iox_words::Words;
+
+/// Receives a request for a server, or a response for a pending response.
+pub(crate) fn receive<Q: Payload, QH: Words, P: Payload, PH: Words, C>(
+    hub: &mut Hub<Q, QH, P, PH>,
+    node: u64,
+    number: u64,
+) -> PortReply<Vec<u64>, C>
+    ensures whole { IsCalled hub.old node (Receive number) result hub.new }
+    ensures memory { wants_memory result ≡ false }
+{
+    match begin(hub, node, number, Asked::Receive) {
+        Ok(Kind::Server) => received(hub.receive_request(node, number)),
+        Ok(Kind::PendingResponse) => received(hub.receive_response(node, number, NOWHERE)),
+        Ok(_) => unreachable!(),
+        Err(reply) => reply,
+    }
+}

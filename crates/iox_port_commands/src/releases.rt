@@ -1,0 +1,35 @@
+//! Releases by number.
+ghost use Rattle.std.specs.Prelude.{◌≡◌, false};
+ghost use Rattle.iox_model.specs.declared.call.Call.TheVariants.{Release};
+ghost use Rattle.iox_port_commands.specs.Applying.{IsCalled};
+ghost use Rattle.iox_port_commands.specs.Telling.{wants_memory};
+
+use crate::begins::{NOWHERE, begin};
+use iox_control_questions::Asked;
+use iox_hub::Hub;
+use iox_model::kind::Kind;
+use iox_model::reply::PortReply;
+use iox_store::Payload;
+use iox_words::Words;
+
+/// Releases a handle, or the own value of a port.
+pub(crate) fn release<Q: Payload, QH: Words, P: Payload, PH: Words, C>(
+    hub: &mut Hub<Q, QH, P, PH>,
+    node: u64,
+    number: u64,
+) -> PortReply<Vec<u64>, C>
+    ensures whole { IsCalled hub.old node (Release number) result hub.new }
+    ensures memory { wants_memory result ≡ false }
+{
+    match begin(hub, node, number, Asked::Release) {
+        Ok(Kind::Client | Kind::Server) => {
+            hub.release_port(node, number);
+            PortReply::Done
+        }
+        Ok(_) => {
+            hub.release(node, number, NOWHERE);
+            PortReply::Done
+        }
+        Err(reply) => reply,
+    }
+}

@@ -1,0 +1,31 @@
+//! Sends by number.
+ghost use Rattle.std.specs.Prelude.{◌≡◌, false};
+ghost use Rattle.iox_model.specs.declared.call.Call.TheVariants.{Send};
+ghost use Rattle.iox_port_commands.specs.Applying.{IsCalled};
+ghost use Rattle.iox_port_commands.specs.Telling.{wants_memory};
+
+use crate::answers::{requested, responded};
+use crate::begins::{NOWHERE, begin};
+use iox_control_questions::Asked;
+use iox_hub::Hub;
+use iox_model::kind::Kind;
+use iox_model::reply::PortReply;
+use iox_store::Payload;
+use iox_words::Words;
+
+/// Sends a filled loan.
+pub(crate) fn send<Q: Payload, QH: Words, P: Payload, PH: Words, C>(
+    hub: &mut Hub<Q, QH, P, PH>,
+    node: u64,
+    number: u64,
+) -> PortReply<Vec<u64>, C>
+    ensures whole { IsCalled hub.old node (Send number) result hub.new }
+    ensures memory { wants_memory result ≡ false }
+{
+    match begin(hub, node, number, Asked::Send) {
+        Ok(Kind::RequestMut) => requested(hub.send_request(node, number, NOWHERE)),
+        Ok(Kind::ResponseMut) => responded(hub.send_response(node, number, NOWHERE)),
+        Ok(_) => unreachable!(),
+        Err(reply) => reply,
+    }
+}
