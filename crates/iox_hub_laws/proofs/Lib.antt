@@ -2,6 +2,9 @@ pub mod Takes
 pub mod Next
 pub mod Holders
 pub mod Within
+pub mod Visits
+pub mod Waited
+pub mod Came
 pub mod Loaned
 pub mod OfHubs
 pub mod Receiving

@@ -1,7 +1,7 @@
 -- What a receive of a hub hands out came next, at its own request.
 use Rattle.std.specs.Prelude.{◌≡◌, ℕ, Bool, true, false, ◌&&◌, ◌==◌, [], Option, Some, None, if◌then◌else◌, refl}
 use Rattle.std.specs.Option.{option_map_or}
-use Rattle.std.proofs.Common.{sym, ap, ◌∙◌, true≢false}
+use Rattle.std.proofs.Common.{sym, ap, ap₂, subst, ◌∙◌, true≢false}
 use Rattle.std.proofs.lemmas.Option.{none-some, same_Some}
 use Rattle.iox_store.specs.Stored.{Stored, unlent}
 use Rattle.iox_model.specs.declared.call.Call.TheVariants.{Receive}
@@ -9,8 +9,14 @@ use Rattle.iox_model.specs.declared.kind.Kind.{Kind}
 use Rattle.iox_model.specs.declared.kind.Kind.TheVariants as kinds
 use Rattle.iox_model.specs.declared.kind.Role.{Role}
 use Rattle.iox_model.specs.declared.kind.Role.TheVariants.{Client, Server}
+use Rattle.iox_model.specs.declared.reply.Refusal.TheVariants.{UnknownNumber}
 use Rattle.iox_model.specs.declared.reply.Reply.TheVariants as replies
-use Rattle.iox_model.specs.Handles.{is_received, subject, TheHandle}
+use Rattle.iox_model.specs.declared.way.Way.{Way}
+use Rattle.iox_model.specs.Begins.{begins_at}
+use Rattle.iox_model.specs.Doings.{Receiver, refused}
+use Rattle.iox_model.specs.Handles.{Subject, TheHandle, is_received, same_kind, subject}
+use Rattle.iox_model.specs.Messages.{request_way, response_way}
+use Rattle.iox_model.specs.Receives.{pending_ways, server_ways, visiting}
 use Rattle.iox_model.specs.States as m
 use Rattle.iox_model.specs.WholeCalls.{IsWholeCall}
 use Rattle.iox_laws.proofs.RunLaws.Received.{requests_are_named, responses_name_their_request}
@@ -18,6 +24,7 @@ use Rattle.iox_control.specs.declared.received.Received.{Received}
 use Rattle.iox_control.specs.declared.received.Received.TheVariants.{Handle, Nothing, AtLimit}
 use Rattle.iox_control.specs.Replies.{reply_of_receive}
 use Rattle.iox_tables.specs.HubLoans.Questions.{kind_by, kind_in, kind_of_role}
+use Rattle.iox_tables.specs.HubStates.Releases.{lane_of}
 use Rattle.iox_tables.specs.HubStates.States.{Given, port_of}
 use Rattle.iox_tables.specs.HubStates.Tables.{HandleState, HubTables, PortState, port_in}
 use Rattle.iox_tables.specs.HubStates.Wirings.{IsHandle, IsServer, handle_in}
@@ -28,6 +35,8 @@ use Rattle.iox_hub.specs.Words.{stored_in}
 use Rattle.iox_hub.proofs.Named.{found_is_handle, server_is}
 use Rattle.iox_hub_laws.specs.Receives.{IsAtItsRequest, TakesNext, TakesRequest, TakesResponse}
 use Rattle.iox_hub_laws.specs.Shown.{handle_of}
+use Rattle.iox_hub_laws.specs.Waiting.{CanCome, client_of, server_of}
+use Rattle.iox_hub_laws.proofs.Came.{ComesOn, received_came}
 use Rattle.iox_hub_laws.proofs.Next.{received_comes_next, same_handle}
 
 -- ---- what a number names
@@ -94,6 +103,7 @@ request_taken old new hub node server k is whole has = (
   takes old new node server k kinds.ActiveRequest refl whole has,
   (got old new node server k kinds.ActiveRequest refl whole has).kind_is,
   port_is,
+  record { waits = came.waits; fit = came.fit; room = came.room },
 )
   where
     h : HandleState
@@ -110,6 +120,23 @@ request_taken old new hub node server k is whole has = (
         (each_port_is_named y old.control.tables node server s.port s.there s.held).names (whole x) in
         ap (λ (g : m.Handle). g.port) (same_handle (handle_of new h) law.0 (sym (named old new node server k kinds.ActiveRequest refl whole has x) ∙ law.1))
         ∙ law.3 ∙ first_key (λ (p : PortState). p.number) old.control.tables.ports server s.port s.there
+
+    came : ComesOn (state_of_hub hub.reached.0 old) (server_of server) (request_way h.client server) (handle_of new h).message
+    came =
+        let x = hub.reached.0 in
+        let y = given_by x old in
+        let z : m.State = state_of_hub x old in
+        let named_port = (each_port_is_named y old.control.tables node server s.port s.there s.held).names in
+        let g : m.Handle = handle_of new h in
+        subst (λ (w : Way). ComesOn z (server_of server) w g.message)
+        (ap₂ (λ (kind : Kind) (port : ℕ). if same_kind kind kinds.ActiveRequest then request_way g.client port else response_way port g.lane g.message.sender)
+        (got old new node server k kinds.ActiveRequest refl whole has).kind_is port_is)
+        (received_came z (server_of server) (state_of_hub x new) hub.reached.1 node server k (server_ways z.fixed (port_of y s.port)) g
+        (λ c.
+        ap (λ (o : Option Subject). option_map_or (begins_at z c (Receive server)) o (refused UnknownNumber)) named_port
+        ∙ ap (λ (j : ℕ). visiting (record { port = j; role = Server; lane = 0; request = 0 }) (server_ways z.fixed (port_of y s.port)) false)
+        (first_key (λ (p : PortState). p.number) old.control.tables.ports server s.port s.there))
+        (whole x) (named old new node server k kinds.ActiveRequest refl whole has x))
 
 pub takes_request : (old new : HubState) → IsHub old → (node server : ℕ) (r : Received) → HasValue old node server kinds.Server
     → ((x : Given) → IsWholeCall (state_of_hub x old) node (Receive server) (reply_of_receive r) (state_of_hub x new))
@@ -129,6 +156,24 @@ response_taken old new hub node number k whole has = (takes old new node number 
     h : HandleState
     h = (got old new node number k kinds.Response refl whole has).handle
 
+    comes_to : (pending : HandleState) → handle_in old.control.tables.handles node number ≡ Some pending → h.kind ≡ kinds.Response
+        → h.port ≡ pending.port → lane_of new.control.tables h ≡ lane_of old.control.tables pending
+        → CanCome old (client_of old.control.tables pending) (handle_of new h).message.sender (handle_of new h).message
+    comes_to pending there kind port lane =
+        let x = hub.reached.0 in
+        let z : m.State = state_of_hub x old in
+        let by : Receiver = client_of old.control.tables pending in
+        let g : m.Handle = handle_of new h in
+        let names = (each_handle_is_named (given_by x old) old.control.tables node number pending (found_is_handle old.control.tables hub.control.order node number pending there)).names in
+        let came : ComesOn z by (response_way pending.port by.lane g.message.sender) g.message
+        = subst (λ (w : Way). ComesOn z by w g.message)
+        (ap₂ (λ (q : Kind) (p : ℕ). if same_kind q kinds.ActiveRequest then request_way g.client p else response_way p g.lane g.message.sender) kind port
+        ∙ ap (λ (l : ℕ). response_way pending.port l g.message.sender) lane)
+        (received_came z by (state_of_hub x new) hub.reached.1 node number k (pending_ways z.fixed (handle_of old pending)) g
+        (λ c. ap (λ (o : Option Subject). option_map_or (begins_at z c (Receive number)) o (refused UnknownNumber)) names)
+        (whole x) (named old new node number k kinds.Response refl whole has x)) in
+        record { waits = came.waits; fit = came.fit; room = came.room }
+
     at_request : (pending : HandleState) → handle_in old.control.tables.handles node number ≡ Some pending → IsAtItsRequest old pending new h
     at_request pending there =
         let x = hub.reached.0 in
@@ -141,6 +186,8 @@ response_taken old new hub node number k whole has = (takes old new node number 
           port = ap (λ (g : m.Handle). g.port) same ∙ law.3;
           lane = ap (λ (g : m.Handle). g.message.lane) same ∙ law.4;
           request = ap (λ (g : m.Handle). g.message.request) same ∙ law.5;
+          came = comes_to pending there (ap (λ (g : m.Handle). g.kind) same ∙ law.2) (ap (λ (g : m.Handle). g.port) same ∙ law.3)
+              (ap (λ (g : m.Handle). g.message.lane) same ∙ law.4);
         }
 
 pub takes_response : (old new : HubState) → IsHub old → (node number : ℕ) (r : Received)

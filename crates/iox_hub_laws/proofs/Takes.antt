@@ -44,7 +44,7 @@ use Rattle.iox_laws.proofs.MessageLaws.Took.{IsTook, moments_took, start_took}
 
 -- ---- a receive tells no handle but the one that it hands out
 
-abbrev NamesAHandle : Reply → Type 0
+abbrev pub NamesAHandle : Reply → Type 0
 NamesAHandle (replies.Handle k) = Unit {0}
 NamesAHandle reply = ⊥
 
@@ -99,11 +99,11 @@ start_receives s node n c = by_case (subject s.fixed node n)
 
 -- ---- what it hands out
 
-last_among : (h : Handle) (hs : List Handle) → IsAmong h (hs ++ h ∷ [])
+pub last_among : (h : Handle) (hs : List Handle) → IsAmong h (hs ++ h ∷ [])
 last_among h [] = inl refl
 last_among h (x ∷ hs) = inr (last_among h hs)
 
-abbrev number_in : Reply → ℕ
+abbrev pub number_in : Reply → ℕ
 number_in (replies.Handle k) = k
 number_in reply = 0
 

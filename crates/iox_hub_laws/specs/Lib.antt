@@ -1,6 +1,7 @@
 pub mod Shown
 pub mod Receipts
 pub mod Histories
+pub mod Waiting
 pub mod Receives
 pub mod Limits
 pub mod Slots

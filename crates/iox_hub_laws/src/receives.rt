@@ -8,14 +8,16 @@ ghost use Rattle.iox_tables.specs.HubStates.States.{Given};
 ghost use Rattle.iox_control.specs.Replies.{reply_of_receive};
 ghost use Rattle.iox_hub.specs.Hubs.{HasReceived, HasValue, state_of_hub, with_control};
 ghost use Rattle.iox_hub_laws.specs.Receives.{TakesRequest, TakesResponse};
+ghost use Rattle.iox_hub_laws.specs.Waiting.{WaitedFor, WaitedForPending, server_of};
 
 use iox_control::Received;
 use iox_hub::Hub;
 use iox_store::Payload;
 use iox_words::Words;
 
-/// Receives a request for that server: one that was delivered to it, that it did not get before,
-/// and that comes behind all that it took from that client.
+/// Receives a request for that server, wherever one waits that it can receive: one that was
+/// delivered to it, that it did not get before, and that comes behind all that it took from that
+/// client.
 #[inline]
 pub fn receive_request<Q: Payload, QH: Words, P: Payload, PH: Words>(
     hub: &mut Hub<Q, QH, P, PH>,
@@ -25,6 +27,7 @@ pub fn receive_request<Q: Payload, QH: Words, P: Payload, PH: Words>(
     requires has { HasValue hub.old node server Server }
     requires calls { hub.old.control.tables.calls < 2 ^ 56 }
     ensures takes { TakesRequest hub.old node server result hub.new }
+    ensures waited { WaitedFor hub.old (server_of server) result }
     ensures left { hub.new ≡ with_control hub.old hub.new.control }
     ensures whole { (x : Given) → IsWholeCall (state_of_hub x hub.old) node
         (Receive server) (reply_of_receive result) (state_of_hub x hub.new) }
@@ -34,9 +37,9 @@ pub fn receive_request<Q: Payload, QH: Words, P: Payload, PH: Words>(
     hub.receive_request(node, server)
 }
 
-/// Receives a response for that pending response: one to its own request, that was delivered to it,
-/// that it did not get before, and that comes behind all that were taken on that way. Its handle is
-/// looked for at the hint first.
+/// Receives a response for that pending response, wherever one waits that it can receive: one to
+/// its own request, that was delivered to it, that it did not get before, and that comes behind all
+/// that were taken on that way. Its handle is looked for at the hint first.
 #[inline]
 pub fn receive_response<Q: Payload, QH: Words, P: Payload, PH: Words>(
     hub: &mut Hub<Q, QH, P, PH>,
@@ -47,6 +50,7 @@ pub fn receive_response<Q: Payload, QH: Words, P: Payload, PH: Words>(
     requires has { HasValue hub.old node number PendingResponse }
     requires calls { hub.old.control.tables.calls < 2 ^ 56 }
     ensures takes { TakesResponse hub.old node number result hub.new }
+    ensures waited { WaitedForPending hub.old node number result }
     ensures left { hub.new ≡ with_control hub.old hub.new.control }
     ensures whole { (x : Given) → IsWholeCall (state_of_hub x hub.old) node
         (Receive number) (reply_of_receive result) (state_of_hub x hub.new) }

@@ -1,7 +1,8 @@
 //! Callers of a hub and of its laws, proved from their clauses alone.
-ghost use Rattle.std.specs.Prelude.{◌≡◌, ◌<◌, ◌^◌, IfSome, Some, flat_map, length, true};
+ghost use Rattle.std.specs.Prelude.{◌≡◌, ◌<◌, ◌^◌, ℕ, IfSome, Some, flat_map, length, true};
 ghost use Rattle.iox_model.specs.declared.kind.Kind.TheVariants.{ActiveRequest, Client, Server};
 ghost use Rattle.iox_model.specs.Handles.{way_of};
+ghost use Rattle.iox_model.specs.Messages.{Message};
 ghost use Rattle.iox_laws.specs.MessageLaws.Deliveries.{messages_put_on};
 ghost use Rattle.iox_laws.specs.MessageLaws.Lists.{IsOneOf};
 ghost use Rattle.iox_tables.specs.HubStates.Tables.{HandleState, PortState, port_in};
@@ -9,12 +10,13 @@ ghost use Rattle.iox_tables.specs.HubStates.Wirings.{handle_in};
 ghost use Rattle.iox_hub.specs.Hubs.{HasValue, HubState, IsReached};
 ghost use Rattle.iox_hub_laws.specs.Loans.{HasFullPools, IsWithinLimits, IsWithinServersLimits};
 ghost use Rattle.iox_hub_laws.specs.Shown.{beats_of, handle_of};
+ghost use Rattle.iox_hub_laws.specs.Waiting.{CanCome, NothingWaits, server_of};
 
 use crate::{lend_request, lend_response, receive_request};
 use iox_control::Received;
 use iox_control_lending::Lent;
 use iox_hub::Hub;
-use iox_store::{Many, One};
+use iox_store::{Many, One, Payload};
 use iox_words::Words;
 
 /// A server that receives reads what was delivered to it, word by word, whatever history led there.
@@ -33,6 +35,40 @@ pub fn reads_what_was_delivered<E: Words>(
     match receive_request(hub, node, server) {
         Received::Handle(number) => Some(hub.request(node, number, 0)),
         _ => None,
+    }
+}
+
+/// A server to which a request can come receives one.
+pub fn receives_what_can_come<Q: Payload, QH: Words, P: Payload, PH: Words>(
+    hub: &mut Hub<Q, QH, P, PH>,
+    node: u64,
+    server: u64,
+) -> u64
+    requires has { HasValue hub.old node server Server }
+    requires calls { hub.old.control.tables.calls < 2 ^ 56 }
+    requires waits { (client : ℕ) × (m : Message)
+        × CanCome hub.old (server_of server) client m }
+    ensures { HasValue hub.new node result ActiveRequest }
+{
+    match receive_request(hub, node, server) {
+        Received::Handle(number) => number,
+        _ => unreachable!(),
+    }
+}
+
+/// A server receives nothing where nothing waits for it.
+pub fn receives_nothing<Q: Payload, QH: Words, P: Payload, PH: Words>(
+    hub: &mut Hub<Q, QH, P, PH>,
+    node: u64,
+    server: u64,
+)
+    requires has { HasValue hub.old node server Server }
+    requires calls { hub.old.control.tables.calls < 2 ^ 56 }
+    requires none { NothingWaits hub.old (server_of server) }
+{
+    match receive_request(hub, node, server) {
+        Received::Nothing => {}
+        _ => unreachable!(),
     }
 }
 
