@@ -21,6 +21,7 @@ pub mod uses_copying;
 pub mod uses_exchange;
 pub mod uses_filling;
 pub mod uses_headers;
+pub mod uses_reading;
 
 pub use active_request::ActiveRequest;
 pub use client::Client;

@@ -8,7 +8,9 @@ ghost use Rattle.iox_tables.specs.HubStates.States.{Given};
 ghost use Rattle.iox_hub.specs.Headers.{IsHeaderShown, header_in};
 ghost use Rattle.iox_hub.specs.Hubs.{HasValue, state_of_hub, with_control};
 ghost use Rattle.iox_hub.specs.Reads.{message_in};
-ghost use Rattle.iceoryx2_ports.specs.Answers.{reply_of_response};
+ghost use Rattle.iox_hub_laws.specs.Receives.{TakesResponse};
+ghost use Rattle.iox_hub_laws.specs.Waiting.{WaitedForPending};
+ghost use Rattle.iceoryx2_ports.specs.Answers.{received_response, reply_of_response};
 ghost use Rattle.iceoryx2_ports.specs.Headers.{request_header_of};
 ghost use Rattle.iceoryx2_ports.specs.Keeping.{KeepsValues};
 ghost use Rattle.iceoryx2_ports.specs.Releases.{IsReleased};
@@ -20,6 +22,7 @@ use crate::releases::release_handle;
 use crate::response::Response;
 use iox_control::Received;
 use iox_hub::Hub;
+use iox_hub_laws::receive_response;
 use iox_model::kind::Kind;
 use iox_store::Payload;
 use iox_types::RequestHeader;
@@ -61,7 +64,8 @@ impl<Q: Payload, QH: Words, P: Payload, PH: Words> PendingResponse<Q, QH, P, PH>
         self.servers
     }
 
-    /// Receives a response, if one is there. A response to another request is released and skipped.
+    /// Receives a response, if one is there: one to its own request, that waits, comes next on its way
+    /// and is new to the client. A response to another request is released and skipped.
     pub fn receive(
         &self,
         hub: &mut Hub<Q, QH, P, PH>,
@@ -76,8 +80,12 @@ impl<Q: Payload, QH: Words, P: Payload, PH: Words> PendingResponse<Q, QH, P, PH>
         ensures node { IfOk result (λ got. IfSome got (λ response. response.node ≡ self.now.node)) }
         ensures keeps { KeepsValues hub.old hub.new }
         ensures refused { IfErr result (λ error. error ≡ ExceedsMaxBorrows) }
+        ensures waited { WaitedForPending hub.old self.now.node self.now.number
+            (received_response result) }
+        ensures takes { TakesResponse hub.old self.now.node self.now.number
+            (received_response result) hub.new }
     {
-        match hub.receive_response(self.node, self.number, self.hint) {
+        match receive_response(hub, self.node, self.number, self.hint) {
             Received::Handle(number) => Ok(Some(Response::new(self.node, number))),
             Received::Nothing => Ok(None),
             Received::AtLimit => Err(ReceiveError::ExceedsMaxBorrows),

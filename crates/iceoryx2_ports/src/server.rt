@@ -7,7 +7,9 @@ ghost use Rattle.iox_model.specs.WholeCalls.{IsWholeCall};
 ghost use Rattle.iox_tables.specs.HubStates.States.{Given};
 ghost use Rattle.iox_hub.specs.Headers.{IsIdShown, id_in};
 ghost use Rattle.iox_hub.specs.Hubs.{HasValue, state_of_hub, with_control};
-ghost use Rattle.iceoryx2_ports.specs.Answers.{reply_of_request};
+ghost use Rattle.iox_hub_laws.specs.Receives.{TakesRequest};
+ghost use Rattle.iox_hub_laws.specs.Waiting.{WaitedFor, server_of};
+ghost use Rattle.iceoryx2_ports.specs.Answers.{received_request, reply_of_request};
 ghost use Rattle.iceoryx2_ports.specs.Keeping.{KeepsValues};
 ghost use Rattle.iceoryx2_ports.specs.Releases.{IsReleased};
 ghost use Rattle.iceoryx2_ports.specs.declared.errors.ReceiveError.TheVariants.{ExceedsMaxBorrows};
@@ -17,6 +19,7 @@ use crate::errors::{ConnectionFailure, ReceiveError};
 use crate::releases::release_port;
 use iox_control::Received;
 use iox_hub::Hub;
+use iox_hub_laws::receive_request;
 use iox_model::kind::Kind;
 use iox_store::Payload;
 use iox_types::identifiers::UniqueServerId;
@@ -43,8 +46,8 @@ impl<Q: Payload, QH: Words, P: Payload, PH: Words> Server<Q, QH, P, PH> {
         }
     }
 
-    /// Receives a request, if one is there. Without fire-and-forget a request that its client gave up
-    /// is released and skipped.
+    /// Receives a request, if one is there: one that waits, comes next on its way, and is new to the
+    /// server. Without fire-and-forget a request that its client gave up is released and skipped.
     pub fn receive(
         &self,
         hub: &mut Hub<Q, QH, P, PH>,
@@ -59,8 +62,11 @@ impl<Q: Payload, QH: Words, P: Payload, PH: Words> Server<Q, QH, P, PH> {
         ensures node { IfOk result (λ got. IfSome got (λ request. request.node ≡ self.now.node)) }
         ensures keeps { KeepsValues hub.old hub.new }
         ensures refused { IfErr result (λ error. error ≡ ExceedsMaxBorrows) }
+        ensures waited { WaitedFor hub.old (server_of self.now.number) (received_request result) }
+        ensures takes { TakesRequest hub.old self.now.node self.now.number
+            (received_request result) hub.new }
     {
-        match hub.receive_request(self.node, self.number) {
+        match receive_request(hub, self.node, self.number) {
             Received::Handle(number) => Ok(Some(ActiveRequest::new(self.node, number))),
             Received::Nothing => Ok(None),
             Received::AtLimit => Err(ReceiveError::ExceedsMaxBorrows),

@@ -1,20 +1,29 @@
 use Rattle.std.specs.Prelude.{refl}
+use Rattle.std.proofs.Common.{subst, sym}
 use Rattle.iox_model.specs.declared.call.Call.TheVariants.{Receive}
+use Rattle.iox_control.specs.declared.received.Received.TheVariants as received
 use Rattle.iox_control.specs.Replies.{reply_of_receive}
+use Rattle.iox_hub_laws.specs.Receives.{TakesResponse}
 use Rattle.iceoryx2_ports.proofs.Staying.{kept}
 use Rattle.iceoryx2_ports.proofs.pending_response.PendingResponse.receive.Goals as goal
 
 pub returns-in-Handle-clause-keeps : goal.returns-in-Handle-clause-keeps
 returns-in-Handle-clause-keeps g c =
-    kept c.args.hub.now c.receive_response.new.self c.args.self.now.node (Receive c.args.self.now.number) (reply_of_receive c.receive_response.result) refl
+    kept c.args.hub.now c.receive_response.new.hub c.args.self.now.node (Receive c.args.self.now.number) (reply_of_receive c.receive_response.result) refl
     c.receive_response.ensures.whole
 
 pub returns-in-Nothing-clause-keeps : goal.returns-in-Nothing-clause-keeps
 returns-in-Nothing-clause-keeps g c =
-    kept c.args.hub.now c.receive_response.new.self c.args.self.now.node (Receive c.args.self.now.number) (reply_of_receive c.receive_response.result) refl
+    kept c.args.hub.now c.receive_response.new.hub c.args.self.now.node (Receive c.args.self.now.number) (reply_of_receive c.receive_response.result) refl
     c.receive_response.ensures.whole
 
 pub returns-in-AtLimit-clause-keeps : goal.returns-in-AtLimit-clause-keeps
 returns-in-AtLimit-clause-keeps g c =
-    kept c.args.hub.now c.receive_response.new.self c.args.self.now.node (Receive c.args.self.now.number) (reply_of_receive c.receive_response.result) refl
+    kept c.args.hub.now c.receive_response.new.hub c.args.self.now.node (Receive c.args.self.now.number) (reply_of_receive c.receive_response.result) refl
     c.receive_response.ensures.whole
+
+pub returns-in-Handle-clause-takes : goal.returns-in-Handle-clause-takes
+returns-in-Handle-clause-takes g c =
+    subst
+    (λ n. TakesResponse c.args.hub.now c.args.self.now.node c.args.self.now.number (received.Handle n) c.receive_response.new.hub)
+    (sym c.new.ensures.number) c.in-Handle.ensures.takes

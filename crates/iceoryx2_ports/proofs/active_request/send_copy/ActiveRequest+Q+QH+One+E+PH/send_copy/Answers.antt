@@ -1,4 +1,4 @@
-use Rattle.std.specs.Prelude.{◌∷◌, [], flat_map, refl}
+use Rattle.std.specs.Prelude.{◌∷◌, [], flat_map}
 use Rattle.std.proofs.Common.{ap, sym, ◌∙◌}
 use Rattle.iox_model.specs.declared.call.Call.TheVariants.{SendCopy}
 use Rattle.iox_model.specs.declared.kind.Role.TheVariants as roles
@@ -7,7 +7,7 @@ use Rattle.iox_model.specs.declared.reply.Reply.TheVariants as replies
 use Rattle.iox_control_copies.specs.Answers.{reply_of_copy}
 use Rattle.iox_control_lending.specs.Lends.{refusal_of}
 use Rattle.iox_hub.specs.Lending.{payload_of}
-use Rattle.iceoryx2_ports.specs.Copies.{copy_reply, reply_of_response_copy}
+use Rattle.iceoryx2_ports.specs.Copies.{copy_reply}
 use Rattle.iceoryx2_ports.specs.Loans.{loan_refusal}
 use Rattle.iceoryx2_ports.proofs.Copying.{copy_keeps, test_is_told}
 use Rattle.iceoryx2_ports.proofs.Telling.{called_as}

@@ -1,4 +1,4 @@
-use Rattle.std.specs.Prelude.{◌∷◌, [], flat_map, refl}
+use Rattle.std.specs.Prelude.{◌∷◌, [], flat_map}
 use Rattle.std.proofs.Common.{ap, sym, ◌∙◌}
 use Rattle.iox_model.specs.declared.call.Call.TheVariants.{SendCopy}
 use Rattle.iox_model.specs.declared.kind.Role.TheVariants as roles
