@@ -32,8 +32,8 @@ fn each_command_is_read(rt: HostRuntime) -> Result<(), Fail> {
             "Set { key: RequestOverflow, value: 0 }",
         ),
         (
-            b"set response-overflow 000",
-            "Set { key: ResponseOverflow, value: 0 }",
+            b"set response-overflow 001",
+            "Set { key: ResponseOverflow, value: 1 }",
         ),
         (
             b"open 4294967295 0 7 1",
@@ -128,7 +128,7 @@ fn a_bad_line_gives_its_first_cause(rt: HostRuntime) {
         (b"send-copy 0", LineCause::WrongCount),
         (b"receive 0 0 0", LineCause::WrongCount),
         (b"read x", LineCause::WrongCount),
-        (b"set request-overflow 1", LineCause::BadNumber),
+        (b"set request-overflow 2", LineCause::BadNumber),
         (b"set request-overflow ", LineCause::BadNumber),
         (b"open 4294967296 0 0 0", LineCause::BadNumber),
         (b"open 0 0 0 4294967296", LineCause::BadNumber),
@@ -283,7 +283,6 @@ fn each_refusal_has_its_name(rt: HostRuntime) -> Result<(), Fail> {
     let refusals = [
         ScriptRefusal::ServiceExists,
         ScriptRefusal::NoService,
-        ScriptRefusal::Unsupported,
         ScriptRefusal::ExceedsMaximumLength,
         ScriptRefusal::InvalidContent,
     ];

@@ -20,9 +20,9 @@ abbrev pub ◌>>=◌ : {A B : Type 0} → Result A LineCause → (A → Result B
 (Ok x) >>= f = f x
 (Err cause) >>= f = Err cause
 
--- a setting's value: 0, until overflowing queues are supported
+-- a setting's value: 0 for off, 1 for on
 abbrev pub value_of : List ℕ → Result ℕ LineCause
-value_of word = number_below 1 word
+value_of word = number_below 2 word
 
 -- each word a number
 abbrev pub numbers_of : List (List ℕ) → Result (List ℕ) LineCause

@@ -9,7 +9,7 @@ use Rattle.iox_script.specs.declared.parser.ParseError.{ParseError}
 use Rattle.iox_script.specs.declared.parser.ParseError.TheVariants as errors
 use Rattle.iox_script.specs.declared.parser.ParseError.TheVariants.{Bad}
 use Rattle.iox_script.specs.declared.reply.ScriptRefusal.{ScriptRefusal}
-use Rattle.iox_script.specs.declared.reply.ScriptRefusal.TheVariants.{ServiceExists, NoService, Unsupported, ExceedsMaximumLength, InvalidContent}
+use Rattle.iox_script.specs.declared.reply.ScriptRefusal.TheVariants.{ServiceExists, NoService, ExceedsMaximumLength, InvalidContent}
 use Rattle.iox_script.specs.declared.reply.ScriptReply.{ScriptReply}
 use Rattle.iox_script.specs.declared.reply.ScriptReply.TheVariants.{Service, Refused}
 use Rattle.iox_script.specs.Commands.{ServiceRefusal, ServiceReply}
@@ -31,7 +31,6 @@ error_text errors.WantOfMemory = codes "out of memory"
 abbrev pub script_refusal_text : ScriptRefusal → List ℕ
 script_refusal_text ServiceExists = codes "ServiceExists"
 script_refusal_text NoService = codes "NoService"
-script_refusal_text Unsupported = codes "Unsupported"
 script_refusal_text ExceedsMaximumLength = codes "ExceedsMaximumLength"
 script_refusal_text InvalidContent = codes "InvalidContent"
 

@@ -157,7 +157,6 @@ fn script_refusal_text(refusal: ScriptRefusal) -> &'static str
     match refusal {
         ScriptRefusal::ServiceExists => "ServiceExists",
         ScriptRefusal::NoService => "NoService",
-        ScriptRefusal::Unsupported => "Unsupported",
         ScriptRefusal::ExceedsMaximumLength => "ExceedsMaximumLength",
         ScriptRefusal::InvalidContent => "InvalidContent",
     }

@@ -18,9 +18,6 @@ pub enum ScriptRefusal {
     ServiceExists,
     /// The service is not created yet.
     NoService,
-    /// It is not supported yet. At `create`: queues that overflow are not, so that both settings
-    /// have to be 0.
-    Unsupported,
     /// The service's name has more than 255 bytes.
     ExceedsMaximumLength,
     /// The service's name begins with `iox2://` or has a byte outside 1 to 127.

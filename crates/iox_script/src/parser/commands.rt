@@ -26,7 +26,7 @@ pub(super) fn set(mut words: Words<'_>) -> Result<ScriptCommand, LineCause>
     let value = words.take()?;
     words.finish()?;
     let key = key(setting)?;
-    let value = number_up_to(value, 0)?;
+    let value = number_up_to(value, 1)?;
     Ok(ScriptCommand::Set { key, value })
 }
 
