@@ -118,8 +118,8 @@ def no_memory_for_a_message(program):
         running.stdin.flush()
         found = read_exactly(running.stdout, len(ANSWERS))
         resource.prlimit(running.pid, resource.RLIMIT_AS, (0, 0))
-        more, _ = running.communicate(b"server 0 1\nsend-copy 0 0" + 30000 * b" 1" + b"\nopen 2 0 0 0\n", timeout=SECONDS)
-    return fault_of_end(running.returncode, found + more, 3, ANSWERS + b"server 1\n")
+        more, _ = running.communicate(b"read 0 9\nsend-copy 0 0" + 30000 * b" 1" + b"\nopen 2 0 0 0\n", timeout=SECONDS)
+    return fault_of_end(running.returncode, found + more, 3, ANSWERS + b"refused UnknownNumber\n")
 
 
 CASES = (

@@ -1,8 +1,4 @@
 pub mod WorkedScripts
-pub mod HubLists
-pub mod HubSlots
-pub mod HubSound
-pub mod HubResponses
 pub mod RunAnswers
 pub mod RunSteps
 pub mod RunFaults

@@ -10,9 +10,11 @@ use Rattle.iox_script.specs.Lines.{is_line_feed, pieces_of, ended_lines}
 use Rattle.iox_run.specs.declared.fault.Fault.{Fault}
 use Rattle.iox_run.specs.declared.fault.Fault.TheVariants.{WantOfMemory}
 use Rattle.iox_run.specs.declared.run.player.Player.{Player}
-use Rattle.iox_run.specs.Answers.{text_of_lines}
+use Rattle.iox_session.specs.SessionStates.{new_session}
+use Rattle.iox_run.specs.Answers.{IsTextOfLines}
 use Rattle.iox_run.specs.Runs.{Stops, Plays, max_script}
 use Rattle.iox_run.specs.Standings.{ReadsWithin, Stands, IsSent, Sends, PlaysOn, Finishes}
+use Rattle.iox_run.proofs.RunFaults.{ended_answered}
 
 -- A script was taken from the reader, which may give so many bytes more, and all its answers so far went to the writer.
 pub record Running (reader reader' writer writer' : Option (List ℕ)) (room : ℕ) (player : Player) : Type 0 where
@@ -84,13 +86,15 @@ Plays-cut reader reader' reader'' writer writer' room player fault chunk running
     let front : take max_script (running.script ++ more) ≡ running.script =
     ap (λ n. take n (running.script ++ more)) (sym running.within) ∙ take-append-add running.script more room
     ∙ ap (λ t. running.script ++ t) fails.1.2 ∙ append-nil running.script in
-    let all : running.sent ≡ text_of_lines (ended_lines running.script) = sym (append-nil running.sent)
-    ∙ ap (λ t. running.sent ++ t) (sym running.none) ∙ running.stands.answers in (
+    let sent : running.sent ++ player.answers.items ≡ running.sent =
+    ap (λ t. running.sent ++ t) running.none ∙ append-nil running.sent in
+    let all : IsTextOfLines (ended_lines running.script) running.sent =
+    subst (IsTextOfLines (ended_lines running.script)) sent (ended_answered running.script running.sent player running.stands) in (
       running.script ++ more,
       running.sent,
       Consumes-trans reader reader' reader'' running.script more running.came fails.1.1,
       running.went,
-      inl (subst (λ f. Stops f (running.script ++ more) running.sent) (sym fails.0) (all ∙ ap (λ s. text_of_lines (ended_lines s)) (sym front))),
+      inl (subst (λ f. Stops f (running.script ++ more) running.sent) (sym fails.0) (subst (λ s. IsTextOfLines (ended_lines s) running.sent) (sym front) all)),
     )
 
 -- the script ended
@@ -108,4 +112,4 @@ Plays-finished reader reader' reader'' writer writer' writer'' room player resul
 -- there was no memory to begin with
 pub Plays-nothing : (reader writer : Option (List ℕ))
     → Plays {E = Unit {0}} reader reader writer writer (Err WantOfMemory)
-Plays-nothing reader writer = ([], [], Consumes-nil reader, Appends-nil writer, inl (0, refl))
+Plays-nothing reader writer = ([], [], Consumes-nil reader, Appends-nil writer, inl (0, ([], new_session, refl, refl)))

@@ -1,5 +1,5 @@
 -- Only for proofs of this crate: how far a player is in a script, and what each of its calls does.
-use Rattle.std.specs.Prelude.{◌≡◌, ℕ, ◌+◌, ◌≤◌, List, [], ◌∷◌, ◌++◌, length, take, map, Option, Result, Ok, Err}
+use Rattle.std.specs.Prelude.{◌≡◌, ℕ, ◌+◌, ◌≤◌, List, [], ◌++◌, length, take, map, Option, Result, Ok, Err}
 use Rattle.std.specs.Io.KnownBytes.{Appends, Consumes, IsAtEnd}
 use Rattle.iox_script.specs.declared.command.LineCause.{LineCause}
 use Rattle.iox_script.specs.declared.command.ScriptCommand.{ScriptCommand}
@@ -9,9 +9,9 @@ use Rattle.iox_script.specs.Grammar.{max_line, meaning}
 use Rattle.iox_run.specs.declared.fault.Fault.{Fault}
 use Rattle.iox_run.specs.declared.fault.Fault.TheVariants.{Read, Write}
 use Rattle.iox_run.specs.declared.run.player.Player.{Player}
-use Rattle.iox_run.specs.ScriptStates.{ScriptState, new_machine}
-use Rattle.iox_run.specs.Commands.{reply_to, after}
-use Rattle.iox_run.specs.Answers.{text_of_lines}
+use Rattle.iox_session.specs.SessionStates.{SessionState, new_session}
+use Rattle.iox_session.specs.Shown.{session_of}
+use Rattle.iox_run.specs.Answers.{IsLineAnswered, AreReplies, answer_text, answer_texts}
 use Rattle.iox_run.specs.Runs.{IsBeginningOf, Stops, Answers, max_script}
 
 -- A read gave `n` bytes: at most as many as there was room for, and none only at the end.
@@ -37,20 +37,12 @@ abbrev pub SendsAll : List ℕ → Result (Unit {0}) Fault → List ℕ → Type
 SendsAll bytes (Ok _) more = more ≡ bytes
 SendsAll bytes (Err fault) more = (fault ≡ Write) × IsBeginningOf more bytes
 
--- the answer to what a line says
-abbrev pub answer_to : ScriptState → Result ScriptCommand LineCause → Result ScriptReply LineCause
-answer_to m (Ok command) = Ok (reply_to m command)
-answer_to m (Err cause) = Err cause
-
--- the state that a line leaves
-abbrev pub after_line : ScriptState → Result ScriptCommand LineCause → ScriptState
-after_line m (Ok command) = after m command
-after_line m (Err cause) = m
-
--- the state that these lines leave
-abbrev pub after_lines : ScriptState → List (Result ScriptCommand LineCause) → ScriptState
-after_lines m [] = m
-after_lines m (said ∷ rest) = after_lines (after_line m said) rest
+-- The line of that number was answered: from m it left m', and its answer stands behind the text.
+abbrev pub AnswersLine : ℕ → Result ScriptCommand LineCause → (m m' : SessionState)
+    → (text text' : List ℕ) → Type 0
+AnswersLine number said m m' text text' =
+    (answer : Result ScriptReply LineCause) × IsLineAnswered m said answer m'
+    × (text' ≡ text ++ answer_text number answer)
 
 -- the bytes of a line that are kept: enough to know what the line says
 unfoldable pub kept : List ℕ → List ℕ
@@ -58,10 +50,11 @@ kept line = take (max_line + 1) line
 
 -- How far the player is once it has read this much of a script and sent these answers.
 pub record Stands (script sent : List ℕ) (player : Player) : Type 0 where
-  pub session : player.session ≡ after_lines new_machine (map meaning (ended_lines script))
+  pub replies : List (Result ScriptReply LineCause)
+  pub played : AreReplies new_session (map meaning (ended_lines script)) replies (session_of player.session)
   pub count : player.count ≡ length (ended_lines script)
   pub line : player.line.items ≡ kept (rest_of script)
-  pub answers : sent ++ player.answers.items ≡ text_of_lines (ended_lines script)
+  pub answers : sent ++ player.answers.items ≡ answer_texts 1 replies
 
 -- The player took these further bytes, and sent these further answers.
 abbrev pub Goes : (bytes more : List ℕ) → (player player' : Player) → Type 0

@@ -2,12 +2,7 @@
 #![tactic(auto)]
 
 mod fault;
-mod hub;
-mod limits;
-mod refusal;
-mod registry;
 mod run;
-mod session;
 
 use fault::status_of;
 use std::process::ExitCode;

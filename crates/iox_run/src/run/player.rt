@@ -1,14 +1,14 @@
 //! What a run keeps from one read to the next.
 ghost use Rattle.std.specs.Prelude.{◌≡◌, ◌-◌, ◌++◌, length, take, OnOk, OnErr};
 ghost use Rattle.iox_script.specs.Grammar.{meaning};
-ghost use Rattle.iox_run.specs.Answers.{answer_text};
-ghost use Rattle.iox_run.specs.Standings.{answer_to, after_line};
+ghost use Rattle.iox_session.specs.Shown.{session_of};
+ghost use Rattle.iox_run.specs.Standings.{AnswersLine};
 
 use super::cuts::first_line;
 use super::streams::send;
 use crate::fault::Fault;
-use crate::session::Session;
 use iox_script::{ParseError, parse, push_bad_line, push_reply};
+use iox_session::Session;
 use std::alloc::{AllocError, Global};
 use std::io::Write;
 
@@ -168,9 +168,8 @@ fn answer(
     number: u64,
     line: &[u8],
 ) -> Result<(), AllocError>
-    ensures answered { OnOk result (answers.new.items
-        ≡ answers.old.items ++ answer_text number (answer_to session.old (meaning line.now))) }
-    ensures after { OnOk result (session.new ≡ after_line session.old (meaning line.now)) }
+    ensures answered { OnOk result (AnswersLine number (meaning line.now)
+        (session_of session.old) (session_of session.new) answers.old.items answers.new.items) }
     ensures unchanged { OnErr result (answers.new.items ≡ answers.old.items) }
 {
     match parse(alloc, line) {

@@ -209,7 +209,7 @@ fn each_kind_of_line_is_answered(rt: HostRuntime) -> Result<(), Fail> {
         ),
         (
             b"set request-overflow 0\ncreate 61 1 0 0 0\n",
-            b"ok\nrefused Unsupported\n",
+            b"ok\nnode 0\n",
         ),
         (
             b"set request-overflow 0\nset response-overflow 0\ncreate 61 1 0 0 x\ncreate 61 1 0 0 0\n",

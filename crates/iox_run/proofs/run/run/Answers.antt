@@ -13,6 +13,11 @@ returns-in_err-player-clause-text g c =
     let p = err_from_is_err_and c.from_residual.result c.from_residual.ensures.1 in
     rw (p.1, p.2) (Plays-nothing _ _)
 
+pub returns-in_err-buffer-clause-text : goal.returns-in_err-buffer-clause-text
+returns-in_err-buffer-clause-text g c =
+    let p = err_from_is_err_and c.from_residual-in_err-buffer.result c.from_residual-in_err-buffer.ensures.1 in
+    rw (p.1, p.2) (Plays-nothing _ _)
+
 pub reads-init : goal.reads-init
 reads-init g c = (omega (arith, c.as_mut_slice-chunk.ensures.len, c.in_ok-buffer.ensures.len), Running-new _ _ _ c.in_ok-player.ensures.stands c.in_ok-player.ensures.sent)
 

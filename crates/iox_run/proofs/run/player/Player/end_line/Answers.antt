@@ -14,9 +14,9 @@ returns-clause-played c =
       | then-is_empty+in_ok-answer w ↦
           let test : eqb (vec_len player.line) 0 ≡ true = sym c.is_empty.ensures ∙ w.if-is_empty.true in
           let none : player.line.items ≡ [] = nil_from_length _ (omega (arith, player.line.ok.0, eqb-true _ _ test)) in
-          rw w.self-is (Goes-line bytes (meaning bytes) player _ c.requires.whole (λ script sent stands. said_from_bytes script sent bytes player stands none) w.in_ok-answer.ensures.after refl none w.in_ok-answer.ensures.answered)
+          rw w.self-is (Goes-line bytes (meaning bytes) player _ c.requires.whole (λ script sent stands. said_from_bytes script sent bytes player stands none) w.in_ok-answer.ensures.answered refl none)
       | else-is_empty+in_ok-keep+in_ok-answer-2 w ↦
           let line = w.as_slice.result.now in
           let grown = w.as_slice.ensures.value ∙ w.in_ok-keep.ensures.kept in
-          rw w.self-is (Goes-line bytes (meaning line) player _ c.requires.whole (λ script sent stands. said_from_kept script sent bytes line player stands grown) w.in_ok-answer-2.ensures.after refl w.clear.ensures.items w.in_ok-answer-2.ensures.answered)
+          rw w.self-is (Goes-line bytes (meaning line) player _ c.requires.whole (λ script sent stands. said_from_kept script sent bytes line player stands grown) w.in_ok-answer-2.ensures.answered refl w.clear.ensures.items)
     ]

@@ -1,0 +1,8 @@
+pub mod Said
+pub mod NodeLists
+pub mod Limited
+pub mod Starting
+pub mod Calling
+pub mod PortMaking
+pub mod Serving
+pub mod Playing
