@@ -167,6 +167,22 @@ fn server(hub: &mut TheHub, alloc: Global) -> Told
     )
 }
 
+/// The client of number 0 lends a request of one element.
+fn loan(hub: &mut TheHub, alloc: Global) -> Told
+    requires { HaveDefaults hub.old }
+    ensures { HaveDefaults hub.new }
+{
+    ask(
+        hub,
+        alloc,
+        PortCommand::Loan {
+            node: 0,
+            number: 0,
+            elements: 1,
+        },
+    )
+}
+
 /// Sends a request with these two elements.
 fn copy(hub: &mut TheHub, alloc: Global, number: u64) -> Result<Told, AllocError>
     requires { HaveDefaults hub.old }

@@ -2,7 +2,6 @@
 use Rattle.std.specs.Prelude.{◌≡◌, ◌↔◌, ℕ, Bool, true, false, if◌then◌else◌, IsTrue, List, [], ◌∷◌, ◌++◌, flat_map, length, Option, Some, None, refl}
 use Rattle.std.specs.Option.{option_map_or}
 use Rattle.std.proofs.Common.{sym, ap, ap₂, subst, ◌∙◌, true≢false}
-use Rattle.std.proofs.lemmas.Option.{none-some}
 use Rattle.iox_words.specs.Numbers.{one_word}
 use Rattle.iox_model.specs.declared.call.Call.TheVariants.{SendCopy}
 use Rattle.iox_model.specs.declared.kind.Kind.{Kind}
@@ -13,9 +12,8 @@ use Rattle.iox_model.specs.declared.reply.Reply.TheVariants.{Words}
 use Rattle.iox_model.specs.Commands.{Call, Reply}
 use Rattle.iox_model.specs.Handles.{has, same_kind}
 use Rattle.iox_model.specs.Names.{suits}
-use Rattle.iox_model.specs.States.{State}
 use Rattle.iox_model.specs.WholeCalls.{IsWholeCall}
-use Rattle.iox_control_questions.specs.Asking.{asked_of, call_of}
+use Rattle.iox_control_questions.specs.Asking.{call_of}
 use Rattle.iox_control_questions.specs.declared.asked.Asked.TheVariants as asks
 use Rattle.iox_tables.specs.HubLoans.Questions.{kind_in}
 use Rattle.iox_tables.specs.HubStates.States.{Given}

@@ -1,12 +1,10 @@
 -- What a line says, a line can say: whoever plays what a line means may do so.
 use Rattle.std.specs.Prelude.{◌≡◌, ℕ, Bool, true, false, if◌then◌else◌, List, [], ◌∷◌, nat_lt, length, Option, Some, None, Result, Ok, Err, ⊤, refl}
-use Rattle.std.proofs.Common.{sym, subst}
-use Rattle.iox_types.specs.declared.identifiers.system_id.UniqueSystemId.{UniqueSystemId}
+use Rattle.std.proofs.Common.{subst}
 use Rattle.iox_script.specs.declared.command.Keyword.{Keyword}
 use Rattle.iox_script.specs.declared.command.Keyword.TheVariants as keywords
 use Rattle.iox_script.specs.declared.command.LineCause.{LineCause}
 use Rattle.iox_script.specs.declared.command.ScriptCommand.{ScriptCommand}
-use Rattle.iox_script.specs.declared.command.Key.{Key}
 use Rattle.iox_script.specs.Lines.{words_of}
 use Rattle.iox_script.specs.Names.{keyword_of, key_of}
 use Rattle.iox_script.specs.Numerals.{number_of, bytes_of}

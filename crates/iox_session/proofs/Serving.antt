@@ -15,7 +15,7 @@ use Rattle.iox_model.specs.Commands.{Call, Create, HubCommand, Options, PortComm
 use Rattle.iox_model.specs.Joins.{IsOpening, joined, new_node, node_at, same_id, with_members}
 use Rattle.iox_model.specs.Makings.{IsHubCommand}
 use Rattle.iox_model.specs.Maps.{or_else, refused_if}
-use Rattle.iox_model.specs.Services.{IsCommand, IsNodeCommand}
+use Rattle.iox_model.specs.Services.{IsNodeCommand}
 use Rattle.iox_model.specs.States.{Node, State}
 use Rattle.iox_model.specs.WholeCalls.{IsWholeCall, UnlessRefused}
 use Rattle.iox_tables.specs.HubStates.States.{Given}

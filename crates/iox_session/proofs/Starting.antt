@@ -1,5 +1,5 @@
 -- A new hub and its first node show the service as it is created.
-use Rattle.std.specs.Prelude.{◌≡◌, Bool, true, List, [], ◌∷◌, Result, Ok, Err, IfOk, refl}
+use Rattle.std.specs.Prelude.{◌≡◌, Bool, true, [], ◌∷◌, Result, Ok, Err, IfOk, refl}
 use Rattle.std.proofs.Common.{ap, ap₂, ◌∙◌}
 use Rattle.iox_types.specs.declared.backpressure.AllocationStrategy.TheVariants.{Static}
 use Rattle.iox_types.specs.declared.backpressure.BackpressureStrategy.TheVariants.{RetryUntilDelivered}

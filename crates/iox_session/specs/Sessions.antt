@@ -50,6 +50,20 @@ IsSaid (Set key value) = ⊤
 IsSaid (Create name id) = ⊤
 IsSaid (Service command) = IsAsked command
 
+-- the service may find no memory for it: a node or a port is made, or words are shown
+abbrev pub WantsMemory : ServiceCommand → Type 0
+WantsMemory (Join id asked) = ⊤
+WantsMemory (Port (Client node id options)) = ⊤
+WantsMemory (Port (Server node id options)) = ⊤
+WantsMemory (Port (Read node number)) = ⊤
+WantsMemory _ = ⊥
+
+-- the session may find no memory for it: a service is made, or the service finds none
+abbrev pub MayFail : ScriptCommand → Type 0
+MayFail (Set key value) = ⊥
+MayFail (Create name id) = ⊤
+MayFail (Service command) = WantsMemory command
+
 -- ---- before the service is created
 
 -- the session with a setting changed; 0 switches it off

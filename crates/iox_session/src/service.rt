@@ -14,7 +14,7 @@ ghost use Rattle.iox_laws.specs.WorkedExamples.Examples.{follow};
 ghost use Rattle.iox_session.specs.Answers.{options_given};
 ghost use Rattle.iox_session.specs.Limits.{limits_with};
 ghost use Rattle.iox_session.specs.Shown.{service_of};
-ghost use Rattle.iox_session.specs.Sessions.{IsAsked, IsDoneWithMemory, IsPlain, IsServed};
+ghost use Rattle.iox_session.specs.Sessions.{IsAsked, IsDoneWithMemory, IsPlain, IsServed, WantsMemory};
 
 use crate::calls::{read, receive, send_copy};
 use crate::ports::make_port;
@@ -89,6 +89,7 @@ impl Service {
         ensures served { IfOk result (λ answer. IsServed (service_of self.old) command answer
             (service_of self.new)) }
         ensures unchanged { OnErr result (self.new ≡ self.old) }
+        ensures memory { OnErr result (WantsMemory command) }
     {
         match command {
             Command::Join { id, .. } => self.join(id),
@@ -107,6 +108,7 @@ impl Service {
         ensures served { IfOk result (λ answer. IsServed (service_of self.old) (Port command) answer
             (service_of self.new)) }
         ensures unchanged { OnErr result (self.new ≡ self.old) }
+        ensures memory { OnErr result (WantsMemory (Port command)) }
     {
         match command {
             PortCommand::Client { node, options, .. } => {

@@ -36,7 +36,7 @@ impl Session {
     ghost use Rattle.iox_script.specs.declared.command.ScriptCommand.TheVariants.{Create};
     ghost use Rattle.iox_session.specs.SessionStates.{new_session};
     ghost use Rattle.iox_session.specs.Shown.{session_of};
-    ghost use Rattle.iox_session.specs.Sessions.{IsPlayed, IsPlayedBy, IsSaid, with_setting};
+    ghost use Rattle.iox_session.specs.Sessions.{IsPlayed, IsPlayedBy, IsSaid, MayFail, with_setting};
     ghost use Rattle.std.specs.Prelude.{None};
 
     /// The session before its first command.
@@ -56,6 +56,7 @@ impl Session {
         ensures played { IfOk result (λ reply.
             IsPlayed (session_of self.old) command reply (session_of self.new)) }
         ensures unchanged { OnErr result (self.new ≡ self.old) }
+        ensures memory { OnErr result (MayFail command) }
     {
         match &mut self.service {
             Some(service) => match command {
@@ -74,6 +75,7 @@ impl Session {
         ensures played { IfOk result (λ reply.
             IsPlayedBy None (session_of self.old) command reply (session_of self.new)) }
         ensures unchanged { OnErr result (self.new ≡ self.old) }
+        ensures memory { OnErr result (MayFail command) }
     {
         match command {
             ScriptCommand::Set { key, value } => {

@@ -1,5 +1,5 @@
 //! What is refused at a limit.
-use super::{OPTIONS, Told, answer, ask, client, copy, hub, server};
+use super::{OPTIONS, Told, answer, ask, client, copy, hub, loan, server};
 use iox_model::command::{PortCommand, PortOptions};
 use iox_model::reply::Refusal;
 use std::test::Fail;
@@ -9,23 +9,9 @@ fn the_third_loan_of_two_is_refused(rt: HostRuntime) -> Result<(), Fail> {
     let a = rt.alloc();
     let mut hub = hub(a)?;
     client(&mut hub, a, OPTIONS);
-    for expected in 1..3u64 {
-        let loan = PortCommand::Loan {
-            node: 0,
-            number: 0,
-            elements: 1,
-        };
-        assert_eq!(rt; ask(&mut hub, a, loan), Told::Handle(expected));
-    }
-    let third = PortCommand::Loan {
-        node: 0,
-        number: 0,
-        elements: 1,
-    };
-    assert_eq!(rt;
-        ask(&mut hub, a, third),
-        Told::Refused(Refusal::ExceedsMaxLoans)
-    );
+    assert_eq!(rt; loan(&mut hub, a), Told::Handle(1));
+    assert_eq!(rt; loan(&mut hub, a), Told::Handle(2));
+    assert_eq!(rt; loan(&mut hub, a), Told::Refused(Refusal::ExceedsMaxLoans));
     Ok(())
 }
 

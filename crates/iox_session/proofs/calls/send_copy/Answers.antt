@@ -5,7 +5,7 @@ use Rattle.iox_model.specs.Commands.{Call}
 use Rattle.iox_control_questions.specs.declared.asked.Asked.TheVariants as asks
 use Rattle.iox_hub.specs.Hubs.{state_of_hub}
 use Rattle.iox_session.specs.Answers.{payload_given}
-use Rattle.iox_session.proofs.Calling.{calls_so, copies_so, replies_so, role_is, sends_requests, where_false, where_true}
+use Rattle.iox_session.proofs.Calling.{calls_so, copies_so, replies_so, role_is, where_false, where_true}
 use Rattle.iox_session.proofs.calls.send_copy.Goals as goal
 
 pub returns-then-has-clause-whole : goal.returns-then-has-clause-whole
