@@ -1,5 +1,6 @@
+pub mod CourseLeads
+pub mod BeginLeads
 pub mod OwnKept
-pub mod ReceivesKept
 pub mod Lookups
 pub mod OpenLanes
 pub mod BeginBeats

@@ -14,5 +14,4 @@ pub mod MessageStores
 pub mod MessageLoads
 pub mod Unsent
 pub mod Readers
-pub mod FreshBegins
 pub mod BeginsShow

@@ -1,6 +1,6 @@
-pub mod FreshCourses
 pub mod NextPlaces
 pub mod NextPrograms
+pub mod QuietMoments
 pub mod Ids
 pub mod StepsShow
 pub mod OwnedCalls

@@ -41,7 +41,7 @@ use Rattle.iox_wire_laws.specs.WireKeeping.Readiness.{choice_for, IsReady}
 use Rattle.iox_wire_laws.specs.WireKeeping.BeginLaws.{RefusalsAreTheMachines, BeginsAreBeats}
 use Rattle.iox_wire_laws.proofs.WireKeeping.Lookups.{subject_is, misnamed_same}
 use Rattle.iox_wire_laws.proofs.WireKeeping.OpenLanes.{first_is_open}
-use Rattle.iox_wire_laws.proofs.WireKeeping.ReceivesKept as kept
+use Rattle.iox_wire_laws.proofs.WireKeeping.BeginLeads as begins
 
 -- ---- refusals
 
@@ -184,7 +184,7 @@ begins_are_beats p held w x (wire_calls.Port call) ready free =
     let y : Seat = begin p x (wire_calls.Port call) in (
       (free, (refl, rw named b.1), refl),
       subst (λ n. put_at w.doing x.node (Some (machine.start w.state x.node (choice_for p x (wire_calls.Port call)) call)) n
-          ≡ doing_of p w.state.fixed held n y.local) (sym (kept.begin p x (wire_calls.Port call)).node)
+          ≡ doing_of p w.state.fixed held n y.local) (sym (begins.begin p x (wire_calls.Port call)).own.node)
           (put_at-here w.doing x.node _
           ∙ ap (λ o. Some (option_map_or (machine.begins_at w.state (choice_for p x (wire_calls.Port call)) call) o (refused UnknownNumber))) named ∙ sym b.0),
     )

@@ -26,10 +26,11 @@ use Rattle.iox_wire_locals.proofs.EndProofs.{tables_settle}
 use Rattle.iox_wire_laws.specs.WireKeeping.OwnParts.{KeepsOwn}
 use Rattle.iox_wire_laws.specs.WireKeeping.OwnLaws.{BeginsKeepOwn, StepsKeepOwn, OwnStaysCounted, EndsKeepCounts}
 use Rattle.iox_wire_laws.proofs.WireKeeping.Frames.{Frame, KeepsPorts, settled_frame}
-use Rattle.iox_wire_laws.proofs.WireKeeping.ReceivesKept as kept
+use Rattle.iox_wire_laws.proofs.WireKeeping.BeginLeads as begins
+use Rattle.iox_wire_laws.proofs.WireKeeping.OwnKept as kept
 
 pub begins_keep_own : BeginsKeepOwn
-begins_keep_own p x call = kept.begin p x call
+begins_keep_own p x call = (begins.begin p x call).own
 
 pub steps_keep_own : StepsKeepOwn
 steps_keep_own p x seen =

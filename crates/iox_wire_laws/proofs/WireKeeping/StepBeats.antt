@@ -45,7 +45,7 @@ use Rattle.iox_wire_laws.specs.WireKeeping.StepBeats.{ShowsStep, StepsAreBeats}
 use Rattle.iox_wire_laws.proofs.WireKeeping.Assembling.{May, assembled, of_queue}
 use Rattle.iox_wire_laws.proofs.WireKeeping.CountsKept.{by_part}
 use Rattle.iox_wire_laws.proofs.WireKeeping.QueueMoments as queue
-use Rattle.iox_wire_laws.proofs.WireKeeping.ReceivesKept as kept
+use Rattle.iox_wire_laws.proofs.WireKeeping.OwnKept as kept
 use Rattle.iox_wire_laws.proofs.WireKeeping.StateMoments as state
 
 module _ (p : Setting) (held : Pools) (word : ℕ → ℕ) (c : WireContents) (seats : ℕ → Seat) (world : World) (x : Seat)

@@ -35,7 +35,7 @@ use Rattle.iox_wire_laws.proofs.WireKeeping.OthersKept.{others_keep_counts}
 use Rattle.iox_wire_laws.proofs.WireShows.NextPrograms.{words_same}
 use Rattle.iox_wire_laws.proofs.WireShows.StepsShow.{seat_put}
 use Rattle.iox_wire_laws.specs.WireRegions.BeginsShow.{BeginsShowTheWorld, DeathsShowTheWorld}
-use Rattle.iox_wire_laws.proofs.WireRegions.FreshBegins as fresh
+use Rattle.iox_wire_laws.proofs.WireKeeping.BeginLeads as begins
 
 -- ---- begins
 
@@ -71,7 +71,7 @@ module _ (p : Setting) (held : Pools) (word : ℕ → ℕ) (c : WireContents) (s
       (seat_put (λ k z. put_at (programs_of p seats) n (program_of p y.local) k ≡ program_of p z.local) seats n y
       (put_at-here (programs_of p seats) n (program_of p y.local))
       (λ k other. rw other refl))
-      (begins_keep_the_words p.layout word (programs_of p seats) c n (program_of p y.local) (subst IsOver (sym rests) tt) (fresh.begin p x call).fresh shows.words)
+      (begins_keep_the_words p.layout word (programs_of p seats) c n (program_of p y.local) (subst IsOver (sym rests) tt) (begins.begin p x call).fresh.fresh shows.words)
 
   beat_here : IsBeat w (Begins x.node call (choice_for p x call)) (begun w x.node (choice_for p x call) call) × ShowsDoing p held (begun w x.node (choice_for p x call) call) y
   beat_here = begins_are_beats p held w x call ready free_here

@@ -26,7 +26,7 @@ use Rattle.iox_wire_words.specs.BeginLaws.{IsOver}
 use Rattle.iox_wire_locals.specs.declared.seat.Seat.{Seat}
 use Rattle.iox_wire_locals.specs.Tables.{Setting}
 use Rattle.iox_wire_locals.specs.Locals.{program_of}
-use Rattle.iox_wire_laws.proofs.WireShows.FreshCourses.{FreshAt}
+use Rattle.iox_wire_laws.proofs.WireKeeping.CourseLeads.{FreshAt}
 
 -- the node's place goes on with that program, or begins another as that is over
 abbrev pub Follows : Setting → Program → Seat → Type 0

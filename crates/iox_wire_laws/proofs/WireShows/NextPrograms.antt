@@ -1,5 +1,5 @@
 -- Place by place: the words fit the program of the next place.
-use Rattle.std.proofs.Common.{◌≡◌, ℕ, inl, inr, Bool, true, false, if◌then◌else◌, ◌==◌, ◌+◌, ◌++◌, List, [], ◌∷◌, Option, Some, None, refl, sym, subst, ap, ◌∙◌}
+use Rattle.std.proofs.Common.{◌≡◌, ℕ, inl, inr, Bool, true, false, if◌then◌else◌, ◌==◌, ◌+◌, List, Option, Some, None, refl, sym, subst, ap, ◌∙◌}
 use Rattle.std.proofs.lemmas.Bool.{cases_Bool}
 use Rattle.iox_model.specs.declared.way.Way.{Way}
 use Rattle.iox_model.specs.Maps.{put_at}
@@ -34,19 +34,19 @@ use Rattle.iox_wire_locals.specs.declared.local.Delivery.{Delivery}
 use Rattle.iox_wire_locals.specs.declared.local.Local.{Local}
 use Rattle.iox_wire_locals.specs.declared.local.Visit.{Visit}
 use Rattle.iox_wire_locals.specs.declared.table.Entry.{Entry}
-use Rattle.iox_wire_locals.specs.declared.local.Local.TheVariants.{Idle, Ends, LendEmpties, LendStores, Writes, SendAsks, SendEmpties, SendLooks, SendOpens, SendPushes, SendEvicts, SendGetsBack, SendEnds, ReceiveLooks, ReceivePops, ReceiveLoads, ReceiveAsks, ReceiveReturns, Reads, ReleaseCloses, ReleaseReturns, ReleaseLooks, ReleaseExchanges, Checks, Hints, HintExchanges, Seeks}
+use Rattle.iox_wire_locals.specs.declared.local.Local.TheVariants.{Idle, Ends, LendEmpties, SendEmpties, SendLooks, SendPushes, SendEvicts, SendGetsBack, SendEnds, ReceiveLooks, ReceivePops, ReceiveReturns, ReleaseReturns, Seeks}
 use Rattle.iox_wire_locals.specs.declared.seat.Seat.{Seat}
 use Rattle.iox_wire_locals.specs.Tables.{Setting, way_in}
 use Rattle.iox_wire_locals.specs.Desks.{delivers, gets_back, at_desk}
 use Rattle.iox_wire_locals.specs.Findings as findings
-use Rattle.iox_wire_locals.specs.Locals.{program_of, state_told}
+use Rattle.iox_wire_locals.specs.Locals.{program_of}
 use Rattle.iox_wire_locals.specs.ReceiveFindings as receive_findings
 use Rattle.iox_wire_locals.specs.StepLaws.{ReliesOn}
 use Rattle.iox_wire_locals.specs.Steps.{advance, accessed}
 use Rattle.iox_wire_laws.specs.WireKeeping.Shows.{ShowsWorld, programs_of}
 use Rattle.iox_wire_laws.specs.WireShows.NextPrograms.{NextProgramsFit}
-use Rattle.iox_wire_laws.proofs.WireShows.FreshCourses as fresh
-use Rattle.iox_wire_laws.proofs.WireShows.FreshCourses.{FreshAt, either, rests}
+use Rattle.iox_wire_laws.proofs.WireKeeping.CourseLeads as course
+use Rattle.iox_wire_laws.proofs.WireKeeping.CourseLeads.{FreshAt}
 use Rattle.iox_wire_laws.proofs.WireShows.NextPlaces.{Follows, IsEarly, popped, seen_empty, seen_full, pushed}
 
 -- what is pushed back, its queue never found full
@@ -59,15 +59,12 @@ module _ (p : Setting) (z : Seat) (s : State) (held : Pools) where
   abbrev After : Local → ℕ → Type 0
   After local seen = Follows p (program_after p.layout (program_of p local) seen) (advance p z local seen)
 
-  looked : (e : Entry) (seen : ℕ) → FreshAt p (receive_findings.release_looked z e seen)
-  looked e seen = either p _ _ _ (rests p z _ tt) (rests p z _ tt)
-
   -- a push that finds room
   publishes : (d : Delivery) (last : Option Way) (w : Way) (left : List Way) (count : ℕ) (place : Push) (seen : ℕ) → IsEarly place
       → After (SendPushes d last w (pushing.Pushes place) left count) seen
   publishes d last w left count =
       pushed p (MessageQueue w) (findings.send_pushed p z d last w left count) (λ k. refl) (λ k. (refl, refl, refl))
-      (λ value. fresh.delivering p (at_desk z d.loan.port (delivers w value)) d _ left (count + 1))
+      (λ value. (course.delivering p (at_desk z d.loan.port (delivers w value)) d _ left (count + 1)).fresh)
 
   gives : (v : Visit) (w : Way) (slot : ℕ) (left : List Way) (waiting : Bool) (place : Push) (seen : ℕ) → IsEarly place
       → After (ReceiveReturns v w slot (pushing.Pushes place) left waiting) seen
@@ -78,7 +75,7 @@ module _ (p : Setting) (z : Seat) (s : State) (held : Pools) where
   returns : (e : Entry) (place : Push) (seen : ℕ) → IsEarly place → After (ReleaseReturns e (pushing.Pushes place)) seen
   returns e =
       pushed p (ReturningQueue (way_in e)) (receive_findings.release_returned z e) (λ k. refl) (λ k. (refl, refl, refl))
-      (λ value. fresh.given_back p z e)
+      (λ value. (course.given_back p z e).fresh)
 
   -- a push that found its queue full
   abbrev evicted : Bool → Site → ℕ → Pushing
@@ -91,7 +88,7 @@ module _ (p : Setting) (z : Seat) (s : State) (held : Pools) where
       → Follows p (Pushes (MessageQueue w) (evicted won (site_of p.layout (MessageQueue w)) read))
       (findings.send_evicted z d w left count (evicted won (site_of p.layout (MessageQueue w)) read) (evict_event won))
   evicts d w left count read seen true = inl refl
-  evicts d w left count read seen false = inr (refl, fresh.delivering p z d (Some w) left count)
+  evicts d w left count read seen false = inr (refl, (course.delivering p z d (Some w) left count).fresh)
 
   gives_late : (v : Visit) (w : Way) (slot : ℕ) (left : List Way) (waiting : Bool) (read seen : ℕ) (won : Bool)
       → Follows p (Pushes (ReturningQueue w) (evicted won (site_of p.layout (ReturningQueue w)) read))
@@ -111,20 +108,15 @@ module _ (p : Setting) (z : Seat) (s : State) (held : Pools) where
   follows (SendEnds d last count) seen relies room = absurd relies
   -- a loan or a send gets back
   follows (LendEmpties o w (popping.Pops place) left) seen relies room =
-      popped p (ReturningQueue w) (findings.loan_emptied z o w left) (λ k. refl) (fresh.loaning p z o left) (λ slot. record { fresh = refl }) (λ k. refl) place seen
+      popped p (ReturningQueue w) (findings.loan_emptied z o w left) (λ k. refl) (course.loaning p z o left).fresh (λ slot. record { fresh = refl }) (λ k. refl) place seen
   follows (LendEmpties o w place left) seen relies room = absurd relies
   follows (SendEmpties d w (popping.Pops place) left) seen relies room =
-      popped p (ReturningQueue w) (findings.send_emptied p z d w left) (λ k. refl) (fresh.emptying p z d left) (λ slot. record { fresh = refl }) (λ k. refl) place seen
+      popped p (ReturningQueue w) (findings.send_emptied p z d w left) (λ k. refl) (course.emptying p z d left).fresh (λ slot. record { fresh = refl }) (λ k. refl) place seen
   follows (SendEmpties d w place left) seen relies room = absurd relies
-  -- words are stored
-  follows (LendStores o slot next) seen relies room = inr (tt, either p _ _ _ (fresh.lent p z o slot) (rests p z _ tt))
-  follows (Writes e words next) seen relies room = inr (tt, either p _ _ _ (rests p z _ tt) (rests p z _ tt))
-  -- a send asks, looks, opens, and pushes
-  follows (SendAsks d) seen relies room = inr (tt, fresh.asked p z d (state_told seen))
+  -- a send looks and pushes
   follows (SendLooks d w (pushing.Looks place) left full) seen relies room =
-      seen_full p (MessageQueue w) (findings.send_looked p z d w left full) (λ k. refl) (fresh.looking p z d left _) (fresh.looking p z d left full) place seen
+      seen_full p (MessageQueue w) (findings.send_looked p z d w left full) (λ k. refl) (course.looking p z d left _).fresh (course.looking p z d left full).fresh place seen
   follows (SendLooks d w place left full) seen relies room = absurd relies
-  follows (SendOpens d w left full) seen relies room = inr (tt, fresh.opening p z d left full)
   follows (SendPushes d last w (pushing.Pushes (push.StoresWrite value end (Some read))) left count) seen relies room = inl refl
   follows (SendPushes d last w (pushing.Pushes (push.StoresWrite value end None)) left count) seen relies room =
       publishes d last w left count (push.StoresWrite value end None) seen tt
@@ -140,20 +132,17 @@ module _ (p : Setting) (z : Seat) (s : State) (held : Pools) where
   follows (SendEvicts d w (pushing.Pushes (push.Evicts read)) left count) seen relies room = evicts d w left count read seen (seen == read)
   follows (SendEvicts d w place left count) seen relies room = absurd relies
   follows (SendGetsBack d w (pushing.Pushes (push.TakesOld cell)) left count) seen relies room =
-      inr (refl, fresh.delivering p (at_desk z d.loan.port (gets_back w seen)) d None left count)
+      inr (refl, (course.delivering p (at_desk z d.loan.port (gets_back w seen)) d None left count).fresh)
   follows (SendGetsBack d w place left count) seen relies room = absurd relies
-  -- a receive looks or pops, loads a header, asks, and gives back
+  -- a receive looks or pops, and gives back
   follows (ReceiveLooks v w (popping.Looks place) left waiting) seen relies room =
-      seen_empty p (MessageQueue w) (receive_findings.receive_looked p z v w left waiting) (λ k. refl) (fresh.visiting p z v left waiting)
-      (fresh.visiting p z v left true) place seen
+      seen_empty p (MessageQueue w) (receive_findings.receive_looked p z v w left waiting) (λ k. refl) (course.visiting p z v left waiting).fresh
+      (course.visiting p z v left true).fresh place seen
   follows (ReceiveLooks v w place left waiting) seen relies room = absurd relies
   follows (ReceivePops v w more (popping.Pops place) left waiting) seen relies room =
-      popped p (MessageQueue w) (receive_findings.receive_popped p z v w more left waiting) (λ k. refl) (fresh.visiting p z v left waiting)
+      popped p (MessageQueue w) (receive_findings.receive_popped p z v w more left waiting) (λ k. refl) (course.visiting p z v left waiting).fresh
       (λ slot. record { fresh = tt }) (λ k. refl) place seen
   follows (ReceivePops v w more place left waiting) seen relies room = absurd relies
-  follows (ReceiveLoads v w slot header left waiting) seen relies room =
-      inr (tt, either p _ _ _ (fresh.took p z v w slot (header ++ seen ∷ []) left waiting) (rests p z _ tt))
-  follows (ReceiveAsks v w slot header left waiting) seen relies room = inr (tt, fresh.judged p z v w slot header left waiting (state_told seen))
   follows (ReceiveReturns v w slot (pushing.Pushes (push.LoadsWrite value)) left waiting) seen relies room = gives v w slot left waiting (push.LoadsWrite value) seen tt
   follows (ReceiveReturns v w slot (pushing.Pushes (push.LoadsRead value write)) left waiting) seen relies room = gives v w slot left waiting (push.LoadsRead value write) seen tt
   follows (ReceiveReturns v w slot (pushing.Pushes (push.StoresCell value cell end full)) left waiting) seen relies room = gives v w slot left waiting (push.StoresCell value cell end full) seen tt
@@ -162,10 +151,7 @@ module _ (p : Setting) (z : Seat) (s : State) (held : Pools) where
   follows (ReceiveReturns v w slot (pushing.Pushes (push.Evicts read)) left waiting) seen relies room = gives_late v w slot left waiting read seen (seen == read)
   follows (ReceiveReturns v w slot (pushing.Pushes (push.TakesOld cell)) left waiting) seen relies room = inl refl
   follows (ReceiveReturns v w slot place left waiting) seen relies room = absurd relies
-  -- words are loaded
-  follows (Reads e words) seen relies room = inr (tt, either p _ _ _ (rests p z _ tt) (rests p z _ tt))
-  -- a release closes, or gives back and then closes
-  follows (ReleaseCloses e w left) seen relies room = inr (tt, fresh.closing p z e left)
+  -- a release gives back
   follows (ReleaseReturns e (pushing.Pushes (push.LoadsWrite value))) seen relies room = returns e (push.LoadsWrite value) seen tt
   follows (ReleaseReturns e (pushing.Pushes (push.LoadsRead value write))) seen relies room = returns e (push.LoadsRead value write) seen tt
   follows (ReleaseReturns e (pushing.Pushes (push.StoresCell value cell end full))) seen relies room = returns e (push.StoresCell value cell end full) seen tt
@@ -174,15 +160,12 @@ module _ (p : Setting) (z : Seat) (s : State) (held : Pools) where
   follows (ReleaseReturns e (pushing.Pushes (push.Evicts read))) seen relies room = returns_late e read seen (seen == read)
   follows (ReleaseReturns e (pushing.Pushes (push.TakesOld cell))) seen relies room = inl refl
   follows (ReleaseReturns e place) seen relies room = absurd relies
-  follows (ReleaseLooks e) seen relies room = inr (tt, looked e seen)
-  follows (ReleaseExchanges e old) seen relies room = inr (tt, either p _ _ _ (rests p z _ tt) (looked e seen))
-  -- questions and hints
-  follows (Checks e hinted w left) seen relies room = inr (tt, either p _ _ _ (rests p z _ tt) (fresh.checking p z e hinted left))
-  follows (Hints e w left) seen relies room = inr (tt, either p _ _ _ (rests p z _ tt) (fresh.hinting p z e left))
-  follows (HintExchanges e w left) seen relies room = inr (tt, fresh.hinting p z e left)
+  -- a question looks
   follows (Seeks w (popping.Looks place) left) seen relies room =
-      seen_empty p (MessageQueue w) (receive_findings.sought z w left) (λ k. refl) (fresh.seeking p z left) (rests p z _ tt) place seen
+      seen_empty p (MessageQueue w) (receive_findings.sought z w left) (λ k. refl) (course.seeking p z left).fresh (record { fresh = tt }) place seen
   follows (Seeks w place left) seen relies room = absurd relies
+  -- and what is no queue's
+  follows local seen relies room = inr (tt, (course.after p z local seen tt).fresh)
 
 -- ---- the law
 

@@ -1,14 +1,17 @@
 -- A call that owns its place may access it, and owns the next one: at every place.
 use Rattle.std.specs.Prelude.{◌≡◌, ℕ, None}
+use Rattle.iox_model.specs.declared.way.RequestState.{RequestState}
+use Rattle.iox_model.specs.declared.way.Way.{Way}
 use Rattle.iox_model.specs.Joins.{not_living}
 use Rattle.iox_model.specs.Maps.{put_at}
-use Rattle.iox_model.specs.States.{State}
+use Rattle.iox_model.specs.States.{Fixed, State}
 use Rattle.iox_model.specs.Weaves.{World}
 use Rattle.iox_steps.specs.Accesses.{seen_by}
 use Rattle.iox_wire_words.specs.Programs.{program_access}
 use Rattle.iox_wire_words.specs.Fits.{WireContents, contents_after}
 use Rattle.iox_wire_words.specs.Laws.{IsMade}
 use Rattle.iox_wire_moments.specs.MomentsOf.{Pools}
+use Rattle.iox_wire_locals.specs.declared.local.Local.{Local}
 use Rattle.iox_wire_locals.specs.declared.seat.Seat.{Seat}
 use Rattle.iox_wire_locals.specs.Knowing.{Knows}
 use Rattle.iox_wire_locals.specs.Locals.{program_of}
@@ -29,21 +32,25 @@ OwnersMayAccess =
     → Owns p x.node s.fixed s.request_state x.local → TellsLane held x.local
     → OwnsPlace p held s x × NamesSmall x.local
 
--- After an access the call owns its next place.
-abbrev pub OwnersStayOwners : Type 0
-OwnersStayOwners =
+-- what a node's call may do at a place, by the tables and the request states
+abbrev pub Owning : Type 1
+Owning = Setting → ℕ → Fixed → (Way → RequestState) → Local → Type 0
+
+-- After an access the call owns its next place, in this sense of owning.
+abbrev pub StayOwners : Owning → Type 0
+StayOwners owns =
     (p : Setting) (held : Pools) (s : State) (x : Seat) (seen : ℕ)
-    → Owns p x.node s.fixed s.request_state x.local → Knows p x s.fixed held
+    → owns p x.node s.fixed s.request_state x.local → Knows p x s.fixed held
     → FreeSlotsAreThePools p x → LimitsAreKnown p x s.fixed
     → ReliesOn p (accessed x) s held x.local seen → WordsTell p x.local seen
     → let t = state_after s (moment_at p held x.local seen) in
     let y = advance p (accessed x) x.local seen in
-    Owns p y.node t.fixed t.request_state y.local
+    owns p y.node t.fixed t.request_state y.local
 
 -- Where words and seats show a world, and the call of a living node owns its place, the next access
 -- is one beat of the machine or none. The world after it is shown, and the call owns its next place.
-abbrev pub OwnersGoOn : Type 0
-OwnersGoOn =
+abbrev pub GoOnAsOwners : Owning → Type 0
+GoOnAsOwners owns =
     (p : Setting) (held : Pools) (word word' : ℕ → ℕ) (c : WireContents) (seats : ℕ → Seat)
     (w : World) (n : ℕ)
     → ShowsWorld p held word c seats w → not_living w.state n ≡ None
@@ -51,10 +58,18 @@ OwnersGoOn =
     let seen = seen_by (program_access p.layout program) word in
     let y = advance p (accessed x) x.local seen in
     let t = state_after w.state (moment_at p held x.local seen) in
-    Owns p x.node w.state.fixed w.state.request_state x.local → FreeSlotsAreThePools p x
+    owns p x.node w.state.fixed w.state.request_state x.local → FreeSlotsAreThePools p x
     → TellsLane held x.local → LimitsAreKnown p x w.state.fixed → WordsTell p x.local seen
     → ReliesOn p (accessed x) w.state held x.local seen
     → IsMade (program_access p.layout program) word word'
     → ShowsNext p held word' (contents_after p.layout program seen c) (put_at seats n y) w n
     (moment_at p held x.local seen)
-    × Owns p y.node t.fixed t.request_state y.local
+    × owns p y.node t.fixed t.request_state y.local
+
+-- So it is of what a call owns.
+abbrev pub OwnersStayOwners : Type 0
+OwnersStayOwners = StayOwners Owns
+
+-- And a node whose call owns its place goes on.
+abbrev pub OwnersGoOn : Type 0
+OwnersGoOn = GoOnAsOwners Owns
