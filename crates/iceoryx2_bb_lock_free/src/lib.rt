@@ -1,5 +1,5 @@
-//! Queues and sets of fixed capacity, at the paths of their modules, and the machine that plays their
-//! calls one access after another. The crates below hold them.
+//! Queues and sets of fixed capacity, at the paths of their modules, and the machine that plays
+//! their calls one access after another. The crates below hold them.
 #![tactic(auto)]
 
 pub mod machine;

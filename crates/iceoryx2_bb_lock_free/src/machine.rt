@@ -1,7 +1,7 @@
 //! Calls as accesses to single words, and a machine that plays any schedule of them: of queues, and
 //! in their modules of bits, counts and values. `push`, `pop`, `is_full` and `is_empty` are whole
-//! calls on the words of a queue. A `StoredQueue` keeps its two parties in memory and writes down no
-//! events.
+//! calls on the words of a queue. A `StoredQueue` keeps its two parties in memory and writes down
+//! no events.
 pub use iox_queue_calls::{holds_when_empty, is_empty, is_full, pop, push, queues_apart_stay};
 pub use iox_queue_steps::{
     Call, QueueMachine, QueueParty, Side, StepAnswer, StoredPopper, StoredPusher, StoredQueue,

@@ -1,6 +1,6 @@
-//! Descriptions of services: names, attributes, identifiers, types, layouts, configurations and what
-//! is registered, at the paths of their modules. The crates below hold all but what a service itself
-//! is made with.
+//! Descriptions of services: names, attributes, identifiers, types, layouts, configurations and
+//! what is registered, at the paths of their modules. The crates below hold all but what a service
+//! itself is made with.
 #![tactic(auto)]
 
 pub mod attribute;

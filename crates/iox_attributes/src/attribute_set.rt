@@ -98,7 +98,8 @@ impl AttributeSet {
 
     /// The value of that number among a key's values, from 0 on.
     pub fn key_value(&self, key: &AttributeKey, index: usize) -> Option<&AttributeValue>
-        ensures found { IfSome result (λ value. slice_get (values_of key.now self.now) index ≡ Some value.now) }
+        ensures found { IfSome result (λ value.
+            slice_get (values_of key.now self.now) index ≡ Some value.now) }
         ensures none { IfNone result (slice_get (values_of key.now self.now) index ≡ None) }
     {
         let mut left = index;

@@ -68,7 +68,10 @@ impl AttributeVerifier {
     ) -> Result<(), AttributeDefinitionError>
         ensures room { IsOk result ↔ (length self.old.pairs < max_pairs) }
         ensures required { OnOk result (self.new ≡
-            record { pairs = with_pair (pair key.now value.now) self.old.pairs; keys = self.old.keys }) }
+            record {
+              pairs = with_pair (pair key.now value.now) self.old.pairs;
+              keys = self.old.keys;
+            }) }
         ensures unchanged { OnErr result (self.new ≡ self.old) }
     {
         if self.attributes.is_full() {

@@ -8,7 +8,8 @@ use crate::AttributeSet;
 
 /// Two sets are equal exactly if the same pairs were added equally often, in whatever order.
 pub fn sets_are_told_by_how_often_pairs_were_added()
-    ensures equal { (a b : List Pair) → (set_of a ≡ set_of b) ↔ ((pair : Pair) → count pair a ≡ count pair b) }
+    ensures equal { (a b : List Pair)
+        → (set_of a ≡ set_of b) ↔ ((pair : Pair) → count pair a ≡ count pair b) }
     ensures compared { (a b : List Pair) → IsTrue (⟦<AttributeSet as PartialEq>⟧.eq a b) ↔ (a ≡ b) }
     ensures sorted { (a : List Pair) → IsTrue (is_sorted (set_of a)) }
     ensures counted { (a : List Pair) (pair : Pair) → count pair (set_of a) ≡ count pair a }
@@ -16,5 +17,6 @@ pub fn sets_are_told_by_how_often_pairs_were_added()
 
 /// There is a value of each number below how many there are, and none from there on.
 pub fn values_are_there_below_their_number()
-    ensures { (values : List (List ℕ)) (index : ℕ) → IsSome (slice_get values index) ↔ (index < length values) }
+    ensures { (values : List (List ℕ)) (index : ℕ)
+        → IsSome (slice_get values index) ↔ (index < length values) }
 {}

@@ -1,5 +1,5 @@
-//! What services say of themselves, and what is required of them: sorted pairs of a key and a value.
-//! They lie in the value itself, so that nothing here takes memory.
+//! What services say of themselves, and what is required of them: sorted pairs of a key and a
+//! value. They lie in the value itself, so that nothing here takes memory.
 #![tactic(auto)]
 
 mod attribute_set;

@@ -121,7 +121,8 @@ impl<T: Words, const WIDTH: usize> CellMachine<T, WIDTH> {
     pub fn step(&mut self, party: usize) -> Result<Progress<CellReply<T>>, MachineError>
         requires fits { PartyFits T.row WIDTH.row }
         ensures event { IfOk result (λ answer. IsEvent T.Words self.old party answer self.new) }
-        ensures stepped { IfOk result (λ answer. CellStepped T.Words self.old party answer self.new) }
+        ensures stepped { IfOk result (λ answer.
+            CellStepped T.Words self.old party answer self.new) }
         ensures refused { IfErr result (IsCellStepRefused T.Words self.old party) }
         ensures unchanged { OnErr result (self.new ≡ self.old) }
         ensures entered { OnOk result (plain self.new
@@ -153,7 +154,8 @@ impl<T: Words, const WIDTH: usize> CellMachine<T, WIDTH> {
         requires fits { PartyFits T.row WIDTH.row }
         ensures queue { CellInvariant T.Words self.new }
         ensures happened { IsInterleaving T.Words self.old self.new }
-        ensures played { (count : ℕ) × AllCellsEntered T.Words self.old (take count schedule.now) self.new }
+        ensures played { (count : ℕ)
+            × AllCellsEntered T.Words self.old (take count schedule.now) self.new }
         ensures whole { OnOk result (AllCellsEntered T.Words self.old schedule.now self.new) }
         ensures stopped { OnErr result (CellsStopAtStep T.Words self.old schedule.now self.new) }
         ensures refused { IfErr result (λ error. error ≡ MachineError.WantOfMemory) }

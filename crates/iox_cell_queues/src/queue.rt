@@ -24,8 +24,8 @@ pub enum CellCall<T> {
     IsEmpty,
 }
 
-/// A party of the queue that stands at a place among shared words. `WIDTH` is how many words a value
-/// of the type has.
+/// A party of the queue that stands at a place among shared words. `WIDTH` is how many words a
+/// value of the type has.
 pub struct CellParty<T, const WIDTH: usize> {
     pub site: CellSite,
     pub side: CellSide<T, WIDTH>,

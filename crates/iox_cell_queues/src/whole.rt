@@ -52,7 +52,8 @@ pub fn is_full<T: Words, const WIDTH: usize>(words: &mut Vec<u64>, site: CellSit
     requires wide { site.width ≡ WIDTH }
     requires fits { PartyFits T.row WIDTH.row }
     ensures queue { LooksFull (queue_at T.Words site words.old.items) result }
-    ensures accesses { EndsAfter T.Words 2 site words.old.items (full_looker T WIDTH) (reply.Full result) words.new.items }
+    ensures accesses { EndsAfter T.Words 2 site words.old.items
+        (full_looker T WIDTH) (reply.Full result) words.new.items }
     ensures unchanged { words.new.items ≡ words.old.items }
 {
     let side = CellSide::Pusher(CellPushing::Looks(FullLook::LoadsWrite));
@@ -82,7 +83,8 @@ pub fn is_empty<T: Words, const WIDTH: usize>(words: &mut Vec<u64>, site: CellSi
     requires wide { site.width ≡ WIDTH }
     requires fits { PartyFits T.row WIDTH.row }
     ensures queue { LooksEmpty (queue_at T.Words site words.old.items) result }
-    ensures accesses { EndsAfter T.Words 2 site words.old.items (empty_looker T WIDTH) (reply.Empty result) words.new.items }
+    ensures accesses { EndsAfter T.Words 2 site words.old.items
+        (empty_looker T WIDTH) (reply.Empty result) words.new.items }
     ensures unchanged { words.new.items ≡ words.old.items }
 {
     let side = CellSide::Popper(CellPopping::Looks(EmptyLook::LoadsRead));

@@ -31,6 +31,6 @@ pub mod Balance
 pub mod LedgerKept
 pub mod LedgerHolds
 pub mod CallsEmptied
-pub mod Emptiers
+pub mod OwnWays
 pub mod Stays
 pub mod Outstanding

@@ -53,8 +53,8 @@ pub fn responses()
     ensures { EachResponseSendIsWhole }
 {}
 
-/// What `loan_sent_by` says is a whole call: the send of any loan, of a request or of a response, with
-/// overflow and without, where nothing is in hand and the loan may be sent.
+/// What `loan_sent_by` says is a whole call: the send of any loan, of a request or of a response,
+/// with overflow and without, where nothing is in hand and the loan may be sent.
 pub fn loan_sends()
     ensures { EachLoanSendIsWhole }
 {}
@@ -77,8 +77,8 @@ pub fn looks()
     ensures hints { EachHintIsWhole }
 {}
 
-/// What `call_by` says is a whole call, of every call of a port or handle, where the state is as whole
-/// calls leave it.
+/// What `call_by` says is a whole call, of every call of a port or handle, where the state is as
+/// whole calls leave it.
 pub fn calls()
     ensures { EachCallIsWhole }
 {}
@@ -90,8 +90,8 @@ pub fn worked()
     ensures overfull { SendsBesideAnOverfullPair }
 {}
 
-/// Worked states of loans, sends, hints and releases: what the laws ask is so there, and more than a
-/// refusal is answered.
+/// Worked states of loans, sends, hints and releases: what the laws ask is so there, and more than
+/// a refusal is answered.
 pub fn worked_calls()
     ensures client_lends { ClientLends }
     ensures server_lends { ServerLends }

@@ -1,5 +1,5 @@
-//! Laws of the machine that copies messages: of calls, runs and weaves. Each module is there for the
-//! contracts of its functions, which have nothing to do.
+//! Laws of the machine that copies messages: of calls, runs and weaves. Each module is there for
+//! the contracts of its functions, which have nothing to do.
 #![tactic(auto)]
 
 pub mod call_functions;

@@ -26,8 +26,8 @@ pub fn only_want_of_memory_is_told_instead()
     ensures of_services { CommandsHaveOneReply }
 {}
 
-/// The functions of lists compute the reply of each call, and what they ask of a state holds between
-/// calls.
+/// The functions of lists compute the reply of each call, and what they ask of a state holds
+/// between calls.
 pub fn plain_functions_tell_the_reply()
     ensures receives { ReceivesAnswerPlainly }
     ensures sends { SendsAnswerPlainly }

@@ -39,7 +39,8 @@ pub fn expired_runs()
     ensures none { IsWorked expires_none }
 {}
 
-/// Wires: a node that stops and is forgotten, what is outstanding at the limits, and a refused opening.
+/// Wires: a node that stops and is forgotten, what is outstanding at the limits, and a refused
+/// opening.
 pub fn weaves()
     ensures stopped { StopsAndIsForgotten }
     ensures outstanding { KeepsTwo }

@@ -133,7 +133,8 @@ pub fn is_text(bytes: &[u8]) -> bool
 /// Writes two lists of bytes to the front of a place.
 fn write_both(place: &mut [u8], front: &[u8], back: &[u8])
     requires { length (front.now ++ back.now) ≤ length place.old }
-    ensures { place.new ≡ (front.now ++ back.now) ++ drop (length (front.now ++ back.now)) place.old }
+    ensures { place.new
+        ≡ (front.now ++ back.now) ++ drop (length (front.now ++ back.now)) place.old }
 {
     let len = front.len();
     place[..len].copy_from_slice(front);

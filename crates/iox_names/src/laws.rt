@@ -19,7 +19,8 @@ pub fn comparisons_of_texts_agree()
     ensures hashed { (a b : List ℕ) → (fed.str a ≡ fed.str b) ↔ (a ≡ b) }
 {}
 
-/// The first byte that differs decides, and a text stands before what it is the front of, whatever the lengths.
+/// The first byte that differs decides, and a text stands before what it is the front of, whatever
+/// the lengths.
 pub fn texts_are_ordered_by_their_bytes()
     ensures front { (a : List ℕ) (byte : ℕ) (rest : List ℕ) → text_cmp a (a ++ byte ∷ rest) ≡ Less }
     ensures first { (front : List ℕ) (less more : ℕ) (a b : List ℕ) → less < more →

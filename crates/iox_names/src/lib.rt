@@ -1,5 +1,5 @@
-//! Texts of few bytes that lie in the value itself: names of services, keys and values of attributes,
-//! and the hash by which a service is found. Nothing here takes memory.
+//! Texts of few bytes that lie in the value itself: names of services, keys and values of
+//! attributes, and the hash by which a service is found. Nothing here takes memory.
 #![tactic(auto)]
 
 pub mod attribute;

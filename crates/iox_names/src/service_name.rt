@@ -51,7 +51,8 @@ impl ServiceName {
     pub fn internal_new(name: &str) -> Result<ServiceName, ServiceNameError>
         ensures made { IfOk result (λ it. it ≡ name.now) }
         ensures allowed { IfOk result (λ _. name_refusal max_service_name_length name.now ≡ None) }
-        ensures refused { IfErr result (λ e. name_refusal max_service_name_length name.now ≡ Some e) }
+        ensures refused { IfErr result (λ e.
+            name_refusal max_service_name_length name.now ≡ Some e) }
     {
         let name = BoundedName::new(name)?;
         Ok(ServiceName { name })

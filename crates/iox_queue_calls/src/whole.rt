@@ -48,7 +48,8 @@ pub fn push(words: &mut Vec<u64>, site: Site, value: u64) -> QueueReply
 pub fn is_full(words: &mut Vec<u64>, site: Site) -> bool
     requires { HoldsQueue site words.old.items }
     ensures queue { LooksFull (queue_at site words.old.items) result }
-    ensures accesses { EndsAfter 2 site words.old.items full_looker (reply.Full result) words.new.items }
+    ensures accesses { EndsAfter 2 site words.old.items full_looker
+        (reply.Full result) words.new.items }
     ensures unchanged { words.new.items ≡ words.old.items }
 {
     of_full_look(finish(
@@ -76,7 +77,8 @@ pub fn pop(words: &mut Vec<u64>, site: Site) -> Option<u64>
 pub fn is_empty(words: &mut Vec<u64>, site: Site) -> bool
     requires { HoldsQueue site words.old.items }
     ensures queue { LooksEmpty (queue_at site words.old.items) result }
-    ensures accesses { EndsAfter 2 site words.old.items empty_looker (reply.Empty result) words.new.items }
+    ensures accesses { EndsAfter 2 site words.old.items empty_looker
+        (reply.Empty result) words.new.items }
     ensures unchanged { words.new.items ≡ words.old.items }
 {
     of_empty_look(finish(

@@ -1,5 +1,5 @@
-//! The parties of a queue as a machine plays them: number 0 pushes and looks at fullness, number 1 pops
-//! and looks at emptiness. Each is kept in memory, and stepped where it lies.
+//! The parties of a queue as a machine plays them: number 0 pushes and looks at fullness, number 1
+//! pops and looks at emptiness. Each is kept in memory, and stepped where it lies.
 ghost use Rattle.std.specs.Prelude.{◌≡◌, ◌+◌, ◌^◌, ◌<◌, IfOk};
 ghost use Rattle.iox_steps.specs.Sites.{size};
 ghost use Rattle.iox_queue_steps.specs.Queues.{queue_asks, queue_happens, queue_rests, QueueLeads, QueueBegins, QueueInvariant, at_rest_at};

@@ -9,18 +9,21 @@ use Rattle.iox_registry.specs.Registers.{limit_refusal, new_register, recovered}
 
 -- ---- new registers of ports, by the number of the service and the most of each kind
 
+-- of a request-response service: its clients and servers
 abbrev pub new_requests : ℕ → ℕ → ℕ → MessagingPattern
 new_requests service clients servers = RequestResponse (record {
   clients = new_register service Client clients;
   servers = new_register service Server servers;
 })
 
+-- of a publish-subscribe service: its publishers and subscribers
 abbrev pub new_samples : ℕ → ℕ → ℕ → MessagingPattern
 new_samples service publishers subscribers = PublishSubscribe (record {
   publishers = new_register service Publisher publishers;
   subscribers = new_register service Subscriber subscribers;
 })
 
+-- of an event service: its notifiers and listeners
 abbrev pub new_events : ℕ → ℕ → ℕ → MessagingPattern
 new_events service notifiers listeners = Event (record {
   notifiers = new_register service Notifier notifiers;

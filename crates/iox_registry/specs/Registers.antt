@@ -25,10 +25,12 @@ pub record Handle : Type 0 where
   pub slot : ℕ
   pub ticket : ℕ
 
+-- what one slot has: the details, and the ticket under which they came
 pub record Registration (D : Type 0) : Type 0 where
   pub ticket : ℕ
   pub details : D
 
+-- a register, as its callers see it
 pub record Registrations (D : Type 0) : Type 0 where
   -- the number of the service, and what is registered
   pub service : ℕ

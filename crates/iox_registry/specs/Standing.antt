@@ -42,6 +42,7 @@ mode_of role = if same_role role Node then LockIfLastIndex else Default
 abbrev pub kept_in : {D : Type 0} → List (Option (Registered D)) → ℕ → Option (Registered D)
 kept_in slots slot = slice_index_or slots slot None
 
+-- the container and the register's own list of what is in each slot agree
 pub record IsStanding {D : Type 0} (node : D → UniqueSystemId) (container : Contents (Unit {0}))
     (service : ℕ) (used_tickets : ℕ) (slots : List (Option (Registered D))) : Type 0 where
   pub id : container.id ≡ service

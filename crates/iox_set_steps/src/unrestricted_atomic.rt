@@ -36,8 +36,8 @@ pub enum AtomicEvent<const N: usize> {
     Loaded([u64; N]),
 }
 
-/// Where a party is in its call. The words of a value are first stored in the cell that is not read at the
-/// version that stands, and then that version is raised.
+/// Where a party is in its call. The words of a value are first stored in the cell that is not read
+/// at the version that stands, and then that version is raised.
 #[derive(Clone, Copy)]
 pub enum AtomicProgram<const N: usize> {
     AtRest,

@@ -23,7 +23,8 @@ pub fn sets_are_clears(
     schedule: &[Entry<BitCall>],
 ) -> Result<(), MachineError>
     ensures { (id : ℕ) → times_set id bits.new.machine.events
-        ≡ times_cleared id bits.new.machine.events + bit_now bits.new.site bits.new.machine.words id }
+        ≡ times_cleared id bits.new.machine.events
+        + bit_now bits.new.site bits.new.machine.words id }
 {
     bits.run(schedule)
 }

@@ -40,7 +40,8 @@ pub(crate) fn take_bits<F: FnMut(usize)>(words: &mut [u64], mut callback: F)
 #[inline]
 fn tell_bits<F: FnMut(usize)>(mut callback: F, place: usize, word: u64) -> F
     requires callable { F.IsAlwaysCallable callback }
-    requires numbered { (id : ℕ) → id < 64 → bit_in (word ∷ []) id ≡ true → place * 64 + id < 2 ^ 64 }
+    requires numbered { (id : ℕ) → id < 64 → bit_in (word ∷ []) id ≡ true
+        → place * 64 + id < 2 ^ 64 }
     ensures called { IsLeftByCalls F.step callback (numbers_in place word) result }
     ensures callable { F.IsAlwaysCallable result }
 {

@@ -100,7 +100,8 @@ impl<P: MachineParty> Machine<P> {
 
     /// Parties that are to play on these words.
     pub fn new(alloc: Global, words: Vec<u64>, parties: Vec<P>) -> Machine<P>
-        requires { P.Invariant (record { words = words.items; parties = parties.items; events = [] }) }
+        requires { P.Invariant
+            (record { words = words.items; parties = parties.items; events = [] }) }
         ensures { result ≡ record { words = words.items; parties = parties.items; events = [] } }
     {
         Machine {
@@ -129,7 +130,8 @@ impl<P: MachineParty> Machine<P> {
     pub fn step(&mut self, party: usize) -> Result<Progress<P::Reply>, MachineError>
         ensures stepped { IfOk result (λ answer. Stepped P.asks P.leads P.happens P.at_rest P.begins
             self.old party answer self.new) }
-        ensures refused { IfErr result (λ error. IsStepRefused P.asks P.leads P.happens P.at_rest P.begins
+        ensures refused { IfErr result (λ error.
+            IsStepRefused P.asks P.leads P.happens P.at_rest P.begins
             self.old party error) }
         ensures unchanged { OnErr result (self.new ≡ self.old) }
     {
@@ -150,7 +152,8 @@ impl<P: MachineParty> Machine<P> {
     pub fn begin(&mut self, party: usize, call: P::Call) -> Result<(), MachineError>
         ensures begun { IfOk result (λ _. Begun P.asks P.leads P.happens P.at_rest P.begins
             self.old party call self.new) }
-        ensures refused { IfErr result (λ error. IsBeginRefused P.asks P.leads P.happens P.at_rest P.begins
+        ensures refused { IfErr result (λ error.
+            IsBeginRefused P.asks P.leads P.happens P.at_rest P.begins
             self.old party call error) }
         ensures unchanged { OnErr result (self.new ≡ self.old) }
     {

@@ -52,7 +52,8 @@ pub trait MachineParty: Party + Drop {
         ensures words { words.new.items ≡ words_after (Self.asks self.old) words.old.items }
         ensures told { events.new.items ≡ events.old.items ++ option_to_list (happens self.old
             (seen_at (Self.asks self.old) words.old.items)) }
-        ensures led { Self.leads self.old (seen_at (Self.asks self.old) words.old.items) result self.new }
+        ensures led { Self.leads self.old
+            (seen_at (Self.asks self.old) words.old.items) result self.new }
     {
         let seen = perform(words, self.access());
         tell(events, self.event(seen));

@@ -14,7 +14,8 @@ pub enum Push {
     LoadsWrite(u64),
     /// the value, and the write position
     LoadsRead(u64, u64),
-    /// the value, its cell, the next write position, and the read position if the queue is full there
+    /// the value, its cell, the next write position, and the read position if the queue is full
+    /// there
     StoresCell(u64, usize, u64, Option<u64>),
     /// the value, the next write position, and the read position if the queue is full there
     StoresWrite(u64, u64, Option<u64>),

@@ -34,7 +34,8 @@ impl Site {
         }
     }
 
-    /// Do the words of the queue all stand in a list of this many? Whatever the numbers, it can be asked.
+    /// Do the words of the queue all stand in a list of this many? Whatever the numbers, it can be
+    /// asked.
     #[inline]
     pub fn is_within(&self, words: usize) -> bool
         ensures { IsTrue result ↔ (self.now.base + size self.now ≤ words) }

@@ -16,16 +16,20 @@ use std::hash::Hash;
 /// Compatibility of details is an order.
 pub fn compatibility_is_an_order()
     ensures reflexive { (a : MessageTypeDetails) → AreCompatible a a }
-    ensures transitive { (a b c : MessageTypeDetails) → AreCompatible a b → AreCompatible b c → AreCompatible a c }
-    ensures antisymmetric { (a b : MessageTypeDetails) → AreCompatible a b → AreCompatible b a → a ≡ b }
+    ensures transitive { (a b c : MessageTypeDetails) → AreCompatible a b → AreCompatible b c
+        → AreCompatible a c }
+    ensures antisymmetric { (a b : MessageTypeDetails) → AreCompatible a b → AreCompatible b a
+        → a ≡ b }
 {}
 
 /// An aligned place is the least multiple of the alignment that is not below the place.
 pub fn aligned_places_are_least()
-    ensures aligned { (place alignment : ℕ) → IsAlignedTo alignment (aligned_place place alignment) }
-    ensures not_below { (place alignment : ℕ) → 0 < alignment → place ≤ aligned_place place alignment }
-    ensures least { (place alignment other : ℕ) → 0 < alignment → IsAlignedTo alignment other → place ≤ other →
-        aligned_place place alignment ≤ other }
+    ensures aligned { (place alignment : ℕ)
+        → IsAlignedTo alignment (aligned_place place alignment) }
+    ensures not_below { (place alignment : ℕ) → 0 < alignment
+        → place ≤ aligned_place place alignment }
+    ensures least { (place alignment other : ℕ) → 0 < alignment → IsAlignedTo alignment other
+        → place ≤ other → aligned_place place alignment ≤ other }
 {}
 
 /// Where a whole message fits, its places fit `usize`.
@@ -39,24 +43,32 @@ pub fn comparisons_of_ids_agree()
     ensures equal { (a b : Id) → IsTrue (⟦<UniqueSystemId as PartialEq>⟧.eq a b) ↔ (a ≡ b) }
     ensures ordered { (a b : Id) → (⟦<UniqueSystemId as Ord>⟧.cmp a b ≡ Equal) ↔ (a ≡ b) }
     ensures hashed { (a b : Id) → IsId a → IsId b →
-        (⟦<UniqueSystemId as Hash>⟧.hash_input a ≡ ⟦<UniqueSystemId as Hash>⟧.hash_input b) ↔ (a ≡ b) }
+        (⟦<UniqueSystemId as Hash>⟧.hash_input a ≡ ⟦<UniqueSystemId as Hash>⟧.hash_input b)
+        ↔ (a ≡ b) }
 {}
 
 /// The identifiers of nodes are compared and hashed as their numbers are.
 pub fn node_ids_are_compared_as_ids()
-    ensures equal { (a b : Id) → ⟦<UniqueNodeId as PartialEq>⟧.eq a b ≡ ⟦<UniqueSystemId as PartialEq>⟧.eq a b }
-    ensures ordered { (a b : Id) → ⟦<UniqueNodeId as Ord>⟧.cmp a b ≡ ⟦<UniqueSystemId as Ord>⟧.cmp a b }
-    ensures hashed { (a : Id) → ⟦<UniqueNodeId as Hash>⟧.hash_input a ≡ ⟦<UniqueSystemId as Hash>⟧.hash_input a }
+    ensures equal { (a b : Id)
+        → ⟦<UniqueNodeId as PartialEq>⟧.eq a b ≡ ⟦<UniqueSystemId as PartialEq>⟧.eq a b }
+    ensures ordered { (a b : Id)
+        → ⟦<UniqueNodeId as Ord>⟧.cmp a b ≡ ⟦<UniqueSystemId as Ord>⟧.cmp a b }
+    ensures hashed { (a : Id)
+        → ⟦<UniqueNodeId as Hash>⟧.hash_input a ≡ ⟦<UniqueSystemId as Hash>⟧.hash_input a }
 {}
 
 /// So are those of a kind, whatever the kind.
 pub fn ids_of_a_kind_are_compared_as_ids<Kind>()
-    ensures equal { (a b : Id) → ⟦<UniqueId<Kind> as PartialEq>⟧.eq a b ≡ ⟦<UniqueSystemId as PartialEq>⟧.eq a b }
-    ensures ordered { (a b : Id) → ⟦<UniqueId<Kind> as Ord>⟧.cmp a b ≡ ⟦<UniqueSystemId as Ord>⟧.cmp a b }
-    ensures hashed { (a : Id) → ⟦<UniqueId<Kind> as Hash>⟧.hash_input a ≡ ⟦<UniqueSystemId as Hash>⟧.hash_input a }
+    ensures equal { (a b : Id)
+        → ⟦<UniqueId<Kind> as PartialEq>⟧.eq a b ≡ ⟦<UniqueSystemId as PartialEq>⟧.eq a b }
+    ensures ordered { (a b : Id)
+        → ⟦<UniqueId<Kind> as Ord>⟧.cmp a b ≡ ⟦<UniqueSystemId as Ord>⟧.cmp a b }
+    ensures hashed { (a : Id)
+        → ⟦<UniqueId<Kind> as Hash>⟧.hash_input a ≡ ⟦<UniqueSystemId as Hash>⟧.hash_input a }
 {}
 
-/// An identifier of a port is equal to another if and only if both are of one kind and one number, and order agrees.
+/// An identifier of a port is equal to another if and only if both are of one kind and one number,
+/// and order agrees.
 pub fn comparisons_of_port_ids_agree()
     ensures equal { (a b : PortId) → IsTrue (⟦<UniquePortId as PartialEq>⟧.eq a b) ↔ (a ≡ b) }
     ensures ordered { (a b : PortId) →

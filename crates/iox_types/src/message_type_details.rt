@@ -26,9 +26,12 @@ impl MessageTypeDetails {
     pub fn from<Header: ZeroCopySend, UserHeader: ZeroCopySend, Payload: ZeroCopySend>(
         variant: TypeVariant,
     ) -> Result<MessageTypeDetails, TypeDetailError>
-        ensures header { IfOk result (λ it. it.header ≡ detail FixedSize Header.name Header.SIZE Header.ALIGNMENT) }
-        ensures user_header { IfOk result (λ it. it.user_header ≡ detail FixedSize UserHeader.name UserHeader.SIZE UserHeader.ALIGNMENT) }
-        ensures payload { IfOk result (λ it. it.payload ≡ detail variant Payload.name Payload.SIZE Payload.ALIGNMENT) }
+        ensures header { IfOk result (λ it.
+            it.header ≡ detail FixedSize Header.name Header.SIZE Header.ALIGNMENT) }
+        ensures user_header { IfOk result (λ it. it.user_header
+            ≡ detail FixedSize UserHeader.name UserHeader.SIZE UserHeader.ALIGNMENT) }
+        ensures payload { IfOk result (λ it.
+            it.payload ≡ detail variant Payload.name Payload.SIZE Payload.ALIGNMENT) }
         ensures succeeds { IsOk result ↔ AllShort Header.name UserHeader.name Payload.name }
         ensures refused { IfErr result (λ e. e ≡ TypeDetailError.NameTooLong) }
     {
@@ -49,7 +52,8 @@ impl MessageTypeDetails {
             && self.payload.is_compatible_to(&other.payload)
     }
 
-    /// The size and alignment of a message of so many elements; `None` if the size is past `isize::MAX`.
+    /// The size and alignment of a message of so many elements; `None` if the size is past
+    /// `isize::MAX`.
     pub fn sample_layout(&self, number_of_elements: usize) -> Option<SampleLayout>
         ensures value { result ≡ message_layout self.now number_of_elements }
         ensures aligned { OnSome result (AreAligned self.now) }

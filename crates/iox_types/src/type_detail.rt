@@ -47,7 +47,12 @@ impl Model for TypeDetail {
 
     ghost invariant = { λ it. IsPowerOfTwo it.alignment };
 
-    ghost inverse = { λ d. record { variant = d.variant; type_name = d.name; size = d.size; alignment = d.alignment } };
+    ghost inverse = { λ d. record {
+      variant = d.variant;
+      type_name = d.name;
+      size = d.size;
+      alignment = d.alignment;
+    } };
 }
 
 impl TypeDetail {
@@ -132,7 +137,8 @@ impl TypeDetail {
         self.alignment
     }
 
-    /// Whether a value of this type may stand where one of the other does: in a place that is aligned for the other.
+    /// Whether a value of this type may stand where one of the other does: in a place that is
+    /// aligned for the other.
     pub fn is_compatible_to(&self, other: &TypeDetail) -> bool
         ensures compatible { IsTrue result ↔ IsCompatible self.now other.now }
         ensures power { IsPowerOfTwo self.now.alignment }

@@ -1,4 +1,3 @@
-pub mod Opens
 pub mod RequestStates
 pub mod SendsClose
 pub mod CallsClose

@@ -1,5 +1,6 @@
-//! Laws of nodes on a wire: each access is one beat of the machine or none, and what words and seats
-//! show stays so. Each module is there for the contracts of its functions, which have nothing to do.
+//! Laws of nodes on a wire: each access is one beat of the machine or none, and what words and
+//! seats show stays so. Each module is there for the contracts of its functions, which have nothing
+//! to do.
 #![tactic(auto)]
 
 pub mod wire_holding;

@@ -26,10 +26,11 @@ use Rattle.iox_wire_locals.specs.Lendings.{lends_request, lends_response, copies
 
 -- ---- receives
 
--- who receives: a server, or a pending response
+-- who receives: a server
 abbrev pub server_visit : Port → Visit
 server_visit q = record { port = q.number; role = Server; lane = 0; request = 0 }
 
+-- and a pending response, by its entry
 abbrev pub pending_visit : Entry → Visit
 pending_visit e = record { port = e.port; role = Client; lane = e.lane; request = e.request }
 

@@ -21,10 +21,11 @@ with_uses slot n d = record d {
   free = if n == 0 then d.free ++ slot ∷ [] else d.free;
 }
 
--- a slot has one use more, or one less
+-- a slot has one use more
 abbrev pub uses_more : ℕ → Desk → Desk
 uses_more slot d = with_uses slot (slice_index d.uses slot + 1) d
 
+-- a slot has one use less
 abbrev pub uses_less : ℕ → Desk → Desk
 uses_less slot d = with_uses slot (slice_index d.uses slot - 1) d
 
@@ -63,10 +64,11 @@ abbrev pub gets_back : Way → ℕ → Desk → Desk
 gets_back w slot d =
     uses_less slot (record d { recorded = map (with_slots w (without_number slot)) d.recorded })
 
--- the slots recorded on a way to one of these ports, and the way without them
+-- the slots of a record, if its way leads to one of these ports
 abbrev pub slots_to : List ℕ → Recorded → List ℕ
 slots_to ports r = if has_number r.way.receiver ports then r.slots else []
 
+-- a record without its slots, if its way leads to one of these ports
 abbrev pub without_slots_to : List ℕ → Recorded → Recorded
 without_slots_to ports r = if has_number r.way.receiver ports then record r { slots = [] } else r
 
@@ -91,17 +93,19 @@ gives_up e d = uses_less e.slot (record d { free_lanes = lanes_back e d.free_lan
 
 -- ---- of a seat
 
--- the desk of that port is changed
+-- a desk, changed if it is that port's
 abbrev pub on_desk : ℕ → (Desk → Desk) → Desk → Desk
 on_desk port change d = if d.port == port then change d else d
 
+-- the seat with that change of the desk of a port
 abbrev pub at_desk : Seat → ℕ → (Desk → Desk) → Seat
 at_desk x port change = record x { desks = map (on_desk port change) x.desks }
 
--- the count of a way is changed
+-- a count, changed if it is that way's
 abbrev pub with_count : Way → (ℕ → ℕ) → Borrowed → Borrowed
 with_count w change b = if same_way b.way w then record b { count = change b.count } else b
 
+-- the seat with that change of the count of a way
 abbrev pub at_count : Seat → Way → (ℕ → ℕ) → Seat
 at_count x w change = record x { borrowed = map (with_count w change) x.borrowed }
 

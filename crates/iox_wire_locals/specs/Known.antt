@@ -35,10 +35,11 @@ told_handle p node e = handle_of (λ port slot. told_message p e) node e
 abbrev pub loans_at : Seat → ℕ → ℕ
 loans_at x port = option_map_or (λ d. d.loans) (find (λ d. d.port == port) x.desks) 0
 
--- the free slots of a port, and its free lanes
+-- the free slots of a port
 abbrev pub free_slots : Seat → ℕ → List ℕ
 free_slots x port = option_map_or (λ d. d.free) (find (λ d. d.port == port) x.desks) []
 
+-- the free lanes of a port
 abbrev pub free_lanes : Seat → ℕ → List ℕ
 free_lanes x port = option_map_or (λ d. d.free_lanes) (find (λ d. d.port == port) x.desks) []
 

@@ -102,6 +102,7 @@ abbrev pub copies_request : Setting → Seat → Port → Option ℕ → List �
 copies_request p x q None words = ended x (endings.Refuses WrongLength)
 copies_request p x q (Some k) words = lends_request p x q k words true
 
+-- the same of a response, by the entry of the request that it answers
 abbrev pub copies_response : Setting → Seat → Entry → Option ℕ → List ℕ → Seat
 copies_response p x e None words = ended x (endings.Refuses WrongLength)
 copies_response p x e (Some k) words = lends_response p x e k words true

@@ -20,16 +20,19 @@ use Rattle.iox_wire_locals.specs.Findings.{loan_emptied, loan_stored, word_writt
 use Rattle.iox_wire_locals.specs.ReceiveFindings.{receive_looked, receive_popped, receive_loaded, receive_returned, sought, word_read, release_returned, release_looked, release_exchanged, checked, hint_looked}
 use Rattle.iox_wire_locals.specs.Settlements.{settled, reply_of}
 
--- where a party of the queue goes with what it found, and the event of that access
+-- where the party of the queue that pops goes with what it found
 abbrev pub pop_place : Setting → WireQueue → Popping → ℕ → Popping
 pop_place p q place seen = popping_after (site_of p.layout q) place seen
 
+-- where the party that pushes goes
 abbrev pub push_place : Setting → WireQueue → Pushing → ℕ → Pushing
 push_place p q place seen = pushing_after (site_of p.layout q) place seen
 
+-- the event of an access of the one that pops
 abbrev pub pop_finds : Setting → WireQueue → Popping → ℕ → QueueEvent
 pop_finds p q place seen = popping_event (site_of p.layout q) place seen
 
+-- the event of an access of the one that pushes
 abbrev pub push_finds : Setting → WireQueue → Pushing → ℕ → QueueEvent
 push_finds p q place seen = pushing_event (site_of p.layout q) place seen
 

@@ -41,7 +41,7 @@ fresh = record {
 abbrev pub access_of : Setting → Seat → Access
 access_of p x = program_access p.layout (program_of p x.local)
 
--- a step of the client, and one of the server
+-- a step of the client
 abbrev pub client_step : Setting → Both → Both
 client_step p y = let seen : ℕ = seen_at (access_of p y.client) y.words in record y {
   client = next p y.client seen;
@@ -49,6 +49,7 @@ client_step p y = let seen : ℕ = seen_at (access_of p y.client) y.words in rec
   reply = tells p y.client seen;
 }
 
+-- a step of the server
 abbrev pub server_step : Setting → Both → Both
 server_step p y = let seen : ℕ = seen_at (access_of p y.server) y.words in record y {
   server = next p y.server seen;
@@ -61,11 +62,12 @@ abbrev pub steps : (Both → Both) → ℕ → Both → Both
 steps step zero y = y
 steps step (suc n) y = steps step n (step y)
 
--- the client begins a call and makes so many steps, or the server does
+-- the client begins a call and makes so many steps
 abbrev pub client_does : Setting → Call → ℕ → Both → Both
 client_does p call n y =
     steps (client_step p) n (record y { client = begin p y.client (wire_calls.Port call) })
 
+-- the server begins a call and makes so many steps
 abbrev pub server_does : Setting → Call → ℕ → Both → Both
 server_does p call n y =
     steps (server_step p) n (record y { server = begin p y.server (wire_calls.Port call) })
@@ -76,72 +78,85 @@ one_of role word = record { role = role; elements = Some 1; words = word ∷ [] 
 
 -- ---- one request and its response
 
--- the client sends a request in one, the server receives it
+-- the client sends a request in one
 abbrev pub requested : Both
 requested = client_does ones (calls.SendCopy 0 (one_of Client 70)) 19 fresh
 
+-- the server receives it
 abbrev pub received : Both
 received = server_does ones (calls.Receive 1) 12 requested
 
--- the server lends a response, writes and sends it
+-- the server lends a response
 abbrev pub lent : Both
 lent = server_does ones (calls.Loan 2 1) 14 received
 
+-- it writes it
 abbrev pub written : Both
 written = server_does ones (calls.Write 3 (one_of Server 90)) 1 lent
 
+-- and sends it
 abbrev pub responded : Both
 responded = server_does ones (calls.Send 3) 9 written
 
--- the client receives and reads it, and both release what they have
+-- the client receives the response
 abbrev pub answered : Both
 answered = client_does ones (calls.Receive 2) 10 responded
 
+-- it reads it
 abbrev pub read : Both
 read = client_does ones (calls.Read 3) 1 answered
 
+-- and releases it
 abbrev pub released : Both
 released = client_does ones (calls.Release 3) 4 read
 
+-- the server releases its active request
 abbrev pub left : Both
 left = server_does ones (calls.Release 2) 6 released
 
+-- the client releases its pending response
 abbrev pub closed : Both
 closed = client_does ones (calls.Release 2) 1 left
 
 -- ---- another request, which gets the first message back
 
--- the request is got back as the next one is lent; it looks for servers that have it, and gives a
--- hint
+-- the request is got back as the next one is lent
 abbrev pub requested_again : Both
 requested_again = client_does ones (calls.SendCopy 0 (one_of Client 71)) 23 closed
 
+-- the client asks whether a server has it
 abbrev pub connected : Both
 connected = client_does ones (calls.IsConnected 4) 1 requested_again
 
+-- and it gives a hint
 abbrev pub hinted : Both
 hinted = client_does ones (calls.SetHint 4) 2 connected
 
--- the server looks for requests, receives this one, sees the hint, and releases it
+-- the server looks for requests
 abbrev pub sought : Both
 sought = server_does ones (calls.HasRequests 1) 2 hinted
 
+-- it receives this one
 abbrev pub received_again : Both
 received_again = server_does ones (calls.Receive 1) 12 sought
 
+-- it sees the hint
 abbrev pub seen : Both
 seen = server_does ones (calls.HasHint 4) 1 received_again
 
+-- and releases it
 abbrev pub left_again : Both
 left_again = server_does ones (calls.Release 4) 6 seen
 
--- the client finds no server any more, and no response
+-- the client finds no server any more
 abbrev pub deserted : Both
 deserted = client_does ones (calls.IsConnected 4) 1 left_again
 
+-- and no response
 abbrev pub unanswered : Both
 unanswered = client_does ones (calls.Receive 4) 2 deserted
 
+-- so it releases its pending response
 abbrev pub closed_again : Both
 closed_again = client_does ones (calls.Release 4) 1 unanswered
 

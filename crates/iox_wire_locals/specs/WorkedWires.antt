@@ -45,6 +45,7 @@ shape_of_one header = record {
   element_part = record { size = 8; alignment = 8 };
 }
 
+-- each limit is 1, nothing expired is kept, and nothing overflows
 abbrev pub limits_of_ones : Limits
 limits_of_ones = record {
   clients = 1;
@@ -85,6 +86,7 @@ port_of_ones n role pool = record {
   held = true;
 }
 
+-- the worked wire: its client has a pool of 4, its server one of 9
 abbrev pub ones : Setting
 ones = record {
   layout = layout_of_ones;

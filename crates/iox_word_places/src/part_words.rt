@@ -21,7 +21,8 @@ fn aligned_word(place: usize, alignment: usize) -> usize
 fn user_word(details: &MessageTypeDetails, start: usize) -> usize
     requires { start + message_bytes details.now 0 / 8 < 2 ^ 64 }
     ensures value { result ≡ user_word details.now start }
-    ensures near { result < start + details.now.header.size / 8 + in_words details.now.user_header.alignment }
+    ensures near { result
+        < start + details.now.header.size / 8 + in_words details.now.user_header.alignment }
 {
     aligned_word(
         start + details.header.size() / 8,

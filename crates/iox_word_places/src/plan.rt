@@ -86,8 +86,8 @@ impl PlanLimits {
         }
     }
 
-    /// How many messages may return to such a sender from one receiver, if that fits: all that wait,
-    /// all that the receiver has, and one that is in hand.
+    /// How many messages may return to such a sender from one receiver, if that fits: all that
+    /// wait, all that the receiver has, and one that is in hand.
     pub(crate) fn returning_room(&self, sender: Role) -> Option<usize>
         ensures { result ≡ as_usize (returning_room self.now sender) }
     {
@@ -127,7 +127,8 @@ impl PlanLimits {
 
     /// How many words the queues of a client's requests to one server have, if that fits.
     pub(crate) fn request_words(&self) -> Option<usize>
-        ensures { result ≡ as_usize (message_words self.now Client + returning_words self.now Client) }
+        ensures { result
+            ≡ as_usize (message_words self.now Client + returning_words self.now Client) }
     {
         sum(
             self.message_words(Role::Client),

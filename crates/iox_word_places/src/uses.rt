@@ -28,7 +28,8 @@ pub fn map_that_fits(alloc: Global, plan: WirePlan) -> Result<WordMap, WordMapNe
 pub fn both_queues(map: &WordMap, way: WayIndex) -> (Site, Site)
     requires { IsWayAt map.now way }
     ensures waiting { result.0 ≡ site_of (layout_of map.now) (MessageQueue (way_at map.now way)) }
-    ensures returning { result.1 ≡ site_of (layout_of map.now) (ReturningQueue (way_at map.now way)) }
+    ensures returning { result.1
+        ≡ site_of (layout_of map.now) (ReturningQueue (way_at map.now way)) }
 {
     (map.message_queue(way), map.returning_queue(way))
 }

@@ -193,7 +193,8 @@ impl WordMap {
     /// The word of the request state on a client's lane with a server.
     pub fn state(&self, client: usize, server: usize, lane: usize) -> usize
         requires { IsWayAt self.now (Responses client server lane) }
-        ensures { result ≡ state_place (layout_of self.now) (way_at self.now (Responses client server lane)) }
+        ensures { result
+            ≡ state_place (layout_of self.now) (way_at self.now (Responses client server lane)) }
     {
         let limits = self.limits();
         let base = self.lane(client, server, lane);
@@ -225,7 +226,8 @@ impl WordMap {
         requires client { IsPortAt self.now Client client }
         requires server { IsPortAt self.now Server server }
         ensures place { result ≡ way_start self.now (Requests client server) }
-        ensures within { let z = sizes_of self.now in result + pair_words z (number_at self.now client) ≤ total_words z }
+        ensures within { let z = sizes_of self.now in
+            result + pair_words z (number_at self.now client) ≤ total_words z }
         ensures plan { IsPlan self.now }
         ensures fits { total_words (sizes_of self.now) < 2 ^ 64 }
     {

@@ -29,8 +29,10 @@ impl Global {
     /// Where the services lie; refused where that is too long for a path.
     pub fn service_dir(&self) -> Result<Path, PathError>
         ensures made { IfOk result (λ path. path ≡ service_dir_of self.now.root_path) }
-        ensures allowed { IfOk result (λ _. path_refusal (service_dir_of self.now.root_path) ≡ None) }
-        ensures refused { IfErr result (λ e. path_refusal (service_dir_of self.now.root_path) ≡ Some e) }
+        ensures allowed { IfOk result (λ _.
+            path_refusal (service_dir_of self.now.root_path) ≡ None) }
+        ensures refused { IfErr result (λ e.
+            path_refusal (service_dir_of self.now.root_path) ≡ Some e) }
     {
         self.root_path.followed_by("/services")
     }
@@ -39,7 +41,8 @@ impl Global {
     pub fn node_dir(&self) -> Result<Path, PathError>
         ensures made { IfOk result (λ path. path ≡ node_dir_of self.now.root_path) }
         ensures allowed { IfOk result (λ _. path_refusal (node_dir_of self.now.root_path) ≡ None) }
-        ensures refused { IfErr result (λ e. path_refusal (node_dir_of self.now.root_path) ≡ Some e) }
+        ensures refused { IfErr result (λ e.
+            path_refusal (node_dir_of self.now.root_path) ≡ Some e) }
     {
         self.root_path.followed_by("/nodes")
     }

@@ -44,7 +44,8 @@ impl StaticConfig {
         &self,
         publisher_max_loaned_samples: usize,
     ) -> Option<usize>
-        ensures { result ≡ as_usize (publisher_samples self.now.settings publisher_max_loaned_samples) }
+        ensures { result
+            ≡ as_usize (publisher_samples self.now.settings publisher_max_loaned_samples) }
     {
         let settings = &self.settings;
         let each = sum(

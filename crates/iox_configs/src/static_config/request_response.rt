@@ -75,7 +75,8 @@ impl StaticConfig {
         &self,
         max_loaned_responses_per_request: usize,
     ) -> Option<usize>
-        ensures { result ≡ as_usize (server_chunks self.now.settings max_loaned_responses_per_request) }
+        ensures { result
+            ≡ as_usize (server_chunks self.now.settings max_loaned_responses_per_request) }
     {
         let settings = &self.settings;
         let clients = number(settings.max_clients);

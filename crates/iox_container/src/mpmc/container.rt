@@ -107,7 +107,8 @@ impl<T: Words> Container<T> {
     pub fn add(&mut self, value: T, owner: OwnerId) -> Result<ContainerHandle, ContainerAddFailure>
         ensures added { IfOk result (λ handle. Adds value owner self.old handle self.new) }
         // A container is a finite map from handles, and this puts an entry into it.
-        ensures inserted { IfOk result (λ handle. Inserts handle (entry_for value owner handle.ticket) self.old self.new) }
+        ensures inserted { IfOk result (λ handle.
+            Inserts handle (entry_for value owner handle.ticket) self.old self.new) }
         ensures has { IfOk result (λ handle. IsSome (entry_of self.new handle)) }
         ensures within { IfOk result (λ handle. handle.index < length self.new.slots) }
         ensures capacity { length self.new.slots ≡ length self.old.slots }

@@ -22,7 +22,7 @@ use Rattle.iox_laws.proofs.WeaveLedger.Emptied.{SawNone}
 use Rattle.iox_laws.proofs.WeaveLedger.Outs.{out}
 use Rattle.iox_laws.proofs.WeaveLedger.Balance.{any, had_of, moved-out, saw-within}
 use Rattle.iox_laws.proofs.WeaveLedger.LedgerKept.{same-put, most_on, begun-had, over-out, over-most, beat-live}
-use Rattle.iox_laws.proofs.WeaveLedger.Emptiers.{CallsOwn, own-is, weave-own, empties-here}
+use Rattle.iox_laws.proofs.WeaveLedger.OwnWays.{CallsOwn, own-is, weave-own, empties-here}
 use Rattle.iox_laws.proofs.WeaveLedger.LedgerHolds.{SoundLedger, beat-holds, weave-holds, opened-holds, holds-in-the-end, length-out}
 
 -- ---- a beat

@@ -49,8 +49,8 @@ impl Cursor {
         cell
     }
 
-    /// The cell of a position that may be ahead of the expected one. It divides only if the position
-    /// is more than a round ahead, or behind.
+    /// The cell of a position that may be ahead of the expected one. It divides only if the
+    /// position is more than a round ahead, or behind.
     #[inline(always)]
     fn cell_elsewhere(&self, site: Site, position: u64) -> usize
         requires { KnowsCell site self.now }

@@ -37,7 +37,8 @@ impl Hears for Nobody {
 impl Hears for Vec<QueueEvent> {
     ghost can_hear = { λ events. vec_len events < vec_capacity events };
 
-    ghost heard = { λ events event after. after.items ≡ events.items ++ option_to_list (told event) };
+    ghost heard = { λ events event after.
+        after.items ≡ events.items ++ option_to_list (told event) };
 
     #[inline(always)]
     fn hear(&mut self, event: QueueEvent) {

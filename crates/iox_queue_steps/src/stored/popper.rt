@@ -42,7 +42,10 @@ impl Model for StoredPopper {
 
     ghost Value = { Popper };
 
-    ghost view = { λ p. record { site = p.site; place = popping_of p.at p.position p.value p.cell } };
+    ghost view = { λ p. record {
+      site = p.site;
+      place = popping_of p.at p.position p.value p.cell;
+    } };
 
     ghost invariant = { λ p. KnowsCell p.site p.cursor };
 }

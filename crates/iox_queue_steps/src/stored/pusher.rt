@@ -49,8 +49,10 @@ impl Model for StoredPusher {
 
     ghost Value = { Pusher };
 
-    ghost view = { λ p.
-        record { site = p.site; place = pushing_of p.at p.value p.position p.full p.read p.cell p.oldest } };
+    ghost view = { λ p. record {
+      site = p.site;
+      place = pushing_of p.at p.value p.position p.full p.read p.cell p.oldest;
+    } };
 
     ghost invariant = { λ p. KnowsCell p.site p.cursor };
 }

@@ -32,7 +32,8 @@ impl<T: Words> UnrestrictedAtomic<T> {
     #[inline]
     pub fn acquire_producer(&mut self) -> Option<Producer<'_, T>>
         ensures some { IsSome result }
-        ensures same_value { IfSome result (λ producer. producer.atomic.ghost_name ≡ self.entry.ghost_name) }
+        ensures same_value { IfSome result (λ producer.
+            producer.atomic.ghost_name ≡ self.entry.ghost_name) }
         ensures unchanged { IfSome result (λ producer. producer.atomic.now ≡ self.old) }
     {
         Some(Producer { atomic: self })

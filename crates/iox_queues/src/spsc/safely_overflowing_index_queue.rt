@@ -16,7 +16,8 @@ mod fixed_size;
 mod new_error;
 mod producer;
 
-/// A queue of at most `capacity` numbers, 1 or more. It takes memory when it is made, and never again.
+/// A queue of at most `capacity` numbers, 1 or more. It takes memory when it is made, and never
+/// again.
 ///
 /// ```
 /// let mut queue = SafelyOverflowingIndexQueue::new(rt.alloc(), 2)?;

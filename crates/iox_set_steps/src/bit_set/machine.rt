@@ -115,7 +115,8 @@ impl BitSetMachine {
     /// its end has only one result.
     pub fn run(&mut self, schedule: &[Entry<BitCall>]) -> Result<(), MachineError>
         ensures bits { (id : ℕ) → times_set id self.new.machine.events
-            ≡ times_cleared id self.new.machine.events + bit_now self.new.site self.new.machine.words id }
+            ≡ times_cleared id self.new.machine.events
+            + bit_now self.new.site self.new.machine.words id }
         ensures inside { (id : ℕ) → self.new.site.capacity ≤ id
             → times_set id self.new.machine.events ≡ 0 }
         ensures holds { BitsHoldAt self.new.site self.new.machine }
@@ -125,8 +126,10 @@ impl BitSetMachine {
         ensures sites { StayAtSites site_of self.old.machine self.new.machine }
         ensures played { (count : ℕ)
             × AllBitsEntered self.old.machine (take count schedule.now) self.new.machine }
-        ensures whole { OnOk result (AllBitsEntered self.old.machine schedule.now self.new.machine) }
-        ensures stopped { OnErr result (BitsStopAtStep self.old.machine schedule.now self.new.machine) }
+        ensures whole { OnOk result
+            (AllBitsEntered self.old.machine schedule.now self.new.machine) }
+        ensures stopped { OnErr result
+            (BitsStopAtStep self.old.machine schedule.now self.new.machine) }
         ensures after { OnOk result (self.new ≡ bits_after self.old schedule.now) }
         ensures refused { IfErr result (λ error. error ≡ MachineError.WantOfMemory) }
     {

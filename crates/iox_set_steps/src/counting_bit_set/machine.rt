@@ -112,7 +112,8 @@ impl CountingBitSetMachine {
     /// count as was taken out and is there now. A schedule played to its end has only one result.
     pub fn run(&mut self, schedule: &[Entry<CountCall>]) -> Result<(), MachineError>
         ensures counts { (id : ℕ) → times_added id self.new.machine.events
-            ≡ taken_out id self.new.machine.events + count_now self.new.site self.new.machine.words id }
+            ≡ taken_out id self.new.machine.events
+            + count_now self.new.site self.new.machine.words id }
         ensures inside { (id : ℕ) → self.new.site.capacity ≤ id
             → times_added id self.new.machine.events ≡ 0 }
         ensures holds { CountsHoldAt self.new.site self.new.machine }
@@ -122,7 +123,8 @@ impl CountingBitSetMachine {
         ensures sites { StayAtSites count_site_of self.old.machine self.new.machine }
         ensures played { (count : ℕ)
             × AllCountsEntered self.old.machine (take count schedule.now) self.new.machine }
-        ensures whole { OnOk result (AllCountsEntered self.old.machine schedule.now self.new.machine) }
+        ensures whole { OnOk result
+            (AllCountsEntered self.old.machine schedule.now self.new.machine) }
         ensures stopped { OnErr result
             (CountsStopAtStep self.old.machine schedule.now self.new.machine) }
         ensures after { OnOk result (self.new ≡ counts_after self.old schedule.now) }

@@ -102,7 +102,8 @@ impl<const N: usize> AtomicMachine<N> {
         ensures all_events { OnOk result (PlayAtomics N self.old schedule.now self.new) }
         ensures holds { AtomicsHold N self.new }
         ensures sites { StayAtSites base_of self.old self.new }
-        ensures played { (count : ℕ) × AllAtomicsEntered N self.old (take count schedule.now) self.new }
+        ensures played { (count : ℕ)
+            × AllAtomicsEntered N self.old (take count schedule.now) self.new }
         ensures whole { OnOk result (AllAtomicsEntered N self.old schedule.now self.new) }
         ensures stopped { OnErr result (AtomicsStopAtStep N self.old schedule.now self.new) }
         ensures after { OnOk result (self.new ≡ atomics_after self.old schedule.now) }

@@ -103,7 +103,8 @@ impl<T: Words, const N: usize> ValueMachine<T, N> {
         ensures event { IfOk result (λ answer.
             IsTypedEvent T.words T.is_value self.old party answer self.new) }
         ensures loaded { IfOk result (LoadsCurrent self.old) }
-        ensures stepped { IfOk result (λ answer. TypedStepped T.words self.old party answer self.new) }
+        ensures stepped { IfOk result (λ answer.
+            TypedStepped T.words self.old party answer self.new) }
         ensures refused { IfErr result (IsAtomicStepRefused N self.old.plays party) }
         ensures unchanged { OnErr result (self.new ≡ self.old) }
     {
@@ -120,7 +121,8 @@ impl<T: Words, const N: usize> ValueMachine<T, N> {
             × PlayValues T.words T.is_value self.old (take count schedule.now) self.new }
         ensures all_events { OnOk result
             (PlayValues T.words T.is_value self.old schedule.now self.new) }
-        ensures played { (count : ℕ) × AllTypedEntered T.words self.old (take count schedule.now) self.new }
+        ensures played { (count : ℕ)
+            × AllTypedEntered T.words self.old (take count schedule.now) self.new }
         ensures whole { OnOk result (AllTypedEntered T.words self.old schedule.now self.new) }
         ensures stopped { OnErr result (TypedStopsAtStep T.words self.old schedule.now self.new) }
         ensures after { OnOk result (self.new.plays ≡ plays_after T.words self.old schedule.now) }

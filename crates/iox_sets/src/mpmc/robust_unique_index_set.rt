@@ -115,7 +115,8 @@ impl RobustUniqueIndexSet {
         Ok(index as u32)
     }
 
-    /// The lowest held index whose owner `f` accepts. It is asked about the owners of lower ones first.
+    /// The lowest held index whose owner `f` accepts. It is asked about the owners of lower ones
+    /// first.
     pub fn find<F: FnMut(OwnerId) -> bool>(&self, mut f: F) -> Option<u32>
         requires { F.IsAlwaysCallable f }
         ensures found { FindsFrom F.step f 0 self.now.owners result }

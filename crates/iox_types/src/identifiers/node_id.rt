@@ -38,7 +38,8 @@ impl Model for UniqueNodeId {
 impl UniqueNodeId {
     ghost use Rattle.iox_types.specs.Identifiers.{id_value, is_node_id};
 
-    /// The identifier of the node that was made so. An identifier of neither process number nor counter is invalid.
+    /// The identifier of the node that was made so. An identifier of neither process number nor
+    /// counter is invalid.
     pub fn new(id: UniqueSystemId) -> Result<UniqueNodeId, UniqueNodeIdError>
         ensures succeeds { IsOk result ↔ IsTrue (is_node_id id) }
         ensures made { IfOk result (λ node. node ≡ id) }

@@ -4,31 +4,21 @@ use Rattle.std.proofs.Common.{◌≡◌, ℕ, Bool, true, false, ◌==◌, refl,
 use Rattle.iox_model.specs.declared.way.RequestState.{RequestState}
 use Rattle.iox_model.specs.declared.way.RequestState.TheVariants.{Closed, Named}
 use Rattle.iox_model.specs.declared.way.Way.{Way}
-use Rattle.iox_model.specs.Doings.{Doing, Opening}
 use Rattle.iox_model.specs.Maps.{same_way}
 use Rattle.iox_model.specs.Messages.{closed_for, hinted_for, names}
 use Rattle.iox_model.specs.Moments.{Moment, Open, Close, Hint, moved}
 use Rattle.iox_model.specs.Peers.{node_of_port}
 use Rattle.iox_model.specs.States.{State}
-use Rattle.iox_model.specs.Transitions.{next}
 use Rattle.iox_model.specs.Weaves.{World, Begins, Makes, Ends, Dies, IsBeat}
 use Rattle.iox_laws.proofs.WeaveLaws.MapLemmas.{either, same_way-true}
 use Rattle.iox_laws.proofs.WeaveLaws.WireLemmas.{settled_same}
 use Rattle.iox_laws.proofs.WeaveBeats.LiveWays.{Here, here}
-use Rattle.iox_laws.proofs.WeaveLedger.Lists.{way-among}
-use Rattle.iox_laws.proofs.WeaveLedger.Senders.{FitsDoing}
-use Rattle.iox_laws.proofs.WeaveLedger.Views.{node_in, view}
+use Rattle.iox_laws.proofs.WeaveLedger.OwnWays.{CallsOwn, own-is, opens-here, weave-own}
 use Rattle.iox_laws.proofs.WeaveLedger.Worlds.{doing-is}
 use Rattle.iox_laws.specs.WeaveWorlds.Worlds.{IsReachable}
 use Rattle.iox_wire_laws.specs.WireOwners.RequestStates.{NamesNoOther, OnlyClientsOpen, OthersOpenNothing}
-use Rattle.iox_wire_laws.proofs.WireOwners.Opens.{OpensOwn, CallsOwn, own-is, weave-own}
 
 -- ---- who opens
-
-opens_here : (s : State) (n : ℕ) (d : Doing) (y : Way) (id : ℕ) → FitsDoing (view s.fixed n) n d → OpensOwn d → (next s n d (Open y id)).condition
-    → node_of_port s.fixed y.receiver ≡ n
-opens_here s n (Opening x left full) y id fits own c = ap (node_in s.fixed.ports) (own y (way-among y left c.0)) ∙ fits.loan.of_port
-opens_here s n d y id fits own c = absurd c
 
 -- whatever calls are under way
 calls_open : (w : World) → IsReachable w → (k : ℕ) → CallsOwn (w.doing k)
@@ -36,7 +26,7 @@ calls_open w reach = weave-own reach.0 w reach.1 reach.3 (λ k. subst (λ (v : W
 
 pub only_clients_open : OnlyClientsOpen
 only_clients_open w u node id y reach beat =
-    opens_here w.state node beat.1 y id (doing-is w node beat.1 (here w reach).holding.fits beat.2)
+    opens-here w.state node beat.1 y id (doing-is w node beat.1 (here w reach).holding.fits beat.2)
     (own-is (w.doing node) beat.1 beat.2 (calls_open w reach node)) beat.4
 
 -- ---- what a state names

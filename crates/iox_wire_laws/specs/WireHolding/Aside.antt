@@ -41,6 +41,7 @@ shown_at p x (ReleaseExchanges e old) =
     placed (with_aside p x e) (ReleaseExchanges (aside p x.node e) old)
 shown_at p x local = x
 
+-- the same at the place where it is
 abbrev pub shown : Setting → Seat → Seat
 shown p x = shown_at p x x.local
 

@@ -41,6 +41,7 @@ EndsInPool p (endings.FailsToSend e copied r) = IsInPool p e.sender e.slot
 EndsInPool p (endings.Receives v w slot header) = IsInPool p w.sender slot
 EndsInPool p ending = Unit {0}
 
+-- what the call holds at its place is in a slot of the pool of its sender
 abbrev pub TakesFromPool : Setting → Local → Type 0
 TakesFromPool p (Ends ending) = EndsInPool p ending
 TakesFromPool p (SendAsks d) = IsInPool p d.loan.sender d.loan.slot

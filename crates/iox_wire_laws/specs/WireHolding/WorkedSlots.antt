@@ -58,6 +58,7 @@ lent_again =
     client_does ones (calls.Loan 0 1) 16
     (lends_and_drops 5 (lends_and_drops 4 (lends_and_drops 3 given_back)))
 
+-- whether a release has given its message back, and looks at its request state
 abbrev pub looks : Local → Bool
 looks (ReleaseLooks e) = true
 looks local = false

@@ -24,9 +24,11 @@ serials_in held port slots = map (λ slot. (held port slot).serial) slots
 abbrev pub slot_of_loan : (port owner : ℕ) → Bool → ℕ → List ℕ
 slot_of_loan port owner made slot = if made && (owner == port) then slot ∷ [] else []
 
+-- that of a send, if the send lent it itself
 abbrev pub slot_of_send : ℕ → Delivery → List ℕ
 slot_of_send port d = slot_of_loan port d.loan.port d.copied d.loan.slot
 
+-- that of a call that ends so
 abbrev pub slots_of_ending : ℕ → Ending → List ℕ
 slots_of_ending port (endings.Lends o slot) = slot_of_loan port o.port true slot
 slots_of_ending port (endings.Sends e copied count) = slot_of_loan port e.port copied e.slot
@@ -66,6 +68,7 @@ EndingHolds held (endings.Sends e copied count) = e.sender ≡ e.port
 EndingHolds held (endings.FailsToSend e copied r) = e.sender ≡ e.port
 EndingHolds held ending = Unit {0}
 
+-- the same, wherever the call is; the loan of a send is of its own port
 abbrev pub CallHolds : Pools → Local → Type 0
 CallHolds held (Ends ending) = EndingHolds held ending
 CallHolds held (LendStores o slot next) = (held o.port slot).serial ≡ o.serial

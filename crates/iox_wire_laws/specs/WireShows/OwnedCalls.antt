@@ -73,21 +73,23 @@ abbrev pub ClosesOn : Setting → (Way → RequestState) → Entry → Way → T
 ClosesOn p shown e y =
     IsResponseWay p.layout.sizes y × (closed_for (shown y) e.request ≡ Closed)
 
--- the way of a send's last delivery is one of its own, and none of those left
+-- a way left is not that of the send's last delivery
 abbrev pub IsLeft : Setting → ℕ → Fixed → Option Way → Way → Type 0
 IsLeft p node f None y = Unit {0}
 IsLeft p node f (Some v) y = same_way v y ≡ false
 
+-- and the node sends on the way of its last delivery, if there was one
 abbrev pub OwnsLast : Setting → ℕ → Fixed → Option Way → Type 0
 OwnsLast p node f None = Unit {0}
 OwnsLast p node f (Some v) = SendsOn p node f v
 
--- the ways on which a send delivers, and those on which it opens its request
+-- the ways on which a send delivers
 abbrev pub ways_to : Delivery → List Way
 ways_to d =
     if is_request_loan d.loan.kind then map (request_way d.loan.port) d.to
     else map (λ client. response_way client d.loan.lane d.loan.port) d.to
 
+-- the request states that a send opens: of a request, one for each receiver
 abbrev pub states_to : Delivery → List Way
 states_to d =
     if is_request_loan d.loan.kind then map (response_way d.loan.port d.loan.lane) d.to else []

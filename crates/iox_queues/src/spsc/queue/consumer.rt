@@ -33,7 +33,8 @@ impl<T: Words, const CAPACITY: usize> Queue<T, CAPACITY> {
     /// always `Some`.
     #[inline]
     pub fn acquire_consumer(&mut self) -> Option<Consumer<'_, T, CAPACITY>>
-        ensures* rests { sem 𝓛 (ends_with (row T.row CAPACITY.row) self.entry (λ g. g.queue) result) }
+        ensures* rests { sem 𝓛
+            (ends_with (row T.row CAPACITY.row) self.entry (λ g. g.queue) result) }
         ensures given { IsSome result }
         ensures same_queue { IfSome result (λ g. g.queue.ghost_name ≡ self.entry.ghost_name) }
         ensures shows { IfSome result (λ g. g.queue.now ≡ self.old) }

@@ -50,7 +50,8 @@ impl<const CAPACITY: usize> StaticRobustUniqueIndexSet<CAPACITY> {
     ) -> Result<Self, UniqueIndexSetNewError>
         ensures made { IfOk result (λ set. set ≡ new_owned_indices capacity) }
         ensures allowed { OnOk result (reduced_refusal CAPACITY capacity ≡ None) }
-        ensures refused { IfErr result (IsRefusal WantOfMemory (reduced_refusal CAPACITY capacity)) }
+        ensures refused { IfErr result
+            (IsRefusal WantOfMemory (reduced_refusal CAPACITY capacity)) }
     {
         if CAPACITY == 0 {
             return Err(UniqueIndexSetNewError::CapacityIsZero);
@@ -109,7 +110,8 @@ impl<const CAPACITY: usize> StaticRobustUniqueIndexSet<CAPACITY> {
         self.set.acquire(owner)
     }
 
-    /// The lowest held index whose owner `f` accepts. It is asked about the owners of lower ones first.
+    /// The lowest held index whose owner `f` accepts. It is asked about the owners of lower ones
+    /// first.
     pub fn find<F: FnMut(OwnerId) -> bool>(&self, f: F) -> Option<u32>
         requires { F.IsAlwaysCallable f }
         ensures found { FindsFrom F.step f 0 self.now.owners result }

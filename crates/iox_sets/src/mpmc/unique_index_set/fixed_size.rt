@@ -47,7 +47,8 @@ impl<const CAPACITY: usize> FixedSizeUniqueIndexSet<CAPACITY> {
     ) -> Result<Self, UniqueIndexSetNewError>
         ensures made { IfOk result (λ set. set ≡ new_index_set capacity) }
         ensures allowed { OnOk result (reduced_refusal CAPACITY capacity ≡ None) }
-        ensures refused { IfErr result (IsRefusal WantOfMemory (reduced_refusal CAPACITY capacity)) }
+        ensures refused { IfErr result
+            (IsRefusal WantOfMemory (reduced_refusal CAPACITY capacity)) }
     {
         if CAPACITY == 0 {
             return Err(UniqueIndexSetNewError::CapacityIsZero);
