@@ -8,7 +8,7 @@ ghost use Rattle.iox_sets.specs.OwnedIndices.{acquire_refusal, held_count, is_ow
 ghost use Rattle.iox_sets.specs.OwnedIndices.{new_owned_indices, owner_of, state_after_recovery, with_owner};
 
 use crate::mpmc::bit_set::BitSet;
-use crate::mpmc::unique_index_set::MAX_CAPACITY;
+use crate::mpmc::capacities::check_capacity;
 use crate::mpmc::unique_index_set_enums::{
     ReleaseMode, ReleaseState, UniqueIndexSetAcquireFailure, UniqueIndexSetNewError,
 };
@@ -52,12 +52,7 @@ impl RobustUniqueIndexSet {
         ensures allowed { OnOk result (capacity_refusal capacity ≡ None) }
         ensures refused { IfErr result (IsRefusal WantOfMemory (capacity_refusal capacity)) }
     {
-        if capacity == 0 {
-            return Err(UniqueIndexSetNewError::CapacityIsZero);
-        }
-        if capacity > MAX_CAPACITY {
-            return Err(UniqueIndexSetNewError::CapacityTooLarge);
-        }
+        check_capacity(capacity)?;
         let owners = vec![in alloc; None; capacity]?;
         let free = all_bits(alloc, capacity)?;
         Ok(RobustUniqueIndexSet {

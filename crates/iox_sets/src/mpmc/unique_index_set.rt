@@ -5,6 +5,7 @@ ghost use Rattle.iox_sets.specs.declared.mpmc.unique_index_set_enums.UniqueIndex
 ghost use Rattle.iox_sets.specs.Refusals.{IsRefusal};
 ghost use Rattle.iox_sets.specs.IndexSets.{IsHeld, Takes, acquire_refusal, capacity_refusal, held_count, new_index_set, state_after, with_released};
 
+use crate::mpmc::capacities::check_capacity;
 use crate::mpmc::unique_index_set_enums::{
     ReleaseMode, ReleaseState, UniqueIndexSetAcquireFailure, UniqueIndexSetNewError,
 };
@@ -19,9 +20,6 @@ mod fixed_size;
 mod fixed_size_unique_index;
 mod head_details;
 mod unique_index;
-
-/// The greatest capacity of a set of indices.
-pub(crate) const MAX_CAPACITY: usize = (1 << 24) - 2;
 
 /// A set of the indices below `capacity`. It takes memory when it is made, and never again.
 ///
@@ -54,12 +52,7 @@ impl UniqueIndexSet {
         ensures allowed { OnOk result (capacity_refusal capacity ≡ None) }
         ensures refused { IfErr result (IsRefusal WantOfMemory (capacity_refusal capacity)) }
     {
-        if capacity == 0 {
-            return Err(UniqueIndexSetNewError::CapacityIsZero);
-        }
-        if capacity > MAX_CAPACITY {
-            return Err(UniqueIndexSetNewError::CapacityTooLarge);
-        }
+        check_capacity(capacity)?;
         let mut places = indices(alloc, capacity as u32)?;
         // The next one stands last.
         places.reverse();

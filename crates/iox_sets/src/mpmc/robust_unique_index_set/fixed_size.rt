@@ -8,7 +8,7 @@ ghost use Rattle.iox_sets.specs.OwnedIndices.{acquire_refusal, held_count, new_o
 ghost use Rattle.iox_sets.specs.OwnedIndices.{owner_of, state_after_recovery, with_owner};
 
 use super::{OwnerId, RobustUniqueIndexSet};
-use crate::mpmc::unique_index_set::MAX_CAPACITY;
+use crate::mpmc::capacities::check_reduced;
 use crate::mpmc::unique_index_set_enums::{
     ReleaseMode, ReleaseState, UniqueIndexSetAcquireFailure, UniqueIndexSetNewError,
 };
@@ -53,18 +53,7 @@ impl<const CAPACITY: usize> StaticRobustUniqueIndexSet<CAPACITY> {
         ensures refused { IfErr result
             (IsRefusal WantOfMemory (reduced_refusal CAPACITY capacity)) }
     {
-        if CAPACITY == 0 {
-            return Err(UniqueIndexSetNewError::CapacityIsZero);
-        }
-        if CAPACITY > MAX_CAPACITY {
-            return Err(UniqueIndexSetNewError::CapacityTooLarge);
-        }
-        if capacity == 0 {
-            return Err(UniqueIndexSetNewError::CapacityIsZero);
-        }
-        if capacity > CAPACITY {
-            return Err(UniqueIndexSetNewError::ExceedsCapacity);
-        }
+        check_reduced(CAPACITY, capacity)?;
         let set = RobustUniqueIndexSet::new(alloc, capacity)?;
         Ok(StaticRobustUniqueIndexSet { set })
     }

@@ -5,7 +5,8 @@ ghost use Rattle.iox_sets.specs.Refusals.{IsRefusal};
 ghost use Rattle.iox_sets.specs.IndexSets.{IsHeld, Takes, acquire_refusal, capacity_refusal, held_count, new_index_set};
 ghost use Rattle.iox_sets.specs.IndexSets.{reduced_refusal, state_after, with_released};
 
-use super::{MAX_CAPACITY, UniqueIndexSet};
+use super::UniqueIndexSet;
+use crate::mpmc::capacities::check_reduced;
 use crate::mpmc::unique_index_set_enums::{
     ReleaseMode, ReleaseState, UniqueIndexSetAcquireFailure, UniqueIndexSetNewError,
 };
@@ -50,18 +51,7 @@ impl<const CAPACITY: usize> FixedSizeUniqueIndexSet<CAPACITY> {
         ensures refused { IfErr result
             (IsRefusal WantOfMemory (reduced_refusal CAPACITY capacity)) }
     {
-        if CAPACITY == 0 {
-            return Err(UniqueIndexSetNewError::CapacityIsZero);
-        }
-        if CAPACITY > MAX_CAPACITY {
-            return Err(UniqueIndexSetNewError::CapacityTooLarge);
-        }
-        if capacity == 0 {
-            return Err(UniqueIndexSetNewError::CapacityIsZero);
-        }
-        if capacity > CAPACITY {
-            return Err(UniqueIndexSetNewError::ExceedsCapacity);
-        }
+        check_reduced(CAPACITY, capacity)?;
         let set = UniqueIndexSet::new(alloc, capacity)?;
         Ok(FixedSizeUniqueIndexSet { set })
     }
