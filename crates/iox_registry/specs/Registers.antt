@@ -1,4 +1,5 @@
--- A register: what is registered with a service in one role, each under a handle that is never given twice.
+-- A register: what is registered with a service in one role, each under a handle that is never
+-- given twice.
 use Rattle.std.specs.Prelude.{◌≡◌, ◌+◌, ◌-◌, ◌^◌, ◌<◌, ◌==◌, ◌&&◌, ◌⊎◌, ℕ, List, [], ◌∷◌, Bool, true, false}
 use Rattle.std.specs.Prelude.{Option, Some, None, IsSome, if◌then◌else◌, is_none, length, map, nat_lt, replicate, slice_index_or, slice_set}
 use Rattle.std.specs.Option.{option_map}
@@ -179,8 +180,8 @@ release_refusal register handle =
     then (if is_none (details_of register handle) then Some Spent else None)
     else Some Foreign
 
--- Whether a register is locked once these slots are what is left of it. Where something went, a register of
--- nodes is locked exactly if nothing is left, and no other is.
+-- Whether a register is locked once these slots are what is left of it. Where something went, a
+-- register of nodes is locked exactly if nothing is left, and no other is.
 abbrev pub locked_after : {D : Type 0} → Registrations D → List (Option (Registration D)) → Bool
 locked_after old left =
     if nat_lt (length (details_in left)) (length (listed old))
@@ -188,7 +189,8 @@ locked_after old left =
     else old.locked
 
 -- these slots are what is left, and nothing else changed
-abbrev pub left_with : {D : Type 0} → Registrations D → List (Option (Registration D)) → Registrations D
+abbrev pub left_with :
+    {D : Type 0} → Registrations D → List (Option (Registration D)) → Registrations D
 left_with old left = record old { slots = left; locked = locked_after old left }
 
 -- From old, the registration of a handle goes, which leaves new.
@@ -204,7 +206,8 @@ without_node node id (Some registration) =
     if same_id (node registration.details) id then None else Some registration
 
 -- all registrations of a node are gone, and no other
-abbrev pub recovered : {D : Type 0} → (D → UniqueSystemId) → UniqueSystemId → Registrations D → Registrations D
+abbrev pub recovered :
+    {D : Type 0} → (D → UniqueSystemId) → UniqueSystemId → Registrations D → Registrations D
 recovered node id old = left_with old (map (without_node node id) old.slots)
 
 -- whether a register of nodes has come to its end

@@ -1,4 +1,5 @@
--- How a register stands on a container: the container has the owners and the tickets, the register the details.
+-- How a register stands on a container: the container has the owners and the tickets, the register
+-- the details.
 use Rattle.std.specs.Prelude.{◌≡◌, ◌≢◌, ◌<◌, ◌↔◌, ◌⊎◌, ℕ, List, Bool, Option, Some, None, if◌then◌else◌, map, slice_index_or}
 use Rattle.std.specs.Option.{option_map}
 use Rattle.iox_types.specs.declared.identifiers.system_id.UniqueSystemId.{UniqueSystemId}
@@ -21,11 +22,13 @@ abbrev pub entry_of_kept : {D : Type 0} → Registered D → Entry (Unit {0})
 entry_of_kept kept = record { value = tt; owner = kept.owner; ticket = kept.ticket }
 
 -- what callers see of all slots
-abbrev pub shown_slots : {D : Type 0} → List (Option (Registered D)) → List (Option (Registration D))
+abbrev pub shown_slots :
+    {D : Type 0} → List (Option (Registered D)) → List (Option (Registration D))
 shown_slots slots = map (option_map shown) slots
 
 -- the register that the fields stand for
-abbrev pub register_in : {D : Type 0} → ℕ → Role → List (Option (Registered D)) → Bool → ℕ → Registrations D
+abbrev pub register_in :
+    {D : Type 0} → ℕ → Role → List (Option (Registered D)) → Bool → ℕ → Registrations D
 register_in service role slots locked used_tickets = record {
   service = service;
   role = role;
@@ -75,17 +78,21 @@ pub record IsEntryOf (number under : ℕ) (entry : ContainerHandle) : Type 0 whe
 -- ---- owners
 
 -- one that has something of a node has this owner
-abbrev pub HasOwner : {D : Type 0} → (D → UniqueSystemId) → List (Option (Registered D)) → UniqueSystemId → ℕ → Type 0
+abbrev pub HasOwner :
+    {D : Type 0} → (D → UniqueSystemId) → List (Option (Registered D)) → UniqueSystemId → ℕ → Type 0
 HasOwner {D} node slots id owner =
-    (slot : ℕ) × (kept : Registered D) × (kept_in slots slot ≡ Some kept) × (node kept.details ≡ id) × (kept.owner ≡ owner)
+    (slot : ℕ) × (kept : Registered D) × (kept_in slots slot ≡ Some kept)
+    × (node kept.details ≡ id) × (kept.owner ≡ owner)
 
 -- nothing there is of the node
-abbrev pub HasNoOwner : {D : Type 0} → (D → UniqueSystemId) → List (Option (Registered D)) → UniqueSystemId → Type 0
+abbrev pub HasNoOwner :
+    {D : Type 0} → (D → UniqueSystemId) → List (Option (Registered D)) → UniqueSystemId → Type 0
 HasNoOwner {D} node slots id =
     (slot : ℕ) (kept : Registered D) → kept_in slots slot ≡ Some kept → node kept.details ≢ id
 
 -- the owner is the node's, or the one that none has yet
-abbrev pub IsOwnerFor : {D : Type 0} → (D → UniqueSystemId) → List (Option (Registered D)) → UniqueSystemId
+abbrev pub IsOwnerFor :
+    {D : Type 0} → (D → UniqueSystemId) → List (Option (Registered D)) → UniqueSystemId
     → ℕ → ℕ → Type 0
 IsOwnerFor node slots id fresh owner =
     HasOwner node slots id owner ⊎ (HasNoOwner node slots id × (owner ≡ fresh))

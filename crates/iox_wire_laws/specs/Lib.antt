@@ -1,5 +1,5 @@
--- In reading order: slots; what a node keeps; worlds that are shown; regions of words; what a call owns;
--- what slots hold.
+-- In reading order: slots; what a node keeps; worlds that are shown; regions of words; what a call
+-- owns; what slots hold.
 pub mod WireSlots
 pub mod WireKeeping
 pub mod WireShows

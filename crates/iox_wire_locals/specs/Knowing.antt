@@ -103,7 +103,8 @@ ReleasesGoOn =
 -- So do questions and hints.
 abbrev pub LooksGoOn : Type 0
 LooksGoOn =
-    (p : Setting) (x : Seat) (f : Fixed) (held : Pools) (e : Entry) (hinted : Bool) (left : List Way)
+    (p : Setting) (x : Seat) (f : Fixed) (held : Pools) (e : Entry) (hinted : Bool)
+    (left : List Way)
     → StandsFor p f held x.node (checking x e hinted left)
     (looks.checking (handle_of held x.node e) hinted left)
     × StandsFor p f held x.node (hinting x e left) (looks.hinting (handle_of held x.node e) left)

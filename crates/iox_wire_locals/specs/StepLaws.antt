@@ -49,7 +49,8 @@ ReliesOn p x s held (SendPushes d last w (pushing.Pushes place) left count) seen
 ReliesOn p x s held (SendPushes d last w place left count) seen = ⊥
 ReliesOn p x s held (SendEvicts d w (pushing.Pushes (push.Evicts read)) left count) seen = Unit {0}
 ReliesOn p x s held (SendEvicts d w place left count) seen = ⊥
-ReliesOn p x s held (SendGetsBack d w (pushing.Pushes (push.TakesOld cell)) left count) seen = Unit {0}
+ReliesOn p x s held (SendGetsBack d w (pushing.Pushes (push.TakesOld cell)) left count) seen =
+    Unit {0}
 ReliesOn p x s held (SendGetsBack d w place left count) seen = ⊥
 ReliesOn p x s held (ReceiveLooks v w (popping.Looks place) left waiting) seen = Unit {0}
 ReliesOn p x s held (ReceiveLooks v w place left waiting) seen = ⊥

@@ -174,8 +174,8 @@ received_freely =
 
 -- ---- how many accesses each call took, and what it answered
 
--- a request in one takes 19 accesses, its receipt 12, or 11 under fire-and-forget: a node that has no call answers nothing, so
--- each of these calls ends with just this access
+-- a request in one takes 19 accesses, its receipt 12, or 11 under fire-and-forget: a node that has
+-- no call answers nothing, so each of these calls ends with just this access
 abbrev pub RequestsTakeNineteen : Type 0
 RequestsTakeNineteen =
     (requested.reply ≡ Some (Handle 2)) × (received.reply ≡ Some (Handle 2))

@@ -35,8 +35,8 @@ MessagesStay =
     → HoldsMessage p held c port slot
     → HoldsMessage p held (contents_after p.layout (program_of p local) seen c) port slot
 
--- A loan stores its words one after another. Once it stored the last one, the slot holds the message
--- that the loan has.
+-- A loan stores its words one after another. Once it stored the last one, the slot holds the
+-- message that the loan has.
 abbrev pub LoansAreStored : Type 0
 LoansAreStored =
     (p : Setting) (node : ℕ) (f : Fixed) (shown : Way → RequestState) (o : NewLoan)
@@ -48,8 +48,8 @@ LoansAreStored =
     × ((held : Pools) → (next + 1 == length (loan_words p o)) ≡ true
     → held o.port slot ≡ message_in p o → HoldsMessage p held d o.port slot)
 
--- A write stores the payload word by word, behind a header and user header that stay. Once it stored
--- the last one, the slot holds the message with that payload.
+-- A write stores the payload word by word, behind a header and user header that stay. Once it
+-- stored the last one, the slot holds the message with that payload.
 abbrev pub WritesAreStored : Type 0
 WritesAreStored =
     (p : Setting) (held : Pools) (node : ℕ) (f : Fixed) (shown : Way → RequestState) (e : Entry)

@@ -32,8 +32,8 @@ abbrev pub OwnPoolsFit : Setting → Pools → Seat → Type 0
 OwnPoolsFit p held x =
     (port : ℕ) → p.layout.owner port ≡ x.node → PoolFits held x port (p.port port).pool
 
--- A loan takes a slot that nothing else of its port has, and nothing else has it while its words are
--- stored.
+-- A loan takes a slot that nothing else of its port has, and nothing else has it while its words
+-- are stored.
 abbrev pub LoansHaveOwnSlots : Type 0
 LoansHaveOwnSlots =
     (p : Setting) (held : Pools) (s : State) (x : Seat) (seen : ℕ)

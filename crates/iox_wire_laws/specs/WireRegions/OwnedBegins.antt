@@ -92,8 +92,9 @@ SendsBeginAsOwners =
     → LayoutFits p f → Knows p x f held → LendsByOwnPort f x.node e
     → Owns p x.node f shown (sends p x e copied).local
 
--- In a shown world a living node's receives, and its looks for a message that waits, begin as owners
--- of their first place: those of a server on lane 0, those of a pending response on its lane.
+-- In a shown world a living node's receives, and its looks for a message that waits, begin as
+-- owners of their first place: those of a server on lane 0, those of a pending response on its
+-- lane.
 abbrev pub ReceivesBeginAsOwners : Type 0
 ReceivesBeginAsOwners =
     (p : Setting) (held : Pools) (word : ℕ → ℕ) (c : WireContents) (seats : ℕ → Seat) (w : World)

@@ -48,7 +48,8 @@ StayOwners owns =
     owns p y.node t.fixed t.request_state y.local
 
 -- Where words and seats show a world, and the call of a living node owns its place, the next access
--- is one beat of the machine or none. The world after it is shown, and the call owns its next place.
+-- is one beat of the machine or none. The world after it is shown, and the call owns its next
+-- place.
 abbrev pub GoOnAsOwners : Owning → Type 0
 GoOnAsOwners owns =
     (p : Setting) (held : Pools) (word word' : ℕ → ℕ) (c : WireContents) (seats : ℕ → Seat)

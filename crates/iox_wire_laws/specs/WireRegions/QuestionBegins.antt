@@ -16,8 +16,8 @@ use Rattle.iox_wire_locals.specs.Tables.{Setting}
 use Rattle.iox_wire_laws.specs.WireRegions.OwnedWords.{Owns}
 use Rattle.iox_wire_laws.specs.WireRegions.OwnedBegins.{IsPortOf, LayoutFits}
 
--- A pending response is of a client of the node, on one of its lanes; any other handle that is asked
--- is of a server of the node, on a lane of its client.
+-- A pending response is of a client of the node, on one of its lanes; any other handle that is
+-- asked is of a server of the node, on a lane of its client.
 pub record IsAsked (f : Fixed) (node : ℕ) (e : Entry) : Type 0 where
   pub pending : same_kind e.kind PendingResponse ≡ true
       → IsPortOf f node Client e.port × (e.lane < lanes_of f e.port)

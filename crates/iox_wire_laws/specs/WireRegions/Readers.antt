@@ -28,8 +28,8 @@ pub record IsReadable (f : Fixed) (node : ℕ) (e : Entry) : Type 0 where
       → ((way_in e).sender ≡ e.sender) × ComesTo f node (way_in e)
       × (has_way (way_in e) (ways_from f (way_in e).sender) ≡ true)
 
--- No living node stores into a slot whose message is outstanding, on a way on which the sender still
--- counts what it delivered.
+-- No living node stores into a slot whose message is outstanding, on a way on which the sender
+-- still counts what it delivered.
 abbrev pub WhatIsOutIsNotStored : Type 0
 WhatIsOutIsNotStored =
     (p : Setting) (held : Pools) (word : ℕ → ℕ) (c : WireContents) (seats : ℕ → Seat) (w : World)

@@ -31,7 +31,8 @@ AreOthers port i k q j l = port ≡ q → i ≡ j → k ≡ l → ⊥
 abbrev pub StoresLeaveTheRest : Type 0
 StoresLeaveTheRest =
     (p : Setting) (word word' : ℕ → ℕ) (port slot k value : ℕ) → IsSlotWord p port slot k
-    → IsMade (program_access p.layout (StoresWord port (region_word p port slot k) value)) word word'
+    → IsMade (program_access p.layout (StoresWord port (region_word p port slot k) value))
+    word word'
     → (word' (slot_word p port slot k) ≡ value)
     × ((q j l : ℕ) → IsSlotWord p q j l → AreOthers q j l port slot k
     → word' (slot_word p q j l) ≡ word (slot_word p q j l))

@@ -19,7 +19,8 @@ use Rattle.iox_wire_laws.specs.WireShows.StepsShow.{ShowsNext}
 use Rattle.iox_wire_laws.specs.WireShows.OwnedCalls.{OwnsCall, TellsLane, LimitsAreKnown, WordsTell, state_after}
 
 -- Where words and seats show a world, and the call of a living node owns its place, the next access
--- is one beat of the machine or none. The world after it is shown, and the call owns its next place.
+-- is one beat of the machine or none. The world after it is shown, and the call owns its next
+-- place.
 abbrev pub OwnedStepsGoOn : Type 0
 OwnedStepsGoOn =
     (p : Setting) (held : Pools) (word word' : ℕ → ℕ) (c : WireContents) (seats : ℕ → Seat)
