@@ -5,7 +5,7 @@ use Rattle.iox_sets.proofs.mpmc.unique_index_set.UniqueIndexSet.new.Goals as goa
 pub invariant_of-result : goal.invariant_of-result
 invariant_of-result c =
     let is = c.reverse.ensures.items ∙ ap reverse c.in_ok-places.ensures in
-    AreIndexPlaces-new c.args.capacity _ is (omega arith) (omega arith)
+    AreIndexPlaces-new c.args.capacity _ is (grind arith) (grind arith)
 
 pub returns-clause-made : goal.returns-clause-made
 returns-clause-made c = set_in_places-new c.args.capacity _ (c.reverse.ensures.items ∙ ap reverse c.in_ok-places.ensures)
