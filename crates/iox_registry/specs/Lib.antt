@@ -1,7 +1,6 @@
 -- what is registered with a service; what calls make of it. `Visits` of iox_attributes says when a
 -- callback is called
 pub mod Registers
-pub mod Ports
 pub mod Changes
 pub mod DynamicConfigs
 -- for proofs of this crate alone

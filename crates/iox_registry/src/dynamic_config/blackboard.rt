@@ -15,7 +15,6 @@ use crate::roles::Role;
 use iox_types::identifiers::UniqueNodeId;
 use iox_words::CallbackProgression;
 use std::alloc::Global;
-use std::marker::Model;
 
 /// The readers and writers of a service. It has one writer at most. Memory is taken as it is
 /// made, and never again.
@@ -23,14 +22,6 @@ use std::marker::Model;
 pub struct DynamicConfig {
     readers: Register<ReaderDetails>,
     writers: Register<WriterDetails>,
-}
-
-impl Model for DynamicConfig {
-    ghost use Rattle.iox_registry.specs.Ports.{BlackboardPorts};
-
-    ghost Value = { BlackboardPorts };
-
-    ghost view = { λ ports. record { readers = ports.readers; writers = ports.writers } };
 }
 
 impl DynamicConfig {

@@ -1,4 +1,4 @@
-//! What is registered with an event service beside its nodes.
+//! What is registered with a event service beside its nodes.
 ghost use Rattle.std.specs.Prelude.{◌≡◌, ◌↔◌, IfErr, IfNone, IfOk, IfSome, IsSome, None, OnErr, OnOk, Some, length};
 ghost use Rattle.std.specs.Fn.{CalledAt};
 ghost use Rattle.iox_sets.specs.Refusals.{IsRefusal};
@@ -15,21 +15,12 @@ use crate::roles::Role;
 use iox_types::identifiers::UniqueNodeId;
 use iox_words::CallbackProgression;
 use std::alloc::Global;
-use std::marker::Model;
 
 /// The notifiers and listeners of a service. Memory is taken as it is made, and never again.
 #[derive(Debug, Drop)]
 pub struct DynamicConfig {
     notifiers: Register<NotifierDetails>,
     listeners: Register<ListenerDetails>,
-}
-
-impl Model for DynamicConfig {
-    ghost use Rattle.iox_registry.specs.Ports.{EventPorts};
-
-    ghost Value = { EventPorts };
-
-    ghost view = { λ ports. record { notifiers = ports.notifiers; listeners = ports.listeners } };
 }
 
 impl DynamicConfig {

@@ -15,21 +15,12 @@ use crate::roles::Role;
 use iox_types::identifiers::UniqueNodeId;
 use iox_words::CallbackProgression;
 use std::alloc::Global;
-use std::marker::Model;
 
 /// The clients and servers of a service. Memory is taken as it is made, and never again.
 #[derive(Debug, Drop)]
 pub struct DynamicConfig {
     clients: Register<ClientDetails>,
     servers: Register<ServerDetails>,
-}
-
-impl Model for DynamicConfig {
-    ghost use Rattle.iox_registry.specs.Ports.{RequestResponsePorts};
-
-    ghost Value = { RequestResponsePorts };
-
-    ghost view = { λ ports. record { clients = ports.clients; servers = ports.servers } };
 }
 
 impl DynamicConfig {
