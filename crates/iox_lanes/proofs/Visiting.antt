@@ -11,17 +11,20 @@ use Rattle.iox_lanes.specs.Visited.{after_visit, all_visited, all_visits, is_got
 
 -- ---- one place of a list
 
-drop_at : {A : Type 0} (xs : List A) (i : ℕ) (x : A) → i < length xs → x ≡ get_or xs i x → drop i xs ≡ x ∷ drop (suc i) xs
+-- the rest from an index begins with the item there
+pub drop_at : {A : Type 0} (xs : List A) (i : ℕ) (x : A) → i < length xs → x ≡ get_or xs i x → drop i xs ≡ x ∷ drop (suc i) xs
 drop_at [] i x h e = absurd (omega arith)
 drop_at (y ∷ ys) zero x h e = ap (λ z. z ∷ ys) (sym e)
 drop_at (y ∷ ys) (suc i) x h e = drop_at ys i x (omega arith) e
 
-drop_set : {A : Type 0} (xs : List A) (i : ℕ) (x : A) → drop (suc i) (slice_set xs i x) ≡ drop (suc i) xs
+-- what is behind the index that is set stays
+pub drop_set : {A : Type 0} (xs : List A) (i : ℕ) (x : A) → drop (suc i) (slice_set xs i x) ≡ drop (suc i) xs
 drop_set [] i x = refl
 drop_set (y ∷ ys) zero x = refl
 drop_set (y ∷ ys) (suc i) x = drop_set ys i x
 
-take_set : {A : Type 0} (xs : List A) (i : ℕ) (x : A) → i < length xs → take (suc i) (slice_set xs i x) ≡ take i xs ++ x ∷ []
+-- what stands up to the index ends with the item that is set
+pub take_set : {A : Type 0} (xs : List A) (i : ℕ) (x : A) → i < length xs → take (suc i) (slice_set xs i x) ≡ take i xs ++ x ∷ []
 take_set [] i x h = absurd (omega arith)
 take_set (y ∷ ys) zero x h = refl
 take_set (y ∷ ys) (suc i) x h = ap (λ zs. y ∷ zs) (take_set ys i x (omega arith))
@@ -31,7 +34,8 @@ set_split [] i x h = absurd (omega arith)
 set_split (y ∷ ys) zero x h = refl
 set_split (y ∷ ys) (suc i) x h = ap (λ zs. y ∷ zs) (set_split ys i x (omega arith))
 
-take_all : {A : Type 0} (xs : List A) (n : ℕ) → length xs ≤ n → take n xs ≡ xs
+-- all that there are
+pub take_all : {A : Type 0} (xs : List A) (n : ℕ) → length xs ≤ n → take n xs ≡ xs
 take_all [] zero h = refl
 take_all [] (suc n) h = refl
 take_all (x ∷ xs) zero h = absurd (omega arith)

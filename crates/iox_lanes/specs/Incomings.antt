@@ -8,6 +8,7 @@ use Rattle.iox_lanes.specs.Pipes.{PipeState, on_lane, with_lane}
 use Rattle.iox_lanes.specs.Searches.{LabelsByPlace}
 use Rattle.iox_lanes.specs.Visited.{all_visited}
 
+-- The pipes to one port, and how many there may be.
 pub record IncomingState : Type 0 where
   -- how many pipes there is room for
   pub most : ℕ

@@ -5,6 +5,7 @@ use Rattle.std.specs.Option.{option_map_or}
 use Rattle.iox_queues.specs.BoundedQueues.{BoundedQueue}
 use Rattle.iox_model.specs.Maps.{is_empty}
 
+-- One lane: where its messages are, how many it may have, and how many it ever had.
 pub record LaneState : Type 0 where
   -- which pool the places are of
   pub pool : ℕ

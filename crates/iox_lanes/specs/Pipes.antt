@@ -7,6 +7,7 @@ use Rattle.iox_model.specs.declared.way.RequestState.TheVariants.{Closed, Named}
 use Rattle.iox_model.specs.Messages.{closed_for, hinted_for}
 use Rattle.iox_lanes.specs.Lanes.{LaneState, IsSound, empty_lane, has_returned, has_waiting}
 
+-- The lanes from one port to another, and beside them the states of its requests.
 pub record PipeState : Type 0 where
   -- the port from which the messages come
   pub sender : ℕ

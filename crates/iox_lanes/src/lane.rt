@@ -9,7 +9,8 @@ use std::marker::Model;
 
 /// The messages on one lane of a way, by their places in the pool of their sender.
 ///
-/// It takes memory when it is made, and never again. What its receiver has can always be given back.
+/// It takes memory when it is made, and never again. What its receiver has can always be given
+/// back.
 #[derive(Drop)]
 pub struct Lane {
     pool: usize,
@@ -29,7 +30,9 @@ impl Model for Lane {
 
     ghost view = { λ l. lane_of l.pool l.waiting l.returned l.taken.items l.buffer l.limit };
 
-    ghost invariant = { λ l. HaveCapacity l.waiting l.returned l.buffer l.limit × (l.limit ≤ vec_capacity l.taken) × IsSound (lane_of l.pool l.waiting l.returned l.taken.items l.buffer l.limit) };
+    ghost invariant = { λ l. HaveCapacity l.waiting l.returned l.buffer l.limit
+        × (l.limit ≤ vec_capacity l.taken)
+        × IsSound (lane_of l.pool l.waiting l.returned l.taken.items l.buffer l.limit) };
 }
 
 fn rank_of(places: &[u64], place: u64) -> Option<usize>
@@ -204,8 +207,8 @@ impl Lane {
 
     // ---- a lane that is taken apart
 
-    /// Takes the first message off the lane, if there is one: of those that were given back, then of
-    /// those that wait, then of those that its receiver has.
+    /// Takes the first message off the lane, if there is one: of those that were given back, then
+    /// of those that wait, then of those that its receiver has.
     pub fn take_off(&mut self) -> Option<u64>
         ensures first { result ≡ slice_get (places self.old) 0 }
         ensures left { self.new ≡ without_first self.old }

@@ -32,7 +32,11 @@ impl Model for Pipe {
 
     ghost Value = { PipeState };
 
-    ghost view = { λ p. record { sender = p.sender; lanes = p.lanes.items; states = p.states.items } };
+    ghost view = { λ p. record {
+      sender = p.sender;
+      lanes = p.lanes.items;
+      states = p.states.items;
+    } };
 
     ghost invariant = { λ p. NoneToGetBelow p.none_below p.lanes.items };
 }
