@@ -24,7 +24,10 @@ pub mod Ways
 pub mod Dry
 pub mod Drying
 pub mod Rooms
+pub mod Alike
+pub mod Left
 pub mod Sent
+pub mod OneGiven
 pub mod Delivering
 pub mod LoanDeliveries
 pub mod Targets

@@ -17,3 +17,4 @@ pub mod Unholding
 pub mod Reaching
 pub mod Removing
 pub mod Rooming
+pub mod Releases

@@ -19,6 +19,7 @@ pub mod Ends
 pub mod GiveBacks
 pub mod Naming
 pub mod Releasing
+pub mod Requesting
 pub mod Sending
 pub mod Asking
 pub mod WorkedHolds

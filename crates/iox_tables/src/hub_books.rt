@@ -9,7 +9,7 @@ ghost use Rattle.iox_tables.specs.HubBooks.Keeps.{RequestDeliveriesKeepOrder, Re
 ghost use Rattle.iox_tables.specs.HubBooks.Keeps.{ResponseDeliveriesKeepOrder, ResponsesKeepOrder};
 ghost use Rattle.iox_tables.specs.HubBooks.Keeps.{BarePoolsShowTheSame};
 ghost use Rattle.iox_tables.specs.HubBooks.Keeps.{EachHasItsTargets};
-ghost use Rattle.iox_tables.specs.HubBooks.Keeps.{EmptyingKeepsOrder, LittleChangesKeepOrder};
+ghost use Rattle.iox_tables.specs.HubBooks.Keeps.{LittleChangesKeepOrder};
 ghost use Rattle.iox_tables.specs.HubBooks.Keeps.{LoanReleasesKeepOrder, PendingReleasesKeepOrder};
 ghost use Rattle.iox_tables.specs.HubBooks.Keeps.{RequestReleasesKeepOrder, ResponseReleasesKeepOrder};
 ghost use Rattle.iox_tables.specs.HubBooks.Premises.{EachIsOnceOnItsLane, FreeSlotsAreNotShown};
@@ -19,6 +19,7 @@ ghost use Rattle.iox_tables.specs.HubBooks.Premises.{DryPoolsAreUsedUp, KeptAreU
 ghost use Rattle.iox_tables.specs.HubBooks.Reached.{EachCallIsReached};
 ghost use Rattle.iox_tables.specs.HubBooks.Rooms.{RequestsTakeTheirRoom, ResponsesTakeTheirRoom};
 ghost use Rattle.iox_tables.specs.HubBooks.Worked.{TwoHaveTheRequest};
+ghost use Rattle.iox_tables.specs.HubLending.Emptying.{EmptyingKeepsOrder};
 
 /// As lanes change, sums over all lanes change by what those lanes count. Visits move messages
 /// within their lanes.

@@ -1,5 +1,5 @@
-//! Loans, what they hold, sends that make their loan, and what is asked and refused: over the tables
-//! of a hub they are what the machine does.
+//! Loans, what they hold, sends that make their loan, and what is asked and refused: over the
+//! tables of a hub they are what the machine does.
 //! The functions have nothing to do: each is there for its contract.
 ghost use Rattle.iox_tables.specs.HubLoans.Copies.{CopiesAreRefused, CopiesFindDryPools};
 ghost use Rattle.iox_tables.specs.HubLoans.Copies.{CopiesWantMemory};

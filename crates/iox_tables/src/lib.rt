@@ -1,5 +1,6 @@
-//! How the tables of a hub show the state of the machine, what is so of them between calls, and that
-//! calls keep it. Each module is there for the contracts of its functions, which have nothing to do.
+//! How the tables of a hub show the state of the machine, what is so of them between calls, and
+//! that calls keep it. Each module is there for the contracts of its functions, which have nothing
+//! to do.
 #![tactic(auto)]
 
 pub mod hub_books;

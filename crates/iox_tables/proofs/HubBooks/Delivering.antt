@@ -12,6 +12,7 @@ use Rattle.iox_tables.specs.HubStates.Ways.{lane_on, lanes_from, with_lane_on, w
 use Rattle.iox_tables.proofs.HubStates.Keys.{at_is, first_append, has_some, lane_turned}
 use Rattle.iox_tables.specs.HubBooks.Counts.{OfAll, OfAllLanes}
 use Rattle.iox_tables.proofs.HubBooks.Eachs.{OfPipe, OfPort, all-append, all-back, all-front, all_get, all_set}
+use Rattle.std.proofs.lemmas.Bool.{or_parts}
 
 -- ---- one of a list changes
 
@@ -92,10 +93,6 @@ module _ (P : LaneState → Type 0) where
 pub lane_elsewhere : (g : LaneState → LaneState) (ports : List PortState) (ws : List Way) (v : Way) → has_way v ws ≡ false → lane_on (with_lanes_on g ports ws) v ≡ lane_on ports v
 lane_elsewhere g ports [] v not = refl
 lane_elsewhere g ports (w ∷ ws) v not =
-    let parts = neither (same_way v w) (has_way v ws) not in
+    let parts = or_parts (same_way v w) (has_way v ws) not in
     lane_elsewhere g (with_lane_on g ports w) ws v parts.1 ∙ ap (λ on. on v) (lane_turned g ports w) ∙ at_is g (lane_on ports) w v
     ∙ ap (λ (b : Bool). if b then option_map g (lane_on ports v) else lane_on ports v) parts.0
-  where
-    neither : (a b : Bool) → (a || b) ≡ false → (a ≡ false) × (b ≡ false)
-    neither true b e = absurd (true≢false e)
-    neither false b e = (refl, e)

@@ -40,7 +40,8 @@ bare_ports ports = map bare_port ports
 
 -- ---- lists
 
-map_set : {A B : Type 0} (show : A → B) (xs : List A) (i : ℕ) (x y : A) → slice_get xs i ≡ Some x → show y ≡ show x → map show (slice_set xs i y) ≡ map show xs
+-- one item that shows the same in its place leaves what is shown
+pub map_set : {A B : Type 0} (show : A → B) (xs : List A) (i : ℕ) (x y : A) → slice_get xs i ≡ Some x → show y ≡ show x → map show (slice_set xs i y) ≡ map show xs
 map_set show [] i x y at e = refl
 map_set show (z ∷ zs) zero x y at e = ap (λ b. b ∷ map show zs) (e ∙ sym (ap (λ o. option_map_or show o (show z)) at))
 map_set show (z ∷ zs) (suc i) x y at e = ap (λ bs. show z ∷ bs) (map_set show zs i x y at e)

@@ -15,7 +15,7 @@ use Rattle.iox_tables.proofs.HubStates.Keys.{at_is, lane_turned}
 use Rattle.iox_tables.specs.HubBooks.Counts.{OfAllLanes, how_many, how_often, is_at, lane_count, total}
 use Rattle.iox_tables.specs.HubBooks.Handles.{IsAlone, IsFromLane, IsOfPort, LoansAreAlone, TakenHaveHandles, is_from}
 use Rattle.iox_tables.specs.HubBooks.Hubs.{AreInOrder, HasEachPlaceOnce, HaveSerials, HoldersAreCounted, IsUsed, ResponsesAreOnTheirLanes}
-use Rattle.iox_tables.specs.HubBooks.Keeps.{EmptyingKeepsOrder, bare_pools, returned_on}
+use Rattle.iox_tables.specs.HubBooks.Keeps.{bare_pools}
 use Rattle.iox_tables.proofs.HubBooks.Eachs.{lanes_keep}
 use Rattle.iox_tables.proofs.HubBooks.Frames.{AreAlike, lane_before, lanes_on_bare, port_before}
 use Rattle.iox_tables.proofs.HubBooks.Going.{each_both, from_lane_stays, numbers_stay, of_port_stays, way_stays}
@@ -109,16 +109,13 @@ module _ (t : HubTables) (order : AreInOrder t) (ports : List PortState) (no_mor
         received = each_handle_from (IsFromLane t) (IsFromLane less) (from_lane_stays t less order no_more.alike same) t.handles order.received;
       }
 
--- ---- emptying
+-- ---- measures of lanes
 
 le_refl : (n : ℕ) → n ≤ n
 le_refl n = omega arith
 
 le_trans : (a b c : ℕ) → a ≤ b → b ≤ c → a ≤ c
 le_trans a b c p q = omega (arith, p, q)
-
-emptied_less : (k : ℕ) (l : LaneState) → how_often k (places_on (emptied_lane l)) ≤ how_often k (places_on l)
-emptied_less k l = let e = emptied_places (λ n. if n == k then 1 else 0) l in omega (arith, e)
 
 -- a measure that no change raises
 module _ (f : LaneState → ℕ) (g : LaneState → LaneState) where
@@ -146,52 +143,3 @@ module _ (f : LaneState → ℕ) (g : LaneState → LaneState) where
       step true (Some l) = same l
       step true None = refl
       step false o = refl
-
-emptied_no_more : (ports : List PortState) (ws : List Way) → HasNoMore ports (with_lanes_on emptied_lane ports ws)
-emptied_no_more ports ws = record {
-  alike = lanes_on_bare emptied_lane (λ l. refl) ports ws;
-  once = lanes_keep HasEachPlaceOnce emptied_lane ports ws (λ l has k. le_trans _ _ _ (emptied_less k l) (has k));
-  places = λ w k. all_less (λ l. how_often k (places_on l)) emptied_lane (emptied_less k) ports ws w;
-  taken = λ w k. all_same (λ l. how_often k l.taken) emptied_lane (λ l. refl) ports ws w;
-}
-
-pub emptying_keeps_order : EmptyingKeepsOrder
-emptying_keeps_order t ws pools order apart same holders =
-    kept t order (with_lanes_on emptied_lane t.ports ws) (emptied_no_more t.ports ws) pools same (λ pool k. low _ _ _ (holders pool k)) t.calls counted
-  where
-    low : (a b c : ℕ) → a + b ≡ c → a ≤ c
-    low a b c e = omega (arith, e)
-
-    ret : ℕ → ℕ → LaneState → ℕ
-    ret pool k l = if l.pool == pool then how_often k l.returned else 0
-
-    one : (pool k : ℕ) (l : LaneState) → lane_count pool k (emptied_lane l) + (if l.pool == pool then how_often k l.returned else 0) ≡ lane_count pool k l
-    one pool k l = step (l.pool == pool)
-      where
-        none : 0 + 0 ≡ 0
-        none = omega arith
-
-        step : (b : Bool) → (if b then how_often k (places_on (emptied_lane l)) else 0) + (if b then how_often k l.returned else 0) ≡ (if b then how_often k (places_on l) else 0)
-        step true = emptied_places (λ n. if n == k then 1 else 0) l
-        step false = none
-
-    sums : (pool k : ℕ) (vs : List Way)
-        → total (by_lane (λ l. lane_count pool k (emptied_lane l)) 0 (lane_on t.ports)) vs + returned_on t vs pool k
-        ≡ total (by_lane (lane_count pool k) 0 (lane_on t.ports)) vs
-    sums pool k [] = omega arith
-    sums pool k (v ∷ vs) = step (lane_on t.ports v) (sums pool k vs)
-      where
-        step : (o : Option LaneState)
-            → total (by_lane (λ l. lane_count pool k (emptied_lane l)) 0 (lane_on t.ports)) vs + returned_on t vs pool k ≡ total (by_lane (lane_count pool k) 0 (lane_on t.ports)) vs
-            → (option_map_or (λ l. lane_count pool k (emptied_lane l)) o 0 + total (by_lane (λ l. lane_count pool k (emptied_lane l)) 0 (lane_on t.ports)) vs)
-            + (option_map_or (λ l. if l.pool == pool then how_often k l.returned else 0) o 0 + returned_on t vs pool k)
-            ≡ option_map_or (lane_count pool k) o 0 + total (by_lane (lane_count pool k) 0 (lane_on t.ports)) vs
-        step (Some l) rest = let e = one pool k l in omega (arith, e, rest)
-        step None rest = omega (arith, rest)
-
-    counted : HoldersAreCounted (record t { ports = with_lanes_on emptied_lane t.ports ws; pools = pools })
-    counted pool k =
-        let new = holders pool k in
-        let old = order.counted pool k in
-        let all = lanes_total (lane_count pool k) emptied_lane t.ports ws apart in
-        let sum = sums pool k ws in omega (arith, new, old, all, sum)

@@ -35,26 +35,11 @@ use Rattle.iox_tables.proofs.HubBooks.Release.{among_left, each_left, handles_ap
 use Rattle.iox_tables.proofs.HubBooks.Sent.{Gives, GivesWay, IsAfterLoan, kept}
 use Rattle.iox_tables.proofs.HubBooks.Structures.{pool_before, same_numbers}
 use Rattle.iox_tables.proofs.HubBooks.Used.{handle_is, on_no_lane}
+use Rattle.iox_tables.proofs.HubBooks.OneGiven.{gives_bare, gives_taken}
 
 -- ---- one lane
 
 module _ (overflow : Bool) (k : ℕ) where
-  gives_bare : (l : LaneState) → bare_lane (delivers overflow k l) ≡ bare_lane l
-  gives_bare l = step overflow (nat_lt l.buffer (length (delivered l k).waiting))
-    where
-      step : (b c : Bool) → bare_lane (if b then (if c then without_oldest (delivered l k) else delivered l k) else delivered l k) ≡ bare_lane l
-      step true true = refl
-      step true false = refl
-      step false c = refl
-
-  gives_taken : (l : LaneState) → (delivers overflow k l).taken ≡ l.taken
-  gives_taken l = step overflow (nat_lt l.buffer (length (delivered l k).waiting))
-    where
-      step : (b c : Bool) → (if b then (if c then without_oldest (delivered l k) else delivered l k) else delivered l k).taken ≡ l.taken
-      step true true = refl
-      step true false = refl
-      step false c = refl
-
   gives_more : (i : ℕ) (l : LaneState) → how_often i (places_on (delivers overflow k l)) ≤ how_often i (places_on l) + (if k == i then 1 else 0)
   gives_more i l = step overflow (nat_lt l.buffer (length (delivered l k).waiting))
     where
@@ -173,7 +158,8 @@ module _ (t : HubTables) (order : AreInOrder t) (node n : ℕ) (h : HandleState)
 
 -- ---- handles
 
-each_changed : (P : HandleState → Type 0) (new : HandleState) (hs : List HandleState) → OfEachHandle P hs → P new → OfEachHandle P (changed_handles new hs)
+-- what is so of each handle, and of the new one, is so of each after the change
+pub each_changed : (P : HandleState → Type 0) (new : HandleState) (hs : List HandleState) → OfEachHandle P hs → P new → OfEachHandle P (changed_handles new hs)
 each_changed P new [] a b = tt
 each_changed P new (k ∷ ks) a b = step ((k.node == new.node) && (k.number == new.number)) (each_changed P new ks a.1 b)
   where
@@ -181,7 +167,8 @@ each_changed P new (k ∷ ks) a b = step ((k.node == new.node) && (k.number == n
     step true rest = (b, a.1)
     step false rest = (a.0, rest)
 
-changed_numbers : (new : HandleState) (hs : List HandleState) → map (λ k. k.number) (changed_handles new hs) ≡ map (λ k. k.number) hs
+-- a change keeps numbers
+pub changed_numbers : (new : HandleState) (hs : List HandleState) → map (λ k. k.number) (changed_handles new hs) ≡ map (λ k. k.number) hs
 changed_numbers new [] = refl
 changed_numbers new (k ∷ ks) = step (k.node == new.node) (k.number == new.number) refl (changed_numbers new ks)
   where

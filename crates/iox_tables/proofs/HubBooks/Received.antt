@@ -1,7 +1,7 @@
 -- The receives of servers and of pending responses keep the tables of a hub in order.
 use Rattle.std.specs.Prelude.{◌≡◌, ◌⊎◌, ℕ, zero, ◌+◌, Bool, true, false, ◌&&◌, ◌||◌, if◌then◌else◌, ◌==◌, List, [], ◌∷◌, ◌++◌, map, Option, Some, None, slice_get, refl}
 use Rattle.std.specs.Option.{option_map_or}
-use Rattle.std.proofs.Common.{sym, ap, ap₂, subst, ◌∙◌, arith, inl, inr, true≢false, eqb-true}
+use Rattle.std.proofs.Common.{sym, append_assoc, ap, ap₂, subst, ◌∙◌, arith, inl, inr, true≢false, eqb-true}
 use Rattle.iox_model.specs.declared.kind.Kind.{Kind}
 use Rattle.iox_model.specs.declared.kind.Kind.TheVariants.{ActiveRequest, Response}
 use Rattle.iox_model.specs.declared.kind.Role.{Role}
@@ -44,10 +44,6 @@ use Rattle.iox_tables.proofs.HubBooks.Visited.{GotFrom, got_by, got_is, ports_ta
 
 plus_none : (n : ℕ) → n ≡ n + 0
 plus_none n = omega arith
-
-append_assoc : (xs ys zs : List ℕ) → xs ++ (ys ++ zs) ≡ (xs ++ ys) ++ zs
-append_assoc [] ys zs = refl
-append_assoc (x ∷ xs) ys zs = ap (λ ns. x ∷ ns) (append_assoc xs ys zs)
 
 pub has_back : (k : ℕ) (xs ys : List ℕ) → has_number k ys ≡ true → has_number k (xs ++ ys) ≡ true
 has_back k [] ys e = e
@@ -246,7 +242,7 @@ module _ (t : HubTables) (order : AreInOrder t) (node n lane : ℕ) (p : PortSta
           pools = pools;
         }) order (visits_bare wanted (labels_of t.pools) lane t.ports n) more.same
         (ap₂ (λ (xs ys : List ℕ). xs ++ ys) (same_numbers t.ports (with_port (visited_port wanted (labels_of t.pools) lane) t.ports n) (visits_bare wanted (labels_of t.pools) lane t.ports n)) (map_append (λ (h : HandleState). h.number) t.handles (new_handle pool k ∷ []))
-        ∙ append_assoc (numbers_of t.ports) (map (λ h. h.number) t.handles) (t.next_number ∷ []))
+        ∙ sym (append_assoc (numbers_of t.ports) (map (λ h. h.number) t.handles) (t.next_number ∷ [])))
         refl)
     keeps AtLimit takes c pools more =
         kept t order n lane wanted AtLimit None (gets AtLimit takes c) t.handles none_more pools more t.calls t.next_number

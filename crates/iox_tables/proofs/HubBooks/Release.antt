@@ -16,7 +16,7 @@ use Rattle.iox_tables.specs.HubStates.Wirings.{handle_in}
 use Rattle.iox_tables.specs.HubBooks.Counts.{OfAllLanes, how_many, how_often, is_at, lane_uses, total}
 use Rattle.iox_tables.specs.HubBooks.Handles.{IsAlone, IsFromLane, IsOfPort, LoansAreAlone, OwnAreApart, TakenHaveHandles, is_from, is_own_at}
 use Rattle.iox_tables.specs.HubBooks.Hubs.{AreInOrder, HasEachPlaceOnce, HaveNumbers, HaveSerials, HoldersAreCounted, IsUsed, ResponsesAreOnTheirLanes, numbers_in}
-use Rattle.iox_tables.specs.HubBooks.Keeps.{HasFewerHolders}
+use Rattle.iox_tables.specs.HubBooks.Keeps.{HasOneHolderLess}
 use Rattle.iox_tables.proofs.HubBooks.Frames.{AreAlike, lane_before, port_before}
 use Rattle.iox_tables.proofs.HubBooks.Going.{each_both, from_lane_stays, of_port_stays, way_stays}
 use Rattle.iox_tables.proofs.HubBooks.HandleTotals.{handle_dropped}
@@ -69,7 +69,7 @@ pub record GaveBack (t : HubTables) (h : HandleState) (ports : List PortState) :
       → by_lane (λ m. how_often k m.taken) 0 (lane_on ports) w + (if is_from t.pools w l.pool k h then 1 else 0) ≡ how_often k l.taken
 
 module _ (t : HubTables) (order : AreInOrder t) (node n : ℕ) (h : HandleState) (named : handle_in t.handles node n ≡ Some h) (ports : List PortState) (gave : GaveBack t h ports)
-    (pools : List (Option PoolState)) (fewer : HasFewerHolders t.pools pools h)
+    (pools : List (Option PoolState)) (fewer : HasOneHolderLess t.pools pools h)
   where
     abbrev pub left : HubTables
     left = record t { ports = ports; handles = dropped_handles node n t.handles; pools = pools }

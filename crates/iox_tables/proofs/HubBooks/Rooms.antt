@@ -47,7 +47,8 @@ id_bare pools place = ap (λ o. option_map_or (λ (p : PoolState). p.port_id) o 
     step (Some p) = refl
     step None = refl
 
-differ_in_holders : (old new : List (Option PoolState)) → bare_pools old ≡ bare_pools new → DifferInHolders old new
+-- pools that are the same but for holders differ in these alone
+pub differ_in_holders : (old new : List (Option PoolState)) → bare_pools old ≡ bare_pools new → DifferInHolders old new
 differ_in_holders old new same = record {
   owners = same_owner old new same;
   ids = λ place. (

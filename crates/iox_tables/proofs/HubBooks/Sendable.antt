@@ -32,9 +32,10 @@ use Rattle.iox_tables.specs.HubStates.Steps.{IsOpenable, IsOpenToNew, is_there}
 use Rattle.iox_tables.specs.HubStates.Wirings.{IsHandle, buffer_from, numbers_of_role}
 use Rattle.iox_tables.proofs.HubStates.Fixing.{first_key, roles_are}
 use Rattle.iox_tables.specs.HubBooks.Handles.{IsOfPort, is_loan, role_for}
-use Rattle.iox_tables.specs.HubBooks.Hubs.{AreInOrder, IsLaneOf, states_of, width_of}
+use Rattle.iox_tables.specs.HubBooks.Hubs.{AreInOrder, IsLaneOf}
 use Rattle.iox_tables.specs.HubBooks.Premises.{RequestsMayBeSent, ResponsesMayBeSent}
 use Rattle.iox_tables.proofs.HubBooks.Used.{handle_is, once_delivered, once_on}
+use Rattle.iox_tables.specs.HubMaking.NewPorts.{states_of, width_of}
 
 -- ---- lists
 
@@ -90,7 +91,7 @@ role_is Server Client e = absurd (true≢false (sym e))
 role_is Server Server e = refl
 
 -- an index below the length has something
-there_below : {A : Type 0} (xs : List A) (i : ℕ) → i < length xs → (x : A) × (slice_get xs i ≡ Some x)
+pub there_below : {A : Type 0} (xs : List A) (i : ℕ) → i < length xs → (x : A) × (slice_get xs i ≡ Some x)
 there_below [] i lt = absurd (omega (arith, lt))
 there_below (x ∷ xs) zero lt = (x, refl)
 there_below (x ∷ xs) (suc i) lt = there_below xs i (omega (arith, lt))

@@ -12,13 +12,15 @@ use Rattle.iox_lanes.specs.Pipes.{PipeState}
 use Rattle.iox_tables.specs.HubStates.Tables.{HubTables, PoolState, PortState, SlotState, numbers_of, owner_of, pipes_of, pool_at, port_in, senders_of, slot_at, no_slot}
 use Rattle.iox_tables.specs.HubStates.Ways.{lanes_from, states_from}
 use Rattle.iox_tables.specs.HubStates.Wirings.{HaveLimits, IsWired, buffer_from, limit_from, numbers_of_role, role_in}
-use Rattle.iox_tables.specs.HubBooks.Hubs.{AreInOrder, AreWired, HasPool, HavePools, HaveWidths, LanesAreOfSenders, states_of, width_of}
+use Rattle.iox_tables.specs.HubBooks.Hubs.{AreInOrder, AreWired, HasPool, HavePools, HaveWidths, LanesAreOfSenders}
 use Rattle.iox_tables.specs.HubBooks.Keeps.{bare_pool, bare_pools, bare_slot}
 use Rattle.iox_tables.proofs.HubBooks.Frames.{AreAlike, bare_pipe, bare_port, bare_ports, bare_pipes_of, count_bare, first_map, lane_before, length_map, port_before, some_map, width_bare}
+use Rattle.iox_tables.specs.HubMaking.NewPorts.{states_of, width_of}
 
 -- ---- ports
 
-map_map : {A B C : Type 0} (f : B → C) (g : A → B) (h : A → C) → ((x : A) → f (g x) ≡ h x) → (xs : List A) → map f (map g xs) ≡ map h xs
+-- two maps are one
+pub map_map : {A B C : Type 0} (f : B → C) (g : A → B) (h : A → C) → ((x : A) → f (g x) ≡ h x) → (xs : List A) → map f (map g xs) ≡ map h xs
 map_map f g h same [] = refl
 map_map f g h same (x ∷ xs) = ap₂ (λ y ys. y ∷ ys) (same x) (map_map f g h same xs)
 

@@ -21,16 +21,13 @@ use Rattle.iox_tables.proofs.HubStates.Borrows.{both_left}
 use Rattle.iox_tables.proofs.HubStates.Keys.{first_changed, lane_sender, lane_sets}
 use Rattle.iox_tables.specs.HubBooks.Counts.{total}
 use Rattle.iox_tables.proofs.HubBooks.Totals.{total-last}
+use Rattle.std.proofs.lemmas.Bool.{or_parts}
 
 plus_none : (n : ℕ) → n ≡ n + 0
 plus_none n = omega arith
 
 abbrev none_of : Bool → ℕ
 none_of b = if b then 0 else 0
-
-or_parts : (a b : Bool) → (a || b) ≡ false → (a ≡ false) × (b ≡ false)
-or_parts true b e = absurd (true≢false e)
-or_parts false b e = (refl, e)
 
 -- ---- what the receiver has of a lane
 

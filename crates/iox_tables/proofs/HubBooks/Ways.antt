@@ -14,8 +14,9 @@ use Rattle.iox_tables.specs.HubStates.Tables.{HubTables, PoolState, PortState, f
 use Rattle.iox_tables.specs.HubStates.Ways.{lane_on, lanes_from}
 use Rattle.iox_tables.proofs.HubStates.Fixing.{first_key}
 use Rattle.iox_tables.specs.HubBooks.Counts.{in_pipe, in_port, on_lanes, total}
-use Rattle.iox_tables.specs.HubBooks.Hubs.{AreInOrder, width_of}
+use Rattle.iox_tables.specs.HubBooks.Hubs.{AreInOrder}
 use Rattle.iox_tables.proofs.HubBooks.Sendable.{first_own, numbers_apart, of_role}
+use Rattle.iox_tables.specs.HubMaking.NewPorts.{width_of}
 
 -- ---- lists
 

@@ -20,9 +20,10 @@ use Rattle.iox_tables.proofs.HubBooks.Used.{at_itself, passes_once}
 use Rattle.iox_tables.specs.HubMaking.Disconnections.{cut_from, is_held_in, is_of_port, is_unused, node_in, with_disconnected}
 use Rattle.iox_tables.proofs.HubMaking.Disconnecting.{there_left}
 use Rattle.iox_tables.specs.HubKeeping.Connected.{KeepsNone}
-use Rattle.iox_tables.specs.HubKeeping.Keeps.{DisconnectionsKeepOrder, HasFewerHolders, lost_uses}
+use Rattle.iox_tables.specs.HubKeeping.Keeps.{DisconnectionsKeepOrder, lost_uses}
 use Rattle.iox_tables.proofs.HubKeeping.LeftPorts as left
 use Rattle.iox_tables.proofs.HubKeeping.Ordered.{one_from, total_each, way_receiver, way_same}
+use Rattle.iox_tables.specs.HubLending.Emptying.{HasFewerHolders}
 
 both_not : (a b : Bool) → (not a && not b) ≡ true → b ≡ false
 both_not true b e = absurd (true≢false (sym e))

@@ -16,7 +16,7 @@ use Rattle.iox_tables.specs.HubStates.Ways.{lane_on}
 use Rattle.iox_tables.specs.HubStates.Wirings.{IsWired, role_in}
 use Rattle.iox_tables.proofs.HubStates.Fixing.{first_key}
 use Rattle.iox_tables.specs.HubBooks.Counts.{OfAll, OfAllLanes, lane_count, lane_uses}
-use Rattle.iox_tables.specs.HubBooks.Hubs.{AreInOrder, AreWired, HasEachPlaceOnce, HasPool, HaveNumbers, HavePools, HaveSerials, HaveWidths, HoldersAreCounted, IsUsed, LanesAreOfSenders, ResponsesAreOnTheirLanes, numbers_in, states_of, width_of}
+use Rattle.iox_tables.specs.HubBooks.Hubs.{AreInOrder, AreWired, HasEachPlaceOnce, HasPool, HaveNumbers, HavePools, HaveSerials, HaveWidths, HoldersAreCounted, IsUsed, LanesAreOfSenders, ResponsesAreOnTheirLanes, numbers_in}
 use Rattle.iox_tables.specs.HubBooks.Keeps.{bare_pool, bare_slot}
 use Rattle.iox_tables.proofs.HubBooks.Eachs.{OfPipe, OfPort, all-append, all-back, all-front}
 use Rattle.iox_tables.proofs.HubBooks.Frames.{length_map}
@@ -26,12 +26,15 @@ use Rattle.iox_tables.specs.HubMaking.Wires.{AreConnected, PortIsGone}
 use Rattle.iox_tables.proofs.HubMaking.Leaving.{gone_ports_leave_others}
 use Rattle.iox_tables.proofs.HubMaking.Summing.{gone_lanes_count}
 use Rattle.iox_tables.specs.HubKeeping.Connected.{KeepsNone}
-use Rattle.iox_tables.specs.HubKeeping.Keeps.{HasFewerHolders, lost_uses}
+use Rattle.iox_tables.specs.HubKeeping.Keeps.{lost_uses}
 use Rattle.iox_tables.proofs.HubKeeping.Ordered.{are_connected, lanes_sum}
+use Rattle.iox_tables.specs.HubMaking.NewPorts.{states_of, width_of}
+use Rattle.iox_tables.specs.HubLending.Emptying.{HasFewerHolders}
 
 -- ---- lists
 
-all_filter : {A : Type 0} (P : A → Type 0) (test : A → Bool) (xs : List A) → OfAll P xs → OfAll P (filter test xs)
+-- what is so of all is so of those that pass a test
+pub all_filter : {A : Type 0} (P : A → Type 0) (test : A → Bool) (xs : List A) → OfAll P xs → OfAll P (filter test xs)
 all_filter P test [] a = tt
 all_filter P test (x ∷ xs) a = step (test x) (all_filter P test xs a.1)
   where

@@ -19,10 +19,10 @@ use Rattle.iox_tables.specs.HubStates.Wirings.{IsWired, numbers_of_role, role_in
 use Rattle.iox_tables.proofs.HubStates.Fixing.{first_key}
 use Rattle.iox_tables.proofs.HubStates.Keys.{first_append, flip, has_some}
 use Rattle.iox_tables.specs.HubBooks.Counts.{OfAllLanes, how_often, lane_count, uses}
-use Rattle.iox_tables.specs.HubBooks.Hubs.{AreInOrder, AreWired, HasEachPlaceOnce, HasPool, HasWidth, HaveNumbers, HavePools, HaveSerials, HaveWidths, HoldersAreCounted, IsUsed, LanesAreOfSenders, ResponsesAreOnTheirLanes, numbers_in, states_of, width_of}
+use Rattle.iox_tables.specs.HubBooks.Hubs.{AreInOrder, AreWired, HasEachPlaceOnce, HasPool, HasWidth, HaveNumbers, HavePools, HaveSerials, HaveWidths, HoldersAreCounted, IsUsed, LanesAreOfSenders, ResponsesAreOnTheirLanes, numbers_in}
 use Rattle.iox_tables.proofs.HubBooks.Used.{used_on_lane}
 use Rattle.iox_tables.specs.HubMaking.FreePools.{IsPut}
-use Rattle.iox_tables.specs.HubMaking.NewPorts.{connected_from, connected_to, is_other, pipe_between, pool_made, with_port_made}
+use Rattle.iox_tables.specs.HubMaking.NewPorts.{connected_from, connected_to, is_other, pipe_between, pool_made, states_of, width_of, with_port_made}
 use Rattle.iox_tables.specs.HubMaking.Wires.{AreConnected, IsNewLane, IsNewPipe, PortIsNew}
 use Rattle.iox_tables.proofs.HubMaking.Connecting.{old_there, port_with, shows_same, there_with}
 use Rattle.iox_tables.proofs.HubMaking.Joining.{new_ports_are_connected}

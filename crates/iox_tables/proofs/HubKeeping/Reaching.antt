@@ -31,6 +31,7 @@ use Rattle.iox_tables.proofs.HubKeeping.NewHandles.{makings_keep_order}
 use Rattle.iox_tables.proofs.HubKeeping.Ordered.{names_apart, no_expired, nobody_has, order_is_ready_for_ports}
 use Rattle.iox_tables.proofs.HubKeeping.Starting.{starts_are_in_order}
 use Rattle.iox_tables.proofs.HubKeeping.Unholding.{values_keep_order}
+use Rattle.iox_tables.proofs.HubBooks.Rooms.{differ_in_holders}
 
 pub hubs_start : HubsStart
 hubs_start x settings first = record { hub = record { tables = starts_are_in_order settings; given = x; reached = starts_are_reached x settings first }; given = refl }
@@ -57,31 +58,6 @@ hubs_drop_pools t hub place free = record {
     reached = subst IsReachableState (free_pools_may_go hub.given t place (nobody_has t hub.tables place free)) hub.reached;
   };
   given = refl;
-}
-
--- ---- pools that differ in holders
-
-node_bare : (pools : List (Option PoolState)) (place : ℕ) → node_id_of (bare_pools pools) place ≡ node_id_of pools place
-node_bare pools place = ap (λ o. option_map_or (λ (p : PoolState). p.node_id) o no_id) (pool_bare pools place) ∙ step (pool_at pools place)
-  where
-    step : (o : Option PoolState) → option_map_or (λ (p : PoolState). p.node_id) (option_map bare_pool o) no_id ≡ option_map_or (λ (p : PoolState). p.node_id) o no_id
-    step (Some p) = refl
-    step None = refl
-
-port_bare : (pools : List (Option PoolState)) (place : ℕ) → port_id_of (bare_pools pools) place ≡ port_id_of pools place
-port_bare pools place = ap (λ o. option_map_or (λ (p : PoolState). p.port_id) o no_id) (pool_bare pools place) ∙ step (pool_at pools place)
-  where
-    step : (o : Option PoolState) → option_map_or (λ (p : PoolState). p.port_id) (option_map bare_pool o) no_id ≡ option_map_or (λ (p : PoolState). p.port_id) o no_id
-    step (Some p) = refl
-    step None = refl
-
-differ : (old new : List (Option PoolState)) → bare_pools old ≡ bare_pools new → DifferInHolders old new
-differ old new same = record {
-  owners = same_owner old new same;
-  ids = λ place. (sym (node_bare old place) ∙ ap (λ ps. node_id_of ps place) same ∙ node_bare new place, sym (port_bare old place) ∙ ap (λ ps. port_id_of ps place) same ∙ port_bare new place);
-  serials = same_serial old new same;
-  labels = λ place k. λ i. record { lane = (same_slot old new same place k i).lane; request = (same_slot old new same place k i).request };
-  elements = λ place k. ap (λ (s : SlotState). s.elements) (same_slot old new same place k);
 }
 
 -- ---- a port is released
@@ -120,7 +96,7 @@ module _ (t : HubTables) (hub : IsHub t) (node n : ℕ) (p : PortState) (keeps :
     stays = λ e. released v in_order (ended ∙ ap shown_if e);
     goes = λ pools e fewer.
         released (record (with_disconnected v n) { pools = pools }) (disconnections_keep_order v n pools in_order keeps e fewer)
-        (ended ∙ ap shown_if e ∙ ap left_with (holders_are_not_shown hub.given (with_disconnected v n) pools (differ t.pools pools fewer.same)));
+        (ended ∙ ap shown_if e ∙ ap left_with (holders_are_not_shown hub.given (with_disconnected v n) pools (differ_in_holders t.pools pools fewer.same)));
   }
 
 pub hubs_release_ports : HubsReleasePorts

@@ -15,13 +15,14 @@ use Rattle.iox_tables.specs.HubMaking.Starts.{no_ports}
 use Rattle.iox_tables.specs.HubMaking.Worked.{one_port, the_client, the_server, two_pools}
 use Rattle.iox_tables.proofs.HubMaking.Pooling.{new_pools_are_put}
 use Rattle.iox_tables.proofs.HubMaking.Summing.{gone_lanes_count}
-use Rattle.iox_tables.specs.HubKeeping.Keeps.{HasFewerHolders, lost_uses}
+use Rattle.iox_tables.specs.HubKeeping.Keeps.{lost_uses}
 use Rattle.iox_tables.specs.HubKeeping.Worked.{OneHasTheRequest, TwoPortsAreInOrder}
 use Rattle.iox_tables.proofs.HubKeeping.LeftHandles.{disconnections_keep_order}
 use Rattle.iox_tables.proofs.HubKeeping.NewHandles.{makings_keep_order}
 use Rattle.iox_tables.proofs.HubKeeping.Ordered.{empty_free, lanes_sum}
 use Rattle.iox_tables.proofs.HubKeeping.Starting.{starts_are_in_order}
 use Rattle.iox_tables.proofs.HubKeeping.Unholding.{values_keep_order}
+use Rattle.iox_tables.specs.HubLending.Emptying.{HasFewerHolders}
 
 first : AreInOrder one_port
 first =

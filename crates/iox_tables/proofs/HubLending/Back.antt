@@ -27,9 +27,9 @@ use Rattle.iox_tables.specs.HubLoans.Pools.{is_slot_held, is_slot_kept}
 use Rattle.iox_tables.proofs.HubLoans.GotBack.{dry_pools_are_kept}
 use Rattle.iox_tables.specs.HubLending.Emptying.{AreGotBack, DryPoolsHaveHolders, GettingBackKeepsOrder, with_back}
 use Rattle.iox_tables.specs.HubLending.Keeping.{has_holder}
-use Rattle.iox_tables.proofs.HubLending.Emptied.{emptied_in_order}
 use Rattle.iox_tables.proofs.HubLending.Kept.{held_slots_are_kept}
 use Rattle.iox_tables.proofs.HubLending.Owning.{handles_are_on_nodes, keeps_its_own, not_true, number_is, port_is, slot_count}
+use Rattle.iox_tables.proofs.HubLending.Emptied.{emptying_keeps_order}
 
 -- ---- ways
 
@@ -97,7 +97,7 @@ module _ (t : HubTables) (order : AreInOrder t) (n : ℕ) (p : PortState) (there
           not_itself p.role (ap (λ (r : PortState). r.role) (sym same) ∙ q.2)
 
   pub back_in_order : (pools : List (Option PoolState)) → AreGotBack t p pools → AreInOrder (with_back t p pools)
-  back_in_order pools fewer = emptied_in_order t (ways_by p.role t p.number) pools order (ways_apart t order p.role p.number) fewer
+  back_in_order pools fewer = emptying_keeps_order t (ways_by p.role t p.number) pools order (ways_apart t order p.role p.number) fewer
 
 pub getting_back_keeps_order : GettingBackKeepsOrder
 getting_back_keeps_order t n p pools order there fewer = (back_in_order t order n p there pools fewer, port_stays t order n p there)

@@ -22,6 +22,7 @@ use Rattle.iox_tables.proofs.HubLending.Owning.{free_is_unused, handles_are_on_n
 use Rattle.iox_tables.proofs.HubLending.Kept.{some_holder}
 use Rattle.iox_tables.specs.HubLoans.Slots.{IsUnused}
 use Rattle.iox_tables.specs.HubStates.Tables.{port_in}
+use Rattle.iox_tables.proofs.HubBooks.Frames.{length_map}
 
 -- ---- slots
 
@@ -47,11 +48,8 @@ passes_all test a [] p e = absurd p
 passes_all test a (x ∷ xs) (inl is) e = ap test is ∙ (two (test x) (list_all test xs) e).0
 passes_all test a (x ∷ xs) (inr p) e = passes_all test a xs p (two (test x) (list_all test xs) e).1
 
-length_mapped : {A B : Type 0} (f : A → B) (xs : List A) → length (map f xs) ≡ length xs
-length_mapped f [] = refl
-length_mapped f (x ∷ xs) = ap suc (length_mapped f xs)
-
-no_more : {A : Type 0} (test : A → Bool) (xs : List A) → length (filter test xs) ≤ length xs
+-- no more pass a test than there are
+pub no_more : {A : Type 0} (test : A → Bool) (xs : List A) → length (filter test xs) ≤ length xs
 no_more test [] = omega arith
 no_more test (x ∷ xs) = step (test x) (no_more test xs)
   where
@@ -60,7 +58,7 @@ no_more test (x ∷ xs) = step (test x) (no_more test xs)
     step false rest = omega (arith, rest)
 
 -- where one does not pass, fewer pass than there are
-one_less : {A : Type 0} (test : A → Bool) (a : A) (xs : List A) → IsAmong a xs → test a ≡ false → length (filter test xs) + 1 ≤ length xs
+pub one_less : {A : Type 0} (test : A → Bool) (a : A) (xs : List A) → IsAmong a xs → test a ≡ false → length (filter test xs) + 1 ≤ length xs
 one_less test a [] p e = absurd p
 one_less test a (x ∷ xs) (inl is) e = step (test x) (ap test (sym is) ∙ e) (no_more test xs)
   where
@@ -121,7 +119,7 @@ module _ (t : HubTables) (n slot : ℕ) (p : PortState) (order : AreInOrder t) (
       never : list_all (is_lane_taken t p.number) slots ≡ true → ⊥
       never all =
           let fits = no-longer slots (map lane (filter used slots)) (range-apart 0 p.size) (λ i among. taken_slot i (passes_all (is_lane_taken t p.number) i slots among all)) in
-          let as_many = length_mapped lane (filter used slots) in
+          let as_many = length_map lane (filter used slots) in
           let less = one_less used slot slots (range-has 0 p.size slot (none_below slot) (up slot p.size is.within)) (no_holder _ is.free) in
           omega (arith, fits, as_many, less)
 

@@ -31,6 +31,7 @@ use Rattle.iox_tables.proofs.HubLoans.Dry.{or_left}
 use Rattle.iox_tables.specs.HubLending.Filling.{AreOfSameLoan, FillingsKeepLoans, KindsMayChange, LoansAreOfOneHandle, WritesKeepLoans, with_kind}
 use Rattle.iox_tables.specs.HubLending.Keeping.{HasMessage, HaveMessages}
 use Rattle.iox_tables.proofs.HubLending.Owning.{not_true, two}
+use Rattle.iox_tables.proofs.HubBooks.LoanDeliveries.{changed_numbers, each_changed}
 
 -- ---- kinds
 
@@ -122,23 +123,6 @@ loans_are_of_one_handle t node n h order named loan = record { lanes = lanes; ha
 
 -- ---- the change
 
-each_changed : (P : HandleState → Type 0) (new : HandleState) (hs : List HandleState) → OfEachHandle P hs → P new → OfEachHandle P (changed_handles new hs)
-each_changed P new [] a b = tt
-each_changed P new (k ∷ ks) a b = step ((k.node == new.node) && (k.number == new.number)) (each_changed P new ks a.1 b)
-  where
-    step : (c : Bool) → OfEachHandle P (changed_handles new ks) → OfEachHandle P (if c then new ∷ ks else k ∷ changed_handles new ks)
-    step true rest = (b, a.1)
-    step false rest = (a.0, rest)
-
-numbers_changed : (new : HandleState) (hs : List HandleState) → map (λ h. h.number) (changed_handles new hs) ≡ map (λ h. h.number) hs
-numbers_changed new [] = refl
-numbers_changed new (k ∷ ks) = step ((k.node == new.node) && (k.number == new.number)) refl (numbers_changed new ks)
-  where
-    step : (c : Bool) → ((k.node == new.node) && (k.number == new.number)) ≡ c → map (λ (h : HandleState). h.number) (changed_handles new ks) ≡ map (λ h. h.number) ks
-        → map (λ (h : HandleState). h.number) (if c then new ∷ ks else k ∷ changed_handles new ks) ≡ k.number ∷ map (λ h. h.number) ks
-    step true e rest = ap (λ m. m ∷ map (λ (h : HandleState). h.number) ks) (sym (eqb-true k.number new.number (two (k.node == new.node) (k.number == new.number) e).1))
-    step false e rest = ap (λ ms. k.number ∷ ms) rest
-
 abbrev one_if : Bool → ℕ
 one_if b = if b then 1 else 0
 
@@ -213,7 +197,7 @@ module _ (t : HubTables) (node n : ℕ) (h : HandleState) (kind : Kind) (order :
     labels = order.labels;
     widths = widths_stay t u order refl refl refl;
     wired = wired_stay t u order refl refl refl;
-    numbers = numbers_stay t u order refl refl (ap (λ (ns : List ℕ). numbers_of t.ports ++ ns) (numbers_changed new t.handles)) refl;
+    numbers = numbers_stay t u order refl refl (ap (λ (ns : List ℕ). numbers_of t.ports ++ ns) (changed_numbers new t.handles)) refl;
     ports = each (IsOfPort t) (IsOfPort u) stays order.ports (λ of. stays new (of_port of));
     alone = each (IsAlone t) (IsAlone u) (λ g is. is) order.alone (λ is l. is loan.loan);
     own = own;

@@ -24,7 +24,7 @@ use Rattle.iox_tables.specs.HubStates.Wirings.{numbers_of_role}
 use Rattle.iox_tables.proofs.HubStates.Keys.{has_some}
 use Rattle.iox_tables.specs.HubBooks.Counts.{how_often, in_pipe, in_port, is_at, lane_count, lane_uses, handle_uses, total}
 use Rattle.iox_tables.specs.HubBooks.Handles.{IsFromLane, IsOfPoolOrGone, IsOfPort, is_from, way_in}
-use Rattle.iox_tables.specs.HubBooks.Hubs.{AreInOrder, IsUsed, width_of}
+use Rattle.iox_tables.specs.HubBooks.Hubs.{AreInOrder, IsUsed}
 use Rattle.iox_tables.proofs.HubBooks.Held.{IsCountedIn, each_counts}
 use Rattle.iox_tables.proofs.HubBooks.Places.{has_often}
 use Rattle.iox_tables.proofs.HubBooks.Sendable.{of_role}
@@ -35,6 +35,7 @@ use Rattle.iox_tables.specs.HubLoans.Slots.{is_place}
 use Rattle.iox_tables.proofs.HubLoans.Dry.{or_left, or_right}
 use Rattle.iox_tables.specs.HubLending.Keeping.{HasMessage, HaveMessages, HeldSlotsAreKept, has_holder}
 use Rattle.iox_tables.proofs.HubLending.Owning.{has_its_pool, kept_used, number_is, of_each, port_is, same_some, two}
+use Rattle.iox_tables.specs.HubMaking.NewPorts.{width_of}
 
 -- ---- lists
 

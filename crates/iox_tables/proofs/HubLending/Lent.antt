@@ -1,6 +1,6 @@
 -- A loan that is made keeps the tables of a hub in order.
 use Rattle.std.specs.Prelude.{◌||◌, ◌≡◌, ◌⊎◌, ℕ, ◌+◌, ◌<◌, ◌≤◌, Bool, true, false, ◌&&◌, if◌then◌else◌, List, [], ◌∷◌, ◌++◌, map, Some, refl}
-use Rattle.std.proofs.Common.{sym, ap, ap₂, subst, ◌∙◌, arith, inl, inr, true≢false}
+use Rattle.std.proofs.Common.{sym, append_assoc, ap, ap₂, subst, ◌∙◌, arith, inl, inr, true≢false}
 use Rattle.iox_model.specs.declared.kind.Kind.TheVariants.{ActiveRequest}
 use Rattle.iox_model.specs.declared.kind.Role.{Role}
 use Rattle.iox_model.specs.declared.kind.Role.TheVariants.{Client, Server}
@@ -62,10 +62,6 @@ not_active Server true = refl
 not_active Server false = refl
 
 -- ---- lists
-
-append_assoc : (xs ys zs : List ℕ) → xs ++ (ys ++ zs) ≡ (xs ++ ys) ++ zs
-append_assoc [] ys zs = refl
-append_assoc (x ∷ xs) ys zs = ap (λ ns. x ∷ ns) (append_assoc xs ys zs)
 
 pub total_members : (f g : HandleState → ℕ) (hs : List HandleState) → OfEachHandle (λ h. f h ≡ g h) hs → total f hs ≡ total g hs
 total_members f g [] same = refl
@@ -242,7 +238,7 @@ module _ (t : HubTables) (y : Lender) (uninit : Bool) (k slot : ℕ) (order : Ar
   numbers_are : numbers_in u ≡ numbers_in t ++ t.next_number ∷ []
   numbers_are =
       ap₂ (λ (xs ys : List ℕ). xs ++ ys) (numbers_same t.ports n) (map_append (λ (g : HandleState). g.number) t.handles (h ∷ []))
-      ∙ append_assoc (numbers_of t.ports) (map (λ g. g.number) t.handles) (t.next_number ∷ [])
+      ∙ sym (append_assoc (numbers_of t.ports) (map (λ g. g.number) t.handles) (t.next_number ∷ []))
 
   numbers : HaveNumbers u
   numbers = record {

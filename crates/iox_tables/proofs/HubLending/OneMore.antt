@@ -16,10 +16,12 @@ use Rattle.iox_tables.specs.HubStates.Steps.{is_there}
 use Rattle.iox_tables.specs.HubStates.Wirings.{HaveLimits, IsWired, limit_from, buffer_from, numbers_of_role, role_in}
 use Rattle.iox_tables.proofs.HubStates.Keys.{first_changed, same_mapped}
 use Rattle.iox_tables.specs.HubBooks.Counts.{OfAllLanes, in_port, on_lanes}
-use Rattle.iox_tables.specs.HubBooks.Hubs.{AreInOrder, AreWired, HaveWidths, LanesAreOfSenders, states_of, width_of}
+use Rattle.iox_tables.specs.HubBooks.Hubs.{AreInOrder, AreWired, HaveWidths, LanesAreOfSenders}
 use Rattle.iox_tables.proofs.HubBooks.Eachs.{OfPort, all_with_first}
 use Rattle.iox_tables.proofs.HubBooks.Frames.{first_map, some_map}
 use Rattle.iox_tables.proofs.HubLending.Owning.{same_some}
+use Rattle.iox_tables.proofs.HubBooks.Structures.{map_map}
+use Rattle.iox_tables.specs.HubMaking.NewPorts.{states_of, width_of}
 
 -- the port but for the count of its loans
 abbrev pub but_loans : PortState → PortState
@@ -27,10 +29,6 @@ but_loans p = record p { loans = 0 }
 
 abbrev pub one_loan : PortState → PortState
 one_loan p = record p { loans = p.loans + 1 }
-
-map_map : {A B C : Type 0} (f : B → C) (g : A → B) (h : A → C) → ((x : A) → f (g x) ≡ h x) → (xs : List A) → map f (map g xs) ≡ map h xs
-map_map f g h same [] = refl
-map_map f g h same (x ∷ xs) = ap₂ (λ y ys. y ∷ ys) (same x) (map_map f g h same xs)
 
 -- ---- ports without counts
 

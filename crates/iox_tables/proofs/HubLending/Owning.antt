@@ -27,6 +27,9 @@ use Rattle.iox_tables.specs.HubLoans.Pools.{CarriesIts, HoldsItsOwn, KeepsItsOwn
 use Rattle.iox_tables.specs.HubLoans.Slots.{HasSlot, IsUnused, is_place}
 use Rattle.iox_tables.proofs.HubLoans.Dry.{either, sender_is}
 use Rattle.iox_tables.specs.HubLending.Premises.{FreeSlotsAreUnused, HandlesAreOnNodes, PortsAreReadyToLend}
+use Rattle.iox_tables.proofs.HubBooks.Sendable.{there_below}
+pub use Rattle.iox_tables.proofs.HubLoans.Dry.{of_each}
+pub use Rattle.iox_tables.proofs.HubLoans.Spare.{not_true}
 
 -- ---- tests and lists
 
@@ -34,23 +37,8 @@ pub two : (a b : Bool) → (a && b) ≡ true → (a ≡ true) × (b ≡ true)
 two true b e = (refl, e)
 two false b e = absurd (true≢false (sym e))
 
-pub not_true : (b : Bool) → (b ≡ true → ⊥) → b ≡ false
-not_true true never = absurd (never refl)
-not_true false never = refl
-
 pub same_some : {A : Type 0} (a b : A) → Some a ≡ Some b → a ≡ b
 same_some a b e = ap (λ o. option_map_or (λ z. z) o a) e
-
-pub of_each : (P : HandleState → Type 0) (h : HandleState) (hs : List HandleState) → OfEachHandle P hs → IsAmong h hs → P h
-of_each P h [] all p = absurd p
-of_each P h (g ∷ gs) all (inl e) = subst P (sym e) all.0
-of_each P h (g ∷ gs) all (inr p) = of_each P h gs all.1 p
-
--- an index below the length has something
-there_below : {A : Type 0} (xs : List A) (i : ℕ) → i < length xs → (x : A) × (slice_get xs i ≡ Some x)
-there_below [] i lt = absurd (omega (arith, lt))
-there_below (x ∷ xs) zero lt = (x, refl)
-there_below (x ∷ xs) (suc i) lt = there_below xs i (omega (arith, lt))
 
 pub handles_are_on_nodes : HandlesAreOnNodes
 handles_are_on_nodes t order =

@@ -46,11 +46,12 @@ use Rattle.iox_tables.specs.HubLoans.Loans.{loaned_contents, loaned_handle, loan
 use Rattle.iox_tables.specs.HubLoans.Questions.{names_request, state_of}
 use Rattle.iox_tables.proofs.HubLoans.Asked.{awaited_are_named}
 use Rattle.iox_tables.proofs.HubLoans.Copying.{copy_lends}
-use Rattle.iox_tables.proofs.HubLoans.CopySends.{counted_is, request_end, request_is, response_end, response_is, there_pushed, there_sent}
+use Rattle.iox_tables.proofs.HubLoans.CopySends.{counted_is, request_end, response_end, response_is, there_pushed, there_sent}
 use Rattle.iox_tables.proofs.HubLoans.Counting.{each_count_is_the_same}
 use Rattle.iox_tables.proofs.HubLoans.Lent.{fixed_back, is_there_back}
 use Rattle.iox_tables.proofs.HubLoans.Loaning.{Lends, handle_is, lends_so}
 use Rattle.iox_tables.proofs.HubLoans.Placed.{slot_is, unused_slots_may_change}
+use Rattle.iox_tables.proofs.HubStates.Requesting.{request_is}
 
 module _ (x : Given) (t : HubTables) (node n k : ℕ) (p : Payload) (c : Choice) (payload : List ℕ) (y : Lender) (slot : ℕ) (may : IsCopyToMake x t node n k p c y slot) where
   abbrev s : m.State
@@ -114,7 +115,7 @@ module _ (x : Given) (t : HubTables) (node n k : ℕ) (p : Payload) (c : Choice)
       else (if over then sent_over (state_shown x' u) (copy_sending Client x' u h) else sent (state_shown x' u) (copy_sending Client x' u h)))
   request_sends client spent over es eo =
       call_is
-      ∙ ap (answered s node) (request_is x' u h (ap (λ role. kind_of_loan role false) client) (role_there ∙ client)
+      ∙ ap (answered s node) (request_is x' u h true (ap (λ role. kind_of_loan role false) client) (role_there ∙ client)
       ∙ ap₂ (λ (a b : Bool). if a then told (FailsToSend mh true ExceedsMaxActiveRequests) (state_shown x' u)
       else (if b then sent_over (state_shown x' u) (copy_sending Client x' u h) else sent (state_shown x' u) (copy_sending Client x' u h)))
       (spent_is ∙ es) eo)

@@ -23,20 +23,10 @@ use Rattle.iox_tables.proofs.HubStates.Steps.{on_each}
 use Rattle.iox_tables.specs.HubLoans.CopyPremises.{CopiesMayBeSent, loan_sending}
 use Rattle.iox_tables.specs.HubLoans.Loans.{with_handed_out}
 use Rattle.iox_tables.specs.HubLoans.CopySends.{copy_sending, receivers_by}
+use Rattle.iox_tables.proofs.HubStates.Ends.{not_loans}
 
 abbrev one_more : PortState → PortState
 one_more p = record p { loans = p.loans + 1 }
-
--- whatever a port shows but for its loans stays
-stays : {B : Type 0} (show : PortState → B) (none : B) → ((p : PortState) → show (one_more p) ≡ show p) → (ports : List PortState) (n k : ℕ)
-    → option_map_or show (port_in (with_port one_more ports n) k) none ≡ option_map_or show (port_in ports k) none
-stays show none same ports n k =
-    ap (λ o. option_map_or show o none) (first_changed (λ p. p.number) one_more (λ p. refl) ports n k) ∙ step (k == n) (port_in ports k)
-  where
-    step : (b : Bool) (o : Option PortState) → option_map_or show (if b then option_map one_more o else o) none ≡ option_map_or show o none
-    step true (Some p) = same p
-    step true None = refl
-    step false o = refl
 
 there_stays : (ports : List PortState) (n k : ℕ) → is_there (with_port one_more ports n) k ≡ is_there ports k
 there_stays ports n k =
@@ -72,10 +62,10 @@ module _ (x : Given) (t : HubTables) (h : HandleState) (role : Role) where
   u = with_handed_out t h
 
   lanes_stay : lane_on u.ports ≡ lane_on t.ports
-  lanes_stay = λ i. lane_by (λ k. stays pipes_of [] (λ p. refl) t.ports h.port k i)
+  lanes_stay = λ i. lane_by (λ k. not_loans pipes_of [] (λ p. refl) t.ports h.port k i)
 
   states_stay : state_on u.ports ≡ state_on t.ports
-  states_stay = λ i. state_by (λ k. stays pipes_of [] (λ p. refl) t.ports h.port k i)
+  states_stay = λ i. state_by (λ k. not_loans pipes_of [] (λ p. refl) t.ports h.port k i)
 
   to_same : (role : Role) → receivers_by role u h.client ≡ receivers_by role t h.client
   to_same Client = numbers_stay Server t.ports h.port
@@ -98,7 +88,7 @@ module _ (x : Given) (t : HubTables) (h : HandleState) (role : Role) where
     open_to = record {
       of_pool = may.open_to.of_pool;
       sender = sym (there_stays t.ports h.port w.sender) ∙ may.open_to.sender;
-      buffer = may.open_to.buffer ∙ ap (buffer_from t.settings) (stays (λ p. p.role) Client (λ p. refl) t.ports h.port w.sender);
+      buffer = may.open_to.buffer ∙ ap (buffer_from t.settings) (not_loans (λ p. p.role) Client (λ p. refl) t.ports h.port w.sender);
     };
     once = may.once;
   }

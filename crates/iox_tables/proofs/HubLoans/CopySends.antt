@@ -35,6 +35,7 @@ use Rattle.iox_tables.proofs.HubStates.Ends.{each_count_is_shown, each_handle_is
 use Rattle.iox_tables.proofs.HubStates.Fixing.{role_is, roles_are}
 use Rattle.iox_tables.proofs.HubStates.Steps.{connected_is, lanes_fixed, push_keeps, states_fixed}
 use Rattle.iox_tables.specs.HubLoans.CopySends.{copy_sending, with_loan_call}
+use Rattle.iox_tables.proofs.HubStates.Requesting.{sent_is}
 
 -- ---- ports stay
 
@@ -84,29 +85,6 @@ module _ (x : Given) (t : HubTables) (h : HandleState) where
   abbrev y : Sending
   y = copy_sending Client x t h
 
-  pub request_is : h.kind ≡ RequestMut → role_in t.ports h.port ≡ Client
-      → sent_of s mh true
-      ≡ (if is_active_spent f mh then told (FailsToSend mh true ExceedsMaxActiveRequests) s
-      else (if t.settings.request_overflow then sent_over s y else sent s y))
-  request_is kind client =
-      ap (λ (b : Bool). if b then requested s mh true else responded s mh true) (ap is_request_loan kind)
-      ∙ ap₂ (λ (role : Role) (to : List ℕ). choose (overflow_of (limits_of x t) role) to) (role_is x t h.port ∙ client)
-      (others_are_all f h.node Server refl ∙ roles_are x t.ports Server)
-      ∙ order t.settings.request_overflow (is_active_spent f mh)
-    where
-      choose : Bool → List ℕ → Outcome × m.State
-      choose b to =
-          if b then (if is_active_spent f mh then told (FailsToSend mh true ExceedsMaxActiveRequests) s else sent_over s (sending_of f mh true to))
-          else (if is_active_spent f mh then told (FailsToSend mh true ExceedsMaxActiveRequests) s else sent s (sending_of f mh true to))
-
-      order : (b c : Bool)
-          → (if b then (if c then told (FailsToSend mh true ExceedsMaxActiveRequests) s else sent_over s y) else (if c then told (FailsToSend mh true ExceedsMaxActiveRequests) s else sent s y))
-          ≡ (if c then told (FailsToSend mh true ExceedsMaxActiveRequests) s else (if b then sent_over s y else sent s y))
-      order true true = refl
-      order true false = refl
-      order false true = refl
-      order false false = refl
-
   abbrev z : Sending
   z = copy_sending Server x t h
 
@@ -135,7 +113,7 @@ pub request_end : (x : Given) (t : HubTables) (h : HandleState) (node count : �
     ≡ state_shown x (with_call (with_loan_call (with_added (record t { ports = ports }) (pending_of h count)) h))
 request_end x t h node count ports kind there =
     ap (λ (b : Bool). with_fixed S (called (called (lent (if b then added (numbered S.fixed h.node) (sent_handle mh count) else S.fixed) h.port)))) (ap is_request_loan kind)
-    ∙ ap (λ k. with_fixed S (called (called (lent (added (numbered S.fixed h.node) k) h.port)))) sent_is
+    ∙ ap (λ k. with_fixed S (called (called (lent (added (numbered S.fixed h.node) k) h.port)))) (sent_is x t h count kind)
     ∙ ap (λ (u : m.State). with_fixed u (called (called (lent u.fixed h.port)))) (each_handle_is_shown x (record t { ports = ports }) (pending_of h count)).adds
     ∙ twice_is x (with_added (record t { ports = ports }) (pending_of h count)) h there
   where
@@ -144,11 +122,6 @@ request_end x t h node count ports kind there =
 
     mh : m.Handle
     mh = handle_shown x t h
-
-    sent_is : sent_handle mh count ≡ handle_of x (message_of x t.pools) (pending_of h count)
-    sent_is = λ i. record (sent_handle mh count) {
-      filled = ap (λ (b : Bool). if b then x.filled h.pool h.slot else mh.message.elements) (ap is_uninit kind) i;
-    }
 
 -- a sent response has no handle
 pub response_end : (x x' : Given) (t u : HubTables) (h : HandleState) (node count : ℕ) → h.kind ≡ ResponseMut → is_there t.ports h.port ≡ true

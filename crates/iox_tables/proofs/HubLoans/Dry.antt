@@ -63,7 +63,7 @@ same_number : (a b : ℕ) → a ≡ b → (a == b) ≡ true
 same_number a b e = ap (λ j. j == b) e ∙ eqb-refl b
 
 -- what is so of each handle is so of one
-of_each : (P : HandleState → Type 0) (h : HandleState) (hs : List HandleState) → OfEachHandle P hs → IsAmong h hs → P h
+pub of_each : (P : HandleState → Type 0) (h : HandleState) (hs : List HandleState) → OfEachHandle P hs → IsAmong h hs → P h
 of_each P h [] all p = absurd p
 of_each P h (g ∷ gs) all (inl e) = subst P (sym e) all.0
 of_each P h (g ∷ gs) all (inr p) = of_each P h gs all.1 p

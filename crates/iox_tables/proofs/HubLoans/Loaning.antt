@@ -42,6 +42,7 @@ use Rattle.iox_tables.proofs.HubLoans.Counting.{each_count_is_the_same}
 use Rattle.iox_tables.proofs.HubLoans.Lending.{IsLent, client_lends, client_there, lent_tested, loan_shown, server_lends, server_there, tests_of}
 use Rattle.iox_tables.proofs.HubLoans.Lent.{is_there_back, lent_is, message_is, place_is, with_memory, without_memory}
 use Rattle.iox_tables.proofs.HubLoans.Placed.{unused_slots_may_change}
+use Rattle.std.proofs.lemmas.Bool.{or_right}
 
 -- ---- what is so of any lender
 
@@ -237,26 +238,18 @@ loans_are_made x t node n k uninit c payload y slot is on e has may empty =
 
 -- ---- what is left open
 
-or_true : (b : Bool) → (b || true) ≡ true
-or_true true = refl
-or_true false = refl
-
-right : (a b : Bool) → b ≡ true → (a || b) ≡ true
-right true b e = refl
-right false b e = e
-
 pub each_choice_may_be : EachChoiceMayBe
 each_choice_may_be x t node n c on = record {
   requests = λ client free call at. (
-    or_true c.memory,
-    right (not (lends_lane call)) _
+    or_right c.memory true refl,
+    or_right (not (lends_lane call)) _
         (ap (λ j. lane_may_be (fixed_of x t) c (subject (fixed_of x t) node j)) at
         ∙ ap (lane_may_be (fixed_of x t) c) (each_port_is_named x t node n client.port client.there client.held).names
         ∙ (each_count_is_the_same x t on).free client.port c.lane ∙ free),
   );
   responses = λ active call at. (
-    or_true c.memory,
-    right (not (lends_lane call)) _
+    or_right c.memory true refl,
+    or_right (not (lends_lane call)) _
         (ap (λ j. lane_may_be (fixed_of x t) c (subject (fixed_of x t) node j)) at
         ∙ ap (lane_may_be (fixed_of x t) c) (each_handle_is_named x t node n active.handle active.named).names),
   );

@@ -15,24 +15,8 @@ use Rattle.iox_tables.specs.HubStates.Steps.{HasSameMessages, places_on}
 use Rattle.iox_tables.specs.HubStates.Ends.{HasSameSettings, OfEachHandle, ShowsSame}
 use Rattle.iox_tables.proofs.HubStates.Ends.{free_slots_may_change}
 use Rattle.iox_tables.specs.HubLoans.Slots.{Contents, HasSlot, UnusedSlotsMayChange, is_place, put_place, with_contents, put_slot, put_slot_of}
-
--- ---- one item of a list
-
-pub set_there : {A : Type 0} (xs : List A) (i : ℕ) (x y : A) → slice_get xs i ≡ Some x → slice_get (slice_set xs i y) i ≡ Some y
-set_there [] i x y e = absurd (none-some x e)
-set_there (z ∷ zs) zero x y e = refl
-set_there (z ∷ zs) (suc i) x y e = set_there zs i x y e
-
-pub set_else : {A : Type 0} (xs : List A) (i j : ℕ) (y : A) → (j == i) ≡ false → slice_get (slice_set xs i y) j ≡ slice_get xs j
-set_else [] i j y e = refl
-set_else (z ∷ zs) zero zero y e = absurd (true≢false (sym (eqb-refl 0) ∙ e))
-set_else (z ∷ zs) zero (suc j) y e = refl
-set_else (z ∷ zs) (suc i) zero y e = refl
-set_else (z ∷ zs) (suc i) (suc j) y e = set_else zs i j y (sym (eqb-suc-suc j i) ∙ e)
-
-pub or_false : (a b : Bool) → (a || b) ≡ false → (a ≡ false) × (b ≡ false)
-or_false true b e = absurd (true≢false e)
-or_false false b e = (refl, e)
+pub use Rattle.std.proofs.lemmas.Bool.{or_parts as or_false}
+pub use Rattle.iox_tables.proofs.HubStates.Keys.{set_else, set_there}
 
 -- ---- one pool
 

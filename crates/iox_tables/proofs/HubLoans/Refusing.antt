@@ -26,6 +26,7 @@ use Rattle.iox_tables.proofs.HubStates.Naming.{handle_node}
 use Rattle.iox_tables.specs.HubLoans.Counts.{AreOnNodes, IsOnNode}
 use Rattle.iox_tables.specs.HubLoans.Refusals.{CallsAreRefused, NamesAreRefused, is_handle_of_any, name_refusal, name_refusal_by, unnamed}
 use Rattle.iox_tables.proofs.HubLoans.Counting.{any_map}
+use Rattle.std.proofs.lemmas.Bool.{or_left, or_right}
 
 -- ---- lists
 
@@ -48,31 +49,19 @@ any_weaker : {A : Type 0} (f g : A → Bool) → ((a : A) → f a ≡ true → g
 any_weaker f g to [] e = e
 any_weaker f g to (a ∷ rest) e = step (f a) refl e (any_weaker f g to rest)
   where
-    left : (a b : Bool) → a ≡ true → (a || b) ≡ true
-    left true b e = refl
-    left false b e = absurd (true≢false (sym e))
-
-    right : (a b : Bool) → b ≡ true → (a || b) ≡ true
-    right true b e = refl
-    right false b e = e
-
     step : (b : Bool) → f a ≡ b → (b || list_any f rest) ≡ true → (list_any f rest ≡ true → list_any g rest ≡ true) → (g a || list_any g rest) ≡ true
-    step true is e more = left (g a) (list_any g rest) (to a is)
-    step false is e more = right (g a) (list_any g rest) (more e)
+    step true is e more = or_left (g a) (list_any g rest) (to a is)
+    step false is e more = or_right (g a) (list_any g rest) (more e)
 
 -- a port that is found is in the list
 any_port : (f : PortState → Bool) (ports : List PortState) (n : ℕ) (p : PortState) → port_in ports n ≡ Some p → f p ≡ true → list_any f ports ≡ true
 any_port f [] n p e passes = absurd (none-some p e)
 any_port f (q ∷ qs) n p e passes = step (q.number == n) e (any_port f qs n p)
   where
-    right : (a b : Bool) → b ≡ true → (a || b) ≡ true
-    right true b e = refl
-    right false b e = e
-
     step : (b : Bool) → (if b then Some q else port_in qs n) ≡ Some p → (port_in qs n ≡ Some p → f p ≡ true → list_any f qs ≡ true) → (f q || list_any f qs) ≡ true
     step true e more =
         ap (λ b. b || list_any f qs) (ap (λ (o : Option PortState). option_map_or f o true) e ∙ passes)
-    step false e more = right (f q) (list_any f qs) (more e passes)
+    step false e more = or_right (f q) (list_any f qs) (more e passes)
 
 any_ports : (x : Given) (f : m.Port → Bool) (ports : List PortState) → list_any f (map (port_of x) ports) ≡ list_any (λ p. f (port_of x p)) ports
 any_ports x f [] = refl
@@ -89,15 +78,11 @@ pick : (P : HandleState → Type 0) (test : HandleState → Bool) (hs : List Han
 pick P test [] all e = absurd (true≢false (sym e))
 pick P test (h ∷ hs) all e = step (test h) refl e (pick P test hs all.1)
   where
-    right : (a b : Bool) → b ≡ true → (a || b) ≡ true
-    right true b e = refl
-    right false b e = e
-
     step : (b : Bool) → test h ≡ b → (b || list_any test hs) ≡ true → (list_any test hs ≡ true → Picked P test hs) → Picked P test (h ∷ hs)
     step true is e more = record { handle = h; so = all.0; passes = is; among = λ g at. ap (λ b. b || list_any g hs) at }
     step false is e more =
         let rest : Picked P test hs = more e in
-        record { handle = rest.handle; so = rest.so; passes = rest.passes; among = λ g at. right (g h) (list_any g hs) (rest.among g at) }
+        record { handle = rest.handle; so = rest.so; passes = rest.passes; among = λ g at. or_right (g h) (list_any g hs) (rest.among g at) }
 
 -- ---- names
 

@@ -19,7 +19,7 @@ use Rattle.iox_tables.proofs.HubLoans.Dry.{either, second_is, sender_is}
 use Rattle.iox_tables.proofs.HubLoans.GotBack.{dry_pools_are_kept, own_then}
 
 -- what cannot be true is false
-not_true : (b : Bool) → (b ≡ true → ⊥) → b ≡ false
+pub not_true : (b : Bool) → (b ≡ true → ⊥) → b ≡ false
 not_true true never = absurd (never refl)
 not_true false never = refl
 

@@ -14,6 +14,7 @@ use Rattle.iox_tables.specs.HubStates.Ends.{OfEachHandle, ShowsSame}
 use Rattle.iox_tables.specs.HubStates.Steps.{HasSameMessages}
 use Rattle.iox_tables.proofs.HubStates.Ends.{free_slots_may_change}
 use Rattle.iox_tables.specs.HubMaking.FreePools.{FreePoolsMayChange, FreePoolsMayGo, NewPoolsArePut, NobodyHas, OthersStay}
+use Rattle.iox_tables.proofs.HubStates.Keys.{set_else}
 
 -- the message, by the pool and its words
 abbrev message_by : Option PoolState → ℕ → List ℕ → List ℕ → Message
@@ -63,13 +64,6 @@ module _ (x x' : Given) (place : ℕ) (old new : List (Option PoolState)) (stay 
 pub free_pools_may_change : FreePoolsMayChange
 free_pools_may_change x x' t place pools same nobody stay =
     free_slots_may_change x x' t pools same (same_lanes x x' place t.pools pools stay t nobody) (same_handles x x' place t.pools pools stay t.handles nobody.handles)
-
-set_else : {A : Type 0} (xs : List A) (i j : ℕ) (y : A) → (j == i) ≡ false → slice_get (slice_set xs i y) j ≡ slice_get xs j
-set_else [] i j y e = refl
-set_else (z ∷ zs) zero zero y e = absurd (true≢false (sym (eqb-refl 0) ∙ e))
-set_else (z ∷ zs) zero (suc j) y e = refl
-set_else (z ∷ zs) (suc i) zero y e = refl
-set_else (z ∷ zs) (suc i) (suc j) y e = set_else zs i j y (sym (eqb-suc-suc j i) ∙ e)
 
 set_there : {A : Type 0} (xs : List A) (i : ℕ) (y : A) → i < length xs → slice_get (slice_set xs i y) i ≡ Some y
 set_there [] i y e = absurd (none_below e)

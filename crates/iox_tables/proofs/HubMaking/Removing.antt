@@ -36,11 +36,11 @@ module _ {A : Type 0} (key : A → ℕ) (n : ℕ) where
       step false is rest = ap (λ zs. x ∷ zs) rest
 
 -- what stands behind others is distinct, too
-distinct_behind : (ks ns : List ℕ) → AreDistinct (ks ++ ns) → AreDistinct ns
+pub distinct_behind : (ks ns : List ℕ) → AreDistinct (ks ++ ns) → AreDistinct ns
 distinct_behind [] ns apart = apart
 distinct_behind (k ∷ ks) ns apart = distinct_behind ks ns apart.1
 
-senders_append : (ps qs : List PipeState) → senders_of (ps ++ qs) ≡ senders_of ps ++ senders_of qs
+pub senders_append : (ps qs : List PipeState) → senders_of (ps ++ qs) ≡ senders_of ps ++ senders_of qs
 senders_append [] qs = refl
 senders_append (p ∷ ps) qs = ap (λ ks. p.sender ∷ ks) (senders_append ps qs)
 

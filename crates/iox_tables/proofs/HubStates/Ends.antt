@@ -152,7 +152,7 @@ more_loans ports n k there =
     step false e = refl
 
 -- whatever a port shows but for its loans stays
-not_loans : {B : Type 0} (show : PortState → B) (none : B) → ((p : PortState) → show (one_more p) ≡ show p) → (ports : List PortState) (n k : ℕ)
+pub not_loans : {B : Type 0} (show : PortState → B) (none : B) → ((p : PortState) → show (one_more p) ≡ show p) → (ports : List PortState) (n k : ℕ)
     → option_map_or show (port_in (with_port one_more ports n) k) none ≡ option_map_or show (port_in ports k) none
 not_loans show none same ports n k =
     ap (λ o. option_map_or show o none) (first_changed (λ p. p.number) one_more (λ p. refl) ports n k) ∙ step (k == n) (port_in ports k)

@@ -13,37 +13,30 @@ use Rattle.iox_tables.specs.HubStates.Ways.{OnWays}
 use Rattle.iox_tables.specs.HubStates.Shown.{MessagesByPlace, by_lane, is_out_in, returned_in, shown, waiting_in}
 use Rattle.iox_tables.specs.HubStates.Steps.{HasSameMessages, OthersMayChange}
 use Rattle.iox_tables.proofs.HubStates.Emptied.{has-append}
-
-right : (a b : Bool) → b ≡ true → (a || b) ≡ true
-right true b e = refl
-right false b e = e
-
-left : (a b : Bool) → a ≡ true → (a || b) ≡ true
-left true b e = refl
-left false b e = absurd (true≢false (sym e))
+use Rattle.std.proofs.lemmas.Bool.{or_left, or_right}
 
 -- what is the same at each member is the same of all
 same_map : {A : Type 0} (f g : ℕ → A) (ks : List ℕ) → ((j : ℕ) → has_number j ks ≡ true → f j ≡ g j) → map f ks ≡ map g ks
 same_map f g [] h = refl
 same_map f g (j ∷ js) h =
-    ap₂ (λ y ys. y ∷ ys) (h j (left (j == j) (has_number j js) (eqb-refl j)))
-    (same_map f g js (λ k e. h k (right (j == k) (has_number k js) e)))
+    ap₂ (λ y ys. y ∷ ys) (h j (or_left (j == j) (has_number j js) (eqb-refl j)))
+    (same_map f g js (λ k e. h k (or_right (j == k) (has_number k js) e)))
 
 same_any : (f g : ℕ → Bool) (ks : List ℕ) → ((j : ℕ) → has_number j ks ≡ true → f j ≡ g j) → list_any f ks ≡ list_any g ks
 same_any f g [] h = refl
 same_any f g (j ∷ js) h =
-    ap₂ (λ a b. a || b) (h j (left (j == j) (has_number j js) (eqb-refl j)))
-    (same_any f g js (λ k e. h k (right (j == k) (has_number k js) e)))
+    ap₂ (λ a b. a || b) (h j (or_left (j == j) (has_number j js) (eqb-refl j)))
+    (same_any f g js (λ k e. h k (or_right (j == k) (has_number k js) e)))
 
 module _ (old new : MessagesByPlace) (l : LaneState) (same : HasSameMessages old new l) where
   in_returned : (k : ℕ) → has_number k l.returned ≡ true → old l.pool k ≡ new l.pool k
-  in_returned k e = same k (has-append k l.returned (l.waiting ++ l.taken) ∙ left _ _ e)
+  in_returned k e = same k (has-append k l.returned (l.waiting ++ l.taken) ∙ or_left _ _ e)
 
   in_waiting : (k : ℕ) → has_number k l.waiting ≡ true → old l.pool k ≡ new l.pool k
-  in_waiting k e = same k (has-append k l.returned (l.waiting ++ l.taken) ∙ right _ _ (has-append k l.waiting l.taken ∙ left _ _ e))
+  in_waiting k e = same k (has-append k l.returned (l.waiting ++ l.taken) ∙ or_right _ _ (has-append k l.waiting l.taken ∙ or_left _ _ e))
 
   in_taken : (k : ℕ) → has_number k l.taken ≡ true → old l.pool k ≡ new l.pool k
-  in_taken k e = same k (has-append k l.returned (l.waiting ++ l.taken) ∙ right _ _ (has-append k l.waiting l.taken ∙ right _ _ e))
+  in_taken k e = same k (has-append k l.returned (l.waiting ++ l.taken) ∙ or_right _ _ (has-append k l.waiting l.taken ∙ or_right _ _ e))
 
   waits_same : waiting_in old l ≡ waiting_in new l
   waits_same = same_map (old l.pool) (new l.pool) l.waiting in_waiting

@@ -190,12 +190,13 @@ module _ (h : PipeState → PipeState) (keeps : (q : PipeState) → (h q).sender
 
 -- ---- one item of a list
 
-set_there : {A : Type 0} (xs : List A) (i : ℕ) (x y : A) → slice_get xs i ≡ Some x → slice_get (slice_set xs i y) i ≡ Some y
+-- the index that is set, and any other
+pub set_there : {A : Type 0} (xs : List A) (i : ℕ) (x y : A) → slice_get xs i ≡ Some x → slice_get (slice_set xs i y) i ≡ Some y
 set_there [] i x y e = absurd (none-some x e)
 set_there (z ∷ zs) zero x y e = refl
 set_there (z ∷ zs) (suc i) x y e = set_there zs i x y e
 
-set_else : {A : Type 0} (xs : List A) (i j : ℕ) (y : A) → (j == i) ≡ false → slice_get (slice_set xs i y) j ≡ slice_get xs j
+pub set_else : {A : Type 0} (xs : List A) (i j : ℕ) (y : A) → (j == i) ≡ false → slice_get (slice_set xs i y) j ≡ slice_get xs j
 set_else [] i j y e = refl
 set_else (z ∷ zs) zero zero y e = absurd (true≢false (sym (eqb-refl 0) ∙ e))
 set_else (z ∷ zs) zero (suc j) y e = refl

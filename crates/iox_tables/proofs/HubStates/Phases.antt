@@ -24,6 +24,7 @@ use Rattle.iox_tables.specs.HubStates.Changes.{emptied_lane, pushed_lane, HasEac
 use Rattle.iox_tables.proofs.HubStates.Keys.{at_is}
 use Rattle.iox_tables.proofs.HubStates.Moments.{delivered_is, emptied_is, evicted_is}
 use Rattle.iox_tables.proofs.HubStates.Opens.{closed_is, hinted_is, opened_is}
+use Rattle.std.proofs.lemmas.Bool.{or_parts}
 
 -- ---- what is so of the ways that are left
 
@@ -35,14 +36,10 @@ on_others : {A : Type 0} (P : Way → A → Type 0) (g : A → A) (on : OnWays A
     → OnEach P on ws → OnEach P (at g on w) ws
 on_others P g on w [] off has = tt
 on_others P g on w (v ∷ vs) off has =
-    let parts : (same_way w v ≡ false) × (has_way w vs ≡ false) = neither (same_way w v) (has_way w vs) off in
+    let parts : (same_way w v ≡ false) × (has_way w vs ≡ false) = or_parts (same_way w v) (has_way w vs) off in
     let same : at g on w v ≡ on v
     = at_is g on w v ∙ ap (λ (b : Bool). if b then option_map g (on v) else on v) (same_way-flip v w (same_way v w) parts.0 refl) in
     ((has.0.0, same ∙ has.0.1, has.0.2), on_others P g on w vs parts.1 has.1)
-  where
-    neither : (a b : Bool) → (a || b) ≡ false → (a ≡ false) × (b ≡ false)
-    neither true b e = absurd (true≢false e)
-    neither false b e = (refl, e)
 
 -- what is done on each way, one after another
 abbrev pub steps : (State → Way → State) → State → List Way → State

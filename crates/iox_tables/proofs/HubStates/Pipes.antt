@@ -11,12 +11,9 @@ use Rattle.iox_lanes.specs.Pipes.{PipeState, with_lane}
 use Rattle.iox_tables.specs.HubStates.Tables.{pipe_from, senders_of}
 use Rattle.iox_tables.specs.HubStates.Ways.{OnWays, at, lane_by, with_pipe_from}
 use Rattle.iox_tables.proofs.HubStates.Keys.{at_is, first_changed, flip, in_pipe, lane_sender, lane_sets, reorder}
+use Rattle.std.proofs.lemmas.Bool.{or_parts}
 
 -- ---- among others
-
-neither : (a b : Bool) → (a || b) ≡ false → (a ≡ false) × (b ≡ false)
-neither true b e = absurd (true≢false e)
-neither false b e = (refl, e)
 
 -- no pipe of these comes from there
 abbrev pub IsNone : List PipeState → ℕ → Type 0
@@ -26,14 +23,14 @@ IsNone ps sender = has_number sender (senders_of ps) ≡ false
 pub pipe_there : (done ps : List PipeState) (p : PipeState) → IsNone done p.sender → pipe_from (done ++ p ∷ ps) p.sender ≡ Some p
 pipe_there [] ps p none = ap (λ (b : Bool). if b then Some p else pipe_from ps p.sender) (eqb-refl p.sender)
 pipe_there (d ∷ ds) ps p none =
-    let parts = neither (d.sender == p.sender) (has_number p.sender (senders_of ds)) none in
+    let parts = or_parts (d.sender == p.sender) (has_number p.sender (senders_of ds)) none in
     ap (λ (b : Bool). if b then Some d else pipe_from (ds ++ p ∷ ps) p.sender) parts.0 ∙ pipe_there ds ps p parts.1
 
 pub pipe_split : (h : PipeState → PipeState) (done ps : List PipeState) (p : PipeState) → IsNone done p.sender
     → with_pipe_from h (done ++ p ∷ ps) p.sender ≡ done ++ h p ∷ ps
 pipe_split h [] ps p none = ap (λ (b : Bool). if b then h p ∷ ps else p ∷ with_pipe_from h ps p.sender) (eqb-refl p.sender)
 pipe_split h (d ∷ ds) ps p none =
-    let parts = neither (d.sender == p.sender) (has_number p.sender (senders_of ds)) none in
+    let parts = or_parts (d.sender == p.sender) (has_number p.sender (senders_of ds)) none in
     ap (λ (b : Bool). if b then h d ∷ (ds ++ p ∷ ps) else d ∷ with_pipe_from h (ds ++ p ∷ ps) p.sender) parts.0 ∙ ap (λ qs. d ∷ qs) (pipe_split h ds ps p parts.1)
 
 pub none_before : (done ps : List PipeState) (p : PipeState) → AreDistinct (senders_of (done ++ p ∷ ps)) → IsNone done p.sender
@@ -42,8 +39,8 @@ none_before (d ∷ ds) ps p apart =
     ap₂ (λ a b. a || b) (flip d.sender p.sender ∙ off ds apart.0) (none_before ds ps p apart.1)
   where
     off : (qs : List PipeState) → has_number d.sender (senders_of (qs ++ p ∷ ps)) ≡ false → (p.sender == d.sender) ≡ false
-    off [] e = (neither (p.sender == d.sender) (has_number d.sender (senders_of ps)) e).0
-    off (q ∷ qs) e = off qs (neither (q.sender == d.sender) (has_number d.sender (senders_of (qs ++ p ∷ ps))) e).1
+    off [] e = (or_parts (p.sender == d.sender) (has_number d.sender (senders_of ps)) e).0
+    off (q ∷ qs) e = off qs (or_parts (q.sender == d.sender) (has_number d.sender (senders_of (qs ++ p ∷ ps))) e).1
 
 pub same_senders : (done ps : List PipeState) (p q : PipeState) → q.sender ≡ p.sender → senders_of (done ++ q ∷ ps) ≡ senders_of (done ++ p ∷ ps)
 same_senders [] ps p q e = ap (λ n. n ∷ senders_of ps) e

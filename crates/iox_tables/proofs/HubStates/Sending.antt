@@ -44,6 +44,7 @@ use Rattle.iox_tables.proofs.HubStates.Naming.{each_handle_is_named}
 use Rattle.iox_tables.proofs.HubStates.Releasing.{drop_is, states_are}
 use Rattle.iox_tables.proofs.HubStates.SendSteps.{pushing_sends_are_shown, sends_are_shown}
 use Rattle.iox_tables.proofs.HubStates.Steps.{connected_is, hints_are_shown}
+use Rattle.iox_tables.proofs.HubStates.Requesting.{request_is, sent_is}
 
 module _ (x : Given) (t : HubTables) (node n : ℕ) (h : HandleState) (is : IsHandle t node n h) where
   abbrev s : m.State
@@ -79,29 +80,6 @@ module _ (x : Given) (t : HubTables) (node n : ℕ) (h : HandleState) (is : IsHa
   abbrev y : Sending
   y = request_sending x t h
 
-  request_is : h.kind ≡ RequestMut → role_in t.ports h.port ≡ Client
-      → sent_of s mh false
-      ≡ (if is_active_spent f mh then told (FailsToSend mh false ExceedsMaxActiveRequests) s
-      else (if t.settings.request_overflow then sent_over s y else sent s y))
-  request_is kind client =
-      ap (λ (b : Bool). if b then requested s mh false else responded s mh false) (ap is_request_loan kind)
-      ∙ ap₂ (λ (role : Role) (to : List ℕ). choose (overflow_of (limits_of x t) role) to) (role_is x t h.port ∙ client)
-      (others_are_all f h.node Server refl ∙ roles_are x t.ports Server)
-      ∙ order t.settings.request_overflow (is_active_spent f mh)
-    where
-      choose : Bool → List ℕ → Outcome × m.State
-      choose b to =
-          if b then (if is_active_spent f mh then told (FailsToSend mh false ExceedsMaxActiveRequests) s else sent_over s (sending_of f mh false to))
-          else (if is_active_spent f mh then told (FailsToSend mh false ExceedsMaxActiveRequests) s else sent s (sending_of f mh false to))
-
-      order : (b c : Bool)
-          → (if b then (if c then told (FailsToSend mh false ExceedsMaxActiveRequests) s else sent_over s y) else (if c then told (FailsToSend mh false ExceedsMaxActiveRequests) s else sent s y))
-          ≡ (if c then told (FailsToSend mh false ExceedsMaxActiveRequests) s else (if b then sent_over s y else sent s y))
-      order true true = refl
-      order true false = refl
-      order false true = refl
-      order false false = refl
-
   -- a refused send ends its loan
   refused_end : (ports : List _) (r : Refusal) → answered s node (told (FailsToSend mh false r) (state_shown x (record t { ports = ports })))
       ≡ tells (Refused r) (released (state_shown x (with_dropped (record t { ports = ports }) node n)) h.port)
@@ -112,22 +90,17 @@ module _ (x : Given) (t : HubTables) (node n : ℕ) (h : HandleState) (is : IsHa
       ≡ tells (Sent count) (state_shown x (with_call (with_changed (record t { ports = ports }) (pending_of h count))))
   sent_end ports count kind =
       ap (λ (b : Bool). tells (if b then Sent count else Done) (counted (if b then with_fixed S (changed S.fixed (sent_handle mh count)) else released (with_fixed S (dropped S.fixed mh)) h.port))) (ap is_request_loan kind)
-      ∙ ap (λ k. tells (Sent count) (counted (with_fixed S (changed S.fixed k)))) sent_is
+      ∙ ap (λ k. tells (Sent count) (counted (with_fixed S (changed S.fixed k)))) (sent_is x t h count kind)
       ∙ ap (λ u. tells (Sent count) (counted u)) (each_handle_is_shown x (record t { ports = ports }) (pending_of h count)).changes
     where
       S : m.State
       S = state_shown x (record t { ports = ports })
 
-      sent_is : sent_handle mh count ≡ handle_of x (message_of x t.pools) (pending_of h count)
-      sent_is = λ i. record (sent_handle mh count) {
-        filled = ap (λ (b : Bool). if b then x.filled h.pool h.slot else mh.message.elements) (ap is_uninit kind) i;
-      }
-
   pub refused_if_spent : h.kind ≡ RequestMut → role_in t.ports h.port ≡ Client → t.calls < 2 ^ 56 → is_active_spent f mh ≡ true
       → loan_sent_by s node n ≡ tells (Refused ExceedsMaxActiveRequests) (released (state_shown x (with_dropped t node n)) h.port)
   refused_if_spent kind client below spent_is =
       call_is (ap (λ k. same_kind k RequestMut || same_kind k ResponseMut) kind) below
-      ∙ ap (answered s node) (request_is kind client
+      ∙ ap (answered s node) (request_is x t h false kind client
       ∙ ap (λ (c : Bool). if c then told (FailsToSend mh false ExceedsMaxActiveRequests) s else (if t.settings.request_overflow then sent_over s y else sent s y)) spent_is)
       ∙ refused_end t.ports ExceedsMaxActiveRequests
 
@@ -135,7 +108,7 @@ module _ (x : Given) (t : HubTables) (node n : ℕ) (h : HandleState) (is : IsHa
       → MaySendFrom x t y h.pool h.slot → loan_sent_by s node n ≡ request_sent x (with_sent t y h.slot) node n h (sent_count t y)
   request_goes kind client below spent_is over may =
       call_is (ap (λ k. same_kind k RequestMut || same_kind k ResponseMut) kind) below
-      ∙ ap (answered s node) (request_is kind client
+      ∙ ap (answered s node) (request_is x t h false kind client
       ∙ ap₂ (λ (c b : Bool). if c then told (FailsToSend mh false ExceedsMaxActiveRequests) s else (if b then sent_over s y else sent s y)) spent_is over
       ∙ sends_are_shown x t y h.pool h.slot may)
       ∙ step (list_any y.fails (full_targets t y))
@@ -150,7 +123,7 @@ module _ (x : Given) (t : HubTables) (node n : ℕ) (h : HandleState) (is : IsHa
       → MaySendFrom x t y h.pool h.slot → loan_sent_by s node n ≡ request_sent x (with_pushed t y h.slot) node n h (Some (length (targets y)))
   request_goes_over kind client below spent_is over may =
       call_is (ap (λ k. same_kind k RequestMut || same_kind k ResponseMut) kind) below
-      ∙ ap (answered s node) (request_is kind client
+      ∙ ap (answered s node) (request_is x t h false kind client
       ∙ ap₂ (λ (c b : Bool). if c then told (FailsToSend mh false ExceedsMaxActiveRequests) s else (if b then sent_over s y else sent s y)) spent_is over
       ∙ pushing_sends_are_shown x t y h.pool h.slot may)
       ∙ sent_end (with_pushed t y h.slot).ports (length (targets y)) kind

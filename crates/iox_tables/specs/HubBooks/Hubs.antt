@@ -13,6 +13,7 @@ use Rattle.iox_tables.specs.HubStates.Steps.{places_on}
 use Rattle.iox_tables.specs.HubStates.Wirings.{HaveLimits, IsWired, buffer_from, role_in}
 use Rattle.iox_tables.specs.HubBooks.Counts.{how_often, uses, OfAllLanes}
 use Rattle.iox_tables.specs.HubBooks.Handles.{AreOfPorts, LoansAreAlone, OwnAreApart, ReceivedAreFromLanes, TakenHaveHandles}
+use Rattle.iox_tables.specs.HubMaking.NewPorts.{states_of, width_of}
 
 -- ---- slots
 
@@ -75,14 +76,6 @@ ResponsesAreOnTheirLanes t =
     (w : Way) (l : LaneState) (k : ℕ) → lane_on t.ports w ≡ Some l
     → role_in t.ports w.receiver ≡ Client → has_number k (places_on l) ≡ true
     → (slot_at t.pools l.pool k).lane ≡ w.lane
-
--- how many lanes come to the port from one sender: a client has one for each of its messages
-abbrev pub width_of : PortState → ℕ
-width_of p = if is_client p.role then p.size else 1
-
--- how many request states lie beside what comes from the port: one for each request
-abbrev pub states_of : PortState → ℕ
-states_of p = if is_client p.role then p.size else 0
 
 -- From each port to each of the other role there are that many lanes and request states.
 pub record HasWidth (to from : PortState) : Type 0 where

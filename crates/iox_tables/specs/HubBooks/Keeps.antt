@@ -84,7 +84,7 @@ ResponsesKeepOrder =
 -- ---- releases
 
 -- Pools differ in holders alone: the slot of the handle's message has one less.
-pub record HasFewerHolders (old new : List (Option PoolState)) (h : HandleState) : Type 0 where
+pub record HasOneHolderLess (old new : List (Option PoolState)) (h : HandleState) : Type 0 where
   pub same : bare_pools old ≡ bare_pools new
   pub holders :
       (pool k : ℕ)
@@ -96,7 +96,7 @@ abbrev pub LoanReleasesKeepOrder : Type 0
 LoanReleasesKeepOrder =
     (t : HubTables) (node n : ℕ) (h : HandleState) (pools : List (Option PoolState))
     → AreInOrder t → IsHandle t node n h → is_received h.kind ≡ false
-    → HasFewerHolders t.pools pools h
+    → HasOneHolderLess t.pools pools h
     → AreInOrder (record (with_dropped t node n) { pools = pools })
 
 -- So does that of a pending response, which closes requests.
@@ -104,7 +104,7 @@ abbrev pub PendingReleasesKeepOrder : Type 0
 PendingReleasesKeepOrder =
     (t : HubTables) (node n : ℕ) (h : HandleState) (pools : List (Option PoolState))
     → AreInOrder t → IsHandle t node n h → h.kind ≡ PendingResponse
-    → HasFewerHolders t.pools pools h
+    → HasOneHolderLess t.pools pools h
     → AreInOrder (record (with_pending_released t node n h) { pools = pools })
 
 -- So does that of a response, which is given back.
@@ -112,7 +112,7 @@ abbrev pub ResponseReleasesKeepOrder : Type 0
 ResponseReleasesKeepOrder =
     (t : HubTables) (node n : ℕ) (h : HandleState) (pools : List (Option PoolState))
     → AreInOrder t → IsHandle t node n h → is_received h.kind ≡ true
-    → HasFewerHolders t.pools pools h
+    → HasOneHolderLess t.pools pools h
     → AreInOrder
     (record (with_dropped (with_given_back t (way_in t.pools h) h) node n) { pools = pools })
 
@@ -122,28 +122,11 @@ RequestReleasesKeepOrder =
     (t : HubTables) (node n : ℕ) (h : HandleState) (own : Way)
     (pools : List (Option PoolState))
     → AreInOrder t → IsHandle t node n h → is_received h.kind ≡ true
-    → HasFewerHolders t.pools pools h
+    → HasOneHolderLess t.pools pools h
     → AreInOrder
     (record (with_dropped (with_request_closed t (way_in t.pools h) own h) node n) {
       pools = pools;
     })
-
--- ---- what senders get back
-
--- how often the message in that slot was given back on these ways
-abbrev pub returned_on : HubTables → List Way → ℕ → ℕ → ℕ
-returned_on t ws pool k =
-    total (by_lane (λ l. if l.pool == pool then how_often k l.returned else 0) 0 (lane_on t.ports)) ws
-
--- A sender that gets back all of different ways keeps the tables in order, where each slot has so
--- many holders less.
-abbrev pub EmptyingKeepsOrder : Type 0
-EmptyingKeepsOrder =
-    (t : HubTables) (ws : List Way) (pools : List (Option PoolState)) → AreInOrder t → AreApart ws
-    → bare_pools t.pools ≡ bare_pools pools
-    → ((pool k : ℕ)
-    → (slot_at pools pool k).holders + returned_on t ws pool k ≡ (slot_at t.pools pool k).holders)
-    → AreInOrder (record (with_lanes emptied_lane t ws) { pools = pools })
 
 -- ---- what no slot and no handle sees
 

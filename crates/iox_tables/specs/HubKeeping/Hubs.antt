@@ -16,7 +16,8 @@ use Rattle.iox_tables.specs.HubMaking.NewPorts.{given_made, making_refused, pool
 use Rattle.iox_tables.specs.HubMaking.Reached.{IsFirst}
 use Rattle.iox_tables.specs.HubMaking.Starts.{no_ports}
 use Rattle.iox_tables.specs.HubKeeping.Connected.{IsFreePlace, KeepsNone}
-use Rattle.iox_tables.specs.HubKeeping.Keeps.{HasFewerHolders, lost_uses}
+use Rattle.iox_tables.specs.HubKeeping.Keeps.{lost_uses}
+use Rattle.iox_tables.specs.HubLending.Emptying.{HasFewerHolders}
 
 -- The tables are those of a hub, where this is given besides.
 pub record IsHubWith (x : Given) (t : HubTables) : Type 0 where

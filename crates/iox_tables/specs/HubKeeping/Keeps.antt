@@ -12,6 +12,7 @@ use Rattle.iox_tables.specs.HubMaking.LaneSums.{sum_that_goes}
 use Rattle.iox_tables.specs.HubMaking.NewPorts.{pool_made, with_port_made}
 use Rattle.iox_tables.specs.HubMaking.Starts.{no_ports}
 use Rattle.iox_tables.specs.HubKeeping.Connected.{IsFreePlace, KeepsNone}
+use Rattle.iox_tables.specs.HubLending.Emptying.{HasFewerHolders}
 
 -- The tables with no port are in order, whatever the settings are.
 abbrev pub StartsAreInOrder : Type 0
@@ -38,12 +39,6 @@ MakingsKeepOrder =
     → AreInOrder (with_port_made t new pools)
 
 -- ---- a port that goes
-
--- Pools differ in holders alone: each slot has so many fewer.
-pub record HasFewerHolders (old new : List (Option PoolState)) (fewer : ℕ → ℕ → ℕ) : Type 0 where
-  pub same : bare_pools old ≡ bare_pools new
-  pub holders :
-      (pool k : ℕ) → (slot_at old pool k).holders ≡ (slot_at new pool k).holders + fewer pool k
 
 -- how often the lanes that go with the port have the message in that slot
 abbrev pub lost_uses : HubTables → ℕ → ℕ → ℕ → ℕ

@@ -36,10 +36,11 @@ at_first = record {
   filled = λ pool k. 0;
 }
 
--- the same once one port is made, and once two are
+-- the same once one port is made
 abbrev pub after_one : Given
 after_one = given_made at_first at_first 0 None
 
+-- and once two are
 abbrev pub after_two : Given
 after_two = given_made after_one after_one 1 None
 

@@ -19,6 +19,8 @@ use Rattle.iox_tables.specs.HubStates.Shown.{MessagesByPlace, by_lane, shown}
 use Rattle.iox_tables.specs.HubStates.States.{Given, message_of, state_shown}
 use Rattle.iox_tables.specs.HubStates.Wirings.{buffer_from, role_in}
 use Rattle.iox_tables.specs.HubStates.Changes.{emptied_lane, pushed_lane, with_lanes, with_states, HasEachOnce, OfEachLane, OnEach}
+-- the places on a lane
+pub use Rattle.iox_lanes.specs.Lanes.{places as places_on}
 
 -- ---- one way
 
@@ -37,10 +39,6 @@ OneStateIsOneWay =
     × (lane_on (with_state_on g ports w) ≡ lane_on ports)
 
 -- ---- messages that are on no lane
-
--- the places on the lane
-abbrev pub places_on : LaneState → List ℕ
-places_on l = l.returned ++ (l.waiting ++ l.taken)
 
 -- in each of its places is the same message
 abbrev pub HasSameMessages : MessagesByPlace → MessagesByPlace → LaneState → Type 0

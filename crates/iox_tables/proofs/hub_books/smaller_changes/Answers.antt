@@ -1,4 +1,4 @@
-use Rattle.iox_tables.proofs.HubBooks.Lessening.{emptying_keeps_order}
+use Rattle.iox_tables.proofs.HubLending.Emptied.{emptying_keeps_order}
 use Rattle.iox_tables.proofs.HubBooks.Little.{little_changes_keep_order}
 use Rattle.iox_tables.proofs.hub_books.smaller_changes.Goals as goal
 
