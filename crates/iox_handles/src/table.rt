@@ -29,9 +29,14 @@ impl Model for Table {
 
     ghost Value = { Contents };
 
-    ghost view = { λ t. record { room = t.room; next = t.next; handles = handles_in t.places.items t.next } };
+    ghost view = { λ t. record {
+      room = t.room;
+      next = t.next;
+      handles = handles_in t.places.items t.next;
+    } };
 
-    ghost invariant = { λ t. IsTable t.places.items t.free.items t.room t.next (vec_capacity t.places) (vec_capacity t.free) };
+    ghost invariant = { λ t. IsTable t.places.items t.free.items t.room t.next
+        (vec_capacity t.places) (vec_capacity t.free) };
 }
 
 impl Table {
@@ -60,7 +65,8 @@ impl Table {
 
     /// Makes room for so many handles more.
     pub fn reserve(&mut self, more: usize) -> Result<(), AllocError>
-        ensures reserved { OnOk result (self.new ≡ record (self.old) { room = self.old.room + more }) }
+        ensures reserved { OnOk result (self.new
+            ≡ record (self.old) { room = self.old.room + more }) }
         ensures unchanged { OnErr result (self.new ≡ self.old) }
     {
         let Some(room) = self.room.checked_add(more) else {
