@@ -5,3 +5,5 @@ pub mod CountLemmas
 -- for crates above
 pub mod PlaceLemmas
 pub mod CallerLemmas
+pub mod BareLemmas
+pub mod FreeSlots

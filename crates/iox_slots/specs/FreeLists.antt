@@ -3,11 +3,7 @@ use Rattle.std.specs.Prelude.{◌≡◌, ◌≤◌, ℕ, ◌+◌, ◌==◌, Bool
 use Rattle.std.specs.Option.{option_map_or}
 use Rattle.iox_tables.specs.HubStates.Tables.{SlotState, PoolState, slots_of}
 use Rattle.iox_slots.specs.Slots.{is_free}
-
--- how often the number is in the list
-abbrev pub how_often : ℕ → List ℕ → ℕ
-how_often p [] = 0
-how_often p (q ∷ qs) = (if q == p then 1 else 0) + how_often p qs
+use Rattle.iox_tables.specs.HubBooks.Counts.{how_often}
 
 -- 1 if nobody has the slot, else 0
 abbrev pub one_if_free : SlotState → ℕ

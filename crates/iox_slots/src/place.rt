@@ -30,7 +30,8 @@ pub fn write_in(
     elements: u64,
 ) -> bool
     ensures there { result ≡ nat_lt slot (length (option_map_or (λ p. p.slots) pool.old [])) }
-    ensures written { pool.new ≡ option_map (λ p. with_slot_of (written serial lane request elements) p slot) pool.old }
+    ensures written { pool.new
+        ≡ option_map (λ p. with_slot_of (written serial lane request elements) p slot) pool.old }
 {
     match pool {
         Some(pool) => pool.write(slot, serial, lane, request, elements),
@@ -67,8 +68,11 @@ pub fn let_go_in(pool: &mut Option<Pool>, slot: u64) -> bool
 /// One has a slot that nobody had, and this is its number.
 #[inline]
 pub fn acquire_in(pool: &mut Option<Pool>) -> Option<u64>
-    ensures free { IfSome result (λ k. option_map_or is_free (slice_get (option_map_or (λ p. p.slots) pool.old []) k) false ≡ true) }
-    ensures acquired { IfSome result (λ k. pool.new ≡ option_map (λ p. with_slot_of held p k) pool.old) }
+    ensures free { IfSome result (λ k.
+        option_map_or is_free (slice_get (option_map_or (λ p. p.slots) pool.old []) k) false
+        ≡ true) }
+    ensures acquired { IfSome result (λ k. pool.new
+        ≡ option_map (λ p. with_slot_of held p k) pool.old) }
     ensures full { result ≡ None ↔ count_by is_free (option_map_or (λ p. p.slots) pool.old []) ≡ 0 }
     ensures unchanged { result ≡ None → pool.new ≡ pool.old }
 {

@@ -31,7 +31,12 @@ impl Model for Pool {
 
     ghost Value = { PoolState };
 
-    ghost view = { λ p. record { port = p.port; node_id = p.node_id; port_id = p.port_id; slots = p.slots.items } };
+    ghost view = { λ p. record {
+      port = p.port;
+      node_id = p.node_id;
+      port_id = p.port_id;
+      slots = p.slots.items;
+    } };
 
     ghost invariant = { λ p. IsFreeList p.slots.items p.free.items (vec_capacity p.free) };
 }
@@ -124,7 +129,8 @@ impl Pool {
     #[inline]
     pub fn write(&mut self, k: u64, serial: u64, lane: u64, request: u64, elements: u64) -> bool
         ensures there { result ≡ nat_lt k (length self.old.slots) }
-        ensures written { self.new ≡ with_slot_of (written serial lane request elements) self.old k }
+        ensures written { self.new
+            ≡ with_slot_of (written serial lane request elements) self.old k }
     {
         let k = k as usize;
         if k < self.slots.len() {
@@ -147,8 +153,8 @@ impl Pool {
         }
     }
 
-    /// One less has a slot, and says whether anybody had it. Where nobody did, and where there is no
-    /// such slot, nothing changes.
+    /// One less has a slot, and says whether anybody had it. Where nobody did, and where there is
+    /// no such slot, nothing changes.
     #[inline]
     pub fn let_go(&mut self, k: u64) -> bool
         ensures had { result ≡ is_taken self.old.slots k }
@@ -175,7 +181,9 @@ impl Pool {
     /// each slot.
     #[inline]
     pub fn acquire(&mut self) -> Option<u64>
-        ensures acquired { IfSome result (λ k. (option_map_or is_free (slice_get self.old.slots k) false ≡ true) × (self.new ≡ with_slot_of held self.old k)) }
+        ensures acquired { IfSome result (λ k.
+            (option_map_or is_free (slice_get self.old.slots k) false ≡ true)
+            × (self.new ≡ with_slot_of held self.old k)) }
         ensures full { result ≡ None ↔ count_by is_free self.old.slots ≡ 0 }
         ensures unchanged { result ≡ None → self.new ≡ self.old }
     {

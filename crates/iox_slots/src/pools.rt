@@ -73,7 +73,8 @@ impl Pools {
         elements: u64,
     ) -> bool
         ensures there { result ≡ has_slot self.old place slot }
-        ensures written { self.new ≡ with_slot (written serial lane request elements) self.old place slot }
+        ensures written { self.new
+            ≡ with_slot (written serial lane request elements) self.old place slot }
     {
         if place < self.pools.len() {
             let pool = &mut self.pools[place];
@@ -95,12 +96,13 @@ impl Pools {
         None
     }
 
-    /// One has a slot that nobody had, and this is its number. It is `None` exactly if there is none,
-    /// and then nothing changes.
+    /// One has a slot that nobody had, and this is its number. It is `None` exactly if there is
+    /// none, and then nothing changes.
     #[inline]
     pub fn acquire(&mut self, place: usize) -> Option<u64>
         ensures acquired { IfSome result (λ k. Acquires self.old place k self.new) }
-        ensures counted { IfSome result (λ k. free_count self.new place + 1 ≡ free_count self.old place) }
+        ensures counted { IfSome result (λ k. free_count self.new place + 1
+            ≡ free_count self.old place) }
         ensures full { result ≡ None ↔ free_count self.old place ≡ 0 }
         ensures unchanged { result ≡ None → self.new ≡ self.old }
     {
@@ -127,7 +129,8 @@ impl Pools {
         requires taken { 0 < (slot_at self.old place slot).holders }
         requires fits { (slot_at self.old place slot).holders < 2 ^ 64 - 1 }
         ensures held { self.new ≡ with_slot held self.old place slot }
-        ensures more { (slot_at self.new place slot).holders ≡ (slot_at self.old place slot).holders + 1 }
+        ensures more { (slot_at self.new place slot).holders
+            ≡ (slot_at self.old place slot).holders + 1 }
         ensures counted { free_count self.new place ≡ free_count self.old place }
     {
         self.hold_at(place, slot);
@@ -145,14 +148,16 @@ impl Pools {
         false
     }
 
-    /// One less has a slot, and says whether anybody had it: where nobody did, and where there is no
-    /// such slot, nothing changes. A slot that nobody has can be acquired again.
+    /// One less has a slot, and says whether anybody had it: where nobody did, and where there is
+    /// no such slot, nothing changes. A slot that nobody has can be acquired again.
     #[inline]
     pub fn let_go(&mut self, place: usize, slot: u64) -> bool
         ensures had { result ≡ is_taken_at self.old place slot }
         ensures left { self.new ≡ with_slot let_go self.old place slot }
-        ensures less { (slot_at self.new place slot).holders ≡ (slot_at self.old place slot).holders - 1 }
-        ensures counted { free_count self.new place ≡ free_count self.old place + freed_by_one self.old place slot }
+        ensures less { (slot_at self.new place slot).holders
+            ≡ (slot_at self.old place slot).holders - 1 }
+        ensures counted { free_count self.new place
+            ≡ free_count self.old place + freed_by_one self.old place slot }
         ensures unchanged { OnFalse result (self.new ≡ self.old) }
     {
         self.let_go_at(place, slot)
@@ -222,8 +227,8 @@ impl Pools {
         self.pools.iter().position(|pool| pool.is_none())
     }
 
-    /// Makes a pool of so many slots that nobody has, and tells its place: the first that is vacant,
-    /// or else a new one. It fails only for want of memory.
+    /// Makes a pool of so many slots that nobody has, and tells its place: the first that is
+    /// vacant, or else a new one. It fails only for want of memory.
     pub fn add(
         &mut self,
         alloc: Global,
@@ -233,7 +238,8 @@ impl Pools {
         size: usize,
     ) -> Result<usize, AllocError>
         ensures place { IfOk result (λ place. place ≡ place_for_one self.old) }
-        ensures added { OnOk result (self.new ≡ with_one_more self.old (new_pool port node_id port_id size)) }
+        ensures added { OnOk result (self.new
+            ≡ with_one_more self.old (new_pool port node_id port_id size)) }
         ensures unchanged { OnErr result (self.new ≡ self.old) }
     {
         let pool = Pool::new(alloc, port, node_id, port_id, size)?;

@@ -20,9 +20,21 @@ impl Model for Slot {
 
     ghost Value = { SlotState };
 
-    ghost view = { λ s. record { serial = s.serial; lane = s.lane; request = s.request; elements = s.elements; holders = s.holders } };
+    ghost view = { λ s. record {
+      serial = s.serial;
+      lane = s.lane;
+      request = s.request;
+      elements = s.elements;
+      holders = s.holders;
+    } };
 
-    ghost inverse = { λ v. record { serial = v.serial; lane = v.lane; request = v.request; elements = v.elements; holders = v.holders } };
+    ghost inverse = { λ v. record {
+      serial = v.serial;
+      lane = v.lane;
+      request = v.request;
+      elements = v.elements;
+      holders = v.holders;
+    } };
 }
 
 impl Slot {
