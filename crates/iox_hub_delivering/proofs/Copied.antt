@@ -15,7 +15,7 @@ use Rattle.iox_tables.specs.HubStates.Sendings.{pending_of}
 use Rattle.iox_tables.specs.HubStates.Wirings.{IsHandle}
 use Rattle.iox_tables.specs.HubBooks.Handles.{IsOfPort}
 use Rattle.iox_tables.specs.HubBooks.Hubs.{AreInOrder, HaveNumbers}
-use Rattle.iox_tables.specs.HubBooks.Keeps.{AreTargetsOf, HasFewerHolders, bare_pools, delivers}
+use Rattle.iox_tables.specs.HubBooks.Keeps.{AreTargetsOf, HasOneHolderLess, bare_pools, delivers}
 use Rattle.iox_tables.proofs.HubBooks.Frames.{AreAlike, lanes_on_bare}
 use Rattle.iox_tables.proofs.HubBooks.Going.{of_port_stays}
 use Rattle.iox_tables.proofs.HubBooks.Held.{each_handle_from}
@@ -30,9 +30,9 @@ use Rattle.iox_tables.proofs.HubLending.NewSlot as new_slot
 use Rattle.iox_tables.proofs.HubLending.OneMore.{lanes_same, numbers_same, one_loan, role_same}
 use Rattle.iox_hub_delivering.specs.Copies.{FailedCopiesKeepOrder, RequestCopiesKeepOrder, ResponseCopiesKeepOrder}
 use Rattle.iox_hub_delivering.specs.Deliveries.{HasDelivered, HasHandedOver}
-use Rattle.iox_hub_delivering.proofs.Counted.{gives_bare}
 use Rattle.iox_hub_delivering.proofs.Delivered.{delivered_requests_keep_order, delivered_responses_keep_order}
 use Rattle.iox_hub_delivering.proofs.Loaned.{last_changed, last_dropped, last_found, loan_after, next_is_new, no_port}
+use Rattle.iox_tables.proofs.HubBooks.OneGiven.{gives_bare}
 
 -- tables whose next number is another one are in order where numbers are
 renumbered : (t : HubTables) (m : ℕ) → AreInOrder t → HaveNumbers (record t { next_number = m }) → AreInOrder (record t { next_number = m })
@@ -169,7 +169,7 @@ module _ (t : HubTables) (order : AreInOrder t) (y : Lender) (k slot : ℕ) (len
   module _ (ports : List PortState) (alike : AreAlike t.ports ports) (between : List (Option PoolState)) (bared : bare_pools u.pools ≡ bare_pools between)
       (ready : AreInOrder (w ports alike between bared)) (pools : List (Option PoolState))
     where
-      pub copy_failed : HasFewerHolders between pools h
+      pub copy_failed : HasOneHolderLess between pools h
           → AreInOrder (record v { ports = with_port one_loan ports y.port.number; handles = t.handles; next_number = t.next_number; pools = pools })
       copy_failed fewer =
           lower ports alike pools (bared ∙ fewer.same)

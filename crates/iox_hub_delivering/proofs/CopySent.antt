@@ -21,7 +21,7 @@ use Rattle.iox_tables.specs.HubStates.Shown.{by_lane}
 use Rattle.iox_tables.proofs.HubStates.Keys.{all_lanes_stay}
 use Rattle.iox_tables.specs.HubBooks.Counts.{total}
 use Rattle.iox_tables.specs.HubBooks.Hubs.{AreInOrder}
-use Rattle.iox_tables.specs.HubBooks.Keeps.{AreTargetsOf, HasFewerHolders, delivers}
+use Rattle.iox_tables.specs.HubBooks.Keeps.{AreTargetsOf, HasOneHolderLess, delivers}
 use Rattle.iox_tables.proofs.HubBooks.Frames.{AreAlike, lanes_on_bare, states_on_bare}
 use Rattle.iox_tables.proofs.HubBooks.Little.{little_changes_keep_order}
 use Rattle.iox_tables.proofs.HubBooks.Targets.{each_has_its_targets}
@@ -40,6 +40,7 @@ use Rattle.iox_hub_delivering.proofs.Before.{request_targets, response_targets}
 use Rattle.iox_hub_delivering.proofs.Copied.{copy_failed, h, is_request, is_response, named, request_copied, response_copied, same_lanes, u, v, v_order, w}
 use Rattle.iox_hub_delivering.proofs.Loaned.{loan_after, loan_after_states}
 use Rattle.iox_hub_delivering.proofs.Sent.{fails_at, goes_out, in_order_with}
+use Rattle.iox_model.specs.declared.kind.Role.{Role}
 
 module _ (t : HubTables) (order : AreInOrder t) (y : Lender) (k slot : ℕ) (lends : MayLend t y slot) where
   abbrev loan : HandleState
@@ -69,6 +70,10 @@ module _ (t : HubTables) (order : AreInOrder t) (y : Lender) (k slot : ℕ) (len
 
     to_client : y.port.role ≡ Server → AreTargetsOf out loan (targets (copy_sending Server x before loan))
     to_client role = response_targets x out out_order y.port.node t.next_number loan (named t order y k slot lends t.ports refl before.pools refl) (is_response y.port.role role)
+
+    to_receivers : (role : Role) → y.port.role ≡ role → AreTargetsOf out loan (targets (copy_sending role x before loan))
+    to_receivers Client = to_servers
+    to_receivers Server = to_client
 
   module _ (z : Sending) (its : AreTargetsOf out loan (targets z)) (between : List (Option PoolState)) (got : AreGotBackFor before z between) where
     -- ---- the tables before deliveries
@@ -128,7 +133,7 @@ module _ (t : HubTables) (order : AreInOrder t) (y : Lender) (k slot : ℕ) (len
     free_ways =
         (each_has_its_targets out y.port.node t.next_number loan out_order (named t order y k slot lends t.ports refl before.pools refl)).left (full_targets before z) (targets z) its
 
-    failed : (x : Given) (pools : List (Option PoolState)) → list_any z.fails (full_targets before z) ≡ true → HasFewerHolders between pools loan
+    failed : (x : Given) (pools : List (Option PoolState)) → list_any z.fails (full_targets before z) ≡ true → HasOneHolderLess between pools loan
         → IsInOrderWith x (with_loan_call (with_sent before z slot) loan) pools
     failed x pools fails fewer =
         subst (λ s. IsInOrderWith x (with_loan_call s loan) pools) (sym (fails_at before z slot fails))
@@ -137,60 +142,41 @@ module _ (t : HubTables) (order : AreInOrder t) (y : Lender) (k slot : ℕ) (len
 
 -- ---- the laws
 
+abbrev copy : HubTables → Lender → ℕ → HandleState
+copy t y slot = loaned_handle t y false slot
+
+-- the send of the copy by a port of that role
+abbrev sends : Role → Given → HubTables → Lender → ℕ → ℕ → Sending
+sends role x t y k slot = copy_sending role x (with_loaned_slot t y k slot) (copy t y slot)
+
 pub request_copies_send_in_order : RequestCopiesSendInOrder
 request_copies_send_in_order x t y k slot count between pools may passes got given =
-    subst (λ s. IsInOrderWith x (with_call (with_loan_call (with_copied Client s h' count) h')) pools) (sym (goes_out u' z slot passes))
-    (request_sent t may.order y k slot may.lends z (to_servers t may.order y k slot may.lends x may.by_role) between got x false (free_targets u' z)
-    (free_ways t may.order y k slot may.lends z (to_servers t may.order y k slot may.lends x may.by_role) between got) pools count may.by_role given)
-  where
-    u' : HubTables
-    u' = with_loaned_slot t y k slot
-
-    h' : HandleState
-    h' = loaned_handle t y false slot
-
-    z : Sending
-    z = copy_sending Client x u' h'
+    let z : Sending = sends Client x t y k slot in
+    let its = to_servers t may.order y k slot may.lends x may.by_role in
+    subst (λ s. IsInOrderWith x (with_call (with_loan_call (with_copied Client s (copy t y slot) count) (copy t y slot))) pools) (sym (goes_out (with_loaned_slot t y k slot) z slot passes))
+    (request_sent t may.order y k slot may.lends z its between got x false (free_targets (with_loaned_slot t y k slot) z)
+    (free_ways t may.order y k slot may.lends z its between got) pools count may.by_role given)
 
 pub request_copies_push_in_order : RequestCopiesPushInOrder
 request_copies_push_in_order x t y k slot count between pools may got given =
+    let z : Sending = sends Client x t y k slot in
+    let its = to_servers t may.order y k slot may.lends x may.by_role in
     request_sent t may.order y k slot may.lends z its between got x true (targets z) its pools count may.by_role given
-  where
-    z : Sending
-    z = copy_sending Client x (with_loaned_slot t y k slot) (loaned_handle t y false slot)
-
-    its : AreTargetsOf (v t may.order y k slot may.lends) (loaned_handle t y false slot) (targets z)
-    its = to_servers t may.order y k slot may.lends x may.by_role
 
 pub response_copies_send_in_order : ResponseCopiesSendInOrder
 response_copies_send_in_order x t y k slot count between pools may passes got given =
-    subst (λ s. IsInOrderWith x (with_call (with_loan_call (with_copied Server s h' count) h')) pools) (sym (goes_out u' z slot passes))
-    (response_sent t may.order y k slot may.lends z (to_client t may.order y k slot may.lends x may.by_role) between got x false (free_targets u' z)
-    (free_ways t may.order y k slot may.lends z (to_client t may.order y k slot may.lends x may.by_role) between got) pools count may.by_role given)
-  where
-    u' : HubTables
-    u' = with_loaned_slot t y k slot
-
-    h' : HandleState
-    h' = loaned_handle t y false slot
-
-    z : Sending
-    z = copy_sending Server x u' h'
+    let z : Sending = sends Server x t y k slot in
+    let its = to_client t may.order y k slot may.lends x may.by_role in
+    subst (λ s. IsInOrderWith x (with_call (with_loan_call (with_copied Server s (copy t y slot) count) (copy t y slot))) pools) (sym (goes_out (with_loaned_slot t y k slot) z slot passes))
+    (response_sent t may.order y k slot may.lends z its between got x false (free_targets (with_loaned_slot t y k slot) z)
+    (free_ways t may.order y k slot may.lends z its between got) pools count may.by_role given)
 
 pub response_copies_push_in_order : ResponseCopiesPushInOrder
 response_copies_push_in_order x t y k slot count between pools may got given =
+    let z : Sending = sends Server x t y k slot in
+    let its = to_client t may.order y k slot may.lends x may.by_role in
     response_sent t may.order y k slot may.lends z its between got x true (targets z) its pools count may.by_role given
-  where
-    z : Sending
-    z = copy_sending Server x (with_loaned_slot t y k slot) (loaned_handle t y false slot)
-
-    its : AreTargetsOf (v t may.order y k slot may.lends) (loaned_handle t y false slot) (targets z)
-    its = to_client t may.order y k slot may.lends x may.by_role
 
 pub failed_copy_sends_in_order : FailedCopySendsInOrder
-failed_copy_sends_in_order Client x t y k slot between pools may fails got fewer =
-    failed t may.order y k slot may.lends (copy_sending Client x (with_loaned_slot t y k slot) (loaned_handle t y false slot))
-    (to_servers t may.order y k slot may.lends x may.by_role) between got x pools fails fewer
-failed_copy_sends_in_order Server x t y k slot between pools may fails got fewer =
-    failed t may.order y k slot may.lends (copy_sending Server x (with_loaned_slot t y k slot) (loaned_handle t y false slot))
-    (to_client t may.order y k slot may.lends x may.by_role) between got x pools fails fewer
+failed_copy_sends_in_order role x t y k slot between pools may fails got fewer =
+    failed t may.order y k slot may.lends (sends role x t y k slot) (to_receivers t may.order y k slot may.lends x role may.by_role) between got x pools fails fewer

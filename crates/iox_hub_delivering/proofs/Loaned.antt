@@ -14,18 +14,15 @@ use Rattle.iox_tables.proofs.HubStates.Emptied.{has-append}
 use Rattle.iox_tables.proofs.HubStates.Keys.{lane_sender, same_number, state_sender}
 use Rattle.iox_tables.specs.HubBooks.Hubs.{AreInOrder, numbers_in}
 use Rattle.iox_tables.proofs.HubLending.OneMore.{one_loan}
+use Rattle.std.proofs.lemmas.Bool.{or_parts}
 
 -- ---- numbers
-
-neither : (a b : Bool) → (a || b) ≡ false → (a ≡ false) × (b ≡ false)
-neither true b e = absurd (true≢false e)
-neither false b e = (refl, e)
 
 -- the next number is of no port and of no handle
 pub next_is_new : (t : HubTables) → AreInOrder t
     → (has_number t.next_number (numbers_of t.ports) ≡ false) × (has_number t.next_number (map (λ h. h.number) t.handles) ≡ false)
 next_is_new t order =
-    neither _ _
+    or_parts _ _
     (sym (has-append t.next_number (numbers_of t.ports) (map (λ h. h.number) t.handles)) ∙ step (has_number t.next_number (numbers_in t)) refl)
   where
     step : (b : Bool) → has_number t.next_number (numbers_in t) ≡ b → has_number t.next_number (numbers_in t) ≡ false

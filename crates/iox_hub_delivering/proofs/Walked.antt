@@ -29,10 +29,11 @@ use Rattle.iox_tables.proofs.HubBooks.Used.{handle_below, handle_is, lane_below,
 use Rattle.iox_hub_delivering.specs.Deliveries.{HasDelivered, in_count, out_count, pushed_on, pushed_out_by}
 use Rattle.iox_hub_delivering.specs.Steps.{DeliversOneMore, EachStepDelivers, HandsOver, OneWayHandsOver, SentStaysHeld, with_out}
 use Rattle.iox_hub_delivering.proofs.Both.{one_lane_may_take_over}
-use Rattle.iox_hub_delivering.proofs.Counted.{total_ones}
 use Rattle.iox_hub_delivering.proofs.Pushed.{lane_gives, lanes_give}
-use Rattle.iox_hub_delivering.proofs.Slots.{held_bare, held_one, out_bare, out_one}
+use Rattle.iox_hub_delivering.proofs.Slots.{held_one, out_bare, out_one}
 use Rattle.iox_hub_delivering.proofs.Stepped.{has_last}
+use Rattle.iox_slots.proofs.BareLemmas.{held_bare}
+use Rattle.iox_tables.proofs.HubBooks.Left.{total_ones}
 
 own_loan : (kind : Kind) → is_loan kind ≡ true → is_own kind ≡ true
 own_loan kinds.RequestMutUninit e = refl

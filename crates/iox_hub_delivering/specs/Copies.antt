@@ -7,7 +7,7 @@ use Rattle.iox_tables.specs.HubStates.Ways.{lane_on}
 use Rattle.iox_tables.specs.HubStates.Changes.{with_lanes}
 use Rattle.iox_tables.specs.HubStates.Ends.{with_loan}
 use Rattle.iox_tables.specs.HubBooks.Hubs.{AreInOrder}
-use Rattle.iox_tables.specs.HubBooks.Keeps.{AreTargetsOf, HasFewerHolders, delivers}
+use Rattle.iox_tables.specs.HubBooks.Keeps.{AreTargetsOf, HasOneHolderLess, delivers}
 use Rattle.iox_tables.specs.HubLoans.CopySends.{with_copied, with_loan_call}
 use Rattle.iox_tables.specs.HubLoans.Lenders.{Lender}
 use Rattle.iox_tables.specs.HubLoans.Loans.{loaned_handle, with_loaned_slot}
@@ -54,7 +54,7 @@ FailedCopiesKeepOrder =
     → MayLend t y slot
     → (let u : HubTables = with_loaned_slot t y k slot in
     let h : HandleState = loaned_handle t y false slot in
-    HasFewerHolders u.pools pools h → AreInOrder (record (with_loan_call u h) { pools = pools }))
+    HasOneHolderLess u.pools pools h → AreInOrder (record (with_loan_call u h) { pools = pools }))
 
 -- A loan that is counted, and takes no slot, keeps the tables in order: so does a copy that is
 -- refused before it takes one.

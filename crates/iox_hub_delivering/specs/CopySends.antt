@@ -12,7 +12,7 @@ use Rattle.iox_tables.specs.HubStates.States.{Given}
 use Rattle.iox_tables.specs.HubStates.Ends.{with_call}
 use Rattle.iox_tables.specs.HubStates.Sends.{free_targets, full_targets, with_emptied, with_pushed, with_sent}
 use Rattle.iox_tables.specs.HubBooks.Hubs.{AreInOrder}
-use Rattle.iox_tables.specs.HubBooks.Keeps.{HasFewerHolders}
+use Rattle.iox_tables.specs.HubBooks.Keeps.{HasOneHolderLess}
 use Rattle.iox_tables.specs.HubLoans.CopySends.{copy_sending, with_copied, with_loan_call}
 use Rattle.iox_tables.specs.HubLoans.Lenders.{Lender}
 use Rattle.iox_tables.specs.HubLoans.Loans.{loaned_handle, with_loaned_slot}
@@ -87,5 +87,5 @@ FailedCopySendsInOrder =
     let h : HandleState = loaned_handle t y false slot in
     let z : Sending = copy_sending role x u h in
     list_any z.fails (full_targets u z) ≡ true → AreGotBackFor u z between
-    → HasFewerHolders between pools h
+    → HasOneHolderLess between pools h
     → IsInOrderWith x (with_loan_call (with_sent u z slot) h) pools)

@@ -8,7 +8,7 @@ use Rattle.iox_tables.specs.HubStates.Ways.{OnWays}
 use Rattle.iox_tables.specs.HubStates.Changes.{OnEach}
 use Rattle.iox_tables.specs.HubStates.Shown.{by_lane}
 use Rattle.iox_tables.specs.HubBooks.Counts.{is_at, total}
-use Rattle.iox_tables.specs.HubBooks.Keeps.{HasFewerHolders, bare_pools}
+use Rattle.iox_tables.specs.HubBooks.Keeps.{HasOneHolderLess, bare_pools}
 
 -- ---- one lane
 
@@ -80,10 +80,10 @@ pub record HandOversAreBoth (overflow : Bool) (lanes : OnWays LaneState) (ws : L
     (h : HandleState) (old between new : List (Option PoolState)) : Type 0
   where
     pub delivered_first :
-        HasDelivered overflow h.slot lanes ws old between → HasFewerHolders between new h
+        HasDelivered overflow h.slot lanes ws old between → HasOneHolderLess between new h
         → HasHandedOver overflow lanes ws h old new
     pub gone_first :
-        HasFewerHolders old between h → HasDelivered overflow h.slot lanes ws between new
+        HasOneHolderLess old between h → HasDelivered overflow h.slot lanes ws between new
         → HasHandedOver overflow lanes ws h old new
 
 -- It is so of all pools.

@@ -15,7 +15,7 @@ use Rattle.iox_tables.specs.HubStates.Sendings.{pending_of, request_sending, res
 use Rattle.iox_tables.specs.HubStates.Sends.{free_targets, full_targets, with_emptied, with_pushed, with_sent}
 use Rattle.iox_tables.specs.HubStates.Wirings.{IsHandle}
 use Rattle.iox_tables.specs.HubBooks.Hubs.{AreInOrder}
-use Rattle.iox_tables.specs.HubBooks.Keeps.{AreTargetsOf, HasFewerHolders, delivers}
+use Rattle.iox_tables.specs.HubBooks.Keeps.{AreTargetsOf, HasOneHolderLess, delivers}
 use Rattle.iox_tables.specs.HubLending.Emptying as back
 use Rattle.iox_tables.specs.HubMaking.WholeReleases.{request_left}
 use Rattle.iox_hub_delivering.specs.Deliveries.{HasDelivered, HasHandedOver}
@@ -110,7 +110,7 @@ FailedSendsKeepOrder =
     (between pools : List (Option PoolState)) → AreInOrder t → IsHandle t node n h
     → is_received h.kind ≡ false → AreApart (targets y)
     → list_any y.fails (full_targets t y) ≡ true → AreGotBackFor t y between
-    → HasFewerHolders between pools h
+    → HasOneHolderLess between pools h
     → IsInOrderWith x (with_dropped (with_sent t y h.slot) node n) pools
 
 -- One that is refused before, or that nobody awaits, just ends its loan.
@@ -118,5 +118,5 @@ abbrev pub RefusedSendsKeepOrder : Type 0
 RefusedSendsKeepOrder =
     (x : Given) (t : HubTables) (node n : ℕ) (h : HandleState)
     (pools : List (Option PoolState)) → AreInOrder t → IsHandle t node n h
-    → is_received h.kind ≡ false → HasFewerHolders t.pools pools h
+    → is_received h.kind ≡ false → HasOneHolderLess t.pools pools h
     → IsInOrderWith x (with_dropped t node n) pools

@@ -10,7 +10,7 @@ use Rattle.iox_slots.specs.Pools.{with_slot}
 use Rattle.iox_slots.specs.Slots.{held, let_go}
 use Rattle.iox_tables.specs.HubBooks.Handles.{is_loan}
 use Rattle.iox_tables.specs.HubBooks.Hubs.{AreInOrder}
-use Rattle.iox_tables.specs.HubBooks.Keeps.{AreTargetsOf, HasFewerHolders}
+use Rattle.iox_tables.specs.HubBooks.Keeps.{AreTargetsOf, HasOneHolderLess}
 use Rattle.iox_tables.specs.HubBooks.Rooms.{most_holders}
 use Rattle.iox_hub_delivering.specs.Deliveries.{HasDelivered, HasHandedOver, pushed_out_by}
 
@@ -80,7 +80,7 @@ abbrev pub LettingGoEndsHandles : Type 0
 LettingGoEndsHandles =
     (h : HandleState) (pools : List (Option PoolState))
     → 0 < (slot_at pools h.pool h.slot).holders
-    → HasFewerHolders pools (with_slot let_go pools h.pool h.slot) h
+    → HasOneHolderLess pools (with_slot let_go pools h.pool h.slot) h
 
 -- The first ways of a loan are its ways too.
 abbrev pub FirstWaysAreTargets : Type 0

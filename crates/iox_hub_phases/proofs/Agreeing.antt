@@ -13,8 +13,9 @@ use Rattle.iox_tables.specs.HubStates.Tables.{PortState, first_by, pipe_from, pi
 use Rattle.iox_tables.specs.HubStates.Ways.{lane_on, with_lane_on, with_lanes_on, with_pipe_from, with_pipe_of, with_pipes, with_port}
 use Rattle.iox_tables.proofs.HubStates.Keys.{at_is, first_append, has_some, lane_sender, lane_turned, same_mapped, same_number}
 use Rattle.iox_tables.proofs.HubStates.Pipes.{set_same}
-use Rattle.iox_hub_ports.proofs.Pushes.{pushed_where_room}
+use Rattle.iox_hub_ports.proofs.Pushes.{lane_twice, pushed_where_room}
 use Rattle.iox_hub_phases.specs.Phases.{ChangesAgree, DoSame, EmptyingIsOneByOne, OfEachWay, PushesAreTheMachines, TwoChangesAreOne}
+use Rattle.std.proofs.lemmas.Bool.{or_parts}
 
 -- ---- the first of a number
 
@@ -97,30 +98,6 @@ lane_agree f g q lane same = step (slice_get q.lanes lane) same
     step (Some l) is = ap (λ (m : LaneState). record q { lanes = slice_set q.lanes lane m }) (is l refl)
     step None is = refl
 
--- ---- two changes of one lane
-
-get_set : {A : Type 0} (xs : List A) (i : ℕ) (x y : A) → slice_get xs i ≡ Some x → slice_get (slice_set xs i y) i ≡ Some y
-get_set [] i x y e = absurd (none-some x e)
-get_set (z ∷ zs) zero x y e = refl
-get_set (z ∷ zs) (suc i) x y e = get_set zs i x y e
-
-set_set : {A : Type 0} (xs : List A) (i : ℕ) (x y : A) → slice_set (slice_set xs i x) i y ≡ slice_set xs i y
-set_set [] i x y = refl
-set_set (z ∷ zs) zero x y = refl
-set_set (z ∷ zs) (suc i) x y = ap (λ ws. z ∷ ws) (set_set zs i x y)
-
-lane_twice : (f g : LaneState → LaneState) (p : PipeState) (lane : ℕ) → with_lane g (with_lane f p lane) lane ≡ with_lane (λ l. g (f l)) p lane
-lane_twice f g p lane = step (slice_get p.lanes lane) refl
-  where
-    step : (o : Option LaneState) → slice_get p.lanes lane ≡ o
-        → with_lane g (option_map_or (λ l. record p { lanes = slice_set p.lanes lane (f l) }) o p) lane
-        ≡ option_map_or (λ l. record p { lanes = slice_set p.lanes lane (g (f l)) }) o p
-    step (Some l) e =
-        ap (λ (o : Option LaneState). option_map_or (λ m. record p { lanes = slice_set (slice_set p.lanes lane (f l)) lane (g m) }) o (record p { lanes = slice_set p.lanes lane (f l) }))
-        (get_set p.lanes lane l (f l) e)
-        ∙ ap (λ (ls : List LaneState). record p { lanes = ls }) (set_set p.lanes lane (f l) (g (f l)))
-    step None e = ap (λ (o : Option LaneState). option_map_or (λ l. record p { lanes = slice_set p.lanes lane (g l) }) o p) e
-
 -- ---- one way
 
 pub way_agree : (f g : LaneState → LaneState) (ports : List PortState) (w : Way) → DoSame f g ports w → with_lane_on f ports w ≡ with_lane_on g ports w
@@ -170,16 +147,12 @@ same_stays f ports w same =
 
 -- ---- several ways
 
-neither : (a b : Bool) → (a || b) ≡ false → (a ≡ false) × (b ≡ false)
-neither true b e = absurd (true≢false e)
-neither false b e = (refl, e)
-
 -- on the other ways all stays
 others_stay : (f g h : LaneState → LaneState) (ports : List PortState) (w : Way) (ws : List Way) → has_way w ws ≡ false
     → OfEachWay (DoSame f g ports) ws → OfEachWay (DoSame f g (with_lane_on h ports w)) ws
 others_stay f g h ports w [] off same = tt
 others_stay f g h ports w (v ∷ ws) off same =
-    let parts = neither (same_way w v) (has_way w ws) off in (
+    let parts = or_parts (same_way w v) (has_way w ws) off in (
       λ l e. same.0 l (sym (ap (λ on. on v) (lane_turned h ports w) ∙ at_is h (lane_on ports) w v
           ∙ ap (λ (b : Bool). if b then option_map h (lane_on ports v) else lane_on ports v) (turned parts.0)) ∙ e),
       others_stay f g h ports w ws parts.1 same.1,

@@ -12,9 +12,10 @@ use Rattle.iox_tables.specs.HubStates.Ways.{OnWays, lane_on, with_lane_on, with_
 use Rattle.iox_tables.proofs.HubStates.Keys.{at_is, lane_turned}
 use Rattle.iox_hub_phases.proofs.Agreeing.{same_stays, way_agree}
 use Rattle.iox_hub_phases.specs.Phases.{DeliveriesAreToFree, HasRoomUnlessFull, OfEachWay}
+use Rattle.std.proofs.lemmas.Bool.{or_parts}
 
 -- the way is full, or has no lane
-abbrev full : OnWays LaneState → Way → Bool
+abbrev pub full : OnWays LaneState → Way → Bool
 full lanes w = option_map_or is_full (lanes w) true
 
 -- ---- the full ones of some ways
@@ -56,7 +57,8 @@ same_filter p q (w ∷ ws) same =
     behind v true e = refl
     behind v false e = e
 
-free_is : (lanes : OnWays LaneState) (ws : List Way) → not_in (full_in lanes ws []) ws ≡ filter (λ w. not (full lanes w)) ws
+-- those that are not among the full are those that pass the test
+pub free_is : (lanes : OnWays LaneState) (ws : List Way) → not_in (full_in lanes ws []) ws ≡ filter (λ w. not (full lanes w)) ws
 free_is lanes ws =
     same_filter (λ w. not (has_way w (full_in lanes ws []))) (λ w. not (full lanes w)) ws
     (λ w e. ap not (among_full lanes w ws [] ∙ ap (λ b. full lanes w && b) e ∙ both (full lanes w)))
@@ -66,10 +68,6 @@ free_is lanes ws =
     both false = refl
 
 -- ---- deliveries
-
-neither : (a b : Bool) → (a || b) ≡ false → (a ≡ false) × (b ≡ false)
-neither true b e = absurd (true≢false e)
-neither false b e = (refl, e)
 
 -- on the other ways the lanes stay
 lane_stays : (h : LaneState → LaneState) (ports : List PortState) (w v : Way) → same_way w v ≡ false → lane_on (with_lane_on h ports w) v ≡ lane_on ports v
@@ -81,14 +79,14 @@ rooms_stay : (h : LaneState → LaneState) (ports : List PortState) (w : Way) (w
     → OfEachWay (HasRoomUnlessFull ports) ws → OfEachWay (HasRoomUnlessFull (with_lane_on h ports w)) ws
 rooms_stay h ports w [] off rooms = tt
 rooms_stay h ports w (v ∷ ws) off rooms =
-    let parts = neither (same_way w v) (has_way w ws) off in
+    let parts = or_parts (same_way w v) (has_way w ws) off in
     (λ l e. rooms.0 l (sym (lane_stays h ports w v parts.0) ∙ e), rooms_stay h ports w ws parts.1 rooms.1)
 
 filter_stays : (h : LaneState → LaneState) (ports : List PortState) (w : Way) (ws : List Way) → has_way w ws ≡ false
     → filter (λ v. not (full (lane_on (with_lane_on h ports w)) v)) ws ≡ filter (λ v. not (full (lane_on ports) v)) ws
 filter_stays h ports w [] off = refl
 filter_stays h ports w (v ∷ ws) off =
-    let parts = neither (same_way w v) (has_way w ws) off in
+    let parts = or_parts (same_way w v) (has_way w ws) off in
     ap (λ o. if not (option_map_or is_full o true) then v ∷ filter (λ u. not (full (lane_on (with_lane_on h ports w)) u)) ws else filter (λ u. not (full (lane_on (with_lane_on h ports w)) u)) ws)
     (lane_stays h ports w v parts.0)
     ∙ ap (λ us. if not (full (lane_on ports) v) then v ∷ us else us) (filter_stays h ports w ws parts.1)

@@ -1,5 +1,5 @@
-//! What the steps of a sender on its lanes come to, one after another. The functions have nothing to
-//! do: each is there for its contract.
+//! What the steps of a sender on its lanes come to, one after another. The functions have nothing
+//! to do: each is there for its contract.
 #![tactic(auto)]
 
 ghost use Rattle.iox_hub_phases.specs.Phases.{ChangesAgree, TwoChangesAreOne};

@@ -15,7 +15,8 @@ use Rattle.iox_tables.specs.HubStates.Tables.{PortState, first_by, pipe_from, pi
 use Rattle.iox_tables.specs.HubStates.Ways.{with_pipe_of, with_pipe_from, with_pipes}
 use Rattle.iox_tables.proofs.HubStates.Keys.{first_append, has_some}
 use Rattle.iox_tables.proofs.HubStates.Placing.{ranks_are_of_senders}
-use Rattle.iox_hub_ports.specs.Ports.{on_lane_from, state_from, without_first_by, without_pipe_from}
+use Rattle.iox_hub_ports.specs.Ports.{on_lane_from, state_from, without_pipe_from}
+use Rattle.iox_tables.specs.HubMaking.OneByOne.{without_first_by}
 
 -- ---- the first of a number
 

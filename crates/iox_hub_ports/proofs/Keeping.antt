@@ -3,7 +3,7 @@ use Rattle.std.specs.Prelude.{◌≡◌, ℕ, zero, suc, ◌+◌, ◌-◌, ◌<�
 use Rattle.std.specs.List.{remove}
 use Rattle.std.specs.Option.{option_map_or}
 use Rattle.std.proofs.Common.{sym, ap, subst, ◌∙◌, arith, get_or, true≢false}
-use Rattle.std.proofs.lemmas.Bool.{false≢true}
+use Rattle.std.proofs.lemmas.Bool.{false≢true, or_parts}
 use Rattle.iox_model.specs.declared.way.Way.{Way}
 use Rattle.iox_model.specs.declared.way.RequestState.{RequestState}
 use Rattle.iox_model.specs.Maps.{AreDistinct, has_number}
@@ -67,20 +67,16 @@ IsPorts-set xs n room cap p q i e same = IsPorts-kept xs (slice_set xs n q) room
 
 -- ---- a port comes
 
-neither : (a b : Bool) → (a || b) ≡ false → (a ≡ false) × (b ≡ false)
-neither true b e = absurd (true≢false e)
-neither false b e = (refl, e)
-
 behind : (ns : List ℕ) (m n : ℕ) → has_number m ns ≡ false → (n == m) ≡ false → has_number m (ns ++ n ∷ []) ≡ false
 behind [] m n e h = ap (λ b. b || false) h
 behind (k ∷ ks) m n e h =
-    let parts = neither (k == m) (has_number m ks) e in
+    let parts = or_parts (k == m) (has_number m ks) e in
     ap (λ b. b || has_number m (ks ++ n ∷ [])) parts.0 ∙ behind ks m n parts.1 h
 
 distinct_behind : (ns : List ℕ) (n : ℕ) → AreDistinct ns → has_number n ns ≡ false → AreDistinct (ns ++ n ∷ [])
 distinct_behind [] n apart e = (refl, tt)
 distinct_behind (k ∷ ks) n apart e =
-    let parts = neither (k == n) (has_number n ks) e in
+    let parts = or_parts (k == n) (has_number n ks) e in
     (behind ks k n apart.0 (flip n k ∙ parts.0), distinct_behind ks n apart.1 parts.1)
 
 numbers_behind : (ports : List PortState) (p : PortState) → numbers_of (ports ++ p ∷ []) ≡ numbers_of ports ++ p.number ∷ []
@@ -105,7 +101,7 @@ IsPorts-added xs ys room cap cap' p i some fresh is e =
 still_off : (xs : List PortState) (n m : ℕ) → has_number m (numbers_of xs) ≡ false → has_number m (numbers_of (without_port xs n)) ≡ false
 still_off [] n m e = refl
 still_off (x ∷ xs) n m e =
-    let parts = neither (x.number == m) (has_number m (numbers_of xs)) e in
+    let parts = or_parts (x.number == m) (has_number m (numbers_of xs)) e in
     step (x.number == n) parts.0 parts.1 (still_off xs n m parts.1)
   where
     step : (b : Bool) → (x.number == m) ≡ false → has_number m (numbers_of xs) ≡ false

@@ -9,20 +9,17 @@ use Rattle.iox_lanes.specs.Pipes.{PipeState, on_lane, with_lane}
 use Rattle.iox_tables.specs.HubStates.Changes.{pushed_lane}
 use Rattle.iox_tables.proofs.HubStates.Pushing.{oldest_goes_first}
 use Rattle.iox_hub_ports.specs.Ports.{pushed, with_one_out}
+use Rattle.iox_tables.proofs.HubStates.Keys.{set_there}
 
-get_set : {A : Type 0} (xs : List A) (i : ℕ) (x y : A) → slice_get xs i ≡ Some x → slice_get (slice_set xs i y) i ≡ Some y
-get_set [] i x y e = absurd (none-some x e)
-get_set (z ∷ zs) zero x y e = refl
-get_set (z ∷ zs) (suc i) x y e = get_set zs i x y e
-
-set_set : {A : Type 0} (xs : List A) (i : ℕ) (x y : A) → slice_set (slice_set xs i x) i y ≡ slice_set xs i y
+-- what is set twice in one place is set once
+pub set_set : {A : Type 0} (xs : List A) (i : ℕ) (x y : A) → slice_set (slice_set xs i x) i y ≡ slice_set xs i y
 set_set [] i x y = refl
 set_set (z ∷ zs) zero x y = refl
 set_set (z ∷ zs) (suc i) x y = ap (λ ws. z ∷ ws) (set_set zs i x y)
 
 -- ---- two changes of one lane are one
 
-lane_twice : (f g : LaneState → LaneState) (p : PipeState) (lane : ℕ) → with_lane g (with_lane f p lane) lane ≡ with_lane (λ l. g (f l)) p lane
+pub lane_twice : (f g : LaneState → LaneState) (p : PipeState) (lane : ℕ) → with_lane g (with_lane f p lane) lane ≡ with_lane (λ l. g (f l)) p lane
 lane_twice f g p lane = step (slice_get p.lanes lane) refl
   where
     step : (o : Option LaneState) → slice_get p.lanes lane ≡ o
@@ -30,7 +27,7 @@ lane_twice f g p lane = step (slice_get p.lanes lane) refl
         ≡ option_map_or (λ l. record p { lanes = slice_set p.lanes lane (g (f l)) }) o p
     step (Some l) e =
         ap (λ (o : Option LaneState). option_map_or (λ m. record p { lanes = slice_set (slice_set p.lanes lane (f l)) lane (g m) }) o (record p { lanes = slice_set p.lanes lane (f l) }))
-        (get_set p.lanes lane l (f l) e)
+        (set_there p.lanes lane l (f l) e)
         ∙ ap (λ (ls : List LaneState). record p { lanes = ls }) (set_set p.lanes lane (f l) (g (f l)))
     step None e = ap (λ (o : Option LaneState). option_map_or (λ l. record p { lanes = slice_set p.lanes lane (g l) }) o p) e
 
@@ -43,7 +40,7 @@ lane_of_twice f g c r lane = step (slice_get c.pipes r) refl
         ≡ option_map_or (λ p. record c { pipes = slice_set c.pipes r (with_lane (λ l. g (f l)) p lane) }) o c
     step (Some p) e =
         ap (λ (o : Option PipeState). option_map_or (λ q. record c { pipes = slice_set (slice_set c.pipes r (with_lane f p lane)) r (with_lane g q lane) }) o (record c { pipes = slice_set c.pipes r (with_lane f p lane) }))
-        (get_set c.pipes r p (with_lane f p lane) e)
+        (set_there c.pipes r p (with_lane f p lane) e)
         ∙ ap (λ (ps : List PipeState). record c { pipes = ps }) (set_set c.pipes r (with_lane f p lane) (with_lane g (with_lane f p lane) lane))
         ∙ ap (λ q. record c { pipes = slice_set c.pipes r q }) (lane_twice f g p lane)
     step None e = ap (λ (o : Option PipeState). option_map_or (λ p. record c { pipes = slice_set c.pipes r (with_lane g p lane) }) o c) e

@@ -10,6 +10,7 @@ use Rattle.iox_tables.specs.HubStates.Tables.{PortState, numbers_of, pipes_of, p
 use Rattle.iox_tables.specs.HubStates.Ways.{lanes_from, with_port}
 use Rattle.iox_tables.proofs.HubStates.Keys.{flip}
 use Rattle.iox_hub_ports.specs.Ports.{on_lane_from, on_way_at, with_lane_at, with_lane_from}
+use Rattle.std.proofs.lemmas.Bool.{or_parts}
 
 pub get_in : {A : Type 0} (xs : List A) (i : ℕ) (x : A) → i < length xs → x ≡ get_or xs i x → slice_get xs i ≡ Some x
 get_in [] i x h e = absurd (omega arith)
@@ -21,17 +22,13 @@ none_at [] i h = refl
 none_at (y ∷ ys) zero h = absurd (omega arith)
 none_at (y ∷ ys) (suc i) h = none_at ys i (omega arith)
 
-neither : (a b : Bool) → (a || b) ≡ false → (a ≡ false) × (b ≡ false)
-neither true b e = absurd (true≢false e)
-neither false b e = (refl, e)
-
 -- a port of the list has another number than one that no port has
 off : (xs : List PortState) (i : ℕ) (p : PortState) (n : ℕ) → has_number n (numbers_of xs) ≡ false → slice_get xs i ≡ Some p → (p.number == n) ≡ false
 off [] i p n none e = absurd (none-some p e)
 off (x ∷ xs) zero p n none e =
     ap (λ (q : PortState). q.number == n) (sym (ap (λ (o : Option PortState). option_map_or (λ q. q) o x) e))
-    ∙ (neither (x.number == n) (has_number n (numbers_of xs)) none).0
-off (x ∷ xs) (suc i) p n none e = off xs i p n (neither (x.number == n) (has_number n (numbers_of xs)) none).1 e
+    ∙ (or_parts (x.number == n) (has_number n (numbers_of xs)) none).0
+off (x ∷ xs) (suc i) p n none e = off xs i p n (or_parts (x.number == n) (has_number n (numbers_of xs)) none).1 e
 
 pub first_at : (xs : List PortState) (i : ℕ) (p : PortState) → AreDistinct (numbers_of xs) → slice_get xs i ≡ Some p → port_in xs p.number ≡ Some p
 first_at [] i p apart e = absurd (none-some p e)

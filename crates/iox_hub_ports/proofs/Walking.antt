@@ -2,7 +2,7 @@
 use Rattle.std.specs.Prelude.{◌≡◌, ℕ, zero, suc, ◌+◌, ◌<◌, ◌≤◌, Bool, true, false, ◌||◌, if◌then◌else◌, ◌==◌, List, [], ◌∷◌, ◌++◌, map, filter, length, take, drop, slice_set, refl}
 use Rattle.std.proofs.Common.{sym, ap, subst, ◌∙◌, arith, add-one, append_assoc, append-nil, get_or}
 use Rattle.std.proofs.Math.ListN.{drop_of_length-le}
-use Rattle.std.proofs.lemmas.Bool.{false≢true}
+use Rattle.std.proofs.lemmas.Bool.{false≢true, or_parts}
 use Rattle.iox_model.specs.declared.kind.Role.{Role}
 use Rattle.iox_model.specs.declared.way.RequestState.{RequestState}
 use Rattle.iox_model.specs.Maps.{AreDistinct, has_number}
@@ -16,29 +16,9 @@ use Rattle.iox_tables.specs.HubStates.Ways.{with_lanes_on, with_port, with_state
 use Rattle.iox_tables.specs.HubStates.Wirings.{numbers_of_role}
 use Rattle.iox_tables.proofs.HubStates.Keys.{flip, lane_sender, same_number, state_sender}
 use Rattle.iox_hub_ports.specs.Ports.{if_role, state_ways, way_from, ways_from, with_lane_from, with_state_from}
+use Rattle.iox_lanes.proofs.Visiting.{drop_at, drop_set, take_all, take_set}
 
 -- ---- a list whose items are changed one after another
-
-drop_at : {A : Type 0} (xs : List A) (i : ℕ) (x : A) → i < length xs → x ≡ get_or xs i x → drop i xs ≡ x ∷ drop (suc i) xs
-drop_at [] i x h e = absurd (omega arith)
-drop_at (y ∷ ys) zero x h e = ap (λ z. z ∷ ys) (sym e)
-drop_at (y ∷ ys) (suc i) x h e = drop_at ys i x (omega arith) e
-
-drop_set : {A : Type 0} (xs : List A) (i : ℕ) (x : A) → drop (suc i) (slice_set xs i x) ≡ drop (suc i) xs
-drop_set [] i x = refl
-drop_set (y ∷ ys) zero x = refl
-drop_set (y ∷ ys) (suc i) x = drop_set ys i x
-
-take_set : {A : Type 0} (xs : List A) (i : ℕ) (x : A) → i < length xs → take (suc i) (slice_set xs i x) ≡ take i xs ++ x ∷ []
-take_set [] i x h = absurd (omega arith)
-take_set (y ∷ ys) zero x h = refl
-take_set (y ∷ ys) (suc i) x h = ap (λ zs. y ∷ zs) (take_set ys i x (omega arith))
-
-take_all : {A : Type 0} (xs : List A) (n : ℕ) → length xs ≤ n → take n xs ≡ xs
-take_all [] zero h = refl
-take_all [] (suc n) h = refl
-take_all (x ∷ xs) zero h = absurd (omega arith)
-take_all (x ∷ xs) (suc n) h = ap (λ zs. x ∷ zs) (take_all xs n (omega arith))
 
 -- those so far are changed, and the others are left to change
 pub record Walks (f : PortState → PortState) (first now : List PortState) (i : ℕ) : Type 0 where
@@ -88,16 +68,12 @@ states_of_each : (g : RequestState → RequestState) (receiver lane : ℕ) (port
 states_of_each g receiver lane ports [] = refl
 states_of_each g receiver lane ports (n ∷ ns) = states_of_each g receiver lane (with_port (λ p. with_state_from g p receiver lane) ports n) ns
 
-neither : (a b : Bool) → (a || b) ≡ false → (a ≡ false) × (b ≡ false)
-neither true b e = absurd (false≢true (sym e))
-neither false b e = (refl, e)
-
 -- a port of another number stays
 passes : (h : PortState → PortState) (p : PortState) (ps : List PortState) (ns : List ℕ) → has_number p.number ns ≡ false
     → with_each h (p ∷ ps) ns ≡ p ∷ with_each h ps ns
 passes h p ps [] off = refl
 passes h p ps (n ∷ ns) off =
-    let parts = neither (n == p.number) (has_number p.number ns) off in
+    let parts = or_parts (n == p.number) (has_number p.number ns) off in
     ap (λ (b : Bool). with_each h (if b then h p ∷ ps else p ∷ with_port h ps n) ns) (flip p.number n ∙ parts.0)
     ∙ passes h p (with_port h ps n) ns parts.1
 
@@ -105,7 +81,7 @@ passes h p ps (n ∷ ns) off =
 not_of_role : (role : Role) (n : ℕ) (ps : List PortState) → has_number n (numbers_of ps) ≡ false → has_number n (numbers_of_role role ps) ≡ false
 not_of_role role n [] e = refl
 not_of_role role n (p ∷ ps) e =
-    let parts = neither (p.number == n) (has_number n (numbers_of ps)) e in
+    let parts = or_parts (p.number == n) (has_number n (numbers_of ps)) e in
     step (same_role p.role role) parts.0 (not_of_role role n ps parts.1)
   where
     step : (b : Bool) → (p.number == n) ≡ false → has_number n (numbers_of_role role ps) ≡ false

@@ -16,6 +16,7 @@ use Rattle.iox_tables.specs.HubStates.Tables.{PortState, numbers_of, pipe_from, 
 use Rattle.iox_tables.specs.HubStates.Ways.{lane_on, lanes_from, state_on, states_from, with_lane_on, with_pipe_of, with_pipes}
 use Rattle.iox_tables.specs.HubStates.Wirings.{numbers_of_role}
 use Rattle.iox_hub_ports.specs.declared.info.PortInfo.{PortInfo}
+use Rattle.iox_tables.specs.HubMaking.OneByOne.{without_first_by}
 
 -- a port with that information, and what comes to it
 abbrev pub port_of : PortInfo → IncomingState → IncomingState → PortState
@@ -74,11 +75,6 @@ with_lane_from g p sender lane = with_pipe_of (λ q. with_lane g q lane) p sende
 -- the request state of that lane is another, beside the pipe from this sender
 abbrev pub with_state_from : (RequestState → RequestState) → PortState → ℕ → ℕ → PortState
 with_state_from g p sender lane = with_pipe_of (λ q. with_state g q lane) p sender
-
--- the first of that number is gone
-abbrev pub without_first_by : {A : Type 0} → (A → ℕ) → List A → ℕ → List A
-without_first_by key [] n = []
-without_first_by key (x ∷ xs) n = if key x == n then xs else x ∷ without_first_by key xs n
 
 -- the first pipe from this connected sender is gone
 abbrev pub without_pipe_from : PortState → ℕ → PortState

@@ -150,7 +150,8 @@ impl Port {
         }
     }
 
-    /// The request state of that lane, beside the pipe from this sender; closed where there is none.
+    /// The request state of that lane, beside the pipe from this sender; closed where there is
+    /// none.
     #[inline]
     pub fn state(&self, sender: u64, lane: u64) -> RequestState
         ensures { result ≡ state_from self.now sender lane }

@@ -80,7 +80,8 @@ impl Ports {
 
     /// Makes room for so many ports more.
     pub fn reserve(&mut self, more: usize) -> Result<(), AllocError>
-        ensures reserved { OnOk result (self.new ≡ record (self.old) { room = self.old.room + more }) }
+        ensures reserved { OnOk result (self.new
+            ≡ record (self.old) { room = self.old.room + more }) }
         ensures unchanged { OnErr result (self.new ≡ self.old) }
     {
         let Some(room) = self.room.checked_add(more) else {

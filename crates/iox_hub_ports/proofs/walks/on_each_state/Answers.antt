@@ -24,9 +24,5 @@ returns-clause-changed g c =
 
 pub returns-clause-numbers : goal.returns-clause-numbers
 returns-clause-numbers g c =
-    ap numbers_of
-    (ends (if_role c.args.role (λ p. with_state_from (g.S.StateStep.changed c.args.step.now) p c.args.receiver c.args.lane))
-    c.args.ports.now.items c.loop-i.ports.items c.loop-i.i c.loop-i.invariant.walks
-    (omega (arith, c.loop-i-test.false, c.loop-i.invariant.size))
-    ∙ each_state (g.S.StateStep.changed c.args.step.now) c.args.receiver c.args.lane c.args.role c.args.ports.now.items c.requires.apart)
+    ap numbers_of (returns-clause-changed g c)
     ∙ states_keep (g.S.StateStep.changed c.args.step.now) c.args.ports.now.items (state_ways c.args.receiver c.args.lane c.args.role c.args.ports.now.items)
