@@ -25,6 +25,7 @@ use Rattle.iox_control.specs.Controls.{ControlState, IsControl, with_hint, with_
 use Rattle.iox_control.specs.Entries.{handle_state}
 use Rattle.iox_control.proofs.RoomLemmas.{room_as, states_seats}
 use Rattle.iox_control.proofs.WholeLemmas.{is_whole_of}
+use Rattle.iox_tables.proofs.HubBooks.Alike.{loans_stay, own_stays}
 
 -- what is told to the servers, by the handle
 pub hint_is : (c new : ControlState) (h : HandleState) (e : Entry) (l : Label) → handle_state e ≡ h → l ≡ labels_of c.tables.pools e.pool e.slot
@@ -34,19 +35,6 @@ hint_is c new h e l same at is =
     is
     ∙ ap (λ (m : Label). with_tables c (with_states (λ r. hinted_for r m.request) c.tables (map (response_way e.port m.lane) (numbers_of_role Server c.tables.ports)))) at
     ∙ ap (λ (k : HandleState). with_tables c (with_hint c.tables k)) same
-
--- a sum of what request states do not change
-bare_total : (f : PortState → ℕ) → ((p : PortState) → f (bare_port p) ≡ f p) → (ports : List PortState) → total f (bare_ports ports) ≡ total f ports
-bare_total f same [] = refl
-bare_total f same (p ∷ ps) = ap₂ (λ (a b : ℕ). a + b) (same p) (bare_total f same ps)
-
-bare_all : (n : ℕ) (ports : List PortState) → OfAll (λ p. p.loans ≤ n) ports → OfAll (λ p. p.loans ≤ n) (bare_ports ports)
-bare_all n [] a = a
-bare_all n (p ∷ ps) a = (a.0, bare_all n ps a.1)
-
-all_bare : (n : ℕ) (ports : List PortState) → OfAll (λ p. p.loans ≤ n) (bare_ports ports) → OfAll (λ p. p.loans ≤ n) ports
-all_bare n [] a = a
-all_bare n (p ∷ ps) a = (a.0, all_bare n ps a.1)
 
 module _ (c : ControlState) (g : RequestState → RequestState) (ws : List Way) (order : IsControl c) where
   abbrev t : HubTables
@@ -69,15 +57,13 @@ module _ (c : ControlState) (g : RequestState → RequestState) (ws : List Way) 
       calls = order.counted.calls;
       ports = order.counted.ports;
       numbers = order.counted.numbers;
-      loans = all_bare t.calls left.ports (subst (OfAll (λ p. p.loans ≤ t.calls)) (sym bare) (bare_all t.calls t.ports order.counted.loans));
+      loans = loans_stay t.calls t.ports left.ports bare order.counted.loans;
       deliveries = states_keep g (λ l. l.deliveries ≤ t.calls) t.ports ws order.counted.deliveries;
     };
     room =
         let lanes : on_lanes spare left.ports ≡ on_lanes spare t.ports = states_total g spare t.ports ws in
         let own : total (λ p. p.size - own_count t.handles p) left.ports ≡ total (λ p. p.size - own_count t.handles p) t.ports
-        = sym (bare_total (λ p. p.size - own_count t.handles p) (λ p. refl) left.ports)
-        ∙ ap (total (λ p. p.size - own_count t.handles p)) bare
-        ∙ bare_total (λ p. p.size - own_count t.handles p) (λ p. refl) t.ports in
+        = own_stays t.handles t.ports left.ports bare in
         let was : HasRoomForAll c.room t = order.room in
         omega (arith, lanes, own, was);
     holders =

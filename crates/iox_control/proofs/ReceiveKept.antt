@@ -26,32 +26,9 @@ use Rattle.iox_control.proofs.RoomLemmas.{room_as, seats_of, visit_seats}
 use Rattle.iox_control.proofs.VisitCounts.{got_one}
 use Rattle.iox_control.specs.Controls.{AreCounted, ControlState, HaveBuffers, IsButHolders, IsControl, with_got, with_tables}
 use Rattle.iox_control.proofs.ReceiveLemmas.{counts_after, counts_stay, has_holders, holders_after_got, holders_after_none, not_own, room_after_got, room_after_none, room_for_one, visits_it}
+use Rattle.iox_slots.proofs.BareLemmas.{held_bare}
 
 -- ---- pools that differ in holders
-
-map_set : {A B : Type 0} (show : A → B) (xs : List A) (i : ℕ) (x y : A) → slice_get xs i ≡ Some x → show x ≡ show y → map show xs ≡ map show (slice_set xs i y)
-map_set show [] i x y at e = refl
-map_set show (z ∷ zs) zero x y at e = ap (λ b. b ∷ map show zs) (ap show (same_Some z x at) ∙ e)
-map_set show (z ∷ zs) (suc i) x y at e = ap (λ bs. show z ∷ bs) (map_set show zs i x y at e)
-
-pool_bare : (p : PoolState) (k : ℕ) → bare_pool p ≡ bare_pool (with_slot_of held p k)
-pool_bare p k = step (slice_get p.slots k) refl
-  where
-    step : (o : Option SlotState) → slice_get p.slots k ≡ o → bare_pool p ≡ bare_pool (option_map_or (λ s. record p { slots = slice_set p.slots k (held s) }) o p)
-    step None at = refl
-    step (Some s) at = ap (λ ss. record p { slots = ss }) (map_set bare_slot p.slots k s (held s) at refl)
-
-held_bare : (pools : List (Option PoolState)) (place k : ℕ) → bare_pools pools ≡ bare_pools (with_slot held pools place k)
-held_bare pools place k = step (slice_get pools place) refl
-  where
-    inside : (o : Option PoolState) → option_map bare_pool o ≡ option_map bare_pool (option_map (λ p. with_slot_of held p k) o)
-    inside None = refl
-    inside (Some p) = ap (λ q. Some q) (pool_bare p k)
-
-    step : (o : Option (Option PoolState)) → slice_get pools place ≡ o
-        → bare_pools pools ≡ bare_pools (option_map_or (λ q. slice_set pools place (option_map (λ p. with_slot_of held p k) q)) o pools)
-    step None at = refl
-    step (Some q) at = map_set (option_map bare_pool) pools place q (option_map (λ p. with_slot_of held p k) q) at (inside q)
 
 same_differ : (pools : List (Option PoolState)) → DifferInHolders pools pools
 same_differ pools = record {

@@ -52,7 +52,8 @@ module _ (t : HubTables) (n lane : ℕ) (wanted : Wanted) where
 plus_none : (n : ℕ) (m : ℕ) → m ≡ 0 → n + m ≡ n
 plus_none n m e = omega (arith, e)
 
-one_longer : {A : Type 0} (xs : List A) (x : A) → length (xs ++ x ∷ []) ≡ length xs + 1
+-- one more at the end
+pub one_longer : {A : Type 0} (xs : List A) (x : A) → length (xs ++ x ∷ []) ≡ length xs + 1
 one_longer [] x = refl
 one_longer (y ∷ ys) x = let more = one_longer ys x in omega (arith, more)
 

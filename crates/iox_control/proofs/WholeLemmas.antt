@@ -1,6 +1,6 @@
 -- What is a call of the machine as a function is a whole call of it, over the state that tables show.
-use Rattle.std.specs.Prelude.{◌≡◌, ℕ, Bool, false, ◌<◌, ◌^◌, List, Option, refl}
-use Rattle.std.proofs.Common.{sym, ap, subst, ◌∙◌}
+use Rattle.std.specs.Prelude.{◌≡◌, ℕ, Bool, false, ◌<◌, ◌≤◌, ◌^◌, nat_lt, List, Option, Some, None, refl}
+use Rattle.std.proofs.Common.{sym, ap, subst, ◌∙◌, arith}
 use Rattle.iox_model.specs.declared.call.Call.TheVariants.{HasRequests, HasResponse, Receive}
 use Rattle.iox_model.specs.declared.reply.Reply.TheVariants.{Answer}
 use Rattle.std.specs.Option.{option_map_or}
@@ -19,11 +19,22 @@ use Rattle.iox_tables.specs.HubStates.Receives.{request_reply, response_reply, w
 use Rattle.iox_tables.specs.HubStates.Ends.{DifferInHolders}
 use Rattle.iox_tables.proofs.HubStates.Serving.{responses_are_received, servers_receive}
 use Rattle.iox_tables.proofs.HubStates.Holding.{holders_are_not_shown}
+use Rattle.iox_model.specs.Handles.{Subject, TheHandle, ThePort}
 
 -- a whole call, by what its function answers and leaves
 pub is_whole_of : (s : m.State) (node : ℕ) (call : Call) (r : Reply × m.State) (reply : Reply) (s' : m.State)
     → IsWholeCall s node call r.0 r.1 → r ≡ (reply, s') → IsWholeCall s node call reply s'
 is_whole_of s node call r reply s' whole is = subst (λ (q : Reply × m.State). IsWholeCall s node call q.0 q.1) is whole
+
+-- the handle of a subject
+abbrev pub handle_or : m.Handle → Option Subject → m.Handle
+handle_or d (Some (TheHandle k)) = k
+handle_or d (Some (ThePort p)) = d
+handle_or d None = d
+
+-- a lane with no more than its buffer is not over it
+pub not_over : (buffer k : ℕ) → k ≤ buffer → nat_lt buffer k ≡ false
+not_over buffer k e = grind (arith)
 
 -- the tables with other pools show the same, where only holders differ
 pub shows_same : (x : Given) (t : HubTables) (pools : List (Option PoolState)) → DifferInHolders t.pools pools

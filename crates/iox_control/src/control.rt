@@ -49,7 +49,8 @@ impl Model for Control {
 
     ghost Value = { ControlState };
 
-    ghost view = { λ c. control_of c.settings c.calls c.next_number c.ports_made c.ports c.handles c.pools };
+    ghost view = { λ c. control_of c.settings c.calls c.next_number c.ports_made c.ports c.handles
+        c.pools };
 
     ghost invariant = { λ c. c.handles.next ≤ c.next_number };
 }
@@ -114,7 +115,8 @@ impl Control {
     /// Visits that lane of each sender to the port, until one gives a message.
     pub fn visit(&mut self, port: u64, lane: u64, wanted: Wanted) -> Visits
         ensures visits { result ≡ visits_at self.old.tables port lane wanted }
-        ensures visited { self.new ≡ with_tables self.old (with_visited self.old.tables port lane wanted) }
+        ensures visited { self.new ≡ with_tables self.old
+            (with_visited self.old.tables port lane wanted) }
     {
         self.ports.visit(port, lane, wanted, &self.pools)
     }
@@ -155,7 +157,8 @@ impl Control {
     pub fn hold(&mut self, pool: usize, slot: u64)
         requires taken { 0 < (slot_at self.old.tables.pools pool slot).holders }
         requires fits { (slot_at self.old.tables.pools pool slot).holders < 2 ^ 64 - 1 }
-        ensures { self.new ≡ with_tables self.old (record (self.old.tables) { pools = with_slot held self.old.tables.pools pool slot }) }
+        ensures { self.new ≡ with_tables self.old
+            (record (self.old.tables) { pools = with_slot held self.old.tables.pools pool slot }) }
     {
         self.pools.hold(pool, slot);
     }

@@ -72,8 +72,8 @@ impl Control {
         self.ports.get_back_at(at, sender, lane)
     }
 
-    /// Puts a message last in line for the port in that place, on the lane from the sender, and says
-    /// whether there was room.
+    /// Puts a message last in line for the port in that place, on the lane from the sender, and
+    /// says whether there was room.
     pub fn deliver_at(&mut self, at: usize, sender: u64, lane: u64, slot: u64) -> bool
         ensures room { result ≡ on_way_at has_room false self.old.tables.ports at sender lane }
         ensures delivered { self.new ≡ with_ports self.old

@@ -21,7 +21,8 @@ impl Control {
 
     /// Makes room for so many handles more.
     pub fn reserve_handles(&mut self, more: usize) -> Result<(), AllocError>
-        ensures reserved { OnOk result (self.new ≡ record (self.old) { room = self.old.room + more }) }
+        ensures reserved { OnOk result (self.new
+            ≡ record (self.old) { room = self.old.room + more }) }
         ensures unchanged { OnErr result (self.new ≡ self.old) }
     {
         self.handles.reserve(more)
@@ -29,7 +30,8 @@ impl Control {
 
     /// Makes room for so many ports more.
     pub fn reserve_ports(&mut self, more: usize) -> Result<(), AllocError>
-        ensures reserved { OnOk result (self.new ≡ record (self.old) { port_room = self.old.port_room + more }) }
+        ensures reserved { OnOk result (self.new
+            ≡ record (self.old) { port_room = self.old.port_room + more }) }
         ensures unchanged { OnErr result (self.new ≡ self.old) }
     {
         self.ports.reserve(more)
@@ -37,8 +39,8 @@ impl Control {
 
     // ---- pools
 
-    /// Makes a pool of so many slots that nobody has, and tells its place. It fails only for want of
-    /// memory.
+    /// Makes a pool of so many slots that nobody has, and tells its place. It fails only for want
+    /// of memory.
     pub fn add_pool(
         &mut self,
         alloc: Global,
@@ -85,7 +87,8 @@ impl Control {
     /// One more pipe leads to the port of that number. It says whether there was room.
     pub fn connect(&mut self, number: u64, pipe: Pipe) -> bool
         ensures room { result
-            ≡ option_map_or (λ p. has_room_for p.incoming) (port_in self.old.tables.ports number) false }
+            ≡ option_map_or (λ p. has_room_for p.incoming)
+            (port_in self.old.tables.ports number) false }
         ensures connected { self.new ≡ with_ports self.old
             (with_port (λ p. with_connected p pipe) self.old.tables.ports number) }
     {

@@ -15,10 +15,11 @@ use iox_handles::Entry;
 impl Control {
     // ---- slots
 
-    /// One has a slot that nobody had, and this is its number. It is `None` exactly if there is none,
-    /// and then nothing changes.
+    /// One has a slot that nobody had, and this is its number. It is `None` exactly if there is
+    /// none, and then nothing changes.
     pub fn acquire(&mut self, pool: usize) -> Option<u64>
-        ensures acquired { IfSome result (λ k. Acquires self.old.tables.pools pool k self.new.tables.pools) }
+        ensures acquired { IfSome result (λ k.
+            Acquires self.old.tables.pools pool k self.new.tables.pools) }
         ensures left { self.new ≡ with_pools self.old self.new.tables.pools }
         ensures full { result ≡ None ↔ free_count self.old.tables.pools pool ≡ 0 }
         ensures unchanged { result ≡ None → self.new ≡ self.old }
@@ -48,7 +49,8 @@ impl Control {
     /// One less has a slot, and says whether anybody had it: where nobody did, nothing changes.
     pub fn let_go(&mut self, pool: usize, slot: u64) -> bool
         ensures had { result ≡ is_taken_at self.old.tables.pools pool slot }
-        ensures left { self.new ≡ with_pools self.old (with_slot let_go self.old.tables.pools pool slot) }
+        ensures left { self.new ≡ with_pools self.old
+            (with_slot let_go self.old.tables.pools pool slot) }
         ensures unchanged { OnFalse result (self.new ≡ self.old) }
     {
         self.pools.let_go(pool, slot)
@@ -59,7 +61,8 @@ impl Control {
     /// A handle of that node and number is as it is now; it is looked for at the hint first. Where
     /// there is none, nothing changes.
     pub fn change_handle(&mut self, entry: Entry, hint: usize)
-        ensures { self.new ≡ with_tables self.old (with_changed self.old.tables (handle_state entry)) }
+        ensures { self.new ≡ with_tables self.old
+            (with_changed self.old.tables (handle_state entry)) }
     {
         match self.handles.find(entry.number, hint) {
             None => {}
@@ -74,7 +77,8 @@ impl Control {
     /// Removes the node's handle of that number, which is looked for at the hint first. It leaves
     /// room for another.
     pub fn remove_handle(&mut self, node: u64, number: u64, hint: usize) -> Option<Entry>
-        ensures found { option_map handle_state result ≡ handle_in self.old.tables.handles node number }
+        ensures found { option_map handle_state result
+            ≡ handle_in self.old.tables.handles node number }
         ensures dropped { IsSome result → self.new ≡ with_handle_dropped self.old node number }
         ensures unchanged { result ≡ None → self.new ≡ self.old }
     {

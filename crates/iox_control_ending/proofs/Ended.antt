@@ -14,7 +14,7 @@ use Rattle.iox_tables.specs.HubStates.Wirings.{handle_in}
 use Rattle.iox_tables.proofs.HubStates.Keys.{flip}
 use Rattle.iox_tables.specs.HubBooks.Counts.{total}
 use Rattle.iox_tables.specs.HubBooks.Handles.{is_loan}
-use Rattle.iox_tables.specs.HubBooks.Keeps.{HasFewerHolders, bare_pool, bare_pools, bare_slot}
+use Rattle.iox_tables.specs.HubBooks.Keeps.{HasOneHolderLess, bare_pool, bare_pools, bare_slot}
 use Rattle.iox_tables.specs.HubBooks.Rooms.{CanCountHolders, HasRoomForAll, own_count}
 use Rattle.iox_tables.proofs.HubBooks.Bounds.{all_lanes_from}
 use Rattle.iox_tables.proofs.HubBooks.Eachs.{all_from}
@@ -30,110 +30,8 @@ use Rattle.iox_slots.proofs.CallerLemmas.{holders_let_go}
 use Rattle.iox_control.specs.Controls.{ControlState, IsControl, with_handle_dropped, with_pools, with_tables}
 use Rattle.iox_control.specs.Entries.{handle_state}
 use Rattle.iox_control_ending.specs.Endings.{IsLoan, with_ended}
-
--- ---- slots
-
-map_set : {A B : Type 0} (show : A → B) (xs : List A) (i : ℕ) (x y : A) → slice_get xs i ≡ Some x → show x ≡ show y → map show xs ≡ map show (slice_set xs i y)
-map_set show [] i x y at e = refl
-map_set show (z ∷ zs) zero x y at e = ap (λ b. b ∷ map show zs) (ap show (same_Some z x at) ∙ e)
-map_set show (z ∷ zs) (suc i) x y at e = ap (λ bs. show z ∷ bs) (map_set show zs i x y at e)
-
-pool_bare : (p : PoolState) (k : ℕ) → bare_pool p ≡ bare_pool (with_slot_of let_go p k)
-pool_bare p k = step (slice_get p.slots k) refl
-  where
-    step : (o : Option SlotState) → slice_get p.slots k ≡ o → bare_pool p ≡ bare_pool (option_map_or (λ s. record p { slots = slice_set p.slots k (let_go s) }) o p)
-    step None at = refl
-    step (Some s) at = ap (λ ss. record p { slots = ss }) (map_set bare_slot p.slots k s (let_go s) at refl)
-
--- pools with one holder less are the same but for holders
-pub let_go_bare : (pools : List (Option PoolState)) (place k : ℕ) → bare_pools pools ≡ bare_pools (with_slot let_go pools place k)
-let_go_bare pools place k = step (slice_get pools place) refl
-  where
-    inside : (o : Option PoolState) → option_map bare_pool o ≡ option_map bare_pool (option_map (λ p. with_slot_of let_go p k) o)
-    inside None = refl
-    inside (Some p) = ap (λ q. Some q) (pool_bare p k)
-
-    step : (o : Option (Option PoolState)) → slice_get pools place ≡ o
-        → bare_pools pools ≡ bare_pools (option_map_or (λ q. slice_set pools place (option_map (λ p. with_slot_of let_go p k) q)) o pools)
-    step None at = refl
-    step (Some q) at = map_set (option_map bare_pool) pools place q (option_map (λ p. with_slot_of let_go p k) q) at (inside q)
-
--- a slot that somebody has gets one holder less
-pub one_less : (pools : List (Option PoolState)) (place k : ℕ) → 1 ≤ (slot_at pools place k).holders
-    → (Q j : ℕ) → (slot_at (with_slot let_go pools place k) Q j).holders + (if (place == Q) && (k == j) then 1 else 0) ≡ (slot_at pools Q j).holders
-one_less pools place k some Q j =
-    ap (λ n. n + (if (place == Q) && (k == j) then 1 else 0)) (holders_let_go pools place k Q j)
-    ∙ step (place == Q) (k == j) refl refl
-  where
-    back : (n : ℕ) → 1 ≤ n → n - 1 + 1 ≡ n
-    back n le = omega (arith, le)
-
-    none : (n : ℕ) → n - 0 + 0 ≡ n
-    none n = omega arith
-
-    step : (a b : Bool) → (place == Q) ≡ a → (k == j) ≡ b
-        → (slot_at pools Q j).holders - (if a && b then 1 else 0) + (if a && b then 1 else 0) ≡ (slot_at pools Q j).holders
-    step true true e f = back _ (subst (λ i. 1 ≤ (slot_at pools Q i).holders) (eqb-true k j f) (subst (λ q. 1 ≤ (slot_at pools q k).holders) (eqb-true place Q e) some))
-    step true false e f = none _
-    step false b e f = none _
-
--- ---- handles
-
-all_one : (hs : List HandleState) → total (λ h. 1) hs ≡ length hs
-all_one [] = refl
-all_one (h ∷ hs) = let more = all_one hs in omega (arith, more)
-
--- one handle less
-pub one_shorter : (hs : List HandleState) (node n : ℕ) (h : HandleState) → handle_in hs node n ≡ Some h → AreDistinct (map (λ k. k.number) hs)
-    → length (dropped_handles node n hs) + 1 ≡ length hs
-one_shorter hs node n h there apart =
-    ap (λ m. m + 1) (sym (all_one (dropped_handles node n hs))) ∙ handle_dropped (λ k. 1) hs node n h there apart ∙ all_one hs
-
-none_of : (n : ℕ) (ports : List PortState) → has_number n (numbers_of ports) ≡ false → total (λ p. if p.number == n then 1 else 0) ports ≡ 0
-none_of n [] e = refl
-none_of n (p ∷ ps) e = step (p.number == n) e (none_of n ps)
-  where
-    step : (b : Bool) → (b || has_number n (numbers_of ps)) ≡ false → (has_number n (numbers_of ps) ≡ false → total (λ (q : PortState). if q.number == n then 1 else 0) ps ≡ 0)
-        → (if b then 1 else 0) + total (λ (q : PortState). if q.number == n then 1 else 0) ps ≡ 0
-    step true f more = absurd (true≢false f)
-    step false f more = let z = more f in omega (arith, z)
-
--- one port at most has the number
-one_of : (n : ℕ) (ports : List PortState) → AreDistinct (numbers_of ports) → total (λ p. if p.number == n then 1 else 0) ports ≤ 1
-one_of n [] d = omega arith
-one_of n (p ∷ ps) d = step (p.number == n) refl (one_of n ps d.1)
-  where
-    step : (b : Bool) → (p.number == n) ≡ b → total (λ (q : PortState). if q.number == n then 1 else 0) ps ≤ 1
-        → (if b then 1 else 0) + total (λ (q : PortState). if q.number == n then 1 else 0) ps ≤ 1
-    step true e rest =
-        let none = none_of n ps (subst (λ m. has_number m (numbers_of ps) ≡ false) (eqb-true p.number n e) d.0) in omega (arith, none)
-    step false e rest = omega (arith, rest)
-
--- each port may have as many handles of its own as before, and its own one more
-more_own : (hs : List HandleState) (node n : ℕ) (h : HandleState) → handle_in hs node n ≡ Some h → AreDistinct (map (λ k. k.number) hs) → (ports : List PortState)
-    → total (λ p. p.size - own_count (dropped_handles node n hs) p) ports
-    ≤ total (λ p. p.size - own_count hs p) ports + total (λ p. if p.number == h.port then 1 else 0) ports
-more_own hs node n h there apart [] = omega arith
-more_own hs node n h there apart (p ∷ ps) =
-    both _ _ _ _ _ _ (least p.size (own_count (dropped_handles node n hs) p) (own_count hs p) (is_own h.kind) (h.port == p.number) (p.number == h.port)
-    (flip h.port p.number) (handle_dropped (λ x. if is_own x.kind && (x.port == p.number) then 1 else 0) hs node n h there apart)) (more_own hs node n h there apart ps)
-  where
-    both : (a b c d e f : ℕ) → a ≤ b + c → d ≤ e + f → a + d ≤ b + e + (c + f)
-    both a b c d e f p q = omega (arith, p, q)
-
-    least : (size new old : ℕ) (own here there : Bool) → here ≡ there → new + (if own && here then 1 else 0) ≡ old → size - new ≤ size - old + (if there then 1 else 0)
-    least size new old true true there e sum = subst (λ (b : Bool). size - new ≤ size - old + (if b then 1 else 0)) e (omega (arith, sum))
-    least size new old true false there e sum = subst (λ (b : Bool). size - new ≤ size - old + (if b then 1 else 0)) e (omega (arith, sum))
-    least size new old false true there e sum = subst (λ (b : Bool). size - new ≤ size - old + (if b then 1 else 0)) e (omega (arith, sum))
-    least size new old false false there e sum = subst (λ (b : Bool). size - new ≤ size - old + (if b then 1 else 0)) e (omega (arith, sum))
-
--- a handle that is dropped leaves room for another
-pub room_left : (hs : List HandleState) (node n : ℕ) (h : HandleState) → handle_in hs node n ≡ Some h → AreDistinct (map (λ k. k.number) hs)
-    → (ports : List PortState) → AreDistinct (numbers_of ports)
-    → total (λ p. p.size - own_count (dropped_handles node n hs) p) ports ≤ total (λ p. p.size - own_count hs p) ports + 1
-room_left hs node n h there apart ports distinct =
-    let more = more_own hs node n h there apart ports in
-    let one = one_of h.port ports distinct in omega (arith, more, one)
+pub use Rattle.iox_slots.proofs.BareLemmas.{let_go_bare, let_go_one as one_less}
+pub use Rattle.iox_tables.proofs.HubBooks.Left.{one_shorter, room_left}
 
 -- ---- the end of a loan
 
@@ -161,7 +59,7 @@ module _ (c : ControlState) (node n : ℕ) (loan : IsLoan c.tables node n) (orde
   abbrev apart : AreDistinct (map (λ (k : HandleState). k.number) t.handles)
   apart = handles_apart (numbers_of t.ports) (map (λ k. k.number) t.handles) order.order.numbers.apart
 
-  fewer : HasFewerHolders t.pools ended.pools h
+  fewer : HasOneHolderLess t.pools ended.pools h
   fewer = record {
     same = let_go_bare t.pools h.pool h.slot;
     holders = one_less t.pools h.pool h.slot (used_by_handle t order.order node n h loan.named.there);

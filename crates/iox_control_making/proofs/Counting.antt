@@ -17,7 +17,7 @@ use Rattle.iox_tables.specs.HubStates.Ways.{lane_on, lanes_from}
 use Rattle.iox_tables.specs.HubStates.Wirings.{limit_from, numbers_of_role}
 use Rattle.iox_tables.proofs.HubStates.Keys.{flip, has_some}
 use Rattle.iox_tables.specs.HubBooks.Counts.{OfAll, in_pipe, in_port, on_lanes, total}
-use Rattle.iox_tables.specs.HubBooks.Hubs.{AreInOrder, width_of}
+use Rattle.iox_tables.specs.HubBooks.Hubs.{AreInOrder}
 use Rattle.iox_tables.specs.HubBooks.Rooms.{own_count, spare}
 use Rattle.iox_tables.proofs.HubBooks.Bounds.{lanes_below}
 use Rattle.iox_tables.proofs.HubBooks.Eachs.{OfPipe, OfPort, all_from}
@@ -26,6 +26,8 @@ use Rattle.iox_tables.proofs.HubMaking.Firsts.{first_among, has_first}
 use Rattle.iox_tables.proofs.HubKeeping.NewPorts.{some_is}
 use Rattle.iox_tables.proofs.HubKeeping.Ordered.{names_apart}
 use Rattle.iox_control_making.specs.Bounds.{LanesAreBetween, NoMoreMayCome, count_of, sizes_of}
+use Rattle.iox_tables.specs.HubMaking.NewPorts.{width_of}
+use Rattle.iox_tables.proofs.HubBooks.Frames.{length_map}
 
 -- ---- lists
 
@@ -64,10 +66,6 @@ total_times f k (x ∷ xs) a =
   where
     turned : (a b : ℕ) → a + b ≡ b + a
     turned a b = omega arith
-
-pub length_map : {A B : Type 0} (f : A → B) (xs : List A) → length (map f xs) ≡ length xs
-length_map f [] = refl
-length_map f (x ∷ xs) = ap suc (length_map f xs)
 
 -- who is among those of a role is a connected port of the role
 pub among_role : (role : Role) (ports : List PortState) (n : ℕ) → AreDistinct (numbers_of ports) → has_number n (numbers_of_role role ports) ≡ true

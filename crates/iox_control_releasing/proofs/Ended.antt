@@ -8,7 +8,7 @@ use Rattle.iox_model.specs.declared.way.Way.{Way}
 use Rattle.iox_model.specs.Handles.{is_own, is_received}
 use Rattle.iox_model.specs.Maps.{AreDistinct, has_number}
 use Rattle.iox_model.specs.Messages.{closed_for}
-use Rattle.iox_lanes.specs.Lanes.{LaneState, is_taken, released, without_taken}
+use Rattle.iox_lanes.specs.Lanes.{LaneState, is_taken, rank_in, released, with_returned, without_taken}
 use Rattle.iox_tables.specs.HubStates.Tables.{HandleState, HubTables, PoolState, PortState, numbers_of, slot_at}
 use Rattle.iox_tables.specs.HubStates.Ways.{lane_on, with_lane_on, with_states_on}
 use Rattle.iox_tables.specs.HubStates.Ends.{dropped_handles, with_dropped}
@@ -20,10 +20,10 @@ use Rattle.iox_slots.proofs.CallerLemmas.{holders_let_go, one_at}
 use Rattle.iox_tables.specs.HubBooks.Counts.{OfAll, OfAllLanes, is_at, on_lanes, total}
 use Rattle.iox_tables.specs.HubBooks.Handles.{way_in}
 use Rattle.iox_tables.specs.HubBooks.Hubs.{AreInOrder, IsUsed}
-use Rattle.iox_tables.specs.HubBooks.Keeps.{HasFewerHolders}
+use Rattle.iox_tables.specs.HubBooks.Keeps.{HasOneHolderLess}
 use Rattle.iox_tables.specs.HubBooks.Rooms.{CanCountHolders, HasRoomForAll, own_count, spare}
 use Rattle.iox_tables.proofs.HubBooks.Eachs.{lane_keeps}
-use Rattle.iox_tables.proofs.HubBooks.Frames.{bare_port, bare_ports, lane_on_bare, states_on_bare}
+use Rattle.iox_tables.proofs.HubBooks.Frames.{bare_lane, bare_port, bare_ports, lane_on_bare, states_on_bare}
 use Rattle.iox_tables.proofs.HubBooks.HandleTotals.{handle_dropped}
 use Rattle.iox_tables.proofs.HubBooks.LaneCounts.{fewer_taken}
 use Rattle.iox_tables.proofs.HubBooks.LaneLists.{lanes_same}
@@ -35,7 +35,12 @@ use Rattle.iox_tables.proofs.HubKeeping.Ordered.{each_used, names_apart}
 use Rattle.iox_control.specs.Controls.{AreCounted, ControlState, IsControl}
 use Rattle.iox_control.proofs.RoomLemmas.{lane_seats, room_as, seats_of, states_seats}
 use Rattle.iox_control_releasing.specs.Endings.{given_up_as, own_way, with_ended}
-use Rattle.iox_control_releasing.proofs.Settling.{let_go_bare}
+use Rattle.iox_slots.proofs.BareLemmas.{let_go_bare}
+use Rattle.std.proofs.lemmas.Bool.{or_parts}
+use Rattle.iox_tables.proofs.HubBooks.Left.{total_ones}
+use Rattle.iox_tables.proofs.HubBooks.Alike.{loans_stay, sums_stay}
+use Rattle.iox_tables.proofs.HubStates.Keys.{flip}
+use Rattle.std.specs.List.{swap_remove}
 
 -- ---- what is given up
 
@@ -47,24 +52,6 @@ record GivesUp (t : HubTables) (ports : List PortState) (more : ℕ) : Type 0 wh
   sums : (f : PortState → ℕ) → ((p : PortState) → f (bare_port p) ≡ f p) → total f ports ≡ total f t.ports
   ones : on_lanes (λ l. 1) ports ≡ on_lanes (λ l. 1) t.ports
   spares : on_lanes spare ports ≤ on_lanes spare t.ports + more
-
-bare_total : (f : PortState → ℕ) → ((p : PortState) → f (bare_port p) ≡ f p) → (ports : List PortState) → total f (bare_ports ports) ≡ total f ports
-bare_total f same [] = refl
-bare_total f same (p ∷ ps) = ap₂ (λ (a b : ℕ). a + b) (same p) (bare_total f same ps)
-
-bare_all : (n : ℕ) (ports : List PortState) → OfAll (λ p. p.loans ≤ n) ports → OfAll (λ p. p.loans ≤ n) (bare_ports ports)
-bare_all n [] a = a
-bare_all n (p ∷ ps) a = (a.0, bare_all n ps a.1)
-
-all_bare : (n : ℕ) (ports : List PortState) → OfAll (λ p. p.loans ≤ n) (bare_ports ports) → OfAll (λ p. p.loans ≤ n) ports
-all_bare n [] a = a
-all_bare n (p ∷ ps) a = (a.0, all_bare n ps a.1)
-
-loans_as : (n : ℕ) (new old : List PortState) → bare_ports new ≡ bare_ports old → OfAll (λ p. p.loans ≤ n) old → OfAll (λ p. p.loans ≤ n) new
-loans_as n new old same a = all_bare n new (subst (OfAll (λ p. p.loans ≤ n)) (sym same) (bare_all n old a))
-
-sums_as : (new old : List PortState) → bare_ports new ≡ bare_ports old → (f : PortState → ℕ) → ((p : PortState) → f (bare_port p) ≡ f p) → total f new ≡ total f old
-sums_as new old same f bare = sym (bare_total f bare new) ∙ ap (total f) same ∙ bare_total f bare old
 
 nothing_up : (t : HubTables) → GivesUp t t.ports 0
 nothing_up t = record {
@@ -82,18 +69,14 @@ nothing_up t = record {
 states_up : (t : HubTables) (ports : List PortState) (id more : ℕ) (ws : List Way) → GivesUp t ports more → GivesUp t (with_states_on (λ r. closed_for r id) ports ws) more
 states_up t ports id more ws up = record {
   seats = states_seats (λ r. closed_for r id) ports ws ∙ up.seats;
-  loans = λ a. loans_as t.calls (with_states_on (λ r. closed_for r id) ports ws) ports (states_on_bare (λ r. closed_for r id) ports ws) (up.loans a);
+  loans = λ a. loans_stay t.calls ports (with_states_on (λ r. closed_for r id) ports ws) (states_on_bare (λ r. closed_for r id) ports ws) (up.loans a);
   deliveries = λ a. states_keep (λ r. closed_for r id) (λ l. l.deliveries ≤ t.calls) ports ws (up.deliveries a);
-  sums = λ f same. sums_as (with_states_on (λ r. closed_for r id) ports ws) ports (states_on_bare (λ r. closed_for r id) ports ws) f same ∙ up.sums f same;
+  sums = λ f same. sums_stay f same ports (with_states_on (λ r. closed_for r id) ports ws) (states_on_bare (λ r. closed_for r id) ports ws) ∙ up.sums f same;
   ones = states_total (λ r. closed_for r id) (λ l. 1) ports ws ∙ up.ones;
   spares = subst (λ k. k ≤ on_lanes spare t.ports + more) (sym (states_total (λ r. closed_for r id) spare ports ws)) up.spares;
 }
 
 -- ---- one message is given back
-
-ones_long : (ks : List ℕ) → total (λ n. 1) ks ≡ length ks
-ones_long [] = refl
-ones_long (k ∷ ks) = let more = ones_long ks in omega (arith, more)
 
 spare_back : (k : ℕ) (l : LaneState) → spare (released l k) ≤ spare l + 1
 spare_back k l = step (is_taken l k) refl
@@ -102,49 +85,49 @@ spare_back k l = step (is_taken l k) refl
     sums limit a b c d e f g = omega (arith, e, f, g)
 
     same_limit : (without_taken l k).limit ≡ l.limit
-    same_limit = over (Rattle.iox_lanes.specs.Lanes.rank_in l.taken k)
+    same_limit = over (rank_in l.taken k)
       where
-        over : (o : Option ℕ) → (option_map_or (λ i. record l { taken = Rattle.std.specs.List.swap_remove l.taken i k }) o l).limit ≡ l.limit
+        over : (o : Option ℕ) → (option_map_or (λ i. record l { taken = swap_remove l.taken i k }) o l).limit ≡ l.limit
         over (Some i) = refl
         over None = refl
 
     step : (b : Bool) → is_taken l k ≡ b
-        → spare (if b then Rattle.iox_lanes.specs.Lanes.with_returned (without_taken l k) k else l) ≤ spare l + 1
+        → spare (if b then with_returned (without_taken l k) k else l) ≤ spare l + 1
     step true e =
         subst (λ m. m - length (without_taken l k).taken ≤ spare l + 1) (sym same_limit)
-        (sums l.limit _ _ _ _ (fewer_taken (λ n. 1) l k e) (sym (ones_long (without_taken l k).taken)) (sym (ones_long l.taken)))
+        (sums l.limit _ _ _ _ (fewer_taken (λ n. 1) l k e) (sym (total_ones (without_taken l k).taken)) (sym (total_ones l.taken)))
     step false e = omega arith
 
 deliveries_back : (k : ℕ) (l : LaneState) → (released l k).deliveries ≡ l.deliveries
 deliveries_back k l = step (is_taken l k)
   where
-    inner : (o : Option ℕ) → (option_map_or (λ i. record l { taken = Rattle.std.specs.List.swap_remove l.taken i k }) o l).deliveries ≡ l.deliveries
+    inner : (o : Option ℕ) → (option_map_or (λ i. record l { taken = swap_remove l.taken i k }) o l).deliveries ≡ l.deliveries
     inner (Some i) = refl
     inner None = refl
 
-    step : (b : Bool) → (if b then Rattle.iox_lanes.specs.Lanes.with_returned (without_taken l k) k else l).deliveries ≡ l.deliveries
-    step true = inner (Rattle.iox_lanes.specs.Lanes.rank_in l.taken k)
+    step : (b : Bool) → (if b then with_returned (without_taken l k) k else l).deliveries ≡ l.deliveries
+    step true = inner (rank_in l.taken k)
     step false = refl
 
-pub bare_back : (k : ℕ) (l : LaneState) → Rattle.iox_tables.proofs.HubBooks.Frames.bare_lane (released l k) ≡ Rattle.iox_tables.proofs.HubBooks.Frames.bare_lane l
+pub bare_back : (k : ℕ) (l : LaneState) → bare_lane (released l k) ≡ bare_lane l
 bare_back k l = step (is_taken l k)
   where
     inner : (o : Option ℕ)
-        → Rattle.iox_tables.proofs.HubBooks.Frames.bare_lane (Rattle.iox_lanes.specs.Lanes.with_returned (option_map_or (λ i. record l { taken = Rattle.std.specs.List.swap_remove l.taken i k }) o l) k)
-        ≡ Rattle.iox_tables.proofs.HubBooks.Frames.bare_lane l
+        → bare_lane (with_returned (option_map_or (λ i. record l { taken = swap_remove l.taken i k }) o l) k)
+        ≡ bare_lane l
     inner (Some i) = refl
     inner None = refl
 
-    step : (b : Bool) → Rattle.iox_tables.proofs.HubBooks.Frames.bare_lane (if b then Rattle.iox_lanes.specs.Lanes.with_returned (without_taken l k) k else l) ≡ Rattle.iox_tables.proofs.HubBooks.Frames.bare_lane l
-    step true = inner (Rattle.iox_lanes.specs.Lanes.rank_in l.taken k)
+    step : (b : Bool) → bare_lane (if b then with_returned (without_taken l k) k else l) ≡ bare_lane l
+    step true = inner (rank_in l.taken k)
     step false = refl
 
 back_up : (t : HubTables) (k : ℕ) (w : Way) → GivesUp t (with_lane_on (λ l. released l k) t.ports w) 1
 back_up t k w = record {
   seats = lane_seats (λ l. released l k) t.ports w;
-  loans = loans_as t.calls (with_lane_on (λ l. released l k) t.ports w) t.ports bare;
+  loans = loans_stay t.calls t.ports (with_lane_on (λ l. released l k) t.ports w) bare;
   deliveries = lane_keeps (λ l. l.deliveries ≤ t.calls) (λ l. released l k) t.ports w (λ l a. subst (λ n. n ≤ t.calls) (sym (deliveries_back k l)) a);
-  sums = sums_as (with_lane_on (λ l. released l k) t.ports w) t.ports bare;
+  sums = λ f same. sums_stay f same t.ports (with_lane_on (λ l. released l k) t.ports w) bare;
   ones = lanes_same (λ l. 1) (λ l. released l k) (λ l. refl) t.ports (w ∷ []);
   spares = step (lane_on t.ports w) (lane_total spare (λ l. released l k) t.ports w);
 }
@@ -200,8 +183,8 @@ one_port true n (p ∷ ps) apart = step (n == p.number) refl (one_port true n ps
     nobody : (ks : List PortState) → has_number n (numbers_of ks) ≡ false → total (λ q. if true && (n == q.number) then 1 else 0) ks ≡ 0
     nobody [] e = refl
     nobody (q ∷ qs) e =
-        let parts = Rattle.iox_control_releasing.proofs.Senders.neither (q.number == n) (has_number n (numbers_of qs)) e in
-        ap₂ (λ (b : Bool) (k : ℕ). (if b then 1 else 0) + k) (Rattle.iox_tables.proofs.HubStates.Keys.flip n q.number ∙ parts.0) (nobody qs parts.1)
+        let parts = or_parts (q.number == n) (has_number n (numbers_of qs)) e in
+        ap₂ (λ (b : Bool) (k : ℕ). (if b then 1 else 0) + k) (flip n q.number ∙ parts.0) (nobody qs parts.1)
 
     step : (b : Bool) → (n == p.number) ≡ b → total (λ q. if true && (n == q.number) then 1 else 0) ps ≤ 1
         → (if b then 1 else 0) + total (λ q. if true && (n == q.number) then 1 else 0) ps ≤ 1
@@ -212,10 +195,6 @@ one_port true n (p ∷ ps) apart = step (n == p.number) refl (one_port true n ps
 own_more : (a b d : PortState → ℕ) → ((p : PortState) → a p ≤ b p + d p) → (ports : List PortState) → total a ports ≤ total b ports + total d ports
 own_more a b d each [] = omega arith
 own_more a b d each (p ∷ ps) = let one = each p in let rest = own_more a b d each ps in omega (arith, one, rest)
-
-long : (hs : List HandleState) → total (λ h. 1) hs ≡ length hs
-long [] = refl
-long (h ∷ hs) = let more = long hs in omega (arith, more)
 
 one_of_both : (k : Kind) → (if is_own k then 1 else 0) + more_received k ≤ 1
 one_of_both kinds.PendingResponse = omega arith
@@ -230,7 +209,7 @@ one_of_both kinds.ResponseMut = omega arith
 
 -- ---- the tables stay in order
 
-in_order : (t : HubTables) (h : HandleState) (pools : List (Option PoolState)) → AreInOrder t → IsHandle t h.node h.number h → HasFewerHolders t.pools pools h
+in_order : (t : HubTables) (h : HandleState) (pools : List (Option PoolState)) → AreInOrder t → IsHandle t h.node h.number h → HasOneHolderLess t.pools pools h
     → (k : Kind) → h.kind ≡ k → AreInOrder (record (with_dropped (given_up_as k t h) h.node h.number) { pools = pools })
 in_order t h pools order named fewer kinds.PendingResponse e = pending_releases_keep_order t h.node h.number h pools order named e fewer
 in_order t h pools order named fewer kinds.ActiveRequest e = request_releases_keep_order t h.node h.number h (own_way t h) pools order named (ap is_received e) fewer
@@ -260,7 +239,7 @@ module _ (c new : ControlState) (h : HandleState) (order : IsControl c) (named :
     abbrev own : List HandleState → PortState → ℕ
     own hs p = p.size - own_count hs p
 
-    fewer : HasFewerHolders t.pools pools h
+    fewer : HasOneHolderLess t.pools pools h
     fewer = record {
       same = let_go_bare t.pools h.pool h.slot;
       holders = λ pool k. step pool k (is_at pool k h) refl;
@@ -322,8 +301,8 @@ module _ (c new : ControlState) (h : HandleState) (order : IsControl c) (named :
     held =
         let ones = given.ones in
         let less = one_less (λ g. 1) in
-        let a = long left in
-        let b = long t.handles in
+        let a = total_ones left in
+        let b = total_ones t.handles in
         let was : CanCountHolders c.room t = order.holders in
         omega (arith, ones, less, a, b, was)
 

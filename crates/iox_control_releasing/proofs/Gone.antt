@@ -22,7 +22,7 @@ use Rattle.iox_tables.proofs.HubMaking.Pooling.{free_pools_may_go}
 use Rattle.iox_tables.proofs.HubMaking.Rooming.{room_always_stays}
 use Rattle.iox_tables.proofs.HubMaking.Summing.{gone_lanes_count}
 use Rattle.iox_tables.specs.HubKeeping.Connected.{IsFreePlace}
-use Rattle.iox_tables.specs.HubKeeping.Keeps.{HasFewerHolders, lost_uses}
+use Rattle.iox_tables.specs.HubKeeping.Keeps.{lost_uses}
 use Rattle.iox_tables.proofs.HubKeeping.GonePools.{pools_may_go}
 use Rattle.iox_tables.proofs.HubKeeping.LeftHandles.{disconnections_keep_order}
 use Rattle.iox_tables.proofs.HubKeeping.Ordered.{lanes_sum, places_become_free}
@@ -34,16 +34,10 @@ use Rattle.iox_control_releasing.proofs.Removed.{goes_with, ports_left}
 use Rattle.iox_control_releasing.proofs.Lefts.{info_none}
 use Rattle.iox_control_releasing.proofs.Settling.{both_go}
 use Rattle.iox_control_releasing.proofs.Walks.{all_from}
+use Rattle.iox_tables.specs.HubLending.Emptying.{HasFewerHolders}
+use Rattle.iox_tables.proofs.HubKeeping.LeftPorts.{all_filter}
 
 -- ---- what is so of ports and lanes is so of those that are left
-
-all_filter : {A : Type 0} (P : A → Type 0) (test : A → Bool) (xs : List A) → OfAll P xs → OfAll P (filter test xs)
-all_filter P test [] a = tt
-all_filter P test (x ∷ xs) a = step (test x) (all_filter P test xs a.1)
-  where
-    step : (b : Bool) → OfAll P (filter test xs) → OfAll P (if b then x ∷ filter test xs else filter test xs)
-    step true rest = (a.0, rest)
-    step false rest = rest
 
 all_mapped : (P : PortState → Type 0) (g : PortState → PortState) → ((p : PortState) → P p → P (g p)) → (ps : List PortState) → OfAll P ps → OfAll P (map g ps)
 all_mapped P g same [] a = tt

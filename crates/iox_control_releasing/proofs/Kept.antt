@@ -15,7 +15,7 @@ use Rattle.iox_slots.specs.Pools.{is_idle, with_slot, without_pool}
 use Rattle.iox_slots.specs.Slots.{is_free, let_go}
 use Rattle.iox_slots.proofs.PlaceLemmas.{removed_pool}
 use Rattle.iox_control_releasing.specs.Goings.{KeptPools, NoLeftPool, with_left_pool_gone}
-use Rattle.iox_control_releasing.proofs.Settling.{let_go_bare}
+use Rattle.iox_slots.proofs.BareLemmas.{let_go_bare}
 
 -- ---- pools are kept
 

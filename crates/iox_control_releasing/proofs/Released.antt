@@ -37,7 +37,7 @@ use Rattle.iox_control.specs.Entries.{handle_state}
 use Rattle.iox_control.proofs.WholeLemmas.{is_whole_of}
 use Rattle.iox_control_releasing.specs.Endings.{given_up_as, with_ended}
 use Rattle.iox_control_releasing.specs.Named.{IsNamed}
-use Rattle.iox_control_releasing.proofs.Settling.{let_go_bare}
+use Rattle.iox_slots.proofs.BareLemmas.{let_go_bare}
 
 -- ---- what is given up, as code does it
 

@@ -3,7 +3,7 @@ use Rattle.std.specs.Prelude.{◌≡◌, ℕ, ◌+◌, Bool, true, false, ◌||�
 use Rattle.std.specs.List.{sum_by}
 use Rattle.std.specs.Option.{option_map_or}
 use Rattle.std.proofs.Common.{sym, ap, ap₂, subst, ◌∙◌, arith, true≢false, eqb-true}
-use Rattle.std.proofs.lemmas.Bool.{or_left, or_right}
+use Rattle.std.proofs.lemmas.Bool.{or_left, or_parts, or_right}
 use Rattle.std.proofs.lemmas.Option.{none-some, same_Some}
 use Rattle.iox_model.specs.declared.kind.Role.{Role}
 use Rattle.iox_model.specs.declared.kind.Role.TheVariants.{Client, Server}
@@ -15,19 +15,20 @@ use Rattle.iox_lanes.specs.Pipes.{PipeState}
 use Rattle.iox_tables.specs.HubStates.Tables.{HubTables, PortState, numbers_of, pipe_from, port_in, senders_of}
 use Rattle.iox_tables.specs.HubStates.Wirings.{numbers_of_role}
 use Rattle.iox_tables.proofs.HubStates.Fixing.{first_key}
-use Rattle.iox_hub_ports.specs.Ports.{without_first_by, without_pipe_from, without_port}
+use Rattle.iox_hub_ports.specs.Ports.{without_pipe_from, without_port}
 use Rattle.iox_tables.specs.HubBooks.Counts.{OfAll, in_pipe, in_port, total}
 use Rattle.iox_tables.specs.HubBooks.Hubs.{AreInOrder}
 use Rattle.iox_tables.specs.HubMaking.Disconnections.{with_disconnected}
 use Rattle.iox_tables.specs.HubMaking.LaneSums.{sum_in_pipe, sum_in_port, sum_that_goes}
 use Rattle.iox_tables.specs.HubMaking.OneByOne as making
 use Rattle.iox_tables.proofs.HubMaking.Firsts.{has_first}
-use Rattle.iox_tables.proofs.HubMaking.Removing.{ports_go_one_by_one}
+use Rattle.iox_tables.proofs.HubMaking.Removing.{distinct_behind, ports_go_one_by_one, senders_append}
 use Rattle.iox_tables.specs.HubKeeping.Connected.{KeepsNone}
 use Rattle.iox_tables.proofs.HubKeeping.Ordered.{are_connected, names_apart, total_sum}
 use Rattle.iox_control.specs.Controls.{ControlState}
 use Rattle.iox_control_releasing.specs.LettingGo.{AreFrom, from_in}
-use Rattle.iox_control_releasing.proofs.Senders.{first_goes, neither}
+use Rattle.iox_control_releasing.proofs.Senders.{first_goes}
+use Rattle.iox_tables.specs.HubMaking.OneByOne.{without_first_by}
 
 -- ---- those that send to it are left
 
@@ -74,14 +75,6 @@ from_all ns (q ∷ qs) all = (
   from_all ns qs (λ k h. all k (or_right (q.sender == k) (has_number k (senders_of qs)) h)),
 )
 
-distinct_behind : (ks ns : List ℕ) → AreDistinct (ks ++ ns) → AreDistinct ns
-distinct_behind [] ns apart = apart
-distinct_behind (k ∷ ks) ns apart = distinct_behind ks ns apart.1
-
-senders_append : (ps qs : List PipeState) → senders_of (ps ++ qs) ≡ senders_of ps ++ senders_of qs
-senders_append [] qs = refl
-senders_append (p ∷ ps) qs = ap (λ ks. p.sender ∷ ks) (senders_append ps qs)
-
 other_differs : (r : Role) → same_role r (other_role r) ≡ false
 other_differs Client = refl
 other_differs Server = refl
@@ -106,7 +99,7 @@ module _ (t : HubTables) (order : AreInOrder t) where
 
 all_not : {A : Type 0} (key : A → ℕ) (n : ℕ) (xs : List A) → has_number n (map key xs) ≡ false → OfAll (λ x. (key x == n) ≡ false) xs
 all_not key n [] e = tt
-all_not key n (x ∷ xs) e = let parts = neither (key x == n) (has_number n (map key xs)) e in (parts.0, all_not key n xs parts.1)
+all_not key n (x ∷ xs) e = let parts = or_parts (key x == n) (has_number n (map key xs)) e in (parts.0, all_not key n xs parts.1)
 
 others_left : {A : Type 0} (key : A → ℕ) (n : ℕ) (xs : List A) → AreDistinct (map key xs) → OfAll (λ x. (key x == n) ≡ false) (without_first_by key xs n)
 others_left key n [] apart = tt
@@ -148,7 +141,7 @@ total_all f g P Q same (x ∷ xs) a b = ap₂ (λ (m n : ℕ). m + n) (same x a.
 none_of : (g : PipeState → ℕ) (n : ℕ) (qs : List PipeState) → has_number n (senders_of qs) ≡ false → total g (filter (λ q. q.sender == n) qs) ≡ 0
 none_of g n [] e = refl
 none_of g n (q ∷ qs) e =
-    let parts = neither (q.sender == n) (has_number n (senders_of qs)) e in
+    let parts = or_parts (q.sender == n) (has_number n (senders_of qs)) e in
     ap (λ (b : Bool). total g (if b then q ∷ filter (λ r. r.sender == n) qs else filter (λ r. r.sender == n) qs)) parts.0
     ∙ none_of g n qs parts.1
 

@@ -7,9 +7,10 @@ use Rattle.iox_model.specs.Maps.{AreDistinct, has_number}
 use Rattle.iox_lanes.specs.Pipes.{PipeState}
 use Rattle.iox_tables.specs.HubStates.Tables.{first_by, senders_of}
 use Rattle.iox_tables.proofs.HubStates.Keys.{flip}
-use Rattle.iox_hub_ports.specs.Ports.{without_first_by}
 use Rattle.iox_tables.specs.HubBooks.Counts.{total}
 use Rattle.iox_control_releasing.specs.LettingGo.{AreFrom}
+use Rattle.iox_tables.specs.HubMaking.OneByOne.{without_first_by}
+use Rattle.std.proofs.lemmas.Bool.{or_parts}
 
 -- ---- lists
 
@@ -45,10 +46,6 @@ either : (a b : Bool) → a ≡ false → (a || b) ≡ true → b ≡ true
 either true b e h = absurd (true≢false e)
 either false b e h = h
 
-pub neither : (a b : Bool) → (a || b) ≡ false → (a ≡ false) × (b ≡ false)
-neither true b e = absurd (true≢false e)
-neither false b e = (refl, e)
-
 abbrev gone : List PipeState → ℕ → List PipeState
 gone qs m = without_first_by (λ q. q.sender) qs m
 
@@ -56,7 +53,7 @@ gone qs m = without_first_by (λ q. q.sender) qs m
 all_else : (m : ℕ) (ns : List ℕ) (qs : List PipeState) → has_number m (senders_of qs) ≡ false → AreFrom (m ∷ ns) qs → AreFrom ns qs
 all_else m ns [] off from = tt
 all_else m ns (q ∷ qs) off from =
-    let parts = neither (q.sender == m) (has_number m (senders_of qs)) off in
+    let parts = or_parts (q.sender == m) (has_number m (senders_of qs)) off in
     (either (m == q.sender) (has_number q.sender ns) (flip m q.sender ∙ parts.0) from.0, all_else m ns qs parts.1 from.1)
 
 -- once the pipe of a number is gone, all are from the others
@@ -71,7 +68,7 @@ from_left m ns (q ∷ qs) apart from = step (q.sender == m) refl (from_left m ns
 none_left : (k m : ℕ) (qs : List PipeState) → has_number k (senders_of qs) ≡ false → has_number k (senders_of (gone qs m)) ≡ false
 none_left k m [] e = e
 none_left k m (q ∷ qs) e =
-    let parts = neither (q.sender == k) (has_number k (senders_of qs)) e in
+    let parts = or_parts (q.sender == k) (has_number k (senders_of qs)) e in
     step (q.sender == m) parts.0 parts.1 (none_left k m qs parts.1)
   where
     step : (b : Bool) → (q.sender == k) ≡ false → has_number k (senders_of qs) ≡ false → has_number k (senders_of (gone qs m)) ≡ false

@@ -34,7 +34,7 @@ use Rattle.iox_control_releasing.specs.Endings.{given_up_as, own_way, with_ended
 use Rattle.iox_control_releasing.specs.Goings.{KeptPools, NoLeftPool, StaysTidy}
 use Rattle.iox_control_releasing.proofs.Ended.{bare_back}
 use Rattle.iox_control_releasing.proofs.Kept.{kept_bare}
-use Rattle.iox_control_releasing.proofs.Settling.{let_go_bare}
+use Rattle.iox_slots.proofs.BareLemmas.{let_go_bare}
 
 -- ---- who has messages of a pool whose port is gone
 

@@ -17,7 +17,8 @@ use Rattle.iox_control.specs.Controls.{ControlState, with_pools, with_ports}
 use Rattle.iox_control_releasing.specs.LettingGo.{AreFrom, LetsGo, cut_at, from_in, with_cut}
 use Rattle.iox_control_releasing.proofs.Settling.{Settles, goes_on, pools_again, settled}
 use Rattle.iox_control_releasing.proofs.Settling as settling
-use Rattle.iox_control_releasing.proofs.Senders.{apart_left, drop_none, drop_some, first_goes, from_left, from_nobody, neither}
+use Rattle.iox_control_releasing.proofs.Senders.{apart_left, drop_none, drop_some, first_goes, from_left, from_nobody}
+use Rattle.std.proofs.lemmas.Bool.{or_parts}
 
 -- ---- the port in a place
 
@@ -204,8 +205,8 @@ cut_port f (q ∷ qs) (suc i) p apart e =
   where
     number_in : (rs : List PortState) (j : ℕ) → slice_get rs j ≡ Some p → has_number q.number (numbers_of rs) ≡ false → (p.number == q.number) ≡ false
     number_in [] j e off = absurd (none-some p e)
-    number_in (r ∷ rs) zero e off = ap (λ (x : PortState). x.number == q.number) (sym (same_Some r p e)) ∙ (neither (r.number == q.number) (has_number q.number (numbers_of rs)) off).0
-    number_in (r ∷ rs) (suc j) e off = number_in rs j e (neither (r.number == q.number) (has_number q.number (numbers_of rs)) off).1
+    number_in (r ∷ rs) zero e off = ap (λ (x : PortState). x.number == q.number) (sym (same_Some r p e)) ∙ (or_parts (r.number == q.number) (has_number q.number (numbers_of rs)) off).0
+    number_in (r ∷ rs) (suc j) e off = number_in rs j e (or_parts (r.number == q.number) (has_number q.number (numbers_of rs)) off).1
 
     other : (q.number == p.number) ≡ false
     other = flip q.number p.number ∙ number_in qs i e apart.0

@@ -9,8 +9,8 @@ ghost use Rattle.iox_control_releasing.specs.LettingGo.{LetsGo, cut_at, from_in,
 use crate::letting_go::let_pipe_go;
 use iox_control::Control;
 
-/// Takes the pipe from the sender to the port in that place out, if there is one, and lets go of all
-/// messages on it.
+/// Takes the pipe from the sender to the port in that place out, if there is one, and lets go of
+/// all messages on it.
 fn cut_at(control: &mut Control, at: usize, sender: u64)
     ensures left { control.new ≡ with_cut control.old
         (cut_at sender control.old.tables.ports at) control.new.tables.pools }

@@ -4,7 +4,8 @@ ghost use Rattle.iox_tables.specs.HubStates.States.{Given, state_shown};
 ghost use Rattle.iox_tables.specs.HubStates.Tables.{PortState, port_in};
 ghost use Rattle.iox_tables.specs.HubBooks.Counts.{in_port, lane_count};
 ghost use Rattle.iox_tables.specs.HubBooks.Hubs.{AreInOrder};
-ghost use Rattle.iox_tables.specs.HubKeeping.Keeps.{HasFewerHolders, lost_uses};
+ghost use Rattle.iox_tables.specs.HubKeeping.Keeps.{lost_uses};
+ghost use Rattle.iox_tables.specs.HubLending.Emptying.{HasFewerHolders};
 ghost use Rattle.iox_tables.specs.HubMaking.Disconnections.{is_unused, with_disconnected, with_released};
 ghost use Rattle.iox_hub_ports.specs.Ports.{without_port};
 ghost use Rattle.std.specs.Option.{option_map_or};
@@ -62,8 +63,8 @@ pub fn drop_pool(control: &mut Control, place: usize)
     }
 }
 
-/// The port goes, of which nothing is left: with it go its pipes, and the messages on them. It tells
-/// the place of the port's pool, which stays.
+/// The port goes, of which nothing is left: with it go its pipes, and the messages on them. It
+/// tells the place of the port's pool, which stays.
 fn take_port(control: &mut Control, port: u64) -> Option<usize>
     requires order { IsControl control.old }
     requires unused { is_unused control.old.tables port ≡ true }
@@ -82,8 +83,8 @@ fn take_port(control: &mut Control, port: u64) -> Option<usize>
     pool
 }
 
-/// The port goes if nothing of it is left: neither its own value nor a handle. Its pool goes with it,
-/// unless somebody still has a message of that.
+/// The port goes if nothing of it is left: neither its own value nor a handle. Its pool goes with
+/// it, unless somebody still has a message of that.
 pub fn disconnect_if_unused(control: &mut Control, port: u64)
     requires order { IsControl control.old }
     ensures left { control.new.tables

@@ -64,9 +64,10 @@ fn give_up(control: &mut Control, entry: Entry)
 /// Ends the handle: nobody has it or its message by it, and its port stays.
 fn end_handle(control: &mut Control, entry: Entry, hint: usize)
     requires named { IsHandle control.old.tables entry.node entry.number (handle_state entry) }
-    ensures left { control.new.tables ≡ record (with_ended control.old.tables (handle_state entry)) {
-      pools = with_slot let_go control.old.tables.pools entry.pool entry.slot;
-    } }
+    ensures left { control.new.tables
+        ≡ record (with_ended control.old.tables (handle_state entry)) {
+          pools = with_slot let_go control.old.tables.pools entry.pool entry.slot;
+        } }
     ensures room { control.new.room ≡ control.old.room + 1 }
 {
     give_up(control, entry);

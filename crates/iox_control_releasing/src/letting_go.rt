@@ -37,7 +37,8 @@ pub fn let_pipe_go(control: &mut Control, pipe: Pipe)
     }
 }
 
-/// Takes the pipe from that sender off the port, if there is one, and lets go of all messages on it.
+/// Takes the pipe from that sender off the port, if there is one, and lets go of all messages on
+/// it.
 fn let_sender_go(control: &mut Control, port: &mut Port, sender: u64)
     ensures port { port.new ≡ without_pipe_from port.old sender }
     ensures left { control.new ≡ with_pools control.old control.new.tables.pools }

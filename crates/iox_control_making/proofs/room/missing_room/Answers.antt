@@ -3,8 +3,8 @@ use Rattle.iox_handles.specs.declared.entry.Entry.{Entry}
 use Rattle.iox_tables.specs.HubStates.Tables.{HandleState, HubSettings}
 use Rattle.iox_control.specs.Entries.{handle_state}
 use Rattle.iox_control_making.specs.Sizes.{all_handles}
-use Rattle.iox_control_making.proofs.Counting.{length_map}
 use Rattle.iox_control_making.proofs.room.missing_room.Goals as goal
+use Rattle.iox_tables.proofs.HubBooks.Frames.{length_map}
 
 all_pass : (test : Entry → Bool) → ((e : Entry) → test e ≡ true) → (es : List Entry) → length (filter test es) ≡ length es
 all_pass test pass [] = refl
