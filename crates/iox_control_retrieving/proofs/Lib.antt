@@ -1,5 +1,6 @@
 pub mod KeptInOrder
 pub mod OneWay
+pub mod AtPlaces
 pub mod Together
 pub mod Infos
 pub mod Lanes

@@ -114,7 +114,7 @@ module _ (c : ControlState) (port : ℕ) (from : PortInfo) (order : IsControl c)
   pub begins : GetsBack c (ways_before 0) c
   begins = subst (λ ws. GetsBack c ws c) (sym (ways_of_none (λ p. ways_to from.role c.tables from.number (info_of p)) c.tables.ports)) (gets_nothing c order)
 
-  number_is : from.number ≡ port
+  pub number_is : from.number ≡ port
   number_is =
       let r = some_map info_of (port_in c.tables.ports port) from said in
       sym (ap (λ (i : PortInfo). i.number) r.2) ∙ first_key (λ (p : PortState). p.number) c.tables.ports port r.0 r.1

@@ -5,4 +5,4 @@ mod one_way;
 mod port;
 
 pub use one_way::retrieve;
-pub use port::retrieve_all;
+pub use port::{retrieve_all, retrieve_all_of};

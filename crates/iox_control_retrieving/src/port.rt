@@ -1,29 +1,31 @@
 //! What was given back to one port.
-ghost use Rattle.std.specs.Prelude.{◌≡◌, Some};
+ghost use Rattle.std.specs.Prelude.{◌≡◌, Some, slice_get};
 ghost use Rattle.iox_model.specs.declared.kind.Role.TheVariants.{Client, Server};
-ghost use Rattle.iox_tables.specs.HubStates.Tables.{PortState, port_in};
+ghost use Rattle.iox_tables.specs.HubStates.Tables.{PortState, numbers_of, port_in};
 ghost use Rattle.iox_hub_ports.specs.Ports.{info_in};
 ghost use Rattle.iox_tables.specs.HubLoans.Lenders.{ways_to_client};
 ghost use Rattle.iox_tables.specs.HubLending.Emptying.{AreGotBack, with_back};
 ghost use Rattle.iox_control.specs.Controls.{IsControl, with_tables};
 ghost use Rattle.iox_control_retrieving.specs.Retrieving.{GetsBack, ways_to};
 
-use crate::one_way::retrieve;
+use crate::one_way::retrieve_at;
 use iox_control::Control;
 use iox_hub_ports::info::PortInfo;
 use iox_model::kind::Role;
 use iox_model::way::Way;
 
-/// Gets back all that the client gave back to the server, lane after lane on which there is
-/// something.
-fn retrieve_lanes(control: &mut Control, server: PortInfo, client: PortInfo)
+/// Gets back all that the client in that place gave back to the server, lane after lane on which
+/// there is something.
+fn retrieve_lanes(control: &mut Control, server: &PortInfo, at: usize, client: &PortInfo)
     requires order { IsControl control.old }
-    requires from { info_in control.old.tables.ports server.number ≡ Some server }
-    requires to { info_in control.old.tables.ports client.number ≡ Some client }
-    requires server { server.role ≡ Server }
-    requires client { client.role ≡ Client }
+    requires from { info_in control.old.tables.ports server.now.number ≡ Some server.now }
+    requires to { info_in control.old.tables.ports client.now.number ≡ Some client.now }
+    requires place { slice_get (numbers_of control.old.tables.ports) at
+        ≡ Some client.now.number }
+    requires server { server.now.role ≡ Server }
+    requires client { client.now.role ≡ Client }
     ensures { GetsBack control.old
-        (ways_to_client control.old.tables server.number client.number) control.new }
+        (ways_to_client control.old.tables server.now.number client.now.number) control.new }
 {
     while let Some(lane) = control.lane_to_get(server.number, client.number) {
         let way = Way {
@@ -31,17 +33,18 @@ fn retrieve_lanes(control: &mut Control, server: PortInfo, client: PortInfo)
             receiver: client.number,
             lane: lane as u64,
         };
-        retrieve(control, way, server.pool);
+        retrieve_at(control, at, way, server.pool);
     }
 }
 
-/// Gets back all that the one port gave back to the other.
-fn retrieve_from(control: &mut Control, sender: PortInfo, to: PortInfo)
+/// Gets back all that the one port gave back to the other, which is in that place.
+fn retrieve_from(control: &mut Control, sender: &PortInfo, at: usize, to: &PortInfo)
     requires order { IsControl control.old }
-    requires from { info_in control.old.tables.ports sender.number ≡ Some sender }
-    requires to { info_in control.old.tables.ports to.number ≡ Some to }
+    requires from { info_in control.old.tables.ports sender.now.number ≡ Some sender.now }
+    requires to { info_in control.old.tables.ports to.now.number ≡ Some to.now }
+    requires place { slice_get (numbers_of control.old.tables.ports) at ≡ Some to.now.number }
     ensures { GetsBack control.old
-        (ways_to sender.role control.old.tables sender.number to) control.new }
+        (ways_to sender.now.role control.old.tables sender.now.number to.now) control.new }
 {
     match (sender.role, to.role) {
         (Role::Client, Role::Server) => {
@@ -50,10 +53,31 @@ fn retrieve_from(control: &mut Control, sender: PortInfo, to: PortInfo)
                 receiver: to.number,
                 lane: 0,
             };
-            retrieve(control, way, sender.pool);
+            retrieve_at(control, at, way, sender.pool);
         }
-        (Role::Server, Role::Client) => retrieve_lanes(control, sender, to),
+        (Role::Server, Role::Client) => retrieve_lanes(control, sender, at, to),
         _ => {}
+    }
+}
+
+/// Gets back all that was given back to a port of which that is said.
+pub fn retrieve_all_of(control: &mut Control, sender: &PortInfo)
+    requires order { IsControl control.old }
+    requires said { info_in control.old.tables.ports sender.now.number ≡ Some sender.now }
+    ensures left { (p : PortState)
+        → port_in control.old.tables.ports sender.now.number ≡ Some p
+        → control.new ≡ with_tables control.old
+        (with_back control.old.tables p control.new.tables.pools) }
+    ensures back { (p : PortState)
+        → port_in control.old.tables.ports sender.now.number ≡ Some p
+        → AreGotBack control.old.tables p control.new.tables.pools }
+    ensures order { IsControl control.new }
+{
+    for at in 0..control.ports().len() {
+        let Some(to) = control.ports().at(at) else {
+            unreachable!();
+        };
+        retrieve_from(control, sender, at, &to);
     }
 }
 
@@ -71,10 +95,5 @@ pub fn retrieve_all(control: &mut Control, port: u64)
     let Some(sender) = control.ports().find(port) else {
         unreachable!();
     };
-    for at in 0..control.ports().len() {
-        let Some(to) = control.ports().at(at) else {
-            unreachable!();
-        };
-        retrieve_from(control, sender, to);
-    }
+    retrieve_all_of(control, &sender);
 }

@@ -1,0 +1,67 @@
+-- Messages are got back from the port in a place: it is as on the way to that port.
+use Rattle.std.specs.Prelude.{◌≡◌, ℕ, List, [], ◌∷◌, Option, Some, None, slice_get}
+use Rattle.std.specs.Option.{option_map, option_map_or}
+use Rattle.std.proofs.Common.{sym, ap, ◌∙◌}
+use Rattle.std.proofs.lemmas.Option.{slice_get-map}
+use Rattle.iox_model.specs.declared.way.Way.{Way}
+use Rattle.iox_lanes.specs.Lanes.{LaneState, without_returned}
+use Rattle.iox_tables.specs.HubStates.Tables.{PortState, numbers_of}
+use Rattle.iox_tables.specs.HubStates.Ways.{with_lane_on}
+use Rattle.iox_tables.specs.HubStates.Changes.{emptied_lane, with_lanes}
+use Rattle.iox_tables.proofs.HubBooks.Frames.{some_map}
+use Rattle.iox_hub_ports.proofs.Keeping.{lane_keeps, lanes_keep}
+use Rattle.iox_hub_ports.specs.declared.info.PortInfo.{PortInfo}
+use Rattle.iox_hub_ports.specs.Ports.{info_at, info_of, on_way, on_way_at, way_from, with_lane_at}
+use Rattle.iox_slots.specs.Pools.{with_slot}
+use Rattle.iox_slots.specs.Slots.{let_go}
+use Rattle.iox_control.specs.Controls.{ControlState, with_pools, with_ports, with_tables}
+use Rattle.iox_control_retrieving.specs.Retrieving.{GetsBack}
+
+-- the port of that number is in that place
+abbrev pub IsInPlace : List PortState → ℕ → ℕ → Type 0
+IsInPlace ports at number = slice_get (numbers_of ports) at ≡ Some number
+
+module _ (ports : List PortState) (at : ℕ) (w : Way) (there : IsInPlace ports at w.receiver) where
+  found : (p : PortState) × (slice_get ports at ≡ Some p) × (p.number ≡ w.receiver)
+  found = some_map (λ (p : PortState). p.number) (slice_get ports at) w.receiver (sym (slice_get-map (λ (p : PortState). p.number) ports at) ∙ there)
+
+  pub told_there : {A : Type 0} (f : LaneState → A) (none : A) → on_way_at f none ports at w.sender w.lane ≡ on_way f none ports w
+  told_there f none =
+      ap (λ o. option_map_or (λ (p : PortState). on_way f none ports (way_from w.sender w.lane p.number)) o none) found.1
+      ∙ ap (λ n. on_way f none ports (way_from w.sender w.lane n)) found.2
+
+  pub changed_there : (g : LaneState → LaneState) → with_lane_at g ports at w.sender w.lane ≡ with_lane_on g ports w
+  changed_there g =
+      ap (λ o. option_map_or (λ (p : PortState). with_lane_on g ports (way_from w.sender w.lane p.number)) o ports) found.1
+      ∙ ap (λ n. with_lane_on g ports (way_from w.sender w.lane n)) found.2
+
+module _ (now mid new : ControlState) (at : ℕ) (w : Way) (there : IsInPlace now.tables.ports at w.receiver)
+    (got : mid ≡ with_ports now (with_lane_at without_returned now.tables.ports at w.sender w.lane)) where
+  -- what is left where a message was got back
+  pub taken_there : mid ≡ with_tables now (with_lanes without_returned now.tables (w ∷ []))
+  taken_there = got ∙ ap (λ ps. with_ports now ps) (changed_there now.tables.ports at w there without_returned)
+
+  -- and once it is let go
+  pub let_go_there : (pool slot : ℕ) → new ≡ with_pools mid (with_slot let_go mid.tables.pools pool slot)
+      → new ≡ with_pools (with_tables now (with_lanes without_returned now.tables (w ∷ []))) (with_slot let_go now.tables.pools pool slot)
+  let_go_there pool slot left = left ∙ ap (λ (d : ControlState). with_pools d (with_slot let_go d.tables.pools pool slot)) taken_there
+
+  -- the port is in its place still
+  pub stays_there : (pool slot : ℕ) → new ≡ with_pools mid (with_slot let_go mid.tables.pools pool slot) → IsInPlace new.tables.ports at w.receiver
+  stays_there pool slot left =
+      ap (λ (d : ControlState). slice_get (numbers_of d.tables.ports) at) (let_go_there pool slot left)
+      ∙ ap (λ ns. slice_get ns at) (lane_keeps without_returned now.tables.ports w)
+      ∙ there
+
+-- what is got back leaves ports in their places
+pub place_stays : (c new : ControlState) (ws : List Way) (at n : ℕ) → GetsBack c ws new → IsInPlace c.tables.ports at n → IsInPlace new.tables.ports at n
+place_stays c new ws at n got there =
+    ap (λ (d : ControlState). slice_get (numbers_of d.tables.ports) at) got.left
+    ∙ ap (λ ns. slice_get ns at) (lanes_keep emptied_lane c.tables.ports ws)
+    ∙ there
+
+-- a port is where that is said of it
+pub place_said : (ports : List PortState) (i : ℕ) (to : PortInfo) → Some to ≡ info_at ports i → IsInPlace ports i to.number
+place_said ports i to e =
+    let f = some_map info_of (slice_get ports i) to (sym e) in
+    slice_get-map (λ (p : PortState). p.number) ports i ∙ ap (option_map (λ (p : PortState). p.number)) f.1 ∙ ap (λ (j : PortInfo). Some j.number) f.2
