@@ -30,9 +30,11 @@ all_bare n (p ∷ ps) a = (a.0, all_bare n ps a.1)
 
 module _ (c : ControlState) (ws : List Way) (pools : List (Option PoolState)) (order : IsControl c) (apart : AreApart ws)
     (fewer : HasFewerHolders c.tables.pools pools (returned_on c.tables ws)) where
+  -- the tables of the hub
   abbrev t : HubTables
   t = c.tables
 
+  -- the tables once the lanes are emptied
   abbrev left : HubTables
   left = record (with_lanes emptied_lane t ws) { pools = pools }
 

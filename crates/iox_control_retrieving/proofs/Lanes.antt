@@ -98,6 +98,7 @@ something_left l e = step l.returned e
     step (k ∷ ks) h = omega arith
 
 module _ (server client : ℕ) where
+  -- the way of that lane from the server to the client
   abbrev pub lane_way : ℕ → Way
   lane_way lane = response_way client lane server
 

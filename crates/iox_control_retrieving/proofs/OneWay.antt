@@ -169,6 +169,7 @@ module _ (old now new : ControlState) (w : Way) (place j : ℕ) (order : AreInOr
   found : (l : LaneState) × (lane_on now.tables.ports w ≡ Some l) × (l.returned ≡ j ∷ drop 1 l.returned)
   found = got_some (lane_on now.tables.ports w) j got
 
+  -- the lane of the way
   abbrev l : LaneState
   l = found.0
 

@@ -1,4 +1,4 @@
-use Rattle.std.proofs.Common.{sym, ap, subst, ◌∙◌}
+use Rattle.std.proofs.Common.{sym, ap, ◌∙◌}
 use Rattle.iox_tables.specs.HubStates.Tables.{port_in}
 use Rattle.iox_hub_ports.specs.Ports.{info_in}
 use Rattle.iox_control_retrieving.proofs.Places.{number_is, own_said}
