@@ -1,12 +1,13 @@
 -- Handles are counted as the table keeps them.
-use Rattle.std.specs.Prelude.{◌≡◌, ℕ, ◌+◌, ◌<◌, ◌-◌, ◌&&◌, ◌||◌, ◌==◌, nat_lt, zero, suc, Bool, true, false, not, if◌then◌else◌, List, [], ◌∷◌, map, filter, find, length, Option, Some, refl}
+use Rattle.std.specs.Prelude.{◌≡◌, ℕ, ◌+◌, ◌<◌, ◌≤◌, ◌-◌, ◌&&◌, ◌||◌, ◌==◌, nat_le, nat_lt, suc, Bool, true, false, if◌then◌else◌, List, [], ◌∷◌, map, filter, find, length, Option, Some, refl}
 use Rattle.std.specs.List.{list_any, range_with_len}
-use Rattle.std.proofs.Common.{ap, ◌∙◌, sym, arith}
+use Rattle.std.proofs.Common.{ap, ◌∙◌, sym, arith, true≢false}
 use Rattle.std.proofs.lemmas.Bool.{lt-ltb}
 use Rattle.iox_model.specs.declared.kind.Kind.TheVariants.{PendingResponse}
 use Rattle.iox_model.specs.Handles.{is_request_loan, is_response_loan, same_kind}
 use Rattle.iox_handles.specs.declared.entry.Entry.{Entry}
-use Rattle.iox_tables.specs.HubStates.Tables.{HandleState, PoolState, labels_of}
+use Rattle.iox_tables.specs.HubStates.Tables.{HandleState, HubTables, PoolState, labels_of}
+use Rattle.iox_tables.specs.HubLoans.Counts.{responds_to, responses_on_loan, responses_to}
 use Rattle.iox_control.specs.Entries.{handle_state}
 
 -- as many pass as show a handle that passes
@@ -30,6 +31,33 @@ some_pass test (x ∷ xs) = step (test x) (some_pass test xs)
         → nat_lt 0 (length (if b then x ∷ filter test xs else filter test xs)) ≡ (b || list_any test xs)
     step true rest = lt-ltb 0 (suc (length (filter test xs))) (omega arith)
     step false rest = rest
+
+-- where each that passes the one test passes the other, no more pass it
+fewer_pass : {A : Type 0} (f g : A → Bool) (xs : List A) → ((x : A) → f x ≡ true → g x ≡ true) → length (filter f xs) ≤ length (filter g xs)
+fewer_pass f g [] all = omega arith
+fewer_pass f g (x ∷ xs) all = step (f x) refl (g x) refl (fewer_pass f g xs all)
+  where
+    step : (a : Bool) → f x ≡ a → (b : Bool) → g x ≡ b → length (filter f xs) ≤ length (filter g xs)
+        → length (if a then x ∷ filter f xs else filter f xs) ≤ length (if b then x ∷ filter g xs else filter g xs)
+    step true e true h rest = omega (arith, rest)
+    step true e false h rest = absurd (true≢false (sym (all x e) ∙ h))
+    step false e true h rest = omega (arith, rest)
+    step false e false h rest = rest
+
+-- with fewer loans in all than may be to one request there are fewer to that
+pub few_to_one : (t : HubTables) (n client request l m : ℕ) → m ≡ responses_on_loan t n → m < l → false ≡ nat_le l (responses_to t n client request)
+few_to_one t n client request l m is low =
+    let fewer = fewer_pass (λ h. (h.port == n) && responds_to t client request h) (λ h. (h.port == n) && is_response_loan h.kind) t.handles
+    (λ h e. first_two (h.port == n) (is_response_loan h.kind) _ e) in
+    sym (not_le l (responses_to t n client request) (omega (arith, fewer, is, low)))
+  where
+    first_two : (a b c : Bool) → (a && (b && c)) ≡ true → (a && b) ≡ true
+    first_two true true c e = refl
+    first_two true false c e = e
+    first_two false b c e = e
+
+    not_le : (a b : ℕ) → b < a → nat_le a b ≡ false
+    not_le a b e = grind (arith, e)
 
 -- the handle is a response on loan to that request
 abbrev pub shows_responding : List (Option PoolState) → ℕ → ℕ → ℕ → HandleState → Bool

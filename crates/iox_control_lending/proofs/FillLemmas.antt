@@ -1,5 +1,5 @@
 -- The kind of a loan changes: all that is so of a hub stays so, and it is the machine's.
-use Rattle.std.specs.Prelude.{◌≡◌, ℕ, ◌+◌, ◌-◌, ◌≤◌, ◌&&◌, ◌||◌, ◌==◌, Bool, true, false, if◌then◌else◌, List, [], ◌∷◌, length, Option, Some, None, refl}
+use Rattle.std.specs.Prelude.{◌≡◌, ℕ, ◌-◌, ◌≤◌, ◌&&◌, ◌||◌, ◌==◌, Bool, true, false, if◌then◌else◌, List, [], ◌∷◌, length, Option, Some, None, refl}
 use Rattle.std.proofs.Common.{sym, ap, ap₂, subst, ◌∙◌, arith, true≢false}
 use Rattle.std.proofs.lemmas.Option.{same_Some}
 use Rattle.iox_handles.specs.declared.entry.Entry.{Entry}
@@ -23,9 +23,9 @@ use Rattle.iox_tables.specs.HubStates.Ends.{changed_handles}
 use Rattle.iox_tables.specs.HubStates.Releases.{handle_shown}
 use Rattle.iox_tables.specs.HubStates.Wirings.{IsHandle, handle_in}
 use Rattle.iox_tables.proofs.HubStates.Naming.{handle_node, handle_number}
-use Rattle.iox_tables.specs.HubBooks.Counts.{on_lanes, total}
+use Rattle.iox_tables.specs.HubBooks.Counts.{total}
 use Rattle.iox_tables.specs.HubBooks.Handles.{is_loan}
-use Rattle.iox_tables.specs.HubBooks.Rooms.{CanCountHolders, HasRoomForAll, own_count, spare}
+use Rattle.iox_tables.specs.HubBooks.Rooms.{CanCountHolders, HasRoomForAll, own_count}
 use Rattle.iox_tables.proofs.HubBooks.HandleTotals.{handle_changed}
 use Rattle.iox_tables.proofs.HubBooks.Totals.{total_same}
 use Rattle.iox_tables.specs.HubLoans.Fillings.{contents_of, written_contents}
@@ -80,12 +80,15 @@ same_many h (k ∷ ks) = step ((k.node == h.node) && (k.number == h.number)) (sa
     step false rest = omega (arith, rest)
 
 module _ (c : ControlState) (order : IsControl c) (node n : ℕ) (h : HandleState) (kind : Kind) (named : IsHandle c.tables node n h) (same : AreOfSameLoan h.kind kind) where
+  -- the tables of the hub
   abbrev t : HubTables
   t = c.tables
 
+  -- the handle, of its new kind
   abbrev turned : HandleState
   turned = record h { kind = kind }
 
+  -- the tables with that handle
   abbrev now : HubTables
   now = with_kind t h kind
 

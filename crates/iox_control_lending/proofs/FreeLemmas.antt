@@ -1,5 +1,5 @@
 -- A slot that was acquired, and the loan that is made in it.
-use Rattle.std.specs.Prelude.{◌≡◌, ℕ, ◌+◌, ◌-◌, List, Option, Some, None}
+use Rattle.std.specs.Prelude.{◌≡◌, ℕ, ◌-◌, List, Option, Some}
 use Rattle.std.proofs.Common.{sym, ap, subst, ◌∙◌}
 use Rattle.std.proofs.lemmas.Option.{same_Some}
 use Rattle.iox_tables.specs.HubStates.Tables.{HubTables, PoolState, PortState, port_in}
@@ -7,10 +7,9 @@ use Rattle.iox_hub_ports.specs.declared.info.PortInfo.{PortInfo}
 use Rattle.iox_hub_ports.specs.Ports.{info_of}
 use Rattle.iox_tables.specs.HubBooks.Hubs.{AreInOrder}
 use Rattle.iox_tables.specs.HubLoans.Lenders.{Lender}
-use Rattle.iox_tables.specs.HubLoans.Loans.{loaned_handle, loaned_slot, with_handed_out, with_loaned}
+use Rattle.iox_tables.specs.HubLoans.Loans.{loaned_handle, with_handed_out, with_loaned}
 use Rattle.iox_tables.specs.HubLending.Choosing.{IsFreeSlot}
-use Rattle.iox_slots.specs.Pools.{Acquires, with_slot}
-use Rattle.iox_slots.specs.Slots.{held}
+use Rattle.iox_slots.specs.Pools.{Acquires}
 use Rattle.iox_control.specs.Controls.{ControlState, with_pools}
 use Rattle.iox_control_lending.specs.declared.asked.Asked.{Asked}
 use Rattle.iox_control_lending.specs.declared.asked.Lending.{Lending}
@@ -33,6 +32,7 @@ module _ (t : HubTables) (l : Lending) (of : IsPortOf t l) (slot : ℕ) (pools :
 
 -- what is written to an acquired slot and handed out is a loan
 module _ (c d : ControlState) (y : Lender) (a : Asked) (slot : ℕ) (acquired : Acquires c.tables.pools y.port.pool slot d.tables.pools) (left : d ≡ with_pools c d.tables.pools) where
+  -- the tables with these pools and the handle of the loan
   abbrev from_pools : List (Option PoolState) → ControlState
   from_pools pools =
       record c {
@@ -49,9 +49,11 @@ module _ (c d : ControlState) (y : Lender) (a : Asked) (slot : ℕ) (acquired : 
 
 module _ (c d new : ControlState) (l : Lending) (of : IsPortOf c.tables l) (order : AreInOrder c.tables) (a : Asked) (slot lane number : ℕ)
     (acquired : Acquires c.tables.pools l.port.pool slot d.tables.pools) (left : d ≡ with_pools c d.tables.pools) where
+  -- who lends
   abbrev y : Lender
   y = lender_of of.port l
 
+  -- what the loan answers
   abbrev loan : Loaned
   loan = record { number = number; pool = l.port.pool; slot = slot }
 

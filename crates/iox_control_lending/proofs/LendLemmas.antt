@@ -1,9 +1,9 @@
 -- A loan, once all that was given back to its port is got back.
-use Rattle.std.specs.Prelude.{◌≡◌, ℕ, ◌<◌, ◌^◌, true, List, Option, Some, None}
+use Rattle.std.specs.Prelude.{◌≡◌, ◌<◌, ◌^◌, true, Some, None}
 use Rattle.std.specs.List.{list_all}
 use Rattle.std.proofs.Common.{sym, ap, subst, ◌∙◌}
 use Rattle.std.proofs.lemmas.Option.{same_Some}
-use Rattle.iox_tables.specs.HubStates.Tables.{HubTables, PoolState, PortState, port_in, slots_of}
+use Rattle.iox_tables.specs.HubStates.Tables.{PortState, port_in, slots_of}
 use Rattle.iox_hub_ports.specs.declared.info.PortInfo.{PortInfo}
 use Rattle.iox_hub_ports.specs.Ports.{info_of}
 use Rattle.iox_tables.specs.HubLending.Emptying.{AreGotBack, with_back}

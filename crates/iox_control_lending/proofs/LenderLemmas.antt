@@ -1,25 +1,23 @@
 -- The loans of clients and of active requests are whole calls.
-use Rattle.std.specs.Prelude.{◌≡◌, ℕ, ◌+◌, ◌<◌, ◌&&◌, ◌||◌, ◌==◌, nat_lt, not, Bool, true, false, List, [], ◌∷◌, Option, Some, None, refl}
+use Rattle.std.specs.Prelude.{◌≡◌, ℕ, ◌+◌, ◌<◌, ◌&&◌, ◌||◌, ◌==◌, nat_lt, not, Bool, true, false, List, [], ◌∷◌, Option, Some, refl}
 use Rattle.std.specs.List.{list_all, list_any, range_with_len}
 use Rattle.std.proofs.Common.{sym, ap, ap₂, subst, ◌∙◌, inl, inr, arith, true≢false}
 use Rattle.std.proofs.lemmas.Bool.{lt-ltb}
 use Rattle.std.proofs.lemmas.Option.{same_Some}
 use Rattle.iox_lanes.specs.declared.wanted.Label.{Label}
 use Rattle.iox_model.specs.declared.kind.Kind.TheVariants.{PendingResponse}
-use Rattle.iox_model.specs.declared.kind.Role.{Role}
-use Rattle.iox_model.specs.declared.kind.Role.TheVariants.{Client, Server}
 use Rattle.iox_model.specs.Begins.{MayChoose}
 use Rattle.iox_model.specs.Commands.{Call, number_of}
 use Rattle.iox_model.specs.Handles.{is_request_loan, same_kind}
 use Rattle.iox_model.specs.Loans.{Choice}
-use Rattle.iox_model.specs.Settings.{Shape, shape_of}
+use Rattle.iox_model.specs.Settings.{shape_of}
 use Rattle.iox_model.specs.WholeCalls.{IsWholeCall}
 use Rattle.iox_laws.proofs.RunLaws.Choices.{something_may_be_chosen}
-use Rattle.iox_tables.specs.HubStates.Tables.{HandleState, HubTables, PoolState, PortState, labels_of}
+use Rattle.iox_tables.specs.HubStates.Tables.{HandleState, HubTables, PoolState, PortState}
 use Rattle.iox_tables.specs.HubStates.States.{Given, fixed_of, limits_of, state_shown}
 use Rattle.iox_tables.specs.HubBooks.Hubs.{AreInOrder}
 use Rattle.iox_tables.specs.HubLoans.Counts.{is_lane_free, is_lane_taken, is_on_lane}
-use Rattle.iox_tables.specs.HubLoans.Lenders.{IsActive, IsClient, Lender, lender_of_request, lender_of_response, shape_in}
+use Rattle.iox_tables.specs.HubLoans.Lenders.{IsActive, IsClient, Lender, lender_of_request, lender_of_response}
 use Rattle.iox_tables.specs.HubLoans.Loans.{loan_call}
 use Rattle.iox_tables.proofs.HubLoans.Loaning.{each_choice_may_be}
 use Rattle.iox_tables.specs.HubLending.Emptying.{AreGotBack, with_back}
@@ -28,7 +26,7 @@ use Rattle.iox_tables.proofs.HubLending.Owning.{handles_are_on_nodes}
 use Rattle.iox_control.specs.Controls.{ControlState}
 use Rattle.iox_control_lending.specs.declared.asked.Asked.{Asked}
 use Rattle.iox_control_lending.specs.declared.asked.Lent.{Lent}
-use Rattle.iox_control_lending.specs.Lends.{IsAskedOf, Lends, given_after, lane_by, on_lane, reply_of_loan}
+use Rattle.iox_control_lending.specs.Lends.{IsAskedOf, Lends, given_after, lane_by, reply_of_loan}
 use Rattle.iox_control_lending.proofs.LaneLemmas.{found_passes}
 use Rattle.iox_control_lending.proofs.WholeLemmas.{MayTake, choice_of, lends_whole}
 
@@ -53,15 +51,19 @@ taken_same t p pools n lane back =
 -- ---- a client
 
 module _ (x : Given) (c : ControlState) (node n : ℕ) (a : Asked) (order : AreInOrder c.tables) (client : IsClient c.tables node n) where
+  -- the tables of the hub
   abbrev t : HubTables
   t = c.tables
 
+  -- the client
   abbrev p : PortState
   p = client.port
 
+  -- the client as a lender
   abbrev y : Lender
   y = lender_of_request p 0
 
+  -- the call
   abbrev call : Call
   call = loan_call a.uninit n a.elements
 
@@ -106,12 +108,15 @@ module _ (x : Given) (c : ControlState) (node n : ℕ) (a : Asked) (order : AreI
 -- ---- an active request
 
 module _ (x : Given) (c : ControlState) (node n : ℕ) (a : Asked) (order : AreInOrder c.tables) (active : IsActive c.tables node n) where
+  -- the tables of the hub
   abbrev its : HubTables
   its = c.tables
 
+  -- the server as a lender
   abbrev of : Lender
   of = lender_of_response its active.handle active.port
 
+  -- the call
   abbrev its_call : Call
   its_call = loan_call a.uninit n a.elements
 

@@ -1,5 +1,7 @@
 pub mod CountLemmas
 pub mod Owns
+pub mod HeldLemmas
+pub mod LowestLemmas
 pub mod SlotLemmas
 pub mod LaneLemmas
 pub mod MadeLemmas

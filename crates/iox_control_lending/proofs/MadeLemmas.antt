@@ -1,5 +1,5 @@
 -- A loan that is made: all that is so of a hub stays so.
-use Rattle.std.specs.Prelude.{◌≡◌, ℕ, ◌+◌, ◌-◌, ◌<◌, ◌≤◌, ◌^◌, ◌&&◌, ◌||◌, ◌==◌, nat_lt, Bool, true, false, if◌then◌else◌, List, [], ◌∷◌, ◌++◌, length, Option, Some, None, refl}
+use Rattle.std.specs.Prelude.{◌≡◌, ℕ, ◌+◌, ◌-◌, ◌<◌, ◌≤◌, ◌^◌, ◌&&◌, ◌||◌, ◌==◌, nat_lt, Bool, true, false, if◌then◌else◌, List, [], ◌∷◌, ◌++◌, length, Some, refl}
 use Rattle.std.specs.Option.{option_map_or}
 use Rattle.std.proofs.Common.{sym, ap, ap₂, subst, ◌∙◌, arith, true≢false, eqb-true, eq-eqb}
 use Rattle.std.proofs.lemmas.Option.{none-some, same_Some}
@@ -10,23 +10,22 @@ use Rattle.iox_model.specs.declared.kind.Role.TheVariants.{Client, Server}
 use Rattle.iox_model.specs.Handles.{is_own}
 use Rattle.iox_model.specs.Loans.{kind_of_loan}
 use Rattle.iox_model.specs.Maps.{AreDistinct, has_number}
-use Rattle.iox_tables.specs.HubStates.Tables.{HandleState, HubTables, PortState, first_by, numbers_of, pipes_of, port_in, slot_at, slots_of, with_first_by}
+use Rattle.iox_tables.specs.HubStates.Tables.{HandleState, HubTables, PortState, numbers_of, pipes_of, port_in, slots_of}
 use Rattle.iox_tables.specs.HubStates.Ways.{with_port}
 use Rattle.iox_tables.specs.HubStates.Ends.{OfEachHandle}
 use Rattle.iox_tables.proofs.HubStates.Keys.{flip}
-use Rattle.iox_tables.specs.HubBooks.Counts.{OfAll, OfAllLanes, how_many, in_port, on_lanes, total}
+use Rattle.iox_tables.specs.HubBooks.Counts.{OfAll, in_port, on_lanes, total}
 use Rattle.iox_tables.specs.HubBooks.Handles.{IsOfPort}
-use Rattle.iox_tables.specs.HubBooks.Hubs.{AreInOrder, HasPool, numbers_in}
-use Rattle.iox_tables.specs.HubBooks.Rooms.{CanCountHolders, HasRoomForAll, may_come, own_count, spare}
+use Rattle.iox_tables.specs.HubBooks.Hubs.{AreInOrder, HasPool}
+use Rattle.iox_tables.specs.HubBooks.Rooms.{CanCountHolders, HasRoomForAll, own_count, spare}
 use Rattle.iox_tables.proofs.HubBooks.Eachs.{all_first, all_from}
-use Rattle.iox_tables.proofs.HubBooks.Totals.{total-last, total_first, total_same}
+use Rattle.iox_tables.proofs.HubBooks.Totals.{total-last, total_first}
 use Rattle.iox_tables.specs.HubLoans.Lenders.{Lender}
 use Rattle.iox_tables.specs.HubLoans.Loans.{loaned_handle, with_loaned}
 use Rattle.iox_tables.specs.HubLending.Choosing.{IsFreeSlot}
 use Rattle.iox_tables.specs.HubLending.Keeping.{HasMessage, HaveMessages}
 use Rattle.iox_tables.specs.HubLending.Lending.{MayLend}
 use Rattle.iox_tables.proofs.HubLending.Lent.{loans_keep_order}
-use Rattle.iox_laws.proofs.WeaveLedger.Lists.{distinct-no_repeats, no_repeats-distinct, NoRepeats}
 use Rattle.iox_slots.specs.Pools.{has_slot}
 use Rattle.iox_control.specs.Controls.{AreCounted, ControlState, IsControl}
 use Rattle.iox_control.proofs.RoomLemmas.{loan_seats, room_as}
@@ -135,6 +134,7 @@ slot_within t n k p order there has =
 -- ---- a loan in a free slot
 
 module _ (c : ControlState) (order : IsControl c) (p : PortState) (n slot : ℕ) (is : IsFreeSlot c.tables n p c.tables.pools slot) where
+  -- the tables of the hub
   abbrev t : HubTables
   t = c.tables
 
@@ -168,18 +168,23 @@ module _ (c : ControlState) (order : IsControl c) (p : PortState) (n slot : ℕ)
 
 module _ (c : ControlState) (order : IsControl c) (y : Lender) (a : Asked) (l : Loaned) (new : ControlState)
     (there : port_in c.tables.ports y.port.number ≡ Some y.port) (few : c.tables.calls < 2 ^ 56) (made : IsMade c y a l new) where
+  -- the tables before the loan
   abbrev was : HubTables
   was = c.tables
 
+  -- the number of the lender's port
   abbrev n : ℕ
   n = y.port.number
 
+  -- the handle of the loan
   abbrev h : HandleState
   h = loaned_handle was (on_lane y made.lane) a.uninit l.slot
 
+  -- the tables with the loan
   abbrev now : HubTables
   now = with_loaned was (on_lane y made.lane) a.uninit a.elements l.slot
 
+  -- a port, once one loan more is counted
   abbrev lent : PortState → PortState
   lent p = record p { loans = p.loans + 1 }
 

@@ -1,12 +1,12 @@
 -- A port has fewer loans and pending responses than slots, while nobody has one of the slots.
-use Rattle.std.specs.Prelude.{◌≡◌, ℕ, zero, suc, ◌+◌, ◌<◌, ◌≤◌, ◌&&◌, ◌==◌, nat_lt, Bool, true, false, if◌then◌else◌, List, [], ◌∷◌, map, filter, length, refl}
+use Rattle.std.specs.Prelude.{◌≡◌, ℕ, suc, ◌+◌, ◌<◌, ◌≤◌, ◌&&◌, ◌==◌, nat_lt, Bool, true, false, if◌then◌else◌, List, [], ◌∷◌, map, filter, length, Some, refl}
 use Rattle.std.specs.List.{range_with_len}
 use Rattle.std.proofs.Common.{sym, ap, subst, ◌∙◌, arith, inl, inr, true≢false, eqb-true, eq-eqb}
 use Rattle.std.proofs.lemmas.List.FromFn.{length-range_with_len}
 use Rattle.iox_model.specs.Handles.{is_own}
 use Rattle.iox_laws.proofs.WeaveLedger.Lists.{IsAmong, NoRepeats, among-filter, filter-among, map-among}
 use Rattle.iox_laws.proofs.WeaveLedger.Ranges.{no-longer, range-has}
-use Rattle.iox_tables.specs.HubStates.Tables.{HandleState, HubTables, PortState, slot_at}
+use Rattle.iox_tables.specs.HubStates.Tables.{HandleState, HubTables, PortState, port_in, slot_at}
 use Rattle.iox_tables.specs.HubBooks.Counts.{how_many, is_at, total}
 use Rattle.iox_tables.specs.HubBooks.Handles.{IsOfPort, is_own_at}
 use Rattle.iox_tables.specs.HubBooks.Hubs.{AreInOrder, IsUsed}
@@ -18,7 +18,7 @@ use Rattle.iox_tables.proofs.HubLending.Owning.{of_each, port_is, two, used_amon
 
 -- ---- lists
 
-length_mapped : {A B : Type 0} (f : A → B) (xs : List A) → length (map f xs) ≡ length xs
+pub length_mapped : {A B : Type 0} (f : A → B) (xs : List A) → length (map f xs) ≡ length xs
 length_mapped f [] = refl
 length_mapped f (x ∷ xs) = ap suc (length_mapped f xs)
 
@@ -109,60 +109,71 @@ none_below k = omega arith
 no_holder : (m : ℕ) → m ≡ 0 → nat_lt 0 m ≡ false
 no_holder m e = grind (arith, e)
 
-module _ (t : HubTables) (n slot : ℕ) (p : PortState) (order : AreInOrder t) (is : IsFreeSlot t n p t.pools slot) where
+module _ (t : HubTables) (n : ℕ) (p : PortState) (order : AreInOrder t) (there : port_in t.ports n ≡ Some p) where
+  -- the port has the handle as a loan or as a pending response
   abbrev owns : HandleState → Bool
   owns h = is_own h.kind && (h.port == p.number)
 
+  -- somebody has the slot of the port's pool
   abbrev used : ℕ → Bool
   used k = has_holder (slot_at t.pools p.pool k)
-
-  abbrev slots : List ℕ
-  slots = range_with_len 0 p.size
 
   -- its message is in the port's pool
   pool_of : (h : HandleState) → IsAmong h t.handles → owns h ≡ true → h.pool ≡ p.pool
   pool_of h among e =
       let parts = two (is_own h.kind) (h.port == p.number) e in
       let of : IsOfPort t h = of_each (IsOfPort t) h t.handles order.ports among in
-      of.of_pool parts.0 ∙ ap (λ (q : PortState). q.pool) (port_is t order n p is.there h.port of.port of.there (eqb-true h.port p.number parts.1))
+      of.of_pool parts.0 ∙ ap (λ (q : PortState). q.pool) (port_is t order n p there h.port of.port of.there (eqb-true h.port p.number parts.1))
 
-  own_at : (k : ℕ) (h : HandleState) → IsAmong h t.handles
-      → (if owns h && (h.slot == k) then 1 else 0) ≤ (if is_own_at p.pool k h then 1 else 0)
-  own_at k h among = step (owns h && (h.slot == k)) refl
-    where
-      here : (owns h && (h.slot == k)) ≡ true → is_own_at p.pool k h ≡ true
-      here e =
-          let parts = two (owns h) (h.slot == k) e in
-          both (is_own h.kind) (is_at p.pool k h) (two (is_own h.kind) (h.port == p.number) parts.0).0
-          (both (h.pool == p.pool) (h.slot == k) (eq-eqb h.pool p.pool (pool_of h among parts.0)) parts.1)
+  -- those of the port's own that pass are in slots of their own
+  module _ (test : HandleState → Bool) (own : (h : HandleState) → test h ≡ true → owns h ≡ true) where
+    own_at : (k : ℕ) (h : HandleState) → IsAmong h t.handles
+        → (if test h && (h.slot == k) then 1 else 0) ≤ (if is_own_at p.pool k h then 1 else 0)
+    own_at k h among = step (test h && (h.slot == k)) refl
+      where
+        here : (test h && (h.slot == k)) ≡ true → is_own_at p.pool k h ≡ true
+        here e =
+            let parts = two (test h) (h.slot == k) e in
+            both (is_own h.kind) (is_at p.pool k h) (two (is_own h.kind) (h.port == p.number) (own h parts.0)).0
+            (both (h.pool == p.pool) (h.slot == k) (eq-eqb h.pool p.pool (pool_of h among (own h parts.0))) parts.1)
 
-      step : (b : Bool) → (owns h && (h.slot == k)) ≡ b → (if b then 1 else 0) ≤ (if is_own_at p.pool k h then 1 else 0)
-      step true e = one (is_own_at p.pool k h) (here e)
-      step false e = omega arith
+        step : (b : Bool) → (test h && (h.slot == k)) ≡ b → (if b then 1 else 0) ≤ (if is_own_at p.pool k h then 1 else 0)
+        step true e = one (is_own_at p.pool k h) (here e)
+        step false e = omega arith
 
-  own_slots : NoRepeats (map (λ (h : HandleState). h.slot) (filter owns t.handles))
-  own_slots = once_each (λ h. h.slot) owns t.handles few
-    where
-      few : (k : ℕ) → how_many (λ h. owns h && (h.slot == k)) t.handles ≤ 1
-      few k =
-          let less = below_each (λ h. if owns h && (h.slot == k) then 1 else 0) (λ h. if is_own_at p.pool k h then 1 else 0) t.handles (own_at k) in
-          let all = order.own p.pool k in
-          omega (arith, less, all)
+    pub own_slots_of : NoRepeats (map (λ (h : HandleState). h.slot) (filter test t.handles))
+    own_slots_of = once_each (λ h. h.slot) test t.handles few
+      where
+        few : (k : ℕ) → how_many (λ h. test h && (h.slot == k)) t.handles ≤ 1
+        few k =
+            let less = below_each (λ h. if test h && (h.slot == k) then 1 else 0) (λ h. if is_own_at p.pool k h then 1 else 0) t.handles (own_at k) in
+            let all = order.own p.pool k in
+            omega (arith, less, all)
 
-  is_used : (k : ℕ) → IsAmong k (map (λ (h : HandleState). h.slot) (filter owns t.handles)) → IsAmong k (filter used slots)
+module _ (t : HubTables) (n slot : ℕ) (p : PortState) (order : AreInOrder t) (is : IsFreeSlot t n p t.pools slot) where
+  -- the same, of the port of the free slot
+  abbrev own : HandleState → Bool
+  own = owns t n p order is.there
+
+  -- the slots of the port's pool
+  abbrev slots : List ℕ
+  slots = range_with_len 0 p.size
+
+  is_used : (k : ℕ) → IsAmong k (map (λ (h : HandleState). h.slot) (filter own t.handles)) → IsAmong k (filter (used t n p order is.there) slots)
   is_used k among =
-      let y = map-among (λ (h : HandleState). h.slot) k (filter owns t.handles) among in
-      let f = filter-among owns y.0 t.handles y.1 in
-      let had : IsUsed t p.pool y.0.slot = subst (λ q. IsUsed t q y.0.slot) (pool_of y.0 f.0 f.1) (used_among t order y.0 f.0) in
-      subst (λ j. IsAmong j (filter used slots)) (sym y.2)
-      (among-filter used y.0.slot slots
+      let y = map-among (λ (h : HandleState). h.slot) k (filter own t.handles) among in
+      let f = filter-among own y.0 t.handles y.1 in
+      let had : IsUsed t p.pool y.0.slot = subst (λ q. IsUsed t q y.0.slot) (pool_of t n p order is.there y.0 f.0 f.1) (used_among t order y.0 f.0) in
+      subst (λ j. IsAmong j (filter (used t n p order is.there) slots)) (sym y.2)
+      (among-filter (used t n p order is.there) y.0.slot slots
       (range-has 0 p.size y.0.slot (none_below y.0.slot) (up y.0.slot p.size (used_within t order n p is.there y.0.slot had))) (some_holder _ had))
 
   pub own_are_fewer : own_count t.handles p + 1 ≤ p.size
   own_are_fewer =
-      let many : own_count t.handles p ≡ length (filter owns t.handles) = many_are owns t.handles in
-      let as_many = length_mapped (λ (h : HandleState). h.slot) (filter owns t.handles) in
-      let fits = no-longer (map (λ (h : HandleState). h.slot) (filter owns t.handles)) (filter used slots) own_slots is_used in
-      let less = one_less used slot slots (range-has 0 p.size slot (none_below slot) (up slot p.size is.within)) (no_holder _ is.free) in
+      let many : own_count t.handles p ≡ length (filter own t.handles) = many_are own t.handles in
+      let as_many = length_mapped (λ (h : HandleState). h.slot) (filter own t.handles) in
+      let apart = own_slots_of t n p order is.there own (λ h e. e) in
+      let fits = no-longer (map (λ (h : HandleState). h.slot) (filter own t.handles)) (filter (used t n p order is.there) slots) apart is_used in
+      let less = one_less (used t n p order is.there) slot slots (range-has 0 p.size slot (none_below slot) (up slot p.size is.within)) (no_holder _ is.free) in
       let size : length slots ≡ p.size = length-range_with_len 0 p.size in
       omega (arith, many, as_many, fits, less, size)

@@ -1,7 +1,7 @@
 -- A lender, by what is told of its port.
-use Rattle.std.specs.Prelude.{◌≡◌, ℕ, ◌%◌, ◌^◌, Option, Some}
+use Rattle.std.specs.Prelude.{◌≡◌, ℕ, ◌%◌, ◌^◌, Some}
 use Rattle.std.specs.Option.{option_map}
-use Rattle.std.proofs.Common.{sym, ap, subst, ◌∙◌}
+use Rattle.std.proofs.Common.{ap, subst, ◌∙◌}
 use Rattle.std.proofs.lemmas.Option.{same_Some}
 use Rattle.iox_handles.specs.declared.entry.Entry.{Entry}
 use Rattle.iox_lanes.specs.declared.wanted.Label.{Label}
@@ -10,7 +10,7 @@ use Rattle.iox_tables.specs.HubStates.Wirings.{handle_in}
 use Rattle.iox_hub_ports.specs.declared.info.PortInfo.{PortInfo}
 use Rattle.iox_hub_ports.specs.Ports.{info_in, info_of}
 use Rattle.iox_tables.specs.HubBooks.Hubs.{AreInOrder}
-use Rattle.iox_tables.specs.HubLoans.Lenders.{Lender, lender_of_request, lender_of_response}
+use Rattle.iox_tables.specs.HubLoans.Lenders.{lender_of_request, lender_of_response}
 use Rattle.iox_tables.proofs.HubLending.Owning.{number_is}
 use Rattle.iox_control.specs.Controls.{ControlState}
 use Rattle.iox_control.specs.Entries.{handle_state}

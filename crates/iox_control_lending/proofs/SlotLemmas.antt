@@ -10,7 +10,7 @@ use Rattle.iox_tables.specs.HubStates.Tables.{PoolState, SlotState, no_slot, slo
 use Rattle.iox_tables.specs.HubLoans.Slots.{put_slot, put_slot_of}
 use Rattle.iox_tables.proofs.HubLoans.Placed.{set_there}
 use Rattle.iox_tables.specs.HubLending.Keeping.{has_holder}
-use Rattle.iox_slots.specs.Pools.{free_count, has_slot, with_pool, with_slot}
+use Rattle.iox_slots.specs.Pools.{free_count, has_slot, with_slot}
 use Rattle.iox_slots.specs.Slots.{held, is_free, with_slot_of, written}
 
 -- a test of numbers that passes
@@ -29,6 +29,7 @@ taken_by_one serial lane request elements =
     record { serial = serial; lane = lane; request = request; elements = elements; holders = 1 }
 
 module _ (serial lane request elements k : ℕ) where
+  -- the message is written to a slot
   abbrev write : SlotState → SlotState
   write = written serial lane request elements
 
@@ -56,6 +57,7 @@ module _ (serial lane request elements k : ℕ) where
   none_there n e = omega (arith, nat_lt-lt n 0 e)
 
   module _ (pools : List (Option PoolState)) (place : ℕ) where
+    -- the slot of the loan
     abbrev new_slot : SlotState
     new_slot = taken_by_one serial lane request elements
 

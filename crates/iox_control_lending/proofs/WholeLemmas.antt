@@ -1,50 +1,39 @@
 -- What a lender's loan comes to is a whole call.
-use Rattle.std.specs.Prelude.{◌≡◌, ℕ, ◌+◌, ◌<◌, ◌&&◌, ◌||◌, ◌==◌, nat_lt, not, Bool, true, false, if◌then◌else◌, List, [], ◌∷◌, Option, Some, None, refl}
-use Rattle.std.specs.List.{list_all, list_any, range_with_len}
-use Rattle.std.proofs.Common.{sym, ap, ap₂, subst, ◌∙◌, inl, inr, arith, true≢false}
-use Rattle.std.proofs.lemmas.Bool.{lt-ltb}
-use Rattle.std.proofs.lemmas.Option.{same_Some}
-use Rattle.iox_lanes.specs.declared.wanted.Label.{Label}
-use Rattle.iox_model.specs.declared.call.Call.TheVariants.{Loan, LoanUninit}
-use Rattle.iox_model.specs.declared.kind.Kind.TheVariants.{PendingResponse}
+use Rattle.std.specs.Prelude.{◌≡◌, ℕ, ◌<◌, Bool, true, false, if◌then◌else◌, List, [], Option, Some, None, refl}
+use Rattle.std.specs.List.{list_all}
+use Rattle.std.proofs.Common.{sym, ap, ap₂, subst, ◌∙◌, true≢false}
 use Rattle.iox_model.specs.declared.kind.Role.{Role}
 use Rattle.iox_model.specs.declared.kind.Role.TheVariants.{Client, Server}
 use Rattle.iox_model.specs.declared.reply.Refusal.TheVariants.{OutOfMemory}
 use Rattle.iox_model.specs.declared.reply.Reply.TheVariants as replies
 use Rattle.iox_model.specs.Begins.{MayChoose}
-use Rattle.iox_model.specs.Commands.{Call, Refusal, Reply, number_of}
-use Rattle.iox_model.specs.Handles.{is_request_loan, same_kind}
+use Rattle.iox_model.specs.Commands.{Call, Refusal, Reply}
 use Rattle.iox_model.specs.Loans.{Choice}
 use Rattle.iox_model.specs.Maps.{or_else}
-use Rattle.iox_model.specs.Settings.{Shape, shape_of}
+use Rattle.iox_model.specs.Settings.{Shape}
 use Rattle.iox_model.specs.States as m
 use Rattle.iox_model.specs.WholeCalls.{IsWholeCall, default_payload}
 use Rattle.iox_laws.specs.CallFunctions.Calls.{call_by}
 use Rattle.iox_laws.proofs.CallFunctions.Lending.{each_loan_is_whole, each_uninit_loan_is_whole}
-use Rattle.iox_laws.proofs.RunLaws.Choices.{something_may_be_chosen}
-use Rattle.iox_tables.specs.HubStates.Tables.{HandleState, HubTables, PoolState, PortState, labels_of, slot_at, slots_of}
-use Rattle.iox_tables.specs.HubStates.States.{Given, fixed_of, limits_of, state_shown}
-use Rattle.iox_tables.specs.HubStates.Releases.{lane_of}
+use Rattle.iox_tables.specs.HubStates.Tables.{HubTables, PoolState, slot_at, slots_of}
+use Rattle.iox_tables.specs.HubStates.States.{Given, fixed_of, state_shown}
 use Rattle.iox_tables.specs.HubBooks.Hubs.{AreInOrder}
-use Rattle.iox_tables.specs.HubBooks.Keeps.{bare_pools}
-use Rattle.iox_tables.specs.HubLoans.Counts.{is_lane_free, is_lane_taken, is_on_lane}
-use Rattle.iox_tables.specs.HubLoans.Lenders.{IsActive, IsClient, IsLender, Lender, calls_refusal, count_refusal_by, lender_of_request, lender_of_response, loan_refusal, shape_in, size_refusal}
+use Rattle.iox_tables.specs.HubLoans.Lenders.{IsLender, Lender, calls_refusal, count_refusal_by, loan_refusal, shape_in, size_refusal}
 use Rattle.iox_tables.specs.HubLoans.Loans.{loan_call, loaned_contents, with_loaned}
 use Rattle.iox_tables.specs.HubLoans.Slots.{with_contents}
-use Rattle.iox_tables.proofs.HubLoans.Loaning.{each_choice_may_be, loans_are_refused, loans_may_hold_defaults}
+use Rattle.iox_tables.proofs.HubLoans.Loaning.{loans_are_refused, loans_may_hold_defaults}
 use Rattle.iox_tables.specs.HubLending.Emptying.{AreGotBack, with_back}
 use Rattle.iox_tables.specs.HubLending.Keeping.{has_holder}
-use Rattle.iox_tables.proofs.HubLending.Bared.{differ}
 use Rattle.iox_tables.proofs.HubLending.Owning.{handles_are_on_nodes}
 use Rattle.iox_tables.proofs.HubLending.WholeLoans.{free_slots_are_lent, full_pools_refuse}
-use Rattle.iox_control.specs.Controls.{ControlState, with_tables}
+use Rattle.iox_control.specs.Controls.{ControlState}
 use Rattle.iox_control.proofs.WholeLemmas.{is_whole_of}
 use Rattle.iox_control_lending.specs.declared.asked.Asked.{Asked}
 use Rattle.iox_control_lending.specs.declared.asked.Loaned.{Loaned}
 use Rattle.iox_control_lending.specs.declared.asked.Lent.{Lent}
 use Rattle.iox_control_lending.specs.declared.asked.Lent.TheVariants as lents
-use Rattle.iox_control_lending.specs.Lends.{FindsDry, IsAskedOf, IsLoaned, IsMade, IsRefused, Lends, first_contents, first_payload, given_after, lane_by, on_lane, reply_of_loan}
-use Rattle.iox_control_lending.proofs.LaneLemmas.{found_passes, lane_within}
+use Rattle.iox_control_lending.specs.Lends.{FindsDry, IsAskedOf, IsLoaned, IsRefused, Lends, first_contents, given_after, lane_by, on_lane, reply_of_loan}
+use Rattle.iox_control_lending.proofs.LaneLemmas.{lane_within}
 use Rattle.iox_control_lending.proofs.MadeLemmas.{have_messages}
 
 -- ---- any lane that the call may choose
@@ -55,12 +44,15 @@ choice_of lane = record { lane = lane; memory = true }
 
 module _ (x : Given) (t : HubTables) (node n : ℕ) (a : Asked) (order : AreInOrder t) (y : Lender) (lender : IsLender t node n y.lane y)
     (may : MayChoose (fixed_of x t) node (choice_of y.lane) (loan_call a.uninit n a.elements)) where
+  -- the state that the tables show
   abbrev s : m.State
   s = state_shown x t
 
+  -- the call
   abbrev call : Call
   call = loan_call a.uninit n a.elements
 
+  -- the payload of the new loan
   abbrev payload : Bool → List ℕ
   payload uninit = if uninit then [] else default_payload (shape_in x t y.port) a.elements
 
@@ -116,15 +108,18 @@ module _ (x : Given) (c new : ControlState) (node n : ℕ) (a : Asked) (y : Lend
     (some : (lane : ℕ) × MayTake x c.tables node n a y lane)
     (on : (pools : List (Option PoolState)) (lane : ℕ) → AreGotBack c.tables y.port pools → lane_by y.port.role (with_back c.tables y.port pools) y ≡ Some lane → MayTake x c.tables node n a y lane)
     (asked : IsAskedOf shape a) where
+  -- the tables before the call
   abbrev was : HubTables
   was = c.tables
 
+  -- the call
   abbrev its_call : Call
   its_call = loan_call a.uninit n a.elements
 
   asked_so : IsAskedOf (shape_in x was y.port) a
   asked_so = subst (λ (z : Shape). IsAskedOf z a) (sym of) asked
 
+  -- what the loan comes to is a whole call
   abbrev Whole : Lent → Type 0
   Whole result = IsWholeCall (state_shown x was) node its_call (reply_of_loan result) (state_shown (given_after x shape a result) new.tables)
 

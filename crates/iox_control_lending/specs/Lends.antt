@@ -8,7 +8,7 @@ use Rattle.iox_model.specs.declared.reply.Reply.TheVariants as replies
 use Rattle.iox_model.specs.Commands.{Refusal, Reply}
 use Rattle.iox_model.specs.Settings.{Shape, has_layout, is_count}
 use Rattle.iox_model.specs.WholeCalls.{default_payload}
-use Rattle.iox_tables.specs.HubStates.Tables.{HubTables, PoolState, PortState, SlotState, port_in, slot_at, slots_of}
+use Rattle.iox_tables.specs.HubStates.Tables.{HubTables, PortState, SlotState, port_in, slot_at, slots_of}
 use Rattle.iox_tables.specs.HubStates.States.{Given}
 use Rattle.iox_hub_ports.specs.Ports.{info_of}
 use Rattle.iox_slots.specs.Pools.{with_slot}

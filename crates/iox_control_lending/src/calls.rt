@@ -13,20 +13,21 @@ use crate::asked::{Asked, Lending, Lent};
 use crate::lend::lend_free;
 use crate::refusals::loan_refusal;
 use iox_control::Control;
-use iox_control_retrieving::retrieve_all;
+use iox_control_retrieving::retrieve_all_of;
 
 /// Lends for that lender.
-fn lend(control: &mut Control, lender: Lending, asked: Asked) -> Lent
-    requires port { IsPortOf control.old.tables lender }
+fn lend(control: &mut Control, lender: &Lending, asked: Asked) -> Lent
+    requires port { IsPortOf control.old.tables lender.now }
     requires order { IsControl control.old }
-    ensures left { (p : PortState) → port_in control.old.tables.ports lender.port.number ≡ Some p
-        → Lends control.old (lender_of p lender) asked result control.new }
+    ensures left { (p : PortState)
+        → port_in control.old.tables.ports lender.now.port.number ≡ Some p
+        → Lends control.old (lender_of p lender.now) asked result control.new }
     ensures order { IsControl control.new }
 {
-    if let Some(refusal) = loan_refusal(control, lender, asked) {
+    if let Some(refusal) = loan_refusal(control, *lender, asked) {
         return Lent::Refused(refusal);
     }
-    retrieve_all(control, lender.port.number);
+    retrieve_all_of(control, &lender.port);
     match lend_free(control, lender, asked) {
         Some(loaned) => Lent::Handle(loaned),
         None => Lent::OutOfMemory,
@@ -57,7 +58,7 @@ pub fn lend_request(control: &mut Control, node: u64, client: u64, asked: Asked)
         lane: 0,
         request: port.loans % (1 << 62),
     };
-    lend(control, lender, asked)
+    lend(control, &lender, asked)
 }
 
 /// Lends a response to that active request, whose handle is looked for at the hint first. All that
@@ -94,5 +95,5 @@ pub fn lend_response(
         lane: label.lane,
         request: label.request,
     };
-    lend(control, lender, asked)
+    lend(control, &lender, asked)
 }

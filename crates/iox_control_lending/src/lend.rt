@@ -9,10 +9,10 @@ ghost use Rattle.iox_tables.specs.HubLoans.Loans.{loaned_handle};
 ghost use Rattle.iox_tables.specs.HubLending.Keeping.{has_holder};
 ghost use Rattle.iox_control.specs.Controls.{IsControl};
 ghost use Rattle.iox_control.specs.Entries.{handle_state};
-ghost use Rattle.iox_control_lending.specs.Lends.{IsMade, IsPortOf, lane_by, lender_of, with_written_out};
+ghost use Rattle.iox_control_lending.specs.Lends.{IsMade, IsPortOf, lane_by, lender_of, on_lane, with_written_out};
 
 use crate::asked::{Asked, Lending, Loaned};
-use crate::lanes::free_lane;
+use crate::lowest::lowest_lane;
 use iox_control::Control;
 use iox_handles::Entry;
 use iox_model::kind::{Kind, Role};
@@ -38,10 +38,10 @@ fn loan_kind(role: Role, uninit: bool) -> Kind
 }
 
 /// The handle of a loan in that slot.
-fn loan_entry(control: &Control, lender: Lending, uninit: bool, slot: u64) -> Entry
+fn loan_entry(control: &Control, lender: &Lending, uninit: bool, slot: u64) -> Entry
     ensures number { result.number ≡ control.now.tables.next_number }
-    ensures handle { (p : PortState) → lender.port ≡ info_of p → handle_state result
-        ≡ loaned_handle control.now.tables (lender_of p lender) uninit slot }
+    ensures handle { (p : PortState) → lender.now.port ≡ info_of p → handle_state result
+        ≡ loaned_handle control.now.tables (lender_of p lender.now) uninit slot }
 {
     Entry {
         node: lender.port.node,
@@ -56,38 +56,45 @@ fn loan_entry(control: &Control, lender: Lending, uninit: bool, slot: u64) -> En
 }
 
 /// The lane of a loan: of a client the lowest that is free, if there is one.
-fn lane_for(control: &Control, lender: Lending) -> Option<u64>
-    ensures { (p : PortState) → lender.port ≡ info_of p
-        → result ≡ lane_by p.role control.now.tables (lender_of p lender) }
+fn lane_for(control: &Control, lender: &Lending) -> Option<u64>
+    requires port { IsPortOf control.now.tables lender.now }
+    requires order { IsControl control.now }
+    ensures { (p : PortState) → lender.now.port ≡ info_of p
+        → result ≡ lane_by p.role control.now.tables (lender_of p lender.now) }
 {
     match lender.port.role {
-        Role::Client => free_lane(control, lender.port.number, lender.port.size),
+        Role::Client => lowest_lane(
+            control,
+            lender.port.number,
+            lender.port.pool,
+            lender.port.size,
+        ),
         Role::Server => Some(lender.lane),
     }
 }
 
-/// The loan is written to that slot and handed out; it answers the number of its handle.
-fn hand_out(control: &mut Control, lender: Lending, asked: Asked, slot: u64) -> u64
+/// The loan is written to that slot, on that lane, and handed out; it answers the number of its
+/// handle.
+fn hand_out(control: &mut Control, lender: &Lending, lane: u64, asked: Asked, slot: u64) -> u64
     requires room { 0 < control.old.room }
     requires number { control.old.tables.next_number + 1 < 2 ^ 64 }
     requires calls { control.old.tables.calls + 1 < 2 ^ 64 }
     requires loans { option_map_or (λ p. p.loans)
-        (port_in control.old.tables.ports lender.port.number) 0 < 2 ^ 64 - 1 }
+        (port_in control.old.tables.ports lender.now.port.number) 0 < 2 ^ 64 - 1 }
     ensures number { result ≡ control.old.tables.next_number }
-    ensures left { (p : PortState) → lender.port ≡ info_of p → control.new
-        ≡ with_written_out control.old (lender_of p lender) asked slot }
+    ensures left { (p : PortState) → lender.now.port ≡ info_of p → control.new
+        ≡ with_written_out control.old (on_lane (lender_of p lender.now) lane) asked slot }
 {
-    let port = lender.port;
     let entry = loan_entry(control, lender, asked.uninit, slot);
     control.write_slot(
-        port.pool,
+        lender.port.pool,
         slot,
-        port.loans,
-        lender.lane,
+        lender.port.loans,
+        lane,
         lender.request,
         asked.elements,
     );
-    control.count_loan(port.number);
+    control.count_loan(lender.port.number);
     control.add_handle(entry);
     control.count_call();
     entry.number
@@ -95,16 +102,16 @@ fn hand_out(control: &mut Control, lender: Lending, asked: Asked, slot: u64) -> 
 
 /// The loan is made in a slot that nobody has. It is `None` where there is none, and then nothing
 /// changes.
-pub(crate) fn lend_free(control: &mut Control, lender: Lending, asked: Asked) -> Option<Loaned>
-    requires port { IsPortOf control.old.tables lender }
+pub(crate) fn lend_free(control: &mut Control, lender: &Lending, asked: Asked) -> Option<Loaned>
+    requires port { IsPortOf control.old.tables lender.now }
     requires order { IsControl control.old }
     requires calls { control.old.tables.calls < 2 ^ 56 }
     ensures unchanged { result ≡ None → control.new ≡ control.old }
     ensures full { result ≡ None
-        → list_all has_holder (slots_of control.old.tables.pools lender.port.pool) ≡ true }
+        → list_all has_holder (slots_of control.old.tables.pools lender.now.port.pool) ≡ true }
     ensures made { IfSome result (λ l. (p : PortState)
-        → port_in control.old.tables.ports lender.port.number ≡ Some p
-        → IsMade control.old (lender_of p lender) asked l control.new) }
+        → port_in control.old.tables.ports lender.now.port.number ≡ Some p
+        → IsMade control.old (lender_of p lender.now) asked l control.new) }
 {
     let lane = lane_for(control, lender);
     let Some(slot) = control.acquire(lender.port.pool) else {
@@ -113,13 +120,7 @@ pub(crate) fn lend_free(control: &mut Control, lender: Lending, asked: Asked) ->
     let Some(lane) = lane else {
         unreachable!();
     };
-    let on = Lending {
-        port: lender.port,
-        client: lender.client,
-        lane,
-        request: lender.request,
-    };
-    let number = hand_out(control, on, asked, slot);
+    let number = hand_out(control, lender, lane, asked, slot);
     Some(Loaned {
         number,
         pool: lender.port.pool,

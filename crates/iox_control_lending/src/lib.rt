@@ -6,6 +6,7 @@ mod calls;
 mod counts;
 mod lanes;
 mod lend;
+mod lowest;
 mod refusals;
 pub mod uses;
 mod writes;

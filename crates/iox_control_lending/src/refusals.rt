@@ -33,8 +33,8 @@ fn reaches(many: u64, a: u64, b: u64, c: u64) -> bool
 }
 
 /// Why the port lends nothing of that length.
-fn size_refusal(port: PortInfo, asked: Asked) -> Option<LoanRefusal>
-    ensures { (p : PortState) (shape : Shape) → port ≡ info_of p → IsAskedOf shape asked
+fn size_refusal(port: &PortInfo, asked: Asked) -> Option<LoanRefusal>
+    ensures { (p : PortState) (shape : Shape) → port.now ≡ info_of p → IsAskedOf shape asked
         → option_map refusal_of result ≡ size_refusal p shape asked.elements }
 {
     if !asked.is_count {
@@ -54,19 +54,35 @@ fn has_all_requests(control: &Control, client: u64) -> bool
     control.settings().loaned_requests <= requests_on_loan(control, client)
 }
 
-/// Whether the server has as many loans as it may, to that request or in all.
-fn has_all_responses(control: &Control, lender: Lending) -> bool
-    ensures { result ≡ (nat_le lender.port.loaned_responses
-        (responses_to control.now.tables lender.port.number lender.client lender.request)
-        || nat_le (lender.port.loaned_responses * control.now.tables.settings.active_requests
-        * control.now.tables.settings.clients)
-        (responses_on_loan control.now.tables lender.port.number)) }
+/// Whether the server, with so many loans in all, has as many as it may to that request.
+#[tactic(auto, using(crate::proofs::CountLemmas::few_to_one))]
+fn has_all_to_one(control: &Control, lender: &Lending, in_all: u64) -> bool
+    requires { in_all ≡ responses_on_loan control.now.tables lender.now.port.number }
+    ensures { result ≡ nat_le lender.now.port.loaned_responses
+        (responses_to control.now.tables lender.now.port.number lender.now.client
+        lender.now.request) }
 {
-    let port = lender.port;
+    let port = &lender.port;
+    if in_all < port.loaned_responses {
+        return false;
+    }
     let to_one = responses_to(control, port.number, lender.client, lender.request) as u64;
+    port.loaned_responses <= to_one
+}
+
+/// Whether the server has as many loans as it may, to that request or in all.
+fn has_all_responses(control: &Control, lender: &Lending) -> bool
+    ensures { result ≡ (nat_le lender.now.port.loaned_responses
+        (responses_to control.now.tables lender.now.port.number lender.now.client
+        lender.now.request)
+        || nat_le (lender.now.port.loaned_responses * control.now.tables.settings.active_requests
+        * control.now.tables.settings.clients)
+        (responses_on_loan control.now.tables lender.now.port.number)) }
+{
+    let port = &lender.port;
     let in_all = responses_on_loan(control, port.number) as u64;
     let settings = control.settings();
-    port.loaned_responses <= to_one
+    has_all_to_one(control, lender, in_all)
         || reaches(
             in_all,
             port.loaned_responses,
@@ -76,10 +92,10 @@ fn has_all_responses(control: &Control, lender: Lending) -> bool
 }
 
 /// Whether the lender has as many loans as it may.
-fn has_all_loans(control: &Control, lender: Lending) -> bool
-    ensures { (p : PortState) → lender.port ≡ info_of p
+fn has_all_loans(control: &Control, lender: &Lending) -> bool
+    ensures { (p : PortState) → lender.now.port ≡ info_of p
         → refused_if result ExceedsMaxLoans
-        ≡ count_refusal_by p.role control.now.tables (lender_of p lender) }
+        ≡ count_refusal_by p.role control.now.tables (lender_of p lender.now) }
 {
     match lender.port.role {
         Role::Client => has_all_requests(control, lender.port.number),
@@ -96,10 +112,10 @@ pub fn loan_refusal(control: &Control, lender: Lending, asked: Asked) -> Option<
     if control.calls() >= 1 << 56 {
         return Some(LoanRefusal::CallsSpent);
     }
-    match size_refusal(lender.port, asked) {
+    match size_refusal(&lender.port, asked) {
         Some(refusal) => Some(refusal),
         None => {
-            if has_all_loans(control, lender) {
+            if has_all_loans(control, &lender) {
                 return Some(LoanRefusal::ExceedsMaxLoans);
             }
             None

@@ -108,15 +108,16 @@ pub fn write(
     })
 }
 
-/// The holder of a loan filled some of it, or all of it, and this is where its words lie. Its handle
-/// is looked for at the hint first.
+/// The holder of a loan filled some of it, or all of it, and this is where its words lie. Its
+/// handle is looked for at the hint first.
 pub fn fill(control: &mut Control, node: u64, number: u64, hint: usize, all: bool) -> Place
     requires loan { IsLoan control.old.tables node number }
     requires order { IsControl control.old }
     ensures place { (h : HandleState) → handle_in control.old.tables.handles node number ≡ Some h
         → result ≡ place_of h }
     ensures left { (h : HandleState) → handle_in control.old.tables.handles node number ≡ Some h
-        → control.new ≡ with_tables control.old (with_kind control.old.tables h (kind_after all h.kind)) }
+        → control.new ≡ with_tables control.old
+        (with_kind control.old.tables h (kind_after all h.kind)) }
     ensures order { IsControl control.new }
     ensures filled { (x : Given) (h : HandleState) (z : Filling)
         → handle_in control.old.tables.handles node number ≡ Some h
