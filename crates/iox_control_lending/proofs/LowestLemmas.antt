@@ -23,7 +23,8 @@ use Rattle.iox_tables.proofs.HubLending.Kept.{both, some_holder}
 use Rattle.iox_tables.proofs.HubLending.Owning.{not_true, number_is, of_each, port_is, slot_there, two, used_among, used_within}
 use Rattle.iox_control_lending.specs.Tests.{held_count, is_lane_held, is_of_request, requests_of}
 use Rattle.iox_control_lending.proofs.HeldLemmas.{bit_of, passes_at, passes_from}
-use Rattle.iox_control_lending.proofs.Owns.{length_mapped, own_slots_of}
+use Rattle.iox_control_lending.proofs.Owns.{own_slots_of}
+use Rattle.iox_tables.proofs.HubBooks.Frames.{length_map}
 
 -- ---- lists of numbers
 
@@ -166,7 +167,7 @@ module _ (t : HubTables) (n : ℕ) (p : PortState) (order : AreInOrder t) (there
     asked_for : (k : ℕ) (s : SlotState) → slice_get slots k ≡ Some s → has_holder s ≡ true → IsAmong k asked_slots
     asked_for k s at held =
         has_all asked_slots (filter used (range_with_len 0 (length slots))) (own_slots_of t n p order there asks its_own) is_used
-        (length_mapped (λ (h : HandleState). h.slot) (filter asks t.handles) ∙ same ∙ held_numbers slots) k
+        (length_map (λ (h : HandleState). h.slot) (filter asks t.handles) ∙ same ∙ held_numbers slots) k
         (among-filter used k (range_with_len 0 (length slots)) (range-has 0 (length slots) k (none_below k) (up k (length slots) (slice_get_within slots k s at)))
         (ap has_holder (ap (λ o. option_map_or (λ (x : SlotState). x) o no_slot) at) ∙ held))
 

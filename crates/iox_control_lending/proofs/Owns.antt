@@ -13,36 +13,12 @@ use Rattle.iox_tables.specs.HubBooks.Hubs.{AreInOrder, IsUsed}
 use Rattle.iox_tables.specs.HubBooks.Rooms.{own_count}
 use Rattle.iox_tables.specs.HubLending.Choosing.{IsFreeSlot}
 use Rattle.iox_tables.specs.HubLending.Keeping.{has_holder}
+use Rattle.iox_tables.proofs.HubBooks.Frames.{length_map}
+use Rattle.iox_tables.proofs.HubLending.Chosen.{one_less}
 use Rattle.iox_tables.proofs.HubLending.Kept.{both, some_holder}
 use Rattle.iox_tables.proofs.HubLending.Owning.{of_each, port_is, two, used_among, used_within}
 
 -- ---- lists
-
-pub length_mapped : {A B : Type 0} (f : A → B) (xs : List A) → length (map f xs) ≡ length xs
-length_mapped f [] = refl
-length_mapped f (x ∷ xs) = ap suc (length_mapped f xs)
-
-no_more : {A : Type 0} (test : A → Bool) (xs : List A) → length (filter test xs) ≤ length xs
-no_more test [] = omega arith
-no_more test (x ∷ xs) = step (test x) (no_more test xs)
-  where
-    step : (b : Bool) → length (filter test xs) ≤ length xs → length (if b then x ∷ filter test xs else filter test xs) ≤ length (x ∷ xs)
-    step true rest = omega (arith, rest)
-    step false rest = omega (arith, rest)
-
--- where one does not pass, fewer pass than there are
-one_less : {A : Type 0} (test : A → Bool) (a : A) (xs : List A) → IsAmong a xs → test a ≡ false → length (filter test xs) + 1 ≤ length xs
-one_less test a [] p e = absurd p
-one_less test a (x ∷ xs) (inl is) e = step (test x) (ap test (sym is) ∙ e) (no_more test xs)
-  where
-    step : (b : Bool) → b ≡ false → length (filter test xs) ≤ length xs → length (if b then x ∷ filter test xs else filter test xs) + 1 ≤ length (x ∷ xs)
-    step true off rest = absurd (true≢false off)
-    step false off rest = omega (arith, rest)
-one_less test a (x ∷ xs) (inr p) e = step (test x) (one_less test a xs p e)
-  where
-    step : (b : Bool) → length (filter test xs) + 1 ≤ length xs → length (if b then x ∷ filter test xs else filter test xs) + 1 ≤ length (x ∷ xs)
-    step true rest = omega (arith, rest)
-    step false rest = omega (arith, rest)
 
 -- how many pass is the length of those that do
 pub many_are : {A : Type 0} (test : A → Bool) (xs : List A) → how_many test xs ≡ length (filter test xs)
@@ -171,7 +147,7 @@ module _ (t : HubTables) (n slot : ℕ) (p : PortState) (order : AreInOrder t) (
   pub own_are_fewer : own_count t.handles p + 1 ≤ p.size
   own_are_fewer =
       let many : own_count t.handles p ≡ length (filter own t.handles) = many_are own t.handles in
-      let as_many = length_mapped (λ (h : HandleState). h.slot) (filter own t.handles) in
+      let as_many = length_map (λ (h : HandleState). h.slot) (filter own t.handles) in
       let apart = own_slots_of t n p order is.there own (λ h e. e) in
       let fits = no-longer (map (λ (h : HandleState). h.slot) (filter own t.handles)) (filter (used t n p order is.there) slots) apart is_used in
       let less = one_less (used t n p order is.there) slot slots (range-has 0 p.size slot (none_below slot) (up slot p.size is.within)) (no_holder _ is.free) in

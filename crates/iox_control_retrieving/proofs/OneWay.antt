@@ -22,35 +22,12 @@ use Rattle.iox_tables.proofs.HubBooks.LaneTotals.{lane_total}
 use Rattle.iox_tables.specs.HubLending.Emptying.{HasFewerHolders, returned_count, returned_on}
 use Rattle.iox_slots.specs.Pools.{with_slot}
 use Rattle.iox_slots.specs.Slots.{let_go, with_slot_of}
+use Rattle.iox_slots.proofs.BareLemmas.{let_go_bare}
 use Rattle.iox_slots.proofs.CallerLemmas.{holders_let_go, one_at}
 use Rattle.iox_control.specs.Controls.{ControlState, IsControl, with_pools, with_tables}
 use Rattle.iox_control_retrieving.proofs.KeptInOrder.{emptied_is_control}
 
 -- ---- pools that differ in holders
-
-map_set : {A B : Type 0} (show : A → B) (xs : List A) (i : ℕ) (x y : A) → slice_get xs i ≡ Some x → show x ≡ show y → map show xs ≡ map show (slice_set xs i y)
-map_set show [] i x y at e = refl
-map_set show (z ∷ zs) zero x y at e = ap (λ b. b ∷ map show zs) (ap show (same_Some z x at) ∙ e)
-map_set show (z ∷ zs) (suc i) x y at e = ap (λ bs. show z ∷ bs) (map_set show zs i x y at e)
-
-pool_bare : (p : PoolState) (k : ℕ) → bare_pool p ≡ bare_pool (with_slot_of let_go p k)
-pool_bare p k = step (slice_get p.slots k) refl
-  where
-    step : (o : Option SlotState) → slice_get p.slots k ≡ o → bare_pool p ≡ bare_pool (option_map_or (λ s. record p { slots = slice_set p.slots k (let_go s) }) o p)
-    step None at = refl
-    step (Some s) at = ap (λ ss. record p { slots = ss }) (map_set bare_slot p.slots k s (let_go s) at refl)
-
-pub let_go_bare : (pools : List (Option PoolState)) (place k : ℕ) → bare_pools pools ≡ bare_pools (with_slot let_go pools place k)
-let_go_bare pools place k = step (slice_get pools place) refl
-  where
-    inside : (o : Option PoolState) → option_map bare_pool o ≡ option_map bare_pool (option_map (λ p. with_slot_of let_go p k) o)
-    inside None = refl
-    inside (Some p) = ap (λ q. Some q) (pool_bare p k)
-
-    step : (o : Option (Option PoolState)) → slice_get pools place ≡ o
-        → bare_pools pools ≡ bare_pools (option_map_or (λ q. slice_set pools place (option_map (λ p. with_slot_of let_go p k) q)) o pools)
-    step None at = refl
-    step (Some q) at = map_set (option_map bare_pool) pools place q (option_map (λ p. with_slot_of let_go p k) q) at (inside q)
 
 fits_one : (pools : List (Option PoolState)) (P k Q j : ℕ) → 0 < (slot_at pools P k).holders → one_at P k Q j ≤ (slot_at pools Q j).holders
 fits_one pools P k Q j some = step (P == Q) refl (k == j) refl
