@@ -2,6 +2,7 @@ pub mod GoesOn
 pub mod Named
 pub mod Received
 pub mod Starting
+pub mod Shaping
 pub mod Fitting
 pub mod Reading
 pub mod HeadersShown

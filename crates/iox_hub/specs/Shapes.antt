@@ -1,13 +1,28 @@
 -- What the messages of one role are made of, as the machine's shape.
-use Rattle.std.specs.Prelude.{ℕ, Bool, List}
+use Rattle.std.specs.Prelude.{◌≡◌, ℕ, ◌*◌, Bool, List, Option}
 use Rattle.std.specs.Option.{option_map}
 use Rattle.iox_types.specs.Parts as machine
 use Rattle.iox_model.specs.Settings.{IsPart, Shape}
 use Rattle.iox_hub.specs.declared.shape.MessageShape.{MessageShape}
 use Rattle.iox_hub.specs.declared.shape.Part.{Part}
 
+-- the same part, as the machine has it
 abbrev pub part_of : Part → machine.Part
 part_of p = record { size = p.size; alignment = p.alignment }
+
+-- a part of so many whole words
+abbrev pub words_part : ℕ → Part
+words_part n = record { size = 8 * n; alignment = 8 }
+
+-- messages of these parts, with this default of an element and of the user header
+abbrev pub message_of : {E H : Type 0} → Option E → H → Part → Part → Part → MessageShape E H
+message_of default user_header header user element = record {
+  default = default;
+  user_header = user_header;
+  header_part = header;
+  user_part = user;
+  element_part = element;
+}
 
 -- the shape, where elements have so many words, and these are the words of an element and of a header
 abbrev pub shape_of : {E H : Type 0} → Bool → ℕ → (E → List ℕ) → (H → List ℕ) → MessageShape E H → Shape
@@ -26,3 +41,9 @@ pub record HaveParts {E H : Type 0} (m : MessageShape E H) : Type 0 where
   pub header : IsPart (part_of m.header_part)
   pub user : IsPart (part_of m.user_part)
   pub element : IsPart (part_of m.element_part)
+
+-- A message of this shape may have any number of elements, or has one, as is said, and an element
+-- has so many words.
+pub record IsOfType (any : Bool) (words : ℕ) (x : Shape) : Type 0 where
+  pub many : x.many ≡ any
+  pub width : x.width ≡ words

@@ -1,9 +1,34 @@
 -- A hub as it starts.
-use Rattle.std.specs.Prelude.{[], max}
+use Rattle.std.specs.Prelude.{[], max, true}
+use Rattle.iox_types.specs.FirstLimits.{first_active_requests, first_borrowed_responses, first_clients, first_expired, first_loaned_requests, first_loaned_responses, first_nodes, first_response_buffer, first_servers}
+use Rattle.iox_types.specs.declared.backpressure.AllocationStrategy.TheVariants as allocations
+use Rattle.iox_types.specs.declared.backpressure.BackpressureStrategy.TheVariants as strategies
 use Rattle.iox_model.specs.Settings.{Shape}
 use Rattle.iox_tables.specs.HubStates.Tables.{HubSettings}
 use Rattle.iox_control.specs.Controls.{new_control}
 use Rattle.iox_hub.specs.Hubs.{HubState}
+
+-- the settings of a service where nobody sets others
+abbrev pub default_settings : HubSettings
+default_settings = record {
+  clients = first_clients;
+  servers = first_servers;
+  nodes = first_nodes;
+  active_requests = first_active_requests;
+  loaned_requests = first_loaned_requests;
+  response_buffer = first_response_buffer;
+  borrowed_responses = first_borrowed_responses;
+  loaned_responses = first_loaned_responses;
+  client_expired = first_expired;
+  server_expired = first_expired;
+  request_overflow = true;
+  response_overflow = true;
+  fire_and_forget = true;
+  client_strategy = strategies.RetryUntilDelivered;
+  server_strategy = strategies.RetryUntilDelivered;
+  client_allocation = allocations.Static;
+  server_allocation = allocations.Static;
+}
 
 -- each limit of 0 is 1, and no port keeps messages of ports that are gone
 abbrev pub started : HubSettings → HubSettings

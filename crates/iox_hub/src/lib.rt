@@ -1,5 +1,5 @@
-//! A hub: its tables, and the words of its messages. Each call is one whole call of the machine, and a
-//! service and its hub can reach the state that a hub shows.
+//! A hub: its tables, and the words of its messages. Each call is one whole call of the machine,
+//! and a service and its hub can reach the state that a hub shows.
 #![tactic(auto)]
 
 mod asking;
@@ -39,4 +39,5 @@ mod writing;
 pub use headers::MessageHeader;
 pub use hub::Hub;
 pub use options::Options;
+pub use settings::default_settings;
 pub use shape::{MessageShape, Part};

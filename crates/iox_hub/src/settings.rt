@@ -1,9 +1,35 @@
-//! The settings of a hub as it starts.
+//! The settings of a service where nobody sets others, and those of a hub as it starts.
 ghost use Rattle.std.specs.Prelude.{◌≡◌};
 ghost use Rattle.iox_control.specs.Settings.{settings_of};
-ghost use Rattle.iox_hub.specs.Starts.{started};
+ghost use Rattle.iox_hub.specs.Starts.{default_settings, started};
 
 use iox_control::Settings;
+use iox_types::{AllocationStrategy, BackpressureStrategy};
+
+/// The settings of a service where nobody sets others.
+pub fn default_settings() -> Settings
+    ensures { settings_of result ≡ default_settings }
+{
+    Settings {
+        clients: 8,
+        servers: 2,
+        nodes: 20,
+        active_requests: 4,
+        loaned_requests: 2,
+        response_buffer: 2,
+        borrowed_responses: 2,
+        loaned_responses: 2,
+        client_expired: 128,
+        server_expired: 128,
+        request_overflow: true,
+        response_overflow: true,
+        fire_and_forget: true,
+        client_strategy: BackpressureStrategy::RetryUntilDelivered,
+        server_strategy: BackpressureStrategy::RetryUntilDelivered,
+        client_allocation: AllocationStrategy::Static,
+        server_allocation: AllocationStrategy::Static,
+    }
+}
 
 /// Each limit of 0 is 1, and no port keeps messages of ports that are gone.
 pub fn started(settings: Settings) -> Settings
