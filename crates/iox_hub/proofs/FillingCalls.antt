@@ -27,7 +27,7 @@ use Rattle.iox_tables.proofs.HubLending.Filled.{loans_are_of_one_handle}
 use Rattle.iox_control.specs.Controls.{ControlState, IsControl, with_tables}
 use Rattle.iox_control_lending.specs.declared.asked.Place.{Place}
 use Rattle.iox_control_lending.specs.Fills.{IsLoan, kind_after, place_of}
-use Rattle.iox_hub.specs.Fillings.{FillsLoan, SuitsShape, filling_of, with_filling}
+use Rattle.iox_hub.specs.Fillings.{FillsLoan, IsFill, SuitsShape, filling_of, with_filling}
 use Rattle.iox_hub.specs.Fits.{SuitsHandle, WordsFit, are_requests_in, carried_in, count_in, is_full_loan}
 use Rattle.iox_hub.specs.Hubs.{HubState, IsHub, given_by, state_of_hub}
 use Rattle.iox_hub.specs.Lending.{with_message}
@@ -41,7 +41,7 @@ use Rattle.iox_hub.proofs.LendingGiven.{given_put}
 use Rattle.iox_hub.proofs.LendingWords.{count_new, requests_new, stored_else, stored_new}
 use Rattle.iox_hub.proofs.LendingWrites.{IsLoanOf, changed_is_found, found_has, is_loan_of, is_loan_there, loan_elements, loan_is_one, loan_message, loan_named, loan_of_role, loan_within, low_if_used}
 use Rattle.iox_hub.proofs.Named.{found_is_handle, handle_is_value}
-use Rattle.iox_hub.proofs.Reading.{stored_is}
+use Rattle.iox_hub.proofs.Reading.{are_requests_same, carried_same, count_same, has_slot, stored_is}
 
 -- A filling leads to a hub.
 pub hub_is_filled : (h h' : HubState) (node n : ℕ) (w : Filling) → IsHub h → IsControl h'.control → WordsFit h'.words h'.control.tables
@@ -53,18 +53,15 @@ hub_is_filled h h' node n w hub order fit filling =
       reached = (x, step_is_reached (state_of_hub x h) (state_of_hub x h') (OfLoan node n w) reached (filling x));
     }
 
--- Some of a loan is filled, or all, as the tables say.
+-- The holder of a loan of that role fills some of it, or all, as the tables say.
 pub record IsFillCall (h : HubState) (role : Role) (node n : ℕ) (all : Bool) (new : ControlState) (place : Place) : Type 0 where
+  pub hub : IsHub h
   pub loan : IsLoanOf role h node n
-  pub at : (j : HandleState) → handle_in h.control.tables.handles node n ≡ Some j → place ≡ place_of j
-  pub left :
-      (j : HandleState) → handle_in h.control.tables.handles node n ≡ Some j
-      → new ≡ with_tables h.control (with_kind h.control.tables j (kind_after all j.kind))
-  pub order : IsControl new
-  pub filled :
-      (x : Given) (j : HandleState) (w : Filling) → handle_in h.control.tables.handles node n ≡ Some j → w.kind ≡ kind_after all j.kind
-      → MayFill (fixed_of x h.control.tables) (handle_shown x h.control.tables j) w
-      → IsFilling (state_shown x h.control.tables) node n w (state_shown (with_contents x j.pool j.slot (contents_of w)) new.tables)
+  pub fill : IsFill h.control node n all new place
+
+pub fill_call : (role : Role) {h : HubState} → IsHub h → (now : HubState) → h ≡ now → (node n : ℕ) → HasOf (is_loan_of role) now node n
+    → {all : Bool} {new : ControlState} {place : Place} → IsFill h.control node n all new place → IsFillCall h role node n all new place
+fill_call role hub now is node n has fill = record { hub = hub; loan = loan_named role hub now is node n has; fill = fill }
 
 -- ---- the loan that is named
 
@@ -80,24 +77,22 @@ slot_within {h} hub node n k there =
 -- ---- once its message is another
 
 module _ (words : List (Option Carried)) (place : Place) (z : Stored) (new : List (Option Carried)) (put : new ≡ with_message words place.pool place.slot z) where
-  pub put_of : (b : Bool) → are_requests_in words place.pool ≡ b → are_requests_in new place.pool ≡ b
+  put_of : (b : Bool) → are_requests_in words place.pool ≡ b → are_requests_in new place.pool ≡ b
   put_of b is = ap (λ (ws : List (Option Carried)). are_requests_in ws place.pool) put ∙ requests_new words place.pool place.slot z place.pool ∙ is
 
   module _ (low : place.slot < count_in words place.pool) where
-    pub put_within : place.slot < count_in new place.pool
+    put_within : place.slot < count_in new place.pool
     put_within =
         subst (λ (ws : List (Option Carried)). place.slot < count_in ws place.pool) (sym put)
         (subst (λ m. place.slot < m) (sym (count_new words place.pool place.slot z place.pool)) low)
 
-    pub put_stored : stored_in new place.pool place.slot ≡ z
+    put_stored : stored_in new place.pool place.slot ≡ z
     put_stored = ap (λ (ws : List (Option Carried)). stored_in ws place.pool place.slot) put ∙ stored_new words place.pool place.slot z low
 
-    pub put_suits : (shape : Shape) (b : Bool) (cs : Contents) → carried_in new place.pool ≡ Some (record { requests = b; contents = cs })
-        → SuitsShape shape (stored_at cs place.slot) → SuitsShape shape z
-    put_suits shape b cs carried suits =
-        subst (SuitsShape shape) (sym (stored_is new place.pool place.slot b cs carried) ∙ put_stored) suits
+module _ {h : HubState} {role : Role} {node n : ℕ} {all : Bool} {new : ControlState} {place : Place} (c : IsFillCall h role node n all new place) where
+  abbrev hub : IsHub h
+  hub = c.hub
 
-module _ {h : HubState} (hub : IsHub h) (role : Role) (node n : ℕ) (all : Bool) (new : ControlState) (place : Place) (c : IsFillCall h role node n all new place) where
   abbrev t : HubTables
   t = h.control.tables
 
@@ -117,10 +112,10 @@ module _ {h : HubState} (hub : IsHub h) (role : Role) (node n : ℕ) (all : Bool
   has j = is_place k.pool k.slot j.pool j.slot
 
   at_place : place ≡ place_of k
-  at_place = c.at k c.loan.there
+  at_place = c.fill.at k c.loan.there
 
   left : new ≡ with_tables h.control (with_kind t k kind)
-  left = c.left k c.loan.there
+  left = c.fill.left k c.loan.there
 
   loan : is_loan k.kind ≡ true
   loan = loan_is_one role k.kind c.loan.passes
@@ -229,10 +224,10 @@ module _ {h : HubState} (hub : IsHub h) (role : Role) (node n : ℕ) (all : Bool
         subst (λ g. IsFilling (state_of_hub x h) node n (filling_of kind z) (state_shown g new.tables))
         (given_put x h new k.pool k.slot z (loan_within role hub node n c.loan)
         ∙ ap (λ (ws : List (Option Carried)). given_by x (record h { control = new; words = ws })) (sym put_here))
-        (c.filled (given_by x h) k (filling_of kind z) c.loan.there refl (may_fill x))
+        (c.fill.filled (given_by x h) k (filling_of kind z) c.loan.there refl (may_fill x))
 
     pub fill_hub : IsHub h'
-    fill_hub = hub_is_filled h h' node n (filling_of kind z) hub c.order fill_fits filled_at
+    fill_hub = hub_is_filled h h' node n (filling_of kind z) hub c.fill.order fill_fits filled_at
 
     -- what the hub is then
 
@@ -245,7 +240,7 @@ module _ {h : HubState} (hub : IsHub h) (role : Role) (node n : ℕ) (all : Bool
     old_kind = handle_is_value t hub.control.order node n k c.loan.there
 
     new_kind : kind_in new.tables node n ≡ Some kind
-    new_kind = handle_is_value new.tables c.order.order node n turned new_found
+    new_kind = handle_is_value new.tables c.fill.order.order node n turned new_found
 
     other_stays : (m j : ℕ) → ((m == node) && (j == n)) ≡ false → handle_in new.tables.handles m j ≡ handle_in t.handles m j
     other_stays m j other =
@@ -277,6 +272,7 @@ module _ {h : HubState} (hub : IsHub h) (role : Role) (node n : ℕ) (all : Bool
         kind =
             ap (λ o. kind_by m (port_in new.tables.ports j) o) (other_stays m j other)
             ∙ ap (λ (d : ControlState). kind_by m (port_in d.tables.ports j) (handle_in t.handles m j)) left;
+        handle = other_stays m j other;
         message =
             ap (λ o. option_map_or (λ (q : HandleState). stored_in words q.pool q.slot) o (unlent 0 [])) (other_stays m j other)
             ∙ other_carries m j other (handle_in t.handles m j) refl;
@@ -286,3 +282,24 @@ module _ {h : HubState} (hub : IsHub h) (role : Role) (node n : ℕ) (all : Bool
           ap₂ (λ (d : ControlState) (ws : List (Option Carried)). record h { control = d; words = ws }) left put_here
           ∙ ap (λ (p : HandleState). with_filling h p (kind_after all p.kind) z) same;
     }
+
+-- ---- its words are looked up, once its message is another
+
+module _ {h : HubState} {role : Role} {node n : ℕ} {all : Bool} {new : ControlState} {place : Place} (c : IsFillCall h role node n all new place)
+    (words : List (Option Carried)) (z : Stored) (put : words ≡ with_message h.words place.pool place.slot z) (ws : List (Option Carried)) (same : ws ≡ words) where
+  pub looked_of : are_requests_in ws place.pool ≡ is_client role
+  looked_of = are_requests_same ws words place.pool (is_client role) same (put_of h.words place z words put (is_client role) (fill_of c))
+
+  pub looked_within : 0 < count_in ws place.pool
+  looked_within = count_same ws words place.pool place.slot same (put_within h.words place z words put (fill_within c))
+
+  module _ (b : Bool) (cs : Contents) (found : carried_in ws place.pool ≡ Some (record { requests = b; contents = cs })) where
+    found_so : carried_in words place.pool ≡ Some (record { requests = b; contents = cs })
+    found_so = carried_same ws words place.pool b cs same found
+
+    pub looked_slot : place.slot < length cs.messages
+    looked_slot = has_slot words place.pool place.slot b cs found_so (put_within h.words place z words put (fill_within c))
+
+    pub looked_suits : (shape : Shape) → SuitsShape shape (stored_at cs place.slot) → SuitsShape shape z
+    looked_suits shape suits =
+        subst (SuitsShape shape) (sym (stored_is words place.pool place.slot b cs found_so) ∙ put_stored h.words place z words put (fill_within c)) suits

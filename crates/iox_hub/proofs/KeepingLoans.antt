@@ -130,41 +130,41 @@ module _ {h : HubState} (hub : IsHub h) (role : Role) (shape : Shape) (uninit : 
 
 -- ---- writes
 
-module _ {h : HubState} (hub : IsHub h) (role : Role) (node n count : ℕ) (new : ControlState) where
-  module _ (place : Place) (c : IsWriteCall h role node n count new (written.Done place)) (words : List (Option Carried)) (z : Stored)
-      (put : words ≡ with_message h.words place.pool place.slot z) where
-    abbrev tables : HubTables
-    tables = h.control.tables
+module _ {h : HubState} {role : Role} {node n count : ℕ} {new : ControlState} {place : Place} (c : IsWriteCall h role node n count new (written.Done place))
+    (words : List (Option Carried)) (z : Stored) (put : words ≡ with_message h.words place.pool place.slot z) where
+  abbrev tables : HubTables
+  tables = h.control.tables
 
-    abbrev loan : HandleState
-    loan = c.loan.handle
+  abbrev loan : HandleState
+  loan = c.loan.handle
 
-    is : IsFilled h.control loan (Some count) place new
-    is = c.left loan c.loan.there
+  is : IsFilled h.control loan (Some count) place new
+  is = c.write.left loan c.loan.there
 
-    pub write_keeps : KeepsOthers h node n (record h { control = new; words = words })
-    write_keeps a m other some = value_stays h (record h { control = new; words = words }) c.order.order a m ports row message some
-      where
-        ports : PortStays tables new.tables a m
-        ports p at held on = (p, ap (λ (d : ControlState). port_in d.tables.ports m) is.left ∙ at, refl)
+  pub write_keeps : KeepsOthers h node n (record h { control = new; words = words })
+  write_keeps a m other some = value_stays h (record h { control = new; words = words }) c.write.order.order a m ports row message some
+    where
+      ports : PortStays tables new.tables a m
+      ports p at held on = (p, ap (λ (d : ControlState). port_in d.tables.ports m) is.left ∙ at, refl)
 
-        row : RowStays tables new.tables a m
-        row =
-            let has = found_has tables.handles node n loan c.loan.there in
-            ap (λ (d : ControlState). handle_in d.tables.handles a m) is.left
-            ∙ other_changed node n a m other (record loan { kind = filled_kind loan.kind }) has.0 has.1 tables.handles
+      row : RowStays tables new.tables a m
+      row =
+          let has = found_has tables.handles node n loan c.loan.there in
+          ap (λ (d : ControlState). handle_in d.tables.handles a m) is.left
+          ∙ other_changed node n a m other (record loan { kind = filled_kind loan.kind }) has.0 has.1 tables.handles
 
-        message : (j : HandleState) → handle_in tables.handles a m ≡ Some j → stored_in words j.pool j.slot ≡ stored_in h.words j.pool j.slot
-        message j at =
-            ap (λ (ws : List (Option Carried)). stored_in ws j.pool j.slot) put
-            ∙ ap (λ (q : Place). stored_in (with_message h.words q.pool q.slot z) j.pool j.slot) is.at
-            ∙ stored_else h.words loan.pool loan.slot z j.pool j.slot
-            (loan_apart tables hub.control.order node n a m other loan j c.loan.there (loan_is_one role loan.kind c.loan.passes) at)
+      message : (j : HandleState) → handle_in tables.handles a m ≡ Some j → stored_in words j.pool j.slot ≡ stored_in h.words j.pool j.slot
+      message j at =
+          ap (λ (ws : List (Option Carried)). stored_in ws j.pool j.slot) put
+          ∙ ap (λ (q : Place). stored_in (with_message h.words q.pool q.slot z) j.pool j.slot) is.at
+          ∙ stored_else h.words loan.pool loan.slot z j.pool j.slot
+          (loan_apart tables c.hub.control.order node n a m other loan j c.loan.there (loan_is_one role loan.kind c.loan.passes) at)
 
-  pub other_write_keeps : (result : Written) → ((p : Place) → result ≡ written.Done p → ⊥) → IsWriteCall h role node n count new result → KeepsOthers h node n (with_control h new)
-  other_write_keeps (written.Done p) never c = absurd (never p refl)
-  other_write_keeps written.WrongLength never c =
-      λ a m other some. all_kept h (with_control h new) (misfit_left role hub node n c.loan count new (c.left c.loan.handle c.loan.there)) a m tt some
+pub other_write_keeps : {h : HubState} {role : Role} {node n count : ℕ} {new : ControlState} (result : Written) → ((p : Place) → result ≡ written.Done p → ⊥)
+    → IsWriteCall h role node n count new result → KeepsOthers h node n (with_control h new)
+other_write_keeps (written.Done p) never c = absurd (never p refl)
+other_write_keeps {h} {role} {node} {n} {count} {new} written.WrongLength never c =
+    λ a m other some. all_kept h (with_control h new) (misfit_left role c.hub node n c.loan count new (c.write.left c.loan.handle c.loan.there)) a m tt some
 
 -- ---- makings
 

@@ -1,70 +1,70 @@
 -- What a write that is asked of a hub comes to, by each result.
-use Rattle.std.specs.Prelude.{◌≡◌, ℕ, ◌<◌, true, false, List, [], Option, Some, refl}
+use Rattle.std.specs.Prelude.{◌≡◌, ℕ, ◌<◌, List, [], Option, Some, refl}
 use Rattle.std.proofs.Common.{sym, ap, subst}
 use Rattle.iox_store.specs.Stored.{filled_with}
 use Rattle.iox_model.specs.declared.call.Call.TheVariants.{Write}
 use Rattle.iox_model.specs.declared.kind.Role.{Role}
-use Rattle.iox_model.specs.Commands.{Payload}
-use Rattle.iox_model.specs.Names.{suits}
 use Rattle.iox_model.specs.Settings.{is_client}
 use Rattle.iox_model.specs.WholeCalls.{IsWholeCall}
-use Rattle.iox_tables.specs.HubStates.States.{Given, state_shown}
-use Rattle.iox_tables.specs.HubStates.Tables.{HandleState}
-use Rattle.iox_tables.specs.HubStates.Wirings.{handle_in}
-use Rattle.iox_control.specs.Controls.{ControlState, IsControl}
+use Rattle.iox_tables.specs.HubStates.States.{Given}
+use Rattle.iox_control.specs.Controls.{ControlState}
 use Rattle.iox_control_lending.specs.declared.asked.Place.{Place}
 use Rattle.iox_control_lending.specs.declared.asked.Written.{Written}
 use Rattle.iox_control_lending.specs.declared.asked.Written.TheVariants as written
-use Rattle.iox_control_lending.specs.Fills.{Writes, given_written, reply_of_write}
+use Rattle.iox_control_lending.specs.Fills.{IsFilled, reply_of_write}
 use Rattle.iox_hub.specs.Fits.{are_requests_in, count_in}
 use Rattle.iox_hub.specs.Hubs.{HubState, IsHub, given_by, state_of_hub, with_control}
-use Rattle.iox_hub.specs.Lending.{HasWritten, IsWritten, LeavesWritten, payload_of, with_message}
+use Rattle.iox_hub.specs.Lending.{HasWritten, IsWrite, IsWritten, LeavesWritten, payload_of, with_message}
+use Rattle.iox_hub.specs.Reads.{HasOf}
 use Rattle.iox_hub.specs.Words.{Carried, stored_in}
-use Rattle.iox_hub.proofs.LendingWrites.{IsLoanOf, is_written, kind_of_filled, misfit_left, misfit_length, write_equal, write_of_role, write_within, written_hub, written_whole}
+use Rattle.iox_hub.proofs.LendingWrites.{IsLoanOf, is_loan_of, is_written, kind_of_filled, loan_named, misfit_left, misfit_length, write_equal, write_of_role, write_within, written_hub, written_whole}
 
--- So many elements were written to a loan of that number, and it came to this.
+-- So many elements were written to a loan of that role and number, and it came to this.
 pub record IsWriteCall (h : HubState) (role : Role) (node n count : ℕ) (new : ControlState) (result : Written) : Type 0 where
+  pub hub : IsHub h
   pub loan : IsLoanOf role h node n
-  pub left : (j : HandleState) → handle_in h.control.tables.handles node n ≡ Some j → Writes h.control j (Some count) result new
-  pub order : IsControl new
-  pub whole :
-      (x : Given) (j : HandleState) (p : Payload) → handle_in h.control.tables.handles node n ≡ Some j → suits false (Write n p) j.kind ≡ true → p.elements ≡ Some count
-      → IsWholeCall (state_shown x h.control.tables) node (Write n p) (reply_of_write result)
-      (state_shown (given_written x h.control.tables j p.words result) new.tables)
+  pub write : IsWrite h.control node n count new result
 
-module _ {h : HubState} (hub : IsHub h) (role : Role) (node n count : ℕ) (new : ControlState) where
-  module _ (place : Place) (c : IsWriteCall h role node n count new (written.Done place)) where
-    pub call_of : are_requests_in h.words place.pool ≡ is_client role
-    call_of = write_of_role role hub node n c.loan [] count new place (c.left c.loan.handle c.loan.there)
+pub write_call : (role : Role) {h : HubState} → IsHub h → (now : HubState) → h ≡ now → (node n : ℕ) → HasOf (is_loan_of role) now node n
+    → {count : ℕ} {new : ControlState} {result : Written} → IsWrite h.control node n count new result → IsWriteCall h role node n count new result
+write_call role hub now is node n has write = record { hub = hub; loan = loan_named role hub now is node n has; write = write }
 
-    pub call_within : place.slot < count_in h.words place.pool
-    call_within = write_within role hub node n c.loan [] count new place (c.left c.loan.handle c.loan.there)
+module _ {h : HubState} {role : Role} {node n count : ℕ} {new : ControlState} {place : Place} (c : IsWriteCall h role node n count new (written.Done place)) where
+  filled : IsFilled h.control c.loan.handle (Some count) place new
+  filled = c.write.left c.loan.handle c.loan.there
 
-    pub call_equal : count ≡ (stored_in h.words place.pool place.slot).elements
-    call_equal = write_equal role hub node n c.loan [] count new place (c.left c.loan.handle c.loan.there)
+  pub call_of : are_requests_in h.words place.pool ≡ is_client role
+  call_of = write_of_role role c.hub node n c.loan [] count new place filled
 
-    module _ (ws : List ℕ) (words : List (Option Carried)) (put : words ≡ with_message h.words place.pool place.slot (filled_with (stored_in h.words place.pool place.slot) ws)) where
-      pub call_left : record h { control = new; words = words }
-          ≡ record h { control = new; words = with_message h.words place.pool place.slot (filled_with (stored_in h.words place.pool place.slot) ws) }
-      call_left = ap (λ (vs : List (Option Carried)). record h { control = new; words = vs }) put
+  pub call_within : place.slot < count_in h.words place.pool
+  call_within = write_within role c.hub node n c.loan [] count new place filled
 
-      pub call_whole : (x : Given) → IsWholeCall (state_of_hub x h) node (Write n (payload_of role count ws)) (reply_of_write (written.Done place)) (state_of_hub x (record h { control = new; words = words }))
-      call_whole = written_whole role hub node n c.loan ws count new place (c.left c.loan.handle c.loan.there) words put c.whole
+  pub call_equal : count ≡ (stored_in h.words place.pool place.slot).elements
+  call_equal = write_equal role c.hub node n c.loan [] count new place filled
 
-      pub call_hub : IsHub (record h { control = new; words = words })
-      call_hub = written_hub role hub node n c.loan ws count new place (c.left c.loan.handle c.loan.there) words put c.whole c.order
+  module _ (ws : List ℕ) (words : List (Option Carried)) (put : words ≡ with_message h.words place.pool place.slot (filled_with (stored_in h.words place.pool place.slot) ws)) where
+    pub call_left : record h { control = new; words = words }
+        ≡ record h { control = new; words = with_message h.words place.pool place.slot (filled_with (stored_in h.words place.pool place.slot) ws) }
+    call_left = ap (λ (vs : List (Option Carried)). record h { control = new; words = vs }) put
 
-      pub call_written : IsWritten h node n (kind_of_filled role) count ws (record h { control = new; words = words })
-      call_written = is_written role hub node n c.loan ws count new place (c.left c.loan.handle c.loan.there) words put c.order
+    pub call_whole : (x : Given) → IsWholeCall (state_of_hub x h) node (Write n (payload_of role count ws)) (reply_of_write (written.Done place)) (state_of_hub x (record h { control = new; words = words }))
+    call_whole = written_whole role c.hub node n c.loan ws count new place filled words put c.write.whole
 
-  -- ---- the loan has not so many elements
+    pub call_hub : IsHub (record h { control = new; words = words })
+    call_hub = written_hub role c.hub node n c.loan ws count new place filled words put c.write.whole c.write.order
 
+    pub call_written : IsWritten h node n (kind_of_filled role) count ws (record h { control = new; words = words })
+    call_written = is_written role c.hub node n c.loan ws count new place filled words put c.write.order
+
+-- ---- the loan has not so many elements
+
+module _ {h : HubState} {role : Role} {node n count : ℕ} {new : ControlState} where
   other_same : (result : Written) → ((p : Place) → result ≡ written.Done p → ⊥) → IsWriteCall h role node n count new result → with_control h new ≡ h
   other_same (written.Done p) never c = absurd (never p refl)
-  other_same written.WrongLength never c = misfit_left role hub node n c.loan count new (c.left c.loan.handle c.loan.there)
+  other_same written.WrongLength never c = misfit_left role c.hub node n c.loan count new (c.write.left c.loan.handle c.loan.there)
 
   pub other_hub : (result : Written) → ((p : Place) → result ≡ written.Done p → ⊥) → IsWriteCall h role node n count new result → IsHub (with_control h new)
-  other_hub result never c = subst IsHub (sym (other_same result never c)) hub
+  other_hub result never c = subst IsHub (sym (other_same result never c)) c.hub
 
   pub other_left : (ws : List ℕ) (result : Written) → ((p : Place) → result ≡ written.Done p → ⊥) → IsWriteCall h role node n count new result
       → LeavesWritten h ws result (with_control h new)
@@ -74,9 +74,9 @@ module _ {h : HubState} (hub : IsHub h) (role : Role) (node n count : ℕ) (new 
   pub other_whole : (ws : List ℕ) (result : Written) → ((p : Place) → result ≡ written.Done p → ⊥) → IsWriteCall h role node n count new result
       → (x : Given) → IsWholeCall (state_of_hub x h) node (Write n (payload_of role count ws)) (reply_of_write result) (state_of_hub x (with_control h new))
   other_whole ws (written.Done p) never c x = absurd (never p refl)
-  other_whole ws written.WrongLength never c x = c.whole (given_by x h) c.loan.handle (payload_of role count ws) c.loan.there c.loan.passes refl
+  other_whole ws written.WrongLength never c x = c.write.whole (given_by x h) c.loan.handle (payload_of role count ws) c.loan.there c.loan.passes refl
 
   pub other_has : (ws : List ℕ) (result : Written) → ((p : Place) → result ≡ written.Done p → ⊥) → IsWriteCall h role node n count new result
       → HasWritten h node n (kind_of_filled role) count ws result (with_control h new)
   other_has ws (written.Done p) never c = absurd (never p refl)
-  other_has ws written.WrongLength never c = misfit_length role hub node n c.loan count new (c.left c.loan.handle c.loan.there)
+  other_has ws written.WrongLength never c = misfit_length role c.hub node n c.loan count new (c.write.left c.loan.handle c.loan.there)

@@ -3,15 +3,20 @@ use Rattle.std.specs.Prelude.{◌≡◌, ℕ, ◌*◌, ◌≤◌, Bool, false, �
 use Rattle.iox_store.specs.Stored.{Stored}
 use Rattle.iox_model.specs.declared.kind.Kind.{Kind}
 use Rattle.iox_model.specs.Settings.{Shape}
-use Rattle.iox_model.specs.Values.{Filling, IsFilling}
-use Rattle.iox_tables.specs.HubStates.States.{Given}
+use Rattle.iox_model.specs.Values.{Filling, IsFilling, MayFill}
+use Rattle.iox_tables.specs.HubStates.Releases.{handle_shown}
+use Rattle.iox_tables.specs.HubStates.States.{Given, fixed_of, state_shown}
 use Rattle.iox_tables.specs.HubStates.Tables.{HandleState}
 use Rattle.iox_tables.specs.HubStates.Wirings.{handle_in}
 use Rattle.iox_tables.specs.HubLending.Filling.{with_kind}
+use Rattle.iox_tables.specs.HubLoans.Fillings.{contents_of}
 use Rattle.iox_tables.specs.HubLoans.Questions.{kind_in}
-use Rattle.iox_control.specs.Controls.{with_tables}
-use Rattle.iox_control_lending.specs.Fills.{kind_after}
+use Rattle.iox_tables.specs.HubLoans.Slots.{with_contents}
+use Rattle.iox_control.specs.Controls.{ControlState, IsControl, with_tables}
+use Rattle.iox_control_lending.specs.declared.asked.Place.{Place}
+use Rattle.iox_control_lending.specs.Fills.{kind_after, place_of}
 use Rattle.iox_hub.specs.Hubs.{HasValue, HubState, state_of_hub}
+use Rattle.iox_hub.specs.Keeping.{IsSame}
 use Rattle.iox_hub.specs.Lending.{with_message}
 use Rattle.iox_hub.specs.Reads.{message_in}
 
@@ -34,10 +39,22 @@ with_filling h loan kind z = record h {
   words = with_message h.words loan.pool loan.slot z;
 }
 
--- The node's value of that number is what it was, and so is its message.
-pub record IsSameValue (old : HubState) (node n : ℕ) (new : HubState) : Type 0 where
-  pub kind : kind_in new.control.tables node n ≡ kind_in old.control.tables node n
-  pub message : message_in new node n ≡ message_in old node n
+-- In the tables, the node's loan of that number is one of which all or some is filled, and its
+-- message is in this place. The machine allows each filling of that kind.
+pub record IsFill (old : ControlState) (node n : ℕ) (all : Bool) (new : ControlState)
+    (place : Place) : Type 0
+  where
+    pub at : (j : HandleState) → handle_in old.tables.handles node n ≡ Some j → place ≡ place_of j
+    pub left :
+        (j : HandleState) → handle_in old.tables.handles node n ≡ Some j
+        → new ≡ with_tables old (with_kind old.tables j (kind_after all j.kind))
+    pub order : IsControl new
+    pub filled :
+        (x : Given) (j : HandleState) (w : Filling)
+        → handle_in old.tables.handles node n ≡ Some j → w.kind ≡ kind_after all j.kind
+        → MayFill (fixed_of x old.tables) (handle_shown x old.tables j) w
+        → IsFilling (state_shown x old.tables) node n w
+        (state_shown (with_contents x j.pool j.slot (contents_of w)) new.tables)
 
 -- The holder of the node's loan of that number writes into it, so that its message carries this. If
 -- all of it is said to be filled, it is a filled loan then. Nothing else changes.
@@ -53,7 +70,7 @@ pub record FillsLoan (old : HubState) (node n : ℕ) (all : Bool) (z : Stored) (
         ≡ option_map (kind_after all) (kind_in old.control.tables node n)
     pub message : message_in new node n ≡ z
     pub others :
-        (m j : ℕ) → ((m == node) && (j == n)) ≡ false → IsSameValue old m j new
+        (m j : ℕ) → ((m == node) && (j == n)) ≡ false → IsSame old m j new
     pub left :
         (loan : HandleState) → handle_in old.control.tables.handles node n ≡ Some loan
         → new ≡ with_filling old loan (kind_after all loan.kind) z

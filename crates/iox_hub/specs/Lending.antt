@@ -1,11 +1,19 @@
 -- Loans of a hub, what is written to them, and what they carry then.
-use Rattle.std.specs.Prelude.{◌≡◌, ◌≢◌, ℕ, Bool, if◌then◌else◌, List, [], Option, Some, option_map, slice_set, unwrap_or, ⊤}
+use Rattle.std.specs.Prelude.{◌≡◌, ◌≢◌, ℕ, Bool, true, false, if◌then◌else◌, List, [], Option, Some, option_map, slice_set, unwrap_or, ⊤}
 use Rattle.iox_store.specs.Stored.{Stored, filled_with, lent, lent_uninit, with_stored}
 use Rattle.iox_model.specs.declared.kind.Role.{Role}
 use Rattle.iox_model.specs.Commands.{Payload}
+use Rattle.iox_model.specs.declared.call.Call.TheVariants.{Write}
 use Rattle.iox_model.specs.declared.kind.Kind.{Kind}
 use Rattle.iox_model.specs.Loans.{kind_of_loan}
+use Rattle.iox_model.specs.Names.{suits}
 use Rattle.iox_model.specs.Settings.{Shape}
+use Rattle.iox_model.specs.WholeCalls.{IsWholeCall}
+use Rattle.iox_tables.specs.HubStates.States.{Given, state_shown}
+use Rattle.iox_tables.specs.HubStates.Tables.{HandleState}
+use Rattle.iox_tables.specs.HubStates.Wirings.{handle_in}
+use Rattle.iox_control.specs.Controls.{ControlState, IsControl}
+use Rattle.iox_control_lending.specs.Fills.{Writes, given_written, reply_of_write}
 use Rattle.iox_control_lending.specs.Lends.{IsAskedOf}
 use Rattle.iox_control_lending.specs.declared.asked.Asked.{Asked}
 use Rattle.iox_control_lending.specs.declared.asked.Lent.{Lent}
@@ -72,6 +80,22 @@ LeavesLent old shape uninit k (Refused r) new = new ≡ old
 LeavesLent old shape uninit k OutOfMemory new = new ≡ with_control old new.control
 
 -- ---- writes
+
+-- In the tables, so many elements were written to the node's loan of that number, and it came to
+-- this. It is one call of the machine.
+pub record IsWrite (old : ControlState) (node n count : ℕ) (new : ControlState) (result : Written)
+    : Type 0
+  where
+    pub left :
+        (j : HandleState) → handle_in old.tables.handles node n ≡ Some j
+        → Writes old j (Some count) result new
+    pub order : IsControl new
+    pub whole :
+        (x : Given) (j : HandleState) (p : Payload)
+        → handle_in old.tables.handles node n ≡ Some j → suits false (Write n p) j.kind ≡ true
+        → p.elements ≡ Some count
+        → IsWholeCall (state_shown x old.tables) node (Write n p) (reply_of_write result)
+        (state_shown (given_written x old.tables j p.words result) new.tables)
 
 -- so many elements of that role, with these words
 abbrev pub payload_of : Role → ℕ → List ℕ → Payload

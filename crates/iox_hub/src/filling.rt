@@ -5,7 +5,9 @@ ghost use Rattle.iox_store.specs.Answering.{FillsByAnswers};
 ghost use Rattle.iox_store.specs.Stored.{with_user, written_next};
 ghost use Rattle.iox_model.specs.Handles.{is_request_loan, is_response_loan};
 ghost use Rattle.iox_tables.specs.HubBooks.Handles.{is_loan};
-ghost use Rattle.iox_hub.specs.Fillings.{FillsLoan};
+ghost use Rattle.iox_control.specs.Controls.{IsControl};
+ghost use Rattle.iox_control_lending.specs.Fills.{IsLoan};
+ghost use Rattle.iox_hub.specs.Fillings.{FillsLoan, IsFill};
 ghost use Rattle.iox_hub.specs.Reads.{HasOf, message_in};
 
 use crate::filled::{
@@ -14,9 +16,20 @@ use crate::filled::{
 };
 use crate::hub::Hub;
 use crate::reads::{requests_in, responses_in};
-use iox_control_lending::fill;
+use iox_control::Control;
+use iox_control_lending::{Place, fill};
 use iox_store::Payload;
 use iox_words::Words;
+
+/// The holder of the node's loan fills some of it, or all: where its message is. Its handle is
+/// looked for at the hint first.
+fn fill_loan(control: &mut Control, node: u64, number: u64, hint: usize, all: bool) -> Place
+    requires loan { IsLoan control.old.tables node number }
+    requires order { IsControl control.old }
+    ensures { IsFill control.old node number all control.new result }
+{
+    fill(control, node, number, hint, all)
+}
 
 impl<Q: Payload, QH: Words, P: Payload, PH: Words> Hub<Q, QH, P, PH> {
     /// Whether all elements of the loan are filled. Its handle is looked for at the hint first.
@@ -39,7 +52,7 @@ impl<Q: Payload, QH: Words, P: Payload, PH: Words> Hub<Q, QH, P, PH> {
         ensures { FillsLoan self.old node number false
             (with_user (message_in self.old node number) (QH.words user)) self.new }
     {
-        let place = fill(&mut self.control, node, number, hint, false);
+        let place = fill_loan(&mut self.control, node, number, hint, false);
         let slot = place.slot as usize;
         set_request_header_in(&mut self.words, place.pool, slot, user);
         known_in(requests_in(&self.words, place.pool), slot, &self.request);
@@ -51,7 +64,7 @@ impl<Q: Payload, QH: Words, P: Payload, PH: Words> Hub<Q, QH, P, PH> {
         ensures { FillsLoan self.old node number false
             (with_user (message_in self.old node number) (PH.words user)) self.new }
     {
-        let place = fill(&mut self.control, node, number, hint, false);
+        let place = fill_loan(&mut self.control, node, number, hint, false);
         let slot = place.slot as usize;
         set_response_header_in(&mut self.words, place.pool, slot, user);
         known_in(responses_in(&self.words, place.pool), slot, &self.response);
@@ -65,7 +78,7 @@ impl<Q: Payload, QH: Words, P: Payload, PH: Words> Hub<Q, QH, P, PH> {
         ensures { FillsLoan self.old node number false
             (written_next (message_in self.old node number) (Q.Element.words value)) self.new }
     {
-        let place = fill(&mut self.control, node, number, hint, false);
+        let place = fill_loan(&mut self.control, node, number, hint, false);
         let slot = place.slot as usize;
         write_next_request_in(&mut self.words, place.pool, slot, value);
         known_in(requests_in(&self.words, place.pool), slot, &self.request);
@@ -79,7 +92,7 @@ impl<Q: Payload, QH: Words, P: Payload, PH: Words> Hub<Q, QH, P, PH> {
         ensures { FillsLoan self.old node number false
             (written_next (message_in self.old node number) (P.Element.words value)) self.new }
     {
-        let place = fill(&mut self.control, node, number, hint, false);
+        let place = fill_loan(&mut self.control, node, number, hint, false);
         let slot = place.slot as usize;
         write_next_response_in(&mut self.words, place.pool, slot, value);
         known_in(responses_in(&self.words, place.pool), slot, &self.response);
@@ -98,7 +111,7 @@ impl<Q: Payload, QH: Words, P: Payload, PH: Words> Hub<Q, QH, P, PH> {
         if !self.is_filled(node, number, hint) {
             return false;
         }
-        let place = fill(&mut self.control, node, number, hint, true);
+        let place = fill_loan(&mut self.control, node, number, hint, true);
         known_in(
             requests_in(&self.words, place.pool),
             place.slot as usize,
@@ -107,8 +120,8 @@ impl<Q: Payload, QH: Words, P: Payload, PH: Words> Hub<Q, QH, P, PH> {
         true
     }
 
-    /// A loaned response is a filled one, if each of its elements is filled: whether that is so. Its
-    /// handle is looked for at the hint first.
+    /// A loaned response is a filled one, if each of its elements is filled: whether that is so.
+    /// Its handle is looked for at the hint first.
     pub fn assume_response_init(&mut self, node: u64, number: u64, hint: usize) -> bool
         requires has { HasOf is_response_loan self.old node number }
         ensures all { IsTrue result ↔ (message_in self.old node number).filled
@@ -120,7 +133,7 @@ impl<Q: Payload, QH: Words, P: Payload, PH: Words> Hub<Q, QH, P, PH> {
         if !self.is_filled(node, number, hint) {
             return false;
         }
-        let place = fill(&mut self.control, node, number, hint, true);
+        let place = fill_loan(&mut self.control, node, number, hint, true);
         known_in(
             responses_in(&self.words, place.pool),
             place.slot as usize,
@@ -142,16 +155,17 @@ impl<Q: Payload, QH: Words, P: Payload, PH: Words> Hub<Q, QH, P, PH> {
         requires callable { F.IsAlwaysCallable f }
         ensures answered { FillsByAnswers Q.Element.words F.step f (message_in self.old node number)
             (message_in self.new node number) }
-        ensures filled { FillsLoan self.old node number true (message_in self.new node number) self.new }
+        ensures filled { FillsLoan self.old node number true (message_in self.new node number)
+            self.new }
     {
-        let place = fill(&mut self.control, node, number, hint, true);
+        let place = fill_loan(&mut self.control, node, number, hint, true);
         let slot = place.slot as usize;
         write_request_from_fn_in(&mut self.words, place.pool, slot, f);
         known_in(requests_in(&self.words, place.pool), slot, &self.request);
     }
 
-    /// Fills a loaned response, each element with what the closure answers for its index. Its handle
-    /// is looked for at the hint first.
+    /// Fills a loaned response, each element with what the closure answers for its index. Its
+    /// handle is looked for at the hint first.
     pub fn write_response_from_fn<F: FnMut(usize) -> P::Element>(
         &mut self,
         node: u64,
@@ -163,9 +177,10 @@ impl<Q: Payload, QH: Words, P: Payload, PH: Words> Hub<Q, QH, P, PH> {
         requires callable { F.IsAlwaysCallable f }
         ensures answered { FillsByAnswers P.Element.words F.step f (message_in self.old node number)
             (message_in self.new node number) }
-        ensures filled { FillsLoan self.old node number true (message_in self.new node number) self.new }
+        ensures filled { FillsLoan self.old node number true (message_in self.new node number)
+            self.new }
     {
-        let place = fill(&mut self.control, node, number, hint, true);
+        let place = fill_loan(&mut self.control, node, number, hint, true);
         let slot = place.slot as usize;
         write_response_from_fn_in(&mut self.words, place.pool, slot, f);
         known_in(responses_in(&self.words, place.pool), slot, &self.response);

@@ -6,21 +6,38 @@ ghost use Rattle.iox_model.specs.declared.kind.Role.TheVariants as roles;
 ghost use Rattle.iox_model.specs.Handles.{is_request_loan, is_response_loan};
 ghost use Rattle.iox_model.specs.WholeCalls.{IsWholeCall};
 ghost use Rattle.iox_tables.specs.HubStates.States.{Given};
-ghost use Rattle.iox_control_lending.specs.Fills.{reply_of_write};
+ghost use Rattle.iox_control.specs.Controls.{IsControl};
+ghost use Rattle.iox_control_lending.specs.Fills.{IsLoan, reply_of_write};
 ghost use Rattle.iox_hub.specs.Hubs.{state_of_hub};
 ghost use Rattle.iox_hub.specs.Keeping.{KeepsOthers};
-ghost use Rattle.iox_hub.specs.Lending.{HasWritten, LeavesWritten, payload_of};
+ghost use Rattle.iox_hub.specs.Lending.{HasWritten, IsWrite, LeavesWritten, payload_of};
 ghost use Rattle.iox_hub.specs.Reads.{HasOf};
 
 use crate::contents::{write_request_in, write_response_in};
 use crate::hub::Hub;
+use iox_control::Control;
 use iox_control_lending::{Written, write};
 use iox_store::Payload;
 use iox_words::Words;
 
+/// So many elements are written to the node's loan. Its handle is looked for at the hint first.
+fn write_loan(
+    control: &mut Control,
+    node: u64,
+    number: u64,
+    hint: usize,
+    count: usize,
+) -> Written
+    requires loan { IsLoan control.old.tables node number }
+    requires order { IsControl control.old }
+    ensures { IsWrite control.old node number count control.new result }
+{
+    write(control, node, number, hint, Some(count as u64))
+}
+
 impl<Q: Payload, QH: Words, P: Payload, PH: Words> Hub<Q, QH, P, PH> {
-    /// Fills a loaned request with copies of these elements, whatever was filled. Where they are not
-    /// as many as the loan has, nothing changes. Its handle is looked for at the hint first.
+    /// Fills a loaned request with copies of these elements, whatever was filled. Where they are
+    /// not as many as the loan has, nothing changes. Its handle is looked for at the hint first.
     pub fn write_request(
         &mut self,
         node: u64,
@@ -29,7 +46,8 @@ impl<Q: Payload, QH: Words, P: Payload, PH: Words> Hub<Q, QH, P, PH> {
         values: &[Q::Element],
     ) -> Written
         requires has { HasOf is_request_loan self.old node number }
-        ensures left { LeavesWritten self.old (flat_map Q.Element.words values.now) result self.new }
+        ensures left { LeavesWritten self.old (flat_map Q.Element.words values.now) result
+            self.new }
         ensures whole { (x : Given) → IsWholeCall (state_of_hub x self.old) node
             (Write number (payload_of roles.Client (length values.now)
             (flat_map Q.Element.words values.now)))
@@ -38,13 +56,7 @@ impl<Q: Payload, QH: Words, P: Payload, PH: Words> Hub<Q, QH, P, PH> {
             (flat_map Q.Element.words values.now) result self.new }
         ensures keeps { KeepsOthers self.old node number self.new }
     {
-        let written = write(
-            &mut self.control,
-            node,
-            number,
-            hint,
-            Some(values.len() as u64),
-        );
+        let written = write_loan(&mut self.control, node, number, hint, values.len());
         if let Written::Done(place) = written {
             write_request_in(&mut self.words, place.pool, place.slot as usize, values);
         }
@@ -61,7 +73,8 @@ impl<Q: Payload, QH: Words, P: Payload, PH: Words> Hub<Q, QH, P, PH> {
         values: &[P::Element],
     ) -> Written
         requires has { HasOf is_response_loan self.old node number }
-        ensures left { LeavesWritten self.old (flat_map P.Element.words values.now) result self.new }
+        ensures left { LeavesWritten self.old (flat_map P.Element.words values.now) result
+            self.new }
         ensures whole { (x : Given) → IsWholeCall (state_of_hub x self.old) node
             (Write number (payload_of roles.Server (length values.now)
             (flat_map P.Element.words values.now)))
@@ -70,13 +83,7 @@ impl<Q: Payload, QH: Words, P: Payload, PH: Words> Hub<Q, QH, P, PH> {
             (flat_map P.Element.words values.now) result self.new }
         ensures keeps { KeepsOthers self.old node number self.new }
     {
-        let written = write(
-            &mut self.control,
-            node,
-            number,
-            hint,
-            Some(values.len() as u64),
-        );
+        let written = write_loan(&mut self.control, node, number, hint, values.len());
         if let Written::Done(place) = written {
             write_response_in(&mut self.words, place.pool, place.slot as usize, values);
         }

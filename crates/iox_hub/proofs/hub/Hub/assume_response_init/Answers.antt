@@ -1,79 +1,38 @@
-use Rattle.std.specs.Prelude.{◌≡◌, false, true}
+use Rattle.std.specs.Prelude.{◌≡◌, false}
 use Rattle.std.proofs.Common.{ap, subst, sym}
 use Rattle.iox_model.specs.declared.kind.Role.TheVariants as roles
-use Rattle.iox_hub.specs.Fillings.{SuitsShape}
 use Rattle.iox_hub.specs.Hubs.{HubState}
 use Rattle.iox_hub.specs.Reads.{message_in}
 use Rattle.iox_hub.specs.Words.{all_carried}
-use Rattle.iox_hub.proofs.FillingCalls.{fill_of, fill_within, loan_in}
-use Rattle.iox_hub.proofs.FillingWays.{assumed_hub, assumed_loan}
-use Rattle.iox_hub.proofs.LendingWrites.{loan_named}
-use Rattle.iox_hub.proofs.Reading.{are_requests_same, carried_same, count_same, has_slot, stored_is}
+use Rattle.iox_hub.proofs.FillingCalls.{fill_call, loan_in, looked_of, looked_slot, looked_suits, looked_within}
+use Rattle.iox_hub.proofs.FillingWays.{as_it_is, assumed_hub, assumed_loan}
 use Rattle.iox_hub.proofs.hub.Hub.assume_response_init.Goals as goal
 
-pub fill-place-requires-clause-loan : goal.fill-place-requires-clause-loan
-fill-place-requires-clause-loan g c = loan_in roles.Server c.self.invariant c.args.self.now c.self.view_is c.args.node c.args.number c.requires.has
+pub fill_loan-place-requires-clause-loan : goal.fill_loan-place-requires-clause-loan
+fill_loan-place-requires-clause-loan g c = loan_in roles.Server c.self.invariant c.args.self.now c.self.view_is c.args.node c.args.number c.requires.has
 
 pub responses_in-requires : goal.responses_in-requires
-responses_in-requires g c = record {
-  there =
-      count_same _ _ c.fill-place.result.pool c.fill-place.result.slot (ap all_carried c.deref.ensures.value)
-      (fill_within c.self.invariant roles.Server c.args.node c.args.number true c.fill-place.new.control c.fill-place.result
-      (record {
-        loan = loan_named roles.Server c.self.invariant c.args.self.now c.self.view_is c.args.node c.args.number c.requires.has;
-        at = c.fill-place.ensures.place;
-        left = c.fill-place.ensures.left;
-        order = c.fill-place.ensures.order;
-        filled = c.fill-place.ensures.filled;
-      }));
-  responses =
-      are_requests_same _ _ c.fill-place.result.pool false (ap all_carried c.deref.ensures.value)
-      (fill_of c.self.invariant roles.Server c.args.node c.args.number true c.fill-place.new.control c.fill-place.result
-      (record {
-        loan = loan_named roles.Server c.self.invariant c.args.self.now c.self.view_is c.args.node c.args.number c.requires.has;
-        at = c.fill-place.ensures.place;
-        left = c.fill-place.ensures.left;
-        order = c.fill-place.ensures.order;
-        filled = c.fill-place.ensures.filled;
-      }));
-}
+responses_in-requires g c =
+    let call = fill_call roles.Server c.self.invariant c.args.self.now c.self.view_is c.args.node c.args.number c.requires.has c.fill_loan-place.ensures in
+    record { there = looked_within call _ _ (as_it_is call) _ (ap all_carried c.deref.ensures.value); responses = looked_of call _ _ (as_it_is call) _ (ap all_carried c.deref.ensures.value) }
 
 pub known_in-requires : goal.known_in-requires
 known_in-requires g c =
-    has_slot _ c.fill-place.result.pool c.fill-place.result.slot false _ (carried_same _ _ c.fill-place.result.pool false _ (ap all_carried c.deref.ensures.value) c.responses_in.ensures)
-    (fill_within c.self.invariant roles.Server c.args.node c.args.number true c.fill-place.new.control c.fill-place.result
-    (record {
-      loan = loan_named roles.Server c.self.invariant c.args.self.now c.self.view_is c.args.node c.args.number c.requires.has;
-      at = c.fill-place.ensures.place;
-      left = c.fill-place.ensures.left;
-      order = c.fill-place.ensures.order;
-      filled = c.fill-place.ensures.filled;
-    }))
+    let call = fill_call roles.Server c.self.invariant c.args.self.now c.self.view_is c.args.node c.args.number c.requires.has c.fill_loan-place.ensures in
+    looked_slot call _ _ (as_it_is call) _ (ap all_carried c.deref.ensures.value) false _ c.responses_in.ensures
 
 pub invariant_of-self : goal.invariant_of-self
 invariant_of-self g c =
-    assumed_hub c.self.invariant roles.Server c.args.node c.args.number c.fill-place.new.control c.fill-place.result
-    (record {
-      loan = loan_named roles.Server c.self.invariant c.args.self.now c.self.view_is c.args.node c.args.number c.requires.has;
-      at = c.fill-place.ensures.place;
-      left = c.fill-place.ensures.left;
-      order = c.fill-place.ensures.order;
-      filled = c.fill-place.ensures.filled;
-    })
-    (subst (SuitsShape _) (sym (stored_is _ c.fill-place.result.pool c.fill-place.result.slot false _ (carried_same _ _ c.fill-place.result.pool false _ (ap all_carried c.deref.ensures.value) c.responses_in.ensures))) (c.known_in.ensures g.P.Payload.MANY))
+    let call = fill_call roles.Server c.self.invariant c.args.self.now c.self.view_is c.args.node c.args.number c.requires.has c.fill_loan-place.ensures in
+    let suits = looked_suits call _ _ (as_it_is call) _ (ap all_carried c.deref.ensures.value) false _ c.responses_in.ensures _ (c.known_in.ensures g.P.Payload.MANY) in
+    assumed_hub call suits
     (subst (λ (d : HubState). (message_in d c.args.node c.args.number).filled ≡ (message_in d c.args.node c.args.number).elements) (sym c.self.view_is)
     (c.is_filled.ensures.filled.0 c.if-not-is_filled.false))
 
 pub returns-clause-filled : goal.returns-clause-filled
 returns-clause-filled g c =
-    rw (← c.self.view_is) (assumed_loan c.self.invariant roles.Server c.args.node c.args.number c.fill-place.new.control c.fill-place.result
-    (record {
-      loan = loan_named roles.Server c.self.invariant c.args.self.now c.self.view_is c.args.node c.args.number c.requires.has;
-      at = c.fill-place.ensures.place;
-      left = c.fill-place.ensures.left;
-      order = c.fill-place.ensures.order;
-      filled = c.fill-place.ensures.filled;
-    })
-    (subst (SuitsShape _) (sym (stored_is _ c.fill-place.result.pool c.fill-place.result.slot false _ (carried_same _ _ c.fill-place.result.pool false _ (ap all_carried c.deref.ensures.value) c.responses_in.ensures))) (c.known_in.ensures g.P.Payload.MANY))
+    let call = fill_call roles.Server c.self.invariant c.args.self.now c.self.view_is c.args.node c.args.number c.requires.has c.fill_loan-place.ensures in
+    let suits = looked_suits call _ _ (as_it_is call) _ (ap all_carried c.deref.ensures.value) false _ c.responses_in.ensures _ (c.known_in.ensures g.P.Payload.MANY) in
+    rw (← c.self.view_is) (assumed_loan call suits
     (subst (λ (d : HubState). (message_in d c.args.node c.args.number).filled ≡ (message_in d c.args.node c.args.number).elements) (sym c.self.view_is)
     (c.is_filled.ensures.filled.0 c.if-not-is_filled.false)))

@@ -1,133 +1,49 @@
 use Rattle.std.specs.Prelude.{false, ◌<◌}
 use Rattle.std.proofs.Common.{ap, subst, sym}
 use Rattle.iox_model.specs.declared.kind.Role.TheVariants as roles
-use Rattle.iox_hub.specs.Words.{all_carried}
 use Rattle.iox_hub.specs.Hubs.{HubState}
 use Rattle.iox_hub.specs.Reads.{message_in}
-use Rattle.iox_hub.proofs.FillingCalls.{fill_of, fill_within, loan_in, put_of, put_suits, put_within}
+use Rattle.iox_hub.specs.Words.{all_carried}
+use Rattle.iox_hub.proofs.FillingCalls.{fill_call, fill_of, fill_within, loan_in, looked_of, looked_slot, looked_suits, looked_within}
 use Rattle.iox_hub.proofs.FillingWays.{next_hub, next_loan, room_there}
-use Rattle.iox_hub.proofs.LendingWrites.{loan_named}
-use Rattle.iox_hub.proofs.Reading.{are_requests_same, carried_same, count_same, has_slot}
 use Rattle.iox_hub.proofs.hub.Hub.write_next_response.Goals as goal
 
-pub fill-place-requires-clause-loan : goal.fill-place-requires-clause-loan
-fill-place-requires-clause-loan g c = loan_in roles.Server c.self.invariant c.args.self.now c.self.view_is c.args.node c.args.number c.requires.has
+pub fill_loan-place-requires-clause-loan : goal.fill_loan-place-requires-clause-loan
+fill_loan-place-requires-clause-loan g c = loan_in roles.Server c.self.invariant c.args.self.now c.self.view_is c.args.node c.args.number c.requires.has
 
 pub write_next_response_in-requires-clause-responses : goal.write_next_response_in-requires-clause-responses
 write_next_response_in-requires-clause-responses g c =
-    fill_of c.self.invariant roles.Server c.args.node c.args.number false c.fill-place.new.control c.fill-place.result
-    (record {
-      loan = loan_named roles.Server c.self.invariant c.args.self.now c.self.view_is c.args.node c.args.number c.requires.has;
-      at = c.fill-place.ensures.place;
-      left = c.fill-place.ensures.left;
-      order = c.fill-place.ensures.order;
-      filled = c.fill-place.ensures.filled;
-    })
+    fill_of (fill_call roles.Server c.self.invariant c.args.self.now c.self.view_is c.args.node c.args.number c.requires.has c.fill_loan-place.ensures)
 
 pub write_next_response_in-requires-clause-there : goal.write_next_response_in-requires-clause-there
 write_next_response_in-requires-clause-there g c =
-    fill_within c.self.invariant roles.Server c.args.node c.args.number false c.fill-place.new.control c.fill-place.result
-    (record {
-      loan = loan_named roles.Server c.self.invariant c.args.self.now c.self.view_is c.args.node c.args.number c.requires.has;
-      at = c.fill-place.ensures.place;
-      left = c.fill-place.ensures.left;
-      order = c.fill-place.ensures.order;
-      filled = c.fill-place.ensures.filled;
-    })
+    fill_within (fill_call roles.Server c.self.invariant c.args.self.now c.self.view_is c.args.node c.args.number c.requires.has c.fill_loan-place.ensures)
 
 pub write_next_response_in-requires-clause-room : goal.write_next_response_in-requires-clause-room
 write_next_response_in-requires-clause-room g c =
-    room_there c.self.invariant roles.Server c.args.node c.args.number c.fill-place.new.control c.fill-place.result false
-    (record {
-      loan = loan_named roles.Server c.self.invariant c.args.self.now c.self.view_is c.args.node c.args.number c.requires.has;
-      at = c.fill-place.ensures.place;
-      left = c.fill-place.ensures.left;
-      order = c.fill-place.ensures.order;
-      filled = c.fill-place.ensures.filled;
-    })
+    room_there (fill_call roles.Server c.self.invariant c.args.self.now c.self.view_is c.args.node c.args.number c.requires.has c.fill_loan-place.ensures)
     (subst (λ (d : HubState). (message_in d c.args.node c.args.number).filled < (message_in d c.args.node c.args.number).elements) (sym c.self.view_is) c.requires.room)
 
 pub responses_in-requires : goal.responses_in-requires
-responses_in-requires g c = record {
-  there =
-      count_same _ _ c.fill-place.result.pool c.fill-place.result.slot (ap all_carried c.deref.ensures.value)
-      (put_within _ c.fill-place.result _ _ c.write_next_response_in.ensures
-      (fill_within c.self.invariant roles.Server c.args.node c.args.number false c.fill-place.new.control c.fill-place.result
-      (record {
-        loan = loan_named roles.Server c.self.invariant c.args.self.now c.self.view_is c.args.node c.args.number c.requires.has;
-        at = c.fill-place.ensures.place;
-        left = c.fill-place.ensures.left;
-        order = c.fill-place.ensures.order;
-        filled = c.fill-place.ensures.filled;
-      })));
-  responses =
-      are_requests_same _ _ c.fill-place.result.pool false (ap all_carried c.deref.ensures.value)
-      (put_of _ c.fill-place.result _ _ c.write_next_response_in.ensures false
-      (fill_of c.self.invariant roles.Server c.args.node c.args.number false c.fill-place.new.control c.fill-place.result
-      (record {
-        loan = loan_named roles.Server c.self.invariant c.args.self.now c.self.view_is c.args.node c.args.number c.requires.has;
-        at = c.fill-place.ensures.place;
-        left = c.fill-place.ensures.left;
-        order = c.fill-place.ensures.order;
-        filled = c.fill-place.ensures.filled;
-      })));
-}
+responses_in-requires g c =
+    let call = fill_call roles.Server c.self.invariant c.args.self.now c.self.view_is c.args.node c.args.number c.requires.has c.fill_loan-place.ensures in
+    record { there = looked_within call _ _ c.write_next_response_in.ensures _ (ap all_carried c.deref.ensures.value); responses = looked_of call _ _ c.write_next_response_in.ensures _ (ap all_carried c.deref.ensures.value) }
 
 pub known_in-requires : goal.known_in-requires
 known_in-requires g c =
-    has_slot _ c.fill-place.result.pool c.fill-place.result.slot false _ (carried_same _ _ c.fill-place.result.pool false _ (ap all_carried c.deref.ensures.value) c.responses_in.ensures)
-    (put_within _ c.fill-place.result _ _ c.write_next_response_in.ensures
-    (fill_within c.self.invariant roles.Server c.args.node c.args.number false c.fill-place.new.control c.fill-place.result
-    (record {
-      loan = loan_named roles.Server c.self.invariant c.args.self.now c.self.view_is c.args.node c.args.number c.requires.has;
-      at = c.fill-place.ensures.place;
-      left = c.fill-place.ensures.left;
-      order = c.fill-place.ensures.order;
-      filled = c.fill-place.ensures.filled;
-    })))
+    let call = fill_call roles.Server c.self.invariant c.args.self.now c.self.view_is c.args.node c.args.number c.requires.has c.fill_loan-place.ensures in
+    looked_slot call _ _ c.write_next_response_in.ensures _ (ap all_carried c.deref.ensures.value) false _ c.responses_in.ensures
 
 pub invariant_of-self : goal.invariant_of-self
 invariant_of-self g c =
-    next_hub c.self.invariant roles.Server c.args.node c.args.number c.fill-place.new.control c.fill-place.result
-    (record {
-      loan = loan_named roles.Server c.self.invariant c.args.self.now c.self.view_is c.args.node c.args.number c.requires.has;
-      at = c.fill-place.ensures.place;
-      left = c.fill-place.ensures.left;
-      order = c.fill-place.ensures.order;
-      filled = c.fill-place.ensures.filled;
-    })
-    (g.P.Element.Words.words c.args.value) _ (subst (λ (d : HubState). (message_in d c.args.node c.args.number).filled < (message_in d c.args.node c.args.number).elements) (sym c.self.view_is) c.requires.room)
-    c.write_next_response_in.ensures
-    (put_suits _ c.fill-place.result _ _ c.write_next_response_in.ensures
-    (fill_within c.self.invariant roles.Server c.args.node c.args.number false c.fill-place.new.control c.fill-place.result
-    (record {
-      loan = loan_named roles.Server c.self.invariant c.args.self.now c.self.view_is c.args.node c.args.number c.requires.has;
-      at = c.fill-place.ensures.place;
-      left = c.fill-place.ensures.left;
-      order = c.fill-place.ensures.order;
-      filled = c.fill-place.ensures.filled;
-    }))
-    _ false _ (carried_same _ _ c.fill-place.result.pool false _ (ap all_carried c.deref.ensures.value) c.responses_in.ensures) (c.known_in.ensures g.P.Payload.MANY))
+    let call = fill_call roles.Server c.self.invariant c.args.self.now c.self.view_is c.args.node c.args.number c.requires.has c.fill_loan-place.ensures in
+    let suits = looked_suits call _ _ c.write_next_response_in.ensures _ (ap all_carried c.deref.ensures.value) false _ c.responses_in.ensures _ (c.known_in.ensures g.P.Payload.MANY) in
+    next_hub call (g.P.Element.Words.words c.args.value) _
+    (subst (λ (d : HubState). (message_in d c.args.node c.args.number).filled < (message_in d c.args.node c.args.number).elements) (sym c.self.view_is) c.requires.room) c.write_next_response_in.ensures suits
 
 pub returns : goal.returns
 returns g c =
-    rw (← c.self.view_is) (next_loan c.self.invariant roles.Server c.args.node c.args.number c.fill-place.new.control c.fill-place.result
-    (record {
-      loan = loan_named roles.Server c.self.invariant c.args.self.now c.self.view_is c.args.node c.args.number c.requires.has;
-      at = c.fill-place.ensures.place;
-      left = c.fill-place.ensures.left;
-      order = c.fill-place.ensures.order;
-      filled = c.fill-place.ensures.filled;
-    })
-    (g.P.Element.Words.words c.args.value) _ (subst (λ (d : HubState). (message_in d c.args.node c.args.number).filled < (message_in d c.args.node c.args.number).elements) (sym c.self.view_is) c.requires.room)
-    c.write_next_response_in.ensures
-    (put_suits _ c.fill-place.result _ _ c.write_next_response_in.ensures
-    (fill_within c.self.invariant roles.Server c.args.node c.args.number false c.fill-place.new.control c.fill-place.result
-    (record {
-      loan = loan_named roles.Server c.self.invariant c.args.self.now c.self.view_is c.args.node c.args.number c.requires.has;
-      at = c.fill-place.ensures.place;
-      left = c.fill-place.ensures.left;
-      order = c.fill-place.ensures.order;
-      filled = c.fill-place.ensures.filled;
-    }))
-    _ false _ (carried_same _ _ c.fill-place.result.pool false _ (ap all_carried c.deref.ensures.value) c.responses_in.ensures) (c.known_in.ensures g.P.Payload.MANY)))
+    let call = fill_call roles.Server c.self.invariant c.args.self.now c.self.view_is c.args.node c.args.number c.requires.has c.fill_loan-place.ensures in
+    let suits = looked_suits call _ _ c.write_next_response_in.ensures _ (ap all_carried c.deref.ensures.value) false _ c.responses_in.ensures _ (c.known_in.ensures g.P.Payload.MANY) in
+    rw (← c.self.view_is) (next_loan call (g.P.Element.Words.words c.args.value) _
+    (subst (λ (d : HubState). (message_in d c.args.node c.args.number).filled < (message_in d c.args.node c.args.number).elements) (sym c.self.view_is) c.requires.room) c.write_next_response_in.ensures suits)
