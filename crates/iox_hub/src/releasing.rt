@@ -7,6 +7,7 @@ ghost use Rattle.iox_model.specs.WholeCalls.{IsWholeCall};
 ghost use Rattle.iox_tables.specs.HubStates.States.{Given};
 ghost use Rattle.iox_tables.specs.HubStates.Tables.{HandleState, PortState, port_in};
 ghost use Rattle.iox_tables.specs.HubStates.Wirings.{handle_in};
+ghost use Rattle.iox_control_releasing.specs.Goings.{StaysTidy};
 ghost use Rattle.iox_hub.specs.Hubs.{state_of_hub, with_control};
 ghost use Rattle.iox_hub.specs.Keeping.{KeepsOthers};
 ghost use Rattle.iox_hub.specs.Reads.{HasOf};
@@ -45,7 +46,8 @@ impl<Q: Payload, QH: Words, P: Payload, PH: Words> Hub<Q, QH, P, PH> {
     /// goes if nothing of it is left, and pools go of which nobody has a message, with their words.
     pub fn release(&mut self, node: u64, number: u64, hint: usize)
         requires has { HasOf is_handle self.old node number }
-        ensures left { (h : HandleState) → handle_in self.old.control.tables.handles node number ≡ Some h
+        ensures left { (h : HandleState)
+            → handle_in self.old.control.tables.handles node number ≡ Some h
             → (p : PortState) → port_in self.old.control.tables.ports h.port ≡ Some p
             → self.new ≡ with_words_left
             (with_words_left (with_control self.old self.new.control) h.pool) p.pool }
@@ -53,6 +55,7 @@ impl<Q: Payload, QH: Words, P: Payload, PH: Words> Hub<Q, QH, P, PH> {
             (Release number) Done (state_of_hub x self.new) }
         ensures gone { HasNothing self.new node number }
         ensures keeps { KeepsOthers self.old node number self.new }
+        ensures tidy { StaysTidy self.old.control.tables self.new.control.tables }
     {
         let Some(entry) = self.control.entry(node, number, hint) else {
             unreachable!();
@@ -74,6 +77,7 @@ impl<Q: Payload, QH: Words, P: Payload, PH: Words> Hub<Q, QH, P, PH> {
             (Release port) Done (state_of_hub x self.new) }
         ensures gone { HasNothing self.new node port }
         ensures keeps { KeepsOthers self.old node port self.new }
+        ensures tidy { StaysTidy self.old.control.tables self.new.control.tables }
     {
         let Some(info) = self.control.ports().find(port) else {
             unreachable!();

@@ -1,5 +1,5 @@
-//! The sends of loans. A hub has no handler: where a receiver is full, the port's strategy says what
-//! comes of a send.
+//! The sends of loans. A hub has no handler: where a receiver is full, the port's strategy says
+//! what comes of a send.
 ghost use Rattle.std.specs.Prelude.{◌≡◌, ◌<◌, ◌^◌, Some};
 ghost use Rattle.iox_model.specs.declared.call.Call.TheVariants.{Send};
 ghost use Rattle.iox_model.specs.declared.kind.Kind.TheVariants.{RequestMut, ResponseMut};
@@ -8,6 +8,7 @@ ghost use Rattle.iox_model.specs.WholeCalls.{IsWholeCall};
 ghost use Rattle.iox_tables.specs.HubStates.States.{Given};
 ghost use Rattle.iox_tables.specs.HubStates.Tables.{HandleState, PortState, port_in};
 ghost use Rattle.iox_tables.specs.HubStates.Wirings.{handle_in};
+ghost use Rattle.iox_control_releasing.specs.Goings.{StaysTidy};
 ghost use Rattle.iox_control_requests.specs.Sendings as requests;
 ghost use Rattle.iox_control_responses.specs.Responses as responses;
 ghost use Rattle.iox_hub.specs.Hubs.{HasValue, state_of_hub, with_control};
@@ -26,16 +27,19 @@ impl<Q: Payload, QH: Words, P: Payload, PH: Words> Hub<Q, QH, P, PH> {
     pub fn send_response(&mut self, node: u64, number: u64, hint: usize) -> Responded
         requires has { HasValue self.old node number ResponseMut }
         requires calls { self.old.control.tables.calls < 2 ^ 56 }
-        ensures reply { (h : HandleState) → handle_in self.old.control.tables.handles node number ≡ Some h
+        ensures reply { (h : HandleState)
+            → handle_in self.old.control.tables.handles node number ≡ Some h
             → (p : PortState) → port_in self.old.control.tables.ports h.port ≡ Some p
             → responses.reply_of_send result
             ≡ responses.response_reply self.old.control.tables h (fails_by_strategy p.strategy) }
-        ensures left { (h : HandleState) → handle_in self.old.control.tables.handles node number ≡ Some h
+        ensures left { (h : HandleState)
+            → handle_in self.old.control.tables.handles node number ≡ Some h
             → self.new ≡ with_words_left (with_control self.old self.new.control) h.pool }
         ensures whole { (x : Given) → IsWholeCall (state_of_hub x self.old) node
             (Send number) (responses.reply_of_send result) (state_of_hub x self.new) }
         ensures gone { HasNothing self.new node number }
         ensures keeps { KeepsOthers self.old node number self.new }
+        ensures tidy { StaysTidy self.old.control.tables self.new.control.tables }
     {
         let Some(entry) = self.control.entry(node, number, hint) else {
             unreachable!();
@@ -52,22 +56,25 @@ impl<Q: Payload, QH: Words, P: Payload, PH: Words> Hub<Q, QH, P, PH> {
         responded
     }
 
-    /// Sends a loaned request, whose handle is looked for at the hint first, to all servers, and says
-    /// to how many: then the handle is a pending response. Where the request is lost, the client goes
-    /// with it, if nothing else of that is left.
+    /// Sends a loaned request, whose handle is looked for at the hint first, to all servers, and
+    /// says to how many: then the handle is a pending response. Where the request is lost, the
+    /// client goes with it, if nothing else of that is left.
     pub fn send_request(&mut self, node: u64, number: u64, hint: usize) -> Requested
         requires has { HasValue self.old node number RequestMut }
         requires calls { self.old.control.tables.calls < 2 ^ 56 }
-        ensures reply { (h : HandleState) → handle_in self.old.control.tables.handles node number ≡ Some h
+        ensures reply { (h : HandleState)
+            → handle_in self.old.control.tables.handles node number ≡ Some h
             → (p : PortState) → port_in self.old.control.tables.ports h.port ≡ Some p
             → result ≡ requests.request_outcome (λ w. fails_by_strategy p.strategy)
             self.old.control.tables h }
-        ensures left { (h : HandleState) → handle_in self.old.control.tables.handles node number ≡ Some h
+        ensures left { (h : HandleState)
+            → handle_in self.old.control.tables.handles node number ≡ Some h
             → self.new ≡ with_words_left (with_control self.old self.new.control) h.pool }
         ensures whole { (x : Given) → IsWholeCall (state_of_hub x self.old) node
             (Send number) (requests.reply_of_send result) (state_of_hub x self.new) }
         ensures has { HasSent self.new node number result }
         ensures keeps { KeepsOthers self.old node number self.new }
+        ensures tidy { StaysTidy self.old.control.tables self.new.control.tables }
     {
         let Some(entry) = self.control.entry(node, number, hint) else {
             unreachable!();

@@ -2,6 +2,7 @@ use Rattle.std.proofs.Common.{ap, subst, sym, ◌∙◌}
 use Rattle.iox_model.specs.declared.call.Call.TheVariants.{Release}
 use Rattle.iox_model.specs.declared.reply.Reply.TheVariants.{Done}
 use Rattle.iox_control.specs.Entries.{handle_state}
+use Rattle.iox_control_releasing.specs.Goings.{StaysTidy}
 use Rattle.iox_hub.specs.Hubs.{HubState}
 use Rattle.iox_hub.proofs.GoesOn.{hub_goes_on, whole_of_hub}
 use Rattle.iox_hub.proofs.Named.{found_is_handle}
@@ -49,3 +50,8 @@ returns-clause-keeps g c =
     (released_keeps c.self.invariant c.release.new.control c.release.ensures.order c.args.node c.args.number
     (handle_state c.in-Some.entry) (sym c.in-Some.ensures)
     (c.release.ensures.left (handle_state c.in-Some.entry) (sym c.in-Some.ensures)))))
+
+pub returns-clause-tidy : goal.returns-clause-tidy
+returns-clause-tidy g c =
+    rw (← c.self.view_is)
+    (subst (StaysTidy c.self.inside.control.tables) (sym (ap (λ (d : HubState). d.control.tables) c.drop_words-2.ensures.left ∙ ap (λ (d : HubState). d.control.tables) c.drop_words.ensures.left)) c.release.ensures.tidy)

@@ -1,6 +1,7 @@
-use Rattle.std.proofs.Common.{ap}
+use Rattle.std.proofs.Common.{ap, subst, sym}
 use Rattle.iox_model.specs.declared.call.Call.TheVariants.{Release}
 use Rattle.iox_model.specs.declared.reply.Reply.TheVariants.{Done}
+use Rattle.iox_control_releasing.specs.Goings.{StaysTidy}
 use Rattle.iox_hub.specs.Hubs.{HubState}
 use Rattle.iox_hub.proofs.GoesOn.{hub_goes_on, whole_of_hub}
 use Rattle.iox_hub.proofs.ReleasingFits.{fits_port_released}
@@ -38,3 +39,8 @@ returns-clause-keeps g c =
     (left_keeps (IsOther c.args.node c.args.port) _ _ c.drop_words.new.self c.release_port.ensures.order.order c.in-Some.info.pool c.drop_words.ensures.left
     (port_released_keeps c.self.invariant c.release_port.new.control c.release_port.ensures.order c.args.node c.args.port
     (held_port_of_hub c.self.invariant c.args.self.now c.self.view_is c.args.node c.args.port c.requires.has) c.release_port.ensures.left))
+
+pub returns-clause-tidy : goal.returns-clause-tidy
+returns-clause-tidy g c =
+    rw (← c.self.view_is)
+    (subst (StaysTidy c.self.inside.control.tables) (sym (ap (λ (d : HubState). d.control.tables) c.drop_words.ensures.left)) c.release_port.ensures.tidy)

@@ -1,10 +1,11 @@
 use Rattle.std.specs.Prelude.{refl}
-use Rattle.std.proofs.Common.{ap, sym, ◌∙◌}
+use Rattle.std.proofs.Common.{ap, subst, sym, ◌∙◌}
 use Rattle.std.proofs.lemmas.Option.{same_Some}
 use Rattle.iox_model.specs.declared.call.Call.TheVariants.{Send}
 use Rattle.iox_tables.specs.HubStates.Tables.{HandleState}
 use Rattle.iox_control.specs.Entries.{handle_state}
 use Rattle.iox_control_responses.specs.Responses.{reply_of_send, response_reply, way_to_client}
+use Rattle.iox_control_releasing.specs.Goings.{StaysTidy}
 use Rattle.iox_hub.specs.Hubs.{HubState}
 use Rattle.iox_hub.proofs.Named.{found_is_handle}
 use Rattle.iox_hub.proofs.SendingFits.{fits_response_sent}
@@ -55,3 +56,8 @@ returns-clause-keeps g c =
     (response_sent_keeps c.self.invariant c.send_response-responded.new.control c.send_response-responded.ensures.order c.args.node c.args.number
     (handle_state c.in-Some.entry) c.fails_when_full-fails.result
     (c.send_response-responded.ensures.left (handle_state c.in-Some.entry) (sym c.in-Some.ensures))))
+
+pub returns-clause-tidy : goal.returns-clause-tidy
+returns-clause-tidy g c =
+    rw (← c.self.view_is)
+    (subst (StaysTidy c.self.inside.control.tables) (sym (ap (λ (d : HubState). d.control.tables) c.drop_words.ensures.left)) c.send_response-responded.ensures.tidy)
