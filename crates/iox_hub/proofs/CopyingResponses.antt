@@ -13,7 +13,6 @@ use Rattle.iox_store.specs.Stored.{Stored}
 use Rattle.iox_tables.specs.HubBooks.Hubs.{AreInOrder}
 use Rattle.iox_tables.specs.HubLoans.Lenders.{IsActive, Lender, lender_of_response, shape_in}
 use Rattle.iox_tables.specs.HubLoans.Loans.{with_loaned}
-use Rattle.iox_tables.specs.HubLoans.Slots.{with_contents}
 use Rattle.iox_tables.specs.HubStates.Ends.{OfEachHandle}
 use Rattle.iox_tables.specs.HubStates.States.{Given, fixed_of, limits_of, state_shown}
 use Rattle.iox_tables.specs.HubStates.Tables.{HandleState, HubTables, PortState, port_in}

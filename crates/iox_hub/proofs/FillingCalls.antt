@@ -19,9 +19,9 @@ use Rattle.iox_tables.specs.HubStates.Tables.{HandleState, HubTables, port_in}
 use Rattle.iox_tables.specs.HubStates.Wirings.{handle_in}
 use Rattle.iox_tables.specs.HubBooks.Handles.{is_loan}
 use Rattle.iox_tables.proofs.HubBooks.Used.{handle_is, used_by_handle}
-use Rattle.iox_tables.specs.HubLoans.Fillings.{IsOfOneHandle, contents_of, elements_of}
+use Rattle.iox_tables.specs.HubLoans.Fillings.{IsOfOneHandle, elements_of}
 use Rattle.iox_tables.specs.HubLoans.Questions.{kind_by, kind_in}
-use Rattle.iox_tables.specs.HubLoans.Slots.{is_place, with_contents}
+use Rattle.iox_tables.specs.HubLoans.Slots.{is_place}
 use Rattle.iox_tables.specs.HubLending.Filling.{with_kind}
 use Rattle.iox_tables.proofs.HubLending.Filled.{loans_are_of_one_handle}
 use Rattle.iox_control.specs.Controls.{ControlState, IsControl, with_tables}

@@ -1,7 +1,7 @@
 -- Where the rows and the words of values stay, so do the values; and what two calls keep, they keep together.
-use Rattle.std.specs.Prelude.{◌≡◌, ℕ, Bool, true, false, ◌&&◌, if◌then◌else◌, ◌==◌, List, [], Option, Some, None, IsSome, is_some, slice_get, slice_set, refl, ⊤}
+use Rattle.std.specs.Prelude.{◌≡◌, ℕ, Bool, true, false, ◌&&◌, if◌then◌else◌, ◌==◌, [], Option, Some, None, IsSome, is_some, slice_set, refl, ⊤}
 use Rattle.std.specs.Option.{option_map_or}
-use Rattle.std.proofs.Common.{sym, ap, ap₂, subst, ◌∙◌, true≢false, eqb-true}
+use Rattle.std.proofs.Common.{sym, ap, subst, ◌∙◌, true≢false, eqb-true}
 use Rattle.iox_store.specs.Stored.{Stored, stored_at, unlent}
 use Rattle.iox_model.specs.declared.kind.Kind.{Kind}
 use Rattle.iox_model.specs.declared.kind.Role.{Role}
@@ -14,7 +14,6 @@ use Rattle.iox_tables.proofs.HubBooks.Used.{used_by_handle}
 use Rattle.iox_tables.proofs.HubKeeping.Ordered.{empty_free, used_else}
 use Rattle.iox_hub.specs.Hubs.{HubState}
 use Rattle.iox_hub.specs.Keeping.{IsOther, IsSame, Keeps, KeepsAll, KeepingComposes}
-use Rattle.iox_hub.specs.Reads.{message_in}
 use Rattle.iox_hub.specs.Sending.{with_words_left}
 use Rattle.iox_hub.specs.Words.{Carried, stored_in}
 use Rattle.iox_hub.proofs.KeepingPorts.{IsStillIn, Owned}

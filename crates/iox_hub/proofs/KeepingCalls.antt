@@ -1,5 +1,5 @@
 -- Receives, hints, sends and releases keep other values.
-use Rattle.std.specs.Prelude.{◌≡◌, ◌≢◌, ℕ, Bool, true, false, if◌then◌else◌, List, [], ◌∷◌, ◌++◌, length, map, Option, Some, IsSome, refl, ⊤}
+use Rattle.std.specs.Prelude.{◌≡◌, ◌≢◌, ℕ, Bool, true, false, if◌then◌else◌, [], ◌∷◌, length, map, Some, IsSome, refl, ⊤}
 use Rattle.std.proofs.Common.{sym, ap, ap₂, subst, ◌∙◌, true≢false}
 use Rattle.std.proofs.lemmas.Option.{same_Some}
 use Rattle.iox_lanes.specs.declared.incoming.Visits.{Visits}
@@ -40,7 +40,7 @@ use Rattle.iox_control_requests.specs.declared.requested.Requested.TheVariants.{
 use Rattle.iox_control_requests.specs.Requests.{ways_of, with_request_sent, with_requests_back}
 use Rattle.iox_control_requests.specs.Sendings.{with_lost_released, with_request_ended}
 use Rattle.iox_control_requests.specs.Servers.{request_ways}
-use Rattle.iox_control_responses.specs.Responses.{is_shut, way_to_client, with_response_ended, with_response_offered, with_response_sent, with_way_emptied}
+use Rattle.iox_control_responses.specs.Responses.{is_shut, way_to_client, with_response_ended, with_response_sent, with_way_emptied}
 use Rattle.iox_hub.specs.Hubs.{HubState, IsHub, with_control}
 use Rattle.iox_hub.specs.Keeping.{IsNew, IsOther, Keeps, KeepsAll, KeepsOthers}
 use Rattle.iox_hub.specs.Sending.{with_words_left}

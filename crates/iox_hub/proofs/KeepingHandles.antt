@@ -1,7 +1,6 @@
 -- Other handles stay as one is added, changed or dropped, and no other has the message of a loan.
 use Rattle.std.specs.Prelude.{◌≡◌, ◌≢◌, ℕ, ◌+◌, ◌≤◌, Bool, true, false, not, ◌&&◌, ◌||◌, if◌then◌else◌, ◌==◌, List, [], ◌∷◌, ◌++◌, map, Option, Some, None, IsSome, is_some, refl}
-use Rattle.std.specs.Option.{option_map_or}
-use Rattle.std.proofs.Common.{sym, ap, ap₂, subst, ◌∙◌, arith, true≢false, eqb-true, eq-eqb}
+use Rattle.std.proofs.Common.{sym, ap, ap₂, ◌∙◌, arith, true≢false, eqb-true, eq-eqb}
 use Rattle.std.proofs.lemmas.Option.{none-some, same_Some}
 use Rattle.iox_model.specs.Maps.{has_number}
 use Rattle.iox_tables.specs.HubStates.Tables.{HandleState, HubTables, PortState, numbers_of, port_in}
@@ -9,7 +8,7 @@ use Rattle.iox_tables.specs.HubStates.Ends.{changed_handles, dropped_handles}
 use Rattle.iox_tables.specs.HubStates.Wirings.{handle_in}
 use Rattle.iox_tables.specs.HubLoans.Questions.{kind_by, kind_in}
 use Rattle.iox_tables.specs.HubLoans.Slots.{is_place}
-use Rattle.iox_tables.specs.HubBooks.Counts.{handle_uses, is_at, lane_uses, total}
+use Rattle.iox_tables.specs.HubBooks.Counts.{is_at, total}
 use Rattle.iox_tables.specs.HubBooks.Handles.{IsAlone, is_loan}
 use Rattle.iox_tables.specs.HubBooks.Hubs.{AreInOrder}
 use Rattle.iox_tables.proofs.HubBooks.Received.{has_back}

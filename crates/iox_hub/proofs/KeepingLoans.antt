@@ -1,14 +1,14 @@
 -- Loans, writes and makings of ports keep other values, and what is made is new.
-use Rattle.std.specs.Prelude.{◌≡◌, ◌≢◌, ◌+◌, ℕ, Bool, true, false, ◌&&◌, ◌||◌, if◌then◌else◌, ◌==◌, List, [], ◌∷◌, map, Option, Some, None, IsSome, is_some, refl, ⊤}
+use Rattle.std.specs.Prelude.{◌≡◌, ◌+◌, ℕ, Bool, true, false, ◌&&◌, if◌then◌else◌, ◌==◌, List, [], ◌∷◌, map, Option, Some, None, IsSome, refl, ⊤}
 use Rattle.std.specs.List.{list_any}
-use Rattle.std.proofs.Common.{sym, ap, ap₂, subst, ◌∙◌, true≢false}
+use Rattle.std.proofs.Common.{sym, ap, ◌∙◌, true≢false}
 use Rattle.std.proofs.lemmas.Option.{none-some, same_Some}
 use Rattle.iox_store.specs.Stored.{Stored}
 use Rattle.iox_model.specs.declared.kind.Kind.{Kind}
 use Rattle.iox_model.specs.declared.kind.Role.{Role}
 use Rattle.iox_model.specs.Handles.{filled_kind}
 use Rattle.iox_model.specs.Settings.{Shape}
-use Rattle.iox_tables.specs.HubStates.Tables.{HandleState, HubTables, PortState, port_in}
+use Rattle.iox_tables.specs.HubStates.Tables.{HandleState, HubTables, port_in}
 use Rattle.iox_tables.specs.HubStates.Changes.{emptied_lane}
 use Rattle.iox_tables.specs.HubStates.Wirings.{handle_in}
 use Rattle.iox_tables.specs.HubLoans.Lenders.{Lender, ways_by}
@@ -19,7 +19,7 @@ use Rattle.iox_tables.proofs.HubLoans.Placed.{or_false}
 use Rattle.iox_tables.specs.HubBooks.Hubs.{AreInOrder}
 use Rattle.iox_tables.specs.HubLending.Emptying.{with_back}
 use Rattle.iox_tables.proofs.HubLending.Owning.{free_is_unused}
-use Rattle.iox_control.specs.Controls.{ControlState, IsControl}
+use Rattle.iox_control.specs.Controls.{ControlState}
 use Rattle.iox_control_lending.specs.declared.asked.Loaned.{Loaned}
 use Rattle.iox_control_lending.specs.declared.asked.Lent.{Lent}
 use Rattle.iox_control_lending.specs.declared.asked.Lent.TheVariants as lents
@@ -29,7 +29,7 @@ use Rattle.iox_control_lending.specs.declared.asked.Written.TheVariants as writt
 use Rattle.iox_control_lending.specs.Fills.{IsFilled}
 use Rattle.iox_control_lending.specs.Lends.{on_lane}
 use Rattle.iox_hub.specs.Hubs.{HasValue, HubState, IsHub, with_control}
-use Rattle.iox_hub.specs.Keeping.{IsNewLoan, IsOther, IsSame, Keeps, KeepsAll, KeepsOthers}
+use Rattle.iox_hub.specs.Keeping.{IsNewLoan, KeepsAll, KeepsOthers}
 use Rattle.iox_hub.specs.Lending.{with_message}
 use Rattle.iox_hub.specs.Reads.{message_in}
 use Rattle.iox_hub.specs.Sending.{HasNothing}

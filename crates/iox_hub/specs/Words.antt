@@ -10,6 +10,7 @@ pub record Carried : Type 0 where
   pub requests : Bool
   pub contents : Contents
 
+-- what the messages of a pool carry
 abbrev pub carried : {A B C D : Type 0} → PoolWords A B C D → Carried
 carried (Requests s) = record { requests = true; contents = s }
 carried (Responses s) = record { requests = false; contents = s }

@@ -40,9 +40,9 @@ impl<Q: Payload, QH: Words, P: Payload, PH: Words> Hub<Q, QH, P, PH> {
         iox_control_questions::has_hint(&self.control, node, number, hint)
     }
 
-    /// Why the node's call of that number, which asks that, is not begun. A handle of that number is
-    /// looked for at the hint first. What is so refused changes nothing. If nothing is told, then the
-    /// node has a value of that number of which that may be asked, and it may still be counted.
+    /// Why the node's call of that number, which asks that, is not begun. A handle of that number
+    /// is looked for at the hint first. What is so refused changes nothing. If nothing is told, then
+    /// the node has a value of that number of which that may be asked, and it may still be counted.
     pub fn refusal(&self, node: u64, number: u64, hint: usize, asked: Asked) -> Option<NotBegun>
         ensures told { (call : Call) → number_of call ≡ number → asked_of call ≡ asked
             → option_map refusal_of result ≡ first_refusal self.now.control.tables node call }
@@ -50,7 +50,8 @@ impl<Q: Payload, QH: Words, P: Payload, PH: Words> Hub<Q, QH, P, PH> {
             → (r : NotBegun) → result ≡ Some r
             → IsWholeCall (state_of_hub x self.now) node call (Refused (refusal_of r))
             (state_of_hub x self.now) }
-        ensures has { result ≡ None → HasOf (suits false (call_of number asked)) self.now node number }
+        ensures has { result ≡ None
+            → HasOf (suits false (call_of number asked)) self.now node number }
         ensures calls { result ≡ None → is_counted (call_of number asked) ≡ true
             → self.now.control.tables.calls < 2 ^ 56 }
     {

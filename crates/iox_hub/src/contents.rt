@@ -50,7 +50,8 @@ pub(crate) fn lend_request_in<QE: Words, QH: Words, PE: Words, PH: Words>(
     requires there { slot < count_in (all_carried words.old.items) pool }
     requires room { elements ≤ longest_in (all_carried words.old.items) pool }
     requires default { uninit ≡ false → IsSome shape.now.default }
-    ensures { (many : Bool) → all_carried words.new.items ≡ with_message (all_carried words.old.items) pool slot
+    ensures { (many : Bool) → all_carried words.new.items
+        ≡ with_message (all_carried words.old.items) pool slot
         (first_stored (shape_of many QE.WORDS QE.words QH.words shape.now) uninit elements
         (stored_in (all_carried words.old.items) pool slot)) }
 {
@@ -73,7 +74,8 @@ pub(crate) fn lend_response_in<QE: Words, QH: Words, PE: Words, PH: Words>(
     requires there { slot < count_in (all_carried words.old.items) pool }
     requires room { elements ≤ longest_in (all_carried words.old.items) pool }
     requires default { uninit ≡ false → IsSome shape.now.default }
-    ensures { (many : Bool) → all_carried words.new.items ≡ with_message (all_carried words.old.items) pool slot
+    ensures { (many : Bool) → all_carried words.new.items
+        ≡ with_message (all_carried words.old.items) pool slot
         (first_stored (shape_of many PE.WORDS PE.words PH.words shape.now) uninit elements
         (stored_in (all_carried words.old.items) pool slot)) }
 {
@@ -92,9 +94,11 @@ pub(crate) fn write_request_in<QE: Words, QH: Words, PE: Words, PH: Words>(
 )
     requires requests { are_requests_in (all_carried words.old.items) pool ≡ true }
     requires there { slot < count_in (all_carried words.old.items) pool }
-    requires equal { length values.now ≡ (stored_in (all_carried words.old.items) pool slot).elements }
+    requires equal { length values.now
+        ≡ (stored_in (all_carried words.old.items) pool slot).elements }
     ensures { all_carried words.new.items ≡ with_message (all_carried words.old.items) pool slot
-        (filled_with (stored_in (all_carried words.old.items) pool slot) (flat_map QE.words values.now)) }
+        (filled_with (stored_in (all_carried words.old.items) pool slot)
+        (flat_map QE.words values.now)) }
 {
     match &mut words[pool] {
         Some(PoolWords::Requests(store)) => store.write_from_slice(slot, values),
@@ -111,9 +115,11 @@ pub(crate) fn write_response_in<QE: Words, QH: Words, PE: Words, PH: Words>(
 )
     requires responses { are_requests_in (all_carried words.old.items) pool ≡ false }
     requires there { slot < count_in (all_carried words.old.items) pool }
-    requires equal { length values.now ≡ (stored_in (all_carried words.old.items) pool slot).elements }
+    requires equal { length values.now
+        ≡ (stored_in (all_carried words.old.items) pool slot).elements }
     ensures { all_carried words.new.items ≡ with_message (all_carried words.old.items) pool slot
-        (filled_with (stored_in (all_carried words.old.items) pool slot) (flat_map PE.words values.now)) }
+        (filled_with (stored_in (all_carried words.old.items) pool slot)
+        (flat_map PE.words values.now)) }
 {
     match &mut words[pool] {
         Some(PoolWords::Responses(store)) => store.write_from_slice(slot, values),

@@ -34,7 +34,8 @@ pub(crate) fn copy_request_in<QE: Words, QH: Words, PE: Words, PH: Words>(
     requires requests { are_requests_in (all_carried words.old.items) place.pool ≡ true }
     requires there { place.slot < count_in (all_carried words.old.items) place.pool }
     requires room { length values.now ≤ longest_in (all_carried words.old.items) place.pool }
-    ensures { all_carried words.new.items ≡ with_message (all_carried words.old.items) place.pool place.slot
+    ensures { all_carried words.new.items
+        ≡ with_message (all_carried words.old.items) place.pool place.slot
         (copied_stored (QH.words user) (length values.now) (flat_map QE.words values.now)
         (stored_in (all_carried words.old.items) place.pool place.slot)) }
 {
@@ -54,7 +55,8 @@ pub(crate) fn copy_response_in<QE: Words, QH: Words, PE: Words, PH: Words>(
     requires responses { are_requests_in (all_carried words.old.items) place.pool ≡ false }
     requires there { place.slot < count_in (all_carried words.old.items) place.pool }
     requires room { length values.now ≤ longest_in (all_carried words.old.items) place.pool }
-    ensures { all_carried words.new.items ≡ with_message (all_carried words.old.items) place.pool place.slot
+    ensures { all_carried words.new.items
+        ≡ with_message (all_carried words.old.items) place.pool place.slot
         (copied_stored (PH.words user) (length values.now) (flat_map PE.words values.now)
         (stored_in (all_carried words.old.items) place.pool place.slot)) }
 {

@@ -47,7 +47,8 @@ impl<Q: Payload, QH: Words, P: Payload, PH: Words> Hub<Q, QH, P, PH> {
     pub fn copy_request(&mut self, node: u64, client: u64, values: &[Q::Element]) -> Copied
         requires has { HasValue self.old node client Client }
         ensures reply { (p : PortState) → port_in self.old.control.tables.ports client ≡ Some p
-            → requests.Copies self.old.control p (asked_of_copy self.old.request (length values.now))
+            → requests.Copies self.old.control p
+            (asked_of_copy self.old.request (length values.now))
             (λ w. fails_by_strategy p.strategy) result self.new.control }
         ensures left { LeavesCopied self.old (length values.now)
             (flat_map Q.Element.words values.now) result self.new }
@@ -93,10 +94,12 @@ impl<Q: Payload, QH: Words, P: Payload, PH: Words> Hub<Q, QH, P, PH> {
         values: &[P::Element],
     ) -> Answered
         requires has { HasValue self.old node number ActiveRequest }
-        ensures reply { (h : HandleState) → handle_in self.old.control.tables.handles node number ≡ Some h
+        ensures reply { (h : HandleState)
+            → handle_in self.old.control.tables.handles node number ≡ Some h
             → (p : PortState) → port_in self.old.control.tables.ports h.port ≡ Some p
             → responses.Answers self.old.control (lender_of_response self.old.control.tables h p)
-            (asked_of_copy self.old.response (length values.now)) (fails_by_strategy p.strategy) result
+            (asked_of_copy self.old.response (length values.now)) (fails_by_strategy p.strategy)
+            result
             self.new.control }
         ensures left { LeavesAnswered self.old (length values.now)
             (flat_map P.Element.words values.now) result self.new }

@@ -135,7 +135,8 @@ pub(crate) fn write_next_response_in<QE: Words, QH: Words, PE: Words, PH: Words>
     }
 }
 
-/// Fills all elements of the request in that slot, each with what the closure answers for its index.
+/// Fills all elements of the request in that slot, each with what the closure answers for its
+/// index.
 pub(crate) fn write_request_from_fn_in<
     QE: Words,
     QH: Words,
@@ -146,9 +147,11 @@ pub(crate) fn write_request_from_fn_in<
     requires requests { are_requests_in (all_carried words.old.items) pool ≡ true }
     requires there { slot < count_in (all_carried words.old.items) pool }
     requires callable { F.IsAlwaysCallable f }
-    ensures filled { FillsByAnswers QE.words F.step f (stored_in (all_carried words.old.items) pool slot)
+    ensures filled { FillsByAnswers QE.words F.step f
+        (stored_in (all_carried words.old.items) pool slot)
         (stored_in (all_carried words.new.items) pool slot) }
-    ensures only { all_carried words.new.items ≡ with_message (all_carried words.old.items) pool slot
+    ensures only { all_carried words.new.items
+        ≡ with_message (all_carried words.old.items) pool slot
         (stored_in (all_carried words.new.items) pool slot) }
 {
     match &mut words[pool] {
@@ -157,7 +160,8 @@ pub(crate) fn write_request_from_fn_in<
     }
 }
 
-/// Fills all elements of the response in that slot, each with what the closure answers for its index.
+/// Fills all elements of the response in that slot, each with what the closure answers for its
+/// index.
 pub(crate) fn write_response_from_fn_in<
     QE: Words,
     QH: Words,
@@ -168,9 +172,11 @@ pub(crate) fn write_response_from_fn_in<
     requires responses { are_requests_in (all_carried words.old.items) pool ≡ false }
     requires there { slot < count_in (all_carried words.old.items) pool }
     requires callable { F.IsAlwaysCallable f }
-    ensures filled { FillsByAnswers PE.words F.step f (stored_in (all_carried words.old.items) pool slot)
+    ensures filled { FillsByAnswers PE.words F.step f
+        (stored_in (all_carried words.old.items) pool slot)
         (stored_in (all_carried words.new.items) pool slot) }
-    ensures only { all_carried words.new.items ≡ with_message (all_carried words.old.items) pool slot
+    ensures only { all_carried words.new.items
+        ≡ with_message (all_carried words.old.items) pool slot
         (stored_in (all_carried words.new.items) pool slot) }
 {
     match &mut words[pool] {

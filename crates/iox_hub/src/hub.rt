@@ -15,10 +15,11 @@ use iox_words::Words;
 use std::alloc::{AllocError, Global};
 use std::marker::Model;
 
-/// All ports of a service: requests of `Q` with user headers `QH`, responses of `P` with user headers
-/// `PH`.
+/// All ports of a service: requests of `Q` with user headers `QH`, responses of `P` with user
+/// headers `PH`.
 ///
-/// A service and its hub can reach the state that a hub shows, so each law of the machine holds of it.
+/// A service and its hub can reach the state that a hub shows, so each law of the machine holds of
+/// it.
 #[derive(Drop)]
 pub struct Hub<Q: Payload, QH: Words, P: Payload, PH: Words> {
     pub(crate) control: Control,
@@ -51,8 +52,8 @@ impl<Q: Payload, QH: Words, P: Payload, PH: Words> Model for Hub<Q, QH, P, PH> {
 }
 
 impl<Q: Payload, QH: Words, P: Payload, PH: Words> Hub<Q, QH, P, PH> {
-    /// A hub in which no port was made yet. A limit of 0 is raised to 1, and no port keeps messages of
-    /// ports that are gone. It fails only for want of memory.
+    /// A hub in which no port was made yet. A limit of 0 is raised to 1, and no port keeps messages
+    /// of ports that are gone. It fails only for want of memory.
     pub fn new(
         alloc: Global,
         settings: Settings,

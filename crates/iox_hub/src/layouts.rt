@@ -8,7 +8,8 @@ use crate::shape::Part;
 /// The bytes of a message at most, if its elements have so many in all.
 fn bytes_with(header: Part, user: Part, element: Part, payload: u128) -> u128
     requires { payload < 2 ^ 63 }
-    ensures value { result ≡ header.size + user.size + (user.alignment - 1) + payload + (element.alignment - 1) }
+    ensures value { result
+        ≡ header.size + user.size + (user.alignment - 1) + payload + (element.alignment - 1) }
     ensures within { result < 2 ^ 68 }
 {
     let before_user = (user.alignment as u128).saturating_sub(1);
@@ -19,7 +20,9 @@ fn bytes_with(header: Part, user: Part, element: Part, payload: u128) -> u128
 /// Whether a message of so many elements has fewer than 2^63 bytes, wherever its parts have to
 /// stand.
 pub(crate) fn has_layout(header: Part, user: Part, element: Part, elements: u64) -> bool
-    ensures { result ≡ nat_lt (size_of_parts (part_of header) (part_of user) (part_of element) elements) (2 ^ 63) }
+    ensures { result
+        ≡ nat_lt (size_of_parts (part_of header) (part_of user) (part_of element) elements)
+        (2 ^ 63) }
 {
     let alignment = header.alignment as u128;
     if alignment == 0 {

@@ -24,7 +24,8 @@ pub(crate) fn asked_of<Q: Payload, H: Words>(
     elements: usize,
     uninit: bool,
 ) -> Asked
-    ensures { IsAskedFor Q.MANY Q.Element.WORDS Q.Element.words H.words shape.now elements uninit result }
+    ensures { IsAskedFor Q.MANY Q.Element.WORDS Q.Element.words H.words shape.now elements uninit
+        result }
 {
     Asked {
         elements: elements as u64,

@@ -24,7 +24,8 @@ pub(crate) fn requests_in<QE: Words, QH: Words, PE: Words, PH: Words>(
     pool: usize,
 ) -> &Store<QE, QH>
     requires requests { are_requests_in (all_carried words.now) pool ≡ true }
-    ensures { carried_in (all_carried words.now) pool ≡ Some (record { requests = true; contents = result.now }) }
+    ensures { carried_in (all_carried words.now) pool
+        ≡ Some (record { requests = true; contents = result.now }) }
 {
     match words.get(pool) {
         Some(Some(PoolWords::Requests(store))) => store,
@@ -39,7 +40,8 @@ pub(crate) fn responses_in<QE: Words, QH: Words, PE: Words, PH: Words>(
 ) -> &Store<PE, PH>
     requires there { 0 < count_in (all_carried words.now) pool }
     requires responses { are_requests_in (all_carried words.now) pool ≡ false }
-    ensures { carried_in (all_carried words.now) pool ≡ Some (record { requests = false; contents = result.now }) }
+    ensures { carried_in (all_carried words.now) pool
+        ≡ Some (record { requests = false; contents = result.now }) }
 {
     match words.get(pool) {
         Some(Some(PoolWords::Responses(store))) => store,
@@ -50,8 +52,10 @@ pub(crate) fn responses_in<QE: Words, QH: Words, PE: Words, PH: Words>(
 impl<Q: Payload, QH: Words, P: Payload, PH: Words> Hub<Q, QH, P, PH> {
     /// The node's handle of that number, which it has. It is looked for at the hint first.
     pub(crate) fn handle(&self, node: u64, number: u64, hint: usize) -> Entry
-        requires has { (h : HandleState) × (handle_in self.now.control.tables.handles node number ≡ Some h) }
-        ensures { handle_in self.now.control.tables.handles node number ≡ Some (handle_state result) }
+        requires has { (h : HandleState)
+            × (handle_in self.now.control.tables.handles node number ≡ Some h) }
+        ensures { handle_in self.now.control.tables.handles node number
+            ≡ Some (handle_state result) }
     {
         let Some(entry) = self.control.entry(node, number, hint) else {
             unreachable!();
@@ -59,11 +63,12 @@ impl<Q: Payload, QH: Words, P: Payload, PH: Words> Hub<Q, QH, P, PH> {
         entry
     }
 
-    /// The filled elements of the request that the handle has: an active request, a pending response
-    /// or a loaned request. The handle is looked for at the hint first.
+    /// The filled elements of the request that the handle has: an active request, a pending
+    /// response or a loaned request. The handle is looked for at the hint first.
     pub fn request(&self, node: u64, number: u64, hint: usize) -> &[Q::Element]
         requires has { HasOf has_request self.now node number }
-        ensures words { flat_map Q.Element.words result.now ≡ (message_in self.now node number).payload }
+        ensures words { flat_map Q.Element.words result.now
+            ≡ (message_in self.now node number).payload }
         ensures whole { (x : Given) → IsWholeCall (state_of_hub x self.now) node (Read number)
             (Words ((message_in self.now node number).user ++ flat_map Q.Element.words result.now))
             (state_of_hub x self.now) }
@@ -88,7 +93,8 @@ impl<Q: Payload, QH: Words, P: Payload, PH: Words> Hub<Q, QH, P, PH> {
     /// one. The handle is looked for at the hint first.
     pub fn response(&self, node: u64, number: u64, hint: usize) -> &[P::Element]
         requires has { HasOf has_response self.now node number }
-        ensures words { flat_map P.Element.words result.now ≡ (message_in self.now node number).payload }
+        ensures words { flat_map P.Element.words result.now
+            ≡ (message_in self.now node number).payload }
         ensures whole { (x : Given) → IsWholeCall (state_of_hub x self.now) node (Read number)
             (Words ((message_in self.now node number).user ++ flat_map P.Element.words result.now))
             (state_of_hub x self.now) }

@@ -63,7 +63,8 @@ pub fn writes_456(
     Some(hub.request(node, loan.number, 0))
 }
 
-/// What is written to a loan is as long as the loan, so the loan is filled, and may be written again.
+/// What is written to a loan is as long as the loan, so the loan is filled, and may be written
+/// again.
 pub fn writes_twice<E: Words>(
     hub: &mut Hub<One<u64>, (), Many<E>, u32>,
     node: u64,

@@ -10,8 +10,8 @@ use iox_control::Received;
 use iox_control_making::NotMade;
 use iox_model::kind::{Kind, Role};
 use iox_store::{Many, One};
-use iox_types::identifiers::UniqueSystemId;
 use iox_types::TypeDetailError;
+use iox_types::identifiers::UniqueSystemId;
 use std::alloc::{AllocError, Global};
 
 /// Requests are one number, responses are any number of bytes.

@@ -21,13 +21,7 @@ use iox_store::Payload;
 use iox_words::Words;
 
 /// So many elements are written to the node's loan. Its handle is looked for at the hint first.
-fn write_loan(
-    control: &mut Control,
-    node: u64,
-    number: u64,
-    hint: usize,
-    count: usize,
-) -> Written
+fn write_loan(control: &mut Control, node: u64, number: u64, hint: usize, count: usize) -> Written
     requires loan { IsLoan control.old.tables node number }
     requires order { IsControl control.old }
     ensures { IsWrite control.old node number count control.new result }
