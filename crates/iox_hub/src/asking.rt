@@ -41,8 +41,9 @@ impl<Q: Payload, QH: Words, P: Payload, PH: Words> Hub<Q, QH, P, PH> {
     }
 
     /// Why the node's call of that number, which asks that, is not begun. A handle of that number
-    /// is looked for at the hint first. What is so refused changes nothing. If nothing is told, then
-    /// the node has a value of that number of which that may be asked, and it may still be counted.
+    /// is looked for at the hint first. What is so refused changes nothing. If nothing is told,
+    /// then the node has a value of that number of which that may be asked, and it may still be
+    /// counted.
     pub fn refusal(&self, node: u64, number: u64, hint: usize, asked: Asked) -> Option<NotBegun>
         ensures told { (call : Call) → number_of call ≡ number → asked_of call ≡ asked
             → option_map refusal_of result ≡ first_refusal self.now.control.tables node call }
