@@ -23,10 +23,11 @@ impl<E: Words, H: Words> Model for Cell<E, H> {
 
     ghost Value = { Stored };
 
-    ghost view = { λ c. stored_as E.words (H.words c.user) c.elements (vec_capacity c.payload) c.payload.items };
-
-    ghost invariant = { λ c. IsCell E.WORDS E.words H.WORDS (H.words c.user) c.elements (vec_capacity c.payload)
+    ghost view = { λ c. stored_as E.words (H.words c.user) c.elements (vec_capacity c.payload)
         c.payload.items };
+
+    ghost invariant = { λ c. IsCell E.WORDS E.words H.WORDS (H.words c.user) c.elements
+        (vec_capacity c.payload) c.payload.items };
 }
 
 impl<E: Words, H: Words> Cell<E, H> {

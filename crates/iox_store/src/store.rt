@@ -94,7 +94,8 @@ impl<E: Words, H: Words> Store<E, H> {
     #[inline]
     pub fn is_filled(&self, place: usize) -> bool
         requires { place < length self.now.messages }
-        ensures { IsTrue result ↔ (stored_at self.now place).filled ≡ (stored_at self.now place).elements }
+        ensures { IsTrue result ↔ (stored_at self.now place).filled
+            ≡ (stored_at self.now place).elements }
     {
         self.filled(place) == self.elements(place)
     }
@@ -137,9 +138,11 @@ impl<E: Words, H: Words> Store<E, H> {
     /// Makes room for so many elements of the message.
     pub fn reserve(&mut self, place: usize, elements: usize) -> Result<(), AllocError>
         requires { place < length self.old.messages }
-        ensures grown { OnOk result (Grows (stored_at self.old place) elements (stored_at self.new place)) }
+        ensures grown { OnOk result (Grows (stored_at self.old place) elements
+            (stored_at self.new place)) }
         ensures only { OnOk result (ChangesOnly place self.old self.new) }
-        ensures enough { elements ≤ (stored_at self.old place).room → IsOk result × (self.new ≡ self.old) }
+        ensures enough { elements ≤ (stored_at self.old place).room
+            → IsOk result × (self.new ≡ self.old) }
         ensures unchanged { OnErr result (self.new ≡ self.old) }
     {
         let cell = &mut self.cells[place];

@@ -72,7 +72,8 @@ impl<E: Words, H: Words> Store<E, H> {
     pub fn write_from_fn<F: FnMut(usize) -> E>(&mut self, place: usize, f: F)
         requires there { place < length self.old.messages }
         requires callable { F.IsAlwaysCallable f }
-        ensures filled { FillsByAnswers E.words F.step f (stored_at self.old place) (stored_at self.new place) }
+        ensures filled { FillsByAnswers E.words F.step f (stored_at self.old place)
+            (stored_at self.new place) }
         ensures only { ChangesOnly place self.old self.new }
     {
         let cell = &mut self.cells[place];
