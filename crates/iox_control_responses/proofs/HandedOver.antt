@@ -1,5 +1,5 @@
 -- A response that is put in line in place of its handle: all that is so of a hub stays so.
-use Rattle.std.specs.Prelude.{◌≡◌, ◌⊎◌, ℕ, ◌+◌, ◌-◌, ◌^◌, ◌≤◌, ◌<◌, Bool, true, false, if◌then◌else◌, ◌==◌, List, [], ◌∷◌, map, length, Option, Some, None, refl}
+use Rattle.std.specs.Prelude.{◌≡◌, ◌⊎◌, ℕ, ◌+◌, ◌-◌, ◌^◌, ◌≤◌, ◌<◌, Bool, true, false, if◌then◌else◌, ◌==◌, List, [], ◌∷◌, map, Option, Some, None, refl}
 use Rattle.std.specs.Option.{option_map_or}
 use Rattle.std.proofs.Common.{sym, ap, ap₂, subst, ◌∙◌, arith}
 use Rattle.std.proofs.lemmas.Option.{none-some, same_Some}
@@ -7,21 +7,21 @@ use Rattle.iox_model.specs.declared.way.Way.{Way}
 use Rattle.iox_model.specs.Handles.{is_response_loan}
 use Rattle.iox_model.specs.Maps.{AreDistinct}
 use Rattle.iox_laws.proofs.WeaveLaws.MapLemmas.{eqb-refl}
-use Rattle.iox_lanes.specs.Lanes.{LaneState, delivered, is_full, oldest, without_oldest}
+use Rattle.iox_lanes.specs.Lanes.{LaneState, delivered, is_full, oldest}
 use Rattle.iox_tables.specs.HubStates.Tables.{HandleState, HubTables, PoolState, PortState, numbers_of, slot_at}
 use Rattle.iox_tables.specs.HubStates.Ways.{lane_on, with_lane_on}
 use Rattle.iox_tables.specs.HubStates.Changes.{with_lanes}
 use Rattle.iox_tables.specs.HubStates.Ends.{dropped_handles, with_call, with_dropped}
 use Rattle.iox_tables.specs.HubStates.Steps.{places_on}
 use Rattle.iox_tables.specs.HubStates.Wirings.{IsHandle}
-use Rattle.iox_tables.specs.HubBooks.Counts.{OfAll, handle_uses, how_often, is_at, lane_count, lane_uses, on_lanes, total}
+use Rattle.iox_tables.specs.HubBooks.Counts.{handle_uses, how_often, is_at, lane_count, lane_uses, on_lanes, total}
 use Rattle.iox_tables.specs.HubBooks.Hubs.{AreInOrder, HoldersAreCounted, IsUsed}
 use Rattle.iox_tables.specs.HubBooks.Keeps.{AreTargetsOf, bare_pools, delivers}
 use Rattle.iox_tables.specs.HubBooks.Rooms.{CanCountHolders, HasRoomForAll, own_count, spare}
 use Rattle.iox_tables.proofs.HubBooks.Delivering.{lanes_keep_at}
 use Rattle.iox_tables.proofs.HubBooks.Bounds.{all_lanes_from}
-use Rattle.iox_tables.proofs.HubBooks.Eachs.{lane_is}
-use Rattle.iox_tables.proofs.HubBooks.Frames.{bare_lane, bare_port, bare_ports, lanes_on_bare}
+use Rattle.iox_tables.proofs.HubBooks.Eachs.{all_from, lane_is}
+use Rattle.iox_tables.proofs.HubBooks.Frames.{bare_ports, lanes_on_bare}
 use Rattle.iox_tables.proofs.HubBooks.HandleTotals.{handle_dropped}
 use Rattle.iox_tables.proofs.HubBooks.LaneCounts.{evicted_places}
 use Rattle.iox_tables.proofs.HubBooks.LaneLists.{lanes_same}
@@ -39,42 +39,12 @@ use Rattle.iox_slots.specs.Pools.{with_slot}
 use Rattle.iox_slots.specs.Slots.{let_go}
 use Rattle.iox_control.specs.Controls.{AreCounted, ControlState, IsControl}
 use Rattle.iox_control.proofs.RoomLemmas.{lanes_seats, room_as}
-use Rattle.iox_control_ending.proofs.Ended.{let_go_bare, one_less, one_shorter, room_left}
 use Rattle.iox_control_responses.specs.Responses.{way_to_client, with_handed_over}
 use Rattle.iox_control_responses.proofs.Lanes.{IsReady, count_pushed, delivers_is, out_at, pushed_is}
-
--- ---- sums and counts over ports do not see their lanes
-
-bare_total : (f : PortState → ℕ) → ((p : PortState) → f (bare_port p) ≡ f p) → (ports : List PortState) → total f (bare_ports ports) ≡ total f ports
-bare_total f same [] = refl
-bare_total f same (p ∷ ps) = ap₂ (λ (a b : ℕ). a + b) (same p) (bare_total f same ps)
-
-bare_all : (m n : ℕ) → m ≤ n → (ports : List PortState) → OfAll (λ p. p.loans ≤ m) ports → OfAll (λ p. p.loans ≤ n) (bare_ports ports)
-bare_all m n le [] a = a
-bare_all m n le (p ∷ ps) a = (let one = a.0 in omega (arith, one, le), bare_all m n le ps a.1)
-
-all_bare : (n : ℕ) (ports : List PortState) → OfAll (λ p. p.loans ≤ n) (bare_ports ports) → OfAll (λ p. p.loans ≤ n) ports
-all_bare n [] a = a
-all_bare n (p ∷ ps) a = (a.0, all_bare n ps a.1)
-
--- ---- one lane
-
-module _ (overflow : Bool) (k : ℕ) where
-  pub gives_bare : (l : LaneState) → bare_lane (delivers overflow k l) ≡ bare_lane l
-  gives_bare l = step overflow _
-    where
-      step : (b c : Bool) → bare_lane (if b then (if c then without_oldest (delivered l k) else delivered l k) else delivered l k) ≡ bare_lane l
-      step true true = refl
-      step true false = refl
-      step false c = refl
-
-  gives_taken : (l : LaneState) → (delivers overflow k l).taken ≡ l.taken
-  gives_taken l = step overflow _
-    where
-      step : (b c : Bool) → (if b then (if c then without_oldest (delivered l k) else delivered l k) else delivered l k).taken ≡ l.taken
-      step true true = refl
-      step true false = refl
-      step false c = refl
+use Rattle.iox_slots.proofs.BareLemmas.{let_go_bare, let_go_one}
+use Rattle.iox_tables.proofs.HubBooks.Left.{one_shorter, room_left}
+use Rattle.iox_tables.proofs.HubBooks.Alike.{loans_stay, own_stays}
+use Rattle.iox_tables.proofs.HubBooks.OneGiven.{gives_bare, gives_spare, once_more}
 
 -- ---- pools
 
@@ -99,7 +69,7 @@ module _ (pools : List (Option PoolState)) (pool : ℕ) (o : Option ℕ) where
       step : (x : Option ℕ) → ((i : ℕ) → x ≡ Some i → 1 ≤ (slot_at pools pool i).holders)
           → (slot_at (option_map_or (with_slot let_go pools pool) x pools) Q j).holders + out_at pool x Q j ≡ (slot_at pools Q j).holders
       step None s = none _
-      step (Some i) s = one_less pools pool i (s i refl) Q j
+      step (Some i) s = let_go_one pools pool i (s i refl) Q j
 
 -- ---- the response
 
@@ -181,48 +151,28 @@ module _ (c : ControlState) (node n : ℕ) (h : HandleState) (order : IsControl 
     alike : bare_ports ports ≡ bare_ports t.ports
     alike = lanes_on_bare g (gives_bare overflow h.slot) t.ports (w ∷ [])
 
-    deliveries_below : (x : LaneState) (m : ℕ) → x.deliveries ≤ m → (g x).deliveries ≤ m + 1
-    deliveries_below x m le = step overflow
-      where
-        step : (b : Bool) → (delivers b h.slot x).deliveries ≤ m + 1
-        step false = omega (arith, le)
-        step true = over _
-          where
-            over : (b : Bool) → (if b then without_oldest (delivered x h.slot) else delivered x h.slot).deliveries ≤ m + 1
-            over true = omega (arith, le)
-            over false = omega (arith, le)
-
     in_counts : AreCounted handed_tables
     in_counts = record {
       calls = let f = few in omega (arith, f);
       ports = order.counted.ports;
       numbers = let was = order.counted.numbers in omega (arith, was);
-      loans = all_bare (t.calls + 1) ports (subst (OfAll (λ p. p.loans ≤ t.calls + 1)) (sym alike) (bare_all t.calls (t.calls + 1) (omega arith) t.ports order.counted.loans));
+      loans =
+          all_from (λ p. p.loans ≤ t.calls) (λ p. p.loans ≤ t.calls + 1) (λ p e. omega (arith, e)) ports (loans_stay t.calls t.ports ports alike order.counted.loans);
       deliveries =
           lanes_keep_at (λ x. x.deliveries ≤ t.calls + 1) g t.ports (w ∷ []) (refl, tt)
-          (λ v x has there e. deliveries_below x t.calls (lane_is (λ y. y.deliveries ≤ t.calls) t.ports v x order.counted.deliveries there))
+          (λ v x has there e. once_more overflow h.slot t.calls x (lane_is (λ y. y.deliveries ≤ t.calls) t.ports v x order.counted.deliveries there))
           (all_lanes_from (λ x. x.deliveries ≤ t.calls) (λ x. x.deliveries ≤ t.calls + 1) (λ x e. omega (arith, e)) t.ports order.counted.deliveries);
     }
 
     in_room : HasRoomForAll (c.room + 1) handed_tables
     in_room =
         let lanes : on_lanes spare ports ≡ on_lanes spare t.ports
-        = lanes_same spare g (λ x. spares x) t.ports (w ∷ []) in
+        = lanes_same spare g (gives_spare overflow h.slot) t.ports (w ∷ []) in
         let own : total (λ p. p.size - own_count (dropped_handles node n t.handles) p) ports ≡ total (λ p. p.size - own_count (dropped_handles node n t.handles) p) t.ports
-        = sym (bare_total (λ p. p.size - own_count (dropped_handles node n t.handles) p) (λ p. refl) ports)
-        ∙ ap (total (λ p. p.size - own_count (dropped_handles node n t.handles) p)) alike
-        ∙ bare_total (λ p. p.size - own_count (dropped_handles node n t.handles) p) (λ p. refl) t.ports in
+        = own_stays (dropped_handles node n t.handles) t.ports ports alike in
         let less = room_left t.handles node n h named.there apart t.ports (names_apart t order.order) in
         let was : HasRoomForAll c.room t = order.room in
         omega (arith, lanes, own, less, was)
-      where
-        spares : (x : LaneState) → spare (g x) ≡ spare x
-        spares x = ap₂ (λ (a b : ℕ). a - b) (limits overflow _) (ap (λ ks. length ks) (gives_taken overflow h.slot x))
-          where
-            limits : (b d : Bool) → (if b then (if d then without_oldest (delivered x h.slot) else delivered x h.slot) else delivered x h.slot).limit ≡ x.limit
-            limits true true = refl
-            limits true false = refl
-            limits false d = refl
 
     in_holders : CanCountHolders (c.room + 1) handed_tables
     in_holders =

@@ -30,44 +30,20 @@ use Rattle.iox_tables.proofs.HubBooks.Rooms.{bare_pools_show_the_same}
 use Rattle.iox_tables.proofs.HubBooks.Structures.{same_lane}
 use Rattle.iox_tables.proofs.HubBooks.Used.{handle_is}
 use Rattle.iox_tables.specs.HubLoans.Questions.{is_named_by_client}
-use Rattle.iox_tables.specs.HubMaking.Disconnections.{is_unused, with_disconnected, with_released}
+use Rattle.iox_tables.specs.HubMaking.Disconnections.{with_released}
 use Rattle.iox_tables.specs.HubMaking.Worked.{at_first}
 use Rattle.iox_hub_ports.specs.Ports.{on_way}
 use Rattle.iox_control.specs.Controls.{ControlState, IsControl, with_tables}
 use Rattle.iox_control.specs.Entries.{handle_state}
 use Rattle.iox_control_ending.specs.Endings.{IsLoan, with_ended}
-use Rattle.iox_control_ending.proofs.Ended.{let_go_bare}
 use Rattle.iox_control_responses.specs.declared.responded.Responded.{Responded}
 use Rattle.iox_control_responses.specs.declared.responded.Responded.TheVariants.{Done, Undelivered}
 use Rattle.iox_control_responses.specs.Responses.{IsFailure, IsResponse, is_shut, is_undelivered, reply_of_send, response_reply, way_to_client, with_handed_over, with_response_ended, with_response_offered, with_response_sent, with_way_emptied}
 use Rattle.iox_control_responses.proofs.HandedOver.{after_bare, handed, handed_is, handed_keeps}
 use Rattle.iox_control_responses.proofs.Lanes.{IsReady}
 use Rattle.iox_control_responses.proofs.Whole.{goes_in_line, goes_over, is_lost, is_skipped, is_whole, server_buffer, the_lane, to_nobody}
-
--- ---- a release does not see pools, nor calls
-
-released_as : (u : HubTables) (calls : ℕ) (pools : List (Option PoolState)) (n : ℕ)
-    → with_released (record u { calls = calls; pools = pools }) n ≡ record (with_released u n) { calls = calls; pools = pools }
-released_as u calls pools n = step (is_unused u n)
-  where
-    step : (b : Bool) → (if b then with_disconnected (record u { calls = calls; pools = pools }) n else record u { calls = calls; pools = pools })
-        ≡ record (if b then with_disconnected u n else u) { calls = calls; pools = pools }
-    step true = refl
-    step false = refl
-
-released_pools : (u : HubTables) (n : ℕ) → (with_released u n).pools ≡ u.pools
-released_pools u n = step (is_unused u n)
-  where
-    step : (b : Bool) → (if b then with_disconnected u n else u).pools ≡ u.pools
-    step true = refl
-    step false = refl
-
-released_calls : (u : HubTables) (n : ℕ) → (with_released u n).calls ≡ u.calls
-released_calls u n = step (is_unused u n)
-  where
-    step : (b : Bool) → (if b then with_disconnected u n else u).calls ≡ u.calls
-    step true = refl
-    step false = refl
+use Rattle.iox_slots.proofs.BareLemmas.{let_go_bare}
+use Rattle.iox_tables.proofs.HubMaking.Releases.{released_calls, released_later, released_pools}
 
 no_port_stays : (g : LaneState → LaneState) (ports : List PortState) (ws : List Way) (n : ℕ) → AreAlike ports (with_lanes_on g ports ws) → port_in ports n ≡ None → port_in (with_lanes_on g ports ws) n ≡ None
 no_port_stays g ports ws n alike none = step (port_in (with_lanes_on g ports ws) n) refl
@@ -169,7 +145,7 @@ module _ (c : ControlState) (node n : ℕ) (order : IsControl c) (few : c.tables
           (model x failure
           ∙ ap (λ s. (reply_of_send r, s))
           (bare_pools_show_the_same x (record (gone u) { calls = calls_after b }) left.pools (ap bare_pools (released_pools (with_dropped u node n) h.port ∙ pools) ∙ same)
-          ∙ ap (state_shown x) (sym (released_as (with_dropped u node n) (calls_after b) left.pools h.port) ∙ ap (λ d. with_released d h.port) (sym is)) ∙ shown));
+          ∙ ap (state_shown x) (sym (released_later (with_dropped u node n) (calls_after b) left.pools h.port) ∙ ap (λ d. with_released d h.port) (sym is)) ∙ shown));
     }
 
     -- once the call is counted

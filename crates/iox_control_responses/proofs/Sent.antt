@@ -1,22 +1,15 @@
 -- A response that is offered is sent once its server is gone, if nothing else of that is left.
-use Rattle.std.specs.Prelude.{◌≡◌, ℕ, Bool, true, false, if◌then◌else◌, List, Option, Some, refl}
+use Rattle.std.specs.Prelude.{◌≡◌, ℕ, Bool, Some}
 use Rattle.std.proofs.Common.{sym, ap, ◌∙◌}
 use Rattle.std.proofs.lemmas.Option.{same_Some}
 use Rattle.iox_handles.specs.declared.entry.Entry.{Entry}
-use Rattle.iox_tables.specs.HubStates.Tables.{HandleState, HubTables, PoolState}
+use Rattle.iox_tables.specs.HubStates.Tables.{HandleState, HubTables}
 use Rattle.iox_tables.specs.HubStates.States.{Given, state_shown}
 use Rattle.iox_tables.specs.HubStates.Wirings.{handle_in}
-use Rattle.iox_tables.specs.HubMaking.Disconnections.{is_unused, with_disconnected, with_released}
+use Rattle.iox_tables.specs.HubMaking.Disconnections.{with_released}
 use Rattle.iox_control.specs.Entries.{handle_state}
 use Rattle.iox_control_responses.specs.Responses.{with_response_ended}
-
--- a release does not see pools
-with_pools_released : (u : HubTables) (pools : List (Option PoolState)) (n : ℕ) → with_released (record u { pools = pools }) n ≡ record (with_released u n) { pools = pools }
-with_pools_released u pools n = step (is_unused u n)
-  where
-    step : (b : Bool) → (if b then with_disconnected (record u { pools = pools }) n else record u { pools = pools }) ≡ record (if b then with_disconnected u n else u) { pools = pools }
-    step true = refl
-    step false = refl
+use Rattle.iox_tables.proofs.HubMaking.Releases.{released_as}
 
 module _ (t : HubTables) (node n : ℕ) (e : Entry) (found : Some (handle_state e) ≡ handle_in t.handles node n) (h : HandleState) (there : handle_in t.handles node n ≡ Some h) (mid new : HubTables) where
   its_port : h.port ≡ e.port
@@ -27,7 +20,7 @@ module _ (t : HubTables) (node n : ℕ) (e : Entry) (found : Some (handle_state 
   released_left fails ended gone =
       gone
       ∙ ap (λ (u : HubTables). record (with_released u e.port) { pools = new.pools }) ended
-      ∙ ap (λ (u : HubTables). record u { pools = new.pools }) (with_pools_released (with_response_ended t node n h fails) mid.pools e.port)
+      ∙ ap (λ (u : HubTables). record u { pools = new.pools }) (released_as (with_response_ended t node n h fails) mid.pools e.port)
       ∙ ap (λ k. record (with_released (with_response_ended t node n h fails) k) { pools = new.pools }) (sym its_port)
 
   pub released_shown : (x : Given) → state_shown x (with_released mid e.port) ≡ state_shown x new → state_shown x (with_released mid h.port) ≡ state_shown x new

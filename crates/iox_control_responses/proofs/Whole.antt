@@ -12,7 +12,7 @@ use Rattle.iox_model.specs.declared.way.RequestState.TheVariants.{Named}
 use Rattle.iox_model.specs.declared.way.Way.{Way}
 use Rattle.iox_model.specs.Commands.{Reply}
 use Rattle.iox_model.specs.Doings.{Sending}
-use Rattle.iox_model.specs.Handles.{Subject, TheHandle, ThePort, is_request_loan, is_response_loan}
+use Rattle.iox_model.specs.Handles.{is_request_loan, is_response_loan}
 use Rattle.iox_model.specs.Maps.{AreApart, not_in}
 use Rattle.iox_model.specs.Messages.{request_way, response_way}
 use Rattle.iox_model.specs.Moments.{is_overfull}
@@ -54,17 +54,8 @@ use Rattle.iox_tables.specs.HubMaking.Disconnections.{with_released}
 use Rattle.iox_tables.specs.HubMaking.WholeReleases.{answering, response_left}
 use Rattle.iox_tables.proofs.HubMaking.Ending.{response_sends_end, response_sends_over_end, unawaited_end}
 use Rattle.iox_hub_ports.specs.Ports.{on_way}
-use Rattle.iox_control.proofs.WholeLemmas.{is_whole_of}
+use Rattle.iox_control.proofs.WholeLemmas.{handle_or, is_whole_of, not_over}
 use Rattle.iox_control_responses.specs.Responses.{way_to_client, with_way_emptied}
-
--- the handle of a subject
-abbrev handle_or : m.Handle → Option Subject → m.Handle
-handle_or d (Some (TheHandle k)) = k
-handle_or d (Some (ThePort p)) = d
-handle_or d None = d
-
-not_over : (buffer k : ℕ) → k ≤ buffer → nat_lt buffer k ≡ false
-not_over buffer k e = grind (arith)
 
 module _ (t : HubTables) (order : AreInOrder t) (keeps : KeepsNone t.settings) (node n : ℕ) (h : HandleState) (named : IsHandle t node n h) (kind : h.kind ≡ ResponseMut)
     (few : t.calls < 2 ^ 56) (x : Given)

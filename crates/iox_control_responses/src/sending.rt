@@ -18,8 +18,8 @@ use iox_control::Control;
 use iox_control_releasing::disconnect_if_unused;
 
 /// Sends a loaned response to its client, and ends its handle, which is looked for at the hint
-/// first; the server goes with it, if nothing else of that is left. Whether the send fails where the
-/// client is full, the caller says: by the server's handler, or else by its strategy.
+/// first; the server goes with it, if nothing else of that is left. Whether the send fails where
+/// the client is full, the caller says: by the server's handler, or else by its strategy.
 pub fn send_response(
     control: &mut Control,
     node: u64,
@@ -34,7 +34,8 @@ pub fn send_response(
         → reply_of_send result ≡ response_reply control.old.tables h fails }
     ensures left { (h : HandleState) → handle_in control.old.tables.handles node number ≡ Some h
         → control.new.tables
-        ≡ record (with_released (with_response_ended control.old.tables node number h fails) h.port) {
+        ≡ record (with_released (with_response_ended control.old.tables node number h fails)
+        h.port) {
           pools = control.new.tables.pools;
         } }
     ensures order { IsControl control.new }
