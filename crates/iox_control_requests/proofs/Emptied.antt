@@ -31,16 +31,18 @@ use Rattle.iox_tables.proofs.HubBooks.Structures.{slot_bare}
 use Rattle.iox_hub_delivering.proofs.Before.{named_stays}
 use Rattle.iox_control.specs.Controls.{ControlState, IsControl, with_tables}
 use Rattle.iox_control_ending.specs.Endings.{IsLoan, with_ended}
-use Rattle.iox_control_ending.proofs.Ended.{let_go_bare}
 use Rattle.iox_control_requests.specs.Requests.{is_failing, ways_of, with_request_sent, with_requests_back}
 use Rattle.iox_control_requests.specs.Servers.{request_ways}
 use Rattle.iox_control_requests.proofs.Opened.{all_listed, by_servers}
 use Rattle.iox_control_requests.proofs.Ready.{its_client, ways_open}
 use Rattle.iox_control_requests.proofs.Walks.{servers_stay}
+use Rattle.iox_slots.proofs.BareLemmas.{let_go_bare}
+use Rattle.std.proofs.lemmas.Bool.{or_right}
 
 -- ---- emptied lanes
 
-turned : (ports : List PortState) (v w : Way) (b : Bool) → same_way w v ≡ b
+-- what is on a way once another is emptied
+pub turned : (ports : List PortState) (v w : Way) (b : Bool) → same_way w v ≡ b
     → lane_on (with_lane_on emptied_lane ports v) w ≡ (if b then option_map emptied_lane (lane_on ports w) else lane_on ports w)
 turned ports v w b e =
     ap (λ on. on w) (lane_turned emptied_lane ports v) ∙ at_is emptied_lane (lane_on ports) v w
@@ -59,10 +61,6 @@ after (v ∷ vs) ports w l there either = step (same_way w v) refl either (λ ps
     step true e either more =
         more (with_lane_on emptied_lane ports v) (emptied_lane l) (turned ports v w true e ∙ ap (option_map emptied_lane) there) (inr refl)
     step false e either more = more (with_lane_on emptied_lane ports v) l (turned ports v w false e ∙ there) either
-
-or_right : (a b : Bool) → b ≡ true → (a || b) ≡ true
-or_right true b e = refl
-or_right false b e = e
 
 -- a lane has as much in line then
 kept : (vs : List Way) (ports : List PortState) (w : Way) (l : LaneState) → lane_on ports w ≡ Some l
@@ -83,7 +81,7 @@ as_low k l m same waiting buffer low =
     let lower : length k.waiting ≤ k.buffer = subst (λ (i : LaneState). length i.waiting ≤ i.buffer) (sym same) low in
     omega (arith, many, lower, buffer)
 
-each_waits : (P : Way → LaneState → Type 0) (ports : List PortState) (ws us : List Way) → OnEach P (lane_on ports) us
+pub each_waits : (P : Way → LaneState → Type 0) (ports : List PortState) (ws us : List Way) → OnEach P (lane_on ports) us
     → OnEach (λ w l. IsSound l) (lane_on (with_lanes_on emptied_lane ports ws)) us → OnEach (λ w l. length l.waiting ≤ l.buffer) (lane_on ports) us
 each_waits P ports ws [] each sound = tt
 each_waits P ports ws (u ∷ us) each sound =
@@ -96,7 +94,7 @@ each_waits P ports ws (u ∷ us) each sound =
       each_waits P ports ws us each.1 sound.1,
     )
 
-each_after : (P : Way → LaneState → Type 0) (ports : List PortState) (ws us : List Way) → ((w : Way) → has_way w us ≡ true → has_way w ws ≡ true)
+pub each_after : (P : Way → LaneState → Type 0) (ports : List PortState) (ws us : List Way) → ((w : Way) → has_way w us ≡ true → has_way w ws ≡ true)
     → OnEach P (lane_on ports) us → OnEach (λ w l. l.returned ≡ []) (lane_on (with_lanes_on emptied_lane ports ws)) us
 each_after P ports ws [] sub each = tt
 each_after P ports ws (u ∷ us) sub each = (
@@ -176,8 +174,8 @@ module _ (c : ControlState) (node n : ℕ) (h : HandleState) (order : IsControl 
         (subst (OnEach (λ w l. IsSound l) (lane_on back.ports)) (same_ways_then h.port c.tables.ports (request_ways h.port c.tables.ports))
         (subst (λ (d : ControlState). OnEach (λ w l. IsSound l) (lane_on d.tables.ports) (request_ways h.port d.tables.ports)) is sound))
 
-    pub calls_then : c.tables.calls < 2 ^ 56 → c1.tables.calls < 2 ^ 56
-    calls_then few = subst (λ (d : ControlState). d.tables.calls < 2 ^ 56) (sym is) few
+    pub calls_then : c.tables.calls < 2 ^ 56 → c1.tables.calls ≤ 2 ^ 56
+    calls_then few = subst (λ (d : ControlState). d.tables.calls ≤ 2 ^ 56) (sym is) (omega (arith, few))
 
     pub active_then : 1 ≤ c.tables.settings.active_requests → 1 ≤ c1.tables.settings.active_requests
     active_then some = subst (λ (d : ControlState). 1 ≤ d.tables.settings.active_requests) (sym is) some

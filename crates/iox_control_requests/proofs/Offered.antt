@@ -1,5 +1,5 @@
 -- A request that is offered: what is left, and that it is the machine's send.
-use Rattle.std.specs.Prelude.{◌≡◌, ℕ, ◌^◌, ◌≤◌, ◌<◌, Bool, true, false, if◌then◌else◌, List, length, Option, Some, None, is_none, refl}
+use Rattle.std.specs.Prelude.{◌≡◌, ℕ, ◌^◌, ◌≤◌, ◌<◌, Bool, true, false, if◌then◌else◌, length, Option, Some, None, is_none, refl}
 use Rattle.std.proofs.Common.{sym, ap, ap₂, subst, ◌∙◌, true≢false}
 use Rattle.std.proofs.lemmas.Option.{same_Some}
 use Rattle.iox_handles.specs.declared.entry.Entry.{Entry}
@@ -12,7 +12,7 @@ use Rattle.iox_model.specs.Handles.{is_request_loan}
 use Rattle.iox_model.specs.States as m
 use Rattle.iox_model.specs.WholeCalls.{IsWholeCall}
 use Rattle.iox_laws.specs.CallFunctions.LoanSends.{loan_sent_by}
-use Rattle.iox_tables.specs.HubStates.Tables.{HandleState, HubTables, PoolState}
+use Rattle.iox_tables.specs.HubStates.Tables.{HandleState, HubTables}
 use Rattle.iox_tables.specs.HubStates.Ways.{lane_on}
 use Rattle.iox_tables.specs.HubStates.Changes.{OnEach}
 use Rattle.iox_tables.specs.HubStates.Ends.{with_dropped}
@@ -23,33 +23,18 @@ use Rattle.iox_tables.specs.HubBooks.Handles.{is_loan}
 use Rattle.iox_tables.specs.HubBooks.Keeps.{bare_pools}
 use Rattle.iox_tables.proofs.HubBooks.Rooms.{bare_pools_show_the_same}
 use Rattle.iox_tables.specs.HubLoans.Counts.{has_all_active}
-use Rattle.iox_tables.specs.HubMaking.Disconnections.{is_unused, with_disconnected, with_released}
+use Rattle.iox_tables.specs.HubMaking.Disconnections.{with_released}
 use Rattle.iox_control.specs.Controls.{ControlState, IsControl}
 use Rattle.iox_control.specs.Entries.{handle_state}
 use Rattle.iox_control_ending.specs.Endings.{IsLoan, with_ended}
-use Rattle.iox_control_ending.proofs.Ended.{let_go_bare}
 use Rattle.iox_control_requests.specs.declared.requested.Requested.{Requested}
 use Rattle.iox_control_requests.specs.declared.requested.Requested.TheVariants.{To, ExceedsMaxActiveRequests, UnableToDeliver}
 use Rattle.iox_control_requests.specs.Requests.{is_failing, ways_of, with_request_sent, with_requests_back}
 use Rattle.iox_control_requests.specs.Sendings.{AreFailures, IsRequest, reply_of_send, request_outcome, with_lost_released, with_request_ended}
 use Rattle.iox_control_requests.specs.Servers.{request_ways}
 use Rattle.iox_control_requests.proofs.Whole.{goes_over, goes_plain, is_lost, is_refused, is_whole_sent}
-
--- ---- a release does not see pools
-
-pub released_as : (u : HubTables) (pools : List (Option PoolState)) (n : ℕ) → with_released (record u { pools = pools }) n ≡ record (with_released u n) { pools = pools }
-released_as u pools n = step (is_unused u n)
-  where
-    step : (b : Bool) → (if b then with_disconnected (record u { pools = pools }) n else record u { pools = pools }) ≡ record (if b then with_disconnected u n else u) { pools = pools }
-    step true = refl
-    step false = refl
-
-released_pools : (u : HubTables) (n : ℕ) → (with_released u n).pools ≡ u.pools
-released_pools u n = step (is_unused u n)
-  where
-    step : (b : Bool) → (if b then with_disconnected u n else u).pools ≡ u.pools
-    step true = refl
-    step false = refl
+use Rattle.iox_slots.proofs.BareLemmas.{let_go_bare}
+use Rattle.iox_tables.proofs.HubMaking.Releases.{released_as, released_pools}
 
 -- the end of a loan leaves its message
 pub ended_bare : (c new : ControlState) (node n : ℕ) (h : HandleState) → new ≡ with_ended c node n h → bare_pools c.tables.pools ≡ bare_pools new.tables.pools

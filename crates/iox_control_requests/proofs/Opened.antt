@@ -30,7 +30,7 @@ use Rattle.iox_tables.proofs.HubBooks.Targets.{each_has_its_targets}
 use Rattle.iox_hub_delivering.specs.Counts.{AreCountedBy, NeedsAsMuch, SendsAreCounted}
 use Rattle.iox_hub_delivering.specs.Deliveries.{HasDelivered}
 use Rattle.iox_hub_delivering.proofs.Before.{named_stays}
-use Rattle.iox_hub_delivering.proofs.Counted.{each_send_is_counted, each_send_needs_as_much, gives_bare}
+use Rattle.iox_hub_delivering.proofs.Counted.{each_send_is_counted, each_send_needs_as_much}
 use Rattle.iox_hub_delivering.proofs.Delivered.{delivered_requests_keep_order}
 use Rattle.iox_control.specs.Controls.{AreCounted, ControlState, IsControl, with_tables}
 use Rattle.iox_control.proofs.RoomLemmas.{lanes_seats, room_as, states_seats}
@@ -38,6 +38,7 @@ use Rattle.iox_control_requests.specs.Deliveries.{ways_that_get}
 use Rattle.iox_control_requests.specs.Requests.{ways_of, with_request_sent}
 use Rattle.iox_control_requests.specs.Servers.{request_ways}
 use Rattle.iox_control_requests.proofs.Walks.{listed, server_kept, server_of, servers_first}
+use Rattle.iox_tables.proofs.HubBooks.OneGiven.{gives_bare}
 
 -- ---- request states change
 
@@ -169,7 +170,7 @@ module _ (c : ControlState) (h : HandleState) (overflow : Bool) where
   opened_is c2 l label is =
       is ∙ ap (λ (k : Label). with_tables c (with_states (λ r. Named k.request false) c.tables (map (response_way h.port k.lane) (numbers_of_role Server c.tables.ports)))) label
 
-  module _ (node n : ℕ) (order : IsControl c) (few : c.tables.calls < 2 ^ 56) (named : IsHandle c.tables node n h) (kind : is_request_loan h.kind ≡ true)
+  module _ (node n : ℕ) (order : IsControl c) (few : c.tables.calls ≤ 2 ^ 56) (named : IsHandle c.tables node n h) (kind : is_request_loan h.kind ≡ true)
       (pools : List (Option PoolState)) (delivered : HasDelivered overflow h.slot (lane_on c.tables.ports) (ways_of c.tables h overflow) c.tables.pools pools) where
     abbrev ws : List Way
     ws = ways_of c.tables h overflow

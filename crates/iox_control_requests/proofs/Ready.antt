@@ -1,5 +1,5 @@
 -- The lanes of a loaned request can take it, once its client got all back.
-use Rattle.std.specs.Prelude.{◌≡◌, ℕ, ◌<◌, ◌≤◌, ◌^◌, Bool, true, ◌||◌, if◌then◌else◌, List, [], ◌∷◌, map, Some, refl}
+use Rattle.std.specs.Prelude.{◌≡◌, ℕ, ◌≤◌, Bool, true, ◌||◌, if◌then◌else◌, List, [], ◌∷◌, map, Some, refl}
 use Rattle.std.specs.Option.{option_map_or}
 use Rattle.std.proofs.Common.{sym, ap, subst, ◌∙◌, arith}
 use Rattle.std.proofs.lemmas.Option.{same_Some}
@@ -47,7 +47,7 @@ ways_open t node n h order named kind =
     ((requests_may_be_sent at_first t node n h order named kind).lanes)
 
 module _ (t : HubTables) (node n : ℕ) (h : HandleState) (order : AreInOrder t) (named : IsHandle t node n h) (kind : is_request_loan h.kind ≡ true)
-    (counted : AreCounted t) (few : t.calls < 2 ^ 56) (active : 1 ≤ t.settings.active_requests) where
+    (counted : AreCounted t) (active : 1 ≤ t.settings.active_requests) where
   takes : (w : Way) → w.sender ≡ h.port → (l m : LaneState) → lane_on t.ports w ≡ Some l → IsOpenToNew at_first t h.pool h.slot w l
       → lane_on t.ports w ≡ Some m → m.returned ≡ [] → CanTake h.pool l
   takes w from l m at way_open it none = record {
@@ -57,7 +57,10 @@ module _ (t : HubTables) (node n : ℕ) (h : HandleState) (order : AreInOrder t)
         way_open.open_to.buffer ∙ ap (λ k. buffer_from t.settings (role_in t.ports k)) from ∙ ap (buffer_from t.settings) (its_client t node n h order named kind).2 in
         omega (arith, buffer, active);
     returned = ap (λ (x : LaneState). x.returned) (same_Some l m (sym at ∙ it)) ∙ none;
-    deliveries = let low : l.deliveries ≤ t.calls = lane_is (λ x. x.deliveries ≤ t.calls) t.ports w l counted.deliveries at in omega (arith, low, few);
+    deliveries =
+        let low : l.deliveries ≤ t.calls = lane_is (λ x. x.deliveries ≤ t.calls) t.ports w l counted.deliveries at in
+        let calls = counted.calls in
+        omega (arith, low, calls);
   }
 
   each_takes : (ns : List ℕ) → OnEach (IsOpenToNew at_first t h.pool h.slot) (lane_on t.ports) (map (request_way h.port) ns)

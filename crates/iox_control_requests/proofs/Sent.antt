@@ -10,7 +10,7 @@ use Rattle.iox_control.specs.Entries.{handle_state}
 use Rattle.iox_control_requests.specs.declared.requested.Requested.{Requested}
 use Rattle.iox_control_requests.specs.declared.requested.Requested.TheVariants.{To, ExceedsMaxActiveRequests, UnableToDeliver}
 use Rattle.iox_control_requests.specs.Sendings.{with_lost_released, with_request_ended}
-use Rattle.iox_control_requests.proofs.Offered.{released_as}
+use Rattle.iox_tables.proofs.HubMaking.Releases.{released_as}
 
 -- so it does where a request is lost
 lost_as : (r : Requested) (u : HubTables) (pools : List (Option PoolState)) (n : ℕ) → with_lost_released r (record u { pools = pools }) n ≡ record (with_lost_released r u n) { pools = pools }

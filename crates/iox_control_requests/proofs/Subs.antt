@@ -8,18 +8,7 @@ use Rattle.iox_tables.specs.HubStates.Changes.{OnEach}
 use Rattle.iox_tables.specs.HubStates.Tables.{HandleState, HubTables}
 use Rattle.iox_tables.specs.HubStates.Ways.{OnWays}
 use Rattle.iox_tables.specs.HubBooks.Keeps.{AreTargetsOf}
-
-or_left : (a b : Bool) → a ≡ true → (a || b) ≡ true
-or_left true b e = refl
-or_left false b e = absurd (true≢false (sym e))
-
-or_right : (a b : Bool) → b ≡ true → (a || b) ≡ true
-or_right true b e = refl
-or_right false b e = e
-
-neither : (a b : Bool) → (a || b) ≡ false → (a ≡ false) × (b ≡ false)
-neither true b e = absurd (true≢false e)
-neither false b e = (refl, e)
+use Rattle.std.proofs.lemmas.Bool.{or_left, or_right}
 
 -- what is not among more is not among some
 not_if : (a b : Bool) → (a ≡ true → b ≡ true) → b ≡ false → a ≡ false

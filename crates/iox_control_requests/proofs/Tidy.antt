@@ -13,7 +13,6 @@ use Rattle.iox_tables.proofs.HubStates.Naming.{handle_node, handle_number}
 use Rattle.iox_tables.specs.HubBooks.Hubs.{AreInOrder}
 use Rattle.iox_tables.specs.HubBooks.Keeps.{bare_pools, delivers}
 use Rattle.iox_tables.proofs.HubBooks.Frames.{AreAlike, bare_ports, lanes_on_bare, states_on_bare}
-use Rattle.iox_hub_delivering.proofs.Counted.{gives_bare}
 use Rattle.iox_control_releasing.specs.Goings.{StaysTidy}
 use Rattle.iox_control_releasing.proofs.Loans.{loan_ends, loan_waits}
 use Rattle.iox_control_requests.specs.declared.requested.Requested.{Requested}
@@ -21,6 +20,7 @@ use Rattle.iox_control_requests.specs.declared.requested.Requested.TheVariants.{
 use Rattle.iox_control_requests.specs.Requests.{ways_of, with_request_sent, with_requests_back}
 use Rattle.iox_control_requests.specs.Sendings.{IsRequest, with_request_ended}
 use Rattle.iox_control_requests.specs.Servers.{request_ways}
+use Rattle.iox_tables.proofs.HubBooks.OneGiven.{gives_bare}
 
 module _ (t u : HubTables) (node n : ℕ) (h : HandleState) (order : AreInOrder t) (after : AreInOrder u) (request : IsRequest t node n)
     (found : Some h ≡ handle_in t.handles node n) (same : bare_pools t.pools ≡ bare_pools u.pools)

@@ -14,7 +14,7 @@ use Rattle.iox_model.specs.declared.way.Way.{Way}
 use Rattle.iox_model.specs.Begins.{begins_at}
 use Rattle.iox_model.specs.Commands.{Reply}
 use Rattle.iox_model.specs.Doings.{Doing, Ended, FailsToSend, Outcome, refused}
-use Rattle.iox_model.specs.Handles.{Subject, TheHandle, ThePort, is_request_loan, own_state, subject}
+use Rattle.iox_model.specs.Handles.{Subject, TheHandle, is_request_loan, own_state, subject}
 use Rattle.iox_model.specs.Maps.{AreApart, not_in}
 use Rattle.iox_model.specs.Messages.{request_way, response_way}
 use Rattle.iox_model.specs.Peers.{buffer_on, others, role_at}
@@ -57,7 +57,7 @@ use Rattle.iox_tables.proofs.HubLoans.Counting.{each_count_is_the_same}
 use Rattle.iox_tables.specs.HubMaking.Disconnections.{with_released}
 use Rattle.iox_tables.specs.HubMaking.WholeReleases.{answering, request_left}
 use Rattle.iox_tables.proofs.HubMaking.Ending.{request_sends_end, request_sends_over_end, spent_requests_end}
-use Rattle.iox_control.proofs.WholeLemmas.{is_whole_of}
+use Rattle.iox_control.proofs.WholeLemmas.{handle_or, is_whole_of, not_over}
 use Rattle.iox_control_requests.specs.Deliveries.{ways_that_get}
 use Rattle.iox_control_requests.specs.Requests.{is_failing, ways_of, with_request_sent, with_requests_back}
 use Rattle.iox_control_requests.specs.Servers.{request_ways}
@@ -65,17 +65,8 @@ use Rattle.iox_control_requests.proofs.Opened.{all_listed, by_servers}
 use Rattle.iox_control_requests.proofs.Ready.{its_client}
 use Rattle.iox_control_requests.proofs.Walks.{servers_stay}
 
--- the handle of a subject
-abbrev handle_or : m.Handle → Option Subject → m.Handle
-handle_or d (Some (TheHandle k)) = k
-handle_or d (Some (ThePort p)) = d
-handle_or d None = d
-
-not_over : (buffer k : ℕ) → k ≤ buffer → nat_lt buffer k ≡ false
-not_over buffer k e = grind (arith)
-
 -- two tests that agree on a client's ways find the same among the full ones
-any_same : (f g : Way → Bool) (client : ℕ) (on : OnWays LaneState) → ((w : Way) → w.sender ≡ client → f w ≡ g w) → (ns : List ℕ) (acc : List Way)
+pub any_same : (f g : Way → Bool) (client : ℕ) (on : OnWays LaneState) → ((w : Way) → w.sender ≡ client → f w ≡ g w) → (ns : List ℕ) (acc : List Way)
     → list_any f acc ≡ list_any g acc
     → list_any f (full_in on (map (request_way client) ns) acc) ≡ list_any g (full_in on (map (request_way client) ns) acc)
 any_same f g client on same [] acc before = before

@@ -16,8 +16,8 @@ use crate::requested::Requested;
 use iox_control::Control;
 use iox_control_ending::end_loan;
 
-/// Offers a loaned request, whose handle is looked for at the hint first, to all servers: all of its
-/// send but the disconnection of the client, where the loan is lost and nothing else of that is
+/// Offers a loaned request, whose handle is looked for at the hint first, to all servers: all of
+/// its send but the disconnection of the client, where the loan is lost and nothing else of that is
 /// left.
 pub fn offer_request<B: Backpressure>(
     control: &mut Control,

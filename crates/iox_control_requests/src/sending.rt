@@ -15,9 +15,9 @@ use crate::requested::Requested;
 use iox_control::Control;
 use iox_control_releasing::disconnect_if_unused;
 
-/// Sends a loaned request, whose handle is looked for at the hint first, to all servers, and says to
-/// how many. Where it is lost, the client goes with it, if nothing else of that is left. Whether the
-/// send fails where a server is full, the caller says.
+/// Sends a loaned request, whose handle is looked for at the hint first, to all servers, and says
+/// to how many. Where it is lost, the client goes with it, if nothing else of that is left. Whether
+/// the send fails where a server is full, the caller says.
 pub fn send_request<B: Backpressure>(
     control: &mut Control,
     node: u64,

@@ -1,5 +1,5 @@
 //! A loaned request is opened, delivered, and becomes a pending response.
-ghost use Rattle.std.specs.Prelude.{◌≡◌, ◌<◌, ◌^◌, [], length, true};
+ghost use Rattle.std.specs.Prelude.{◌≡◌, ◌≤◌, ◌^◌, [], length, true};
 ghost use Rattle.iox_hub_delivering.specs.Deliveries.{HasDelivered};
 ghost use Rattle.iox_tables.specs.HubStates.Ends.{with_call, with_changed};
 ghost use Rattle.iox_tables.specs.HubStates.Releases.{pending_states, request_of};
@@ -34,7 +34,7 @@ fn open_request(control: &mut Control, entry: Entry)
 
 /// The handle becomes a pending response with so many connections, and the call is counted.
 fn become_pending(control: &mut Control, entry: Entry, hint: usize, count: u64)
-    requires calls { control.old.tables.calls < 2 ^ 56 }
+    requires calls { control.old.tables.calls ≤ 2 ^ 56 }
     ensures { control.new ≡ with_tables control.old
         (with_call (with_changed control.old.tables (pending_of (handle_state entry) count))) }
 {
@@ -57,7 +57,7 @@ fn become_pending(control: &mut Control, entry: Entry, hint: usize, count: u64)
 /// out.
 pub fn send_to_all(control: &mut Control, entry: Entry, overflow: bool, hint: usize) -> u64
     requires order { IsControl control.old }
-    requires calls { control.old.tables.calls < 2 ^ 56 }
+    requires calls { control.old.tables.calls ≤ 2 ^ 56 }
     requires named { IsHandle control.old.tables entry.node entry.number (handle_state entry) }
     requires kind { is_request_loan entry.kind ≡ true }
     requires returned { OnEach (λ w l. l.returned ≡ []) (lane_on control.old.tables.ports)

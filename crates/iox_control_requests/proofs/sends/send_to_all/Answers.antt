@@ -21,7 +21,7 @@ deliver_to_all-count-requires-clause-lanes c =
     subst (λ (d : ControlState). OnEach (λ w l. CanTake c.args.entry.pool l) (lane_on d.tables.ports) (request_ways c.args.entry.port d.tables.ports)) (sym c.open_request.ensures.left)
     (each_stays c.args.control.now (handle_state c.args.entry) c.args.overflow (λ w l. CanTake c.args.entry.pool l)
     (can_take_all c.args.control.now.tables c.args.entry.node c.args.entry.number (handle_state c.args.entry) c.requires.order.order c.requires.named c.requires.kind
-    c.requires.order.counted c.requires.calls c.requires.order.buffers.requests c.requires.returned))
+    c.requires.order.counted c.requires.order.buffers.requests c.requires.returned))
 
 pub returns-clause-sound : goal.returns-clause-sound
 returns-clause-sound c =
