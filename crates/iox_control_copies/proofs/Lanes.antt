@@ -1,5 +1,5 @@
 -- The lane of an awaited response, before and after its server got all back.
-use Rattle.std.specs.Prelude.{◌≡◌, ℕ, ◌+◌, ◌<◌, ◌≤◌, Bool, true, false, ◌&&◌, ◌||◌, if◌then◌else◌, List, [], ◌∷◌, map, flat_map, Option, Some, None, slice_get, refl}
+use Rattle.std.specs.Prelude.{◌≡◌, ℕ, ◌+◌, ◌<◌, ◌≤◌, Bool, true, false, ◌||◌, if◌then◌else◌, List, [], ◌∷◌, map, flat_map, Option, Some, None, slice_get, refl}
 use Rattle.std.specs.List.{range_with_len}
 use Rattle.std.specs.Option.{option_map, option_map_or}
 use Rattle.std.proofs.Common.{sym, ap, subst, ◌∙◌, arith, inl, inr, true≢false}
@@ -27,6 +27,7 @@ use Rattle.iox_tables.specs.HubLoans.CopySends.{is_lender_awaited}
 use Rattle.iox_tables.specs.HubLoans.Lenders.{Lender, size_in, ways_by, ways_to_client, with_got_back}
 use Rattle.iox_tables.specs.HubLoans.Questions.{names_request}
 use Rattle.iox_control_copies.specs.Answers.{way_of}
+use Rattle.iox_tables.proofs.HubLending.Owning.{two}
 
 -- ---- lists
 
@@ -69,10 +70,6 @@ lanes_emptied (v ∷ vs) ports w l at = step (same_way w v) refl (λ ps m e. lan
 
 -- ---- an awaited response
 
-both : (a b : Bool) → (a && b) ≡ true → (a ≡ true) × (b ≡ true)
-both true b e = (refl, e)
-both false b e = absurd (true≢false (sym e))
-
 named_state : (id : ℕ) (o : Option RequestState) → names_request false id (option_map_or (λ r. r) o Closed) ≡ true → (r : RequestState) × (o ≡ Some r)
 named_state id (Some r) e = (r, refl)
 named_state id None e = absurd (true≢false (sym e))
@@ -90,13 +87,13 @@ module _ (t : HubTables) (order : AreInOrder t) (y : Lender) (there : port_in t.
     w = way_of y
 
     client_among : IsAmong y.client (numbers_of_role Client t.ports)
-    client_among = number-among y.client (numbers_of_role Client t.ports) (both _ _ awaited).0
+    client_among = number-among y.client (numbers_of_role Client t.ports) (two _ _ awaited).0
 
     the_client : (p : PortState) × (port_in t.ports y.client ≡ Some p) × (p.role ≡ Client)
     the_client = of_role t order Client y.client client_among
 
     the_state : (r : RequestState) × (state_on t.ports w ≡ Some r)
-    the_state = named_state y.request (state_on t.ports w) (both _ _ awaited).1
+    the_state = named_state y.request (state_on t.ports w) (two _ _ awaited).1
 
     low : y.lane < the_client.0.size
     low =

@@ -36,10 +36,7 @@ use Rattle.iox_control_copies.proofs.Free.{may_lend, some_slot}
 use Rattle.iox_control_copies.proofs.InLine.{handed, pools, pushed_is, sent_keeps}
 use Rattle.iox_control_copies.proofs.Kept.{lost_keeps}
 use Rattle.iox_control_copies.proofs.Lanes.{lane_back, the_lane}
-
-both : (a b : Bool) → (a && b) ≡ true → (a ≡ true) × (b ≡ true)
-both true b e = (refl, e)
-both false b e = absurd (true≢false (sym e))
+use Rattle.iox_tables.proofs.HubLending.Owning.{two}
 
 open_so : (a b : Bool) → not (a && not b) ≡ true → (b ≡ true) ⊎ (a ≡ false)
 open_so a true e = inl refl
@@ -135,7 +132,7 @@ module _ (c d : ControlState) (l : Lending) (of : IsPortOf c.tables l) (order : 
 
         module _ (goes : (awaited && not shut) ≡ true) (place : Place) (pool : place.pool ≡ y.port.pool) (new : ControlState) (pushed : IsPushed d y a place.slot new) where
           awaits : is_lender_awaited t y ≡ true
-          awaits = sym awaited_is ∙ (both awaited (not shut) goes).0
+          awaits = sym awaited_is ∙ (two awaited (not shut) goes).0
 
           abbrev m : LaneState
           m = (the_lane t order.order y there role awaits).0
@@ -163,7 +160,7 @@ module _ (c d : ControlState) (l : Lending) (of : IsPortOf c.tables l) (order : 
           either =
               open_so (is_full m) t.settings.response_overflow
               (ap (λ (o : Option LaneState). not (option_map_or is_full o true && not t.settings.response_overflow)) (sym at_first)
-              ∙ ap not (sym shut_is) ∙ (both awaited (not shut) goes).1)
+              ∙ ap not (sym shut_is) ∙ (two awaited (not shut) goes).1)
 
           either_now : (d.tables.settings.response_overflow ≡ true) ⊎ (is_full m ≡ false)
           either_now = subst (λ (e : ControlState). (e.tables.settings.response_overflow ≡ true) ⊎ (is_full m ≡ false)) (sym got_back.left) either

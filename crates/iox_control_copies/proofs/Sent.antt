@@ -1,7 +1,7 @@
 -- What the machine does with the copy of a response that its client waits for.
-use Rattle.std.specs.Prelude.{◌≡◌, ℕ, zero, suc, Bool, true, false, not, ◌||◌, if◌then◌else◌, List, [], ◌∷◌, map, length, Option, Some, None, slice_set, refl}
+use Rattle.std.specs.Prelude.{◌≡◌, ℕ, Bool, true, false, not, ◌||◌, if◌then◌else◌, List, [], ◌∷◌, map, length, Option, Some, None, refl}
 use Rattle.std.specs.List.{list_any}
-use Rattle.std.specs.Option.{option_map, option_map_or}
+use Rattle.std.specs.Option.{option_map_or}
 use Rattle.std.proofs.Common.{sym, ap, ap₂, subst, ◌∙◌}
 use Rattle.std.proofs.lemmas.Option.{same_Some}
 use Rattle.iox_model.specs.declared.call.Call.TheVariants.{SendCopy}
@@ -22,7 +22,7 @@ use Rattle.iox_model.specs.States as m
 use Rattle.iox_laws.proofs.WeaveLaws.MapLemmas.{same_way-refl}
 use Rattle.iox_laws.specs.CallFunctions.Calls.{call_by}
 use Rattle.iox_lanes.specs.Lanes.{LaneState, delivered, is_full}
-use Rattle.iox_tables.specs.HubStates.Tables.{HandleState, HubTables, PoolState, PortState, SlotState, pool_at, port_in}
+use Rattle.iox_tables.specs.HubStates.Tables.{HandleState, HubTables, PoolState, PortState, SlotState, port_in}
 use Rattle.iox_tables.specs.HubStates.Ways.{OnWays, lane_on, state_on, with_lane_on}
 use Rattle.iox_tables.specs.HubStates.Changes.{HasEachOnce, OfEachLane, OnEach, emptied_lane, with_lanes, with_states}
 use Rattle.iox_tables.specs.HubStates.Sends.{MaySendFrom}
@@ -33,19 +33,18 @@ use Rattle.iox_tables.specs.HubStates.Wirings.{IsHandle, buffer_from}
 use Rattle.iox_model.specs.Maps.{has_number}
 use Rattle.iox_tables.specs.HubBooks.Handles.{is_loan}
 use Rattle.iox_tables.specs.HubBooks.Hubs.{AreInOrder}
-use Rattle.iox_tables.specs.HubBooks.Keeps.{bare_pool, bare_pools, bare_slot, delivers}
+use Rattle.iox_tables.specs.HubBooks.Keeps.{delivers}
 use Rattle.iox_tables.proofs.HubBooks.Sendable.{open_to_new}
-use Rattle.iox_tables.proofs.HubBooks.Structures.{pool_bare}
 use Rattle.iox_tables.proofs.HubBooks.Used.{once_on}
 use Rattle.iox_tables.specs.HubLending.Emptying.{AreGotBack, with_back}
 use Rattle.iox_tables.specs.HubLending.Lending.{MayLend}
 use Rattle.iox_tables.proofs.HubLending.Back.{back_in_order}
-use Rattle.iox_tables.proofs.HubLending.Bared.{differ}
+use Rattle.iox_tables.proofs.HubLending.Bared.{differ, messages_same, put_same}
 use Rattle.iox_tables.proofs.HubLending.OneMore.{lanes_same, role_same, there_same}
 use Rattle.iox_tables.specs.HubLoans.CopySends.{IsCopyToMake, copied, copy_sending, is_lender_awaited, with_copy, with_words}
 use Rattle.iox_tables.specs.HubLoans.Lenders.{Lender, with_got_back}
 use Rattle.iox_tables.specs.HubLoans.Loans.{loaned_contents, loaned_handle, loaned_slot, with_loaned, with_loaned_slot}
-use Rattle.iox_tables.specs.HubLoans.Slots.{IsUnused, put_slot, put_slot_of}
+use Rattle.iox_tables.specs.HubLoans.Slots.{IsUnused}
 use Rattle.iox_tables.proofs.HubLoans.CopyCalls.{copy_sent, copy_sent_over}
 use Rattle.iox_tables.proofs.HubLoans.Lent.{fixed_back}
 use Rattle.iox_tables.proofs.HubLoans.Placed.{slot_is, unused_slots_may_change}
@@ -56,39 +55,6 @@ use Rattle.iox_control_copies.specs.Answers.{way_of, with_copy_lost}
 use Rattle.iox_control_copies.proofs.Lanes.{lane_back, the_lane}
 
 -- ---- pools that differ in holders alone
-
-map_set : {A B : Type 0} (f : A → B) (xs : List A) (i : ℕ) (y : A) → map f (slice_set xs i y) ≡ slice_set (map f xs) i (f y)
-map_set f [] i y = refl
-map_set f (x ∷ xs) zero y = refl
-map_set f (x ∷ xs) (suc i) y = ap (λ zs. f x ∷ zs) (map_set f xs i y)
-
-bare_put : (pools : List (Option PoolState)) (pool k : ℕ) (s : SlotState) → bare_pools (put_slot pools pool k s) ≡ put_slot (bare_pools pools) pool k (bare_slot s)
-bare_put pools pool k s = step (pool_at pools pool) refl
-  where
-    step : (o : Option PoolState) → pool_at pools pool ≡ o
-        → bare_pools (option_map_or (λ q. slice_set pools pool (Some (put_slot_of k s q))) o pools) ≡ put_slot (bare_pools pools) pool k (bare_slot s)
-    step (Some q) is =
-        map_set (option_map bare_pool) pools pool (Some (put_slot_of k s q))
-        ∙ ap (λ ss. slice_set (bare_pools pools) pool (Some (record q { slots = ss }))) (map_set bare_slot q.slots k s)
-        ∙ sym (ap (λ o. option_map_or (λ r. slice_set (bare_pools pools) pool (Some (put_slot_of k (bare_slot s) r))) o (bare_pools pools)) (pool_bare pools pool ∙ ap (option_map bare_pool) is))
-    step None is =
-        sym (ap (λ o. option_map_or (λ r. slice_set (bare_pools pools) pool (Some (put_slot_of k (bare_slot s) r))) o (bare_pools pools)) (pool_bare pools pool ∙ ap (option_map bare_pool) is))
-
--- they do so once a slot is another
-pub put_same : (old new : List (Option PoolState)) (pool k : ℕ) (s : SlotState) → bare_pools old ≡ bare_pools new
-    → bare_pools (put_slot old pool k s) ≡ bare_pools (put_slot new pool k s)
-put_same old new pool k s e = bare_put old pool k s ∙ ap (λ ps. put_slot ps pool k (bare_slot s)) e ∙ sym (bare_put new pool k s)
-
-messages_same : (x : Given) (old new : List (Option PoolState)) → bare_pools old ≡ bare_pools new → message_of x old ≡ message_of x new
-messages_same x old new e = λ i pool k. record (message_of x old pool k) {
-  sender = (differ old new e).owners pool i;
-  serial = (differ old new e).serials pool k i;
-  node_id = ((differ old new e).ids pool).0 i;
-  port_id = ((differ old new e).ids pool).1 i;
-  lane = ((differ old new e).labels pool k i).lane;
-  request = ((differ old new e).labels pool k i).request;
-  elements = (differ old new e).elements pool k i;
-}
 
 -- ---- the copy
 

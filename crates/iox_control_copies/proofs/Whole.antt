@@ -12,7 +12,7 @@ use Rattle.iox_model.specs.Messages.{response_way}
 use Rattle.iox_model.specs.Requests.{fails_at}
 use Rattle.iox_model.specs.Settings.{shape_of}
 use Rattle.iox_tables.specs.HubStates.Releases.{lane_of}
-use Rattle.iox_tables.proofs.HubLending.Owning.{number_is}
+use Rattle.iox_tables.proofs.HubLending.Owning.{number_is, two}
 use Rattle.iox_control_responses.specs.Responses.{IsFailure}
 use Rattle.iox_model.specs.States as m
 use Rattle.iox_model.specs.WholeCalls.{IsWholeCall}
@@ -40,10 +40,7 @@ use Rattle.iox_control_copies.specs.declared.answered.Answered.TheVariants.{Done
 use Rattle.iox_control_copies.specs.Answers.{Answers, IsInLine, IsLost, MayBeCopied, fails_for, given_after_copy, goes_in_line, is_shut_for, reply_of_copy, way_of, with_copy_lost, with_copy_sent}
 use Rattle.iox_control_copies.proofs.Machine as machine
 use Rattle.iox_control_copies.proofs.Sent as sent
-
-both : (a b : Bool) → (a && b) ≡ true → (a ≡ true) × (b ≡ true)
-both true b e = (refl, e)
-both false b e = absurd (true≢false (sym e))
+use Rattle.iox_tables.proofs.HubLending.Bared.{put_same}
 
 shut_both : (a b : Bool) → (a && not b) ≡ true → (a ≡ true) × (b ≡ false)
 shut_both true false e = (refl, refl)
@@ -122,7 +119,7 @@ module _ (x : Given) (c : ControlState) (node n : ℕ) (q : Payload) (a : Asked)
         (line place.slot is.between is.may parts.0 t.settings.response_overflow refl parts.1
         ∙ ap (λ (v : m.State). (replies.Done, v))
         (bare_pools_show_the_same _ (with_copy_sent (with_got_back t y.port) y k place.slot) new.tables.pools
-        (sent.put_same t.pools is.between.tables.pools y.port.pool place.slot (loaned_slot y k) is.may.back.back.same ∙ is.handed.same)
+        (put_same t.pools is.between.tables.pools y.port.pool place.slot (loaned_slot y k) is.may.back.back.same ∙ is.handed.same)
         ∙ ap₂ state_shown
         (ap₂ (λ (pool : ℕ) (r : Role). with_contents x pool place.slot (record { user = (shape_of (limits_of x t) r).user; payload = q.words; filled = 0 })) (sym is.pool) active.server)
         (ap (λ (e : ControlState). record (with_copy_sent e.tables y k place.slot) { pools = new.tables.pools }) (sym is.may.back.left)
@@ -133,8 +130,8 @@ module _ (x : Given) (c : ControlState) (node n : ℕ) (q : Payload) (a : Asked)
 
     undelivered_whole : (new : ControlState) → fails_for t y fails ≡ true → IsLost c y a true new → Whole (replies.Refused refusals.UnableToDeliver) (state_shown x new.tables)
     undelivered_whole new lost is =
-        let first = both (is_lender_awaited t y) (is_shut_for t y && fails) lost in
-        let next = both (is_shut_for t y) fails first.1 in
+        let first = two (is_lender_awaited t y) (is_shut_for t y && fails) lost in
+        let next = two (is_shut_for t y) fails first.1 in
         let shut = shut_parts next.0 in
         whole_by (replies.Refused refusals.UnableToDeliver) (state_shown x new.tables)
         (sent.is_undelivered x t node n k q (machine.choice x c node n q a order active of_role elements asked sound) y is.slot (made is.slot is.between is.may first.0) order.order there active.server first.0

@@ -20,9 +20,9 @@ use iox_control_lending::{Asked, Lending};
 use iox_control_responses::is_awaited;
 
 /// Lends a response to that active request, whose handle is looked for at the hint first, and sends
-/// it to its client at once. All that clients gave back to the server is got back first. Whether the
-/// send fails where the client is full, the caller says: by the server's handler, or else by its
-/// strategy.
+/// it to its client at once. All that clients gave back to the server is got back first. Whether
+/// the send fails where the client is full, the caller says: by the server's handler, or else by
+/// its strategy.
 pub fn copy_response(
     control: &mut Control,
     node: u64,

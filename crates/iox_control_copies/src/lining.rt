@@ -29,8 +29,8 @@ fn push_out(control: &mut Control, way: Way, pool: usize, slot: u64)
     }
 }
 
-/// Writes the copy's message into that slot, and puts it last in line for its client. What is pushed
-/// out has one holder less. The loan, its call and its send are counted.
+/// Writes the copy's message into that slot, and puts it last in line for its client. What is
+/// pushed out has one holder less. The loan, its call and its send are counted.
 fn push_copy(control: &mut Control, lender: Lending, asked: Asked, slot: u64)
     requires loans { option_map_or (λ p. p.loans)
         (port_in control.old.tables.ports lender.port.number) 0 < 2 ^ 64 - 1 }
