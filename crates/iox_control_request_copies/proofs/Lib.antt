@@ -1,7 +1,4 @@
-pub mod Free
 pub mod Lost
-pub mod Ready
-pub mod Sent
 pub mod Emptied
 pub mod Loaned
 pub mod Leads

@@ -32,10 +32,10 @@ use Rattle.iox_control_lending.specs.Lends.{IsLoaned, on_lane}
 use Rattle.iox_control_lending.proofs.LaneLemmas.{lane_within}
 use Rattle.iox_control_requests.specs.Requests.{ways_of, with_request_sent}
 use Rattle.iox_control_requests.specs.Servers.{request_ways}
-use Rattle.iox_control_requests.proofs.Emptied.{same_ways_then}
+use Rattle.iox_control_requests.proofs.Emptied.{each_after, each_waits, same_ways_then}
 use Rattle.iox_control_requests.proofs.Ready.{ways_open}
 use Rattle.iox_control_request_copies.specs.Copies.{IsLentAndSent, handle_of_loan}
-use Rattle.iox_control_request_copies.proofs.Emptied.{each_after, each_before, each_waits}
+use Rattle.iox_control_request_copies.proofs.Emptied.{each_before}
 
 module _ (c : ControlState) (node n : ℕ) (a : Asked) (l : Loaned) (new : ControlState) (order : IsControl c) (client : IsClient c.tables node n) (filled : a.uninit ≡ false)
     (few : c.tables.calls < 2 ^ 56) (is : IsLoaned c (lender_of_request client.port 0) a l new) (ordered : IsControl new)

@@ -1,7 +1,7 @@
 -- A request that is lost as it is copied.
-use Rattle.std.specs.Prelude.{◌≡◌, ℕ, zero, suc, ◌-◌, ◌<◌, ◌^◌, true, Some, None, refl}
+use Rattle.std.specs.Prelude.{◌≡◌, ℕ, ◌-◌, ◌<◌, ◌^◌, true, Some, None}
 use Rattle.std.specs.Option.{option_map_or}
-use Rattle.std.proofs.Common.{sym, ap, subst, ◌∙◌, arith}
+use Rattle.std.proofs.Common.{sym, ap, subst, ◌∙◌}
 use Rattle.std.proofs.lemmas.Option.{same_Some}
 use Rattle.iox_tables.specs.HubStates.Tables.{PortState, port_in}
 use Rattle.iox_tables.specs.HubStates.Ends.{with_call, with_loan}
@@ -20,15 +20,7 @@ use Rattle.iox_control_lending.proofs.PortLemmas.{info_is, request_of_port, ther
 use Rattle.iox_control_lending.proofs.SlotLemmas.{all_have_holders}
 use Rattle.iox_control_copies.proofs.Kept.{loans_below, lost_keeps}
 use Rattle.iox_control_request_copies.specs.Copies.{IsLost}
-use Rattle.iox_control_request_copies.proofs.Free.{free_slot}
-
--- a count that is not 0
-pub some_of : (n m : ℕ) → n ≡ m → (n ≡ 0 → ⊥) → 0 < m
-some_of n m same some = step m refl
-  where
-    step : (j : ℕ) → m ≡ j → 0 < j
-    step zero e = absurd (some (same ∙ e))
-    step (suc j) e = omega arith
+use Rattle.iox_slots.proofs.FreeSlots.{free_slot}
 
 -- the port is found
 pub port_there : (c : ControlState) (n : ℕ) (info : PortInfo) → IsControl c → (its : (p : PortState) × (port_in c.tables.ports n ≡ Some p)) → Some info ≡ info_in c.tables.ports n

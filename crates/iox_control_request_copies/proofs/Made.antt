@@ -1,5 +1,5 @@
 -- What the machine does with the copy of a request that its client may send.
-use Rattle.std.specs.Prelude.{◌≡◌, ℕ, Bool, true, false, ◌||◌, if◌then◌else◌, nat_le, List, [], ◌∷◌, ◌++◌, length, map, Option, Some, None, refl, ⊤, ◌+◌}
+use Rattle.std.specs.Prelude.{◌≡◌, ℕ, Bool, true, false, if◌then◌else◌, nat_le, List, [], ◌∷◌, ◌++◌, length, map, Option, Some, None, refl, ⊤, ◌+◌}
 use Rattle.std.specs.List.{list_any}
 use Rattle.std.proofs.Common.{sym, ap, ap₂, subst, ◌∙◌, inl}
 use Rattle.iox_model.specs.declared.call.Call.TheVariants.{SendCopy}
@@ -27,7 +27,7 @@ use Rattle.iox_tables.specs.HubStates.Releases.{lane_of, pending_states, request
 use Rattle.iox_tables.specs.HubStates.Sendings.{pending_of}
 use Rattle.iox_tables.specs.HubStates.Sends.{MaySendFrom, sent_count, with_opened, with_pushed, with_sent}
 use Rattle.iox_tables.specs.HubStates.Shown.{MessagesByPlace}
-use Rattle.iox_tables.specs.HubStates.States.{Given, fixed_of, message_of, state_shown}
+use Rattle.iox_tables.specs.HubStates.States.{Given, fixed_of, state_shown}
 use Rattle.iox_tables.specs.HubStates.Steps.{IsOpenToNew, full_in, places_on}
 use Rattle.iox_tables.specs.HubStates.Tables.{HandleState, HubTables, PoolState, PortState, port_in}
 use Rattle.iox_tables.specs.HubStates.Ways.{OnWays, lane_on, with_lanes_on, with_port, with_states_on}
@@ -43,7 +43,7 @@ use Rattle.iox_hub_delivering.proofs.Loaned.{last_changed, loan_after, loan_afte
 use Rattle.iox_tables.specs.HubLending.Emptying.{with_back}
 use Rattle.iox_tables.specs.HubLending.Lending.{MayLend}
 use Rattle.iox_tables.proofs.HubLending.Back.{getting_back_keeps_order}
-use Rattle.iox_tables.proofs.HubLending.Bared.{differ}
+use Rattle.iox_tables.proofs.HubLending.Bared.{differ, messages_same}
 use Rattle.iox_tables.proofs.HubLending.Chosen.{free_slots_may_take_loans}
 use Rattle.iox_tables.proofs.HubLending.OneMore.{lanes_same, one_loan, roles_same}
 use Rattle.iox_tables.proofs.HubLending.Owning.{slot_there}
@@ -61,32 +61,10 @@ use Rattle.iox_control_lending.specs.declared.asked.Asked.{Asked}
 use Rattle.iox_control_lending.specs.Lends.{IsAskedOf, IsGotBack}
 use Rattle.iox_control_requests.specs.Requests.{ways_of, with_request_sent}
 use Rattle.iox_control_requests.specs.Servers.{request_ways}
-use Rattle.iox_control_requests.proofs.Emptied.{same_ways_then}
-use Rattle.iox_control_request_copies.proofs.Emptied.{each_after, each_before, emptied_same, full_in_same}
+use Rattle.iox_control_requests.proofs.Emptied.{each_after, same_ways_then}
+use Rattle.iox_control_request_copies.proofs.Emptied.{each_before, emptied_same, full_in_same}
 use Rattle.iox_control_request_copies.proofs.Machine as machine
-
--- two tests that agree on a client's ways find the same among the full ones
-any_same : (f g : Way → Bool) (client : ℕ) (on : OnWays LaneState) → ((w : Way) → w.sender ≡ client → f w ≡ g w) → (ns : List ℕ) (acc : List Way)
-    → list_any f acc ≡ list_any g acc
-    → list_any f (full_in on (map (request_way client) ns) acc) ≡ list_any g (full_in on (map (request_way client) ns) acc)
-any_same f g client on same [] acc before = before
-any_same f g client on same (n ∷ ns) acc before =
-    any_same f g client on same ns _ (step _)
-  where
-    step : (b : Bool) → list_any f (if b then request_way client n ∷ acc else acc) ≡ list_any g (if b then request_way client n ∷ acc else acc)
-    step true = ap₂ (λ (a c : Bool). a || c) (same (request_way client n) refl) before
-    step false = before
-
-messages_same : (x : Given) (old new : List (Option PoolState)) → bare_pools old ≡ bare_pools new → message_of x old ≡ message_of x new
-messages_same x old new e = λ i pool k. record (message_of x old pool k) {
-  sender = (differ old new e).owners pool i;
-  serial = (differ old new e).serials pool k i;
-  node_id = ((differ old new e).ids pool).0 i;
-  port_id = ((differ old new e).ids pool).1 i;
-  lane = ((differ old new e).labels pool k i).lane;
-  request = ((differ old new e).labels pool k i).request;
-  elements = (differ old new e).elements pool k i;
-}
+use Rattle.iox_control_requests.proofs.Whole.{any_same}
 
 module _ (x : Given) (c : ControlState) (node n : ℕ) (q : Payload) (a : Asked) (order : IsControl c) (client : IsClient c.tables node n)
     (of_role : q.role ≡ Client) (elements : q.elements ≡ Some a.elements) (asked : IsAskedOf x.request a)

@@ -4,8 +4,9 @@ use Rattle.iox_hub_ports.specs.Ports.{info_in}
 use Rattle.iox_slots.specs.Pools.{free_count}
 use Rattle.iox_control_lending.specs.Lends.{IsTold, lender_of, refusal_of}
 use Rattle.iox_control_lending.proofs.PortLemmas.{request_of_port}
-use Rattle.iox_control_request_copies.proofs.Lost.{dry_left, loan_fits, lost_in_order, lost_left, port_there, some_of}
+use Rattle.iox_control_request_copies.proofs.Lost.{dry_left, loan_fits, lost_in_order, lost_left, port_there}
 use Rattle.iox_control_request_copies.proofs.losing.lose.Goals as goal
+use Rattle.iox_control_copies.proofs.Outcomes.{some_of}
 
 pub retrieve_all-requires-clause-there : goal.retrieve_all-requires-clause-there
 retrieve_all-requires-clause-there c =

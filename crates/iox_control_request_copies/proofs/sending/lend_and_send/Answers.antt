@@ -1,18 +1,18 @@
 use Rattle.iox_control_request_copies.proofs.Loaned.{calls_so, named_so, returned_so, sent_so, waits_so}
 use Rattle.iox_control_request_copies.proofs.sending.lend_and_send.Goals as goal
 
-pub send_loan-servers-requires-clause-calls : goal.send_loan-servers-requires-clause-calls
-send_loan-servers-requires-clause-calls c =
+pub send_to_all-servers-requires-clause-calls : goal.send_to_all-servers-requires-clause-calls
+send_to_all-servers-requires-clause-calls c =
     calls_so c.args.control.now c.args.node c.args.client c.args.asked c.in-Handle.loaned c.lend_request.new.control c.requires.order c.requires.client c.requires.filled c.requires.calls
     (c.in-Handle.ensures.left c.requires.client.port c.requires.client.there) c.in-Handle.ensures.order
 
-pub send_loan-servers-requires-clause-named : goal.send_loan-servers-requires-clause-named
-send_loan-servers-requires-clause-named c =
+pub send_to_all-servers-requires-clause-named : goal.send_to_all-servers-requires-clause-named
+send_to_all-servers-requires-clause-named c =
     named_so c.args.control.now c.args.node c.args.client c.args.asked c.in-Handle.loaned c.lend_request.new.control c.requires.order c.requires.client c.requires.filled c.requires.calls
     (c.in-Handle.ensures.left c.requires.client.port c.requires.client.there) c.in-Handle.ensures.order
 
-pub send_loan-servers-requires-clause-returned : goal.send_loan-servers-requires-clause-returned
-send_loan-servers-requires-clause-returned c =
+pub send_to_all-servers-requires-clause-returned : goal.send_to_all-servers-requires-clause-returned
+send_to_all-servers-requires-clause-returned c =
     returned_so c.args.control.now c.args.node c.args.client c.args.asked c.in-Handle.loaned c.lend_request.new.control c.requires.order c.requires.client c.requires.filled c.requires.calls
     (c.in-Handle.ensures.left c.requires.client.port c.requires.client.there) c.in-Handle.ensures.order
 
@@ -20,9 +20,9 @@ pub returns-clause-left : goal.returns-clause-left
 returns-clause-left c =
     sent_so c.args.control.now c.args.node c.args.client c.args.asked c.in-Handle.loaned c.lend_request.new.control c.requires.order c.requires.client c.requires.filled c.requires.calls
     (c.in-Handle.ensures.left c.requires.client.port c.requires.client.there) c.in-Handle.ensures.order
-    c.args.overflow c.send_loan-servers.result c.send_loan-servers.new.control c.send_loan-servers.ensures.count c.send_loan-servers.ensures.left c.send_loan-servers.ensures.holders
+    c.args.overflow c.send_to_all-servers.result c.send_to_all-servers.new.control c.send_to_all-servers.ensures.count c.send_to_all-servers.ensures.left c.send_to_all-servers.ensures.holders
 
 pub returns-clause-waits : goal.returns-clause-waits
 returns-clause-waits c =
     waits_so c.args.control.now c.args.node c.args.client c.args.asked c.in-Handle.loaned c.lend_request.new.control c.requires.order c.requires.client c.requires.filled c.requires.calls
-    (c.in-Handle.ensures.left c.requires.client.port c.requires.client.there) c.in-Handle.ensures.order c.send_loan-servers.ensures.sound
+    (c.in-Handle.ensures.left c.requires.client.port c.requires.client.there) c.in-Handle.ensures.order c.send_to_all-servers.ensures.sound
