@@ -44,7 +44,7 @@ use Rattle.iox_wire_pools.proofs.FoundUses.{sent_is_used, what_is_got_back_is_ou
 
 -- ---- a push publishes its own value
 
-abbrev Only : ℕ → QueueEvent → Type 0
+abbrev pub Only : ℕ → QueueEvent → Type 0
 Only own (Publish value) = value ≡ own
 Only own event = Unit {0}
 
@@ -56,7 +56,7 @@ end_or_not : (own : ℕ) (b : Bool) (site : Site) (read write : ℕ) → Only ow
 end_or_not own true site read write = tt
 end_or_not own false site read write = room_or_not own (is_full site read write)
 
-only : (own : ℕ) (site : Site) (place : Push) (seen : ℕ) → unpublished_of place ≡ Some own → Only own (push_event site place seen)
+pub only : (own : ℕ) (site : Site) (place : Push) (seen : ℕ) → unpublished_of place ≡ Some own → Only own (push_event site place seen)
 only own site (push.LoadsWrite value) seen mine = tt
 only own site (push.LoadsRead value write) seen mine = end_or_not own (write == last_position) site seen write
 only own site (push.StoresCell value cell next full) seen mine = tt
