@@ -1,0 +1,16 @@
+pub mod Ranges
+pub mod PortWays
+pub mod Openings
+pub mod Runs
+pub mod OthersSame
+pub mod OthersKept
+pub mod Deaths
+pub mod Follows
+pub mod MomentsFollow
+pub mod SlotsFollow
+pub mod NamesFollow
+pub mod SendsFollow
+pub mod NodesFollow
+pub mod QueuesFollow
+pub mod OtherSlots
+pub mod StepsKept

@@ -1,0 +1,15 @@
+-- In reading order: a run of a wire, and what a node was asked and answered; what is so of a living
+-- node at its place; when words and nodes stand for a run; a wire as it opens; what follows, and
+-- what stays so as nodes die and as other nodes make beats.
+pub mod Runs
+pub mod Following
+pub mod Nodes
+pub mod Stands
+pub mod Openings
+pub mod Others
+pub mod FollowingLaws
+pub mod NamesLaws
+pub mod SendsLaws
+pub mod NodeLaws
+pub mod QueuesLaws
+pub mod StepLaws

@@ -1,0 +1,73 @@
+//! When the words of a wire and its nodes stand for a run of the machine: the invariant of a wire.
+//! The functions have nothing to do: each is there for its contract.
+#![tactic(auto)]
+
+ghost use Rattle.iox_wire_stands.specs.Following.{AccessesFollow};
+ghost use Rattle.iox_wire_stands.specs.FollowingLaws.{AccessesKeepSlots, DesksFollowMoments};
+ghost use Rattle.iox_wire_stands.specs.NamesLaws.{AccessesKeepNames};
+ghost use Rattle.iox_wire_stands.specs.SendsLaws.{SlotsAreFoundInPools};
+ghost use Rattle.iox_wire_stands.specs.NodeLaws.{AccessesKeepNodes};
+ghost use Rattle.iox_wire_stands.specs.QueuesLaws.{AccessesKeepQueues};
+ghost use Rattle.iox_wire_stands.specs.StepLaws.{OtherSlotsMayChange, StepsKeep};
+ghost use Rattle.iox_wire_stands.specs.Openings.{AWireOpens};
+ghost use Rattle.iox_wire_stands.specs.Others.{DeathsKeep, OthersLeaveNodes};
+
+/// As a wire opens, its words and nodes stand for the run without a beat.
+pub fn a_wire_opens()
+    ensures { AWireOpens }
+{}
+
+/// A beat of another node leaves what is so of a living node.
+pub fn others_leave_nodes()
+    ensures { OthersLeaveNodes }
+{}
+
+/// Once a node died, the same words and nodes stand for the run with that beat.
+pub fn deaths_keep()
+    ensures { DeathsKeep }
+{}
+
+/// Each access goes on in one of five ways.
+pub fn accesses_follow()
+    ensures { AccessesFollow }
+{}
+
+/// An access changes a desk as its moment changes what the machine records there.
+pub fn desks_follow_moments()
+    ensures { DesksFollowMoments }
+{}
+
+/// The slots that a node knows stay known over each of its accesses.
+pub fn accesses_keep_slots()
+    ensures { AccessesKeepSlots }
+{}
+
+/// What a node names stands after its own access, unless that gives an entry's message back.
+pub fn accesses_keep_names()
+    ensures { AccessesKeepNames }
+{}
+
+/// What a node takes, gets back and delivers are slots of pools, on ways of its own.
+pub fn slots_are_found_in_pools()
+    ensures { SlotsAreFoundInPools }
+{}
+
+/// What is so of a living node is so of it after its access.
+pub fn accesses_keep_nodes()
+    ensures { AccessesKeepNodes }
+{}
+
+/// Queues have slots of their senders' pools after each access of a standing node.
+pub fn accesses_keep_queues()
+    ensures { AccessesKeepQueues }
+{}
+
+/// What is so of a node stays so as a slot of another node's port holds another message.
+pub fn other_slots_may_change()
+    ensures { OtherSlotsMayChange }
+{}
+
+/// An access in the midst of a call leads from what stands to what stands.
+pub fn steps_keep()
+    ensures { StepsKeep }
+{}
