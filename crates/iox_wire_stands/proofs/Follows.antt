@@ -44,7 +44,7 @@ use Rattle.iox_wire_stands.specs.Following.{AccessesFollow, CallMessage, Dropped
 -- ---- courses of sends
 
 -- the same desks, and the call has that message
-record Has (x : Seat) (message : CallMessage) (y : Seat) : Type 0 where
+pub record Has (x : Seat) (message : CallMessage) (y : Seat) : Type 0 where
   pub desks : y.desks ≡ x.desks
   pub names : message_at y.local ≡ message
 
@@ -60,7 +60,7 @@ delivering x d last [] count = at x _ _ refl
 delivering x d last (w ∷ left) count = at x _ _ refl
 
 module _ (p : Setting) (x : Seat) where
-  abbrev K : Entry → Bool → Seat → Type 0
+  abbrev pub K : Entry → Bool → Seat → Type 0
   K e copied y = Has x (Sent e copied) y
 
   opening : (d : Delivery) (left full : List Way) → K d.loan d.copied (courses.opening p x d left full)
@@ -90,7 +90,7 @@ module _ (p : Setting) (x : Seat) where
       either (K d.loan d.copied) (has_number d.loan.client (others (known p x) x.node Client)) (courses.placed x (SendAsks d))
       (courses.ended x (endings.Sends d.loan d.copied 0)) (at x _ _ refl) (at x _ _ refl)
 
-  sends : (e : Entry) (copied : Bool) → K e copied (courses.sends p x e copied)
+  pub sends : (e : Entry) (copied : Bool) → K e copied (courses.sends p x e copied)
   sends e copied =
       let to_servers : Delivery = record { loan = e; copied = copied; to = others (known p x) x.node Server } in
       let to_client : Delivery = record { loan = e; copied = copied; to = e.client ∷ [] } in

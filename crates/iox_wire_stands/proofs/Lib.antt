@@ -13,4 +13,5 @@ pub mod SendsFollow
 pub mod NodesFollow
 pub mod QueuesFollow
 pub mod OtherSlots
+pub mod OthersHold
 pub mod StepsKept

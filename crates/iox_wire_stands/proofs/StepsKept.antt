@@ -57,7 +57,7 @@ use Rattle.iox_wire_stands.specs.Stands.{AreNumbered, OwnersAre, Player, Stands,
 use Rattle.iox_wire_stands.specs.StepLaws.{RunGoesOn, StepsKeep, TakenStays}
 use Rattle.iox_wire_stands.proofs.Follows.{accesses_follow}
 use Rattle.iox_wire_stands.proofs.NodesFollow.{accesses_keep_nodes, free_pools, limits}
-use Rattle.iox_wire_stands.proofs.OtherSlots.{other_slots_may_change}
+use Rattle.iox_wire_stands.proofs.OthersHold.{OneSlot, others_hold}
 use Rattle.iox_wire_stands.proofs.OthersKept.{others_leave_nodes}
 use Rattle.iox_wire_stands.proofs.QueuesFollow.{accesses_keep_queues}
 use Rattle.iox_wire_stands.proofs.Runs.{history_on, last_empty, run_on}
@@ -112,35 +112,10 @@ moment_same p held new (LendEmpties o w (popping.Looks place) left) seen lends i
 moment_same p held new (LendEmpties o w popping.AtRest left) seen lends is = refl
 moment_same p held new local seen lends is = absurd lends
 
--- what a call took it names
-on_itself : (w : Way) (slot : ℕ) → is_slot_on w slot w.sender slot ≡ true
-on_itself w slot = rw (eqb-refl w.sender, eqb-refl slot) refl
-
-abbrev NotTaken : CallMessage → Type 0
-NotTaken (Taken w slot) = ⊥
-NotTaken other = Unit {0}
-
-names_it : (w v : Way) (own slot : ℕ) → Taken w own ≡ Taken v slot → is_slot_on w own v.sender slot ≡ true
-names_it w v own slot is =
-    let way : w ≡ v = (cc) in
-    let same : own ≡ slot = (cc) in
-    subst (λ (z : Way). is_slot_on w own z.sender slot ≡ true) way (subst (λ i. is_slot_on w own w.sender i ≡ true) same (on_itself w own))
-
-ending_named : (ending : Ending) (v : Way) (slot : ℕ) → message_at (Ends ending) ≡ Taken v slot → place_names (Ends ending) v.sender slot ≡ true
-ending_named (endings.Receives z w own header) v slot is = names_it w v own slot is
-ending_named ending v slot is = absurd (subst NotTaken is tt)
-
-named_taken : (local : Local) (v : Way) (slot : ℕ) → message_at local ≡ Taken v slot → place_names local v.sender slot ≡ true
-named_taken (ReceiveLoads z w own header left waiting) v slot is = names_it w v own slot is
-named_taken (ReceiveAsks z w own header left waiting) v slot is = names_it w v own slot is
-named_taken (ReceiveReturns z w own place left waiting) v slot is = names_it w v own slot is
-named_taken (Ends ending) v slot is = ending_named ending v slot is
-named_taken local v slot is = absurd (subst NotTaken is tt)
-
 -- ---- the whole wire
 
 -- what stands at words, seats and a world
-record Whole (p : Setting) (held : Pools) (word : ℕ → ℕ) (c : WireContents) (seats : ℕ → Seat) (w : World) : Type 0 where
+pub record Whole (p : Setting) (held : Pools) (word : ℕ → ℕ) (c : WireContents) (seats : ℕ → Seat) (w : World) : Type 0 where
   pub shows : ShowsWorld p held word c seats w
   pub layout : LayoutFits p w.state.fixed
   pub owners : OwnersAre p w.state.fixed
@@ -194,40 +169,12 @@ module _ (p : Setting) (held : Pools) (word word' : ℕ → ℕ) (c : WireConten
         by_held (inr picks) = moment_same p held new x.local seen picks.lends picks.still
 
     -- another node's slots hold what they held
-    module _ (k : ℕ) (other : (k == n) ≡ false) (lives : not_living w.state k ≡ None) where
-      not_own : (port q : ℕ) → IsPortOfSeat p (seats k) port → IsPortOfSeat p x q → q ≡ port → ⊥
-      not_own port q its own same =
-          true≢false (sym (eq-eqb k n
-          (sym (whole.shows.node k) ∙ sym its.1 ∙ ap p.layout.owner (sym same) ∙ own.1 ∙ whole.shows.node n)) ∙ other)
-
-      others_same : (port slot : ℕ) → IsPortOfSeat p (seats k) port → new port slot ≡ held port slot
-      others_same port slot its = by_held held_is
-        where
-          by_held : (new ≡ held) ⊎ Picks p held x seen → new port slot ≡ held port slot
-          by_held (inl same) = ap (λ (h : Pools). h port slot) same
-          by_held (inr picks) =
-              ap (λ (h : Pools). h port slot) picks.now
-              ∙ (one_slot_changes held picks.loan.port picks.slot (message_in p picks.loan)).1 port slot
-              (λ same there. not_own port picks.loan.port its (mine.slots.desks picks.loan.port picks.slot picks.free) same)
-
-      taken_same : TakenStays held new (message_at (seats k).local)
-      taken_same v slot is = by_held held_is
-        where
-          named : place_names (seats k).local v.sender slot ≡ true
-          named = named_taken (seats k).local v slot is
-
-          by_held : (new ≡ held) ⊎ Picks p held x seen → new v.sender slot ≡ held v.sender slot
-          by_held (inl same) = ap (λ (h : Pools). h v.sender slot) same
-          by_held (inr picks) =
-              ap (λ (h : Pools). h v.sender slot) picks.now
-              ∙ (one_slot_changes held picks.loan.port picks.slot (message_in p picks.loan)).1 v.sender slot
-              (λ same there. true≢false (sym named
-              ∙ subst (λ i. place_names (seats k).local v.sender i ≡ false) there
-              (subst (λ q. place_names (seats k).local q picks.slot ≡ false) same
-              ((unnamed picks.loan.port picks.slot picks.free).places k lives))))
-
-      with_new : (s : State) → NodeStands p held s (seats k) → NodeStands p new s (seats k)
-      with_new s stands = other_slots_may_change p held new s (seats k) others_same taken_same stands
+    with_new : (k : ℕ) → (k == n) ≡ false → not_living w.state k ≡ None → (s : State) → NodeStands p held s (seats k) → NodeStands p new s (seats k)
+    with_new = others_hold p held new word c seats w n whole.shows mine.slots.desks unnamed (one held_is)
+      where
+        one : (new ≡ held) ⊎ Picks p held x seen → (new ≡ held) ⊎ OneSlot p held new x
+        one (inl same) = inl same
+        one (inr picks) = inr (record { loan = picks.loan; slot = picks.slot; now = picks.now; free = picks.free })
 
     own_node : NodeStands p new (state_after w.state (moment_at p held x.local seen)) next_seat
     own_node =
@@ -288,7 +235,7 @@ module _ (p : Setting) (held : Pools) (word word' : ℕ → ℕ) (c : WireConten
 -- ---- nodes as they are shown
 
 -- a node that leaves nothing is shown as it is
-shown_same : (p : Setting) (x : Seat) (local : Local) → LeavesNothing (message_at local) → shown_at p x local ≡ x
+pub shown_same : (p : Setting) (x : Seat) (local : Local) → LeavesNothing (message_at local) → shown_at p x local ≡ x
 shown_same p x (ReleaseLooks e) leaves = absurd leaves
 shown_same p x (ReleaseExchanges e old) leaves = absurd leaves
 shown_same p x local leaves = refl
