@@ -1,5 +1,6 @@
 pub mod Ranges
 pub mod PortWays
+pub mod OpenedDesks
 pub mod Openings
 pub mod Runs
 pub mod OthersSame
@@ -12,6 +13,9 @@ pub mod NamesFollow
 pub mod SendsFollow
 pub mod NodesFollow
 pub mod QueuesFollow
+pub mod Starts
 pub mod OtherSlots
 pub mod OthersHold
+pub mod BeginsKept
 pub mod StepsKept
+pub mod BeginsWhole

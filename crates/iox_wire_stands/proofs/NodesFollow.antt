@@ -65,28 +65,28 @@ use Rattle.iox_wire_stands.proofs.SlotsFollow.{accesses_keep_slots, desk_of_reco
 -- ---- desks
 
 -- two desks, or none, that count as many loans
-abbrev SameDesk : Option Desk → Option Desk → Type 0
+abbrev pub SameDesk : Option Desk → Option Desk → Type 0
 SameDesk None None = Unit {0}
 SameDesk (Some d) (Some e) = e.loans ≡ d.loans
 SameDesk d e = ⊥
 
-itself : (d : Option Desk) → SameDesk d d
+pub itself : (d : Option Desk) → SameDesk d d
 itself None = tt
 itself (Some d) = refl
 
-same_loans : (d e : Option Desk) → SameDesk d e → option_map_or (λ (k : Desk). k.loans) e 0 ≡ option_map_or (λ (k : Desk). k.loans) d 0
+pub same_loans : (d e : Option Desk) → SameDesk d e → option_map_or (λ (k : Desk). k.loans) e 0 ≡ option_map_or (λ (k : Desk). k.loans) d 0
 same_loans None None is = refl
 same_loans (Some d) (Some e) is = is
 same_loans None (Some e) is = absurd is
 same_loans (Some d) None is = absurd is
 
-same_there : (d e : Option Desk) → SameDesk d e → is_some e ≡ true → is_some d ≡ true
+pub same_there : (d e : Option Desk) → SameDesk d e → is_some e ≡ true → is_some d ≡ true
 same_there None None is some = some
 same_there (Some d) e is some = refl
 same_there None (Some e) is some = absurd is
 
 -- a change that leaves a desk's port and its count of loans
-record LeavesLoans (change : Desk → Desk) : Type 0 where
+pub record LeavesLoans (change : Desk → Desk) : Type 0 where
   pub port : (d : Desk) → (change d).port ≡ d.port
   pub loans : (d : Desk) → (change d).loans ≡ d.loans
 
@@ -103,7 +103,7 @@ module _ (change : Desk → Desk) (leaves : LeavesLoans change) (k port : ℕ) w
   changed_desk None = tt
   changed_desk (Some d) = loans_on d (d.port == k)
 
-  same_at : (desks : List Desk) → SameDesk (find (λ d. d.port == port) desks) (find (λ d. d.port == port) (map (on_desk k change) desks))
+  pub same_at : (desks : List Desk) → SameDesk (find (λ d. d.port == port) desks) (find (λ d. d.port == port) (map (on_desk k change) desks))
   same_at desks =
       subst (SameDesk (find (λ d. d.port == port) desks))
       (sym (found (on_desk k change) (λ d. d.port == port) (λ d. desk_port d (d.port == k)) desks)) (changed_desk (find (λ d. d.port == port) desks))

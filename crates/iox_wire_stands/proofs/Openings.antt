@@ -1,8 +1,8 @@
 -- As a wire opens, its words and nodes stand for a run without a beat.
-use Rattle.std.specs.Prelude.{◌<◌, ◌^◌, ◌&&◌, ◌||◌, not, nat_lt, find, flat_map, map, replicate, is_some, if◌then◌else◌}
+use Rattle.std.specs.Prelude.{◌<◌, ◌^◌, ◌&&◌, not, nat_lt, find, flat_map, map, replicate, is_some, if◌then◌else◌}
 use Rattle.std.specs.List.{list_all, range_with_len}
 use Rattle.std.specs.Option.{option_map_or}
-use Rattle.std.proofs.Common.{◌≡◌, ℕ, ◌+◌, Bool, true, false, ◌==◌, List, [], ◌∷◌, Some, None, refl, ap, sym, subst, ◌∙◌, inl, inr, arith, eq-eqb, eqb-true, true≢false}
+use Rattle.std.proofs.Common.{◌≡◌, ℕ, ◌+◌, Bool, true, false, ◌==◌, List, [], Some, None, refl, ap, sym, subst, ◌∙◌, arith, eq-eqb, eqb-true, true≢false}
 use Rattle.std.proofs.lemmas.List.{length-replicate}
 use Rattle.iox_model.specs.declared.way.Way.{Way}
 use Rattle.iox_model.specs.Maps.{AreApart, AreDistinct, has_number, same_way}
@@ -24,7 +24,7 @@ use Rattle.iox_wire_words.specs.BeginLaws.{AreEmptyQueues, empty_contents}
 use Rattle.iox_wire_words.specs.Fits.{IsSized, WireContents}
 use Rattle.iox_wire_words.specs.Programs.{WireLayout}
 use Rattle.iox_wire_words.proofs.Begins.{empty_queues_fit}
-use Rattle.iox_wire_moments.specs.MomentsOf.{Pools, serial_in}
+use Rattle.iox_wire_moments.specs.MomentsOf.{serial_in}
 use Rattle.iox_wire_moments.specs.Ties.{Suits}
 use Rattle.iox_wire_locals.specs.declared.seat.Seat.{Seat}
 use Rattle.iox_wire_locals.specs.declared.table.Borrowed.{Borrowed}
@@ -42,7 +42,7 @@ use Rattle.iox_wire_laws.specs.WireOwners.Borrowed.{HasCount}
 use Rattle.iox_wire_laws.specs.WireRegions.OwnedBegins.{LayoutFits}
 use Rattle.iox_wire_laws.specs.WireHolding.SlotsKnown.{HasEntry, IsPortOfSeat, SlotsKnown}
 use Rattle.iox_wire_laws.proofs.WireHolding.WireWays.{among_flat, way_there}
-use Rattle.iox_wire_layouts.specs.PlansOf.{AreAsPlanned, IsSettingOf}
+use Rattle.iox_wire_layouts.specs.PlansOf.{IsSettingOf}
 use Rattle.iox_wire_layouts.proofs.Layouts.{known_settings_are_planned, planned_layouts_fit, planned_queues_suit, planned_returns_have_room}
 use Rattle.iox_wire_layouts.proofs.Planned.{same_found, same_numbers}
 use Rattle.iox_wire_layouts.proofs.Regions.{ports_have_regions}
@@ -52,87 +52,7 @@ use Rattle.iox_wire_stands.specs.Openings.{AgreesWith, AWireOpens, opened_desk, 
 use Rattle.iox_wire_stands.specs.Stands.{AreNumbered, OwnersAre, word_of}
 use Rattle.iox_wire_stands.proofs.PortWays.{sent_by, ways_apart}
 use Rattle.iox_wire_stands.proofs.Ranges.{and_true, range_distinct, range_number, zero_word}
-
--- ---- lists
-
-abbrev empty_record : Way → Recorded
-empty_record w = record { way = w; slots = [] }
-
-abbrev no_count : Way → Borrowed
-no_count w = record { way = w; count = 0 }
-
-none_recorded : (ws : List Way) → flat_map (λ r. r.slots) (map empty_record ws) ≡ []
-none_recorded [] = refl
-none_recorded (w ∷ ws) = none_recorded ws
-
-ways_recorded : (ws : List Way) → map (λ r. r.way) (map empty_record ws) ≡ ws
-ways_recorded [] = refl
-ways_recorded (w ∷ ws) = ap (λ vs. w ∷ vs) (ways_recorded ws)
-
-all_from : (port : ℕ) (ws : List Way) → ((y : Way) → IsAmong y ws → y.sender ≡ port) → list_all (λ r. r.way.sender == port) (map empty_record ws) ≡ true
-all_from port [] from = refl
-all_from port (w ∷ ws) from = rw (eq-eqb w.sender port (from w (inl refl))) (all_from port ws (λ y among. from y (inr among)))
-
-none_on : (y : Way) (ws : List Way) → option_map_or (λ (r : Recorded). r.slots) (find (λ r. same_way r.way y) (map empty_record ws)) [] ≡ []
-none_on y [] = refl
-none_on y (w ∷ ws) = by_case (same_way w y) (none_on y ws)
-  where
-    by_case : (b : Bool) → option_map_or (λ (r : Recorded). r.slots) (find (λ r. same_way r.way y) (map empty_record ws)) [] ≡ []
-        → option_map_or (λ (r : Recorded). r.slots) (if b then Some (empty_record w) else find (λ r. same_way r.way y) (map empty_record ws)) [] ≡ []
-    by_case true later = refl
-    by_case false later = later
-
-none_counted : (y : Way) (ws : List Way) → option_map_or (λ (b : Borrowed). b.count) (find (λ b. same_way b.way y) (map no_count ws)) 0 ≡ 0
-none_counted y [] = refl
-none_counted y (w ∷ ws) = by_case (same_way w y) (none_counted y ws)
-  where
-    by_case : (b : Bool) → option_map_or (λ (b : Borrowed). b.count) (find (λ b. same_way b.way y) (map no_count ws)) 0 ≡ 0
-        → option_map_or (λ (b : Borrowed). b.count) (if b then Some (no_count w) else find (λ b. same_way b.way y) (map no_count ws)) 0 ≡ 0
-    by_case true later = refl
-    by_case false later = later
-
--- ---- desks
-
-module _ (p : Setting) where
-  desk_there : (ports : List ℕ) (port : ℕ)
-      → find (λ d. d.port == port) (map (opened_desk p) ports) ≡ (if has_number port ports then Some (opened_desk p port) else None)
-  desk_there [] port = refl
-  desk_there (k ∷ ks) port = by_case (k == port) refl (desk_there ks port)
-    where
-      by_case : (b : Bool) → (k == port) ≡ b
-          → find (λ d. d.port == port) (map (opened_desk p) ks) ≡ (if has_number port ks then Some (opened_desk p port) else None)
-          → (if b then Some (opened_desk p k) else find (λ d. d.port == port) (map (opened_desk p) ks))
-          ≡ (if (b || has_number port ks) then Some (opened_desk p port) else None)
-      by_case true same later = ap (λ n. Some (opened_desk p n)) (eqb-true k port same)
-      by_case false other later = later
-
-abbrev held_first : Pools
-held_first port slot = record {
-  sender = port;
-  serial = 2 ^ 64 + slot;
-  node_id = record { process = 0; seconds = 0; nanoseconds = 0; counter = 0 };
-  port_id = record { process = 0; seconds = 0; nanoseconds = 0; counter = 0 };
-  lane = 0;
-  request = 0;
-  elements = 0;
-  user = [];
-  payload = [];
-}
-
-same_slot : (i j : ℕ) → 2 ^ 64 + i ≡ 2 ^ 64 + j → i ≡ j
-same_slot i j same = omega (arith, same)
-
--- a port of a plan stands under its number
-number_in : (p : Setting) (port : ℕ) (qs : List PlanPort) → AreAsPlanned qs (map p.port (map (λ q. q.number) qs))
-    → has_number port (map (λ q. q.number) qs) ≡ true → (p.port port).number ≡ port
-number_in p port [] like has = absurd (true≢false (sym has))
-number_in p port (q ∷ qs) like has = by_case (q.number == port) refl (number_in p port qs like.1)
-  where
-    by_case : (b : Bool) → (q.number == port) ≡ b → (has_number port (map (λ r. r.number) qs) ≡ true → (p.port port).number ≡ port)
-        → (p.port port).number ≡ port
-    by_case true same later =
-        let at : q.number ≡ port = eqb-true q.number port same in subst (λ k. (p.port k).number ≡ k) at like.0.number
-    by_case false other later = later (rw other at has)
+use Rattle.iox_wire_stands.proofs.OpenedDesks.{all_from, desk_there, empty_record, held_first, no_count, none_counted, none_on, none_recorded, number_in, same_slot, ways_recorded}
 
 -- ---- the wire
 

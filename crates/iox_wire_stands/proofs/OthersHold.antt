@@ -1,6 +1,6 @@
 -- Where one slot of a node's port holds another message, all is so of the other nodes that was so.
-use Rattle.std.specs.Prelude.{◌⊎◌, ◌&&◌}
-use Rattle.std.proofs.Common.{◌≡◌, ℕ, Bool, true, false, ◌==◌, None, refl, ap, sym, subst, ◌∙◌, inl, inr, eq-eqb, true≢false}
+use Rattle.std.specs.Prelude.{◌⊎◌}
+use Rattle.std.proofs.Common.{◌≡◌, ℕ, true, false, ◌==◌, None, refl, ap, sym, subst, ◌∙◌, inl, inr, eq-eqb, true≢false}
 use Rattle.iox_model.specs.declared.way.Way.{Way}
 use Rattle.iox_model.specs.Joins.{not_living}
 use Rattle.iox_model.specs.Maps.{has_number}

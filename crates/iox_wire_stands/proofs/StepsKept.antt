@@ -1,6 +1,6 @@
 -- An access in the midst of a call: the words, all nodes and the machine stand again.
 use Rattle.std.specs.Prelude.{◌⊎◌, length}
-use Rattle.std.proofs.Common.{◌≡◌, ℕ, ◌+◌, Bool, true, false, if◌then◌else◌, ◌==◌, List, Option, Some, None, refl, ap, sym, subst, ◌∙◌, inl, inr, eq-eqb, eqb-true, true≢false}
+use Rattle.std.proofs.Common.{◌≡◌, ℕ, ◌+◌, Bool, true, false, if◌then◌else◌, ◌==◌, List, Option, Some, None, refl, ap, sym, subst, ◌∙◌, inl, inr, eqb-true}
 use Rattle.iox_model.specs.declared.way.Way.{Way}
 use Rattle.iox_model.specs.Joins.{not_living}
 use Rattle.iox_model.specs.Maps.{has_number, or_else, put_at}
@@ -20,10 +20,8 @@ use Rattle.iox_wire_words.specs.Fits.{WireContents, contents_after}
 use Rattle.iox_wire_words.specs.Laws.{IsMade}
 use Rattle.iox_wire_words.specs.Programs.{program_access}
 use Rattle.iox_wire_moments.specs.MomentsOf.{Pools, get_back_moment}
-use Rattle.iox_wire_locals.specs.declared.local.Ending.{Ending}
-use Rattle.iox_wire_locals.specs.declared.local.Ending.TheVariants as endings
 use Rattle.iox_wire_locals.specs.declared.local.Local.{Local}
-use Rattle.iox_wire_locals.specs.declared.local.Local.TheVariants.{Ends, LendEmpties, ReceiveAsks, ReceiveLoads, ReceiveReturns, ReleaseExchanges, ReleaseLooks, ReleaseReturns}
+use Rattle.iox_wire_locals.specs.declared.local.Local.TheVariants.{LendEmpties, ReleaseExchanges, ReleaseLooks, ReleaseReturns}
 use Rattle.iox_wire_locals.specs.declared.seat.Seat.{Seat}
 use Rattle.iox_wire_locals.specs.declared.table.Entry.{Entry}
 use Rattle.iox_wire_locals.specs.declared.table.NewLoan.{NewLoan}
@@ -43,18 +41,15 @@ use Rattle.iox_wire_laws.specs.WireHolding.Aside.{shown, shown_at}
 use Rattle.iox_wire_laws.specs.WireHolding.FarSlots.{QueuesHaveSlots}
 use Rattle.iox_wire_laws.specs.WireHolding.HeldSteps.{FreeSlotsAreUnnamed}
 use Rattle.iox_wire_laws.specs.WireHolding.Holding.{held_after, held_from, held_with}
-use Rattle.iox_wire_laws.specs.WireHolding.Named.{is_slot_on, place_names}
-use Rattle.iox_wire_laws.specs.WireHolding.SlotsKnown.{IsPortOfSeat}
 use Rattle.iox_wire_laws.proofs.WireHolding.FreeSlots.{free_slots_are_nobodys}
 use Rattle.iox_wire_laws.proofs.WireHolding.HeldSteps.{steps_show_what_is_held}
-use Rattle.iox_wire_laws.proofs.WireHolding.HoldingLaws.{one_slot_changes}
 use Rattle.iox_wire_stands.specs.Following.{CallMessage, Dropped, Follows, IsLending, IsReturning, Leaving, LeavesNothing, NoMessage, Sent, Taken, Unchanged, desk_change, drops, keeps, lets_go, message_at, picks_slot, popped_back, puts_aside, sends_loan, takes}
 use Rattle.iox_wire_stands.specs.NamesLaws.{ReturnsNothing}
 use Rattle.iox_wire_stands.specs.NodeLaws.{IsTold}
 use Rattle.iox_wire_stands.specs.Nodes.{NodeStands}
 use Rattle.iox_wire_stands.specs.Runs.{Run, history}
 use Rattle.iox_wire_stands.specs.Stands.{AreNumbered, OwnersAre, Player, Stands, seats_of, word_of}
-use Rattle.iox_wire_stands.specs.StepLaws.{RunGoesOn, StepsKeep, TakenStays}
+use Rattle.iox_wire_stands.specs.StepLaws.{RunGoesOn, StepsKeep}
 use Rattle.iox_wire_stands.proofs.Follows.{accesses_follow}
 use Rattle.iox_wire_stands.proofs.NodesFollow.{accesses_keep_nodes, free_pools, limits}
 use Rattle.iox_wire_stands.proofs.OthersHold.{OneSlot, others_hold}

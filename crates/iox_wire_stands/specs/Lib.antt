@@ -13,3 +13,4 @@ pub mod SendsLaws
 pub mod NodeLaws
 pub mod QueuesLaws
 pub mod StepLaws
+pub mod BeginLaws

@@ -9,6 +9,7 @@ ghost use Rattle.iox_wire_stands.specs.SendsLaws.{SlotsAreFoundInPools};
 ghost use Rattle.iox_wire_stands.specs.NodeLaws.{AccessesKeepNodes};
 ghost use Rattle.iox_wire_stands.specs.QueuesLaws.{AccessesKeepQueues};
 ghost use Rattle.iox_wire_stands.specs.StepLaws.{OtherSlotsMayChange, StepsKeep};
+ghost use Rattle.iox_wire_stands.specs.BeginLaws.{BeginsKeep, BeginsKeepNodes};
 ghost use Rattle.iox_wire_stands.specs.Openings.{AWireOpens};
 ghost use Rattle.iox_wire_stands.specs.Others.{DeathsKeep, OthersLeaveNodes};
 
@@ -27,7 +28,7 @@ pub fn deaths_keep()
     ensures { DeathsKeep }
 {}
 
-/// Each access goes on in one of five ways.
+/// Each access goes on in one of seven ways.
 pub fn accesses_follow()
     ensures { AccessesFollow }
 {}
@@ -70,4 +71,14 @@ pub fn other_slots_may_change()
 /// An access in the midst of a call leads from what stands to what stands.
 pub fn steps_keep()
     ensures { StepsKeep }
+{}
+
+/// What is so of a node at rest is so of it at the first place of a call.
+pub fn begins_keep_nodes()
+    ensures { BeginsKeepNodes }
+{}
+
+/// The begin of a call that is not refused leads from what stands to what stands.
+pub fn begins_keep()
+    ensures { BeginsKeep }
 {}
