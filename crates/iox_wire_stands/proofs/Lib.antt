@@ -11,6 +11,7 @@ pub mod MomentsFollow
 pub mod SlotsFollow
 pub mod NamesFollow
 pub mod SendsFollow
+pub mod Fresh
 pub mod NodesFollow
 pub mod QueuesFollow
 pub mod Starts

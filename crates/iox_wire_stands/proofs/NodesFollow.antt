@@ -58,6 +58,7 @@ use Rattle.iox_wire_stands.specs.NodeLaws.{AccessesKeepNodes, IsTold}
 use Rattle.iox_wire_stands.specs.Nodes.{LendsAtHome, NodeStands}
 use Rattle.iox_wire_stands.specs.Stands.{AreNumbered, OwnersAre}
 use Rattle.iox_wire_stands.proofs.Follows.{accesses_follow}
+use Rattle.iox_wire_stands.proofs.Fresh.{delivers_fresh}
 use Rattle.iox_wire_stands.proofs.NamesFollow.{accesses_keep_names}
 use Rattle.iox_wire_stands.proofs.SendsFollow.{slots_are_found_in_pools}
 use Rattle.iox_wire_stands.proofs.SlotsFollow.{accesses_keep_slots, desk_of_record, none_taken}
@@ -267,7 +268,8 @@ module _ (p : Setting) (held : Pools) (word word' : ℕ → ℕ) (c : WireConten
       name_slots = names.1;
       in_pools = λ e has. in_pool e (stands.in_pools e (back e has));
       lends = lends (accesses_follow p (accessed x) seen);
-      slots = accesses_keep_slots p held s x seen stands.slots stands.at_desks stands.uses finds told.relies told.fresh told.next;
+      slots = accesses_keep_slots p held s x seen stands.slots stands.at_desks stands.uses finds told.relies
+          (delivers_fresh p held word c seats w n shows living seen place.knows told.relies) told.next;
       at_desks = λ port some.
           let own = stands.at_desks port (same_there (find (λ d. d.port == port) x.desks) (find (λ d. d.port == port) y.desks) (desks port) some) in
           (own.0, own.1 ∙ sym part.node);

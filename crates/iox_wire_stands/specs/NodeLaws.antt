@@ -31,7 +31,7 @@ use Rattle.iox_wire_stands.specs.Nodes.{NodeStands}
 use Rattle.iox_wire_stands.specs.Stands.{AreNumbered, OwnersAre}
 
 -- What is asked of an access beside: that words and pools told it what is so, and that it takes
--- nobody's serial, message or lane.
+-- nobody's serial or lane.
 pub record IsTold (p : Setting) (held : Pools) (s : State) (x : Seat) (seen : â„•) : Type 0 where
   -- the words of messages and the pool told it what its place relies on
   pub relies : ReliesOn p (accessed x) s held x.local seen
@@ -39,8 +39,6 @@ pub record IsTold (p : Setting) (held : Pools) (s : State) (x : Seat) (seen : â„
   pub words : WordsTell p x.local seen
   -- the header of a request tells its lane
   pub lane : TellsLane (held_after p x seen held) (advance p (accessed x) x.local seen).local
-  -- what it delivers is not outstanding there
-  pub fresh : IsFresh held s (desk_change p x.local seen)
   -- a loan that takes a slot has the next serial
   pub next : TakesNext p held s (message_at x.local) (advance p (accessed x) x.local seen).local
   -- a send opens no state on the lane of another pending response
