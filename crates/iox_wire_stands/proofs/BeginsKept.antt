@@ -27,6 +27,7 @@ use Rattle.iox_wire_locals.specs.ReceiveCourses.{states_for}
 use Rattle.iox_wire_locals.specs.Tables.{Setting, entry_at, way_in}
 use Rattle.iox_wire_locals.proofs.KnowingLemmas.{forgot_known}
 use Rattle.iox_wire_laws.specs.WireKeeping.OwnParts.{KeepsOwn}
+use Rattle.iox_wire_laws.specs.WireKeeping.Readiness.{IsReady}
 use Rattle.iox_wire_laws.specs.WireKeeping.UsedSlots.{CallHolds, slots_in_call}
 use Rattle.iox_wire_laws.proofs.WireKeeping.CountsKept.{begins_keep_own}
 use Rattle.iox_wire_laws.specs.WireOwners.FirmOwners.{OwnsFirmly}
@@ -138,7 +139,7 @@ no_slots port (SendEnds d last count) none = sent_slots port d.loan d.copied non
 no_slots port local none = refl
 
 module _ (p : Setting) (held : Pools) (w : World) (x : Seat) (call : WireCall) (fits : LayoutFits p w.state.fixed) (stands : NodeStands p held w.state x)
-    (may : MayBegin p held w x call) where
+    (ready : IsReady p held w x) (may : MayBegin p held w.state x call) where
   abbrev s : State
   s = w.state
 
@@ -179,7 +180,7 @@ module _ (p : Setting) (held : Pools) (w : World) (x : Seat) (call : WireCall) (
     λ is.
         subst (λ n. forgot_port s.fixed n e.sender ≡ true) (sym part.node)
         (subst (λ q. forgot_port s.fixed x.node q ≡ true) ((stands.names.entries e has.0).received is).0
-        (forgot_known p x s.fixed held may.ready.counts.knows (way_in e).sender ∙ has.1 is)),
+        (forgot_known p x s.fixed held ready.counts.knows (way_in e).sender ∙ has.1 is)),
   )
   named (Lent o slot) has = absurd has
   named (Leaving e) has = absurd has
@@ -266,7 +267,7 @@ module _ (p : Setting) (held : Pools) (w : World) (x : Seat) (call : WireCall) (
 
   kept : First → NodeStands p new s y
   kept at = record {
-    owns = subst (λ n. OwnsFirmly p n s.fixed s.request_state y.local) (sym part.node) (calls_begin_firmly p held w x call fits may.ready may.owns);
+    owns = subst (λ n. OwnsFirmly p n s.fixed s.request_state y.local) (sym part.node) (calls_begin_firmly p held w x call fits ready may.owns);
     names = record { entries = λ e there. stands.names.entries e (back e there); place = at.named.0 };
     name_slots = record { entries = λ e there. far e (stands.name_slots.entries e (back e there)); place = at.named.1 };
     in_pools = λ e there. inl (in_pool e (back e there));
@@ -291,13 +292,13 @@ module _ (p : Setting) (held : Pools) (w : World) (x : Seat) (call : WireCall) (
   }
 
 pub begins_keep_nodes : BeginsKeepNodes
-begins_keep_nodes p held w x call fits stands may =
-    kept p held w x call fits stands may (first p held w x call fits stands may (starts p w.state.request_state x call))
+begins_keep_nodes p held w x call fits stands ready may =
+    kept p held w x call fits stands ready may (first p held w x call fits stands ready may (starts p w.state.request_state x call))
 
 pub begins_change_one_slot : (p : Setting) (held : Pools) (w : World) (x : Seat) (call : WireCall) → LayoutFits p w.state.fixed → NodeStands p held w.state x
-    → MayBegin p held w x call → (held_at p held (begin p x call).local ≡ held) ⊎ OneSlot p held (held_at p held (begin p x call).local) x
-begins_change_one_slot p held w x call fits stands may =
-    one_slot p held w x call fits stands may (starts p w.state.request_state x call)
+    → IsReady p held w x → MayBegin p held w.state x call → (held_at p held (begin p x call).local ≡ held) ⊎ OneSlot p held (held_at p held (begin p x call).local) x
+begins_change_one_slot p held w x call fits stands ready may =
+    one_slot p held w x call fits stands ready may (starts p w.state.request_state x call)
 
 -- and it leaves nothing
 leaves_none : (p : Setting) (x : Seat) (message : CallMessage) → Starting p x message → LeavesNothing message

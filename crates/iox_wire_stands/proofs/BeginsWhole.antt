@@ -14,7 +14,7 @@ use Rattle.iox_wire_moments.specs.MomentsOf.{Pools}
 use Rattle.iox_wire_locals.specs.declared.seat.Seat.{Seat}
 use Rattle.iox_wire_locals.specs.Begins.{begin}
 use Rattle.iox_wire_locals.specs.Tables.{Setting}
-use Rattle.iox_wire_laws.specs.WireKeeping.Readiness.{choice_for}
+use Rattle.iox_wire_laws.specs.WireKeeping.Readiness.{IsReady, choice_for}
 use Rattle.iox_wire_laws.specs.WireKeeping.Shows.{ShowsWorld}
 use Rattle.iox_wire_laws.specs.WireHolding.Aside.{shown}
 use Rattle.iox_wire_laws.specs.WireHolding.HeldSteps.{FreeSlotsAreUnnamed}
@@ -25,16 +25,17 @@ use Rattle.iox_wire_stands.specs.BeginLaws.{BeginsKeep, MayBegin}
 use Rattle.iox_wire_stands.specs.Following.{LeavesNothing, message_at}
 use Rattle.iox_wire_stands.specs.Nodes.{NodeStands}
 use Rattle.iox_wire_stands.specs.Runs.{Asked, GoesOnBy, Run, Said, history, said_in}
-use Rattle.iox_wire_stands.specs.Stands.{Player, Stands, seats_of, word_of}
+use Rattle.iox_wire_stands.specs.Stands.{AreNumbered, Player, Stands, seats_of, word_of}
 use Rattle.iox_wire_stands.proofs.BeginsKept.{begins_change_one_slot, begins_keep_nodes, begins_leave_nothing}
 use Rattle.iox_wire_stands.proofs.OthersHold.{others_hold}
+use Rattle.iox_wire_stands.proofs.Readiness.{nodes_are_ready}
 use Rattle.iox_wire_stands.proofs.Runs.{history_on, last_empty, run_on}
 use Rattle.iox_wire_stands.proofs.StepsKept.{Whole, shown_same}
 
 -- ---- the whole wire
 
 module _ (p : Setting) (held : Pools) (word : ℕ → ℕ) (c : WireContents) (seats : ℕ → Seat) (w : World) (n : ℕ) (call : WireCall)
-    (whole : Whole p held word c seats w) (may : MayBegin p held w (seats n) call) (free : begin_refusal w n call ≡ None) where
+    (numbered : AreNumbered p) (whole : Whole p held word c seats w) (may : MayBegin p held w.state (seats n) call) (free : begin_refusal w n call ≡ None) where
   abbrev x : Seat
   x = seats n
 
@@ -53,17 +54,20 @@ module _ (p : Setting) (held : Pools) (word : ℕ → ℕ) (c : WireContents) (s
   mine : NodeStands p held w.state x
   mine = whole.nodes n living
 
+  ready : IsReady p held w x
+  ready = nodes_are_ready p held word c seats w n call whole.shows living whole.owners numbered mine may
+
   unnamed : FreeSlotsAreUnnamed p c seats w.state x
   unnamed =
       free_slots_are_nobodys p held word c seats w n whole.shows whole.layout (λ k lives. (whole.nodes k lives).names) living mine.slots
 
   shows : IsBeat w (Begins n call (choice_for p x call)) u × ShowsWorld p new word c (put_at seats n y) u
-  shows = begins_show_what_is_held p held word c seats w n call whole.shows may.ready unnamed free
+  shows = begins_show_what_is_held p held word c seats w n call whole.shows ready unnamed free
 
   node : (k : ℕ) (b : Bool) → (k == n) ≡ b → not_living w.state k ≡ None → NodeStands p new w.state (if b then y else seats k)
-  node k true is lives = begins_keep_nodes p held w x call whole.layout mine may
+  node k true is lives = begins_keep_nodes p held w x call whole.layout mine ready may
   node k false is lives =
-      others_hold p held new word c seats w n whole.shows mine.slots.desks unnamed (begins_change_one_slot p held w x call whole.layout mine may) k is lives
+      others_hold p held new word c seats w n whole.shows mine.slots.desks unnamed (begins_change_one_slot p held w x call whole.layout mine ready may) k is lives
       w.state (whole.nodes k lives)
 
   begins : IsBeat w (Begins n call (choice_for p x call)) u × Whole p new word c (put_at seats n y) u
@@ -82,7 +86,7 @@ module _ (p : Setting) (held : Pools) (word : ℕ → ℕ) (c : WireContents) (s
 -- ---- the law
 
 module _ (p : Setting) (words : List ℕ) (players : ℕ → Player) (r : Run) (n : ℕ) (call : WireCall) (stands : Stands p words players r)
-    (may : MayBegin p stands.held r.last (players n).seat call) (free : begin_refusal r.last n call ≡ None) where
+    (may : MayBegin p stands.held r.last.state (players n).seat call) (free : begin_refusal r.last n call ≡ None) where
   abbrev seats : ℕ → Seat
   seats = seats_of p players
 
@@ -117,8 +121,8 @@ module _ (p : Setting) (words : List ℕ) (players : ℕ → Player) (r : Run) (
   result : Result (players n).seat
   result =
       subst Result here
-      (begins p stands.held (word_of words) stands.contents seats r.last n call whole
-      (subst (λ q. MayBegin p stands.held r.last q call) (sym here) may) free)
+      (begins p stands.held (word_of words) stands.contents seats r.last n call stands.numbers whole
+      (subst (λ q. MayBegin p stands.held r.last.state q call) (sym here) may) free)
 
   abbrev player : Player
   player = record { seat = z; said = (players n).said ++ Asked call ∷ [] }

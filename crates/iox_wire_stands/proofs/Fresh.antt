@@ -1,5 +1,5 @@
 -- What a send delivers is not outstanding on that way: it delivers its own message, there once.
-use Rattle.std.proofs.Common.{◌≡◌, ℕ, false, ◌∷◌, Some, None, refl, ap, subst, sym, ◌∙◌}
+use Rattle.std.proofs.Common.{◌≡◌, ℕ, false, ◌∷◌, None, refl, ap, subst, sym, ◌∙◌}
 use Rattle.iox_model.specs.declared.way.Way.{Way}
 use Rattle.iox_model.specs.Joins.{not_living}
 use Rattle.iox_model.specs.Weaves.{World}

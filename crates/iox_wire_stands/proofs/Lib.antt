@@ -18,5 +18,6 @@ pub mod Starts
 pub mod OtherSlots
 pub mod OthersHold
 pub mod BeginsKept
+pub mod Readiness
 pub mod StepsKept
 pub mod BeginsWhole

@@ -24,8 +24,8 @@ use Rattle.iox_wire_laws.specs.WireRegions.OwnedBegins.{LayoutFits}
 use Rattle.iox_wire_laws.specs.WireHolding.FarSlots.{QueuesHaveSlots}
 use Rattle.iox_wire_laws.specs.WireHolding.Holding.{held_after}
 use Rattle.iox_wire_laws.specs.WireHolding.SlotsKnown.{HasEntry}
-use Rattle.iox_wire_stands.specs.Following.{desk_change, message_at}
-use Rattle.iox_wire_stands.specs.FollowingLaws.{IsFresh, TakesNext}
+use Rattle.iox_wire_stands.specs.Following.{message_at}
+use Rattle.iox_wire_stands.specs.FollowingLaws.{TakesNext}
 use Rattle.iox_wire_stands.specs.NamesLaws.{ReturnsNothing}
 use Rattle.iox_wire_stands.specs.Nodes.{NodeStands}
 use Rattle.iox_wire_stands.specs.Stands.{AreNumbered, OwnersAre}

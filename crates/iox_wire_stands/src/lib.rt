@@ -9,7 +9,7 @@ ghost use Rattle.iox_wire_stands.specs.SendsLaws.{SlotsAreFoundInPools};
 ghost use Rattle.iox_wire_stands.specs.NodeLaws.{AccessesKeepNodes};
 ghost use Rattle.iox_wire_stands.specs.QueuesLaws.{AccessesKeepQueues};
 ghost use Rattle.iox_wire_stands.specs.StepLaws.{OtherSlotsMayChange, StepsKeep};
-ghost use Rattle.iox_wire_stands.specs.BeginLaws.{BeginsKeep, BeginsKeepNodes};
+ghost use Rattle.iox_wire_stands.specs.BeginLaws.{BeginsKeep, BeginsKeepNodes, NodesAreReady};
 ghost use Rattle.iox_wire_stands.specs.Openings.{AWireOpens};
 ghost use Rattle.iox_wire_stands.specs.Others.{DeathsKeep, OthersLeaveNodes};
 
@@ -73,7 +73,12 @@ pub fn steps_keep()
     ensures { StepsKeep }
 {}
 
-/// What is so of a node at rest is so of it at the first place of a call.
+/// A standing node at rest is ready for a call.
+pub fn nodes_are_ready()
+    ensures { NodesAreReady }
+{}
+
+/// What is so of a ready node is so of it at the first place of a call.
 pub fn begins_keep_nodes()
     ensures { BeginsKeepNodes }
 {}
