@@ -7,3 +7,4 @@ pub mod BeginLemmas
 pub mod DeskLemmas
 pub mod RecordLemmas
 pub mod LendLemmas
+pub mod CopyLemmas

@@ -3,6 +3,7 @@ ghost use Rattle.std.specs.Prelude.{◌≡◌};
 
 mod ask;
 mod close;
+mod copy;
 mod hint;
 mod keep;
 mod lend;
@@ -26,6 +27,7 @@ use iox_model::way::Way;
 use iox_steps::{Access, QueueKind, Site};
 use iox_wire_locals::{CallRefusal, Entry};
 pub use release::is_named;
+pub use send::pending_entry;
 use std::alloc::{AllocError, Global};
 use std::marker::Model;
 
