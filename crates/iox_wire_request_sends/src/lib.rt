@@ -1,0 +1,15 @@
+//! The send of a request by a client of a wire, as single accesses: it gets back what it can, looks
+//! who is full, opens the request states, and delivers to each server in turn.
+#![tactic(auto)]
+
+mod at;
+mod requesting;
+mod target;
+mod targets;
+mod uses;
+mod worked;
+
+pub use at::RequestReply;
+pub use requesting::Requesting;
+pub use target::{RequestTerms, Target};
+pub use worked::worked_request_sends_take_nine;

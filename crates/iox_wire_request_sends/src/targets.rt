@@ -1,0 +1,121 @@
+//! The servers to which a request goes, which a send visits in several rounds.
+ghost use Rattle.std.specs.Prelude.{◌≡◌, ◌≤◌, ◌∷◌, length};
+ghost use Rattle.iox_model.specs.Maps.{has_number};
+
+use crate::target::Target;
+use std::alloc::{AllocError, Global};
+use std::marker::Model;
+
+/// The servers to which a request goes, in their order, and those left in a round. Only `fill`
+/// takes memory.
+#[derive(Drop)]
+pub struct Targets {
+    targets: Vec<Target>,
+    // how many were visited in this round
+    turn: usize,
+}
+
+impl Model for Targets {
+    ghost use Rattle.std.specs.Prelude.{◌≤◌, drop, length};
+    ghost use Rattle.iox_wire_request_sends.specs.Targets.{Round};
+
+    ghost Value = { Round };
+
+    ghost view = { λ t. record { all = t.targets.items; left = drop t.turn t.targets.items } };
+
+    ghost invariant = { λ t. t.turn ≤ length t.targets.items };
+}
+
+impl Targets {
+    ghost use Rattle.std.specs.Prelude.{◌≡◌, ◌≤◌, ◌<◌, ◌∷◌, [], IfSome, None, OnErr, OnOk, length};
+    ghost use Rattle.iox_wire_locals.specs.Tables.{Setting};
+    ghost use Rattle.iox_wire_locals.specs.declared.table.Entry.{Entry};
+    ghost use Rattle.iox_wire_request_sends.specs.declared.target.RequestTerms.{RequestTerms};
+    ghost use Rattle.iox_wire_request_sends.specs.Targets.{AreTargets, AreWithin, IsTarget};
+    ghost use Rattle.iox_wire_request_sends.specs.Targets.{IsWithin, Round, with_room};
+
+    /// There are none.
+    pub fn new(alloc: Global) -> Targets
+        ensures { result ≡ record { all = []; left = [] } }
+    {
+        Targets {
+            targets: Vec::new(alloc),
+            turn: 0,
+        }
+    }
+
+    /// Those are the servers now, and all are left.
+    pub fn fill(&mut self, targets: &[Target]) -> Result<(), AllocError>
+        ensures filled { OnOk result (self.new
+            ≡ record { all = targets.now; left = targets.now }) }
+        ensures unchanged { OnErr result (self.new ≡ self.old) }
+    {
+        if self.targets.capacity() < targets.len() {
+            self.targets.reserve(targets.len())?;
+        }
+        self.targets.clear();
+        self.turn = 0;
+        if self.targets.extend_from_slice(targets).is_err() {
+            unreachable!();
+        }
+        Ok(())
+    }
+
+    /// All are left again.
+    #[inline]
+    pub fn restart(&mut self)
+        ensures { self.new ≡ record { all = self.old.all; left = self.old.all } }
+    {
+        self.turn = 0;
+    }
+
+    /// Takes the next of those left.
+    #[inline]
+    pub fn next(&mut self) -> Option<Target>
+        ensures all { self.new.all ≡ self.old.all }
+        ensures taken { IfSome result (λ target. self.old.left ≡ target ∷ self.new.left) }
+        ensures none { result ≡ None → self.old.left ≡ [] }
+        ensures stays { result ≡ None → self.new.left ≡ [] }
+    {
+        if self.turn == self.targets.len() {
+            return None;
+        }
+        let target = self.targets[self.turn];
+        self.turn += 1;
+        Some(target)
+    }
+
+    /// Takes the next of those left that is not among the full ones.
+    #[inline]
+    pub fn next_with_room(&mut self, full: &[u64]) -> Option<Target>
+        ensures all { self.new.all ≡ self.old.all }
+        ensures taken { IfSome result (λ target. with_room full.now self.old.left
+            ≡ target ∷ with_room full.now self.new.left) }
+        ensures none { result ≡ None → with_room full.now self.old.left ≡ [] }
+        ensures fewer { IfSome result (λ target. length self.new.left < length self.old.left) }
+        ensures shorter { length self.new.left ≤ length self.old.left }
+        ensures rest_within { (t : RequestTerms) → AreWithin t self.old.left
+            → AreWithin t self.new.left }
+        ensures within { (t : RequestTerms) → AreWithin t self.old.left
+            → IfSome result (IsWithin t) }
+        ensures rest { (p : Setting) → (t : RequestTerms) → (loan : Entry)
+            → AreTargets p t loan self.old.left → AreTargets p t loan self.new.left }
+        ensures there { (p : Setting) → (t : RequestTerms) → (loan : Entry)
+            → AreTargets p t loan self.old.left → IfSome result (IsTarget p t loan) }
+    {
+        while let Some(target) = self.next() {
+            if !is_full(full, target.server) {
+                return Some(target);
+            }
+        }
+        None
+    }
+}
+
+/// Whether a server was seen full.
+#[inline]
+fn is_full(full: &[u64], server: u64) -> bool
+    ensures { result ≡ has_number server full.now }
+{
+    full.contains(&server)
+}
