@@ -1,5 +1,5 @@
 -- Where the send of a request is led as it visits the next server.
-use Rattle.std.proofs.Common.{◌≡◌, ℕ, Bool, true, List, ◌∷◌, Option, None, refl, ap, sym, subst, ◌∙◌}
+use Rattle.std.proofs.Common.{◌≡◌, ℕ, List, ◌∷◌, Option, None, refl, ap, sym, subst, ◌∙◌}
 use Rattle.iox_model.specs.declared.way.Way.{Way}
 use Rattle.iox_steps.specs.declared.pop.Pop.TheVariants as pop
 use Rattle.iox_steps.specs.declared.push.FullLook.TheVariants as full_look
@@ -22,7 +22,6 @@ use Rattle.iox_wire_seats.specs.Seats.{Placed}
 use Rattle.iox_wire_loans.proofs.LoanLemmas.{count_kept}
 use Rattle.iox_wire_request_sends.specs.declared.at.RequestReply.{RequestReply}
 use Rattle.iox_wire_request_sends.specs.declared.target.RequestTerms.{RequestTerms}
-use Rattle.iox_wire_request_sends.specs.declared.target.Target.{Target}
 use Rattle.iox_wire_request_sends.specs.Aims.{AreAimed, IsSameSend, IsToldOf, Knows, LeadsTo}
 use Rattle.iox_wire_request_sends.specs.RequestDispatches.{RequestDispatch}
 use Rattle.iox_wire_request_sends.specs.Targets.{AreTargets}

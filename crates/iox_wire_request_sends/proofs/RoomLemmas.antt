@@ -1,6 +1,6 @@
 -- The servers that were not seen full.
 use Rattle.std.proofs.Common.{◌≡◌, ◌<◌, ℕ, Bool, true, false, not, cond, List, [], ◌∷◌, ◌++◌, length, map, ◌==◌, refl, ap, ap₂, sym, ◌∙◌, arith}
-use Rattle.std.specs.Prelude.{◌&&◌, ◌||◌, filter, reverse}
+use Rattle.std.specs.Prelude.{◌&&◌, ◌||◌, reverse}
 use Rattle.std.specs.List.{list_any}
 use Rattle.std.proofs.lemmas.Bool.{eq-eqb, eqb-true}
 use Rattle.std.proofs.lemmas.List.{length-reverse, reverse-append}
@@ -9,7 +9,7 @@ use Rattle.iox_model.specs.declared.way.Way.{Way}
 use Rattle.iox_model.specs.Maps.{has_number, has_way, not_in, same_way}
 use Rattle.iox_model.specs.Messages.{request_way}
 use Rattle.iox_wire_request_sends.specs.declared.target.Target.{Target}
-use Rattle.iox_wire_request_sends.specs.Targets.{fails_at_full, full_ways, servers_of, ways_to, with_room}
+use Rattle.iox_wire_request_sends.specs.Targets.{fails_at_full, full_ways, ways_to, with_room}
 
 -- ---- whether a way is among the full ones
 

@@ -1,5 +1,5 @@
 -- How the send of a request goes on from an access that is the last of its part.
-use Rattle.std.proofs.Common.{◌≡◌, ◌+◌, ℕ, Bool, true, false, List, [], ◌∷◌, Option, None, Some, refl, ap, ap₂, sym, ◌∙◌, true≢false}
+use Rattle.std.proofs.Common.{◌≡◌, ◌+◌, ℕ, Bool, true, false, List, ◌∷◌, Option, None, Some, refl, ap, ap₂, sym, ◌∙◌, true≢false}
 use Rattle.std.specs.Prelude.{if◌then◌else◌, option_map}
 use Rattle.iox_model.specs.declared.way.Way.{Way}
 use Rattle.iox_model.specs.Requests.{may_evict}
@@ -18,7 +18,7 @@ use Rattle.iox_wire_locals.specs.declared.local.Local.TheVariants.{SendEmpties, 
 use Rattle.iox_wire_locals.specs.declared.seat.Seat.{Seat}
 use Rattle.iox_wire_locals.specs.Courses.{delivering, emptying, looking, opening, placed}
 use Rattle.iox_wire_locals.specs.Desks.{at_desk, delivers, gets_back}
-use Rattle.iox_wire_locals.specs.Findings.{send_delivered, send_emptied, send_evicted, send_got_back, send_looked, send_pushed}
+use Rattle.iox_wire_locals.specs.Findings.{send_emptied, send_evicted, send_got_back, send_looked, send_pushed}
 use Rattle.iox_wire_locals.specs.Known.{sending}
 use Rattle.iox_wire_locals.specs.Steps.{accessed, advance, next, pop_place, push_place, tells}
 use Rattle.iox_wire_locals.specs.Tables.{Setting}

@@ -1,6 +1,6 @@
 -- What the send of a request is told of the wire, what its accesses find, and what a step of it
 -- does.
-use Rattle.std.specs.Prelude.{◌≡◌, ◌+◌, ◌<◌, ◌≤◌, ◌^◌, ℕ, Bool, true, false, List, length, Option, option_map}
+use Rattle.std.specs.Prelude.{◌≡◌, ◌+◌, ◌<◌, ◌≤◌, ℕ, Bool, true, false, List, Option, option_map}
 use Rattle.std.specs.Prelude.{is_none}
 use Rattle.iox_model.specs.Commands.{Reply}
 use Rattle.iox_model.specs.Messages.{request_way}
@@ -31,7 +31,6 @@ use Rattle.iox_wire_request_sends.specs.declared.at.RequestAt.{RequestAt}
 use Rattle.iox_wire_request_sends.specs.declared.at.RequestAt.TheVariants as at
 use Rattle.iox_wire_request_sends.specs.declared.at.RequestReply.{RequestReply}
 use Rattle.iox_wire_request_sends.specs.declared.target.RequestTerms.{RequestTerms}
-use Rattle.iox_wire_request_sends.specs.declared.target.Target.{Target}
 use Rattle.iox_wire_request_sends.specs.RequestDispatches.{RequestDispatch, reply_in}
 use Rattle.iox_wire_request_sends.specs.Targets.{AreTargets}
 
@@ -158,13 +157,16 @@ abbrev pub answered : Setting → Seat → Option Reply
 answered p y = option_map (reply_of p y) (ending_at y.local)
 
 -- The node is there now, and answers this.
-pub record LeadsTo (p : Setting) (there : Seat) (y : Placed) (s : RequestDispatch) (reply : Option RequestReply) : Type 0 where
+pub record LeadsTo
+    (p : Setting) (there : Seat) (y : Placed) (s : RequestDispatch)
+    (reply : Option RequestReply) : Type 0 where
   pub next : placed y.seat s.local ≡ after p there
   pub over : answered p there ≡ option_map reply_in reply
   pub aimed : IsAimed p y.seat s
 
 -- The seat is as it was unless the send is over, and that is told.
-pub record LeavesSeat (x y : Placed) (s : RequestDispatch) (reply : Option RequestReply) : Type 0 where
+pub record LeavesSeat
+    (x y : Placed) (s : RequestDispatch) (reply : Option RequestReply) : Type 0 where
   pub busy : is_busy s.local ≡ is_none reply
   pub accesses : y.seat.accesses ≡ x.seat.accesses
   pub rests : is_busy y.seat.local ≡ false

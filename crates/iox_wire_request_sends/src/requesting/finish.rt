@@ -22,12 +22,15 @@ impl Requesting {
     /// The loan is sent: it is a pending response.
     pub(super) fn finish(&mut self, seat: &mut StoredSeat) -> Option<RequestReply>
         requires rests { is_busy seat.old.seat.local ≡ false }
-        requires made { self.old.copied ≡ true → MayLend seat.old self.old.loan.number self.old.loan.port }
-        ensures seat { seat.new.seat ≡ sends_entry seat.old.seat self.old.loan self.old.copied self.old.count }
+        requires made { self.old.copied ≡ true
+            → MayLend seat.old self.old.loan.number self.old.loan.port }
+        ensures seat { seat.new.seat
+            ≡ sends_entry seat.old.seat self.old.loan self.old.copied self.old.count }
         ensures room { KeepsRoom seat.old seat.new }
         ensures over { self.new.local ≡ Idle }
         ensures same { IsSameSend self.old self.new }
-        ensures reply { result ≡ Some (told_sent self.old.loan self.old.copied self.old.count) }
+        ensures reply { result
+            ≡ Some (told_sent self.old.loan self.old.copied self.old.count) }
     {
         self.at = RequestAt::Rest;
         if self.copied {
@@ -39,11 +42,17 @@ impl Requesting {
     }
 
     /// The loan is given up.
-    pub(super) fn fail(&mut self, seat: &mut StoredSeat, reply: RequestReply) -> Option<RequestReply>
+    pub(super) fn fail(
+        &mut self,
+        seat: &mut StoredSeat,
+        reply: RequestReply,
+    ) -> Option<RequestReply>
         requires rests { is_busy seat.old.seat.local ≡ false }
-        requires made { self.old.copied ≡ true → MayLend seat.old self.old.loan.number self.old.loan.port }
+        requires made { self.old.copied ≡ true
+            → MayLend seat.old self.old.loan.number self.old.loan.port }
         requires held { MayGiveUp self.old.loan seat.old.seat.desks }
-        ensures seat { seat.new.seat ≡ after_refused_send seat.old.seat self.old.loan self.old.copied }
+        ensures seat { seat.new.seat
+            ≡ after_refused_send seat.old.seat self.old.loan self.old.copied }
         ensures room { KeepsRoom seat.old seat.new }
         ensures over { self.new.local ≡ Idle }
         ensures same { IsSameSend self.old self.new }

@@ -41,9 +41,13 @@ impl Requesting {
     pub(super) fn empty_next(&mut self, seat: &mut StoredSeat) -> Option<RequestReply>
         requires busy { is_busy self.old.local ≡ true }
         requires rests { is_busy seat.old.seat.local ≡ false }
-        requires made { self.old.copied ≡ true → MayLend seat.old self.old.loan.number self.old.loan.port }
+        requires made { self.old.copied ≡ true
+            → MayLend seat.old self.old.loan.number self.old.loan.port }
         requires held { MayGiveUp self.old.loan seat.old.seat.desks }
-        ensures next { (p : Setting) → Knows p seat.old.seat self.old → LeadsTo p (emptying p seat.old.seat (delivery_to self.old.loan self.old.copied self.old.targets) (ways_to self.old.loan.port self.old.left)) seat.new self.new result }
+        ensures next { (p : Setting) → Knows p seat.old.seat self.old
+            → LeadsTo p (emptying p seat.old.seat
+            (delivery_to self.old.loan self.old.copied self.old.targets)
+            (ways_to self.old.loan.port self.old.left)) seat.new self.new result }
         ensures leaves { LeavesSeat seat.old seat.new self.new result }
         ensures same { IsSameSend self.old self.new }
     {
@@ -65,10 +69,15 @@ impl Requesting {
     pub(super) fn look_next(&mut self, seat: &mut StoredSeat) -> Option<RequestReply>
         requires busy { is_busy self.old.local ≡ true }
         requires rests { is_busy seat.old.seat.local ≡ false }
-        requires made { self.old.copied ≡ true → MayLend seat.old self.old.loan.number self.old.loan.port }
+        requires made { self.old.copied ≡ true
+            → MayLend seat.old self.old.loan.number self.old.loan.port }
         requires held { MayGiveUp self.old.loan seat.old.seat.desks }
         requires room { length self.old.full + length self.old.left ≤ length self.old.targets }
-        ensures next { (p : Setting) → Knows p seat.old.seat self.old → LeadsTo p (looking p seat.old.seat (delivery_to self.old.loan self.old.copied self.old.targets) (ways_to self.old.loan.port self.old.left) (full_ways self.old.loan.port self.old.full)) seat.new self.new result }
+        ensures next { (p : Setting) → Knows p seat.old.seat self.old
+            → LeadsTo p (looking p seat.old.seat
+            (delivery_to self.old.loan self.old.copied self.old.targets)
+            (ways_to self.old.loan.port self.old.left)
+            (full_ways self.old.loan.port self.old.full)) seat.new self.new result }
         ensures leaves { LeavesSeat seat.old seat.new self.new result }
         ensures same { IsSameSend self.old self.new }
     {
@@ -91,8 +100,13 @@ impl Requesting {
     pub(super) fn open_next(&mut self, seat: &mut StoredSeat) -> Option<RequestReply>
         requires busy { is_busy self.old.local ≡ true }
         requires rests { is_busy seat.old.seat.local ≡ false }
-        requires made { self.old.copied ≡ true → MayLend seat.old self.old.loan.number self.old.loan.port }
-        ensures next { (p : Setting) → Knows p seat.old.seat self.old → LeadsTo p (opening p seat.old.seat (delivery_to self.old.loan self.old.copied self.old.targets) (states_to self.old.loan.port self.old.loan.lane self.old.left) (full_ways self.old.loan.port self.old.full)) seat.new self.new result }
+        requires made { self.old.copied ≡ true
+            → MayLend seat.old self.old.loan.number self.old.loan.port }
+        ensures next { (p : Setting) → Knows p seat.old.seat self.old
+            → LeadsTo p (opening p seat.old.seat
+            (delivery_to self.old.loan self.old.copied self.old.targets)
+            (states_to self.old.loan.port self.old.loan.lane self.old.left)
+            (full_ways self.old.loan.port self.old.full)) seat.new self.new result }
         ensures leaves { LeavesSeat seat.old seat.new self.new result }
         ensures same { IsSameSend self.old self.new }
     {
@@ -113,9 +127,14 @@ impl Requesting {
     pub(super) fn deliver_next(&mut self, seat: &mut StoredSeat) -> Option<RequestReply>
         requires busy { is_busy self.old.local ≡ true }
         requires rests { is_busy seat.old.seat.local ≡ false }
-        requires made { self.old.copied ≡ true → MayLend seat.old self.old.loan.number self.old.loan.port }
+        requires made { self.old.copied ≡ true
+            → MayLend seat.old self.old.loan.number self.old.loan.port }
         requires count { self.old.count + length self.old.left ≤ length self.old.targets }
-        ensures next { (p : Setting) → Knows p seat.old.seat self.old → LeadsTo p (delivering seat.old.seat (delivery_to self.old.loan self.old.copied self.old.targets) self.old.last (ways_to self.old.loan.port (with_room self.old.full self.old.left)) self.old.count) seat.new self.new result }
+        ensures next { (p : Setting) → Knows p seat.old.seat self.old
+            → LeadsTo p (delivering seat.old.seat
+            (delivery_to self.old.loan self.old.copied self.old.targets) self.old.last
+            (ways_to self.old.loan.port (with_room self.old.full self.old.left)) self.old.count)
+            seat.new self.new result }
         ensures leaves { LeavesSeat seat.old seat.new self.new result }
         ensures same { IsSameSend self.old self.new }
     {
@@ -143,7 +162,9 @@ impl Requesting {
     /// The way of a delivery that is done, if it may have to push out there.
     #[inline]
     pub(super) fn may_evict(&self) -> Option<Way>
-        ensures { result ≡ (if self.now.terms.overflow then Some (request_way self.now.loan.port self.now.target.server) else None) }
+        ensures { result
+            ≡ (if self.now.terms.overflow
+            then Some (request_way self.now.loan.port self.now.target.server) else None) }
     {
         if self.terms.overflow {
             return Some(self.way());
@@ -155,7 +176,10 @@ impl Requesting {
     #[inline]
     pub(super) fn empty(&mut self, target: Target)
         requires { IsWithin self.old.terms target }
-        ensures local { self.new.local ≡ SendEmpties (delivery_to self.old.loan self.old.copied self.old.targets) (request_way self.old.loan.port target.server) (Pops LoadsRead) (ways_to self.old.loan.port self.old.left) }
+        ensures local { self.new.local
+            ≡ SendEmpties (delivery_to self.old.loan self.old.copied self.old.targets)
+            (request_way self.old.loan.port target.server) (Pops LoadsRead)
+            (ways_to self.old.loan.port self.old.left) }
         ensures site { self.new.site ≡ returning_at self.old.terms target }
         ensures left { self.new.left ≡ self.old.left }
         ensures same { IsSameSend self.old self.new }

@@ -9,7 +9,6 @@ use Rattle.iox_wire_request_sends.specs.RequestDispatches.{RequestDispatch, deli
 use Rattle.iox_wire_request_sends.specs.Targets.{AreTargets, Round, full_ways, states_to, ways_to}
 use Rattle.iox_wire_request_sends.specs.contracts.requesting.Requesting.{the_view}
 use Rattle.iox_wire_request_sends.specs.declared.target.Target.{Target}
-use Rattle.std.specs.Prelude.{if◌then◌else◌}
 use Rattle.iox_steps.specs.declared.pop.Pop.TheVariants.{LoadsRead}
 use Rattle.iox_steps.specs.declared.side.Popping.TheVariants.{Pops}
 use Rattle.iox_wire_request_sends.proofs.requesting.Requesting.empty_next.Goals as goal

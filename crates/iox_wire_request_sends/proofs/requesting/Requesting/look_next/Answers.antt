@@ -12,7 +12,6 @@ use Rattle.iox_wire_request_sends.specs.RequestDispatches.{RequestDispatch, deli
 use Rattle.iox_wire_request_sends.specs.Targets.{AreTargets, Round, full_ways, states_to, ways_to}
 use Rattle.iox_wire_request_sends.specs.contracts.requesting.Requesting.{the_view}
 use Rattle.iox_wire_request_sends.specs.declared.target.Target.{Target}
-use Rattle.std.specs.Prelude.{if◌then◌else◌}
 use Rattle.iox_model.specs.Requests.{fails_at}
 use Rattle.iox_wire_locals.specs.Known.{known}
 use Rattle.iox_wire_locals.specs.declared.local.CallRefusal.TheVariants.{UnableToDeliver}

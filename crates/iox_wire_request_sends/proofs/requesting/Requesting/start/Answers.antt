@@ -1,15 +1,9 @@
-use Rattle.std.proofs.Common.{◌≡◌, ℕ, Bool, true, false, None, List, [], ◌∷◌, refl, sym, subst, ap, ◌∙◌}
-use Rattle.std.specs.Prelude.{nat_le}
-use Rattle.iox_model.specs.declared.kind.Role.TheVariants.{Server}
+use Rattle.std.proofs.Common.{◌≡◌, true, false, None, List, [], ◌∷◌, refl, sym, subst, ap, ◌∙◌}
 use Rattle.iox_model.specs.Messages.{request_way}
-use Rattle.iox_model.specs.Peers.{others}
 use Rattle.iox_steps.specs.declared.pop.Pop.TheVariants.{LoadsRead}
 use Rattle.iox_steps.specs.declared.side.Popping.TheVariants.{Pops}
-use Rattle.iox_wire_locals.specs.declared.local.Local.{Local}
 use Rattle.iox_wire_locals.specs.declared.local.Local.TheVariants.{SendEmpties, SendEnds}
-use Rattle.iox_wire_locals.specs.declared.table.Entry.{Entry}
 use Rattle.iox_wire_locals.specs.Courses.{emptying, placed}
-use Rattle.iox_wire_locals.specs.Known.{known}
 use Rattle.iox_wire_loans.proofs.RefusalLemmas.{reaches, stays_below}
 use Rattle.iox_wire_request_sends.specs.declared.target.Target.{Target}
 use Rattle.iox_wire_request_sends.specs.Aims.{IsToldOf}

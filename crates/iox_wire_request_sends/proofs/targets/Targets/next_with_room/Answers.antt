@@ -1,6 +1,5 @@
-use Rattle.std.proofs.Common.{◌≡◌, Bool, true, not, cond, List, ◌∷◌, length, refl, sym, subst, ap, ◌∙◌, arith}
+use Rattle.std.proofs.Common.{◌≡◌, Bool, true, not, cond, ◌∷◌, length, refl, sym, subst, ap, ◌∙◌, arith}
 use Rattle.iox_model.specs.Maps.{has_number}
-use Rattle.iox_wire_request_sends.specs.declared.target.Target.{Target}
 use Rattle.iox_wire_request_sends.specs.Targets.{AreTargets, AreWithin, with_room}
 use Rattle.iox_wire_request_sends.proofs.targets.Targets.next_with_room.Goals as goal
 
