@@ -9,3 +9,9 @@ pub mod Loaned
 pub mod OfHubs
 pub mod Receiving
 pub mod Lending
+pub mod Values
+pub mod Only
+pub mod BringsOnly
+pub mod Arrivals
+pub mod Brought
+pub mod Sending

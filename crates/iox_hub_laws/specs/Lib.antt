@@ -3,6 +3,8 @@ pub mod Receipts
 pub mod Histories
 pub mod Waiting
 pub mod Receives
+pub mod Arrivals
+pub mod Sends
 pub mod Limits
 pub mod Slots
 pub mod Gone

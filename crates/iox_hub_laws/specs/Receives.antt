@@ -1,6 +1,7 @@
 -- What a receive of a hub hands out.
-use Rattle.std.specs.Prelude.{◌≡◌, ℕ, Some, ⊤}
+use Rattle.std.specs.Prelude.{◌≡◌, ℕ, List, Some, ⊤}
 use Rattle.iox_model.specs.declared.kind.Kind.TheVariants.{ActiveRequest, Response}
+use Rattle.iox_model.specs.Doings.{Receiver}
 use Rattle.iox_model.specs.Handles.{way_of}
 use Rattle.iox_tables.specs.HubStates.Releases.{lane_of, request_of}
 use Rattle.iox_tables.specs.HubStates.Tables.{HandleState}
@@ -11,7 +12,7 @@ use Rattle.iox_hub.specs.Hubs.{HubState, IsReached}
 use Rattle.iox_hub.specs.Reads.{message_in}
 use Rattle.iox_hub_laws.specs.Receipts.{ComesNext}
 use Rattle.iox_hub_laws.specs.Shown.{beats_of, handle_of}
-use Rattle.iox_hub_laws.specs.Waiting.{CanCome, client_of, server_of}
+use Rattle.iox_hub_laws.specs.Waiting.{AllCarry, CanCome, client_of, server_of}
 
 -- The node has a new handle, whose message came next on its way, whatever history led to the state
 -- before: it was delivered there, was not taken before, and comes behind all that were. What the
@@ -54,3 +55,16 @@ TakesResponse old node number (Handle n) new =
     → IsAtItsRequest old pending new got.handle)
 TakesResponse old node number Nothing new = ⊤
 TakesResponse old node number AtLimit new = ⊤
+
+-- ---- what it carries
+
+-- If all that waited for the receiver carries these words, so does the node's handle.
+abbrev pub CarriesWhatWaited : HubState → Receiver → HubState → ℕ → ℕ → Type 0
+CarriesWhatWaited old x new node n =
+    (words : List ℕ) → AllCarry old x words → (message_in new node n).payload ≡ words
+
+-- so does what the node gets
+abbrev pub GetsOnly : HubState → Receiver → ℕ → Received → HubState → Type 0
+GetsOnly old x node (Handle n) new = CarriesWhatWaited old x new node n
+GetsOnly old x node Nothing new = ⊤
+GetsOnly old x node AtLimit new = ⊤

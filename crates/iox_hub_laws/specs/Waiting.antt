@@ -1,5 +1,6 @@
 -- What waits for a receiver of a hub, and what its receive says of it.
-use Rattle.std.specs.Prelude.{◌≡◌, ℕ, Bool, true, false, [], Some}
+use Rattle.std.specs.Prelude.{◌≡◌, ℕ, Bool, true, false, List, [], Some}
+use Rattle.std.specs.Option.{option_map_or}
 use Rattle.iox_model.specs.declared.kind.Role.TheVariants.{Client, Server}
 use Rattle.iox_model.specs.Doings.{Receiver}
 use Rattle.iox_model.specs.Messages.{Message}
@@ -30,6 +31,12 @@ client_of t pending = record {
   request = request_of t pending;
 }
 
+-- the same of the node's pending response of that number
+abbrev pub client_in : HubState → ℕ → ℕ → Receiver
+client_in h node n =
+    option_map_or (client_of h.control.tables) (handle_in h.control.tables.handles node n)
+    (server_of n)
+
 -- ---- what waits for it
 
 -- the message, from that sender, waits for the receiver
@@ -39,6 +46,10 @@ IsWaiting h x sender m = IsOneOf m ((shown h).waiting (way_to x sender))
 -- nothing waits for the receiver
 abbrev pub NothingWaits : HubState → Receiver → Type 0
 NothingWaits h x = (sender : ℕ) → (shown h).waiting (way_to x sender) ≡ []
+
+-- all that waits for the receiver carries these words
+abbrev pub AllCarry : HubState → Receiver → List ℕ → Type 0
+AllCarry h x words = (sender : ℕ) (m : Message) → IsWaiting h x sender m → m.payload ≡ words
 
 -- the receiver may have no more messages of that sender
 abbrev pub has_its_most : HubState → Receiver → ℕ → Bool

@@ -2,12 +2,15 @@
 //! reached by a service and its hub, so each law of their runs holds of it.
 #![tactic(auto)]
 
+mod copies;
 mod histories;
 mod limits;
 mod loans;
 mod receives;
+mod sends;
 pub mod uses;
 
+pub use copies::{copy_request, copy_response};
 pub use histories::{
     messages_are_as_delivered, messages_come_at_most_once, messages_come_in_order,
     messages_were_sent,
@@ -15,3 +18,4 @@ pub use histories::{
 pub use limits::{borrows_hold, buffers_hold, nothing_is_kept_of_the_gone, slots_are_of_holders};
 pub use loans::{lend_request, lend_response};
 pub use receives::{receive_request, receive_response};
+pub use sends::{send_request, send_response};

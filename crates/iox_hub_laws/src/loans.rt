@@ -10,6 +10,7 @@ ghost use Rattle.iox_hub.specs.Hubs.{HasValue, state_of_hub};
 ghost use Rattle.iox_hub.specs.Lending.{HasLent, LeavesLent};
 ghost use Rattle.iox_hub_laws.specs.Loans.{AnswersOfClient, AnswersOfRequest};
 ghost use Rattle.iox_hub_laws.specs.Loans.{LendsWithinLimits, RespondsWithinLimits};
+ghost use Rattle.iox_hub_laws.specs.Sends.{NothingComes};
 
 use iox_control_lending::Lent;
 use iox_hub::Hub;
@@ -31,6 +32,7 @@ pub fn lend_request<Q: Payload, QH: Words, P: Payload, PH: Words>(
     requires default { uninit ≡ false → IsSome hub.old.request.default }
     ensures answers { AnswersOfClient hub.old client elements result }
     ensures within { LendsWithinLimits hub.old node client elements result }
+    ensures comes { NothingComes hub.old hub.new }
     ensures left { LeavesLent hub.old hub.old.request uninit elements result hub.new }
     ensures whole { (x : Given) → IsWholeCall (state_of_hub x hub.old) node
         (loan_call uninit client elements) (reply_of_loan result) (state_of_hub x hub.new) }
@@ -57,6 +59,7 @@ pub fn lend_response<Q: Payload, QH: Words, P: Payload, PH: Words>(
     requires default { uninit ≡ false → IsSome hub.old.response.default }
     ensures answers { AnswersOfRequest hub.old node number elements result }
     ensures within { RespondsWithinLimits hub.old node number elements result }
+    ensures comes { NothingComes hub.old hub.new }
     ensures left { LeavesLent hub.old hub.old.response uninit elements result hub.new }
     ensures whole { (x : Given) → IsWholeCall (state_of_hub x hub.old) node
         (loan_call uninit number elements) (reply_of_loan result) (state_of_hub x hub.new) }

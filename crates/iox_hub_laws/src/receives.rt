@@ -7,8 +7,8 @@ ghost use Rattle.iox_model.specs.WholeCalls.{IsWholeCall};
 ghost use Rattle.iox_tables.specs.HubStates.States.{Given};
 ghost use Rattle.iox_control.specs.Replies.{reply_of_receive};
 ghost use Rattle.iox_hub.specs.Hubs.{HasReceived, HasValue, state_of_hub, with_control};
-ghost use Rattle.iox_hub_laws.specs.Receives.{TakesRequest, TakesResponse};
-ghost use Rattle.iox_hub_laws.specs.Waiting.{WaitedFor, WaitedForPending, server_of};
+ghost use Rattle.iox_hub_laws.specs.Receives.{GetsOnly, TakesRequest, TakesResponse};
+ghost use Rattle.iox_hub_laws.specs.Waiting.{WaitedFor, WaitedForPending, client_in, server_of};
 
 use iox_control::Received;
 use iox_hub::Hub;
@@ -28,6 +28,7 @@ pub fn receive_request<Q: Payload, QH: Words, P: Payload, PH: Words>(
     requires calls { hub.old.control.tables.calls < 2 ^ 56 }
     ensures takes { TakesRequest hub.old node server result hub.new }
     ensures waited { WaitedFor hub.old (server_of server) result }
+    ensures carries { GetsOnly hub.old (server_of server) node result hub.new }
     ensures left { hub.new ≡ with_control hub.old hub.new.control }
     ensures whole { (x : Given) → IsWholeCall (state_of_hub x hub.old) node
         (Receive server) (reply_of_receive result) (state_of_hub x hub.new) }
@@ -51,6 +52,7 @@ pub fn receive_response<Q: Payload, QH: Words, P: Payload, PH: Words>(
     requires calls { hub.old.control.tables.calls < 2 ^ 56 }
     ensures takes { TakesResponse hub.old node number result hub.new }
     ensures waited { WaitedForPending hub.old node number result }
+    ensures carries { GetsOnly hub.old (client_in hub.old node number) node result hub.new }
     ensures left { hub.new ≡ with_control hub.old hub.new.control }
     ensures whole { (x : Given) → IsWholeCall (state_of_hub x hub.old) node
         (Receive number) (reply_of_receive result) (state_of_hub x hub.new) }

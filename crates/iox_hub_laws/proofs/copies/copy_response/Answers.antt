@@ -1,0 +1,11 @@
+use Rattle.std.specs.Prelude.{flat_map, length}
+use Rattle.iox_model.specs.declared.kind.Role.TheVariants.{Server}
+use Rattle.iox_control_copies.specs.Answers as replies
+use Rattle.iox_hub.specs.Lending.{payload_of}
+use Rattle.iox_hub_laws.proofs.BringsOnly.{copy_brings_only}
+use Rattle.iox_hub_laws.proofs.copies.copy_response.Goals as goal
+
+pub returns-clause-only : goal.returns-clause-only
+returns-clause-only g c =
+    copy_brings_only c.args.hub.now c.copy_response.new.self c.is_in_order.ensures c.args.node c.args.number
+    (payload_of Server (length c.args.values.now) _) (replies.reply_of_copy c.copy_response.result) c.copy_response.ensures.whole

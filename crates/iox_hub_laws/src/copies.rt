@@ -1,0 +1,65 @@
+//! Copies of a hub, with what they bring.
+ghost use Rattle.std.specs.Prelude.{flat_map, length};
+ghost use Rattle.iox_model.specs.declared.call.Call.TheVariants.{SendCopy};
+ghost use Rattle.iox_model.specs.declared.kind.Kind.TheVariants.{ActiveRequest, Client};
+ghost use Rattle.iox_model.specs.declared.kind.Role.TheVariants as roles;
+ghost use Rattle.iox_model.specs.WholeCalls.{IsWholeCall};
+ghost use Rattle.iox_tables.specs.HubStates.States.{Given};
+ghost use Rattle.iox_control_copies.specs.Answers as responses;
+ghost use Rattle.iox_control_request_copies.specs.Copies as requests;
+ghost use Rattle.iox_hub.specs.Copying.{HasCopied, LeavesAnswered, LeavesCopied};
+ghost use Rattle.iox_hub.specs.Hubs.{HasValue, state_of_hub};
+ghost use Rattle.iox_hub.specs.Lending.{payload_of};
+ghost use Rattle.iox_hub_laws.specs.Sends.{BringsOnly};
+
+use iox_control_copies::Answered;
+use iox_control_request_copies::Copied;
+use iox_hub::Hub;
+use iox_store::Payload;
+use iox_words::Words;
+
+/// Sends a request of that client with copies of these elements to all connected servers.
+#[inline]
+pub fn copy_request<Q: Payload, QH: Words, P: Payload, PH: Words>(
+    hub: &mut Hub<Q, QH, P, PH>,
+    node: u64,
+    client: u64,
+    values: &[Q::Element],
+) -> Copied
+    requires has { HasValue hub.old node client Client }
+    ensures only { BringsOnly hub.old (flat_map Q.Element.words values.now) hub.new }
+    ensures left { LeavesCopied hub.old (length values.now)
+        (flat_map Q.Element.words values.now) result hub.new }
+    ensures whole { (x : Given) → IsWholeCall (state_of_hub x hub.old) node
+        (SendCopy client (payload_of roles.Client (length values.now)
+        (flat_map Q.Element.words values.now)))
+        (requests.reply_of_copy result) (state_of_hub x hub.new) }
+    ensures has { HasCopied hub.new node (length values.now)
+        (flat_map Q.Element.words values.now) result }
+{
+    hub.is_in_order();
+    hub.copy_request(node, client, values)
+}
+
+/// Sends a response with copies of these elements to the client of that active request. The handle
+/// of the request is looked for at the hint first.
+#[inline]
+pub fn copy_response<Q: Payload, QH: Words, P: Payload, PH: Words>(
+    hub: &mut Hub<Q, QH, P, PH>,
+    node: u64,
+    number: u64,
+    hint: usize,
+    values: &[P::Element],
+) -> Answered
+    requires has { HasValue hub.old node number ActiveRequest }
+    ensures only { BringsOnly hub.old (flat_map P.Element.words values.now) hub.new }
+    ensures left { LeavesAnswered hub.old (length values.now)
+        (flat_map P.Element.words values.now) result hub.new }
+    ensures whole { (x : Given) → IsWholeCall (state_of_hub x hub.old) node
+        (SendCopy number (payload_of roles.Server (length values.now)
+        (flat_map P.Element.words values.now)))
+        (responses.reply_of_copy result) (state_of_hub x hub.new) }
+{
+    hub.is_in_order();
+    hub.copy_response(node, number, hint, values)
+}
