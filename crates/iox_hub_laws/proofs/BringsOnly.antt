@@ -38,12 +38,15 @@ Carries s node call words = (lane : ℕ) (a : Message) → sent_message s.fixed 
 only : (old new : HubState) → IsHub old → (node : ℕ) (call : Call) (reply : Reply) (words : List ℕ)
     → ((x : Given) → IsWholeCall (state_of_hub x old) node call reply (state_of_hub x new))
     → ((x : Given) → Carries (state_of_hub x old) node call words) → BringsOnly old words new
-only old new hub node call reply words whole carries r none sender a p =
-    let x : Given = hub.reached.0 in
-    elim (waited_or_sent (state_of_hub x old) (state_of_hub x new) node call reply (whole x) (way_to r sender) a p) as (λ u. a.payload ≡ words) [
-      | inl q ↦ absurd (subst (IsOneOf a) (none sender) q)
-      | inr q ↦ carries x q.0 a q.1
-    ]
+only old new hub node call reply words whole carries r none = record { each = each }
+  where
+    each : (sender : ℕ) (a : Message) → IsOneOf a ((shown new).waiting (way_to r sender)) → a.payload ≡ words
+    each sender a p =
+        let x : Given = hub.reached.0 in
+        elim (waited_or_sent (state_of_hub x old) (state_of_hub x new) node call reply (whole x) (way_to r sender) a p) as (λ u. a.payload ≡ words) [
+          | inl q ↦ absurd (subst (IsOneOf a) (none sender) q)
+          | inr q ↦ carries x q.0 a q.1
+        ]
 
 -- the send of a loan brings only what the loan carries
 pub send_brings_only : (old new : HubState) → IsHub old → (node n : ℕ) (kind : Kind) → is_port kind ≡ false → HasValue old node n kind → (reply : Reply)
@@ -97,7 +100,7 @@ pub request_gets_only : (old new : HubState) (node server : ℕ) (r : Received) 
     → GetsOnly old (server_of server) node r new
 request_gets_only old new node server (Handle n) takes =
     λ words all.
-    (takes.0).payload ∙ all (takes.0).handle.client (handle_of new (takes.0).handle).message (takes.3).waits
+    (takes.0).payload ∙ all.each (takes.0).handle.client (handle_of new (takes.0).handle).message (takes.3).waits
 request_gets_only old new node server Nothing takes = tt
 request_gets_only old new node server AtLimit takes = tt
 
@@ -112,7 +115,7 @@ response_gets_only old new node number (Handle n) has takes =
     = subst (λ (x : Receiver). AllCarry old x words)
     (ap (λ (o : Option HandleState). option_map_or (client_of t) o (server_of number)) is.named.there) all in
     (takes.0).payload
-    ∙ every (handle_of new (takes.0).handle).message.sender (handle_of new (takes.0).handle).message
+    ∙ every.each (handle_of new (takes.0).handle).message.sender (handle_of new (takes.0).handle).message
     (takes.1 is.handle is.named.there).came.waits
 response_gets_only old new node number Nothing has takes = tt
 response_gets_only old new node number AtLimit has takes = tt

@@ -34,7 +34,9 @@ use Rattle.iox_laws.proofs.RunLaws.Bounded.{queues_rest_within}
 use Rattle.iox_laws.proofs.WeaveLaws.MapLemmas.{either}
 use Rattle.iox_laws.proofs.WeaveLedger.Truths.{by_cases}
 use Rattle.iox_hub_laws.specs.Arrivals.{IsSentOn, newest, takes_more, with_last}
-use Rattle.iox_hub_laws.proofs.Arrivals.{EndsSo, Fits, IsBrought, IsQuiet, IsRefusal, IsUnawaited, MayGo, ended_fits, moments_fit, sends_fits}
+use Rattle.iox_hub_laws.proofs.Arrivals.{EndsSo, Fits, IsBrought, IsQuiet, IsRefusal, IsUnawaited, MayGo}
+use Rattle.iox_hub_laws.proofs.Moments.{ended_fits, moments_fit}
+use Rattle.iox_hub_laws.proofs.Phases.{sends_fits}
 
 -- ---- ports that stay
 
@@ -89,19 +91,19 @@ module _ (z : State) (reached : IsReachableState z) (node : ℕ) (h : Handle) (k
   abbrev pub goes_on : List Way
   goes_on = targets (sending_of z.fixed h copied goes_to)
 
-  to_servers : is_request_loan h.kind ≡ true → goes_to ≡ others z.fixed h.node Server
+  pub to_servers : is_request_loan h.kind ≡ true → goes_to ≡ others z.fixed h.node Server
   to_servers e = ap (λ (b : Bool). if b then others z.fixed h.node Server else h.client ∷ []) e
 
-  to_client : is_request_loan h.kind ≡ false → goes_to ≡ h.client ∷ []
+  pub to_client : is_request_loan h.kind ≡ false → goes_to ≡ h.client ∷ []
   to_client e = ap (λ (b : Bool). if b then others z.fixed h.node Server else h.client ∷ []) e
 
-  apart : AreApart goes_on
+  pub apart : AreApart goes_on
   apart =
       either AreApart (is_request_loan h.kind) (map (request_way h.port) goes_to) (map (λ client. response_way client h.lane h.port) goes_to)
       (λ request. subst (λ ns. AreApart (map (request_way h.port) ns)) (sym (to_servers request)) (servers_apart z h reached))
       (λ response. subst (λ ns. AreApart (map (λ client. response_way client h.lane h.port) ns)) (sym (to_client response)) (refl, tt))
 
-  within : (w : Way) → w.sender ≡ h.port → length (z.waiting w) ≤ buffer_on z.fixed w
+  pub within : (w : Way) → w.sender ≡ h.port → length (z.waiting w) ≤ buffer_on z.fixed w
   within w is = queues_rest_within z w reached (ap (is_connected_port z.fixed) is ∙ known)
 
   abbrev EndsHere : State → Outcome → Type 0
@@ -204,15 +206,15 @@ module _ (z : State) (reached : IsReachableState z) (node : ℕ) (h : Handle) (k
       )
   end_leaves s t o payload reply p answer is there = absurd p
 
-  unless_leaves : (r : Option Refusal) (t : State) (reply : Reply) (P : Type 0) → (P → LeavesSo t reply) → UnlessRefused r z reply t P → LeavesSo t reply
+  pub unless_leaves : (r : Option Refusal) (t : State) (reply : Reply) (P : Type 0) → (P → LeavesSo t reply) → UnlessRefused r z reply t P → LeavesSo t reply
   unless_leaves (Some r) t reply P goes u = inl (subst IsRefusal (sym u.0) tt, subst (StaysSo z) (sym u.1) (same_stays z))
   unless_leaves None t reply P goes u = goes u
 
-  starts_quiet : IsQuiet z node h copied goes_to z
+  pub starts_quiet : IsQuiet z node h copied goes_to z
   starts_quiet = record { fixed = refl; waiting = λ w. refl; states = λ w. refl }
 
   -- What a call leaves that is a send of this loan.
-  done_leaves : (t : State) (call : Call) (reply : Reply) (done : IsDone z node call reply t)
+  pub done_leaves : (t : State) (call : Call) (reply : Reply) (done : IsDone z node call reply t)
       → Fits z node h copied goes_to z (start z node done.0 call) → IsStillThere t reply → LeavesSo t reply
   done_leaves t call reply done fits there =
       let ms : List Moment = done.2 in

@@ -13,5 +13,9 @@ pub mod Values
 pub mod Only
 pub mod BringsOnly
 pub mod Arrivals
+pub mod Phases
+pub mod Moments
 pub mod Brought
+pub mod Copied
 pub mod Sending
+pub mod CopySending

@@ -5,20 +5,26 @@ use Rattle.iox_model.specs.declared.way.RequestState.TheVariants.{Named}
 use Rattle.iox_model.specs.declared.way.Way.{Way}
 use Rattle.iox_model.specs.Doings.{Receiver}
 use Rattle.iox_model.specs.Handles.{own_state}
+use Rattle.iox_model.specs.Loans.{next_message}
 use Rattle.iox_model.specs.Maps.{has_number}
-use Rattle.iox_model.specs.Messages.{request_way, response_way}
+use Rattle.iox_model.specs.Messages.{Message, request_way, response_way}
 use Rattle.iox_model.specs.States.{Handle}
 use Rattle.iox_laws.specs.CallFunctions.Responses.{is_awaited}
+use Rattle.iox_laws.specs.MessageLaws.Sendings.{copied_order}
+use Rattle.iox_tables.specs.HubStates.Releases.{lane_of, request_of}
+use Rattle.iox_tables.specs.HubStates.States.{port_of}
 use Rattle.iox_tables.specs.HubStates.Steps.{is_there}
-use Rattle.iox_tables.specs.HubStates.Tables.{HandleState}
+use Rattle.iox_tables.specs.HubStates.Tables.{HandleState, PortState, port_in}
 use Rattle.iox_tables.specs.HubStates.Wirings.{handle_in, numbers_of_role}
+use Rattle.iox_control_copies.specs.declared.answered.Answered.{Answered}
+use Rattle.iox_control_copies.specs.declared.answered.Answered.TheVariants as answered
 use Rattle.iox_control_requests.specs.declared.requested.Requested.{Requested}
 use Rattle.iox_control_requests.specs.declared.requested.Requested.TheVariants.{To, ExceedsMaxActiveRequests, UnableToDeliver}
 use Rattle.iox_control_responses.specs.declared.responded.Responded.{Responded}
 use Rattle.iox_control_responses.specs.declared.responded.Responded.TheVariants.{Done, Undelivered}
-use Rattle.iox_hub.specs.Hubs.{HubState}
+use Rattle.iox_hub.specs.Hubs.{HubState, given_by}
 use Rattle.iox_hub_laws.specs.Arrivals.{IsSentOn}
-use Rattle.iox_hub_laws.specs.Shown.{handle_of, shown}
+use Rattle.iox_hub_laws.specs.Shown.{handle_of, nothing_given, shown}
 use Rattle.iox_hub_laws.specs.Waiting.{AllCarry, NothingWaits}
 
 -- On each way the same waits as before.
@@ -80,6 +86,28 @@ SendsResponse old node n new =
 abbrev pub BringsResponse : HubState → ℕ → ℕ → Responded → HubState → Type 0
 BringsResponse old node n Done new = SendsResponse old node n new
 BringsResponse old node n Undelivered new = BringsNothing old node n new
+
+-- the server's next response to that active request, of so many elements with these words
+abbrev pub response_of : HubState → HandleState → PortState → ℕ → List ℕ → Message
+response_of h active server count words =
+    next_message (shown h).fixed (port_of (given_by (nothing_given h) h) server)
+    (copied_order count words) (lane_of h.control.tables active) (request_of h.control.tables active)
+
+-- a copy of so many elements with these words is sent as the response to that active request
+abbrev pub CopiesResponse : HubState → ℕ → ℕ → ℕ → List ℕ → HubState → Type 0
+CopiesResponse old node n count words new =
+    (active : HandleState) → handle_in old.control.tables.handles node n ≡ Some active
+    → (server : PortState) → port_in old.control.tables.ports active.port ≡ Some server
+    → IsSentOn (way_of_response old (handle_of old active)) (shown old)
+    (response_of old active server count words) (shown new)
+
+-- what such a copy brings
+abbrev pub BringsResponseCopy : HubState → ℕ → ℕ → ℕ → List ℕ → Answered → HubState → Type 0
+BringsResponseCopy old node n count words (answered.Done place) new =
+    CopiesResponse old node n count words new
+BringsResponseCopy old node n count words (answered.Refused r) new = WaitsAsBefore old new
+BringsResponseCopy old node n count words answered.OutOfMemory new = WaitsAsBefore old new
+BringsResponseCopy old node n count words answered.Undelivered new = WaitsAsBefore old new
 
 -- ---- for receivers
 

@@ -47,9 +47,9 @@ IsWaiting h x sender m = IsOneOf m ((shown h).waiting (way_to x sender))
 abbrev pub NothingWaits : HubState → Receiver → Type 0
 NothingWaits h x = (sender : ℕ) → (shown h).waiting (way_to x sender) ≡ []
 
--- all that waits for the receiver carries these words
-abbrev pub AllCarry : HubState → Receiver → List ℕ → Type 0
-AllCarry h x words = (sender : ℕ) (m : Message) → IsWaiting h x sender m → m.payload ≡ words
+-- All that waits for the receiver carries these words.
+pub record AllCarry (h : HubState) (x : Receiver) (words : List ℕ) : Type 0 where
+  pub each : (sender : ℕ) (m : Message) → IsWaiting h x sender m → m.payload ≡ words
 
 -- the receiver may have no more messages of that sender
 abbrev pub has_its_most : HubState → Receiver → ℕ → Bool

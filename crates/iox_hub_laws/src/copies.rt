@@ -10,7 +10,7 @@ ghost use Rattle.iox_control_request_copies.specs.Copies as requests;
 ghost use Rattle.iox_hub.specs.Copying.{HasCopied, LeavesAnswered, LeavesCopied};
 ghost use Rattle.iox_hub.specs.Hubs.{HasValue, state_of_hub};
 ghost use Rattle.iox_hub.specs.Lending.{payload_of};
-ghost use Rattle.iox_hub_laws.specs.Sends.{BringsOnly};
+ghost use Rattle.iox_hub_laws.specs.Sends.{BringsOnly, BringsResponseCopy};
 
 use iox_control_copies::Answered;
 use iox_control_request_copies::Copied;
@@ -52,6 +52,8 @@ pub fn copy_response<Q: Payload, QH: Words, P: Payload, PH: Words>(
     values: &[P::Element],
 ) -> Answered
     requires has { HasValue hub.old node number ActiveRequest }
+    ensures brings { BringsResponseCopy hub.old node number (length values.now)
+        (flat_map P.Element.words values.now) result hub.new }
     ensures only { BringsOnly hub.old (flat_map P.Element.words values.now) hub.new }
     ensures left { LeavesAnswered hub.old (length values.now)
         (flat_map P.Element.words values.now) result hub.new }
