@@ -3,3 +3,4 @@ pub mod Making
 pub mod Wanting
 pub mod Limiting
 pub mod Shaping
+pub mod Lacking

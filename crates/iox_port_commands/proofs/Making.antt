@@ -1,7 +1,9 @@
 -- Ports of the same size are refused alike.
-use Rattle.std.specs.Prelude.{◌≡◌, ℕ, Bool, Option, Some, None}
-use Rattle.std.proofs.Common.{sym, subst, ap, ◌∙◌}
+use Rattle.std.specs.Prelude.{◌≡◌, ℕ, Bool, false, List, Option, Some, None, is_some, refl}
+use Rattle.std.specs.Option.{option_map}
+use Rattle.std.proofs.Common.{sym, subst, ap, ◌∙◌, true≢false}
 use Rattle.iox_types.specs.declared.identifiers.system_id.UniqueSystemId.{UniqueSystemId}
+use Rattle.iox_model.specs.declared.command.PortOptions as the_options
 use Rattle.iox_model.specs.declared.kind.Role.{Role}
 use Rattle.iox_model.specs.declared.kind.Role.TheVariants.{Client, Server}
 use Rattle.iox_model.specs.declared.reply.Reply.TheVariants.{Refused}
@@ -9,6 +11,13 @@ use Rattle.iox_model.specs.Commands.{Create, Options, Refusal}
 use Rattle.iox_model.specs.Makings.{IsHubCommand, making_refusal, new_port, port_reply, with_port}
 use Rattle.iox_model.specs.Counts.{with_fixed}
 use Rattle.iox_model.specs.States.{Fixed, State}
+use Rattle.iox_tables.specs.HubStates.States.{Given}
+use Rattle.iox_control_making.specs.declared.asked.NotMade.{NotMade}
+use Rattle.iox_control_making.specs.declared.asked.NotMade.TheVariants.{DataSegment}
+use Rattle.iox_control_making.specs.Making.{refusal_of}
+use Rattle.iox_hub.specs.Hubs.{HubState, state_of_hub}
+use Rattle.iox_port_commands.specs.Applying.{LacksMemory}
+use Rattle.iox_port_commands.specs.Asking.{options_for}
 use Rattle.iox_model.specs.WholeCalls.{UnlessRefused}
 
 refused_as : (q : Option Refusal) (s t : State) (r : Refusal) (role : Role) (n : ℕ) (X Y : Type 0)
@@ -41,3 +50,30 @@ alike f Server o p longest pool loans memory =
     ap (λ k. making_refusal f Server (record o { max_slice_len = k }) memory) (sym longest)
     ∙ (ap (λ k. making_refusal f Server (record o { max_slice_len = p.max_slice_len; pool = k }) memory) (sym pool)
     ∙ ap (λ k. making_refusal f Server (record o { max_slice_len = p.max_slice_len; pool = p.pool; loaned_responses = k }) memory) (sym loans))
+
+-- a port that gets no data segment lacks memory
+pub wanting : (old new : HubState) (node : ℕ) (role : Role) (id : UniqueSystemId) (o : Options) (reason : NotMade) → reason ≡ DataSegment
+    → ((x : Given) → IsHubCommand (state_of_hub x old) node (Create role id o) (Refused (refusal_of role reason)) (state_of_hub x new))
+    → LacksMemory old node (Create role id o) new
+wanting old new node role id o reason is whole x =
+    subst (λ (r : NotMade). IsHubCommand (state_of_hub x old) node (Create role id o) (Refused (refusal_of role r)) (state_of_hub x new)) is (whole x)
+
+none_so : {H : Type 0} (words : H → List ℕ) (h : Option H) → is_some h ≡ false → None ≡ option_map words h
+none_so words None e = refl
+none_so words (Some h) e = absurd (true≢false e)
+
+-- these options, with that handler
+abbrev pub handled : {H : Type 0} → the_options.PortOptions H → Option (List ℕ) → Options
+handled o h = record {
+  max_slice_len = o.max_slice_len;
+  pool = o.pool;
+  strategy = o.strategy;
+  allocation = o.allocation;
+  loaned_responses = o.loaned_responses;
+  handler = h;
+}
+
+-- options with no handler are those of a hub
+pub without_handler : {H : Type 0} (words : H → List ℕ) (o : the_options.PortOptions H) → is_some o.handler ≡ false
+    → handled o None ≡ options_for words o
+without_handler words o e = ap (handled o) (none_so words o.handler e)

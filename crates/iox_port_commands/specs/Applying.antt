@@ -1,6 +1,7 @@
 -- What a command of a hub comes to.
 use Rattle.std.specs.Prelude.{◌≡◌, ℕ, List, IsSome}
 use Rattle.std.specs.declared.vec.Vec.{Vec}
+use Rattle.iox_model.specs.declared.command.Command.TheVariants.{Port}
 use Rattle.iox_model.specs.declared.command.PortCommand as the_command
 use Rattle.iox_model.specs.declared.reply.PortReply as the_reply
 use Rattle.iox_model.specs.Commands.{Call, HubCommand, Use, asking}
@@ -10,6 +11,7 @@ use Rattle.iox_hub.specs.Hubs.{HubState, state_of_hub}
 use Rattle.iox_port_commands.specs.declared.elements.Elements.{Elements}
 use Rattle.iox_port_commands.specs.Asking.{command_for}
 use Rattle.iox_port_commands.specs.Telling.{IsToldAnd}
+use Rattle.iox_port_commands.specs.Memory.{HadMemory, want_of}
 
 -- What the node asks of the hub is answered so, and leaves that hub: it is one command of the
 -- machine, whatever there is besides.
@@ -31,6 +33,32 @@ abbrev pub IsApplied :
     → the_command.PortCommand (Elements Q P) H → the_reply.PortReply (Vec ℕ Z) C → HubState → Type 0
 IsApplied q p words old command reply new =
     let (node, asked) = asking (command_for q p words command) in IsReplied old node asked reply new
+
+-- ---- memory
+
+-- There is no memory for what the node asks: the machine refuses it so, whatever there is besides.
+abbrev pub LacksMemory : HubState → ℕ → HubCommand → HubState → Type 0
+LacksMemory old node command new =
+    (x : Given)
+    → IsHubCommand (state_of_hub x old) node command (want_of command) (state_of_hub x new)
+
+-- the same of a command of the code
+abbrev pub LacksMemoryFor :
+    {Q P H : Type 0} → (Q → List ℕ) → (P → List ℕ) → (H → List ℕ) → HubState
+    → the_command.PortCommand (Elements Q P) H → HubState → Type 0
+LacksMemoryFor q p words old command new =
+    let (node, asked) = asking (command_for q p words command) in LacksMemory old node asked new
+
+-- Memory was there for a command of the code that is answered so.
+abbrev pub HadMemoryFor :
+    {Q P H C Z : Type 0} → (Q → List ℕ) → (P → List ℕ) → (H → List ℕ) → HubState
+    → the_command.PortCommand (Elements Q P) H → the_reply.PortReply (Vec ℕ Z) C → Type 0
+HadMemoryFor q p words h command reply =
+    (x : Given)
+    → IsToldAnd reply
+    (λ r. HadMemory (state_of_hub x h).fixed.limits (Port (command_for q p words command)) r)
+
+-- ---- what messages are made of
 
 -- An element of a request has a default, and so has one of a response.
 pub record HaveDefaults (h : HubState) : Type 0 where

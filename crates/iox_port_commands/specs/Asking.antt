@@ -56,6 +56,12 @@ command_for q p words (commands.HasRequests node n) = commands.HasRequests node 
 command_for q p words (commands.HasResponse node n) = commands.HasResponse node n
 
 -- whether the command reads a message
-abbrev pub is_read : {Q P H : Type 0} → the_command.PortCommand (Elements Q P) H → Bool
+abbrev pub is_read : {E H : Type 0} → the_command.PortCommand E H → Bool
 is_read (commands.Read node n) = true
 is_read command = false
+
+-- whether the command makes a port
+abbrev pub is_making : {E H : Type 0} → the_command.PortCommand E H → Bool
+is_making (commands.Client node id o) = true
+is_making (commands.Server node id o) = true
+is_making command = false

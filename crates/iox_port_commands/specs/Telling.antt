@@ -1,5 +1,5 @@
 -- The replies of the code as those of the machine.
-use Rattle.std.specs.Prelude.{◌≡◌, ℕ, Bool, true, false, Option, Some, None, MatchOption}
+use Rattle.std.specs.Prelude.{◌≡◌, ℕ, Bool, true, false, ◌||◌, Option, Some, None, MatchOption}
 use Rattle.std.specs.Option.{option_map}
 use Rattle.std.specs.declared.vec.Vec.{Vec}
 use Rattle.iox_model.specs.declared.reply.PortReply as the_reply
@@ -53,3 +53,12 @@ IsTheReply reply r = IsToldAnd reply (λ q. q ≡ r)
 abbrev pub wants_memory : {C Z : Type 0} → the_reply.PortReply (Vec ℕ Z) C → Bool
 wants_memory (Refused WantOfMemory) = true
 wants_memory reply = false
+
+-- whether a port is refused its data segment
+abbrev pub wants_segment : {C Z : Type 0} → the_reply.PortReply (Vec ℕ Z) C → Bool
+wants_segment (Refused UnableToCreateDataSegment) = true
+wants_segment reply = false
+
+-- whether it may tell that there was no memory
+abbrev pub tells_want : {C Z : Type 0} → the_reply.PortReply (Vec ℕ Z) C → Bool
+tells_want reply = wants_memory reply || wants_segment reply

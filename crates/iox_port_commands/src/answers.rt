@@ -1,17 +1,18 @@
 //! What calls come to, as replies.
-ghost use Rattle.std.specs.Prelude.{◌≡◌, false};
+ghost use Rattle.std.specs.Prelude.{◌≡◌, IfOk, OnErr, false};
 ghost use Rattle.iox_model.specs.declared.reply.Reply.TheVariants.{Refused};
 ghost use Rattle.iox_model.specs.Makings.{port_reply};
 ghost use Rattle.iox_control.specs.Replies.{reply_of_receive};
 ghost use Rattle.iox_control_copies.specs.Answers as responses;
 ghost use Rattle.iox_control_lending.specs.Fills.{reply_of_write};
 ghost use Rattle.iox_control_lending.specs.Lends.{refusal_of as loan_refusal, reply_of_loan};
+ghost use Rattle.iox_control_making.specs.declared.asked.NotMade.TheVariants.{DataSegment};
 ghost use Rattle.iox_control_making.specs.Making.{refusal_of as making_refusal};
 ghost use Rattle.iox_control_questions.specs.Asking.{refusal_of};
 ghost use Rattle.iox_control_request_copies.specs.Copies as requests;
 ghost use Rattle.iox_control_requests.specs.Sendings as request_sends;
 ghost use Rattle.iox_control_responses.specs.Responses as response_sends;
-ghost use Rattle.iox_port_commands.specs.Telling.{IsTheReply, wants_memory};
+ghost use Rattle.iox_port_commands.specs.Telling.{IsTheReply, tells_want};
 
 use iox_control::Received;
 use iox_control_copies::Answered;
@@ -23,11 +24,12 @@ use iox_control_requests::Requested;
 use iox_control_responses::Responded;
 use iox_model::kind::Role;
 use iox_model::reply::{PortReply, Refusal};
+use std::alloc::AllocError;
 
 /// The call is not begun.
 pub(crate) fn not_begun<C>(reason: NotBegun) -> PortReply<Vec<u64>, C>
     ensures reply { IsTheReply result (Refused (refusal_of reason)) }
-    ensures memory { wants_memory result ≡ false }
+    ensures memory { tells_want result ≡ false }
 {
     PortReply::Refused(match reason {
         NotBegun::UnknownNumber => Refusal::UnknownNumber,
@@ -40,7 +42,7 @@ pub(crate) fn not_begun<C>(reason: NotBegun) -> PortReply<Vec<u64>, C>
 /// A port of that role was made, with that number.
 pub(crate) fn made<C>(role: Role, number: u64) -> PortReply<Vec<u64>, C>
     ensures reply { IsTheReply result (port_reply role number) }
-    ensures memory { wants_memory result ≡ false }
+    ensures memory { tells_want result ≡ false }
 {
     match role {
         Role::Client => PortReply::Client(number),
@@ -48,23 +50,25 @@ pub(crate) fn made<C>(role: Role, number: u64) -> PortReply<Vec<u64>, C>
     }
 }
 
-/// No port of that role was made.
-pub(crate) fn not_made<C>(role: Role, reason: NotMade) -> PortReply<Vec<u64>, C>
-    ensures reply { IsTheReply result (Refused (making_refusal role reason)) }
-    ensures memory { wants_memory result ≡ false }
+/// Why no port of that role was made, unless there was no memory for it.
+pub(crate) fn not_made<C>(role: Role, reason: NotMade) -> Result<PortReply<Vec<u64>, C>, AllocError>
+    ensures reply { IfOk result (λ reply. IsTheReply reply (Refused (making_refusal role reason))) }
+    ensures memory { IfOk result (λ reply. tells_want reply ≡ false) }
+    ensures wanting { OnErr result (reason ≡ DataSegment) }
 {
-    PortReply::Refused(match (reason, role) {
+    let refusal = match (reason, role) {
         (NotMade::PortTag, _) => Refusal::UnableToCreatePortTag,
-        (NotMade::DataSegment, _) => Refusal::UnableToCreateDataSegment,
+        (NotMade::DataSegment, _) => return Err(AllocError),
         (NotMade::TooManyPorts, Role::Client) => Refusal::ExceedsMaxSupportedClients,
         (NotMade::TooManyPorts, Role::Server) => Refusal::ExceedsMaxSupportedServers,
-    })
+    };
+    Ok(PortReply::Refused(refusal))
 }
 
 /// No loan was made, not even for a copy.
 fn not_lent<C>(reason: LoanRefusal) -> PortReply<Vec<u64>, C>
     ensures reply { IsTheReply result (Refused (loan_refusal reason)) }
-    ensures memory { wants_memory result ≡ false }
+    ensures memory { tells_want result ≡ false }
 {
     PortReply::Refused(match reason {
         LoanRefusal::CallsSpent => Refusal::CallsSpent,
@@ -77,7 +81,7 @@ fn not_lent<C>(reason: LoanRefusal) -> PortReply<Vec<u64>, C>
 /// What a loan came to.
 pub(crate) fn lent<C>(lent: Lent) -> PortReply<Vec<u64>, C>
     ensures reply { IsTheReply result (reply_of_loan lent) }
-    ensures memory { wants_memory result ≡ false }
+    ensures memory { tells_want result ≡ false }
 {
     match lent {
         Lent::Handle(loan) => PortReply::Handle(loan.number),
@@ -89,7 +93,7 @@ pub(crate) fn lent<C>(lent: Lent) -> PortReply<Vec<u64>, C>
 /// What a write came to.
 pub(crate) fn written<C>(written: Written) -> PortReply<Vec<u64>, C>
     ensures reply { IsTheReply result (reply_of_write written) }
-    ensures memory { wants_memory result ≡ false }
+    ensures memory { tells_want result ≡ false }
 {
     match written {
         Written::Done(_) => PortReply::Done,
@@ -100,7 +104,7 @@ pub(crate) fn written<C>(written: Written) -> PortReply<Vec<u64>, C>
 /// What the send of a request came to.
 pub(crate) fn requested<C>(requested: Requested) -> PortReply<Vec<u64>, C>
     ensures reply { IsTheReply result (request_sends.reply_of_send requested) }
-    ensures memory { wants_memory result ≡ false }
+    ensures memory { tells_want result ≡ false }
 {
     match requested {
         Requested::To(servers) => PortReply::Sent(servers),
@@ -114,7 +118,7 @@ pub(crate) fn requested<C>(requested: Requested) -> PortReply<Vec<u64>, C>
 /// What the send of a response came to.
 pub(crate) fn responded<C>(responded: Responded) -> PortReply<Vec<u64>, C>
     ensures reply { IsTheReply result (response_sends.reply_of_send responded) }
-    ensures memory { wants_memory result ≡ false }
+    ensures memory { tells_want result ≡ false }
 {
     match responded {
         Responded::Done => PortReply::Done,
@@ -125,7 +129,7 @@ pub(crate) fn responded<C>(responded: Responded) -> PortReply<Vec<u64>, C>
 /// What the copy of a request came to.
 pub(crate) fn copied<C>(copied: Copied) -> PortReply<Vec<u64>, C>
     ensures reply { IsTheReply result (requests.reply_of_copy copied) }
-    ensures memory { wants_memory result ≡ false }
+    ensures memory { tells_want result ≡ false }
 {
     match copied {
         Copied::To {
@@ -143,7 +147,7 @@ pub(crate) fn copied<C>(copied: Copied) -> PortReply<Vec<u64>, C>
 /// What the copy of a response came to.
 pub(crate) fn answered<C>(answered: Answered) -> PortReply<Vec<u64>, C>
     ensures reply { IsTheReply result (responses.reply_of_copy answered) }
-    ensures memory { wants_memory result ≡ false }
+    ensures memory { tells_want result ≡ false }
 {
     match answered {
         Answered::Done(_) => PortReply::Done,
@@ -156,7 +160,7 @@ pub(crate) fn answered<C>(answered: Answered) -> PortReply<Vec<u64>, C>
 /// What a receive came to.
 pub(crate) fn received<C>(received: Received) -> PortReply<Vec<u64>, C>
     ensures reply { IsTheReply result (reply_of_receive received) }
-    ensures memory { wants_memory result ≡ false }
+    ensures memory { tells_want result ≡ false }
 {
     match received {
         Received::Handle(number) => PortReply::Handle(number),

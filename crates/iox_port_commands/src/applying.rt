@@ -1,8 +1,13 @@
 //! A command is applied to a hub.
-ghost use Rattle.std.specs.Prelude.{◌≡◌, true};
-ghost use Rattle.iox_port_commands.specs.Applying.{HaveDefaults, HaveSameShapes, IsApplied};
-ghost use Rattle.iox_port_commands.specs.Asking.{is_read};
-ghost use Rattle.iox_port_commands.specs.Telling.{wants_memory};
+ghost use Rattle.std.specs.Prelude.{◌≡◌, ◌||◌, IfOk, OnErr, true};
+ghost use Rattle.std.specs.Prelude.{false, if◌then◌else◌};
+ghost use Rattle.iox_model.specs.declared.reply.PortReply.TheVariants.{Refused};
+ghost use Rattle.iox_model.specs.declared.reply.Refusal.TheVariants as refusals;
+ghost use Rattle.iox_hub.specs.Making.{StaysAs};
+ghost use Rattle.iox_port_commands.specs.Applying.{HadMemoryFor, HaveDefaults, HaveSameShapes};
+ghost use Rattle.iox_port_commands.specs.Applying.{IsApplied, LacksMemoryFor};
+ghost use Rattle.iox_port_commands.specs.Asking.{is_making, is_read};
+ghost use Rattle.iox_port_commands.specs.Telling.{tells_want, wants_memory, wants_segment};
 
 use crate::copies::send_copy;
 use crate::elements::Elements;
@@ -17,21 +22,25 @@ use crate::writing::write;
 use iox_hub::Hub;
 use iox_model::command::PortCommand;
 use iox_model::kind::Role;
-use iox_model::reply::PortReply;
+use iox_model::reply::{PortReply, Refusal};
 use iox_store::Payload;
 use iox_words::Words;
-use std::alloc::Global;
+use std::alloc::{AllocError, Global};
 
 /// Each command by its own call.
 fn dispatch<Q: Payload, QH: Words, P: Payload, PH: Words, H: Words, C>(
     hub: &mut Hub<Q, QH, P, PH>,
     alloc: Global,
     command: PortCommand<Elements<Q::Element, P::Element>, H>,
-) -> PortReply<Vec<u64>, C>
+) -> Result<PortReply<Vec<u64>, C>, AllocError>
     requires { HaveDefaults hub.old }
-    ensures whole { IsApplied Q.Element.words P.Element.words H.words hub.old command result
-        hub.new }
-    ensures memory { wants_memory result ≡ true → is_read command ≡ true }
+    ensures whole { IfOk result (λ reply. IsApplied Q.Element.words P.Element.words H.words hub.old
+        command reply hub.new) }
+    ensures memory { IfOk result (λ reply. tells_want reply ≡ false) }
+    ensures wanting { OnErr result
+        (LacksMemoryFor Q.Element.words P.Element.words H.words hub.old command hub.new) }
+    ensures takes { OnErr result ((is_making command || is_read command) ≡ true) }
+    ensures unchanged { OnErr result (StaysAs hub.old hub.new) }
 {
     match command {
         PortCommand::Client { node, id, options } => {
@@ -44,26 +53,26 @@ fn dispatch<Q: Payload, QH: Words, P: Payload, PH: Words, H: Words, C>(
             node,
             number,
             elements,
-        } => loan(hub, node, number, elements),
+        } => Ok(loan(hub, node, number, elements)),
         PortCommand::Write {
             node,
             number,
             payload,
-        } => write(hub, node, number, &payload),
-        PortCommand::Send { node, number } => send(hub, node, number),
+        } => Ok(write(hub, node, number, &payload)),
+        PortCommand::Send { node, number } => Ok(send(hub, node, number)),
         PortCommand::SendCopy {
             node,
             number,
             payload,
-        } => send_copy(hub, node, number, &payload),
-        PortCommand::Receive { node, number } => receive(hub, node, number),
+        } => Ok(send_copy(hub, node, number, &payload)),
+        PortCommand::Receive { node, number } => Ok(receive(hub, node, number)),
         PortCommand::Read { node, number } => read(hub, alloc, node, number),
-        PortCommand::Release { node, number } => release(hub, node, number),
-        PortCommand::IsConnected { node, number } => is_connected(hub, node, number),
-        PortCommand::SetHint { node, number } => set_hint(hub, node, number),
-        PortCommand::HasHint { node, number } => has_hint(hub, node, number),
-        PortCommand::HasRequests { node, number } => has_requests(hub, node, number),
-        PortCommand::HasResponse { node, number } => has_response(hub, node, number),
+        PortCommand::Release { node, number } => Ok(release(hub, node, number)),
+        PortCommand::IsConnected { node, number } => Ok(is_connected(hub, node, number)),
+        PortCommand::SetHint { node, number } => Ok(set_hint(hub, node, number)),
+        PortCommand::HasHint { node, number } => Ok(has_hint(hub, node, number)),
+        PortCommand::HasRequests { node, number } => Ok(has_requests(hub, node, number)),
+        PortCommand::HasResponse { node, number } => Ok(has_response(hub, node, number)),
     }
 }
 
@@ -71,8 +80,52 @@ fn dispatch<Q: Payload, QH: Words, P: Payload, PH: Words, H: Words, C>(
 /// by the first test that fails, as the machine has it. A node is whoever the command says: which
 /// nodes there are is the service's matter.
 ///
-/// Only a read may be refused as `WantOfMemory`. A port for which there is no memory, one with a
-/// handler and one whose messages would grow are refused as `UnableToCreateDataSegment`.
+/// It fails only where there is no memory for a port or for what is read, and changes nothing then.
+/// Its replies are those of the machine with memory. For a port that is too large, that has a
+/// handler or whose messages would grow, a hub never has memory.
+pub fn try_apply<Q: Payload, QH: Words, P: Payload, PH: Words, H: Words, C>(
+    hub: &mut Hub<Q, QH, P, PH>,
+    alloc: Global,
+    command: PortCommand<Elements<Q::Element, P::Element>, H>,
+) -> Result<PortReply<Vec<u64>, C>, AllocError>
+    requires { HaveDefaults hub.old }
+    ensures whole { IfOk result (λ reply. IsApplied Q.Element.words P.Element.words H.words hub.old
+        command reply hub.new) }
+    ensures memory { IfOk result (λ reply. HadMemoryFor Q.Element.words P.Element.words H.words
+        hub.old command reply) }
+    ensures wanting { OnErr result
+        (LacksMemoryFor Q.Element.words P.Element.words H.words hub.old command hub.new) }
+    ensures takes { OnErr result ((is_making command || is_read command) ≡ true) }
+    ensures unchanged { OnErr result (StaysAs hub.old hub.new) }
+    ensures shapes { HaveSameShapes hub.old hub.new }
+    ensures defaults { HaveDefaults hub.new }
+{
+    dispatch(hub, alloc, command)
+}
+
+/// Whether the command makes a port.
+fn is_making<P, H>(command: &PortCommand<P, H>) -> bool
+    ensures { result ≡ is_making command.now }
+{
+    matches!(
+        command,
+        PortCommand::Client { .. } | PortCommand::Server { .. }
+    )
+}
+
+/// How a command is refused where there is no memory for it: the making of a port, or a read.
+fn lacking<C>(making: bool) -> PortReply<Vec<u64>, C>
+    ensures { result ≡ Refused (if making then refusals.UnableToCreateDataSegment
+        else refusals.WantOfMemory) }
+{
+    if making {
+        return PortReply::Refused(Refusal::UnableToCreateDataSegment);
+    }
+    PortReply::Refused(Refusal::WantOfMemory)
+}
+
+/// The same as [`try_apply`], where want of memory is a reply as well: `UnableToCreateDataSegment`
+/// for a port, `WantOfMemory` for a read. No other command is refused so.
 pub fn apply<Q: Payload, QH: Words, P: Payload, PH: Words, H: Words, C>(
     hub: &mut Hub<Q, QH, P, PH>,
     alloc: Global,
@@ -82,8 +135,14 @@ pub fn apply<Q: Payload, QH: Words, P: Payload, PH: Words, H: Words, C>(
     ensures whole { IsApplied Q.Element.words P.Element.words H.words hub.old command result
         hub.new }
     ensures memory { wants_memory result ≡ true → is_read command ≡ true }
+    ensures segment { wants_segment result ≡ true → is_making command ≡ true }
+    ensures unchanged { tells_want result ≡ true → StaysAs hub.old hub.new }
     ensures shapes { HaveSameShapes hub.old hub.new }
     ensures defaults { HaveDefaults hub.new }
 {
-    dispatch(hub, alloc, command)
+    let making = is_making(&command);
+    match dispatch(hub, alloc, command) {
+        Ok(reply) => reply,
+        Err(_) => lacking(making),
+    }
 }

@@ -6,7 +6,7 @@ ghost use Rattle.iox_model.specs.WholeCalls.{is_counted};
 ghost use Rattle.iox_control_questions.specs.Asking.{asked_of, call_of};
 ghost use Rattle.iox_hub.specs.Hubs.{HasValue};
 ghost use Rattle.iox_port_commands.specs.Applying.{IsCalled};
-ghost use Rattle.iox_port_commands.specs.Telling.{wants_memory};
+ghost use Rattle.iox_port_commands.specs.Telling.{tells_want};
 
 use crate::answers::not_begun;
 use iox_control_questions::Asked;
@@ -29,7 +29,7 @@ pub(crate) fn begin<Q: Payload, QH: Words, P: Payload, PH: Words, C>(
 ) -> Result<Kind, PortReply<Vec<u64>, C>>
     ensures refused { IfErr result (λ reply. (call : Call) → number_of call ≡ number
         → asked_of call ≡ asked → IsCalled hub.now node call reply hub.now) }
-    ensures memory { IfErr result (λ reply. wants_memory reply ≡ false) }
+    ensures memory { IfErr result (λ reply. tells_want reply ≡ false) }
     ensures has { IfOk result (λ kind. HasValue hub.now node number kind) }
     ensures suits { IfOk result (λ kind. suits false (call_of number asked) kind ≡ true) }
     ensures calls { OnOk result (is_counted (call_of number asked) ≡ true

@@ -5,7 +5,7 @@ ghost use Rattle.iox_model.specs.declared.kind.Role.TheVariants as roles;
 ghost use Rattle.iox_hub.specs.Lending.{payload_of};
 ghost use Rattle.iox_port_commands.specs.Applying.{IsCalled};
 ghost use Rattle.iox_port_commands.specs.Asking.{payload_for};
-ghost use Rattle.iox_port_commands.specs.Telling.{wants_memory};
+ghost use Rattle.iox_port_commands.specs.Telling.{tells_want};
 
 use crate::answers::{answered, copied};
 use crate::begins::{NOWHERE, begin};
@@ -18,7 +18,7 @@ use iox_store::Payload;
 use iox_words::Words;
 
 /// Sends a request of a client.
-fn copy_request<Q: Payload, QH: Words, P: Payload, PH: Words, C>(
+pub fn copy_request<Q: Payload, QH: Words, P: Payload, PH: Words, C>(
     hub: &mut Hub<Q, QH, P, PH>,
     node: u64,
     number: u64,
@@ -27,7 +27,7 @@ fn copy_request<Q: Payload, QH: Words, P: Payload, PH: Words, C>(
     ensures whole { IsCalled hub.old node
         (SendCopy number (payload_of roles.Client (length values.now)
         (flat_map Q.Element.words values.now))) result hub.new }
-    ensures memory { wants_memory result ≡ false }
+    ensures memory { tells_want result ≡ false }
 {
     match begin(hub, node, number, Asked::SendCopy(Role::Client)) {
         Ok(Kind::Client) => copied(hub.copy_request(node, number, values)),
@@ -37,7 +37,7 @@ fn copy_request<Q: Payload, QH: Words, P: Payload, PH: Words, C>(
 }
 
 /// Sends a response to the client of an active request.
-fn copy_response<Q: Payload, QH: Words, P: Payload, PH: Words, C>(
+pub fn copy_response<Q: Payload, QH: Words, P: Payload, PH: Words, C>(
     hub: &mut Hub<Q, QH, P, PH>,
     node: u64,
     number: u64,
@@ -46,7 +46,7 @@ fn copy_response<Q: Payload, QH: Words, P: Payload, PH: Words, C>(
     ensures whole { IsCalled hub.old node
         (SendCopy number (payload_of roles.Server (length values.now)
         (flat_map P.Element.words values.now))) result hub.new }
-    ensures memory { wants_memory result ≡ false }
+    ensures memory { tells_want result ≡ false }
 {
     match begin(hub, node, number, Asked::SendCopy(Role::Server)) {
         Ok(Kind::ActiveRequest) => answered(hub.copy_response(node, number, NOWHERE, values)),
@@ -65,7 +65,7 @@ pub(crate) fn send_copy<Q: Payload, QH: Words, P: Payload, PH: Words, C>(
 ) -> PortReply<Vec<u64>, C>
     ensures whole { IsCalled hub.old node
         (SendCopy number (payload_for Q.Element.words P.Element.words payload.now)) result hub.new }
-    ensures memory { wants_memory result ≡ false }
+    ensures memory { tells_want result ≡ false }
 {
     match payload {
         Elements::Requests(values) => copy_request(hub, node, number, values),

@@ -2,7 +2,7 @@
 ghost use Rattle.std.specs.Prelude.{◌≡◌, false};
 ghost use Rattle.iox_model.specs.declared.call.Call.TheVariants.{Loan};
 ghost use Rattle.iox_port_commands.specs.Applying.{HaveDefaults, IsCalled};
-ghost use Rattle.iox_port_commands.specs.Telling.{wants_memory};
+ghost use Rattle.iox_port_commands.specs.Telling.{tells_want};
 
 use crate::answers::lent;
 use crate::begins::{NOWHERE, begin};
@@ -22,7 +22,7 @@ pub(crate) fn loan<Q: Payload, QH: Words, P: Payload, PH: Words, C>(
 ) -> PortReply<Vec<u64>, C>
     requires { HaveDefaults hub.old }
     ensures whole { IsCalled hub.old node (Loan number elements) result hub.new }
-    ensures memory { wants_memory result ≡ false }
+    ensures memory { tells_want result ≡ false }
 {
     let count = elements as usize;
     match begin(hub, node, number, Asked::Loan) {

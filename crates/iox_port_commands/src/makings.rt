@@ -1,11 +1,11 @@
 //! The making of ports, by command.
-ghost use Rattle.std.specs.Prelude.{◌≡◌, false, true};
+ghost use Rattle.std.specs.Prelude.{◌≡◌, IfOk, OnErr, false, true};
 ghost use Rattle.iox_model.specs.Commands as machine;
 ghost use Rattle.iox_model.specs.Commands.{Create};
-ghost use Rattle.iox_hub.specs.Making.{options_of, would_grow};
-ghost use Rattle.iox_port_commands.specs.Applying.{IsReplied};
+ghost use Rattle.iox_hub.specs.Making.{StaysAs, options_of, would_grow};
+ghost use Rattle.iox_port_commands.specs.Applying.{IsReplied, LacksMemory};
 ghost use Rattle.iox_port_commands.specs.Asking.{HasSizeOf, options_for};
-ghost use Rattle.iox_port_commands.specs.Telling.{wants_memory};
+ghost use Rattle.iox_port_commands.specs.Telling.{tells_want};
 
 use crate::answers::{made, not_made};
 use iox_hub::{Hub, Options};
@@ -16,22 +16,27 @@ use iox_store::Payload;
 use iox_types::AllocationStrategy;
 use iox_types::identifiers::{UniqueNodeId, UniqueSystemId};
 use iox_words::Words;
-use std::alloc::Global;
+use std::alloc::{AllocError, Global};
 
-/// Makes a port of that role, with no handler.
-fn make_plain<Q: Payload, QH: Words, P: Payload, PH: Words, C>(
+/// Makes a port of that role, with no handler. It fails where there is no memory for the port: none
+/// was found, the port is too large, or its messages would grow. All stays then.
+pub fn make_port<Q: Payload, QH: Words, P: Payload, PH: Words, C>(
     hub: &mut Hub<Q, QH, P, PH>,
     alloc: Global,
     node: u64,
     role: Role,
     id: UniqueSystemId,
     options: Options,
-) -> PortReply<Vec<u64>, C>
-    ensures whole { IsReplied hub.old node (Create role id (options_of options)) result hub.new }
-    ensures memory { wants_memory result ≡ false }
+) -> Result<PortReply<Vec<u64>, C>, AllocError>
+    ensures whole { IfOk result (λ reply.
+        IsReplied hub.old node (Create role id (options_of options)) reply hub.new) }
+    ensures memory { IfOk result (λ reply. tells_want reply ≡ false) }
+    ensures wanting { OnErr result
+        (LacksMemory hub.old node (Create role id (options_of options)) hub.new) }
+    ensures unchanged { OnErr result (StaysAs hub.old hub.new) }
 {
     match hub.make_port(alloc, node, role, id, options) {
-        Ok(number) => made(role, number),
+        Ok(number) => Ok(made(role, number)),
         Err(reason) => not_made(role, reason),
     }
 }
@@ -44,11 +49,14 @@ fn make_none<Q: Payload, QH: Words, P: Payload, PH: Words, C>(
     role: Role,
     id: UniqueSystemId,
     options: Options,
-) -> PortReply<Vec<u64>, C>
+) -> Result<PortReply<Vec<u64>, C>, AllocError>
     requires { would_grow hub.old role options ≡ true }
-    ensures whole { (o : machine.Options) → HasSizeOf options o
-        → IsReplied hub.old node (Create role id o) result hub.new }
-    ensures memory { wants_memory result ≡ false }
+    ensures whole { IfOk result (λ reply. (o : machine.Options) → HasSizeOf options o
+        → IsReplied hub.old node (Create role id o) reply hub.new) }
+    ensures memory { IfOk result (λ reply. tells_want reply ≡ false) }
+    ensures wanting { OnErr result ((o : machine.Options) → HasSizeOf options o
+        → LacksMemory hub.old node (Create role id o) hub.new) }
+    ensures unchanged { OnErr result (StaysAs hub.old hub.new) }
 {
     match hub.make_port(alloc, node, role, id, options) {
         Ok(_) => unreachable!(),
@@ -64,10 +72,13 @@ pub(crate) fn make<Q: Payload, QH: Words, P: Payload, PH: Words, H: Words, C>(
     role: Role,
     id: UniqueNodeId,
     options: PortOptions<H>,
-) -> PortReply<Vec<u64>, C>
-    ensures whole { IsReplied hub.old node (Create role id (options_for H.words options)) result
-        hub.new }
-    ensures memory { wants_memory result ≡ false }
+) -> Result<PortReply<Vec<u64>, C>, AllocError>
+    ensures whole { IfOk result (λ reply.
+        IsReplied hub.old node (Create role id (options_for H.words options)) reply hub.new) }
+    ensures memory { IfOk result (λ reply. tells_want reply ≡ false) }
+    ensures wanting { OnErr result
+        (LacksMemory hub.old node (Create role id (options_for H.words options)) hub.new) }
+    ensures unchanged { OnErr result (StaysAs hub.old hub.new) }
 {
     let asked = Options {
         max_slice_len: options.max_slice_len,
@@ -78,7 +89,7 @@ pub(crate) fn make<Q: Payload, QH: Words, P: Payload, PH: Words, H: Words, C>(
     };
     let id = id.system_id();
     if options.handler.is_none() {
-        return make_plain(hub, alloc, node, role, id, asked);
+        return make_port(hub, alloc, node, role, id, asked);
     }
     // A port whose messages grow is refused for the same want of memory.
     let growing = Options {

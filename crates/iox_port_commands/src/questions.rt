@@ -2,7 +2,7 @@
 ghost use Rattle.std.specs.Prelude.{◌≡◌, false};
 ghost use Rattle.iox_model.specs.declared.call.Call.TheVariants.{HasHint, HasRequests, HasResponse, IsConnected, SetHint};
 ghost use Rattle.iox_port_commands.specs.Applying.{IsCalled};
-ghost use Rattle.iox_port_commands.specs.Telling.{wants_memory};
+ghost use Rattle.iox_port_commands.specs.Telling.{tells_want};
 
 use crate::begins::{NOWHERE, begin};
 use iox_control_questions::Asked;
@@ -19,7 +19,7 @@ pub(crate) fn is_connected<Q: Payload, QH: Words, P: Payload, PH: Words, C>(
     number: u64,
 ) -> PortReply<Vec<u64>, C>
     ensures whole { IsCalled hub.now node (IsConnected number) result hub.now }
-    ensures memory { wants_memory result ≡ false }
+    ensures memory { tells_want result ≡ false }
 {
     match begin(hub, node, number, Asked::IsConnected) {
         Ok(_) => PortReply::Answer(hub.is_connected(node, number, NOWHERE)),
@@ -35,7 +35,7 @@ pub(crate) fn set_hint<Q: Payload, QH: Words, P: Payload, PH: Words, C>(
     number: u64,
 ) -> PortReply<Vec<u64>, C>
     ensures whole { IsCalled hub.old node (SetHint number) result hub.new }
-    ensures memory { wants_memory result ≡ false }
+    ensures memory { tells_want result ≡ false }
 {
     match begin(hub, node, number, Asked::SetHint) {
         Ok(Kind::PendingResponse) => {
@@ -54,7 +54,7 @@ pub(crate) fn has_hint<Q: Payload, QH: Words, P: Payload, PH: Words, C>(
     number: u64,
 ) -> PortReply<Vec<u64>, C>
     ensures whole { IsCalled hub.now node (HasHint number) result hub.now }
-    ensures memory { wants_memory result ≡ false }
+    ensures memory { tells_want result ≡ false }
 {
     match begin(hub, node, number, Asked::HasHint) {
         Ok(Kind::ActiveRequest) => PortReply::Answer(hub.has_hint(node, number, NOWHERE)),
@@ -70,7 +70,7 @@ pub(crate) fn has_requests<Q: Payload, QH: Words, P: Payload, PH: Words, C>(
     number: u64,
 ) -> PortReply<Vec<u64>, C>
     ensures whole { IsCalled hub.now node (HasRequests number) result hub.now }
-    ensures memory { wants_memory result ≡ false }
+    ensures memory { tells_want result ≡ false }
 {
     match begin(hub, node, number, Asked::HasRequests) {
         Ok(Kind::Server) => PortReply::Answer(hub.has_requests(node, number)),
@@ -86,7 +86,7 @@ pub(crate) fn has_response<Q: Payload, QH: Words, P: Payload, PH: Words, C>(
     number: u64,
 ) -> PortReply<Vec<u64>, C>
     ensures whole { IsCalled hub.now node (HasResponse number) result hub.now }
-    ensures memory { wants_memory result ≡ false }
+    ensures memory { tells_want result ≡ false }
 {
     match begin(hub, node, number, Asked::HasResponse) {
         Ok(Kind::PendingResponse) => { PortReply::Answer(hub.has_response(node, number, NOWHERE)) }

@@ -1,18 +1,20 @@
 //! Reads by number.
-ghost use Rattle.std.specs.Prelude.{◌≡◌};
+ghost use Rattle.std.specs.Prelude.{◌≡◌, IfOk, OnErr, false};
 ghost use Rattle.iox_model.specs.declared.call.Call.TheVariants.{Read};
+ghost use Rattle.iox_model.specs.Commands.{Use};
 ghost use Rattle.iox_hub.specs.Reads.{HasOf, has_request, has_response};
-ghost use Rattle.iox_port_commands.specs.Applying.{IsCalled};
+ghost use Rattle.iox_port_commands.specs.Applying.{IsCalled, LacksMemory};
+ghost use Rattle.iox_port_commands.specs.Telling.{tells_want};
 
 use crate::begins::{NOWHERE, begin};
 use crate::word_lists::words_of;
 use iox_control_questions::Asked;
 use iox_hub::Hub;
 use iox_model::kind::Kind;
-use iox_model::reply::{PortReply, Refusal};
+use iox_model::reply::PortReply;
 use iox_store::Payload;
 use iox_words::Words;
-use std::alloc::Global;
+use std::alloc::{AllocError, Global};
 
 /// The words of a request, where there is memory for them.
 fn read_request<Q: Payload, QH: Words, P: Payload, PH: Words, C>(
@@ -20,14 +22,16 @@ fn read_request<Q: Payload, QH: Words, P: Payload, PH: Words, C>(
     alloc: Global,
     node: u64,
     number: u64,
-) -> PortReply<Vec<u64>, C>
+) -> Result<PortReply<Vec<u64>, C>, AllocError>
     requires has { HasOf has_request hub.now node number }
-    ensures { IsCalled hub.now node (Read number) result hub.now }
+    ensures whole { IfOk result (λ reply. IsCalled hub.now node (Read number) reply hub.now) }
+    ensures memory { IfOk result (λ reply. tells_want reply ≡ false) }
+    ensures wanting { OnErr result (LacksMemory hub.now node (Use (Read number)) hub.now) }
 {
     let header = hub.request_header(node, number, NOWHERE);
     match words_of(alloc, header, hub.request(node, number, NOWHERE)) {
-        Ok(words) => PortReply::Words(words),
-        Err(_) => PortReply::Refused(Refusal::WantOfMemory),
+        Ok(words) => Ok(PortReply::Words(words)),
+        Err(error) => Err(error),
     }
 }
 
@@ -37,25 +41,30 @@ fn read_response<Q: Payload, QH: Words, P: Payload, PH: Words, C>(
     alloc: Global,
     node: u64,
     number: u64,
-) -> PortReply<Vec<u64>, C>
+) -> Result<PortReply<Vec<u64>, C>, AllocError>
     requires has { HasOf has_response hub.now node number }
-    ensures { IsCalled hub.now node (Read number) result hub.now }
+    ensures whole { IfOk result (λ reply. IsCalled hub.now node (Read number) reply hub.now) }
+    ensures memory { IfOk result (λ reply. tells_want reply ≡ false) }
+    ensures wanting { OnErr result (LacksMemory hub.now node (Use (Read number)) hub.now) }
 {
     let header = hub.response_header(node, number, NOWHERE);
     match words_of(alloc, header, hub.response(node, number, NOWHERE)) {
-        Ok(words) => PortReply::Words(words),
-        Err(_) => PortReply::Refused(Refusal::WantOfMemory),
+        Ok(words) => Ok(PortReply::Words(words)),
+        Err(error) => Err(error),
     }
 }
 
-/// The words of a handle's message: those of its user header, and then those of its elements.
-pub(crate) fn read<Q: Payload, QH: Words, P: Payload, PH: Words, C>(
+/// The words of a handle's message: those of its user header, and then those of its elements. It
+/// fails only where there is no memory for them.
+pub fn read<Q: Payload, QH: Words, P: Payload, PH: Words, C>(
     hub: &Hub<Q, QH, P, PH>,
     alloc: Global,
     node: u64,
     number: u64,
-) -> PortReply<Vec<u64>, C>
-    ensures { IsCalled hub.now node (Read number) result hub.now }
+) -> Result<PortReply<Vec<u64>, C>, AllocError>
+    ensures whole { IfOk result (λ reply. IsCalled hub.now node (Read number) reply hub.now) }
+    ensures memory { IfOk result (λ reply. tells_want reply ≡ false) }
+    ensures wanting { OnErr result (LacksMemory hub.now node (Use (Read number)) hub.now) }
 {
     match begin(hub, node, number, Asked::Read) {
         Ok(Kind::RequestMut | Kind::PendingResponse | Kind::ActiveRequest) => {
@@ -63,6 +72,6 @@ pub(crate) fn read<Q: Payload, QH: Words, P: Payload, PH: Words, C>(
         }
         Ok(Kind::ResponseMut | Kind::Response) => read_response(hub, alloc, node, number),
         Ok(_) => unreachable!(),
-        Err(reply) => reply,
+        Err(reply) => Ok(reply),
     }
 }

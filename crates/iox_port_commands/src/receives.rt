@@ -2,7 +2,7 @@
 ghost use Rattle.std.specs.Prelude.{◌≡◌, false};
 ghost use Rattle.iox_model.specs.declared.call.Call.TheVariants.{Receive};
 ghost use Rattle.iox_port_commands.specs.Applying.{IsCalled};
-ghost use Rattle.iox_port_commands.specs.Telling.{wants_memory};
+ghost use Rattle.iox_port_commands.specs.Telling.{tells_want};
 
 use crate::answers::received;
 use crate::begins::{NOWHERE, begin};
@@ -14,13 +14,13 @@ use iox_store::Payload;
 use iox_words::Words;
 
 /// Receives a request for a server, or a response for a pending response.
-pub(crate) fn receive<Q: Payload, QH: Words, P: Payload, PH: Words, C>(
+pub fn receive<Q: Payload, QH: Words, P: Payload, PH: Words, C>(
     hub: &mut Hub<Q, QH, P, PH>,
     node: u64,
     number: u64,
 ) -> PortReply<Vec<u64>, C>
     ensures whole { IsCalled hub.old node (Receive number) result hub.new }
-    ensures memory { wants_memory result ≡ false }
+    ensures memory { tells_want result ≡ false }
 {
     match begin(hub, node, number, Asked::Receive) {
         Ok(Kind::Server) => received(hub.receive_request(node, number)),

@@ -2,7 +2,7 @@
 ghost use Rattle.std.specs.Prelude.{◌≡◌, false};
 ghost use Rattle.iox_model.specs.declared.call.Call.TheVariants.{Release};
 ghost use Rattle.iox_port_commands.specs.Applying.{IsCalled};
-ghost use Rattle.iox_port_commands.specs.Telling.{wants_memory};
+ghost use Rattle.iox_port_commands.specs.Telling.{tells_want};
 
 use crate::begins::{NOWHERE, begin};
 use iox_control_questions::Asked;
@@ -19,7 +19,7 @@ pub(crate) fn release<Q: Payload, QH: Words, P: Payload, PH: Words, C>(
     number: u64,
 ) -> PortReply<Vec<u64>, C>
     ensures whole { IsCalled hub.old node (Release number) result hub.new }
-    ensures memory { wants_memory result ≡ false }
+    ensures memory { tells_want result ≡ false }
 {
     match begin(hub, node, number, Asked::Release) {
         Ok(Kind::Client | Kind::Server) => {

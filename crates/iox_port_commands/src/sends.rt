@@ -2,7 +2,7 @@
 ghost use Rattle.std.specs.Prelude.{◌≡◌, false};
 ghost use Rattle.iox_model.specs.declared.call.Call.TheVariants.{Send};
 ghost use Rattle.iox_port_commands.specs.Applying.{IsCalled};
-ghost use Rattle.iox_port_commands.specs.Telling.{wants_memory};
+ghost use Rattle.iox_port_commands.specs.Telling.{tells_want};
 
 use crate::answers::{requested, responded};
 use crate::begins::{NOWHERE, begin};
@@ -20,7 +20,7 @@ pub(crate) fn send<Q: Payload, QH: Words, P: Payload, PH: Words, C>(
     number: u64,
 ) -> PortReply<Vec<u64>, C>
     ensures whole { IsCalled hub.old node (Send number) result hub.new }
-    ensures memory { wants_memory result ≡ false }
+    ensures memory { tells_want result ≡ false }
 {
     match begin(hub, node, number, Asked::Send) {
         Ok(Kind::RequestMut) => requested(hub.send_request(node, number, NOWHERE)),

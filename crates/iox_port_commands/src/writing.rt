@@ -5,7 +5,7 @@ ghost use Rattle.iox_model.specs.declared.kind.Role.TheVariants as roles;
 ghost use Rattle.iox_hub.specs.Lending.{payload_of};
 ghost use Rattle.iox_port_commands.specs.Applying.{IsCalled};
 ghost use Rattle.iox_port_commands.specs.Asking.{payload_for};
-ghost use Rattle.iox_port_commands.specs.Telling.{wants_memory};
+ghost use Rattle.iox_port_commands.specs.Telling.{tells_want};
 
 use crate::answers::written;
 use crate::begins::{NOWHERE, begin};
@@ -27,7 +27,7 @@ fn write_request<Q: Payload, QH: Words, P: Payload, PH: Words, C>(
     ensures whole { IsCalled hub.old node
         (Write number (payload_of roles.Client (length values.now)
         (flat_map Q.Element.words values.now))) result hub.new }
-    ensures memory { wants_memory result ≡ false }
+    ensures memory { tells_want result ≡ false }
 {
     match begin(hub, node, number, Asked::Write(Role::Client)) {
         Ok(_) => written(hub.write_request(node, number, NOWHERE, values)),
@@ -45,7 +45,7 @@ fn write_response<Q: Payload, QH: Words, P: Payload, PH: Words, C>(
     ensures whole { IsCalled hub.old node
         (Write number (payload_of roles.Server (length values.now)
         (flat_map P.Element.words values.now))) result hub.new }
-    ensures memory { wants_memory result ≡ false }
+    ensures memory { tells_want result ≡ false }
 {
     match begin(hub, node, number, Asked::Write(Role::Server)) {
         Ok(_) => written(hub.write_response(node, number, NOWHERE, values)),
@@ -62,7 +62,7 @@ pub(crate) fn write<Q: Payload, QH: Words, P: Payload, PH: Words, C>(
 ) -> PortReply<Vec<u64>, C>
     ensures whole { IsCalled hub.old node
         (Write number (payload_for Q.Element.words P.Element.words payload.now)) result hub.new }
-    ensures memory { wants_memory result ≡ false }
+    ensures memory { tells_want result ≡ false }
 {
     match payload {
         Elements::Requests(values) => write_request(hub, node, number, values),

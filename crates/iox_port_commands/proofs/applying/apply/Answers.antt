@@ -1,17 +1,38 @@
-use Rattle.iox_model.specs.Commands.{asking}
+use Rattle.std.specs.Prelude.{Bool, if◌then◌else◌}
+use Rattle.std.proofs.Common.{ap, ◌∙◌}
+use Rattle.iox_model.specs.declared.reply.PortReply.TheVariants.{Refused}
+use Rattle.iox_model.specs.declared.reply.Refusal.TheVariants.{UnableToCreateDataSegment, WantOfMemory}
 use Rattle.iox_port_commands.specs.Applying.{HaveSameShapes}
-use Rattle.iox_port_commands.specs.Asking.{command_for}
-use Rattle.iox_port_commands.proofs.Shaping.{defaults_stay, shapes_stay}
+use Rattle.iox_port_commands.proofs.Lacking.{refused_for_want}
+use Rattle.iox_port_commands.proofs.Shaping.{defaults_stay, shapes_after}
 use Rattle.iox_port_commands.proofs.applying.apply.Goals as goal
 
-pub returns-clause-shapes : goal.returns-clause-shapes
-returns-clause-shapes g c =
-    let command = command_for g.Q.Element.Words.words g.P.Element.Words.words g.H.Words.words c.args.command in
-    shapes_stay c.args.hub.now c.dispatch.new.hub (asking command).0 (asking command).1 c.dispatch.result c.dispatch.ensures.whole
+pub returns-in-Err-clause-whole : goal.returns-in-Err-clause-whole
+returns-in-Err-clause-whole g c =
+    refused_for_want g.Q.Element.Words.words g.P.Element.Words.words g.H.Words.words c.args.hub.now c.dispatch.new.hub c.args.command c.lacking.result
+    (c.lacking.ensures ∙ ap (λ (b : Bool). Refused (if b then UnableToCreateDataSegment else WantOfMemory)) c.is_making-making.ensures)
+    c.in-Err.ensures.wanting
 
-pub returns-clause-defaults : goal.returns-clause-defaults
-returns-clause-defaults g c =
-    let command = command_for g.Q.Element.Words.words g.P.Element.Words.words g.H.Words.words c.args.command in
+pub returns-in-Ok-clause-shapes : goal.returns-in-Ok-clause-shapes
+returns-in-Ok-clause-shapes g c =
+    shapes_after g.Q.Element.Words.words g.P.Element.Words.words g.H.Words.words c.args.hub.now c.dispatch.new.hub c.args.command c.dispatch.result
+    c.dispatch.ensures.whole c.dispatch.ensures.wanting
+
+pub returns-in-Err-clause-shapes : goal.returns-in-Err-clause-shapes
+returns-in-Err-clause-shapes g c =
+    shapes_after g.Q.Element.Words.words g.P.Element.Words.words g.H.Words.words c.args.hub.now c.dispatch.new.hub c.args.command c.dispatch.result
+    c.dispatch.ensures.whole c.dispatch.ensures.wanting
+
+pub returns-in-Ok-clause-defaults : goal.returns-in-Ok-clause-defaults
+returns-in-Ok-clause-defaults g c =
     let same : HaveSameShapes c.args.hub.now c.dispatch.new.hub =
-    shapes_stay c.args.hub.now c.dispatch.new.hub (asking command).0 (asking command).1 c.dispatch.result c.dispatch.ensures.whole in
+    shapes_after g.Q.Element.Words.words g.P.Element.Words.words g.H.Words.words c.args.hub.now c.dispatch.new.hub c.args.command c.dispatch.result
+    c.dispatch.ensures.whole c.dispatch.ensures.wanting in
+    defaults_stay c.args.hub.now c.dispatch.new.hub same c.requires
+
+pub returns-in-Err-clause-defaults : goal.returns-in-Err-clause-defaults
+returns-in-Err-clause-defaults g c =
+    let same : HaveSameShapes c.args.hub.now c.dispatch.new.hub =
+    shapes_after g.Q.Element.Words.words g.P.Element.Words.words g.H.Words.words c.args.hub.now c.dispatch.new.hub c.args.command c.dispatch.result
+    c.dispatch.ensures.whole c.dispatch.ensures.wanting in
     defaults_stay c.args.hub.now c.dispatch.new.hub same c.requires

@@ -1,0 +1,108 @@
+//! Commands as methods of a hub.
+ghost use Rattle.std.specs.Prelude.{◌≡◌, ◌||◌, IfOk, OnErr, true};
+ghost use Rattle.iox_hub.specs.Hubs.{HubState};
+ghost use Rattle.iox_hub.specs.Making.{StaysAs};
+ghost use Rattle.iox_port_commands.specs.Applying.{HadMemoryFor, HaveDefaults, HaveSameShapes};
+ghost use Rattle.iox_port_commands.specs.Applying.{IsApplied, LacksMemoryFor};
+ghost use Rattle.iox_port_commands.specs.Asking.{is_making, is_read};
+ghost use Rattle.iox_port_commands.specs.Telling.{tells_want, wants_memory, wants_segment};
+
+use crate::applying::{apply, try_apply};
+use crate::elements::Elements;
+use iox_hub::Hub;
+use iox_model::command::PortCommand;
+use iox_model::reply::PortReply;
+use iox_store::Payload;
+use iox_words::Words;
+use std::alloc::{AllocError, Global};
+
+/// To what commands can be applied: each method is the function of its name.
+pub trait ApplyCommand {
+    /// An element of a request, and one of a response.
+    type Request: Words;
+
+    type Response: Words;
+
+    /// What it shows of its hub.
+    ghost shown: { Self → HubState };
+
+    /// Applies a command.
+    fn apply<H: Words, C>(
+        &mut self,
+        alloc: Global,
+        command: PortCommand<Elements<Self::Request, Self::Response>, H>,
+    ) -> PortReply<Vec<u64>, C>
+        requires { HaveDefaults (shown self.old) }
+        ensures whole { IsApplied Self.Request.words Self.Response.words H.words (shown self.old)
+            command result (shown self.new) }
+        ensures memory { wants_memory result ≡ true → is_read command ≡ true }
+        ensures segment { wants_segment result ≡ true → is_making command ≡ true }
+        ensures unchanged { tells_want result ≡ true → StaysAs (shown self.old) (shown self.new) }
+        ensures shapes { HaveSameShapes (shown self.old) (shown self.new) }
+        ensures defaults { HaveDefaults (shown self.new) };
+
+    /// Applies a command, where there is memory for it.
+    fn try_apply<H: Words, C>(
+        &mut self,
+        alloc: Global,
+        command: PortCommand<Elements<Self::Request, Self::Response>, H>,
+    ) -> Result<PortReply<Vec<u64>, C>, AllocError>
+        requires { HaveDefaults (shown self.old) }
+        ensures whole { IfOk result (λ reply. IsApplied Self.Request.words Self.Response.words
+            H.words (shown self.old) command reply (shown self.new)) }
+        ensures memory { IfOk result (λ reply. HadMemoryFor Self.Request.words Self.Response.words
+            H.words (shown self.old) command reply) }
+        ensures wanting { OnErr result (LacksMemoryFor Self.Request.words Self.Response.words
+            H.words (shown self.old) command (shown self.new)) }
+        ensures takes { OnErr result ((is_making command || is_read command) ≡ true) }
+        ensures unchanged { OnErr result (StaysAs (shown self.old) (shown self.new)) }
+        ensures shapes { HaveSameShapes (shown self.old) (shown self.new) }
+        ensures defaults { HaveDefaults (shown self.new) };
+}
+
+impl<Q: Payload, QH: Words, P: Payload, PH: Words> ApplyCommand for Hub<Q, QH, P, PH> {
+    type Request = Q::Element;
+
+    type Response = P::Element;
+
+    ghost shown = { λ h. h };
+
+    #[inline]
+    fn apply<H: Words, C>(
+        &mut self,
+        alloc: Global,
+        command: PortCommand<Elements<Q::Element, P::Element>, H>,
+    ) -> PortReply<Vec<u64>, C>
+        requires { HaveDefaults self.old }
+        ensures whole { IsApplied Q.Element.words P.Element.words H.words self.old command result
+            self.new }
+        ensures memory { wants_memory result ≡ true → is_read command ≡ true }
+        ensures segment { wants_segment result ≡ true → is_making command ≡ true }
+        ensures unchanged { tells_want result ≡ true → StaysAs self.old self.new }
+        ensures shapes { HaveSameShapes self.old self.new }
+        ensures defaults { HaveDefaults self.new }
+    {
+        apply(self, alloc, command)
+    }
+
+    #[inline]
+    fn try_apply<H: Words, C>(
+        &mut self,
+        alloc: Global,
+        command: PortCommand<Elements<Q::Element, P::Element>, H>,
+    ) -> Result<PortReply<Vec<u64>, C>, AllocError>
+        requires { HaveDefaults self.old }
+        ensures whole { IfOk result (λ reply. IsApplied Q.Element.words P.Element.words H.words
+            self.old command reply self.new) }
+        ensures memory { IfOk result (λ reply. HadMemoryFor Q.Element.words P.Element.words H.words
+            self.old command reply) }
+        ensures wanting { OnErr result (LacksMemoryFor Q.Element.words P.Element.words H.words
+            self.old command self.new) }
+        ensures takes { OnErr result ((is_making command || is_read command) ≡ true) }
+        ensures unchanged { OnErr result (StaysAs self.old self.new) }
+        ensures shapes { HaveSameShapes self.old self.new }
+        ensures defaults { HaveDefaults self.new }
+    {
+        try_apply(self, alloc, command)
+    }
+}
