@@ -1,5 +1,5 @@
 -- What a command comes to where memory is missing, and that it was there.
-use Rattle.std.specs.Prelude.{◌≡◌, ℕ, true, false, if◌then◌else◌, List, Result, Ok, Err, IfOk}
+use Rattle.std.specs.Prelude.{◌≡◌, ℕ, false, if◌then◌else◌, List, Result, Ok, Err, IfOk}
 use Rattle.std.specs.declared.vec.Vec.{Vec}
 use Rattle.std.proofs.Common.{sym, subst, true≢false}
 use Rattle.iox_model.specs.declared.command.Command.TheVariants.{Port}
