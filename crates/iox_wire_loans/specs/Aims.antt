@@ -78,6 +78,7 @@ AreAimed p x (LendEmpties o w place left) r =
 AreAimed p x (LendStores o slot next) r = Knows p x r × AreWords p o.port slot r
 AreAimed p x local r = Unit {0}
 
+-- the places that it knows of are those of its place
 abbrev pub IsAimed : Setting → Seat → Loaned → Type 0
 IsAimed p x r = AreAimed p x r.local r
 

@@ -20,6 +20,7 @@ use Rattle.iox_wire_loans.specs.declared.slot_places.SlotPlaces.{SlotPlaces}
 abbrev pub start_in : SlotPlaces → ℕ → ℕ
 start_in t slot = slot * t.slot_words
 
+-- how far behind the first slot the user header of a slot begins
 abbrev pub user_in : SlotPlaces → ℕ → ℕ
 user_in t slot = aligned_place (start_in t slot + t.header) t.step
 

@@ -19,6 +19,7 @@ WorkedUsesAreCounted = AllUsesAreCounted ones fresh.client
 abbrev pub told_uses : Seat → List ℕ
 told_uses x = option_map_or (λ d. d.uses) (find (λ d. d.port == 0) x.desks) []
 
+-- how often each of its four slots is in use
 abbrev pub four_uses : Seat → List ℕ
 four_uses x = map (uses_of x 0) (0 ∷ 1 ∷ 2 ∷ 3 ∷ [])
 

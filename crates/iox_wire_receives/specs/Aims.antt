@@ -74,6 +74,7 @@ AreAimed p x (ReceiveReturns v w slot place left waiting) r =
     Knows p x r × (r.site ≡ site_of p.layout (ReturningQueue w))
 AreAimed p x local r = Unit {0}
 
+-- the places that it knows of are those of its place
 abbrev pub IsAimed : Setting → Seat → Receipt → Type 0
 IsAimed p x r = AreAimed p x r.local r
 

@@ -23,6 +23,7 @@ ways_of sources = map (λ s. s.way) sources
 abbrev pub messages_at : ReceiveTerms → Source → Site
 messages_at t s = record { kind = t.kind; base = s.place; capacity = t.capacity }
 
+-- where the messages of a source return
 abbrev pub returning_at : ReceiveTerms → Source → Site
 returning_at t s = record { kind = Index; base = s.place + t.back; capacity = t.room }
 
@@ -36,6 +37,7 @@ pub record IsWithin (t : ReceiveTerms) (header : ℕ) (s : Source) : Type 0 wher
   pub room : header ≤ s.slot_words
   pub states : s.place + t.state + s.lanes * t.lane_words < 2 ^ 64
 
+-- what stands there of each source is in memory
 abbrev pub AreWithin : ReceiveTerms → ℕ → List Source → Type 0
 AreWithin t header [] = Unit {0}
 AreWithin t header (s ∷ sources) = IsWithin t header s × AreWithin t header sources
@@ -58,6 +60,7 @@ pub record IsSource (p : Setting) (t : ReceiveTerms) (header : ℕ) (s : Source)
   pub node : (x : Seat) → forgot_port (known p x) x.node s.way.sender ≡ has_number s.node x.forgot
   pub limit : (x : Seat) → borrow_limit_on (known p x) s.way ≡ t.limit
 
+-- each is a source of the wire
 abbrev pub AreSources : Setting → ReceiveTerms → ℕ → List Source → Type 0
 AreSources p t header [] = Unit {0}
 AreSources p t header (s ∷ sources) = IsSource p t header s × AreSources p t header sources

@@ -82,6 +82,7 @@ AreAimed p x (Ends ending) r = Knows p x r
 AreAimed p x (SendEnds d last count) r = Knows p x r
 AreAimed p x local r = Unit {0}
 
+-- the places that it knows of are those of its place
 abbrev pub IsAimed : Setting → Seat → RequestDispatch → Type 0
 IsAimed p x r = AreAimed p x r.local r
 

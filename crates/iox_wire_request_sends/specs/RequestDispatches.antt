@@ -61,9 +61,11 @@ delivery_to e copied targets = record { loan = e; copied = copied; to = servers_
 abbrev pub delivery_of : Beside → Delivery
 delivery_of b = delivery_to b.loan b.copied b.targets
 
+-- the way to the server that is visited
 abbrev pub way_of : Beside → Way
 way_of b = request_way b.loan.port b.target.server
 
+-- the ways left, to servers with room
 abbrev pub ways_left : Beside → List Way
 ways_left b = ways_to b.loan.port (with_room b.full b.left)
 

@@ -49,6 +49,7 @@ fails_at_full fails (server ∷ full) = fails
 abbrev pub messages_at : RequestTerms → Target → Site
 messages_at t s = record { kind = t.kind; base = s.place; capacity = t.capacity }
 
+-- where requests return from a server
 abbrev pub returning_at : RequestTerms → Target → Site
 returning_at t s = record { kind = Index; base = s.place + t.back; capacity = t.room }
 
@@ -64,6 +65,7 @@ pub record IsWithin (t : RequestTerms) (s : Target) : Type 0 where
   pub returning : IsInMemory (returning_at t s)
   pub state : state_at t s < 2 ^ 64
 
+-- what stands there of each server is in memory
 abbrev pub AreWithin : RequestTerms → List Target → Type 0
 AreWithin t [] = Unit {0}
 AreWithin t (s ∷ targets) = IsWithin t s × AreWithin t targets
@@ -79,6 +81,7 @@ pub record IsTarget (p : Setting) (t : RequestTerms) (loan : Entry) (s : Target)
   pub state :
       state_at t s ≡ state_place p.layout (response_way loan.port loan.lane s.server)
 
+-- each is a server of the wire
 abbrev pub AreTargets : Setting → RequestTerms → Entry → List Target → Type 0
 AreTargets p t loan [] = Unit {0}
 AreTargets p t loan (s ∷ targets) = IsTarget p t loan s × AreTargets p t loan targets

@@ -14,9 +14,11 @@ use Rattle.iox_wire_locals.specs.WorkedWires.{limits_of_ones, ones, port_of_ones
 abbrev pub loaned : Both
 loaned = client_does ones (calls.Loan 0 1) 9 fresh
 
+-- the send before its last access
 abbrev pub almost_sent : Both
 almost_sent = client_does ones (calls.Send 2) 8 loaned
 
+-- and after it
 abbrev pub sent : Both
 sent = client_does ones (calls.Send 2) 9 loaned
 
@@ -28,6 +30,7 @@ received = server_does ones (calls.Receive 1) 12 sent
 abbrev pub loaned_again : Both
 loaned_again = client_does ones (calls.Loan 0 1) 9 sent
 
+-- that request is refused
 abbrev pub refused : Both
 refused = client_does ones (calls.Send 3) 1 loaned_again
 
@@ -40,11 +43,13 @@ failing = record ones {
   };
 }
 
+-- there the client sends one request, and lends another
 abbrev pub loaned_there : Both
 loaned_there =
     client_does failing (calls.Loan 0 1) 9
     (client_does failing (calls.Send 2) 9 (client_does failing (calls.Loan 0 1) 9 fresh))
 
+-- whose send is refused
 abbrev pub undelivered : Both
 undelivered = client_does failing (calls.Send 3) 4 loaned_there
 

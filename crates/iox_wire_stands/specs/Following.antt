@@ -35,6 +35,7 @@ pub data CallMessage : Type 0 where
   -- taken on a way
   Taken : (way : Way) (slot : ℕ) → CallMessage
 
+-- the message of a call that is over but for its end
 abbrev pub message_ended : Ending → CallMessage
 message_ended (endings.Lends o slot) = Lent o slot
 message_ended (endings.Fills e words) = OfEntry e
@@ -44,6 +45,7 @@ message_ended (endings.Receives v w slot header) = Taken w slot
 message_ended (endings.Drops e) = Dropped e
 message_ended ending = NoMessage
 
+-- the message of a call at its place
 abbrev pub message_at : Local → CallMessage
 message_at (Ends ending) = message_ended ending
 message_at (LendStores o slot next) = Lent o slot
@@ -99,18 +101,22 @@ pub data DeskChange : Type 0 where
   GotBack : (port : ℕ) (way : Way) (slot : ℕ) → DeskChange
   Delivered : (port : ℕ) (way : Way) (slot : ℕ) → DeskChange
 
+-- a pop of a returning queue gets the message back that it hands out
 abbrev pub popped_back : ℕ → Way → QueueEvent → DeskChange
 popped_back port w (HandOut slot) = GotBack port w slot
 popped_back port w event = Unchanged
 
+-- a push gets the message back of which it learns that it was pushed out
 abbrev pub pushed_out : ℕ → Way → QueueEvent → DeskChange
 pushed_out port w (Learn slot) = GotBack port w slot
 pushed_out port w event = Unchanged
 
+-- a push delivers the message that it publishes
 abbrev pub published : ℕ → Way → QueueEvent → DeskChange
 published port w (Publish slot) = Delivered port w slot
 published port w event = Unchanged
 
+-- what an access at that place changes, by what it saw
 abbrev pub desk_change : Setting → Local → ℕ → DeskChange
 desk_change p (LendEmpties o w place left) seen =
     popped_back o.port w (pop_finds p (ReturningQueue w) place seen)
@@ -122,6 +128,7 @@ desk_change p (SendGetsBack d w place left count) seen =
     pushed_out d.loan.port w (push_finds p (MessageQueue w) place seen)
 desk_change p local seen = Unchanged
 
+-- the node after that change
 abbrev pub changed : DeskChange → Seat → Seat
 changed Unchanged x = x
 changed (GotBack port w slot) x = at_desk x port (gets_back w slot)

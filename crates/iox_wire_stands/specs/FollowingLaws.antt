@@ -25,6 +25,7 @@ abbrev pub LeavesAll : Option Moment → Type 0
 LeavesAll None = Unit {0}
 LeavesAll (Some m) = LeavesRecords m
 
+-- a change of a desk has the moment of the machine that changes its record so
 abbrev pub IsMomentOf : Pools → DeskChange → Option Moment → Type 0
 IsMomentOf held Unchanged m = LeavesAll m
 IsMomentOf held (GotBack port w slot) m = m ≡ Some (GetBack w (serial_in held w slot))

@@ -31,6 +31,7 @@ abbrev pub LendsAtHome : Setting → Seat → CallMessage → Type 0
 LendsAtHome p x (Lent o slot) = IsPortOfSeat p x o.port
 LendsAtHome p x other = Unit {0}
 
+-- What is so of a living node between two of its accesses.
 pub record NodeStands (p : Setting) (held : Pools) (s : State) (x : Seat) : Type 0 where
   -- its call owns the ways, states and slots of its place, and no other node takes them away
   pub owns : OwnsFirmly p x.node s.fixed s.request_state x.local

@@ -41,6 +41,7 @@ abbrev pub AreNumbered : Setting → Type 0
 AreNumbered p =
     (port : ℕ) → has_number port p.layout.sizes.ports ≡ true → (p.port port).number ≡ port
 
+-- Words and nodes stand for a run of the machine: what is so of a wire between any two accesses.
 pub record Stands (p : Setting) (words : List ℕ) (players : ℕ → Player) (r : Run) : Type 0 where
   -- which message each slot holds, and what the words hold
   pub held : Pools
