@@ -86,8 +86,10 @@ def page():
 
 
 def main():
+    if sys.argv[1:] not in ([], ["--check"]):
+        sys.exit(__doc__)
     wanted = page()
-    if "--check" not in sys.argv:
+    if not sys.argv[1:]:
         PAGE.write_text(wanted)
     elif not PAGE.exists() or PAGE.read_text() != wanted:
         sys.exit("laws_list: docs/LAWS.md is not as tools/laws_list.py writes it")
