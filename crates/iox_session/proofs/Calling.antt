@@ -1,6 +1,7 @@
--- Calls by number: which messages are sent through a number, and what is read.
-use Rattle.std.specs.Prelude.{◌≡◌, ◌↔◌, ℕ, Bool, true, false, if◌then◌else◌, IsTrue, List, [], ◌∷◌, ◌++◌, flat_map, length, Option, Some, None, refl}
+-- Calls by number: what a hub answers, and which messages are sent through a number.
+use Rattle.std.specs.Prelude.{◌≡◌, ◌↔◌, ℕ, Bool, true, false, if◌then◌else◌, IsTrue, List, [], ◌∷◌, flat_map, length, Option, Some, None, IfSome, MatchOption, refl}
 use Rattle.std.specs.Option.{option_map_or}
+use Rattle.std.specs.declared.vec.Vec.{Vec}
 use Rattle.std.proofs.Common.{sym, ap, ap₂, subst, ◌∙◌, true≢false}
 use Rattle.iox_words.specs.Numbers.{one_word}
 use Rattle.iox_model.specs.declared.call.Call.TheVariants.{SendCopy}
@@ -8,26 +9,28 @@ use Rattle.iox_model.specs.declared.kind.Kind.{Kind}
 use Rattle.iox_model.specs.declared.kind.Kind.TheVariants as kinds
 use Rattle.iox_model.specs.declared.kind.Role.{Role}
 use Rattle.iox_model.specs.declared.kind.Role.TheVariants as roles
-use Rattle.iox_model.specs.declared.reply.Reply.TheVariants.{Words}
-use Rattle.iox_model.specs.Commands.{Call, Reply}
+use Rattle.iox_model.specs.declared.reply.PortReply as the_reply
+use Rattle.iox_model.specs.Commands.{Call, PortReply, Reply, answer_of}
 use Rattle.iox_model.specs.Handles.{has, same_kind}
-use Rattle.iox_model.specs.Names.{suits}
 use Rattle.iox_model.specs.WholeCalls.{IsWholeCall}
-use Rattle.iox_control_questions.specs.Asking.{call_of}
-use Rattle.iox_control_questions.specs.declared.asked.Asked.TheVariants as asks
 use Rattle.iox_tables.specs.HubLoans.Questions.{kind_in}
 use Rattle.iox_tables.specs.HubStates.States.{Given}
 use Rattle.iox_tables.proofs.HubLoans.Asked.{each_value_is_there}
 use Rattle.iox_hub.specs.Hubs.{HasValue, HubState, given_by, state_of_hub}
 use Rattle.iox_hub.specs.Lending.{payload_of}
+use Rattle.iox_port_commands.specs.Telling.{IsToldAnd, reply_told}
 use Rattle.iox_session.specs.Answers.{payload_given}
 
--- ---- another reply, or another call, that is the same
+-- ---- the reply that a service gives, and another call that is the same
 
-pub replies_so : (x : Given) (h h' : HubState) (node : ℕ) (call : Call) (a b : Reply) → a ≡ b
-    → IsWholeCall (state_of_hub x h) node call b (state_of_hub x h') → IsWholeCall (state_of_hub x h) node call a (state_of_hub x h')
-replies_so x h h' node call a b e whole =
-    subst (λ r. IsWholeCall (state_of_hub x h) node call r (state_of_hub x h')) (sym e) whole
+-- what is so of what a hub answers is so of the reply that the service gives
+pub gives_so : {C Z : Type 0} (reply : the_reply.PortReply (Vec ℕ Z) C) (a : Reply) (P : Reply → Type 0)
+    → IfSome (reply_told reply) (λ r. answer_of r ≡ a) → IsToldAnd reply P → P a
+gives_so reply a P is told = step (reply_told reply) is told
+  where
+    step : (o : Option PortReply) → IfSome o (λ r. answer_of r ≡ a) → MatchOption o ⊥ (λ r. P (answer_of r)) → P a
+    step (Some r) e p = subst P e p
+    step None e p = absurd p
 
 pub calls_so : (x : Given) (h h' : HubState) (node : ℕ) (a b : Call) (reply : Reply) → a ≡ b
     → IsWholeCall (state_of_hub x h) node b reply (state_of_hub x h') → IsWholeCall (state_of_hub x h) node a reply (state_of_hub x h')
@@ -71,27 +74,6 @@ pub copies_so : (x : Given) (h : HubState) (node n : ℕ) (ws : List ℕ) (b : B
     → SendCopy n (payload_given (state_of_hub x h) node n ws) ≡ SendCopy n (payload_of (if b then roles.Server else roles.Client) (length ws) (flat_map one_word ws))
 copies_so x h node n ws b e =
     ap₂ (λ role words. SendCopy n (payload_of role (length ws) words)) (role_is x h node n b e) (sym (one_word_each ws))
-
--- what a request is sent through is a client
-pub sends_requests : (n : ℕ) (k : Option Kind) → option_map_or (suits false (call_of n (asks.SendCopy roles.Client))) k false ≡ true → k ≡ Some kinds.Client
-sends_requests n (Some kinds.Client) e = refl
-sends_requests n None e = absurd (nothing e)
-sends_requests n (Some kinds.Server) e = absurd (nothing e)
-sends_requests n (Some kinds.RequestMutUninit) e = absurd (nothing e)
-sends_requests n (Some kinds.RequestMut) e = absurd (nothing e)
-sends_requests n (Some kinds.ResponseMutUninit) e = absurd (nothing e)
-sends_requests n (Some kinds.ResponseMut) e = absurd (nothing e)
-sends_requests n (Some kinds.PendingResponse) e = absurd (nothing e)
-sends_requests n (Some kinds.ActiveRequest) e = absurd (nothing e)
-sends_requests n (Some kinds.Response) e = absurd (nothing e)
-
--- ---- what is read
-
-abbrev words_reply : List ℕ → Reply
-words_reply ws = Words ws
-
-pub words_so : (user ws : List ℕ) → [] ≡ user → words_reply ws ≡ words_reply (user ++ flat_map one_word ws)
-words_so user ws e = ap₂ (λ (u v : List ℕ). words_reply (u ++ v)) e (sym (one_word_each ws))
 
 -- ---- what a test says
 

@@ -3,6 +3,6 @@ pub mod NodeLists
 pub mod Limited
 pub mod Starting
 pub mod Calling
-pub mod PortMaking
+pub mod Replying
 pub mod Serving
 pub mod Playing

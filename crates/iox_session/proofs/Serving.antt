@@ -21,8 +21,9 @@ use Rattle.iox_model.specs.WholeCalls.{IsWholeCall, UnlessRefused}
 use Rattle.iox_tables.specs.HubStates.States.{Given}
 use Rattle.iox_hub.specs.Hubs.{HubState, state_of_hub}
 use Rattle.iox_hub.specs.Making.{StaysAs}
+use Rattle.iox_port_commands.specs.Memory.{HadMemory}
 use Rattle.iox_script.specs.Commands.{ServiceReply}
-use Rattle.iox_session.specs.Answers.{HadMemory, reply_given}
+use Rattle.iox_session.specs.Answers.{reply_given}
 use Rattle.iox_session.specs.Sessions.{IsDoneWithMemory}
 use Rattle.iox_session.specs.Shown.{IsLimited, ServiceTables, given_for, WantsNoMemory, limits_in, members_of, nodes_from, service_of, state_of, tables_of}
 use Rattle.iox_session.proofs.Limited.{hub_stays_limited, stays_limited}

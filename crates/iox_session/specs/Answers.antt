@@ -1,15 +1,12 @@
--- How a script's commands and replies stand for the machine's, and that memory was there.
-use Rattle.std.specs.Prelude.{ℕ, if◌then◌else◌, IsTrue, List, length, None, ⊤}
+-- How a script's commands and replies stand for the machine's.
+use Rattle.std.specs.Prelude.{ℕ, if◌then◌else◌, List, length, None}
 use Rattle.iox_model.specs.declared.kind.Kind.TheVariants.{ActiveRequest}
 use Rattle.iox_model.specs.declared.kind.Role.TheVariants.{Client, Server}
-use Rattle.iox_model.specs.declared.command.Command.TheVariants.{Port}
 use Rattle.iox_model.specs.declared.reply.Refusal.TheVariants as refusals
 use Rattle.iox_model.specs.declared.reply.Reply.TheVariants as replies
 use Rattle.iox_model.specs.Commands as machine
-use Rattle.iox_model.specs.Commands.{Command, Create, HubCommand, Payload, Refusal, Reply, Use, asking}
+use Rattle.iox_model.specs.Commands.{Payload, Refusal, Reply}
 use Rattle.iox_model.specs.Handles.{has}
-use Rattle.iox_model.specs.Makings.{is_large}
-use Rattle.iox_model.specs.Settings.{Limits}
 use Rattle.iox_model.specs.States.{State}
 use Rattle.iox_hub.specs.Lending.{payload_of}
 use Rattle.iox_script.specs.Commands.{Options, ServiceRefusal, ServiceReply}
@@ -88,18 +85,3 @@ reply_given (replies.Words words) = replies.Words words
 reply_given (replies.Answer told) = replies.Answer told
 reply_given (replies.Listed numbers) = replies.Listed numbers
 reply_given (replies.Refused r) = replies.Refused (refusal_given r)
-
--- ---- memory
-
--- the command makes a port that is too large
-abbrev pub IsTooLarge : Limits → HubCommand → Type 0
-IsTooLarge l (Create role id o) = IsTrue (is_large l role o)
-IsTooLarge l (Use call) = ⊥
-
--- Memory was there: no reply tells that it was missing, and no port is refused its data segment but
--- one that is too large.
-abbrev pub HadMemory : Limits → Command → Reply → Type 0
-HadMemory l command (replies.Refused refusals.WantOfMemory) = ⊥
-HadMemory l (Port command) (replies.Refused refusals.UnableToCreateDataSegment) =
-    IsTooLarge l (asking command).1
-HadMemory l command reply = ⊤

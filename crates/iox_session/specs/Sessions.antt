@@ -14,6 +14,7 @@ use Rattle.iox_model.specs.Services.{IsCommand}
 use Rattle.iox_model.specs.Settings.{Limits}
 use Rattle.iox_model.specs.States.{State}
 use Rattle.iox_laws.specs.WorkedExamples.Examples.{follow}
+use Rattle.iox_port_commands.specs.Memory.{HadMemory}
 use Rattle.iox_script.specs.declared.command.Key.{Key}
 use Rattle.iox_script.specs.declared.command.Key.TheVariants.{RequestOverflow, ResponseOverflow}
 use Rattle.iox_script.specs.declared.command.ScriptCommand.{ScriptCommand}
@@ -26,7 +27,7 @@ use Rattle.iox_script.specs.Commands.{Options, ServiceCommand, ServiceReply}
 use Rattle.iox_script.specs.Grammar.{options_of}
 use Rattle.iox_session.specs.SessionStates.{SessionState}
 use Rattle.iox_session.specs.Limits.{limits_with}
-use Rattle.iox_session.specs.Answers.{HadMemory, options_given, payload_given, reply_given}
+use Rattle.iox_session.specs.Answers.{options_given, payload_given, reply_given}
 
 -- ---- what a line of a script can say
 

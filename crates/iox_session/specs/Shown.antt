@@ -11,8 +11,9 @@ use Rattle.iox_tables.specs.HubStates.States.{Given}
 use Rattle.iox_tables.specs.HubStates.Tables.{HubTables}
 use Rattle.iox_hub.specs.Hubs.{HubState, state_of_hub}
 use Rattle.iox_hub.specs.Words.{Carried}
+use Rattle.iox_port_commands.specs.Memory.{HadMemory}
 use Rattle.iox_script.specs.Commands.{ServiceReply}
-use Rattle.iox_session.specs.Answers.{HadMemory, reply_given}
+use Rattle.iox_session.specs.Answers.{reply_given}
 use Rattle.iox_session.specs.Limits.{limits_with}
 use Rattle.iox_session.specs.SessionStates.{SessionState}
 

@@ -1,5 +1,5 @@
-//! A session plays a script's commands, one after another, over a hub and its nodes. What it answers
-//! is what the machine that copies messages answers.
+//! A session plays a script's commands, one after another, over a hub and its nodes. What it
+//! answers is what the machine that copies messages answers.
 #![tactic(auto)]
 
 mod calls;

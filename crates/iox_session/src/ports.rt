@@ -2,22 +2,23 @@
 ghost use Rattle.std.specs.Prelude.{◌≡◌, IfOk, OnErr};
 ghost use Rattle.iox_model.specs.declared.command.Command.TheVariants.{Port};
 ghost use Rattle.iox_model.specs.Commands.{Create, PortCommand, asking};
-ghost use Rattle.iox_model.specs.Makings.{IsHubCommand, port_reply, too_many_ports};
-ghost use Rattle.iox_model.specs.declared.reply.Reply.TheVariants.{Refused};
+ghost use Rattle.iox_model.specs.Makings.{IsHubCommand};
 ghost use Rattle.iox_types.specs.declared.identifiers.system_id.UniqueSystemId.{UniqueSystemId};
 ghost use Rattle.iox_tables.specs.HubStates.States.{Given};
 ghost use Rattle.iox_hub.specs.Hubs.{state_of_hub};
 ghost use Rattle.iox_hub.specs.Making.{StaysAs};
-ghost use Rattle.iox_session.specs.Answers.{HadMemory, options_given, reply_given};
-ghost use Rattle.iox_session.specs.Shown.{IsLimited, WantsNoMemory, limits_in};
+ghost use Rattle.iox_port_commands.specs.Memory.{HadMemory};
+ghost use Rattle.iox_session.specs.Answers.{options_given, reply_given};
+ghost use Rattle.iox_session.specs.Shown.{IsLimited, limits_in};
 ghost use Rattle.iox_session.specs.Sessions.{IsPlain};
 
+use crate::replies::reply_of;
 use crate::settings::{Words, is_large};
-use iox_control_making::NotMade;
 use iox_hub::Options;
 use iox_model::command::PortOptions;
 use iox_model::kind::Role;
 use iox_model::reply::{Refusal, Reply};
+use iox_port_commands as commands;
 use iox_script::ServiceReply;
 use iox_types::identifiers::UniqueSystemId;
 use std::alloc::{AllocError, Global};
@@ -49,37 +50,13 @@ pub(crate) fn make_port(
         allocation: options.allocation,
         loaned_responses: options.loaned_responses,
     };
-    match hub.make_port(alloc, node, role, id, chosen) {
-        Ok(number) => Ok(made(role, number)),
-        Err(NotMade::PortTag) => Ok(Reply::Refused(Refusal::UnableToCreatePortTag)),
-        Err(NotMade::DataSegment) => {
+    match commands::make_port(hub, alloc, node, role, id, chosen) {
+        Ok(reply) => Ok(reply_of(reply)),
+        Err(error) => {
             if !is_large(role, words) {
-                return Err(AllocError);
+                return Err(error);
             }
             Ok(Reply::Refused(Refusal::UnableToCreateDataSegment))
         }
-        Err(NotMade::TooManyPorts) => Ok(too_many(role)),
-    }
-}
-
-/// The number of a new port of that role.
-fn made(role: Role, number: u64) -> ServiceReply
-    ensures told { reply_given result ≡ port_reply role number }
-    ensures memory { WantsNoMemory result }
-{
-    match role {
-        Role::Client => Reply::Client(number),
-        Role::Server => Reply::Server(number),
-    }
-}
-
-/// There are as many ports of that role as there may be.
-fn too_many(role: Role) -> ServiceReply
-    ensures told { reply_given result ≡ Refused (too_many_ports role) }
-    ensures memory { WantsNoMemory result }
-{
-    match role {
-        Role::Client => Reply::Refused(Refusal::ExceedsMaxSupportedClients),
-        Role::Server => Reply::Refused(Refusal::ExceedsMaxSupportedServers),
     }
 }

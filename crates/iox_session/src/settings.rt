@@ -68,8 +68,8 @@ pub(crate) fn new_hub(
     request_overflow: bool,
     response_overflow: bool,
 ) -> Result<Words, AllocError>
-    ensures { IfOk result (λ hub. (id : UniqueSystemId) →
-        state_of (id ∷ []) hub ≡ created (limits_with request_overflow response_overflow) follow id) }
+    ensures { IfOk result (λ hub. (id : UniqueSystemId) → state_of (id ∷ []) hub
+        ≡ created (limits_with request_overflow response_overflow) follow id) }
 {
     let settings = Settings {
         clients: 8,
@@ -98,8 +98,8 @@ pub(crate) fn new_hub(
     )
 }
 
-/// Whether a pool of so many messages is too large, each with a header of so many words, and with so
-/// many words behind it.
+/// Whether a pool of so many messages is too large, each with a header of so many words, and with
+/// so many words behind it.
 fn is_large_pool(size: usize, header: usize, len: u64) -> bool
     requires size { size ≤ 768 }
     requires header { header ≤ 7 }

@@ -30,8 +30,8 @@ fn answers(
     Ok(text.as_slice() == expected.as_bytes())
 }
 
-/// Whether a service is made with two nodes, of which the first has the client, 0, and the second the
-/// server, 1, for messages of one word; and then the script is answered so.
+/// Whether a service is made with two nodes, of which the first has the client, 0, and the second
+/// the server, 1, for messages of one word; and then the script is answered so.
 fn answers_with_ports(
     alloc: Global,
     setting: &str,
