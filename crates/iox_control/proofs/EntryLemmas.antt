@@ -1,11 +1,11 @@
 -- What is found, dropped and changed in the table of handles by number alone is so by node and number.
-use Rattle.std.specs.Prelude.{◌≡◌, ℕ, Bool, true, false, not, ◌&&◌, ◌||◌, ◌==◌, if◌then◌else◌, List, [], ◌∷◌, ◌++◌, map, filter, find, Some, None, refl}
-use Rattle.std.specs.Option.{option_map}
+use Rattle.std.specs.Prelude.{◌≡◌, ℕ, Bool, true, false, not, ◌&&◌, ◌||◌, ◌==◌, if◌then◌else◌, List, [], ◌∷◌, ◌++◌, map, filter, find, Option, Some, None, refl}
+use Rattle.std.specs.Option.{option_and_then, option_map}
 use Rattle.std.proofs.Common.{sym, ap, subst, ◌∙◌, true≢false, eqb-true, eq-eqb}
 use Rattle.std.proofs.lemmas.Option.{none-some, same_Some}
 use Rattle.iox_handles.specs.declared.entry.Entry.{Entry}
 use Rattle.iox_model.specs.Maps.{has_number, AreDistinct}
-use Rattle.iox_handles.specs.Tables.{Contents, IsSound, added, changed, handle_at, has_that, removed, with_handle}
+use Rattle.iox_handles.specs.Tables.{Contents, IsSound, added, changed, handle_at, handle_of, has_that, if_of, removed, with_handle}
 use Rattle.iox_tables.specs.HubStates.Wirings.{handle_in}
 use Rattle.iox_tables.specs.HubStates.Ends.{changed_handles, dropped_handles}
 use Rattle.iox_control.specs.Entries.{handle_state, handles_of}
@@ -204,3 +204,25 @@ differ a b not_same = by_case (a == b) refl
 pub entry_foreign : (t : Contents) (node n : ℕ) (e : Entry) → IsSound t → Some e ≡ handle_at t n → (e.node ≡ node → ⊥)
     → option_map handle_state None ≡ handle_in (handles_of t) node n
 entry_foreign t node n e sound at of = sym (none_of_node t node n e sound (sym at) (differ e.node node of))
+
+-- what the table tells of the node's handle of a number
+pub entry_of : (t : Contents) (node n : ℕ) (o : Option Entry) → IsSound t → o ≡ handle_of t node n → option_map handle_state o ≡ handle_in (handles_of t) node n
+entry_of t node n o sound is = ap (option_map handle_state) is ∙ by_case (handle_at t n) refl
+  where
+    own : (e : Entry) → handle_at t n ≡ Some e → (b : Bool) → (e.node == node) ≡ b
+        → option_map handle_state (if b then Some e else None) ≡ handle_in (handles_of t) node n
+    own e at true of = entry_some t node n e (sym at) (eqb-true e.node node of)
+    own e at false of = sym (none_of_node t node n e sound at of)
+
+    by_case : (q : Option Entry) → handle_at t n ≡ q → option_map handle_state (option_and_then (if_of node) q) ≡ handle_in (handles_of t) node n
+    by_case None at = entry_none t node n (sym at)
+    by_case (Some e) at = own e at (e.node == node) refl
+
+-- it is the one of that number, and the node's
+pub its_own : (o : Option Entry) (node : ℕ) (e : Entry) → Some e ≡ option_and_then (if_of node) o → (Some e ≡ o) × (e.node ≡ node)
+its_own None node e at = absurd (none-some e (sym at))
+its_own (Some h) node e at = by_case (h.node == node) refl at
+  where
+    by_case : (b : Bool) → (h.node == node) ≡ b → Some e ≡ (if b then Some h else None) → (Some e ≡ Some h) × (e.node ≡ node)
+    by_case true is at = (at, ap (λ (k : Entry). k.node) (same_Some e h at) ∙ eqb-true h.node node is)
+    by_case false is at = absurd (none-some e (sym at))

@@ -60,33 +60,23 @@ impl Control {
 
     /// A handle of that node and number is as it is now; it is looked for at the hint first. Where
     /// there is none, nothing changes.
+    #[inline]
     pub fn change_handle(&mut self, entry: Entry, hint: usize)
         ensures { self.new ≡ with_tables self.old
             (with_changed self.old.tables (handle_state entry)) }
     {
-        match self.handles.find(entry.number, hint) {
-            None => {}
-            Some(old) => {
-                if old.node == entry.node {
-                    self.handles.change(entry, hint);
-                }
-            }
-        }
+        self.handles.change_of(entry, hint);
     }
 
     /// Removes the node's handle of that number, which is looked for at the hint first. It leaves
     /// room for another.
+    #[inline]
     pub fn remove_handle(&mut self, node: u64, number: u64, hint: usize) -> Option<Entry>
         ensures found { option_map handle_state result
             ≡ handle_in self.old.tables.handles node number }
         ensures dropped { IsSome result → self.new ≡ with_handle_dropped self.old node number }
         ensures unchanged { result ≡ None → self.new ≡ self.old }
     {
-        let entry = self.handles.find(number, hint)?;
-        if entry.node == node {
-            self.handles.remove(number, hint);
-            return Some(entry);
-        }
-        None
+        self.handles.remove_of(node, number, hint)
     }
 }

@@ -54,6 +54,13 @@ module _ (t : HubTables) (n : ℕ) (order : AreInOrder t) where
       ap₂ (λ (a b : Bool). not a && b) p.2 (counted n hs ∙ ap (λ ks. not (list_any (λ h. h.port == n) ks)) all)
       ∙ sym (unused_is_told t n p.0 p.1 (names_apart t order) (at_home t order))
 
+  -- of one whose own value is there
+  pub told_held : (info : PortInfo) → Some info ≡ info_in t.ports n → info.held ≡ true → false ≡ is_unused t n
+  told_held info found held =
+      let p = info_is t.ports n info found in
+      ap (λ (a : Bool). not a && not (list_any (λ h. h.port == n) t.handles)) (sym held ∙ p.2)
+      ∙ sym (unused_is_told t n p.0 p.1 (names_apart t order) (at_home t order))
+
   -- of one that is not connected
   pub told_of_none : port_in t.ports n ≡ None → true ≡ is_unused t n
   told_of_none none =

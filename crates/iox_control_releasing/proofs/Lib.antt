@@ -11,3 +11,4 @@ pub mod Ended
 pub mod Released
 pub mod Tidy
 pub mod Loans
+pub mod Removing

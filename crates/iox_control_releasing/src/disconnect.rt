@@ -64,7 +64,9 @@ pub fn drop_pool(control: &mut Control, place: usize)
 }
 
 /// The port goes, of which nothing is left: with it go its pipes, and the messages on them. It
-/// tells the place of the port's pool, which stays.
+/// tells the place of the port's pool, which stays. It is rare, so it is a call of its own.
+#[cold]
+#[inline(never)]
 fn take_port(control: &mut Control, port: u64) -> Option<usize>
     requires order { IsControl control.old }
     requires unused { is_unused control.old.tables port ≡ true }

@@ -2,7 +2,7 @@
 ghost use Rattle.std.specs.Prelude.{◌≡◌, ◌+◌, Some};
 ghost use Rattle.iox_tables.specs.HubStates.States.{Given, state_shown};
 ghost use Rattle.iox_tables.specs.HubStates.Tables.{HandleState};
-ghost use Rattle.iox_tables.specs.HubStates.Wirings.{IsHandle, handle_in};
+ghost use Rattle.iox_tables.specs.HubStates.Wirings.{handle_in};
 ghost use Rattle.iox_tables.specs.HubMaking.Disconnections.{with_released};
 ghost use Rattle.iox_model.specs.WholeCalls.{IsWholeCall};
 ghost use Rattle.iox_model.specs.declared.call.Call.TheVariants.{Release};
@@ -61,18 +61,23 @@ fn give_up(control: &mut Control, entry: Entry)
     }
 }
 
-/// Ends the handle: nobody has it or its message by it, and its port stays.
-fn end_handle(control: &mut Control, entry: Entry, hint: usize)
-    requires named { IsHandle control.old.tables entry.node entry.number (handle_state entry) }
+/// Ends the node's handle of that number, and tells it: nobody has it or its message by it, and its
+/// port stays.
+fn end_handle(control: &mut Control, node: u64, number: u64, hint: usize) -> Entry
+    requires named { IsNamed control.old.tables node number }
+    ensures told { Some (handle_state result) ≡ handle_in control.old.tables.handles node number }
     ensures left { control.new.tables
-        ≡ record (with_ended control.old.tables (handle_state entry)) {
-          pools = with_slot let_go control.old.tables.pools entry.pool entry.slot;
+        ≡ record (with_ended control.old.tables (handle_state result)) {
+          pools = with_slot let_go control.old.tables.pools result.pool result.slot;
         } }
     ensures room { control.new.room ≡ control.old.room + 1 }
 {
+    let Some(entry) = control.remove_handle(node, number, hint) else {
+        unreachable!();
+    };
     give_up(control, entry);
     control.let_go(entry.pool, entry.slot);
-    control.remove_handle(entry.node, entry.number, hint);
+    entry
 }
 
 /// Releases the node's handle of that number, which is looked for at the hint first. Its port goes
@@ -93,10 +98,7 @@ pub fn release(control: &mut Control, node: u64, number: u64, hint: usize)
     ensures whole { (x : Given) → IsWholeCall (state_shown x control.old.tables) node
         (Release number) Done (state_shown x control.new.tables) }
 {
-    let Some(entry) = control.entry(node, number, hint) else {
-        unreachable!();
-    };
-    end_handle(control, entry, hint);
+    let entry = end_handle(control, node, number, hint);
     disconnect_if_unused(control, entry.port);
     drop_pool(control, entry.pool);
 }

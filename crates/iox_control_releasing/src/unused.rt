@@ -28,8 +28,10 @@ pub fn is_unused(control: &Control, port: u64) -> bool
     match control.ports().find(port) {
         None => true,
         Some(info) => {
-            let handles = control.handles().count_if(&HandlesOf { port });
-            !info.held && handles == 0
+            if info.held {
+                return false;
+            }
+            control.handles().count_if(&HandlesOf { port }) == 0
         }
     }
 }

@@ -4,3 +4,4 @@ pub mod VacancyLemmas
 pub mod TableLemmas
 pub mod SoundLemmas
 pub mod CountLemmas
+pub mod NodeLemmas

@@ -1,5 +1,6 @@
 -- The handles of a hub, as callers see them: a list by number, which is oldest first.
-use Rattle.std.specs.Prelude.{◌≡◌, ℕ, ◌+◌, ◌-◌, ◌≤◌, ◌==◌, ◌&&◌, Bool, not, if◌then◌else◌, List, [], ◌∷◌, ◌++◌, Option, None, filter, find, length, map}
+use Rattle.std.specs.Prelude.{◌≡◌, ℕ, ◌+◌, ◌-◌, ◌≤◌, ◌==◌, ◌&&◌, Bool, not, if◌then◌else◌, List, [], ◌∷◌, ◌++◌, Option, Some, None, filter, find, length, map}
+use Rattle.std.specs.Option.{option_and_then}
 use Rattle.iox_model.specs.declared.kind.Kind.{Kind}
 use Rattle.iox_model.specs.Handles.{same_kind}
 use Rattle.iox_model.specs.Maps.{AreDistinct}
@@ -22,6 +23,14 @@ has_that number h = h.number == number
 -- the handle of that number
 abbrev pub handle_at : Contents → ℕ → Option Entry
 handle_at table number = find (has_that number) table.handles
+
+-- the handle, if it is of that node
+abbrev pub if_of : ℕ → Entry → Option Entry
+if_of node h = if h.node == node then Some h else None
+
+-- the node's handle of that number
+abbrev pub handle_of : Contents → ℕ → ℕ → Option Entry
+handle_of table node number = option_and_then (if_of node) (handle_at table number)
 
 -- the handles of a node
 abbrev pub handles_of : Contents → ℕ → List Entry

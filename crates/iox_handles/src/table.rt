@@ -1,6 +1,6 @@
 //! The table of a hub's handles.
 ghost use Rattle.std.specs.Prelude.{◌≡◌, ◌<◌, ◌≤◌, ◌+◌, ◌^◌, IfOk, IsSome, None, OnErr, OnOk, Some, filter, length};
-ghost use Rattle.iox_handles.specs.Tables.{IsSound, added, changed, count_of, handle_at, new_contents, removed};
+ghost use Rattle.iox_handles.specs.Tables.{IsSound, added, changed, count_of, handle_at, handle_of, new_contents, removed};
 
 use crate::entry::Entry;
 use crate::entry_test::EntryTest;
@@ -134,6 +134,44 @@ impl Table {
         let old = self.places[place];
         self.places[place] = Some(entry);
         old
+    }
+
+    /// Removes the node's handle of that number, which is looked for at the hint first.
+    #[inline]
+    pub fn remove_of(&mut self, node: u64, number: u64, hint: usize) -> Option<Entry>
+        ensures found { result ≡ handle_of self.old node number }
+        ensures removed { IsSome result → self.new ≡ removed self.old number }
+        ensures gone { handle_of self.new node number ≡ None }
+        ensures unchanged { result ≡ None → self.new ≡ self.old }
+        ensures sound { IsSound self.old }
+    {
+        let at = place_of(&self.places, number, hint)?;
+        let entry = self.places[at]?;
+        if entry.node != node {
+            return None;
+        }
+        self.places[at] = None;
+        self.free.push_reserved(at);
+        self.room = self.room + 1;
+        Some(entry)
+    }
+
+    /// Changes the handle of that node and number, which is looked for at the hint first, and tells
+    /// what it was.
+    #[inline]
+    pub fn change_of(&mut self, entry: Entry, hint: usize) -> Option<Entry>
+        ensures found { result ≡ handle_of self.old entry.node entry.number }
+        ensures changed { IsSome result → self.new ≡ changed self.old entry }
+        ensures unchanged { result ≡ None → self.new ≡ self.old }
+        ensures sound { IsSound self.old }
+    {
+        let at = place_of(&self.places, entry.number, hint)?;
+        let old = self.places[at]?;
+        if old.node != entry.node {
+            return None;
+        }
+        self.places[at] = Some(entry);
+        Some(old)
     }
 
     /// How many handles of that kind a port has. It looks at all places.
