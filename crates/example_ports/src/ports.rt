@@ -1,6 +1,9 @@
 //! A client and a server: requests are one number, responses are as many bytes.
+ghost use Rattle.std.specs.Prelude.{◌≡◌, ◌∷◌, ℕ, []};
 ghost use Rattle.iceoryx2_ports.specs.Hubs.{HasValue};
 ghost use Rattle.iceoryx2_ports.specs.Kind.TheVariants as kinds;
+ghost use Rattle.iceoryx2_ports.specs.Reads.{message_in};
+ghost use Rattle.iceoryx2_ports.specs.Sends.{BringsOnly};
 
 use iceoryx2_ports::{
     ActiveRequest, AllocationStrategy, BackpressureStrategy, Client, Hub, LoanError, Many,
@@ -116,9 +119,10 @@ pub fn round_trip(hub: &mut Bytes, client: &Asker, server: &Answerer, number: u6
     sum
 }
 
-/// A client asks for that many bytes.
+/// A client asks for that many bytes. For whom nothing waited, nothing but this number waits then.
 fn ask(hub: &mut Bytes, client: &Asker, number: u64) -> Result<Pending, RequestSendError>
     requires { HasValue hub.old client.now.node client.now.number kinds.Client }
+    ensures { BringsOnly hub.old (number ∷ []) hub.new }
 {
     client.send_copy(hub, number)
 }
@@ -139,11 +143,20 @@ fn serve(hub: &mut Bytes, server: &Answerer) -> bool {
     }
 }
 
+/// How many bytes the request asks for: the number that it carries.
+fn wanted(hub: &Bytes, request: &Active) -> u64
+    requires { HasValue hub.now request.now.node request.now.number kinds.ActiveRequest }
+    ensures { (number : ℕ) → (message_in hub.now request.now.node request.now.number).payload
+        ≡ number ∷ [] → result ≡ number }
+{
+    request.first(hub).copied().unwrap_or(0)
+}
+
 /// A server answers with as many bytes as were asked for: 0, 1, 2 ..
 fn answer(hub: &mut Bytes, request: &Active) -> Result<(), SendError>
     requires { HasValue hub.old request.now.node request.now.number kinds.ActiveRequest }
 {
-    let wanted = request.payload(hub).first().copied().unwrap_or(0);
+    let wanted = wanted(hub, request);
     let loan = request.loan_slice_uninit(hub, wanted as usize)?;
     let response = loan.write_from_fn(hub, |index| (index % 256) as u8);
     if hub.calls() < 1 << 56 {

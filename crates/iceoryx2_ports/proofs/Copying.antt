@@ -9,9 +9,9 @@ use Rattle.iox_control_lending.specs.declared.asked.LoanRefusal.TheVariants.{Cal
 use Rattle.iox_control_lending.specs.Lends.{refusal_of}
 use Rattle.iox_hub.specs.Hubs.{HubState, state_of_hub}
 use Rattle.iceoryx2_ports.specs.Copies.{LeavesUnloaned, error_of_test}
-use Rattle.iceoryx2_ports.specs.Keeping.{KeepsValues}
+use Rattle.iceoryx2_ports.specs.Keeping.{KeepsAsking, KeepsValues}
 use Rattle.iceoryx2_ports.specs.Loans.{loan_refusal}
-use Rattle.iceoryx2_ports.proofs.Staying.{kept}
+use Rattle.iceoryx2_ports.proofs.Staying.{asks_as_before, kept}
 
 pub test_is_told : (r : LoanRefusal) → refusal_of r ≡ loan_refusal (error_of_test r)
 test_is_told CallsSpent = refl
@@ -29,3 +29,7 @@ test_leaves old new ExceedsMaxLoans e = e
 pub copy_keeps : (old new : HubState) (node n : ℕ) (p : Payload) (reply : Reply)
     → ((x : Given) → IsWholeCall (state_of_hub x old) node (SendCopy n p) reply (state_of_hub x new)) → KeepsValues old new
 copy_keeps old new node n p reply whole = kept old new node (SendCopy n p) reply refl whole
+
+pub copy_asks_as_before : (old new : HubState) (node n : ℕ) (p : Payload) (reply : Reply)
+    → ((x : Given) → IsWholeCall (state_of_hub x old) node (SendCopy n p) reply (state_of_hub x new)) → KeepsAsking old new
+copy_asks_as_before old new node n p reply whole = asks_as_before old new node (SendCopy n p) reply refl whole

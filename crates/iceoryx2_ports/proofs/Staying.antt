@@ -1,16 +1,17 @@
 -- A call that spends nothing keeps each value of each node.
 use Rattle.std.specs.Prelude.{◌≡◌, ℕ, ◌+◌, Bool, true, false, ◌&&◌, if◌then◌else◌, ◌==◌, List, [], ◌∷◌, ◌++◌, Option, Some, None, IsSome, find, refl}
-use Rattle.std.specs.Option.{option_map_or}
+use Rattle.std.specs.Option.{option_map, option_map_or}
 use Rattle.std.proofs.Common.{sym, subst, ap, ap₂, ◌∙◌, true≢false, eqb-true, eq-eqb}
 use Rattle.iox_model.specs.declared.backpressure.BackpressureAction.TheVariants.{FollowBackpressureStrategy}
 use Rattle.iox_model.specs.declared.call.Call.TheVariants.{Loan, LoanUninit}
 use Rattle.iox_model.specs.declared.kind.Kind.{Kind}
 use Rattle.iox_model.specs.declared.kind.Kind.TheVariants.{RequestMutUninit, RequestMut, ResponseMutUninit, ResponseMut, PendingResponse, ActiveRequest, Response}
 use Rattle.iox_model.specs.declared.kind.Kind.TheVariants as kinds
+use Rattle.iox_model.specs.declared.kind.Role.TheVariants as roles
 use Rattle.iox_model.specs.Begins.{start}
 use Rattle.iox_model.specs.Commands.{Refusal, Reply, Call, number_of}
 use Rattle.iox_model.specs.Counts.{with_fixed, added, borrows, lent, numbered, called, sent_handle, received_handle, holding}
-use Rattle.iox_model.specs.Doings.{Outcome, Tells, Loans, Sends, FailsToSend, Receives, Doing}
+use Rattle.iox_model.specs.Doings.{Outcome, Tells, Loans, Sends, FailsToSend, Receives, Doing, Receiver}
 use Rattle.iox_model.specs.Ends.{is_nothing, sent_copy, settled}
 use Rattle.iox_model.specs.Handles.{Subject, handle_at, has, is_request_loan, kind_code, kind_of, node_of, port_or_handle, same_kind, subject}
 use Rattle.iox_model.specs.Maps.{put_at}
@@ -21,13 +22,17 @@ use Rattle.iox_model.specs.WholeCalls.{IsDone, IsWholeCall, UnlessRefused, moved
 use Rattle.iox_laws.proofs.WeaveLaws.MapLemmas.{either}
 use Rattle.iox_laws.proofs.WeaveLaws.WholeLemmas.{moved_by-fixed}
 use Rattle.iox_laws.proofs.WeaveLedger.Truths.{none-some}
-use Rattle.iox_tables.specs.HubStates.States.{Given}
-use Rattle.iox_tables.specs.HubStates.Tables.{HubTables}
+use Rattle.iox_tables.specs.HubStates.States.{Given, handle_of, message_of}
+use Rattle.iox_tables.specs.HubStates.Tables.{HandleState, HubTables}
+use Rattle.iox_tables.specs.HubStates.Wirings.{handle_in}
 use Rattle.iox_tables.specs.HubLoans.Loans.{loan_call}
 use Rattle.iox_tables.specs.HubLoans.Questions.{kind_in}
+use Rattle.iox_tables.proofs.HubStates.Fixing.{find_handle}
 use Rattle.iox_tables.proofs.HubLoans.Asked.{each_value_is_there}
 use Rattle.iox_hub.specs.Hubs.{HasValue, HubState, given_by, state_of_hub}
-use Rattle.iceoryx2_ports.specs.Keeping.{KeepsValues, spends}
+use Rattle.iox_hub_laws.specs.Waiting.{client_in, client_of, server_of}
+use Rattle.iox_hub_laws.proofs.Values.{IsHandleOf, value_is_handle}
+use Rattle.iceoryx2_ports.specs.Keeping.{KeepsAsking, KeepsValues, spends}
 use Rattle.iceoryx2_ports.proofs.Gathering.{Gathers, at_gathers, by_gathers, ended_gathers}
 
 -- ---- more handles
@@ -126,25 +131,27 @@ settled_extends s node payload o p = absurd p
 
 -- ---- a whole call
 
-done_stays : (s t : State) (node : ℕ) (call : Call) (reply : Reply) → spends call ≡ false → IsDone s node call reply t → Stays s.fixed t.fixed
-done_stays s t node call reply e done =
+done_extends : (s t : State) (node : ℕ) (call : Call) (reply : Reply) → spends call ≡ false → IsDone s node call reply t → Extends s.fixed t.fixed
+done_extends s t node call reply e done =
     let d : Doing = start s node done.0 call in
     let u : State = moved_by s done.2 in
     let o : Gathers done.4 =
     ended_gathers u (left_by s node d done.2) done.4
     (by_gathers s node d done.2 (at_gathers s done.0 call (subject s.fixed node (number_of call)) e) done.3) done.5 in
-    stays s.fixed t.fixed
-    (subst (λ (v : State). Extends s.fixed v.fixed) (sym done.9)
-    (subst (λ (f : Fixed). Extends f (settled u node done.6 done.4).fixed) (moved_by-fixed s done.2) (settled_extends u node done.6 done.4 o)))
+    subst (λ (v : State). Extends s.fixed v.fixed) (sym done.9)
+    (subst (λ (f : Fixed). Extends f (settled u node done.6 done.4).fixed) (moved_by-fixed s done.2) (settled_extends u node done.6 done.4 o))
 
-unless_stays : (q : Option Refusal) (s t : State) (reply : Reply) (P : Type 0) → (P → Stays s.fixed t.fixed) → UnlessRefused q s reply t P → Stays s.fixed t.fixed
-unless_stays (Some r) s t reply P f p = subst (λ (v : State). Stays s.fixed v.fixed) (sym p.1) (λ a n kind is. is)
-unless_stays None s t reply P f p = f p
+unless_extends : (q : Option Refusal) (s t : State) (reply : Reply) (P : Type 0) → (P → Extends s.fixed t.fixed) → UnlessRefused q s reply t P → Extends s.fixed t.fixed
+unless_extends (Some r) s t reply P f p = subst (λ (v : State). Extends s.fixed v.fixed) (sym p.1) (extends_same s.fixed)
+unless_extends None s t reply P f p = f p
+
+whole_extends : (s t : State) (node : ℕ) (call : Call) (reply : Reply) → spends call ≡ false → IsWholeCall s node call reply t → Extends s.fixed t.fixed
+whole_extends s t node call reply e =
+    unless_extends (misnamed s.fixed node call) s t reply (UnlessRefused (spent s.fixed call) s reply t (IsDone s node call reply t))
+    (unless_extends (spent s.fixed call) s t reply (IsDone s node call reply t) (done_extends s t node call reply e))
 
 whole_stays : (s t : State) (node : ℕ) (call : Call) (reply : Reply) → spends call ≡ false → IsWholeCall s node call reply t → Stays s.fixed t.fixed
-whole_stays s t node call reply e =
-    unless_stays (misnamed s.fixed node call) s t reply (UnlessRefused (spent s.fixed call) s reply t (IsDone s node call reply t))
-    (unless_stays (spent s.fixed call) s t reply (IsDone s node call reply t) (done_stays s t node call reply e))
+whole_stays s t node call reply e done = stays s.fixed t.fixed (whole_extends s t node call reply e done)
 
 -- ---- the values of a hub
 
@@ -193,6 +200,25 @@ kept_by old new still a n some = step (kind_in old.control.tables a n) refl some
     step (Some kind) is some = still a n kind is ∙ sym is
     step None is some = absurd (true≢false (sym some))
 
+-- for whom a handle of the machine asks
+abbrev asker : Handle → Receiver
+asker h = record { port = h.port; role = roles.Client; lane = h.lane; request = h.request }
+
+client_shown : (x : Given) (h : HubState) (node n : ℕ)
+    → option_map_or asker (handle_at (state_of_hub x h).fixed node n) (server_of n) ≡ client_in h node n
+client_shown x h node n =
+    ap (λ (o : Option Handle). option_map_or asker o (server_of n)) (find_handle (given_by x h) (message_of (given_by x h) t.pools) t.handles node n)
+    ∙ step (handle_in t.handles node n)
+  where
+    t : HubTables
+    t = h.control.tables
+
+    step : (o : Option HandleState)
+        → option_map_or asker (option_map (handle_of (given_by x h) (message_of (given_by x h) t.pools)) o) (server_of n)
+        ≡ option_map_or (client_of t) o (server_of n)
+    step (Some k) = refl
+    step None = refl
+
 -- Where such a call is whole, each value is kept.
 module _ (old new : HubState) (node : ℕ) (call : Call) (reply : Reply) (e : spends call ≡ false)
     (whole : (x : Given) → IsWholeCall (state_of_hub x old) node call reply (state_of_hub x new)) where
@@ -211,8 +237,27 @@ module _ (old new : HubState) (node : ℕ) (call : Call) (reply : Reply) (e : sp
   pub kept : KeepsValues old new
   kept = kept_by old new still
 
+  pub asks_as_before : KeepsAsking old new
+  asks_as_before a n has =
+      let x : Given = any_given old in
+      let y : Given = given_by x old in
+      let t : HubTables = old.control.tables in
+      let is : IsHandleOf t a n PendingResponse = value_is_handle t a n PendingResponse refl has in
+      let found : handle_at (state_of_hub x old).fixed a n ≡ Some (handle_of y (message_of y t.pools) is.handle) =
+      find_handle y (message_of y t.pools) t.handles a n ∙ ap (option_map (handle_of y (message_of y t.pools))) is.named.there in
+      sym (client_shown x new a n)
+      ∙ ap (λ (o : Option Handle). option_map_or asker o (server_of n))
+      ((whole_extends (state_of_hub x old) (state_of_hub x new) node call reply e (whole x)).handles a n (handle_of y (message_of y t.pools) is.handle) found)
+      ∙ sym (ap (λ (o : Option Handle). option_map_or asker o (server_of n)) found)
+      ∙ client_shown x old a n
+
 -- a loan spends nothing
 pub loan_keeps : (old new : HubState) (node : ℕ) (uninit : Bool) (n k : ℕ) (reply : Reply)
     → ((x : Given) → IsWholeCall (state_of_hub x old) node (loan_call uninit n k) reply (state_of_hub x new)) → KeepsValues old new
 loan_keeps old new node true n k reply whole = kept old new node (LoanUninit n k) reply refl whole
 loan_keeps old new node false n k reply whole = kept old new node (Loan n k) reply refl whole
+
+pub loan_asks_as_before : (old new : HubState) (node : ℕ) (uninit : Bool) (n k : ℕ) (reply : Reply)
+    → ((x : Given) → IsWholeCall (state_of_hub x old) node (loan_call uninit n k) reply (state_of_hub x new)) → KeepsAsking old new
+loan_asks_as_before old new node true n k reply whole = asks_as_before old new node (LoanUninit n k) reply refl whole
+loan_asks_as_before old new node false n k reply whole = asks_as_before old new node (Loan n k) reply refl whole

@@ -3,7 +3,9 @@ use Rattle.std.specs.Prelude.{◌≡◌, ℕ, Bool, true, false, IsSome}
 use Rattle.iox_model.specs.declared.call.Call.TheVariants.{Release, Send, Write}
 use Rattle.iox_model.specs.Commands.{Call}
 use Rattle.iox_tables.specs.HubLoans.Questions.{kind_in}
-use Rattle.iox_hub.specs.Hubs.{HubState}
+use Rattle.iox_model.specs.declared.kind.Kind.TheVariants.{PendingResponse}
+use Rattle.iox_hub.specs.Hubs.{HasValue, HubState}
+use Rattle.iox_hub_laws.specs.Waiting.{client_in}
 
 -- whether the call ends a value, or makes another of it
 abbrev pub spends : Call → Bool
@@ -17,3 +19,9 @@ abbrev pub KeepsValues : HubState → HubState → Type 0
 KeepsValues old new =
     (node n : ℕ) → IsSome (kind_in old.control.tables node n)
     → kind_in new.control.tables node n ≡ kind_in old.control.tables node n
+
+-- Each pending response is of the same client, and for the same request, as before.
+abbrev pub KeepsAsking : HubState → HubState → Type 0
+KeepsAsking old new =
+    (node n : ℕ) → HasValue old node n PendingResponse
+    → client_in new node n ≡ client_in old node n

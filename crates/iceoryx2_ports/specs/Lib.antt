@@ -9,6 +9,9 @@ pub use Rattle.iox_tables.specs.HubStates.States
 pub use Rattle.iox_hub.specs.Hubs
 pub use Rattle.iox_hub.specs.Reads
 pub use Rattle.iox_hub.specs.Shapes
+pub use Rattle.iox_hub_laws.specs.Receives
+pub use Rattle.iox_hub_laws.specs.Sends
+pub use Rattle.iox_hub_laws.specs.Waiting
 -- typed calls
 pub mod Answers
 pub mod Headers
@@ -18,3 +21,4 @@ pub mod Loans
 pub mod Payloads
 pub mod Copies
 pub mod Releases
+pub mod Arrivals

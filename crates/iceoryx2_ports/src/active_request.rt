@@ -1,5 +1,5 @@
 //! A request that a server received.
-ghost use Rattle.std.specs.Prelude.{◌≡◌, ◌≢◌, ◌++◌, ◌↔◌, IfErr, IfOk, IsSome, IsTrue, OnErr, false, flat_map, true};
+ghost use Rattle.std.specs.Prelude.{◌≡◌, ◌≢◌, ◌++◌, ◌↔◌, IfErr, IfNone, IfOk, IfSome, IsSome, IsTrue, OnErr, [], false, flat_map, true};
 ghost use Rattle.iox_model.specs.declared.call.Call.TheVariants as calls;
 ghost use Rattle.iox_model.specs.declared.kind.Kind.TheVariants as kinds;
 ghost use Rattle.iox_model.specs.declared.kind.Role.TheVariants as roles;
@@ -11,8 +11,10 @@ ghost use Rattle.iox_hub.specs.Hubs.{HasValue, state_of_hub, with_control};
 ghost use Rattle.iox_hub.specs.Lending.{IsFresh};
 ghost use Rattle.iox_hub.specs.Reads.{message_in};
 ghost use Rattle.iceoryx2_ports.specs.Headers.{request_header_of};
-ghost use Rattle.iceoryx2_ports.specs.Keeping.{KeepsValues};
+ghost use Rattle.iox_hub_laws.specs.Sends.{NothingComes};
+ghost use Rattle.iceoryx2_ports.specs.Keeping.{KeepsAsking, KeepsValues};
 ghost use Rattle.iceoryx2_ports.specs.Loans.{reply_of_loan};
+ghost use Rattle.iceoryx2_ports.specs.Payloads.{BeginsWith};
 ghost use Rattle.iceoryx2_ports.specs.Releases.{IsReleased};
 ghost use Rattle.iceoryx2_ports.specs.declared.errors.LoanError.TheVariants.{OutOfMemory};
 
@@ -66,6 +68,18 @@ impl<Q: Payload, QH: Words, P: Payload, PH: Words> ActiveRequest<Q, QH, P, PH> {
             (state_of_hub x hub.now) }
     {
         hub.request(self.node, self.number, self.hint)
+    }
+
+    /// The first element of the request, if it has one.
+    pub fn first<'a>(&self, hub: &'a Hub<Q, QH, P, PH>) -> Option<&'a Q::Element>
+        requires has { HasValue hub.now self.now.node self.now.number kinds.ActiveRequest }
+        ensures words { IfSome result (λ element.
+            BeginsWith (message_in hub.now self.now.node self.now.number).payload
+            (Q.Element.words element.now)) }
+        ensures none { IfNone result
+            ((message_in hub.now self.now.node self.now.number).payload ≡ []) }
+    {
+        self.payload(hub).first()
     }
 
     /// The user header of the request.
@@ -154,7 +168,9 @@ impl<Q: Payload, QH: Words, E: Words, PH: Words> ActiveRequest<Q, QH, One<E>, PH
         ensures fresh { IfOk result (λ loan.
             IsFresh hub.new loan.node loan.number roles.Server hub.old.response true 1) }
         ensures node { IfOk result (λ loan. loan.node ≡ self.now.node) }
+        ensures comes { NothingComes hub.old hub.new }
         ensures keeps { KeepsValues hub.old hub.new }
+        ensures asks { KeepsAsking hub.old hub.new }
         ensures unchanged { IfErr result (λ error. error ≢ OutOfMemory → hub.new ≡ hub.old) }
         ensures left { OnErr result (hub.new ≡ with_control hub.old hub.new.control) }
     {
@@ -177,7 +193,9 @@ impl<Q: Payload, QH: Words, E: Words, PH: Words> ActiveRequest<Q, QH, One<E>, PH
         ensures fresh { IfOk result (λ loan.
             IsFresh hub.new loan.node loan.number roles.Server hub.old.response false 1) }
         ensures node { IfOk result (λ loan. loan.node ≡ self.now.node) }
+        ensures comes { NothingComes hub.old hub.new }
         ensures keeps { KeepsValues hub.old hub.new }
+        ensures asks { KeepsAsking hub.old hub.new }
         ensures unchanged { IfErr result (λ error. error ≢ OutOfMemory → hub.new ≡ hub.old) }
         ensures left { OnErr result (hub.new ≡ with_control hub.old hub.new.control) }
     {
@@ -202,7 +220,9 @@ impl<Q: Payload, QH: Words, E: Words, PH: Words> ActiveRequest<Q, QH, Many<E>, P
         ensures fresh { IfOk result (λ loan.
             IsFresh hub.new loan.node loan.number roles.Server hub.old.response true elements) }
         ensures node { IfOk result (λ loan. loan.node ≡ self.now.node) }
+        ensures comes { NothingComes hub.old hub.new }
         ensures keeps { KeepsValues hub.old hub.new }
+        ensures asks { KeepsAsking hub.old hub.new }
         ensures unchanged { IfErr result (λ error. error ≢ OutOfMemory → hub.new ≡ hub.old) }
         ensures left { OnErr result (hub.new ≡ with_control hub.old hub.new.control) }
     {
@@ -226,7 +246,9 @@ impl<Q: Payload, QH: Words, E: Words, PH: Words> ActiveRequest<Q, QH, Many<E>, P
         ensures fresh { IfOk result (λ loan.
             IsFresh hub.new loan.node loan.number roles.Server hub.old.response false elements) }
         ensures node { IfOk result (λ loan. loan.node ≡ self.now.node) }
+        ensures comes { NothingComes hub.old hub.new }
         ensures keeps { KeepsValues hub.old hub.new }
+        ensures asks { KeepsAsking hub.old hub.new }
         ensures unchanged { IfErr result (λ error. error ≢ OutOfMemory → hub.new ≡ hub.old) }
         ensures left { OnErr result (hub.new ≡ with_control hub.old hub.new.control) }
     {

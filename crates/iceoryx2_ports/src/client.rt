@@ -8,7 +8,8 @@ ghost use Rattle.iox_tables.specs.HubStates.States.{Given};
 ghost use Rattle.iox_hub.specs.Headers.{IsIdShown, id_in};
 ghost use Rattle.iox_hub.specs.Hubs.{HasValue, state_of_hub, with_control};
 ghost use Rattle.iox_hub.specs.Lending.{IsFresh};
-ghost use Rattle.iceoryx2_ports.specs.Keeping.{KeepsValues};
+ghost use Rattle.iox_hub_laws.specs.Sends.{NothingComes};
+ghost use Rattle.iceoryx2_ports.specs.Keeping.{KeepsAsking, KeepsValues};
 ghost use Rattle.iceoryx2_ports.specs.Loans.{reply_of_loan};
 ghost use Rattle.iceoryx2_ports.specs.Releases.{IsReleased};
 ghost use Rattle.iceoryx2_ports.specs.declared.errors.LoanError.TheVariants.{OutOfMemory};
@@ -96,7 +97,9 @@ impl<E: Words, QH: Words, P: Payload, PH: Words> Client<One<E>, QH, P, PH> {
         ensures fresh { IfOk result (λ loan.
             IsFresh hub.new loan.node loan.number roles.Client hub.old.request true 1) }
         ensures node { IfOk result (λ loan. loan.node ≡ self.now.node) }
+        ensures comes { NothingComes hub.old hub.new }
         ensures keeps { KeepsValues hub.old hub.new }
+        ensures asks { KeepsAsking hub.old hub.new }
         ensures unchanged { IfErr result (λ error. error ≢ OutOfMemory → hub.new ≡ hub.old) }
         ensures left { OnErr result (hub.new ≡ with_control hub.old hub.new.control) }
     {
@@ -119,7 +122,9 @@ impl<E: Words, QH: Words, P: Payload, PH: Words> Client<One<E>, QH, P, PH> {
         ensures fresh { IfOk result (λ loan.
             IsFresh hub.new loan.node loan.number roles.Client hub.old.request false 1) }
         ensures node { IfOk result (λ loan. loan.node ≡ self.now.node) }
+        ensures comes { NothingComes hub.old hub.new }
         ensures keeps { KeepsValues hub.old hub.new }
+        ensures asks { KeepsAsking hub.old hub.new }
         ensures unchanged { IfErr result (λ error. error ≢ OutOfMemory → hub.new ≡ hub.old) }
         ensures left { OnErr result (hub.new ≡ with_control hub.old hub.new.control) }
     {
@@ -144,7 +149,9 @@ impl<E: Words, QH: Words, P: Payload, PH: Words> Client<Many<E>, QH, P, PH> {
         ensures fresh { IfOk result (λ loan.
             IsFresh hub.new loan.node loan.number roles.Client hub.old.request true elements) }
         ensures node { IfOk result (λ loan. loan.node ≡ self.now.node) }
+        ensures comes { NothingComes hub.old hub.new }
         ensures keeps { KeepsValues hub.old hub.new }
+        ensures asks { KeepsAsking hub.old hub.new }
         ensures unchanged { IfErr result (λ error. error ≢ OutOfMemory → hub.new ≡ hub.old) }
         ensures left { OnErr result (hub.new ≡ with_control hub.old hub.new.control) }
     {
@@ -168,7 +175,9 @@ impl<E: Words, QH: Words, P: Payload, PH: Words> Client<Many<E>, QH, P, PH> {
         ensures fresh { IfOk result (λ loan.
             IsFresh hub.new loan.node loan.number roles.Client hub.old.request false elements) }
         ensures node { IfOk result (λ loan. loan.node ≡ self.now.node) }
+        ensures comes { NothingComes hub.old hub.new }
         ensures keeps { KeepsValues hub.old hub.new }
+        ensures asks { KeepsAsking hub.old hub.new }
         ensures unchanged { IfErr result (λ error. error ≢ OutOfMemory → hub.new ≡ hub.old) }
         ensures left { OnErr result (hub.new ≡ with_control hub.old hub.new.control) }
     {

@@ -17,6 +17,7 @@ mod response;
 mod response_mut;
 mod server;
 pub mod uses;
+pub mod uses_arrivals;
 pub mod uses_copying;
 pub mod uses_exchange;
 pub mod uses_filling;

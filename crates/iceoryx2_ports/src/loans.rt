@@ -7,7 +7,8 @@ ghost use Rattle.iox_tables.specs.HubLoans.Loans.{loan_call};
 ghost use Rattle.iox_tables.specs.HubStates.States.{Given};
 ghost use Rattle.iox_hub.specs.Hubs.{HasValue, state_of_hub, with_control};
 ghost use Rattle.iox_hub.specs.Lending.{IsFresh};
-ghost use Rattle.iceoryx2_ports.specs.Keeping.{KeepsValues};
+ghost use Rattle.iox_hub_laws.specs.Sends.{NothingComes};
+ghost use Rattle.iceoryx2_ports.specs.Keeping.{KeepsAsking, KeepsValues};
 ghost use Rattle.iceoryx2_ports.specs.Loans.{reply_of_loan};
 ghost use Rattle.iceoryx2_ports.specs.declared.errors.LoanError.TheVariants.{OutOfMemory};
 
@@ -32,11 +33,13 @@ pub(crate) fn lend_request<Q: Payload, QH: Words, P: Payload, PH: Words>(
         (state_of_hub x hub.new) }
     ensures fresh { IfOk result (λ n.
         IsFresh hub.new node n roles.Client hub.old.request uninit elements) }
+    ensures comes { NothingComes hub.old hub.new }
     ensures keeps { KeepsValues hub.old hub.new }
+    ensures asks { KeepsAsking hub.old hub.new }
     ensures unchanged { IfErr result (λ error. error ≢ OutOfMemory → hub.new ≡ hub.old) }
     ensures left { OnErr result (hub.new ≡ with_control hub.old hub.new.control) }
 {
-    match hub.lend_request(node, client, elements, uninit) {
+    match iox_hub_laws::lend_request(hub, node, client, elements, uninit) {
         Lent::Handle(loan) => Ok(loan.number),
         Lent::Refused(LoanRefusal::CallsSpent) => Err(LoanError::CallsSpent),
         Lent::Refused(LoanRefusal::WrongLength) => Err(LoanError::WrongLength),
@@ -62,11 +65,13 @@ pub(crate) fn lend_response<Q: Payload, QH: Words, P: Payload, PH: Words>(
         (state_of_hub x hub.new) }
     ensures fresh { IfOk result (λ n.
         IsFresh hub.new node n roles.Server hub.old.response uninit elements) }
+    ensures comes { NothingComes hub.old hub.new }
     ensures keeps { KeepsValues hub.old hub.new }
+    ensures asks { KeepsAsking hub.old hub.new }
     ensures unchanged { IfErr result (λ error. error ≢ OutOfMemory → hub.new ≡ hub.old) }
     ensures left { OnErr result (hub.new ≡ with_control hub.old hub.new.control) }
 {
-    match hub.lend_response(node, number, hint, elements, uninit) {
+    match iox_hub_laws::lend_response(hub, node, number, hint, elements, uninit) {
         Lent::Handle(loan) => Ok(loan.number),
         Lent::Refused(LoanRefusal::CallsSpent) => Err(LoanError::CallsSpent),
         Lent::Refused(LoanRefusal::WrongLength) => Err(LoanError::WrongLength),

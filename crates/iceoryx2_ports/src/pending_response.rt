@@ -8,11 +8,12 @@ ghost use Rattle.iox_tables.specs.HubStates.States.{Given};
 ghost use Rattle.iox_hub.specs.Headers.{IsHeaderShown, header_in};
 ghost use Rattle.iox_hub.specs.Hubs.{HasValue, state_of_hub, with_control};
 ghost use Rattle.iox_hub.specs.Reads.{message_in};
-ghost use Rattle.iox_hub_laws.specs.Receives.{TakesResponse};
-ghost use Rattle.iox_hub_laws.specs.Waiting.{WaitedForPending};
+ghost use Rattle.iox_hub_laws.specs.Receives.{CarriesWhatWaited, TakesResponse};
+ghost use Rattle.iox_hub_laws.specs.Sends.{NothingComes};
+ghost use Rattle.iox_hub_laws.specs.Waiting.{WaitedForPending, client_in};
 ghost use Rattle.iceoryx2_ports.specs.Answers.{received_response, reply_of_response};
 ghost use Rattle.iceoryx2_ports.specs.Headers.{request_header_of};
-ghost use Rattle.iceoryx2_ports.specs.Keeping.{KeepsValues};
+ghost use Rattle.iceoryx2_ports.specs.Keeping.{KeepsAsking, KeepsValues};
 ghost use Rattle.iceoryx2_ports.specs.Releases.{IsReleased};
 ghost use Rattle.iceoryx2_ports.specs.declared.errors.ReceiveError.TheVariants.{ExceedsMaxBorrows};
 
@@ -79,11 +80,16 @@ impl<Q: Payload, QH: Words, P: Payload, PH: Words> PendingResponse<Q, QH, P, PH>
             HasValue hub.new response.node response.number kinds.Response)) }
         ensures node { IfOk result (λ got. IfSome got (λ response. response.node ≡ self.now.node)) }
         ensures keeps { KeepsValues hub.old hub.new }
+        ensures asks { KeepsAsking hub.old hub.new }
         ensures refused { IfErr result (λ error. error ≡ ExceedsMaxBorrows) }
         ensures waited { WaitedForPending hub.old self.now.node self.now.number
             (received_response result) }
         ensures takes { TakesResponse hub.old self.now.node self.now.number
             (received_response result) hub.new }
+        ensures carries { IfOk result (λ got. IfSome got (λ response.
+            CarriesWhatWaited hub.old (client_in hub.old self.now.node self.now.number) hub.new
+            response.node response.number)) }
+        ensures comes { NothingComes hub.old hub.new }
     {
         match receive_response(hub, self.node, self.number, self.hint) {
             Received::Handle(number) => Ok(Some(Response::new(self.node, number))),
@@ -108,6 +114,7 @@ impl<Q: Payload, QH: Words, P: Payload, PH: Words> PendingResponse<Q, QH, P, PH>
         ensures whole { (x : Given) → IsWholeCall (state_of_hub x hub.old) self.now.node
             (calls.SetHint self.now.number) Done (state_of_hub x hub.new) }
         ensures keeps { KeepsValues hub.old hub.new }
+        ensures asks { KeepsAsking hub.old hub.new }
     {
         hub.set_hint(self.node, self.number, self.hint);
     }

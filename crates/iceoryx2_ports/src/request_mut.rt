@@ -1,5 +1,5 @@
 //! Loaned requests.
-ghost use Rattle.std.specs.Prelude.{◌≡◌, ◌≢◌, ◌∷◌, ◌++◌, ◌<◌, ◌^◌, ◌↔◌, IfErr, IfOk, IsTrue, OnErr, [], flat_map, length};
+ghost use Rattle.std.specs.Prelude.{◌≡◌, ◌≢◌, ◌∷◌, ◌++◌, ◌<◌, ◌^◌, ◌↔◌, IfErr, IfOk, IsTrue, OnErr, OnOk, [], flat_map, length};
 ghost use Rattle.std.specs.Mem.{FitsInMemory};
 ghost use Rattle.iox_model.specs.declared.call.Call.TheVariants as calls;
 ghost use Rattle.iox_model.specs.declared.kind.Kind.TheVariants as kinds;
@@ -9,9 +9,12 @@ ghost use Rattle.iox_model.specs.WholeCalls.{IsWholeCall};
 ghost use Rattle.iox_tables.specs.HubStates.States.{Given};
 ghost use Rattle.iox_hub.specs.Headers.{IsHeaderShown, header_in};
 ghost use Rattle.iox_hub.specs.Hubs.{HasValue, state_of_hub};
+ghost use Rattle.iox_hub.specs.Keeping.{KeepsOthers};
 ghost use Rattle.iox_hub.specs.Lending.{IsWritten, payload_of};
 ghost use Rattle.iox_hub.specs.Reads.{message_in};
 ghost use Rattle.iox_hub.specs.Sending.{HasNothing};
+ghost use Rattle.iox_hub_laws.specs.Sends.{BringsNothing, NothingComes, SendsRequest};
+ghost use Rattle.iceoryx2_ports.specs.Arrivals.{BringsItsWords};
 ghost use Rattle.iceoryx2_ports.specs.Headers.{request_header_of};
 ghost use Rattle.iceoryx2_ports.specs.Loans.{reply_of_request_send, reply_of_write};
 ghost use Rattle.iceoryx2_ports.specs.Releases.{IsReleased};
@@ -25,6 +28,7 @@ use crate::releases::release_handle;
 use iox_control_lending::Written;
 use iox_control_requests::Requested;
 use iox_hub::Hub;
+use iox_hub_laws::send_request;
 use iox_model::kind::Kind;
 use iox_store::{One, Payload};
 use iox_types::RequestHeader;
@@ -83,6 +87,8 @@ impl<Q: Payload, QH: Words, P: Payload, PH: Words> RequestMutUninit<Q, QH, P, PH
         ensures number { IfOk result (λ filled. filled.number ≡ self.number) }
         ensures refused { OnErr result
             ((message_in hub.old self.node self.number).elements ≢ length values.now) }
+        ensures comes { NothingComes hub.old hub.new }
+        ensures keeps { KeepsOthers hub.old self.node self.number hub.new }
         ensures unchanged { OnErr result (hub.new ≡ hub.old) }
         ensures same { IfErr result (λ loan. loan ≡ self) }
     {
@@ -152,6 +158,8 @@ impl<E: Words, QH: Words, P: Payload, PH: Words> RequestMutUninit<One<E>, QH, P,
             Done (state_of_hub x hub.new) }
         ensures written { IsWritten hub.old self.node self.number kinds.RequestMut 1
             (flat_map E.words (value ∷ [])) hub.new }
+        ensures comes { NothingComes hub.old hub.new }
+        ensures keeps { KeepsOthers hub.old self.node self.number hub.new }
         ensures node { result.node ≡ self.node }
         ensures number { result.number ≡ self.number }
     {
@@ -239,6 +247,10 @@ impl<Q: Payload, QH: Words, P: Payload, PH: Words> RequestMut<Q, QH, P, PH> {
         ensures node { IfOk result (λ pending. pending.node ≡ self.node) }
         ensures number { IfOk result (λ pending. pending.number ≡ self.number) }
         ensures gone { OnErr result (HasNothing hub.new self.node self.number) }
+        ensures sent { OnOk result (SendsRequest hub.old self.node self.number hub.new) }
+        ensures unsent { OnErr result (BringsNothing hub.old self.node self.number hub.new) }
+        ensures only { BringsItsWords hub.old self.node self.number hub.new }
+        ensures keeps { KeepsOthers hub.old self.node self.number hub.new }
     {
         let RequestMut {
             node,
@@ -246,7 +258,7 @@ impl<Q: Payload, QH: Words, P: Payload, PH: Words> RequestMut<Q, QH, P, PH> {
             hint,
             of: _,
         } = self;
-        match hub.send_request(node, number, hint) {
+        match send_request(hub, node, number, hint) {
             Requested::To(servers) => Ok(PendingResponse::new(node, number, servers)),
             Requested::ExceedsMaxActiveRequests => Err(RequestSendError::ExceedsMaxActiveRequests),
             Requested::UnableToDeliver => {

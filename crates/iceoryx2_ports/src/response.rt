@@ -1,5 +1,5 @@
 //! A response that was received.
-ghost use Rattle.std.specs.Prelude.{◌≡◌, ◌++◌, ◌↔◌, IsTrue, flat_map};
+ghost use Rattle.std.specs.Prelude.{◌≡◌, ◌++◌, ◌↔◌, IfNone, IfSome, IsTrue, [], flat_map};
 ghost use Rattle.iox_model.specs.declared.call.Call.TheVariants.{Read};
 ghost use Rattle.iox_model.specs.declared.kind.Kind.TheVariants as kinds;
 ghost use Rattle.iox_model.specs.declared.reply.Reply.TheVariants.{Words};
@@ -9,6 +9,7 @@ ghost use Rattle.iox_hub.specs.Headers.{IsHeaderShown, header_in};
 ghost use Rattle.iox_hub.specs.Hubs.{HasValue, state_of_hub};
 ghost use Rattle.iox_hub.specs.Reads.{message_in};
 ghost use Rattle.iceoryx2_ports.specs.Headers.{response_header_of};
+ghost use Rattle.iceoryx2_ports.specs.Payloads.{BeginsWith};
 ghost use Rattle.iceoryx2_ports.specs.Releases.{IsReleased};
 
 use crate::headers::response_header;
@@ -56,6 +57,18 @@ impl<Q: Payload, QH: Words, P: Payload, PH: Words> Response<Q, QH, P, PH> {
             (state_of_hub x hub.now) }
     {
         hub.response(self.node, self.number, self.hint)
+    }
+
+    /// The first element of the response, if it has one.
+    pub fn first<'a>(&self, hub: &'a Hub<Q, QH, P, PH>) -> Option<&'a P::Element>
+        requires has { HasValue hub.now self.now.node self.now.number kinds.Response }
+        ensures words { IfSome result (λ element.
+            BeginsWith (message_in hub.now self.now.node self.now.number).payload
+            (P.Element.words element.now)) }
+        ensures none { IfNone result
+            ((message_in hub.now self.now.node self.now.number).payload ≡ []) }
+    {
+        self.payload(hub).first()
     }
 
     /// The user header of the response.

@@ -1,5 +1,5 @@
 //! Loaned responses.
-ghost use Rattle.std.specs.Prelude.{◌≡◌, ◌≢◌, ◌∷◌, ◌++◌, ◌<◌, ◌^◌, ◌↔◌, IfErr, IfOk, IsTrue, OnErr, [], flat_map, length};
+ghost use Rattle.std.specs.Prelude.{◌≡◌, ◌≢◌, ◌∷◌, ◌++◌, ◌<◌, ◌^◌, ◌↔◌, IfErr, IfOk, IsTrue, OnErr, OnOk, [], flat_map, length};
 ghost use Rattle.std.specs.Mem.{FitsInMemory};
 ghost use Rattle.iox_model.specs.declared.call.Call.TheVariants as calls;
 ghost use Rattle.iox_model.specs.declared.kind.Kind.TheVariants as kinds;
@@ -9,9 +9,12 @@ ghost use Rattle.iox_model.specs.WholeCalls.{IsWholeCall};
 ghost use Rattle.iox_tables.specs.HubStates.States.{Given};
 ghost use Rattle.iox_hub.specs.Headers.{IsHeaderShown, header_in};
 ghost use Rattle.iox_hub.specs.Hubs.{HasValue, state_of_hub};
+ghost use Rattle.iox_hub.specs.Keeping.{KeepsOthers};
 ghost use Rattle.iox_hub.specs.Lending.{IsWritten, payload_of};
 ghost use Rattle.iox_hub.specs.Reads.{message_in};
 ghost use Rattle.iox_hub.specs.Sending.{HasNothing};
+ghost use Rattle.iox_hub_laws.specs.Sends.{BringsNothing, NothingComes, SendsResponse};
+ghost use Rattle.iceoryx2_ports.specs.Arrivals.{BringsItsWords};
 ghost use Rattle.iceoryx2_ports.specs.Headers.{response_header_of};
 ghost use Rattle.iceoryx2_ports.specs.Loans.{reply_of_response_send, reply_of_write};
 ghost use Rattle.iceoryx2_ports.specs.Releases.{IsReleased};
@@ -24,6 +27,7 @@ use crate::releases::release_handle;
 use iox_control_lending::Written;
 use iox_control_responses::Responded;
 use iox_hub::Hub;
+use iox_hub_laws::send_response;
 use iox_model::kind::Kind;
 use iox_store::{One, Payload};
 use iox_types::ResponseHeader;
@@ -82,6 +86,8 @@ impl<Q: Payload, QH: Words, P: Payload, PH: Words> ResponseMutUninit<Q, QH, P, P
         ensures number { IfOk result (λ filled. filled.number ≡ self.number) }
         ensures refused { OnErr result
             ((message_in hub.old self.node self.number).elements ≢ length values.now) }
+        ensures comes { NothingComes hub.old hub.new }
+        ensures keeps { KeepsOthers hub.old self.node self.number hub.new }
         ensures unchanged { OnErr result (hub.new ≡ hub.old) }
         ensures same { IfErr result (λ loan. loan ≡ self) }
     {
@@ -151,6 +157,8 @@ impl<Q: Payload, QH: Words, E: Words, PH: Words> ResponseMutUninit<Q, QH, One<E>
             Done (state_of_hub x hub.new) }
         ensures written { IsWritten hub.old self.node self.number kinds.ResponseMut 1
             (flat_map E.words (value ∷ [])) hub.new }
+        ensures comes { NothingComes hub.old hub.new }
+        ensures keeps { KeepsOthers hub.old self.node self.number hub.new }
         ensures node { result.node ≡ self.node }
         ensures number { result.number ≡ self.number }
     {
@@ -231,6 +239,10 @@ impl<Q: Payload, QH: Words, P: Payload, PH: Words> ResponseMut<Q, QH, P, PH> {
         ensures whole { (x : Given) → IsWholeCall (state_of_hub x hub.old) self.node
             (calls.Send self.number) (reply_of_response_send result) (state_of_hub x hub.new) }
         ensures gone { HasNothing hub.new self.node self.number }
+        ensures sent { OnOk result (SendsResponse hub.old self.node self.number hub.new) }
+        ensures unsent { OnErr result (BringsNothing hub.old self.node self.number hub.new) }
+        ensures only { BringsItsWords hub.old self.node self.number hub.new }
+        ensures keeps { KeepsOthers hub.old self.node self.number hub.new }
     {
         let ResponseMut {
             node,
@@ -238,7 +250,7 @@ impl<Q: Payload, QH: Words, P: Payload, PH: Words> ResponseMut<Q, QH, P, PH> {
             hint,
             of: _,
         } = self;
-        match hub.send_response(node, number, hint) {
+        match send_response(hub, node, number, hint) {
             Responded::Done => Ok(()),
             Responded::Undelivered => Err(SendError::UnableToDeliver),
         }

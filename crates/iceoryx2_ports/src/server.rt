@@ -7,10 +7,11 @@ ghost use Rattle.iox_model.specs.WholeCalls.{IsWholeCall};
 ghost use Rattle.iox_tables.specs.HubStates.States.{Given};
 ghost use Rattle.iox_hub.specs.Headers.{IsIdShown, id_in};
 ghost use Rattle.iox_hub.specs.Hubs.{HasValue, state_of_hub, with_control};
-ghost use Rattle.iox_hub_laws.specs.Receives.{TakesRequest};
+ghost use Rattle.iox_hub_laws.specs.Receives.{CarriesWhatWaited, TakesRequest};
+ghost use Rattle.iox_hub_laws.specs.Sends.{NothingComes};
 ghost use Rattle.iox_hub_laws.specs.Waiting.{WaitedFor, server_of};
 ghost use Rattle.iceoryx2_ports.specs.Answers.{received_request, reply_of_request};
-ghost use Rattle.iceoryx2_ports.specs.Keeping.{KeepsValues};
+ghost use Rattle.iceoryx2_ports.specs.Keeping.{KeepsAsking, KeepsValues};
 ghost use Rattle.iceoryx2_ports.specs.Releases.{IsReleased};
 ghost use Rattle.iceoryx2_ports.specs.declared.errors.ReceiveError.TheVariants.{ExceedsMaxBorrows};
 
@@ -61,10 +62,15 @@ impl<Q: Payload, QH: Words, P: Payload, PH: Words> Server<Q, QH, P, PH> {
             HasValue hub.new request.node request.number kinds.ActiveRequest)) }
         ensures node { IfOk result (λ got. IfSome got (λ request. request.node ≡ self.now.node)) }
         ensures keeps { KeepsValues hub.old hub.new }
+        ensures asks { KeepsAsking hub.old hub.new }
         ensures refused { IfErr result (λ error. error ≡ ExceedsMaxBorrows) }
         ensures waited { WaitedFor hub.old (server_of self.now.number) (received_request result) }
         ensures takes { TakesRequest hub.old self.now.node self.now.number
             (received_request result) hub.new }
+        ensures carries { IfOk result (λ got. IfSome got (λ request.
+            CarriesWhatWaited hub.old (server_of self.now.number) hub.new request.node
+            request.number)) }
+        ensures comes { NothingComes hub.old hub.new }
     {
         match receive_request(hub, self.node, self.number) {
             Received::Handle(number) => Ok(Some(ActiveRequest::new(self.node, number))),

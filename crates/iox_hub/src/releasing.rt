@@ -18,7 +18,9 @@ use crate::words::PoolWords;
 use iox_store::Payload;
 use iox_words::Words;
 
-/// The words in that place go.
+/// The words in that place go. It is rare, so it is a call of its own.
+#[cold]
+#[inline(never)]
 fn vacate<QE: Words, QH: Words, PE: Words, PH: Words>(
     words: &mut Vec<Option<PoolWords<QE, QH, PE, PH>>>,
     place: usize,

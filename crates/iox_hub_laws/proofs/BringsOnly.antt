@@ -44,7 +44,7 @@ only old new hub node call reply words whole carries r none = record { each = ea
     each sender a p =
         let x : Given = hub.reached.0 in
         elim (waited_or_sent (state_of_hub x old) (state_of_hub x new) node call reply (whole x) (way_to r sender) a p) as (λ u. a.payload ≡ words) [
-          | inl q ↦ absurd (subst (IsOneOf a) (none sender) q)
+          | inl q ↦ absurd (subst (IsOneOf a) (none.empty sender) q)
           | inr q ↦ carries x q.0 a q.1
         ]
 
@@ -73,13 +73,14 @@ copy_brings_only old new hub node n p reply whole =
 pub nothing_comes : (old new : HubState) (node : ℕ) (call : Call) (reply : Reply)
     → ((f : m.Fixed) (lane : ℕ) → sent_message f node lane call ≡ None)
     → ((x : Given) → IsWholeCall (state_of_hub x old) node call reply (state_of_hub x new)) → NothingComes old new
-nothing_comes old new node call reply nothing whole r none sender = no_one ((shown new).waiting (way_to r sender)) never
+nothing_comes old new node call reply nothing whole r none =
+    record { empty = λ sender. no_one ((shown new).waiting (way_to r sender)) (never sender) }
   where
-    never : (a : Message) → IsOneOf a ((shown new).waiting (way_to r sender)) → ⊥
-    never a p =
+    never : (sender : ℕ) (a : Message) → IsOneOf a ((shown new).waiting (way_to r sender)) → ⊥
+    never sender a p =
         let x : Given = nothing_given old in
         elim (waited_or_sent (state_of_hub x old) (state_of_hub x new) node call reply (whole x) (way_to r sender) a p) as (λ u. ⊥) [
-          | inl q ↦ subst (IsOneOf a) (none sender) q
+          | inl q ↦ subst (IsOneOf a) (none.empty sender) q
           | inr q ↦ none-some a (sym (nothing (state_of_hub x old).fixed q.0) ∙ q.1)
         ]
 

@@ -43,9 +43,9 @@ client_in h node n =
 abbrev pub IsWaiting : HubState → Receiver → ℕ → Message → Type 0
 IsWaiting h x sender m = IsOneOf m ((shown h).waiting (way_to x sender))
 
--- nothing waits for the receiver
-abbrev pub NothingWaits : HubState → Receiver → Type 0
-NothingWaits h x = (sender : ℕ) → (shown h).waiting (way_to x sender) ≡ []
+-- Nothing waits for the receiver.
+pub record NothingWaits (h : HubState) (x : Receiver) : Type 0 where
+  pub empty : (sender : ℕ) → (shown h).waiting (way_to x sender) ≡ []
 
 -- All that waits for the receiver carries these words.
 pub record AllCarry (h : HubState) (x : Receiver) (words : List ℕ) : Type 0 where

@@ -6,6 +6,7 @@ ghost use Rattle.iox_model.specs.WholeCalls.{IsWholeCall};
 ghost use Rattle.iox_tables.specs.HubStates.States.{Given};
 ghost use Rattle.iox_tables.specs.HubStates.Tables.{HandleState};
 ghost use Rattle.iox_tables.specs.HubStates.Wirings.{handle_in};
+ghost use Rattle.iox_control_releasing.specs.Goings.{StaysTidy};
 ghost use Rattle.iox_control_requests.specs.Sendings as requests;
 ghost use Rattle.iox_control_responses.specs.Responses as responses;
 ghost use Rattle.iox_hub.specs.Hubs.{HasValue, state_of_hub, with_control};
@@ -39,6 +40,7 @@ pub fn send_request<Q: Payload, QH: Words, P: Payload, PH: Words>(
         (Send number) (requests.reply_of_send result) (state_of_hub x hub.new) }
     ensures has { HasSent hub.new node number result }
     ensures keeps { KeepsOthers hub.old node number hub.new }
+    ensures tidy { StaysTidy hub.old.control.tables hub.new.control.tables }
 {
     hub.is_in_order();
     hub.send_request(node, number, hint)
@@ -63,6 +65,7 @@ pub fn send_response<Q: Payload, QH: Words, P: Payload, PH: Words>(
         (Send number) (responses.reply_of_send result) (state_of_hub x hub.new) }
     ensures gone { HasNothing hub.new node number }
     ensures keeps { KeepsOthers hub.old node number hub.new }
+    ensures tidy { StaysTidy hub.old.control.tables hub.new.control.tables }
 {
     hub.is_in_order();
     hub.send_response(node, number, hint)

@@ -92,7 +92,7 @@ fn heard(hub: &mut Numbers, pending: &Pending) -> Option<u64> {
     }
     match pending.receive(hub) {
         Ok(Some(response)) => {
-            let value = response.payload(hub).first().copied();
+            let value = response.first(hub).copied();
             response.release(hub);
             value
         }

@@ -161,7 +161,7 @@ pub fn heard(hub: &mut Exchange, server: &Answerer) -> Option<u64> {
 /// What the request says.
 pub fn asked(hub: &Exchange, request: &Active) -> Option<u64> {
     if request.exists(hub) {
-        return request.payload(hub).first().copied();
+        return request.first(hub).copied();
     }
     None
 }

@@ -1,5 +1,5 @@
 //! Copies of an active request's responses: loan, write and send in one.
-ghost use Rattle.std.specs.Prelude.{◌≡◌, ◌∷◌, IfErr, [], flat_map};
+ghost use Rattle.std.specs.Prelude.{◌≡◌, ◌∷◌, IfErr, OnErr, OnOk, [], flat_map};
 ghost use Rattle.std.specs.Mem.{FitsInMemory};
 ghost use Rattle.iox_model.specs.declared.call.Call.TheVariants as calls;
 ghost use Rattle.iox_model.specs.declared.kind.Kind.TheVariants as kinds;
@@ -8,14 +8,16 @@ ghost use Rattle.iox_model.specs.WholeCalls.{IsWholeCall};
 ghost use Rattle.iox_tables.specs.HubStates.States.{Given};
 ghost use Rattle.iox_hub.specs.Hubs.{HasValue, state_of_hub};
 ghost use Rattle.iox_hub.specs.Lending.{payload_of};
+ghost use Rattle.iox_hub_laws.specs.Sends.{BringsOnly, CopiesResponse, WaitsAsBefore};
 ghost use Rattle.iceoryx2_ports.specs.Copies.{LeavesUnsent, reply_of_response_copy};
-ghost use Rattle.iceoryx2_ports.specs.Keeping.{KeepsValues};
+ghost use Rattle.iceoryx2_ports.specs.Keeping.{KeepsAsking, KeepsValues};
 
 use super::ActiveRequest;
 use crate::copies::error_of_test;
 use crate::errors::{LoanError, SendError};
 use iox_control_copies::Answered;
 use iox_hub::Hub;
+use iox_hub_laws::copy_response;
 use iox_store::{One, Payload};
 use iox_words::Words;
 
@@ -29,9 +31,14 @@ impl<Q: Payload, QH: Words, E: Words, PH: Words> ActiveRequest<Q, QH, One<E>, PH
             (payload_of roles.Server 1 (flat_map E.words (value ∷ []))))
             (reply_of_response_copy result) (state_of_hub x hub.new) }
         ensures keeps { KeepsValues hub.old hub.new }
+        ensures asks { KeepsAsking hub.old hub.new }
+        ensures sent { OnOk result (CopiesResponse hub.old self.now.node self.now.number 1
+            (flat_map E.words (value ∷ [])) hub.new) }
+        ensures unsent { OnErr result (WaitsAsBefore hub.old hub.new) }
+        ensures only { BringsOnly hub.old (flat_map E.words (value ∷ [])) hub.new }
         ensures left { IfErr result (λ error. LeavesUnsent hub.old error hub.new) }
     {
-        match hub.copy_response(self.node, self.number, self.hint, &[value]) {
+        match copy_response(hub, self.node, self.number, self.hint, &[value]) {
             Answered::Done(_) => Ok(()),
             Answered::Refused(refusal) => Err(SendError::from(error_of_test(refusal))),
             Answered::OutOfMemory => Err(SendError::from(LoanError::OutOfMemory)),

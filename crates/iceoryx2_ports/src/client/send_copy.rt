@@ -9,8 +9,9 @@ ghost use Rattle.iox_tables.specs.HubStates.States.{Given};
 ghost use Rattle.iox_hub.specs.Copying.{IsAwaited};
 ghost use Rattle.iox_hub.specs.Hubs.{HasValue, state_of_hub};
 ghost use Rattle.iox_hub.specs.Lending.{payload_of};
+ghost use Rattle.iox_hub_laws.specs.Sends.{BringsOnly};
 ghost use Rattle.iceoryx2_ports.specs.Copies.{LeavesUnasked, reply_of_request_copy};
-ghost use Rattle.iceoryx2_ports.specs.Keeping.{KeepsValues};
+ghost use Rattle.iceoryx2_ports.specs.Keeping.{KeepsAsking, KeepsValues};
 
 use super::Client;
 use crate::copies::error_of_test;
@@ -18,6 +19,7 @@ use crate::errors::{LoanError, RequestSendError, SendError};
 use crate::pending_response::PendingResponse;
 use iox_control_request_copies::Copied;
 use iox_hub::Hub;
+use iox_hub_laws::copy_request;
 use iox_store::{One, Payload};
 use iox_words::Words;
 
@@ -38,9 +40,11 @@ impl<E: Words, QH: Words, P: Payload, PH: Words> Client<One<E>, QH, P, PH> {
             pending.servers 1 (flat_map E.words (value ∷ []))) }
         ensures node { IfOk result (λ pending. pending.node ≡ self.now.node) }
         ensures keeps { KeepsValues hub.old hub.new }
+        ensures asks { KeepsAsking hub.old hub.new }
+        ensures only { BringsOnly hub.old (flat_map E.words (value ∷ [])) hub.new }
         ensures left { IfErr result (λ error. LeavesUnasked hub.old error hub.new) }
     {
-        match hub.copy_request(self.node, self.number, &[value]) {
+        match copy_request(hub, self.node, self.number, &[value]) {
             Copied::To {
                 number,
                 servers,

@@ -10,7 +10,8 @@ use Rattle.iox_model.specs.Expiries.{disconnected}
 use Rattle.iox_model.specs.Joins.{new_node}
 use Rattle.iox_model.specs.Makings.{IsHubCommand}
 use Rattle.iox_model.specs.Messages.{request_way, response_way}
-use Rattle.iox_laws.specs.WorkedExamples.Examples.{follow, of_length_one, process, words}
+use Rattle.iox_model.specs.Defaults.{follow, words}
+use Rattle.iox_laws.specs.WorkedExamples.Examples.{of_length_one, process}
 use Rattle.iox_laws.specs.CallFunctions.Releases.{released_by}
 use Rattle.iox_lanes.specs.Pipes.{new_pipe}
 use Rattle.iox_tables.specs.HubStates.Tables.{HubTables, PoolState, PortState, numbers_of, pipes_to}

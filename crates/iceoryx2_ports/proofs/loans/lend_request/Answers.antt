@@ -3,40 +3,50 @@ use Rattle.iox_model.specs.declared.reply.Reply.TheVariants as replies
 use Rattle.iox_tables.specs.HubLoans.Loans.{loan_call}
 use Rattle.iox_control_lending.specs.Lends.{refusal_of, reply_of_loan}
 use Rattle.iox_control_lending.specs.declared.asked.LoanRefusal.TheVariants as refusals
-use Rattle.iceoryx2_ports.proofs.Staying.{loan_keeps}
+use Rattle.iceoryx2_ports.proofs.Staying.{loan_asks_as_before, loan_keeps}
 use Rattle.iceoryx2_ports.proofs.Telling.{called_as}
 use Rattle.iceoryx2_ports.proofs.loans.lend_request.Goals as goal
 
 pub returns-in-Handle-clause-keeps : goal.returns-in-Handle-clause-keeps
 returns-in-Handle-clause-keeps g c =
-    loan_keeps c.args.hub.now c.lend_request.new.self c.args.node c.args.uninit c.args.client c.args.elements (reply_of_loan c.lend_request.result)
+    loan_keeps c.args.hub.now c.lend_request.new.hub c.args.node c.args.uninit c.args.client c.args.elements (reply_of_loan c.lend_request.result)
     c.lend_request.ensures.whole
 
 pub returns-in-OutOfMemory-clause-keeps : goal.returns-in-OutOfMemory-clause-keeps
 returns-in-OutOfMemory-clause-keeps g c =
-    loan_keeps c.args.hub.now c.lend_request.new.self c.args.node c.args.uninit c.args.client c.args.elements (reply_of_loan c.lend_request.result)
+    loan_keeps c.args.hub.now c.lend_request.new.hub c.args.node c.args.uninit c.args.client c.args.elements (reply_of_loan c.lend_request.result)
     c.lend_request.ensures.whole
 
 pub returns-in-Refused-CallsSpent-clause-whole : goal.returns-in-Refused-CallsSpent-clause-whole
 returns-in-Refused-CallsSpent-clause-whole g c =
-    called_as c.args.hub.now c.lend_request.new.self c.args.node (loan_call c.args.uninit c.args.client c.args.elements)
+    called_as c.args.hub.now c.lend_request.new.hub c.args.node (loan_call c.args.uninit c.args.client c.args.elements)
     (replies.Refused (refusal_of c.in-Refused-CallsSpent.field-0)) (replies.Refused (refusal_of refusals.CallsSpent))
     (ap (λ r. replies.Refused (refusal_of r)) c.in-Refused-CallsSpent.field-0-is) c.in-Refused-CallsSpent.ensures.whole
 
 pub returns-in-Refused-WrongLength-clause-whole : goal.returns-in-Refused-WrongLength-clause-whole
 returns-in-Refused-WrongLength-clause-whole g c =
-    called_as c.args.hub.now c.lend_request.new.self c.args.node (loan_call c.args.uninit c.args.client c.args.elements)
+    called_as c.args.hub.now c.lend_request.new.hub c.args.node (loan_call c.args.uninit c.args.client c.args.elements)
     (replies.Refused (refusal_of c.in-Refused-WrongLength.field-0)) (replies.Refused (refusal_of refusals.WrongLength))
     (ap (λ r. replies.Refused (refusal_of r)) c.in-Refused-WrongLength.field-0-is) c.in-Refused-WrongLength.ensures.whole
 
 pub returns-in-Refused-ExceedsMaxLoanSize-clause-whole : goal.returns-in-Refused-ExceedsMaxLoanSize-clause-whole
 returns-in-Refused-ExceedsMaxLoanSize-clause-whole g c =
-    called_as c.args.hub.now c.lend_request.new.self c.args.node (loan_call c.args.uninit c.args.client c.args.elements)
+    called_as c.args.hub.now c.lend_request.new.hub c.args.node (loan_call c.args.uninit c.args.client c.args.elements)
     (replies.Refused (refusal_of c.in-Refused-ExceedsMaxLoanSize.field-0)) (replies.Refused (refusal_of refusals.ExceedsMaxLoanSize))
     (ap (λ r. replies.Refused (refusal_of r)) c.in-Refused-ExceedsMaxLoanSize.field-0-is) c.in-Refused-ExceedsMaxLoanSize.ensures.whole
 
 pub returns-in-Refused-ExceedsMaxLoans-clause-whole : goal.returns-in-Refused-ExceedsMaxLoans-clause-whole
 returns-in-Refused-ExceedsMaxLoans-clause-whole g c =
-    called_as c.args.hub.now c.lend_request.new.self c.args.node (loan_call c.args.uninit c.args.client c.args.elements)
+    called_as c.args.hub.now c.lend_request.new.hub c.args.node (loan_call c.args.uninit c.args.client c.args.elements)
     (replies.Refused (refusal_of c.in-Refused-ExceedsMaxLoans.field-0)) (replies.Refused (refusal_of refusals.ExceedsMaxLoans))
     (ap (λ r. replies.Refused (refusal_of r)) c.in-Refused-ExceedsMaxLoans.field-0-is) c.in-Refused-ExceedsMaxLoans.ensures.whole
+
+pub returns-in-Handle-clause-asks : goal.returns-in-Handle-clause-asks
+returns-in-Handle-clause-asks g c =
+    loan_asks_as_before c.args.hub.now c.lend_request.new.hub c.args.node c.args.uninit c.args.client c.args.elements (reply_of_loan c.lend_request.result)
+    c.lend_request.ensures.whole
+
+pub returns-in-OutOfMemory-clause-asks : goal.returns-in-OutOfMemory-clause-asks
+returns-in-OutOfMemory-clause-asks g c =
+    loan_asks_as_before c.args.hub.now c.lend_request.new.hub c.args.node c.args.uninit c.args.client c.args.elements (reply_of_loan c.lend_request.result)
+    c.lend_request.ensures.whole

@@ -4,7 +4,8 @@ use Rattle.iox_model.specs.declared.call.Call.TheVariants.{Receive}
 use Rattle.iox_control.specs.declared.received.Received.TheVariants as received
 use Rattle.iox_control.specs.Replies.{reply_of_receive}
 use Rattle.iox_hub_laws.specs.Receives.{TakesRequest}
-use Rattle.iceoryx2_ports.proofs.Staying.{kept}
+use Rattle.iceoryx2_ports.proofs.Staying.{asks_as_before, kept}
+use Rattle.iceoryx2_ports.proofs.Coming.{receive_brings_nothing}
 use Rattle.iceoryx2_ports.proofs.server.Server.receive.Goals as goal
 
 pub returns-in-Handle-clause-keeps : goal.returns-in-Handle-clause-keeps
@@ -27,3 +28,33 @@ returns-in-Handle-clause-takes g c =
     subst
     (λ n. TakesRequest c.args.hub.now c.args.self.now.node c.args.self.now.number (received.Handle n) c.receive_request.new.hub)
     (sym c.new.ensures.number) c.in-Handle.ensures.takes
+
+pub returns-in-Handle-clause-asks : goal.returns-in-Handle-clause-asks
+returns-in-Handle-clause-asks g c =
+    asks_as_before c.args.hub.now c.receive_request.new.hub c.args.self.now.node (Receive c.args.self.now.number) (reply_of_receive c.receive_request.result) refl
+    c.receive_request.ensures.whole
+
+pub returns-in-Handle-clause-comes : goal.returns-in-Handle-clause-comes
+returns-in-Handle-clause-comes g c =
+    receive_brings_nothing c.args.hub.now c.receive_request.new.hub c.args.self.now.node c.args.self.now.number (reply_of_receive c.receive_request.result)
+    c.receive_request.ensures.whole
+
+pub returns-in-Nothing-clause-asks : goal.returns-in-Nothing-clause-asks
+returns-in-Nothing-clause-asks g c =
+    asks_as_before c.args.hub.now c.receive_request.new.hub c.args.self.now.node (Receive c.args.self.now.number) (reply_of_receive c.receive_request.result) refl
+    c.receive_request.ensures.whole
+
+pub returns-in-Nothing-clause-comes : goal.returns-in-Nothing-clause-comes
+returns-in-Nothing-clause-comes g c =
+    receive_brings_nothing c.args.hub.now c.receive_request.new.hub c.args.self.now.node c.args.self.now.number (reply_of_receive c.receive_request.result)
+    c.receive_request.ensures.whole
+
+pub returns-in-AtLimit-clause-asks : goal.returns-in-AtLimit-clause-asks
+returns-in-AtLimit-clause-asks g c =
+    asks_as_before c.args.hub.now c.receive_request.new.hub c.args.self.now.node (Receive c.args.self.now.number) (reply_of_receive c.receive_request.result) refl
+    c.receive_request.ensures.whole
+
+pub returns-in-AtLimit-clause-comes : goal.returns-in-AtLimit-clause-comes
+returns-in-AtLimit-clause-comes g c =
+    receive_brings_nothing c.args.hub.now c.receive_request.new.hub c.args.self.now.node c.args.self.now.number (reply_of_receive c.receive_request.result)
+    c.receive_request.ensures.whole

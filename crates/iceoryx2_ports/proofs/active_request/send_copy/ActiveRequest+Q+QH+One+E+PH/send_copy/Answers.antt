@@ -9,27 +9,39 @@ use Rattle.iox_control_lending.specs.Lends.{refusal_of}
 use Rattle.iox_hub.specs.Lending.{payload_of}
 use Rattle.iceoryx2_ports.specs.Copies.{copy_reply}
 use Rattle.iceoryx2_ports.specs.Loans.{loan_refusal}
-use Rattle.iceoryx2_ports.proofs.Copying.{copy_keeps, test_is_told}
+use Rattle.iceoryx2_ports.proofs.Copying.{copy_asks_as_before, copy_keeps, test_is_told}
 use Rattle.iceoryx2_ports.proofs.Telling.{called_as}
 use Rattle.iceoryx2_ports.proofs.active_request.send_copy.ActiveRequest+Q+QH+One+E+PH.send_copy.Goals as goal
 
 pub returns-in-Done-clause-keeps : goal.returns-in-Done-clause-keeps
 returns-in-Done-clause-keeps g c =
-    copy_keeps c.args.hub.now c.copy_response.new.self c.args.self.now.node c.args.self.now.number (payload_of roles.Server 1 (flat_map g.E.Words.words (c.args.value ∷ []))) (reply_of_copy c.copy_response.result) c.copy_response.ensures.whole
+    copy_keeps c.args.hub.now c.copy_response.new.hub c.args.self.now.node c.args.self.now.number (payload_of roles.Server 1 (flat_map g.E.Words.words (c.args.value ∷ []))) (reply_of_copy c.copy_response.result) c.copy_response.ensures.whole
 
 pub returns-in-OutOfMemory-clause-keeps : goal.returns-in-OutOfMemory-clause-keeps
 returns-in-OutOfMemory-clause-keeps g c =
-    copy_keeps c.args.hub.now c.copy_response.new.self c.args.self.now.node c.args.self.now.number (payload_of roles.Server 1 (flat_map g.E.Words.words (c.args.value ∷ []))) (reply_of_copy c.copy_response.result) c.copy_response.ensures.whole
+    copy_keeps c.args.hub.now c.copy_response.new.hub c.args.self.now.node c.args.self.now.number (payload_of roles.Server 1 (flat_map g.E.Words.words (c.args.value ∷ []))) (reply_of_copy c.copy_response.result) c.copy_response.ensures.whole
 
 pub returns-in-Undelivered-clause-keeps : goal.returns-in-Undelivered-clause-keeps
 returns-in-Undelivered-clause-keeps g c =
-    copy_keeps c.args.hub.now c.copy_response.new.self c.args.self.now.node c.args.self.now.number (payload_of roles.Server 1 (flat_map g.E.Words.words (c.args.value ∷ []))) (reply_of_copy c.copy_response.result) c.copy_response.ensures.whole
+    copy_keeps c.args.hub.now c.copy_response.new.hub c.args.self.now.node c.args.self.now.number (payload_of roles.Server 1 (flat_map g.E.Words.words (c.args.value ∷ []))) (reply_of_copy c.copy_response.result) c.copy_response.ensures.whole
 
 pub returns-in-Refused-clause-whole : goal.returns-in-Refused-clause-whole
 returns-in-Refused-clause-whole g c =
-    called_as c.args.hub.now c.copy_response.new.self c.args.self.now.node (SendCopy c.args.self.now.number (payload_of roles.Server 1 (flat_map g.E.Words.words (c.args.value ∷ [])))) (replies.Refused (refusal_of c.in-Refused.refusal)) _
+    called_as c.args.hub.now c.copy_response.new.hub c.args.self.now.node (SendCopy c.args.self.now.number (payload_of roles.Server 1 (flat_map g.E.Words.words (c.args.value ∷ [])))) (replies.Refused (refusal_of c.in-Refused.refusal)) _
     (ap replies.Refused (test_is_told c.in-Refused.refusal) ∙ ap (λ l. replies.Refused (loan_refusal l)) (sym c.error_of_test.ensures) ∙ ap (λ e. copy_reply e) (sym c.from.ensures)) c.in-Refused.ensures.whole
 
 pub returns-in-OutOfMemory-clause-whole : goal.returns-in-OutOfMemory-clause-whole
 returns-in-OutOfMemory-clause-whole g c =
-    called_as c.args.hub.now c.copy_response.new.self c.args.self.now.node (SendCopy c.args.self.now.number (payload_of roles.Server 1 (flat_map g.E.Words.words (c.args.value ∷ [])))) (replies.Refused refusals.OutOfMemory) _ (ap (λ e. copy_reply e) (sym c.from-in-OutOfMemory.ensures)) c.in-OutOfMemory.ensures.whole
+    called_as c.args.hub.now c.copy_response.new.hub c.args.self.now.node (SendCopy c.args.self.now.number (payload_of roles.Server 1 (flat_map g.E.Words.words (c.args.value ∷ [])))) (replies.Refused refusals.OutOfMemory) _ (ap (λ e. copy_reply e) (sym c.from-in-OutOfMemory.ensures)) c.in-OutOfMemory.ensures.whole
+
+pub returns-in-Done-clause-asks : goal.returns-in-Done-clause-asks
+returns-in-Done-clause-asks g c =
+    copy_asks_as_before c.args.hub.now c.copy_response.new.hub c.args.self.now.node c.args.self.now.number (payload_of roles.Server 1 (flat_map g.E.Words.words (c.args.value ∷ []))) (reply_of_copy c.copy_response.result) c.copy_response.ensures.whole
+
+pub returns-in-OutOfMemory-clause-asks : goal.returns-in-OutOfMemory-clause-asks
+returns-in-OutOfMemory-clause-asks g c =
+    copy_asks_as_before c.args.hub.now c.copy_response.new.hub c.args.self.now.node c.args.self.now.number (payload_of roles.Server 1 (flat_map g.E.Words.words (c.args.value ∷ []))) (reply_of_copy c.copy_response.result) c.copy_response.ensures.whole
+
+pub returns-in-Undelivered-clause-asks : goal.returns-in-Undelivered-clause-asks
+returns-in-Undelivered-clause-asks g c =
+    copy_asks_as_before c.args.hub.now c.copy_response.new.hub c.args.self.now.node c.args.self.now.number (payload_of roles.Server 1 (flat_map g.E.Words.words (c.args.value ∷ []))) (reply_of_copy c.copy_response.result) c.copy_response.ensures.whole

@@ -9,35 +9,51 @@ use Rattle.iox_control_lending.specs.Lends.{refusal_of}
 use Rattle.iox_hub.specs.Lending.{payload_of}
 use Rattle.iceoryx2_ports.specs.Copies.{unasked_reply}
 use Rattle.iceoryx2_ports.specs.Loans.{loan_refusal}
-use Rattle.iceoryx2_ports.proofs.Copying.{copy_keeps, test_is_told}
+use Rattle.iceoryx2_ports.proofs.Copying.{copy_asks_as_before, copy_keeps, test_is_told}
 use Rattle.iceoryx2_ports.proofs.Telling.{called_as}
 use Rattle.iceoryx2_ports.proofs.client.send_copy.Client+One+E+QH+P+PH.send_copy.Goals as goal
 
 pub returns-in-To-clause-whole : goal.returns-in-To-clause-whole
 returns-in-To-clause-whole g c =
-    called_as c.args.hub.now c.copy_request.new.self c.args.self.now.node (SendCopy c.args.self.now.number (payload_of roles.Client 1 (flat_map g.E.Words.words (c.args.value ∷ [])))) (replies.Handle c.in-To.number) _ (ap replies.Handle (sym c.new.ensures.number)) c.in-To.ensures.whole
+    called_as c.args.hub.now c.copy_request.new.hub c.args.self.now.node (SendCopy c.args.self.now.number (payload_of roles.Client 1 (flat_map g.E.Words.words (c.args.value ∷ [])))) (replies.Handle c.in-To.number) _ (ap replies.Handle (sym c.new.ensures.number)) c.in-To.ensures.whole
 
 pub returns-in-To-clause-keeps : goal.returns-in-To-clause-keeps
 returns-in-To-clause-keeps g c =
-    copy_keeps c.args.hub.now c.copy_request.new.self c.args.self.now.node c.args.self.now.number (payload_of roles.Client 1 (flat_map g.E.Words.words (c.args.value ∷ []))) (reply_of_copy c.copy_request.result) c.copy_request.ensures.whole
+    copy_keeps c.args.hub.now c.copy_request.new.hub c.args.self.now.node c.args.self.now.number (payload_of roles.Client 1 (flat_map g.E.Words.words (c.args.value ∷ []))) (reply_of_copy c.copy_request.result) c.copy_request.ensures.whole
 
 pub returns-in-OutOfMemory-clause-keeps : goal.returns-in-OutOfMemory-clause-keeps
 returns-in-OutOfMemory-clause-keeps g c =
-    copy_keeps c.args.hub.now c.copy_request.new.self c.args.self.now.node c.args.self.now.number (payload_of roles.Client 1 (flat_map g.E.Words.words (c.args.value ∷ []))) (reply_of_copy c.copy_request.result) c.copy_request.ensures.whole
+    copy_keeps c.args.hub.now c.copy_request.new.hub c.args.self.now.node c.args.self.now.number (payload_of roles.Client 1 (flat_map g.E.Words.words (c.args.value ∷ []))) (reply_of_copy c.copy_request.result) c.copy_request.ensures.whole
 
 pub returns-in-ExceedsMaxActiveRequests-clause-keeps : goal.returns-in-ExceedsMaxActiveRequests-clause-keeps
 returns-in-ExceedsMaxActiveRequests-clause-keeps g c =
-    copy_keeps c.args.hub.now c.copy_request.new.self c.args.self.now.node c.args.self.now.number (payload_of roles.Client 1 (flat_map g.E.Words.words (c.args.value ∷ []))) (reply_of_copy c.copy_request.result) c.copy_request.ensures.whole
+    copy_keeps c.args.hub.now c.copy_request.new.hub c.args.self.now.node c.args.self.now.number (payload_of roles.Client 1 (flat_map g.E.Words.words (c.args.value ∷ []))) (reply_of_copy c.copy_request.result) c.copy_request.ensures.whole
 
 pub returns-in-UnableToDeliver-clause-keeps : goal.returns-in-UnableToDeliver-clause-keeps
 returns-in-UnableToDeliver-clause-keeps g c =
-    copy_keeps c.args.hub.now c.copy_request.new.self c.args.self.now.node c.args.self.now.number (payload_of roles.Client 1 (flat_map g.E.Words.words (c.args.value ∷ []))) (reply_of_copy c.copy_request.result) c.copy_request.ensures.whole
+    copy_keeps c.args.hub.now c.copy_request.new.hub c.args.self.now.node c.args.self.now.number (payload_of roles.Client 1 (flat_map g.E.Words.words (c.args.value ∷ []))) (reply_of_copy c.copy_request.result) c.copy_request.ensures.whole
 
 pub returns-in-Refused-clause-whole : goal.returns-in-Refused-clause-whole
 returns-in-Refused-clause-whole g c =
-    called_as c.args.hub.now c.copy_request.new.self c.args.self.now.node (SendCopy c.args.self.now.number (payload_of roles.Client 1 (flat_map g.E.Words.words (c.args.value ∷ [])))) (replies.Refused (refusal_of c.in-Refused.refusal)) _
+    called_as c.args.hub.now c.copy_request.new.hub c.args.self.now.node (SendCopy c.args.self.now.number (payload_of roles.Client 1 (flat_map g.E.Words.words (c.args.value ∷ [])))) (replies.Refused (refusal_of c.in-Refused.refusal)) _
     (ap replies.Refused (test_is_told c.in-Refused.refusal) ∙ ap (λ l. replies.Refused (loan_refusal l)) (sym c.error_of_test.ensures) ∙ ap (λ e. unasked_reply e) (sym c.from.ensures)) c.in-Refused.ensures.whole
 
 pub returns-in-OutOfMemory-clause-whole : goal.returns-in-OutOfMemory-clause-whole
 returns-in-OutOfMemory-clause-whole g c =
-    called_as c.args.hub.now c.copy_request.new.self c.args.self.now.node (SendCopy c.args.self.now.number (payload_of roles.Client 1 (flat_map g.E.Words.words (c.args.value ∷ [])))) (replies.Refused refusals.OutOfMemory) _ (ap (λ e. unasked_reply e) (sym c.from-in-OutOfMemory.ensures)) c.in-OutOfMemory.ensures.whole
+    called_as c.args.hub.now c.copy_request.new.hub c.args.self.now.node (SendCopy c.args.self.now.number (payload_of roles.Client 1 (flat_map g.E.Words.words (c.args.value ∷ [])))) (replies.Refused refusals.OutOfMemory) _ (ap (λ e. unasked_reply e) (sym c.from-in-OutOfMemory.ensures)) c.in-OutOfMemory.ensures.whole
+
+pub returns-in-To-clause-asks : goal.returns-in-To-clause-asks
+returns-in-To-clause-asks g c =
+    copy_asks_as_before c.args.hub.now c.copy_request.new.hub c.args.self.now.node c.args.self.now.number (payload_of roles.Client 1 (flat_map g.E.Words.words (c.args.value ∷ []))) (reply_of_copy c.copy_request.result) c.copy_request.ensures.whole
+
+pub returns-in-OutOfMemory-clause-asks : goal.returns-in-OutOfMemory-clause-asks
+returns-in-OutOfMemory-clause-asks g c =
+    copy_asks_as_before c.args.hub.now c.copy_request.new.hub c.args.self.now.node c.args.self.now.number (payload_of roles.Client 1 (flat_map g.E.Words.words (c.args.value ∷ []))) (reply_of_copy c.copy_request.result) c.copy_request.ensures.whole
+
+pub returns-in-ExceedsMaxActiveRequests-clause-asks : goal.returns-in-ExceedsMaxActiveRequests-clause-asks
+returns-in-ExceedsMaxActiveRequests-clause-asks g c =
+    copy_asks_as_before c.args.hub.now c.copy_request.new.hub c.args.self.now.node c.args.self.now.number (payload_of roles.Client 1 (flat_map g.E.Words.words (c.args.value ∷ []))) (reply_of_copy c.copy_request.result) c.copy_request.ensures.whole
+
+pub returns-in-UnableToDeliver-clause-asks : goal.returns-in-UnableToDeliver-clause-asks
+returns-in-UnableToDeliver-clause-asks g c =
+    copy_asks_as_before c.args.hub.now c.copy_request.new.hub c.args.self.now.node c.args.self.now.number (payload_of roles.Client 1 (flat_map g.E.Words.words (c.args.value ∷ []))) (reply_of_copy c.copy_request.result) c.copy_request.ensures.whole
