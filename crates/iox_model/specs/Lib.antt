@@ -3,6 +3,7 @@ pub mod Maps
 pub mod Messages
 pub mod Commands
 pub mod Settings
+pub mod Defaults
 pub mod States
 pub mod Peers
 pub mod Handles

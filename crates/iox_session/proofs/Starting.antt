@@ -6,7 +6,7 @@ use Rattle.iox_types.specs.declared.backpressure.BackpressureStrategy.TheVariant
 use Rattle.iox_types.specs.declared.identifiers.system_id.UniqueSystemId.{UniqueSystemId}
 use Rattle.iox_model.specs.Runs.{created}
 use Rattle.iox_model.specs.Settings.{Shape}
-use Rattle.iox_laws.specs.WorkedExamples.Examples.{follow, words}
+use Rattle.iox_model.specs.Defaults.{follow, words}
 use Rattle.iox_tables.specs.HubStates.Tables.{HubSettings}
 use Rattle.iox_tables.proofs.HubMaking.Starting.{each_start_is_shown}
 use Rattle.iox_hub.specs.Hubs.{HubState, given_by}

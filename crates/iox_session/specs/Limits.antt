@@ -1,7 +1,7 @@
 -- The limits of a script's service.
 use Rattle.std.specs.Prelude.{Bool}
 use Rattle.iox_model.specs.Settings.{Limits}
-use Rattle.iox_laws.specs.WorkedExamples.Examples.{defaults}
+use Rattle.iox_model.specs.Defaults.{defaults}
 
 -- the limits where nobody sets others, but for the two overflows; no port keeps messages of ports
 -- that are gone

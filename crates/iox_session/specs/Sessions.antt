@@ -13,7 +13,7 @@ use Rattle.iox_model.specs.Runs.{MakesUnless, created, creation_refusal}
 use Rattle.iox_model.specs.Services.{IsCommand}
 use Rattle.iox_model.specs.Settings.{Limits}
 use Rattle.iox_model.specs.States.{State}
-use Rattle.iox_laws.specs.WorkedExamples.Examples.{follow}
+use Rattle.iox_model.specs.Defaults.{follow}
 use Rattle.iox_port_commands.specs.Memory.{HadMemory}
 use Rattle.iox_script.specs.declared.command.Key.{Key}
 use Rattle.iox_script.specs.declared.command.Key.TheVariants.{RequestOverflow, ResponseOverflow}

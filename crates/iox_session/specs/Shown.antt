@@ -6,7 +6,7 @@ use Rattle.iox_model.specs.Joins.{new_node}
 use Rattle.iox_model.specs.Commands.{Command}
 use Rattle.iox_model.specs.Settings.{Limits, Shape}
 use Rattle.iox_model.specs.States.{Members, Node, State}
-use Rattle.iox_laws.specs.WorkedExamples.Examples.{follow, words}
+use Rattle.iox_model.specs.Defaults.{follow, words}
 use Rattle.iox_tables.specs.HubStates.States.{Given}
 use Rattle.iox_tables.specs.HubStates.Tables.{HubTables}
 use Rattle.iox_hub.specs.Hubs.{HubState, state_of_hub}

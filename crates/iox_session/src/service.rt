@@ -10,7 +10,7 @@ ghost use Rattle.iox_model.specs.Commands as machine;
 ghost use Rattle.iox_model.specs.Commands.{Create, asking};
 ghost use Rattle.iox_model.specs.Joins.{new_node, node_at, same_id};
 ghost use Rattle.iox_model.specs.Runs.{created};
-ghost use Rattle.iox_laws.specs.WorkedExamples.Examples.{follow};
+ghost use Rattle.iox_model.specs.Defaults.{follow};
 ghost use Rattle.iox_session.specs.Answers.{options_given};
 ghost use Rattle.iox_session.specs.Limits.{limits_with};
 ghost use Rattle.iox_session.specs.Shown.{service_of};

@@ -5,7 +5,7 @@ ghost use Rattle.iox_types.specs.declared.identifiers.system_id.UniqueSystemId.{
 ghost use Rattle.iox_model.specs.Makings.{is_large};
 ghost use Rattle.iox_model.specs.Runs.{created};
 ghost use Rattle.iox_model.specs.Settings.{has_layout, message_size};
-ghost use Rattle.iox_laws.specs.WorkedExamples.Examples.{follow, words};
+ghost use Rattle.iox_model.specs.Defaults.{follow, words};
 ghost use Rattle.iox_hub.specs.Shapes.{HaveParts, shape_of};
 ghost use Rattle.iox_script.specs.Grammar.{options_of};
 ghost use Rattle.iox_session.specs.Answers.{options_given};

@@ -1,10 +1,10 @@
+-- values as words; for types of callers: words in parts; the types of std
 pub mod WordLists
--- for types of callers
 pub mod WordParts
+pub mod Numbers
+-- proofs that the laws of a type's words need; callers may cite them for types of their own
 pub mod WordLaws
 pub mod WhereLaws
--- for the types of std
-pub mod Numbers
 pub mod NumberLaws
 pub mod SignedLaws
 pub mod PlainLaws

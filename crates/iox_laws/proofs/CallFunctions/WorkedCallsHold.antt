@@ -4,7 +4,8 @@ use Rattle.std.specs.Prelude.{List, [], refl}
 use Rattle.iox_model.specs.Commands.{Command}
 use Rattle.iox_model.specs.Settings.{Limits}
 use Rattle.iox_model.specs.States.{State}
-use Rattle.iox_laws.specs.WorkedExamples.Examples.{defaults, service, set_up, is_set_up}
+use Rattle.iox_model.specs.Defaults.{defaults}
+use Rattle.iox_laws.specs.WorkedExamples.Examples.{service, set_up, is_set_up}
 use Rattle.iox_laws.proofs.WeaveLaws.PlayedRuns.{state_by, is_run_to}
 use Rattle.iox_laws.specs.CallFunctions.WorkedLoans.{ClientLends, requested_once, is_requested_once, ServerLends, ClientCopies}
 use Rattle.iox_laws.specs.CallFunctions.WorkedResponses.{one_response, one_waits, one_waits_answers, ResponsePushesOut, plain_response, FullClientRefuses, given_up, given_up_answers, NobodyAwaits}

@@ -1,7 +1,8 @@
 -- The worked states are reached by their commands, and the functions answer so.
 use Rattle.std.specs.Prelude.{ℕ, List, [], refl}
 use Rattle.iox_model.specs.States.{State}
-use Rattle.iox_laws.specs.WorkedExamples.Examples.{defaults, service, set_up, is_set_up}
+use Rattle.iox_model.specs.Defaults.{defaults}
+use Rattle.iox_laws.specs.WorkedExamples.Examples.{service, set_up, is_set_up}
 use Rattle.iox_laws.proofs.WeaveLaws.PlayedRuns.{state_by, is_run_to}
 use Rattle.iox_laws.specs.CallFunctions.WorkedPlain.{two_clients, two_clients_answers, VisitsTheGoneFirst, one_active, two_responses, two_responses_answers, SendsBesideAnOverfullPair}
 

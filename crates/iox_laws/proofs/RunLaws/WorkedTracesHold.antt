@@ -11,7 +11,8 @@ use Rattle.iox_model.specs.Doings.{Outcome, Tells}
 use Rattle.iox_model.specs.Ends.{settled}
 use Rattle.iox_model.specs.Makings.{new_port, with_port}
 use Rattle.iox_model.specs.Runs.{IsHistory}
-use Rattle.iox_laws.specs.WorkedExamples.Examples.{defaults, of_length_one, process, service, request_saying}
+use Rattle.iox_model.specs.Defaults.{defaults}
+use Rattle.iox_laws.specs.WorkedExamples.Examples.{of_length_one, process, service, request_saying}
 use Rattle.iox_model.specs.States.{State}
 use Rattle.iox_model.specs.WholeCalls.{moved_by, IsDone}
 use Rattle.iox_laws.specs.WeaveLaws.Laws.{on_lane}

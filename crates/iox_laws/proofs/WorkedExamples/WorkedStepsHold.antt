@@ -18,7 +18,8 @@ use Rattle.iox_model.specs.States.{Handle, Fixed, State}
 use Rattle.iox_model.specs.Values.{is_still, filled_as, CountMayBe, MayFill}
 use Rattle.iox_laws.specs.WeaveLaws.Laws.{on_lane}
 use Rattle.iox_laws.proofs.WeaveLaws.PlayedCalls.{called_by, played_is_whole}
-use Rattle.iox_laws.specs.WorkedExamples.Examples.{defaults, of_length_one, process, service, request_saying}
+use Rattle.iox_model.specs.Defaults.{defaults}
+use Rattle.iox_laws.specs.WorkedExamples.Examples.{of_length_one, process, service, request_saying}
 use Rattle.iox_laws.specs.WorkedExamples.WorkedSteps.{wrote, FillsALoan, ReleasesAWrittenLoan}
 
 abbrev after : State → Call → State

@@ -13,7 +13,8 @@ use Rattle.iox_laws.specs.WeaveLaws.Laws.{on_lane}
 use Rattle.iox_model.specs.Settings.{Limits}
 use Rattle.iox_model.specs.States.{State}
 use Rattle.iox_model.specs.WireCalls.{opened, WordsCall}
-use Rattle.iox_laws.specs.WorkedExamples.Examples.{defaults, service, request_saying, set_up, is_set_up}
+use Rattle.iox_model.specs.Defaults.{defaults}
+use Rattle.iox_laws.specs.WorkedExamples.Examples.{service, request_saying, set_up, is_set_up}
 use Rattle.iox_laws.specs.WorkedExamples.WorkedWeaves.{stop_beats, stop_entries, loan_beats, StopsAndIsForgotten, RefusesGrowingPorts}
 use Rattle.iox_laws.proofs.WeaveLaws.PlayedWeaves.{world_by, beats_by, is_weave, all_may, Plan, begin, step, stop, die}
 use Rattle.iox_laws.proofs.WeaveLaws.PlayedRuns.{replies_by, are_answered, state_by, is_run_to}

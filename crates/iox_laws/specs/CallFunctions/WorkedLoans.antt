@@ -14,7 +14,8 @@ use Rattle.iox_model.specs.Runs.{IsRun}
 use Rattle.iox_model.specs.Settings.{Limits}
 use Rattle.iox_model.specs.States.{State}
 use Rattle.iox_model.specs.WholeCalls.{MayHold}
-use Rattle.iox_laws.specs.WorkedExamples.Examples.{defaults, service, request_saying, set_up, is_set_up}
+use Rattle.iox_model.specs.Defaults.{defaults}
+use Rattle.iox_laws.specs.WorkedExamples.Examples.{service, request_saying, set_up, is_set_up}
 use Rattle.iox_laws.specs.CallFunctions.Answers.{NoneInHand}
 use Rattle.iox_laws.specs.CallFunctions.Copies.{to_copy, MayCopy, copied_by}
 use Rattle.iox_laws.specs.CallFunctions.Loans.{loaned_from, loaned_by, loaned_uninit_by}

@@ -14,7 +14,8 @@ use Rattle.iox_model.specs.Peers.{others}
 use Rattle.iox_model.specs.Runs.{IsRun}
 use Rattle.iox_model.specs.Settings.{Limits}
 use Rattle.iox_model.specs.States.{State}
-use Rattle.iox_laws.specs.WorkedExamples.Examples.{defaults, of_length_one, process, service, request_saying, a_response, set_up, is_set_up}
+use Rattle.iox_model.specs.Defaults.{defaults}
+use Rattle.iox_laws.specs.WorkedExamples.Examples.{of_length_one, process, service, request_saying, a_response, set_up, is_set_up}
 use Rattle.iox_laws.specs.CallFunctions.Searches.{received}
 use Rattle.iox_laws.specs.CallFunctions.Overflows.{NotOver, sent_over_by}
 

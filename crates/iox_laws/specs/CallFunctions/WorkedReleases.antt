@@ -7,7 +7,7 @@ use Rattle.iox_model.specs.Commands.{Reply, Command}
 use Rattle.iox_model.specs.Messages.{request_way}
 use Rattle.iox_model.specs.Peers.{is_connected_port}
 use Rattle.iox_model.specs.States.{State}
-use Rattle.iox_laws.specs.WorkedExamples.Examples.{defaults}
+use Rattle.iox_model.specs.Defaults.{defaults}
 use Rattle.iox_laws.specs.CallFunctions.Looks.{connected_by, hinted_by, hint_set_by}
 use Rattle.iox_laws.specs.CallFunctions.Releases.{released_by}
 use Rattle.iox_laws.specs.CallFunctions.WorkedLoans.{Leaves, requested_once, is_requested_once}

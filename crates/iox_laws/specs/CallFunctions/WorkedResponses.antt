@@ -11,7 +11,8 @@ use Rattle.iox_model.specs.Commands.{Reply, Command}
 use Rattle.iox_model.specs.Handles.{own_state, subject, TheHandle}
 use Rattle.iox_model.specs.Settings.{Limits}
 use Rattle.iox_model.specs.States.{Handle, State}
-use Rattle.iox_laws.specs.WorkedExamples.Examples.{defaults, a_response}
+use Rattle.iox_model.specs.Defaults.{defaults}
+use Rattle.iox_laws.specs.WorkedExamples.Examples.{a_response}
 use Rattle.iox_laws.specs.CallFunctions.Answers.{NoneInHand}
 use Rattle.iox_laws.specs.CallFunctions.Overflows.{NotOver}
 use Rattle.iox_laws.specs.CallFunctions.Responses.{responded_by}

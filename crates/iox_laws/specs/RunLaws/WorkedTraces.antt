@@ -7,7 +7,8 @@ use Rattle.iox_model.specs.declared.reply.Reply.TheVariants as replies
 use Rattle.iox_model.specs.Messages.{request_way}
 use Rattle.iox_laws.specs.WeaveLaws.OrderLaws.{all_put_on, all_taken_from}
 use Rattle.iox_model.specs.Runs.{ServiceStep, OfHub, IsHistory}
-use Rattle.iox_laws.specs.WorkedExamples.Examples.{defaults, of_length_one, process, service, request_saying}
+use Rattle.iox_model.specs.Defaults.{defaults}
+use Rattle.iox_laws.specs.WorkedExamples.Examples.{of_length_one, process, service, request_saying}
 use Rattle.iox_model.specs.States.{State}
 use Rattle.iox_model.specs.Weaves.{Beat}
 use Rattle.iox_laws.specs.RunLaws.Traces.{beats_of_history}

@@ -10,7 +10,8 @@ use Rattle.iox_model.specs.Keeping.{kept_in}
 use Rattle.iox_model.specs.States.{State}
 use Rattle.iox_model.specs.WireCalls.{opened}
 use Rattle.iox_model.specs.Moments.{Deliver, Evict, Take, GetBack, SeesNoneBack, Open, Close}
-use Rattle.iox_laws.specs.WorkedExamples.Examples.{defaults, request_saying}
+use Rattle.iox_model.specs.Defaults.{defaults}
+use Rattle.iox_laws.specs.WorkedExamples.Examples.{request_saying}
 use Rattle.iox_model.specs.Messages.{request_way, response_way}
 use Rattle.iox_laws.specs.WeaveLaws.Laws.{on_lane}
 use Rattle.iox_laws.specs.WorkedExamples.WorkedWeaves.{request_sent, IsSetUp}

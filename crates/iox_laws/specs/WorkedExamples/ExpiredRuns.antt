@@ -4,7 +4,8 @@ use Rattle.iox_model.specs.declared.command.PortCommand.TheVariants as asks
 use Rattle.iox_model.specs.declared.command.Command.TheVariants.{Port}
 use Rattle.iox_model.specs.declared.reply.Reply.TheVariants.{Done, Nothing, Words}
 use Rattle.iox_model.specs.declared.reply.Reply.TheVariants as replies
-use Rattle.iox_laws.specs.WorkedExamples.Examples.{defaults, of_length_one, process, request_saying, a_response, Example}
+use Rattle.iox_model.specs.Defaults.{defaults}
+use Rattle.iox_laws.specs.WorkedExamples.Examples.{of_length_one, process, request_saying, a_response, Example}
 
 -- Two servers answer and go: with room for two pairs, both responses come, the older first.
 abbrev pub expires_two : Example

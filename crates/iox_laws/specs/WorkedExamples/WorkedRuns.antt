@@ -9,7 +9,8 @@ use Rattle.iox_model.specs.declared.reply.Reply.TheVariants.{Sent, Done, Nothing
 use Rattle.iox_model.specs.declared.reply.Reply.TheVariants as replies
 use Rattle.iox_model.specs.Runs.{IsCreation}
 use Rattle.iox_model.specs.States.{State}
-use Rattle.iox_laws.specs.WorkedExamples.Examples.{defaults, follow, of_length_one, process, request_saying, a_response, Example}
+use Rattle.iox_model.specs.Defaults.{defaults, follow}
+use Rattle.iox_laws.specs.WorkedExamples.Examples.{of_length_one, process, request_saying, a_response, Example}
 
 -- Two responses to one request come in the order of their sending.
 abbrev pub responds_in_order : Example

@@ -10,7 +10,8 @@ use Rattle.iox_model.specs.Commands.{Create, Use}
 use Rattle.iox_model.specs.Runs.{ServiceStep, OfHub, OfLoan, OfValue, IsHistory}
 use Rattle.iox_model.specs.States.{State}
 use Rattle.iox_model.specs.Values.{Filling}
-use Rattle.iox_laws.specs.WorkedExamples.Examples.{defaults, of_length_one, process, service, request_saying}
+use Rattle.iox_model.specs.Defaults.{defaults}
+use Rattle.iox_laws.specs.WorkedExamples.Examples.{of_length_one, process, service, request_saying}
 
 -- what a holder wrote so far
 abbrev pub wrote : Kind → List ℕ → ℕ → Filling

@@ -18,7 +18,8 @@ use Rattle.iox_model.specs.Schedules.{replies_of, Finished, Entry, Begin, Transi
 use Rattle.iox_model.specs.WireCalls.{wire_refusal, opened, WordsCall}
 use Rattle.iox_laws.specs.WeaveLaws.Laws.{on_lane}
 use Rattle.iox_model.specs.Moments.{Deliver, Take, SeesNoneBack, Open, Look}
-use Rattle.iox_laws.specs.WorkedExamples.Examples.{defaults, process, service, request_saying, set_up, is_set_up}
+use Rattle.iox_model.specs.Defaults.{defaults}
+use Rattle.iox_laws.specs.WorkedExamples.Examples.{process, service, request_saying, set_up, is_set_up}
 use Rattle.iox_model.specs.Commands.{Reply}
 use Rattle.iox_model.specs.Messages.{request_way, response_way, Message}
 use Rattle.iox_model.specs.Outstandings.{outstanding}

@@ -1,6 +1,6 @@
 //! What a run keeps from one read to the next.
-ghost use Rattle.std.specs.Prelude.{◌≡◌, ◌-◌, ◌++◌, length, take, OnOk, OnErr};
-ghost use Rattle.iox_script.specs.Grammar.{meaning};
+ghost use Rattle.std.specs.Prelude.{◌≡◌, ◌+◌, ◌-◌, ◌++◌, length, take, OnOk, OnErr};
+ghost use Rattle.iox_script.specs.Grammar.{max_line, meaning};
 ghost use Rattle.iox_session.specs.Shown.{session_of};
 ghost use Rattle.iox_run.specs.Standings.{AnswersLine};
 
@@ -92,7 +92,8 @@ impl Player {
     fn take<'a>(&mut self, alloc: Global, bytes: &'a [u8]) -> Result<&'a [u8], AllocError>
         requires { self.old.count + length bytes.now < 2 ^ 64 }
         ensures taken { IfOk result (λ rest. TakesUpTo rest.now bytes.now self.old self.new) }
-        ensures shorter { IfOk result (λ rest. 0 < length bytes.now → length rest.now < length bytes.now) }
+        ensures shorter { IfOk result (λ rest. 0 < length bytes.now
+            → length rest.now < length bytes.now) }
         ensures count { IfOk result (λ rest.
             self.new.count + length rest.now ≤ self.old.count + length bytes.now) }
         ensures unchanged { OnErr result (self.new.answers.items ≡ self.old.answers.items) }
@@ -154,7 +155,7 @@ impl Player {
 /// Adds bytes to a line that has begun, as many as are kept.
 fn keep(line: &mut Vec<u8>, bytes: &[u8]) -> Result<(), AllocError>
     ensures kept { OnOk result (line.new.items
-        ≡ line.old.items ++ take (65537 - length line.old.items) bytes.now) }
+        ≡ line.old.items ++ take (max_line + 1 - length line.old.items) bytes.now) }
 {
     let most = KEPT.saturating_sub(line.len()).min(bytes.len());
     line.extend_from_slice(&bytes[..most])

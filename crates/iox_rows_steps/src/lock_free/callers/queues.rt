@@ -24,7 +24,8 @@ pub fn played(
     requires empty { slice_index words.items site.base ≡ slice_index words.items (site.base + 1) }
     requires some { site.kind ≡ QueueKind.Overflowing → 0 < site.capacity }
     ensures queue { IfOk result (λ machine. QueueInvariant machine) }
-    ensures happened { IfOk result (λ machine. IsInterleaving (new_machine words.items site) machine) }
+    ensures happened { IfOk result (λ machine.
+        IsInterleaving (new_machine words.items site) machine) }
     ensures order { IfOk result (λ machine. published machine.events
         ≡ departed [] machine.events ++ values site machine.words) }
     ensures bounded { IfOk result (λ machine. length (values site machine.words) ≤ cells site) }
