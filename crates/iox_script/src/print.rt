@@ -11,7 +11,8 @@ use std::fmt;
 
 /// Appends a reply as a line. Where there is no memory, `out` is unchanged.
 pub fn push_reply(out: &mut Vec<u8>, reply: &ScriptReply) -> Result<(), AllocError>
-    ensures written { OnOk result (out.new.items ≡ out.old.items ++ as_line (reply_text reply.now)) }
+    ensures written { OnOk result (out.new.items
+        ≡ out.old.items ++ as_line (reply_text reply.now)) }
     ensures unchanged { OnErr result (out.new.items ≡ out.old.items) }
 {
     let start = out.len();
@@ -91,7 +92,8 @@ fn push_bad_line_text(out: &mut Vec<u8>, number: u64, cause: LineCause) -> Resul
 }
 
 fn push_refused(out: &mut Vec<u8>, name: &str) -> Result<(), AllocError>
-    ensures written { OnOk result (out.new.items ≡ out.old.items ++ (codes "refused " ++ name.now)) }
+    ensures written { OnOk result (out.new.items
+        ≡ out.old.items ++ (codes "refused " ++ name.now)) }
     ensures begun { take (length out.old.items) out.new.items ≡ out.old.items }
 {
     out.extend_from_slice(b"refused ")?;

@@ -1,5 +1,5 @@
 -- Which places a loan knows of, and what a step of it does.
-use Rattle.std.specs.Prelude.{◌≡◌, ◌+◌, ◌<◌, ◌^◌, ℕ, false, List, length, Option, option_map}
+use Rattle.std.specs.Prelude.{◌≡◌, ◌+◌, ◌<◌, ◌^◌, ℕ, Bool, true, false, List, length, Option, Some, None, option_map}
 use Rattle.iox_model.specs.Commands.{Reply}
 use Rattle.iox_steps.specs.declared.pop.Pop.TheVariants as pop
 use Rattle.iox_steps.specs.declared.side.Popping.TheVariants as popping
@@ -7,12 +7,14 @@ use Rattle.iox_steps.specs.declared.site.QueueKind.TheVariants.{Index}
 use Rattle.iox_word_map.specs.WordMaps.{ReturningQueue}
 use Rattle.iox_wire_words.specs.Programs.{site_of, word_place}
 use Rattle.iox_wire_locals.specs.declared.local.Local.{Local}
-use Rattle.iox_wire_locals.specs.declared.local.Local.TheVariants.{LendEmpties, LendStores}
+use Rattle.iox_wire_locals.specs.declared.local.Local.TheVariants.{Idle, Ends, LendEmpties, LendStores}
+use Rattle.iox_wire_locals.specs.declared.local.Ending.TheVariants as endings
+use Rattle.iox_wire_locals.specs.declared.table.Entry.{Entry}
 use Rattle.iox_wire_locals.specs.declared.seat.Seat.{Seat}
 use Rattle.iox_wire_locals.specs.Begins.{is_busy}
 use Rattle.iox_wire_locals.specs.Courses.{placed}
 use Rattle.iox_wire_locals.specs.Lendings.{next_handle}
-use Rattle.iox_wire_locals.specs.NewLoans.{loan_words}
+use Rattle.iox_wire_locals.specs.NewLoans.{entry_in, loan_words}
 use Rattle.iox_wire_locals.specs.Settlements.{reply_of}
 use Rattle.iox_wire_locals.specs.Steps.{closed, ending_at, next, tells}
 use Rattle.iox_wire_locals.specs.Tables.{Setting, region_word}
@@ -24,6 +26,7 @@ use Rattle.iox_wire_seats.specs.declared.stops.Stop.{Stop}
 use Rattle.iox_wire_loans.specs.declared.at.LendAt.{LendAt}
 use Rattle.iox_wire_loans.specs.declared.at.LendAt.TheVariants as at
 use Rattle.iox_wire_loans.specs.declared.at.LendReply.{LendReply}
+use Rattle.iox_wire_loans.specs.declared.order.Order.{Order}
 use Rattle.iox_wire_loans.specs.declared.slot_places.SlotPlaces.{SlotPlaces}
 use Rattle.iox_wire_loans.specs.Lenders.{AreReturning, AreSlots, IsWithin, word_at}
 use Rattle.iox_wire_loans.specs.Loans.{Loaned, reply_in}
@@ -139,6 +142,32 @@ IsEmptying local = ⊥
 abbrev pub IsStoring : Local → Type 0
 IsStoring (LendStores o slot next) = Unit {0}
 IsStoring local = ⊥
+
+-- whether it does
+abbrev pub is_storing : Local → Bool
+is_storing (LendStores o slot next) = true
+is_storing local = false
+
+-- one of its words is stored next
+abbrev pub HasNextWord : Local → ℕ → Type 0
+HasNextWord (LendStores o slot next) count = next < count
+HasNextWord local count = Unit {0}
+
+-- it is a place of a loan of that order
+abbrev pub IsLoanAt : Order → Local → Type 0
+IsLoanAt order Idle = Unit {0}
+IsLoanAt order (Ends (endings.Refuses r)) = Unit {0}
+IsLoanAt order (LendEmpties o w place left) = o ≡ loan_of order
+IsLoanAt order (LendStores o slot next) = o ≡ loan_of order
+IsLoanAt order local = ⊥
+
+-- a word of so many is stored: the next one follows, or it is over with this loan
+abbrev pub StoresAhead : Local → (count : ℕ) → Option Entry → Local → Type 0
+StoresAhead (LendStores o slot next) count None after =
+    (after ≡ LendStores o slot (next + 1)) × (next + 1 < count)
+StoresAhead (LendStores o slot next) count (Some loan) after =
+    (after ≡ Idle) × (next + 1 ≡ count) × (loan ≡ entry_in o slot)
+StoresAhead local count loan after = ⊥
 
 -- it is the same loan
 pub record IsSameLoan (r s : Loaned) : Type 0 where

@@ -1,5 +1,6 @@
 -- What a loan in the making will be.
-use Rattle.std.specs.Prelude.{ℕ, false, List, [], ◌∷◌, ◌++◌}
+use Rattle.std.specs.Prelude.{◌≡◌, ◌+◌, ◌<◌, ◌^◌, ℕ, false, List, [], ◌∷◌, ◌++◌}
+use Rattle.iox_model.specs.declared.kind.Kind.TheVariants.{RequestMut}
 use Rattle.iox_model.specs.declared.kind.Role.{Role}
 use Rattle.iox_model.specs.declared.kind.Role.TheVariants.{Client, Server}
 use Rattle.iox_wire_locals.specs.declared.table.NewLoan.{NewLoan}
@@ -28,3 +29,9 @@ lane_words Server lane = []
 -- the words of its message, with these words of the port's identifiers and this user header
 abbrev pub words_of : Role → (ids user : List ℕ) → Order → List ℕ
 words_of role ids user o = ids ++ lane_words role o.lane ++ o.request ∷ o.elements ∷ user
+
+-- It is a request on that free lane, and its state has room for a hint.
+pub record IsRequest (o : Order) (free : ℕ) : Type 0 where
+  pub kind : o.kind ≡ RequestMut
+  pub lane : o.lane ≡ free
+  pub request : o.request + 1 < 2 ^ 63

@@ -20,7 +20,7 @@ impl SlotPlaces {
 
     /// How far behind the first a slot begins. What is no slot is told as the first.
     #[inline]
-    fn start(self, slot: u64) -> usize
+    pub fn start(self, slot: u64) -> usize
         requires { IsWithin self }
         ensures there { slot < self.slots → result ≡ start_in self slot }
         ensures within { result + self.slot_words ≤ self.slots * self.slot_words }

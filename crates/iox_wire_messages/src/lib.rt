@@ -15,7 +15,9 @@ use iox_word_places::WordMap;
 /// Where the words of the message in a slot of a port stand.
 pub fn message_places(map: &WordMap, port: usize, slot: usize) -> MessagePlaces
     requires { IsSlotAt map.now port slot }
-    ensures { (p : Setting) → (e : Entry) → IsSettingOf map.now p → e.sender ≡ number_at map.now port → e.slot ≡ slot → StandAt p e result (words_to_read p e) }
+    ensures { (p : Setting) → (e : Entry) → IsSettingOf map.now p
+        → e.sender ≡ number_at map.now port → e.slot ≡ slot
+        → StandAt p e result (words_to_read p e) }
 {
     let plan = map.plan();
     let role = plan.ports[port].role;
@@ -30,7 +32,8 @@ pub fn message_places(map: &WordMap, port: usize, slot: usize) -> MessagePlaces
 /// Where the payload of the message in a slot of a port begins.
 pub fn payload_place(map: &WordMap, port: usize, slot: usize) -> usize
     requires { IsSlotAt map.now port slot }
-    ensures { (p : Setting) → (e : Entry) → (count : ℕ) → IsSettingOf map.now p → e.port ≡ number_at map.now port → e.slot ≡ slot → IsPayloadAt p e result count }
+    ensures { (p : Setting) → (e : Entry) → (count : ℕ) → IsSettingOf map.now p
+        → e.port ≡ number_at map.now port → e.slot ≡ slot → IsPayloadAt p e result count }
 {
     // only what this promises is wanted
     let _plan = map.plan();

@@ -144,6 +144,7 @@ AreAimed p (Seeks w place left) x =
     × AreQueues p x.site.kind x.site.capacity x.left
 AreAimed p local x = Unit {0}
 
+-- the same of the place at which the node's own call stands
 abbrev pub IsAimed : Setting → Placed → Type 0
 IsAimed p x = AreAimed p x.seat.local x
 

@@ -10,10 +10,11 @@ use Rattle.iox_wire_seats.specs.Desks.{MayCount}
 use Rattle.iox_wire_seats.specs.Rows.{AreBelow}
 use Rattle.iox_wire_seats.specs.Seats.{Placed}
 
--- how many loans of a port succeeded, and its free lanes
+-- how many loans of a port succeeded
 abbrev pub loans_in : ℕ → List Desk → ℕ
 loans_in port desks = option_map_or (λ d. d.loans) (find (λ d. d.port == port) desks) 0
 
+-- the free lanes of a port
 abbrev pub lanes_in : ℕ → List Desk → List ℕ
 lanes_in port desks = option_map_or (λ d. d.free_lanes) (find (λ d. d.port == port) desks) []
 

@@ -49,7 +49,8 @@ impl Model for StoredDesk {
       recorded = recorded_in d.recorded;
     } };
 
-    ghost invariant = { λ d. AreFreeSlots d.uses.items d.free.items (deque_capacity d.free) × HasRoomFor d.uses.items (deque_capacity d.free_lanes)
+    ghost invariant = { λ d. AreFreeSlots d.uses.items d.free.items (deque_capacity d.free)
+        × HasRoomFor d.uses.items (deque_capacity d.free_lanes)
         × MayBePicked d.uses.items d.free.items × HasSerials d.serials.items d.uses.items
         × HaveRoomFor (length d.uses.items) d.recorded };
 }

@@ -104,8 +104,11 @@ impl Desks {
     /// A new loan of a port, with that serial, takes its first free slot, and its lane. Without a
     /// free slot nothing changes.
     pub fn pick(&mut self, port: u64, serial: u64, lane: u64) -> Option<u64>
-        ensures first { IfSome result (λ slot. free_at port self.old ≡ slot ∷ drop 1 (free_at port self.old)) }
-        ensures picked { IfSome result (λ slot. (o : NewLoan) → o.serial ≡ serial → o.lane ≡ lane → self.new ≡ map (on_desk port (picks o slot (drop 1 (free_at port self.old)))) self.old) }
+        ensures first { IfSome result (λ slot. free_at port self.old
+            ≡ slot ∷ drop 1 (free_at port self.old)) }
+        ensures picked { IfSome result (λ slot. (o : NewLoan) → o.serial ≡ serial → o.lane ≡ lane
+            → self.new
+            ≡ map (on_desk port (picks o slot (drop 1 (free_at port self.old)))) self.old) }
         ensures none { result ≡ None → free_at port self.old ≡ [] }
         ensures unchanged { result ≡ None → self.new ≡ self.old }
     {

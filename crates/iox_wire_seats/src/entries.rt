@@ -26,7 +26,8 @@ impl Model for Entries {
 
     ghost view = { λ t. record { room = t.room; entries = t.entries.items } };
 
-    ghost invariant = { λ t. HasCapacity t.entries.items t.room (vec_capacity t.entries) × IsAscending t.entries.items };
+    ghost invariant = { λ t. HasCapacity t.entries.items t.room (vec_capacity t.entries)
+        × IsAscending t.entries.items };
 }
 
 impl Entries {
@@ -42,7 +43,8 @@ impl Entries {
 
     /// Makes room for so many entries.
     pub fn reserve(&mut self, room: usize) -> Result<(), AllocError>
-        ensures reserved { OnOk result (self.new ≡ record (self.old) { room = max self.old.room room }) }
+        ensures reserved { OnOk result (self.new
+            ≡ record (self.old) { room = max self.old.room room }) }
         ensures unchanged { OnErr result (self.new ≡ self.old) }
     {
         if self.room < room {
@@ -77,7 +79,8 @@ impl Entries {
     pub fn add(&mut self, entry: Entry)
         requires room { 0 < self.old.room }
         requires newer { AreBelow entry.number self.old.entries }
-        ensures { self.new ≡ record { room = self.old.room - 1; entries = self.old.entries ++ entry ∷ [] } }
+        ensures { self.new
+            ≡ record { room = self.old.room - 1; entries = self.old.entries ++ entry ∷ [] } }
     {
         self.room -= 1;
         self.entries.push_reserved(entry);
@@ -86,7 +89,8 @@ impl Entries {
     /// Removes the entry of that number, if there is one.
     pub fn remove(&mut self, entry: Entry)
         ensures gone { self.new.entries ≡ without_entry entry self.old.entries }
-        ensures room { self.new.room + length self.new.entries ≡ self.old.room + length self.old.entries }
+        ensures room { self.new.room + length self.new.entries
+            ≡ self.old.room + length self.old.entries }
     {
         if let Some(place) = self.place(entry.number) {
             self.entries.remove(place);

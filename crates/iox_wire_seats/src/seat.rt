@@ -137,7 +137,8 @@ impl Model for StoredSeat {
     } };
 
     ghost invariant = { λ s.
-        IsInMemory s.site × IsOfKind s.at s.entry × IsHeld s.at s.entry s.desks × AreInMemory s.message s.count
+        IsInMemory s.site × IsOfKind s.at s.entry × IsHeld s.at s.entry s.desks
+        × AreInMemory s.message s.count
         × HasWordsLeft s.at s.words.items s.next s.count (vec_capacity s.words)
         × MayBeHinted s.at s.entry × AreVisited s.at s.site s.left };
 }
@@ -212,7 +213,8 @@ impl StoredSeat {
     /// The access that it makes next.
     #[inline]
     pub fn asks(&self) -> Access
-        ensures { (p : Setting) → IsAimed p self.now → result ≡ program_access p.layout (program_of p self.now.seat.local) }
+        ensures { (p : Setting) → IsAimed p self.now
+            → result ≡ program_access p.layout (program_of p self.now.seat.local) }
     {
         match self.at {
             At::Idle | At::Drops | At::DropsOwn | At::Fills | At::Refuses => Access::Local,

@@ -117,7 +117,8 @@ pub fn pop_loads_first(site: Site) -> Access
 
 /// What a node asks for is what its place in the call asks for.
 pub fn asks_at_its_place(seat: &StoredSeat) -> Access
-    ensures { (p : Setting) → IsAimed p seat.now → result ≡ program_access p.layout (program_of p seat.now.seat.local) }
+    ensures { (p : Setting) → IsAimed p seat.now
+        → result ≡ program_access p.layout (program_of p seat.now.seat.local) }
 {
     seat.asks()
 }
@@ -133,9 +134,11 @@ pub fn released_by_one_step(
 ) -> Option<SeatReply>
     requires kind { entry.kind ≡ Response }
     requires way { IsWayAt map.now (Responses client server entry.lane) }
-    requires ports { way_at map.now (Responses client server entry.lane) ≡ response_way entry.port entry.lane entry.sender }
+    requires ports { way_at map.now (Responses client server entry.lane)
+        ≡ response_way entry.port entry.lane entry.sender }
     requires accesses { seat.old.seat.accesses + 1 < 2 ^ 64 }
-    ensures { (p : Setting) → Agrees p map.now → seat.new.seat ≡ next p (releasing p seat.old.seat entry) seen }
+    ensures { (p : Setting) → Agrees p map.now
+        → seat.new.seat ≡ next p (releasing p seat.old.seat entry) seen }
 {
     seat.release_response(map, entry, client, server);
     seat.go_on(seen)
@@ -143,7 +146,8 @@ pub fn released_by_one_step(
 
 /// The first free slot is picked, and is free no more.
 pub fn picked_first(desk: &mut StoredDesk, serial: u64, lane: u64) -> Option<u64>
-    ensures { (slot : ℕ) → (free : List ℕ) → desk.old.free ≡ slot ∷ free → IfSome result (λ picked. picked ≡ slot) }
+    ensures { (slot : ℕ) → (free : List ℕ) → desk.old.free ≡ slot ∷ free
+        → IfSome result (λ picked. picked ≡ slot) }
 {
     desk.pick(serial, lane)
 }

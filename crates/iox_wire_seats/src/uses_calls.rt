@@ -31,8 +31,10 @@ pub fn read_by_one_step(
 ) -> Result<Option<SeatReply>, AllocError>
     requires memory { AreInMemory message count }
     requires accesses { seat.old.seat.accesses + 1 < 2 ^ 64 }
-    ensures next { (p : Setting) → StandAt p entry message count → OnOk result (seat.new.seat ≡ next p (reads p seat.old.seat entry) seen) }
-    ensures told { (p : Setting) → StandAt p entry message count → IfOk result (λ r. tells p (reads p seat.old.seat entry) seen ≡ option_map (reply_with seat.new.words) r) }
+    ensures next { (p : Setting) → StandAt p entry message count
+        → OnOk result (seat.new.seat ≡ next p (reads p seat.old.seat entry) seen) }
+    ensures told { (p : Setting) → StandAt p entry message count → IfOk result (λ r.
+        tells p (reads p seat.old.seat entry) seen ≡ option_map (reply_with seat.new.words) r) }
 {
     seat.read(entry, message, count)?;
     Ok(seat.go_on(seen))
@@ -47,7 +49,9 @@ pub fn write_by_one_step(
 ) -> Result<Option<SeatReply>, AllocError>
     requires memory { payload + length word.now < 2 ^ 64 }
     requires accesses { seat.old.seat.accesses + 1 < 2 ^ 64 }
-    ensures { (p : Setting) → IsPayloadAt p loan payload (length word.now) → OnOk result (seat.new.seat ≡ next p (writes seat.old.seat loan (Some loan.elements) word.now) 0) }
+    ensures { (p : Setting) → IsPayloadAt p loan payload (length word.now)
+        → OnOk result (seat.new.seat
+        ≡ next p (writes seat.old.seat loan (Some loan.elements) word.now) 0) }
 {
     seat.write(loan, payload, Some(loan.elements), word)?;
     Ok(seat.go_on(0))
@@ -61,7 +65,8 @@ pub fn check_by_one_step(
     seen: u64,
 ) -> Result<Option<SeatReply>, AllocError>
     requires { seat.old.seat.accesses + 1 < 2 ^ 64 }
-    ensures { (p : Setting) → AreStates p stops.now → OnOk result (seat.new.seat ≡ next p (checking seat.old.seat entry false (ways_of stops.now)) seen) }
+    ensures { (p : Setting) → AreStates p stops.now → OnOk result (seat.new.seat
+        ≡ next p (checking seat.old.seat entry false (ways_of stops.now)) seen) }
 {
     seat.check(entry, false, stops)?;
     Ok(seat.go_on(seen))
@@ -76,7 +81,8 @@ pub fn hint_by_one_step(
 ) -> Result<Option<SeatReply>, AllocError>
     requires hint { HasRoomForHint entry }
     requires accesses { seat.old.seat.accesses + 1 < 2 ^ 64 }
-    ensures { (p : Setting) → AreStates p stops.now → OnOk result (seat.new.seat ≡ next p (hinting seat.old.seat entry (ways_of stops.now)) seen) }
+    ensures { (p : Setting) → AreStates p stops.now → OnOk result (seat.new.seat
+        ≡ next p (hinting seat.old.seat entry (ways_of stops.now)) seen) }
 {
     seat.hint(entry, stops)?;
     Ok(seat.go_on(seen))
@@ -91,7 +97,8 @@ pub fn seek_by_one_step(
 ) -> Result<Option<SeatReply>, AllocError>
     requires memory { QueuesInMemory queue.kind queue.capacity stops.now }
     requires accesses { seat.old.seat.accesses + 1 < 2 ^ 64 }
-    ensures { (p : Setting) → AreQueues p queue.kind queue.capacity stops.now → OnOk result (seat.new.seat ≡ next p (seeking seat.old.seat (ways_of stops.now)) seen) }
+    ensures { (p : Setting) → AreQueues p queue.kind queue.capacity stops.now
+        → OnOk result (seat.new.seat ≡ next p (seeking seat.old.seat (ways_of stops.now)) seen) }
 {
     seat.seek(queue, stops)?;
     Ok(seat.go_on(seen))
@@ -105,7 +112,8 @@ pub fn read_begins(
     count: usize,
 ) -> Result<(), AllocError>
     requires { AreInMemory message count }
-    ensures { (p : Setting) → (n : ℕ) → StandAt p entry message count → OnOk result (seat.new.seat ≡ begins_at_entry p seat.old.seat (Read n) entry) }
+    ensures { (p : Setting) → (n : ℕ) → StandAt p entry message count
+        → OnOk result (seat.new.seat ≡ begins_at_entry p seat.old.seat (Read n) entry) }
 {
     seat.read(entry, message, count)
 }
@@ -119,7 +127,8 @@ pub fn write_begins(
     words: &[u64],
 ) -> Result<(), AllocError>
     requires { payload + length words.now < 2 ^ 64 }
-    ensures { (p : Setting) → (n : ℕ) → (y : Payload) → y.elements ≡ elements → y.words ≡ words.now → OnOk result (seat.new.seat ≡ begins_at_entry p seat.old.seat (Write n y) loan) }
+    ensures { (p : Setting) → (n : ℕ) → (y : Payload) → y.elements ≡ elements → y.words ≡ words.now
+        → OnOk result (seat.new.seat ≡ begins_at_entry p seat.old.seat (Write n y) loan) }
 {
     seat.write(loan, payload, elements, words)
 }
@@ -130,7 +139,8 @@ pub fn is_connected_begins(
     entry: Entry,
     stops: &[Stop],
 ) -> Result<(), AllocError>
-    ensures { (p : Setting) → (n : ℕ) → ways_of stops.now ≡ states_for p seat.old.seat entry → OnOk result (seat.new.seat ≡ begins_at_entry p seat.old.seat (IsConnected n) entry) }
+    ensures { (p : Setting) → (n : ℕ) → ways_of stops.now ≡ states_for p seat.old.seat entry
+        → OnOk result (seat.new.seat ≡ begins_at_entry p seat.old.seat (IsConnected n) entry) }
 {
     seat.check(entry, false, stops)
 }
@@ -141,7 +151,8 @@ pub fn has_hint_begins(
     entry: Entry,
     stops: &[Stop],
 ) -> Result<(), AllocError>
-    ensures { (p : Setting) → (n : ℕ) → ways_of stops.now ≡ states_for p seat.old.seat entry → OnOk result (seat.new.seat ≡ begins_at_entry p seat.old.seat (HasHint n) entry) }
+    ensures { (p : Setting) → (n : ℕ) → ways_of stops.now ≡ states_for p seat.old.seat entry
+        → OnOk result (seat.new.seat ≡ begins_at_entry p seat.old.seat (HasHint n) entry) }
 {
     seat.check(entry, true, stops)
 }
@@ -153,7 +164,8 @@ pub fn set_hint_begins(
     stops: &[Stop],
 ) -> Result<(), AllocError>
     requires { HasRoomForHint entry }
-    ensures { (p : Setting) → (n : ℕ) → ways_of stops.now ≡ states_for p seat.old.seat entry → OnOk result (seat.new.seat ≡ begins_at_entry p seat.old.seat (SetHint n) entry) }
+    ensures { (p : Setting) → (n : ℕ) → ways_of stops.now ≡ states_for p seat.old.seat entry
+        → OnOk result (seat.new.seat ≡ begins_at_entry p seat.old.seat (SetHint n) entry) }
 {
     seat.hint(entry, stops)
 }
@@ -166,7 +178,8 @@ pub fn has_response_begins(
     stops: &[Stop],
 ) -> Result<(), AllocError>
     requires { QueuesInMemory queue.kind queue.capacity stops.now }
-    ensures { (p : Setting) → (n : ℕ) → ways_of stops.now ≡ ways_for p seat.old.seat entry → OnOk result (seat.new.seat ≡ begins_at_entry p seat.old.seat (HasResponse n) entry) }
+    ensures { (p : Setting) → (n : ℕ) → ways_of stops.now ≡ ways_for p seat.old.seat entry
+        → OnOk result (seat.new.seat ≡ begins_at_entry p seat.old.seat (HasResponse n) entry) }
 {
     seat.seek(queue, stops)
 }
@@ -179,21 +192,24 @@ pub fn release_begins(
 ) -> Result<(), AllocError>
     requires kind { pending.kind ≡ PendingResponse }
     requires held { MayGiveUp pending seat.old.seat.desks }
-    ensures { (p : Setting) → (n : ℕ) → ways_of stops.now ≡ states_for p seat.old.seat pending → OnOk result (seat.new.seat ≡ begins_at_entry p seat.old.seat (Release n) pending) }
+    ensures { (p : Setting) → (n : ℕ) → ways_of stops.now ≡ states_for p seat.old.seat pending
+        → OnOk result (seat.new.seat ≡ begins_at_entry p seat.old.seat (Release n) pending) }
 {
     seat.release_pending(pending, stops)
 }
 
 /// A call that names nothing begins as the definitions begin it.
 pub fn unknown_number_begins(seat: &mut StoredSeat)
-    ensures { (p : Setting) → (call : Call) → seat.new.seat ≡ begins_at p seat.old.seat call None None }
+    ensures { (p : Setting) → (call : Call)
+        → seat.new.seat ≡ begins_at p seat.old.seat call None None }
 {
     seat.refuse(CallRefusal::UnknownNumber);
 }
 
 /// So does one that a handle does not have.
 pub fn wrong_kind_begins(seat: &mut StoredSeat, entry: Entry)
-    ensures { (p : Setting) → (n : ℕ) → seat.new.seat ≡ begins_at_entry p seat.old.seat (HasRequests n) entry }
+    ensures { (p : Setting) → (n : ℕ)
+        → seat.new.seat ≡ begins_at_entry p seat.old.seat (HasRequests n) entry }
 {
     seat.refuse(CallRefusal::WrongKind);
 }

@@ -21,3 +21,7 @@ pub mod BeginsKept
 pub mod Readiness
 pub mod StepsKept
 pub mod BeginsWhole
+pub mod EndTables
+pub mod EndsKept
+pub mod EndCounts
+pub mod EndNumbers

@@ -1,6 +1,7 @@
 -- In reading order: a run of a wire, and what a node was asked and answered; what is so of a living
 -- node at its place; when words and nodes stand for a run; a wire as it opens; what follows, and
--- what stays so as nodes die and as other nodes make beats.
+-- what stays so as nodes die and as other nodes make beats; accesses, begins, and of an end some
+-- fields of its own node.
 pub mod Runs
 pub mod Following
 pub mod Nodes
@@ -14,3 +15,4 @@ pub mod NodeLaws
 pub mod QueuesLaws
 pub mod StepLaws
 pub mod BeginLaws
+pub mod EndLaws

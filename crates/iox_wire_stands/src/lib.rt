@@ -10,6 +10,9 @@ ghost use Rattle.iox_wire_stands.specs.NodeLaws.{AccessesKeepNodes};
 ghost use Rattle.iox_wire_stands.specs.QueuesLaws.{AccessesKeepQueues};
 ghost use Rattle.iox_wire_stands.specs.StepLaws.{OtherSlotsMayChange, StepsKeep};
 ghost use Rattle.iox_wire_stands.specs.BeginLaws.{BeginsKeep, BeginsKeepNodes, NodesAreReady};
+ghost use Rattle.iox_wire_stands.specs.EndLaws.{EndsAddOneEntry, EndsKeepNames, EndsKeepPools};
+ghost use Rattle.iox_wire_stands.specs.EndLaws.{EndsKeepCounts, EndsKeepDesks, EndsKeepNumbers};
+ghost use Rattle.iox_wire_stands.specs.EndLaws.{GivenBackResponsesDoNotStand};
 ghost use Rattle.iox_wire_stands.specs.Openings.{AWireOpens};
 ghost use Rattle.iox_wire_stands.specs.Others.{DeathsKeep, OthersLeaveNodes};
 
@@ -86,4 +89,31 @@ pub fn begins_keep_nodes()
 /// The begin of a call that is not refused leads from what stands to what stands.
 pub fn begins_keep()
     ensures { BeginsKeep }
+{}
+
+/// What a node names stands after the end of its call: its entries are those before and one more.
+pub fn ends_keep_names()
+    ensures entries { EndsAddOneEntry }
+    ensures names { EndsKeepNames }
+    ensures pools { EndsKeepPools }
+{}
+
+/// Only ports of the node have desks after the end of its call, too.
+pub fn ends_keep_desks()
+    ensures { EndsKeepDesks }
+{}
+
+/// A node has a count of the same ways after the end of its call.
+pub fn ends_keep_counts()
+    ensures { EndsKeepCounts }
+{}
+
+/// A response that was given back is still in its pool as the call ends: its place does not stand.
+pub fn given_back_responses_do_not_stand()
+    ensures { GivenBackResponsesDoNotStand }
+{}
+
+/// No two entries have one number after the end of a call, where the added one has a new number.
+pub fn ends_keep_numbers()
+    ensures { EndsKeepNumbers }
 {}

@@ -7,19 +7,20 @@ use super::Lending;
 use crate::at::LendAt;
 use crate::lender::Lender;
 use crate::order::Order;
+use crate::slot_places::SlotPlaces;
 use iox_model::kind::{Kind, Role};
 use iox_wire_locals::{CallRefusal, Entry};
 use iox_wire_seats::{Stop, StoredSeat};
 use std::alloc::AllocError;
 
 impl Lending {
-    ghost use Rattle.std.specs.Prelude.{◌≡◌, [], OnErr, OnOk, false};
+    ghost use Rattle.std.specs.Prelude.{◌≡◌, [], OnErr, OnOk, false, true};
     ghost use Rattle.iox_model.specs.Loans.{request_ways, response_ways};
     ghost use Rattle.iox_steps.specs.declared.site.QueueKind.TheVariants.{Index};
     ghost use Rattle.iox_wire_locals.specs.Begins.{is_busy};
     ghost use Rattle.iox_wire_locals.specs.Courses.{loaning, placed};
-    ghost use Rattle.iox_wire_locals.specs.Known.{known};
-    ghost use Rattle.iox_wire_locals.specs.Lendings.{lends_request, lends_response, next_handle};
+    ghost use Rattle.iox_wire_locals.specs.Known.{free_lanes, known};
+    ghost use Rattle.iox_wire_locals.specs.Lendings.{first_lane, lends_request, lends_response, next_handle};
     ghost use Rattle.iox_wire_locals.specs.NewLoans.{loan_words};
     ghost use Rattle.iox_wire_locals.specs.Tables.{Setting};
     ghost use Rattle.iox_wire_locals.specs.declared.local.Ending.TheVariants.{Refuses};
@@ -29,7 +30,7 @@ impl Lending {
     ghost use Rattle.iox_wire_loans.specs.Aims.{IsAimed, IsOrdered, LeavesSeat, TellsOfSlot};
     ghost use Rattle.iox_wire_loans.specs.Lenders.{AreReturning, AreSlots, IsClient, IsLender};
     ghost use Rattle.iox_wire_loans.specs.Lenders.{IsServer};
-    ghost use Rattle.iox_wire_loans.specs.Orders.{loan_of};
+    ghost use Rattle.iox_wire_loans.specs.Orders.{IsRequest, loan_of};
 
     /// Begins the loan of a request by a client, which gets back on these ways first. What was
     /// under way would be lost.
@@ -56,6 +57,10 @@ impl Lending {
             → TellsOfSlot self.new.places self.new.local
             → OnOk result (IsAimed p seat.new.seat self.new) }
         ensures ordered { OnOk result (IsOrdered self.new number lender.now.port) }
+        ensures request { OnOk result (IsRequest self.new.order
+            (first_lane lender.now.pool (free_lanes seat.old.seat lender.now.port))) }
+        ensures places { OnOk result (self.new.places ≡ lender.now.places) }
+        ensures busy { OnOk result (is_busy self.new.local ≡ true) }
         ensures leaves { LeavesSeat seat.old seat.new }
         ensures unchanged { OnErr result (self.new ≡ self.old) }
         ensures seat_unchanged { OnErr result (seat.new ≡ seat.old) }
@@ -74,7 +79,7 @@ impl Lending {
         };
         match lender.request_refusal(seat, elements) {
             Some(refusal) => {
-                self.refuse(order, refusal);
+                self.refuse(order, lender.places, refusal);
                 Ok(())
             }
             None => self.begin(seat, lender, order, stops),
@@ -124,7 +129,7 @@ impl Lending {
         };
         match lender.response_refusal(seat, request, elements) {
             Some(refusal) => {
-                self.refuse(order, refusal);
+                self.refuse(order, lender.places, refusal);
                 Ok(())
             }
             None => self.begin(seat, lender, order, stops),
@@ -132,11 +137,13 @@ impl Lending {
     }
 
     /// Begins a loan that is refused.
-    fn refuse(&mut self, order: Order, refusal: CallRefusal)
+    fn refuse(&mut self, order: Order, places: SlotPlaces, refusal: CallRefusal)
         ensures local { self.new.local ≡ Ends (Refuses refusal) }
         ensures order { self.new.order ≡ order }
+        ensures places { self.new.places ≡ places }
     {
         self.order = order;
+        self.places = places;
         self.refusal = refusal;
         self.at = LendAt::Refuses;
     }
@@ -163,6 +170,8 @@ impl Lending {
             → TellsOfSlot self.new.places self.new.local
             → OnOk result (IsAimed p seat.new.seat self.new) }
         ensures ordered { OnOk result (self.new.order ≡ order) }
+        ensures places { OnOk result (self.new.places ≡ lender.now.places) }
+        ensures busy { OnOk result (is_busy self.new.local ≡ true) }
         ensures leaves { LeavesSeat seat.old seat.new }
         ensures unchanged { OnErr result (self.new ≡ self.old) }
         ensures seat_unchanged { OnErr result (seat.new ≡ seat.old) }

@@ -9,7 +9,7 @@ use iox_wire_seats::StoredSeat;
 
 impl Lending {
     ghost use Rattle.std.specs.Bool.{OnFalse, OnTrue};
-    ghost use Rattle.std.specs.Prelude.{◌≡◌, ◌+◌, ◌<◌, ◌^◌, [], None, false, option_map};
+    ghost use Rattle.std.specs.Prelude.{◌≡◌, ◌+◌, ◌<◌, ◌^◌, [], None, false, is_none, length, option_map, true};
     ghost use Rattle.iox_steps.specs.declared.site.QueueKind.TheVariants.{Index};
     ghost use Rattle.iox_wire_locals.specs.Begins.{is_busy};
     ghost use Rattle.iox_wire_locals.specs.Courses.{loaning, placed, takes_slot};
@@ -33,6 +33,7 @@ impl Lending {
             ≡ takes_slot seat.old.seat (loan_of self.old.order)
             (free_slots seat.old.seat self.old.order.port)) }
         ensures stores { OnTrue result (IsStoring self.new.local) }
+        ensures busy { OnTrue result (is_busy self.new.local ≡ true) }
         ensures dry { OnFalse result (free_slots seat.old.seat self.old.order.port ≡ []) }
         ensures unchanged { OnFalse result (self.new ≡ self.old) }
         ensures seat_unchanged { OnFalse result (seat.new ≡ seat.old) }
@@ -67,6 +68,8 @@ impl Lending {
         ensures aimed { (p : Setting) → Knows p seat.old.seat self.old
             → AreReturning p self.old.room self.old.left
             → TellsOfSlot self.new.places self.new.local → IsAimed p seat.new.seat self.new }
+        ensures busy { is_busy self.new.local ≡ is_none result }
+        ensures visits { 0 < length self.old.left → result ≡ None }
         ensures leaves { LeavesSeat seat.old seat.new }
         ensures same { IsSameLoan self.old self.new }
     {
@@ -99,6 +102,7 @@ impl Lending {
         ensures next { GoesOn seat.old self.old seen seat.new self.new }
         ensures over { Answers seat.old self.old seen result }
         ensures aimed { StaysAimed seat.old self.old seat.new self.new }
+        ensures busy { is_busy self.new.local ≡ is_none result }
         ensures accesses { seat.new.seat.accesses ≡ seat.old.seat.accesses + 1 }
         ensures room { KeepsRoom seat.old seat.new }
         ensures rests { is_busy seat.new.seat.local ≡ false }

@@ -15,7 +15,8 @@ impl StoredDesk {
     /// nothing changes.
     pub fn pick(&mut self, serial: u64, lane: u64) -> Option<u64>
         ensures first { IfSome result (λ slot. self.old.free ≡ slot ∷ self.new.free) }
-        ensures picked { IfSome result (λ slot. (o : NewLoan) → o.serial ≡ serial → o.lane ≡ lane → self.new ≡ picks o slot self.new.free self.old) }
+        ensures picked { IfSome result (λ slot. (o : NewLoan) → o.serial ≡ serial → o.lane ≡ lane
+            → self.new ≡ picks o slot self.new.free self.old) }
         ensures none { result ≡ None → self.old.free ≡ [] }
         ensures unchanged { result ≡ None → self.new ≡ self.old }
         ensures port { self.new.port ≡ self.old.port }

@@ -21,7 +21,8 @@ impl StoredSeat {
     /// Begins to look for a request state that names the entry's request, with a hint if that is
     /// asked, on these ways.
     pub fn check(&mut self, entry: Entry, hinted: bool, stops: &[Stop]) -> Result<(), AllocError>
-        ensures begun { OnOk result (self.new.seat ≡ checking self.old.seat entry hinted (ways_of stops.now)) }
+        ensures begun { OnOk result (self.new.seat
+            ≡ checking self.old.seat entry hinted (ways_of stops.now)) }
         ensures aimed { (p : Setting) → AreStates p stops.now → OnOk result (IsAimed p self.new) }
         ensures accesses { self.new.seat.accesses ≡ self.old.seat.accesses }
         ensures room { self.new.room ≡ self.old.room }

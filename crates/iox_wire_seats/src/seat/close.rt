@@ -36,7 +36,8 @@ impl StoredSeat {
     pub fn release_pending(&mut self, pending: Entry, stops: &[Stop]) -> Result<(), AllocError>
         requires kind { pending.kind ≡ PendingResponse }
         requires held { MayGiveUp pending self.old.seat.desks }
-        ensures begun { OnOk result (self.new.seat ≡ closing self.old.seat pending (ways_of stops.now)) }
+        ensures begun { OnOk result (self.new.seat
+            ≡ closing self.old.seat pending (ways_of stops.now)) }
         ensures aimed { (p : Setting) → AreStates p stops.now → OnOk result (IsAimed p self.new) }
         ensures accesses { self.new.seat.accesses ≡ self.old.seat.accesses }
         ensures room { self.new.room ≡ self.old.room }

@@ -19,7 +19,8 @@ impl StoredSeat {
     /// Begins to give a hint to the entry's request, on these ways.
     pub fn hint(&mut self, entry: Entry, stops: &[Stop]) -> Result<(), AllocError>
         requires { HasRoomForHint entry }
-        ensures begun { OnOk result (self.new.seat ≡ hinting self.old.seat entry (ways_of stops.now)) }
+        ensures begun { OnOk result (self.new.seat
+            ≡ hinting self.old.seat entry (ways_of stops.now)) }
         ensures aimed { (p : Setting) → AreStates p stops.now → OnOk result (IsAimed p self.new) }
         ensures accesses { self.new.seat.accesses ≡ self.old.seat.accesses }
         ensures room { self.new.room ≡ self.old.room }

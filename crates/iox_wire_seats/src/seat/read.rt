@@ -23,8 +23,10 @@ impl StoredSeat {
         count: usize,
     ) -> Result<(), AllocError>
         requires { AreInMemory message count }
-        ensures begun { (p : Setting) → StandAt p entry message count → OnOk result (self.new.seat ≡ reads p self.old.seat entry) }
-        ensures aimed { (p : Setting) → StandAt p entry message count → OnOk result (IsAimed p self.new) }
+        ensures begun { (p : Setting) → StandAt p entry message count
+            → OnOk result (self.new.seat ≡ reads p self.old.seat entry) }
+        ensures aimed { (p : Setting) → StandAt p entry message count
+            → OnOk result (IsAimed p self.new) }
         ensures accesses { self.new.seat.accesses ≡ self.old.seat.accesses }
         ensures room { self.new.room ≡ self.old.room }
         ensures unchanged { OnErr result (self.new ≡ self.old) }

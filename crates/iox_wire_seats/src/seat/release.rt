@@ -38,8 +38,10 @@ impl StoredSeat {
     pub fn release_response(&mut self, map: &WordMap, entry: Entry, client: usize, server: usize)
         requires kind { entry.kind ≡ Response }
         requires way { IsWayAt map.now (Responses client server entry.lane) }
-        requires ports { way_at map.now (Responses client server entry.lane) ≡ response_way entry.port entry.lane entry.sender }
-        ensures begun { (p : Setting) → Agrees p map.now → self.new.seat ≡ releasing p self.old.seat entry }
+        requires ports { way_at map.now (Responses client server entry.lane)
+            ≡ response_way entry.port entry.lane entry.sender }
+        ensures begun { (p : Setting) → Agrees p map.now
+            → self.new.seat ≡ releasing p self.old.seat entry }
         ensures aimed { (p : Setting) → Agrees p map.now → IsAimed p self.new }
         ensures accesses { self.new.seat.accesses ≡ self.old.seat.accesses }
         ensures room { self.new.room ≡ self.old.room }
@@ -66,8 +68,10 @@ impl StoredSeat {
         requires kind { entry.kind ≡ ActiveRequest }
         requires lane { IsWayAt map.now (Responses client server entry.lane) }
         requires way { IsWayAt map.now (Requests client server) }
-        requires ports { way_at map.now (Requests client server) ≡ request_way entry.client entry.port }
-        ensures begun { (p : Setting) → Agrees p map.now → self.new.seat ≡ releasing p self.old.seat entry }
+        requires ports { way_at map.now (Requests client server)
+            ≡ request_way entry.client entry.port }
+        ensures begun { (p : Setting) → Agrees p map.now
+            → self.new.seat ≡ releasing p self.old.seat entry }
         ensures aimed { (p : Setting) → Agrees p map.now → IsAimed p self.new }
         ensures accesses { self.new.seat.accesses ≡ self.old.seat.accesses }
         ensures room { self.new.room ≡ self.old.room }
@@ -197,7 +201,8 @@ fn way_in(entry: Entry) -> Way
 /// A received message is given up.
 fn drop_received(entries: &mut Entries, counts: &mut Counts, entry: Entry)
     ensures entries { entries.new.entries ≡ without_entry entry entries.old.entries }
-    ensures room { entries.new.room + length entries.new.entries ≡ entries.old.room + length entries.old.entries }
+    ensures room { entries.new.room + length entries.new.entries
+        ≡ entries.old.room + length entries.old.entries }
     ensures counts { counts.new ≡ map (with_count (way_of_entry entry) (λ n. n - 1)) counts.old }
 {
     counts.remove(way_in(entry));

@@ -19,7 +19,8 @@ impl StoredSeat {
     pub fn seek(&mut self, queue: Site, stops: &[Stop]) -> Result<(), AllocError>
         requires { QueuesInMemory queue.kind queue.capacity stops.now }
         ensures begun { OnOk result (self.new.seat ≡ seeking self.old.seat (ways_of stops.now)) }
-        ensures aimed { (p : Setting) → AreQueues p queue.kind queue.capacity stops.now → OnOk result (IsAimed p self.new) }
+        ensures aimed { (p : Setting) → AreQueues p queue.kind queue.capacity stops.now
+            → OnOk result (IsAimed p self.new) }
         ensures accesses { self.new.seat.accesses ≡ self.old.seat.accesses }
         ensures room { self.new.room ≡ self.old.room }
         ensures unchanged { OnErr result (self.new ≡ self.old) }

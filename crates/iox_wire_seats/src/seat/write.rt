@@ -25,7 +25,8 @@ impl StoredSeat {
     ) -> Result<(), AllocError>
         requires { payload + length words.now < 2 ^ 64 }
         ensures begun { OnOk result (self.new.seat ≡ writes self.old.seat loan elements words.now) }
-        ensures aimed { (p : Setting) → IsPayloadAt p loan payload (length words.now) → OnOk result (IsAimed p self.new) }
+        ensures aimed { (p : Setting) → IsPayloadAt p loan payload (length words.now)
+            → OnOk result (IsAimed p self.new) }
         ensures accesses { self.new.seat.accesses ≡ self.old.seat.accesses }
         ensures room { self.new.room ≡ self.old.room }
         ensures unchanged { OnErr result (self.new ≡ self.old) }

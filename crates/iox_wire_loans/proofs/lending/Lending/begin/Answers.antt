@@ -1,4 +1,5 @@
-use Rattle.std.proofs.Common.{◌≡◌, ◌<◌, [], List, length, refl, sym, ap, ◌∙◌, arith}
+use Rattle.std.proofs.Common.{◌≡◌, ◌<◌, [], List, length, refl, sym, subst, ap, ◌∙◌, arith}
+use Rattle.std.specs.Prelude.{is_none}
 use Rattle.iox_wire_locals.specs.Courses.{loaning}
 use Rattle.iox_wire_seats.specs.declared.stops.Stop.{Stop}
 use Rattle.iox_wire_seats.specs.Seats.{ways_of}
@@ -26,3 +27,9 @@ returns-else-stops-eq0-clause-begun c p =
     c.empty_next.ensures.next p
     ∙ ap (λ (ss : List Stop). after p (loaning c.args.seat.now.seat (loan_of c.args.order) (ways_of ss))) c.in_ok-fill.ensures.filled
     ∙ goes_on_loaning p c.args.seat.now.seat (loan_of c.args.order) c.args.stops.now some
+
+pub returns-else-stops-eq0-clause-busy : goal.returns-else-stops-eq0-clause-busy
+returns-else-stops-eq0-clause-busy c =
+    let some : 0 < length c.args.stops.now = omega arith in
+    c.empty_next.ensures.busy
+    ∙ ap is_none (c.empty_next.ensures.visits (subst (λ (ss : List Stop). 0 < length ss) (sym c.in_ok-fill.ensures.filled) some))
