@@ -5,8 +5,8 @@
     tools/laws_list.py --check    says whether it is as it would be written; exit 1 if not
 
 A law is a public function whose body is empty, in a crate's src/lib.rt or in a module of a crate of laws: it is there for
-its contract. The sentence of a clause is the comment above its definition in specs/; where it has none, or the clause says more than one name, it is
-the function's own.
+its contract. The sentence of a clause is the comment above its definition in specs/. Where the clause says something of one
+worked run, as `IsWorked expires_one`, it is the comment above that run. Else it is the function's own.
 """
 import pathlib
 import re
@@ -50,7 +50,9 @@ def rows_of(source, specs):
         own = joined(comment, "///")
         for clause, text in CLAUSE.findall(clauses):
             text = " ".join(text.split())
-            says = as_sentence(said[text]) if text in said else own
+            of_run = re.fullmatch(r"IsWorked (\w+)", text)
+            told = said.get(of_run[1] if of_run else text)
+            says = as_sentence(told) if told else own
             shown = f"`{clause}`: " if clause else ""
             rows.append(f"| `{name}` | {shown}`{text}` | {says} |")
     return rows

@@ -29,7 +29,8 @@ for its proof does not fit.
   - A function that is not proved only because it calls one that fell waits for a later round, without the other's edit.
   - Where a function falls for a goal of its own and no edit of the round is in it, or where the check comes to no verdict,
     the round is halved. An edit at which the compiler finds an error leaves its round.
-  - What is still proved, and what could not be told, is then tried singly, by rt's own must_fail().
+  - What is still proved is then tried in a round of its own, and what could not be told by rt's own must_fail().
+Where each edit of a crate is of one body, the edited functions and what they call are checked, and no others.
 Tried singly from the start is an edit of anything but one body: of two bodies, a constant, a type, a signature, a clause, a
 file of specs/ or proofs/, a test or a macro; of the body of a const fn, of one in a cycle of calls, or of one with items in it.
 

@@ -106,7 +106,7 @@ class Checkout:
         if not why:
             self.link(crate, "incremental")
             os.makedirs(trial.kept, exist_ok=True)
-            why = trial.check_clean()
+            why = trial.check_clean(is_single)
         if not why:
             trial.run(is_single)
         shutil.rmtree(trial.kept, ignore_errors=True)

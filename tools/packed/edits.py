@@ -31,10 +31,10 @@ def outside(data, functions):
 
 
 class Functions:
-    """A crate's functions, as its text has them and as a check names them."""
+    """A crate's functions, as its text has them and, once name() is called, as a check names them."""
 
-    def __init__(self, kit, crate, rows):
-        self.kit, self.crate, self.rows = kit, crate, rows
+    def __init__(self, kit, crate):
+        self.kit, self.crate, self.rows = kit, crate, {}
         self.source = kit.bodies.Source(crate.folder)
         self.source.read("src/main.rt" if crate.is_program else "src/lib.rt")
 
@@ -53,12 +53,31 @@ class Functions:
         if len(changed) != 1:
             return
         f, g = changed[0]
-        edit.symbols = self.symbols_of(f)
         # (the value of a constant may come of a const fn)
         is_const = re.search(rb"\bconst\b", old.data[path][f.first : f.start])
         has_items = ITEMS & {*f.body, *g.body} or self.clauses(old, f) != self.clauses(new, g)
-        if edit.symbols and not (has_items or f.in_cycle or is_const):
+        if not (has_items or f.in_cycle or is_const):
             edit.function, edit.body = f, self.body(new, g)
+
+    def name(self, edits, rows):
+        """Finds the names that a check gives the edits' functions, by the rows that it printed. Returns the edits of which none is found."""
+        self.rows = rows
+        for it in edits:
+            it.symbols = self.symbols_of(it.function) if it.function else []
+        return [it for it in edits if it.function and not it.symbols]
+
+    @staticmethod
+    def path_of(f):
+        """Returns a path by which a check finds the function, below the crate, before any check has named it: of a method of a trait
+        that of its module, in which it may have any name."""
+        if not f.block:
+            return "::".join([*f.module, f.name])
+        return "::".join(f.module) if f.in_trait else f"{f.owner}::{f.name}"
+
+    def shown(self, edits):
+        """Returns the names that a check gives the edits' functions, below the crate, without their closures."""
+        found = {it.removeprefix(f"{self.crate.name}::") for edit in edits for it in edit.symbols}
+        return [it for it in found if "::fn::" not in it]
 
     def reread(self, path, text):
         """Reads the functions of one file with this text, or returns None where they cannot be read."""

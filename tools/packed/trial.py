@@ -16,6 +16,11 @@ from packed.said import PROVED, REFUSED, UNTOLD, WAITS, WEAK
 FLAGS = ["--jobs", "1"]
 
 
+def only(names):
+    """Returns the flags of a check of these functions, and of what they call."""
+    return [*FLAGS, *(word for it in sorted({*names}) for word in ("--only", it))]
+
+
 class Slots:
     """Lets as many checks run at a time as there are processors and memory for, those of the crate with most to do first."""
 
@@ -60,21 +65,32 @@ class Trial:
         self.kit, self.crate, self.kept, self.edits, self.slots = kit, crate, kept, edits, slots
         self.rounds, self.alone, self.need = 0, 0, kit.rt.need(crate)
         self.weight = crate.count(rb"\n") + 300 * len(edits)
+        self.functions = Functions(kit, crate)
 
-    def over_copy(self, call, *given):
+    def over_copy(self, call, *given, flags=FLAGS):
         """Calls with a copy of the kept work, so that no check sees another's."""
         with self.slots.taken(self.weight, self.need), tempfile.TemporaryDirectory(prefix="try-") as folder:
             linked(self.kept, f"{folder}/kept")
-            return call(self.crate, *given, FLAGS, f"{folder}/kept")
+            return call(self.crate, *given, flags, f"{folder}/kept")
 
-    def check_clean(self):
-        """Checks the crate as it stands, and reads its functions. Returns why nothing can be tried, or None."""
-        with self.slots.taken(self.weight, self.need):
-            ran = self.kit.rt.checked(self.crate, {}, FLAGS, self.kept)
-        if ran.returncode or not re.search(r"(?m)^logic=proved ", ran.stdout):
-            return f"the crate itself is not proved: {' / '.join(ran.stdout.rstrip().splitlines()[-3:])[:300]}"
-        self.functions = Functions(self.kit, self.crate, reads.rows_of(ran.stdout))
-        return None
+    def check_clean(self, is_single):
+        """Checks the crate as it stands: where each edit is of one body, the edited functions and what they call, and else all of it.
+        Returns why nothing can be tried, or None."""
+        for it in self.edits if not is_single else []:
+            self.functions.place(it)
+        paths = [it.function and self.functions.path_of(it.function) for it in self.edits]
+        parts = [(only(paths), r"^only=")] if all(paths) else []
+        for flags, ends in [*parts, (FLAGS, r"^logic=proved ")]:
+            with self.slots.taken(self.weight, self.need):
+                ran = self.kit.rt.checked(self.crate, {}, flags, self.kept)
+            if ran.returncode or not re.search(ends, ran.stdout, re.M):
+                continue
+            lost = self.functions.name(self.edits, reads.rows_of(ran.stdout))
+            if not lost or flags == FLAGS:
+                for it in lost:
+                    it.function = None
+                return None
+        return f"the crate itself is not proved: {' / '.join(ran.stdout.rstrip().splitlines()[-3:])[:300]}"
 
     def try_round(self, edits):
         """Checks these edits at once, and settles each as far as the check tells."""
@@ -82,7 +98,7 @@ class Trial:
             return
         self.rounds += 1
         texts, places = self.functions.written(edits)
-        said = self.over_copy(self.kit.rt.checked, texts).stdout
+        said = self.over_copy(self.kit.rt.checked, texts, flags=only(self.functions.shown(edits))).stdout
         is_in = lambda edit, file, line: places[edit][0] == file and int(line) in places[edit][1]
         rows, edited = reads.rows_of(said), {symbol for it in edits for symbol in it.symbols}
         # (beside verdicts an error still shows where the prover cannot read an edited text)
@@ -125,8 +141,12 @@ class Trial:
             edit.settle(UNTOLD, next(iter(fell.values())).words if fell else "the check does not tell this function's verdict")
 
     def try_alone(self, edit):
-        """Has rt try the edit by itself."""
+        """Tries the edit by itself: that of one body in a round of its own, and by rt any other, and what such a round cannot tell."""
         self.alone += 1
+        if edit.function:
+            self.try_round([edit])
+        if edit.function and edit.verdict not in (UNTOLD, WAITS):
+            return
         refused, text, said = self.over_copy(self.kit.must_fail, edit.file)
         text = " ".join((text.partition(f"/{edit.name}.edit: ")[2] or text).split("\n"))
         if not refused:
@@ -137,9 +157,7 @@ class Trial:
 
     def run(self, is_single):
         """Tries all edits: in rounds, and then singly what no round refused."""
-        for it in self.edits if not is_single else []:
-            self.functions.place(it)
-        left = [it for it in self.edits if it.function]
+        left = [it for it in self.edits if it.function and not is_single]
         with ThreadPoolExecutor(self.slots.limit) as pool:
             while len(left) > 1:
                 rounds = in_rounds(left)
