@@ -42,8 +42,8 @@ same_ascending (x ∷ xs) (y ∷ ys) a b there back =
     let q : (list_all (nat_lt y) ys ≡ true) × (are_ascending ys ≡ true) = split (list_all (nat_lt y) ys) (are_ascending ys) b in
     ap₂ (λ m ms. m ∷ ms) (first p.0 q.0 (there x (inl refl)) (back y (inl refl)))
     (same_ascending xs ys p.1 q.1
-    (λ k among. behind k (above_all x k xs p.0 among) (first p.0 q.0 (there x (inl refl)) (back y (inl refl))) (there k (inr among)))
-    (λ k among. behind k (above_all y k ys q.0 among) (sym (first p.0 q.0 (there x (inl refl)) (back y (inl refl)))) (back k (inr among))))
+    (λ k among. behind x y ys k (above_all x k xs p.0 among) (first p.0 q.0 (there x (inl refl)) (back y (inl refl))) (there k (inr among)))
+    (λ k among. behind y x xs k (above_all y k ys q.0 among) (sym (first p.0 q.0 (there x (inl refl)) (back y (inl refl)))) (back k (inr among))))
   where
     first : list_all (nat_lt x) xs ≡ true → list_all (nat_lt y) ys ≡ true → IsAmong x (y ∷ ys) → IsAmong y (x ∷ xs) → x ≡ y
     first p q (inl same) other = same
@@ -52,6 +52,6 @@ same_ascending (x ∷ xs) (y ∷ ys) a b there back =
         let one = above_all y x ys q among in
         let two = above_all x y xs p other in absurd (omega (arith, one, two))
 
-    behind : {z w : ℕ} {ws : List ℕ} (k : ℕ) → z < k → z ≡ w → IsAmong k (w ∷ ws) → IsAmong k ws
-    behind k less same (inl is) = absurd (omega (arith, less, same, is))
-    behind k less same (inr among) = among
+    behind : (z w : ℕ) (ws : List ℕ) (k : ℕ) → z < k → z ≡ w → IsAmong k (w ∷ ws) → IsAmong k ws
+    behind z w ws k less same (inl is) = absurd (omega (arith, less, same, is))
+    behind z w ws k less same (inr among) = among

@@ -1,7 +1,10 @@
 -- The release of the value of the least number leaves the node the others, so that one after another takes all.
-use Rattle.std.specs.Prelude.{◌≡◌, ◌≢◌, ℕ, Bool, true, false, ◌==◌, List, [], ◌∷◌, length, Option, Some, None, IsSome, is_some, refl}
+use Rattle.std.specs.Prelude.{◌≡◌, ◌≢◌, ℕ, ◌<◌, Bool, true, false, ◌==◌, List, [], ◌∷◌, length, Option, Some, None, IfSome, IsSome, is_some, refl}
 use Rattle.std.specs.List.{list_all}
-use Rattle.std.proofs.Common.{sym, ap, subst, ◌∙◌, eqb-true, inl, inr}
+use Rattle.std.specs.Option.{option_map_or}
+use Rattle.std.proofs.Common.{sym, ap, subst, ◌∙◌, arith, eqb-true, inl, inr}
+use Rattle.std.proofs.lemmas.Option.{none-some, same_Some}
+use Rattle.iox_model.specs.declared.backpressure.BackpressureAction.TheVariants.{FollowBackpressureStrategy}
 use Rattle.iox_model.specs.declared.call.Call.TheVariants.{Release}
 use Rattle.iox_model.specs.declared.reply.Reply.TheVariants.{Done}
 use Rattle.iox_model.specs.Commands.{Use}
@@ -21,10 +24,19 @@ use Rattle.iox_laws.proofs.RunLaws.Settling.{Calm}
 use Rattle.iox_laws.proofs.RunLaws.Values.{numbers_apart, numbers_are_values}
 use Rattle.iox_laws.proofs.ServiceLaws.Ordered.{releases_ascend}
 use Rattle.iox_laws.proofs.ServiceLaws.Releasing.{nothing_left, values_are_numbers}
+use Rattle.iox_model.specs.declared.kind.Kind.{Kind}
+use Rattle.iox_model.specs.Names.{is_port}
 use Rattle.iox_tables.specs.HubStates.States.{Given}
+use Rattle.iox_tables.specs.HubStates.Tables.{HandleState, PortState, port_in}
+use Rattle.iox_tables.specs.HubStates.Wirings.{handle_in}
+use Rattle.iox_tables.specs.HubBooks.Handles.{IsOfPort}
+use Rattle.iox_tables.proofs.HubBooks.Used.{handle_is}
 use Rattle.iox_tables.specs.HubLoans.Questions.{kind_in}
 use Rattle.iox_tables.specs.HubBooks.Hubs.{AreInOrder}
-use Rattle.iox_hub.specs.Hubs.{HubState, IsReached, given_by, state_of_hub}
+use Rattle.iox_hub.specs.Hubs.{HubState, IsHub, IsReached, given_by, state_of_hub, with_control}
+use Rattle.iox_hub.specs.Reads.{HasOf}
+use Rattle.iox_hub.specs.Sending.{HasNothing, is_handle, with_words_left}
+use Rattle.iox_hub.proofs.SendingHubs.{held_port_of_hub, named_of_hub}
 use Rattle.iox_hub.specs.Keeping.{IsSame, Keeps, KeepsOthers}
 use Rattle.iox_hub.specs.Listings.{numbers_had}
 use Rattle.iox_hub.proofs.Ascending.{same_ascending}
@@ -91,12 +103,12 @@ leaves_the_rest s t node n rest reached are whole keeps =
 
 -- a list that has a first
 pub first_and_rest : (ns : List ℕ) (n : ℕ) → first_of ns ≡ Some n → ns ≡ n ∷ rest_of ns
-first_and_rest [] n e = absurd (Rattle.std.proofs.lemmas.Option.none-some n e)
-first_and_rest (m ∷ ms) n e = ap (λ k. k ∷ ms) (Rattle.std.proofs.lemmas.Option.same_Some m n e)
+first_and_rest [] n e = absurd (none-some n e)
+first_and_rest (m ∷ ms) n e = ap (λ k. k ∷ ms) (same_Some m n e)
 
 pub none_then : (ns : List ℕ) → first_of ns ≡ None → ns ≡ []
 none_then [] e = refl
-none_then (m ∷ ms) e = absurd (Rattle.std.proofs.lemmas.Option.none-some m (sym e))
+none_then (m ∷ ms) e = absurd (none-some m (sym e))
 
 -- the numbers are the same whatever there is besides
 numbers_alike : (x y : Given) (h : HubState) (node : ℕ) → numbers_of_node (state_of_hub x h).fixed node ≡ numbers_of_node (state_of_hub y h).fixed node
@@ -109,6 +121,35 @@ first_is_value x h node n order first =
     value_has_kind (given_by x h) h.control.tables order node n
     (numbers_are_values (state_of_hub x h).fixed node n
     (subst (λ (ns : List ℕ). IsAmong n ns) (sym (first_and_rest (numbers_of_node (state_of_hub x h).fixed node) n first)) (inl refl)))
+
+-- something beside the tables
+some_given : HubState → Given
+some_given h = record {
+  members = record { nodes = []; joins = 0; closed = false };
+  acts = λ words s r. FollowBackpressureStrategy;
+  handler = λ n. None;
+  request = h.request;
+  response = h.response;
+  user = λ pool k. [];
+  payload = λ pool k. [];
+  filled = λ pool k. 0;
+}
+
+-- where the numbers are none, a number names nothing
+pub names_none : (h : HubState) (node : ℕ) → ((x : Given) → numbers_of_node (state_of_hub x h).fixed node ≡ []) → (n : ℕ) → HasNothing h node n
+names_none h node none n = step (kind_in h.control.tables node n) refl
+  where
+    step : (o : Option Kind) → kind_in h.control.tables node n ≡ o → o ≡ None
+    step None e = refl
+    step (Some kind) e =
+        let x : Given = some_given h in
+        absurd (subst (λ (ns : List ℕ). IsAmong n ns) (none x)
+        (values_are_numbers (state_of_hub x h).fixed node n (kind_is_value (given_by x h) h.control.tables node n (ap (λ o. is_some o) e))))
+
+pub first_has : (h : HubState) (node : ℕ) (r : Option ℕ) → IsHub h
+    → ((x : Given) → r ≡ first_of (numbers_of_node (state_of_hub x h).fixed node)) → IfSome r (λ n. IsSome (kind_in h.control.tables node n))
+first_has h node None hub is = tt
+first_has h node (Some n) hub is = first_is_value hub.reached.0 h node n hub.control.order (sym (is hub.reached.0))
 
 pub rest_is_left : (old new : HubState) (node n : ℕ) → IsReached old → AreInOrder old.control.tables
     → ((x : Given) → Some n ≡ first_of (numbers_of_node (state_of_hub x old).fixed node))
@@ -123,6 +164,33 @@ rest_is_left old new node n reached order first whole keeps x =
     let some = value_has_kind (given_by y old) old.control.tables order node k value in
     kind_is_value (given_by y new) new.control.tables node k (ap (λ o. is_some o) (keeps node k (λ same is. other is) some).kind ∙ some))
     ∙ ap rest_of (numbers_alike y x old node)
+
+-- ---- one release
+
+-- what messages are made of stays as a handle is released
+pub handle_shapes : (old new : HubState) (node n : ℕ) → IsHub old → HasOf is_handle old node n
+    → ((h : HandleState) → handle_in old.control.tables.handles node n ≡ Some h → (p : PortState) → port_in old.control.tables.ports h.port ≡ Some p
+    → new ≡ with_words_left (with_words_left (with_control old new.control) h.pool) p.pool)
+    → (new.request ≡ old.request) × (new.response ≡ old.response)
+handle_shapes old new node n hub has left =
+    let named = named_of_hub hub old refl node n has in
+    let of : IsOfPort old.control.tables named.handle =
+    handle_is (IsOfPort old.control.tables) old.control.tables.handles node n named.handle hub.control.order.ports named.named.there in
+    let same = left named.handle named.named.there of.port of.there in
+    (ap (λ (h : HubState). h.request) same, ap (λ (h : HubState). h.response) same)
+
+-- and as a port's own value is
+pub port_shapes : (old new : HubState) (node n : ℕ) → IsHub old → HasOf is_port old node n
+    → ((p : PortState) → port_in old.control.tables.ports n ≡ Some p → new ≡ with_words_left (with_control old new.control) p.pool)
+    → (new.request ≡ old.request) × (new.response ≡ old.response)
+port_shapes old new node n hub has left =
+    let held = held_port_of_hub hub old refl node n has in
+    let same = left held.port held.there in
+    (ap (λ (h : HubState). h.request) same, ap (λ (h : HubState). h.response) same)
+
+-- a value of a kind that passes
+pub has_of : (test : Kind → Bool) (h : HubState) (node n : ℕ) (kind : Kind) → kind_in h.control.tables node n ≡ Some kind → test kind ≡ true → HasOf test h node n
+has_of test h node n kind is passes = ap (λ o. option_map_or test o false) is ∙ passes
 
 -- ---- one after another
 
@@ -153,14 +221,14 @@ all_led_on first now node leads none x =
     (sym (none_then (numbers_of_node (state_of_hub x now).fixed node) (sym (none x)))) refl)
 
 -- there are fewer after each
-pub fewer_left : (x : Given) (old new : HubState) (node n : ℕ) → Some n ≡ first_of (numbers_of_node (state_of_hub x old).fixed node)
-    → numbers_of_node (state_of_hub x new).fixed node ≡ rest_of (numbers_of_node (state_of_hub x old).fixed node)
-    → length (numbers_had new.control.tables node) Rattle.std.specs.Prelude.◌<◌ length (numbers_had old.control.tables node)
-fewer_left x old new node n first rest =
-    let more = ap length (sym (numbers_are x old node) ∙ first_and_rest (numbers_of_node (state_of_hub x old).fixed node) n (sym first)) in
-    let less = ap length (sym (numbers_are x new node) ∙ rest) in
-    let one = Rattle.std.proofs.Common.length-cons n (rest_of (numbers_of_node (state_of_hub x old).fixed node)) in
-    omega (Rattle.std.proofs.Common.arith, more, less, one)
+pub fewer_left : (old new : HubState) (node n : ℕ) → ((x : Given) → Some n ≡ first_of (numbers_of_node (state_of_hub x old).fixed node))
+    → ((x : Given) → numbers_of_node (state_of_hub x new).fixed node ≡ rest_of (numbers_of_node (state_of_hub x old).fixed node))
+    → length (numbers_had new.control.tables node) < length (numbers_had old.control.tables node)
+fewer_left old new node n first rest =
+    let x : Given = some_given old in
+    let more = ap length (sym (numbers_are x old node) ∙ first_and_rest (numbers_of_node (state_of_hub x old).fixed node) n (sym (first x))) in
+    let less = ap length (sym (numbers_are x new node) ∙ rest x) in
+    omega (arith, more, less)
 
 -- values of other nodes stay through one release more
 pub others_stay : (first old new : HubState) (node n : ℕ) → Keeps (λ other k. other ≢ node) first old → KeepsOthers old node n new

@@ -1,10 +1,11 @@
 -- The numbers that a hub's tables list are those of the state that it shows, and what a loop over the ports finds.
-use Rattle.std.specs.Prelude.{◌≡◌, ℕ, ◌<◌, ◌+◌, Bool, true, false, ◌&&◌, if◌then◌else◌, ◌==◌, List, [], ◌∷◌, ◌++◌, length, take, map, filter, Option, Some, None, slice_get, refl}
+use Rattle.std.specs.Prelude.{◌≡◌, ℕ, ◌<◌, ◌+◌, Bool, true, false, ◌&&◌, if◌then◌else◌, ◌==◌, List, [], ◌∷◌, ◌++◌, length, take, map, filter, Option, Some, None, Result, Ok, Err, IfOk, refl}
 use Rattle.std.specs.Option.{option_map}
-use Rattle.std.proofs.Common.{sym, ap, ap₂, ◌∙◌, append-nil}
+use Rattle.std.specs.declared.vec.Vec.{Vec}
+use Rattle.std.proofs.Common.{sym, ap, ap₂, ◌∙◌, append-nil, arith, get_or}
 use Rattle.std.proofs.lemmas.List.{map-append, take_more}
 use Rattle.std.proofs.lemmas.List.Elements.{filter-append}
-use Rattle.std.proofs.lemmas.Option.{slice_get-get_or}
+use Rattle.std.proofs.lemmas.Option.{none-some, same_Some, slice_get-get_or}
 use Rattle.iox_model.specs.declared.kind.Role.{Role}
 use Rattle.iox_model.specs.Maps.{first_of}
 use Rattle.iox_model.specs.Peers.{ports_of_role}
@@ -52,6 +53,11 @@ numbers_are x h node =
 pub ports_are : (x : Given) (h : HubState) (role : Role) → numbers_of_role role h.control.tables.ports ≡ ports_of_role (state_of_hub x h).fixed role
 ports_are x h role = sym (listed_as (port_of (given_by x h)) (λ p. same_role p.role role) (λ p. p.number) h.control.tables.ports)
 
+pub all_listed : {Z E : Type 0} (h : HubState) (role : Role) (ports : List PortState) (r : Result (Vec ℕ Z) E) → ports ≡ h.control.tables.ports
+    → IfOk r (λ v. v.items ≡ numbers_of_role role ports) → IfOk r (λ v. (x : Given) → v.items ≡ ports_of_role (state_of_hub x h).fixed role)
+all_listed h role ports (Ok v) same is = λ x. is ∙ ap (numbers_of_role role) same ∙ ports_are x h role
+all_listed h role ports (Err e) same is = tt
+
 -- the first of the numbers is the lesser of those of ports and of handles
 pub first_is : (x : Given) (h : HubState) (node : ℕ) (ports : List PortState) (handles : Contents) → ports ≡ h.control.tables.ports
     → handles_of handles ≡ h.control.tables.handles
@@ -73,9 +79,9 @@ record NextPort (ports : List PortState) (at : ℕ) : Type 0 where
   pub more : take (at + 1) ports ≡ take at ports ++ port ∷ []
 
 next_port : (ports : List PortState) (at : ℕ) → at < length ports → NextPort ports at
-next_port [] at low = absurd (omega Rattle.std.proofs.Common.arith)
+next_port [] at low = absurd (omega arith)
 next_port (p ∷ ps) at low = record {
-  port = Rattle.std.proofs.Common.get_or (p ∷ ps) at p;
+  port = get_or (p ∷ ps) at p;
   told = ap (option_map info_of) (slice_get-get_or (p ∷ ps) at p low);
   more = take_more (p ∷ ps) at p low;
 }
@@ -112,8 +118,8 @@ one_listed role ports at low n is =
     (by_case next.port (same_role next.port.role role) (sym (ap (role_number role) next.told) ∙ is))
   where
     by_case : (p : PortState) (b : Bool) → (if b then Some p.number else None) ≡ Some n → (if b then p.number ∷ [] else []) ≡ n ∷ []
-    by_case p true e = ap (λ m. m ∷ []) (Rattle.std.proofs.lemmas.Option.same_Some p.number n e)
-    by_case p false e = absurd (Rattle.std.proofs.lemmas.Option.none-some n e)
+    by_case p true e = ap (λ m. m ∷ []) (same_Some p.number n e)
+    by_case p false e = absurd (none-some n e)
 
 pub none_listed : (role : Role) (ports : List PortState) (at : ℕ) → at < length ports → role_number role (info_at ports at) ≡ None
     → numbers_of_role role (take (at + 1) ports) ≡ numbers_of_role role (take at ports)
@@ -124,7 +130,7 @@ none_listed role ports at low is =
   where
     by_case : (p : PortState) (b : Bool) → (if b then Some p.number else None) ≡ None
         → numbers_of_role role (take at ports) ++ (if b then p.number ∷ [] else []) ≡ numbers_of_role role (take at ports)
-    by_case p true e = absurd (Rattle.std.proofs.lemmas.Option.none-some p.number (sym e))
+    by_case p true e = absurd (none-some p.number (sym e))
     by_case p false e = append-nil (numbers_of_role role (take at ports))
 
 -- the least so far

@@ -1,5 +1,5 @@
 //! All that a node has is released.
-ghost use Rattle.std.specs.Prelude.{◌≡◌, ◌≢◌, [], IfSome, IsSome, None};
+ghost use Rattle.std.specs.Prelude.{◌≡◌, ◌≢◌, [], IfSome, IsSome, None, ℕ};
 ghost use Rattle.iox_model.specs.declared.call.Call.TheVariants.{Release};
 ghost use Rattle.iox_model.specs.declared.reply.Reply.TheVariants.{Done};
 ghost use Rattle.iox_model.specs.Maps.{first_of, rest_of};
@@ -11,6 +11,7 @@ ghost use Rattle.iox_tables.specs.HubStates.States.{Given};
 ghost use Rattle.iox_control_releasing.specs.Goings.{StaysTidy};
 ghost use Rattle.iox_hub.specs.Hubs.{state_of_hub};
 ghost use Rattle.iox_hub.specs.Keeping.{Keeps, KeepsOthers};
+ghost use Rattle.iox_hub.specs.Sending.{HasNothing};
 
 use crate::hub::Hub;
 use iox_model::kind::Kind;
@@ -38,6 +39,7 @@ impl<Q: Payload, QH: Words, P: Payload, PH: Words> Hub<Q, QH, P, PH> {
         ensures response { self.new.response ≡ self.old.response }
         ensures tidy { StaysTidy self.old.control.tables self.new.control.tables }
     {
+        self.is_in_order();
         let Some(kind) = self.kind(node, number, NOWHERE) else {
             unreachable!();
         };
@@ -63,6 +65,7 @@ impl<Q: Payload, QH: Words, P: Payload, PH: Words> Hub<Q, QH, P, PH> {
         ensures response { self.new.response ≡ self.old.response }
         ensures tidy { StaysTidy self.old.control.tables self.new.control.tables }
     {
+        self.is_in_order();
         let number = self.first_number(node)?;
         self.release_value(node, number);
         Some(number)
@@ -74,6 +77,7 @@ impl<Q: Payload, QH: Words, P: Payload, PH: Words> Hub<Q, QH, P, PH> {
         ensures released { (x : Given) → Releases (state_of_hub x self.old) node
             (numbers_of_node (state_of_hub x self.old).fixed node) (state_of_hub x self.new) }
         ensures none { (x : Given) → numbers_of_node (state_of_hub x self.new).fixed node ≡ [] }
+        ensures gone { (n : ℕ) → HasNothing self.new node n }
         ensures keeps { Keeps (λ other n. other ≢ node) self.old self.new }
         ensures request { self.new.request ≡ self.old.request }
         ensures response { self.new.response ≡ self.old.response }

@@ -1,5 +1,5 @@
 //! What a hub tells of its service: its settings, its ports by role, and what a node has.
-ghost use Rattle.std.specs.Prelude.{◌≡◌, IfOk, IfSome, IsSome, not};
+ghost use Rattle.std.specs.Prelude.{◌≡◌, IfOk, IfSome, IsSome, None, not, ℕ};
 ghost use Rattle.iox_model.specs.Maps.{first_of, is_empty};
 ghost use Rattle.iox_model.specs.Peers.{ports_of_role};
 ghost use Rattle.iox_model.specs.Services.{numbers_of_node};
@@ -11,6 +11,7 @@ ghost use Rattle.iox_hub_ports.specs.Ports.{info_at};
 ghost use Rattle.iox_control.specs.Settings.{settings_of};
 ghost use Rattle.iox_hub.specs.Hubs.{state_of_hub};
 ghost use Rattle.iox_hub.specs.Listings.{held_number, held_ports, role_number};
+ghost use Rattle.iox_hub.specs.Sending.{HasNothing};
 
 use crate::hub::Hub;
 use iox_control::Settings;
@@ -26,9 +27,9 @@ use std::alloc::{AllocError, Global};
 fn number_at(ports: &Ports, at: usize, role: Role) -> Option<u64>
     ensures { result ≡ role_number role (info_at ports.now.ports at) }
 {
-    let info = ports.at(at)?;
-    if is_same_role(info.role, role) {
-        return Some(info.number);
+    let port = ports.at(at)?;
+    if is_same_role(port.role, role) {
+        return Some(port.number);
     }
     None
 }
@@ -93,6 +94,7 @@ impl<Q: Payload, QH: Words, P: Payload, PH: Words> Hub<Q, QH, P, PH> {
         ensures first { (x : Given)
             → result ≡ first_of (numbers_of_node (state_of_hub x self.now).fixed node) }
         ensures has { IfSome result (λ n. IsSome (kind_in self.now.control.tables node n)) }
+        ensures none { result ≡ None → (n : ℕ) → HasNothing self.now node n }
     {
         lesser(
             least_held(self.control.ports(), node),
