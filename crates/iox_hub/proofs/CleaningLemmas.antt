@@ -1,6 +1,5 @@
 -- The release of the value of the least number leaves the node the others, so that one after another takes all.
 use Rattle.std.specs.Prelude.{◌≡◌, ◌≢◌, ℕ, ◌<◌, Bool, true, false, ◌==◌, List, [], ◌∷◌, length, Option, Some, None, IfSome, IsSome, is_some, refl}
-use Rattle.std.specs.List.{list_all}
 use Rattle.std.specs.Option.{option_map_or}
 use Rattle.std.proofs.Common.{sym, ap, subst, ◌∙◌, arith, eqb-true, inl, inr}
 use Rattle.std.proofs.lemmas.Option.{none-some, same_Some}

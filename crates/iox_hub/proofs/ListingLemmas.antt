@@ -1,5 +1,5 @@
 -- The numbers that a hub's tables list are those of the state that it shows, and what a loop over the ports finds.
-use Rattle.std.specs.Prelude.{◌≡◌, ℕ, ◌<◌, ◌+◌, Bool, true, false, ◌&&◌, if◌then◌else◌, ◌==◌, List, [], ◌∷◌, ◌++◌, length, take, map, filter, Option, Some, None, Result, Ok, Err, IfOk, refl}
+use Rattle.std.specs.Prelude.{◌≡◌, ℕ, ◌<◌, ◌+◌, Bool, true, false, ◌&&◌, if◌then◌else◌, ◌==◌, List, [], ◌∷◌, ◌++◌, length, take, map, filter, Some, None, Result, Ok, Err, IfOk, refl}
 use Rattle.std.specs.Option.{option_map}
 use Rattle.std.specs.declared.vec.Vec.{Vec}
 use Rattle.std.proofs.Common.{sym, ap, ap₂, ◌∙◌, append-nil, arith, get_or}
@@ -15,10 +15,9 @@ use Rattle.iox_handles.specs.Least.{least, lesser}
 use Rattle.iox_handles.specs.Tables.{Contents}
 use Rattle.iox_handles.specs.Tables as table
 use Rattle.iox_handles.proofs.LeastLemmas.{least-append}
-use Rattle.iox_hub_ports.specs.declared.info.PortInfo.{PortInfo}
 use Rattle.iox_hub_ports.specs.Ports.{info_at, info_of}
 use Rattle.iox_tables.specs.HubStates.States.{Given, handle_of, message_of, port_of}
-use Rattle.iox_tables.specs.HubStates.Tables.{HandleState, HubTables, PortState}
+use Rattle.iox_tables.specs.HubStates.Tables.{HubTables, PortState}
 use Rattle.iox_tables.specs.HubStates.Wirings.{numbers_of_role}
 use Rattle.iox_control.specs.Entries.{handle_state, handles_of}
 use Rattle.iox_hub.specs.Hubs.{HubState, given_by, state_of_hub}

@@ -1,11 +1,10 @@
 -- The values of a node in the state that a hub shows are those of its tables.
-use Rattle.std.specs.Prelude.{◌≡◌, ℕ, Bool, true, false, ◌&&◌, ◌||◌, if◌then◌else◌, ◌==◌, List, [], ◌∷◌, map, filter, Option, Some, None, IsSome, is_some, refl}
+use Rattle.std.specs.Prelude.{◌≡◌, ℕ, Bool, true, false, ◌&&◌, ◌||◌, if◌then◌else◌, ◌==◌, List, [], ◌∷◌, filter, Option, Some, None, IsSome, is_some, refl}
 use Rattle.std.proofs.Common.{sym, ap, ap₂, subst, ◌∙◌, true≢false, eqb-true, eq-eqb, inl, inr}
 use Rattle.std.proofs.lemmas.Option.{none-some, same_Some}
-use Rattle.iox_model.specs.declared.kind.Role.{Role}
 use Rattle.iox_model.specs.Maps.{AreDistinct, has_number}
 use Rattle.iox_model.specs.States.{Handle, Port}
-use Rattle.iox_laws.proofs.WeaveLedger.Lists.{IsAmong, among-filter, among-map, filter-among, map-among}
+use Rattle.iox_laws.proofs.WeaveLedger.Lists.{IsAmong, among-map, map-among}
 use Rattle.iox_laws.proofs.RunLaws.Cleanups.{IsValue}
 use Rattle.iox_tables.specs.HubStates.States.{Given, fixed_of, handle_of, message_of, port_of}
 use Rattle.iox_tables.specs.HubStates.Tables.{HandleState, HubTables, PortState, numbers_of, port_in}

@@ -1,4 +1,4 @@
-use Rattle.std.proofs.Common.{ap, sym, ◌≡◌, ◌∙◌, not}
+use Rattle.std.proofs.Common.{ap, sym, ◌∙◌, not}
 use Rattle.iox_model.specs.Names.{is_port}
 use Rattle.iox_hub.specs.Sending.{is_handle}
 use Rattle.iox_hub.proofs.CleaningLemmas.{handle_shapes, has_of, port_shapes}
