@@ -2,6 +2,7 @@
 -- callback is called
 pub mod Registers
 pub mod Changes
+pub mod RegisteredPorts
 pub mod DynamicConfigs
 -- for proofs of this crate alone
 pub mod Standing

@@ -15,6 +15,7 @@ use crate::roles::Role;
 use iox_types::identifiers::UniqueNodeId;
 use iox_words::CallbackProgression;
 use std::alloc::Global;
+use std::marker::Model;
 
 /// The readers and writers of a service. It has one writer at most. Memory is taken as it is
 /// made, and never again.
@@ -22,6 +23,14 @@ use std::alloc::Global;
 pub struct DynamicConfig {
     readers: Register<ReaderDetails>,
     writers: Register<WriterDetails>,
+}
+
+impl Model for DynamicConfig {
+    ghost use Rattle.iox_registry.specs.RegisteredPorts.{BlackboardPorts};
+
+    ghost Value = { BlackboardPorts };
+
+    ghost view = { λ c. record { readers = c.readers; writers = c.writers } };
 }
 
 impl DynamicConfig {

@@ -15,12 +15,21 @@ use crate::roles::Role;
 use iox_types::identifiers::UniqueNodeId;
 use iox_words::CallbackProgression;
 use std::alloc::Global;
+use std::marker::Model;
 
 /// The notifiers and listeners of a service. Memory is taken as it is made, and never again.
 #[derive(Debug, Drop)]
 pub struct DynamicConfig {
     notifiers: Register<NotifierDetails>,
     listeners: Register<ListenerDetails>,
+}
+
+impl Model for DynamicConfig {
+    ghost use Rattle.iox_registry.specs.RegisteredPorts.{EventPorts};
+
+    ghost Value = { EventPorts };
+
+    ghost view = { λ c. record { notifiers = c.notifiers; listeners = c.listeners } };
 }
 
 impl DynamicConfig {

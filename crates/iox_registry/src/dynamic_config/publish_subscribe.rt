@@ -15,12 +15,21 @@ use crate::roles::Role;
 use iox_types::identifiers::UniqueNodeId;
 use iox_words::CallbackProgression;
 use std::alloc::Global;
+use std::marker::Model;
 
 /// The publishers and subscribers of a service. Memory is taken as it is made, and never again.
 #[derive(Debug, Drop)]
 pub struct DynamicConfig {
     publishers: Register<PublisherDetails>,
     subscribers: Register<SubscriberDetails>,
+}
+
+impl Model for DynamicConfig {
+    ghost use Rattle.iox_registry.specs.RegisteredPorts.{PublishSubscribePorts};
+
+    ghost Value = { PublishSubscribePorts };
+
+    ghost view = { λ c. record { publishers = c.publishers; subscribers = c.subscribers } };
 }
 
 impl DynamicConfig {

@@ -15,12 +15,21 @@ use crate::roles::Role;
 use iox_types::identifiers::UniqueNodeId;
 use iox_words::CallbackProgression;
 use std::alloc::Global;
+use std::marker::Model;
 
 /// The clients and servers of a service. Memory is taken as it is made, and never again.
 #[derive(Debug, Drop)]
 pub struct DynamicConfig {
     clients: Register<ClientDetails>,
     servers: Register<ServerDetails>,
+}
+
+impl Model for DynamicConfig {
+    ghost use Rattle.iox_registry.specs.RegisteredPorts.{RequestResponsePorts};
+
+    ghost Value = { RequestResponsePorts };
+
+    ghost view = { λ c. record { clients = c.clients; servers = c.servers } };
 }
 
 impl DynamicConfig {
