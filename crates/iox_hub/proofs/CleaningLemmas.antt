@@ -1,5 +1,5 @@
 -- The release of the value of the least number leaves the node the others, so that one after another takes all.
-use Rattle.std.specs.Prelude.{◌≡◌, ◌≢◌, ℕ, ◌<◌, Bool, true, false, ◌==◌, List, [], ◌∷◌, length, Option, Some, None, IfSome, IsSome, is_some, refl}
+use Rattle.std.specs.Prelude.{◌≡◌, ◌≢◌, ℕ, ◌<◌, Bool, true, false, not, ◌==◌, List, [], ◌∷◌, length, Option, Some, None, IfSome, IsSome, is_some, refl}
 use Rattle.std.specs.Option.{option_map_or}
 use Rattle.std.proofs.Common.{sym, ap, subst, ◌∙◌, arith, eqb-true, inl, inr}
 use Rattle.std.proofs.lemmas.Option.{none-some, same_Some}
@@ -7,7 +7,7 @@ use Rattle.iox_model.specs.declared.backpressure.BackpressureAction.TheVariants.
 use Rattle.iox_model.specs.declared.call.Call.TheVariants.{Release}
 use Rattle.iox_model.specs.declared.reply.Reply.TheVariants.{Done}
 use Rattle.iox_model.specs.Commands.{Use}
-use Rattle.iox_model.specs.Maps.{first_of, has_number, rest_of}
+use Rattle.iox_model.specs.Maps.{first_of, has_number, is_empty, rest_of}
 use Rattle.iox_model.specs.Runs.{IsReachableState, OfHub}
 use Rattle.iox_model.specs.Services.{Releases, numbers_of_node}
 use Rattle.iox_model.specs.States.{State}
@@ -108,6 +108,11 @@ first_and_rest (m ∷ ms) n e = ap (λ k. k ∷ ms) (same_Some m n e)
 pub none_then : (ns : List ℕ) → first_of ns ≡ None → ns ≡ []
 none_then [] e = refl
 none_then (m ∷ ms) e = absurd (none-some m (sym e))
+
+-- whether there is a first
+pub some_first : (r : Option ℕ) (ns : List ℕ) → r ≡ first_of ns → is_some r ≡ not (is_empty ns)
+some_first r [] e = ap (λ o. is_some o) e
+some_first r (n ∷ ns) e = ap (λ o. is_some o) e
 
 -- the numbers are the same whatever there is besides
 numbers_alike : (x y : Given) (h : HubState) (node : ℕ) → numbers_of_node (state_of_hub x h).fixed node ≡ numbers_of_node (state_of_hub y h).fixed node

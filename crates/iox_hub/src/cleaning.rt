@@ -51,7 +51,7 @@ impl<Q: Payload, QH: Words, P: Payload, PH: Words> Hub<Q, QH, P, PH> {
     }
 
     /// Releases the node's value of the least number, and tells that number; nothing is changed if
-    /// the node has none. It looks at each port once and at each handle a few times.
+    /// the node has none. To find it, it looks at each port and each handle a few times.
     pub fn release_first(&mut self, node: u64) -> Option<u64>
         ensures first { (x : Given)
             → result ≡ first_of (numbers_of_node (state_of_hub x self.old).fixed node) }
@@ -71,8 +71,8 @@ impl<Q: Payload, QH: Words, P: Payload, PH: Words> Hub<Q, QH, P, PH> {
         Some(number)
     }
 
-    /// Releases all that the node has, in the order of the numbers. For each value it looks at all
-    /// ports once and at all handles a few times, and takes no memory.
+    /// Releases all that the node has, in the order of the numbers, and takes no memory. For each
+    /// value it looks at all ports and all handles a few times, beside what its release does.
     pub fn release_all(&mut self, node: u64)
         ensures released { (x : Given) → Releases (state_of_hub x self.old) node
             (numbers_of_node (state_of_hub x self.old).fixed node) (state_of_hub x self.new) }

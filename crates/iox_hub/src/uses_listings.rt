@@ -44,7 +44,8 @@ pub fn has_nothing_left(
 /// Another node has its values still as all of a node are released.
 pub fn keeps_another(hub: &mut Hub<One<u64>, (), One<u64>, ()>, node: u64, other: u64)
     requires { other ≢ node }
-    ensures { (n : ℕ) (kind : Kind) → HasValue hub.old other n kind → HasValue hub.new other n kind }
+    ensures { (n : ℕ) (kind : Kind) → HasValue hub.old other n kind
+        → HasValue hub.new other n kind }
 {
     hub.release_all(node);
 }
