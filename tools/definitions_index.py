@@ -1,10 +1,10 @@
 #!/usr/bin/env python3
-"""Writes docs/DEFINITIONS-INDEX.md: every definition of the theory crates, with the comment above it.
+"""Writes docs/DEFINITIONS-INDEX.md: every definition of each crate, with the comment above it.
 
     tools/definitions_index.py            writes the page
     tools/definitions_index.py --check    says whether the page is as it would be written; exit 1 if not
 
-A crate's files come in the order of its specs/Lib.antt, those of a folder in the order of the file beside it.
+Crates come in the order of crates.txt. A crate's files come in the order of its specs/Lib.antt, those of a folder in the order of the file beside it.
 """
 import pathlib
 import re
@@ -12,14 +12,13 @@ import sys
 
 TOP = pathlib.Path(__file__).resolve().parent.parent
 PAGE = TOP / "docs" / "DEFINITIONS-INDEX.md"
-CRATES = """iox_model iox_openers iox_laws
-iox_word_map iox_word_places iox_wire_words iox_wire_moments iox_wire_locals iox_wire_laws iox_wire_pools iox_wire_seats
-iox_wire_receives iox_wire_loans iox_wire_sends iox_wire_request_sends iox_wire_copies iox_wire_layouts iox_wire_messages iox_wire_stands
-iox_lanes iox_tables iox_store iox_handles iox_slots iox_hub_ports iox_hub_phases
-iox_hub_delivering iox_control iox_control_making iox_control_retrieving iox_control_questions iox_control_lending
-iox_control_ending iox_control_releasing iox_control_responses iox_control_requests iox_control_copies iox_control_request_copies iox_hub
-iox_hub_laws iox_port_commands iceoryx2_ports iox_session""".split()
 NAMED = re.compile(r"^(?:abbrev pub|pub record|pub data) ([A-Za-z_0-9-]+)")
+
+
+def crates():
+    """The crates of crates.txt that have definitions, in its order."""
+    names = re.findall(r"(?m)^(\w+):", (TOP / "crates.txt").read_text())
+    return [it for it in names if (TOP / "crates" / it / "specs" / "Lib.antt").is_file()]
 
 
 def sentence(lines):
@@ -79,15 +78,15 @@ def section(crate):
 def page():
     """The whole page."""
     out = [
-        "# Every definition of the machine and its laws",
+        "# Every definition",
         "",
-        "This page is written by `tools/definitions_index.py` from the comments of the definitions. To read the machine,",
-        "begin with [MODEL.md](MODEL.md); this is where a name is looked up.",
+        "This page is written by `tools/definitions_index.py` from the comments of the definitions, crate by crate in the order of",
+        "`crates.txt`. To read the machine, begin with [MODEL.md](MODEL.md); this is where a name is looked up.",
         "",
     ]
-    for crate in CRATES:
-        if (TOP / "crates" / crate).is_dir():
-            out += section(crate)
+    for crate in crates():
+        found = section(crate)
+        out += found if len(found) > 2 else []
     return "\n".join(out).rstrip() + "\n"
 
 

@@ -128,6 +128,7 @@ pub use Rattle.iox_cell_queues.specs.CellEventLists
 pub use Rattle.iox_cell_queues.specs.CellAnswers
 pub use Rattle.iox_cell_queues.specs.CellAfterCalls
 pub use Rattle.iox_cell_queues.specs.CellLaws
+pub use Rattle.iox_cell_queues.specs.CellOwn
 pub use Rattle.iox_cell_queues.specs.CellReady
 pub use Rattle.iox_cell_queues.specs.declared.event.CellEvent
 pub use Rattle.iox_cell_queues.specs.declared.event.CellReply
@@ -150,10 +151,12 @@ pub use Rattle.iox_cell_queues.specs.Lists as CellLists
 pub use Rattle.iox_cell_queues.specs.Alone as CellAlone
 pub use Rattle.iox_cell_queues.specs.Calls as CellCalls
 pub use Rattle.iox_cell_queues.specs.Apart as CellApart
+pub use Rattle.iox_cell_queues.specs.SwappedStores
 -- bits, counts and values as steps
 pub use Rattle.iox_set_steps.specs.Turns as SetTurns
 pub use Rattle.iox_set_steps.specs.Kinds
 pub use Rattle.iox_set_steps.specs.SitedMachines
+pub use Rattle.iox_set_steps.specs.Sites as SetSites
 pub use Rattle.iox_set_steps.specs.Bits
 pub use Rattle.iox_set_steps.specs.BitPrograms
 pub use Rattle.iox_set_steps.specs.BitPlays

@@ -62,7 +62,7 @@ pub(super) fn open(mut words: Words<'_>) -> Result<ScriptCommand, LineCause>
     Ok(ScriptCommand::Service(Command::Join { id, asked: () }))
 }
 
-/// `client NODE LIMIT`
+/// `client NODE LENGTH`
 pub(super) fn client(mut words: Words<'_>) -> Result<ScriptCommand, LineCause>
     ensures { result ≡ command_of keywords.Client words.entry }
 {
@@ -75,7 +75,7 @@ pub(super) fn client(mut words: Words<'_>) -> Result<ScriptCommand, LineCause>
     Ok(port(PortCommand::Client { node, id, options }))
 }
 
-/// `server NODE LIMIT`
+/// `server NODE LENGTH`
 pub(super) fn server(mut words: Words<'_>) -> Result<ScriptCommand, LineCause>
     ensures { result ≡ command_of keywords.Server words.entry }
 {
