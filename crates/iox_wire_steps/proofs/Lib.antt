@@ -1,0 +1,16 @@
+pub mod Knowing
+pub mod EndLoans
+pub mod ForgetSlots
+pub mod SameSerials
+pub mod Settles
+pub mod Homes
+pub mod Received
+pub mod Added
+pub mod EndStates
+pub mod Gained
+pub mod OwnSlots
+pub mod NewNumbers
+pub mod OwnNodes
+pub mod EndsWhole
+pub mod EndsStand
+pub mod EndLaws

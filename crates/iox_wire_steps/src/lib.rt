@@ -1,0 +1,41 @@
+//! The end of a call on a wire, and whole steps: what keeps the invariant of a wire.
+//! The functions have nothing to do: each is there for its contract.
+#![tactic(auto)]
+
+ghost use Rattle.iox_wire_steps.specs.OverLaws.{AddedEntriesFit, EndsKeepLoans, EndsKeepNodes};
+ghost use Rattle.iox_wire_steps.specs.OverLaws.{EndsKeepReleased, EndsKeepSlots, EndsKeepStates};
+ghost use Rattle.iox_wire_steps.specs.OverLaws.{StandingNodesEnd};
+ghost use Rattle.iox_wire_steps.specs.WholeEnds.{EndsKeep};
+
+/// A standing node whose call has no access left may end it.
+pub fn standing_nodes_end()
+    ensures { StandingNodesEnd }
+{}
+
+/// The entry that an end adds fits, is in its pool, and has a new number or that of the sent loan.
+pub fn added_entries_fit()
+    ensures { AddedEntriesFit }
+{}
+
+/// After the end of its call a node counts as many loans as the machine, and knows its slots.
+pub fn ends_keep_desks_and_slots()
+    ensures loans { EndsKeepLoans }
+    ensures slots { EndsKeepSlots }
+{}
+
+/// What a node's entries received or asked for is of its ports after the end of its call, and the
+/// states of its pending responses name no other request.
+pub fn ends_keep_handles()
+    ensures released { EndsKeepReleased }
+    ensures states { EndsKeepStates }
+{}
+
+/// What is so of a node whose call is over is so of it after the end.
+pub fn ends_keep_nodes()
+    ensures { EndsKeepNodes }
+{}
+
+/// The end of a call leads from what stands to what stands.
+pub fn ends_keep()
+    ensures { EndsKeep }
+{}
