@@ -34,7 +34,8 @@ use Rattle.iox_wire_stands.specs.Nodes.{NodeStands}
 use Rattle.iox_wire_stands.specs.Runs.{Answered, GoesOnBy, Run, history, said_in}
 use Rattle.iox_wire_stands.specs.Stands.{Player, Stands, seats_of, word_of}
 use Rattle.iox_wire_stands.proofs.Runs.{history_on, last_empty, run_on}
-use Rattle.iox_wire_stands.proofs.StepsKept.{Whole, shown_same}
+use Rattle.iox_wire_stands.proofs.StepsAround.{Whole}
+use Rattle.iox_wire_stands.proofs.StepsKept.{shown_same}
 use Rattle.iox_wire_steps.specs.Over.{EndIsTold, EndsWith, IsDropped}
 use Rattle.iox_wire_steps.specs.OverLaws.{StandingNodesEnd}
 use Rattle.iox_wire_steps.specs.WholeEnds.{EndsKeep, player_ended}
@@ -58,11 +59,11 @@ ended_leaves (SendEnds d last count) ending is = tt
 ended_leaves local ending is = none-some ending is
 
 module _ (p : Setting) (s : State) (x : Seat) where
-  of_sent : (e : Entry) (copied : Bool) (count : ℕ) → HasSent s.fixed x e copied → EndsWith p s.fixed x (endings.Sends e copied count)
+  pub of_sent : (e : Entry) (copied : Bool) (count : ℕ) → HasSent s.fixed x e copied → EndsWith p s.fixed x (endings.Sends e copied count)
   of_sent e true count has = tt
   of_sent e false count has = has
 
-  of_failed : (e : Entry) (copied : Bool) (r : CallRefusal) → HasSent s.fixed x e copied → EndsWith p s.fixed x (endings.FailsToSend e copied r)
+  pub of_failed : (e : Entry) (copied : Bool) (r : CallRefusal) → HasSent s.fixed x e copied → EndsWith p s.fixed x (endings.FailsToSend e copied r)
   of_failed e true r has = tt
   of_failed e false r has = has
 
@@ -82,7 +83,7 @@ module _ (p : Setting) (s : State) (x : Seat) where
       subst (λ k. EndsWith p s.fixed x k × EndsInPool p k) (some-is (endings.Sends d.loan d.copied count) ending is) (of_sent d.loan d.copied count has, low)
   of_place local ending is has low = none-some ending is
 
-  last_of : (local : Local) (ending : Ending) → ending_at local ≡ Some ending → Owns p x.node s.fixed s.request_state local → EndKnows p x s local
+  pub last_of : (local : Local) (ending : Ending) → ending_at local ≡ Some ending → Owns p x.node s.fixed s.request_state local → EndKnows p x s local
   last_of (locals.Ends e) ending is owns = tt
   last_of (SendEnds d None count) ending is owns = tt
   last_of (SendEnds d (Some v) count) ending is owns = (owns.way, owns.mine, owns.counted)

@@ -51,7 +51,7 @@ use Rattle.iox_wire_stands.specs.StepLaws.{TakenStays}
 use Rattle.iox_wire_stands.proofs.OtherSlots.{other_slots_may_change}
 use Rattle.iox_wire_stands.proofs.OthersHold.{named_taken}
 use Rattle.iox_wire_stands.proofs.OthersKept.{others_leave_nodes}
-use Rattle.iox_wire_stands.proofs.StepsKept.{Whole}
+use Rattle.iox_wire_stands.proofs.StepsAround.{Whole}
 use Rattle.iox_wire_steps.specs.Over.{EndIsTold, EndsWith, IsDropped, IsOver}
 use Rattle.iox_wire_steps.proofs.Added as added
 use Rattle.iox_wire_steps.proofs.Homes as homes

@@ -14,3 +14,4 @@ pub mod OwnNodes
 pub mod EndsWhole
 pub mod EndsStand
 pub mod EndLaws
+pub mod LastAccesses
