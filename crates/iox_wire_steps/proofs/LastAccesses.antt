@@ -48,7 +48,7 @@ use Rattle.iox_wire_steps.proofs.EndsStand.{ended_leaves, last_of, of_failed, of
 
 returns_none : (local : Local) (message : CallMessage) → LeavesNothing message → ReturnsNothing local message
 returns_none (ReleaseReturns e place) (Leaving k) leaves = leaves
-returns_none local message leaves = tt
+returns_none local other leaves = tt
 
 abbrev NotDropped : CallMessage → Type 0
 NotDropped (Dropped e) = ⊥
@@ -148,7 +148,7 @@ module _ (p : Setting) (held : Pools) (word word' : ℕ → ℕ) (c : WireConten
     of_entry : (message : CallMessage) (e : Entry) → named.Stands p s.fixed x message → IsOfEntry message e → HasEntry x e
     of_entry (OfEntry k) e has of = subst (HasEntry x) of has
     of_entry (Leaving k) e has of = subst (HasEntry x) of has.0
-    of_entry message e has of = absurd of
+    of_entry other e has of = absurd of
 
     dropped : (e : Entry) → message_at y.local ≡ Dropped e → Follows p (accessed x) x.local seen y → HasEntry y e
     dropped e is (keeps desks message) =

@@ -15,3 +15,5 @@ pub mod EndsWhole
 pub mod EndsStand
 pub mod EndLaws
 pub mod LastAccesses
+pub mod LastSteps
+pub mod Accessed

@@ -3,3 +3,4 @@
 pub mod Over
 pub mod OverLaws
 pub mod WholeEnds
+pub mod WholeSteps
