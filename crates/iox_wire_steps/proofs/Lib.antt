@@ -17,3 +17,6 @@ pub mod EndLaws
 pub mod LastAccesses
 pub mod LastSteps
 pub mod Accessed
+pub mod FarPools
+pub mod AsideTables
+pub mod AsideNodes

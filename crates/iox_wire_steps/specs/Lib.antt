@@ -3,4 +3,5 @@
 pub mod Over
 pub mod OverLaws
 pub mod WholeEnds
+pub mod FarMessages
 pub mod WholeSteps
