@@ -20,3 +20,4 @@ pub mod Accessed
 pub mod FarPools
 pub mod AsideTables
 pub mod AsideNodes
+pub mod PutsAside
