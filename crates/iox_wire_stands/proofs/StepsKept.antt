@@ -44,7 +44,7 @@ returns_not : (local : Local) (e : Entry) → IsReturning local e → ReturnsNot
 returns_not (ReleaseReturns k place) e is none = none
 returns_not local e is none = is
 
-leaves_nothing : (p : Setting) (x : Seat) (local : Local) (found : ℕ) (y : Seat) → LeavesNothing (message_at local)
+pub leaves_nothing : (p : Setting) (x : Seat) (local : Local) (found : ℕ) (y : Seat) → LeavesNothing (message_at local)
     → ReturnsNothing local (message_at y.local) → Follows p x local found y → LeavesNothing (message_at y.local)
 leaves_nothing p x local found y leaves returns (keeps desks message) = subst LeavesNothing (sym message) leaves
 leaves_nothing p x local found y leaves returns (lets_go desks still message may) = subst LeavesNothing (sym message) tt

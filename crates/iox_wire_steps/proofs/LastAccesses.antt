@@ -46,7 +46,7 @@ use Rattle.iox_wire_steps.proofs.EndsStand.{ended_leaves, last_of, of_failed, of
 
 -- ---- messages
 
-returns_none : (local : Local) (message : CallMessage) → LeavesNothing message → ReturnsNothing local message
+pub returns_none : (local : Local) (message : CallMessage) → LeavesNothing message → ReturnsNothing local message
 returns_none (ReleaseReturns e place) (Leaving k) leaves = leaves
 returns_none local other leaves = tt
 

@@ -21,3 +21,4 @@ pub mod FarPools
 pub mod AsideTables
 pub mod AsideNodes
 pub mod PutsAside
+pub mod SeatSteps

@@ -12,7 +12,6 @@ use Rattle.iox_wire_words.specs.Laws.{IsMade}
 use Rattle.iox_wire_words.specs.Programs.{program_access}
 use Rattle.iox_wire_moments.specs.MomentsOf.{Pools}
 use Rattle.iox_wire_locals.specs.declared.local.Ending.{Ending}
-use Rattle.iox_wire_locals.specs.declared.local.Local.TheVariants.{Idle}
 use Rattle.iox_wire_locals.specs.declared.seat.Seat.{Seat}
 use Rattle.iox_wire_locals.specs.Doings.{outcome_of}
 use Rattle.iox_wire_locals.specs.Locals.{program_of}
@@ -64,7 +63,7 @@ player_next p player seen = record {
 }
 
 -- What is asked of a step of the node as it is shown: its access is told what is so, and so is the
--- end of its call, with a payload that a new loan may have.
+-- end of its call, with a payload that a new loan may have. (No step is told so at rest.)
 pub record StepIsTold (p : Setting) (held : Pools) (s : State) (x : Seat) (seen : ℕ) (payload : List ℕ)
     : Type 0 where
   pub access : ending_at x.local ≡ None → IsTold p held s x seen
@@ -74,14 +73,13 @@ pub record StepIsTold (p : Setting) (held : Pools) (s : State) (x : Seat) (seen 
       ending_at y.local ≡ Some ending
       → EndIsTold p new t y ending × MayHold t.fixed (outcome_of p new x.node ending) payload
 
--- The step of a living node with a call under way leads from what stands to what stands. It is at
--- most one moment of the machine, and then the end of the call with the machine's reply, if that was
--- its last access.
+-- The step of a living node leads from what stands to what stands. It is at most one moment of the
+-- machine, and then the end of its call with the machine's reply, if that was its last access.
 abbrev pub WholeStepsKeep : Type 0
 WholeStepsKeep =
     (p : Setting) (words words' : List ℕ) (players : ℕ → Player) (r : Run) (n : ℕ)
     (payload : List ℕ) (stands : Stands p words players r)
-    → not_living r.last.state n ≡ None → ((players n).seat.local ≡ Idle → ⊥)
+    → not_living r.last.state n ≡ None
     → let x = (players n).seat in let access = program_access p.layout (program_of p x.local) in
     let seen = seen_by access (word_of words) in
     StepIsTold p stands.held r.last.state (shown p x) seen payload
