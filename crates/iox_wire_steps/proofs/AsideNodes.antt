@@ -1,19 +1,18 @@
 -- All that is so of a node is so of it as it is shown once its release gave a request back: the entry is put aside.
-use Rattle.std.specs.Prelude.{◌<◌, ◌⊎◌, ◌++◌, flat_map, map}
-use Rattle.std.proofs.Common.{◌≡◌, ℕ, ◌+◌, Bool, true, false, ◌==◌, ◌&&◌, if◌then◌else◌, List, Option, Some, None, refl, ap, sym, subst, ◌∙◌, inl, inr, arith, eqb-true, true≢false}
+use Rattle.std.specs.Prelude.{◌<◌, ◌⊎◌, ◌++◌, flat_map}
+use Rattle.std.proofs.Common.{◌≡◌, ℕ, ◌+◌, Bool, true, false, ◌==◌, ◌&&◌, if◌then◌else◌, List, refl, ap, sym, subst, ◌∙◌, inl, inr, arith, eqb-true, true≢false}
 use Rattle.iox_model.specs.declared.kind.Kind.{Kind}
 use Rattle.iox_model.specs.declared.kind.Kind.TheVariants as kinds
 use Rattle.iox_model.specs.Handles.{is_own, is_received, same_kind}
 use Rattle.iox_model.specs.Maps.{AreDistinct}
 use Rattle.iox_model.specs.States.{State}
 use Rattle.iox_laws.proofs.WeaveLaws.WholeLemmas.{split}
-use Rattle.iox_laws.proofs.WeaveLedger.Truths.{false_if}
 use Rattle.iox_wire_moments.specs.MomentsOf.{Pools}
 use Rattle.iox_wire_locals.specs.declared.local.Local.TheVariants.{ReleaseLooks}
 use Rattle.iox_wire_locals.specs.declared.seat.Seat.{Seat}
 use Rattle.iox_wire_locals.specs.declared.table.Entry.{Entry}
 use Rattle.iox_wire_locals.specs.Courses.{placed}
-use Rattle.iox_wire_locals.specs.Tables.{Setting, entry_at, with_entry}
+use Rattle.iox_wire_locals.specs.Tables.{Setting}
 use Rattle.iox_wire_laws.specs.WireKeeping.Records.{recorded_of}
 use Rattle.iox_wire_laws.specs.WireKeeping.UsedSlots.{slots_used}
 use Rattle.iox_wire_laws.specs.WireOwners.Releases.{HasOwnStates, IsReleased}
@@ -24,14 +23,14 @@ use Rattle.iox_wire_laws.specs.WireHolding.SlotsKnown.{EntryFits, HasEntry, IsPo
 use Rattle.iox_wire_laws.proofs.WireHolding.Aside.{names_stand_aside}
 use Rattle.iox_wire_pools.specs.Uses.{CountsUses, UsesAreCounted, how_often}
 use Rattle.iox_wire_pools.proofs.EndUses.{not_own}
-use Rattle.iox_wire_stands.specs.Following.{Leaving, message_at}
+use Rattle.iox_wire_stands.specs.Following.{Leaving}
 use Rattle.iox_wire_stands.specs.Nodes.{NodeStands}
 use Rattle.iox_wire_stands.proofs.EndNumbers.{same}
 use Rattle.iox_wire_stands.proofs.EndTables.{one_other}
 use Rattle.iox_wire_stands.proofs.NodesFollow.{KeptPart}
 use Rattle.iox_wire_steps.specs.FarMessages.{AgreeInPools}
 use Rattle.iox_wire_steps.proofs.AsideTables.{held_same, mine_still}
-use Rattle.iox_wire_steps.proofs.FarPools.{UsesSame, known_far}
+use Rattle.iox_wire_steps.proofs.FarPools.{known_far}
 
 not_pending : (k : Kind) → is_received k ≡ true → same_kind k kinds.PendingResponse ≡ false
 not_pending kinds.ActiveRequest is = refl

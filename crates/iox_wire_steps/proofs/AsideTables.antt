@@ -1,10 +1,10 @@
 -- A table in which a received entry is put aside: the same slots are in use, and the same numbers.
-use Rattle.std.specs.Prelude.{◌⊎◌, ◌||◌, ◌++◌, filter, flat_map, map, not}
+use Rattle.std.specs.Prelude.{◌||◌, filter, map, not}
 use Rattle.std.specs.List.{list_all}
-use Rattle.std.proofs.Common.{◌≡◌, ℕ, Bool, true, false, if◌then◌else◌, ◌==◌, ◌&&◌, List, [], ◌∷◌, Option, Some, None, refl, ap, sym, subst, ◌∙◌, true≢false}
-use Rattle.iox_model.specs.Handles.{is_own, is_received}
+use Rattle.std.proofs.Common.{◌≡◌, ℕ, Bool, true, false, if◌then◌else◌, ◌==◌, ◌&&◌, List, [], ◌∷◌, Some, refl, ap, sym, ◌∙◌, true≢false}
+use Rattle.iox_model.specs.Handles.{is_own}
 use Rattle.iox_laws.proofs.WeaveLaws.WholeLemmas.{some-is, split}
-use Rattle.iox_laws.proofs.WeaveLedger.Truths.{both_true, none-some}
+use Rattle.iox_laws.proofs.WeaveLedger.Truths.{both_true}
 use Rattle.iox_wire_locals.specs.declared.seat.Seat.{Seat}
 use Rattle.iox_wire_locals.specs.declared.table.Entry.{Entry}
 use Rattle.iox_wire_locals.specs.Tables.{entry_at, with_entry}

@@ -3,12 +3,11 @@
 use Rattle.std.specs.Prelude.{◌<◌, ◌≤◌, ◌||◌, ◌&&◌, nat_lt, find, is_some, map, not}
 use Rattle.std.specs.List.{list_all}
 use Rattle.std.specs.Option.{option_map_or}
-use Rattle.std.proofs.Common.{◌≡◌, ℕ, Bool, true, false, ◌==◌, List, [], ◌∷◌, Option, Some, None, refl, ap, sym, subst, ◌∙◌, inl, inr}
+use Rattle.std.proofs.Common.{◌≡◌, ℕ, true, ◌==◌, List, [], ◌∷◌, refl, ap, sym, subst, ◌∙◌, inl, inr}
 use Rattle.iox_model.specs.declared.way.Way.{Way}
 use Rattle.iox_model.specs.Handles.{is_own}
 use Rattle.iox_model.specs.Maps.{AreApart, AreDistinct, has_number}
 use Rattle.iox_model.specs.Messages.{Message}
-use Rattle.iox_model.specs.Peers.{ways_from}
 use Rattle.iox_model.specs.States.{State}
 use Rattle.iox_laws.proofs.WeaveLaws.MapLemmas.{eqb-refl}
 use Rattle.iox_laws.proofs.WeaveLedger.Lists.{IsAmong, among-front, among-number, number-among}

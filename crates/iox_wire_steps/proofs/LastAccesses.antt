@@ -1,9 +1,8 @@
 -- The last access of a call leads to a node whose call is over but for its end.
 use Rattle.std.specs.Prelude.{◌⊎◌}
-use Rattle.std.proofs.Common.{◌≡◌, ℕ, Bool, true, false, List, Some, None, refl, ap, sym, subst, ◌∙◌, inl, inr}
-use Rattle.iox_model.specs.declared.way.Way.{Way}
+use Rattle.std.proofs.Common.{◌≡◌, ℕ, Some, None, refl, ap, sym, subst, ◌∙◌, inl, inr}
 use Rattle.iox_model.specs.Joins.{not_living}
-use Rattle.iox_model.specs.States.{Fixed, State}
+use Rattle.iox_model.specs.States.{State}
 use Rattle.iox_model.specs.Weaves.{World}
 use Rattle.iox_laws.proofs.WeaveLaws.WholeLemmas.{some-is}
 use Rattle.iox_laws.proofs.WeaveLedger.Truths.{none-some}
@@ -12,7 +11,6 @@ use Rattle.iox_wire_words.specs.Fits.{WireContents}
 use Rattle.iox_wire_words.specs.Laws.{IsMade}
 use Rattle.iox_wire_words.specs.Programs.{program_access}
 use Rattle.iox_wire_moments.specs.MomentsOf.{Pools}
-use Rattle.iox_wire_locals.specs.declared.local.CallRefusal.{CallRefusal}
 use Rattle.iox_wire_locals.specs.declared.local.Ending.{Ending}
 use Rattle.iox_wire_locals.specs.declared.local.Ending.TheVariants as endings
 use Rattle.iox_wire_locals.specs.declared.local.Local.{Local}
@@ -31,8 +29,8 @@ use Rattle.iox_wire_laws.specs.WireShows.OwnedCalls.{state_after}
 use Rattle.iox_wire_laws.specs.WireRegions.OwnedBegins.{LayoutFits}
 use Rattle.iox_wire_laws.specs.WireHolding.FarSlots.{EndsInPool, IsInPool, QueuesHaveSlots}
 use Rattle.iox_wire_laws.specs.WireHolding.Holding.{held_after}
-use Rattle.iox_wire_laws.specs.WireHolding.SlotsKnown.{HasEntry, HasSent}
-use Rattle.iox_wire_stands.specs.Following.{CallMessage, Dropped, Follows, IsOfEntry, IsReturning, Leaving, LeavesNothing, Lent, MayLetGo, NoMessage, OfEntry, Sent, Taken, TakesOn, drops, keeps, lets_go, message_at, picks_slot, puts_aside, sends_loan, takes}
+use Rattle.iox_wire_laws.specs.WireHolding.SlotsKnown.{HasEntry}
+use Rattle.iox_wire_stands.specs.Following.{CallMessage, Dropped, Follows, IsOfEntry, Leaving, LeavesNothing, MayLetGo, OfEntry, drops, keeps, lets_go, message_at, picks_slot, puts_aside, sends_loan, takes}
 use Rattle.iox_wire_stands.specs.NamesLaws.{ReturnsNothing}
 use Rattle.iox_wire_stands.specs.NodeLaws.{IsTold}
 use Rattle.iox_wire_stands.specs.Nodes.{NodeStands}

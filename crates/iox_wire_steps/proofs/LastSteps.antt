@@ -1,5 +1,4 @@
 -- The last access of a call and the end of the call: what stands leads to what stands.
-use Rattle.std.specs.Prelude.{◌++◌}
 use Rattle.std.proofs.Common.{◌≡◌, ℕ, Bool, true, false, if◌then◌else◌, ◌==◌, List, [], ◌∷◌, Option, Some, None, refl, ap, sym, subst, ◌∙◌}
 use Rattle.iox_model.specs.Joins.{not_living}
 use Rattle.iox_model.specs.Maps.{put_at}
@@ -28,7 +27,7 @@ use Rattle.iox_wire_stands.specs.NodeLaws.{IsTold}
 use Rattle.iox_wire_stands.specs.Stands.{AreNumbered}
 use Rattle.iox_wire_stands.proofs.StepsAround.{Around, AroundNext, Whole, goes_around}
 use Rattle.iox_wire_steps.specs.Over.{EndIsTold, IsOver}
-use Rattle.iox_wire_steps.specs.WholeSteps.{moment_beats, step_beats}
+use Rattle.iox_wire_steps.specs.WholeSteps.{step_beats}
 use Rattle.iox_wire_steps.proofs.EndsWhole.{ends_whole}
 use Rattle.iox_wire_steps.proofs.LastAccesses.{is_over}
 

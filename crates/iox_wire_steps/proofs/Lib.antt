@@ -22,3 +22,4 @@ pub mod AsideTables
 pub mod AsideNodes
 pub mod PutsAside
 pub mod SeatSteps
+pub mod StepsWhole

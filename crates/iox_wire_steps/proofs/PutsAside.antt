@@ -1,14 +1,14 @@
 -- The access that gives a request back: all stands, with its entry put aside as the node is shown.
 use Rattle.std.specs.Prelude.{◌⊎◌, ◌<◌}
 use Rattle.std.specs.List.{list_any}
-use Rattle.std.proofs.Common.{◌≡◌, ℕ, ◌+◌, Bool, true, false, if◌then◌else◌, ◌==◌, ◌&&◌, List, [], Option, Some, None, refl, ap, sym, subst, ◌∙◌, inl, inr, arith, eqb-true, true≢false}
+use Rattle.std.proofs.Common.{◌≡◌, ℕ, ◌+◌, Bool, true, false, if◌then◌else◌, ◌==◌, ◌&&◌, [], Option, Some, None, refl, ap, sym, subst, ◌∙◌, inl, inr, arith, eqb-true, true≢false}
 use Rattle.iox_model.specs.declared.way.Way.{Way}
 use Rattle.iox_model.specs.Handles.{is_received}
 use Rattle.iox_model.specs.Joins.{not_living}
 use Rattle.iox_model.specs.Maps.{put_at}
-use Rattle.iox_model.specs.Moments.{Moment, moved}
+use Rattle.iox_model.specs.Moments.{Moment}
 use Rattle.iox_model.specs.States.{State}
-use Rattle.iox_model.specs.Weaves.{IsBeat, World}
+use Rattle.iox_model.specs.Weaves.{World}
 use Rattle.iox_laws.proofs.WeaveLaws.WholeLemmas.{moved-members, not_living-members, put_at-here, split}
 use Rattle.iox_laws.proofs.WeaveLedger.Truths.{false_if}
 use Rattle.iox_steps.specs.declared.side.Pushing.{Pushing}
@@ -37,7 +37,7 @@ use Rattle.iox_wire_laws.specs.WireHolding.Named.{IsUnnamed, place_names}
 use Rattle.iox_wire_laws.specs.WireHolding.SlotsKnown.{EntryFits, HasEntry, PlaceStands}
 use Rattle.iox_wire_laws.proofs.WireHolding.Aside.{entries_may_be_put_aside}
 use Rattle.iox_wire_laws.proofs.WireHolding.FarSlots.{far_slots_are_unnamed}
-use Rattle.iox_wire_stands.specs.Following.{CallMessage, Leaving, LeavesNothing, Taken, message_at}
+use Rattle.iox_wire_stands.specs.Following.{Leaving, LeavesNothing, message_at}
 use Rattle.iox_wire_stands.specs.NodeLaws.{IsTold}
 use Rattle.iox_wire_stands.specs.Nodes.{NodeStands}
 use Rattle.iox_wire_stands.specs.Stands.{AreNumbered}

@@ -1,7 +1,7 @@
 -- The step of a node as it is shown: what stands leads to what stands.
-use Rattle.std.specs.Prelude.{◌⊎◌, ◌≤◌, ◌<◌, ◌++◌}
+use Rattle.std.specs.Prelude.{◌⊎◌}
 use Rattle.std.specs.Option.{option_map}
-use Rattle.std.proofs.Common.{◌≡◌, ℕ, Bool, true, false, if◌then◌else◌, List, [], ◌∷◌, Option, Some, None, refl, ap, sym, subst, ◌∙◌, inl, inr, true≢false}
+use Rattle.std.proofs.Common.{◌≡◌, ℕ, Bool, true, false, if◌then◌else◌, List, [], ◌∷◌, Option, Some, None, refl, ap, sym, subst, ◌∙◌, inl, inr}
 use Rattle.iox_model.specs.declared.kind.Kind.TheVariants.{ActiveRequest}
 use Rattle.iox_model.specs.Handles.{is_received, same_kind}
 use Rattle.iox_model.specs.Joins.{not_living}
@@ -28,7 +28,6 @@ use Rattle.iox_wire_locals.specs.declared.table.Entry.{Entry}
 use Rattle.iox_wire_locals.specs.Courses.{ended, placed}
 use Rattle.iox_wire_locals.specs.Doings.{outcome_of}
 use Rattle.iox_wire_locals.specs.Locals.{program_of}
-use Rattle.iox_wire_locals.specs.ReceiveCourses.{given_back}
 use Rattle.iox_wire_locals.specs.ReceiveFindings.{release_returned}
 use Rattle.iox_wire_locals.specs.Settlements.{reply_of}
 use Rattle.iox_wire_locals.specs.StateMoments.{moment_at}
@@ -37,12 +36,12 @@ use Rattle.iox_wire_locals.specs.Tables.{Setting}
 use Rattle.iox_wire_laws.specs.WireShows.OwnedCalls.{state_after}
 use Rattle.iox_wire_laws.specs.WireHolding.Aside.{shown}
 use Rattle.iox_wire_laws.specs.WireHolding.Holding.{held_after, held_from}
-use Rattle.iox_wire_stands.specs.Following.{CallMessage, Dropped, Leaving, LeavesNothing, OfEntry, message_at}
+use Rattle.iox_wire_stands.specs.Following.{CallMessage, Leaving, LeavesNothing, message_at}
 use Rattle.iox_wire_stands.specs.NamesLaws.{ReturnsNothing}
 use Rattle.iox_wire_stands.specs.NodeLaws.{IsTold}
 use Rattle.iox_wire_stands.specs.Stands.{AreNumbered}
 use Rattle.iox_wire_stands.proofs.StepsAround.{Whole, WholeNext, goes_on}
-use Rattle.iox_wire_steps.specs.Over.{EndIsTold, IsOver}
+use Rattle.iox_wire_steps.specs.Over.{EndIsTold}
 use Rattle.iox_wire_steps.specs.WholeSteps.{StepIsTold, step_beats}
 use Rattle.iox_wire_steps.proofs.Accessed.{HasNone, around_too, no_access, over_too, same_words}
 use Rattle.iox_wire_steps.proofs.EndsStand.{ended_leaves, standing_nodes_end}

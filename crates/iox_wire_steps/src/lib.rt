@@ -5,7 +5,9 @@
 ghost use Rattle.iox_wire_steps.specs.OverLaws.{AddedEntriesFit, EndsKeepLoans, EndsKeepNodes};
 ghost use Rattle.iox_wire_steps.specs.OverLaws.{EndsKeepReleased, EndsKeepSlots, EndsKeepStates};
 ghost use Rattle.iox_wire_steps.specs.OverLaws.{StandingNodesEnd};
+ghost use Rattle.iox_wire_steps.specs.FarMessages.{FarSlotsMayChange};
 ghost use Rattle.iox_wire_steps.specs.WholeEnds.{EndsKeep};
+ghost use Rattle.iox_wire_steps.specs.WholeSteps.{WholeStepsKeep};
 
 /// A standing node whose call has no access left may end it.
 pub fn standing_nodes_end()
@@ -38,4 +40,15 @@ pub fn ends_keep_nodes()
 /// The end of a call leads from what stands to what stands.
 pub fn ends_keep()
     ensures { EndsKeep }
+{}
+
+/// What is so of a node stays so as a slot changes that is in no pool of its ports.
+pub fn far_slots_may_change()
+    ensures { FarSlotsMayChange }
+{}
+
+/// A whole step of a node, its access and the end of its call where that was the last one, leads
+/// from what stands to what stands.
+pub fn whole_steps_keep()
+    ensures { WholeStepsKeep }
 {}
