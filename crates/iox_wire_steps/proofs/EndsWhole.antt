@@ -57,6 +57,7 @@ use Rattle.iox_wire_steps.proofs.Added as added
 use Rattle.iox_wire_steps.proofs.Homes as homes
 use Rattle.iox_wire_steps.proofs.Knowing.{outcome_fits}
 use Rattle.iox_wire_steps.proofs.OwnNodes.{node_now}
+use Rattle.iox_wire_steps.proofs.OwnSlotsApart.{lent_differs, slots_differ}
 
 -- a call that ends otherwise than with a send is at its last place
 abbrev NoSend : Ending → Type 0
@@ -137,21 +138,22 @@ module _ (p : Setting) (held : Pools) (word : ℕ → ℕ) (c : WireContents) (s
   lent_alone o slot is tells =
       let at : x.local ≡ locals.Ends (endings.Lends o slot) = ends_there x.local (endings.Lends o slot) tt is in
       new_loans_are_unnamed p held word c seats w n o slot shows layout (names (subst (PlaceStands p w.state.fixed x) (sym at) tt)) living at
-      (ap (λ (m : Message). m.serial) tells.0)
+      (ap (λ (m : Message). m.serial) tells)
       (added.lent_in_pool p held word c seats w n shows living layout o slot is (ends.uses o.port (homes.at_home p held word c seats w n shows living owners numbered o.port
       (outcome_fits p held word c seats w n (endings.Lends o slot) shows living is).1.1)))
-      tells.1
+      (lent_differs p held word c seats w n shows living ends.entries ends.numbers o slot is tells)
 
   filled_alone : (e : Entry) (words : List ℕ) → ending_at x.local ≡ Some (endings.Fills e words) → HasEntry x e
       → EndIsTold p held w.state x (endings.Fills e words) → IsInPool p e.sender e.slot → HasAlone p c seats w.state n e
   filled_alone e words is there tells low =
       let at : x.local ≡ locals.Ends (endings.Fills e words) = ends_there x.local (endings.Fills e words) tt is in
-      filled_loans_are_alone p held word c seats w n e words shows layout (names (subst (PlaceStands p w.state.fixed x) (sym at) there)) living at tells.0 low tells.1
+      filled_loans_are_alone p held word c seats w n e words shows layout (names (subst (PlaceStands p w.state.fixed x) (sym at) there)) living at tells low
+      (slots_differ p held word c seats w n shows living ends.entries ends.numbers e.port)
 
   -- the loan that a slot holds is that of the call
   loan_is : (o : NewLoan) (slot : ℕ) → (p.port o.port).node ≡ x.node → EndIsTold p held w.state x (endings.Lends o slot)
       → handle_of held x.node (entry_in o slot) ≡ loan_in p o
-  loan_is o slot node tells = λ i. record (loan_in p o) { node = sym node i; message = tells.0 i; filled = (tells.0 i).elements }
+  loan_is o slot node tells = λ i. record (loan_in p o) { node = sym node i; message = tells i; filled = (tells i).elements }
 
   low_of : (e : Entry) → IsInPool p e.sender e.slot ⊎ ⊥ → IsInPool p e.sender e.slot
   low_of e (inl low) = low

@@ -11,6 +11,8 @@ pub mod Gained
 pub mod OwnSlots
 pub mod NewNumbers
 pub mod OwnNodes
+pub mod OwnMessages
+pub mod OwnSlotsApart
 pub mod EndsWhole
 pub mod EndsStand
 pub mod EndLaws

@@ -4,7 +4,7 @@ use Rattle.iox_model.specs.declared.kind.Kind.TheVariants.{PendingResponse}
 use Rattle.iox_model.specs.declared.way.Way.{Way}
 use Rattle.iox_model.specs.Ends as ends
 use Rattle.iox_model.specs.Handles.{filled_kind, is_request_loan, same_kind}
-use Rattle.iox_model.specs.Maps.{AreDistinct, has_number}
+use Rattle.iox_model.specs.Maps.{AreDistinct}
 use Rattle.iox_model.specs.Peers.{lanes_of}
 use Rattle.iox_model.specs.Settings.{is_client}
 use Rattle.iox_model.specs.States.{Fixed, State}
@@ -20,7 +20,6 @@ use Rattle.iox_wire_locals.specs.NewLoans.{lane_in, message_in, request_in}
 use Rattle.iox_wire_locals.specs.Steps.{ending_at}
 use Rattle.iox_wire_locals.specs.Tables.{Setting, sent_entry}
 use Rattle.iox_wire_laws.specs.WireKeeping.Shows.{EndKnows}
-use Rattle.iox_wire_laws.specs.WireKeeping.UsedSlots.{slots_held}
 use Rattle.iox_wire_laws.specs.WireShows.OwnedCalls.{AsksOn, ReceivesOn}
 use Rattle.iox_wire_laws.specs.WireOwners.Borrowed.{BorrowedFits, HasCount}
 use Rattle.iox_wire_laws.specs.WireOwners.Releases.{HasOwnStates, IsReleased}
@@ -70,14 +69,12 @@ pub record IsOver (p : Setting) (held : Pools) (s : State) (x : Seat) (ending : 
 
 -- ---- the end
 
--- What the end of a call is told: its slot holds the loan that it made, and no handle has that slot; a
--- loan that was written is filled, and has its slot alone; a header told what was received; a request
--- that was sent is on a lane of its client, where no other request is open.
+-- What the end of a call is told: its slot holds the loan that it made; a loan that was written is a
+-- filled one; a header told what was received; a request that was sent is on a lane of its client,
+-- where no other request is open.
 abbrev pub EndIsTold : Setting → Pools → State → Seat → Ending → Type 0
-EndIsTold p held s x (endings.Lends o slot) =
-    (held o.port slot ≡ message_in p o) × (has_number slot (slots_held x o.port) ≡ false)
-EndIsTold p held s x (endings.Fills e words) =
-    (filled_kind e.kind ≡ e.kind) × AreDistinct (slots_held x e.port)
+EndIsTold p held s x (endings.Lends o slot) = held o.port slot ≡ message_in p o
+EndIsTold p held s x (endings.Fills e words) = filled_kind e.kind ≡ e.kind
 EndIsTold p held s x (endings.Sends e copied count) =
     is_request_loan e.kind ≡ true
     → (e.lane < lanes_of s.fixed e.port) × HasOwnStates p x s.request_state (sent_entry e count)

@@ -6,8 +6,15 @@ ghost use Rattle.iox_wire_steps.specs.OverLaws.{AddedEntriesFit, EndsKeepLoans, 
 ghost use Rattle.iox_wire_steps.specs.OverLaws.{EndsKeepReleased, EndsKeepSlots, EndsKeepStates};
 ghost use Rattle.iox_wire_steps.specs.OverLaws.{StandingNodesEnd};
 ghost use Rattle.iox_wire_steps.specs.FarMessages.{FarSlotsMayChange};
+ghost use Rattle.iox_wire_steps.specs.OwnMessages.{OwnMessagesAreApart, OwnMessagesAreLent};
 ghost use Rattle.iox_wire_steps.specs.WholeEnds.{EndsKeep};
 ghost use Rattle.iox_wire_steps.specs.WholeSteps.{WholeStepsKeep};
+
+/// Handles hold messages that their ports lent, and no two of a node hold the same own message.
+pub fn own_messages_are_apart()
+    ensures lent { OwnMessagesAreLent }
+    ensures apart { OwnMessagesAreApart }
+{}
 
 /// A standing node whose call has no access left may end it.
 pub fn standing_nodes_end()
