@@ -34,12 +34,12 @@ use Rattle.iox_wire_stands.specs.Nodes.{NodeStands}
 use Rattle.iox_wire_stands.specs.Runs.{Answered, GoesOnBy, Run, history, said_in}
 use Rattle.iox_wire_stands.specs.Stands.{Player, Stands, seats_of, word_of}
 use Rattle.iox_wire_stands.proofs.Runs.{history_on, last_empty, run_on}
-use Rattle.iox_wire_stands.proofs.StepsAround.{Whole}
+use Rattle.iox_wire_stands.proofs.StepsAround.{Around, Whole}
 use Rattle.iox_wire_stands.proofs.StepsKept.{shown_same}
 use Rattle.iox_wire_steps.specs.Over.{EndIsTold, EndsWith, IsDropped}
 use Rattle.iox_wire_steps.specs.OverLaws.{StandingNodesEnd}
 use Rattle.iox_wire_steps.specs.WholeEnds.{EndsKeep, player_ended}
-use Rattle.iox_wire_steps.proofs.EndsWhole.{ends_whole}
+use Rattle.iox_wire_steps.proofs.LoanEnds.{ends_led}
 
 -- ---- a standing node
 
@@ -127,23 +127,30 @@ module _ (p : Setting) (words : List ℕ) (players : ℕ → Player) (r : Run) (
   abbrev z : Seat
   z = closed p (players n).seat (Some ending)
 
-  abbrev new : Pools
-  new = held_ended stands.held payload ending
-
   here : seats n ≡ (players n).seat
   here = shown_same p (players n).seat (players n).seat.local (ended_leaves (players n).seat.local ending is)
 
   abbrev Result : Seat → Type 0
   Result q =
       IsBeat r.last (Ends q.node (reply_of p q ending) payload) (over r.last q.node payload (outcome_of p stands.held q.node ending))
-      × Whole p new (word_of words) stands.contents (put_at seats n (closed p q (Some ending)))
-      (over r.last q.node payload (outcome_of p stands.held q.node ending))
+      × ((new : Pools) × Whole p new (word_of words) stands.contents (put_at seats n (closed p q (Some ending)))
+      (over r.last q.node payload (outcome_of p stands.held q.node ending)))
+
+  -- what stands around the node
+  around : Around p stands.held (word_of words) stands.contents seats r.last n
+  around = record {
+    shows = stands.shows;
+    layout = stands.layout;
+    owners = stands.owners;
+    rooms = stands.rooms;
+    queues = stands.queues;
+    nodes = λ k other lives. stands.nodes k lives;
+  }
 
   result : Result (players n).seat
   result =
       subst Result here
-      (ends_whole p stands.held (word_of words) stands.contents seats r.last n ending payload stands.numbers stands.shows stands.layout stands.owners stands.rooms
-      stands.queues (λ k other lives. stands.nodes k lives) living
+      (ends_led p stands.held (word_of words) stands.contents seats r.last n stands.numbers around living ending payload
       (standing_nodes_end p stands.held r.last.state (seats n) ending (subst (λ (q : Seat). ending_at q.local ≡ Some ending) (sym here) is) (stands.nodes n living))
       (subst (λ q. EndIsTold p stands.held r.last.state q ending) (sym here) told)
       (subst (λ k. MayHold r.last.state.fixed (outcome_of p stands.held k ending) payload) (sym (stands.shows.node n)) may))
@@ -179,9 +186,9 @@ module _ (p : Setting) (words : List ℕ) (players : ℕ → Player) (r : Run) (
       by_node false is =
           ap (λ b. (players k).said ++ (if b then Answered (reply_of p (players n).seat ending) ∷ [] else [])) (eqb-flip k n is) ∙ last_empty (players k).said
 
-  to_stands : (next : Run) → Whole p new (word_of words) stands.contents (put_at seats n z) next.last
+  to_stands : (new : Pools) (next : Run) → Whole p new (word_of words) stands.contents (put_at seats n z) next.last
       → ((k : ℕ) → history k next.beats ≡ (after_players k).said) → Stands p words after_players next
-  to_stands next w histories = record {
+  to_stands new next w histories = record {
     held = new;
     contents = stands.contents;
     shows = subst (λ ss. ShowsWorld p new (word_of words) stands.contents ss next.last) (sym same_seats) w.shows;
@@ -202,7 +209,7 @@ module _ (p : Setting) (words : List ℕ) (players : ℕ → Player) (r : Run) (
       let on = run_on r beat u (subst (λ k. IsBeat r.last (Ends k (reply_of p (players n).seat ending) payload) u) node result.0) in (
         on.0,
         on.1,
-        to_stands on.0 (subst (Whole p new (word_of words) stands.contents (put_at seats n z)) (sym on.2) result.1)
+        to_stands result.1.0 on.0 (subst (Whole p result.1.0 (word_of words) stands.contents (put_at seats n z)) (sym on.2) result.1.1)
             (λ k. ap (history k) on.1.beats ∙ history_on k r.beats beat ∙ ap (λ xs. xs ++ said_in k beat) (stands.histories k) ∙ said k),
       )
 

@@ -25,7 +25,7 @@ use Rattle.iox_wire_locals.specs.declared.seat.Seat.{Seat}
 use Rattle.iox_wire_locals.specs.declared.table.Entry.{Entry}
 use Rattle.iox_wire_locals.specs.declared.table.NewLoan.{NewLoan}
 use Rattle.iox_wire_locals.specs.Doings.{outcome_of}
-use Rattle.iox_wire_locals.specs.NewLoans.{entry_in, loan_in}
+use Rattle.iox_wire_locals.specs.NewLoans.{entry_in, loan_in, message_in}
 use Rattle.iox_wire_locals.specs.Settlements.{reply_of}
 use Rattle.iox_wire_locals.specs.Steps.{closed, ending_at}
 use Rattle.iox_wire_locals.specs.Tables.{Setting, handle_of}
@@ -60,11 +60,11 @@ use Rattle.iox_wire_steps.proofs.OwnNodes.{node_now}
 use Rattle.iox_wire_steps.proofs.OwnSlotsApart.{lent_differs, slots_differ}
 
 -- a call that ends otherwise than with a send is at its last place
-abbrev NoSend : Ending → Type 0
+abbrev pub NoSend : Ending → Type 0
 NoSend (endings.Sends e copied count) = ⊥
 NoSend ending = Unit {0}
 
-ends_there : (local : Local) (ending : Ending) → NoSend ending → ending_at local ≡ Some ending → local ≡ locals.Ends ending
+pub ends_there : (local : Local) (ending : Ending) → NoSend ending → ending_at local ≡ Some ending → local ≡ locals.Ends ending
 ends_there (locals.Ends e) ending none is = ap locals.Ends (inside e is)
   where
     inside : (e : Ending) → Some e ≡ Some ending → e ≡ ending
@@ -83,6 +83,11 @@ ends_there (locals.SendEnds d last count) ending none is = absurd (sent ending n
     sent (endings.Sends e copied k) none is = none
     sent ending none is = subst Sent is tt
 ends_there local ending none is = none-some ending is
+
+-- the slot of a loan holds that loan
+abbrev pub HoldsLoan : Setting → Pools → Ending → Type 0
+HoldsLoan p held (endings.Lends o slot) = held o.port slot ≡ message_in p o
+HoldsLoan p held ending = Unit {0}
 
 -- ---- slots
 
@@ -108,7 +113,7 @@ module _ (p : Setting) (held : Pools) (word : ℕ → ℕ) (c : WireContents) (s
         → p.layout.capacity (ReturningQueue y) ≡ buffer_on w.state.fixed y + borrow_limit_on w.state.fixed y + 1)
     (queues : QueuesHaveSlots p c w.state) (nodes : (k : ℕ) → (k == n) ≡ false → not_living w.state k ≡ None → NodeStands p held w.state (seats k))
     (living : not_living w.state n ≡ None) (ends : IsOver p held w.state (seats n) ending) (told : EndIsTold p held w.state (seats n) ending)
-    (may : MayHold w.state.fixed (outcome_of p held (seats n).node ending) payload) where
+    (holds_loan : HoldsLoan p held ending) (may : MayHold w.state.fixed (outcome_of p held (seats n).node ending) payload) where
   abbrev x : Seat
   x = seats n
 
@@ -133,7 +138,7 @@ module _ (p : Setting) (held : Pools) (word : ℕ → ℕ) (c : WireContents) (s
       by_node true is = subst (λ i. NamesStand p w.state.fixed (seats i)) (sym (eqb-true k n is)) (record { entries = ends.entries; place = place })
       by_node false other = (nodes k other lives).names
 
-  lent_alone : (o : NewLoan) (slot : ℕ) → ending_at x.local ≡ Some (endings.Lends o slot) → EndIsTold p held w.state x (endings.Lends o slot)
+  lent_alone : (o : NewLoan) (slot : ℕ) → ending_at x.local ≡ Some (endings.Lends o slot) → HoldsLoan p held (endings.Lends o slot)
       → IsUnnamed p c seats w.state o.port slot
   lent_alone o slot is tells =
       let at : x.local ≡ locals.Ends (endings.Lends o slot) = ends_there x.local (endings.Lends o slot) tt is in
@@ -141,7 +146,7 @@ module _ (p : Setting) (held : Pools) (word : ℕ → ℕ) (c : WireContents) (s
       (ap (λ (m : Message). m.serial) tells)
       (added.lent_in_pool p held word c seats w n shows living layout o slot is (ends.uses o.port (homes.at_home p held word c seats w n shows living owners numbered o.port
       (outcome_fits p held word c seats w n (endings.Lends o slot) shows living is).1.1)))
-      (lent_differs p held word c seats w n shows living ends.entries ends.numbers o slot is tells)
+      (lent_differs p held word c seats w n shows living ends.entries ends.numbers o slot is (ap (λ (m : Message). m.serial) tells))
 
   filled_alone : (e : Entry) (words : List ℕ) → ending_at x.local ≡ Some (endings.Fills e words) → HasEntry x e
       → EndIsTold p held w.state x (endings.Fills e words) → IsInPool p e.sender e.slot → HasAlone p c seats w.state n e
@@ -151,7 +156,7 @@ module _ (p : Setting) (held : Pools) (word : ℕ → ℕ) (c : WireContents) (s
       (slots_differ p held word c seats w n shows living ends.entries ends.numbers e.port)
 
   -- the loan that a slot holds is that of the call
-  loan_is : (o : NewLoan) (slot : ℕ) → (p.port o.port).node ≡ x.node → EndIsTold p held w.state x (endings.Lends o slot)
+  loan_is : (o : NewLoan) (slot : ℕ) → (p.port o.port).node ≡ x.node → HoldsLoan p held (endings.Lends o slot)
       → handle_of held x.node (entry_in o slot) ≡ loan_in p o
   loan_is o slot node tells = λ i. record (loan_in p o) { node = sym node i; message = tells i; filled = (tells i).elements }
 
@@ -159,18 +164,18 @@ module _ (p : Setting) (held : Pools) (word : ℕ → ℕ) (c : WireContents) (s
   low_of e (inl low) = low
   low_of e (inr never) = absurd never
 
-  holds_so : (k : Ending) → ending_at x.local ≡ Some k → EndsWith p w.state.fixed x k → EndIsTold p held w.state x k
+  holds_so : (k : Ending) → ending_at x.local ≡ Some k → EndsWith p w.state.fixed x k → EndIsTold p held w.state x k → HoldsLoan p held k
       → ((e : Entry) → HasEntry x e → IsInPool p e.sender e.slot ⊎ IsDropped k e) → EndHolds p held c seats w.state n payload k
-  holds_so (endings.Lends o slot) is with tells low =
+  holds_so (endings.Lends o slot) is with tells loan low =
       let node : (p.port o.port).node ≡ x.node
       = (outcome_fits p held word c seats w n (endings.Lends o slot) shows living is).0.of_node ∙ sym (shows.node n) in
-      (node, loan_is o slot node tells, lent_alone o slot is tells)
-  holds_so (endings.Fills e words) is with tells low = filled_alone e words is with tells (low_of e (low e with))
-  holds_so (endings.Receives v z slot header) is with tells low = (tells.0, tells.1)
-  holds_so k is with tells low = tt
+      (node, loan_is o slot node loan, lent_alone o slot is loan)
+  holds_so (endings.Fills e words) is with tells loan low = filled_alone e words is with tells (low_of e (low e with))
+  holds_so (endings.Receives v z slot header) is with tells loan low = (tells.0, tells.1)
+  holds_so k is with tells loan low = tt
 
   holds : EndHolds p held c seats w.state n payload ending
-  holds = holds_so ending ends.at_end ends.message told ends.in_pools
+  holds = holds_so ending ends.at_end ends.message told holds_loan ends.in_pools
 
   pub shown_after : IsBeat w (Ends x.node (reply_of p x ending) payload) u × ShowsWorld p new word c (put_at seats n y) u
   shown_after = ends_show_what_is_held p held word c seats w n ending payload shows living ends.at_end ends.last holds may

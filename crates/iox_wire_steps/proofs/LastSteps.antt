@@ -22,13 +22,13 @@ use Rattle.iox_wire_locals.specs.Steps.{accessed, advance, closed, ending_at}
 use Rattle.iox_wire_locals.specs.Tables.{Setting}
 use Rattle.iox_wire_laws.proofs.WireKeeping.CountsKept.{steps_keep_own}
 use Rattle.iox_wire_laws.specs.WireShows.OwnedCalls.{state_after}
-use Rattle.iox_wire_laws.specs.WireHolding.Holding.{held_after, held_ended}
+use Rattle.iox_wire_laws.specs.WireHolding.Holding.{held_after}
 use Rattle.iox_wire_stands.specs.NodeLaws.{IsTold}
 use Rattle.iox_wire_stands.specs.Stands.{AreNumbered}
 use Rattle.iox_wire_stands.proofs.StepsAround.{Around, AroundNext, Whole, goes_around}
 use Rattle.iox_wire_steps.specs.Over.{EndIsTold, IsOver}
 use Rattle.iox_wire_steps.specs.WholeSteps.{step_beats}
-use Rattle.iox_wire_steps.proofs.EndsWhole.{ends_whole}
+use Rattle.iox_wire_steps.proofs.LoanEnds.{ends_led}
 use Rattle.iox_wire_steps.proofs.LastAccesses.{is_over}
 
 -- the beats lead to a world that these words and seats show, in which all stands
@@ -55,24 +55,24 @@ module _ (p : Setting) (new : Pools) (word : ℕ → ℕ) (c : WireContents) (se
   abbrev Ended : Seat → Type 0
   Ended q =
       IsBeat u (Ends q.node (reply_of p q ending) payload) (over u q.node payload (outcome_of p new q.node ending))
-      × Whole p (held_ended new payload ending) word c (put_at (put_at seats n z) n (closed p q (Some ending)))
-      (over u q.node payload (outcome_of p new q.node ending))
+      × ((pools : Pools) × Whole p pools word c (put_at (put_at seats n z) n (closed p q (Some ending)))
+      (over u q.node payload (outcome_of p new q.node ending)))
 
   ended : Ended z
   ended =
       subst Ended here
-      (ends_whole p new word c (put_at seats n z) u n ending payload numbered around.shows around.layout around.owners around.rooms around.queues around.nodes living
+      (ends_led p new word c (put_at seats n z) u n numbered around living ending payload
       (subst (λ q. IsOver p new u.state q ending) (sym here) over_now) (subst (λ q. EndIsTold p new u.state q ending) (sym here) told)
       (subst (λ k. MayHold u.state.fixed (outcome_of p new k ending) payload) (sym (ap (λ (q : Seat). q.node) here ∙ node)) may))
 
   pub end_led : LedTo p word u (Ends n (reply_of p z ending) payload ∷ []) (put_at seats n (closed p z (Some ending)))
   end_led =
       let v : World = over u z.node payload (outcome_of p new z.node ending) in (
-        held_ended new payload ending,
+        ended.1.0,
         c,
         v,
         (v, subst (λ k. IsBeat u (Ends k (reply_of p z ending) payload) v) node ended.0, refl),
-        subst (λ ss. Whole p (held_ended new payload ending) word c ss v) (put_again seats n z (closed p z (Some ending))) ended.1,
+        subst (λ ss. Whole p ended.1.0 word c ss v) (put_again seats n z (closed p z (Some ending))) ended.1.1,
       )
 
 -- ---- the last access

@@ -14,6 +14,7 @@ pub mod OwnNodes
 pub mod OwnMessages
 pub mod OwnSlotsApart
 pub mod EndsWhole
+pub mod LoanEnds
 pub mod EndsStand
 pub mod EndLaws
 pub mod LastAccesses

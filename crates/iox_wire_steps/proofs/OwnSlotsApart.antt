@@ -81,7 +81,7 @@ module _ (p : Setting) (held : Pools) (word : ℕ → ℕ) (c : WireContents) (s
         (distinct-no_repeats (map (λ (e : Entry). e.number) x.table) numbers)))
 
   -- the slot of a new loan is that of no handle
-  pub lent_differs : (o : NewLoan) (slot : ℕ) → ending_at x.local ≡ Some (endings.Lends o slot) → held o.port slot ≡ message_in p o
+  pub lent_differs : (o : NewLoan) (slot : ℕ) → ending_at x.local ≡ Some (endings.Lends o slot) → (held o.port slot).serial ≡ o.serial
       → has_number slot (slots_held x o.port) ≡ false
   lent_differs o slot is holds = false_if (has_number slot (slots_held x o.port)) (λ has.
       let at = map-among (λ (e : Entry). e.slot) slot (filter (λ e. is_own e.kind && (e.port == o.port)) x.table) (number-among slot (slots_held x o.port) has) in
@@ -90,7 +90,7 @@ module _ (p : Setting) (held : Pools) (word : ℕ → ℕ) (c : WireContents) (s
       let port : at.0.port ≡ o.port = eqb-true at.0.port o.port kind.1 in
       let sender : at.0.sender ≡ o.port = from_port at.0 among.0 kind.0 ∙ port in
       let serial : (held at.0.sender at.0.slot).serial ≡ o.serial
-      = ap (λ i. (held i at.0.slot).serial) sender ∙ ap (λ i. (held o.port i).serial) (sym at.2) ∙ ap (λ (m : Message). m.serial) holds in
+      = ap (λ i. (held i at.0.slot).serial) sender ∙ ap (λ i. (held o.port i).serial) (sym at.2) ∙ holds in
       let next : o.serial ≡ (view w.state.fixed n).loans o.port = (outcome_fits p held word c seats w n (endings.Lends o slot) shows living is).0.stands.0 in
       apart (held at.0.sender at.0.slot).serial ((view w.state.fixed n).loans o.port)
       (subst (λ q. (held at.0.sender at.0.slot).serial < (view w.state.fixed n).loans q) port

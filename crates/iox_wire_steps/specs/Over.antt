@@ -16,7 +16,7 @@ use Rattle.iox_wire_locals.specs.declared.seat.Seat.{Seat}
 use Rattle.iox_wire_locals.specs.declared.table.Entry.{Entry}
 use Rattle.iox_wire_locals.specs.Doings.{outcome_of}
 use Rattle.iox_wire_locals.specs.Known.{loans_at}
-use Rattle.iox_wire_locals.specs.NewLoans.{lane_in, message_in, request_in}
+use Rattle.iox_wire_locals.specs.NewLoans.{lane_in, request_in}
 use Rattle.iox_wire_locals.specs.Steps.{ending_at}
 use Rattle.iox_wire_locals.specs.Tables.{Setting, sent_entry}
 use Rattle.iox_wire_laws.specs.WireKeeping.Shows.{EndKnows}
@@ -69,11 +69,9 @@ pub record IsOver (p : Setting) (held : Pools) (s : State) (x : Seat) (ending : 
 
 -- ---- the end
 
--- What the end of a call is told: its slot holds the loan that it made; a loan that was written is a
--- filled one; a header told what was received; a request that was sent is on a lane of its client,
--- where no other request is open.
+-- What the end of a call is told: a loan that was written is a filled one; a header told what was
+-- received; a request that was sent is on a lane of its client, where no other request is open.
 abbrev pub EndIsTold : Setting → Pools → State → Seat → Ending → Type 0
-EndIsTold p held s x (endings.Lends o slot) = held o.port slot ≡ message_in p o
 EndIsTold p held s x (endings.Fills e words) = filled_kind e.kind ≡ e.kind
 EndIsTold p held s x (endings.Sends e copied count) =
     is_request_loan e.kind ≡ true
