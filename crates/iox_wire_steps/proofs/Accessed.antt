@@ -34,7 +34,7 @@ use Rattle.iox_wire_laws.specs.WireHolding.SlotsKnown.{SlotsKnown}
 use Rattle.iox_wire_pools.specs.Uses.{UsesAreCounted}
 use Rattle.iox_wire_stands.specs.Nodes.{NodeStands}
 use Rattle.iox_wire_stands.proofs.StepsAround.{Around, Whole}
-use Rattle.iox_wire_steps.specs.Over.{EndIsTold, EndsWith, IsOver}
+use Rattle.iox_wire_steps.specs.Over.{EndIsTold, EndsWith, CallIsOver}
 
 -- ---- a place without access
 
@@ -98,7 +98,7 @@ module _ (p : Setting) (held : Pools) (s : State) (x : Seat) where
   uses_too : (port pool : ℕ) → UsesAreCounted x port pool → UsesAreCounted (accessed x) port pool
   uses_too port pool uses = record { desk = uses.desk; there = uses.there; ways = uses.ways; counts = uses.counts }
 
-  pub over_too : (ending : Ending) → IsOver p held s x ending → IsOver p held s (accessed x) ending
+  pub over_too : (ending : Ending) → CallIsOver p held s x ending → CallIsOver p held s (accessed x) ending
   over_too ending over = record {
     at_end = over.at_end;
     last = last_too x.local over.last;

@@ -27,7 +27,6 @@ use Rattle.iox_wire_laws.specs.WireKeeping.Shows.{EndKnows, ShowsWorld}
 use Rattle.iox_wire_laws.specs.WireRegions.OwnedWords.{Owns}
 use Rattle.iox_wire_laws.specs.WireHolding.Aside.{shown}
 use Rattle.iox_wire_laws.specs.WireHolding.FarSlots.{EndsInPool, IsInPool, TakesFromPool}
-use Rattle.iox_wire_laws.specs.WireHolding.Holding.{held_ended}
 use Rattle.iox_wire_laws.specs.WireHolding.SlotsKnown.{EndingStands, HasSent, PlaceStands}
 use Rattle.iox_wire_stands.specs.Following.{Leaving, LeavesNothing, message_at}
 use Rattle.iox_wire_stands.specs.Nodes.{NodeStands}

@@ -52,7 +52,7 @@ use Rattle.iox_wire_stands.proofs.OtherSlots.{other_slots_may_change}
 use Rattle.iox_wire_stands.proofs.OthersHold.{named_taken}
 use Rattle.iox_wire_stands.proofs.OthersKept.{others_leave_nodes}
 use Rattle.iox_wire_stands.proofs.StepsAround.{Whole}
-use Rattle.iox_wire_steps.specs.Over.{EndIsTold, EndsWith, IsDropped, IsOver}
+use Rattle.iox_wire_steps.specs.Over.{EndIsTold, EndsWith, IsDropped, CallIsOver}
 use Rattle.iox_wire_steps.proofs.Added as added
 use Rattle.iox_wire_steps.proofs.Homes as homes
 use Rattle.iox_wire_steps.proofs.Knowing.{outcome_fits}
@@ -110,9 +110,9 @@ payload_elsewhere held e words q j other = by_case (is_slot_of e q j) (λ is.
 module _ (p : Setting) (held : Pools) (word : ℕ → ℕ) (c : WireContents) (seats : ℕ → Seat) (w : World) (n : ℕ) (ending : Ending) (payload : List ℕ)
     (numbered : AreNumbered p) (shows : ShowsWorld p held word c seats w) (layout : LayoutFits p w.state.fixed) (owners : OwnersAre p w.state.fixed)
     (rooms : (y : Way) → IsWay p.layout.sizes y
-        → p.layout.capacity (ReturningQueue y) ≡ buffer_on w.state.fixed y + borrow_limit_on w.state.fixed y + 1)
+    → p.layout.capacity (ReturningQueue y) ≡ buffer_on w.state.fixed y + borrow_limit_on w.state.fixed y + 1)
     (queues : QueuesHaveSlots p c w.state) (nodes : (k : ℕ) → (k == n) ≡ false → not_living w.state k ≡ None → NodeStands p held w.state (seats k))
-    (living : not_living w.state n ≡ None) (ends : IsOver p held w.state (seats n) ending) (told : EndIsTold p held w.state (seats n) ending)
+    (living : not_living w.state n ≡ None) (ends : CallIsOver p held w.state (seats n) ending) (told : EndIsTold p held w.state (seats n) ending)
     (holds_loan : HoldsLoan p held ending) (may : MayHold w.state.fixed (outcome_of p held (seats n).node ending) payload) where
   abbrev x : Seat
   x = seats n

@@ -50,9 +50,10 @@ module _ (p : Setting) (held : Pools) (word : ℕ → ℕ) (c : WireContents) (s
       subst Told (some-is e ending same)
       (doing-is w n (Ended (outcome_of p held n e)) at.holding.fits doing, sound_call (Ended (outcome_of p held n e)) doing)
   told_at (SendEnds d last count) doing same =
-      subst Told (some-is (endings.Sends d.loan d.copied count) ending same)
-      ((doing-is w n (Delivering (send_of w.state.fixed held n d) last [] count) at.holding.fits doing).0.loan,
-      (sound_call (Delivering (send_of w.state.fixed held n d) last [] count) doing).0.0)
+      subst Told (some-is (endings.Sends d.loan d.copied count) ending same) (
+        (doing-is w n (Delivering (send_of w.state.fixed held n d) last [] count) at.holding.fits doing).0.loan,
+        (sound_call (Delivering (send_of w.state.fixed held n d) last [] count) doing).0.0,
+      )
   told_at local doing same = none-some ending same
 
   -- what it comes to fits the node's handles and ports

@@ -39,7 +39,7 @@ use Rattle.iox_wire_stands.proofs.Follows.{accesses_follow}
 use Rattle.iox_wire_stands.proofs.NamesFollow as named
 use Rattle.iox_wire_stands.proofs.NodesFollow.{KeptPart, after_fixed, part_kept, takes_there}
 use Rattle.iox_wire_stands.proofs.SlotsFollow.{none_taken}
-use Rattle.iox_wire_steps.specs.Over.{EndsWith, IsDropped, IsOver}
+use Rattle.iox_wire_steps.specs.Over.{EndsWith, IsDropped, CallIsOver}
 use Rattle.iox_wire_steps.proofs.EndsStand.{ended_leaves, last_of, of_failed, of_sent}
 
 -- ---- messages
@@ -182,7 +182,7 @@ module _ (p : Setting) (held : Pools) (word word' : ℕ → ℕ) (c : WireConten
     in_pool e (inl low) = inl low
     in_pool e (inr leaving) = inr (given_up e leaving follows)
 
-    pub is_over : IsOver p (held_after p x seen held) t y ending
+    pub is_over : CallIsOver p (held_after p x seen held) t y ending
     is_over = record {
       at_end = is;
       last = last_of p t y y.local ending is kept.owns.owns;

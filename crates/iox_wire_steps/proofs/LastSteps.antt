@@ -26,7 +26,7 @@ use Rattle.iox_wire_laws.specs.WireHolding.Holding.{held_after}
 use Rattle.iox_wire_stands.specs.NodeLaws.{IsTold}
 use Rattle.iox_wire_stands.specs.Stands.{AreNumbered}
 use Rattle.iox_wire_stands.proofs.StepsAround.{Around, AroundNext, Whole, goes_around}
-use Rattle.iox_wire_steps.specs.Over.{EndIsTold, IsOver}
+use Rattle.iox_wire_steps.specs.Over.{EndIsTold, CallIsOver}
 use Rattle.iox_wire_steps.specs.WholeSteps.{step_beats}
 use Rattle.iox_wire_steps.proofs.LoanEnds.{ends_led}
 use Rattle.iox_wire_steps.proofs.LastAccesses.{is_over}
@@ -47,7 +47,7 @@ put_again f n a b = λ i k. by_case k (k == n) i
 
 module _ (p : Setting) (new : Pools) (word : ℕ → ℕ) (c : WireContents) (seats : ℕ → Seat) (u : World) (n : ℕ) (z : Seat) (ending : Ending) (payload : List ℕ)
     (numbered : AreNumbered p) (around : Around p new word c (put_at seats n z) u n) (living : not_living u.state n ≡ None)
-    (over_now : IsOver p new u.state z ending) (told : EndIsTold p new u.state z ending) (node : z.node ≡ n)
+    (over_now : CallIsOver p new u.state z ending) (told : EndIsTold p new u.state z ending) (node : z.node ≡ n)
     (may : MayHold u.state.fixed (outcome_of p new n ending) payload) where
   here : put_at seats n z n ≡ z
   here = put_at-here seats n z
@@ -62,7 +62,7 @@ module _ (p : Setting) (new : Pools) (word : ℕ → ℕ) (c : WireContents) (se
   ended =
       subst Ended here
       (ends_led p new word c (put_at seats n z) u n numbered around living ending payload
-      (subst (λ q. IsOver p new u.state q ending) (sym here) over_now) (subst (λ q. EndIsTold p new u.state q ending) (sym here) told)
+      (subst (λ q. CallIsOver p new u.state q ending) (sym here) over_now) (subst (λ q. EndIsTold p new u.state q ending) (sym here) told)
       (subst (λ k. MayHold u.state.fixed (outcome_of p new k ending) payload) (sym (ap (λ (q : Seat). q.node) here ∙ node)) may))
 
   pub end_led : LedTo p word u (Ends n (reply_of p z ending) payload ∷ []) (put_at seats n (closed p z (Some ending)))
@@ -99,7 +99,7 @@ module _ (p : Setting) (held : Pools) (word word' : ℕ → ℕ) (c : WireConten
     node : z.node ≡ n
     node = (steps_keep_own p x seen).node ∙ whole.shows.node n
 
-    by_moment : (m : Option Moment) → AroundNext p new word' after (put_at seats n z) w n m → IsOver p new (state_after w.state m) z ending
+    by_moment : (m : Option Moment) → AroundNext p new word' after (put_at seats n z) w n m → CallIsOver p new (state_after w.state m) z ending
         → EndIsTold p new (state_after w.state m) z ending → MayHold (state_after w.state m).fixed (outcome_of p new n ending) payload
         → LedTo p word' w (step_beats n payload m (Some (reply_of p z ending))) (put_at seats n (closed p z (Some ending)))
     by_moment None around over_now tells may =
@@ -110,7 +110,7 @@ module _ (p : Setting) (held : Pools) (word word' : ℕ → ℕ) (c : WireConten
         let lives : not_living u.state n ≡ None
         = not_living-members u.state w.state n (ap (λ (s : State). s.members) next.2 ∙ moved-members w.state m) ∙ living in
         let led = end_led p new word' after seats u n z ending payload numbered next.3 lives
-        (subst (λ s. IsOver p new s z ending) is_state over_now) (subst (λ s. EndIsTold p new s z ending) is_state tells) node
+        (subst (λ s. CallIsOver p new s z ending) is_state over_now) (subst (λ s. EndIsTold p new s z ending) is_state tells) node
         (subst (λ (s : State). MayHold s.fixed (outcome_of p new n ending) payload) is_state may) in
         (led.0, led.1, led.2, (u, next.1, led.3), led.4)
 

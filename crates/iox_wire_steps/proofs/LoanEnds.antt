@@ -1,15 +1,11 @@
 -- As a loan ends, its slot may be taken to hold that loan: nobody names it yet.
-use Rattle.std.proofs.Common.{◌≡◌, ℕ, ◌+◌, Bool, true, false, if◌then◌else◌, ◌==◌, ◌&&◌, List, Some, None, refl, ap, sym, subst, ◌∙◌, eq-eqb, eqb-true, true≢false}
-use Rattle.iox_model.specs.declared.way.Way.{Way}
+use Rattle.std.proofs.Common.{◌≡◌, ℕ, Bool, true, false, if◌then◌else◌, ◌==◌, ◌&&◌, List, Some, None, refl, ap, sym, subst, ◌∙◌, eq-eqb, eqb-true, true≢false}
 use Rattle.iox_model.specs.Joins.{not_living}
 use Rattle.iox_model.specs.Maps.{put_at}
 use Rattle.iox_model.specs.Messages.{Message}
-use Rattle.iox_model.specs.Peers.{borrow_limit_on, buffer_on}
 use Rattle.iox_model.specs.Weaves.{Ends, IsBeat, World, over}
 use Rattle.iox_model.specs.WholeCalls.{MayHold}
-use Rattle.iox_laws.proofs.WeaveLaws.MapLemmas.{eqb-refl}
 use Rattle.iox_laws.proofs.WeaveLaws.WholeLemmas.{split}
-use Rattle.iox_word_map.specs.WordMaps.{IsWay, ReturningQueue}
 use Rattle.iox_wire_words.specs.Fits.{WireContents}
 use Rattle.iox_wire_moments.specs.MomentsOf.{Pools}
 use Rattle.iox_wire_locals.specs.declared.local.Ending.{Ending}
@@ -20,12 +16,9 @@ use Rattle.iox_wire_locals.specs.declared.table.NewLoan.{NewLoan}
 use Rattle.iox_wire_locals.specs.Doings.{outcome_of}
 use Rattle.iox_wire_locals.specs.NewLoans.{message_in}
 use Rattle.iox_wire_locals.specs.Settlements.{reply_of}
-use Rattle.iox_wire_locals.specs.Steps.{closed, ending_at}
+use Rattle.iox_wire_locals.specs.Steps.{closed}
 use Rattle.iox_wire_locals.specs.Tables.{Setting}
-use Rattle.iox_wire_laws.specs.WireKeeping.Shows.{ShowsWorld}
 use Rattle.iox_wire_laws.specs.WireKeeping.UsedSlots.{CallHolds}
-use Rattle.iox_wire_laws.specs.WireRegions.OwnedBegins.{LayoutFits}
-use Rattle.iox_wire_laws.specs.WireHolding.FarSlots.{QueuesHaveSlots}
 use Rattle.iox_wire_laws.specs.WireHolding.Holding.{held_with}
 use Rattle.iox_wire_laws.specs.WireHolding.Named.{IsUnnamed, place_names}
 use Rattle.iox_wire_laws.specs.WireHolding.SlotsKnown.{IsPortOfSeat, NamesStand, PlaceStands}
@@ -34,12 +27,12 @@ use Rattle.iox_wire_laws.proofs.WireHolding.UnnamedSlots.{unnamed_slots_may_chan
 use Rattle.iox_wire_laws.proofs.WireHolding.UnsentSlots.{new_loans_are_unnamed}
 use Rattle.iox_wire_stands.specs.Following.{message_at}
 use Rattle.iox_wire_stands.specs.Nodes.{NodeStands}
-use Rattle.iox_wire_stands.specs.Stands.{AreNumbered, OwnersAre}
+use Rattle.iox_wire_stands.specs.Stands.{AreNumbered}
 use Rattle.iox_wire_stands.specs.StepLaws.{TakenStays}
 use Rattle.iox_wire_stands.proofs.OtherSlots.{other_slots_may_change}
 use Rattle.iox_wire_stands.proofs.OthersHold.{named_taken}
 use Rattle.iox_wire_stands.proofs.StepsAround.{Around, Whole}
-use Rattle.iox_wire_steps.specs.Over.{EndIsTold, IsOver}
+use Rattle.iox_wire_steps.specs.Over.{EndIsTold, CallIsOver}
 use Rattle.iox_wire_steps.proofs.Added as added
 use Rattle.iox_wire_steps.proofs.EndsWhole.{HoldsLoan, ends_there, ends_whole}
 use Rattle.iox_wire_steps.proofs.Homes as homes
@@ -58,7 +51,7 @@ module _ (p : Setting) (held : Pools) (word : ℕ → ℕ) (c : WireContents) (s
       IsBeat w (Ends x.node (reply_of p x ending) payload) (over w x.node payload (outcome_of p held x.node ending))
       × ((new : Pools) × Whole p new word c (put_at seats n (closed p x (Some ending))) (over w x.node payload (outcome_of p held x.node ending)))
 
-  ended_with : (ending : Ending) (payload : List ℕ) → IsOver p held w.state x ending → EndIsTold p held w.state x ending → HoldsLoan p held ending
+  ended_with : (ending : Ending) (payload : List ℕ) → CallIsOver p held w.state x ending → EndIsTold p held w.state x ending → HoldsLoan p held ending
       → MayHold w.state.fixed (outcome_of p held x.node ending) payload → Ended ending payload
   ended_with ending payload ends told loan may =
       let led = ends_whole p held word c seats w n ending payload numbered around.shows around.layout around.owners around.rooms around.queues around.nodes living
@@ -67,7 +60,7 @@ module _ (p : Setting) (held : Pools) (word : ℕ → ℕ) (c : WireContents) (s
 
   -- ---- a loan
 
-  module _ (o : NewLoan) (slot : ℕ) (payload : List ℕ) (ends : IsOver p held w.state x (endings.Lends o slot))
+  module _ (o : NewLoan) (slot : ℕ) (payload : List ℕ) (ends : CallIsOver p held w.state x (endings.Lends o slot))
       (may : MayHold w.state.fixed (outcome_of p held x.node (endings.Lends o slot)) payload) where
     abbrev lent : Pools
     lent = held_with held o.port slot (message_in p o)
@@ -135,7 +128,7 @@ module _ (p : Setting) (held : Pools) (word : ℕ → ℕ) (c : WireContents) (s
       nodes = other;
     }
 
-    over_lent : IsOver p lent w.state x (endings.Lends o slot)
+    over_lent : CallIsOver p lent w.state x (endings.Lends o slot)
     over_lent = record {
       at_end = ends.at_end;
       last = ends.last;
@@ -165,7 +158,7 @@ module _ (p : Setting) (held : Pools) (word : ℕ → ℕ) (c : WireContents) (s
 
   -- ---- any end
 
-  pub ends_led : (ending : Ending) (payload : List ℕ) → IsOver p held w.state x ending → EndIsTold p held w.state x ending
+  pub ends_led : (ending : Ending) (payload : List ℕ) → CallIsOver p held w.state x ending → EndIsTold p held w.state x ending
       → MayHold w.state.fixed (outcome_of p held x.node ending) payload → Ended ending payload
   ends_led (endings.Lends o slot) payload ends told may = loan_ended o slot payload ends may
   ends_led ending payload ends told may = ended_with ending payload ends told tt may

@@ -1,14 +1,14 @@
 -- Own messages of handles are apart: each end of a call leaves them so.
 use Rattle.std.specs.Prelude.{◌⊎◌, ◌<◌, ◌≤◌, ◌++◌, map}
 use Rattle.std.proofs.Common.{◌≡◌, ℕ, ◌+◌, Bool, true, false, if◌then◌else◌, ◌==◌, List, [], ◌∷◌, refl, ap, sym, subst, ◌∙◌, inl, inr, arith, eqb-true, true≢false}
-use Rattle.iox_model.specs.declared.kind.Kind.TheVariants.{PendingResponse, ActiveRequest, Response}
+use Rattle.iox_model.specs.declared.kind.Kind.TheVariants.{ActiveRequest, Response}
 use Rattle.iox_model.specs.Counts.{holding, sent_handle}
 use Rattle.iox_model.specs.Doings.{Outcome, Tells, Loans, Fills, Sends, FailsToSend, Receives, Drops, DropsPort, Forgets}
 use Rattle.iox_model.specs.Ends.{settled}
 use Rattle.iox_model.specs.Handles.{is_own, is_received, is_request_loan}
 use Rattle.iox_model.specs.Maps.{has_number, put_at}
 use Rattle.iox_model.specs.Settings.{is_client}
-use Rattle.iox_model.specs.States.{Fixed, Handle, State}
+use Rattle.iox_model.specs.States.{Handle, State}
 use Rattle.iox_model.specs.Weaves.{Beat, Begins, Dies, Ends, IsBeat, IsWeave, Makes, World, at_work}
 use Rattle.iox_model.specs.WireCalls.{opened}
 use Rattle.iox_laws.specs.MessageLaws.Lists.{IsOneOf}
@@ -19,9 +19,9 @@ use Rattle.iox_laws.proofs.WeaveLaws.WholeLemmas.{moved-fixed, put_at-here}
 use Rattle.iox_laws.proofs.WeaveLedger.HandlesKept.{below-less, more-loans, with-among, without-number}
 use Rattle.iox_laws.proofs.WeaveLedger.Lists.{IsAmong, NoRepeats, among-last}
 use Rattle.iox_laws.proofs.WeaveLedger.Moves.{ends-fits}
-use Rattle.iox_laws.proofs.WeaveLedger.Senders.{FitsHandles, FitsOutcome}
+use Rattle.iox_laws.proofs.WeaveLedger.Senders.{FitsOutcome}
 use Rattle.iox_laws.proofs.WeaveLedger.Settling.{settled-else, settled-here}
-use Rattle.iox_laws.proofs.WeaveLedger.Views.{View, after_call, counted, gives_one, less, lends_one, plus, swapped, taken_handle, takes_one, view}
+use Rattle.iox_laws.proofs.WeaveLedger.Views.{View, after_call, counted, less, lends_one, plus, swapped, taken_handle, takes_one, view}
 use Rattle.iox_laws.proofs.WeaveLedger.Worlds.{SoundWorld, beat-fits, doing-is, opened-fits}
 use Rattle.iox_laws.proofs.WeavePools.Holds.{own-loan}
 use Rattle.iox_laws.proofs.WeavePools.HoldsKept.{loans-is}

@@ -44,7 +44,7 @@ use Rattle.iox_wire_stands.specs.Nodes.{NodeStands}
 use Rattle.iox_wire_stands.proofs.EndCounts.{ends_keep_counts}
 use Rattle.iox_wire_stands.proofs.EndNumbers.{ends_keep_numbers}
 use Rattle.iox_wire_stands.proofs.EndsKept.{ends_keep_desks, ends_keep_names, ends_keep_pools}
-use Rattle.iox_wire_steps.specs.Over.{EndIsTold, EndsWith, IsDropped, IsOver, state_ended}
+use Rattle.iox_wire_steps.specs.Over.{EndIsTold, EndsWith, IsDropped, CallIsOver, state_ended}
 use Rattle.iox_wire_steps.proofs.Added as added
 use Rattle.iox_wire_steps.proofs.EndLoans.{so_many}
 use Rattle.iox_wire_steps.proofs.EndStates.{Forgot, ended_forgot, states_stay}
@@ -60,7 +60,7 @@ module _ (p : Setting) (held : Pools) (word : ℕ → ℕ) (c : WireContents) (s
     (shows : ShowsWorld p held word c seats w) (living : not_living w.state n ≡ None) (fits : LayoutFits p w.state.fixed)
     (owners : (port : ℕ) → p.layout.owner port ≡ node_of_port w.state.fixed port)
     (numbered : (port : ℕ) → has_number port p.layout.sizes.ports ≡ true → (p.port port).number ≡ port)
-    (over : IsOver p held w.state (seats n) ending) where
+    (over : CallIsOver p held w.state (seats n) ending) where
   abbrev x : Seat
   x = seats n
 

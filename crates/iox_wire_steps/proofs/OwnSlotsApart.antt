@@ -1,11 +1,9 @@
 -- The slots of a port's own handles differ, and a new loan has another one.
-use Rattle.std.specs.Prelude.{◌⊎◌, ◌<◌, filter, map}
+use Rattle.std.specs.Prelude.{◌<◌, filter, map}
 use Rattle.std.proofs.Common.{◌≡◌, ℕ, Bool, true, false, ◌==◌, ◌&&◌, List, [], ◌∷◌, Some, None, refl, ap, sym, subst, ◌∙◌, inl, inr, arith, eqb-true, true≢false}
 use Rattle.iox_model.specs.Handles.{is_own, is_received}
 use Rattle.iox_model.specs.Joins.{not_living}
 use Rattle.iox_model.specs.Maps.{AreDistinct, has_number}
-use Rattle.iox_model.specs.Messages.{Message}
-use Rattle.iox_model.specs.States.{Handle}
 use Rattle.iox_model.specs.Weaves.{World}
 use Rattle.iox_laws.proofs.WeaveLaws.WholeLemmas.{split}
 use Rattle.iox_laws.proofs.WeaveLedger.Lists.{IsAmong, NoRepeats, among-map, distinct-no_repeats, filter-among, find-own, map-among, no_repeats-distinct, no_repeats-map_filter, number-among}
@@ -17,7 +15,6 @@ use Rattle.iox_wire_locals.specs.declared.local.Ending.TheVariants as endings
 use Rattle.iox_wire_locals.specs.declared.seat.Seat.{Seat}
 use Rattle.iox_wire_locals.specs.declared.table.Entry.{Entry}
 use Rattle.iox_wire_locals.specs.declared.table.NewLoan.{NewLoan}
-use Rattle.iox_wire_locals.specs.NewLoans.{message_in}
 use Rattle.iox_wire_locals.specs.Steps.{ending_at}
 use Rattle.iox_wire_locals.specs.Tables.{Setting, handle_of}
 use Rattle.iox_wire_laws.specs.WireKeeping.Shows.{ShowsWorld}

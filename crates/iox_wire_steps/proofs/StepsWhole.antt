@@ -40,7 +40,7 @@ use Rattle.iox_wire_stands.proofs.Follows.{accesses_follow}
 use Rattle.iox_wire_stands.proofs.Runs.{last_empty}
 use Rattle.iox_wire_stands.proofs.StepsAround.{Whole}
 use Rattle.iox_wire_stands.proofs.StepsKept.{leaves_nothing, shown_same}
-use Rattle.iox_wire_steps.specs.WholeSteps.{GoesOnWith, StepIsTold, WholeStepsKeep, answered, player_next, reply_beats, step_beats}
+use Rattle.iox_wire_steps.specs.WholeSteps.{GoesOnWith, StepIsTold, WholeStepsKeep, said_with, player_next, reply_beats, step_beats}
 use Rattle.iox_wire_steps.proofs.EndsStand.{ended_leaves}
 use Rattle.iox_wire_steps.proofs.Homes as homes
 use Rattle.iox_wire_steps.proofs.LastSteps.{LedTo}
@@ -63,7 +63,7 @@ abbrev nothing : List Said
 nothing = []
 
 -- what is said in a step
-reply_said : (n k : ℕ) (payload : List ℕ) (reply : Option Reply) → history k (reply_beats n payload reply) ≡ (if n == k then answered reply else [])
+reply_said : (n k : ℕ) (payload : List ℕ) (reply : Option Reply) → history k (reply_beats n payload reply) ≡ (if n == k then said_with reply else [])
 reply_said n k payload None = by_node (n == k)
   where
     by_node : (b : Bool) → nothing ≡ (if b then nothing else nothing)
@@ -71,12 +71,12 @@ reply_said n k payload None = by_node (n == k)
     by_node false = refl
 reply_said n k payload (Some reply) = last_empty (said_in k (weaves.Ends n reply payload)) ∙ by_node (n == k)
   where
-    by_node : (b : Bool) → (if b then Answered reply ∷ [] else []) ≡ (if b then answered (Some reply) else [])
+    by_node : (b : Bool) → (if b then Answered reply ∷ [] else []) ≡ (if b then said_with (Some reply) else [])
     by_node true = refl
     by_node false = refl
 
 said_then : (n k : ℕ) (payload : List ℕ) (m : Option Moment) (reply : Option Reply)
-    → history k (step_beats n payload m reply) ≡ (if n == k then answered reply else [])
+    → history k (step_beats n payload m reply) ≡ (if n == k then said_with reply else [])
 said_then n k payload None reply = reply_said n k payload reply
 said_then n k payload (Some m) reply = reply_said n k payload reply
 
@@ -291,15 +291,15 @@ module _ (p : Setting) (words words' : List ℕ) (players : ℕ → Player) (r :
     abbrev beats : List Beat
     beats = step_beats n payload (moment_at p stands.held x.local (seen_at x)) (tells p x (seen_at x))
 
-    said : (k : ℕ) → (players k).said ++ (if n == k then answered (tells p x (seen_at x)) else []) ≡ (after_players k).said
+    said : (k : ℕ) → (players k).said ++ (if n == k then said_with (tells p x (seen_at x)) else []) ≡ (after_players k).said
     said k = by_node (k == n) refl
       where
         by_node : (b : Bool) → (k == n) ≡ b
-            → (players k).said ++ (if n == k then answered (tells p x (seen_at x)) else []) ≡ (if b then player else players k).said
+            → (players k).said ++ (if n == k then said_with (tells p x (seen_at x)) else []) ≡ (if b then player else players k).said
         by_node true is =
-            subst (λ i. (players i).said ++ (if n == i then answered (tells p x (seen_at x)) else []) ≡ (players n).said ++ answered (tells p x (seen_at x))) (sym (eqb-true k n is))
-            (ap (λ b. (players n).said ++ (if b then answered (tells p x (seen_at x)) else [])) (eqb-refl n))
-        by_node false is = ap (λ b. (players k).said ++ (if b then answered (tells p x (seen_at x)) else [])) (eqb-flip k n is) ∙ last_empty (players k).said
+            subst (λ i. (players i).said ++ (if n == i then said_with (tells p x (seen_at x)) else []) ≡ (players n).said ++ said_with (tells p x (seen_at x))) (sym (eqb-true k n is))
+            (ap (λ b. (players n).said ++ (if b then said_with (tells p x (seen_at x)) else [])) (eqb-refl n))
+        by_node false is = ap (λ b. (players k).said ++ (if b then said_with (tells p x (seen_at x)) else [])) (eqb-flip k n is) ∙ last_empty (players k).said
 
     finish : length words' ≡ length words → Result
         → (after : Run) × GoesOnWith r (step_beats n payload (moment_at p stands.held x.local (seen_at x)) (tells p x (seen_at x))) after

@@ -1,5 +1,5 @@
--- In reading order: a call that is over but for its end; what the end keeps of its own node; and what it
--- keeps of all that stands.
+-- In reading order: own messages of handles; a call that is over but for its end, and what the end
+-- keeps of its node; what it keeps of all that stands; slots that no pool has; and whole steps.
 pub mod OwnMessages
 pub mod Over
 pub mod OverLaws

@@ -47,7 +47,7 @@ IsDropped ending e = ⊥
 
 -- What is so of a living node whose call has no access left: all that is so of a node, but that
 -- what it releases may be still in its pool, or be put aside.
-pub record IsOver (p : Setting) (held : Pools) (s : State) (x : Seat) (ending : Ending)
+pub record CallIsOver (p : Setting) (held : Pools) (s : State) (x : Seat) (ending : Ending)
     : Type 0 where
   pub at_end : ending_at x.local ≡ Some ending
   -- of its last delivery nothing is left to evict
@@ -61,7 +61,8 @@ pub record IsOver (p : Setting) (held : Pools) (s : State) (x : Seat) (ending : 
   pub uses : AllUsesAreCounted p x
   pub loans : (port : ℕ) → IsPortOfSeat p x port → s.fixed.loans port ≡ loans_at x port
   pub borrowed : BorrowedFits p x s.fixed
-  pub counted : (y : Way) → IsWay p.layout.sizes y → p.layout.owner y.receiver ≡ x.node → HasCount x y
+  pub counted : (y : Way) → IsWay p.layout.sizes y → p.layout.owner y.receiver ≡ x.node
+      → HasCount x y
   pub numbers : AreDistinct (map (λ e. e.number) x.table)
   pub released : (e : Entry) → HasEntry x e → IsReleased s.fixed x.node e
   pub states : (e : Entry) → HasEntry x e → same_kind e.kind PendingResponse ≡ true

@@ -23,7 +23,7 @@ use Rattle.iox_wire_laws.specs.WireHolding.SlotsKnown.{EntryFits, HasEntry, IsPo
 use Rattle.iox_wire_stands.specs.EndLaws.{IsAdded, IsSentLoan}
 use Rattle.iox_wire_stands.specs.Nodes.{NodeStands}
 use Rattle.iox_wire_stands.specs.Stands.{AreNumbered, OwnersAre}
-use Rattle.iox_wire_steps.specs.Over.{EndIsTold, IsOver, state_ended}
+use Rattle.iox_wire_steps.specs.Over.{EndIsTold, CallIsOver, state_ended}
 
 -- ---- from a standing node
 
@@ -31,7 +31,7 @@ use Rattle.iox_wire_steps.specs.Over.{EndIsTold, IsOver, state_ended}
 abbrev pub StandingNodesEnd : Type 0
 StandingNodesEnd =
     (p : Setting) (held : Pools) (s : State) (x : Seat) (ending : Ending)
-    → ending_at x.local ≡ Some ending → NodeStands p held s x → IsOver p held s x ending
+    → ending_at x.local ≡ Some ending → NodeStands p held s x → CallIsOver p held s x ending
 
 -- ---- each end
 
@@ -42,9 +42,10 @@ AtEachEnd P =
     (n : ℕ) (ending : Ending)
     → ShowsWorld p held word c seats w → not_living w.state n ≡ None
     → LayoutFits p w.state.fixed → OwnersAre p w.state.fixed → AreNumbered p
-    → IsOver p held w.state (seats n) ending → P p held w.state (seats n) ending
+    → CallIsOver p held w.state (seats n) ending → P p held w.state (seats n) ending
 
--- The entry that the end adds fits, and is in its pool. Its number is new, or that of the sent loan.
+-- The entry that the end adds fits, and is in its pool. Its number is new, or that of the sent
+-- loan.
 abbrev pub AddedEntriesFit : Type 0
 AddedEntriesFit = AtEachEnd (λ p held s x ending.
     (e : Entry) → IsAdded p x ending e

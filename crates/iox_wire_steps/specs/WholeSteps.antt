@@ -1,4 +1,5 @@
--- One law over the whole step of a node: its access, and the end of its call where that was the last one.
+-- One law over the whole step of a node: its access, and the end of its call where that was the last
+-- one.
 use Rattle.std.specs.Prelude.{◌≡◌, ℕ, ◌++◌, List, [], ◌∷◌, length, Option, Some, None}
 use Rattle.iox_model.specs.Commands.{Reply}
 use Rattle.iox_model.specs.Joins.{not_living}
@@ -51,21 +52,21 @@ pub record GoesOnWith (r : Run) (bs : List Beat) (next : Run) : Type 0 where
 -- ---- a step
 
 -- what the node says then
-abbrev pub answered : Option Reply → List Said
-answered None = []
-answered (Some reply) = Answered reply ∷ []
+abbrev pub said_with : Option Reply → List Said
+said_with None = []
+said_with (Some reply) = Answered reply ∷ []
 
 -- the node after its step, which found this
 abbrev pub player_next : Setting → Player → ℕ → Player
 player_next p player seen = record {
   seat = next p player.seat seen;
-  said = player.said ++ answered (tells p player.seat seen);
+  said = player.said ++ said_with (tells p player.seat seen);
 }
 
 -- What is asked of a step of the node as it is shown: its access is told what is so, and so is the
 -- end of its call, with a payload that a new loan may have. (No step is told so at rest.)
-pub record StepIsTold (p : Setting) (held : Pools) (s : State) (x : Seat) (seen : ℕ) (payload : List ℕ)
-    : Type 0 where
+pub record StepIsTold (p : Setting) (held : Pools) (s : State) (x : Seat) (seen : ℕ)
+    (payload : List ℕ) : Type 0 where
   pub access : ending_at x.local ≡ None → IsTold p held s x seen
   pub ended : (ending : Ending)
       → let y = advance p (accessed x) x.local seen in
@@ -85,5 +86,6 @@ WholeStepsKeep =
     StepIsTold p stands.held r.last.state (shown p x) seen payload
     → IsMade access (word_of words) (word_of words') → length words' ≡ length words
     → (after : Run)
-    × GoesOnWith r (step_beats n payload (moment_at p stands.held x.local seen) (tells p x seen)) after
+    × GoesOnWith r
+    (step_beats n payload (moment_at p stands.held x.local seen) (tells p x seen)) after
     × Stands p words' (put_at players n (player_next p (players n) seen)) after
