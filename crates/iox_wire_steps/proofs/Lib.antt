@@ -26,3 +26,4 @@ pub mod AsideNodes
 pub mod PutsAside
 pub mod SeatSteps
 pub mod StepsWhole
+pub mod Needed

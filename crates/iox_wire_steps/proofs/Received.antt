@@ -9,12 +9,13 @@ use Rattle.iox_model.specs.declared.way.Way.{Way}
 use Rattle.iox_model.specs.Handles.{is_received, same_kind}
 use Rattle.iox_model.specs.Joins.{not_living}
 use Rattle.iox_model.specs.Maps.{has_number}
-use Rattle.iox_model.specs.Peers.{is_connected_port, node_of_port, ports_of_role, role_at}
+use Rattle.iox_model.specs.Peers.{is_connected_port, lanes_of, node_of_port, ports_of_role, role_at}
 use Rattle.iox_model.specs.Settings.{is_client, same_role}
 use Rattle.iox_model.specs.States.{Fixed, Port}
 use Rattle.iox_model.specs.Weaves.{World}
 use Rattle.iox_laws.proofs.WeaveLedger.Lists.{IsAmong, among-filter, among-map, among-number, any-among, distinct-no_repeats, find-own}
 use Rattle.iox_laws.proofs.WeaveLedger.Senders as ledger
+use Rattle.iox_laws.proofs.WeaveLedger.Truths.{false_if}
 use Rattle.iox_laws.proofs.WeaveLedger.Views.{view}
 use Rattle.iox_laws.proofs.WeaveWorlds.Sound as sound
 use Rattle.iox_word_map.specs.WordMaps.{IsResponseWay, IsWay}
@@ -25,7 +26,7 @@ use Rattle.iox_wire_locals.specs.declared.local.Visit.{Visit}
 use Rattle.iox_wire_locals.specs.declared.seat.Seat.{Seat}
 use Rattle.iox_wire_locals.specs.declared.table.Entry.{Entry}
 use Rattle.iox_wire_locals.specs.Doings.{outcome_of}
-use Rattle.iox_wire_locals.specs.NewLoans.{received_entry}
+use Rattle.iox_wire_locals.specs.NewLoans.{lane_in, received_entry}
 use Rattle.iox_wire_locals.specs.Steps.{ending_at}
 use Rattle.iox_wire_locals.specs.Tables.{Setting, way_in}
 use Rattle.iox_wire_laws.specs.WireKeeping.Shows.{ShowsWorld}
@@ -205,6 +206,18 @@ module _ (p : Setting) (held : Pools) (word : ℕ → ℕ) (c : WireContents) (s
         );
         response = λ same. absurd (true≢false (sym same ∙ ap (λ k. same_kind k Response) kind_too));
       }
+
+  -- such a header tells a request state of the wire
+  pub asks_on : is_client v.role ≡ false → lane_in v y header < lanes_of w.state.fixed y.sender → AsksOn p v y header
+  asks_on server low = (
+    false_if (has_number y.receiver p.layout.sizes.clients) (λ has.
+        no_client p w.state.fixed fits v.port (role ∙ server)
+        (subst (λ k. has_number k (ports_of_role w.state.fixed Client) ≡ true) receiver (ap (has_number y.receiver) (sym fits.clients) ∙ has))),
+    subst (λ k. has_number k p.layout.sizes.servers ≡ true) (sym receiver)
+        (ap (has_number v.port) fits.servers ∙ port_is_server p w.state.fixed fits v.port connected (role ∙ server)),
+    (request server).0,
+    subst (λ k. lane_in v y header < k) (sym (fits.lanes y.sender (sender_is server))) low,
+  )
 
   -- both
 

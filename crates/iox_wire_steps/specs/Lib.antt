@@ -3,6 +3,7 @@
 pub mod OwnMessages
 pub mod Over
 pub mod OverLaws
+pub mod Needed
 pub mod WholeEnds
 pub mod FarMessages
 pub mod WholeSteps

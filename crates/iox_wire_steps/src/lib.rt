@@ -6,6 +6,7 @@ ghost use Rattle.iox_wire_steps.specs.OverLaws.{AddedEntriesFit, EndsKeepLoans, 
 ghost use Rattle.iox_wire_steps.specs.OverLaws.{EndsKeepReleased, EndsKeepSlots, EndsKeepStates};
 ghost use Rattle.iox_wire_steps.specs.OverLaws.{StandingNodesEnd};
 ghost use Rattle.iox_wire_steps.specs.FarMessages.{FarSlotsMayChange};
+ghost use Rattle.iox_wire_steps.specs.Needed.{WhatIsToldIsNeeded};
 ghost use Rattle.iox_wire_steps.specs.OwnMessages.{OwnMessagesAreApart, OwnMessagesAreLent};
 ghost use Rattle.iox_wire_steps.specs.WholeEnds.{EndsKeep};
 ghost use Rattle.iox_wire_steps.specs.WholeSteps.{WholeStepsKeep};
@@ -42,6 +43,11 @@ pub fn ends_keep_handles()
 /// What is so of a node whose call is over is so of it after the end.
 pub fn ends_keep_nodes()
     ensures { EndsKeepNodes }
+{}
+
+/// What the end of a call is told is needed: where the node stands after it, it was so.
+pub fn what_is_told_is_needed()
+    ensures { WhatIsToldIsNeeded }
 {}
 
 /// The end of a call leads from what stands to what stands.
