@@ -27,3 +27,4 @@ pub mod PutsAside
 pub mod SeatSteps
 pub mod StepsWhole
 pub mod Needed
+pub mod StateSteps

@@ -1,5 +1,6 @@
 -- In reading order: own messages of handles; a call that is over but for its end, and what the end
--- keeps of its node; what it keeps of all that stands; slots that no pool has; and whole steps.
+-- keeps of its node; that what it is told is needed; what it keeps of all that stands; slots that no
+-- pool has; whole steps; and steps at request states, which need not be told anything.
 pub mod OwnMessages
 pub mod Over
 pub mod OverLaws
@@ -7,3 +8,4 @@ pub mod Needed
 pub mod WholeEnds
 pub mod FarMessages
 pub mod WholeSteps
+pub mod StateSteps

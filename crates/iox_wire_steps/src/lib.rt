@@ -8,6 +8,7 @@ ghost use Rattle.iox_wire_steps.specs.OverLaws.{StandingNodesEnd};
 ghost use Rattle.iox_wire_steps.specs.FarMessages.{FarSlotsMayChange};
 ghost use Rattle.iox_wire_steps.specs.Needed.{WhatIsToldIsNeeded};
 ghost use Rattle.iox_wire_steps.specs.OwnMessages.{OwnMessagesAreApart, OwnMessagesAreLent};
+ghost use Rattle.iox_wire_steps.specs.StateSteps.{StateStepsKeep};
 ghost use Rattle.iox_wire_steps.specs.WholeEnds.{EndsKeep};
 ghost use Rattle.iox_wire_steps.specs.WholeSteps.{WholeStepsKeep};
 
@@ -64,4 +65,10 @@ pub fn far_slots_may_change()
 /// from what stands to what stands.
 pub fn whole_steps_keep()
     ensures { WholeStepsKeep }
+{}
+
+/// A step that closes, checks or hints at a request state leads from what stands to what stands,
+/// whatever it finds.
+pub fn state_steps_keep()
+    ensures { StateStepsKeep }
 {}
