@@ -28,3 +28,4 @@ pub mod SeatSteps
 pub mod StepsWhole
 pub mod Needed
 pub mod StateSteps
+pub mod ReturnSteps

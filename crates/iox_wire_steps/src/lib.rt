@@ -8,6 +8,7 @@ ghost use Rattle.iox_wire_steps.specs.OverLaws.{StandingNodesEnd};
 ghost use Rattle.iox_wire_steps.specs.FarMessages.{FarSlotsMayChange};
 ghost use Rattle.iox_wire_steps.specs.Needed.{WhatIsToldIsNeeded};
 ghost use Rattle.iox_wire_steps.specs.OwnMessages.{OwnMessagesAreApart, OwnMessagesAreLent};
+ghost use Rattle.iox_wire_steps.specs.ReturnSteps.{ReturnStepsKeep};
 ghost use Rattle.iox_wire_steps.specs.StateSteps.{StateStepsKeep};
 ghost use Rattle.iox_wire_steps.specs.WholeEnds.{EndsKeep};
 ghost use Rattle.iox_wire_steps.specs.WholeSteps.{WholeStepsKeep};
@@ -71,4 +72,10 @@ pub fn whole_steps_keep()
 /// whatever it finds.
 pub fn state_steps_keep()
     ensures { StateStepsKeep }
+{}
+
+/// A step of a release that gives back what was received leads from what stands to what stands,
+/// where its node did not forget the sender.
+pub fn return_steps_keep()
+    ensures { ReturnStepsKeep }
 {}

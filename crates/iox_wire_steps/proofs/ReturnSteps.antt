@@ -1,0 +1,169 @@
+-- A step that gives back what was received is told what it relies on: its queue has room.
+use Rattle.std.specs.Prelude.{◌<◌}
+use Rattle.std.proofs.Common.{◌≡◌, ℕ, Bool, true, false, if◌then◌else◌, List, Some, None, refl, ap, sym, subst, ◌∙◌, inl, inr}
+use Rattle.iox_model.specs.declared.kind.Kind.TheVariants.{ActiveRequest}
+use Rattle.iox_model.specs.declared.kind.Role.TheVariants.{Client, Server}
+use Rattle.iox_model.specs.Handles.{same_kind}
+use Rattle.iox_model.specs.Joins.{not_living}
+use Rattle.iox_model.specs.Maps.{has_number}
+use Rattle.iox_model.specs.Peers.{forgot_port}
+use Rattle.iox_model.specs.States.{State}
+use Rattle.iox_model.specs.WholeCalls.{MayHold}
+use Rattle.iox_laws.specs.WeaveBeats.LiveWays.{AreConnected, ComesTo}
+use Rattle.iox_laws.proofs.WeaveLaws.WholeLemmas.{some-is}
+use Rattle.iox_laws.proofs.WeaveLedger.Truths.{none-some}
+use Rattle.iox_steps.specs.Accesses.{seen_by}
+use Rattle.iox_steps.specs.Fits.{write_of}
+use Rattle.iox_steps.specs.Sites.{last_position}
+use Rattle.iox_steps.specs.declared.push.Push.{Push}
+use Rattle.iox_steps.specs.declared.side.Pushing.{Pushing}
+use Rattle.iox_steps.specs.declared.side.Pushing.TheVariants as pushing
+use Rattle.iox_steps.specs.declared.side.QueueEvent.{QueueEvent}
+use Rattle.iox_steps.specs.declared.side.QueueEvent.TheVariants.{Publish}
+use Rattle.iox_word_map.specs.WordMaps.{IsWay, ReturningQueue}
+use Rattle.iox_wire_words.specs.Programs.{program_access, site_of}
+use Rattle.iox_wire_moments.specs.MomentsOf.{Pools}
+use Rattle.iox_wire_locals.specs.declared.local.Ending.{Ending}
+use Rattle.iox_wire_locals.specs.declared.local.Ending.TheVariants as endings
+use Rattle.iox_wire_locals.specs.declared.local.Local.{Local}
+use Rattle.iox_wire_locals.specs.declared.local.Local.TheVariants.{Ends, ReceiveAsks, ReleaseLooks, ReleaseReturns, SendEnds}
+use Rattle.iox_wire_locals.specs.declared.seat.Seat.{Seat}
+use Rattle.iox_wire_locals.specs.declared.table.Entry.{Entry}
+use Rattle.iox_wire_locals.specs.Courses.{ended, placed}
+use Rattle.iox_wire_locals.specs.Doings.{outcome_of}
+use Rattle.iox_wire_locals.specs.Locals.{program_of}
+use Rattle.iox_wire_locals.specs.ReceiveFindings.{release_returned}
+use Rattle.iox_wire_locals.specs.StateMoments.{moment_at}
+use Rattle.iox_wire_locals.specs.StepLaws.{ReliesOn}
+use Rattle.iox_wire_locals.specs.Steps.{accessed, advance, ending_at}
+use Rattle.iox_wire_locals.specs.Tables.{Setting, way_in}
+use Rattle.iox_wire_laws.specs.WireShows.OwnedCalls.{ReceivesOn, TellsLane, WordsTell, state_after}
+use Rattle.iox_wire_laws.specs.WireOwners.SentStates.{OpensElsewhere}
+use Rattle.iox_wire_laws.specs.WireOwners.Pushes.{PushesInto}
+use Rattle.iox_wire_laws.proofs.WireOwners.PushesTold.{pushes_are_told}
+use Rattle.iox_wire_laws.specs.WireRegions.OwnedWords.{Owns}
+use Rattle.iox_wire_laws.proofs.WireRegions.OwnPorts.{connected}
+use Rattle.iox_wire_laws.proofs.WireRegions.OwnedPlaces.{owners_may_access}
+use Rattle.iox_wire_laws.specs.WireHolding.Holding.{held_after}
+use Rattle.iox_wire_stands.specs.Following.{LeavesNothing, message_at}
+use Rattle.iox_wire_stands.specs.FollowingLaws.{TakesNext}
+use Rattle.iox_wire_stands.specs.Nodes.{NodeStands}
+use Rattle.iox_wire_stands.specs.Runs.{Run}
+use Rattle.iox_wire_stands.specs.Stands.{Player, Stands, seats_of, word_of}
+use Rattle.iox_wire_stands.proofs.StepsKept.{shown_same}
+use Rattle.iox_wire_steps.specs.Over.{EndIsTold}
+use Rattle.iox_wire_steps.specs.ReturnSteps.{ReturnStepsKeep}
+use Rattle.iox_wire_steps.specs.WholeSteps.{StepIsTold}
+use Rattle.iox_wire_steps.proofs.StepsWhole.{whole_steps_keep}
+
+-- ---- where it leads
+
+-- it goes on, looks at the request state, or is over
+abbrev GoesBack : Local → Type 0
+GoesBack (Ends (endings.Drops e)) = Unit {0}
+GoesBack (ReleaseLooks e) = Unit {0}
+GoesBack (ReleaseReturns e place) = Unit {0}
+GoesBack local = ⊥
+
+given : (x : Seat) (e : Entry) (b : Bool) → GoesBack (if b then placed x (ReleaseLooks e) else ended x (endings.Drops e)).local
+given x e true = tt
+given x e false = tt
+
+goes_back : (x : Seat) (e : Entry) (place : Pushing) (event : QueueEvent) → GoesBack (release_returned x e place event).local
+goes_back x e place (Publish slot) = given x e (same_kind e.kind ActiveRequest)
+goes_back x e place event = tt
+
+no_lane : (held : Pools) (local : Local) → GoesBack local → TellsLane held local
+no_lane held (ReceiveAsks v w slot header left waiting) back = absurd back
+no_lane held local back = tt
+
+dropped_told : (p : Setting) (held : Pools) (s : State) (y : Seat) (node : ℕ) (payload : List ℕ) (ending : Ending) → GoesBack (Ends ending)
+    → EndIsTold p held s y ending × MayHold s.fixed (outcome_of p held node ending) payload
+dropped_told p held s y node payload (endings.Drops e) back = (tt, tt)
+dropped_told p held s y node payload ending back = absurd back
+
+end_told : (p : Setting) (held : Pools) (s : State) (y : Seat) (node : ℕ) (payload : List ℕ) (local : Local) (ending : Ending) → GoesBack local
+    → ending_at local ≡ Some ending → EndIsTold p held s y ending × MayHold s.fixed (outcome_of p held node ending) payload
+end_told p held s y node payload (Ends k) ending back is =
+    subst (λ j. EndIsTold p held s y j × MayHold s.fixed (outcome_of p held node j) payload) (some-is k ending is)
+    (dropped_told p held s y node payload k back)
+end_told p held s y node payload (SendEnds d last count) ending back is = absurd back
+end_told p held s y node payload local ending back is = none-some ending is
+
+-- ---- the law
+
+module _ (p : Setting) (words : List ℕ) (players : ℕ → Player) (r : Run) (n : ℕ) (payload : List ℕ) (stands : Stands p words players r) (e : Entry) (place : Push)
+    (living : not_living r.last.state n ≡ None) (at : (players n).seat.local ≡ ReleaseReturns e (pushing.Pushes place))
+    (known : forgot_port r.last.state.fixed n (way_in e).sender ≡ false)
+    (below : write_of (site_of p.layout (ReturningQueue (way_in e))) (word_of words) < last_position) where
+  abbrev x : Seat
+  x = (players n).seat
+
+  abbrev q : Seat
+  q = seats_of p players n
+
+  abbrev s : State
+  s = r.last.state
+
+  abbrev seen_at : Seat → ℕ
+  seen_at z = seen_by (program_access p.layout (program_of p z.local)) (word_of words)
+
+  mine : NodeStands p stands.held s q
+  mine = stands.nodes n living
+
+  here : q ≡ x
+  here = shown_same p x x.local (subst LeavesNothing (sym (ap message_at at)) tt)
+
+  at_q : q.local ≡ ReleaseReturns e (pushing.Pushes place)
+  at_q = ap (λ (z : Seat). z.local) here ∙ at
+
+  on : ReceivesOn p q.node s.fixed (way_in e)
+  on = (subst (Owns p q.node s.fixed s.request_state) at_q mine.owns.owns).0
+
+  linked : AreConnected s.fixed (way_in e)
+  linked = by_way on.way
+    where
+      by_way : IsWay p.layout.sizes (way_in e) → AreConnected s.fixed (way_in e)
+      by_way (inl way) = (
+        connected s.fixed Client (way_in e).sender (ap (has_number (way_in e).sender) (sym stands.layout.clients) ∙ way.0),
+        connected s.fixed Server (way_in e).receiver (ap (has_number (way_in e).receiver) (sym stands.layout.servers) ∙ way.1),
+      )
+      by_way (inr way) = (
+        connected s.fixed Server (way_in e).sender (ap (has_number (way_in e).sender) (sym stands.layout.servers) ∙ way.1),
+        connected s.fixed Client (way_in e).receiver (ap (has_number (way_in e).receiver) (sym stands.layout.clients) ∙ way.2),
+      )
+
+  comes : ComesTo s.fixed n (way_in e)
+  comes = (linked, sym (stands.owners (way_in e).receiver) ∙ on.mine ∙ stands.shows.node n, known)
+
+  words_tell : WordsTell p x.local (seen_at x)
+  words_tell =
+      subst (λ (z : Seat). WordsTell p z.local (seen_at z)) here
+      (pushes_are_told p stands.held (word_of words) stands.contents (seats_of p players) r.last n (ReturningQueue (way_in e)) stands.shows living
+      (owners_may_access p stands.held s q mine.owns.owns mine.tells).0 (into q.local at_q) (comes, stands.rooms (way_in e) on.way) below)
+    where
+      into : (local : Local) → local ≡ ReleaseReturns e (pushing.Pushes place) → PushesInto local (ReturningQueue (way_in e))
+      into local is = subst (λ l. PushesInto l (ReturningQueue (way_in e))) (sym is) refl
+
+  back : GoesBack (advance p (accessed x) x.local (seen_at x)).local
+  back = subst (λ l. GoesBack (advance p (accessed x) l (seen_at x)).local) (sym at) (goes_back (accessed x) e _ _)
+
+  step_told : StepIsTold p stands.held s x (seen_at x) payload
+  step_told = record {
+    access = λ going. record {
+      relies = subst (λ l. ReliesOn p (accessed x) s stands.held l (seen_at x)) (sym at) tt;
+      words = words_tell;
+      lane = no_lane (held_after p x (seen_at x) stands.held) (advance p (accessed x) x.local (seen_at x)).local back;
+      next = subst (λ l. TakesNext p stands.held s (message_at l) (advance p (accessed x) x.local (seen_at x)).local) (sym at) tt;
+      elsewhere = λ k has pending. subst (λ l. OpensElsewhere l k) (sym at) tt;
+    };
+    ended = λ ending is.
+        end_told p (held_after p x (seen_at x) stands.held) (state_after s (moment_at p stands.held x.local (seen_at x)))
+        (advance p (accessed x) x.local (seen_at x)) x.node payload (advance p (accessed x) x.local (seen_at x)).local ending back is;
+  }
+
+pub return_steps_keep : ReturnStepsKeep
+return_steps_keep p words words' players r n payload stands e place living at known below made len =
+    whole_steps_keep p words words' players r n payload stands living
+    (subst (λ z. StepIsTold p stands.held r.last.state z (seen_by (program_access p.layout (program_of p (players n).seat.local)) (word_of words)) payload) (sym (here p words players r n payload stands e place living at known below))
+    (step_told p words players r n payload stands e place living at known below)) made len
