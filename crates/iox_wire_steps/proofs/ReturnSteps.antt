@@ -1,6 +1,6 @@
 -- A step that gives back what was received is told what it relies on: its queue has room.
 use Rattle.std.specs.Prelude.{◌<◌}
-use Rattle.std.proofs.Common.{◌≡◌, ℕ, Bool, true, false, if◌then◌else◌, List, Some, None, refl, ap, sym, subst, ◌∙◌, inl, inr}
+use Rattle.std.proofs.Common.{◌≡◌, ℕ, Bool, true, false, if◌then◌else◌, List, None, refl, ap, sym, subst, ◌∙◌, inl, inr}
 use Rattle.iox_model.specs.declared.kind.Kind.TheVariants.{ActiveRequest}
 use Rattle.iox_model.specs.declared.kind.Role.TheVariants.{Client, Server}
 use Rattle.iox_model.specs.Handles.{same_kind}
@@ -8,10 +8,7 @@ use Rattle.iox_model.specs.Joins.{not_living}
 use Rattle.iox_model.specs.Maps.{has_number}
 use Rattle.iox_model.specs.Peers.{forgot_port}
 use Rattle.iox_model.specs.States.{State}
-use Rattle.iox_model.specs.WholeCalls.{MayHold}
 use Rattle.iox_laws.specs.WeaveBeats.LiveWays.{AreConnected, ComesTo}
-use Rattle.iox_laws.proofs.WeaveLaws.WholeLemmas.{some-is}
-use Rattle.iox_laws.proofs.WeaveLedger.Truths.{none-some}
 use Rattle.iox_steps.specs.Accesses.{seen_by}
 use Rattle.iox_steps.specs.Fits.{write_of}
 use Rattle.iox_steps.specs.Sites.{last_position}
@@ -22,22 +19,19 @@ use Rattle.iox_steps.specs.declared.side.QueueEvent.{QueueEvent}
 use Rattle.iox_steps.specs.declared.side.QueueEvent.TheVariants.{Publish}
 use Rattle.iox_word_map.specs.WordMaps.{IsWay, ReturningQueue}
 use Rattle.iox_wire_words.specs.Programs.{program_access, site_of}
-use Rattle.iox_wire_moments.specs.MomentsOf.{Pools}
-use Rattle.iox_wire_locals.specs.declared.local.Ending.{Ending}
 use Rattle.iox_wire_locals.specs.declared.local.Ending.TheVariants as endings
 use Rattle.iox_wire_locals.specs.declared.local.Local.{Local}
-use Rattle.iox_wire_locals.specs.declared.local.Local.TheVariants.{Ends, ReceiveAsks, ReleaseLooks, ReleaseReturns, SendEnds}
+use Rattle.iox_wire_locals.specs.declared.local.Local.TheVariants.{ReleaseLooks, ReleaseReturns}
 use Rattle.iox_wire_locals.specs.declared.seat.Seat.{Seat}
 use Rattle.iox_wire_locals.specs.declared.table.Entry.{Entry}
 use Rattle.iox_wire_locals.specs.Courses.{ended, placed}
-use Rattle.iox_wire_locals.specs.Doings.{outcome_of}
 use Rattle.iox_wire_locals.specs.Locals.{program_of}
 use Rattle.iox_wire_locals.specs.ReceiveFindings.{release_returned}
 use Rattle.iox_wire_locals.specs.StateMoments.{moment_at}
 use Rattle.iox_wire_locals.specs.StepLaws.{ReliesOn}
-use Rattle.iox_wire_locals.specs.Steps.{accessed, advance, ending_at}
+use Rattle.iox_wire_locals.specs.Steps.{accessed, advance}
 use Rattle.iox_wire_locals.specs.Tables.{Setting, way_in}
-use Rattle.iox_wire_laws.specs.WireShows.OwnedCalls.{ReceivesOn, TellsLane, WordsTell, state_after}
+use Rattle.iox_wire_laws.specs.WireShows.OwnedCalls.{ReceivesOn, WordsTell, state_after}
 use Rattle.iox_wire_laws.specs.WireOwners.SentStates.{OpensElsewhere}
 use Rattle.iox_wire_laws.specs.WireOwners.Pushes.{PushesInto}
 use Rattle.iox_wire_laws.proofs.WireOwners.PushesTold.{pushes_are_told}
@@ -51,44 +45,21 @@ use Rattle.iox_wire_stands.specs.Nodes.{NodeStands}
 use Rattle.iox_wire_stands.specs.Runs.{Run}
 use Rattle.iox_wire_stands.specs.Stands.{Player, Stands, seats_of, word_of}
 use Rattle.iox_wire_stands.proofs.StepsKept.{shown_same}
-use Rattle.iox_wire_steps.specs.Over.{EndIsTold}
 use Rattle.iox_wire_steps.specs.ReturnSteps.{ReturnStepsKeep}
 use Rattle.iox_wire_steps.specs.WholeSteps.{StepIsTold}
+use Rattle.iox_wire_steps.proofs.StateSteps.{Follows, end_told, no_lane}
 use Rattle.iox_wire_steps.proofs.StepsWhole.{whole_steps_keep}
 
 -- ---- where it leads
 
 -- it goes on, looks at the request state, or is over
-abbrev GoesBack : Local → Type 0
-GoesBack (Ends (endings.Drops e)) = Unit {0}
-GoesBack (ReleaseLooks e) = Unit {0}
-GoesBack (ReleaseReturns e place) = Unit {0}
-GoesBack local = ⊥
-
-given : (x : Seat) (e : Entry) (b : Bool) → GoesBack (if b then placed x (ReleaseLooks e) else ended x (endings.Drops e)).local
+given : (x : Seat) (e : Entry) (b : Bool) → Follows (if b then placed x (ReleaseLooks e) else ended x (endings.Drops e)).local
 given x e true = tt
 given x e false = tt
 
-goes_back : (x : Seat) (e : Entry) (place : Pushing) (event : QueueEvent) → GoesBack (release_returned x e place event).local
+goes_back : (x : Seat) (e : Entry) (place : Pushing) (event : QueueEvent) → Follows (release_returned x e place event).local
 goes_back x e place (Publish slot) = given x e (same_kind e.kind ActiveRequest)
 goes_back x e place event = tt
-
-no_lane : (held : Pools) (local : Local) → GoesBack local → TellsLane held local
-no_lane held (ReceiveAsks v w slot header left waiting) back = absurd back
-no_lane held local back = tt
-
-dropped_told : (p : Setting) (held : Pools) (s : State) (y : Seat) (node : ℕ) (payload : List ℕ) (ending : Ending) → GoesBack (Ends ending)
-    → EndIsTold p held s y ending × MayHold s.fixed (outcome_of p held node ending) payload
-dropped_told p held s y node payload (endings.Drops e) back = (tt, tt)
-dropped_told p held s y node payload ending back = absurd back
-
-end_told : (p : Setting) (held : Pools) (s : State) (y : Seat) (node : ℕ) (payload : List ℕ) (local : Local) (ending : Ending) → GoesBack local
-    → ending_at local ≡ Some ending → EndIsTold p held s y ending × MayHold s.fixed (outcome_of p held node ending) payload
-end_told p held s y node payload (Ends k) ending back is =
-    subst (λ j. EndIsTold p held s y j × MayHold s.fixed (outcome_of p held node j) payload) (some-is k ending is)
-    (dropped_told p held s y node payload k back)
-end_told p held s y node payload (SendEnds d last count) ending back is = absurd back
-end_told p held s y node payload local ending back is = none-some ending is
 
 -- ---- the law
 
@@ -145,8 +116,8 @@ module _ (p : Setting) (words : List ℕ) (players : ℕ → Player) (r : Run) (
       into : (local : Local) → local ≡ ReleaseReturns e (pushing.Pushes place) → PushesInto local (ReturningQueue (way_in e))
       into local is = subst (λ l. PushesInto l (ReturningQueue (way_in e))) (sym is) refl
 
-  back : GoesBack (advance p (accessed x) x.local (seen_at x)).local
-  back = subst (λ l. GoesBack (advance p (accessed x) l (seen_at x)).local) (sym at) (goes_back (accessed x) e _ _)
+  back : Follows (advance p (accessed x) x.local (seen_at x)).local
+  back = subst (λ l. Follows (advance p (accessed x) l (seen_at x)).local) (sym at) (goes_back (accessed x) e _ _)
 
   step_told : StepIsTold p stands.held s x (seen_at x) payload
   step_told = record {

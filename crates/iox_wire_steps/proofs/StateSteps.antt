@@ -11,7 +11,7 @@ use Rattle.iox_wire_moments.specs.MomentsOf.{Pools}
 use Rattle.iox_wire_locals.specs.declared.local.Ending.{Ending}
 use Rattle.iox_wire_locals.specs.declared.local.Ending.TheVariants as endings
 use Rattle.iox_wire_locals.specs.declared.local.Local.{Local}
-use Rattle.iox_wire_locals.specs.declared.local.Local.TheVariants.{Checks, Ends, HintExchanges, Hints, ReceiveAsks, ReleaseCloses, ReleaseExchanges, ReleaseLooks, SendEnds}
+use Rattle.iox_wire_locals.specs.declared.local.Local.TheVariants.{Checks, Ends, HintExchanges, Hints, ReceiveAsks, ReleaseCloses, ReleaseExchanges, ReleaseLooks, ReleaseReturns, SendEnds}
 use Rattle.iox_wire_locals.specs.declared.seat.Seat.{Seat}
 use Rattle.iox_wire_locals.specs.declared.table.Entry.{Entry}
 use Rattle.iox_wire_locals.specs.Courses.{ended, placed}
@@ -36,12 +36,13 @@ use Rattle.iox_wire_steps.proofs.StepsWhole.{whole_steps_keep}
 
 -- ---- where such a step leads
 
--- another request state, or an end that answers or drops
-abbrev Follows : Local → Type 0
+-- another request state, a return, or an end that answers or drops
+abbrev pub Follows : Local → Type 0
 Follows (Ends (endings.Drops e)) = Unit {0}
 Follows (Ends (endings.Answers told)) = Unit {0}
 Follows (Ends endings.Done) = Unit {0}
 Follows (Ends ending) = ⊥
+Follows (ReleaseReturns e place) = Unit {0}
 Follows local = IsAtState local
 
 module _ (p : Setting) (x : Seat) (e : Entry) where
@@ -87,7 +88,7 @@ leads_on p x local seen at = absurd at
 
 -- ---- nothing is asked
 
-no_lane : (held : Pools) (local : Local) → Follows local → TellsLane held local
+pub no_lane : (held : Pools) (local : Local) → Follows local → TellsLane held local
 no_lane held (ReceiveAsks v w slot header left waiting) follows = absurd follows
 no_lane held local follows = tt
 
@@ -98,7 +99,7 @@ ended_told p held s y node payload (endings.Answers told) follows = (tt, tt)
 ended_told p held s y node payload endings.Done follows = (tt, tt)
 ended_told p held s y node payload ending follows = absurd follows
 
-end_told : (p : Setting) (held : Pools) (s : State) (y : Seat) (node : ℕ) (payload : List ℕ) (local : Local) (ending : Ending) → Follows local
+pub end_told : (p : Setting) (held : Pools) (s : State) (y : Seat) (node : ℕ) (payload : List ℕ) (local : Local) (ending : Ending) → Follows local
     → ending_at local ≡ Some ending → EndIsTold p held s y ending × MayHold s.fixed (outcome_of p held node ending) payload
 end_told p held s y node payload (Ends k) ending follows is =
     subst (λ j. EndIsTold p held s y j × MayHold s.fixed (outcome_of p held node j) payload) (some-is k ending is)
