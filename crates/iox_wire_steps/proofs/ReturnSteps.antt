@@ -1,8 +1,9 @@
 -- A step that gives back what was received is told what it relies on: its queue has room.
 use Rattle.std.specs.Prelude.{◌<◌}
-use Rattle.std.proofs.Common.{◌≡◌, ℕ, Bool, true, false, if◌then◌else◌, List, None, refl, ap, sym, subst, ◌∙◌, inl, inr}
+use Rattle.std.proofs.Common.{◌≡◌, ℕ, Bool, true, false, if◌then◌else◌, List, None, ap, sym, subst, ◌∙◌, inl, inr}
 use Rattle.iox_model.specs.declared.kind.Kind.TheVariants.{ActiveRequest}
 use Rattle.iox_model.specs.declared.kind.Role.TheVariants.{Client, Server}
+use Rattle.iox_model.specs.declared.way.Way.{Way}
 use Rattle.iox_model.specs.Handles.{same_kind}
 use Rattle.iox_model.specs.Joins.{not_living}
 use Rattle.iox_model.specs.Maps.{has_number}
@@ -19,18 +20,21 @@ use Rattle.iox_steps.specs.declared.side.QueueEvent.{QueueEvent}
 use Rattle.iox_steps.specs.declared.side.QueueEvent.TheVariants.{Publish}
 use Rattle.iox_word_map.specs.WordMaps.{IsWay, ReturningQueue}
 use Rattle.iox_wire_words.specs.Programs.{program_access, site_of}
+use Rattle.iox_wire_moments.specs.MomentsOf.{Pools}
 use Rattle.iox_wire_locals.specs.declared.local.Ending.TheVariants as endings
 use Rattle.iox_wire_locals.specs.declared.local.Local.{Local}
-use Rattle.iox_wire_locals.specs.declared.local.Local.TheVariants.{ReleaseLooks, ReleaseReturns}
+use Rattle.iox_wire_locals.specs.declared.local.Local.TheVariants.{ReceiveReturns, ReleaseLooks, ReleaseReturns}
+use Rattle.iox_wire_locals.specs.declared.local.Visit.{Visit}
 use Rattle.iox_wire_locals.specs.declared.seat.Seat.{Seat}
 use Rattle.iox_wire_locals.specs.declared.table.Entry.{Entry}
 use Rattle.iox_wire_locals.specs.Courses.{ended, placed}
 use Rattle.iox_wire_locals.specs.Locals.{program_of}
-use Rattle.iox_wire_locals.specs.ReceiveFindings.{release_returned}
+use Rattle.iox_wire_locals.specs.ReceiveFindings.{receive_returned, release_returned}
 use Rattle.iox_wire_locals.specs.StateMoments.{moment_at}
 use Rattle.iox_wire_locals.specs.StepLaws.{ReliesOn}
 use Rattle.iox_wire_locals.specs.Steps.{accessed, advance}
-use Rattle.iox_wire_locals.specs.Tables.{Setting, way_in}
+use Rattle.iox_wire_locals.specs.Tables.{Setting}
+use Rattle.iox_wire_laws.specs.WireKeeping.Returns.{GivesBackOn}
 use Rattle.iox_wire_laws.specs.WireShows.OwnedCalls.{ReceivesOn, WordsTell, state_after}
 use Rattle.iox_wire_laws.specs.WireOwners.SentStates.{OpensElsewhere}
 use Rattle.iox_wire_laws.specs.WireOwners.Pushes.{PushesInto}
@@ -61,12 +65,51 @@ goes_back : (x : Seat) (e : Entry) (place : Pushing) (event : QueueEvent) → Fo
 goes_back x e place (Publish slot) = given x e (same_kind e.kind ActiveRequest)
 goes_back x e place event = tt
 
+received_back : (x : Seat) (v : Visit) (w : Way) (slot : ℕ) (left : List Way) (waiting : Bool) (place : Pushing) (event : QueueEvent)
+    → Follows (receive_returned x v w slot left waiting place event).local
+received_back x v w slot left waiting place (Publish given) = tt
+received_back x v w slot left waiting place event = tt
+
+-- ---- the place
+
+-- what is so of a place that gives back on the way
+record GivesBack (p : Setting) (x : Seat) (s : State) (held : Pools) (local : Local) (seen : ℕ) (y : Way) : Type 0 where
+  pub leaves : LeavesNothing (message_at local)
+  pub owns : (node : ℕ) → Owns p node s.fixed s.request_state local → ReceivesOn p node s.fixed y
+  pub into : PushesInto local (ReturningQueue y)
+  pub relies : ReliesOn p x s held local seen
+  pub follows : Follows (advance p x local seen).local
+  pub next : (after : Local) → TakesNext p held s (message_at local) after
+  pub elsewhere : (e : Entry) → OpensElsewhere local e
+
+gives_back_on : (p : Setting) (x : Seat) (s : State) (held : Pools) (local : Local) (seen : ℕ) (y : Way) (place : Push) → GivesBackOn local y place
+    → GivesBack p x s held local seen y
+gives_back_on p x s held (ReleaseReturns e (pushing.Pushes q)) seen y place on = record {
+  leaves = tt;
+  owns = λ node owns. subst (ReceivesOn p node s.fixed) on.0 owns.0;
+  into = ap ReturningQueue on.0;
+  relies = tt;
+  follows = goes_back x e _ _;
+  next = λ after. tt;
+  elsewhere = λ k. tt;
+}
+gives_back_on p x s held (ReceiveReturns v w slot (pushing.Pushes q) left waiting) seen y place on = record {
+  leaves = tt;
+  owns = λ node owns. subst (ReceivesOn p node s.fixed) on.0 owns.0.0;
+  into = ap ReturningQueue on.0;
+  relies = tt;
+  follows = received_back x v w slot left waiting _ _;
+  next = λ after. tt;
+  elsewhere = λ k. tt;
+}
+gives_back_on p x s held local seen y place on = absurd on
+
 -- ---- the law
 
-module _ (p : Setting) (words : List ℕ) (players : ℕ → Player) (r : Run) (n : ℕ) (payload : List ℕ) (stands : Stands p words players r) (e : Entry) (place : Push)
-    (living : not_living r.last.state n ≡ None) (at : (players n).seat.local ≡ ReleaseReturns e (pushing.Pushes place))
-    (known : forgot_port r.last.state.fixed n (way_in e).sender ≡ false)
-    (below : write_of (site_of p.layout (ReturningQueue (way_in e))) (word_of words) < last_position) where
+module _ (p : Setting) (words : List ℕ) (players : ℕ → Player) (r : Run) (n : ℕ) (payload : List ℕ) (stands : Stands p words players r) (y : Way) (place : Push)
+    (living : not_living r.last.state n ≡ None) (at : GivesBackOn (players n).seat.local y place)
+    (known : forgot_port r.last.state.fixed n y.sender ≡ false)
+    (below : write_of (site_of p.layout (ReturningQueue y)) (word_of words) < last_position) where
   abbrev x : Seat
   x = (players n).seat
 
@@ -79,62 +122,58 @@ module _ (p : Setting) (words : List ℕ) (players : ℕ → Player) (r : Run) (
   abbrev seen_at : Seat → ℕ
   seen_at z = seen_by (program_access p.layout (program_of p z.local)) (word_of words)
 
+  gives : GivesBack p (accessed x) s stands.held x.local (seen_at x) y
+  gives = gives_back_on p (accessed x) s stands.held x.local (seen_at x) y place at
+
   mine : NodeStands p stands.held s q
   mine = stands.nodes n living
 
-  here : q ≡ x
-  here = shown_same p x x.local (subst LeavesNothing (sym (ap message_at at)) tt)
+  pub here : q ≡ x
+  here = shown_same p x x.local gives.leaves
 
-  at_q : q.local ≡ ReleaseReturns e (pushing.Pushes place)
-  at_q = ap (λ (z : Seat). z.local) here ∙ at
+  on : ReceivesOn p q.node s.fixed y
+  on = gives.owns q.node (subst (λ (z : Seat). Owns p q.node s.fixed s.request_state z.local) here mine.owns.owns)
 
-  on : ReceivesOn p q.node s.fixed (way_in e)
-  on = (subst (Owns p q.node s.fixed s.request_state) at_q mine.owns.owns).0
-
-  linked : AreConnected s.fixed (way_in e)
+  linked : AreConnected s.fixed y
   linked = by_way on.way
     where
-      by_way : IsWay p.layout.sizes (way_in e) → AreConnected s.fixed (way_in e)
+      by_way : IsWay p.layout.sizes y → AreConnected s.fixed y
       by_way (inl way) = (
-        connected s.fixed Client (way_in e).sender (ap (has_number (way_in e).sender) (sym stands.layout.clients) ∙ way.0),
-        connected s.fixed Server (way_in e).receiver (ap (has_number (way_in e).receiver) (sym stands.layout.servers) ∙ way.1),
+        connected s.fixed Client y.sender (ap (has_number y.sender) (sym stands.layout.clients) ∙ way.0),
+        connected s.fixed Server y.receiver (ap (has_number y.receiver) (sym stands.layout.servers) ∙ way.1),
       )
       by_way (inr way) = (
-        connected s.fixed Server (way_in e).sender (ap (has_number (way_in e).sender) (sym stands.layout.servers) ∙ way.1),
-        connected s.fixed Client (way_in e).receiver (ap (has_number (way_in e).receiver) (sym stands.layout.clients) ∙ way.2),
+        connected s.fixed Server y.sender (ap (has_number y.sender) (sym stands.layout.servers) ∙ way.1),
+        connected s.fixed Client y.receiver (ap (has_number y.receiver) (sym stands.layout.clients) ∙ way.2),
       )
 
-  comes : ComesTo s.fixed n (way_in e)
-  comes = (linked, sym (stands.owners (way_in e).receiver) ∙ on.mine ∙ stands.shows.node n, known)
+  comes : ComesTo s.fixed n y
+  comes = (linked, sym (stands.owners y.receiver) ∙ on.mine ∙ stands.shows.node n, known)
 
   words_tell : WordsTell p x.local (seen_at x)
   words_tell =
       subst (λ (z : Seat). WordsTell p z.local (seen_at z)) here
-      (pushes_are_told p stands.held (word_of words) stands.contents (seats_of p players) r.last n (ReturningQueue (way_in e)) stands.shows living
-      (owners_may_access p stands.held s q mine.owns.owns mine.tells).0 (into q.local at_q) (comes, stands.rooms (way_in e) on.way) below)
-    where
-      into : (local : Local) → local ≡ ReleaseReturns e (pushing.Pushes place) → PushesInto local (ReturningQueue (way_in e))
-      into local is = subst (λ l. PushesInto l (ReturningQueue (way_in e))) (sym is) refl
-
-  back : Follows (advance p (accessed x) x.local (seen_at x)).local
-  back = subst (λ l. Follows (advance p (accessed x) l (seen_at x)).local) (sym at) (goes_back (accessed x) e _ _)
+      (pushes_are_told p stands.held (word_of words) stands.contents (seats_of p players) r.last n (ReturningQueue y) stands.shows living
+      (owners_may_access p stands.held s q mine.owns.owns mine.tells).0 (subst (λ (z : Seat). PushesInto z.local (ReturningQueue y)) (sym here) gives.into)
+      (comes, stands.rooms y on.way) below)
 
   step_told : StepIsTold p stands.held s x (seen_at x) payload
   step_told = record {
     access = λ going. record {
-      relies = subst (λ l. ReliesOn p (accessed x) s stands.held l (seen_at x)) (sym at) tt;
+      relies = gives.relies;
       words = words_tell;
-      lane = no_lane (held_after p x (seen_at x) stands.held) (advance p (accessed x) x.local (seen_at x)).local back;
-      next = subst (λ l. TakesNext p stands.held s (message_at l) (advance p (accessed x) x.local (seen_at x)).local) (sym at) tt;
-      elsewhere = λ k has pending. subst (λ l. OpensElsewhere l k) (sym at) tt;
+      lane = no_lane (held_after p x (seen_at x) stands.held) (advance p (accessed x) x.local (seen_at x)).local gives.follows;
+      next = gives.next (advance p (accessed x) x.local (seen_at x)).local;
+      elsewhere = λ k has pending. gives.elsewhere k;
     };
     ended = λ ending is.
         end_told p (held_after p x (seen_at x) stands.held) (state_after s (moment_at p stands.held x.local (seen_at x)))
-        (advance p (accessed x) x.local (seen_at x)) x.node payload (advance p (accessed x) x.local (seen_at x)).local ending back is;
+        (advance p (accessed x) x.local (seen_at x)) x.node payload (advance p (accessed x) x.local (seen_at x)).local ending gives.follows is;
   }
 
 pub return_steps_keep : ReturnStepsKeep
-return_steps_keep p words words' players r n payload stands e place living at known below made len =
+return_steps_keep p words words' players r n payload stands y place living at known below made len =
     whole_steps_keep p words words' players r n payload stands living
-    (subst (λ z. StepIsTold p stands.held r.last.state z (seen_by (program_access p.layout (program_of p (players n).seat.local)) (word_of words)) payload) (sym (here p words players r n payload stands e place living at known below))
-    (step_told p words players r n payload stands e place living at known below)) made len
+    (subst (λ z. StepIsTold p stands.held r.last.state z (seen_by (program_access p.layout (program_of p (players n).seat.local)) (word_of words)) payload)
+    (sym (here p words players r n payload stands y place living at known below))
+    (step_told p words players r n payload stands y place living at known below)) made len

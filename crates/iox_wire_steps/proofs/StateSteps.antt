@@ -11,7 +11,7 @@ use Rattle.iox_wire_moments.specs.MomentsOf.{Pools}
 use Rattle.iox_wire_locals.specs.declared.local.Ending.{Ending}
 use Rattle.iox_wire_locals.specs.declared.local.Ending.TheVariants as endings
 use Rattle.iox_wire_locals.specs.declared.local.Local.{Local}
-use Rattle.iox_wire_locals.specs.declared.local.Local.TheVariants.{Checks, Ends, HintExchanges, Hints, ReceiveAsks, ReleaseCloses, ReleaseExchanges, ReleaseLooks, ReleaseReturns, SendEnds}
+use Rattle.iox_wire_locals.specs.declared.local.Local.TheVariants.{Checks, Ends, HintExchanges, Hints, ReceiveAsks, ReceivePops, ReceiveReturns, ReleaseCloses, ReleaseExchanges, ReleaseLooks, ReleaseReturns, SendEnds}
 use Rattle.iox_wire_locals.specs.declared.seat.Seat.{Seat}
 use Rattle.iox_wire_locals.specs.declared.table.Entry.{Entry}
 use Rattle.iox_wire_locals.specs.Courses.{ended, placed}
@@ -36,13 +36,15 @@ use Rattle.iox_wire_steps.proofs.StepsWhole.{whole_steps_keep}
 
 -- ---- where such a step leads
 
--- another request state, a return, or an end that answers or drops
+-- another request state, a return or the pop behind it, or an end that answers or drops
 abbrev pub Follows : Local → Type 0
 Follows (Ends (endings.Drops e)) = Unit {0}
 Follows (Ends (endings.Answers told)) = Unit {0}
 Follows (Ends endings.Done) = Unit {0}
 Follows (Ends ending) = ⊥
 Follows (ReleaseReturns e place) = Unit {0}
+Follows (ReceiveReturns v w slot place left waiting) = Unit {0}
+Follows (ReceivePops v w more place left waiting) = Unit {0}
 Follows local = IsAtState local
 
 module _ (p : Setting) (x : Seat) (e : Entry) where

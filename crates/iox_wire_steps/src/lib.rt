@@ -74,8 +74,8 @@ pub fn state_steps_keep()
     ensures { StateStepsKeep }
 {}
 
-/// A step of a release that gives back what was received leads from what stands to what stands,
-/// where its node did not forget the sender.
+/// A step that gives back what was received, in a release or a receive, leads from what stands to
+/// what stands, where its node did not forget the sender.
 pub fn return_steps_keep()
     ensures { ReturnStepsKeep }
 {}
