@@ -30,7 +30,8 @@ use Rattle.iox_wire_stands.proofs.BeginsKept.{begins_change_one_slot, begins_kee
 use Rattle.iox_wire_stands.proofs.OthersHold.{others_hold}
 use Rattle.iox_wire_stands.proofs.Readiness.{nodes_are_ready}
 use Rattle.iox_wire_stands.proofs.Runs.{history_on, last_empty, run_on}
-use Rattle.iox_wire_stands.proofs.StepsKept.{Whole, shown_same}
+use Rattle.iox_wire_stands.proofs.StepsAround.{Whole}
+use Rattle.iox_wire_stands.proofs.StepsKept.{shown_same}
 
 -- ---- the whole wire
 

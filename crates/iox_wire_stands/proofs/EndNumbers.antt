@@ -14,7 +14,7 @@ use Rattle.iox_wire_locals.specs.Settlements as settle
 use Rattle.iox_wire_locals.specs.Tables.{Setting, sent_entry, way_in, with_entry}
 use Rattle.iox_wire_stands.specs.EndLaws.{EndsKeepNumbers, IsSentLoan}
 
-abbrev numbers : List Entry → List ℕ
+abbrev pub numbers : List Entry → List ℕ
 numbers es = map (λ e. e.number) es
 
 or_false : (a b : Bool) → (a || b) ≡ false → (a ≡ false) × (b ≡ false)
@@ -62,7 +62,7 @@ less m (k ∷ ks) apart = by_case (k.number == m) (still_none k.number m ks apar
     by_case false one rest = (one, rest)
 
 -- another one under its number
-same : (e : Entry) (es : List Entry) → numbers (with_entry e es) ≡ numbers es
+pub same : (e : Entry) (es : List Entry) → numbers (with_entry e es) ≡ numbers es
 same e [] = refl
 same e (k ∷ ks) = by_case (k.number == e.number) refl (same e ks)
   where

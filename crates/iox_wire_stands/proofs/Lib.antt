@@ -19,6 +19,7 @@ pub mod OtherSlots
 pub mod OthersHold
 pub mod BeginsKept
 pub mod Readiness
+pub mod StepsAround
 pub mod StepsKept
 pub mod BeginsWhole
 pub mod EndTables

@@ -29,7 +29,7 @@ use Rattle.iox_wire_stands.proofs.Follows.{accesses_follow}
 
 -- ---- by the message
 
-abbrev Stands : Setting → Fixed → Seat → CallMessage → Type 0
+abbrev pub Stands : Setting → Fixed → Seat → CallMessage → Type 0
 Stands p f x (Sent e copied) = HasSent f x e copied × IsInPool p e.sender e.slot
 Stands p f x (OfEntry e) = HasEntry x e
 Stands p f x (Leaving e) = HasEntry x e × IsAside p e
@@ -128,10 +128,10 @@ module _ (p : Setting) (held : Pools) (s : State) (x : Seat) (seen : ℕ) where
     part : KeepsOwn x y
     part = steps_keep_own p x seen
 
-    before : Stands p s.fixed x (message_at x.local)
+    pub before : Stands p s.fixed x (message_at x.local)
     before = of_place p s.fixed x x.local names.place slots.place
 
-    after : Follows p (accessed x) x.local seen y → Stands p s.fixed y (message_at y.local)
+    pub after : Follows p (accessed x) x.local seen y → Stands p s.fixed y (message_at y.local)
     after (keeps desks message) =
         subst (Stands p s.fixed y) (sym message) (still_stands p s.fixed x y part (message_at x.local) before)
     after (lets_go desks still message may) = subst (Stands p s.fixed y) (sym message) tt

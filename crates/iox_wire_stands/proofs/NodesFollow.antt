@@ -9,10 +9,13 @@ use Rattle.iox_model.specs.Maps.{AreDistinct, has_number, same_way}
 use Rattle.iox_model.specs.Moments.{Moment}
 use Rattle.iox_model.specs.States.{Fixed, State}
 use Rattle.iox_model.specs.Weaves.{World}
+use Rattle.iox_model.specs.declared.kind.Kind.TheVariants.{PendingResponse}
+use Rattle.iox_model.specs.Handles.{same_kind}
 use Rattle.iox_laws.proofs.WeaveLaws.WholeLemmas.{moved-fixed}
 use Rattle.iox_laws.proofs.WeaveLaws.MapLemmas.{eqb-refl}
 use Rattle.iox_laws.proofs.WeaveLedger.Truths.{none-some, or-left}
 use Rattle.iox_steps.specs.Accesses.{seen_by}
+use Rattle.iox_word_map.specs.WordMaps.{IsWay}
 use Rattle.iox_wire_words.specs.Fits.{WireContents}
 use Rattle.iox_wire_words.specs.Laws.{IsMade}
 use Rattle.iox_wire_words.specs.Programs.{program_access}
@@ -24,6 +27,7 @@ use Rattle.iox_wire_locals.specs.declared.table.Borrowed.{Borrowed}
 use Rattle.iox_wire_locals.specs.declared.table.Desk.{Desk}
 use Rattle.iox_wire_locals.specs.declared.table.Entry.{Entry}
 use Rattle.iox_wire_locals.specs.Desks.{delivers, gets_back, on_desk, picks}
+use Rattle.iox_wire_locals.specs.Known.{loans_at}
 use Rattle.iox_wire_locals.specs.Knowing.{Knows}
 use Rattle.iox_wire_locals.specs.Locals.{program_of}
 use Rattle.iox_wire_locals.specs.StateMoments.{moment_at}
@@ -35,11 +39,13 @@ use Rattle.iox_wire_laws.specs.WireKeeping.Shows.{OwnsPlace, ShowsWorld}
 use Rattle.iox_wire_laws.specs.WireKeeping.UsedSlots.{PortFits}
 use Rattle.iox_wire_laws.proofs.WireKeeping.CountsKept.{steps_keep_own}
 use Rattle.iox_wire_laws.proofs.WireKeeping.RecordsKept.{found}
-use Rattle.iox_wire_laws.specs.WireShows.OwnedCalls.{LimitsAreKnown, state_after}
-use Rattle.iox_wire_laws.specs.WireOwners.Borrowed.{BorrowedFits}
+use Rattle.iox_wire_laws.specs.WireShows.OwnedCalls.{LimitsAreKnown, TellsLane, state_after}
+use Rattle.iox_wire_laws.specs.WireOwners.Borrowed.{BorrowedFits, HasCount}
+use Rattle.iox_wire_laws.specs.WireOwners.FirmOwners.{OwnsFirmly}
 use Rattle.iox_wire_laws.proofs.WireOwners.Borrowed.{counts_tell_limits, own_parts_keep_borrowed}
 use Rattle.iox_wire_laws.proofs.WireOwners.FirmOwners.{firm_owners_stay}
-use Rattle.iox_wire_laws.specs.WireOwners.Releases.{IsReleased}
+use Rattle.iox_wire_laws.specs.WireOwners.Releases.{HasOwnStates, IsReleased}
+use Rattle.iox_wire_laws.specs.WireOwners.SentStates.{HasOpened}
 use Rattle.iox_wire_laws.proofs.WireOwners.SentStates.{accesses_leave_opened, accesses_leave_states}
 use Rattle.iox_wire_laws.specs.WireRegions.OwnedBegins.{LayoutFits}
 use Rattle.iox_wire_laws.specs.WireRegions.OwnedWords.{FreeSlotsAreThePools}
@@ -47,15 +53,16 @@ use Rattle.iox_wire_laws.proofs.WireRegions.OwnPorts.{both}
 use Rattle.iox_wire_laws.proofs.WireRegions.OwnedPlaces.{owners_may_access}
 use Rattle.iox_wire_laws.specs.WireHolding.FarSlots.{IsInPool, NamesSlots, QueuesHaveSlots}
 use Rattle.iox_wire_laws.specs.WireHolding.Holding.{held_after}
-use Rattle.iox_wire_laws.specs.WireHolding.SlotsKnown.{HasEntry, NamesStand}
+use Rattle.iox_wire_laws.specs.WireHolding.SlotsKnown.{HasEntry, IsPortOfSeat, NamesStand, SlotsKnown}
 use Rattle.iox_wire_pools.specs.FoundUses.{SendsThere}
+use Rattle.iox_wire_pools.specs.Uses.{AllUsesAreCounted}
 use Rattle.iox_wire_pools.specs.UsesLaws.{FindsUsed}
 use Rattle.iox_wire_pools.proofs.AccessUses.{accesses_keep_uses}
 use Rattle.iox_wire_pools.proofs.AccessesFound.{accesses_find_used}
 use Rattle.iox_wire_stands.specs.Following.{CallMessage, Delivered, DeskChange, Dropped, Follows, IsReturning, Leaving, LeavesNothing, Lent, MayLetGo, GotBack, Unchanged, changed, desk_change, drops, keeps, lets_go, message_at, picks_slot, puts_aside, sends_loan, takes}
 use Rattle.iox_wire_stands.specs.NamesLaws.{ReturnsNothing, TakesInPool}
 use Rattle.iox_wire_stands.specs.NodeLaws.{AccessesKeepNodes, IsTold}
-use Rattle.iox_wire_stands.specs.Nodes.{LendsAtHome, NodeStands}
+use Rattle.iox_wire_stands.specs.Nodes.{HasOwnDesks, LendsAtHome, NodeStands}
 use Rattle.iox_wire_stands.specs.Stands.{AreNumbered, OwnersAre}
 use Rattle.iox_wire_stands.proofs.Follows.{accesses_follow}
 use Rattle.iox_wire_stands.proofs.Fresh.{delivers_fresh}
@@ -191,6 +198,22 @@ module _ (p : Setting) (held : Pools) (s : State) (x : Seat) (stands : NodeStand
   pub limits : Knows p x s.fixed held → LimitsAreKnown p x s.fixed
   limits knows = counts_tell_limits p x s.fixed held knows stands.borrowed
 
+-- what is so of a node wherever it is in its call, but for what its entries and its place name
+pub record KeptPart (p : Setting) (held : Pools) (s : State) (x : Seat) : Type 0 where
+  pub owns : OwnsFirmly p x.node s.fixed s.request_state x.local
+  pub lends : LendsAtHome p x (message_at x.local)
+  pub slots : SlotsKnown p held s x
+  pub at_desks : HasOwnDesks p x
+  pub uses : AllUsesAreCounted p x
+  pub loans : (port : ℕ) → IsPortOfSeat p x port → s.fixed.loans port ≡ loans_at x port
+  pub borrowed : BorrowedFits p x s.fixed
+  pub counted : (y : Way) → IsWay p.layout.sizes y → p.layout.owner y.receiver ≡ x.node → HasCount x y
+  pub numbers : AreDistinct (map (λ e. e.number) x.table)
+  pub released : (e : Entry) → HasEntry x e → IsReleased s.fixed x.node e
+  pub states : (e : Entry) → HasEntry x e → same_kind e.kind PendingResponse ≡ true → HasOwnStates p x s.request_state e
+  pub opened : HasOpened s.request_state x.local
+  pub tells : TellsLane held x.local
+
 -- ---- an access
 
 module _ (p : Setting) (held : Pools) (word word' : ℕ → ℕ) (c : WireContents) (seats : ℕ → Seat) (w : World) (n : ℕ)
@@ -212,8 +235,7 @@ module _ (p : Setting) (held : Pools) (word word' : ℕ → ℕ) (c : WireConten
   abbrev t : State
   t = state_after s (moment_at p held x.local seen)
 
-  module _ (told : IsTold p held s x seen) (returns : ReturnsNothing x.local (message_at y.local)) (made : IsMade (program_access p.layout (program_of p x.local)) word word')
-      (going : ending_at y.local ≡ None) where
+  module _ (told : IsTold p held s x seen) (made : IsMade (program_access p.layout (program_of p x.local)) word word') where
     part : KeepsOwn x y
     part = steps_keep_own p x seen
 
@@ -236,9 +258,6 @@ module _ (p : Setting) (held : Pools) (word word' : ℕ → ℕ) (c : WireConten
     desks : (port : ℕ) → SameDesk (find (λ d. d.port == port) x.desks) (find (λ d. d.port == port) y.desks)
     desks port = same_desk p x seen port (accesses_follow p (accessed x) seen)
 
-    names : NamesStand p s.fixed y × NamesSlots p y
-    names = accesses_keep_names p held s x seen stands.names stands.name_slots stands.owns.owns told.relies returns there.0 going
-
     back : (e : Entry) → HasEntry y e → HasEntry x e
     back e has = ap (entry_at e.number) (sym part.table) ∙ has
 
@@ -257,16 +276,10 @@ module _ (p : Setting) (held : Pools) (word word' : ℕ → ℕ) (c : WireConten
         let own = stands.slots.desks o.port slot (ap (has_number slot) at ∙ or-left (slot == slot) (has_number slot free) (eqb-refl slot)) in
         subst (λ l. LendsAtHome p y (message_at l)) (sym place) (own.0, own.1 ∙ sym part.node)
 
-    in_pool : (e : Entry) → IsInPool p e.sender e.slot ⊎ (message_at x.local ≡ Leaving e) → IsInPool p e.sender e.slot ⊎ (message_at y.local ≡ Leaving e)
-    in_pool e (inl has) = inl has
-    in_pool e (inr leaves) = inr (still_leaving p x.local seen (accessed x) y e leaves going (accesses_follow p (accessed x) seen))
-
-    kept : NodeStands p (held_after p x seen held) t y
-    kept = record {
+    -- what does not depend on where the call goes
+    pub part_kept : KeptPart p (held_after p x seen held) t y
+    part_kept = record {
       owns = firm_owners_stay p held s x seen stands.owns knows (free_pools p held s x stands) (limits p held s x stands knows) told.relies told.words;
-      names = subst (λ f. NamesStand p f y) (sym fixed) names.0;
-      name_slots = names.1;
-      in_pools = λ e has. in_pool e (stands.in_pools e (back e has));
       lends = lends (accesses_follow p (accessed x) seen);
       slots = accesses_keep_slots p held s x seen stands.slots stands.at_desks stands.uses finds told.relies
           (delivers_fresh p held word c seats w n shows living seen place.knows told.relies) told.next;
@@ -289,6 +302,38 @@ module _ (p : Setting) (held : Pools) (word word' : ℕ → ℕ) (c : WireConten
       tells = told.lane;
     }
 
+    -- what is taken is a slot of its sender's pool
+    pub takes_there : TakesInPool p x.local seen
+    takes_there = there.0
+
+    module _ (returns : ReturnsNothing x.local (message_at y.local)) (going : ending_at y.local ≡ None) where
+      names : NamesStand p s.fixed y × NamesSlots p y
+      names = accesses_keep_names p held s x seen stands.names stands.name_slots stands.owns.owns told.relies returns there.0 going
+
+      in_pool : (e : Entry) → IsInPool p e.sender e.slot ⊎ (message_at x.local ≡ Leaving e) → IsInPool p e.sender e.slot ⊎ (message_at y.local ≡ Leaving e)
+      in_pool e (inl has) = inl has
+      in_pool e (inr leaves) = inr (still_leaving p x.local seen (accessed x) y e leaves going (accesses_follow p (accessed x) seen))
+
+      kept : NodeStands p (held_after p x seen held) t y
+      kept = record {
+        owns = part_kept.owns;
+        names = subst (λ f. NamesStand p f y) (sym fixed) names.0;
+        name_slots = names.1;
+        in_pools = λ e has. in_pool e (stands.in_pools e (back e has));
+        lends = part_kept.lends;
+        slots = part_kept.slots;
+        at_desks = part_kept.at_desks;
+        uses = part_kept.uses;
+        loans = part_kept.loans;
+        borrowed = part_kept.borrowed;
+        counted = part_kept.counted;
+        numbers = part_kept.numbers;
+        released = part_kept.released;
+        states = part_kept.states;
+        opened = part_kept.opened;
+        tells = part_kept.tells;
+      }
+
 pub accesses_keep_nodes : AccessesKeepNodes
 accesses_keep_nodes p held word word' c seats w n shows living fits owners numbered queues stands told returns made going =
-    kept p held word word' c seats w n shows living fits owners numbered queues stands told returns made going
+    kept p held word word' c seats w n shows living fits owners numbered queues stands told made returns going

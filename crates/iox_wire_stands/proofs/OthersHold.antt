@@ -47,7 +47,7 @@ ending_named : (ending : Ending) (v : Way) (slot : ℕ) → message_at (Ends end
 ending_named (endings.Receives z w own header) v slot is = names_it w v own slot is
 ending_named ending v slot is = absurd (subst NotTaken is tt)
 
-named_taken : (local : Local) (v : Way) (slot : ℕ) → message_at local ≡ Taken v slot → place_names local v.sender slot ≡ true
+pub named_taken : (local : Local) (v : Way) (slot : ℕ) → message_at local ≡ Taken v slot → place_names local v.sender slot ≡ true
 named_taken (ReceiveLoads z w own header left waiting) v slot is = names_it w v own slot is
 named_taken (ReceiveAsks z w own header left waiting) v slot is = names_it w v own slot is
 named_taken (ReceiveReturns z w own place left waiting) v slot is = names_it w v own slot is

@@ -1,0 +1,12 @@
+-- In reading order: own messages of handles; a call that is over but for its end, and what the end
+-- keeps of its node; that what it is told is needed; what it keeps of all that stands; slots that no
+-- pool has; whole steps; and those at request states or that give back, which need be told little.
+pub mod OwnMessages
+pub mod Over
+pub mod OverLaws
+pub mod Needed
+pub mod WholeEnds
+pub mod FarMessages
+pub mod WholeSteps
+pub mod StateSteps
+pub mod ReturnSteps
