@@ -1,4 +1,5 @@
 -- where a payload stands
 pub mod Payloads
--- how many accesses a copy takes
-pub mod WorkedCopies
+-- the loan of a copy, and the places that it knows of
+pub mod Copies
+pub mod CopyAims

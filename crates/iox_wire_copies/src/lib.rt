@@ -2,8 +2,10 @@
 //! accesses it takes.
 #![tactic(auto)]
 
+mod at;
+mod copy_lending;
 mod payload_places;
-mod worked;
 
+pub use at::CopyLent;
+pub use copy_lending::CopyLending;
 pub use payload_places::PayloadPlaces;
-pub use worked::worked_copies_take_nineteen;
