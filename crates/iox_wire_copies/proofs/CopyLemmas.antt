@@ -26,52 +26,52 @@ copied payload x = placed x (with_payload payload x.local)
 
 -- What leads a copy there leads its loan here, on the node that it was before.
 pub record IsAlike (p : Setting) (payload : List ℕ) (x there here : Seat) : Type 0 where
-  next : after p there ≡ copied payload (after p here)
-  tells : answered p there ≡ answered p here
+  led : after p there ≡ copied payload (after p here)
+  told : answered p there ≡ answered p here
   peers : HasSamePeers x (after p here)
 
 -- ---- the loan takes a slot
 
 taken_alike : (p : Setting) (x : Seat) (k l : Local) (o : NewLoan) (payload free : List ℕ)
     → IsAlike p payload x (takes_slot (placed x k) (copy_of o payload) free) (takes_slot (placed x l) o free)
-taken_alike p x k l o payload [] = record { next = refl; tells = refl; peers = record { node = refl; forgot = refl } }
-taken_alike p x k l o payload (slot ∷ free) = record { next = refl; tells = refl; peers = record { node = refl; forgot = refl } }
+taken_alike p x k l o payload [] = record { led = refl; told = refl; peers = record { node = refl; forgot = refl } }
+taken_alike p x k l o payload (slot ∷ free) = record { led = refl; told = refl; peers = record { node = refl; forgot = refl } }
 
 loaning_alike : (p : Setting) (x : Seat) (k l : Local) (o : NewLoan) (payload : List ℕ) (left : List Way)
     → IsAlike p payload x (loaning (placed x k) (copy_of o payload) left) (loaning (placed x l) o left)
 loaning_alike p x k l o payload [] = taken_alike p x k l o payload (free_slots x o.port)
-loaning_alike p x k l o payload (w ∷ left) = record { next = refl; tells = refl; peers = record { node = refl; forgot = refl } }
+loaning_alike p x k l o payload (w ∷ left) = record { led = refl; told = refl; peers = record { node = refl; forgot = refl } }
 
 -- ---- it gets back
 
 emptied_alike : (p : Setting) (x : Seat) (k l : Local) (o : NewLoan) (payload : List ℕ) (w : Way) (left : List Way) (place : Popping) (e : QueueEvent)
     → IsAlike p payload x (loan_emptied (placed x k) (copy_of o payload) w left place e) (loan_emptied (placed x l) o w left place e)
 emptied_alike p x k l o payload w left place Quiet =
-    record { next = refl; tells = refl; peers = record { node = refl; forgot = refl } }
+    record { led = refl; told = refl; peers = record { node = refl; forgot = refl } }
 emptied_alike p x k l o payload w left place (Publish v) =
-    record { next = refl; tells = refl; peers = record { node = refl; forgot = refl } }
+    record { led = refl; told = refl; peers = record { node = refl; forgot = refl } }
 emptied_alike p x k l o payload w left place (HandOut slot) =
-    record { next = refl; tells = refl; peers = record { node = refl; forgot = refl } }
+    record { led = refl; told = refl; peers = record { node = refl; forgot = refl } }
 emptied_alike p x k l o payload w left place Evict =
-    record { next = refl; tells = refl; peers = record { node = refl; forgot = refl } }
+    record { led = refl; told = refl; peers = record { node = refl; forgot = refl } }
 emptied_alike p x k l o payload w left place (Learn v) =
-    record { next = refl; tells = refl; peers = record { node = refl; forgot = refl } }
+    record { led = refl; told = refl; peers = record { node = refl; forgot = refl } }
 emptied_alike p x k l o payload w left place SeesEmpty = loaning_alike p x k l o payload left
 emptied_alike p x k l o payload w left place SeesWaiting =
-    record { next = refl; tells = refl; peers = record { node = refl; forgot = refl } }
+    record { led = refl; told = refl; peers = record { node = refl; forgot = refl } }
 emptied_alike p x k l o payload w left place SeesFull =
-    record { next = refl; tells = refl; peers = record { node = refl; forgot = refl } }
+    record { led = refl; told = refl; peers = record { node = refl; forgot = refl } }
 emptied_alike p x k l o payload w left place SeesRoom =
-    record { next = refl; tells = refl; peers = record { node = refl; forgot = refl } }
+    record { led = refl; told = refl; peers = record { node = refl; forgot = refl } }
 emptied_alike p x k l o payload w left place SeesEnd =
-    record { next = refl; tells = refl; peers = record { node = refl; forgot = refl } }
+    record { led = refl; told = refl; peers = record { node = refl; forgot = refl } }
 
 -- ---- any of its accesses in front of its stores
 
 -- What an access of the copy leads to, where its loan is told without the payload.
 pub record GoesAlike (p : Setting) (payload : List ℕ) (x : Seat) (l : Local) (seen : ℕ) : Type 0 where
-  pub next : next p (placed x (with_payload payload l)) seen ≡ copied payload (next p (placed x l) seen)
-  pub tells : tells p (placed x (with_payload payload l)) seen ≡ tells p (placed x l) seen
+  pub led : next p (placed x (with_payload payload l)) seen ≡ copied payload (next p (placed x l) seen)
+  pub told : tells p (placed x (with_payload payload l)) seen ≡ tells p (placed x l) seen
   pub peers : HasSamePeers x (next p (placed x l) seen)
 
 goes : (p : Setting) (payload : List ℕ) (x : Seat) (o : NewLoan) (w : Way) (place : Popping) (left : List Way) (seen : ℕ)
@@ -79,15 +79,15 @@ goes : (p : Setting) (payload : List ℕ) (x : Seat) (o : NewLoan) (w : Way) (pl
     (loan_emptied (placed (accessed x) (LendEmpties o w place left)) o w left (pop_place p (ReturningQueue w) place seen) (pop_finds p (ReturningQueue w) place seen))
     → GoesAlike p payload x (LendEmpties o w place left) seen
 goes p payload x o w place left seen alike = record {
-  next = alike.next;
-  tells = alike.tells;
+  led = alike.led;
+  told = alike.told;
   peers = record { node = alike.peers.node; forgot = alike.peers.forgot };
 }
 
 pub goes_alike : (p : Setting) (payload : List ℕ) (x : Seat) (order : Order) (l : Local) (seen : ℕ) → IsLoanAt order l → is_storing l ≡ false
     → GoesAlike p payload x l seen
-goes_alike p payload x order Idle seen loan before = record { next = refl; tells = refl; peers = record { node = refl; forgot = refl } }
-goes_alike p payload x order (Ends (endings.Refuses r)) seen loan before = record { next = refl; tells = refl; peers = record { node = refl; forgot = refl } }
+goes_alike p payload x order Idle seen loan before = record { led = refl; told = refl; peers = record { node = refl; forgot = refl } }
+goes_alike p payload x order (Ends (endings.Refuses r)) seen loan before = record { led = refl; told = refl; peers = record { node = refl; forgot = refl } }
 goes_alike p payload x order (LendEmpties o w place left) seen loan before =
     goes p payload x o w place left seen
     (emptied_alike p (accessed x) (LendEmpties (copy_of o payload) w place left) (LendEmpties o w place left) o payload w left (pop_place p (ReturningQueue w) place seen) (pop_finds p (ReturningQueue w) place seen))

@@ -76,10 +76,10 @@ pub lend_goes_on : (x y : Placed) (r s : CopyLoan) (seen : ℕ) → Lends r → 
 lend_goes_on x y r s seen lends local loan before next_is over p aim = (
   ap (placed y.seat) local
   ∙ ap (copied r.payload) (next_is p (aimed_loan p x.seat r lends aim).0)
-  ∙ sym (alike x r p seen loan before).next
+  ∙ sym (alike x r p seen loan before).led
   ∙ ap (λ (l : Local). next p (placed x.seat l) seen) (sym lends.local),
   ap (λ (l : Local). tells p (placed x.seat l) seen) lends.local
-  ∙ (alike x r p seen loan before).tells
+  ∙ (alike x r p seen loan before).told
   ∙ over p (aimed_loan p x.seat r lends aim).0,
 )
 
@@ -91,10 +91,10 @@ lend_refused x y r s seen reply lends local rests loan before next_is over p aim
   ap (placed y.seat) local
   ∙ ap (λ (l : Local). placed y.seat (with_payload r.payload l)) (sym (it_rests s.lending.local rests))
   ∙ ap (copied r.payload) (next_is p (aimed_loan p x.seat r lends aim).0)
-  ∙ sym (alike x r p seen loan before).next
+  ∙ sym (alike x r p seen loan before).led
   ∙ ap (λ (l : Local). next p (placed x.seat l) seen) (sym lends.local),
   ap (λ (l : Local). tells p (placed x.seat l) seen) lends.local
-  ∙ (alike x r p seen loan before).tells
+  ∙ (alike x r p seen loan before).told
   ∙ over p (aimed_loan p x.seat r lends aim).0,
 )
 

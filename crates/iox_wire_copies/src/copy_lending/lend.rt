@@ -38,8 +38,12 @@ impl CopyLending {
         ensures peers { KeepsPeers seat.old self.old seat.new }
         ensures same { IsSameCopy self.old self.new }
     {
-        let reply = self.lending.go_on(seat, seen)?;
-        self.at = CopyAt::Rest;
-        Some(CopyLent::Refused(reply))
+        match self.lending.go_on(seat, seen) {
+            None => None,
+            Some(reply) => {
+                self.at = CopyAt::Rest;
+                Some(CopyLent::Refused(reply))
+            }
+        }
     }
 }
