@@ -1,4 +1,3 @@
-pub mod RoundLemmas
 pub mod CopyLemmas
 pub mod WordLemmas
 pub mod StoreLemmas

@@ -1,5 +1,5 @@
 -- Where a copy is led as it stores a word.
-use Rattle.std.proofs.Common.{◌≡◌, ◌==◌, ◌+◌, ℕ, Bool, true, false, cond, List, Some, None, refl, ap, ap₂, sym, ◌∙◌}
+use Rattle.std.proofs.Common.{◌≡◌, ◌==◌, ◌+◌, ℕ, Bool, true, false, List, [], ◌∷◌, length, None, refl, ap, ap₂, sym, ◌∙◌}
 use Rattle.std.specs.Prelude.{if◌then◌else◌}
 use Rattle.iox_model.specs.declared.kind.Role.TheVariants.{Client, Server}
 use Rattle.iox_model.specs.Handles.{is_request_loan}
@@ -22,7 +22,7 @@ use Rattle.iox_wire_locals.specs.NewLoans.{entry_in, loan_words}
 use Rattle.iox_wire_locals.specs.Steps.{accessed, next, tells}
 use Rattle.iox_wire_locals.specs.Tables.{Setting}
 use Rattle.iox_wire_loans.specs.Aims.{after, answered}
-use Rattle.iox_wire_copies.proofs.RoundLemmas.{empties_alike}
+use Rattle.iox_wire_request_sends.proofs.RoundLemmas.{empties_alike}
 use Rattle.iox_wire_copies.specs.Copies.{copy_of}
 
 -- ---- where the node was before does not matter
@@ -35,7 +35,7 @@ requests_alike p x l d =
 
 pub sends_alike : (p : Setting) (x : Seat) (l : Local) (e : Entry) (copied : Bool) → sends p (placed x l) e copied ≡ sends p x e copied
 sends_alike p x l e copied =
-    ap (λ (y : Seat). if is_request_loan e.kind then y else sends_response p x _)
+    ap (λ (y : Seat). if is_request_loan e.kind then y else sends_response p x (record { loan = e; copied = copied; to = e.client ∷ [] }))
     (requests_alike p x l (record { loan = e; copied = copied; to = others (known p x) x.node Server }))
 
 -- ---- a word is stored

@@ -1,5 +1,6 @@
 -- What a step of a copy's loan does that stores a word.
 use Rattle.std.proofs.Common.{◌≡◌, ◌==◌, ◌+◌, ◌<◌, ◌≤◌, ℕ, true, false, List, length, slice_index, Some, None, refl, ap, ap₂, sym, subst, ◌∙◌, arith}
+use Rattle.std.specs.Prelude.{Option}
 use Rattle.std.proofs.lemmas.Bool.{eq-eqb, ne_eqb}
 use Rattle.iox_steps.specs.declared.access.Access.TheVariants.{Store}
 use Rattle.iox_wire_words.specs.Programs.{program_access, word_place}
@@ -16,15 +17,24 @@ use Rattle.iox_wire_locals.specs.NewLoans.{entry_in, loan_words}
 use Rattle.iox_wire_locals.specs.Steps.{accessed, next, tells}
 use Rattle.iox_wire_locals.specs.Tables.{Setting, region_word, words_before_payload}
 use Rattle.iox_wire_seats.specs.Aims.{IsPayloadAt}
+use Rattle.iox_wire_seats.specs.Keeps.{counted}
+use Rattle.iox_wire_seats.specs.Seats.{Placed}
 use Rattle.iox_wire_loans.specs.declared.order.Order.{Order}
 use Rattle.iox_wire_loans.specs.declared.slot_places.SlotPlaces.{SlotPlaces}
-use Rattle.iox_wire_loans.specs.Aims.{AreAimed, HasNextWord, IsLoanAt, IsSameLoan, Knows, StoresAhead, after, answered}
+use Rattle.iox_wire_loans.specs.Aims.{AreAimed, HasNextWord, IsLoanAt, IsSameLoan, Knows, StoresAhead, TellsOfSlot, after, answered}
+use Rattle.iox_wire_loans.specs.Aims as loans
 use Rattle.iox_wire_loans.specs.Lenders.{AreSlots}
 use Rattle.iox_wire_loans.specs.Loans.{Loaned}
 use Rattle.iox_wire_loans.specs.Orders.{loan_of}
 use Rattle.iox_wire_copies.specs.declared.payload_places.PayloadPlaces.{PayloadPlaces}
-use Rattle.iox_wire_copies.specs.Copies.{ArePayloads, copy_of, with_payload}
+use Rattle.iox_wire_copies.specs.declared.at.CopyAt.{CopyAt}
+use Rattle.iox_wire_copies.specs.declared.at.CopyAt.TheVariants as at
+use Rattle.iox_wire_copies.specs.declared.at.CopyLent.TheVariants.{Made}
+use Rattle.iox_wire_copies.specs.Copies.{ArePayloads, CopyLoan, copy_of, with_payload}
+use Rattle.iox_wire_copies.specs.CopyAims as copies
+use Rattle.iox_wire_copies.specs.CopyAims.{GoesOn, IsAimed, StaysAimed}
 use Rattle.iox_wire_copies.specs.Payloads.{payload_at}
+use Rattle.iox_wire_copies.proofs.LendLemmas.{Lends, aimed_loan}
 use Rattle.iox_wire_copies.proofs.StoreLemmas.{last_next, last_tells, more_next, more_tells}
 use Rattle.iox_wire_copies.proofs.WordLemmas.{copy_has, word_behind, word_in_front, words_in_front}
 
@@ -167,3 +177,99 @@ write_asks p x r payload loan place n knows there low is =
     ∙ ap (λ (port : ℕ). word_place p.layout port (region_word p port loan.slot (words_before_payload p port + n))) (ap (λ (e : Entry). e.port) is)
     ∙ ap (λ (m : ℕ). word_place p.layout r.order.port (region_word p r.order.port loan.slot (m + n))) (sym (words_in_front p x r knows)))
     (sym (word_behind p x r payload n knows))
+
+-- ---- a step of a copy
+
+seat_is : (x y : Placed) → y ≡ counted x → y.seat ≡ accessed x.seat
+seat_is x y is = ap (λ (z : Placed). z.seat) is
+
+pub copy_goes_on : (x y : Placed) (r s : CopyLoan) (seen : ℕ) → Lends r → y ≡ counted x → s.local ≡ with_payload r.payload s.lending.local
+    → IsLoanAt r.lending.order r.lending.local → StoresAhead r.lending.local (length r.lending.words) None s.lending.local
+    → GoesOn x r seen y s None
+copy_goes_on x y r s seen lends seat local loan ahead p aim =
+    let on : (placed (accessed x.seat) (with_payload r.payload s.lending.local) ≡ next p (placed x.seat (with_payload r.payload r.lending.local)) seen) × (tells p (placed x.seat (with_payload r.payload r.lending.local)) seen ≡ None) =
+    store_goes_on p x.seat r.lending r.payload r.lending.local s.lending.local seen loan (aimed_loan p x.seat r lends aim).0 ahead in (
+      ap₂ placed (seat_is x y seat) local ∙ on.0 ∙ ap (λ (l : Local). next p (placed x.seat l) seen) (sym lends.local),
+      ap (λ (l : Local). tells p (placed x.seat l) seen) lends.local ∙ on.1,
+    )
+
+pub copy_writes : (x y : Placed) (r s : CopyLoan) (seen : ℕ) (k : Local) (loan : Entry) → Lends r → y ≡ counted x
+    → s.local ≡ LendStores (copy_of (loan_of s.lending.order) r.payload) loan.slot (length s.lending.words + 0) → IsSameLoan r.lending s.lending
+    → IsLoanAt r.lending.order r.lending.local → StoresAhead r.lending.local (length r.lending.words) (Some loan) k → 0 < length r.payload
+    → GoesOn x r seen y s None
+copy_writes x y r s seen k loan lends seat local same at' ahead some p aim =
+    let on : (placed (accessed x.seat) (LendStores (copy_of (loan_of r.lending.order) r.payload) loan.slot (length r.lending.words + 0)) ≡ next p (placed x.seat (with_payload r.payload r.lending.local)) seen)
+    × (tells p (placed x.seat (with_payload r.payload r.lending.local)) seen ≡ None) =
+    store_writes p x.seat r.lending r.payload r.lending.local k loan seen at' (aimed_loan p x.seat r lends aim).0 ahead some in (
+      ap₂ placed (seat_is x y seat)
+      (local ∙ ap₂ (λ (o : Order) (ws : List ℕ). LendStores (copy_of (loan_of o) r.payload) loan.slot (length ws + 0)) same.order same.words)
+      ∙ on.0 ∙ ap (λ (l : Local). next p (placed x.seat l) seen) (sym lends.local),
+      ap (λ (l : Local). tells p (placed x.seat l) seen) lends.local ∙ on.1,
+    )
+
+pub copy_makes : (x y : Placed) (r s : CopyLoan) (seen : ℕ) (k : Local) (loan : Entry) → Lends r → y ≡ counted x
+    → IsLoanAt r.lending.order r.lending.local → StoresAhead r.lending.local (length r.lending.words) (Some loan) k → length r.payload ≡ 0
+    → GoesOn x r seen y s (Some (Made loan))
+copy_makes x y r s seen k loan lends seat at' ahead none p aim =
+    let on : (next p (placed x.seat (with_payload r.payload r.lending.local)) seen ≡ after p (sends p (accessed x.seat) loan true))
+    × (tells p (placed x.seat (with_payload r.payload r.lending.local)) seen ≡ answered p (sends p (accessed x.seat) loan true))
+    × (loan.number ≡ next_handle p (accessed x.seat)) =
+    store_makes p x.seat r.lending r.payload r.lending.local k loan seen at' (aimed_loan p x.seat r lends aim).0 ahead none in (
+      ap (λ (l : Local). next p (placed x.seat l) seen) lends.local ∙ on.0 ∙ ap (λ (z : Seat). after p (sends p z loan true)) (sym (seat_is x y seat)),
+      ap (λ (l : Local). tells p (placed x.seat l) seen) lends.local ∙ on.1 ∙ ap (λ (z : Seat). answered p (sends p z loan true)) (sym (seat_is x y seat)),
+      on.2 ∙ sym (ap (next_handle p) (seat_is x y seat)),
+    )
+
+pub copy_aimed : (x y : Placed) (r s : CopyLoan) (k : Local) (loan : Entry) → Lends r → y ≡ counted x → s.at ≡ at.Writes → s.loan ≡ loan
+    → s.local ≡ LendStores (copy_of (loan_of s.lending.order) r.payload) loan.slot (length s.lending.words + 0) → IsSameLoan r.lending s.lending
+    → IsLoanAt r.lending.order r.lending.local → StoresAhead r.lending.local (length r.lending.words) (Some loan) k → s.slots ≡ r.slots
+    → (loan.slot < r.slots.slots → s.place ≡ payload_at r.slots r.places loan.slot) → StaysAimed x r y s
+copy_aimed x y r s k loan lends seat writes made local same at' ahead slots there p aim told =
+    let known : loans.IsAimed p x.seat r.lending × ArePayloads p r.lending.order.port r.slots r.places = aimed_loan p x.seat r lends aim in
+    let within : loan.slot < r.slots.slots = subst (λ (t : SlotPlaces). loan.slot < t.slots) slots (subst (TellsOfSlot s.slots) local told) in
+    subst (λ (a : CopyAt). copies.AreAimed p y.seat a s) (sym writes)
+    (subst (λ (z : Seat). Knows p z s.lending) (sym (seat_is x y seat))
+    (stored_knows p x.seat r.lending s.lending r.lending.local k loan known.0 ahead same),
+    subst (λ (e : Entry). IsPayloadAt p e s.place (length s.payload)) (sym made)
+    (payload_there p r.lending.order r.slots r.places loan s.place (length s.payload) known.1
+    (stored_loan r.lending.order r.lending.local k (length r.lending.words) loan at' ahead) within (there within)))
+
+-- What a copy is that stores word n of its payload.
+pub record Writes (r : CopyLoan) (n : ℕ) : Type 0 where
+  pub at : r.at ≡ at.Writes
+  pub local : r.local ≡ LendStores (copy_of (loan_of r.lending.order) r.payload) r.loan.slot (length r.lending.words + n)
+  pub made : r.loan ≡ entry_in (loan_of r.lending.order) r.loan.slot
+
+pub aimed_write : (p : Setting) (x : Seat) (r : CopyLoan) (n : ℕ) → Writes r n → IsAimed p x r → Knows p x r.lending × IsPayloadAt p r.loan r.place (length r.payload)
+aimed_write p x r n writes aim = subst (λ (a : CopyAt). copies.AreAimed p x a r) writes.at aim
+
+pub writes_on : (x y : Placed) (r s : CopyLoan) (n seen : ℕ) → Writes r n → y ≡ counted x
+    → s.local ≡ LendStores (copy_of (loan_of r.lending.order) r.payload) r.loan.slot (length r.lending.words + (n + 1)) → n + 1 < length r.payload
+    → GoesOn x r seen y s None
+writes_on x y r s n seen writes seat local low p aim =
+    let on : (placed (accessed x.seat) (LendStores (copy_of (loan_of r.lending.order) r.payload) r.loan.slot (length r.lending.words + (n + 1)))
+    ≡ next p (placed x.seat (LendStores (copy_of (loan_of r.lending.order) r.payload) r.loan.slot (length r.lending.words + n))) seen)
+    × (tells p (placed x.seat (LendStores (copy_of (loan_of r.lending.order) r.payload) r.loan.slot (length r.lending.words + n))) seen ≡ None) =
+    write_goes_on p x.seat r.lending r.payload r.loan.slot n seen (aimed_write p x.seat r n writes aim).0 low in (
+      ap₂ placed (seat_is x y seat) local ∙ on.0 ∙ ap (λ (l : Local). next p (placed x.seat l) seen) (sym writes.local),
+      ap (λ (l : Local). tells p (placed x.seat l) seen) writes.local ∙ on.1,
+    )
+
+pub writes_made : (x y : Placed) (r s : CopyLoan) (n seen : ℕ) → Writes r n → y ≡ counted x → n < length r.payload → length r.payload ≤ n + 1
+    → GoesOn x r seen y s (Some (Made r.loan))
+writes_made x y r s n seen writes seat low high p aim =
+    let on : (next p (placed x.seat (LendStores (copy_of (loan_of r.lending.order) r.payload) r.loan.slot (length r.lending.words + n))) seen ≡ after p (sends p (accessed x.seat) r.loan true))
+    × (tells p (placed x.seat (LendStores (copy_of (loan_of r.lending.order) r.payload) r.loan.slot (length r.lending.words + n))) seen ≡ answered p (sends p (accessed x.seat) r.loan true))
+    × (r.loan.number ≡ next_handle p (accessed x.seat)) =
+    write_makes p x.seat r.lending r.payload r.loan n seen (aimed_write p x.seat r n writes aim).0 low high writes.made in (
+      ap (λ (l : Local). next p (placed x.seat l) seen) writes.local ∙ on.0 ∙ ap (λ (z : Seat). after p (sends p z r.loan true)) (sym (seat_is x y seat)),
+      ap (λ (l : Local). tells p (placed x.seat l) seen) writes.local ∙ on.1 ∙ ap (λ (z : Seat). answered p (sends p z r.loan true)) (sym (seat_is x y seat)),
+      on.2 ∙ sym (ap (next_handle p) (seat_is x y seat)),
+    )
+
+pub writes_aimed : (x y : Placed) (r : CopyLoan) (k : Local) (n : ℕ) → Writes r n → y ≡ counted x → StaysAimed x r y (record r { local = k })
+writes_aimed x y r k n writes seat p aim told =
+    let known : Knows p x.seat r.lending × IsPayloadAt p r.loan r.place (length r.payload) = aimed_write p x.seat r n writes aim in
+    subst (λ (a : CopyAt). copies.AreAimed p y.seat a (record r { local = k })) (sym writes.at)
+    (subst (λ (z : Seat). Knows p z r.lending) (sym (seat_is x y seat))
+    (record { number = known.0.number; words = known.0.words; slots = known.0.slots }), known.1)

@@ -30,7 +30,9 @@ impl CopyLending {
         ensures same { IsSameCopy self.old self.new }
     {
         seat.count_access();
-        let loan = self.lending.store_ahead()?;
+        let Some(loan) = self.lending.store_ahead() else {
+            return None;
+        };
         if self.payload.len() == 0 {
             self.at = CopyAt::Rest;
             return Some(CopyLent::Made(loan));
