@@ -1,6 +1,7 @@
 -- How the loan of a copy begins.
-use Rattle.std.proofs.Common.{◌≡◌, ◌<◌, ℕ, Bool, true, false, cond, List, [], ◌∷◌, Option, Some, None, refl, ap, ap₂, sym, ◌∙◌}
-use Rattle.std.specs.Prelude.{not, nat_le, if◌then◌else◌}
+use Rattle.std.proofs.Common.{◌≡◌, ℕ, Bool, true, false, List, [], ◌∷◌, Some, None, length, take, refl, ap, sym, ◌∙◌}
+use Rattle.std.proofs.Math.Seq.{take-length}
+use Rattle.std.specs.Prelude.{Option, not, nat_le, if◌then◌else◌}
 use Rattle.iox_model.specs.Handles.{is_request_loan}
 use Rattle.iox_model.specs.Loans.{fits_size, lending_ways}
 use Rattle.iox_model.specs.Maps.{or_else, refused_if}
@@ -20,6 +21,7 @@ use Rattle.iox_wire_locals.specs.Tables.{Setting, port_shape}
 use Rattle.iox_wire_loans.specs.declared.lender.Lender.{Lender}
 use Rattle.iox_wire_loans.specs.Lenders.{IsClient, IsLender}
 use Rattle.iox_wire_copies.specs.Copies.{copy_of}
+use Rattle.iox_wire_copies.specs.CopyAims.{HasSamePeers}
 use Rattle.iox_wire_copies.proofs.CopyLemmas.{copied}
 
 -- ---- the copy begins as its loan does that is told without the payload
@@ -71,3 +73,46 @@ too_long p x t k payload lender client long =
     either_alike (is_count p.limits.request k) x _ _
     (refused_alike p x (fits_size (p.port t.port) p.limits.request k) _ (new_request p x (p.port t.port) k [] false) payload
     (too_big p t k lender client long))
+
+-- ---- the node knows of the same nodes
+
+takes_peers : (x : Seat) (o : NewLoan) (free : List ℕ) → HasSamePeers x (takes_slot x o free)
+takes_peers x o [] = record { node = refl; forgot = refl }
+takes_peers x o (slot ∷ free) = record { node = refl; forgot = refl }
+
+loans_peers : (x : Seat) (o : NewLoan) (left : List Way) → HasSamePeers x (loaning x o left)
+loans_peers x o [] = takes_peers x o (free_slots x o.port)
+loans_peers x o (w ∷ left) = record { node = refl; forgot = refl }
+
+lends_peers : (p : Setting) (x : Seat) (r : Option CallRefusal) (o : NewLoan) → HasSamePeers x (lends p x r o)
+lends_peers p x (Some r) o = record { node = refl; forgot = refl }
+lends_peers p x None o = loans_peers x o (lending_ways (known p x) (loan_in p o))
+
+either_peers : (b : Bool) (x y : Seat) → HasSamePeers x y → HasSamePeers x (if b then y else ended x (Refuses WrongLength))
+either_peers true x y peers = peers
+either_peers false x y peers = record { node = refl; forgot = refl }
+
+pub begins_peers : (p : Setting) (x y : Seat) (q : Port) (k : ℕ) → y ≡ lends_request p x q k [] false → HasSamePeers x y
+begins_peers p x y q k is =
+    let peers : HasSamePeers x (lends_request p x q k [] false) =
+    either_peers (is_count p.limits.request k) x _ (lends_peers p x (request_refusal p x q k) (new_request p x q k [] false)) in
+    record {
+      node = ap (λ (z : Seat). z.node) is ∙ peers.node;
+      forgot = ap (λ (z : Seat). z.forgot) is ∙ peers.forgot;
+    }
+
+-- ---- the whole payload, or none of what is too long
+
+pub whole_payload : (words : List ℕ) (kept : ℕ) → kept ≡ length words → take kept words ≡ words
+whole_payload words kept is = ap (λ (n : ℕ). take n words) is ∙ take-length words
+
+-- a copy with what is kept of its payload begins as it does with all of it
+pub kept_whole : (p : Setting) (x : Seat) (t : Lender) (k : ℕ) (words kept : List ℕ) (n : ℕ) → kept ≡ take n words → n ≡ length words
+    → lends_request p x (p.port t.port) k kept true ≡ lends_request p x (p.port t.port) k words true
+kept_whole p x t k words kept n is all = ap (λ (ws : List ℕ). lends_request p x (p.port t.port) k ws true) (is ∙ whole_payload words n all)
+
+pub kept_none : (p : Setting) (x : Seat) (t : Lender) (k : ℕ) (words kept : List ℕ) (n : ℕ) → IsLender p t → IsClient p t → nat_le k t.longest ≡ false
+    → kept ≡ take n words → n ≡ 0 → lends_request p x (p.port t.port) k kept true ≡ lends_request p x (p.port t.port) k words true
+kept_none p x t k words kept n lender client long is none =
+    ap (λ (ws : List ℕ). lends_request p x (p.port t.port) k ws true) (is ∙ ap (λ (m : ℕ). take m words) none)
+    ∙ sym (too_long p x t k words lender client long)

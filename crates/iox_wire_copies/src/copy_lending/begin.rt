@@ -1,5 +1,5 @@
 //! How the loan of a copy begins.
-ghost use Rattle.std.specs.Prelude.{◌≡◌};
+ghost use Rattle.std.specs.Prelude.{◌≡◌, ◌≤◌, length, vec_capacity};
 
 use super::CopyLending;
 use crate::at::CopyAt;
@@ -79,13 +79,21 @@ impl CopyLending {
             self.payload.reserve(kept)?;
         }
         self.lending.lend_request(seat, lender, number, elements, stops)?;
-        self.payload.clear();
-        if self.payload.extend_from_slice(&words[..kept]).is_err() {
-            unreachable!();
-        }
+        replace(&mut self.payload, &words[..kept]);
         self.slots = lender.places;
         self.places = places;
         self.at = CopyAt::Lends;
         Ok(())
+    }
+}
+
+/// Those are the words of the payload now.
+fn replace(payload: &mut Vec<u64>, words: &[u64])
+    requires { length words.now ≤ vec_capacity payload.old }
+    ensures { payload.new.items ≡ words.now }
+{
+    payload.clear();
+    if payload.extend_from_slice(words).is_err() {
+        unreachable!();
     }
 }
