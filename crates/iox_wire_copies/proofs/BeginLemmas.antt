@@ -2,7 +2,6 @@
 use Rattle.std.proofs.Common.{◌≡◌, ℕ, Bool, true, false, List, [], ◌∷◌, Some, None, length, take, refl, ap, sym, ◌∙◌}
 use Rattle.std.proofs.Math.Seq.{take-length}
 use Rattle.std.specs.Prelude.{Option, not, nat_le, if◌then◌else◌}
-use Rattle.iox_model.specs.Handles.{is_request_loan}
 use Rattle.iox_model.specs.Loans.{fits_size, lending_ways}
 use Rattle.iox_model.specs.Maps.{or_else, refused_if}
 use Rattle.iox_model.specs.Settings.{Shape, is_count, shape_of}
@@ -17,7 +16,7 @@ use Rattle.iox_wire_locals.specs.Courses.{ended, loaning, takes_slot}
 use Rattle.iox_wire_locals.specs.Known.{free_slots, known}
 use Rattle.iox_wire_locals.specs.Lendings.{lends, lends_request, new_request, request_refusal}
 use Rattle.iox_wire_locals.specs.NewLoans.{loan_in}
-use Rattle.iox_wire_locals.specs.Tables.{Setting, port_shape}
+use Rattle.iox_wire_locals.specs.Tables.{Setting}
 use Rattle.iox_wire_loans.specs.declared.lender.Lender.{Lender}
 use Rattle.iox_wire_loans.specs.Lenders.{IsClient, IsLender}
 use Rattle.iox_wire_copies.specs.Copies.{copy_of}

@@ -1,5 +1,5 @@
 -- What a step of a copy's loan does that stores no word.
-use Rattle.std.proofs.Common.{◌≡◌, ℕ, true, false, List, Some, None, refl, ap, ap₂, sym, subst, true≢false, ◌∙◌}
+use Rattle.std.proofs.Common.{◌≡◌, ℕ, false, List, Some, None, refl, ap, sym, subst, true≢false, ◌∙◌}
 use Rattle.iox_wire_locals.specs.declared.local.Local.{Local}
 use Rattle.iox_wire_locals.specs.declared.local.Local.TheVariants.{Idle, LendEmpties, LendStores}
 use Rattle.iox_wire_locals.specs.declared.seat.Seat.{Seat}
@@ -15,7 +15,6 @@ use Rattle.iox_wire_loans.specs.declared.order.Order.{Order}
 use Rattle.iox_wire_loans.specs.declared.slot_places.SlotPlaces.{SlotPlaces}
 use Rattle.iox_wire_loans.specs.Aims.{GetsBackUsed, IsLoanAt, TellsOfSlot, is_storing}
 use Rattle.iox_wire_loans.specs.Aims as loans
-use Rattle.iox_wire_loans.specs.Loans.{reply_in}
 use Rattle.iox_wire_copies.specs.declared.at.CopyAt.{CopyAt}
 use Rattle.iox_wire_copies.specs.declared.at.CopyAt.TheVariants as at
 use Rattle.iox_wire_copies.specs.declared.at.CopyLent.TheVariants as lent
@@ -75,12 +74,12 @@ pub lend_goes_on : (x y : Placed) (r s : CopyLoan) (seen : ℕ) → Lends r → 
     → loans.GoesOn x r.lending seen y s.lending → loans.Answers x r.lending seen None → GoesOn x r seen y s None
 lend_goes_on x y r s seen lends local loan before next_is over p aim = (
   ap (placed y.seat) local
-  ∙ ap (copied r.payload) (next_is p (aimed_loan p x.seat r lends aim).0)
-  ∙ sym (alike x r p seen loan before).led
-  ∙ ap (λ (l : Local). next p (placed x.seat l) seen) (sym lends.local),
+      ∙ ap (copied r.payload) (next_is p (aimed_loan p x.seat r lends aim).0)
+      ∙ sym (alike x r p seen loan before).led
+      ∙ ap (λ (l : Local). next p (placed x.seat l) seen) (sym lends.local),
   ap (λ (l : Local). tells p (placed x.seat l) seen) lends.local
-  ∙ (alike x r p seen loan before).told
-  ∙ over p (aimed_loan p x.seat r lends aim).0,
+      ∙ (alike x r p seen loan before).told
+      ∙ over p (aimed_loan p x.seat r lends aim).0,
 )
 
 -- it is refused
@@ -89,13 +88,13 @@ pub lend_refused : (x y : Placed) (r s : CopyLoan) (seen : ℕ) (reply : LendRep
     → loans.GoesOn x r.lending seen y s.lending → loans.Answers x r.lending seen (Some reply) → GoesOn x r seen y s (Some (lent.Refused reply))
 lend_refused x y r s seen reply lends local rests loan before next_is over p aim = (
   ap (placed y.seat) local
-  ∙ ap (λ (l : Local). placed y.seat (with_payload r.payload l)) (sym (it_rests s.lending.local rests))
-  ∙ ap (copied r.payload) (next_is p (aimed_loan p x.seat r lends aim).0)
-  ∙ sym (alike x r p seen loan before).led
-  ∙ ap (λ (l : Local). next p (placed x.seat l) seen) (sym lends.local),
+      ∙ ap (λ (l : Local). placed y.seat (with_payload r.payload l)) (sym (it_rests s.lending.local rests))
+      ∙ ap (copied r.payload) (next_is p (aimed_loan p x.seat r lends aim).0)
+      ∙ sym (alike x r p seen loan before).led
+      ∙ ap (λ (l : Local). next p (placed x.seat l) seen) (sym lends.local),
   ap (λ (l : Local). tells p (placed x.seat l) seen) lends.local
-  ∙ (alike x r p seen loan before).told
-  ∙ over p (aimed_loan p x.seat r lends aim).0,
+      ∙ (alike x r p seen loan before).told
+      ∙ over p (aimed_loan p x.seat r lends aim).0,
 )
 
 -- it knows of the same nodes
@@ -116,10 +115,11 @@ pub lend_aimed : (p : Setting) (x y : Placed) (r s : CopyLoan) → Lends r → s
     → loans.StaysAimed x r.lending y s.lending → IsAimed p x.seat r → TellsOfSlot s.slots s.local → IsAimed p y.seat s
 lend_aimed p x y r s lends at' local slots order same same_places stays aim told =
     let known : loans.IsAimed p x.seat r.lending × ArePayloads p r.lending.order.port r.slots r.places = aimed_loan p x.seat r lends aim in
-    subst (λ (a : CopyAt). AreAimed p y.seat a s) (sym at')
-    (stays p known.0 (slot_alike s.lending.places s.payload s.lending.local
-    (subst (λ (t : SlotPlaces). TellsOfSlot t (with_payload s.payload s.lending.local)) slots
-    (subst (TellsOfSlot s.slots) local told))),
-    subst (λ (o : Order). ArePayloads p o.port s.slots s.places) (sym order)
-    (subst (λ (t : SlotPlaces). ArePayloads p r.lending.order.port t s.places) (sym same)
-    (subst (ArePayloads p r.lending.order.port r.slots) (sym same_places) known.1)))
+    subst (λ (a : CopyAt). AreAimed p y.seat a s) (sym at') (
+      stays p known.0 (slot_alike s.lending.places s.payload s.lending.local
+          (subst (λ (t : SlotPlaces). TellsOfSlot t (with_payload s.payload s.lending.local)) slots
+          (subst (TellsOfSlot s.slots) local told))),
+      subst (λ (o : Order). ArePayloads p o.port s.slots s.places) (sym order)
+          (subst (λ (t : SlotPlaces). ArePayloads p r.lending.order.port t s.places) (sym same)
+          (subst (ArePayloads p r.lending.order.port r.slots) (sym same_places) known.1)),
+    )

@@ -1,10 +1,8 @@
 -- Where a copy is led as it stores a word.
-use Rattle.std.proofs.Common.{◌≡◌, ◌==◌, ◌+◌, ℕ, Bool, true, false, List, [], ◌∷◌, length, None, refl, ap, ap₂, sym, ◌∙◌}
+use Rattle.std.proofs.Common.{◌≡◌, ◌==◌, ◌+◌, ℕ, Bool, true, false, List, [], ◌∷◌, length, None, ap, sym, ◌∙◌}
 use Rattle.std.specs.Prelude.{if◌then◌else◌}
-use Rattle.iox_model.specs.declared.kind.Role.TheVariants.{Client, Server}
+use Rattle.iox_model.specs.declared.kind.Role.TheVariants.{Server}
 use Rattle.iox_model.specs.Handles.{is_request_loan}
-use Rattle.iox_model.specs.Maps.{has_number}
-use Rattle.iox_model.specs.Messages.{request_way}
 use Rattle.iox_model.specs.Peers.{others}
 use Rattle.iox_model.specs.Requests.{is_active_spent}
 use Rattle.iox_wire_locals.specs.declared.local.CallRefusal.TheVariants.{ExceedsMaxActiveRequests}
@@ -15,7 +13,7 @@ use Rattle.iox_wire_locals.specs.declared.local.Local.TheVariants.{LendStores}
 use Rattle.iox_wire_locals.specs.declared.seat.Seat.{Seat}
 use Rattle.iox_wire_locals.specs.declared.table.Entry.{Entry}
 use Rattle.iox_wire_locals.specs.declared.table.NewLoan.{NewLoan}
-use Rattle.iox_wire_locals.specs.Courses.{ended, emptying, lent, placed, sends, sends_request, sends_response}
+use Rattle.iox_wire_locals.specs.Courses.{ended, lent, placed, sends, sends_request, sends_response}
 use Rattle.iox_wire_locals.specs.Findings.{loan_stored}
 use Rattle.iox_wire_locals.specs.Known.{known, told_handle}
 use Rattle.iox_wire_locals.specs.NewLoans.{entry_in, loan_words}

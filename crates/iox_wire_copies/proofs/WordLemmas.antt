@@ -1,13 +1,12 @@
 -- The words of a copy are those of its loan, and then its payload.
-use Rattle.std.proofs.Common.{◌≡◌, ◌+◌, ◌<◌, ◌≤◌, ℕ, List, [], ◌∷◌, ◌++◌, length, slice_index, refl, ap, ap₂, sym, subst, ◌∙◌, arith, length-append, append_assoc}
+use Rattle.std.proofs.Common.{◌≡◌, ◌+◌, ◌<◌, ℕ, List, [], ◌∷◌, ◌++◌, length, slice_index, refl, ap, ap₂, sym, subst, ◌∙◌, length-append, append_assoc}
 use Rattle.std.proofs.lemmas.List.{get_or_append_left, get_or-append-add}
 use Rattle.iox_model.specs.declared.kind.Role.{Role}
 use Rattle.iox_model.specs.declared.kind.Role.TheVariants.{Client, Server}
 use Rattle.iox_model.specs.Messages.{Message}
 use Rattle.iox_wire_locals.specs.declared.seat.Seat.{Seat}
-use Rattle.iox_wire_locals.specs.declared.table.NewLoan.{NewLoan}
 use Rattle.iox_wire_locals.specs.NewLoans.{loan_words, message_in}
-use Rattle.iox_wire_locals.specs.Stored.{header_length, header_words, message_words}
+use Rattle.iox_wire_locals.specs.Stored.{header_length, header_words}
 use Rattle.iox_wire_locals.specs.Tables.{Setting, words_before_payload}
 use Rattle.iox_wire_loans.specs.declared.order.Order.{Order}
 use Rattle.iox_wire_loans.specs.Aims.{Knows}

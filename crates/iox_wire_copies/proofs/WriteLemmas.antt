@@ -1,6 +1,5 @@
 -- What a step of a copy's loan does that stores a word.
 use Rattle.std.proofs.Common.{◌≡◌, ◌==◌, ◌+◌, ◌<◌, ◌≤◌, ℕ, true, false, List, length, slice_index, Some, None, refl, ap, ap₂, sym, subst, ◌∙◌, arith}
-use Rattle.std.specs.Prelude.{Option}
 use Rattle.std.proofs.lemmas.Bool.{eq-eqb, ne_eqb}
 use Rattle.iox_steps.specs.declared.access.Access.TheVariants.{Store}
 use Rattle.iox_wire_words.specs.Programs.{program_access, word_place}
@@ -83,8 +82,8 @@ store_writes p x r payload (LendStores o slot n) k loan seen is aim ahead some =
     let end : n + 1 ≡ length r.words = ahead.1 in
     let more : (n + 1 == length (loan_words p (copy_of o payload))) ≡ false = ne_eqb _ _ (λ e. omega (arith, e, total, end, some)) in (
       ap (λ (q : NewLoan). placed (accessed x) (LendStores (copy_of q payload) loan.slot (length r.words + 0))) (sym is)
-      ∙ ap₂ (λ (s m : ℕ). placed (accessed x) (LendStores (copy_of o payload) s m)) (ap (λ (e : Entry). e.slot) ahead.2) (omega (arith, end))
-      ∙ more_next p x (copy_of o payload) slot n seen more,
+          ∙ ap₂ (λ (s m : ℕ). placed (accessed x) (LendStores (copy_of o payload) s m)) (ap (λ (e : Entry). e.slot) ahead.2) (omega (arith, end))
+          ∙ more_next p x (copy_of o payload) slot n seen more,
       more_tells p x (copy_of o payload) slot n seen more,
     )
 store_writes p x r payload l k loan seen is aim ahead some = absurd ahead
@@ -128,7 +127,7 @@ write_goes_on p x r payload slot n seen knows low =
     let total : length (loan_words p (copy_of (loan_of r.order) payload)) ≡ length r.words + length payload = copy_has p x r payload knows in
     let more : ((length r.words + n) + 1 == length (loan_words p (copy_of (loan_of r.order) payload))) ≡ false = ne_eqb _ _ (λ e. omega (arith, e, total, low)) in (
       ap (λ (m : ℕ). placed (accessed x) (LendStores (copy_of (loan_of r.order) payload) slot m)) (omega arith)
-      ∙ more_next p x (copy_of (loan_of r.order) payload) slot (length r.words + n) seen more,
+          ∙ more_next p x (copy_of (loan_of r.order) payload) slot (length r.words + n) seen more,
       more_tells p x (copy_of (loan_of r.order) payload) slot (length r.words + n) seen more,
     )
 
@@ -202,8 +201,8 @@ copy_writes x y r s seen k loan lends seat local same at' ahead some p aim =
     × (tells p (placed x.seat (with_payload r.payload r.lending.local)) seen ≡ None) =
     store_writes p x.seat r.lending r.payload r.lending.local k loan seen at' (aimed_loan p x.seat r lends aim).0 ahead some in (
       ap₂ placed (seat_is x y seat)
-      (local ∙ ap₂ (λ (o : Order) (ws : List ℕ). LendStores (copy_of (loan_of o) r.payload) loan.slot (length ws + 0)) same.order same.words)
-      ∙ on.0 ∙ ap (λ (l : Local). next p (placed x.seat l) seen) (sym lends.local),
+          (local ∙ ap₂ (λ (o : Order) (ws : List ℕ). LendStores (copy_of (loan_of o) r.payload) loan.slot (length ws + 0)) same.order same.words)
+          ∙ on.0 ∙ ap (λ (l : Local). next p (placed x.seat l) seen) (sym lends.local),
       ap (λ (l : Local). tells p (placed x.seat l) seen) lends.local ∙ on.1,
     )
 
@@ -227,12 +226,13 @@ pub copy_aimed : (x y : Placed) (r s : CopyLoan) (k : Local) (loan : Entry) → 
 copy_aimed x y r s k loan lends seat writes made local same at' ahead slots there p aim told =
     let known : loans.IsAimed p x.seat r.lending × ArePayloads p r.lending.order.port r.slots r.places = aimed_loan p x.seat r lends aim in
     let within : loan.slot < r.slots.slots = subst (λ (t : SlotPlaces). loan.slot < t.slots) slots (subst (TellsOfSlot s.slots) local told) in
-    subst (λ (a : CopyAt). copies.AreAimed p y.seat a s) (sym writes)
-    (subst (λ (z : Seat). Knows p z s.lending) (sym (seat_is x y seat))
-    (stored_knows p x.seat r.lending s.lending r.lending.local k loan known.0 ahead same),
-    subst (λ (e : Entry). IsPayloadAt p e s.place (length s.payload)) (sym made)
-    (payload_there p r.lending.order r.slots r.places loan s.place (length s.payload) known.1
-    (stored_loan r.lending.order r.lending.local k (length r.lending.words) loan at' ahead) within (there within)))
+    subst (λ (a : CopyAt). copies.AreAimed p y.seat a s) (sym writes) (
+      subst (λ (z : Seat). Knows p z s.lending) (sym (seat_is x y seat))
+          (stored_knows p x.seat r.lending s.lending r.lending.local k loan known.0 ahead same),
+      subst (λ (e : Entry). IsPayloadAt p e s.place (length s.payload)) (sym made)
+          (payload_there p r.lending.order r.slots r.places loan s.place (length s.payload) known.1
+          (stored_loan r.lending.order r.lending.local k (length r.lending.words) loan at' ahead) within (there within)),
+    )
 
 -- What a copy is that stores word n of its payload.
 pub record Writes (r : CopyLoan) (n : ℕ) : Type 0 where
@@ -270,6 +270,8 @@ writes_made x y r s n seen writes seat low high p aim =
 pub writes_aimed : (x y : Placed) (r : CopyLoan) (k : Local) (n : ℕ) → Writes r n → y ≡ counted x → StaysAimed x r y (record r { local = k })
 writes_aimed x y r k n writes seat p aim told =
     let known : Knows p x.seat r.lending × IsPayloadAt p r.loan r.place (length r.payload) = aimed_write p x.seat r n writes aim in
-    subst (λ (a : CopyAt). copies.AreAimed p y.seat a (record r { local = k })) (sym writes.at)
-    (subst (λ (z : Seat). Knows p z r.lending) (sym (seat_is x y seat))
-    (record { number = known.0.number; words = known.0.words; slots = known.0.slots }), known.1)
+    subst (λ (a : CopyAt). copies.AreAimed p y.seat a (record r { local = k })) (sym writes.at) (
+      subst (λ (z : Seat). Knows p z r.lending) (sym (seat_is x y seat))
+          (record { number = known.0.number; words = known.0.words; slots = known.0.slots }),
+      known.1,
+    )

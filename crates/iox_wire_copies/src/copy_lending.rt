@@ -38,10 +38,7 @@ const NO_SLOTS: SlotPlaces = SlotPlaces {
     step: 1,
 };
 
-const NO_PAYLOADS: PayloadPlaces = PayloadPlaces {
-    step: 1,
-    room: 0,
-};
+const NO_PAYLOADS: PayloadPlaces = PayloadPlaces { step: 1, room: 0 };
 
 /// The loan of a copy by a node, beside what the node keeps: as a loan gets back and takes a slot,
 /// whose words it stores, and those of its payload behind them. Only its begin takes memory.

@@ -78,7 +78,8 @@ impl CopyLending {
         if self.payload.capacity() < kept {
             self.payload.reserve(kept)?;
         }
-        self.lending.lend_request(seat, lender, number, elements, stops)?;
+        self.lending
+            .lend_request(seat, lender, number, elements, stops)?;
         replace(&mut self.payload, &words[..kept]);
         self.slots = lender.places;
         self.places = places;

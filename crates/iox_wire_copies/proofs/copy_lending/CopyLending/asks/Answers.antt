@@ -1,4 +1,4 @@
-use Rattle.std.proofs.Common.{◌≡◌, ◌+◌, ◌<◌, ◌^◌, ℕ, Bool, true, length, refl, sym, subst, ap, ◌∙◌}
+use Rattle.std.proofs.Common.{◌≡◌, ◌+◌, ◌<◌, ◌^◌, ℕ, Bool, length, sym, subst, ap, ◌∙◌}
 use Rattle.std.proofs.lemmas.Grind.{get_or_default_zero}
 use Rattle.std.specs.Bool.{OnTrue}
 use Rattle.iox_steps.specs.declared.access.Access.TheVariants.{Store}
@@ -13,7 +13,6 @@ use Rattle.iox_wire_copies.specs.contracts.copy_lending.CopyLending.{the_view}
 use Rattle.iox_wire_copies.specs.Copies.{ArePayloads, CopyLoan, HasMade, HasWordsLeft, local_of}
 use Rattle.iox_wire_copies.specs.CopyAims.{IsAimed}
 use Rattle.iox_wire_copies.specs.declared.at.CopyAt.{CopyAt}
-use Rattle.iox_wire_copies.specs.declared.at.CopyAt.TheVariants as at
 use Rattle.iox_wire_copies.proofs.LendLemmas.{Lends, aimed_loan}
 use Rattle.iox_wire_copies.proofs.WriteLemmas.{Writes, aimed_write, asks_alike, write_asks}
 use Rattle.iox_wire_copies.proofs.copy_lending.CopyLending.asks.Goals as goal

@@ -1,4 +1,3 @@
-use Rattle.std.proofs.Common.{◌≡◌}
 use Rattle.iox_wire_copies.proofs.copy_lending.CopyLending.go_on.Goals as goal
 
 pub returns-then-is_storing-clause-next : goal.returns-then-is_storing-clause-next

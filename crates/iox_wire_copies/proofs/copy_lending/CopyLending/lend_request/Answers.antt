@@ -17,7 +17,7 @@ returns-clause-begun c p lender client number ways =
     elim c.if-elements-lender.branch [
       | then-elements-lender w ↦ kept_whole p c.args.seat.now.seat c.args.lender.now c.args.elements c.args.words.now c.replace.new.payload.items c.if-elements-lender.kept c.replace.ensures w.kept-is
       | else-elements-lender w ↦ kept_none p c.args.seat.now.seat c.args.lender.now c.args.elements c.args.words.now c.replace.new.payload.items c.if-elements-lender.kept lender client
-        (lt-leb c.args.elements c.args.lender.now.longest w.if-elements-lender.false) c.replace.ensures w.kept-is
+          (lt-leb c.args.elements c.args.lender.now.longest w.if-elements-lender.false) c.replace.ensures w.kept-is
     ] in
     ap (copied c.replace.new.payload.items) begun
     ∙ sym (begins_copied p c.args.seat.now.seat (p.port c.args.lender.now.port) c.args.elements c.replace.new.payload.items)

@@ -1,12 +1,9 @@
-use Rattle.std.proofs.Common.{◌≡◌, ◌+◌, ◌<◌, ℕ, None, Some, length, refl, sym, subst, ap, ◌∙◌, arith}
+use Rattle.std.proofs.Common.{◌≡◌, ◌<◌, None, Some, length, refl, sym, subst, ap, arith}
 use Rattle.std.specs.Prelude.{Option}
-use Rattle.iox_wire_locals.specs.declared.local.Local.{Local}
-use Rattle.iox_wire_locals.specs.declared.local.Local.TheVariants.{LendStores}
 use Rattle.iox_wire_locals.specs.declared.table.Entry.{Entry}
 use Rattle.iox_wire_loans.specs.Aims.{IsLoanAt, StoresAhead}
-use Rattle.iox_wire_loans.specs.Orders.{loan_of}
 use Rattle.iox_wire_copies.specs.contracts.copy_lending.CopyLending.{the_view}
-use Rattle.iox_wire_copies.specs.Copies.{CopyLoan, copy_of, local_of}
+use Rattle.iox_wire_copies.specs.Copies.{CopyLoan, local_of}
 use Rattle.iox_wire_copies.specs.CopyAims.{GoesOn, IsLending, StaysAimed}
 use Rattle.iox_wire_copies.specs.declared.at.CopyAt.{CopyAt}
 use Rattle.iox_wire_copies.specs.declared.at.CopyAt.TheVariants as at

@@ -1,4 +1,4 @@
-use Rattle.std.proofs.Common.{◌≡◌, ◌+◌, ◌<◌, ◌≤◌, ◌^◌, None, Some, length, refl, sym, subst, ap, ◌∙◌, arith}
+use Rattle.std.proofs.Common.{◌≡◌, ◌+◌, ◌<◌, ◌^◌, None, Some, length, sym, subst, ap, arith}
 use Rattle.iox_wire_copies.specs.contracts.copy_lending.CopyLending.{the_view}
 use Rattle.iox_wire_copies.specs.Copies.{CopyLoan, HasMade, HasWordsLeft, local_of}
 use Rattle.iox_wire_copies.specs.CopyAims.{GoesOn, IsWriting, StaysAimed}
