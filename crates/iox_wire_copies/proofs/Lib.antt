@@ -4,3 +4,4 @@ pub mod StoreLemmas
 pub mod BeginLemmas
 pub mod LendLemmas
 pub mod WriteLemmas
+pub mod SendLemmas

@@ -1,6 +1,7 @@
 //! Where a copy is, and what it answers as it is over.
 use iox_wire_loans::LendReply;
 use iox_wire_locals::Entry;
+use iox_wire_request_sends::RequestReply;
 
 /// Where the loan of a copy is, without what belongs to it.
 #[derive(Clone, Copy)]
@@ -19,4 +20,23 @@ pub enum CopyLent {
     Refused(LendReply),
     /// It is made, and is no handle: it is to be sent.
     Made(Entry),
+}
+
+/// Where a client is that copies a request, without what belongs to it.
+#[derive(Clone, Copy)]
+pub enum ClientAt {
+    Rest,
+    /// The payload is not of whole elements: it is refused, and has no access left.
+    Refuses,
+    Lends,
+    Sends,
+}
+
+/// What the copy of a request answers.
+#[derive(Clone, Copy)]
+pub enum CopyReply {
+    /// Its loan is refused.
+    OfLoan(LendReply),
+    /// What the send of its loan answers.
+    OfSend(RequestReply),
 }
