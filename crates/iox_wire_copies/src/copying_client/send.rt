@@ -37,7 +37,10 @@ impl CopyingClient {
                 self.at = ClientAt::Rest;
                 Some(CopyReply::OfLoan(reply))
             }
-            Some(CopyLent::Made(loan)) => self.send(seat, loan),
+            Some(CopyLent::Made(loan)) => {
+                self.at = ClientAt::Rest;
+                self.send(seat, loan)
+            }
         }
     }
 
