@@ -6,6 +6,7 @@ mod at;
 mod copy_lending;
 mod copying_client;
 mod payload_places;
+mod uses;
 mod worked;
 
 pub use at::{CopyLent, CopyReply};
