@@ -1,13 +1,10 @@
 -- How the copy of a request goes on from its loan to its send.
-use Rattle.std.proofs.Common.{◌≡◌, ◌+◌, ◌<◌, ◌^◌, ℕ, Bool, true, false, List, length, refl, ap, ap₂, sym, subst, true≢false, ◌∙◌}
-use Rattle.std.specs.Prelude.{Option, None, Some, option_map, is_none, map, filter, not, ◌&&◌}
-use Rattle.iox_model.specs.declared.kind.Kind.{Kind}
+use Rattle.std.proofs.Common.{◌≡◌, ◌+◌, ◌<◌, ◌^◌, ℕ, true, false, List, refl, ap, sym, subst, true≢false, ◌∙◌}
+use Rattle.std.specs.Prelude.{Option, None, Some, option_map}
 use Rattle.iox_model.specs.declared.kind.Kind.TheVariants.{RequestMut}
 use Rattle.iox_model.specs.declared.kind.Role.TheVariants.{Server}
-use Rattle.iox_model.specs.Commands.{Reply}
 use Rattle.iox_model.specs.Handles.{is_request_loan}
 use Rattle.iox_model.specs.Peers.{others}
-use Rattle.iox_wire_locals.specs.declared.local.Ending.{Ending}
 use Rattle.iox_wire_locals.specs.declared.local.Local.{Local}
 use Rattle.iox_wire_locals.specs.declared.local.Local.TheVariants.{Idle, Ends, SendEnds}
 use Rattle.iox_wire_locals.specs.declared.seat.Seat.{Seat}
@@ -29,7 +26,6 @@ use Rattle.iox_wire_request_sends.specs.declared.at.RequestReply.{RequestReply}
 use Rattle.iox_wire_request_sends.specs.Aims as requests
 use Rattle.iox_wire_request_sends.specs.Aims.{Knows, is_ending}
 use Rattle.iox_wire_request_sends.specs.RequestDispatches.{RequestDispatch}
-use Rattle.iox_wire_request_sends.specs.RequestDispatches as dispatches
 use Rattle.iox_wire_copies.specs.declared.at.ClientAt.{ClientAt}
 use Rattle.iox_wire_copies.specs.declared.at.ClientAt.TheVariants as at
 use Rattle.iox_wire_copies.specs.declared.at.CopyLent.TheVariants as lent
@@ -148,11 +144,12 @@ pub lends_aimed : (x y : Placed) (r s : CopyCall) → Lends r → s.at ≡ at.Le
     → copies.StaysAimed x r.lends y s.lends → copies.KeepsPeers x r.lends y → IsSameCopy r.lends s.lends → StaysAimed x r y s
 lends_aimed x y r s lends at' local told stays peers same p aim of_slot =
     let known_so : copies.IsAimed p x.seat r.lends × KnowsServers p x.seat r.lends.lending.order.port r.lends.lending.order.lane r.sends = aimed_lends p x.seat r lends aim in
-    subst (λ (a : ClientAt). AreAimed p y.seat a s) (sym at')
-    (stays p known_so.0 (subst (TellsOfSlot s.lends.slots) local of_slot),
-    subst (λ (q : RequestDispatch). KnowsServers p y.seat s.lends.lending.order.port s.lends.lending.order.lane q) (sym told)
-    (subst (λ (o : Order). KnowsServers p y.seat o.port o.lane r.sends) (sym same.order)
-    (servers_stay p x.seat y.seat r.lends.lending.order.port r.lends.lending.order.lane r.sends (peers p known_so.0) known_so.1)))
+    subst (λ (a : ClientAt). AreAimed p y.seat a s) (sym at') (
+      stays p known_so.0 (subst (TellsOfSlot s.lends.slots) local of_slot),
+      subst (λ (q : RequestDispatch). KnowsServers p y.seat s.lends.lending.order.port s.lends.lending.order.lane q) (sym told)
+          (subst (λ (o : Order). KnowsServers p y.seat o.port o.lane r.sends) (sym same.order)
+          (servers_stay p x.seat y.seat r.lends.lending.order.port r.lends.lending.order.lane r.sends (peers p known_so.0) known_so.1)),
+    )
 
 -- the loan is refused
 pub refused_next : (x y : Placed) (r s : CopyCall) (k : CopyLoan) (seen : ℕ) (reply : LendReply) → Lends r → s.local ≡ Idle → is_busy k.local ≡ false

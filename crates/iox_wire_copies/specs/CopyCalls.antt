@@ -1,5 +1,5 @@
 -- The call of a client that copies a request, and what a step of it does.
-use Rattle.std.specs.Prelude.{◌≡◌, ◌+◌, ◌<◌, ◌^◌, ℕ, Bool, true, false, List, Option, Some, None, option_map}
+use Rattle.std.specs.Prelude.{◌≡◌, ◌+◌, ◌<◌, ◌^◌, ℕ, Bool, true, false, Option, option_map}
 use Rattle.iox_model.specs.Commands.{Reply}
 use Rattle.iox_model.specs.Peers.{others}
 use Rattle.iox_model.specs.declared.kind.Kind.TheVariants.{RequestMut}

@@ -85,7 +85,8 @@ impl CopyingClient {
             self.at = ClientAt::Refuses;
             return Ok(());
         };
-        self.lends.lend_request(seat, lender, places, number, count, words, stops)?;
+        self.lends
+            .lend_request(seat, lender, places, number, count, words, stops)?;
         self.at = ClientAt::Lends;
         Ok(())
     }

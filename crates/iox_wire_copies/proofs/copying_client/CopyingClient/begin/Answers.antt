@@ -1,4 +1,4 @@
-use Rattle.std.proofs.Common.{◌≡◌, ℕ, sym, subst, ap}
+use Rattle.std.proofs.Common.{ℕ, sym, subst}
 use Rattle.iox_wire_locals.specs.Known.{free_lanes}
 use Rattle.iox_wire_locals.specs.Lendings.{first_lane}
 use Rattle.iox_wire_copies.specs.CopyAims.{HasSamePeers}
@@ -15,5 +15,5 @@ returns-clause-aimed c p lender client number returning payloads ways knows of_s
     (subst (λ (r : CopyCall). KnowsServers p c.args.seat.now.seat c.args.lender.now.port lane r.sends) (sym c.self.view_is) knows) in (
       c.in_ok-lend_request.ensures.aimed p lender client number returning payloads of_slot,
       subst (λ (l : ℕ). KnowsServers p c.lend_request.new.seat.seat c.lend_request.new.self.lending.order.port l c.self.inside.sends) (sym c.in_ok-lend_request.ensures.request.lane)
-      (subst (λ (n : ℕ). KnowsServers p c.lend_request.new.seat.seat n lane c.self.inside.sends) (sym c.in_ok-lend_request.ensures.ordered.1) told),
+          (subst (λ (n : ℕ). KnowsServers p c.lend_request.new.seat.seat n lane c.self.inside.sends) (sym c.in_ok-lend_request.ensures.ordered.1) told),
     )

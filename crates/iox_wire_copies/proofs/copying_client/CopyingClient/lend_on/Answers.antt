@@ -10,7 +10,7 @@ use Rattle.iox_wire_copies.specs.declared.at.ClientAt.TheVariants as at
 use Rattle.iox_wire_copies.specs.declared.at.CopyLent.{CopyLent}
 use Rattle.iox_wire_copies.specs.declared.at.CopyLent.TheVariants.{Made}
 use Rattle.iox_wire_copies.specs.CopyAims as copies
-use Rattle.iox_wire_copies.specs.CopyCalls.{Answers, CopyCall, GoesOn, IsAimed, IsLending, LeadsTo, StaysAimed, local_of}
+use Rattle.iox_wire_copies.specs.CopyCalls.{Answers, CopyCall, IsAimed, IsLending, LeadsTo, StaysAimed, local_of}
 use Rattle.iox_wire_copies.proofs.SendLemmas.{Lends, client_lends, lends_aimed, lends_over, made_leads, made_next, made_over}
 use Rattle.iox_wire_copies.proofs.copying_client.CopyingClient.lend_on.Goals as goal
 
