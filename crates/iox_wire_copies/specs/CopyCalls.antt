@@ -74,7 +74,8 @@ LendsRequest name order = Unit {0}
 -- ---- the wire
 
 -- What it was told of the servers is so on the wire, for a request of that port on that lane.
-pub record KnowsServers (p : Setting) (x : Seat) (port lane : ℕ) (s : RequestDispatch) : Type 0 where
+pub record KnowsServers
+    (p : Setting) (x : Seat) (port lane : ℕ) (s : RequestDispatch) : Type 0 where
   pub told : (loan : Entry) → loan.port ≡ port → IsToldOf p loan s.terms
   pub targets :
       (loan : Entry) → loan.port ≡ port → loan.lane ≡ lane → AreTargets p s.terms loan s.targets

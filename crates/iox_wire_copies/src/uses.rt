@@ -1,5 +1,6 @@
 //! Callers, proved from the clauses alone.
-ghost use Rattle.std.specs.Prelude.{ℕ, ◌≡◌, ◌+◌, ◌<◌, ◌≤◌, ◌^◌, OnErr, OnOk, Some, false, length, true};
+ghost use Rattle.std.specs.Prelude.{ℕ, ◌≡◌, ◌+◌, ◌<◌, ◌≤◌, ◌^◌, OnErr, OnOk, Some};
+ghost use Rattle.std.specs.Prelude.{false, length, true};
 ghost use Rattle.iox_model.specs.declared.call.Call.TheVariants.{SendCopy};
 ghost use Rattle.iox_model.specs.Commands.{Payload};
 ghost use Rattle.iox_model.specs.Loans.{request_ways};
