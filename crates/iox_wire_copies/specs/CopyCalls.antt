@@ -13,12 +13,14 @@ use Rattle.iox_wire_locals.specs.declared.table.Entry.{Entry}
 use Rattle.iox_wire_locals.specs.Courses.{placed, sends}
 use Rattle.iox_wire_locals.specs.Known.{known}
 use Rattle.iox_wire_locals.specs.Lendings.{next_handle}
+use Rattle.iox_wire_locals.specs.NewLoans.{entry_in}
 use Rattle.iox_wire_locals.specs.Steps.{next, tells}
 use Rattle.iox_wire_locals.specs.Tables.{Setting}
 use Rattle.iox_wire_seats.specs.Lends.{MayLend}
 use Rattle.iox_wire_seats.specs.Seats.{Placed}
 use Rattle.iox_wire_loans.specs.Aims.{GetsBackUsed, TellsOfSlot, after, answered}
 use Rattle.iox_wire_loans.specs.Loans as loans
+use Rattle.iox_wire_loans.specs.Orders.{loan_of}
 use Rattle.iox_wire_loans.specs.declared.order.Order.{Order}
 use Rattle.iox_wire_request_sends.specs.Aims as requests
 use Rattle.iox_wire_request_sends.specs.Aims.{FindsAt, IsToldOf}
@@ -31,7 +33,7 @@ use Rattle.iox_wire_copies.specs.declared.at.CopyReply.{CopyReply}
 use Rattle.iox_wire_copies.specs.declared.at.CopyReply.TheVariants as copy_replies
 use Rattle.iox_wire_copies.specs.Copies.{CopyLoan}
 use Rattle.iox_wire_copies.specs.CopyAims as copies
-use Rattle.iox_wire_copies.specs.CopyAims.{IsHeld}
+use Rattle.iox_wire_copies.specs.CopyAims.{IsHeld, IsSameCopy}
 
 -- ---- what it stands for
 
@@ -70,6 +72,11 @@ sends_at name = false
 abbrev pub LendsRequest : ClientAt → Order → Type 0
 LendsRequest at.Lends order = (order.kind ≡ RequestMut) × (order.request + 1 < 2 ^ 63)
 LendsRequest name order = Unit {0}
+
+-- what it sends is the loan that it made
+abbrev pub SendsLoan : ClientAt → Order → Entry → Type 0
+SendsLoan at.Sends order loan = loan ≡ entry_in (loan_of order) loan.slot
+SendsLoan name order loan = Unit {0}
 
 -- ---- the wire
 
@@ -128,6 +135,16 @@ Answers x r seen reply =
 abbrev pub StaysAimed : Placed → CopyCall → Placed → CopyCall → Type 0
 StaysAimed x r y s =
     (p : Setting) → IsAimed p x.seat r → TellsOfSlot s.lends.slots s.local → IsAimed p y.seat s
+
+-- it is the copy of the same order, told of the same servers
+pub record IsSameCall (r s : CopyCall) : Type 0 where
+  pub lends : IsSameCopy r.lends s.lends
+  pub terms : s.sends.terms ≡ r.sends.terms
+  pub targets : s.sends.targets ≡ r.sends.targets
+
+-- So the loan that it sends, if it does.
+abbrev pub SendsItsLoan : CopyCall → Type 0
+SendsItsLoan r = SendsLoan r.at r.lends.lending.order r.sends.loan
 
 -- ---- the loan is made
 

@@ -27,7 +27,7 @@ impl Model for CopyingClient {
     ghost use Rattle.std.specs.Prelude.{◌≡◌};
     ghost use Rattle.iox_wire_locals.specs.Begins.{is_busy};
     ghost use Rattle.iox_wire_copies.specs.CopyCalls.{CopyCall, LendsRequest, lends_at, local_of};
-    ghost use Rattle.iox_wire_copies.specs.CopyCalls.{sends_at};
+    ghost use Rattle.iox_wire_copies.specs.CopyCalls.{SendsLoan, sends_at};
 
     ghost Value = { CopyCall };
 
@@ -40,7 +40,8 @@ impl Model for CopyingClient {
 
     ghost invariant = { λ c.
         (is_busy c.lends.local ≡ lends_at c.at) × (is_busy c.sends.local ≡ sends_at c.at)
-        × LendsRequest c.at c.lends.lending.order };
+        × LendsRequest c.at c.lends.lending.order
+        × SendsLoan c.at c.lends.lending.order c.sends.loan };
 }
 
 impl CopyingClient {
@@ -53,7 +54,8 @@ impl CopyingClient {
     ghost use Rattle.iox_wire_locals.specs.Tables.{Setting};
     ghost use Rattle.iox_wire_request_sends.specs.Aims.{IsOneStep};
     ghost use Rattle.iox_wire_copies.specs.CopyCalls.{Answers, FindsUsed, GoesOn, IsAimed};
-    ghost use Rattle.iox_wire_copies.specs.CopyCalls.{MayEndCall, StaysAimed};
+    ghost use Rattle.iox_wire_copies.specs.CopyCalls.{IsSameCall, MayEndCall, SendsItsLoan};
+    ghost use Rattle.iox_wire_copies.specs.CopyCalls.{StaysAimed};
 
     /// No copy is under way, and no servers are told.
     pub fn new(alloc: Global) -> CopyingClient
@@ -100,6 +102,8 @@ impl CopyingClient {
         ensures over { Answers seat.old self.old seen result }
         ensures aimed { StaysAimed seat.old self.old seat.new self.new }
         ensures busy { is_busy self.new.local ≡ is_none result }
+        ensures same { IsSameCall self.old self.new }
+        ensures loan { SendsItsLoan self.new }
         ensures step { IsOneStep seat.old seat.new }
     {
         match self.at {

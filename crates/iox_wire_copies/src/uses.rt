@@ -49,14 +49,14 @@ pub fn copy_begins(
     requires room { HasRoom lender.now.places places }
     requires fits { (k : ℕ) → elements ≡ Some k → k ≤ lender.now.longest
         → length words.now ≤ places.room }
-    ensures begun { (p : Setting) → (n : ℕ) → (role : Payload) → (q : Port)
+    ensures begun { (p : Setting) → (n : ℕ) → (y : Payload) → (q : Port)
         → q ≡ p.port lender.now.port → IsLender p lender.now → IsClient p lender.now
         → number ≡ next_handle p seat.old.seat
         → ways_of stops.now
         ≡ request_ways (known p seat.old.seat) (p.port lender.now.port).node lender.now.port
         → OnOk result (placed seat.new.seat copying.new.local
         ≡ begins_at_port p seat.old.seat
-        (SendCopy n (record role { elements = elements; words = words.now })) q) }
+        (SendCopy n (record y { elements = elements; words = words.now })) q) }
     ensures unchanged { OnErr result (seat.new ≡ seat.old) }
 {
     copying.begin(seat, lender, places, number, elements, words, stops)

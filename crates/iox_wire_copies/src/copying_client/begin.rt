@@ -21,7 +21,7 @@ impl CopyingClient {
     ghost use Rattle.iox_wire_locals.specs.Tables.{Setting};
     ghost use Rattle.iox_wire_seats.specs.Aims.{QueuesInMemory};
     ghost use Rattle.iox_wire_seats.specs.Seats.{ways_of};
-    ghost use Rattle.iox_wire_loans.specs.Aims.{LeavesSeat, TellsOfSlot};
+    ghost use Rattle.iox_wire_loans.specs.Aims.{IsOrdered, LeavesSeat, TellsOfSlot};
     ghost use Rattle.iox_wire_loans.specs.Lenders.{AreReturning, IsClient, IsLender, IsWhole};
     ghost use Rattle.iox_wire_request_sends.specs.Targets.{AreWithin};
     ghost use Rattle.iox_wire_copies.specs.Copies.{ArePayloads};
@@ -75,6 +75,8 @@ impl CopyingClient {
             (first_lane lender.now.pool (free_lanes seat.old.seat lender.now.port)) self.old.sends
             → TellsOfSlot self.new.lends.slots self.new.local
             → OnOk result (IsAimed p seat.new.seat self.new) }
+        ensures ordered { (k : ℕ) → elements ≡ Some k
+            → OnOk result (IsOrdered self.new.lends.lending number lender.now.port) }
         ensures busy { OnOk result (is_busy self.new.local ≡ true) }
         ensures told { self.new.sends ≡ self.old.sends }
         ensures leaves { LeavesSeat seat.old seat.new }

@@ -10,12 +10,15 @@ impl CopyingClient {
     ghost use Rattle.std.specs.Prelude.{◌≡◌, ◌+◌, ◌<◌, ◌^◌, false, is_none, true};
     ghost use Rattle.iox_model.specs.Handles.{is_request_loan};
     ghost use Rattle.iox_wire_locals.specs.Begins.{is_busy};
+    ghost use Rattle.iox_wire_locals.specs.NewLoans.{entry_in};
     ghost use Rattle.iox_wire_seats.specs.Aims.{HasRoomForHint, KeepsRoom};
     ghost use Rattle.iox_wire_seats.specs.Desks.{MayGiveUp};
     ghost use Rattle.iox_wire_seats.specs.Lends.{MayLend};
+    ghost use Rattle.iox_wire_loans.specs.Orders.{loan_of};
     ghost use Rattle.iox_wire_request_sends.specs.Aims.{IsOneStep};
     ghost use Rattle.iox_wire_copies.specs.CopyCalls.{Answers, FindsUsed, GoesOn, IsLending};
-    ghost use Rattle.iox_wire_copies.specs.CopyCalls.{IsSending, MayEndCall, SendsTo, StaysAimed};
+    ghost use Rattle.iox_wire_copies.specs.CopyCalls.{IsSameCall, IsSending, MayEndCall};
+    ghost use Rattle.iox_wire_copies.specs.CopyCalls.{SendsItsLoan, SendsTo, StaysAimed};
 
     /// An access of its loan. Once that is made, it is sent.
     #[inline]
@@ -29,6 +32,8 @@ impl CopyingClient {
         ensures over { Answers seat.old self.old seen result }
         ensures aimed { StaysAimed seat.old self.old seat.new self.new }
         ensures busy { is_busy self.new.local ≡ is_none result }
+        ensures same { IsSameCall self.old self.new }
+        ensures loan { SendsItsLoan self.new }
         ensures step { IsOneStep seat.old seat.new }
     {
         match self.lends.go_on(seat, seen) {
@@ -51,10 +56,13 @@ impl CopyingClient {
         requires rests { is_busy seat.old.seat.local ≡ false }
         requires kind { is_request_loan loan.kind ≡ true }
         requires request { HasRoomForHint loan }
+        requires made { loan ≡ entry_in (loan_of self.old.lends.lending.order) loan.slot }
         requires may { MayLend seat.old loan.number loan.port }
         requires held { MayGiveUp loan seat.old.seat.desks }
         ensures next { SendsTo seat.old.seat self.old.sends loan seat.new self.new result }
         ensures busy { is_busy self.new.local ≡ is_none result }
+        ensures same { IsSameCall self.old self.new }
+        ensures loan { SendsItsLoan self.new }
         ensures accesses { seat.new.seat.accesses ≡ seat.old.seat.accesses }
         ensures room { KeepsRoom seat.old seat.new }
         ensures rests { is_busy seat.new.seat.local ≡ false }
@@ -85,6 +93,8 @@ impl CopyingClient {
         ensures over { Answers seat.old self.old seen result }
         ensures aimed { StaysAimed seat.old self.old seat.new self.new }
         ensures busy { is_busy self.new.local ≡ is_none result }
+        ensures same { IsSameCall self.old self.new }
+        ensures loan { SendsItsLoan self.new }
         ensures step { IsOneStep seat.old seat.new }
     {
         match self.sends.go_on(seat, seen) {
