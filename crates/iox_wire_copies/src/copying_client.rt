@@ -1,0 +1,120 @@
+//! A client of a wire that loans, writes and sends a request in one call.
+ghost use Rattle.std.specs.Prelude.{◌≡◌};
+
+mod begin;
+mod send;
+
+use crate::at::{ClientAt, CopyReply};
+use crate::copy_lending::CopyLending;
+use iox_steps::Access;
+use iox_wire_loans::LendReply;
+use iox_wire_locals::CallRefusal;
+use iox_wire_request_sends::Requesting;
+use iox_wire_seats::StoredSeat;
+use std::alloc::Global;
+use std::marker::Model;
+
+/// A client's copy of a request, beside what its node keeps: it lends, stores the message with its
+/// payload, and sends it. Only what prepares it and its begin take memory.
+#[derive(Drop)]
+pub struct CopyingClient {
+    at: ClientAt,
+    lends: CopyLending,
+    sends: Requesting,
+}
+
+impl Model for CopyingClient {
+    ghost use Rattle.std.specs.Prelude.{◌≡◌};
+    ghost use Rattle.iox_wire_locals.specs.Begins.{is_busy};
+    ghost use Rattle.iox_wire_copies.specs.CopyCalls.{CopyCall, LendsRequest, lends_at, local_of};
+    ghost use Rattle.iox_wire_copies.specs.CopyCalls.{SendsLoan, sends_at};
+
+    ghost Value = { CopyCall };
+
+    ghost view = { λ c. record {
+      at = c.at;
+      local = local_of c.at c.lends.local c.sends.local;
+      lends = c.lends;
+      sends = c.sends;
+    } };
+
+    ghost invariant = { λ c.
+        (is_busy c.lends.local ≡ lends_at c.at) × (is_busy c.sends.local ≡ sends_at c.at)
+        × LendsRequest c.at c.lends.lending.order
+        × SendsLoan c.at c.lends.lending.order c.sends.loan };
+}
+
+impl CopyingClient {
+    ghost use Rattle.std.specs.Prelude.{◌≡◌, ◌+◌, ◌<◌, ◌^◌, false, is_none, true};
+    ghost use Rattle.iox_wire_words.specs.Programs.{program_access};
+    ghost use Rattle.iox_wire_locals.specs.declared.local.Local.TheVariants.{Idle};
+    ghost use Rattle.iox_wire_locals.specs.declared.seat.Seat.{Seat};
+    ghost use Rattle.iox_wire_locals.specs.Begins.{is_busy};
+    ghost use Rattle.iox_wire_locals.specs.Locals.{program_of};
+    ghost use Rattle.iox_wire_locals.specs.Tables.{Setting};
+    ghost use Rattle.iox_wire_request_sends.specs.Aims.{IsOneStep};
+    ghost use Rattle.iox_wire_copies.specs.CopyCalls.{Answers, FindsUsed, GoesOn, IsAimed};
+    ghost use Rattle.iox_wire_copies.specs.CopyCalls.{IsSameCall, MayEndCall, SendsItsLoan};
+    ghost use Rattle.iox_wire_copies.specs.CopyCalls.{StaysAimed};
+
+    /// No copy is under way, and no servers are told.
+    pub fn new(alloc: Global) -> CopyingClient
+        ensures { result.local ≡ Idle }
+    {
+        CopyingClient {
+            at: ClientAt::Rest,
+            lends: CopyLending::new(alloc),
+            sends: Requesting::new(alloc),
+        }
+    }
+
+    /// Whether a copy is under way.
+    pub fn is_busy(&self) -> bool
+        ensures { result ≡ is_busy self.now.local }
+    {
+        !matches!(self.at, ClientAt::Rest)
+    }
+
+    /// The access that it makes next.
+    #[inline]
+    pub fn asks(&self) -> Access
+        ensures { (p : Setting) → (x : Seat) → IsAimed p x self.now → result
+            ≡ program_access p.layout (program_of p self.now.local) }
+    {
+        match self.at {
+            ClientAt::Rest | ClientAt::Refuses => Access::Local,
+            ClientAt::Lends => self.lends.asks(),
+            ClientAt::Sends => self.sends.asks(),
+        }
+    }
+
+    /// Goes on after its access, which found `seen`. If it is over it says what that answers. What
+    /// it gets back is to be in use at the port's desk, and what it delivers is to have room in the
+    /// record of its way.
+    #[inline]
+    pub fn go_on(&mut self, seat: &mut StoredSeat, seen: u64) -> Option<CopyReply>
+        requires busy { is_busy self.old.local ≡ true }
+        requires accesses { seat.old.seat.accesses + 1 < 2 ^ 64 }
+        requires rests { is_busy seat.old.seat.local ≡ false }
+        requires may { MayEndCall seat.old self.old }
+        requires finds { FindsUsed seat.old self.old seen }
+        ensures next { GoesOn seat.old self.old seen seat.new self.new }
+        ensures over { Answers seat.old self.old seen result }
+        ensures aimed { StaysAimed seat.old self.old seat.new self.new }
+        ensures busy { is_busy self.new.local ≡ is_none result }
+        ensures same { IsSameCall self.old self.new }
+        ensures loan { SendsItsLoan self.new }
+        ensures step { IsOneStep seat.old seat.new }
+    {
+        match self.at {
+            ClientAt::Rest => None,
+            ClientAt::Refuses => {
+                seat.count_access();
+                self.at = ClientAt::Rest;
+                Some(CopyReply::OfLoan(LendReply::Refused(CallRefusal::WrongLength)))
+            }
+            ClientAt::Lends => self.lend_on(seat, seen),
+            ClientAt::Sends => self.send_on(seat, seen),
+        }
+    }
+}

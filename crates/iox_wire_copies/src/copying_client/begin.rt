@@ -1,0 +1,95 @@
+//! How the copy of a request begins.
+ghost use Rattle.std.specs.Prelude.{◌≡◌};
+
+use super::CopyingClient;
+use crate::at::ClientAt;
+use crate::payload_places::PayloadPlaces;
+use iox_wire_loans::Lender;
+use iox_wire_request_sends::{RequestTerms, Target};
+use iox_wire_seats::{Stop, StoredSeat};
+use std::alloc::AllocError;
+
+impl CopyingClient {
+    ghost use Rattle.std.specs.Prelude.{ℕ, ◌≡◌, ◌≤◌, OnErr, OnOk, Some, false, length, true};
+    ghost use Rattle.iox_model.specs.Loans.{request_ways};
+    ghost use Rattle.iox_steps.specs.declared.site.QueueKind.TheVariants.{Index};
+    ghost use Rattle.iox_wire_locals.specs.declared.local.Local.TheVariants.{Idle};
+    ghost use Rattle.iox_wire_locals.specs.Begins.{is_busy};
+    ghost use Rattle.iox_wire_locals.specs.Courses.{placed};
+    ghost use Rattle.iox_wire_locals.specs.Known.{free_lanes, known};
+    ghost use Rattle.iox_wire_locals.specs.Lendings.{copies_request, first_lane, next_handle};
+    ghost use Rattle.iox_wire_locals.specs.Tables.{Setting};
+    ghost use Rattle.iox_wire_seats.specs.Aims.{QueuesInMemory};
+    ghost use Rattle.iox_wire_seats.specs.Seats.{ways_of};
+    ghost use Rattle.iox_wire_loans.specs.Aims.{IsOrdered, LeavesSeat, TellsOfSlot};
+    ghost use Rattle.iox_wire_loans.specs.Lenders.{AreReturning, IsClient, IsLender, IsWhole};
+    ghost use Rattle.iox_wire_request_sends.specs.Targets.{AreWithin};
+    ghost use Rattle.iox_wire_copies.specs.Copies.{ArePayloads};
+    ghost use Rattle.iox_wire_copies.specs.CopyCalls.{IsAimed, KnowsServers};
+    ghost use Rattle.iox_wire_copies.specs.Payloads.{HasRoom};
+
+    /// Is told of the servers to which it sends. No copy may be under way.
+    pub fn prepare(&mut self, terms: RequestTerms, targets: &[Target]) -> Result<(), AllocError>
+        requires rests { is_busy self.old.local ≡ false }
+        requires within { AreWithin terms targets.now }
+        ensures terms { OnOk result (self.new.sends.terms ≡ terms) }
+        ensures targets { OnOk result (self.new.sends.targets ≡ targets.now) }
+        ensures rests { is_busy self.new.local ≡ false }
+        ensures unchanged { OnErr result (self.new ≡ self.old) }
+    {
+        self.sends.prepare(terms, targets)
+    }
+
+    /// Begins to copy a request of these words, to the servers that it was told of: it gets back on
+    /// these ways first. Without a number of elements the words are not of whole elements. No copy
+    /// may be under way.
+    pub fn begin(
+        &mut self,
+        seat: &mut StoredSeat,
+        lender: &Lender,
+        places: PayloadPlaces,
+        number: u64,
+        elements: Option<u64>,
+        words: &[u64],
+        stops: &[Stop],
+    ) -> Result<(), AllocError>
+        requires rests { is_busy self.old.local ≡ false }
+        requires seat { is_busy seat.old.seat.local ≡ false }
+        requires whole { IsWhole lender.now }
+        requires within { QueuesInMemory Index lender.now.room stops.now }
+        requires room { HasRoom lender.now.places places }
+        requires fits { (k : ℕ) → elements ≡ Some k → k ≤ lender.now.longest
+            → length words.now ≤ places.room }
+        ensures begun { (p : Setting) → IsLender p lender.now → IsClient p lender.now
+            → number ≡ next_handle p seat.old.seat
+            → ways_of stops.now
+            ≡ request_ways (known p seat.old.seat) (p.port lender.now.port).node lender.now.port
+            → OnOk result (placed seat.new.seat self.new.local
+            ≡ copies_request p seat.old.seat (p.port lender.now.port) elements words.now) }
+        ensures aimed { (p : Setting) → IsLender p lender.now → IsClient p lender.now
+            → number ≡ next_handle p seat.old.seat → AreReturning p lender.now.room stops.now
+            → ArePayloads p lender.now.port lender.now.places places
+            → ways_of stops.now
+            ≡ request_ways (known p seat.old.seat) (p.port lender.now.port).node lender.now.port
+            → KnowsServers p seat.old.seat lender.now.port
+            (first_lane lender.now.pool (free_lanes seat.old.seat lender.now.port)) self.old.sends
+            → TellsOfSlot self.new.lends.slots self.new.local
+            → OnOk result (IsAimed p seat.new.seat self.new) }
+        ensures ordered { (k : ℕ) → elements ≡ Some k
+            → OnOk result (IsOrdered self.new.lends.lending number lender.now.port) }
+        ensures busy { OnOk result (is_busy self.new.local ≡ true) }
+        ensures told { self.new.sends ≡ self.old.sends }
+        ensures leaves { LeavesSeat seat.old seat.new }
+        ensures unchanged { OnErr result (self.new ≡ self.old) }
+        ensures seat_unchanged { OnErr result (seat.new ≡ seat.old) }
+    {
+        let Some(count) = elements else {
+            self.at = ClientAt::Refuses;
+            return Ok(());
+        };
+        self.lends
+            .lend_request(seat, lender, places, number, count, words, stops)?;
+        self.at = ClientAt::Lends;
+        Ok(())
+    }
+}

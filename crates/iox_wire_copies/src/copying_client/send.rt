@@ -1,0 +1,108 @@
+//! The copy of a request goes on from its loan to its send.
+ghost use Rattle.std.specs.Prelude.{◌≡◌};
+
+use super::CopyingClient;
+use crate::at::{ClientAt, CopyLent, CopyReply};
+use iox_wire_locals::Entry;
+use iox_wire_seats::StoredSeat;
+
+impl CopyingClient {
+    ghost use Rattle.std.specs.Prelude.{◌≡◌, ◌+◌, ◌<◌, ◌^◌, false, is_none, true};
+    ghost use Rattle.iox_model.specs.Handles.{is_request_loan};
+    ghost use Rattle.iox_wire_locals.specs.Begins.{is_busy};
+    ghost use Rattle.iox_wire_locals.specs.NewLoans.{entry_in};
+    ghost use Rattle.iox_wire_seats.specs.Aims.{HasRoomForHint, KeepsRoom};
+    ghost use Rattle.iox_wire_seats.specs.Desks.{MayGiveUp};
+    ghost use Rattle.iox_wire_seats.specs.Lends.{MayLend};
+    ghost use Rattle.iox_wire_loans.specs.Orders.{loan_of};
+    ghost use Rattle.iox_wire_request_sends.specs.Aims.{IsOneStep};
+    ghost use Rattle.iox_wire_copies.specs.CopyCalls.{Answers, FindsUsed, GoesOn, IsLending};
+    ghost use Rattle.iox_wire_copies.specs.CopyCalls.{IsSameCall, IsSending, MayEndCall};
+    ghost use Rattle.iox_wire_copies.specs.CopyCalls.{SendsItsLoan, SendsTo, StaysAimed};
+
+    /// An access of its loan. Once that is made, it is sent.
+    #[inline]
+    pub(super) fn lend_on(&mut self, seat: &mut StoredSeat, seen: u64) -> Option<CopyReply>
+        requires there { IsLending self.old.at }
+        requires accesses { seat.old.seat.accesses + 1 < 2 ^ 64 }
+        requires rests { is_busy seat.old.seat.local ≡ false }
+        requires may { MayEndCall seat.old self.old }
+        requires finds { FindsUsed seat.old self.old seen }
+        ensures next { GoesOn seat.old self.old seen seat.new self.new }
+        ensures over { Answers seat.old self.old seen result }
+        ensures aimed { StaysAimed seat.old self.old seat.new self.new }
+        ensures busy { is_busy self.new.local ≡ is_none result }
+        ensures same { IsSameCall self.old self.new }
+        ensures loan { SendsItsLoan self.new }
+        ensures step { IsOneStep seat.old seat.new }
+    {
+        match self.lends.go_on(seat, seen) {
+            None => None,
+            Some(CopyLent::Refused(reply)) => {
+                self.at = ClientAt::Rest;
+                Some(CopyReply::OfLoan(reply))
+            }
+            Some(CopyLent::Made(loan)) => {
+                self.at = ClientAt::Rest;
+                self.send(seat, loan)
+            }
+        }
+    }
+
+    /// Begins to send the loan that it made. Without an access to make it is over.
+    fn send(&mut self, seat: &mut StoredSeat, loan: Entry) -> Option<CopyReply>
+        requires lends { is_busy self.old.lends.local ≡ false }
+        requires sends { is_busy self.old.sends.local ≡ false }
+        requires rests { is_busy seat.old.seat.local ≡ false }
+        requires kind { is_request_loan loan.kind ≡ true }
+        requires request { HasRoomForHint loan }
+        requires made { loan ≡ entry_in (loan_of self.old.lends.lending.order) loan.slot }
+        requires may { MayLend seat.old loan.number loan.port }
+        requires held { MayGiveUp loan seat.old.seat.desks }
+        ensures next { SendsTo seat.old.seat self.old.sends loan seat.new self.new result }
+        ensures busy { is_busy self.new.local ≡ is_none result }
+        ensures same { IsSameCall self.old self.new }
+        ensures loan { SendsItsLoan self.new }
+        ensures accesses { seat.new.seat.accesses ≡ seat.old.seat.accesses }
+        ensures room { KeepsRoom seat.old seat.new }
+        ensures rests { is_busy seat.new.seat.local ≡ false }
+    {
+        self.sends.start(seat, loan, true);
+        self.at = ClientAt::Sends;
+        if !self.sends.is_ending() {
+            return None;
+        }
+        match self.sends.tell(seat) {
+            None => None,
+            Some(reply) => {
+                self.at = ClientAt::Rest;
+                Some(CopyReply::OfSend(reply))
+            }
+        }
+    }
+
+    /// An access of its send.
+    #[inline]
+    pub(super) fn send_on(&mut self, seat: &mut StoredSeat, seen: u64) -> Option<CopyReply>
+        requires there { IsSending self.old.at }
+        requires accesses { seat.old.seat.accesses + 1 < 2 ^ 64 }
+        requires rests { is_busy seat.old.seat.local ≡ false }
+        requires may { MayEndCall seat.old self.old }
+        requires finds { FindsUsed seat.old self.old seen }
+        ensures next { GoesOn seat.old self.old seen seat.new self.new }
+        ensures over { Answers seat.old self.old seen result }
+        ensures aimed { StaysAimed seat.old self.old seat.new self.new }
+        ensures busy { is_busy self.new.local ≡ is_none result }
+        ensures same { IsSameCall self.old self.new }
+        ensures loan { SendsItsLoan self.new }
+        ensures step { IsOneStep seat.old seat.new }
+    {
+        match self.sends.go_on(seat, seen) {
+            None => None,
+            Some(reply) => {
+                self.at = ClientAt::Rest;
+                Some(CopyReply::OfSend(reply))
+            }
+        }
+    }
+}

@@ -1,0 +1,106 @@
+//! Callers, proved from the clauses alone.
+ghost use Rattle.std.specs.Prelude.{ℕ, ◌≡◌, ◌+◌, ◌<◌, ◌≤◌, ◌^◌, OnErr, OnOk, Some};
+ghost use Rattle.std.specs.Prelude.{false, length, true};
+ghost use Rattle.iox_model.specs.declared.call.Call.TheVariants.{SendCopy};
+ghost use Rattle.iox_model.specs.Commands.{Payload};
+ghost use Rattle.iox_model.specs.Loans.{request_ways};
+ghost use Rattle.iox_model.specs.States.{Port};
+ghost use Rattle.iox_steps.specs.declared.site.QueueKind.TheVariants.{Index};
+ghost use Rattle.iox_wire_words.specs.Programs.{program_access};
+ghost use Rattle.iox_wire_locals.specs.declared.seat.Seat.{Seat};
+ghost use Rattle.iox_wire_locals.specs.Begins.{begins_at_port, is_busy};
+ghost use Rattle.iox_wire_locals.specs.Courses.{placed};
+ghost use Rattle.iox_wire_locals.specs.Known.{known};
+ghost use Rattle.iox_wire_locals.specs.Lendings.{next_handle};
+ghost use Rattle.iox_wire_locals.specs.Locals.{program_of};
+ghost use Rattle.iox_wire_locals.specs.Steps.{next};
+ghost use Rattle.iox_wire_locals.specs.Tables.{Setting};
+ghost use Rattle.iox_wire_seats.specs.Aims.{QueuesInMemory};
+ghost use Rattle.iox_wire_seats.specs.Seats.{ways_of};
+ghost use Rattle.iox_wire_loans.specs.Lenders.{IsClient, IsLender, IsWhole};
+ghost use Rattle.iox_wire_request_sends.specs.Targets.{AreWithin};
+ghost use Rattle.iox_wire_copies.specs.CopyCalls.{FindsUsed, IsAimed, MayEndCall};
+ghost use Rattle.iox_wire_copies.specs.Payloads.{HasRoom};
+
+use crate::at::CopyReply;
+use crate::copying_client::CopyingClient;
+use crate::payload_places::PayloadPlaces;
+use iox_steps::Access;
+use iox_wire_loans::Lender;
+use iox_wire_request_sends::{RequestTerms, Target};
+use iox_wire_seats::{Stop, StoredSeat};
+use std::alloc::AllocError;
+
+/// A client's copy begins as the definitions begin it, or takes no memory and changes nothing.
+pub fn copy_begins(
+    copying: &mut CopyingClient,
+    seat: &mut StoredSeat,
+    lender: &Lender,
+    places: PayloadPlaces,
+    number: u64,
+    elements: Option<u64>,
+    words: &[u64],
+    stops: &[Stop],
+) -> Result<(), AllocError>
+    requires rests { is_busy copying.old.local ≡ false }
+    requires seat { is_busy seat.old.seat.local ≡ false }
+    requires whole { IsWhole lender.now }
+    requires within { QueuesInMemory Index lender.now.room stops.now }
+    requires room { HasRoom lender.now.places places }
+    requires fits { (k : ℕ) → elements ≡ Some k → k ≤ lender.now.longest
+        → length words.now ≤ places.room }
+    ensures begun { (p : Setting) → (n : ℕ) → (y : Payload) → (q : Port)
+        → q ≡ p.port lender.now.port → IsLender p lender.now → IsClient p lender.now
+        → number ≡ next_handle p seat.old.seat
+        → ways_of stops.now
+        ≡ request_ways (known p seat.old.seat) (p.port lender.now.port).node lender.now.port
+        → OnOk result (placed seat.new.seat copying.new.local
+        ≡ begins_at_port p seat.old.seat
+        (SendCopy n (record y { elements = elements; words = words.now })) q) }
+    ensures unchanged { OnErr result (seat.new ≡ seat.old) }
+{
+    copying.begin(seat, lender, places, number, elements, words, stops)
+}
+
+/// What it asks for is what its place asks for.
+pub fn access_of_a_copy(copying: &CopyingClient) -> Access
+    ensures { (p : Setting) → (x : Seat) → IsAimed p x copying.now → result
+        ≡ program_access p.layout (program_of p copying.now.local) }
+{
+    copying.asks()
+}
+
+/// One access is one step of the node.
+pub fn copied_by_one_step(
+    copying: &mut CopyingClient,
+    seat: &mut StoredSeat,
+    seen: u64,
+) -> Option<CopyReply>
+    requires busy { is_busy copying.old.local ≡ true }
+    requires accesses { seat.old.seat.accesses + 1 < 2 ^ 64 }
+    requires rests { is_busy seat.old.seat.local ≡ false }
+    requires may { MayEndCall seat.old copying.old }
+    requires finds { FindsUsed seat.old copying.old seen }
+    ensures next { (p : Setting) → IsAimed p seat.old.seat copying.old
+        → placed seat.new.seat copying.new.local
+        ≡ next p (placed seat.old.seat copying.old.local) seen }
+    ensures accesses { seat.new.seat.accesses ≡ seat.old.seat.accesses + 1 }
+{
+    copying.go_on(seat, seen)
+}
+
+/// One copy may follow another, to other servers: what is over is at rest.
+pub fn next_copy_is_prepared(
+    copying: &mut CopyingClient,
+    terms: RequestTerms,
+    targets: &[Target],
+) -> Result<bool, AllocError>
+    requires within { AreWithin terms targets.now }
+    ensures { OnErr result (copying.new ≡ copying.old) }
+{
+    if copying.is_busy() {
+        return Ok(false);
+    }
+    copying.prepare(terms, targets)?;
+    Ok(true)
+}
