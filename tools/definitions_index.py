@@ -12,7 +12,7 @@ import sys
 
 TOP = pathlib.Path(__file__).resolve().parent.parent
 PAGE = TOP / "docs" / "DEFINITIONS-INDEX.md"
-CRATES = """iox_model iox_openers iox_laws
+CRATES = """iox_model iox_openers iox_members iox_laws
 iox_word_map iox_word_places iox_wire_words iox_wire_moments iox_wire_locals iox_wire_laws iox_wire_pools iox_wire_seats
 iox_wire_receives iox_wire_loans iox_wire_sends iox_wire_request_sends iox_wire_copies iox_wire_layouts iox_wire_messages iox_wire_stands
 iox_lanes iox_tables iox_store iox_handles iox_slots iox_hub_ports iox_hub_phases
