@@ -59,20 +59,29 @@ class Functions:
         if not (has_items or f.in_cycle or is_const):
             edit.function, edit.body = f, self.body(new, g)
 
-    def name(self, edits, rows):
-        """Finds the names that a check gives the edits' functions, by the rows that it printed. Returns the edits of which none is found."""
+    def name(self, edits, rows, is_all):
+        """Finds the names that a check gives the edits' functions, by the rows that it printed, of all functions or of some.
+        Returns the edits of which none is found. Among some, a name counts only if no other function can have it."""
         self.rows = rows
         for it in edits:
-            it.symbols = self.symbols_of(it.function) if it.function else []
+            found = self.symbols_of(it.function) if it.function else []
+            it.symbols = found if is_all or self.is_sure(it.function, found) else []
         return [it for it in edits if it.function and not it.symbols]
+
+    def is_sure(self, f, symbols):
+        """Whether these names are the function's own, though the rows are not of all functions."""
+        namesakes = [it for it in self.source.functions if (it.owner, it.name) == (f.owner, f.name)]
+        start = "::".join([self.crate.name, *f.module, ""])
+        return len(namesakes) == 1 or any(it.startswith(start) and it.count("::") == start.count("::") + 1 for it in symbols)
 
     @staticmethod
     def path_of(f):
-        """Returns a path by which a check finds the function, below the crate, before any check has named it: of a method of a trait
-        that of its module, in which it may have any name."""
+        """Returns a path by which a check finds the function, below the crate, before any check has named it: that of its module where
+        its own name is not known, as of a method of a trait, or of a type with arguments (which its name has too)."""
         if not f.block:
             return "::".join([*f.module, f.name])
-        return "::".join(f.module) if f.in_trait else f"{f.owner}::{f.name}"
+        words = {it for it in f.block.ty[1:] if it.isidentifier()}
+        return "::".join(f.module) if f.in_trait or words - {*f.block.generics, "_"} else f"{f.owner}::{f.name}"
 
     def shown(self, edits):
         """Returns the names that a check gives the edits' functions, below the crate, without their closures."""

@@ -8,9 +8,9 @@ import tempfile
 from packed.checkout import try_checkout
 from packed.said import REFUSED, UNTOLD, WEAK, rows_of, verdict
 
-TINY = """//! Two functions.
+TINY = """//! Two functions, and two types of one name.
 #![tactic(auto)]
-ghost use Rattle.std.specs.Prelude.{◌≤◌, ◌+◌};
+ghost use Rattle.std.specs.Prelude.{◌≤◌, ◌+◌, ◌≡◌};
 
 pub fn smaller(a: u8, b: u8) -> u8
     ensures first { result ≤ a }
@@ -26,6 +26,34 @@ pub fn above(a: u8, b: u8) -> u8
     let least = smaller(a, b);
     if least < 255 { least + 1 } else { least }
 }
+
+pub mod near {
+    pub struct Part<T> {
+        pub near: T,
+    }
+
+    impl Part<u8> {
+        pub fn value(&self) -> u8
+            ensures { result ≡ self.now.near }
+        {
+            self.near
+        }
+    }
+}
+
+pub mod far {
+    pub struct Part {
+        pub far: u8,
+    }
+
+    impl Part {
+        pub fn value(&self) -> u8
+            ensures { result ≡ self.now.far }
+        {
+            self.far
+        }
+    }
+}
 """
 # What each edit puts in the place of what, and how its line begins.
 EDITS = {
@@ -34,6 +62,7 @@ EDITS = {
     "3_no_rust": ("else { b }", "else { bb }", "not judged: "),
     "4_right": ("if least < 255 {", "if 254 >= least {", "PROVED (survives)"),
     "5_does_not_apply": ("if least < 256 {", "if 254 >= least {", "not judged: "),
+    "6_wrong_namesake": ("self.near", "self.near / 2", "refused tiny::near::Part+u8::value: "),
 }
 # What a check prints of a function, and the verdict on it.
 GAVE_UP = "note: src/lib.rt:3:5: it is not proved that it holds (`returns`); `search` gave up at one of its limits\n"

@@ -85,7 +85,7 @@ class Trial:
                 ran = self.kit.rt.checked(self.crate, {}, flags, self.kept)
             if ran.returncode or not re.search(ends, ran.stdout, re.M):
                 continue
-            lost = self.functions.name(self.edits, reads.rows_of(ran.stdout))
+            lost = self.functions.name(self.edits, reads.rows_of(ran.stdout), flags == FLAGS)
             if not lost or flags == FLAGS:
                 for it in lost:
                     it.function = None

@@ -5,3 +5,4 @@ pub mod TableLemmas
 pub mod SoundLemmas
 pub mod CountLemmas
 pub mod NodeLemmas
+pub mod LeastLemmas

@@ -1,3 +1,4 @@
+pub mod Least
 pub mod Tables
 -- for proofs of this crate alone
 pub mod Places

@@ -2,6 +2,7 @@
 use Rattle.std.specs.Prelude.{ℕ, zero, suc, ◌≡◌, ◌≤◌, ◌+◌, ◌==◌, Bool, false, if◌then◌else◌, List, [], ◌∷◌, ◌++◌, Option, Some, None, length, slice_get, ⊤}
 use Rattle.std.specs.Option.{option_map_or}
 use Rattle.iox_handles.specs.declared.entry.Entry.{Entry}
+use Rattle.iox_handles.specs.Least.{lesser}
 
 -- whether there is a handle of that number
 abbrev pub is_numbered : ℕ → Option Entry → Bool
@@ -16,6 +17,16 @@ has_at number ps place = option_map_or (is_numbered number) (slice_get ps place)
 abbrev pub passes : (Entry → Bool) → Option Entry → Bool
 passes test None = false
 passes test (Some h) = test h
+
+-- the number of the handle that is there, if it is of that node
+abbrev pub number_for : ℕ → Option Entry → Option ℕ
+number_for node None = None
+number_for node (Some h) = if h.node == node then Some h.number else None
+
+-- the least number of the node's handles
+abbrev pub least_in : ℕ → List (Option Entry) → Option ℕ
+least_in node [] = None
+least_in node (o ∷ ps) = lesser (number_for node o) (least_in node ps)
 
 -- the handle of that number
 abbrev pub in_places : List (Option Entry) → ℕ → Option Entry

@@ -4,9 +4,11 @@
 
 mod entry;
 mod entry_test;
+mod least;
 mod places;
 mod table;
 
 pub use entry::Entry;
 pub use entry_test::EntryTest;
+pub use least::lesser;
 pub use table::Table;

@@ -1,9 +1,11 @@
 //! The table of a hub's handles.
-ghost use Rattle.std.specs.Prelude.{◌≡◌, ◌<◌, ◌≤◌, ◌+◌, ◌^◌, IfOk, IsSome, None, OnErr, OnOk, Some, filter, length};
-ghost use Rattle.iox_handles.specs.Tables.{IsSound, added, changed, count_of, handle_at, handle_of, new_contents, removed};
+ghost use Rattle.std.specs.Prelude.{◌≡◌, ◌<◌, ◌≤◌, ◌+◌, ◌^◌, IfOk, IsSome, None, OnErr, OnOk, Some, filter, length, map};
+ghost use Rattle.iox_handles.specs.Least.{least};
+ghost use Rattle.iox_handles.specs.Tables.{IsSound, added, changed, count_of, handle_at, handle_of, handles_of, new_contents, removed};
 
 use crate::entry::Entry;
 use crate::entry_test::EntryTest;
+use crate::least::least_in;
 use crate::places::{count_if_in, count_in, place_of};
 use iox_model::kind::Kind;
 use std::alloc::{AllocError, Global};
@@ -180,10 +182,18 @@ impl Table {
     {
         count_in(&self.places, port, kind)
     }
+
     /// How many handles pass the test. It looks at all places.
     pub fn count_if<T: EntryTest>(&self, test: &T) -> usize
         ensures { result ≡ length (filter (T.passes test.now) self.now.handles) }
     {
         count_if_in(&self.places, test)
+    }
+
+    /// The least number of the node's handles. It looks at all places.
+    pub fn least_of(&self, node: u64) -> Option<u64>
+        ensures { result ≡ least (map (λ h. h.number) (handles_of self.now node)) }
+    {
+        least_in(&self.places, node)
     }
 }
