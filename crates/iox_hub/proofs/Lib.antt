@@ -39,3 +39,7 @@ pub mod FillingWays
 pub mod CopyingWords
 pub mod CopyingResponses
 pub mod CopyingRequests
+pub mod Ascending
+pub mod ListingLemmas
+pub mod ValueLemmas
+pub mod CleaningLemmas

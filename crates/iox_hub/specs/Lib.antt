@@ -9,5 +9,6 @@ pub mod Making
 pub mod Sending
 pub mod Lending
 pub mod Keeping
+pub mod Listings
 pub mod Fillings
 pub mod Copying

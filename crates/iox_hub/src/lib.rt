@@ -3,6 +3,7 @@
 #![tactic(auto)]
 
 mod asking;
+mod cleaning;
 mod contents;
 mod copies;
 mod copying;
@@ -13,6 +14,7 @@ mod hub;
 mod invariant;
 mod layouts;
 mod lending;
+mod listings;
 mod making;
 mod options;
 mod pools;
@@ -30,6 +32,7 @@ pub mod uses_filling;
 pub mod uses_headers;
 pub mod uses_keeping;
 pub mod uses_lending;
+pub mod uses_listings;
 pub mod uses_making;
 pub mod uses_sending;
 mod values;

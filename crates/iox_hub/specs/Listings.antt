@@ -1,0 +1,31 @@
+-- The numbers that a hub's tables list: of the ports of a role, and of what a node has.
+use Rattle.std.specs.Prelude.{ℕ, ◌&&◌, if◌then◌else◌, ◌==◌, List, ◌++◌, map, filter, Option, Some, None}
+use Rattle.iox_model.specs.declared.kind.Role.{Role}
+use Rattle.iox_model.specs.Services.{ascending}
+use Rattle.iox_model.specs.Settings.{same_role}
+use Rattle.iox_hub_ports.specs.declared.info.PortInfo.{PortInfo}
+use Rattle.iox_tables.specs.HubStates.Tables.{HandleState, HubTables, PortState}
+
+-- the numbers of the node's ports whose own values are still there
+abbrev pub held_ports : List PortState → ℕ → List ℕ
+held_ports ports node = map (λ p. p.number) (filter (λ p. (p.node == node) && p.held) ports)
+
+-- the numbers of the node's handles
+abbrev pub handles_had : List HandleState → ℕ → List ℕ
+handles_had handles node = map (λ h. h.number) (filter (λ h. h.node == node) handles)
+
+-- the numbers of the node's ports and handles that are not released, ascending
+abbrev pub numbers_had : HubTables → ℕ → List ℕ
+numbers_had t node = ascending (held_ports t.ports node ++ handles_had t.handles node)
+
+-- ---- for proofs of this crate alone
+
+-- the number of a port, if there is one and it is of that role
+abbrev pub role_number : Role → Option PortInfo → Option ℕ
+role_number role None = None
+role_number role (Some i) = if same_role i.role role then Some i.number else None
+
+-- the number of a port, if there is one of that node whose own value is still there
+abbrev pub held_number : ℕ → Option PortInfo → Option ℕ
+held_number node None = None
+held_number node (Some i) = if (i.node == node) && i.held then Some i.number else None
