@@ -18,7 +18,7 @@ iox_wire_receives iox_wire_loans iox_wire_sends iox_wire_request_sends iox_wire_
 iox_lanes iox_tables iox_store iox_handles iox_slots iox_hub_ports iox_hub_phases
 iox_hub_delivering iox_control iox_control_making iox_control_retrieving iox_control_questions iox_control_lending
 iox_control_ending iox_control_releasing iox_control_responses iox_control_requests iox_control_copies iox_control_request_copies iox_hub
-iox_hub_laws iox_port_commands iceoryx2_ports iox_session""".split()
+iox_hub_laws iox_port_commands iox_nodes iceoryx2_ports iox_session""".split()
 NAMED = re.compile(r"^(?:abbrev pub|pub record|pub data) ([A-Za-z_0-9-]+)")
 
 
