@@ -1,0 +1,77 @@
+//! Searches in the list of nodes, and changes of it.
+ghost use Rattle.std.specs.Prelude.{◌≡◌, ◌==◌, ◌||◌, IfOk, filter, find, length, map, not};
+ghost use Rattle.std.specs.List.{list_any};
+ghost use Rattle.iox_model.specs.Joins.{same_id};
+ghost use Rattle.iox_model.specs.Maps.{is_empty};
+ghost use Rattle.iox_members.specs.Nodes.{killed};
+
+use crate::ids::is_same_id;
+use crate::member::Member;
+use iox_types::identifiers::UniqueSystemId;
+use std::alloc::{AllocError, Global};
+
+/// The numbers of these nodes.
+pub(crate) fn numbers_of(nodes: &[Member], alloc: Global) -> Result<Vec<u64>, AllocError>
+    ensures { IfOk result (λ numbers. numbers.items ≡ map (λ m. m.number) nodes.now) }
+{
+    nodes.iter().map(|member| member.number).collect(alloc)
+}
+
+/// The node of that number.
+pub(crate) fn find(nodes: &[Member], node: u64) -> Option<Member>
+    ensures { result ≡ find (λ m. m.number == node) nodes.now }
+{
+    nodes.iter().copied().find(|member| member.number == node)
+}
+
+/// How many nodes there are.
+pub(crate) fn count(nodes: &[Member]) -> u64
+    ensures { result ≡ length nodes.now }
+{
+    nodes.len() as u64
+}
+
+/// Whether a node has that id.
+pub(crate) fn has_id(nodes: &[Member], id: UniqueSystemId) -> bool
+    ensures { result ≡ list_any (λ m. same_id m.id id) nodes.now }
+{
+    nodes
+        .iter()
+        .any(|member| is_same_id(member.id.system_id(), id))
+}
+
+/// Makes the node of that number dead.
+pub(crate) fn kill(nodes: &mut [Member], node: u64)
+    ensures { nodes.new ≡ map (killed node) nodes.old }
+{
+    for member in nodes.iter_mut() {
+        *member = killed(*member, node);
+    }
+}
+
+/// The node, dead if it has this number.
+fn killed(member: Member, node: u64) -> Member
+    ensures { result ≡ killed node member }
+{
+    if member.number == node {
+        return Member {
+            alive: false,
+            ..member
+        };
+    }
+    member
+}
+
+/// Removes the node of that number.
+pub(crate) fn remove(nodes: &mut Vec<Member>, node: u64)
+    ensures { nodes.new.items ≡ filter (λ m. not (m.number == node)) nodes.old.items }
+{
+    nodes.retain(|member| member.number != node);
+}
+
+/// Whether nodes are gone for good: they were already, or none is left.
+pub(crate) fn are_gone(closed: bool, nodes: &[Member]) -> bool
+    ensures { result ≡ (closed || is_empty nodes.now) }
+{
+    closed || nodes.is_empty()
+}

@@ -1,0 +1,5 @@
+pub mod Reaching
+pub mod Leading
+pub mod FirstStates
+pub mod Answering
+pub mod Telling

@@ -1,0 +1,60 @@
+//! Nodes join, die and leave.
+ghost use Rattle.iox_model.specs.declared.command.Command.TheVariants.{Cleanup, DeclareDead, Leave};
+ghost use Rattle.iox_nodes.specs.Served.{IsDone, IsJoin};
+ghost use Rattle.iox_nodes.specs.Shown.{service_of};
+
+use crate::service::Service;
+use iox_model::reply::Refusal;
+use iox_store::Payload;
+use iox_types::identifiers::UniqueSystemId;
+use iox_words::Words;
+
+impl<Q: Payload, QH: Words, P: Payload, PH: Words> Service<Q, QH, P, PH> {
+    /// A node joins, with these four numbers as its id; its number is how many joined before it.
+    /// `asked` is the first of its tests of types and attributes that fails, if one does.
+    ///
+    /// It is refused as `MarkedForDestruction` once the service is closed, as `InvalidNodeId`, as
+    /// `NodeIdInUse`, by what is asked, as `ExceedsMaxNumberOfNodes`, and as `WantOfMemory`, in this
+    /// order. That is also so once 2^64 - 1 nodes joined.
+    pub fn join<C: Copy>(
+        &mut self,
+        id: UniqueSystemId,
+        asked: Option<Refusal<C>>,
+    ) -> Result<u64, Refusal<C>>
+        ensures { IsJoin (service_of self.old) id asked result (service_of self.new) }
+    {
+        let most = self.hub.settings().nodes;
+        self.members.join(id, asked, most)
+    }
+
+    /// A node is declared dead: it asks nothing more. Its ports stay connected, and its number and
+    /// its id stay in use, until it is cleaned up. It is refused as `UnknownNode` or `NodeIsDead`.
+    pub fn declare_dead<C>(&mut self, node: u64) -> Result<(), Refusal<C>>
+        ensures { IsDone (service_of self.old) (DeclareDead node) result (service_of self.new) }
+    {
+        self.members.declare_dead(node)
+    }
+
+    /// A node leaves; the last one closes the service for good. It is refused as `UnknownNode`,
+    /// `NodeIsDead`, or `HasPorts` while a port or a handle of it is not released.
+    pub fn leave<C>(&mut self, node: u64) -> Result<(), Refusal<C>>
+        ensures { IsDone (service_of self.old) (Leave node) result (service_of self.new) }
+    {
+        let has_values = self.hub.has_values(node);
+        self.members.leave(node, has_values)
+    }
+
+    /// A dead node is cleaned up: its ports and handles are released, in the order of their numbers,
+    /// and then it is gone. The last one closes the service for good. It is refused as `UnknownNode`
+    /// or `NodeIsAlive`.
+    pub fn cleanup<C>(&mut self, node: u64) -> Result<(), Refusal<C>>
+        ensures { IsDone (service_of self.old) (Cleanup node) result (service_of self.new) }
+    {
+        if let Err(refusal) = self.members.dead(node) {
+            return Err(refusal);
+        }
+        self.hub.release_all(node);
+        self.members.remove(node);
+        Ok(())
+    }
+}

@@ -1,0 +1,50 @@
+//! A service: its nodes, and the hub of its ports.
+ghost use Rattle.std.specs.Prelude.{◌≡◌};
+ghost use Rattle.iox_model.specs.Runs.{IsServed};
+ghost use Rattle.iox_nodes.specs.Shown.{service_of};
+
+use iox_hub::Hub;
+use iox_members::Members;
+use iox_store::Payload;
+use iox_words::Words;
+use std::marker::Model;
+
+/// A service: its nodes and all their ports, with requests of `Q` and user headers `QH`, and with
+/// responses of `P` and user headers `PH`.
+///
+/// It shows a state of the machine that copies messages (`service_of`). The machine can reach it by
+/// what the service's own nodes asked, so each law of the machine holds of it.
+#[derive(Drop)]
+pub struct Service<Q: Payload, QH: Words, P: Payload, PH: Words> {
+    pub(crate) members: Members,
+    pub(crate) hub: Hub<Q, QH, P, PH>,
+}
+
+impl<Q: Payload, QH: Words, P: Payload, PH: Words> Model for Service<Q, QH, P, PH> {
+    ghost use Rattle.iox_nodes.specs.Shown.{IsService, ServiceTables, tables_of};
+
+    ghost Value = { ServiceTables };
+
+    ghost view = { λ s. tables_of s.members s.hub };
+
+    ghost invariant = { λ s. IsService s.members s.hub };
+}
+
+impl<Q: Payload, QH: Words, P: Payload, PH: Words> Service<Q, QH, P, PH> {
+    /// The machine can reach the service's state by what its own nodes asked. This does nothing: it
+    /// is there for its contract.
+    #[inline]
+    pub fn is_served(&self)
+        ensures { IsServed (service_of self.now) }
+    {
+        let _members = &self.members;
+    }
+
+    /// Whether the last node is gone, so that nobody may join any more.
+    #[inline]
+    pub fn is_closed(&self) -> bool
+        ensures { result ≡ self.now.members.closed }
+    {
+        self.members.is_closed()
+    }
+}

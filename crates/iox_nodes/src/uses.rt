@@ -1,0 +1,39 @@
+//! Callers of a service, with no proof of their own.
+ghost use Rattle.std.specs.Prelude.{None};
+ghost use Rattle.iox_model.specs.declared.command.Command.TheVariants.{Cleanup, Leave};
+ghost use Rattle.iox_model.specs.Runs.{IsServed};
+ghost use Rattle.iox_nodes.specs.Served.{IsDone, IsJoin};
+ghost use Rattle.iox_nodes.specs.Shown.{service_of};
+
+use crate::service::Service;
+use iox_model::reply::Refusal;
+use iox_store::{Many, One};
+use iox_types::identifiers::UniqueSystemId;
+use std::convert::Infallible;
+
+/// Requests of bytes, and responses that are a number each.
+type Bytes = Service<Many<u8>, (), One<u64>, ()>;
+
+/// A node joins, of which nothing is asked.
+pub fn opens(service: &mut Bytes, id: UniqueSystemId) -> Result<u64, Refusal<Infallible>>
+    ensures joined { IsJoin (service_of service.old) id None result (service_of service.new) }
+    ensures served { IsServed (service_of service.new) }
+{
+    let number = service.join(id, None);
+    service.is_served();
+    number
+}
+
+/// A dead node is cleaned up.
+pub fn cleans_up(service: &mut Bytes, node: u64) -> Result<(), Refusal<Infallible>>
+    ensures { IsDone (service_of service.old) (Cleanup node) result (service_of service.new) }
+{
+    service.cleanup(node)
+}
+
+/// A node leaves.
+pub fn leaves(service: &mut Bytes, node: u64) -> Result<(), Refusal<Infallible>>
+    ensures { IsDone (service_of service.old) (Leave node) result (service_of service.new) }
+{
+    service.leave(node)
+}
