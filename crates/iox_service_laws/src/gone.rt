@@ -1,0 +1,37 @@
+//! What a service has of nodes and ports that are gone. The functions have nothing to do: each is
+//! there for its contract.
+ghost use Rattle.iox_nodes.specs.Shown.{service_of};
+ghost use Rattle.iox_service_laws.specs.Gone.{ClosesWithTheLastNode, KeepsNothingForTheGone};
+ghost use Rattle.iox_service_laws.specs.Gone.{TheDeadDoNothing};
+
+use iox_nodes::Service;
+use iox_store::Payload;
+use iox_words::Words;
+
+/// Nothing waits for a port that is gone, and nothing of it is outstanding.
+pub fn keeps_nothing_for_the_gone<Q: Payload, QH: Words, P: Payload, PH: Words>(
+    service: &Service<Q, QH, P, PH>,
+)
+    ensures { KeepsNothingForTheGone (service_of service.now) }
+{
+    service.is_served();
+}
+
+/// A service is closed exactly if it has no node, and then it has no port, handle or message.
+pub fn closes_with_the_last_node<Q: Payload, QH: Words, P: Payload, PH: Words>(
+    service: &Service<Q, QH, P, PH>,
+)
+    ensures { ClosesWithTheLastNode (service_of service.now) }
+{
+    service.is_served();
+}
+
+/// Each later command of a port or handle by a node that died or left is refused, and changes
+/// nothing.
+pub fn the_dead_do_nothing<Q: Payload, QH: Words, P: Payload, PH: Words>(
+    service: &Service<Q, QH, P, PH>,
+)
+    ensures { TheDeadDoNothing (service_of service.now) }
+{
+    service.is_served();
+}
