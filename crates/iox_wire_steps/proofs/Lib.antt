@@ -29,3 +29,4 @@ pub mod StepsWhole
 pub mod Needed
 pub mod StateSteps
 pub mod ReturnSteps
+pub mod Told
