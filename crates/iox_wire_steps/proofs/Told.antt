@@ -1,7 +1,8 @@
 -- What ends of sends and receives are told.
-use Rattle.std.proofs.Common.{◌≡◌, ℕ, Bool, true, false, if◌then◌else◌, List, Some, sym, subst}
+use Rattle.std.proofs.Common.{◌≡◌, ℕ, Bool, true, false, if◌then◌else◌, List, Some, sym, subst, ◌∙◌, true≢false}
 use Rattle.iox_model.specs.declared.way.Way.{Way}
 use Rattle.iox_model.specs.States.{State}
+use Rattle.iox_model.specs.Settings.{is_client}
 use Rattle.iox_model.specs.WholeCalls.{MayHold}
 use Rattle.iox_laws.proofs.WeaveLaws.WholeLemmas.{some-is}
 use Rattle.iox_laws.proofs.WeaveLedger.Truths.{none-some}
@@ -33,7 +34,7 @@ sent_requests_are_told p held s x d last count stands is to low =
     λ request. (low, sent_requests_have_states p x s.request_state d last count (subst (HasOpened s.request_state) is stands.opened) request to)
 
 module _ (p : Setting) (held : Pools) (s : State) (x : Seat) (seen : ℕ) (payload : List ℕ) (v : Visit) (w : Way) (slot : ℕ) (header : List ℕ) (left : List Way)
-    (waiting : Bool) (stands : NodeStands p held s x) (is : x.local ≡ ReceiveAsks v w slot header left waiting) (told : IsTold p held s x seen) where
+    (waiting : Bool) (stands : NodeStands p held s x) (is : x.local ≡ ReceiveAsks v w slot header left waiting) (role : is_client v.role ≡ false) (told : IsTold p held s x seen) where
   abbrev Ended : Pools → State → Seat → Type 0
   Ended new t y =
       (ending : Ending) → ending_at y.local ≡ Some ending → EndIsTold p new t y ending × MayHold t.fixed (outcome_of p new x.node ending) payload
@@ -43,9 +44,12 @@ module _ (p : Setting) (held : Pools) (s : State) (x : Seat) (seen : ℕ) (paylo
   judged_so t true ending at =
       subst (λ k. EndIsTold p held t (ended (accessed x) (endings.Receives v w slot header)) k × MayHold t.fixed (outcome_of p held x.node k) payload) (some-is _ ending at) (
         (
-          subst (TellsLane held) is stands.tells,
-          subst (λ l. ReliesOn p (accessed x) s held l seen) is told.relies,
-          λ server. (subst (Owns p x.node s.fixed s.request_state) is stands.owns.owns).1,
+          λ client. absurd (true≢false (sym client ∙ role)),
+          λ server. (
+            subst (TellsLane held) is stands.tells,
+            subst (λ l. ReliesOn p (accessed x) s held l seen) is told.relies,
+            (subst (Owns p x.node s.fixed s.request_state) is stands.owns.owns).1,
+          ),
         ),
         tt,
       )
@@ -57,7 +61,7 @@ module _ (p : Setting) (held : Pools) (s : State) (x : Seat) (seen : ℕ) (paylo
       (judged_so (state_after s (moment_at p held (ReceiveAsks v w slot header left waiting) seen)) _)
 
 pub asked_requests_are_told : AskedRequestsAreTold
-asked_requests_are_told p held s x seen payload v w slot header left waiting stands is told = record {
+asked_requests_are_told p held s x seen payload v w slot header left waiting stands is role told = record {
   access = λ going. told;
-  ended = ended_told p held s x seen payload v w slot header left waiting stands is told;
+  ended = ended_told p held s x seen payload v w slot header left waiting stands is role told;
 }

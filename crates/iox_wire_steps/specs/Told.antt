@@ -1,8 +1,9 @@
 -- Ends of calls that are told by what stands at the places before.
-use Rattle.std.specs.Prelude.{◌≡◌, ◌<◌, ℕ, Bool, List, Option}
+use Rattle.std.specs.Prelude.{◌≡◌, ◌<◌, ℕ, Bool, false, List, Option}
 use Rattle.iox_model.specs.declared.kind.Role.TheVariants.{Server}
 use Rattle.iox_model.specs.declared.way.Way.{Way}
 use Rattle.iox_model.specs.Peers.{lanes_of, others}
+use Rattle.iox_model.specs.Settings.{is_client}
 use Rattle.iox_model.specs.States.{State}
 use Rattle.iox_wire_moments.specs.MomentsOf.{Pools}
 use Rattle.iox_wire_locals.specs.declared.local.Delivery.{Delivery}
@@ -27,10 +28,11 @@ SentRequestsAreTold =
     → d.to ≡ others (known p x) x.node Server → d.loan.lane < lanes_of s.fixed d.loan.port
     → EndIsTold p held s x (Sends d.loan d.copied count)
 
--- A receive that asks for the request state, and is told the request, is told all that it receives.
+-- A server's receive that asks for the request state, and is told the request, is told all that it
+-- receives.
 abbrev pub AskedRequestsAreTold : Type 0
 AskedRequestsAreTold =
     (p : Setting) (held : Pools) (s : State) (x : Seat) (seen : ℕ) (payload : List ℕ) (v : Visit)
     (w : Way) (slot : ℕ) (header : List ℕ) (left : List Way) (waiting : Bool)
     → NodeStands p held s x → x.local ≡ ReceiveAsks v w slot header left waiting
-    → IsTold p held s x seen → StepIsTold p held s x seen payload
+    → is_client v.role ≡ false → IsTold p held s x seen → StepIsTold p held s x seen payload
