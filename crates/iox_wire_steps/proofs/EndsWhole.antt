@@ -54,6 +54,7 @@ use Rattle.iox_wire_stands.proofs.OthersKept.{others_leave_nodes}
 use Rattle.iox_wire_stands.proofs.StepsAround.{Whole}
 use Rattle.iox_wire_steps.specs.Over.{EndIsTold, EndsWith, IsDropped, CallIsOver}
 use Rattle.iox_wire_steps.proofs.Added as added
+use Rattle.iox_wire_steps.proofs.Headers.{header_is}
 use Rattle.iox_wire_steps.proofs.Homes as homes
 use Rattle.iox_wire_steps.proofs.Knowing.{outcome_fits}
 use Rattle.iox_wire_steps.proofs.OwnNodes.{node_now}
@@ -171,7 +172,7 @@ module _ (p : Setting) (held : Pools) (word : ℕ → ℕ) (c : WireContents) (s
       = (outcome_fits p held word c seats w n (endings.Lends o slot) shows living is).0.of_node ∙ sym (shows.node n) in
       (node, loan_is o slot node loan, lent_alone o slot is loan)
   holds_so (endings.Fills e words) is with tells loan low = filled_alone e words is with tells (low_of e (low e with))
-  holds_so (endings.Receives v z slot header) is with tells loan low = (tells.0, tells.1)
+  holds_so (endings.Receives v z slot header) is with tells loan low = header_is p held word c seats w n v z slot header shows living is tells
   holds_so k is with tells loan low = tt
 
   holds : EndHolds p held c seats w.state n payload ending

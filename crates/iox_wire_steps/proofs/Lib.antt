@@ -13,6 +13,7 @@ pub mod NewNumbers
 pub mod OwnNodes
 pub mod OwnMessages
 pub mod OwnSlotsApart
+pub mod Headers
 pub mod EndsWhole
 pub mod LoanEnds
 pub mod EndsStand
@@ -29,3 +30,4 @@ pub mod StepsWhole
 pub mod Needed
 pub mod StateSteps
 pub mod ReturnSteps
+pub mod Told

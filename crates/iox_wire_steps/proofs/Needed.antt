@@ -46,6 +46,7 @@ use Rattle.iox_wire_stands.specs.Stands.{AreNumbered, OwnersAre}
 use Rattle.iox_wire_steps.specs.Needed.{WhatIsToldIsNeeded}
 use Rattle.iox_wire_steps.specs.Over.{EndIsTold, EndsWith, state_ended}
 use Rattle.iox_wire_steps.proofs.EndStates.{Forgot, states_stay}
+use Rattle.iox_wire_steps.proofs.Headers.{response_request}
 use Rattle.iox_wire_steps.proofs.Knowing.{outcome_fits}
 use Rattle.iox_wire_steps.proofs.NewNumbers.{numbers_are_new}
 use Rattle.iox_wire_steps.proofs.Received.{asks_on}
@@ -184,7 +185,10 @@ module _ (p : Setting) (held : Pools) (word : ℕ → ℕ) (c : WireContents) (s
         (subst (λ b. lane_in v y header < lanes_of (state_ended p held s x payload (endings.Receives v y slot header)).fixed (if b then v.port else y.sender)) server (released.request kind).1))
 
     pub received_told : EndIsTold p held s x (endings.Receives v y slot header)
-    received_told = (header_is.0, header_is.1, request_asks)
+    received_told = (
+      λ client. header_is.1 ∙ response_request p held word c seats w n v y slot header shows living is client,
+      λ server. (header_is.0, header_is.1, request_asks server),
+    )
 
   -- ---- a request that was sent
 

@@ -126,7 +126,7 @@ module _ (p : Setting) (held : Pools) (word : ℕ → ℕ) (c : WireContents) (s
         subst (IsReleased s.fixed n) (sym new.0)
         (added.sent_released p held word c seats w n shows living fits k copied count at new.1 (tells new.1).0)
     released_added (endings.Receives v z slot header) at with tells new =
-        subst (IsReleased s.fixed n) (sym new) (received_released p held word c seats w n v z slot header shows living at fits with (next_handle p x) tells.2)
+        subst (IsReleased s.fixed n) (sym new) (received_released p held word c seats w n v z slot header shows living at fits with (next_handle p x) (λ server. (tells.1 server).2))
     released_added k at with tells new = absurd new
 
     states_added : (k : Ending) → ending_at x.local ≡ Some k → EndIsTold p held s x k → Gains p x k e → same_kind e.kind PendingResponse ≡ true

@@ -70,17 +70,19 @@ pub record CallIsOver (p : Setting) (held : Pools) (s : State) (x : Seat) (endin
 
 -- ---- the end
 
--- What the end of a call is told: a loan that was written is a filled one; a header told what was
--- received; a request that was sent is on a lane of its client, where no other request is open.
+-- What the end of a call is told: a loan that was written is a filled one; a response that was
+-- received names the request of its pending response, and the header of a request told what it is; a
+-- request that was sent is on a lane of its client, where no other request is open.
 abbrev pub EndIsTold : Setting → Pools → State → Seat → Ending → Type 0
 EndIsTold p held s x (endings.Fills e words) = filled_kind e.kind ≡ e.kind
 EndIsTold p held s x (endings.Sends e copied count) =
     is_request_loan e.kind ≡ true
     → (e.lane < lanes_of s.fixed e.port) × HasOwnStates p x s.request_state (sent_entry e count)
 EndIsTold p held s x (endings.Receives v w slot header) =
-    (lane_in v w header ≡ (held w.sender slot).lane)
-    × (request_in v header ≡ (held w.sender slot).request)
-    × (is_client v.role ≡ false → AsksOn p v w header)
+    (is_client v.role ≡ true → request_in v header ≡ v.request)
+    × (is_client v.role ≡ false
+    → (lane_in v w header ≡ (held w.sender slot).lane)
+    × (request_in v header ≡ (held w.sender slot).request) × AsksOn p v w header)
 EndIsTold p held s x ending = Unit {0}
 
 -- the state after the end of such a call

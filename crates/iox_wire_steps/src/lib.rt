@@ -10,6 +10,7 @@ ghost use Rattle.iox_wire_steps.specs.Needed.{WhatIsToldIsNeeded};
 ghost use Rattle.iox_wire_steps.specs.OwnMessages.{OwnMessagesAreApart, OwnMessagesAreLent};
 ghost use Rattle.iox_wire_steps.specs.ReturnSteps.{ReturnStepsKeep};
 ghost use Rattle.iox_wire_steps.specs.StateSteps.{StateStepsKeep};
+ghost use Rattle.iox_wire_steps.specs.Told.{AskedRequestsAreTold, SentRequestsAreTold};
 ghost use Rattle.iox_wire_steps.specs.WholeEnds.{EndsKeep};
 ghost use Rattle.iox_wire_steps.specs.WholeSteps.{WholeStepsKeep};
 
@@ -78,4 +79,10 @@ pub fn state_steps_keep()
 /// what stands, where its node did not forget the sender.
 pub fn return_steps_keep()
     ensures { ReturnStepsKeep }
+{}
+
+/// What stands at the last places of sends and receives tells their ends.
+pub fn ends_are_told()
+    ensures sent { SentRequestsAreTold }
+    ensures asked { AskedRequestsAreTold }
 {}
