@@ -17,12 +17,14 @@ use Rattle.iox_openers.specs.Causes.{with_cause}
 -- ---- answers, as the machine has them
 
 -- why it is refused, if it is
-abbrev pub refusal_in : {C X : Type 0} → (C → Cause) → Result X (the_refusal.Refusal C) → Option Refusal
+abbrev pub refusal_in :
+    {C X : Type 0} → (C → Cause) → Result X (the_refusal.Refusal C) → Option Refusal
 refusal_in cause (Ok x) = None
 refusal_in cause (Err r) = Some (with_cause cause r)
 
 -- the answer of what is refused, or done with that reply
-abbrev pub answer_in : {C X : Type 0} → (C → Cause) → (X → Reply) → Result X (the_refusal.Refusal C) → Reply
+abbrev pub answer_in :
+    {C X : Type 0} → (C → Cause) → (X → Reply) → Result X (the_refusal.Refusal C) → Reply
 answer_in cause reply (Ok x) = reply x
 answer_in cause reply (Err r) = Refused (with_cause cause r)
 
@@ -30,7 +32,8 @@ answer_in cause reply (Err r) = Refused (with_cause cause r)
 
 -- The command may be answered so, and leaves these nodes and all else as it was.
 abbrev pub IsOfNodes : State → Members → Command → Reply → Members → Type 0
-IsOfNodes s old command reply new = IsCommand (with_members s old) command reply (with_members s new)
+IsOfNodes s old command reply new =
+    IsCommand (with_members s old) command reply (with_members s new)
 
 -- A join is answered so, where this is what is asked of types and attributes, and at most so many
 -- nodes may there be.

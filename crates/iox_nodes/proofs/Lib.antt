@@ -3,3 +3,4 @@ pub mod Leading
 pub mod FirstStates
 pub mod Answering
 pub mod Telling
+pub mod Running

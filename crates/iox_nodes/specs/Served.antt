@@ -1,6 +1,6 @@
 -- What a call of a service comes to: it is one command of the machine, whatever the causes of
 -- attributes are.
-use Rattle.std.specs.Prelude.{ℕ, List, Option, Some, None, Result, Ok, Err}
+use Rattle.std.specs.Prelude.{◌≡◌, ℕ, List, ◌++◌, length, map, take, Option, Some, None, Result, Ok, Err}
 use Rattle.std.specs.Option.{option_map}
 use Rattle.std.specs.declared.vec.Vec.{Vec}
 use Rattle.iox_types.specs.declared.identifiers.system_id.UniqueSystemId.{UniqueSystemId}
@@ -12,7 +12,7 @@ use Rattle.iox_model.specs.declared.reply.Reply as the_reply
 use Rattle.iox_model.specs.declared.reply.Reply.TheVariants as replies
 use Rattle.iox_model.specs.Commands.{Cause, Command}
 use Rattle.iox_model.specs.Defaults.{follow}
-use Rattle.iox_model.specs.Runs.{IsCreation}
+use Rattle.iox_model.specs.Runs.{IsCreation, IsRun}
 use Rattle.iox_model.specs.Services.{IsCommand}
 use Rattle.iox_model.specs.Settings.{Limits}
 use Rattle.iox_model.specs.States.{State}
@@ -48,8 +48,8 @@ abbrev pub IsJoin :
     → Result ℕ (the_refusal.Refusal C) → State → Type 0
 IsJoin {C = C} s id asked result s' =
     (cause : C → Cause)
-    → IsCommand s (Join id (option_map (with_cause cause) asked)) (answer_in cause replies.Node result)
-    s'
+    → IsCommand s (Join id (option_map (with_cause cause) asked))
+    (answer_in cause replies.Node result) s'
 
 -- A command that has nothing to tell is done, or refused so.
 abbrev pub IsDone :
@@ -62,7 +62,8 @@ abbrev pub IsPortAnswered :
     {Q P H C Z : Type 0} → (Q → List ℕ) → (P → List ℕ) → (H → List ℕ) → State
     → the_port_command.PortCommand (Elements Q P) H → the_reply.Reply (Vec ℕ Z) C → State → Type 0
 IsPortAnswered {C = C} q p words s command reply s' =
-    (cause : C → Cause) → IsCommand s (Port (command_for q p words command)) (reply_given cause reply) s'
+    (cause : C → Cause)
+    → IsCommand s (Port (command_for q p words command)) (reply_given cause reply) s'
 
 -- A command of a service is answered so, where these are the words of elements and handlers.
 abbrev pub IsAnswered :
@@ -72,3 +73,15 @@ abbrev pub IsAnswered :
 IsAnswered {C = C} q p words s command reply s' =
     (cause : C → Cause)
     → IsCommand s (command_given q p words cause command) (reply_given cause reply) s'
+
+-- The first of these commands are answered by the replies that are new, one after another: a run of
+-- the machine. The rest is not begun.
+abbrev pub IsRunOf :
+    {Q P H C Z : Type 0} → (Q → List ℕ) → (P → List ℕ) → (H → List ℕ) → State
+    → List (the_command.Command (Elements Q P) H (Option (the_refusal.Refusal C)))
+    → List (the_reply.Reply (Vec ℕ Z) C) → List (the_reply.Reply (Vec ℕ Z) C) → State → Type 0
+IsRunOf {C = C} {Z = Z} q p words s commands old new s' =
+    (more : List (the_reply.Reply (Vec ℕ Z) C)) × (new ≡ old ++ more)
+    × ((cause : C → Cause)
+    → IsRun s (map (command_given q p words cause) (take (length more) commands))
+    (map (reply_given cause) more) s')

@@ -27,8 +27,8 @@ given_for x = record {
 abbrev pub state_of : Members → HubState → State
 state_of x h = state_of_hub (given_for x) h
 
--- What a service keeps: its nodes, the tables of its hub, what messages carry, and what they are made
--- of.
+-- What a service keeps: its nodes, the tables of its hub, what messages carry, and what they are
+-- made of.
 pub record ServiceTables : Type 0 where
   pub members : Members
   pub tables : HubTables
@@ -56,8 +56,8 @@ service_of v =
       response = v.response;
     })
 
--- the limits that these settings ask for, with such messages; a hub keeps nothing of ports that are
--- gone
+-- the limits that these settings ask for, with such messages; a hub keeps nothing of ports that
+-- are gone
 abbrev pub limits_for : HubSettings → Shape → Shape → Limits
 limits_for s request response = record {
   clients = s.clients;
@@ -81,8 +81,8 @@ limits_for s request response = record {
   response = response;
 }
 
--- What is so of each service with these nodes and this hub: only its own nodes asked its hub, and each
--- element has a default.
+-- What is so of each service with these nodes and this hub: only its own nodes asked its hub, and
+-- each element has a default.
 pub record IsService (x : Members) (h : HubState) : Type 0 where
   pub served : IsServed (state_of x h)
   pub defaults : HaveDefaults h

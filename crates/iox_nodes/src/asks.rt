@@ -13,8 +13,9 @@ use iox_words::Words;
 use std::alloc::Global;
 
 impl<Q: Payload, QH: Words, P: Payload, PH: Words> Service<Q, QH, P, PH> {
-    /// A node makes a port, or calls a port or a handle by its number. A port gets the id with which
-    /// its node joined. It is refused as `UnknownNode` or `NodeIsDead` before all that the hub tests.
+    /// A node makes a port, or calls a port or a handle by its number. A port gets the id with
+    /// which its node joined. It is refused as `UnknownNode` or `NodeIsDead` before all that the
+    /// hub tests. Where there is no memory for a port or for what is read, that is a reply, too.
     pub fn port<H: Words, C>(
         &mut self,
         alloc: Global,

@@ -14,8 +14,8 @@ impl<Q: Payload, QH: Words, P: Payload, PH: Words> Service<Q, QH, P, PH> {
     /// `asked` is the first of its tests of types and attributes that fails, if one does.
     ///
     /// It is refused as `MarkedForDestruction` once the service is closed, as `InvalidNodeId`, as
-    /// `NodeIdInUse`, by what is asked, as `ExceedsMaxNumberOfNodes`, and as `WantOfMemory`, in this
-    /// order. That is also so once 2^64 - 1 nodes joined.
+    /// `NodeIdInUse`, by what is asked, as `ExceedsMaxNumberOfNodes`, and as `WantOfMemory`, in
+    /// this order. It is told of want of memory, too, once 2^64 - 1 nodes joined.
     pub fn join<C: Copy>(
         &mut self,
         id: UniqueSystemId,
@@ -44,9 +44,9 @@ impl<Q: Payload, QH: Words, P: Payload, PH: Words> Service<Q, QH, P, PH> {
         self.members.leave(node, has_values)
     }
 
-    /// A dead node is cleaned up: its ports and handles are released, in the order of their numbers,
-    /// and then it is gone. The last one closes the service for good. It is refused as `UnknownNode`
-    /// or `NodeIsAlive`.
+    /// A dead node is cleaned up: its ports and handles are released, in the order of their
+    /// numbers, and then it is gone. The last one closes the service for good. It is refused as
+    /// `UnknownNode` or `NodeIsAlive`.
     pub fn cleanup<C>(&mut self, node: u64) -> Result<(), Refusal<C>>
         ensures { IsDone (service_of self.old) (Cleanup node) result (service_of self.new) }
     {

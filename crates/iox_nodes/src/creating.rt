@@ -83,7 +83,8 @@ impl<Q: Payload, QH: Words, P: Payload, PH: Words> Service<Q, QH, P, PH> {
         requires valid { is_node_id id ≡ true }
         requires small { (request response : Shape)
             → is_too_large (limits_for (settings_of settings) request response) ≡ false }
-        ensures { IfOk result (λ service. service_of service ≡ created (limits_for (settings_of settings)
+        ensures { IfOk result (λ service. service_of service
+            ≡ created (limits_for (settings_of settings)
             (shape_of Q.MANY Q.Element.WORDS Q.Element.words QH.words request)
             (shape_of P.MANY P.Element.WORDS P.Element.words PH.words response)) follow id) }
     {

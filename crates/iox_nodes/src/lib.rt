@@ -1,5 +1,5 @@
-//! A service over a hub: its nodes join, ask, die and leave. Each call is one command of the machine
-//! that copies messages, and the state of a service is one that the machine can reach.
+//! A service over a hub: its nodes join, ask, die and leave. Each call is one command of the
+//! machine that copies messages, and the state of a service is one that the machine can reach.
 #![tactic(auto)]
 
 mod asking;

@@ -11,8 +11,8 @@ use iox_words::Words;
 use std::alloc::{AllocError, Global};
 
 impl<Q: Payload, QH: Words, P: Payload, PH: Words> Service<Q, QH, P, PH> {
-    /// The numbers of the nodes that are there, dead ones too, ascending. It fails only for want of
-    /// memory.
+    /// The numbers of the nodes that are there, dead ones too, ascending. It fails only for want
+    /// of memory.
     pub fn list_nodes(&self, alloc: Global) -> Result<Vec<u64>, AllocError>
         ensures { IfOk result (λ numbers. numbers.items
             ≡ map (λ m. m.number) (service_of self.now).members.nodes) }
@@ -23,7 +23,8 @@ impl<Q: Payload, QH: Words, P: Payload, PH: Words> Service<Q, QH, P, PH> {
     /// The numbers of the connected clients, those of dead nodes too, ascending. It fails only for
     /// want of memory.
     pub fn list_clients(&self, alloc: Global) -> Result<Vec<u64>, AllocError>
-        ensures { IfOk result (λ numbers. numbers.items ≡ ports_of_role (service_of self.now).fixed Client) }
+        ensures { IfOk result (λ numbers. numbers.items
+            ≡ ports_of_role (service_of self.now).fixed Client) }
     {
         self.hub.list_ports(alloc, Role::Client)
     }
@@ -31,7 +32,8 @@ impl<Q: Payload, QH: Words, P: Payload, PH: Words> Service<Q, QH, P, PH> {
     /// The numbers of the connected servers, those of dead nodes too, ascending. It fails only for
     /// want of memory.
     pub fn list_servers(&self, alloc: Global) -> Result<Vec<u64>, AllocError>
-        ensures { IfOk result (λ numbers. numbers.items ≡ ports_of_role (service_of self.now).fixed Server) }
+        ensures { IfOk result (λ numbers. numbers.items
+            ≡ ports_of_role (service_of self.now).fixed Server) }
     {
         self.hub.list_ports(alloc, Role::Server)
     }

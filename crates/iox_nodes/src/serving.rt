@@ -1,8 +1,8 @@
 //! Commands one after another, and what they are answered.
-ghost use Rattle.std.specs.Prelude.{◌≡◌, IfOk, OnErr, true};
+ghost use Rattle.std.specs.Prelude.{◌≡◌, ◌+◌, IfOk, OnErr, OnOk, true, vec_len};
 ghost use Rattle.iox_model.specs.declared.reply.Reply.TheVariants as replies;
 ghost use Rattle.iox_nodes.specs.Given.{is_listing, reply_to};
-ghost use Rattle.iox_nodes.specs.Served.{IsAnswered};
+ghost use Rattle.iox_nodes.specs.Served.{IsAnswered, IsRunOf};
 ghost use Rattle.iox_nodes.specs.Shown.{service_of};
 
 use crate::service::Service;
@@ -56,5 +56,26 @@ impl<Q: Payload, QH: Words, P: Payload, PH: Words> Service<Q, QH, P, PH> {
             Command::ListClients => Ok(Reply::Listed(self.list_clients(alloc)?)),
             Command::ListServers => Ok(Reply::Listed(self.list_servers(alloc)?)),
         }
+    }
+
+    /// Answers commands one after another, and puts each reply behind the others. It ends before the
+    /// command whose reply finds no room, and before a listing for which there is no memory; what
+    /// was answered until then stays.
+    pub fn run<H: Words, C: Copy>(
+        &mut self,
+        alloc: Global,
+        commands: Vec<Command<Elements<Q::Element, P::Element>, H, Option<Refusal<C>>>>,
+        replies: &mut Vec<Reply<Vec<u64>, C>>,
+    ) -> Result<(), AllocError>
+        ensures ran { IsRunOf Q.Element.words P.Element.words H.words (service_of self.old)
+            commands.items replies.old.items replies.new.items (service_of self.new) }
+        ensures whole { OnOk result (vec_len replies.new ≡ vec_len replies.old + vec_len commands) }
+    {
+        for command in commands {
+            replies.reserve(1)?;
+            let reply = self.serve(alloc, command)?;
+            replies.push_reserved(reply);
+        }
+        Ok(())
     }
 }

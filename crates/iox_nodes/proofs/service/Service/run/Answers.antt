@@ -1,0 +1,67 @@
+use Rattle.std.proofs.Common.{◌≡◌, ◌∷◌, [], length, ap, arith, rules, subst, sym, ◌∙◌}
+use Rattle.std.specs.Vec.Iter.{into_iter_items}
+use Rattle.iox_nodes.specs.Shown.{service_of}
+use Rattle.iox_nodes.proofs.Running.{HasRun, nothing_left, run_ends, run_goes_on, run_is_whole, run_starts}
+use Rattle.iox_nodes.proofs.service.Service.run.Goals as goal
+
+pub loop-command-init : goal.loop-command-init
+loop-command-init g c =
+    let it = c.into_iter-command-iterator in (
+      subst
+          (λ cs. HasRun g.Q.Element.Words.words g.P.Element.Words.words g.H.Words.words (service_of c.args.self.now) c.args.commands.items c.args.replies.now.items
+          cs c.args.replies.now.items (service_of c.args.self.now))
+          (sym it.ensures.into_iter_gives.0)
+          (run_starts g.Q.Element.Words.words g.P.Element.Words.words g.H.Words.words (service_of c.args.self.now) c.args.commands.items c.args.replies.now.items),
+      search rules,
+    )
+
+pub returns-in_err-reserve-clause-ran : goal.returns-in_err-reserve-clause-ran
+returns-in_err-reserve-clause-ran g c =
+    rw c.reserve.ensures.items
+    (run_ends g.Q.Element.Words.words g.P.Element.Words.words g.H.Words.words (service_of c.args.self.now) c.args.commands.items c.args.replies.now.items
+    (into_iter_items c.loop-command.command-iterator) c.loop-command.replies.items (service_of c.loop-command.self) c.loop-command.invariant.0)
+
+pub returns-in_err-reply-clause-ran : goal.returns-in_err-reply-clause-ran
+returns-in_err-reply-clause-ran g c =
+    rw c.reserve.ensures.items
+    (rw c.in_err-reply.ensures.unchanged
+    (run_ends g.Q.Element.Words.words g.P.Element.Words.words g.H.Words.words (service_of c.args.self.now) c.args.commands.items c.args.replies.now.items
+    (into_iter_items c.loop-command.command-iterator) c.loop-command.replies.items (service_of c.loop-command.self) c.loop-command.invariant.0))
+
+pub loop-command-preserved : goal.loop-command-preserved
+loop-command-preserved g c =
+    let at = c.loop-command in
+    let steps : into_iter_items at.command-iterator ≡ c.in-Some.command ∷ into_iter_items c.next.new.self = c.in-Some.ensures.steps.0 in (
+      rw c.push_reserved.ensures.items
+          (rw c.reserve.ensures.items
+          (run_goes_on g.Q.Element.Words.words g.P.Element.Words.words g.H.Words.words (service_of c.args.self.now) c.args.commands.items c.args.replies.now.items
+          c.in-Some.command (into_iter_items c.next.new.self) at.replies.items (service_of at.self) (service_of c.serve.new.self) c.in_ok-reply.reply
+          (subst
+          (λ cs. HasRun g.Q.Element.Words.words g.P.Element.Words.words g.H.Words.words (service_of c.args.self.now) c.args.commands.items
+          c.args.replies.now.items cs at.replies.items (service_of at.self))
+          steps at.invariant.0)
+          c.in_ok-reply.ensures.answered)),
+      let was = at.invariant.1 in
+          let gone = c.in-Some.ensures.steps.1 in
+          let short = ap length steps in
+          omega arith,
+    )
+
+pub returns-clause-ran : goal.returns-clause-ran
+returns-clause-ran g c =
+    run_ends g.Q.Element.Words.words g.P.Element.Words.words g.H.Words.words (service_of c.args.self.now) c.args.commands.items c.args.replies.now.items
+    (into_iter_items c.loop-command.command-iterator) c.loop-command.replies.items (service_of c.loop-command.self) c.loop-command.invariant.0
+
+pub returns-clause-whole : goal.returns-clause-whole
+returns-clause-whole g c =
+    let at = c.loop-command in
+    let none = c.in-None.ensures.steps in
+    let empty : into_iter_items at.command-iterator ≡ [] = nothing_left _ (sym at.invariant.1 ∙ none.0) in
+    let whole =
+    run_is_whole g.Q.Element.Words.words g.P.Element.Words.words g.H.Words.words (service_of c.args.self.now) c.args.commands.items
+    c.args.replies.now.items at.replies.items (service_of at.self)
+    (subst
+    (λ cs. HasRun g.Q.Element.Words.words g.P.Element.Words.words g.H.Words.words (service_of c.args.self.now) c.args.commands.items
+    c.args.replies.now.items cs at.replies.items (service_of at.self))
+    empty at.invariant.0) in
+    search rules
