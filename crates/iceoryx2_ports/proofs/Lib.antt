@@ -3,3 +3,12 @@ pub mod Staying
 pub mod Telling
 pub mod Copying
 pub mod Coming
+pub mod Resting
+pub mod Others
+pub mod Aside
+pub mod Released
+pub mod Sent
+pub mod Asked
+pub mod Reaching
+pub mod Counted
+pub mod LoanLimits

@@ -180,7 +180,7 @@ found_kind None kind e = absurd (true≢false (sym e))
 found_kind (Some k) kind e = ap Some (same_kinds k kind e)
 
 -- what a hub gives, whatever its service
-any_given : HubState → Given
+pub any_given : HubState → Given
 any_given h = record {
   members = record { nodes = []; joins = 0; closed = false };
   acts = λ words sender receiver. FollowBackpressureStrategy;
@@ -201,10 +201,10 @@ kept_by old new still a n some = step (kind_in old.control.tables a n) refl some
     step None is some = absurd (true≢false (sym some))
 
 -- for whom a handle of the machine asks
-abbrev asker : Handle → Receiver
+abbrev pub asker : Handle → Receiver
 asker h = record { port = h.port; role = roles.Client; lane = h.lane; request = h.request }
 
-client_shown : (x : Given) (h : HubState) (node n : ℕ)
+pub client_shown : (x : Given) (h : HubState) (node n : ℕ)
     → option_map_or asker (handle_at (state_of_hub x h).fixed node n) (server_of n) ≡ client_in h node n
 client_shown x h node n =
     ap (λ (o : Option Handle). option_map_or asker o (server_of n)) (find_handle (given_by x h) (message_of (given_by x h) t.pools) t.handles node n)

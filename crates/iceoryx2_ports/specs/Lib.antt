@@ -5,6 +5,7 @@ pub use Rattle.iox_model.specs.declared.call.Call
 pub use Rattle.iox_model.specs.declared.kind.Kind
 pub use Rattle.iox_model.specs.declared.reply.Refusal
 pub use Rattle.iox_model.specs.declared.reply.Reply
+pub use Rattle.iox_tables.specs.HubLoans.Counts
 pub use Rattle.iox_tables.specs.HubStates.States
 pub use Rattle.iox_hub.specs.Hubs
 pub use Rattle.iox_hub.specs.Reads
@@ -18,7 +19,9 @@ pub mod Headers
 pub mod Keeping
 pub mod Makings
 pub mod Loans
+pub mod LoanLimits
 pub mod Payloads
 pub mod Copies
 pub mod Releases
 pub mod Arrivals
+pub mod Reaching

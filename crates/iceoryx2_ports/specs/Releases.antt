@@ -6,12 +6,19 @@ use Rattle.iox_model.specs.declared.reply.Reply.TheVariants.{Done}
 use Rattle.iox_model.specs.WholeCalls.{IsWholeCall}
 use Rattle.iox_tables.specs.HubStates.States.{Given}
 use Rattle.iox_hub.specs.Hubs.{HasValue, HubState, state_of_hub}
+use Rattle.iox_hub.specs.Keeping.{KeepsOthers}
 use Rattle.iox_hub.specs.Sending.{HasNothing}
+use Rattle.iox_hub_laws.specs.Sends.{NothingComes}
+use Rattle.iceoryx2_ports.specs.Keeping.{KeepsOthersAsking}
 
--- The node's value of that number and kind is released, if it has one; else nothing changes.
+-- The node's value of that number and kind is released, if it has one; else nothing changes. All
+-- other values are as they were, and nothing comes where nothing waited.
 pub record IsReleased (old : HubState) (node n : ℕ) (kind : Kind) (new : HubState) : Type 0 where
   pub whole :
       HasValue old node n kind → (x : Given)
       → IsWholeCall (state_of_hub x old) node (Release n) Done (state_of_hub x new)
   pub gone : HasValue old node n kind → HasNothing new node n
   pub unchanged : (HasValue old node n kind → ⊥) → new ≡ old
+  pub keeps : KeepsOthers old node n new
+  pub asks : KeepsOthersAsking old node n new
+  pub comes : NothingComes old new

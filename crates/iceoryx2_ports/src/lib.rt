@@ -22,6 +22,8 @@ pub mod uses_copying;
 pub mod uses_exchange;
 pub mod uses_filling;
 pub mod uses_headers;
+pub mod uses_limits;
+pub mod uses_reaching;
 pub mod uses_reading;
 
 pub use active_request::ActiveRequest;

@@ -1,5 +1,5 @@
 //! Loans of clients and of active requests, by their numbers.
-ghost use Rattle.std.specs.Prelude.{◌≡◌, ◌≢◌, IfErr, IfOk, IsSome, OnErr, false};
+ghost use Rattle.std.specs.Prelude.{◌≡◌, ◌≢◌, Err, IfErr, IfOk, IsSome, OnErr, OnOk, false};
 ghost use Rattle.iox_model.specs.declared.kind.Kind.TheVariants as kinds;
 ghost use Rattle.iox_model.specs.declared.kind.Role.TheVariants as roles;
 ghost use Rattle.iox_model.specs.WholeCalls.{IsWholeCall};
@@ -9,8 +9,10 @@ ghost use Rattle.iox_hub.specs.Hubs.{HasValue, state_of_hub, with_control};
 ghost use Rattle.iox_hub.specs.Lending.{IsFresh};
 ghost use Rattle.iox_hub_laws.specs.Sends.{NothingComes};
 ghost use Rattle.iceoryx2_ports.specs.Keeping.{KeepsAsking, KeepsValues};
+ghost use Rattle.iceoryx2_ports.specs.LoanLimits.{HasAllLoans, LendsOneMore};
 ghost use Rattle.iceoryx2_ports.specs.Loans.{reply_of_loan};
-ghost use Rattle.iceoryx2_ports.specs.declared.errors.LoanError.TheVariants.{OutOfMemory};
+ghost use Rattle.iceoryx2_ports.specs.Reaching.{KeepsRoom};
+ghost use Rattle.iceoryx2_ports.specs.declared.errors.LoanError.TheVariants.{ExceedsMaxLoans, OutOfMemory};
 
 use crate::errors::LoanError;
 use iox_control_lending::{Lent, LoanRefusal};
@@ -36,11 +38,18 @@ pub(crate) fn lend_request<Q: Payload, QH: Words, P: Payload, PH: Words>(
     ensures comes { NothingComes hub.old hub.new }
     ensures keeps { KeepsValues hub.old hub.new }
     ensures asks { KeepsAsking hub.old hub.new }
+    ensures room { KeepsRoom hub.old hub.new }
+    ensures counted { OnOk result (LendsOneMore hub.old client elements hub.new) }
+    ensures past { HasAllLoans hub.old client elements → result ≡ Err ExceedsMaxLoans }
     ensures unchanged { IfErr result (λ error. error ≢ OutOfMemory → hub.new ≡ hub.old) }
     ensures left { OnErr result (hub.new ≡ with_control hub.old hub.new.control) }
 {
+    hub.is_in_order();
     match iox_hub_laws::lend_request(hub, node, client, elements, uninit) {
-        Lent::Handle(loan) => Ok(loan.number),
+        Lent::Handle(loan) => {
+            hub.is_in_order();
+            Ok(loan.number)
+        }
         Lent::Refused(LoanRefusal::CallsSpent) => Err(LoanError::CallsSpent),
         Lent::Refused(LoanRefusal::WrongLength) => Err(LoanError::WrongLength),
         Lent::Refused(LoanRefusal::ExceedsMaxLoanSize) => Err(LoanError::ExceedsMaxLoanSize),
@@ -68,6 +77,7 @@ pub(crate) fn lend_response<Q: Payload, QH: Words, P: Payload, PH: Words>(
     ensures comes { NothingComes hub.old hub.new }
     ensures keeps { KeepsValues hub.old hub.new }
     ensures asks { KeepsAsking hub.old hub.new }
+    ensures room { KeepsRoom hub.old hub.new }
     ensures unchanged { IfErr result (λ error. error ≢ OutOfMemory → hub.new ≡ hub.old) }
     ensures left { OnErr result (hub.new ≡ with_control hub.old hub.new.control) }
 {

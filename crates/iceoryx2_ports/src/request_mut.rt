@@ -16,7 +16,9 @@ ghost use Rattle.iox_hub.specs.Sending.{HasNothing};
 ghost use Rattle.iox_hub_laws.specs.Sends.{BringsNothing, NothingComes, SendsRequest};
 ghost use Rattle.iceoryx2_ports.specs.Arrivals.{BringsItsWords};
 ghost use Rattle.iceoryx2_ports.specs.Headers.{request_header_of};
+ghost use Rattle.iceoryx2_ports.specs.Keeping.{KeepsAsking};
 ghost use Rattle.iceoryx2_ports.specs.Loans.{reply_of_request_send, reply_of_write};
+ghost use Rattle.iceoryx2_ports.specs.Reaching.{KeepsRoom, ReachesServers};
 ghost use Rattle.iceoryx2_ports.specs.Releases.{IsReleased};
 
 mod payloads;
@@ -89,6 +91,8 @@ impl<Q: Payload, QH: Words, P: Payload, PH: Words> RequestMutUninit<Q, QH, P, PH
             ((message_in hub.old self.node self.number).elements ≢ length values.now) }
         ensures comes { NothingComes hub.old hub.new }
         ensures keeps { KeepsOthers hub.old self.node self.number hub.new }
+        ensures asks { KeepsAsking hub.old hub.new }
+        ensures room { KeepsRoom hub.old hub.new }
         ensures unchanged { OnErr result (hub.new ≡ hub.old) }
         ensures same { IfErr result (λ loan. loan ≡ self) }
     {
@@ -160,6 +164,8 @@ impl<E: Words, QH: Words, P: Payload, PH: Words> RequestMutUninit<One<E>, QH, P,
             (flat_map E.words (value ∷ [])) hub.new }
         ensures comes { NothingComes hub.old hub.new }
         ensures keeps { KeepsOthers hub.old self.node self.number hub.new }
+        ensures asks { KeepsAsking hub.old hub.new }
+        ensures room { KeepsRoom hub.old hub.new }
         ensures node { result.node ≡ self.node }
         ensures number { result.number ≡ self.number }
     {
@@ -250,7 +256,9 @@ impl<Q: Payload, QH: Words, P: Payload, PH: Words> RequestMut<Q, QH, P, PH> {
         ensures sent { OnOk result (SendsRequest hub.old self.node self.number hub.new) }
         ensures unsent { OnErr result (BringsNothing hub.old self.node self.number hub.new) }
         ensures only { BringsItsWords hub.old self.node self.number hub.new }
+        ensures reaches { OnOk result (ReachesServers hub.old hub.new) }
         ensures keeps { KeepsOthers hub.old self.node self.number hub.new }
+        ensures asks { KeepsAsking hub.old hub.new }
     {
         let RequestMut {
             node,
@@ -258,6 +266,7 @@ impl<Q: Payload, QH: Words, P: Payload, PH: Words> RequestMut<Q, QH, P, PH> {
             hint,
             of: _,
         } = self;
+        hub.is_in_order();
         match send_request(hub, node, number, hint) {
             Requested::To(servers) => Ok(PendingResponse::new(node, number, servers)),
             Requested::ExceedsMaxActiveRequests => Err(RequestSendError::ExceedsMaxActiveRequests),

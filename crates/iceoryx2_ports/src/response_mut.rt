@@ -16,7 +16,9 @@ ghost use Rattle.iox_hub.specs.Sending.{HasNothing};
 ghost use Rattle.iox_hub_laws.specs.Sends.{BringsNothing, NothingComes, SendsResponse};
 ghost use Rattle.iceoryx2_ports.specs.Arrivals.{BringsItsWords};
 ghost use Rattle.iceoryx2_ports.specs.Headers.{response_header_of};
+ghost use Rattle.iceoryx2_ports.specs.Keeping.{KeepsAsking};
 ghost use Rattle.iceoryx2_ports.specs.Loans.{reply_of_response_send, reply_of_write};
+ghost use Rattle.iceoryx2_ports.specs.Reaching.{KeepsRoom};
 ghost use Rattle.iceoryx2_ports.specs.Releases.{IsReleased};
 
 mod payloads;
@@ -88,6 +90,8 @@ impl<Q: Payload, QH: Words, P: Payload, PH: Words> ResponseMutUninit<Q, QH, P, P
             ((message_in hub.old self.node self.number).elements ≢ length values.now) }
         ensures comes { NothingComes hub.old hub.new }
         ensures keeps { KeepsOthers hub.old self.node self.number hub.new }
+        ensures asks { KeepsAsking hub.old hub.new }
+        ensures room { KeepsRoom hub.old hub.new }
         ensures unchanged { OnErr result (hub.new ≡ hub.old) }
         ensures same { IfErr result (λ loan. loan ≡ self) }
     {
@@ -159,6 +163,8 @@ impl<Q: Payload, QH: Words, E: Words, PH: Words> ResponseMutUninit<Q, QH, One<E>
             (flat_map E.words (value ∷ [])) hub.new }
         ensures comes { NothingComes hub.old hub.new }
         ensures keeps { KeepsOthers hub.old self.node self.number hub.new }
+        ensures asks { KeepsAsking hub.old hub.new }
+        ensures room { KeepsRoom hub.old hub.new }
         ensures node { result.node ≡ self.node }
         ensures number { result.number ≡ self.number }
     {
@@ -243,6 +249,7 @@ impl<Q: Payload, QH: Words, P: Payload, PH: Words> ResponseMut<Q, QH, P, PH> {
         ensures unsent { OnErr result (BringsNothing hub.old self.node self.number hub.new) }
         ensures only { BringsItsWords hub.old self.node self.number hub.new }
         ensures keeps { KeepsOthers hub.old self.node self.number hub.new }
+        ensures asks { KeepsAsking hub.old hub.new }
     {
         let ResponseMut {
             node,

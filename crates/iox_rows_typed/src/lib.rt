@@ -10,6 +10,8 @@ mod exchange;
 #[cfg(test)]
 mod fillings;
 #[cfg(test)]
+mod long_requests;
+#[cfg(test)]
 mod refusals;
 #[cfg(test)]
 mod rounds;

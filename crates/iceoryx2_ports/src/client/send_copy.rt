@@ -1,5 +1,5 @@
 //! Copies of a client: loan, write and send in one.
-ghost use Rattle.std.specs.Prelude.{◌≡◌, ◌∷◌, IfErr, IfOk, [], flat_map};
+ghost use Rattle.std.specs.Prelude.{◌≡◌, ◌∷◌, IfErr, IfOk, OnOk, [], flat_map};
 ghost use Rattle.std.specs.Mem.{FitsInMemory};
 ghost use Rattle.iox_model.specs.declared.call.Call.TheVariants as calls;
 ghost use Rattle.iox_model.specs.declared.kind.Kind.TheVariants as kinds;
@@ -12,6 +12,7 @@ ghost use Rattle.iox_hub.specs.Lending.{payload_of};
 ghost use Rattle.iox_hub_laws.specs.Sends.{BringsOnly};
 ghost use Rattle.iceoryx2_ports.specs.Copies.{LeavesUnasked, reply_of_request_copy};
 ghost use Rattle.iceoryx2_ports.specs.Keeping.{KeepsAsking, KeepsValues};
+ghost use Rattle.iceoryx2_ports.specs.Reaching.{CopiesRequest, ReachesServers};
 
 use super::Client;
 use crate::copies::error_of_test;
@@ -39,11 +40,15 @@ impl<E: Words, QH: Words, P: Payload, PH: Words> Client<One<E>, QH, P, PH> {
         ensures awaited { IfOk result (λ pending. IsAwaited hub.new pending.node pending.number
             pending.servers 1 (flat_map E.words (value ∷ []))) }
         ensures node { IfOk result (λ pending. pending.node ≡ self.now.node) }
+        ensures sent { OnOk result (CopiesRequest hub.old self.now.number
+            (flat_map E.words (value ∷ [])) hub.new) }
+        ensures reaches { OnOk result (ReachesServers hub.old hub.new) }
         ensures keeps { KeepsValues hub.old hub.new }
         ensures asks { KeepsAsking hub.old hub.new }
         ensures only { BringsOnly hub.old (flat_map E.words (value ∷ [])) hub.new }
         ensures left { IfErr result (λ error. LeavesUnasked hub.old error hub.new) }
     {
+        hub.is_in_order();
         match copy_request(hub, self.node, self.number, &[value]) {
             Copied::To {
                 number,

@@ -9,9 +9,13 @@ ghost use Rattle.iox_model.specs.declared.reply.Reply.TheVariants.{Done};
 ghost use Rattle.iox_model.specs.WholeCalls.{IsWholeCall};
 ghost use Rattle.iox_tables.specs.HubStates.States.{Given};
 ghost use Rattle.iox_hub.specs.Hubs.{HasValue, state_of_hub};
+ghost use Rattle.iox_hub.specs.Keeping.{KeepsOthers};
 ghost use Rattle.iox_hub.specs.Lending.{IsWritten, payload_of};
 ghost use Rattle.iox_hub.specs.Reads.{message_in};
+ghost use Rattle.iox_hub_laws.specs.Sends.{NothingComes};
+ghost use Rattle.iceoryx2_ports.specs.Keeping.{KeepsAsking};
 ghost use Rattle.iceoryx2_ports.specs.Payloads.{reply_of_put};
+ghost use Rattle.iceoryx2_ports.specs.Reaching.{KeepsRoom};
 
 use super::ResponseMut;
 use iox_control_lending::Written;
@@ -31,6 +35,10 @@ impl<Q: Payload, QH: Words, P: Payload, PH: Words> ResponseMut<Q, QH, P, PH> {
             kinds.ResponseMut (length values.now) (flat_map P.Element.words values.now) hub.new) }
         ensures refused { OnFalse result
             ((message_in hub.old self.now.node self.now.number).elements ≢ length values.now) }
+        ensures comes { NothingComes hub.old hub.new }
+        ensures keeps { KeepsOthers hub.old self.now.node self.now.number hub.new }
+        ensures asks { KeepsAsking hub.old hub.new }
+        ensures room { KeepsRoom hub.old hub.new }
         ensures unchanged { OnFalse result (hub.new ≡ hub.old) }
     {
         match hub.write_response(self.node, self.number, self.hint, values) {
@@ -51,6 +59,10 @@ impl<Q: Payload, QH: Words, E: Words, PH: Words> ResponseMut<Q, QH, One<E>, PH> 
             Done (state_of_hub x hub.new) }
         ensures written { IsWritten hub.old self.now.node self.now.number kinds.ResponseMut 1
             (flat_map E.words (value ∷ [])) hub.new }
+        ensures comes { NothingComes hub.old hub.new }
+        ensures keeps { KeepsOthers hub.old self.now.node self.now.number hub.new }
+        ensures asks { KeepsAsking hub.old hub.new }
+        ensures room { KeepsRoom hub.old hub.new }
     {
         if !self.set_payload_from_slice(hub, &[value]) {
             unreachable!();

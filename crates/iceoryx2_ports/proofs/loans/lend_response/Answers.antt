@@ -3,6 +3,7 @@ use Rattle.iox_model.specs.declared.reply.Reply.TheVariants as replies
 use Rattle.iox_tables.specs.HubLoans.Loans.{loan_call}
 use Rattle.iox_control_lending.specs.Lends.{refusal_of, reply_of_loan}
 use Rattle.iox_control_lending.specs.declared.asked.LoanRefusal.TheVariants as refusals
+use Rattle.iceoryx2_ports.proofs.Reaching.{loan_keeps_room}
 use Rattle.iceoryx2_ports.proofs.Staying.{loan_asks_as_before, loan_keeps}
 use Rattle.iceoryx2_ports.proofs.Telling.{called_as}
 use Rattle.iceoryx2_ports.proofs.loans.lend_response.Goals as goal
@@ -49,4 +50,14 @@ returns-in-Handle-clause-asks g c =
 pub returns-in-OutOfMemory-clause-asks : goal.returns-in-OutOfMemory-clause-asks
 returns-in-OutOfMemory-clause-asks g c =
     loan_asks_as_before c.args.hub.now c.lend_response.new.hub c.args.node c.args.uninit c.args.number c.args.elements (reply_of_loan c.lend_response.result)
+    c.lend_response.ensures.whole
+
+pub returns-in-Handle-clause-room : goal.returns-in-Handle-clause-room
+returns-in-Handle-clause-room g c =
+    loan_keeps_room c.args.hub.now c.lend_response.new.hub c.args.node c.args.uninit c.args.number c.args.elements (reply_of_loan c.lend_response.result)
+    c.lend_response.ensures.whole
+
+pub returns-in-OutOfMemory-clause-room : goal.returns-in-OutOfMemory-clause-room
+returns-in-OutOfMemory-clause-room g c =
+    loan_keeps_room c.args.hub.now c.lend_response.new.hub c.args.node c.args.uninit c.args.number c.args.elements (reply_of_loan c.lend_response.result)
     c.lend_response.ensures.whole

@@ -1,8 +1,12 @@
-use Rattle.std.specs.Prelude.{◌∷◌, [], flat_map}
+use Rattle.std.specs.Prelude.{◌∷◌, [], flat_map, refl}
 use Rattle.iox_model.specs.declared.kind.Role.TheVariants as roles
 use Rattle.iox_control_lending.specs.Fills.{reply_of_write}
 use Rattle.iox_hub.specs.Lending.{payload_of}
 use Rattle.iceoryx2_ports.proofs.Coming.{write_brings_nothing}
+use Rattle.iox_model.specs.declared.call.Call.TheVariants.{Write}
+use Rattle.iox_model.specs.declared.kind.Kind.TheVariants.{RequestMutUninit}
+use Rattle.iceoryx2_ports.proofs.Aside.{loan_asks_as_always}
+use Rattle.iceoryx2_ports.proofs.Reaching.{keeps_room}
 use Rattle.iceoryx2_ports.proofs.request_mut.RequestMutUninit+One+E+QH+P+PH.write_payload.Goals as goal
 
 pub returns-clause-comes : goal.returns-clause-comes
@@ -10,3 +14,15 @@ returns-clause-comes g c =
     write_brings_nothing c.args.hub.now c.write_request.new.self c.args.self.node c.args.self.number
     (payload_of roles.Client 1 (flat_map g.E.Words.words (c.args.value ∷ []))) (reply_of_write c.write_request.result)
     c.write_request.ensures.whole
+
+pub returns-clause-asks : goal.returns-clause-asks
+returns-clause-asks g c =
+    loan_asks_as_always c.args.hub.now c.write_request.new.self c.args.self.node
+    (Write c.args.self.number (payload_of roles.Client 1 (flat_map g.E.Words.words (c.args.value ∷ [])))) (reply_of_write c.write_request.result)
+    refl c.write_request.ensures.whole RequestMutUninit refl c.requires.has
+
+pub returns-clause-room : goal.returns-clause-room
+returns-clause-room g c =
+    keeps_room c.args.hub.now c.write_request.new.self c.args.self.node
+    (Write c.args.self.number (payload_of roles.Client 1 (flat_map g.E.Words.words (c.args.value ∷ [])))) (reply_of_write c.write_request.result)
+    refl c.write_request.ensures.whole

@@ -1,6 +1,10 @@
-use Rattle.std.specs.Prelude.{ℕ, List}
+use Rattle.std.specs.Prelude.{ℕ, List, refl}
 use Rattle.std.proofs.Common.{subst}
 use Rattle.iox_hub_laws.specs.Sends.{BringsOnly}
+use Rattle.iox_model.specs.declared.call.Call.TheVariants.{Send}
+use Rattle.iox_model.specs.declared.kind.Kind.TheVariants.{ResponseMut}
+use Rattle.iox_control_responses.specs.Responses.{reply_of_send}
+use Rattle.iceoryx2_ports.proofs.Aside.{loan_asks_as_always}
 use Rattle.iceoryx2_ports.proofs.response_mut.ResponseMut.send.Goals as goal
 
 pub returns-in-Done-clause-only : goal.returns-in-Done-clause-only
@@ -10,3 +14,13 @@ returns-in-Done-clause-only g c =
 pub returns-in-Undelivered-clause-only : goal.returns-in-Undelivered-clause-only
 returns-in-Undelivered-clause-only g c =
     λ words e. subst (λ (w : List ℕ). BringsOnly c.args.hub.now w c.send_response.new.hub) e c.send_response.ensures.only
+
+pub returns-in-Done-clause-asks : goal.returns-in-Done-clause-asks
+returns-in-Done-clause-asks g c =
+    loan_asks_as_always c.args.hub.now c.send_response.new.hub c.args.self.node (Send c.args.self.number) (reply_of_send c.send_response.result) refl
+    c.send_response.ensures.whole ResponseMut refl c.requires.has
+
+pub returns-in-Undelivered-clause-asks : goal.returns-in-Undelivered-clause-asks
+returns-in-Undelivered-clause-asks g c =
+    loan_asks_as_always c.args.hub.now c.send_response.new.hub c.args.self.node (Send c.args.self.number) (reply_of_send c.send_response.result) refl
+    c.send_response.ensures.whole ResponseMut refl c.requires.has
