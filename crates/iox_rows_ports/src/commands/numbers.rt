@@ -3,9 +3,9 @@
 ghost use Rattle.std.specs.Prelude.{IfOk};
 ghost use Rattle.iox_port_commands.specs.Applying.{HaveDefaults};
 
-use super::{OPTIONS, PART, Told, id, without_list};
+use super::{OPTIONS, Told, id, without_list};
 use iox_control::Settings;
-use iox_hub::{Hub, MessageShape};
+use iox_hub::{Hub, MessageShape, Part};
 use iox_model::command::PortCommand;
 use iox_port_commands::{Elements, apply};
 use iox_store::Many;
@@ -39,18 +39,30 @@ pub const FIRST: Settings = Settings {
     server_allocation: AllocationStrategy::Static,
 };
 
+const WORD: Part = Part {
+    size: 8,
+    alignment: 8,
+};
+
 /// A hub with these settings, in which no port was made.
 pub fn hub_with(alloc: Global, settings: Settings) -> Result<Numbers, AllocError>
     ensures { IfOk result (λ h. HaveDefaults h) }
 {
-    let shape: MessageShape<u64, ()> = MessageShape {
+    let request: MessageShape<u64, ()> = MessageShape {
         default: Some(0),
         user_header: (),
-        header_part: PART,
-        user_part: PART,
-        element_part: PART,
+        header_part: WORD,
+        user_part: WORD,
+        element_part: WORD,
     };
-    Hub::new(alloc, settings, shape, shape)
+    let response: MessageShape<u64, ()> = MessageShape {
+        default: Some(0),
+        user_header: (),
+        header_part: WORD,
+        user_part: WORD,
+        element_part: WORD,
+    };
+    Hub::new(alloc, settings, request, response)
 }
 
 /// Applies the command. Of what `apply` promises, it passes on what the next one needs.
