@@ -1,5 +1,5 @@
 -- How far commands were answered, one after another.
-use Rattle.std.specs.Prelude.{◌≡◌, ℕ, ◌+◌, List, [], ◌∷◌, ◌++◌, length, map, take, Option, refl}
+use Rattle.std.specs.Prelude.{◌≡◌, ℕ, ◌+◌, ◌<◌, List, [], ◌∷◌, ◌++◌, length, map, take, Option, Result, Ok, Err, OnErr, refl}
 use Rattle.std.specs.declared.vec.Vec.{Vec}
 use Rattle.std.proofs.Common.{ap, subst, sym, ◌∙◌, arith}
 use Rattle.std.proofs.lemmas.List.{length-append, map-append}
@@ -22,6 +22,10 @@ append_nothing (x ∷ xs) = ap (λ ys. x ∷ ys) (append_nothing xs)
 append_twice : {A : Type 0} (xs ys zs : List A) → (xs ++ ys) ++ zs ≡ xs ++ (ys ++ zs)
 append_twice [] ys zs = refl
 append_twice (x ∷ xs) ys zs = ap (λ l. x ∷ l) (append_twice xs ys zs)
+
+pub on_err : {A E : Type 0} {P : Type 0} (r : Result A E) → P → OnErr r P
+on_err (Ok x) p = tt
+on_err (Err e) p = p
 
 pub nothing_left : {A : Type 0} (xs : List A) → length xs ≡ 0 → xs ≡ []
 nothing_left [] e = refl
@@ -70,3 +74,13 @@ module _ {Q P H C Z : Type 0} (q : Q → List ℕ) (p : P → List ℕ) (w : H �
   run_is_whole new s' so =
       ap length so.told ∙ length-append old so.more
       ∙ ap (λ n. length old + n) (sym so.many ∙ ap length (sym (append_nothing so.done) ∙ so.split))
+
+  pub run_is_short : (command : the_command.Command (Elements Q P) H (Option (the_refusal.Refusal C)))
+      (rest : List (the_command.Command (Elements Q P) H (Option (the_refusal.Refusal C)))) (new : List (the_reply.Reply (Vec ℕ Z) C)) (s' : State)
+      → HasRun (command ∷ rest) new s' → length new < length old + length commands
+  run_is_short command rest new s' so =
+      let told : length new ≡ length old + length so.more = ap length so.told ∙ length-append old so.more in
+      let many : length so.done ≡ length so.more = so.many in
+      let split : length so.done + length (command ∷ rest) ≡ length commands =
+      sym (length-append so.done (command ∷ rest)) ∙ ap length so.split in
+      omega arith

@@ -1,5 +1,5 @@
 //! Commands one after another, and what they are answered.
-ghost use Rattle.std.specs.Prelude.{◌≡◌, ◌+◌, IfOk, OnErr, OnOk, true, vec_len};
+ghost use Rattle.std.specs.Prelude.{◌≡◌, ◌+◌, ◌<◌, IfOk, OnErr, OnOk, true, vec_len};
 ghost use Rattle.iox_model.specs.declared.reply.Reply.TheVariants as replies;
 ghost use Rattle.iox_nodes.specs.Given.{is_listing, reply_to};
 ghost use Rattle.iox_nodes.specs.Served.{IsAnswered, IsRunOf};
@@ -70,6 +70,7 @@ impl<Q: Payload, QH: Words, P: Payload, PH: Words> Service<Q, QH, P, PH> {
         ensures ran { IsRunOf Q.Element.words P.Element.words H.words (service_of self.old)
             commands.items replies.old.items replies.new.items (service_of self.new) }
         ensures whole { OnOk result (vec_len replies.new ≡ vec_len replies.old + vec_len commands) }
+        ensures short { OnErr result (vec_len replies.new < vec_len replies.old + vec_len commands) }
     {
         for command in commands {
             replies.reserve(1)?;

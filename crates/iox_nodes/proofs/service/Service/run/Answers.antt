@@ -1,7 +1,8 @@
-use Rattle.std.proofs.Common.{◌≡◌, ◌∷◌, [], length, ap, arith, rules, subst, sym, ◌∙◌}
+use Rattle.std.proofs.Common.{◌≡◌, ◌<◌, ◌+◌, ◌∷◌, [], length, ap, arith, rules, subst, sym, ◌∙◌}
+use Rattle.std.specs.Vec.{vec_len}
 use Rattle.std.specs.Vec.Iter.{into_iter_items}
 use Rattle.iox_nodes.specs.Shown.{service_of}
-use Rattle.iox_nodes.proofs.Running.{HasRun, nothing_left, run_ends, run_goes_on, run_is_whole, run_starts}
+use Rattle.iox_nodes.proofs.Running.{HasRun, nothing_left, on_err, run_ends, run_goes_on, run_is_short, run_is_whole, run_starts}
 use Rattle.iox_nodes.proofs.service.Service.run.Goals as goal
 
 pub loop-command-init : goal.loop-command-init
@@ -65,3 +66,33 @@ returns-clause-whole g c =
     c.args.replies.now.items cs at.replies.items (service_of at.self))
     empty at.invariant.0) in
     search rules
+
+pub returns-in_err-reserve-clause-short : goal.returns-in_err-reserve-clause-short
+returns-in_err-reserve-clause-short g c =
+    let at = c.loop-command in
+    let steps : into_iter_items at.command-iterator ≡ c.in-Some.command ∷ into_iter_items c.next.new.self = c.in-Some.ensures.steps.0 in
+    let few =
+    run_is_short g.Q.Element.Words.words g.P.Element.Words.words g.H.Words.words (service_of c.args.self.now) c.args.commands.items c.args.replies.now.items
+    c.in-Some.command (into_iter_items c.next.new.self) at.replies.items (service_of at.self)
+    (subst (λ cs. HasRun g.Q.Element.Words.words g.P.Element.Words.words g.H.Words.words (service_of c.args.self.now) c.args.commands.items c.args.replies.now.items cs at.replies.items (service_of at.self)) steps at.invariant.0) in
+    let kept : vec_len c.reserve.new.self ≡ vec_len at.replies = c.reserve.ensures.len in
+    let there : vec_len at.replies ≡ length at.replies.items = at.replies.ok.0 in
+    let before : vec_len c.args.replies.now ≡ length c.args.replies.now.items = c.args.replies.now.ok.0 in
+    let asked : vec_len c.args.commands ≡ length c.args.commands.items = c.args.commands.ok.0 in
+    let less : vec_len c.reserve.new.self < vec_len c.args.replies.now + vec_len c.args.commands = omega arith in
+    on_err _ less
+
+pub returns-in_err-reply-clause-short : goal.returns-in_err-reply-clause-short
+returns-in_err-reply-clause-short g c =
+    let at = c.loop-command in
+    let steps : into_iter_items at.command-iterator ≡ c.in-Some.command ∷ into_iter_items c.next.new.self = c.in-Some.ensures.steps.0 in
+    let few =
+    run_is_short g.Q.Element.Words.words g.P.Element.Words.words g.H.Words.words (service_of c.args.self.now) c.args.commands.items c.args.replies.now.items
+    c.in-Some.command (into_iter_items c.next.new.self) at.replies.items (service_of at.self)
+    (subst (λ cs. HasRun g.Q.Element.Words.words g.P.Element.Words.words g.H.Words.words (service_of c.args.self.now) c.args.commands.items c.args.replies.now.items cs at.replies.items (service_of at.self)) steps at.invariant.0) in
+    let kept : vec_len c.reserve.new.self ≡ vec_len at.replies = c.reserve.ensures.len in
+    let there : vec_len at.replies ≡ length at.replies.items = at.replies.ok.0 in
+    let before : vec_len c.args.replies.now ≡ length c.args.replies.now.items = c.args.replies.now.ok.0 in
+    let asked : vec_len c.args.commands ≡ length c.args.commands.items = c.args.commands.ok.0 in
+    let less : vec_len c.reserve.new.self < vec_len c.args.replies.now + vec_len c.args.commands = omega arith in
+    on_err _ less
