@@ -3,7 +3,10 @@ ghost use Rattle.std.specs.Prelude.{◌≡◌, ◌<◌, OnOk, length, map as eac
 ghost use Rattle.iox_model.specs.declared.kind.Role.TheVariants.{Server};
 ghost use Rattle.iox_model.specs.Messages.{response_way};
 ghost use Rattle.iox_model.specs.Peers.{others};
-ghost use Rattle.iox_word_places.specs.Plans.{IsLaneAt, IsPlan, number_at};
+ghost use Rattle.iox_word_places.specs.declared.way_index.WayIndex.TheVariants.{Responses};
+ghost use Rattle.iox_word_places.specs.Plans.{IsLaneAt, IsPlan, IsWayAt, layout_of, number_at};
+ghost use Rattle.iox_word_places.specs.Plans.{way_at};
+ghost use Rattle.iox_wire_words.specs.Programs.{state_place};
 ghost use Rattle.iox_wire_locals.specs.Known.{known};
 ghost use Rattle.iox_wire_locals.specs.Tables.{Setting};
 ghost use Rattle.iox_wire_layouts.specs.PlansOf.{IsSettingOf};
@@ -24,7 +27,24 @@ fn is_left(seat: &StoredSeat, port: PlanPort) -> bool
     matches!(port.role, Role::Server) && !seat.has_forgotten(port.node)
 }
 
-/// The request state with the port at an index, if that is a server that the node did not forget.
+/// Where the request state of a client's lane with the server at an index stands.
+fn state_with(map: &WordMap, client: usize, lane: u64, index: usize) -> Stop
+    requires { IsWayAt map.now (Responses client index lane) }
+    ensures way { result.way ≡ way_at map.now (Responses client index lane) }
+    ensures place { result.place
+        ≡ state_place (layout_of map.now) (way_at map.now (Responses client index lane)) }
+{
+    let ports = &map.plan().ports;
+    let way = Way {
+        sender: ports[index].number,
+        receiver: ports[client].number,
+        lane,
+    };
+    let place = map.state(client, index, lane as usize);
+    Stop { way, place }
+}
+
+/// It, if that is a server that the node did not forget.
 fn stop_with(
     map: &WordMap,
     seat: &StoredSeat,
@@ -36,18 +56,10 @@ fn stop_with(
     requires within { index < length map.now.ports.items }
     ensures { result ≡ stop_there map.now seat.now.seat.forgot client lane index }
 {
-    let ports = &map.plan().ports;
-    let port = ports[index];
-    if !is_left(seat, port) {
-        return None;
+    if is_left(seat, map.plan().ports[index]) {
+        return Some(state_with(map, client, lane, index));
     }
-    let way = Way {
-        sender: port.number,
-        receiver: ports[client].number,
-        lane,
-    };
-    let place = map.state(client, index, lane as usize);
-    Some(Stop { way, place })
+    None
 }
 
 /// Lists where the request states of a lane of the client at an index stand, one with each server
