@@ -1,8 +1,8 @@
 -- Where a port stands that has a number, and what it is.
-use Rattle.std.proofs.Common.{◌≡◌, ℕ, ◌<◌, ◌≤◌, ◌==◌, Bool, true, false, List, length, get_or, Some, None, refl, ap, sym, subst, ◌∙◌, eqb-true, true≢false}
-use Rattle.std.specs.Prelude.{Option, IsSomeAnd, find, position, slice_get, nat_lt, cond}
+use Rattle.std.proofs.Common.{◌≡◌, ℕ, ◌<◌, ◌==◌, Bool, true, false, List, length, get_or, Some, None, refl, ap, sym, subst, ◌∙◌, eqb-true, true≢false}
+use Rattle.std.specs.Prelude.{Option, IsSomeAnd, find, position, nat_lt, cond}
 use Rattle.std.specs.List.{position_or_len}
-use Rattle.std.specs.Option.{option_map_or, is_some}
+use Rattle.std.specs.Option.{option_map_or}
 use Rattle.std.proofs.lemmas.Bool.{ltb-false}
 use Rattle.std.proofs.lemmas.List.Folds.{find_at}
 use Rattle.std.proofs.lemmas.List.Quantifiers.{position-Some}

@@ -1,13 +1,12 @@
 -- Where the request states of a lane stand that were listed so far.
-use Rattle.std.proofs.Common.{◌≡◌, ℕ, zero, suc, ◌+◌, ◌<◌, ◌≤◌, Bool, true, false, not, ◌&&◌, if◌then◌else◌, List, [], ◌∷◌, ◌++◌, length, map, take, get_or, Some, None, refl, ap, ap₂, sym, subst, ◌∙◌, arith, true≢false}
-use Rattle.std.specs.Prelude.{Option, IsSomeAnd, filter, slice_get}
+use Rattle.std.proofs.Common.{◌≡◌, ℕ, zero, suc, ◌+◌, ◌<◌, ◌≤◌, Bool, true, false, not, ◌&&◌, if◌then◌else◌, List, [], ◌∷◌, ◌++◌, length, map, take, get_or, Some, None, refl, ap, ap₂, sym, ◌∙◌, arith, true≢false}
+use Rattle.std.specs.Prelude.{Option, filter, slice_get}
 use Rattle.std.specs.Option.{option_map_or}
 use Rattle.std.proofs.Math.Seq.{take-suc}
 use Rattle.std.proofs.lemmas.List.{map-append}
 use Rattle.std.proofs.lemmas.List.Elements.{filter-append}
 use Rattle.std.proofs.lemmas.Option.{slice_get-get_or}
-use Rattle.iox_model.specs.declared.kind.Role.{Role}
-use Rattle.iox_model.specs.declared.kind.Role.TheVariants.{Client, Server}
+use Rattle.iox_model.specs.declared.kind.Role.TheVariants.{Server}
 use Rattle.iox_model.specs.declared.way.Way.{Way}
 use Rattle.iox_model.specs.Maps.{has_number}
 use Rattle.iox_model.specs.Messages.{response_way}
@@ -16,14 +15,14 @@ use Rattle.iox_model.specs.Settings.{same_role}
 use Rattle.iox_model.specs.States.{Port}
 use Rattle.iox_word_places.specs.declared.plan.PlanPort.{PlanPort}
 use Rattle.iox_word_places.specs.declared.plan.WirePlan.{WirePlan}
-use Rattle.iox_word_places.specs.Plans.{IsPlan, IsPortAt, number_at, layout_of}
+use Rattle.iox_word_places.specs.Plans.{IsPlan, number_at, layout_of}
 use Rattle.iox_word_places.proofs.PlanLemmas.{number_is}
 use Rattle.iox_word_places.proofs.PairLemmas.{one_of}
 use Rattle.iox_wire_words.specs.Programs.{WireLayout, state_place}
 use Rattle.iox_wire_locals.specs.declared.seat.Seat.{Seat}
 use Rattle.iox_wire_locals.specs.Known.{known}
 use Rattle.iox_wire_locals.specs.Tables.{Setting}
-use Rattle.iox_wire_layouts.specs.PlansOf.{AreAsPlanned, IsAsPlanned, IsSettingOf}
+use Rattle.iox_wire_layouts.specs.PlansOf.{AreAsPlanned, IsSettingOf}
 use Rattle.iox_wire_seats.specs.declared.stops.Stop.{Stop}
 use Rattle.iox_wire_seats.specs.Aims.{AreStates}
 use Rattle.iox_wire_seats.specs.Seats.{ways_of}

@@ -1,4 +1,4 @@
 -- which handles a node can release
-pub mod Releasable
+pub mod Released
 -- the request states of a client's lane
 pub mod StatesOf

@@ -13,7 +13,7 @@ ghost use Rattle.iox_wire_locals.specs.Tables.{Setting, state_in, way_in};
 ghost use Rattle.iox_wire_layouts.specs.PlansOf.{IsSettingOf};
 ghost use Rattle.iox_wire_seats.specs.Aims.{IsAimed};
 ghost use Rattle.iox_wire_seats.specs.Desks.{MayGiveUp};
-ghost use Rattle.iox_wire_releases.specs.Releasable.{IsAtHome, NamesAtHome};
+ghost use Rattle.iox_wire_releases.specs.Released.{MayRelease, MayReleaseNumber};
 
 use crate::places::{client_place, place_of, server_place};
 use crate::states::list_states;
@@ -32,7 +32,7 @@ pub fn begin_release(
     number: u64,
     stops: &mut Vec<Stop>,
 ) -> Result<(), AllocError>
-    requires { NamesAtHome map.now number seat.old.seat }
+    requires { MayReleaseNumber map.now number seat.old.seat }
     ensures begun { (p : Setting) → IsSettingOf map.now p → OnOk result (seat.new.seat
         ≡ begin p seat.old.seat (Port (Release number))) }
     ensures aimed { (p : Setting) → IsSettingOf map.now p → OnOk result (IsAimed p seat.new) }
@@ -60,7 +60,7 @@ fn release(
     entry: Entry,
     stops: &mut Vec<Stop>,
 ) -> Result<(), AllocError>
-    requires { IsAtHome map.now entry seat.old.seat.desks }
+    requires { MayRelease map.now entry seat.old.seat.desks }
     ensures begun { (p : Setting) → IsSettingOf map.now p → OnOk result (seat.new.seat
         ≡ releasing p seat.old.seat entry) }
     ensures aimed { (p : Setting) → IsSettingOf map.now p → OnOk result (IsAimed p seat.new) }

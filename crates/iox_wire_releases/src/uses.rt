@@ -18,7 +18,7 @@ ghost use Rattle.iox_wire_locals.specs.Steps.{next};
 ghost use Rattle.iox_wire_locals.specs.Tables.{Setting, entry_at};
 ghost use Rattle.iox_wire_layouts.specs.PlansOf.{IsSettingOf};
 ghost use Rattle.iox_wire_seats.specs.Aims.{IsAimed};
-ghost use Rattle.iox_wire_releases.specs.Releasable.{NamesAtHome};
+ghost use Rattle.iox_wire_releases.specs.Released.{MayReleaseNumber};
 
 use crate::releases::begin_release;
 use iox_model::way::Way;
@@ -36,7 +36,7 @@ pub fn released_by_one_step(
     stops: &mut Vec<Stop>,
     seen: u64,
 ) -> Result<Option<SeatReply>, AllocError>
-    requires home { NamesAtHome map.now number seat.old.seat }
+    requires home { MayReleaseNumber map.now number seat.old.seat }
     requires accesses { seat.old.seat.accesses + 1 < 2 ^ 64 }
     ensures { (p : Setting) → IsSettingOf map.now p → OnOk result (seat.new.seat
         ≡ next p (begin p seat.old.seat (Port (Release number))) seen) }

@@ -1,4 +1,4 @@
-use Rattle.std.proofs.Common.{sym, ◌∙◌}
+use Rattle.std.proofs.Common.{sym}
 use Rattle.iox_model.specs.declared.kind.Role.TheVariants.{Client}
 use Rattle.iox_wire_releases.proofs.PlaceLemmas.{is_found, lane_there, number_there}
 use Rattle.iox_wire_releases.proofs.places.client_place.Goals as goal

@@ -1,4 +1,4 @@
-use Rattle.std.proofs.Common.{sym, ◌∙◌}
+use Rattle.std.proofs.Common.{sym}
 use Rattle.iox_model.specs.declared.kind.Role.TheVariants.{Server}
 use Rattle.iox_wire_releases.proofs.PlaceLemmas.{is_found, number_there, port_there}
 use Rattle.iox_wire_releases.proofs.places.server_place.Goals as goal

@@ -1,5 +1,4 @@
-use Rattle.std.proofs.Common.{◌≡◌, List, length, ap, subst, sym, ◌∙◌, arith}
-use Rattle.iox_wire_seats.specs.declared.stops.Stop.{Stop}
+use Rattle.std.proofs.Common.{◌≡◌, length, ap, subst, sym, ◌∙◌, arith}
 use Rattle.iox_wire_seats.specs.Aims.{AreStates}
 use Rattle.iox_wire_seats.specs.Seats.{ways_of}
 use Rattle.iox_wire_releases.proofs.StateLemmas.{all_places, all_ways}

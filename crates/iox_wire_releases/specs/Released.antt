@@ -15,7 +15,7 @@ use Rattle.iox_wire_seats.specs.Desks.{MayGiveUp}
 -- The ports of a handle are the wire's. A response came on one of its ways, the request state of an
 -- active request stands there, and a pending response has a lane of its client. What is a port's
 -- own is in use at its desk.
-pub record IsAtHome (plan : WirePlan) (e : Entry) (desks : List Desk) : Type 0 where
+pub record MayRelease (plan : WirePlan) (e : Entry) (desks : List Desk) : Type 0 where
   pub response : same_kind e.kind Response ≡ true → IsResponseWay (sizes_of plan) (way_in e)
   pub request : same_kind e.kind ActiveRequest ≡ true → IsResponseWay (sizes_of plan) (state_in e)
   pub pending : same_kind e.kind PendingResponse ≡ true
@@ -24,5 +24,5 @@ pub record IsAtHome (plan : WirePlan) (e : Entry) (desks : List Desk) : Type 0 w
   pub own : is_received e.kind ≡ false → MayGiveUp e desks
 
 -- so it is of the handle of that number, if there is one
-abbrev pub NamesAtHome : WirePlan → ℕ → Seat → Type 0
-NamesAtHome plan number x = IfSome (entry_at number x.table) (λ e. IsAtHome plan e x.desks)
+abbrev pub MayReleaseNumber : WirePlan → ℕ → Seat → Type 0
+MayReleaseNumber plan number x = IfSome (entry_at number x.table) (λ e. MayRelease plan e x.desks)
