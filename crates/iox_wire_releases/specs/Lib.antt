@@ -2,3 +2,5 @@
 pub mod Released
 -- the request states of a client's lane
 pub mod StatesOf
+-- the law that handles may be released
+pub mod ReleaseLaws
