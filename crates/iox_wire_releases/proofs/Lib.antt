@@ -1,0 +1,4 @@
+pub mod PlaceLemmas
+pub mod StateLemmas
+pub mod BeginLemmas
+pub mod ReleaseLemmas
