@@ -20,6 +20,8 @@ use Rattle.iox_word_places.specs.Plans.{IsPlan, IsSlotAt, details_of, number_at,
 use Rattle.iox_wire_layouts.specs.PlansOf.{IsSettingOf, IsShapeOf}
 use Rattle.iox_wire_layouts.proofs.Planned.{each_planned}
 use Rattle.iox_wire_locals.specs.Tables.{Setting, port_shape}
+use Rattle.iox_wire_seats.specs.Aims.{AreInMemory}
+use Rattle.iox_wire_seats.specs.declared.message_places.MessagePlaces.{MessagePlaces}
 use Rattle.iox_wire_handle_calls.specs.PlacedHandles.{words_behind_header}
 use Rattle.iox_word_places.proofs.PairLemmas.{index_there, one_of}
 use Rattle.iox_word_places.proofs.PlanLemmas.{port_is}
@@ -83,3 +85,15 @@ read_there plan p port slot elements d is setting inside =
     ap₂ (λ (a b : ℕ). a + elements * b) (eighth (details_of plan role).user_header.size (length (shape_of p.limits role).user) shape.user)
     (eighth (details_of plan role).payload.size (shape_of p.limits role).width shape.element)
     ∙ ap (λ (r : Role). length (shape_of p.limits r).user + elements * (shape_of p.limits r).width) (sym (planned_role plan p port slot d is setting inside))
+
+-- ---- they are in memory
+
+pub in_memory : (total n m : ℕ) → n ≡ m → total + m < 2 ^ 64 → n < 2 ^ 64
+in_memory total n m same low = omega (arith, same, low)
+
+pub user_first : (plan : WirePlan) (n elements : ℕ) (m : MessagePlaces) (count : ℕ)
+    → total_words (sizes_of plan) + words_behind_header plan n elements < 2 ^ 64
+    → m.user_count ≡ (details_of plan (role_of plan n)).user_header.size / 8 → count ≡ words_behind_header plan n elements
+    → m.user ≤ total_words (sizes_of plan) → m.payload ≤ total_words (sizes_of plan) → AreInMemory m count
+user_first plan n elements m count low first all user payload =
+    (omega (arith, low, first, user), omega (arith, low, all, payload))
