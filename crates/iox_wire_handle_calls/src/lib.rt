@@ -8,6 +8,7 @@ mod naming;
 mod places;
 mod port_index;
 mod reading;
+mod uses;
 mod writing;
 
 pub use asked::Asked;
