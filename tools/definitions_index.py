@@ -14,7 +14,8 @@ TOP = pathlib.Path(__file__).resolve().parent.parent
 PAGE = TOP / "docs" / "DEFINITIONS-INDEX.md"
 CRATES = """iox_model iox_openers iox_laws
 iox_word_map iox_word_places iox_wire_words iox_wire_moments iox_wire_locals iox_wire_laws iox_wire_pools iox_wire_seats
-iox_wire_receives iox_wire_loans iox_wire_sends iox_wire_request_sends iox_wire_copies iox_wire_layouts iox_wire_messages iox_wire_stands
+iox_wire_receives iox_wire_loans iox_wire_sends iox_wire_request_sends iox_wire_copies iox_wire_layouts iox_wire_messages
+iox_wire_handle_calls iox_wire_stands
 iox_lanes iox_tables iox_store iox_handles iox_slots iox_hub_ports iox_hub_phases
 iox_hub_delivering iox_control iox_control_making iox_control_retrieving iox_control_questions iox_control_lending
 iox_control_ending iox_control_releasing iox_control_responses iox_control_requests iox_control_copies iox_control_request_copies iox_hub

@@ -1,12 +1,12 @@
 -- What stands in the slots of a plan's ports is within the wire.
 use Rattle.std.specs.Prelude.{zero, suc}
 use Rattle.std.specs.Option.{option_map_or}
-use Rattle.std.proofs.Common.{◌≡◌, ℕ, ◌+◌, ◌*◌, ◌/◌, ◌<◌, ◌≤◌, ◌^◌, List, [], ◌∷◌, length, get_or, refl, ap, ap₂, sym, subst, ◌∙◌, arith}
+use Rattle.std.proofs.Common.{◌≡◌, ℕ, ◌+◌, ◌*◌, ◌/◌, ◌<◌, ◌≤◌, ◌^◌, List, [], ◌∷◌, length, get_or, refl, ap, ap₂, sym, ◌∙◌, arith}
 use Rattle.std.proofs.Math.Nat.{add-mul}
 use Rattle.std.proofs.lemmas.List.{get_or-map}
 use Rattle.iox_model.specs.declared.kind.Role.{Role}
 use Rattle.iox_model.specs.declared.kind.Role.TheVariants.{Client, Server}
-use Rattle.iox_model.specs.Settings.{Shape, shape_of}
+use Rattle.iox_model.specs.Settings.{shape_of}
 use Rattle.iox_types.specs.declared.message_type_details.MessageTypeDetails.{MessageTypeDetails}
 use Rattle.iox_word_map.specs.declared.message_part.MessagePart.{MessagePart}
 use Rattle.iox_word_map.specs.MessageWords.{IsInWords, part_place, part_word, part_words}

@@ -1,7 +1,7 @@
 -- What a number names that is no port's, and what a call of it is then answered.
 use Rattle.std.specs.Prelude.{find, not, option_map}
 use Rattle.std.specs.Option.{option_map_or}
-use Rattle.std.proofs.Common.{◌≡◌, ℕ, Bool, true, false, if◌then◌else◌, ◌==◌, List, [], ◌∷◌, map, Option, Some, None, refl, ap, ap₂, sym, subst, ◌∙◌, true≢false, eq-eqb}
+use Rattle.std.proofs.Common.{◌≡◌, ℕ, Bool, true, false, if◌then◌else◌, ◌==◌, List, [], ◌∷◌, map, Option, Some, None, refl, ap, ap₂, sym, ◌∙◌, true≢false, eq-eqb}
 use Rattle.iox_model.specs.declared.call.WireCall.TheVariants as wire_calls
 use Rattle.iox_model.specs.declared.reply.Refusal.TheVariants as refusals
 use Rattle.iox_model.specs.Commands.{Call, Payload, Refusal, number_of}
@@ -9,8 +9,7 @@ use Rattle.iox_model.specs.Handles.{port_or_handle}
 use Rattle.iox_model.specs.Maps.{or_else, refused_if}
 use Rattle.iox_model.specs.Names.{misnamed, misnamed_by, suits}
 use Rattle.iox_model.specs.Peers.{port_at}
-use Rattle.iox_model.specs.States.{Handle, Port}
-use Rattle.iox_word_map.specs.WordMaps.{Sizes}
+use Rattle.iox_model.specs.States.{Port}
 use Rattle.iox_wire_words.specs.Programs.{WireLayout}
 use Rattle.iox_word_places.specs.declared.plan.PlanPort.{PlanPort}
 use Rattle.iox_word_places.specs.declared.plan.WirePlan.{WirePlan}

@@ -3,15 +3,21 @@
 #![tactic(auto)]
 
 mod asked;
+mod asking;
 mod error;
+mod hinting;
 mod naming;
 mod places;
 mod port_index;
 mod reading;
+mod seeking;
 mod uses;
 mod writing;
 
 pub use asked::Asked;
+pub use asking::{begin_has_hint, begin_is_connected};
 pub use error::BeginError;
+pub use hinting::begin_set_hint;
 pub use reading::begin_read;
+pub use seeking::begin_has_response;
 pub use writing::begin_write;

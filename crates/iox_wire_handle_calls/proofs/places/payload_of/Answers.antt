@@ -1,4 +1,4 @@
-use Rattle.std.proofs.Common.{◌<◌, ◌≤◌, ap, sym, subst, length, ℕ}
+use Rattle.std.proofs.Common.{◌<◌, ◌≤◌, sym, subst, length, ℕ}
 use Rattle.iox_word_map.specs.WordMaps.{total_words}
 use Rattle.iox_word_map.specs.declared.message_part.MessagePart.TheVariants.{Payload}
 use Rattle.iox_word_places.specs.Plans.{sizes_of}

@@ -1,6 +1,6 @@
 use Rattle.std.specs.Prelude.{◌==◌}
 use Rattle.std.specs.List.{position}
-use Rattle.std.proofs.Common.{◌≡◌, ◌<◌, Option, Some, None, ℕ, List, ap, sym, ◌∙◌}
+use Rattle.std.proofs.Common.{◌<◌, List, ap, sym, ◌∙◌}
 use Rattle.iox_word_places.specs.declared.plan.PlanPort.{PlanPort}
 use Rattle.iox_wire_handle_calls.proofs.PlaceLemmas.{at_place, has_place, number_there}
 use Rattle.iox_wire_handle_calls.proofs.port_index.port_with_slot.Goals as goal

@@ -1,10 +1,10 @@
 use Rattle.std.specs.Prelude.{IfSome}
-use Rattle.std.proofs.Common.{rules, ◌≡◌, ◌+◌, ◌*◌, ◌/◌, ◌<◌, ◌≤◌, ◌^◌, ℕ, Option, None, [], length, refl, sym, subst, ap, ap₂, ◌∙◌, arith}
+use Rattle.std.proofs.Common.{rules, ◌≡◌, ◌+◌, ◌<◌, ◌^◌, ℕ, Option, None, [], refl, sym, subst, ap, ◌∙◌}
 use Rattle.iox_model.specs.declared.kind.Role.TheVariants.{Client}
 use Rattle.iox_model.specs.Commands.{Payload}
 use Rattle.iox_word_map.specs.WordMaps.{total_words}
 use Rattle.iox_word_places.specs.declared.plan.WirePlan.{WirePlan}
-use Rattle.iox_word_places.specs.Plans.{details_of, number_at, role_of, sizes_of}
+use Rattle.iox_word_places.specs.Plans.{number_at, sizes_of}
 use Rattle.iox_wire_locals.specs.declared.table.Entry.{Entry}
 use Rattle.iox_wire_seats.specs.Aims.{StandAt}
 use Rattle.iox_model.specs.declared.call.Call.TheVariants.{Read}

@@ -1,4 +1,4 @@
-use Rattle.std.proofs.Common.{◌≡◌, ◌+◌, ◌<◌, ◌≤◌, ◌^◌, length, refl, sym, ap, ◌∙◌, arith}
+use Rattle.std.proofs.Common.{◌+◌, ◌<◌, ◌≤◌, ◌^◌, length, refl, sym, ap, ◌∙◌, arith}
 use Rattle.iox_model.specs.Commands.{Payload}
 use Rattle.iox_word_map.specs.WordMaps.{total_words}
 use Rattle.iox_word_places.specs.declared.plan.WirePlan.{WirePlan}
