@@ -81,6 +81,9 @@ module _ (plan : WirePlan) (p : Setting) (x : Seat) (a : Asked) (n : ℕ) (y : P
   refusal_is r rests is =
       ap (λ (b : Bool). or_else (refused_if b refusals.Busy) (misnamed (known p x) x.node (call_of a n y))) rests ∙ is
 
+  pub busy : is_busy x.local ≡ true → refusal_at p x (wire_calls.Port (call_of a n y)) ≡ Some refusals.Busy
+  busy is = ap (λ (b : Bool). or_else (refused_if b refusals.Busy) (misnamed (known p x) x.node (call_of a n y))) is
+
   pub unknown : is_busy x.local ≡ false → entry_at n x.table ≡ None
       → refusal_at p x (wire_calls.Port (call_of a n y)) ≡ Some refusals.UnknownNumber
   unknown rests there = refusal_is (Some refusals.UnknownNumber) rests (misnamed_is None there)

@@ -1,5 +1,5 @@
 use Rattle.std.specs.Prelude.{IfSome}
-use Rattle.std.proofs.Common.{rules, ◌≡◌, List, Option, None, [], true, false, sym, subst, ap, ◌∙◌}
+use Rattle.std.proofs.Common.{rules, ◌≡◌, List, Option, None, [], true, sym, subst, ap, ◌∙◌}
 use Rattle.iox_model.specs.declared.call.Call.TheVariants.{HasHint}
 use Rattle.iox_model.specs.declared.call.WireCall.TheVariants.{Port}
 use Rattle.iox_model.specs.declared.kind.Role.TheVariants.{Client}

@@ -1,5 +1,5 @@
 use Rattle.std.specs.Prelude.{IfSome}
-use Rattle.std.proofs.Common.{rules, ◌≡◌, List, Option, None, [], true, false, sym, subst, ap, ◌∙◌}
+use Rattle.std.proofs.Common.{rules, ◌≡◌, List, Option, None, [], false, sym, subst, ap, ◌∙◌}
 use Rattle.iox_model.specs.declared.call.Call.TheVariants.{IsConnected}
 use Rattle.iox_model.specs.declared.call.WireCall.TheVariants.{Port}
 use Rattle.iox_model.specs.declared.kind.Role.TheVariants.{Client}

@@ -1,6 +1,11 @@
 use Rattle.std.proofs.Common.{sym, ◌∙◌}
-use Rattle.iox_wire_handle_calls.proofs.NameLemmas.{begins_so, of_kind, unknown}
+use Rattle.iox_wire_handle_calls.proofs.NameLemmas.{begins_so, busy, of_kind, unknown}
 use Rattle.iox_wire_handle_calls.proofs.naming.named.Goals as goal
+
+pub returns-then-is_busy-clause-refused : goal.returns-then-is_busy-clause-refused
+returns-then-is_busy-clause-refused c p y setting role =
+    busy c.args.map.now p c.args.seat.now.seat c.args.asked c.args.number y setting c.requires.no_port
+    (sym c.is_busy.ensures ∙ c.if-is_busy.true)
 
 pub returns-in_default-clause-refused : goal.returns-in_default-clause-refused
 returns-in_default-clause-refused c p y setting role =

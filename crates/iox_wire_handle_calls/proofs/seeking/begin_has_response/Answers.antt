@@ -1,5 +1,5 @@
 use Rattle.std.specs.Prelude.{IfSome}
-use Rattle.std.proofs.Common.{rules, ◌≡◌, ℕ, List, Option, None, [], sym, subst, ap, ap₂, ◌∙◌}
+use Rattle.std.proofs.Common.{rules, ◌≡◌, ℕ, List, Option, None, [], sym, subst, ap, ◌∙◌}
 use Rattle.iox_model.specs.declared.call.Call.TheVariants.{HasResponse}
 use Rattle.iox_model.specs.declared.call.WireCall.TheVariants.{Port}
 use Rattle.iox_model.specs.declared.kind.Role.TheVariants.{Client, Server}
