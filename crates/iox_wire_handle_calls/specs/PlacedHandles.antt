@@ -3,7 +3,8 @@ use Rattle.std.specs.Prelude.{◌≡◌, ◌+◌, ◌*◌, ◌/◌, ◌<◌, ◌
 use Rattle.iox_model.specs.declared.kind.Role.TheVariants.{Server}
 use Rattle.iox_word_map.specs.WordMaps.{total_words}
 use Rattle.iox_word_places.specs.declared.plan.WirePlan.{WirePlan}
-use Rattle.iox_word_places.specs.Plans.{message_kind, planned_buffer, details_of, port_of, role_of, sizes_of}
+use Rattle.iox_word_places.specs.Plans.{details_of, message_kind, planned_buffer, port_of}
+use Rattle.iox_word_places.specs.Plans.{role_of, sizes_of}
 use Rattle.iox_wire_locals.specs.declared.seat.Seat.{Seat}
 use Rattle.iox_wire_locals.specs.declared.table.Entry.{Entry}
 use Rattle.iox_wire_locals.specs.Begins.{ways_for}

@@ -1,5 +1,5 @@
-//! The calls of a node's handles that write or read a payload, look at request states or give hints:
-//! begun by the handle's number, refused by name, with each place told by the map.
+//! The calls of a node's handles that write or read a payload, ask or hint: begun by the handle's
+//! number, and refused by name. The map tells where the words of writes and reads stand.
 #![tactic(auto)]
 
 mod asked;
@@ -14,7 +14,6 @@ mod seeking;
 mod uses;
 mod writing;
 
-pub use asked::Asked;
 pub use asking::{begin_has_hint, begin_is_connected};
 pub use error::BeginError;
 pub use hinting::begin_set_hint;

@@ -1,5 +1,6 @@
 //! Callers, proved from the clauses alone.
-ghost use Rattle.std.specs.Prelude.{◌≡◌, ◌+◌, ◌<◌, ◌^◌, Err, IfOk, IfSome, None, OnOk, Some, length};
+ghost use Rattle.std.specs.Prelude.{◌≡◌, ◌+◌, ◌<◌, ◌^◌, Err, IfOk, IfSome, None, OnOk, Some};
+ghost use Rattle.std.specs.Prelude.{length};
 ghost use Rattle.iox_model.specs.declared.call.Call.TheVariants.{IsConnected, Read, SetHint};
 ghost use Rattle.iox_model.specs.declared.call.WireCall.TheVariants.{Port};
 ghost use Rattle.iox_model.specs.declared.kind.Role.TheVariants.{Client};
