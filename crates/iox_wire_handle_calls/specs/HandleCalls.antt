@@ -1,0 +1,51 @@
+-- The calls of a handle, why they do not begin, and how a node begins them.
+use Rattle.std.specs.Prelude.{◌≡◌, ℕ, List, Option, Some, None}
+use Rattle.iox_model.specs.declared.call.Call.TheVariants as calls
+use Rattle.iox_model.specs.declared.call.WireCall.TheVariants.{Port}
+use Rattle.iox_model.specs.declared.kind.Role.{Role}
+use Rattle.iox_model.specs.declared.reply.Refusal.TheVariants as refusals
+use Rattle.iox_model.specs.Commands.{Call, Payload, Refusal, WireCall}
+use Rattle.iox_wire_locals.specs.Begins.{begin, refusal_at}
+use Rattle.iox_wire_locals.specs.Tables.{Setting}
+use Rattle.iox_wire_seats.specs.Aims.{IsAimed}
+use Rattle.iox_wire_seats.specs.Seats.{Placed}
+use Rattle.iox_wire_handle_calls.specs.declared.asked.Asked.{Asked}
+use Rattle.iox_wire_handle_calls.specs.declared.asked.Asked.TheVariants as asked
+use Rattle.iox_wire_handle_calls.specs.declared.error.BeginError.{BeginError}
+use Rattle.iox_wire_handle_calls.specs.declared.error.BeginError.TheVariants as errors
+
+-- ---- the calls
+
+-- the call of that number, with that payload if it is a write
+abbrev pub call_of : Asked → ℕ → Payload → Call
+call_of (asked.Write role) n y = calls.Write n y
+call_of asked.Read n y = calls.Read n
+call_of asked.IsConnected n y = calls.IsConnected n
+call_of asked.SetHint n y = calls.SetHint n
+call_of asked.HasHint n y = calls.HasHint n
+call_of asked.HasResponse n y = calls.HasResponse n
+
+-- the payload is of that role, if the call is a write
+abbrev pub HasRole : Asked → Payload → Type 0
+HasRole (asked.Write role) y = y.role ≡ role
+HasRole call y = Unit {0}
+
+-- the write of such a payload
+abbrev pub write_of : ℕ → Role → Option ℕ → List ℕ → WireCall
+write_of n role elements words =
+    Port (calls.Write n (record { role = role; elements = elements; words = words }))
+
+-- ---- how they begin
+
+-- the machine's name of a refusal; want of memory is none
+abbrev pub refusal_in : BeginError → Option Refusal
+refusal_in errors.Busy = Some refusals.Busy
+refusal_in errors.UnknownNumber = Some refusals.UnknownNumber
+refusal_in errors.WrongKind = Some refusals.WrongKind
+refusal_in errors.WantOfMemory = None
+
+-- The call is not refused: the node begins it, and knows the places of the words that it accesses.
+pub record IsBegun (p : Setting) (x : Placed) (call : WireCall) (y : Placed) : Type 0 where
+  pub allowed : refusal_at p x.seat call ≡ None
+  pub begun : y.seat ≡ begin p x.seat call
+  pub aimed : IsAimed p y

@@ -1,0 +1,43 @@
+//! Which call a handle is asked for.
+ghost use Rattle.std.specs.Prelude.{ℕ, ◌≡◌, true};
+ghost use Rattle.iox_model.specs.Commands.{Payload};
+ghost use Rattle.iox_model.specs.Names.{suits};
+ghost use Rattle.iox_wire_handle_calls.specs.HandleCalls.{HasRole, call_of};
+
+use iox_model::kind::{Kind, Role};
+
+/// Which call a handle is asked for. A write is of a request or of a response, as its role tells.
+#[derive(Clone, Copy, Debug, PartialEq, Eq)]
+pub enum Asked {
+    Write(Role),
+    Read,
+    IsConnected,
+    SetHint,
+    HasHint,
+    HasResponse,
+}
+
+impl Asked {
+    /// Whether handles of that kind have the call.
+    #[inline]
+    pub fn suits(self, kind: Kind) -> bool
+        ensures { (n : ℕ) → (y : Payload) → HasRole self y
+            → result ≡ suits true (call_of self n y) kind }
+    {
+        match self {
+            Asked::Write(Role::Client) => {
+                matches!(kind, Kind::RequestMut | Kind::RequestMutUninit)
+            }
+            Asked::Write(Role::Server) => {
+                matches!(kind, Kind::ResponseMut | Kind::ResponseMutUninit)
+            }
+            Asked::Read => !matches!(
+                kind,
+                Kind::Client | Kind::Server | Kind::RequestMutUninit | Kind::ResponseMutUninit
+            ),
+            Asked::IsConnected => matches!(kind, Kind::PendingResponse | Kind::ActiveRequest),
+            Asked::SetHint | Asked::HasResponse => matches!(kind, Kind::PendingResponse),
+            Asked::HasHint => matches!(kind, Kind::ActiveRequest),
+        }
+    }
+}

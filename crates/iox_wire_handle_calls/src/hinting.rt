@@ -1,0 +1,43 @@
+//! A hint that no more responses are wanted.
+ghost use Rattle.std.specs.Prelude.{◌≡◌, IfErr, IfSome, None, OnErr, OnOk};
+ghost use Rattle.iox_model.specs.declared.call.Call.TheVariants.{SetHint};
+ghost use Rattle.iox_model.specs.declared.call.WireCall.TheVariants.{Port};
+ghost use Rattle.iox_word_places.specs.Plans.{port_of};
+ghost use Rattle.iox_wire_layouts.specs.PlansOf.{IsSettingOf};
+ghost use Rattle.iox_wire_locals.specs.Begins.{refusal_at};
+ghost use Rattle.iox_wire_locals.specs.Tables.{Setting, entry_at};
+ghost use Rattle.iox_wire_seats.specs.Aims.{HasRoomForHint};
+ghost use Rattle.iox_wire_handle_calls.specs.HandleCalls.{IsBegun, refusal_in};
+ghost use Rattle.iox_wire_handle_calls.specs.PlacedHandles.{AreItsStates};
+
+use crate::asked::Asked;
+use crate::error::BeginError;
+use crate::naming::named;
+use iox_wire_seats::{Stop, StoredSeat};
+use iox_word_places::WordMap;
+
+/// Begins to give a hint to the pending response of that number. The number is no port's, and the
+/// stops are those of the handle's request states.
+pub fn begin_set_hint(
+    seat: &mut StoredSeat,
+    map: &WordMap,
+    number: u64,
+    stops: &[Stop],
+) -> Result<(), BeginError>
+    requires no_port { port_of map.now number ≡ None }
+    requires hint { IfSome (entry_at number seat.old.seat.table) HasRoomForHint }
+    ensures begun { (p : Setting) → IsSettingOf map.now p
+        → AreItsStates p seat.old.seat number stops.now
+        → OnOk result (IsBegun p seat.old (Port (SetHint number)) seat.new) }
+    ensures allowed { (p : Setting) → IsSettingOf map.now p
+        → OnOk result (refusal_at p seat.old.seat (Port (SetHint number)) ≡ None) }
+    ensures refused { (p : Setting) → IsSettingOf map.now p → IfErr result (λ error.
+        refusal_at p seat.old.seat (Port (SetHint number)) ≡ refusal_in error) }
+    ensures unchanged { OnErr result (seat.new ≡ seat.old) }
+    ensures accesses { seat.new.seat.accesses ≡ seat.old.seat.accesses }
+    ensures room { seat.new.room ≡ seat.old.room }
+{
+    let entry = named(seat, map, Asked::SetHint, number)?;
+    seat.hint(entry, stops)?;
+    Ok(())
+}

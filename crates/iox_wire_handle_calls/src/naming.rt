@@ -1,0 +1,45 @@
+//! The handle that a call names.
+ghost use Rattle.std.specs.Prelude.{◌≡◌, IfErr, IfOk, None, OnOk, Some};
+ghost use Rattle.iox_model.specs.Commands.{Payload};
+ghost use Rattle.iox_model.specs.declared.call.WireCall.TheVariants.{Port};
+ghost use Rattle.iox_word_places.specs.Plans.{port_of};
+ghost use Rattle.iox_wire_layouts.specs.PlansOf.{IsSettingOf};
+ghost use Rattle.iox_wire_locals.specs.Begins.{begin, begins_at_entry, refusal_at};
+ghost use Rattle.iox_wire_locals.specs.Tables.{Setting, entry_at};
+ghost use Rattle.iox_wire_handle_calls.specs.HandleCalls.{HasRole, call_of, refusal_in};
+
+use crate::asked::Asked;
+use crate::error::BeginError;
+use iox_wire_locals::Entry;
+use iox_wire_seats::StoredSeat;
+use iox_word_places::WordMap;
+
+/// The handle of that number, which is no port's, if the node may begin the call on it.
+pub fn named(
+    seat: &StoredSeat,
+    map: &WordMap,
+    asked: Asked,
+    number: u64,
+) -> Result<Entry, BeginError>
+    requires no_port { port_of map.now number ≡ None }
+    ensures found { IfOk result (λ e. entry_at number seat.now.seat.table ≡ Some e) }
+    ensures allowed { (p : Setting) → (y : Payload) → IsSettingOf map.now p → HasRole asked y
+        → OnOk result (refusal_at p seat.now.seat (Port (call_of asked number y)) ≡ None) }
+    ensures begins { (p : Setting) → (y : Payload) → IsSettingOf map.now p → IfOk result (λ e.
+        begin p seat.now.seat (Port (call_of asked number y))
+        ≡ begins_at_entry p seat.now.seat (call_of asked number y) e) }
+    ensures refused { (p : Setting) → (y : Payload) → IsSettingOf map.now p → HasRole asked y
+        → IfErr result (λ error. refusal_at p seat.now.seat (Port (call_of asked number y))
+        ≡ refusal_in error) }
+{
+    if seat.is_busy() {
+        return Err(BeginError::Busy);
+    }
+    let Some(entry) = seat.entry(number) else {
+        return Err(BeginError::UnknownNumber);
+    };
+    if !asked.suits(entry.kind) {
+        return Err(BeginError::WrongKind);
+    }
+    Ok(entry)
+}

@@ -1,0 +1,114 @@
+//! Callers, proved from the clauses alone.
+ghost use Rattle.std.specs.Prelude.{◌≡◌, ◌+◌, ◌<◌, ◌^◌, Err, IfOk, IfSome, None, OnOk, Some};
+ghost use Rattle.std.specs.Prelude.{length};
+ghost use Rattle.iox_model.specs.declared.call.Call.TheVariants.{IsConnected, Read, SetHint};
+ghost use Rattle.iox_model.specs.declared.call.WireCall.TheVariants.{Port};
+ghost use Rattle.iox_model.specs.declared.kind.Role.TheVariants.{Client};
+ghost use Rattle.iox_model.specs.declared.reply.Refusal.TheVariants as refusals;
+ghost use Rattle.iox_word_map.specs.WordMaps.{total_words};
+ghost use Rattle.iox_word_places.specs.Plans.{port_of, sizes_of};
+ghost use Rattle.iox_wire_layouts.specs.PlansOf.{IsSettingOf};
+ghost use Rattle.iox_wire_locals.specs.Begins.{begin, refusal_at};
+ghost use Rattle.iox_wire_locals.specs.Locals.{program_of};
+ghost use Rattle.iox_wire_locals.specs.Steps.{next};
+ghost use Rattle.iox_wire_locals.specs.Tables.{Setting, entry_at};
+ghost use Rattle.iox_wire_seats.specs.Aims.{HasRoomForHint};
+ghost use Rattle.iox_wire_words.specs.Programs.{program_access};
+ghost use Rattle.iox_wire_handle_calls.specs.declared.error.BeginError.TheVariants as errors;
+ghost use Rattle.iox_wire_handle_calls.specs.HandleCalls.{write_of};
+ghost use Rattle.iox_wire_handle_calls.specs.PlacedHandles.{AreItsStates, HasOwnSlot, IsReadable};
+
+use crate::asking::begin_is_connected;
+use crate::error::BeginError;
+use crate::hinting::begin_set_hint;
+use crate::reading::begin_read;
+use crate::writing::begin_write;
+use iox_model::kind::Role;
+use iox_steps::Access;
+use iox_wire_seats::{SeatReply, Stop, StoredSeat};
+use iox_word_places::WordMap;
+
+/// A write begins, and makes one access, as the node does.
+pub fn payload_written_by_one_step(
+    seat: &mut StoredSeat,
+    map: &WordMap,
+    number: u64,
+    elements: Option<u64>,
+    words: &[u64],
+    seen: u64,
+) -> Result<Option<SeatReply>, BeginError>
+    requires no_port { port_of map.now number ≡ None }
+    requires slot { IfSome (entry_at number seat.old.seat.table) (HasOwnSlot map.now) }
+    requires memory { total_words (sizes_of map.now) + length words.now < 2 ^ 64 }
+    requires accesses { seat.old.seat.accesses + 1 < 2 ^ 64 }
+    ensures { (p : Setting) → IsSettingOf map.now p → OnOk result (seat.new.seat
+        ≡ next p (begin p seat.old.seat (write_of number Client elements words.now)) seen) }
+{
+    begin_write(seat, map, number, Role::Client, elements, words)?;
+    Ok(seat.go_on(seen))
+}
+
+/// The first access of a read is that of the definitions.
+pub fn first_word_of_a_message(
+    seat: &mut StoredSeat,
+    map: &WordMap,
+    number: u64,
+) -> Result<Access, BeginError>
+    requires no_port { port_of map.now number ≡ None }
+    requires readable { IfSome (entry_at number seat.old.seat.table) (IsReadable map.now) }
+    ensures { (p : Setting) → IsSettingOf map.now p → IfOk result (λ access. access
+        ≡ program_access p.layout
+        (program_of p (begin p seat.old.seat (Port (Read number))).local)) }
+{
+    begin_read(seat, map, number)?;
+    Ok(seat.asks())
+}
+
+/// What the definitions refuse for its number is refused so.
+pub fn unknown_message_is_refused(
+    seat: &mut StoredSeat,
+    map: &WordMap,
+    number: u64,
+) -> Result<(), BeginError>
+    requires no_port { port_of map.now number ≡ None }
+    requires readable { IfSome (entry_at number seat.old.seat.table) (IsReadable map.now) }
+    ensures { (p : Setting) → IsSettingOf map.now p
+        → refusal_at p seat.old.seat (Port (Read number)) ≡ Some refusals.UnknownNumber
+        → result ≡ Err errors.UnknownNumber }
+{
+    begin_read(seat, map, number)
+}
+
+/// A question begins, and sees a request state.
+pub fn connection_asked_by_one_step(
+    seat: &mut StoredSeat,
+    map: &WordMap,
+    number: u64,
+    stops: &[Stop],
+    seen: u64,
+) -> Result<Option<SeatReply>, BeginError>
+    requires no_port { port_of map.now number ≡ None }
+    requires accesses { seat.old.seat.accesses + 1 < 2 ^ 64 }
+    ensures { (p : Setting) → IsSettingOf map.now p
+        → AreItsStates p seat.old.seat number stops.now → OnOk result (seat.new.seat
+        ≡ next p (begin p seat.old.seat (Port (IsConnected number))) seen) }
+{
+    begin_is_connected(seat, map, number, stops)?;
+    Ok(seat.go_on(seen))
+}
+
+/// What the definitions refuse as busy takes no hint.
+pub fn busy_node_gives_no_hint(
+    seat: &mut StoredSeat,
+    map: &WordMap,
+    number: u64,
+    stops: &[Stop],
+) -> Result<(), BeginError>
+    requires no_port { port_of map.now number ≡ None }
+    requires hint { IfSome (entry_at number seat.old.seat.table) HasRoomForHint }
+    ensures { (p : Setting) → IsSettingOf map.now p
+        → refusal_at p seat.old.seat (Port (SetHint number)) ≡ Some refusals.Busy
+        → result ≡ Err errors.Busy }
+{
+    begin_set_hint(seat, map, number, stops)
+}
