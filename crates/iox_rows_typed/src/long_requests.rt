@@ -30,7 +30,9 @@ fn lists(alloc: Global) -> Result<(Lists, Lister), AllocError> {
 }
 
 /// The thirteen numbers from 123 on.
-const FROM_123: [u64; 13] = [123, 124, 125, 126, 127, 128, 129, 130, 131, 132, 133, 134, 135];
+const FROM_123: [u64; 13] = [
+    123, 124, 125, 126, 127, 128, 129, 130, 131, 132, 133, 134, 135,
+];
 
 /// Whether a loan of 13 elements carries these numbers, once a closure filled it.
 fn filled_from_123(hub: &mut Lists, client: &Lister) -> Option<bool> {
