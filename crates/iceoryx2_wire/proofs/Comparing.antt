@@ -1,0 +1,62 @@
+-- Creators and openers are asked what the description says, and a refused open keeps the state.
+use Rattle.std.specs.Prelude.{◌≡◌, ℕ, Option, Some, None, Result, Ok, Err, OnErr, refl}
+use Rattle.std.proofs.Common.{subst}
+use Rattle.iox_types.specs.declared.identifiers.system_id.UniqueSystemId.{UniqueSystemId}
+use Rattle.iox_attributes.specs.Verifiers.{Requirements}
+use Rattle.iox_attributes.specs.declared.verification_error.AttributeVerificationError.{AttributeVerificationError}
+use Rattle.iox_model.specs.declared.reply.Refusal as the_refusal
+use Rattle.iox_model.specs.declared.reply.Reply.TheVariants as replies
+use Rattle.iox_model.specs.Commands.{Refusal, Reply}
+use Rattle.iox_model.specs.Joins.{opening_refusal}
+use Rattle.iox_model.specs.Settings.{Limits}
+use Rattle.iox_model.specs.States.{State}
+use Rattle.iox_model.specs.WholeCalls.{UnlessRefused}
+use Rattle.iox_openers.specs.Causes.{as_refusal, cause_of, with_cause}
+use Rattle.iox_openers.specs.Openers.{IsAsked, IsAskedOfCreator, opener}
+use Rattle.iox_openers.specs.declared.message_types.MessageTypes.{MessageTypes}
+use Rattle.iox_openers.specs.declared.service_description.ServiceDescription.{ServiceDescription}
+use Rattle.iox_nodes.specs.Served.{IsCreated, IsJoin}
+use Rattle.iox_nodes.specs.Shown.{ServiceTables}
+use Rattle.iox_nodes.specs.Shown as nodes
+use Rattle.iceoryx2_wire.specs.Services.{DescribedService, IsMade, IsOpened}
+
+-- a service with this description and these nodes
+abbrev with_nodes : ServiceDescription → ServiceTables → DescribedService
+with_nodes d v = record { description = d; nodes = v }
+
+pub made_so : (l : Limits) (own : MessageTypes) (d : ServiceDescription) (id : UniqueSystemId) (v : ServiceTables)
+    (asked : Option (the_refusal.Refusal AttributeVerificationError)) → IsAskedOfCreator own d.types (as_refusal asked)
+    → IsCreated l id asked (Ok v) → IsMade l own d id (Ok (with_nodes d v))
+made_so l own d id v asked tests done = record { asked = as_refusal asked; tests = tests; creation = done cause_of; says = refl }
+
+pub not_made_so : (l : Limits) (own : MessageTypes) (d : ServiceDescription) (id : UniqueSystemId) (r : the_refusal.Refusal AttributeVerificationError)
+    (asked : Option (the_refusal.Refusal AttributeVerificationError)) → IsAskedOfCreator own d.types (as_refusal asked)
+    → IsCreated l id asked (Err r) → IsMade l own d id (Err r)
+not_made_so l own d id r asked tests done = record { asked = as_refusal asked; tests = tests; creation = done cause_of; says = tt }
+
+pub opened_so : (d : ServiceDescription) (v w : ServiceTables) (types : MessageTypes) (required : Requirements) (id : UniqueSystemId)
+    (asked : Option (the_refusal.Refusal AttributeVerificationError)) (result : Result ℕ (the_refusal.Refusal AttributeVerificationError))
+    → IsAsked d (opener types required) (as_refusal asked) → IsJoin (nodes.service_of v) id asked result (nodes.service_of w)
+    → IsOpened (with_nodes d v) types required id result (with_nodes d w)
+opened_so d v w types required id asked result tests joined =
+    record { asked = as_refusal asked; tests = tests; join = joined cause_of; says = refl }
+
+abbrev IsRefused : Reply → Type 0
+IsRefused (replies.Refused r) = Unit {0}
+IsRefused reply = ⊥
+
+not_refused : (x : Refusal) (answer : Reply) → (IsRefused answer → ⊥) → replies.Refused x ≡ answer → ⊥
+not_refused x answer not e = not (subst IsRefused e tt)
+
+kept_if : (r : Option Refusal) (x : Refusal) (answer : Reply) (s s' : State) (Q : Type 0) → (IsRefused answer → ⊥)
+    → UnlessRefused r s (replies.Refused x) s' ((replies.Refused x ≡ answer) × Q) → s' ≡ s
+kept_if (Some y) x answer s s' Q not h = h.1
+kept_if None x answer s s' Q not h = absurd (not_refused x answer not h.0)
+
+-- a refused join keeps the state
+pub refused_keeps : (s s' : State) (id : UniqueSystemId) (asked : Option (the_refusal.Refusal AttributeVerificationError))
+    (result : Result ℕ (the_refusal.Refusal AttributeVerificationError)) → IsJoin s id asked result s' → OnErr result (s' ≡ s)
+refused_keeps s s' id asked (Ok n) joined = tt
+refused_keeps s s' id asked (Err r) joined =
+    kept_if (opening_refusal s id (as_refusal asked) (joined cause_of).0) (with_cause cause_of r) (replies.Node s.members.joins) s s' _
+    (λ no. no) (joined cause_of).1

@@ -1,0 +1,31 @@
+//! What a service's nodes ask of its ports.
+ghost use Rattle.std.specs.Prelude.{◌≡◌};
+ghost use Rattle.iox_nodes.specs.Served.{IsPortAnswered};
+ghost use Rattle.iceoryx2_wire.specs.Services.{service_of};
+
+use crate::service::Service;
+use iox_attributes::AttributeVerificationError;
+use iox_model::command::PortCommand;
+use iox_model::reply::Reply;
+use iox_port_commands::Elements;
+use iox_store::Payload;
+use iox_words::Words;
+use std::alloc::Global;
+
+impl<Q: Payload, QH: Words, P: Payload, PH: Words> Service<Q, QH, P, PH> {
+    /// A node makes a port, or calls a port or a handle by its number. A port gets the id with
+    /// which its node opened the service. It is refused as `UnknownNode` or `NodeIsDead` before all
+    /// that the port tests. Where there is no memory for a port or for what is read, that is a
+    /// reply, too.
+    pub fn port<H: Words>(
+        &mut self,
+        alloc: Global,
+        command: PortCommand<Elements<Q::Element, P::Element>, H>,
+    ) -> Reply<Vec<u64>, AttributeVerificationError>
+        ensures answered { IsPortAnswered Q.Element.words P.Element.words H.words
+            (service_of self.old) command result (service_of self.new) }
+        ensures says { self.new.description ≡ self.old.description }
+    {
+        self.nodes.port(alloc, command)
+    }
+}

@@ -1,0 +1,39 @@
+//! What there is in a service.
+ghost use Rattle.std.specs.Prelude.{◌≡◌, IfOk, map};
+ghost use Rattle.iox_model.specs.declared.kind.Role.TheVariants.{Client, Server};
+ghost use Rattle.iox_model.specs.Peers.{ports_of_role};
+ghost use Rattle.iceoryx2_wire.specs.Services.{service_of};
+
+use crate::service::Service;
+use iox_store::Payload;
+use iox_words::Words;
+use std::alloc::{AllocError, Global};
+
+impl<Q: Payload, QH: Words, P: Payload, PH: Words> Service<Q, QH, P, PH> {
+    /// The numbers of the nodes that are there, dead ones too, ascending. It fails only for want
+    /// of memory.
+    pub fn list_nodes(&self, alloc: Global) -> Result<Vec<u64>, AllocError>
+        ensures { IfOk result (λ numbers. numbers.items
+            ≡ map (λ m. m.number) (service_of self.now).members.nodes) }
+    {
+        self.nodes.list_nodes(alloc)
+    }
+
+    /// The numbers of the connected clients, those of dead nodes too, ascending. It fails only for
+    /// want of memory.
+    pub fn list_clients(&self, alloc: Global) -> Result<Vec<u64>, AllocError>
+        ensures { IfOk result (λ numbers. numbers.items
+            ≡ ports_of_role (service_of self.now).fixed Client) }
+    {
+        self.nodes.list_clients(alloc)
+    }
+
+    /// The numbers of the connected servers, those of dead nodes too, ascending. It fails only for
+    /// want of memory.
+    pub fn list_servers(&self, alloc: Global) -> Result<Vec<u64>, AllocError>
+        ensures { IfOk result (λ numbers. numbers.items
+            ≡ ports_of_role (service_of self.now).fixed Server) }
+    {
+        self.nodes.list_servers(alloc)
+    }
+}

@@ -1,0 +1,55 @@
+//! A service with its description.
+ghost use Rattle.std.specs.Prelude.{◌≡◌};
+ghost use Rattle.iox_model.specs.Runs.{IsServed};
+ghost use Rattle.iceoryx2_wire.specs.Services.{service_of};
+
+use iox_openers::ServiceDescription;
+use iox_store::Payload;
+use iox_words::Words;
+use std::marker::Model;
+
+/// A service: what its creator and its openers are compared with, its nodes, and all their ports,
+/// with requests of `Q` and user headers `QH`, and with responses of `P` and user headers `PH`.
+///
+/// It shows a state of the machine that copies messages (`service_of`). What it says of itself
+/// never changes.
+#[derive(Drop)]
+pub struct Service<Q: Payload, QH: Words, P: Payload, PH: Words> {
+    pub(crate) description: ServiceDescription,
+    pub(crate) nodes: iox_nodes::Service<Q, QH, P, PH>,
+}
+
+impl<Q: Payload, QH: Words, P: Payload, PH: Words> Model for Service<Q, QH, P, PH> {
+    ghost use Rattle.iceoryx2_wire.specs.Services.{DescribedService};
+
+    ghost Value = { DescribedService };
+
+    ghost view = { λ s. record { description = s.description; nodes = s.nodes } };
+}
+
+impl<Q: Payload, QH: Words, P: Payload, PH: Words> Service<Q, QH, P, PH> {
+    /// What the service says of itself.
+    #[inline]
+    pub fn description(&self) -> &ServiceDescription
+        ensures { result.now ≡ self.now.description }
+    {
+        &self.description
+    }
+
+    /// The machine can reach the service's state by what its own nodes asked. This does nothing: it
+    /// is there for its contract.
+    #[inline]
+    pub fn is_served(&self)
+        ensures { IsServed (service_of self.now) }
+    {
+        self.nodes.is_served();
+    }
+
+    /// Whether the last node is gone, so that nobody may open the service any more.
+    #[inline]
+    pub fn is_closed(&self) -> bool
+        ensures { result ≡ (service_of self.now).members.closed }
+    {
+        self.nodes.is_closed()
+    }
+}
