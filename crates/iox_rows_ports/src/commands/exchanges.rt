@@ -27,11 +27,10 @@ fn a_copied_request_is_received_and_read(rt: HostRuntime) -> Result<(), Fail> {
 fn a_copied_response_is_received_and_released(rt: HostRuntime) -> Result<(), Fail> {
     let a = rt.alloc();
     let mut hub = hub(a)?;
-    assert_eq!(rt; client(&mut hub, a, OPTIONS), Told::Client(0));
-    assert_eq!(rt; server(&mut hub, a), Told::Server(1));
-    assert_eq!(rt; copy(&mut hub, a, 0)?, Told::Handle(2));
-    let request = ask(&mut hub, a, PortCommand::Receive { node: 1, number: 1 });
-    assert_eq!(rt; request, Told::Handle(3));
+    client(&mut hub, a, OPTIONS);
+    server(&mut hub, a);
+    copy(&mut hub, a, 0)?;
+    ask(&mut hub, a, PortCommand::Receive { node: 1, number: 1 });
     assert_eq!(rt; answer(&mut hub, a, 1, 3, 456)?, Told::Done);
     let waits = ask(&mut hub, a, PortCommand::HasResponse { node: 0, number: 2 });
     assert_eq!(rt; waits, Told::Answer(true));
@@ -48,11 +47,10 @@ fn a_copied_response_is_received_and_released(rt: HostRuntime) -> Result<(), Fai
 fn a_hint_is_set_and_seen(rt: HostRuntime) -> Result<(), Fail> {
     let a = rt.alloc();
     let mut hub = hub(a)?;
-    assert_eq!(rt; client(&mut hub, a, OPTIONS), Told::Client(0));
-    assert_eq!(rt; server(&mut hub, a), Told::Server(1));
-    assert_eq!(rt; copy(&mut hub, a, 0)?, Told::Handle(2));
-    let request = ask(&mut hub, a, PortCommand::Receive { node: 1, number: 1 });
-    assert_eq!(rt; request, Told::Handle(3));
+    client(&mut hub, a, OPTIONS);
+    server(&mut hub, a);
+    copy(&mut hub, a, 0)?;
+    ask(&mut hub, a, PortCommand::Receive { node: 1, number: 1 });
     let before = ask(&mut hub, a, PortCommand::HasHint { node: 1, number: 3 });
     assert_eq!(rt; before, Told::Answer(false));
     let hint = ask(&mut hub, a, PortCommand::SetHint { node: 0, number: 2 });
@@ -68,8 +66,8 @@ fn a_hint_is_set_and_seen(rt: HostRuntime) -> Result<(), Fail> {
 fn a_loan_holds_the_default_and_is_written_and_sent(rt: HostRuntime) -> Result<(), Fail> {
     let a = rt.alloc();
     let mut hub = hub(a)?;
-    assert_eq!(rt; client(&mut hub, a, OPTIONS), Told::Client(0));
-    assert_eq!(rt; server(&mut hub, a), Told::Server(1));
+    client(&mut hub, a, OPTIONS);
+    server(&mut hub, a);
     let loan = PortCommand::Loan {
         node: 0,
         number: 0,

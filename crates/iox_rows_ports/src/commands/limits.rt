@@ -8,7 +8,7 @@ use std::test::Fail;
 fn the_third_loan_of_two_is_refused(rt: HostRuntime) -> Result<(), Fail> {
     let a = rt.alloc();
     let mut hub = hub(a)?;
-    assert_eq!(rt; client(&mut hub, a, OPTIONS), Told::Client(0));
+    client(&mut hub, a, OPTIONS);
     assert_eq!(rt; loan(&mut hub, a), Told::Handle(1));
     assert_eq!(rt; loan(&mut hub, a), Told::Handle(2));
     assert_eq!(rt; loan(&mut hub, a), Told::Refused(Refusal::ExceedsMaxLoans));
@@ -23,7 +23,7 @@ fn a_loan_from_a_pool_of_one_is_the_only_one(rt: HostRuntime) -> Result<(), Fail
         pool: Some(1),
         ..OPTIONS
     };
-    assert_eq!(rt; client(&mut hub, a, small), Told::Client(0));
+    client(&mut hub, a, small);
     assert_eq!(rt; copy(&mut hub, a, 0)?, Told::Handle(1));
     assert_eq!(rt; copy(&mut hub, a, 0)?, Told::Refused(Refusal::OutOfMemory));
     Ok(())
@@ -33,7 +33,7 @@ fn a_loan_from_a_pool_of_one_is_the_only_one(rt: HostRuntime) -> Result<(), Fail
 fn a_second_active_request_of_one_is_refused(rt: HostRuntime) -> Result<(), Fail> {
     let a = rt.alloc();
     let mut hub = hub(a)?;
-    assert_eq!(rt; client(&mut hub, a, OPTIONS), Told::Client(0));
+    client(&mut hub, a, OPTIONS);
     assert_eq!(rt; copy(&mut hub, a, 0)?, Told::Handle(1));
     let second = copy(&mut hub, a, 0)?;
     assert_eq!(rt; second, Told::Refused(Refusal::ExceedsMaxActiveRequests));
@@ -44,8 +44,8 @@ fn a_second_active_request_of_one_is_refused(rt: HostRuntime) -> Result<(), Fail
 fn a_request_to_a_full_server_is_refused(rt: HostRuntime) -> Result<(), Fail> {
     let a = rt.alloc();
     let mut hub = hub(a)?;
-    assert_eq!(rt; client(&mut hub, a, OPTIONS), Told::Client(0));
-    assert_eq!(rt; server(&mut hub, a), Told::Server(1));
+    client(&mut hub, a, OPTIONS);
+    server(&mut hub, a);
     assert_eq!(rt; copy(&mut hub, a, 0)?, Told::Handle(2));
     let released = ask(&mut hub, a, PortCommand::Release { node: 0, number: 2 });
     assert_eq!(rt; released, Told::Done);
@@ -58,13 +58,12 @@ fn a_request_to_a_full_server_is_refused(rt: HostRuntime) -> Result<(), Fail> {
 fn a_second_response_of_one_is_not_lent_out(rt: HostRuntime) -> Result<(), Fail> {
     let a = rt.alloc();
     let mut hub = hub(a)?;
-    assert_eq!(rt; client(&mut hub, a, OPTIONS), Told::Client(0));
-    assert_eq!(rt; server(&mut hub, a), Told::Server(1));
-    assert_eq!(rt; copy(&mut hub, a, 0)?, Told::Handle(2));
-    let request = ask(&mut hub, a, PortCommand::Receive { node: 1, number: 1 });
-    assert_eq!(rt; request, Told::Handle(3));
-    assert_eq!(rt; answer(&mut hub, a, 1, 3, 10)?, Told::Done);
-    assert_eq!(rt; answer(&mut hub, a, 1, 3, 11)?, Told::Done);
+    client(&mut hub, a, OPTIONS);
+    server(&mut hub, a);
+    copy(&mut hub, a, 0)?;
+    ask(&mut hub, a, PortCommand::Receive { node: 1, number: 1 });
+    answer(&mut hub, a, 1, 3, 10)?;
+    answer(&mut hub, a, 1, 3, 11)?;
     let first = ask(&mut hub, a, PortCommand::Receive { node: 0, number: 2 });
     assert_eq!(rt; first, Told::Handle(4));
     let second = ask(&mut hub, a, PortCommand::Receive { node: 0, number: 2 });

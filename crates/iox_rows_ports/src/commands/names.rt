@@ -9,7 +9,7 @@ use std::test::Fail;
 fn a_number_of_nothing_or_of_another_node_is_refused(rt: HostRuntime) -> Result<(), Fail> {
     let a = rt.alloc();
     let mut hub = hub(a)?;
-    assert_eq!(rt; client(&mut hub, a, OPTIONS), Told::Client(0));
+    client(&mut hub, a, OPTIONS);
     let unknown = ask(&mut hub, a, PortCommand::Release { node: 0, number: 9 });
     assert_eq!(rt; unknown, Told::Refused(Refusal::UnknownNumber));
     let foreign = ask(&mut hub, a, PortCommand::Release { node: 1, number: 0 });
@@ -25,7 +25,7 @@ fn a_number_of_nothing_or_of_another_node_is_refused(rt: HostRuntime) -> Result<
 fn what_the_kind_does_not_do_is_refused(rt: HostRuntime) -> Result<(), Fail> {
     let a = rt.alloc();
     let mut hub = hub(a)?;
-    assert_eq!(rt; client(&mut hub, a, OPTIONS), Told::Client(0));
+    client(&mut hub, a, OPTIONS);
     let received = ask(&mut hub, a, PortCommand::Receive { node: 0, number: 0 });
     assert_eq!(rt; received, Told::Refused(Refusal::WrongKind));
     let read = ask(&mut hub, a, PortCommand::Read { node: 0, number: 0 });
@@ -40,7 +40,7 @@ fn what_the_kind_does_not_do_is_refused(rt: HostRuntime) -> Result<(), Fail> {
 fn a_length_that_does_not_fit_is_refused(rt: HostRuntime) -> Result<(), Fail> {
     let a = rt.alloc();
     let mut hub = hub(a)?;
-    assert_eq!(rt; client(&mut hub, a, OPTIONS), Told::Client(0));
+    client(&mut hub, a, OPTIONS);
     let long = PortCommand::Loan {
         node: 0,
         number: 0,
