@@ -2,13 +2,17 @@
 pub use Rattle.iox_types.specs.Compatibility
 pub use Rattle.iox_types.specs.Identifiers
 pub use Rattle.iox_attributes.specs.Verifiers
+pub use Rattle.iox_attributes.specs.declared.verification_error.AttributeVerificationError
 pub use Rattle.iox_model.specs.Commands
+pub use Rattle.iox_model.specs.Peers
 pub use Rattle.iox_model.specs.Runs
 pub use Rattle.iox_model.specs.Services as Machine
 pub use Rattle.iox_model.specs.States
 pub use Rattle.iox_model.specs.declared.command.Command
+pub use Rattle.iox_model.specs.declared.kind.Role
 pub use Rattle.iox_model.specs.declared.reply.Refusal
 pub use Rattle.iox_model.specs.declared.reply.Reply
+pub use Rattle.iox_members.specs.Steps
 pub use Rattle.iox_control.specs.Settings
 pub use Rattle.iox_hub.specs.Shapes
 pub use Rattle.iox_openers.specs.Causes
@@ -16,5 +20,7 @@ pub use Rattle.iox_openers.specs.Openers
 pub use Rattle.iox_nodes.specs.Given
 pub use Rattle.iox_nodes.specs.Served
 pub use Rattle.iox_nodes.specs.Shown
+pub use Rattle.iox_openers.specs.declared.message_types.MessageTypes
+pub use Rattle.iox_openers.specs.declared.service_description.ServiceDescription
 -- a service with its description
 pub mod Services
