@@ -20,7 +20,7 @@ type TheService = Service<Many<u64>, (), One<u64>, ()>;
 type TheReply = Reply<Vec<u64>, u64>;
 
 /// What is asked. Of a port's or a handle's node and number, the node comes first.
-#[derive(Clone, Copy, Debug)]
+#[derive(Clone, Copy)]
 enum Ask {
     /// A node joins with the id N 0 0 0.
     Join(u32),

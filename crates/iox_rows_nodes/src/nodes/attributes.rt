@@ -11,12 +11,16 @@ use std::test::Fail;
 
 type Cause = AttributeVerificationError;
 
-/// Messages of one number.
-fn types() -> Result<MessageTypes, Fail> {
+/// A message of one number.
+fn number() -> Result<MessageTypeDetails, Fail> {
     let number = MessageTypeDetails::from::<u64, (), u64>(TypeVariant::FixedSize)?;
+    Ok(number)
+}
+
+fn types() -> Result<MessageTypes, Fail> {
     Ok(MessageTypes {
-        request: number,
-        response: number,
+        request: number()?,
+        response: number()?,
     })
 }
 

@@ -1,4 +1,4 @@
-//! What others see of a node that is cleaned up is what they see of one that releases all and leaves.
+//! What others see of a node that is cleaned up, and of one that releases all and leaves.
 use super::{Ask, Pair, Told};
 use std::alloc::{AllocError, Global};
 use std::process::Abort;
@@ -6,16 +6,22 @@ use std::test::Fail;
 
 type Script<'a> = &'a [(Ask, Told<'a>)];
 
-/// Plays what came before; then node 1 dies and is cleaned up in one pair of services, and in another
-/// it releases all and leaves. What is asked after is answered as wanted in both.
+/// Node 1 joins, and all this is played. Then it dies and is cleaned up in one pair of services, and in
+/// another it releases these values and leaves. All that is asked after is answered alike in both.
 fn ends_alike(
     rt: &impl Abort,
     alloc: Global,
     before: Script<'_>,
-    releases: Script<'_>,
+    values: &[u64],
     after: Script<'_>,
 ) -> Result<(), AllocError> {
+    let first = [(Ask::Join(2), Told::Node(1))];
+    let last = [
+        (Ask::Nodes, Told::Listed(&[0])),
+        (Ask::Join(2), Told::Node(2)),
+    ];
     let mut dead = Pair::new(alloc, 20)?;
+    dead.plays(rt, alloc, &first)?;
     dead.plays(rt, alloc, before)?;
     dead.plays(
         rt,
@@ -23,17 +29,21 @@ fn ends_alike(
         &[(Ask::Die(1), Told::Done), (Ask::Cleanup(1), Told::Done)],
     )?;
     dead.plays(rt, alloc, after)?;
+    dead.plays(rt, alloc, &last)?;
     let mut gone = Pair::new(alloc, 20)?;
+    gone.plays(rt, alloc, &first)?;
     gone.plays(rt, alloc, before)?;
-    gone.plays(rt, alloc, releases)?;
+    for number in values {
+        gone.plays(rt, alloc, &[(Ask::Release(1, *number), Told::Done)])?;
+    }
     gone.plays(rt, alloc, &[(Ask::Leave(1), Told::Done)])?;
-    gone.plays(rt, alloc, after)
+    gone.plays(rt, alloc, after)?;
+    gone.plays(rt, alloc, &last)
 }
 
 #[test]
 fn a_server_that_is_cleaned_up_is_as_one_that_leaves(rt: HostRuntime) -> Result<(), Fail> {
     let before = [
-        (Ask::Join(2), Told::Node(1)),
         (Ask::Client(0), Told::Client(0)),
         (Ask::Server(1), Told::Server(1)),
         (Ask::Request(0, 0, 9), Told::Handle(2)),
@@ -47,14 +57,7 @@ fn a_server_that_is_cleaned_up_is_as_one_that_leaves(rt: HostRuntime) -> Result<
         (Ask::Loan(1, 6), Told::Handle(7)),
         (Ask::Receive(0, 2), Told::Handle(8)),
     ];
-    let releases = [
-        (Ask::Release(1, 1), Told::Done),
-        (Ask::Release(1, 5), Told::Done),
-        (Ask::Release(1, 6), Told::Done),
-        (Ask::Release(1, 7), Told::Done),
-    ];
     let after = [
-        (Ask::Nodes, Told::Listed(&[0])),
         (Ask::Clients, Told::Listed(&[0])),
         (Ask::Servers, Told::Listed(&[])),
         (Ask::Read(0, 8), Told::Words(&[50])),
@@ -70,16 +73,14 @@ fn a_server_that_is_cleaned_up_is_as_one_that_leaves(rt: HostRuntime) -> Result<
         (Ask::Receive(0, 9), Told::Handle(11)),
         (Ask::Read(0, 11), Told::Words(&[6])),
         (Ask::Receive(0, 9), Told::Nothing),
-        (Ask::Join(2), Told::Node(2)),
     ];
-    ends_alike(&rt, rt.alloc(), &before, &releases, &after)?;
+    ends_alike(&rt, rt.alloc(), &before, &[1, 5, 6, 7], &after)?;
     Ok(())
 }
 
 #[test]
 fn a_client_that_is_cleaned_up_is_as_one_that_leaves(rt: HostRuntime) -> Result<(), Fail> {
     let before = [
-        (Ask::Join(2), Told::Node(1)),
         (Ask::Server(0), Told::Server(0)),
         (Ask::Client(1), Told::Client(1)),
         (Ask::Request(1, 1, 9), Told::Handle(2)),
@@ -92,15 +93,7 @@ fn a_client_that_is_cleaned_up_is_as_one_that_leaves(rt: HostRuntime) -> Result<
         (Ask::Hint(1, 2), Told::Done),
         (Ask::Hinted(0, 4), Told::Answer(true)),
     ];
-    let releases = [
-        (Ask::Release(1, 1), Told::Done),
-        (Ask::Release(1, 2), Told::Done),
-        (Ask::Release(1, 3), Told::Done),
-        (Ask::Release(1, 5), Told::Done),
-        (Ask::Release(1, 6), Told::Done),
-    ];
     let after = [
-        (Ask::Nodes, Told::Listed(&[0])),
         (Ask::Clients, Told::Listed(&[])),
         (Ask::Servers, Told::Listed(&[0])),
         (Ask::Read(0, 4), Told::Words(&[9])),
@@ -115,8 +108,7 @@ fn a_client_that_is_cleaned_up_is_as_one_that_leaves(rt: HostRuntime) -> Result<
         (Ask::Request(0, 8, 6), Told::Handle(9)),
         (Ask::Receive(0, 0), Told::Handle(10)),
         (Ask::Read(0, 10), Told::Words(&[6])),
-        (Ask::Join(2), Told::Node(2)),
     ];
-    ends_alike(&rt, rt.alloc(), &before, &releases, &after)?;
+    ends_alike(&rt, rt.alloc(), &before, &[1, 2, 3, 5, 6], &after)?;
     Ok(())
 }

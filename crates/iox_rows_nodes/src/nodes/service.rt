@@ -45,8 +45,8 @@ pub(super) fn id(process: u32) -> UniqueSystemId {
     }
 }
 
-/// A service with these settings, or why it is refused. Its first node has that id, and an element's
-/// default is 7.
+/// A service with these settings, or why it is refused. Its first node has that id, and the default
+/// of an element is 7.
 pub(super) fn new(
     alloc: Global,
     settings: Settings,
