@@ -2,7 +2,6 @@
 mod asking;
 mod attributes;
 mod cleanups;
-mod comparing;
 mod creating;
 mod dying;
 mod joining;

@@ -21,7 +21,7 @@ const OPTIONS: PortOptions<u64> = PortOptions {
     handler: None,
 };
 
-/// A node makes a port. No node has the id that the command gives: the service gives the node's own.
+/// A node makes a port. The command gives another id, since the service gives the node's own.
 fn made(node: u64, client: bool) -> Option<AtPort> {
     let id = UniqueNodeId::new(id(99)).ok()?;
     let options = OPTIONS;
