@@ -1,0 +1,158 @@
+//! How a service is asked: by its calls, or by `serve`.
+use super::service::id;
+use super::{Ask, TheReply, TheService};
+use iox_model::command::{self, PortCommand, PortOptions};
+use iox_model::reply::{Refusal, Reply};
+use iox_port_commands::Elements;
+use iox_types::identifiers::UniqueNodeId;
+use std::alloc::{AllocError, Global};
+
+/// A command; a handler would be a number.
+type Command = command::Command<Elements<u64, u64>, u64, Option<Refusal<u64>>>;
+
+type AtPort = PortCommand<Elements<u64, u64>, u64>;
+
+const OPTIONS: PortOptions<u64> = PortOptions {
+    max_slice_len: 1,
+    pool: None,
+    strategy: None,
+    allocation: None,
+    loaned_responses: None,
+    handler: None,
+};
+
+/// A node makes a port. The command gives another id, since the service gives the node's own.
+fn made(node: u64, client: bool) -> Option<AtPort> {
+    let id = UniqueNodeId::new(id(99)).ok()?;
+    let options = OPTIONS;
+    if client {
+        return Some(PortCommand::Client { node, id, options });
+    }
+    Some(PortCommand::Server { node, id, options })
+}
+
+/// A number is written to a loan, or sent as a copy.
+fn carried(alloc: Global, ask: Ask) -> Result<Option<AtPort>, AllocError> {
+    Ok(match ask {
+        Ask::Write(node, number, value) => Some(PortCommand::Write {
+            node,
+            number,
+            payload: Elements::Requests(vec![in alloc; value]?),
+        }),
+        Ask::Request(node, number, value) => Some(PortCommand::SendCopy {
+            node,
+            number,
+            payload: Elements::Requests(vec![in alloc; value]?),
+        }),
+        Ask::Response(node, number, value) => Some(PortCommand::SendCopy {
+            node,
+            number,
+            payload: Elements::Responses(vec![in alloc; value]?),
+        }),
+        _ => None,
+    })
+}
+
+/// A port is made, or what carries no number is asked of a port or a handle.
+fn at_port(ask: Ask) -> Option<AtPort> {
+    Some(match ask {
+        Ask::Client(node) => return made(node, true),
+        Ask::Server(node) => return made(node, false),
+        Ask::Loan(node, number) => PortCommand::Loan {
+            node,
+            number,
+            elements: 1,
+        },
+        Ask::Send(node, number) => PortCommand::Send { node, number },
+        Ask::Receive(node, number) => PortCommand::Receive { node, number },
+        Ask::Read(node, number) => PortCommand::Read { node, number },
+        Ask::Release(node, number) => PortCommand::Release { node, number },
+        Ask::Connected(node, number) => PortCommand::IsConnected { node, number },
+        Ask::Hint(node, number) => PortCommand::SetHint { node, number },
+        Ask::Hinted(node, number) => PortCommand::HasHint { node, number },
+        Ask::HasRequests(node, number) => PortCommand::HasRequests { node, number },
+        Ask::HasResponse(node, number) => PortCommand::HasResponse { node, number },
+        _ => return None,
+    })
+}
+
+/// What is asked of a service's nodes.
+fn of_nodes(ask: Ask) -> Option<Command> {
+    Some(match ask {
+        Ask::Join(n) => Command::Join {
+            id: id(n),
+            asked: None,
+        },
+        Ask::JoinUnfit(n) => Command::Join {
+            id: id(n),
+            asked: Some(Refusal::IncompatibleRequestTypes),
+        },
+        Ask::Leave(node) => Command::Leave { node },
+        Ask::Die(node) => Command::DeclareDead { node },
+        Ask::Cleanup(node) => Command::Cleanup { node },
+        Ask::Nodes => Command::ListNodes,
+        Ask::Clients => Command::ListClients,
+        Ask::Servers => Command::ListServers,
+        _ => return None,
+    })
+}
+
+/// The command that asks this, if one does.
+fn command(alloc: Global, ask: Ask) -> Result<Option<Command>, AllocError> {
+    if let Some(command) = of_nodes(ask) {
+        return Ok(Some(command));
+    }
+    if let Some(command) = at_port(ask) {
+        return Ok(Some(Command::Port(command)));
+    }
+    Ok(carried(alloc, ask)?.map(Command::Port))
+}
+
+/// The reply to a join.
+fn joined(answer: Result<u64, Refusal<u64>>) -> TheReply {
+    match answer {
+        Ok(number) => Reply::Node(number),
+        Err(refusal) => Reply::Refused(refusal),
+    }
+}
+
+/// The reply to what has nothing to tell.
+fn done(answer: Result<(), Refusal<u64>>) -> TheReply {
+    match answer {
+        Ok(()) => Reply::Done,
+        Err(refusal) => Reply::Refused(refusal),
+    }
+}
+
+/// Asks by the calls.
+pub(super) fn called(
+    service: &mut TheService,
+    alloc: Global,
+    ask: Ask,
+) -> Result<TheReply, AllocError> {
+    let Some(command) = command(alloc, ask)? else {
+        return Ok(Reply::Answer(service.is_closed()));
+    };
+    Ok(match command {
+        Command::Join { id, asked } => joined(service.join(id, asked)),
+        Command::Port(command) => service.port(alloc, command),
+        Command::Leave { node } => done(service.leave(node)),
+        Command::DeclareDead { node } => done(service.declare_dead(node)),
+        Command::Cleanup { node } => done(service.cleanup(node)),
+        Command::ListNodes => Reply::Listed(service.list_nodes(alloc)?),
+        Command::ListClients => Reply::Listed(service.list_clients(alloc)?),
+        Command::ListServers => Reply::Listed(service.list_servers(alloc)?),
+    })
+}
+
+/// Asks by `serve`.
+pub(super) fn served(
+    service: &mut TheService,
+    alloc: Global,
+    ask: Ask,
+) -> Result<TheReply, AllocError> {
+    let Some(command) = command(alloc, ask)? else {
+        return Ok(Reply::Answer(service.is_closed()));
+    };
+    service.serve(alloc, command)
+}
