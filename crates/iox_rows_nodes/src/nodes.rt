@@ -2,6 +2,7 @@
 mod asking;
 mod attributes;
 mod cleanups;
+mod comparing;
 mod creating;
 mod dying;
 mod joining;
