@@ -19,12 +19,35 @@ pub fn is_handle(place: Option<Entry>, number: u64) -> bool
     }
 }
 
-/// The place of the handle of that number. It is looked for at the hint first.
-pub fn place_of(places: &[Option<Entry>], number: u64, hint: usize) -> Option<usize>
+/// Whether the handle of that number is in the place.
+#[inline]
+pub fn is_there(places: &[Option<Entry>], place: usize, number: u64) -> bool
+    ensures { result ≡ has_at number places.now place }
+{
+    place < places.len() && is_handle(places[place], number)
+}
+
+/// The place of the handle of that number. It is looked for in the likely place first, then at the
+/// hint, then in each.
+#[inline]
+pub fn place_of(places: &[Option<Entry>], number: u64, likely: usize, hint: usize) -> Option<usize>
     ensures found { IfSome result (λ place. has_at number places.now place ≡ true) }
     ensures missing { result ≡ None → in_places places.now number ≡ None }
 {
-    if hint < places.len() && is_handle(places[hint], number) {
+    if is_there(places, likely, number) {
+        return Some(likely);
+    }
+    place_in(places, number, hint)
+}
+
+/// The same, where it is not in the likely place. It is rare, so it is a call of its own.
+#[cold]
+#[inline(never)]
+fn place_in(places: &[Option<Entry>], number: u64, hint: usize) -> Option<usize>
+    ensures found { IfSome result (λ place. has_at number places.now place ≡ true) }
+    ensures missing { result ≡ None → in_places places.now number ≡ None }
+{
+    if is_there(places, hint, number) {
         return Some(hint);
     }
     first_of(places, number)

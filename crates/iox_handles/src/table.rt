@@ -1,5 +1,5 @@
 //! The table of a hub's handles.
-ghost use Rattle.std.specs.Prelude.{◌≡◌, ◌<◌, ◌≤◌, ◌+◌, ◌^◌, IfOk, IsSome, None, OnErr, OnOk, Some, filter, length, map};
+ghost use Rattle.std.specs.Prelude.{◌≡◌, ◌<◌, ◌≤◌, ◌+◌, ◌%◌, ◌^◌, IfOk, IsSome, None, OnErr, OnOk, Some, filter, length, map};
 ghost use Rattle.iox_handles.specs.Least.{least};
 ghost use Rattle.iox_handles.specs.Tables.{IsSound, added, changed, count_of, handle_at, handle_of, handles_of, new_contents, removed};
 
@@ -10,6 +10,9 @@ use crate::places::{count_if_in, count_in, place_of};
 use iox_model::kind::Kind;
 use std::alloc::{AllocError, Global};
 use std::marker::Model;
+
+/// By so many remainders of their numbers it is kept where handles are.
+const REMAINDERS: usize = 64;
 
 /// A hub's handles, by their numbers. Room for them is reserved before they come: only `new` and
 /// `reserve` take memory.
@@ -22,6 +25,8 @@ pub struct Table {
     room: usize,
     // Above the number of each handle.
     next: u64,
+    // By the remainder of its number, the place that a handle took last.
+    latest: [usize; REMAINDERS],
 }
 
 impl Model for Table {
@@ -41,6 +46,14 @@ impl Model for Table {
         (vec_capacity t.places) (vec_capacity t.free) };
 }
 
+/// The remainder of a handle's number.
+#[inline]
+fn remainder(number: u64) -> usize
+    ensures { result ≡ number % 64 }
+{
+    (number % REMAINDERS as u64) as usize
+}
+
 impl Table {
     /// A table with room for so many handles.
     pub fn new(alloc: Global, room: usize) -> Result<Table, AllocError>
@@ -53,6 +66,7 @@ impl Table {
             free,
             room,
             next: 0,
+            latest: [0; REMAINDERS],
         })
     }
 
@@ -93,32 +107,42 @@ impl Table {
         match self.free.pop() {
             Some(place) => {
                 self.places[place] = Some(entry);
+                self.latest[remainder(entry.number)] = place;
                 place
             }
             None => {
+                let place = self.places.len();
                 self.places.push_reserved(Some(entry));
-                self.places.len() - 1
+                self.latest[remainder(entry.number)] = place;
+                place
             }
         }
     }
 
-    /// The handle of that number, which is looked for at the hint first.
+    /// Where the handle of that number is likely to be: each search tests it.
+    #[inline]
+    fn likely(&self, number: u64) -> usize {
+        self.latest[remainder(number)]
+    }
+
+    /// The handle of that number, which is looked for in its likely place and at the hint first.
     pub fn find(&self, number: u64, hint: usize) -> Option<Entry>
         ensures found { result ≡ handle_at self.now number }
         ensures sound { IsSound self.now }
     {
-        let place = place_of(&self.places, number, hint)?;
+        let place = place_of(&self.places, number, self.likely(number), hint)?;
         self.places[place]
     }
 
-    /// Removes the handle of that number, which is looked for at the hint first.
+    /// Removes the handle of that number, which is looked for in its likely place and at the hint
+    /// first.
     pub fn remove(&mut self, number: u64, hint: usize) -> Option<Entry>
         ensures found { result ≡ handle_at self.old number }
         ensures removed { IsSome result → self.new ≡ removed self.old number }
         ensures gone { handle_at self.new number ≡ None }
         ensures unchanged { result ≡ None → self.new ≡ self.old }
     {
-        let place = place_of(&self.places, number, hint)?;
+        let place = place_of(&self.places, number, self.likely(number), hint)?;
         let entry = self.places[place];
         self.places[place] = None;
         self.free.push_reserved(place);
@@ -126,19 +150,21 @@ impl Table {
         entry
     }
 
-    /// Changes the handle of that number, which is looked for at the hint first.
+    /// Changes the handle of that number, which is looked for in its likely place and at the hint
+    /// first.
     pub fn change(&mut self, entry: Entry, hint: usize) -> Option<Entry>
         ensures found { result ≡ handle_at self.old entry.number }
         ensures changed { IsSome result → self.new ≡ changed self.old entry }
         ensures unchanged { result ≡ None → self.new ≡ self.old }
     {
-        let place = place_of(&self.places, entry.number, hint)?;
+        let place = place_of(&self.places, entry.number, self.likely(entry.number), hint)?;
         let old = self.places[place];
         self.places[place] = Some(entry);
         old
     }
 
-    /// Removes the node's handle of that number, which is looked for at the hint first.
+    /// Removes the node's handle of that number, which is looked for in its likely place and at the
+    /// hint first.
     #[inline]
     pub fn remove_of(&mut self, node: u64, number: u64, hint: usize) -> Option<Entry>
         ensures found { result ≡ handle_of self.old node number }
@@ -147,7 +173,7 @@ impl Table {
         ensures unchanged { result ≡ None → self.new ≡ self.old }
         ensures sound { IsSound self.old }
     {
-        let at = place_of(&self.places, number, hint)?;
+        let at = place_of(&self.places, number, self.likely(number), hint)?;
         let entry = self.places[at]?;
         if entry.node != node {
             return None;
@@ -158,8 +184,8 @@ impl Table {
         Some(entry)
     }
 
-    /// Changes the handle of that node and number, which is looked for at the hint first, and tells
-    /// what it was.
+    /// Changes the handle of that node and number, which is looked for in its likely place and at
+    /// the hint first, and tells what it was.
     #[inline]
     pub fn change_of(&mut self, entry: Entry, hint: usize) -> Option<Entry>
         ensures found { result ≡ handle_of self.old entry.node entry.number }
@@ -167,7 +193,7 @@ impl Table {
         ensures unchanged { result ≡ None → self.new ≡ self.old }
         ensures sound { IsSound self.old }
     {
-        let at = place_of(&self.places, entry.number, hint)?;
+        let at = place_of(&self.places, entry.number, self.likely(entry.number), hint)?;
         let old = self.places[at]?;
         if old.node != entry.node {
             return None;

@@ -2,7 +2,7 @@ use Rattle.std.proofs.Common.{◌≡◌, ℕ, Option, Some, None, IfSome, sym, �
 use Rattle.iox_handles.specs.Places.{has_at, is_numbered}
 use Rattle.std.specs.Prelude.{position}
 use Rattle.iox_handles.proofs.PlaceLemmas.{found_there, not_found}
-use Rattle.iox_handles.proofs.places.place_of.Goals as goal
+use Rattle.iox_handles.proofs.places.place_in.Goals as goal
 
 pub returns-clause-found : goal.returns-clause-found
 returns-clause-found c = by_case c.first_of.result (sym c.first_of.ensures)
