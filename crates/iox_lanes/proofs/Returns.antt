@@ -1,9 +1,10 @@
 -- On which lanes something is left to get back.
 use Rattle.std.proofs.Common.{◌≡◌, ◌<◌, ◌≤◌, ◌+◌, ℕ, zero, suc, true, false, cond, List, [], ◌∷◌, length, get_or, slice_set, Some, None, refl, ap, ◌∙◌, arith}
-use Rattle.std.proofs.lemmas.Bool.{false≢true}
+use Rattle.std.proofs.lemmas.Bool.{false≢true, ltb-true, ltb-false}
+use Rattle.std.specs.Prelude.{Bool, nat_lt}
 use Rattle.std.specs.List.{position_from}
 use Rattle.iox_lanes.specs.Lanes.{LaneState, has_returned}
-use Rattle.iox_lanes.specs.Pipes.{NoneToGetBelow, has_returned_at}
+use Rattle.iox_lanes.specs.Pipes.{NoneToGetBelow, NoneToGetFrom, has_returned_at}
 
 -- ---- a change of one lane
 
@@ -32,16 +33,47 @@ pub none_below : (n m : ℕ) (lanes : List LaneState) (i : ℕ) (l' : LaneState)
     → NoneToGetBelow m (slice_set lanes i l')
 none_below n m lanes i l' none a b k c = below_at lanes i k l' (omega (arith, b, c)) (none k (omega (arith, a, c)))
 
-pub ruleset kept = (still_none, none_below)
+-- where nothing is given back on the lane, nothing more is left to get back
+pub still_none_from : (n : ℕ) (lanes : List LaneState) (i : ℕ) (l l' : LaneState) → NoneToGetFrom n lanes → l ≡ get_or lanes i l
+    → (has_returned l ≡ false → has_returned l' ≡ false) → NoneToGetFrom n (slice_set lanes i l')
+still_none_from n lanes i l l' none e f k b = kept_at lanes i k l l' e f (none k b)
+
+past_at : (lanes : List LaneState) (i k : ℕ) (l' : LaneState) → i < k
+    → has_returned_at lanes k ≡ false → has_returned_at (slice_set lanes i l') k ≡ false
+past_at [] i k l' b h = h
+past_at (x ∷ xs) i zero l' b h = absurd (omega (arith, b))
+past_at (x ∷ xs) zero (suc k) l' b h = h
+past_at (x ∷ xs) (suc i) (suc k) l' b h = past_at xs i k l' (omega (arith, b)) h
+
+-- past the lane nothing changes
+pub none_past : (n m : ℕ) (lanes : List LaneState) (i : ℕ) (l' : LaneState) → NoneToGetFrom n lanes → n ≤ m → i < m
+    → NoneToGetFrom m (slice_set lanes i l')
+none_past n m lanes i l' none a b k c = past_at lanes i k l' (omega (arith, b, c)) (none k (omega (arith, a, c)))
+
+-- past the last lane is none
+pub none_past_last : (lanes : List LaneState) → NoneToGetFrom (length lanes) lanes
+none_past_last [] k b = refl
+none_past_last (x ∷ xs) zero b = absurd (omega (arith, b))
+none_past_last (x ∷ xs) (suc k) b = none_past_last xs k (omega (arith, b))
+
+pub ruleset kept = (still_none, none_below, still_none_from, none_past)
 
 -- ---- the lowest of them
 
-none_from : (lanes : List LaneState) (n m : ℕ) → NoneToGetBelow m lanes → length lanes ≤ m → position_from has_returned n lanes ≡ None
-none_from [] n m none h = refl
-none_from (x ∷ xs) n zero none h = absurd (omega (arith, h))
-none_from (x ∷ xs) n (suc m) none h =
-    ap (λ b. cond b (Some n) (position_from has_returned (n + 1) xs)) (none 0 (omega arith))
-    ∙ none_from xs (n + 1) m (λ k b. none (suc k) (omega (arith, b))) (omega (arith, h))
+-- nothing is left on any lane
+none_at : (lanes : List LaneState) (m t : ℕ) → NoneToGetBelow m lanes → NoneToGetFrom t lanes → t ≤ m
+    → (k : ℕ) → has_returned_at lanes k ≡ false
+none_at lanes m t below from h k = by_case (nat_lt k m) refl
+  where
+    by_case : (b : Bool) → nat_lt k m ≡ b → has_returned_at lanes k ≡ false
+    by_case true e = below k (ltb-true k m e)
+    by_case false e = from k (omega (arith, h, ltb-false k m e))
+
+none_from : (lanes : List LaneState) (n : ℕ) → ((k : ℕ) → has_returned_at lanes k ≡ false) → position_from has_returned n lanes ≡ None
+none_from [] n none = refl
+none_from (x ∷ xs) n none =
+    ap (λ b. cond b (Some n) (position_from has_returned (n + 1) xs)) (none 0)
+    ∙ none_from xs (n + 1) (λ k. none (suc k))
 
 first_from : (lanes : List LaneState) (n i : ℕ) → NoneToGetBelow i lanes → has_returned_at lanes i ≡ true
     → position_from has_returned n lanes ≡ Some (i + n)
@@ -52,11 +84,22 @@ first_from (x ∷ xs) n (suc i) none h =
     ∙ first_from xs (n + 1) i (λ k b. none (suc k) (omega (arith, b))) h
     ∙ ap (λ (k : ℕ). Some k) (omega arith)
 
-pub none_to_get : (lanes : List LaneState) (m : ℕ) → NoneToGetBelow m lanes → length lanes ≤ m → position_from has_returned 0 lanes ≡ None
-none_to_get lanes m none h = none_from lanes 0 m none h
+pub none_to_get : (lanes : List LaneState) (m t : ℕ) → NoneToGetBelow m lanes → NoneToGetFrom t lanes → t ≤ m
+    → position_from has_returned 0 lanes ≡ None
+none_to_get lanes m t below from h = none_from lanes 0 (none_at lanes m t below from h)
+
+-- then nothing is left below any number
+pub none_below_any : (lanes : List LaneState) (m t n : ℕ) → NoneToGetBelow m lanes → NoneToGetFrom t lanes → t ≤ m
+    → NoneToGetBelow n lanes
+none_below_any lanes m t n below from h k b = none_at lanes m t below from h k
+
+-- nor from any on
+pub none_from_any : (lanes : List LaneState) (m t n : ℕ) → NoneToGetBelow m lanes → NoneToGetFrom t lanes → t ≤ m
+    → NoneToGetFrom n lanes
+none_from_any lanes m t n below from h k b = none_at lanes m t below from h k
 
 pub first_to_get : (lanes : List LaneState) (i : ℕ) → NoneToGetBelow i lanes → has_returned_at lanes i ≡ true
     → position_from has_returned 0 lanes ≡ Some i
 first_to_get lanes i none h = first_from lanes 0 i none h ∙ ap (λ (k : ℕ). Some k) (omega arith)
 
-pub ruleset to_get = (none_to_get, first_to_get)
+pub ruleset to_get = (none_to_get, first_to_get, none_below_any, none_from_any)

@@ -1,7 +1,7 @@
 -- What is so of a lane that is looked at is so of the lane of that number.
-use Rattle.std.specs.Prelude.{◌≡◌, ℕ, zero, suc, ◌<◌, ◌≤◌, List, [], ◌∷◌, length, Option, Some, None, slice_get}
+use Rattle.std.specs.Prelude.{◌≡◌, ℕ, zero, suc, ◌≤◌, List, [], ◌∷◌, length, Some, slice_get}
 use Rattle.std.specs.Option.{option_map_or}
-use Rattle.std.proofs.Common.{sym, ap, subst, ◌∙◌, arith, get_or}
+use Rattle.std.proofs.Common.{ap, subst, ◌∙◌, arith, get_or}
 use Rattle.std.proofs.lemmas.Option.{none-some}
 use Rattle.iox_lanes.specs.Lanes.{IsSound, LaneState}
 use Rattle.iox_lanes.specs.Pipes.{IsSoundAt, PipeState}

@@ -91,3 +91,12 @@ ends wanted labels lane first now i waits c h =
       sym (c.says ∙ ap (λ ps. visits_from wanted labels lane ps waits) none),
       sym (c.leaves ∙ ap (λ ps. take i now ++ all_visited wanted labels lane ps) none ∙ append-nil (take i now) ∙ take_all now i h),
     )
+
+-- where there is no pipe, nothing comes
+pub no_visits : (wanted : Wanted) (labels : LabelsByPlace) (lane : ℕ) (ps : List PipeState) → length ps ≡ 0 → Nothing ≡ all_visits wanted labels lane ps
+no_visits wanted labels lane ps none = (ends wanted labels lane ps ps 0 false (begins wanted labels lane ps) (omega (arith, none))).0
+
+pub none_visited : (wanted : Wanted) (labels : LabelsByPlace) (lane : ℕ) (ps : List PipeState) → length ps ≡ 0 → ps ≡ all_visited wanted labels lane ps
+none_visited wanted labels lane ps none = (ends wanted labels lane ps ps 0 false (begins wanted labels lane ps) (omega (arith, none))).1
+
+pub ruleset none_comes = (no_visits, none_visited)

@@ -1,5 +1,5 @@
 -- All lanes from one port to another, as callers see them.
-use Rattle.std.specs.Prelude.{◌≡◌, ◌<◌, ℕ, Bool, false, List, Option, Some, slice_get, slice_set, replicate}
+use Rattle.std.specs.Prelude.{◌≡◌, ◌<◌, ◌≤◌, ℕ, Bool, false, List, Option, Some, slice_get, slice_set, replicate}
 use Rattle.std.specs.List.{list_any, position_from}
 use Rattle.std.specs.Option.{option_map_or}
 use Rattle.iox_model.specs.declared.way.RequestState.{RequestState}
@@ -76,3 +76,7 @@ has_returned_at lanes k = option_map_or has_returned (slice_get lanes k) false
 -- on no lane below that number is anything left to get back
 abbrev pub NoneToGetBelow : ℕ → List LaneState → Type 0
 NoneToGetBelow n lanes = (k : ℕ) → k < n → has_returned_at lanes k ≡ false
+
+-- on no lane from that number on is anything left to get back
+abbrev pub NoneToGetFrom : ℕ → List LaneState → Type 0
+NoneToGetFrom n lanes = (k : ℕ) → n ≤ k → has_returned_at lanes k ≡ false

@@ -1,5 +1,5 @@
 //! All lanes from one port to another.
-ghost use Rattle.std.specs.Prelude.{◌≡◌, ◌+◌, ◌-◌, ◌^◌, ◌<◌, IfOk, None, false, length, replicate, slice_get, take, true};
+ghost use Rattle.std.specs.Prelude.{◌≡◌, ◌+◌, ◌-◌, ◌^◌, ◌<◌, ◌≤◌, IfOk, None, false, length, replicate, slice_get, take, true};
 ghost use Rattle.iox_lanes.specs.Lanes.{offered, empty_lane, has_room, has_waiting, is_full, is_taken, oldest, released, without_oldest, without_returned, without_taken};
 ghost use Rattle.iox_lanes.specs.Pipes.{IsSoundAt, NoneToGetBelow, PipeState, closed, has_returned_at, has_waiting_on_any, hinted, lane_to_get, new_pipe, on_lane, opened, with_lane};
 ghost use Rattle.iox_lanes.specs.Searches.{state_on};
@@ -25,10 +25,13 @@ pub struct Pipe {
     states: Vec<RequestState>,
     // on no lane below is anything left to get back
     none_below: usize,
+    // and on none from there on
+    none_from: usize,
 }
 
 impl Model for Pipe {
-    ghost use Rattle.iox_lanes.specs.Pipes.{NoneToGetBelow, PipeState};
+    ghost use Rattle.std.specs.Prelude.{length, ◌≤◌};
+    ghost use Rattle.iox_lanes.specs.Pipes.{NoneToGetBelow, NoneToGetFrom, PipeState};
 
     ghost Value = { PipeState };
 
@@ -38,7 +41,8 @@ impl Model for Pipe {
       states = p.states.items;
     } };
 
-    ghost invariant = { λ p. NoneToGetBelow p.none_below p.lanes.items };
+    ghost invariant = { λ p. NoneToGetBelow p.none_below p.lanes.items
+        × NoneToGetFrom p.none_from p.lanes.items × (p.none_from ≤ length p.lanes.items) };
 }
 
 fn new_lanes(
@@ -58,19 +62,21 @@ fn new_lanes(
     Ok(lanes)
 }
 
-/// The first lane from there on on which something is left to get back, or a number past the last.
-fn next_to_get(lanes: &[Lane], from: usize) -> usize
-    requires { NoneToGetBelow from lanes.now }
+/// The first lane between those numbers on which something is left to get back, or a number past
+/// the last of them.
+fn next_to_get(lanes: &[Lane], from: usize, to: usize) -> usize
+    requires below { NoneToGetBelow from lanes.now }
+    requires within { to ≤ length lanes.now }
     ensures none { NoneToGetBelow result lanes.now }
-    ensures found { result < length lanes.now → has_returned_at lanes.now result ≡ true }
+    ensures found { result < to → has_returned_at lanes.now result ≡ true }
 {
-    for lane in from..lanes.len() {
+    for lane in from..to {
         if lanes[lane].has_returned() {
             return lane;
         }
     }
-    if from < lanes.len() {
-        return lanes.len();
+    if from < to {
+        return to;
     }
     from
 }
@@ -95,6 +101,7 @@ impl Pipe {
             lanes: new_lanes(alloc, lanes, pool, buffer, limit)?,
             states: vec![in alloc; RequestState::Closed; states]?,
             none_below: 0,
+            none_from: lanes,
         })
     }
 
@@ -215,11 +222,13 @@ impl Pipe {
         ensures lowest { result ≡ lane_to_get self.old }
         ensures unchanged { self.new ≡ self.old }
     {
-        let lane = next_to_get(&self.lanes, self.none_below);
-        self.none_below = lane;
-        if lane < self.lanes.len() {
+        let lane = next_to_get(&self.lanes, self.none_below, self.none_from);
+        if lane < self.none_from {
+            self.none_below = lane;
             return Some(lane);
         }
+        self.none_below = usize::MAX;
+        self.none_from = 0;
         None
     }
 
@@ -234,6 +243,7 @@ impl Pipe {
     {
         if lane < self.lanes.len() {
             self.none_below = self.none_below.min(lane);
+            self.none_from = self.none_from.max(lane + 1);
             let l = &mut self.lanes[lane];
             return visit_lane(l, wanted, labels, &self.states);
         }
@@ -248,7 +258,9 @@ impl Pipe {
     {
         if lane < self.lanes.len() {
             let lower = self.none_below.min(lane);
+            let upper = self.none_from.max(lane + 1);
             self.none_below = lower;
+            self.none_from = upper;
             return self.lanes[lane].release(place);
         }
         false
@@ -275,8 +287,10 @@ impl Pipe {
         ensures left { self.new
             ≡ record (self.old) { lanes = take (length self.old.lanes - 1) self.old.lanes } }
     {
+        let last = self.lanes.pop();
         self.none_below = 0;
-        self.lanes.pop()
+        self.none_from = self.lanes.len();
+        last
     }
 
     // ---- the states of requests
