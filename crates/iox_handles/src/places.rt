@@ -40,9 +40,7 @@ pub fn place_of(places: &[Option<Entry>], number: u64, likely: usize, hint: usiz
     place_in(places, number, hint)
 }
 
-/// The same, where it is not in the likely place. It is rare, so it is a call of its own.
-#[cold]
-#[inline(never)]
+/// The same, where it is not in the likely place.
 fn place_in(places: &[Option<Entry>], number: u64, hint: usize) -> Option<usize>
     ensures found { IfSome result (λ place. has_at number places.now place ≡ true) }
     ensures missing { result ≡ None → in_places places.now number ≡ None }

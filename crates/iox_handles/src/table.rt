@@ -1,5 +1,5 @@
 //! The table of a hub's handles.
-ghost use Rattle.std.specs.Prelude.{◌≡◌, ◌<◌, ◌≤◌, ◌+◌, ◌%◌, ◌^◌, IfOk, IsSome, None, OnErr, OnOk, Some, filter, length, map};
+ghost use Rattle.std.specs.Prelude.{◌≡◌, ◌<◌, ◌≤◌, ◌+◌, ◌-◌, ◌%◌, ◌^◌, ◌==◌, if◌then◌else◌, IfOk, IsSome, None, OnErr, OnOk, Some, filter, length, map};
 ghost use Rattle.iox_handles.specs.Least.{least};
 ghost use Rattle.iox_handles.specs.Tables.{IsSound, added, changed, count_of, handle_at, handle_of, handles_of, new_contents, removed};
 
@@ -14,6 +14,9 @@ use std::marker::Model;
 /// By so many remainders of their numbers it is kept where handles are.
 const REMAINDERS: usize = 64;
 
+/// Where no handle is.
+const NOWHERE: usize = usize::MAX;
+
 /// A hub's handles, by their numbers. Room for them is reserved before they come: only `new` and
 /// `reserve` take memory.
 #[derive(Drop)]
@@ -25,8 +28,9 @@ pub struct Table {
     room: usize,
     // Above the number of each handle.
     next: u64,
-    // By the remainder of its number, the place that a handle took last.
-    latest: [usize; REMAINDERS],
+    // By remainders of their numbers, where handles are likely to be: of two with one remainder,
+    // where the first of them is.
+    likely: [usize; REMAINDERS],
 }
 
 impl Model for Table {
@@ -54,6 +58,28 @@ fn remainder(number: u64) -> usize
     (number % REMAINDERS as u64) as usize
 }
 
+/// The place, where none is kept yet.
+#[inline]
+fn kept(place: usize, other: usize) -> usize
+    ensures { result ≡ (if place == 2 ^ 64 - 1 then other else place) }
+{
+    if place == NOWHERE {
+        return other;
+    }
+    place
+}
+
+/// No place, where that one is kept.
+#[inline]
+fn forgotten(place: usize, other: usize) -> usize
+    ensures { result ≡ (if place == other then 2 ^ 64 - 1 else place) }
+{
+    if place == other {
+        return NOWHERE;
+    }
+    place
+}
+
 impl Table {
     /// A table with room for so many handles.
     pub fn new(alloc: Global, room: usize) -> Result<Table, AllocError>
@@ -66,7 +92,7 @@ impl Table {
             free,
             room,
             next: 0,
-            latest: [0; REMAINDERS],
+            likely: [NOWHERE; REMAINDERS],
         })
     }
 
@@ -104,16 +130,17 @@ impl Table {
     {
         self.room -= 1;
         self.next = entry.number + 1;
+        let at = remainder(entry.number);
         match self.free.pop() {
             Some(place) => {
                 self.places[place] = Some(entry);
-                self.latest[remainder(entry.number)] = place;
+                self.likely[at] = kept(self.likely[at], place);
                 place
             }
             None => {
                 let place = self.places.len();
                 self.places.push_reserved(Some(entry));
-                self.latest[remainder(entry.number)] = place;
+                self.likely[at] = kept(self.likely[at], place);
                 place
             }
         }
@@ -121,8 +148,8 @@ impl Table {
 
     /// Where the handle of that number is likely to be: each search tests it.
     #[inline]
-    fn likely(&self, number: u64) -> usize {
-        self.latest[remainder(number)]
+    fn likely_place(&self, number: u64) -> usize {
+        self.likely[remainder(number)]
     }
 
     /// The handle of that number, which is looked for in its likely place and at the hint first.
@@ -130,7 +157,7 @@ impl Table {
         ensures found { result ≡ handle_at self.now number }
         ensures sound { IsSound self.now }
     {
-        let place = place_of(&self.places, number, self.likely(number), hint)?;
+        let place = place_of(&self.places, number, self.likely_place(number), hint)?;
         self.places[place]
     }
 
@@ -142,8 +169,10 @@ impl Table {
         ensures gone { handle_at self.new number ≡ None }
         ensures unchanged { result ≡ None → self.new ≡ self.old }
     {
-        let place = place_of(&self.places, number, self.likely(number), hint)?;
+        let place = place_of(&self.places, number, self.likely_place(number), hint)?;
         let entry = self.places[place];
+        let kept_at = remainder(number);
+        self.likely[kept_at] = forgotten(self.likely[kept_at], place);
         self.places[place] = None;
         self.free.push_reserved(place);
         self.room += 1;
@@ -157,7 +186,12 @@ impl Table {
         ensures changed { IsSome result → self.new ≡ changed self.old entry }
         ensures unchanged { result ≡ None → self.new ≡ self.old }
     {
-        let place = place_of(&self.places, entry.number, self.likely(entry.number), hint)?;
+        let place = place_of(
+            &self.places,
+            entry.number,
+            self.likely_place(entry.number),
+            hint,
+        )?;
         let old = self.places[place];
         self.places[place] = Some(entry);
         old
@@ -173,11 +207,13 @@ impl Table {
         ensures unchanged { result ≡ None → self.new ≡ self.old }
         ensures sound { IsSound self.old }
     {
-        let at = place_of(&self.places, number, self.likely(number), hint)?;
+        let at = place_of(&self.places, number, self.likely_place(number), hint)?;
         let entry = self.places[at]?;
         if entry.node != node {
             return None;
         }
+        let kept_at = remainder(number);
+        self.likely[kept_at] = forgotten(self.likely[kept_at], at);
         self.places[at] = None;
         self.free.push_reserved(at);
         self.room = self.room + 1;
@@ -193,7 +229,12 @@ impl Table {
         ensures unchanged { result ≡ None → self.new ≡ self.old }
         ensures sound { IsSound self.old }
     {
-        let at = place_of(&self.places, entry.number, self.likely(entry.number), hint)?;
+        let at = place_of(
+            &self.places,
+            entry.number,
+            self.likely_place(entry.number),
+            hint,
+        )?;
         let old = self.places[at]?;
         if old.node != entry.node {
             return None;

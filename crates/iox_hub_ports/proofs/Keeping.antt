@@ -1,8 +1,8 @@
 -- What is so of the ports of a hub stays so where one is changed, and where one comes or goes.
-use Rattle.std.specs.Prelude.{◌≡◌, ℕ, zero, suc, ◌+◌, ◌-◌, ◌<◌, ◌≤◌, Bool, true, false, ◌||◌, if◌then◌else◌, ◌==◌, List, [], ◌∷◌, ◌++◌, length, slice_get, slice_set, Option, Some, None, is_some, refl}
+use Rattle.std.specs.Prelude.{◌≡◌, ℕ, zero, suc, ◌+◌, ◌-◌, ◌<◌, ◌≤◌, max, Bool, true, false, ◌||◌, if◌then◌else◌, ◌==◌, List, [], ◌∷◌, ◌++◌, length, slice_get, slice_set, Option, Some, None, is_some, refl}
 use Rattle.std.specs.List.{remove}
 use Rattle.std.specs.Option.{option_map_or}
-use Rattle.std.proofs.Common.{sym, ap, subst, ◌∙◌, arith, get_or, true≢false}
+use Rattle.std.proofs.Common.{sym, ap, subst, ◌∙◌, arith, eqb-true, get_or}
 use Rattle.std.proofs.lemmas.Bool.{false≢true, or_parts}
 use Rattle.iox_model.specs.declared.way.Way.{Way}
 use Rattle.iox_model.specs.declared.way.RequestState.{RequestState}
@@ -48,11 +48,12 @@ length-numbers : (ports : List PortState) → length (numbers_of ports) ≡ leng
 length-numbers [] = refl
 length-numbers (p ∷ ps) = ap suc (length-numbers ps)
 
-pub IsPorts-kept : (xs ys : List PortState) (room cap cap' : ℕ) → IsPorts xs room cap → numbers_of ys ≡ numbers_of xs → cap' ≡ cap
-    → IsPorts ys room cap'
-IsPorts-kept xs ys room cap cap' i same e =
+pub IsPorts-kept : (xs ys : List PortState) (room last cap cap' : ℕ) → IsPorts xs room last cap → numbers_of ys ≡ numbers_of xs → cap' ≡ cap
+    → IsPorts ys room last cap'
+IsPorts-kept xs ys room last cap cap' i same e =
     let size : length ys ≡ length xs = sym (length-numbers ys) ∙ ap length same ∙ length-numbers xs in record {
       apart = subst (λ ns. AreDistinct ns) (sym same) i.apart;
+      none_above = λ n above. ap (has_number n) same ∙ i.none_above n above;
       fits = omega (arith, i.fits, size, e);
     }
 
@@ -61,11 +62,21 @@ set_number [] n p q e same = refl
 set_number (x ∷ xs) zero p q e same = ap (λ k. k ∷ numbers_of xs) (same ∙ ap (λ (r : PortState). r.number) e)
 set_number (x ∷ xs) (suc n) p q e same = ap (λ ks. x.number ∷ ks) (set_number xs n p q e same)
 
-pub IsPorts-set : (xs : List PortState) (n room cap : ℕ) (p q : PortState) → IsPorts xs room cap → p ≡ get_or xs n p → q.number ≡ p.number
-    → IsPorts (slice_set xs n q) room cap
-IsPorts-set xs n room cap p q i e same = IsPorts-kept xs (slice_set xs n q) room cap cap i (set_number xs n p q e same) refl
+pub IsPorts-set : (xs : List PortState) (n room last cap : ℕ) (p q : PortState) → IsPorts xs room last cap → p ≡ get_or xs n p → q.number ≡ p.number
+    → IsPorts (slice_set xs n q) room last cap
+IsPorts-set xs n room last cap p q i e same = IsPorts-kept xs (slice_set xs n q) room last cap cap i (set_number xs n p q e same) refl
 
 -- ---- a port comes
+
+max_below : (a b n : ℕ) → max a b < n → (a < n) × (b < n)
+max_below a b n h = (omega (arith, h), omega (arith, h))
+
+less_is_other : (a n : ℕ) → a < n → (a == n) ≡ false
+less_is_other a n h = step (a == n) refl
+  where
+    step : (b : Bool) → (a == n) ≡ b → b ≡ false
+    step true e = let same = eqb-true a n e in absurd (omega (arith, h, same))
+    step false e = refl
 
 behind : (ns : List ℕ) (m n : ℕ) → has_number m ns ≡ false → (n == m) ≡ false → has_number m (ns ++ n ∷ []) ≡ false
 behind [] m n e h = ap (λ b. b || false) h
@@ -87,12 +98,17 @@ length_behind : (ports : List PortState) (p : PortState) → length (ports ++ p 
 length_behind [] p = refl
 length_behind (q ∷ qs) p = ap suc (length_behind qs p)
 
-pub IsPorts-added : (xs ys : List PortState) (room cap cap' : ℕ) (p : PortState) → IsPorts xs room cap → 0 < room
-    → has_number p.number (numbers_of xs) ≡ false → ys ≡ xs ++ p ∷ [] → cap' ≡ cap → IsPorts ys (room - 1) cap'
-IsPorts-added xs ys room cap cap' p i some fresh is e =
+pub IsPorts-added : (xs ys : List PortState) (room last last' cap cap' : ℕ) (p : PortState) → IsPorts xs room last cap → 0 < room
+    → has_number p.number (numbers_of xs) ≡ false → ys ≡ xs ++ p ∷ [] → last' ≡ max last p.number → cap' ≡ cap → IsPorts ys (room - 1) last' cap'
+IsPorts-added xs ys room last last' cap cap' p i some fresh is most e =
     let size : length ys ≡ suc (length xs) = ap length is ∙ length_behind xs p in record {
       apart = subst (λ (ps : List PortState). AreDistinct (numbers_of ps)) (sym is)
           (subst (λ ns. AreDistinct ns) (sym (numbers_behind xs p)) (distinct_behind (numbers_of xs) p.number i.apart fresh));
+      none_above = λ n above.
+          let past = max_below last p.number n (subst (λ m. m < n) most above) in
+          ap (λ (ps : List PortState). has_number n (numbers_of ps)) is
+          ∙ ap (has_number n) (numbers_behind xs p)
+          ∙ behind (numbers_of xs) n p.number (i.none_above n past.0) (less_is_other p.number n past.1);
       fits = omega (arith, i.fits, size, e, some);
     }
 
@@ -127,18 +143,20 @@ one_less (x ∷ xs) n e = step (x.number == n) (one_less xs n) e
     step true rest h = refl
     step false rest h = ap suc (rest h)
 
-pub IsPorts-removed : (xs ys : List PortState) (room cap cap' n i : ℕ) → IsPorts xs room cap → place_in xs n ≡ Some i
-    → ys ≡ remove xs i → cap' ≡ cap → IsPorts ys (room + 1) cap'
-IsPorts-removed xs ys room cap cap' n i inv e is same =
+pub IsPorts-removed : (xs ys : List PortState) (room last cap cap' n i : ℕ) → IsPorts xs room last cap → place_in xs n ≡ Some i
+    → ys ≡ remove xs i → cap' ≡ cap → IsPorts ys (room + 1) last cap'
+IsPorts-removed xs ys room last cap cap' n i inv e is same =
     let gone : ys ≡ without_port xs n = is ∙ first_gone (λ p. p.number) xs n i e in
     let size : suc (length (without_port xs n)) ≡ length xs = one_less xs n (some_first (λ p. p.number) xs n 0 i e) in
     let length_is : length ys ≡ length (without_port xs n) = ap length gone in record {
       apart = subst (λ (ps : List PortState). AreDistinct (numbers_of ps)) (sym gone) (still_distinct xs n inv.apart);
+      none_above = λ m above.
+          ap (λ (ps : List PortState). has_number m (numbers_of ps)) gone ∙ still_off xs n m (inv.none_above m above);
       fits = omega (arith, inv.fits, size, length_is, same);
     }
 
-pub room_for_one : (xs : List PortState) (room cap n i : ℕ) → IsPorts xs room cap → place_in xs n ≡ Some i → suc room ≤ cap
-room_for_one xs room cap n i inv e =
+pub room_for_one : (xs : List PortState) (room last cap n i : ℕ) → IsPorts xs room last cap → place_in xs n ≡ Some i → suc room ≤ cap
+room_for_one xs room last cap n i inv e =
     let size : suc (length (without_port xs n)) ≡ length xs = one_less xs n (some_first (λ p. p.number) xs n 0 i e) in
     omega (arith, inv.fits, size)
 

@@ -5,3 +5,4 @@ pub mod Pushes
 pub mod Walking
 pub mod Keeping
 pub mod Sound
+pub mod Finding

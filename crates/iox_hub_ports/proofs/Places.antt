@@ -13,13 +13,17 @@ use Rattle.iox_lanes.specs.Visited.{all_visits}
 use Rattle.iox_tables.specs.HubStates.Tables.{PortState, port_in, pipes_of}
 use Rattle.iox_tables.specs.HubStates.Ways.{lanes_from, states_from, with_port}
 use Rattle.iox_tables.proofs.HubStates.Placing.{places_are_of_numbers}
-use Rattle.iox_hub_ports.specs.Ports.{info_of, lane_to_get_on, on_lane_from, on_way, place_in, state_from, state_of_way}
+use Rattle.iox_hub_ports.specs.Ports.{PortsState, info_of, lane_to_get_on, on_lane_from, on_way, place_in, state_from, state_of_way}
 use Rattle.iox_hub_ports.proofs.Firsts.{none_changed, none_first, some_first}
 
 pub get_is : {A : Type 0} (xs : List A) (i : ℕ) (x : A) → is_some (slice_get xs i) ≡ true → x ≡ get_or xs i x → slice_get xs i ≡ Some x
 get_is [] i x h e = absurd (false≢true h)
 get_is (y ∷ ys) zero x h e = ap (λ z. Some z) (sym e)
 get_is (y ∷ ys) (suc i) x h e = get_is ys i x h e
+
+-- that room, and these ports
+abbrev pub with_those : ℕ → List PortState → PortsState
+with_those room ports = record { room = room; ports = ports }
 
 -- what was found in a list that is the ports
 pub looked : (ports ds : List PortState) (n : ℕ) (o o' : Option ℕ) → ds ≡ ports → o ≡ place_in ds n → o ≡ o' → place_in ports n ≡ o'

@@ -2,7 +2,6 @@
 use Rattle.std.specs.Prelude.{◌≡◌, ℕ, zero, suc, ◌≤◌, Bool, true, false, if◌then◌else◌, List, [], ◌∷◌, Option, Some, None, slice_get, slice_set, refl}
 use Rattle.std.specs.Option.{option_map_or}
 use Rattle.std.proofs.Common.{sym, ap, ◌∙◌}
-use Rattle.std.proofs.lemmas.Option.{none-some}
 use Rattle.iox_lanes.specs.Incomings.{IncomingState, on_lane_of, with_lane_of}
 use Rattle.iox_lanes.specs.Lanes.{LaneState, delivered, has_room, is_full, offered, without_oldest}
 use Rattle.iox_lanes.specs.Pipes.{PipeState, on_lane, with_lane}

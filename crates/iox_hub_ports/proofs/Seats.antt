@@ -1,7 +1,7 @@
 -- The port in a place is the first of its number, where no two ports have one number.
-use Rattle.std.specs.Prelude.{◌≡◌, ℕ, zero, suc, ◌<◌, ◌≤◌, Bool, true, false, ◌||◌, if◌then◌else◌, ◌==◌, List, [], ◌∷◌, length, Option, Some, None, slice_get, slice_set, refl}
+use Rattle.std.specs.Prelude.{◌≡◌, ℕ, zero, suc, ◌<◌, ◌≤◌, Bool, false, if◌then◌else◌, ◌==◌, List, [], ◌∷◌, length, Option, Some, None, slice_get, slice_set, refl}
 use Rattle.std.specs.Option.{option_map_or}
-use Rattle.std.proofs.Common.{sym, ap, ◌∙◌, arith, get_or, true≢false}
+use Rattle.std.proofs.Common.{sym, ap, ◌∙◌, arith, get_or}
 use Rattle.std.proofs.lemmas.Option.{none-some}
 use Rattle.iox_model.specs.Maps.{AreDistinct, has_number}
 use Rattle.iox_laws.proofs.WeaveLaws.MapLemmas.{eqb-refl}
@@ -9,7 +9,7 @@ use Rattle.iox_lanes.specs.Lanes.{LaneState}
 use Rattle.iox_tables.specs.HubStates.Tables.{PortState, numbers_of, pipes_of, port_in}
 use Rattle.iox_tables.specs.HubStates.Ways.{lanes_from, with_port}
 use Rattle.iox_tables.proofs.HubStates.Keys.{flip}
-use Rattle.iox_hub_ports.specs.Ports.{on_lane_from, on_way_at, with_lane_at, with_lane_from}
+use Rattle.iox_hub_ports.specs.Ports.{lane_to_get_at, lane_to_get_on, on_lane_from, on_way_at, with_lane_at, with_lane_from}
 use Rattle.std.proofs.lemmas.Bool.{or_parts}
 
 pub get_in : {A : Type 0} (xs : List A) (i : ℕ) (x : A) → i < length xs → x ≡ get_or xs i x → slice_get xs i ≡ Some x
@@ -23,7 +23,7 @@ none_at (y ∷ ys) zero h = absurd (omega arith)
 none_at (y ∷ ys) (suc i) h = none_at ys i (omega arith)
 
 -- a port of the list has another number than one that no port has
-off : (xs : List PortState) (i : ℕ) (p : PortState) (n : ℕ) → has_number n (numbers_of xs) ≡ false → slice_get xs i ≡ Some p → (p.number == n) ≡ false
+pub off : (xs : List PortState) (i : ℕ) (p : PortState) (n : ℕ) → has_number n (numbers_of xs) ≡ false → slice_get xs i ≡ Some p → (p.number == n) ≡ false
 off [] i p n none e = absurd (none-some p e)
 off (x ∷ xs) zero p n none e =
     ap (λ (q : PortState). q.number == n) (sym (ap (λ (o : Option PortState). option_map_or (λ q. q) o x) e))
@@ -73,3 +73,16 @@ module _ (ports : List PortState) (i s lane : ℕ) where
 
   pub unchanged_past : (g : LaneState → LaneState) → length ports ≤ i → ports ≡ with_lane_at g ports i s lane
   unchanged_past g h = ap (λ o. option_map_or (λ q. with_port (λ r. with_lane_from g r s lane) ports q.number) o ports) (sym (none_at ports i h))
+
+-- ---- the lane on which the port in a place left something to get back
+
+pub lowest_at : (ports : List PortState) (i s : ℕ) (p : PortState) → AreDistinct (numbers_of ports) → i < length ports → p ≡ get_or ports i p
+    → lane_to_get_on (pipes_of p) s ≡ lane_to_get_at ports i s
+lowest_at ports i s p apart h e =
+    let at : slice_get ports i ≡ Some p = get_in ports i p h e in
+    ap (λ o. lane_to_get_on (option_map_or pipes_of o []) s) (sym (first_at ports i p apart at))
+    ∙ ap (λ o. option_map_or (λ (q : PortState). lane_to_get_on (option_map_or pipes_of (port_in ports q.number) []) s) o None) (sym at)
+
+pub lowest_past : (ports : List PortState) (i s : ℕ) → length ports ≤ i → None ≡ lane_to_get_at ports i s
+lowest_past ports i s h =
+    ap (λ o. option_map_or (λ (q : PortState). lane_to_get_on (option_map_or pipes_of (port_in ports q.number) []) s) o None) (sym (none_at ports i h))

@@ -1,18 +1,18 @@
 -- The connected ports of a hub, as callers see them.
-use Rattle.std.specs.Prelude.{ℕ, ◌+◌, ◌-◌, ◌≤◌, false, if◌then◌else◌, ◌==◌, List, [], ◌∷◌, ◌++◌, map, length, Option, None, slice_get}
+use Rattle.std.specs.Prelude.{◌≡◌, ℕ, ◌+◌, ◌-◌, ◌<◌, ◌≤◌, Bool, false, if◌then◌else◌, ◌==◌, List, [], ◌∷◌, ◌++◌, map, length, Option, None, slice_get}
 use Rattle.std.specs.List.{position_from}
 use Rattle.std.specs.Option.{option_map, option_map_or}
 use Rattle.iox_model.specs.declared.kind.Role.{Role}
 use Rattle.iox_model.specs.declared.way.Way.{Way}
 use Rattle.iox_model.specs.declared.way.RequestState.{RequestState}
 use Rattle.iox_model.specs.declared.way.RequestState.TheVariants.{Closed}
-use Rattle.iox_model.specs.Maps.{AreDistinct}
+use Rattle.iox_model.specs.Maps.{AreDistinct, has_number}
 use Rattle.iox_model.specs.Messages.{response_way}
 use Rattle.iox_model.specs.Settings.{same_role}
 use Rattle.iox_lanes.specs.Incomings.{IncomingState, connected}
 use Rattle.iox_lanes.specs.Lanes.{LaneState, is_full, offered, oldest, without_oldest}
 use Rattle.iox_lanes.specs.Pipes.{PipeState, lane_to_get, with_lane, with_state}
-use Rattle.iox_tables.specs.HubStates.Tables.{PortState, numbers_of, pipe_from, pipes_of, port_in}
+use Rattle.iox_tables.specs.HubStates.Tables.{PortState, numbers_of, pipe_from, pipes_of, pipes_to, port_in}
 use Rattle.iox_tables.specs.HubStates.Ways.{lane_on, lanes_from, state_on, states_from, with_lane_on, with_pipe_of, with_pipes}
 use Rattle.iox_tables.specs.HubStates.Wirings.{numbers_of_role}
 use Rattle.iox_hub_ports.specs.declared.info.PortInfo.{PortInfo}
@@ -145,6 +145,12 @@ info_at ports place = option_map info_of (slice_get ports place)
 abbrev pub lane_to_get_on : List PipeState → ℕ → Option ℕ
 lane_to_get_on ps sender = option_map_or lane_to_get (pipe_from ps sender) None
 
+-- the lowest lane from the sender on which the port in that place left something to get back
+abbrev pub lane_to_get_at : List PortState → ℕ → ℕ → Option ℕ
+lane_to_get_at ports place sender =
+    option_map_or (λ p. lane_to_get_on (pipes_to ports p.number) sender) (slice_get ports place)
+    None
+
 -- ---- ways to, or from, all ports of one role
 
 -- the way of that lane from the sender to the receiver
@@ -192,7 +198,13 @@ pushed l k = offered (with_one_out l) k
 abbrev pub if_role : Role → (PortState → PortState) → PortState → PortState
 if_role role h p = if same_role p.role role then h p else p
 
--- No two ports have one number, and there is memory for those that may be added.
-pub record IsPorts (ports : List PortState) (room capacity : ℕ) : Type 0 where
+-- whether the port of that number is in the place
+abbrev pub is_at : ℕ → List PortState → ℕ → Bool
+is_at n ports place = option_map_or (λ p. p.number == n) (slice_get ports place) false
+
+-- No two ports have one number, none has a greater one than the last, and there is memory for those
+-- that may be added.
+pub record IsPorts (ports : List PortState) (room last capacity : ℕ) : Type 0 where
   pub apart : AreDistinct (numbers_of ports)
+  pub none_above : (n : ℕ) → last < n → has_number n (numbers_of ports) ≡ false
   pub fits : length ports + room ≤ capacity

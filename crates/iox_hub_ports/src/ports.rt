@@ -1,7 +1,7 @@
 //! The connected ports of a hub.
 #![tactic(auto, using(crate::proofs::Keeping::kept))]
 
-ghost use Rattle.std.specs.Prelude.{◌≡◌, ◌<◌, ◌^◌, ◌-◌, ◌+◌, IfOk, IsSome, OnErr, OnOk, None, false, length};
+ghost use Rattle.std.specs.Prelude.{◌≡◌, ◌<◌, ◌%◌, ◌^◌, ◌-◌, ◌+◌, IfOk, IfSome, IsSome, OnErr, OnOk, None, false, length};
 ghost use Rattle.std.specs.Option.{option_map_or};
 ghost use Rattle.iox_model.specs.Maps.{AreDistinct, has_number};
 ghost use Rattle.iox_lanes.specs.Incomings.{has_room_for};
@@ -10,8 +10,8 @@ ghost use Rattle.iox_lanes.specs.Visited.{all_visits};
 ghost use Rattle.iox_tables.specs.HubStates.Asks.{waits_for};
 ghost use Rattle.iox_tables.specs.HubStates.Receives.{visited_port};
 ghost use Rattle.iox_tables.specs.HubStates.Tables.{numbers_of, pipe_from, pipes_to, port_in};
-ghost use Rattle.iox_tables.specs.HubStates.Ways.{with_lane_on, with_port};
-ghost use Rattle.iox_hub_ports.specs.Ports.{info_at, info_in, no_ports, on_way, with_connected, with_loan_counted};
+ghost use Rattle.iox_tables.specs.HubStates.Ways.{with_lane_on, with_port, with_state_on};
+ghost use Rattle.iox_hub_ports.specs.Ports.{info_at, info_in, no_ports, on_way, place_in, with_connected, with_loan_counted};
 ghost use Rattle.iox_hub_ports.specs.Ports.{with_port_added, with_port_removed, with_ports, without_pipe_from, without_value};
 
 mod sender;
@@ -19,14 +19,17 @@ mod states;
 
 use crate::info::PortInfo;
 use crate::port::Port;
-use crate::steps::Release;
-use crate::walks::{on_lane_of, place_of};
+use crate::steps::{LaneStep, Release, StateStep};
+use crate::walks::{is_at, place_of};
 use iox_lanes::incoming::Visits;
 use iox_lanes::pipe::Pipe;
 use iox_lanes::wanted::{Labels, Wanted};
 use iox_model::way::Way;
 use std::alloc::{AllocError, Global};
 use std::marker::Model;
+
+/// By so many remainders of their numbers it is kept where ports are.
+const REMAINDERS: usize = 64;
 
 /// The connected ports of a hub, oldest first. Room for them is reserved before they come: only
 /// `new` and `reserve` take memory.
@@ -37,6 +40,10 @@ pub struct Ports {
     ports: Vec<Port>,
     // How many may be added.
     room: usize,
+    // No port has a greater number.
+    last: u64,
+    // By the remainder of its number, where a port is.
+    latest: [usize; REMAINDERS],
 }
 
 impl Model for Ports {
@@ -47,10 +54,65 @@ impl Model for Ports {
 
     ghost view = { λ s. record { room = s.room; ports = s.ports.items } };
 
-    ghost invariant = { λ s. IsPorts s.ports.items s.room (vec_capacity s.ports) };
+    ghost invariant = { λ s. IsPorts s.ports.items s.room s.last (vec_capacity s.ports) };
+}
+
+/// The remainder of a port's number.
+#[inline]
+fn remainder(number: u64) -> usize
+    ensures { result ≡ number % 64 }
+{
+    (number % REMAINDERS as u64) as usize
+}
+
+/// Where each port is, by the remainder of its number: of two with one remainder, the later one.
+fn latest_of(ports: &[Port]) -> [usize; REMAINDERS] {
+    let mut latest = [0; REMAINDERS];
+    for place in 0..ports.len() {
+        latest[remainder(ports[place].number())] = place;
+    }
+    latest
 }
 
 impl Ports {
+    /// The place of the port of that number. It is looked for where it is likely to be first.
+    #[inline]
+    pub(crate) fn place(&self, number: u64) -> Option<usize>
+        ensures first { result ≡ place_in self.now.ports number }
+        ensures within { IfSome result (λ place. place < length self.now.ports) }
+    {
+        let likely = self.latest[remainder(number)];
+        if is_at(&self.ports, likely, number) {
+            return Some(likely);
+        }
+        place_of(&self.ports, number)
+    }
+
+    /// Takes a step on the lane of a way.
+    #[inline]
+    pub(crate) fn on_lane_of<S: LaneStep>(&mut self, way: Way, step: &S) -> S::Answer
+        ensures told { result ≡ on_way (S.told step.now) (S.none step.now) self.old.ports way }
+        ensures changed { self.new
+            ≡ with_ports self.old (with_lane_on (S.changed step.now) self.old.ports way) }
+    {
+        match self.place(way.receiver) {
+            Some(place) => self.ports[place].on_lane(way.sender, way.lane as usize, step),
+            None => step.nothing(),
+        }
+    }
+
+    /// Takes a step on the request state of a way.
+    #[inline]
+    pub(crate) fn on_state_of<S: StateStep>(&mut self, way: Way, step: &S)
+        ensures { self.new
+            ≡ with_ports self.old (with_state_on (S.changed step.now) self.old.ports way) }
+    {
+        match self.place(way.sender) {
+            Some(place) => self.ports[place].on_state(way.receiver, way.lane as usize, step),
+            None => {}
+        }
+    }
+
     /// No port, and room for so many.
     pub fn new(alloc: Global, room: usize) -> Result<Ports, AllocError>
         ensures { IfOk result (λ ports. ports ≡ no_ports room) }
@@ -58,6 +120,8 @@ impl Ports {
         Ok(Ports {
             ports: Vec::with_capacity(alloc, room)?,
             room,
+            last: 0,
+            latest: [0; REMAINDERS],
         })
     }
 
@@ -98,7 +162,10 @@ impl Ports {
         requires fresh { has_number port.number (numbers_of self.old.ports) ≡ false }
         ensures { self.new ≡ with_port_added self.old port }
     {
+        let number = port.number();
         self.room -= 1;
+        self.last = self.last.max(number);
+        self.latest[remainder(number)] = self.ports.len();
         self.ports.push_reserved(port);
     }
 
@@ -108,11 +175,13 @@ impl Ports {
         ensures removed { IsSome result → self.new ≡ with_port_removed self.old number }
         ensures unchanged { result ≡ None → self.new ≡ self.old }
     {
-        match place_of(&self.ports, number) {
+        match self.place(number) {
             None => None,
             Some(place) => {
                 self.room += 1;
-                Some(self.ports.remove(place))
+                let port = self.ports.remove(place);
+                self.latest = latest_of(&self.ports);
+                Some(port)
             }
         }
     }
@@ -121,7 +190,10 @@ impl Ports {
     pub fn find(&self, number: u64) -> Option<PortInfo>
         ensures { result ≡ info_in self.now.ports number }
     {
-        match place_of(&self.ports, number) {
+        if number > self.last {
+            return None;
+        }
+        match self.place(number) {
             Some(place) => Some(self.ports[place].info()),
             None => None,
         }
@@ -144,7 +216,7 @@ impl Ports {
         ensures { self.new
             ≡ with_ports self.old (with_port with_loan_counted self.old.ports number) }
     {
-        match place_of(&self.ports, number) {
+        match self.place(number) {
             Some(place) => self.ports[place].count_loan(),
             None => {}
         }
@@ -154,7 +226,7 @@ impl Ports {
     pub fn release_value(&mut self, number: u64)
         ensures { self.new ≡ with_ports self.old (with_port without_value self.old.ports number) }
     {
-        match place_of(&self.ports, number) {
+        match self.place(number) {
             Some(place) => self.ports[place].release_value(),
             None => {}
         }
@@ -167,7 +239,7 @@ impl Ports {
         ensures { result
             ≡ option_map_or (λ p. waits_for p lane) (port_in self.now.ports number) false }
     {
-        match place_of(&self.ports, number) {
+        match self.place(number) {
             Some(place) => self.ports[place].has_waiting(lane as usize),
             None => false,
         }
@@ -180,7 +252,7 @@ impl Ports {
         ensures visited { self.new ≡ with_ports self.old
             (with_port (visited_port wanted (L.label_of labels.now) lane) self.old.ports number) }
     {
-        match place_of(&self.ports, number) {
+        match self.place(number) {
             Some(place) => self.ports[place].visit(lane as usize, wanted, labels),
             None => Visits::Nothing,
         }
@@ -192,7 +264,7 @@ impl Ports {
         ensures released { self.new
             ≡ with_ports self.old (with_lane_on (λ l. released l place) self.old.ports way) }
     {
-        on_lane_of(&mut self.ports, way, &Release { place })
+        self.on_lane_of(way, &Release { place })
     }
 
     // ---- connected senders
@@ -204,7 +276,7 @@ impl Ports {
         ensures connected { self.new ≡ with_ports self.old
             (with_port (λ p. with_connected p pipe) self.old.ports number) }
     {
-        match place_of(&self.ports, number) {
+        match self.place(number) {
             Some(place) => self.ports[place].connect(pipe),
             None => false,
         }
@@ -218,7 +290,7 @@ impl Ports {
         ensures disconnected { self.new ≡ with_ports self.old
             (with_port (λ p. without_pipe_from p sender) self.old.ports number) }
     {
-        match place_of(&self.ports, number) {
+        match self.place(number) {
             Some(place) => self.ports[place].disconnect(sender),
             None => None,
         }

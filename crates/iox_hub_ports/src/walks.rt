@@ -4,14 +4,13 @@ ghost use Rattle.std.specs.Vec.{vec_capacity};
 ghost use Rattle.iox_model.specs.Maps.{AreDistinct};
 ghost use Rattle.iox_model.specs.Settings.{same_role};
 ghost use Rattle.iox_tables.specs.HubStates.Tables.{numbers_of};
-ghost use Rattle.iox_tables.specs.HubStates.Ways.{with_lane_on, with_lanes_on, with_state_on, with_states_on};
-ghost use Rattle.iox_hub_ports.specs.Ports.{if_role, on_way, on_way_at, place_in, state_ways};
+ghost use Rattle.iox_tables.specs.HubStates.Ways.{with_lanes_on, with_states_on};
+ghost use Rattle.iox_hub_ports.specs.Ports.{if_role, is_at, on_way_at, place_in, state_ways};
 ghost use Rattle.iox_hub_ports.specs.Ports.{ways_from, with_lane_at, with_lane_from, with_state_from};
 
 use crate::port::Port;
 use crate::steps::{LaneStep, StateStep};
 use iox_model::kind::Role;
-use iox_model::way::Way;
 
 /// The place of the port of that number.
 pub fn place_of(ports: &[Port], number: u64) -> Option<usize>
@@ -19,6 +18,14 @@ pub fn place_of(ports: &[Port], number: u64) -> Option<usize>
     ensures within { IfSome result (λ place. place < length ports.now) }
 {
     ports.iter().position(|port| port.number() == number)
+}
+
+/// Whether the port of that number is in the place.
+#[inline]
+pub fn is_at(ports: &[Port], place: usize, number: u64) -> bool
+    ensures { result ≡ is_at number ports.now place }
+{
+    place < ports.len() && ports[place].number() == number
 }
 
 /// Whether two roles are one.
@@ -39,33 +46,6 @@ pub fn is_same_role(role: Role, other: Role) -> bool
 }
 
 // ---- one way
-
-/// Takes a step on the lane of a way.
-#[inline]
-pub fn on_lane_of<S: LaneStep>(ports: &mut Vec<Port>, way: Way, step: &S) -> S::Answer
-    ensures told { result ≡ on_way (S.told step.now) (S.none step.now) ports.old.items way }
-    ensures changed { ports.new.items ≡ with_lane_on (S.changed step.now) ports.old.items way }
-    ensures numbers { numbers_of ports.new.items ≡ numbers_of ports.old.items }
-    ensures capacity { vec_capacity ports.new ≡ vec_capacity ports.old }
-{
-    match place_of(ports, way.receiver) {
-        Some(place) => ports[place].on_lane(way.sender, way.lane as usize, step),
-        None => step.nothing(),
-    }
-}
-
-/// Takes a step on the request state of a way.
-#[inline]
-pub fn on_state_of<S: StateStep>(ports: &mut Vec<Port>, way: Way, step: &S)
-    ensures changed { ports.new.items ≡ with_state_on (S.changed step.now) ports.old.items way }
-    ensures numbers { numbers_of ports.new.items ≡ numbers_of ports.old.items }
-    ensures capacity { vec_capacity ports.new ≡ vec_capacity ports.old }
-{
-    match place_of(ports, way.sender) {
-        Some(place) => ports[place].on_state(way.receiver, way.lane as usize, step),
-        None => {}
-    }
-}
 
 /// Takes a step on the lane of that number, from the sender to the port in that place.
 #[inline]

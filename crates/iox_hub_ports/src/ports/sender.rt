@@ -5,11 +5,11 @@ ghost use Rattle.std.specs.Prelude.{◌≡◌, None, Some, false, slice_get, tru
 ghost use Rattle.iox_lanes.specs.Lanes.{IsSound, LaneState, has_room, is_full, offered, oldest, without_oldest, without_returned};
 ghost use Rattle.iox_tables.specs.HubStates.Tables.{PortState, pipes_to};
 ghost use Rattle.iox_tables.specs.HubStates.Ways.{lane_on, with_lane_on};
-ghost use Rattle.iox_hub_ports.specs.Ports.{lane_to_get_on, on_way, on_way_at, pushed, pushed_out, way_from, with_lane_at, with_ports};
+ghost use Rattle.iox_hub_ports.specs.Ports.{lane_to_get_at, lane_to_get_on, on_way, on_way_at, pushed, pushed_out, way_from, with_lane_at, with_ports};
 
 use crate::ports::Ports;
 use crate::steps::{Deliver, Evict, GetBack, Push};
-use crate::walks::{on_lane_at, on_lane_of, place_of};
+use crate::walks::on_lane_at;
 use iox_model::way::Way;
 
 impl Ports {
@@ -19,7 +19,7 @@ impl Ports {
         ensures lowest { result ≡ lane_to_get_on (pipes_to self.old.ports receiver) sender }
         ensures unchanged { self.new ≡ self.old }
     {
-        match place_of(&self.ports, receiver) {
+        match self.place(receiver) {
             Some(place) => self.ports[place].lane_to_get(sender),
             None => None,
         }
@@ -31,7 +31,7 @@ impl Ports {
         ensures got_back { self.new
             ≡ with_ports self.old (with_lane_on without_returned self.old.ports way) }
     {
-        on_lane_of(&mut self.ports, way, &GetBack)
+        self.on_lane_of(way, &GetBack)
     }
 
     /// Whether as many messages wait on the way as may.
@@ -39,7 +39,7 @@ impl Ports {
         ensures full { result ≡ on_way is_full true self.now.ports way }
         ensures sound { (l : LaneState) → lane_on self.now.ports way ≡ Some l → IsSound l }
     {
-        match place_of(&self.ports, way.receiver) {
+        match self.place(way.receiver) {
             Some(place) => self.ports[place].is_full(way.sender, way.lane as usize),
             None => true,
         }
@@ -51,7 +51,7 @@ impl Ports {
         ensures delivered { self.new
             ≡ with_ports self.old (with_lane_on (λ l. offered l place) self.old.ports way) }
     {
-        on_lane_of(&mut self.ports, way, &Deliver { place })
+        self.on_lane_of(way, &Deliver { place })
     }
 
     /// Pushes the oldest message of the way out, if any waits: it is its sender's again.
@@ -60,7 +60,7 @@ impl Ports {
         ensures evicted { self.new
             ≡ with_ports self.old (with_lane_on without_oldest self.old.ports way) }
     {
-        on_lane_of(&mut self.ports, way, &Evict)
+        self.on_lane_of(way, &Evict)
     }
 
     /// Puts a message last in line on the way; where as many wait as may, the oldest is pushed out
@@ -70,10 +70,22 @@ impl Ports {
         ensures pushed { self.new
             ≡ with_ports self.old (with_lane_on (λ l. pushed l place) self.old.ports way) }
     {
-        on_lane_of(&mut self.ports, way, &Push { place })
+        self.on_lane_of(way, &Push { place })
     }
 
     // ---- for each port in its place
+
+    /// The lowest lane from the sender on which the port in that place left something to get back,
+    /// if there is one.
+    pub fn lane_to_get_at(&mut self, at: usize, sender: u64) -> Option<usize>
+        ensures lowest { result ≡ lane_to_get_at self.old.ports at sender }
+        ensures unchanged { self.new ≡ self.old }
+    {
+        if at < self.ports.len() {
+            return self.ports[at].lane_to_get(sender);
+        }
+        None
+    }
 
     /// Gets back the oldest message of those that the port in that place gave back on the lane from
     /// the sender, if there is one.

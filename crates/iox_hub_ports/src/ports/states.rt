@@ -10,7 +10,7 @@ ghost use Rattle.iox_hub_ports.specs.Ports.{state_of_way, state_ways, with_ports
 
 use crate::ports::Ports;
 use crate::steps::{Close, Hint, Open};
-use crate::walks::{on_each_state, on_state_of, place_of};
+use crate::walks::on_each_state;
 use iox_model::kind::Role;
 use iox_model::way::{RequestState, Way};
 
@@ -19,7 +19,7 @@ impl Ports {
     pub fn state(&self, way: Way) -> RequestState
         ensures { result ≡ state_of_way self.now.ports way }
     {
-        match place_of(&self.ports, way.sender) {
+        match self.place(way.sender) {
             Some(place) => self.ports[place].state(way.receiver, way.lane),
             None => RequestState::Closed,
         }
@@ -30,7 +30,7 @@ impl Ports {
         ensures { self.new
             ≡ with_ports self.old (with_state_on (λ r. Named id false) self.old.ports way) }
     {
-        on_state_of(&mut self.ports, way, &Open { id });
+        self.on_state_of(way, &Open { id });
     }
 
     /// Closes the request on the way, if it is the open one.
@@ -38,7 +38,7 @@ impl Ports {
         ensures { self.new
             ≡ with_ports self.old (with_state_on (λ r. closed_for r id) self.old.ports way) }
     {
-        on_state_of(&mut self.ports, way, &Close { id });
+        self.on_state_of(way, &Close { id });
     }
 
     /// Says of the request on the way that its client lost interest, if it is the open one.
@@ -46,7 +46,7 @@ impl Ports {
         ensures { self.new
             ≡ with_ports self.old (with_state_on (λ r. hinted_for r id) self.old.ports way) }
     {
-        on_state_of(&mut self.ports, way, &Hint { id });
+        self.on_state_of(way, &Hint { id });
     }
 
     /// Opens the request on that lane of the client with each server.
