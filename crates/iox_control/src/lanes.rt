@@ -10,7 +10,7 @@ ghost use Rattle.iox_tables.specs.HubStates.Ends.{with_loan};
 ghost use Rattle.iox_tables.specs.HubStates.Releases.{with_value_released};
 ghost use Rattle.iox_tables.specs.HubStates.Tables.{pipes_to, port_in};
 ghost use Rattle.iox_tables.specs.HubStates.Wirings.{numbers_of_role};
-ghost use Rattle.iox_hub_ports.specs.Ports.{lane_to_get_on, on_way, on_way_at, pushed, pushed_out, with_lane_at};
+ghost use Rattle.iox_hub_ports.specs.Ports.{lane_to_get_at, lane_to_get_on, on_way, on_way_at, pushed, pushed_out, with_lane_at};
 ghost use Rattle.iox_control.specs.Controls.{with_ports, with_tables};
 
 use crate::control::Control;
@@ -60,6 +60,15 @@ impl Control {
     }
 
     // ---- for each port in its place
+
+    /// The lowest lane from the sender on which the port in that place left something to get back,
+    /// if there is one.
+    pub fn lane_to_get_at(&mut self, at: usize, sender: u64) -> Option<usize>
+        ensures lowest { result ≡ lane_to_get_at self.old.tables.ports at sender }
+        ensures unchanged { self.new ≡ self.old }
+    {
+        self.ports.lane_to_get_at(at, sender)
+    }
 
     /// Gets back the oldest message of those that the port in that place gave back on the lane from
     /// the sender, if there is one. Its slot stays as it is.

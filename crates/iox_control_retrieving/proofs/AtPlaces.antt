@@ -1,17 +1,17 @@
 -- Messages are got back from the port in a place: it is as on the way to that port.
-use Rattle.std.specs.Prelude.{◌≡◌, ℕ, List, [], ◌∷◌, Some, slice_get}
+use Rattle.std.specs.Prelude.{◌≡◌, ℕ, List, [], ◌∷◌, None, Some, slice_get}
 use Rattle.std.specs.Option.{option_map, option_map_or}
 use Rattle.std.proofs.Common.{sym, ap, ◌∙◌}
 use Rattle.std.proofs.lemmas.Option.{slice_get-map}
 use Rattle.iox_model.specs.declared.way.Way.{Way}
 use Rattle.iox_lanes.specs.Lanes.{LaneState, without_returned}
-use Rattle.iox_tables.specs.HubStates.Tables.{PortState, numbers_of}
+use Rattle.iox_tables.specs.HubStates.Tables.{PortState, numbers_of, pipes_to}
 use Rattle.iox_tables.specs.HubStates.Ways.{with_lane_on}
 use Rattle.iox_tables.specs.HubStates.Changes.{emptied_lane, with_lanes}
 use Rattle.iox_tables.proofs.HubBooks.Frames.{some_map}
 use Rattle.iox_hub_ports.proofs.Keeping.{lane_keeps, lanes_keep}
 use Rattle.iox_hub_ports.specs.declared.info.PortInfo.{PortInfo}
-use Rattle.iox_hub_ports.specs.Ports.{info_at, info_of, on_way, on_way_at, way_from, with_lane_at}
+use Rattle.iox_hub_ports.specs.Ports.{info_at, info_of, lane_to_get_at, lane_to_get_on, on_way, on_way_at, way_from, with_lane_at}
 use Rattle.iox_slots.specs.Pools.{with_slot}
 use Rattle.iox_slots.specs.Slots.{let_go}
 use Rattle.iox_control.specs.Controls.{ControlState, with_pools, with_ports, with_tables}
@@ -34,6 +34,13 @@ module _ (ports : List PortState) (at : ℕ) (w : Way) (there : IsInPlace ports 
   changed_there g =
       ap (λ o. option_map_or (λ (p : PortState). with_lane_on g ports (way_from w.sender w.lane p.number)) o ports) found.1
       ∙ ap (λ n. with_lane_on g ports (way_from w.sender w.lane n)) found.2
+
+-- the lane on which that port left something is the lowest to that number
+pub lowest_there : (ports : List PortState) (at n s : ℕ) → IsInPlace ports at n → lane_to_get_at ports at s ≡ lane_to_get_on (pipes_to ports n) s
+lowest_there ports at n s there =
+    let f = some_map (λ (p : PortState). p.number) (slice_get ports at) n (sym (slice_get-map (λ (p : PortState). p.number) ports at) ∙ there) in
+    ap (λ o. option_map_or (λ (p : PortState). lane_to_get_on (pipes_to ports p.number) s) o None) f.1
+    ∙ ap (λ m. lane_to_get_on (pipes_to ports m) s) f.2
 
 module _ (now mid new : ControlState) (at : ℕ) (w : Way) (there : IsInPlace now.tables.ports at w.receiver)
     (got : mid ≡ with_ports now (with_lane_at without_returned now.tables.ports at w.sender w.lane)) where

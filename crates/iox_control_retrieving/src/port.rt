@@ -27,7 +27,7 @@ fn retrieve_lanes(control: &mut Control, server: &PortInfo, at: usize, client: &
     ensures { GetsBack control.old
         (ways_to_client control.old.tables server.now.number client.now.number) control.new }
 {
-    while let Some(lane) = control.lane_to_get(server.number, client.number) {
+    while let Some(lane) = control.lane_to_get_at(at, server.number) {
         let way = Way {
             sender: server.number,
             receiver: client.number,
