@@ -12,7 +12,7 @@ use std::alloc::{AllocError, Global};
 use std::marker::Model;
 
 /// By so many remainders of their numbers it is kept where handles are.
-const REMAINDERS: usize = 64;
+const REMAINDERS: usize = 256;
 
 /// Where no handle is.
 const NOWHERE: usize = usize::MAX;
@@ -53,7 +53,7 @@ impl Model for Table {
 /// The remainder of a handle's number.
 #[inline]
 fn remainder(number: u64) -> usize
-    ensures { result ≡ number % 64 }
+    ensures { result ≡ number % 256 }
 {
     (number % REMAINDERS as u64) as usize
 }
@@ -148,7 +148,7 @@ impl Table {
 
     /// Where the handle of that number is likely to be: each search tests it.
     #[inline]
-    fn likely_place(&self, number: u64) -> usize {
+    fn guess(&self, number: u64) -> usize {
         self.likely[remainder(number)]
     }
 
@@ -157,7 +157,7 @@ impl Table {
         ensures found { result ≡ handle_at self.now number }
         ensures sound { IsSound self.now }
     {
-        let place = place_of(&self.places, number, self.likely_place(number), hint)?;
+        let place = place_of(&self.places, number, self.guess(number), hint)?;
         self.places[place]
     }
 
@@ -169,7 +169,7 @@ impl Table {
         ensures gone { handle_at self.new number ≡ None }
         ensures unchanged { result ≡ None → self.new ≡ self.old }
     {
-        let place = place_of(&self.places, number, self.likely_place(number), hint)?;
+        let place = place_of(&self.places, number, self.guess(number), hint)?;
         let entry = self.places[place];
         let kept_at = remainder(number);
         self.likely[kept_at] = forgotten(self.likely[kept_at], place);
@@ -186,12 +186,7 @@ impl Table {
         ensures changed { IsSome result → self.new ≡ changed self.old entry }
         ensures unchanged { result ≡ None → self.new ≡ self.old }
     {
-        let place = place_of(
-            &self.places,
-            entry.number,
-            self.likely_place(entry.number),
-            hint,
-        )?;
+        let place = place_of(&self.places, entry.number, self.guess(entry.number), hint)?;
         let old = self.places[place];
         self.places[place] = Some(entry);
         old
@@ -207,7 +202,7 @@ impl Table {
         ensures unchanged { result ≡ None → self.new ≡ self.old }
         ensures sound { IsSound self.old }
     {
-        let at = place_of(&self.places, number, self.likely_place(number), hint)?;
+        let at = place_of(&self.places, number, self.guess(number), hint)?;
         let entry = self.places[at]?;
         if entry.node != node {
             return None;
@@ -229,12 +224,7 @@ impl Table {
         ensures unchanged { result ≡ None → self.new ≡ self.old }
         ensures sound { IsSound self.old }
     {
-        let at = place_of(
-            &self.places,
-            entry.number,
-            self.likely_place(entry.number),
-            hint,
-        )?;
+        let at = place_of(&self.places, entry.number, self.guess(entry.number), hint)?;
         let old = self.places[at]?;
         if old.node != entry.node {
             return None;
