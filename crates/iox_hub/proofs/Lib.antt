@@ -11,6 +11,7 @@ pub mod MakingAsked
 pub mod MakingWords
 pub mod MakingFits
 pub mod MakingWhole
+pub mod MakingPools
 pub mod AskingLemmas
 pub mod ReleasingFits
 pub mod ReleasingWords

@@ -1,5 +1,5 @@
 -- A port is made in a hub: what is asked, what is answered, and what the hub is then.
-use Rattle.std.specs.Prelude.{◌≡◌, ℕ, ◌==◌, Bool, false, not, List, Option, Some, None, Result, Ok, Err, unwrap_or}
+use Rattle.std.specs.Prelude.{◌≡◌, ℕ, ◌==◌, Bool, false, not, List, Option, Some, None, Result, Ok, Err, max, min, unwrap_or}
 use Rattle.iox_types.specs.declared.identifiers.system_id.UniqueSystemId.{UniqueSystemId}
 use Rattle.iox_types.specs.declared.backpressure.AllocationStrategy.{AllocationStrategy}
 use Rattle.iox_model.specs.declared.kind.Role.{Role}
@@ -57,6 +57,12 @@ abbrev pub would_grow : HubState → Role → Options → Bool
 would_grow h role o =
     not (is_static (unwrap_or o.allocation (allocation_in h.control.tables.settings role)))
 
+-- By these answers of a closure, a port that needs so many messages at most has a pool of that size:
+-- what the closure answers for that number, raised to 1 and lowered to it.
+abbrev pub IsChosenBy : (ℕ → ℕ → Type 0) → ℕ → ℕ → Type 0
+IsChosenBy answers needed pool =
+    (n : ℕ) × answers needed n × (pool ≡ max 1 (min n needed))
+
 -- The port is not too large, and its messages do not grow.
 pub record IsAllowed (h : HubState) (role : Role) (o : Options) : Type 0 where
   pub small : (x : Given) → is_large (limits_of (given_by x h) h.control.tables) role (options_of o) ≡ false
@@ -76,6 +82,14 @@ IsWholeMaking h node role id o made h' =
     (x : Given)
     → IsHubCommand (state_of_hub x h) node (Create role id (options_of o))
     (reply_of_making role made) (state_of_hub x h')
+
+-- Where there is no memory, each port of each role is refused for that, whatever its options, and
+-- nothing changes.
+abbrev pub IsWithoutMemory : HubState → NotMade → Type 0
+IsWithoutMemory h reason =
+    (x : Given) (node : ℕ) (role : Role) (id : UniqueSystemId) (o : machine.Options)
+    → IsHubCommand (state_of_hub x h) node (Create role id o) (Refused (refusal_of role reason))
+    (state_of_hub x h)
 
 -- Tables, words and shapes are the same; at most there is more room for handles and ports.
 pub record StaysAs (old new : HubState) : Type 0 where

@@ -1,20 +1,22 @@
 //! Ports are made.
 ghost use Rattle.std.specs.Prelude.{ℕ, ◌≡◌, ◌<◌, ◌≤◌, ◌^◌, IfOk, IfSome, IsErr, OnErr, OnOk, true, vec_capacity};
+ghost use Rattle.iox_types.specs.Layouts.{as_usize};
 ghost use Rattle.iox_model.specs.declared.kind.Kind.{Kind};
-ghost use Rattle.iox_tables.specs.HubStates.States.{Given};
+ghost use Rattle.iox_model.specs.Makings.{worst_pool};
+ghost use Rattle.iox_tables.specs.HubStates.States.{Given, limits_of};
 ghost use Rattle.iox_tables.specs.HubLoans.Questions.{kind_of_role};
 ghost use Rattle.iox_slots.specs.Pools.{place_for_one};
 ghost use Rattle.iox_control_making.specs.Making.{IsAsked};
 ghost use Rattle.iox_hub.specs.Hubs.{HasValue, given_by};
 ghost use Rattle.iox_hub.specs.Keeping.{KeepsAll};
-ghost use Rattle.iox_hub.specs.Making.{AreWordsPut, IsAllowed, IsFormOf, IsWholeMaking, LeavesMessages, StaysAs};
+ghost use Rattle.iox_hub.specs.Making.{AreWordsPut, IsAllowed, IsFormOf, IsWholeMaking, IsWithoutMemory, LeavesMessages, StaysAs};
 ghost use Rattle.iox_hub.specs.Making.{options_of, shape_in, words_made};
 ghost use Rattle.iox_hub.specs.Sending.{HasNothing};
 ghost use Rattle.iox_hub.specs.Words.{all_carried, carried};
 
 use crate::hub::Hub;
 use crate::options::Options;
-use crate::pools::{Form, asked_of};
+use crate::pools::{Form, asked_of, worst_pool};
 use crate::words::PoolWords;
 use iox_control_making::{Asked, NotMade, make_port};
 use iox_model::kind::Role;
@@ -93,6 +95,26 @@ impl<Q: Payload, QH: Words, P: Payload, PH: Words> Hub<Q, QH, P, PH> {
             (options_of options) result }
     {
         asked_of(self.control.settings(), self.form(role), role, options)
+    }
+
+    /// The most messages that a port of that role needs, if a `usize` counts them: how many its pool
+    /// has where nothing is chosen.
+    pub fn worst_pool(&self, role: Role, options: Options) -> Option<usize>
+        ensures { (x : Given) → result
+            ≡ as_usize (worst_pool (limits_of (given_by x self.now) self.now.control.tables) role
+            (options_of options)) }
+    {
+        worst_pool(self.control.settings(), role, options)
+    }
+
+    /// Why no port is made where there is no memory.
+    pub fn without_memory(&self) -> NotMade
+        ensures { IsWithoutMemory self.now result }
+    {
+        if self.control.ports_made() >= 1 << 32 {
+            return NotMade::PortTag;
+        }
+        NotMade::DataSegment
     }
 
     /// The words of a new port of that role, with so many messages, each of so many elements.

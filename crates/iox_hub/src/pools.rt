@@ -83,7 +83,7 @@ fn loans_of_one(settings: Settings, options: Options) -> u64
 }
 
 /// The most messages that a port of that role needs.
-fn worst_pool(settings: Settings, role: Role, options: Options) -> Option<usize>
+pub(crate) fn worst_pool(settings: Settings, role: Role, options: Options) -> Option<usize>
     ensures { (x : Given) → result ≡ as_usize
         (worst_pool (limits_of x (no_ports (settings_of settings))) role (options_of options)) }
 {
@@ -94,7 +94,7 @@ fn worst_pool(settings: Settings, role: Role, options: Options) -> Option<usize>
 }
 
 /// The pool that was chosen, where so many messages are the most that are needed.
-fn chosen(worst: usize, pool: Option<u64>) -> usize
+pub(crate) fn chosen(worst: usize, pool: Option<u64>) -> usize
     ensures { result ≡ option_map_or (λ n. max 1 (min n worst)) pool worst }
 {
     match pool {

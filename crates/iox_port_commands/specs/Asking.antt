@@ -1,5 +1,5 @@
 -- The commands of the code as those of the machine.
-use Rattle.std.specs.Prelude.{◌≡◌, ℕ, Bool, true, false, List, flat_map, length}
+use Rattle.std.specs.Prelude.{ℕ, Bool, true, false, List, flat_map, length}
 use Rattle.std.specs.Option.{option_map}
 use Rattle.iox_model.specs.declared.command.PortCommand as the_command
 use Rattle.iox_model.specs.declared.command.PortCommand.TheVariants as commands
@@ -7,7 +7,6 @@ use Rattle.iox_model.specs.declared.command.PortOptions as the_options
 use Rattle.iox_model.specs.declared.kind.Role.TheVariants as roles
 use Rattle.iox_model.specs.Commands.{Options, Payload, PortCommand}
 use Rattle.iox_hub.specs.Lending.{payload_of}
-use Rattle.iox_hub.specs.declared.options.Options as hubs
 use Rattle.iox_port_commands.specs.declared.elements.Elements.{Elements}
 use Rattle.iox_port_commands.specs.declared.elements.Elements.TheVariants.{Requests, Responses}
 
@@ -29,12 +28,6 @@ options_for words o = record {
   loaned_responses = o.loaned_responses;
   handler = option_map words o.handler;
 }
-
--- Both options ask for ports of the same size.
-pub record HasSizeOf (o : hubs.Options) (p : Options) : Type 0 where
-  pub longest : p.max_slice_len ≡ o.max_slice_len
-  pub pool : p.pool ≡ o.pool
-  pub loans : p.loaned_responses ≡ o.loaned_responses
 
 -- a command as the machine has it
 abbrev pub command_for :

@@ -1,10 +1,9 @@
 //! The making of ports, by command.
-ghost use Rattle.std.specs.Prelude.{◌≡◌, IfOk, OnErr, false, true};
-ghost use Rattle.iox_model.specs.Commands as machine;
+ghost use Rattle.std.specs.Prelude.{◌≡◌, IfOk, OnErr, false};
 ghost use Rattle.iox_model.specs.Commands.{Create};
-ghost use Rattle.iox_hub.specs.Making.{StaysAs, options_of, would_grow};
+ghost use Rattle.iox_hub.specs.Making.{StaysAs, options_of};
 ghost use Rattle.iox_port_commands.specs.Applying.{IsReplied, LacksMemory};
-ghost use Rattle.iox_port_commands.specs.Asking.{HasSizeOf, options_for};
+ghost use Rattle.iox_port_commands.specs.Asking.{options_for};
 ghost use Rattle.iox_port_commands.specs.Telling.{tells_want};
 
 use crate::answers::{made, not_made};
@@ -13,7 +12,6 @@ use iox_model::command::PortOptions;
 use iox_model::kind::Role;
 use iox_model::reply::PortReply;
 use iox_store::Payload;
-use iox_types::AllocationStrategy;
 use iox_types::identifiers::{UniqueNodeId, UniqueSystemId};
 use iox_words::Words;
 use std::alloc::{AllocError, Global};
@@ -41,29 +39,6 @@ pub fn make_port<Q: Payload, QH: Words, P: Payload, PH: Words, C>(
     }
 }
 
-/// Makes no port of that role, and says why. Its options are those of each port of the same size.
-fn make_none<Q: Payload, QH: Words, P: Payload, PH: Words, C>(
-    hub: &mut Hub<Q, QH, P, PH>,
-    alloc: Global,
-    node: u64,
-    role: Role,
-    id: UniqueSystemId,
-    options: Options,
-) -> Result<PortReply<Vec<u64>, C>, AllocError>
-    requires { would_grow hub.old role options ≡ true }
-    ensures whole { IfOk result (λ reply. (o : machine.Options) → HasSizeOf options o
-        → IsReplied hub.old node (Create role id o) reply hub.new) }
-    ensures memory { IfOk result (λ reply. tells_want reply ≡ false) }
-    ensures wanting { OnErr result ((o : machine.Options) → HasSizeOf options o
-        → LacksMemory hub.old node (Create role id o) hub.new) }
-    ensures unchanged { OnErr result (StaysAs hub.old hub.new) }
-{
-    match hub.make_port(alloc, node, role, id, options) {
-        Ok(_) => unreachable!(),
-        Err(reason) => not_made(role, reason),
-    }
-}
-
 /// Makes a port of that role. A hub has no handlers: there is no memory for a port that has one.
 pub(crate) fn make<Q: Payload, QH: Words, P: Payload, PH: Words, H: Words, C>(
     hub: &mut Hub<Q, QH, P, PH>,
@@ -80,6 +55,9 @@ pub(crate) fn make<Q: Payload, QH: Words, P: Payload, PH: Words, H: Words, C>(
         (LacksMemory hub.old node (Create role id (options_for H.words options)) hub.new) }
     ensures unchanged { OnErr result (StaysAs hub.old hub.new) }
 {
+    if options.handler.is_some() {
+        return not_made(role, hub.without_memory());
+    }
     let asked = Options {
         max_slice_len: options.max_slice_len,
         pool: options.pool,
@@ -87,14 +65,5 @@ pub(crate) fn make<Q: Payload, QH: Words, P: Payload, PH: Words, H: Words, C>(
         allocation: options.allocation,
         loaned_responses: options.loaned_responses,
     };
-    let id = id.system_id();
-    if options.handler.is_none() {
-        return make_port(hub, alloc, node, role, id, asked);
-    }
-    // A port whose messages grow is refused for the same want of memory.
-    let growing = Options {
-        allocation: Some(AllocationStrategy::BestFit),
-        ..asked
-    };
-    make_none(hub, alloc, node, role, id, growing)
+    make_port(hub, alloc, node, role, id.system_id(), asked)
 }
