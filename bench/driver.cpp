@@ -9,6 +9,7 @@
     ROW(iox_robust_unique_index_set) ROW(iox_bit_set) ROW(iox_large_bit_set) ROW(iox_bit_set_all) \
     ROW(iox_counting_bit_set_all) ROW(iox_fixed_whole_calls) ROW(iox_fixed_overflowing_whole_calls) \
     ROW(iox_queue_machine) ROW(iox_cell_machine) ROW(iox_stored_steps) \
+    ROW(iox_container) ROW(iox_container_find) ROW(iox_container_state) \
     ROW(twin_boost_spsc_queue) ROW(twin_boost_fixed_spsc_queue) \
     ROW(twin_ring) ROW(twin_positions) ROW(twin_ring_by_calls) \
     ROW(twin_fixed_ring_by_calls) ROW(twin_fixed_boost_by_calls) \
@@ -16,7 +17,8 @@
     ROW(twin_sofi_full) ROW(twin_stack) ROW(twin_stack_window) \
     ROW(twin_owners) ROW(twin_bit_set) ROW(twin_large_bit_set) ROW(twin_bit_set_all) \
     ROW(twin_counting_bit_set_all) ROW(twin_fixed_whole_calls) ROW(twin_fixed_overflowing_whole_calls) \
-    ROW(twin_queue_machine) ROW(twin_cell_machine) ROW(twin_stored_steps)
+    ROW(twin_queue_machine) ROW(twin_cell_machine) ROW(twin_stored_steps) \
+    ROW(twin_container) ROW(twin_container_find) ROW(twin_container_state)
 #ifdef PEERS
 #define PEER_ROWS(ROW) \
     ROW(peer_ck_ring) ROW(peer_dpdk_ring) ROW(peer_fifo) ROW(peer_sofi) ROW(peer_sofi_full)

@@ -179,4 +179,54 @@ struct Owners {
     }
 };
 
+// Entries under handles that are never given twice; the lowest free slot is taken. It lacks a last ticket, the lock,
+// and owners whose entries are recovered: an owner stands in its entry alone.
+struct Container {
+    struct Entry {
+        uint64_t value, owner, ticket;
+        bool operator==(const Entry &other) const {
+            return value == other.value && owner == other.owner && ticket == other.ticket;
+        }
+    };
+    struct Handle { uint64_t container; size_t index; uint64_t ticket; };
+    using State = std::vector<std::optional<Entry>>;
+    uint64_t id, next = 0;
+    State slots;
+    Bits free;
+    Container(size_t capacity, uint64_t id) : id(id), slots(capacity), free(capacity) {
+        for (size_t index = 0; index < capacity; ++index) free.set(index);
+    }
+    std::optional<Handle> add(uint64_t value, uint64_t owner) {
+        auto index = free.reset_next();
+        if (!index) return std::nullopt;
+        slots[*index] = Entry{value, owner, next};
+        return Handle{id, *index, next++};
+    }
+    bool remove(const Handle &handle) {
+        if (handle.container != id || handle.index >= slots.size()) return false;
+        auto &slot = slots[handle.index];
+        if (!slot || slot->ticket != handle.ticket) return false;
+        slot = std::nullopt;
+        free.set(handle.index);
+        return true;
+    }
+    template <class F> std::optional<Handle> find(F accepts) const {
+        for (size_t index = 0; index < slots.size(); ++index) {
+            if (!slots[index]) continue;
+            Handle handle{id, index, slots[index]->ticket};
+            if (accepts(slots[index]->value, handle)) return handle;
+        }
+        return std::nullopt;
+    }
+    bool update(State &state) const {
+        bool changed = false;
+        for (size_t index = 0; index < slots.size(); ++index)
+            if (!(state[index] == slots[index])) {
+                state[index] = slots[index];
+                changed = true;
+            }
+        return changed;
+    }
+};
+
 } // namespace

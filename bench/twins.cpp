@@ -82,6 +82,13 @@ uint64_t bits(size_t capacity, uint64_t rounds) {
     return sum;
 }
 
+// A container of 128 slots of which the lowest 64 have entries.
+Container half_full() {
+    Container container(128, 1);
+    for (uint64_t value = 0; value < 64; ++value) container.add(value, 7);
+    return container;
+}
+
 } // namespace
 
 extern "C" {
@@ -232,6 +239,38 @@ uint64_t twin_stored_steps(uint64_t rounds) {
             if (answer.says == Says::Gives) sum += answer.value;
         }
     }
+    return sum;
+}
+
+uint64_t twin_container(uint64_t rounds) {
+    Container container = half_full();
+    uint64_t sum = 0;
+    for (uint64_t value = 0; value < rounds; ++value)
+        if (auto handle = container.add(value, 7)) {
+            sum += handle->index;
+            container.remove(*handle);
+        }
+    return sum;
+}
+uint64_t twin_container_find(uint64_t rounds) {
+    Container container = half_full();
+    uint64_t sum = 0;
+    for (uint64_t round = 0; round < rounds; ++round) {
+        uint64_t wanted = round % 64;
+        if (auto handle = container.find([&](uint64_t value, const Container::Handle &) { return value == wanted; }))
+            sum += handle->index + 1;
+    }
+    return sum;
+}
+uint64_t twin_container_state(uint64_t rounds) {
+    Container container = half_full();
+    Container::State state = container.slots;
+    uint64_t sum = 0;
+    for (uint64_t value = 0; value < rounds; ++value)
+        if (auto handle = container.add(value, 7)) {
+            if (container.update(state)) sum += handle->index;
+            container.remove(*handle);
+        }
     return sum;
 }
 

@@ -50,13 +50,22 @@ class Tree:
             return self.why_not_declared(crate, rest[1:], names)
         if part == "proofs" and rest[0][0].islower():
             return self.why_not_proof(crate, rest)
-        text = self.text(self.crates[crate] / part / f"{rest[0]}.antt")
-        if text is None:
+        found = self.module(crate, part, rest)
+        if found is None:
             seen = self.passed(crate, rest[0])
             return self.why_not(seen + rest[1:], names) if seen else f"no module {'.'.join(parts)}"
-        for name in names or rest[1:]:
-            if not re.search(rf"(?m)^\s*(?:abbrev |pub |record |data |use .*[{{ ,]|(?:[A-Z]\w* )+)*{re.escape(name)}(?=[\s:,}}]|$)", text):
+        text, inside = found
+        for name in names or inside:
+            if not re.search(rf"(?m)^\s*(?:abbrev |pub |mod |record |data |use .*[{{ ,]|(?:[A-Z]\w* )+)*{re.escape(name)}(?=[\s:,}}]|$)", text):
                 return f"{'.'.join(parts)} has no {name}"
+        return None
+
+    def module(self, crate, part, rest):
+        """The text of the deepest file of a path, and the parts of the path that are names in it; or None."""
+        for depth in range(len(rest), 0, -1):
+            text = self.text(self.crates[crate] / part / ("/".join(rest[:depth]) + ".antt"))
+            if text is not None:
+                return text, rest[depth:]
         return None
 
     def why_not_declared(self, crate, rest, names):
@@ -76,13 +85,15 @@ class Tree:
         return None
 
     def why_not_proof(self, crate, rest):
-        """The last part is a function of the file, of one below it, or of an `impl` that derives its name."""
+        """The last part is a function of the file, of one below it, or of an `impl` that derives its name.
+        Behind a type it may stand in any file of the crate, as an `impl` may."""
         rest = [p for p in rest if p not in MADE and p not in ("Answers", "Invariants")]
         for i in range(len(rest), -1, -1):
             text = self.source(crate, rest[:i]) if i or rest else None
             if text is not None:
-                below = self.crates[crate] / "src" / "/".join(rest[:i])
-                text += "".join(self.text(p) or "" for p in sorted(below.glob("*.rt")))
+                of_type = any(p[0].isupper() for p in rest[i:])
+                below = self.crates[crate] / "src" / ("" if of_type else "/".join(rest[:i]))
+                text += "".join(self.text(p) or "" for p in sorted(below.glob("**/*.rt" if of_type else "*.rt")))
                 gone = [p for p in rest[i:] if p[0].islower() and p != "fmt"
                         and not re.search(rf"\b(?:fn|const) {p}\b", text)]
                 return f"{crate}: no {gone[0]} for proofs {'/'.join(rest)}" if gone else None
@@ -112,7 +123,7 @@ class Tree:
                 continue
             there = self.source(at, rest)
             for name in names_of(use.group(2)):
-                if there is not None and not re.search(rf"\b{name.split('::')[0]}\b", there):
+                if there is not None and name != "self" and not re.search(rf"\b{name.split('::')[0]}\b", there):
                     self.said.append(f"{where}: {use.group(1)} has no {name}")
             if there is None and not re.search(rf"\b{rest[-1]}\b", self.source(at, rest[:-1]) or rest[-1]):
                 self.said.append(f"{where}: no source {use.group(1)}")
@@ -131,9 +142,11 @@ class Tree:
             if there is None:
                 self.said.append(f"{where}: no file {named.group(1)}")
                 continue
-            for old in re.findall(r"(?ms)^old: ?(.*?)^new:", piece):
-                if old.rstrip("\n") not in there:
+            # the pairs are replaced one after another
+            for old, new in re.findall(r"(?m)^old: ?(.*)\nnew: ?(.*)", piece):
+                if old not in there:
                     self.said.append(f"{where}: {named.group(1)} does not have what the edit replaces")
+                there = there.replace(old, new, 1)
 
 
 def check(root):

@@ -1,6 +1,6 @@
 -- The programs of a push and of a pop of a value of several words, access by access. `words` gives
 -- the words of a value, and `of_words` the value of words.
-use Rattle.std.specs.Prelude.{ℕ, Bool, true, false, ◌+◌, ◌==◌, ◌||◌, List, slice_index, slice_set, replicate, nat_le, if◌then◌else◌, Option, None}
+use Rattle.std.specs.Prelude.{ℕ, Bool, true, false, ◌+◌, ◌==◌, ◌||◌, List, slice_index, slice_set, replicate, nat_le, if◌then◌else◌, Option, Some, None}
 use Rattle.iox_steps.specs.declared.access.Access.{Access}
 use Rattle.iox_steps.specs.declared.access.Access.TheVariants.{Load, Store}
 use Rattle.iox_steps.specs.declared.access.Next.{Next}
@@ -61,6 +61,11 @@ pop_next of_words site (pop.LoadsWrite read) seen = if is_empty site read seen t
 pop_next of_words site (pop.LoadsWord read cell got loaded) seen =
     Goes (load_from site read cell (slice_set got loaded seen) (loaded + 1))
 pop_next of_words site (pop.StoresRead read got) seen = Ends (of_words got)
+
+-- how a program goes on that ended with this reply, or is at this place now
+abbrev pub goes_or_ends : {P R : Type 0} → Option R → P → Next P R
+goes_or_ends None place = Goes place
+goes_or_ends (Some reply) place = Ends reply
 
 -- the access that a look at fullness makes next
 abbrev pub full_look_access : CellSite → FullLook → Access

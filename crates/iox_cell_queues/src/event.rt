@@ -1,4 +1,6 @@
 //! What happens to a queue of values, and what its calls answer.
+ghost use Rattle.std.specs.Prelude.{◌≡◌};
+ghost use Rattle.iox_cell_queues.specs.CellEventLists.{told as told_of};
 
 /// What an access does to the queue, or sees there.
 #[derive(Clone, Copy, Debug, PartialEq, Eq)]
@@ -25,4 +27,15 @@ pub enum CellReply<T> {
     Full(bool),
     Popped(Option<T>),
     Empty(bool),
+}
+
+/// The event, if it is one.
+#[inline]
+pub(crate) fn told<T: Copy>(event: CellEvent<T>) -> Option<CellEvent<T>>
+    ensures { result ≡ told_of event }
+{
+    match event {
+        CellEvent::Quiet => None,
+        event => Some(event),
+    }
 }

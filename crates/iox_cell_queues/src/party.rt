@@ -1,13 +1,12 @@
 //! How a machine plays the parties of a queue of values.
 ghost use Rattle.std.specs.Prelude.{◌≡◌, ◌+◌, ◌^◌, ◌<◌, IfOk};
-ghost use Rattle.iox_cell_queues.specs.CellEventLists.{told as told_of};
 ghost use Rattle.iox_cell_queues.specs.CellParties.{cell_asks, cell_happens, cell_rests, CellLeads, CellBegins};
 ghost use Rattle.iox_cell_queues.specs.CellQueues.{AtRestAt, CellInvariant};
 ghost use Rattle.iox_cell_queues.specs.Cells.{size};
 ghost use Rattle.iox_cell_queues.specs.CellQueueLaws.{cell_stays_in, cell_keeps};
 ghost use Rattle.iox_cell_queues.specs.CellBeginLaws.{cell_starts};
 
-use crate::event::{CellEvent, CellReply};
+use crate::event::{CellEvent, CellReply, told};
 use crate::pop::CellPop;
 use crate::push::CellPush;
 use crate::queue::{CellCall, CellParty, CellSide};
@@ -108,21 +107,23 @@ impl<T: Words, const WIDTH: usize> MachineParty for CellParty<T, WIDTH> {
         }
     }
 
+    #[inline]
+    fn step(
+        &mut self,
+        words: &mut Vec<u64>,
+        events: &mut Vec<CellEvent<T>>,
+    ) -> Progress<CellReply<T>> {
+        match &mut self.side {
+            CellSide::Pusher(pushes) => pushes.step(self.site, words, events),
+            CellSide::Popper(pops) => pops.step(self.site, words, events),
+        }
+    }
+
     ghost stays_in = { cell_stays_in ⟦<T as Words>⟧ };
 
     ghost keeps = { cell_keeps ⟦<T as Words>⟧ };
 
     ghost starts = { cell_starts ⟦<T as Words>⟧ };
-}
-
-/// The event, if it is one.
-fn told<T: Words>(event: CellEvent<T>) -> Option<CellEvent<T>>
-    ensures { result ≡ told_of event }
-{
-    match event {
-        CellEvent::Quiet => None,
-        event => Some(event),
-    }
 }
 
 /// The two parties of a queue, both at rest.

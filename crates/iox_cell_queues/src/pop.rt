@@ -3,11 +3,11 @@ ghost use Rattle.std.specs.Prelude.{◌≡◌, ◌+◌, ◌^◌, ◌<◌, slice_
 ghost use Rattle.iox_cell_queues.specs.Cells.{size};
 ghost use Rattle.iox_cell_queues.specs.CellPrograms.{load_from as words_from, empty_look_access as look_access, empty_look_next as look_next};
 ghost use Rattle.iox_cell_queues.specs.CellReady.{IsPopReady};
-ghost use Rattle.iox_cell_queues.specs.CellEvents.{empty_look_event as look_moment, waiting_event as seen_waiting};
+ghost use Rattle.iox_cell_queues.specs.CellEvents.{empty_look_event as look_moment, waiting_event as seen_waiting, departed_as};
 
-use crate::event::CellEvent;
+use crate::event::{CellEvent, told};
 use crate::site::CellSite;
-use iox_steps::{Access, EmptyLook, Next};
+use iox_steps::{Access, EmptyLook, Next, perform, tell};
 use iox_words::Words;
 
 /// Where a pop is of a value of `WIDTH` words.
@@ -23,9 +23,13 @@ pub enum CellPop<const WIDTH: usize> {
 }
 
 impl<const WIDTH: usize> CellPop<WIDTH> {
-    ghost use Rattle.std.specs.Prelude.{◌≡◌, ◌+◌, ◌^◌, ◌<◌};
+    ghost use Rattle.std.specs.Prelude.{◌≡◌, ◌+◌, ◌^◌, ◌<◌, ◌++◌, length, vec_len};
+    ghost use Rattle.std.specs.Option.{option_to_list};
+    ghost use Rattle.std.specs.Vec.{vec_capacity};
+    ghost use Rattle.iox_steps.specs.Accesses.{IsWithin, seen_at, words_after};
     ghost use Rattle.iox_cell_queues.specs.Cells.{size};
-    ghost use Rattle.iox_cell_queues.specs.CellPrograms.{pop_access, pop_next};
+    ghost use Rattle.iox_cell_queues.specs.CellEventLists.{told as told_of};
+    ghost use Rattle.iox_cell_queues.specs.CellPrograms.{pop_access, pop_next, goes_or_ends};
     ghost use Rattle.iox_cell_queues.specs.CellReady.{IsPopReady, IsPopReadyOn};
     ghost use Rattle.iox_cell_queues.specs.CellEvents.{pop_event};
 
@@ -79,11 +83,82 @@ impl<const WIDTH: usize> CellPop<WIDTH> {
             CellPop::LoadsRead => CellEvent::Quiet,
             CellPop::LoadsWrite(read) => waiting_event(site, read, seen),
             CellPop::LoadsWord(_, _, _, _) => CellEvent::Quiet,
-            CellPop::StoresRead(_, got) => match T::of_words(&got) {
-                Some(value) => CellEvent::HandOut(value),
-                None => CellEvent::Quiet,
-            },
+            CellPop::StoresRead(_, got) => departed(T::of_words(&got)),
         }
+    }
+
+    /// Makes its next access, writes down its event, and goes on where it lies. It answers its
+    /// reply once it ended.
+    #[inline]
+    pub(crate) fn step<T: Words>(
+        &mut self,
+        site: CellSite,
+        words: &mut Vec<u64>,
+        events: &mut Vec<CellEvent<T>>,
+    ) -> Option<Option<T>>
+        requires in_memory { site.base + size site < 2 ^ 64 }
+        requires wide { WIDTH ≡ site.width }
+        requires ready { IsPopReady site self.old }
+        requires within { IsWithin 0 (length words.old.items) (pop_access site self.old) }
+        requires room { vec_len events.old < vec_capacity events.old }
+        ensures words { words.new.items ≡ words_after (pop_access site self.old) words.old.items }
+        ensures told { events.new.items ≡ events.old.items
+            ++ option_to_list (told_of (pop_event T.of_words site self.old
+            (seen_at (pop_access site self.old) words.old.items))) }
+        ensures next { pop_next T.of_words site self.old
+            (seen_at (pop_access site self.old) words.old.items) ≡ goes_or_ends result self.new }
+        ensures ready { IsPopReady site self.new }
+    {
+        match *self {
+            CellPop::LoadsRead => {
+                let read = perform(words, Access::Load(site.base + 1));
+                tell(events, None);
+                *self = CellPop::LoadsWrite(read);
+                None
+            }
+            CellPop::LoadsWrite(read) => {
+                let write = perform(words, Access::Load(site.base));
+                tell(events, told(waiting_event(site, read, write)));
+                if site.is_empty(read, write) {
+                    return Some(None);
+                }
+                *self = load_from(site, read, site.cell_at(read), [0; WIDTH], 0);
+                None
+            }
+            CellPop::LoadsWord(read, cell, _, loaded) => {
+                let seen = perform(words, Access::Load(cell + loaded));
+                tell(events, None);
+                if let CellPop::LoadsWord(_, _, got, _) = self {
+                    got[loaded] = seen;
+                }
+                if let CellPop::LoadsWord(_, _, _, count) = self {
+                    *count = loaded + 1;
+                }
+                if loaded + 1 >= site.width {
+                    if let CellPop::LoadsWord(_, _, got, _) = *self {
+                        *self = CellPop::StoresRead(read, got);
+                    }
+                }
+                None
+            }
+            CellPop::StoresRead(read, got) => {
+                perform(words, CellPop::StoresRead(read, got).access(site));
+                let out = T::of_words(&got);
+                tell(events, told(departed(out)));
+                Some(out)
+            }
+        }
+    }
+}
+
+/// The event of a value that leaves, if the words are those of a value.
+#[inline]
+fn departed<T: Words>(out: Option<T>) -> CellEvent<T>
+    ensures { result ≡ departed_as out }
+{
+    match out {
+        Some(value) => CellEvent::HandOut(value),
+        None => CellEvent::Quiet,
     }
 }
 

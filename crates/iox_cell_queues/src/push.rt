@@ -5,9 +5,9 @@ ghost use Rattle.iox_cell_queues.specs.CellPrograms.{store_from as words_from, f
 ghost use Rattle.iox_cell_queues.specs.CellReady.{IsPushReady};
 ghost use Rattle.iox_cell_queues.specs.CellEvents.{full_look_event as look_moment, room_event as seen_room};
 
-use crate::event::CellEvent;
+use crate::event::{CellEvent, told};
 use crate::site::CellSite;
-use iox_steps::{Access, FullLook, Next};
+use iox_steps::{Access, FullLook, Next, perform, tell};
 use iox_words::Words;
 
 /// Where a push is.
@@ -24,9 +24,13 @@ pub enum CellPush<T> {
 }
 
 impl<T: Words> CellPush<T> {
-    ghost use Rattle.std.specs.Prelude.{◌≡◌, ◌+◌, ◌^◌, ◌<◌};
+    ghost use Rattle.std.specs.Prelude.{◌≡◌, ◌+◌, ◌^◌, ◌<◌, ◌++◌, length, vec_len};
+    ghost use Rattle.std.specs.Option.{option_to_list};
+    ghost use Rattle.std.specs.Vec.{vec_capacity};
+    ghost use Rattle.iox_steps.specs.Accesses.{IsWithin, seen_at, words_after};
     ghost use Rattle.iox_cell_queues.specs.Cells.{size};
-    ghost use Rattle.iox_cell_queues.specs.CellPrograms.{push_access, push_next};
+    ghost use Rattle.iox_cell_queues.specs.CellEventLists.{told as told_of};
+    ghost use Rattle.iox_cell_queues.specs.CellPrograms.{push_access, push_next, goes_or_ends};
     ghost use Rattle.iox_cell_queues.specs.CellReady.{IsPushReady, IsPushReadyOn};
     ghost use Rattle.iox_cell_queues.specs.CellEvents.{push_event};
 
@@ -86,6 +90,67 @@ impl<T: Words> CellPush<T> {
             }
             CellPush::StoresWord(_, _, _, _) => CellEvent::Quiet,
             CellPush::StoresWrite(value, _) => CellEvent::Publish(value),
+        }
+    }
+
+    /// Makes its next access, writes down its event, and goes on where it lies. It answers its
+    /// reply once it ended.
+    #[inline]
+    pub(crate) fn step(
+        &mut self,
+        site: CellSite,
+        words: &mut Vec<u64>,
+        events: &mut Vec<CellEvent<T>>,
+    ) -> Option<bool>
+        requires in_memory { site.base + size site < 2 ^ 64 }
+        requires ready { IsPushReady site self.old }
+        requires within { IsWithin 0 (length words.old.items) (push_access T.words site self.old) }
+        requires room { vec_len events.old < vec_capacity events.old }
+        ensures words { words.new.items
+            ≡ words_after (push_access T.words site self.old) words.old.items }
+        ensures told { events.new.items ≡ events.old.items
+            ++ option_to_list (told_of (push_event site self.old
+            (seen_at (push_access T.words site self.old) words.old.items))) }
+        ensures next { push_next site self.old
+            (seen_at (push_access T.words site self.old) words.old.items)
+            ≡ goes_or_ends result self.new }
+        ensures ready { IsPushReady site self.new }
+    {
+        match self {
+            CellPush::LoadsWrite(value) => {
+                let value = *value;
+                let write = perform(words, Access::Load(site.base));
+                tell(events, None);
+                *self = CellPush::LoadsRead(value, write);
+                None
+            }
+            CellPush::LoadsRead(value, write) => {
+                let (value, write) = (*value, *write);
+                let place = CellPush::LoadsRead(value, write);
+                let read = perform(words, Access::Load(site.base + 1));
+                tell(events, told(place.event(site, read)));
+                if write == u64::MAX || site.is_full(read, write) {
+                    return Some(false);
+                }
+                *self = store_from(site, value, site.cell_at(write), write + 1, 0);
+                None
+            }
+            CellPush::StoresWord(value, cell, next, stored) => {
+                let place = *cell + *stored;
+                perform(words, Access::Store(place, word_of(*value, *stored)));
+                tell(events, None);
+                *stored += 1;
+                if *stored >= site.width {
+                    let (value, next) = (*value, *next);
+                    *self = CellPush::StoresWrite(value, next);
+                }
+                None
+            }
+            CellPush::StoresWrite(value, next) => {
+                perform(words, Access::Store(site.base, *next));
+                tell(events, Some(CellEvent::Publish(*value)));
+                Some(true)
+            }
         }
     }
 }

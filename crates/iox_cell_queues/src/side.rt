@@ -1,9 +1,9 @@
 //! The two parties of a queue of values, each at rest or inside one of its programs.
-use crate::event::{CellEvent, CellReply};
+use crate::event::{CellEvent, CellReply, told};
 use crate::pop::{CellPop, empty_look_access, empty_look_event, empty_look_next};
 use crate::push::{CellPush, full_look_access, full_look_event, full_look_next};
 use crate::site::CellSite;
-use iox_steps::{Access, EmptyLook, FullLook, Next, Progress};
+use iox_steps::{Access, EmptyLook, FullLook, Next, Progress, perform, tell};
 use iox_words::Words;
 
 /// Where the party is that pushes and looks at fullness.
@@ -23,8 +23,12 @@ pub enum CellPopping<const WIDTH: usize> {
 }
 
 impl<T: Words> CellPushing<T> {
-    ghost use Rattle.std.specs.Prelude.{◌≡◌, ◌+◌, ◌^◌, ◌<◌};
+    ghost use Rattle.std.specs.Prelude.{◌≡◌, ◌+◌, ◌^◌, ◌<◌, ◌++◌, length, vec_len};
+    ghost use Rattle.std.specs.Option.{option_to_list};
+    ghost use Rattle.std.specs.Vec.{vec_capacity};
+    ghost use Rattle.iox_steps.specs.Accesses.{IsWithin, seen_at, words_after};
     ghost use Rattle.iox_cell_queues.specs.Cells.{size};
+    ghost use Rattle.iox_cell_queues.specs.CellEventLists.{told as told_of};
     ghost use Rattle.iox_cell_queues.specs.CellSides.{pushing_access, pushing_after, pushing_progress, pushing_event};
     ghost use Rattle.iox_cell_queues.specs.CellReady.{IsPusherReady};
 
@@ -87,11 +91,61 @@ impl<T: Words> CellPushing<T> {
             CellPushing::Looks(look) => full_look_event(look, site, seen),
         }
     }
+
+    /// Makes its next access, writes down its event, and goes on where it lies.
+    #[inline]
+    pub(crate) fn step(
+        &mut self,
+        site: CellSite,
+        words: &mut Vec<u64>,
+        events: &mut Vec<CellEvent<T>>,
+    ) -> Progress<CellReply<T>>
+        requires in_memory { site.base + size site < 2 ^ 64 }
+        requires ready { IsPusherReady site self.old }
+        requires within { IsWithin 0 (length words.old.items)
+            (pushing_access T.words site self.old) }
+        requires room { vec_len events.old < vec_capacity events.old }
+        ensures words { words.new.items
+            ≡ words_after (pushing_access T.words site self.old) words.old.items }
+        ensures told { events.new.items ≡ events.old.items
+            ++ option_to_list (told_of (pushing_event site self.old
+            (seen_at (pushing_access T.words site self.old) words.old.items))) }
+        ensures site { self.new ≡ pushing_after site self.old
+            (seen_at (pushing_access T.words site self.old) words.old.items) }
+        ensures answer { result ≡ pushing_progress site self.old
+            (seen_at (pushing_access T.words site self.old) words.old.items) }
+        ensures ready { IsPusherReady site self.new }
+    {
+        match self {
+            CellPushing::AtRest => {
+                perform(words, Access::Local);
+                tell(events, None);
+                Progress::Going
+            }
+            CellPushing::Pushes(push) => match push.step(site, words, events) {
+                None => Progress::Going,
+                Some(room) => {
+                    *self = CellPushing::AtRest;
+                    Progress::Done(CellReply::Pushed(room))
+                }
+            },
+            CellPushing::Looks(look) => {
+                let look = *look;
+                let seen = perform(words, full_look_access(look, site));
+                tell(events, told(full_look_event(look, site, seen)));
+                self.advance(site, seen)
+            }
+        }
+    }
 }
 
 impl<const WIDTH: usize> CellPopping<WIDTH> {
-    ghost use Rattle.std.specs.Prelude.{◌≡◌, ◌+◌, ◌^◌, ◌<◌};
+    ghost use Rattle.std.specs.Prelude.{◌≡◌, ◌+◌, ◌^◌, ◌<◌, ◌++◌, length, vec_len};
+    ghost use Rattle.std.specs.Option.{option_to_list};
+    ghost use Rattle.std.specs.Vec.{vec_capacity};
+    ghost use Rattle.iox_steps.specs.Accesses.{IsWithin, seen_at, words_after};
     ghost use Rattle.iox_cell_queues.specs.Cells.{size};
+    ghost use Rattle.iox_cell_queues.specs.CellEventLists.{told as told_of};
     ghost use Rattle.iox_cell_queues.specs.CellSides.{popping_access, popping_after, popping_progress, popping_event};
     ghost use Rattle.iox_cell_queues.specs.CellReady.{IsPopperReady};
 
@@ -153,6 +207,52 @@ impl<const WIDTH: usize> CellPopping<WIDTH> {
             CellPopping::AtRest => CellEvent::Quiet,
             CellPopping::Pops(pop) => pop.event(site, seen),
             CellPopping::Looks(look) => empty_look_event(look, site, seen),
+        }
+    }
+
+    /// Makes its next access, writes down its event, and goes on where it lies.
+    #[inline]
+    pub(crate) fn step<T: Words>(
+        &mut self,
+        site: CellSite,
+        words: &mut Vec<u64>,
+        events: &mut Vec<CellEvent<T>>,
+    ) -> Progress<CellReply<T>>
+        requires in_memory { site.base + size site < 2 ^ 64 }
+        requires wide { WIDTH ≡ site.width }
+        requires ready { IsPopperReady site self.old }
+        requires within { IsWithin 0 (length words.old.items) (popping_access site self.old) }
+        requires room { vec_len events.old < vec_capacity events.old }
+        ensures words { words.new.items
+            ≡ words_after (popping_access site self.old) words.old.items }
+        ensures told { events.new.items ≡ events.old.items
+            ++ option_to_list (told_of (popping_event T.of_words site self.old
+            (seen_at (popping_access site self.old) words.old.items))) }
+        ensures site { self.new ≡ popping_after T.of_words site self.old
+            (seen_at (popping_access site self.old) words.old.items) }
+        ensures answer { result ≡ popping_progress T.of_words site self.old
+            (seen_at (popping_access site self.old) words.old.items) }
+        ensures ready { IsPopperReady site self.new }
+    {
+        match self {
+            CellPopping::AtRest => {
+                perform(words, Access::Local);
+                tell(events, None);
+                Progress::Going
+            }
+            CellPopping::Pops(pop) => match pop.step(site, words, events) {
+                None => Progress::Going,
+                Some(out) => {
+                    *self = CellPopping::AtRest;
+                    Progress::Done(CellReply::Popped(out))
+                }
+            },
+            CellPopping::Looks(look) => {
+                let look = *look;
+                let seen = perform(words, empty_look_access(look, site));
+                tell(events, told(empty_look_event(look, site, seen)));
+                self.advance(site, seen)
+            }
         }
     }
 }
