@@ -96,7 +96,7 @@ abbrev owned : UniqueSystemId → HubCommand → HubCommand
 owned own (Create role id o) = Create role own o
 owned own (Use call) = Use call
 
-known : (s s' : State) (node : ℕ) (own : UniqueSystemId) (c : HubCommand) (reply : Reply) → node_at s node ≡ Some (new_node node own)
+pub known : (s s' : State) (node : ℕ) (own : UniqueSystemId) (c : HubCommand) (reply : Reply) → node_at s node ≡ Some (new_node node own)
     → IsHubCommand s node (owned own c) reply s' → IsNodeCommand s node c reply s'
 known s s' node own (Create role id o) reply is making =
     subst

@@ -4,3 +4,6 @@ pub mod FirstStates
 pub mod Answering
 pub mod Telling
 pub mod Running
+pub mod Having
+pub mod Lacking
+pub mod Questions

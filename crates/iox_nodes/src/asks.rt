@@ -1,16 +1,42 @@
 //! What a service's nodes ask of its hub.
+ghost use Rattle.std.specs.Prelude.{◌≡◌, IfOk, OnErr};
+ghost use Rattle.iox_model.specs.declared.command.Command.TheVariants.{Port};
+ghost use Rattle.iox_model.specs.Handles.{has};
+ghost use Rattle.iox_nodes.specs.Memory.{IsAnsweredWithMemory, MayFindNoMemory, want_of};
 ghost use Rattle.iox_nodes.specs.Served.{IsPortAnswered};
 ghost use Rattle.iox_nodes.specs.Shown.{service_of};
+ghost use Rattle.iox_port_commands.specs.Asking.{is_making};
 
 use crate::asking::{asker, with_id};
 use crate::replying::reply_of;
 use crate::service::Service;
 use iox_model::command::PortCommand;
-use iox_model::reply::Reply;
-use iox_port_commands::{Elements, apply};
+use iox_model::kind::Kind;
+use iox_model::reply::{Refusal, Reply};
+use iox_port_commands::{Elements, try_apply};
 use iox_store::Payload;
 use iox_words::Words;
-use std::alloc::Global;
+use std::alloc::{AllocError, Global};
+
+/// Whether the command makes a port.
+pub(crate) fn is_making<P, H>(command: &PortCommand<P, H>) -> bool
+    ensures { result ≡ is_making command.now }
+{
+    matches!(
+        command,
+        PortCommand::Client { .. } | PortCommand::Server { .. }
+    )
+}
+
+/// How a command is refused where there is no memory for it: the making of a port, or a read.
+pub(crate) fn want_of<C>(making: bool) -> Refusal<C>
+    ensures { result ≡ want_of making }
+{
+    if making {
+        return Refusal::UnableToCreateDataSegment;
+    }
+    Refusal::WantOfMemory
+}
 
 impl<Q: Payload, QH: Words, P: Payload, PH: Words> Service<Q, QH, P, PH> {
     /// A node makes a port, or calls a port or a handle by its number. A port gets the id with
@@ -24,9 +50,39 @@ impl<Q: Payload, QH: Words, P: Payload, PH: Words> Service<Q, QH, P, PH> {
         ensures { IsPortAnswered Q.Element.words P.Element.words H.words (service_of self.old)
             command result (service_of self.new) }
     {
-        match self.members.living(asker(&command)) {
-            Err(refusal) => Reply::Refused(refusal),
-            Ok(id) => reply_of(apply(&mut self.hub, alloc, with_id(command, id))),
+        let making = is_making(&command);
+        match self.try_port(alloc, command) {
+            Ok(reply) => reply,
+            Err(_) => Reply::Refused(want_of(making)),
         }
+    }
+
+    /// The same, where there is memory for a port and for what is read.
+    pub(crate) fn try_port<H: Words, C>(
+        &mut self,
+        alloc: Global,
+        command: PortCommand<Elements<Q::Element, P::Element>, H>,
+    ) -> Result<Reply<Vec<u64>, C>, AllocError>
+        ensures answered { IfOk result (λ reply. IsAnsweredWithMemory Q.Element.words
+            P.Element.words H.words (service_of self.old) (Port command) reply
+            (service_of self.new)) }
+        ensures wanting { OnErr result (MayFindNoMemory {C = C} Q.Element.words P.Element.words
+            H.words (service_of self.old) (Port command)) }
+        ensures unchanged { OnErr result (self.new ≡ self.old) }
+    {
+        match self.members.living(asker(&command)) {
+            Err(refusal) => Ok(Reply::Refused(refusal)),
+            Ok(id) => {
+                let command = with_id(command, id);
+                Ok(reply_of(try_apply(&mut self.hub, alloc, command)?))
+            }
+        }
+    }
+
+    /// Whether the node has a port or a handle of that number and kind, which is not released.
+    pub fn has(&self, node: u64, number: u64, kind: Kind) -> bool
+        ensures { result ≡ has (service_of self.now).fixed node number kind }
+    {
+        self.hub.has(node, number, kind, usize::MAX)
     }
 }

@@ -1,5 +1,8 @@
 //! Nodes join, die and leave.
+ghost use Rattle.std.specs.Prelude.{◌≡◌, Err, IfOk, OnErr, false};
 ghost use Rattle.iox_model.specs.declared.command.Command.TheVariants.{Cleanup, DeclareDead, Leave};
+ghost use Rattle.iox_model.specs.declared.reply.Refusal.TheVariants.{WantOfMemory};
+ghost use Rattle.iox_nodes.specs.Memory.{is_wanting};
 ghost use Rattle.iox_nodes.specs.Served.{IsDone, IsJoin};
 ghost use Rattle.iox_nodes.specs.Shown.{service_of};
 
@@ -8,6 +11,14 @@ use iox_model::reply::Refusal;
 use iox_store::Payload;
 use iox_types::identifiers::UniqueSystemId;
 use iox_words::Words;
+use std::alloc::AllocError;
+
+/// Whether memory was wanted for a join.
+fn is_wanting<C>(answer: &Result<u64, Refusal<C>>) -> bool
+    ensures { result ≡ is_wanting answer.now }
+{
+    matches!(answer, Err(Refusal::WantOfMemory))
+}
 
 impl<Q: Payload, QH: Words, P: Payload, PH: Words> Service<Q, QH, P, PH> {
     /// A node joins, with these four numbers as its id; its number is how many joined before it.
@@ -23,8 +34,31 @@ impl<Q: Payload, QH: Words, P: Payload, PH: Words> Service<Q, QH, P, PH> {
     ) -> Result<u64, Refusal<C>>
         ensures { IsJoin (service_of self.old) id asked result (service_of self.new) }
     {
+        match self.try_join(id, asked) {
+            Ok(answer) => answer,
+            Err(_) => Err(Refusal::WantOfMemory),
+        }
+    }
+
+    /// The same, where there is memory for it.
+    pub(crate) fn try_join<C: Copy>(
+        &mut self,
+        id: UniqueSystemId,
+        asked: Option<Refusal<C>>,
+    ) -> Result<Result<u64, Refusal<C>>, AllocError>
+        ensures joined { IfOk result (λ answer.
+            IsJoin (service_of self.old) id asked answer (service_of self.new)) }
+        ensures memory { IfOk result (λ answer. is_wanting answer ≡ false) }
+        ensures wanting { OnErr result
+            (IsJoin (service_of self.old) id asked (Err WantOfMemory) (service_of self.old)) }
+        ensures unchanged { OnErr result (self.new ≡ self.old) }
+    {
         let most = self.hub.settings().nodes;
-        self.members.join(id, asked, most)
+        let answer = self.members.join(id, asked, most);
+        if is_wanting(&answer) {
+            return Err(AllocError);
+        }
+        Ok(answer)
     }
 
     /// A node is declared dead: it asks nothing more. Its ports stay connected, and its number and

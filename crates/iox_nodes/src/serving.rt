@@ -2,9 +2,11 @@
 ghost use Rattle.std.specs.Prelude.{◌≡◌, ◌+◌, ◌<◌, IfOk, OnErr, OnOk, true, vec_len};
 ghost use Rattle.iox_model.specs.declared.reply.Reply.TheVariants as replies;
 ghost use Rattle.iox_nodes.specs.Given.{is_listing, reply_to};
+ghost use Rattle.iox_nodes.specs.Memory.{IsAnsweredWithMemory, MayFindNoMemory, refusal_for_want};
 ghost use Rattle.iox_nodes.specs.Served.{IsAnswered, IsRunOf};
 ghost use Rattle.iox_nodes.specs.Shown.{service_of};
 
+use crate::asks::{is_making, want_of};
 use crate::service::Service;
 use iox_model::command::Command;
 use iox_model::reply::{Refusal, Reply};
@@ -33,7 +35,48 @@ fn done<L, C>(answer: Result<(), Refusal<C>>) -> Reply<L, C>
     }
 }
 
+/// How a command is refused where there is no memory for it. A listing is not refused.
+fn refusal_for_want<P, H, V, C>(command: &Command<P, H, V>) -> Option<Refusal<C>>
+    ensures { result ≡ refusal_for_want command.now }
+{
+    match command {
+        Command::ListNodes | Command::ListClients | Command::ListServers => None,
+        Command::Port(command) => Some(want_of(is_making(command))),
+        _ => Some(Refusal::WantOfMemory),
+    }
+}
+
 impl<Q: Payload, QH: Words, P: Payload, PH: Words> Service<Q, QH, P, PH> {
+    /// Answers a command, where there is memory for it. Its replies are those of the machine with
+    /// memory. It fails only where there is none for a join, for a port, for what is read or for a
+    /// listing, and changes nothing then.
+    ///
+    /// For a port that is too large, that has a handler or whose messages would grow, a service
+    /// never has memory. Nor has it for a join once 2^64 - 1 nodes joined, or where what is asked
+    /// says `WantOfMemory` itself.
+    pub fn try_serve<H: Words, C: Copy>(
+        &mut self,
+        alloc: Global,
+        command: Command<Elements<Q::Element, P::Element>, H, Option<Refusal<C>>>,
+    ) -> Result<Reply<Vec<u64>, C>, AllocError>
+        ensures answered { IfOk result (λ reply. IsAnsweredWithMemory Q.Element.words
+            P.Element.words H.words (service_of self.old) command reply (service_of self.new)) }
+        ensures wanting { OnErr result (MayFindNoMemory Q.Element.words P.Element.words H.words
+            (service_of self.old) command) }
+        ensures unchanged { OnErr result (self.new ≡ self.old) }
+    {
+        match command {
+            Command::Join { id, asked } => Ok(joined(self.try_join(id, asked)?)),
+            Command::Port(command) => self.try_port(alloc, command),
+            Command::Leave { node } => Ok(done(self.leave(node))),
+            Command::DeclareDead { node } => Ok(done(self.declare_dead(node))),
+            Command::Cleanup { node } => Ok(done(self.cleanup(node))),
+            Command::ListNodes => Ok(Reply::Listed(self.list_nodes(alloc)?)),
+            Command::ListClients => Ok(Reply::Listed(self.list_clients(alloc)?)),
+            Command::ListServers => Ok(Reply::Listed(self.list_servers(alloc)?)),
+        }
+    }
+
     /// Answers a command. It fails only for want of memory for a listing, and changes nothing then.
     /// Want of memory for a join, for a port and for a read is a reply, as the machine has it.
     pub fn serve<H: Words, C: Copy>(
@@ -46,21 +89,19 @@ impl<Q: Payload, QH: Words, P: Payload, PH: Words> Service<Q, QH, P, PH> {
         ensures unchanged { OnErr result (self.new ≡ self.old) }
         ensures listing { OnErr result (is_listing command ≡ true) }
     {
-        match command {
-            Command::Join { id, asked } => Ok(joined(self.join(id, asked))),
-            Command::Port(command) => Ok(self.port(alloc, command)),
-            Command::Leave { node } => Ok(done(self.leave(node))),
-            Command::DeclareDead { node } => Ok(done(self.declare_dead(node))),
-            Command::Cleanup { node } => Ok(done(self.cleanup(node))),
-            Command::ListNodes => Ok(Reply::Listed(self.list_nodes(alloc)?)),
-            Command::ListClients => Ok(Reply::Listed(self.list_clients(alloc)?)),
-            Command::ListServers => Ok(Reply::Listed(self.list_servers(alloc)?)),
+        let want = refusal_for_want(&command);
+        match self.try_serve(alloc, command) {
+            Ok(reply) => Ok(reply),
+            Err(error) => match want {
+                Some(refusal) => Ok(Reply::Refused(refusal)),
+                None => Err(error),
+            },
         }
     }
 
-    /// Answers commands one after another, and puts each reply behind the others. It ends before the
-    /// command whose reply finds no room, and before a listing for which there is no memory; what
-    /// was answered until then stays.
+    /// Answers commands one after another, and puts each reply behind the others. It ends before
+    /// the command whose reply finds no room, and before a listing for which there is no memory;
+    /// what was answered until then stays.
     pub fn run<H: Words, C: Copy>(
         &mut self,
         alloc: Global,
@@ -70,7 +111,8 @@ impl<Q: Payload, QH: Words, P: Payload, PH: Words> Service<Q, QH, P, PH> {
         ensures ran { IsRunOf Q.Element.words P.Element.words H.words (service_of self.old)
             commands.items replies.old.items replies.new.items (service_of self.new) }
         ensures whole { OnOk result (vec_len replies.new ≡ vec_len replies.old + vec_len commands) }
-        ensures short { OnErr result (vec_len replies.new < vec_len replies.old + vec_len commands) }
+        ensures short { OnErr result
+            (vec_len replies.new < vec_len replies.old + vec_len commands) }
     {
         for command in commands {
             replies.reserve(1)?;
