@@ -5,6 +5,7 @@ ghost use Rattle.iox_port_commands.specs.Applying.{HaveDefaults};
 mod exchanges;
 mod limits;
 mod names;
+mod pools;
 
 use iox_control::Settings;
 use iox_hub::{Hub, MessageShape, Part};

@@ -1,3 +1,4 @@
 //! Tests and callers of `iox_hub`.
 mod makes;
+mod overrides;
 mod starts;

@@ -1,0 +1,136 @@
+//! How many messages a port needs, and who chooses fewer.
+ghost use Rattle.std.specs.Prelude.{◌≡◌};
+
+use iox_control_lending::Lent;
+use iox_control_making::NotMade;
+use iox_hub::{
+    Hub, MessageShape, Options, PreallocatedRequestsOverride, PreallocatedResponseOverride,
+    default_settings,
+};
+use iox_model::kind::{Kind, Role};
+use iox_store::One;
+use iox_types::AllocationStrategy;
+use iox_types::identifiers::UniqueSystemId;
+use std::alloc::{AllocError, Global};
+use std::test::Fail;
+
+type TheHub = Hub<One<u64>, (), One<u64>, ()>;
+
+const NODE: UniqueSystemId = UniqueSystemId {
+    process: 1,
+    seconds: 2,
+    nanoseconds: 3,
+    counter: 0,
+};
+
+const OPTIONS: Options = Options {
+    max_slice_len: 1,
+    pool: None,
+    strategy: None,
+    allocation: None,
+    loaned_responses: None,
+};
+
+fn hub(alloc: Global) -> Result<TheHub, AllocError> {
+    let request = MessageShape::of_requests(None, ());
+    let response = MessageShape::of_responses(None, ());
+    Hub::new(alloc, default_settings(), request, response)
+}
+
+/// Whether the client lends a request, and if not, whether its pool is dry.
+fn lends(hub: &mut TheHub, client: u64) -> Option<bool> {
+    if !hub.has(0, client, Kind::Client, 0) {
+        return None;
+    }
+    match hub.lend_request(0, client, 1, true) {
+        Lent::Handle(_) => Some(true),
+        Lent::OutOfMemory => Some(false),
+        Lent::Refused(_) => None,
+    }
+}
+
+/// A closure that answers 0 chooses one message.
+fn chooses_one(needed: usize) -> usize
+    ensures { result ≡ 1 }
+{
+    PreallocatedRequestsOverride::new(|_needed: usize| 0).pool(needed)
+}
+
+#[test]
+fn what_a_closure_answers_is_raised_to_1_and_lowered_to_what_is_needed(
+    rt: HostRuntime,
+) -> Result<(), Fail> {
+    let half = PreallocatedRequestsOverride::new(|needed: usize| needed / 2);
+    assert_eq!(rt; half.call(22), 11);
+    assert_eq!(rt; half.pool(22), 11);
+    assert_eq!(rt; half.call(1), 0);
+    assert_eq!(rt; half.pool(1), 1);
+    assert_eq!(rt; chooses_one(22), 1);
+    let many = PreallocatedResponseOverride::new(|_needed: usize| 1000);
+    assert_eq!(rt; many.call(768), 1000);
+    assert_eq!(rt; many.pool(768), 768);
+    Ok(())
+}
+
+#[test]
+fn a_port_needs_messages_for_all_at_once(rt: HostRuntime) -> Result<(), Fail> {
+    let hub = hub(rt.alloc())?;
+    // 2 on loan, 4 active, and at each of 2 servers 4 that wait and 4 that were received.
+    assert_eq!(rt; hub.worst_pool(Role::Client, OPTIONS), Some(22));
+    // 2 on loan for each of 4 requests of 8 clients, and 4 on each of 22 lanes of theirs.
+    assert_eq!(rt; hub.worst_pool(Role::Server, OPTIONS), Some(768));
+    let one = Options {
+        loaned_responses: Some(1),
+        ..OPTIONS
+    };
+    assert_eq!(rt; hub.worst_pool(Role::Server, one), Some(736));
+    let far = Options {
+        loaned_responses: Some(1 << 62),
+        ..OPTIONS
+    };
+    assert_eq!(rt; hub.worst_pool(Role::Server, far), None);
+    Ok(())
+}
+
+#[test]
+fn a_client_whose_pool_is_chosen_has_that_many_messages(rt: HostRuntime) -> Result<(), Fail> {
+    let mut hub = hub(rt.alloc())?;
+    let Some(needed) = hub.worst_pool(Role::Client, OPTIONS) else {
+        return Err(Fail::from("counted"));
+    };
+    let none = PreallocatedRequestsOverride::new(|_needed: usize| 0);
+    let small = Options {
+        pool: Some(none.pool(needed) as u64),
+        ..OPTIONS
+    };
+    assert!(rt;
+        hub.make_port(rt.alloc(), 0, Role::Client, NODE, small)
+            .is_ok()
+    );
+    assert_eq!(rt; lends(&mut hub, 0), Some(true));
+    assert_eq!(rt; lends(&mut hub, 0), Some(false));
+    let more = Options {
+        pool: Some(u64::MAX),
+        ..OPTIONS
+    };
+    assert!(rt;
+        hub.make_port(rt.alloc(), 0, Role::Client, NODE, more)
+            .is_ok()
+    );
+    assert_eq!(rt; lends(&mut hub, 2), Some(true));
+    assert_eq!(rt; lends(&mut hub, 2), Some(true));
+    Ok(())
+}
+
+#[test]
+fn without_memory_a_port_lacks_its_data_segment(rt: HostRuntime) -> Result<(), Fail> {
+    let mut hub = hub(rt.alloc())?;
+    assert_eq!(rt; hub.without_memory(), NotMade::DataSegment);
+    let growing = Options {
+        allocation: Some(AllocationStrategy::PowerOfTwo),
+        ..OPTIONS
+    };
+    let made = hub.make_port(rt.alloc(), 0, Role::Client, NODE, growing);
+    assert_eq!(rt; made.err(), Some(NotMade::DataSegment));
+    Ok(())
+}
