@@ -3,13 +3,12 @@ use Rattle.std.specs.Prelude.{◌≡◌, ℕ, Bool, true, false, ◌||◌, if◌
 use Rattle.std.specs.Option.{option_map, option_map_or}
 use Rattle.std.proofs.Common.{sym, ap, ap₂, ◌∙◌, true≢false}
 use Rattle.std.proofs.lemmas.Option.{none-some, same_Some}
-use Rattle.iox_model.specs.declared.call.Call.TheVariants.{Release, Send, Write}
 use Rattle.iox_model.specs.declared.kind.Kind.{Kind}
 use Rattle.iox_model.specs.declared.kind.Kind.TheVariants.{PendingResponse}
-use Rattle.iox_model.specs.Commands.{Call, Payload, Reply, number_of}
+use Rattle.iox_model.specs.Commands.{Call, Reply, number_of}
 use Rattle.iox_model.specs.Handles.{Subject, TheHandle, ThePort, handle_at, is_request_loan, is_response_loan, port_or_handle, subject}
 use Rattle.iox_model.specs.Peers.{port_at}
-use Rattle.iox_model.specs.States.{Handle, Port, State}
+use Rattle.iox_model.specs.States.{Handle, Port}
 use Rattle.iox_model.specs.WholeCalls.{IsWholeCall}
 use Rattle.iox_tables.specs.HubLoans.Questions.{kind_in}
 use Rattle.iox_tables.specs.HubStates.States.{Given, handle_of, message_of}
@@ -18,7 +17,7 @@ use Rattle.iox_tables.specs.HubStates.Wirings.{handle_in}
 use Rattle.iox_tables.proofs.HubStates.Fixing.{find_handle}
 use Rattle.iox_hub.specs.Hubs.{HasValue, HubState, given_by, state_of_hub}
 use Rattle.iox_hub.proofs.SendingNames.{found_node}
-use Rattle.iox_hub_laws.specs.Waiting.{client_in, server_of}
+use Rattle.iox_hub_laws.specs.Waiting.{server_of}
 use Rattle.iceoryx2_ports.specs.Keeping.{KeepsAsking, KeepsOthersAsking, spends}
 use Rattle.iceoryx2_ports.proofs.Others.{IsAt, whole_there}
 use Rattle.iceoryx2_ports.proofs.Staying.{any_given, asker, client_shown}

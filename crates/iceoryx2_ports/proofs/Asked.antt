@@ -1,19 +1,19 @@
 -- What the copy of a request leaves: its message on the way to each server, and what receivers have as it was.
-use Rattle.std.specs.Prelude.{◌≡◌, ◌⊎◌, ℕ, Bool, true, false, if◌then◌else◌, List, [], ◌∷◌, map, Option, None, Some, refl}
+use Rattle.std.specs.Prelude.{◌≡◌, ℕ, Bool, true, false, List, Option, None, Some, refl}
 use Rattle.std.specs.Option.{option_map_or}
-use Rattle.std.proofs.Common.{sym, ap, ap₂, subst, ◌∙◌, true≢false, inl, inr}
+use Rattle.std.proofs.Common.{sym, ap, subst, ◌∙◌, true≢false, inl, inr}
 use Rattle.iox_model.specs.declared.call.Call.TheVariants.{SendCopy}
 use Rattle.iox_model.specs.declared.kind.Role.{Role}
-use Rattle.iox_model.specs.declared.kind.Role.TheVariants.{Client, Server}
+use Rattle.iox_model.specs.declared.kind.Role.TheVariants.{Client}
 use Rattle.iox_model.specs.declared.reply.Refusal.TheVariants.{UnknownNumber, WrongLength}
 use Rattle.iox_model.specs.declared.reply.Reply.TheVariants as replies
 use Rattle.iox_model.specs.Begins.{begins_at, start}
 use Rattle.iox_model.specs.Commands.{Call, Refusal, Reply}
 use Rattle.iox_model.specs.Counts.{added, numbered, sent_handle}
-use Rattle.iox_model.specs.Doings.{Doing, Drops, DropsPort, FailsToSend, Fills, Forgets, Loans, Outcome, Receives, Sends, Tells, refused}
+use Rattle.iox_model.specs.Doings.{Doing, FailsToSend, Outcome, Sends, Tells, refused}
 use Rattle.iox_model.specs.Ends.{sent_copy, settled}
 use Rattle.iox_model.specs.Handles.{Subject, ThePort, is_request_loan, subject}
-use Rattle.iox_model.specs.Loans.{Choice, Order, kind_of_loan, lending_ways, loan_of, memory_refusal, next_request, request_loan_refusal, unless_refused}
+use Rattle.iox_model.specs.Loans.{Choice, kind_of_loan, lending_ways, loan_of, memory_refusal, next_request, request_loan_refusal, unless_refused}
 use Rattle.iox_model.specs.Names.{misnamed}
 use Rattle.iox_model.specs.Peers.{is_connected_port}
 use Rattle.iox_model.specs.Responses.{lending, lends_request}
@@ -27,7 +27,7 @@ use Rattle.iox_laws.proofs.WeaveLaws.WholeLemmas.{moved_by-fixed}
 use Rattle.iox_hub_laws.proofs.Arrivals.{EndsSo, Fits, IsRefusal}
 use Rattle.iox_hub_laws.proofs.Moments.{ended_fits, moments_fit}
 use Rattle.iox_hub_laws.proofs.Phases.{loaning_fits}
-use Rattle.iox_hub_laws.proofs.Brought.{CameTo, IsLeft, LeavesSo, apart, done_leaves, goes_to, starts_quiet, to_client, to_servers, within}
+use Rattle.iox_hub_laws.proofs.Brought.{CameTo, LeavesSo, apart, done_leaves, goes_to, starts_quiet, to_client, to_servers, within}
 use Rattle.iceoryx2_ports.proofs.Resting.{HaveAsBefore}
 
 module _ (z : State) (reached : IsReachableState z) (node n : ℕ) (p : Port) (client : p.role ≡ Client) (known : is_connected_port z.fixed p.number ≡ true)

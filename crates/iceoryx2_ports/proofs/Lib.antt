@@ -12,3 +12,12 @@ pub mod Asked
 pub mod Reaching
 pub mod Counted
 pub mod LoanLimits
+pub mod ResponseLimits
+pub mod Responding
+pub mod Answering
+pub mod Idle
+pub mod Leaving
+pub mod Taking
+pub mod GivingBack
+pub mod OneSent
+pub mod OneTaken

@@ -1,28 +1,25 @@
 -- A client that has lent as many requests as it may is lent no more.
-use Rattle.std.specs.Prelude.{◌≡◌, ℕ, ◌+◌, ◌<◌, ◌≤◌, ◌^◌, Bool, true, false, not, ◌&&◌, ◌||◌, ◌==◌, nat_le, if◌then◌else◌, List, find, Option, None, Some, Result, Ok, Err, option_map, refl}
+use Rattle.std.specs.Prelude.{◌≡◌, ℕ, ◌+◌, ◌<◌, ◌^◌, Bool, true, false, not, ◌&&◌, ◌||◌, ◌==◌, nat_le, if◌then◌else◌, List, find, Option, None, Some, Result, Ok, Err, option_map, refl}
 use Rattle.std.specs.Option.{option_map_or}
-use Rattle.std.proofs.Common.{sym, ap, ap₂, subst, ◌∙◌, arith, true≢false}
-use Rattle.std.proofs.lemmas.Bool.{leb-true, le-leb}
+use Rattle.std.proofs.Common.{sym, ap, ap₂, ◌∙◌, arith, true≢false}
+use Rattle.std.proofs.lemmas.Bool.{le-leb}
 use Rattle.std.proofs.lemmas.Option.{none-some, same_Some}
 use Rattle.iox_model.specs.declared.call.Call.TheVariants.{Loan, LoanUninit}
 use Rattle.iox_model.specs.declared.kind.Kind.TheVariants as kinds
 use Rattle.iox_model.specs.declared.kind.Role.{Role}
-use Rattle.iox_model.specs.declared.kind.Role.TheVariants.{Client}
 use Rattle.iox_model.specs.declared.reply.Refusal.TheVariants.{CallsSpent, ExceedsMaxLoans, ExceedsMaxLoanSize, OutOfMemory, WrongLength}
 use Rattle.iox_model.specs.declared.reply.Reply.TheVariants as replies
-use Rattle.iox_model.specs.Commands.{Call, Refusal, Reply}
+use Rattle.iox_model.specs.Commands.{Refusal, Reply}
 use Rattle.iox_model.specs.Handles.{is_request_loan}
 use Rattle.iox_model.specs.Maps.{or_else, refused_if}
 use Rattle.iox_model.specs.Peers.{port_at}
 use Rattle.iox_model.specs.Settings.{Limits, Shape, has_layout, is_count, shape_of}
 use Rattle.iox_model.specs.States as m
 use Rattle.iox_model.specs.WholeCalls.{IsWholeCall}
-use Rattle.iox_control_lending.specs.Lends.{refusal_of, reply_of_loan}
-use Rattle.iox_control_lending.specs.declared.asked.LoanRefusal.{LoanRefusal}
+use Rattle.iox_control_lending.specs.Lends.{reply_of_loan}
 use Rattle.iox_control_lending.specs.declared.asked.LoanRefusal.TheVariants as tests
 use Rattle.iox_control_lending.specs.declared.asked.Lent.{Lent}
 use Rattle.iox_control_lending.specs.declared.asked.Lent.TheVariants as lents
-use Rattle.iox_tables.specs.HubBooks.Hubs.{AreInOrder}
 use Rattle.iox_tables.specs.HubLoans.Counts.{requests_on_loan}
 use Rattle.iox_tables.specs.HubLoans.Lenders.{IsClient, calls_refusal, count_refusal_by, is_pool_to_be_dry, lender_of_request, loan_refusal, shape_in, size_refusal}
 use Rattle.iox_tables.specs.HubLoans.Loans.{loan_call}
@@ -46,7 +43,7 @@ use Rattle.iceoryx2_ports.proofs.Resting.{RestsSo, whole_rests}
 -- ---- tests in their order
 
 -- where the chain finds nothing, no test of it does
-second_none : (a b c : Option Refusal) → or_else a (or_else b c) ≡ None → b ≡ None
+pub second_none : (a b c : Option Refusal) → or_else a (or_else b c) ≡ None → b ≡ None
 second_none None None c e = refl
 second_none None (Some r) c e = absurd (none-some r (sym e))
 second_none (Some r) b c e = absurd (none-some r (sym e))
@@ -55,11 +52,11 @@ abbrev is_refused : Reply → Bool
 is_refused (replies.Refused r) = true
 is_refused r = false
 
-abbrev a_handle : ℕ → Reply
+abbrev pub a_handle : ℕ → Reply
 a_handle n = replies.Handle n
 
 -- what is lent was not refused
-not_refused : (i : ℕ) (o : Option Refusal) (other : Reply) → a_handle i ≡ option_map_or replies.Refused o other → o ≡ None
+pub not_refused : (i : ℕ) (o : Option Refusal) (other : Reply) → a_handle i ≡ option_map_or replies.Refused o other → o ≡ None
 not_refused i None other e = refl
 not_refused i (Some r) other e = absurd (true≢false (sym (ap is_refused e)))
 
@@ -119,7 +116,7 @@ tag (replies.Refused ExceedsMaxLoans) = 1
 tag (replies.Refused r) = 2
 tag r = 3
 
-only_full : (lent : Lent) → reply_of_loan lent ≡ replies.Refused ExceedsMaxLoans → result_of lent ≡ Err loan_errors.ExceedsMaxLoans
+pub only_full : (lent : Lent) → reply_of_loan lent ≡ replies.Refused ExceedsMaxLoans → result_of lent ≡ Err loan_errors.ExceedsMaxLoans
 only_full (lents.Handle l) e = absurd (omega (arith, ap tag e))
 only_full (lents.Refused tests.CallsSpent) e = absurd (omega (arith, ap tag e))
 only_full (lents.Refused tests.WrongLength) e = absurd (omega (arith, ap tag e))

@@ -1,5 +1,5 @@
 -- A write, a send and a release leave all other handles as they are.
-use Rattle.std.specs.Prelude.{◌≡◌, ◌≢◌, ℕ, Bool, true, false, not, ◌&&◌, if◌then◌else◌, ◌==◌, List, [], ◌∷◌, ◌++◌, filter, map, Option, Some, None, find, refl}
+use Rattle.std.specs.Prelude.{◌≡◌, ◌≢◌, ℕ, Bool, true, false, not, if◌then◌else◌, ◌==◌, List, [], ◌∷◌, map, Option, Some, None, find, refl}
 use Rattle.std.specs.List.{list_any}
 use Rattle.std.specs.Option.{option_map_or}
 use Rattle.std.proofs.Common.{sym, subst, ap, ◌∙◌, true≢false, eqb-true}
@@ -21,7 +21,7 @@ use Rattle.iox_model.specs.Messages.{names, request_way}
 use Rattle.iox_model.specs.Moments.{moved, Moment, Deliver, Evict, GiveBack, GetBack, SeesFull, SeesRoom, SeesNoneBack, Open, Close, Look}
 use Rattle.iox_model.specs.Names.{misnamed}
 use Rattle.iox_model.specs.Peers.{forgot_port, others}
-use Rattle.iox_model.specs.Releases.{closing, given_back, releases_handle, returning, states_of}
+use Rattle.iox_model.specs.Releases.{closing, releases_handle, returning, states_of}
 use Rattle.iox_model.specs.Requests.{emptying, is_active_spent, is_over, looking, opening, sending_of, sends_request, targets, to_open}
 use Rattle.iox_model.specs.Responses.{sends, sends_response}
 use Rattle.iox_model.specs.States.{Fixed, Handle, State}

@@ -1,5 +1,5 @@
 -- A request that is sent can be received by each server that had room; loans and writes leave room as it is.
-use Rattle.std.specs.Prelude.{◌≡◌, ◌+◌, ◌≤◌, nat_le, ℕ, Bool, true, false, ◌||◌, ◌&&◌, if◌then◌else◌, ◌==◌, List, [], ◌∷◌, ◌++◌, filter, length, map, Option, None, Some, is_some, refl}
+use Rattle.std.specs.Prelude.{◌≡◌, ◌+◌, ◌≤◌, nat_le, ℕ, Bool, true, false, ◌||◌, if◌then◌else◌, ◌==◌, List, [], ◌∷◌, ◌++◌, filter, length, map, Option, Some, is_some, refl}
 use Rattle.std.proofs.Common.{sym, ap, subst, ◌∙◌, arith, eqb-true, inl, inr}
 use Rattle.std.proofs.lemmas.Option.{none-some, same_Some}
 use Rattle.iox_model.specs.declared.call.Call.TheVariants.{Loan, LoanUninit, Send, SendCopy}
@@ -11,7 +11,6 @@ use Rattle.iox_model.specs.declared.reply.Reply.TheVariants.{Handle, Sent}
 use Rattle.iox_model.specs.declared.way.RequestState.{RequestState}
 use Rattle.iox_model.specs.declared.way.Way.{Way}
 use Rattle.iox_model.specs.Commands.{Call, Reply}
-use Rattle.iox_model.specs.Doings.{Receiver}
 use Rattle.iox_model.specs.Handles.{is_request_loan}
 use Rattle.iox_model.specs.Loans.{kind_of_loan}
 use Rattle.iox_model.specs.Maps.{has_number, has_way, same_way}
@@ -39,15 +38,16 @@ use Rattle.iox_hub.specs.Hubs.{HasValue, HubState, IsHub, given_by, state_of_hub
 use Rattle.iox_hub.specs.Lending.{payload_of}
 use Rattle.iox_hub.proofs.LendingNamed.{client_of_hub}
 use Rattle.iox_hub.proofs.Named.{server_is}
-use Rattle.iox_hub_laws.specs.Arrivals.{IsSentOn, newest, takes_more, with_last}
+use Rattle.iox_hub_laws.specs.Arrivals.{IsSentOn, newest, with_last}
 use Rattle.iox_hub_laws.specs.Sends.{IsRequestSent, SendsRequest, servers_of}
 use Rattle.iox_hub_laws.specs.Shown.{handle_of, nothing_given, shown}
-use Rattle.iox_hub_laws.specs.Waiting.{server_of}
 use Rattle.iox_hub_laws.proofs.Arrivals.{all_newest, is_less, one_longer}
 use Rattle.iox_hub_laws.proofs.Brought.{goes_on, goes_to}
 use Rattle.iox_hub_laws.proofs.Values.{IsHandleOf, value_is_handle}
+use Rattle.iceoryx2_ports.specs.Idling.{BringsOne}
 use Rattle.iceoryx2_ports.specs.Reaching.{CopiesRequest, KeepsRoom, ReachesServers}
 use Rattle.iceoryx2_ports.proofs.Asked.{IsCopied, copied, loan_on}
+use Rattle.iceoryx2_ports.proofs.OneSent.{request_brings_one}
 use Rattle.iceoryx2_ports.proofs.Resting.{HaveAsBefore, RestsSo, limit_rests, rests, room_rests, whole_rests}
 use Rattle.iceoryx2_ports.proofs.Sent.{sent_has}
 
@@ -120,7 +120,7 @@ one_fits : (n k b : ℕ) → n ≡ k + 1 → nat_le b k ≡ false → n ≤ b
 one_fits n k b e less = grind (arith, e)
 
 -- where there was room, it waits
-comes_to_wait : (s t : m.State) (ws : List Way) (a : Message) (w : Way) → IsSentOn ws s a t → has_way w ws ≡ true → is_full s w ≡ false → IsOneOf a (t.waiting w)
+pub comes_to_wait : (s t : m.State) (ws : List Way) (a : Message) (w : Way) → IsSentOn ws s a t → has_way w ws ≡ true → is_full s w ≡ false → IsOneOf a (t.waiting w)
 comes_to_wait s t ws a w sent on room = subst (IsOneOf a) (sym (sent.sent w on ∙ taken ∙ stays)) (is_last a (s.waiting w))
   where
     taken : with_last s w a ≡ newest (buffer_on s.fixed w) (s.waiting w ++ a ∷ [])
@@ -175,6 +175,14 @@ pub send_reaches : (old new : HubState) → IsHub old → (node n count : ℕ) �
 send_reaches old new hub node n count has sends whole =
     let loan : IsHandleOf old.control.tables node n RequestMut = value_is_handle old.control.tables node n RequestMut refl has in
     request_reaches old new hub (handle_of old loan.handle) refl refl (sends loan.handle loan.named.there)
+    (sent_has (shown old) (shown new) node (Send n) count (whole (nothing_given old)))
+
+-- where none waited, it is the one
+pub send_brings_one : (old new : HubState) → (node n count : ℕ) → HasValue old node n RequestMut → SendsRequest old node n new
+    → ((x : Given) → IsWholeCall (state_of_hub x old) node (Send n) (Sent count) (state_of_hub x new)) → BringsOne old new
+send_brings_one old new node n count has sends whole =
+    let loan : IsHandleOf old.control.tables node n RequestMut = value_is_handle old.control.tables node n RequestMut refl has in
+    request_brings_one old new (handle_of old loan.handle) (sends loan.handle loan.named.there)
     (sent_has (shown old) (shown new) node (Send n) count (whole (nothing_given old)))
 
 -- ---- a copy
@@ -250,3 +258,7 @@ module _ (old new : HubState) (hub : IsHub old) (node client k i : ℕ) (words :
   pub copy_reaches : ReachesServers old new
   copy_reaches =
       request_reaches old new hub g refl refl sent (record { limits = done.have.limits; ports = done.have.ports; borrowed = done.have.borrowed })
+
+  pub copy_brings_one : BringsOne old new
+  copy_brings_one =
+      request_brings_one old new g sent (record { limits = done.have.limits; ports = done.have.ports; borrowed = done.have.borrowed })

@@ -1,28 +1,33 @@
 -- What a release comes to, where there is such a value and where there is none.
-use Rattle.std.specs.Prelude.{◌≡◌, ℕ, refl}
-use Rattle.std.proofs.Common.{subst, sym}
+use Rattle.std.specs.Prelude.{ℕ, refl}
 use Rattle.iox_model.specs.declared.call.Call.TheVariants.{Release}
 use Rattle.iox_model.specs.declared.kind.Kind.{Kind}
 use Rattle.iox_model.specs.declared.reply.Reply.TheVariants.{Done}
 use Rattle.iox_model.specs.WholeCalls.{IsWholeCall}
 use Rattle.iox_tables.specs.HubStates.States.{Given}
-use Rattle.iox_hub.specs.Hubs.{HasValue, HubState, state_of_hub}
+use Rattle.iox_hub.specs.Hubs.{HasValue, HubState, IsHub, state_of_hub}
 use Rattle.iox_hub.specs.Keeping.{KeepsOthers}
 use Rattle.iox_hub.specs.Sending.{HasNothing}
 use Rattle.iceoryx2_ports.specs.Releases.{IsReleased}
 use Rattle.iceoryx2_ports.proofs.Aside.{others_ask_as_before}
 use Rattle.iceoryx2_ports.proofs.Coming.{release_brings_nothing}
+use Rattle.iceoryx2_ports.proofs.Leaving.{release_keeps_room}
 
-pub is_released : (old new : HubState) (node n : ℕ) (kind : Kind) → HasValue old node n kind
+pub is_released : (old new : HubState) → IsHub new → (node n : ℕ) (kind : Kind) → HasValue old node n kind
     → ((x : Given) → IsWholeCall (state_of_hub x old) node (Release n) Done (state_of_hub x new)) → HasNothing new node n → KeepsOthers old node n new
     → IsReleased old node n kind new
-is_released old new node n kind has whole gone keeps = record {
+is_released old new after node n kind has whole gone keeps = record {
   whole = λ h. whole;
   gone = λ h. gone;
   unchanged = λ none. absurd (none has);
   keeps = keeps;
   asks = others_ask_as_before old new node (Release n) Done refl whole;
   comes = release_brings_nothing old new node n Done whole;
+  room = release_keeps_room old new after node n Done whole;
+  idle = λ x idle. record {
+    none = release_brings_nothing old new node n Done whole x idle.none;
+    room = release_keeps_room old new after node n Done whole x idle.room;
+  };
 }
 
 pub nothing_released : (h : HubState) (node n : ℕ) (kind : Kind) → (HasValue h node n kind → ⊥) → IsReleased h node n kind h
@@ -33,4 +38,6 @@ nothing_released h node n kind none = record {
   keeps = λ a m other some. record { kind = refl; handle = refl; message = refl };
   asks = λ a m other has. refl;
   comes = λ x nothing. nothing;
+  room = λ x room. room;
+  idle = λ x idle. idle;
 }

@@ -1,25 +1,25 @@
 -- A loan and a write leave the ways as they are, and what receivers have.
 use Rattle.std.specs.Prelude.{◌≡◌, ℕ, Bool, true, false, if◌then◌else◌, ◌==◌, List, [], ◌∷◌, length, nat_le, Option, Some, None, find, refl}
 use Rattle.std.specs.Option.{option_map_or}
-use Rattle.std.proofs.Common.{sym, subst, ap, ap₂, ◌∙◌, true≢false}
+use Rattle.std.proofs.Common.{sym, subst, ap, ◌∙◌, true≢false}
 use Rattle.iox_model.specs.declared.call.Call.TheVariants.{Loan, LoanUninit, Write}
 use Rattle.iox_model.specs.declared.kind.Role.{Role}
 use Rattle.iox_model.specs.declared.kind.Role.TheVariants.{Client}
 use Rattle.iox_model.specs.declared.reply.Refusal.TheVariants.{UnknownNumber, WrongLength, OutOfMemory}
 use Rattle.iox_model.specs.declared.way.Way.{Way}
 use Rattle.iox_model.specs.Begins.{begins_at, start, writes, written}
-use Rattle.iox_model.specs.Commands.{Call, Payload, Refusal, Reply, number_of}
+use Rattle.iox_model.specs.Commands.{Call, Refusal, Reply, number_of}
 use Rattle.iox_model.specs.Counts.{called, numbered, with_fixed}
 use Rattle.iox_model.specs.Doings.{refused, Outcome, Tells, Loans, Fills, Doing, Ended, Loaning}
 use Rattle.iox_model.specs.Ends.{is_nothing, settled}
 use Rattle.iox_model.specs.Handles.{Subject, TheHandle, ThePort, subject}
 use Rattle.iox_model.specs.Loans.{Choice, Order, lending_ways, loan_of, memory_refusal, next_request, request_loan_refusal, response_loan_refusal, unless_refused}
-use Rattle.iox_model.specs.Maps.{put_at, without_way}
+use Rattle.iox_model.specs.Maps.{without_way}
 use Rattle.iox_model.specs.Messages.{Message}
 use Rattle.iox_model.specs.Moments.{GetBack, Moment, SeesNoneBack, moved}
 use Rattle.iox_model.specs.Names.{misnamed}
 use Rattle.iox_model.specs.Outstandings.{is_dry, kept}
-use Rattle.iox_model.specs.Peers.{borrow_limit_on, buffer_on, port_at, role_at}
+use Rattle.iox_model.specs.Peers.{port_at}
 use Rattle.iox_model.specs.Receives.{is_at_limit}
 use Rattle.iox_model.specs.Responses.{lending, lends, lends_by, lends_response, loaning, ordered, sends, shape_for}
 use Rattle.iox_model.specs.Settings.{Limits, borrow_limit_of, buffer_of, is_count, other_role}
@@ -182,7 +182,7 @@ ended_rests s (Ended a) o p e = subst Rests (some-is a o e) p
 ended_rests s (Loaning copies h left) o p e = none-some o e
 ended_rests s d o p e = absurd p
 
-numbered_has : (f : Fixed) (node : ℕ) → HaveAsBefore f (numbered f node)
+pub numbered_has : (f : Fixed) (node : ℕ) → HaveAsBefore f (numbered f node)
 numbered_has f node =
     either (HaveAsBefore f) f.on_wire _ _ (λ u. record { limits = refl; ports = refl; borrowed = refl })
     (λ u. record { limits = refl; ports = refl; borrowed = refl })

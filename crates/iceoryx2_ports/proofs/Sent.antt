@@ -4,7 +4,7 @@ use Rattle.std.proofs.Common.{sym, subst, ap, ◌∙◌, true≢false}
 use Rattle.iox_model.specs.declared.reply.Reply.TheVariants as replies
 use Rattle.iox_model.specs.declared.reply.Reply.TheVariants.{Sent}
 use Rattle.iox_model.specs.Commands.{Call, Refusal, Reply}
-use Rattle.iox_model.specs.Counts.{called, changed, dropped, numbered, sent_handle, with_fixed}
+use Rattle.iox_model.specs.Counts.{called, changed, dropped, sent_handle, with_fixed}
 use Rattle.iox_model.specs.Doings.{Drops, DropsPort, FailsToSend, Fills, Forgets, Loans, Outcome, Receives, Sends, Tells}
 use Rattle.iox_model.specs.Ends.{is_nothing, sent_loan, settled}
 use Rattle.iox_model.specs.Expiries.{released}

@@ -38,7 +38,7 @@ use Rattle.iceoryx2_ports.proofs.Gathering.{Gathers, at_gathers, by_gathers, end
 -- ---- more handles
 
 -- no port changes, and each handle that is found is found still
-record Extends (f g : Fixed) : Type 0 where
+pub record Extends (f g : Fixed) : Type 0 where
   pub ports : g.ports ≡ f.ports
   pub handles : (a n : ℕ) (h : Handle) → handle_at f a n ≡ Some h → handle_at g a n ≡ Some h
 
@@ -145,7 +145,7 @@ unless_extends : (q : Option Refusal) (s t : State) (reply : Reply) (P : Type 0)
 unless_extends (Some r) s t reply P f p = subst (λ (v : State). Extends s.fixed v.fixed) (sym p.1) (extends_same s.fixed)
 unless_extends None s t reply P f p = f p
 
-whole_extends : (s t : State) (node : ℕ) (call : Call) (reply : Reply) → spends call ≡ false → IsWholeCall s node call reply t → Extends s.fixed t.fixed
+pub whole_extends : (s t : State) (node : ℕ) (call : Call) (reply : Reply) → spends call ≡ false → IsWholeCall s node call reply t → Extends s.fixed t.fixed
 whole_extends s t node call reply e =
     unless_extends (misnamed s.fixed node call) s t reply (UnlessRefused (spent s.fixed call) s reply t (IsDone s node call reply t))
     (unless_extends (spent s.fixed call) s t reply (IsDone s node call reply t) (done_extends s t node call reply e))

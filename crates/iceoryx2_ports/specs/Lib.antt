@@ -1,18 +1,44 @@
--- the words of the clauses, and the types that they name
+-- the words of the clauses, and the types that they name: of the machine
 pub use Rattle.iox_model.specs.Commands
+pub use Rattle.iox_model.specs.Makings as MachineMakings
+pub use Rattle.iox_model.specs.Messages
 pub use Rattle.iox_model.specs.WholeCalls
 pub use Rattle.iox_model.specs.declared.call.Call
 pub use Rattle.iox_model.specs.declared.kind.Kind
+pub use Rattle.iox_model.specs.declared.kind.Role
 pub use Rattle.iox_model.specs.declared.reply.Refusal
 pub use Rattle.iox_model.specs.declared.reply.Reply
+-- of what elements carry
+pub use Rattle.iox_store.specs.Answering
+pub use Rattle.iox_store.specs.Stored
+-- of hubs
 pub use Rattle.iox_tables.specs.HubLoans.Counts
 pub use Rattle.iox_tables.specs.HubStates.States
+pub use Rattle.iox_hub.specs.Copying
+pub use Rattle.iox_hub.specs.Fillings
+pub use Rattle.iox_hub.specs.Headers as HubHeaders
 pub use Rattle.iox_hub.specs.Hubs
+pub use Rattle.iox_hub.specs.Keeping as HubKeeping
+pub use Rattle.iox_hub.specs.Lending
+pub use Rattle.iox_hub.specs.Making
 pub use Rattle.iox_hub.specs.Reads
+pub use Rattle.iox_hub.specs.Sending
 pub use Rattle.iox_hub.specs.Shapes
 pub use Rattle.iox_hub_laws.specs.Receives
 pub use Rattle.iox_hub_laws.specs.Sends
 pub use Rattle.iox_hub_laws.specs.Waiting
+-- for types of callers: values as words, words in parts, or of values that pass a test, and the
+-- words of std's types
+pub use Rattle.iox_words.specs.WordLists
+pub use Rattle.iox_words.specs.WordParts
+pub use Rattle.iox_words.specs.WordLaws
+pub use Rattle.iox_words.specs.WhereLaws
+pub use Rattle.iox_words.specs.Numbers
+pub use Rattle.iox_words.specs.NumberLaws
+pub use Rattle.iox_words.specs.SignedLaws
+pub use Rattle.iox_words.specs.PlainLaws
+pub use Rattle.iox_words.specs.declared.word_list.Words
+pub use Rattle.iox_words.specs.declared.zero_copy_send.ZeroCopySend
 -- typed calls
 pub mod Answers
 pub mod Headers
@@ -25,3 +51,5 @@ pub mod Copies
 pub mod Releases
 pub mod Arrivals
 pub mod Reaching
+pub mod Responses
+pub mod Idling

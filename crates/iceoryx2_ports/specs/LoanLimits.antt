@@ -1,9 +1,18 @@
--- Loans of a client that has as many as it may.
-use Rattle.std.specs.Prelude.{◌≡◌, ℕ, ◌+◌, ◌<◌, ◌≤◌, ◌^◌, Some, None}
+-- Loans of a client, and to an active request, of which there are as many as may be.
+use Rattle.std.specs.Prelude.{◌≡◌, ℕ, ◌+◌, ◌<◌, ◌≤◌, ◌^◌, true, Option, Some, None}
+use Rattle.std.specs.Option.{option_map_or}
+use Rattle.iox_model.specs.Handles.{handle_at}
+use Rattle.iox_model.specs.Loans.{fits_size, loans_of_request}
+use Rattle.iox_model.specs.Peers.{port_at}
+use Rattle.iox_model.specs.Settings.{is_count}
+use Rattle.iox_model.specs.States.{Handle, Port}
 use Rattle.iox_tables.specs.HubLoans.Counts.{requests_on_loan}
 use Rattle.iox_tables.specs.HubLoans.Lenders.{size_refusal}
 use Rattle.iox_tables.specs.HubStates.Tables.{PortState, port_in}
 use Rattle.iox_hub.specs.Hubs.{HubState}
+use Rattle.iox_hub_laws.specs.Shown.{shown}
+
+-- ---- requests
 
 -- The client's messages may have so many elements.
 pub record LendsLength (h : HubState) (client k : ℕ) : Type 0 where
@@ -27,3 +36,42 @@ pub record LendsOneMore (old : HubState) (client k : ℕ) (new : HubState) : Typ
   pub limit :
       new.control.tables.settings.loaned_requests ≡ old.control.tables.settings.loaned_requests
   pub length : LendsLength new client k
+
+-- ---- responses
+
+-- the server of the node's active request of that number
+abbrev pub server_in : HubState → ℕ → ℕ → Option Port
+server_in h node n =
+    option_map_or (λ (active : Handle). port_at (shown h).fixed active.port)
+    (handle_at (shown h).fixed node n) None
+
+-- how many responses to that request it has on loan
+abbrev pub responses_lent : HubState → ℕ → ℕ → ℕ
+responses_lent h node n =
+    option_map_or (loans_of_request (shown h).fixed) (handle_at (shown h).fixed node n) 0
+
+-- how many it may have on loan to one request
+abbrev pub most_responses : HubState → ℕ → ℕ → ℕ
+most_responses h node n =
+    option_map_or (λ (server : Port). server.loaned_responses) (server_in h node n) 0
+
+-- The server may answer that request with so many elements.
+pub record RespondsLength (h : HubState) (node n k : ℕ) : Type 0 where
+  pub count : is_count h.response k ≡ true
+  pub size :
+      (server : Port) → server_in h node n ≡ Some server
+      → fits_size server h.response k ≡ true
+
+-- Calls are left, and the server may answer that request with so many elements, but it has as many
+-- responses to it on loan as it may.
+pub record HasAllResponses (h : HubState) (node n k : ℕ) : Type 0 where
+  pub calls : h.control.tables.calls < 2 ^ 56
+  pub length : RespondsLength h node n k
+  pub loans : most_responses h node n ≤ responses_lent h node n
+
+-- The server, which may answer that request with so many elements, has one more response to it on
+-- loan. It may have as many as before.
+pub record RespondsOneMore (old : HubState) (node n k : ℕ) (new : HubState) : Type 0 where
+  pub count : responses_lent new node n ≡ responses_lent old node n + 1
+  pub limit : most_responses new node n ≡ most_responses old node n
+  pub length : RespondsLength new node n k

@@ -9,10 +9,13 @@ use Rattle.iox_hub.specs.Hubs.{HasValue, HubState, state_of_hub}
 use Rattle.iox_hub.specs.Keeping.{KeepsOthers}
 use Rattle.iox_hub.specs.Sending.{HasNothing}
 use Rattle.iox_hub_laws.specs.Sends.{NothingComes}
+use Rattle.iceoryx2_ports.specs.Idling.{KeepsIdle}
 use Rattle.iceoryx2_ports.specs.Keeping.{KeepsOthersAsking}
+use Rattle.iceoryx2_ports.specs.Reaching.{KeepsRoom}
 
 -- The node's value of that number and kind is released, if it has one; else nothing changes. All
--- other values are as they were, and nothing comes where nothing waited.
+-- other values are as they were, nothing comes where nothing waited, and who had room or was idle
+-- still has it or is.
 pub record IsReleased (old : HubState) (node n : ℕ) (kind : Kind) (new : HubState) : Type 0 where
   pub whole :
       HasValue old node n kind → (x : Given)
@@ -22,3 +25,5 @@ pub record IsReleased (old : HubState) (node n : ℕ) (kind : Kind) (new : HubSt
   pub keeps : KeepsOthers old node n new
   pub asks : KeepsOthersAsking old node n new
   pub comes : NothingComes old new
+  pub room : KeepsRoom old new
+  pub idle : KeepsIdle old new

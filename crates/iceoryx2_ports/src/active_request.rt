@@ -1,5 +1,6 @@
 //! A request that a server received.
-ghost use Rattle.std.specs.Prelude.{◌≡◌, ◌≢◌, ◌++◌, ◌↔◌, IfErr, IfNone, IfOk, IfSome, IsSome, IsTrue, OnErr, [], false, flat_map, true};
+ghost use Rattle.std.specs.Prelude.{◌≡◌, ◌≢◌, ◌++◌, ◌↔◌, Err, IfErr, IfNone, IfOk, IfSome, IsSome};
+ghost use Rattle.std.specs.Prelude.{IsTrue, OnErr, OnOk, [], false, flat_map, true};
 ghost use Rattle.iox_model.specs.declared.call.Call.TheVariants as calls;
 ghost use Rattle.iox_model.specs.declared.kind.Kind.TheVariants as kinds;
 ghost use Rattle.iox_model.specs.declared.kind.Role.TheVariants as roles;
@@ -12,12 +13,15 @@ ghost use Rattle.iox_hub.specs.Lending.{IsFresh};
 ghost use Rattle.iox_hub.specs.Reads.{message_in};
 ghost use Rattle.iceoryx2_ports.specs.Headers.{request_header_of};
 ghost use Rattle.iox_hub_laws.specs.Sends.{NothingComes};
+ghost use Rattle.iceoryx2_ports.specs.Idling.{GivesBack};
 ghost use Rattle.iceoryx2_ports.specs.Keeping.{KeepsAsking, KeepsValues};
+ghost use Rattle.iceoryx2_ports.specs.LoanLimits.{HasAllResponses, RespondsOneMore};
 ghost use Rattle.iceoryx2_ports.specs.Loans.{reply_of_loan};
 ghost use Rattle.iceoryx2_ports.specs.Payloads.{BeginsWith};
 ghost use Rattle.iceoryx2_ports.specs.Reaching.{KeepsRoom};
 ghost use Rattle.iceoryx2_ports.specs.Releases.{IsReleased};
-ghost use Rattle.iceoryx2_ports.specs.declared.errors.LoanError.TheVariants.{OutOfMemory};
+ghost use Rattle.iceoryx2_ports.specs.Responses.{is_open};
+ghost use Rattle.iceoryx2_ports.specs.declared.errors.LoanError.TheVariants.{ExceedsMaxLoans, OutOfMemory};
 
 use crate::errors::LoanError;
 use crate::headers::request_header;
@@ -122,7 +126,9 @@ impl<Q: Payload, QH: Words, P: Payload, PH: Words> ActiveRequest<Q, QH, P, PH> {
         requires has { HasValue hub.now self.now.node self.now.number kinds.ActiveRequest }
         ensures whole { (x : Given) → IsWholeCall (state_of_hub x hub.now) self.now.node
             (calls.IsConnected self.now.number) (Answer result) (state_of_hub x hub.now) }
+        ensures told { result ≡ is_open hub.now self.now.node self.now.number }
     {
+        hub.is_in_order();
         hub.is_connected(self.node, self.number, self.hint)
     }
 
@@ -137,14 +143,16 @@ impl<Q: Payload, QH: Words, P: Payload, PH: Words> ActiveRequest<Q, QH, P, PH> {
 
     /// Whether the hub still has it.
     pub fn exists(&self, hub: &Hub<Q, QH, P, PH>) -> bool
-        ensures { IsTrue result ↔ HasValue hub.now self.now.node self.now.number kinds.ActiveRequest }
+        ensures { IsTrue result
+            ↔ HasValue hub.now self.now.node self.now.number kinds.ActiveRequest }
     {
         hub.has(self.node, self.number, Kind::ActiveRequest, self.hint)
     }
 
     /// Gives it up. Where the hub no longer has it, nothing changes.
     pub fn release(self, hub: &mut Hub<Q, QH, P, PH>)
-        ensures { IsReleased hub.old self.node self.number kinds.ActiveRequest hub.new }
+        ensures released { IsReleased hub.old self.node self.number kinds.ActiveRequest hub.new }
+        ensures idle { GivesBack hub.old self.node self.number kinds.ActiveRequest hub.new }
     {
         let ActiveRequest {
             node,
@@ -173,6 +181,10 @@ impl<Q: Payload, QH: Words, E: Words, PH: Words> ActiveRequest<Q, QH, One<E>, PH
         ensures keeps { KeepsValues hub.old hub.new }
         ensures asks { KeepsAsking hub.old hub.new }
         ensures room { KeepsRoom hub.old hub.new }
+        ensures counted { OnOk result
+            (RespondsOneMore hub.old self.now.node self.now.number 1 hub.new) }
+        ensures past { HasAllResponses hub.old self.now.node self.now.number 1
+            → result ≡ Err ExceedsMaxLoans }
         ensures unchanged { IfErr result (λ error. error ≢ OutOfMemory → hub.new ≡ hub.old) }
         ensures left { OnErr result (hub.new ≡ with_control hub.old hub.new.control) }
     {
@@ -199,6 +211,10 @@ impl<Q: Payload, QH: Words, E: Words, PH: Words> ActiveRequest<Q, QH, One<E>, PH
         ensures keeps { KeepsValues hub.old hub.new }
         ensures asks { KeepsAsking hub.old hub.new }
         ensures room { KeepsRoom hub.old hub.new }
+        ensures counted { OnOk result
+            (RespondsOneMore hub.old self.now.node self.now.number 1 hub.new) }
+        ensures past { HasAllResponses hub.old self.now.node self.now.number 1
+            → result ≡ Err ExceedsMaxLoans }
         ensures unchanged { IfErr result (λ error. error ≢ OutOfMemory → hub.new ≡ hub.old) }
         ensures left { OnErr result (hub.new ≡ with_control hub.old hub.new.control) }
     {
@@ -227,6 +243,10 @@ impl<Q: Payload, QH: Words, E: Words, PH: Words> ActiveRequest<Q, QH, Many<E>, P
         ensures keeps { KeepsValues hub.old hub.new }
         ensures asks { KeepsAsking hub.old hub.new }
         ensures room { KeepsRoom hub.old hub.new }
+        ensures counted { OnOk result
+            (RespondsOneMore hub.old self.now.node self.now.number elements hub.new) }
+        ensures past { HasAllResponses hub.old self.now.node self.now.number elements
+            → result ≡ Err ExceedsMaxLoans }
         ensures unchanged { IfErr result (λ error. error ≢ OutOfMemory → hub.new ≡ hub.old) }
         ensures left { OnErr result (hub.new ≡ with_control hub.old hub.new.control) }
     {
@@ -254,6 +274,10 @@ impl<Q: Payload, QH: Words, E: Words, PH: Words> ActiveRequest<Q, QH, Many<E>, P
         ensures keeps { KeepsValues hub.old hub.new }
         ensures asks { KeepsAsking hub.old hub.new }
         ensures room { KeepsRoom hub.old hub.new }
+        ensures counted { OnOk result
+            (RespondsOneMore hub.old self.now.node self.now.number elements hub.new) }
+        ensures past { HasAllResponses hub.old self.now.node self.now.number elements
+            → result ≡ Err ExceedsMaxLoans }
         ensures unchanged { IfErr result (λ error. error ≢ OutOfMemory → hub.new ≡ hub.old) }
         ensures left { OnErr result (hub.new ≡ with_control hub.old hub.new.control) }
     {

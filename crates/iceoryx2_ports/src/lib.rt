@@ -1,5 +1,5 @@
-//! Clients and servers: the typed ports of a hub, and the handles of their messages. Each call is one
-//! whole call of the machine that copies messages.
+//! Clients and servers: the typed ports of a hub, and the handles of their messages. Each call is
+//! one whole call of the machine that copies messages.
 #![tactic(auto)]
 
 mod active_request;
@@ -17,6 +17,7 @@ mod response;
 mod response_mut;
 mod server;
 pub mod uses;
+pub mod uses_answering;
 pub mod uses_arrivals;
 pub mod uses_copying;
 pub mod uses_exchange;
@@ -43,7 +44,7 @@ pub use iox_types::{
     AllocationStrategy, BackpressureStrategy, ChannelState, RequestHeader, RequestId,
     ResponseHeader,
 };
-pub use iox_words::Words;
+pub use iox_words::{Words, ZeroCopySend};
 pub use pending_response::PendingResponse;
 pub use port_factory_client::PortFactoryClient;
 pub use port_factory_server::PortFactoryServer;

@@ -9,7 +9,8 @@ ghost use Rattle.iox_hub.specs.Hubs.{HasValue, state_of_hub, with_control};
 ghost use Rattle.iox_hub.specs.Lending.{IsFresh};
 ghost use Rattle.iox_hub_laws.specs.Sends.{NothingComes};
 ghost use Rattle.iceoryx2_ports.specs.Keeping.{KeepsAsking, KeepsValues};
-ghost use Rattle.iceoryx2_ports.specs.LoanLimits.{HasAllLoans, LendsOneMore};
+ghost use Rattle.iceoryx2_ports.specs.LoanLimits.{HasAllLoans, HasAllResponses};
+ghost use Rattle.iceoryx2_ports.specs.LoanLimits.{LendsOneMore, RespondsOneMore};
 ghost use Rattle.iceoryx2_ports.specs.Loans.{reply_of_loan};
 ghost use Rattle.iceoryx2_ports.specs.Reaching.{KeepsRoom};
 ghost use Rattle.iceoryx2_ports.specs.declared.errors.LoanError.TheVariants.{ExceedsMaxLoans, OutOfMemory};
@@ -78,9 +79,12 @@ pub(crate) fn lend_response<Q: Payload, QH: Words, P: Payload, PH: Words>(
     ensures keeps { KeepsValues hub.old hub.new }
     ensures asks { KeepsAsking hub.old hub.new }
     ensures room { KeepsRoom hub.old hub.new }
+    ensures counted { OnOk result (RespondsOneMore hub.old node number elements hub.new) }
+    ensures past { HasAllResponses hub.old node number elements → result ≡ Err ExceedsMaxLoans }
     ensures unchanged { IfErr result (λ error. error ≢ OutOfMemory → hub.new ≡ hub.old) }
     ensures left { OnErr result (hub.new ≡ with_control hub.old hub.new.control) }
 {
+    hub.is_in_order();
     match iox_hub_laws::lend_response(hub, node, number, hint, elements, uninit) {
         Lent::Handle(loan) => Ok(loan.number),
         Lent::Refused(LoanRefusal::CallsSpent) => Err(LoanError::CallsSpent),

@@ -10,9 +10,10 @@ ghost use Rattle.iox_hub.specs.Hubs.{HasValue, state_of_hub, with_control};
 ghost use Rattle.iox_hub.specs.Reads.{message_in};
 ghost use Rattle.iox_hub_laws.specs.Receives.{CarriesWhatWaited, TakesResponse};
 ghost use Rattle.iox_hub_laws.specs.Sends.{NothingComes};
-ghost use Rattle.iox_hub_laws.specs.Waiting.{WaitedForPending, client_in};
+ghost use Rattle.iox_hub_laws.specs.Waiting.{WaitedFor, client_in};
 ghost use Rattle.iceoryx2_ports.specs.Answers.{received_response, reply_of_response};
 ghost use Rattle.iceoryx2_ports.specs.Headers.{request_header_of};
+ghost use Rattle.iceoryx2_ports.specs.Idling.{TakesTheOne};
 ghost use Rattle.iceoryx2_ports.specs.Keeping.{KeepsAsking, KeepsValues};
 ghost use Rattle.iceoryx2_ports.specs.Releases.{IsReleased};
 ghost use Rattle.iceoryx2_ports.specs.declared.errors.ReceiveError.TheVariants.{ExceedsMaxBorrows};
@@ -65,8 +66,8 @@ impl<Q: Payload, QH: Words, P: Payload, PH: Words> PendingResponse<Q, QH, P, PH>
         self.servers
     }
 
-    /// Receives a response, if one is there: one to its own request, that waits, comes next on its way
-    /// and is new to the client. A response to another request is released and skipped.
+    /// Receives a response, if one is there: one to its own request, that waits, comes next on its
+    /// way and is new to the client. A response to another request is released and skipped.
     pub fn receive(
         &self,
         hub: &mut Hub<Q, QH, P, PH>,
@@ -82,15 +83,19 @@ impl<Q: Payload, QH: Words, P: Payload, PH: Words> PendingResponse<Q, QH, P, PH>
         ensures keeps { KeepsValues hub.old hub.new }
         ensures asks { KeepsAsking hub.old hub.new }
         ensures refused { IfErr result (λ error. error ≡ ExceedsMaxBorrows) }
-        ensures waited { WaitedForPending hub.old self.now.node self.now.number
+        ensures waited { WaitedFor hub.old (client_in hub.old self.now.node self.now.number)
             (received_response result) }
         ensures takes { TakesResponse hub.old self.now.node self.now.number
             (received_response result) hub.new }
         ensures carries { IfOk result (λ got. IfSome got (λ response.
             CarriesWhatWaited hub.old (client_in hub.old self.now.node self.now.number) hub.new
             response.node response.number)) }
+        ensures idle { IfOk result (λ got. IfSome got (λ response.
+            TakesTheOne hub.old (client_in hub.old self.now.node self.now.number) hub.new
+            response.node response.number)) }
         ensures comes { NothingComes hub.old hub.new }
     {
+        hub.is_in_order();
         match receive_response(hub, self.node, self.number, self.hint) {
             Received::Handle(number) => Ok(Some(Response::new(self.node, number))),
             Received::Nothing => Ok(None),
@@ -98,7 +103,8 @@ impl<Q: Payload, QH: Words, P: Payload, PH: Words> PendingResponse<Q, QH, P, PH>
         }
     }
 
-    /// Whether a response waits. It may be one to another request, so that nothing is received then.
+    /// Whether a response waits. It may be one to another request, so that nothing is received
+    /// then.
     pub fn has_response(&self, hub: &Hub<Q, QH, P, PH>) -> bool
         requires has { HasValue hub.now self.now.node self.now.number kinds.PendingResponse }
         ensures whole { (x : Given) → IsWholeCall (state_of_hub x hub.now) self.now.node
@@ -168,7 +174,8 @@ impl<Q: Payload, QH: Words, P: Payload, PH: Words> PendingResponse<Q, QH, P, PH>
 
     /// Whether the hub still has it.
     pub fn exists(&self, hub: &Hub<Q, QH, P, PH>) -> bool
-        ensures { IsTrue result ↔ HasValue hub.now self.now.node self.now.number kinds.PendingResponse }
+        ensures { IsTrue result
+            ↔ HasValue hub.now self.now.node self.now.number kinds.PendingResponse }
     {
         hub.has(self.node, self.number, Kind::PendingResponse, self.hint)
     }

@@ -1,5 +1,5 @@
 //! The making of clients.
-ghost use Rattle.std.specs.Prelude.{◌≡◌, ◌≢◌, IfErr, IfOk, OnErr, Some};
+ghost use Rattle.std.specs.Prelude.{◌≡◌, ◌≢◌, ℕ, IfErr, IfOk, OnErr, Some};
 ghost use Rattle.iox_model.specs.declared.kind.Kind.TheVariants as kinds;
 ghost use Rattle.iox_model.specs.declared.kind.Role.TheVariants as roles;
 ghost use Rattle.iox_model.specs.Commands.{Create};
@@ -7,8 +7,11 @@ ghost use Rattle.iox_model.specs.Makings.{IsHubCommand};
 ghost use Rattle.iox_tables.specs.HubStates.States.{Given};
 ghost use Rattle.iox_hub.specs.Hubs.{HasValue, state_of_hub};
 ghost use Rattle.iox_hub.specs.Making.{LeavesMessages, StaysAs, options_of};
+ghost use Rattle.iox_hub_laws.specs.Sends.{NothingComes};
 ghost use Rattle.iceoryx2_ports.specs.Keeping.{KeepsValues};
 ghost use Rattle.iceoryx2_ports.specs.Makings.{first_options, reply_of_client};
+ghost use Rattle.iceoryx2_ports.specs.Idling.{IsIdle, client_on};
+ghost use Rattle.iceoryx2_ports.specs.Reaching.{KeepsRoom};
 ghost use Rattle.iceoryx2_ports.specs.declared.errors.ClientCreateError.TheVariants.{FailedToDeployThreadsafetyPolicy};
 
 use crate::client::Client;
@@ -25,6 +28,7 @@ use std::marker::PhantomData;
 
 /// What a client is made with. Where nothing was said, the service's settings hold.
 #[derive(Drop)]
+#[derive_where(Debug)]
 pub struct PortFactoryClient<Q, QH, P, PH> {
     node: u64,
     node_id: UniqueSystemId,
@@ -55,7 +59,8 @@ impl<Q: Payload, QH: Words, P: Payload, PH: Words> PortFactoryClient<Q, QH, P, P
 
     /// What it does at a full server.
     pub fn backpressure_strategy(self, value: BackpressureStrategy) -> Self
-        ensures { result ≡ record self { options = record (self.options) { strategy = Some value } } }
+        ensures { result
+            ≡ record self { options = record (self.options) { strategy = Some value } } }
     {
         let options = Options {
             strategy: Some(value),
@@ -77,7 +82,8 @@ impl<Q: Payload, QH: Words, P: Payload, PH: Words> PortFactoryClient<Q, QH, P, P
 
     /// The greatest length of its requests; it counts where requests have many elements.
     pub fn initial_max_slice_len(self, value: u64) -> Self
-        ensures { result ≡ record self { options = record (self.options) { max_slice_len = value } } }
+        ensures { result
+            ≡ record self { options = record (self.options) { max_slice_len = value } } }
     {
         let options = Options {
             max_slice_len: value,
@@ -88,7 +94,8 @@ impl<Q: Payload, QH: Words, P: Payload, PH: Words> PortFactoryClient<Q, QH, P, P
 
     /// Whether its requests grow past the greatest length.
     pub fn allocation_strategy(self, value: AllocationStrategy) -> Self
-        ensures { result ≡ record self { options = record (self.options) { allocation = Some value } } }
+        ensures { result
+            ≡ record self { options = record (self.options) { allocation = Some value } } }
     {
         let options = Options {
             allocation: Some(value),
@@ -108,12 +115,18 @@ impl<Q: Payload, QH: Words, P: Payload, PH: Words> PortFactoryClient<Q, QH, P, P
             (Create roles.Client self.node_id (options_of self.options)) (reply_of_client result)
             (state_of_hub x hub.new) }
         ensures node { IfOk result (λ client. client.node ≡ self.node) }
-        ensures has { IfOk result (λ client. HasValue hub.new self.node client.number kinds.Client) }
+        ensures has { IfOk result (λ client.
+            HasValue hub.new self.node client.number kinds.Client) }
         ensures keeps { KeepsValues hub.old hub.new }
         ensures messages { LeavesMessages hub.old hub.new }
+        ensures idle { IfOk result (λ client. (lane request : ℕ)
+            → IsIdle hub.new (client_on client.number lane request)) }
+        ensures comes { NothingComes hub.old hub.new }
+        ensures room { KeepsRoom hub.old hub.new }
         ensures unchanged { OnErr result (StaysAs hub.old hub.new) }
         ensures refused { IfErr result (λ error. error ≢ FailedToDeployThreadsafetyPolicy) }
     {
+        hub.is_in_order();
         match hub.make_port(alloc, self.node, Role::Client, self.node_id, self.options) {
             Ok(number) => Ok(Client::new(self.node, number)),
             Err(NotMade::PortTag) => Err(ClientCreateError::UnableToCreatePortTag),

@@ -7,8 +7,12 @@ ghost use Rattle.iox_model.specs.Makings.{IsHubCommand};
 ghost use Rattle.iox_tables.specs.HubStates.States.{Given};
 ghost use Rattle.iox_hub.specs.Hubs.{HasValue, state_of_hub};
 ghost use Rattle.iox_hub.specs.Making.{LeavesMessages, StaysAs, options_of};
+ghost use Rattle.iox_hub_laws.specs.Sends.{NothingComes};
+ghost use Rattle.iox_hub_laws.specs.Waiting.{server_of};
 ghost use Rattle.iceoryx2_ports.specs.Keeping.{KeepsValues};
 ghost use Rattle.iceoryx2_ports.specs.Makings.{first_options, reply_of_server};
+ghost use Rattle.iceoryx2_ports.specs.Idling.{IsIdle};
+ghost use Rattle.iceoryx2_ports.specs.Reaching.{KeepsRoom};
 ghost use Rattle.iceoryx2_ports.specs.declared.errors.ServerCreateError.TheVariants.{FailedToDeployThreadsafetyPolicy};
 
 use crate::errors::ServerCreateError;
@@ -25,6 +29,7 @@ use std::marker::PhantomData;
 
 /// What a server is made with. Where nothing was said, the service's settings hold.
 #[derive(Drop)]
+#[derive_where(Debug)]
 pub struct PortFactoryServer<Q, QH, P, PH> {
     node: u64,
     node_id: UniqueSystemId,
@@ -55,7 +60,8 @@ impl<Q: Payload, QH: Words, P: Payload, PH: Words> PortFactoryServer<Q, QH, P, P
 
     /// What it does at a full client.
     pub fn backpressure_strategy(self, value: BackpressureStrategy) -> Self
-        ensures { result ≡ record self { options = record (self.options) { strategy = Some value } } }
+        ensures { result
+            ≡ record self { options = record (self.options) { strategy = Some value } } }
     {
         let options = Options {
             strategy: Some(value),
@@ -89,7 +95,8 @@ impl<Q: Payload, QH: Words, P: Payload, PH: Words> PortFactoryServer<Q, QH, P, P
 
     /// The greatest length of its responses; it counts where responses have many elements.
     pub fn initial_max_slice_len(self, value: u64) -> Self
-        ensures { result ≡ record self { options = record (self.options) { max_slice_len = value } } }
+        ensures { result
+            ≡ record self { options = record (self.options) { max_slice_len = value } } }
     {
         let options = Options {
             max_slice_len: value,
@@ -100,7 +107,8 @@ impl<Q: Payload, QH: Words, P: Payload, PH: Words> PortFactoryServer<Q, QH, P, P
 
     /// Whether its responses grow past the greatest length.
     pub fn allocation_strategy(self, value: AllocationStrategy) -> Self
-        ensures { result ≡ record self { options = record (self.options) { allocation = Some value } } }
+        ensures { result
+            ≡ record self { options = record (self.options) { allocation = Some value } } }
     {
         let options = Options {
             allocation: Some(value),
@@ -120,12 +128,17 @@ impl<Q: Payload, QH: Words, P: Payload, PH: Words> PortFactoryServer<Q, QH, P, P
             (Create roles.Server self.node_id (options_of self.options)) (reply_of_server result)
             (state_of_hub x hub.new) }
         ensures node { IfOk result (λ server. server.node ≡ self.node) }
-        ensures has { IfOk result (λ server. HasValue hub.new self.node server.number kinds.Server) }
+        ensures has { IfOk result (λ server.
+            HasValue hub.new self.node server.number kinds.Server) }
         ensures keeps { KeepsValues hub.old hub.new }
         ensures messages { LeavesMessages hub.old hub.new }
+        ensures idle { IfOk result (λ server. IsIdle hub.new (server_of server.number)) }
+        ensures comes { NothingComes hub.old hub.new }
+        ensures room { KeepsRoom hub.old hub.new }
         ensures unchanged { OnErr result (StaysAs hub.old hub.new) }
         ensures refused { IfErr result (λ error. error ≢ FailedToDeployThreadsafetyPolicy) }
     {
+        hub.is_in_order();
         match hub.make_port(alloc, self.node, Role::Server, self.node_id, self.options) {
             Ok(number) => Ok(Server::new(self.node, number)),
             Err(NotMade::PortTag) => Err(ServerCreateError::UnableToCreatePortTag),

@@ -2,6 +2,7 @@
 ghost use Rattle.std.specs.Prelude.{◌≡◌, true};
 ghost use Rattle.iox_model.specs.Names.{is_port};
 ghost use Rattle.iox_hub.specs.Sending.{is_handle};
+ghost use Rattle.iceoryx2_ports.specs.Idling.{GivesBack};
 ghost use Rattle.iceoryx2_ports.specs.Releases.{IsReleased};
 
 use iox_hub::Hub;
@@ -18,10 +19,13 @@ pub(crate) fn release_handle<Q: Payload, QH: Words, P: Payload, PH: Words>(
     hint: usize,
 )
     requires { is_handle kind ≡ true }
-    ensures { IsReleased hub.old node number kind hub.new }
+    ensures released { IsReleased hub.old node number kind hub.new }
+    ensures idle { GivesBack hub.old node number kind hub.new }
 {
+    hub.is_in_order();
     if hub.has(node, number, kind, hint) {
         hub.release(node, number, hint);
+        hub.is_in_order();
     }
 }
 
@@ -37,5 +41,6 @@ pub(crate) fn release_port<Q: Payload, QH: Words, P: Payload, PH: Words>(
 {
     if hub.has(node, number, kind, 0) {
         hub.release_port(node, number);
+        hub.is_in_order();
     }
 }

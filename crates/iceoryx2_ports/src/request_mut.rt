@@ -16,6 +16,7 @@ ghost use Rattle.iox_hub.specs.Sending.{HasNothing};
 ghost use Rattle.iox_hub_laws.specs.Sends.{BringsNothing, NothingComes, SendsRequest};
 ghost use Rattle.iceoryx2_ports.specs.Arrivals.{BringsItsWords};
 ghost use Rattle.iceoryx2_ports.specs.Headers.{request_header_of};
+ghost use Rattle.iceoryx2_ports.specs.Idling.{BringsOne};
 ghost use Rattle.iceoryx2_ports.specs.Keeping.{KeepsAsking};
 ghost use Rattle.iceoryx2_ports.specs.Loans.{reply_of_request_send, reply_of_write};
 ghost use Rattle.iceoryx2_ports.specs.Reaching.{KeepsRoom, ReachesServers};
@@ -72,8 +73,8 @@ impl<Q: Payload, QH: Words, P: Payload, PH: Words> RequestMutUninit<Q, QH, P, PH
         }
     }
 
-    /// Fills the request with copies of these elements. Where they are not as many as it is loaned for,
-    /// nothing changes, and the loan is given back.
+    /// Fills the request with copies of these elements. Where they are not as many as it is loaned
+    /// for, nothing changes, and the loan is given back.
     pub fn write_from_slice(
         self,
         hub: &mut Hub<Q, QH, P, PH>,
@@ -82,7 +83,8 @@ impl<Q: Payload, QH: Words, P: Payload, PH: Words> RequestMutUninit<Q, QH, P, PH
         requires has { HasValue hub.old self.node self.number kinds.RequestMutUninit }
         ensures whole { (x : Given) → IsWholeCall (state_of_hub x hub.old) self.node
             (calls.Write self.number (payload_of roles.Client (length values.now)
-            (flat_map Q.Element.words values.now))) (reply_of_write result) (state_of_hub x hub.new) }
+            (flat_map Q.Element.words values.now))) (reply_of_write result)
+            (state_of_hub x hub.new) }
         ensures written { IfOk result (λ filled. IsWritten hub.old filled.node filled.number
             kinds.RequestMut (length values.now) (flat_map Q.Element.words values.now) hub.new) }
         ensures node { IfOk result (λ filled. filled.node ≡ self.node) }
@@ -128,7 +130,8 @@ impl<Q: Payload, QH: Words, P: Payload, PH: Words> RequestMutUninit<Q, QH, P, PH
 
     /// Whether the hub still has it.
     pub fn exists(&self, hub: &Hub<Q, QH, P, PH>) -> bool
-        ensures { IsTrue result ↔ HasValue hub.now self.now.node self.now.number kinds.RequestMutUninit }
+        ensures { IsTrue result
+            ↔ HasValue hub.now self.now.node self.now.number kinds.RequestMutUninit }
     {
         hub.has(self.node, self.number, Kind::RequestMutUninit, self.hint)
     }
@@ -253,6 +256,7 @@ impl<Q: Payload, QH: Words, P: Payload, PH: Words> RequestMut<Q, QH, P, PH> {
         ensures node { IfOk result (λ pending. pending.node ≡ self.node) }
         ensures number { IfOk result (λ pending. pending.number ≡ self.number) }
         ensures gone { OnErr result (HasNothing hub.new self.node self.number) }
+        ensures one { OnOk result (BringsOne hub.old hub.new) }
         ensures sent { OnOk result (SendsRequest hub.old self.node self.number hub.new) }
         ensures unsent { OnErr result (BringsNothing hub.old self.node self.number hub.new) }
         ensures only { BringsItsWords hub.old self.node self.number hub.new }

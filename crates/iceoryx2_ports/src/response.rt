@@ -9,6 +9,7 @@ ghost use Rattle.iox_hub.specs.Headers.{IsHeaderShown, header_in};
 ghost use Rattle.iox_hub.specs.Hubs.{HasValue, state_of_hub};
 ghost use Rattle.iox_hub.specs.Reads.{message_in};
 ghost use Rattle.iceoryx2_ports.specs.Headers.{response_header_of};
+ghost use Rattle.iceoryx2_ports.specs.Idling.{GivesBack};
 ghost use Rattle.iceoryx2_ports.specs.Payloads.{BeginsWith};
 ghost use Rattle.iceoryx2_ports.specs.Releases.{IsReleased};
 
@@ -114,7 +115,8 @@ impl<Q: Payload, QH: Words, P: Payload, PH: Words> Response<Q, QH, P, PH> {
 
     /// Gives it up. Where the hub no longer has it, nothing changes.
     pub fn release(self, hub: &mut Hub<Q, QH, P, PH>)
-        ensures { IsReleased hub.old self.node self.number kinds.Response hub.new }
+        ensures released { IsReleased hub.old self.node self.number kinds.Response hub.new }
+        ensures idle { GivesBack hub.old self.node self.number kinds.Response hub.new }
     {
         let Response {
             node,

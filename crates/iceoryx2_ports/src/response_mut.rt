@@ -20,6 +20,7 @@ ghost use Rattle.iceoryx2_ports.specs.Keeping.{KeepsAsking};
 ghost use Rattle.iceoryx2_ports.specs.Loans.{reply_of_response_send, reply_of_write};
 ghost use Rattle.iceoryx2_ports.specs.Reaching.{KeepsRoom};
 ghost use Rattle.iceoryx2_ports.specs.Releases.{IsReleased};
+ghost use Rattle.iceoryx2_ports.specs.Responses.{ReachesItsAsker};
 
 mod payloads;
 
@@ -71,8 +72,8 @@ impl<Q: Payload, QH: Words, P: Payload, PH: Words> ResponseMutUninit<Q, QH, P, P
         }
     }
 
-    /// Fills the response with copies of these elements. Where they are not as many as it is loaned for,
-    /// nothing changes, and the loan is given back.
+    /// Fills the response with copies of these elements. Where they are not as many as it is loaned
+    /// for, nothing changes, and the loan is given back.
     pub fn write_from_slice(
         self,
         hub: &mut Hub<Q, QH, P, PH>,
@@ -81,7 +82,8 @@ impl<Q: Payload, QH: Words, P: Payload, PH: Words> ResponseMutUninit<Q, QH, P, P
         requires has { HasValue hub.old self.node self.number kinds.ResponseMutUninit }
         ensures whole { (x : Given) → IsWholeCall (state_of_hub x hub.old) self.node
             (calls.Write self.number (payload_of roles.Server (length values.now)
-            (flat_map P.Element.words values.now))) (reply_of_write result) (state_of_hub x hub.new) }
+            (flat_map P.Element.words values.now))) (reply_of_write result)
+            (state_of_hub x hub.new) }
         ensures written { IfOk result (λ filled. IsWritten hub.old filled.node filled.number
             kinds.ResponseMut (length values.now) (flat_map P.Element.words values.now) hub.new) }
         ensures node { IfOk result (λ filled. filled.node ≡ self.node) }
@@ -127,7 +129,8 @@ impl<Q: Payload, QH: Words, P: Payload, PH: Words> ResponseMutUninit<Q, QH, P, P
 
     /// Whether the hub still has it.
     pub fn exists(&self, hub: &Hub<Q, QH, P, PH>) -> bool
-        ensures { IsTrue result ↔ HasValue hub.now self.now.node self.now.number kinds.ResponseMutUninit }
+        ensures { IsTrue result
+            ↔ HasValue hub.now self.now.node self.now.number kinds.ResponseMutUninit }
     {
         hub.has(self.node, self.number, Kind::ResponseMutUninit, self.hint)
     }
@@ -248,6 +251,8 @@ impl<Q: Payload, QH: Words, P: Payload, PH: Words> ResponseMut<Q, QH, P, PH> {
         ensures sent { OnOk result (SendsResponse hub.old self.node self.number hub.new) }
         ensures unsent { OnErr result (BringsNothing hub.old self.node self.number hub.new) }
         ensures only { BringsItsWords hub.old self.node self.number hub.new }
+        ensures reaches { OnOk result
+            (ReachesItsAsker hub.old self.node self.number hub.new) }
         ensures keeps { KeepsOthers hub.old self.node self.number hub.new }
         ensures asks { KeepsAsking hub.old hub.new }
     {
@@ -257,8 +262,12 @@ impl<Q: Payload, QH: Words, P: Payload, PH: Words> ResponseMut<Q, QH, P, PH> {
             hint,
             of: _,
         } = self;
+        hub.is_in_order();
         match send_response(hub, node, number, hint) {
-            Responded::Done => Ok(()),
+            Responded::Done => {
+                hub.is_in_order();
+                Ok(())
+            }
             Responded::Undelivered => Err(SendError::UnableToDeliver),
         }
     }

@@ -11,6 +11,7 @@ ghost use Rattle.iox_hub_laws.specs.Receives.{CarriesWhatWaited, TakesRequest};
 ghost use Rattle.iox_hub_laws.specs.Sends.{NothingComes};
 ghost use Rattle.iox_hub_laws.specs.Waiting.{WaitedFor, server_of};
 ghost use Rattle.iceoryx2_ports.specs.Answers.{received_request, reply_of_request};
+ghost use Rattle.iceoryx2_ports.specs.Idling.{TakesTheOne};
 ghost use Rattle.iceoryx2_ports.specs.Keeping.{KeepsAsking, KeepsValues};
 ghost use Rattle.iceoryx2_ports.specs.Releases.{IsReleased};
 ghost use Rattle.iceoryx2_ports.specs.declared.errors.ReceiveError.TheVariants.{ExceedsMaxBorrows};
@@ -47,8 +48,9 @@ impl<Q: Payload, QH: Words, P: Payload, PH: Words> Server<Q, QH, P, PH> {
         }
     }
 
-    /// Receives a request, if one is there: one that waits, comes next on its way, and is new to the
-    /// server. Without fire-and-forget a request that its client gave up is released and skipped.
+    /// Receives a request, if one is there: one that waits, comes next on its way, and is new to
+    /// the server. Without fire-and-forget a request that its client gave up is released and
+    /// skipped.
     pub fn receive(
         &self,
         hub: &mut Hub<Q, QH, P, PH>,
@@ -70,8 +72,12 @@ impl<Q: Payload, QH: Words, P: Payload, PH: Words> Server<Q, QH, P, PH> {
         ensures carries { IfOk result (λ got. IfSome got (λ request.
             CarriesWhatWaited hub.old (server_of self.now.number) hub.new request.node
             request.number)) }
+        ensures idle { IfOk result (λ got. IfSome got (λ request.
+            TakesTheOne hub.old (server_of self.now.number) hub.new request.node
+            request.number)) }
         ensures comes { NothingComes hub.old hub.new }
     {
+        hub.is_in_order();
         match receive_request(hub, self.node, self.number) {
             Received::Handle(number) => Ok(Some(ActiveRequest::new(self.node, number))),
             Received::Nothing => Ok(None),

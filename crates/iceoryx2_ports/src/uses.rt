@@ -105,7 +105,8 @@ pub fn reads_response<'a, E: Words>(
     hub: &'a Hub<One<u64>, (), Many<E>, u32>,
 ) -> (&'a [E], u32)
     requires { HasValue hub.now response.now.node response.now.number kinds.Response }
-    ensures { flat_map E.words result.0.now ≡ (message_in hub.now response.now.node response.now.number).payload }
+    ensures { flat_map E.words result.0.now
+        ≡ (message_in hub.now response.now.node response.now.number).payload }
 {
     (response.payload(hub), *response.user_header(hub))
 }

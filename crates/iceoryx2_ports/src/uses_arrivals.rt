@@ -10,8 +10,8 @@ use crate::{
     Server,
 };
 
-/// A client loans a request, writes 456 and sends it. For a server for which nothing waited, nothing
-/// but 456 waits then.
+/// A client loans a request, writes 456 and sends it. For a server for which nothing waited,
+/// nothing but 456 waits then.
 pub fn sends_456(
     client: &Client<One<u64>, (), One<u64>, ()>,
     server: &Server<One<u64>, (), One<u64>, ()>,

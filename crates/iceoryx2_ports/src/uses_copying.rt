@@ -25,7 +25,8 @@ pub fn asks_123(
     client.send_copy(hub, 123)
 }
 
-/// A client asks twice, whatever comes of the second copy, and still has the first pending response.
+/// A client asks twice, whatever comes of the second copy, and still has the first pending
+/// response.
 pub fn asks_twice<QH: Words, P: Payload, PH: Words>(
     client: &Client<One<u64>, QH, P, PH>,
     hub: &mut Hub<One<u64>, QH, P, PH>,

@@ -3,7 +3,7 @@ ghost use Rattle.std.specs.Prelude.{◌≡◌, ◌∷◌, ◌<◌, ◌^◌, IfOk
 ghost use Rattle.iceoryx2_ports.specs.Kind.TheVariants as kinds;
 ghost use Rattle.iceoryx2_ports.specs.Hubs.{HasValue, IsReached};
 ghost use Rattle.iceoryx2_ports.specs.Reads.{message_in};
-ghost use Rattle.iox_hub.specs.Making.{StaysAs};
+ghost use Rattle.iceoryx2_ports.specs.Making.{StaysAs};
 
 use crate::{
     ActiveRequest, Client, Hub, LoanError, Many, One, Payload, PendingResponse, PortFactoryClient,
@@ -12,8 +12,8 @@ use crate::{
 use iox_types::identifiers::UniqueSystemId;
 use std::alloc::Global;
 
-/// A client and a server are made, and the node has both. Where the server is refused, the client is
-/// released.
+/// A client and a server are made, and the node has both. Where the server is refused, the client
+/// is released.
 pub fn makes_both(
     hub: &mut Hub<One<u64>, (), One<u64>, ()>,
     alloc: Global,

@@ -3,7 +3,7 @@ ghost use Rattle.std.specs.Prelude.{◌≡◌, IfOk, true};
 ghost use Rattle.iceoryx2_ports.specs.Kind.TheVariants as kinds;
 ghost use Rattle.iceoryx2_ports.specs.Hubs.{HasValue};
 ghost use Rattle.iceoryx2_ports.specs.Reads.{message_in};
-ghost use Rattle.iox_hub.specs.Headers.{sender_in};
+ghost use Rattle.iceoryx2_ports.specs.HubHeaders.{sender_in};
 
 use crate::{
     ActiveRequest, Client, Hub, Payload, PendingResponse, Response, Server, UniqueNodeIdError,

@@ -3,9 +3,10 @@ ghost use Rattle.std.specs.Prelude.{◌≡◌, IfSome};
 ghost use Rattle.iceoryx2_ports.specs.Counts.{requests_on_loan};
 ghost use Rattle.iceoryx2_ports.specs.Kind.TheVariants as kinds;
 ghost use Rattle.iceoryx2_ports.specs.Hubs.{HasValue};
+ghost use Rattle.iceoryx2_ports.specs.LoanLimits.{most_responses, responses_lent};
 ghost use Rattle.iceoryx2_ports.specs.declared.errors.LoanError.TheVariants.{ExceedsMaxLoans};
 
-use crate::{Client, Hub, LoanError, One, Payload, Words};
+use crate::{ActiveRequest, Client, Hub, LoanError, One, Payload, Words};
 
 /// Of a client that may have one loan, the second is refused.
 pub fn second_loan<E: Words, QH: Words, P: Payload, PH: Words>(
@@ -61,4 +62,30 @@ pub fn third_loan<E: Words, QH: Words, P: Payload, PH: Words>(
     first.release(hub);
     second.release(hub);
     told
+}
+
+/// Of a server that may have one response to a request on loan, the second is refused.
+pub fn second_response<Q: Payload, QH: Words, E: Words, PH: Words>(
+    request: &ActiveRequest<Q, QH, One<E>, PH>,
+    hub: &mut Hub<Q, QH, One<E>, PH>,
+) -> Option<LoanError>
+    requires has { HasValue hub.old request.now.node request.now.number kinds.ActiveRequest }
+    requires limit { most_responses hub.old request.now.node request.now.number ≡ 1 }
+    requires none { responses_lent hub.old request.now.node request.now.number ≡ 0 }
+    ensures { IfSome result (λ error. error ≡ ExceedsMaxLoans) }
+{
+    let first = request.loan_uninit(hub).ok()?;
+    if hub.calls() >= 1 << 56 {
+        first.release(hub);
+        return None;
+    }
+    let told = match request.loan_uninit(hub) {
+        Ok(second) => {
+            second.release(hub);
+            unreachable!();
+        }
+        Err(error) => error,
+    };
+    first.release(hub);
+    Some(told)
 }

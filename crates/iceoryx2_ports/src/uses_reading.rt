@@ -1,9 +1,9 @@
 //! A server receives what waits for it, proved from the clauses of typed ports alone.
 ghost use Rattle.std.specs.Prelude.{◌<◌, ◌^◌, ℕ};
-ghost use Rattle.iox_model.specs.Messages.{Message};
+ghost use Rattle.iceoryx2_ports.specs.Messages.{Message};
 ghost use Rattle.iceoryx2_ports.specs.Kind.TheVariants as kinds;
 ghost use Rattle.iceoryx2_ports.specs.Hubs.{HasValue};
-ghost use Rattle.iox_hub_laws.specs.Waiting.{CanCome, NothingWaits, server_of};
+ghost use Rattle.iceoryx2_ports.specs.Waiting.{CanCome, NothingWaits, server_of};
 
 use crate::{ActiveRequest, Hub, Payload, Server, Words};
 

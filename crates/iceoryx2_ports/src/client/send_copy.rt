@@ -11,6 +11,7 @@ ghost use Rattle.iox_hub.specs.Hubs.{HasValue, state_of_hub};
 ghost use Rattle.iox_hub.specs.Lending.{payload_of};
 ghost use Rattle.iox_hub_laws.specs.Sends.{BringsOnly};
 ghost use Rattle.iceoryx2_ports.specs.Copies.{LeavesUnasked, reply_of_request_copy};
+ghost use Rattle.iceoryx2_ports.specs.Idling.{BringsOne};
 ghost use Rattle.iceoryx2_ports.specs.Keeping.{KeepsAsking, KeepsValues};
 ghost use Rattle.iceoryx2_ports.specs.Reaching.{CopiesRequest, ReachesServers};
 
@@ -40,6 +41,7 @@ impl<E: Words, QH: Words, P: Payload, PH: Words> Client<One<E>, QH, P, PH> {
         ensures awaited { IfOk result (λ pending. IsAwaited hub.new pending.node pending.number
             pending.servers 1 (flat_map E.words (value ∷ []))) }
         ensures node { IfOk result (λ pending. pending.node ≡ self.now.node) }
+        ensures one { OnOk result (BringsOne hub.old hub.new) }
         ensures sent { OnOk result (CopiesRequest hub.old self.now.number
             (flat_map E.words (value ∷ [])) hub.new) }
         ensures reaches { OnOk result (ReachesServers hub.old hub.new) }

@@ -51,8 +51,8 @@ impl<Q: Payload, QH: Words, P: Payload, PH: Words> ResponseMutUninit<Q, QH, P, P
         hub.write_next_response(self.node, self.number, self.hint, value);
     }
 
-    /// The filled response, if each of its elements is filled. Else nothing changes, and the loan is
-    /// given back.
+    /// The filled response, if each of its elements is filled. Else nothing changes, and the loan
+    /// is given back.
     pub fn assume_init(self, hub: &mut Hub<Q, QH, P, PH>) -> Result<ResponseMut<Q, QH, P, PH>, Self>
         requires has { HasValue hub.old self.node self.number kinds.ResponseMutUninit }
         ensures all { IsOk result ↔ (message_in hub.old self.node self.number).filled

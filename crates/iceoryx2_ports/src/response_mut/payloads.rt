@@ -24,8 +24,8 @@ use iox_store::{One, Payload};
 use iox_words::Words;
 
 impl<Q: Payload, QH: Words, P: Payload, PH: Words> ResponseMut<Q, QH, P, PH> {
-    /// Puts copies of these elements in place of those that the response has, and says whether they are as
-    /// many. Where they are not, nothing changes.
+    /// Puts copies of these elements in place of those that the response has, and says whether they
+    /// are as many. Where they are not, nothing changes.
     pub fn set_payload_from_slice(&self, hub: &mut Hub<Q, QH, P, PH>, values: &[P::Element]) -> bool
         requires has { HasValue hub.old self.now.node self.now.number kinds.ResponseMut }
         ensures whole { (x : Given) → IsWholeCall (state_of_hub x hub.old) self.now.node

@@ -1,9 +1,12 @@
-use Rattle.std.proofs.Common.{ap}
+use Rattle.std.proofs.Common.{ap, sym, ◌∙◌}
 use Rattle.iox_model.specs.declared.reply.Reply.TheVariants as replies
 use Rattle.iox_tables.specs.HubLoans.Loans.{loan_call}
 use Rattle.iox_control_lending.specs.Lends.{refusal_of, reply_of_loan}
 use Rattle.iox_control_lending.specs.declared.asked.LoanRefusal.TheVariants as refusals
+use Rattle.iox_control_lending.specs.declared.asked.Lent.TheVariants as lents
+use Rattle.iceoryx2_ports.proofs.LoanLimits.{result_of}
 use Rattle.iceoryx2_ports.proofs.Reaching.{loan_keeps_room}
+use Rattle.iceoryx2_ports.proofs.ResponseLimits.{responds_one_more, response_refused_at_limit}
 use Rattle.iceoryx2_ports.proofs.Staying.{loan_asks_as_before, loan_keeps}
 use Rattle.iceoryx2_ports.proofs.Telling.{called_as}
 use Rattle.iceoryx2_ports.proofs.loans.lend_response.Goals as goal
@@ -61,3 +64,39 @@ pub returns-in-OutOfMemory-clause-room : goal.returns-in-OutOfMemory-clause-room
 returns-in-OutOfMemory-clause-room g c =
     loan_keeps_room c.args.hub.now c.lend_response.new.hub c.args.node c.args.uninit c.args.number c.args.elements (reply_of_loan c.lend_response.result)
     c.lend_response.ensures.whole
+
+pub returns-in-Handle-clause-counted : goal.returns-in-Handle-clause-counted
+returns-in-Handle-clause-counted g c =
+    responds_one_more c.args.hub.now c.lend_response.new.hub c.is_in_order.ensures c.args.node c.args.number c.args.elements c.args.uninit
+    c.in-Handle.loan.number c.requires.has c.in-Handle.ensures.answers c.in-Handle.ensures.whole
+
+pub returns-in-Handle-clause-past : goal.returns-in-Handle-clause-past
+returns-in-Handle-clause-past g c =
+    response_refused_at_limit c.args.hub.now c.is_in_order.ensures c.args.node c.args.number c.args.elements (lents.Handle c.in-Handle.loan) c.requires.has
+    c.in-Handle.ensures.answers
+
+pub returns-in-OutOfMemory-clause-past : goal.returns-in-OutOfMemory-clause-past
+returns-in-OutOfMemory-clause-past g c =
+    response_refused_at_limit c.args.hub.now c.is_in_order.ensures c.args.node c.args.number c.args.elements lents.OutOfMemory c.requires.has
+    c.in-OutOfMemory.ensures.answers
+
+pub returns-in-Refused-CallsSpent-clause-past : goal.returns-in-Refused-CallsSpent-clause-past
+returns-in-Refused-CallsSpent-clause-past g c =
+    λ all.
+    ap (λ r. result_of (lents.Refused r)) (sym c.in-Refused-CallsSpent.field-0-is)
+    ∙ response_refused_at_limit c.args.hub.now c.is_in_order.ensures c.args.node c.args.number c.args.elements
+    (lents.Refused c.in-Refused-CallsSpent.field-0) c.requires.has c.in-Refused-CallsSpent.ensures.answers all
+
+pub returns-in-Refused-WrongLength-clause-past : goal.returns-in-Refused-WrongLength-clause-past
+returns-in-Refused-WrongLength-clause-past g c =
+    λ all.
+    ap (λ r. result_of (lents.Refused r)) (sym c.in-Refused-WrongLength.field-0-is)
+    ∙ response_refused_at_limit c.args.hub.now c.is_in_order.ensures c.args.node c.args.number c.args.elements
+    (lents.Refused c.in-Refused-WrongLength.field-0) c.requires.has c.in-Refused-WrongLength.ensures.answers all
+
+pub returns-in-Refused-ExceedsMaxLoanSize-clause-past : goal.returns-in-Refused-ExceedsMaxLoanSize-clause-past
+returns-in-Refused-ExceedsMaxLoanSize-clause-past g c =
+    λ all.
+    ap (λ r. result_of (lents.Refused r)) (sym c.in-Refused-ExceedsMaxLoanSize.field-0-is)
+    ∙ response_refused_at_limit c.args.hub.now c.is_in_order.ensures c.args.node c.args.number c.args.elements
+    (lents.Refused c.in-Refused-ExceedsMaxLoanSize.field-0) c.requires.has c.in-Refused-ExceedsMaxLoanSize.ensures.answers all

@@ -4,8 +4,12 @@ use Rattle.iox_model.specs.declared.call.Call.TheVariants.{Receive}
 use Rattle.iox_control.specs.declared.received.Received.TheVariants as received
 use Rattle.iox_control.specs.Replies.{reply_of_receive}
 use Rattle.iox_hub_laws.specs.Receives.{TakesResponse}
+use Rattle.iox_hub_laws.specs.Waiting.{client_in}
+use Rattle.iceoryx2_ports.specs.Idling.{TakesTheOne}
+use Rattle.iceoryx2_ports.proofs.OneTaken.{response_is_the_one}
 use Rattle.iceoryx2_ports.proofs.Staying.{asks_as_before, kept}
 use Rattle.iceoryx2_ports.proofs.Coming.{receive_brings_nothing}
+use Rattle.iceoryx2_ports.proofs.Responding.{waited_in}
 use Rattle.iceoryx2_ports.proofs.pending_response.PendingResponse.receive.Goals as goal
 
 pub returns-in-Handle-clause-keeps : goal.returns-in-Handle-clause-keeps
@@ -58,3 +62,22 @@ pub returns-in-AtLimit-clause-comes : goal.returns-in-AtLimit-clause-comes
 returns-in-AtLimit-clause-comes g c =
     receive_brings_nothing c.args.hub.now c.receive_response.new.hub c.args.self.now.node c.args.self.now.number (reply_of_receive c.receive_response.result)
     c.receive_response.ensures.whole
+
+pub returns-in-Handle-clause-waited : goal.returns-in-Handle-clause-waited
+returns-in-Handle-clause-waited g c =
+    waited_in c.args.hub.now c.args.self.now.node c.args.self.now.number (received.Handle c.new.result.number) c.requires.has c.in-Handle.ensures.waited
+
+pub returns-in-Nothing-clause-waited : goal.returns-in-Nothing-clause-waited
+returns-in-Nothing-clause-waited g c =
+    waited_in c.args.hub.now c.args.self.now.node c.args.self.now.number received.Nothing c.requires.has c.in-Nothing.ensures.waited
+
+pub returns-in-AtLimit-clause-waited : goal.returns-in-AtLimit-clause-waited
+returns-in-AtLimit-clause-waited g c =
+    waited_in c.args.hub.now c.args.self.now.node c.args.self.now.number received.AtLimit c.requires.has c.in-AtLimit.ensures.waited
+
+pub returns-in-Handle-clause-idle : goal.returns-in-Handle-clause-idle
+returns-in-Handle-clause-idle g c =
+    subst (λ i. TakesTheOne c.args.hub.now (client_in c.args.hub.now c.args.self.now.node c.args.self.now.number) c.receive_response.new.hub i c.new.result.number) (sym c.new.ensures.node)
+    (subst (λ n. TakesTheOne c.args.hub.now (client_in c.args.hub.now c.args.self.now.node c.args.self.now.number) c.receive_response.new.hub c.args.self.now.node n) (sym c.new.ensures.number)
+    (response_is_the_one c.args.hub.now c.receive_response.new.hub c.is_in_order.ensures c.args.self.now.node c.args.self.now.number c.in-Handle.number c.requires.has
+    c.in-Handle.ensures.whole c.in-Handle.ensures.takes))

@@ -1,10 +1,13 @@
+use Rattle.std.specs.Prelude.{refl}
 use Rattle.std.proofs.Common.{ap, sym}
 use Rattle.iox_model.specs.Commands.{Create}
 use Rattle.iox_model.specs.declared.kind.Role.TheVariants as roles
 use Rattle.iox_model.specs.declared.reply.Reply.TheVariants as replies
 use Rattle.iox_control_making.specs.Making.{refusal_of}
 use Rattle.iox_control_making.specs.declared.asked.NotMade.TheVariants as not_made
-use Rattle.iox_hub.specs.Making.{options_of}
+use Rattle.iox_hub.specs.Making.{options_of, reply_of_making}
+use Rattle.iox_hub_laws.specs.Waiting.{server_of}
+use Rattle.iceoryx2_ports.proofs.Idle.{made_is_idle, making_brings_nothing, making_keeps_room}
 use Rattle.iceoryx2_ports.proofs.Staying.{kept_by}
 use Rattle.iceoryx2_ports.proofs.Telling.{made_as}
 use Rattle.iceoryx2_ports.proofs.port_factory_server.PortFactoryServer.create.Goals as goal
@@ -34,3 +37,49 @@ returns-in-Err-TooManyPorts-clause-whole g c =
     made_as c.args.hub.now c.make_port.new.self c.args.self.node (Create roles.Server c.args.self.node_id (options_of c.args.self.options))
     (replies.Refused (refusal_of roles.Server c.in-Err-TooManyPorts.field-0)) (replies.Refused (refusal_of roles.Server not_made.TooManyPorts))
     (ap (λ r. replies.Refused (refusal_of roles.Server r)) c.in-Err-TooManyPorts.field-0-is) c.in-Err-TooManyPorts.ensures.whole
+
+pub returns-in-Ok-clause-idle : goal.returns-in-Ok-clause-idle
+returns-in-Ok-clause-idle g c =
+    made_is_idle c.args.hub.now c.make_port.new.self c.is_in_order.ensures c.args.self.node roles.Server c.args.self.node_id
+    (options_of c.args.self.options) (replies.Server c.in-Ok.number) c.in-Ok.ensures.whole c.new.result.number
+    (ap replies.Server (sym c.new.ensures.number)) (server_of c.new.result.number) refl
+
+pub returns-in-Ok-clause-comes : goal.returns-in-Ok-clause-comes
+returns-in-Ok-clause-comes g c =
+    making_brings_nothing c.args.hub.now c.make_port.new.self c.is_in_order.ensures c.args.self.node roles.Server c.args.self.node_id
+    (options_of c.args.self.options) (reply_of_making roles.Server c.make_port.result) c.make_port.ensures.whole
+
+pub returns-in-Ok-clause-room : goal.returns-in-Ok-clause-room
+returns-in-Ok-clause-room g c =
+    making_keeps_room c.args.hub.now c.make_port.new.self c.is_in_order.ensures c.args.self.node roles.Server c.args.self.node_id
+    (options_of c.args.self.options) (reply_of_making roles.Server c.make_port.result) c.make_port.ensures.whole
+
+pub returns-in-Err-PortTag-clause-comes : goal.returns-in-Err-PortTag-clause-comes
+returns-in-Err-PortTag-clause-comes g c =
+    making_brings_nothing c.args.hub.now c.make_port.new.self c.is_in_order.ensures c.args.self.node roles.Server c.args.self.node_id
+    (options_of c.args.self.options) (reply_of_making roles.Server c.make_port.result) c.make_port.ensures.whole
+
+pub returns-in-Err-PortTag-clause-room : goal.returns-in-Err-PortTag-clause-room
+returns-in-Err-PortTag-clause-room g c =
+    making_keeps_room c.args.hub.now c.make_port.new.self c.is_in_order.ensures c.args.self.node roles.Server c.args.self.node_id
+    (options_of c.args.self.options) (reply_of_making roles.Server c.make_port.result) c.make_port.ensures.whole
+
+pub returns-in-Err-DataSegment-clause-comes : goal.returns-in-Err-DataSegment-clause-comes
+returns-in-Err-DataSegment-clause-comes g c =
+    making_brings_nothing c.args.hub.now c.make_port.new.self c.is_in_order.ensures c.args.self.node roles.Server c.args.self.node_id
+    (options_of c.args.self.options) (reply_of_making roles.Server c.make_port.result) c.make_port.ensures.whole
+
+pub returns-in-Err-DataSegment-clause-room : goal.returns-in-Err-DataSegment-clause-room
+returns-in-Err-DataSegment-clause-room g c =
+    making_keeps_room c.args.hub.now c.make_port.new.self c.is_in_order.ensures c.args.self.node roles.Server c.args.self.node_id
+    (options_of c.args.self.options) (reply_of_making roles.Server c.make_port.result) c.make_port.ensures.whole
+
+pub returns-in-Err-TooManyPorts-clause-comes : goal.returns-in-Err-TooManyPorts-clause-comes
+returns-in-Err-TooManyPorts-clause-comes g c =
+    making_brings_nothing c.args.hub.now c.make_port.new.self c.is_in_order.ensures c.args.self.node roles.Server c.args.self.node_id
+    (options_of c.args.self.options) (reply_of_making roles.Server c.make_port.result) c.make_port.ensures.whole
+
+pub returns-in-Err-TooManyPorts-clause-room : goal.returns-in-Err-TooManyPorts-clause-room
+returns-in-Err-TooManyPorts-clause-room g c =
+    making_keeps_room c.args.hub.now c.make_port.new.self c.is_in_order.ensures c.args.self.node roles.Server c.args.self.node_id
+    (options_of c.args.self.options) (reply_of_making roles.Server c.make_port.result) c.make_port.ensures.whole

@@ -5,7 +5,7 @@ use Rattle.iox_model.specs.declared.call.Call.TheVariants.{Send}
 use Rattle.iox_model.specs.declared.kind.Kind.TheVariants.{RequestMut}
 use Rattle.iox_control_requests.specs.Sendings.{reply_of_send}
 use Rattle.iceoryx2_ports.proofs.Aside.{loan_asks_as_always}
-use Rattle.iceoryx2_ports.proofs.Reaching.{send_reaches}
+use Rattle.iceoryx2_ports.proofs.Reaching.{send_brings_one, send_reaches}
 use Rattle.iceoryx2_ports.proofs.request_mut.RequestMut.send.Goals as goal
 
 pub returns-in-To-clause-only : goal.returns-in-To-clause-only
@@ -39,3 +39,8 @@ pub returns-in-To-clause-reaches : goal.returns-in-To-clause-reaches
 returns-in-To-clause-reaches g c =
     send_reaches c.args.hub.now c.send_request.new.hub c.is_in_order.ensures c.args.self.node c.args.self.number c.in-To.servers c.requires.has
     c.in-To.ensures.brings c.in-To.ensures.whole
+
+pub returns-in-To-clause-one : goal.returns-in-To-clause-one
+returns-in-To-clause-one g c =
+    send_brings_one c.args.hub.now c.send_request.new.hub c.args.self.node c.args.self.number c.in-To.servers c.requires.has c.in-To.ensures.brings
+    c.in-To.ensures.whole

@@ -4,6 +4,7 @@ use Rattle.iox_hub_laws.specs.Sends.{BringsOnly}
 use Rattle.iox_model.specs.declared.call.Call.TheVariants.{Send}
 use Rattle.iox_model.specs.declared.kind.Kind.TheVariants.{ResponseMut}
 use Rattle.iox_control_responses.specs.Responses.{reply_of_send}
+use Rattle.iceoryx2_ports.proofs.Answering.{loan_reaches_asker}
 use Rattle.iceoryx2_ports.proofs.Aside.{loan_asks_as_always}
 use Rattle.iceoryx2_ports.proofs.response_mut.ResponseMut.send.Goals as goal
 
@@ -24,3 +25,8 @@ pub returns-in-Undelivered-clause-asks : goal.returns-in-Undelivered-clause-asks
 returns-in-Undelivered-clause-asks g c =
     loan_asks_as_always c.args.hub.now c.send_response.new.hub c.args.self.node (Send c.args.self.number) (reply_of_send c.send_response.result) refl
     c.send_response.ensures.whole ResponseMut refl c.requires.has
+
+pub returns-in-Done-clause-reaches : goal.returns-in-Done-clause-reaches
+returns-in-Done-clause-reaches g c =
+    loan_reaches_asker c.args.hub.now c.send_response.new.hub c.is_in_order.ensures c.is_in_order-in-Done.ensures c.args.self.node c.args.self.number
+    c.requires.has c.in-Done.ensures.brings c.in-Done.ensures.whole c.send_response.ensures.keeps

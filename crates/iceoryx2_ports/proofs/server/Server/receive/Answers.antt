@@ -1,9 +1,14 @@
 use Rattle.std.specs.Prelude.{refl}
-use Rattle.std.proofs.Common.{subst, sym}
+use Rattle.std.proofs.Common.{ap, subst, sym}
 use Rattle.iox_model.specs.declared.call.Call.TheVariants.{Receive}
+use Rattle.iox_model.specs.declared.reply.Reply.TheVariants as replies
 use Rattle.iox_control.specs.declared.received.Received.TheVariants as received
 use Rattle.iox_control.specs.Replies.{reply_of_receive}
 use Rattle.iox_hub_laws.specs.Receives.{TakesRequest}
+use Rattle.iox_hub_laws.specs.Waiting.{server_of}
+use Rattle.iceoryx2_ports.specs.Idling.{TakesTheOne}
+use Rattle.iceoryx2_ports.proofs.OneTaken.{request_is_the_one}
+use Rattle.iceoryx2_ports.proofs.Telling.{called_as}
 use Rattle.iceoryx2_ports.proofs.Staying.{asks_as_before, kept}
 use Rattle.iceoryx2_ports.proofs.Coming.{receive_brings_nothing}
 use Rattle.iceoryx2_ports.proofs.server.Server.receive.Goals as goal
@@ -58,3 +63,15 @@ pub returns-in-AtLimit-clause-comes : goal.returns-in-AtLimit-clause-comes
 returns-in-AtLimit-clause-comes g c =
     receive_brings_nothing c.args.hub.now c.receive_request.new.hub c.args.self.now.node c.args.self.now.number (reply_of_receive c.receive_request.result)
     c.receive_request.ensures.whole
+
+pub returns-in-Handle-clause-idle : goal.returns-in-Handle-clause-idle
+returns-in-Handle-clause-idle g c =
+    subst (λ i. TakesTheOne c.args.hub.now (server_of c.args.self.now.number) c.receive_request.new.hub i c.new.result.number) (sym c.new.ensures.node)
+    (subst (λ n. TakesTheOne c.args.hub.now (server_of c.args.self.now.number) c.receive_request.new.hub c.args.self.now.node n) (sym c.new.ensures.number)
+    (request_is_the_one c.args.hub.now c.receive_request.new.hub c.is_in_order.ensures c.args.self.now.node c.args.self.now.number c.in-Handle.number
+    c.in-Handle.ensures.whole c.in-Handle.ensures.takes))
+
+pub returns-in-Handle-clause-whole : goal.returns-in-Handle-clause-whole
+returns-in-Handle-clause-whole g c =
+    called_as c.args.hub.now c.receive_request.new.hub c.args.self.now.node (Receive c.args.self.now.number) (replies.Handle c.in-Handle.number)
+    (replies.Handle c.new.result.number) (ap replies.Handle (sym c.new.ensures.number)) c.in-Handle.ensures.whole

@@ -7,9 +7,11 @@ use Rattle.iox_model.specs.declared.reply.Reply.TheVariants as replies
 use Rattle.iox_control_copies.specs.Answers.{reply_of_copy}
 use Rattle.iox_control_lending.specs.Lends.{refusal_of}
 use Rattle.iox_hub.specs.Lending.{payload_of}
+use Rattle.iox_hub_laws.specs.Shown.{nothing_given, shown}
 use Rattle.iceoryx2_ports.specs.Copies.{copy_reply}
 use Rattle.iceoryx2_ports.specs.Loans.{loan_refusal}
 use Rattle.iceoryx2_ports.proofs.Copying.{copy_asks_as_before, copy_keeps, test_is_told}
+use Rattle.iceoryx2_ports.proofs.Responding.{copy_has_as_before, copy_reaches_asker}
 use Rattle.iceoryx2_ports.proofs.Telling.{called_as}
 use Rattle.iceoryx2_ports.proofs.active_request.send_copy.ActiveRequest+Q+QH+One+E+PH.send_copy.Goals as goal
 
@@ -45,3 +47,10 @@ returns-in-OutOfMemory-clause-asks g c =
 pub returns-in-Undelivered-clause-asks : goal.returns-in-Undelivered-clause-asks
 returns-in-Undelivered-clause-asks g c =
     copy_asks_as_before c.args.hub.now c.copy_response.new.hub c.args.self.now.node c.args.self.now.number (payload_of roles.Server 1 (flat_map g.E.Words.words (c.args.value ∷ []))) (reply_of_copy c.copy_response.result) c.copy_response.ensures.whole
+
+pub returns-in-Done-clause-reaches : goal.returns-in-Done-clause-reaches
+returns-in-Done-clause-reaches g c =
+    copy_reaches_asker c.args.hub.now c.copy_response.new.hub c.is_in_order.ensures c.args.self.now.node c.args.self.now.number 1
+    (flat_map g.E.Words.words (c.args.value ∷ [])) c.requires.has c.in-Done.ensures.brings
+    (copy_has_as_before (shown c.args.hub.now) (shown c.copy_response.new.hub) c.args.self.now.node c.args.self.now.number
+    (payload_of roles.Server 1 (flat_map g.E.Words.words (c.args.value ∷ []))) (c.in-Done.ensures.whole (nothing_given c.args.hub.now)))

@@ -10,7 +10,7 @@ use Rattle.iox_hub.specs.Lending.{payload_of}
 use Rattle.iceoryx2_ports.specs.Copies.{unasked_reply}
 use Rattle.iceoryx2_ports.specs.Loans.{loan_refusal}
 use Rattle.iceoryx2_ports.proofs.Copying.{copy_asks_as_before, copy_keeps, test_is_told}
-use Rattle.iceoryx2_ports.proofs.Reaching.{copy_is_sent, copy_reaches}
+use Rattle.iceoryx2_ports.proofs.Reaching.{copy_brings_one, copy_is_sent, copy_reaches}
 use Rattle.iceoryx2_ports.proofs.Telling.{called_as}
 use Rattle.iceoryx2_ports.proofs.client.send_copy.Client+One+E+QH+P+PH.send_copy.Goals as goal
 
@@ -67,4 +67,9 @@ returns-in-To-clause-sent g c =
 pub returns-in-To-clause-reaches : goal.returns-in-To-clause-reaches
 returns-in-To-clause-reaches g c =
     copy_reaches c.args.hub.now c.copy_request.new.hub c.is_in_order.ensures c.args.self.now.node c.args.self.now.number 1 c.in-To.number
+    (flat_map g.E.Words.words (c.args.value ∷ [])) c.requires.has c.in-To.ensures.whole
+
+pub returns-in-To-clause-one : goal.returns-in-To-clause-one
+returns-in-To-clause-one g c =
+    copy_brings_one c.args.hub.now c.copy_request.new.hub c.is_in_order.ensures c.args.self.now.node c.args.self.now.number 1 c.in-To.number
     (flat_map g.E.Words.words (c.args.value ∷ [])) c.requires.has c.in-To.ensures.whole
