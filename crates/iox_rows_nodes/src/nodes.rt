@@ -6,7 +6,9 @@ mod comparing;
 mod creating;
 mod dying;
 mod joining;
+mod running;
 mod service;
+mod trying;
 
 use iox_model::reply::{Refusal, Reply};
 use iox_nodes::Service;
@@ -86,19 +88,21 @@ fn lent(reply: &TheReply) -> Told<'_> {
     }
 }
 
-/// Two services that are asked the same: one by its calls, and one by `serve`.
+/// Services that are asked the same: one by its calls, one by `serve`, and one by `try_serve`.
 #[derive(Drop)]
-struct Pair {
+struct Services {
     called: TheService,
     served: TheService,
+    tried: TheService,
 }
 
-impl Pair {
+impl Services {
     /// Services with so many nodes at most, and all else as at the defaults. Node 0 has id 1 0 0 0.
-    fn new(alloc: Global, nodes: u64) -> Result<Pair, AllocError> {
-        Ok(Pair {
+    fn new(alloc: Global, nodes: u64) -> Result<Services, AllocError> {
+        Ok(Services {
             called: service::first(alloc, nodes)?,
             served: service::first(alloc, nodes)?,
+            tried: service::first(alloc, nodes)?,
         })
     }
 
@@ -113,6 +117,8 @@ impl Pair {
             let reply = asking::called(&mut self.called, alloc, *ask)?;
             assert_eq!(rt; (place, lent(&reply)), (place, *wanted));
             let reply = asking::served(&mut self.served, alloc, *ask)?;
+            assert_eq!(rt; (place, lent(&reply)), (place, *wanted));
+            let reply = asking::tried(&mut self.tried, alloc, *ask)?;
             assert_eq!(rt; (place, lent(&reply)), (place, *wanted));
         }
         Ok(())

@@ -31,6 +31,13 @@ impl Payload {
     {
         self.words.as_slice()
     }
+
+    /// The words in their order, as a list of their own.
+    pub fn into_words(self) -> Vec<u64>
+        ensures { result.items ≡ self }
+    {
+        self.words
+    }
 }
 
 /// The bytes of a text.

@@ -2,11 +2,12 @@
 use Rattle.std.specs.Prelude.{◌≡◌, Option, Some, refl}
 use Rattle.std.specs.Option.{option_map}
 use Rattle.std.proofs.Common.{sym, subst}
+use Rattle.iox_nodes.specs.Shown.{ServiceTables, service_of}
 use Rattle.iox_script.specs.declared.command.ScriptCommand.TheVariants as commands
 use Rattle.iox_script.specs.declared.reply.ScriptReply.TheVariants as answers
 use Rattle.iox_script.specs.Commands.{ServiceCommand, ServiceReply}
 use Rattle.iox_session.specs.Sessions.{IsPlayed, IsPlayedBy, IsServed}
-use Rattle.iox_session.specs.Shown.{ServiceTables, SessionTables, service_of, session_of}
+use Rattle.iox_session.specs.Shown.{SessionTables, session_of}
 
 pub played_so : (v : SessionTables) (s s' : ServiceTables) (command : ServiceCommand) (answer : ServiceReply) → v.service ≡ Some s
     → IsServed (service_of s) command answer (service_of s')

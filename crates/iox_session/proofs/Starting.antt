@@ -1,53 +1,93 @@
--- A new hub and its first node show the service as it is created.
-use Rattle.std.specs.Prelude.{◌≡◌, Bool, true, [], ◌∷◌, Result, Ok, Err, IfOk, refl}
-use Rattle.std.proofs.Common.{ap, ap₂, ◌∙◌}
-use Rattle.iox_types.specs.declared.backpressure.AllocationStrategy.TheVariants.{Static}
-use Rattle.iox_types.specs.declared.backpressure.BackpressureStrategy.TheVariants.{RetryUntilDelivered}
+-- What the creation of a script's service comes to.
+use Rattle.std.specs.Prelude.{◌≡◌, Bool, true, false, not, Option, Some, None, Result, Ok, Err, refl}
+use Rattle.std.specs.declared.convert.Infallible.{Infallible}
+use Rattle.std.proofs.Common.{ap, true≢false}
+use Rattle.std.proofs.lemmas.Option.{same_Some}
 use Rattle.iox_types.specs.declared.identifiers.system_id.UniqueSystemId.{UniqueSystemId}
-use Rattle.iox_model.specs.Runs.{created}
-use Rattle.iox_model.specs.Settings.{Shape}
-use Rattle.iox_model.specs.Defaults.{follow, words}
-use Rattle.iox_tables.specs.HubStates.Tables.{HubSettings}
-use Rattle.iox_tables.proofs.HubMaking.Starting.{each_start_is_shown}
-use Rattle.iox_hub.specs.Hubs.{HubState, given_by}
-use Rattle.iox_hub.specs.Starts.{new_hub, started}
+use Rattle.iox_types.specs.Identifiers.{is_node_id}
+use Rattle.iox_model.specs.declared.reply.Refusal.TheVariants as refusals
+use Rattle.iox_model.specs.declared.reply.Reply.TheVariants as replies
+use Rattle.iox_model.specs.Commands.{Refusal, Reply}
+use Rattle.iox_model.specs.Defaults.{follow}
+use Rattle.iox_model.specs.Maps.{or_else, refused_if}
+use Rattle.iox_model.specs.Runs.{MakesUnless, created, creation_refusal, is_too_large}
+use Rattle.iox_model.specs.Settings.{Limits}
+use Rattle.iox_model.specs.States.{State}
+use Rattle.iox_members.specs.Steps.{answer_in}
+use Rattle.iox_nodes.specs.Served as nodes
+use Rattle.iox_nodes.specs.Served.{made_in}
+use Rattle.iox_nodes.specs.Memory.{is_wanting}
+use Rattle.iox_nodes.specs.Shown.{ServiceTables, service_of}
+use Rattle.iox_script.specs.declared.reply.ScriptReply.TheVariants as answers
+use Rattle.iox_script.specs.Commands.{ServiceRefusal}
+use Rattle.iox_session.specs.Answers.{no_cause}
 use Rattle.iox_session.specs.Limits.{limits_with}
-use Rattle.iox_session.specs.Shown.{given_for, state_of}
+use Rattle.iox_session.specs.Sessions.{IsCreated, with_service}
+use Rattle.iox_session.specs.SessionStates.{SessionState}
+use Rattle.iox_session.specs.Shown.{IsLimited}
 
-pub if_ok : {A E : Type 0} {P Q : A → Type 0} (r : Result A E) → ((x : A) → P x → Q x) → IfOk r P → IfOk r Q
-if_ok (Ok x) f p = f x p
-if_ok (Err e) f p = tt
+-- ---- the limits of what is made
 
-pub if_ok_both : {A E : Type 0} {P Q R : A → Type 0} (r : Result A E) → ((x : A) → P x → Q x → R x) → IfOk r P → IfOk r Q → IfOk r R
-if_ok_both (Ok x) f p q = f x p q
-if_ok_both (Err e) f p q = tt
+limited_by : (q : Option Refusal) (requests responses : Bool) (id : UniqueSystemId) (s : State)
+    → MakesUnless q (created (limits_with requests responses) follow id) (replies.Node 0) (Some s) → IsLimited s.fixed.limits
+limited_by (Some r) requests responses id s made = let e : replies.Node 0 ≡ replies.Refused r = made.0 in absurd (cc)
+limited_by None requests responses id s made =
+    (requests, responses, ap (λ (t : State). t.fixed.limits) (same_Some s (created (limits_with requests responses) follow id) made.1))
 
--- the settings of a script's service
-abbrev pub settings_with : (request_overflow response_overflow : Bool) → HubSettings
-settings_with request_overflow response_overflow = record {
-  clients = 8;
-  servers = 2;
-  nodes = 20;
-  active_requests = 4;
-  loaned_requests = 2;
-  response_buffer = 2;
-  borrowed_responses = 2;
-  loaned_responses = 2;
-  client_expired = 0;
-  server_expired = 0;
-  request_overflow = request_overflow;
-  response_overflow = response_overflow;
-  fire_and_forget = true;
-  client_strategy = RetryUntilDelivered;
-  server_strategy = RetryUntilDelivered;
-  client_allocation = Static;
-  server_allocation = Static;
-}
+pub made_is_limited : (requests responses : Bool) (id : UniqueSystemId) (v : ServiceTables)
+    → nodes.IsCreated {C = Infallible} (limits_with requests responses) id None (Ok v) → IsLimited (service_of v).fixed.limits
+made_is_limited requests responses id v made =
+    limited_by (creation_refusal (limits_with requests responses) id None (made no_cause).0) requests responses id (service_of v) (made no_cause).1
 
-pub is_created : (requests responses : Bool) (request response : Shape) → request ≡ words 7 → response ≡ words 6
-    → (h : HubState) → h ≡ new_hub (settings_with requests responses) request response → (id : UniqueSystemId)
-    → state_of (id ∷ []) h ≡ created (limits_with requests responses) follow id
-is_created requests responses request response is_request is_response h new id =
-    let s : HubSettings = settings_with requests responses in
-    ap (state_of (id ∷ [])) (new ∙ ap₂ (new_hub s) is_request is_response)
-    ∙ (each_start_is_shown (given_by (given_for (id ∷ [])) (new_hub s (words 7) (words 6))) (started s)).state (limits_with requests responses) refl
+-- ---- where there is memory
+
+abbrev Refuses : (valid large memory : Bool) → Option Refusal
+Refuses valid large memory =
+    or_else (refused_if (not valid) refusals.InvalidNodeId)
+    (or_else None (or_else (refused_if large refusals.LimitTooLarge) (refused_if (not memory) refusals.WantOfMemory)))
+
+abbrev answer : Result ServiceTables ServiceRefusal → Reply
+answer result = answer_in no_cause (λ service. replies.Node 0) result
+
+not_wanted : (result : Result ServiceTables ServiceRefusal) → is_wanting result ≡ false → answer result ≡ replies.Refused refusals.WantOfMemory → ⊥
+not_wanted (Ok v) quiet e = absurd (cc)
+not_wanted (Err refusals.WantOfMemory) quiet e = true≢false quiet
+not_wanted (Err r) quiet e = absurd (cc)
+
+made_so : (l : Limits) (id : UniqueSystemId) (result : Result ServiceTables ServiceRefusal) → is_wanting result ≡ false
+    → nodes.IsCreated l id None result → MakesUnless (creation_refusal l id None true) (created l follow id) (answer result) (made_in result)
+made_so l id result quiet made = step (made no_cause).0 (is_node_id id) (is_too_large l) (made no_cause).1
+  where
+    step : (memory valid large : Bool) → MakesUnless (Refuses valid large memory) (created l follow id) (answer result) (made_in result)
+        → MakesUnless (Refuses valid large true) (created l follow id) (answer result) (made_in result)
+    step true valid large m = m
+    step false false large m = m
+    step false true true m = m
+    step false true false m = absurd (not_wanted result quiet m.0)
+
+pub service_made : (m : SessionState) (id : UniqueSystemId) (v : ServiceTables)
+    → nodes.IsCreated {C = Infallible} (limits_with m.request_overflow m.response_overflow) id None (Ok v)
+    → IsCreated None m id (answers.Service (replies.Node 0)) (with_service m (Some (service_of v)))
+service_made m id v made = (
+  Some (service_of v),
+  record {
+    answer = replies.Node 0;
+    told = refl;
+    creation = made_so (limits_with m.request_overflow m.response_overflow) id (Ok v) refl made;
+  },
+  refl,
+)
+
+pub service_refused : (m : SessionState) (id : UniqueSystemId) (r : ServiceRefusal) → m.service ≡ None
+    → is_wanting {X = ServiceTables} (Err r) ≡ false
+    → nodes.IsCreated (limits_with m.request_overflow m.response_overflow) id None (Err r)
+    → IsCreated None m id (answers.Service (replies.Refused r)) m
+service_refused m id r none quiet made = (
+  None,
+  record {
+    answer = replies.Refused r;
+    told = refl;
+    creation = made_so (limits_with m.request_overflow m.response_overflow) id (Err r) quiet made;
+  },
+  ap (with_service m) none,
+)

@@ -1,15 +1,18 @@
 -- How a script's commands and replies stand for the machine's.
-use Rattle.std.specs.Prelude.{ℕ, if◌then◌else◌, List, length, None}
+use Rattle.std.specs.Prelude.{ℕ, if◌then◌else◌, List, length, Option, Some, None}
+use Rattle.std.specs.declared.convert.Infallible.{Infallible}
+use Rattle.iox_model.specs.declared.command.Command.TheVariants.{Join, Port}
+use Rattle.iox_model.specs.declared.command.PortCommand.TheVariants as ports
 use Rattle.iox_model.specs.declared.kind.Kind.TheVariants.{ActiveRequest}
 use Rattle.iox_model.specs.declared.kind.Role.TheVariants.{Client, Server}
-use Rattle.iox_model.specs.declared.reply.Refusal.TheVariants as refusals
 use Rattle.iox_model.specs.declared.reply.Reply.TheVariants as replies
 use Rattle.iox_model.specs.Commands as machine
-use Rattle.iox_model.specs.Commands.{Payload, Refusal, Reply}
+use Rattle.iox_model.specs.Commands.{Cause, Command, Payload, Reply}
 use Rattle.iox_model.specs.Handles.{has}
 use Rattle.iox_model.specs.States.{State}
 use Rattle.iox_hub.specs.Lending.{payload_of}
-use Rattle.iox_script.specs.Commands.{Options, ServiceRefusal, ServiceReply}
+use Rattle.iox_openers.specs.Causes.{with_cause}
+use Rattle.iox_script.specs.Commands.{Options, ServiceCommand, ServiceReply}
 
 -- ---- commands
 
@@ -30,47 +33,24 @@ abbrev pub payload_given : State → ℕ → ℕ → List ℕ → Payload
 payload_given s node n words =
     payload_of (if has s.fixed node n ActiveRequest then Server else Client) (length words) words
 
+-- what a line asks of the service, as a command of the machine; no line asks anything else
+abbrev pub command_asked : State → ServiceCommand → Option Command
+command_asked s (Join id asked) = Some (Join id None)
+command_asked s (Port (ports.Client node id o)) =
+    Some (Port (ports.Client node id (options_given o)))
+command_asked s (Port (ports.Server node id o)) =
+    Some (Port (ports.Server node id (options_given o)))
+command_asked s (Port (ports.SendCopy node n words)) =
+    Some (Port (ports.SendCopy node n (payload_given s node n words)))
+command_asked s (Port (ports.Receive node n)) = Some (Port (ports.Receive node n))
+command_asked s (Port (ports.Read node n)) = Some (Port (ports.Read node n))
+command_asked s command = None
+
 -- ---- replies
 
--- the same refusal; a script's service has no attributes that could be missed
-abbrev pub refusal_given : ServiceRefusal → Refusal
-refusal_given refusals.UnknownNode = refusals.UnknownNode
-refusal_given refusals.NodeIsDead = refusals.NodeIsDead
-refusal_given refusals.NodeIsAlive = refusals.NodeIsAlive
-refusal_given refusals.UnknownNumber = refusals.UnknownNumber
-refusal_given refusals.ForeignNumber = refusals.ForeignNumber
-refusal_given refusals.WrongKind = refusals.WrongKind
-refusal_given refusals.CallsSpent = refusals.CallsSpent
-refusal_given refusals.WrongLength = refusals.WrongLength
-refusal_given refusals.ExceedsMaxLoanSize = refusals.ExceedsMaxLoanSize
-refusal_given refusals.ExceedsMaxLoans = refusals.ExceedsMaxLoans
-refusal_given refusals.OutOfMemory = refusals.OutOfMemory
-refusal_given refusals.WantOfMemory = refusals.WantOfMemory
-refusal_given refusals.ExceedsMaxActiveRequests = refusals.ExceedsMaxActiveRequests
-refusal_given refusals.UnableToDeliver = refusals.UnableToDeliver
-refusal_given refusals.ExceedsMaxBorrows = refusals.ExceedsMaxBorrows
-refusal_given refusals.UnableToCreatePortTag = refusals.UnableToCreatePortTag
-refusal_given refusals.UnableToCreateDataSegment = refusals.UnableToCreateDataSegment
-refusal_given refusals.ExceedsMaxSupportedClients = refusals.ExceedsMaxSupportedClients
-refusal_given refusals.ExceedsMaxSupportedServers = refusals.ExceedsMaxSupportedServers
-refusal_given refusals.MarkedForDestruction = refusals.MarkedForDestruction
-refusal_given refusals.InvalidNodeId = refusals.InvalidNodeId
-refusal_given refusals.NodeIdInUse = refusals.NodeIdInUse
-refusal_given refusals.IncompatibleRequestTypes = refusals.IncompatibleRequestTypes
-refusal_given refusals.IncompatibleResponseTypes = refusals.IncompatibleResponseTypes
-refusal_given (refusals.IncompatibleAttributes cause) = elim cause [ ]
-refusal_given refusals.LimitTooLarge = refusals.LimitTooLarge
-refusal_given refusals.ExceedsMaxNumberOfNodes = refusals.ExceedsMaxNumberOfNodes
-refusal_given refusals.HasPorts = refusals.HasPorts
-refusal_given refusals.MessagesUnderWay = refusals.MessagesUnderWay
-refusal_given refusals.GrowingStrategy = refusals.GrowingStrategy
-refusal_given refusals.HandlerSet = refusals.HandlerSet
-refusal_given refusals.UnsuitableAlignment = refusals.UnsuitableAlignment
-refusal_given refusals.TooManyWords = refusals.TooManyWords
-refusal_given refusals.Busy = refusals.Busy
-refusal_given refusals.AtRest = refusals.AtRest
-refusal_given refusals.AccessesSpent = refusals.AccessesSpent
-refusal_given refusals.NotOnThreads = refusals.NotOnThreads
+-- a script's service has no attributes that could be missed
+abbrev pub no_cause : Infallible → Cause
+no_cause cause = elim cause [ ]
 
 -- the same reply
 abbrev pub reply_given : ServiceReply → Reply
@@ -84,4 +64,4 @@ reply_given replies.Nothing = replies.Nothing
 reply_given (replies.Words words) = replies.Words words
 reply_given (replies.Answer told) = replies.Answer told
 reply_given (replies.Listed numbers) = replies.Listed numbers
-reply_given (replies.Refused r) = replies.Refused (refusal_given r)
+reply_given (replies.Refused r) = replies.Refused (with_cause no_cause r)

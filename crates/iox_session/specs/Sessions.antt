@@ -1,5 +1,5 @@
 -- What a session answers to a command, and what it holds then.
-use Rattle.std.specs.Prelude.{◌≡◌, ℕ, nat_lt, true, List, Option, Some, None, ⊤}
+use Rattle.std.specs.Prelude.{◌≡◌, ℕ, nat_lt, true, List, Option, Some, None, MatchOption, ⊤}
 use Rattle.std.specs.Option.{option_map}
 use Rattle.iox_names.specs.declared.service_name_error.ServiceNameError.{ServiceNameError}
 use Rattle.iox_names.specs.declared.service_name_error.ServiceNameError.TheVariants as name_errors
@@ -8,13 +8,11 @@ use Rattle.iox_types.specs.declared.identifiers.system_id.UniqueSystemId.{Unique
 use Rattle.iox_model.specs.declared.command.Command.TheVariants.{Join, Port}
 use Rattle.iox_model.specs.declared.command.PortCommand.TheVariants.{Client, Server, SendCopy, Receive, Read}
 use Rattle.iox_model.specs.declared.reply.Reply.TheVariants.{Done}
-use Rattle.iox_model.specs.Commands.{Command}
 use Rattle.iox_model.specs.Runs.{MakesUnless, created, creation_refusal}
-use Rattle.iox_model.specs.Services.{IsCommand}
 use Rattle.iox_model.specs.Settings.{Limits}
 use Rattle.iox_model.specs.States.{State}
 use Rattle.iox_model.specs.Defaults.{follow}
-use Rattle.iox_port_commands.specs.Memory.{HadMemory}
+use Rattle.iox_nodes.specs.Memory.{IsDoneWithMemory}
 use Rattle.iox_script.specs.declared.command.Key.{Key}
 use Rattle.iox_script.specs.declared.command.Key.TheVariants.{RequestOverflow, ResponseOverflow}
 use Rattle.iox_script.specs.declared.command.ScriptCommand.{ScriptCommand}
@@ -27,7 +25,7 @@ use Rattle.iox_script.specs.Commands.{Options, ServiceCommand, ServiceReply}
 use Rattle.iox_script.specs.Grammar.{options_of}
 use Rattle.iox_session.specs.SessionStates.{SessionState}
 use Rattle.iox_session.specs.Limits.{limits_with}
-use Rattle.iox_session.specs.Answers.{options_given, payload_given, reply_given}
+use Rattle.iox_session.specs.Answers.{command_asked, reply_given}
 
 -- ---- what a line of a script can say
 
@@ -106,27 +104,10 @@ IsCreated None m id reply m' =
 
 -- ---- once it is created
 
--- From a state of the service, the machine's command may have this answer and lead to that state,
--- where memory is there for it.
-pub record IsDoneWithMemory (s : State) (command : Command) (answer : ServiceReply) (s' : State)
-    : Type 0 where
-  pub done : IsCommand s command (reply_given answer) s'
-  pub memory : HadMemory s.fixed.limits command (reply_given answer)
-
--- The machine does what a line asks of the service. No line asks anything else.
+-- The machine does what a line asks of the service, where memory is there for it.
 abbrev pub IsServed : State → ServiceCommand → ServiceReply → State → Type 0
-IsServed s (Join id asked) answer s' = IsDoneWithMemory s (Join id None) answer s'
-IsServed s (Port (Client node id o)) answer s' =
-    IsDoneWithMemory s (Port (Client node id (options_given o))) answer s'
-IsServed s (Port (Server node id o)) answer s' =
-    IsDoneWithMemory s (Port (Server node id (options_given o))) answer s'
-IsServed s (Port (SendCopy node number words)) answer s' =
-    IsDoneWithMemory s (Port (SendCopy node number (payload_given s node number words))) answer s'
-IsServed s (Port (Receive node number)) answer s' =
-    IsDoneWithMemory s (Port (Receive node number)) answer s'
-IsServed s (Port (Read node number)) answer s' =
-    IsDoneWithMemory s (Port (Read node number)) answer s'
-IsServed s _ answer s' = ⊥
+IsServed s command answer s' =
+    MatchOption (command_asked s command) ⊥ (λ c. IsDoneWithMemory s c (reply_given answer) s')
 
 -- The service of the session is in state s. It answers the command, and is left in another state.
 pub record IsAnswered (m : SessionState) (s : State) (command : ServiceCommand) (reply : ScriptReply)

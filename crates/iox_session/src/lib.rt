@@ -1,10 +1,9 @@
-//! A session plays a script's commands, one after another, over a hub and its nodes. What it
-//! answers is what the machine that copies messages answers.
+//! A session plays a script's commands, one after another, over a service of nodes and ports. What
+//! it answers is what the machine that copies messages answers.
 #![tactic(auto)]
 
-mod calls;
+mod asking;
 mod names;
-mod ports;
 mod replies;
 mod service;
 mod session;

@@ -1,28 +1,47 @@
-//! What a hub answers, as replies of its service.
-ghost use Rattle.std.specs.Prelude.{◌≡◌, IfSome, false};
-ghost use Rattle.iox_model.specs.Commands.{answer_of};
-ghost use Rattle.iox_port_commands.specs.Telling.{reply_told, tells_want};
-ghost use Rattle.iox_session.specs.Answers.{reply_given};
-ghost use Rattle.iox_session.specs.Shown.{WantsNoMemory};
+//! What a service answers, as replies to a script.
+ghost use Rattle.std.specs.Prelude.{◌≡◌};
+ghost use Rattle.iox_nodes.specs.Given as nodes;
+ghost use Rattle.iox_session.specs.Answers.{no_cause, reply_given};
+ghost use Rattle.iox_session.specs.Shown.{IsTold};
 
-use iox_model::reply::{PortReply, Reply};
+use iox_model::reply::{Refusal, Reply};
 use iox_script::{Payload, ServiceReply};
+use std::alloc::AllocError;
 use std::convert::Infallible;
 
 /// The same reply.
-pub(crate) fn reply_of(reply: PortReply<Vec<u64>, Infallible>) -> ServiceReply
-    ensures told { IfSome (reply_told reply) (λ r. answer_of r ≡ reply_given result) }
-    ensures memory { tells_want reply ≡ false → WantsNoMemory result }
+fn reply_of(reply: Reply<Vec<u64>, Infallible>) -> ServiceReply
+    ensures { nodes.reply_given no_cause reply ≡ reply_given result }
 {
     match reply {
-        PortReply::Client(number) => Reply::Client(number),
-        PortReply::Server(number) => Reply::Server(number),
-        PortReply::Handle(number) => Reply::Handle(number),
-        PortReply::Sent(count) => Reply::Sent(count),
-        PortReply::Done => Reply::Done,
-        PortReply::Nothing => Reply::Nothing,
-        PortReply::Words(words) => Reply::Words(Payload::new(words)),
-        PortReply::Answer(told) => Reply::Answer(told),
-        PortReply::Refused(refusal) => Reply::Refused(refusal),
+        Reply::Node(number) => Reply::Node(number),
+        Reply::Client(number) => Reply::Client(number),
+        Reply::Server(number) => Reply::Server(number),
+        Reply::Handle(number) => Reply::Handle(number),
+        Reply::Sent(count) => Reply::Sent(count),
+        Reply::Done => Reply::Done,
+        Reply::Nothing => Reply::Nothing,
+        Reply::Words(words) => Reply::Words(Payload::new(words)),
+        Reply::Answer(told) => Reply::Answer(told),
+        Reply::Listed(numbers) => Reply::Listed(Payload::new(numbers)),
+        Reply::Refused(refusal) => Reply::Refused(refusal),
+    }
+}
+
+/// The reply, or that a port is too large, for which a service never has memory.
+pub(crate) fn told(
+    answer: Result<Reply<Vec<u64>, Infallible>, AllocError>,
+    large: bool,
+) -> Result<ServiceReply, AllocError>
+    ensures { IsTold answer large result }
+{
+    match answer {
+        Ok(reply) => Ok(reply_of(reply)),
+        Err(error) => {
+            if !large {
+                return Err(error);
+            }
+            Ok(Reply::Refused(Refusal::UnableToCreateDataSegment))
+        }
     }
 }

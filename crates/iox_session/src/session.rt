@@ -1,8 +1,9 @@
 //! A session of commands.
 ghost use Rattle.std.specs.Prelude.{◌≡◌, IfOk, OnErr};
+ghost use Rattle.iox_nodes.specs.Memory.{is_wanting};
 
 use crate::names::name_refusal;
-use crate::service::{Service, is_node_id};
+use crate::service::Service;
 use iox_model::reply::Reply;
 use iox_script::{Key, ScriptCommand, ScriptRefusal, ScriptReply, ServiceRefusal, Text};
 use iox_types::identifiers::UniqueSystemId;
@@ -11,6 +12,13 @@ use std::marker::Model;
 
 #[cfg(test)]
 mod tests;
+
+/// Whether memory was wanted for a service.
+fn is_wanting(made: &Result<Service, ServiceRefusal>) -> bool
+    ensures { result ≡ is_wanting made.now }
+{
+    matches!(made, Err(ServiceRefusal::WantOfMemory))
+}
 
 /// One session of commands: two settings, and once it is created the service.
 #[derive(Drop)]
@@ -112,11 +120,16 @@ impl Session {
         if let Some(refusal) = name_refusal(name.as_bytes()) {
             return Ok(ScriptReply::Refused(refusal));
         }
-        if !is_node_id(id) {
-            return Ok(ScriptReply::Service(Reply::Refused(ServiceRefusal::InvalidNodeId)));
+        let made = Service::new(alloc, id, self.request_overflow, self.response_overflow);
+        if is_wanting(&made) {
+            return Err(AllocError);
         }
-        let service = Service::new(alloc, id, self.request_overflow, self.response_overflow)?;
-        self.service = Some(service);
-        Ok(ScriptReply::Service(Reply::Node(0)))
+        match made {
+            Ok(service) => {
+                self.service = Some(service);
+                Ok(ScriptReply::Service(Reply::Node(0)))
+            }
+            Err(refusal) => Ok(ScriptReply::Service(Reply::Refused(refusal))),
+        }
     }
 }

@@ -1,29 +1,20 @@
 //! The limits of a script's service, and what its messages are made of.
-ghost use Rattle.std.specs.Prelude.{◌≡◌, ◌≤◌, ◌*◌, ◌^◌, ◌||◌, [], ◌∷◌, Bool, IfOk, nat_le, not, true};
+ghost use Rattle.std.specs.Prelude.{◌≡◌, ◌≤◌, ◌*◌, ◌^◌, ◌||◌, Bool, nat_le, not, true};
 ghost use Rattle.iox_words.specs.Numbers.{no_word, one_word};
-ghost use Rattle.iox_types.specs.declared.identifiers.system_id.UniqueSystemId.{UniqueSystemId};
 ghost use Rattle.iox_model.specs.Makings.{is_large};
-ghost use Rattle.iox_model.specs.Runs.{created};
 ghost use Rattle.iox_model.specs.Settings.{has_layout, message_size};
-ghost use Rattle.iox_model.specs.Defaults.{follow, words};
+ghost use Rattle.iox_model.specs.Defaults.{words};
+ghost use Rattle.iox_control.specs.Settings.{settings_of};
 ghost use Rattle.iox_hub.specs.Shapes.{HaveParts, shape_of};
+ghost use Rattle.iox_nodes.specs.Shown.{limits_for};
 ghost use Rattle.iox_script.specs.Grammar.{options_of};
 ghost use Rattle.iox_session.specs.Answers.{options_given};
 ghost use Rattle.iox_session.specs.Limits.{limits_with};
-ghost use Rattle.iox_session.specs.Shown.{state_of};
 
 use iox_control::Settings;
-use iox_hub::{Hub, MessageShape, Part};
+use iox_hub::{MessageShape, Part};
 use iox_model::kind::Role;
-use iox_store::Many;
 use iox_types::{AllocationStrategy, BackpressureStrategy};
-use std::alloc::{AllocError, Global};
-
-/// Requests and responses of any number of words, with no user headers.
-pub(crate) type Words = Hub<Many<u64>, (), Many<u64>, ()>;
-
-/// How many nodes there may be.
-pub(crate) const MAX_NODES: usize = 20;
 
 /// The most messages that a client needs: two on loan, four active, and at each of two servers
 /// four that wait and four that were received.
@@ -34,12 +25,12 @@ const CLIENT_POOL: usize = 22;
 const SERVER_POOL: usize = 768;
 
 /// The words of a request's header, and of a response's.
-const REQUEST_HEADER: usize = 7;
+pub(crate) const REQUEST_HEADER: usize = 7;
 
-const RESPONSE_HEADER: usize = 6;
+pub(crate) const RESPONSE_HEADER: usize = 6;
 
 /// Messages of words, with a header of so many words.
-fn words(header: usize) -> MessageShape<u64, ()>
+pub(crate) fn words(header: usize) -> MessageShape<u64, ()>
     requires { header ≤ 7 }
     ensures shape { shape_of true 1 one_word no_word result ≡ words header }
     ensures parts { HaveParts result }
@@ -62,19 +53,15 @@ fn words(header: usize) -> MessageShape<u64, ()>
     }
 }
 
-/// A hub in which no port was made.
-pub(crate) fn new_hub(
-    alloc: Global,
-    request_overflow: bool,
-    response_overflow: bool,
-) -> Result<Words, AllocError>
-    ensures { IfOk result (λ hub. (id : UniqueSystemId) → state_of (id ∷ []) hub
-        ≡ created (limits_with request_overflow response_overflow) follow id) }
+/// The settings of a script's service.
+pub(crate) fn settings(request_overflow: bool, response_overflow: bool) -> Settings
+    ensures { limits_for (settings_of result) (words 7) (words 6)
+        ≡ limits_with request_overflow response_overflow }
 {
-    let settings = Settings {
+    Settings {
         clients: 8,
         servers: 2,
-        nodes: MAX_NODES as u64,
+        nodes: 20,
         active_requests: 4,
         loaned_requests: 2,
         response_buffer: 2,
@@ -89,13 +76,7 @@ pub(crate) fn new_hub(
         server_strategy: BackpressureStrategy::RetryUntilDelivered,
         client_allocation: AllocationStrategy::Static,
         server_allocation: AllocationStrategy::Static,
-    };
-    Hub::new(
-        alloc,
-        settings,
-        words(REQUEST_HEADER),
-        words(RESPONSE_HEADER),
-    )
+    }
 }
 
 /// Whether a pool of so many messages is too large, each with a header of so many words, and with

@@ -1,4 +1,4 @@
-//! How a service is asked: by its calls, or by `serve`.
+//! How a service is asked: by its calls, by `serve`, or by `try_serve`.
 use super::service::id;
 use super::{Ask, TheReply, TheService};
 use iox_model::command::{self, PortCommand, PortOptions};
@@ -8,7 +8,7 @@ use iox_types::identifiers::UniqueNodeId;
 use std::alloc::{AllocError, Global};
 
 /// A command; a handler would be a number.
-type Command = command::Command<Elements<u64, u64>, u64, Option<Refusal<u64>>>;
+pub(super) type Command = command::Command<Elements<u64, u64>, u64, Option<Refusal<u64>>>;
 
 type AtPort = PortCommand<Elements<u64, u64>, u64>;
 
@@ -98,7 +98,7 @@ fn of_nodes(ask: Ask) -> Option<Command> {
 }
 
 /// The command that asks this, if one does.
-fn command(alloc: Global, ask: Ask) -> Result<Option<Command>, AllocError> {
+pub(super) fn command(alloc: Global, ask: Ask) -> Result<Option<Command>, AllocError> {
     if let Some(command) = of_nodes(ask) {
         return Ok(Some(command));
     }
@@ -155,4 +155,16 @@ pub(super) fn served(
         return Ok(Reply::Answer(service.is_closed()));
     };
     service.serve(alloc, command)
+}
+
+/// Asks by `try_serve`.
+pub(super) fn tried(
+    service: &mut TheService,
+    alloc: Global,
+    ask: Ask,
+) -> Result<TheReply, AllocError> {
+    let Some(command) = command(alloc, ask)? else {
+        return Ok(Reply::Answer(service.is_closed()));
+    };
+    service.try_serve(alloc, command)
 }

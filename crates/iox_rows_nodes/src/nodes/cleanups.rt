@@ -1,5 +1,5 @@
 //! Nodes that are cleaned up.
-use super::{Ask, Pair, Told};
+use super::{Ask, Services, Told};
 use iox_model::reply::Refusal;
 use std::test::Fail;
 
@@ -17,8 +17,8 @@ fn only_the_dead_are_cleaned_up(rt: HostRuntime) -> Result<(), Fail> {
         (Ask::Cleanup(0), Told::Refused(Refusal::NodeIsAlive)),
         (Ask::Nodes, Told::Listed(&[0])),
     ];
-    let mut pair = Pair::new(rt.alloc(), 20)?;
-    pair.plays(&rt, rt.alloc(), &script)?;
+    let mut services = Services::new(rt.alloc(), 20)?;
+    services.plays(&rt, rt.alloc(), &script)?;
     Ok(())
 }
 
@@ -48,8 +48,8 @@ fn a_dead_server_is_there_until_its_cleanup(rt: HostRuntime) -> Result<(), Fail>
         (Ask::Server(0), Told::Server(6)),
         (Ask::Servers, Told::Listed(&[0, 6])),
     ];
-    let mut pair = Pair::new(rt.alloc(), 20)?;
-    pair.plays(&rt, rt.alloc(), &script)?;
+    let mut services = Services::new(rt.alloc(), 20)?;
+    services.plays(&rt, rt.alloc(), &script)?;
     Ok(())
 }
 
@@ -81,8 +81,8 @@ fn the_cleanup_of_the_only_node_closes_the_service(rt: HostRuntime) -> Result<()
         (Ask::Cleanup(0), Told::Refused(Refusal::UnknownNode)),
         (Ask::Closed, Told::Answer(true)),
     ];
-    let mut pair = Pair::new(rt.alloc(), 20)?;
-    pair.plays(&rt, rt.alloc(), &script)?;
+    let mut services = Services::new(rt.alloc(), 20)?;
+    services.plays(&rt, rt.alloc(), &script)?;
     Ok(())
 }
 
@@ -104,7 +104,7 @@ fn a_node_with_a_value_does_not_leave(rt: HostRuntime) -> Result<(), Fail> {
         (Ask::Closed, Told::Answer(true)),
         (Ask::Leave(0), Told::Refused(Refusal::UnknownNode)),
     ];
-    let mut pair = Pair::new(rt.alloc(), 20)?;
-    pair.plays(&rt, rt.alloc(), &script)?;
+    let mut services = Services::new(rt.alloc(), 20)?;
+    services.plays(&rt, rt.alloc(), &script)?;
     Ok(())
 }

@@ -1,5 +1,5 @@
 //! What others see of a node that is cleaned up, and of one that releases all and leaves.
-use super::{Ask, Pair, Told};
+use super::{Ask, Services, Told};
 use std::alloc::{AllocError, Global};
 use std::process::Abort;
 use std::test::Fail;
@@ -7,10 +7,10 @@ use std::test::Fail;
 type Script<'a> = &'a [(Ask, Told<'a>)];
 
 /// The services after these commands.
-fn played(rt: &impl Abort, alloc: Global, script: Script<'_>) -> Result<Pair, AllocError> {
-    let mut pair = Pair::new(alloc, 20)?;
-    pair.plays(rt, alloc, script)?;
-    Ok(pair)
+fn played(rt: &impl Abort, alloc: Global, script: Script<'_>) -> Result<Services, AllocError> {
+    let mut services = Services::new(alloc, 20)?;
+    services.plays(rt, alloc, script)?;
+    Ok(services)
 }
 
 /// Node 1 dies and is cleaned up, after the one and before the other.
@@ -20,20 +20,20 @@ fn dies(
     before: Script<'_>,
     after: Script<'_>,
 ) -> Result<(), AllocError> {
-    let mut pair = played(rt, alloc, before)?;
+    let mut services = played(rt, alloc, before)?;
     let ends = [(Ask::Die(1), Told::Done), (Ask::Cleanup(1), Told::Done)];
-    pair.plays(rt, alloc, &ends)?;
-    pair.plays(rt, alloc, after)
+    services.plays(rt, alloc, &ends)?;
+    services.plays(rt, alloc, after)
 }
 
 /// Node 1 releases a value.
 fn releases(
     rt: &impl Abort,
     alloc: Global,
-    pair: &mut Pair,
+    services: &mut Services,
     number: u64,
 ) -> Result<(), AllocError> {
-    pair.plays(rt, alloc, &[(Ask::Release(1, number), Told::Done)])
+    services.plays(rt, alloc, &[(Ask::Release(1, number), Told::Done)])
 }
 
 /// Node 1 releases these values and leaves, after the one and before the other.
@@ -44,12 +44,12 @@ fn leaves(
     values: &[u64],
     after: Script<'_>,
 ) -> Result<(), AllocError> {
-    let mut pair = played(rt, alloc, before)?;
+    let mut services = played(rt, alloc, before)?;
     for number in values {
-        releases(rt, alloc, &mut pair, *number)?;
+        releases(rt, alloc, &mut services, *number)?;
     }
-    pair.plays(rt, alloc, &[(Ask::Leave(1), Told::Done)])?;
-    pair.plays(rt, alloc, after)
+    services.plays(rt, alloc, &[(Ask::Leave(1), Told::Done)])?;
+    services.plays(rt, alloc, after)
 }
 
 #[test]

@@ -1,6 +1,6 @@
 //! Services that are made, and those that may not be.
 use super::service::{id, new, settings};
-use super::{Ask, Pair, Told};
+use super::{Ask, Services, Told};
 use iox_control::Settings;
 use iox_model::reply::Refusal;
 use iox_types::identifiers::UniqueSystemId;
@@ -64,7 +64,7 @@ fn a_new_service_has_its_creator_alone(rt: HostRuntime) -> Result<(), Fail> {
         (Ask::Client(1), Told::Refused(Refusal::UnknownNode)),
         (Ask::Client(0), Told::Client(0)),
     ];
-    let mut pair = Pair::new(rt.alloc(), 0)?;
-    pair.plays(&rt, rt.alloc(), &script)?;
+    let mut services = Services::new(rt.alloc(), 0)?;
+    services.plays(&rt, rt.alloc(), &script)?;
     Ok(())
 }

@@ -1,5 +1,5 @@
 //! Nodes that are dead and not yet cleaned up.
-use super::{Ask, Pair, Told};
+use super::{Ask, Services, Told};
 use iox_model::reply::Refusal;
 use std::test::Fail;
 
@@ -25,8 +25,8 @@ fn a_dead_node_asks_nothing_more(rt: HostRuntime) -> Result<(), Fail> {
         // What was refused used no number.
         (Ask::Client(0), Told::Client(1)),
     ];
-    let mut pair = Pair::new(rt.alloc(), 20)?;
-    pair.plays(&rt, rt.alloc(), &script)?;
+    let mut services = Services::new(rt.alloc(), 20)?;
+    services.plays(&rt, rt.alloc(), &script)?;
     Ok(())
 }
 
@@ -57,8 +57,8 @@ fn a_dead_server_gets_requests_until_its_cleanup(rt: HostRuntime) -> Result<(), 
         (Ask::Send(0, 5), Told::Sent(0)),
         (Ask::Connected(0, 5), Told::Answer(false)),
     ];
-    let mut pair = Pair::new(rt.alloc(), 20)?;
-    pair.plays(&rt, rt.alloc(), &script)?;
+    let mut services = Services::new(rt.alloc(), 20)?;
+    services.plays(&rt, rt.alloc(), &script)?;
     Ok(())
 }
 
@@ -90,8 +90,8 @@ fn a_dead_client_gets_responses_until_its_cleanup(rt: HostRuntime) -> Result<(),
         (Ask::Receive(0, 0), Told::Nothing),
         (Ask::Release(0, 5), Told::Done),
     ];
-    let mut pair = Pair::new(rt.alloc(), 20)?;
-    pair.plays(&rt, rt.alloc(), &script)?;
+    let mut services = Services::new(rt.alloc(), 20)?;
+    services.plays(&rt, rt.alloc(), &script)?;
     Ok(())
 }
 
@@ -114,7 +114,7 @@ fn a_response_of_the_dead_is_received_and_then_no_more(rt: HostRuntime) -> Resul
         (Ask::Read(0, 4), Told::Words(&[456])),
         (Ask::Release(0, 4), Told::Done),
     ];
-    let mut pair = Pair::new(rt.alloc(), 20)?;
-    pair.plays(&rt, rt.alloc(), &script)?;
+    let mut services = Services::new(rt.alloc(), 20)?;
+    services.plays(&rt, rt.alloc(), &script)?;
     Ok(())
 }

@@ -1,5 +1,5 @@
 //! Nodes that join, and those that may not.
-use super::{Ask, Pair, Told};
+use super::{Ask, Services, Told};
 use iox_model::reply::Refusal;
 use std::test::Fail;
 
@@ -26,8 +26,8 @@ fn a_refused_join_leaves_nothing_behind(rt: HostRuntime) -> Result<(), Fail> {
         (Ask::Join(2), Told::Node(3)),
         (Ask::Nodes, Told::Listed(&[0, 3])),
     ];
-    let mut pair = Pair::new(rt.alloc(), 2)?;
-    pair.plays(&rt, rt.alloc(), &script)?;
+    let mut services = Services::new(rt.alloc(), 2)?;
+    services.plays(&rt, rt.alloc(), &script)?;
     Ok(())
 }
 
@@ -55,8 +55,8 @@ fn the_first_test_that_fails_is_told(rt: HostRuntime) -> Result<(), Fail> {
             Told::Refused(Refusal::MarkedForDestruction),
         ),
     ];
-    let mut pair = Pair::new(rt.alloc(), 1)?;
-    pair.plays(&rt, rt.alloc(), &script)?;
+    let mut services = Services::new(rt.alloc(), 1)?;
+    services.plays(&rt, rt.alloc(), &script)?;
     Ok(())
 }
 
@@ -77,8 +77,8 @@ fn a_dead_node_keeps_its_place_and_its_id(rt: HostRuntime) -> Result<(), Fail> {
         (Ask::Client(1), Told::Refused(Refusal::UnknownNode)),
         (Ask::Client(2), Told::Client(0)),
     ];
-    let mut pair = Pair::new(rt.alloc(), 2)?;
-    pair.plays(&rt, rt.alloc(), &script)?;
+    let mut services = Services::new(rt.alloc(), 2)?;
+    services.plays(&rt, rt.alloc(), &script)?;
     Ok(())
 }
 
@@ -97,7 +97,7 @@ fn the_last_node_that_leaves_closes_the_service(rt: HostRuntime) -> Result<(), F
         (Ask::Join(3), Told::Refused(Refusal::MarkedForDestruction)),
         (Ask::Nodes, Told::Listed(&[])),
     ];
-    let mut pair = Pair::new(rt.alloc(), 2)?;
-    pair.plays(&rt, rt.alloc(), &script)?;
+    let mut services = Services::new(rt.alloc(), 2)?;
+    services.plays(&rt, rt.alloc(), &script)?;
     Ok(())
 }

@@ -1,0 +1,195 @@
+//! Commands that run one after another, and all their replies.
+use super::asking::command;
+use super::service::{first, id, new, settings};
+use super::{Ask, TheReply, TheService, Told, lent};
+use iox_control::Settings;
+use iox_model::reply::Refusal;
+use std::alloc::{AllocError, Global};
+use std::process::Abort;
+use std::test::Fail;
+
+/// Runs commands that ask this, and puts their replies behind the others.
+fn run(
+    service: &mut TheService,
+    alloc: Global,
+    asks: &[Ask],
+    replies: &mut Vec<TheReply>,
+) -> Result<(), AllocError> {
+    let mut commands = Vec::new(alloc);
+    for ask in asks {
+        let Some(command) = command(alloc, *ask)? else {
+            return Err(AllocError);
+        };
+        commands.push(command)?;
+    }
+    service.run(alloc, commands, replies)
+}
+
+/// Ends the test where the replies are not all of the wanted ones.
+fn are(
+    rt: &impl Abort,
+    alloc: Global,
+    replies: &[TheReply],
+    wanted: &[Told<'_>],
+) -> Result<(), AllocError> {
+    let told: Vec<Told<'_>> = replies.iter().map(|reply| lent(reply)).collect(alloc)?;
+    assert_eq!(rt; told.as_slice(), wanted);
+    Ok(())
+}
+
+#[test]
+fn a_request_and_its_response_are_one_run(rt: HostRuntime) -> Result<(), Fail> {
+    let asks = [
+        Ask::Join(2),
+        Ask::Client(0),
+        Ask::Server(1),
+        Ask::Request(0, 0, 123),
+        Ask::Receive(1, 1),
+        Ask::Read(1, 3),
+        Ask::Response(1, 3, 456),
+        Ask::Receive(0, 2),
+        Ask::Read(0, 4),
+    ];
+    let wanted = [
+        Told::Node(1),
+        Told::Client(0),
+        Told::Server(1),
+        Told::Handle(2),
+        Told::Handle(3),
+        Told::Words(&[123]),
+        Told::Done,
+        Told::Handle(4),
+        Told::Words(&[456]),
+    ];
+    let queues = Settings {
+        request_overflow: false,
+        response_overflow: false,
+        ..settings(20)
+    };
+    let Ok(mut service) = new(rt.alloc(), queues, id(1), None) else {
+        return Err(Fail::from(AllocError));
+    };
+    let mut replies = Vec::new(rt.alloc());
+    run(&mut service, rt.alloc(), &asks, &mut replies)?;
+    are(&rt, rt.alloc(), replies.as_slice(), &wanted)?;
+    Ok(())
+}
+
+#[test]
+fn a_run_goes_on_behind_what_is_refused(rt: HostRuntime) -> Result<(), Fail> {
+    let asks = [
+        Ask::Client(1),
+        Ask::Join(1),
+        Ask::JoinUnfit(2),
+        Ask::Join(2),
+        Ask::Join(3),
+        Ask::Client(0),
+        Ask::Server(1),
+        Ask::Leave(0),
+        Ask::Receive(0, 1),
+        Ask::Receive(0, 0),
+        Ask::Loan(0, 0),
+        Ask::Loan(0, 0),
+        Ask::Loan(0, 0),
+        Ask::Write(0, 2, 5),
+        Ask::Send(0, 2),
+        Ask::Send(0, 9),
+        Ask::Receive(1, 1),
+        Ask::Read(1, 4),
+    ];
+    let wanted = [
+        Told::Refused(Refusal::UnknownNode),
+        Told::Refused(Refusal::NodeIdInUse),
+        Told::Refused(Refusal::IncompatibleRequestTypes),
+        Told::Node(1),
+        Told::Refused(Refusal::ExceedsMaxNumberOfNodes),
+        Told::Client(0),
+        Told::Server(1),
+        Told::Refused(Refusal::HasPorts),
+        Told::Refused(Refusal::ForeignNumber),
+        Told::Refused(Refusal::WrongKind),
+        Told::Handle(2),
+        Told::Handle(3),
+        Told::Refused(Refusal::ExceedsMaxLoans),
+        Told::Done,
+        Told::Sent(1),
+        Told::Refused(Refusal::UnknownNumber),
+        Told::Handle(4),
+        Told::Words(&[5]),
+    ];
+    let mut service = first(rt.alloc(), 2)?;
+    let mut replies = Vec::new(rt.alloc());
+    run(&mut service, rt.alloc(), &asks, &mut replies)?;
+    are(&rt, rt.alloc(), replies.as_slice(), &wanted)?;
+    Ok(())
+}
+
+#[test]
+fn nodes_come_and_go_until_the_last_is_gone(rt: HostRuntime) -> Result<(), Fail> {
+    let asks = [
+        Ask::Join(2),
+        Ask::Join(3),
+        Ask::Nodes,
+        Ask::Client(0),
+        Ask::Server(1),
+        Ask::Client(2),
+        Ask::Clients,
+        Ask::Servers,
+        Ask::Die(2),
+        Ask::Cleanup(1),
+        Ask::Clients,
+        Ask::Cleanup(2),
+        Ask::Nodes,
+        Ask::Clients,
+        Ask::Release(0, 0),
+        Ask::Leave(0),
+        Ask::Die(1),
+        Ask::Nodes,
+        Ask::Cleanup(1),
+        Ask::Nodes,
+        Ask::Servers,
+        Ask::Join(4),
+    ];
+    let wanted = [
+        Told::Node(1),
+        Told::Node(2),
+        Told::Listed(&[0, 1, 2]),
+        Told::Client(0),
+        Told::Server(1),
+        Told::Client(2),
+        Told::Listed(&[0, 2]),
+        Told::Listed(&[1]),
+        Told::Done,
+        Told::Refused(Refusal::NodeIsAlive),
+        Told::Listed(&[0, 2]),
+        Told::Done,
+        Told::Listed(&[0, 1]),
+        Told::Listed(&[0]),
+        Told::Done,
+        Told::Done,
+        Told::Done,
+        Told::Listed(&[1]),
+        Told::Done,
+        Told::Listed(&[]),
+        Told::Listed(&[]),
+        Told::Refused(Refusal::MarkedForDestruction),
+    ];
+    let mut service = first(rt.alloc(), 20)?;
+    let mut replies = Vec::new(rt.alloc());
+    run(&mut service, rt.alloc(), &asks, &mut replies)?;
+    are(&rt, rt.alloc(), replies.as_slice(), &wanted)?;
+    Ok(())
+}
+
+#[test]
+fn a_further_run_puts_its_replies_behind(rt: HostRuntime) -> Result<(), Fail> {
+    let mut service = first(rt.alloc(), 20)?;
+    let mut replies = Vec::new(rt.alloc());
+    run(&mut service, rt.alloc(), &[Ask::Client(0)], &mut replies)?;
+    run(&mut service, rt.alloc(), &[], &mut replies)?;
+    let asks = [Ask::Request(0, 0, 8), Ask::Read(0, 1)];
+    run(&mut service, rt.alloc(), &asks, &mut replies)?;
+    let wanted = [Told::Client(0), Told::Handle(1), Told::Words(&[8])];
+    are(&rt, rt.alloc(), replies.as_slice(), &wanted)?;
+    Ok(())
+}
