@@ -37,27 +37,27 @@ where
         alloc: Global,
         settings: Settings,
         description: ServiceDescription,
-        request: Defaults<Q::Element, QH>,
-        response: Defaults<P::Element, PH>,
+        requests: Defaults<Q::Element, QH>,
+        responses: Defaults<P::Element, PH>,
         id: UniqueSystemId,
     ) -> Result<Self, Refusal<AttributeVerificationError>>
-        ensures {
-            let of_request = detail (variant_of Q.MANY) Q.Element.name Q.Element.SIZE Q.Element.ALIGNMENT in
-            let of_response = detail (variant_of P.MANY) P.Element.name P.Element.SIZE P.Element.ALIGNMENT in
-            let before_request = detail FixedSize QH.name QH.SIZE QH.ALIGNMENT in
-            let before_response = detail FixedSize PH.name PH.SIZE PH.ALIGNMENT in
+        ensures { let of_requests = detail FixedSize QH.name QH.SIZE QH.ALIGNMENT in
+            let request = detail (variant_of Q.MANY) Q.Element.name Q.Element.SIZE
+            Q.Element.ALIGNMENT in
+            let of_responses = detail FixedSize PH.name PH.SIZE PH.ALIGNMENT in
+            let response = detail (variant_of P.MANY) P.Element.name P.Element.SIZE
+            P.Element.ALIGNMENT in
             IsMade (limits_for (settings_of settings)
-                (shape_of Q.MANY Q.Element.WORDS Q.Element.words QH.words
-                (request_shape before_request of_request request))
-                (shape_of P.MANY P.Element.WORDS P.Element.words PH.words
-                (response_shape before_response of_response response)))
-                (message_types before_request of_request before_response of_response)
-                description id result }
+            (shape_of Q.MANY Q.Element.WORDS Q.Element.words QH.words
+            (request_shape of_requests request requests))
+            (shape_of P.MANY P.Element.WORDS P.Element.words PH.words
+            (response_shape of_responses response responses)))
+            (message_types of_requests request of_responses response) description id result }
     {
         let asked = creator_refusal::<Q, QH, P, PH>(&description.types);
-        let requests = MessageShape::of_requests(Some(request.element), request.user_header);
-        let responses = MessageShape::of_responses(Some(response.element), response.user_header);
-        match iox_nodes::Service::new(alloc, settings, id, asked, requests, responses) {
+        let request = MessageShape::of_requests(Some(requests.element), requests.user_header);
+        let response = MessageShape::of_responses(Some(responses.element), responses.user_header);
+        match iox_nodes::Service::new(alloc, settings, id, asked, request, response) {
             Ok(nodes) => Ok(Service { description, nodes }),
             Err(refusal) => Err(refusal),
         }

@@ -58,9 +58,9 @@ fn suit<H: ZeroCopySend, U: ZeroCopySend, E: ZeroCopySend>(
 pub(crate) fn creator_refusal<Q: Payload, QH: ZeroCopySend, P: Payload, PH: ZeroCopySend>(
     given: &MessageTypes,
 ) -> Option<Refusal<AttributeVerificationError>>
-    where
-        Q::Element: ZeroCopySend,
-        P::Element: ZeroCopySend,
+where
+    Q::Element: ZeroCopySend,
+    P::Element: ZeroCopySend,
     ensures { IsAskedOfCreator (message_types (detail FixedSize QH.name QH.SIZE QH.ALIGNMENT)
         (detail (variant_of Q.MANY) Q.Element.name Q.Element.SIZE Q.Element.ALIGNMENT)
         (detail FixedSize PH.name PH.SIZE PH.ALIGNMENT)

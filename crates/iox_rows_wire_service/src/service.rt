@@ -8,9 +8,7 @@ mod opening;
 mod running;
 mod starts;
 
-use iceoryx2_wire::{
-    AttributeVerificationError, Many, Opener, Refusal, Reply, Service, Settings,
-};
+use iceoryx2_wire::{AttributeVerificationError, Many, Opener, Refusal, Reply, Service, Settings};
 use std::alloc::{AllocError, Global};
 use std::process::Abort;
 use std::test::Fail;
@@ -125,4 +123,3 @@ impl Pair {
         Ok(())
     }
 }
-

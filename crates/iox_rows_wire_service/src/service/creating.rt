@@ -61,7 +61,14 @@ fn a_service_says_what_its_creator_gave(rt: HostRuntime) -> Result<(), Fail> {
         return Err(Fail::new("refused"));
     };
     assert_eq!(rt; service.description().types, aligned(16)?);
-    assert_eq!(rt; service.description().attributes.attributes().number_of_attributes(), 2);
+    assert_eq!(rt;
+        service
+            .description()
+            .attributes
+            .attributes()
+            .number_of_attributes(),
+        2
+    );
     assert_eq!(rt; service.list_nodes(rt.alloc())?.first().copied(), Some(0));
     Ok(())
 }

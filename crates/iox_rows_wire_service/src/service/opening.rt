@@ -22,7 +22,10 @@ fn key_missing(key: &str) -> Result<TheRefusal, Fail> {
 fn the_least_missing_pair_is_told(rt: HostRuntime) -> Result<(), Fail> {
     let opener = requiring(&[("b", "3"), ("a", "2")], &["c"])?;
     let script = [
-        (Ask::Open(2, &opener), Told::Refused(pair_missing("a", "2")?)),
+        (
+            Ask::Open(2, &opener),
+            Told::Refused(pair_missing("a", "2")?),
+        ),
         (Ask::Nodes, Told::Listed(&[0])),
     ];
     let mut pair = Pair::new(rt.alloc(), SETTINGS)?;

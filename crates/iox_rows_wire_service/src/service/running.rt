@@ -1,8 +1,7 @@
 //! Runs of no command, of one, and of one after another.
 use super::openers::fit;
 use super::starts::{SETTINGS, first, id};
-use super::{TheReply, lent};
-use super::Told;
+use super::{TheReply, Told, lent};
 use iceoryx2_wire::{Command, Elements, Opener, Reply};
 use std::alloc::{AllocError, Global};
 use std::test::Fail;
@@ -10,7 +9,11 @@ use std::test::Fail;
 type TheCommand<'a> = Command<Elements<u64, u64>, u64, &'a Opener>;
 
 /// These two commands.
-fn two<'a>(alloc: Global, a: TheCommand<'a>, b: TheCommand<'a>) -> Result<Vec<TheCommand<'a>>, AllocError> {
+fn two<'a>(
+    alloc: Global,
+    a: TheCommand<'a>,
+    b: TheCommand<'a>,
+) -> Result<Vec<TheCommand<'a>>, AllocError> {
     let mut commands = Vec::with_capacity(alloc, 2)?;
     commands.push(a)?;
     commands.push(b)?;
