@@ -4,7 +4,8 @@ ghost use Rattle.iox_types.specs.declared.type_detail.TypeVariant.TheVariants.{F
 ghost use Rattle.iox_control.specs.Settings.{settings_of};
 ghost use Rattle.iox_hub.specs.Shapes.{shape_of};
 ghost use Rattle.iox_nodes.specs.Shown.{limits_for};
-ghost use Rattle.iceoryx2_wire.specs.OwnTypes.{message_types, request_shape, response_shape, variant_of};
+ghost use Rattle.iceoryx2_wire.specs.OwnTypes.{message_types, variant_of};
+ghost use Rattle.iceoryx2_wire.specs.OwnTypes.{request_shape, response_shape};
 ghost use Rattle.iceoryx2_wire.specs.Services.{IsMade};
 
 use crate::defaults::Defaults;

@@ -31,7 +31,8 @@ fn variant_of(many: bool) -> TypeVariant
 /// Whether a value of `T` may stand where one of the described type does. Where the name of `T` is
 /// too long to be described, it may stand nowhere.
 fn suits<T: ZeroCopySend>(variant: TypeVariant, described: &TypeDetail) -> bool
-    ensures { IsTrue result ↔ IsCompatible (detail variant T.name T.SIZE T.ALIGNMENT) described.now }
+    ensures { IsTrue result ↔ IsCompatible (detail variant T.name T.SIZE T.ALIGNMENT)
+        described.now }
 {
     variant == described.variant()
         && T::name() == described.type_name()

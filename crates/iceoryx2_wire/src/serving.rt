@@ -21,8 +21,9 @@ fn compared<Q, P, H>(
     description: &ServiceDescription,
     command: Command<Elements<Q, P>, H, &Opener>,
 ) -> Command<Elements<Q, P>, H, Option<Refusal<AttributeVerificationError>>>
-    ensures given { (q : Q → List ℕ) → (p : P → List ℕ) → (words : H → List ℕ) →
-        IsGivenAs q p words description.now command.entry (command_given q p words cause_of result) }
+    ensures given { (q : Q → List ℕ) (p : P → List ℕ) (words : H → List ℕ) →
+        IsGivenAs q p words description.now command.entry
+        (command_given q p words cause_of result) }
     ensures listing { is_listing result ≡ is_listing command.entry }
 {
     match command {
@@ -43,7 +44,8 @@ fn compared<Q, P, H>(
 impl<Q: Payload, QH: Words, P: Payload, PH: Words> Service<Q, QH, P, PH> {
     /// Answers a command. A node that opens the service is compared with what the service says of
     /// itself, as by `open`. It fails only for want of memory for a listing, and changes nothing
-    /// then. Want of memory for a join, for a port and for a read is a reply, as the machine has it.
+    /// then. Want of memory for a join, for a port and for a read is a reply, as the machine has
+    /// it.
     pub fn serve<H: Words>(
         &mut self,
         alloc: Global,
@@ -59,9 +61,9 @@ impl<Q: Payload, QH: Words, P: Payload, PH: Words> Service<Q, QH, P, PH> {
         self.nodes.serve(alloc, command)
     }
 
-    /// Answers commands one after another, and puts each reply behind the others. It ends before the
-    /// command whose reply finds no room, and before a listing for which there is no memory; what
-    /// was answered until then stays.
+    /// Answers commands one after another, and puts each reply behind the others. It ends before
+    /// the command whose reply finds no room, and before a listing for which there is no memory;
+    /// what was answered until then stays.
     pub fn run<H: Words>(
         &mut self,
         alloc: Global,
