@@ -1,2 +1,2 @@
 pub mod Comparing
-pub mod Serving
+pub mod Running

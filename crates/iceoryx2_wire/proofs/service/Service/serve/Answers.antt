@@ -8,8 +8,8 @@ returns-clause-answered g c =
     rw (← c.self.view_is)
     (if_ok c.serve.result
     (λ reply answered. (
-      command_given g.Q.Element.Words.words g.P.Element.Words.words cause_of c.compared.result,
-      c.compared.ensures.given g.Q.Element.Words.words g.P.Element.Words.words g.H.Words.words,
+      command_given g.Q.Element.Words.words g.P.Element.Words.words g.H.Words.words cause_of c.compared-command.result,
+      c.compared-command.ensures.given g.Q.Element.Words.words g.P.Element.Words.words g.H.Words.words,
       answered cause_of,
     ))
     c.serve.ensures.answered)

@@ -1,5 +1,5 @@
 -- How far commands were answered, one after another, where those who open the service are compared.
-use Rattle.std.specs.Prelude.{◌≡◌, ℕ, ◌+◌, ◌<◌, List, [], ◌∷◌, ◌++◌, length, map, take, Result, Ok, Err, IfOk, refl}
+use Rattle.std.specs.Prelude.{◌≡◌, ℕ, ◌+◌, ◌<◌, List, [], ◌∷◌, ◌++◌, length, map, take, refl}
 use Rattle.std.proofs.Common.{ap, subst, sym, ◌∙◌, arith}
 use Rattle.std.proofs.lemmas.List.{length-append, map-append}
 use Rattle.std.proofs.Math.Seq.{take-append_seam}
@@ -61,9 +61,9 @@ module _ {Q P H Z : Type 0} (q : Q → List ℕ) (p : P → List ℕ) (w : H →
     split = append_twice so.done (command ∷ []) rest ∙ so.split;
     many = length-append so.done (command ∷ []) ∙ ap (λ n. n + 1) so.many ∙ sym (length-append so.more (reply ∷ []));
     played = so.played ++ answered.0 ∷ [];
-    given = correspond_more (IsGivenAs q p w d) so.done so.played command answered.0 so.given answered.1.0;
+    given = correspond_more (IsGivenAs q p w d) so.done so.played command answered.0 so.given answered.1;
     run = subst (λ (rs : List Reply). IsRun s (so.played ++ answered.0 ∷ []) rs s'') (sym (map-append (reply_given cause_of) so.more (reply ∷ [])))
-        (run_more s s' s'' so.played (map (reply_given cause_of) so.more) answered.0 (reply_given cause_of reply) so.run answered.1.1);
+        (run_more s s' s'' so.played (map (reply_given cause_of) so.more) answered.0 (reply_given cause_of reply) so.run answered.2);
   }
 
   pub run_ends : (rest : List (OpenCommand Q P H)) (new : List (OpenReply Z)) (s' : State)
