@@ -10,6 +10,7 @@ use Rattle.iox_model.specs.Commands.{Refusal, Reply}
 use Rattle.iox_model.specs.Joins.{opening_refusal}
 use Rattle.iox_model.specs.Settings.{Limits}
 use Rattle.iox_model.specs.States.{State}
+use Rattle.iox_hub.specs.declared.shape.MessageShape.{MessageShape}
 use Rattle.iox_model.specs.WholeCalls.{UnlessRefused}
 use Rattle.iox_openers.specs.Causes.{as_refusal, cause_of, with_cause}
 use Rattle.iox_openers.specs.Openers.{IsAsked, IsAskedOfCreator, opener}
@@ -28,6 +29,13 @@ pub made_so : (l : Limits) (own : MessageTypes) (d : ServiceDescription) (id : U
     (asked : Option (the_refusal.Refusal AttributeVerificationError)) → IsAskedOfCreator own d.types (as_refusal asked)
     → IsCreated l id asked (Ok v) → IsMade l own d id (Ok (with_nodes d v))
 made_so l own d id v asked tests done = record { asked = as_refusal asked; tests = tests; creation = done cause_of; says = refl }
+
+-- the same creation, where messages are made of these
+pub with_shapes : {C E H F G : Type 0} (l : MessageShape E H → MessageShape F G → Limits) (m m' : MessageShape E H) (n n' : MessageShape F G)
+    (id : UniqueSystemId) (asked : Option (the_refusal.Refusal C)) (result : Result ServiceTables (the_refusal.Refusal C))
+    → m ≡ m' → n ≡ n' → IsCreated (l m n) id asked result → IsCreated (l m' n') id asked result
+with_shapes {C = C} l m m' n n' id asked result e e' made =
+    subst (λ x. IsCreated {C = C} (l x n') id asked result) e (subst (λ x. IsCreated {C = C} (l m x) id asked result) e' made)
 
 pub not_made_so : (l : Limits) (own : MessageTypes) (d : ServiceDescription) (id : UniqueSystemId) (r : the_refusal.Refusal AttributeVerificationError)
     (asked : Option (the_refusal.Refusal AttributeVerificationError)) → IsAskedOfCreator own d.types (as_refusal asked)

@@ -1,5 +1,6 @@
 -- the words of the clauses, and the types that they name
 pub use Rattle.iox_types.specs.Compatibility
+pub use Rattle.iox_types.specs.Details
 pub use Rattle.iox_types.specs.Identifiers
 pub use Rattle.iox_attributes.specs.Verifiers
 pub use Rattle.iox_attributes.specs.declared.verification_error.AttributeVerificationError
@@ -22,5 +23,7 @@ pub use Rattle.iox_nodes.specs.Served
 pub use Rattle.iox_nodes.specs.Shown
 pub use Rattle.iox_openers.specs.declared.message_types.MessageTypes
 pub use Rattle.iox_openers.specs.declared.service_description.ServiceDescription
--- a service with its description
+-- in reading order: a service with its description, its own messages, and its commands
 pub mod Services
+pub mod OwnTypes
+pub mod Serving

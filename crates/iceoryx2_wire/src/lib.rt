@@ -4,22 +4,31 @@
 
 mod asks;
 mod creating;
+mod defaults;
 mod listings;
+mod opener;
 mod opening;
+mod own_types;
 mod service;
+mod serving;
 pub mod uses;
 
+pub use defaults::Defaults;
 pub use iox_attributes::{
     AttributeSet, AttributeSpecifier, AttributeVerificationError, AttributeVerifier,
 };
 pub use iox_control::Settings;
-pub use iox_hub::{MessageShape, Part};
-pub use iox_model::command::PortCommand;
+pub use iox_model::command::{Command, PortCommand, PortOptions};
 pub use iox_model::reply::{Refusal, Reply};
+pub use iox_names::attribute::{AttributeKey, AttributeValue};
 pub use iox_openers::{MessageTypes, ServiceDescription};
 pub use iox_port_commands::Elements;
 pub use iox_store::{Many, One, Payload};
-pub use iox_types::MessageTypeDetails;
-pub use iox_types::identifiers::UniqueSystemId;
-pub use iox_words::Words;
+pub use iox_types::identifiers::{UniqueNodeId, UniqueSystemId};
+pub use iox_types::{
+    AllocationStrategy, BackpressureStrategy, MessageTypeDetails, TypeDetail, TypeDetailError,
+    TypeVariant,
+};
+pub use iox_words::{Words, ZeroCopySend};
+pub use opener::Opener;
 pub use service::Service;

@@ -1,16 +1,20 @@
 //! Callers of a service, with no proof of their own.
-ghost use Rattle.std.specs.Prelude.{◌≡◌, [], OnErr};
+ghost use Rattle.std.specs.Prelude.{◌≡◌, [], IfOk, OnErr, vec_len};
 ghost use Rattle.iox_model.specs.declared.command.Command.TheVariants.{Cleanup};
 ghost use Rattle.iox_model.specs.Runs.{IsServed};
 ghost use Rattle.iox_nodes.specs.Served.{IsDone};
 ghost use Rattle.iceoryx2_wire.specs.Services.{IsOpened, service_of};
 
+use crate::opener::Opener;
 use crate::service::Service;
 use iox_attributes::{AttributeVerificationError, AttributeVerifier};
-use iox_model::reply::Refusal;
+use iox_model::command::Command;
+use iox_model::reply::{Refusal, Reply};
 use iox_openers::MessageTypes;
+use iox_port_commands::Elements;
 use iox_store::{Many, One};
 use iox_types::identifiers::UniqueSystemId;
+use std::alloc::{AllocError, Global};
 
 /// Requests of bytes, and responses that are a number each.
 type Bytes = Service<Many<u8>, (), One<u64>, ()>;
@@ -38,4 +42,20 @@ pub fn cleans_up(service: &mut Bytes, node: u64) -> Result<(), Refusal<Attribute
     ensures says { service.new.description ≡ service.old.description }
 {
     service.cleanup(node)
+}
+
+/// Commands are run, and each has its reply. The machine can reach the state that is left.
+pub fn runs(
+    service: &mut Bytes,
+    alloc: Global,
+    commands: Vec<Command<Elements<u8, u64>, u64, &Opener>>,
+) -> Result<Vec<Reply<Vec<u64>, AttributeVerificationError>>, AllocError>
+    ensures each { IfOk result (λ replies. vec_len replies ≡ vec_len commands.entry) }
+    ensures served { IsServed (service_of service.new) }
+{
+    let mut replies = Vec::new(alloc);
+    let ran = service.run(alloc, commands, &mut replies);
+    service.is_served();
+    ran?;
+    Ok(replies)
 }

@@ -1,0 +1,20 @@
+//! Who opens a service.
+use iox_attributes::AttributeVerifier;
+use iox_openers::MessageTypes;
+use std::marker::Model;
+
+/// A node that opens a service: the types of its messages, and what it requires of the attributes.
+#[derive(Debug, Drop)]
+pub struct Opener {
+    pub types: MessageTypes,
+    pub verifier: AttributeVerifier,
+}
+
+impl Model for Opener {
+    ghost use Rattle.iox_openers.specs.Openers as machine;
+    ghost use Rattle.iox_openers.specs.Openers.{opener};
+
+    ghost Value = { machine.Opener };
+
+    ghost view = { λ o. opener o.types o.verifier };
+}

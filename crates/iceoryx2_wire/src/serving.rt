@@ -1,0 +1,89 @@
+//! Commands one after another, and what they are answered.
+ghost use Rattle.std.specs.Prelude.{◌≡◌, ◌+◌, ◌<◌, List, IfOk, OnErr, OnOk, true, vec_len, ℕ};
+ghost use Rattle.iox_openers.specs.Causes.{cause_of};
+ghost use Rattle.iox_nodes.specs.Given.{command_given, is_listing};
+ghost use Rattle.iceoryx2_wire.specs.Services.{service_of};
+ghost use Rattle.iceoryx2_wire.specs.Serving.{IsAnswered, IsGivenAs, IsRunOf};
+
+use crate::opener::Opener;
+use crate::service::Service;
+use iox_attributes::AttributeVerificationError;
+use iox_model::command::Command;
+use iox_model::reply::{Refusal, Reply};
+use iox_openers::ServiceDescription;
+use iox_port_commands::Elements;
+use iox_store::Payload;
+use iox_words::Words;
+use std::alloc::{AllocError, Global};
+
+/// The same command, with what the description asks of an opener in place of the opener.
+fn compared<Q, P, H>(
+    description: &ServiceDescription,
+    command: Command<Elements<Q, P>, H, &Opener>,
+) -> Command<Elements<Q, P>, H, Option<Refusal<AttributeVerificationError>>>
+    ensures given { (q : Q → List ℕ) (p : P → List ℕ) (words : H → List ℕ) →
+        IsGivenAs q p words description.now command.entry
+        (command_given q p words cause_of result) }
+    ensures listing { is_listing result ≡ is_listing command.entry }
+{
+    match command {
+        Command::Join { id, asked } => Command::Join {
+            id,
+            asked: description.opener_refusal(&asked.types, &asked.verifier),
+        },
+        Command::Port(command) => Command::Port(command),
+        Command::Leave { node } => Command::Leave { node },
+        Command::DeclareDead { node } => Command::DeclareDead { node },
+        Command::Cleanup { node } => Command::Cleanup { node },
+        Command::ListNodes => Command::ListNodes,
+        Command::ListClients => Command::ListClients,
+        Command::ListServers => Command::ListServers,
+    }
+}
+
+impl<Q: Payload, QH: Words, P: Payload, PH: Words> Service<Q, QH, P, PH> {
+    /// Answers a command. A node that opens the service is compared with what the service says of
+    /// itself, as by `open`. It fails only for want of memory for a listing, and changes nothing
+    /// then. Want of memory for a join, for a port and for a read is a reply, as the machine has
+    /// it.
+    pub fn serve<H: Words>(
+        &mut self,
+        alloc: Global,
+        command: Command<Elements<Q::Element, P::Element>, H, &Opener>,
+    ) -> Result<Reply<Vec<u64>, AttributeVerificationError>, AllocError>
+        ensures answered { IfOk result (λ reply. IsAnswered Q.Element.words P.Element.words H.words
+            self.old.description (service_of self.old) command.entry reply (service_of self.new)) }
+        ensures says { self.new.description ≡ self.old.description }
+        ensures unchanged { OnErr result (self.new ≡ self.old) }
+        ensures listing { OnErr result (is_listing command.entry ≡ true) }
+    {
+        let command = compared(&self.description, command);
+        self.nodes.serve(alloc, command)
+    }
+
+    /// Answers commands one after another, and puts each reply behind the others. It ends before
+    /// the command whose reply finds no room, and before a listing for which there is no memory;
+    /// what was answered until then stays.
+    pub fn run<H: Words>(
+        &mut self,
+        alloc: Global,
+        commands: Vec<Command<Elements<Q::Element, P::Element>, H, &Opener>>,
+        replies: &mut Vec<Reply<Vec<u64>, AttributeVerificationError>>,
+    ) -> Result<(), AllocError>
+        ensures ran { IsRunOf Q.Element.words P.Element.words H.words self.old.description
+            (service_of self.old) commands.entry.items replies.old.items replies.new.items
+            (service_of self.new) }
+        ensures says { self.new.description ≡ self.old.description }
+        ensures whole { OnOk result
+            (vec_len replies.new ≡ vec_len replies.old + vec_len commands.entry) }
+        ensures short { OnErr result
+            (vec_len replies.new < vec_len replies.old + vec_len commands.entry) }
+    {
+        for command in commands {
+            replies.reserve(1)?;
+            let reply = self.serve(alloc, command)?;
+            replies.push_reserved(reply);
+        }
+        Ok(())
+    }
+}

@@ -1,0 +1,5 @@
+//! Tests of services with their descriptions, by what their crate makes public.
+#![tactic(auto)]
+
+#[cfg(test)]
+mod service;

@@ -1,0 +1,111 @@
+//! Nodes that open a service, and those that may not.
+use super::openers::{fit, of_bytes, requiring};
+use super::starts::{SETTINGS, with_nodes};
+use super::{Ask, Pair, TheRefusal, Told};
+use iceoryx2_wire::{AttributeKey, AttributeValue, AttributeVerificationError, Refusal};
+use std::test::Fail;
+
+/// The refusal that names a pair.
+fn pair_missing(key: &str, value: &str) -> Result<TheRefusal, Fail> {
+    let (key, value) = (AttributeKey::new(key)?, AttributeValue::new(value)?);
+    let cause = AttributeVerificationError::IncompatibleAttribute(key, value);
+    Ok(Refusal::IncompatibleAttributes(cause))
+}
+
+/// The refusal that names a key.
+fn key_missing(key: &str) -> Result<TheRefusal, Fail> {
+    let cause = AttributeVerificationError::NonExistingKey(AttributeKey::new(key)?);
+    Ok(Refusal::IncompatibleAttributes(cause))
+}
+
+#[test]
+fn the_least_missing_pair_is_told(rt: HostRuntime) -> Result<(), Fail> {
+    let opener = requiring(&[("b", "3"), ("a", "2")], &["c"])?;
+    let script = [
+        (
+            Ask::Open(2, &opener),
+            Told::Refused(pair_missing("a", "2")?),
+        ),
+        (Ask::Nodes, Told::Listed(&[0])),
+    ];
+    let mut pair = Pair::new(rt.alloc(), SETTINGS)?;
+    pair.plays(&rt, rt.alloc(), &script)?;
+    Ok(())
+}
+
+#[test]
+fn a_missing_key_is_told_where_no_pair_is(rt: HostRuntime) -> Result<(), Fail> {
+    let opener = requiring(&[("b", "2")], &["a", "d", "c"])?;
+    let fits = requiring(&[("b", "2"), ("a", "1")], &["b"])?;
+    let script = [
+        (Ask::Open(2, &opener), Told::Refused(key_missing("d")?)),
+        (Ask::Nodes, Told::Listed(&[0])),
+        (Ask::Open(2, &fits), Told::Node(1)),
+        (Ask::Nodes, Told::Listed(&[0, 1])),
+    ];
+    let mut pair = Pair::new(rt.alloc(), SETTINGS)?;
+    pair.plays(&rt, rt.alloc(), &script)?;
+    Ok(())
+}
+
+#[test]
+fn the_first_test_that_fails_is_told(rt: HostRuntime) -> Result<(), Fail> {
+    let (fits, unfit) = (fit()?, of_bytes(false, false)?);
+    let (both, responses) = (of_bytes(true, true)?, of_bytes(false, true)?);
+    let script = [
+        // At the limit of one node, each of these fails a later test as well.
+        (Ask::Open(0, &both), Told::Refused(Refusal::InvalidNodeId)),
+        (Ask::Open(1, &both), Told::Refused(Refusal::NodeIdInUse)),
+        (
+            Ask::Open(2, &both),
+            Told::Refused(Refusal::IncompatibleRequestTypes),
+        ),
+        (
+            Ask::Open(2, &responses),
+            Told::Refused(Refusal::IncompatibleResponseTypes),
+        ),
+        (Ask::Open(2, &unfit), Told::Refused(pair_missing("a", "9")?)),
+        (
+            Ask::Open(2, &fits),
+            Told::Refused(Refusal::ExceedsMaxNumberOfNodes),
+        ),
+        (Ask::Leave(0), Told::Done),
+        (
+            Ask::Open(0, &both),
+            Told::Refused(Refusal::MarkedForDestruction),
+        ),
+        (
+            Ask::Open(2, &fits),
+            Told::Refused(Refusal::MarkedForDestruction),
+        ),
+    ];
+    let mut pair = Pair::new(rt.alloc(), with_nodes(1))?;
+    pair.plays(&rt, rt.alloc(), &script)?;
+    Ok(())
+}
+
+#[test]
+fn a_refused_open_leaves_nothing_behind(rt: HostRuntime) -> Result<(), Fail> {
+    let (fits, unfit, requests) = (fit()?, of_bytes(false, false)?, of_bytes(true, false)?);
+    let script = [
+        (Ask::Open(2, &unfit), Told::Refused(pair_missing("a", "9")?)),
+        (
+            Ask::Open(2, &requests),
+            Told::Refused(Refusal::IncompatibleRequestTypes),
+        ),
+        (Ask::Nodes, Told::Listed(&[0])),
+        (Ask::Client(1), Told::Refused(Refusal::UnknownNode)),
+        // The number, the id and the place are still there.
+        (Ask::Open(2, &fits), Told::Node(1)),
+        (
+            Ask::Open(3, &fits),
+            Told::Refused(Refusal::ExceedsMaxNumberOfNodes),
+        ),
+        (Ask::Leave(1), Told::Done),
+        (Ask::Open(3, &fits), Told::Node(2)),
+        (Ask::Nodes, Told::Listed(&[0, 2])),
+    ];
+    let mut pair = Pair::new(rt.alloc(), with_nodes(2))?;
+    pair.plays(&rt, rt.alloc(), &script)?;
+    Ok(())
+}

@@ -1,0 +1,79 @@
+//! Services to begin with.
+use super::{TheRefusal, TheService};
+use iceoryx2_wire::{
+    AllocationStrategy, AttributeKey, AttributeSpecifier, AttributeValue, BackpressureStrategy,
+    Defaults, ServiceDescription, Settings, UniqueSystemId,
+};
+use std::alloc::Global;
+use std::test::Fail;
+
+/// The defaults.
+pub(super) const SETTINGS: Settings = Settings {
+    clients: 8,
+    servers: 2,
+    nodes: 20,
+    active_requests: 4,
+    loaned_requests: 2,
+    response_buffer: 2,
+    borrowed_responses: 2,
+    loaned_responses: 2,
+    client_expired: 0,
+    server_expired: 0,
+    request_overflow: true,
+    response_overflow: true,
+    fire_and_forget: true,
+    client_strategy: BackpressureStrategy::RetryUntilDelivered,
+    server_strategy: BackpressureStrategy::RetryUntilDelivered,
+    client_allocation: AllocationStrategy::Static,
+    server_allocation: AllocationStrategy::Static,
+};
+
+/// The defaults, but for so many nodes.
+pub(super) fn with_nodes(nodes: u64) -> Settings {
+    Settings { nodes, ..SETTINGS }
+}
+
+/// The id N 0 0 0.
+pub(super) fn id(process: u32) -> UniqueSystemId {
+    UniqueSystemId {
+        process,
+        seconds: 0,
+        nanoseconds: 0,
+        counter: 0,
+    }
+}
+
+/// The service's own types, and the attributes (a, 1) and (b, 2).
+pub(super) fn description() -> Result<ServiceDescription, Fail> {
+    let mut attributes = AttributeSpecifier::new();
+    for (key, value) in [("a", "1"), ("b", "2")] {
+        let (key, value) = (AttributeKey::new(key)?, AttributeValue::new(value)?);
+        attributes.try_define(&key, &value)?;
+    }
+    Ok(ServiceDescription {
+        types: TheService::own_types()?,
+        attributes,
+    })
+}
+
+/// What a message holds at first.
+const DEFAULTS: Defaults<u64, ()> = Defaults {
+    element: 7,
+    user_header: (),
+};
+
+/// A service with that description, or why it is refused.
+pub(super) fn new(
+    alloc: Global,
+    settings: Settings,
+    description: ServiceDescription,
+    id: UniqueSystemId,
+) -> Result<TheService, TheRefusal> {
+    TheService::create(alloc, settings, description, DEFAULTS, DEFAULTS, id)
+}
+
+/// A service whose first node has the id 1 0 0 0.
+pub(super) fn first(alloc: Global, settings: Settings) -> Result<TheService, Fail> {
+    let service = new(alloc, settings, description()?, id(1))?;
+    Ok(service)
+}
