@@ -1,0 +1,5 @@
+pub mod Parts
+pub mod PlaceCourses
+pub mod PlaceSteps
+pub mod PlaceBegins
+pub mod PlaceEnds

@@ -1,0 +1,149 @@
+-- As a call begins, what is so of its first place is so.
+use Rattle.std.specs.Prelude.{filter, map, not, ◌&&◌}
+use Rattle.std.proofs.Common.{◌≡◌, ℕ, Bool, true, false, if◌then◌else◌, ◌==◌, List, Option, Some, None, refl, ap, sym, subst, ◌∙◌, true≢false, eqb-true}
+use Rattle.iox_model.specs.declared.call.Call.TheVariants.{HasHint, HasRequests, HasResponse, IsConnected, Loan, Read, Receive, Release, Send, SendCopy, SetHint, Write}
+use Rattle.iox_model.specs.declared.kind.Kind.{Kind}
+use Rattle.iox_model.specs.declared.kind.Role.{Role}
+use Rattle.iox_model.specs.declared.kind.Role.TheVariants.{Client, Server}
+use Rattle.iox_model.specs.Commands.{Call, WireCall, number_of}
+use Rattle.iox_model.specs.declared.call.WireCall.TheVariants as wire_calls
+use Rattle.iox_model.specs.Handles.{Subject, TheHandle, is_request_loan, is_response_loan, subject}
+use Rattle.iox_model.specs.Maps.{has_number}
+use Rattle.iox_model.specs.Messages.{request_way, response_way}
+use Rattle.iox_model.specs.Names.{misnamed, misnamed_by, suits}
+use Rattle.iox_model.specs.Peers.{forgot_port, others, port_at, ports_of_role}
+use Rattle.iox_model.specs.Receives.{clients_to_visit, server_ways}
+use Rattle.iox_model.specs.Settings.{is_client, same_role}
+use Rattle.iox_model.specs.States.{Port}
+use Rattle.iox_laws.proofs.WeaveLaws.MapLemmas.{either}
+use Rattle.iox_laws.proofs.WeaveLaws.WholeLemmas.{or_else-none}
+use Rattle.iox_laws.proofs.WeaveLedger.Lists.{IsAmong, among-number, any-among, filter-among, map-among}
+use Rattle.iox_laws.proofs.WeaveLedger.Truths.{false_if, or-left, or-right, passes}
+use Rattle.iox_wire_locals.specs.declared.seat.Seat.{Seat}
+use Rattle.iox_wire_locals.specs.declared.table.Entry.{Entry}
+use Rattle.iox_wire_locals.specs.Begins.{begin, begins_at, begins_at_entry, begins_at_port, misnamed_call, pending_visit, server_visit, ways_for}
+use Rattle.iox_wire_locals.specs.Known.{known, told_handle}
+use Rattle.iox_wire_locals.specs.ReceiveCourses.{states_for}
+use Rattle.iox_wire_locals.specs.Tables.{Setting, entry_at}
+use Rattle.iox_wire_laws.specs.WireShows.OwnedCalls.{Each}
+use Rattle.iox_wire_laws.proofs.WireKeeping.CountsKept.{begins_keep_own}
+use Rattle.iox_wire_laws.proofs.WireKeeping.Lookups.{find_map}
+use Rattle.iox_wire_laws.proofs.WireRegions.OwnPorts.{both, each_map}
+use Rattle.iox_wire_stands.specs.Stands.{AreNumbered}
+use Rattle.iox_wire_calls.specs.PlaceLaws.{BeginsFit}
+use Rattle.iox_wire_calls.specs.Places.{IsLoan, Visits}
+use Rattle.iox_wire_calls.proofs.PlaceCourses.{Fits, checking, copies_request, copies_response, hinting, loans_request, loans_response, reads, releasing, seeking, sends, visiting, writes}
+
+none_if : (b : Bool) → not b ≡ true → b ≡ false
+none_if true is = sym is
+none_if false is = refl
+
+same_is : (a b : Role) → same_role a b ≡ true → a ≡ b
+same_is Client Client is = refl
+same_is Client Server is = absurd (true≢false (sym is))
+same_is Server Client is = absurd (true≢false (sym is))
+same_is Server Server is = refl
+
+module _ (p : Setting) (x : Seat) (numbered : AreNumbered p) where
+  -- ---- ports
+
+  -- a known port is the setting's of that number
+  pub known_port : (q : Port) → IsAmong q (map p.port p.layout.sizes.ports) → p.port q.number ≡ q
+  known_port q among =
+      let at = map-among p.port q p.layout.sizes.ports among in
+      ap p.port (ap (λ (r : Port). r.number) at.2 ∙ numbered at.0 (among-number at.0 p.layout.sizes.ports at.1)) ∙ sym at.2
+
+  role_of : (role : Role) (k : ℕ) → IsAmong k (ports_of_role (known p x) role) → (p.port k).role ≡ role
+  role_of role k among =
+      let at = map-among (λ (q : Port). q.number) k (filter (λ q. same_role q.role role) (map p.port p.layout.sizes.ports)) among in
+      let there = filter-among (λ (q : Port). same_role q.role role) at.0 (map p.port p.layout.sizes.ports) at.1 in
+      ap (λ i. (p.port i).role) at.2 ∙ ap (λ (q : Port). q.role) (known_port at.0 there.0) ∙ same_is at.0.role role there.1
+
+  module _ (role : Role) (k : ℕ) (among : IsAmong k (others (known p x) x.node role)) where
+    abbrev IsOther : Port → Type 0
+    IsOther q = IsAmong q (map p.port p.layout.sizes.ports) × (k ≡ q.number) × (same_role q.role role ≡ true) × (has_number q.node x.forgot ≡ false)
+
+    other : (q : Port) × IsOther q
+    other =
+        let at = map-among (λ (q : Port). q.number) k (filter (λ q. same_role q.role role && not (has_number q.node x.forgot)) (map p.port p.layout.sizes.ports)) among in
+        let there = filter-among (λ (q : Port). same_role q.role role && not (has_number q.node x.forgot)) at.0 (map p.port p.layout.sizes.ports) at.1 in
+        let parts = both (same_role at.0.role role) (not (has_number at.0.node x.forgot)) there.1 in
+        (at.0, (there.0, at.2, parts.0, none_if (has_number at.0.node x.forgot) parts.1))
+
+    other_role_of : (p.port k).role ≡ role
+    other_role_of = let o = other in ap (λ i. (p.port i).role) o.1.1 ∙ ap (λ (q : Port). q.role) (known_port o.0 o.1.0) ∙ same_is o.0.role role o.1.2
+
+    other_unforgotten : forgot_port (known p x) x.node k ≡ false
+    other_unforgotten =
+        let o = other in
+        false_if (forgot_port (known p x) x.node k) (λ e.
+        let r = any-among (λ (q : Port). (q.number == k) && has_number q.node x.forgot) (map p.port p.layout.sizes.ports) e in
+        let t = both (r.0.number == k) (has_number r.0.node x.forgot) r.2 in
+        let same : r.0 ≡ o.0 = sym (known_port r.0 r.1) ∙ ap p.port (eqb-true r.0.number k t.0 ∙ o.1.1) ∙ known_port o.0 o.1.0 in
+        true≢false (sym t.1 ∙ ap (λ (q : Port). has_number q.node x.forgot) same ∙ o.1.3))
+
+  -- ---- receives
+
+  server_each : (q : Port) → Each (Visits p x (server_visit q)) (server_ways (known p x) q)
+  server_each q =
+      each_map (Visits p x (server_visit q)) (λ client. request_way client q.number) (clients_to_visit (known p x) q)
+      (λ client there.
+      either (λ (ks : List ℕ). IsAmong client ks → Visits p x (server_visit q) (request_way client q.number)) p.limits.fire_and_forget
+      (ports_of_role (known p x) Client) (others (known p x) x.node Client)
+      (λ is among. (role_of Client client among, λ server asks. absurd (true≢false (sym is ∙ asks))))
+      (λ is among. (other_role_of Client client among, λ server asks. other_unforgotten Client client among)) there)
+
+  pending_each : (e : Entry) → Each (Visits p x (pending_visit e)) (ways_for p x e)
+  pending_each e =
+      each_map (Visits p x (pending_visit e)) (response_way e.port e.lane) (ports_of_role (known p x) Server)
+      (λ port there. (role_of Server port there, λ server asks. absurd (true≢false server)))
+
+  -- ---- what a call names
+
+  at_port : (call : Call) (q : Port) → Fits p (begins_at_port p x call q)
+  at_port (Loan n k) q = loans_request p x q k
+  at_port (SendCopy n y) q = copies_request p x q y.elements y.words
+  at_port (Receive n) q = visiting p x (server_visit q) (server_ways (known p x) q) false (server_each q)
+  at_port (HasRequests n) q = seeking p x (server_ways (known p x) q)
+  at_port call q = tt
+
+  loan_is : (b : Bool) (kind : Kind) → (if b then is_request_loan kind else is_response_loan kind) ≡ true → IsLoan kind
+  loan_is true kind is = or-left (is_request_loan kind) (is_response_loan kind) is
+  loan_is false kind is = or-right (is_request_loan kind) (is_response_loan kind) is
+
+  at_entry : (call : Call) (e : Entry) → suits true call e.kind ≡ true → Fits p (begins_at_entry p x call e)
+  at_entry (Loan n k) e suited = loans_response p x e k
+  at_entry (Write n y) e suited = writes p x e y.elements y.words (loan_is (is_client y.role) e.kind suited)
+  at_entry (Send n) e suited = sends p x e false
+  at_entry (SendCopy n y) e suited = copies_response p x e y.elements y.words
+  at_entry (Receive n) e suited = visiting p x (pending_visit e) (ways_for p x e) false (pending_each e)
+  at_entry (Read n) e suited = reads p x e
+  at_entry (Release n) e suited = releasing p x e
+  at_entry (IsConnected n) e suited = checking p x e false (states_for p x e)
+  at_entry (SetHint n) e suited = hinting p x e (states_for p x e)
+  at_entry (HasHint n) e suited = checking p x e true (states_for p x e)
+  at_entry (HasResponse n) e suited = seeking p x (ways_for p x e)
+  at_entry call e suited = tt
+
+  suited : (call : Call) (e : Entry) → port_at (known p x) (number_of call) ≡ None → entry_at (number_of call) x.table ≡ Some e
+      → misnamed (known p x) x.node call ≡ None → suits true call e.kind ≡ true
+  suited call e port entry named =
+      let same : subject (known p x) x.node (number_of call) ≡ Some (TheHandle (told_handle p x.node e))
+      = rw port (rw (find_map (told_handle p x.node) (λ k. refl) (number_of call) x.table) (rw entry refl)) in
+      passes _ _ (or_else-none _ _ (subst (λ (o : Option Subject). misnamed_by (known p x) x.node call o ≡ None) same named)).1
+
+  by_name : (call : Call) (q : Option Port) (e : Option Entry) → port_at (known p x) (number_of call) ≡ q → entry_at (number_of call) x.table ≡ e
+      → misnamed (known p x) x.node call ≡ None → Fits p (begins_at p x call q e)
+  by_name call (Some q) e port entry named = at_port call q
+  by_name call None (Some e) port entry named = at_entry call e (suited call e port entry named)
+  by_name call None None port entry named = tt
+
+  begun : (call : WireCall) → misnamed_call p x call ≡ None → Fits p (begin p x call)
+  begun (wire_calls.Port call) named = by_name call (port_at (known p x) (number_of call)) (entry_at (number_of call) x.table) refl refl named
+  begun (wire_calls.Forget dead) named = tt
+
+pub begins_fit : BeginsFit
+begins_fit p x call numbered named fits = record {
+  filled = λ e there. fits.filled e (subst (λ (es : List Entry). entry_at e.number es ≡ Some e) (begins_keep_own p x call).table there);
+  place = begun p x numbered call named;
+}

@@ -1,0 +1,122 @@
+-- What is so of the place of a node's call, and of its table, by the node's own data alone.
+use Rattle.std.specs.Prelude.{◌≡◌, ◌||◌, true, false, ◌∷◌}
+use Rattle.iox_model.specs.declared.kind.Kind.{Kind}
+use Rattle.iox_model.specs.declared.kind.Role.TheVariants.{Server}
+use Rattle.iox_model.specs.declared.way.Way.{Way}
+use Rattle.iox_model.specs.Handles.{is_request_loan, is_response_loan}
+use Rattle.iox_model.specs.Peers.{forgot_port, others}
+use Rattle.iox_model.specs.Settings.{is_client, other_role}
+use Rattle.iox_model.specs.WholeCalls.{is_uninit}
+use Rattle.iox_steps.specs.declared.push.Push.TheVariants as push
+use Rattle.iox_steps.specs.declared.side.Popping.{Popping}
+use Rattle.iox_steps.specs.declared.side.Popping.TheVariants as popping
+use Rattle.iox_steps.specs.declared.side.Pushing.{Pushing}
+use Rattle.iox_steps.specs.declared.side.Pushing.TheVariants as pushing
+use Rattle.iox_wire_locals.specs.declared.local.Delivery.{Delivery}
+use Rattle.iox_wire_locals.specs.declared.local.Ending.{Ending}
+use Rattle.iox_wire_locals.specs.declared.local.Ending.TheVariants as endings
+use Rattle.iox_wire_locals.specs.declared.local.Local.{Local}
+use Rattle.iox_wire_locals.specs.declared.local.Local.TheVariants.{Ends, LendEmpties, LendStores, ReceiveAsks, ReceiveLoads, ReceiveLooks, ReceivePops, ReceiveReturns, ReleaseReturns, Seeks, SendAsks, SendEmpties, SendEnds, SendEvicts, SendGetsBack, SendLooks, SendOpens, SendPushes, Writes}
+use Rattle.iox_wire_locals.specs.declared.local.Visit.{Visit}
+use Rattle.iox_wire_locals.specs.declared.seat.Seat.{Seat}
+use Rattle.iox_wire_locals.specs.declared.table.Entry.{Entry}
+use Rattle.iox_wire_locals.specs.declared.table.NewLoan.{NewLoan}
+use Rattle.iox_wire_locals.specs.Known.{known, loans_at}
+use Rattle.iox_wire_locals.specs.NewLoans.{request_in}
+use Rattle.iox_wire_locals.specs.Tables.{Setting, way_in}
+use Rattle.iox_wire_laws.specs.WireShows.OwnedCalls.{Each}
+use Rattle.iox_wire_laws.specs.WireHolding.SlotsKnown.{HasEntry}
+
+-- ---- the node's part in a queue
+
+-- it pops
+abbrev pub IsPop : Popping → Type 0
+IsPop (popping.Pops place) = Unit {0}
+IsPop part = ⊥
+
+-- it looks whether the queue is empty
+abbrev pub IsEmptyLook : Popping → Type 0
+IsEmptyLook (popping.Looks place) = Unit {0}
+IsEmptyLook part = ⊥
+
+-- it looks whether the queue is full
+abbrev pub IsFullLook : Pushing → Type 0
+IsFullLook (pushing.Looks place) = Unit {0}
+IsFullLook part = ⊥
+
+-- it pushes the oldest out
+abbrev pub IsEvicting : Pushing → Type 0
+IsEvicting (pushing.Pushes (push.Evicts read)) = Unit {0}
+IsEvicting part = ⊥
+
+-- it learns which that was
+abbrev pub IsLearning : Pushing → Type 0
+IsLearning (pushing.Pushes (push.TakesOld cell)) = Unit {0}
+IsLearning part = ⊥
+
+-- ---- calls
+
+-- a loan in the making is a filled one, with the next serial of its port
+abbrev pub IsNext : Seat → NewLoan → Type 0
+IsNext x o = (is_uninit o.kind ≡ false) × (o.serial ≡ loans_at x o.port)
+
+-- the kind is that of a loan
+abbrev pub IsLoan : Kind → Type 0
+IsLoan kind = (is_request_loan kind || is_response_loan kind) ≡ true
+
+-- a request goes to all servers that the node did not forget
+abbrev pub GoesToAll : Setting → Seat → Delivery → Type 0
+GoesToAll p x d = is_request_loan d.loan.kind ≡ true → d.to ≡ others (known p x) x.node Server
+
+-- a receive visits ways from ports of the other role; a server that asks for request states visits
+-- none of a client that its node forgot
+abbrev pub Visits : Setting → Seat → Visit → Way → Type 0
+Visits p x v y =
+    ((p.port y.sender).role ≡ other_role v.role)
+    × (is_client v.role ≡ false → p.limits.fire_and_forget ≡ false
+    → forgot_port (known p x) x.node y.sender ≡ false)
+
+-- ---- places
+
+-- Where a call is over but for its end: a loan is a next one, what was written is a loan, what was
+-- sent at once is no request, and a response that is received answers its request.
+abbrev pub EndingFits : Setting → Seat → Ending → Type 0
+EndingFits p x (endings.Lends o slot) = IsNext x o
+EndingFits p x (endings.Fills e words) = IsLoan e.kind
+EndingFits p x (endings.Sends e copied count) = is_request_loan e.kind ≡ false
+EndingFits p x (endings.Receives v w slot header) =
+    is_client v.role ≡ true → request_in v header ≡ v.request
+EndingFits p x ending = Unit {0}
+
+-- So it is at each place: what is lent, written, sent or visited is such, only a response asks for
+-- its request state, and nothing is given back to a forgotten sender. The node's part in the queue
+-- of the place is in the program that the place says.
+abbrev pub PlaceFits : Setting → Seat → Local → Type 0
+PlaceFits p x (Ends ending) = EndingFits p x ending
+PlaceFits p x (LendEmpties o w place left) = IsPop place × IsNext x o
+PlaceFits p x (LendStores o slot next) = IsNext x o
+PlaceFits p x (Writes e words next) = IsLoan e.kind
+PlaceFits p x (SendAsks d) = is_request_loan d.loan.kind ≡ false
+PlaceFits p x (SendEmpties d w place left) = IsPop place × GoesToAll p x d
+PlaceFits p x (SendLooks d w place left full) = IsFullLook place × GoesToAll p x d
+PlaceFits p x (SendOpens d w left full) = GoesToAll p x d
+PlaceFits p x (SendPushes d last w place left count) = GoesToAll p x d
+PlaceFits p x (SendEvicts d w place left count) = IsEvicting place × GoesToAll p x d
+PlaceFits p x (SendGetsBack d w place left count) = IsLearning place × GoesToAll p x d
+PlaceFits p x (SendEnds d last count) = GoesToAll p x d
+PlaceFits p x (ReceiveLooks v w place left waiting) = IsEmptyLook place × Each (Visits p x v) (w ∷ left)
+PlaceFits p x (ReceivePops v w more place left waiting) = IsPop place × Each (Visits p x v) (w ∷ left)
+PlaceFits p x (ReceiveLoads v w slot header left waiting) = Each (Visits p x v) (w ∷ left)
+PlaceFits p x (ReceiveAsks v w slot header left waiting) =
+    (is_client v.role ≡ false) × (p.limits.fire_and_forget ≡ false) × Each (Visits p x v) (w ∷ left)
+PlaceFits p x (ReceiveReturns v w slot place left waiting) =
+    (forgot_port (known p x) x.node w.sender ≡ false) × Each (Visits p x v) (w ∷ left)
+PlaceFits p x (ReleaseReturns e place) = forgot_port (known p x) x.node (way_in e).sender ≡ false
+PlaceFits p x (Seeks w place left) = IsEmptyLook place
+PlaceFits p x local = Unit {0}
+
+-- What is so of a node's call and of its table.
+pub record CallFits (p : Setting) (x : Seat) : Type 0 where
+  -- no handle is an unfilled loan
+  pub filled : (e : Entry) → HasEntry x e → is_uninit e.kind ≡ false
+  pub place : PlaceFits p x x.local

@@ -1,0 +1,12 @@
+//! What is so of a node's call at each place: what steps of a wire are told follows from it.
+//! The functions have nothing to do: each is there for its contract.
+#![tactic(auto)]
+
+ghost use Rattle.iox_wire_calls.specs.PlaceLaws.{AccessesFit, BeginsFit, EndsFit};
+
+/// What is so of a call's place is so at its first one, after each access, and after its end.
+pub fn places_stay_fit()
+    ensures begins { BeginsFit }
+    ensures accesses { AccessesFit }
+    ensures ends { EndsFit }
+{}
