@@ -1,24 +1,23 @@
 -- As a call begins, what is so of its first place is so.
-use Rattle.std.specs.Prelude.{filter, map, not, ◌&&◌}
+use Rattle.std.specs.Prelude.{option_map, filter, map, not, ◌&&◌}
 use Rattle.std.proofs.Common.{◌≡◌, ℕ, Bool, true, false, if◌then◌else◌, ◌==◌, List, Option, Some, None, refl, ap, sym, subst, ◌∙◌, true≢false, eqb-true}
 use Rattle.iox_model.specs.declared.call.Call.TheVariants.{HasHint, HasRequests, HasResponse, IsConnected, Loan, Read, Receive, Release, Send, SendCopy, SetHint, Write}
-use Rattle.iox_model.specs.declared.kind.Kind.{Kind}
 use Rattle.iox_model.specs.declared.kind.Role.{Role}
 use Rattle.iox_model.specs.declared.kind.Role.TheVariants.{Client, Server}
 use Rattle.iox_model.specs.Commands.{Call, WireCall, number_of}
 use Rattle.iox_model.specs.declared.call.WireCall.TheVariants as wire_calls
-use Rattle.iox_model.specs.Handles.{Subject, TheHandle, is_request_loan, is_response_loan, subject}
+use Rattle.iox_model.specs.Handles.{Subject, TheHandle, ThePort, kind_of, port_or_handle}
 use Rattle.iox_model.specs.Maps.{has_number}
 use Rattle.iox_model.specs.Messages.{request_way, response_way}
 use Rattle.iox_model.specs.Names.{misnamed, misnamed_by, suits}
 use Rattle.iox_model.specs.Peers.{forgot_port, others, port_at, ports_of_role}
 use Rattle.iox_model.specs.Receives.{clients_to_visit, server_ways}
 use Rattle.iox_model.specs.Settings.{is_client, same_role}
-use Rattle.iox_model.specs.States.{Port}
+use Rattle.iox_model.specs.States.{Handle, Port}
 use Rattle.iox_laws.proofs.WeaveLaws.MapLemmas.{either}
 use Rattle.iox_laws.proofs.WeaveLaws.WholeLemmas.{or_else-none}
-use Rattle.iox_laws.proofs.WeaveLedger.Lists.{IsAmong, among-number, any-among, filter-among, map-among}
-use Rattle.iox_laws.proofs.WeaveLedger.Truths.{false_if, or-left, or-right, passes}
+use Rattle.iox_laws.proofs.WeaveLedger.Lists.{IsAmong, among-number, any-among, filter-among, find-among, map-among}
+use Rattle.iox_laws.proofs.WeaveLedger.Truths.{false_if, none-some, passes}
 use Rattle.iox_wire_locals.specs.declared.seat.Seat.{Seat}
 use Rattle.iox_wire_locals.specs.declared.table.Entry.{Entry}
 use Rattle.iox_wire_locals.specs.Begins.{begin, begins_at, begins_at_entry, begins_at_port, misnamed_call, pending_visit, server_visit, ways_for}
@@ -31,7 +30,8 @@ use Rattle.iox_wire_laws.proofs.WireKeeping.Lookups.{find_map}
 use Rattle.iox_wire_laws.proofs.WireRegions.OwnPorts.{both, each_map}
 use Rattle.iox_wire_stands.specs.Stands.{AreNumbered}
 use Rattle.iox_wire_calls.specs.PlaceLaws.{BeginsFit}
-use Rattle.iox_wire_calls.specs.Places.{IsLoan, Visits}
+use Rattle.iox_wire_calls.specs.Places.{CallFits, SuitsPort, Visits}
+use Rattle.iox_wire_calls.proofs.HandleKinds.{answers_is, asks_is, copies_is, loan_is, receives_is, sent_is}
 use Rattle.iox_wire_calls.proofs.PlaceCourses.{Fits, checking, copies_request, copies_response, hinting, loans_request, loans_response, reads, releasing, seeking, sends, visiting, writes}
 
 none_if : (b : Bool) → not b ≡ true → b ≡ false
@@ -84,66 +84,82 @@ module _ (p : Setting) (x : Seat) (numbered : AreNumbered p) where
 
   -- ---- receives
 
-  server_each : (q : Port) → Each (Visits p x (server_visit q)) (server_ways (known p x) q)
-  server_each q =
+  server_each : (q : Port) → (p.port q.number).role ≡ Server → Each (Visits p x (server_visit q)) (server_ways (known p x) q)
+  server_each q set =
       each_map (Visits p x (server_visit q)) (λ client. request_way client q.number) (clients_to_visit (known p x) q)
       (λ client there.
       either (λ (ks : List ℕ). IsAmong client ks → Visits p x (server_visit q) (request_way client q.number)) p.limits.fire_and_forget
       (ports_of_role (known p x) Client) (others (known p x) x.node Client)
-      (λ is among. (role_of Client client among, λ server asks. absurd (true≢false (sym is ∙ asks))))
-      (λ is among. (other_role_of Client client among, λ server asks. other_unforgotten Client client among)) there)
+      (λ is among. (set, role_of Client client among, λ server asks. absurd (true≢false (sym is ∙ asks))))
+      (λ is among. (set, other_role_of Client client among, λ server asks. other_unforgotten Client client among)) there)
 
-  pending_each : (e : Entry) → Each (Visits p x (pending_visit e)) (ways_for p x e)
-  pending_each e =
+  pending_each : (e : Entry) → (p.port e.port).role ≡ Client → Each (Visits p x (pending_visit e)) (ways_for p x e)
+  pending_each e set =
       each_map (Visits p x (pending_visit e)) (response_way e.port e.lane) (ports_of_role (known p x) Server)
-      (λ port there. (role_of Server port there, λ server asks. absurd (true≢false server)))
+      (λ port there. (set, role_of Server port there, λ server asks. absurd (true≢false server)))
 
   -- ---- what a call names
 
-  at_port : (call : Call) (q : Port) → Fits p (begins_at_port p x call q)
-  at_port (Loan n k) q = loans_request p x q k
-  at_port (SendCopy n y) q = copies_request p x q y.elements y.words
-  at_port (Receive n) q = visiting p x (server_visit q) (server_ways (known p x) q) false (server_each q)
-  at_port (HasRequests n) q = seeking p x (server_ways (known p x) q)
-  at_port call q = tt
+  at_port : (call : Call) (q : Port) → p.port q.number ≡ q → suits true call (kind_of (ThePort q)) ≡ true → Fits p (begins_at_port p x call q)
+  at_port (Loan n k) q set suited = loans_request p x q k set
+  at_port (SendCopy n y) q set suited = copies_request p x q y.elements y.words set
+  at_port (Receive n) q set suited =
+      visiting p x (server_visit q) (server_ways (known p x) q) false (server_each q (ap (λ (r : Port). r.role) set ∙ receives_is n q.role suited))
+  at_port (HasRequests n) q set suited = seeking p x (server_ways (known p x) q)
+  at_port call q set suited = tt
 
-  loan_is : (b : Bool) (kind : Kind) → (if b then is_request_loan kind else is_response_loan kind) ≡ true → IsLoan kind
-  loan_is true kind is = or-left (is_request_loan kind) (is_response_loan kind) is
-  loan_is false kind is = or-right (is_request_loan kind) (is_response_loan kind) is
+  at_entry : (call : Call) (e : Entry) → SuitsPort p e.port e.kind → suits true call e.kind ≡ true → Fits p (begins_at_entry p x call e)
+  at_entry (Loan n k) e suits suited = loans_response p x e k (answers_is n k (p.port e.port).role e.kind suits suited)
+  at_entry (Write n y) e suits suited = writes p x e y.elements y.words (loan_is (is_client y.role) e.kind suited)
+  at_entry (Send n) e suits suited = sends p x e false (sent_is n e.kind suited) suits
+  at_entry (SendCopy n y) e suits suited = copies_response p x e y.elements y.words (copies_is n y (p.port e.port).role e.kind suits suited)
+  at_entry (Receive n) e suits suited = visiting p x (pending_visit e) (ways_for p x e) false (pending_each e (asks_is n (p.port e.port).role e.kind suits suited))
+  at_entry (Read n) e suits suited = reads p x e
+  at_entry (Release n) e suits suited = releasing p x e
+  at_entry (IsConnected n) e suits suited = checking p x e false (states_for p x e)
+  at_entry (SetHint n) e suits suited = hinting p x e (states_for p x e)
+  at_entry (HasHint n) e suits suited = checking p x e true (states_for p x e)
+  at_entry (HasResponse n) e suits suited = seeking p x (ways_for p x e)
+  at_entry call e suits suited = tt
 
-  at_entry : (call : Call) (e : Entry) → suits true call e.kind ≡ true → Fits p (begins_at_entry p x call e)
-  at_entry (Loan n k) e suited = loans_response p x e k
-  at_entry (Write n y) e suited = writes p x e y.elements y.words (loan_is (is_client y.role) e.kind suited)
-  at_entry (Send n) e suited = sends p x e false
-  at_entry (SendCopy n y) e suited = copies_response p x e y.elements y.words
-  at_entry (Receive n) e suited = visiting p x (pending_visit e) (ways_for p x e) false (pending_each e)
-  at_entry (Read n) e suited = reads p x e
-  at_entry (Release n) e suited = releasing p x e
-  at_entry (IsConnected n) e suited = checking p x e false (states_for p x e)
-  at_entry (SetHint n) e suited = hinting p x e (states_for p x e)
-  at_entry (HasHint n) e suited = checking p x e true (states_for p x e)
-  at_entry (HasResponse n) e suited = seeking p x (ways_for p x e)
-  at_entry call e suited = tt
+  module _ (call : Call) (fits : CallFits p x) where
+    abbrev named : Option Port → Option Entry → Option Subject
+    named q e = port_or_handle q (option_map (told_handle p x.node) e)
 
-  suited : (call : Call) (e : Entry) → port_at (known p x) (number_of call) ≡ None → entry_at (number_of call) x.table ≡ Some e
-      → misnamed (known p x) x.node call ≡ None → suits true call e.kind ≡ true
-  suited call e port entry named =
-      let same : subject (known p x) x.node (number_of call) ≡ Some (TheHandle (told_handle p x.node e))
-      = rw port (rw (find_map (told_handle p x.node) (λ k. refl) (number_of call) x.table) (rw entry refl)) in
-      passes _ _ (or_else-none _ _ (subst (λ (o : Option Subject). misnamed_by (known p x) x.node call o ≡ None) same named)).1
+    fits_name : (y : Subject) → misnamed_by (known p x) x.node call (Some y) ≡ None → suits true call (kind_of y) ≡ true
+    fits_name y is = passes _ _ (or_else-none _ _ is).1
 
-  by_name : (call : Call) (q : Option Port) (e : Option Entry) → port_at (known p x) (number_of call) ≡ q → entry_at (number_of call) x.table ≡ e
-      → misnamed (known p x) x.node call ≡ None → Fits p (begins_at p x call q e)
-  by_name call (Some q) e port entry named = at_port call q
-  by_name call None (Some e) port entry named = at_entry call e (suited call e port entry named)
-  by_name call None None port entry named = tt
+    by_value : (q : Port) (b : Bool) → p.port q.number ≡ q → misnamed_by (known p x) x.node call (if b then Some (ThePort q) else None) ≡ None
+        → Fits p (begins_at_port p x call q)
+    by_value q true set is = at_port call q set (fits_name (ThePort q) is)
+    by_value q false set is = none-some _ (sym is)
 
-  begun : (call : WireCall) → misnamed_call p x call ≡ None → Fits p (begin p x call)
-  begun (wire_calls.Port call) named = by_name call (port_at (known p x) (number_of call)) (entry_at (number_of call) x.table) refl refl named
-  begun (wire_calls.Forget dead) named = tt
+    there : (q : Port) → port_at (known p x) (number_of call) ≡ Some q → p.port q.number ≡ q
+    there q is = known_port q (find-among (λ (r : Port). r.number == number_of call) q (map p.port p.layout.sizes.ports) is).0
+
+    has : (e : Entry) → entry_at (number_of call) x.table ≡ Some e → SuitsPort p e.port e.kind
+    has e is =
+        let at : e.number ≡ number_of call = eqb-true e.number (number_of call) (find-among (λ (k : Entry). k.number == number_of call) e x.table is).1 in
+        fits.handles e (subst (λ i. entry_at i x.table ≡ Some e) (sym at) is)
+
+    by_name : (q : Option Port) (e : Option Entry) → port_at (known p x) (number_of call) ≡ q → entry_at (number_of call) x.table ≡ e
+        → misnamed_by (known p x) x.node call (named q e) ≡ None → Fits p (begins_at p x call q e)
+    by_name (Some q) e port entry is = by_value q q.held (there q port) is
+    by_name None (Some e) port entry is = at_entry call e (has e entry) (fits_name (TheHandle (told_handle p x.node e)) is)
+    by_name None None port entry is = tt
+
+    of_call : misnamed (known p x) x.node call ≡ None → Fits p (begins_at p x call (port_at (known p x) (number_of call)) (entry_at (number_of call) x.table))
+    of_call is =
+        by_name (port_at (known p x) (number_of call)) (entry_at (number_of call) x.table) refl refl
+        (subst (λ (h : Option Handle). misnamed_by (known p x) x.node call (port_or_handle (port_at (known p x) (number_of call)) h) ≡ None)
+        (find_map (told_handle p x.node) (λ k. refl) (number_of call) x.table) is)
+
+  begun : (call : WireCall) → CallFits p x → misnamed_call p x call ≡ None → Fits p (begin p x call)
+  begun (wire_calls.Port call) fits named = of_call call fits named
+  begun (wire_calls.Forget dead) fits named = tt
 
 pub begins_fit : BeginsFit
 begins_fit p x call numbered named fits = record {
-  filled = λ e there. fits.filled e (subst (λ (es : List Entry). entry_at e.number es ≡ Some e) (begins_keep_own p x call).table there);
-  place = begun p x numbered call named;
+  handles = λ e there. fits.handles e (subst (λ (es : List Entry). entry_at e.number es ≡ Some e) (begins_keep_own p x call).table there);
+  place = begun p x numbered call fits named;
 }

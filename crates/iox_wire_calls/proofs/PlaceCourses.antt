@@ -2,7 +2,7 @@
 use Rattle.std.specs.Prelude.{find, map}
 use Rattle.std.specs.List.{list_any}
 use Rattle.std.specs.Option.{option_map_or}
-use Rattle.std.proofs.Common.{◌≡◌, ℕ, Bool, true, false, if◌then◌else◌, ◌==◌, List, [], ◌∷◌, Option, Some, None, refl, ap, sym, ◌∙◌, true≢false, eqb-true}
+use Rattle.std.proofs.Common.{◌≡◌, ℕ, Bool, true, false, if◌then◌else◌, ◌==◌, List, [], ◌∷◌, Option, Some, None, refl, ap, sym, subst, ◌∙◌, true≢false, eqb-true}
 use Rattle.iox_model.specs.declared.kind.Kind.TheVariants.{ActiveRequest, PendingResponse}
 use Rattle.iox_model.specs.declared.kind.Role.{Role}
 use Rattle.iox_model.specs.declared.kind.Role.TheVariants.{Client, Server}
@@ -15,7 +15,7 @@ use Rattle.iox_model.specs.Messages.{names, request_way}
 use Rattle.iox_model.specs.Peers.{forgot_port, others}
 use Rattle.iox_model.specs.Receives.{is_at_limit}
 use Rattle.iox_model.specs.Requests.{is_active_spent, targets, to_open}
-use Rattle.iox_model.specs.Settings.{is_client}
+use Rattle.iox_model.specs.Settings.{is_client, is_count}
 use Rattle.iox_model.specs.States.{Port}
 use Rattle.iox_model.specs.WholeCalls.{is_uninit}
 use Rattle.iox_laws.proofs.WeaveLaws.MapLemmas.{either}
@@ -37,52 +37,74 @@ use Rattle.iox_wire_locals.specs.declared.table.NewLoan.{NewLoan}
 use Rattle.iox_wire_locals.specs.Begins as begins
 use Rattle.iox_wire_locals.specs.Courses as courses
 use Rattle.iox_wire_locals.specs.Desks.{at_desk, on_desk, picks}
-use Rattle.iox_wire_locals.specs.Known.{free_slots, known, loans_at, sending, told_handle}
+use Rattle.iox_wire_locals.specs.Known.{free_lanes, free_slots, known, sending, told_handle}
+use Rattle.iox_wire_locals.specs.Lendings.{first_lane}
 use Rattle.iox_wire_locals.specs.Lendings as lendings
 use Rattle.iox_wire_locals.specs.NewLoans.{entry_in, loan_in, request_in}
 use Rattle.iox_wire_locals.specs.ReceiveCourses as receives
 use Rattle.iox_wire_locals.specs.Tables.{Setting, way_in, words_to_read}
 use Rattle.iox_wire_laws.specs.WireShows.OwnedCalls.{Each}
-use Rattle.iox_wire_calls.specs.Places.{GoesToAll, IsLoan, IsNext, PlaceFits, Visits}
+use Rattle.iox_wire_calls.specs.Places.{IsLoan, IsNext, PlaceFits, SendFits, SuitsPort, TakesFirst, Visits}
+use Rattle.iox_wire_calls.proofs.HandleKinds.{loan_kind, role_lends}
 
 -- ---- desks
 
--- a change of a desk that is no loan
-pub record LeavesLoans (change : Desk → Desk) : Type 0 where
+-- a change of a desk that leaves what that tells of it
+pub record Leaves {A : Type 0} (tells : Desk → A) (change : Desk → Desk) : Type 0 where
   pub port : (d : Desk) → (change d).port ≡ d.port
-  pub loans : (d : Desk) → (change d).loans ≡ d.loans
+  pub told : (d : Desk) → tells (change d) ≡ tells d
 
-abbrev loans_in : ℕ → List Desk → ℕ
-loans_in port ds = option_map_or (λ (d : Desk). d.loans) (find (λ d. d.port == port) ds) 0
+abbrev at_port_of : {A : Type 0} → (Desk → A) → A → ℕ → List Desk → A
+at_port_of tells none port ds = option_map_or tells (find (λ (d : Desk). d.port == port) ds) none
 
--- leaves how many loans of a port succeeded
-pub loans_stay : (x : Seat) (q port : ℕ) (change : Desk → Desk) → LeavesLoans change → loans_at (at_desk x q change) port ≡ loans_at x port
-loans_stay x q port change leaves = by_desks x.desks
+-- leaves it of each port
+pub desks_stay : {A : Type 0} (tells : Desk → A) (none : A) (x : Seat) (q port : ℕ) (change : Desk → Desk) → Leaves tells change
+    → option_map_or tells (find (λ (d : Desk). d.port == port) (at_desk x q change).desks) none
+    ≡ option_map_or tells (find (λ (d : Desk). d.port == port) x.desks) none
+desks_stay {A = A} tells none x q port change leaves = by_desks x.desks
   where
     port_is : (d : Desk) (b : Bool) → (if b then change d else d).port ≡ d.port
     port_is d true = leaves.port d
     port_is d false = refl
 
-    loans_are : (d : Desk) (b : Bool) → (if b then change d else d).loans ≡ d.loans
-    loans_are d true = leaves.loans d
-    loans_are d false = refl
+    told : (d : Desk) (b : Bool) → tells (if b then change d else d) ≡ tells d
+    told d true = leaves.told d
+    told d false = refl
 
-    one : (d e : Desk) (ds es : List Desk) (a b : Bool) → a ≡ b → e.loans ≡ d.loans → loans_in port es ≡ loans_in port ds
-        → option_map_or (λ (k : Desk). k.loans) (if a then Some e else find (λ k. k.port == port) es) 0
-        ≡ option_map_or (λ (k : Desk). k.loans) (if b then Some d else find (λ k. k.port == port) ds) 0
+    one : (d e : Desk) (ds es : List Desk) (a b : Bool) → a ≡ b → tells e ≡ tells d → at_port_of tells none port es ≡ at_port_of tells none port ds
+        → option_map_or tells (if a then Some e else find (λ (k : Desk). k.port == port) es) none
+        ≡ option_map_or tells (if b then Some d else find (λ (k : Desk). k.port == port) ds) none
     one d e ds es true true is first rest = first
     one d e ds es true false is first rest = absurd (true≢false is)
     one d e ds es false true is first rest = absurd (true≢false (sym is))
     one d e ds es false false is first rest = rest
 
-    by_desks : (ds : List Desk) → loans_in port (map (on_desk q change) ds) ≡ loans_in port ds
+    by_desks : (ds : List Desk) → at_port_of tells none port (map (on_desk q change) ds) ≡ at_port_of tells none port ds
     by_desks [] = refl
     by_desks (d ∷ ds) =
-        one d (on_desk q change d) ds (map (on_desk q change) ds) _ _ (ap (λ k. k == port) (port_is d (d.port == q))) (loans_are d (d.port == q)) (by_desks ds)
+        one d (on_desk q change d) ds (map (on_desk q change) ds) _ _ (ap (λ k. k == port) (port_is d (d.port == q))) (told d (d.port == q)) (by_desks ds)
+
+abbrev loans_told : Desk → ℕ
+loans_told d = d.loans
+
+abbrev lanes_told : Desk → List ℕ
+lanes_told d = d.free_lanes
 
 -- so a loan in the making is the next one still
-pub next_stays : (x : Seat) (q : ℕ) (change : Desk → Desk) (o : NewLoan) → LeavesLoans change → IsNext x o → IsNext (at_desk x q change) o
-next_stays x q change o leaves next = (next.0, next.1 ∙ sym (loans_stay x q o.port change leaves))
+pub next_stays : (p : Setting) (x : Seat) (q : ℕ) (change : Desk → Desk) (o : NewLoan) → Leaves loans_told change → IsNext p x o → IsNext p (at_desk x q change) o
+next_stays p x q change o leaves next = (next.0, next.1 ∙ sym (desks_stay loans_told 0 x q o.port change leaves))
+
+-- and takes the first lane
+pub first_stays : (p : Setting) (x : Seat) (q : ℕ) (change : Desk → Desk) (o : NewLoan) → Leaves lanes_told change → TakesFirst p x o → TakesFirst p (at_desk x q change) o
+first_stays p x q change o leaves first client =
+    first client ∙ ap (first_lane (p.port o.port).pool) (sym (desks_stay lanes_told [] x q o.port change leaves))
+
+-- ---- kinds of loans
+
+-- a loan that its port lends is such
+pub lent_kind : (p : Setting) (x : Seat) (o : NewLoan) → IsNext p x o → IsLoan o.kind × SuitsPort p o.port o.kind
+lent_kind p x o next =
+    subst (λ kind. IsLoan kind × SuitsPort p o.port kind) (sym next.0) (loan_kind (p.port o.port).role, role_lends (p.port o.port).role)
 
 -- ---- sends
 
@@ -91,97 +113,101 @@ abbrev pub Fits : Setting → Seat → Type 0
 Fits p y = PlaceFits p y y.local
 
 module _ (p : Setting) (x : Seat) where
-  pub delivering : (d : Delivery) (last : Option Way) (left : List Way) (count : ℕ) → GoesToAll p x d → Fits p (courses.delivering x d last left count)
+  pub delivering : (d : Delivery) (last : Option Way) (left : List Way) (count : ℕ) → SendFits p x d → Fits p (courses.delivering x d last left count)
   delivering d last [] count to = to
   delivering d last (w ∷ left) count to = to
 
-  pub opening : (d : Delivery) (left full : List Way) → GoesToAll p x d → Fits p (courses.opening p x d left full)
+  pub opening : (d : Delivery) (left full : List Way) → SendFits p x d → Fits p (courses.opening p x d left full)
   opening d [] full to = delivering d None (not_in full (targets (sending p x d))) 0 to
   opening d (w ∷ left) full to = to
 
-  pub looking : (d : Delivery) (left full : List Way) → GoesToAll p x d → Fits p (courses.looking p x d left full)
+  pub looking : (d : Delivery) (left full : List Way) → SendFits p x d → Fits p (courses.looking p x d left full)
   looking d [] full to =
       either (Fits p) (list_any (sending p x d).fails full) (courses.ended x (endings.FailsToSend d.loan d.copied UnableToDeliver))
-      (courses.opening p x d (to_open (sending p x d)) full) (λ is. tt) (λ is. opening d (to_open (sending p x d)) full to)
+      (courses.opening p x d (to_open (sending p x d)) full) (λ is. to.0) (λ is. opening d (to_open (sending p x d)) full to)
   looking d (w ∷ left) full to = (tt, to)
 
-  pub emptying : (d : Delivery) (left : List Way) → GoesToAll p x d → Fits p (courses.emptying p x d left)
+  pub emptying : (d : Delivery) (left : List Way) → SendFits p x d → Fits p (courses.emptying p x d left)
   emptying d [] to =
       either (Fits p) (sending p x d).overflow (courses.opening p x d (to_open (sending p x d)) []) (courses.looking p x d (targets (sending p x d)) [])
       (λ is. opening d (to_open (sending p x d)) [] to) (λ is. looking d (targets (sending p x d)) [] to)
   emptying d (w ∷ left) to = (tt, to)
 
-  sends_request : (d : Delivery) → GoesToAll p x d → Fits p (courses.sends_request p x d)
+  sends_request : (d : Delivery) → SendFits p x d → Fits p (courses.sends_request p x d)
   sends_request d to =
       either (Fits p) (is_active_spent (known p x) (told_handle p x.node d.loan))
       (courses.ended x (endings.FailsToSend d.loan d.copied ExceedsMaxActiveRequests)) (courses.emptying p x d (map (request_way d.loan.port) d.to))
-      (λ is. tt) (λ is. emptying d (map (request_way d.loan.port) d.to) to)
+      (λ is. to.0) (λ is. emptying d (map (request_way d.loan.port) d.to) to)
 
-  sends_response : (d : Delivery) → is_request_loan d.loan.kind ≡ false → Fits p (courses.sends_response p x d)
-  sends_response d answers =
+  sends_response : (d : Delivery) → SendFits p x d → is_request_loan d.loan.kind ≡ false → Fits p (courses.sends_response p x d)
+  sends_response d to answers =
       either (Fits p) (has_number d.loan.client (others (known p x) x.node Client)) (courses.placed x (SendAsks d))
-      (courses.ended x (endings.Sends d.loan d.copied 0)) (λ is. answers) (λ is. answers)
+      (courses.ended x (endings.Sends d.loan d.copied 0)) (λ is. (to, answers)) (λ is. (to.0, answers))
 
-  pub sends : (e : Entry) (copied : Bool) → Fits p (courses.sends p x e copied)
-  sends e copied =
+  pub sends : (e : Entry) (copied : Bool) → IsLoan e.kind → SuitsPort p e.port e.kind → Fits p (courses.sends p x e copied)
+  sends e copied loan suits =
       let to_servers : Delivery = record { loan = e; copied = copied; to = others (known p x) x.node Server } in
       let to_client : Delivery = record { loan = e; copied = copied; to = e.client ∷ [] } in
       either (Fits p) (is_request_loan e.kind) (courses.sends_request p x to_servers) (courses.sends_response p x to_client)
-      (λ is. sends_request to_servers (λ request. refl)) (λ is. sends_response to_client is)
+      (λ is. sends_request to_servers (loan, suits, λ request. refl))
+      (λ is. sends_response to_client (loan, suits, λ request. absurd (true≢false (sym request ∙ is))) is)
 
-  pub asked : (d : Delivery) (shown : RequestState) → is_request_loan d.loan.kind ≡ false → Fits p (courses.asked p x d shown)
-  asked d shown answers =
+  pub asked : (d : Delivery) (shown : RequestState) → SendFits p x d → is_request_loan d.loan.kind ≡ false → Fits p (courses.asked p x d shown)
+  asked d shown to answers =
       either (Fits p) (names shown d.loan.request) (courses.emptying p x d (targets (sending p x d))) (courses.ended x (endings.Sends d.loan d.copied 0))
-      (λ is. emptying d (targets (sending p x d)) (λ request. absurd (true≢false (sym request ∙ answers)))) (λ is. answers)
+      (λ is. emptying d (targets (sending p x d)) to) (λ is. (to.0, answers))
 
 -- ---- loans
 
 module _ (p : Setting) (x : Seat) where
-  takes_slot : (o : NewLoan) (free : List ℕ) → IsNext x o → Fits p (courses.takes_slot x o free)
+  takes_slot : (o : NewLoan) (free : List ℕ) → IsNext p x o → Fits p (courses.takes_slot x o free)
   takes_slot o [] next = tt
-  takes_slot o (slot ∷ free) next = next_stays x o.port (picks o slot free) o (record { port = λ d. refl; loans = λ d. refl }) next
+  takes_slot o (slot ∷ free) next = next_stays p x o.port (picks o slot free) o (record { port = λ d. refl; told = λ d. refl }) next
 
-  pub loaning : (o : NewLoan) (left : List Way) → IsNext x o → Fits p (courses.loaning x o left)
-  loaning o [] next = takes_slot o (free_slots x o.port) next
-  loaning o (w ∷ left) next = (tt, next)
+  pub loaning : (o : NewLoan) (left : List Way) → IsNext p x o → TakesFirst p x o → Fits p (courses.loaning x o left)
+  loaning o [] next first = takes_slot o (free_slots x o.port) next
+  loaning o (w ∷ left) next first = (tt, next, first)
 
-  pub lent : (o : NewLoan) (slot : ℕ) → IsNext x o → Fits p (courses.lent p x o slot)
+  pub lent : (o : NewLoan) (slot : ℕ) → IsNext p x o → Fits p (courses.lent p x o slot)
   lent o slot next =
       either (Fits p) o.copies (courses.sends p x (entry_in o slot) true) (courses.ended x (endings.Lends o slot))
-      (λ is. sends p x (entry_in o slot) true) (λ is. next)
+      (λ is. let kind = lent_kind p x o next in sends p x (entry_in o slot) true kind.0 kind.1) (λ is. next)
 
-  lends : (refusal : Option CallRefusal) (o : NewLoan) → IsNext x o → Fits p (lendings.lends p x refusal o)
-  lends (Some r) o next = tt
-  lends None o next = loaning o (lending_ways (known p x) (loan_in p o)) next
+  lends : (refusal : Option CallRefusal) (o : NewLoan) → IsNext p x o → TakesFirst p x o → Fits p (lendings.lends p x refusal o)
+  lends (Some r) o next first = tt
+  lends None o next first = loaning o (lending_ways (known p x) (loan_in p o)) next first
 
-  filled_loan : (role : Role) → is_uninit (kind_of_loan role false) ≡ false
-  filled_loan Client = refl
-  filled_loan Server = refl
-
-  lends_request : (q : Port) (k : ℕ) (payload : List ℕ) (copies : Bool) → Fits p (lendings.lends_request p x q k payload copies)
-  lends_request q k payload copies =
-      either (Fits p) _ (lendings.lends p x (lendings.request_refusal p x q k) (lendings.new_request p x q k payload copies)) (courses.ended x (endings.Refuses WrongLength))
-      (λ is. lends (lendings.request_refusal p x q k) (lendings.new_request p x q k payload copies) (filled_loan q.role, refl)) (λ is. tt)
-
-  lends_response : (e : Entry) (k : ℕ) (payload : List ℕ) (copies : Bool) → Fits p (lendings.lends_response p x e k payload copies)
-  lends_response e k payload copies =
-      either (Fits p) _ (lendings.lends p x (lendings.response_refusal p x e (p.port e.port) k) (lendings.new_response p x e k payload copies))
+  -- by a client that is the setting's port of its number
+  lends_request : (q : Port) (k : ℕ) (payload : List ℕ) (copies : Bool) → p.port q.number ≡ q → Fits p (lendings.lends_request p x q k payload copies)
+  lends_request q k payload copies set =
+      either (Fits p) (is_count p.limits.request k) (lendings.lends p x (lendings.request_refusal p x q k) (lendings.new_request p x q k payload copies))
       (courses.ended x (endings.Refuses WrongLength))
-      (λ is. lends (lendings.response_refusal p x e (p.port e.port) k) (lendings.new_response p x e k payload copies) (filled_loan (p.port e.port).role, refl)) (λ is. tt)
+      (λ is. lends (lendings.request_refusal p x q k) (lendings.new_request p x q k payload copies) (ap (λ (r : Port). kind_of_loan r.role false) (sym set), refl)
+      (λ client. ap (λ (r : Port). first_lane r.pool (free_lanes x q.number)) (sym set))) (λ is. tt)
 
-  pub loans_request : (q : Port) (k : ℕ) → Fits p (lendings.lends_request p x q k [] false)
-  loans_request q k = lends_request q k [] false
+  -- by a server
+  lends_response : (e : Entry) (k : ℕ) (payload : List ℕ) (copies : Bool) → is_client (p.port e.port).role ≡ false
+      → Fits p (lendings.lends_response p x e k payload copies)
+  lends_response e k payload copies server =
+      either (Fits p) (is_count p.limits.response k)
+      (lendings.lends p x (lendings.response_refusal p x e (p.port e.port) k) (lendings.new_response p x e k payload copies))
+      (courses.ended x (endings.Refuses WrongLength))
+      (λ is. lends (lendings.response_refusal p x e (p.port e.port) k) (lendings.new_response p x e k payload copies) (refl, refl)
+      (λ client. absurd (true≢false (sym client ∙ server)))) (λ is. tt)
 
-  pub loans_response : (e : Entry) (k : ℕ) → Fits p (lendings.lends_response p x e k [] false)
-  loans_response e k = lends_response e k [] false
+  pub loans_request : (q : Port) (k : ℕ) → p.port q.number ≡ q → Fits p (lendings.lends_request p x q k [] false)
+  loans_request q k set = lends_request q k [] false set
 
-  pub copies_request : (q : Port) (k : Option ℕ) (words : List ℕ) → Fits p (lendings.copies_request p x q k words)
-  copies_request q None words = tt
-  copies_request q (Some k) words = lends_request q k words true
+  pub loans_response : (e : Entry) (k : ℕ) → is_client (p.port e.port).role ≡ false → Fits p (lendings.lends_response p x e k [] false)
+  loans_response e k server = lends_response e k [] false server
 
-  pub copies_response : (e : Entry) (k : Option ℕ) (words : List ℕ) → Fits p (lendings.copies_response p x e k words)
-  copies_response e None words = tt
-  copies_response e (Some k) words = lends_response e k words true
+  pub copies_request : (q : Port) (k : Option ℕ) (words : List ℕ) → p.port q.number ≡ q → Fits p (lendings.copies_request p x q k words)
+  copies_request q None words set = tt
+  copies_request q (Some k) words set = lends_request q k words true set
+
+  pub copies_response : (e : Entry) (k : Option ℕ) (words : List ℕ) → is_client (p.port e.port).role ≡ false → Fits p (lendings.copies_response p x e k words)
+  copies_response e None words server = tt
+  copies_response e (Some k) words server = lends_response e k words true server
 
   pub writing : (e : Entry) (words : List ℕ) → IsLoan e.kind → Fits p (begins.writing x e words)
   writing e [] loan = loan
@@ -218,20 +244,20 @@ module _ (p : Setting) (x : Seat) (v : Visit) where
         (λ is. again) (λ is. (is, each))
 
     no_client : is_client v.role ≡ false → Fits p (courses.ended x (endings.Receives v w slot header))
-    no_client server = λ client. absurd (true≢false (sym client ∙ server))
+    no_client server = (each.0.0, λ client. absurd (true≢false (sym client ∙ server)))
 
     pub took : Fits p (receives.took p x v w slot header left waiting)
     took =
         either (Fits p) (is_client v.role) (receives.took_response p x v w slot header left waiting) (receives.took_request p x v w slot header left waiting)
         (λ client. either (Fits p) (request_in v header == v.request) (courses.ended x (endings.Receives v w slot header)) (receives.stale p x v w slot left waiting)
-        (λ is. λ again. eqb-true (request_in v header) v.request is) (λ is. stale))
+        (λ is. (each.0.0, λ again. eqb-true (request_in v header) v.request is)) (λ is. stale))
         (λ server. either (Fits p) p.limits.fire_and_forget (courses.ended x (endings.Receives v w slot header)) (courses.placed x (ReceiveAsks v w slot header left waiting))
         (λ is. no_client server) (λ is. (server, is, each)))
 
     pub judged : (shown : RequestState) → is_client v.role ≡ false → p.limits.fire_and_forget ≡ false → Fits p (receives.judged x v w slot header left waiting shown)
     judged shown server asks =
         either (Fits p) (names shown (request_in v header)) (courses.ended x (endings.Receives v w slot header)) (receives.gives_back x v w slot left waiting)
-        (λ is. no_client server) (λ is. (each.0.1 server asks, each))
+        (λ is. no_client server) (λ is. (each.0.2 server asks, each))
 
 -- ---- releases, questions and hints
 

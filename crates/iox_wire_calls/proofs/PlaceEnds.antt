@@ -1,51 +1,74 @@
--- After the end of a call no handle is an unfilled loan.
-use Rattle.std.proofs.Common.{◌≡◌, Bool, true, false, if◌then◌else◌, Some, refl, ap, subst, ◌∙◌, inl, inr}
+-- After the end of a call each handle is of its port.
+use Rattle.std.proofs.Common.{◌≡◌, ℕ, Bool, true, false, if◌then◌else◌, Some, refl, ap, sym, subst, ◌∙◌, inl, inr, true≢false}
 use Rattle.std.specs.Prelude.{◌⊎◌}
 use Rattle.iox_model.specs.declared.kind.Kind.TheVariants.{ActiveRequest, Response}
+use Rattle.iox_model.specs.declared.kind.Role.{Role}
+use Rattle.iox_model.specs.declared.kind.Role.TheVariants.{Client, Server}
+use Rattle.iox_model.specs.Handles.{is_request_loan}
 use Rattle.iox_model.specs.Settings.{is_client}
 use Rattle.iox_model.specs.WholeCalls.{is_uninit}
 use Rattle.iox_laws.proofs.WeaveLaws.WholeLemmas.{some-is}
-use Rattle.iox_laws.proofs.WeaveLedger.Truths.{none-some}
+use Rattle.iox_laws.proofs.WeaveLedger.Truths.{none-some, or-left}
 use Rattle.iox_wire_locals.specs.declared.local.Ending.{Ending}
 use Rattle.iox_wire_locals.specs.declared.local.Ending.TheVariants as endings
 use Rattle.iox_wire_locals.specs.declared.local.Local.{Local}
 use Rattle.iox_wire_locals.specs.declared.local.Local.TheVariants.{Ends, SendEnds}
 use Rattle.iox_wire_locals.specs.declared.seat.Seat.{Seat}
 use Rattle.iox_wire_locals.specs.declared.table.Entry.{Entry}
-use Rattle.iox_wire_locals.specs.Steps.{ending_at}
-use Rattle.iox_wire_locals.specs.Tables.{Setting}
+use Rattle.iox_wire_locals.specs.Settlements as settle
+use Rattle.iox_wire_locals.specs.Steps.{closed, ending_at}
+use Rattle.iox_wire_locals.specs.Tables.{Setting, sent_entry}
 use Rattle.iox_wire_laws.specs.WireHolding.SlotsKnown.{HasEntry}
-use Rattle.iox_wire_stands.specs.EndLaws.{IsAdded}
+use Rattle.iox_wire_stands.proofs.EndTables.{stayed}
 use Rattle.iox_wire_stands.proofs.EndsKept.{ends_add_one_entry}
 use Rattle.iox_wire_calls.specs.PlaceLaws.{EndsFit}
-use Rattle.iox_wire_calls.specs.Places.{CallFits, EndingFits, PlaceFits}
+use Rattle.iox_wire_calls.specs.Places.{CallFits, EndingFits, PlaceFits, SuitsPort, is_kind_of}
+use Rattle.iox_wire_calls.proofs.HandleKinds.{role_received, role_sent}
+use Rattle.iox_wire_calls.proofs.PlaceCourses.{lent_kind}
 
 module _ (p : Setting) (x : Seat) (e : Entry) where
-  received : (b : Bool) → is_uninit (if b then Response else ActiveRequest) ≡ false
-  received true = refl
-  received false = refl
+  abbrev Fitting : Entry → Type 0
+  Fitting k = SuitsPort p k.port k.kind
 
-  added : (ending : Ending) → EndingFits p x ending → IsAdded p x ending e → is_uninit e.kind ≡ false
-  added (endings.Lends o slot) fits is = ap (λ (k : Entry). is_uninit k.kind) is ∙ fits.0
-  added (endings.Sends k copied count) fits is = ap (λ (j : Entry). is_uninit j.kind) is
-  added (endings.Receives v w slot header) fits is = ap (λ (k : Entry). is_uninit k.kind) is ∙ received (is_client v.role)
-  added ending fits is = absurd is
+  module _ (fits : CallFits p x) where
+    old_or : (New : Type 0) → (New → SuitsPort p e.port e.kind) → HasEntry x e ⊎ New → SuitsPort p e.port e.kind
+    old_or New new (inl old) = fits.handles e old
+    old_or New new (inr is) = new is
 
-  module _ (ending : Ending) where
-    abbrev New : Ending → Type 0
-    New k = IsAdded p x k e → is_uninit e.kind ≡ false
+    -- a response that was sent leaves no handle
+    away : (k : Entry) (copied : Bool) → HasEntry (settle.sends_away x k copied) e → HasEntry x e
+    away k true there = there
+    away k false there = stayed e.number k.number x.table e there
 
-    at_place : (local : Local) → ending_at local ≡ Some ending → PlaceFits p x local → New ending
-    at_place (Ends k) is fits = subst New (some-is k ending is) (added k fits)
-    at_place (SendEnds d last count) is fits = subst New (some-is _ ending is) (λ one. ap (λ (j : Entry). is_uninit j.kind) one)
-    at_place local is fits = none-some ending is
+    -- a loan that was sent
+    sends : (k : Entry) (copied : Bool) (count : ℕ) (b : Bool) → is_request_loan k.kind ≡ b → (b ≡ true → SuitsPort p k.port k.kind)
+        → HasEntry (if b then settle.sends_entry x k copied count else settle.sends_away x k copied) e → SuitsPort p e.port e.kind
+    sends k copied count true request suits there =
+        old_or (e ≡ sent_entry k count) (λ is. subst Fitting (sym is) (role_sent (p.port k.port).role k.kind (suits refl) request))
+        (ends_add_one_entry p x (endings.Sends k copied count) e
+        (subst (λ b. HasEntry (if b then settle.sends_entry x k copied count else settle.sends_away x k copied) e) (sym request) there))
+    sends k copied count false request suits there = fits.handles e (away k copied there)
 
-    by_entry : ending_at x.local ≡ Some ending → CallFits p x → HasEntry x e ⊎ IsAdded p x ending e → is_uninit e.kind ≡ false
-    by_entry is fits (inl old) = fits.filled e old
-    by_entry is fits (inr new) = at_place x.local is fits.place new
+    ended : (ending : Ending) → EndingFits p x ending → HasEntry (closed p x (Some ending)) e → SuitsPort p e.port e.kind
+    ended (endings.Lends o slot) end there =
+        old_or _ (λ is. subst Fitting (sym is) (lent_kind p x o end).1) (ends_add_one_entry p x (endings.Lends o slot) e there)
+    ended (endings.Sends k copied count) end there =
+        sends k copied count (is_request_loan k.kind) refl (λ request. absurd (true≢false (sym request ∙ end.1))) there
+    ended (endings.Receives v w slot header) end there =
+        old_or _ (λ is. subst Fitting (sym is) (subst (λ role. is_kind_of role (if is_client v.role then Response else ActiveRequest) ≡ true) (sym end.0) (role_received v.role)))
+        (ends_add_one_entry p x (endings.Receives v w slot header) e there)
+    ended ending end there = old_or _ (λ none. absurd none) (ends_add_one_entry p x ending e there)
+
+    at_place : (local : Local) (ending : Ending) → ending_at local ≡ Some ending → PlaceFits p x local → HasEntry (closed p x (Some ending)) e
+        → SuitsPort p e.port e.kind
+    at_place (Ends k) ending is end = subst (λ g. HasEntry (closed p x (Some g)) e → SuitsPort p e.port e.kind) (some-is k ending is) (ended k end)
+    at_place (SendEnds d last count) ending is end =
+        subst (λ g. HasEntry (closed p x (Some g)) e → SuitsPort p e.port e.kind) (some-is _ ending is)
+        (sends d.loan d.copied count (is_request_loan d.loan.kind) refl (λ request. end.1))
+    at_place local ending is end = none-some ending is
 
 pub ends_fit : EndsFit
 ends_fit p x ending is fits = record {
-  filled = λ e there. by_entry p x e ending is fits (ends_add_one_entry p x ending e there);
+  handles = λ e there. at_place p x e fits x.local ending is fits.place there;
   place = tt;
 }

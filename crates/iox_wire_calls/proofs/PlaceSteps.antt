@@ -36,26 +36,33 @@ use Rattle.iox_wire_locals.specs.Tables.{Setting, entry_at, words_to_read}
 use Rattle.iox_wire_laws.specs.WireShows.OwnedCalls.{Each}
 use Rattle.iox_wire_laws.proofs.WireKeeping.CountsKept.{steps_keep_own}
 use Rattle.iox_wire_calls.specs.PlaceLaws.{AccessesFit}
-use Rattle.iox_wire_calls.specs.Places.{GoesToAll, IsEmptyLook, IsEvicting, IsFullLook, IsLearning, IsLoan, IsNext, IsPop, PlaceFits, Visits}
+use Rattle.iox_wire_calls.specs.Places.{IsEmptyLook, IsEvicting, IsFullLook, IsLearning, IsLoan, IsNext, IsPop, PlaceFits, SendFits, TakesFirst, Visits}
 use Rattle.iox_wire_calls.proofs.Parts.{PublishesNot, empty_looks_on, evicts_on, full_looks_on, pops_on, pushes_on}
-use Rattle.iox_wire_calls.proofs.PlaceCourses.{Fits, asked, checking, closing, delivering, emptying, given_back, hinting, judged, lent, loaning, looking, next_stays, opening, seeking, took, visiting}
+use Rattle.iox_wire_calls.proofs.PlaceCourses.{Fits, asked, checking, closing, delivering, emptying, first_stays, given_back, hinting, judged, lent, loaning, looking, next_stays, opening, seeking, took, visiting}
 
 module _ (p : Setting) (x : Seat) (seen : ℕ) where
   -- ---- loans and writes
 
-  loan_emptied : (o : NewLoan) (w : Way) (left : List Way) (place : Popping) → IsPop place → IsNext x o → Fits p (advance p x (LendEmpties o w place left) seen)
-  loan_emptied o w left (popping.Pops place) is next =
+  loan_emptied : (o : NewLoan) (w : Way) (left : List Way) (place : Popping) → IsPop place → IsNext p x o → TakesFirst p x o → Fits p (advance p x (LendEmpties o w place left) seen)
+  loan_emptied o w left (popping.Pops place) is next first =
       pops_on (λ after event. Fits p (findings.loan_emptied x o w left after event)) going
-      (λ after slot. (tt, next_stays x o.port (gets_back w slot) o (record { port = λ d. refl; loans = λ d. refl }) next)) (λ after. loaning p x o left next)
+      (λ after slot. back slot) (λ after. loaning p x o left next first)
       (site_of p.layout (ReturningQueue w)) place seen
     where
-      going : (after : Popping) (event : QueueEvent) → IsPop after → Fits p (findings.loan_emptied x o w left after event)
-      going after (HandOut slot) pops = (tt, next_stays x o.port (gets_back w slot) o (record { port = λ d. refl; loans = λ d. refl }) next)
-      going after SeesEmpty pops = loaning p x o left next
-      going after event pops = (pops, next)
-  loan_emptied o w left part is next = absurd is
+      back : (slot : ℕ) → Fits p (courses.placed (at_desk x o.port (gets_back w slot)) (LendEmpties o w findings.first_pop left))
+      back slot = (
+        tt,
+        next_stays p x o.port (gets_back w slot) o (record { port = λ d. refl; told = λ d. refl }) next,
+        first_stays p x o.port (gets_back w slot) o (record { port = λ d. refl; told = λ d. refl }) first,
+      )
 
-  loan_stored : (o : NewLoan) (slot next : ℕ) → IsNext x o → Fits p (findings.loan_stored p x o slot next)
+      going : (after : Popping) (event : QueueEvent) → IsPop after → Fits p (findings.loan_emptied x o w left after event)
+      going after (HandOut slot) pops = back slot
+      going after SeesEmpty pops = loaning p x o left next first
+      going after event pops = (pops, next, first)
+  loan_emptied o w left part is next first = absurd is
+
+  loan_stored : (o : NewLoan) (slot next : ℕ) → IsNext p x o → Fits p (findings.loan_stored p x o slot next)
   loan_stored o slot next fits =
       either (Fits p) (next + 1 == length (loan_words p o)) (courses.lent p x o slot) (courses.placed x (LendStores o slot (next + 1)))
       (λ is. lent p x o slot fits) (λ is. fits)
@@ -66,7 +73,7 @@ module _ (p : Setting) (x : Seat) (seen : ℕ) where
 
   -- ---- sends
 
-  send_emptied : (d : Delivery) (w : Way) (left : List Way) (place : Popping) → IsPop place → GoesToAll p x d → Fits p (advance p x (SendEmpties d w place left) seen)
+  send_emptied : (d : Delivery) (w : Way) (left : List Way) (place : Popping) → IsPop place → SendFits p x d → Fits p (advance p x (SendEmpties d w place left) seen)
   send_emptied d w left (popping.Pops place) is to =
       pops_on (λ after event. Fits p (findings.send_emptied p x d w left after event)) going (λ after slot. (tt, to)) (λ after. emptying p x d left to)
       (site_of p.layout (ReturningQueue w)) place seen
@@ -77,7 +84,7 @@ module _ (p : Setting) (x : Seat) (seen : ℕ) where
       going after event pops = (pops, to)
   send_emptied d w left part is to = absurd is
 
-  send_looked : (d : Delivery) (w : Way) (left full : List Way) (place : Pushing) → IsFullLook place → GoesToAll p x d
+  send_looked : (d : Delivery) (w : Way) (left full : List Way) (place : Pushing) → IsFullLook place → SendFits p x d
       → Fits p (advance p x (SendLooks d w place left full) seen)
   send_looked d w left full (pushing.Looks place) is to =
       full_looks_on (λ after event. Fits p (findings.send_looked p x d w left full after event)) going (λ after. looking p x d left (w ∷ full) to)
@@ -89,7 +96,7 @@ module _ (p : Setting) (x : Seat) (seen : ℕ) where
       going after event looks = (looks, to)
   send_looked d w left full part is to = absurd is
 
-  send_pushed : (d : Delivery) (last : Option Way) (w : Way) (left : List Way) (count : ℕ) (place : Pushing) → GoesToAll p x d
+  send_pushed : (d : Delivery) (last : Option Way) (w : Way) (left : List Way) (count : ℕ) (place : Pushing) → SendFits p x d
       → Fits p (advance p x (SendPushes d last w place left count) seen)
   send_pushed d last w left count place to =
       pushes_on (λ after event. Fits p (findings.send_pushed p x d last w left count after event)) going
@@ -103,14 +110,14 @@ module _ (p : Setting) (x : Seat) (seen : ℕ) where
       going after (Publish slot) silent = absurd silent
       going after event silent = to
 
-  send_evicted : (d : Delivery) (w : Way) (left : List Way) (count : ℕ) (place : Pushing) → IsEvicting place → GoesToAll p x d
+  send_evicted : (d : Delivery) (w : Way) (left : List Way) (count : ℕ) (place : Pushing) → IsEvicting place → SendFits p x d
       → Fits p (advance p x (SendEvicts d w place left count) seen)
   send_evicted d w left count (pushing.Pushes (push.Evicts read)) is to =
       evicts_on (λ after event. Fits p (findings.send_evicted x d w left count after event)) (λ cell. (tt, to)) (λ after. delivering p x d (Some w) left count to)
       (site_of p.layout (MessageQueue w)) read seen
   send_evicted d w left count part is to = absurd is
 
-  send_got_back : (d : Delivery) (w : Way) (left : List Way) (count : ℕ) (place : Pushing) → IsLearning place → GoesToAll p x d
+  send_got_back : (d : Delivery) (w : Way) (left : List Way) (count : ℕ) (place : Pushing) → IsLearning place → SendFits p x d
       → Fits p (advance p x (SendGetsBack d w place left count) seen)
   send_got_back d w left count (pushing.Pushes (push.TakesOld cell)) is to = delivering p (at_desk x d.loan.port (gets_back w seen)) d None left count to
   send_got_back d w left count part is to = absurd is
@@ -178,10 +185,10 @@ module _ (p : Setting) (x : Seat) (seen : ℕ) where
   next_fits Idle is fits = subst (PlaceFits p x) (sym is) fits
   next_fits (Ends ending) is fits = subst (PlaceFits p x) (sym is) fits
   next_fits (SendEnds d last count) is fits = subst (PlaceFits p x) (sym is) fits
-  next_fits (LendEmpties o w place left) is fits = loan_emptied o w left place fits.0 fits.1
+  next_fits (LendEmpties o w place left) is fits = loan_emptied o w left place fits.0 fits.1 fits.2
   next_fits (LendStores o slot next) is fits = loan_stored o slot next fits
   next_fits (Writes e words next) is fits = word_written e words next fits
-  next_fits (SendAsks d) is fits = asked p x d (state_told seen) fits
+  next_fits (SendAsks d) is fits = asked p x d (state_told seen) fits.0 fits.1
   next_fits (SendEmpties d w place left) is fits = send_emptied d w left place fits.0 fits.1
   next_fits (SendLooks d w place left full) is fits = send_looked d w left full place fits.0 fits.1
   next_fits (SendOpens d w left full) is fits = opening p x d left full fits
@@ -212,6 +219,6 @@ module _ (p : Setting) (x : Seat) (seen : ℕ) where
 
 pub accesses_fit : AccessesFit
 accesses_fit p x seen fits = record {
-  filled = λ e there. fits.filled e (subst (λ (es : List Entry). entry_at e.number es ≡ Some e) (steps_keep_own p x seen).table there);
+  handles = λ e there. fits.handles e (subst (λ (es : List Entry). entry_at e.number es ≡ Some e) (steps_keep_own p x seen).table there);
   place = next_fits p (accessed x) seen x.local refl fits.place;
 }

@@ -1,3 +1,4 @@
--- In reading order: what is so of each place of a call, and that it stays so.
+-- In reading order: what is so of each place of a call, that it stays so, and what ends are told by it.
 pub mod Places
 pub mod PlaceLaws
+pub mod EndsTold

@@ -1,12 +1,14 @@
 -- What is so of the place of a node's call, and of its table, by the node's own data alone.
-use Rattle.std.specs.Prelude.{◌≡◌, ◌||◌, true, false, ◌∷◌}
+use Rattle.std.specs.Prelude.{◌≡◌, ◌||◌, ℕ, Bool, true, false, ◌∷◌}
 use Rattle.iox_model.specs.declared.kind.Kind.{Kind}
-use Rattle.iox_model.specs.declared.kind.Role.TheVariants.{Server}
+use Rattle.iox_model.specs.declared.kind.Kind.TheVariants.{ActiveRequest, PendingResponse, RequestMut, Response, ResponseMut}
+use Rattle.iox_model.specs.declared.kind.Role.{Role}
+use Rattle.iox_model.specs.declared.kind.Role.TheVariants.{Client, Server}
 use Rattle.iox_model.specs.declared.way.Way.{Way}
-use Rattle.iox_model.specs.Handles.{is_request_loan, is_response_loan}
+use Rattle.iox_model.specs.Handles.{is_request_loan, is_response_loan, same_kind}
+use Rattle.iox_model.specs.Loans.{kind_of_loan}
 use Rattle.iox_model.specs.Peers.{forgot_port, others}
 use Rattle.iox_model.specs.Settings.{is_client, other_role}
-use Rattle.iox_model.specs.WholeCalls.{is_uninit}
 use Rattle.iox_steps.specs.declared.push.Push.TheVariants as push
 use Rattle.iox_steps.specs.declared.side.Popping.{Popping}
 use Rattle.iox_steps.specs.declared.side.Popping.TheVariants as popping
@@ -21,7 +23,8 @@ use Rattle.iox_wire_locals.specs.declared.local.Visit.{Visit}
 use Rattle.iox_wire_locals.specs.declared.seat.Seat.{Seat}
 use Rattle.iox_wire_locals.specs.declared.table.Entry.{Entry}
 use Rattle.iox_wire_locals.specs.declared.table.NewLoan.{NewLoan}
-use Rattle.iox_wire_locals.specs.Known.{known, loans_at}
+use Rattle.iox_wire_locals.specs.Known.{free_lanes, known, loans_at}
+use Rattle.iox_wire_locals.specs.Lendings.{first_lane}
 use Rattle.iox_wire_locals.specs.NewLoans.{request_in}
 use Rattle.iox_wire_locals.specs.Tables.{Setting, way_in}
 use Rattle.iox_wire_laws.specs.WireShows.OwnedCalls.{Each}
@@ -54,38 +57,60 @@ abbrev pub IsLearning : Pushing → Type 0
 IsLearning (pushing.Pushes (push.TakesOld cell)) = Unit {0}
 IsLearning part = ⊥
 
--- ---- calls
+-- ---- handles
 
--- a loan in the making is a filled one, with the next serial of its port
-abbrev pub IsNext : Seat → NewLoan → Type 0
-IsNext x o = (is_uninit o.kind ≡ false) × (o.serial ≡ loans_at x o.port)
+-- the kinds of handles that a port of the role has on a wire, where no loan is unfilled
+abbrev pub is_kind_of : Role → Kind → Bool
+is_kind_of Client kind =
+    same_kind kind RequestMut || (same_kind kind PendingResponse || same_kind kind Response)
+is_kind_of Server kind = same_kind kind ResponseMut || same_kind kind ActiveRequest
+
+-- the port may have a handle of the kind
+abbrev pub SuitsPort : Setting → (port : ℕ) → Kind → Type 0
+SuitsPort p port kind = is_kind_of (p.port port).role kind ≡ true
 
 -- the kind is that of a loan
 abbrev pub IsLoan : Kind → Type 0
 IsLoan kind = (is_request_loan kind || is_response_loan kind) ≡ true
 
--- a request goes to all servers that the node did not forget
-abbrev pub GoesToAll : Setting → Seat → Delivery → Type 0
-GoesToAll p x d = is_request_loan d.loan.kind ≡ true → d.to ≡ others (known p x) x.node Server
+-- ---- calls
 
--- a receive visits ways from ports of the other role; a server that asks for request states visits
--- none of a client that its node forgot
+-- a loan in the making is one that its port lends, with the port's next serial
+abbrev pub IsNext : Setting → Seat → NewLoan → Type 0
+IsNext p x o =
+    (o.kind ≡ kind_of_loan (p.port o.port).role false) × (o.serial ≡ loans_at x o.port)
+
+-- a request is to be lent on the first free lane of its client
+abbrev pub TakesFirst : Setting → Seat → NewLoan → Type 0
+TakesFirst p x o =
+    is_client (p.port o.port).role ≡ true
+    → o.lane ≡ first_lane (p.port o.port).pool (free_lanes x o.port)
+
+-- what is sent is a loan of its port, a request to all servers that the node did not forget
+abbrev pub SendFits : Setting → Seat → Delivery → Type 0
+SendFits p x d =
+    IsLoan d.loan.kind × SuitsPort p d.loan.port d.loan.kind
+    × (is_request_loan d.loan.kind ≡ true → d.to ≡ others (known p x) x.node Server)
+
+-- a port receives on ways from ports of the other role; a server that asks for request states
+-- visits none of a client that its node forgot
 abbrev pub Visits : Setting → Seat → Visit → Way → Type 0
 Visits p x v y =
-    ((p.port y.sender).role ≡ other_role v.role)
+    ((p.port v.port).role ≡ v.role) × ((p.port y.sender).role ≡ other_role v.role)
     × (is_client v.role ≡ false → p.limits.fire_and_forget ≡ false
     → forgot_port (known p x) x.node y.sender ≡ false)
 
 -- ---- places
 
--- Where a call is over but for its end: a loan is a next one, what was written is a loan, what was
--- sent at once is no request, and a response that is received answers its request.
+-- Where a call is over but for its end: a loan is a next one, what was written or sent is a loan,
+-- what was sent at once is no request, and a response that is received answers its request.
 abbrev pub EndingFits : Setting → Seat → Ending → Type 0
-EndingFits p x (endings.Lends o slot) = IsNext x o
+EndingFits p x (endings.Lends o slot) = IsNext p x o
 EndingFits p x (endings.Fills e words) = IsLoan e.kind
-EndingFits p x (endings.Sends e copied count) = is_request_loan e.kind ≡ false
+EndingFits p x (endings.Sends e copied count) = IsLoan e.kind × (is_request_loan e.kind ≡ false)
+EndingFits p x (endings.FailsToSend e copied r) = IsLoan e.kind
 EndingFits p x (endings.Receives v w slot header) =
-    is_client v.role ≡ true → request_in v header ≡ v.request
+    ((p.port v.port).role ≡ v.role) × (is_client v.role ≡ true → request_in v header ≡ v.request)
 EndingFits p x ending = Unit {0}
 
 -- So it is at each place: what is lent, written, sent or visited is such, only a response asks for
@@ -93,19 +118,21 @@ EndingFits p x ending = Unit {0}
 -- of the place is in the program that the place says.
 abbrev pub PlaceFits : Setting → Seat → Local → Type 0
 PlaceFits p x (Ends ending) = EndingFits p x ending
-PlaceFits p x (LendEmpties o w place left) = IsPop place × IsNext x o
-PlaceFits p x (LendStores o slot next) = IsNext x o
+PlaceFits p x (LendEmpties o w place left) = IsPop place × IsNext p x o × TakesFirst p x o
+PlaceFits p x (LendStores o slot next) = IsNext p x o
 PlaceFits p x (Writes e words next) = IsLoan e.kind
-PlaceFits p x (SendAsks d) = is_request_loan d.loan.kind ≡ false
-PlaceFits p x (SendEmpties d w place left) = IsPop place × GoesToAll p x d
-PlaceFits p x (SendLooks d w place left full) = IsFullLook place × GoesToAll p x d
-PlaceFits p x (SendOpens d w left full) = GoesToAll p x d
-PlaceFits p x (SendPushes d last w place left count) = GoesToAll p x d
-PlaceFits p x (SendEvicts d w place left count) = IsEvicting place × GoesToAll p x d
-PlaceFits p x (SendGetsBack d w place left count) = IsLearning place × GoesToAll p x d
-PlaceFits p x (SendEnds d last count) = GoesToAll p x d
-PlaceFits p x (ReceiveLooks v w place left waiting) = IsEmptyLook place × Each (Visits p x v) (w ∷ left)
-PlaceFits p x (ReceivePops v w more place left waiting) = IsPop place × Each (Visits p x v) (w ∷ left)
+PlaceFits p x (SendAsks d) = SendFits p x d × (is_request_loan d.loan.kind ≡ false)
+PlaceFits p x (SendEmpties d w place left) = IsPop place × SendFits p x d
+PlaceFits p x (SendLooks d w place left full) = IsFullLook place × SendFits p x d
+PlaceFits p x (SendOpens d w left full) = SendFits p x d
+PlaceFits p x (SendPushes d last w place left count) = SendFits p x d
+PlaceFits p x (SendEvicts d w place left count) = IsEvicting place × SendFits p x d
+PlaceFits p x (SendGetsBack d w place left count) = IsLearning place × SendFits p x d
+PlaceFits p x (SendEnds d last count) = SendFits p x d
+PlaceFits p x (ReceiveLooks v w place left waiting) =
+    IsEmptyLook place × Each (Visits p x v) (w ∷ left)
+PlaceFits p x (ReceivePops v w more place left waiting) =
+    IsPop place × Each (Visits p x v) (w ∷ left)
 PlaceFits p x (ReceiveLoads v w slot header left waiting) = Each (Visits p x v) (w ∷ left)
 PlaceFits p x (ReceiveAsks v w slot header left waiting) =
     (is_client v.role ≡ false) × (p.limits.fire_and_forget ≡ false) × Each (Visits p x v) (w ∷ left)
@@ -117,6 +144,5 @@ PlaceFits p x local = Unit {0}
 
 -- What is so of a node's call and of its table.
 pub record CallFits (p : Setting) (x : Seat) : Type 0 where
-  -- no handle is an unfilled loan
-  pub filled : (e : Entry) → HasEntry x e → is_uninit e.kind ≡ false
+  pub handles : (e : Entry) → HasEntry x e → SuitsPort p e.port e.kind
   pub place : PlaceFits p x x.local

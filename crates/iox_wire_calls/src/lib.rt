@@ -2,6 +2,7 @@
 //! The functions have nothing to do: each is there for its contract.
 #![tactic(auto)]
 
+ghost use Rattle.iox_wire_calls.specs.EndsTold.{ResponsesAreTold, SendsAreTold, WritesAreTold};
 ghost use Rattle.iox_wire_calls.specs.PlaceLaws.{AccessesFit, BeginsFit, EndsFit};
 
 /// What is so of a call's place is so at its first one, after each access, and after its end.
@@ -9,4 +10,12 @@ pub fn places_stay_fit()
     ensures begins { BeginsFit }
     ensures accesses { AccessesFit }
     ensures ends { EndsFit }
+{}
+
+/// The place of a call that is over tells its end what a write, a send and the receive of a
+/// response ask, but for the lane of a request.
+pub fn places_tell_ends()
+    ensures writes { WritesAreTold }
+    ensures sends { SendsAreTold }
+    ensures responses { ResponsesAreTold }
 {}
