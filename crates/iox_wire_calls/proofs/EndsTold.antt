@@ -1,8 +1,7 @@
 -- What ends of calls are told, by the place that is over.
-use Rattle.std.proofs.Common.{◌≡◌, ◌<◌, ℕ, Bool, true, false, List, Option, Some, refl, ap, sym, subst, ◌∙◌, true≢false}
+use Rattle.std.proofs.Common.{◌≡◌, ℕ, Bool, true, List, Option, Some, refl, sym, subst, ◌∙◌, true≢false}
 use Rattle.iox_model.specs.declared.way.Way.{Way}
-use Rattle.iox_model.specs.Handles.{filled_kind, is_request_loan}
-use Rattle.iox_model.specs.Peers.{lanes_of}
+use Rattle.iox_model.specs.Handles.{is_request_loan}
 use Rattle.iox_model.specs.Settings.{is_client}
 use Rattle.iox_model.specs.States.{State}
 use Rattle.iox_laws.proofs.WeaveLaws.WholeLemmas.{some-is}
@@ -22,14 +21,13 @@ use Rattle.iox_wire_locals.specs.Tables.{Setting, sent_entry}
 use Rattle.iox_wire_laws.specs.WireOwners.Releases.{HasOwnStates}
 use Rattle.iox_wire_laws.specs.WireOwners.SentStates.{HasOpened}
 use Rattle.iox_wire_laws.proofs.WireOwners.SentStates.{sent_requests_have_states}
-use Rattle.iox_wire_steps.specs.Over.{EndIsTold}
 use Rattle.iox_wire_calls.specs.EndsTold.{ResponsesAreTold, SendsAreTold, WritesAreTold}
 use Rattle.iox_wire_calls.specs.Places.{IsLoan, PlaceFits}
 use Rattle.iox_wire_calls.proofs.HandleKinds.{loans_are_filled}
 
 module _ (p : Setting) (held : Pools) (s : State) (x : Seat) where
   -- a call is over at its end, or once all was delivered
-  at_end : (Q : Ending → Type 0) → ((ending : Ending) → x.local ≡ Ends ending → Q ending)
+  pub at_end : (Q : Ending → Type 0) → ((ending : Ending) → x.local ≡ Ends ending → Q ending)
       → ((d : Delivery) (last : Option Way) (count : ℕ) → x.local ≡ SendEnds d last count → Q (endings.Sends d.loan d.copied count))
       → (ending : Ending) → ending_at x.local ≡ Some ending → Q ending
   at_end Q ended sent ending is = by_local x.local refl is

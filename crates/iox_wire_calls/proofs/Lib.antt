@@ -5,3 +5,9 @@ pub mod PlaceSteps
 pub mod PlaceBegins
 pub mod PlaceEnds
 pub mod EndsTold
+pub mod LaneLists
+pub mod LaneDesks
+pub mod LaneSlots
+pub mod LaneSteps
+pub mod LaneBegins
+pub mod LaneEnds

@@ -18,7 +18,10 @@ use Rattle.iox_laws.proofs.WeaveLaws.MapLemmas.{either}
 use Rattle.iox_laws.proofs.WeaveLaws.WholeLemmas.{or_else-none}
 use Rattle.iox_laws.proofs.WeaveLedger.Lists.{IsAmong, among-number, any-among, filter-among, find-among, map-among}
 use Rattle.iox_laws.proofs.WeaveLedger.Truths.{false_if, none-some, passes}
+use Rattle.iox_wire_locals.specs.declared.local.CallRefusal.TheVariants.{UnknownNumber}
+use Rattle.iox_wire_locals.specs.declared.local.Ending.TheVariants as endings
 use Rattle.iox_wire_locals.specs.declared.seat.Seat.{Seat}
+use Rattle.iox_wire_locals.specs.Courses.{ended}
 use Rattle.iox_wire_locals.specs.declared.table.Entry.{Entry}
 use Rattle.iox_wire_locals.specs.Begins.{begin, begins_at, begins_at_entry, begins_at_port, misnamed_call, pending_visit, server_visit, ways_for}
 use Rattle.iox_wire_locals.specs.Known.{known, told_handle}
@@ -122,7 +125,10 @@ module _ (p : Setting) (x : Seat) (numbered : AreNumbered p) where
   at_entry (HasResponse n) e suits suited = seeking p x (ways_for p x e)
   at_entry call e suits suited = tt
 
-  module _ (call : Call) (fits : CallFits p x) where
+  -- a call begins as that of a port or of a handle that it suits, or names nothing
+  module _ (call : Call) (fits : CallFits p x) (K : Seat → Type 0) (unknown : K (ended x (endings.Refuses UnknownNumber)))
+      (ports : (q : Port) → p.port q.number ≡ q → suits true call (kind_of (ThePort q)) ≡ true → K (begins_at_port p x call q))
+      (entries : (e : Entry) → SuitsPort p e.port e.kind → suits true call e.kind ≡ true → K (begins_at_entry p x call e)) where
     abbrev named : Option Port → Option Entry → Option Subject
     named q e = port_or_handle q (option_map (told_handle p x.node) e)
 
@@ -130,8 +136,8 @@ module _ (p : Setting) (x : Seat) (numbered : AreNumbered p) where
     fits_name y is = passes _ _ (or_else-none _ _ is).1
 
     by_value : (q : Port) (b : Bool) → p.port q.number ≡ q → misnamed_by (known p x) x.node call (if b then Some (ThePort q) else None) ≡ None
-        → Fits p (begins_at_port p x call q)
-    by_value q true set is = at_port call q set (fits_name (ThePort q) is)
+        → K (begins_at_port p x call q)
+    by_value q true set is = ports q set (fits_name (ThePort q) is)
     by_value q false set is = none-some _ (sym is)
 
     there : (q : Port) → port_at (known p x) (number_of call) ≡ Some q → p.port q.number ≡ q
@@ -143,19 +149,19 @@ module _ (p : Setting) (x : Seat) (numbered : AreNumbered p) where
         fits.handles e (subst (λ i. entry_at i x.table ≡ Some e) (sym at) is)
 
     by_name : (q : Option Port) (e : Option Entry) → port_at (known p x) (number_of call) ≡ q → entry_at (number_of call) x.table ≡ e
-        → misnamed_by (known p x) x.node call (named q e) ≡ None → Fits p (begins_at p x call q e)
+        → misnamed_by (known p x) x.node call (named q e) ≡ None → K (begins_at p x call q e)
     by_name (Some q) e port entry is = by_value q q.held (there q port) is
-    by_name None (Some e) port entry is = at_entry call e (has e entry) (fits_name (TheHandle (told_handle p x.node e)) is)
-    by_name None None port entry is = tt
+    by_name None (Some e) port entry is = entries e (has e entry) (fits_name (TheHandle (told_handle p x.node e)) is)
+    by_name None None port entry is = unknown
 
-    of_call : misnamed (known p x) x.node call ≡ None → Fits p (begins_at p x call (port_at (known p x) (number_of call)) (entry_at (number_of call) x.table))
-    of_call is =
+    pub by_call : misnamed (known p x) x.node call ≡ None → K (begins_at p x call (port_at (known p x) (number_of call)) (entry_at (number_of call) x.table))
+    by_call is =
         by_name (port_at (known p x) (number_of call)) (entry_at (number_of call) x.table) refl refl
         (subst (λ (h : Option Handle). misnamed_by (known p x) x.node call (port_or_handle (port_at (known p x) (number_of call)) h) ≡ None)
         (find_map (told_handle p x.node) (λ k. refl) (number_of call) x.table) is)
 
   begun : (call : WireCall) → CallFits p x → misnamed_call p x call ≡ None → Fits p (begin p x call)
-  begun (wire_calls.Port call) fits named = of_call call fits named
+  begun (wire_calls.Port call) fits named = by_call call fits (Fits p) tt (at_port call) (at_entry call) named
   begun (wire_calls.Forget dead) fits named = tt
 
 pub begins_fit : BeginsFit

@@ -4,7 +4,6 @@ use Rattle.std.specs.List.{list_any}
 use Rattle.std.specs.Option.{option_map_or}
 use Rattle.std.proofs.Common.{◌≡◌, ℕ, Bool, true, false, if◌then◌else◌, ◌==◌, List, [], ◌∷◌, Option, Some, None, refl, ap, sym, subst, ◌∙◌, true≢false, eqb-true}
 use Rattle.iox_model.specs.declared.kind.Kind.TheVariants.{ActiveRequest, PendingResponse}
-use Rattle.iox_model.specs.declared.kind.Role.{Role}
 use Rattle.iox_model.specs.declared.kind.Role.TheVariants.{Client, Server}
 use Rattle.iox_model.specs.declared.way.RequestState.{RequestState}
 use Rattle.iox_model.specs.declared.way.Way.{Way}
@@ -17,7 +16,6 @@ use Rattle.iox_model.specs.Receives.{is_at_limit}
 use Rattle.iox_model.specs.Requests.{is_active_spent, targets, to_open}
 use Rattle.iox_model.specs.Settings.{is_client, is_count}
 use Rattle.iox_model.specs.States.{Port}
-use Rattle.iox_model.specs.WholeCalls.{is_uninit}
 use Rattle.iox_laws.proofs.WeaveLaws.MapLemmas.{either}
 use Rattle.iox_steps.specs.declared.pop.EmptyLook.TheVariants as empty_look
 use Rattle.iox_steps.specs.declared.pop.Pop.TheVariants as pop
@@ -84,10 +82,10 @@ desks_stay {A = A} tells none x q port change leaves = by_desks x.desks
     by_desks (d ∷ ds) =
         one d (on_desk q change d) ds (map (on_desk q change) ds) _ _ (ap (λ k. k == port) (port_is d (d.port == q))) (told d (d.port == q)) (by_desks ds)
 
-abbrev loans_told : Desk → ℕ
+abbrev pub loans_told : Desk → ℕ
 loans_told d = d.loans
 
-abbrev lanes_told : Desk → List ℕ
+abbrev pub lanes_told : Desk → List ℕ
 lanes_told d = d.free_lanes
 
 -- so a loan in the making is the next one still

@@ -2,3 +2,5 @@
 pub mod Places
 pub mod PlaceLaws
 pub mod EndsTold
+pub mod Lanes
+pub mod LaneLaws

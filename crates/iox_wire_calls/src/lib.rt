@@ -3,6 +3,8 @@
 #![tactic(auto)]
 
 ghost use Rattle.iox_wire_calls.specs.EndsTold.{ResponsesAreTold, SendsAreTold, WritesAreTold};
+ghost use Rattle.iox_wire_calls.specs.LaneLaws.{AccessesKeepLanes, BeginsKeepLanes, EndsKeepLanes};
+ghost use Rattle.iox_wire_calls.specs.LaneLaws.{FreeSlotsHaveLanes};
 ghost use Rattle.iox_wire_calls.specs.PlaceLaws.{AccessesFit, BeginsFit, EndsFit};
 
 /// What is so of a call's place is so at its first one, after each access, and after its end.
@@ -18,4 +20,16 @@ pub fn places_tell_ends()
     ensures writes { WritesAreTold }
     ensures sends { SendsAreTold }
     ensures responses { ResponsesAreTold }
+{}
+
+/// A client with a free slot has a free lane.
+pub fn free_slots_have_lanes()
+    ensures { FreeSlotsHaveLanes }
+{}
+
+/// The lanes of clients stay counted as a call begins, over each access, and as it ends.
+pub fn lanes_stay_counted()
+    ensures begins { BeginsKeepLanes }
+    ensures accesses { AccessesKeepLanes }
+    ensures ends { EndsKeepLanes }
 {}
