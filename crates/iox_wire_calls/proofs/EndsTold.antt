@@ -80,7 +80,7 @@ module _ (p : Setting) (held : Pools) (s : State) (x : Seat) where
 
 pub writes_are_told : WritesAreTold
 writes_are_told p held s x e words fits has is =
-    loans_are_filled (p.port e.port).role e.kind (fits.handles e has) (written p held s x fits.place e words is)
+    loans_are_filled (p.port e.port).role e.kind (fits.handles e has).1 (written p held s x fits.place e words is)
 
 pub sends_are_told : SendsAreTold
 sends_are_told p held s x e copied count fits opened is low =

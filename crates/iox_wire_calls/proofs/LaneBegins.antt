@@ -37,7 +37,7 @@ use Rattle.iox_wire_stands.proofs.Follows as follows
 use Rattle.iox_wire_stands.proofs.Starts.{Starting, Starts, Takes, starts}
 use Rattle.iox_wire_calls.specs.LaneLaws.{BeginsKeepLanes}
 use Rattle.iox_wire_calls.specs.Lanes.{AllLanesAreCounted, lent_in}
-use Rattle.iox_wire_calls.specs.Places.{CallFits, PlaceFits, SuitsPort, TakesFirst}
+use Rattle.iox_wire_calls.specs.Places.{CallFits, OwnersAreSet, PlaceFits, SuitsPort, TakesFirst}
 use Rattle.iox_wire_calls.proofs.LaneSteps.{PicksFirst, lanes_at, loan_goes_on, picked, same_lanes}
 use Rattle.iox_wire_calls.proofs.HandleKinds.{answers_is, copies_is}
 use Rattle.iox_wire_calls.proofs.PlaceBegins.{begins_fit, by_call}
@@ -129,11 +129,11 @@ module _ (p : Setting) (x : Seat) where
   at_port (HasRequests n) q set = seeking (server_ways (known p x) q)
   at_port call q set = tt
 
-  at_entry : (call : Call) (e : Entry) → SuitsPort p e.port e.kind → suits true call e.kind ≡ true → K (begins.begins_at_entry p x call e)
-  at_entry (Loan n k) e fits suited = lends_response e k [] false (answers_is n k (p.port e.port).role e.kind fits suited)
+  at_entry : (call : Call) (e : Entry) → SuitsPort p x e.port e.kind → suits true call e.kind ≡ true → K (begins.begins_at_entry p x call e)
+  at_entry (Loan n k) e fits suited = lends_response e k [] false (answers_is n k (p.port e.port).role e.kind fits.1 suited)
   at_entry (Write n y) e fits suited = writes e y.elements y.words
   at_entry (Send n) e fits suited = sent_picks _ e (follows.sends p x e false).names
-  at_entry (SendCopy n y) e fits suited = copies_response e y.elements y.words (copies_is n y (p.port e.port).role e.kind fits suited)
+  at_entry (SendCopy n y) e fits suited = copies_response e y.elements y.words (copies_is n y (p.port e.port).role e.kind fits.1 suited)
   at_entry (Receive n) e fits suited = visiting (begins.pending_visit e) (begins.ways_for p x e) false
   at_entry (Read n) e fits suited = reads e
   at_entry (Release n) e fits suited = releasing e
@@ -143,10 +143,10 @@ module _ (p : Setting) (x : Seat) where
   at_entry (HasResponse n) e fits suited = seeking (begins.ways_for p x e)
   at_entry call e fits suited = tt
 
-  begin_picks : (call : WireCall) → AreNumbered p → CallFits p x → misnamed_call p x call ≡ None → K (begins.begin p x call)
-  begin_picks (wire_calls.Port call) numbered fits named =
-      by_call p x numbered call fits K tt (λ q set suited. at_port call q set) (λ e suits suited. at_entry call e suits suited) named
-  begin_picks (wire_calls.Forget dead) numbered fits named = tt
+  begin_picks : (call : WireCall) → AreNumbered p → OwnersAreSet p → CallFits p x → misnamed_call p x call ≡ None → K (begins.begin p x call)
+  begin_picks (wire_calls.Port call) numbered owners fits named =
+      by_call p x numbered owners call fits K tt (λ q home set suited. at_port call q set) (λ e suits suited. at_entry call e suits suited) named
+  begin_picks (wire_calls.Forget dead) numbered owners fits named = tt
 
 -- ---- the begin
 
@@ -159,7 +159,7 @@ no_loan p x (Dropped e) start = refl
 no_loan p x other start = absurd start
 
 pub begins_keep_lanes : BeginsKeepLanes
-begins_keep_lanes p held s x call numbered named rests fits stands lanes all = by_start (starts p s.request_state x call)
+begins_keep_lanes p held s x call numbered owners named rests fits stands lanes all = by_start (starts p s.request_state x call)
   where
     none : lent_in (message_at x.local) ≡ []
     none = ap (λ l. lent_in (message_at l)) rests
@@ -170,5 +170,5 @@ begins_keep_lanes p held s x call numbered named rests fits stands lanes all = b
         (no_loan p x (message_at (begins.begin p x call).local) start.message ∙ sym none) all
     by_start (inr takes) =
         picked p x (begins.begin p x call) takes.loan takes.slot takes.free (begins_keep_own p x call) stands.uses lanes none takes.there takes.desks takes.place
-        (subst (PlaceFits p (begins.begin p x call)) takes.place (begins_fit p x call numbered named fits).place).0
-        (subst (PicksFirst p x) takes.place (begin_picks p x call numbered fits named)) all
+        (subst (PlaceFits p (begins.begin p x call)) takes.place (begins_fit p x call numbered owners named fits).place).1
+        (subst (PicksFirst p x) takes.place (begin_picks p x call numbered owners fits named)) all

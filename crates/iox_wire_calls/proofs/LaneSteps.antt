@@ -217,7 +217,7 @@ module _ (p : Setting) (x : Seat) (seen : ℕ) (fits : CallFits p x) (uses : All
   by_follows (puts_aside e desks still returns message) = same_desks desks (ap lent_in message ∙ sym (returning x.local e returns))
   by_follows (drops e desks still of message) = same_desks desks (ap lent_in message ∙ sym (of_entry (message_at x.local) e of))
   by_follows (picks_slot o slot free desks still place before there lends) =
-      picked p x y o slot free own uses lanes (ap lent_in before) there desks place (subst (PlaceFits p y) place (accesses_fit p x seen fits).place).0
+      picked p x y o slot free own uses lanes (ap lent_in before) there desks place (subst (PlaceFits p y) place (accesses_fit p x seen fits).place).1
       (subst (PicksFirst p x) place (lending_picks p x seen x.local lends fits.place)) all
   by_follows (sends_loan o slot desks still before copies message) = same_desks desks (ap lent_in message ∙ sym (ap lent_in before))
 

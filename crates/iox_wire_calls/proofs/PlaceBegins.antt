@@ -6,7 +6,7 @@ use Rattle.iox_model.specs.declared.kind.Role.{Role}
 use Rattle.iox_model.specs.declared.kind.Role.TheVariants.{Client, Server}
 use Rattle.iox_model.specs.Commands.{Call, WireCall, number_of}
 use Rattle.iox_model.specs.declared.call.WireCall.TheVariants as wire_calls
-use Rattle.iox_model.specs.Handles.{Subject, TheHandle, ThePort, kind_of, port_or_handle}
+use Rattle.iox_model.specs.Handles.{node_of, Subject, TheHandle, ThePort, kind_of, port_or_handle}
 use Rattle.iox_model.specs.Maps.{has_number}
 use Rattle.iox_model.specs.Messages.{request_way, response_way}
 use Rattle.iox_model.specs.Names.{misnamed, misnamed_by, suits}
@@ -28,12 +28,13 @@ use Rattle.iox_wire_locals.specs.Known.{known, told_handle}
 use Rattle.iox_wire_locals.specs.ReceiveCourses.{states_for}
 use Rattle.iox_wire_locals.specs.Tables.{Setting, entry_at}
 use Rattle.iox_wire_laws.specs.WireShows.OwnedCalls.{Each}
+use Rattle.iox_wire_laws.specs.WireHolding.SlotsKnown.{IsPortOfSeat}
 use Rattle.iox_wire_laws.proofs.WireKeeping.CountsKept.{begins_keep_own}
 use Rattle.iox_wire_laws.proofs.WireKeeping.Lookups.{find_map}
 use Rattle.iox_wire_laws.proofs.WireRegions.OwnPorts.{both, each_map}
 use Rattle.iox_wire_stands.specs.Stands.{AreNumbered}
 use Rattle.iox_wire_calls.specs.PlaceLaws.{BeginsFit}
-use Rattle.iox_wire_calls.specs.Places.{CallFits, SuitsPort, Visits}
+use Rattle.iox_wire_calls.specs.Places.{CallFits, OwnersAreSet, SuitsPort, VisitFits, Visits}
 use Rattle.iox_wire_calls.proofs.HandleKinds.{answers_is, asks_is, copies_is, loan_is, receives_is, sent_is}
 use Rattle.iox_wire_calls.proofs.PlaceCourses.{Fits, checking, copies_request, copies_response, hinting, loans_request, loans_response, reads, releasing, seeking, sends, visiting, writes}
 
@@ -47,7 +48,7 @@ same_is Client Server is = absurd (true≢false (sym is))
 same_is Server Client is = absurd (true≢false (sym is))
 same_is Server Server is = refl
 
-module _ (p : Setting) (x : Seat) (numbered : AreNumbered p) where
+module _ (p : Setting) (x : Seat) (numbered : AreNumbered p) (owners : OwnersAreSet p) where
   -- ---- ports
 
   -- a known port is the setting's of that number
@@ -87,7 +88,7 @@ module _ (p : Setting) (x : Seat) (numbered : AreNumbered p) where
 
   -- ---- receives
 
-  server_each : (q : Port) → (p.port q.number).role ≡ Server → Each (Visits p x (server_visit q)) (server_ways (known p x) q)
+  server_each : (q : Port) → VisitFits p x (server_visit q) → Each (Visits p x (server_visit q)) (server_ways (known p x) q)
   server_each q set =
       each_map (Visits p x (server_visit q)) (λ client. request_way client q.number) (clients_to_visit (known p x) q)
       (λ client there.
@@ -96,27 +97,36 @@ module _ (p : Setting) (x : Seat) (numbered : AreNumbered p) where
       (λ is among. (set, role_of Client client among, λ server asks. absurd (true≢false (sym is ∙ asks))))
       (λ is among. (set, other_role_of Client client among, λ server asks. other_unforgotten Client client among)) there)
 
-  pending_each : (e : Entry) → (p.port e.port).role ≡ Client → Each (Visits p x (pending_visit e)) (ways_for p x e)
+  pending_each : (e : Entry) → VisitFits p x (pending_visit e) → Each (Visits p x (pending_visit e)) (ways_for p x e)
   pending_each e set =
       each_map (Visits p x (pending_visit e)) (response_way e.port e.lane) (ports_of_role (known p x) Server)
       (λ port there. (set, role_of Server port there, λ server asks. absurd (true≢false server)))
 
   -- ---- what a call names
 
-  at_port : (call : Call) (q : Port) → p.port q.number ≡ q → suits true call (kind_of (ThePort q)) ≡ true → Fits p (begins_at_port p x call q)
-  at_port (Loan n k) q set suited = loans_request p x q k set
-  at_port (SendCopy n y) q set suited = copies_request p x q y.elements y.words set
-  at_port (Receive n) q set suited =
-      visiting p x (server_visit q) (server_ways (known p x) q) false (server_each q (ap (λ (r : Port). r.role) set ∙ receives_is n q.role suited))
-  at_port (HasRequests n) q set suited = seeking p x (server_ways (known p x) q)
-  at_port call q set suited = tt
+  -- a known port of the node
+  pub home_port : (q : Port) → IsAmong q (map p.port p.layout.sizes.ports) → q.node ≡ x.node → IsPortOfSeat p x q.number
+  home_port q among mine =
+      let at = map-among p.port q p.layout.sizes.ports among in
+      let has : has_number at.0 p.layout.sizes.ports ≡ true = among-number at.0 p.layout.sizes.ports at.1 in
+      let there : has_number q.number p.layout.sizes.ports ≡ true
+      = subst (λ k. has_number k p.layout.sizes.ports ≡ true) (sym (ap (λ (r : Port). r.number) at.2 ∙ numbered at.0 has)) has in
+      (there, owners q.number there ∙ ap (λ (r : Port). r.node) (known_port q among) ∙ mine)
 
-  at_entry : (call : Call) (e : Entry) → SuitsPort p e.port e.kind → suits true call e.kind ≡ true → Fits p (begins_at_entry p x call e)
-  at_entry (Loan n k) e suits suited = loans_response p x e k (answers_is n k (p.port e.port).role e.kind suits suited)
+  at_port : (call : Call) (q : Port) → IsPortOfSeat p x q.number → p.port q.number ≡ q → suits true call (kind_of (ThePort q)) ≡ true → Fits p (begins_at_port p x call q)
+  at_port (Loan n k) q home set suited = loans_request p x q k home set
+  at_port (SendCopy n y) q home set suited = copies_request p x q y.elements y.words home set
+  at_port (Receive n) q home set suited =
+      visiting p x (server_visit q) (server_ways (known p x) q) false (server_each q (home, ap (λ (r : Port). r.role) set ∙ receives_is n q.role suited))
+  at_port (HasRequests n) q home set suited = seeking p x (server_ways (known p x) q)
+  at_port call q home set suited = tt
+
+  at_entry : (call : Call) (e : Entry) → SuitsPort p x e.port e.kind → suits true call e.kind ≡ true → Fits p (begins_at_entry p x call e)
+  at_entry (Loan n k) e suits suited = loans_response p x e k suits.0 (answers_is n k (p.port e.port).role e.kind suits.1 suited)
   at_entry (Write n y) e suits suited = writes p x e y.elements y.words (loan_is (is_client y.role) e.kind suited)
   at_entry (Send n) e suits suited = sends p x e false (sent_is n e.kind suited) suits
-  at_entry (SendCopy n y) e suits suited = copies_response p x e y.elements y.words (copies_is n y (p.port e.port).role e.kind suits suited)
-  at_entry (Receive n) e suits suited = visiting p x (pending_visit e) (ways_for p x e) false (pending_each e (asks_is n (p.port e.port).role e.kind suits suited))
+  at_entry (SendCopy n y) e suits suited = copies_response p x e y.elements y.words suits.0 (copies_is n y (p.port e.port).role e.kind suits.1 suited)
+  at_entry (Receive n) e suits suited = visiting p x (pending_visit e) (ways_for p x e) false (pending_each e (suits.0, asks_is n (p.port e.port).role e.kind suits.1 suited))
   at_entry (Read n) e suits suited = reads p x e
   at_entry (Release n) e suits suited = releasing p x e
   at_entry (IsConnected n) e suits suited = checking p x e false (states_for p x e)
@@ -127,23 +137,24 @@ module _ (p : Setting) (x : Seat) (numbered : AreNumbered p) where
 
   -- a call begins as that of a port or of a handle that it suits, or names nothing
   module _ (call : Call) (fits : CallFits p x) (K : Seat → Type 0) (unknown : K (ended x (endings.Refuses UnknownNumber)))
-      (ports : (q : Port) → p.port q.number ≡ q → suits true call (kind_of (ThePort q)) ≡ true → K (begins_at_port p x call q))
-      (entries : (e : Entry) → SuitsPort p e.port e.kind → suits true call e.kind ≡ true → K (begins_at_entry p x call e)) where
+      (ports : (q : Port) → IsPortOfSeat p x q.number → p.port q.number ≡ q → suits true call (kind_of (ThePort q)) ≡ true → K (begins_at_port p x call q))
+      (entries : (e : Entry) → SuitsPort p x e.port e.kind → suits true call e.kind ≡ true → K (begins_at_entry p x call e)) where
     abbrev named : Option Port → Option Entry → Option Subject
     named q e = port_or_handle q (option_map (told_handle p x.node) e)
 
-    fits_name : (y : Subject) → misnamed_by (known p x) x.node call (Some y) ≡ None → suits true call (kind_of y) ≡ true
-    fits_name y is = passes _ _ (or_else-none _ _ is).1
+    fits_name : (y : Subject) → misnamed_by (known p x) x.node call (Some y) ≡ None → ((node_of y == x.node) ≡ true) × (suits true call (kind_of y) ≡ true)
+    fits_name y is = let parts = or_else-none _ _ is in (passes _ _ parts.0, passes _ _ parts.1)
 
-    by_value : (q : Port) (b : Bool) → p.port q.number ≡ q → misnamed_by (known p x) x.node call (if b then Some (ThePort q) else None) ≡ None
+    by_value : (q : Port) (b : Bool) → IsAmong q (map p.port p.layout.sizes.ports) → misnamed_by (known p x) x.node call (if b then Some (ThePort q) else None) ≡ None
         → K (begins_at_port p x call q)
-    by_value q true set is = ports q set (fits_name (ThePort q) is)
-    by_value q false set is = none-some _ (sym is)
+    by_value q true among is =
+        let named = fits_name (ThePort q) is in ports q (home_port q among (eqb-true q.node x.node named.0)) (known_port q among) named.1
+    by_value q false among is = none-some _ (sym is)
 
-    there : (q : Port) → port_at (known p x) (number_of call) ≡ Some q → p.port q.number ≡ q
-    there q is = known_port q (find-among (λ (r : Port). r.number == number_of call) q (map p.port p.layout.sizes.ports) is).0
+    there : (q : Port) → port_at (known p x) (number_of call) ≡ Some q → IsAmong q (map p.port p.layout.sizes.ports)
+    there q is = (find-among (λ (r : Port). r.number == number_of call) q (map p.port p.layout.sizes.ports) is).0
 
-    has : (e : Entry) → entry_at (number_of call) x.table ≡ Some e → SuitsPort p e.port e.kind
+    has : (e : Entry) → entry_at (number_of call) x.table ≡ Some e → SuitsPort p x e.port e.kind
     has e is =
         let at : e.number ≡ number_of call = eqb-true e.number (number_of call) (find-among (λ (k : Entry). k.number == number_of call) e x.table is).1 in
         fits.handles e (subst (λ i. entry_at i x.table ≡ Some e) (sym at) is)
@@ -151,7 +162,7 @@ module _ (p : Setting) (x : Seat) (numbered : AreNumbered p) where
     by_name : (q : Option Port) (e : Option Entry) → port_at (known p x) (number_of call) ≡ q → entry_at (number_of call) x.table ≡ e
         → misnamed_by (known p x) x.node call (named q e) ≡ None → K (begins_at p x call q e)
     by_name (Some q) e port entry is = by_value q q.held (there q port) is
-    by_name None (Some e) port entry is = entries e (has e entry) (fits_name (TheHandle (told_handle p x.node e)) is)
+    by_name None (Some e) port entry is = entries e (has e entry) (fits_name (TheHandle (told_handle p x.node e)) is).1
     by_name None None port entry is = unknown
 
     pub by_call : misnamed (known p x) x.node call ≡ None → K (begins_at p x call (port_at (known p x) (number_of call)) (entry_at (number_of call) x.table))
@@ -165,7 +176,10 @@ module _ (p : Setting) (x : Seat) (numbered : AreNumbered p) where
   begun (wire_calls.Forget dead) fits named = tt
 
 pub begins_fit : BeginsFit
-begins_fit p x call numbered named fits = record {
-  handles = λ e there. fits.handles e (subst (λ (es : List Entry). entry_at e.number es ≡ Some e) (begins_keep_own p x call).table there);
-  place = begun p x numbered call fits named;
+begins_fit p x call numbered owners named fits = record {
+  handles = λ e there.
+      let kept = begins_keep_own p x call in
+      let of = fits.handles e (subst (λ (es : List Entry). entry_at e.number es ≡ Some e) kept.table there) in
+      ((of.0.0, of.0.1 ∙ sym kept.node), of.1);
+  place = begun p x numbered owners call fits named;
 }

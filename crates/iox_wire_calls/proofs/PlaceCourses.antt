@@ -10,7 +10,7 @@ use Rattle.iox_model.specs.declared.way.Way.{Way}
 use Rattle.iox_model.specs.Handles.{is_received, is_request_loan, same_kind}
 use Rattle.iox_model.specs.Loans.{kind_of_loan, lending_ways}
 use Rattle.iox_model.specs.Maps.{has_number, not_in}
-use Rattle.iox_model.specs.Messages.{names, request_way}
+use Rattle.iox_model.specs.Messages.{names, request_way, response_way}
 use Rattle.iox_model.specs.Peers.{forgot_port, others}
 use Rattle.iox_model.specs.Receives.{is_at_limit}
 use Rattle.iox_model.specs.Requests.{is_active_spent, targets, to_open}
@@ -42,7 +42,9 @@ use Rattle.iox_wire_locals.specs.NewLoans.{entry_in, loan_in, request_in}
 use Rattle.iox_wire_locals.specs.ReceiveCourses as receives
 use Rattle.iox_wire_locals.specs.Tables.{Setting, way_in, words_to_read}
 use Rattle.iox_wire_laws.specs.WireShows.OwnedCalls.{Each}
-use Rattle.iox_wire_calls.specs.Places.{IsLoan, IsNext, PlaceFits, SendFits, SuitsPort, TakesFirst, Visits}
+use Rattle.iox_wire_laws.specs.WireHolding.SlotsKnown.{IsPortOfSeat}
+use Rattle.iox_wire_calls.specs.Places.{Opens, IsLoan, IsNext, PlaceFits, SendFits, SuitsPort, TakesFirst, Visits}
+use Rattle.iox_wire_laws.proofs.WireRegions.OwnPorts.{each_map}
 use Rattle.iox_wire_calls.proofs.HandleKinds.{loan_kind, role_lends}
 
 -- ---- desks
@@ -90,7 +92,7 @@ lanes_told d = d.free_lanes
 
 -- so a loan in the making is the next one still
 pub next_stays : (p : Setting) (x : Seat) (q : ℕ) (change : Desk → Desk) (o : NewLoan) → Leaves loans_told change → IsNext p x o → IsNext p (at_desk x q change) o
-next_stays p x q change o leaves next = (next.0, next.1 ∙ sym (desks_stay loans_told 0 x q o.port change leaves))
+next_stays p x q change o leaves next = (next.0, next.1, next.2 ∙ sym (desks_stay loans_told 0 x q o.port change leaves))
 
 -- and takes the first lane
 pub first_stays : (p : Setting) (x : Seat) (q : ℕ) (change : Desk → Desk) (o : NewLoan) → Leaves lanes_told change → TakesFirst p x o → TakesFirst p (at_desk x q change) o
@@ -100,9 +102,10 @@ first_stays p x q change o leaves first client =
 -- ---- kinds of loans
 
 -- a loan that its port lends is such
-pub lent_kind : (p : Setting) (x : Seat) (o : NewLoan) → IsNext p x o → IsLoan o.kind × SuitsPort p o.port o.kind
+pub lent_kind : (p : Setting) (x : Seat) (o : NewLoan) → IsNext p x o → IsLoan o.kind × SuitsPort p x o.port o.kind
 lent_kind p x o next =
-    subst (λ kind. IsLoan kind × SuitsPort p o.port kind) (sym next.0) (loan_kind (p.port o.port).role, role_lends (p.port o.port).role)
+    subst (λ kind. IsLoan kind × SuitsPort p x o.port kind) (sym next.1)
+    (loan_kind (p.port o.port).role, (next.0, role_lends (p.port o.port).role))
 
 -- ---- sends
 
@@ -115,20 +118,26 @@ module _ (p : Setting) (x : Seat) where
   delivering d last [] count to = to
   delivering d last (w ∷ left) count to = to
 
-  pub opening : (d : Delivery) (left full : List Way) → SendFits p x d → Fits p (courses.opening p x d left full)
-  opening d [] full to = delivering d None (not_in full (targets (sending p x d))) 0 to
-  opening d (w ∷ left) full to = to
+  pub opening : (d : Delivery) (left full : List Way) → Each (Opens d) left → SendFits p x d → Fits p (courses.opening p x d left full)
+  opening d [] full opens to = delivering d None (not_in full (targets (sending p x d))) 0 to
+  opening d (w ∷ left) full opens to = (opens, to)
+
+  -- a send of a request opens on its lane, that of a response nothing
+  opens : (d : Delivery) → Each (Opens d) (to_open (sending p x d))
+  opens d =
+      either (Each (Opens d)) (is_request_loan d.loan.kind) (map (response_way d.loan.port d.loan.lane) d.to) []
+      (λ is. each_map (Opens d) (response_way d.loan.port d.loan.lane) d.to (λ server there. (refl, refl))) (λ is. tt)
 
   pub looking : (d : Delivery) (left full : List Way) → SendFits p x d → Fits p (courses.looking p x d left full)
   looking d [] full to =
       either (Fits p) (list_any (sending p x d).fails full) (courses.ended x (endings.FailsToSend d.loan d.copied UnableToDeliver))
-      (courses.opening p x d (to_open (sending p x d)) full) (λ is. to.0) (λ is. opening d (to_open (sending p x d)) full to)
+      (courses.opening p x d (to_open (sending p x d)) full) (λ is. to.0) (λ is. opening d (to_open (sending p x d)) full (opens d) to)
   looking d (w ∷ left) full to = (tt, to)
 
   pub emptying : (d : Delivery) (left : List Way) → SendFits p x d → Fits p (courses.emptying p x d left)
   emptying d [] to =
       either (Fits p) (sending p x d).overflow (courses.opening p x d (to_open (sending p x d)) []) (courses.looking p x d (targets (sending p x d)) [])
-      (λ is. opening d (to_open (sending p x d)) [] to) (λ is. looking d (targets (sending p x d)) [] to)
+      (λ is. opening d (to_open (sending p x d)) [] (opens d) to) (λ is. looking d (targets (sending p x d)) [] to)
   emptying d (w ∷ left) to = (tt, to)
 
   sends_request : (d : Delivery) → SendFits p x d → Fits p (courses.sends_request p x d)
@@ -142,7 +151,7 @@ module _ (p : Setting) (x : Seat) where
       either (Fits p) (has_number d.loan.client (others (known p x) x.node Client)) (courses.placed x (SendAsks d))
       (courses.ended x (endings.Sends d.loan d.copied 0)) (λ is. (to, answers)) (λ is. (to.0, answers))
 
-  pub sends : (e : Entry) (copied : Bool) → IsLoan e.kind → SuitsPort p e.port e.kind → Fits p (courses.sends p x e copied)
+  pub sends : (e : Entry) (copied : Bool) → IsLoan e.kind → SuitsPort p x e.port e.kind → Fits p (courses.sends p x e copied)
   sends e copied loan suits =
       let to_servers : Delivery = record { loan = e; copied = copied; to = others (known p x) x.node Server } in
       let to_client : Delivery = record { loan = e; copied = copied; to = e.client ∷ [] } in
@@ -176,36 +185,36 @@ module _ (p : Setting) (x : Seat) where
   lends None o next first = loaning o (lending_ways (known p x) (loan_in p o)) next first
 
   -- by a client that is the setting's port of its number
-  lends_request : (q : Port) (k : ℕ) (payload : List ℕ) (copies : Bool) → p.port q.number ≡ q → Fits p (lendings.lends_request p x q k payload copies)
-  lends_request q k payload copies set =
+  lends_request : (q : Port) (k : ℕ) (payload : List ℕ) (copies : Bool) → IsPortOfSeat p x q.number → p.port q.number ≡ q → Fits p (lendings.lends_request p x q k payload copies)
+  lends_request q k payload copies home set =
       either (Fits p) (is_count p.limits.request k) (lendings.lends p x (lendings.request_refusal p x q k) (lendings.new_request p x q k payload copies))
       (courses.ended x (endings.Refuses WrongLength))
-      (λ is. lends (lendings.request_refusal p x q k) (lendings.new_request p x q k payload copies) (ap (λ (r : Port). kind_of_loan r.role false) (sym set), refl)
+      (λ is. lends (lendings.request_refusal p x q k) (lendings.new_request p x q k payload copies) (home, ap (λ (r : Port). kind_of_loan r.role false) (sym set), refl)
       (λ client. ap (λ (r : Port). first_lane r.pool (free_lanes x q.number)) (sym set))) (λ is. tt)
 
   -- by a server
-  lends_response : (e : Entry) (k : ℕ) (payload : List ℕ) (copies : Bool) → is_client (p.port e.port).role ≡ false
+  lends_response : (e : Entry) (k : ℕ) (payload : List ℕ) (copies : Bool) → IsPortOfSeat p x e.port → is_client (p.port e.port).role ≡ false
       → Fits p (lendings.lends_response p x e k payload copies)
-  lends_response e k payload copies server =
+  lends_response e k payload copies home server =
       either (Fits p) (is_count p.limits.response k)
       (lendings.lends p x (lendings.response_refusal p x e (p.port e.port) k) (lendings.new_response p x e k payload copies))
       (courses.ended x (endings.Refuses WrongLength))
-      (λ is. lends (lendings.response_refusal p x e (p.port e.port) k) (lendings.new_response p x e k payload copies) (refl, refl)
+      (λ is. lends (lendings.response_refusal p x e (p.port e.port) k) (lendings.new_response p x e k payload copies) (home, refl, refl)
       (λ client. absurd (true≢false (sym client ∙ server)))) (λ is. tt)
 
-  pub loans_request : (q : Port) (k : ℕ) → p.port q.number ≡ q → Fits p (lendings.lends_request p x q k [] false)
-  loans_request q k set = lends_request q k [] false set
+  pub loans_request : (q : Port) (k : ℕ) → IsPortOfSeat p x q.number → p.port q.number ≡ q → Fits p (lendings.lends_request p x q k [] false)
+  loans_request q k home set = lends_request q k [] false home set
 
-  pub loans_response : (e : Entry) (k : ℕ) → is_client (p.port e.port).role ≡ false → Fits p (lendings.lends_response p x e k [] false)
-  loans_response e k server = lends_response e k [] false server
+  pub loans_response : (e : Entry) (k : ℕ) → IsPortOfSeat p x e.port → is_client (p.port e.port).role ≡ false → Fits p (lendings.lends_response p x e k [] false)
+  loans_response e k home server = lends_response e k [] false home server
 
-  pub copies_request : (q : Port) (k : Option ℕ) (words : List ℕ) → p.port q.number ≡ q → Fits p (lendings.copies_request p x q k words)
-  copies_request q None words set = tt
-  copies_request q (Some k) words set = lends_request q k words true set
+  pub copies_request : (q : Port) (k : Option ℕ) (words : List ℕ) → IsPortOfSeat p x q.number → p.port q.number ≡ q → Fits p (lendings.copies_request p x q k words)
+  copies_request q None words home set = tt
+  copies_request q (Some k) words home set = lends_request q k words true home set
 
-  pub copies_response : (e : Entry) (k : Option ℕ) (words : List ℕ) → is_client (p.port e.port).role ≡ false → Fits p (lendings.copies_response p x e k words)
-  copies_response e None words server = tt
-  copies_response e (Some k) words server = lends_response e k words true server
+  pub copies_response : (e : Entry) (k : Option ℕ) (words : List ℕ) → IsPortOfSeat p x e.port → is_client (p.port e.port).role ≡ false → Fits p (lendings.copies_response p x e k words)
+  copies_response e None words home server = tt
+  copies_response e (Some k) words home server = lends_response e k words true home server
 
   pub writing : (e : Entry) (words : List ℕ) → IsLoan e.kind → Fits p (begins.writing x e words)
   writing e [] loan = loan

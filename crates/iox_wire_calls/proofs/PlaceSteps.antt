@@ -1,6 +1,6 @@
 -- After an access what is so of a place is so of the next one: by the cases of the place.
 use Rattle.std.specs.Prelude.{not, ◌&&◌, ◌++◌}
-use Rattle.std.proofs.Common.{◌≡◌, ℕ, ◌+◌, Bool, true, ◌==◌, List, [], ◌∷◌, Option, Some, None, refl, sym, subst, length}
+use Rattle.std.proofs.Common.{◌≡◌, ℕ, ◌+◌, Bool, true, ◌==◌, List, [], ◌∷◌, Option, Some, None, refl, sym, subst, ◌∙◌, length}
 use Rattle.iox_model.specs.declared.way.Way.{Way}
 use Rattle.iox_model.specs.Looks.{is_shown}
 use Rattle.iox_model.specs.Messages.{names, names_with_hint}
@@ -191,7 +191,7 @@ module _ (p : Setting) (x : Seat) (seen : ℕ) where
   next_fits (SendAsks d) is fits = asked p x d (state_told seen) fits.0 fits.1
   next_fits (SendEmpties d w place left) is fits = send_emptied d w left place fits.0 fits.1
   next_fits (SendLooks d w place left full) is fits = send_looked d w left full place fits.0 fits.1
-  next_fits (SendOpens d w left full) is fits = opening p x d left full fits
+  next_fits (SendOpens d w left full) is fits = opening p x d left full fits.0.1 fits.1
   next_fits (SendPushes d last w place left count) is fits = send_pushed d last w left count place fits
   next_fits (SendEvicts d w place left count) is fits = send_evicted d w left count place fits.0 fits.1
   next_fits (SendGetsBack d w place left count) is fits = send_got_back d w left count place fits.0 fits.1
@@ -219,6 +219,9 @@ module _ (p : Setting) (x : Seat) (seen : ℕ) where
 
 pub accesses_fit : AccessesFit
 accesses_fit p x seen fits = record {
-  handles = λ e there. fits.handles e (subst (λ (es : List Entry). entry_at e.number es ≡ Some e) (steps_keep_own p x seen).table there);
+  handles = λ e there.
+      let kept = steps_keep_own p x seen in
+      let of = fits.handles e (subst (λ (es : List Entry). entry_at e.number es ≡ Some e) kept.table there) in
+      ((of.0.0, of.0.1 ∙ sym kept.node), of.1);
   place = next_fits p (accessed x) seen x.local refl fits.place;
 }

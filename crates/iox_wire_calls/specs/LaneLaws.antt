@@ -22,7 +22,7 @@ use Rattle.iox_wire_stands.specs.Nodes.{NodeStands}
 use Rattle.iox_wire_stands.specs.Stands.{AreNumbered}
 use Rattle.iox_wire_steps.specs.Over.{CallIsOver}
 use Rattle.iox_wire_calls.specs.Lanes.{AllLanesAreCounted, lent_in}
-use Rattle.iox_wire_calls.specs.Places.{CallFits}
+use Rattle.iox_wire_calls.specs.Places.{CallFits, OwnersAreSet}
 
 -- Where the node's call made no loan yet, each of its clients that has a free slot has a free lane.
 abbrev pub HasLanesForSlots : Setting → Seat → Type 0
@@ -44,8 +44,8 @@ FreeSlotsHaveLanes =
 abbrev pub BeginsKeepLanes : Type 0
 BeginsKeepLanes =
     (p : Setting) (held : Pools) (s : State) (x : Seat) (call : WireCall)
-    → AreNumbered p → misnamed_call p x call ≡ None → x.local ≡ Idle → CallFits p x
-    → NodeStands p held s x → HasLanesForSlots p x → AllLanesAreCounted p x
+    → AreNumbered p → OwnersAreSet p → misnamed_call p x call ≡ None → x.local ≡ Idle
+    → CallFits p x → NodeStands p held s x → HasLanesForSlots p x → AllLanesAreCounted p x
     → AllLanesAreCounted p (begin p x call)
 
 -- So they do over each access,

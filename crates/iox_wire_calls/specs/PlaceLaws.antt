@@ -7,13 +7,13 @@ use Rattle.iox_wire_locals.specs.Begins.{begin, misnamed_call}
 use Rattle.iox_wire_locals.specs.Steps.{accessed, advance, closed, ending_at}
 use Rattle.iox_wire_locals.specs.Tables.{Setting}
 use Rattle.iox_wire_stands.specs.Stands.{AreNumbered}
-use Rattle.iox_wire_calls.specs.Places.{CallFits}
+use Rattle.iox_wire_calls.specs.Places.{CallFits, OwnersAreSet}
 
 -- So it is at the first place of a call that names what it may.
 abbrev pub BeginsFit : Type 0
 BeginsFit =
     (p : Setting) (x : Seat) (call : WireCall)
-    → AreNumbered p → misnamed_call p x call ≡ None → CallFits p x → CallFits p (begin p x call)
+    → AreNumbered p → OwnersAreSet p → misnamed_call p x call ≡ None → CallFits p x → CallFits p (begin p x call)
 
 -- After an access it is so again, whatever that found.
 abbrev pub AccessesFit : Type 0
