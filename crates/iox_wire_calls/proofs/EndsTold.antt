@@ -21,9 +21,7 @@ use Rattle.iox_wire_locals.specs.Tables.{Setting, sent_entry}
 use Rattle.iox_wire_laws.specs.WireOwners.Releases.{HasOwnStates}
 use Rattle.iox_wire_laws.specs.WireOwners.SentStates.{HasOpened}
 use Rattle.iox_wire_laws.proofs.WireOwners.SentStates.{sent_requests_have_states}
-use Rattle.iox_wire_calls.specs.EndsTold.{ResponsesAreTold, SendsAreTold, WritesAreTold}
 use Rattle.iox_wire_calls.specs.Places.{IsLoan, PlaceFits}
-use Rattle.iox_wire_calls.proofs.HandleKinds.{loans_are_filled}
 
 module _ (p : Setting) (held : Pools) (s : State) (x : Seat) where
   -- a call is over at its end, or once all was delivered
@@ -77,17 +75,3 @@ module _ (p : Setting) (held : Pools) (s : State) (x : Seat) where
           at_end States (λ ending at. none_sent ending (subst (PlaceFits p x) at fits))
           (λ d last count at request. sent_requests_have_states p x s.request_state d last count (subst (HasOpened s.request_state) at opened) request
           ((subst (PlaceFits p x) at fits).2 request)) (endings.Sends e copied count)
-
-pub writes_are_told : WritesAreTold
-writes_are_told p held s x e words fits has is =
-    loans_are_filled (p.port e.port).role e.kind (fits.handles e has).1 (written p held s x fits.place e words is)
-
-pub sends_are_told : SendsAreTold
-sends_are_told p held s x e copied count fits opened is low =
-    λ request. (low request, states p held s x fits.place opened e copied count is request)
-
-pub responses_are_told : ResponsesAreTold
-responses_are_told p held s x v w slot header fits client is = (
-  λ role. received p held s x fits.place v w slot header is role,
-  λ server. absurd (true≢false (sym client ∙ server)),
-)

@@ -114,7 +114,7 @@ lanes_freed port lane e lanes = by_port (port == e.port) refl
 module _ (p : Setting) (held : Pools) (s : State) (x : Seat) (ending : Ending) (fits : CallFits p x) (over_now : CallIsOver p held s x ending)
     (all : AllLanesAreCounted p x) where
   -- the message of the call is that of its end
-  ended_message : (local : Local) → ending_at local ≡ Some ending → message_at local ≡ message_ended ending
+  pub ended_message : (local : Local) → ending_at local ≡ Some ending → message_at local ≡ message_ended ending
   ended_message (Ends k) is = ap message_ended (some-is k ending is)
   ended_message (SendEnds d last count) is = ap message_ended (some-is (endings.Sends d.loan d.copied count) ending is)
   ended_message local is = none-some ending is

@@ -11,3 +11,5 @@ pub mod LaneSlots
 pub mod LaneSteps
 pub mod LaneBegins
 pub mod LaneEnds
+pub mod LanesTell
+pub mod EndsKnown

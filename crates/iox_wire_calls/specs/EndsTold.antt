@@ -1,45 +1,59 @@
--- What ends of calls are told by what is so of each place: whatever the headers of requests say, and
--- but for the lanes of requests.
-use Rattle.std.specs.Prelude.{◌≡◌, ◌<◌, ℕ, Bool, true, List, Some}
-use Rattle.iox_model.specs.declared.way.Way.{Way}
-use Rattle.iox_model.specs.Handles.{is_request_loan}
-use Rattle.iox_model.specs.Peers.{lanes_of}
+-- What the end of a call is told, but for the header of a request that it received: that follows
+-- from what is so of each place, and from the lanes of clients.
+use Rattle.std.specs.Prelude.{◌≡◌, ℕ, true, false, Some}
+use Rattle.iox_model.specs.declared.kind.Kind.TheVariants.{PendingResponse}
+use Rattle.iox_model.specs.Handles.{same_kind}
+use Rattle.iox_model.specs.Peers.{port_at}
 use Rattle.iox_model.specs.Settings.{is_client}
-use Rattle.iox_model.specs.States.{State}
+use Rattle.iox_model.specs.States.{Port, State}
 use Rattle.iox_wire_moments.specs.MomentsOf.{Pools}
-use Rattle.iox_wire_locals.specs.declared.local.Ending.TheVariants.{Fills, Receives, Sends}
-use Rattle.iox_wire_locals.specs.declared.local.Visit.{Visit}
+use Rattle.iox_wire_locals.specs.declared.local.Ending.{Ending}
+use Rattle.iox_wire_locals.specs.declared.local.Ending.TheVariants as endings
+use Rattle.iox_wire_locals.specs.declared.local.Local.TheVariants.{Idle}
 use Rattle.iox_wire_locals.specs.declared.seat.Seat.{Seat}
 use Rattle.iox_wire_locals.specs.declared.table.Entry.{Entry}
-use Rattle.iox_wire_locals.specs.Steps.{ending_at}
+use Rattle.iox_wire_locals.specs.Knowing.{Knows}
+use Rattle.iox_wire_locals.specs.Known.{known}
+use Rattle.iox_wire_locals.specs.NewLoans.{lane_in, request_in}
 use Rattle.iox_wire_locals.specs.Tables.{Setting}
-use Rattle.iox_wire_laws.specs.WireOwners.SentStates.{HasOpened}
+use Rattle.iox_wire_laws.specs.WireKeeping.Readiness.{LanesFit}
+use Rattle.iox_wire_laws.specs.WireShows.OwnedCalls.{AsksOn}
+use Rattle.iox_wire_laws.specs.WireOwners.SentStates.{HasOpened, OpensElsewhere}
 use Rattle.iox_wire_laws.specs.WireHolding.SlotsKnown.{HasEntry}
-use Rattle.iox_wire_steps.specs.Over.{EndIsTold}
+use Rattle.iox_wire_stands.specs.Nodes.{NodeStands}
+use Rattle.iox_wire_stands.specs.Stands.{AreNumbered}
+use Rattle.iox_wire_steps.specs.Over.{CallIsOver, EndIsTold}
+use Rattle.iox_wire_calls.specs.Lanes.{AllLanesAreCounted}
 use Rattle.iox_wire_calls.specs.Places.{CallFits}
 
--- The end of a write of a handle is told that it is a filled loan.
-abbrev pub WritesAreTold : Type 0
-WritesAreTold =
-    (p : Setting) (held : Pools) (s : State) (x : Seat) (e : Entry) (words : List ℕ)
-    → CallFits p x → HasEntry x e → ending_at x.local ≡ Some (Fills e words)
-    → EndIsTold p held s x (Fills e words)
+-- the header of a request that a call received tells what it is
+abbrev pub HeaderIsTold : Setting → Pools → Ending → Type 0
+HeaderIsTold p held (endings.Receives v w slot header) =
+    is_client v.role ≡ false
+    → (lane_in v w header ≡ (held w.sender slot).lane)
+    × (request_in v header ≡ (held w.sender slot).request) × AsksOn p v w header
+HeaderIsTold p held ending = Unit {0}
 
--- The end of a send is told that the states of a request name no other one, where its lane is one
--- of its client's.
-abbrev pub SendsAreTold : Type 0
-SendsAreTold =
-    (p : Setting) (held : Pools) (s : State) (x : Seat) (e : Entry) (copied : Bool) (count : ℕ)
-    → CallFits p x → HasOpened s.request_state x.local
-    → ending_at x.local ≡ Some (Sends e copied count)
-    → (is_request_loan e.kind ≡ true → e.lane < lanes_of s.fixed e.port)
-    → EndIsTold p held s x (Sends e copied count)
+-- That header alone is to be told: what was written is a filled loan, a response answers the
+-- request, and a request that was sent is on a lane of its client, with states that name no other.
+abbrev pub EndsAreTold : Type 0
+EndsAreTold =
+    (p : Setting) (held : Pools) (s : State) (x : Seat) (ending : Ending)
+    → AreNumbered p → Knows p x s.fixed held → CallIsOver p held s x ending
+    → HasOpened s.request_state x.local → CallFits p x → AllLanesAreCounted p x
+    → HeaderIsTold p held ending → EndIsTold p held s x ending
 
--- The end of the receive of a response is told that it answers the request.
-abbrev pub ResponsesAreTold : Type 0
-ResponsesAreTold =
-    (p : Setting) (held : Pools) (s : State) (x : Seat) (v : Visit) (w : Way) (slot : ℕ)
-    (header : List ℕ)
-    → CallFits p x → is_client v.role ≡ true
-    → ending_at x.local ≡ Some (Receives v w slot header)
-    → EndIsTold p held s x (Receives v w slot header)
+-- A send opens no state on the lane of another pending response.
+abbrev pub SendsOpenElsewhere : Type 0
+SendsOpenElsewhere =
+    (p : Setting) (held : Pools) (s : State) (x : Seat) (e : Entry)
+    → NodeStands p held s x → CallFits p x → AllLanesAreCounted p x
+    → HasEntry x e → same_kind e.kind PendingResponse ≡ true → OpensElsewhere x.local e
+
+-- At rest the free lanes of a client are those of no handle.
+abbrev pub LanesFitAtRest : Type 0
+LanesFitAtRest =
+    (p : Setting) (x : Seat) (n : ℕ) (q : Port)
+    → AreNumbered p → AllLanesAreCounted p x → x.local ≡ Idle
+    → port_at (known p x) n ≡ Some q → p.layout.owner q.number ≡ x.node
+    → is_client q.role ≡ true → LanesFit p x q

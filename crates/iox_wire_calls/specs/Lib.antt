@@ -1,6 +1,6 @@
 -- In reading order: what is so of each place of a call, that it stays so, and what ends are told by it.
 pub mod Places
 pub mod PlaceLaws
-pub mod EndsTold
 pub mod Lanes
 pub mod LaneLaws
+pub mod EndsTold

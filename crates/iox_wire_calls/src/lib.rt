@@ -2,7 +2,7 @@
 //! The functions have nothing to do: each is there for its contract.
 #![tactic(auto)]
 
-ghost use Rattle.iox_wire_calls.specs.EndsTold.{ResponsesAreTold, SendsAreTold, WritesAreTold};
+ghost use Rattle.iox_wire_calls.specs.EndsTold.{EndsAreTold, LanesFitAtRest, SendsOpenElsewhere};
 ghost use Rattle.iox_wire_calls.specs.LaneLaws.{AccessesKeepLanes, BeginsKeepLanes, EndsKeepLanes};
 ghost use Rattle.iox_wire_calls.specs.LaneLaws.{FreeSlotsHaveLanes};
 ghost use Rattle.iox_wire_calls.specs.PlaceLaws.{AccessesFit, BeginsFit, EndsFit};
@@ -14,12 +14,9 @@ pub fn places_stay_fit()
     ensures ends { EndsFit }
 {}
 
-/// The place of a call that is over tells its end what a write, a send and the receive of a
-/// response ask, but for the lane of a request.
-pub fn places_tell_ends()
-    ensures writes { WritesAreTold }
-    ensures sends { SendsAreTold }
-    ensures responses { ResponsesAreTold }
+/// What the end of a call is told follows, but for the header of a request that it received.
+pub fn ends_are_told()
+    ensures { EndsAreTold }
 {}
 
 /// A client with a free slot has a free lane.
@@ -32,4 +29,10 @@ pub fn lanes_stay_counted()
     ensures begins { BeginsKeepLanes }
     ensures accesses { AccessesKeepLanes }
     ensures ends { EndsKeepLanes }
+{}
+
+/// No two requests of a client are open on one lane, and at rest all others are free.
+pub fn lanes_are_apart()
+    ensures opens { SendsOpenElsewhere }
+    ensures rests { LanesFitAtRest }
 {}
