@@ -15,7 +15,6 @@ use Rattle.iox_wire_locals.specs.declared.local.Ending.TheVariants as endings
 use Rattle.iox_wire_locals.specs.declared.local.Local.TheVariants.{Ends, Idle}
 use Rattle.iox_wire_locals.specs.declared.seat.Seat.{Seat}
 use Rattle.iox_wire_locals.specs.declared.table.Entry.{Entry}
-use Rattle.iox_wire_locals.specs.Knowing.{Knows}
 use Rattle.iox_wire_locals.specs.Known.{free_lanes, known, told_handle}
 use Rattle.iox_wire_locals.specs.Tables.{Setting}
 use Rattle.iox_wire_laws.specs.WireKeeping.Readiness.{LanesFit}
@@ -37,7 +36,7 @@ use Rattle.iox_wire_calls.proofs.LanesTell.{in_table, lane_of_client, lanes_are_
 
 -- ---- ends
 
-module _ (p : Setting) (held : Pools) (s : State) (x : Seat) (numbered : AreNumbered p) (knows : Knows p x s.fixed held) (fits : CallFits p x) (all : AllLanesAreCounted p x) where
+module _ (p : Setting) (held : Pools) (s : State) (x : Seat) (numbered : AreNumbered p) (ports : s.fixed.ports ≡ map p.port p.layout.sizes.ports) (fits : CallFits p x) (all : AllLanesAreCounted p x) where
   module _ (e : Entry) (copied : Bool) (count : ℕ) (over : CallIsOver p held s x (endings.Sends e copied count)) (request : is_request_loan e.kind ≡ true) where
     abbrev Suited : Ending → Type 0
     Suited (endings.Sends k made number) = is_request_loan k.kind ≡ true → SuitsPort p x k.port k.kind
@@ -74,7 +73,7 @@ module _ (p : Setting) (held : Pools) (s : State) (x : Seat) (numbered : AreNumb
 
     on_lane : e.lane < lanes_of s.fixed e.port
     on_lane =
-        subst (λ k. e.lane < k) (sym (lanes_are_the_pools p x s.fixed held e.port numbered knows suits.0.0))
+        subst (λ k. e.lane < k) (sym (lanes_are_the_pools p s.fixed e.port numbered ports suits.0.0))
         (low p x all e.port suits.0 (lane_of_client (p.port e.port).role e.kind suits.1 (request_has e.kind request)) e.lane counted)
 
   told : (ending : Ending) → CallIsOver p held s x ending → HasOpened s.request_state x.local → HeaderIsTold p held ending → EndIsTold p held s x ending
@@ -86,7 +85,7 @@ module _ (p : Setting) (held : Pools) (s : State) (x : Seat) (numbered : AreNumb
   told ending over opened header = tt
 
 pub ends_are_told : EndsAreTold
-ends_are_told p held s x ending numbered knows over opened fits all header = told p held s x numbered knows fits all ending over opened header
+ends_are_told p held s x ending numbered ports over opened fits all header = told p held s x numbered ports fits all ending over opened header
 
 -- ---- at rest
 

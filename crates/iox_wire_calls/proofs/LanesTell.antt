@@ -22,7 +22,6 @@ use Rattle.iox_wire_locals.specs.declared.local.Local.{Local}
 use Rattle.iox_wire_locals.specs.declared.local.Local.TheVariants.{SendOpens}
 use Rattle.iox_wire_locals.specs.declared.seat.Seat.{Seat}
 use Rattle.iox_wire_locals.specs.declared.table.Entry.{Entry}
-use Rattle.iox_wire_locals.specs.Knowing.{Knows}
 use Rattle.iox_wire_locals.specs.Known.{free_lanes}
 use Rattle.iox_wire_locals.specs.Tables.{Setting, entry_at, without_entry}
 use Rattle.iox_wire_laws.specs.WireOwners.SentStates.{OpensElsewhere}
@@ -78,10 +77,10 @@ port_there p port (k ∷ ks) numbered has =
     by_number true is same there later = rw (same ∙ is) (ap (λ i. Some (p.port i)) (eqb-true k port is))
     by_number false is same there later = rw (same ∙ is) (later there)
 
-pub lanes_are_the_pools : (p : Setting) (x : Seat) (f : Fixed) (held : Pools) (port : ℕ) → AreNumbered p → Knows p x f held → has_number port p.layout.sizes.ports ≡ true
-    → lanes_of f port ≡ (p.port port).pool
-lanes_are_the_pools p x f held port numbered knows has =
-    ap (λ (ports : List Port). option_map_or (λ (q : Port). q.pool) (find (λ (q : Port). q.number == port) ports) 0) knows.ports
+pub lanes_are_the_pools : (p : Setting) (f : Fixed) (port : ℕ) → AreNumbered p → f.ports ≡ map p.port p.layout.sizes.ports
+    → has_number port p.layout.sizes.ports ≡ true → lanes_of f port ≡ (p.port port).pool
+lanes_are_the_pools p f port numbered ports has =
+    ap (λ (qs : List Port). option_map_or (λ (q : Port). q.pool) (find (λ (q : Port). q.number == port) qs) 0) ports
     ∙ ap (λ (q : Option Port). option_map_or (λ (r : Port). r.pool) q 0) (port_there p port p.layout.sizes.ports numbered has)
 
 -- ---- counts

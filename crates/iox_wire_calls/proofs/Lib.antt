@@ -13,3 +13,7 @@ pub mod LaneBegins
 pub mod LaneEnds
 pub mod LanesTell
 pub mod EndsKnown
+pub mod Relying
+pub mod WordsHeard
+pub mod NextPlaces
+pub mod StepsTold

@@ -1,6 +1,6 @@
 -- What the end of a call is told, but for the header of a request that it received: that follows
 -- from what is so of each place, and from the lanes of clients.
-use Rattle.std.specs.Prelude.{◌≡◌, ℕ, true, false, Some}
+use Rattle.std.specs.Prelude.{◌≡◌, ℕ, true, false, Some, map}
 use Rattle.iox_model.specs.declared.kind.Kind.TheVariants.{PendingResponse}
 use Rattle.iox_model.specs.Handles.{same_kind}
 use Rattle.iox_model.specs.Peers.{port_at}
@@ -12,7 +12,6 @@ use Rattle.iox_wire_locals.specs.declared.local.Ending.TheVariants as endings
 use Rattle.iox_wire_locals.specs.declared.local.Local.TheVariants.{Idle}
 use Rattle.iox_wire_locals.specs.declared.seat.Seat.{Seat}
 use Rattle.iox_wire_locals.specs.declared.table.Entry.{Entry}
-use Rattle.iox_wire_locals.specs.Knowing.{Knows}
 use Rattle.iox_wire_locals.specs.Known.{known}
 use Rattle.iox_wire_locals.specs.NewLoans.{lane_in, request_in}
 use Rattle.iox_wire_locals.specs.Tables.{Setting}
@@ -39,8 +38,8 @@ HeaderIsTold p held ending = Unit {0}
 abbrev pub EndsAreTold : Type 0
 EndsAreTold =
     (p : Setting) (held : Pools) (s : State) (x : Seat) (ending : Ending)
-    → AreNumbered p → Knows p x s.fixed held → CallIsOver p held s x ending
-    → HasOpened s.request_state x.local → CallFits p x → AllLanesAreCounted p x
+    → AreNumbered p → s.fixed.ports ≡ map p.port p.layout.sizes.ports
+    → CallIsOver p held s x ending → HasOpened s.request_state x.local → CallFits p x → AllLanesAreCounted p x
     → HeaderIsTold p held ending → EndIsTold p held s x ending
 
 -- A send opens no state on the lane of another pending response.

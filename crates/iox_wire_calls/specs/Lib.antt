@@ -4,3 +4,4 @@ pub mod PlaceLaws
 pub mod Lanes
 pub mod LaneLaws
 pub mod EndsTold
+pub mod StepsTold

@@ -5,6 +5,7 @@
 ghost use Rattle.iox_wire_calls.specs.EndsTold.{EndsAreTold, LanesFitAtRest, SendsOpenElsewhere};
 ghost use Rattle.iox_wire_calls.specs.LaneLaws.{AccessesKeepLanes, BeginsKeepLanes, EndsKeepLanes};
 ghost use Rattle.iox_wire_calls.specs.LaneLaws.{FreeSlotsHaveLanes};
+ghost use Rattle.iox_wire_calls.specs.StepsTold.{StepsAreTold};
 ghost use Rattle.iox_wire_calls.specs.PlaceLaws.{AccessesFit, BeginsFit, EndsFit};
 
 /// What is so of a call's place is so at its first one, after each access, and after its end.
@@ -35,4 +36,10 @@ pub fn lanes_stay_counted()
 pub fn lanes_are_apart()
     ensures opens { SendsOpenElsewhere }
     ensures rests { LanesFitAtRest }
+{}
+
+/// A step of a node with a call is told what is so, but for words of messages and the serial of a
+/// new loan.
+pub fn steps_are_told()
+    ensures { StepsAreTold }
 {}
