@@ -17,3 +17,5 @@ pub mod Relying
 pub mod WordsHeard
 pub mod NextPlaces
 pub mod StepsTold
+pub mod CallsShown
+pub mod CallsStand

@@ -118,7 +118,7 @@ module _ (p : Setting) (words words' : List ℕ) (players : ℕ → Player) (r :
       elsewhere = λ e has pending. sends_open_elsewhere p held s x e mine fits all has pending;
     }
 
-    lanes : AllLanesAreCounted p y
+    pub lanes : AllLanesAreCounted p y
     lanes =
         accesses_keep_lanes p held s x seen fits mine
         (free_slots_have_lanes p held (word_of words) stands.contents (seats_of p players) r.last n stands.shows living mine all) all
@@ -149,7 +149,7 @@ module _ (p : Setting) (words words' : List ℕ) (players : ℕ → Player) (r :
             subst (λ (q : Seat). HasOpened t.request_state q.local) (sym none.seat) (subst (λ (u : State). HasOpened u.request_state x.local) state mine.opened),
           )
 
-      over : CallIsOver p new t y ending × HasOpened t.request_state y.local
+      pub over : CallIsOver p new t y ending × HasOpened t.request_state y.local
       over = by_place (ending_at x.local) refl
 
       end_told : EndIsTold p new t y ending

@@ -5,3 +5,4 @@ pub mod Lanes
 pub mod LaneLaws
 pub mod EndsTold
 pub mod StepsTold
+pub mod CallsStand

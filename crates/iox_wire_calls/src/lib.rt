@@ -2,6 +2,8 @@
 //! The functions have nothing to do: each is there for its contract.
 #![tactic(auto)]
 
+ghost use Rattle.iox_wire_calls.specs.CallsStand.{BegunCallsStand, CallsStandAtFirst, DeathsLeaveCalls};
+ghost use Rattle.iox_wire_calls.specs.CallsStand.{SteppedCallsStand};
 ghost use Rattle.iox_wire_calls.specs.EndsTold.{EndsAreTold, LanesFitAtRest, SendsOpenElsewhere};
 ghost use Rattle.iox_wire_calls.specs.LaneLaws.{AccessesKeepLanes, BeginsKeepLanes, EndsKeepLanes};
 ghost use Rattle.iox_wire_calls.specs.LaneLaws.{FreeSlotsHaveLanes};
@@ -42,4 +44,13 @@ pub fn lanes_are_apart()
 /// new loan.
 pub fn steps_are_told()
     ensures { StepsAreTold }
+{}
+
+/// Calls stand as a wire opens, after each begin and each step, and after a death; so does all
+/// else.
+pub fn calls_stand()
+    ensures first { CallsStandAtFirst }
+    ensures begun { BegunCallsStand }
+    ensures stepped { SteppedCallsStand }
+    ensures dead { DeathsLeaveCalls }
 {}

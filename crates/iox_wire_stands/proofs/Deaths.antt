@@ -39,7 +39,7 @@ gone_now n (m ∷ ms) lives = by_case (m.number == n) refl (gone_now n ms)
     by_case true is later = none-some NodeIsDead (sym (rw (is, is) at lives))
     by_case false is later = later (rw (is, is) at lives)
 
-lived : (w u : World) (n k : ℕ) → IsBeat w (Dies n) u → not_living u.state k ≡ None → not_living w.state k ≡ None
+pub lived : (w u : World) (n k : ℕ) → IsBeat w (Dies n) u → not_living u.state k ≡ None → not_living w.state k ≡ None
 lived w u n k beat lives = at (not_living w.state k) refl
   where
     at : (o : Option Refusal) → not_living w.state k ≡ o → o ≡ None

@@ -83,13 +83,13 @@ said_then n k payload (Some m) reply = reply_said n k payload reply
 -- ---- a release that goes on
 
 -- any other place has put nothing aside
-abbrev IsOther : Local → Type 0
+abbrev pub IsOther : Local → Type 0
 IsOther (ReleaseLooks e) = ⊥
 IsOther (ReleaseExchanges e old) = ⊥
 IsOther local = Unit {0}
 
 -- and these two have
-abbrev IsLeft : Local → Type 0
+abbrev pub IsLeft : Local → Type 0
 IsLeft (ReleaseLooks e) = Unit {0}
 IsLeft (ReleaseExchanges e old) = Unit {0}
 IsLeft local = ⊥
@@ -97,25 +97,25 @@ IsLeft local = ⊥
 ending_none : (ending : Ending) → LeavesNothing (message_at (Ends ending))
 ending_none ending = ended_leaves (Ends ending) ending refl
 
-leaving_none : (local : Local) → IsOther local → LeavesNothing (message_at local)
+pub leaving_none : (local : Local) → IsOther local → LeavesNothing (message_at local)
 leaving_none (ReleaseLooks e) other = other
 leaving_none (ReleaseExchanges e old) other = other
 leaving_none (Ends ending) other = ending_none ending
 leaving_none local other = tt
 
 -- a release that gave its message back is one of what was received
-abbrev IsReceiving : Local → Type 0
+abbrev pub IsReceiving : Local → Type 0
 IsReceiving (ReleaseLooks e) = is_received e.kind ≡ true
 IsReceiving (ReleaseExchanges e old) = is_received e.kind ≡ true
 IsReceiving local = ⊥
 
-record GoesAlike (p : Setting) (held : Pools) (seen : ℕ) (x : Seat) : Type 0 where
+pub record GoesAlike (p : Setting) (held : Pools) (seen : ℕ) (x : Seat) : Type 0 where
   pub next_is : next p (shown p x) seen ≡ shown p (next p x seen)
   pub tells_is : tells p (shown p x) seen ≡ tells p x seen
   pub moment_is : moment_at p held (shown p x).local seen ≡ moment_at p held x.local seen
   pub leaves : LeavesNothing (message_at (shown p x).local) → ⊥
 
-goes_alike : (p : Setting) (held : Pools) (seen : ℕ) (x : Seat) (local : Local) → x.local ≡ local → IsReceiving local → GoesAlike p held seen x
+pub goes_alike : (p : Setting) (held : Pools) (seen : ℕ) (x : Seat) (local : Local) → x.local ≡ local → IsReceiving local → GoesAlike p held seen x
 goes_alike p held seen x (ReleaseLooks e) is received =
     subst (GoesAlike p held seen) (λ i. record x { local = sym is i })
     (let a = releases_go_on_alike p x e 0 seen received in record { next_is = a.0; tells_is = a.1; moment_is = refl; leaves = λ no_more. no_more })
@@ -155,7 +155,7 @@ module _ (p : Setting) (held : Pools) (word : ℕ → ℕ) (c : WireContents) (s
           absurd (beyond (p.port e.port).pool e.slot ((stands.slots.pools e.port home).within e.slot used)
           (subst (λ i. (p.port i).pool ≤ e.slot) own.1 far))
 
-  receiving : (local : Local) → PlaceStands p w.state.fixed q local → (LeavesNothing (message_at local) → ⊥) → IsReceiving local
+  pub receiving : (local : Local) → PlaceStands p w.state.fixed q local → (LeavesNothing (message_at local) → ⊥) → IsReceiving local
   receiving (ReleaseLooks e) place leaves = aside_received e place.0 place.1
   receiving (ReleaseExchanges e old) place leaves = aside_received e place.0 place.1
   receiving local place leaves = absurd (leaves (leaving_none local tt))
@@ -248,17 +248,17 @@ module _ (p : Setting) (words words' : List ℕ) (players : ℕ → Player) (r :
         by_part (inr aside) = absurd (g.leaves aside.0)
 
     -- one or the other
-    left_or_not : (local : Local) → IsOther local ⊎ IsLeft local
+    pub left_or_not : (local : Local) → IsOther local ⊎ IsLeft local
     left_or_not (ReleaseLooks e) = inr tt
     left_or_not (ReleaseExchanges e old) = inr tt
     left_or_not local = inl tt
 
-    not_plain : (local : Local) → IsLeft local → LeavesNothing (message_at (shown_at p x local).local) → ⊥
+    pub not_plain : (local : Local) → IsLeft local → LeavesNothing (message_at (shown_at p x local).local) → ⊥
     not_plain (ReleaseLooks e) left leaves = leaves
     not_plain (ReleaseExchanges e old) left leaves = leaves
     not_plain local left leaves = left
 
-    as_received : (local : Local) → IsLeft local → IsReceiving (shown_at p x local).local → IsReceiving local
+    pub as_received : (local : Local) → IsLeft local → IsReceiving (shown_at p x local).local → IsReceiving local
     as_received (ReleaseLooks e) left received = received
     as_received (ReleaseExchanges e old) left received = received
     as_received local left received = absurd left
