@@ -256,6 +256,7 @@ stepped_calls_stand p words words' players r n payload stands calls living busy 
       kept.0,
       kept.1,
       kept.2,
+      kept.3,
       by_node p players (player_next p (players n) (seen_by (program_access p.layout (program_of p z.local)) (word_of words))) n r.last.state kept.0.last.state
           (λ k. not_living-members kept.0.last.state r.last.state k
           (members_stay n payload _ _ r.last kept.0.last kept.1.woven)) calls
@@ -309,6 +310,8 @@ begun_calls_stand p words players r n call stands owners calls may free =
       kept.0,
       kept.1,
       kept.2,
+      kept.3,
+      kept.4,
       by_node p players (record { seat = begin p (players n).seat call; said = (players n).said ++ Asked call ∷ [] }) n r.last.state kept.0.last.state
           (λ k. ap (λ (v : World). not_living v.state k) kept.1.beat.2) calls (begun_stands p words players r n call stands owners calls may free),
     )

@@ -15,11 +15,13 @@ use Rattle.iox_wire_locals.specs.StateMoments.{moment_at}
 use Rattle.iox_wire_locals.specs.Steps.{accessed, advance, tells}
 use Rattle.iox_wire_locals.specs.Tables.{Setting}
 use Rattle.iox_wire_laws.specs.WireKeeping.Readiness.{choice_for}
+use Rattle.iox_wire_laws.specs.WireHolding.Aside.{shown}
+use Rattle.iox_wire_laws.specs.WireHolding.Holding.{held_at}
 use Rattle.iox_wire_stands.specs.BeginLaws.{MayBegin}
 use Rattle.iox_wire_stands.specs.Openings.{opened_seat}
 use Rattle.iox_wire_stands.specs.Runs.{Asked, GoesOnBy, Run}
 use Rattle.iox_wire_stands.specs.Stands.{Player, Stands, seats_of, word_of}
-use Rattle.iox_wire_steps.specs.WholeSteps.{GoesOnWith, player_next, step_beats}
+use Rattle.iox_wire_steps.specs.WholeSteps.{GoesOnWith, HoldsNext, player_next, step_beats}
 use Rattle.iox_wire_calls.specs.Lanes.{AllLanesAreCounted}
 use Rattle.iox_wire_calls.specs.Places.{CallFits, OwnersAreSet}
 use Rattle.iox_wire_calls.specs.StepsTold.{MessageIsTold, PayloadFits, PushesBelow}
@@ -47,11 +49,13 @@ BegunCallsStand =
     → let x = (players n).seat in
     MayBegin p stands.held r.last.state x call → begin_refusal r.last n call ≡ None
     → (next : Run) × GoesOnBy r (Begins n call (choice_for p x call)) next
-    × Stands p words
+    × (later : Stands p words
     (put_at players n (record {
       seat = begin p x call;
       said = (players n).said ++ Asked call ∷ [];
-    })) next
+    })) next)
+    × (later.held ≡ held_at p stands.held (begin p x call).local)
+    × (later.contents ≡ stands.contents)
     × CallsStand p
     (put_at players n (record {
       seat = begin p x call;
@@ -76,7 +80,8 @@ SteppedCallsStand =
     → (after : Run)
     × GoesOnWith r
     (step_beats n payload (moment_at p stands.held x.local seen) (tells p x seen)) after
-    × Stands p words' (put_at players n (player_next p (players n) seen)) after
+    × (later : Stands p words' (put_at players n (player_next p (players n) seen)) after)
+    × HoldsNext p (shown p x) seen payload stands.held stands.contents later.held later.contents
     × CallsStand p (put_at players n (player_next p (players n) seen)) after.last.state
 
 -- The death of a node leaves calls as they stand.

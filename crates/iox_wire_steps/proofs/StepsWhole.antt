@@ -40,10 +40,10 @@ use Rattle.iox_wire_stands.proofs.Follows.{accesses_follow}
 use Rattle.iox_wire_stands.proofs.Runs.{last_empty}
 use Rattle.iox_wire_stands.proofs.StepsAround.{Whole}
 use Rattle.iox_wire_stands.proofs.StepsKept.{leaves_nothing, shown_same}
-use Rattle.iox_wire_steps.specs.WholeSteps.{GoesOnWith, StepIsTold, WholeStepsKeep, said_with, player_next, reply_beats, step_beats}
+use Rattle.iox_wire_steps.specs.WholeSteps.{GoesOnWith, HoldsNext, StepIsTold, WholeStepsKeep, said_with, player_next, reply_beats, step_beats}
 use Rattle.iox_wire_steps.proofs.EndsStand.{ended_leaves}
 use Rattle.iox_wire_steps.proofs.Homes as homes
-use Rattle.iox_wire_steps.proofs.LastSteps.{LedTo}
+use Rattle.iox_wire_steps.proofs.LastSteps.{Holding, LedTo}
 use Rattle.iox_wire_steps.proofs.SeatSteps.{done}
 
 -- ---- runs
@@ -183,9 +183,13 @@ module _ (p : Setting) (words words' : List ℕ) (players : ℕ → Player) (r :
     nodes = stands.nodes;
   }
 
+  -- what slots hold then
+  abbrev H : ℕ → Holding
+  H seen = HoldsNext p (shown p x) seen payload stands.held stands.contents
+
   abbrev Result : Type 0
   Result =
-      LedTo p (word_of words') r.last (step_beats n payload (moment_at p stands.held x.local (seen_at x)) (tells p x (seen_at x)))
+      LedTo (H (seen_at x)) p (word_of words') r.last (step_beats n payload (moment_at p stands.held x.local (seen_at x)) (tells p x (seen_at x)))
       (put_at seats n (shown p (next p x (seen_at x))))
 
   module _ (told : StepIsTold p stands.held r.last.state (shown p x) (seen_at x) payload)
@@ -200,9 +204,9 @@ module _ (p : Setting) (words words' : List ℕ) (players : ℕ → Player) (r :
     abbrev Both : Seat → ℕ → Type 0
     Both q seen =
         (ReturnsNothing q.local (message_at (advance p (accessed q) q.local seen).local)
-        × LedTo p (word_of words') r.last (step_beats n payload (moment_at p stands.held q.local seen) (tells p q seen)) (put_at seats n (next p q seen)))
+        × LedTo (H seen) p (word_of words') r.last (step_beats n payload (moment_at p stands.held q.local seen) (tells p q seen)) (put_at seats n (next p q seen)))
         ⊎ (LeavesNothing (message_at q.local)
-        × LedTo p (word_of words') r.last (step_beats n payload (moment_at p stands.held q.local seen) (tells p q seen)) (put_at seats n (shown p (next p q seen))))
+        × LedTo (H seen) p (word_of words') r.last (step_beats n payload (moment_at p stands.held q.local seen) (tells p q seen)) (put_at seats n (shown p (next p q seen))))
 
     both : Both (shown p x) (seen_at x)
     both =
@@ -227,7 +231,7 @@ module _ (p : Setting) (words words' : List ℕ) (players : ℕ → Player) (r :
 
         by_part : Both x (seen_at x) → Result
         by_part (inl plain) =
-            subst (λ q. LedTo p (word_of words') r.last (step_beats n payload (moment_at p stands.held x.local (seen_at x)) (tells p x (seen_at x))) (put_at seats n q))
+            subst (λ q. LedTo (H (seen_at x)) p (word_of words') r.last (step_beats n payload (moment_at p stands.held x.local (seen_at x)) (tells p x (seen_at x))) (put_at seats n q))
             (sym (still plain.0 (ending_at going.local))) plain.1
         by_part (inr aside) = aside.1
 
@@ -240,10 +244,10 @@ module _ (p : Setting) (words words' : List ℕ) (players : ℕ → Player) (r :
 
         by_part : Both (shown p x) (seen_at x) → Result
         by_part (inl plain) =
-            subst (λ o. LedTo p (word_of words') r.last (step_beats n payload o (tells p x (seen_at x))) (put_at seats n (shown p (next p x (seen_at x))))) g.moment_is
-            (subst (λ o. LedTo p (word_of words') r.last (step_beats n payload (moment_at p stands.held (shown p x).local (seen_at x)) o)
+            subst (λ o. LedTo (H (seen_at x)) p (word_of words') r.last (step_beats n payload o (tells p x (seen_at x))) (put_at seats n (shown p (next p x (seen_at x))))) g.moment_is
+            (subst (λ o. LedTo (H (seen_at x)) p (word_of words') r.last (step_beats n payload (moment_at p stands.held (shown p x).local (seen_at x)) o)
             (put_at seats n (shown p (next p x (seen_at x))))) g.tells_is
-            (subst (λ q. LedTo p (word_of words') r.last (step_beats n payload (moment_at p stands.held (shown p x).local (seen_at x)) (tells p (shown p x) (seen_at x)))
+            (subst (λ q. LedTo (H (seen_at x)) p (word_of words') r.last (step_beats n payload (moment_at p stands.held (shown p x).local (seen_at x)) (tells p (shown p x) (seen_at x)))
             (put_at seats n q)) g.next_is plain.1))
         by_part (inr aside) = absurd (g.leaves aside.0)
 
@@ -303,7 +307,8 @@ module _ (p : Setting) (words words' : List ℕ) (players : ℕ → Player) (r :
 
     finish : length words' ≡ length words → Result
         → (after : Run) × GoesOnWith r (step_beats n payload (moment_at p stands.held x.local (seen_at x)) (tells p x (seen_at x))) after
-        × Stands p words' (put_at players n (player_next p (players n) (seen_at x))) after
+        × (later : Stands p words' (put_at players n (player_next p (players n) (seen_at x))) after)
+        × HoldsNext p (shown p x) (seen_at x) payload stands.held stands.contents later.held later.contents
     finish len to = (
       record {
         first = r.first;
@@ -329,6 +334,7 @@ module _ (p : Setting) (words words' : List ℕ) (players : ℕ → Player) (r :
             history_more k r.beats beats ∙ ap (λ xs. xs ++ history k beats) (stands.histories k)
             ∙ ap (λ xs. (players k).said ++ xs) (said_then n k payload (moment_at p stands.held x.local (seen_at x)) (tells p x (seen_at x))) ∙ said k;
       },
+      to.5,
     )
 
 pub whole_steps_keep : WholeStepsKeep
