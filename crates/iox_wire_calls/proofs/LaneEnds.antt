@@ -109,15 +109,18 @@ lanes_freed port lane e lanes = by_port (port == e.port) refl
         none_on (how_often lane lanes)
         ∙ ap (λ b. how_often lane lanes + of_test port lane e b) (sym (second-fails (has_own_lane e.kind) (e.port == port) (eqb-flip port e.port is)))
 
+-- the message of a call that is over is that of its end
+pub message_of_end : (ending : Ending) (local : Local) → ending_at local ≡ Some ending → message_at local ≡ message_ended ending
+message_of_end ending (Ends k) is = ap message_ended (some-is k ending is)
+message_of_end ending (SendEnds d last count) is = ap message_ended (some-is (endings.Sends d.loan d.copied count) ending is)
+message_of_end ending local is = none-some ending is
+
 -- ---- the end
 
 module _ (p : Setting) (held : Pools) (s : State) (x : Seat) (ending : Ending) (fits : CallFits p x) (over_now : CallIsOver p held s x ending)
     (all : AllLanesAreCounted p x) where
-  -- the message of the call is that of its end
   pub ended_message : (local : Local) → ending_at local ≡ Some ending → message_at local ≡ message_ended ending
-  ended_message (Ends k) is = ap message_ended (some-is k ending is)
-  ended_message (SendEnds d last count) is = ap message_ended (some-is (endings.Sends d.loan d.copied count) ending is)
-  ended_message local is = none-some ending is
+  ended_message local is = message_of_end ending local is
 
   before : (port lane : ℕ) → IsPortOfSeat p x port → is_client (p.port port).role ≡ true
       → how_often lane (free_lanes x port) + (often port lane (lent_in (message_ended ending)) + often port lane x.table) ≡ (if nat_lt lane (p.port port).pool then 1 else 0)

@@ -19,3 +19,5 @@ pub mod NextPlaces
 pub mod StepsTold
 pub mod CallsShown
 pub mod CallsStand
+pub mod LoanSlots
+pub mod LoanEnds

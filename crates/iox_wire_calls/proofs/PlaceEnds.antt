@@ -82,7 +82,7 @@ module _ (p : Setting) (x : Seat) where
   failed_node e true = refl
   failed_node e false = refl
 
-  settled_node : (ending : Ending) → N (settle.settled p x ending)
+  pub settled_node : (ending : Ending) → N (settle.settled p x ending)
   settled_node (endings.Sends e copied count) = sent_node e copied count
   settled_node (endings.FailsToSend e copied r) = failed_node e copied
   settled_node (endings.Drops e) =

@@ -6,3 +6,4 @@ pub mod LaneLaws
 pub mod EndsTold
 pub mod StepsTold
 pub mod CallsStand
+pub mod LoanSlots

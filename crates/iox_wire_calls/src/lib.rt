@@ -8,6 +8,7 @@ ghost use Rattle.iox_wire_calls.specs.EndsTold.{EndsAreTold, LanesFitAtRest, Sen
 ghost use Rattle.iox_wire_calls.specs.LaneLaws.{AccessesKeepLanes, BeginsKeepLanes, EndsKeepLanes};
 ghost use Rattle.iox_wire_calls.specs.LaneLaws.{FreeSlotsHaveLanes};
 ghost use Rattle.iox_wire_calls.specs.StepsTold.{StepsAreTold};
+ghost use Rattle.iox_wire_calls.specs.LoanSlots.{AccessesKeepLoans, EndsKeepLoanSlots, LoansAreTold};
 ghost use Rattle.iox_wire_calls.specs.PlaceLaws.{AccessesFit, BeginsFit, EndsFit};
 
 /// What is so of a call's place is so at its first one, after each access, and after its end.
@@ -53,4 +54,11 @@ pub fn calls_stand()
     ensures begun { BegunCallsStand }
     ensures stepped { SteppedCallsStand }
     ensures dead { DeathsLeaveCalls }
+{}
+
+/// What slots hold of loans tells a loan in the making, and accesses and ends keep it.
+pub fn loans_stand()
+    ensures told { LoansAreTold }
+    ensures accesses { AccessesKeepLoans }
+    ensures ends { EndsKeepLoanSlots }
 {}
