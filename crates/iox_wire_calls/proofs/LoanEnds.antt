@@ -241,7 +241,7 @@ module _ (p : Setting) (held : Pools) (s : State) (x : Seat) (payload : List ℕ
     now (inr (inr there)) = inl (own_serial there)
 
 pub ends_keep_loan_slots : EndsKeepLoanSlots
-ends_keep_loan_slots p held s x payload ending fits over stands = record {
+ends_keep_loan_slots p held s x payload ending over stands = record {
   loan = tt;
   serials = λ port slot mine low.
       now p held s x payload ending over stands port slot mine (stands.serials port slot (home p held s x payload ending over stands port slot mine) low);

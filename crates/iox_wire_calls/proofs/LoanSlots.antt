@@ -20,6 +20,7 @@ use Rattle.iox_wire_locals.specs.StepLaws.{ReliesOn}
 use Rattle.iox_wire_locals.specs.Steps.{accessed, advance}
 use Rattle.iox_wire_locals.specs.Tables.{Setting}
 use Rattle.iox_wire_laws.specs.WireKeeping.UsedSlots.{slot_of_loan, slots_in_call}
+use Rattle.iox_wire_laws.specs.WireKeeping.OwnParts.{KeepsOwn}
 use Rattle.iox_wire_laws.specs.WireHolding.FarSlots.{IsInPool}
 use Rattle.iox_wire_laws.specs.WireHolding.Holding.{held_after, held_from, held_with}
 use Rattle.iox_wire_laws.specs.WireHolding.PickedSlots.{IsNextLoan}
@@ -116,95 +117,105 @@ module _ (p : Setting) (x : Seat) (seen : ℕ) where
       ap (loans_of port) desks ∙ desks_stay loans_told 0 (accessed x) o.port port (picks o slot free) (record { port = λ d. refl; told = λ d. refl })
   loans_same port (sends_loan o slot desks still before copies message) = ap (loans_of port) desks
 
-  module _ (held : Pools) (stands : LoansStand p held x) where
-    abbrev HY : Pools → Type 0
-    HY new = LoansStand p new y
+-- ---- what slots hold
 
-    -- the same slots hold the same
-    pub same_slots : (new : Pools) → new ≡ held → ((port : ℕ) → loans_at (advance p (accessed x) x.local seen) port ≡ loans_at x port)
-        → ((port : ℕ) → lent_slots port (message_at (advance p (accessed x) x.local seen).local) ≡ lent_slots port (message_at x.local))
-        → HoldsLoan p held (message_at (advance p (accessed x) x.local seen).local) → LoansStand p new (advance p (accessed x) x.local seen)
-    same_slots new same loans slots loan = subst HY (sym same) (record {
-      loan = loan;
-      serials = λ port slot mine low. by_part port slot
-          (stands.serials port slot (mine.0, mine.1 ∙ (steps_keep_own p x seen).node) low);
-    })
-      where
-        by_part : (port slot : ℕ) → HoldsSerial held x port slot → HoldsSerial held (advance p (accessed x) x.local seen) port slot
-        by_part port slot (inl less) = inl (subst (λ k. (held port slot).serial < k) (sym (loans port)) less)
-        by_part port slot (inr (inl none)) = inr (inl none)
-        by_part port slot (inr (inr there)) =
-            inr (inr (ap (has_number slot) (slots_by_message port y.local ∙ slots port ∙ sym (slots_by_message port x.local)) ∙ there))
+module _ (p : Setting) (x y : Seat) (own : KeepsOwn x y) (held : Pools) (stands : LoansStand p held x) where
+  abbrev HY : Pools → Type 0
+  HY new = LoansStand p new y
 
-    gone : (new : Pools) (m : CallMessage) → new ≡ held → ((port : ℕ) → loans_at (advance p (accessed x) x.local seen) port ≡ loans_at x port)
-        → message_at (advance p (accessed x) x.local seen).local ≡ m → NoLoan m → NoLoan (message_at x.local) → LoansStand p new (advance p (accessed x) x.local seen)
-    gone new m same loans is none before =
-        same_slots new same loans (λ port. ap (lent_slots port) is ∙ none_lent port m none ∙ sym (none_lent port (message_at x.local) before))
-        (subst (HoldsLoan p held) (sym is) (nothing m none))
-      where
-        nothing : (m : CallMessage) → NoLoan m → HoldsLoan p held m
-        nothing (Lent o slot) none = absurd none
-        nothing m none = tt
+  -- the same slots hold the same
+  pub same_slots : (new : Pools) → new ≡ held → ((port : ℕ) → loans_at y port ≡ loans_at x port)
+      → ((port : ℕ) → lent_slots port (message_at y.local) ≡ lent_slots port (message_at x.local))
+      → HoldsLoan p held (message_at y.local) → LoansStand p new y
+  same_slots new same loans slots loan = subst HY (sym same) (record {
+    loan = loan;
+    serials = λ port slot mine low. by_part port slot
+        (stands.serials port slot (mine.0, mine.1 ∙ own.node) low);
+  })
+    where
+      by_part : (port slot : ℕ) → HoldsSerial held x port slot → HoldsSerial held y port slot
+      by_part port slot (inl less) = inl (subst (λ k. (held port slot).serial < k) (sym (loans port)) less)
+      by_part port slot (inr (inl none)) = inr (inl none)
+      by_part port slot (inr (inr there)) =
+          inr (inr (ap (has_number slot) (slots_by_message port y.local ∙ slots port ∙ sym (slots_by_message port x.local)) ∙ there))
 
-    -- a loan takes a slot
-    picked : (o : NewLoan) (slot : ℕ) → (new : Pools) → new ≡ held_with held o.port slot (message_in p o)
-        → ((port : ℕ) → loans_at (advance p (accessed x) x.local seen) port ≡ loans_at x port)
-        → message_at (advance p (accessed x) x.local seen).local ≡ Lent o slot → message_at x.local ≡ NoMessage → LoansStand p new (advance p (accessed x) x.local seen)
-    picked o slot new same loans is before = subst HY (sym same) (record {
-      loan = subst (HoldsLoan p (held_with held o.port slot (message_in p o))) (sym is) here;
-      serials = λ port j mine low. by_slot port j ((o.port == port) && (slot == j)) refl
-          (stands.serials port j (mine.0, mine.1 ∙ (steps_keep_own p x seen).node) low);
-    })
-      where
-        here : held_with held o.port slot (message_in p o) o.port slot ≡ message_in p o
-        here = ap (λ b. if b then message_in p o else held o.port slot) (subst (λ b. (b && (slot == slot)) ≡ true) (sym (eqb-refl o.port)) (eqb-refl slot))
+  pub gone : (new : Pools) (m : CallMessage) → new ≡ held → ((port : ℕ) → loans_at y port ≡ loans_at x port)
+      → message_at y.local ≡ m → NoLoan m → NoLoan (message_at x.local) → LoansStand p new y
+  gone new m same loans is none before =
+      same_slots new same loans (λ port. ap (lent_slots port) is ∙ none_lent port m none ∙ sym (none_lent port (message_at x.local) before))
+      (subst (HoldsLoan p held) (sym is) (nothing m none))
+    where
+      nothing : (m : CallMessage) → NoLoan m → HoldsLoan p held m
+      nothing (Lent o slot) none = absurd none
+      nothing m none = tt
 
-        lent_now : (port j : ℕ) → ((o.port == port) && (slot == j)) ≡ true → has_number j (slots_in_call port y.local) ≡ true
-        lent_now port j is_it =
-            let parts = both (o.port == port) (slot == j) is_it in
-            ap (has_number j) (slots_by_message port y.local ∙ ap (lent_slots port) is)
-            ∙ ap (λ b. has_number j (if b then slot ∷ [] else [])) parts.0 ∙ ap (λ b. b || false) parts.1
+  -- a loan takes a slot
+  pub picked : (o : NewLoan) (slot : ℕ) → (new : Pools) → new ≡ held_with held o.port slot (message_in p o)
+      → ((port : ℕ) → loans_at y port ≡ loans_at x port)
+      → message_at y.local ≡ Lent o slot → message_at x.local ≡ NoMessage → LoansStand p new y
+  picked o slot new same loans is before = subst HY (sym same) (record {
+    loan = subst (HoldsLoan p (held_with held o.port slot (message_in p o))) (sym is) here;
+    serials = λ port j mine low. by_slot port j ((o.port == port) && (slot == j)) refl
+        (stands.serials port j (mine.0, mine.1 ∙ own.node) low);
+  })
+    where
+      here : held_with held o.port slot (message_in p o) o.port slot ≡ message_in p o
+      here = ap (λ b. if b then message_in p o else held o.port slot) (subst (λ b. (b && (slot == slot)) ≡ true) (sym (eqb-refl o.port)) (eqb-refl slot))
 
-        same_serial : (port j : ℕ) → ((o.port == port) && (slot == j)) ≡ false → (held_with held o.port slot (message_in p o) port j).serial ≡ (held port j).serial
-        same_serial port j other = ap (λ b. (if b then message_in p o else held port j).serial) other
+      lent_now : (port j : ℕ) → ((o.port == port) && (slot == j)) ≡ true → has_number j (slots_in_call port y.local) ≡ true
+      lent_now port j is_it =
+          let parts = both (o.port == port) (slot == j) is_it in
+          ap (has_number j) (slots_by_message port y.local ∙ ap (lent_slots port) is)
+          ∙ ap (λ b. has_number j (if b then slot ∷ [] else [])) parts.0 ∙ ap (λ b. b || false) parts.1
 
-        by_slot : (port j : ℕ) (b : Bool) → ((o.port == port) && (slot == j)) ≡ b → HoldsSerial held x port j
-            → HoldsSerial (held_with held o.port slot (message_in p o)) (advance p (accessed x) x.local seen) port j
-        by_slot port j true at old = inr (inr (lent_now port j at))
-        by_slot port j false at (inl less) =
-            inl (subst (λ k. k < loans_at y port) (sym (same_serial port j at)) (subst (λ k. (held port j).serial < k) (sym (loans port)) less))
-        by_slot port j false at (inr (inl none)) = inr (inl (subst (λ k. 2 ^ 64 ≤ k) (sym (same_serial port j at)) none))
-        by_slot port j false at (inr (inr there)) =
-            absurd (true≢false (sym there ∙ ap (has_number j) (slots_by_message port x.local ∙ ap (lent_slots port) before)))
+      same_serial : (port j : ℕ) → ((o.port == port) && (slot == j)) ≡ false → (held_with held o.port slot (message_in p o) port j).serial ≡ (held port j).serial
+      same_serial port j other = ap (λ b. (if b then message_in p o else held port j).serial) other
 
-    -- ---- each access
+      by_slot : (port j : ℕ) (b : Bool) → ((o.port == port) && (slot == j)) ≡ b → HoldsSerial held x port j
+          → HoldsSerial (held_with held o.port slot (message_in p o)) y port j
+      by_slot port j true at old = inr (inr (lent_now port j at))
+      by_slot port j false at (inl less) =
+          inl (subst (λ k. k < loans_at y port) (sym (same_serial port j at)) (subst (λ k. (held port j).serial < k) (sym (loans port)) less))
+      by_slot port j false at (inr (inl none)) = inr (inl (subst (λ k. 2 ^ 64 ≤ k) (sym (same_serial port j at)) none))
+      by_slot port j false at (inr (inr there)) =
+          absurd (true≢false (sym there ∙ ap (has_number j) (slots_by_message port x.local ∙ ap (lent_slots port) before)))
 
-    stores_not : (local : Local) (m : CallMessage) → message_at local ≡ m → NotLent m → NotStores local
-    stores_not (LendStores o slot next) m is none = subst NotLent (sym is) none
-    stores_not local m is none = tt
+-- ---- each access
 
-    stays : (m : CallMessage) → message_at (advance p (accessed x) x.local seen).local ≡ m → NotLent m → held_after p x seen held ≡ held
-    stays m is none = held_not p held x.local y.local (stores_not y.local m is none)
+module _ (p : Setting) (x : Seat) (seen : ℕ) (held : Pools) (stands : LoansStand p held x) where
+  abbrev next_seat : Seat
+  next_seat = advance p (accessed x) x.local seen
 
-    pub by_follows : (s : State) → ReliesOn p (accessed x) s held x.local seen → Follows p (accessed x) x.local seen (advance p (accessed x) x.local seen)
-        → ((port : ℕ) → loans_at (advance p (accessed x) x.local seen) port ≡ loans_at x port)
-        → LoansStand p (held_after p x seen held) (advance p (accessed x) x.local seen)
-    by_follows s relies (keeps desks message) loans =
-        same_slots (held_after p x seen held) (held_stays p held s (accessed x) seen x.local y.local relies message) loans (λ port. ap (lent_slots port) message)
-        (subst (HoldsLoan p held) (sym message) stands.loan)
-    by_follows s relies (lets_go desks still message may) loans =
-        gone (held_after p x seen held) NoMessage (stays NoMessage message tt) loans message tt (let_go (message_at x.local) may)
-    by_follows s relies (takes w slot desks still message on) loans =
-        gone (held_after p x seen held) (Taken w slot) (stays (Taken w slot) message tt) loans message tt (taking p x.local seen w slot on)
-    by_follows s relies (puts_aside e desks still returns message) loans =
-        gone (held_after p x seen held) (Leaving e) (stays (Leaving e) message tt) loans message tt (returning x.local e returns)
-    by_follows s relies (drops e desks still of message) loans =
-        gone (held_after p x seen held) (Dropped e) (stays (Dropped e) message tt) loans message tt (of_entry (message_at x.local) e of)
-    by_follows s relies (picks_slot o slot free desks still place before there lends) loans =
-        picked o slot (held_after p x seen held) (ap (held_from p held x.local) place ∙ held_picked p held x.local o slot before) loans (ap message_at place) before
-    by_follows s relies (sends_loan o slot desks still before copies message) loans =
-        same_slots (held_after p x seen held) (stays (Sent (entry_in o slot) true) message tt) loans
-        (λ port. ap (lent_slots port) message ∙ sym (ap (lent_slots port) before)) (subst (HoldsLoan p held) (sym message) tt)
+  own_part : KeepsOwn x (advance p (accessed x) x.local seen)
+  own_part = steps_keep_own p x seen
+
+
+  stores_not : (local : Local) (m : CallMessage) → message_at local ≡ m → NotLent m → NotStores local
+  stores_not (LendStores o slot next) m is none = subst NotLent (sym is) none
+  stores_not local m is none = tt
+
+  stays : (m : CallMessage) → message_at (advance p (accessed x) x.local seen).local ≡ m → NotLent m → held_after p x seen held ≡ held
+  stays m is none = held_not p held x.local next_seat.local (stores_not next_seat.local m is none)
+
+  pub by_follows : (s : State) → ReliesOn p (accessed x) s held x.local seen → Follows p (accessed x) x.local seen (advance p (accessed x) x.local seen)
+      → ((port : ℕ) → loans_at (advance p (accessed x) x.local seen) port ≡ loans_at x port)
+      → LoansStand p (held_after p x seen held) (advance p (accessed x) x.local seen)
+  by_follows s relies (keeps desks message) loans =
+      same_slots p x next_seat own_part held stands (held_after p x seen held) (held_stays p held s (accessed x) seen x.local next_seat.local relies message) loans (λ port. ap (lent_slots port) message)
+      (subst (HoldsLoan p held) (sym message) stands.loan)
+  by_follows s relies (lets_go desks still message may) loans =
+      gone p x next_seat own_part held stands (held_after p x seen held) NoMessage (stays NoMessage message tt) loans message tt (let_go (message_at x.local) may)
+  by_follows s relies (takes w slot desks still message on) loans =
+      gone p x next_seat own_part held stands (held_after p x seen held) (Taken w slot) (stays (Taken w slot) message tt) loans message tt (taking p x.local seen w slot on)
+  by_follows s relies (puts_aside e desks still returns message) loans =
+      gone p x next_seat own_part held stands (held_after p x seen held) (Leaving e) (stays (Leaving e) message tt) loans message tt (returning x.local e returns)
+  by_follows s relies (drops e desks still of message) loans =
+      gone p x next_seat own_part held stands (held_after p x seen held) (Dropped e) (stays (Dropped e) message tt) loans message tt (of_entry (message_at x.local) e of)
+  by_follows s relies (picks_slot o slot free desks still place before there lends) loans =
+      picked p x next_seat own_part held stands o slot (held_after p x seen held) (ap (held_from p held x.local) place ∙ held_picked p held x.local o slot before) loans (ap message_at place) before
+  by_follows s relies (sends_loan o slot desks still before copies message) loans =
+      same_slots p x next_seat own_part held stands (held_after p x seen held) (stays (Sent (entry_in o slot) true) message tt) loans
+      (λ port. ap (lent_slots port) message ∙ sym (ap (lent_slots port) before)) (subst (HoldsLoan p held) (sym message) tt)
 
 pub accesses_keep_loans : AccessesKeepLoans
 accesses_keep_loans p held s x seen relies stands =

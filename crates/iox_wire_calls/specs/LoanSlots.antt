@@ -66,5 +66,5 @@ AccessesKeepLoans =
 abbrev pub EndsKeepLoanSlots : Type 0
 EndsKeepLoanSlots =
     (p : Setting) (held : Pools) (s : State) (x : Seat) (payload : List ℕ) (ending : Ending)
-    → CallFits p x → CallIsOver p held s x ending → LoansStand p held x
+    → CallIsOver p held s x ending → LoansStand p held x
     → LoansStand p (held_closed p held payload (Some ending)) (closed p x (Some ending))
