@@ -2,6 +2,7 @@
 use Rattle.std.specs.Prelude.{◌⊎◌, map, ◌&&◌, ◌++◌}
 use Rattle.std.proofs.Common.{◌≡◌, ℕ, ◌+◌, Bool, true, false, if◌then◌else◌, ◌==◌, [], ◌∷◌, Some, refl, ap, sym, subst, ◌∙◌, inl, inr}
 use Rattle.iox_model.specs.States.{Fixed}
+use Rattle.iox_wire_moments.specs.MomentsOf.{Pools}
 use Rattle.iox_wire_locals.specs.declared.local.Local.{Local}
 use Rattle.iox_wire_locals.specs.declared.local.Local.TheVariants.{ReleaseExchanges, ReleaseLooks, ReleaseReturns}
 use Rattle.iox_wire_locals.specs.declared.seat.Seat.{Seat}
@@ -18,12 +19,14 @@ use Rattle.iox_wire_stands.specs.Following.{CallMessage, Dropped, Follows, IsRet
 use Rattle.iox_wire_stands.proofs.EndTables.{one_other}
 use Rattle.iox_wire_calls.specs.CallsStand.{CallStands}
 use Rattle.iox_wire_calls.specs.Lanes.{has_own_lane, lanes_in, lent_in}
+use Rattle.iox_wire_calls.specs.LoanSlots.{LoansStand}
 use Rattle.iox_wire_calls.specs.Places.{PlaceFits, SuitsPort}
+use Rattle.iox_wire_calls.proofs.LoansElsewhere.{shown_loans}
 use Rattle.iox_wire_calls.proofs.LaneLists.{one, put}
 
 -- ---- the entry put aside
 
-module _ (p : Setting) (z : Seat) (e : Entry) (has : HasEntry z e) (stands : CallStands p z) (none : lent_in (message_at z.local) ≡ []) where
+module _ (p : Setting) (z : Seat) (e : Entry) (has : HasEntry z e) (held : Pools) (stands : CallStands p held z) (none : lent_in (message_at z.local) ≡ []) where
   -- it has the same lane
   same_lane : (port lane : ℕ) → one port lane (aside p z.node e) ≡ one port lane e
   same_lane port lane = by_test (has_own_lane e.kind && (e.port == port))
@@ -40,25 +43,29 @@ module _ (p : Setting) (z : Seat) (e : Entry) (has : HasEntry z e) (stands : Cal
       by_part (inl old) = stands.fits.handles q old
       by_part (inr is) = subst (λ (k : Entry). SuitsPort p z k.port k.kind) (sym is) (stands.fits.handles e has)
 
-  pub aside_stands : (local : Local) → lent_in (message_at local) ≡ [] → PlaceFits p (with_aside p z e) local → CallStands p (placed (with_aside p z e) local)
-  aside_stands local nothing place = record {
+  pub aside_stands : (local : Local) → lent_in (message_at local) ≡ [] → PlaceFits p (with_aside p z e) local → LoansStand p held (placed (with_aside p z e) local)
+      → CallStands p held (placed (with_aside p z e) local)
+  aside_stands local nothing place loans = record {
     fits = record { handles = suited; place = place };
     lanes = λ port mine client lane.
         ap (λ es. how_often lane (free_lanes z port) + how_often lane (lanes_in port (es ++ with_entry (aside p z.node e) z.table))) nothing
         ∙ ap (λ k. how_often lane (free_lanes z port) + k) (put port lane (aside p z.node e) e refl (same_lane port lane) z.table has)
         ∙ ap (λ es. how_often lane (free_lanes z port) + how_often lane (lanes_in port (es ++ z.table))) (sym none)
         ∙ stands.lanes port mine client lane;
+    loans = loans;
   }
 
 -- ---- as it is shown
 
-pub shown_stands : (p : Setting) (z : Seat) (local : Local) → z.local ≡ local → ((e : Entry) → message_at local ≡ Leaving e → HasEntry z e) → CallStands p z
-    → CallStands p (shown_at p z local)
-shown_stands p z (ReleaseLooks e) is has stands =
-    aside_stands p z e (has e refl) stands (ap (λ l. lent_in (message_at l)) is) (ReleaseLooks (aside p z.node e)) refl tt
-shown_stands p z (ReleaseExchanges e old) is has stands =
-    aside_stands p z e (has e refl) stands (ap (λ l. lent_in (message_at l)) is) (ReleaseExchanges (aside p z.node e) old) refl tt
-shown_stands p z local is has stands = stands
+pub shown_stands : (p : Setting) (held : Pools) (z : Seat) (local : Local) → z.local ≡ local → ((e : Entry) → message_at local ≡ Leaving e → HasEntry z e) → CallStands p held z
+    → CallStands p held (shown_at p z local)
+shown_stands p held z (ReleaseLooks e) is has stands =
+    aside_stands p z e (has e refl) held stands (ap (λ l. lent_in (message_at l)) is) (ReleaseLooks (aside p z.node e)) refl tt
+    (shown_loans p held z (ReleaseLooks e) is stands.loans)
+shown_stands p held z (ReleaseExchanges e old) is has stands =
+    aside_stands p z e (has e refl) held stands (ap (λ l. lent_in (message_at l)) is) (ReleaseExchanges (aside p z.node e) old) refl tt
+    (shown_loans p held z (ReleaseExchanges e old) is stands.loans)
+shown_stands p held z local is has stands = stands
 
 -- ---- which entry is put aside
 

@@ -21,3 +21,4 @@ pub mod CallsShown
 pub mod CallsStand
 pub mod LoanSlots
 pub mod LoanEnds
+pub mod LoansElsewhere

@@ -1,5 +1,5 @@
 -- The slots of loans as the call ends: one that made a loan counts it.
-use Rattle.std.specs.Prelude.{◌⊎◌, ◌<◌, ◌≤◌, ◌^◌, ◌&&◌, ◌||◌, ◌-◌, ◌++◌, find, flat_map, map, option_map}
+use Rattle.std.specs.Prelude.{◌<◌, ◌≤◌, ◌^◌, ◌&&◌, ◌-◌, find, flat_map, map, option_map}
 use Rattle.std.specs.Option.{option_map_or}
 use Rattle.std.proofs.Common.{◌≡◌, ℕ, ◌+◌, Bool, true, false, if◌then◌else◌, ◌==◌, List, [], ◌∷◌, Some, refl, ap, sym, subst, ◌∙◌, arith, inl, inr, true≢false, eqb-true}
 use Rattle.iox_model.specs.Handles.{is_received, is_request_loan}
@@ -7,7 +7,7 @@ use Rattle.iox_model.specs.Maps.{has_number}
 use Rattle.iox_model.specs.Peers.{ports_of_node}
 use Rattle.iox_model.specs.States.{State}
 use Rattle.iox_laws.proofs.WeaveLaws.CallLaws.{eqb-flip}
-use Rattle.iox_laws.proofs.WeaveLaws.MapLemmas.{either, eqb-refl}
+use Rattle.iox_laws.proofs.WeaveLaws.MapLemmas.{either}
 use Rattle.iox_laws.proofs.WeaveLedger.Lists.{among-front, among-number, find-among, number-among}
 use Rattle.iox_model.specs.Messages.{Message}
 use Rattle.iox_wire_moments.specs.MomentsOf.{Pools}
@@ -34,7 +34,6 @@ use Rattle.iox_wire_stands.specs.Following.{message_at, message_ended}
 use Rattle.iox_wire_steps.specs.Over.{CallIsOver}
 use Rattle.iox_wire_steps.specs.WholeSteps.{held_closed}
 use Rattle.iox_wire_calls.specs.LoanSlots.{EndsKeepLoanSlots, HoldsLoan, HoldsSerial, LoansStand}
-use Rattle.iox_wire_calls.specs.Places.{CallFits}
 use Rattle.iox_wire_calls.proofs.LaneEnds.{message_of_end}
 use Rattle.iox_wire_calls.proofs.LoanSlots.{lent_slots, slots_by_message}
 use Rattle.iox_wire_calls.proofs.PlaceCourses.{desks_stay, loans_told}

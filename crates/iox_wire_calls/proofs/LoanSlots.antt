@@ -1,7 +1,7 @@
 -- The slots of loans over each access, and what they tell.
-use Rattle.std.specs.Prelude.{◌⊎◌, ◌<◌, ◌≤◌, ◌^◌, ◌&&◌, ◌||◌, find, map}
+use Rattle.std.specs.Prelude.{◌<◌, ◌≤◌, ◌^◌, ◌&&◌, ◌||◌, find}
 use Rattle.std.specs.Option.{option_map_or}
-use Rattle.std.proofs.Common.{◌≡◌, ℕ, Bool, true, false, if◌then◌else◌, ◌==◌, List, [], ◌∷◌, Some, refl, ap, sym, subst, ◌∙◌, arith, inl, inr, true≢false}
+use Rattle.std.proofs.Common.{◌≡◌, ℕ, Bool, true, false, if◌then◌else◌, ◌==◌, List, [], ◌∷◌, refl, ap, sym, subst, ◌∙◌, arith, inl, inr, true≢false}
 use Rattle.iox_model.specs.Maps.{has_number}
 use Rattle.iox_model.specs.declared.way.Way.{Way}
 use Rattle.iox_model.specs.States.{State}
@@ -13,7 +13,7 @@ use Rattle.iox_wire_locals.specs.declared.seat.Seat.{Seat}
 use Rattle.iox_wire_locals.specs.declared.table.Desk.{Desk}
 use Rattle.iox_wire_locals.specs.declared.table.Entry.{Entry}
 use Rattle.iox_wire_locals.specs.declared.table.NewLoan.{NewLoan}
-use Rattle.iox_wire_locals.specs.Desks.{at_desk, delivers, gets_back, picks}
+use Rattle.iox_wire_locals.specs.Desks.{delivers, gets_back, picks}
 use Rattle.iox_wire_locals.specs.Known.{loans_at}
 use Rattle.iox_wire_locals.specs.NewLoans.{entry_in, message_in}
 use Rattle.iox_wire_locals.specs.StepLaws.{ReliesOn}
@@ -21,14 +21,11 @@ use Rattle.iox_wire_locals.specs.Steps.{accessed, advance}
 use Rattle.iox_wire_locals.specs.Tables.{Setting}
 use Rattle.iox_wire_laws.specs.WireKeeping.UsedSlots.{slot_of_loan, slots_in_call}
 use Rattle.iox_wire_laws.specs.WireKeeping.OwnParts.{KeepsOwn}
-use Rattle.iox_wire_laws.specs.WireHolding.FarSlots.{IsInPool}
 use Rattle.iox_wire_laws.specs.WireHolding.Holding.{held_after, held_from, held_with}
-use Rattle.iox_wire_laws.specs.WireHolding.PickedSlots.{IsNextLoan}
 use Rattle.iox_wire_laws.specs.WireHolding.SlotsKnown.{IsPortOfSeat}
 use Rattle.iox_wire_laws.proofs.WireKeeping.CountsKept.{steps_keep_own}
 use Rattle.iox_wire_laws.proofs.WireRegions.OwnPorts.{both}
 use Rattle.iox_laws.proofs.WeaveLaws.MapLemmas.{eqb-refl}
-use Rattle.iox_laws.proofs.WeaveLedger.Truths.{or-left}
 use Rattle.iox_wire_stands.specs.Following.{CallMessage, DeskChange, Delivered, Dropped, Follows, GotBack, IsOfEntry, IsReturning, Leaving, Lent, MayLetGo, NoMessage, OfEntry, Sent, Taken, TakesOn, Unchanged, changed, desk_change, drops, keeps, lets_go, message_at, picks_slot, puts_aside, sends_loan, takes}
 use Rattle.iox_wire_stands.specs.FollowingLaws.{TakesNext}
 use Rattle.iox_wire_stands.specs.Nodes.{NodeStands}
@@ -188,7 +185,6 @@ module _ (p : Setting) (x : Seat) (seen : ℕ) (held : Pools) (stands : LoansSta
 
   own_part : KeepsOwn x (advance p (accessed x) x.local seen)
   own_part = steps_keep_own p x seen
-
 
   stores_not : (local : Local) (m : CallMessage) → message_at local ≡ m → NotLent m → NotStores local
   stores_not (LendStores o slot next) m is none = subst NotLent (sym is) none

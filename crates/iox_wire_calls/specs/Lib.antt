@@ -5,5 +5,5 @@ pub mod Lanes
 pub mod LaneLaws
 pub mod EndsTold
 pub mod StepsTold
-pub mod CallsStand
 pub mod LoanSlots
+pub mod CallsStand
