@@ -1,4 +1,5 @@
--- In reading order: what is so of each place of a call, that it stays so, and what ends are told by it.
+-- In reading order: what is so of each place of a call, and that it stays so; lanes of clients; what
+-- ends and steps are told by these; slots of loans; and that all of it stands on a wire.
 pub mod Places
 pub mod PlaceLaws
 pub mod Lanes
