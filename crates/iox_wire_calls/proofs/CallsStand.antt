@@ -10,14 +10,14 @@ use Rattle.iox_model.specs.Moments.{Moment}
 use Rattle.iox_model.specs.States.{State}
 use Rattle.iox_model.specs.Weaves.{IsWeave, World, begin_refusal}
 use Rattle.iox_laws.proofs.WeaveLaws.DeathLaws.{settled-members}
-use Rattle.iox_laws.proofs.WeaveLaws.WholeLemmas.{moved-members, not_living-members, or_else-none}
+use Rattle.iox_laws.proofs.WeaveLaws.WholeLemmas.{moved-members, not_living-members}
 use Rattle.iox_laws.proofs.WeaveLedger.Lists.{among-filter, among-number, number-among}
 use Rattle.iox_laws.proofs.WeaveLedger.Truths.{none-some}
 use Rattle.iox_wire_locals.specs.declared.seat.Seat.{Seat}
 use Rattle.iox_wire_locals.specs.declared.table.Desk.{Desk}
 use Rattle.iox_wire_locals.specs.declared.local.Ending.{Ending}
 use Rattle.iox_wire_locals.specs.declared.local.Local.{Local}
-use Rattle.iox_wire_locals.specs.declared.local.Local.TheVariants.{LendStores, ReleaseExchanges, ReleaseLooks}
+use Rattle.iox_wire_locals.specs.declared.local.Local.TheVariants.{Idle, LendStores, ReleaseExchanges, ReleaseLooks}
 use Rattle.iox_wire_locals.specs.declared.table.Entry.{Entry}
 use Rattle.iox_wire_locals.specs.Begins.{begin, is_busy, misnamed_call}
 use Rattle.iox_wire_locals.specs.Known.{free_lanes, loans_at}
@@ -39,7 +39,6 @@ use Rattle.iox_wire_stands.specs.Openings.{opened_desk, opened_seat, ports_on}
 use Rattle.iox_wire_stands.proofs.OpenedDesks.{desk_there}
 use Rattle.iox_wire_stands.proofs.Ranges.{range_distinct, range_number}
 use Rattle.iox_wire_stands.specs.Following.{CallMessage, Dropped, Leaving, LeavesNothing, Lent, NoMessage, OfEntry, Sent, message_at}
-use Rattle.iox_wire_stands.specs.BeginLaws.{MayBegin}
 use Rattle.iox_wire_stands.specs.Nodes.{NodeStands}
 use Rattle.iox_wire_stands.specs.Runs.{Asked, Run}
 use Rattle.iox_wire_stands.specs.Stands.{Player, Stands, seats_of, word_of}
@@ -56,7 +55,7 @@ use Rattle.iox_wire_calls.specs.Lanes.{AllLanesAreCounted}
 use Rattle.iox_wire_calls.specs.Places.{CallFits, OwnersAreSet}
 use Rattle.iox_wire_calls.specs.StepsTold.{MessageIsTold, PayloadFits, PushesBelow}
 use Rattle.iox_wire_calls.specs.LaneLaws.{HasLanesForSlots}
-use Rattle.iox_wire_laws.proofs.WireKeeping.BeginBeats.{refusals_are_the_machines}
+use Rattle.iox_wire_calls.proofs.CallsBegin.{alive, calls_may_begin, named, owners_are_set, rested, rests}
 use Rattle.iox_wire_calls.proofs.LaneBegins.{begins_keep_lanes}
 use Rattle.iox_wire_calls.proofs.LaneSlots.{free_slots_have_lanes}
 use Rattle.iox_wire_calls.proofs.PlaceBegins.{begins_fit}
@@ -371,33 +370,34 @@ module _ (p : Setting) (x : Seat) where
   begins_held held local m is start = refl
 
 module _ (p : Setting) (words : List ℕ) (players : ℕ → Player) (r : Run) (n : ℕ) (call : WireCall) (stands : Stands p words players r)
-    (owners : OwnersAreSet p) (calls : CallsStand p stands.held players r.last.state) (may : MayBegin p stands.held r.last.state (players n).seat call)
-    (free : begin_refusal r.last n call ≡ None) where
+    (calls : CallsStand p stands.held players r.last.state) (free : begin_refusal r.last n call ≡ None) where
   abbrev begun_seat : Seat
   begun_seat = begin p (players n).seat call
 
-  rested : seats_of p players n ≡ (players n).seat
-  rested = shown_same p (players n).seat (players n).seat.local (subst LeavesNothing (sym (ap message_at may.rests)) tt)
+  is_rested : seats_of p players n ≡ (players n).seat
+  is_rested = rested p words players r n call stands calls free
 
-  alive : not_living r.last.state n ≡ None
-  alive = (or_else-none _ _ free).0
+  is_alive : not_living r.last.state n ≡ None
+  is_alive = alive p words players r n call stands calls free
 
-  named : misnamed_call p (players n).seat call ≡ None
-  named =
-      subst (λ q. misnamed_call p q call ≡ None) rested
-      (or_else-none _ _ (or_else-none _ _ (or_else-none _ _
-      (sym (refusals_are_the_machines p stands.held r.last (seats_of p players n) call (stands.shows.counts n alive) (stands.shows.doing n alive))
-      ∙ ap (λ k. begin_refusal r.last k call) (stands.shows.node n) ∙ free)).1).0).1
+  idle : (players n).seat.local ≡ Idle
+  idle = rests p words players r n call stands calls free
+
+  owners : OwnersAreSet p
+  owners = owners_are_set p words players r n call stands calls free
+
+  is_named : misnamed_call p (players n).seat call ≡ None
+  is_named = named p words players r n call stands calls free
 
   abbrev All : Seat → Type 0
   All q = CallStands p stands.held q × NodeStands p stands.held r.last.state q × HasLanesForSlots p q
 
   before : All (players n).seat
   before =
-      subst All rested (
-        calls n alive,
-        stands.nodes n alive,
-        free_slots_have_lanes p stands.held (word_of words) stands.contents (seats_of p players) r.last n stands.shows alive (stands.nodes n alive) (calls n alive).lanes,
+      subst All is_rested (
+        calls n is_alive,
+        stands.nodes n is_alive,
+        free_slots_have_lanes p stands.held (word_of words) stands.contents (seats_of p players) r.last n stands.shows is_alive (stands.nodes n is_alive) (calls n is_alive).lanes,
       )
 
   first_loans : Starts p r.last.state.request_state (players n).seat (begin p (players n).seat call) ⊎ Takes (players n).seat (begin p (players n).seat call)
@@ -406,19 +406,19 @@ module _ (p : Setting) (words : List ℕ) (players : ℕ → Player) (r : Run) (
       same_slots p (players n).seat begun_seat (begins_keep_own p (players n).seat call) stands.held before.0.loans (held_at p stands.held begun_seat.local)
       (begins_held p (players n).seat stands.held begun_seat.local (message_at begun_seat.local) refl start.message)
       (λ port. ap (λ (ds : List Desk). option_map_or (λ (d : Desk). d.loans) (find (λ d. d.port == port) ds) 0) start.desks)
-      (λ port. begins_lent p (players n).seat port (message_at begun_seat.local) start.message ∙ sym (ap (λ l. lent_slots port (message_at l)) may.rests))
+      (λ port. begins_lent p (players n).seat port (message_at begun_seat.local) start.message ∙ sym (ap (λ l. lent_slots port (message_at l)) idle))
       (begins_loan p (players n).seat stands.held (message_at begun_seat.local) start.message)
   first_loans (inr takes) =
       picked p (players n).seat begun_seat (begins_keep_own p (players n).seat call) stands.held before.0.loans takes.loan takes.slot
       (held_at p stands.held begun_seat.local) (ap (held_at p stands.held) takes.place)
       (λ port. ap (λ (ds : List Desk). option_map_or (λ (d : Desk). d.loans) (find (λ d. d.port == port) ds) 0) takes.desks
       ∙ desks_stay loans_told 0 (players n).seat takes.loan.port port (picks takes.loan takes.slot takes.free) (record { port = λ d. refl; told = λ d. refl }))
-      (ap message_at takes.place) (ap message_at may.rests)
+      (ap message_at takes.place) (ap message_at idle)
 
   first_stands : CallStands p (held_at p stands.held (begin p (players n).seat call).local) begun_seat
   first_stands = record {
-    fits = begins_fit p (players n).seat call stands.numbers owners named before.0.fits;
-    lanes = begins_keep_lanes p stands.held r.last.state (players n).seat call stands.numbers owners named may.rests before.0.fits before.1 before.2 before.0.lanes;
+    fits = begins_fit p (players n).seat call stands.numbers owners is_named before.0.fits;
+    lanes = begins_keep_lanes p stands.held r.last.state (players n).seat call stands.numbers owners is_named idle before.0.fits before.1 before.2 before.0.lanes;
     loans = first_loans (starts p r.last.state.request_state (players n).seat call);
   }
 
@@ -427,15 +427,15 @@ module _ (p : Setting) (words : List ℕ) (players : ℕ → Player) (r : Run) (
   begun_elsewhere k other port slot its =
       at_elsewhere p begun_seat port
       (not_its p players n k port begun_seat stands.shows.node
-      ((begins_keep_own p (players n).seat call).node ∙ ap (λ (q : Seat). q.node) (sym rested) ∙ stands.shows.node n) other its)
+      ((begins_keep_own p (players n).seat call).node ∙ ap (λ (q : Seat). q.node) (sym is_rested) ∙ stands.shows.node n) other its)
       its.0 stands.held begun_seat.local slot first_stands.fits.place
 
   pub begun_stands : CallStands p (held_at p stands.held (begin p (players n).seat call).local) (shown p (begin p (players n).seat call))
   begun_stands = subst (CallStands p (held_at p stands.held begun_seat.local)) (sym (shown_same p begun_seat begun_seat.local (begins_leave_nothing p (players n).seat call))) first_stands
 
 pub begun_calls_stand : BegunCallsStand
-begun_calls_stand p words players r n call stands owners calls may free =
-    let kept = begins_keep p words players r n call stands may free in (
+begun_calls_stand p words players r n call stands calls few told free =
+    let kept = begins_keep p words players r n call stands (calls_may_begin p words players r n call stands calls few told free) free in (
       kept.0,
       kept.1,
       kept.2,
@@ -444,9 +444,9 @@ begun_calls_stand p words players r n call stands owners calls may free =
       by_node p stands.held kept.2.held players (record { seat = begin p (players n).seat call; said = (players n).said ++ Asked call ∷ [] }) n r.last.state
           kept.0.last.state (λ k. ap (λ (v : World). not_living v.state k) kept.1.beat.2)
           (λ k other alive port slot its low. ap (λ (h : Pools). h port slot) kept.3
-          ∙ begun_elsewhere p words players r n call stands owners calls may free k other port slot its)
+          ∙ begun_elsewhere p words players r n call stands calls free k other port slot its)
           (λ k alive. lent_in_pool p stands.held r.last.state (seats_of p players k) (stands.nodes k alive)) calls
-          (subst (λ h. CallStands p h (shown p (begin p (players n).seat call))) (sym kept.3) (begun_stands p words players r n call stands owners calls may free)),
+          (subst (λ h. CallStands p h (shown p (begin p (players n).seat call))) (sym kept.3) (begun_stands p words players r n call stands calls free)),
     )
 
 -- ---- a death

@@ -18,6 +18,7 @@ pub mod WordsHeard
 pub mod NextPlaces
 pub mod StepsTold
 pub mod CallsShown
+pub mod CallsBegin
 pub mod CallsStand
 pub mod LoanSlots
 pub mod LoanEnds

@@ -224,7 +224,7 @@ module _ (p : Setting) (held : Pools) (s : State) (x : Seat) (seen : ℕ) (node 
   abbrev z : Seat
   z = advance p (accessed x) x.local seen
 
-  none_here : (o : NewLoan) (j : ℕ) → o.serial ≡ loans_at x o.port → (held o.port j).serial ≡ o.serial → slots_in_call o.port x.local ≡ []
+  pub none_here : (o : NewLoan) (j : ℕ) → o.serial ≡ loans_at x o.port → (held o.port j).serial ≡ o.serial → slots_in_call o.port x.local ≡ []
       → HoldsSerial held x o.port j → ⊥
   none_here o j serial same none (inl less) = off (held o.port j).serial (loans_at x o.port) less (same ∙ serial)
     where

@@ -3,7 +3,7 @@
 #![tactic(auto)]
 
 ghost use Rattle.iox_wire_calls.specs.CallsStand.{BegunCallsStand, CallsStandAtFirst, DeathsLeaveCalls};
-ghost use Rattle.iox_wire_calls.specs.CallsStand.{SteppedCallsStand};
+ghost use Rattle.iox_wire_calls.specs.CallsStand.{CallsMayBegin, SteppedCallsStand};
 ghost use Rattle.iox_wire_calls.specs.EndsTold.{EndsAreTold, LanesFitAtRest, SendsOpenElsewhere};
 ghost use Rattle.iox_wire_calls.specs.LaneLaws.{AccessesKeepLanes, BeginsKeepLanes, EndsKeepLanes};
 ghost use Rattle.iox_wire_calls.specs.LaneLaws.{FreeSlotsHaveLanes};
@@ -54,6 +54,11 @@ pub fn calls_stand()
     ensures begun { BegunCallsStand }
     ensures stepped { SteppedCallsStand }
     ensures dead { DeathsLeaveCalls }
+{}
+
+/// What the begin of a call needs follows, but for lengths of messages and what its place owns.
+pub fn calls_may_begin()
+    ensures { CallsMayBegin }
 {}
 
 /// What slots hold of loans tells a loan in the making, and accesses and ends keep it.
