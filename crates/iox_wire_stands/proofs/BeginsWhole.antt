@@ -151,7 +151,7 @@ module _ (p : Setting) (words : List ℕ) (players : ℕ → Player) (r : Run) (
       by_node false is =
           ap (λ b. (players k).said ++ (if b then Asked call ∷ [] else [])) (eqb-flip k n is) ∙ last_empty (players k).said
 
-  to_stands : (next : Run) → Whole p (held_at p stands.held z.local) (word_of words) stands.contents (put_at seats n z) next.last
+  abbrev to_stands : (next : Run) → Whole p (held_at p stands.held z.local) (word_of words) stands.contents (put_at seats n z) next.last
       → ((k : ℕ) → history k next.beats ≡ (after_players k).said) → Stands p words after_players next
   to_stands next w histories = record {
     held = held_at p stands.held z.local;
@@ -168,7 +168,8 @@ module _ (p : Setting) (words : List ℕ) (players : ℕ → Player) (r : Run) (
     histories = histories;
   }
 
-  done : (next : Run) × GoesOnBy r (Begins n call (chosen (players n).seat)) next × Stands p words after_players next
+  done : (next : Run) × GoesOnBy r (Begins n call (chosen (players n).seat)) next × (later : Stands p words after_players next)
+      × (later.held ≡ held_at p stands.held z.local) × (later.contents ≡ stands.contents)
   done =
       let b = Begins n call (chosen (players n).seat) in
       let on = run_on r b (begun r.last n (chosen (players n).seat) call) result.0 in (
@@ -177,6 +178,8 @@ module _ (p : Setting) (words : List ℕ) (players : ℕ → Player) (r : Run) (
         to_stands on.0
             (subst (Whole p (held_at p stands.held z.local) (word_of words) stands.contents (put_at seats n z)) (sym on.2) result.1)
             (λ k. ap (history k) on.1.beats ∙ history_on k r.beats b ∙ ap (λ xs. xs ++ beat_said k) (stands.histories k) ∙ said k),
+        refl,
+        refl,
       )
 
 pub begins_keep : BeginsKeep

@@ -39,7 +39,7 @@ gone_now n (m ∷ ms) lives = by_case (m.number == n) refl (gone_now n ms)
     by_case true is later = none-some NodeIsDead (sym (rw (is, is) at lives))
     by_case false is later = later (rw (is, is) at lives)
 
-lived : (w u : World) (n k : ℕ) → IsBeat w (Dies n) u → not_living u.state k ≡ None → not_living w.state k ≡ None
+pub lived : (w u : World) (n k : ℕ) → IsBeat w (Dies n) u → not_living u.state k ≡ None → not_living w.state k ≡ None
 lived w u n k beat lives = at (not_living w.state k) refl
   where
     at : (o : Option Refusal) → not_living w.state k ≡ o → o ≡ None
@@ -84,7 +84,7 @@ module _ (p : Setting) (words : List ℕ) (players : ℕ → Player) (r : Run) (
       counted : (y : Way) → is_counted_on u.state.fixed y ≡ true → is_counted_on w.state.fixed y ≡ true
       counted y on = ap (λ (f : Fixed). is_counted_on f y) (sym same) ∙ on
 
-  keeps : (next : Run) → next.last ≡ u → next.beats ≡ r.beats ++ Dies n ∷ [] → Stands p words players next
+  abbrev keeps : (next : Run) → next.last ≡ u → next.beats ≡ r.beats ++ Dies n ∷ [] → Stands p words players next
   keeps next last beats = record {
     held = stands.held;
     contents = stands.contents;
@@ -107,4 +107,4 @@ module _ (p : Setting) (words : List ℕ) (players : ℕ → Player) (r : Run) (
 pub deaths_keep : DeathsKeep
 deaths_keep p words players r n u stands beat =
     let on = run_on r (Dies n) u beat in
-    (on.0, on.1, on.2, keeps p words players r n u stands beat on.0 on.2 on.1.beats)
+    (on.0, on.1, on.2, keeps p words players r n u stands beat on.0 on.2 on.1.beats, refl, refl)

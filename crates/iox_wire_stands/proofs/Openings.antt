@@ -1,5 +1,5 @@
 -- As a wire opens, its words and nodes stand for a run without a beat.
-use Rattle.std.specs.Prelude.{◌<◌, ◌^◌, ◌&&◌, not, nat_lt, find, flat_map, map, replicate, is_some, if◌then◌else◌}
+use Rattle.std.specs.Prelude.{◌≤◌, ◌<◌, ◌^◌, ◌&&◌, not, nat_lt, find, flat_map, map, replicate, is_some, if◌then◌else◌}
 use Rattle.std.specs.List.{list_all, range_with_len}
 use Rattle.std.specs.Option.{option_map_or}
 use Rattle.std.proofs.Common.{◌≡◌, ℕ, ◌+◌, Bool, true, false, ◌==◌, List, [], Some, None, refl, ap, sym, subst, ◌∙◌, arith, eq-eqb, eqb-true, true≢false}
@@ -365,8 +365,12 @@ a_wire_opens plan p s is agrees reach allowed =
         nodes = λ n lives. node plan p s is agrees n;
         histories = λ n. refl;
       },
+      λ port slot. beyond slot,
     )
   where
+    beyond : (slot : ℕ) → 2 ^ 64 ≤ 2 ^ 64 + slot
+    beyond slot = omega arith
+
     room : (y : Way) → IsWay p.layout.sizes y
         → p.layout.capacity (ReturningQueue y) ≡ buffer_on (opened s).fixed y + borrow_limit_on (opened s).fixed y + 1
     room y =

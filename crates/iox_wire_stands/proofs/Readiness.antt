@@ -36,7 +36,7 @@ module _ (p : Setting) (held : Pools) (word : ℕ → ℕ) (c : WireContents) (s
   counts : Counts p x w.state held
   counts = shows.counts n living
 
-  own_port : (m : ℕ) (q : Port) → port_at (known p x) m ≡ Some q → q.node ≡ x.node → IsOwnPort p x w.state q
+  pub own_port : (m : ℕ) (q : Port) → port_at (known p x) m ≡ Some q → q.node ≡ x.node → IsOwnPort p x w.state q
   own_port m q at mine =
       let among = find-among (λ (r : Port). r.number == m) q (map p.port numbers) at in
       let same : q.number ≡ m = eqb-true q.number m among.1 in

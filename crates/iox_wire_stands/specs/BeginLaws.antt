@@ -64,7 +64,7 @@ BeginsKeepNodes =
     → NodeStands p (held_at p held (begin p x call).local) w.state (begin p x call)
 
 -- A call that is not refused leads from what stands to what stands: it is one beat of the machine,
--- and no word changes.
+-- and no word changes. A loan that takes a slot at once has its message there.
 abbrev pub BeginsKeep : Type 0
 BeginsKeep =
     (p : Setting) (words : List ℕ) (players : ℕ → Player) (r : Run) (n : ℕ) (call : WireCall)
@@ -72,8 +72,10 @@ BeginsKeep =
     → let x = (players n).seat in
     MayBegin p stands.held r.last.state x call → begin_refusal r.last n call ≡ None
     → (next : Run) × GoesOnBy r (Begins n call (choice_for p x call)) next
-    × Stands p words
+    × (later : Stands p words
     (put_at players n (record {
       seat = begin p x call;
       said = (players n).said ++ Asked call ∷ [];
-    })) next
+    })) next)
+    × (later.held ≡ held_at p stands.held (begin p x call).local)
+    × (later.contents ≡ stands.contents)

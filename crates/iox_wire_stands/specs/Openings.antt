@@ -1,5 +1,5 @@
 -- A wire as it opens: all words are 0, and no node has anything yet.
-use Rattle.std.specs.Prelude.{◌≡◌, ℕ, ◌<◌, ◌==◌, if◌then◌else◌, true, List, [], filter, flat_map, map, replicate, None}
+use Rattle.std.specs.Prelude.{◌^◌, ◌≤◌, ◌≡◌, ℕ, ◌<◌, ◌==◌, if◌then◌else◌, true, List, [], filter, flat_map, map, replicate, None}
 use Rattle.std.specs.List.{range_with_len}
 use Rattle.iox_model.specs.declared.kind.Role.{Role}
 use Rattle.iox_model.specs.declared.way.Way.{Way}
@@ -81,11 +81,12 @@ pub record AgreesWith (plan : WirePlan) (p : Setting) (s : State) : Type 0 where
       → 0 < planned_buffer plan.limits role
 
 -- A wire that opens on a state that a service reached: its words are all 0, each node has nothing,
--- and no beat was made. They stand for that run.
+-- and no beat was made. They stand for that run, with serials in the slots that are of no loan.
 abbrev pub AWireOpens : Type 0
 AWireOpens =
     (plan : WirePlan) (p : Setting) (s : State) → IsPlan plan → AgreesWith plan p s
     → IsReachableState s → wire_refusal s 0 true ≡ None
     → (r : Run) × (r.first ≡ at_work (opened s)) × (r.beats ≡ []) × (r.last ≡ at_work (opened s))
-    × Stands p (replicate (total_words p.layout.sizes) 0)
-    (λ n. record { seat = opened_seat p n; said = [] }) r
+    × (stands : Stands p (replicate (total_words p.layout.sizes) 0)
+    (λ n. record { seat = opened_seat p n; said = [] }) r)
+    × ((port slot : ℕ) → 2 ^ 64 ≤ (stands.held port slot).serial)

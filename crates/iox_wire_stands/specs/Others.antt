@@ -23,9 +23,13 @@ OthersLeaveNodes =
     → Counts p x w.state held → ShowsDoing p held w x
     → NodeStands p held w.state x → NodeStands p held u.state x
 
--- Once a node died, the same words and nodes stand for the run with that beat.
+-- Once a node died, the same words and nodes stand for the run with that beat, and slots hold what
+-- they held.
 abbrev pub DeathsKeep : Type 0
 DeathsKeep =
     (p : Setting) (words : List ℕ) (players : ℕ → Player) (r : Run) (n : ℕ) (u : World)
-    → Stands p words players r → IsBeat r.last (Dies n) u
-    → (next : Run) × GoesOnBy r (Dies n) next × (next.last ≡ u) × Stands p words players next
+    (stands : Stands p words players r)
+    → IsBeat r.last (Dies n) u
+    → (next : Run) × GoesOnBy r (Dies n) next × (next.last ≡ u)
+    × (later : Stands p words players next)
+    × (later.held ≡ stands.held) × (later.contents ≡ stands.contents)

@@ -44,8 +44,9 @@ not_pending kinds.Client is = refl
 not_pending kinds.Server is = refl
 
 -- what a pool has is not beyond it
-pub aside_agrees : (p : Setting) (x : Seat) (node : ℕ) (e : Entry) (held : Pools) → AgreeInPools p x held (held_with held e.sender (slot_aside p node e) (held e.sender e.slot))
-aside_agrees p x node e held port slot own low =
+pub aside_in_pools : (p : Setting) (node : ℕ) (e : Entry) (held : Pools) (port slot : ℕ) → IsInPool p port slot
+    → held_with held e.sender (slot_aside p node e) (held e.sender e.slot) port slot ≡ held port slot
+aside_in_pools p node e held port slot low =
     by_case ((e.sender == port) && (slot_aside p node e == slot)) (λ is.
     let parts = split (e.sender == port) (slot_aside p node e == slot) is in
     beyond (p.port port).pool node slot low (sym (eqb-true (slot_aside p node e) slot parts.1) ∙ ap (λ q. (p.port q).pool + node) (eqb-true e.sender port parts.0)))
@@ -56,6 +57,9 @@ aside_agrees p x node e held port slot own low =
     by_case : (b : Bool) → (b ≡ true → ⊥) → (if b then held e.sender e.slot else held port slot) ≡ held port slot
     by_case true never = absurd (never refl)
     by_case false never = refl
+
+pub aside_agrees : (p : Setting) (x : Seat) (node : ℕ) (e : Entry) (held : Pools) → AgreeInPools p x held (held_with held e.sender (slot_aside p node e) (held e.sender e.slot))
+aside_agrees p x node e held port slot own low = aside_in_pools p node e held port slot low
 
 module _ (p : Setting) (held : Pools) (s : State) (v : Seat) (e : Entry) (has : HasEntry (placed v (ReleaseLooks e)) e) (received : is_received e.kind ≡ true)
     (entries : (q : Entry) → HasEntry (placed v (ReleaseLooks e)) q → EntryFits p q)

@@ -35,6 +35,7 @@ use Rattle.iox_wire_stands.specs.Stands.{Player, Stands, seats_of, word_of}
 use Rattle.iox_wire_stands.proofs.Runs.{history_on, last_empty, run_on}
 use Rattle.iox_wire_stands.proofs.StepsAround.{Around, Whole}
 use Rattle.iox_wire_stands.proofs.StepsKept.{shown_same}
+use Rattle.iox_wire_steps.specs.WholeSteps.{held_closed}
 use Rattle.iox_wire_steps.specs.Over.{EndIsTold, EndsWith, IsDropped}
 use Rattle.iox_wire_steps.specs.OverLaws.{StandingNodesEnd}
 use Rattle.iox_wire_steps.specs.WholeEnds.{EndsKeep, player_ended}
@@ -132,8 +133,8 @@ module _ (p : Setting) (words : List ℕ) (players : ℕ → Player) (r : Run) (
   abbrev Result : Seat → Type 0
   Result q =
       IsBeat r.last (Ends q.node (reply_of p q ending) payload) (over r.last q.node payload (outcome_of p stands.held q.node ending))
-      × ((new : Pools) × Whole p new (word_of words) stands.contents (put_at seats n (closed p q (Some ending)))
-      (over r.last q.node payload (outcome_of p stands.held q.node ending)))
+      × Whole p (held_closed p stands.held payload (Some ending)) (word_of words) stands.contents (put_at seats n (closed p q (Some ending)))
+      (over r.last q.node payload (outcome_of p stands.held q.node ending))
 
   -- what stands around the node
   around : Around p stands.held (word_of words) stands.contents seats r.last n
@@ -208,7 +209,8 @@ module _ (p : Setting) (words : List ℕ) (players : ℕ → Player) (r : Run) (
       let on = run_on r beat u (subst (λ k. IsBeat r.last (Ends k (reply_of p (players n).seat ending) payload) u) node result.0) in (
         on.0,
         on.1,
-        to_stands result.1.0 on.0 (subst (Whole p result.1.0 (word_of words) stands.contents (put_at seats n z)) (sym on.2) result.1.1)
+        to_stands (held_closed p stands.held payload (Some ending)) on.0
+            (subst (Whole p (held_closed p stands.held payload (Some ending)) (word_of words) stands.contents (put_at seats n z)) (sym on.2) result.1)
             (λ k. ap (history k) on.1.beats ∙ history_on k r.beats beat ∙ ap (λ xs. xs ++ said_in k beat) (stands.histories k) ∙ said k),
       )
 

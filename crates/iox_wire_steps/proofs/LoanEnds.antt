@@ -19,7 +19,7 @@ use Rattle.iox_wire_locals.specs.Settlements.{reply_of}
 use Rattle.iox_wire_locals.specs.Steps.{closed}
 use Rattle.iox_wire_locals.specs.Tables.{Setting}
 use Rattle.iox_wire_laws.specs.WireKeeping.UsedSlots.{CallHolds}
-use Rattle.iox_wire_laws.specs.WireHolding.Holding.{held_with}
+use Rattle.iox_wire_laws.specs.WireHolding.Holding.{held_ended, held_with}
 use Rattle.iox_wire_laws.specs.WireHolding.Named.{IsUnnamed, place_names}
 use Rattle.iox_wire_laws.specs.WireHolding.SlotsKnown.{IsPortOfSeat, NamesStand, PlaceStands}
 use Rattle.iox_wire_laws.proofs.WireHolding.HoldingLaws.{one_slot_changes}
@@ -32,6 +32,7 @@ use Rattle.iox_wire_stands.specs.StepLaws.{TakenStays}
 use Rattle.iox_wire_stands.proofs.OtherSlots.{other_slots_may_change}
 use Rattle.iox_wire_stands.proofs.OthersHold.{named_taken}
 use Rattle.iox_wire_stands.proofs.StepsAround.{Around, Whole}
+use Rattle.iox_wire_steps.specs.WholeSteps.{held_closed}
 use Rattle.iox_wire_steps.specs.Over.{EndIsTold, CallIsOver}
 use Rattle.iox_wire_steps.proofs.Added as added
 use Rattle.iox_wire_steps.proofs.EndsWhole.{HoldsLoan, ends_there, ends_whole}
@@ -49,14 +50,19 @@ module _ (p : Setting) (held : Pools) (word : ℕ → ℕ) (c : WireContents) (s
   abbrev Ended : Ending → List ℕ → Type 0
   Ended ending payload =
       IsBeat w (Ends x.node (reply_of p x ending) payload) (over w x.node payload (outcome_of p held x.node ending))
-      × ((new : Pools) × Whole p new word c (put_at seats n (closed p x (Some ending))) (over w x.node payload (outcome_of p held x.node ending)))
+      × Whole p (held_closed p held payload (Some ending)) word c (put_at seats n (closed p x (Some ending))) (over w x.node payload (outcome_of p held x.node ending))
+
+  abbrev EndedSo : Ending → List ℕ → Type 0
+  EndedSo ending payload =
+      IsBeat w (Ends x.node (reply_of p x ending) payload) (over w x.node payload (outcome_of p held x.node ending))
+      × Whole p (held_ended held payload ending) word c (put_at seats n (closed p x (Some ending))) (over w x.node payload (outcome_of p held x.node ending))
 
   ended_with : (ending : Ending) (payload : List ℕ) → CallIsOver p held w.state x ending → EndIsTold p held w.state x ending → HoldsLoan p held ending
-      → MayHold w.state.fixed (outcome_of p held x.node ending) payload → Ended ending payload
+      → MayHold w.state.fixed (outcome_of p held x.node ending) payload → EndedSo ending payload
   ended_with ending payload ends told loan may =
       let led = ends_whole p held word c seats w n ending payload numbered around.shows around.layout around.owners around.rooms around.queues around.nodes living
       ends told loan may in
-      (led.0, (_, led.1))
+      (led.0, led.1)
 
   -- ---- a loan
 
@@ -154,7 +160,7 @@ module _ (p : Setting) (held : Pools) (word : ℕ → ℕ) (c : WireContents) (s
     loan_ended =
         let led = ends_whole p lent word c seats w n (endings.Lends o slot) payload numbered around_lent.shows around_lent.layout around_lent.owners around_lent.rooms
         around_lent.queues around_lent.nodes living over_lent tt (one_slot_changes held o.port slot (message_in p o)).0 may in
-        (led.0, (_, led.1))
+        (led.0, led.1)
 
   -- ---- any end
 

@@ -1,7 +1,7 @@
 -- The access that gives a request back: all stands, with its entry put aside as the node is shown.
 use Rattle.std.specs.Prelude.{◌⊎◌, ◌<◌}
 use Rattle.std.specs.List.{list_any}
-use Rattle.std.proofs.Common.{◌≡◌, ℕ, ◌+◌, Bool, true, false, if◌then◌else◌, ◌==◌, ◌&&◌, [], Option, Some, None, refl, ap, sym, subst, ◌∙◌, inl, inr, arith, eqb-true, true≢false}
+use Rattle.std.proofs.Common.{◌≡◌, ℕ, ◌+◌, Bool, true, false, if◌then◌else◌, ◌==◌, ◌&&◌, List, Option, Some, None, refl, ap, sym, subst, ◌∙◌, inl, inr, arith, eqb-true, true≢false}
 use Rattle.iox_model.specs.declared.way.Way.{Way}
 use Rattle.iox_model.specs.Handles.{is_received}
 use Rattle.iox_model.specs.Joins.{not_living}
@@ -24,7 +24,7 @@ use Rattle.iox_wire_locals.specs.declared.table.Entry.{Entry}
 use Rattle.iox_wire_locals.specs.Courses.{placed}
 use Rattle.iox_wire_locals.specs.Locals.{program_of}
 use Rattle.iox_wire_locals.specs.StateMoments.{moment_at}
-use Rattle.iox_wire_locals.specs.Steps.{accessed, advance}
+use Rattle.iox_wire_locals.specs.Steps.{accessed, advance, ending_at}
 use Rattle.iox_wire_locals.specs.Tables.{Setting}
 use Rattle.iox_wire_laws.specs.WireKeeping.Shows.{ShowsWorld}
 use Rattle.iox_wire_laws.specs.WireKeeping.Writes.{is_slot_of}
@@ -45,10 +45,10 @@ use Rattle.iox_wire_stands.specs.StepLaws.{TakenStays}
 use Rattle.iox_wire_stands.proofs.NodesFollow.{KeptPart}
 use Rattle.iox_wire_stands.proofs.OthersHold.{named_taken}
 use Rattle.iox_wire_stands.proofs.StepsAround.{Around, AroundNext, Whole, goes_around, own_part}
-use Rattle.iox_wire_steps.specs.WholeSteps.{step_beats}
-use Rattle.iox_wire_steps.proofs.AsideNodes.{aside_agrees, aside_stands}
+use Rattle.iox_wire_steps.specs.WholeSteps.{HoldsNext, held_closed, step_beats}
+use Rattle.iox_wire_steps.proofs.AsideNodes.{aside_agrees, aside_in_pools, aside_stands}
 use Rattle.iox_wire_steps.proofs.FarPools.{far_slots_may_change}
-use Rattle.iox_wire_steps.proofs.LastSteps.{LedTo, put_again}
+use Rattle.iox_wire_steps.proofs.LastSteps.{Holding, LedTo, put_again}
 
 -- ---- once it is given back
 
@@ -127,7 +127,7 @@ module _ (p : Setting) (held : Pools) (word word' : ℕ → ℕ) (c : WireConten
 
   module _ (told : IsTold p held w.state x seen) (made : IsMade (program_access p.layout (program_of p x.local)) word word') (e : Entry) (place : Pushing)
       (at : x.local ≡ ReleaseReturns e place) (to : advance p (accessed x) x.local seen ≡ placed (accessed x) (ReleaseLooks e))
-      (received : is_received e.kind ≡ true) where
+      (received : is_received e.kind ≡ true) (payload : List ℕ) where
     mine : NodeStands p held w.state x
     mine = whole.nodes n living
 
@@ -173,8 +173,21 @@ module _ (p : Setting) (held : Pools) (word word' : ℕ → ℕ) (c : WireConten
             (λ i other l. before.places i (lives_before i l)) k lives;
       }
 
+    abbrev H : Holding
+    H = HoldsNext p (seats n) (seen_by (program_access p.layout (program_of p (seats n).local)) word) payload held c
+
+    -- slots of pools hold what they held
+    holds : HoldsNext p (seats n) (seen_by (program_access p.layout (program_of p (seats n).local)) word) payload held c
+        (held_with new e.sender (slot_aside p n e) (new e.sender e.slot)) after
+    holds = record {
+      pools = λ port slot low.
+          aside_in_pools p n e new port slot low
+          ∙ ap (λ (q : Seat). held_closed p new payload (ending_at q.local) port slot) (sym to);
+      contents = refl;
+    }
+
     by_moment : (m : Option Moment) → AroundNext p new word' after (put_at seats n z) w n m → KeptPart p new (state_after w.state m) z
-        → LedTo p word' w (step_beats n [] m None) (put_at seats n (shown p z))
+        → LedTo H p word' w (step_beats n payload m None) (put_at seats n (shown p z))
     by_moment None around part = (
       held_with new e.sender (slot_aside p n e) (new e.sender e.slot),
       after,
@@ -182,6 +195,7 @@ module _ (p : Setting) (held : Pools) (word word' : ℕ → ℕ) (c : WireConten
       refl,
       aside_whole p new word' after seats w n (accessed (seats n)) e around living (whole.shows.node n) has received mine.names.entries low part
           (after_too w around (λ k lives. lives)),
+      holds,
     )
     by_moment (Some m) next part =
         let u : World = next.0 in
@@ -193,9 +207,10 @@ module _ (p : Setting) (held : Pools) (word word' : ℕ → ℕ) (c : WireConten
           (u, next.1, refl),
           aside_whole p new word' after seats u n (accessed (seats n)) e next.3 (lives n ∙ living) (whole.shows.node n) has received mine.names.entries low
               (subst (λ s. KeptPart p new s z) (sym next.2) part) (after_too u next.3 (λ k l. sym (lives k) ∙ l)),
+          holds,
         )
 
-    pub aside_led : LedTo p word' w (step_beats n [] (moment_at p held x.local seen) None) (put_at seats n (shown p z))
+    pub aside_led : LedTo H p word' w (step_beats n payload (moment_at p held x.local seen) None) (put_at seats n (shown p z))
     aside_led =
         by_moment (moment_at p held x.local seen)
         (subst (λ q. AroundNext p new word' after (put_at seats n q) w n (moment_at p held x.local seen)) to

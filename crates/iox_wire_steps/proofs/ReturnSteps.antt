@@ -173,7 +173,9 @@ module _ (p : Setting) (words : List ℕ) (players : ℕ → Player) (r : Run) (
 
 pub return_steps_keep : ReturnStepsKeep
 return_steps_keep p words words' players r n payload stands y place living at known below made len =
+    let kept =
     whole_steps_keep p words words' players r n payload stands living
     (subst (λ z. StepIsTold p stands.held r.last.state z (seen_by (program_access p.layout (program_of p (players n).seat.local)) (word_of words)) payload)
     (sym (here p words players r n payload stands y place living at known below))
-    (step_told p words players r n payload stands y place living at known below)) made len
+    (step_told p words players r n payload stands y place living at known below)) made len in
+    (kept.0, kept.1, kept.2)

@@ -10,7 +10,7 @@ use Rattle.iox_model.specs.Moments.{Moment}
 use Rattle.iox_model.specs.States.{State}
 use Rattle.iox_model.specs.Weaves.{Ends, World}
 use Rattle.iox_model.specs.WholeCalls.{MayHold}
-use Rattle.iox_laws.proofs.WeaveLedger.Truths.{or-left}
+use Rattle.iox_laws.proofs.WeaveLedger.Truths.{none-some, or-left}
 use Rattle.iox_steps.specs.Accesses.{seen_by}
 use Rattle.iox_steps.specs.declared.side.Pushing.{Pushing}
 use Rattle.iox_steps.specs.declared.side.QueueEvent.{QueueEvent}
@@ -22,7 +22,7 @@ use Rattle.iox_wire_moments.specs.MomentsOf.{Pools}
 use Rattle.iox_wire_locals.specs.declared.local.Ending.{Ending}
 use Rattle.iox_wire_locals.specs.declared.local.Ending.TheVariants as endings
 use Rattle.iox_wire_locals.specs.declared.local.Local.{Local}
-use Rattle.iox_wire_locals.specs.declared.local.Local.TheVariants.{ReleaseLooks, ReleaseReturns}
+use Rattle.iox_wire_locals.specs.declared.local.Local.TheVariants.{Ends, ReleaseLooks, ReleaseReturns, SendEnds}
 use Rattle.iox_wire_locals.specs.declared.seat.Seat.{Seat}
 use Rattle.iox_wire_locals.specs.declared.table.Entry.{Entry}
 use Rattle.iox_wire_locals.specs.Courses.{ended, placed}
@@ -42,11 +42,11 @@ use Rattle.iox_wire_stands.specs.NodeLaws.{IsTold}
 use Rattle.iox_wire_stands.specs.Stands.{AreNumbered}
 use Rattle.iox_wire_stands.proofs.StepsAround.{Whole, WholeNext, goes_on}
 use Rattle.iox_wire_steps.specs.Over.{EndIsTold}
-use Rattle.iox_wire_steps.specs.WholeSteps.{StepIsTold, step_beats}
+use Rattle.iox_wire_steps.specs.WholeSteps.{HoldsNext, StepIsTold, held_closed, step_beats}
 use Rattle.iox_wire_steps.proofs.Accessed.{HasNone, around_too, no_access, over_too, same_words}
 use Rattle.iox_wire_steps.proofs.EndsStand.{ended_leaves, standing_nodes_end}
 use Rattle.iox_wire_steps.proofs.LastAccesses.{returns_none}
-use Rattle.iox_wire_steps.proofs.LastSteps.{LedTo, end_led, last_led}
+use Rattle.iox_wire_steps.proofs.LastSteps.{Holding, LedTo, end_led, last_led}
 use Rattle.iox_wire_steps.proofs.PutsAside.{aside_led}
 
 -- ---- whether a request is given back
@@ -79,6 +79,13 @@ returned_next : (x : Seat) (e k : Entry) (place : Pushing) (event : QueueEvent) 
 returned_next x e k place (Publish slot) message = looks_next x e k (same_kind e.kind ActiveRequest) refl message
 returned_next x e k place event message = absurd (subst NotLeaving message tt)
 
+-- without an access the words hold the same
+same_contents : (p : Setting) (local : Local) (seen : ℕ) (c : WireContents) (ending : Ending) → ending_at local ≡ Some ending
+    → contents_after p.layout (program_of p local) seen c ≡ c
+same_contents p (Ends k) seen c ending is = refl
+same_contents p (SendEnds d last count) seen c ending is = refl
+same_contents p local seen c ending is = none-some ending is
+
 -- ---- the step
 
 module _ (p : Setting) (held : Pools) (word word' : ℕ → ℕ) (c : WireContents) (seats : ℕ → Seat) (w : World) (n : ℕ) (payload : List ℕ)
@@ -101,9 +108,13 @@ module _ (p : Setting) (held : Pools) (word word' : ℕ → ℕ) (c : WireConten
   abbrev new : Pools
   new = held_after p x seen held
 
+  -- what slots hold then
+  abbrev H : Holding
+  H = HoldsNext p (seats n) (seen_by (program_access p.layout (program_of p (seats n).local)) word) payload held c
+
   -- what stands then, unless a request was given back: then it is put aside
   abbrev Steps : (ℕ → Seat) → Type 0
-  Steps ss = LedTo p word' w (step_beats n payload m (tells p x seen)) ss
+  Steps ss = LedTo H p word' w (step_beats n payload m (tells p x seen)) ss
 
   abbrev Done : Type 0
   Done =
@@ -127,15 +138,19 @@ module _ (p : Setting) (held : Pools) (word word' : ℕ → ℕ) (c : WireConten
         = subst (λ k. MayHold w.state.fixed (outcome_of p held k ending) payload) (whole.shows.node n)
         (subst (λ (s : State). MayHold s.fixed (outcome_of p held x.node ending) payload) state
         (subst (λ h. MayHold t.fixed (outcome_of p h x.node ending) payload) pools tells_end.1)) in
-        let led : LedTo p word w (Ends n (reply_of p (accessed x) ending) payload ∷ []) (put_at seats n (closed p (accessed x) (Some ending)))
+        let led : LedTo H p word w (Ends n (reply_of p (accessed x) ending) payload ∷ []) (put_at seats n (closed p (accessed x) (Some ending)))
         = end_led p held word c seats w n (accessed x) ending payload numbered (around_too p held word c seats w n whole) living
-        (over_too p held w.state x ending (standing_nodes_end p held w.state x ending is (whole.nodes n living))) ends_told (whole.shows.node n) may in
+        (over_too p held w.state x ending (standing_nodes_end p held w.state x ending is (whole.nodes n living))) ends_told (whole.shows.node n) may H
+        (record {
+          pools = λ port slot low. ap (λ h. held_closed p h payload (Some ending) port slot) (sym pools) ∙ ap (λ o. held_closed p new payload o port slot) (sym at_end);
+          contents = sym (same_contents p x.local seen c ending is);
+        }) in
         inl (
           returns_none x.local (message_at z.local) (ended_leaves z.local ending at_end),
-          subst (λ o. LedTo p word' w (step_beats n payload o (tells p x seen)) (put_at seats n (next p x seen))) (sym none.moment)
-              (subst (λ q. LedTo p word' w (step_beats n payload None (option_map (reply_of p q) (ending_at q.local))) (put_at seats n (closed p q (ending_at q.local)))) (sym seat)
-              (subst (λ o. LedTo p word' w (step_beats n payload None (option_map (reply_of p (accessed x)) o)) (put_at seats n (closed p (accessed x) o))) (sym is)
-              (subst (λ f. LedTo p f w (Ends n (reply_of p (accessed x) ending) payload ∷ []) (put_at seats n (closed p (accessed x) (Some ending))))
+          subst (λ o. LedTo H p word' w (step_beats n payload o (tells p x seen)) (put_at seats n (next p x seen))) (sym none.moment)
+              (subst (λ q. LedTo H p word' w (step_beats n payload None (option_map (reply_of p q) (ending_at q.local))) (put_at seats n (closed p q (ending_at q.local)))) (sym seat)
+              (subst (λ o. LedTo H p word' w (step_beats n payload None (option_map (reply_of p (accessed x)) o)) (put_at seats n (closed p (accessed x) o))) (sym is)
+              (subst (λ f. LedTo H p f w (Ends n (reply_of p (accessed x) ending) payload ∷ []) (put_at seats n (closed p (accessed x) (Some ending))))
               (same_words p x.local word word' ending is made) led))),
         )
 
@@ -147,26 +162,30 @@ module _ (p : Setting) (held : Pools) (word word' : ℕ → ℕ) (c : WireConten
         = subst (λ k. MayHold t.fixed (outcome_of p new k ending) payload) (whole.shows.node n) tells_end.1 in
         inl (
           returns_none x.local (message_at z.local) (ended_leaves z.local ending is),
-          subst (λ o. LedTo p word' w (step_beats n payload m (option_map (reply_of p z) o)) (put_at seats n (closed p z o))) (sym is)
+          subst (λ o. LedTo H p word' w (step_beats n payload m (option_map (reply_of p z) o)) (put_at seats n (closed p z o))) (sym is)
               (last_led p held word word' c seats w n numbered whole living access made ending payload is tells_end.0 may),
         )
 
     -- or another follows
-    of_next : (o : Option Moment) → WholeNext p new word' (contents_after p.layout (program_of p x.local) seen c) (put_at seats n z) w n o
-        → LedTo p word' w (step_beats n payload o None) (put_at seats n z)
-    of_next None now = (new, contents_after p.layout (program_of p x.local) seen c, w, refl, now)
-    of_next (Some o) now = (new, contents_after p.layout (program_of p x.local) seen c, now.0, (now.0, now.1, refl), now.2)
+    holds_now : ending_at z.local ≡ None → HoldsNext p (seats n) (seen_by (program_access p.layout (program_of p (seats n).local)) word) payload held c new
+        (contents_after p.layout (program_of p x.local) seen c)
+    holds_now going = record { pools = λ port slot low. ap (λ o. held_closed p new payload o port slot) (sym going); contents = refl }
+
+    of_next : ending_at z.local ≡ None → (o : Option Moment) → WholeNext p new word' (contents_after p.layout (program_of p x.local) seen c) (put_at seats n z) w n o
+        → LedTo H p word' w (step_beats n payload o None) (put_at seats n z)
+    of_next going None now = (new, contents_after p.layout (program_of p x.local) seen c, w, refl, now, holds_now going)
+    of_next going (Some o) now = (new, contents_after p.layout (program_of p x.local) seen c, now.0, (now.0, now.1, refl), now.2, holds_now going)
 
     -- nothing ends
-    still : (ss : ℕ → Seat) → ending_at z.local ≡ None → LedTo p word' w (step_beats n payload m None) ss → Steps ss
-    still ss going led = subst (λ o. LedTo p word' w (step_beats n payload m (option_map (reply_of p z) o)) ss) (sym going) led
+    still : (ss : ℕ → Seat) → ending_at z.local ≡ None → LedTo H p word' w (step_beats n payload m None) ss → Steps ss
+    still ss going led = subst (λ o. LedTo H p word' w (step_beats n payload m (option_map (reply_of p z) o)) ss) (sym going) led
 
     goes_now : IsTold p held w.state x seen → ending_at z.local ≡ None → ReturnsNothing x.local (message_at z.local) ⊎ GivesBack x.local (message_at z.local) → Done
     goes_now access going (inl returns) =
         inl (
           returns,
-          still (put_at seats n (next p x seen)) going (subst (λ o. LedTo p word' w (step_beats n payload m None) (put_at seats n (closed p z o))) (sym going)
-              (of_next m (goes_on p held word word' c seats w n numbered whole living access made returns going))),
+          still (put_at seats n (next p x seen)) going (subst (λ o. LedTo H p word' w (step_beats n payload m None) (put_at seats n (closed p z o))) (sym going)
+              (of_next going m (goes_on p held word word' c seats w n numbered whole living access made returns going))),
         )
     goes_now access going (inr back) =
         let to = returned_next (accessed x) back.entry back.leaving _ _
@@ -175,9 +194,9 @@ module _ (p : Setting) (held : Pools) (word word' : ℕ → ℕ) (c : WireConten
         inr (
           subst (λ l. LeavesNothing (message_at l)) (sym back.at) tt,
           still (put_at seats n (shown p (next p x seen))) going
-              (subst (λ o. LedTo p word' w (step_beats n payload m None) (put_at seats n (shown p (closed p z o)))) (sym going)
-              (subst (λ q. LedTo p word' w (step_beats n payload m None) (put_at seats n (shown p q))) (sym lands)
-              (aside_led p held word word' c seats w n numbered whole living access made back.entry back.place back.at lands to.1))),
+              (subst (λ o. LedTo H p word' w (step_beats n payload m None) (put_at seats n (shown p (closed p z o)))) (sym going)
+              (subst (λ q. LedTo H p word' w (step_beats n payload m None) (put_at seats n (shown p q))) (sym lands)
+              (aside_led p held word word' c seats w n numbered whole living access made back.entry back.place back.at lands to.1 payload))),
         )
 
     by_next : IsTold p held w.state x seen → (o : Option Ending) → ending_at z.local ≡ o → Done

@@ -149,5 +149,7 @@ shown_too p x local is at = subst IsAtState (sym is) at
 
 pub state_steps_keep : StateStepsKeep
 state_steps_keep p words words' players r n payload stands living at made len =
+    let kept =
     whole_steps_keep p words words' players r n payload stands living
-    (step_told p stands.held r.last.state (shown p (players n).seat) _ payload (shown_too p (players n).seat (players n).seat.local refl at)) made len
+    (step_told p stands.held r.last.state (shown p (players n).seat) _ payload (shown_too p (players n).seat (players n).seat.local refl at)) made len in
+    (kept.0, kept.1, kept.2)

@@ -40,10 +40,10 @@ use Rattle.iox_wire_stands.proofs.Follows.{accesses_follow}
 use Rattle.iox_wire_stands.proofs.Runs.{last_empty}
 use Rattle.iox_wire_stands.proofs.StepsAround.{Whole}
 use Rattle.iox_wire_stands.proofs.StepsKept.{leaves_nothing, shown_same}
-use Rattle.iox_wire_steps.specs.WholeSteps.{GoesOnWith, StepIsTold, WholeStepsKeep, said_with, player_next, reply_beats, step_beats}
+use Rattle.iox_wire_steps.specs.WholeSteps.{GoesOnWith, HoldsNext, StepIsTold, WholeStepsKeep, said_with, player_next, reply_beats, step_beats}
 use Rattle.iox_wire_steps.proofs.EndsStand.{ended_leaves}
 use Rattle.iox_wire_steps.proofs.Homes as homes
-use Rattle.iox_wire_steps.proofs.LastSteps.{LedTo}
+use Rattle.iox_wire_steps.proofs.LastSteps.{Holding, LedTo}
 use Rattle.iox_wire_steps.proofs.SeatSteps.{done}
 
 -- ---- runs
@@ -83,13 +83,13 @@ said_then n k payload (Some m) reply = reply_said n k payload reply
 -- ---- a release that goes on
 
 -- any other place has put nothing aside
-abbrev IsOther : Local → Type 0
+abbrev pub IsOther : Local → Type 0
 IsOther (ReleaseLooks e) = ⊥
 IsOther (ReleaseExchanges e old) = ⊥
 IsOther local = Unit {0}
 
 -- and these two have
-abbrev IsLeft : Local → Type 0
+abbrev pub IsLeft : Local → Type 0
 IsLeft (ReleaseLooks e) = Unit {0}
 IsLeft (ReleaseExchanges e old) = Unit {0}
 IsLeft local = ⊥
@@ -97,25 +97,25 @@ IsLeft local = ⊥
 ending_none : (ending : Ending) → LeavesNothing (message_at (Ends ending))
 ending_none ending = ended_leaves (Ends ending) ending refl
 
-leaving_none : (local : Local) → IsOther local → LeavesNothing (message_at local)
+pub leaving_none : (local : Local) → IsOther local → LeavesNothing (message_at local)
 leaving_none (ReleaseLooks e) other = other
 leaving_none (ReleaseExchanges e old) other = other
 leaving_none (Ends ending) other = ending_none ending
 leaving_none local other = tt
 
 -- a release that gave its message back is one of what was received
-abbrev IsReceiving : Local → Type 0
+abbrev pub IsReceiving : Local → Type 0
 IsReceiving (ReleaseLooks e) = is_received e.kind ≡ true
 IsReceiving (ReleaseExchanges e old) = is_received e.kind ≡ true
 IsReceiving local = ⊥
 
-record GoesAlike (p : Setting) (held : Pools) (seen : ℕ) (x : Seat) : Type 0 where
+pub record GoesAlike (p : Setting) (held : Pools) (seen : ℕ) (x : Seat) : Type 0 where
   pub next_is : next p (shown p x) seen ≡ shown p (next p x seen)
   pub tells_is : tells p (shown p x) seen ≡ tells p x seen
   pub moment_is : moment_at p held (shown p x).local seen ≡ moment_at p held x.local seen
   pub leaves : LeavesNothing (message_at (shown p x).local) → ⊥
 
-goes_alike : (p : Setting) (held : Pools) (seen : ℕ) (x : Seat) (local : Local) → x.local ≡ local → IsReceiving local → GoesAlike p held seen x
+pub goes_alike : (p : Setting) (held : Pools) (seen : ℕ) (x : Seat) (local : Local) → x.local ≡ local → IsReceiving local → GoesAlike p held seen x
 goes_alike p held seen x (ReleaseLooks e) is received =
     subst (GoesAlike p held seen) (λ i. record x { local = sym is i })
     (let a = releases_go_on_alike p x e 0 seen received in record { next_is = a.0; tells_is = a.1; moment_is = refl; leaves = λ no_more. no_more })
@@ -155,7 +155,7 @@ module _ (p : Setting) (held : Pools) (word : ℕ → ℕ) (c : WireContents) (s
           absurd (beyond (p.port e.port).pool e.slot ((stands.slots.pools e.port home).within e.slot used)
           (subst (λ i. (p.port i).pool ≤ e.slot) own.1 far))
 
-  receiving : (local : Local) → PlaceStands p w.state.fixed q local → (LeavesNothing (message_at local) → ⊥) → IsReceiving local
+  pub receiving : (local : Local) → PlaceStands p w.state.fixed q local → (LeavesNothing (message_at local) → ⊥) → IsReceiving local
   receiving (ReleaseLooks e) place leaves = aside_received e place.0 place.1
   receiving (ReleaseExchanges e old) place leaves = aside_received e place.0 place.1
   receiving local place leaves = absurd (leaves (leaving_none local tt))
@@ -183,9 +183,13 @@ module _ (p : Setting) (words words' : List ℕ) (players : ℕ → Player) (r :
     nodes = stands.nodes;
   }
 
+  -- what slots hold then
+  abbrev H : ℕ → Holding
+  H seen = HoldsNext p (shown p x) seen payload stands.held stands.contents
+
   abbrev Result : Type 0
   Result =
-      LedTo p (word_of words') r.last (step_beats n payload (moment_at p stands.held x.local (seen_at x)) (tells p x (seen_at x)))
+      LedTo (H (seen_at x)) p (word_of words') r.last (step_beats n payload (moment_at p stands.held x.local (seen_at x)) (tells p x (seen_at x)))
       (put_at seats n (shown p (next p x (seen_at x))))
 
   module _ (told : StepIsTold p stands.held r.last.state (shown p x) (seen_at x) payload)
@@ -200,9 +204,9 @@ module _ (p : Setting) (words words' : List ℕ) (players : ℕ → Player) (r :
     abbrev Both : Seat → ℕ → Type 0
     Both q seen =
         (ReturnsNothing q.local (message_at (advance p (accessed q) q.local seen).local)
-        × LedTo p (word_of words') r.last (step_beats n payload (moment_at p stands.held q.local seen) (tells p q seen)) (put_at seats n (next p q seen)))
+        × LedTo (H seen) p (word_of words') r.last (step_beats n payload (moment_at p stands.held q.local seen) (tells p q seen)) (put_at seats n (next p q seen)))
         ⊎ (LeavesNothing (message_at q.local)
-        × LedTo p (word_of words') r.last (step_beats n payload (moment_at p stands.held q.local seen) (tells p q seen)) (put_at seats n (shown p (next p q seen))))
+        × LedTo (H seen) p (word_of words') r.last (step_beats n payload (moment_at p stands.held q.local seen) (tells p q seen)) (put_at seats n (shown p (next p q seen))))
 
     both : Both (shown p x) (seen_at x)
     both =
@@ -227,7 +231,7 @@ module _ (p : Setting) (words words' : List ℕ) (players : ℕ → Player) (r :
 
         by_part : Both x (seen_at x) → Result
         by_part (inl plain) =
-            subst (λ q. LedTo p (word_of words') r.last (step_beats n payload (moment_at p stands.held x.local (seen_at x)) (tells p x (seen_at x))) (put_at seats n q))
+            subst (λ q. LedTo (H (seen_at x)) p (word_of words') r.last (step_beats n payload (moment_at p stands.held x.local (seen_at x)) (tells p x (seen_at x))) (put_at seats n q))
             (sym (still plain.0 (ending_at going.local))) plain.1
         by_part (inr aside) = aside.1
 
@@ -240,25 +244,25 @@ module _ (p : Setting) (words words' : List ℕ) (players : ℕ → Player) (r :
 
         by_part : Both (shown p x) (seen_at x) → Result
         by_part (inl plain) =
-            subst (λ o. LedTo p (word_of words') r.last (step_beats n payload o (tells p x (seen_at x))) (put_at seats n (shown p (next p x (seen_at x))))) g.moment_is
-            (subst (λ o. LedTo p (word_of words') r.last (step_beats n payload (moment_at p stands.held (shown p x).local (seen_at x)) o)
+            subst (λ o. LedTo (H (seen_at x)) p (word_of words') r.last (step_beats n payload o (tells p x (seen_at x))) (put_at seats n (shown p (next p x (seen_at x))))) g.moment_is
+            (subst (λ o. LedTo (H (seen_at x)) p (word_of words') r.last (step_beats n payload (moment_at p stands.held (shown p x).local (seen_at x)) o)
             (put_at seats n (shown p (next p x (seen_at x))))) g.tells_is
-            (subst (λ q. LedTo p (word_of words') r.last (step_beats n payload (moment_at p stands.held (shown p x).local (seen_at x)) (tells p (shown p x) (seen_at x)))
+            (subst (λ q. LedTo (H (seen_at x)) p (word_of words') r.last (step_beats n payload (moment_at p stands.held (shown p x).local (seen_at x)) (tells p (shown p x) (seen_at x)))
             (put_at seats n q)) g.next_is plain.1))
         by_part (inr aside) = absurd (g.leaves aside.0)
 
     -- one or the other
-    left_or_not : (local : Local) → IsOther local ⊎ IsLeft local
+    pub left_or_not : (local : Local) → IsOther local ⊎ IsLeft local
     left_or_not (ReleaseLooks e) = inr tt
     left_or_not (ReleaseExchanges e old) = inr tt
     left_or_not local = inl tt
 
-    not_plain : (local : Local) → IsLeft local → LeavesNothing (message_at (shown_at p x local).local) → ⊥
+    pub not_plain : (local : Local) → IsLeft local → LeavesNothing (message_at (shown_at p x local).local) → ⊥
     not_plain (ReleaseLooks e) left leaves = leaves
     not_plain (ReleaseExchanges e old) left leaves = leaves
     not_plain local left leaves = left
 
-    as_received : (local : Local) → IsLeft local → IsReceiving (shown_at p x local).local → IsReceiving local
+    pub as_received : (local : Local) → IsLeft local → IsReceiving (shown_at p x local).local → IsReceiving local
     as_received (ReleaseLooks e) left received = received
     as_received (ReleaseExchanges e old) left received = received
     as_received local left received = absurd left
@@ -303,7 +307,8 @@ module _ (p : Setting) (words words' : List ℕ) (players : ℕ → Player) (r :
 
     finish : length words' ≡ length words → Result
         → (after : Run) × GoesOnWith r (step_beats n payload (moment_at p stands.held x.local (seen_at x)) (tells p x (seen_at x))) after
-        × Stands p words' (put_at players n (player_next p (players n) (seen_at x))) after
+        × (later : Stands p words' (put_at players n (player_next p (players n) (seen_at x))) after)
+        × HoldsNext p (shown p x) (seen_at x) payload stands.held stands.contents later.held later.contents
     finish len to = (
       record {
         first = r.first;
@@ -329,6 +334,7 @@ module _ (p : Setting) (words words' : List ℕ) (players : ℕ → Player) (r :
             history_more k r.beats beats ∙ ap (λ xs. xs ++ history k beats) (stands.histories k)
             ∙ ap (λ xs. (players k).said ++ xs) (said_then n k payload (moment_at p stands.held x.local (seen_at x)) (tells p x (seen_at x))) ∙ said k;
       },
+      to.5,
     )
 
 pub whole_steps_keep : WholeStepsKeep

@@ -9,19 +9,23 @@ use Rattle.iox_model.specs.States.{State}
 use Rattle.iox_model.specs.Weaves.{Beat, Ends, IsWeave, Makes}
 use Rattle.iox_model.specs.WholeCalls.{MayHold}
 use Rattle.iox_steps.specs.Accesses.{seen_by}
+use Rattle.iox_wire_words.specs.Fits.{WireContents, contents_after}
 use Rattle.iox_wire_words.specs.Laws.{IsMade}
 use Rattle.iox_wire_words.specs.Programs.{program_access}
 use Rattle.iox_wire_moments.specs.MomentsOf.{Pools}
 use Rattle.iox_wire_locals.specs.declared.local.Ending.{Ending}
+use Rattle.iox_wire_locals.specs.declared.local.Ending.TheVariants.{Lends}
 use Rattle.iox_wire_locals.specs.declared.seat.Seat.{Seat}
 use Rattle.iox_wire_locals.specs.Doings.{outcome_of}
 use Rattle.iox_wire_locals.specs.Locals.{program_of}
+use Rattle.iox_wire_locals.specs.NewLoans.{message_in}
 use Rattle.iox_wire_locals.specs.StateMoments.{moment_at}
 use Rattle.iox_wire_locals.specs.Steps.{accessed, advance, ending_at, next, tells}
 use Rattle.iox_wire_locals.specs.Tables.{Setting}
 use Rattle.iox_wire_laws.specs.WireShows.OwnedCalls.{state_after}
 use Rattle.iox_wire_laws.specs.WireHolding.Aside.{shown}
-use Rattle.iox_wire_laws.specs.WireHolding.Holding.{held_after}
+use Rattle.iox_wire_laws.specs.WireHolding.FarSlots.{IsInPool}
+use Rattle.iox_wire_laws.specs.WireHolding.Holding.{held_after, held_ended, held_with}
 use Rattle.iox_wire_stands.specs.NodeLaws.{IsTold}
 use Rattle.iox_wire_stands.specs.Runs.{Answered, Run, Said}
 use Rattle.iox_wire_stands.specs.Stands.{Player, Stands, word_of}
@@ -74,6 +78,30 @@ pub record StepIsTold (p : Setting) (held : Pools) (s : State) (x : Seat) (seen 
       ending_at y.local ≡ Some ending
       → EndIsTold p new t y ending × MayHold t.fixed (outcome_of p new x.node ending) payload
 
+-- ---- what slots hold
+
+-- which message each slot holds once a call ended so, if it did: a new loan has its payload
+abbrev pub held_closed : Setting → Pools → List ℕ → Option Ending → Pools
+held_closed p held payload None = held
+held_closed p held payload (Some (Lends o slot)) =
+    held_ended (held_with held o.port slot (message_in p o)) payload (Lends o slot)
+held_closed p held payload (Some ending) = held_ended held payload ending
+
+-- and after a step of the node, which found this
+abbrev pub held_next : Setting → Seat → ℕ → List ℕ → Pools → Pools
+held_next p x seen payload held =
+    let y = advance p (accessed x) x.local seen in
+    held_closed p (held_after p x seen held) payload (ending_at y.local)
+
+-- Then each slot of a pool holds that message, and the words hold what the access left there.
+pub record HoldsNext (p : Setting) (x : Seat) (seen : ℕ) (payload : List ℕ) (held : Pools)
+    (c : WireContents) (new : Pools) (after : WireContents) : Type 0 where
+  pub pools : (port slot : ℕ) → IsInPool p port slot
+      → new port slot ≡ held_next p x seen payload held port slot
+  pub contents : after ≡ contents_after p.layout (program_of p x.local) seen c
+
+-- ---- the law
+
 -- The step of a living node leads from what stands to what stands. It is at most one moment of the
 -- machine, and then the end of its call with the machine's reply, if that was its last access.
 abbrev pub WholeStepsKeep : Type 0
@@ -88,4 +116,5 @@ WholeStepsKeep =
     → (after : Run)
     × GoesOnWith r
     (step_beats n payload (moment_at p stands.held x.local seen) (tells p x seen)) after
-    × Stands p words' (put_at players n (player_next p (players n) seen)) after
+    × (later : Stands p words' (put_at players n (player_next p (players n) seen)) after)
+    × HoldsNext p (shown p x) seen payload stands.held stands.contents later.held later.contents
