@@ -1,0 +1,2 @@
+-- the ports and the ways that a call visits
+pub mod Visits

@@ -1,0 +1,7 @@
+//! The ways that a call of a node of a wire visits, and where their words stand, as the map of the
+//! wire tells them.
+#![tactic(auto)]
+
+mod returns;
+
+pub use returns::list_request_returns;
