@@ -1,2 +1,4 @@
 pub mod ListLemmas
 pub mod ReturnLemmas
+pub mod SourceLemmas
+pub mod VisitLemmas

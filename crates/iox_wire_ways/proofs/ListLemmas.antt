@@ -109,7 +109,7 @@ module _ (A : Type 0) (plan : WirePlan) (is : IsPlan plan) (visits : PlanPort �
 
 -- ---- the ports that a node did not forget
 
-left_are : (role : Role) (forgot : List ℕ) (qs : List PlanPort) (rs : List Port) → AreAsPlanned qs rs
+pub left_are : (role : Role) (forgot : List ℕ) (qs : List PlanPort) (rs : List Port) → AreAsPlanned qs rs
     → visited (is_other role forgot) qs ≡ map (λ r. r.number) (filter (λ r. same_role r.role role && not (has_number r.node forgot)) rs)
 left_are role forgot [] [] like = refl
 left_are role forgot [] (r ∷ rs) like = absurd like

@@ -1,2 +1,4 @@
 -- the ports and the ways that a call visits
 pub mod Visits
+-- what a server's receive is told of them
+pub mod RequestSources

@@ -3,5 +3,7 @@
 #![tactic(auto)]
 
 mod returns;
+mod sources;
 
 pub use returns::list_request_returns;
+pub use sources::list_request_sources;

@@ -1,4 +1,4 @@
-use Rattle.std.proofs.Common.{◌≡◌, ap, ◌∙◌}
+use Rattle.std.proofs.Common.{ap, ◌∙◌}
 use Rattle.iox_steps.specs.declared.site.Site.{Site}
 use Rattle.iox_wire_ways.proofs.ReturnLemmas.{room_is}
 use Rattle.iox_wire_ways.proofs.returns.return_from.Goals as goal
