@@ -1,4 +1,7 @@
 pub mod ListLemmas
+pub mod HeaderLemmas
+pub mod PartLemmas
 pub mod ReturnLemmas
 pub mod SourceLemmas
 pub mod VisitLemmas
+pub mod ResponseLemmas

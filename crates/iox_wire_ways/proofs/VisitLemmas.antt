@@ -1,6 +1,7 @@
 -- All ways from which a server receives.
 use Rattle.std.proofs.Common.{◌≡◌, ℕ, ◌<◌, Bool, true, false, ◌&&◌, List, [], ◌∷◌, ◌++◌, length, map, refl, ap, ap₂, sym, subst, ◌∙◌, arith, if◌then◌else◌}
 use Rattle.std.specs.Prelude.{filter}
+use Rattle.iox_model.specs.declared.kind.Role.{Role}
 use Rattle.iox_model.specs.declared.kind.Role.TheVariants.{Client, Server}
 use Rattle.iox_model.specs.Messages.{request_way}
 use Rattle.iox_model.specs.Peers.{others, ports_of_role}
@@ -26,17 +27,18 @@ use Rattle.iox_wire_ways.specs.RequestSources.{HasRequestWays, passed_over, requ
 use Rattle.iox_wire_ways.specs.Visits.{is_other}
 use Rattle.iox_wire_ways.proofs.ListLemmas.{all_made, all_ways, left_are, made_before, others_are, visited}
 use Rattle.iox_wire_ways.proofs.ReturnLemmas.{port_is_there}
-use Rattle.iox_wire_ways.proofs.SourceLemmas.{index_of_port, source_is, source_within}
+use Rattle.iox_wire_ways.proofs.HeaderLemmas.{number_there}
+use Rattle.iox_wire_ways.proofs.SourceLemmas.{source_is, source_within}
 
 -- ---- which clients
 
-none_over : (rs : List Port) → map (λ r. r.number) (filter (λ r. same_role r.role Client && true) rs) ≡ map (λ r. r.number) (filter (λ r. same_role r.role Client) rs)
-none_over [] = refl
-none_over (r ∷ rs) = step (same_role r.role Client) (none_over rs)
+pub none_over : (role : Role) (rs : List Port) → map (λ r. r.number) (filter (λ r. same_role r.role role && true) rs) ≡ map (λ r. r.number) (filter (λ r. same_role r.role role) rs)
+none_over role [] = refl
+none_over role (r ∷ rs) = step (same_role r.role role) (none_over role rs)
   where
-    step : (b : Bool) → map (λ q. q.number) (filter (λ q. same_role q.role Client && true) rs) ≡ map (λ q. q.number) (filter (λ q. same_role q.role Client) rs)
-        → map (λ q. q.number) (if b && true then r ∷ filter (λ q. same_role q.role Client && true) rs else filter (λ q. same_role q.role Client && true) rs)
-        ≡ map (λ q. q.number) (if b then r ∷ filter (λ q. same_role q.role Client) rs else filter (λ q. same_role q.role Client) rs)
+    step : (b : Bool) → map (λ q. q.number) (filter (λ q. same_role q.role role && true) rs) ≡ map (λ q. q.number) (filter (λ q. same_role q.role role) rs)
+        → map (λ q. q.number) (if b && true then r ∷ filter (λ q. same_role q.role role && true) rs else filter (λ q. same_role q.role role && true) rs)
+        ≡ map (λ q. q.number) (if b then r ∷ filter (λ q. same_role q.role role) rs else filter (λ q. same_role q.role role) rs)
     step true rest = ap (λ ns. r.number ∷ ns) rest
     step false rest = rest
 
@@ -49,17 +51,9 @@ clients_are plan p x ff q setting is =
         ≡ (if b then ports_of_role (known p x) Client else others (known p x) q.node Client)
     by_case true =
         left_are Client [] plan.ports.items (map p.port (map (λ q. q.number) plan.ports.items)) setting.is_for.ports
-        ∙ none_over (map p.port (map (λ q. q.number) plan.ports.items))
+        ∙ none_over Client (map p.port (map (λ q. q.number) plan.ports.items))
         ∙ ap (λ (l : WireLayout). map (λ r. r.number) (filter (λ r. same_role r.role Client) (map p.port l.sizes.ports))) (sym setting.layout)
     by_case false = others_are plan p x Client q.node setting
-
-port_number : (plan : WirePlan) (p : Setting) (i : ℕ) → IsPlan plan → IsSettingOf plan p → i < length plan.ports.items
-    → (p.port (number_at plan i)).number ≡ number_at plan i
-port_number plan p i is setting low =
-    let d : PlanPort = one_of plan.ports.items i low in
-    ap (λ n. (p.port n).number) (number_is plan is.numbers i d low)
-    ∙ (each_planned p.port plan.ports.items setting.is_for.ports i d low).number
-    ∙ sym (number_is plan is.numbers i d low)
 
 pub all_visited : (plan : WirePlan) (p : Setting) (x : Seat) (ff : Bool) (server k : ℕ) → IsPlan plan → IsSettingOf plan p → IsPortAt plan Server server
     → p.limits.fire_and_forget ≡ ff → k ≡ length plan.ports.items
@@ -68,17 +62,17 @@ pub all_visited : (plan : WirePlan) (p : Setting) (x : Seat) (ff : Bool) (server
 all_visited plan p x ff server k is setting at told all =
     all_ways Source plan is (is_other Client (passed_over ff x.forgot)) (request_source plan server) (λ s. s.way)
     (λ client. request_way client (number_at plan server)) (λ i. refl) k all
-    ∙ ap₂ (λ n ns. map (λ client. request_way client n) ns) (sym (port_number plan p server is setting (index_of_port plan Server server at)))
+    ∙ ap₂ (λ n ns. map (λ client. request_way client n) ns) (sym (number_there plan is Server server at p setting))
     (clients_are plan p x ff (p.port (number_at plan server)) setting told)
 
 -- ---- each of them
 
-sources_append : (p : Setting) (t : ReceiveTerms) (header : ℕ) (xs : List Source) (s : Source) → AreSources p t header xs → IsSource p t header s
+pub sources_append : (p : Setting) (t : ReceiveTerms) (header : ℕ) (xs : List Source) (s : Source) → AreSources p t header xs → IsSource p t header s
     → AreSources p t header (xs ++ s ∷ [])
 sources_append p t header [] s are is = (is, tt)
 sources_append p t header (x ∷ xs) s are is = (are.0, sources_append p t header xs s are.1 is)
 
-within_append : (t : ReceiveTerms) (header : ℕ) (xs : List Source) (s : Source) → AreWithin t header xs → IsWithin t header s
+pub within_append : (t : ReceiveTerms) (header : ℕ) (xs : List Source) (s : Source) → AreWithin t header xs → IsWithin t header s
     → AreWithin t header (xs ++ s ∷ [])
 within_append t header [] s are is = (is, tt)
 within_append t header (x ∷ xs) s are is = (are.0, within_append t header xs s are.1 is)

@@ -2,3 +2,5 @@
 pub mod Visits
 -- what a server's receive is told of them
 pub mod RequestSources
+-- and that of a pending response
+pub mod ResponseSources

@@ -10,6 +10,7 @@ use Rattle.iox_wire_locals.specs.Stored.{header_length}
 use Rattle.iox_wire_receives.specs.declared.source.Source.{Source}
 use Rattle.iox_wire_receives.specs.declared.source.ReceiveTerms.{ReceiveTerms}
 use Rattle.iox_wire_seats.specs.Seats.{node_at}
+use Rattle.iox_wire_ways.specs.Visits.{pool_of}
 
 -- Each client has a lane, the header of a request has its words, and a number counts the words of
 -- the wire twice.
@@ -44,7 +45,7 @@ request_source plan server client = record {
   node = node_at plan client;
   place = (site_of (layout_of plan) (MessageQueue (way_at plan (Requests client server)))).base;
   region = piece_place (sizes_of plan) (Region (number_at plan client));
-  slots = (sizes_of plan).lanes (number_at plan client);
+  slots = pool_of plan (number_at plan client);
   slot_words = slot_words_of plan (number_at plan client);
   lanes = (sizes_of plan).lanes (number_at plan client);
 }

@@ -8,7 +8,7 @@ use Rattle.iox_word_map.specs.WordMaps.{ReturningQueue}
 use Rattle.iox_word_places.specs.declared.plan.PlanPort.{PlanPort}
 use Rattle.iox_word_places.specs.declared.plan.WirePlan.{WirePlan}
 use Rattle.iox_word_places.specs.declared.way_index.WayIndex.TheVariants.{Requests}
-use Rattle.iox_word_places.specs.Plans.{layout_of, way_at}
+use Rattle.iox_word_places.specs.Plans.{layout_of, port_of, way_at}
 use Rattle.iox_wire_words.specs.Programs.{site_of}
 use Rattle.iox_wire_seats.specs.declared.stops.Stop.{Stop}
 
@@ -20,6 +20,10 @@ is_other role forgot q = same_role q.role role && not (has_number q.node forgot)
 abbrev pub made_at : (A : Type 0) → WirePlan → (PlanPort → Bool) → (ℕ → A) → ℕ → Option A
 made_at A plan visits make index =
     if option_map_or visits (slice_get plan.ports.items index) false then Some (make index) else None
+
+-- how many slots a port has
+abbrev pub pool_of : WirePlan → ℕ → ℕ
+pool_of plan n = option_map_or (λ q. q.pool) (port_of plan n) 0
 
 -- where the requests of the client at an index return from the server at another
 abbrev pub returning_stop : WirePlan → (client server : ℕ) → Stop

@@ -2,8 +2,10 @@
 //! wire tells them.
 #![tactic(auto)]
 
+mod responses;
 mod returns;
 mod sources;
 
+pub use responses::list_response_sources;
 pub use returns::list_request_returns;
 pub use sources::list_request_sources;

@@ -6,7 +6,9 @@ use Rattle.iox_word_places.specs.declared.plan.WirePlan.{WirePlan}
 use Rattle.iox_word_places.specs.declared.way_index.WayIndex.TheVariants.{Requests, Responses}
 use Rattle.iox_word_places.specs.Plans.{layout_of, planned_limit, sizes_of, way_at}
 use Rattle.iox_wire_words.specs.Programs.{state_place}
-use Rattle.iox_wire_ways.proofs.SourceLemmas.{terms_are, told_back, told_capacity, told_kind, told_lane, told_room, told_state, told_within}
+use Rattle.iox_wire_ways.specs.RequestSources.{request_terms}
+use Rattle.iox_wire_ways.proofs.PartLemmas.{terms_are}
+use Rattle.iox_wire_ways.proofs.SourceLemmas.{told_back, told_capacity, told_kind, told_lane, told_room, told_state, told_within}
 use Rattle.iox_wire_ways.proofs.sources.terms_with.Goals as goal
 
 pub overflow_sub-result-2 : goal.overflow_sub-result-2
@@ -32,7 +34,7 @@ returns c =
     let back = told_back c.args.map.now c.plan.ensures.plan c.args.client c.args.server c.requires.way.0 c.requires.way.1 c.requires.lane.0 in
     let state = told_state c.args.map.now c.plan.ensures.plan c.args.client c.args.server c.requires.way.0 c.requires.way.1 c.requires.lane.0 in
     let lane = told_lane c.args.map.now c.plan.ensures.plan c.args.client c.args.server c.requires.way.0 c.requires.way.1 c.requires.lane.0 in
-    terms_are c.args.map.now c.args.fire_and_forget c.args.number _ _ _ _ _ _ _
+    terms_are (request_terms c.args.map.now c.args.fire_and_forget c.args.number) _ _ _ _ _ _ _
     (ap (λ (s : Site). s.kind) c.message_queue-messages.ensures ∙ told_kind c.args.map.now c.plan.ensures.plan c.args.client c.args.server c.requires.way.0 c.requires.way.1 c.requires.lane.0)
     (ap (λ (s : Site). s.capacity) c.message_queue-messages.ensures ∙ told_capacity c.args.map.now c.plan.ensures.plan c.args.client c.args.server c.requires.way.0 c.requires.way.1 c.requires.lane.0)
     (omega (arith, mb, rb, back))
