@@ -1,5 +1,5 @@
 -- Where the headers of a port's messages stand, and that its slots are in memory.
-use Rattle.std.proofs.Common.{◌≡◌, ℕ, ◌+◌, ◌*◌, ◌/◌, ◌<◌, ◌≤◌, ◌^◌, Bool, true, false, length, get_or, refl, ap, ap₂, sym, subst, ◌∙◌, arith, mul_assoc, if◌then◌else◌}
+use Rattle.std.proofs.Common.{◌≡◌, ℕ, ◌+◌, ◌*◌, ◌/◌, ◌<◌, ◌≤◌, ◌^◌, Bool, true, false, length, get_or, refl, ap, ap₂, sym, subst, ◌∙◌, arith, mul_assoc}
 use Rattle.std.specs.Prelude.{Some, nat_lt}
 use Rattle.std.specs.Option.{option_map_or}
 use Rattle.std.proofs.lemmas.Bool.{ltb-false}
@@ -8,7 +8,6 @@ use Rattle.iox_model.specs.declared.kind.Role.{Role}
 use Rattle.iox_model.specs.declared.kind.Role.TheVariants.{Client, Server}
 use Rattle.iox_model.specs.Settings.{Shape, message_size, shape_of}
 use Rattle.iox_types.specs.Layouts.{message_bytes, message_size as bytes_for}
-use Rattle.iox_types.specs.declared.message_type_details.MessageTypeDetails.{MessageTypeDetails}
 use Rattle.iox_types.proofs.LayoutLemmas.{IsPowerOfTwo-positive, aligned_place-ge}
 use Rattle.iox_word_map.specs.MessageWords.{IsInWords}
 use Rattle.iox_word_map.specs.WordMaps.{Region, piece_place, total_words}

@@ -1,19 +1,15 @@
 -- What a pending response's receive is told of the servers is so on the wire, and in memory.
-use Rattle.std.proofs.Common.{◌≡◌, ℕ, ◌+◌, ◌*◌, ◌<◌, ◌≤◌, ◌^◌, Bool, true, false, ◌&&◌, List, [], ◌∷◌, length, map, refl, ap, ap₂, sym, subst, ◌∙◌, arith, if◌then◌else◌}
+use Rattle.std.proofs.Common.{◌≡◌, ℕ, ◌+◌, ◌*◌, ◌<◌, ◌^◌, Bool, List, [], length, map, refl, ap, ap₂, sym, subst, ◌∙◌, arith}
 use Rattle.std.specs.Prelude.{filter, find, ◌==◌}
 use Rattle.std.specs.Option.{option_map_or}
-use Rattle.iox_model.specs.declared.kind.Role.{Role}
 use Rattle.iox_model.specs.declared.kind.Role.TheVariants.{Client, Server}
 use Rattle.iox_model.specs.declared.way.Way.{Way}
 use Rattle.iox_model.specs.Messages.{response_way}
 use Rattle.iox_model.specs.Peers.{ports_of_role}
 use Rattle.iox_model.specs.Settings.{borrow_limit_of, other_role, same_role}
 use Rattle.iox_model.specs.States.{Port}
-use Rattle.iox_steps.specs.declared.site.QueueKind.TheVariants.{Index}
-use Rattle.iox_steps.specs.declared.site.Site.{Site}
 use Rattle.iox_word_map.specs.WordMaps.{MessageQueue, ReturningQueue, QueueWords, lane_place, piece_place, total_words}
 use Rattle.iox_word_map.proofs.Places.{lanes_are_computed}
-use Rattle.iox_word_places.specs.declared.plan.PlanLimits.{PlanLimits}
 use Rattle.iox_word_places.specs.declared.plan.WirePlan.{WirePlan}
 use Rattle.iox_word_places.specs.declared.way_index.WayIndex.TheVariants.{Requests, Responses}
 use Rattle.iox_word_places.specs.Plans.{IsLaneAt, IsPlan, IsPortAt, layout_of, message_kind, number_at, planned_buffer, port_numbers, returning_room, role_of, sizes_of, slot_words_of, way_at}
@@ -34,7 +30,7 @@ use Rattle.iox_wire_seats.proofs.BeginLemmas.{forgot_is, queue_in_memory}
 use Rattle.iox_wire_ways.specs.ResponseSources.{response_source, response_terms}
 use Rattle.iox_wire_ways.specs.Visits.{is_other}
 use Rattle.iox_wire_ways.proofs.HeaderLemmas.{header_fits, header_word, low, slots_in_memory}
-use Rattle.iox_wire_ways.proofs.ListLemmas.{all_made, all_ways, left_are, made_before, visited}
+use Rattle.iox_wire_ways.proofs.ListLemmas.{all_made, all_ways, left_are, made_before}
 use Rattle.iox_wire_ways.proofs.ReturnLemmas.{port_is_there}
 use Rattle.iox_wire_ways.proofs.SourceLemmas.{back_of, queue_of}
 use Rattle.iox_wire_ways.proofs.VisitLemmas.{none_over, sources_append, within_append}

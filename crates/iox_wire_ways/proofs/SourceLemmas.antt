@@ -1,41 +1,32 @@
 -- What a server's receive is told of a client is so on the wire, and in memory.
-use Rattle.std.proofs.Common.{◌≡◌, ℕ, ◌+◌, ◌-◌, ◌*◌, ◌/◌, ◌<◌, ◌≤◌, ◌^◌, Bool, true, false, List, length, map, get_or, refl, ap, ap₂, sym, subst, ◌∙◌, arith, mul_assoc}
-use Rattle.std.specs.Prelude.{Some, find, nat_lt, ◌==◌}
+use Rattle.std.proofs.Common.{◌≡◌, ℕ, ◌+◌, ◌-◌, ◌*◌, ◌<◌, ◌≤◌, ◌^◌, Bool, List, map, refl, ap, ap₂, sym, subst, ◌∙◌, arith}
+use Rattle.std.specs.Prelude.{find, ◌==◌}
 use Rattle.std.specs.Option.{option_map_or}
-use Rattle.std.proofs.lemmas.Bool.{ltb-false}
 use Rattle.std.proofs.Math.Nat.{add-mul}
-use Rattle.std.proofs.lemmas.List.{get_or-map}
 use Rattle.iox_model.specs.declared.kind.Role.{Role}
 use Rattle.iox_model.specs.declared.kind.Role.TheVariants.{Client, Server}
 use Rattle.iox_model.specs.declared.way.Way.{Way}
 use Rattle.iox_model.specs.Messages.{response_way}
-use Rattle.iox_model.specs.Settings.{Shape, borrow_limit_of, message_size, other_role, shape_of}
+use Rattle.iox_model.specs.Settings.{borrow_limit_of, other_role}
 use Rattle.iox_model.specs.States.{Port}
 use Rattle.iox_steps.specs.declared.site.QueueKind.TheVariants.{Index}
 use Rattle.iox_steps.specs.declared.site.Site.{Site}
-use Rattle.iox_types.specs.Layouts.{message_bytes, message_size as bytes_for}
-use Rattle.iox_types.specs.declared.message_type_details.MessageTypeDetails.{MessageTypeDetails}
-use Rattle.iox_types.proofs.LayoutLemmas.{IsPowerOfTwo-positive, aligned_place-ge}
 use Rattle.iox_word_map.specs.WordMaps.{MessageQueue, ReturningQueue, QueueWords, StateWord, IsResponseWay, lane_place, lane_words, pair_place, piece_place, piece_size, total_words}
 use Rattle.iox_word_map.proofs.Pieces.{pieces_are_sized, pieces_are_within}
 use Rattle.iox_word_map.proofs.Places.{lanes_are_computed, request_queues_are_computed}
 use Rattle.iox_word_places.specs.declared.plan.PlanLimits.{PlanLimits}
-use Rattle.iox_word_places.specs.declared.plan.PlanPort.{PlanPort}
 use Rattle.iox_word_places.specs.declared.plan.WirePlan.{WirePlan}
 use Rattle.iox_word_places.specs.declared.way_index.WayIndex.TheVariants.{Requests, Responses}
-use Rattle.iox_word_places.specs.Plans.{IsLaneAt, IsPlan, IsPortAt, details_of, layout_of, message_kind, number_at, planned_buffer, planned_limit, port_numbers, port_of, returning_room, role_of, sizes_of, slot_words_of, way_at}
-use Rattle.iox_word_places.proofs.PairLemmas.{index_there, one_of}
-use Rattle.iox_word_places.proofs.PlanLemmas.{number_is, port_is, region_place, region_within, there}
+use Rattle.iox_word_places.specs.Plans.{IsLaneAt, IsPlan, IsPortAt, layout_of, message_kind, number_at, planned_buffer, port_numbers, returning_room, role_of, sizes_of, slot_words_of, way_at}
 use Rattle.iox_word_places.proofs.WayLemmas.{request_way_at, response_way_at, sender_role}
 use Rattle.iox_wire_words.specs.Programs.{WireLayout, site_of, state_place, word_place}
-use Rattle.iox_wire_locals.specs.Stored.{header_length, word_start}
-use Rattle.iox_wire_locals.specs.Tables.{Setting, port_shape, region_word}
-use Rattle.iox_wire_layouts.specs.PlansOf.{IsAsPlanned, IsSettingOf, IsShapeOf}
+use Rattle.iox_wire_locals.specs.Stored.{header_length}
+use Rattle.iox_wire_locals.specs.Tables.{Setting, region_word}
+use Rattle.iox_wire_layouts.specs.PlansOf.{IsSettingOf}
 use Rattle.iox_wire_layouts.proofs.Layouts.{planned_settings_agree}
-use Rattle.iox_wire_layouts.proofs.Planned.{each_planned, same_found}
+use Rattle.iox_wire_layouts.proofs.Planned.{same_found}
 use Rattle.iox_wire_receives.specs.Sources.{IsSource, IsWithin, messages_at, returning_at}
 use Rattle.iox_wire_seats.specs.Aims.{IsInMemory}
-use Rattle.iox_wire_seats.specs.Seats.{node_at}
 use Rattle.iox_wire_seats.proofs.BeginLemmas.{forgot_is, queue_in_memory}
 use Rattle.iox_wire_ways.specs.RequestSources.{HasRequestWays, request_source, request_terms}
 use Rattle.iox_wire_ways.proofs.HeaderLemmas.{header_fits, header_word, low, slots_in_memory}

@@ -2,10 +2,12 @@
 //! wire tells them.
 #![tactic(auto)]
 
+mod receives;
 mod responses;
 mod returns;
 mod sources;
 
+pub use receives::{begin_request_receive, begin_response_receive};
 pub use responses::list_response_sources;
 pub use returns::list_request_returns;
 pub use sources::list_request_sources;

@@ -1,4 +1,4 @@
-use Rattle.std.proofs.Common.{◌≡◌, get_or, refl, ap, ap₂, ◌∙◌}
+use Rattle.std.proofs.Common.{get_or, refl, ap, ap₂, ◌∙◌}
 use Rattle.iox_model.specs.declared.kind.Role.TheVariants.{Client, Server}
 use Rattle.iox_model.specs.Messages.{response_way}
 use Rattle.iox_steps.specs.declared.site.Site.{Site}
