@@ -5,3 +5,4 @@ pub mod ReturnLemmas
 pub mod SourceLemmas
 pub mod VisitLemmas
 pub mod ResponseLemmas
+pub mod TargetLemmas

@@ -7,7 +7,6 @@ use Rattle.std.proofs.lemmas.List.{map-append}
 use Rattle.std.proofs.lemmas.List.Elements.{filter-append}
 use Rattle.std.proofs.lemmas.Option.{slice_get-get_or}
 use Rattle.iox_model.specs.declared.kind.Role.{Role}
-use Rattle.iox_model.specs.declared.way.Way.{Way}
 use Rattle.iox_model.specs.Maps.{has_number}
 use Rattle.iox_model.specs.Peers.{others}
 use Rattle.iox_model.specs.Settings.{same_role}
@@ -61,14 +60,14 @@ visited_append visits xs ys =
     ap (map (λ (q : PlanPort). q.number)) (filter-append visits xs ys)
     ∙ map-append (λ (q : PlanPort). q.number) (filter visits xs) (filter visits ys)
 
-module _ (A : Type 0) (plan : WirePlan) (is : IsPlan plan) (visits : PlanPort → Bool) (make : ℕ → A) (way : A → Way) (to : ℕ → Way)
+module _ (A W : Type 0) (plan : WirePlan) (is : IsPlan plan) (visits : PlanPort → Bool) (make : ℕ → A) (way : A → W) (to : ℕ → W)
     (ways_are : (i : ℕ) → way (make i) ≡ to (number_at plan i)) where
   one_way : (k : ℕ) (d : PlanPort) → k < length plan.ports.items → (b : Bool) → visits (get_or plan.ports.items k d) ≡ b
       → map way (with_one A (made_before A plan visits make k) (if b then Some (make k) else None))
       ≡ map way (made_before A plan visits make k) ++ map to (visited visits (get_or plan.ports.items k d ∷ []))
   one_way k d low true e =
       map-append way (made_before A plan visits make k) (make k ∷ [])
-      ∙ ap (λ (w : Way). map way (made_before A plan visits make k) ++ w ∷ []) (ways_are k ∙ ap to (number_is plan is.numbers k d low))
+      ∙ ap (λ (w : W). map way (made_before A plan visits make k) ++ w ∷ []) (ways_are k ∙ ap to (number_is plan is.numbers k d low))
       ∙ sym (ap (λ (b : Bool). map way (made_before A plan visits make k)
       ++ map to (map (λ (q : PlanPort). q.number) (if b then get_or plan.ports.items k d ∷ [] else []))) e)
   one_way k d low false e =
@@ -76,7 +75,7 @@ module _ (A : Type 0) (plan : WirePlan) (is : IsPlan plan) (visits : PlanPort �
       ∙ sym (ap (λ (b : Bool). map way (made_before A plan visits make k)
       ++ map to (map (λ (q : PlanPort). q.number) (if b then get_or plan.ports.items k d ∷ [] else []))) e)
     where
-      nothing : (ws : List Way) → ws ++ [] ≡ ws
+      nothing : (ws : List W) → ws ++ [] ≡ ws
       nothing [] = refl
       nothing (w ∷ ws) = ap (λ vs. w ∷ vs) (nothing ws)
 
@@ -106,6 +105,17 @@ module _ (A : Type 0) (plan : WirePlan) (is : IsPlan plan) (visits : PlanPort �
       whole : (qs : List PlanPort) → take (length qs) qs ≡ qs
       whole [] = refl
       whole (q ∷ qs) = ap (λ rest. q ∷ rest) (whole qs)
+
+-- their numbers
+pub all_numbers : (A : Type 0) (plan : WirePlan) → IsPlan plan → (visits : PlanPort → Bool) (make : ℕ → A) (number : A → ℕ)
+    → ((i : ℕ) → number (make i) ≡ number_at plan i) → (k : ℕ) → k ≡ length plan.ports.items
+    → map number (made_before A plan visits make k) ≡ visited visits plan.ports.items
+all_numbers A plan is visits make number numbers_are k all =
+    all_ways A ℕ plan is visits make number (λ n. n) numbers_are k all ∙ same (visited visits plan.ports.items)
+  where
+    same : (ns : List ℕ) → map (λ n. n) ns ≡ ns
+    same [] = refl
+    same (n ∷ ns) = ap (λ ks. n ∷ ks) (same ns)
 
 -- ---- the ports that a node did not forget
 

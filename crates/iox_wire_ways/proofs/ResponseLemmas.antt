@@ -115,7 +115,7 @@ pub all_servers : (plan : WirePlan) (p : Setting) (x : Seat) (client lane k : �
     → ways_of (made_before Source plan (is_other Server []) (response_source plan client lane) k)
     ≡ map (response_way (number_at plan client) lane) (ports_of_role (known p x) Server)
 all_servers plan p x client lane k is setting all =
-    all_ways Source plan is (is_other Server []) (response_source plan client lane) (λ s. s.way)
+    all_ways Source Way plan is (is_other Server []) (response_source plan client lane) (λ s. s.way)
     (response_way (number_at plan client) lane) (λ i. refl) k all
     ∙ ap (map (response_way (number_at plan client) lane))
     (left_are Server [] plan.ports.items (map p.port (map (λ q. q.number) plan.ports.items)) setting.is_for.ports

@@ -3,6 +3,7 @@ use Rattle.std.proofs.Common.{◌≡◌, ℕ, ◌<◌, Bool, true, false, ◌&&�
 use Rattle.std.specs.Prelude.{filter}
 use Rattle.iox_model.specs.declared.kind.Role.{Role}
 use Rattle.iox_model.specs.declared.kind.Role.TheVariants.{Client, Server}
+use Rattle.iox_model.specs.declared.way.Way.{Way}
 use Rattle.iox_model.specs.Messages.{request_way}
 use Rattle.iox_model.specs.Peers.{others, ports_of_role}
 use Rattle.iox_model.specs.Receives.{clients_to_visit, server_ways}
@@ -56,7 +57,7 @@ pub all_visited : (plan : WirePlan) (p : Setting) (x : Seat) (ff : Bool) (server
     → ways_of (made_before Source plan (is_other Client (passed_over ff x.forgot)) (request_source plan server) k)
     ≡ server_ways (known p x) (p.port (number_at plan server))
 all_visited plan p x ff server k is setting at told all =
-    all_ways Source plan is (is_other Client (passed_over ff x.forgot)) (request_source plan server) (λ s. s.way)
+    all_ways Source Way plan is (is_other Client (passed_over ff x.forgot)) (request_source plan server) (λ s. s.way)
     (λ client. request_way client (number_at plan server)) (λ i. refl) k all
     ∙ ap₂ (λ n ns. map (λ client. request_way client n) ns) (sym (number_there plan is Server server at p setting))
     (clients_are plan p x ff (p.port (number_at plan server)) setting told)

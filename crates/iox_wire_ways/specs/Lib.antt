@@ -4,3 +4,5 @@ pub mod Visits
 pub mod RequestSources
 -- and that of a pending response
 pub mod ResponseSources
+-- what the send of a request is told of its servers
+pub mod RequestTargets

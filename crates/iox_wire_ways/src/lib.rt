@@ -6,8 +6,10 @@ mod receives;
 mod responses;
 mod returns;
 mod sources;
+mod targets;
 
 pub use receives::{begin_request_receive, begin_response_receive};
 pub use responses::list_response_sources;
 pub use returns::list_request_returns;
 pub use sources::list_request_sources;
+pub use targets::list_targets;

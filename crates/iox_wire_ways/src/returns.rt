@@ -28,7 +28,7 @@ struct Return {
 }
 
 /// Whether a port is a server that the node did not forget.
-fn is_server_left(seat: &StoredSeat, port: PlanPort) -> bool
+pub(crate) fn is_server_left(seat: &StoredSeat, port: PlanPort) -> bool
     ensures { result ≡ is_other Server seat.now.seat.forgot port }
 {
     matches!(port.role, Role::Server) && !seat.has_forgotten(port.node)

@@ -1,5 +1,6 @@
 use Rattle.std.proofs.Common.{◌≡◌, length, refl, ap, sym, subst, ◌∙◌, arith}
 use Rattle.iox_model.specs.declared.kind.Role.TheVariants.{Client, Server}
+use Rattle.iox_model.specs.declared.way.Way.{Way}
 use Rattle.iox_model.specs.Messages.{request_way}
 use Rattle.iox_steps.specs.declared.site.QueueKind.TheVariants.{Index}
 use Rattle.iox_word_places.specs.Plans.{number_at, returning_room}
@@ -18,7 +19,7 @@ returns-clause-ways c p setting =
     let all : c.loop-index.index ≡ length c.args.map.now.ports.items =
     omega (arith, c.loop-index-test.false, c.loop-index.invariant.below, c.loop-index.invariant.size) in
     ap ways_of c.loop-index.invariant.stops
-    ∙ all_ways Stop c.args.map.now c.plan.ensures.plan (is_other Server c.args.seat.now.seat.forgot) (returning_stop c.args.map.now c.args.client) (λ s. s.way)
+    ∙ all_ways Stop Way c.args.map.now c.plan.ensures.plan (is_other Server c.args.seat.now.seat.forgot) (returning_stop c.args.map.now c.args.client) (λ s. s.way)
     (request_way (number_at c.args.map.now c.args.client)) (λ i. refl) c.loop-index.index all
     ∙ ap (map (request_way (number_at c.args.map.now c.args.client))) (others_are c.args.map.now p c.args.seat.now.seat Server (p.port (number_at c.args.map.now c.args.client)).node setting)
 
