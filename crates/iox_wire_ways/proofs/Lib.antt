@@ -6,3 +6,4 @@ pub mod SourceLemmas
 pub mod VisitLemmas
 pub mod ResponseLemmas
 pub mod TargetLemmas
+pub mod ResponseTermLemmas

@@ -3,12 +3,14 @@
 #![tactic(auto)]
 
 mod receives;
+mod response_terms;
 mod responses;
 mod returns;
 mod sources;
 mod targets;
 
 pub use receives::{begin_request_receive, begin_response_receive};
+pub use response_terms::terms_of_response;
 pub use responses::list_response_sources;
 pub use returns::list_request_returns;
 pub use sources::list_request_sources;
