@@ -36,7 +36,7 @@ turned n m =
     let e : 8 * m ≡ m * 8 = omega arith in
     ap (λ k. n * k) e ∙ a ∙ omega arith
 
-whole_words : (plan : WirePlan) (role : Role) → IsPlan plan → IsInWords (details_of plan role)
+pub whole_words : (plan : WirePlan) (role : Role) → IsPlan plan → IsInWords (details_of plan role)
 whole_words plan Client is = is.requests
 whole_words plan Server is = is.responses
 
@@ -89,6 +89,9 @@ module _ (plan : WirePlan) (is : IsPlan plan) (role : Role) (i : ℕ) (at : IsPo
 
     pub number_there : (p.port (number_at plan i)).number ≡ number_at plan i
     number_there = planned.number ∙ sym (number_is plan is.numbers i d low)
+
+    pub role_planned : (p.port (number_at plan i)).role ≡ role
+    role_planned = planned.role ∙ is_of_role
 
     shape : IsShapeOf (details_of plan (get_or plan.ports.items i d).role) (get_or plan.ports.items i d).role (port_shape p (number_at plan i))
     shape =

@@ -7,3 +7,4 @@ pub mod VisitLemmas
 pub mod ResponseLemmas
 pub mod TargetLemmas
 pub mod ResponseTermLemmas
+pub mod SlotLemmas

@@ -6,3 +6,5 @@ pub mod RequestSources
 pub mod ResponseSources
 -- what the send of a request is told of its servers
 pub mod RequestTargets
+-- where the messages of a port stand
+pub mod PlannedSlots

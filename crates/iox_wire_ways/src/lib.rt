@@ -6,6 +6,7 @@ mod receives;
 mod response_terms;
 mod responses;
 mod returns;
+mod slots;
 mod sources;
 mod targets;
 
@@ -13,5 +14,6 @@ pub use receives::{begin_request_receive, begin_response_receive};
 pub use response_terms::terms_of_response;
 pub use responses::list_response_sources;
 pub use returns::list_request_returns;
+pub use slots::slot_places;
 pub use sources::list_request_sources;
 pub use targets::list_targets;
