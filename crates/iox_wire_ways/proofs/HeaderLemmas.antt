@@ -1,6 +1,6 @@
 -- Where the headers of a port's messages stand, and that its slots are in memory.
 use Rattle.std.proofs.Common.{◌≡◌, ℕ, ◌+◌, ◌*◌, ◌/◌, ◌<◌, ◌≤◌, ◌^◌, Bool, true, false, length, get_or, refl, ap, ap₂, sym, subst, ◌∙◌, arith, mul_assoc}
-use Rattle.std.specs.Prelude.{Some, nat_lt}
+use Rattle.std.specs.Prelude.{Option, Some, nat_lt}
 use Rattle.std.specs.Option.{option_map_or}
 use Rattle.std.proofs.lemmas.Bool.{ltb-false}
 use Rattle.std.proofs.lemmas.List.{get_or-map}
@@ -30,7 +30,7 @@ first_words x header user start k low = by_case (nat_lt k header) refl
     by_case true is = rw is refl
     by_case false is = let h : header ≤ k = ltb-false k header is in absurd (omega (arith, h, low))
 
-turned : (n m : ℕ) → n * (8 * m) ≡ 8 * (n * m)
+pub turned : (n m : ℕ) → n * (8 * m) ≡ 8 * (n * m)
 turned n m =
     let a : n * (m * 8) ≡ n * m * 8 = sym (mul_assoc n m 8) in
     let e : 8 * m ≡ m * 8 = omega arith in
@@ -97,6 +97,15 @@ module _ (plan : WirePlan) (is : IsPlan plan) (role : Role) (i : ℕ) (at : IsPo
     shape =
         subst (λ r. IsShapeOf (details_of plan (get_or plan.ports.items i d).role) (get_or plan.ports.items i d).role (shape_of p.limits r))
         (sym planned.role) (setting.is_for.shapes (get_or plan.ports.items i d).role)
+
+    -- whatever stands where no port is
+    pub longest_planned : (e : PlanPort) → (p.port (number_at plan i)).longest ≡ (get_or plan.ports.items i e).longest
+    longest_planned e =
+        planned.longest
+        ∙ ap (λ (o : Option PlanPort). option_map_or (λ (q : PlanPort). q.longest) o 0) (sym found ∙ port_is plan is.numbers i e low)
+
+    pub width_planned : (details_of plan role).payload.size ≡ 8 * (port_shape p (number_at plan i)).width
+    width_planned = ap (λ (r : Role). (details_of plan r).payload.size) (sym is_of_role) ∙ shape.element
 
     size_is : message_size (port_shape p (number_at plan i)) (p.port (number_at plan i)).longest ≡ 8 * (get_or plan.ports.items i d).slot_words
     size_is =

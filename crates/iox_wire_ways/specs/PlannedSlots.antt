@@ -6,6 +6,7 @@ use Rattle.iox_word_map.specs.WordMaps.{Region, piece_place}
 use Rattle.iox_word_places.specs.declared.plan.WirePlan.{WirePlan}
 use Rattle.iox_word_places.specs.Plans.{details_of, number_at, role_of, sizes_of, slot_words_of}
 use Rattle.iox_wire_locals.specs.Stored.{header_length}
+use Rattle.iox_wire_copies.specs.declared.payload_places.PayloadPlaces.{PayloadPlaces}
 use Rattle.iox_wire_loans.specs.declared.slot_places.SlotPlaces.{SlotPlaces}
 use Rattle.iox_wire_ways.specs.Visits.{pool_of}
 
@@ -18,6 +19,14 @@ abbrev pub HasHeader : WirePlan → ℕ → Type 0
 HasHeader plan i =
     (details_of plan (role_there plan i)).header.size ≡ 8 * header_length (role_there plan i)
 
+-- how many words a slot has in front of its payload at most, wherever that begins
+abbrev pub words_in_front : WirePlan → ℕ → ℕ
+words_in_front plan i =
+    header_length (role_there plan i)
+    + (in_words (details_of plan (role_there plan i)).user_header.alignment - 1)
+    + (details_of plan (role_there plan i)).user_header.size / 8
+    + (in_words (details_of plan (role_there plan i)).payload.alignment - 1)
+
 -- the slots of the port at an index
 abbrev pub planned_slots : WirePlan → ℕ → SlotPlaces
 planned_slots plan i = record {
@@ -27,4 +36,11 @@ planned_slots plan i = record {
   header = header_length (role_there plan i);
   user = (details_of plan (role_there plan i)).user_header.size / 8;
   step = in_words (details_of plan (role_there plan i)).user_header.alignment;
+}
+
+-- the payloads there: what is left of a slot behind both headers, wherever the payload begins
+abbrev pub planned_payloads : WirePlan → ℕ → PayloadPlaces
+planned_payloads plan i = record {
+  step = in_words (details_of plan (role_there plan i)).payload.alignment;
+  room = slot_words_of plan (number_at plan i) - words_in_front plan i;
 }

@@ -14,6 +14,6 @@ pub use receives::{begin_request_receive, begin_response_receive};
 pub use response_terms::terms_of_response;
 pub use responses::list_response_sources;
 pub use returns::list_request_returns;
-pub use slots::slot_places;
+pub use slots::{payload_places, slot_places};
 pub use sources::list_request_sources;
 pub use targets::list_targets;

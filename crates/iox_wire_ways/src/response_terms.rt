@@ -14,8 +14,8 @@ ghost use Rattle.iox_wire_sends.specs.Aims.{IsToldOf};
 use iox_wire_sends::ResponseTerms;
 use iox_word_places::{WayIndex, WordMap};
 
-/// What the send of a response is told of its way, from the server at an index to a lane of the client
-/// at another. Whether it fails at a full client is told elsewhere.
+/// What the send of a response is told of its way, from the server at an index to a lane of the
+/// client at another. Whether it fails at a full client is told elsewhere.
 pub fn terms_of_response(
     map: &WordMap,
     client: usize,

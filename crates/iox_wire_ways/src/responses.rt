@@ -103,9 +103,9 @@ fn source_at(map: &WordMap, client: usize, lane: u64, index: usize) -> Option<So
     None
 }
 
-/// Lists the ways from which a pending response of the client at an index receives, on its lane, and
-/// tells what is the same of all. What was listed before is lost. The handle that the receive makes
-/// has that number.
+/// Lists the ways from which a pending response of the client at an index receives, on its lane,
+/// and tells what is the same of all. What was listed before is lost. The handle that the receive
+/// makes has that number.
 pub fn list_response_sources(
     map: &WordMap,
     client: usize,

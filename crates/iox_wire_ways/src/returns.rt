@@ -70,8 +70,8 @@ fn return_at(map: &WordMap, seat: &StoredSeat, client: usize, index: usize) -> O
     None
 }
 
-/// Lists where the requests of the client at an index return, from each server that the node did not
-/// forget, and says how many may return on each of these ways. What was listed before is lost.
+/// Lists where the requests of the client at an index return, from each server that the node did
+/// not forget, and says how many may return on each of these ways. What was listed before is lost.
 pub fn list_request_returns(
     map: &WordMap,
     seat: &StoredSeat,

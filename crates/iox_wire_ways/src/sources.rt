@@ -111,8 +111,8 @@ fn source_at(
     None
 }
 
-/// Lists the ways from which the server at an index receives, and tells what is the same of all. What
-/// was listed before is lost. The handle that the receive makes has that number.
+/// Lists the ways from which the server at an index receives, and tells what is the same of all.
+/// What was listed before is lost. The handle that the receive makes has that number.
 pub fn list_request_sources(
     map: &WordMap,
     seat: &StoredSeat,

@@ -72,9 +72,9 @@ fn target_at(map: &WordMap, seat: &StoredSeat, client: usize, index: usize) -> O
     None
 }
 
-/// Lists the servers to which a request of the client at an index goes that was lent on a lane, those
-/// that the node did not forget, and tells where the words stand of each. What was listed before is
-/// lost.
+/// Lists the servers to which a request of the client at an index goes that was lent on a lane,
+/// those that the node did not forget, and tells where the words stand of each. What was listed
+/// before is lost.
 pub fn list_targets(
     map: &WordMap,
     seat: &StoredSeat,

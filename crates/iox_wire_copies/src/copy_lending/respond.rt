@@ -28,8 +28,8 @@ impl CopyLending {
     ghost use Rattle.iox_wire_copies.specs.CopyAims.{IsAimed};
     ghost use Rattle.iox_wire_copies.specs.Payloads.{HasRoom};
 
-    /// Begins the loan of a copy by a server to a request that it received, which gets back on these
-    /// ways first. What was under way would be lost.
+    /// Begins the loan of a copy by a server to a request that it received, which gets back on
+    /// these ways first. What was under way would be lost.
     pub fn lend_response(
         &mut self,
         seat: &mut StoredSeat,
