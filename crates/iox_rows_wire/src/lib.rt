@@ -2,6 +2,8 @@
 #![tactic(auto)]
 
 #[cfg(test)]
+mod calls_on_words;
+#[cfg(test)]
 mod layouts;
 #[cfg(test)]
 mod seat_calls;

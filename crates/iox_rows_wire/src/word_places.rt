@@ -9,7 +9,7 @@ use iox_word_places::{PlanLimits, PlanPort, WayIndex, WirePlan, WordMap, WordMap
 use std::alloc::Global;
 use std::test::Fail;
 
-const CLIENT: PlanPort = PlanPort {
+pub(crate) const CLIENT: PlanPort = PlanPort {
     number: 0,
     node: 0,
     role: Role::Client,
@@ -18,7 +18,7 @@ const CLIENT: PlanPort = PlanPort {
     slot_words: 10,
 };
 
-const SERVER: PlanPort = PlanPort {
+pub(crate) const SERVER: PlanPort = PlanPort {
     number: 1,
     node: 1,
     role: Role::Server,
@@ -28,7 +28,7 @@ const SERVER: PlanPort = PlanPort {
 };
 
 /// A client and a server where each setting is 1: requests of 10 words, responses of 9.
-fn all_ones(alloc: Global, waiting: usize) -> Result<WirePlan, Fail>
+pub(crate) fn all_ones(alloc: Global, waiting: usize) -> Result<WirePlan, Fail>
     ensures plan { IfOk result (λ plan. IsPlan plan) }
     ensures ports { IfOk result (λ plan. plan.ports.items ≡ CLIENT ∷ SERVER ∷ []) }
 {

@@ -14,11 +14,12 @@ use Rattle.iox_wire_locals.specs.declared.seat.Seat.{Seat}
 use Rattle.iox_wire_locals.specs.declared.table.NewLoan.{NewLoan}
 use Rattle.iox_wire_locals.specs.Courses.{ended, loaning, takes_slot}
 use Rattle.iox_wire_locals.specs.Known.{free_slots, known}
-use Rattle.iox_wire_locals.specs.Lendings.{lends, lends_request, new_request, request_refusal}
+use Rattle.iox_wire_locals.specs.declared.table.Entry.{Entry}
+use Rattle.iox_wire_locals.specs.Lendings.{lends, lends_request, lends_response, new_request, new_response, request_refusal, response_refusal}
 use Rattle.iox_wire_locals.specs.NewLoans.{loan_in}
 use Rattle.iox_wire_locals.specs.Tables.{Setting}
 use Rattle.iox_wire_loans.specs.declared.lender.Lender.{Lender}
-use Rattle.iox_wire_loans.specs.Lenders.{IsClient, IsLender}
+use Rattle.iox_wire_loans.specs.Lenders.{IsClient, IsLender, IsServer}
 use Rattle.iox_wire_copies.specs.Copies.{copy_of}
 use Rattle.iox_wire_copies.specs.CopyAims.{HasSamePeers}
 use Rattle.iox_wire_copies.proofs.CopyLemmas.{copied}
@@ -48,6 +49,12 @@ begins_copied p x q k payload =
     either_copied (is_count p.limits.request k) x _ _ payload
     (lends_copied p x (request_refusal p x q k) (new_request p x q k [] false) payload)
 
+pub responds_copied : (p : Setting) (x : Seat) (e : Entry) (k : ℕ) (payload : List ℕ)
+    → lends_response p x e k payload true ≡ copied payload (lends_response p x e k [] false)
+responds_copied p x e k payload =
+    either_copied (is_count p.limits.response k) x _ _ payload
+    (lends_copied p x (response_refusal p x e (p.port e.port) k) (new_response p x e k [] false) payload)
+
 -- ---- what is too long is refused whatever its payload
 
 either_alike : (b : Bool) (x y z : Seat) → y ≡ z → (if b then y else ended x (Refuses WrongLength)) ≡ (if b then z else ended x (Refuses WrongLength))
@@ -60,10 +67,10 @@ refused_alike p x fits rest o payload is =
     ap (λ (b : Bool). lends p x (or_else (refused_if (not b) ExceedsMaxLoanSize) rest) (copy_of o payload)) is
     ∙ sym (ap (λ (b : Bool). lends p x (or_else (refused_if (not b) ExceedsMaxLoanSize) rest) (copy_of o [])) is)
 
-too_big : (p : Setting) (t : Lender) (k : ℕ) → IsLender p t → IsClient p t → nat_le k t.longest ≡ false
-    → fits_size (p.port t.port) p.limits.request k ≡ false
-too_big p t k lender client long =
-    ap (λ (s : Shape). fits_size (p.port t.port) s k) (sym (ap (shape_of p.limits) (lender.role ∙ client.role)))
+too_big : (p : Setting) (t : Lender) (shape : Shape) (k : ℕ) → IsLender p t → shape_of p.limits t.role ≡ shape → nat_le k t.longest ≡ false
+    → fits_size (p.port t.port) shape k ≡ false
+too_big p t shape k lender is long =
+    ap (λ (s : Shape). fits_size (p.port t.port) s k) (sym (ap (shape_of p.limits) lender.role ∙ is))
     ∙ lender.longest k ∙ long
 
 pub too_long : (p : Setting) (x : Seat) (t : Lender) (k : ℕ) (payload : List ℕ) → IsLender p t → IsClient p t → nat_le k t.longest ≡ false
@@ -71,7 +78,15 @@ pub too_long : (p : Setting) (x : Seat) (t : Lender) (k : ℕ) (payload : List �
 too_long p x t k payload lender client long =
     either_alike (is_count p.limits.request k) x _ _
     (refused_alike p x (fits_size (p.port t.port) p.limits.request k) _ (new_request p x (p.port t.port) k [] false) payload
-    (too_big p t k lender client long))
+    (too_big p t p.limits.request k lender (ap (shape_of p.limits) client.role) long))
+
+pub too_long_response : (p : Setting) (x : Seat) (t : Lender) (e : Entry) (k : ℕ) (payload : List ℕ) → IsLender p t → IsServer p t → e.port ≡ t.port
+    → nat_le k t.longest ≡ false → lends_response p x e k payload true ≡ lends_response p x e k [] true
+too_long_response p x t e k payload lender server port long =
+    either_alike (is_count p.limits.response k) x _ _
+    (refused_alike p x (fits_size (p.port e.port) p.limits.response k) _ (new_response p x e k [] false) payload
+    (ap (λ (n : ℕ). fits_size (p.port n) p.limits.response k) port
+    ∙ too_big p t p.limits.response k lender (ap (shape_of p.limits) server.role) long))
 
 -- ---- the node knows of the same nodes
 
@@ -106,12 +121,9 @@ pub whole_payload : (words : List ℕ) (kept : ℕ) → kept ≡ length words �
 whole_payload words kept is = ap (λ (n : ℕ). take n words) is ∙ take-length words
 
 -- a copy with what is kept of its payload begins as it does with all of it
-pub kept_whole : (p : Setting) (x : Seat) (t : Lender) (k : ℕ) (words kept : List ℕ) (n : ℕ) → kept ≡ take n words → n ≡ length words
-    → lends_request p x (p.port t.port) k kept true ≡ lends_request p x (p.port t.port) k words true
-kept_whole p x t k words kept n is all = ap (λ (ws : List ℕ). lends_request p x (p.port t.port) k ws true) (is ∙ whole_payload words n all)
+pub kept_whole : (begins : List ℕ → Seat) (words kept : List ℕ) (n : ℕ) → kept ≡ take n words → n ≡ length words → begins kept ≡ begins words
+kept_whole begins words kept n is all = ap begins (is ∙ whole_payload words n all)
 
-pub kept_none : (p : Setting) (x : Seat) (t : Lender) (k : ℕ) (words kept : List ℕ) (n : ℕ) → IsLender p t → IsClient p t → nat_le k t.longest ≡ false
-    → kept ≡ take n words → n ≡ 0 → lends_request p x (p.port t.port) k kept true ≡ lends_request p x (p.port t.port) k words true
-kept_none p x t k words kept n lender client long is none =
-    ap (λ (ws : List ℕ). lends_request p x (p.port t.port) k ws true) (is ∙ ap (λ (m : ℕ). take m words) none)
-    ∙ sym (too_long p x t k words lender client long)
+pub kept_none : (begins : List ℕ → Seat) (words kept : List ℕ) (n : ℕ) → begins words ≡ begins [] → kept ≡ take n words → n ≡ 0 → begins kept ≡ begins words
+kept_none begins words kept n alike is none =
+    ap begins (is ∙ ap (λ (m : ℕ). take m words) none) ∙ sym alike

@@ -4,4 +4,6 @@ pub mod StoreLemmas
 pub mod BeginLemmas
 pub mod LendLemmas
 pub mod WriteLemmas
+pub mod CopierLemmas
 pub mod SendLemmas
+pub mod RespondLemmas

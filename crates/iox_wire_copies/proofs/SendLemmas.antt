@@ -1,9 +1,7 @@
 -- How the copy of a request goes on from its loan to its send.
-use Rattle.std.proofs.Common.{◌≡◌, ◌+◌, ◌<◌, ◌^◌, ℕ, true, false, List, refl, ap, sym, subst, true≢false, ◌∙◌}
+use Rattle.std.proofs.Common.{◌≡◌, ℕ, true, false, List, refl, ap, sym, subst, true≢false, ◌∙◌}
 use Rattle.std.specs.Prelude.{Option, None, Some, option_map}
-use Rattle.iox_model.specs.declared.kind.Kind.TheVariants.{RequestMut}
 use Rattle.iox_model.specs.declared.kind.Role.TheVariants.{Server}
-use Rattle.iox_model.specs.Handles.{is_request_loan}
 use Rattle.iox_model.specs.Peers.{others}
 use Rattle.iox_wire_locals.specs.declared.local.Local.{Local}
 use Rattle.iox_wire_locals.specs.declared.local.Local.TheVariants.{Idle, Ends, SendEnds}
@@ -16,7 +14,6 @@ use Rattle.iox_wire_locals.specs.NewLoans.{entry_in}
 use Rattle.iox_wire_locals.specs.Settlements.{reply_of}
 use Rattle.iox_wire_locals.specs.Steps.{closed, ending_at, next, tells}
 use Rattle.iox_wire_locals.specs.Tables.{Setting}
-use Rattle.iox_wire_seats.specs.Aims.{HasRoomForHint}
 use Rattle.iox_wire_seats.specs.Seats.{Placed}
 use Rattle.iox_wire_loans.specs.Aims.{TellsOfSlot, after, answered}
 use Rattle.iox_wire_loans.specs.Orders.{loan_of}
@@ -26,30 +23,18 @@ use Rattle.iox_wire_request_sends.specs.declared.at.RequestReply.{RequestReply}
 use Rattle.iox_wire_request_sends.specs.Aims as requests
 use Rattle.iox_wire_request_sends.specs.Aims.{Knows, is_ending}
 use Rattle.iox_wire_request_sends.specs.RequestDispatches.{RequestDispatch}
-use Rattle.iox_wire_copies.specs.declared.at.ClientAt.{ClientAt}
-use Rattle.iox_wire_copies.specs.declared.at.ClientAt.TheVariants as at
+use Rattle.iox_wire_copies.specs.declared.at.CopierAt.{CopierAt}
+use Rattle.iox_wire_copies.specs.declared.at.CopierAt.TheVariants as at
 use Rattle.iox_wire_copies.specs.declared.at.CopyLent.TheVariants as lent
 use Rattle.iox_wire_copies.specs.declared.at.CopyReply.{CopyReply}
 use Rattle.iox_wire_copies.specs.declared.at.CopyReply.TheVariants as copy_replies
 use Rattle.iox_wire_copies.specs.Copies.{CopyLoan}
 use Rattle.iox_wire_copies.specs.CopyAims as copies
 use Rattle.iox_wire_copies.specs.CopyAims.{HasSamePeers, IsSameCopy}
-use Rattle.iox_wire_copies.specs.CopyCalls.{AreAimed, CopyCall, GoesOn, Answers, IsAimed, IsLending, IsSending, KnowsServers, LeadsTo, SendsTo, StaysAimed, reply_in}
+use Rattle.iox_wire_copies.specs.CopyCalls.{AreAimed, CopyCall, GoesOn, Answers, IsAimed, KnowsServers, LeadsTo, SendsTo, StaysAimed, reply_in}
 use Rattle.iox_wire_copies.proofs.LendLemmas.{it_rests}
 
 -- ---- where it is
-
-pub client_lends : (a : ClientAt) → IsLending a → a ≡ at.Lends
-client_lends at.Rest there = absurd there
-client_lends at.Refuses there = absurd there
-client_lends at.Lends there = refl
-client_lends at.Sends there = absurd there
-
-pub client_sends : (a : ClientAt) → IsSending a → a ≡ at.Sends
-client_sends at.Rest there = absurd there
-client_sends at.Refuses there = absurd there
-client_sends at.Lends there = absurd there
-client_sends at.Sends there = refl
 
 -- What a client is that lends.
 pub record Lends (r : CopyCall) : Type 0 where
@@ -63,18 +48,10 @@ pub record Sends (r : CopyCall) : Type 0 where
 
 pub aimed_lends : (p : Setting) (x : Seat) (r : CopyCall) → Lends r → IsAimed p x r
     → copies.IsAimed p x r.lends × KnowsServers p x r.lends.lending.order.port r.lends.lending.order.lane r.sends
-aimed_lends p x r lends aim = subst (λ (a : ClientAt). AreAimed p x a r) lends.at aim
+aimed_lends p x r lends aim = subst (λ (a : CopierAt). AreAimed p x a r) lends.at aim
 
 pub aimed_sends : (p : Setting) (x : Seat) (r : CopyCall) → Sends r → IsAimed p x r → requests.IsAimed p x r.sends
-aimed_sends p x r sends_now aim = subst (λ (a : ClientAt). AreAimed p x a r) sends_now.at aim
-
--- ---- the loan is one of a request
-
-pub is_request : (order : Order) (loan : Entry) → order.kind ≡ RequestMut → loan ≡ entry_in (loan_of order) loan.slot → is_request_loan loan.kind ≡ true
-is_request order loan kind made = ap (λ (e : Entry). is_request_loan e.kind) made ∙ ap is_request_loan kind
-
-pub has_hint : (order : Order) (loan : Entry) → order.request + 1 < 2 ^ 63 → loan ≡ entry_in (loan_of order) loan.slot → HasRoomForHint loan
-has_hint order loan room made = subst (λ (n : ℕ). n + 1 < 2 ^ 63) (sym (ap (λ (e : Entry). e.request) made)) room
+aimed_sends p x r sends_now aim = subst (λ (a : CopierAt). AreAimed p x a r) sends_now.at aim
 
 -- ---- the servers stay the same
 
@@ -144,7 +121,7 @@ pub lends_aimed : (x y : Placed) (r s : CopyCall) → Lends r → s.at ≡ at.Le
     → copies.StaysAimed x r.lends y s.lends → copies.KeepsPeers x r.lends y → IsSameCopy r.lends s.lends → StaysAimed x r y s
 lends_aimed x y r s lends at' local told stays peers same p aim of_slot =
     let known_so : copies.IsAimed p x.seat r.lends × KnowsServers p x.seat r.lends.lending.order.port r.lends.lending.order.lane r.sends = aimed_lends p x.seat r lends aim in
-    subst (λ (a : ClientAt). AreAimed p y.seat a s) (sym at') (
+    subst (λ (a : CopierAt). AreAimed p y.seat a s) (sym at') (
       stays p known_so.0 (subst (TellsOfSlot s.lends.slots) local of_slot),
       subst (λ (q : RequestDispatch). KnowsServers p y.seat s.lends.lending.order.port s.lends.lending.order.lane q) (sym told)
           (subst (λ (o : Order). KnowsServers p y.seat o.port o.lane r.sends) (sym same.order)
@@ -202,4 +179,4 @@ sends_over x r seen reply sends_now over p aim =
 
 pub sends_aimed : (x y : Placed) (r s : CopyCall) → Sends r → s.at ≡ at.Sends → requests.StaysAimed x r.sends y s.sends → StaysAimed x r y s
 sends_aimed x y r s sends_now at' stays p aim of_slot =
-    subst (λ (a : ClientAt). AreAimed p y.seat a s) (sym at') (stays p (aimed_sends p x.seat r sends_now aim))
+    subst (λ (a : CopierAt). AreAimed p y.seat a s) (sym at') (stays p (aimed_sends p x.seat r sends_now aim))

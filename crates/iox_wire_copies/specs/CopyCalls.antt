@@ -1,37 +1,33 @@
 -- The call of a client that copies a request, and what a step of it does.
-use Rattle.std.specs.Prelude.{◌≡◌, ◌+◌, ◌<◌, ◌^◌, ℕ, Bool, true, false, Option, option_map}
+use Rattle.std.specs.Prelude.{◌≡◌, ◌+◌, ◌<◌, ◌^◌, ℕ, true, Option, option_map}
 use Rattle.iox_model.specs.Commands.{Reply}
 use Rattle.iox_model.specs.Peers.{others}
 use Rattle.iox_model.specs.declared.kind.Kind.TheVariants.{RequestMut}
 use Rattle.iox_model.specs.declared.kind.Role.TheVariants.{Server}
-use Rattle.iox_wire_locals.specs.declared.local.CallRefusal.TheVariants.{WrongLength}
-use Rattle.iox_wire_locals.specs.declared.local.Ending.TheVariants.{Refuses}
 use Rattle.iox_wire_locals.specs.declared.local.Local.{Local}
-use Rattle.iox_wire_locals.specs.declared.local.Local.TheVariants.{Idle, Ends}
 use Rattle.iox_wire_locals.specs.declared.seat.Seat.{Seat}
 use Rattle.iox_wire_locals.specs.declared.table.Entry.{Entry}
 use Rattle.iox_wire_locals.specs.Courses.{placed, sends}
 use Rattle.iox_wire_locals.specs.Known.{known}
 use Rattle.iox_wire_locals.specs.Lendings.{next_handle}
-use Rattle.iox_wire_locals.specs.NewLoans.{entry_in}
 use Rattle.iox_wire_locals.specs.Steps.{next, tells}
 use Rattle.iox_wire_locals.specs.Tables.{Setting}
 use Rattle.iox_wire_seats.specs.Lends.{MayLend}
 use Rattle.iox_wire_seats.specs.Seats.{Placed}
 use Rattle.iox_wire_loans.specs.Aims.{GetsBackUsed, TellsOfSlot, after, answered}
 use Rattle.iox_wire_loans.specs.Loans as loans
-use Rattle.iox_wire_loans.specs.Orders.{loan_of}
 use Rattle.iox_wire_loans.specs.declared.order.Order.{Order}
 use Rattle.iox_wire_request_sends.specs.Aims as requests
 use Rattle.iox_wire_request_sends.specs.Aims.{FindsAt, IsToldOf}
 use Rattle.iox_wire_request_sends.specs.RequestDispatches as dispatches
 use Rattle.iox_wire_request_sends.specs.RequestDispatches.{RequestDispatch}
 use Rattle.iox_wire_request_sends.specs.Targets.{AreTargets, servers_of}
-use Rattle.iox_wire_copies.specs.declared.at.ClientAt.{ClientAt}
-use Rattle.iox_wire_copies.specs.declared.at.ClientAt.TheVariants as at
+use Rattle.iox_wire_copies.specs.declared.at.CopierAt.{CopierAt}
+use Rattle.iox_wire_copies.specs.declared.at.CopierAt.TheVariants as at
 use Rattle.iox_wire_copies.specs.declared.at.CopyReply.{CopyReply}
 use Rattle.iox_wire_copies.specs.declared.at.CopyReply.TheVariants as copy_replies
 use Rattle.iox_wire_copies.specs.Copies.{CopyLoan}
+use Rattle.iox_wire_copies.specs.Copiers.{SendsLoan}
 use Rattle.iox_wire_copies.specs.CopyAims as copies
 use Rattle.iox_wire_copies.specs.CopyAims.{IsHeld, IsSameCopy}
 
@@ -39,17 +35,10 @@ use Rattle.iox_wire_copies.specs.CopyAims.{IsHeld, IsSameCopy}
 
 -- A copy of a request: where it is, its loan, and its send.
 pub record CopyCall : Type 0 where
-  pub at : ClientAt
+  pub at : CopierAt
   pub local : Local
   pub lends : CopyLoan
   pub sends : RequestDispatch
-
--- the place of a call that a name, its loan and its send stand for
-abbrev pub local_of : ClientAt → (lends sends : Local) → Local
-local_of at.Rest lends sends = Idle
-local_of at.Refuses lends sends = Ends (Refuses WrongLength)
-local_of at.Lends lends sends = lends
-local_of at.Sends lends sends = sends
 
 -- the machine's name of a reply: the loan's if that is refused, else the send's
 abbrev pub reply_in : CopyReply → Reply
@@ -58,25 +47,10 @@ reply_in (copy_replies.OfSend reply) = dispatches.reply_in reply
 
 -- ---- what it keeps to
 
--- whether its loan is under way
-abbrev pub lends_at : ClientAt → Bool
-lends_at at.Lends = true
-lends_at name = false
-
--- whether its send is
-abbrev pub sends_at : ClientAt → Bool
-sends_at at.Sends = true
-sends_at name = false
-
 -- what it lends is a request, whose state has room for a hint
-abbrev pub LendsRequest : ClientAt → Order → Type 0
+abbrev pub LendsRequest : CopierAt → Order → Type 0
 LendsRequest at.Lends order = (order.kind ≡ RequestMut) × (order.request + 1 < 2 ^ 63)
 LendsRequest name order = Unit {0}
-
--- what it sends is the loan that it made
-abbrev pub SendsLoan : ClientAt → Order → Entry → Type 0
-SendsLoan at.Sends order loan = loan ≡ entry_in (loan_of order) loan.slot
-SendsLoan name order loan = Unit {0}
 
 -- ---- the wire
 
@@ -89,7 +63,7 @@ pub record KnowsServers
   pub servers : servers_of s.targets ≡ others (known p x) x.node Server
 
 -- the places that it knows of are those of the words that it still accesses
-abbrev pub AreAimed : Setting → Seat → ClientAt → CopyCall → Type 0
+abbrev pub AreAimed : Setting → Seat → CopierAt → CopyCall → Type 0
 AreAimed p x at.Rest r = Unit {0}
 AreAimed p x at.Refuses r = Unit {0}
 AreAimed p x at.Lends r =
@@ -104,7 +78,7 @@ IsAimed p x r = AreAimed p x r.at r
 -- ---- what the seat beside it keeps
 
 -- What it lends may become a handle, and may be given up as long as its send may be refused.
-abbrev pub MayEnd : Placed → ClientAt → CopyCall → Type 0
+abbrev pub MayEnd : Placed → CopierAt → CopyCall → Type 0
 MayEnd x at.Lends r =
     MayLend x r.lends.lending.order.number r.lends.lending.order.port × IsHeld x.seat r.local
 MayEnd x at.Sends r = requests.MayEnd x r.sends
@@ -161,15 +135,3 @@ abbrev pub SendsTo : Seat → RequestDispatch → Entry → Placed → CopyCall 
 SendsTo x r loan y s reply =
     (p : Setting) → KnowsServers p x loan.port loan.lane r → loan.number ≡ next_handle p x
     → LeadsTo p x loan y s reply
-
--- ---- where it is
-
--- it lends
-abbrev pub IsLending : ClientAt → Type 0
-IsLending at.Lends = Unit {0}
-IsLending name = ⊥
-
--- it sends
-abbrev pub IsSending : ClientAt → Type 0
-IsSending at.Sends = Unit {0}
-IsSending name = ⊥

@@ -2,6 +2,7 @@
 use iox_wire_loans::LendReply;
 use iox_wire_locals::Entry;
 use iox_wire_request_sends::RequestReply;
+use iox_wire_sends::RespondReply;
 
 /// Where the loan of a copy is, without what belongs to it.
 #[derive(Clone, Copy)]
@@ -22,9 +23,9 @@ pub enum CopyLent {
     Made(Entry),
 }
 
-/// Where a client is that copies a request, without what belongs to it.
+/// Where a client or a server is that copies a message, without what belongs to it.
 #[derive(Clone, Copy)]
-pub enum ClientAt {
+pub enum CopierAt {
     Rest,
     /// The payload is not of whole elements: it is refused, and has no access left.
     Refuses,
@@ -39,4 +40,13 @@ pub enum CopyReply {
     OfLoan(LendReply),
     /// What the send of its loan answers.
     OfSend(RequestReply),
+}
+
+/// What the copy of a response answers.
+#[derive(Clone, Copy)]
+pub enum ResponseCopyReply {
+    /// Its loan is refused.
+    OfLoan(LendReply),
+    /// What the send of its loan answers.
+    OfSend(RespondReply),
 }

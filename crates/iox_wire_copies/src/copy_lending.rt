@@ -3,6 +3,7 @@ ghost use Rattle.std.specs.Prelude.{◌≡◌};
 
 mod begin;
 mod lend;
+mod respond;
 mod store;
 
 use crate::at::{CopyAt, CopyLent};

@@ -4,7 +4,7 @@ ghost use Rattle.std.specs.Prelude.{◌≡◌};
 mod begin;
 mod send;
 
-use crate::at::{ClientAt, CopyReply};
+use crate::at::{CopierAt, CopyReply};
 use crate::copy_lending::CopyLending;
 use iox_steps::Access;
 use iox_wire_loans::LendReply;
@@ -18,7 +18,7 @@ use std::marker::Model;
 /// payload, and sends it. Only what prepares it and its begin take memory.
 #[derive(Drop)]
 pub struct CopyingClient {
-    at: ClientAt,
+    at: CopierAt,
     lends: CopyLending,
     sends: Requesting,
 }
@@ -26,8 +26,8 @@ pub struct CopyingClient {
 impl Model for CopyingClient {
     ghost use Rattle.std.specs.Prelude.{◌≡◌};
     ghost use Rattle.iox_wire_locals.specs.Begins.{is_busy};
-    ghost use Rattle.iox_wire_copies.specs.CopyCalls.{CopyCall, LendsRequest, lends_at, local_of};
-    ghost use Rattle.iox_wire_copies.specs.CopyCalls.{SendsLoan, sends_at};
+    ghost use Rattle.iox_wire_copies.specs.Copiers.{SendsLoan, lends_at, local_of, sends_at};
+    ghost use Rattle.iox_wire_copies.specs.CopyCalls.{CopyCall, LendsRequest};
 
     ghost Value = { CopyCall };
 
@@ -62,7 +62,7 @@ impl CopyingClient {
         ensures { result.local ≡ Idle }
     {
         CopyingClient {
-            at: ClientAt::Rest,
+            at: CopierAt::Rest,
             lends: CopyLending::new(alloc),
             sends: Requesting::new(alloc),
         }
@@ -72,7 +72,7 @@ impl CopyingClient {
     pub fn is_busy(&self) -> bool
         ensures { result ≡ is_busy self.now.local }
     {
-        !matches!(self.at, ClientAt::Rest)
+        !matches!(self.at, CopierAt::Rest)
     }
 
     /// The access that it makes next.
@@ -82,9 +82,9 @@ impl CopyingClient {
             ≡ program_access p.layout (program_of p self.now.local) }
     {
         match self.at {
-            ClientAt::Rest | ClientAt::Refuses => Access::Local,
-            ClientAt::Lends => self.lends.asks(),
-            ClientAt::Sends => self.sends.asks(),
+            CopierAt::Rest | CopierAt::Refuses => Access::Local,
+            CopierAt::Lends => self.lends.asks(),
+            CopierAt::Sends => self.sends.asks(),
         }
     }
 
@@ -107,14 +107,14 @@ impl CopyingClient {
         ensures step { IsOneStep seat.old seat.new }
     {
         match self.at {
-            ClientAt::Rest => None,
-            ClientAt::Refuses => {
+            CopierAt::Rest => None,
+            CopierAt::Refuses => {
                 seat.count_access();
-                self.at = ClientAt::Rest;
+                self.at = CopierAt::Rest;
                 Some(CopyReply::OfLoan(LendReply::Refused(CallRefusal::WrongLength)))
             }
-            ClientAt::Lends => self.lend_on(seat, seen),
-            ClientAt::Sends => self.send_on(seat, seen),
+            CopierAt::Lends => self.lend_on(seat, seen),
+            CopierAt::Sends => self.send_on(seat, seen),
         }
     }
 }

@@ -1,8 +1,9 @@
 -- What a loan in the making will be.
 use Rattle.std.specs.Prelude.{◌≡◌, ◌+◌, ◌<◌, ◌^◌, ℕ, false, List, [], ◌∷◌, ◌++◌}
-use Rattle.iox_model.specs.declared.kind.Kind.TheVariants.{RequestMut}
+use Rattle.iox_model.specs.declared.kind.Kind.TheVariants.{RequestMut, ResponseMut}
 use Rattle.iox_model.specs.declared.kind.Role.{Role}
 use Rattle.iox_model.specs.declared.kind.Role.TheVariants.{Client, Server}
+use Rattle.iox_wire_locals.specs.declared.table.Entry.{Entry}
 use Rattle.iox_wire_locals.specs.declared.table.NewLoan.{NewLoan}
 use Rattle.iox_wire_loans.specs.declared.order.Order.{Order}
 
@@ -35,3 +36,10 @@ pub record IsRequest (o : Order) (free : ℕ) : Type 0 where
   pub kind : o.kind ≡ RequestMut
   pub lane : o.lane ≡ free
   pub request : o.request + 1 < 2 ^ 63
+
+-- It is a response to that request, and goes to its client on its lane.
+pub record IsResponse (o : Order) (e : Entry) : Type 0 where
+  pub kind : o.kind ≡ ResponseMut
+  pub client : o.client ≡ e.client
+  pub lane : o.lane ≡ e.lane
+  pub request : o.request ≡ e.request

@@ -1,7 +1,7 @@
 -- How the send of a response goes on as it delivers.
-use Rattle.std.proofs.Common.{◌≡◌, ◌+◌, ◌<◌, ◌==◌, ℕ, Bool, true, false, cond, List, [], ◌∷◌, map, slice_index, slice_set, Option, None, refl, ap, ap₂, sym, subst, ◌∙◌, true≢false, eqb-true, eq-eqb, arith}
-use Rattle.std.specs.Prelude.{if◌then◌else◌}
+use Rattle.std.proofs.Common.{◌≡◌, ◌+◌, ◌<◌, ◌==◌, ℕ, Bool, true, false, cond, List, [], ◌∷◌, map, slice_index, slice_set, None, Some, refl, ap, ap₂, sym, subst, ◌∙◌, true≢false, eqb-true, eq-eqb, arith}
 use Rattle.std.proofs.lemmas.List.{get_or-set_other, get_or-set_same}
+use Rattle.iox_model.specs.declared.reply.Reply.TheVariants as replies
 use Rattle.iox_model.specs.declared.way.Way.{Way}
 use Rattle.iox_model.specs.Handles.{is_response_loan}
 use Rattle.iox_model.specs.Requests.{may_evict}
@@ -11,31 +11,28 @@ use Rattle.iox_steps.specs.declared.side.Pushing.{Pushing}
 use Rattle.iox_steps.specs.declared.side.Pushing.TheVariants as pushing
 use Rattle.iox_steps.specs.declared.side.QueueEvent.{QueueEvent}
 use Rattle.iox_steps.specs.declared.side.QueueEvent.TheVariants as events
+use Rattle.iox_word_map.specs.WordMaps.{MessageQueue}
+use Rattle.iox_wire_words.specs.Programs.{site_of}
 use Rattle.iox_wire_locals.specs.declared.local.Local.TheVariants.{Idle, SendEnds}
 use Rattle.iox_wire_locals.specs.declared.seat.Seat.{Seat}
 use Rattle.iox_wire_locals.specs.declared.table.Desk.{Desk}
 use Rattle.iox_wire_locals.specs.declared.table.Entry.{Entry}
 use Rattle.iox_wire_locals.specs.Courses.{placed}
 use Rattle.iox_wire_locals.specs.Desks.{at_desk, delivers, on_desk}
-use Rattle.iox_wire_locals.specs.Findings.{send_delivered, send_pushed}
+use Rattle.iox_wire_locals.specs.Findings.{send_delivered, send_evicted, send_pushed}
 use Rattle.iox_wire_locals.specs.Known.{sending}
-use Rattle.iox_wire_locals.specs.Settlements.{sends_away, sends_entry}
-use Rattle.iox_wire_locals.specs.Steps.{accessed, advance, next}
+use Rattle.iox_wire_loans.specs.Aims.{after, answered}
+use Rattle.iox_wire_locals.specs.Settlements.{sends_away}
+use Rattle.iox_wire_locals.specs.Steps.{accessed, advance, next, tells}
 use Rattle.iox_wire_locals.specs.Tables.{Setting, state_in}
 use Rattle.iox_wire_seats.specs.Aims.{is_at_rest}
 use Rattle.iox_wire_seats.specs.Desks.{IsUsed, MayDeliver}
 use Rattle.iox_wire_seats.proofs.SlotLemmas.{within}
 use Rattle.iox_wire_sends.specs.declared.terms.ResponseTerms.{ResponseTerms}
 use Rattle.iox_wire_sends.specs.Aims.{IsToldOf}
-use Rattle.iox_wire_sends.specs.Dispatches.{delivery_of}
-use Rattle.iox_wire_sends.proofs.SendLemmas.{after, no_request, pushes}
-
--- ---- its end
-
-it_ends : (p : Setting) (x : Seat) (e : Entry) (last : Option Way) (count : ℕ) → is_response_loan e.kind ≡ true
-    → placed (sends_away x e false) Idle ≡ after p (placed x (SendEnds (delivery_of e) last count))
-it_ends p x e last count kind =
-    sym (ap (λ (b : Bool). placed (if b then sends_entry (placed x (SendEnds (delivery_of e) last count)) e false count else sends_away (placed x (SendEnds (delivery_of e) last count)) e false) Idle) (no_request e.kind kind))
+use Rattle.iox_wire_sends.specs.Dispatches.{delivery_to}
+use Rattle.iox_wire_sends.proofs.EndLemmas.{it_ends, it_is_done}
+use Rattle.iox_wire_sends.proofs.SendLemmas.{evicts, pushes}
 
 -- ---- a push
 
@@ -44,23 +41,59 @@ at_rest pushing.AtRest e = refl
 at_rest (pushing.Pushes place) e = absurd (true≢false (sym e))
 at_rest (pushing.Looks place) e = absurd (true≢false (sym e))
 
-published : (p : Setting) (x : Seat) (e : Entry) (t : ResponseTerms) (place q : Pushing) (seen slot : ℕ) → IsToldOf p e t
+published : (p : Setting) (x : Seat) (e : Entry) (c : Bool) (t : ResponseTerms) (place q : Pushing) (seen slot : ℕ) → IsToldOf p e t
     → pushing_event t.messages place seen ≡ events.Publish slot → q ≡ pushing_after t.messages place seen
-    → advance p (accessed (pushes x e place)) (pushes x e place).local seen
-    ≡ send_delivered p (at_desk (accessed (pushes x e place)) e.port (delivers (state_in e) slot)) (delivery_of e) (state_in e) [] 1 q
-published p x e t place q seen slot told event is =
-    ap₂ (λ (r : Pushing) (ev : QueueEvent). send_pushed p (accessed (pushes x e place)) (delivery_of e) None (state_in e) [] 0 r ev)
+    → advance p (accessed (pushes x e c place)) (pushes x e c place).local seen
+    ≡ send_delivered p (at_desk (accessed (pushes x e c place)) e.port (delivers (state_in e) slot)) (delivery_to e c) (state_in e) [] 1 q
+published p x e c t place q seen slot told event is =
+    ap₂ (λ (r : Pushing) (ev : QueueEvent). send_pushed p (accessed (pushes x e c place)) (delivery_to e c) None (state_in e) [] 0 r ev)
     (ap (λ (s : Site). pushing_after s place seen) (sym told.messages) ∙ sym is)
     (ap (λ (s : Site). pushing_event s place seen) (sym told.messages) ∙ event)
 
-pub delivered_next : (p : Setting) (x : Seat) (e : Entry) (t : ResponseTerms) (place q : Pushing) (seen slot : ℕ) → is_response_loan e.kind ≡ true
+pub delivered_next : (p : Setting) (x : Seat) (e : Entry) (c : Bool) (t : ResponseTerms) (place q : Pushing) (seen slot : ℕ) → is_response_loan e.kind ≡ true
     → IsToldOf p e t → pushing_event t.messages place seen ≡ events.Publish slot → q ≡ pushing_after t.messages place seen → is_at_rest q ≡ true
-    → placed (sends_away (at_desk (accessed x) e.port (delivers (state_in e) slot)) e false) Idle ≡ next p (pushes x e place) seen
-delivered_next p x e t place q seen slot kind told event is rest =
-    it_ends p (at_desk (accessed (pushes x e place)) e.port (delivers (state_in e) slot)) e
-    (may_evict (sending p (at_desk (accessed (pushes x e place)) e.port (delivers (state_in e) slot)) (delivery_of e)) (state_in e)) 1 kind
-    ∙ sym (ap (after p) (published p x e t place q seen slot told event is
-    ∙ ap (send_delivered p (at_desk (accessed (pushes x e place)) e.port (delivers (state_in e) slot)) (delivery_of e) (state_in e) [] 1) (at_rest q rest)))
+    → placed (sends_away (at_desk (accessed x) e.port (delivers (state_in e) slot)) e c) Idle ≡ next p (pushes x e c place) seen
+delivered_next p x e c t place q seen slot kind told event is rest =
+    it_ends p (at_desk (accessed x) e.port (delivers (state_in e) slot)) e c
+    (may_evict (sending p (at_desk (accessed (pushes x e c place)) e.port (delivers (state_in e) slot)) (delivery_to e c)) (state_in e)) 1 kind
+    ∙ sym (ap (after p) (published p x e c t place q seen slot told event is
+    ∙ ap (send_delivered p (at_desk (accessed (pushes x e c place)) e.port (delivers (state_in e) slot)) (delivery_to e c) (state_in e) [] 1) (at_rest q rest)))
+
+-- ---- an eviction that comes too late
+
+not_pushed_out : (x : Seat) (e : Entry) (c : Bool) (place : Pushing) (ev : QueueEvent) → (ev ≡ events.Evict → ⊥)
+    → send_evicted x (delivery_to e c) (state_in e) [] 1 place ev ≡ placed x (SendEnds (delivery_to e c) (Some (state_in e)) 1)
+not_pushed_out x e c place events.Evict none = absurd (none refl)
+not_pushed_out x e c place events.Quiet none = refl
+not_pushed_out x e c place (events.Publish v) none = refl
+not_pushed_out x e c place (events.HandOut v) none = refl
+not_pushed_out x e c place (events.Learn v) none = refl
+not_pushed_out x e c place events.SeesEmpty none = refl
+not_pushed_out x e c place events.SeesWaiting none = refl
+not_pushed_out x e c place events.SeesFull none = refl
+not_pushed_out x e c place events.SeesRoom none = refl
+not_pushed_out x e c place events.SeesEnd none = refl
+
+taken_before : (p : Setting) (x : Seat) (e : Entry) (c : Bool) (t : ResponseTerms) (place : Pushing) (seen : ℕ) → IsToldOf p e t
+    → (pushing_event t.messages place seen ≡ events.Evict → ⊥)
+    → advance p (accessed (evicts x e c place)) (evicts x e c place).local seen
+    ≡ placed (accessed x) (SendEnds (delivery_to e c) (Some (state_in e)) 1)
+taken_before p x e c t place seen told none =
+    not_pushed_out (accessed (evicts x e c place)) e c (pushing_after (site_of p.layout (MessageQueue (state_in e))) place seen)
+    (pushing_event (site_of p.layout (MessageQueue (state_in e))) place seen)
+    (λ is. none (ap (λ (s : Site). pushing_event s place seen) told.messages ∙ is))
+
+pub evicted_next : (p : Setting) (x : Seat) (e : Entry) (c : Bool) (t : ResponseTerms) (place : Pushing) (seen : ℕ) → is_response_loan e.kind ≡ true
+    → IsToldOf p e t → (pushing_event t.messages place seen ≡ events.Evict → ⊥)
+    → placed (sends_away (accessed x) e c) Idle ≡ next p (evicts x e c place) seen
+evicted_next p x e c t place seen kind told none =
+    it_ends p (accessed x) e c (Some (state_in e)) 1 kind ∙ sym (ap (after p) (taken_before p x e c t place seen told none))
+
+pub evicted_over : (p : Setting) (x : Seat) (e : Entry) (c : Bool) (t : ResponseTerms) (place : Pushing) (seen : ℕ) → is_response_loan e.kind ≡ true
+    → IsToldOf p e t → (pushing_event t.messages place seen ≡ events.Evict → ⊥)
+    → tells p (evicts x e c place) seen ≡ Some replies.Done
+evicted_over p x e c t place seen kind told none =
+    ap (answered p) (taken_before p x e c t place seen told none) ∙ it_is_done p (accessed x) e c (Some (state_in e)) 1 kind
 
 -- ---- what is delivered leaves the loan in use
 

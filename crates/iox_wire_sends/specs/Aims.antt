@@ -1,6 +1,6 @@
 -- What the send of a response is told of the wire, what its accesses find, and what a step of it
 -- does.
-use Rattle.std.specs.Prelude.{◌≡◌, ℕ, not, Option, option_map}
+use Rattle.std.specs.Prelude.{◌≡◌, ℕ, true, not, Option, option_map}
 use Rattle.iox_model.specs.declared.kind.Role.TheVariants.{Client}
 use Rattle.iox_model.specs.Maps.{has_number}
 use Rattle.iox_model.specs.Peers.{others, overflows_on}
@@ -18,7 +18,7 @@ use Rattle.iox_wire_locals.specs.Desks.{at_desk, gets_back}
 use Rattle.iox_wire_locals.specs.Known.{known}
 use Rattle.iox_wire_locals.specs.Courses.{placed}
 use Rattle.iox_wire_locals.specs.Steps.{next, tells}
-use Rattle.iox_wire_seats.specs.Desks.{IsUsed, MayDeliver}
+use Rattle.iox_wire_seats.specs.Desks.{IsUsed, MayCount, MayDeliver}
 use Rattle.iox_wire_seats.specs.Seats.{Placed}
 use Rattle.iox_wire_sends.specs.declared.at.RespondReply.{RespondReply}
 use Rattle.iox_wire_sends.specs.declared.terms.ResponseTerms.{ResponseTerms}
@@ -62,6 +62,12 @@ FindsAt x t local seen = Unit {0}
 abbrev pub FindsUsed : Placed → Dispatch → ℕ → Type 0
 FindsUsed x r seen = FindsAt x.seat r.terms r.local seen
 
+-- ---- what the seat beside it keeps
+
+-- a loan of the same call may be counted
+abbrev pub MayCountMade : Placed → Dispatch → Type 0
+MayCountMade x r = r.copied ≡ true → MayCount r.loan.port x.seat.desks
+
 -- ---- a step
 
 -- After an access that found this the node is the next,
@@ -78,6 +84,7 @@ Answers x r seen reply =
 -- and it is the send of the same loan, told of the same way.
 pub record IsSameSend (r s : Dispatch) : Type 0 where
   pub loan : s.loan ≡ r.loan
+  pub copied : s.copied ≡ r.copied
   pub terms : s.terms ≡ r.terms
 
 -- ---- where it is

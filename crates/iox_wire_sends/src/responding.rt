@@ -48,6 +48,8 @@ const NO_TERMS: ResponseTerms = ResponseTerms {
 pub struct Responding {
     at: RespondAt,
     loan: Entry,
+    /// whether the same call made the loan
+    copied: bool,
     terms: ResponseTerms,
     popper: Popper,
     pusher: Pusher,
@@ -62,8 +64,14 @@ impl Model for Responding {
     ghost Value = { Dispatch };
 
     ghost view = { λ r. record {
-      local = local_of r.at (record { loan = r.loan; pushing = r.pusher; popping = r.popper });
+      local = local_of r.at (record {
+        loan = r.loan;
+        copied = r.copied;
+        pushing = r.pusher;
+        popping = r.popper;
+      });
       loan = r.loan;
+      copied = r.copied;
       terms = r.terms;
     } };
 
@@ -82,6 +90,7 @@ impl Responding {
     ghost use Rattle.iox_wire_seats.specs.Aims.{KeepsRoom};
     ghost use Rattle.iox_wire_seats.specs.Desks.{IsUsed};
     ghost use Rattle.iox_wire_sends.specs.Aims.{Answers, FindsUsed, GoesOn, IsAimed, IsSameSend};
+    ghost use Rattle.iox_wire_sends.specs.Aims.{MayCountMade};
 
     /// No send is under way.
     pub fn new() -> Responding
@@ -90,6 +99,7 @@ impl Responding {
         Responding {
             at: RespondAt::Rest,
             loan: NO_LOAN,
+            copied: false,
             terms: NO_TERMS,
             popper: Popper::new(),
             pusher: Pusher::new(),
@@ -127,6 +137,7 @@ impl Responding {
         requires accesses { seat.old.seat.accesses + 1 < 2 ^ 64 }
         requires rests { is_busy seat.old.seat.local ≡ false }
         requires used { IsUsed self.old.loan.port self.old.loan.slot seat.old.seat.desks }
+        requires counts { MayCountMade seat.old self.old }
         requires finds { FindsUsed seat.old self.old seen }
         ensures next { GoesOn seat.old self.old seen seat.new self.new }
         ensures over { Answers seat.old self.old seen result }

@@ -89,7 +89,7 @@ impl CopyLending {
 }
 
 /// Those are the words of the payload now.
-fn replace(payload: &mut Vec<u64>, words: &[u64])
+pub(super) fn replace(payload: &mut Vec<u64>, words: &[u64])
     requires { length words.now ≤ vec_capacity payload.old }
     ensures { payload.new.items ≡ words.now }
 {

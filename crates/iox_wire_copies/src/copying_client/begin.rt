@@ -2,7 +2,7 @@
 ghost use Rattle.std.specs.Prelude.{◌≡◌};
 
 use super::CopyingClient;
-use crate::at::ClientAt;
+use crate::at::CopierAt;
 use crate::payload_places::PayloadPlaces;
 use iox_wire_loans::Lender;
 use iox_wire_request_sends::{RequestTerms, Target};
@@ -84,12 +84,12 @@ impl CopyingClient {
         ensures seat_unchanged { OnErr result (seat.new ≡ seat.old) }
     {
         let Some(count) = elements else {
-            self.at = ClientAt::Refuses;
+            self.at = CopierAt::Refuses;
             return Ok(());
         };
         self.lends
             .lend_request(seat, lender, places, number, count, words, stops)?;
-        self.at = ClientAt::Lends;
+        self.at = CopierAt::Lends;
         Ok(())
     }
 }

@@ -2,7 +2,7 @@
 ghost use Rattle.std.specs.Prelude.{◌≡◌};
 
 use super::CopyingClient;
-use crate::at::{ClientAt, CopyLent, CopyReply};
+use crate::at::{CopierAt, CopyLent, CopyReply};
 use iox_wire_locals::Entry;
 use iox_wire_seats::StoredSeat;
 
@@ -16,9 +16,9 @@ impl CopyingClient {
     ghost use Rattle.iox_wire_seats.specs.Lends.{MayLend};
     ghost use Rattle.iox_wire_loans.specs.Orders.{loan_of};
     ghost use Rattle.iox_wire_request_sends.specs.Aims.{IsOneStep};
-    ghost use Rattle.iox_wire_copies.specs.CopyCalls.{Answers, FindsUsed, GoesOn, IsLending};
-    ghost use Rattle.iox_wire_copies.specs.CopyCalls.{IsSameCall, IsSending, MayEndCall};
-    ghost use Rattle.iox_wire_copies.specs.CopyCalls.{SendsItsLoan, SendsTo, StaysAimed};
+    ghost use Rattle.iox_wire_copies.specs.Copiers.{IsLending, IsSending};
+    ghost use Rattle.iox_wire_copies.specs.CopyCalls.{Answers, FindsUsed, GoesOn, IsSameCall};
+    ghost use Rattle.iox_wire_copies.specs.CopyCalls.{MayEndCall, SendsItsLoan, SendsTo, StaysAimed};
 
     /// An access of its loan. Once that is made, it is sent.
     #[inline]
@@ -39,11 +39,11 @@ impl CopyingClient {
         match self.lends.go_on(seat, seen) {
             None => None,
             Some(CopyLent::Refused(reply)) => {
-                self.at = ClientAt::Rest;
+                self.at = CopierAt::Rest;
                 Some(CopyReply::OfLoan(reply))
             }
             Some(CopyLent::Made(loan)) => {
-                self.at = ClientAt::Rest;
+                self.at = CopierAt::Rest;
                 self.send(seat, loan)
             }
         }
@@ -68,14 +68,14 @@ impl CopyingClient {
         ensures rests { is_busy seat.new.seat.local ≡ false }
     {
         self.sends.start(seat, loan, true);
-        self.at = ClientAt::Sends;
+        self.at = CopierAt::Sends;
         if !self.sends.is_ending() {
             return None;
         }
         match self.sends.tell(seat) {
             None => None,
             Some(reply) => {
-                self.at = ClientAt::Rest;
+                self.at = CopierAt::Rest;
                 Some(CopyReply::OfSend(reply))
             }
         }
@@ -100,7 +100,7 @@ impl CopyingClient {
         match self.sends.go_on(seat, seen) {
             None => None,
             Some(reply) => {
-                self.at = ClientAt::Rest;
+                self.at = CopierAt::Rest;
                 Some(CopyReply::OfSend(reply))
             }
         }

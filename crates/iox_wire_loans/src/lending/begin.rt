@@ -30,7 +30,7 @@ impl Lending {
     ghost use Rattle.iox_wire_loans.specs.Aims.{IsAimed, IsOrdered, LeavesSeat, TellsOfSlot};
     ghost use Rattle.iox_wire_loans.specs.Lenders.{AreReturning, AreSlots, IsClient, IsLender};
     ghost use Rattle.iox_wire_loans.specs.Lenders.{IsServer};
-    ghost use Rattle.iox_wire_loans.specs.Orders.{IsRequest, loan_of};
+    ghost use Rattle.iox_wire_loans.specs.Orders.{IsRequest, IsResponse, loan_of};
 
     /// Begins the loan of a request by a client, which gets back on these ways first. What was
     /// under way would be lost.
@@ -112,6 +112,9 @@ impl Lending {
             → TellsOfSlot self.new.places self.new.local
             → OnOk result (IsAimed p seat.new.seat self.new) }
         ensures ordered { OnOk result (IsOrdered self.new number lender.now.port) }
+        ensures response { OnOk result (IsResponse self.new.order request) }
+        ensures places { OnOk result (self.new.places ≡ lender.now.places) }
+        ensures busy { OnOk result (is_busy self.new.local ≡ true) }
         ensures leaves { LeavesSeat seat.old seat.new }
         ensures unchanged { OnErr result (self.new ≡ self.old) }
         ensures seat_unchanged { OnErr result (seat.new ≡ seat.old) }

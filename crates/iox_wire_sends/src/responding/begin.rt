@@ -28,11 +28,39 @@ impl Responding {
         ensures busy { is_busy self.new.local ≡ true }
         ensures first { (x : Placed) → (seen : ℕ) → FindsUsed x self.new seen }
         ensures loan { self.new.loan ≡ loan }
+        ensures own { self.new.copied ≡ false }
         ensures terms { self.new.terms ≡ terms }
     {
-        self.loan = loan;
+        self.prepare(terms);
+        self.start(seat, loan, false);
+    }
+
+    /// Is told of the way on which it sends later. No send may be under way.
+    pub fn prepare(&mut self, terms: ResponseTerms)
+        requires rests { is_busy self.old.local ≡ false }
+        requires messages { IsInMemory terms.messages }
+        requires returning { IsInMemory terms.returning }
+        ensures terms { self.new.terms ≡ terms }
+        ensures rests { is_busy self.new.local ≡ false }
+    {
         self.terms = terms;
-        if seat.has_forgotten(terms.node) {
+    }
+
+    /// Begins to send a loan on the way that it was told of. Its own call may have made it.
+    pub fn start(&mut self, seat: &StoredSeat, loan: Entry, copied: bool)
+        requires rests { is_busy self.old.local ≡ false }
+        requires kind { is_response_loan loan.kind ≡ true }
+        ensures begun { (p : Setting) → IsToldOf p loan self.old.terms
+            → placed seat.now.seat self.new.local ≡ sends p seat.now.seat loan copied }
+        ensures busy { is_busy self.new.local ≡ true }
+        ensures first { (x : Placed) → (seen : ℕ) → FindsUsed x self.new seen }
+        ensures loan { self.new.loan ≡ loan }
+        ensures copied { self.new.copied ≡ copied }
+        ensures terms { self.new.terms ≡ self.old.terms }
+    {
+        self.loan = loan;
+        self.copied = copied;
+        if seat.has_forgotten(self.terms.node) {
             self.at = RespondAt::Tells;
         } else {
             self.at = RespondAt::Asks;

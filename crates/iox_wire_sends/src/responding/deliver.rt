@@ -13,6 +13,7 @@ impl Responding {
     ghost use Rattle.iox_wire_seats.specs.Desks.{IsUsed};
     ghost use Rattle.iox_wire_sends.specs.Aims.{Answers, FindsUsed, GoesOn, IsEvicting};
     ghost use Rattle.iox_wire_sends.specs.Aims.{IsGettingBack, IsPushing, IsSameSend};
+    ghost use Rattle.iox_wire_sends.specs.Aims.{MayCountMade};
 
     /// An access of the push.
     #[inline]
@@ -21,6 +22,7 @@ impl Responding {
         requires accesses { seat.old.seat.accesses + 1 < 2 ^ 64 }
         requires rests { is_busy seat.old.seat.local ≡ false }
         requires used { IsUsed self.old.loan.port self.old.loan.slot seat.old.seat.desks }
+        requires counts { MayCountMade seat.old self.old }
         requires finds { FindsUsed seat.old self.old seen }
         ensures next { GoesOn seat.old self.old seen seat.new self.new }
         ensures over { Answers seat.old self.old seen result }
@@ -49,6 +51,7 @@ impl Responding {
         requires accesses { seat.old.seat.accesses + 1 < 2 ^ 64 }
         requires rests { is_busy seat.old.seat.local ≡ false }
         requires used { IsUsed self.old.loan.port self.old.loan.slot seat.old.seat.desks }
+        requires counts { MayCountMade seat.old self.old }
         ensures next { GoesOn seat.old self.old seen seat.new self.new }
         ensures over { Answers seat.old self.old seen result }
         ensures busy { is_busy self.new.local ≡ is_none result }
@@ -72,6 +75,7 @@ impl Responding {
         requires accesses { seat.old.seat.accesses + 1 < 2 ^ 64 }
         requires rests { is_busy seat.old.seat.local ≡ false }
         requires used { IsUsed self.old.loan.port self.old.loan.slot seat.old.seat.desks }
+        requires counts { MayCountMade seat.old self.old }
         requires finds { FindsUsed seat.old self.old seen }
         ensures next { GoesOn seat.old self.old seen seat.new self.new }
         ensures over { Answers seat.old self.old seen result }

@@ -12,6 +12,7 @@ impl Responding {
     ghost use Rattle.iox_wire_seats.specs.Aims.{KeepsRoom};
     ghost use Rattle.iox_wire_seats.specs.Desks.{IsUsed};
     ghost use Rattle.iox_wire_sends.specs.Aims.{Answers, GoesOn, IsLooking, IsSameSend};
+    ghost use Rattle.iox_wire_sends.specs.Aims.{MayCountMade};
 
     /// An access of a look at fullness.
     #[inline]
@@ -20,6 +21,7 @@ impl Responding {
         requires accesses { seat.old.seat.accesses + 1 < 2 ^ 64 }
         requires rests { is_busy seat.old.seat.local ≡ false }
         requires used { IsUsed self.old.loan.port self.old.loan.slot seat.old.seat.desks }
+        requires counts { MayCountMade seat.old self.old }
         ensures next { GoesOn seat.old self.old seen seat.new self.new }
         ensures over { Answers seat.old self.old seen result }
         ensures busy { is_busy self.new.local ≡ is_none result }

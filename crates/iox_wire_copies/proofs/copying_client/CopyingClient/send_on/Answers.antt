@@ -3,16 +3,18 @@ use Rattle.std.specs.Prelude.{Option}
 use Rattle.iox_wire_request_sends.specs.declared.at.RequestReply.{RequestReply}
 use Rattle.iox_wire_request_sends.specs.Aims as requests
 use Rattle.iox_wire_copies.specs.contracts.copying_client.CopyingClient.{the_view}
-use Rattle.iox_wire_copies.specs.declared.at.ClientAt.{ClientAt}
-use Rattle.iox_wire_copies.specs.declared.at.ClientAt.TheVariants as at
-use Rattle.iox_wire_copies.specs.CopyCalls.{Answers, CopyCall, IsSending, local_of}
-use Rattle.iox_wire_copies.proofs.SendLemmas.{Sends, client_sends, sends_on}
+use Rattle.iox_wire_copies.specs.declared.at.CopierAt.{CopierAt}
+use Rattle.iox_wire_copies.specs.declared.at.CopierAt.TheVariants as at
+use Rattle.iox_wire_copies.specs.Copiers.{IsSending, local_of}
+use Rattle.iox_wire_copies.specs.CopyCalls.{Answers, CopyCall}
+use Rattle.iox_wire_copies.proofs.CopierLemmas.{copier_sends}
+use Rattle.iox_wire_copies.proofs.SendLemmas.{Sends, sends_on}
 use Rattle.iox_wire_copies.proofs.copying_client.CopyingClient.send_on.Goals as goal
 
 pub returns-in-None-clause-over : goal.returns-in-None-clause-over
 returns-in-None-clause-over c =
-    let at' : c.self.inside.at ≡ at.Sends = client_sends c.self.inside.at (subst (λ (r : CopyCall). IsSending r.at) (sym c.self.view_is) c.requires.there) in
-    let sends_now : Sends (the_view c.self.inside) = record { at = at'; local = ap (λ (a : ClientAt). local_of a c.self.inside.lends.local c.self.inside.sends.local) at' } in
+    let at' : c.self.inside.at ≡ at.Sends = copier_sends c.self.inside.at (subst (λ (r : CopyCall). IsSending r.at) (sym c.self.view_is) c.requires.there) in
+    let sends_now : Sends (the_view c.self.inside) = record { at = at'; local = ap (λ (a : CopierAt). local_of a c.self.inside.lends.local c.self.inside.sends.local) at' } in
     subst (λ (r : CopyCall). Answers c.args.seat.now r c.args.seen None) c.self.view_is
     (sends_on c.args.seat.now (the_view c.self.inside) c.args.seen sends_now
     (subst (λ (o : Option RequestReply). requests.Answers c.args.seat.now c.self.inside.sends c.args.seen o) c.in-None.is c.go_on.ensures.over))

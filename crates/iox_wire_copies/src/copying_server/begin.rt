@@ -1,0 +1,88 @@
+//! How the copy of a response begins.
+ghost use Rattle.std.specs.Prelude.{◌≡◌};
+
+use super::CopyingServer;
+use crate::at::CopierAt;
+use crate::payload_places::PayloadPlaces;
+use iox_wire_loans::Lender;
+use iox_wire_locals::Entry;
+use iox_wire_seats::{Stop, StoredSeat};
+use iox_wire_sends::ResponseTerms;
+use std::alloc::AllocError;
+
+impl CopyingServer {
+    ghost use Rattle.std.specs.Prelude.{ℕ, ◌≡◌, ◌≤◌, OnErr, OnOk, Some, false, length, true};
+    ghost use Rattle.iox_model.specs.Loans.{response_ways};
+    ghost use Rattle.iox_steps.specs.declared.site.QueueKind.TheVariants.{Index};
+    ghost use Rattle.iox_wire_locals.specs.Begins.{is_busy};
+    ghost use Rattle.iox_wire_locals.specs.Courses.{placed};
+    ghost use Rattle.iox_wire_locals.specs.Known.{known};
+    ghost use Rattle.iox_wire_locals.specs.Lendings.{copies_response, next_handle};
+    ghost use Rattle.iox_wire_locals.specs.Tables.{Setting, state_in};
+    ghost use Rattle.iox_wire_seats.specs.Aims.{IsInMemory, QueuesInMemory};
+    ghost use Rattle.iox_wire_seats.specs.Seats.{ways_of};
+    ghost use Rattle.iox_wire_loans.specs.Aims.{IsOrdered, LeavesSeat, TellsOfSlot};
+    ghost use Rattle.iox_wire_loans.specs.Lenders.{AreReturning, IsLender, IsServer, IsWhole};
+    ghost use Rattle.iox_wire_loans.specs.Orders.{IsResponse};
+    ghost use Rattle.iox_wire_copies.specs.Copies.{ArePayloads};
+    ghost use Rattle.iox_wire_copies.specs.ResponseCopies.{IsAimed, KnowsWay};
+    ghost use Rattle.iox_wire_copies.specs.Payloads.{HasRoom};
+
+    /// Begins to copy a response of these words to a request that the server received, on a way
+    /// that is told so: it gets back on these ways first. Without a number of elements the words
+    /// are not of whole elements. No copy may be under way.
+    pub fn begin(
+        &mut self,
+        seat: &mut StoredSeat,
+        lender: &Lender,
+        places: PayloadPlaces,
+        request: Entry,
+        terms: ResponseTerms,
+        number: u64,
+        elements: Option<u64>,
+        words: &[u64],
+        stops: &[Stop],
+    ) -> Result<(), AllocError>
+        requires rests { is_busy self.old.local ≡ false }
+        requires seat { is_busy seat.old.seat.local ≡ false }
+        requires whole { IsWhole lender.now }
+        requires within { QueuesInMemory Index lender.now.room stops.now }
+        requires room { HasRoom lender.now.places places }
+        requires fits { (k : ℕ) → elements ≡ Some k → k ≤ lender.now.longest
+            → length words.now ≤ places.room }
+        requires messages { IsInMemory terms.messages }
+        requires returning { IsInMemory terms.returning }
+        ensures begun { (p : Setting) → IsLender p lender.now → IsServer p lender.now
+            → request.port ≡ lender.now.port → number ≡ next_handle p seat.old.seat
+            → ways_of stops.now
+            ≡ response_ways (known p seat.old.seat) (p.port lender.now.port).node lender.now.port
+            → OnOk result (placed seat.new.seat self.new.local
+            ≡ copies_response p seat.old.seat request elements words.now) }
+        ensures aimed { (p : Setting) → IsLender p lender.now → IsServer p lender.now
+            → request.port ≡ lender.now.port → number ≡ next_handle p seat.old.seat
+            → AreReturning p lender.now.room stops.now
+            → ArePayloads p lender.now.port lender.now.places places
+            → KnowsWay p (state_in request) terms
+            → TellsOfSlot self.new.lends.slots self.new.local
+            → OnOk result (IsAimed p seat.new.seat self.new) }
+        ensures ordered { (k : ℕ) → elements ≡ Some k
+            → OnOk result (IsOrdered self.new.lends.lending number lender.now.port) }
+        ensures response { (k : ℕ) → elements ≡ Some k
+            → OnOk result (IsResponse self.new.lends.lending.order request) }
+        ensures busy { OnOk result (is_busy self.new.local ≡ true) }
+        ensures told { (k : ℕ) → elements ≡ Some k → OnOk result (self.new.sends.terms ≡ terms) }
+        ensures leaves { LeavesSeat seat.old seat.new }
+        ensures unchanged { OnErr result (self.new ≡ self.old) }
+        ensures seat_unchanged { OnErr result (seat.new ≡ seat.old) }
+    {
+        let Some(count) = elements else {
+            self.at = CopierAt::Refuses;
+            return Ok(());
+        };
+        self.lends
+            .lend_response(seat, lender, places, request, number, count, words, stops)?;
+        self.sends.prepare(terms);
+        self.at = CopierAt::Lends;
+        Ok(())
+    }
+}

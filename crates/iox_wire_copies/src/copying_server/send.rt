@@ -1,0 +1,103 @@
+//! The copy of a response goes on from its loan to its send.
+ghost use Rattle.std.specs.Prelude.{◌≡◌};
+
+use super::CopyingServer;
+use crate::at::{CopierAt, CopyLent, ResponseCopyReply};
+use iox_wire_locals::Entry;
+use iox_wire_seats::StoredSeat;
+
+impl CopyingServer {
+    ghost use Rattle.std.specs.Prelude.{◌≡◌, ◌+◌, ◌<◌, ◌^◌, false, is_none, true};
+    ghost use Rattle.iox_model.specs.Handles.{is_response_loan};
+    ghost use Rattle.iox_wire_locals.specs.Begins.{is_busy};
+    ghost use Rattle.iox_wire_locals.specs.NewLoans.{entry_in};
+    ghost use Rattle.iox_wire_seats.specs.Aims.{KeepsRoom};
+    ghost use Rattle.iox_wire_seats.specs.Desks.{IsUsed, MayCount};
+    ghost use Rattle.iox_wire_loans.specs.Orders.{loan_of};
+    ghost use Rattle.iox_wire_request_sends.specs.Aims.{IsOneStep};
+    ghost use Rattle.iox_wire_copies.specs.Copiers.{IsLending, IsSending};
+    ghost use Rattle.iox_wire_copies.specs.ResponseCopies.{Answers, FindsUsed, GoesOn, IsSameCall};
+    ghost use Rattle.iox_wire_copies.specs.ResponseCopies.{MayEndCall, SendsItsLoan, SendsTo};
+    ghost use Rattle.iox_wire_copies.specs.ResponseCopies.{StaysAimed};
+
+    /// An access of its loan. Once that is made, it is sent.
+    #[inline]
+    pub(super) fn lend_on(&mut self, seat: &mut StoredSeat, seen: u64) -> Option<ResponseCopyReply>
+        requires there { IsLending self.old.at }
+        requires accesses { seat.old.seat.accesses + 1 < 2 ^ 64 }
+        requires rests { is_busy seat.old.seat.local ≡ false }
+        requires may { MayEndCall seat.old self.old }
+        requires finds { FindsUsed seat.old self.old seen }
+        ensures next { GoesOn seat.old self.old seen seat.new self.new }
+        ensures over { Answers seat.old self.old seen result }
+        ensures aimed { StaysAimed seat.old self.old seat.new self.new }
+        ensures busy { is_busy self.new.local ≡ is_none result }
+        ensures same { IsSameCall self.old self.new }
+        ensures loan { SendsItsLoan self.new }
+        ensures step { IsOneStep seat.old seat.new }
+    {
+        match self.lends.go_on(seat, seen) {
+            None => None,
+            Some(CopyLent::Refused(reply)) => {
+                self.at = CopierAt::Rest;
+                Some(ResponseCopyReply::OfLoan(reply))
+            }
+            Some(CopyLent::Made(loan)) => {
+                self.at = CopierAt::Rest;
+                self.send(seat, loan)
+            }
+        }
+    }
+
+    /// Begins to send the loan that it made. Without an access to make it is over.
+    fn send(&mut self, seat: &mut StoredSeat, loan: Entry) -> Option<ResponseCopyReply>
+        requires lends { is_busy self.old.lends.local ≡ false }
+        requires sends { is_busy self.old.sends.local ≡ false }
+        requires rests { is_busy seat.old.seat.local ≡ false }
+        requires kind { is_response_loan loan.kind ≡ true }
+        requires made { loan ≡ entry_in (loan_of self.old.lends.lending.order) loan.slot }
+        requires counts { MayCount loan.port seat.old.seat.desks }
+        requires used { IsUsed loan.port loan.slot seat.old.seat.desks }
+        ensures next { SendsTo seat.old.seat self.old.sends.terms loan seat.new self.new result }
+        ensures busy { is_busy self.new.local ≡ is_none result }
+        ensures same { IsSameCall self.old self.new }
+        ensures loan { SendsItsLoan self.new }
+        ensures accesses { seat.new.seat.accesses ≡ seat.old.seat.accesses }
+        ensures room { KeepsRoom seat.old seat.new }
+        ensures rests { is_busy seat.new.seat.local ≡ false }
+    {
+        self.sends.start(seat, loan, true);
+        if self.sends.is_ending() {
+            let reply = self.sends.tell(seat);
+            self.at = CopierAt::Rest;
+            return Some(ResponseCopyReply::OfSend(reply));
+        }
+        self.at = CopierAt::Sends;
+        None
+    }
+
+    /// An access of its send.
+    #[inline]
+    pub(super) fn send_on(&mut self, seat: &mut StoredSeat, seen: u64) -> Option<ResponseCopyReply>
+        requires there { IsSending self.old.at }
+        requires accesses { seat.old.seat.accesses + 1 < 2 ^ 64 }
+        requires rests { is_busy seat.old.seat.local ≡ false }
+        requires may { MayEndCall seat.old self.old }
+        requires finds { FindsUsed seat.old self.old seen }
+        ensures next { GoesOn seat.old self.old seen seat.new self.new }
+        ensures over { Answers seat.old self.old seen result }
+        ensures aimed { StaysAimed seat.old self.old seat.new self.new }
+        ensures busy { is_busy self.new.local ≡ is_none result }
+        ensures same { IsSameCall self.old self.new }
+        ensures loan { SendsItsLoan self.new }
+        ensures step { IsOneStep seat.old seat.new }
+    {
+        match self.sends.go_on(seat, seen) {
+            None => None,
+            Some(reply) => {
+                self.at = CopierAt::Rest;
+                Some(ResponseCopyReply::OfSend(reply))
+            }
+        }
+    }
+}

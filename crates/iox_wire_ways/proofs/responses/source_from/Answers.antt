@@ -1,0 +1,21 @@
+use Rattle.std.proofs.Common.{get_or, refl, ap, ap₂, ◌∙◌}
+use Rattle.iox_model.specs.declared.kind.Role.TheVariants.{Client, Server}
+use Rattle.iox_model.specs.Messages.{response_way}
+use Rattle.iox_steps.specs.declared.site.Site.{Site}
+use Rattle.iox_word_places.specs.declared.plan.WirePlan.{WirePlan}
+use Rattle.iox_word_places.proofs.PairLemmas.{client_of_lane}
+use Rattle.iox_wire_ways.specs.ResponseSources.{response_source}
+use Rattle.iox_wire_ways.proofs.HeaderLemmas.{PortFacts, index_of_port, port_facts}
+use Rattle.iox_wire_ways.proofs.PartLemmas.{source_is_told}
+use Rattle.iox_wire_ways.proofs.responses.source_from.Goals as goal
+
+pub returns : goal.returns
+returns c =
+    let server : PortFacts c.args.map.now c.args.server c.index-port.result.now =
+    port_facts c.args.map.now c.args.server c.index-port.result.now c.plan.ensures.plan (index_of_port c.args.map.now Server c.args.server c.requires.1)
+    (c.index-port.ensures ∙ ap (λ (plan : WirePlan). get_or plan.ports.items c.args.server c.index-port.result.now) c.plan.ensures.value) in
+    let client : PortFacts c.args.map.now c.args.client c.index.result.now =
+    port_facts c.args.map.now c.args.client c.index.result.now c.plan.ensures.plan (index_of_port c.args.map.now Client c.args.client (client_of_lane c.args.map.now c.args.client c.args.lane c.requires.0))
+    (c.index.ensures ∙ ap (λ (plan : WirePlan). get_or plan.ports.items c.args.client c.index.result.now) c.plan-2.ensures.value) in
+    source_is_told (response_source c.args.map.now c.args.client c.args.lane c.args.server) _ _ _ _ _ _ _
+    (ap₂ (λ n m. response_way n c.args.lane m) client.number server.number) server.node (ap (λ (s : Site). s.base) c.message_queue-messages.ensures) c.region.ensures server.pool server.words refl

@@ -1,0 +1,94 @@
+//! How a receive begins, with its ways from the map.
+ghost use Rattle.std.specs.Prelude.{ℕ, ◌≡◌, ◌*◌, OnErr, OnOk, false};
+ghost use Rattle.iox_model.specs.declared.call.Call.TheVariants.{Receive};
+ghost use Rattle.iox_model.specs.declared.kind.Role.TheVariants.{Server};
+ghost use Rattle.iox_word_places.specs.Plans.{IsLaneAt, IsPortAt, number_at};
+ghost use Rattle.iox_wire_layouts.specs.PlansOf.{IsSettingOf};
+ghost use Rattle.iox_wire_locals.specs.Begins.{begins_at_entry, begins_at_port, is_busy};
+ghost use Rattle.iox_wire_locals.specs.Courses.{placed};
+ghost use Rattle.iox_wire_locals.specs.Lendings.{next_handle};
+ghost use Rattle.iox_wire_locals.specs.Stored.{header_length};
+ghost use Rattle.iox_wire_locals.specs.Tables.{Setting};
+ghost use Rattle.iox_wire_receives.specs.Aims.{HasRoomFor, IsAimed};
+ghost use Rattle.iox_wire_ways.specs.RequestSources.{HasRequestWays};
+
+use crate::responses::list_response_sources;
+use crate::sources::list_request_sources;
+use iox_model::kind::Role;
+use iox_wire_locals::{Entry, Visit};
+use iox_wire_receives::{Receiving, Source};
+use iox_wire_seats::StoredSeat;
+use iox_word_places::WordMap;
+use std::alloc::AllocError;
+
+/// Begins the receive of the server at an index, whose handle will have that number. No receive may
+/// be under way. What it lists in `sources` is of no use later.
+pub fn begin_request_receive(
+    map: &WordMap,
+    seat: &StoredSeat,
+    receiving: &mut Receiving,
+    server: usize,
+    fire_and_forget: bool,
+    number: u64,
+    sources: &mut Vec<Source>,
+) -> Result<(), AllocError>
+    requires rests { is_busy receiving.old.local ≡ false }
+    requires server { IsPortAt map.now Server server }
+    requires known { HasRequestWays map.now }
+    ensures begun { (p : Setting) → (n : ℕ) → IsSettingOf map.now p
+        → p.limits.fire_and_forget ≡ fire_and_forget
+        → OnOk result (placed seat.now.seat receiving.new.local
+        ≡ begins_at_port p seat.now.seat (Receive n) (p.port (number_at map.now server))) }
+    ensures aimed { (p : Setting) → IsSettingOf map.now p
+        → p.limits.fire_and_forget ≡ fire_and_forget → number ≡ next_handle p seat.now.seat
+        → OnOk result (IsAimed p seat.now.seat receiving.new) }
+    ensures counts { OnOk result (HasRoomFor seat.now.seat receiving.new.local) }
+    ensures number { OnOk result (receiving.new.terms.number ≡ number) }
+    ensures unchanged { OnErr result (receiving.new ≡ receiving.old) }
+{
+    let terms = list_request_sources(map, seat, server, fire_and_forget, number, sources)?;
+    let visit = Visit {
+        port: map.plan().ports[server].number,
+        role: Role::Server,
+        lane: 0,
+        request: 0,
+    };
+    receiving.begin(seat, visit, terms, sources)
+}
+
+/// Begins the receive of a pending response of the client at an index, whose handle will have that
+/// number. No receive may be under way. What it lists in `sources` is of no use later.
+pub fn begin_response_receive(
+    map: &WordMap,
+    seat: &StoredSeat,
+    receiving: &mut Receiving,
+    pending: Entry,
+    client: usize,
+    fire_and_forget: bool,
+    number: u64,
+    sources: &mut Vec<Source>,
+) -> Result<(), AllocError>
+    requires rests { is_busy receiving.old.local ≡ false }
+    requires client { number_at map.now client ≡ pending.port }
+    requires lane { IsLaneAt map.now client pending.lane }
+    requires header { map.now.response.header.size ≡ 8 * header_length Server }
+    ensures begun { (p : Setting) → (n : ℕ) → IsSettingOf map.now p
+        → OnOk result (placed seat.now.seat receiving.new.local
+        ≡ begins_at_entry p seat.now.seat (Receive n) pending) }
+    ensures aimed { (p : Setting) → IsSettingOf map.now p
+        → p.limits.fire_and_forget ≡ fire_and_forget → number ≡ next_handle p seat.now.seat
+        → OnOk result (IsAimed p seat.now.seat receiving.new) }
+    ensures counts { OnOk result (HasRoomFor seat.now.seat receiving.new.local) }
+    ensures number { OnOk result (receiving.new.terms.number ≡ number) }
+    ensures unchanged { OnErr result (receiving.new ≡ receiving.old) }
+{
+    let lane = pending.lane;
+    let terms = list_response_sources(map, client, lane, fire_and_forget, number, sources)?;
+    let visit = Visit {
+        port: pending.port,
+        role: Role::Client,
+        lane,
+        request: pending.request,
+    };
+    receiving.begin(seat, visit, terms, sources)
+}

@@ -1,0 +1,54 @@
+//! The way of a response.
+ghost use Rattle.std.specs.Prelude.{◌≡◌};
+ghost use Rattle.iox_model.specs.Requests.{fails_at};
+ghost use Rattle.iox_word_places.specs.declared.way_index.WayIndex.TheVariants.{Responses};
+ghost use Rattle.iox_word_places.specs.Plans.{IsWayAt, way_at};
+ghost use Rattle.iox_wire_layouts.specs.PlansOf.{IsSettingOf};
+ghost use Rattle.iox_wire_locals.specs.declared.seat.Seat.{Seat};
+ghost use Rattle.iox_wire_locals.specs.declared.table.Entry.{Entry};
+ghost use Rattle.iox_wire_locals.specs.Known.{known};
+ghost use Rattle.iox_wire_locals.specs.Tables.{Setting, state_in};
+ghost use Rattle.iox_wire_seats.specs.Aims.{IsInMemory};
+ghost use Rattle.iox_wire_sends.specs.Aims.{IsToldOf};
+
+use iox_wire_sends::ResponseTerms;
+use iox_word_places::{WayIndex, WordMap};
+
+/// What the send of a response is told of its way, from the server at an index to a lane of the
+/// client at another. Whether it fails at a full client is told elsewhere.
+pub fn terms_of_response(
+    map: &WordMap,
+    client: usize,
+    server: usize,
+    lane: u64,
+    fails: bool,
+) -> ResponseTerms
+    requires { IsWayAt map.now (Responses client server lane) }
+    ensures told { (p : Setting) → (loan : Entry) → IsSettingOf map.now p
+        → state_in loan ≡ way_at map.now (Responses client server lane)
+        → ((x : Seat)
+        → fails_at (known p x) (way_at map.now (Responses client server lane)) ≡ fails)
+        → IsToldOf p loan result }
+    ensures messages { IsInMemory result.messages }
+    ensures returning { IsInMemory result.returning }
+{
+    // only what this promises is wanted
+    let _total = map.total();
+    let plan = map.plan();
+    let way = WayIndex::Responses {
+        client,
+        server,
+        lane: lane as usize,
+    };
+    let messages = map.message_queue(way);
+    let returning = map.returning_queue(way);
+    let state = map.state(client, server, lane as usize);
+    ResponseTerms {
+        messages,
+        returning,
+        state,
+        overflow: plan.limits.response_overflow,
+        fails,
+        node: plan.ports[client].node,
+    }
+}

@@ -1,0 +1,107 @@
+//! The servers to which a request goes.
+ghost use Rattle.std.specs.Prelude.{◌≡◌, ◌<◌, IfOk, IfSome, OnOk, length};
+ghost use Rattle.iox_model.specs.declared.kind.Role.TheVariants.{Client, Server};
+ghost use Rattle.iox_model.specs.Peers.{others};
+ghost use Rattle.iox_word_places.specs.declared.way_index.WayIndex.TheVariants.{Requests, Responses};
+ghost use Rattle.iox_word_places.specs.Plans.{IsLaneAt, IsPortAt, IsWayAt, number_at};
+ghost use Rattle.iox_wire_layouts.specs.PlansOf.{IsSettingOf};
+ghost use Rattle.iox_wire_locals.specs.declared.table.Entry.{Entry};
+ghost use Rattle.iox_wire_locals.specs.Known.{known};
+ghost use Rattle.iox_wire_locals.specs.Tables.{Setting};
+ghost use Rattle.iox_wire_request_sends.specs.declared.target.Target.{Target};
+ghost use Rattle.iox_wire_request_sends.specs.Targets.{AreTargets, AreWithin, servers_of};
+ghost use Rattle.iox_wire_ways.specs.RequestTargets.{KeepsTerms, target_of, target_terms};
+ghost use Rattle.iox_wire_ways.specs.Visits.{is_other, made_at};
+
+use crate::returns::is_server_left;
+use iox_wire_request_sends::{RequestTerms, Target};
+use iox_wire_seats::StoredSeat;
+use iox_word_places::{WayIndex, WordMap};
+use std::alloc::AllocError;
+
+/// A server, for a client.
+fn target_from(map: &WordMap, client: usize, server: usize) -> Target
+    requires { IsWayAt map.now (Requests client server) }
+    ensures { result ≡ target_of map.now client server }
+{
+    let messages = map.message_queue(WayIndex::Requests { client, server });
+    Target {
+        server: map.plan().ports[server].number,
+        place: messages.base,
+    }
+}
+
+/// What is the same of all servers for a loan on that lane, as the ways of one of them tell it.
+fn terms_with(
+    map: &WordMap,
+    client: usize,
+    server: usize,
+    lane: u64,
+    terms: RequestTerms,
+) -> RequestTerms
+    requires { IsWayAt map.now (Responses client server lane) }
+    ensures { result ≡ target_terms map.now lane terms }
+{
+    // only what this promises is wanted
+    let _plan = map.plan();
+    let way = WayIndex::Requests { client, server };
+    let messages = map.message_queue(way);
+    let returning = map.returning_queue(way);
+    let state = map.state(client, server, lane as usize);
+    RequestTerms {
+        kind: messages.kind,
+        capacity: messages.capacity,
+        back: returning.base - messages.base,
+        room: returning.capacity,
+        state: state - messages.base,
+        ..terms
+    }
+}
+
+/// The server at an index, if the node did not forget it.
+fn target_at(map: &WordMap, seat: &StoredSeat, client: usize, index: usize) -> Option<Target>
+    requires client { IsPortAt map.now Client client }
+    requires within { index < length map.now.ports.items }
+    ensures target { result ≡ made_at Target map.now
+        (is_other Server seat.now.seat.forgot) (target_of map.now client) index }
+    ensures server { IfSome result (λ target. IsPortAt map.now Server index) }
+{
+    if is_server_left(seat, map.plan().ports[index]) {
+        return Some(target_from(map, client, index));
+    }
+    None
+}
+
+/// Lists the servers to which a request of the client at an index goes that was lent on a lane,
+/// those that the node did not forget, and tells where the words stand of each. What was listed
+/// before is lost.
+pub fn list_targets(
+    map: &WordMap,
+    seat: &StoredSeat,
+    client: usize,
+    lane: u64,
+    terms: RequestTerms,
+    targets: &mut Vec<Target>,
+) -> Result<RequestTerms, AllocError>
+    requires { IsLaneAt map.now client lane }
+    ensures servers { (p : Setting) → IsSettingOf map.now p
+        → OnOk result (servers_of targets.new.items
+        ≡ others (known p seat.now.seat) seat.now.seat.node Server) }
+    ensures targets { (p : Setting) → (loan : Entry) → IsSettingOf map.now p
+        → loan.port ≡ number_at map.now client → loan.lane ≡ lane
+        → IfOk result (λ told. AreTargets p told loan targets.new.items) }
+    ensures within { IfOk result (λ told. AreWithin told targets.new.items) }
+    ensures rest { IfOk result (λ told. KeepsTerms terms told) }
+{
+    // only what this promises is wanted
+    let _total = map.total();
+    let mut told = terms;
+    targets.clear();
+    for index in 0..map.plan().ports.len() {
+        if let Some(target) = target_at(map, seat, client, index) {
+            told = terms_with(map, client, index, lane, terms);
+            targets.push(target)?;
+        }
+    }
+    Ok(told)
+}
