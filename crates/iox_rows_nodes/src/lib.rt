@@ -1,5 +1,7 @@
-//! Tests of services over a hub, by what their crate makes public.
+//! Tests of services over a hub, by what their crate makes public. And a law that ties their first
+//! limits together.
 #![tactic(auto)]
 
+pub mod first_limits;
 #[cfg(test)]
 mod nodes;

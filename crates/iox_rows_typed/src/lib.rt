@@ -15,3 +15,5 @@ mod long_requests;
 mod refusals;
 #[cfg(test)]
 mod rounds;
+#[cfg(test)]
+mod uses_own_type;
