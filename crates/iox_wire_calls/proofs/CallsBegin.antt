@@ -1,21 +1,29 @@
--- What the begin of a call needs follows from what stands, but for lengths of messages and what the
--- call owns at its first place.
-use Rattle.std.specs.Prelude.{◌<◌, ◌^◌, ◌⊎◌, find}
+-- What the begin of a call needs follows from what stands, but for lengths of messages, and what a
+-- call that moves words owns at its first place.
+use Rattle.std.specs.Prelude.{◌<◌, ◌^◌, ◌⊎◌, ◌||◌, filter, find}
 use Rattle.std.specs.Option.{option_map_or}
 use Rattle.std.proofs.Common.{◌≡◌, ℕ, Bool, true, false, ◌==◌, ◌&&◌, if◌then◌else◌, List, Option, Some, None, refl, ap, sym, subst, ◌∙◌, inl, inr, true≢false, eqb-true}
 use Rattle.iox_model.specs.declared.kind.Kind.{Kind}
 use Rattle.iox_model.specs.declared.kind.Kind.TheVariants as kinds
-use Rattle.iox_model.specs.Commands.{Refusal, WireCall}
-use Rattle.iox_model.specs.Handles.{is_received}
+use Rattle.iox_model.specs.declared.kind.Kind.TheVariants.{ActiveRequest, PendingResponse}
+use Rattle.iox_model.specs.declared.kind.Role.{Role}
+use Rattle.iox_model.specs.declared.kind.Role.TheVariants.{Client, Server}
+use Rattle.iox_model.specs.declared.call.Call.TheVariants.{HasHint, HasRequests, HasResponse, IsConnected, Receive, Release}
+use Rattle.iox_model.specs.declared.call.WireCall.TheVariants as wire_calls
+use Rattle.iox_model.specs.Commands.{Call, Refusal, WireCall}
+use Rattle.iox_model.specs.Handles.{ThePort, is_received, kind_of, same_kind}
 use Rattle.iox_model.specs.Joins.{not_living}
 use Rattle.iox_model.specs.Maps.{has_number, refused_if}
-use Rattle.iox_model.specs.Peers.{port_at}
-use Rattle.iox_model.specs.States.{Port, State}
+use Rattle.iox_model.specs.Names.{suits}
+use Rattle.iox_model.specs.Peers.{lanes_of, port_at, ports_of_role}
+use Rattle.iox_model.specs.Receives.{server_ways}
+use Rattle.iox_model.specs.Settings.{is_client, same_role}
+use Rattle.iox_model.specs.States.{Fixed, Port, State}
 use Rattle.iox_model.specs.Weaves.{begin_refusal}
 use Rattle.iox_model.specs.declared.reply.Refusal.TheVariants.{Busy}
 use Rattle.iox_laws.proofs.WeaveLaws.MapLemmas.{eqb-refl}
 use Rattle.iox_laws.proofs.WeaveLaws.WholeLemmas.{or_else-none}
-use Rattle.iox_laws.proofs.WeaveLedger.Lists.{find-among}
+use Rattle.iox_laws.proofs.WeaveLedger.Lists.{IsAmong, among-filter, among-map, among-number, find-among}
 use Rattle.iox_laws.proofs.WeaveLedger.Truths.{passed}
 use Rattle.iox_wire_moments.specs.MomentsOf.{Pools}
 use Rattle.iox_wire_locals.specs.declared.local.Ending.{Ending}
@@ -26,14 +34,23 @@ use Rattle.iox_wire_locals.specs.declared.seat.Seat.{Seat}
 use Rattle.iox_wire_locals.specs.declared.table.Entry.{Entry}
 use Rattle.iox_wire_locals.specs.declared.table.Desk.{Desk}
 use Rattle.iox_wire_locals.specs.BeginLaws.{IsOwnEntry, IsOwnPort}
-use Rattle.iox_wire_locals.specs.Begins.{begin, is_busy, misnamed_call}
+use Rattle.iox_wire_locals.specs.Begins.{begin, begins_at_entry, begins_at_port, is_busy, misnamed_call, pending_visit, server_visit, ways_for}
 use Rattle.iox_wire_locals.specs.Desks.{picks}
+use Rattle.iox_wire_locals.specs.declared.local.Visit.{Visit}
 use Rattle.iox_wire_locals.specs.Known.{known, loans_at}
+use Rattle.iox_wire_locals.specs.Knowing.{Knows}
+use Rattle.iox_wire_locals.specs.ReceiveCourses.{checking, seeking, states_for, visiting}
 use Rattle.iox_wire_locals.specs.NewLoans.{message_in}
 use Rattle.iox_wire_locals.specs.Tables.{Setting, entry_at}
+use Rattle.iox_wire_laws.specs.WireRegions.OwnedBegins.{IsPortOf}
+use Rattle.iox_wire_laws.specs.WireRegions.OwnedWords.{Owns}
+use Rattle.iox_wire_laws.proofs.WireOwners.Borrowed.{counts_tell_limits}
+use Rattle.iox_wire_laws.proofs.WireOwners.Releases.{releases_begin_as_owners}
+use Rattle.iox_wire_laws.proofs.WireRegions.QuestionBegins.{questions_begin_as_owners}
+use Rattle.iox_wire_laws.proofs.WireRegions.ReceiveBegins.{receives_begin_as_owners}
 use Rattle.iox_wire_laws.specs.WireHolding.Aside.{shown_at}
 use Rattle.iox_wire_laws.specs.WireHolding.Holding.{held_at}
-use Rattle.iox_wire_laws.specs.WireHolding.SlotsKnown.{IsPortOfSeat}
+use Rattle.iox_wire_laws.specs.WireHolding.SlotsKnown.{HasEntry, IsPortOfSeat}
 use Rattle.iox_wire_laws.specs.WireKeeping.UsedSlots.{CallHolds, slots_in_call}
 use Rattle.iox_wire_laws.proofs.WireKeeping.BeginBeats.{refusals_are_the_machines}
 use Rattle.iox_wire_laws.proofs.WireKeeping.CountsKept.{begins_keep_own}
@@ -46,12 +63,13 @@ use Rattle.iox_wire_stands.specs.Stands.{Player, Stands, seats_of, word_of}
 use Rattle.iox_wire_stands.proofs.Readiness.{own_port}
 use Rattle.iox_wire_stands.proofs.Starts.{Starting, Starts, Takes, starts}
 use Rattle.iox_wire_stands.proofs.StepsKept.{shown_same}
-use Rattle.iox_wire_calls.specs.CallsStand.{BeginIsTold, CallStands, CallsMayBegin, CallsStand}
-use Rattle.iox_wire_calls.specs.Places.{IsLoan, IsNext, OwnersAreSet, PlaceFits}
+use Rattle.iox_wire_calls.specs.CallsStand.{BeginIsTold, CallStands, CallsMayBegin, CallsStand, moves_words}
+use Rattle.iox_wire_calls.specs.Places.{IsLoan, IsNext, OwnersAreSet, PlaceFits, SuitsPort}
 use Rattle.iox_wire_calls.proofs.EndsKnown.{lanes_fit_at_rest}
 use Rattle.iox_wire_calls.proofs.LanesTell.{port_there}
 use Rattle.iox_wire_calls.proofs.LoanSlots.{none_here}
-use Rattle.iox_wire_calls.proofs.PlaceBegins.{begins_fit}
+use Rattle.iox_wire_calls.proofs.HandleKinds.{asks_by, receives_is}
+use Rattle.iox_wire_calls.proofs.PlaceBegins.{begins_fit, by_call}
 use Rattle.iox_wire_calls.proofs.PlaceCourses.{desks_stay, loans_told}
 
 -- a loan was not received
@@ -66,6 +84,11 @@ loan_sent kind loan = absurd (true≢false (sym loan))
 at_rest : (local : Local) → is_busy local ≡ false → local ≡ Idle
 at_rest Idle rests = refl
 at_rest local rests = absurd (true≢false rests)
+
+-- a port that looks for requests is a server
+looks_is : (role : Role) → suits true (HasRequests 0) (if is_client role then kinds.Client else kinds.Server) ≡ true → role ≡ Server
+looks_is Client suited = absurd (true≢false (sym suited))
+looks_is Server suited = refl
 
 still_busy : (p : Setting) (x : Seat) (local : Local) → x.local ≡ local → is_busy local ≡ true → is_busy (shown_at p x local).local ≡ true
 still_busy p x (ReleaseLooks e) is busy = refl
@@ -135,6 +158,82 @@ module _ (p : Setting) (words : List ℕ) (players : ℕ → Player) (r : Run) (
   pub owners_are_set : OwnersAreSet p
   owners_are_set port has = stands.owners port ∙ ap (λ (q : Option Port). option_map_or (λ (r : Port). r.node) q 0) (port_is port has)
 
+  -- ---- calls that move no words own their first place
+
+  abbrev z : Seat
+  z = seats_of p players n
+
+  abbrev f : Fixed
+  f = r.last.state.fixed
+
+  abbrev FirstOwned : Seat → Type 0
+  FirstOwned k = Owns p z.node f r.last.state.request_state k.local
+
+  stood : NodeStands p stands.held r.last.state z
+  stood = stands.nodes n alive
+
+  knows : Knows p z f stands.held
+  knows = (stands.shows.counts n alive).knows
+
+  server_is : (q : Port) → IsPortOfSeat p z q.number → p.port q.number ≡ q → q.role ≡ Server → IsPortOf f n Server q.number
+  server_is q home set role =
+      let at = find-among (λ (k : Port). k.number == q.number) (p.port q.number) f.ports (port_is q.number home.0) in (
+        among-number q.number (ports_of_role f Server)
+            (subst (λ i. IsAmong i (ports_of_role f Server)) (ap (λ (k : Port). k.number) set)
+            (among-map (λ (k : Port). k.number) (p.port q.number) (filter (λ k. same_role k.role Server) f.ports)
+            (among-filter (λ (k : Port). same_role k.role Server) (p.port q.number) f.ports at.0
+            (ap (λ i. same_role i Server) (ap (λ (k : Port). k.role) set ∙ role))))),
+        sym (stands.owners q.number) ∙ home.1 ∙ stands.shows.node n,
+      )
+
+  receives : (v : Visit)
+      → ((q : Port) → IsPortOf f n Server q.number → FirstOwned (visiting p z v (server_ways (known p z) q) false) × FirstOwned (seeking z (server_ways (known p z) q)))
+      × ((e : Entry) → IsPortOf f n Client e.port → e.lane < lanes_of f e.port
+      → FirstOwned (visiting p z v (ways_for p z e) false) × FirstOwned (seeking z (ways_for p z e)))
+  receives v =
+      receives_begin_as_owners p stands.held (word_of words) stands.contents (seats_of p players) r.last n v false stands.shows alive stands.layout
+      (counts_tell_limits p z f stands.held knows stood.borrowed)
+
+  pending : (e : Entry) → HasEntry z e → same_kind e.kind PendingResponse ≡ true → IsPortOf f n Client e.port × (e.lane < lanes_of f e.port)
+  pending e has is = let at = (stood.released e has).pending is in ((at.0.0, at.0.1 ∙ stands.shows.node n), at.1)
+
+  checks : (e : Entry) (hinted : Bool) → HasEntry z e → (same_kind e.kind PendingResponse ≡ false → same_kind e.kind ActiveRequest ≡ true)
+      → FirstOwned (checking z e hinted (states_for p z e))
+  checks e hinted has active =
+      (questions_begin_as_owners p z f stands.held r.last.state.request_state e hinted stands.layout knows (record {
+        pending = (stood.released e has).pending;
+        active = λ isnt. let at = (stood.released e has).request (active isnt) in (at.0, at.1);
+      })).0
+
+  owned_port : (c : Call) → moves_words (wire_calls.Port c) ≡ false → (q : Port) → IsPortOfSeat p z q.number → p.port q.number ≡ q
+      → suits true c (kind_of (ThePort q)) ≡ true → FirstOwned (begins_at_port p z c q)
+  owned_port (Receive k) still q home set suited = ((receives (server_visit q)).0 q (server_is q home set (receives_is k q.role suited))).0
+  owned_port (HasRequests k) still q home set suited = ((receives (server_visit q)).0 q (server_is q home set (looks_is q.role suited))).1
+  owned_port (HasResponse k) still q home set suited = tt
+  owned_port (IsConnected k) still q home set suited = tt
+  owned_port (HasHint k) still q home set suited = tt
+  owned_port (Release k) still q home set suited = tt
+  owned_port c still q home set suited = absurd (true≢false still)
+
+  owned_entry : (c : Call) → moves_words (wire_calls.Port c) ≡ false → (e : Entry) → HasEntry z e → SuitsPort p z e.port e.kind → suits true c e.kind ≡ true
+      → FirstOwned (begins_at_entry p z c e)
+  owned_entry (Receive k) still e has its suited =
+      let at = pending e has (asks_by k (p.port e.port).role e.kind its.1 suited) in ((receives (pending_visit e)).1 e at.0 at.1).0
+  owned_entry (HasResponse k) still e has its suited = let at = pending e has suited in ((receives (pending_visit e)).1 e at.0 at.1).1
+  owned_entry (IsConnected k) still e has its suited =
+      checks e false has (λ isnt. subst (λ b. (b || same_kind e.kind ActiveRequest) ≡ true) isnt suited)
+  owned_entry (HasHint k) still e has its suited = checks e true has (λ isnt. suited)
+  owned_entry (Release k) still e has its suited =
+      (releases_begin_as_owners p stands.held r.last z e stands.shows.reachable (subst (λ i. not_living r.last.state i ≡ None) (sym (stands.shows.node n)) alive) stands.layout knows
+      (stood.released e has) (stood.states e has)).owns
+  owned_entry (HasRequests k) still e has its suited = tt
+  owned_entry c still e has its suited = absurd (true≢false still)
+
+  owned_first : (c : WireCall) → moves_words c ≡ false → misnamed_call p z c ≡ None → FirstOwned (begin p z c)
+  owned_first (wire_calls.Port c) still names =
+      by_call p z stands.numbers owners_are_set c (calls n alive).fits FirstOwned tt (owned_port c still) (owned_entry c still) names
+  owned_first (wire_calls.Forget dead) still names = tt
+
   -- ---- what it may begin
 
   abbrev x : Seat
@@ -200,6 +299,10 @@ module _ (p : Setting) (words : List ℕ) (players : ℕ → Player) (r : Run) (
           },
         )
 
+    owns_first : (b : Bool) → moves_words call ≡ b → Owns p x.node f r.last.state.request_state y.local
+    owns_first true is = told.owns is
+    owns_first false is = subst (λ k. Owns p k.node f r.last.state.request_state (begin p k call).local) rested (owned_first call is unrefused.1)
+
     pub may_begin : MayBegin p stands.held r.last.state (players n).seat call
     may_begin =
         let start = by_start (starts p r.last.state.request_state x call) in
@@ -207,7 +310,7 @@ module _ (p : Setting) (words : List ℕ) (players : ℕ → Player) (r : Run) (
           rests = rests;
           entries = own_entry;
           lanes = λ m q at mine client. lanes_fit_at_rest p x m q stands.numbers has.lanes rests at (owner_of m q at mine) client;
-          owns = told.owns;
+          owns = owns_first (moves_words call) refl;
           home = start.0;
           next = start.1;
         }

@@ -90,6 +90,15 @@ asks_is n Server kinds.ResponseMut is suited = never suited
 asks_is n Server kinds.ActiveRequest is suited = never suited
 asks_is n Server kind is suited = never is
 
+pub asks_by : (n : ℕ) (role : Role) (kind : Kind) → is_kind_of role kind ≡ true → suits true (Receive n) kind ≡ true → same_kind kind kinds.PendingResponse ≡ true
+asks_by n Client kinds.RequestMut is suited = never suited
+asks_by n Client kinds.PendingResponse is suited = refl
+asks_by n Client kinds.Response is suited = never suited
+asks_by n Client kind is suited = never is
+asks_by n Server kinds.ResponseMut is suited = never suited
+asks_by n Server kinds.ActiveRequest is suited = never suited
+asks_by n Server kind is suited = never is
+
 -- a port that receives is a server
 pub receives_is : (n : ℕ) (role : Role) → suits true (Receive n) (if is_client role then kinds.Client else kinds.Server) ≡ true → role ≡ Server
 receives_is n Client suited = never suited

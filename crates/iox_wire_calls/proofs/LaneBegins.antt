@@ -145,7 +145,7 @@ module _ (p : Setting) (x : Seat) where
 
   begin_picks : (call : WireCall) → AreNumbered p → OwnersAreSet p → CallFits p x → misnamed_call p x call ≡ None → K (begins.begin p x call)
   begin_picks (wire_calls.Port call) numbered owners fits named =
-      by_call p x numbered owners call fits K tt (λ q home set suited. at_port call q set) (λ e suits suited. at_entry call e suits suited) named
+      by_call p x numbered owners call fits K tt (λ q home set suited. at_port call q set) (λ e there suits suited. at_entry call e suits suited) named
   begin_picks (wire_calls.Forget dead) numbered owners fits named = tt
 
 -- ---- the begin

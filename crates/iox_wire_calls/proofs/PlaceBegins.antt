@@ -28,7 +28,7 @@ use Rattle.iox_wire_locals.specs.Known.{known, told_handle}
 use Rattle.iox_wire_locals.specs.ReceiveCourses.{states_for}
 use Rattle.iox_wire_locals.specs.Tables.{Setting, entry_at}
 use Rattle.iox_wire_laws.specs.WireShows.OwnedCalls.{Each}
-use Rattle.iox_wire_laws.specs.WireHolding.SlotsKnown.{IsPortOfSeat}
+use Rattle.iox_wire_laws.specs.WireHolding.SlotsKnown.{HasEntry, IsPortOfSeat}
 use Rattle.iox_wire_laws.proofs.WireKeeping.CountsKept.{begins_keep_own}
 use Rattle.iox_wire_laws.proofs.WireKeeping.Lookups.{find_map}
 use Rattle.iox_wire_laws.proofs.WireRegions.OwnPorts.{both, each_map}
@@ -138,7 +138,7 @@ module _ (p : Setting) (x : Seat) (numbered : AreNumbered p) (owners : OwnersAre
   -- a call begins as that of a port or of a handle that it suits, or names nothing
   module _ (call : Call) (fits : CallFits p x) (K : Seat → Type 0) (unknown : K (ended x (endings.Refuses UnknownNumber)))
       (ports : (q : Port) → IsPortOfSeat p x q.number → p.port q.number ≡ q → suits true call (kind_of (ThePort q)) ≡ true → K (begins_at_port p x call q))
-      (entries : (e : Entry) → SuitsPort p x e.port e.kind → suits true call e.kind ≡ true → K (begins_at_entry p x call e)) where
+      (entries : (e : Entry) → HasEntry x e → SuitsPort p x e.port e.kind → suits true call e.kind ≡ true → K (begins_at_entry p x call e)) where
     abbrev named : Option Port → Option Entry → Option Subject
     named q e = port_or_handle q (option_map (told_handle p x.node) e)
 
@@ -154,15 +154,15 @@ module _ (p : Setting) (x : Seat) (numbered : AreNumbered p) (owners : OwnersAre
     there : (q : Port) → port_at (known p x) (number_of call) ≡ Some q → IsAmong q (map p.port p.layout.sizes.ports)
     there q is = (find-among (λ (r : Port). r.number == number_of call) q (map p.port p.layout.sizes.ports) is).0
 
-    has : (e : Entry) → entry_at (number_of call) x.table ≡ Some e → SuitsPort p x e.port e.kind
+    has : (e : Entry) → entry_at (number_of call) x.table ≡ Some e → HasEntry x e
     has e is =
         let at : e.number ≡ number_of call = eqb-true e.number (number_of call) (find-among (λ (k : Entry). k.number == number_of call) e x.table is).1 in
-        fits.handles e (subst (λ i. entry_at i x.table ≡ Some e) (sym at) is)
+        subst (λ i. entry_at i x.table ≡ Some e) (sym at) is
 
     by_name : (q : Option Port) (e : Option Entry) → port_at (known p x) (number_of call) ≡ q → entry_at (number_of call) x.table ≡ e
         → misnamed_by (known p x) x.node call (named q e) ≡ None → K (begins_at p x call q e)
     by_name (Some q) e port entry is = by_value q q.held (there q port) is
-    by_name None (Some e) port entry is = entries e (has e entry) (fits_name (TheHandle (told_handle p x.node e)) is).1
+    by_name None (Some e) port entry is = entries e (has e entry) (fits.handles e (has e entry)) (fits_name (TheHandle (told_handle p x.node e)) is).1
     by_name None None port entry is = unknown
 
     pub by_call : misnamed (known p x) x.node call ≡ None → K (begins_at p x call (port_at (known p x) (number_of call)) (entry_at (number_of call) x.table))
@@ -172,7 +172,7 @@ module _ (p : Setting) (x : Seat) (numbered : AreNumbered p) (owners : OwnersAre
         (find_map (told_handle p x.node) (λ k. refl) (number_of call) x.table) is)
 
   begun : (call : WireCall) → CallFits p x → misnamed_call p x call ≡ None → Fits p (begin p x call)
-  begun (wire_calls.Port call) fits named = by_call call fits (Fits p) tt (at_port call) (at_entry call) named
+  begun (wire_calls.Port call) fits named = by_call call fits (Fits p) tt (at_port call) (λ e there. at_entry call e) named
   begun (wire_calls.Forget dead) fits named = tt
 
 pub begins_fit : BeginsFit

@@ -1,5 +1,7 @@
 -- What is so of the calls of all living nodes of a wire, beside what stands, and that it stays so.
-use Rattle.std.specs.Prelude.{◌^◌, ◌≤◌, ◌<◌, ◌≡◌, ◌==◌, ℕ, true, List, ◌∷◌, ◌++◌, [], length, Some, None}
+use Rattle.std.specs.Prelude.{◌^◌, ◌≤◌, ◌<◌, ◌≡◌, ◌==◌, ℕ, Bool, true, false, List, ◌∷◌, ◌++◌, [], length, Some, None}
+use Rattle.iox_model.specs.declared.call.Call.TheVariants.{HasHint, HasRequests, HasResponse, IsConnected, Receive, Release}
+use Rattle.iox_model.specs.declared.call.WireCall.TheVariants as wire_calls
 use Rattle.iox_model.specs.Commands.{WireCall}
 use Rattle.iox_model.specs.Joins.{not_living}
 use Rattle.iox_model.specs.Maps.{put_at}
@@ -49,15 +51,28 @@ CallsStandAtFirst =
     (p : Setting) (held : Pools) (n : ℕ) → ((port slot : ℕ) → 2 ^ 64 ≤ (held port slot).serial)
     → CallStands p held (opened_seat p n)
 
+-- whether the call lends, writes, sends, reads or hints: it is not one that only receives, looks,
+-- checks or releases
+abbrev pub moves_words : WireCall → Bool
+moves_words (wire_calls.Port (Receive n)) = false
+moves_words (wire_calls.Port (HasRequests n)) = false
+moves_words (wire_calls.Port (HasResponse n)) = false
+moves_words (wire_calls.Port (IsConnected n)) = false
+moves_words (wire_calls.Port (HasHint n)) = false
+moves_words (wire_calls.Port (Release n)) = false
+moves_words (wire_calls.Port call) = true
+moves_words (wire_calls.Forget dead) = false
+
 -- What the begin of a call is still to be told: how long the messages of the node's entries are,
--- and that the first place of the call owns what it accesses.
+-- and that the first place of a call that moves words owns what it accesses.
 pub record BeginIsTold (p : Setting) (held : Pools) (s : State) (x : Seat) (call : WireCall)
     : Type 0 where
   pub elements : (n : ℕ) (e : Entry) → entry_at n x.table ≡ Some e
       → (held e.sender e.slot).elements ≡ e.elements
   pub words : (n : ℕ) (e : Entry) → entry_at n x.table ≡ Some e → (words_to_read p e == 0) ≡ true
       → (held e.sender e.slot).user ++ (held e.sender e.slot).payload ≡ []
-  pub owns : Owns p x.node s.fixed s.request_state (begin p x call).local
+  pub owns : moves_words call ≡ true
+      → Owns p x.node s.fixed s.request_state (begin p x call).local
 
 -- A node that is told this may begin a call that is not refused, where fewer than 2^64 loans of each
 -- of its ports succeeded.

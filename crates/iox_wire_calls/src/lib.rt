@@ -56,7 +56,8 @@ pub fn calls_stand()
     ensures dead { DeathsLeaveCalls }
 {}
 
-/// What the begin of a call needs follows, but for lengths of messages and what its place owns.
+/// What the begin of a call needs follows, but for lengths of messages, and what the first place of
+/// a call that moves words owns.
 pub fn calls_may_begin()
     ensures { CallsMayBegin }
 {}
