@@ -3,12 +3,12 @@ ghost use Rattle.std.specs.Prelude.{◌≡◌, ◌∷◌, ◌+◌, ◌<◌, ◌^
 ghost use Rattle.iox_wire_receives.specs.Aims.{HasRoomFor, MayReceive};
 
 use crate::word_places::{CLIENT, SERVER, all_ones};
-use iox_model::kind::{Kind, Role};
-use iox_model::way::Way;
-use iox_steps::{Access, QueueKind};
-use iox_wire_locals::{Entry, Visit};
-use iox_wire_receives::{ReceiveReply, ReceiveTerms, Receiving, Source};
+use iox_model::kind::Kind;
+use iox_steps::Access;
+use iox_wire_locals::Entry;
+use iox_wire_receives::{ReceiveReply, Receiving};
 use iox_wire_seats::{Counts, Desks, SeatReply, StoredSeat};
+use iox_wire_ways::begin_request_receive;
 use iox_word_places::WordMap;
 use std::alloc::Global;
 use std::test::Fail;
@@ -24,12 +24,6 @@ const REQUESTS: usize = 121;
 const RETURNED: usize = 124;
 
 const STATE: usize = 137;
-
-const WAY: Way = Way {
-    sender: 0,
-    receiver: 1,
-    lane: 0,
-};
 
 /// What one access finds. It changes the words.
 fn found(words: &mut [u64], access: Access) -> u64 {
@@ -88,41 +82,29 @@ fn node(alloc: Global) -> Result<StoredSeat, Fail>
     Ok(StoredSeat::new(alloc, 1, 4, Desks::new(Vec::new(alloc)), counts)?)
 }
 
-/// How many accesses a receive of the server makes until it is over, and what it answers.
+/// How many accesses a receive of the server makes until it is over, and what it answers. The map of
+/// the wire tells it its ways.
 fn receive(
     alloc: Global,
     words: &mut [u64],
     fire_and_forget: bool,
 ) -> Result<Option<(u64, ReceiveReply)>, Fail> {
+    let map = WordMap::new(alloc, all_ones(alloc, 1)?)?;
+    if map.total() != WORDS {
+        return Ok(None);
+    }
     let mut seat = node(alloc)?;
     let mut receiving = Receiving::new(alloc);
-    let visit = Visit {
-        port: 1,
-        role: Role::Server,
-        lane: 0,
-        request: 0,
-    };
-    let terms = ReceiveTerms {
-        kind: QueueKind::Index,
-        capacity: 1,
-        back: RETURNED - REQUESTS,
-        room: 3,
-        state: STATE - REQUESTS,
-        lane_words: 9,
-        limit: 1,
+    let mut sources = Vec::new(alloc);
+    begin_request_receive(
+        &map,
+        &seat,
+        &mut receiving,
+        1,
         fire_and_forget,
-        number: 2,
-    };
-    let source = Source {
-        way: WAY,
-        node: 0,
-        place: REQUESTS,
-        region: REGION,
-        slots: 4,
-        slot_words: 10,
-        lanes: 4,
-    };
-    receiving.begin(&seat, visit, terms, &[source])?;
+        2,
+        &mut sources,
+    )?;
     Ok(received(&mut receiving, &mut seat, words))
 }
 

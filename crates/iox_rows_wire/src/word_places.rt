@@ -31,6 +31,7 @@ pub(crate) const SERVER: PlanPort = PlanPort {
 pub(crate) fn all_ones(alloc: Global, waiting: usize) -> Result<WirePlan, Fail>
     ensures plan { IfOk result (λ plan. IsPlan plan) }
     ensures ports { IfOk result (λ plan. plan.ports.items ≡ CLIENT ∷ SERVER ∷ []) }
+    ensures header { IfOk result (λ plan. plan.request.header.size ≡ 56) }
 {
     let request = MessageTypeDetails::from::<RequestHeader, (), u64>(TypeVariant::FixedSize)?;
     let response = MessageTypeDetails::from::<ResponseHeader, (), u64>(TypeVariant::FixedSize)?;
