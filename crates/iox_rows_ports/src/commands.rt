@@ -5,7 +5,9 @@ ghost use Rattle.iox_port_commands.specs.Applying.{HaveDefaults};
 mod exchanges;
 mod limits;
 mod names;
+mod numbers;
 mod pools;
+mod runs;
 
 use iox_control::Settings;
 use iox_hub::{Hub, MessageShape, Part};
