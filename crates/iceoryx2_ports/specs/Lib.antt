@@ -40,6 +40,7 @@ pub use Rattle.iox_words.specs.PlainLaws
 pub use Rattle.iox_words.specs.declared.word_list.Words
 pub use Rattle.iox_words.specs.declared.zero_copy_send.ZeroCopySend
 -- typed calls
+pub mod Calls
 pub mod Answers
 pub mod Headers
 pub mod Keeping

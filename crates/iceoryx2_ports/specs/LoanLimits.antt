@@ -1,5 +1,5 @@
 -- Loans of a client, and to an active request, of which there are as many as may be.
-use Rattle.std.specs.Prelude.{◌≡◌, ℕ, ◌+◌, ◌<◌, ◌≤◌, ◌^◌, true, Option, Some, None}
+use Rattle.std.specs.Prelude.{◌≡◌, ℕ, ◌+◌, ◌≤◌, true, Option, Some, None}
 use Rattle.std.specs.Option.{option_map_or}
 use Rattle.iox_model.specs.Handles.{handle_at}
 use Rattle.iox_model.specs.Loans.{fits_size, loans_of_request}
@@ -11,6 +11,7 @@ use Rattle.iox_tables.specs.HubLoans.Lenders.{size_refusal}
 use Rattle.iox_tables.specs.HubStates.Tables.{PortState, port_in}
 use Rattle.iox_hub.specs.Hubs.{HubState}
 use Rattle.iox_hub_laws.specs.Shown.{shown}
+use Rattle.iceoryx2_ports.specs.Calls.{HasCallsLeft}
 
 -- ---- requests
 
@@ -23,7 +24,7 @@ pub record LendsLength (h : HubState) (client k : ℕ) : Type 0 where
 -- Calls are left, and the client's messages may have so many elements, but it has as many requests
 -- on loan as it may.
 pub record HasAllLoans (h : HubState) (client k : ℕ) : Type 0 where
-  pub calls : h.control.tables.calls < 2 ^ 56
+  pub calls : HasCallsLeft h
   pub length : LendsLength h client k
   pub loans :
       h.control.tables.settings.loaned_requests ≤ requests_on_loan h.control.tables client
@@ -65,7 +66,7 @@ pub record RespondsLength (h : HubState) (node n k : ℕ) : Type 0 where
 -- Calls are left, and the server may answer that request with so many elements, but it has as many
 -- responses to it on loan as it may.
 pub record HasAllResponses (h : HubState) (node n k : ℕ) : Type 0 where
-  pub calls : h.control.tables.calls < 2 ^ 56
+  pub calls : HasCallsLeft h
   pub length : RespondsLength h node n k
   pub loans : most_responses h node n ≤ responses_lent h node n
 

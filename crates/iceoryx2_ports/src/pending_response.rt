@@ -1,5 +1,5 @@
 //! A request that was sent.
-ghost use Rattle.std.specs.Prelude.{◌≡◌, ◌++◌, ◌<◌, ◌^◌, ◌↔◌, IfErr, IfOk, IfSome, IsTrue, flat_map};
+ghost use Rattle.std.specs.Prelude.{◌≡◌, ◌++◌, ◌↔◌, IfErr, IfOk, IfSome, IsTrue, flat_map};
 ghost use Rattle.iox_model.specs.declared.call.Call.TheVariants as calls;
 ghost use Rattle.iox_model.specs.declared.kind.Kind.TheVariants as kinds;
 ghost use Rattle.iox_model.specs.declared.reply.Reply.TheVariants.{Answer, Done, Words};
@@ -12,6 +12,7 @@ ghost use Rattle.iox_hub_laws.specs.Receives.{CarriesWhatWaited, TakesResponse};
 ghost use Rattle.iox_hub_laws.specs.Sends.{NothingComes};
 ghost use Rattle.iox_hub_laws.specs.Waiting.{WaitedFor, client_in};
 ghost use Rattle.iceoryx2_ports.specs.Answers.{received_response, reply_of_response};
+ghost use Rattle.iceoryx2_ports.specs.Calls.{HasCallsLeft};
 ghost use Rattle.iceoryx2_ports.specs.Headers.{request_header_of};
 ghost use Rattle.iceoryx2_ports.specs.Idling.{TakesTheOne};
 ghost use Rattle.iceoryx2_ports.specs.Keeping.{KeepsAsking, KeepsValues};
@@ -73,7 +74,7 @@ impl<Q: Payload, QH: Words, P: Payload, PH: Words> PendingResponse<Q, QH, P, PH>
         hub: &mut Hub<Q, QH, P, PH>,
     ) -> Result<Option<Response<Q, QH, P, PH>>, ReceiveError>
         requires has { HasValue hub.old self.now.node self.now.number kinds.PendingResponse }
-        requires calls { hub.old.control.tables.calls < 2 ^ 56 }
+        requires calls { HasCallsLeft hub.old }
         ensures left { hub.new ≡ with_control hub.old hub.new.control }
         ensures whole { (x : Given) → IsWholeCall (state_of_hub x hub.old) self.now.node
             (calls.Receive self.now.number) (reply_of_response result) (state_of_hub x hub.new) }

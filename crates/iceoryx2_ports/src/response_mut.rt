@@ -1,5 +1,5 @@
 //! Loaned responses.
-ghost use Rattle.std.specs.Prelude.{◌≡◌, ◌≢◌, ◌∷◌, ◌++◌, ◌<◌, ◌^◌, ◌↔◌, IfErr, IfOk, IsTrue, OnErr, OnOk, [], flat_map, length};
+ghost use Rattle.std.specs.Prelude.{◌≡◌, ◌≢◌, ◌∷◌, ◌++◌, ◌↔◌, IfErr, IfOk, IsTrue, OnErr, OnOk, [], flat_map, length};
 ghost use Rattle.std.specs.Mem.{FitsInMemory};
 ghost use Rattle.iox_model.specs.declared.call.Call.TheVariants as calls;
 ghost use Rattle.iox_model.specs.declared.kind.Kind.TheVariants as kinds;
@@ -15,6 +15,7 @@ ghost use Rattle.iox_hub.specs.Reads.{message_in};
 ghost use Rattle.iox_hub.specs.Sending.{HasNothing};
 ghost use Rattle.iox_hub_laws.specs.Sends.{BringsNothing, NothingComes, SendsResponse};
 ghost use Rattle.iceoryx2_ports.specs.Arrivals.{BringsItsWords};
+ghost use Rattle.iceoryx2_ports.specs.Calls.{HasCallsLeft};
 ghost use Rattle.iceoryx2_ports.specs.Headers.{response_header_of};
 ghost use Rattle.iceoryx2_ports.specs.Keeping.{KeepsAsking};
 ghost use Rattle.iceoryx2_ports.specs.Loans.{reply_of_response_send, reply_of_write};
@@ -244,7 +245,7 @@ impl<Q: Payload, QH: Words, P: Payload, PH: Words> ResponseMut<Q, QH, P, PH> {
     /// Sends the response to its client. Where that fails, the response is lost.
     pub fn send(self, hub: &mut Hub<Q, QH, P, PH>) -> Result<(), SendError>
         requires has { HasValue hub.old self.node self.number kinds.ResponseMut }
-        requires calls { hub.old.control.tables.calls < 2 ^ 56 }
+        requires calls { HasCallsLeft hub.old }
         ensures whole { (x : Given) → IsWholeCall (state_of_hub x hub.old) self.node
             (calls.Send self.number) (reply_of_response_send result) (state_of_hub x hub.new) }
         ensures gone { HasNothing hub.new self.node self.number }

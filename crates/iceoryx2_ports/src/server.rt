@@ -1,5 +1,5 @@
 //! A server.
-ghost use Rattle.std.specs.Prelude.{◌≡◌, ◌<◌, ◌^◌, ◌↔◌, IfErr, IfOk, IfSome, IsOk, IsTrue};
+ghost use Rattle.std.specs.Prelude.{◌≡◌, ◌↔◌, IfErr, IfOk, IfSome, IsOk, IsTrue};
 ghost use Rattle.iox_model.specs.declared.call.Call.TheVariants.{HasRequests, Receive};
 ghost use Rattle.iox_model.specs.declared.kind.Kind.TheVariants as kinds;
 ghost use Rattle.iox_model.specs.declared.reply.Reply.TheVariants.{Answer};
@@ -11,6 +11,7 @@ ghost use Rattle.iox_hub_laws.specs.Receives.{CarriesWhatWaited, TakesRequest};
 ghost use Rattle.iox_hub_laws.specs.Sends.{NothingComes};
 ghost use Rattle.iox_hub_laws.specs.Waiting.{WaitedFor, server_of};
 ghost use Rattle.iceoryx2_ports.specs.Answers.{received_request, reply_of_request};
+ghost use Rattle.iceoryx2_ports.specs.Calls.{HasCallsLeft};
 ghost use Rattle.iceoryx2_ports.specs.Idling.{TakesTheOne};
 ghost use Rattle.iceoryx2_ports.specs.Keeping.{KeepsAsking, KeepsValues};
 ghost use Rattle.iceoryx2_ports.specs.Releases.{IsReleased};
@@ -56,7 +57,7 @@ impl<Q: Payload, QH: Words, P: Payload, PH: Words> Server<Q, QH, P, PH> {
         hub: &mut Hub<Q, QH, P, PH>,
     ) -> Result<Option<ActiveRequest<Q, QH, P, PH>>, ReceiveError>
         requires has { HasValue hub.old self.now.node self.now.number kinds.Server }
-        requires calls { hub.old.control.tables.calls < 2 ^ 56 }
+        requires calls { HasCallsLeft hub.old }
         ensures left { hub.new ≡ with_control hub.old hub.new.control }
         ensures whole { (x : Given) → IsWholeCall (state_of_hub x hub.old) self.now.node
             (Receive self.now.number) (reply_of_request result) (state_of_hub x hub.new) }

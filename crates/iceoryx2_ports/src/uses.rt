@@ -1,5 +1,6 @@
 //! Callers of typed ports, proved from their clauses alone.
-ghost use Rattle.std.specs.Prelude.{◌≡◌, ◌<◌, ◌^◌, IfErr, IfOk, IfSome, IsOk, flat_map};
+ghost use Rattle.std.specs.Prelude.{◌≡◌, IfErr, IfOk, IfSome, IsOk, flat_map};
+ghost use Rattle.iceoryx2_ports.specs.Calls.{HasCallsLeft};
 ghost use Rattle.iceoryx2_ports.specs.Kind.TheVariants as kinds;
 ghost use Rattle.iceoryx2_ports.specs.Hubs.{HasValue};
 ghost use Rattle.iceoryx2_ports.specs.Reads.{message_in};
@@ -19,7 +20,7 @@ pub fn reads_what_it_receives(
     hub: &mut Hub<Many<u64>, u32, One<u64>, ()>,
 ) -> Result<Option<ActiveRequest<Many<u64>, u32, One<u64>, ()>>, ReceiveError>
     requires has { HasValue hub.old server.now.node server.now.number kinds.Server }
-    requires calls { hub.old.control.tables.calls < 2 ^ 56 }
+    requires calls { HasCallsLeft hub.old }
     ensures has { IfOk result (λ got. IfSome got (λ request.
         HasValue hub.new server.now.node request.number kinds.ActiveRequest)) }
     ensures refused { IfErr result (λ error. error ≡ ExceedsMaxBorrows) }
@@ -78,7 +79,7 @@ pub fn reads_the_earlier<Q: Payload, QH: Words, P: Payload, PH: Words>(
 ) -> Result<Option<ActiveRequest<Q, QH, P, PH>>, ReceiveError>
     requires has { HasValue hub.old server.now.node server.now.number kinds.Server }
     requires earlier { HasValue hub.old earlier.now.node earlier.now.number kinds.ActiveRequest }
-    requires calls { hub.old.control.tables.calls < 2 ^ 56 }
+    requires calls { HasCallsLeft hub.old }
 {
     let got = server.receive(hub)?;
     let _length = earlier.payload(hub).len();

@@ -1,5 +1,6 @@
 //! What is answered is received, proved from the clauses of typed ports alone.
-ghost use Rattle.std.specs.Prelude.{◌≡◌, ◌∷◌, ◌<◌, ◌^◌, IfOk, IfSome, OnOk, [], true};
+ghost use Rattle.std.specs.Prelude.{◌≡◌, ◌∷◌, IfOk, IfSome, OnOk, [], true};
+ghost use Rattle.iceoryx2_ports.specs.Calls.{HasCallsLeft};
 ghost use Rattle.iceoryx2_ports.specs.Kind.TheVariants as kinds;
 ghost use Rattle.iceoryx2_ports.specs.Hubs.{HasValue};
 ghost use Rattle.iceoryx2_ports.specs.Reaching.{HasRoom, SomeCanCome};
@@ -71,7 +72,7 @@ pub fn sends_456(
 ) -> Result<(), SendError>
     requires has { HasValue hub.old response.node response.number kinds.ResponseMut }
     requires carries { (message_in hub.old response.node response.number).payload ≡ 456 ∷ [] }
-    requires calls { hub.old.control.tables.calls < 2 ^ 56 }
+    requires calls { HasCallsLeft hub.old }
     requires server { HasValue hub.old server.now.node server.now.number kinds.Server }
     requires answers { answerer_in hub.old response.node response.number ≡ server.now.number }
     requires asked { asker_in hub.old response.node response.number

@@ -1,5 +1,6 @@
 //! What is sent is what is read, proved from the clauses of typed ports alone.
-ghost use Rattle.std.specs.Prelude.{◌≡◌, ◌∷◌, ◌<◌, ◌^◌, IfSome, OnOk, []};
+ghost use Rattle.std.specs.Prelude.{◌≡◌, ◌∷◌, IfSome, OnOk, []};
+ghost use Rattle.iceoryx2_ports.specs.Calls.{HasCallsLeft};
 ghost use Rattle.iceoryx2_ports.specs.Kind.TheVariants as kinds;
 ghost use Rattle.iceoryx2_ports.specs.Hubs.{HasValue};
 ghost use Rattle.iceoryx2_ports.specs.Sends.{BringsOnly};
@@ -36,7 +37,7 @@ pub fn reads_456(
     hub: &mut Hub<One<u64>, (), One<u64>, ()>,
 ) -> Option<u64>
     requires has { HasValue hub.old server.now.node server.now.number kinds.Server }
-    requires calls { hub.old.control.tables.calls < 2 ^ 56 }
+    requires calls { HasCallsLeft hub.old }
     requires all { AllCarry hub.old (server_of server.now.number) (456 ∷ []) }
     ensures { IfSome result (λ value. value ≡ 456) }
 {
@@ -94,7 +95,7 @@ pub fn hears_789(
     hub: &mut Hub<One<u64>, (), One<u64>, ()>,
 ) -> Option<u64>
     requires has { HasValue hub.old pending.now.node pending.now.number kinds.PendingResponse }
-    requires calls { hub.old.control.tables.calls < 2 ^ 56 }
+    requires calls { HasCallsLeft hub.old }
     requires all { AllCarry hub.old (client_in hub.old pending.now.node pending.now.number)
         (789 ∷ []) }
     ensures { IfSome result (λ value. value ≡ 789) }
@@ -118,7 +119,7 @@ pub fn exchanges_789(
 ) -> Option<u64>
     requires server { HasValue hub.old server.now.node server.now.number kinds.Server }
     requires pending { HasValue hub.old pending.now.node pending.now.number kinds.PendingResponse }
-    requires calls { hub.old.control.tables.calls < 2 ^ 56 }
+    requires calls { HasCallsLeft hub.old }
     requires none { NothingWaits hub.old (client_in hub.old pending.now.node pending.now.number) }
     ensures { IfSome result (λ value. value ≡ 789) }
 {

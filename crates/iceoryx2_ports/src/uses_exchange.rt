@@ -1,5 +1,6 @@
 //! A client and a server exchange messages, proved from the clauses of typed ports alone.
-ghost use Rattle.std.specs.Prelude.{◌≡◌, ◌∷◌, ◌<◌, ◌^◌, IfOk, IfSome, OnErr, []};
+ghost use Rattle.std.specs.Prelude.{◌≡◌, ◌∷◌, IfOk, IfSome, OnErr, []};
+ghost use Rattle.iceoryx2_ports.specs.Calls.{HasCallsLeft};
 ghost use Rattle.iceoryx2_ports.specs.Kind.TheVariants as kinds;
 ghost use Rattle.iceoryx2_ports.specs.Hubs.{HasValue, IsReached};
 ghost use Rattle.iceoryx2_ports.specs.Reads.{message_in};
@@ -134,7 +135,7 @@ pub fn hears(
     hub: &mut Hub<One<u64>, (), One<u64>, ()>,
 ) -> Option<u64>
     requires has { HasValue hub.old pending.now.node pending.now.number kinds.PendingResponse }
-    requires calls { hub.old.control.tables.calls < 2 ^ 56 }
+    requires calls { HasCallsLeft hub.old }
 {
     match pending.receive(hub) {
         Ok(Some(response)) => {
@@ -153,7 +154,7 @@ pub fn serves(
     hub: &mut Hub<One<u64>, (), One<u64>, ()>,
 ) -> bool
     requires has { HasValue hub.old server.now.node server.now.number kinds.Server }
-    requires calls { hub.old.control.tables.calls < 2 ^ 56 }
+    requires calls { HasCallsLeft hub.old }
 {
     match server.receive(hub) {
         Ok(Some(request)) => {

@@ -1,5 +1,6 @@
 //! What is sent is received, proved from the clauses of typed ports alone.
-ghost use Rattle.std.specs.Prelude.{◌≡◌, ◌∷◌, ◌<◌, ◌^◌, ℕ, IfOk, IfSome, OnOk, []};
+ghost use Rattle.std.specs.Prelude.{◌≡◌, ◌∷◌, ℕ, IfOk, IfSome, OnOk, []};
+ghost use Rattle.iceoryx2_ports.specs.Calls.{HasCallsLeft};
 ghost use Rattle.iceoryx2_ports.specs.Kind.TheVariants as kinds;
 ghost use Rattle.iceoryx2_ports.specs.Hubs.{HasValue};
 ghost use Rattle.iceoryx2_ports.specs.Idling.{AwaitsOne, IsIdle};
@@ -51,7 +52,7 @@ pub fn sends_456(
 ) -> Result<PendingResponse<One<u64>, (), One<u64>, ()>, RequestSendError>
     requires has { HasValue hub.old request.node request.number kinds.RequestMut }
     requires carries { (message_in hub.old request.node request.number).payload ≡ 456 ∷ [] }
-    requires calls { hub.old.control.tables.calls < 2 ^ 56 }
+    requires calls { HasCallsLeft hub.old }
     requires server { HasValue hub.old server.now.node server.now.number kinds.Server }
     requires none { NothingWaits hub.old (server_of server.now.number) }
     requires room { HasRoom hub.old (server_of server.now.number) }
@@ -68,7 +69,7 @@ pub fn receives_456(
     hub: &mut Hub<One<u64>, (), One<u64>, ()>,
 ) -> u64
     requires has { HasValue hub.old server.now.node server.now.number kinds.Server }
-    requires calls { hub.old.control.tables.calls < 2 ^ 56 }
+    requires calls { HasCallsLeft hub.old }
     requires all { AllCarry hub.old (server_of server.now.number) (456 ∷ []) }
     requires some { SomeCanCome hub.old (server_of server.now.number) }
     ensures { result ≡ 456 }
@@ -89,7 +90,7 @@ pub fn reads_the_one(
     hub: &mut Hub<One<u64>, (), One<u64>, ()>,
 ) -> u64
     requires has { HasValue hub.old server.now.node server.now.number kinds.Server }
-    requires calls { hub.old.control.tables.calls < 2 ^ 56 }
+    requires calls { HasCallsLeft hub.old }
     requires one { AwaitsOne hub.old (server_of server.now.number) }
     requires some { SomeCanCome hub.old (server_of server.now.number) }
     requires all { (value : ℕ) × AllCarry hub.old (server_of server.now.number) (value ∷ []) }

@@ -1,5 +1,6 @@
 //! A server receives what waits for it, proved from the clauses of typed ports alone.
-ghost use Rattle.std.specs.Prelude.{◌<◌, ◌^◌, ℕ};
+ghost use Rattle.std.specs.Prelude.{ℕ};
+ghost use Rattle.iceoryx2_ports.specs.Calls.{HasCallsLeft};
 ghost use Rattle.iceoryx2_ports.specs.Messages.{Message};
 ghost use Rattle.iceoryx2_ports.specs.Kind.TheVariants as kinds;
 ghost use Rattle.iceoryx2_ports.specs.Hubs.{HasValue};
@@ -13,7 +14,7 @@ pub fn receives_what_can_come<Q: Payload, QH: Words, P: Payload, PH: Words>(
     hub: &mut Hub<Q, QH, P, PH>,
 ) -> ActiveRequest<Q, QH, P, PH>
     requires has { HasValue hub.old server.now.node server.now.number kinds.Server }
-    requires calls { hub.old.control.tables.calls < 2 ^ 56 }
+    requires calls { HasCallsLeft hub.old }
     requires waits { (client : ℕ) × (m : Message)
         × CanCome hub.old (server_of server.now.number) client m }
     ensures has { HasValue hub.new result.node result.number kinds.ActiveRequest }
@@ -30,7 +31,7 @@ pub fn receives_nothing<Q: Payload, QH: Words, P: Payload, PH: Words>(
     hub: &mut Hub<Q, QH, P, PH>,
 )
     requires has { HasValue hub.old server.now.node server.now.number kinds.Server }
-    requires calls { hub.old.control.tables.calls < 2 ^ 56 }
+    requires calls { HasCallsLeft hub.old }
     requires none { NothingWaits hub.old (server_of server.now.number) }
 {
     match server.receive(hub) {
