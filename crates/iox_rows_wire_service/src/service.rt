@@ -110,14 +110,19 @@ impl Pair {
         let mut commands = Vec::with_capacity(alloc, script.len())?;
         for (place, (ask, wanted)) in script.iter().enumerate() {
             let reply = asking::called(&mut self.called, alloc, *ask)?;
-            assert_eq!(rt; (place, lent(&reply)), (place, *wanted));
+            let told = lent(&reply);
+            assert_eq!(rt; (place, &told), (place, wanted));
             commands.push(asking::command(alloc, *ask)?)?;
         }
         let mut replies = Vec::new(alloc);
         self.ran.run(alloc, commands, &mut replies)?;
         assert_eq!(rt; replies.len(), script.len());
-        for (place, (reply, (_, wanted))) in replies.iter().zip(script.iter()).enumerate() {
-            assert_eq!(rt; (place, lent(reply)), (place, *wanted));
+        for (place, (_, wanted)) in script.iter().enumerate() {
+            let Some(reply) = replies.get(place) else {
+                return Err(AllocError);
+            };
+            let told = lent(reply);
+            assert_eq!(rt; (place, &told), (place, wanted));
         }
         assert_eq!(rt; self.ran.is_closed(), self.called.is_closed());
         Ok(())
