@@ -3,6 +3,7 @@ pub use Rattle.iox_types.specs.Compatibility
 pub use Rattle.iox_types.specs.Details
 pub use Rattle.iox_types.specs.Identifiers
 pub use Rattle.iox_attributes.specs.Verifiers
+pub use Rattle.iox_attributes.specs.Visits
 pub use Rattle.iox_attributes.specs.declared.verification_error.AttributeVerificationError
 pub use Rattle.iox_model.specs.Commands
 pub use Rattle.iox_model.specs.Peers
@@ -15,6 +16,7 @@ pub use Rattle.iox_model.specs.declared.reply.Refusal
 pub use Rattle.iox_model.specs.declared.reply.Reply
 pub use Rattle.iox_members.specs.Steps
 pub use Rattle.iox_control.specs.Settings
+pub use Rattle.iox_hub.specs.Listings
 pub use Rattle.iox_hub.specs.Shapes
 pub use Rattle.iox_openers.specs.Causes
 pub use Rattle.iox_openers.specs.Openers

@@ -24,11 +24,11 @@ pub use iox_names::attribute::{AttributeKey, AttributeValue};
 pub use iox_openers::{MessageTypes, ServiceDescription};
 pub use iox_port_commands::Elements;
 pub use iox_store::{Many, One, Payload};
-pub use iox_types::identifiers::{UniqueNodeId, UniqueSystemId};
+pub use iox_types::identifiers::{UniqueClientId, UniqueNodeId, UniqueServerId, UniqueSystemId};
 pub use iox_types::{
     AllocationStrategy, BackpressureStrategy, MessageTypeDetails, TypeDetail, TypeDetailError,
     TypeVariant,
 };
-pub use iox_words::{Words, ZeroCopySend};
+pub use iox_words::{CallbackProgression, Words, ZeroCopySend};
 pub use opener::Opener;
 pub use service::Service;

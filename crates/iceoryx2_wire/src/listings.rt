@@ -1,12 +1,16 @@
 //! What there is in a service.
 ghost use Rattle.std.specs.Prelude.{◌≡◌, IfOk, map};
+ghost use Rattle.std.specs.Fn.{CalledAt};
+ghost use Rattle.iox_attributes.specs.Visits.{Visits};
 ghost use Rattle.iox_model.specs.declared.kind.Role.TheVariants.{Client, Server};
 ghost use Rattle.iox_model.specs.Peers.{ports_of_role};
+ghost use Rattle.iox_hub.specs.Listings.{ids_of_role};
 ghost use Rattle.iceoryx2_wire.specs.Services.{service_of};
 
 use crate::service::Service;
 use iox_store::Payload;
-use iox_words::Words;
+use iox_types::identifiers::{UniqueClientId, UniqueNodeId, UniqueServerId};
+use iox_words::{CallbackProgression, Words};
 use std::alloc::{AllocError, Global};
 
 impl<Q: Payload, QH: Words, P: Payload, PH: Words> Service<Q, QH, P, PH> {
@@ -35,5 +39,35 @@ impl<Q: Payload, QH: Words, P: Payload, PH: Words> Service<Q, QH, P, PH> {
             ≡ ports_of_role (service_of self.now).fixed Server) }
     {
         self.nodes.list_servers(alloc)
+    }
+
+    /// Calls `callback` with the id of each node that is there, dead ones too, by ascending
+    /// numbers, as far as it says `Continue`. It takes no memory.
+    pub fn list_node_ids<F: FnMut(&UniqueNodeId) -> CallbackProgression>(&self, callback: F)
+        requires { F.IsAlwaysCallable callback }
+        ensures { Visits (CalledAt F.FnMut) callback
+            (map (λ m. m.id) (service_of self.now).members.nodes) }
+    {
+        self.nodes.list_node_ids(callback);
+    }
+
+    /// Calls `callback` with the id of each connected client, those of dead nodes too, by ascending
+    /// numbers, as far as it says `Continue`. It takes no memory.
+    pub fn list_client_ids<F: FnMut(&UniqueClientId) -> CallbackProgression>(&self, callback: F)
+        requires { F.IsAlwaysCallable callback }
+        ensures { Visits (CalledAt F.FnMut) callback
+            (ids_of_role (service_of self.now).fixed Client) }
+    {
+        self.nodes.list_client_ids(callback);
+    }
+
+    /// Calls `callback` with the id of each connected server, those of dead nodes too, by ascending
+    /// numbers, as far as it says `Continue`. It takes no memory.
+    pub fn list_server_ids<F: FnMut(&UniqueServerId) -> CallbackProgression>(&self, callback: F)
+        requires { F.IsAlwaysCallable callback }
+        ensures { Visits (CalledAt F.FnMut) callback
+            (ids_of_role (service_of self.now).fixed Server) }
+    {
+        self.nodes.list_server_ids(callback);
     }
 }

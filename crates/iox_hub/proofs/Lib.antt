@@ -42,5 +42,6 @@ pub mod CopyingResponses
 pub mod CopyingRequests
 pub mod Ascending
 pub mod ListingLemmas
+pub mod VisitLemmas
 pub mod ValueLemmas
 pub mod CleaningLemmas

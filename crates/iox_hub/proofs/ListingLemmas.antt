@@ -21,13 +21,13 @@ use Rattle.iox_tables.specs.HubStates.Tables.{HubTables, PortState}
 use Rattle.iox_tables.specs.HubStates.Wirings.{numbers_of_role}
 use Rattle.iox_control.specs.Entries.{handle_state, handles_of}
 use Rattle.iox_hub.specs.Hubs.{HubState, given_by, state_of_hub}
-use Rattle.iox_hub.specs.Listings.{handles_had, held_number, held_ports, numbers_had, role_number}
+use Rattle.iox_hub.specs.Listings.{handles_had, held_number, held_ports, ids_of_role, numbers_had, role_ids, role_number}
 use Rattle.iox_hub.proofs.Ascending.{first-ascending}
 
 -- ---- the state that a hub shows
 
 -- what is listed of what is shown
-listed_as : {A B : Type 0} (f : A → B) (test : B → Bool) (number : B → ℕ) (xs : List A)
+listed_as : {A B C : Type 0} (f : A → B) (test : B → Bool) (number : B → C) (xs : List A)
     → map number (filter test (map f xs)) ≡ map (λ a. number (f a)) (filter (λ a. test (f a)) xs)
 listed_as f test number [] = refl
 listed_as {A} {B} f test number (x ∷ xs) = by_case (test (f x)) (listed_as f test number xs)
@@ -51,6 +51,9 @@ numbers_are x h node =
 
 pub ports_are : (x : Given) (h : HubState) (role : Role) → numbers_of_role role h.control.tables.ports ≡ ports_of_role (state_of_hub x h).fixed role
 ports_are x h role = sym (listed_as (port_of (given_by x h)) (λ p. same_role p.role role) (λ p. p.number) h.control.tables.ports)
+
+pub ids_are : (x : Given) (h : HubState) (role : Role) → role_ids role h.control.tables.ports ≡ ids_of_role (state_of_hub x h).fixed role
+ids_are x h role = sym (listed_as (port_of (given_by x h)) (λ p. same_role p.role role) (λ p. p.id) h.control.tables.ports)
 
 pub all_listed : {Z E : Type 0} (h : HubState) (role : Role) (ports : List PortState) (r : Result (Vec ℕ Z) E) → ports ≡ h.control.tables.ports
     → IfOk r (λ v. v.items ≡ numbers_of_role role ports) → IfOk r (λ v. (x : Given) → v.items ≡ ports_of_role (state_of_hub x h).fixed role)

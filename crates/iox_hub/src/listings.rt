@@ -1,5 +1,7 @@
 //! What a hub tells of its service: its settings, its ports by role, and what a node has.
 ghost use Rattle.std.specs.Prelude.{◌≡◌, IfOk, IfSome, IsSome, None, not, ℕ};
+ghost use Rattle.std.specs.Fn.{CalledAt};
+ghost use Rattle.iox_attributes.specs.Visits.{Visits};
 ghost use Rattle.iox_model.specs.Maps.{first_of, is_empty};
 ghost use Rattle.iox_model.specs.Peers.{ports_of_role};
 ghost use Rattle.iox_model.specs.Services.{numbers_of_node};
@@ -10,7 +12,7 @@ ghost use Rattle.iox_tables.specs.HubStates.Wirings.{numbers_of_role};
 ghost use Rattle.iox_hub_ports.specs.Ports.{info_at};
 ghost use Rattle.iox_control.specs.Settings.{settings_of};
 ghost use Rattle.iox_hub.specs.Hubs.{state_of_hub};
-ghost use Rattle.iox_hub.specs.Listings.{held_number, held_ports, role_number};
+ghost use Rattle.iox_hub.specs.Listings.{held_number, held_ports, ids_of_role, role_id, role_ids, role_number};
 ghost use Rattle.iox_hub.specs.Sending.{HasNothing};
 
 use crate::hub::Hub;
@@ -20,7 +22,8 @@ use iox_hub_ports::ports::Ports;
 use iox_hub_ports::walks::is_same_role;
 use iox_model::kind::Role;
 use iox_store::Payload;
-use iox_words::Words;
+use iox_types::identifiers::{UniqueId, UniqueSystemId};
+use iox_words::{CallbackProgression, Words};
 use std::alloc::{AllocError, Global};
 
 /// The number of the port in that place, if it is of that role.
@@ -45,6 +48,37 @@ fn list(ports: &Ports, alloc: Global, role: Role) -> Result<Vec<u64>, AllocError
         }
     }
     Ok(numbers)
+}
+
+/// The id of the port in that place, if it is of that role.
+fn id_at(ports: &Ports, at: usize, role: Role) -> Option<UniqueSystemId>
+    ensures { result ≡ role_id role (info_at ports.now.ports at) }
+{
+    let port = ports.at(at)?;
+    if is_same_role(port.role, role) {
+        return Some(port.id);
+    }
+    None
+}
+
+/// Calls `callback` with the id of each port of that role, in their order, as far as it says
+/// `Continue`.
+fn list_ids<K, F: FnMut(&UniqueId<K>) -> CallbackProgression>(
+    ports: &Ports,
+    role: Role,
+    mut callback: F,
+)
+    requires { F.IsAlwaysCallable callback }
+    ensures { Visits (CalledAt F.FnMut) callback (role_ids role ports.now.ports) }
+{
+    for at in 0..ports.len() {
+        let Some(id) = id_at(ports, at, role) else {
+            continue;
+        };
+        if callback(&UniqueId::new(id)) == CallbackProgression::Stop {
+            return;
+        }
+    }
 }
 
 /// The number of the port in that place, if it is of that node and its own value is still there.
@@ -86,6 +120,20 @@ impl<Q: Payload, QH: Words, P: Payload, PH: Words> Hub<Q, QH, P, PH> {
             → numbers.items ≡ ports_of_role (state_of_hub x self.now).fixed role) }
     {
         list(self.control.ports(), alloc, role)
+    }
+
+    /// Calls `callback` with the id of each connected port of that role, in the order of their
+    /// numbers, as far as it says `Continue`. It looks at each port once, and takes no memory.
+    pub fn list_ids<K, F: FnMut(&UniqueId<K>) -> CallbackProgression>(
+        &self,
+        role: Role,
+        callback: F,
+    )
+        requires { F.IsAlwaysCallable callback }
+        ensures { (x : Given) → Visits (CalledAt F.FnMut) callback
+            (ids_of_role (state_of_hub x self.now).fixed role) }
+    {
+        list_ids(self.control.ports(), role, callback);
     }
 
     /// The least number of the node's ports and handles that are not released. It looks at each

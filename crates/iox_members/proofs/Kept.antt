@@ -77,6 +77,10 @@ pub any_kept : (id : UniqueSystemId) (xs : List Member)
 any_kept id [] = refl
 any_kept id (x ∷ xs) = ap (λ b. same_id x.id id || b) (any_kept id xs)
 
+pub ids_kept : (xs : List Member) → map (λ m. m.id) (map node_of xs) ≡ map (λ m. m.id) xs
+ids_kept [] = refl
+ids_kept (x ∷ xs) = ap (λ ids. x.id ∷ ids) (ids_kept xs)
+
 pub numbers_kept : (xs : List Member) → map (λ (m : Node). m.number) (map node_of xs) ≡ map (λ (m : Member). m.number) xs
 numbers_kept [] = refl
 numbers_kept (x ∷ xs) = ap (λ ns. x.number ∷ ns) (numbers_kept xs)

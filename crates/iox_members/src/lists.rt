@@ -1,13 +1,16 @@
 //! Searches in the list of nodes, and changes of it.
 ghost use Rattle.std.specs.Prelude.{◌≡◌, ◌==◌, ◌||◌, IfOk, filter, find, length, map, not};
+ghost use Rattle.std.specs.Fn.{CalledAt};
 ghost use Rattle.std.specs.List.{list_any};
+ghost use Rattle.iox_attributes.specs.Visits.{Visits};
 ghost use Rattle.iox_model.specs.Joins.{same_id};
 ghost use Rattle.iox_model.specs.Maps.{is_empty};
 ghost use Rattle.iox_members.specs.Nodes.{killed};
 
 use crate::ids::is_same_id;
 use crate::member::Member;
-use iox_types::identifiers::UniqueSystemId;
+use iox_types::identifiers::{UniqueNodeId, UniqueSystemId};
+use iox_words::CallbackProgression;
 use std::alloc::{AllocError, Global};
 
 /// The numbers of these nodes.
@@ -15,6 +18,23 @@ pub(crate) fn numbers_of(nodes: &[Member], alloc: Global) -> Result<Vec<u64>, Al
     ensures { IfOk result (λ numbers. numbers.items ≡ map (λ m. m.number) nodes.now) }
 {
     nodes.iter().map(|member| member.number).collect(alloc)
+}
+
+/// Calls `callback` with the id of each of these nodes, as far as it says `Continue`.
+pub(crate) fn list_ids<F: FnMut(&UniqueNodeId) -> CallbackProgression>(
+    nodes: &[Member],
+    mut callback: F,
+)
+    requires { F.IsAlwaysCallable callback }
+    ensures { Visits (CalledAt F.FnMut) callback (map (λ m. m.id) nodes.now) }
+{
+    let mut rest = nodes;
+    while let Some((first, later)) = rest.split_first() {
+        rest = later;
+        if callback(&first.id) == CallbackProgression::Stop {
+            return;
+        }
+    }
 }
 
 /// The node of that number.

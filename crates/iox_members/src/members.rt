@@ -1,16 +1,19 @@
 //! The nodes of a service.
 ghost use Rattle.std.specs.Prelude.{◌≡◌, IfOk, OnErr, OnOk, Some, length, map, nat_le};
+ghost use Rattle.std.specs.Fn.{CalledAt};
 ghost use Rattle.std.specs.List.{list_any};
 ghost use Rattle.std.specs.Option.{option_map};
+ghost use Rattle.iox_attributes.specs.Visits.{Visits};
 ghost use Rattle.iox_model.specs.Joins.{joined, new_node, same_id};
 ghost use Rattle.iox_members.specs.Nodes.{first_members, node_in, node_of, with_dead};
 ghost use Rattle.iox_members.specs.Steps.{IsAfterLeaving, IsDeclaredDead, IsJoined, IsLeaving};
 ghost use Rattle.iox_members.specs.Steps.{IsRefusedUnlessDead, IsRefusedUnlessLiving};
 
-use crate::lists::{are_gone, count, find, has_id, kill, numbers_of, remove};
+use crate::lists::{are_gone, count, find, has_id, kill, list_ids, numbers_of, remove};
 use crate::member::Member;
 use iox_model::reply::Refusal;
 use iox_types::identifiers::{UniqueNodeId, UniqueSystemId};
+use iox_words::CallbackProgression;
 use std::alloc::{AllocError, Global};
 use std::marker::Model;
 
@@ -68,6 +71,15 @@ impl Members {
             ≡ map (λ m. m.number) self.now.nodes) }
     {
         numbers_of(&self.nodes, alloc)
+    }
+
+    /// Calls `callback` with the id of each node, in the order in which they joined, as far as it
+    /// says `Continue`. It takes no memory.
+    pub fn list_ids<F: FnMut(&UniqueNodeId) -> CallbackProgression>(&self, callback: F)
+        requires { F.IsAlwaysCallable callback }
+        ensures { Visits (CalledAt F.FnMut) callback (map (λ m. m.id) self.now.nodes) }
+    {
+        list_ids(&self.nodes, callback);
     }
 
     /// The node of that number.

@@ -3,6 +3,7 @@ mod asking;
 mod creating;
 mod ending;
 mod exchanges;
+mod listing;
 mod openers;
 mod opening;
 mod running;
