@@ -52,7 +52,7 @@ fn servers(rt: &impl Abort, service: &TheService, wanted: Seen) {
 }
 
 #[test]
-fn ids_are_told_until_the_callback_stops(rt: HostRuntime) -> Result<(), Fail> {
+fn ids_of_the_dead_are_told_too(rt: HostRuntime) -> Result<(), Fail> {
     let fits = fit()?;
     let script = [
         (Ask::Open(20, &fits), Told::Node(1)),
@@ -64,7 +64,7 @@ fn ids_are_told_until_the_callback_stops(rt: HostRuntime) -> Result<(), Fail> {
     ];
     let mut pair = Pair::new(rt.alloc(), SETTINGS)?;
     pair.plays(&rt, rt.alloc(), &script)?;
-    // Those of the dead are told, too. A port has the process number of its node.
+    // A port has the process number of its node.
     nodes(
         &rt,
         &pair.called,
@@ -72,14 +72,26 @@ fn ids_are_told_until_the_callback_stops(rt: HostRuntime) -> Result<(), Fail> {
     );
     clients(&rt, &pair.called, [None, Some((20, 0)), Some((1, 2))]);
     servers(&rt, &pair.called, [None, None, Some((1, 1))]);
+    Ok(())
+}
+
+#[test]
+fn ids_are_told_until_the_callback_stops(rt: HostRuntime) -> Result<(), Fail> {
+    let fits = fit()?;
     let script = [
+        (Ask::Open(20, &fits), Told::Node(1)),
+        (Ask::Client(1), Told::Client(0)),
+        (Ask::Client(0), Told::Client(1)),
+        (Ask::Open(30, &fits), Told::Node(2)),
+        (Ask::Die(1), Told::Done),
         (Ask::Open(40, &fits), Told::Node(3)),
         (Ask::Cleanup(1), Told::Done),
         (Ask::Open(20, &fits), Told::Node(4)),
     ];
+    let mut pair = Pair::new(rt.alloc(), SETTINGS)?;
     pair.plays(&rt, rt.alloc(), &script)?;
     // There are four nodes, and the third was the last that was told.
     nodes(&rt, &pair.ran, [Some((1, 0)), Some((30, 0)), Some((40, 0))]);
-    clients(&rt, &pair.ran, [None, None, Some((1, 2))]);
+    clients(&rt, &pair.ran, [None, None, Some((1, 1))]);
     Ok(())
 }
