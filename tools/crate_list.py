@@ -9,8 +9,9 @@
 In crates.txt a comment line above a group of crates is the group's title. A crate's sentence is the first one of the
 `//!` lines of its src/lib.rt or src/main.rt. A crate of laws has a line for each of its modules. A library of the toolchain is named as crates.txt names it.
 
-With --check it also refuses a library of ours in crates.txt that the crate does not name: rt sums up the files of a
-library once for each way that leads down to it, so each needless line makes the gate slower.
+With --check it also refuses a library of ours in crates.txt that the crate does not name, and more than MOST_WAYS ways down
+crates.txt in all: some kits' rt sums up the files of a library once for each way that leads down to it, so each needless line
+makes the gate slower. A crate passes on what its clauses cite of the crates below it, and then those above need not name them.
 """
 import pathlib
 import re
@@ -19,6 +20,8 @@ import sys
 TOP = pathlib.Path(__file__).resolve().parent.parent
 PAGE = TOP / "docs" / "ARCHITECTURE.md"
 BEGIN, END = "<!-- crates: written by tools/crate_list.py -->", "<!-- end of crates -->"
+# From each library to all below it, by each way. A way costs the gate some 6 ms, of one processor, twice.
+MOST_WAYS = 150_000
 CRATE = re.compile(r"^([a-z0-9_]+)(?: staticlib)?:(.*)$")
 
 
@@ -92,6 +95,20 @@ def unnamed():
                 yield f"{name}: {it}"
 
 
+def ways():
+    """How many ways lead down from all libraries of ours."""
+    stands_on, found = {}, {}
+    for name, libraries in (crate for _, those in groups() for crate in those):
+        stands_on[name] = libraries
+
+    def from_one(name):
+        if name not in found:
+            found[name] = 1 + sum(from_one(it) for it in stands_on[name] if it in stands_on)
+        return found[name]
+
+    return sum(from_one(it) for it in {it for those in stands_on.values() for it in those} & {*stands_on})
+
+
 def below(name):
     """The crates that a crate stands on, and itself, as pairs, lowest first."""
     crates = [crate for _, found in groups() for crate in found]
@@ -123,6 +140,8 @@ def main():
         sys.exit("crate_list: docs/ARCHITECTURE.md is not as tools/crate_list.py writes it")
     elif found := list(unnamed()):
         sys.exit("crate_list: crates.txt gives crates libraries that they do not name: " + ", ".join(found))
+    elif (found := ways()) > MOST_WAYS:
+        sys.exit(f"crate_list: {found} ways lead down crates.txt, and there may be {MOST_WAYS}: have a crate pass on what those above it cite")
 
 
 if __name__ == "__main__":

@@ -16,10 +16,10 @@ use Rattle.iox_model.specs.Peers.{port_at}
 use Rattle.iox_model.specs.Settings.{Limits, Shape, has_layout, is_count, shape_of}
 use Rattle.iox_model.specs.States as m
 use Rattle.iox_model.specs.WholeCalls.{IsWholeCall}
-use Rattle.iox_control_lending.specs.Lends.{reply_of_loan}
-use Rattle.iox_control_lending.specs.declared.asked.LoanRefusal.TheVariants as tests
-use Rattle.iox_control_lending.specs.declared.asked.Lent.{Lent}
-use Rattle.iox_control_lending.specs.declared.asked.Lent.TheVariants as lents
+use Rattle.iox_hub.specs.Lends.{reply_of_loan}
+use Rattle.iox_hub.specs.LoanRefusal.TheVariants as tests
+use Rattle.iox_hub.specs.Lent.{Lent}
+use Rattle.iox_hub.specs.Lent.TheVariants as lents
 use Rattle.iox_tables.specs.HubLoans.Counts.{requests_on_loan}
 use Rattle.iox_tables.specs.HubLoans.Lenders.{IsClient, calls_refusal, count_refusal_by, is_pool_to_be_dry, lender_of_request, loan_refusal, shape_in, size_refusal}
 use Rattle.iox_tables.specs.HubLoans.Loans.{loan_call}

@@ -39,7 +39,7 @@ use Rattle.iox_hub_laws.specs.Sends.{CopiesResponse, response_of, way_of_respons
 use Rattle.iox_hub_laws.specs.Shown.{handle_of, nothing_given, shown}
 use Rattle.iox_hub_laws.specs.Waiting.{WaitedFor, WaitedForPending, client_in, client_of, server_of}
 use Rattle.iox_hub_laws.proofs.Values.{IsHandleOf, value_is_handle}
-use Rattle.iox_control.specs.declared.received.Received.{Received}
+use Rattle.iox_hub.specs.Received.{Received}
 use Rattle.iceoryx2_ports.specs.Reaching.{HasRoom, SomeCanCome}
 use Rattle.iceoryx2_ports.specs.Responses.{ReachesAsker, asker_in, asker_of, is_open}
 use Rattle.iceoryx2_ports.proofs.Gathering.{Gathers, at_gathers, by_gathers, ended_gathers}

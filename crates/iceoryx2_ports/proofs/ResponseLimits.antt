@@ -17,7 +17,7 @@ use Rattle.iox_model.specs.Peers.{port_at}
 use Rattle.iox_model.specs.Settings.{Limits, is_count, shape_of}
 use Rattle.iox_model.specs.States as m
 use Rattle.iox_model.specs.WholeCalls.{IsWholeCall}
-use Rattle.iox_control_lending.specs.declared.asked.Lent.{Lent}
+use Rattle.iox_hub.specs.Lent.{Lent}
 use Rattle.iox_tables.specs.HubLoans.Counts.{responses_on_loan, responses_to}
 use Rattle.iox_tables.specs.HubLoans.Lenders.{IsActive, Lender, calls_refusal, count_refusal_by, is_pool_to_be_dry, lender_of_response, loan_refusal, shape_in, size_refusal}
 use Rattle.iox_tables.specs.HubLoans.Loans.{loan_call}

@@ -3,8 +3,8 @@ use Rattle.std.specs.Prelude.{◌≡◌, Result, Ok, Err, ⊤}
 use Rattle.iox_model.specs.declared.reply.Refusal.TheVariants as refusals
 use Rattle.iox_model.specs.declared.reply.Reply.TheVariants as replies
 use Rattle.iox_model.specs.Commands.{Reply}
-use Rattle.iox_control_lending.specs.declared.asked.LoanRefusal.{LoanRefusal}
-use Rattle.iox_control_lending.specs.declared.asked.LoanRefusal.TheVariants as tests
+use Rattle.iox_hub.specs.LoanRefusal.{LoanRefusal}
+use Rattle.iox_hub.specs.LoanRefusal.TheVariants as tests
 use Rattle.iox_hub.specs.Hubs.{HubState, with_control}
 use Rattle.iceoryx2_ports.specs.declared.pending_response.PendingResponse.{PendingResponse}
 use Rattle.iceoryx2_ports.specs.declared.errors.LoanError.{LoanError}

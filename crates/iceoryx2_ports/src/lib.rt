@@ -33,8 +33,7 @@ pub use errors::{
     ClientCreateError, ConnectionFailure, LoanError, ReceiveError, RequestSendError, SendError,
     ServerCreateError,
 };
-pub use iox_control::Settings;
-pub use iox_hub::{Hub, MessageShape, Part};
+pub use iox_hub::{Hub, MessageShape, Part, Settings};
 pub use iox_model::kind::{Kind, Role};
 pub use iox_store::{Many, One, Payload};
 pub use iox_types::identifiers::{

@@ -16,8 +16,7 @@ ghost use Rattle.iceoryx2_ports.specs.Reaching.{KeepsRoom};
 ghost use Rattle.iceoryx2_ports.specs.declared.errors.LoanError.TheVariants.{ExceedsMaxLoans, OutOfMemory};
 
 use crate::errors::LoanError;
-use iox_control_lending::{Lent, LoanRefusal};
-use iox_hub::Hub;
+use iox_hub::{Hub, Lent, LoanRefusal};
 use iox_store::Payload;
 use iox_words::Words;
 

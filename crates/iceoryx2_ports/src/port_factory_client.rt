@@ -16,8 +16,7 @@ ghost use Rattle.iceoryx2_ports.specs.declared.errors.ClientCreateError.TheVaria
 
 use crate::client::Client;
 use crate::errors::ClientCreateError;
-use iox_control_making::NotMade;
-use iox_hub::{Hub, Options};
+use iox_hub::{Hub, NotMade, Options};
 use iox_model::kind::Role;
 use iox_store::Payload;
 use iox_types::identifiers::UniqueSystemId;

@@ -17,8 +17,7 @@ ghost use Rattle.iceoryx2_ports.specs.declared.errors.ServerCreateError.TheVaria
 
 use crate::errors::ServerCreateError;
 use crate::server::Server;
-use iox_control_making::NotMade;
-use iox_hub::{Hub, Options};
+use iox_hub::{Hub, NotMade, Options};
 use iox_model::kind::Role;
 use iox_store::Payload;
 use iox_types::identifiers::UniqueSystemId;

@@ -20,8 +20,7 @@ ghost use Rattle.iceoryx2_ports.specs.declared.errors.ReceiveError.TheVariants.{
 use crate::active_request::ActiveRequest;
 use crate::errors::{ConnectionFailure, ReceiveError};
 use crate::releases::release_port;
-use iox_control::Received;
-use iox_hub::Hub;
+use iox_hub::{Hub, Received};
 use iox_hub_laws::receive_request;
 use iox_model::kind::Kind;
 use iox_store::Payload;

@@ -10,7 +10,7 @@ use Rattle.iox_model.specs.Commands.{Refusal, Reply}
 use Rattle.iox_model.specs.Joins.{opening_refusal}
 use Rattle.iox_model.specs.Settings.{Limits}
 use Rattle.iox_model.specs.States.{State}
-use Rattle.iox_hub.specs.declared.shape.MessageShape.{MessageShape}
+use Rattle.iox_nodes.specs.MessageShape.{MessageShape}
 use Rattle.iox_model.specs.WholeCalls.{UnlessRefused}
 use Rattle.iox_openers.specs.Causes.{as_refusal, cause_of, with_cause}
 use Rattle.iox_openers.specs.Openers.{IsAsked, IsAskedOfCreator, opener}

@@ -15,9 +15,9 @@ pub use Rattle.iox_model.specs.declared.kind.Role
 pub use Rattle.iox_model.specs.declared.reply.Refusal
 pub use Rattle.iox_model.specs.declared.reply.Reply
 pub use Rattle.iox_members.specs.Steps
-pub use Rattle.iox_control.specs.Settings
-pub use Rattle.iox_hub.specs.Listings
-pub use Rattle.iox_hub.specs.Shapes
+pub use Rattle.iox_nodes.specs.Settings
+pub use Rattle.iox_nodes.specs.Listings
+pub use Rattle.iox_nodes.specs.Shapes
 pub use Rattle.iox_openers.specs.Causes
 pub use Rattle.iox_openers.specs.Openers
 pub use Rattle.iox_nodes.specs.Given

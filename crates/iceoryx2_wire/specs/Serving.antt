@@ -14,8 +14,8 @@ use Rattle.iox_model.specs.States.{State}
 use Rattle.iox_openers.specs.Causes.{cause_of}
 use Rattle.iox_openers.specs.Openers.{IsAsked, Opener}
 use Rattle.iox_openers.specs.declared.service_description.ServiceDescription.{ServiceDescription}
-use Rattle.iox_port_commands.specs.Asking.{command_for}
-use Rattle.iox_port_commands.specs.declared.elements.Elements.{Elements}
+use Rattle.iox_nodes.specs.Asking.{command_for}
+use Rattle.iox_nodes.specs.Elements.{Elements}
 use Rattle.iox_nodes.specs.Given.{reply_given}
 
 -- a command with which an opener is lent

@@ -7,7 +7,7 @@ use crate::service::Service;
 use iox_attributes::AttributeVerificationError;
 use iox_model::command::PortCommand;
 use iox_model::reply::Reply;
-use iox_port_commands::Elements;
+use iox_nodes::Elements;
 use iox_store::Payload;
 use iox_words::Words;
 use std::alloc::Global;

@@ -1,8 +1,8 @@
 //! A service is made.
 ghost use Rattle.iox_types.specs.Details.{detail};
 ghost use Rattle.iox_types.specs.declared.type_detail.TypeVariant.TheVariants.{FixedSize};
-ghost use Rattle.iox_control.specs.Settings.{settings_of};
-ghost use Rattle.iox_hub.specs.Shapes.{shape_of};
+ghost use Rattle.iox_nodes.specs.Settings.{settings_of};
+ghost use Rattle.iox_nodes.specs.Shapes.{shape_of};
 ghost use Rattle.iox_nodes.specs.Shown.{limits_for};
 ghost use Rattle.iceoryx2_wire.specs.OwnTypes.{message_types, variant_of};
 ghost use Rattle.iceoryx2_wire.specs.OwnTypes.{request_shape, response_shape};
@@ -12,9 +12,8 @@ use crate::defaults::Defaults;
 use crate::own_types::creator_refusal;
 use crate::service::Service;
 use iox_attributes::AttributeVerificationError;
-use iox_control::Settings;
-use iox_hub::MessageShape;
 use iox_model::reply::Refusal;
+use iox_nodes::{MessageShape, Settings};
 use iox_openers::ServiceDescription;
 use iox_store::Payload;
 use iox_types::identifiers::UniqueSystemId;

@@ -6,3 +6,5 @@ pub mod Machine
 pub mod Made
 pub mod Whole
 pub mod Left
+-- of the send of a response, what crates above may cite
+pub use Rattle.iox_control_responses.proofs.Strategies

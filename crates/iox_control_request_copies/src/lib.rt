@@ -1,4 +1,5 @@
-//! The copies of requests: loan, write and send in one.
+//! The copies of requests: loan, write and send in one. It passes on the other sends of a hub's
+//! tables.
 #![tactic(auto)]
 
 mod copied;
@@ -9,3 +10,6 @@ pub mod uses;
 
 pub use copied::Copied;
 pub use copying::copy_request;
+pub use iox_control_copies::{Answered, copy_response};
+pub use iox_control_requests::{ByStrategy, Requested, send_request};
+pub use iox_control_responses::{Responded, fails_when_full, send_response};

@@ -25,7 +25,7 @@ use Rattle.iox_control_lending.specs.declared.asked.Asked.{Asked}
 use Rattle.iox_control_lending.specs.declared.asked.Loaned.{Loaned}
 use Rattle.iox_control_lending.specs.declared.asked.Place.{Place}
 use Rattle.iox_control_lending.specs.Lends.{IsAskedOf, on_lane}
-use Rattle.iox_control_requests.specs.Requests.{ways_of, with_request_sent}
+use Rattle.iox_control_request_copies.specs.Requests.{ways_of, with_request_sent}
 use Rattle.iox_control_request_copies.specs.declared.copied.Copied.{Copied}
 use Rattle.iox_control_request_copies.specs.declared.copied.Copied.TheVariants.{To, Refused, OutOfMemory, ExceedsMaxActiveRequests, UnableToDeliver}
 use Rattle.iox_control_request_copies.specs.Copies.{AreFailuresOf, Copies, IsLentAndSent, IsLost, given_after_copy, handle_of_loan, loan_of, reply_of_copy, to_fill}

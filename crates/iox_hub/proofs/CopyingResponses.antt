@@ -18,14 +18,14 @@ use Rattle.iox_tables.specs.HubStates.States.{Given, fixed_of, limits_of, state_
 use Rattle.iox_tables.specs.HubStates.Tables.{HandleState, HubTables, PortState, port_in}
 use Rattle.iox_tables.specs.HubStates.Wirings.{handle_in}
 use Rattle.iox_control.specs.Controls.{ControlState, IsControl}
-use Rattle.iox_control_copies.specs.declared.answered.Answered.{Answered}
-use Rattle.iox_control_copies.specs.declared.answered.Answered.TheVariants.{Done, Refused, OutOfMemory, Undelivered}
-use Rattle.iox_control_copies.specs.Answers.{Answers, IsInLine, IsLost, given_after_copy, reply_of_copy, with_copy_sent}
+use Rattle.iox_control_request_copies.specs.Answered.{Answered}
+use Rattle.iox_control_request_copies.specs.Answered.TheVariants.{Done, Refused, OutOfMemory, Undelivered}
+use Rattle.iox_control_request_copies.specs.Answers.{Answers, IsInLine, IsLost, given_after_copy, reply_of_copy, with_copy_sent}
 use Rattle.iox_control_lending.specs.declared.asked.Asked.{Asked}
 use Rattle.iox_control_lending.specs.declared.asked.Loaned.{Loaned}
 use Rattle.iox_control_lending.specs.declared.asked.Place.{Place}
 use Rattle.iox_control_lending.specs.Lends.{IsAskedOf, IsLoaned, lane_by, on_lane}
-use Rattle.iox_control_responses.specs.Responses.{IsFailure, way_to_client}
+use Rattle.iox_control_request_copies.specs.Responses.{IsFailure, way_to_client}
 use Rattle.iox_hub.specs.Copying.{LeavesAnswered, asked_of_copy, copied_stored, hub_with_copies, place_of}
 use Rattle.iox_hub.specs.Fits.{WordsFit, are_requests_in, count_in, longest_in}
 use Rattle.iox_hub.specs.Hubs.{HubState, IsHub, given_by, state_of_hub, with_control}

@@ -35,12 +35,12 @@ use Rattle.iox_control.specs.declared.received.Received.TheVariants as received
 use Rattle.iox_control.specs.Replies.{reply_of_receive}
 use Rattle.iox_control_releasing.specs.Endings.{given_up_as, own_way, with_ended}
 use Rattle.iox_control_releasing.specs.Named.{IsHeldPort}
-use Rattle.iox_control_requests.specs.declared.requested.Requested.{Requested}
-use Rattle.iox_control_requests.specs.declared.requested.Requested.TheVariants.{To, ExceedsMaxActiveRequests, UnableToDeliver}
-use Rattle.iox_control_requests.specs.Requests.{ways_of, with_request_sent, with_requests_back}
-use Rattle.iox_control_requests.specs.Sendings.{with_lost_released, with_request_ended}
-use Rattle.iox_control_requests.specs.Servers.{request_ways}
-use Rattle.iox_control_responses.specs.Responses.{is_shut, way_to_client, with_response_ended, with_response_sent, with_way_emptied}
+use Rattle.iox_control_request_copies.specs.Requested.{Requested}
+use Rattle.iox_control_request_copies.specs.Requested.TheVariants.{To, ExceedsMaxActiveRequests, UnableToDeliver}
+use Rattle.iox_control_request_copies.specs.Requests.{ways_of, with_request_sent, with_requests_back}
+use Rattle.iox_control_request_copies.specs.Sendings.{with_lost_released, with_request_ended}
+use Rattle.iox_control_request_copies.specs.Servers.{request_ways}
+use Rattle.iox_control_request_copies.specs.Responses.{is_shut, way_to_client, with_response_ended, with_response_sent, with_way_emptied}
 use Rattle.iox_hub.specs.Hubs.{HubState, IsHub, with_control}
 use Rattle.iox_hub.specs.Keeping.{IsNew, IsOther, Keeps, KeepsAll, KeepsOthers}
 use Rattle.iox_hub.specs.Sending.{with_words_left}

@@ -18,12 +18,12 @@ use Rattle.iox_tables.proofs.HubBooks.Release.{each_left}
 use Rattle.iox_tables.proofs.HubBooks.Used.{handle_is}
 use Rattle.iox_hub_delivering.proofs.Counted.{gives_bare}
 use Rattle.iox_control_releasing.specs.Goings.{KeptPools}
-use Rattle.iox_control_requests.specs.declared.requested.Requested.{Requested}
-use Rattle.iox_control_requests.specs.declared.requested.Requested.TheVariants.{To, ExceedsMaxActiveRequests, UnableToDeliver}
-use Rattle.iox_control_requests.specs.Requests.{ways_of, with_request_sent, with_requests_back}
-use Rattle.iox_control_requests.specs.Sendings.{with_lost_released, with_request_ended}
-use Rattle.iox_control_requests.specs.Servers.{request_ways}
-use Rattle.iox_control_responses.specs.Responses.{is_shut, way_to_client, with_response_ended, with_response_offered, with_response_sent, with_way_emptied}
+use Rattle.iox_control_request_copies.specs.Requested.{Requested}
+use Rattle.iox_control_request_copies.specs.Requested.TheVariants.{To, ExceedsMaxActiveRequests, UnableToDeliver}
+use Rattle.iox_control_request_copies.specs.Requests.{ways_of, with_request_sent, with_requests_back}
+use Rattle.iox_control_request_copies.specs.Sendings.{with_lost_released, with_request_ended}
+use Rattle.iox_control_request_copies.specs.Servers.{request_ways}
+use Rattle.iox_control_request_copies.specs.Responses.{is_shut, way_to_client, with_response_ended, with_response_offered, with_response_sent, with_way_emptied}
 use Rattle.iox_hub.specs.Fits.{SuitsHandle, WordsFit, is_of_request}
 use Rattle.iox_hub.specs.Words.{Carried}
 use Rattle.iox_hub.proofs.ReleasingFits.{fits_gone, fits_left, left_alike}

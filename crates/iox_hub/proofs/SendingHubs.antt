@@ -32,12 +32,12 @@ use Rattle.iox_tables.proofs.HubBooks.Used.{handle_is}
 use Rattle.iox_control.specs.Controls.{ControlState, IsControl}
 use Rattle.iox_control_releasing.specs.Endings.{given_up_as, with_ended}
 use Rattle.iox_control_releasing.specs.Named.{IsHeldPort, IsNamed}
-use Rattle.iox_control_requests.specs.declared.requested.Requested.{Requested}
-use Rattle.iox_control_requests.specs.declared.requested.Requested.TheVariants.{To, ExceedsMaxActiveRequests, UnableToDeliver}
-use Rattle.iox_control_requests.specs.Requests.{ways_of, with_requests_back}
-use Rattle.iox_control_requests.specs.Sendings.{IsRequest, with_lost_released, with_request_ended}
-use Rattle.iox_control_responses.specs.Responses.{IsResponse, with_response_ended, with_response_sent}
-use Rattle.iox_control_responses.proofs.Strategies.{by_strategy}
+use Rattle.iox_control_request_copies.specs.Requested.{Requested}
+use Rattle.iox_control_request_copies.specs.Requested.TheVariants.{To, ExceedsMaxActiveRequests, UnableToDeliver}
+use Rattle.iox_control_request_copies.specs.Requests.{ways_of, with_requests_back}
+use Rattle.iox_control_request_copies.specs.Sendings.{IsRequest, with_lost_released, with_request_ended}
+use Rattle.iox_control_request_copies.specs.Responses.{IsResponse, with_response_ended, with_response_sent}
+use Rattle.iox_control_request_copies.proofs.Strategies.{by_strategy}
 use Rattle.iox_hub.specs.Fits.{WordsFit}
 use Rattle.iox_hub.specs.Hubs.{HasValue, HubState, IsHub, given_by, state_of_hub, with_control}
 use Rattle.iox_hub.specs.Reads.{HasOf}

@@ -8,8 +8,8 @@ use Rattle.iox_tables.specs.HubStates.Tables.{HandleState}
 use Rattle.iox_tables.specs.HubStates.Wirings.{handle_in}
 use Rattle.iox_control_lending.specs.declared.asked.Asked.{Asked}
 use Rattle.iox_control_lending.specs.declared.asked.Place.{Place}
-use Rattle.iox_control_copies.specs.declared.answered.Answered.{Answered}
-use Rattle.iox_control_copies.specs.declared.answered.Answered.TheVariants as answered
+use Rattle.iox_control_request_copies.specs.Answered.{Answered}
+use Rattle.iox_control_request_copies.specs.Answered.TheVariants as answered
 use Rattle.iox_control_request_copies.specs.declared.copied.Copied.{Copied}
 use Rattle.iox_control_request_copies.specs.declared.copied.Copied.TheVariants as copied
 use Rattle.iox_control.specs.Controls.{ControlState}

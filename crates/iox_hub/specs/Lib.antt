@@ -12,3 +12,22 @@ pub mod Keeping
 pub mod Listings
 pub mod Fillings
 pub mod Copying
+-- what clauses of hubs cite of the calls of its tables, for the crates above
+pub use Rattle.iox_control.specs.declared.received.Received
+pub use Rattle.iox_control.specs.Replies
+pub use Rattle.iox_control.specs.Settings
+pub use Rattle.iox_control_lending.specs.declared.asked.Lent
+pub use Rattle.iox_control_lending.specs.declared.asked.LoanRefusal
+pub use Rattle.iox_control_lending.specs.Lends
+pub use Rattle.iox_control_lending.specs.Fills
+pub use Rattle.iox_control_making.specs.declared.asked.NotMade
+pub use Rattle.iox_control_making.specs.Making as MadePorts
+pub use Rattle.iox_control_questions.specs.Asking
+pub use Rattle.iox_control_releasing.specs.Goings
+pub use Rattle.iox_control_request_copies.specs.Responded
+pub use Rattle.iox_control_request_copies.specs.Responses
+pub use Rattle.iox_control_request_copies.specs.Requested
+pub use Rattle.iox_control_request_copies.specs.Sendings
+pub use Rattle.iox_control_request_copies.specs.Answered
+pub use Rattle.iox_control_request_copies.specs.Answers
+pub use Rattle.iox_control_request_copies.specs.Copies

@@ -5,8 +5,8 @@ use Rattle.iox_model.specs.declared.kind.Kind.TheVariants.{PendingResponse}
 use Rattle.iox_model.specs.Names.{is_port}
 use Rattle.iox_tables.specs.HubStates.Tables.{PoolState, pool_at}
 use Rattle.iox_tables.specs.HubLoans.Questions.{kind_in}
-use Rattle.iox_control_requests.specs.declared.requested.Requested.{Requested}
-use Rattle.iox_control_requests.specs.declared.requested.Requested.TheVariants.{To, ExceedsMaxActiveRequests, UnableToDeliver}
+use Rattle.iox_control_request_copies.specs.Requested.{Requested}
+use Rattle.iox_control_request_copies.specs.Requested.TheVariants.{To, ExceedsMaxActiveRequests, UnableToDeliver}
 use Rattle.iox_hub.specs.Hubs.{HasValue, HubState}
 use Rattle.iox_hub.specs.Words.{Carried}
 

@@ -10,7 +10,7 @@ ghost use Rattle.iox_tables.specs.HubStates.States.{Given};
 ghost use Rattle.iox_tables.specs.HubStates.Tables.{HandleState, PortState, port_in};
 ghost use Rattle.iox_tables.specs.HubStates.Wirings.{handle_in};
 ghost use Rattle.iox_tables.specs.HubLoans.Lenders.{lender_of_response};
-ghost use Rattle.iox_control_copies.specs.Answers as responses;
+ghost use Rattle.iox_control_request_copies.specs.Answers as responses;
 ghost use Rattle.iox_control_request_copies.specs.Copies as requests;
 ghost use Rattle.iox_hub.specs.Copying as spec;
 ghost use Rattle.iox_hub.specs.Copying.{HasCopied, LeavesAnswered, LeavesCopied, asked_of_copy};
@@ -20,11 +20,8 @@ ghost use Rattle.iox_hub.specs.Lending.{payload_of};
 use crate::copies::{copy_request_in, copy_response_in};
 use crate::hub::Hub;
 use crate::lending::asked_of;
-use iox_control_copies::Answered;
 use iox_control_lending::Place;
-use iox_control_request_copies::Copied;
-use iox_control_requests::ByStrategy;
-use iox_control_responses::fails_when_full;
+use iox_control_request_copies::{Answered, ByStrategy, Copied, fails_when_full};
 use iox_store::Payload;
 use iox_words::Words;
 
@@ -113,7 +110,7 @@ impl<Q: Payload, QH: Words, P: Payload, PH: Words> Hub<Q, QH, P, PH> {
         };
         let fails = fails_when_full(&self.control, entry.port);
         let asked = asked_of::<P, PH>(&self.response, values.len(), false);
-        let answered = iox_control_copies::copy_response(
+        let answered = iox_control_request_copies::copy_response(
             &mut self.control,
             node,
             number,

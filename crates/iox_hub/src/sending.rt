@@ -9,15 +9,14 @@ ghost use Rattle.iox_tables.specs.HubStates.States.{Given};
 ghost use Rattle.iox_tables.specs.HubStates.Tables.{HandleState, PortState, port_in};
 ghost use Rattle.iox_tables.specs.HubStates.Wirings.{handle_in};
 ghost use Rattle.iox_control_releasing.specs.Goings.{StaysTidy};
-ghost use Rattle.iox_control_requests.specs.Sendings as requests;
-ghost use Rattle.iox_control_responses.specs.Responses as responses;
+ghost use Rattle.iox_control_request_copies.specs.Sendings as requests;
+ghost use Rattle.iox_control_request_copies.specs.Responses as responses;
 ghost use Rattle.iox_hub.specs.Hubs.{HasValue, state_of_hub, with_control};
 ghost use Rattle.iox_hub.specs.Keeping.{KeepsOthers};
 ghost use Rattle.iox_hub.specs.Sending.{HasNothing, HasSent, with_words_left};
 
 use crate::hub::Hub;
-use iox_control_requests::{ByStrategy, Requested};
-use iox_control_responses::{Responded, fails_when_full};
+use iox_control_request_copies::{ByStrategy, Requested, Responded, fails_when_full};
 use iox_store::Payload;
 use iox_words::Words;
 
@@ -45,7 +44,7 @@ impl<Q: Payload, QH: Words, P: Payload, PH: Words> Hub<Q, QH, P, PH> {
             unreachable!();
         };
         let fails = fails_when_full(&self.control, entry.port);
-        let responded = iox_control_responses::send_response(
+        let responded = iox_control_request_copies::send_response(
             &mut self.control,
             node,
             number,
@@ -85,7 +84,7 @@ impl<Q: Payload, QH: Words, P: Payload, PH: Words> Hub<Q, QH, P, PH> {
         let by = ByStrategy {
             strategy: port.strategy,
         };
-        let requested = iox_control_requests::send_request(
+        let requested = iox_control_request_copies::send_request(
             &mut self.control,
             node,
             number,

@@ -4,8 +4,7 @@ ghost use Rattle.iox_model.specs.declared.kind.Kind.TheVariants.{ActiveRequest, 
 ghost use Rattle.iox_hub.specs.Hubs.{HasValue, IsReached};
 
 use crate::Hub;
-use iox_control_copies::Answered;
-use iox_control_request_copies::Copied;
+use iox_control_request_copies::{Answered, Copied};
 use iox_store::{Many, One};
 use iox_words::Words;
 

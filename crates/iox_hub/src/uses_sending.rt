@@ -10,8 +10,7 @@ ghost use Rattle.iox_hub.specs.Sending.{HasSent};
 
 use crate::Hub;
 use iox_control_questions::{Asked, NotBegun};
-use iox_control_requests::Requested;
-use iox_control_responses::Responded;
+use iox_control_request_copies::{Requested, Responded};
 use iox_model::kind::Kind;
 use iox_store::{Many, One};
 

@@ -20,8 +20,8 @@ use Rattle.iox_tables.specs.HubStates.Receives.{way_to}
 use Rattle.iox_tables.specs.HubStates.States.{Given}
 use Rattle.iox_tables.specs.HubStates.Tables.{HandleState, HubTables}
 use Rattle.iox_tables.proofs.HubStates.Naming.{each_handle_is_named}
-use Rattle.iox_control.specs.declared.received.Received.{Received}
-use Rattle.iox_control.specs.declared.received.Received.TheVariants.{AtLimit, Handle, Nothing}
+use Rattle.iox_hub.specs.Received.{Received}
+use Rattle.iox_hub.specs.Received.TheVariants.{AtLimit, Handle, Nothing}
 use Rattle.iox_hub.specs.Hubs.{HasValue, HubState, IsHub, given_by, state_of_hub}
 use Rattle.iox_hub.specs.Reads.{message_in}
 use Rattle.iox_hub_laws.specs.Receives.{GetsOnly, TakesRequest, TakesResponse}

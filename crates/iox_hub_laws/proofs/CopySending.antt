@@ -24,9 +24,9 @@ use Rattle.iox_tables.proofs.HubBooks.Used.{handle_is}
 use Rattle.iox_tables.proofs.HubStates.Fixing.{find_port, first_key}
 use Rattle.iox_tables.proofs.HubStates.Naming.{each_handle_is_named}
 use Rattle.iox_tables.proofs.HubStates.Steps.{connected_is}
-use Rattle.iox_control_copies.specs.Answers.{reply_of_copy}
-use Rattle.iox_control_copies.specs.declared.answered.Answered.{Answered}
-use Rattle.iox_control_copies.specs.declared.answered.Answered.TheVariants as answered
+use Rattle.iox_hub.specs.Answers.{reply_of_copy}
+use Rattle.iox_hub.specs.Answered.{Answered}
+use Rattle.iox_hub.specs.Answered.TheVariants as answered
 use Rattle.iox_hub.specs.Hubs.{HasValue, HubState, IsHub, given_by, state_of_hub}
 use Rattle.iox_hub.specs.Lending.{payload_of}
 use Rattle.iox_hub.proofs.Named.{found_is_handle}

@@ -15,11 +15,11 @@ use Rattle.iox_model.specs.Settings.{shape_of}
 use Rattle.iox_model.specs.WholeCalls.{IsWholeCall}
 use Rattle.iox_laws.specs.ReplyLaws.Determined.{tells_want}
 use Rattle.iox_laws.proofs.RunPools.Laws.{no_call}
-use Rattle.iox_control_lending.specs.Lends.{refusal_of, reply_of_loan}
-use Rattle.iox_control_lending.specs.declared.asked.LoanRefusal.{LoanRefusal}
-use Rattle.iox_control_lending.specs.declared.asked.LoanRefusal.TheVariants as refusals
-use Rattle.iox_control_lending.specs.declared.asked.Lent.{Lent}
-use Rattle.iox_control_lending.specs.declared.asked.Lent.TheVariants as lents
+use Rattle.iox_hub.specs.Lends.{refusal_of, reply_of_loan}
+use Rattle.iox_hub.specs.LoanRefusal.{LoanRefusal}
+use Rattle.iox_hub.specs.LoanRefusal.TheVariants as refusals
+use Rattle.iox_hub.specs.Lent.{Lent}
+use Rattle.iox_hub.specs.Lent.TheVariants as lents
 use Rattle.iox_tables.specs.HubLoans.Counts.{requests_on_loan, responses_on_loan, responses_to}
 use Rattle.iox_tables.specs.HubLoans.Lenders.{IsActive, IsClient, count_refusal_by, is_pool_to_be_dry, lender_of_request, lender_of_response, loan_refusal, shape_in, size_refusal}
 use Rattle.iox_tables.specs.HubLoans.Loans.{loan_call}

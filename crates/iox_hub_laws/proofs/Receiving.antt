@@ -20,9 +20,9 @@ use Rattle.iox_model.specs.Receives.{pending_ways, server_ways, visiting}
 use Rattle.iox_model.specs.States as m
 use Rattle.iox_model.specs.WholeCalls.{IsWholeCall}
 use Rattle.iox_laws.proofs.RunLaws.Received.{requests_are_named, responses_name_their_request}
-use Rattle.iox_control.specs.declared.received.Received.{Received}
-use Rattle.iox_control.specs.declared.received.Received.TheVariants.{Handle, Nothing, AtLimit}
-use Rattle.iox_control.specs.Replies.{reply_of_receive}
+use Rattle.iox_hub.specs.Received.{Received}
+use Rattle.iox_hub.specs.Received.TheVariants.{Handle, Nothing, AtLimit}
+use Rattle.iox_hub.specs.Replies.{reply_of_receive}
 use Rattle.iox_tables.specs.HubLoans.Questions.{kind_by, kind_in, kind_of_role}
 use Rattle.iox_tables.specs.HubStates.Releases.{lane_of}
 use Rattle.iox_tables.specs.HubStates.States.{Given, port_of}

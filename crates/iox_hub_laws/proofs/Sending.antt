@@ -24,12 +24,12 @@ use Rattle.iox_tables.specs.HubStates.Wirings.{handle_in}
 use Rattle.iox_tables.proofs.HubStates.Fixing.{roles_are}
 use Rattle.iox_tables.proofs.HubStates.Naming.{each_handle_is_named}
 use Rattle.iox_tables.proofs.HubStates.Steps.{connected_is}
-use Rattle.iox_control_requests.specs.Sendings as requests
-use Rattle.iox_control_requests.specs.declared.requested.Requested.{Requested}
-use Rattle.iox_control_requests.specs.declared.requested.Requested.TheVariants.{To, ExceedsMaxActiveRequests, UnableToDeliver}
-use Rattle.iox_control_responses.specs.Responses as responses
-use Rattle.iox_control_responses.specs.declared.responded.Responded.{Responded}
-use Rattle.iox_control_responses.specs.declared.responded.Responded.TheVariants.{Done, Undelivered}
+use Rattle.iox_hub.specs.Sendings as requests
+use Rattle.iox_hub.specs.Requested.{Requested}
+use Rattle.iox_hub.specs.Requested.TheVariants.{To, ExceedsMaxActiveRequests, UnableToDeliver}
+use Rattle.iox_hub.specs.Responses as responses
+use Rattle.iox_hub.specs.Responded.{Responded}
+use Rattle.iox_hub.specs.Responded.TheVariants.{Done, Undelivered}
 use Rattle.iox_hub.specs.Hubs.{HasValue, HubState, IsHub, given_by, state_of_hub}
 use Rattle.iox_hub.proofs.Named.{found_is_handle}
 use Rattle.iox_hub_laws.specs.Arrivals.{IsSentOn}

@@ -26,9 +26,9 @@ use Rattle.iox_laws.specs.CallFunctions.Searches.{received, received_from, visit
 use Rattle.iox_laws.specs.MessageLaws.Lists.{IsOneOf}
 use Rattle.iox_laws.proofs.ReplyLaws.Plainly.{receives_answer_plainly}
 use Rattle.iox_laws.proofs.WeaveLaws.MapLemmas.{eqb-refl}
-use Rattle.iox_control.specs.declared.received.Received.{Received}
-use Rattle.iox_control.specs.declared.received.Received.TheVariants.{Handle, Nothing, AtLimit}
-use Rattle.iox_control.specs.Replies.{reply_of_receive}
+use Rattle.iox_hub.specs.Received.{Received}
+use Rattle.iox_hub.specs.Received.TheVariants.{Handle, Nothing, AtLimit}
+use Rattle.iox_hub.specs.Replies.{reply_of_receive}
 use Rattle.iox_lanes.specs.Lanes.{LaneState}
 use Rattle.iox_lanes.specs.Pipes.{PipeState}
 use Rattle.iox_tables.specs.HubStates.Receives.{way_to, ways_to}

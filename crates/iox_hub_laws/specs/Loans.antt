@@ -12,9 +12,9 @@ use Rattle.iox_tables.specs.HubStates.Releases.{request_of}
 use Rattle.iox_tables.specs.HubStates.States.{Given}
 use Rattle.iox_tables.specs.HubStates.Tables.{HandleState, HubTables, PortState, port_in}
 use Rattle.iox_tables.specs.HubStates.Wirings.{handle_in}
-use Rattle.iox_control_lending.specs.Lends.{reply_of_loan}
-use Rattle.iox_control_lending.specs.declared.asked.Lent.{Lent}
-use Rattle.iox_control_lending.specs.declared.asked.Lent.TheVariants as lents
+use Rattle.iox_hub.specs.Lends.{reply_of_loan}
+use Rattle.iox_hub.specs.Lent.{Lent}
+use Rattle.iox_hub.specs.Lent.TheVariants as lents
 use Rattle.iox_hub.specs.Hubs.{HubState, given_by}
 use Rattle.iox_hub_laws.specs.Shown.{nothing_given, shown}
 

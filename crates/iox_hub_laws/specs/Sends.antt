@@ -16,12 +16,12 @@ use Rattle.iox_tables.specs.HubStates.States.{port_of}
 use Rattle.iox_tables.specs.HubStates.Steps.{is_there}
 use Rattle.iox_tables.specs.HubStates.Tables.{HandleState, PortState, port_in}
 use Rattle.iox_tables.specs.HubStates.Wirings.{handle_in, numbers_of_role}
-use Rattle.iox_control_copies.specs.declared.answered.Answered.{Answered}
-use Rattle.iox_control_copies.specs.declared.answered.Answered.TheVariants as answered
-use Rattle.iox_control_requests.specs.declared.requested.Requested.{Requested}
-use Rattle.iox_control_requests.specs.declared.requested.Requested.TheVariants.{To, ExceedsMaxActiveRequests, UnableToDeliver}
-use Rattle.iox_control_responses.specs.declared.responded.Responded.{Responded}
-use Rattle.iox_control_responses.specs.declared.responded.Responded.TheVariants.{Done, Undelivered}
+use Rattle.iox_hub.specs.Answered.{Answered}
+use Rattle.iox_hub.specs.Answered.TheVariants as answered
+use Rattle.iox_hub.specs.Requested.{Requested}
+use Rattle.iox_hub.specs.Requested.TheVariants.{To, ExceedsMaxActiveRequests, UnableToDeliver}
+use Rattle.iox_hub.specs.Responded.{Responded}
+use Rattle.iox_hub.specs.Responded.TheVariants.{Done, Undelivered}
 use Rattle.iox_hub.specs.Hubs.{HubState, given_by}
 use Rattle.iox_hub_laws.specs.Arrivals.{IsSentOn}
 use Rattle.iox_hub_laws.specs.Shown.{handle_of, nothing_given, shown}

@@ -11,8 +11,8 @@ use Rattle.iox_tables.specs.HubStates.Receives.{way_to}
 use Rattle.iox_tables.specs.HubStates.Releases.{lane_of, request_of}
 use Rattle.iox_tables.specs.HubStates.Tables.{HandleState, HubTables}
 use Rattle.iox_tables.specs.HubStates.Wirings.{handle_in}
-use Rattle.iox_control.specs.declared.received.Received.{Received}
-use Rattle.iox_control.specs.declared.received.Received.TheVariants.{Handle, Nothing, AtLimit}
+use Rattle.iox_hub.specs.Received.{Received}
+use Rattle.iox_hub.specs.Received.TheVariants.{Handle, Nothing, AtLimit}
 use Rattle.iox_hub.specs.Hubs.{HubState}
 use Rattle.iox_hub_laws.specs.Shown.{shown}
 

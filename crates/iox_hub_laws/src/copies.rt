@@ -5,16 +5,14 @@ ghost use Rattle.iox_model.specs.declared.kind.Kind.TheVariants.{ActiveRequest, 
 ghost use Rattle.iox_model.specs.declared.kind.Role.TheVariants as roles;
 ghost use Rattle.iox_model.specs.WholeCalls.{IsWholeCall};
 ghost use Rattle.iox_tables.specs.HubStates.States.{Given};
-ghost use Rattle.iox_control_copies.specs.Answers as responses;
-ghost use Rattle.iox_control_request_copies.specs.Copies as requests;
+ghost use Rattle.iox_hub.specs.Answers as responses;
+ghost use Rattle.iox_hub.specs.Copies as requests;
 ghost use Rattle.iox_hub.specs.Copying.{HasCopied, LeavesAnswered, LeavesCopied};
 ghost use Rattle.iox_hub.specs.Hubs.{HasValue, state_of_hub};
 ghost use Rattle.iox_hub.specs.Lending.{payload_of};
 ghost use Rattle.iox_hub_laws.specs.Sends.{BringsOnly, BringsResponseCopy};
 
-use iox_control_copies::Answered;
-use iox_control_request_copies::Copied;
-use iox_hub::Hub;
+use iox_hub::{Answered, Copied, Hub};
 use iox_store::Payload;
 use iox_words::Words;
 

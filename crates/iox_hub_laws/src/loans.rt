@@ -5,15 +5,14 @@ ghost use Rattle.iox_model.specs.declared.kind.Role.TheVariants as roles;
 ghost use Rattle.iox_model.specs.WholeCalls.{IsWholeCall};
 ghost use Rattle.iox_tables.specs.HubLoans.Loans.{loan_call};
 ghost use Rattle.iox_tables.specs.HubStates.States.{Given};
-ghost use Rattle.iox_control_lending.specs.Lends.{reply_of_loan};
+ghost use Rattle.iox_hub.specs.Lends.{reply_of_loan};
 ghost use Rattle.iox_hub.specs.Hubs.{HasValue, state_of_hub};
 ghost use Rattle.iox_hub.specs.Lending.{HasLent, LeavesLent};
 ghost use Rattle.iox_hub_laws.specs.Loans.{AnswersOfClient, AnswersOfRequest};
 ghost use Rattle.iox_hub_laws.specs.Loans.{LendsWithinLimits, RespondsWithinLimits};
 ghost use Rattle.iox_hub_laws.specs.Sends.{NothingComes};
 
-use iox_control_lending::Lent;
-use iox_hub::Hub;
+use iox_hub::{Hub, Lent};
 use iox_store::Payload;
 use iox_words::Words;
 

@@ -5,13 +5,12 @@ ghost use Rattle.iox_model.specs.declared.kind.Kind.TheVariants.{ActiveRequest, 
 ghost use Rattle.iox_model.specs.declared.kind.Kind.TheVariants.{Response, Server};
 ghost use Rattle.iox_model.specs.WholeCalls.{IsWholeCall};
 ghost use Rattle.iox_tables.specs.HubStates.States.{Given};
-ghost use Rattle.iox_control.specs.Replies.{reply_of_receive};
+ghost use Rattle.iox_hub.specs.Replies.{reply_of_receive};
 ghost use Rattle.iox_hub.specs.Hubs.{HasReceived, HasValue, state_of_hub, with_control};
 ghost use Rattle.iox_hub_laws.specs.Receives.{GetsOnly, TakesRequest, TakesResponse};
 ghost use Rattle.iox_hub_laws.specs.Waiting.{WaitedFor, WaitedForPending, client_in, server_of};
 
-use iox_control::Received;
-use iox_hub::Hub;
+use iox_hub::{Hub, Received};
 use iox_store::Payload;
 use iox_words::Words;
 

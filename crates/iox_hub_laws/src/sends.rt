@@ -6,18 +6,16 @@ ghost use Rattle.iox_model.specs.WholeCalls.{IsWholeCall};
 ghost use Rattle.iox_tables.specs.HubStates.States.{Given};
 ghost use Rattle.iox_tables.specs.HubStates.Tables.{HandleState};
 ghost use Rattle.iox_tables.specs.HubStates.Wirings.{handle_in};
-ghost use Rattle.iox_control_releasing.specs.Goings.{StaysTidy};
-ghost use Rattle.iox_control_requests.specs.Sendings as requests;
-ghost use Rattle.iox_control_responses.specs.Responses as responses;
+ghost use Rattle.iox_hub.specs.Goings.{StaysTidy};
+ghost use Rattle.iox_hub.specs.Sendings as requests;
+ghost use Rattle.iox_hub.specs.Responses as responses;
 ghost use Rattle.iox_hub.specs.Hubs.{HasValue, state_of_hub, with_control};
 ghost use Rattle.iox_hub.specs.Keeping.{KeepsOthers};
 ghost use Rattle.iox_hub.specs.Reads.{message_in};
 ghost use Rattle.iox_hub.specs.Sending.{HasNothing, HasSent, with_words_left};
 ghost use Rattle.iox_hub_laws.specs.Sends.{BringsOnly, BringsRequest, BringsResponse};
 
-use iox_control_requests::Requested;
-use iox_control_responses::Responded;
-use iox_hub::Hub;
+use iox_hub::{Hub, Requested, Responded};
 use iox_store::Payload;
 use iox_words::Words;
 

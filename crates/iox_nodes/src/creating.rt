@@ -4,14 +4,13 @@ ghost use Rattle.iox_types.specs.Identifiers.{is_node_id};
 ghost use Rattle.iox_model.specs.Defaults.{follow};
 ghost use Rattle.iox_model.specs.Runs.{created, is_too_large};
 ghost use Rattle.iox_model.specs.Settings.{Shape};
-ghost use Rattle.iox_control.specs.Settings.{settings_of};
+ghost use Rattle.iox_hub.specs.Settings.{settings_of};
 ghost use Rattle.iox_hub.specs.Shapes.{HaveParts, shape_of};
 ghost use Rattle.iox_nodes.specs.Shown.{limits_for, service_of};
 ghost use Rattle.iox_nodes.specs.Served.{IsCreated};
 
 use crate::service::Service;
-use iox_control::Settings;
-use iox_hub::{Hub, MessageShape};
+use iox_hub::{Hub, MessageShape, Settings};
 use iox_members::Members;
 use iox_model::reply::Refusal;
 use iox_store::Payload;

@@ -12,4 +12,6 @@ mod service;
 mod serving;
 pub mod uses;
 
+pub use iox_hub::{MessageShape, Part, Settings};
+pub use iox_port_commands::Elements;
 pub use service::Service;

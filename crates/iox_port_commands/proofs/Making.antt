@@ -9,9 +9,9 @@ use Rattle.iox_model.specs.declared.reply.Reply.TheVariants.{Refused}
 use Rattle.iox_model.specs.Commands.{Create, Options}
 use Rattle.iox_model.specs.Makings.{IsHubCommand}
 use Rattle.iox_tables.specs.HubStates.States.{Given}
-use Rattle.iox_control_making.specs.declared.asked.NotMade.{NotMade}
-use Rattle.iox_control_making.specs.declared.asked.NotMade.TheVariants.{DataSegment}
-use Rattle.iox_control_making.specs.Making.{refusal_of}
+use Rattle.iox_hub.specs.NotMade.{NotMade}
+use Rattle.iox_hub.specs.NotMade.TheVariants.{DataSegment}
+use Rattle.iox_hub.specs.MadePorts.{refusal_of}
 use Rattle.iox_hub.specs.Hubs.{HubState, state_of_hub}
 use Rattle.iox_port_commands.specs.Applying.{LacksMemory}
 use Rattle.iox_port_commands.specs.Asking.{options_for}

@@ -2,26 +2,21 @@
 ghost use Rattle.std.specs.Prelude.{◌≡◌, IfOk, OnErr, false};
 ghost use Rattle.iox_model.specs.declared.reply.Reply.TheVariants.{Refused};
 ghost use Rattle.iox_model.specs.Makings.{port_reply};
-ghost use Rattle.iox_control.specs.Replies.{reply_of_receive};
-ghost use Rattle.iox_control_copies.specs.Answers as responses;
-ghost use Rattle.iox_control_lending.specs.Fills.{reply_of_write};
-ghost use Rattle.iox_control_lending.specs.Lends.{refusal_of as loan_refusal, reply_of_loan};
-ghost use Rattle.iox_control_making.specs.declared.asked.NotMade.TheVariants.{DataSegment};
-ghost use Rattle.iox_control_making.specs.Making.{refusal_of as making_refusal};
-ghost use Rattle.iox_control_questions.specs.Asking.{refusal_of};
-ghost use Rattle.iox_control_request_copies.specs.Copies as requests;
-ghost use Rattle.iox_control_requests.specs.Sendings as request_sends;
-ghost use Rattle.iox_control_responses.specs.Responses as response_sends;
+ghost use Rattle.iox_hub.specs.Replies.{reply_of_receive};
+ghost use Rattle.iox_hub.specs.Answers as responses;
+ghost use Rattle.iox_hub.specs.Fills.{reply_of_write};
+ghost use Rattle.iox_hub.specs.Lends.{refusal_of as loan_refusal, reply_of_loan};
+ghost use Rattle.iox_hub.specs.NotMade.TheVariants.{DataSegment};
+ghost use Rattle.iox_hub.specs.MadePorts.{refusal_of as making_refusal};
+ghost use Rattle.iox_hub.specs.Asking.{refusal_of};
+ghost use Rattle.iox_hub.specs.Copies as requests;
+ghost use Rattle.iox_hub.specs.Sendings as request_sends;
+ghost use Rattle.iox_hub.specs.Responses as response_sends;
 ghost use Rattle.iox_port_commands.specs.Telling.{IsTheReply, tells_want};
 
-use iox_control::Received;
-use iox_control_copies::Answered;
-use iox_control_lending::{Lent, LoanRefusal, Written};
-use iox_control_making::NotMade;
-use iox_control_questions::NotBegun;
-use iox_control_request_copies::Copied;
-use iox_control_requests::Requested;
-use iox_control_responses::Responded;
+use iox_hub::{
+    Answered, Copied, Lent, LoanRefusal, NotBegun, NotMade, Received, Requested, Responded, Written,
+};
 use iox_model::kind::Role;
 use iox_model::reply::{PortReply, Refusal};
 use std::alloc::AllocError;

@@ -3,14 +3,13 @@ ghost use Rattle.std.specs.Prelude.{◌≡◌, ◌<◌, ◌^◌, IfErr, IfOk, On
 ghost use Rattle.iox_model.specs.Commands.{Call, number_of};
 ghost use Rattle.iox_model.specs.Names.{suits};
 ghost use Rattle.iox_model.specs.WholeCalls.{is_counted};
-ghost use Rattle.iox_control_questions.specs.Asking.{asked_of, call_of};
+ghost use Rattle.iox_hub.specs.Asking.{asked_of, call_of};
 ghost use Rattle.iox_hub.specs.Hubs.{HasValue};
 ghost use Rattle.iox_port_commands.specs.Applying.{IsCalled};
 ghost use Rattle.iox_port_commands.specs.Telling.{tells_want};
 
 use crate::answers::not_begun;
-use iox_control_questions::Asked;
-use iox_hub::Hub;
+use iox_hub::{Asked, Hub};
 use iox_model::kind::Kind;
 use iox_model::reply::PortReply;
 use iox_store::Payload;

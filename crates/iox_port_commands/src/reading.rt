@@ -8,8 +8,7 @@ ghost use Rattle.iox_port_commands.specs.Telling.{tells_want};
 
 use crate::begins::{NOWHERE, begin};
 use crate::word_lists::words_of;
-use iox_control_questions::Asked;
-use iox_hub::Hub;
+use iox_hub::{Asked, Hub};
 use iox_model::kind::Kind;
 use iox_model::reply::PortReply;
 use iox_store::Payload;

@@ -6,7 +6,7 @@ use Rattle.iox_model.specs.declared.kind.Kind.TheVariants.{ActiveRequest}
 use Rattle.iox_model.specs.declared.kind.Role.TheVariants.{Client, Server}
 use Rattle.iox_model.specs.Handles.{has}
 use Rattle.iox_model.specs.States.{State}
-use Rattle.iox_hub.specs.Lending.{payload_of}
+use Rattle.iox_nodes.specs.Lending.{payload_of}
 use Rattle.iox_session.specs.Answers.{payload_given}
 
 one_word_each : (ws : List ℕ) → flat_map one_word ws ≡ ws

@@ -25,7 +25,7 @@ use Rattle.iox_nodes.specs.Given.{command_given}
 use Rattle.iox_nodes.specs.Memory.{IsAnsweredWithMemory, IsDoneWithMemory, MayFindNoMemory, MayLackMemory}
 use Rattle.iox_nodes.specs.Shown.{ServiceTables, service_of}
 use Rattle.iox_nodes.proofs.Reaching.{limits_stay}
-use Rattle.iox_port_commands.specs.declared.elements.Elements.{Elements}
+use Rattle.iox_nodes.specs.Elements.{Elements}
 use Rattle.iox_script.specs.Grammar.{options_of}
 use Rattle.iox_script.specs.Commands.{Options, ServiceCommand, ServiceReply}
 use Rattle.iox_session.specs.Answers.{command_asked, no_cause, options_given, reply_given}

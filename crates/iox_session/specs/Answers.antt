@@ -10,7 +10,7 @@ use Rattle.iox_model.specs.Commands as machine
 use Rattle.iox_model.specs.Commands.{Cause, Command, Payload, Reply}
 use Rattle.iox_model.specs.Handles.{has}
 use Rattle.iox_model.specs.States.{State}
-use Rattle.iox_hub.specs.Lending.{payload_of}
+use Rattle.iox_nodes.specs.Lending.{payload_of}
 use Rattle.iox_openers.specs.Causes.{with_cause}
 use Rattle.iox_script.specs.Commands.{Options, ServiceCommand, ServiceReply}
 

@@ -4,16 +4,15 @@ ghost use Rattle.iox_words.specs.Numbers.{no_word, one_word};
 ghost use Rattle.iox_model.specs.Makings.{is_large};
 ghost use Rattle.iox_model.specs.Settings.{has_layout, message_size};
 ghost use Rattle.iox_model.specs.Defaults.{words};
-ghost use Rattle.iox_control.specs.Settings.{settings_of};
-ghost use Rattle.iox_hub.specs.Shapes.{HaveParts, shape_of};
+ghost use Rattle.iox_nodes.specs.Settings.{settings_of};
+ghost use Rattle.iox_nodes.specs.Shapes.{HaveParts, shape_of};
 ghost use Rattle.iox_nodes.specs.Shown.{limits_for};
 ghost use Rattle.iox_script.specs.Grammar.{options_of};
 ghost use Rattle.iox_session.specs.Answers.{options_given};
 ghost use Rattle.iox_session.specs.Limits.{limits_with};
 
-use iox_control::Settings;
-use iox_hub::{MessageShape, Part};
 use iox_model::kind::Role;
+use iox_nodes::{MessageShape, Part, Settings};
 use iox_types::{AllocationStrategy, BackpressureStrategy};
 
 /// The most messages that a client needs: two on loan, four active, and at each of two servers

@@ -18,8 +18,7 @@ ghost use Rattle.iceoryx2_ports.specs.Payloads.{reply_of_put};
 ghost use Rattle.iceoryx2_ports.specs.Reaching.{KeepsRoom};
 
 use super::RequestMut;
-use iox_control_lending::Written;
-use iox_hub::Hub;
+use iox_hub::{Hub, Written};
 use iox_store::{One, Payload};
 use iox_words::Words;
 

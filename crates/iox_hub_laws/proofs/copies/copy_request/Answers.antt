@@ -1,6 +1,6 @@
 use Rattle.std.specs.Prelude.{flat_map, length}
 use Rattle.iox_model.specs.declared.kind.Role.TheVariants.{Client}
-use Rattle.iox_control_request_copies.specs.Copies as replies
+use Rattle.iox_hub.specs.Copies as replies
 use Rattle.iox_hub.specs.Lending.{payload_of}
 use Rattle.iox_hub_laws.proofs.BringsOnly.{copy_brings_only}
 use Rattle.iox_hub_laws.proofs.copies.copy_request.Goals as goal

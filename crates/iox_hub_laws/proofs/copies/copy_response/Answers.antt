@@ -1,6 +1,6 @@
 use Rattle.std.specs.Prelude.{flat_map, length}
 use Rattle.iox_model.specs.declared.kind.Role.TheVariants.{Server}
-use Rattle.iox_control_copies.specs.Answers as replies
+use Rattle.iox_hub.specs.Answers as replies
 use Rattle.iox_hub.specs.Lending.{payload_of}
 use Rattle.iox_hub_laws.proofs.BringsOnly.{copy_brings_only}
 use Rattle.iox_hub_laws.proofs.CopySending.{brings_response_copy}

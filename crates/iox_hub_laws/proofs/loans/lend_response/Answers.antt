@@ -1,4 +1,4 @@
-use Rattle.iox_control_lending.specs.Lends.{reply_of_loan}
+use Rattle.iox_hub.specs.Lends.{reply_of_loan}
 use Rattle.iox_hub_laws.proofs.BringsOnly.{loan_brings_nothing}
 use Rattle.iox_hub_laws.proofs.Lending.{answers_of_request, responds_within_limits}
 use Rattle.iox_hub_laws.proofs.loans.lend_response.Goals as goal

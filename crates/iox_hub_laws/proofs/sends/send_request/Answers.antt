@@ -1,6 +1,6 @@
 use Rattle.std.specs.Prelude.{refl}
 use Rattle.iox_model.specs.declared.kind.Kind.TheVariants.{RequestMut}
-use Rattle.iox_control_requests.specs.Sendings as requests
+use Rattle.iox_hub.specs.Sendings as requests
 use Rattle.iox_hub_laws.proofs.BringsOnly.{send_brings_only}
 use Rattle.iox_hub_laws.proofs.Sending.{brings_request}
 use Rattle.iox_hub_laws.proofs.sends.send_request.Goals as goal

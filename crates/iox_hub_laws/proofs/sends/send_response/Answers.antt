@@ -1,6 +1,6 @@
 use Rattle.std.specs.Prelude.{refl}
 use Rattle.iox_model.specs.declared.kind.Kind.TheVariants.{ResponseMut}
-use Rattle.iox_control_responses.specs.Responses as responses
+use Rattle.iox_hub.specs.Responses as responses
 use Rattle.iox_hub_laws.proofs.BringsOnly.{send_brings_only}
 use Rattle.iox_hub_laws.proofs.Sending.{brings_response}
 use Rattle.iox_hub_laws.proofs.sends.send_response.Goals as goal

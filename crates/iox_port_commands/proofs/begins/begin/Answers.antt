@@ -1,5 +1,5 @@
 use Rattle.iox_model.specs.declared.reply.Reply.TheVariants.{Refused}
-use Rattle.iox_control_questions.specs.Asking.{refusal_of}
+use Rattle.iox_hub.specs.Asking.{refusal_of}
 use Rattle.iox_port_commands.proofs.Calling.{called}
 use Rattle.iox_port_commands.proofs.begins.begin.Goals as goal
 

@@ -1,7 +1,7 @@
 use Rattle.std.specs.Prelude.{flat_map, length}
 use Rattle.iox_model.specs.declared.call.Call.TheVariants.{SendCopy}
 use Rattle.iox_model.specs.declared.kind.Role.TheVariants as roles
-use Rattle.iox_control_copies.specs.Answers.{reply_of_copy}
+use Rattle.iox_hub.specs.Answers.{reply_of_copy}
 use Rattle.iox_hub.specs.Lending.{payload_of}
 use Rattle.iox_port_commands.proofs.Calling.{called}
 use Rattle.iox_port_commands.proofs.copies.copy_response.Goals as goal

@@ -1,5 +1,5 @@
 use Rattle.iox_model.specs.declared.call.Call.TheVariants.{Loan}
-use Rattle.iox_control_lending.specs.Lends.{reply_of_loan}
+use Rattle.iox_hub.specs.Lends.{reply_of_loan}
 use Rattle.iox_port_commands.proofs.Calling.{called}
 use Rattle.iox_port_commands.proofs.lending.loan.Goals as goal
 

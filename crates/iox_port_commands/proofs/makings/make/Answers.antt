@@ -3,7 +3,7 @@ use Rattle.std.proofs.Common.{ap₂, subst, sym, ◌∙◌}
 use Rattle.std.proofs.lemmas.Result.{IfOk-weaker, on_err_weaker}
 use Rattle.iox_model.specs.declared.reply.Reply.TheVariants.{Refused}
 use Rattle.iox_model.specs.Commands.{Create, HubCommand}
-use Rattle.iox_control_making.specs.Making.{refusal_of}
+use Rattle.iox_hub.specs.MadePorts.{refusal_of}
 use Rattle.iox_port_commands.specs.Applying.{IsReplied, LacksMemory}
 use Rattle.iox_port_commands.specs.Asking.{options_for}
 use Rattle.iox_port_commands.specs.Telling.{IsTheReply}

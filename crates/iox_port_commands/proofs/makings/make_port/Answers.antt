@@ -2,7 +2,7 @@ use Rattle.std.proofs.lemmas.Result.{IfOk-weaker, on_err_weaker}
 use Rattle.iox_model.specs.declared.reply.Reply.TheVariants.{Refused}
 use Rattle.iox_model.specs.Commands.{Create}
 use Rattle.iox_model.specs.Makings.{port_reply}
-use Rattle.iox_control_making.specs.Making.{refusal_of}
+use Rattle.iox_hub.specs.MadePorts.{refusal_of}
 use Rattle.iox_hub.specs.Making.{options_of}
 use Rattle.iox_port_commands.specs.Applying.{IsReplied}
 use Rattle.iox_port_commands.specs.Telling.{IsTheReply}

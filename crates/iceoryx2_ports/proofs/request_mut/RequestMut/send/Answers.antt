@@ -3,7 +3,7 @@ use Rattle.std.proofs.Common.{subst}
 use Rattle.iox_hub_laws.specs.Sends.{BringsOnly}
 use Rattle.iox_model.specs.declared.call.Call.TheVariants.{Send}
 use Rattle.iox_model.specs.declared.kind.Kind.TheVariants.{RequestMut}
-use Rattle.iox_control_requests.specs.Sendings.{reply_of_send}
+use Rattle.iox_hub.specs.Sendings.{reply_of_send}
 use Rattle.iceoryx2_ports.proofs.Aside.{loan_asks_as_always}
 use Rattle.iceoryx2_ports.proofs.Reaching.{send_brings_one, send_reaches}
 use Rattle.iceoryx2_ports.proofs.request_mut.RequestMut.send.Goals as goal

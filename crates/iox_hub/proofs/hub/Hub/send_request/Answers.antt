@@ -4,7 +4,7 @@ use Rattle.iox_model.specs.declared.call.Call.TheVariants.{Send}
 use Rattle.iox_model.specs.Settings.{fails_by_strategy}
 use Rattle.iox_tables.specs.HubStates.Tables.{HandleState}
 use Rattle.iox_control.specs.Entries.{handle_state}
-use Rattle.iox_control_requests.specs.Sendings.{reply_of_send, request_outcome}
+use Rattle.iox_control_request_copies.specs.Sendings.{reply_of_send, request_outcome}
 use Rattle.iox_control_releasing.specs.Goings.{StaysTidy}
 use Rattle.iox_hub.specs.Hubs.{HubState}
 use Rattle.iox_hub.proofs.Named.{found_is_handle}

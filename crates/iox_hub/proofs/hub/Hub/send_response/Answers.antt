@@ -4,7 +4,7 @@ use Rattle.std.proofs.lemmas.Option.{same_Some}
 use Rattle.iox_model.specs.declared.call.Call.TheVariants.{Send}
 use Rattle.iox_tables.specs.HubStates.Tables.{HandleState}
 use Rattle.iox_control.specs.Entries.{handle_state}
-use Rattle.iox_control_responses.specs.Responses.{reply_of_send, response_reply, way_to_client}
+use Rattle.iox_control_request_copies.specs.Responses.{reply_of_send, response_reply, way_to_client}
 use Rattle.iox_control_releasing.specs.Goings.{StaysTidy}
 use Rattle.iox_hub.specs.Hubs.{HubState}
 use Rattle.iox_hub.proofs.Named.{found_is_handle}

@@ -1,7 +1,7 @@
 use Rattle.std.specs.Prelude.{None, Ok, Err}
 use Rattle.std.specs.declared.convert.Infallible.{Infallible}
 use Rattle.std.proofs.Common.{ap₂, subst, ◌∙◌}
-use Rattle.iox_control.specs.Settings.{settings_of}
+use Rattle.iox_nodes.specs.Settings.{settings_of}
 use Rattle.iox_nodes.specs.Served.{IsCreated}
 use Rattle.iox_nodes.specs.Shown.{limits_for}
 use Rattle.iox_session.proofs.Starting.{made_is_limited}
