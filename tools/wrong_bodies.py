@@ -31,6 +31,8 @@ for its proof does not fit.
     the round is halved. An edit at which the compiler finds an error leaves its round.
   - What is still proved is then tried in a round of its own, and what could not be told by rt's own must_fail().
 Where each edit of a crate is of one body, the edited functions and what they call are checked, and no others.
+Right after rt ci, which proved the crate, no check of it without edits comes first: the first round has an edit of each function, and
+each round goes on over what those before it kept. Else the crate is checked as it stands, and rounds come side by side.
 Tried singly from the start is an edit of anything but one body: of two bodies, a constant, a type, a signature, a clause, a
 file of specs/ or proofs/, a test or a macro; of the body of a const fn, of one in a cycle of calls, or of one with items in it.
 

@@ -42,6 +42,8 @@ class Checkout:
         shutil.copytree(f"{root}/crates", f"{top}/crates", ignore=leaves_out)
         shutil.copy(f"{root}/crates.txt", top)
         self.crates = {it.name: it for it in kit.rt.rtlib.crates_below(top)}
+        # The crates that rt ci has just proved, where all libraries that are wanted are of it.
+        self.of_ci = self.made_by_ci()
 
     def edits_of(self, name):
         """Returns the crate's edits, and the files that are none."""
@@ -58,25 +60,25 @@ class Checkout:
             linked(f"{of}/out/{part}", to)
             any(map(os.close, held))
 
-    def made_by_ci(self, libraries):
-        """Whether out/ holds the libraries as rt ci makes them: with no stamp, and each newer than its text and the libraries below."""
+    def made_by_ci(self):
+        """Returns the crates that out/ holds as rt ci makes libraries: with no stamp, and each newer than its text and the libraries below."""
         newest = {}
-        for it in libraries:
+        for it in sorted(self.crates.values(), key=lambda it: len(it.below())):
             at = f"{self.root}/crates/{it.name}"
             made = times(at, ["out/rlib"])
             texts = [os.lstat(f"{self.root}/crates.txt").st_mtime, *times(at, ["src", "specs", "proofs"])]
-            below = [newest.get(dep.name, 0) for dep in it.below()]
-            if not made or os.path.exists(f"{at}/out/rlib/stamp") or min(made) < max(texts + below):
-                return False
-            newest[it.name] = max(made)
-        return True
+            below = [newest.get(dep.name) for dep in it.below()]
+            if made and all(below) and not os.path.exists(f"{at}/out/rlib/stamp") and min(made) >= max(texts + below):
+                newest[it.name] = max(made)
+        return {*newest}
 
     def make_libraries(self, libraries):
         """Finds or builds the libraries. Returns, by name, why one is not there."""
-        if self.made_by_ci(libraries):
+        if all(it.name in self.of_ci for it in libraries):
             for it in libraries:
                 self.link(it, "rlib")
             return {}
+        self.of_ci = set()
         made = {}
         with ThreadPoolExecutor(len(libraries) or 1) as pool:
             for it in libraries:
@@ -101,12 +103,12 @@ class Checkout:
     def try_crate(self, name, edits, lost, is_single):
         """Tries the edits of one crate, prints their verdicts, and returns how many were refused, and how many not."""
         start, crate = time.time(), self.crates[name]
-        trial = Trial(self.kit, crate, f"{crate.folder}/out/incremental", edits, self.slots)
+        trial = Trial(self.kit, crate, f"{crate.folder}/out/incremental", edits, self.slots, name in self.of_ci)
         why = next((lost[it.name] for it in crate.below() if it.name in lost), None)
         if not why:
             self.link(crate, "incremental")
             os.makedirs(trial.kept, exist_ok=True)
-            why = trial.check_clean(is_single)
+            why = trial.begin(is_single)
         if not why:
             trial.run(is_single)
         shutil.rmtree(trial.kept, ignore_errors=True)

@@ -87,12 +87,16 @@ def self_test(kit):
         os.makedirs(os.path.dirname(f"{root}/{path}"), exist_ok=True)
         with open(f"{root}/{path}", "w", encoding="utf-8") as it:
             it.write(text)
-    # All of them, and then those alone of which each is of one body.
-    is_well = True
-    for names in ([*EDITS], [it for it in EDITS if it != "5_does_not_apply"]):
-        for it in {*EDITS} - {*names}:
-            os.remove(f"{root}/crates/tiny/wrong-bodies/{it}.edit")
-        is_well = is_as_wanted(kit, root, names) and is_well
+    # All of them, then those alone of which each is of one body, and then those that compile, as after rt ci.
+    is_well, left = True, [*EDITS]
+    for without in ("", "5_does_not_apply", "3_no_rust"):
+        if without:
+            left.remove(without)
+            os.remove(f"{root}/crates/tiny/wrong-bodies/{without}.edit")
+        if without == "3_no_rust":
+            os.makedirs(f"{root}/crates/tiny/out/rlib")
+            open(f"{root}/crates/tiny/out/rlib/format", "w").close()
+        is_well = is_as_wanted(kit, root, left) and is_well
     print("self-test ok" if is_well else "self-test FAILED: these are not the verdicts that are wanted")
     return 0 if is_well else 1
 

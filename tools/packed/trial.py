@@ -58,14 +58,26 @@ def linked(of, to):
     shutil.copytree(of, to, copy_function=link)
 
 
-class Trial:
-    """The trial of one crate's edits, over the work that kept holds."""
+def is_in(places, edit, file, line):
+    """Whether the line is of the edit's function."""
+    return places[edit][0] == file and int(line) in places[edit][1]
 
-    def __init__(self, kit, crate, kept, edits, slots):
-        self.kit, self.crate, self.kept, self.edits, self.slots = kit, crate, kept, edits, slots
+
+class Trial:
+    """The trial of one crate's edits, over the work that kept holds. Where rt ci has just proved the crate (is_proved), no function is
+    proved without an edit but for those that an edited one calls: rounds come one after another, each over what those before it kept."""
+
+    def __init__(self, kit, crate, kept, edits, slots, is_proved):
+        self.kit, self.crate, self.kept, self.edits, self.slots, self.is_proved = kit, crate, kept, edits, slots, is_proved
         self.rounds, self.alone, self.need = 0, 0, kit.rt.need(crate)
         self.weight = crate.count(rb"\n") + 300 * len(edits)
         self.functions = Functions(kit, crate)
+
+    def check(self, texts, flags):
+        """Checks the crate with these texts, and keeps the work. Returns what the check printed, and its status."""
+        with self.slots.taken(self.weight, self.need):
+            ran = self.kit.rt.checked(self.crate, texts, flags, self.kept)
+        return ran.stdout, ran.returncode
 
     def over_copy(self, call, *given, flags=FLAGS):
         """Calls with a copy of the kept work, so that no check sees another's."""
@@ -73,24 +85,53 @@ class Trial:
             linked(self.kept, f"{folder}/kept")
             return call(self.crate, *given, flags, f"{folder}/kept")
 
-    def check_clean(self, is_single):
-        """Checks the crate as it stands: where each edit is of one body, the edited functions and what they call, and else all of it.
-        Returns why nothing can be tried, or None."""
+    def begin(self, is_single):
+        """Finds the edits' functions and how a check names them. Returns why nothing can be tried, or None."""
         for it in self.edits if not is_single else []:
             self.functions.place(it)
         paths = [it.function and self.functions.path_of(it.function) for it in self.edits]
-        parts = [(only(paths), r"^only=")] if all(paths) else []
-        for flags, ends in [*parts, (FLAGS, r"^logic=proved ")]:
-            with self.slots.taken(self.weight, self.need):
-                ran = self.kit.rt.checked(self.crate, {}, flags, self.kept)
-            if ran.returncode or not re.search(ends, ran.stdout, re.M):
+        parts = only(paths) if all(paths) else None
+        if parts and self.is_proved and self.try_first(parts):
+            return None
+        return self.check_clean(parts)
+
+    def try_first(self, parts):
+        """Tries an edit of each function in one check, whose rows name the functions. Returns whether it told them."""
+        first = in_rounds(self.edits)[0]
+        texts, places = self.functions.written(first)
+        said, _ = self.check(texts, parts)
+        rows = reads.rows_of(said)
+        if not rows or self.functions.name(self.edits, rows, False) or self.errors(said, rows, texts) or self.strange(rows, first):
+            return False
+        self.rounds += 1
+        for it in first:
+            if all(it is other or it.goes_with(other) for other in first):
+                self.judge(it, rows, places)
+        return True
+
+    def check_clean(self, parts):
+        """Checks the crate as it stands: where each edit is of one body, the edited functions and what they call, and else all of it.
+        Returns why nothing can be tried, or None."""
+        for flags, ends in [*([(parts, r"^only=")] if parts else []), (FLAGS, r"^logic=proved ")]:
+            said, status = self.check({}, flags)
+            if status or not re.search(ends, said, re.M):
                 continue
-            lost = self.functions.name(self.edits, reads.rows_of(ran.stdout), flags == FLAGS)
+            lost = self.functions.name(self.edits, reads.rows_of(said), flags == FLAGS)
             if not lost or flags == FLAGS:
                 for it in lost:
                     it.function = None
                 return None
-        return f"the crate itself is not proved: {' / '.join(ran.stdout.rstrip().splitlines()[-3:])[:300]}"
+        return f"the crate itself is not proved: {' / '.join(said.rstrip().splitlines()[-3:])[:300]}"
+
+    def errors(self, said, rows, texts):
+        """Returns the places of compile errors. Beside verdicts one still shows where the prover cannot read an edited text."""
+        return [it.groups() for it in map(reads.ERROR.match, said.split("\n")) if it and (not rows or self.kit.rt.unread(it.string, texts))]
+
+    @staticmethod
+    def strange(rows, edits):
+        """Returns the functions that fell for goals of their own, though no edit of the round is in them."""
+        edited = {symbol for it in edits for symbol in it.symbols}
+        return [it for it, row in rows.items() if it not in edited and reads.FELL.match(row.words) and row.goals]
 
     def try_round(self, edits):
         """Checks these edits at once, and settles each as far as the check tells."""
@@ -98,17 +139,16 @@ class Trial:
             return
         self.rounds += 1
         texts, places = self.functions.written(edits)
-        said = self.over_copy(self.kit.rt.checked, texts, flags=only(self.functions.shown(edits))).stdout
-        is_in = lambda edit, file, line: places[edit][0] == file and int(line) in places[edit][1]
-        rows, edited = reads.rows_of(said), {symbol for it in edits for symbol in it.symbols}
-        # (beside verdicts an error still shows where the prover cannot read an edited text)
-        errors = [found for found in map(reads.ERROR.match, said.split("\n")) if found and (not rows or self.kit.rt.unread(found.string, texts))]
-        wrong = [it for it in edits if any(is_in(it, *error.groups()) for error in errors)]
+        flags = only(self.functions.shown(edits))
+        said = self.check(texts, flags)[0] if self.is_proved else self.over_copy(self.kit.rt.checked, texts, flags=flags).stdout
+        rows = reads.rows_of(said)
+        errors = self.errors(said, rows, texts)
+        wrong = [it for it in edits if any(is_in(places, it, *error) for error in errors)]
         for it in wrong:
             it.settle(UNTOLD, "the compiler finds an error in it")
         if wrong:
             return self.try_round([it for it in edits if it not in wrong])
-        strange = [it for it, row in rows.items() if it not in edited and reads.FELL.match(row.words) and row.goals]
+        strange = self.strange(rows, edits)
         if errors or not rows or strange:
             edits[0].settle(UNTOLD, f"the round came to no verdict {strange[:1]}")
             half = len(edits) // 2
@@ -117,7 +157,10 @@ class Trial:
                 self.try_round(edits[half:])
             return
         for edit in edits:
-            self.settle(edit, rows, lambda goal: not goal.file or is_in(edit, goal.file, goal.line))
+            self.judge(edit, rows, places)
+
+    def judge(self, edit, rows, places):
+        self.settle(edit, rows, lambda goal: not goal.file or is_in(places, edit, goal.file, goal.line))
 
     @staticmethod
     def settle(edit, rows, is_own):
@@ -157,8 +200,8 @@ class Trial:
 
     def run(self, is_single):
         """Tries all edits: in rounds, and then singly what no round refused."""
-        left = [it for it in self.edits if it.function and not is_single]
-        with ThreadPoolExecutor(self.slots.limit) as pool:
+        left = [it for it in self.edits if it.function and not is_single and it.verdict in ("", WAITS)]
+        with ThreadPoolExecutor(1 if self.is_proved else self.slots.limit) as pool:
             while len(left) > 1:
                 rounds = in_rounds(left)
                 tell(f"{self.crate.name}: {len(left)} edits in {len(rounds)} rounds")
