@@ -8,3 +8,5 @@ pub mod Named
 pub mod Sent
 pub mod Machine
 pub mod Whole
+-- of the send of a response, what crates above may cite
+pub use Rattle.iox_control_responses.proofs.Strategies

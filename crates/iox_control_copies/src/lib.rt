@@ -11,3 +11,4 @@ pub mod uses;
 
 pub use answered::Answered;
 pub use copying::copy_response;
+pub use iox_control_responses::{Responded, fails_when_full, send_response};

@@ -7,4 +7,4 @@ pub mod Made
 pub mod Whole
 pub mod Left
 -- of the send of a response, what crates above may cite
-pub use Rattle.iox_control_responses.proofs.Strategies
+pub use Rattle.iox_control_copies.proofs.Strategies

@@ -1,7 +1,7 @@
 pub mod Copies
 -- what clauses cite of the other sends, for the crates above
-pub use Rattle.iox_control_responses.specs.declared.responded.Responded
-pub use Rattle.iox_control_responses.specs.Responses
+pub use Rattle.iox_control_copies.specs.Responded
+pub use Rattle.iox_control_copies.specs.Responses
 pub use Rattle.iox_control_requests.specs.declared.requested.Requested
 pub use Rattle.iox_control_requests.specs.Requests
 pub use Rattle.iox_control_requests.specs.Sendings

@@ -10,6 +10,5 @@ pub mod uses;
 
 pub use copied::Copied;
 pub use copying::copy_request;
-pub use iox_control_copies::{Answered, copy_response};
+pub use iox_control_copies::{Answered, Responded, copy_response, fails_when_full, send_response};
 pub use iox_control_requests::{ByStrategy, Requested, send_request};
-pub use iox_control_responses::{Responded, fails_when_full, send_response};

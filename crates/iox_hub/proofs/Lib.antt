@@ -1,6 +1,6 @@
 pub mod GoesOn
 pub mod Named
-pub mod Received
+pub mod ReceivedValues
 pub mod Starting
 pub mod Shaping
 pub mod Fitting

@@ -4,7 +4,7 @@ use Rattle.iox_hub.proofs.Fitting.{fits_request}
 use Rattle.iox_hub.proofs.GoesOn.{hub_goes_on, whole_of_hub}
 use Rattle.iox_hub.proofs.KeepingCalls.{got_is_new, request_keeps}
 use Rattle.iox_hub.proofs.Named.{server_of_hub}
-use Rattle.iox_hub.proofs.Received.{request_is_value}
+use Rattle.iox_hub.proofs.ReceivedValues.{request_is_value}
 use Rattle.iox_tables.specs.HubStates.Receives.{visits_at, wanted_by_server}
 use Rattle.iox_hub.proofs.hub.Hub.receive_request.Goals as goal
 

@@ -3,7 +3,7 @@ use Rattle.iox_control.specs.Replies.{reply_of_receive}
 use Rattle.iox_hub.proofs.Fitting.{fits_response}
 use Rattle.iox_hub.proofs.GoesOn.{hub_goes_on, whole_of_hub}
 use Rattle.iox_hub.proofs.Named.{pending_of_hub}
-use Rattle.iox_hub.proofs.Received.{response_is_value}
+use Rattle.iox_hub.proofs.ReceivedValues.{response_is_value}
 use Rattle.iox_lanes.specs.declared.wanted.Wanted.TheVariants.{Of}
 use Rattle.iox_tables.specs.HubStates.Receives.{visits_at}
 use Rattle.iox_tables.specs.HubStates.Tables.{labels_of}
