@@ -1,7 +1,7 @@
 #!/usr/bin/env python3
 """Tries wrong bodies on the crates of this repository, many in one check.
 
-usage: wrong_bodies.py [--must-fail | --dir FOLDER] [--jobs N] [--single] [CRATE ..]
+usage: wrong_bodies.py [--must-fail | --dir FOLDER] [--jobs N] [--minutes N] [--single] [CRATE ..]
        wrong_bodies.py --self-test
 
 Run it at the top of the checkout. For each crate that is named, or else for each that has any, it takes the edits
@@ -15,11 +15,14 @@ must fall. One line is printed for each edit, and last 'N passed, M failed':
   CRATE/EDIT: PROVED (survives)         failed: the crate is still proved with this edit, so a contract is too weak
   CRATE/EDIT: not judged: WHY           failed: it does not apply, is no Rust, is refused for no goal, or its verdict could
                                         not be told
+  CRATE/EDIT: not tried: ..             skipped: no time was left (--minutes)
 
 A GOAL ends in 'the facts known there allow values at which this goal is false' where the prover found such values. The status
 is 0 if all passed, 1 if not, and 2 if nothing could be tried.
 
 --jobs N runs N checks side by side (one a processor if left out; each takes 1 to 2 GB, and none starts that has no room).
+--minutes N starts no further check after so many minutes, but for the first one of each crate, and these come before all others. The last
+line then ends in ', K skipped'.
 --single tries each edit singly, to compare.
 
 How it works. Callers see a function by its contract alone, so an edit of one body leaves the goals of all other functions as
@@ -71,6 +74,7 @@ def main():
     words.add_argument("--dir", default="wrong-bodies")
     words.add_argument("--must-fail", dest="dir", action="store_const", const="must-fail")
     words.add_argument("--jobs", type=int, default=0)
+    words.add_argument("--minutes", type=float, default=float("inf"))
     words.add_argument("--single", action="store_true")
     words.add_argument("--self-test", action="store_true")
     words.add_argument("crates", nargs="*")
@@ -79,7 +83,7 @@ def main():
     try:
         if given.self_test:
             return self_test(kit)
-        return try_checkout(kit, os.getcwd(), given.crates, given.dir, given.jobs, given.single)
+        return try_checkout(kit, os.getcwd(), given.crates, given.dir, given.jobs, given.single, given.minutes)
     finally:
         shutil.rmtree(tempfile.tempdir, ignore_errors=True)
 

@@ -12,7 +12,7 @@ from concurrent.futures import ThreadPoolExecutor
 
 from packed.edits import Edit
 from packed.kit import stop, tell
-from packed.said import REFUSED, UNTOLD
+from packed.said import REFUSED, UNTOLD, UNTRIED
 from packed.trial import FLAGS, Slots, Trial, linked
 
 # How an edit's file is named, as rt wants it of those in must-fail/. A .md file beside them is only to be read.
@@ -22,6 +22,10 @@ NAME = re.compile(r"[A-Za-z0-9_-][A-Za-z0-9_.-]*\.edit")
 def processor():
     """Returns the processor time of all checks so far, in seconds."""
     return sum(resource.getrusage(resource.RUSAGE_CHILDREN)[:2])
+
+
+def skipped(late):
+    return f", {late} skipped" if late else ""
 
 
 def times(folder, parts):
@@ -101,7 +105,7 @@ class Checkout:
         return None
 
     def try_crate(self, name, edits, lost, is_single):
-        """Tries the edits of one crate, prints their verdicts, and returns how many were refused, and how many not."""
+        """Tries the edits of one crate, prints their verdicts, and returns how many were refused, how many not, and how many were not tried."""
         start, crate = time.time(), self.crates[name]
         trial = Trial(self.kit, crate, f"{crate.folder}/out/incremental", edits, self.slots, name in self.of_ci)
         why = next((lost[it.name] for it in crate.below() if it.name in lost), None)
@@ -117,10 +121,10 @@ class Checkout:
                 if why:
                     it.settle(UNTOLD, why)
                 print(f"{name}/{it.name}: {it.verdict}{' ' * bool(it.where)}{it.where}{': ' * bool(it.said)}{it.said[:300]}", flush=True)
-        passed = sum(it.verdict == REFUSED for it in edits)
+        passed, late = (sum(it.verdict == wanted for it in edits) for wanted in (REFUSED, UNTRIED))
         what = f"{len(edits)} edits, {trial.rounds} rounds and {trial.alone} single checks in {time.time() - start:.0f} s"
-        tell(f"{name}: {passed} passed, {len(edits) - passed} failed; {what}")
-        return passed, len(edits) - passed
+        tell(f"{name}: {passed} passed, {len(edits) - passed - late} failed{skipped(late)}; {what}")
+        return passed, len(edits) - passed - late, late
 
     def try_all(self, names, is_single):
         """Tries the edits of these crates, or else of all, and returns the status."""
@@ -139,13 +143,13 @@ class Checkout:
             counts = [it.result() for it in tried]
         for it in bad:
             print(f"{it}: not judged: an edit's name is of letters, digits, _, - and . and ends in .edit", flush=True)
-        passed, failed = sum(it[0] for it in counts), sum(it[1] for it in counts) + len(bad)
+        passed, failed, late = map(sum, zip(*counts))
         tell(f"all checks took {processor() / 60:.1f} processor minutes")
-        print(f"{passed} passed, {failed} failed", flush=True)
-        return 1 if failed else 0
+        print(f"{passed} passed, {failed + len(bad)} failed{skipped(late)}", flush=True)
+        return 1 if failed or bad else 0
 
 
-def try_checkout(kit, root, names, folder, jobs, is_single):
+def try_checkout(kit, root, names, folder, jobs, is_single, minutes=float("inf")):
     """Tries the edits of a checkout's crates, and returns the status."""
-    slots = Slots(jobs or kit.rt.processors(), 0.85 * kit.rt.free())
+    slots = Slots(jobs or kit.rt.processors(), 0.85 * kit.rt.free(), time.monotonic() + 60 * minutes)
     return Checkout(kit, root, folder, slots).try_all(names, is_single)

@@ -2,7 +2,7 @@
 import collections
 import re
 
-REFUSED, WEAK, PROVED, UNTOLD, WAITS = "refused", "WEAK", "PROVED (survives)", "not judged", "waits"
+REFUSED, WEAK, PROVED, UNTOLD, WAITS, UNTRIED = "refused", "WEAK", "PROVED (survives)", "not judged", "waits", "not tried"
 # A line for each item. The item's open goals stand above it.
 ROW = re.compile(r"(fn|impl|struct|enum|trait) ([^\s:]+(?:::[^\s:]+)+): (.*)")
 FELL = re.compile(r"not proved|no proof")

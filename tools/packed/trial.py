@@ -6,12 +6,13 @@ import re
 import shutil
 import tempfile
 import threading
+import time
 from concurrent.futures import ThreadPoolExecutor
 
 from packed import said as reads
 from packed.edits import Functions
 from packed.kit import tell
-from packed.said import PROVED, REFUSED, UNTOLD, WAITS, WEAK
+from packed.said import PROVED, REFUSED, UNTOLD, UNTRIED, WAITS, WEAK
 
 FLAGS = ["--jobs", "1"]
 
@@ -21,24 +22,31 @@ def only(names):
     return [*FLAGS, *(word for it in sorted({*names}) for word in ("--only", it))]
 
 
-class Slots:
-    """Lets as many checks run at a time as there are processors and memory for, those of the crate with most to do first."""
+class NoTime(Exception):
+    """No time is left for a check."""
 
-    def __init__(self, limit, memory):
-        self.limit, self.memory, self.running, self.turn = limit, memory, 0, 0
+
+class Slots:
+    """Lets as many checks run at a time as there are processors and memory for: first checks before others, and of these those of
+    the crate with most to do. After the time until none starts but first ones."""
+
+    def __init__(self, limit, memory, until):
+        self.limit, self.memory, self.until, self.running, self.turn = limit, memory, until, 0, 0
         self.free, self.queue = threading.Condition(), []
 
     @contextlib.contextmanager
-    def taken(self, weight, need):
+    def taken(self, weight, need, is_first=False):
         with self.free:
             self.turn += 1
-            mine = (-weight, self.turn)
+            mine = (not is_first, -weight, self.turn)
             heapq.heappush(self.queue, mine)
             fits = lambda: self.running < self.limit and (need <= self.memory or not self.running)
             self.free.wait_for(lambda: self.queue[0] == mine and fits())
             heapq.heappop(self.queue)
-            self.running, self.memory = self.running + 1, self.memory - need
             self.free.notify_all()
+            if not is_first and time.monotonic() > self.until:
+                raise NoTime
+            self.running, self.memory = self.running + 1, self.memory - need
         try:
             yield
         finally:
@@ -73,9 +81,9 @@ class Trial:
         self.weight = crate.count(rb"\n") + 300 * len(edits)
         self.functions = Functions(kit, crate)
 
-    def check(self, texts, flags):
+    def check(self, texts, flags, is_first=False):
         """Checks the crate with these texts, and keeps the work. Returns what the check printed, and its status."""
-        with self.slots.taken(self.weight, self.need):
+        with self.slots.taken(self.weight, self.need, is_first):
             ran = self.kit.rt.checked(self.crate, texts, flags, self.kept)
         return ran.stdout, ran.returncode
 
@@ -99,7 +107,7 @@ class Trial:
         """Tries an edit of each function in one check, whose rows name the functions. Returns whether it told them."""
         first = in_rounds(self.edits)[0]
         texts, places = self.functions.written(first)
-        said, _ = self.check(texts, parts)
+        said, _ = self.check(texts, parts, is_first=True)
         rows = reads.rows_of(said)
         if not rows or self.functions.name(self.edits, rows, False) or self.errors(said, rows, texts) or self.strange(rows, first):
             return False
@@ -113,7 +121,7 @@ class Trial:
         """Checks the crate as it stands: where each edit is of one body, the edited functions and what they call, and else all of it.
         Returns why nothing can be tried, or None."""
         for flags, ends in [*([(parts, r"^only=")] if parts else []), (FLAGS, r"^logic=proved ")]:
-            said, status = self.check({}, flags)
+            said, status = self.check({}, flags, is_first=True)
             if status or not re.search(ends, said, re.M):
                 continue
             lost = self.functions.name(self.edits, reads.rows_of(said), flags == FLAGS)
@@ -205,13 +213,27 @@ class Trial:
             while len(left) > 1:
                 rounds = in_rounds(left)
                 tell(f"{self.crate.name}: {len(left)} edits in {len(rounds)} rounds")
-                list(pool.map(self.try_round, rounds))
+                list(pool.map(self.in_time(self.try_round), rounds))
                 waiting = [it for it in left if it.verdict == WAITS]
                 left = waiting if len(waiting) < len(left) else []
-            alone = [it for it in self.edits if it.verdict not in (REFUSED, WEAK)]
+            alone = [it for it in self.edits if it.verdict not in (REFUSED, WEAK, UNTRIED)]
             if alone:
                 tell(f"{self.crate.name}: {len(alone)} edits singly")
-            list(pool.map(self.try_alone, alone))
+            list(pool.map(self.in_time(lambda those: self.try_alone(those[0])), [[it] for it in alone]))
+
+    @staticmethod
+    def in_time(call):
+        """Returns a call that settles the edits of which it tells nothing since no time is left."""
+
+        def tried(edits):
+            try:
+                call(edits)
+            except NoTime:
+                for it in edits:
+                    if it.verdict not in (REFUSED, WEAK):
+                        it.settle(UNTRIED, "no time was left")
+
+        return tried
 
 
 def in_rounds(edits):
