@@ -20,15 +20,17 @@ use Rattle.iox_nodes.specs.Served.{IsCreated, IsJoin}
 use Rattle.iox_nodes.specs.Shown.{ServiceTables}
 use Rattle.iox_nodes.specs.Shown as nodes
 use Rattle.iceoryx2_wire.specs.Services.{DescribedService, IsMade, IsOpened}
+use Rattle.iceoryx2_wire.specs.declared.identity.ServiceIdentity.{ServiceIdentity}
 
--- a service with this description and these nodes
-abbrev with_nodes : ServiceDescription → ServiceTables → DescribedService
-with_nodes d v = record { description = d; nodes = v }
+-- that service with this description and these nodes
+abbrev with_nodes : ServiceIdentity → ServiceDescription → ServiceTables → DescribedService
+with_nodes i d v = record { identity = i; description = d; nodes = v }
 
-pub made_so : (l : Limits) (own : MessageTypes) (d : ServiceDescription) (id : UniqueSystemId) (v : ServiceTables)
+pub made_so : (l : Limits) (own : MessageTypes) (i : ServiceIdentity) (d : ServiceDescription) (id : UniqueSystemId) (v : ServiceTables)
     (asked : Option (the_refusal.Refusal AttributeVerificationError)) → IsAskedOfCreator own d.types (as_refusal asked)
-    → IsCreated l id asked (Ok v) → IsMade l own d id (Ok (with_nodes d v))
-made_so l own d id v asked tests done = record { asked = as_refusal asked; tests = tests; creation = done cause_of; says = refl }
+    → IsCreated l id asked (Ok v) → IsMade l own i d id (Ok (with_nodes i d v))
+made_so l own i d id v asked tests done =
+    record { asked = as_refusal asked; tests = tests; creation = done cause_of; says = refl; named = refl }
 
 -- the same creation, where messages are made of these
 pub with_shapes : {C E H F G : Type 0} (l : MessageShape E H → MessageShape F G → Limits) (m m' : MessageShape E H) (n n' : MessageShape F G)
@@ -37,17 +39,18 @@ pub with_shapes : {C E H F G : Type 0} (l : MessageShape E H → MessageShape F 
 with_shapes {C = C} l m m' n n' id asked result e e' made =
     subst (λ x. IsCreated {C = C} (l x n') id asked result) e (subst (λ x. IsCreated {C = C} (l m x) id asked result) e' made)
 
-pub not_made_so : (l : Limits) (own : MessageTypes) (d : ServiceDescription) (id : UniqueSystemId) (r : the_refusal.Refusal AttributeVerificationError)
+pub not_made_so : (l : Limits) (own : MessageTypes) (i : ServiceIdentity) (d : ServiceDescription) (id : UniqueSystemId) (r : the_refusal.Refusal AttributeVerificationError)
     (asked : Option (the_refusal.Refusal AttributeVerificationError)) → IsAskedOfCreator own d.types (as_refusal asked)
-    → IsCreated l id asked (Err r) → IsMade l own d id (Err r)
-not_made_so l own d id r asked tests done = record { asked = as_refusal asked; tests = tests; creation = done cause_of; says = tt }
+    → IsCreated l id asked (Err r) → IsMade l own i d id (Err r)
+not_made_so l own i d id r asked tests done =
+    record { asked = as_refusal asked; tests = tests; creation = done cause_of; says = tt; named = tt }
 
-pub opened_so : (d : ServiceDescription) (v w : ServiceTables) (types : MessageTypes) (required : Requirements) (id : UniqueSystemId)
+pub opened_so : (i : ServiceIdentity) (d : ServiceDescription) (v w : ServiceTables) (types : MessageTypes) (required : Requirements) (id : UniqueSystemId)
     (asked : Option (the_refusal.Refusal AttributeVerificationError)) (result : Result ℕ (the_refusal.Refusal AttributeVerificationError))
     → IsAsked d (opener types required) (as_refusal asked) → IsJoin (nodes.service_of v) id asked result (nodes.service_of w)
-    → IsOpened (with_nodes d v) types required id result (with_nodes d w)
-opened_so d v w types required id asked result tests joined =
-    record { asked = as_refusal asked; tests = tests; join = joined cause_of; says = refl }
+    → IsOpened (with_nodes i d v) types required id result (with_nodes i d w)
+opened_so i d v w types required id asked result tests joined =
+    record { asked = as_refusal asked; tests = tests; join = joined cause_of; says = refl; named = refl }
 
 abbrev IsRefused : Reply → Type 0
 IsRefused (replies.Refused r) = Unit {0}
