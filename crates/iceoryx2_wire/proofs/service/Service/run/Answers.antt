@@ -65,11 +65,11 @@ loop-command-preserved g c =
           (subst
           (λ d. IsAnswered g.Q.Element.Words.words g.P.Element.Words.words g.H.Words.words d (service_of at.self) c.in-Some.command
           c.in_ok-reply.reply (service_of c.serve.new.self))
-          at.invariant.2.0 c.in_ok-reply.ensures.answered))),
+          at.invariant.2 c.in_ok-reply.ensures.answered))),
       let was = at.invariant.1 in
           let gone = c.in-Some.ensures.steps.1 in
           let short = ap length steps in
           omega arith,
-      c.in_ok-reply.ensures.says ∙ at.invariant.2.0,
-      c.in_ok-reply.ensures.identity ∙ at.invariant.2.1,
+      c.in_ok-reply.ensures.says ∙ at.invariant.2,
+      c.in_ok-reply.ensures.identity ∙ at.invariant.3,
     )

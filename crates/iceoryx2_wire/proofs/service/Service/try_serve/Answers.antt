@@ -13,3 +13,14 @@ returns-clause-answered g c =
       answered cause_of,
     ))
     c.try_serve.ensures.answered)
+
+pub returns-clause-wanting : goal.returns-clause-wanting
+returns-clause-wanting g c =
+    rw (← c.self.view_is)
+    (if_err c.try_serve.result
+    (λ wants. (
+      command_given g.Q.Element.Words.words g.P.Element.Words.words g.H.Words.words cause_of c.compared-command.result,
+      c.compared-command.ensures.given g.Q.Element.Words.words g.P.Element.Words.words g.H.Words.words,
+      wants cause_of,
+    ))
+    c.try_serve.ensures.wanting)
