@@ -1,9 +1,11 @@
 -- Creators and openers are asked what the description says, and a refused open keeps the state.
-use Rattle.std.specs.Prelude.{◌≡◌, ℕ, Option, Some, None, Result, Ok, Err, OnErr, refl}
-use Rattle.std.proofs.Common.{subst}
+use Rattle.std.specs.Prelude.{◌≡◌, ℕ, List, Option, Some, None, Result, Ok, Err, OnErr, refl}
+use Rattle.std.proofs.Common.{subst, sym}
 use Rattle.iox_types.specs.declared.identifiers.system_id.UniqueSystemId.{UniqueSystemId}
 use Rattle.iox_attributes.specs.Verifiers.{Requirements}
 use Rattle.iox_attributes.specs.declared.verification_error.AttributeVerificationError.{AttributeVerificationError}
+use Rattle.iox_model.specs.declared.command.Command.TheVariants as commands
+use Rattle.iox_model.specs.declared.command.PortCommand as the_port_command
 use Rattle.iox_model.specs.declared.reply.Refusal as the_refusal
 use Rattle.iox_model.specs.declared.reply.Reply.TheVariants as replies
 use Rattle.iox_model.specs.Commands.{Refusal, Reply}
@@ -16,10 +18,13 @@ use Rattle.iox_openers.specs.Causes.{as_refusal, cause_of, with_cause}
 use Rattle.iox_openers.specs.Openers.{IsAsked, IsAskedOfCreator, opener}
 use Rattle.iox_openers.specs.declared.message_types.MessageTypes.{MessageTypes}
 use Rattle.iox_openers.specs.declared.service_description.ServiceDescription.{ServiceDescription}
-use Rattle.iox_nodes.specs.Served.{IsCreated, IsJoin}
+use Rattle.iox_port_commands.specs.Asking.{command_for}
+use Rattle.iox_port_commands.specs.declared.elements.Elements.{Elements}
+use Rattle.iox_nodes.specs.Served.{IsCreated, IsJoin, IsPortAnswered}
 use Rattle.iox_nodes.specs.Shown.{ServiceTables}
 use Rattle.iox_nodes.specs.Shown as nodes
 use Rattle.iceoryx2_wire.specs.Services.{DescribedService, IsMade, IsOpened}
+use Rattle.iceoryx2_wire.specs.Serving.{IsAnswered, OpenCommand, OpenReply}
 use Rattle.iceoryx2_wire.specs.declared.identity.ServiceIdentity.{ServiceIdentity}
 
 -- that service with this description and these nodes
@@ -71,3 +76,14 @@ refused_keeps s s' id asked (Ok n) joined = tt
 refused_keeps s s' id asked (Err r) joined =
     kept_if (opening_refusal s id (as_refusal asked) (joined cause_of).0) (with_cause cause_of r) (replies.Node s.members.joins) s s' _
     (λ no. no) (joined cause_of).1
+
+pub if_err : {A E P Q : Type 0} (r : Result A E) → (P → Q) → OnErr r P → OnErr r Q
+if_err (Ok x) f p = tt
+if_err (Err e) f p = f p
+
+pub port_answered :
+    {Q P H Z : Type 0} (q : Q → List ℕ) (p : P → List ℕ) (w : H → List ℕ) (d : ServiceDescription) (s s' : State)
+    (command : OpenCommand Q P H) (at_port : the_port_command.PortCommand (Elements Q P) H) (reply : OpenReply Z)
+    → command ≡ commands.Port at_port → IsPortAnswered q p w s at_port reply s' → IsAnswered q p w d s command reply s'
+port_answered q p w d s s' command at_port reply is done =
+    subst (λ k. IsAnswered q p w d s k reply s') (sym is) (commands.Port (command_for q p w at_port), refl, done cause_of)

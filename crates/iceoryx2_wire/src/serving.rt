@@ -85,11 +85,25 @@ impl<Q: Payload, QH: Words, P: Payload, PH: Words> Service<Q, QH, P, PH> {
     {
         match command {
             Command::Port(command) => Ok(self.nodes.port(alloc, command)),
-            command => {
-                let command = compared(&self.description, command);
-                self.nodes.serve(alloc, command)
-            }
+            command => self.serve_compared(alloc, command),
         }
+    }
+
+    /// The same of any command, at a greater cost for one of a port or a handle.
+    fn serve_compared<H: Words>(
+        &mut self,
+        alloc: Global,
+        command: Command<Elements<Q::Element, P::Element>, H, &Opener>,
+    ) -> Result<Reply<Vec<u64>, AttributeVerificationError>, AllocError>
+        ensures answered { IfOk result (λ reply. IsAnswered Q.Element.words P.Element.words H.words
+            self.old.description (service_of self.old) command.entry reply (service_of self.new)) }
+        ensures says { self.new.description ≡ self.old.description }
+        ensures identity { self.new.identity ≡ self.old.identity }
+        ensures unchanged { OnErr result (self.new ≡ self.old) }
+        ensures listing { OnErr result (is_listing command.entry ≡ true) }
+    {
+        let command = compared(&self.description, command);
+        self.nodes.serve(alloc, command)
     }
 
     /// Answers commands one after another, and puts each reply behind the others. It ends before
