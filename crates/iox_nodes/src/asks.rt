@@ -50,7 +50,7 @@ impl<Q: Payload, QH: Words, P: Payload, PH: Words> Service<Q, QH, P, PH> {
         ensures { IsPortAnswered Q.Element.words P.Element.words H.words (service_of self.old)
             command result (service_of self.new) }
     {
-        match self.members.living(asker(&command)) {
+        match self.members.living::<C>(asker(&command)) {
             Err(refusal) => Reply::Refused(refusal),
             Ok(id) => {
                 let mut command = command;

@@ -76,7 +76,15 @@ pub(super) fn new(
     description: ServiceDescription,
     id: UniqueSystemId,
 ) -> Result<TheService, TheRefusal> {
-    TheService::create(alloc, settings, identity, description, DEFAULTS, DEFAULTS, id)
+    TheService::create(
+        alloc,
+        settings,
+        identity,
+        description,
+        DEFAULTS,
+        DEFAULTS,
+        id,
+    )
 }
 
 /// A service whose first node has the id 1 0 0 0.
