@@ -1,8 +1,8 @@
 //! A service that tells how long a text is.
 use iceoryx2_wire::{
     AllocationStrategy, AttributeKey, AttributeSpecifier, AttributeValue, AttributeVerifier,
-    BackpressureStrategy, Defaults, Many, One, Opener, Service, ServiceDescription, Settings,
-    UniqueSystemId,
+    BackpressureStrategy, Defaults, Many, One, Opener, Service, ServiceDescription,
+    ServiceIdentity, ServiceName, Settings, UniqueSystemId,
 };
 use std::alloc::Global;
 
@@ -54,7 +54,9 @@ pub fn service(alloc: Global) -> Option<Lengths> {
         element: 0,
         user_header: (),
     };
-    Lengths::create(alloc, SETTINGS, description, text, number, id(1)).ok()
+    let name = ServiceName::new("lengths").ok()?;
+    let identity = ServiceIdentity { name, number: 0 };
+    Lengths::create(alloc, SETTINGS, identity, description, text, number, id(1)).ok()
 }
 
 /// Who opens a service of texts and numbers that counts in this unit.

@@ -1,9 +1,11 @@
 -- Creators and openers are asked what the description says, and a refused open keeps the state.
-use Rattle.std.specs.Prelude.{◌≡◌, ℕ, Option, Some, None, Result, Ok, Err, OnErr, refl}
-use Rattle.std.proofs.Common.{subst}
+use Rattle.std.specs.Prelude.{◌≡◌, ℕ, List, Option, Some, None, Result, Ok, Err, OnErr, refl}
+use Rattle.std.proofs.Common.{subst, sym}
 use Rattle.iox_types.specs.declared.identifiers.system_id.UniqueSystemId.{UniqueSystemId}
 use Rattle.iox_attributes.specs.Verifiers.{Requirements}
 use Rattle.iox_attributes.specs.declared.verification_error.AttributeVerificationError.{AttributeVerificationError}
+use Rattle.iox_model.specs.declared.command.Command.TheVariants as commands
+use Rattle.iox_model.specs.declared.command.PortCommand as the_port_command
 use Rattle.iox_model.specs.declared.reply.Refusal as the_refusal
 use Rattle.iox_model.specs.declared.reply.Reply.TheVariants as replies
 use Rattle.iox_model.specs.Commands.{Refusal, Reply}
@@ -16,19 +18,24 @@ use Rattle.iox_openers.specs.Causes.{as_refusal, cause_of, with_cause}
 use Rattle.iox_openers.specs.Openers.{IsAsked, IsAskedOfCreator, opener}
 use Rattle.iox_openers.specs.declared.message_types.MessageTypes.{MessageTypes}
 use Rattle.iox_openers.specs.declared.service_description.ServiceDescription.{ServiceDescription}
-use Rattle.iox_nodes.specs.Served.{IsCreated, IsJoin}
+use Rattle.iox_nodes.specs.Asking.{command_for}
+use Rattle.iox_nodes.specs.Elements.{Elements}
+use Rattle.iox_nodes.specs.Served.{IsCreated, IsJoin, IsPortAnswered}
 use Rattle.iox_nodes.specs.Shown.{ServiceTables}
 use Rattle.iox_nodes.specs.Shown as nodes
 use Rattle.iceoryx2_wire.specs.Services.{DescribedService, IsMade, IsOpened}
+use Rattle.iceoryx2_wire.specs.Serving.{IsAnswered, OpenCommand, OpenReply}
+use Rattle.iceoryx2_wire.specs.declared.identity.ServiceIdentity.{ServiceIdentity}
 
--- a service with this description and these nodes
-abbrev with_nodes : ServiceDescription → ServiceTables → DescribedService
-with_nodes d v = record { description = d; nodes = v }
+-- that service with this description and these nodes
+abbrev with_nodes : ServiceIdentity → ServiceDescription → ServiceTables → DescribedService
+with_nodes i d v = record { identity = i; description = d; nodes = v }
 
-pub made_so : (l : Limits) (own : MessageTypes) (d : ServiceDescription) (id : UniqueSystemId) (v : ServiceTables)
+pub made_so : (l : Limits) (own : MessageTypes) (i : ServiceIdentity) (d : ServiceDescription) (id : UniqueSystemId) (v : ServiceTables)
     (asked : Option (the_refusal.Refusal AttributeVerificationError)) → IsAskedOfCreator own d.types (as_refusal asked)
-    → IsCreated l id asked (Ok v) → IsMade l own d id (Ok (with_nodes d v))
-made_so l own d id v asked tests done = record { asked = as_refusal asked; tests = tests; creation = done cause_of; says = refl }
+    → IsCreated l id asked (Ok v) → IsMade l own i d id (Ok (with_nodes i d v))
+made_so l own i d id v asked tests done =
+    record { asked = as_refusal asked; tests = tests; creation = done cause_of; says = refl; named = refl }
 
 -- the same creation, where messages are made of these
 pub with_shapes : {C E H F G : Type 0} (l : MessageShape E H → MessageShape F G → Limits) (m m' : MessageShape E H) (n n' : MessageShape F G)
@@ -37,17 +44,18 @@ pub with_shapes : {C E H F G : Type 0} (l : MessageShape E H → MessageShape F 
 with_shapes {C = C} l m m' n n' id asked result e e' made =
     subst (λ x. IsCreated {C = C} (l x n') id asked result) e (subst (λ x. IsCreated {C = C} (l m x) id asked result) e' made)
 
-pub not_made_so : (l : Limits) (own : MessageTypes) (d : ServiceDescription) (id : UniqueSystemId) (r : the_refusal.Refusal AttributeVerificationError)
+pub not_made_so : (l : Limits) (own : MessageTypes) (i : ServiceIdentity) (d : ServiceDescription) (id : UniqueSystemId) (r : the_refusal.Refusal AttributeVerificationError)
     (asked : Option (the_refusal.Refusal AttributeVerificationError)) → IsAskedOfCreator own d.types (as_refusal asked)
-    → IsCreated l id asked (Err r) → IsMade l own d id (Err r)
-not_made_so l own d id r asked tests done = record { asked = as_refusal asked; tests = tests; creation = done cause_of; says = tt }
+    → IsCreated l id asked (Err r) → IsMade l own i d id (Err r)
+not_made_so l own i d id r asked tests done =
+    record { asked = as_refusal asked; tests = tests; creation = done cause_of; says = tt; named = tt }
 
-pub opened_so : (d : ServiceDescription) (v w : ServiceTables) (types : MessageTypes) (required : Requirements) (id : UniqueSystemId)
+pub opened_so : (i : ServiceIdentity) (d : ServiceDescription) (v w : ServiceTables) (types : MessageTypes) (required : Requirements) (id : UniqueSystemId)
     (asked : Option (the_refusal.Refusal AttributeVerificationError)) (result : Result ℕ (the_refusal.Refusal AttributeVerificationError))
     → IsAsked d (opener types required) (as_refusal asked) → IsJoin (nodes.service_of v) id asked result (nodes.service_of w)
-    → IsOpened (with_nodes d v) types required id result (with_nodes d w)
-opened_so d v w types required id asked result tests joined =
-    record { asked = as_refusal asked; tests = tests; join = joined cause_of; says = refl }
+    → IsOpened (with_nodes i d v) types required id result (with_nodes i d w)
+opened_so i d v w types required id asked result tests joined =
+    record { asked = as_refusal asked; tests = tests; join = joined cause_of; says = refl; named = refl }
 
 abbrev IsRefused : Reply → Type 0
 IsRefused (replies.Refused r) = Unit {0}
@@ -68,3 +76,14 @@ refused_keeps s s' id asked (Ok n) joined = tt
 refused_keeps s s' id asked (Err r) joined =
     kept_if (opening_refusal s id (as_refusal asked) (joined cause_of).0) (with_cause cause_of r) (replies.Node s.members.joins) s s' _
     (λ no. no) (joined cause_of).1
+
+pub if_err : {A E P Q : Type 0} (r : Result A E) → (P → Q) → OnErr r P → OnErr r Q
+if_err (Ok x) f p = tt
+if_err (Err e) f p = f p
+
+pub port_answered :
+    {Q P H Z : Type 0} (q : Q → List ℕ) (p : P → List ℕ) (w : H → List ℕ) (d : ServiceDescription) (s s' : State)
+    (command : OpenCommand Q P H) (at_port : the_port_command.PortCommand (Elements Q P) H) (reply : OpenReply Z)
+    → command ≡ commands.Port at_port → IsPortAnswered q p w s at_port reply s' → IsAnswered q p w d s command reply s'
+port_answered q p w d s s' command at_port reply is done =
+    subst (λ k. IsAnswered q p w d s k reply s') (sym is) (commands.Port (command_for q p w at_port), refl, done cause_of)

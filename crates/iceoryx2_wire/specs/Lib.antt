@@ -20,9 +20,15 @@ pub use Rattle.iox_nodes.specs.Listings
 pub use Rattle.iox_nodes.specs.Shapes
 pub use Rattle.iox_openers.specs.Causes
 pub use Rattle.iox_openers.specs.Openers
+pub use Rattle.iox_nodes.specs.PortMemory
 pub use Rattle.iox_nodes.specs.Given
+pub use Rattle.iox_nodes.specs.Memory
 pub use Rattle.iox_nodes.specs.Served
 pub use Rattle.iox_nodes.specs.Shown
+pub use Rattle.iox_service_laws.specs.Messages
+pub use Rattle.iox_service_laws.specs.Limits
+pub use Rattle.iox_service_laws.specs.Gone
+pub use Rattle.iox_service_laws.specs.Asked
 pub use Rattle.iox_openers.specs.declared.message_types.MessageTypes
 pub use Rattle.iox_openers.specs.declared.service_description.ServiceDescription
 -- in reading order: a service with its description, its own messages, and its commands

@@ -19,9 +19,12 @@ use Rattle.iox_openers.specs.declared.message_types.MessageTypes.{MessageTypes}
 use Rattle.iox_openers.specs.declared.service_description.ServiceDescription.{ServiceDescription}
 use Rattle.iox_nodes.specs.Shown.{ServiceTables}
 use Rattle.iox_nodes.specs.Shown as nodes
+use Rattle.iceoryx2_wire.specs.declared.identity.ServiceIdentity.{ServiceIdentity}
 
--- What a service has: what its creator and its openers are compared with, and its nodes and ports.
+-- What a service has: which one it is, what its creator and its openers are compared with, and its
+-- nodes and ports.
 pub record DescribedService : Type 0 where
+  pub identity : ServiceIdentity
   pub description : ServiceDescription
   pub nodes : ServiceTables
 
@@ -34,11 +37,11 @@ abbrev pub made_by : {E : Type 0} → Result DescribedService E → Option State
 made_by (Ok s) = Some (service_of s)
 made_by (Err e) = None
 
--- The creation of a service with these limits and this description is answered so, where its own
+-- The creation of that service with these limits and this description is answered so, where its own
 -- messages have the types `own`: a creation of the machine, which asks of the creator what these
--- types ask. The service that is made has that description.
-pub record IsMade (l : Limits) (own : MessageTypes) (description : ServiceDescription)
-    (id : UniqueSystemId)
+-- types ask. The service that is made is that one, and has that description.
+pub record IsMade (l : Limits) (own : MessageTypes) (identity : ServiceIdentity)
+    (description : ServiceDescription) (id : UniqueSystemId)
     (result : Result DescribedService (the_refusal.Refusal AttributeVerificationError)) : Type 0
   where
     pub asked : Option Refusal
@@ -47,10 +50,11 @@ pub record IsMade (l : Limits) (own : MessageTypes) (description : ServiceDescri
         IsCreation l follow id asked (answer_in cause_of (λ s. replies.Node 0) result)
         (made_by result)
     pub says : IfOk result (λ s. s.description ≡ description)
+    pub named : IfOk result (λ s. s.identity ≡ identity)
 
 -- An open of the service by a node whose messages have these types, and that requires this, is
 -- answered so: a join of the machine, which asks what the service's description asks of such an
--- opener. The description stays.
+-- opener. It stays the same service, with the same description.
 pub record IsOpened (old : DescribedService) (types : MessageTypes) (required : Requirements)
     (id : UniqueSystemId) (result : Result ℕ (the_refusal.Refusal AttributeVerificationError))
     (new : DescribedService) : Type 0
@@ -61,3 +65,4 @@ pub record IsOpened (old : DescribedService) (types : MessageTypes) (required : 
         IsCommand (service_of old) (Join id asked) (answer_in cause_of replies.Node result)
         (service_of new)
     pub says : new.description ≡ old.description
+    pub named : new.identity ≡ old.identity

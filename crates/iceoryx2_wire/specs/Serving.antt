@@ -17,6 +17,7 @@ use Rattle.iox_openers.specs.declared.service_description.ServiceDescription.{Se
 use Rattle.iox_nodes.specs.Asking.{command_for}
 use Rattle.iox_nodes.specs.Elements.{Elements}
 use Rattle.iox_nodes.specs.Given.{reply_given}
+use Rattle.iox_nodes.specs.Memory.{IsDoneWithMemory, MayLackMemory}
 
 -- a command with which an opener is lent
 abbrev pub OpenCommand : Type 0 → Type 0 → Type 0 → Type 0
@@ -49,6 +50,21 @@ abbrev pub IsAnswered :
     → OpenCommand Q P H → OpenReply Z → State → Type 0
 IsAnswered q p words d s command reply s' =
     (c : Command) × IsGivenAs q p words d command c × IsCommand s c (reply_given cause_of reply) s'
+
+-- The same, where memory is there for the command.
+abbrev pub IsAnsweredWithMemory :
+    {Q P H Z : Type 0} → (Q → List ℕ) → (P → List ℕ) → (H → List ℕ) → ServiceDescription → State
+    → OpenCommand Q P H → OpenReply Z → State → Type 0
+IsAnsweredWithMemory q p words d s command reply s' =
+    (c : Command) × IsGivenAs q p words d command c
+    × IsDoneWithMemory s c (reply_given cause_of reply) s'
+
+-- Memory may be missing for the command.
+abbrev pub MayFindNoMemory :
+    {Q P H : Type 0} → (Q → List ℕ) → (P → List ℕ) → (H → List ℕ) → ServiceDescription → State
+    → OpenCommand Q P H → Type 0
+MayFindNoMemory q p words d s command =
+    (c : Command) × IsGivenAs q p words d command c × MayLackMemory s c
 
 -- the lists are as long as each other, and what stands in the same place is so related
 abbrev pub Correspond : {A B : Type 0} → (A → B → Type 0) → List A → List B → Type 0

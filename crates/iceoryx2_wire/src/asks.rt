@@ -25,6 +25,7 @@ impl<Q: Payload, QH: Words, P: Payload, PH: Words> Service<Q, QH, P, PH> {
         ensures answered { IsPortAnswered Q.Element.words P.Element.words H.words
             (service_of self.old) command result (service_of self.new) }
         ensures says { self.new.description ≡ self.old.description }
+        ensures identity { self.new.identity ≡ self.old.identity }
     {
         self.nodes.port(alloc, command)
     }

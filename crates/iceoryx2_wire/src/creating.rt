@@ -9,6 +9,7 @@ ghost use Rattle.iceoryx2_wire.specs.OwnTypes.{request_shape, response_shape};
 ghost use Rattle.iceoryx2_wire.specs.Services.{IsMade};
 
 use crate::defaults::Defaults;
+use crate::identity::ServiceIdentity;
 use crate::own_types::creator_refusal;
 use crate::service::Service;
 use iox_attributes::AttributeVerificationError;
@@ -25,7 +26,7 @@ where
     Q::Element: ZeroCopySend,
     P::Element: ZeroCopySend,
 {
-    /// A service that says this of itself, with its first node, which has number 0 and that id. Its
+    /// That service, which says this of itself, with its first node, which has number 0 and that id. Its
     /// messages are of its own types, which the described ones are compared with, and hold these
     /// defaults at first. A limit of 0 is raised to 1, and no port keeps messages of ports that are
     /// gone.
@@ -36,6 +37,7 @@ where
     pub fn create(
         alloc: Global,
         settings: Settings,
+        identity: ServiceIdentity,
         description: ServiceDescription,
         requests: Defaults<Q::Element, QH>,
         responses: Defaults<P::Element, PH>,
@@ -52,13 +54,17 @@ where
             (request_shape of_requests request requests))
             (shape_of P.MANY P.Element.WORDS P.Element.words PH.words
             (response_shape of_responses response responses)))
-            (message_types of_requests request of_responses response) description id result }
+            (message_types of_requests request of_responses response) identity description id result }
     {
         let asked = creator_refusal::<Q, QH, P, PH>(&description.types);
         let request = MessageShape::of_requests(Some(requests.element), requests.user_header);
         let response = MessageShape::of_responses(Some(responses.element), responses.user_header);
         match iox_nodes::Service::new(alloc, settings, id, asked, request, response) {
-            Ok(nodes) => Ok(Service { description, nodes }),
+            Ok(nodes) => Ok(Service {
+                identity,
+                description,
+                nodes,
+            }),
             Err(refusal) => Err(refusal),
         }
     }

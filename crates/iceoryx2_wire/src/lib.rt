@@ -5,6 +5,8 @@
 mod asks;
 mod creating;
 mod defaults;
+mod identity;
+pub mod laws;
 mod listings;
 mod opener;
 mod opening;
@@ -12,13 +14,16 @@ mod own_types;
 mod service;
 mod serving;
 pub mod uses;
+pub mod uses_laws;
 
 pub use defaults::Defaults;
+pub use identity::ServiceIdentity;
 pub use iox_attributes::{
     AttributeSet, AttributeSpecifier, AttributeVerificationError, AttributeVerifier,
 };
 pub use iox_model::command::{Command, PortCommand, PortOptions};
 pub use iox_model::reply::{Refusal, Reply};
+pub use iox_names::ServiceName;
 pub use iox_names::attribute::{AttributeKey, AttributeValue};
 pub use iox_nodes::{Elements, Settings};
 pub use iox_openers::{MessageTypes, ServiceDescription};

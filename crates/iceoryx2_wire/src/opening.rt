@@ -39,6 +39,7 @@ impl<Q: Payload, QH: Words, P: Payload, PH: Words> Service<Q, QH, P, PH> {
         ensures done { IsDone (service_of self.old) (DeclareDead node) result
             (service_of self.new) }
         ensures says { self.new.description ≡ self.old.description }
+        ensures identity { self.new.identity ≡ self.old.identity }
     {
         self.nodes.declare_dead(node)
     }
@@ -48,6 +49,7 @@ impl<Q: Payload, QH: Words, P: Payload, PH: Words> Service<Q, QH, P, PH> {
     pub fn leave(&mut self, node: u64) -> Result<(), Refusal<AttributeVerificationError>>
         ensures done { IsDone (service_of self.old) (Leave node) result (service_of self.new) }
         ensures says { self.new.description ≡ self.old.description }
+        ensures identity { self.new.identity ≡ self.old.identity }
     {
         self.nodes.leave(node)
     }
@@ -58,6 +60,7 @@ impl<Q: Payload, QH: Words, P: Payload, PH: Words> Service<Q, QH, P, PH> {
     pub fn cleanup(&mut self, node: u64) -> Result<(), Refusal<AttributeVerificationError>>
         ensures done { IsDone (service_of self.old) (Cleanup node) result (service_of self.new) }
         ensures says { self.new.description ≡ self.old.description }
+        ensures identity { self.new.identity ≡ self.old.identity }
     {
         self.nodes.cleanup(node)
     }

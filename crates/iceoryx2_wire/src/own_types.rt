@@ -1,5 +1,5 @@
 //! The messages of a service's own types, and what its creator gives as their types.
-ghost use Rattle.std.specs.Prelude.{◌≡◌, ◌↔◌, IfErr, IfOk, IsOk, IsTrue};
+ghost use Rattle.std.specs.Prelude.{◌≡◌, ◌≤◌, ◌↔◌, IfErr, IfOk, IsOk, IsTrue};
 ghost use Rattle.iox_types.specs.Compatibility.{AreCompatible};
 ghost use Rattle.iox_types.specs.Details.{IsCompatible, detail, is_short};
 ghost use Rattle.iox_types.specs.declared.type_detail.TypeVariant.TheVariants.{FixedSize};
@@ -28,6 +28,13 @@ fn variant_of(many: bool) -> TypeVariant
     }
 }
 
+/// Whether a value of that size and alignment may stand where one of the described type does.
+fn is_laid_out_for(size: usize, alignment: usize, described: &TypeDetail) -> bool
+    ensures { IsTrue result ↔ (size ≡ described.now.size) × (alignment ≤ described.now.alignment) }
+{
+    size == described.size() && alignment <= described.alignment()
+}
+
 /// Whether a value of `T` may stand where one of the described type does. Where the name of `T` is
 /// too long to be described, it may stand nowhere.
 fn suits<T: ZeroCopySend>(variant: TypeVariant, described: &TypeDetail) -> bool
@@ -36,8 +43,7 @@ fn suits<T: ZeroCopySend>(variant: TypeVariant, described: &TypeDetail) -> bool
 {
     variant == described.variant()
         && T::name() == described.type_name()
-        && T::SIZE == described.size()
-        && T::ALIGNMENT <= described.alignment()
+        && is_laid_out_for(T::SIZE, T::ALIGNMENT, described)
 }
 
 /// Whether messages of these types may be read where the described ones are laid out.

@@ -3,18 +3,22 @@ ghost use Rattle.std.specs.Prelude.{◌≡◌};
 ghost use Rattle.iox_model.specs.Runs.{IsServed};
 ghost use Rattle.iceoryx2_wire.specs.Services.{service_of};
 
+use crate::identity::ServiceIdentity;
+use iox_names::ServiceName;
 use iox_openers::ServiceDescription;
 use iox_store::Payload;
 use iox_words::Words;
 use std::marker::Model;
 
-/// A service: what its creator and its openers are compared with, its nodes, and all their ports,
-/// with requests of `Q` and user headers `QH`, and with responses of `P` and user headers `PH`.
+/// A service: which one it is, what its creator and its openers are compared with, its nodes, and
+/// all their ports, with requests of `Q` and user headers `QH`, and with responses of `P` and user
+/// headers `PH`.
 ///
-/// It shows a state of the machine that copies messages (`service_of`). What it says of itself
-/// never changes.
+/// It shows a state of the machine that copies messages (`service_of`). Which one it is, and what
+/// it says of itself, never changes.
 #[derive(Drop)]
 pub struct Service<Q: Payload, QH: Words, P: Payload, PH: Words> {
+    pub(crate) identity: ServiceIdentity,
     pub(crate) description: ServiceDescription,
     pub(crate) nodes: iox_nodes::Service<Q, QH, P, PH>,
 }
@@ -24,10 +28,39 @@ impl<Q: Payload, QH: Words, P: Payload, PH: Words> Model for Service<Q, QH, P, P
 
     ghost Value = { DescribedService };
 
-    ghost view = { λ s. record { description = s.description; nodes = s.nodes } };
+    ghost view = { λ s. record {
+      identity = s.identity;
+      description = s.description;
+      nodes = s.nodes;
+    } };
 }
 
 impl<Q: Payload, QH: Words, P: Payload, PH: Words> Service<Q, QH, P, PH> {
+    /// The name of the service.
+    #[inline]
+    pub fn name(&self) -> &ServiceName
+        ensures { result.now ≡ self.now.identity.name }
+    {
+        &self.identity.name
+    }
+
+    /// The number that the creator gave the service.
+    #[inline]
+    pub fn number(&self) -> u64
+        ensures { result ≡ self.now.identity.number }
+    {
+        self.identity.number
+    }
+
+    /// The nodes and ports of the service, with neither name nor description. Each of its `laws`
+    /// holds of them.
+    #[inline]
+    pub fn nodes(&self) -> &iox_nodes::Service<Q, QH, P, PH>
+        ensures { result.now ≡ self.now.nodes }
+    {
+        &self.nodes
+    }
+
     /// What the service says of itself.
     #[inline]
     pub fn description(&self) -> &ServiceDescription

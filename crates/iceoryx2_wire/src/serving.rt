@@ -3,7 +3,8 @@ ghost use Rattle.std.specs.Prelude.{◌≡◌, ◌+◌, ◌<◌, List, IfOk, OnE
 ghost use Rattle.iox_openers.specs.Causes.{cause_of};
 ghost use Rattle.iox_nodes.specs.Given.{command_given, is_listing};
 ghost use Rattle.iceoryx2_wire.specs.Services.{service_of};
-ghost use Rattle.iceoryx2_wire.specs.Serving.{IsAnswered, IsGivenAs, IsRunOf};
+ghost use Rattle.iceoryx2_wire.specs.Serving.{IsAnswered, IsAnsweredWithMemory, IsGivenAs};
+ghost use Rattle.iceoryx2_wire.specs.Serving.{IsRunOf, MayFindNoMemory};
 
 use crate::opener::Opener;
 use crate::service::Service;
@@ -42,6 +43,30 @@ fn compared<Q, P, H>(
 }
 
 impl<Q: Payload, QH: Words, P: Payload, PH: Words> Service<Q, QH, P, PH> {
+    /// Answers a command, where there is memory for it. Its replies are those of the machine with
+    /// memory. It fails only where there is none for a join, for a port, for what is read or for a
+    /// listing, and changes nothing then.
+    ///
+    /// For a port that is too large, that has a handler or whose messages would grow, a service
+    /// never has memory. Nor has it for a join once 2^64 - 1 nodes joined.
+    pub fn try_serve<H: Words>(
+        &mut self,
+        alloc: Global,
+        command: Command<Elements<Q::Element, P::Element>, H, &Opener>,
+    ) -> Result<Reply<Vec<u64>, AttributeVerificationError>, AllocError>
+        ensures answered { IfOk result (λ reply. IsAnsweredWithMemory Q.Element.words
+            P.Element.words H.words self.old.description (service_of self.old) command.entry reply
+            (service_of self.new)) }
+        ensures wanting { OnErr result (MayFindNoMemory Q.Element.words P.Element.words H.words
+            self.old.description (service_of self.old) command.entry) }
+        ensures says { self.new.description ≡ self.old.description }
+        ensures identity { self.new.identity ≡ self.old.identity }
+        ensures unchanged { OnErr result (self.new ≡ self.old) }
+    {
+        let command = compared(&self.description, command);
+        self.nodes.try_serve(alloc, command)
+    }
+
     /// Answers a command. A node that opens the service is compared with what the service says of
     /// itself, as by `open`. It fails only for want of memory for a listing, and changes nothing
     /// then. Want of memory for a join, for a port and for a read is a reply, as the machine has
@@ -54,6 +79,26 @@ impl<Q: Payload, QH: Words, P: Payload, PH: Words> Service<Q, QH, P, PH> {
         ensures answered { IfOk result (λ reply. IsAnswered Q.Element.words P.Element.words H.words
             self.old.description (service_of self.old) command.entry reply (service_of self.new)) }
         ensures says { self.new.description ≡ self.old.description }
+        ensures identity { self.new.identity ≡ self.old.identity }
+        ensures unchanged { OnErr result (self.new ≡ self.old) }
+        ensures listing { OnErr result (is_listing command.entry ≡ true) }
+    {
+        match command {
+            Command::Port(command) => Ok(self.nodes.port(alloc, command)),
+            command => self.serve_compared(alloc, command),
+        }
+    }
+
+    /// The same of any command, at a greater cost for one of a port or a handle.
+    fn serve_compared<H: Words>(
+        &mut self,
+        alloc: Global,
+        command: Command<Elements<Q::Element, P::Element>, H, &Opener>,
+    ) -> Result<Reply<Vec<u64>, AttributeVerificationError>, AllocError>
+        ensures answered { IfOk result (λ reply. IsAnswered Q.Element.words P.Element.words H.words
+            self.old.description (service_of self.old) command.entry reply (service_of self.new)) }
+        ensures says { self.new.description ≡ self.old.description }
+        ensures identity { self.new.identity ≡ self.old.identity }
         ensures unchanged { OnErr result (self.new ≡ self.old) }
         ensures listing { OnErr result (is_listing command.entry ≡ true) }
     {
@@ -74,6 +119,7 @@ impl<Q: Payload, QH: Words, P: Payload, PH: Words> Service<Q, QH, P, PH> {
             (service_of self.old) commands.entry.items replies.old.items replies.new.items
             (service_of self.new) }
         ensures says { self.new.description ≡ self.old.description }
+        ensures identity { self.new.identity ≡ self.old.identity }
         ensures whole { OnOk result
             (vec_len replies.new ≡ vec_len replies.old + vec_len commands.entry) }
         ensures short { OnErr result

@@ -1,9 +1,11 @@
 //! Callers of a service, with no proof of their own.
 ghost use Rattle.std.specs.Prelude.{◌≡◌, [], IfOk, OnErr, vec_len};
-ghost use Rattle.iox_model.specs.declared.command.Command.TheVariants.{Cleanup};
+ghost use Rattle.iox_words.specs.Numbers.{no_word, one_word};
+ghost use Rattle.iox_model.specs.declared.command.Command.TheVariants.{Cleanup, ListNodes};
 ghost use Rattle.iox_model.specs.Runs.{IsServed};
 ghost use Rattle.iox_nodes.specs.Served.{IsDone};
 ghost use Rattle.iceoryx2_wire.specs.Services.{IsOpened, service_of};
+ghost use Rattle.iceoryx2_wire.specs.Serving.{IsAnsweredWithMemory};
 
 use crate::opener::Opener;
 use crate::service::Service;
@@ -58,4 +60,17 @@ pub fn runs(
     service.is_served();
     ran?;
     Ok(replies)
+}
+
+/// It is asked which nodes there are. Where there is no memory for the list, all stays.
+pub fn lists(
+    service: &mut Bytes,
+    alloc: Global,
+) -> Result<Reply<Vec<u64>, AttributeVerificationError>, AllocError>
+    ensures answered { IfOk result (λ reply. IsAnsweredWithMemory one_word one_word no_word
+        service.old.description (service_of service.old) ListNodes reply (service_of service.new)) }
+    ensures unchanged { OnErr result (service.new ≡ service.old) }
+{
+    let command: Command<Elements<u8, u64>, (), &Opener> = Command::ListNodes;
+    service.try_serve(alloc, command)
 }

@@ -13,3 +13,4 @@ pub use Rattle.iox_hub.specs.Listings
 pub use Rattle.iox_hub.specs.Lending
 pub use Rattle.iox_port_commands.specs.declared.elements.Elements
 pub use Rattle.iox_port_commands.specs.Asking
+pub use Rattle.iox_port_commands.specs.Memory as PortMemory

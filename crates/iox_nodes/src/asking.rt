@@ -27,21 +27,13 @@ pub(crate) fn asker<P, H>(command: &PortCommand<P, H>) -> u64
     }
 }
 
-/// The command with the id of its node.
-pub(crate) fn with_id<P, H>(command: PortCommand<P, H>, own: UniqueNodeId) -> PortCommand<P, H>
-    ensures { result ≡ with_id own command }
+/// Gives the command the id of its node, if it makes a port.
+pub(crate) fn put_id<P, H>(command: &mut PortCommand<P, H>, own: UniqueNodeId)
+    ensures { command.new ≡ with_id own command.old }
 {
     match command {
-        PortCommand::Client { node, options, .. } => PortCommand::Client {
-            node,
-            id: own,
-            options,
-        },
-        PortCommand::Server { node, options, .. } => PortCommand::Server {
-            node,
-            id: own,
-            options,
-        },
-        other => other,
+        PortCommand::Client { id, .. } => *id = own,
+        PortCommand::Server { id, .. } => *id = own,
+        _ => {}
     }
 }

@@ -7,13 +7,13 @@ ghost use Rattle.iox_nodes.specs.Served.{IsPortAnswered};
 ghost use Rattle.iox_nodes.specs.Shown.{service_of};
 ghost use Rattle.iox_port_commands.specs.Asking.{is_making};
 
-use crate::asking::{asker, with_id};
+use crate::asking::{asker, put_id};
 use crate::replying::reply_of;
 use crate::service::Service;
 use iox_model::command::PortCommand;
 use iox_model::kind::Kind;
 use iox_model::reply::{Refusal, Reply};
-use iox_port_commands::{Elements, try_apply};
+use iox_port_commands::{Elements, apply, try_apply};
 use iox_store::Payload;
 use iox_words::Words;
 use std::alloc::{AllocError, Global};
@@ -50,10 +50,13 @@ impl<Q: Payload, QH: Words, P: Payload, PH: Words> Service<Q, QH, P, PH> {
         ensures { IsPortAnswered Q.Element.words P.Element.words H.words (service_of self.old)
             command result (service_of self.new) }
     {
-        let making = is_making(&command);
-        match self.try_port(alloc, command) {
-            Ok(reply) => reply,
-            Err(_) => Reply::Refused(want_of(making)),
+        match self.members.living::<C>(asker(&command)) {
+            Err(refusal) => Reply::Refused(refusal),
+            Ok(id) => {
+                let mut command = command;
+                put_id(&mut command, id);
+                reply_of(apply(&mut self.hub, alloc, command))
+            }
         }
     }
 
@@ -73,7 +76,8 @@ impl<Q: Payload, QH: Words, P: Payload, PH: Words> Service<Q, QH, P, PH> {
         match self.members.living(asker(&command)) {
             Err(refusal) => Ok(Reply::Refused(refusal)),
             Ok(id) => {
-                let command = with_id(command, id);
+                let mut command = command;
+                put_id(&mut command, id);
                 Ok(reply_of(try_apply(&mut self.hub, alloc, command)?))
             }
         }

@@ -89,6 +89,23 @@ impl<Q: Payload, QH: Words, P: Payload, PH: Words> Service<Q, QH, P, PH> {
         ensures unchanged { OnErr result (self.new ≡ self.old) }
         ensures listing { OnErr result (is_listing command ≡ true) }
     {
+        match command {
+            Command::Port(command) => Ok(self.port(alloc, command)),
+            command => self.serve_other(alloc, command),
+        }
+    }
+
+    /// The same of any command, at a greater cost for one of a port or a handle.
+    fn serve_other<H: Words, C: Copy>(
+        &mut self,
+        alloc: Global,
+        command: Command<Elements<Q::Element, P::Element>, H, Option<Refusal<C>>>,
+    ) -> Result<Reply<Vec<u64>, C>, AllocError>
+        ensures answered { IfOk result (λ reply. IsAnswered Q.Element.words P.Element.words H.words
+            (service_of self.old) command reply (service_of self.new)) }
+        ensures unchanged { OnErr result (self.new ≡ self.old) }
+        ensures listing { OnErr result (is_listing command ≡ true) }
+    {
         let want = refusal_for_want(&command);
         match self.try_serve(alloc, command) {
             Ok(reply) => Ok(reply),

@@ -45,13 +45,13 @@ messages_come_at_most_once {s} served =
     record { delivered = λ r y. delivered_once_over_runs s r y; taken = λ r y. received_once_over_runs s r y }
 
 pub messages_come_in_order : {s : State} → IsServed s → ComeInOrder s
-messages_come_in_order {s} served r y = whole_over_runs s r y
+messages_come_in_order {s} served = record { order = λ r y. whole_over_runs s r y }
 
 pub messages_are_as_delivered : {s : State} → IsServed s → AreAsDelivered s
-messages_are_as_delivered {s} served r node h = had_as_delivered s r node h
+messages_are_as_delivered {s} served = record { had = λ r node h. had_as_delivered s r node h }
 
 pub messages_were_sent : {s : State} → IsServed s → WereSent s
-messages_were_sent {s} served r y m = each_was_sent s r y m
+messages_were_sent {s} served = record { sent = λ r y m. each_was_sent s r y m }
 
 pub messages_come_at_their_request : {s : State} → IsServed s → ComeAtTheirRequest s
 messages_come_at_their_request {s} served = record {
@@ -69,7 +69,9 @@ limits_hold {s} served = record {
 }
 
 pub pools_suffice : {s : State} → IsServed s → PoolsSuffice s
-pools_suffice {s} served t command unreduced done = pools.no_command s t command (reached served) unreduced done
+pools_suffice {s} served = record {
+  never = λ t command unreduced done. pools.no_command s t command (reached served) unreduced done;
+}
 
 -- ---- the gone
 
@@ -89,8 +91,10 @@ closes_with_the_last_node {s} served = record {
 }
 
 pub the_dead_do_nothing : {s : State} → IsServed s → TheDeadDoNothing s
-the_dead_do_nothing {s} served t u xs node r joined gone history command reply own done =
-    the_dead_stay_dead s t u xs node r joined gone history command reply own done
+the_dead_do_nothing {s} served = record {
+  refused = λ t u xs node r joined gone history command reply own done.
+      the_dead_stay_dead s t u xs node r joined gone history command reply own done;
+}
 
 -- ---- commands
 
@@ -108,4 +112,6 @@ listings_are_exact {s} served = record {
 }
 
 pub refusals_leave_the_state : {s : State} → IsServed s → RefusalsLeave s
-refusals_leave_the_state {s} served t command r done = refused_command_leaves s t command r (reached served) done
+refusals_leave_the_state {s} served = record {
+  left = λ t command r done. refused_command_leaves s t command r (reached served) done;
+}

@@ -36,7 +36,7 @@ pub record ListingsAreExact (s : State) : Type 0 where
   pub servers : IsExactHere s ListServers (is_port_of_role s.fixed Server)
 
 -- A refused command leaves the state unchanged, but for three cases of ports and handles.
-abbrev pub RefusalsLeave : State → Type 0
-RefusalsLeave s =
-    (t : State) (command : Command) (r : Refusal) → IsCommand s command (Refused r) t
-    → CommandRefusalLeaves s command r t
+pub record RefusalsLeave (s : State) : Type 0 where
+  pub left :
+      (t : State) (command : Command) (r : Refusal) → IsCommand s command (Refused r) t
+      → CommandRefusalLeaves s command r t

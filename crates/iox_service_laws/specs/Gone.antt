@@ -33,10 +33,10 @@ pub record ClosesWithTheLastNode (s : State) : Type 0 where
 
 -- Whatever history follows, each later command of a port or handle by a node that died or left is
 -- refused, and changes nothing.
-abbrev pub TheDeadDoNothing : State → Type 0
-TheDeadDoNothing s =
-    (t u : State) (xs : List ServiceStep) (node : ℕ) (r : Refusal)
-    → IsTrue (nat_lt node s.members.joins) → not_living s node ≡ Some r → IsHistory s xs t
-    → (command : PortCommand) (reply : Reply) → (asking command).0 ≡ node
-    → IsCommand t (Port command) reply u
-    → (q : Refusal) × (reply ≡ Refused q) × (u ≡ t)
+pub record TheDeadDoNothing (s : State) : Type 0 where
+  pub refused :
+      (t u : State) (xs : List ServiceStep) (node : ℕ) (r : Refusal)
+      → IsTrue (nat_lt node s.members.joins) → not_living s node ≡ Some r → IsHistory s xs t
+      → (command : PortCommand) (reply : Reply) → (asking command).0 ≡ node
+      → IsCommand t (Port command) reply u
+      → (q : Refusal) × (reply ≡ Refused q) × (u ≡ t)

@@ -22,7 +22,7 @@ pub record LimitsHold (s : State) : Type 0 where
   pub numbers : (node : ℕ) → AreDistinct (numbers_of_node s.fixed node)
 
 -- Where no pool of a node's ports was reduced, no command of the node is answered by `OutOfMemory`.
-abbrev pub PoolsSuffice : State → Type 0
-PoolsSuffice s =
-    (t : State) (command : PortCommand) → IsUnreducedNode s.fixed (asking command).0
-    → IsCommand s (Port command) (Refused OutOfMemory) t → ⊥
+pub record PoolsSuffice (s : State) : Type 0 where
+  pub never :
+      (t : State) (command : PortCommand) → IsUnreducedNode s.fixed (asking command).0
+      → IsCommand s (Port command) (Refused OutOfMemory) t → ⊥

@@ -26,22 +26,21 @@ pub record ComeAtMostOnce (s : State) : Type 0 where
       (r : IsReachableState s) (y : Way) → AreDistinct (all_taken_from y (beats_of_reached s r))
 
 -- On each way, what was taken and what still waits comes in the order of delivery, whole.
-abbrev pub ComeInOrder : State → Type 0
-ComeInOrder s =
-    (r : IsReachableState s) (y : Way) → AreWholeInOrder y (beats_of_reached s r) s
+pub record ComeInOrder (s : State) : Type 0 where
+  pub order : (r : IsReachableState s) (y : Way) → AreWholeInOrder y (beats_of_reached s r) s
 
 -- What a handle has that was received was delivered on its way and taken from there, whole.
-abbrev pub AreAsDelivered : State → Type 0
-AreAsDelivered s =
-    (r : IsReachableState s) (node : ℕ) (h : Handle)
-    → IsOneOf h (s.fixed.handles node) → IsTrue (is_received h.kind)
-    → CameBy (way_of h) h.message (beats_of_reached s r)
+pub record AreAsDelivered (s : State) : Type 0 where
+  pub had :
+      (r : IsReachableState s) (node : ℕ) (h : Handle)
+      → IsOneOf h (s.fixed.handles node) → IsTrue (is_received h.kind)
+      → CameBy (way_of h) h.message (beats_of_reached s r)
 
 -- Each message that was delivered was sent, by some step of the same history.
-abbrev pub WereSent : State → Type 0
-WereSent s =
-    (r : IsReachableState s) (y : Way) (m : Message)
-    → IsOneOf m (messages_put_on y (beats_of_reached s r)) → WasSent s r y m
+pub record WereSent (s : State) : Type 0 where
+  pub sent :
+      (r : IsReachableState s) (y : Way) (m : Message)
+      → IsOneOf m (messages_put_on y (beats_of_reached s r)) → WasSent s r y m
 
 -- What a receive answers next comes at its own request: a response to that of its pending response,
 -- and without fire-and-forget a request that its client did not give up.

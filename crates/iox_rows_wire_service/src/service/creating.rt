@@ -1,6 +1,6 @@
 //! Services that are made, and those that may not be.
 use super::openers::types;
-use super::starts::{SETTINGS, description, id, new, with_nodes};
+use super::starts::{SETTINGS, description, id, identity, new, with_nodes};
 use super::{TheRefusal, TheService};
 use iceoryx2_wire::{
     MessageTypes, Refusal, ServiceDescription, Settings, TypeDetail, TypeVariant, UniqueSystemId,
@@ -17,7 +17,7 @@ fn refusal(
 ) -> Result<Option<TheRefusal>, Fail> {
     let attributes = description()?.attributes;
     let described = ServiceDescription { types, attributes };
-    Ok(new(alloc, settings, described, id).err())
+    Ok(new(alloc, settings, identity()?, described, id).err())
 }
 
 #[test]
@@ -57,9 +57,11 @@ fn a_service_says_what_its_creator_gave(rt: HostRuntime) -> Result<(), Fail> {
         types: aligned(16)?,
         attributes: description()?.attributes,
     };
-    let Ok(service) = new(rt.alloc(), SETTINGS, described, id(1)) else {
+    let Ok(service) = new(rt.alloc(), SETTINGS, identity()?, described, id(1)) else {
         return Err(Fail::new("refused"));
     };
+    assert_eq!(rt; service.name().as_str(), "a/b");
+    assert_eq!(rt; service.number(), 7);
     assert_eq!(rt; service.description().types, aligned(16)?);
     assert_eq!(rt;
         service

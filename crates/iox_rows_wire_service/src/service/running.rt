@@ -48,3 +48,19 @@ fn replies_stand_behind_those_of_earlier_runs(rt: HostRuntime) -> Result<(), Fai
     }
     Ok(())
 }
+
+#[test]
+fn a_command_is_answered_where_memory_is_there(rt: HostRuntime) -> Result<(), Fail> {
+    let (alloc, fits) = (rt.alloc(), fit()?);
+    let mut service = first(alloc, SETTINGS)?;
+    let opens: TheCommand<'_> = Command::Join {
+        id: id(2),
+        asked: &fits,
+    };
+    let reply = service.try_serve(alloc, opens)?;
+    assert_eq!(rt; lent(&reply), Told::Node(1));
+    let lists: TheCommand<'_> = Command::ListNodes;
+    let reply = service.try_serve(alloc, lists)?;
+    assert_eq!(rt; lent(&reply), Told::Listed(&[0, 1]));
+    Ok(())
+}

@@ -2,7 +2,7 @@
 use super::{TheRefusal, TheService};
 use iceoryx2_wire::{
     AllocationStrategy, AttributeKey, AttributeSpecifier, AttributeValue, BackpressureStrategy,
-    Defaults, ServiceDescription, Settings, UniqueSystemId,
+    Defaults, ServiceDescription, ServiceIdentity, ServiceName, Settings, UniqueSystemId,
 };
 use std::alloc::Global;
 use std::test::Fail;
@@ -62,18 +62,33 @@ const DEFAULTS: Defaults<u64, ()> = Defaults {
     user_header: (),
 };
 
+/// The service a/b, with number 7.
+pub(super) fn identity() -> Result<ServiceIdentity, Fail> {
+    let name = ServiceName::new("a/b")?;
+    Ok(ServiceIdentity { name, number: 7 })
+}
+
 /// A service with that description, or why it is refused.
 pub(super) fn new(
     alloc: Global,
     settings: Settings,
+    identity: ServiceIdentity,
     description: ServiceDescription,
     id: UniqueSystemId,
 ) -> Result<TheService, TheRefusal> {
-    TheService::create(alloc, settings, description, DEFAULTS, DEFAULTS, id)
+    TheService::create(
+        alloc,
+        settings,
+        identity,
+        description,
+        DEFAULTS,
+        DEFAULTS,
+        id,
+    )
 }
 
 /// A service whose first node has the id 1 0 0 0.
 pub(super) fn first(alloc: Global, settings: Settings) -> Result<TheService, Fail> {
-    let service = new(alloc, settings, description()?, id(1))?;
+    let service = new(alloc, settings, identity()?, description()?, id(1))?;
     Ok(service)
 }

@@ -7,7 +7,7 @@ use Rattle.iceoryx2_wire.proofs.service.Service.create.Goals as goal
 
 pub returns-in-Ok : goal.returns-in-Ok
 returns-in-Ok g c =
-    made_so _ _ c.args.description c.args.id c.in-Ok.nodes c.creator_refusal-asked.result c.creator_refusal-asked.ensures
+    made_so _ _ c.args.identity c.args.description c.args.id c.in-Ok.nodes c.creator_refusal-asked.result c.creator_refusal-asked.ensures
     (with_shapes
     (λ m n.
     limits_for (settings_of c.args.settings)
@@ -17,7 +17,7 @@ returns-in-Ok g c =
 
 pub returns-in-Err : goal.returns-in-Err
 returns-in-Err g c =
-    not_made_so _ _ c.args.description c.args.id c.in-Err.refusal c.creator_refusal-asked.result c.creator_refusal-asked.ensures
+    not_made_so _ _ c.args.identity c.args.description c.args.id c.in-Err.refusal c.creator_refusal-asked.result c.creator_refusal-asked.ensures
     (with_shapes
     (λ m n.
     limits_for (settings_of c.args.settings)

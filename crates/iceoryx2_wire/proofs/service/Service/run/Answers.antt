@@ -17,6 +17,7 @@ loop-command-init g c =
           (run_starts g.Q.Element.Words.words g.P.Element.Words.words g.H.Words.words c.args.self.now.description (service_of c.args.self.now) c.args.commands.items c.args.replies.now.items),
       search rules,
       refl,
+      refl,
     )
 
 pub returns-in_err-reserve-clause-short : goal.returns-in_err-reserve-clause-short
@@ -70,4 +71,5 @@ loop-command-preserved g c =
           let short = ap length steps in
           omega arith,
       c.in_ok-reply.ensures.says ∙ at.invariant.2,
+      c.in_ok-reply.ensures.identity ∙ at.invariant.3,
     )

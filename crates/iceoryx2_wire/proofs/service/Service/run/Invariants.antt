@@ -11,3 +11,4 @@ invariant-loop-command g l =
     l.fn.replies.items (into_iter_items l.command-iterator) l.replies.items (service_of l.self)
     × (into_iter_len l.command-iterator ≡ length (into_iter_items l.command-iterator))
     × (l.self.description ≡ l.fn.self.description)
+    × (l.self.identity ≡ l.fn.self.identity)

@@ -1,15 +1,9 @@
-use Rattle.iox_openers.specs.Causes.{cause_of}
-use Rattle.iox_nodes.specs.Given.{command_given}
-use Rattle.iox_nodes.proofs.Leading.{if_ok}
+use Rattle.iox_nodes.specs.Shown as nodes
+use Rattle.iceoryx2_wire.proofs.Comparing.{port_answered}
 use Rattle.iceoryx2_wire.proofs.service.Service.serve.Goals as goal
 
-pub returns-clause-answered : goal.returns-clause-answered
-returns-clause-answered g c =
+pub returns-in-Port-clause-answered : goal.returns-in-Port-clause-answered
+returns-in-Port-clause-answered g c =
     rw (← c.self.view_is)
-    (if_ok c.serve.result
-    (λ reply answered. (
-      command_given g.Q.Element.Words.words g.P.Element.Words.words g.H.Words.words cause_of c.compared-command.result,
-      c.compared-command.ensures.given g.Q.Element.Words.words g.P.Element.Words.words g.H.Words.words,
-      answered cause_of,
-    ))
-    c.serve.ensures.answered)
+    (port_answered g.Q.Element.Words.words g.P.Element.Words.words g.H.Words.words c.self.inside.description (nodes.service_of c.self.inside.nodes)
+    (nodes.service_of c.port.new.self) c.args.command c.in-Port.command c.port.result c.in-Port.is c.port.ensures)

@@ -1,21 +1,26 @@
 use Rattle.std.specs.declared.alloc.Global.{Global}
-use Rattle.std.proofs.Common.{ap, subst, sym, ◌∙◌}
-use Rattle.iox_model.specs.declared.reply.Reply.TheVariants.{Refused}
-use Rattle.iox_nodes.specs.Memory.{want_of}
-use Rattle.iox_nodes.specs.Served.{IsPortAnswered}
-use Rattle.iox_nodes.specs.Shown.{service_of}
-use Rattle.iox_nodes.proofs.Lacking.{port_refused_for_want}
+use Rattle.iox_types.specs.declared.identifiers.system_id.UniqueSystemId.{UniqueSystemId}
+use Rattle.iox_nodes.proofs.Answering.{may_not, port_service, port_so}
 use Rattle.iox_nodes.proofs.service.Service.port.Goals as goal
 
-pub returns-in-Ok : goal.returns-in-Ok
-returns-in-Ok g c = λ cause. (c.in-Ok.ensures.answered cause).done
+pub invariant_of-self : goal.invariant_of-self
+invariant_of-self g c =
+    port_service g.Q.Element.Words.words g.P.Element.Words.words g.H.Words.words c.self.inside.members c.self.inside.hub c.apply.new.hub
+    c.args.command c.reply_of.result c.self.invariant
+    (port_so g.Q.Element.Words.words g.P.Element.Words.words g.H.Words.words c.self.inside.members c.self.inside.hub c.apply.new.hub c.in-Ok.id
+    c.asker.result c.args.command c.put_id.new.command c.apply.result c.reply_of.result c.asker.ensures c.in-Ok.ensures.lives c.put_id.ensures
+    c.apply.ensures.whole c.reply_of.ensures)
+    c.apply.ensures.defaults
 
 pub returns-in-Err : goal.returns-in-Err
 returns-in-Err g c =
-    rw c.in-Err.ensures.unchanged
-    (subst
-    (λ r. IsPortAnswered {Z = Global} g.Q.Element.Words.words g.P.Element.Words.words g.H.Words.words (service_of c.args.self.now) c.args.command (Refused r)
-    (service_of c.args.self.now))
-    (sym (c.want_of.ensures ∙ ap want_of c.is_making-making.ensures))
-    (port_refused_for_want Global g.Q.Element.Words.words g.P.Element.Words.words g.H.Words.words (service_of c.args.self.now) c.args.command
-    c.in-Err.ensures.wanting))
+    rw (← c.self.view_is)
+    (may_not Global UniqueSystemId g.Q.Element.Words.words g.P.Element.Words.words g.H.Words.words c.self.inside.members c.self.inside.hub
+    c.asker.result c.args.command c.in-Err.refusal c.asker.ensures c.in-Err.ensures.refused)
+
+pub returns-in-Ok : goal.returns-in-Ok
+returns-in-Ok g c =
+    rw (← c.self.view_is)
+    (port_so g.Q.Element.Words.words g.P.Element.Words.words g.H.Words.words c.self.inside.members c.self.inside.hub c.apply.new.hub c.in-Ok.id
+    c.asker.result c.args.command c.put_id.new.command c.apply.result c.reply_of.result c.asker.ensures c.in-Ok.ensures.lives c.put_id.ensures
+    c.apply.ensures.whole c.reply_of.ensures)

@@ -12,13 +12,13 @@ use Rattle.iox_nodes.proofs.service.Service.try_port.Goals as goal
 pub invariant_of-self : goal.invariant_of-self
 invariant_of-self g c =
     tried_service g.Q.Element.Words.words g.P.Element.Words.words g.H.Words.words c.self.inside.members c.self.inside.hub c.try_apply.new.hub
-    c.in-Ok.id c.asker.result c.args.command c.with_id-command.result c.try_apply.result c.asker.ensures c.in-Ok.ensures.lives c.with_id-command.ensures
+    c.in-Ok.id c.asker.result c.args.command c.put_id.new.command c.try_apply.result c.asker.ensures c.in-Ok.ensures.lives c.put_id.ensures
     c.try_apply.ensures.whole c.try_apply.ensures.unchanged c.try_apply.ensures.defaults c.self.invariant
 
 pub invariant_of-self-in-Ok : goal.invariant_of-self-in-Ok
 invariant_of-self-in-Ok g c =
     tried_service g.Q.Element.Words.words g.P.Element.Words.words g.H.Words.words c.self.inside.members c.self.inside.hub c.try_apply.new.hub
-    c.in-Ok.id c.asker.result c.args.command c.with_id-command.result c.try_apply.result c.asker.ensures c.in-Ok.ensures.lives c.with_id-command.ensures
+    c.in-Ok.id c.asker.result c.args.command c.put_id.new.command c.try_apply.result c.asker.ensures c.in-Ok.ensures.lives c.put_id.ensures
     c.try_apply.ensures.whole c.try_apply.ensures.unchanged c.try_apply.ensures.defaults c.self.invariant
 
 pub returns-in-Err-clause-answered : goal.returns-in-Err-clause-answered
@@ -31,8 +31,8 @@ pub returns-in_ok-try_apply-in-Ok-clause-answered : goal.returns-in_ok-try_apply
 returns-in_ok-try_apply-in-Ok-clause-answered g c =
     rw (← c.self.view_is)
     (port_with_memory g.Q.Element.Words.words g.P.Element.Words.words g.H.Words.words c.self.inside.members c.self.inside.hub c.try_apply.new.hub
-    c.in-Ok.id c.asker.result c.args.command c.with_id-command.result c.in_ok-try_apply-in-Ok.field-0 c.reply_of.result c.asker.ensures c.in-Ok.ensures.lives
-    c.with_id-command.ensures c.in_ok-try_apply-in-Ok.ensures.whole c.in_ok-try_apply-in-Ok.ensures.memory c.reply_of.ensures)
+    c.in-Ok.id c.asker.result c.args.command c.put_id.new.command c.in_ok-try_apply-in-Ok.field-0 c.reply_of.result c.asker.ensures c.in-Ok.ensures.lives
+    c.put_id.ensures c.in_ok-try_apply-in-Ok.ensures.whole c.in_ok-try_apply-in-Ok.ensures.memory c.reply_of.ensures)
 
 pub returns-in_err-try_apply-in-Ok-clause-wanting : goal.returns-in_err-try_apply-in-Ok-clause-wanting
 returns-in_err-try_apply-in-Ok-clause-wanting g c =
@@ -41,5 +41,5 @@ returns-in_err-try_apply-in-Ok-clause-wanting g c =
     (λ v. MayFindNoMemory {C = g.row.C.Denot} g.Q.Element.Words.words g.P.Element.Words.words g.H.Words.words (service_of v) (Port c.args.command))
     c.self.view_is
     (port_lacks g.Q.Element.Words.words g.P.Element.Words.words g.H.Words.words c.self.inside.members c.self.inside.hub c.try_apply.new.hub
-    c.in-Ok.id c.asker.result c.args.command c.with_id-command.result c.asker.ensures c.in-Ok.ensures.lives c.with_id-command.ensures
+    c.in-Ok.id c.asker.result c.args.command c.put_id.new.command c.asker.ensures c.in-Ok.ensures.lives c.put_id.ensures
     c.in_err-try_apply-in-Ok.ensures.wanting c.in_err-try_apply-in-Ok.ensures.takes c.in_err-try_apply-in-Ok.ensures.unchanged))

@@ -2,7 +2,7 @@ use Rattle.std.specs.declared.alloc.Global.{Global}
 use Rattle.std.proofs.Common.{sym, ◌∙◌}
 use Rattle.iox_nodes.specs.Shown.{service_of}
 use Rattle.iox_nodes.proofs.Lacking.{refused_for_want}
-use Rattle.iox_nodes.proofs.service.Service.serve.Goals as goal
+use Rattle.iox_nodes.proofs.service.Service.serve_other.Goals as goal
 
 pub returns-in-Some-clause-answered : goal.returns-in-Some-clause-answered
 returns-in-Some-clause-answered g c =

@@ -1,0 +1,15 @@
+use Rattle.iox_openers.specs.Causes.{cause_of}
+use Rattle.iox_nodes.specs.Given.{command_given}
+use Rattle.iox_nodes.proofs.Leading.{if_ok}
+use Rattle.iceoryx2_wire.proofs.service.Service.serve_compared.Goals as goal
+
+pub returns-clause-answered : goal.returns-clause-answered
+returns-clause-answered g c =
+    rw (← c.self.view_is)
+    (if_ok c.serve.result
+    (λ reply answered. (
+      command_given g.Q.Element.Words.words g.P.Element.Words.words g.H.Words.words cause_of c.compared-command.result,
+      c.compared-command.ensures.given g.Q.Element.Words.words g.P.Element.Words.words g.H.Words.words,
+      answered cause_of,
+    ))
+    c.serve.ensures.answered)
