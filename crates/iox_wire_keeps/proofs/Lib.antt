@@ -1,0 +1,2 @@
+pub mod AccessesMade
+pub mod Bounds

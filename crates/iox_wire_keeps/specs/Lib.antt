@@ -1,0 +1,2 @@
+-- In reading order: what the accesses of nodes bound.
+pub mod Bounds
