@@ -1,2 +1,3 @@
 pub mod AccessesMade
 pub mod Bounds
+pub mod Stored

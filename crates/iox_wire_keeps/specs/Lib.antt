@@ -1,2 +1,3 @@
 -- In reading order: what the accesses of nodes bound.
 pub mod Bounds
+pub mod Stored

@@ -4,6 +4,8 @@
 
 ghost use Rattle.iox_wire_keeps.specs.Bounds.{BeginsLeaveBounds, BoundsTell, OpenedWiresAreBound};
 ghost use Rattle.iox_wire_keeps.specs.Bounds.{StepsLeaveBounds};
+ghost use Rattle.iox_wire_keeps.specs.Stored.{DeathsLeaveSlots, OpenedSlotsHoldMessages};
+ghost use Rattle.iox_wire_keeps.specs.Stored.{StoredWordsAreTold};
 
 /// The accesses of a node bound its queues and its loans as a wire opens, as calls begin, and after
 /// each step.
@@ -12,4 +14,15 @@ pub fn accesses_bound()
     ensures begins { BeginsLeaveBounds }
     ensures steps { StepsLeaveBounds }
     ensures told { BoundsTell }
+{}
+
+/// Slots hold the messages that are named as a wire opens, and after a death.
+pub fn slots_hold_messages()
+    ensures first { OpenedSlotsHoldMessages }
+    ensures dead { DeathsLeaveSlots }
+{}
+
+/// Where they do, a step of a node is told the words of messages.
+pub fn words_are_told()
+    ensures { StoredWordsAreTold }
 {}
