@@ -1,3 +1,4 @@
 pub mod AccessesMade
 pub mod Bounds
 pub mod Stored
+pub mod Alone

@@ -6,7 +6,7 @@ use Rattle.iox_wire_locals.specs.declared.local.Local.TheVariants.{Ends, Reads, 
 use Rattle.iox_steps.specs.Accesses.{seen_by}
 use Rattle.iox_wire_laws.specs.WireRegions.StoredMessages.{AreFirst, header_in}
 use Rattle.std.proofs.Common.{ap, arith, eqb-true, inl, inr, subst, sym, true≢false, ◌∙◌}
-use Rattle.iox_wire_keeps.specs.Stored.{CallIsStored, DeathsLeaveSlots, GoesThrough, HoldsStored, IsStored, OpenedSlotsHoldMessages, StoredWordsAreTold, StoresAt}
+use Rattle.iox_wire_keeps.specs.Stored.{CallIsStored, IsWritten, DeathsLeaveSlots, GoesThrough, HoldsStored, IsStored, OpenedSlotsHoldMessages, StoredWordsAreTold}
 use Rattle.iox_wire_locals.specs.declared.local.Visit.{Visit}
 use Rattle.iox_wire_stands.proofs.Ranges.{zero_word}
 use Rattle.iox_wire_laws.proofs.WireRegions.MessageLists.{all_first, header_count, header_request}
@@ -212,7 +212,7 @@ module _ (p : Setting) (held : Pools) (word : ℕ → ℕ) (c : WireContents) (s
       (whole_tells v y slot header message on.way place.2.0.1 through).0
   told (Reads e words) is owns place on message through =
       let low : IsInPool p e.sender e.slot = entry_low e on (subst (λ l. LeavesNothing (message_at l)) (sym is) tt) in
-      let own : IsStored p held c e.sender e.slot = stored.entries e on low (subst (λ l. StoresAt l e.sender e.slot → ⊥) (sym is) (λ none. none)) in
+      let own : IsStored p held c e.sender e.slot = stored.entries e on low (subst (λ l. IsWritten l e → ⊥) (sym is) (λ none. none)) in
       (reads_find_their_messages p held x w.state e words word (programs_of p seats) c shows.words own.fits own.words (stored.lengths e on low) owns through).1
   told (Ends ending) is owns place on message through = ended ending message through on
   told local is owns place on message through = tt

@@ -1,3 +1,4 @@
 -- In reading order: what the accesses of nodes bound.
 pub mod Bounds
 pub mod Stored
+pub mod Alone

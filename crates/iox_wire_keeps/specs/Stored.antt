@@ -51,6 +51,12 @@ StoresAt (LendStores o own next) port slot = (port ≡ o.port) × (slot ≡ own)
 StoresAt (Writes e words next) port slot = (port ≡ e.port) × (slot ≡ e.slot)
 StoresAt local port slot = ⊥
 
+-- the place writes the entry's message, or has just written it
+abbrev pub IsWritten : Local → Entry → Type 0
+IsWritten (Ends (endings.Fills k words)) e = k ≡ e
+IsWritten (Writes k words next) e = k ≡ e
+IsWritten local e = ⊥
+
 -- ---- loans
 
 -- a loan is no longer than its port allows, and has its payload if it is sent at once
@@ -107,7 +113,7 @@ GoesThrough p held c local = Unit {0}
 -- stores, and as long as the entries say; and so is what its call has.
 pub record HoldsStored (p : Setting) (held : Pools) (c : WireContents) (x : Seat) : Type 0 where
   pub entries : (e : Entry) → HasEntry x e → IsInPool p e.sender e.slot
-      → (StoresAt x.local e.sender e.slot → ⊥) → IsStored p held c e.sender e.slot
+      → (IsWritten x.local e → ⊥) → IsStored p held c e.sender e.slot
   pub lengths : (e : Entry) → HasEntry x e → IsInPool p e.sender e.slot
       → (held e.sender e.slot).elements ≡ e.elements
   pub call : CallIsStored p held c (message_at x.local)

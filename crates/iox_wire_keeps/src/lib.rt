@@ -2,6 +2,7 @@
 //! The functions have nothing to do: each is there for its contract.
 #![tactic(auto)]
 
+ghost use Rattle.iox_wire_keeps.specs.Alone.{StoredSlotsAreAlone};
 ghost use Rattle.iox_wire_keeps.specs.Bounds.{BeginsLeaveBounds, BoundsTell, OpenedWiresAreBound};
 ghost use Rattle.iox_wire_keeps.specs.Bounds.{StepsLeaveBounds};
 ghost use Rattle.iox_wire_keeps.specs.Stored.{DeathsLeaveSlots, OpenedSlotsHoldMessages};
@@ -25,4 +26,9 @@ pub fn slots_hold_messages()
 /// Where they do, a step of a node is told the words of messages.
 pub fn words_are_told()
     ensures { StoredWordsAreTold }
+{}
+
+/// A slot that a node stores is its call's alone.
+pub fn stored_slots_are_alone()
+    ensures { StoredSlotsAreAlone }
 {}
