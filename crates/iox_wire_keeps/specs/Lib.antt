@@ -2,3 +2,4 @@
 pub mod Bounds
 pub mod Stored
 pub mod Alone
+pub mod Accesses

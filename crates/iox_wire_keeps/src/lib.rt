@@ -2,6 +2,7 @@
 //! The functions have nothing to do: each is there for its contract.
 #![tactic(auto)]
 
+ghost use Rattle.iox_wire_keeps.specs.Accesses.{AccessesLeaveMessages};
 ghost use Rattle.iox_wire_keeps.specs.Alone.{StoredSlotsAreAlone};
 ghost use Rattle.iox_wire_keeps.specs.Bounds.{BeginsLeaveBounds, BoundsTell, OpenedWiresAreBound};
 ghost use Rattle.iox_wire_keeps.specs.Bounds.{StepsLeaveBounds};
@@ -31,4 +32,9 @@ pub fn words_are_told()
 /// A slot that a node stores is its call's alone.
 pub fn stored_slots_are_alone()
     ensures { StoredSlotsAreAlone }
+{}
+
+/// After an access slots hold their messages.
+pub fn accesses_leave_messages()
+    ensures { AccessesLeaveMessages }
 {}
