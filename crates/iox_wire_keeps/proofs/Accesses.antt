@@ -4,7 +4,7 @@ use Rattle.iox_steps.specs.Sites.{is_empty}
 use Rattle.iox_steps.specs.EventLists.{state_after}
 use Rattle.iox_wire_keeps.specs.Accesses.{AccessesLeaveMessages}
 use Rattle.iox_wire_keeps.proofs.Quiet.{IsQuiet, MovesWords}
-use Rattle.iox_wire_keeps.proofs.Kept.{slot_itself, named_sent}
+use Rattle.iox_wire_keeps.proofs.Kept.{slot_itself, named_sent, loan_lane}
 use Rattle.iox_steps.specs.Events.{rest, waiting_after, IsTrueOf}
 use Rattle.iox_wire_keeps.proofs.Quiet as quiet
 use Rattle.iox_steps.specs.declared.push.Push.TheVariants as push
@@ -656,35 +656,8 @@ module _ (p : Setting) (held : Pools) (word word' : ℕ → ℕ) (c : WireConten
 
     lane_low : is_client (p.port o.port).role ≡ true → o.lane < p.layout.sizes.lanes o.port
     lane_low client =
-        subst (λ k. o.lane < k)
-        (sym (layout.lanes o.port client_there ∙ lanes_are_the_pools p w.state.fixed o.port numbered (shows.counts n living).knows.ports home.0))
-        (low p (seats n) (calls n living).lanes o.port home client o.lane
-        (subst (λ l. 1 ≤ how_often o.lane (lanes_in o.port (lent_in (message_at l) ++ (seats n).table))) (sym is)
-        (there_is o.port (entry_in o slot) (entry_in o slot ∷ (seats n).table) (inl refl) (request_has o.kind request) refl)))
-      where
-        kind_is : o.kind ≡ kind_of_loan (p.port o.port).role false
-        kind_is = (subst (PlaceFits p (seats n)) is (calls n living).fits.place).1
-
-        of_client : (r : Role) → is_client r ≡ true → is_request_loan (kind_of_loan r false) ≡ true
-        of_client Client is = refl
-        of_client Server is = absurd (true≢false (sym is))
-
-        request : is_request_loan o.kind ≡ true
-        request = ap is_request_loan kind_is ∙ of_client (p.port o.port).role client
-
-        client_there : has_number o.port (ports_of_role w.state.fixed Client) ≡ true
-        client_there =
-            let at = find-among (λ (k : Port). k.number == o.port) (p.port o.port) w.state.fixed.ports
-            (ap (λ (ports : List Port). find (λ (k : Port). k.number == o.port) ports) (shows.counts n living).knows.ports
-            ∙ port_there p o.port p.layout.sizes.ports numbered home.0) in
-            among-number o.port (ports_of_role w.state.fixed Client)
-            (subst (λ i. IsAmong i (ports_of_role w.state.fixed Client)) (eqb-true (p.port o.port).number o.port at.1)
-            (among-map (λ (k : Port). k.number) (p.port o.port) (filter (λ k. same_role k.role Client) w.state.fixed.ports)
-            (among-filter (λ (k : Port). same_role k.role Client) (p.port o.port) w.state.fixed.ports at.0 (same_client (p.port o.port).role client))))
-          where
-            same_client : (r : Role) → is_client r ≡ true → same_role r Client ≡ true
-            same_client Client is = refl
-            same_client Server is = absurd (true≢false (sym is))
+        loan_lane p w.state.fixed (seats n) layout numbered (shows.counts n living).knows.ports (calls n living).lanes o slot
+        (subst (PlaceFits p (seats n)) is (calls n living).fits.place) (ap (λ l. lent_in (message_at l)) is) client
 
     lent_stored : IsStored p held after o.port slot
     lent_stored = record {

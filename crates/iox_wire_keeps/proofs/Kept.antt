@@ -1,6 +1,7 @@
 -- What other slots hold stays over an access: their messages, and their words.
+use Rattle.iox_model.specs.States.{Fixed, Port}
 use Rattle.iox_wire_locals.specs.declared.local.Ending.TheVariants as endings
-use Rattle.std.specs.Prelude.{Bool, List, Some, false, if◌then◌else◌, length, refl, slice_index, true, ℕ, ◌*◌, ◌++◌, ◌+◌, ◌-◌, ◌<◌, ◌==◌, ◌≡◌, ◌≤◌}
+use Rattle.std.specs.Prelude.{Bool, List, Some, false, if◌then◌else◌, length, refl, slice_index, true, ℕ, ◌*◌, ◌++◌, ◌+◌, ◌-◌, ◌<◌, ◌==◌, ◌≡◌, ◌≤◌, [], filter, find, map, ◌∷◌}
 use Rattle.iox_wire_keeps.specs.Stored.{CallIsStored, GoesThrough, HoldsStored, IsStored, IsWritten, StandsWritten, StoresAt}
 use Rattle.iox_wire_locals.specs.declared.local.Local.TheVariants.{Ends, LendEmpties, LendStores, Reads, ReceiveAsks, ReceiveLoads, SendAsks, SendEmpties, SendEnds, SendEvicts, SendGetsBack, SendLooks, SendOpens, SendPushes, Writes}
 use Rattle.iox_wire_moments.specs.MomentsOf.{Pools}
@@ -9,24 +10,20 @@ use Rattle.iox_steps.specs.Sites.{size}
 use Rattle.iox_wire_locals.specs.Steps.{next}
 use Rattle.iox_wire_laws.specs.WireHolding.SlotsKnown.{HasEntry}
 use Rattle.iox_laws.proofs.WeaveLedger.Truths.{never}
-use Rattle.iox_laws.proofs.WeaveLedger.Lists.{among-any, find-among}
-
+use Rattle.iox_laws.proofs.WeaveLedger.Lists.{among-any, find-among, IsAmong, among-filter, among-map, among-number}
 use Rattle.iox_wire_stands.proofs.OthersHold.{named_taken}
-use Rattle.std.proofs.Common.{ap, eqb-true, subst, sym, true≢false, ◌∙◌}
+use Rattle.std.proofs.Common.{ap, eqb-true, subst, sym, true≢false, ◌∙◌, inl}
 use Rattle.iox_wire_stands.specs.Following.{CallMessage, Sent, Taken, message_at}
-
-
 use Rattle.iox_wire_locals.specs.declared.local.Ending.{Ending}
 use Rattle.iox_laws.proofs.WeaveLedger.Views.{less}
 use Rattle.iox_wire_locals.specs.Tables.{Setting, entry_at, port_shape, region_word, words_before_payload}
 use Rattle.iox_wire_locals.specs.Stored.{header_words, message_words}
-use Rattle.iox_wire_locals.specs.NewLoans.{loan_words}
+use Rattle.iox_wire_locals.specs.NewLoans.{loan_words, entry_in}
 use Rattle.iox_wire_words.specs.Fits.{WireContents, contents_after, with_word}
 use Rattle.iox_wire_locals.specs.declared.seat.Seat.{Seat}
 use Rattle.iox_model.specs.declared.way.Way.{Way}
-use Rattle.iox_model.specs.Maps.{put_at}
+use Rattle.iox_model.specs.Maps.{put_at, has_number}
 use Rattle.iox_model.specs.Messages.{Message}
-
 use Rattle.iox_wire_locals.specs.Locals.{program_of}
 use Rattle.iox_wire_laws.specs.WireHolding.Named.{ending_names, place_names}
 use Rattle.iox_wire_laws.specs.WireHolding.FarSlots.{IsInPool}
@@ -35,6 +32,26 @@ use Rattle.iox_laws.proofs.WeaveLaws.MapLemmas.{eqb-refl}
 use Rattle.std.specs.List.{list_any}
 use Rattle.iox_wire_locals.specs.declared.local.Local.{Local}
 use Rattle.iox_wire_locals.specs.declared.table.Entry.{Entry}
+use Rattle.iox_wire_calls.specs.Lanes.{AllLanesAreCounted, lanes_in, lent_in}
+use Rattle.iox_wire_calls.specs.Places.{IsNext}
+use Rattle.iox_model.specs.Peers.{ports_of_role}
+
+use Rattle.iox_wire_laws.specs.WireRegions.OwnedBegins.{LayoutFits}
+use Rattle.iox_wire_pools.specs.Uses.{how_often}
+
+use Rattle.iox_wire_calls.proofs.LanesTell.{lanes_are_the_pools, port_there, request_has, there_is, low}
+use Rattle.iox_model.specs.declared.kind.Role.{Role}
+use Rattle.iox_wire_stands.specs.Stands.{AreNumbered}
+
+
+use Rattle.iox_model.specs.Counts.{lent, numbered}
+use Rattle.iox_model.specs.Loans.{kind_of_loan}
+use Rattle.iox_model.specs.Settings.{is_client, same_role}
+
+use Rattle.iox_wire_locals.specs.declared.table.NewLoan.{NewLoan}
+
+use Rattle.iox_model.specs.declared.kind.Role.TheVariants.{Client, Server}
+use Rattle.iox_model.specs.Handles.{is_request_loan}
 
 -- with the same message a slot is stored
 pub stored_same : (p : Setting) (held new : Pools) (c : WireContents) (port slot : ℕ) → new port slot ≡ held port slot → IsStored p held c port slot
@@ -87,6 +104,38 @@ pub stores_at : (local : Local) (port slot : ℕ) → StoresInto local port slot
 stores_at (LendStores o own next) port slot into = into
 stores_at (Writes e words next) port slot into = into
 stores_at local port slot into = absurd into
+
+-- ---- lanes
+
+-- a request in the making is on one of its client's lanes
+pub loan_lane : (p : Setting) (f : Fixed) (x : Seat) → LayoutFits p f → AreNumbered p → f.ports ≡ map p.port p.layout.sizes.ports → AllLanesAreCounted p x
+    → (o : NewLoan) (slot : ℕ) → IsNext p x o → lent_in (message_at x.local) ≡ entry_in o slot ∷ [] → is_client (p.port o.port).role ≡ true
+    → o.lane < p.layout.sizes.lanes o.port
+loan_lane p f x layout numbered ports lanes o slot next lent client =
+    subst (λ k. o.lane < k) (sym (layout.lanes o.port client_there ∙ lanes_are_the_pools p f o.port numbered ports next.0.0))
+    (low p x lanes o.port next.0 client o.lane
+    (subst (λ es. 1 ≤ how_often o.lane (lanes_in o.port (es ++ x.table))) (sym lent)
+    (there_is o.port (entry_in o slot) (entry_in o slot ∷ x.table) (inl refl) (request_has o.kind request) refl)))
+  where
+    of_client : (r : Role) → is_client r ≡ true → is_request_loan (kind_of_loan r false) ≡ true
+    of_client Client is = refl
+    of_client Server is = absurd (true≢false (sym is))
+
+    request : is_request_loan o.kind ≡ true
+    request = ap is_request_loan next.1 ∙ of_client (p.port o.port).role client
+
+    same_client : (r : Role) → is_client r ≡ true → same_role r Client ≡ true
+    same_client Client is = refl
+    same_client Server is = absurd (true≢false (sym is))
+
+    client_there : has_number o.port (ports_of_role f Client) ≡ true
+    client_there =
+        let at = find-among (λ (k : Port). k.number == o.port) (p.port o.port) f.ports
+        (ap (λ (qs : List Port). find (λ (k : Port). k.number == o.port) qs) ports ∙ port_there p o.port p.layout.sizes.ports numbered next.0.0) in
+        among-number o.port (ports_of_role f Client)
+        (subst (λ i. IsAmong i (ports_of_role f Client)) (eqb-true (p.port o.port).number o.port at.1)
+        (among-map (λ (k : Port). k.number) (p.port o.port) (filter (λ k. same_role k.role Client) f.ports)
+        (among-filter (λ (k : Port). same_role k.role Client) (p.port o.port) f.ports at.0 (same_client (p.port o.port).role client))))
 
 -- ---- names
 

@@ -5,3 +5,4 @@ pub mod Alone
 pub mod Quiet
 pub mod Kept
 pub mod Accesses
+pub mod MessageEnds

@@ -3,3 +3,4 @@ pub mod Bounds
 pub mod Stored
 pub mod Alone
 pub mod Accesses
+pub mod MessageEnds

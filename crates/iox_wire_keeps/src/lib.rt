@@ -6,6 +6,7 @@ ghost use Rattle.iox_wire_keeps.specs.Accesses.{AccessesLeaveMessages};
 ghost use Rattle.iox_wire_keeps.specs.Alone.{StoredSlotsAreAlone};
 ghost use Rattle.iox_wire_keeps.specs.Bounds.{BeginsLeaveBounds, BoundsTell, OpenedWiresAreBound};
 ghost use Rattle.iox_wire_keeps.specs.Bounds.{StepsLeaveBounds};
+ghost use Rattle.iox_wire_keeps.specs.MessageEnds.{EndsLeaveMessages};
 ghost use Rattle.iox_wire_keeps.specs.Stored.{DeathsLeaveSlots, OpenedSlotsHoldMessages};
 ghost use Rattle.iox_wire_keeps.specs.Stored.{StoredWordsAreTold};
 
@@ -37,4 +38,9 @@ pub fn stored_slots_are_alone()
 /// After an access slots hold their messages.
 pub fn accesses_leave_messages()
     ensures { AccessesLeaveMessages }
+{}
+
+/// After the end of a call slots hold their messages.
+pub fn ends_leave_messages()
+    ensures { EndsLeaveMessages }
 {}
