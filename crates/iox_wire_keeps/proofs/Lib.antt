@@ -6,3 +6,4 @@ pub mod Quiet
 pub mod Kept
 pub mod Accesses
 pub mod MessageEnds
+pub mod WireStands

@@ -4,3 +4,4 @@ pub mod Stored
 pub mod Alone
 pub mod Accesses
 pub mod MessageEnds
+pub mod WireStands

@@ -9,6 +9,7 @@ ghost use Rattle.iox_wire_keeps.specs.Bounds.{StepsLeaveBounds};
 ghost use Rattle.iox_wire_keeps.specs.MessageEnds.{EndsLeaveMessages};
 ghost use Rattle.iox_wire_keeps.specs.Stored.{DeathsLeaveSlots, OpenedSlotsHoldMessages};
 ghost use Rattle.iox_wire_keeps.specs.Stored.{StoredWordsAreTold};
+ghost use Rattle.iox_wire_keeps.specs.WireStands.{OpenedWiresStand, WiresStandAfterDeaths};
 
 /// The accesses of a node bound its queues and its loans as a wire opens, as calls begin, and after
 /// each step.
@@ -43,4 +44,10 @@ pub fn accesses_leave_messages()
 /// After the end of a call slots hold their messages.
 pub fn ends_leave_messages()
     ensures { EndsLeaveMessages }
+{}
+
+/// A wire stands as it opens, and after deaths.
+pub fn wires_stand()
+    ensures opened { OpenedWiresStand }
+    ensures dead { WiresStandAfterDeaths }
 {}
