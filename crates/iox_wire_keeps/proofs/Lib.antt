@@ -7,3 +7,5 @@ pub mod Kept
 pub mod Accesses
 pub mod MessageEnds
 pub mod WireStands
+pub mod StepParts
+pub mod StepWhole

@@ -112,7 +112,7 @@ module _ (p : Setting) (x : Seat) where
   send_evicted d w left count place Evict = tt
   send_evicted d w left count place event = delivering d (Some w) left count
 
-  visiting : (v : Visit) (left : List Way) (waiting : Bool) → K (receives.visiting p x v left waiting)
+  pub visiting : (v : Visit) (left : List Way) (waiting : Bool) → K (receives.visiting p x v left waiting)
   visiting v [] true = tt
   visiting v [] false = tt
   visiting v (w ∷ left) waiting = either (is_at_limit (known p x) w) _ _ tt tt
@@ -134,7 +134,7 @@ module _ (p : Setting) (x : Seat) where
   returned v w slot left waiting place (Publish given) = tt
   returned v w slot left waiting place event = tt
 
-  seeking : (left : List Way) → K (receives.seeking x left)
+  pub seeking : (left : List Way) → K (receives.seeking x left)
   seeking [] = tt
   seeking (w ∷ left) = tt
 
@@ -143,15 +143,15 @@ module _ (p : Setting) (x : Seat) where
   sought w left place SeesWaiting = tt
   sought w left place event = tt
 
-  closing : (e : Entry) (left : List Way) → K (receives.closing x e left)
+  pub closing : (e : Entry) (left : List Way) → K (receives.closing x e left)
   closing e [] = tt
   closing e (w ∷ left) = tt
 
-  checking : (e : Entry) (hinted : Bool) (left : List Way) → K (receives.checking x e hinted left)
+  pub checking : (e : Entry) (hinted : Bool) (left : List Way) → K (receives.checking x e hinted left)
   checking e hinted [] = tt
   checking e hinted (w ∷ left) = tt
 
-  hinting : (e : Entry) (left : List Way) → K (receives.hinting x e left)
+  pub hinting : (e : Entry) (left : List Way) → K (receives.hinting x e left)
   hinting e [] = tt
   hinting e (w ∷ left) = tt
 

@@ -9,7 +9,7 @@ ghost use Rattle.iox_wire_keeps.specs.Bounds.{StepsLeaveBounds};
 ghost use Rattle.iox_wire_keeps.specs.MessageEnds.{EndsLeaveMessages};
 ghost use Rattle.iox_wire_keeps.specs.Stored.{DeathsLeaveSlots, OpenedSlotsHoldMessages};
 ghost use Rattle.iox_wire_keeps.specs.Stored.{StoredWordsAreTold};
-ghost use Rattle.iox_wire_keeps.specs.WireStands.{OpenedWiresStand, WiresStandAfterDeaths};
+ghost use Rattle.iox_wire_keeps.specs.WireStands.{OpenedWiresStand, SteppedWiresStand, WiresStandAfterDeaths};
 
 /// The accesses of a node bound its queues and its loans as a wire opens, as calls begin, and after
 /// each step.
@@ -50,4 +50,9 @@ pub fn ends_leave_messages()
 pub fn wires_stand()
     ensures opened { OpenedWiresStand }
     ensures dead { WiresStandAfterDeaths }
+{}
+
+/// And it stands after each step of a living node with a call.
+pub fn steps_keep()
+    ensures { SteppedWiresStand }
 {}
