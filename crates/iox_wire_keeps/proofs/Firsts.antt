@@ -52,6 +52,7 @@ use Rattle.iox_steps.specs.declared.side.Popping.{Popping}
 use Rattle.iox_model.specs.declared.way.Way.{Way}
 use Rattle.iox_wire_locals.specs.declared.local.Visit.{Visit}
 
+
 -- nothing is stored or loaded at the place
 abbrev pub IsFirst : Local → Type 0
 IsFirst (LendStores o slot next) = next ≡ 0

@@ -9,3 +9,6 @@ pub mod MessageEnds
 pub mod WireStands
 pub mod StepParts
 pub mod StepWhole
+pub mod Firsts
+pub mod MessageBegins
+pub mod BeginWhole

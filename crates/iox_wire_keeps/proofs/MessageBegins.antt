@@ -1,4 +1,53 @@
 -- Slots hold their messages as a call begins.
+use Rattle.iox_wire_keeps.proofs.Firsts.{IsFirst, first}
+use Rattle.iox_wire_locals.specs.declared.local.Ending.TheVariants as endings
+use Rattle.std.specs.Prelude.{Bool, List, None, false, if◌then◌else◌, length, refl, true, ℕ, ◌*◌, ◌++◌, ◌-◌, ◌<◌, ◌==◌, ◌≡◌, ◌⊎◌}
+use Rattle.iox_wire_locals.specs.declared.local.Ending.{Ending}
+use Rattle.iox_wire_laws.specs.WireRegions.StoredMessages.{StandFrom, header_in, words_in}
+use Rattle.std.proofs.Common.{ap, arith, inl, inr, subst, sym, true≢false, ◌∙◌}
+use Rattle.iox_wire_stands.proofs.Starts.{Starting, Starts, Takes, starts}
+use Rattle.iox_wire_locals.specs.declared.local.Local.TheVariants.{Ends, Idle, LendEmpties, LendStores, Reads, ReceiveAsks, ReceiveLoads, Writes}
+use Rattle.iox_wire_laws.specs.WireKeeping.Shows.{ShowsWorld}
+use Rattle.iox_wire_keeps.proofs.StepWhole.{written_own}
+use Rattle.iox_wire_locals.specs.NewLoans.{loan_words, message_in}
+use Rattle.iox_wire_laws.specs.WireHolding.Holding.{held_at}
+use Rattle.iox_model.specs.Weaves.{World}
+use Rattle.iox_wire_stands.specs.Following.{CallMessage, LeavesNothing, Leaving, Sent, Taken, message_at}
+use Rattle.iox_wire_locals.specs.Steps.{next}
+use Rattle.iox_wire_locals.specs.declared.table.Entry.{Entry}
+use Rattle.iox_wire_keeps.specs.Stored.{CallIsStored, GoesThrough, HoldsStored, IsStored, IsWritten, SlotsHoldMessages, StandsWritten, WhatWaitsIsStored}
+use Rattle.iox_wire_keeps.proofs.Accesses.{loan_kept}
+use Rattle.iox_model.specs.Receives.{took}
+use Rattle.iox_wire_laws.specs.WireHolding.FarSlots.{IsInPool}
+use Rattle.iox_wire_locals.specs.declared.seat.Seat.{Seat}
+use Rattle.iox_laws.proofs.WeaveLedger.Truths.{or-left}
+use Rattle.iox_wire_laws.specs.WireRegions.OwnedBegins.{LayoutFits}
+use Rattle.iox_wire_laws.proofs.WireKeeping.CountsKept.{begins_keep_own}
+use Rattle.iox_wire_moments.specs.MomentsOf.{Pools}
+use Rattle.iox_steps.specs.Sites.{size}
+use Rattle.iox_wire_locals.specs.Tables.{Setting, entry_at, port_shape, words_before_payload}
+use Rattle.iox_model.specs.Maps.{has_number, put_at}
+use Rattle.iox_wire_keeps.proofs.Kept.{Stays, named_entry, node_stays, stays}
+use Rattle.iox_wire_calls.specs.Places.{CallFits, IsLoan, PlaceFits}
+use Rattle.iox_wire_words.specs.Fits.{WireContents}
+use Rattle.iox_wire_pools.proofs.Counting.{used}
+use Rattle.iox_wire_locals.specs.declared.table.NewLoan.{NewLoan}
+use Rattle.iox_wire_locals.specs.Begins.{begin}
+use Rattle.iox_wire_laws.specs.WireHolding.SlotsKnown.{HasEntry}
+use Rattle.iox_wire_keeps.specs.MessageBegins.{BeginsLeaveMessages, FirstFits}
+use Rattle.iox_wire_stands.specs.Nodes.{NodeStands}
+use Rattle.iox_wire_laws.specs.WireHolding.HeldSteps.{FreeSlotsAreUnnamed}
+use Rattle.iox_model.specs.Commands.{WireCall}
+use Rattle.iox_wire_laws.proofs.WireRegions.MessageLists.{count_of_words}
+use Rattle.iox_wire_keeps.proofs.Firsts.{IsFirst}
+use Rattle.iox_model.specs.Joins.{not_living}
+use Rattle.iox_wire_locals.specs.declared.local.Local.{Local}
+use Rattle.iox_laws.proofs.WeaveLaws.MapLemmas.{eqb-refl}
+use Rattle.iox_wire_laws.proofs.WireHolding.HoldingLaws.{one_slot_changes}
+use Rattle.iox_wire_locals.specs.Known.{free_slots}
+use Rattle.std.specs.Ordering.{on}
+use Rattle.iox_wire_laws.proofs.WireHolding.FreeSlots.{free_slots_are_nobodys}
+
 
 -- a call that starts without a loan of its own changes no slot
 starts_held : (p : Setting) (x : Seat) (held : Pools) (local : Local) (m : CallMessage) → message_at local ≡ m → Starting p x m → held_at p held local ≡ held
@@ -117,18 +166,18 @@ module _ (p : Setting) (held : Pools) (word : ℕ → ℕ) (c : WireContents) (s
   place_now (LendEmpties o v part left) first size place start = size
   place_now (LendStores o slot next) first size place start = (size, none_yet o.port slot 0 (loan_words p o) next first)
   place_now (Writes e words next) first size place (inl start) = written_now e words next place (ap (entry_at e.number) same_table ∙ start) first size
-  place_now (Writes e words next) first size place (inr (o, slot, is)) = absurd (cc)
+  place_now (Writes e words next) first size place (inr (o, (slot, is))) = absurd (cc)
   place_now (Reads e words) first size place start = ((new e.sender e.slot).user ++ (new e.sender e.slot).payload, ap (λ xs. xs ++ ((new e.sender e.slot).user ++ (new e.sender e.slot).payload)) first)
   place_now (ReceiveLoads v u slot header left waiting) first size place start = (header_in p new u.sender slot, ap (λ xs. xs ++ header_in p new u.sender slot) first)
   place_now (ReceiveAsks v u slot header left waiting) first size place start = absurd first
   place_now (Ends ending) first size place (inl start) = ended_now ending first size place start
-  place_now (Ends ending) first size place (inr (o, slot, is)) = absurd (cc)
+  place_now (Ends ending) first size place (inr (o, (slot, is))) = absurd (cc)
   place_now local first size place start = tt
 
   starting : Starts p w.state.request_state (seats n) (begin p (seats n) call) ⊎ Takes (seats n) (begin p (seats n) call)
       → Starting p (seats n) (message_at y.local) ⊎ ((o : NewLoan) × ((slot : ℕ) × (y.local ≡ LendStores o slot 0)))
   starting (inl start) = inl start.message
-  starting (inr took) = inr (took.loan, took.slot, took.place)
+  starting (inr took) = inr (took.loan, (took.slot, took.place))
 
   own_holds : HoldsStored p new c y
   own_holds = record {

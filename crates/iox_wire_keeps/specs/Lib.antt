@@ -5,3 +5,4 @@ pub mod Alone
 pub mod Accesses
 pub mod MessageEnds
 pub mod WireStands
+pub mod MessageBegins

@@ -1,4 +1,31 @@
 -- Slots hold their messages as a call begins, and so a wire stands.
+use Rattle.iox_wire_locals.specs.declared.local.Ending.TheVariants as endings
+use Rattle.iox_wire_locals.specs.declared.seat.Seat.{Seat}
+use Rattle.iox_wire_stands.specs.Stands.{Player}
+use Rattle.std.specs.Prelude.{List, None, [], length, true, ℕ, ◌*◌, ◌++◌, ◌<◌, ◌∷◌, ◌≡◌}
+use Rattle.iox_wire_locals.specs.declared.local.Local.TheVariants.{Ends, Idle, LendEmpties, LendStores, Writes}
+use Rattle.iox_wire_laws.specs.WireRegions.OwnedBegins.{LayoutFits}
+use Rattle.iox_model.specs.Commands.{WireCall}
+use Rattle.iox_wire_calls.specs.CallsStand.{moves_words}
+use Rattle.iox_model.specs.Weaves.{Begins, World, begin_refusal}
+use Rattle.iox_wire_moments.specs.MomentsOf.{Pools}
+use Rattle.iox_wire_locals.specs.Begins.{begin}
+use Rattle.iox_wire_keeps.specs.WireStands.{WireStands}
+use Rattle.iox_wire_laws.specs.WireKeeping.Shows.{ShowsWorld}
+use Rattle.iox_wire_locals.specs.Tables.{Setting, port_shape}
+use Rattle.iox_wire_keeps.specs.Stored.{LoanFits, SlotsHoldMessages}
+use Rattle.iox_wire_stands.specs.Runs.{Asked, GoesOnBy, Run}
+use Rattle.iox_wire_laws.specs.WireHolding.Holding.{held_at}
+use Rattle.iox_model.specs.Joins.{not_living}
+use Rattle.iox_wire_locals.specs.declared.local.Local.{Local}
+use Rattle.iox_model.specs.Maps.{put_at}
+use Rattle.iox_model.specs.States.{State}
+use Rattle.iox_wire_calls.specs.Places.{CallFits}
+use Rattle.iox_steps.specs.Sites.{last_position}
+use Rattle.iox_wire_laws.specs.WireRegions.OwnedWords.{Owns}
+use Rattle.iox_wire_laws.specs.WireKeeping.Readiness.{choice_for}
+use Rattle.iox_wire_stands.specs.Nodes.{NodeStands}
+use Rattle.iox_wire_words.specs.Fits.{WireContents}
 
 -- what is lent or written at the first place of a call is as long as it says
 abbrev pub FirstFits : Setting → Local → Type 0

@@ -6,6 +6,7 @@ ghost use Rattle.iox_wire_keeps.specs.Accesses.{AccessesLeaveMessages};
 ghost use Rattle.iox_wire_keeps.specs.Alone.{StoredSlotsAreAlone};
 ghost use Rattle.iox_wire_keeps.specs.Bounds.{BeginsLeaveBounds, BoundsTell, OpenedWiresAreBound};
 ghost use Rattle.iox_wire_keeps.specs.Bounds.{StepsLeaveBounds};
+ghost use Rattle.iox_wire_keeps.specs.MessageBegins.{BeginsLeaveMessages, BegunWiresStand};
 ghost use Rattle.iox_wire_keeps.specs.MessageEnds.{EndsLeaveMessages};
 ghost use Rattle.iox_wire_keeps.specs.Stored.{DeathsLeaveSlots, OpenedSlotsHoldMessages};
 ghost use Rattle.iox_wire_keeps.specs.Stored.{StoredWordsAreTold};
@@ -55,4 +56,14 @@ pub fn wires_stand()
 /// And it stands after each step of a living node with a call.
 pub fn steps_keep()
     ensures { SteppedWiresStand }
+{}
+
+/// As a call begins slots hold their messages.
+pub fn begins_leave_messages()
+    ensures { BeginsLeaveMessages }
+{}
+
+/// A wire stands as a call begins that is not refused.
+pub fn begins_keep()
+    ensures { BegunWiresStand }
 {}
