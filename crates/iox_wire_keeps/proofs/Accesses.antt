@@ -1,6 +1,6 @@
 -- Slots hold their messages after an access: those of other nodes and of queues stay, and the node's
 -- own goes on.
-use Rattle.iox_steps.specs.Sites.{is_empty}
+use Rattle.iox_wire_keeps.proofs.Published.{evict_never, full_never, popping_never}
 use Rattle.iox_steps.specs.EventLists.{state_after}
 use Rattle.iox_wire_keeps.specs.Accesses.{AccessesLeaveMessages}
 use Rattle.iox_wire_keeps.proofs.Quiet.{IsQuiet, MovesWords}
@@ -10,36 +10,30 @@ use Rattle.iox_wire_keeps.proofs.Quiet as quiet
 use Rattle.iox_steps.specs.declared.push.Push.TheVariants as push
 use Rattle.iox_wire_locals.specs.Findings as findings
 use Rattle.iox_wire_locals.specs.ReceiveCourses as receives
-use Rattle.iox_steps.specs.declared.push.FullLook.TheVariants as full_look
 use Rattle.iox_model.specs.declared.kind.Kind.TheVariants as kinds
-use Rattle.iox_steps.specs.declared.side.Popping.TheVariants as popping
-use Rattle.iox_steps.specs.declared.pop.Pop.TheVariants as pop
 use Rattle.iox_wire_locals.specs.Courses as courses
 use Rattle.iox_steps.specs.declared.side.Pushing.TheVariants as pushing
 use Rattle.iox_wire_locals.specs.declared.local.Ending.TheVariants as endings
-use Rattle.iox_steps.specs.declared.pop.EmptyLook.TheVariants as empty_look
 use Rattle.iox_wire_stands.specs.Following.{CallMessage, Dropped, Follows, LeavesNothing, Leaving, NoMessage, Sent, Taken, lets_go, message_at, picks_slot, puts_aside, sends_loan, keeps, takes, drops, Lent, OfEntry, TakesOn}
 use Rattle.iox_steps.specs.Sides.{popping_event, pushing_event}
-use Rattle.iox_steps.specs.Pushes.{full_look_event}
 use Rattle.iox_wire_locals.specs.declared.local.Local.TheVariants.{Ends, Idle, LendEmpties, LendStores, Reads, ReceiveAsks, ReceiveLoads, ReceiveReturns, ReleaseReturns, SendEnds, SendEvicts, SendGetsBack, SendLooks, SendPushes, Writes, ReceivePops}
 use Rattle.iox_wire_locals.specs.NewLoans.{entry_in, loan_words, message_in, received_length, request_in}
-use Rattle.std.specs.Prelude.{Bool, List, None, [], false, if◌then◌else◌, length, refl, true, ℕ, ◌++◌, ◌+◌, ◌-◌, ◌<◌, ◌==◌, ◌∷◌, ◌≡◌, ◌⊎◌, filter, find, ◌*◌, ◌≤◌}
+use Rattle.std.specs.Prelude.{Bool, List, None, [], false, if◌then◌else◌, length, refl, true, ℕ, ◌++◌, ◌+◌, ◌<◌, ◌==◌, ◌∷◌, ◌≡◌, ◌⊎◌, ◌*◌, ◌≤◌}
 use Rattle.std.proofs.Common.{ap, arith, eq-eqb, eqb-true, inl, inr, subst, sym, true≢false, ◌∙◌}
 use Rattle.iox_wire_laws.specs.WireKeeping.Writes.{is_slot_of}
-use Rattle.iox_model.specs.States.{Fixed, Port}
-use Rattle.iox_model.specs.Handles.{is_received, is_request_loan}
+use Rattle.iox_model.specs.States.{Fixed}
+use Rattle.iox_model.specs.Handles.{is_received}
 use Rattle.iox_wire_keeps.specs.Stored.{CallIsStored, GoesThrough, HoldsStored, IsStored, IsWritten, LoanFits, SlotsHoldMessages, StoresAt, WhatWaitsIsStored}
 use Rattle.iox_wire_locals.specs.Steps.{accessed, advance}
-use Rattle.iox_steps.specs.declared.site.Site.{Site}
 use Rattle.iox_wire_laws.specs.WireHolding.Holding.{held_after, held_from, held_with}
 use Rattle.iox_wire_locals.specs.Tables.{Setting, entry_at, words_before_payload, words_to_read, port_shape}
 use Rattle.iox_wire_stands.proofs.Follows.{accesses_follow}
 use Rattle.iox_wire_words.specs.Fits.{WireContents, contents_after, MayRun}
 use Rattle.iox_wire_stands.proofs.SlotsFollow.{NotLent, held_not, held_picked, held_stays, not_stores}
 use Rattle.iox_wire_locals.specs.declared.local.Delivery.{Delivery}
-use Rattle.iox_model.specs.Settings.{is_client, other_role, same_role}
+use Rattle.iox_model.specs.Settings.{is_client, other_role}
 use Rattle.iox_wire_locals.specs.declared.local.Visit.{Visit}
-use Rattle.iox_laws.proofs.WeaveLedger.Lists.{IsAmong, among-append, among-number, number-among, among-filter, among-map, find-among}
+use Rattle.iox_laws.proofs.WeaveLedger.Lists.{IsAmong, among-append, among-number, number-among}
 use Rattle.iox_model.specs.Responses.{copies, sends}
 use Rattle.iox_wire_laws.proofs.WireRegions.MessageStores.{loans_are_stored, messages_stay, writes_are_stored}
 use Rattle.iox_word_map.specs.WordMaps.{MessageQueue}
@@ -58,7 +52,7 @@ use Rattle.iox_wire_laws.proofs.WireRegions.MessageLists.{all_first, header_coun
 use Rattle.iox_steps.specs.Accesses.{seen_by}
 use Rattle.iox_wire_calls.specs.Places.{IsLoan, PlaceFits}
 use Rattle.iox_wire_locals.specs.declared.local.Ending.{Ending}
-use Rattle.iox_steps.specs.declared.side.QueueEvent.TheVariants.{Evict, HandOut, Publish, Quiet, SeesEmpty, SeesFull, SeesRoom, SeesWaiting}
+use Rattle.iox_steps.specs.declared.side.QueueEvent.TheVariants.{Evict, HandOut, Publish, SeesEmpty}
 use Rattle.iox_wire_words.proofs.PieceLemmas.{same_queue-true}
 use Rattle.iox_wire_laws.proofs.WireHolding.HoldingLaws.{one_slot_changes}
 use Rattle.iox_model.specs.declared.way.Way.{Way}
@@ -72,18 +66,15 @@ use Rattle.iox_wire_keeps.specs.Alone.{IsAlone}
 use Rattle.iox_wire_keeps.proofs.Kept.{Stays, named_entry, node_stays, stands_same, stores_at, stays}
 use Rattle.iox_wire_laws.specs.WireRegions.Regions.{HasRegion}
 use Rattle.iox_steps.specs.declared.side.Popping.{Popping}
-use Rattle.iox_steps.specs.Pops.{is_taken}
 use Rattle.iox_wire_pools.proofs.AccessesFound.{Only, only}
 use Rattle.iox_wire_words.specs.Laws.{IsMade, Finds}
 use Rattle.iox_wire_laws.specs.WireHolding.Named.{place_names}
-use Rattle.iox_model.specs.Receives.{receives}
 use Rattle.iox_wire_locals.specs.declared.seat.Seat.{Seat}
 use Rattle.iox_wire_laws.specs.WireRegions.OwnedBegins.{LayoutFits}
 use Rattle.iox_wire_laws.specs.WireKeeping.Shows.{ShowsWorld, programs_of}
 use Rattle.iox_wire_laws.proofs.WireKeeping.CountsKept.{steps_keep_own}
 use Rattle.iox_wire_locals.specs.declared.table.Entry.{Entry}
 use Rattle.iox_wire_locals.specs.Stored.{header_length}
-use Rattle.iox_steps.specs.Sites.{is_full}
 use Rattle.iox_wire_keeps.proofs.Alone.{stored_slots_are_alone}
 use Rattle.iox_model.specs.Joins.{not_living}
 use Rattle.iox_wire_stands.specs.Nodes.{NodeStands}
@@ -99,62 +90,20 @@ use Rattle.iox_wire_locals.specs.declared.local.Local.{Local}
 use Rattle.iox_wire_laws.proofs.WireHolding.FreeSlots.{free_slots_are_nobodys}
 use Rattle.iox_model.specs.declared.kind.Kind.{Kind}
 use Rattle.iox_wire_locals.specs.declared.table.NewLoan.{NewLoan}
-use Rattle.iox_steps.specs.declared.push.FullLook.{FullLook}
-use Rattle.iox_wire_locals.specs.ReceiveFindings as found
-use Rattle.iox_wire_calls.specs.Lanes.{lanes_in, lent_in}
-use Rattle.iox_wire_calls.proofs.LanesTell.{lanes_are_the_pools, port_there, request_has, there_is, low}
-use Rattle.iox_wire_pools.specs.Uses.{how_often}
+use Rattle.iox_wire_calls.specs.Lanes.{lent_in}
+use Rattle.iox_wire_calls.proofs.LanesTell.{low}
 use Rattle.iox_wire_calls.specs.LoanSlots.{HoldsLoan}
 use Rattle.iox_wire_laws.proofs.WireRegions.OwnedPlaces.{owners_may_access}
 use Rattle.iox_wire_words.proofs.Steps.{each_access_keeps_the_words}
-use Rattle.iox_model.specs.declared.kind.Role.TheVariants.{Client, Server}
-use Rattle.iox_model.specs.declared.kind.Role.{Role}
 use Rattle.iox_steps.specs.Fits.{write_of}
 use Rattle.iox_wire_stands.proofs.OthersHold.{named_taken}
-use Rattle.iox_model.specs.Peers.{ports_of_role}
 use Rattle.iox_model.specs.Counts.{lent}
-use Rattle.iox_model.specs.Loans.{kind_of_loan}
 
 -- a loan that was written is no received message
 pub loan_kept : (kind : Kind) → IsLoan kind → is_received kind ≡ false
 loan_kept kinds.ActiveRequest is = sym is
 loan_kept kinds.Response is = sym is
 loan_kept kind is = refl
-
--- ---- what is published
-
-popping_never : (site : Site) (place : Popping) (seen slot : ℕ) → popping_event site place seen ≡ Publish slot → ⊥
-popping_never site popping.AtRest seen slot is = absurd (cc)
-popping_never site (popping.Pops pop.LoadsRead) seen slot is = absurd (cc)
-popping_never site (popping.Pops (pop.LoadsWrite read)) seen slot is = by_case (is_empty site read seen) is
-  where
-    by_case : (b : Bool) → (if b then SeesEmpty else SeesWaiting) ≡ Publish slot → ⊥
-    by_case true is = absurd (cc)
-    by_case false is = absurd (cc)
-popping_never site (popping.Pops (pop.LoadsCell read cell)) seen slot is = absurd (cc)
-popping_never site (popping.Pops (pop.Takes read value)) seen slot is = by_case (is_taken site.kind read seen) is
-  where
-    by_case : (b : Bool) → (if b then HandOut value else Quiet) ≡ Publish slot → ⊥
-    by_case true is = absurd (cc)
-    by_case false is = absurd (cc)
-popping_never site (popping.Looks empty_look.LoadsRead) seen slot is = absurd (cc)
-popping_never site (popping.Looks (empty_look.LoadsWrite read)) seen slot is = by_case (is_empty site read seen) is
-  where
-    by_case : (b : Bool) → (if b then SeesEmpty else SeesWaiting) ≡ Publish slot → ⊥
-    by_case true is = absurd (cc)
-    by_case false is = absurd (cc)
-
-full_never : (site : Site) (place : FullLook) (seen slot : ℕ) → full_look_event site place seen ≡ Publish slot → ⊥
-full_never site full_look.LoadsWrite seen slot is = absurd (cc)
-full_never site (full_look.LoadsRead write) seen slot is = by_case (is_full site seen write) is
-  where
-    by_case : (b : Bool) → (if b then SeesFull else SeesRoom) ≡ Publish slot → ⊥
-    by_case true is = absurd (cc)
-    by_case false is = absurd (cc)
-
-evict_never : (b : Bool) (slot : ℕ) → (if b then Evict else Quiet) ≡ Publish slot → ⊥
-evict_never true slot is = absurd (cc)
-evict_never false slot is = absurd (cc)
 
 abbrev IsLent : CallMessage → Type 0
 IsLent (Lent o slot) = Unit {0}
@@ -552,9 +501,13 @@ module _ (p : Setting) (held : Pools) (word word' : ℕ → ℕ) (c : WireConten
       either (λ (q : Seat). GoesThrough p (From (Writes e words next) q.local) (contents_after p.layout (program_of p (Writes e words next)) seen c) q.local)
       (next + 1 == length words) (courses.ended (accessed (seats n)) (endings.Fills e words))
       (courses.placed (accessed (seats n)) (Writes e words (next + 1)))
-      (λ last. (fits, lane, more.0,
-      subst (StandFrom p (contents_after p.layout (program_of p (Writes e words next)) seen c) e.port e.slot (words_before_payload p e.port) words) (eqb-true (next + 1) (length words) last) more.1,
-      long))
+      (λ last. (
+        fits,
+        lane,
+        more.0,
+        subst (StandFrom p (contents_after p.layout (program_of p (Writes e words next)) seen c) e.port e.slot (words_before_payload p e.port) words) (eqb-true (next + 1) (length words) last) more.1,
+        long,
+      ))
       (λ not. (fits, lane, more.0, more.1, long))
   goes_on (Reads e words) is relies sees owns place on message through =
       let low : IsInPool p e.sender e.slot = entry_low e on (subst (λ l. LeavesNothing (message_at l)) (sym is) tt) in

@@ -5,7 +5,7 @@ use Rattle.iox_wire_stands.specs.Following.{LeavesNothing, Leaving, message_at}
 use Rattle.iox_wire_keeps.specs.Stored.{IsWritten, StoresAt}
 use Rattle.iox_wire_locals.specs.declared.seat.Seat.{Seat}
 use Rattle.iox_model.specs.Doings.{Doing, Ended, Fills, Loans}
-use Rattle.std.specs.Prelude.{Bool, List, None, Option, Some, [], false, if◌then◌else◌, not, refl, true, ℕ, ◌&&◌, ◌-◌, ◌<◌, ◌==◌, ◌∷◌, ◌≡◌, ◌⊎◌}
+use Rattle.std.specs.Prelude.{Bool, List, None, Option, Some, [], false, if◌then◌else◌, not, refl, true, ℕ, ◌&&◌, ◌<◌, ◌==◌, ◌∷◌, ◌≡◌, ◌⊎◌}
 use Rattle.std.proofs.Common.{ap, arith, eq-eqb, eqb-true, inl, inr, subst, sym, true≢false, ◌∙◌}
 use Rattle.iox_laws.proofs.WeaveBeats.LiveWays.{Here, from_is_live, here}
 use Rattle.iox_laws.proofs.WeaveLedger.Lists.{IsAmong, among-front, among-map, among-number, find-among, number-among}
@@ -27,7 +27,6 @@ use Rattle.iox_wire_words.specs.Fits.{WireContents}
 use Rattle.iox_wire_locals.specs.declared.table.NewLoan.{NewLoan}
 use Rattle.iox_wire_locals.specs.declared.local.Ending.{Ending}
 use Rattle.iox_wire_moments.specs.MomentsOf.{Pools}
-
 use Rattle.iox_model.specs.Peers.{node_of_port, ways_from}
 use Rattle.iox_wire_locals.specs.declared.local.Local.TheVariants.{Ends, LendStores, Writes}
 use Rattle.iox_model.specs.Weaves.{World}

@@ -1,11 +1,10 @@
 -- The begin of a call leads from what stands to what stands.
 use Rattle.iox_wire_laws.specs.WireHolding.Aside.{shown}
-use Rattle.std.specs.Prelude.{Bool, List, None, Some, [], false, if◌then◌else◌, length, refl, true, zero, ℕ, ◌*◌, ◌++◌, ◌+◌, ◌-◌, ◌<◌, ◌==◌, ◌^◌, ◌∷◌, ◌≡◌, ◌≤◌, ◌⊎◌}
+use Rattle.std.specs.Prelude.{Bool, List, None, Some, [], false, if◌then◌else◌, length, refl, true, ℕ, ◌*◌, ◌++◌, ◌+◌, ◌-◌, ◌<◌, ◌==◌, ◌^◌, ◌∷◌, ◌≡◌, ◌≤◌, ◌⊎◌}
 use Rattle.iox_wire_stands.specs.Stands.{Player, Stands, seats_of, word_of}
 use Rattle.std.proofs.Common.{ap, arith, eqb-true, inl, inr, subst, sym, ◌∙◌, suc}
 use Rattle.iox_wire_calls.specs.Places.{CallFits}
 use Rattle.iox_wire_stands.specs.Runs.{Asked, GoesOnBy, Run}
-
 use Rattle.iox_wire_calls.proofs.CallsBegin.{owners_are_set, rested, named, rests, alive}
 use Rattle.iox_wire_calls.proofs.PlaceBegins.{begins_fit}
 use Rattle.iox_wire_stands.specs.Following.{LeavesNothing, Leaving, message_at}
@@ -35,7 +34,6 @@ use Rattle.iox_wire_keeps.proofs.Bounds.{begins_leave_bounds}
 use Rattle.iox_wire_keeps.proofs.MessageBegins.{begins_leave_messages}
 use Rattle.iox_wire_laws.specs.WireHolding.FarSlots.{IsInPool}
 use Rattle.iox_model.specs.States.{State}
-
 use Rattle.iox_wire_locals.specs.declared.local.Local.TheVariants.{Idle}
 use Rattle.iox_wire_stands.proofs.BeginsKept.{begins_leave_nothing}
 use Rattle.iox_steps.specs.Sites.{last_position}

@@ -1,7 +1,7 @@
 -- What other slots hold stays over an access: their messages, and their words.
 use Rattle.iox_model.specs.States.{Fixed, Port}
 use Rattle.iox_wire_locals.specs.declared.local.Ending.TheVariants as endings
-use Rattle.std.specs.Prelude.{Bool, List, Some, false, if◌then◌else◌, length, refl, slice_index, true, ℕ, ◌*◌, ◌++◌, ◌+◌, ◌-◌, ◌<◌, ◌==◌, ◌≡◌, ◌≤◌, [], filter, find, map, ◌∷◌}
+use Rattle.std.specs.Prelude.{Bool, List, Some, false, if◌then◌else◌, length, refl, slice_index, true, ℕ, ◌*◌, ◌++◌, ◌+◌, ◌<◌, ◌==◌, ◌≡◌, ◌≤◌, [], filter, find, map, ◌∷◌}
 use Rattle.iox_wire_keeps.specs.Stored.{CallIsStored, GoesThrough, HoldsStored, IsStored, IsWritten, StandsWritten, StoresAt}
 use Rattle.iox_wire_locals.specs.declared.local.Local.TheVariants.{Ends, LendEmpties, LendStores, Reads, ReceiveAsks, ReceiveLoads, SendAsks, SendEmpties, SendEnds, SendEvicts, SendGetsBack, SendLooks, SendOpens, SendPushes, Writes}
 use Rattle.iox_wire_moments.specs.MomentsOf.{Pools}
@@ -35,21 +35,15 @@ use Rattle.iox_wire_locals.specs.declared.table.Entry.{Entry}
 use Rattle.iox_wire_calls.specs.Lanes.{AllLanesAreCounted, lanes_in, lent_in}
 use Rattle.iox_wire_calls.specs.Places.{IsNext}
 use Rattle.iox_model.specs.Peers.{ports_of_role}
-
 use Rattle.iox_wire_laws.specs.WireRegions.OwnedBegins.{LayoutFits}
 use Rattle.iox_wire_pools.specs.Uses.{how_often}
-
 use Rattle.iox_wire_calls.proofs.LanesTell.{lanes_are_the_pools, port_there, request_has, there_is, low}
 use Rattle.iox_model.specs.declared.kind.Role.{Role}
 use Rattle.iox_wire_stands.specs.Stands.{AreNumbered}
-
-
 use Rattle.iox_model.specs.Counts.{lent, numbered}
 use Rattle.iox_model.specs.Loans.{kind_of_loan}
 use Rattle.iox_model.specs.Settings.{is_client, same_role}
-
 use Rattle.iox_wire_locals.specs.declared.table.NewLoan.{NewLoan}
-
 use Rattle.iox_model.specs.declared.kind.Role.TheVariants.{Client, Server}
 use Rattle.iox_model.specs.Handles.{is_request_loan}
 

@@ -1,7 +1,7 @@
 -- Slots hold their messages as a call begins.
 use Rattle.iox_wire_keeps.proofs.Firsts.{IsFirst, first}
 use Rattle.iox_wire_locals.specs.declared.local.Ending.TheVariants as endings
-use Rattle.std.specs.Prelude.{Bool, List, None, false, if◌then◌else◌, length, refl, true, ℕ, ◌*◌, ◌++◌, ◌-◌, ◌<◌, ◌==◌, ◌≡◌, ◌⊎◌}
+use Rattle.std.specs.Prelude.{Bool, List, None, false, if◌then◌else◌, length, refl, true, ℕ, ◌*◌, ◌++◌, ◌<◌, ◌==◌, ◌≡◌, ◌⊎◌}
 use Rattle.iox_wire_locals.specs.declared.local.Ending.{Ending}
 use Rattle.iox_wire_laws.specs.WireRegions.StoredMessages.{StandFrom, header_in, words_in}
 use Rattle.std.proofs.Common.{ap, arith, inl, inr, subst, sym, true≢false, ◌∙◌}
@@ -47,7 +47,6 @@ use Rattle.iox_wire_laws.proofs.WireHolding.HoldingLaws.{one_slot_changes}
 use Rattle.iox_wire_locals.specs.Known.{free_slots}
 use Rattle.std.specs.Ordering.{on}
 use Rattle.iox_wire_laws.proofs.WireHolding.FreeSlots.{free_slots_are_nobodys}
-
 
 -- a call that starts without a loan of its own changes no slot
 starts_held : (p : Setting) (x : Seat) (held : Pools) (local : Local) (m : CallMessage) → message_at local ≡ m → Starting p x m → held_at p held local ≡ held

@@ -5,12 +5,11 @@ use Rattle.iox_wire_locals.specs.declared.local.Ending.TheVariants as endings
 use Rattle.std.proofs.Common.{ap, append_assoc, arith, eq-eqb, eqb-true, inl, inr, subst, sym, true≢false, ◌∙◌}
 use Rattle.iox_wire_calls.specs.Lanes.{lent_in}
 use Rattle.iox_wire_keeps.specs.Stored.{CallIsStored, GoesThrough, HoldsStored, IsStored, IsWritten, SlotsHoldMessages, StoresAt, WhatWaitsIsStored}
-use Rattle.std.specs.Prelude.{Bool, List, None, Option, Some, [], false, if◌then◌else◌, length, map, refl, slice_index, true, ℕ, ◌&&◌, ◌*◌, ◌++◌, ◌+◌, ◌-◌, ◌<◌, ◌==◌, ◌∷◌, ◌≡◌, ◌≤◌, not, ◌⊎◌}
+use Rattle.std.specs.Prelude.{Bool, List, None, Option, Some, [], false, if◌then◌else◌, length, map, refl, slice_index, true, ℕ, ◌&&◌, ◌*◌, ◌++◌, ◌+◌, ◌-◌, ◌<◌, ◌==◌, ◌≡◌, ◌≤◌, not, ◌⊎◌}
 use Rattle.iox_laws.proofs.WeaveLedger.Truths.{false_if, never}
 use Rattle.iox_wire_laws.specs.WireHolding.SlotsKnown.{IsPortOfSeat, HasEntry}
 use Rattle.iox_wire_laws.specs.WireRegions.Regions.{HasRegion}
 use Rattle.iox_model.specs.declared.kind.Role.{Role}
-
 use Rattle.iox_model.specs.Settings.{is_client}
 use Rattle.iox_wire_laws.specs.WireKeeping.Writes.{is_slot_of, with_payload}
 use Rattle.iox_wire_laws.specs.WireHolding.Holding.{held_with}
@@ -48,7 +47,6 @@ use Rattle.iox_wire_locals.specs.declared.table.NewLoan.{NewLoan}
 use Rattle.iox_wire_locals.specs.declared.table.Entry.{Entry}
 use Rattle.iox_wire_stands.specs.Stands.{AreNumbered}
 use Rattle.iox_wire_calls.specs.Places.{IsNext, PlaceFits}
-
 use Rattle.iox_wire_steps.specs.WholeSteps.{held_closed}
 use Rattle.iox_model.specs.Joins.{not_living}
 use Rattle.iox_wire_locals.specs.declared.local.Visit.{Visit}
@@ -371,8 +369,8 @@ module _ (p : Setting) (held : Pools) (c : WireContents) (seats : ℕ → Seat) 
     received_added v u slot header number ends = (
       ends.1,
       sym (ap (λ xs. slice_index xs (received_length v - 1)) ends.0.0
-      ∙ ap (λ r. slice_index (header_in p held u.sender slot) (header_length r - 1)) (sym ends.0.1)
-      ∙ header_elements (p.port u.sender).role (held u.sender slot)),
+          ∙ ap (λ r. slice_index (header_in p held u.sender slot) (header_length r - 1)) (sym ends.0.1)
+          ∙ header_elements (p.port u.sender).role (held u.sender slot)),
     )
 
     added : (e : Ending) → ending ≡ e → Ended e → PayloadStands p c payload e → (q : Entry) → IsAdded p (seats n) e q → Added e q

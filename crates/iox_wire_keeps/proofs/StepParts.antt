@@ -6,7 +6,7 @@ use Rattle.iox_wire_locals.specs.Courses as courses
 use Rattle.iox_wire_keeps.proofs.Quiet as quiet
 use Rattle.iox_wire_locals.specs.declared.local.Local.TheVariants.{Checks, Ends, HintExchanges, Hints, LendEmpties, LendStores, Reads, ReceiveAsks, ReceiveLoads, ReleaseCloses, ReleaseExchanges, ReleaseLooks, ReleaseReturns, SendEnds, Writes}
 use Rattle.std.proofs.Common.{ap, arith, inl, inr, subst, sym, ◌∙◌}
-use Rattle.std.specs.Prelude.{List, Some, [], length, refl, slice_index, suc, true, zero, ℕ, ◌*◌, ◌++◌, ◌+◌, ◌-◌, ◌<◌, ◌==◌, ◌∷◌, ◌≡◌, ◌≤◌, ◌⊎◌}
+use Rattle.std.specs.Prelude.{List, Some, [], length, refl, slice_index, suc, true, zero, ℕ, ◌*◌, ◌++◌, ◌+◌, ◌<◌, ◌==◌, ◌∷◌, ◌≡◌, ◌≤◌, ◌⊎◌}
 use Rattle.iox_model.specs.declared.way.Way.{Way}
 use Rattle.iox_wire_locals.specs.declared.seat.Seat.{Seat}
 use Rattle.iox_wire_locals.specs.declared.local.Ending.{Ending}
@@ -27,11 +27,9 @@ use Rattle.iox_wire_laws.specs.WireRegions.StoredMessages.{AreFirst, StandFrom, 
 use Rattle.iox_laws.proofs.WeaveLedger.Views.{less}
 use Rattle.iox_wire_laws.specs.WireHolding.FarSlots.{IsInPool}
 use Rattle.iox_wire_stands.specs.Stands.{Player, seats_of}
-
 use Rattle.iox_model.specs.Messages.{Message}
 use Rattle.iox_wire_locals.specs.Steps.{accessed, advance, ending_at}
 use Rattle.iox_wire_locals.specs.WorkedCalls.{hinted}
-
 use Rattle.iox_model.specs.Receives.{took}
 use Rattle.iox_wire_moments.specs.MomentsOf.{Pools}
 use Rattle.iox_wire_locals.specs.declared.local.Local.{Local}

@@ -21,7 +21,6 @@ use Rattle.iox_wire_calls.specs.LoanSlots.{WordsAreTold}
 use Rattle.iox_wire_steps.proofs.Received.{no_client, no_server}
 use Rattle.iox_wire_stands.specs.Stands.{AreNumbered, OwnersAre, word_of}
 use Rattle.iox_model.specs.Peers.{is_counted_on, ports_of_role, role_at}
-
 use Rattle.iox_steps.specs.Fits.{read_of, write_of}
 use Rattle.iox_wire_stands.proofs.Deaths.{lived}
 use Rattle.iox_wire_calls.specs.EndsTold.{HeaderIsTold}
@@ -44,11 +43,9 @@ use Rattle.iox_wire_locals.specs.StepLaws.{ReliesOn}
 use Rattle.iox_wire_laws.proofs.WireRegions.MessageLoads.{headers_tell_their_messages, reads_find_their_messages}
 use Rattle.iox_wire_laws.specs.WireKeeping.Shows.{ShowsWorld, programs_of}
 use Rattle.iox_wire_calls.specs.StepsTold.{HeaderTells}
-
 use Rattle.iox_wire_locals.specs.declared.local.Ending.{Ending}
 use Rattle.iox_model.specs.Messages.{Message, response_way}
 use Rattle.iox_model.specs.declared.way.Way.{Way}
-
 use Rattle.iox_model.specs.declared.kind.Role.TheVariants.{Client, Server}
 use Rattle.iox_wire_words.specs.Fits.{WireContents}
 use Rattle.iox_wire_locals.specs.Tables.{Setting}
@@ -157,8 +154,11 @@ module _ (p : Setting) (held : Pools) (word : ℕ → ℕ) (c : WireContents) (s
       → (p.port y.sender).role ≡ other_role v.role → header ≡ header_in p held y.sender slot → HeaderTells p held v y slot header
   whole_tells v y slot header message way role whole = (
     request,
-    λ server. (lane server, subst (λ k. IsResponseWay p.layout.sizes (response_way y.sender k y.receiver)) (sym (lane server))
-        (asks v y (held y.sender slot).lane way role server message.fits.region.there (message.lane (ap is_client role ∙ client_is v.role server)))),
+    λ server. (
+      lane server,
+      subst (λ k. IsResponseWay p.layout.sizes (response_way y.sender k y.receiver)) (sym (lane server))
+          (asks v y (held y.sender slot).lane way role server message.fits.region.there (message.lane (ap is_client role ∙ client_is v.role server))),
+    ),
   )
     where
       long : header_length (p.port y.sender).role ≡ received_length v

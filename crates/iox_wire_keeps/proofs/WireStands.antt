@@ -12,7 +12,6 @@ use Rattle.iox_wire_stands.specs.Openings.{opened_seat}
 use Rattle.iox_wire_keeps.proofs.Bounds.{opened_wires_are_bound}
 use Rattle.iox_wire_keeps.proofs.Stored.{deaths_leave_slots, opened_slots_hold_messages}
 use Rattle.iox_wire_laws.specs.WireKeeping.Shows.{programs_of}
-
 use Rattle.iox_wire_calls.specs.CallsStand.{CallsStand}
 use Rattle.iox_wire_stands.proofs.Openings.{a_wire_opens}
 use Rattle.iox_model.specs.Weaves.{World}

@@ -4,7 +4,7 @@ use Rattle.iox_wire_locals.specs.Steps.{closed}
 use Rattle.iox_wire_keeps.specs.Stored.{IsWritten, SlotsHoldMessages, StoresAt}
 use Rattle.iox_model.specs.Maps.{has_number, put_at}
 use Rattle.iox_wire_steps.specs.Over.{CallIsOver}
-use Rattle.std.specs.Prelude.{List, None, Some, length, true, ℕ, ◌*◌, ◌<◌, ◌≡◌, map}
+use Rattle.std.specs.Prelude.{List, None, Some, length, true, ℕ, ◌*◌, ◌≡◌, map}
 use Rattle.iox_model.specs.States.{State}
 use Rattle.iox_wire_calls.specs.CallsStand.{CallStands}
 use Rattle.iox_wire_laws.specs.WireRegions.StoredMessages.{StandFrom}
@@ -13,12 +13,10 @@ use Rattle.iox_wire_steps.specs.WholeSteps.{held_closed}
 use Rattle.iox_wire_laws.specs.WireRegions.Regions.{HasRegion}
 use Rattle.iox_wire_locals.specs.declared.table.Entry.{Entry}
 use Rattle.iox_wire_moments.specs.MomentsOf.{Pools}
-use Rattle.iox_wire_locals.specs.declared.table.NewLoan.{NewLoan}
 use Rattle.iox_wire_words.specs.Fits.{WireContents}
 use Rattle.iox_wire_locals.specs.declared.local.Local.TheVariants.{Ends}
 use Rattle.iox_wire_locals.specs.declared.seat.Seat.{Seat}
 use Rattle.iox_wire_locals.specs.declared.local.Ending.{Ending}
-use Rattle.iox_model.specs.Settings.{is_client}
 use Rattle.iox_model.specs.Joins.{not_living}
 use Rattle.iox_wire_keeps.specs.Alone.{IsAlone}
 use Rattle.iox_wire_stands.specs.Stands.{AreNumbered}

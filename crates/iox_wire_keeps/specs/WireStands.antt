@@ -19,7 +19,7 @@ use Rattle.iox_word_map.specs.WordMaps.{total_words}
 use Rattle.iox_wire_stands.specs.Openings.{AgreesWith, opened_seat}
 use Rattle.iox_wire_stands.specs.Runs.{GoesOnBy, Run}
 use Rattle.iox_wire_locals.specs.Begins.{is_busy}
-use Rattle.iox_steps.specs.Sites.{last_position, cells}
+use Rattle.iox_steps.specs.Sites.{last_position}
 use Rattle.iox_wire_words.specs.Laws.{IsMade}
 use Rattle.iox_wire_calls.specs.CallsStand.{CallsStand}
 use Rattle.iox_wire_words.specs.Programs.{program_access}
