@@ -1,0 +1,165 @@
+-- The begin of a call leads from what stands to what stands.
+use Rattle.iox_wire_laws.specs.WireHolding.Aside.{shown}
+use Rattle.std.specs.Prelude.{Bool, List, None, Some, [], false, if◌then◌else◌, length, refl, true, ℕ, ◌*◌, ◌++◌, ◌+◌, ◌-◌, ◌<◌, ◌==◌, ◌^◌, ◌∷◌, ◌≡◌, ◌≤◌, ◌⊎◌}
+use Rattle.iox_wire_stands.specs.Stands.{Player, Stands, seats_of, word_of}
+use Rattle.std.proofs.Common.{ap, arith, eqb-true, inl, inr, subst, sym, ◌∙◌, suc}
+use Rattle.iox_wire_calls.specs.Places.{CallFits}
+use Rattle.iox_wire_stands.specs.Runs.{Asked, GoesOnBy, Run}
+use Rattle.iox_wire_calls.proofs.CallsBegin.{owners_are_set, rested, named, rests, alive}
+use Rattle.iox_wire_calls.proofs.PlaceBegins.{begins_fit}
+use Rattle.iox_wire_stands.specs.Following.{LeavesNothing, Leaving, message_at}
+use Rattle.iox_laws.proofs.WeaveLedger.Lists.{find-among}
+use Rattle.iox_wire_locals.specs.Known.{loans_at}
+use Rattle.iox_wire_locals.specs.Tables.{Setting, entry_at, port_shape}
+use Rattle.iox_wire_locals.specs.declared.seat.Seat.{Seat}
+use Rattle.iox_wire_laws.specs.WireHolding.SlotsKnown.{HasEntry}
+use Rattle.iox_wire_calls.proofs.CallsStand.{begun_calls_stand}
+use Rattle.iox_wire_keeps.specs.MessageBegins.{BegunWiresStand, FirstFits, FirstIsTold}
+use Rattle.iox_wire_locals.specs.Begins.{begin}
+use Rattle.iox_wire_laws.specs.WireKeeping.Readiness.{choice_for}
+use Rattle.iox_model.specs.Joins.{not_living}
+use Rattle.iox_wire_calls.specs.CallsStand.{BeginIsTold, CallsStand}
+use Rattle.iox_wire_locals.specs.declared.table.Entry.{Entry}
+use Rattle.iox_model.specs.Weaves.{Begins, World, begin_refusal}
+use Rattle.iox_wire_keeps.specs.Stored.{HoldsStored, IsWritten, SlotsHoldMessages}
+use Rattle.iox_wire_keeps.specs.WireStands.{WireStands}
+use Rattle.iox_wire_laws.specs.WireHolding.Holding.{held_at}
+use Rattle.iox_wire_stands.specs.Nodes.{NodeStands}
+use Rattle.iox_wire_stands.proofs.StepsKept.{shown_same}
+use Rattle.iox_model.specs.Maps.{put_at}
+use Rattle.iox_laws.proofs.WeaveLedger.Views.{less}
+use Rattle.iox_model.specs.Commands.{WireCall}
+use Rattle.iox_wire_keeps.specs.Bounds.{AccessesBound}
+use Rattle.iox_wire_keeps.proofs.Bounds.{begins_leave_bounds}
+use Rattle.iox_wire_keeps.proofs.MessageBegins.{begins_leave_messages}
+use Rattle.iox_wire_laws.specs.WireHolding.FarSlots.{IsInPool}
+use Rattle.iox_model.specs.States.{State}
+use Rattle.iox_wire_locals.specs.declared.local.Local.TheVariants.{Idle}
+use Rattle.iox_wire_stands.proofs.BeginsKept.{begins_leave_nothing}
+use Rattle.iox_steps.specs.Sites.{last_position}
+
+-- two lists without a word
+no_words_left : (xs ys : List ℕ) (a b : ℕ) → length xs ≡ a → length ys ≡ b → (a + b == 0) ≡ true → xs ++ ys ≡ []
+no_words_left [] [] a b first second is = refl
+no_words_left [] (y ∷ ys) a b first second is = absurd (some a b (length ys) second (eqb-true (a + b) 0 is))
+  where
+    some : (a b m : ℕ) → suc m ≡ b → a + b ≡ 0 → ⊥
+    some a b m more none = omega (arith, more, none)
+no_words_left (x ∷ xs) ys a b first second is = absurd (some a b (length xs) first (eqb-true (a + b) 0 is))
+  where
+    some : (a b m : ℕ) → suc m ≡ a → a + b ≡ 0 → ⊥
+    some a b m more none = omega (arith, more, none)
+
+module _ (p : Setting) (words : List ℕ) (players : ℕ → Player) (r : Run) (n : ℕ) (call : WireCall) (wire : WireStands p words players r)
+    (few : (players n).seat.accesses < last_position) (told : FirstIsTold p r.last.state (players n).seat call) (free : begin_refusal r.last n call ≡ None) where
+  abbrev z : Seat
+  z = (players n).seat
+
+  idle : (players n).seat.local ≡ Idle
+  idle = rests p words players r n call wire.stands wire.calls free
+
+  living : not_living r.last.state n ≡ None
+  living = alive p words players r n call wire.stands wire.calls free
+
+  same : seats_of p players n ≡ (players n).seat
+  same = rested p words players r n call wire.stands wire.calls free
+
+  few_loans : (port : ℕ) → loans_at (players n).seat port < 2 ^ 64
+  few_loans port = low (loans_at (players n).seat port) (players n).seat.accesses (wire.bounds.loans n port) few
+    where
+      low : (a b : ℕ) → a ≤ b → b < 2 ^ 64 - 1 → a < 2 ^ 64
+      low a b less few = omega (arith, less, few)
+
+  stored : HoldsStored p wire.stands.held wire.stands.contents (players n).seat
+  stored = subst (HoldsStored p wire.stands.held wire.stands.contents) same (wire.messages.nodes n living)
+
+  node : NodeStands p wire.stands.held r.last.state (players n).seat
+  node = subst (NodeStands p wire.stands.held r.last.state) same (wire.stands.nodes n living)
+
+  entry_low : (e : Entry) → HasEntry (players n).seat e → IsInPool p e.sender e.slot
+  entry_low e there = by_part (node.in_pools e there)
+    where
+      by_part : IsInPool p e.sender e.slot ⊎ (message_at (players n).seat.local ≡ Leaving e) → IsInPool p e.sender e.slot
+      by_part (inl low) = low
+      by_part (inr leaves) = absurd (subst LeavesNothing leaves (subst (λ l. LeavesNothing (message_at l)) (sym idle) tt))
+
+  its_entry : (k : ℕ) (e : Entry) → entry_at k (players n).seat.table ≡ Some e → HasEntry (players n).seat e
+  its_entry k e at =
+      ap (λ i. entry_at i (players n).seat.table) (eqb-true e.number k (find-among (λ (i : Entry). i.number == k) e (players n).seat.table at).1) ∙ at
+
+  begin_told : BeginIsTold p wire.stands.held r.last.state (players n).seat call
+  begin_told = record {
+    elements = λ k e at. stored.lengths e (its_entry k e at) (entry_low e (its_entry k e at));
+    words = λ k e at none.
+        let there = its_entry k e at in
+        let whole = (stored.entries e there (entry_low e there) (λ its. subst (λ l. IsWritten l e) idle its)).fits in
+        no_words_left (wire.stands.held e.sender e.slot).user (wire.stands.held e.sender e.slot).payload (length (port_shape p e.sender).user)
+        (e.elements * (port_shape p e.sender).width) whole.user
+        (whole.payload ∙ ap (λ i. i * (port_shape p e.sender).width) (stored.lengths e there (entry_low e there))) none;
+    owns = told.owns;
+  }
+
+  pub begun_run : (next : Run) × GoesOnBy r (Begins n call (choice_for p (players n).seat call)) next
+      × (later : Stands p words (put_at players n (record { seat = begin p (players n).seat call; said = (players n).said ++ Asked call ∷ [] })) next)
+      × (later.held ≡ held_at p wire.stands.held (begin p (players n).seat call).local)
+      × (later.contents ≡ wire.stands.contents)
+      × CallsStand p later.held (put_at players n (record { seat = begin p (players n).seat call; said = (players n).said ++ Asked call ∷ [] })) next.last.state
+  begun_run = begun_calls_stand p words players r n call wire.stands wire.calls few_loans begin_told free
+
+  first_fits : CallFits p (begin p (players n).seat call)
+  first_fits =
+      begins_fit p (players n).seat call wire.stands.numbers (owners_are_set p words players r n call wire.stands wire.calls free)
+      (named p words players r n call wire.stands wire.calls free) (subst (CallFits p) same (wire.calls n living).fits)
+
+  abbrev Held : Seat → Type 0
+  Held q =
+      SlotsHoldMessages p (held_at p wire.stands.held (begin p q call).local) wire.stands.contents (put_at (seats_of p players) n (begin p q call)) r.last.state
+
+  messages_begun : Held (players n).seat
+  messages_begun =
+      subst Held same
+      (begins_leave_messages p wire.stands.held (word_of words) wire.stands.contents (seats_of p players) r.last n call wire.stands.shows wire.stands.layout wire.stands.nodes
+      (λ k lives. (wire.calls k lives).fits) living (ap (λ (q : Seat). q.local) same ∙ idle) (subst (λ q. CallFits p (begin p q call)) (sym same) first_fits)
+      (subst (λ q. FirstFits p (begin p q call).local) (sym same) told.fits) wire.messages)
+
+  same_shown : shown p (begin p (players n).seat call) ≡ begin p (players n).seat call
+  same_shown = shown_same p (begin p (players n).seat call) (begin p (players n).seat call).local (begins_leave_nothing p (players n).seat call)
+
+  abbrev player : Player
+  player = record { seat = begin p (players n).seat call; said = (players n).said ++ Asked call ∷ [] }
+
+  same_seats : seats_of p (put_at players n player) ≡ put_at (seats_of p players) n (begin p (players n).seat call)
+  same_seats = λ d k. by_seat k (k == n) d
+    where
+      by_seat : (k : ℕ) (b : Bool) → shown p (if b then player else players k).seat ≡ (if b then begin p (players n).seat call else shown p (players k).seat)
+      by_seat k true = same_shown
+      by_seat k false = refl
+
+  same_raw : (λ i. (put_at players n player i).seat) ≡ put_at (λ i. (players i).seat) n (begin p (players n).seat call)
+  same_raw = λ d k. by_seat k (k == n) d
+    where
+      by_seat : (k : ℕ) (b : Bool) → (if b then player else players k).seat ≡ (if b then begin p (players n).seat call else (players k).seat)
+      by_seat k true = refl
+      by_seat k false = refl
+
+  pub begun_wire : WireStands p words (put_at players n player) begun_run.0
+  begun_wire = record {
+    stands = begun_run.2;
+    calls = begun_run.5;
+    messages = subst (λ (t : State). SlotsHoldMessages p begun_run.2.held begun_run.2.contents (seats_of p (put_at players n player)) t)
+        (sym (ap (λ (v : World). v.state) begun_run.1.beat.2))
+        (subst (λ (ss : ℕ → Seat). SlotsHoldMessages p begun_run.2.held begun_run.2.contents ss r.last.state) (sym same_seats)
+        (subst (λ h. SlotsHoldMessages p h begun_run.2.contents (put_at (seats_of p players) n (begin p (players n).seat call)) r.last.state) (sym begun_run.3)
+        (subst (λ d. SlotsHoldMessages p (held_at p wire.stands.held (begin p (players n).seat call).local) d (put_at (seats_of p players) n (begin p (players n).seat call)) r.last.state)
+        (sym begun_run.4) messages_begun)));
+    bounds = subst (λ (ss : ℕ → Seat). AccessesBound p begun_run.2.contents ss) (sym same_raw)
+        (subst (λ d. AccessesBound p d (put_at (λ i. (players i).seat) n (begin p (players n).seat call))) (sym begun_run.4)
+        (begins_leave_bounds p wire.stands.contents (λ i. (players i).seat) n call wire.bounds));
+  }
+
+pub begun_wires_stand : BegunWiresStand
+begun_wires_stand p words players r n call wire few told free = (
+  (begun_run p words players r n call wire few told free).0,
+  (begun_run p words players r n call wire few told free).1,
+  begun_wire p words players r n call wire few told free,
+)

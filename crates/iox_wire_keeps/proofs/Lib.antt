@@ -1,0 +1,16 @@
+pub mod AccessesMade
+pub mod Bounds
+pub mod Stored
+pub mod Alone
+pub mod Quiet
+pub mod Kept
+pub mod Published
+pub mod Accesses
+pub mod MessageEnds
+pub mod WireStands
+pub mod StepParts
+pub mod Forgotten
+pub mod StepWhole
+pub mod Firsts
+pub mod MessageBegins
+pub mod BeginWhole

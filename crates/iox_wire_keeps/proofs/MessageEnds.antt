@@ -1,0 +1,411 @@
+-- Slots hold their messages after the end of a call: the slot that it fills is no other's.
+use Rattle.iox_wire_laws.proofs.WireRegions.OwnPorts.{both}
+use Rattle.iox_wire_calls.proofs.EndsTold.{at_end}
+use Rattle.iox_wire_locals.specs.declared.local.Ending.TheVariants as endings
+use Rattle.std.proofs.Common.{ap, append_assoc, arith, eq-eqb, eqb-true, inl, inr, subst, sym, true≢false, ◌∙◌}
+use Rattle.iox_wire_calls.specs.Lanes.{lent_in}
+use Rattle.iox_wire_keeps.specs.Stored.{CallIsStored, GoesThrough, HoldsStored, IsStored, IsWritten, SlotsHoldMessages, StoresAt, WhatWaitsIsStored}
+use Rattle.std.specs.Prelude.{Bool, List, None, Option, Some, [], false, if◌then◌else◌, length, map, refl, slice_index, true, ℕ, ◌&&◌, ◌*◌, ◌++◌, ◌+◌, ◌-◌, ◌<◌, ◌==◌, ◌≡◌, ◌≤◌, not, ◌⊎◌}
+use Rattle.iox_laws.proofs.WeaveLedger.Truths.{false_if, never}
+use Rattle.iox_wire_laws.specs.WireHolding.SlotsKnown.{IsPortOfSeat, HasEntry}
+use Rattle.iox_wire_laws.specs.WireRegions.Regions.{HasRegion}
+use Rattle.iox_model.specs.declared.kind.Role.{Role}
+use Rattle.iox_model.specs.Settings.{is_client}
+use Rattle.iox_wire_laws.specs.WireKeeping.Writes.{is_slot_of, with_payload}
+use Rattle.iox_wire_laws.specs.WireHolding.Holding.{held_with}
+use Rattle.iox_wire_laws.specs.WireRegions.StoredMessages.{StandFrom, words_in, header_in}
+use Rattle.iox_model.specs.declared.way.Way.{Way}
+use Rattle.iox_wire_locals.specs.NewLoans.{entry_in, loan_words, message_in, received_entry, received_length}
+use Rattle.iox_wire_keeps.proofs.Kept.{Stays, loan_lane, named_entry, node_stays, slot_itself, stored_same, stays}
+use Rattle.iox_wire_locals.specs.Stored.{header_length, header_words, message_words}
+use Rattle.iox_wire_locals.specs.Tables.{Setting, port_shape, region_word, words_before_payload, sent_entry}
+use Rattle.iox_model.specs.Maps.{has_number, put_at}
+use Rattle.iox_wire_laws.proofs.WireHolding.HoldingLaws.{one_slot_changes}
+use Rattle.iox_model.specs.declared.kind.Role.TheVariants.{Client, Server}
+use Rattle.iox_model.specs.States.{State}
+use Rattle.iox_wire_calls.specs.CallsStand.{CallStands}
+use Rattle.iox_laws.proofs.CallFunctions.Leads.{behind}
+use Rattle.iox_wire_stands.specs.Following.{message_at, message_ended}
+use Rattle.iox_wire_laws.proofs.WireRegions.MessageLists.{count_of_words, header_count}
+use Rattle.iox_wire_locals.specs.declared.local.Local.TheVariants.{Ends, SendEnds}
+use Rattle.iox_wire_moments.specs.MomentsOf.{Pools}
+use Rattle.std.proofs.lemmas.List.{get_or-append-add, length-append}
+use Rattle.std.proofs.Math.ListN.{get_or-append}
+use Rattle.iox_wire_words.specs.Fits.{WireContents}
+use Rattle.iox_wire_locals.specs.declared.local.Ending.{Ending}
+use Rattle.iox_wire_keeps.specs.MessageEnds.{EndsAlone, PayloadStands, EndsLeaveMessages}
+use Rattle.iox_model.specs.Messages.{Message}
+use Rattle.iox_wire_calls.specs.LoanSlots.{HoldsLoan}
+use Rattle.std.proofs.lemmas.Bool.{cases_lt}
+use Rattle.iox_laws.proofs.WeaveLaws.MapLemmas.{eqb-refl}
+use Rattle.iox_wire_locals.specs.declared.local.Delivery.{Delivery}
+use Rattle.iox_wire_steps.specs.Over.{CallIsOver, EndsWith, IsDropped}
+use Rattle.iox_wire_laws.specs.WireRegions.OwnedBegins.{LayoutFits}
+use Rattle.iox_wire_locals.specs.Steps.{closed}
+use Rattle.iox_wire_locals.specs.declared.seat.Seat.{Seat}
+use Rattle.iox_wire_locals.specs.declared.table.NewLoan.{NewLoan}
+use Rattle.iox_wire_locals.specs.declared.table.Entry.{Entry}
+use Rattle.iox_wire_stands.specs.Stands.{AreNumbered}
+use Rattle.iox_wire_calls.specs.Places.{IsNext, PlaceFits}
+use Rattle.iox_wire_steps.specs.WholeSteps.{held_closed}
+use Rattle.iox_model.specs.Joins.{not_living}
+use Rattle.iox_wire_locals.specs.declared.local.Visit.{Visit}
+use Rattle.iox_laws.proofs.WeaveLedger.Lists.{among-front, among-number, number-among}
+use Rattle.iox_wire_stands.specs.EndLaws.{IsAdded}
+use Rattle.iox_wire_keeps.proofs.Stored.{header_elements}
+use Rattle.iox_wire_laws.specs.WireHolding.FarSlots.{IsInPool}
+use Rattle.iox_wire_locals.specs.Lendings.{next_handle}
+use Rattle.iox_wire_laws.specs.WireKeeping.UsedSlots.{slots_in_call, slots_used}
+use Rattle.iox_wire_stands.proofs.EndsKept.{ends_add_one_entry}
+
+-- ---- a message with another payload
+
+-- the words before the payload, and the payload, are those of a message
+joined : (p : Setting) (c : WireContents) (port slot : ℕ) (r : Role) (m : Message) (words : List ℕ) (from : ℕ) → from ≡ header_length r + length m.user
+    → StandFrom p c port slot 0 (message_words r m) from → StandFrom p c port slot from words (length words)
+    → StandFrom p c port slot 0 (header_words r m ++ (m.user ++ words)) (length (header_words r m ++ (m.user ++ words)))
+joined p c port slot r m words from is head tail k low = elim (cases_lt k from) [
+  | inl first ↦ (
+      let all : length (header_words r m ++ m.user) ≡ from = both in
+      let here : k < length (header_words r m ++ m.user) = omega arith in
+      head k first ∙ ap (λ xs. slice_index xs k) (sym (append_assoc (header_words r m) m.user m.payload))
+      ∙ get_or-append (header_words r m ++ m.user) m.payload 0 k here ∙ sym (get_or-append (header_words r m ++ m.user) words 0 k here)
+      ∙ ap (λ xs. slice_index xs k) (append_assoc (header_words r m) m.user words)
+      )
+  | inr behind ↦ (
+      let total : length (header_words r m ++ (m.user ++ words)) ≡ length (header_words r m) + length (m.user ++ words) = length-append (header_words r m) (m.user ++ words) in
+      let rest : length (m.user ++ words) ≡ length m.user + length words = length-append m.user words in
+      let all : length (header_words r m ++ m.user) ≡ from = both in
+      let head_count : length (header_words r m) ≡ header_length r = header_count r m in
+      let at : from + (k - from) ≡ 0 + k = omega arith in
+      let at' : length (header_words r m ++ m.user) + (k - from) ≡ k = omega arith in
+      ap (λ i. c.stored port (region_word p port slot i)) (sym at) ∙ tail (k - from) (omega arith)
+      ∙ sym (get_or-append-add (header_words r m ++ m.user) words (k - from) 0) ∙ ap (slice_index ((header_words r m ++ m.user) ++ words)) at'
+      ∙ ap (λ xs. slice_index xs k) (append_assoc (header_words r m) m.user words)
+      )
+]
+  where
+    both : length (header_words r m ++ m.user) ≡ from
+    both =
+        let a : length (header_words r m ++ m.user) ≡ length (header_words r m) + length m.user = length-append (header_words r m) m.user in
+        let b : length (header_words r m) ≡ header_length r = header_count r m in omega arith
+
+with_words : (r : Role) (m : Message) (words : List ℕ) → message_words r (record m { payload = words }) ≡ header_words r m ++ (m.user ++ words)
+with_words Client m words = refl
+with_words Server m words = refl
+
+-- a slot whose message has another payload, which stands there
+filled_slot : (p : Setting) (held new : Pools) (c : WireContents) (port slot : ℕ) (words : List ℕ) → new port slot ≡ record (held port slot) { payload = words }
+    → HasRegion p port → slot < (p.port port).pool → length (held port slot).user ≡ length (port_shape p port).user
+    → (held port slot).elements ≤ (p.port port).longest → length words ≡ (held port slot).elements * (port_shape p port).width
+    → (is_client (p.port port).role ≡ true → (held port slot).lane < p.layout.sizes.lanes port)
+    → StandFrom p c port slot 0 (words_in p held port slot) (words_before_payload p port) → StandFrom p c port slot (words_before_payload p port) words (length words)
+    → IsStored p new c port slot
+filled_slot p held new c port slot words is region low user room long lane head tail = record {
+  fits = record {
+    region = region;
+    in_pool = low;
+    user = ap (λ (m : Message). length m.user) is ∙ user;
+    payload = ap (λ (m : Message). length m.payload) is ∙ long ∙ ap (λ (m : Message). m.elements * (port_shape p port).width) (sym is);
+    room = subst (λ (m : Message). m.elements ≤ (p.port port).longest) (sym is) room;
+  };
+  words = subst (λ xs. StandFrom p c port slot 0 xs (length xs)) (sym (ap (message_words (p.port port).role) is ∙ with_words (p.port port).role (held port slot) words))
+      (joined p c port slot (p.port port).role (held port slot) words (words_before_payload p port) (ap (λ k. header_length (p.port port).role + k) (sym user)) head tail);
+  lane = λ client. subst (λ (m : Message). m.lane < p.layout.sizes.lanes port) (sym is) (lane client);
+}
+
+-- ---- which slots change
+
+payload_elsewhere : (held : Pools) (e : Entry) (words : List ℕ) (q j : ℕ) → (is_slot_of e q j ≡ true → ⊥) → with_payload held e words q j ≡ held q j
+payload_elsewhere held e words q j other = by_case (is_slot_of e q j) other
+  where
+    by_case : (b : Bool) → (b ≡ true → ⊥) → (if b then record (held q j) { payload = words } else held q j) ≡ held q j
+    by_case true never = absurd (never refl)
+    by_case false never = refl
+
+payload_there : (held : Pools) (e : Entry) (words : List ℕ) (q j : ℕ) → is_slot_of e q j ≡ true → with_payload held e words q j ≡ record (held q j) { payload = words }
+payload_there held e words q j is = ap (λ b. if b then record (held q j) { payload = words } else held q j) is
+
+elements_same : (held : Pools) (e : Entry) (words : List ℕ) (q j : ℕ) → (with_payload held e words q j).elements ≡ (held q j).elements
+elements_same held e words q j = by_case (is_slot_of e q j)
+  where
+    by_case : (b : Bool) → (if b then record (held q j) { payload = words } else held q j).elements ≡ (held q j).elements
+    by_case true = refl
+    by_case false = refl
+
+-- whether the end fills the slot
+abbrev fills : Ending → (port slot : ℕ) → Bool
+fills (endings.Lends o own) port slot = (port == o.port) && (slot == own)
+fills (endings.Fills e words) port slot = (port == e.port) && (slot == e.slot)
+fills ending port slot = false
+
+fills_at : (ending : Ending) (port slot : ℕ) → fills ending port slot ≡ true → StoresAt (Ends ending) port slot
+fills_at (endings.Lends o own) port slot is = let r = both (port == o.port) (slot == own) is in (eqb-true port o.port r.0, eqb-true slot own r.1)
+fills_at (endings.Fills e words) port slot is = let r = both (port == e.port) (slot == e.slot) is in (eqb-true port e.port r.0, eqb-true slot e.slot r.1)
+fills_at ending port slot is = absurd (true≢false (sym is))
+
+module _ (p : Setting) (held : Pools) (c : WireContents) (seats : ℕ → Seat) (s t : State) (n : ℕ) (payload : List ℕ)
+    (calls : CallStands p held (seats n)) (living : not_living s n ≡ None) (layout : LayoutFits p s.fixed) (numbered : AreNumbered p)
+    (ports : s.fixed.ports ≡ map p.port p.layout.sizes.ports)
+    (regions : (port : ℕ) → has_number port p.layout.sizes.ports ≡ true → HasRegion p port)
+    (written : (k : ℕ) → not_living s k ≡ None → (e : Entry) → IsWritten (seats k).local e → e.sender ≡ e.port) (has : SlotsHoldMessages p held c seats s) where
+  abbrev y : Seat
+  y = seats n
+
+  abbrev after : Ending → Pools
+  after ending = held_closed p held payload (Some ending)
+
+  module _ (ending : Ending) (over : CallIsOver p held t (seats n) ending) (alone : EndsAlone p c seats s n ending) (stands : PayloadStands p c payload ending) where
+    abbrev new : Pools
+    new = held_closed p held payload (Some ending)
+
+    abbrev z : Seat
+    z = closed p (seats n) (Some ending)
+
+    -- ---- what is so of the end
+
+    abbrev Ended : Ending → Type 0
+    Ended e =
+        GoesThrough p held c (Ends e) × CallIsStored p held c (message_ended e) × HoldsLoan p held (message_ended e)
+        × ((o : NewLoan) (slot : ℕ) → e ≡ endings.Lends o slot → IsNext p (seats n) o)
+        × ((k : Entry) → IsWritten (Ends e) k → IsWritten (seats n).local k) × ((k : Entry) → IsWritten (seats n).local k → IsWritten (Ends e) k)
+        × ((o : NewLoan) (slot : ℕ) → e ≡ endings.Lends o slot → (seats n).local ≡ Ends (endings.Lends o slot))
+
+    at_ends : (e : Ending) → (seats n).local ≡ Ends e → Ended e
+    at_ends e at = (
+      subst (GoesThrough p held c) at (has.nodes n living).place,
+      subst (λ l. CallIsStored p held c (message_at l)) at (has.nodes n living).call,
+      subst (λ l. HoldsLoan p held (message_at l)) at calls.loans.loan,
+      λ o slot is. subst (PlaceFits p (seats n)) (at ∙ ap Ends is) calls.fits.place,
+      λ k is. subst (λ l. IsWritten l k) (sym at) is,
+      λ k is. subst (λ l. IsWritten l k) at is,
+      λ o slot is. at ∙ ap Ends is,
+    )
+
+    at_sends : (d : Delivery) (last : Option Way) (count : ℕ) → (seats n).local ≡ SendEnds d last count → Ended (endings.Sends d.loan d.copied count)
+    at_sends d last count at = (
+      tt,
+      subst (λ l. CallIsStored p held c (message_at l)) at (has.nodes n living).call,
+      tt,
+      λ o slot is. absurd (cc),
+      λ k is. absurd is,
+      λ k is. subst (λ l. IsWritten l k) at is,
+      λ o slot is. absurd (cc),
+    )
+
+    ended : Ended ending
+    ended = at_end p held t (seats n) Ended at_ends at_sends ending over.at_end
+
+    -- ---- slots that stay
+
+    same_lent : (o : NewLoan) (own port slot : ℕ) → ((port == o.port) && (slot == own)) ≡ false → held_closed p held payload (Some (endings.Lends o own)) port slot ≡ held port slot
+    same_lent o own port slot other =
+        payload_elsewhere (held_with held o.port own (message_in p o)) (entry_in o own) payload port slot (λ is. true≢false (sym is ∙ other))
+        ∙ (one_slot_changes held o.port own (message_in p o)).1 port slot
+        (λ same there. true≢false (sym (rw (eq-eqb port o.port (sym same)) (eq-eqb slot own (sym there))) ∙ other))
+
+    -- an entry that a write fills is its port's own
+    own_sender : (e : Ending) → Ended e → (k : Entry) (words : List ℕ) → e ≡ endings.Fills k words → k.sender ≡ k.port
+    own_sender e ends k words is = written n living k (ends.4 k (subst (λ i. IsWritten (Ends i) k) (sym is) refl))
+
+    same_at : (e : Ending) → Ended e → (port slot : ℕ) → fills e port slot ≡ false → held_closed p held payload (Some e) port slot ≡ held port slot
+    same_at (endings.Lends o own) ends port slot other = same_lent o own port slot other
+    same_at (endings.Fills k words) ends port slot other =
+        payload_elsewhere held k words port slot
+        (λ is. true≢false (sym (subst (λ i. ((port == i) && (slot == k.slot)) ≡ true) (own_sender (endings.Fills k words) ends k words refl) is) ∙ other))
+    same_at (endings.Sends k copied count) ends port slot other = refl
+    same_at (endings.FailsToSend k copied r) ends port slot other = refl
+    same_at (endings.Receives v u own header) ends port slot other = refl
+    same_at (endings.Drops k) ends port slot other = refl
+    same_at e ends port slot other = refl
+
+    still_at : (port slot : ℕ) → (fills ending port slot ≡ true → ⊥) → Stays p held new c c port slot
+    still_at port slot other = record {
+      message = same_at ending ended port slot (false_if (fills ending port slot) other);
+      words = λ stored. stored;
+    }
+
+    -- ---- others
+
+    others_stay : (k : ℕ) → (k == n) ≡ false → not_living s k ≡ None → HoldsStored p new c (seats k)
+    others_stay k other lives =
+        node_stays p held new c c (seats k)
+        (λ e there low. still_at e.sender e.slot
+        (λ is. named_entry e.sender e.slot (seats k).table e there refl refl ((alone e.sender e.slot (fills_at ending e.sender e.slot is)).entries k other lives)))
+        (λ port slot named. still_at port slot (λ is. true≢false (sym named ∙ (alone port slot (fills_at ending port slot is)).places k other lives)))
+        (λ port slot from words count at stand. stand) (written k lives) (has.nodes k lives)
+
+    queues_stay : WhatWaitsIsStored p new c s.fixed
+    queues_stay v slot way on there =
+        stays p held new c c v.sender slot
+        (still_at v.sender slot (λ is. true≢false (sym there ∙ (alone v.sender slot (fills_at ending v.sender slot is)).ways.waiting v way on refl)))
+        (has.waiting v slot way on there)
+
+    -- ---- the slot that is filled
+
+    before_payload : (o : NewLoan) → o.payload ≡ [] → length (loan_words p o) ≡ words_before_payload p o.port
+    before_payload o none =
+        count_of_words (p.port o.port).role (message_in p o)
+        ∙ ap (λ k. header_length (p.port o.port).role + (length (port_shape p o.port).user + k)) (ap length none)
+        ∙ ap (λ k. header_length (p.port o.port).role + k) (no_more (length (port_shape p o.port).user))
+      where
+        no_more : (k : ℕ) → k + 0 ≡ k
+        no_more k = omega arith
+
+    in_pool : (o : NewLoan) (slot : ℕ) → ending ≡ endings.Lends o slot → IsPortOfSeat p (seats n) o.port → slot < (p.port o.port).pool
+    in_pool o slot is home =
+        (over.slots.pools o.port home).within slot
+        (among-number slot (slots_used (seats n) o.port) (among-front slot (slots_in_call o.port (seats n).local) _ (number-among slot (slots_in_call o.port (seats n).local) there)))
+      where
+        there : has_number slot (slots_in_call o.port (seats n).local) ≡ true
+        there = ap (λ l. has_number slot (slots_in_call o.port l)) ((subst Ended is ended).6 o slot refl) ∙ rw (eqb-refl o.port) (rw (eqb-refl slot) refl)
+
+    new_loan : (o : NewLoan) (slot : ℕ) → ending ≡ endings.Lends o slot → Ended (endings.Lends o slot) → PayloadStands p c payload (endings.Lends o slot)
+        → IsStored p (held_closed p held payload (Some (endings.Lends o slot))) c o.port slot
+        × ((held_closed p held payload (Some (endings.Lends o slot)) o.port slot).elements ≡ o.elements)
+    new_loan o slot is ends found =
+        let home : IsPortOfSeat p (seats n) o.port = (ends.3 o slot refl).0 in
+        let now : held_closed p held payload (Some (endings.Lends o slot)) o.port slot ≡ record (held o.port slot) { payload = payload }
+        = payload_there (held_with held o.port slot (message_in p o)) (entry_in o slot) payload o.port slot (rw (eqb-refl o.port) (eqb-refl slot))
+        ∙ ap (λ (m : Message). record m { payload = payload }) ((one_slot_changes held o.port slot (message_in p o)).0 ∙ sym ends.2) in (
+          filled_slot p held (held_closed p held payload (Some (endings.Lends o slot))) c o.port slot payload now (regions o.port home.0) (in_pool o slot is home)
+              (ap (λ (m : Message). length m.user) ends.2)
+              (subst (λ (m : Message). m.elements ≤ (p.port o.port).longest) (sym ends.2) ends.0.0.0)
+              (found.0 ∙ ap (λ (m : Message). m.elements * (port_shape p o.port).width) (sym ends.2))
+              (λ client. subst (λ (m : Message). m.lane < p.layout.sizes.lanes o.port) (sym ends.2)
+              (loan_lane p s.fixed (seats n) layout numbered ports calls.lanes o slot (ends.3 o slot refl) (ap (λ l. lent_in (message_at l)) (ends.6 o slot refl)) client))
+              (subst (StandFrom p c o.port slot 0 (words_in p held o.port slot)) (before_payload o (ends.0.0.2 ends.0.1))
+              (subst (λ (m : Message). StandFrom p c o.port slot 0 (message_words (p.port o.port).role m) (length (loan_words p o))) (sym ends.2) ends.0.2))
+              found.1,
+          ap (λ (m : Message). m.elements) now ∙ ap (λ (m : Message). m.elements) ends.2,
+        )
+
+    -- the entries of the node are in pools, but for one that is dropped
+    low_of : (k : Entry) → (IsDropped ending k → ⊥) → HasEntry (seats n) k → IsInPool p k.sender k.slot
+    low_of k not there = by_part (over.in_pools k there)
+      where
+        by_part : IsInPool p k.sender k.slot ⊎ IsDropped ending k → IsInPool p k.sender k.slot
+        by_part (inl low) = low
+        by_part (inr dropped) = absurd (not dropped)
+
+    written_slot : (k : Entry) (words : List ℕ) → ending ≡ endings.Fills k words → Ended (endings.Fills k words)
+        → IsStored p (held_closed p held payload (Some (endings.Fills k words))) c k.sender k.slot
+    written_slot k words is ends =
+        let own : k.sender ≡ k.port = own_sender (endings.Fills k words) ends k words refl in
+        let there : HasEntry (seats n) k = subst (EndsWith p t.fixed (seats n)) is over.message in
+        let long : (held k.port k.slot).elements ≡ k.elements
+        = ap (λ i. (held i k.slot).elements) (sym own)
+        ∙ (has.nodes n living).lengths k there (low_of k (λ dropped. subst (λ e. IsDropped e k → ⊥) (sym is) (λ none. none) dropped) there) in
+        subst (λ i. IsStored p (with_payload held k words) c i k.slot) (sym own)
+        (filled_slot p held (with_payload held k words) c k.port k.slot words
+        (payload_there held k words k.port k.slot (rw (eq-eqb k.port k.sender (sym own)) (eqb-refl k.slot))) ends.0.0.region ends.0.0.in_pool ends.0.0.user ends.0.0.room
+        (ends.0.4 ∙ ap (λ i. i * (port_shape p k.port).width) (sym long)) ends.0.1 ends.0.2 ends.0.3)
+
+    -- ---- the node itself
+
+    elements_at : (e : Ending) → Ended e → (port slot : ℕ) → (held_closed p held payload (Some e) port slot).elements ≡ (held port slot).elements
+    elements_at (endings.Lends o own) ends port slot =
+        elements_same (held_with held o.port own (message_in p o)) (entry_in o own) payload port slot ∙ by_case ((o.port == port) && (own == slot)) refl
+      where
+        by_case : (b : Bool) → ((o.port == port) && (own == slot)) ≡ b → (if b then message_in p o else held port slot).elements ≡ (held port slot).elements
+        by_case true is =
+            let r = both (o.port == port) (own == slot) is in
+            ap (λ (m : Message). m.elements) (sym ends.2) ∙ ap (λ i. (held i own).elements) (eqb-true o.port port r.0)
+            ∙ ap (λ i. (held port i).elements) (eqb-true own slot r.1)
+        by_case false is = refl
+    elements_at (endings.Fills k words) ends port slot = elements_same held k words port slot
+    elements_at (endings.Sends k copied count) ends port slot = refl
+    elements_at (endings.FailsToSend k copied r) ends port slot = refl
+    elements_at (endings.Receives v u own header) ends port slot = refl
+    elements_at (endings.Drops k) ends port slot = refl
+    elements_at e ends port slot = refl
+
+    -- what was an entry is stored still, or now
+    other_entry : (e : Ending) → ending ≡ e → Ended e → ((q : Entry) → IsWritten (Ends e) q → ⊥) → (k : Entry) → HasEntry (seats n) k → IsInPool p k.sender k.slot
+        → IsStored p (held_closed p held payload (Some e)) c k.sender k.slot
+    other_entry e is ends none k there low = by_case (fills e k.sender k.slot) refl
+      where
+        by_case : (b : Bool) → fills e k.sender k.slot ≡ b → IsStored p (held_closed p held payload (Some e)) c k.sender k.slot
+        by_case true at =
+            absurd (none k (ends.5 k ((alone k.sender k.slot (fills_at ending k.sender k.slot (ap (λ i. fills i k.sender k.slot) is ∙ at))).own k there (slot_itself k))))
+        by_case false at =
+            stored_same p held (held_closed p held payload (Some e)) c k.sender k.slot (same_at e ends k.sender k.slot at)
+            ((has.nodes n living).entries k there low (λ its. none k (ends.5 k its)))
+
+    old_entry : (e : Ending) → ending ≡ e → Ended e → (k : Entry) → HasEntry (seats n) k → IsInPool p k.sender k.slot
+        → IsStored p (held_closed p held payload (Some e)) c k.sender k.slot
+    old_entry (endings.Fills i words) is ends k there low = by_case (fills (endings.Fills i words) k.sender k.slot) refl
+      where
+        by_case : (b : Bool) → fills (endings.Fills i words) k.sender k.slot ≡ b → IsStored p (held_closed p held payload (Some (endings.Fills i words))) c k.sender k.slot
+        by_case true at =
+            let its : IsWritten (seats n).local k
+            = (alone k.sender k.slot (fills_at ending k.sender k.slot (ap (λ e. fills e k.sender k.slot) is ∙ at))).own k there (slot_itself k) in
+            subst (λ (q : Entry). IsStored p (held_closed p held payload (Some (endings.Fills i words))) c q.sender q.slot) (ends.5 k its) (written_slot i words is ends)
+        by_case false at =
+            stored_same p held (held_closed p held payload (Some (endings.Fills i words))) c k.sender k.slot (same_at (endings.Fills i words) ends k.sender k.slot at)
+            ((has.nodes n living).entries k there low (λ its. true≢false (sym (filled_here k (ends.5 k its)) ∙ at)))
+          where
+            filled_here : (q : Entry) → i ≡ q → fills (endings.Fills i words) q.sender q.slot ≡ true
+            filled_here q same =
+                subst (λ (r : Entry). fills (endings.Fills i words) r.sender r.slot ≡ true) same
+                (rw (eq-eqb i.sender i.port (own_sender (endings.Fills i words) ends i words refl)) (eqb-refl i.slot))
+    old_entry e is ends k there low = other_entry e is ends (λ q its. its) k there low
+
+    -- what the end adds is stored
+    abbrev Added : Ending → Entry → Type 0
+    Added e q =
+        IsStored p (held_closed p held payload (Some e)) c q.sender q.slot × ((held_closed p held payload (Some e) q.sender q.slot).elements ≡ q.elements)
+
+    sent_added : (k : Entry) (copied : Bool) (count : ℕ) → ending ≡ endings.Sends k copied count → Ended (endings.Sends k copied count)
+        → Added (endings.Sends k copied count) (sent_entry k count)
+    sent_added k true count is ends = ends.1
+    sent_added k false count is ends =
+        let there : HasEntry (seats n) k = subst (EndsWith p t.fixed (seats n)) is over.message in
+        let low : IsInPool p k.sender k.slot = low_of k (λ dropped. subst (λ e. IsDropped e k → ⊥) (sym is) (λ none. none) dropped) there in
+        ((has.nodes n living).entries k there low (λ its. ends.5 k its), (has.nodes n living).lengths k there low)
+
+    received_added : (v : Visit) (u : Way) (slot : ℕ) (header : List ℕ) (number : ℕ) → Ended (endings.Receives v u slot header)
+        → Added (endings.Receives v u slot header) (received_entry number v u slot header)
+    received_added v u slot header number ends = (
+      ends.1,
+      sym (ap (λ xs. slice_index xs (received_length v - 1)) ends.0.0
+          ∙ ap (λ r. slice_index (header_in p held u.sender slot) (header_length r - 1)) (sym ends.0.1)
+          ∙ header_elements (p.port u.sender).role (held u.sender slot)),
+    )
+
+    added : (e : Ending) → ending ≡ e → Ended e → PayloadStands p c payload e → (q : Entry) → IsAdded p (seats n) e q → Added e q
+    added (endings.Lends o slot) is ends found q new_entry = subst (Added (endings.Lends o slot)) (sym new_entry) (new_loan o slot is ends found)
+    added (endings.Sends k copied count) is ends found q new_entry = subst (Added (endings.Sends k copied count)) (sym new_entry) (sent_added k copied count is ends)
+    added (endings.Receives v u slot header) is ends found q new_entry =
+        subst (Added (endings.Receives v u slot header)) (sym new_entry) (received_added v u slot header (next_handle p (seats n)) ends)
+    added e is ends found q new_entry = absurd new_entry
+
+    entry_now : (q : Entry) → HasEntry z q → IsInPool p q.sender q.slot → Added ending q
+    entry_now q there low = by_part (ends_add_one_entry p (seats n) ending q there)
+      where
+        by_part : HasEntry (seats n) q ⊎ IsAdded p (seats n) ending q → Added ending q
+        by_part (inl old) =
+            (old_entry ending refl ended q old low, elements_at ending ended q.sender q.slot ∙ (has.nodes n living).lengths q old low)
+        by_part (inr new_entry) = added ending refl ended stands q new_entry
+
+    own_holds : HoldsStored p new c z
+    own_holds = record {
+      entries = λ q there low free. (entry_now q there low).0;
+      lengths = λ q there low. (entry_now q there low).1;
+      call = tt;
+      place = tt;
+    }
+
+    pub all_hold : SlotsHoldMessages p new c (put_at seats n z) s
+    all_hold = record {
+      waiting = queues_stay;
+      nodes = λ k lives. by_node k (k == n) refl lives;
+    }
+      where
+        by_node : (k : ℕ) (b : Bool) → (k == n) ≡ b → not_living s k ≡ None → HoldsStored p new c (if b then z else seats k)
+        by_node k true is lives = own_holds
+        by_node k false is lives = others_stay k is lives
+
+pub ends_leave_messages : EndsLeaveMessages
+ends_leave_messages p held c seats s t n ending payload over calls living layout numbered ports regions written alone stands has =
+    all_hold p held c seats s t n payload calls living layout numbered ports regions written has ending over alone stands

@@ -1,0 +1,43 @@
+-- Slots hold their messages after each access of a node.
+use Rattle.iox_model.specs.Joins.{not_living}
+use Rattle.iox_wire_moments.specs.MomentsOf.{Pools}
+use Rattle.iox_model.specs.Weaves.{World}
+use Rattle.iox_wire_words.specs.Fits.{WireContents, contents_after}
+use Rattle.std.specs.Prelude.{None, true, ℕ, ◌≡◌}
+use Rattle.iox_wire_locals.specs.Steps.{accessed, advance}
+use Rattle.iox_wire_locals.specs.Locals.{program_of}
+use Rattle.iox_wire_locals.specs.StepLaws.{ReliesOn}
+use Rattle.iox_wire_laws.specs.WireHolding.Holding.{held_after}
+use Rattle.iox_wire_words.specs.Programs.{program_access}
+use Rattle.iox_model.specs.Maps.{has_number, put_at}
+use Rattle.iox_wire_words.specs.Laws.{IsMade}
+use Rattle.iox_wire_locals.specs.Tables.{Setting}
+use Rattle.iox_wire_laws.specs.WireRegions.Regions.{HasRegion}
+use Rattle.iox_wire_keeps.specs.Stored.{SlotsHoldMessages}
+use Rattle.iox_wire_locals.specs.declared.seat.Seat.{Seat}
+use Rattle.iox_steps.specs.Accesses.{seen_by}
+use Rattle.iox_wire_calls.specs.CallsStand.{CallStands}
+use Rattle.iox_wire_stands.specs.Stands.{AreNumbered, OwnersAre}
+use Rattle.iox_wire_laws.specs.WireKeeping.Shows.{ShowsWorld}
+use Rattle.iox_wire_stands.specs.Nodes.{NodeStands}
+use Rattle.iox_wire_laws.specs.WireRegions.OwnedBegins.{LayoutFits}
+
+-- An access of a living node in the midst of its call leaves slots that hold their messages, where
+-- all nodes stand and so do their calls: with what slots hold then, and what the words hold. (No
+-- access relies on anything at a place that is over.)
+abbrev pub AccessesLeaveMessages : Type 0
+AccessesLeaveMessages =
+    (p : Setting) (held : Pools) (word word' : ℕ → ℕ) (c : WireContents) (seats : ℕ → Seat)
+    (w : World) (n : ℕ)
+    → ShowsWorld p held word c seats w → LayoutFits p w.state.fixed → OwnersAre p w.state.fixed
+    → AreNumbered p → ((k : ℕ) → not_living w.state k ≡ None → NodeStands p held w.state (seats k))
+    → ((k : ℕ) → not_living w.state k ≡ None → CallStands p held (seats k))
+    → ((port : ℕ) → has_number port p.layout.sizes.ports ≡ true → HasRegion p port)
+    → not_living w.state n ≡ None
+    → let x = seats n in let access = program_access p.layout (program_of p x.local) in
+    let seen = seen_by access word in
+    ReliesOn p (accessed x) w.state held x.local seen → IsMade access word word'
+    → SlotsHoldMessages p held c seats w.state
+    → SlotsHoldMessages p (held_after p x seen held)
+    (contents_after p.layout (program_of p x.local) seen c)
+    (put_at seats n (advance p (accessed x) x.local seen)) w.state
