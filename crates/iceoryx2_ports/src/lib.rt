@@ -8,6 +8,7 @@ mod copies;
 mod errors;
 mod headers;
 mod loans;
+mod overrides;
 mod pending_response;
 mod port_factory_client;
 mod port_factory_server;
@@ -26,6 +27,7 @@ pub mod uses_headers;
 pub mod uses_limits;
 pub mod uses_reaching;
 pub mod uses_reading;
+pub mod uses_round_trip;
 
 pub use active_request::ActiveRequest;
 pub use client::Client;
@@ -34,7 +36,9 @@ pub use errors::{
     ServerCreateError,
 };
 pub use iox_control::Settings;
-pub use iox_hub::{Hub, MessageShape, Part};
+pub use iox_hub::{
+    Hub, MessageShape, Part, PreallocatedRequestsOverride, PreallocatedResponseOverride,
+};
 pub use iox_model::kind::{Kind, Role};
 pub use iox_store::{Many, One, Payload};
 pub use iox_types::identifiers::{
@@ -46,8 +50,8 @@ pub use iox_types::{
 };
 pub use iox_words::{Words, ZeroCopySend};
 pub use pending_response::PendingResponse;
-pub use port_factory_client::PortFactoryClient;
-pub use port_factory_server::PortFactoryServer;
+pub use port_factory_client::{PortFactoryClient, PreallocatedClient};
+pub use port_factory_server::{PortFactoryServer, PreallocatedServer};
 pub use request_mut::{RequestMut, RequestMutUninit};
 pub use response::Response;
 pub use response_mut::{ResponseMut, ResponseMutUninit};
