@@ -33,7 +33,7 @@ use Rattle.iox_laws.proofs.WeaveLedger.Truths.{none-some}
 
 module _ (p : Port) (test : Handle → Bool) (kept_test : (h : Handle) (payload : List ℕ) → test (holding h payload) ≡ test h) where
   -- the handle is a loan of the port that is counted
-  record IsOf (h : Handle) : Type 0 where
+  pub record IsOf (h : Handle) : Type 0 where
     pub port : h.port ≡ p.number
     pub node : h.node ≡ p.node
     pub counts : test h ≡ true
@@ -43,25 +43,25 @@ module _ (p : Port) (test : Handle → Bool) (kept_test : (h : Handle) (payload 
   is_handle r = false
 
   -- the end is a loan of the port, or it is refused
-  abbrev IsLoan : Outcome → Type 0
+  abbrev pub IsLoan : Outcome → Type 0
   IsLoan (Tells reply) = is_handle reply ≡ false
   IsLoan (Loans h) = IsOf h
   IsLoan o = ⊥
 
   -- the call comes to such an end
-  abbrev IsLending : Doing → Type 0
+  abbrev pub IsLending : Doing → Type 0
   IsLending (Ended o) = IsLoan o
   IsLending (Loaning copies h left) = IsOf h × (copies ≡ false)
   IsLending d = ⊥
 
-  either_lends : (b : Bool) (d e : Doing) → IsLending d → IsLending e → IsLending (if b then d else e)
+  pub either_lends : (b : Bool) (d e : Doing) → IsLending d → IsLending e → IsLending (if b then d else e)
   either_lends b d e a c = either IsLending b d e (λ u. a) (λ u. c)
 
   not_copied : (s : State) (copies : Bool) (h : Handle) → IsOf h → copies ≡ false → IsLending (if copies then sends s.fixed h true else Ended (Loans h))
   not_copied s true h is e = absurd (true≢false e)
   not_copied s false h is e = is
 
-  loaning_lends : (s : State) (copies : Bool) (h : Handle) (left : List Way) → IsOf h → copies ≡ false → IsLending (loaning s copies h left)
+  pub loaning_lends : (s : State) (copies : Bool) (h : Handle) (left : List Way) → IsOf h → copies ≡ false → IsLending (loaning s copies h left)
   loaning_lends s copies h [] is e =
       either_lends (is_dry s.fixed h.port (kept s h.port [])) (refused OutOfMemory) (if copies then sends s.fixed h true else Ended (Loans h)) refl
       (not_copied s copies h is e)
@@ -74,16 +74,16 @@ module _ (p : Port) (test : Handle → Bool) (kept_test : (h : Handle) (payload 
   next_lends s i (Ended o) m a c = absurd c
   next_lends s i d m a c = absurd a
 
-  by_lends : (s : State) (i : ℕ) (d : Doing) (ms : List Moment) → IsLending d → MayCome s i d ms → IsLending (left_by s i d ms)
+  pub by_lends : (s : State) (i : ℕ) (d : Doing) (ms : List Moment) → IsLending d → MayCome s i d ms → IsLending (left_by s i d ms)
   by_lends s i d [] a may = a
   by_lends s i d (m ∷ ms) a may = by_lends (moved s m) i (next s i d m).after ms (next_lends s i d m a may.1) may.2
 
-  ended_lends : (s : State) (d : Doing) (o : Outcome) → IsLending d → ends s d ≡ Some o → IsLoan o
+  pub ended_lends : (s : State) (d : Doing) (o : Outcome) → IsLending d → ends s d ≡ Some o → IsLoan o
   ended_lends s (Ended a) o q e = subst IsLoan (some-is a o e) q
   ended_lends s (Loaning copies h left) o q e = none-some o e
   ended_lends s d o q e = absurd q
 
-  unless_lends : (q : Option Refusal) (d : Doing) → IsLending d → IsLending (unless_refused q d)
+  pub unless_lends : (q : Option Refusal) (d : Doing) → IsLending d → IsLending (unless_refused q d)
   unless_lends (Some r) d a = refl
   unless_lends None d a = a
 

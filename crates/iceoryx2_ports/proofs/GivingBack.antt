@@ -31,15 +31,19 @@ use Rattle.iox_laws.proofs.WeaveLedger.Truths.{by_cases, none-some}
 use Rattle.iox_tables.specs.HubStates.Receives.{way_to}
 use Rattle.iox_tables.specs.HubStates.States.{Given}
 use Rattle.iox_tables.specs.HubStates.Steps.{is_there}
+use Rattle.iox_tables.specs.HubStates.Tables.{HandleState}
+use Rattle.iox_tables.specs.HubStates.Wirings.{handle_in}
 use Rattle.iox_hub.specs.Hubs.{HubState, IsHub, given_by, state_of_hub}
 use Rattle.iox_tables.proofs.HubStates.Naming.{each_handle_is_named}
 use Rattle.iox_hub.proofs.Named.{found_is_handle}
 use Rattle.iox_hub_laws.specs.Shown.{handle_of, nothing_given, shown}
 use Rattle.iox_hub_laws.specs.Waiting.{NothingWaits}
 use Rattle.iceoryx2_ports.specs.Idling.{IsIdle, IsIdleBut}
+use Rattle.iceoryx2_ports.specs.Reaching.{HasRoom}
+use Rattle.iceoryx2_ports.specs.Rooms.{HasRoomBut}
 use Rattle.iceoryx2_ports.proofs.Coming.{release_brings_nothing}
 use Rattle.iceoryx2_ports.proofs.Idle.{empty_room, may_have_one}
-use Rattle.iceoryx2_ports.proofs.Leaving.{less, less_full, released_leaves, role_is, same_limit}
+use Rattle.iceoryx2_ports.proofs.Leaving.{buffers, less, less_full, released_leaves, role_is, same_limit}
 
 -- ---- a handle that is released
 
@@ -138,22 +142,21 @@ module _ (g : m.Handle) where
 
 -- what is released of a node gives back what it has
 module _ (old new : HubState) (hub : IsHub old) (after : IsHub new) (node n : ℕ)
-    (whole : (x : Given) → IsWholeCall (state_of_hub x old) node (Release n) replies.Done (state_of_hub x new)) (x : Receiver) (idle : IsIdleBut old x node n) where
+    (whole : (x : Given) → IsWholeCall (state_of_hub x old) node (Release n) replies.Done (state_of_hub x new)) (x : Receiver)
+    (handle : HandleState) (there : handle_in old.control.tables.handles node n ≡ Some handle)
+    (few : (sender : ℕ) → is_at_limit (gives_up (shown old).fixed (handle_of old handle)) (way_to x sender) ≡ false) where
   abbrev given : m.Handle
-  given = handle_of old idle.handle
+  given = handle_of old handle
 
   back : (w : Way) → (shown new).fixed.borrowed w ≤ (gives_up (shown old).fixed given).borrowed w
   back =
       whole_gives_back given (shown old) (shown new) node n
-      (each_handle_is_named (given_by (nothing_given old) old) old.control.tables node n idle.handle
-      (found_is_handle old.control.tables hub.control.order node n idle.handle idle.there)).names
+      (each_handle_is_named (given_by (nothing_given old) old) old.control.tables node n handle
+      (found_is_handle old.control.tables hub.control.order node n handle there)).names
       (whole (nothing_given old))
 
-  none : NothingWaits new x
-  none = release_brings_nothing old new node n replies.Done whole x idle.none
-
   -- it may have one more, since that is given up
-  may_have : (sender : ℕ) → is_at_limit (shown new).fixed (way_to x sender) ≡ false
+  pub may_have : (sender : ℕ) → is_at_limit (shown new).fixed (way_to x sender) ≡ false
   may_have sender =
       by_cases (is_there new.control.tables.ports x.port)
       (λ there.
@@ -163,12 +166,26 @@ module _ (old new : HubState) (hub : IsHub old) (after : IsHub new) (node n : �
       (role_is old new after node n replies.Done whole x.port there)
       ∙ less_full (borrow_limit_on (shown old).fixed (way_to x sender)) ((shown new).fixed.borrowed (way_to x sender))
       ((gives_up (shown old).fixed given).borrowed (way_to x sender)) (back (way_to x sender))
-      (sym (same_limit (shown old).fixed given (way_to x sender)) ∙ idle.borrows sender))
+      (sym (same_limit (shown old).fixed given (way_to x sender)) ∙ few sender))
       (λ gone. may_have_one new after (way_to x sender) (inl gone))
 
-  -- Who was idle but for that handle is idle.
-  pub release_idles : IsIdle new x
-  release_idles = record {
-    none = none;
-    room = record { buffers = λ sender. empty_room new after (way_to x sender) (none.empty sender); borrows = may_have };
-  }
+-- Who was idle but for that handle is idle.
+pub release_idles : (old new : HubState) → IsHub old → IsHub new → (node n : ℕ)
+    → ((x : Given) → IsWholeCall (state_of_hub x old) node (Release n) replies.Done (state_of_hub x new)) → (x : Receiver) → IsIdleBut old x node n → IsIdle new x
+release_idles old new hub after node n whole x idle =
+    let none : NothingWaits new x = release_brings_nothing old new node n replies.Done whole x idle.none in
+    record {
+      none = none;
+      room = record {
+        buffers = λ sender. empty_room new after (way_to x sender) (none.empty sender);
+        borrows = may_have old new hub after node n whole x idle.handle idle.there idle.borrows;
+      };
+    }
+
+-- Who had room but for that handle has room.
+pub release_gives_room : (old new : HubState) → IsHub old → IsHub new → (node n : ℕ)
+    → ((x : Given) → IsWholeCall (state_of_hub x old) node (Release n) replies.Done (state_of_hub x new)) → (x : Receiver) → HasRoomBut old x node n → HasRoom new x
+release_gives_room old new hub after node n whole x room = record {
+  buffers = λ sender. buffers old new after node n replies.Done whole (way_to x sender) (room.buffers sender);
+  borrows = may_have old new hub after node n whole x room.handle room.there room.borrows;
+}

@@ -323,7 +323,7 @@ module _ (old new : HubState) (after : IsHub new) (node n : ℕ) (reply : Reply)
   pub role_is : (k : ℕ) → is_there u.ports k ≡ true → role_at (shown new).fixed k ≡ role_at (shown old).fixed k
   role_is k there = less.roles k (connected_is (given_by (nothing_given new) new) u.ports k ∙ there)
 
-  buffers : (w : Way) → is_full (shown old) w ≡ false → is_full (shown new) w ≡ false
+  pub buffers : (w : Way) → is_full (shown old) w ≡ false → is_full (shown new) w ≡ false
   buffers w room =
       by_cases (is_there u.ports w.sender)
       (λ there.

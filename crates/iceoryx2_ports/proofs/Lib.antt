@@ -21,3 +21,10 @@ pub mod Taking
 pub mod GivingBack
 pub mod OneSent
 pub mod OneTaken
+pub mod Opening
+pub mod Asking
+pub mod Lent
+pub mod Filled
+pub mod Requested
+pub mod Received
+pub mod ChosenPools

@@ -19,7 +19,7 @@ use Rattle.iceoryx2_ports.proofs.Resting.{HaveAsBefore, limit_rests}
 
 -- ---- what a request brings
 
-sender_of_way : (client : ℕ) (ns : List ℕ) (w : Way) → has_way w (map (request_way client) ns) ≡ true → w.sender ≡ client
+pub sender_of_way : (client : ℕ) (ns : List ℕ) (w : Way) → has_way w (map (request_way client) ns) ≡ true → w.sender ≡ client
 sender_of_way client [] w e = absurd (true≢false (sym e))
 sender_of_way client (n ∷ ns) w e =
     by_cases (same_way w (request_way client n))

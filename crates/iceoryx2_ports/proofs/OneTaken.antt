@@ -14,9 +14,9 @@ use Rattle.iox_model.specs.Doings.{Receiver}
 use Rattle.iox_model.specs.Handles.{is_received, same_kind, way_of}
 use Rattle.iox_model.specs.Maps.{put, same_way}
 use Rattle.iox_model.specs.Messages.{Message, request_way, response_way}
-use Rattle.iox_model.specs.Peers.{borrow_limit_on}
+use Rattle.iox_model.specs.Peers.{borrow_limit_on, buffer_on}
 use Rattle.iox_model.specs.Receives.{is_at_limit}
-use Rattle.iox_model.specs.Settings.{Limits, borrow_limit_of, other_role}
+use Rattle.iox_model.specs.Settings.{Limits, borrow_limit_of, buffer_of, other_role}
 use Rattle.iox_model.specs.States as m
 use Rattle.iox_model.specs.WholeCalls.{IsWholeCall}
 use Rattle.iox_laws.proofs.RunLaws.Runs.{left_calm}
@@ -34,7 +34,9 @@ use Rattle.iox_hub_laws.specs.Shown.{handle_of, shown}
 use Rattle.iox_hub_laws.specs.Waiting.{client_in, client_of, server_of}
 use Rattle.iox_hub_laws.proofs.Values.{IsHandleOf, value_is_handle}
 use Rattle.iceoryx2_ports.specs.Idling.{AwaitsOne, IsIdleBut, TakesTheOne}
-use Rattle.iceoryx2_ports.proofs.Leaving.{same_limit}
+use Rattle.iceoryx2_ports.specs.Rooms.{HasRoomBut, TakesOfRoom}
+use Rattle.iceoryx2_ports.proofs.Leaving.{less_full, same_limit}
+use Rattle.iceoryx2_ports.proofs.Resting.{role_by}
 use Rattle.iceoryx2_ports.proofs.Taking.{HasTaken, receive_takes}
 
 -- ---- what a receive takes
@@ -48,14 +50,14 @@ taken_one n k p q = omega arith
 none_taken : (n k : ℕ) → n + 1 ≤ k → k ≤ 0 → ⊥
 none_taken n k p q = omega arith
 
-is_empty : (ms : List Message) → length ms ≤ 0 → ms ≡ []
+pub is_empty : (ms : List Message) → length ms ≤ 0 → ms ≡ []
 is_empty [] e = refl
 is_empty (a ∷ ms) e = absurd (omega (arith, e))
 
 module _ (old new : HubState) (hub : IsHub old) (node n k : ℕ)
     (whole : (y : Given) → IsWholeCall (state_of_hub y old) node (Receive n) (replies.Handle k) (state_of_hub y new))
     (got : TakesNext old new node k) (x : Receiver) (sender : ℕ) (its : way_of (handle_of new got.handle) ≡ way_to x sender)
-    (received : is_received got.handle.kind ≡ true) (awaits : AwaitsOne old x) where
+    (received : is_received got.handle.kind ≡ true) where
   abbrev h : m.Handle
   h = handle_of new got.handle
 
@@ -73,27 +75,6 @@ module _ (old new : HubState) (hub : IsHub old) (node n k : ℕ)
 
   one : length ((shown new).waiting (way_to x sender)) + 1 ≤ length ((shown old).waiting (way_to x sender))
   one = subst (λ (w : Way). length ((shown new).waiting w) + 1 ≤ length ((shown old).waiting w)) (ap way_of same ∙ its) taken.one
-
-  -- it came from the one that may have sent it
-  from_it : (sender == awaits.from) ≡ true
-  from_it =
-      by_cases (sender == awaits.from) (λ e. e)
-      (λ other.
-      absurd (none_taken (length ((shown new).waiting (way_to x sender))) (length ((shown old).waiting (way_to x sender))) one
-      (subst (λ (ms : List Message). length ms ≤ 0) (sym (awaits.others sender other)) (omega arith))))
-
-  empty : (a : ℕ) → (shown new).waiting (way_to x a) ≡ []
-  empty a =
-      by_cases (a == awaits.from)
-      (λ is.
-      is_empty ((shown new).waiting (way_to x a))
-      (subst (λ (j : ℕ). length ((shown new).waiting (way_to x j)) ≤ 0) (eqb-true sender awaits.from from_it ∙ sym (eqb-true a awaits.from is))
-      (taken_one (length ((shown new).waiting (way_to x sender))) (length ((shown old).waiting (way_to x sender))) one
-      (subst (λ (j : ℕ). length ((shown old).waiting (way_to x j)) ≤ 1) (sym (eqb-true sender awaits.from from_it)) awaits.one))))
-      (λ other.
-      is_empty ((shown new).waiting (way_to x a))
-      (no_more (length ((shown new).waiting (way_to x a))) (length ((shown old).waiting (way_to x a))) (taken.fewer (way_to x a))
-      (subst (λ (ms : List Message). length ms ≤ 0) (sym (awaits.others a other)) (omega arith))))
 
   -- once it is given up, as many are had as before
   as_many : (w : Way) → (gives_up (shown new).fixed h).borrowed w ≡ (shown old).fixed.borrowed w
@@ -117,23 +98,58 @@ module _ (old new : HubState) (hub : IsHub old) (node n k : ℕ)
       put_back false e =
           now w ∙ ap (λ (b : Bool). if b then (shown old).fixed.borrowed (way_of h) + 1 else (shown old).fixed.borrowed w) e
 
-  may_have : (a : ℕ) → is_at_limit (gives_up (shown new).fixed h) (way_to x a) ≡ false
-  may_have a =
+  may_have : ((sender : ℕ) → is_at_limit (shown old).fixed (way_to x sender) ≡ false) → (a : ℕ) → is_at_limit (gives_up (shown new).fixed h) (way_to x a) ≡ false
+  may_have few a =
       same_limit (shown new).fixed h (way_to x a)
       ∙ ap (λ (i : ℕ). nat_le (borrow_limit_on (shown new).fixed (way_to x a)) i) (as_many (way_to x a))
       ∙ ap (λ (l : Limits). nat_le (borrow_limit_of l (other_role (option_map_or (λ (p : m.Port). p.role) (find (λ (p : m.Port). p.number == x.port) (shown new).fixed.ports) Client)))
       ((shown old).fixed.borrowed (way_to x a))) taken.limits
       ∙ ap (λ (ps : List m.Port). nat_le (borrow_limit_of (shown old).fixed.limits (other_role (option_map_or (λ (p : m.Port). p.role) (find (λ (p : m.Port). p.number == x.port) ps) Client)))
       ((shown old).fixed.borrowed (way_to x a))) taken.ports
-      ∙ awaits.borrows a
+      ∙ few a
 
-  idle_but : IsIdleBut new x node k
-  idle_but = record {
-    none = record { empty = empty };
+  -- who had room has it, once the handle gave up its message
+  room_but : TakesOfRoom old x new node k
+  room_but room = record {
+    buffers = λ a.
+        ap (λ (l : Limits). nat_le (buffer_of l (role_by (shown new).fixed.ports a)) (length ((shown new).waiting (way_to x a)))) taken.limits
+        ∙ ap (λ (ps : List m.Port). nat_le (buffer_of (shown old).fixed.limits (role_by ps a)) (length ((shown new).waiting (way_to x a)))) taken.ports
+        ∙ less_full (buffer_on (shown old).fixed (way_to x a)) (length ((shown new).waiting (way_to x a))) (length ((shown old).waiting (way_to x a)))
+        (taken.fewer (way_to x a)) (room.buffers a);
     handle = got.handle;
     there = got.there;
-    borrows = may_have;
+    borrows = may_have room.borrows;
   }
+
+  module _ (awaits : AwaitsOne old x) where
+    -- it came from the one that may have sent it
+    from_it : (sender == awaits.from) ≡ true
+    from_it =
+        by_cases (sender == awaits.from) (λ e. e)
+        (λ other.
+        absurd (none_taken (length ((shown new).waiting (way_to x sender))) (length ((shown old).waiting (way_to x sender))) one
+        (subst (λ (ms : List Message). length ms ≤ 0) (sym (awaits.others sender other)) (omega arith))))
+
+    empty : (a : ℕ) → (shown new).waiting (way_to x a) ≡ []
+    empty a =
+        by_cases (a == awaits.from)
+        (λ is.
+        is_empty ((shown new).waiting (way_to x a))
+        (subst (λ (j : ℕ). length ((shown new).waiting (way_to x j)) ≤ 0) (eqb-true sender awaits.from from_it ∙ sym (eqb-true a awaits.from is))
+        (taken_one (length ((shown new).waiting (way_to x sender))) (length ((shown old).waiting (way_to x sender))) one
+        (subst (λ (j : ℕ). length ((shown old).waiting (way_to x j)) ≤ 1) (sym (eqb-true sender awaits.from from_it)) awaits.one))))
+        (λ other.
+        is_empty ((shown new).waiting (way_to x a))
+        (no_more (length ((shown new).waiting (way_to x a))) (length ((shown old).waiting (way_to x a))) (taken.fewer (way_to x a))
+        (subst (λ (ms : List Message). length ms ≤ 0) (sym (awaits.others a other)) (omega arith))))
+
+    idle_but : IsIdleBut new x node k
+    idle_but = record {
+      none = record { empty = empty };
+      handle = got.handle;
+      there = got.there;
+      borrows = may_have awaits.borrows;
+    }
 
 -- the one that a server awaits
 pub request_is_the_one : (old new : HubState) → IsHub old → (node server k : ℕ)
@@ -165,3 +181,24 @@ response_is_the_one old new hub node number k has whole takes awaits =
     ∙ ap (λ (i : ℕ). response_way i (lane_of new.control.tables got.handle) (handle_of new got.handle).message.sender) its.port
     ∙ ap (λ (l : ℕ). response_way pending.handle.port l (handle_of new got.handle).message.sender) its.lane)
     (ap is_received its.kind) (subst (AwaitsOne old) who awaits))
+
+-- ---- room
+
+-- A client that had room has it but for the response that it got.
+pub response_takes_of_room : (old new : HubState) → IsHub old → (node number k : ℕ) → HasValue old node number PendingResponse
+    → ((y : Given) → IsWholeCall (state_of_hub y old) node (Receive number) (replies.Handle k) (state_of_hub y new)) → TakesResponse old node number (Handle k) new
+    → TakesOfRoom old (client_in old node number) new node k
+response_takes_of_room old new hub node number k has whole takes =
+    let t : HubTables = old.control.tables in
+    let pending : IsHandleOf t node number PendingResponse = value_is_handle t node number PendingResponse refl has in
+    let who : client_in old node number ≡ client_of t pending.handle
+    = ap (λ (o : Option HandleState). option_map_or (client_of t) o (server_of number)) pending.named.there in
+    let got : TakesNext old new node k = takes.0 in
+    let its = takes.1 pending.handle pending.named.there in
+    subst (λ (x : Receiver). TakesOfRoom old x new node k) (sym who)
+    (room_but old new hub node number k whole got (client_of t pending.handle) (handle_of new got.handle).message.sender
+    (ap (λ (kind : Kind). if same_kind kind ActiveRequest then request_way got.handle.client got.handle.port
+    else response_way got.handle.port (lane_of new.control.tables got.handle) (handle_of new got.handle).message.sender) its.kind
+    ∙ ap (λ (i : ℕ). response_way i (lane_of new.control.tables got.handle) (handle_of new got.handle).message.sender) its.port
+    ∙ ap (λ (l : ℕ). response_way pending.handle.port l (handle_of new got.handle).message.sender) its.lane)
+    (ap is_received its.kind))

@@ -97,7 +97,7 @@ mapped_back client lane (k ∷ ks) n e =
     (mapped_back client lane ks n (or-rest (k == n) (has_number n ks) e other)))
 
 -- a server is one of the connected ones
-connected : (ps : List PortState) (n : ℕ) (p : PortState) → port_in ps n ≡ Some p → p.role ≡ Server → has_number n (numbers_of_role Server ps) ≡ true
+pub connected : (ps : List PortState) (n : ℕ) (p : PortState) → port_in ps n ≡ Some p → p.role ≡ Server → has_number n (numbers_of_role Server ps) ≡ true
 connected [] n p e role = absurd (none-some p e)
 connected (q ∷ qs) n p e role =
     by_cases (q.number == n)

@@ -52,34 +52,41 @@ same_rests s = record { fixed = have_same s.fixed; waiting = λ w. refl }
 
 -- ---- room
 
-abbrev role_by : List Port → ℕ → Role
+abbrev pub role_by : List Port → ℕ → Role
 role_by ps n = option_map_or (λ p. p.role) (find (λ p. p.number == n) ps) Client
 
--- a receiver is at its limit as before
-pub limit_rests : (f g : Fixed) → HaveAsBefore f g → (w : Way) → is_at_limit g w ≡ is_at_limit f w
-limit_rests f g have w =
-    ap (λ (l : Limits). nat_le (borrow_limit_of l (other_role (role_by g.ports w.receiver))) (g.borrowed w)) have.limits
-    ∙ ap (λ (ps : List Port). nat_le (borrow_limit_of f.limits (other_role (role_by ps w.receiver))) (g.borrowed w)) have.ports
-    ∙ ap (λ (b : Way → ℕ). nat_le (borrow_limit_of f.limits (other_role (role_by f.ports w.receiver))) (b w)) have.borrowed
+-- a way is full as before, where as much waits
+pub full_by : (s t : State) → t.fixed.limits ≡ s.fixed.limits → t.fixed.ports ≡ s.fixed.ports → (w : Way) → t.waiting w ≡ s.waiting w → is_full t w ≡ is_full s w
+full_by s t limits ports w waiting =
+    ap (λ (l : Limits). nat_le (buffer_of l (role_by t.fixed.ports w.sender)) (length (t.waiting w))) limits
+    ∙ ap (λ (ps : List Port). nat_le (buffer_of s.fixed.limits (role_by ps w.sender)) (length (t.waiting w))) ports
+    ∙ ap (λ (ms : List Message). nat_le (buffer_of s.fixed.limits (role_by s.fixed.ports w.sender)) (length ms)) waiting
 
--- a way is full as before
+-- its receiver is at its limit as before, where it has as much of the way
+pub limit_by : (f g : Fixed) → g.limits ≡ f.limits → g.ports ≡ f.ports → (w : Way) → g.borrowed w ≡ f.borrowed w → is_at_limit g w ≡ is_at_limit f w
+limit_by f g limits ports w borrowed =
+    ap (λ (l : Limits). nat_le (borrow_limit_of l (other_role (role_by g.ports w.receiver))) (g.borrowed w)) limits
+    ∙ ap (λ (ps : List Port). nat_le (borrow_limit_of f.limits (other_role (role_by ps w.receiver))) (g.borrowed w)) ports
+    ∙ ap (λ (n : ℕ). nat_le (borrow_limit_of f.limits (other_role (role_by f.ports w.receiver))) n) borrowed
+
+-- the same of all ways
+pub limit_rests : (f g : Fixed) → HaveAsBefore f g → (w : Way) → is_at_limit g w ≡ is_at_limit f w
+limit_rests f g have w = limit_by f g have.limits have.ports w (ap (λ (b : Way → ℕ). b w) have.borrowed)
+
 pub room_rests : (s t : State) → RestsSo s t → (w : Way) → is_full t w ≡ is_full s w
-room_rests s t rests w =
-    ap (λ (l : Limits). nat_le (buffer_of l (role_by t.fixed.ports w.sender)) (length (t.waiting w))) rests.fixed.limits
-    ∙ ap (λ (ps : List Port). nat_le (buffer_of s.fixed.limits (role_by ps w.sender)) (length (t.waiting w))) rests.fixed.ports
-    ∙ ap (λ (ms : List Message). nat_le (buffer_of s.fixed.limits (role_by s.fixed.ports w.sender)) (length ms)) (rests.waiting w)
+room_rests s t rests w = full_by s t rests.fixed.limits rests.fixed.ports w (rests.waiting w)
 
 -- ---- what a loan and a write have to do
 
 -- the end puts nothing on a way, and receives nothing
-abbrev Rests : Outcome → Type 0
+abbrev pub Rests : Outcome → Type 0
 Rests (Tells reply) = Unit {0}
 Rests (Loans h) = Unit {0}
 Rests (Fills h) = Unit {0}
 Rests o = ⊥
 
 -- the call comes to such an end
-abbrev IsResting : Doing → Type 0
+abbrev pub IsResting : Doing → Type 0
 IsResting (Ended o) = Rests o
 IsResting (Loaning copies h left) = copies ≡ false
 IsResting d = ⊥
@@ -91,7 +98,7 @@ not_copied : (s : State) (copies : Bool) (h : Handle) → copies ≡ false → I
 not_copied s true h e = absurd (true≢false e)
 not_copied s false h e = tt
 
-loaning_rests : (s : State) (copies : Bool) (h : Handle) (left : List Way) → copies ≡ false → IsResting (loaning s copies h left)
+pub loaning_rests : (s : State) (copies : Bool) (h : Handle) (left : List Way) → copies ≡ false → IsResting (loaning s copies h left)
 loaning_rests s copies h [] e =
     either_rests (is_dry s.fixed h.port (kept s h.port [])) (refused OutOfMemory) (if copies then sends s.fixed h true else Ended (Loans h)) tt
     (not_copied s copies h e)
@@ -169,7 +176,7 @@ handle_rests s c (LoanUninit n k) h e = lends_rests s c (TheHandle h) k true
 handle_rests s c (Write n x) h e = writes_rest h x.elements x.words
 handle_rests s c call h e = absurd (true≢false (sym e))
 
-at_rests : (s : State) (c : Choice) (call : Call) (x : Option Subject) → rests call ≡ true
+pub at_rests : (s : State) (c : Choice) (call : Call) (x : Option Subject) → rests call ≡ true
     → IsResting (option_map_or (begins_at s c call) x (refused UnknownNumber))
 at_rests s c call None e = tt
 at_rests s c call (Some (ThePort p)) e = port_rests s c call p e

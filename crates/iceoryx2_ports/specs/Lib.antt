@@ -54,3 +54,6 @@ pub mod Arrivals
 pub mod Reaching
 pub mod Responses
 pub mod Idling
+pub mod Asking
+pub mod Rooms
+pub mod Overrides

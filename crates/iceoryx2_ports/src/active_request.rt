@@ -13,6 +13,7 @@ ghost use Rattle.iox_hub.specs.Lending.{IsFresh};
 ghost use Rattle.iox_hub.specs.Reads.{message_in};
 ghost use Rattle.iceoryx2_ports.specs.Headers.{request_header_of};
 ghost use Rattle.iox_hub_laws.specs.Sends.{NothingComes};
+ghost use Rattle.iceoryx2_ports.specs.Asking.{AnswersAs};
 ghost use Rattle.iceoryx2_ports.specs.Idling.{GivesBack};
 ghost use Rattle.iceoryx2_ports.specs.Keeping.{KeepsAsking, KeepsValues};
 ghost use Rattle.iceoryx2_ports.specs.LoanLimits.{HasAllResponses, RespondsOneMore};
@@ -181,6 +182,8 @@ impl<Q: Payload, QH: Words, E: Words, PH: Words> ActiveRequest<Q, QH, One<E>, PH
         ensures keeps { KeepsValues hub.old hub.new }
         ensures asks { KeepsAsking hub.old hub.new }
         ensures room { KeepsRoom hub.old hub.new }
+        ensures answers { IfOk result (λ loan. AnswersAs hub.old self.now.node self.now.number
+            hub.new loan.node loan.number) }
         ensures counted { OnOk result
             (RespondsOneMore hub.old self.now.node self.now.number 1 hub.new) }
         ensures past { HasAllResponses hub.old self.now.node self.now.number 1
@@ -211,6 +214,8 @@ impl<Q: Payload, QH: Words, E: Words, PH: Words> ActiveRequest<Q, QH, One<E>, PH
         ensures keeps { KeepsValues hub.old hub.new }
         ensures asks { KeepsAsking hub.old hub.new }
         ensures room { KeepsRoom hub.old hub.new }
+        ensures answers { IfOk result (λ loan. AnswersAs hub.old self.now.node self.now.number
+            hub.new loan.node loan.number) }
         ensures counted { OnOk result
             (RespondsOneMore hub.old self.now.node self.now.number 1 hub.new) }
         ensures past { HasAllResponses hub.old self.now.node self.now.number 1
@@ -243,6 +248,8 @@ impl<Q: Payload, QH: Words, E: Words, PH: Words> ActiveRequest<Q, QH, Many<E>, P
         ensures keeps { KeepsValues hub.old hub.new }
         ensures asks { KeepsAsking hub.old hub.new }
         ensures room { KeepsRoom hub.old hub.new }
+        ensures answers { IfOk result (λ loan. AnswersAs hub.old self.now.node self.now.number
+            hub.new loan.node loan.number) }
         ensures counted { OnOk result
             (RespondsOneMore hub.old self.now.node self.now.number elements hub.new) }
         ensures past { HasAllResponses hub.old self.now.node self.now.number elements
@@ -274,6 +281,8 @@ impl<Q: Payload, QH: Words, E: Words, PH: Words> ActiveRequest<Q, QH, Many<E>, P
         ensures keeps { KeepsValues hub.old hub.new }
         ensures asks { KeepsAsking hub.old hub.new }
         ensures room { KeepsRoom hub.old hub.new }
+        ensures answers { IfOk result (λ loan. AnswersAs hub.old self.now.node self.now.number
+            hub.new loan.node loan.number) }
         ensures counted { OnOk result
             (RespondsOneMore hub.old self.now.node self.now.number elements hub.new) }
         ensures past { HasAllResponses hub.old self.now.node self.now.number elements

@@ -10,6 +10,7 @@ ghost use Rattle.iox_hub.specs.Headers.{IsIdShown, id_in};
 ghost use Rattle.iox_hub.specs.Hubs.{HasValue, state_of_hub, with_control};
 ghost use Rattle.iox_hub.specs.Lending.{IsFresh};
 ghost use Rattle.iox_hub_laws.specs.Sends.{NothingComes};
+ghost use Rattle.iceoryx2_ports.specs.Asking.{LendsQuietly};
 ghost use Rattle.iceoryx2_ports.specs.Keeping.{KeepsAsking, KeepsValues};
 ghost use Rattle.iceoryx2_ports.specs.LoanLimits.{HasAllLoans, LendsOneMore};
 ghost use Rattle.iceoryx2_ports.specs.Loans.{reply_of_loan};
@@ -104,6 +105,8 @@ impl<E: Words, QH: Words, P: Payload, PH: Words> Client<One<E>, QH, P, PH> {
         ensures keeps { KeepsValues hub.old hub.new }
         ensures asks { KeepsAsking hub.old hub.new }
         ensures room { KeepsRoom hub.old hub.new }
+        ensures quiet { IfOk result (λ loan.
+            LendsQuietly hub.old self.now.number hub.new loan.node loan.number) }
         ensures counted { OnOk result
             (LendsOneMore hub.old self.now.number 1 hub.new) }
         ensures past { HasAllLoans hub.old self.now.number 1
@@ -134,6 +137,8 @@ impl<E: Words, QH: Words, P: Payload, PH: Words> Client<One<E>, QH, P, PH> {
         ensures keeps { KeepsValues hub.old hub.new }
         ensures asks { KeepsAsking hub.old hub.new }
         ensures room { KeepsRoom hub.old hub.new }
+        ensures quiet { IfOk result (λ loan.
+            LendsQuietly hub.old self.now.number hub.new loan.node loan.number) }
         ensures counted { OnOk result
             (LendsOneMore hub.old self.now.number 1 hub.new) }
         ensures past { HasAllLoans hub.old self.now.number 1
@@ -166,6 +171,8 @@ impl<E: Words, QH: Words, P: Payload, PH: Words> Client<Many<E>, QH, P, PH> {
         ensures keeps { KeepsValues hub.old hub.new }
         ensures asks { KeepsAsking hub.old hub.new }
         ensures room { KeepsRoom hub.old hub.new }
+        ensures quiet { IfOk result (λ loan.
+            LendsQuietly hub.old self.now.number hub.new loan.node loan.number) }
         ensures counted { OnOk result
             (LendsOneMore hub.old self.now.number elements hub.new) }
         ensures past { HasAllLoans hub.old self.now.number elements
@@ -197,6 +204,8 @@ impl<E: Words, QH: Words, P: Payload, PH: Words> Client<Many<E>, QH, P, PH> {
         ensures keeps { KeepsValues hub.old hub.new }
         ensures asks { KeepsAsking hub.old hub.new }
         ensures room { KeepsRoom hub.old hub.new }
+        ensures quiet { IfOk result (λ loan.
+            LendsQuietly hub.old self.now.number hub.new loan.node loan.number) }
         ensures counted { OnOk result
             (LendsOneMore hub.old self.now.number elements hub.new) }
         ensures past { HasAllLoans hub.old self.now.number elements

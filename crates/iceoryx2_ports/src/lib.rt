@@ -8,6 +8,7 @@ mod copies;
 mod errors;
 mod headers;
 mod loans;
+mod overrides;
 mod pending_response;
 mod port_factory_client;
 mod port_factory_server;
@@ -26,6 +27,7 @@ pub mod uses_headers;
 pub mod uses_limits;
 pub mod uses_reaching;
 pub mod uses_reading;
+pub mod uses_round_trip;
 
 pub use active_request::ActiveRequest;
 pub use client::Client;
@@ -33,7 +35,9 @@ pub use errors::{
     ClientCreateError, ConnectionFailure, LoanError, ReceiveError, RequestSendError, SendError,
     ServerCreateError,
 };
-pub use iox_hub::{Hub, MessageShape, Part, Settings};
+pub use iox_hub::{
+    Hub, MessageShape, Part, PreallocatedRequestsOverride, PreallocatedResponseOverride, Settings,
+};
 pub use iox_model::kind::{Kind, Role};
 pub use iox_store::{Many, One, Payload};
 pub use iox_types::identifiers::{
@@ -45,8 +49,8 @@ pub use iox_types::{
 };
 pub use iox_words::{Words, ZeroCopySend};
 pub use pending_response::PendingResponse;
-pub use port_factory_client::PortFactoryClient;
-pub use port_factory_server::PortFactoryServer;
+pub use port_factory_client::{PortFactoryClient, PreallocatedClient};
+pub use port_factory_server::{PortFactoryServer, PreallocatedServer};
 pub use request_mut::{RequestMut, RequestMutUninit};
 pub use response::Response;
 pub use response_mut::{ResponseMut, ResponseMutUninit};

@@ -8,6 +8,7 @@ ghost use Rattle.iox_tables.specs.HubStates.States.{Given};
 ghost use Rattle.iox_hub.specs.Hubs.{HasValue, state_of_hub, with_control};
 ghost use Rattle.iox_hub.specs.Lending.{IsFresh};
 ghost use Rattle.iox_hub_laws.specs.Sends.{NothingComes};
+ghost use Rattle.iceoryx2_ports.specs.Asking.{AnswersAs, LendsQuietly};
 ghost use Rattle.iceoryx2_ports.specs.Keeping.{KeepsAsking, KeepsValues};
 ghost use Rattle.iceoryx2_ports.specs.LoanLimits.{HasAllLoans, HasAllResponses};
 ghost use Rattle.iceoryx2_ports.specs.LoanLimits.{LendsOneMore, RespondsOneMore};
@@ -39,6 +40,7 @@ pub(crate) fn lend_request<Q: Payload, QH: Words, P: Payload, PH: Words>(
     ensures keeps { KeepsValues hub.old hub.new }
     ensures asks { KeepsAsking hub.old hub.new }
     ensures room { KeepsRoom hub.old hub.new }
+    ensures quiet { IfOk result (λ n. LendsQuietly hub.old client hub.new node n) }
     ensures counted { OnOk result (LendsOneMore hub.old client elements hub.new) }
     ensures past { HasAllLoans hub.old client elements → result ≡ Err ExceedsMaxLoans }
     ensures unchanged { IfErr result (λ error. error ≢ OutOfMemory → hub.new ≡ hub.old) }
@@ -78,6 +80,7 @@ pub(crate) fn lend_response<Q: Payload, QH: Words, P: Payload, PH: Words>(
     ensures keeps { KeepsValues hub.old hub.new }
     ensures asks { KeepsAsking hub.old hub.new }
     ensures room { KeepsRoom hub.old hub.new }
+    ensures answers { IfOk result (λ n. AnswersAs hub.old node number hub.new node n) }
     ensures counted { OnOk result (RespondsOneMore hub.old node number elements hub.new) }
     ensures past { HasAllResponses hub.old node number elements → result ≡ Err ExceedsMaxLoans }
     ensures unchanged { IfErr result (λ error. error ≢ OutOfMemory → hub.new ≡ hub.old) }

@@ -17,6 +17,7 @@ ghost use Rattle.iceoryx2_ports.specs.Headers.{request_header_of};
 ghost use Rattle.iceoryx2_ports.specs.Idling.{TakesTheOne};
 ghost use Rattle.iceoryx2_ports.specs.Keeping.{KeepsAsking, KeepsValues};
 ghost use Rattle.iceoryx2_ports.specs.Releases.{IsReleased};
+ghost use Rattle.iceoryx2_ports.specs.Rooms.{TakesOfRoom};
 ghost use Rattle.iceoryx2_ports.specs.declared.errors.ReceiveError.TheVariants.{ExceedsMaxBorrows};
 
 use crate::errors::ReceiveError;
@@ -92,6 +93,9 @@ impl<Q: Payload, QH: Words, P: Payload, PH: Words> PendingResponse<Q, QH, P, PH>
             response.node response.number)) }
         ensures idle { IfOk result (λ got. IfSome got (λ response.
             TakesTheOne hub.old (client_in hub.old self.now.node self.now.number) hub.new
+            response.node response.number)) }
+        ensures room { IfOk result (λ got. IfSome got (λ response.
+            TakesOfRoom hub.old (client_in hub.old self.now.node self.now.number) hub.new
             response.node response.number)) }
         ensures comes { NothingComes hub.old hub.new }
     {

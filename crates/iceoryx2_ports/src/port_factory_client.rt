@@ -25,6 +25,10 @@ use iox_words::Words;
 use std::alloc::Global;
 use std::marker::PhantomData;
 
+mod overriding;
+
+pub use overriding::PreallocatedClient;
+
 /// What a client is made with. Where nothing was said, the service's settings hold.
 #[derive(Drop)]
 #[derive_where(Debug)]
@@ -69,7 +73,7 @@ impl<Q: Payload, QH: Words, P: Payload, PH: Words> PortFactoryClient<Q, QH, P, P
     }
 
     /// How many requests it has memory for: raised to 1, and lowered to the most that are needed.
-    pub fn override_request_preallocation(self, value: u64) -> Self
+    pub fn request_preallocation(self, value: u64) -> Self
         ensures { result ≡ record self { options = record (self.options) { pool = Some value } } }
     {
         let options = Options {

@@ -26,6 +26,10 @@ use iox_words::Words;
 use std::alloc::Global;
 use std::marker::PhantomData;
 
+mod overriding;
+
+pub use overriding::PreallocatedServer;
+
 /// What a server is made with. Where nothing was said, the service's settings hold.
 #[derive(Drop)]
 #[derive_where(Debug)]
@@ -82,7 +86,7 @@ impl<Q: Payload, QH: Words, P: Payload, PH: Words> PortFactoryServer<Q, QH, P, P
     }
 
     /// How many responses it has memory for: raised to 1, and lowered to the most that are needed.
-    pub fn override_response_preallocation(self, value: u64) -> Self
+    pub fn response_preallocation(self, value: u64) -> Self
         ensures { result ≡ record self { options = record (self.options) { pool = Some value } } }
     {
         let options = Options {

@@ -4,6 +4,7 @@ ghost use Rattle.iox_model.specs.Names.{is_port};
 ghost use Rattle.iox_hub.specs.Sending.{is_handle};
 ghost use Rattle.iceoryx2_ports.specs.Idling.{GivesBack};
 ghost use Rattle.iceoryx2_ports.specs.Releases.{IsReleased};
+ghost use Rattle.iceoryx2_ports.specs.Rooms.{GivesRoomBack};
 
 use iox_hub::Hub;
 use iox_model::kind::Kind;
@@ -21,6 +22,7 @@ pub(crate) fn release_handle<Q: Payload, QH: Words, P: Payload, PH: Words>(
     requires { is_handle kind ≡ true }
     ensures released { IsReleased hub.old node number kind hub.new }
     ensures idle { GivesBack hub.old node number kind hub.new }
+    ensures room { GivesRoomBack hub.old node number kind hub.new }
 {
     hub.is_in_order();
     if hub.has(node, number, kind, hint) {

@@ -14,7 +14,9 @@ ghost use Rattle.iox_hub.specs.Lending.{IsWritten, payload_of};
 ghost use Rattle.iox_hub.specs.Reads.{message_in};
 ghost use Rattle.iox_hub.specs.Sending.{HasNothing};
 ghost use Rattle.iox_hub_laws.specs.Sends.{BringsNothing, NothingComes, SendsRequest};
+ghost use Rattle.iox_hub_laws.specs.Waiting.{client_in};
 ghost use Rattle.iceoryx2_ports.specs.Arrivals.{BringsItsWords};
+ghost use Rattle.iceoryx2_ports.specs.Asking.{AsksAs, BringsItsRequest, OpensAtServers};
 ghost use Rattle.iceoryx2_ports.specs.Calls.{HasCallsLeft};
 ghost use Rattle.iceoryx2_ports.specs.Headers.{request_header_of};
 ghost use Rattle.iceoryx2_ports.specs.Idling.{BringsOne};
@@ -88,6 +90,8 @@ impl<Q: Payload, QH: Words, P: Payload, PH: Words> RequestMutUninit<Q, QH, P, PH
             kinds.RequestMut (length values.now) (flat_map Q.Element.words values.now) hub.new) }
         ensures node { IfOk result (λ filled. filled.node ≡ self.node) }
         ensures number { IfOk result (λ filled. filled.number ≡ self.number) }
+        ensures asker { IfOk result (λ filled. AsksAs hub.old self.node self.number
+            hub.new filled.node filled.number) }
         ensures refused { OnErr result
             ((message_in hub.old self.node self.number).elements ≢ length values.now) }
         ensures comes { NothingComes hub.old hub.new }
@@ -164,6 +168,7 @@ impl<E: Words, QH: Words, P: Payload, PH: Words> RequestMutUninit<One<E>, QH, P,
             Done (state_of_hub x hub.new) }
         ensures written { IsWritten hub.old self.node self.number kinds.RequestMut 1
             (flat_map E.words (value ∷ [])) hub.new }
+        ensures asker { AsksAs hub.old self.node self.number hub.new result.node result.number }
         ensures comes { NothingComes hub.old hub.new }
         ensures keeps { KeepsOthers hub.old self.node self.number hub.new }
         ensures asks { KeepsAsking hub.old hub.new }
@@ -256,6 +261,12 @@ impl<Q: Payload, QH: Words, P: Payload, PH: Words> RequestMut<Q, QH, P, PH> {
         ensures number { IfOk result (λ pending. pending.number ≡ self.number) }
         ensures gone { OnErr result (HasNothing hub.new self.node self.number) }
         ensures one { OnOk result (BringsOne hub.old hub.new) }
+        ensures asker { IfOk result (λ pending. AsksAs hub.old self.node self.number
+            hub.new pending.node pending.number) }
+        ensures asked { IfOk result (λ pending. BringsItsRequest hub.old
+            (client_in hub.new pending.node pending.number) hub.new) }
+        ensures opens { IfOk result (λ pending. OpensAtServers hub.old
+            (client_in hub.new pending.node pending.number) hub.new) }
         ensures sent { OnOk result (SendsRequest hub.old self.node self.number hub.new) }
         ensures unsent { OnErr result (BringsNothing hub.old self.node self.number hub.new) }
         ensures only { BringsItsWords hub.old self.node self.number hub.new }

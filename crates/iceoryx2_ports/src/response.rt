@@ -12,6 +12,7 @@ ghost use Rattle.iceoryx2_ports.specs.Headers.{response_header_of};
 ghost use Rattle.iceoryx2_ports.specs.Idling.{GivesBack};
 ghost use Rattle.iceoryx2_ports.specs.Payloads.{BeginsWith};
 ghost use Rattle.iceoryx2_ports.specs.Releases.{IsReleased};
+ghost use Rattle.iceoryx2_ports.specs.Rooms.{GivesRoomBack};
 
 use crate::headers::response_header;
 use crate::releases::release_handle;
@@ -117,6 +118,7 @@ impl<Q: Payload, QH: Words, P: Payload, PH: Words> Response<Q, QH, P, PH> {
     pub fn release(self, hub: &mut Hub<Q, QH, P, PH>)
         ensures released { IsReleased hub.old self.node self.number kinds.Response hub.new }
         ensures idle { GivesBack hub.old self.node self.number kinds.Response hub.new }
+        ensures room { GivesRoomBack hub.old self.node self.number kinds.Response hub.new }
     {
         let Response {
             node,

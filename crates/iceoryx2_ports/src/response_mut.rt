@@ -15,6 +15,7 @@ ghost use Rattle.iox_hub.specs.Reads.{message_in};
 ghost use Rattle.iox_hub.specs.Sending.{HasNothing};
 ghost use Rattle.iox_hub_laws.specs.Sends.{BringsNothing, NothingComes, SendsResponse};
 ghost use Rattle.iceoryx2_ports.specs.Arrivals.{BringsItsWords};
+ghost use Rattle.iceoryx2_ports.specs.Asking.{AnswersAs};
 ghost use Rattle.iceoryx2_ports.specs.Calls.{HasCallsLeft};
 ghost use Rattle.iceoryx2_ports.specs.Headers.{response_header_of};
 ghost use Rattle.iceoryx2_ports.specs.Keeping.{KeepsAsking};
@@ -87,6 +88,8 @@ impl<Q: Payload, QH: Words, P: Payload, PH: Words> ResponseMutUninit<Q, QH, P, P
             kinds.ResponseMut (length values.now) (flat_map P.Element.words values.now) hub.new) }
         ensures node { IfOk result (λ filled. filled.node ≡ self.node) }
         ensures number { IfOk result (λ filled. filled.number ≡ self.number) }
+        ensures answers { IfOk result (λ filled. AnswersAs hub.old self.node self.number
+            hub.new filled.node filled.number) }
         ensures refused { OnErr result
             ((message_in hub.old self.node self.number).elements ≢ length values.now) }
         ensures comes { NothingComes hub.old hub.new }
@@ -163,6 +166,7 @@ impl<Q: Payload, QH: Words, E: Words, PH: Words> ResponseMutUninit<Q, QH, One<E>
             Done (state_of_hub x hub.new) }
         ensures written { IsWritten hub.old self.node self.number kinds.ResponseMut 1
             (flat_map E.words (value ∷ [])) hub.new }
+        ensures answers { AnswersAs hub.old self.node self.number hub.new result.node result.number }
         ensures comes { NothingComes hub.old hub.new }
         ensures keeps { KeepsOthers hub.old self.node self.number hub.new }
         ensures asks { KeepsAsking hub.old hub.new }

@@ -11,6 +11,7 @@ ghost use Rattle.iox_hub_laws.specs.Receives.{CarriesWhatWaited, TakesRequest};
 ghost use Rattle.iox_hub_laws.specs.Sends.{NothingComes};
 ghost use Rattle.iox_hub_laws.specs.Waiting.{WaitedFor, server_of};
 ghost use Rattle.iceoryx2_ports.specs.Answers.{received_request, reply_of_request};
+ghost use Rattle.iceoryx2_ports.specs.Asking.{KeepsAskersIdle, TakesItsRequest};
 ghost use Rattle.iceoryx2_ports.specs.Calls.{HasCallsLeft};
 ghost use Rattle.iceoryx2_ports.specs.Idling.{TakesTheOne};
 ghost use Rattle.iceoryx2_ports.specs.Keeping.{KeepsAsking, KeepsValues};
@@ -75,6 +76,10 @@ impl<Q: Payload, QH: Words, P: Payload, PH: Words> Server<Q, QH, P, PH> {
         ensures idle { IfOk result (λ got. IfSome got (λ request.
             TakesTheOne hub.old (server_of self.now.number) hub.new request.node
             request.number)) }
+        ensures asker { IfOk result (λ got. IfSome got (λ request.
+            TakesItsRequest hub.old self.now.number hub.new request.node request.number)) }
+        ensures askers { IfOk result (λ got. IfSome got (λ request.
+            KeepsAskersIdle hub.old hub.new)) }
         ensures comes { NothingComes hub.old hub.new }
     {
         hub.is_in_order();

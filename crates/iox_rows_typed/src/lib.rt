@@ -12,6 +12,8 @@ mod fillings;
 #[cfg(test)]
 mod long_requests;
 #[cfg(test)]
+mod overrides;
+#[cfg(test)]
 mod refusals;
 #[cfg(test)]
 mod rounds;

@@ -13,6 +13,7 @@ ghost use Rattle.iox_hub.specs.Keeping.{KeepsOthers};
 ghost use Rattle.iox_hub.specs.Lending.{IsWritten, payload_of};
 ghost use Rattle.iox_hub.specs.Reads.{message_in};
 ghost use Rattle.iox_hub_laws.specs.Sends.{NothingComes};
+ghost use Rattle.iceoryx2_ports.specs.Asking.{AsksAs};
 ghost use Rattle.iceoryx2_ports.specs.Keeping.{KeepsAsking};
 ghost use Rattle.iceoryx2_ports.specs.Payloads.{reply_of_put};
 ghost use Rattle.iceoryx2_ports.specs.Reaching.{KeepsRoom};
@@ -34,6 +35,8 @@ impl<Q: Payload, QH: Words, P: Payload, PH: Words> RequestMut<Q, QH, P, PH> {
             kinds.RequestMut (length values.now) (flat_map Q.Element.words values.now) hub.new) }
         ensures refused { OnFalse result
             ((message_in hub.old self.now.node self.now.number).elements ≢ length values.now) }
+        ensures asker { AsksAs hub.old self.now.node self.now.number hub.new self.now.node
+            self.now.number }
         ensures comes { NothingComes hub.old hub.new }
         ensures keeps { KeepsOthers hub.old self.now.node self.now.number hub.new }
         ensures asks { KeepsAsking hub.old hub.new }
@@ -58,6 +61,8 @@ impl<E: Words, QH: Words, P: Payload, PH: Words> RequestMut<One<E>, QH, P, PH> {
             Done (state_of_hub x hub.new) }
         ensures written { IsWritten hub.old self.now.node self.now.number kinds.RequestMut 1
             (flat_map E.words (value ∷ [])) hub.new }
+        ensures asker { AsksAs hub.old self.now.node self.now.number hub.new self.now.node
+            self.now.number }
         ensures comes { NothingComes hub.old hub.new }
         ensures keeps { KeepsOthers hub.old self.now.node self.now.number hub.new }
         ensures asks { KeepsAsking hub.old hub.new }

@@ -13,6 +13,7 @@ ghost use Rattle.iox_hub.specs.Keeping.{KeepsOthers};
 ghost use Rattle.iox_hub.specs.Lending.{IsWritten, payload_of};
 ghost use Rattle.iox_hub.specs.Reads.{message_in};
 ghost use Rattle.iox_hub_laws.specs.Sends.{NothingComes};
+ghost use Rattle.iceoryx2_ports.specs.Asking.{AnswersAs};
 ghost use Rattle.iceoryx2_ports.specs.Keeping.{KeepsAsking};
 ghost use Rattle.iceoryx2_ports.specs.Payloads.{reply_of_put};
 ghost use Rattle.iceoryx2_ports.specs.Reaching.{KeepsRoom};
@@ -34,6 +35,8 @@ impl<Q: Payload, QH: Words, P: Payload, PH: Words> ResponseMut<Q, QH, P, PH> {
             kinds.ResponseMut (length values.now) (flat_map P.Element.words values.now) hub.new) }
         ensures refused { OnFalse result
             ((message_in hub.old self.now.node self.now.number).elements ≢ length values.now) }
+        ensures answers { AnswersAs hub.old self.now.node self.now.number hub.new self.now.node
+            self.now.number }
         ensures comes { NothingComes hub.old hub.new }
         ensures keeps { KeepsOthers hub.old self.now.node self.now.number hub.new }
         ensures asks { KeepsAsking hub.old hub.new }
@@ -58,6 +61,8 @@ impl<Q: Payload, QH: Words, E: Words, PH: Words> ResponseMut<Q, QH, One<E>, PH> 
             Done (state_of_hub x hub.new) }
         ensures written { IsWritten hub.old self.now.node self.now.number kinds.ResponseMut 1
             (flat_map E.words (value ∷ [])) hub.new }
+        ensures answers { AnswersAs hub.old self.now.node self.now.number hub.new self.now.node
+            self.now.number }
         ensures comes { NothingComes hub.old hub.new }
         ensures keeps { KeepsOthers hub.old self.now.node self.now.number hub.new }
         ensures asks { KeepsAsking hub.old hub.new }

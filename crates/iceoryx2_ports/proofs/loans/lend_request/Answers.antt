@@ -8,6 +8,7 @@ use Rattle.iceoryx2_ports.proofs.LoanLimits.{lends_one_more, refused_at_limit, r
 use Rattle.iceoryx2_ports.proofs.Reaching.{loan_keeps_room}
 use Rattle.iceoryx2_ports.proofs.Staying.{loan_asks_as_before, loan_keeps}
 use Rattle.iceoryx2_ports.proofs.Telling.{called_as}
+use Rattle.iceoryx2_ports.proofs.Lent.{lends_quietly}
 use Rattle.iceoryx2_ports.proofs.loans.lend_request.Goals as goal
 
 pub returns-in-Handle-clause-keeps : goal.returns-in-Handle-clause-keeps
@@ -99,3 +100,10 @@ returns-in-Refused-ExceedsMaxLoanSize-clause-past g c =
     ap (λ r. result_of (lents.Refused r)) (sym c.in-Refused-ExceedsMaxLoanSize.field-0-is)
     ∙ refused_at_limit c.args.hub.now c.is_in_order.ensures c.args.node c.args.client c.args.elements (lents.Refused c.in-Refused-ExceedsMaxLoanSize.field-0) c.requires.has
     c.in-Refused-ExceedsMaxLoanSize.ensures.answers all
+
+pub returns-in-Handle-clause-quiet : goal.returns-in-Handle-clause-quiet
+returns-in-Handle-clause-quiet g c =
+    lends_quietly c.args.hub.now c.lend_request.new.hub c.is_in_order.ensures c.args.node c.args.client c.args.elements c.args.uninit c.in-Handle.loan.number
+    c.requires.has c.in-Handle.ensures.whole c.lend_request.ensures.comes
+    (loan_keeps_room c.args.hub.now c.lend_request.new.hub c.args.node c.args.uninit c.args.client c.args.elements (reply_of_loan c.lend_request.result)
+    c.lend_request.ensures.whole)

@@ -9,6 +9,7 @@ use Rattle.iceoryx2_ports.proofs.Reaching.{loan_keeps_room}
 use Rattle.iceoryx2_ports.proofs.ResponseLimits.{responds_one_more, response_refused_at_limit}
 use Rattle.iceoryx2_ports.proofs.Staying.{loan_asks_as_before, loan_keeps}
 use Rattle.iceoryx2_ports.proofs.Telling.{called_as}
+use Rattle.iceoryx2_ports.proofs.Lent.{lends_for}
 use Rattle.iceoryx2_ports.proofs.loans.lend_response.Goals as goal
 
 pub returns-in-Handle-clause-keeps : goal.returns-in-Handle-clause-keeps
@@ -100,3 +101,8 @@ returns-in-Refused-ExceedsMaxLoanSize-clause-past g c =
     ap (λ r. result_of (lents.Refused r)) (sym c.in-Refused-ExceedsMaxLoanSize.field-0-is)
     ∙ response_refused_at_limit c.args.hub.now c.is_in_order.ensures c.args.node c.args.number c.args.elements
     (lents.Refused c.in-Refused-ExceedsMaxLoanSize.field-0) c.requires.has c.in-Refused-ExceedsMaxLoanSize.ensures.answers all
+
+pub returns-in-Handle-clause-answers : goal.returns-in-Handle-clause-answers
+returns-in-Handle-clause-answers g c =
+    lends_for c.args.hub.now c.lend_response.new.hub c.is_in_order.ensures c.args.node c.args.number c.args.elements c.args.uninit c.in-Handle.loan.number
+    c.requires.has c.in-Handle.ensures.whole

@@ -1,4 +1,4 @@
-use Rattle.iceoryx2_ports.proofs.GivingBack.{release_idles}
+use Rattle.iceoryx2_ports.proofs.GivingBack.{release_gives_room, release_idles}
 use Rattle.iceoryx2_ports.proofs.Released.{is_released}
 use Rattle.iceoryx2_ports.proofs.releases.release_handle.Goals as goal
 
@@ -12,3 +12,9 @@ returns-then-has-clause-idle g c =
     λ has x idle.
     release_idles c.args.hub.now c.release.new.self c.is_in_order.ensures c.is_in_order-then-has.ensures c.args.node c.args.number c.release.ensures.whole x
     idle
+
+pub returns-then-has-clause-room : goal.returns-then-has-clause-room
+returns-then-has-clause-room g c =
+    λ has x room.
+    release_gives_room c.args.hub.now c.release.new.self c.is_in_order.ensures c.is_in_order-then-has.ensures c.args.node c.args.number c.release.ensures.whole x
+    room

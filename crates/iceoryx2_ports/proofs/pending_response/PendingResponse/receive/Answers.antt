@@ -1,15 +1,16 @@
-use Rattle.std.specs.Prelude.{refl}
-use Rattle.std.proofs.Common.{subst, sym}
+use Rattle.std.specs.Prelude.{ℕ, refl}
+use Rattle.std.proofs.Common.{subst, subst₂, sym}
 use Rattle.iox_model.specs.declared.call.Call.TheVariants.{Receive}
 use Rattle.iox_hub.specs.Received.TheVariants as received
 use Rattle.iox_hub.specs.Replies.{reply_of_receive}
 use Rattle.iox_hub_laws.specs.Receives.{TakesResponse}
 use Rattle.iox_hub_laws.specs.Waiting.{client_in}
 use Rattle.iceoryx2_ports.specs.Idling.{TakesTheOne}
-use Rattle.iceoryx2_ports.proofs.OneTaken.{response_is_the_one}
+use Rattle.iceoryx2_ports.proofs.OneTaken.{response_is_the_one, response_takes_of_room}
 use Rattle.iceoryx2_ports.proofs.Staying.{asks_as_before, kept}
 use Rattle.iceoryx2_ports.proofs.Coming.{receive_brings_nothing}
 use Rattle.iceoryx2_ports.proofs.Responding.{waited_in}
+use Rattle.iceoryx2_ports.specs.Rooms.{TakesOfRoom}
 use Rattle.iceoryx2_ports.proofs.pending_response.PendingResponse.receive.Goals as goal
 
 pub returns-in-Handle-clause-keeps : goal.returns-in-Handle-clause-keeps
@@ -81,3 +82,10 @@ returns-in-Handle-clause-idle g c =
     (subst (λ n. TakesTheOne c.args.hub.now (client_in c.args.hub.now c.args.self.now.node c.args.self.now.number) c.receive_response.new.hub c.args.self.now.node n) (sym c.new.ensures.number)
     (response_is_the_one c.args.hub.now c.receive_response.new.hub c.is_in_order.ensures c.args.self.now.node c.args.self.now.number c.in-Handle.number c.requires.has
     c.in-Handle.ensures.whole c.in-Handle.ensures.takes))
+
+pub returns-in-Handle-clause-room : goal.returns-in-Handle-clause-room
+returns-in-Handle-clause-room g c =
+    subst₂ (λ (i n : ℕ). TakesOfRoom c.args.hub.now (client_in c.args.hub.now c.args.self.now.node c.args.self.now.number) c.receive_response.new.hub i n)
+    (sym c.new.ensures.node) (sym c.new.ensures.number)
+    (response_takes_of_room c.args.hub.now c.receive_response.new.hub c.is_in_order.ensures c.args.self.now.node c.args.self.now.number c.in-Handle.number c.requires.has
+    c.in-Handle.ensures.whole c.in-Handle.ensures.takes)

@@ -1,11 +1,14 @@
 use Rattle.std.specs.Prelude.{ℕ, List, refl}
-use Rattle.std.proofs.Common.{subst}
+use Rattle.std.proofs.Common.{subst, subst₂, sym}
 use Rattle.iox_hub_laws.specs.Sends.{BringsOnly}
 use Rattle.iox_model.specs.declared.call.Call.TheVariants.{Send}
 use Rattle.iox_model.specs.declared.kind.Kind.TheVariants.{RequestMut}
 use Rattle.iox_hub.specs.Sendings.{reply_of_send}
+use Rattle.iox_hub_laws.specs.Waiting.{client_in}
+use Rattle.iceoryx2_ports.specs.Asking.{AsksAs, BringsItsRequest, OpensAtServers}
 use Rattle.iceoryx2_ports.proofs.Aside.{loan_asks_as_always}
 use Rattle.iceoryx2_ports.proofs.Reaching.{send_brings_one, send_reaches}
+use Rattle.iceoryx2_ports.proofs.Requested.{send_asks_as, send_brings_its_request, send_opens}
 use Rattle.iceoryx2_ports.proofs.request_mut.RequestMut.send.Goals as goal
 
 pub returns-in-To-clause-only : goal.returns-in-To-clause-only
@@ -44,3 +47,21 @@ pub returns-in-To-clause-one : goal.returns-in-To-clause-one
 returns-in-To-clause-one g c =
     send_brings_one c.args.hub.now c.send_request.new.hub c.args.self.node c.args.self.number c.in-To.servers c.requires.has c.in-To.ensures.brings
     c.in-To.ensures.whole
+
+pub returns-in-To-clause-asker : goal.returns-in-To-clause-asker
+returns-in-To-clause-asker g c =
+    subst₂ (λ (i n : ℕ). AsksAs c.args.hub.now c.args.self.node c.args.self.number c.send_request.new.hub i n) (sym c.new.ensures.node) (sym c.new.ensures.number)
+    (send_asks_as c.args.hub.now c.send_request.new.hub c.is_in_order.ensures c.args.self.node c.args.self.number c.in-To.servers c.requires.has
+    c.in-To.ensures.brings c.in-To.ensures.whole)
+
+pub returns-in-To-clause-asked : goal.returns-in-To-clause-asked
+returns-in-To-clause-asked g c =
+    subst₂ (λ (i n : ℕ). BringsItsRequest c.args.hub.now (client_in c.send_request.new.hub i n) c.send_request.new.hub) (sym c.new.ensures.node) (sym c.new.ensures.number)
+    (send_brings_its_request c.args.hub.now c.send_request.new.hub c.is_in_order.ensures c.args.self.node c.args.self.number c.in-To.servers c.requires.has
+    c.in-To.ensures.brings c.in-To.ensures.whole)
+
+pub returns-in-To-clause-opens : goal.returns-in-To-clause-opens
+returns-in-To-clause-opens g c =
+    subst₂ (λ (i n : ℕ). OpensAtServers c.args.hub.now (client_in c.send_request.new.hub i n) c.send_request.new.hub) (sym c.new.ensures.node) (sym c.new.ensures.number)
+    (send_opens c.args.hub.now c.send_request.new.hub c.is_in_order.ensures c.args.self.node c.args.self.number c.in-To.servers c.requires.has
+    c.in-To.ensures.brings c.in-To.ensures.whole)

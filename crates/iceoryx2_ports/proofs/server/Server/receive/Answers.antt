@@ -1,16 +1,18 @@
-use Rattle.std.specs.Prelude.{refl}
-use Rattle.std.proofs.Common.{ap, subst, sym}
+use Rattle.std.specs.Prelude.{ℕ, refl}
+use Rattle.std.proofs.Common.{ap, subst, subst₂, sym}
 use Rattle.iox_model.specs.declared.call.Call.TheVariants.{Receive}
 use Rattle.iox_model.specs.declared.reply.Reply.TheVariants as replies
 use Rattle.iox_hub.specs.Received.TheVariants as received
 use Rattle.iox_hub.specs.Replies.{reply_of_receive}
 use Rattle.iox_hub_laws.specs.Receives.{TakesRequest}
 use Rattle.iox_hub_laws.specs.Waiting.{server_of}
+use Rattle.iceoryx2_ports.specs.Asking.{TakesItsRequest}
 use Rattle.iceoryx2_ports.specs.Idling.{TakesTheOne}
 use Rattle.iceoryx2_ports.proofs.OneTaken.{request_is_the_one}
 use Rattle.iceoryx2_ports.proofs.Telling.{called_as}
 use Rattle.iceoryx2_ports.proofs.Staying.{asks_as_before, kept}
 use Rattle.iceoryx2_ports.proofs.Coming.{receive_brings_nothing}
+use Rattle.iceoryx2_ports.proofs.Received.{is_its_request, receive_keeps_askers_idle}
 use Rattle.iceoryx2_ports.proofs.server.Server.receive.Goals as goal
 
 pub returns-in-Handle-clause-keeps : goal.returns-in-Handle-clause-keeps
@@ -75,3 +77,14 @@ pub returns-in-Handle-clause-whole : goal.returns-in-Handle-clause-whole
 returns-in-Handle-clause-whole g c =
     called_as c.args.hub.now c.receive_request.new.hub c.args.self.now.node (Receive c.args.self.now.number) (replies.Handle c.in-Handle.number)
     (replies.Handle c.new.result.number) (ap replies.Handle (sym c.new.ensures.number)) c.in-Handle.ensures.whole
+
+pub returns-in-Handle-clause-asker : goal.returns-in-Handle-clause-asker
+returns-in-Handle-clause-asker g c =
+    subst₂ (λ (i n : ℕ). TakesItsRequest c.args.hub.now c.args.self.now.number c.receive_request.new.hub i n) (sym c.new.ensures.node) (sym c.new.ensures.number)
+    (is_its_request c.args.hub.now c.receive_request.new.hub c.is_in_order.ensures c.args.self.now.node c.args.self.now.number c.in-Handle.number
+    c.in-Handle.ensures.whole c.in-Handle.ensures.takes)
+
+pub returns-in-Handle-clause-askers : goal.returns-in-Handle-clause-askers
+returns-in-Handle-clause-askers g c =
+    receive_keeps_askers_idle c.args.hub.now c.receive_request.new.hub c.is_in_order.ensures c.args.self.now.node c.args.self.now.number c.in-Handle.number
+    c.in-Handle.ensures.whole c.in-Handle.ensures.takes c.requires.has

@@ -1,0 +1,84 @@
+//! Factories of clients with a closure that chooses the pool.
+ghost use Rattle.std.specs.Prelude.{ℕ, ◌≡◌, ◌≢◌, IfErr, IfOk, OnErr};
+ghost use Rattle.iox_model.specs.declared.kind.Kind.TheVariants as kinds;
+ghost use Rattle.iox_model.specs.declared.kind.Role.TheVariants as roles;
+ghost use Rattle.iox_hub.specs.Hubs.{HasValue};
+ghost use Rattle.iox_hub.specs.Making.{LeavesMessages, StaysAs};
+ghost use Rattle.iox_hub_laws.specs.Sends.{NothingComes};
+ghost use Rattle.iceoryx2_ports.specs.Idling.{IsIdle, client_on};
+ghost use Rattle.iceoryx2_ports.specs.Keeping.{KeepsValues};
+ghost use Rattle.iceoryx2_ports.specs.Makings.{reply_of_client};
+ghost use Rattle.iceoryx2_ports.specs.Overrides.{IsMadeWithItsPool};
+ghost use Rattle.iceoryx2_ports.specs.Reaching.{KeepsRoom};
+ghost use Rattle.iceoryx2_ports.specs.declared.errors.ClientCreateError.TheVariants.{FailedToDeployThreadsafetyPolicy};
+
+use super::PortFactoryClient;
+use crate::client::Client;
+use crate::errors::ClientCreateError;
+use crate::overrides::with_pool;
+use iox_hub::Hub;
+use iox_model::kind::Role;
+use iox_store::Payload;
+use iox_words::Words;
+use std::alloc::Global;
+
+/// What a client is made with, where a closure chooses how many requests it has memory for.
+#[derive(Drop)]
+pub struct PreallocatedClient<Q, QH, P, PH, F> {
+    factory: PortFactoryClient<Q, QH, P, PH>,
+    callback: F,
+}
+
+impl<Q: Payload, QH: Words, P: Payload, PH: Words> PortFactoryClient<Q, QH, P, PH> {
+    /// Lets that closure choose how many requests the client has memory for. It is asked with the
+    /// most that are ever needed; what it answers is raised to 1, and lowered to that. With fewer
+    /// than are needed, a loan may find no memory.
+    pub fn override_request_preallocation<F: Fn(usize) -> usize + Drop>(
+        self,
+        callback: F,
+    ) -> PreallocatedClient<Q, QH, P, PH, F>
+        ensures factory { result.factory ≡ self }
+        ensures callback { result.callback ≡ callback }
+    {
+        PreallocatedClient {
+            factory: self,
+            callback,
+        }
+    }
+}
+
+impl<Q: Payload, QH: Words, P: Payload, PH: Words, F: Fn(usize) -> usize + Drop> PreallocatedClient<
+    Q,
+    QH,
+    P,
+    PH,
+    F,
+> {
+    /// Makes the client. Where it is refused, all stays.
+    pub fn create(
+        self,
+        alloc: Global,
+        hub: &mut Hub<Q, QH, P, PH>,
+    ) -> Result<Client<Q, QH, P, PH>, ClientCreateError>
+        requires { F.IsAlwaysCallable self.callback }
+        ensures whole { IsMadeWithItsPool hub.old self.factory.node roles.Client
+            self.factory.node_id (F.post self.callback) self.factory.options
+            (reply_of_client result) hub.new }
+        ensures node { IfOk result (λ client. client.node ≡ self.factory.node) }
+        ensures has { IfOk result (λ client.
+            HasValue hub.new client.node client.number kinds.Client) }
+        ensures keeps { KeepsValues hub.old hub.new }
+        ensures messages { LeavesMessages hub.old hub.new }
+        ensures idle { IfOk result (λ client. (lane request : ℕ)
+            → IsIdle hub.new (client_on client.number lane request)) }
+        ensures comes { NothingComes hub.old hub.new }
+        ensures room { KeepsRoom hub.old hub.new }
+        ensures unchanged { OnErr result (StaysAs hub.old hub.new) }
+        ensures refused { IfErr result (λ error.
+            error ≢ FailedToDeployThreadsafetyPolicy) }
+    {
+        let PreallocatedClient { factory, callback } = self;
+        let options = with_pool(hub, Role::Client, factory.options, callback);
+        PortFactoryClient { options, ..factory }.create(alloc, hub)
+    }
+}

@@ -1,0 +1,84 @@
+//! Factories of servers with a closure that chooses the pool.
+ghost use Rattle.std.specs.Prelude.{◌≡◌, ◌≢◌, IfErr, IfOk, OnErr};
+ghost use Rattle.iox_model.specs.declared.kind.Kind.TheVariants as kinds;
+ghost use Rattle.iox_model.specs.declared.kind.Role.TheVariants as roles;
+ghost use Rattle.iox_hub.specs.Hubs.{HasValue};
+ghost use Rattle.iox_hub.specs.Making.{LeavesMessages, StaysAs};
+ghost use Rattle.iox_hub_laws.specs.Sends.{NothingComes};
+ghost use Rattle.iox_hub_laws.specs.Waiting.{server_of};
+ghost use Rattle.iceoryx2_ports.specs.Idling.{IsIdle};
+ghost use Rattle.iceoryx2_ports.specs.Keeping.{KeepsValues};
+ghost use Rattle.iceoryx2_ports.specs.Makings.{reply_of_server};
+ghost use Rattle.iceoryx2_ports.specs.Overrides.{IsMadeWithItsPool};
+ghost use Rattle.iceoryx2_ports.specs.Reaching.{KeepsRoom};
+ghost use Rattle.iceoryx2_ports.specs.declared.errors.ServerCreateError.TheVariants.{FailedToDeployThreadsafetyPolicy};
+
+use super::PortFactoryServer;
+use crate::errors::ServerCreateError;
+use crate::overrides::with_pool;
+use crate::server::Server;
+use iox_hub::Hub;
+use iox_model::kind::Role;
+use iox_store::Payload;
+use iox_words::Words;
+use std::alloc::Global;
+
+/// What a server is made with, where a closure chooses how many responses it has memory for.
+#[derive(Drop)]
+pub struct PreallocatedServer<Q, QH, P, PH, F> {
+    factory: PortFactoryServer<Q, QH, P, PH>,
+    callback: F,
+}
+
+impl<Q: Payload, QH: Words, P: Payload, PH: Words> PortFactoryServer<Q, QH, P, PH> {
+    /// Lets that closure choose how many responses the server has memory for. It is asked with the
+    /// most that are ever needed; what it answers is raised to 1, and lowered to that. With fewer
+    /// than are needed, a loan may find no memory.
+    pub fn override_response_preallocation<F: Fn(usize) -> usize + Drop>(
+        self,
+        callback: F,
+    ) -> PreallocatedServer<Q, QH, P, PH, F>
+        ensures factory { result.factory ≡ self }
+        ensures callback { result.callback ≡ callback }
+    {
+        PreallocatedServer {
+            factory: self,
+            callback,
+        }
+    }
+}
+
+impl<Q: Payload, QH: Words, P: Payload, PH: Words, F: Fn(usize) -> usize + Drop> PreallocatedServer<
+    Q,
+    QH,
+    P,
+    PH,
+    F,
+> {
+    /// Makes the server. Where it is refused, all stays.
+    pub fn create(
+        self,
+        alloc: Global,
+        hub: &mut Hub<Q, QH, P, PH>,
+    ) -> Result<Server<Q, QH, P, PH>, ServerCreateError>
+        requires { F.IsAlwaysCallable self.callback }
+        ensures whole { IsMadeWithItsPool hub.old self.factory.node roles.Server
+            self.factory.node_id (F.post self.callback) self.factory.options
+            (reply_of_server result) hub.new }
+        ensures node { IfOk result (λ server. server.node ≡ self.factory.node) }
+        ensures has { IfOk result (λ server.
+            HasValue hub.new server.node server.number kinds.Server) }
+        ensures keeps { KeepsValues hub.old hub.new }
+        ensures messages { LeavesMessages hub.old hub.new }
+        ensures idle { IfOk result (λ server. IsIdle hub.new (server_of server.number)) }
+        ensures comes { NothingComes hub.old hub.new }
+        ensures room { KeepsRoom hub.old hub.new }
+        ensures unchanged { OnErr result (StaysAs hub.old hub.new) }
+        ensures refused { IfErr result (λ error.
+            error ≢ FailedToDeployThreadsafetyPolicy) }
+    {
+        let PreallocatedServer { factory, callback } = self;
+        let options = with_pool(hub, Role::Server, factory.options, callback);
+        PortFactoryServer { options, ..factory }.create(alloc, hub)
+    }
+}
