@@ -11,8 +11,8 @@ use Rattle.iox_model.specs.Settings.{IsShape, Limits, Shape}
 use Rattle.iox_model.specs.States.{Members}
 use Rattle.iox_tables.specs.HubStates.Tables.{HubSettings}
 use Rattle.iox_tables.proofs.HubMaking.Starting.{each_start_is_shown}
-use Rattle.iox_hub.specs.Hubs.{HubState, IsReached, given_by, state_of_hub}
-use Rattle.iox_hub.specs.Starts.{new_hub, started}
+use Rattle.iox_port_commands.specs.Hubs.{HubState, IsReached, given_by, state_of_hub}
+use Rattle.iox_port_commands.specs.Starts.{new_hub, started}
 use Rattle.iox_members.specs.Nodes.{first_members}
 use Rattle.iox_port_commands.specs.Applying.{HaveDefaults}
 use Rattle.iox_nodes.specs.Served.{IsCreated}

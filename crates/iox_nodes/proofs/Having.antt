@@ -21,7 +21,7 @@ use Rattle.iox_model.specs.Services.{IsCleanup, IsCommand, leaving_refusal, numb
 use Rattle.iox_model.specs.Settings.{Limits}
 use Rattle.iox_model.specs.States.{Members, Node, State}
 use Rattle.iox_model.specs.WholeCalls.{UnlessRefused}
-use Rattle.iox_hub.specs.Hubs.{HubState}
+use Rattle.iox_port_commands.specs.Hubs.{HubState}
 use Rattle.iox_members.specs.Nodes.{node_in}
 use Rattle.iox_members.specs.Steps.{IsRefusedUnlessLiving}
 use Rattle.iox_openers.specs.Causes.{with_cause}

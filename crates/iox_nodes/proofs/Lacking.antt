@@ -22,8 +22,8 @@ use Rattle.iox_model.specs.Services.{IsCommand}
 use Rattle.iox_model.specs.States.{Members, State}
 use Rattle.iox_model.specs.WholeCalls.{UnlessRefused}
 use Rattle.iox_tables.specs.HubStates.Tables.{HubSettings}
-use Rattle.iox_hub.specs.Hubs.{HubState}
-use Rattle.iox_hub.specs.Making.{StaysAs}
+use Rattle.iox_port_commands.specs.Hubs.{HubState}
+use Rattle.iox_port_commands.specs.Making.{StaysAs}
 use Rattle.iox_members.specs.Nodes.{node_in}
 use Rattle.iox_members.specs.Steps.{IsJoined}
 use Rattle.iox_openers.specs.Causes.{with_cause}

@@ -13,7 +13,7 @@ use Rattle.iox_model.specs.Settings.{Shape}
 use Rattle.iox_model.specs.States.{Members}
 use Rattle.iox_tables.specs.HubStates.States.{Given}
 use Rattle.iox_tables.specs.HubStates.Tables.{HubSettings}
-use Rattle.iox_hub.specs.Hubs.{HubState, state_of_hub}
+use Rattle.iox_port_commands.specs.Hubs.{HubState, state_of_hub}
 use Rattle.iox_openers.specs.Causes.{with_cause}
 use Rattle.iox_members.specs.Steps.{IsAfterLeaving, IsDeclaredDead, IsJoined, IsLeaving, IsRefusedUnlessDead, answer_in}
 use Rattle.iox_port_commands.specs.Applying.{HaveDefaults}

@@ -8,7 +8,7 @@ use Rattle.iox_model.specs.Handles.{has, kind_code, same_kind}
 use Rattle.iox_model.specs.States.{Members}
 use Rattle.iox_tables.specs.HubLoans.Questions.{kind_in}
 use Rattle.iox_tables.proofs.HubLoans.Asked.{each_value_is_there}
-use Rattle.iox_hub.specs.Hubs.{HasValue, HubState, given_by}
+use Rattle.iox_port_commands.specs.Hubs.{HasValue, HubState, given_by}
 use Rattle.iox_nodes.specs.Shown.{given_for, state_of}
 
 abbrev kind_of_code : ℕ → Kind

@@ -5,12 +5,12 @@ pub mod Given
 pub mod Served
 pub mod Memory
 -- what clauses of services cite of hubs and of commands, for the crates above
-pub use Rattle.iox_hub.specs.Settings
-pub use Rattle.iox_hub.specs.declared.shape.MessageShape
-pub use Rattle.iox_hub.specs.declared.shape.Part
-pub use Rattle.iox_hub.specs.Shapes
-pub use Rattle.iox_hub.specs.Listings
-pub use Rattle.iox_hub.specs.Lending
+pub use Rattle.iox_port_commands.specs.Settings
+pub use Rattle.iox_port_commands.specs.MessageShape
+pub use Rattle.iox_port_commands.specs.Part
+pub use Rattle.iox_port_commands.specs.Shapes
+pub use Rattle.iox_port_commands.specs.Listings
+pub use Rattle.iox_port_commands.specs.Lending
 pub use Rattle.iox_port_commands.specs.declared.elements.Elements
 pub use Rattle.iox_port_commands.specs.Asking
 pub use Rattle.iox_port_commands.specs.Memory as PortMemory

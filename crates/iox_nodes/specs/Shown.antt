@@ -6,8 +6,8 @@ use Rattle.iox_model.specs.Settings.{Limits, Shape}
 use Rattle.iox_model.specs.States.{Members, State}
 use Rattle.iox_tables.specs.HubStates.States.{Given}
 use Rattle.iox_tables.specs.HubStates.Tables.{HubSettings, HubTables}
-use Rattle.iox_hub.specs.Hubs.{HubState, state_of_hub}
-use Rattle.iox_hub.specs.Words.{Carried}
+use Rattle.iox_port_commands.specs.Hubs.{HubState, state_of_hub}
+use Rattle.iox_port_commands.specs.Words.{Carried}
 use Rattle.iox_port_commands.specs.Applying.{HaveDefaults}
 
 -- these nodes, and no handlers

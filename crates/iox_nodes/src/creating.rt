@@ -4,15 +4,15 @@ ghost use Rattle.iox_types.specs.Identifiers.{is_node_id};
 ghost use Rattle.iox_model.specs.Defaults.{follow};
 ghost use Rattle.iox_model.specs.Runs.{created, is_too_large};
 ghost use Rattle.iox_model.specs.Settings.{Shape};
-ghost use Rattle.iox_hub.specs.Settings.{settings_of};
-ghost use Rattle.iox_hub.specs.Shapes.{HaveParts, shape_of};
+ghost use Rattle.iox_port_commands.specs.Settings.{settings_of};
+ghost use Rattle.iox_port_commands.specs.Shapes.{HaveParts, shape_of};
 ghost use Rattle.iox_nodes.specs.Shown.{limits_for, service_of};
 ghost use Rattle.iox_nodes.specs.Served.{IsCreated};
 
 use crate::service::Service;
-use iox_hub::{Hub, MessageShape, Settings};
 use iox_members::Members;
 use iox_model::reply::Refusal;
+use iox_port_commands::{Hub, MessageShape, Settings};
 use iox_store::Payload;
 use iox_types::identifiers::{UniqueNodeId, UniqueSystemId};
 use iox_words::Words;

@@ -12,6 +12,5 @@ mod service;
 mod serving;
 pub mod uses;
 
-pub use iox_hub::{MessageShape, Part, Settings};
-pub use iox_port_commands::Elements;
+pub use iox_port_commands::{Elements, MessageShape, Part, Settings};
 pub use service::Service;

@@ -3,8 +3,8 @@ ghost use Rattle.std.specs.Prelude.{◌≡◌};
 ghost use Rattle.iox_model.specs.Runs.{IsServed};
 ghost use Rattle.iox_nodes.specs.Shown.{service_of};
 
-use iox_hub::Hub;
 use iox_members::Members;
+use iox_port_commands::Hub;
 use iox_store::Payload;
 use iox_words::Words;
 use std::marker::Model;

@@ -22,6 +22,7 @@ mod writing;
 pub use applying::{apply, try_apply};
 pub use copies::{copy_request, copy_response};
 pub use elements::Elements;
+pub use iox_hub::{Hub, MessageShape, Part, Settings};
 pub use makings::make_port;
 pub use methods::ApplyCommand;
 pub use reading::read;

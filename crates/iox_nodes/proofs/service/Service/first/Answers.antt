@@ -1,7 +1,7 @@
 use Rattle.std.proofs.Common.{rules}
 use Rattle.iox_model.specs.Settings.{Shape}
-use Rattle.iox_hub.specs.Settings.{settings_of}
-use Rattle.iox_hub.specs.Shapes.{shape_of}
+use Rattle.iox_port_commands.specs.Settings.{settings_of}
+use Rattle.iox_port_commands.specs.Shapes.{shape_of}
 use Rattle.iox_nodes.proofs.FirstStates.{first_service, first_state}
 use Rattle.iox_nodes.proofs.service.Service.first.Goals as goal
 

@@ -4,8 +4,8 @@ use Rattle.iox_types.specs.Identifiers.{is_node_id}
 use Rattle.iox_model.specs.Defaults.{follow}
 use Rattle.iox_model.specs.Runs.{created}
 use Rattle.iox_model.specs.Settings.{Limits, Shape}
-use Rattle.iox_hub.specs.Settings.{settings_of}
-use Rattle.iox_hub.specs.Shapes.{shape_of}
+use Rattle.iox_port_commands.specs.Settings.{settings_of}
+use Rattle.iox_port_commands.specs.Shapes.{shape_of}
 use Rattle.iox_nodes.specs.Shown.{limits_for}
 use Rattle.iox_nodes.proofs.FirstStates.{creation_done, creation_large, creation_wants}
 use Rattle.iox_nodes.proofs.service.Service.new.Goals as goal

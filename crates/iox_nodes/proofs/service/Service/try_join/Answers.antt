@@ -1,5 +1,5 @@
 use Rattle.std.proofs.Common.{ap, sym, ◌∙◌}
-use Rattle.iox_hub.specs.Settings.{settings_of}
+use Rattle.iox_port_commands.specs.Settings.{settings_of}
 use Rattle.iox_nodes.specs.Shown.{tables_of}
 use Rattle.iox_nodes.proofs.Lacking.{join_lacks}
 use Rattle.iox_nodes.proofs.Leading.{joined_service, joined_so}
