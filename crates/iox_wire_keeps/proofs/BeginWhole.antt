@@ -1,34 +1,41 @@
 -- The begin of a call leads from what stands to what stands.
+use Rattle.iox_model.specs.declared.call.Call.TheVariants.{Read, Write}
+use Rattle.iox_model.specs.declared.call.WireCall.TheVariants as wire_calls
+use Rattle.iox_wire_locals.specs.Begins as begins
+use Rattle.iox_wire_locals.specs.Courses as courses
+use Rattle.iox_wire_locals.specs.declared.local.Ending.TheVariants as endings
+use Rattle.std.proofs.lemmas.Nat.{mul-le}
+use Rattle.iox_wire_calls.proofs.PlaceBegins.{by_call}
 use Rattle.iox_wire_laws.specs.WireHolding.Aside.{shown}
-use Rattle.std.specs.Prelude.{Bool, List, None, Some, [], false, if◌then◌else◌, length, refl, true, ℕ, ◌*◌, ◌++◌, ◌+◌, ◌-◌, ◌<◌, ◌==◌, ◌^◌, ◌∷◌, ◌≡◌, ◌≤◌, ◌⊎◌}
+use Rattle.std.specs.Prelude.{Bool, List, None, Some, [], false, if◌then◌else◌, length, refl, true, ℕ, ◌*◌, ◌++◌, ◌+◌, ◌-◌, ◌<◌, ◌==◌, ◌^◌, ◌∷◌, ◌≡◌, ◌≤◌, ◌⊎◌, Option, ◌||◌}
 use Rattle.iox_wire_stands.specs.Stands.{Player, Stands, seats_of, word_of}
 use Rattle.std.proofs.Common.{ap, arith, eqb-true, inl, inr, subst, sym, ◌∙◌, suc}
-use Rattle.iox_wire_calls.specs.Places.{CallFits}
+use Rattle.iox_wire_calls.specs.Places.{CallFits, IsLoan}
 use Rattle.iox_wire_stands.specs.Runs.{Asked, GoesOnBy, Run}
 use Rattle.iox_wire_calls.proofs.CallsBegin.{owners_are_set, rested, named, rests, alive}
 use Rattle.iox_wire_calls.proofs.PlaceBegins.{begins_fit}
 use Rattle.iox_wire_stands.specs.Following.{LeavesNothing, Leaving, message_at}
 use Rattle.iox_laws.proofs.WeaveLedger.Lists.{find-among}
-use Rattle.iox_wire_locals.specs.Known.{loans_at}
-use Rattle.iox_wire_locals.specs.Tables.{Setting, entry_at, port_shape}
+use Rattle.iox_wire_locals.specs.Known.{loans_at, known}
+use Rattle.iox_wire_locals.specs.Tables.{Setting, entry_at, port_shape, words_before_payload}
 use Rattle.iox_wire_locals.specs.declared.seat.Seat.{Seat}
 use Rattle.iox_wire_laws.specs.WireHolding.SlotsKnown.{HasEntry}
 use Rattle.iox_wire_calls.proofs.CallsStand.{begun_calls_stand}
-use Rattle.iox_wire_keeps.specs.MessageBegins.{BegunWiresStand, FirstFits, FirstIsTold}
-use Rattle.iox_wire_locals.specs.Begins.{begin}
+use Rattle.iox_wire_keeps.specs.MessageBegins.{BegunWiresStand, FirstFits, FirstIsTold, lends_or_sends}
+use Rattle.iox_wire_locals.specs.Begins.{begin, misnamed_call}
 use Rattle.iox_wire_laws.specs.WireKeeping.Readiness.{choice_for}
 use Rattle.iox_model.specs.Joins.{not_living}
-use Rattle.iox_wire_calls.specs.CallsStand.{BeginIsTold, CallsStand}
+use Rattle.iox_wire_calls.specs.CallsStand.{BeginIsTold, CallsStand, moves_words}
 use Rattle.iox_wire_locals.specs.declared.table.Entry.{Entry}
 use Rattle.iox_model.specs.Weaves.{Begins, World, begin_refusal}
-use Rattle.iox_wire_keeps.specs.Stored.{HoldsStored, IsWritten, SlotsHoldMessages}
+use Rattle.iox_wire_keeps.specs.Stored.{HoldsStored, IsWritten, SlotsHoldMessages, IsStored}
 use Rattle.iox_wire_keeps.specs.WireStands.{WireStands}
 use Rattle.iox_wire_laws.specs.WireHolding.Holding.{held_at}
 use Rattle.iox_wire_stands.specs.Nodes.{NodeStands}
 use Rattle.iox_wire_stands.proofs.StepsKept.{shown_same}
 use Rattle.iox_model.specs.Maps.{put_at}
 use Rattle.iox_laws.proofs.WeaveLedger.Views.{less}
-use Rattle.iox_model.specs.Commands.{WireCall}
+use Rattle.iox_model.specs.Commands.{WireCall, Payload}
 use Rattle.iox_wire_keeps.specs.Bounds.{AccessesBound}
 use Rattle.iox_wire_keeps.proofs.Bounds.{begins_leave_bounds}
 use Rattle.iox_wire_keeps.proofs.MessageBegins.{begins_leave_messages}
@@ -37,6 +44,18 @@ use Rattle.iox_model.specs.States.{State}
 use Rattle.iox_wire_locals.specs.declared.local.Local.TheVariants.{Idle}
 use Rattle.iox_wire_stands.proofs.BeginsKept.{begins_leave_nothing}
 use Rattle.iox_steps.specs.Sites.{last_position}
+use Rattle.iox_model.specs.Handles.{is_request_loan, is_response_loan}
+use Rattle.iox_wire_laws.specs.WireRegions.OwnedWords.{HasSlot, Owns}
+use Rattle.iox_model.specs.declared.kind.Role.TheVariants.{Client, Server}
+use Rattle.iox_model.specs.Settings.{is_client}
+use Rattle.iox_model.specs.declared.kind.Role.{Role}
+use Rattle.iox_wire_locals.specs.Begins.{begins_at}
+use Rattle.iox_model.specs.declared.kind.Kind.{Kind}
+use Rattle.iox_wire_locals.specs.declared.local.CallRefusal.TheVariants.{WrongLength}
+use Rattle.iox_wire_keeps.proofs.Accesses.{loan_kept}
+use Rattle.iox_model.specs.Peers.{port_at}
+use Rattle.iox_laws.proofs.WeaveLaws.MapLemmas.{either}
+use Rattle.iox_wire_laws.proofs.WireRegions.OwnedBegins.{writes_and_reads_begin_as_owners}
 
 -- two lists without a word
 no_words_left : (xs ys : List ℕ) (a b : ℕ) → length xs ≡ a → length ys ≡ b → (a + b == 0) ≡ true → xs ++ ys ≡ []
@@ -87,6 +106,83 @@ module _ (p : Setting) (words : List ℕ) (players : ℕ → Player) (r : Run) (
   its_entry k e at =
       ap (λ i. entry_at i (players n).seat.table) (eqb-true e.number k (find-among (λ (i : Entry). i.number == k) e (players n).seat.table at).1) ∙ at
 
+  -- ---- writes and reads own their first place
+
+  abbrev First : Seat → Type 0
+  First q = FirstFits p q.local → Owns p (players n).seat.node r.last.state.fixed r.last.state.request_state q.local
+
+  its_stored : (e : Entry) → HasEntry (players n).seat e → IsStored p wire.stands.held wire.stands.contents e.sender e.slot
+  its_stored e there = stored.entries e there (entry_low e there) (λ its. subst (λ l. IsWritten l e) idle its)
+
+  has_slot : (e : Entry) → HasEntry (players n).seat e → HasSlot p e
+  has_slot e there = record {
+    region = (its_stored e there).fits.region;
+    in_pool = entry_low e there;
+    room = more (words_before_payload p e.sender) _ _
+        (mul-le e.elements (port_shape p e.sender).width (p.port e.sender).longest (port_shape p e.sender).width
+        (subst (λ k. k ≤ (p.port e.sender).longest) (stored.lengths e there (entry_low e there)) (its_stored e there).fits.room) (same_width (port_shape p e.sender).width));
+  }
+    where
+      same_width : (k : ℕ) → k ≤ k
+      same_width k = omega arith
+
+      more : (a b d : ℕ) → b ≤ d → a + b ≤ a + d
+      more a b d less = omega (arith, less)
+
+  reads_owned : (e : Entry) → HasEntry (players n).seat e → First (begins.reads p (players n).seat e)
+  reads_owned e there fits =
+      (writes_and_reads_begin_as_owners p (players n).seat r.last.state.fixed r.last.state.request_state e [] (has_slot e there)).1
+
+  loan_of : (role : Role) (kind : Kind) → (if is_client role then is_request_loan kind else is_response_loan kind) ≡ true → IsLoan kind
+  loan_of Client kind is = ap (λ b. b || is_response_loan kind) is
+  loan_of Server kind is = either_is (is_request_loan kind) (is_response_loan kind) is
+    where
+      either_is : (a b : Bool) → b ≡ true → (a || b) ≡ true
+      either_is true b is = refl
+      either_is false b is = is
+
+  writing_owned : (e : Entry) (list : List ℕ) → HasEntry (players n).seat e → IsLoan e.kind → First (begins.writing (players n).seat e list)
+  writing_owned e [] there loan fits = tt
+  writing_owned e (word ∷ list) there loan fits =
+      (writes_and_reads_begin_as_owners p (players n).seat r.last.state.fixed r.last.state.request_state e (word ∷ list) (has_slot e there)).0 own
+      (at_most (length (word ∷ list)) _ (fits ∙ ap (λ i. e.elements * (port_shape p i).width) (sym own)))
+    where
+      own : e.sender ≡ e.port
+      own = ((node.names.entries e there).own (loan_kept e.kind loan)).1
+
+      at_most : (a b : ℕ) → a ≡ b → a ≤ b
+      at_most a b is = omega (arith, is)
+
+  writes_owned : (e : Entry) (k : Option ℕ) (list : List ℕ) → HasEntry (players n).seat e → IsLoan e.kind → First (begins.writes (players n).seat e k list)
+  writes_owned e None list there loan = λ fits. tt
+  writes_owned e (Some k) list there loan =
+      either First (k == e.elements) (begins.writing (players n).seat e list) (courses.ended (players n).seat (endings.Refuses WrongLength))
+      (λ is. writing_owned e list there loan) (λ is fits. tt)
+
+  write_owned : (k : ℕ) (y : Payload) → call ≡ wire_calls.Port (Write k y)
+      → First (begins_at p (players n).seat (Write k y) (port_at (known p (players n).seat) k) (entry_at k (players n).seat.table))
+  write_owned k y is =
+      by_call p (players n).seat wire.stands.numbers (owners_are_set p words players r n call wire.stands wire.calls free) (Write k y)
+      (subst (CallFits p) same (wire.calls n living).fits) First (λ fits. tt) (λ q home set suited fits. tt)
+      (λ e there its suited. writes_owned e y.elements y.words there (loan_of y.role e.kind suited))
+      (subst (λ c. misnamed_call p (players n).seat c ≡ None) is (named p words players r n call wire.stands wire.calls free))
+
+  read_owned : (k : ℕ) → call ≡ wire_calls.Port (Read k)
+      → First (begins_at p (players n).seat (Read k) (port_at (known p (players n).seat) k) (entry_at k (players n).seat.table))
+  read_owned k is =
+      by_call p (players n).seat wire.stands.numbers (owners_are_set p words players r n call wire.stands wire.calls free) (Read k)
+      (subst (CallFits p) same (wire.calls n living).fits) First (λ fits. tt) (λ q home set suited fits. tt)
+      (λ e there its suited. reads_owned e there)
+      (subst (λ c. misnamed_call p (players n).seat c ≡ None) is (named p words players r n call wire.stands wire.calls free))
+
+  abbrev FirstOwned : WireCall → Type 0
+  FirstOwned c = Owns p (players n).seat.node r.last.state.fixed r.last.state.request_state (begin p (players n).seat c).local
+
+  owns_first : (c : WireCall) → call ≡ c → (lends_or_sends c ≡ true → FirstOwned c) → moves_words c ≡ true → FirstOwned c
+  owns_first (wire_calls.Port (Write k y)) is other moves = write_owned k y is (subst (λ i. FirstFits p (begin p (players n).seat i).local) is told.fits)
+  owns_first (wire_calls.Port (Read k)) is other moves = read_owned k is (subst (λ i. FirstFits p (begin p (players n).seat i).local) is told.fits)
+  owns_first c is other moves = other moves
+
   begin_told : BeginIsTold p wire.stands.held r.last.state (players n).seat call
   begin_told = record {
     elements = λ k e at. stored.lengths e (its_entry k e at) (entry_low e (its_entry k e at));
@@ -96,7 +192,7 @@ module _ (p : Setting) (words : List ℕ) (players : ℕ → Player) (r : Run) (
         no_words_left (wire.stands.held e.sender e.slot).user (wire.stands.held e.sender e.slot).payload (length (port_shape p e.sender).user)
         (e.elements * (port_shape p e.sender).width) whole.user
         (whole.payload ∙ ap (λ i. i * (port_shape p e.sender).width) (stored.lengths e there (entry_low e there))) none;
-    owns = told.owns;
+    owns = owns_first call refl told.owns;
   }
 
   pub begun_run : (next : Run) × GoesOnBy r (Begins n call (choice_for p (players n).seat call)) next

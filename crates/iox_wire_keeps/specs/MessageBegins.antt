@@ -1,8 +1,10 @@
 -- Slots hold their messages as a call begins, and so a wire stands.
+use Rattle.iox_model.specs.declared.call.Call.TheVariants.{Read, Write}
+use Rattle.iox_model.specs.declared.call.WireCall.TheVariants as wire_calls
 use Rattle.iox_wire_locals.specs.declared.local.Ending.TheVariants as endings
 use Rattle.iox_wire_locals.specs.declared.seat.Seat.{Seat}
 use Rattle.iox_wire_stands.specs.Stands.{Player}
-use Rattle.std.specs.Prelude.{List, None, [], length, true, ℕ, ◌*◌, ◌++◌, ◌<◌, ◌∷◌, ◌≡◌}
+use Rattle.std.specs.Prelude.{Bool, false, List, None, [], length, true, ℕ, ◌*◌, ◌++◌, ◌<◌, ◌∷◌, ◌≡◌}
 use Rattle.iox_wire_locals.specs.declared.local.Local.TheVariants.{Ends, Idle, LendEmpties, LendStores, Writes}
 use Rattle.iox_wire_laws.specs.WireRegions.OwnedBegins.{LayoutFits}
 use Rattle.iox_model.specs.Commands.{WireCall}
@@ -51,10 +53,16 @@ BeginsLeaveMessages =
     → SlotsHoldMessages p (held_at p held (begin p x call).local) c
     (put_at seats n (begin p x call)) w.state
 
--- What the begin of a call is still to be told: a call that moves words owns its first place, and
--- what it lends or writes there is as long as it says.
+-- whether the call lends, sends or hints: all that moves words, but for writes and reads
+abbrev pub lends_or_sends : WireCall → Bool
+lends_or_sends (wire_calls.Port (Write n y)) = false
+lends_or_sends (wire_calls.Port (Read n)) = false
+lends_or_sends call = moves_words call
+
+-- What the begin of a call is still to be told: a call that lends, sends or hints owns its first
+-- place, and what it lends or writes there is as long as it says.
 pub record FirstIsTold (p : Setting) (s : State) (x : Seat) (call : WireCall) : Type 0 where
-  pub owns : moves_words call ≡ true
+  pub owns : lends_or_sends call ≡ true
       → Owns p x.node s.fixed s.request_state (begin p x call).local
   pub fits : FirstFits p (begin p x call).local
 
