@@ -1,6 +1,7 @@
 //! The handle that a call names.
-ghost use Rattle.std.specs.Prelude.{◌≡◌, IfErr, IfOk, None, OnOk, Some};
+ghost use Rattle.std.specs.Prelude.{ℕ, ◌≡◌, IfErr, IfOk, None, OnOk, Some, true};
 ghost use Rattle.iox_model.specs.Commands.{Payload};
+ghost use Rattle.iox_model.specs.Names.{suits};
 ghost use Rattle.iox_model.specs.declared.call.WireCall.TheVariants.{Port};
 ghost use Rattle.iox_word_places.specs.Plans.{port_of};
 ghost use Rattle.iox_wire_layouts.specs.PlansOf.{IsSettingOf};
@@ -23,6 +24,8 @@ pub fn named(
 ) -> Result<Entry, BeginError>
     requires no_port { port_of map.now number ≡ None }
     ensures found { IfOk result (λ e. entry_at number seat.now.seat.table ≡ Some e) }
+    ensures suits { (n : ℕ) → (y : Payload) → HasRole asked y
+        → IfOk result (λ e. suits true (call_of asked n y) e.kind ≡ true) }
     ensures allowed { (p : Setting) → (y : Payload) → IsSettingOf map.now p → HasRole asked y
         → OnOk result (refusal_at p seat.now.seat (Port (call_of asked number y)) ≡ None) }
     ensures begins { (p : Setting) → (y : Payload) → IsSettingOf map.now p → IfOk result (λ e.

@@ -1,0 +1,3 @@
+-- a node with its call, and the places that it knows of
+pub mod Nodes
+pub mod Aims
