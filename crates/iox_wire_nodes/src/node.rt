@@ -141,17 +141,34 @@ impl StoredNode {
     {
         let seat = &mut self.seat;
         match self.at {
-            CallAt::Seats => Some(NodeReply::OfSeat(seat.go_on(seen)?)),
-            CallAt::Receives => Some(NodeReply::OfReceive(self.receiving.go_on(seat, seen)?)),
-            CallAt::Lends => Some(NodeReply::OfLoan(self.lending.go_on(seat, seen)?)),
-            CallAt::SendsRequest => Some(NodeReply::OfRequest(self.requesting.go_on(seat, seen)?)),
-            CallAt::SendsResponse => Some(NodeReply::OfResponse(self.responding.go_on(seat, seen)?)),
-            CallAt::CopiesRequest => {
-                Some(NodeReply::OfRequestCopy(self.copying_client.go_on(seat, seen)?))
-            }
-            CallAt::CopiesResponse => {
-                Some(NodeReply::OfResponseCopy(self.copying_server.go_on(seat, seen)?))
-            }
+            CallAt::Seats => match seat.go_on(seen) {
+                Some(reply) => Some(NodeReply::OfSeat(reply)),
+                None => None,
+            },
+            CallAt::Receives => match self.receiving.go_on(seat, seen) {
+                Some(reply) => Some(NodeReply::OfReceive(reply)),
+                None => None,
+            },
+            CallAt::Lends => match self.lending.go_on(seat, seen) {
+                Some(reply) => Some(NodeReply::OfLoan(reply)),
+                None => None,
+            },
+            CallAt::SendsRequest => match self.requesting.go_on(seat, seen) {
+                Some(reply) => Some(NodeReply::OfRequest(reply)),
+                None => None,
+            },
+            CallAt::SendsResponse => match self.responding.go_on(seat, seen) {
+                Some(reply) => Some(NodeReply::OfResponse(reply)),
+                None => None,
+            },
+            CallAt::CopiesRequest => match self.copying_client.go_on(seat, seen) {
+                Some(reply) => Some(NodeReply::OfRequestCopy(reply)),
+                None => None,
+            },
+            CallAt::CopiesResponse => match self.copying_server.go_on(seat, seen) {
+                Some(reply) => Some(NodeReply::OfResponseCopy(reply)),
+                None => None,
+            },
         }
     }
 }

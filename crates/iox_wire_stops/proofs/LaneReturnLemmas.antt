@@ -34,7 +34,7 @@ use Rattle.iox_wire_seats.specs.declared.stops.Stop.{Stop}
 use Rattle.iox_wire_seats.specs.Aims.{IsInMemory, QueuesInMemory, queue_at}
 use Rattle.iox_wire_seats.specs.Seats.{ways_of}
 use Rattle.iox_wire_seats.proofs.BeginLemmas.{queue_in_memory}
-use Rattle.iox_wire_stops.specs.LaneReturns.{client_stops, lane_stop, lane_stops}
+use Rattle.iox_wire_stops.specs.LaneReturns.{client_stops, lane_stop, lane_stops, stops_at}
 use Rattle.iox_wire_ways.specs.Visits.{is_other, pool_of}
 use Rattle.iox_wire_ways.proofs.ListLemmas.{others_are, visited}
 use Rattle.iox_wire_ways.proofs.ReturnLemmas.{port_is_there}
@@ -50,8 +50,9 @@ last_of_range a (suc n) =
 pub one_lane_more : (plan : WirePlan) (server client n : ℕ) → lane_stops plan server client (n + 1) ≡ lane_stops plan server client n ++ lane_stop plan server client n ∷ []
 one_lane_more plan server client n =
     let e : n + 1 ≡ suc n = omega arith in
+    let l : 0 + n ≡ n = omega arith in
     ap (lane_stops plan server client) e
-    ∙ ap (map (lane_stop plan server client)) (last_of_range 0 n)
+    ∙ ap (map (lane_stop plan server client)) (last_of_range 0 n ∙ ap (λ (k : ℕ). range_with_len 0 n ++ k ∷ []) l)
     ∙ map-append (lane_stop plan server client) (range_with_len 0 n) (n ∷ [])
 
 pub lane_ways : (plan : WirePlan) (server client : ℕ) (lanes : List ℕ)
@@ -62,19 +63,16 @@ lane_ways plan server client (lane ∷ lanes) =
 
 -- ---- what is listed of the ports so far, several stops of each
 
-abbrev pub gathered_at : WirePlan → (PlanPort → Bool) → (ℕ → List Stop) → ℕ → List Stop
-gathered_at plan visits make i = if option_map_or visits (slice_get plan.ports.items i) false then make i else []
-
 abbrev pub gathered_before : WirePlan → (PlanPort → Bool) → (ℕ → List Stop) → ℕ → List Stop
 gathered_before plan visits make zero = []
-gathered_before plan visits make (suc k) = gathered_before plan visits make k ++ gathered_at plan visits make k
+gathered_before plan visits make (suc k) = gathered_before plan visits make k ++ stops_at plan visits make k
 
 pub one_port_more : (plan : WirePlan) (visits : PlanPort → Bool) (make : ℕ → List Stop) (k : ℕ)
-    → gathered_before plan visits make (k + 1) ≡ gathered_before plan visits make k ++ gathered_at plan visits make k
+    → gathered_before plan visits make (k + 1) ≡ gathered_before plan visits make k ++ stops_at plan visits make k
 one_port_more plan visits make k = let e : k + 1 ≡ suc k = omega arith in ap (gathered_before plan visits make) e
 
 pub visited_here : (plan : WirePlan) (visits : PlanPort → Bool) (make : ℕ → List Stop) (k : ℕ) (d : PlanPort) → k < length plan.ports.items → (b : Bool)
-    → visits (get_or plan.ports.items k d) ≡ b → gathered_at plan visits make k ≡ (if b then make k else [])
+    → visits (get_or plan.ports.items k d) ≡ b → stops_at plan visits make k ≡ (if b then make k else [])
 visited_here plan visits make k d low b is =
     ap (λ (o : Option PlanPort). if option_map_or visits o false then make k else []) (slice_get-get_or plan.ports.items k d low)
     ∙ ap (λ (c : Bool). if c then make k else []) is

@@ -5,6 +5,7 @@ use Rattle.std.specs.Option.{option_map_or}
 use Rattle.std.proofs.lemmas.Option.{slice_get-get_or}
 use Rattle.iox_model.specs.declared.kind.Role.{Role}
 use Rattle.iox_model.specs.declared.kind.Role.TheVariants.{Client}
+use Rattle.iox_model.specs.declared.way.Way.{Way}
 use Rattle.iox_model.specs.Maps.{has_number}
 use Rattle.iox_model.specs.Settings.{same_role}
 use Rattle.iox_word_places.specs.declared.plan.PlanPort.{PlanPort}
@@ -17,7 +18,7 @@ use Rattle.iox_wire_releases.specs.StatesOf.{state_stop}
 use Rattle.iox_wire_seats.specs.declared.stops.Stop.{Stop}
 use Rattle.iox_wire_seats.specs.Aims.{AreStates}
 use Rattle.iox_wire_stops.specs.OwnStates.{is_client_left}
-use Rattle.iox_wire_ways.specs.Visits.{is_other}
+use Rattle.iox_wire_ways.specs.Visits.{is_other, made_at}
 use Rattle.iox_wire_ways.proofs.ListLemmas.{all_made, made_before, visited}
 
 -- ---- the client is there
@@ -73,3 +74,14 @@ own_places plan p forgot client lane server k same =
     all_made Stop plan (is_client_left client forgot) (λ i. state_stop plan i lane server) (AreStates p) tt
     (λ xs i there are. states_append p xs (state_stop plan i lane server) are
     (ap (λ (y : WireLayout). state_place y (state_stop plan i lane server).way) (sym same))) k
+
+-- ---- what is made for the port there
+
+pub made_here : (plan : WirePlan) (visits : PlanPort → Bool) (make : ℕ → Stop) (k : ℕ) (d : PlanPort) → k < length plan.ports.items → (b : Bool)
+    → visits (get_or plan.ports.items k d) ≡ b → made_at Stop plan visits make k ≡ (if b then Some (make k) else None)
+made_here plan visits make k d low b is =
+    ap (λ (o : Option PlanPort). if option_map_or visits o false then Some (make k) else None) (slice_get-get_or plan.ports.items k d low)
+    ∙ ap (λ (c : Bool). if c then Some (make k) else None) is
+
+pub stop_is : (s : Stop) (way : Way) (place : ℕ) → s.way ≡ way → s.place ≡ place → s ≡ record { way = way; place = place }
+stop_is s way place a b = λ i. record { way = a i; place = b i }

@@ -11,7 +11,7 @@ ghost use Rattle.iox_wire_locals.specs.Known.{known};
 ghost use Rattle.iox_wire_locals.specs.Tables.{Setting};
 ghost use Rattle.iox_wire_seats.specs.Aims.{QueuesInMemory};
 ghost use Rattle.iox_wire_seats.specs.Seats.{ways_of};
-ghost use Rattle.iox_wire_stops.specs.LaneReturns.{client_stops, lane_stop};
+ghost use Rattle.iox_wire_stops.specs.LaneReturns.{client_stops, lane_stop, stops_at};
 ghost use Rattle.iox_wire_ways.specs.Visits.{is_other};
 
 use iox_model::kind::Role;
@@ -86,6 +86,29 @@ fn list_lanes(
     Ok(told)
 }
 
+/// Does so if the client is one that the node did not forget, and the port there a client.
+fn list_port(
+    map: &WordMap,
+    seat: &StoredSeat,
+    server: usize,
+    index: usize,
+    room: usize,
+    stops: &mut Vec<Stop>,
+) -> Result<usize, AllocError>
+    requires server { IsPortAt map.now Server server }
+    requires within { index < length map.now.ports.items }
+    ensures stops { OnOk result (stops.new.items ≡ stops.old.items
+        ++ stops_at map.now (is_other Client seat.now.seat.forgot) (client_stops map.now server) index) }
+    ensures room { (0 < length stops.old.items → room ≡ returning_room map.now.limits Server)
+        → IfOk result (λ r. 0 < length stops.new.items
+        → r ≡ returning_room map.now.limits Server) }
+{
+    if is_client_left(seat, map.plan().ports[index]) {
+        return list_lanes(map, server, index, room, stops);
+    }
+    Ok(room)
+}
+
 /// Lists where the responses of the server at an index return, on all lanes of all clients that the
 /// node did not forget, and says how many may return on each of these ways. What was listed before
 /// is lost.
@@ -108,9 +131,7 @@ pub fn list_response_returns(
     let mut room = 0;
     stops.clear();
     for index in 0..map.plan().ports.len() {
-        if is_client_left(seat, map.plan().ports[index]) {
-            room = list_lanes(map, server, index, room, stops)?;
-        }
+        room = list_port(map, seat, server, index, room, stops)?;
     }
     Ok(room)
 }

@@ -5,9 +5,7 @@ ghost use Rattle.iox_model.specs.Messages.{response_way};
 ghost use Rattle.iox_model.specs.Peers.{others};
 ghost use Rattle.iox_word_map.specs.WordMaps.{IsResponseWay};
 ghost use Rattle.iox_word_places.specs.declared.way_index.WayIndex.TheVariants.{Responses};
-ghost use Rattle.iox_word_places.specs.Plans.{IsPortAt, IsWayAt, layout_of, number_at};
-ghost use Rattle.iox_word_places.specs.Plans.{sizes_of, way_at};
-ghost use Rattle.iox_wire_words.specs.Programs.{state_place};
+ghost use Rattle.iox_word_places.specs.Plans.{IsPortAt, IsWayAt, number_at, sizes_of};
 ghost use Rattle.iox_wire_locals.specs.Known.{known};
 ghost use Rattle.iox_wire_locals.specs.ReceiveCourses.{states_for};
 ghost use Rattle.iox_wire_locals.specs.Tables.{Setting, state_in};
@@ -37,9 +35,7 @@ fn is_left(seat: &StoredSeat, client: u64, port: PlanPort) -> bool
 /// Where the request state of a server stands with a lane of the client at an index.
 fn state_with(map: &WordMap, server: usize, lane: u64, client: usize) -> Stop
     requires { IsWayAt map.now (Responses client server lane) }
-    ensures way { result.way ≡ way_at map.now (Responses client server lane) }
-    ensures place { result.place
-        ≡ state_place (layout_of map.now) (way_at map.now (Responses client server lane)) }
+    ensures { result ≡ state_stop map.now client lane server }
 {
     let ports = &map.plan().ports;
     let way = Way {
