@@ -8,6 +8,8 @@ use Rattle.iox_model.specs.Commands.{Payload}
 use Rattle.iox_wire_locals.specs.declared.table.Entry.{Entry}
 use Rattle.iox_wire_locals.specs.Begins.{refusal_at}
 use Rattle.iox_wire_locals.specs.ReceiveCourses.{checking}
+use Rattle.iox_wire_seats.specs.Aims.{AreStates}
+use Rattle.iox_wire_seats.specs.Seats.{ways_of}
 use Rattle.iox_wire_handle_calls.specs.HandleCalls.{refusal_in}
 use Rattle.iox_wire_stops.specs.OwnStates.{HasStates}
 use Rattle.iox_wire_handle_calls.proofs.asking.begin_is_connected.Goals as goal
@@ -40,9 +42,9 @@ pub returns-clause-begun : goal.returns-clause-begun
 returns-clause-begun c p setting = record {
   allowed = c.in_ok-entry.ensures.allowed p none setting tt;
   begun = c.in_ok-check.ensures.begun
-      ∙ ap (λ (ws : List Way). checking c.args.seat.now.seat c.in_ok-entry.entry false ws) (c.in_ok-list_states_of.ensures.ways p setting)
+      ∙ ap (λ (ws : List Way). checking c.args.seat.now.seat c.in_ok-entry.entry false ws) (ap ways_of c.deref.ensures.value ∙ c.in_ok-list_states_of.ensures.ways p setting)
       ∙ sym (c.in_ok-entry.ensures.begins p none setting);
-  aimed = c.in_ok-check.ensures.aimed p (c.in_ok-list_states_of.ensures.places p setting);
+  aimed = c.in_ok-check.ensures.aimed p (subst (AreStates p) (sym c.deref.ensures.value) (c.in_ok-list_states_of.ensures.places p setting));
 }
 
 pub returns-clause-allowed : goal.returns-clause-allowed

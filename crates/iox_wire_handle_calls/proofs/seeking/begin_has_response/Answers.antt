@@ -11,6 +11,8 @@ use Rattle.iox_wire_locals.specs.declared.table.Entry.{Entry}
 use Rattle.iox_wire_locals.specs.Begins.{refusal_at}
 use Rattle.iox_wire_locals.specs.Known.{known}
 use Rattle.iox_wire_locals.specs.ReceiveCourses.{seeking}
+use Rattle.iox_wire_seats.specs.Aims.{AreQueues}
+use Rattle.iox_wire_seats.specs.Seats.{ways_of}
 use Rattle.iox_wire_handle_calls.specs.HandleCalls.{refusal_in}
 use Rattle.iox_wire_stops.specs.OwnStates.{HasStates}
 use Rattle.iox_wire_handle_calls.proofs.seeking.begin_has_response.Goals as goal
@@ -19,11 +21,17 @@ use Rattle.iox_wire_handle_calls.proofs.seeking.begin_has_response.Goals as goal
 abbrev none : Payload
 none = record { role = Client; elements = None; words = [] }
 
-pub client_place-requires : goal.client_place-requires
-client_place-requires c =
+pub client_place-client-requires-clause-client : goal.client_place-client-requires-clause-client
+client_place-client-requires-clause-client c =
     let states : HasStates c.args.map.now c.in_ok-pending.pending =
     subst (λ (o : Option Entry). IfSome o (HasStates c.args.map.now)) c.in_ok-pending.ensures.found c.requires.states in
-    states.pending (c.in_ok-pending.ensures.suits 0 none tt)
+    (states.pending (c.in_ok-pending.ensures.suits 0 none tt)).0
+
+pub client_place-client-requires-clause-lane : goal.client_place-client-requires-clause-lane
+client_place-client-requires-clause-lane c =
+    let states : HasStates c.args.map.now c.in_ok-pending.pending =
+    subst (λ (o : Option Entry). IfSome o (HasStates c.args.map.now)) c.in_ok-pending.ensures.found c.requires.states in
+    (states.pending (c.in_ok-pending.ensures.suits 0 none tt)).1
 
 pub returns-in_err-pending-clause-refused : goal.returns-in_err-pending-clause-refused
 returns-in_err-pending-clause-refused c p setting =
@@ -46,10 +54,11 @@ returns-clause-begun c p setting = record {
   allowed = c.in_ok-pending.ensures.allowed p none setting tt;
   begun = c.in_ok-seek.ensures.begun
       ∙ ap (λ (ws : List Way). seeking c.args.seat.now.seat ws)
-      (c.in_ok-queue.ensures.ways p c.args.seat.now.seat setting
+      (ap ways_of c.deref.ensures.value
+      ∙ c.in_ok-queue.ensures.ways p c.args.seat.now.seat setting
       ∙ ap (λ (n : ℕ). map (response_way n c.in_ok-pending.pending.lane) (ports_of_role (known p c.args.seat.now.seat) Server)) c.client_place-client.ensures.number)
       ∙ sym (c.in_ok-pending.ensures.begins p none setting);
-  aimed = c.in_ok-seek.ensures.aimed p (c.in_ok-queue.ensures.queues p setting);
+  aimed = c.in_ok-seek.ensures.aimed p (subst (AreQueues p c.in_ok-queue.queue.kind c.in_ok-queue.queue.capacity) (sym c.deref.ensures.value) (c.in_ok-queue.ensures.queues p setting));
 }
 
 pub returns-clause-allowed : goal.returns-clause-allowed
