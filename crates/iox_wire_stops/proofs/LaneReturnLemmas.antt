@@ -1,5 +1,5 @@
 -- Where responses return on all lanes of all clients.
-use Rattle.std.proofs.Common.{◌≡◌, ℕ, zero, suc, ◌+◌, ◌<◌, ◌≤◌, ◌^◌, ◌==◌, Bool, true, false, if◌then◌else◌, List, [], ◌∷◌, ◌++◌, length, map, take, get_or, Some, refl, ap, sym, subst, ◌∙◌, arith, append_assoc, append-nil}
+use Rattle.std.proofs.Common.{◌≡◌, ℕ, zero, suc, ◌+◌, ◌<◌, ◌≤◌, ◌^◌, ◌==◌, Bool, true, false, if◌then◌else◌, List, [], ◌∷◌, ◌++◌, length, map, take, get_or, refl, ap, sym, subst, ◌∙◌, arith, append-nil}
 use Rattle.std.specs.Prelude.{IsSomeAnd, Option, filter, find, flat_map, slice_get}
 use Rattle.std.specs.List.{range_with_len}
 use Rattle.std.specs.Option.{option_map_or}
@@ -12,7 +12,7 @@ use Rattle.iox_model.specs.declared.kind.Role.TheVariants.{Client, Server}
 use Rattle.iox_model.specs.declared.way.Way.{Way}
 use Rattle.iox_model.specs.Loans.{response_ways}
 use Rattle.iox_model.specs.Messages.{response_way}
-use Rattle.iox_model.specs.Peers.{lanes_of, lanes_to, others}
+use Rattle.iox_model.specs.Peers.{lanes_of, lanes_to}
 use Rattle.iox_model.specs.States.{Port}
 use Rattle.iox_steps.specs.declared.site.QueueKind.TheVariants.{Index}
 use Rattle.iox_word_map.specs.WordMaps.{ReturningQueue, total_words}
@@ -190,20 +190,22 @@ module _ (plan : WirePlan) (is : IsPlan plan) (server : ℕ) (s : IsPortAt plan 
       → (n a : ℕ) → a + n ≤ pool_of plan (number_at plan client)
       → AreReturning p (returning_room plan.limits Server) (map (lane_stop plan server client) (range_with_len a n))
   lanes_return p same client c zero a low = tt
-  lanes_return p same client c (suc n) a low =
-      (queue_there plan is server s client a (lane_below plan is client a c (omega (arith, low)))
-      ∙ ap (λ (y : WireLayout). site_of y (ReturningQueue (way_at plan (Responses client server a)))) (sym same),
-      lanes_return p same client c n (a + 1) (omega (arith, low)))
+  lanes_return p same client c (suc n) a low = (
+    queue_there plan is server s client a (lane_below plan is client a c (omega (arith, low)))
+        ∙ ap (λ (y : WireLayout). site_of y (ReturningQueue (way_at plan (Responses client server a)))) (sym same),
+    lanes_return p same client c n (a + 1) (omega (arith, low)),
+  )
 
   lanes_in_memory : (total : ℕ) → total ≡ total_words (sizes_of plan) → total < 2 ^ 64 → (client : ℕ) → IsPortAt plan Client client
       → (n a : ℕ) → a + n ≤ pool_of plan (number_at plan client)
       → QueuesInMemory Index (returning_room plan.limits Server) (map (lane_stop plan server client) (range_with_len a n))
   lanes_in_memory total total_is fits client c zero a low = tt
   lanes_in_memory total total_is fits client c (suc n) a low =
-      let l : IsLaneAt plan client a = lane_below plan is client a c (omega (arith, low)) in
-      (subst IsInMemory (sym (queue_there plan is server s client a l))
-      (queue_in_memory plan (Responses client server a) total is (l, s) total_is fits).1,
-      lanes_in_memory total total_is fits client c n (a + 1) (omega (arith, low)))
+      let l : IsLaneAt plan client a = lane_below plan is client a c (omega (arith, low)) in (
+        subst IsInMemory (sym (queue_there plan is server s client a l))
+            (queue_in_memory plan (Responses client server a) total is (l, s) total_is fits).1,
+        lanes_in_memory total total_is fits client c n (a + 1) (omega (arith, low)),
+      )
 
   pub all_return : (p : Setting) → p.layout ≡ layout_of plan → (forgot : List ℕ) (k : ℕ)
       → AreReturning p (returning_room plan.limits Server) (gathered_before plan (is_other Client forgot) (client_stops plan server) k)

@@ -1,6 +1,6 @@
 -- The one request state of a received request.
 use Rattle.std.proofs.Common.{◌≡◌, ℕ, ◌<◌, ◌==◌, Bool, true, false, ◌&&◌, not, if◌then◌else◌, List, [], ◌∷◌, ◌++◌, length, map, get_or, Some, None, refl, ap, sym, subst, ◌∙◌, true≢false, eqb-true}
-use Rattle.std.specs.Prelude.{Option, IsSomeAnd, filter, slice_get}
+use Rattle.std.specs.Prelude.{Option, IsSomeAnd, filter}
 use Rattle.std.specs.Option.{option_map_or}
 use Rattle.std.proofs.lemmas.Option.{slice_get-get_or}
 use Rattle.iox_model.specs.declared.kind.Role.{Role}
@@ -10,7 +10,7 @@ use Rattle.iox_model.specs.Maps.{has_number}
 use Rattle.iox_model.specs.Settings.{same_role}
 use Rattle.iox_word_places.specs.declared.plan.PlanPort.{PlanPort}
 use Rattle.iox_word_places.specs.declared.plan.WirePlan.{WirePlan}
-use Rattle.iox_word_places.specs.Plans.{IsLaneAt, IsPlan, layout_of, number_at, port_of, sizes_of}
+use Rattle.iox_word_places.specs.Plans.{IsLaneAt, IsPlan, layout_of, port_of, sizes_of}
 use Rattle.iox_word_places.proofs.PlanLemmas.{number_is, port_is}
 use Rattle.iox_wire_words.specs.Programs.{WireLayout, state_place}
 use Rattle.iox_wire_locals.specs.Tables.{Setting}

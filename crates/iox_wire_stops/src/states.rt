@@ -1,5 +1,6 @@
 //! The request states at which a handle looks.
 ghost use Rattle.std.specs.Prelude.{◌≡◌, ◌==◌, ◌<◌, OnOk, filter, length, map as each};
+ghost use Rattle.std.specs.Prelude.{true};
 ghost use Rattle.iox_model.specs.declared.kind.Role.TheVariants.{Client, Server};
 ghost use Rattle.iox_model.specs.Messages.{response_way};
 ghost use Rattle.iox_model.specs.Peers.{others};
@@ -14,7 +15,7 @@ ghost use Rattle.iox_wire_releases.specs.StatesOf.{state_stop};
 ghost use Rattle.iox_wire_seats.specs.declared.stops.Stop.{Stop};
 ghost use Rattle.iox_wire_seats.specs.Aims.{AreStates};
 ghost use Rattle.iox_wire_seats.specs.Seats.{ways_of};
-ghost use Rattle.iox_wire_stops.specs.OwnStates.{HasStates, is_client_left};
+ghost use Rattle.iox_wire_stops.specs.OwnStates.{HasStates, has_states, is_client_left};
 ghost use Rattle.iox_wire_ways.specs.Visits.{made_at};
 
 use iox_model::kind::{Kind, Role};
@@ -96,7 +97,7 @@ fn list_own_state(
 }
 
 /// Lists where the request states stand at which a handle looks: a pending response at those with
-/// all servers that its node did not forget, any other at the one of its request. What was listed
+/// all servers that its node did not forget, an active request at its own. What was listed
 /// before is lost.
 pub fn list_states_of(
     map: &WordMap,
@@ -104,7 +105,8 @@ pub fn list_states_of(
     handle: Entry,
     stops: &mut Vec<Stop>,
 ) -> Result<(), AllocError>
-    requires { HasStates map.now handle }
+    requires states { HasStates map.now handle }
+    requires kind { has_states handle.kind ≡ true }
     ensures ways { (p : Setting) → IsSettingOf map.now p
         → OnOk result (ways_of stops.new.items ≡ states_for p seat.now.seat handle) }
     ensures places { (p : Setting) → IsSettingOf map.now p
@@ -115,9 +117,10 @@ pub fn list_states_of(
             let client = client_place(map, handle.port, handle.lane);
             list_states(map, seat, client, handle.lane, stops)
         }
-        _ => {
+        Kind::ActiveRequest => {
             let server = server_place(map, handle.port);
             list_own_state(map, seat, handle, server, stops)
         }
+        _ => unreachable!(),
     }
 }

@@ -1,11 +1,9 @@
-use Rattle.std.proofs.Common.{◌≡◌, ◌<◌, ◌++◌, [], List, ◌∷◌, get_or, ap, sym, ◌∙◌, arith, append_assoc, append-nil}
+use Rattle.std.proofs.Common.{◌++◌, [], List, ◌∷◌, get_or, ap, sym, ◌∙◌, arith, append_assoc, append-nil}
 use Rattle.iox_model.specs.declared.kind.Role.TheVariants.{Client}
 use Rattle.iox_word_places.specs.declared.plan.WirePlan.{WirePlan}
-use Rattle.iox_word_places.specs.Plans.{number_at}
 use Rattle.iox_wire_seats.specs.declared.stops.Stop.{Stop}
-use Rattle.iox_wire_stops.specs.LaneReturns.{lane_stop, lane_stops}
+use Rattle.iox_wire_stops.specs.LaneReturns.{lane_stops}
 use Rattle.iox_wire_stops.proofs.LaneReturnLemmas.{lane_below, one_lane_more}
-use Rattle.iox_wire_ways.specs.Visits.{pool_of}
 use Rattle.iox_wire_ways.proofs.HeaderLemmas.{PortFacts, index_of_port, port_facts}
 use Rattle.iox_wire_stops.proofs.lane_returns.list_lanes.Goals as goal
 
@@ -22,9 +20,11 @@ loop-lane-init c =
     }
 
 pub return_on-back-requires : goal.return_on-back-requires
-return_on-back-requires c =
-    (lane_below c.args.map.now c.plan.ensures.plan c.args.client c.loop-lane.lane c.requires.client
-    (omega (arith, c.loop-lane-test.true, c.loop-lane.invariant.size)), c.requires.server)
+return_on-back-requires c = (
+  lane_below c.args.map.now c.plan.ensures.plan c.args.client c.loop-lane.lane c.requires.client
+      (omega (arith, c.loop-lane-test.true, c.loop-lane.invariant.size)),
+  c.requires.server,
+)
 
 pub loop-lane-preserved : goal.loop-lane-preserved
 loop-lane-preserved c = record {
