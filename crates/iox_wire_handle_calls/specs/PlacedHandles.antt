@@ -1,5 +1,5 @@
 -- Where the messages of handles stand.
-use Rattle.std.specs.Prelude.{◌≡◌, ◌+◌, ◌*◌, ◌/◌, ◌<◌, ◌^◌, ℕ, IsSomeAnd}
+use Rattle.std.specs.Prelude.{◌+◌, ◌*◌, ◌/◌, ◌<◌, ◌^◌, ℕ, IsSomeAnd}
 use Rattle.iox_word_map.specs.WordMaps.{total_words}
 use Rattle.iox_word_places.specs.declared.plan.WirePlan.{WirePlan}
 use Rattle.iox_word_places.specs.Plans.{details_of, port_of}

@@ -1,8 +1,10 @@
 use Rattle.std.specs.Prelude.{IfSome}
-use Rattle.std.proofs.Common.{rules, ◌≡◌, List, Option, None, [], sym, subst, ap, ◌∙◌}
+use Rattle.std.proofs.Common.{rules, ◌≡◌, Bool, ◌||◌, List, Option, None, [], sym, subst, ap, ◌∙◌}
 use Rattle.iox_model.specs.declared.call.Call.TheVariants.{SetHint}
 use Rattle.iox_model.specs.declared.call.WireCall.TheVariants.{Port}
+use Rattle.iox_model.specs.declared.kind.Kind.TheVariants.{ActiveRequest}
 use Rattle.iox_model.specs.declared.kind.Role.TheVariants.{Client}
+use Rattle.iox_model.specs.Handles.{same_kind}
 use Rattle.iox_model.specs.declared.way.Way.{Way}
 use Rattle.iox_model.specs.Commands.{Payload}
 use Rattle.iox_wire_locals.specs.declared.table.Entry.{Entry}
@@ -34,9 +36,12 @@ returns-in_err-list_states_of-clause-refused c p setting =
     let known : refusal_at p c.args.seat.now.seat (Port (SetHint c.args.number)) ≡ None = c.in_ok-entry.ensures.allowed p none setting tt in
     search (rules, known)
 
-pub list_states_of-requires : goal.list_states_of-requires
-list_states_of-requires c =
+pub list_states_of-requires-clause-states : goal.list_states_of-requires-clause-states
+list_states_of-requires-clause-states c =
     subst (λ (o : Option Entry). IfSome o (HasStates c.args.map.now)) c.in_ok-entry.ensures.found c.requires.states
+
+pub list_states_of-requires-clause-kind : goal.list_states_of-requires-clause-kind
+list_states_of-requires-clause-kind c = ap (λ (b : Bool). b || same_kind c.in_ok-entry.entry.kind ActiveRequest) (c.in_ok-entry.ensures.suits 0 none tt)
 
 pub returns-clause-begun : goal.returns-clause-begun
 returns-clause-begun c p setting = record {

@@ -1,18 +1,14 @@
-use Rattle.std.proofs.Common.{rules, ◌≡◌, ℕ, Bool, true, false, get_or, ap, ap₂, refl, Some, sym, ◌∙◌}
+use Rattle.std.proofs.Common.{rules, ◌≡◌, ℕ, true, false, get_or, ap, ap₂, refl, sym, ◌∙◌}
 use Rattle.std.specs.Prelude.{◌==◌, Option}
 use Rattle.std.specs.Option.{option_map_or}
 use Rattle.iox_model.specs.declared.kind.Kind.{Kind}
 use Rattle.iox_model.specs.declared.kind.Role.{Role}
 use Rattle.iox_model.specs.declared.kind.Role.TheVariants.{Client}
-use Rattle.iox_model.specs.Commands.{Payload}
 use Rattle.iox_model.specs.Names.{suits}
 use Rattle.iox_word_places.specs.declared.plan.PlanPort.{PlanPort}
 use Rattle.iox_word_places.specs.declared.plan.WirePlan.{WirePlan}
-use Rattle.iox_word_places.specs.Plans.{port_of, role_of}
-use Rattle.iox_wire_layouts.specs.PlansOf.{IsSettingOf}
-use Rattle.iox_wire_locals.specs.Tables.{Setting}
-use Rattle.iox_wire_handle_calls.specs.HandleCalls.{HasRole, call_of, port_kind}
-use Rattle.iox_wire_handle_calls.proofs.NameLemmas.{PortThere, found_there, port_begins, port_busy, port_refusal, port_there}
+use Rattle.iox_wire_handle_calls.specs.HandleCalls.{call_of, port_kind}
+use Rattle.iox_wire_handle_calls.proofs.NameLemmas.{found_there, port_begins, port_refusal, port_there}
 use Rattle.iox_wire_handle_calls.proofs.naming.name_port.Goals as goal
 
 pub returns-then-port-node-clause-refused : goal.returns-then-port-node-clause-refused
