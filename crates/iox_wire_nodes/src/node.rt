@@ -1,6 +1,8 @@
 //! A node of a wire, with whatever call is under way.
 ghost use Rattle.std.specs.Prelude.{◌≡◌};
 
+mod begin;
+
 use crate::call_at::{CallAt, NodeReply};
 use iox_steps::Access;
 use iox_wire_copies::{CopyingClient, CopyingServer};
