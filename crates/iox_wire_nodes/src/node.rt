@@ -2,6 +2,8 @@
 ghost use Rattle.std.specs.Prelude.{◌≡◌};
 
 mod begin;
+mod receive;
+mod write;
 
 use crate::call_at::{CallAt, NodeReply};
 use iox_steps::Access;
