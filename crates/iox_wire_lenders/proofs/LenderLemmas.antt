@@ -1,17 +1,14 @@
 -- What a lender is told is so on the wire.
-use Rattle.std.proofs.Common.{◌≡◌, ℕ, ◌*◌, ◌<◌, ◌≤◌, Bool, true, false, ◌||◌, ◌&&◌, List, ◌++◌, length, get_or, refl, ap, ap₂, sym, subst, ◌∙◌, arith}
+use Rattle.std.proofs.Common.{◌≡◌, ℕ, ◌*◌, ◌<◌, ◌≤◌, Bool, true, false, ◌||◌, ◌&&◌, ◌++◌, length, get_or, refl, ap, ap₂, sym, subst, ◌∙◌}
 use Rattle.std.specs.Prelude.{nat_le, Option, Some, IsSomeAnd, slice_get}
 use Rattle.std.proofs.lemmas.Bool.{leb-true}
-use Rattle.std.proofs.lemmas.Option.{slice_get-get_or}
-use Rattle.iox_model.specs.declared.kind.Role.{Role}
 use Rattle.iox_model.specs.declared.kind.Role.TheVariants.{Client, Server}
 use Rattle.iox_model.specs.Loans.{fits_size}
 use Rattle.iox_model.specs.Settings.{Shape, has_layout, shape_of}
-use Rattle.iox_model.specs.States.{Port}
 use Rattle.iox_types.specs.Identifiers.{id_words}
 use Rattle.iox_word_places.specs.declared.plan.PlanPort.{PlanPort}
 use Rattle.iox_word_places.specs.declared.plan.WirePlan.{WirePlan}
-use Rattle.iox_word_places.specs.Plans.{IsPlan, IsPortAt, number_at}
+use Rattle.iox_word_places.specs.Plans.{IsPlan, number_at}
 use Rattle.iox_word_places.proofs.PlanLemmas.{number_is}
 use Rattle.iox_wire_layouts.specs.PlansOf.{IsAsPlanned}
 use Rattle.iox_wire_layouts.proofs.Planned.{each_planned}

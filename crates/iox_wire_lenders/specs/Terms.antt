@@ -1,5 +1,5 @@
 -- What a wire is told beside its plan: when it is complete, and when a setting is made of both.
-use Rattle.std.specs.Prelude.{◌≡◌, ◌+◌, ◌*◌, ◌<◌, ◌≤◌, ◌^◌, ℕ, true, false, ◌++◌, length, IsSomeAnd, None, slice_get}
+use Rattle.std.specs.Prelude.{◌≡◌, ◌*◌, ◌<◌, ◌≤◌, ◌^◌, ℕ, true, false, ◌++◌, length, IsSomeAnd, None, slice_get}
 use Rattle.iox_types.specs.Identifiers.{id_words}
 use Rattle.iox_model.specs.declared.kind.Role.{Role}
 use Rattle.iox_model.specs.declared.kind.Role.TheVariants.{Client, Server}

@@ -71,6 +71,19 @@ is_server plan is i n d low number has =
     server Client e = absurd (true≢false (sym e))
     server Server e = refl
 
+-- so is one that looks for requests
+pub looks_at_server : (plan : WirePlan) → IsPlan plan → (i n : ℕ) (d : PlanPort) → i < length plan.ports.items → number_at plan i ≡ n
+    → suits true (calls.HasRequests n) (handles.port_kind (role_of plan n)) ≡ true → IsPortAt plan Server i
+looks_at_server plan is i n d low number has =
+    subst (λ (o : Option PlanPort). IsSomeAnd o (λ q. q.role ≡ Server)) (sym (slice_get-get_or plan.ports.items i d low))
+    (server (get_or plan.ports.items i d).role
+    (ap (λ (o : Option PlanPort). suits true (calls.HasRequests n) (handles.port_kind (option_map_or (λ q. q.role) o Client)))
+    (sym (port_is plan is.numbers i d low) ∙ ap (port_of plan) number) ∙ has))
+  where
+    server : (r : Role) → suits true (calls.HasRequests n) (handles.port_kind r) ≡ true → r ≡ Server
+    server Client e = absurd (true≢false (sym e))
+    server Server e = refl
+
 -- what begins at a port, beside the seat
 pub received_at : (p : Setting) (n : ℕ) {m old : Node} (y : Receipt) → m ≡ old → RestsUnless (same_call at.Seats m.at) m.seat.seat.local
     → is_busy (seat_in old).local ≡ false

@@ -2,6 +2,7 @@
 ghost use Rattle.std.specs.Prelude.{◌≡◌};
 
 mod begin;
+mod look;
 mod receive;
 mod write;
 
@@ -75,7 +76,7 @@ impl StoredNode {
     pub fn new(alloc: Global, seat: StoredSeat) -> StoredNode
         requires { is_busy seat.seat.local ≡ false }
         ensures seat { seat_in result ≡ seat.seat }
-        ensures room { result.seat.room ≡ seat.room }
+        ensures whole { result.seat ≡ seat }
     {
         StoredNode {
             at: CallAt::Seats,

@@ -19,8 +19,10 @@ ghost use Rattle.iox_wire_stops.specs.OwnStates.{HasStates};
 use super::StoredNode;
 use crate::call_at::CallAt;
 use crate::handle_call::HandleCall;
-use iox_wire_handle_calls::{Asked, BeginError, begin_has_hint, begin_has_response};
-use iox_wire_handle_calls::{begin_is_connected, begin_read, begin_set_hint, named};
+use iox_wire_handle_calls::{
+    Asked, BeginError, begin_has_hint, begin_has_response, begin_is_connected, begin_read,
+    begin_set_hint, named,
+};
 use iox_wire_receives::Source;
 use iox_wire_releases::begin_release;
 use iox_wire_seats::{Stop, StoredSeat};

@@ -1,4 +1,4 @@
-use Rattle.std.proofs.Common.{◌≡◌, ap, sym, ◌∙◌}
+use Rattle.std.proofs.Common.{ap, sym, ◌∙◌}
 use Rattle.std.specs.Option.{option_map}
 use Rattle.iox_wire_seats.specs.Seats.{reply_with}
 use Rattle.iox_wire_receives.specs.Receipts as receives
