@@ -1,8 +1,11 @@
--- The calls of a handle, why they do not begin, and how a node begins them.
+-- The calls of a port or a handle, why they do not begin, and how a node begins them.
 use Rattle.std.specs.Prelude.{◌≡◌, ℕ, List, Option, Some, None}
 use Rattle.iox_model.specs.declared.call.Call.TheVariants as calls
 use Rattle.iox_model.specs.declared.call.WireCall.TheVariants.{Port}
+use Rattle.iox_model.specs.declared.kind.Kind.{Kind}
+use Rattle.iox_model.specs.declared.kind.Kind.TheVariants as kinds
 use Rattle.iox_model.specs.declared.kind.Role.{Role}
+use Rattle.iox_model.specs.declared.kind.Role.TheVariants.{Client, Server}
 use Rattle.iox_model.specs.declared.reply.Refusal.TheVariants as refusals
 use Rattle.iox_model.specs.Commands.{Call, Payload, Refusal, WireCall}
 use Rattle.iox_wire_locals.specs.Begins.{begin, refusal_at}
@@ -19,11 +22,20 @@ use Rattle.iox_wire_handle_calls.specs.declared.error.BeginError.TheVariants as 
 -- the call of that number, with that payload if it is a write
 abbrev pub call_of : Asked → ℕ → Payload → Call
 call_of (asked.Write role) n y = calls.Write n y
+call_of asked.Send n y = calls.Send n
+call_of asked.Receive n y = calls.Receive n
 call_of asked.Read n y = calls.Read n
+call_of asked.Release n y = calls.Release n
 call_of asked.IsConnected n y = calls.IsConnected n
 call_of asked.SetHint n y = calls.SetHint n
 call_of asked.HasHint n y = calls.HasHint n
+call_of asked.HasRequests n y = calls.HasRequests n
 call_of asked.HasResponse n y = calls.HasResponse n
+
+-- the kind of ports of a role
+abbrev pub port_kind : Role → Kind
+port_kind Client = kinds.Client
+port_kind Server = kinds.Server
 
 -- the payload is of that role, if the call is a write
 abbrev pub HasRole : Asked → Payload → Type 0
@@ -41,6 +53,7 @@ write_of n role elements words =
 abbrev pub refusal_in : BeginError → Option Refusal
 refusal_in errors.Busy = Some refusals.Busy
 refusal_in errors.UnknownNumber = Some refusals.UnknownNumber
+refusal_in errors.ForeignNumber = Some refusals.ForeignNumber
 refusal_in errors.WrongKind = Some refusals.WrongKind
 refusal_in errors.WantOfMemory = None
 

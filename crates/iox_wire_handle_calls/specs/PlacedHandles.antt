@@ -1,18 +1,10 @@
--- Where the messages of handles stand, and which handles a call may be made of.
-use Rattle.std.specs.Prelude.{◌≡◌, ◌+◌, ◌*◌, ◌/◌, ◌<◌, ◌^◌, ℕ, IfSome, IsSomeAnd, List}
-use Rattle.iox_model.specs.declared.kind.Role.TheVariants.{Server}
+-- Where the messages of handles stand.
+use Rattle.std.specs.Prelude.{◌+◌, ◌*◌, ◌/◌, ◌<◌, ◌^◌, ℕ, IsSomeAnd}
 use Rattle.iox_word_map.specs.WordMaps.{total_words}
 use Rattle.iox_word_places.specs.declared.plan.WirePlan.{WirePlan}
-use Rattle.iox_word_places.specs.Plans.{details_of, message_kind, planned_buffer, port_of}
+use Rattle.iox_word_places.specs.Plans.{details_of, port_of}
 use Rattle.iox_word_places.specs.Plans.{role_of, sizes_of}
-use Rattle.iox_wire_locals.specs.declared.seat.Seat.{Seat}
 use Rattle.iox_wire_locals.specs.declared.table.Entry.{Entry}
-use Rattle.iox_wire_locals.specs.Begins.{ways_for}
-use Rattle.iox_wire_locals.specs.ReceiveCourses.{states_for}
-use Rattle.iox_wire_locals.specs.Tables.{Setting, entry_at}
-use Rattle.iox_wire_seats.specs.declared.stops.Stop.{Stop}
-use Rattle.iox_wire_seats.specs.Aims.{AreQueues, AreStates}
-use Rattle.iox_wire_seats.specs.Seats.{ways_of}
 
 -- the port of that number has that slot
 abbrev pub HasSlot : WirePlan → (port slot : ℕ) → Type 0
@@ -34,14 +26,3 @@ pub record IsReadable (plan : WirePlan) (e : Entry) : Type 0 where
   pub slot : HasSlot plan e.sender e.slot
   pub memory :
       total_words (sizes_of plan) + words_behind_header plan e.sender e.elements < 2 ^ 64
-
--- the stops are those of the request states at which the handle of that number looks
-abbrev pub AreItsStates : Setting → Seat → ℕ → List Stop → Type 0
-AreItsStates p x n stops =
-    AreStates p stops × IfSome (entry_at n x.table) (λ e. ways_of stops ≡ states_for p x e)
-
--- the stops are those of the queues in which responses to the handle of that number wait
-abbrev pub AreItsQueues : WirePlan → Setting → Seat → ℕ → List Stop → Type 0
-AreItsQueues plan p x n stops =
-    AreQueues p (message_kind plan.limits Server) (planned_buffer plan.limits Server) stops
-    × IfSome (entry_at n x.table) (λ e. ways_of stops ≡ ways_for p x e)

@@ -1,4 +1,4 @@
-//! Which call a handle is asked for.
+//! Which call a port or a handle is asked for.
 ghost use Rattle.std.specs.Prelude.{ℕ, ◌≡◌, true};
 ghost use Rattle.iox_model.specs.Commands.{Payload};
 ghost use Rattle.iox_model.specs.Names.{suits};
@@ -6,19 +6,24 @@ ghost use Rattle.iox_wire_handle_calls.specs.HandleCalls.{HasRole, call_of};
 
 use iox_model::kind::{Kind, Role};
 
-/// Which call a handle is asked for. A write is of a request or of a response, as its role tells.
+/// Which call a port or a handle is asked for. A write is of a request or of a response, as its role
+/// tells.
 #[derive(Clone, Copy, Debug, PartialEq, Eq)]
 pub enum Asked {
     Write(Role),
+    Send,
+    Receive,
     Read,
+    Release,
     IsConnected,
     SetHint,
     HasHint,
+    HasRequests,
     HasResponse,
 }
 
 impl Asked {
-    /// Whether handles of that kind have the call.
+    /// Whether ports or handles of that kind have the call.
     #[inline]
     pub fn suits(self, kind: Kind) -> bool
         ensures { (n : ℕ) → (y : Payload) → HasRole self y
@@ -31,6 +36,10 @@ impl Asked {
             Asked::Write(Role::Server) => {
                 matches!(kind, Kind::ResponseMut | Kind::ResponseMutUninit)
             }
+            Asked::Send => matches!(kind, Kind::RequestMut | Kind::ResponseMut),
+            Asked::Receive => matches!(kind, Kind::Server | Kind::PendingResponse),
+            Asked::Release => !matches!(kind, Kind::Client | Kind::Server),
+            Asked::HasRequests => matches!(kind, Kind::Server),
             Asked::Read => !matches!(
                 kind,
                 Kind::Client | Kind::Server | Kind::RequestMutUninit | Kind::ResponseMutUninit

@@ -1,31 +1,32 @@
 //! Questions about a request: whether its peer is connected, and whether a hint was given.
-ghost use Rattle.std.specs.Prelude.{◌≡◌, IfErr, None, OnErr, OnOk};
+ghost use Rattle.std.specs.Prelude.{◌≡◌, IfErr, IfSome, None, OnErr, OnOk};
 ghost use Rattle.iox_model.specs.declared.call.Call.TheVariants.{HasHint, IsConnected};
 ghost use Rattle.iox_model.specs.declared.call.WireCall.TheVariants.{Port};
 ghost use Rattle.iox_word_places.specs.Plans.{port_of};
 ghost use Rattle.iox_wire_layouts.specs.PlansOf.{IsSettingOf};
 ghost use Rattle.iox_wire_locals.specs.Begins.{refusal_at};
-ghost use Rattle.iox_wire_locals.specs.Tables.{Setting};
+ghost use Rattle.iox_wire_locals.specs.Tables.{Setting, entry_at};
 ghost use Rattle.iox_wire_handle_calls.specs.HandleCalls.{IsBegun, refusal_in};
-ghost use Rattle.iox_wire_handle_calls.specs.PlacedHandles.{AreItsStates};
+ghost use Rattle.iox_wire_stops.specs.OwnStates.{HasStates};
 
 use crate::asked::Asked;
 use crate::error::BeginError;
 use crate::naming::named;
 use iox_wire_seats::{Stop, StoredSeat};
+use iox_wire_stops::list_states_of;
 use iox_word_places::WordMap;
 
 /// Begins to ask whether the peer of the handle of that number is connected. The number is no
-/// port's, and the stops are those of the handle's request states.
+/// port's. What it lists in `stops` is of no use later.
 pub fn begin_is_connected(
     seat: &mut StoredSeat,
     map: &WordMap,
     number: u64,
-    stops: &[Stop],
+    stops: &mut Vec<Stop>,
 ) -> Result<(), BeginError>
     requires no_port { port_of map.now number ≡ None }
+    requires states { IfSome (entry_at number seat.old.seat.table) (HasStates map.now) }
     ensures begun { (p : Setting) → IsSettingOf map.now p
-        → AreItsStates p seat.old.seat number stops.now
         → OnOk result (IsBegun p seat.old (Port (IsConnected number)) seat.new) }
     ensures allowed { (p : Setting) → IsSettingOf map.now p
         → OnOk result (refusal_at p seat.old.seat (Port (IsConnected number)) ≡ None) }
@@ -36,21 +37,22 @@ pub fn begin_is_connected(
     ensures room { seat.new.room ≡ seat.old.room }
 {
     let entry = named(seat, map, Asked::IsConnected, number)?;
+    list_states_of(map, seat, entry, stops)?;
     seat.check(entry, false, stops)?;
     Ok(())
 }
 
-/// Begins to ask whether a hint was given to the request of that number. The number is no port's,
-/// and the stops are those of the handle's request states.
+/// Begins to ask whether a hint was given to the request of that number. The number is no port's.
+/// What it lists in `stops` is of no use later.
 pub fn begin_has_hint(
     seat: &mut StoredSeat,
     map: &WordMap,
     number: u64,
-    stops: &[Stop],
+    stops: &mut Vec<Stop>,
 ) -> Result<(), BeginError>
     requires no_port { port_of map.now number ≡ None }
+    requires states { IfSome (entry_at number seat.old.seat.table) (HasStates map.now) }
     ensures begun { (p : Setting) → IsSettingOf map.now p
-        → AreItsStates p seat.old.seat number stops.now
         → OnOk result (IsBegun p seat.old (Port (HasHint number)) seat.new) }
     ensures allowed { (p : Setting) → IsSettingOf map.now p
         → OnOk result (refusal_at p seat.old.seat (Port (HasHint number)) ≡ None) }
@@ -61,6 +63,7 @@ pub fn begin_has_hint(
     ensures room { seat.new.room ≡ seat.old.room }
 {
     let entry = named(seat, map, Asked::HasHint, number)?;
+    list_states_of(map, seat, entry, stops)?;
     seat.check(entry, true, stops)?;
     Ok(())
 }

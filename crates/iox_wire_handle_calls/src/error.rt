@@ -4,14 +4,16 @@ ghost use Rattle.iox_wire_handle_calls.specs.declared.error.BeginError.TheVarian
 
 use std::alloc::AllocError;
 
-/// Why a call of a handle does not begin. The first that applies is told.
+/// Why a call does not begin. The first that applies is told.
 #[derive(Clone, Copy, Debug, PartialEq, Eq)]
 pub enum BeginError {
     /// A call of the node is under way.
     Busy,
-    /// The node has no handle of that number.
+    /// The node has no handle of that number, and it is no port's.
     UnknownNumber,
-    /// Handles of that kind do not have the call.
+    /// The port of that number is another node's.
+    ForeignNumber,
+    /// Ports and handles of that kind do not have the call.
     WrongKind,
     /// There is no memory for the words or the ways of the call.
     WantOfMemory,

@@ -8,26 +8,27 @@ ghost use Rattle.iox_wire_locals.specs.Begins.{refusal_at};
 ghost use Rattle.iox_wire_locals.specs.Tables.{Setting, entry_at};
 ghost use Rattle.iox_wire_seats.specs.Aims.{HasRoomForHint};
 ghost use Rattle.iox_wire_handle_calls.specs.HandleCalls.{IsBegun, refusal_in};
-ghost use Rattle.iox_wire_handle_calls.specs.PlacedHandles.{AreItsStates};
+ghost use Rattle.iox_wire_stops.specs.OwnStates.{HasStates};
 
 use crate::asked::Asked;
 use crate::error::BeginError;
 use crate::naming::named;
 use iox_wire_seats::{Stop, StoredSeat};
+use iox_wire_stops::list_states_of;
 use iox_word_places::WordMap;
 
-/// Begins to give a hint to the pending response of that number. The number is no port's, and the
-/// stops are those of the handle's request states.
+/// Begins to give a hint to the pending response of that number. The number is no port's. What it
+/// lists in `stops` is of no use later.
 pub fn begin_set_hint(
     seat: &mut StoredSeat,
     map: &WordMap,
     number: u64,
-    stops: &[Stop],
+    stops: &mut Vec<Stop>,
 ) -> Result<(), BeginError>
     requires no_port { port_of map.now number ≡ None }
+    requires states { IfSome (entry_at number seat.old.seat.table) (HasStates map.now) }
     requires hint { IfSome (entry_at number seat.old.seat.table) HasRoomForHint }
     ensures begun { (p : Setting) → IsSettingOf map.now p
-        → AreItsStates p seat.old.seat number stops.now
         → OnOk result (IsBegun p seat.old (Port (SetHint number)) seat.new) }
     ensures allowed { (p : Setting) → IsSettingOf map.now p
         → OnOk result (refusal_at p seat.old.seat (Port (SetHint number)) ≡ None) }
@@ -38,6 +39,7 @@ pub fn begin_set_hint(
     ensures room { seat.new.room ≡ seat.old.room }
 {
     let entry = named(seat, map, Asked::SetHint, number)?;
+    list_states_of(map, seat, entry, stops)?;
     seat.hint(entry, stops)?;
     Ok(())
 }

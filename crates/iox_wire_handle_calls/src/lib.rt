@@ -14,9 +14,11 @@ mod seeking;
 mod uses;
 mod writing;
 
+pub use asked::Asked;
 pub use asking::{begin_has_hint, begin_is_connected};
 pub use error::BeginError;
 pub use hinting::begin_set_hint;
+pub use naming::{name_port, named};
 pub use reading::begin_read;
 pub use seeking::begin_has_response;
 pub use writing::begin_write;

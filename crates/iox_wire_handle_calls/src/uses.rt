@@ -16,7 +16,8 @@ ghost use Rattle.iox_wire_seats.specs.Aims.{HasRoomForHint};
 ghost use Rattle.iox_wire_words.specs.Programs.{program_access};
 ghost use Rattle.iox_wire_handle_calls.specs.declared.error.BeginError.TheVariants as errors;
 ghost use Rattle.iox_wire_handle_calls.specs.HandleCalls.{write_of};
-ghost use Rattle.iox_wire_handle_calls.specs.PlacedHandles.{AreItsStates, HasOwnSlot, IsReadable};
+ghost use Rattle.iox_wire_handle_calls.specs.PlacedHandles.{HasOwnSlot, IsReadable};
+ghost use Rattle.iox_wire_stops.specs.OwnStates.{HasStates};
 
 use crate::asking::begin_is_connected;
 use crate::error::BeginError;
@@ -84,13 +85,13 @@ pub fn connection_asked_by_one_step(
     seat: &mut StoredSeat,
     map: &WordMap,
     number: u64,
-    stops: &[Stop],
+    stops: &mut Vec<Stop>,
     seen: u64,
 ) -> Result<Option<SeatReply>, BeginError>
     requires no_port { port_of map.now number ≡ None }
+    requires states { IfSome (entry_at number seat.old.seat.table) (HasStates map.now) }
     requires accesses { seat.old.seat.accesses + 1 < 2 ^ 64 }
-    ensures { (p : Setting) → IsSettingOf map.now p
-        → AreItsStates p seat.old.seat number stops.now → OnOk result (seat.new.seat
+    ensures { (p : Setting) → IsSettingOf map.now p → OnOk result (seat.new.seat
         ≡ next p (begin p seat.old.seat (Port (IsConnected number))) seen) }
 {
     begin_is_connected(seat, map, number, stops)?;
@@ -102,9 +103,10 @@ pub fn busy_node_gives_no_hint(
     seat: &mut StoredSeat,
     map: &WordMap,
     number: u64,
-    stops: &[Stop],
+    stops: &mut Vec<Stop>,
 ) -> Result<(), BeginError>
     requires no_port { port_of map.now number ≡ None }
+    requires states { IfSome (entry_at number seat.old.seat.table) (HasStates map.now) }
     requires hint { IfSome (entry_at number seat.old.seat.table) HasRoomForHint }
     ensures { (p : Setting) → IsSettingOf map.now p
         → refusal_at p seat.old.seat (Port (SetHint number)) ≡ Some refusals.Busy

@@ -183,6 +183,7 @@ impl Receiving {
         ensures aimed { StaysAimed seat.old self.old seat.new self.new }
         ensures accesses { seat.new.seat.accesses ≡ seat.old.seat.accesses + 1 }
         ensures room { KeepsRoom seat.old seat.new }
+        ensures rests { seat.new.seat.local ≡ seat.old.seat.local }
         ensures may { result ≡ None → MayReceive seat.new self.new.terms.number }
         ensures counts { HasRoomFor seat.new.seat self.new.local }
         ensures terms { self.new.terms ≡ self.old.terms }

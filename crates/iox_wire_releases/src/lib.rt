@@ -9,5 +9,6 @@ mod states;
 mod uses;
 
 pub use laws::handles_may_be_released;
+pub use places::{client_place, place_of, server_place};
 pub use releases::begin_release;
 pub use states::list_states;

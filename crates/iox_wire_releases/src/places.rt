@@ -8,7 +8,7 @@ ghost use Rattle.iox_word_places.specs.Plans.{sizes_of};
 use iox_word_places::WordMap;
 
 /// Where the port of that number stands.
-pub(crate) fn place_of(map: &WordMap, number: u64) -> Option<usize>
+pub fn place_of(map: &WordMap, number: u64) -> Option<usize>
     ensures first { result ≡ position (λ q. q.number == number) map.now.ports.items }
     ensures within { IfSome result (λ place. place < length map.now.ports.items) }
     ensures plan { IsPlan map.now }
@@ -20,7 +20,7 @@ pub(crate) fn place_of(map: &WordMap, number: u64) -> Option<usize>
 }
 
 /// Where the client of that number stands, which has that lane.
-pub(crate) fn client_place(map: &WordMap, client: u64, lane: u64) -> usize
+pub fn client_place(map: &WordMap, client: u64, lane: u64) -> usize
     requires client { has_number client (sizes_of map.now).clients ≡ true }
     requires lane { lane < (sizes_of map.now).lanes client }
     ensures there { IsLaneAt map.now result lane }
@@ -33,7 +33,7 @@ pub(crate) fn client_place(map: &WordMap, client: u64, lane: u64) -> usize
 }
 
 /// Where the server of that number stands.
-pub(crate) fn server_place(map: &WordMap, server: u64) -> usize
+pub fn server_place(map: &WordMap, server: u64) -> usize
     requires { has_number server (sizes_of map.now).servers ≡ true }
     ensures there { IsPortAt map.now Server result }
     ensures number { number_at map.now result ≡ server }

@@ -1,15 +1,19 @@
 use Rattle.std.specs.Prelude.{IfSome}
-use Rattle.std.proofs.Common.{rules, ◌≡◌, List, Option, None, [], sym, subst, ap, ◌∙◌}
+use Rattle.std.proofs.Common.{rules, ◌≡◌, Bool, ◌||◌, List, Option, None, [], sym, subst, ap, ◌∙◌}
 use Rattle.iox_model.specs.declared.call.Call.TheVariants.{SetHint}
 use Rattle.iox_model.specs.declared.call.WireCall.TheVariants.{Port}
+use Rattle.iox_model.specs.declared.kind.Kind.TheVariants.{ActiveRequest}
 use Rattle.iox_model.specs.declared.kind.Role.TheVariants.{Client}
+use Rattle.iox_model.specs.Handles.{same_kind}
 use Rattle.iox_model.specs.declared.way.Way.{Way}
 use Rattle.iox_model.specs.Commands.{Payload}
 use Rattle.iox_wire_locals.specs.declared.table.Entry.{Entry}
 use Rattle.iox_wire_locals.specs.Begins.{refusal_at}
-use Rattle.iox_wire_locals.specs.ReceiveCourses.{hinting, states_for}
+use Rattle.iox_wire_locals.specs.ReceiveCourses.{hinting}
+use Rattle.iox_wire_seats.specs.Aims.{AreStates}
 use Rattle.iox_wire_seats.specs.Seats.{ways_of}
 use Rattle.iox_wire_handle_calls.specs.HandleCalls.{refusal_in}
+use Rattle.iox_wire_stops.specs.OwnStates.{HasStates}
 use Rattle.iox_wire_handle_calls.proofs.hinting.begin_set_hint.Goals as goal
 
 -- no payload is asked
@@ -27,17 +31,26 @@ returns-in_err-hint-clause-refused c p setting =
     let known : refusal_at p c.args.seat.now.seat (Port (SetHint c.args.number)) ≡ None = c.in_ok-entry.ensures.allowed p none setting tt in
     search (rules, known)
 
+pub returns-in_err-list_states_of-clause-refused : goal.returns-in_err-list_states_of-clause-refused
+returns-in_err-list_states_of-clause-refused c p setting =
+    let known : refusal_at p c.args.seat.now.seat (Port (SetHint c.args.number)) ≡ None = c.in_ok-entry.ensures.allowed p none setting tt in
+    search (rules, known)
+
+pub list_states_of-requires-clause-states : goal.list_states_of-requires-clause-states
+list_states_of-requires-clause-states c =
+    subst (λ (o : Option Entry). IfSome o (HasStates c.args.map.now)) c.in_ok-entry.ensures.found c.requires.states
+
+pub list_states_of-requires-clause-kind : goal.list_states_of-requires-clause-kind
+list_states_of-requires-clause-kind c = ap (λ (b : Bool). b || same_kind c.in_ok-entry.entry.kind ActiveRequest) (c.in_ok-entry.ensures.suits 0 none tt)
+
 pub returns-clause-begun : goal.returns-clause-begun
-returns-clause-begun c p setting its =
-    let ways : ways_of c.args.stops.now ≡ states_for p c.args.seat.now.seat c.in_ok-entry.entry =
-    subst (λ (o : Option Entry). IfSome o (λ e. ways_of c.args.stops.now ≡ states_for p c.args.seat.now.seat e)) c.in_ok-entry.ensures.found its.1 in
-    record {
-      allowed = c.in_ok-entry.ensures.allowed p none setting tt;
-      begun = c.in_ok-hint.ensures.begun
-          ∙ ap (λ (ws : List Way). hinting c.args.seat.now.seat c.in_ok-entry.entry ws) ways
-          ∙ sym (c.in_ok-entry.ensures.begins p none setting);
-      aimed = c.in_ok-hint.ensures.aimed p its.0;
-    }
+returns-clause-begun c p setting = record {
+  allowed = c.in_ok-entry.ensures.allowed p none setting tt;
+  begun = c.in_ok-hint.ensures.begun
+      ∙ ap (λ (ws : List Way). hinting c.args.seat.now.seat c.in_ok-entry.entry ws) (ap ways_of c.deref.ensures.value ∙ c.in_ok-list_states_of.ensures.ways p setting)
+      ∙ sym (c.in_ok-entry.ensures.begins p none setting);
+  aimed = c.in_ok-hint.ensures.aimed p (subst (AreStates p) (sym c.deref.ensures.value) (c.in_ok-list_states_of.ensures.places p setting));
+}
 
 pub returns-clause-allowed : goal.returns-clause-allowed
 returns-clause-allowed c p setting = c.in_ok-entry.ensures.allowed p none setting tt

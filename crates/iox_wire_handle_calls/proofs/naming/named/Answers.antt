@@ -28,3 +28,6 @@ pub returns-clause-begins : goal.returns-clause-begins
 returns-clause-begins c p y setting =
     begins_so c.args.map.now p c.args.seat.now.seat c.args.asked c.args.number y setting c.requires.no_port c.in-Some.entry
     (sym c.entry.ensures ∙ c.in-Some.is)
+
+pub returns-clause-suits : goal.returns-clause-suits
+returns-clause-suits c n y role = sym (sym c.if-not-suits.false ∙ c.suits.ensures n y role)

@@ -1,0 +1,2 @@
+-- what a wire is told beside its plan
+pub mod Terms

@@ -1,0 +1,68 @@
+//! The lender of a port, from the map and the terms of a wire.
+ghost use Rattle.std.specs.Prelude.{◌≡◌, IfOk, OnOk};
+ghost use Rattle.iox_model.specs.declared.kind.Role.TheVariants.{Client, Server};
+ghost use Rattle.iox_word_places.specs.Plans.{IsPortAt, IsSlotAt, number_at};
+ghost use Rattle.iox_wire_lenders.specs.Terms.{FitsPlan, IsSettingWith};
+ghost use Rattle.iox_wire_loans.specs.Lenders.{IsClient, IsLender, IsServer, IsWhole};
+ghost use Rattle.iox_wire_locals.specs.Tables.{Setting};
+ghost use Rattle.iox_wire_ways.specs.PlannedSlots.{HasHeader};
+
+use crate::terms::WireTerms;
+use iox_model::kind::Role;
+use iox_wire_loans::Lender;
+use iox_wire_ways::slot_places;
+use iox_word_places::WordMap;
+use std::alloc::{AllocError, Global};
+
+/// These words in memory of their own.
+fn copied(alloc: Global, words: &[u64]) -> Result<Vec<u64>, AllocError>
+    ensures { IfOk result (λ copy. copy.items ≡ words.now) }
+{
+    let mut copy = Vec::new(alloc);
+    copy.extend_from_slice(words)?;
+    Ok(copy)
+}
+
+/// The lender of the port at an index, as the map and the terms of the wire tell it. It is not told
+/// yet how many messages may return on each of its ways.
+pub fn make_lender(
+    alloc: Global,
+    map: &WordMap,
+    terms: &WireTerms,
+    port: usize,
+) -> Result<Lender, AllocError>
+    requires slot { IsSlotAt map.now port 0 }
+    requires header { HasHeader map.now port }
+    requires fits { FitsPlan map.now terms.now }
+    ensures lender { (p : Setting) → IsSettingWith map.now terms.now p
+        → IfOk result (λ lender. IsLender p lender) }
+    ensures client { (p : Setting) → IsSettingWith map.now terms.now p
+        → IsPortAt map.now Client port → IfOk result (λ lender. IsClient p lender) }
+    ensures server { (p : Setting) → IsSettingWith map.now terms.now p
+        → IsPortAt map.now Server port → IfOk result (λ lender. IsServer p lender) }
+    ensures whole { IfOk result IsWhole }
+    ensures number { IfOk result (λ lender. lender.port ≡ number_at map.now port) }
+{
+    let plan = map.plan();
+    let at = plan.ports[port];
+    let own = &terms.ports[port];
+    let messages = terms.messages(at.role);
+    let each = own.loaned_responses;
+    let limit = match at.role {
+        Role::Client => terms.loaned_requests,
+        Role::Server => each * plan.limits.active_requests as u64 * terms.clients,
+    };
+    Ok(Lender {
+        port: at.number,
+        role: at.role,
+        many: messages.many,
+        longest: at.longest as u64,
+        limit,
+        each,
+        pool: at.pool as u64,
+        room: 0,
+        ids: copied(alloc, &own.ids)?,
+        user: copied(alloc, &messages.user)?,
+        places: slot_places(map, port),
+    })
+}

@@ -1,0 +1,113 @@
+-- A node between calls is what its seat is.
+use Rattle.std.proofs.Common.{◌≡◌, ℕ, ◌<◌, length, get_or, None, true, false, refl, ap, sym, subst, ◌∙◌, true≢false}
+use Rattle.std.specs.Prelude.{Option, IsSomeAnd}
+use Rattle.std.specs.Option.{option_map_or}
+use Rattle.std.proofs.lemmas.Option.{slice_get-get_or}
+use Rattle.iox_model.specs.declared.call.Call.TheVariants as calls
+use Rattle.iox_model.specs.declared.call.WireCall.TheVariants.{Port}
+use Rattle.iox_model.specs.declared.kind.Role.{Role}
+use Rattle.iox_model.specs.declared.kind.Role.TheVariants.{Client, Server}
+use Rattle.iox_model.specs.Commands.{WireCall}
+use Rattle.iox_model.specs.Names.{suits}
+use Rattle.iox_word_places.specs.declared.plan.PlanPort.{PlanPort}
+use Rattle.iox_word_places.specs.declared.plan.WirePlan.{WirePlan}
+use Rattle.iox_word_places.specs.Plans.{IsPlan, IsPortAt, number_at, port_of, role_of}
+use Rattle.iox_word_places.proofs.PlanLemmas.{port_is}
+use Rattle.iox_wire_locals.specs.declared.local.Local.{Local}
+use Rattle.iox_wire_locals.specs.declared.local.Local.TheVariants.{Idle}
+use Rattle.iox_wire_locals.specs.declared.seat.Seat.{Seat}
+use Rattle.iox_wire_handle_calls.specs.HandleCalls as handles
+use Rattle.iox_wire_locals.specs.Begins.{begin, is_busy, refusal_at}
+use Rattle.iox_wire_locals.specs.Courses.{placed}
+use Rattle.iox_wire_locals.specs.Lendings.{next_handle}
+use Rattle.iox_wire_locals.specs.Tables.{Setting}
+use Rattle.iox_wire_receives.specs.Aims as receives
+use Rattle.iox_wire_receives.specs.Receipts.{Receipt}
+use Rattle.iox_wire_seats.specs.Seats.{Placed}
+use Rattle.iox_wire_nodes.specs.Begins.{IsBegun}
+use Rattle.iox_wire_nodes.specs.declared.call_at.CallAt.{CallAt}
+use Rattle.iox_wire_nodes.specs.declared.call_at.CallAt.TheVariants as at
+use Rattle.iox_wire_nodes.specs.Nodes.{Node, RestsUnless, same_call, seat_at, seat_in}
+
+idle_is : (l : Local) → is_busy l ≡ false → l ≡ Idle
+idle_is Idle rests = refl
+idle_is _ rests = absurd (true≢false rests)
+
+at_its_place : (x : Seat) (l : Local) → is_busy x.local ≡ false → is_busy l ≡ false → placed x l ≡ x
+at_its_place x l own rests = ap (placed x) (idle_is l rests ∙ sym (idle_is x.local own))
+
+pub seat_rests : (n : Node) (a : CallAt) → RestsUnless (same_call at.Seats a) n.seat.seat.local → is_busy (seat_at a n).local ≡ false → seat_at a n ≡ n.seat.seat
+seat_rests n at.Seats own rests = refl
+seat_rests n at.Receives own rests = at_its_place n.seat.seat n.receives.local own rests
+seat_rests n at.Lends own rests = at_its_place n.seat.seat n.lends.local own rests
+seat_rests n at.SendsRequest own rests = at_its_place n.seat.seat n.requests.local own rests
+seat_rests n at.SendsResponse own rests = at_its_place n.seat.seat n.responds.local own rests
+seat_rests n at.CopiesRequest own rests = at_its_place n.seat.seat n.copies_request.local own rests
+seat_rests n at.CopiesResponse own rests = at_its_place n.seat.seat n.copies_response.local own rests
+
+-- what begins in the seat begins so
+pub begun_in : (p : Setting) (call : WireCall) {n old : Node} (y : Placed) → n ≡ old → RestsUnless (same_call at.Seats n.at) n.seat.seat.local
+    → is_busy (seat_in old).local ≡ false → handles.IsBegun p n.seat call y → IsBegun p old call (record n { at = at.Seats; seat = y })
+begun_in p call {n} y same own rests by =
+    let alike : seat_in n ≡ n.seat.seat = seat_rests n n.at own (ap (λ (o : Node). is_busy (seat_in o).local) same ∙ rests) in
+    subst (λ (o : Node). IsBegun p o call (record n { at = at.Seats; seat = y })) same (record {
+      allowed = ap (λ (x : Seat). refusal_at p x call) alike ∙ by.allowed;
+      begun = by.begun ∙ ap (λ (x : Seat). begin p x call) (sym alike);
+      aimed = by.aimed;
+    })
+
+-- ---- a receive of a port
+
+-- a port that has receives is a server
+pub is_server : (plan : WirePlan) → IsPlan plan → (i n : ℕ) (d : PlanPort) → i < length plan.ports.items → number_at plan i ≡ n
+    → suits true (calls.Receive n) (handles.port_kind (role_of plan n)) ≡ true → IsPortAt plan Server i
+is_server plan is i n d low number has =
+    subst (λ (o : Option PlanPort). IsSomeAnd o (λ q. q.role ≡ Server)) (sym (slice_get-get_or plan.ports.items i d low))
+    (server (get_or plan.ports.items i d).role
+    (ap (λ (o : Option PlanPort). suits true (calls.Receive n) (handles.port_kind (option_map_or (λ q. q.role) o Client)))
+    (sym (port_is plan is.numbers i d low) ∙ ap (port_of plan) number) ∙ has))
+  where
+    server : (r : Role) → suits true (calls.Receive n) (handles.port_kind r) ≡ true → r ≡ Server
+    server Client e = absurd (true≢false (sym e))
+    server Server e = refl
+
+-- so is one that looks for requests
+pub looks_at_server : (plan : WirePlan) → IsPlan plan → (i n : ℕ) (d : PlanPort) → i < length plan.ports.items → number_at plan i ≡ n
+    → suits true (calls.HasRequests n) (handles.port_kind (role_of plan n)) ≡ true → IsPortAt plan Server i
+looks_at_server plan is i n d low number has =
+    subst (λ (o : Option PlanPort). IsSomeAnd o (λ q. q.role ≡ Server)) (sym (slice_get-get_or plan.ports.items i d low))
+    (server (get_or plan.ports.items i d).role
+    (ap (λ (o : Option PlanPort). suits true (calls.HasRequests n) (handles.port_kind (option_map_or (λ q. q.role) o Client)))
+    (sym (port_is plan is.numbers i d low) ∙ ap (port_of plan) number) ∙ has))
+  where
+    server : (r : Role) → suits true (calls.HasRequests n) (handles.port_kind r) ≡ true → r ≡ Server
+    server Client e = absurd (true≢false (sym e))
+    server Server e = refl
+
+-- what begins at a port, beside the seat
+pub received_at : (p : Setting) (n : ℕ) {m old : Node} (y : Receipt) → m ≡ old → RestsUnless (same_call at.Seats m.at) m.seat.seat.local
+    → is_busy (seat_in old).local ≡ false
+    → refusal_at p m.seat.seat (Port (calls.Receive n)) ≡ None → placed m.seat.seat y.local ≡ begin p m.seat.seat (Port (calls.Receive n))
+    → receives.IsAimed p m.seat.seat y
+    → IsBegun p old (Port (calls.Receive n)) (record m { at = at.Receives; receives = y })
+received_at p n {m} y same own rests allowed begun aimed =
+    let alike : seat_in m ≡ m.seat.seat = seat_rests m m.at own (ap (λ (o : Node). is_busy (seat_in o).local) same ∙ rests) in
+    subst (λ (o : Node). IsBegun p o (Port (calls.Receive n)) (record m { at = at.Receives; receives = y })) same (record {
+      allowed = ap (λ (x : Seat). refusal_at p x (Port (calls.Receive n))) alike ∙ allowed;
+      begun = begun ∙ ap (λ (x : Seat). begin p x (Port (calls.Receive n))) (sym alike);
+      aimed = aimed;
+    })
+
+-- the number of its next handle
+pub next_alike : (p : Setting) {m old : Node} → m ≡ old → RestsUnless (same_call at.Seats m.at) m.seat.seat.local → is_busy (seat_in old).local ≡ false
+    → next_handle p (seat_in old) ≡ next_handle p m.seat.seat
+next_alike p {m} same own rests =
+    sym (ap (λ (o : Node). next_handle p (seat_in o)) same)
+    ∙ ap (next_handle p) (seat_rests m m.at own (ap (λ (o : Node). is_busy (seat_in o).local) same ∙ rests))
+
+-- and why a call is refused
+pub refusal_alike : (p : Setting) (call : WireCall) {m old : Node} → m ≡ old → RestsUnless (same_call at.Seats m.at) m.seat.seat.local
+    → is_busy (seat_in old).local ≡ false → refusal_at p (seat_in old) call ≡ refusal_at p m.seat.seat call
+refusal_alike p call {m} same own rests =
+    sym (ap (λ (o : Node). refusal_at p (seat_in o) call) same)
+    ∙ ap (λ (x : Seat). refusal_at p x call) (seat_rests m m.at own (ap (λ (o : Node). is_busy (seat_in o).local) same ∙ rests))

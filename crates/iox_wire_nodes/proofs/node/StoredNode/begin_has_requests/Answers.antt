@@ -1,0 +1,58 @@
+use Rattle.std.proofs.Common.{rules, ◌≡◌, List, None, [], ap, subst, sym, ◌∙◌}
+use Rattle.iox_model.specs.declared.call.Call.TheVariants.{HasRequests}
+use Rattle.iox_model.specs.declared.call.WireCall.TheVariants.{Port}
+use Rattle.iox_model.specs.declared.kind.Role.TheVariants.{Client}
+use Rattle.iox_model.specs.declared.way.Way.{Way}
+use Rattle.iox_model.specs.Commands.{Payload}
+use Rattle.iox_word_places.proofs.PairLemmas.{one_of}
+use Rattle.iox_wire_handle_calls.specs.HandleCalls.{refusal_in}
+use Rattle.iox_wire_locals.specs.Begins.{begins_at_port, refusal_at}
+use Rattle.iox_wire_locals.specs.ReceiveCourses.{seeking}
+use Rattle.iox_wire_seats.specs.Aims.{AreQueues}
+use Rattle.iox_wire_seats.specs.Seats.{ways_of}
+use Rattle.iox_wire_nodes.specs.Nodes.{seat_in}
+use Rattle.iox_wire_nodes.proofs.RestLemmas.{begun_in, looks_at_server, refusal_alike}
+use Rattle.iox_wire_nodes.proofs.node.StoredNode.begin_has_requests.Goals as goal
+
+-- no payload is asked
+abbrev none : Payload
+none = record { role = Client; elements = None; words = [] }
+
+pub returns-in_err-name_port-clause-refused : goal.returns-in_err-name_port-clause-refused
+returns-in_err-name_port-clause-refused c p setting held =
+    let known : refusal_at p (seat_in c.args.self.now) (Port (HasRequests c.args.number)) ≡ refusal_in c.in_err-name_port.field-0.0 =
+    refusal_alike p (Port (HasRequests c.args.number)) c.self.view_is c.self.invariant.0 (sym c.is_busy.ensures ∙ c.if-is_busy.false)
+    ∙ c.in_err-name_port.ensures.refused p none setting held tt in
+    search (rules, known)
+
+pub list_waiting_requests-requires-clause-server : goal.list_waiting_requests-requires-clause-server
+list_waiting_requests-requires-clause-server c =
+    looks_at_server c.args.map.now c.plan-plan.ensures.plan c.args.port c.args.number (one_of c.args.map.now.ports.items c.args.port c.requires.within)
+    c.requires.within c.requires.there (c.in_ok-name_port.ensures.kind c.args.number none tt)
+
+pub returns-in_err-queue-clause-refused : goal.returns-in_err-queue-clause-refused
+returns-in_err-queue-clause-refused c p setting held =
+    let known : refusal_at p (seat_in c.args.self.now) (Port (HasRequests c.args.number)) ≡ None =
+    refusal_alike p (Port (HasRequests c.args.number)) c.self.view_is c.self.invariant.0 (sym c.is_busy.ensures ∙ c.if-is_busy.false)
+    ∙ c.in_ok-name_port.ensures.allowed p none setting held tt in
+    search (rules, known)
+
+pub returns-in_err-seek-clause-refused : goal.returns-in_err-seek-clause-refused
+returns-in_err-seek-clause-refused c p setting held =
+    let known : refusal_at p (seat_in c.args.self.now) (Port (HasRequests c.args.number)) ≡ None =
+    refusal_alike p (Port (HasRequests c.args.number)) c.self.view_is c.self.invariant.0 (sym c.is_busy.ensures ∙ c.if-is_busy.false)
+    ∙ c.in_ok-name_port.ensures.allowed p none setting held tt in
+    search (rules, known)
+
+pub returns-clause-begun : goal.returns-clause-begun
+returns-clause-begun c p setting held told =
+    begun_in p (Port (HasRequests c.args.number)) c.seek.new.self c.self.view_is c.self.invariant.0 (sym c.is_busy.ensures ∙ c.if-is_busy.false)
+    (record {
+      allowed = c.in_ok-name_port.ensures.allowed p none setting held tt;
+      begun = c.in_ok-seek.ensures.begun
+          ∙ ap (λ (ws : List Way). seeking c.self.inside.seat.seat ws) (ap ways_of c.deref.ensures.value ∙ c.in_ok-queue.ensures.ways p setting told)
+          ∙ ap (λ k. begins_at_port p c.self.inside.seat.seat (HasRequests c.args.number) (p.port k)) c.requires.there
+          ∙ sym (c.in_ok-name_port.ensures.begins p none setting);
+      aimed = c.in_ok-seek.ensures.aimed p
+          (subst (AreQueues p c.in_ok-queue.queue.kind c.in_ok-queue.queue.capacity) (sym c.deref.ensures.value) (c.in_ok-queue.ensures.queues p setting));
+    })

@@ -1,0 +1,179 @@
+//! A node of a wire, with whatever call is under way.
+ghost use Rattle.std.specs.Prelude.{◌≡◌};
+
+mod begin;
+mod look;
+mod receive;
+mod write;
+
+use crate::call_at::{CallAt, NodeReply};
+use iox_steps::Access;
+use iox_wire_copies::{CopyingClient, CopyingServer};
+use iox_wire_loans::Lending;
+use iox_wire_receives::Receiving;
+use iox_wire_request_sends::Requesting;
+use iox_wire_seats::StoredSeat;
+use iox_wire_sends::Responding;
+use std::alloc::Global;
+use std::marker::Model;
+
+/// A node of a wire: what it keeps for itself, and the call that is under way.
+#[derive(Drop)]
+pub struct StoredNode {
+    at: CallAt,
+    seat: StoredSeat,
+    receiving: Receiving,
+    lending: Lending,
+    requesting: Requesting,
+    responding: Responding,
+    copying_client: CopyingClient,
+    copying_server: CopyingServer,
+}
+
+impl Model for StoredNode {
+    ghost use Rattle.iox_wire_nodes.specs.declared.call_at.CallAt.TheVariants.{CopiesRequest};
+    ghost use Rattle.iox_wire_nodes.specs.declared.call_at.CallAt.TheVariants.{CopiesResponse};
+    ghost use Rattle.iox_wire_nodes.specs.declared.call_at.CallAt.TheVariants.{Lends, Receives};
+    ghost use Rattle.iox_wire_nodes.specs.declared.call_at.CallAt.TheVariants.{Seats};
+    ghost use Rattle.iox_wire_nodes.specs.declared.call_at.CallAt.TheVariants.{SendsRequest};
+    ghost use Rattle.iox_wire_nodes.specs.declared.call_at.CallAt.TheVariants.{SendsResponse};
+    ghost use Rattle.iox_wire_nodes.specs.Nodes.{Node, RestsUnless, same_call};
+
+    ghost Value = { Node };
+
+    ghost view = { λ n. record {
+      at = n.at;
+      seat = n.seat;
+      receives = n.receiving;
+      lends = n.lending;
+      requests = n.requesting;
+      responds = n.responding;
+      copies_request = n.copying_client;
+      copies_response = n.copying_server;
+    } };
+
+    ghost invariant = { λ n.
+        RestsUnless (same_call Seats n.at) n.seat.seat.local
+        × RestsUnless (same_call Receives n.at) n.receiving.local
+        × RestsUnless (same_call Lends n.at) n.lending.local
+        × RestsUnless (same_call SendsRequest n.at) n.requesting.local
+        × RestsUnless (same_call SendsResponse n.at) n.responding.local
+        × RestsUnless (same_call CopiesRequest n.at) n.copying_client.local
+        × RestsUnless (same_call CopiesResponse n.at) n.copying_server.local };
+}
+
+impl StoredNode {
+    ghost use Rattle.std.specs.Prelude.{◌≡◌, ◌+◌, ◌<◌, ◌^◌, false, true};
+    ghost use Rattle.iox_wire_words.specs.Programs.{program_access};
+    ghost use Rattle.iox_wire_locals.specs.Begins.{is_busy};
+    ghost use Rattle.iox_wire_locals.specs.Locals.{program_of};
+    ghost use Rattle.iox_wire_locals.specs.Tables.{Setting};
+    ghost use Rattle.iox_wire_seats.specs.Aims.{KeepsRoom};
+    ghost use Rattle.iox_wire_nodes.specs.Aims.{Answers, GoesOn, IsAimed, MayGoOn, StaysAimed};
+    ghost use Rattle.iox_wire_nodes.specs.Nodes.{seat_in};
+
+    /// A node with that seat, which is between calls.
+    pub fn new(alloc: Global, seat: StoredSeat) -> StoredNode
+        requires { is_busy seat.seat.local ≡ false }
+        ensures seat { seat_in result ≡ seat.seat }
+        ensures whole { result.seat ≡ seat }
+    {
+        StoredNode {
+            at: CallAt::Seats,
+            seat,
+            receiving: Receiving::new(alloc),
+            lending: Lending::new(alloc),
+            requesting: Requesting::new(alloc),
+            responding: Responding::new(),
+            copying_client: CopyingClient::new(alloc),
+            copying_server: CopyingServer::new(alloc),
+        }
+    }
+
+    /// Whether a call is under way.
+    pub fn is_busy(&self) -> bool
+        ensures { result ≡ is_busy (seat_in self.now).local }
+    {
+        match self.at {
+            CallAt::Seats => self.seat.is_busy(),
+            CallAt::Receives => self.receiving.is_busy(),
+            CallAt::Lends => self.lending.is_busy(),
+            CallAt::SendsRequest => self.requesting.is_busy(),
+            CallAt::SendsResponse => self.responding.is_busy(),
+            CallAt::CopiesRequest => self.copying_client.is_busy(),
+            CallAt::CopiesResponse => self.copying_server.is_busy(),
+        }
+    }
+
+    /// The words that its last read loaded.
+    pub fn words(&self) -> &[u64]
+        ensures { result.now ≡ self.now.seat.words }
+    {
+        self.seat.words()
+    }
+
+    /// The access that it makes next.
+    #[inline]
+    pub fn asks(&self) -> Access
+        ensures { (p : Setting) → IsAimed p self.now → result
+            ≡ program_access p.layout (program_of p (seat_in self.now).local) }
+    {
+        match self.at {
+            CallAt::Seats => self.seat.asks(),
+            CallAt::Receives => self.receiving.asks(),
+            CallAt::Lends => self.lending.asks(),
+            CallAt::SendsRequest => self.requesting.asks(),
+            CallAt::SendsResponse => self.responding.asks(),
+            CallAt::CopiesRequest => self.copying_client.asks(),
+            CallAt::CopiesResponse => self.copying_server.asks(),
+        }
+    }
+
+    /// Goes on after its access, which found `seen`. If its call is over it says what that answers.
+    /// There is to be room for what the call adds at its end, and what the access gets back,
+    /// delivers or gives up is to be in use.
+    #[inline]
+    pub fn go_on(&mut self, seen: u64) -> Option<NodeReply>
+        requires busy { is_busy (seat_in self.old).local ≡ true }
+        requires accesses { self.old.seat.seat.accesses + 1 < 2 ^ 64 }
+        requires may { MayGoOn self.old.at self.old seen }
+        ensures next { GoesOn self.old seen self.new }
+        ensures over { Answers self.old seen result self.new }
+        ensures aimed { StaysAimed self.old self.new }
+        ensures call { self.new.at ≡ self.old.at }
+        ensures accesses { self.new.seat.seat.accesses ≡ self.old.seat.seat.accesses + 1 }
+        ensures room { KeepsRoom self.old.seat self.new.seat }
+    {
+        let seat = &mut self.seat;
+        match self.at {
+            CallAt::Seats => match seat.go_on(seen) {
+                Some(reply) => Some(NodeReply::OfSeat(reply)),
+                None => None,
+            },
+            CallAt::Receives => match self.receiving.go_on(seat, seen) {
+                Some(reply) => Some(NodeReply::OfReceive(reply)),
+                None => None,
+            },
+            CallAt::Lends => match self.lending.go_on(seat, seen) {
+                Some(reply) => Some(NodeReply::OfLoan(reply)),
+                None => None,
+            },
+            CallAt::SendsRequest => match self.requesting.go_on(seat, seen) {
+                Some(reply) => Some(NodeReply::OfRequest(reply)),
+                None => None,
+            },
+            CallAt::SendsResponse => match self.responding.go_on(seat, seen) {
+                Some(reply) => Some(NodeReply::OfResponse(reply)),
+                None => None,
+            },
+            CallAt::CopiesRequest => match self.copying_client.go_on(seat, seen) {
+                Some(reply) => Some(NodeReply::OfRequestCopy(reply)),
+                None => None,
+            },
+            CallAt::CopiesResponse => match self.copying_server.go_on(seat, seen) {
+                Some(reply) => Some(NodeReply::OfResponseCopy(reply)),
+                None => None,
+            },
+        }
+    }
+}

@@ -1,0 +1,112 @@
+//! How a node begins a call of a handle.
+ghost use Rattle.std.specs.Prelude.{◌≡◌, ◌*◌, IfErr, IfSome, None, OnErr, OnOk};
+ghost use Rattle.iox_model.specs.declared.call.Call.TheVariants.{Release};
+ghost use Rattle.iox_model.specs.declared.call.WireCall.TheVariants.{Port};
+ghost use Rattle.iox_model.specs.declared.kind.Role.TheVariants.{Server};
+ghost use Rattle.iox_word_places.specs.Plans.{port_of};
+ghost use Rattle.iox_wire_handle_calls.specs.HandleCalls.{IsBegun as IsBegunBy, refusal_in};
+ghost use Rattle.iox_wire_handle_calls.specs.PlacedHandles.{IsReadable};
+ghost use Rattle.iox_wire_layouts.specs.PlansOf.{IsSettingOf};
+ghost use Rattle.iox_wire_locals.specs.Begins.{refusal_at};
+ghost use Rattle.iox_wire_locals.specs.Stored.{header_length};
+ghost use Rattle.iox_wire_locals.specs.Tables.{Setting, entry_at};
+ghost use Rattle.iox_wire_nodes.specs.Begins.{IsBegun, called};
+ghost use Rattle.iox_wire_nodes.specs.Nodes.{seat_in};
+ghost use Rattle.iox_wire_releases.specs.Released.{MayReleaseNumber};
+ghost use Rattle.iox_wire_seats.specs.Aims.{HasRoomForHint};
+ghost use Rattle.iox_wire_stops.specs.OwnStates.{HasStates};
+
+use super::StoredNode;
+use crate::call_at::CallAt;
+use crate::handle_call::HandleCall;
+use iox_wire_handle_calls::{
+    Asked, BeginError, begin_has_hint, begin_has_response, begin_is_connected, begin_read,
+    begin_set_hint, named,
+};
+use iox_wire_receives::Source;
+use iox_wire_releases::begin_release;
+use iox_wire_seats::{Stop, StoredSeat};
+use iox_word_places::WordMap;
+
+/// Begins the release of the handle of that number, which is no port's, in a seat.
+fn release(
+    seat: &mut StoredSeat,
+    map: &WordMap,
+    number: u64,
+    stops: &mut Vec<Stop>,
+) -> Result<(), BeginError>
+    requires no_port { port_of map.now number ≡ None }
+    requires home { MayReleaseNumber map.now number seat.old.seat }
+    ensures begun { (p : Setting) → IsSettingOf map.now p
+        → OnOk result (IsBegunBy p seat.old (Port (Release number)) seat.new) }
+    ensures refused { (p : Setting) → IsSettingOf map.now p → IfErr result (λ error.
+        refusal_at p seat.old.seat (Port (Release number)) ≡ refusal_in error) }
+    ensures unchanged { OnErr result (seat.new ≡ seat.old) }
+{
+    named(seat, map, Asked::Release, number)?;
+    begin_release(map, seat, number, stops)?;
+    Ok(())
+}
+
+/// Begins a call of the handle of that number, which is no port's, in a seat.
+fn begin_in(
+    seat: &mut StoredSeat,
+    map: &WordMap,
+    number: u64,
+    call: HandleCall,
+    sources: &mut Vec<Source>,
+    stops: &mut Vec<Stop>,
+) -> Result<(), BeginError>
+    requires no_port { port_of map.now number ≡ None }
+    requires home { MayReleaseNumber map.now number seat.old.seat }
+    requires states { IfSome (entry_at number seat.old.seat.table) (HasStates map.now) }
+    requires hint { IfSome (entry_at number seat.old.seat.table) HasRoomForHint }
+    requires readable { IfSome (entry_at number seat.old.seat.table) (IsReadable map.now) }
+    requires header { map.now.response.header.size ≡ 8 * header_length Server }
+    ensures begun { (p : Setting) → IsSettingOf map.now p
+        → OnOk result (IsBegunBy p seat.old (called call number) seat.new) }
+    ensures refused { (p : Setting) → IsSettingOf map.now p → IfErr result (λ error.
+        refusal_at p seat.old.seat (called call number) ≡ refusal_in error) }
+    ensures unchanged { OnErr result (seat.new ≡ seat.old) }
+{
+    match call {
+        HandleCall::Read => begin_read(seat, map, number),
+        HandleCall::Release => release(seat, map, number, stops),
+        HandleCall::IsConnected => begin_is_connected(seat, map, number, stops),
+        HandleCall::SetHint => begin_set_hint(seat, map, number, stops),
+        HandleCall::HasHint => begin_has_hint(seat, map, number, stops),
+        HandleCall::HasResponse => begin_has_response(seat, map, number, sources, stops),
+    }
+}
+
+impl StoredNode {
+    /// Begins a call of the handle of that number, which is no port's. What it lists in `sources`
+    /// and `stops` is of no use later.
+    pub fn begin_on_handle(
+        &mut self,
+        map: &WordMap,
+        number: u64,
+        call: HandleCall,
+        sources: &mut Vec<Source>,
+        stops: &mut Vec<Stop>,
+    ) -> Result<(), BeginError>
+        requires no_port { port_of map.now number ≡ None }
+        requires home { MayReleaseNumber map.now number self.old.seat.seat }
+        requires states { IfSome (entry_at number self.old.seat.seat.table) (HasStates map.now) }
+        requires hint { IfSome (entry_at number self.old.seat.seat.table) HasRoomForHint }
+        requires readable { IfSome (entry_at number self.old.seat.seat.table) (IsReadable map.now) }
+        requires header { map.now.response.header.size ≡ 8 * header_length Server }
+        ensures begun { (p : Setting) → IsSettingOf map.now p
+            → OnOk result (IsBegun p self.old (called call number) self.new) }
+        ensures refused { (p : Setting) → IsSettingOf map.now p → IfErr result (λ error.
+            refusal_at p (seat_in self.old) (called call number) ≡ refusal_in error) }
+        ensures unchanged { OnErr result (self.new ≡ self.old) }
+    {
+        if self.is_busy() {
+            return Err(BeginError::Busy);
+        }
+        begin_in(&mut self.seat, map, number, call, sources, stops)?;
+        self.at = CallAt::Seats;
+        Ok(())
+    }
+}

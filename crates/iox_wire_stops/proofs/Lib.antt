@@ -1,0 +1,3 @@
+pub mod OwnStateLemmas
+pub mod LaneReturnLemmas
+pub mod WaitingLemmas

@@ -1,0 +1,6 @@
+-- the request states of a handle
+pub mod OwnStates
+-- where responses return, on all lanes of all clients
+pub mod LaneReturns
+-- the queues in which messages wait
+pub mod Waiting

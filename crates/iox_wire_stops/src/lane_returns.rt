@@ -1,0 +1,137 @@
+//! Where the responses of a server return to it.
+ghost use Rattle.std.specs.Prelude.{◌≡◌, ◌<◌, ◌++◌, IfOk, OnOk, length};
+ghost use Rattle.iox_model.specs.declared.kind.Role.TheVariants.{Client, Server};
+ghost use Rattle.iox_model.specs.Loans.{response_ways};
+ghost use Rattle.iox_steps.specs.declared.site.QueueKind.TheVariants.{Index};
+ghost use Rattle.iox_word_places.specs.declared.way_index.WayIndex.TheVariants.{Responses};
+ghost use Rattle.iox_word_places.specs.Plans.{IsPortAt, IsWayAt, number_at, returning_room};
+ghost use Rattle.iox_wire_layouts.specs.PlansOf.{IsSettingOf};
+ghost use Rattle.iox_wire_loans.specs.Lenders.{AreReturning};
+ghost use Rattle.iox_wire_locals.specs.Known.{known};
+ghost use Rattle.iox_wire_locals.specs.Tables.{Setting};
+ghost use Rattle.iox_wire_seats.specs.Aims.{QueuesInMemory};
+ghost use Rattle.iox_wire_seats.specs.Seats.{ways_of};
+ghost use Rattle.iox_wire_stops.specs.LaneReturns.{client_stops, lane_stop, stops_at};
+ghost use Rattle.iox_wire_ways.specs.Visits.{is_other};
+
+use iox_model::kind::Role;
+use iox_model::way::Way;
+use iox_wire_seats::{Stop, StoredSeat};
+use iox_word_places::{PlanPort, WayIndex, WordMap};
+use std::alloc::AllocError;
+
+/// A way on which messages return, and for how many there is room.
+#[derive(Clone, Copy)]
+struct LaneReturn {
+    stop: Stop,
+    room: usize,
+}
+
+/// Whether a port is a client that the node did not forget.
+fn is_client_left(seat: &StoredSeat, port: PlanPort) -> bool
+    ensures { result ≡ is_other Client seat.now.seat.forgot port }
+{
+    matches!(port.role, Role::Client) && !seat.has_forgotten(port.node)
+}
+
+/// Where a server's responses return on a lane of a client.
+fn return_on(map: &WordMap, server: usize, client: usize, lane: usize) -> LaneReturn
+    requires { IsWayAt map.now (Responses client server lane) }
+    ensures stop { result.stop ≡ lane_stop map.now server client lane }
+    ensures room { result.room ≡ returning_room map.now.limits Server }
+{
+    let ports = &map.plan().ports;
+    let way = Way {
+        sender: ports[server].number,
+        receiver: ports[client].number,
+        lane: lane as u64,
+    };
+    let site = map.returning_queue(WayIndex::Responses {
+        client,
+        server,
+        lane,
+    });
+    LaneReturn {
+        stop: Stop {
+            way,
+            place: site.base,
+        },
+        room: site.capacity,
+    }
+}
+
+/// Lists in addition where the responses of the server at an index return on the lanes of the
+/// client at another. It is told how many may return on the ways that are listed, and says so.
+fn list_lanes(
+    map: &WordMap,
+    server: usize,
+    client: usize,
+    room: usize,
+    stops: &mut Vec<Stop>,
+) -> Result<usize, AllocError>
+    requires client { IsPortAt map.now Client client }
+    requires server { IsPortAt map.now Server server }
+    ensures stops { OnOk result (stops.new.items
+        ≡ stops.old.items ++ client_stops map.now server client) }
+    ensures room { (0 < length stops.old.items → room ≡ returning_room map.now.limits Server)
+        → IfOk result (λ r. 0 < length stops.new.items
+        → r ≡ returning_room map.now.limits Server) }
+{
+    let mut told = room;
+    for lane in 0..map.plan().ports[client].pool {
+        let back = return_on(map, server, client, lane);
+        told = back.room;
+        stops.push(back.stop)?;
+    }
+    Ok(told)
+}
+
+/// Does so if the client is one that the node did not forget, and the port there a client.
+fn list_port(
+    map: &WordMap,
+    seat: &StoredSeat,
+    server: usize,
+    index: usize,
+    room: usize,
+    stops: &mut Vec<Stop>,
+) -> Result<usize, AllocError>
+    requires server { IsPortAt map.now Server server }
+    requires within { index < length map.now.ports.items }
+    ensures stops { OnOk result (stops.new.items ≡ stops.old.items
+        ++ stops_at map.now (is_other Client seat.now.seat.forgot) (client_stops map.now server) index) }
+    ensures room { (0 < length stops.old.items → room ≡ returning_room map.now.limits Server)
+        → IfOk result (λ r. 0 < length stops.new.items
+        → r ≡ returning_room map.now.limits Server) }
+{
+    if is_client_left(seat, map.plan().ports[index]) {
+        return list_lanes(map, server, index, room, stops);
+    }
+    Ok(room)
+}
+
+/// Lists where the responses of the server at an index return, on all lanes of all clients that the
+/// node did not forget, and says how many may return on each of these ways. What was listed before
+/// is lost.
+pub fn list_response_returns(
+    map: &WordMap,
+    seat: &StoredSeat,
+    server: usize,
+    stops: &mut Vec<Stop>,
+) -> Result<usize, AllocError>
+    requires { IsPortAt map.now Server server }
+    ensures ways { (p : Setting) → IsSettingOf map.now p → OnOk result (ways_of stops.new.items
+        ≡ response_ways (known p seat.now.seat)
+        (p.port (number_at map.now server)).node (number_at map.now server)) }
+    ensures places { (p : Setting) → IsSettingOf map.now p
+        → IfOk result (λ room. AreReturning p room stops.new.items) }
+    ensures within { IfOk result (λ room. QueuesInMemory Index room stops.new.items) }
+{
+    // only what this promises is wanted
+    let _total = map.total();
+    let mut room = 0;
+    stops.clear();
+    for index in 0..map.plan().ports.len() {
+        room = list_port(map, seat, server, index, room, stops)?;
+    }
+    Ok(room)
+}
