@@ -1,24 +1,23 @@
 -- A loan that is written is for the request that it was for.
-use Rattle.std.specs.Prelude.{◌≡◌, ℕ, Bool, true, false, ◌==◌, if◌then◌else◌, List, [], ◌∷◌, find, Option, None, Some, refl}
+use Rattle.std.specs.Prelude.{◌≡◌, ℕ, Bool, false, ◌==◌, if◌then◌else◌, List, [], ◌∷◌, find, Option, None, Some, refl}
 use Rattle.std.specs.Option.{option_map, option_map_or}
-use Rattle.std.proofs.Common.{sym, ap, subst, ◌∙◌, eq-eqb, true≢false}
-use Rattle.std.proofs.lemmas.Option.{same_Some}
+use Rattle.std.proofs.Common.{sym, ap, subst, ◌∙◌, eq-eqb}
 use Rattle.iox_model.specs.declared.call.Call.TheVariants.{Write}
 use Rattle.iox_model.specs.declared.kind.Kind.{Kind}
 use Rattle.iox_model.specs.declared.reply.Refusal.TheVariants.{UnknownNumber, WrongLength}
 use Rattle.iox_model.specs.Begins.{begins_at, start, writes, written}
 use Rattle.iox_model.specs.Commands.{Payload, Refusal, Reply}
 use Rattle.iox_model.specs.Counts.{called, with_fixed, with_handle}
-use Rattle.iox_model.specs.Doings.{refused, Doing, Ended, Fills, Outcome, Receiver, Tells}
+use Rattle.iox_model.specs.Doings.{refused, Doing, Ended, Fills, Outcome, Tells}
 use Rattle.iox_model.specs.Ends.{is_nothing, settled}
 use Rattle.iox_model.specs.Handles.{Subject, TheHandle, handle_at, subject}
 use Rattle.iox_model.specs.Maps.{put_at}
-use Rattle.iox_model.specs.Moments.{Moment, moved}
+use Rattle.iox_model.specs.Moments.{Moment}
 use Rattle.iox_model.specs.Names.{is_port, misnamed}
 use Rattle.iox_model.specs.States.{Fixed, Handle, State}
-use Rattle.iox_model.specs.Transitions.{ends, next}
+use Rattle.iox_model.specs.Transitions.{ends}
 use Rattle.iox_model.specs.WholeCalls.{IsDone, IsWholeCall, MayCome, UnlessRefused, left_by, moved_by, spent}
-use Rattle.iox_laws.proofs.WeaveLaws.MapLemmas.{either, eqb-refl}
+use Rattle.iox_laws.proofs.WeaveLaws.MapLemmas.{either}
 use Rattle.iox_laws.proofs.WeaveLaws.WholeLemmas.{moved_by-fixed, put_at-here, some-is}
 use Rattle.iox_laws.proofs.WeaveLedger.Truths.{by_cases, none-some}
 use Rattle.iox_tables.specs.HubStates.States.{Given, message_of}
@@ -33,7 +32,7 @@ use Rattle.iox_hub_laws.proofs.Values.{IsHandleOf, value_is_handle}
 use Rattle.iceoryx2_ports.specs.Asking.{AnswersAs, AsksAs}
 use Rattle.iceoryx2_ports.specs.Idling.{IsIdle}
 use Rattle.iceoryx2_ports.specs.Reaching.{KeepsRoom}
-use Rattle.iceoryx2_ports.proofs.Asking.{IsLike, answers_as, client_shown, own_asker, same_own_asker}
+use Rattle.iceoryx2_ports.proofs.Asking.{IsLike, answers_as, client_shown, same_own_asker}
 use Rattle.iceoryx2_ports.proofs.Coming.{write_brings_nothing}
 use Rattle.iceoryx2_ports.proofs.Opening.{keeps_open}
 use Rattle.iceoryx2_ports.proofs.Reaching.{keeps_room}

@@ -1,5 +1,5 @@
 -- The handle of a new loan: of a client, or of a server for an active request.
-use Rattle.std.specs.Prelude.{◌≡◌, ℕ, ◌+◌, Bool, true, false, ◌&&◌, ◌==◌, if◌then◌else◌, List, [], ◌∷◌, ◌++◌, find, Option, None, Some, refl}
+use Rattle.std.specs.Prelude.{◌≡◌, ℕ, Bool, true, false, ◌&&◌, ◌==◌, List, [], ◌∷◌, ◌++◌, find, Option, None, Some, refl}
 use Rattle.std.specs.Option.{option_map, option_map_or}
 use Rattle.std.proofs.Common.{sym, ap, ap₂, subst, ◌∙◌, eq-eqb, eqb-true, true≢false}
 use Rattle.std.proofs.lemmas.Option.{same_Some}
@@ -10,8 +10,8 @@ use Rattle.iox_model.specs.declared.reply.Refusal.TheVariants.{UnknownNumber, Wr
 use Rattle.iox_model.specs.declared.reply.Reply.TheVariants as replies
 use Rattle.iox_model.specs.Begins.{begins_at, start}
 use Rattle.iox_model.specs.Commands.{Call, Refusal, Reply}
-use Rattle.iox_model.specs.Counts.{called, holding, lent, numbered}
-use Rattle.iox_model.specs.Doings.{refused, Doing, Loans, Outcome, Receiver, Tells}
+use Rattle.iox_model.specs.Counts.{holding, numbered}
+use Rattle.iox_model.specs.Doings.{refused, Doing, Loans, Outcome, Tells}
 use Rattle.iox_model.specs.Ends.{settled}
 use Rattle.iox_model.specs.Handles.{Subject, TheHandle, ThePort, handle_at, new_number, subject}
 use Rattle.iox_model.specs.Loans.{Choice, Order, lending_ways, loan_of, memory_refusal, next_request, request_loan_refusal, response_loan_refusal, unless_refused}
@@ -20,15 +20,13 @@ use Rattle.iox_model.specs.Names.{misnamed}
 use Rattle.iox_model.specs.Peers.{port_at}
 use Rattle.iox_model.specs.Responses.{lending, lends, lends_by, lends_request, lends_response, ordered}
 use Rattle.iox_model.specs.Settings.{is_count}
-use Rattle.iox_model.specs.States as m
 use Rattle.iox_model.specs.States.{Fixed, Handle, Port, State}
 use Rattle.iox_model.specs.WholeCalls.{IsDone, IsWholeCall, UnlessRefused, left_by, moved_by, replied, spent}
 use Rattle.iox_laws.proofs.RunLaws.Runs.{left_calm, whole_calm}
 use Rattle.iox_laws.proofs.RunLaws.Settling.{Calm}
-use Rattle.iox_laws.proofs.WeaveLaws.MapLemmas.{either, eqb-refl}
+use Rattle.iox_laws.proofs.WeaveLaws.MapLemmas.{eqb-refl}
 use Rattle.iox_laws.proofs.WeaveLaws.WholeLemmas.{moved_by-fixed, put_at-here}
 use Rattle.iox_laws.proofs.WeaveLedger.Lists.{IsAmong, find-own}
-use Rattle.iox_laws.proofs.WeaveLedger.Truths.{both_true}
 use Rattle.iox_tables.specs.HubBooks.Handles.{IsOfPort}
 use Rattle.iox_tables.specs.HubLoans.Lenders.{IsActive, IsClient}
 use Rattle.iox_tables.specs.HubLoans.Loans.{loan_call}

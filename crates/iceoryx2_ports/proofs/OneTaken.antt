@@ -34,7 +34,7 @@ use Rattle.iox_hub_laws.specs.Shown.{handle_of, shown}
 use Rattle.iox_hub_laws.specs.Waiting.{client_in, client_of, server_of}
 use Rattle.iox_hub_laws.proofs.Values.{IsHandleOf, value_is_handle}
 use Rattle.iceoryx2_ports.specs.Idling.{AwaitsOne, IsIdleBut, TakesTheOne}
-use Rattle.iceoryx2_ports.specs.Rooms.{HasRoomBut, TakesOfRoom}
+use Rattle.iceoryx2_ports.specs.Rooms.{TakesOfRoom}
 use Rattle.iceoryx2_ports.proofs.Leaving.{less_full, same_limit}
 use Rattle.iceoryx2_ports.proofs.Resting.{role_by}
 use Rattle.iceoryx2_ports.proofs.Taking.{HasTaken, receive_takes}

@@ -1,15 +1,15 @@
 -- Loans, writes and receives leave each request open at the servers where it was.
 use Rattle.std.specs.Prelude.{◌≡◌, ℕ, Bool, true, false, ◌&&◌, if◌then◌else◌, ◌==◌, List, [], ◌∷◌, filter, map, Option, Some, None, refl}
 use Rattle.std.specs.Option.{option_map_or}
-use Rattle.std.proofs.Common.{sym, ap, ap₂, subst, ◌∙◌, true≢false}
-use Rattle.iox_model.specs.declared.call.Call.TheVariants.{Loan, LoanUninit, Receive, Write}
+use Rattle.std.proofs.Common.{sym, ap, ap₂, subst, ◌∙◌}
+use Rattle.iox_model.specs.declared.call.Call.TheVariants.{Loan, LoanUninit, Receive}
 use Rattle.iox_model.specs.declared.kind.Role.TheVariants.{Client, Server}
 use Rattle.iox_model.specs.declared.reply.Refusal.TheVariants.{UnknownNumber}
 use Rattle.iox_model.specs.declared.way.RequestState.{RequestState}
 use Rattle.iox_model.specs.declared.way.Way.{Way}
 use Rattle.iox_model.specs.Begins.{begins_at, start}
 use Rattle.iox_model.specs.Commands.{Call, Refusal, Reply, number_of}
-use Rattle.iox_model.specs.Counts.{called, numbered, received_handle, with_fixed}
+use Rattle.iox_model.specs.Counts.{called, with_fixed}
 use Rattle.iox_model.specs.Doings.{refused, Again, Doing, Ended, Fills, Judging, Loaning, Loans, Outcome, Receiver, Receives, Stale, Tells, Visiting}
 use Rattle.iox_model.specs.Ends.{is_nothing, settled}
 use Rattle.iox_model.specs.Handles.{Subject, TheHandle, ThePort, subject}
@@ -21,8 +21,7 @@ use Rattle.iox_model.specs.Names.{misnamed}
 use Rattle.iox_model.specs.Peers.{forgot_port}
 use Rattle.iox_model.specs.Receives.{pending_ways, server_ways, stale, took, visiting}
 use Rattle.iox_model.specs.Settings.{is_client, same_role}
-use Rattle.iox_model.specs.States as m
-use Rattle.iox_model.specs.States.{Fixed, Handle, Port, State}
+use Rattle.iox_model.specs.States.{Fixed, Port, State}
 use Rattle.iox_model.specs.Transitions.{ends, next}
 use Rattle.iox_model.specs.WholeCalls.{IsDone, IsWholeCall, MayCome, UnlessRefused, left_by, moved_by, spent}
 use Rattle.iox_laws.proofs.WeaveLaws.MapLemmas.{either}
@@ -34,7 +33,7 @@ use Rattle.iox_tables.specs.HubStates.Wirings.{numbers_of_role}
 use Rattle.iox_tables.proofs.HubStates.Fixing.{roles_are}
 use Rattle.iox_hub.specs.Hubs.{HubState, given_by, state_of_hub}
 use Rattle.iox_hub_laws.specs.Shown.{nothing_given, shown}
-use Rattle.iceoryx2_ports.specs.Asking.{KeepsOpen, is_open_at}
+use Rattle.iceoryx2_ports.specs.Asking.{KeepsOpen}
 use Rattle.iceoryx2_ports.proofs.Resting.{IsResting, Rests, at_rests, loaning_rests, numbered_has, rests}
 
 -- ---- what such a call has to do

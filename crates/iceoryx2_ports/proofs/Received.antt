@@ -1,5 +1,5 @@
 -- A request that is received: it is the one that waited, and clients wait for responses as before.
-use Rattle.std.specs.Prelude.{◌≡◌, ℕ, ◌+◌, ◌≤◌, Bool, true, false, ◌==◌, if◌then◌else◌, List, [], length, Option, Some, refl}
+use Rattle.std.specs.Prelude.{◌≡◌, ℕ, ◌+◌, ◌≤◌, Bool, true, false, if◌then◌else◌, List, [], length, Option, Some, refl}
 use Rattle.std.specs.Option.{option_map, option_map_or}
 use Rattle.std.proofs.Common.{sym, ap, ap₂, subst, ◌∙◌, arith, true≢false}
 use Rattle.std.proofs.lemmas.Option.{same_Some}
@@ -13,9 +13,9 @@ use Rattle.iox_model.specs.declared.reply.Reply.TheVariants as replies
 use Rattle.iox_model.specs.declared.way.Way.{Way}
 use Rattle.iox_model.specs.Doings.{Receiver}
 use Rattle.iox_model.specs.Handles.{handle_at, same_kind, way_of}
-use Rattle.iox_model.specs.Maps.{put, same_way}
+use Rattle.iox_model.specs.Maps.{same_way}
 use Rattle.iox_model.specs.Messages.{Message, request_way, response_way}
-use Rattle.iox_model.specs.States.{Handle, State}
+use Rattle.iox_model.specs.States.{Handle}
 use Rattle.iox_model.specs.WholeCalls.{IsWholeCall}
 use Rattle.iox_laws.proofs.RunLaws.Runs.{left_calm}
 use Rattle.iox_laws.proofs.WeaveLaws.MapLemmas.{same_way-true}
@@ -34,7 +34,7 @@ use Rattle.iox_hub_laws.specs.Shown.{handle_of, nothing_given, shown}
 use Rattle.iox_hub_laws.specs.Waiting.{client_in, client_of, server_of}
 use Rattle.iceoryx2_ports.specs.Asking.{AllAsk, IsItsRequest, KeepsAskersIdle, is_open_at}
 use Rattle.iceoryx2_ports.specs.Idling.{IsIdle}
-use Rattle.iceoryx2_ports.specs.Responses.{answerer_in, asker_in, asker_of, is_open}
+use Rattle.iceoryx2_ports.specs.Responses.{asker_of}
 use Rattle.iceoryx2_ports.proofs.Asking.{asker_by, open_shown}
 use Rattle.iceoryx2_ports.proofs.OneTaken.{is_empty}
 use Rattle.iceoryx2_ports.proofs.Opening.{keeps_open}

@@ -4,7 +4,6 @@ use Rattle.std.specs.Option.{option_map, option_map_or}
 use Rattle.std.proofs.Common.{zero, suc, sym, ap, ap₂, subst, ◌∙◌, inl, inr, true≢false}
 use Rattle.std.proofs.lemmas.Option.{none-some, same_Some}
 use Rattle.iox_model.specs.declared.call.Call.TheVariants.{Send}
-use Rattle.iox_model.specs.declared.kind.Kind.{Kind}
 use Rattle.iox_model.specs.declared.kind.Kind.TheVariants.{RequestMut}
 use Rattle.iox_model.specs.declared.kind.Role.{Role}
 use Rattle.iox_model.specs.declared.kind.Role.TheVariants.{Client, Server}
@@ -17,19 +16,18 @@ use Rattle.iox_model.specs.Begins.{begins_at, start}
 use Rattle.iox_model.specs.Commands.{Refusal, Reply}
 use Rattle.iox_model.specs.Counts.{changed, dropped, sent_handle, with_fixed}
 use Rattle.iox_model.specs.Doings.{refused, Doing, FailsToSend, Outcome, Receiver, Sends, Tells}
-use Rattle.iox_model.specs.Ends.{sent_loan, settled}
+use Rattle.iox_model.specs.Ends.{settled}
 use Rattle.iox_model.specs.Expiries.{released}
 use Rattle.iox_model.specs.Handles.{Subject, TheHandle, handle_at, is_request_loan, subject}
 use Rattle.iox_model.specs.Maps.{has_number, has_way, same_way}
-use Rattle.iox_model.specs.Messages.{Message, names, request_way, response_way}
+use Rattle.iox_model.specs.Messages.{Message, names, request_way}
 use Rattle.iox_model.specs.Moments.{Moment}
 use Rattle.iox_model.specs.Names.{misnamed}
 use Rattle.iox_model.specs.Peers.{buffer_on, is_connected_port}
 use Rattle.iox_model.specs.Runs.{IsReachableState}
 use Rattle.iox_model.specs.Settings.{same_role}
-use Rattle.iox_model.specs.States as m
-use Rattle.iox_model.specs.States.{Fixed, Handle, Port, State}
-use Rattle.iox_model.specs.WholeCalls.{IsDone, IsWholeCall, UnlessRefused, left_by, moved_by, replied, sent_reply, spent}
+use Rattle.iox_model.specs.States.{Fixed, Handle, State}
+use Rattle.iox_model.specs.WholeCalls.{IsDone, IsWholeCall, UnlessRefused, left_by, moved_by, replied, spent}
 use Rattle.iox_laws.specs.MessageLaws.Lists.{IsOneOf}
 use Rattle.iox_laws.proofs.ReplyLaws.Plainly.{known_port}
 use Rattle.iox_laws.proofs.WeaveLaws.MapLemmas.{either, eqb-refl, same_way-true}
@@ -51,7 +49,7 @@ use Rattle.iox_hub.proofs.Named.{server_is}
 use Rattle.iox_hub_laws.specs.Arrivals.{newest, takes_more, with_last}
 use Rattle.iox_hub_laws.specs.Sends.{IsRequestSent, SendsRequest, servers_of}
 use Rattle.iox_hub_laws.specs.Shown.{handle_of, nothing_given, shown}
-use Rattle.iox_hub_laws.specs.Waiting.{IsWaiting, NothingWaits, client_in, client_of, server_of}
+use Rattle.iox_hub_laws.specs.Waiting.{IsWaiting, client_in, client_of, server_of}
 use Rattle.iox_hub_laws.proofs.Arrivals.{EndsSo, Fits, IsRefusal}
 use Rattle.iox_hub_laws.proofs.Brought.{apart, goes_to, starts_quiet, to_client, to_servers, within}
 use Rattle.iox_hub_laws.proofs.Moments.{ended_fits, moments_fit}

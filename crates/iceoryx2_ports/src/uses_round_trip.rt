@@ -13,7 +13,7 @@ ghost use Rattle.iceoryx2_ports.specs.Waiting.{AllCarry, client_in, server_of};
 
 use crate::{
     ActiveRequest, Client, Hub, LoanError, One, PendingResponse, PortFactoryClient,
-    PortFactoryServer, RequestMut, RequestSendError, Server, UniqueSystemId,
+    PortFactoryServer, RequestSendError, Server, UniqueSystemId,
 };
 use std::alloc::Global;
 
