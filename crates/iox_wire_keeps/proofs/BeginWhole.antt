@@ -52,7 +52,7 @@ use Rattle.iox_model.specs.declared.kind.Role.{Role}
 use Rattle.iox_wire_locals.specs.Begins.{begins_at}
 use Rattle.iox_model.specs.declared.kind.Kind.{Kind}
 use Rattle.iox_wire_locals.specs.declared.local.CallRefusal.TheVariants.{WrongLength}
-use Rattle.iox_wire_keeps.proofs.Accesses.{loan_kept}
+use Rattle.iox_wire_keeps.proofs.OwnWrites.{loan_kept}
 use Rattle.iox_model.specs.Peers.{port_at}
 use Rattle.iox_laws.proofs.WeaveLaws.MapLemmas.{either}
 use Rattle.iox_wire_laws.proofs.WireRegions.OwnedBegins.{writes_and_reads_begin_as_owners}

@@ -5,11 +5,17 @@ pub mod Alone
 pub mod Quiet
 pub mod Kept
 pub mod Published
+pub mod OwnWrites
+pub mod SlotsLeft
+pub mod Queued
+pub mod NextPlaces
 pub mod Accesses
+pub mod FilledSlots
 pub mod MessageEnds
 pub mod WireStands
 pub mod StepParts
 pub mod Forgotten
+pub mod StepMessages
 pub mod StepWhole
 pub mod Firsts
 pub mod MessageBegins

@@ -8,7 +8,7 @@ use Rattle.std.proofs.Common.{ap, arith, inl, inr, subst, sym, true≢false, ◌
 use Rattle.iox_wire_stands.proofs.Starts.{Starting, Starts, Takes, starts}
 use Rattle.iox_wire_locals.specs.declared.local.Local.TheVariants.{Ends, Idle, LendEmpties, LendStores, Reads, ReceiveAsks, ReceiveLoads, Writes}
 use Rattle.iox_wire_laws.specs.WireKeeping.Shows.{ShowsWorld}
-use Rattle.iox_wire_keeps.proofs.StepWhole.{written_own}
+use Rattle.iox_wire_keeps.proofs.OwnWrites.{loan_kept, written_own}
 use Rattle.iox_wire_locals.specs.NewLoans.{loan_words, message_in}
 use Rattle.iox_wire_laws.specs.WireHolding.Holding.{held_at}
 use Rattle.iox_model.specs.Weaves.{World}
@@ -16,7 +16,6 @@ use Rattle.iox_wire_stands.specs.Following.{CallMessage, LeavesNothing, Leaving,
 use Rattle.iox_wire_locals.specs.Steps.{next}
 use Rattle.iox_wire_locals.specs.declared.table.Entry.{Entry}
 use Rattle.iox_wire_keeps.specs.Stored.{CallIsStored, GoesThrough, HoldsStored, IsStored, IsWritten, SlotsHoldMessages, StandsWritten, WhatWaitsIsStored}
-use Rattle.iox_wire_keeps.proofs.Accesses.{loan_kept}
 use Rattle.iox_model.specs.Receives.{took}
 use Rattle.iox_wire_laws.specs.WireHolding.FarSlots.{IsInPool}
 use Rattle.iox_wire_locals.specs.declared.seat.Seat.{Seat}

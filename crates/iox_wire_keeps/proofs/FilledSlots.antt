@@ -1,0 +1,112 @@
+-- A slot whose message has another payload, and which slots the end of a call fills.
+use Rattle.iox_wire_laws.proofs.WireRegions.OwnPorts.{both}
+use Rattle.iox_wire_locals.specs.declared.local.Ending.TheVariants as endings
+use Rattle.std.proofs.Common.{ap, append_assoc, arith, eqb-true, inl, inr, subst, sym, true≢false, ◌∙◌}
+use Rattle.iox_wire_keeps.specs.Stored.{IsStored, StoresAt}
+use Rattle.std.specs.Prelude.{Bool, List, false, if◌then◌else◌, length, refl, slice_index, true, ℕ, ◌&&◌, ◌*◌, ◌++◌, ◌+◌, ◌-◌, ◌<◌, ◌==◌, ◌≡◌, ◌≤◌}
+use Rattle.iox_laws.proofs.WeaveLedger.Truths.{never}
+use Rattle.iox_wire_laws.specs.WireRegions.Regions.{HasRegion}
+use Rattle.iox_model.specs.declared.kind.Role.{Role}
+use Rattle.iox_model.specs.Settings.{is_client}
+use Rattle.iox_wire_laws.specs.WireKeeping.Writes.{is_slot_of, with_payload}
+use Rattle.iox_wire_laws.specs.WireRegions.StoredMessages.{StandFrom, words_in}
+use Rattle.iox_wire_locals.specs.Stored.{header_length, header_words, message_words}
+use Rattle.iox_wire_locals.specs.Tables.{Setting, port_shape, region_word, words_before_payload}
+use Rattle.iox_model.specs.declared.kind.Role.TheVariants.{Client, Server}
+use Rattle.iox_laws.proofs.CallFunctions.Leads.{behind}
+use Rattle.iox_wire_laws.proofs.WireRegions.MessageLists.{header_count}
+use Rattle.iox_wire_locals.specs.declared.local.Local.TheVariants.{Ends}
+use Rattle.iox_wire_moments.specs.MomentsOf.{Pools}
+use Rattle.std.proofs.lemmas.List.{get_or-append-add, length-append}
+use Rattle.std.proofs.Math.ListN.{get_or-append}
+use Rattle.iox_wire_words.specs.Fits.{WireContents}
+use Rattle.iox_wire_locals.specs.declared.local.Ending.{Ending}
+use Rattle.iox_model.specs.Messages.{Message}
+use Rattle.std.proofs.lemmas.Bool.{cases_lt}
+use Rattle.iox_wire_locals.specs.declared.table.Entry.{Entry}
+
+-- ---- a message with another payload
+
+-- the words before the payload, and the payload, are those of a message
+joined : (p : Setting) (c : WireContents) (port slot : ℕ) (r : Role) (m : Message) (words : List ℕ) (from : ℕ) → from ≡ header_length r + length m.user
+    → StandFrom p c port slot 0 (message_words r m) from → StandFrom p c port slot from words (length words)
+    → StandFrom p c port slot 0 (header_words r m ++ (m.user ++ words)) (length (header_words r m ++ (m.user ++ words)))
+joined p c port slot r m words from is head tail k low = elim (cases_lt k from) [
+  | inl first ↦ (
+      let all : length (header_words r m ++ m.user) ≡ from = both in
+      let here : k < length (header_words r m ++ m.user) = omega arith in
+      head k first ∙ ap (λ xs. slice_index xs k) (sym (append_assoc (header_words r m) m.user m.payload))
+      ∙ get_or-append (header_words r m ++ m.user) m.payload 0 k here ∙ sym (get_or-append (header_words r m ++ m.user) words 0 k here)
+      ∙ ap (λ xs. slice_index xs k) (append_assoc (header_words r m) m.user words)
+      )
+  | inr behind ↦ (
+      let total : length (header_words r m ++ (m.user ++ words)) ≡ length (header_words r m) + length (m.user ++ words) = length-append (header_words r m) (m.user ++ words) in
+      let rest : length (m.user ++ words) ≡ length m.user + length words = length-append m.user words in
+      let all : length (header_words r m ++ m.user) ≡ from = both in
+      let head_count : length (header_words r m) ≡ header_length r = header_count r m in
+      let at : from + (k - from) ≡ 0 + k = omega arith in
+      let at' : length (header_words r m ++ m.user) + (k - from) ≡ k = omega arith in
+      ap (λ i. c.stored port (region_word p port slot i)) (sym at) ∙ tail (k - from) (omega arith)
+      ∙ sym (get_or-append-add (header_words r m ++ m.user) words (k - from) 0) ∙ ap (slice_index ((header_words r m ++ m.user) ++ words)) at'
+      ∙ ap (λ xs. slice_index xs k) (append_assoc (header_words r m) m.user words)
+      )
+]
+  where
+    both : length (header_words r m ++ m.user) ≡ from
+    both =
+        let a : length (header_words r m ++ m.user) ≡ length (header_words r m) + length m.user = length-append (header_words r m) m.user in
+        let b : length (header_words r m) ≡ header_length r = header_count r m in omega arith
+
+with_words : (r : Role) (m : Message) (words : List ℕ) → message_words r (record m { payload = words }) ≡ header_words r m ++ (m.user ++ words)
+with_words Client m words = refl
+with_words Server m words = refl
+
+-- a slot whose message has another payload, which stands there
+pub filled_slot : (p : Setting) (held new : Pools) (c : WireContents) (port slot : ℕ) (words : List ℕ) → new port slot ≡ record (held port slot) { payload = words }
+    → HasRegion p port → slot < (p.port port).pool → length (held port slot).user ≡ length (port_shape p port).user
+    → (held port slot).elements ≤ (p.port port).longest → length words ≡ (held port slot).elements * (port_shape p port).width
+    → (is_client (p.port port).role ≡ true → (held port slot).lane < p.layout.sizes.lanes port)
+    → StandFrom p c port slot 0 (words_in p held port slot) (words_before_payload p port) → StandFrom p c port slot (words_before_payload p port) words (length words)
+    → IsStored p new c port slot
+filled_slot p held new c port slot words is region low user room long lane head tail = record {
+  fits = record {
+    region = region;
+    in_pool = low;
+    user = ap (λ (m : Message). length m.user) is ∙ user;
+    payload = ap (λ (m : Message). length m.payload) is ∙ long ∙ ap (λ (m : Message). m.elements * (port_shape p port).width) (sym is);
+    room = subst (λ (m : Message). m.elements ≤ (p.port port).longest) (sym is) room;
+  };
+  words = subst (λ xs. StandFrom p c port slot 0 xs (length xs)) (sym (ap (message_words (p.port port).role) is ∙ with_words (p.port port).role (held port slot) words))
+      (joined p c port slot (p.port port).role (held port slot) words (words_before_payload p port) (ap (λ k. header_length (p.port port).role + k) (sym user)) head tail);
+  lane = λ client. subst (λ (m : Message). m.lane < p.layout.sizes.lanes port) (sym is) (lane client);
+}
+
+-- ---- which slots change
+
+pub payload_elsewhere : (held : Pools) (e : Entry) (words : List ℕ) (q j : ℕ) → (is_slot_of e q j ≡ true → ⊥) → with_payload held e words q j ≡ held q j
+payload_elsewhere held e words q j other = by_case (is_slot_of e q j) other
+  where
+    by_case : (b : Bool) → (b ≡ true → ⊥) → (if b then record (held q j) { payload = words } else held q j) ≡ held q j
+    by_case true never = absurd (never refl)
+    by_case false never = refl
+
+pub payload_there : (held : Pools) (e : Entry) (words : List ℕ) (q j : ℕ) → is_slot_of e q j ≡ true → with_payload held e words q j ≡ record (held q j) { payload = words }
+payload_there held e words q j is = ap (λ b. if b then record (held q j) { payload = words } else held q j) is
+
+pub elements_same : (held : Pools) (e : Entry) (words : List ℕ) (q j : ℕ) → (with_payload held e words q j).elements ≡ (held q j).elements
+elements_same held e words q j = by_case (is_slot_of e q j)
+  where
+    by_case : (b : Bool) → (if b then record (held q j) { payload = words } else held q j).elements ≡ (held q j).elements
+    by_case true = refl
+    by_case false = refl
+
+-- whether the end fills the slot
+abbrev pub fills : Ending → (port slot : ℕ) → Bool
+fills (endings.Lends o own) port slot = (port == o.port) && (slot == own)
+fills (endings.Fills e words) port slot = (port == e.port) && (slot == e.slot)
+fills ending port slot = false
+
+pub fills_at : (ending : Ending) (port slot : ℕ) → fills ending port slot ≡ true → StoresAt (Ends ending) port slot
+fills_at (endings.Lends o own) port slot is = let r = both (port == o.port) (slot == own) is in (eqb-true port o.port r.0, eqb-true slot own r.1)
+fills_at (endings.Fills e words) port slot is = let r = both (port == e.port) (slot == e.slot) is in (eqb-true port e.port r.0, eqb-true slot e.slot r.1)
+fills_at ending port slot is = absurd (true≢false (sym is))
