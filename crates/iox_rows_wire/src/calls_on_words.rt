@@ -15,11 +15,11 @@ use std::test::Fail;
 
 /// The words of the wire: where the client's region begins, where requests wait and return, and
 /// where the request state stands of its first lane.
-const WORDS: usize = 165;
+pub(crate) const WORDS: usize = 165;
 
 const REGION: usize = 0;
 
-const REQUESTS: usize = 121;
+pub(crate) const REQUESTS: usize = 121;
 
 const RETURNED: usize = 124;
 

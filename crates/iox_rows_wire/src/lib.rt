@@ -6,6 +6,8 @@ mod calls_on_words;
 #[cfg(test)]
 mod layouts;
 #[cfg(test)]
+mod node_calls;
+#[cfg(test)]
 mod seat_calls;
 #[cfg(test)]
 mod seat_loans;

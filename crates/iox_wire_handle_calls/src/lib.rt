@@ -18,6 +18,8 @@ pub use asked::Asked;
 pub use asking::{begin_has_hint, begin_is_connected};
 pub use error::BeginError;
 pub use hinting::begin_set_hint;
+pub use iox_wire_releases::begin_release;
+pub use iox_wire_stops::{begin_request_receive, list_waiting_requests};
 pub use naming::{name_port, named};
 pub use reading::begin_read;
 pub use seeking::begin_has_response;

@@ -4,3 +4,5 @@ pub mod OwnStates
 pub mod LaneReturns
 -- the queues in which messages wait
 pub mod Waiting
+-- where a server finds requests, for the crates above
+pub use Rattle.iox_wire_ways.specs.RequestSources

@@ -6,6 +6,7 @@ mod lane_returns;
 mod states;
 mod waiting;
 
+pub use iox_wire_ways::begin_request_receive;
 pub use lane_returns::list_response_returns;
 pub use states::list_states_of;
 pub use waiting::{list_waiting_requests, list_waiting_responses};

@@ -12,19 +12,18 @@ ghost use Rattle.iox_wire_locals.specs.Stored.{header_length};
 ghost use Rattle.iox_wire_locals.specs.Tables.{Setting, entry_at};
 ghost use Rattle.iox_wire_nodes.specs.Begins.{IsBegun, called};
 ghost use Rattle.iox_wire_nodes.specs.Nodes.{seat_in};
-ghost use Rattle.iox_wire_releases.specs.Released.{MayReleaseNumber};
+ghost use Rattle.iox_wire_handle_calls.specs.Released.{MayReleaseNumber};
 ghost use Rattle.iox_wire_seats.specs.Aims.{HasRoomForHint};
-ghost use Rattle.iox_wire_stops.specs.OwnStates.{HasStates};
+ghost use Rattle.iox_wire_handle_calls.specs.OwnStates.{HasStates};
 
 use super::StoredNode;
 use crate::call_at::CallAt;
 use crate::handle_call::HandleCall;
 use iox_wire_handle_calls::{
     Asked, BeginError, begin_has_hint, begin_has_response, begin_is_connected, begin_read,
-    begin_set_hint, named,
+    begin_release, begin_set_hint, named,
 };
 use iox_wire_receives::Source;
-use iox_wire_releases::begin_release;
 use iox_wire_seats::{Stop, StoredSeat};
 use iox_word_places::WordMap;
 

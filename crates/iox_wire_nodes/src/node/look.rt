@@ -9,14 +9,13 @@ ghost use Rattle.iox_wire_locals.specs.Begins.{refusal_at};
 ghost use Rattle.iox_wire_locals.specs.Tables.{Setting};
 ghost use Rattle.iox_wire_nodes.specs.Begins.{IsBegun};
 ghost use Rattle.iox_wire_nodes.specs.Nodes.{seat_in};
-ghost use Rattle.iox_wire_ways.specs.RequestSources.{HasRequestWays};
+ghost use Rattle.iox_wire_handle_calls.specs.RequestSources.{HasRequestWays};
 
 use super::StoredNode;
 use crate::call_at::CallAt;
-use iox_wire_handle_calls::{Asked, BeginError, name_port};
+use iox_wire_handle_calls::{Asked, BeginError, list_waiting_requests, name_port};
 use iox_wire_receives::Source;
 use iox_wire_seats::Stop;
-use iox_wire_stops::list_waiting_requests;
 use iox_word_places::WordMap;
 
 impl StoredNode {

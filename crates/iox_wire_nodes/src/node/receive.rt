@@ -10,13 +10,12 @@ ghost use Rattle.iox_wire_locals.specs.Lendings.{next_handle};
 ghost use Rattle.iox_wire_locals.specs.Tables.{Setting};
 ghost use Rattle.iox_wire_nodes.specs.Begins.{IsBegun};
 ghost use Rattle.iox_wire_nodes.specs.Nodes.{seat_in};
-ghost use Rattle.iox_wire_ways.specs.RequestSources.{HasRequestWays};
+ghost use Rattle.iox_wire_handle_calls.specs.RequestSources.{HasRequestWays};
 
 use super::StoredNode;
 use crate::call_at::CallAt;
-use iox_wire_handle_calls::{Asked, BeginError, name_port};
+use iox_wire_handle_calls::{Asked, BeginError, begin_request_receive, name_port};
 use iox_wire_receives::Source;
-use iox_wire_ways::begin_request_receive;
 use iox_word_places::WordMap;
 
 impl StoredNode {
