@@ -127,12 +127,11 @@ module _ (z : m.State) (reached : IsReachableState z) (node n : ℕ) (h : m.Hand
 
 -- ---- of a hub
 
-module _ (old new : HubState) (hub : IsHub old) (after : IsHub new) (node n : ℕ) (has : HasValue old node n ResponseMut) (sends : SendsResponse old node n new)
-    (whole : (x : Given) → IsWholeCall (state_of_hub x old) node (Send n) replies.Done (state_of_hub x new)) (keeps : KeepsOthers old node n new) where
+module _ (old new : HubState) (after : IsHub new) (node n : ℕ) (has : HasValue old node n ResponseMut) (keeps : KeepsOthers old node n new) where
   abbrev t : HubTables
   t = old.control.tables
 
-  abbrev loan : IsHandleOf t node n ResponseMut
+  abbrev pub loan : IsHandleOf t node n ResponseMut
   loan = value_is_handle t node n ResponseMut refl has
 
   abbrev g : m.Handle
@@ -155,22 +154,24 @@ module _ (old new : HubState) (hub : IsHub old) (after : IsHub new) (node n : �
           true≢false
           (ap code (same_Some Server ResponseMut (sym is ∙ ap₂ (λ (b i : ℕ). kind_in t b i) same equal ∙ has)))
 
-  connected : (owner : ℕ) → HasValue old owner (answerer_in old node n) Server → is_there new.control.tables.ports loan.handle.port ≡ true
+  pub connected : (owner : ℕ) → HasValue old owner (answerer_in old node n) Server → is_there new.control.tables.ports loan.handle.port ≡ true
   connected owner is =
       let served : IsServer new.control.tables owner (answerer_in old node n)
       = server_is new.control.tables after.control.order owner (answerer_in old node n) (still owner (answerer_in old node n) is) in
       ap (is_there new.control.tables.ports) (sym answerer) ∙ ap (λ (o : Option PortState). is_some o) served.there
 
-  have : is_there new.control.tables.ports loan.handle.port ≡ true → HaveAsBefore (shown old).fixed (shown new).fixed
-  have there =
-      let x : Given = hub.reached.0 in
-      let r : HaveAsBefore (state_of_hub x old).fixed (state_of_hub x new).fixed =
-      send_has (state_of_hub x old) hub.reached.1 node n g (each_handle_is_named (given_by x old) t node n loan.handle loan.named).names
-      (ap is_request_loan loan.kind_is) (state_of_hub x new) (connected_is (given_by x new) new.control.tables.ports loan.handle.port ∙ there) (whole x) in
-      record { limits = r.limits; ports = r.ports; borrowed = r.borrowed }
+  module _ (hub : IsHub old) (sends : SendsResponse old node n new)
+      (whole : (x : Given) → IsWholeCall (state_of_hub x old) node (Send n) replies.Done (state_of_hub x new)) where
+    have : is_there new.control.tables.ports loan.handle.port ≡ true → HaveAsBefore (shown old).fixed (shown new).fixed
+    have there =
+        let x : Given = hub.reached.0 in
+        let r : HaveAsBefore (state_of_hub x old).fixed (state_of_hub x new).fixed =
+        send_has (state_of_hub x old) hub.reached.1 node n g (each_handle_is_named (given_by x old) t node n loan.handle loan.named).names
+        (ap is_request_loan loan.kind_is) (state_of_hub x new) (connected_is (given_by x new) new.control.tables.ports loan.handle.port ∙ there) (whole x) in
+        record { limits = r.limits; ports = r.ports; borrowed = r.borrowed }
 
-  -- A loaned response that is sent can be received by who asked.
-  pub loan_reaches_asker : ReachesItsAsker old node n new
-  loan_reaches_asker owner is =
-      reaches_asker old new node n loan.handle loan.named.there g.message refl (sends loan.handle loan.named.there (connected owner is))
-      (have (connected owner is))
+    -- A loaned response that is sent can be received by who asked.
+    pub loan_reaches_asker : ReachesItsAsker old node n new
+    loan_reaches_asker owner is =
+        reaches_asker old new node n loan.handle loan.named.there g.message refl (sends loan.handle loan.named.there (connected owner is))
+        (have (connected owner is))

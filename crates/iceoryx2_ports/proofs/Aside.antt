@@ -23,7 +23,7 @@ use Rattle.iceoryx2_ports.proofs.Others.{IsAt, whole_there}
 use Rattle.iceoryx2_ports.proofs.Staying.{any_given, asker, client_shown}
 
 -- what a number names is the node's, of that number
-named_at : (x : Given) (h : HubState) (node n : ℕ) (k : Handle) → subject (state_of_hub x h).fixed node n ≡ Some (TheHandle k) → IsAt node n k
+pub named_at : (x : Given) (h : HubState) (node n : ℕ) (k : Handle) → subject (state_of_hub x h).fixed node n ≡ Some (TheHandle k) → IsAt node n k
 named_at x h node n k = by_port (port_at (state_of_hub x h).fixed n)
   where
     y : Given

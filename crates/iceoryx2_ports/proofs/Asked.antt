@@ -20,7 +20,7 @@ use Rattle.iox_model.specs.Responses.{lending, lends_request}
 use Rattle.iox_model.specs.Runs.{IsReachableState}
 use Rattle.iox_model.specs.Settings.{is_count}
 use Rattle.iox_model.specs.States.{Fixed, Handle, Port, State}
-use Rattle.iox_model.specs.WholeCalls.{IsDone, IsWholeCall, UnlessRefused, left_by, moved_by, replied, spent}
+use Rattle.iox_model.specs.WholeCalls.{IsDone, IsWholeCall, UnlessRefused, left_by, moved_by, replied, sent_reply, spent}
 use Rattle.iox_laws.specs.MessageLaws.Sendings.{copied_order}
 use Rattle.iox_laws.proofs.WeaveLaws.MapLemmas.{either}
 use Rattle.iox_laws.proofs.WeaveLaws.WholeLemmas.{moved_by-fixed}
@@ -72,12 +72,6 @@ module _ (z : State) (reached : IsReachableState z) (node n : ℕ) (p : Port) (c
         (either (Fit c.lane) (is_count z.fixed.limits.request k) (lends_request z c p (copied_order k words)) (refused WrongLength)
         (λ u. request_fits c) (λ u. (starts_quiet z reached node (loan_on c.lane) known true, tt)))
 
-    -- A copy that is sent leaves its message on its ways, and what receivers have as it was.
-    pub record IsCopied : Type 0 where
-      pub lane : ℕ
-      pub came : CameTo z reached node (loan_on lane) known true t
-      pub have : HaveAsBefore z.fixed t.fixed
-
     numbered_has : (f : Fixed) (i : ℕ) → HaveAsBefore f (numbered f i)
     numbered_has f i =
         either (HaveAsBefore f) f.on_wire _ _ (λ u. record { limits = refl; ports = refl; borrowed = refl })
@@ -98,6 +92,32 @@ module _ (z : State) (reached : IsReachableState z) (node n : ℕ) (p : Port) (c
     refusal_is_none r q e = absurd q
 
     module _ (reply : Reply) (told : is_handle reply ≡ true) where
+      -- the loan on that lane is a pending response, of the number that the copy answers
+      pub record IsMade (lane : ℕ) : Type 0 where
+        pub count : ℕ
+        pub handles : t.fixed.handles ≡ (sent_copy z.fixed (loan_on lane) count).handles
+        pub answer : reply ≡ sent_reply z.fixed node (loan_on lane) true count
+
+      -- A copy that is sent leaves its message on its ways, and what receivers have as it was.
+      pub record IsCopied : Type 0 where
+        pub lane : ℕ
+        pub came : CameTo z reached node (loan_on lane) known true t
+        pub have : HaveAsBefore z.fixed t.fixed
+        pub made : IsMade lane
+
+      ends_made : (s : State) (lane : ℕ) (o : Outcome) (payload : List ℕ) → s.fixed ≡ z.fixed → EndsSo z node (loan_on lane) true (goes_to z reached node (loan_on lane) known true) s o
+          → reply ≡ replied z.fixed node o → t ≡ settled s node payload o → IsMade lane
+      ends_made s lane (Sends l true count) payload same q e is = record {
+        count = count;
+        handles = ap (λ (v : State). v.fixed.handles) (is ∙ ap (λ (h : Handle). settled s node payload (Sends h true count)) q.0)
+            ∙ ap (λ (f : Fixed). (sent_copy f (loan_on lane) count).handles) same;
+        answer = e ∙ ap (λ (h : Handle). sent_reply z.fixed node h true count) q.0;
+      }
+      ends_made s lane (Sends l false count) payload same q e is = absurd (true≢false (sym q.1))
+      ends_made s lane (FailsToSend l c r) payload same q e is = absurd (true≢false (sym told ∙ ap is_handle e))
+      ends_made s lane (Tells r) payload same q e is = absurd (refusal_is_none r q.1 (sym (ap is_handle e) ∙ told))
+      ends_made s lane o payload same q e is = absurd q
+
       ends_have : (s : State) (lane : ℕ) (o : Outcome) (payload : List ℕ) → s.fixed ≡ z.fixed → EndsSo z node (loan_on lane) true (goes_to z reached node (loan_on lane) known true) s o
           → reply ≡ replied z.fixed node o → HaveAsBefore z.fixed (settled s node payload o).fixed
       ends_have s lane (Sends l true count) payload same q e =
@@ -124,6 +144,7 @@ module _ (z : State) (reached : IsReachableState z) (node n : ℕ) (p : Port) (c
             came = came c.lane (done_leaves z reached node h known true t copy reply done (begins c)
                 (λ f. absurd (true≢false f)));
             have = subst (λ (v : State). HaveAsBefore z.fixed v.fixed) (sym done.9) (ends_have u c.lane done.4 done.6 (moved_by-fixed z done.2) o done.8);
+            made = ends_made u c.lane done.4 done.6 (moved_by-fixed z done.2) o done.8 done.9;
           }
         where
           came : (lane : ℕ) → Leaves lane t reply → CameTo z reached node (loan_on lane) known true t

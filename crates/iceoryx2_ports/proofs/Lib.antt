@@ -27,4 +27,10 @@ pub mod Lent
 pub mod Filled
 pub mod Requested
 pub mod Received
+pub mod Remaining
+pub mod Sparing
+pub mod Unreleased
+pub mod SentOpen
+pub mod Unclosed
+pub mod CopyAsked
 pub mod ChosenPools

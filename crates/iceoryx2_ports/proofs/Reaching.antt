@@ -201,33 +201,33 @@ module _ (old new : HubState) (hub : IsHub old) (node client k i : ℕ) (words :
   abbrev u : m.State
   u = state_of_hub hub.reached.0 new
 
-  lender : IsClient t node client
+  pub lender : IsClient t node client
   lender = client_of_hub hub old refl node client has
 
   abbrev p : m.Port
   p = port_of x lender.port
 
-  number : lender.port.number ≡ client
+  pub number : lender.port.number ≡ client
   number = first_key (λ (q : PortState). q.number) t.ports client lender.port lender.there
 
-  known : is_connected_port z.fixed p.number ≡ true
+  pub known : is_connected_port z.fixed p.number ≡ true
   known =
       connected_is x t.ports lender.port.number ∙ ap (is_there t.ports) number
       ∙ ap (λ (o : Option PortState). is_some o) lender.there
 
-  done : IsCopied z hub.reached.1 node client p lender.client known k words
-      (each_port_is_named x t node client lender.port lender.there lender.held).names Client u
+  pub done : IsCopied z hub.reached.1 node client p lender.client known k words
+      (each_port_is_named x t node client lender.port lender.there lender.held).names Client u (Handle i) refl
   done =
       copied z hub.reached.1 node client p lender.client known k words
       (each_port_is_named x t node client lender.port lender.there lender.held).names Client u (Handle i) refl (whole hub.reached.0)
 
-  abbrev g : m.Handle
+  abbrev pub g : m.Handle
   g = loan_on z hub.reached.1 node client p lender.client known k words done.lane
 
   abbrev to : List ℕ
   to = goes_to z hub.reached.1 node g known true
 
-  request : is_request_loan g.kind ≡ true
+  pub request : is_request_loan g.kind ≡ true
   request = ap (λ (r : Role). is_request_loan (kind_of_loan r false)) lender.client
 
   servers : to ≡ servers_of old
@@ -243,7 +243,7 @@ module _ (old new : HubState) (hub : IsHub old) (node client k i : ℕ) (words :
   as_shown : IsSentOn (goes_on z hub.reached.1 node g known true) (shown old) g.message (shown new)
   as_shown = record { sent = done.came.sent.sent; others = done.came.sent.others }
 
-  sent : IsRequestSent old new g
+  pub sent : IsRequestSent old new g
   sent = record {
     brought = subst (λ (ws : List Way). IsSentOn ws (shown old) g.message (shown new)) ways as_shown;
     states = λ server is.

@@ -12,6 +12,7 @@ use Rattle.iceoryx2_ports.specs.Releases.{IsReleased}
 use Rattle.iceoryx2_ports.proofs.Aside.{others_ask_as_before}
 use Rattle.iceoryx2_ports.proofs.Coming.{release_brings_nothing}
 use Rattle.iceoryx2_ports.proofs.Leaving.{release_keeps_room}
+use Rattle.iceoryx2_ports.proofs.Unreleased.{nothing_leaves_open, release_leaves_open}
 
 pub is_released : (old new : HubState) → IsHub new → (node n : ℕ) (kind : Kind) → HasValue old node n kind
     → ((x : Given) → IsWholeCall (state_of_hub x old) node (Release n) Done (state_of_hub x new)) → HasNothing new node n → KeepsOthers old node n new
@@ -28,6 +29,7 @@ is_released old new after node n kind has whole gone keeps = record {
     none = release_brings_nothing old new node n Done whole x idle.none;
     room = release_keeps_room old new after node n Done whole x idle.room;
   };
+  requests = release_leaves_open old new after node n kind has Done whole gone;
 }
 
 pub nothing_released : (h : HubState) (node n : ℕ) (kind : Kind) → (HasValue h node n kind → ⊥) → IsReleased h node n kind h
@@ -40,4 +42,5 @@ nothing_released h node n kind none = record {
   comes = λ x nothing. nothing;
   room = λ x room. room;
   idle = λ x idle. idle;
+  requests = nothing_leaves_open h node n kind;
 }

@@ -161,7 +161,7 @@ one_sent true b ms a m none p = one_left m a b (subst (λ (ns : List Message). I
 one_sent false b ms a m none p = absurd (subst (IsOneOf a) none p)
 
 -- a connected client is among the clients
-port_is_there : (ps : List PortState) (n : ℕ) (p : PortState) → port_in ps n ≡ Some p → p.role ≡ Client → has_number n (numbers_of_role Client ps) ≡ true
+pub port_is_there : (ps : List PortState) (n : ℕ) (p : PortState) → port_in ps n ≡ Some p → p.role ≡ Client → has_number n (numbers_of_role Client ps) ≡ true
 port_is_there [] n p e role = absurd (none-some p e)
 port_is_there (q ∷ qs) n p e role =
     by_cases (q.number == n)

@@ -172,7 +172,7 @@ code_and_back PendingResponse = refl
 code_and_back ActiveRequest = refl
 code_and_back Response = refl
 
-same_kinds : (a b : Kind) → same_kind a b ≡ true → a ≡ b
+pub same_kinds : (a b : Kind) → same_kind a b ≡ true → a ≡ b
 same_kinds a b e = sym (code_and_back a) ∙ ap kind_of_code (eqb-true (kind_code a) (kind_code b) e) ∙ code_and_back b
 
 found_kind : (o : Option Kind) (kind : Kind) → option_map_or (λ k. same_kind k kind) o false ≡ true → o ≡ Some kind

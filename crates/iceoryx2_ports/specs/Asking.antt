@@ -78,7 +78,8 @@ pub record AsksAs (old : HubState) (node n : ℕ) (new : HubState) (other m : �
 abbrev pub IsQuiet : HubState → ℕ → Type 0
 IsQuiet h client = (lane request : ℕ) → IsIdle h (client_on client lane request)
 
--- A client that was idle for each request is so for that of its new loan.
+-- A client that was idle for each request is so for that of its new loan, or of the pending response
+-- of its copy.
 abbrev pub LendsQuietly : HubState → ℕ → HubState → ℕ → ℕ → Type 0
 LendsQuietly old client new node n = IsQuiet old client → IsIdle new (client_in new node n)
 

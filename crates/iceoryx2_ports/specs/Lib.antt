@@ -49,11 +49,12 @@ pub mod Loans
 pub mod LoanLimits
 pub mod Payloads
 pub mod Copies
-pub mod Releases
 pub mod Arrivals
 pub mod Reaching
 pub mod Responses
 pub mod Idling
 pub mod Asking
+pub mod Opens
+pub mod Releases
 pub mod Rooms
 pub mod Overrides

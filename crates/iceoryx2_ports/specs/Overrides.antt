@@ -10,6 +10,13 @@ use Rattle.iox_hub.specs.declared.options.Options.{Options}
 use Rattle.iox_hub.specs.Hubs.{HubState, given_by, state_of_hub}
 use Rattle.iox_hub.specs.Making.{IsChosenBy, options_of}
 
+-- What a port is made with whose pool a closure chooses.
+pub record MadeWith (F : Type 0) : Type 0 where
+  pub node : ℕ
+  pub id : UniqueSystemId
+  pub options : Options
+  pub closure : F
+
 -- the most messages that a port of that role needs, if a `usize` counts them
 abbrev pub most_needed : Given → HubState → Role → Options → Option ℕ
 most_needed x h role o =

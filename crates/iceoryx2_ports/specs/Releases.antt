@@ -11,11 +11,12 @@ use Rattle.iox_hub.specs.Sending.{HasNothing}
 use Rattle.iox_hub_laws.specs.Sends.{NothingComes}
 use Rattle.iceoryx2_ports.specs.Idling.{KeepsIdle}
 use Rattle.iceoryx2_ports.specs.Keeping.{KeepsOthersAsking}
+use Rattle.iceoryx2_ports.specs.Opens.{LeavesOpen}
 use Rattle.iceoryx2_ports.specs.Reaching.{KeepsRoom}
 
 -- The node's value of that number and kind is released, if it has one; else nothing changes. All
--- other values are as they were, nothing comes where nothing waited, and who had room or was idle
--- still has it or is.
+-- other values are as they were, nothing comes where nothing waited, who had room or was idle still
+-- has it or is, and other open requests are open still.
 pub record IsReleased (old : HubState) (node n : ℕ) (kind : Kind) (new : HubState) : Type 0 where
   pub whole :
       HasValue old node n kind → (x : Given)
@@ -27,3 +28,4 @@ pub record IsReleased (old : HubState) (node n : ℕ) (kind : Kind) (new : HubSt
   pub comes : NothingComes old new
   pub room : KeepsRoom old new
   pub idle : KeepsIdle old new
+  pub requests : LeavesOpen old node n kind new

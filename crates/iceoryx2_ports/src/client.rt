@@ -14,6 +14,7 @@ ghost use Rattle.iceoryx2_ports.specs.Asking.{LendsQuietly};
 ghost use Rattle.iceoryx2_ports.specs.Keeping.{KeepsAsking, KeepsValues};
 ghost use Rattle.iceoryx2_ports.specs.LoanLimits.{HasAllLoans, LendsOneMore};
 ghost use Rattle.iceoryx2_ports.specs.Loans.{reply_of_loan};
+ghost use Rattle.iceoryx2_ports.specs.Opens.{KeepsRequests};
 ghost use Rattle.iceoryx2_ports.specs.Reaching.{KeepsRoom};
 ghost use Rattle.iceoryx2_ports.specs.Releases.{IsReleased};
 ghost use Rattle.iceoryx2_ports.specs.declared.errors.LoanError.TheVariants.{ExceedsMaxLoans, OutOfMemory};
@@ -105,6 +106,7 @@ impl<E: Words, QH: Words, P: Payload, PH: Words> Client<One<E>, QH, P, PH> {
         ensures keeps { KeepsValues hub.old hub.new }
         ensures asks { KeepsAsking hub.old hub.new }
         ensures room { KeepsRoom hub.old hub.new }
+        ensures requests { KeepsRequests hub.old hub.new }
         ensures quiet { IfOk result (λ loan.
             LendsQuietly hub.old self.now.number hub.new loan.node loan.number) }
         ensures counted { OnOk result
@@ -137,6 +139,7 @@ impl<E: Words, QH: Words, P: Payload, PH: Words> Client<One<E>, QH, P, PH> {
         ensures keeps { KeepsValues hub.old hub.new }
         ensures asks { KeepsAsking hub.old hub.new }
         ensures room { KeepsRoom hub.old hub.new }
+        ensures requests { KeepsRequests hub.old hub.new }
         ensures quiet { IfOk result (λ loan.
             LendsQuietly hub.old self.now.number hub.new loan.node loan.number) }
         ensures counted { OnOk result
@@ -171,6 +174,7 @@ impl<E: Words, QH: Words, P: Payload, PH: Words> Client<Many<E>, QH, P, PH> {
         ensures keeps { KeepsValues hub.old hub.new }
         ensures asks { KeepsAsking hub.old hub.new }
         ensures room { KeepsRoom hub.old hub.new }
+        ensures requests { KeepsRequests hub.old hub.new }
         ensures quiet { IfOk result (λ loan.
             LendsQuietly hub.old self.now.number hub.new loan.node loan.number) }
         ensures counted { OnOk result
@@ -204,6 +208,7 @@ impl<E: Words, QH: Words, P: Payload, PH: Words> Client<Many<E>, QH, P, PH> {
         ensures keeps { KeepsValues hub.old hub.new }
         ensures asks { KeepsAsking hub.old hub.new }
         ensures room { KeepsRoom hub.old hub.new }
+        ensures requests { KeepsRequests hub.old hub.new }
         ensures quiet { IfOk result (λ loan.
             LendsQuietly hub.old self.now.number hub.new loan.node loan.number) }
         ensures counted { OnOk result

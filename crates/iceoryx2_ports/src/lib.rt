@@ -20,6 +20,7 @@ mod server;
 pub mod uses;
 pub mod uses_answering;
 pub mod uses_arrivals;
+pub mod uses_copied_trip;
 pub mod uses_copying;
 pub mod uses_exchange;
 pub mod uses_filling;

@@ -13,6 +13,7 @@ ghost use Rattle.iceoryx2_ports.specs.Keeping.{KeepsAsking, KeepsValues};
 ghost use Rattle.iceoryx2_ports.specs.LoanLimits.{HasAllLoans, HasAllResponses};
 ghost use Rattle.iceoryx2_ports.specs.LoanLimits.{LendsOneMore, RespondsOneMore};
 ghost use Rattle.iceoryx2_ports.specs.Loans.{reply_of_loan};
+ghost use Rattle.iceoryx2_ports.specs.Opens.{KeepsRequests};
 ghost use Rattle.iceoryx2_ports.specs.Reaching.{KeepsRoom};
 ghost use Rattle.iceoryx2_ports.specs.declared.errors.LoanError.TheVariants.{ExceedsMaxLoans, OutOfMemory};
 
@@ -40,6 +41,7 @@ pub(crate) fn lend_request<Q: Payload, QH: Words, P: Payload, PH: Words>(
     ensures keeps { KeepsValues hub.old hub.new }
     ensures asks { KeepsAsking hub.old hub.new }
     ensures room { KeepsRoom hub.old hub.new }
+    ensures requests { KeepsRequests hub.old hub.new }
     ensures quiet { IfOk result (λ n. LendsQuietly hub.old client hub.new node n) }
     ensures counted { OnOk result (LendsOneMore hub.old client elements hub.new) }
     ensures past { HasAllLoans hub.old client elements → result ≡ Err ExceedsMaxLoans }
@@ -80,6 +82,7 @@ pub(crate) fn lend_response<Q: Payload, QH: Words, P: Payload, PH: Words>(
     ensures keeps { KeepsValues hub.old hub.new }
     ensures asks { KeepsAsking hub.old hub.new }
     ensures room { KeepsRoom hub.old hub.new }
+    ensures requests { KeepsRequests hub.old hub.new }
     ensures answers { IfOk result (λ n. AnswersAs hub.old node number hub.new node n) }
     ensures counted { OnOk result (RespondsOneMore hub.old node number elements hub.new) }
     ensures past { HasAllResponses hub.old node number elements → result ≡ Err ExceedsMaxLoans }

@@ -16,6 +16,7 @@ ghost use Rattle.iceoryx2_ports.specs.Calls.{HasCallsLeft};
 ghost use Rattle.iceoryx2_ports.specs.Headers.{request_header_of};
 ghost use Rattle.iceoryx2_ports.specs.Idling.{TakesTheOne};
 ghost use Rattle.iceoryx2_ports.specs.Keeping.{KeepsAsking, KeepsValues};
+ghost use Rattle.iceoryx2_ports.specs.Opens.{KeepsRequests};
 ghost use Rattle.iceoryx2_ports.specs.Releases.{IsReleased};
 ghost use Rattle.iceoryx2_ports.specs.Rooms.{TakesOfRoom};
 ghost use Rattle.iceoryx2_ports.specs.declared.errors.ReceiveError.TheVariants.{ExceedsMaxBorrows};
@@ -98,6 +99,7 @@ impl<Q: Payload, QH: Words, P: Payload, PH: Words> PendingResponse<Q, QH, P, PH>
             TakesOfRoom hub.old (client_in hub.old self.now.node self.now.number) hub.new
             response.node response.number)) }
         ensures comes { NothingComes hub.old hub.new }
+        ensures requests { KeepsRequests hub.old hub.new }
     {
         hub.is_in_order();
         match receive_response(hub, self.node, self.number, self.hint) {
@@ -125,6 +127,7 @@ impl<Q: Payload, QH: Words, P: Payload, PH: Words> PendingResponse<Q, QH, P, PH>
             (calls.SetHint self.now.number) Done (state_of_hub x hub.new) }
         ensures keeps { KeepsValues hub.old hub.new }
         ensures asks { KeepsAsking hub.old hub.new }
+        ensures requests { KeepsRequests hub.old hub.new }
     {
         hub.set_hint(self.node, self.number, self.hint);
     }

@@ -108,7 +108,7 @@ impl<Q: Payload, QH: Words, P: Payload, PH: Words> PortFactoryClient<Q, QH, P, P
     }
 
     /// Makes the client. Where it is refused, all stays. A client whose requests would grow is
-    /// refused: there is no memory for it.
+    /// refused: there is no memory for it. Requests of one element never grow.
     pub fn create(
         self,
         alloc: Global,

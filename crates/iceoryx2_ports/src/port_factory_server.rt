@@ -121,7 +121,7 @@ impl<Q: Payload, QH: Words, P: Payload, PH: Words> PortFactoryServer<Q, QH, P, P
     }
 
     /// Makes the server. Where it is refused, all stays. A server whose responses would grow is
-    /// refused: there is no memory for it.
+    /// refused: there is no memory for it. Responses of one element never grow.
     pub fn create(
         self,
         alloc: Global,

@@ -22,6 +22,7 @@ ghost use Rattle.iceoryx2_ports.specs.Headers.{request_header_of};
 ghost use Rattle.iceoryx2_ports.specs.Idling.{BringsOne};
 ghost use Rattle.iceoryx2_ports.specs.Keeping.{KeepsAsking};
 ghost use Rattle.iceoryx2_ports.specs.Loans.{reply_of_request_send, reply_of_write};
+ghost use Rattle.iceoryx2_ports.specs.Opens.{KeepsRequests};
 ghost use Rattle.iceoryx2_ports.specs.Reaching.{KeepsRoom, ReachesServers};
 ghost use Rattle.iceoryx2_ports.specs.Releases.{IsReleased};
 
@@ -98,6 +99,7 @@ impl<Q: Payload, QH: Words, P: Payload, PH: Words> RequestMutUninit<Q, QH, P, PH
         ensures keeps { KeepsOthers hub.old self.node self.number hub.new }
         ensures asks { KeepsAsking hub.old hub.new }
         ensures room { KeepsRoom hub.old hub.new }
+        ensures requests { KeepsRequests hub.old hub.new }
         ensures unchanged { OnErr result (hub.new ≡ hub.old) }
         ensures same { IfErr result (λ loan. loan ≡ self) }
     {
@@ -173,6 +175,7 @@ impl<E: Words, QH: Words, P: Payload, PH: Words> RequestMutUninit<One<E>, QH, P,
         ensures keeps { KeepsOthers hub.old self.node self.number hub.new }
         ensures asks { KeepsAsking hub.old hub.new }
         ensures room { KeepsRoom hub.old hub.new }
+        ensures requests { KeepsRequests hub.old hub.new }
         ensures node { result.node ≡ self.node }
         ensures number { result.number ≡ self.number }
     {

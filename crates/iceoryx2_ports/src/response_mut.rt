@@ -20,6 +20,7 @@ ghost use Rattle.iceoryx2_ports.specs.Calls.{HasCallsLeft};
 ghost use Rattle.iceoryx2_ports.specs.Headers.{response_header_of};
 ghost use Rattle.iceoryx2_ports.specs.Keeping.{KeepsAsking};
 ghost use Rattle.iceoryx2_ports.specs.Loans.{reply_of_response_send, reply_of_write};
+ghost use Rattle.iceoryx2_ports.specs.Opens.{ClosesNone, KeepsRequests};
 ghost use Rattle.iceoryx2_ports.specs.Reaching.{KeepsRoom};
 ghost use Rattle.iceoryx2_ports.specs.Releases.{IsReleased};
 ghost use Rattle.iceoryx2_ports.specs.Responses.{ReachesItsAsker};
@@ -96,6 +97,7 @@ impl<Q: Payload, QH: Words, P: Payload, PH: Words> ResponseMutUninit<Q, QH, P, P
         ensures keeps { KeepsOthers hub.old self.node self.number hub.new }
         ensures asks { KeepsAsking hub.old hub.new }
         ensures room { KeepsRoom hub.old hub.new }
+        ensures requests { KeepsRequests hub.old hub.new }
         ensures unchanged { OnErr result (hub.new ≡ hub.old) }
         ensures same { IfErr result (λ loan. loan ≡ self) }
     {
@@ -171,6 +173,7 @@ impl<Q: Payload, QH: Words, E: Words, PH: Words> ResponseMutUninit<Q, QH, One<E>
         ensures keeps { KeepsOthers hub.old self.node self.number hub.new }
         ensures asks { KeepsAsking hub.old hub.new }
         ensures room { KeepsRoom hub.old hub.new }
+        ensures requests { KeepsRequests hub.old hub.new }
         ensures node { result.node ≡ self.node }
         ensures number { result.number ≡ self.number }
     {
@@ -256,6 +259,7 @@ impl<Q: Payload, QH: Words, P: Payload, PH: Words> ResponseMut<Q, QH, P, PH> {
         ensures only { BringsItsWords hub.old self.node self.number hub.new }
         ensures reaches { OnOk result
             (ReachesItsAsker hub.old self.node self.number hub.new) }
+        ensures requests { ClosesNone hub.old self.node self.number hub.new }
         ensures keeps { KeepsOthers hub.old self.node self.number hub.new }
         ensures asks { KeepsAsking hub.old hub.new }
     {
@@ -271,7 +275,10 @@ impl<Q: Payload, QH: Words, P: Payload, PH: Words> ResponseMut<Q, QH, P, PH> {
                 hub.is_in_order();
                 Ok(())
             }
-            Responded::Undelivered => Err(SendError::UnableToDeliver),
+            Responded::Undelivered => {
+                hub.is_in_order();
+                Err(SendError::UnableToDeliver)
+            }
         }
     }
 

@@ -15,6 +15,7 @@ ghost use Rattle.iceoryx2_ports.specs.Asking.{KeepsAskersIdle, TakesItsRequest};
 ghost use Rattle.iceoryx2_ports.specs.Calls.{HasCallsLeft};
 ghost use Rattle.iceoryx2_ports.specs.Idling.{TakesTheOne};
 ghost use Rattle.iceoryx2_ports.specs.Keeping.{KeepsAsking, KeepsValues};
+ghost use Rattle.iceoryx2_ports.specs.Opens.{KeepsRequests};
 ghost use Rattle.iceoryx2_ports.specs.Releases.{IsReleased};
 ghost use Rattle.iceoryx2_ports.specs.declared.errors.ReceiveError.TheVariants.{ExceedsMaxBorrows};
 
@@ -81,6 +82,7 @@ impl<Q: Payload, QH: Words, P: Payload, PH: Words> Server<Q, QH, P, PH> {
         ensures askers { IfOk result (λ got. IfSome got (λ request.
             KeepsAskersIdle hub.old hub.new)) }
         ensures comes { NothingComes hub.old hub.new }
+        ensures requests { KeepsRequests hub.old hub.new }
     {
         hub.is_in_order();
         match receive_request(hub, self.node, self.number) {

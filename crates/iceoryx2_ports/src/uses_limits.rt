@@ -6,7 +6,7 @@ ghost use Rattle.iceoryx2_ports.specs.Hubs.{HasValue};
 ghost use Rattle.iceoryx2_ports.specs.LoanLimits.{most_responses, responses_lent};
 ghost use Rattle.iceoryx2_ports.specs.declared.errors.LoanError.TheVariants.{ExceedsMaxLoans};
 
-use crate::{ActiveRequest, Client, Hub, LoanError, One, Payload, Words};
+use crate::{ActiveRequest, Client, Hub, LoanError, One, Payload, RequestMutUninit, Words};
 
 /// Of a client that may have one loan, the second is refused.
 pub fn second_loan<E: Words, QH: Words, P: Payload, PH: Words>(
@@ -59,9 +59,18 @@ pub fn third_loan<E: Words, QH: Words, P: Payload, PH: Words>(
             Err(error) => told = Some(error),
         }
     }
+    give_up(first, second, hub);
+    told
+}
+
+/// Gives up both loans.
+fn give_up<E: Words, QH: Words, P: Payload, PH: Words>(
+    first: RequestMutUninit<One<E>, QH, P, PH>,
+    second: RequestMutUninit<One<E>, QH, P, PH>,
+    hub: &mut Hub<One<E>, QH, P, PH>,
+) {
     first.release(hub);
     second.release(hub);
-    told
 }
 
 /// Of a server that may have one response to a request on loan, the second is refused.

@@ -26,10 +26,10 @@ where
     Q::Element: ZeroCopySend,
     P::Element: ZeroCopySend,
 {
-    /// That service, which says this of itself, with its first node, which has number 0 and that id. Its
-    /// messages are of its own types, which the described ones are compared with, and hold these
-    /// defaults at first. A limit of 0 is raised to 1, and no port keeps messages of ports that are
-    /// gone.
+    /// That service, which says this of itself, with its first node, which has number 0 and that
+    /// id. Its messages are of its own types, which the described ones are compared with, and hold
+    /// these defaults at first. A limit of 0 is raised to 1, and no port keeps messages of ports
+    /// that are gone.
     ///
     /// It is refused as `InvalidNodeId`, as `IncompatibleRequestTypes` or
     /// `IncompatibleResponseTypes` where its own types may not be read where the described ones are
@@ -54,7 +54,8 @@ where
             (request_shape of_requests request requests))
             (shape_of P.MANY P.Element.WORDS P.Element.words PH.words
             (response_shape of_responses response responses)))
-            (message_types of_requests request of_responses response) identity description id result }
+            (message_types of_requests request of_responses response)
+            identity description id result }
     {
         let asked = creator_refusal::<Q, QH, P, PH>(&description.types);
         let request = MessageShape::of_requests(Some(requests.element), requests.user_header);

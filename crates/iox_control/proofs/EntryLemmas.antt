@@ -1,11 +1,12 @@
 -- What is found, dropped and changed in the table of handles by number alone is so by node and number.
 use Rattle.std.specs.Prelude.{◌≡◌, ℕ, Bool, true, false, not, ◌&&◌, ◌||◌, ◌==◌, if◌then◌else◌, List, [], ◌∷◌, ◌++◌, map, filter, find, Option, Some, None, refl}
+use Rattle.std.specs.List.{list_any}
 use Rattle.std.specs.Option.{option_and_then, option_map}
 use Rattle.std.proofs.Common.{sym, ap, subst, ◌∙◌, true≢false, eqb-true, eq-eqb}
 use Rattle.std.proofs.lemmas.Option.{none-some, same_Some}
 use Rattle.iox_handles.specs.declared.entry.Entry.{Entry}
 use Rattle.iox_model.specs.Maps.{has_number, AreDistinct}
-use Rattle.iox_handles.specs.Tables.{Contents, IsSound, added, changed, handle_at, handle_of, has_that, if_of, removed, with_handle}
+use Rattle.iox_handles.specs.Tables.{Contents, IsSound, added, changed, handle_at, handle_of, has_port, has_that, if_of, removed, with_handle}
 use Rattle.iox_tables.specs.HubStates.Wirings.{handle_in}
 use Rattle.iox_tables.specs.HubStates.Ends.{changed_handles, dropped_handles}
 use Rattle.iox_control.specs.Entries.{handle_state, handles_of}
@@ -226,3 +227,9 @@ its_own (Some h) node e at = by_case (h.node == node) refl at
     by_case : (b : Bool) → (h.node == node) ≡ b → Some e ≡ (if b then Some h else None) → (Some e ≡ Some h) × (e.node ≡ node)
     by_case true is at = (at, ap (λ (k : Entry). k.node) (same_Some e h at) ∙ eqb-true h.node node is)
     by_case false is at = absurd (none-some e (sym at))
+
+-- ---- the handles of a port
+
+pub any_state : (hs : List Entry) (n : ℕ) → list_any (has_port n) hs ≡ list_any (λ h. h.port == n) (map handle_state hs)
+any_state [] n = refl
+any_state (h ∷ hs) n = ap (λ (b : Bool). (h.port == n) || b) (any_state hs n)

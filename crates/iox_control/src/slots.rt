@@ -1,5 +1,6 @@
 //! Single changes of slots and of handles.
-ghost use Rattle.std.specs.Prelude.{◌≡◌, ◌<◌, IfSome, IsSome, None, ◌↔◌};
+ghost use Rattle.std.specs.List.{list_any};
+ghost use Rattle.std.specs.Prelude.{◌≡◌, ◌==◌, ◌<◌, IfSome, IsSome, None, ◌↔◌};
 ghost use Rattle.std.specs.Bool.{OnFalse};
 ghost use Rattle.std.specs.Option.{option_map};
 ghost use Rattle.iox_tables.specs.HubStates.Ends.{with_changed};
@@ -57,6 +58,16 @@ impl Control {
     }
 
     // ---- handles
+
+    /// Whether that port has a handle. Where the handles of a port go one after another, and this is
+    /// asked after each, it looks at each place of the table a few times in all.
+    #[inline]
+    pub fn has_handles(&mut self, port: u64) -> bool
+        ensures told { result ≡ list_any (λ h. h.port == port) self.old.tables.handles }
+        ensures unchanged { self.new ≡ self.old }
+    {
+        self.handles.has_any(port)
+    }
 
     /// A handle of that node and number is as it is now; it is looked for at the hint first. Where
     /// there is none, nothing changes.

@@ -1,10 +1,9 @@
 -- Whether anything of a port is left, as code tells it.
-use Rattle.std.specs.Prelude.{◌≡◌, ℕ, suc, Bool, true, false, not, ◌&&◌, ◌||◌, if◌then◌else◌, ◌==◌, List, [], ◌∷◌, map, filter, length, Option, Some, None, refl}
+use Rattle.std.specs.Prelude.{◌≡◌, ℕ, Bool, true, false, not, ◌&&◌, ◌||◌, if◌then◌else◌, ◌==◌, List, [], ◌∷◌, Option, Some, None, refl}
 use Rattle.std.specs.List.{list_any}
 use Rattle.std.specs.Option.{option_map}
-use Rattle.std.proofs.Common.{sym, ap, ap₂, ◌∙◌, arith, eqb-true}
+use Rattle.std.proofs.Common.{sym, ap, ap₂, ◌∙◌, eqb-true}
 use Rattle.std.proofs.lemmas.Option.{none-some, same_Some}
-use Rattle.iox_handles.specs.declared.entry.Entry.{Entry}
 use Rattle.iox_hub_ports.specs.declared.info.PortInfo.{PortInfo}
 use Rattle.iox_hub_ports.specs.Ports.{info_in, info_of}
 use Rattle.iox_tables.specs.HubStates.Tables.{HandleState, HubTables, PortState, port_in}
@@ -14,22 +13,6 @@ use Rattle.iox_tables.specs.HubBooks.Hubs.{AreInOrder}
 use Rattle.iox_tables.specs.HubMaking.Disconnections.{is_held_in, is_of_port, is_unused}
 use Rattle.iox_tables.proofs.HubMaking.Testing.{unused_is_told}
 use Rattle.iox_tables.proofs.HubKeeping.Ordered.{at_home, names_apart}
-use Rattle.iox_control.specs.Entries.{handle_state}
-
-not_none : (k : ℕ) (b : Bool) → (suc k == 0) ≡ b → b ≡ false
-not_none k false e = refl
-not_none k true e = let zero : suc k ≡ 0 = eqb-true (suc k) 0 e in absurd (omega (arith, zero))
-
--- the count of a port's handles tells whether there is one
-counted : (n : ℕ) (hs : List Entry) → (length (filter (λ h. h.port == n) hs) == 0) ≡ not (list_any (λ h. h.port == n) (map handle_state hs))
-counted n [] = refl
-counted n (h ∷ hs) = step (h.port == n) (counted n hs)
-  where
-    step : (b : Bool) → (length (filter (λ h. h.port == n) hs) == 0) ≡ not (list_any (λ h. h.port == n) (map handle_state hs))
-        → (length (if b then h ∷ filter (λ h. h.port == n) hs else filter (λ h. h.port == n) hs) == 0)
-        ≡ not (b || list_any (λ h. h.port == n) (map handle_state hs))
-    step true rest = not_none (length (filter (λ h. h.port == n) hs)) ((suc (length (filter (λ h. h.port == n) hs))) == 0) refl
-    step false rest = rest
 
 info_is : (ports : List PortState) (n : ℕ) (info : PortInfo) → Some info ≡ info_in ports n → (p : PortState) × (port_in ports n ≡ Some p) × (info.held ≡ p.held)
 info_is ports n info e = step (port_in ports n) refl e
@@ -47,11 +30,11 @@ info_none ports n e = step (port_in ports n) refl e
 
 module _ (t : HubTables) (n : ℕ) (order : AreInOrder t) where
   -- of a connected port
-  pub told_of_port : (info : PortInfo) (hs : List Entry) → Some info ≡ info_in t.ports n → map handle_state hs ≡ t.handles
-      → (not info.held && (length (filter (λ h. h.port == n) hs) == 0)) ≡ is_unused t n
-  told_of_port info hs found all =
+  pub told : (info : PortInfo) (any free : Bool) → Some info ≡ info_in t.ports n → any ≡ list_any (λ h. h.port == n) t.handles
+      → not info.held ≡ free → (free && not any) ≡ is_unused t n
+  told info any free found is held =
       let p = info_is t.ports n info found in
-      ap₂ (λ (a b : Bool). not a && b) p.2 (counted n hs ∙ ap (λ ks. not (list_any (λ h. h.port == n) ks)) all)
+      ap₂ (λ (a b : Bool). a && not b) (sym held ∙ ap not p.2) is
       ∙ sym (unused_is_told t n p.0 p.1 (names_apart t order) (at_home t order))
 
   -- of one whose own value is there
@@ -87,9 +70,3 @@ module _ (t : HubTables) (n : ℕ) (order : AreInOrder t) where
       handles [] a = refl
       handles (h ∷ hs) a =
           ap₂ (λ (b c : Bool). b || c) (and_false (h.node == _) (h.port == n) (other h a.0 (h.port == n) refl)) (handles hs a.1)
-
-  -- the same, with what code has found out
-  pub told : (info : PortInfo) (hs : List Entry) (count : ℕ) (free : Bool) → Some info ≡ info_in t.ports n → map handle_state hs ≡ t.handles
-      → count ≡ length (filter (λ h. h.port == n) hs) → not info.held ≡ free → (free && (count == 0)) ≡ is_unused t n
-  told info hs count free found all is held =
-      ap₂ (λ (b : Bool) (k : ℕ). b && (k == 0)) (sym held) is ∙ told_of_port info hs found all

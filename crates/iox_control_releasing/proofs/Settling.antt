@@ -1,12 +1,10 @@
 -- Step by step slots get fewer holders: what is left once all is let go stays the same.
-use Rattle.std.specs.Prelude.{◌≡◌, ℕ, ◌+◌, ◌-◌, zero, suc, List, [], ◌∷◌, map, Option, Some, None, slice_get, slice_set, refl}
-use Rattle.std.specs.Option.{option_map, option_map_or}
+use Rattle.std.specs.Prelude.{◌≡◌, ℕ, ◌+◌, ◌-◌, List, Option, refl}
 use Rattle.std.proofs.Common.{sym, ap, subst, ◌∙◌, arith}
-use Rattle.std.proofs.lemmas.Option.{same_Some}
-use Rattle.iox_tables.specs.HubStates.Tables.{PoolState, SlotState, slot_at}
-use Rattle.iox_tables.specs.HubBooks.Keeps.{bare_pool, bare_pools, bare_slot}
+use Rattle.iox_tables.specs.HubStates.Tables.{PoolState, slot_at}
+use Rattle.iox_tables.specs.HubBooks.Keeps.{bare_pools}
 use Rattle.iox_slots.specs.Pools.{with_slot}
-use Rattle.iox_slots.specs.Slots.{let_go, with_slot_of}
+use Rattle.iox_slots.specs.Slots.{let_go}
 use Rattle.iox_slots.proofs.CallerLemmas.{holders_let_go, one_at}
 use Rattle.iox_control.specs.Controls.{ControlState, with_pools}
 use Rattle.iox_control_releasing.specs.LettingGo.{LetsGo}

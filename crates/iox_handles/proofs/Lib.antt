@@ -6,3 +6,5 @@ pub mod SoundLemmas
 pub mod CountLemmas
 pub mod NodeLemmas
 pub mod LeastLemmas
+pub mod AnyLemmas
+pub mod ListLemmas

@@ -23,6 +23,16 @@ abbrev pub number_for : ℕ → Option Entry → Option ℕ
 number_for node None = None
 number_for node (Some h) = if h.node == node then Some h.number else None
 
+-- a number or none, as a list
+abbrev pub number_list : Option ℕ → List ℕ
+number_list None = []
+number_list (Some n) = n ∷ []
+
+-- the numbers of the node's handles, place by place
+abbrev pub numbers_in : ℕ → List (Option Entry) → List ℕ
+numbers_in node [] = []
+numbers_in node (o ∷ ps) = number_list (number_for node o) ++ numbers_in node ps
+
 -- the least number of the node's handles
 abbrev pub least_in : ℕ → List (Option Entry) → Option ℕ
 least_in node [] = None

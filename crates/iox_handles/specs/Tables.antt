@@ -1,5 +1,6 @@
 -- The handles of a hub, as callers see them: a list by number, which is oldest first.
 use Rattle.std.specs.Prelude.{◌≡◌, ℕ, ◌+◌, ◌-◌, ◌≤◌, ◌==◌, ◌&&◌, Bool, not, if◌then◌else◌, List, [], ◌∷◌, ◌++◌, Option, Some, None, filter, find, length, map}
+use Rattle.std.specs.List.{list_any}
 use Rattle.std.specs.Option.{option_and_then}
 use Rattle.iox_model.specs.declared.kind.Kind.{Kind}
 use Rattle.iox_model.specs.Handles.{same_kind}
@@ -43,6 +44,14 @@ is_of port kind h = (h.port == port) && same_kind h.kind kind
 -- how many handles of that kind a port has
 abbrev pub count_of : Contents → ℕ → Kind → ℕ
 count_of table port kind = length (filter (is_of port kind) table.handles)
+
+-- whether it is a handle of that port
+abbrev pub has_port : ℕ → Entry → Bool
+has_port port h = h.port == port
+
+-- whether a port has a handle
+abbrev pub has_any : Contents → ℕ → Bool
+has_any table port = list_any (has_port port) table.handles
 
 -- one handle more, newer than all others
 abbrev pub added : Contents → Entry → Contents

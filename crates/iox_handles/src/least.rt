@@ -19,7 +19,7 @@ pub fn lesser(first: Option<u64>, second: Option<u64>) -> Option<u64>
 
 /// The number of the handle that is there, if it is of that node.
 #[inline]
-fn number_for(place: Option<Entry>, node: u64) -> Option<u64>
+pub fn number_for(place: Option<Entry>, node: u64) -> Option<u64>
     ensures { result ≡ number_for node place }
 {
     match place {

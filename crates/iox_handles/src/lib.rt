@@ -5,10 +5,12 @@
 mod entry;
 mod entry_test;
 mod least;
+mod numbered;
 mod places;
 mod table;
 
 pub use entry::Entry;
 pub use entry_test::EntryTest;
 pub use least::lesser;
+pub use numbered::Numbered;
 pub use table::Table;

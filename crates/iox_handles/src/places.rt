@@ -1,7 +1,8 @@
 //! How a table is searched.
-ghost use Rattle.std.specs.Prelude.{◌≡◌, IfSome, None, count_by, position, true};
+ghost use Rattle.std.specs.List.{list_any};
+ghost use Rattle.std.specs.Prelude.{◌≡◌, IfSome, None, count_by, is_some, position, true};
 ghost use Rattle.iox_handles.specs.Places.{has_at, in_places, is_numbered, passes};
-ghost use Rattle.iox_handles.specs.Tables.{is_of};
+ghost use Rattle.iox_handles.specs.Tables.{has_port, is_of};
 ghost use Rattle.iox_model.specs.Handles.{kind_code, same_kind};
 
 use crate::entry::Entry;
@@ -56,6 +57,46 @@ fn first_of(places: &[Option<Entry>], number: u64) -> Option<usize>
     ensures { result ≡ position (is_numbered number) places.now }
 {
     places.iter().position(|place| is_handle(*place, number))
+}
+
+/// Whether there is a handle of that port.
+#[inline]
+fn is_of_port(place: Option<Entry>, port: u64) -> bool
+    ensures { result ≡ passes (has_port port) place }
+{
+    match place {
+        Some(entry) => entry.port == port,
+        None => false,
+    }
+}
+
+/// The first place from that one on with a handle of that port.
+fn next_of_port(places: &[Option<Entry>], port: u64, from: usize) -> Option<usize>
+    ensures { IfSome result (λ _. list_any (passes (has_port port)) places.now ≡ true) }
+{
+    for place in from..places.len() {
+        if is_of_port(places[place], port) {
+            return Some(place);
+        }
+    }
+    None
+}
+
+/// The first place with a handle of that port.
+fn first_of_port(places: &[Option<Entry>], port: u64) -> Option<usize>
+    ensures { result ≡ position (passes (has_port port)) places.now }
+{
+    places.iter().position(|place| is_of_port(*place, port))
+}
+
+/// A place with a handle of that port: the first from the hint on, or else the first of all.
+pub fn place_of_port(places: &[Option<Entry>], port: u64, hint: usize) -> Option<usize>
+    ensures { is_some result ≡ list_any (passes (has_port port)) places.now }
+{
+    if let Some(place) = next_of_port(places, port, hint) {
+        return Some(place);
+    }
+    first_of_port(places, port)
 }
 
 /// Whether two kinds are one.

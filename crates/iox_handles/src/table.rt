@@ -1,12 +1,14 @@
 //! The table of a hub's handles.
-ghost use Rattle.std.specs.Prelude.{◌≡◌, ◌<◌, ◌≤◌, ◌+◌, ◌-◌, ◌%◌, ◌^◌, ◌==◌, if◌then◌else◌, IfOk, IsSome, None, OnErr, OnOk, Some, filter, length, map};
+ghost use Rattle.std.specs.List.{Contains};
+ghost use Rattle.std.specs.Prelude.{ℕ, ◌≡◌, ◌↔◌, ◌<◌, ◌≤◌, ◌+◌, ◌-◌, ◌%◌, ◌^◌, ◌==◌, if◌then◌else◌, IfOk, IsSome, None, OnErr, OnOk, Some, filter, length, map};
 ghost use Rattle.iox_handles.specs.Least.{least};
-ghost use Rattle.iox_handles.specs.Tables.{IsSound, added, changed, count_of, handle_at, handle_of, handles_of, new_contents, removed};
+ghost use Rattle.iox_handles.specs.Tables.{IsSound, added, changed, count_of, handle_at, handle_of, handles_of, has_any, new_contents, removed};
 
 use crate::entry::Entry;
 use crate::entry_test::EntryTest;
 use crate::least::least_in;
-use crate::places::{count_if_in, count_in, place_of};
+use crate::numbered::{Numbered, list_in};
+use crate::places::{count_if_in, count_in, place_of, place_of_port};
 use iox_model::kind::Kind;
 use std::alloc::{AllocError, Global};
 use std::marker::Model;
@@ -31,6 +33,8 @@ pub struct Table {
     // By remainders of their numbers, where handles are likely to be: of two with one remainder,
     // where the first of them is.
     likely: [usize; REMAINDERS],
+    // By remainders of ports' numbers, where a handle of the port was found last.
+    found: [usize; REMAINDERS],
 }
 
 impl Model for Table {
@@ -93,6 +97,7 @@ impl Table {
             room,
             next: 0,
             likely: [NOWHERE; REMAINDERS],
+            found: [0; REMAINDERS],
         })
     }
 
@@ -245,6 +250,33 @@ impl Table {
         ensures { result ≡ length (filter (T.passes test.now) self.now.handles) }
     {
         count_if_in(&self.places, test)
+    }
+
+    /// Whether that port has a handle. It looks where one of the port was found last, then at the
+    /// places behind that, and then at all: where the handles of a port go one after another, and
+    /// this is asked after each, it looks at each place a few times in all.
+    pub fn has_any(&mut self, port: u64) -> bool
+        ensures told { result ≡ has_any self.old port }
+        ensures unchanged { self.new ≡ self.old }
+    {
+        let at = remainder(port);
+        let Some(place) = place_of_port(&self.places, port, self.found[at]) else {
+            return false;
+        };
+        self.found[at] = place;
+        true
+    }
+
+    /// The numbers of the node's handles, each with the place where the handle is. It looks at each
+    /// place once, and fails only for want of memory.
+    pub fn list_of(&self, node: u64, alloc: Global) -> Result<Vec<Numbered>, AllocError>
+        ensures listed { IfOk result (λ list. (k : ℕ)
+            → Contains (map (λ v. v.number) list.items) k ↔ IsSome (handle_of self.now node k)) }
+        ensures each { IfOk result (λ list. length list.items
+            ≡ length (handles_of self.now node)) }
+        ensures sound { IsSound self.now }
+    {
+        list_in(&self.places, node, alloc)
     }
 
     /// The least number of the node's handles. It looks at all places.

@@ -26,7 +26,7 @@ first-ascending (n ∷ ns) = first-insert n (ascending ns) ∙ ap (lesser (Some 
 
 -- ---- the same members
 
-above_all : (n k : ℕ) (ns : List ℕ) → list_all (nat_lt n) ns ≡ true → IsAmong k ns → n < k
+pub above_all : (n k : ℕ) (ns : List ℕ) → list_all (nat_lt n) ns ≡ true → IsAmong k ns → n < k
 above_all n k (m ∷ ms) e (inl same) =
     let less = ltb-true n m (split (nat_lt n m) (list_all (nat_lt n) ms) e).0 in omega (arith, less, same)
 above_all n k (m ∷ ms) e (inr among) = above_all n k ms (split (nat_lt n m) (list_all (nat_lt n) ms) e).1 among

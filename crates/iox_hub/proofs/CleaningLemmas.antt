@@ -32,6 +32,7 @@ use Rattle.iox_tables.specs.HubBooks.Handles.{IsOfPort}
 use Rattle.iox_tables.proofs.HubBooks.Used.{handle_is}
 use Rattle.iox_tables.specs.HubLoans.Questions.{kind_in}
 use Rattle.iox_tables.specs.HubBooks.Hubs.{AreInOrder}
+use Rattle.iox_hub.specs.Cleaning.{LeadsOn}
 use Rattle.iox_hub.specs.Hubs.{HubState, IsHub, IsReached, given_by, state_of_hub, with_control}
 use Rattle.iox_hub.specs.Reads.{HasOf}
 use Rattle.iox_hub.specs.Sending.{HasNothing, is_handle, with_words_left}
@@ -115,7 +116,7 @@ some_first r [] e = ap (λ o. is_some o) e
 some_first r (n ∷ ns) e = ap (λ o. is_some o) e
 
 -- the numbers are the same whatever there is besides
-numbers_alike : (x y : Given) (h : HubState) (node : ℕ) → numbers_of_node (state_of_hub x h).fixed node ≡ numbers_of_node (state_of_hub y h).fixed node
+pub numbers_alike : (x y : Given) (h : HubState) (node : ℕ) → numbers_of_node (state_of_hub x h).fixed node ≡ numbers_of_node (state_of_hub y h).fixed node
 numbers_alike x y h node = numbers_are x h node ∙ sym (numbers_are y h node)
 
 -- the first number is that of a value
@@ -197,12 +198,6 @@ pub has_of : (test : Kind → Bool) (h : HubState) (node n : ℕ) (kind : Kind) 
 has_of test h node n kind is passes = ap (λ o. option_map_or test o false) is ∙ passes
 
 -- ---- one after another
-
--- What releases of all that is left lead to, those of all that was there lead to.
-abbrev pub LeadsOn : HubState → HubState → ℕ → Type 0
-LeadsOn first now node =
-    (x : Given) (t : State) → Releases (state_of_hub x now) node (numbers_of_node (state_of_hub x now).fixed node) t
-    → Releases (state_of_hub x first) node (numbers_of_node (state_of_hub x first).fixed node) t
 
 pub one_leads_on : (first old new : HubState) (node n : ℕ) → LeadsOn first old node
     → ((x : Given) → Some n ≡ first_of (numbers_of_node (state_of_hub x old).fixed node))

@@ -31,7 +31,7 @@ use Rattle.iox_control_request_copies.specs.declared.copied.Copied.TheVariants.{
 use Rattle.iox_control_request_copies.specs.Copies.{AreFailuresOf, Copies, IsLentAndSent, IsLost, given_after_copy, handle_of_loan, loan_of, reply_of_copy, to_fill}
 use Rattle.iox_hub.specs.Copying.{HasCopied, IsAwaited, LeavesCopied, asked_of_copy, copied_stored, hub_with_copies}
 use Rattle.iox_hub.specs.Fits.{SuitsHandle, WordsFit, are_requests_in, count_in, longest_in}
-use Rattle.iox_hub.specs.Hubs.{HubState, IsHub, given_by, state_of_hub, with_control}
+use Rattle.iox_hub.specs.Hubs.{HubState, IsHub, given_by, many_in, state_of_hub, with_control}
 use Rattle.iox_hub.specs.Lending.{payload_of, with_message}
 use Rattle.iox_hub.specs.Reads.{message_in}
 use Rattle.iox_hub.specs.Words.{Carried, stored_in}
@@ -140,7 +140,7 @@ module _ {h : HubState} (hub : IsHub h) (k : ℕ) (ws : List ℕ) (node n : ℕ)
       abbrev h' : HubState
       h' = record h { control = new; words = words }
 
-      mid_fits : WordsFit h.words mid.tables
+      mid_fits : WordsFit (many_in h) h.words mid.tables
       mid_fits = back_fits h.words h.control mid hub.words hub.control.order n p c.client.there sent.lent.back
 
       mid_order : AreInOrder mid.tables
@@ -152,10 +152,10 @@ module _ {h : HubState} (hub : IsHub h) (k : ℕ) (ws : List ℕ) (node n : ℕ)
       lent_tables : with_loaned mid.tables its false k place.slot ≡ loaned.tables
       lent_tables = ap (λ (d : ControlState). d.tables) (sym sent.lent.made.left)
 
-      lent_words : WordsFit us loaned.tables
+      lent_words : WordsFit (many_in h) us loaned.tables
       lent_words =
-          subst (λ q. WordsFit (with_message h.words q place.slot z) loaned.tables) (sym sent.lent.made.pool)
-          (subst (WordsFit (with_message h.words p.pool place.slot z)) lent_tables
+          subst (λ q. WordsFit (many_in h) (with_message h.words q place.slot z) loaned.tables) (sym sent.lent.made.pool)
+          (subst (WordsFit (many_in h) (with_message h.words p.pool place.slot z)) lent_tables
           (loan_fits h.words mid.tables mid_fits mid_order n its mid_there false k place.slot sent.lent.made.within sent.lent.made.free z refl (λ e. refl)))
 
       lent_unread : OfEachHandle (IsNoUnfilled place.pool place.slot) loaned.tables.handles
@@ -181,9 +181,9 @@ module _ {h : HubState} (hub : IsHub h) (k : ℕ) (ws : List ℕ) (node n : ℕ)
         full = λ e. absurd (true≢false (sym e));
       }
 
-      fits : WordsFit words new.tables
+      fits : WordsFit (many_in h) words new.tables
       fits =
-          subst (λ (vs : List (Option Carried)). WordsFit vs new.tables) (sym put)
+          subst (λ (vs : List (Option Carried)). WordsFit (many_in h) vs new.tables) (sym put)
           (fits_on us loaned.tables lent_words new.tables
           (subst (λ (u : HubTables). AreAlike loaned.tables.ports u.ports) (sym tables) (request_alike loaned.tables handle overflow))
           sent.delivered.same
@@ -250,9 +250,9 @@ module _ {h : HubState} (hub : IsHub h) (k : ℕ) (ws : List ℕ) (node n : ℕ)
   other_whole ExceedsMaxActiveRequests never c = c.whole
   other_whole UnableToDeliver never c = c.whole
 
-  lost_fits_then : (client : IsClient h.control.tables node n) → IsLost h.control client.port a new → WordsFit h.words new.tables
+  lost_fits_then : (client : IsClient h.control.tables node n) → IsLost h.control client.port a new → WordsFit (many_in h) h.words new.tables
   lost_fits_then client is =
-      subst (λ (d : ControlState). WordsFit h.words d.tables) (sym is.left)
+      subst (λ (d : ControlState). WordsFit (many_in h) h.words d.tables) (sym is.left)
       (lost_fits h.words true is.between.tables client.port.number
       (back_fits h.words h.control is.between hub.words hub.control.order n client.port client.there is.back))
 

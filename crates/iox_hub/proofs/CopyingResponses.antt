@@ -28,7 +28,7 @@ use Rattle.iox_control_lending.specs.Lends.{IsAskedOf, IsLoaned, lane_by, on_lan
 use Rattle.iox_control_request_copies.specs.Responses.{IsFailure, way_to_client}
 use Rattle.iox_hub.specs.Copying.{LeavesAnswered, asked_of_copy, copied_stored, hub_with_copies, place_of}
 use Rattle.iox_hub.specs.Fits.{WordsFit, are_requests_in, count_in, longest_in}
-use Rattle.iox_hub.specs.Hubs.{HubState, IsHub, given_by, state_of_hub, with_control}
+use Rattle.iox_hub.specs.Hubs.{HubState, IsHub, given_by, many_in, state_of_hub, with_control}
 use Rattle.iox_hub.specs.Lending.{payload_of, with_message}
 use Rattle.iox_hub.specs.Words.{Carried, stored_in}
 use Rattle.iox_hub.proofs.CopyingWords.{line_fits, lost_fits, none_there}
@@ -142,7 +142,7 @@ module _ {h : HubState} (hub : IsHub h) (k : ℕ) (ws : List ℕ) (node n : ℕ)
       abbrev h' : HubState
       h' = record h { control = new; words = words }
 
-      mid_fits : WordsFit h.words mid.tables
+      mid_fits : WordsFit (many_in h) h.words mid.tables
       mid_fits = back_fits h.words h.control mid hub.words hub.control.order c.active.handle.port y.port c.active.there line.may.back
 
       mid_order : AreInOrder mid.tables
@@ -151,10 +151,10 @@ module _ {h : HubState} (hub : IsHub h) (k : ℕ) (ws : List ℕ) (node n : ℕ)
       tables : new.tables ≡ record (with_copy_sent mid.tables y k place.slot) { pools = new.tables.pools }
       tables = ap (λ (d : ControlState). d.tables) line.left
 
-      fits : WordsFit words new.tables
+      fits : WordsFit (many_in h) words new.tables
       fits =
-          subst (λ (us : List (Option Carried)). WordsFit us new.tables) (sym put)
-          (subst (λ p. WordsFit (with_message h.words p place.slot z) new.tables) (sym line.pool)
+          subst (λ (us : List (Option Carried)). WordsFit (many_in h) us new.tables) (sym put)
+          (subst (λ p. WordsFit (many_in h) (with_message h.words p place.slot z) new.tables) (sym line.pool)
           (line_fits h.words mid.tables mid_fits mid_order y k place.slot line.may.may z refl new.tables tables line.handed.same))
 
       unread : OfEachHandle (IsNoUnfilled place.pool place.slot) new.tables.handles
@@ -234,9 +234,9 @@ module _ {h : HubState} (hub : IsHub h) (k : ℕ) (ws : List ℕ) (node n : ℕ)
   other_whole OutOfMemory never c = c.whole
   other_whole Undelivered never c = c.whole
 
-  lost_fits_then : (y : Lender) (port : ℕ) → port_in h.control.tables.ports port ≡ Some y.port → (fails : Bool) → IsLost h.control y a fails new → WordsFit h.words new.tables
+  lost_fits_then : (y : Lender) (port : ℕ) → port_in h.control.tables.ports port ≡ Some y.port → (fails : Bool) → IsLost h.control y a fails new → WordsFit (many_in h) h.words new.tables
   lost_fits_then y port there fails is =
-      subst (λ (d : ControlState). WordsFit h.words d.tables) (sym is.left)
+      subst (λ (d : ControlState). WordsFit (many_in h) h.words d.tables) (sym is.left)
       (lost_fits h.words fails is.between.tables y.port.number
       (back_fits h.words h.control is.between hub.words hub.control.order port y.port there is.may.back))
 

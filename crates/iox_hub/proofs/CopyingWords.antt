@@ -25,7 +25,7 @@ use Rattle.iox_hub.specs.Fits.{WordsFit, are_requests_in, count_in, longest_in}
 use Rattle.iox_hub.specs.Lending.{IsAskedFor, with_message}
 use Rattle.iox_hub.specs.Shapes.{shape_of}
 use Rattle.iox_hub.specs.Words.{Carried}
-use Rattle.iox_hub.proofs.Fitting.{fits_on}
+use Rattle.iox_hub.proofs.Fitting.{fits_on, one_as}
 use Rattle.iox_hub.proofs.LendingFits.{each_suits_else, fits_message, ports_stay}
 use Rattle.iox_hub.proofs.LendingGiven.{IsNoUnfilled}
 use Rattle.iox_hub.proofs.LendingMade.{lenders_were_there, no_others, put_counts, slot_has_words}
@@ -61,18 +61,18 @@ copied_is old lent new slot k user ws low is then =
 
 -- ---- counts
 
-module _ (words : List (Option Carried)) where
-  called_fits : (t : HubTables) → WordsFit words t → WordsFit words (with_call t)
+module _ {many : Bool × Bool} (words : List (Option Carried)) where
+  called_fits : (t : HubTables) → WordsFit many words t → WordsFit many words (with_call t)
   called_fits t fit = record {
     pools = fit.pools;
     elements = fit.elements;
     ports = fit.ports;
     longest = fit.longest;
-    none_grow = fit.none_grow;
+    one = fit.one;
     handles = fit.handles;
   }
 
-  lent_fits : (t : HubTables) (n : ℕ) → WordsFit words t → WordsFit words (with_loan t n)
+  lent_fits : (t : HubTables) (n : ℕ) → WordsFit many words t → WordsFit many words (with_loan t n)
   lent_fits t n fit = record {
     pools = fit.pools;
     elements = fit.elements;
@@ -84,18 +84,18 @@ module _ (words : List (Option Carried)) where
         let below : q.0.longest ≤ longest_in words q.0.pool = fit.longest m q.0 q.1 in
         let there : longest_in words q.0.pool ≡ longest_in words p.pool = ap (longest_in words) q.2.pool in
         let length_is = q.2.longest in omega (arith, below, there, length_is);
-    none_grow = λ m p at. let q = lenders_were_there t.ports n m p at in sym q.2.grows ∙ fit.none_grow m q.0 q.1;
+    one = λ m p at. let q = lenders_were_there t.ports n m p at in one_as many q.0 p q.2.role q.2.longest q.2.grows (fit.one m q.0 q.1);
     handles = fit.handles;
   }
 
   -- a copy that nobody gets is only counted
-  pub lost_fits : (fails : Bool) (t : HubTables) (n : ℕ) → WordsFit words t → WordsFit words (with_copy_lost fails t n)
+  pub lost_fits : (fails : Bool) (t : HubTables) (n : ℕ) → WordsFit many words t → WordsFit many words (with_copy_lost fails t n)
   lost_fits true t n fit = called_fits (with_loan t n) (lent_fits t n fit)
   lost_fits false t n fit = called_fits (with_call (with_loan t n)) (called_fits (with_loan t n) (lent_fits t n fit))
 
 -- ---- a response in line
 
-module _ (words : List (Option Carried)) (t : HubTables) (fit : WordsFit words t) (order : AreInOrder t) (y : Lender) (k slot : ℕ) (may : MayLend t y slot) where
+module _ {many : Bool × Bool} (words : List (Option Carried)) (t : HubTables) (fit : WordsFit many words t) (order : AreInOrder t) (y : Lender) (k slot : ℕ) (may : MayLend t y slot) where
   abbrev lent : HubTables
   lent = with_loaned_slot t y k slot
 
@@ -113,7 +113,7 @@ module _ (words : List (Option Carried)) (t : HubTables) (fit : WordsFit words t
     abbrev put : List (Option Carried)
     put = with_message words y.port.pool slot z
 
-    put_fits : WordsFit put lent
+    put_fits : WordsFit many put lent
     put_fits =
         fits_message words y.port.pool slot z t lent fit has_words
         (put_counts t.pools y.port.pool slot (loaned_slot y k))
@@ -125,9 +125,9 @@ module _ (words : List (Option Carried)) (t : HubTables) (fit : WordsFit words t
     abbrev in_line : List (Option PoolState) → HubTables
     in_line pools = record (with_lanes (delivers t.settings.response_overflow slot) lent (way_of y ∷ [])) { pools = pools }
 
-    pub line_fits : (new : HubTables) → new ≡ record (with_copy_sent t y k slot) { pools = new.pools } → bare_pools lent.pools ≡ bare_pools new.pools → WordsFit put new
+    pub line_fits : (new : HubTables) → new ≡ record (with_copy_sent t y k slot) { pools = new.pools } → bare_pools lent.pools ≡ bare_pools new.pools → WordsFit many put new
     line_fits new is same =
-        subst (WordsFit put) (sym is)
+        subst (WordsFit many put) (sym is)
         (lost_fits put false (in_line new.pools) y.port.number
         (fits_on put lent put_fits (in_line new.pools)
         (lanes_on_bare (delivers t.settings.response_overflow slot) (gives_bare t.settings.response_overflow slot) lent.ports (way_of y ∷ []))

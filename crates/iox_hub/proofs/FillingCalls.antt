@@ -29,7 +29,7 @@ use Rattle.iox_control_lending.specs.declared.asked.Place.{Place}
 use Rattle.iox_control_lending.specs.Fills.{IsLoan, kind_after, place_of}
 use Rattle.iox_hub.specs.Fillings.{FillsLoan, IsFill, SuitsShape, filling_of, with_filling}
 use Rattle.iox_hub.specs.Fits.{SuitsHandle, WordsFit, are_requests_in, carried_in, count_in, is_full_loan}
-use Rattle.iox_hub.specs.Hubs.{HubState, IsHub, given_by, state_of_hub}
+use Rattle.iox_hub.specs.Hubs.{HubState, IsHub, given_by, many_in, state_of_hub}
 use Rattle.iox_hub.specs.Lending.{with_message}
 use Rattle.iox_hub.specs.Making.{shape_in}
 use Rattle.iox_hub.specs.Reads.{HasOf, message_in}
@@ -44,7 +44,7 @@ use Rattle.iox_hub.proofs.Named.{found_is_handle, handle_is_value}
 use Rattle.iox_hub.proofs.Reading.{are_requests_same, carried_same, count_same, has_slot, stored_is}
 
 -- A filling leads to a hub.
-pub hub_is_filled : (h h' : HubState) (node n : ℕ) (w : Filling) → IsHub h → IsControl h'.control → WordsFit h'.words h'.control.tables
+pub hub_is_filled : (h h' : HubState) (node n : ℕ) (w : Filling) → IsHub h → IsControl h'.control → WordsFit (many_in h') h'.words h'.control.tables
     → ((x : Given) → IsFilling (state_of_hub x h) node n w (state_of_hub x h')) → IsHub h'
 hub_is_filled h h' node n w hub order fit filling =
     let (x, reached) = hub.reached in record {
@@ -190,10 +190,10 @@ module _ {h : HubState} {role : Role} {node n : ℕ} {all : Bool} {new : Control
     each_else [] so = tt
     each_else (j ∷ js) so = (λ other. suits_else h.words k.pool k.slot z j other so.0, each_else js so.1)
 
-    pub fill_fits : WordsFit words new.tables
+    pub fill_fits : WordsFit (many_in h) words new.tables
     fill_fits =
-        subst (λ (ws : List (Option Carried)). WordsFit ws new.tables) (sym put_here)
-        (subst (λ (d : ControlState). WordsFit (with_message h.words k.pool k.slot z) d.tables) (sym left)
+        subst (λ (ws : List (Option Carried)). WordsFit (many_in h) ws new.tables) (sym put_here)
+        (subst (λ (d : ControlState). WordsFit (many_in h) (with_message h.words k.pool k.slot z) d.tables) (sym left)
         (fits_message h.words k.pool k.slot z t (with_kind t k kind) hub.words (loan_within role hub node n c.loan) (λ place. refl)
         (same_elements ∙ loan_elements role hub node n c.loan) (λ p j other. refl) (ports_stay t.ports)
         (each_changed_alone has node n k itself (SuitsHandle (with_message h.words k.pool k.slot z)) turned named.0 named.1 turned_suits

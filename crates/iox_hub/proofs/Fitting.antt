@@ -1,5 +1,5 @@
 -- Words go on fitting the tables of a hub.
-use Rattle.std.specs.Prelude.{◌≡◌, ℕ, zero, suc, ◌<◌, ◌≤◌, false, if◌then◌else◌, List, [], ◌∷◌, ◌++◌, length, map, Option, Some, None, slice_get, refl, ⊤}
+use Rattle.std.specs.Prelude.{◌≡◌, ℕ, zero, suc, ◌<◌, ◌≤◌, Bool, false, if◌then◌else◌, List, [], ◌∷◌, ◌++◌, length, map, Option, Some, None, slice_get, refl, ⊤}
 use Rattle.std.specs.Option.{option_map, option_map_or}
 use Rattle.std.proofs.Common.{sym, ap, subst, ◌∙◌, arith, true≢false}
 use Rattle.std.proofs.lemmas.Option.{none-some}
@@ -34,7 +34,7 @@ use Rattle.iox_tables.proofs.HubBooks.Sendable.{of_role}
 use Rattle.iox_tables.proofs.HubBooks.Structures.{same_slot}
 use Rattle.iox_tables.proofs.HubBooks.Visited.{GotFrom, got_is}
 use Rattle.iox_control.specs.Controls.{ControlState, IsButHolders, with_hint, with_tables}
-use Rattle.iox_hub.specs.Fits.{SuitsHandle, WordsFit, are_requests_in, count_in, is_full_loan, is_of_request, longest_in}
+use Rattle.iox_hub.specs.Fits.{IsOneIfItGrows, SuitsHandle, WordsFit, are_requests_in, count_in, is_full_loan, is_of_request, longest_in, many_by}
 use Rattle.iox_hub.specs.Words.{Carried}
 
 -- ---- pools that differ in holders have the same slots
@@ -65,8 +65,12 @@ same_count old new same place =
 
 -- ---- they go on fitting
 
-module _ (words : List (Option Carried)) (t : HubTables) (fit : WordsFit words t) where
-  pub fits_on : (t' : HubTables) → AreAlike t.ports t'.ports → bare_pools t.pools ≡ bare_pools t'.pools → OfEachHandle (SuitsHandle words) t'.handles → WordsFit words t'
+-- a port of the same role and greatest length that is told the same is no other
+pub one_as : (many : Bool × Bool) (q p : PortState) → q.role ≡ p.role → q.longest ≡ p.longest → q.grows ≡ p.grows → IsOneIfItGrows many q → IsOneIfItGrows many p
+one_as many q p role longest grows is e = let one = is (grows ∙ e) in (ap (many_by many) (sym role) ∙ one.0, sym longest ∙ one.1)
+
+module _ {many : Bool × Bool} (words : List (Option Carried)) (t : HubTables) (fit : WordsFit many words t) where
+  pub fits_on : (t' : HubTables) → AreAlike t.ports t'.ports → bare_pools t.pools ≡ bare_pools t'.pools → OfEachHandle (SuitsHandle words) t'.handles → WordsFit many words t'
   fits_on t' alike same handles = record {
     pools = λ place. let old = fit.pools place in let count = same_count t.pools t'.pools same place in omega (arith, old, count);
     elements = λ place k low.
@@ -78,9 +82,9 @@ module _ (words : List (Option Carried)) (t : HubTables) (fit : WordsFit words t
     longest = λ n p at.
         let q = port_before t.ports t'.ports alike n p at in
         subst (λ (z : PortState). z.longest ≤ longest_in words z.pool) q.2 (fit.longest n q.0 q.1);
-    none_grow = λ n p at.
+    one = λ n p at.
         let q = port_before t.ports t'.ports alike n p at in
-        subst (λ (z : PortState). z.grows ≡ false) q.2 (fit.none_grow n q.0 q.1);
+        subst (λ (z : PortState). IsOneIfItGrows many z) q.2 (fit.one n q.0 q.1);
     handles = handles;
   }
 
@@ -138,7 +142,7 @@ module _ (words : List (Option Carried)) (t : HubTables) (fit : WordsFit words t
         subst (λ o. GotFrom wanted (labels_of t.pools) lane (pipes_of p) (all_visits wanted (labels_of t.pools) lane (option_map_or pipes_of o []))) (sym there)
         (got_is wanted (labels_of t.pools) lane (pipes_of p) false (order.wired.each n p there).apart)
 
-    pub fits_received : (t' : HubTables) → IsButHolders (left (visits_at t n lane wanted)) t' → WordsFit words t'
+    pub fits_received : (t' : HubTables) → IsButHolders (left (visits_at t n lane wanted)) t' → WordsFit many words t'
     fits_received t' is =
         let v : Visits = visits_at t n lane wanted in
         fits_on t' (ap (λ (u : HubTables). bare_ports u.ports) is.same ∙ ap bare_ports (left_ports v) ∙ visits_bare wanted (labels_of t.pools) lane t.ports n)
@@ -147,35 +151,35 @@ module _ (words : List (Option Carried)) (t : HubTables) (fit : WordsFit words t
 
 -- ---- the calls
 
-module _ (words : List (Option Carried)) (t t' : HubTables) (fit : WordsFit words t) (order : AreInOrder t) (node n : ℕ) where
-  pub fits_request : IsServer t node n → IsButHolders (with_request t node n) t' → WordsFit words t'
+module _ {many : Bool × Bool} (words : List (Option Carried)) (t t' : HubTables) (fit : WordsFit many words t) (order : AreInOrder t) (node n : ℕ) where
+  pub fits_request : IsServer t node n → IsButHolders (with_request t node n) t' → WordsFit many words t'
   fits_request server is =
       fits_received words t fit order node n 0 server.port server.there Server server.server (wanted_by_server t.settings.fire_and_forget) t' is
 
-  pub fits_response : (pending : IsPending t node n) → IsButHolders (with_response t node pending.handle) t' → WordsFit words t'
+  pub fits_response : (pending : IsPending t node n) → IsButHolders (with_response t node pending.handle) t' → WordsFit many words t'
   fits_response pending is =
       let h : HandleState = pending.handle in
       let l : Label = labels_of t.pools h.pool h.slot in
       fits_received words t fit order node h.port l.lane pending.port pending.there Client pending.client (Of l.request) t' is
 
 -- request states alone are others
-pub fits_states : (words : List (Option Carried)) (t : HubTables) (g : RequestState → RequestState) (ws : List Way) → WordsFit words t → WordsFit words (with_states g t ws)
+pub fits_states : {many : Bool × Bool} (words : List (Option Carried)) (t : HubTables) (g : RequestState → RequestState) (ws : List Way) → WordsFit many words t → WordsFit many words (with_states g t ws)
 fits_states words t g ws fit = fits_on words t fit (with_states g t ws) (states_on_bare g t.ports ws) refl fit.handles
 
-pub fits_hint : (words : List (Option Carried)) (c d : ControlState) → WordsFit words c.tables → (node n : ℕ) → (pending : IsPending c.tables node n)
-    → ((h : HandleState) → handle_in c.tables.handles node n ≡ Some h → d ≡ with_tables c (with_hint c.tables h)) → WordsFit words d.tables
-fits_hint words c d fit node n pending is =
-    subst (λ (e : ControlState). WordsFit words e.tables) (sym (is pending.handle pending.named.there))
+pub fits_hint : {many : Bool × Bool} (words : List (Option Carried)) (c d : ControlState) → WordsFit many words c.tables → (node n : ℕ) → (pending : IsPending c.tables node n)
+    → ((h : HandleState) → handle_in c.tables.handles node n ≡ Some h → d ≡ with_tables c (with_hint c.tables h)) → WordsFit many words d.tables
+fits_hint {many} words c d fit node n pending is =
+    subst (λ (e : ControlState). WordsFit many words e.tables) (sym (is pending.handle pending.named.there))
     (fits_states words c.tables (λ r. hinted_for r (request_of c.tables pending.handle)) (pending_states c.tables pending.handle) fit)
 
 -- no pool, no port and no handle
-pub fits_none : (t : HubTables) → t.pools ≡ [] → t.ports ≡ [] → t.handles ≡ [] → (words : List (Option Carried)) → WordsFit words t
+pub fits_none : {many : Bool × Bool} (t : HubTables) → t.pools ≡ [] → t.ports ≡ [] → t.handles ≡ [] → (words : List (Option Carried)) → WordsFit many words t
 fits_none t pools ports handles words = record {
   pools = λ place. subst (λ (ps : List (Option PoolState)). length (slots_of ps place) ≤ count_in words place) (sym pools) (omega arith);
   elements = λ place k low. absurd (none place k low);
   ports = λ n p at. absurd (missing n p at);
   longest = λ n p at. absurd (missing n p at);
-  none_grow = λ n p at. absurd (missing n p at);
+  one = λ n p at. absurd (missing n p at);
   handles = subst (λ (hs : List HandleState). OfEachHandle (SuitsHandle words) hs) (sym handles) tt;
 }
   where

@@ -7,13 +7,13 @@ use Rattle.iox_laws.proofs.WeaveWorlds.Inductions.{step_is_reached}
 use Rattle.iox_tables.specs.HubStates.States.{Given, state_shown}
 use Rattle.iox_control.specs.Controls.{ControlState, IsControl}
 use Rattle.iox_hub.specs.Fits.{WordsFit}
-use Rattle.iox_hub.specs.Hubs.{HubState, IsHub, given_by, state_of_hub, with_control}
+use Rattle.iox_hub.specs.Hubs.{HubState, IsHub, given_by, many_in, state_of_hub, with_control}
 
 module _ (h : HubState) (c : ControlState) (node : ℕ) (call : Call) (reply : Reply) where
   abbrev pub IsWhole : Type 0
   IsWhole = (x : Given) → IsWholeCall (state_shown x h.control.tables) node call reply (state_shown x c.tables)
 
-  pub hub_goes_on : IsHub h → IsControl c → WordsFit h.words c.tables → IsWhole → IsHub (with_control h c)
+  pub hub_goes_on : IsHub h → IsControl c → WordsFit (many_in h) h.words c.tables → IsWhole → IsHub (with_control h c)
   hub_goes_on hub order fit whole =
       let (x, reached) = hub.reached in record {
         control = order;

@@ -11,6 +11,7 @@ use Rattle.iox_tables.proofs.HubLoans.Placed.{or_false}
 use Rattle.iox_hub.specs.Fits.{SuitsHandle, WordsFit, are_requests_in, count_in, is_full_loan, is_of_request, longest_in}
 use Rattle.iox_hub.specs.Lending.{with_message}
 use Rattle.iox_hub.specs.Words.{Carried, stored_in}
+use Rattle.iox_hub.proofs.Fitting.{one_as}
 use Rattle.iox_hub.proofs.LendingWords.{count_new, longest_new, requests_new, stored_else, stored_new}
 
 -- it is of the same port, but for how many loans it made, and what comes to it
@@ -76,11 +77,11 @@ module _ (words : List (Option Carried)) (pool k : ℕ) (z : Stored) where
 
   -- ---- all
 
-  module _ (t t' : HubTables) (fit : WordsFit words t) (low : k < count_in words pool) where
+  module _ {many : Bool × Bool} (t t' : HubTables) (fit : WordsFit many words t) (low : k < count_in words pool) where
     pub fits_message : ((place : ℕ) → length (slots_of t'.pools place) ≡ length (slots_of t.pools place))
         → z.elements ≡ (slot_at t'.pools pool k).elements
         → ((p j : ℕ) → is_place pool k p j ≡ false → (slot_at t'.pools p j).elements ≡ (slot_at t.pools p j).elements)
-        → PortsWereThere t.ports t'.ports → OfEachHandle (SuitsHandle new) t'.handles → WordsFit new t'
+        → PortsWereThere t.ports t'.ports → OfEachHandle (SuitsHandle new) t'.handles → WordsFit many new t'
     fits_message counts here others ports handles = record {
       pools = λ place.
           let fits = fit.pools place in
@@ -96,7 +97,7 @@ module _ (words : List (Option Carried)) (pool k : ℕ) (z : Stored) where
           let there : longest_in words q.0.pool ≡ longest_in words p.pool = ap (longest_in words) q.2.pool in
           let same = longest_new words pool k z p.pool in
           let length_is = q.2.longest in omega (arith, below, there, same, length_is);
-      none_grow = λ n p at. let q = ports n p at in sym q.2.grows ∙ fit.none_grow n q.0 q.1;
+      one = λ n p at. let q = ports n p at in one_as many q.0 p q.2.role q.2.longest q.2.grows (fit.one n q.0 q.1);
       handles = handles;
     }
       where

@@ -13,7 +13,7 @@ use Rattle.iox_tables.proofs.HubStates.Ends.{free_slots_may_change}
 use Rattle.iox_tables.specs.HubLoans.Slots.{Contents, is_place, put_place, with_contents}
 use Rattle.iox_control.specs.Controls.{ControlState, IsControl}
 use Rattle.iox_hub.specs.Fits.{WordsFit, count_in}
-use Rattle.iox_hub.specs.Hubs.{HubState, IsHub, given_by, state_of_hub}
+use Rattle.iox_hub.specs.Hubs.{HubState, IsHub, given_by, many_in, state_of_hub}
 use Rattle.iox_hub.specs.Lending.{with_message}
 use Rattle.iox_hub.specs.Words.{stored_in}
 use Rattle.iox_hub.proofs.LendingWords.{stored_put}
@@ -83,7 +83,7 @@ module _ (h h' : HubState) (node : ℕ) (call : Call) (reply : Reply) where
   abbrev pub IsWholeOf : Type 0
   IsWholeOf = (x : Given) → IsWholeCall (state_of_hub x h) node call reply (state_of_hub x h')
 
-  pub hub_is_left : IsHub h → IsControl h'.control → WordsFit h'.words h'.control.tables → IsWholeOf → IsHub h'
+  pub hub_is_left : IsHub h → IsControl h'.control → WordsFit (many_in h') h'.words h'.control.tables → IsWholeOf → IsHub h'
   hub_is_left hub order fit whole =
       let (x, reached) = hub.reached in record {
         control = order;

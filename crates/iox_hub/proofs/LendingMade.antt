@@ -2,7 +2,7 @@
 use Rattle.std.specs.Prelude.{◌≡◌, ℕ, ◌+◌, ◌<◌, ◌≤◌, nat_le, Bool, true, false, not, ◌&&◌, ◌||◌, if◌then◌else◌, ◌==◌, List, [], ◌∷◌, length, Option, Some, None, refl}
 use Rattle.std.specs.List.{list_any}
 use Rattle.std.specs.Option.{option_map, option_map_or}
-use Rattle.std.proofs.Common.{sym, ap, ap₂, subst, ◌∙◌, arith, true≢false}
+use Rattle.std.proofs.Common.{sym, ap, ap₂, subst, ◌∙◌, arith, eqb-true, true≢false}
 use Rattle.std.proofs.lemmas.Bool.{leb-true}
 use Rattle.std.proofs.lemmas.List.{length-set}
 use Rattle.std.proofs.lemmas.Option.{none-some}
@@ -13,11 +13,11 @@ use Rattle.iox_model.specs.declared.reply.Refusal.TheVariants as refusals
 use Rattle.iox_model.specs.Commands.{Call, Refusal, Reply}
 use Rattle.iox_model.specs.Loans.{kind_of_loan}
 use Rattle.iox_model.specs.Maps.{or_else, refused_if}
-use Rattle.iox_model.specs.Settings.{Shape, has_layout, is_client, is_count}
+use Rattle.iox_model.specs.Settings.{Shape, has_layout, is_client, is_count, shape_of}
 use Rattle.iox_model.specs.WholeCalls.{IsWholeCall, default_payload, is_uninit}
 use Rattle.iox_tables.specs.HubStates.Changes.{emptied_lane}
 use Rattle.iox_tables.specs.HubStates.Ends.{OfEachHandle}
-use Rattle.iox_tables.specs.HubStates.States.{Given, state_shown}
+use Rattle.iox_tables.specs.HubStates.States.{Given, limits_of, state_shown}
 use Rattle.iox_tables.specs.HubStates.Tables.{HandleState, HubTables, PoolState, PortState, SlotState, first_by, pool_at, port_in, slot_at, slots_of}
 use Rattle.iox_tables.specs.HubStates.Ways.{with_port}
 use Rattle.iox_tables.specs.HubStates.Wirings.{handle_in}
@@ -36,8 +36,8 @@ use Rattle.iox_control.specs.Controls.{ControlState, IsControl}
 use Rattle.iox_control_lending.specs.declared.asked.Asked.{Asked}
 use Rattle.iox_control_lending.specs.declared.asked.Loaned.{Loaned}
 use Rattle.iox_control_lending.specs.Lends.{IsAskedOf, IsGotBack, IsLoaned, first_contents, on_lane}
-use Rattle.iox_hub.specs.Fits.{SuitsHandle, WordsFit, are_requests_in, count_in, is_full_loan, is_of_request, longest_in}
-use Rattle.iox_hub.specs.Hubs.{HubState, IsHub, given_by, state_of_hub}
+use Rattle.iox_hub.specs.Fits.{SuitsHandle, WordsFit, are_requests_in, count_in, is_full_loan, is_of_request, longest_in, many_by}
+use Rattle.iox_hub.specs.Hubs.{HubState, IsHub, given_by, many_in, state_of_hub}
 use Rattle.iox_hub.specs.Lending.{IsFresh, first_stored, with_message}
 use Rattle.iox_hub.specs.Reads.{message_in}
 use Rattle.iox_hub.specs.Words.{Carried, stored_in}
@@ -74,6 +74,11 @@ both_none None b e = (refl, e)
 not_refused : (b : Bool) (r : Refusal) → refused_if b r ≡ None → b ≡ false
 not_refused true r e = absurd (none-some r (sym e))
 not_refused false r e = refl
+
+counted_one : (many one : Bool) → not (many || one) ≡ false → many ≡ false → one ≡ true
+counted_one true one e few = absurd (true≢false few)
+counted_one false true e few = refl
+counted_one false false e few = absurd (true≢false e)
 
 short_enough : (grows fits layout : Bool) → not ((grows || fits) && layout) ≡ false → grows ≡ false → fits ≡ true
 short_enough true fits layout e none = absurd (true≢false none)
@@ -125,14 +130,14 @@ put_counts pools pool k slot place =
 
 -- ---- all is got back
 
-module _ (words : List (Option Carried)) (c d : ControlState) (fit : WordsFit words c.tables) (order : AreInOrder c.tables) (n : ℕ) (p : PortState)
+module _ {many : Bool × Bool} (words : List (Option Carried)) (c d : ControlState) (fit : WordsFit many words c.tables) (order : AreInOrder c.tables) (n : ℕ) (p : PortState)
     (there : port_in c.tables.ports n ≡ Some p) (got : IsGotBack c p d) where
   abbrev is_back : d.tables ≡ with_back c.tables p d.tables.pools
   is_back = ap (λ (e : ControlState). e.tables) got.left
 
-  pub back_fits : WordsFit words d.tables
+  pub back_fits : WordsFit many words d.tables
   back_fits =
-      subst (WordsFit words) (sym is_back)
+      subst (WordsFit many words) (sym is_back)
       (fits_on words c.tables fit (with_back c.tables p d.tables.pools)
       (lanes_on_bare emptied_lane (λ l. refl) c.tables.ports (ways_by p.role c.tables p.number)) got.back.same fit.handles)
 
@@ -144,7 +149,7 @@ module _ (words : List (Option Carried)) (c d : ControlState) (fit : WordsFit wo
 
 -- ---- the loan
 
-module _ (words : List (Option Carried)) (t : HubTables) (fit : WordsFit words t) (order : AreInOrder t) (n : ℕ) (y : Lender) (there : port_in t.ports n ≡ Some y.port)
+module _ {many : Bool × Bool} (words : List (Option Carried)) (t : HubTables) (fit : WordsFit many words t) (order : AreInOrder t) (n : ℕ) (y : Lender) (there : port_in t.ports n ≡ Some y.port)
     (uninit : Bool) (k slot : ℕ) (within : slot < y.port.size) (free : (slot_at t.pools y.port.pool slot).holders ≡ 0) where
   abbrev left : HubTables
   left = with_loaned t y uninit k slot
@@ -183,7 +188,7 @@ module _ (words : List (Option Carried)) (t : HubTables) (fit : WordsFit words t
           (filled (full_is_filled y.port.role uninit e));
     }
 
-    pub loan_fits : WordsFit (with_message words y.port.pool slot z) left
+    pub loan_fits : WordsFit many (with_message words y.port.pool slot z) left
     loan_fits =
         fits_message words y.port.pool slot z t left fit slot_has_words
         (put_counts t.pools y.port.pool slot (loaned_slot y k))
@@ -232,7 +237,7 @@ module _ {h : HubState} (hub : IsHub h) (shape : Shape) (a : Asked) (y : Lender)
   abbrev z : Stored
   z = first_stored shape a.uninit a.elements (stored_in h.words l.pool l.slot)
 
-  mid_fits : WordsFit h.words mid.tables
+  mid_fits : WordsFit (many_in h) h.words mid.tables
   mid_fits = back_fits h.words h.control mid hub.words hub.control.order n y.port there is.back
 
   mid_order : AreInOrder mid.tables
@@ -255,13 +260,32 @@ module _ {h : HubState} (hub : IsHub h) (shape : Shape) (a : Asked) (y : Lender)
       let passes : loan_refusal x h.control.tables y a.elements ≡ None = is.passes x (subst (λ (s : Shape). IsAskedOf s a) (sym (of hub.reached.0)) asked) in
       let size = (both_none (size_refusal y.port (shape_in x h.control.tables y.port) a.elements) (count_refusal_by y.port.role h.control.tables y)
       (both_none (calls_refusal h.control.tables) _ passes).1).0 in
-      let long = (both_none (refused_if (not (is_count (shape_in x h.control.tables y.port) a.elements)) refusals.WrongLength) _ size).1 in
-      let short = short_enough y.port.grows (nat_le a.elements y.port.longest) (has_layout (shape_in x h.control.tables y.port) a.elements)
-      (not_refused _ refusals.ExceedsMaxLoanSize long) (hub.words.none_grow n y.port there) in
-      let less = le_of a.elements y.port.longest short in
+      let lengths = both_none (refused_if (not (is_count (shape_in x h.control.tables y.port) a.elements)) refusals.WrongLength) _ size in
+      let less = by_grow (not_refused _ refusals.WrongLength lengths.0) (not_refused _ refusals.ExceedsMaxLoanSize lengths.1) y.port.grows refl in
       let below = hub.words.longest n y.port there in
       let same : longest_in h.words l.pool ≡ longest_in h.words y.port.pool = ap (longest_in h.words) is.made.pool in
       omega (arith, less, below, same)
+    where
+      shape_many : (role : Role) → (shape_of (limits_of (given_by hub.reached.0 h) h.control.tables) role).many ≡ many_by (many_in h) role
+      shape_many Client = refl
+      shape_many Server = refl
+
+      -- it is no longer than the port's longest, or it has one element
+      by_grow : not (is_count (shape_in (given_by hub.reached.0 h) h.control.tables y.port) a.elements) ≡ false
+          → not ((y.port.grows || nat_le a.elements y.port.longest) && has_layout (shape_in (given_by hub.reached.0 h) h.control.tables y.port) a.elements) ≡ false
+          → (b : Bool) → y.port.grows ≡ b → a.elements ≤ y.port.longest
+      by_grow counts long false e =
+          le_of a.elements y.port.longest
+          (short_enough y.port.grows (nat_le a.elements y.port.longest) (has_layout (shape_in (given_by hub.reached.0 h) h.control.tables y.port) a.elements)
+          long e)
+      by_grow counts long true e =
+          let one = hub.words.one n y.port there e in
+          let count : a.elements ≡ 1 =
+          eqb-true a.elements 1
+          (counted_one (shape_in (given_by hub.reached.0 h) h.control.tables y.port).many (a.elements == 1) counts
+          (shape_many y.port.role ∙ one.0)) in
+          let longest : y.port.longest ≡ 1 = one.1 in
+          omega (arith, count, longest)
 
   pub lent_requests : (b : Bool) → is_client y.port.role ≡ b → are_requests_in h.words l.pool ≡ b
   lent_requests b e = ap (are_requests_in h.words) is.made.pool ∙ hub.words.ports n y.port there ∙ e
@@ -271,11 +295,11 @@ module _ {h : HubState} (hub : IsHub h) (shape : Shape) (a : Asked) (y : Lender)
     abbrev h' : HubState
     h' = record h { control = new; words = words' }
 
-    lent_fits : WordsFit words' new.tables
+    lent_fits : WordsFit (many_in h) words' new.tables
     lent_fits =
-        subst (λ (ws : List (Option Carried)). WordsFit ws new.tables) (sym put)
-        (subst (λ p. WordsFit (with_message h.words p l.slot z) new.tables) (sym is.made.pool)
-        (subst (WordsFit (with_message h.words y.port.pool l.slot z)) tables
+        subst (λ (ws : List (Option Carried)). WordsFit (many_in h) ws new.tables) (sym put)
+        (subst (λ p. WordsFit (many_in h) (with_message h.words p l.slot z) new.tables) (sym is.made.pool)
+        (subst (WordsFit (many_in h) (with_message h.words y.port.pool l.slot z)) tables
         (loan_fits h.words mid.tables mid_fits mid_order n its mid_there a.uninit a.elements l.slot is.made.within is.made.free z
         (elements_first shape a.uninit a.elements (stored_in h.words l.pool l.slot)) (filled_first shape a.uninit a.elements (stored_in h.words l.pool l.slot)))))
 

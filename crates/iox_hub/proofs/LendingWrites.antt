@@ -30,7 +30,7 @@ use Rattle.iox_control_lending.specs.declared.asked.Place.{Place}
 use Rattle.iox_control_lending.specs.declared.asked.Written.TheVariants as written
 use Rattle.iox_control_lending.specs.Fills.{IsFilled, IsLoan, IsMisfit, given_written, reply_of_write}
 use Rattle.iox_hub.specs.Fits.{SuitsHandle, WordsFit, are_requests_in, count_in, is_of_request}
-use Rattle.iox_hub.specs.Hubs.{HasValue, HubState, IsHub, given_by, state_of_hub}
+use Rattle.iox_hub.specs.Hubs.{HasValue, HubState, IsHub, given_by, many_in, state_of_hub}
 use Rattle.iox_hub.specs.Lending.{IsWritten, payload_of, with_message}
 use Rattle.iox_hub.specs.Reads.{HasOf, message_in}
 use Rattle.iox_hub.specs.Words.{Carried, stored_in}
@@ -223,10 +223,10 @@ module _ (role : Role) {h : HubState} (hub : IsHub h) (node n : ℕ) (loan : IsL
       full = λ e. subst (λ (s : Stored). s.filled ≡ s.elements) (sym (stored_new h.words k.pool k.slot z loan_within)) all;
     }
 
-    pub filled_fits : WordsFit words new.tables
+    pub filled_fits : WordsFit (many_in h) words new.tables
     filled_fits =
-        subst (λ (ws : List (Option Carried)). WordsFit ws new.tables) (sym put)
-        (subst (λ (d : ControlState). WordsFit (with_message h.words k.pool k.slot z) d.tables) (sym left)
+        subst (λ (ws : List (Option Carried)). WordsFit (many_in h) ws new.tables) (sym put)
+        (subst (λ (d : ControlState). WordsFit (many_in h) (with_message h.words k.pool k.slot z) d.tables) (sym left)
         (fits_message h.words k.pool k.slot z t (with_kind t k (filled_kind k.kind)) hub.words loan_within (λ place. refl)
         (elements ∙ loan_elements) (λ p j other. refl) (ports_stay t.ports)
         (each_changed (SuitsHandle (with_message h.words k.pool k.slot z)) filled t.handles

@@ -149,3 +149,28 @@ one_held node ports at low =
     by_case : (p : PortState) (b : Bool) → (if b then Some p.number else None) ≡ least (if b then p.number ∷ [] else [])
     by_case p true = refl
     by_case p false = refl
+
+-- its number is listed, if it is the node's and its value is there
+pub one_kept : (node : ℕ) (ports : List PortState) (at : ℕ) → at < length ports → (n : ℕ) → held_number node (info_at ports at) ≡ Some n
+    → held_ports (take (at + 1) ports) node ≡ held_ports (take at ports) node ++ n ∷ []
+one_kept node ports at low n is =
+    let next = next_port ports at low in
+    ap (λ ps. held_ports ps node) next.more ∙ held-last node (take at ports) next.port
+    ∙ ap (λ ns. held_ports (take at ports) node ++ ns)
+    (by_case next.port ((next.port.node == node) && next.port.held) (sym (ap (held_number node) next.told) ∙ is))
+  where
+    by_case : (p : PortState) (b : Bool) → (if b then Some p.number else None) ≡ Some n → (if b then p.number ∷ [] else []) ≡ n ∷ []
+    by_case p true e = ap (λ m. m ∷ []) (same_Some p.number n e)
+    by_case p false e = absurd (none-some n e)
+
+pub none_kept : (node : ℕ) (ports : List PortState) (at : ℕ) → at < length ports → held_number node (info_at ports at) ≡ None
+    → held_ports (take (at + 1) ports) node ≡ held_ports (take at ports) node
+none_kept node ports at low is =
+    let next = next_port ports at low in
+    ap (λ ps. held_ports ps node) next.more ∙ held-last node (take at ports) next.port
+    ∙ by_case next.port ((next.port.node == node) && next.port.held) (sym (ap (held_number node) next.told) ∙ is)
+  where
+    by_case : (p : PortState) (b : Bool) → (if b then Some p.number else None) ≡ None
+        → held_ports (take at ports) node ++ (if b then p.number ∷ [] else []) ≡ held_ports (take at ports) node
+    by_case p true e = absurd (none-some p.number (sym e))
+    by_case p false e = append-nil (held_ports (take at ports) node)

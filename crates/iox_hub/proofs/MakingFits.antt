@@ -26,8 +26,8 @@ use Rattle.iox_tables.proofs.HubKeeping.Ordered.{not_there, places_become_free}
 use Rattle.iox_control_making.specs.declared.asked.Asked.{Asked}
 use Rattle.iox_control_making.specs.Making.{port_asked, with_asked}
 use Rattle.iox_control_making.proofs.Vacant.{one_more_is_put, vacant}
-use Rattle.iox_hub.specs.Fits.{SuitsHandle, WordsFit, are_requests_in, carried_in, count_in, longest_in}
-use Rattle.iox_hub.specs.Hubs.{HubState}
+use Rattle.iox_hub.specs.Fits.{SuitsHandle, WordsFit, are_requests_in, carried_in, count_in, longest_in, many_by}
+use Rattle.iox_hub.specs.Hubs.{HubState, many_in}
 use Rattle.iox_hub.specs.Making.{AreWordsPut, shape_in, words_made}
 use Rattle.iox_hub.specs.Words.{Carried, stored_in}
 use Rattle.iox_hub.proofs.Named.{handle_is_value}
@@ -138,7 +138,8 @@ module _ (t : HubTables) (node : ℕ) (role : Role) (id : UniqueSystemId) (asked
 
   -- ---- words
 
-  module _ (h : HubState) (words : List (Option Carried)) (fit : WordsFit h.words t) (grows : asked.grows ≡ false)
+  module _ (h : HubState) (words : List (Option Carried)) (fit : WordsFit (many_in h) h.words t)
+      (grows : asked.grows ≡ true → (many_by (many_in h) role ≡ false) × (asked.longest ≡ 1))
       (put : AreWordsPut h.words place (words_made h role asked.size asked.longest) words) where
     abbrev c : Carried
     c = words_made h role asked.size asked.longest
@@ -188,7 +189,7 @@ module _ (t : HubTables) (node : ℕ) (role : Role) (id : UniqueSystemId) (asked
           full = λ e. ap (λ (z : Stored). z.filled) same ∙ s.full e ∙ sym (ap (λ (z : Stored). z.elements) same);
         }
 
-    pub fits_made : WordsFit words left
+    pub fits_made : WordsFit (many_in h) words left
     fits_made = record {
       pools = pools_fit;
       elements = elements_fit;
@@ -198,7 +199,8 @@ module _ (t : HubTables) (node : ℕ) (role : Role) (id : UniqueSystemId) (asked
       longest = each_port {B = ℕ × ℕ} (λ p. (p.pool, p.longest)) (λ p ps. refl) (λ s. s.1 ≤ longest_in words s.0)
           (λ n p at. subst (λ l. p.longest ≤ l) (sym (ap (λ (o : Option Carried). option_map_or (λ (d : Carried). d.contents.longest) o 0) (put.others p.pool (free.ports n p at)))) (fit.longest n p at))
           (subst (λ l. asked.longest ≤ l) (sym (ap (λ (o : Option Carried). option_map_or (λ (d : Carried). d.contents.longest) o 0) put.there)) (omega arith));
-      none_grow = each_port (λ p. p.grows) (λ p ps. refl) (λ b. b ≡ false) fit.none_grow grows;
+      one = each_port {B = Bool × Role × ℕ} (λ p. (p.grows, p.role, p.longest)) (λ p ps. refl)
+          (λ s. s.0 ≡ true → (many_by (many_in h) s.1 ≡ false) × (s.2 ≡ 1)) fit.one grows;
       handles = both_each (SuitsHandle h.words) (λ k. (k.pool == place) ≡ false) (SuitsHandle words) suits_still t.handles fit.handles
           ((places_become_free t place order).nobody free).handles;
     }

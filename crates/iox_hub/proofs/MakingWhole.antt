@@ -1,15 +1,15 @@
 -- The making of a port in a hub is one command of the machine, and leads to a hub.
-use Rattle.std.specs.Prelude.{◌≡◌, ℕ, Bool, true, false, not, if◌then◌else◌, ◌==◌, ◌^◌, nat_le, List, [], Option, Some, None, refl, unwrap_or}
+use Rattle.std.specs.Prelude.{◌≡◌, ℕ, Bool, true, false, not, ◌&&◌, if◌then◌else◌, ◌==◌, ◌^◌, nat_le, List, [], Option, Some, None, refl, unwrap_or}
 use Rattle.std.specs.Option.{option_map_or}
-use Rattle.std.proofs.Common.{sym, ap, subst, ◌∙◌}
+use Rattle.std.proofs.Common.{sym, ap, subst, ◌∙◌, true≢false}
 use Rattle.iox_types.specs.declared.identifiers.system_id.UniqueSystemId.{UniqueSystemId}
 use Rattle.iox_model.specs.declared.kind.Kind.{Kind}
 use Rattle.iox_model.specs.declared.kind.Role.{Role}
 use Rattle.iox_model.specs.declared.kind.Role.TheVariants.{Client, Server}
 use Rattle.iox_model.specs.declared.reply.Reply.TheVariants.{Refused}
 use Rattle.iox_model.specs.Commands.{Create}
-use Rattle.iox_model.specs.Makings.{IsHubCommand, allocation_of, port_reply}
-use Rattle.iox_model.specs.Settings.{is_static}
+use Rattle.iox_model.specs.Makings.{IsHubCommand, allocation_of, longest_of, port_reply}
+use Rattle.iox_model.specs.Settings.{Shape, is_static, shape_of}
 use Rattle.iox_model.specs.Runs.{IsReachableState, OfHub}
 use Rattle.iox_laws.proofs.WeaveWorlds.Inductions.{step_is_reached}
 use Rattle.iox_store.specs.Stored.{Stored, unlent}
@@ -30,9 +30,9 @@ use Rattle.iox_control_making.proofs.Told.{no_memory, refused_whole}
 use Rattle.iox_tables.specs.HubBooks.Hubs.{AreInOrder}
 use Rattle.iox_tables.specs.HubLoans.Questions.{kind_in, kind_of_role}
 use Rattle.iox_hub.specs.declared.options.Options.{Options}
-use Rattle.iox_hub.specs.Fits.{WordsFit}
-use Rattle.iox_hub.specs.Hubs.{HasValue, HubState, IsHub, given_by, state_of_hub, with_control}
-use Rattle.iox_hub.specs.Making.{AreWordsPut, IsAllowed, LeavesMessages, allocation_in, options_of, words_made}
+use Rattle.iox_hub.specs.Fits.{WordsFit, many_by}
+use Rattle.iox_hub.specs.Hubs.{HasValue, HubState, IsHub, given_by, many_in, state_of_hub, with_control}
+use Rattle.iox_hub.specs.Making.{AreWordsPut, IsAllowed, LeavesMessages, allocation_in, options_of, shape_in, words_made}
 use Rattle.iox_hub.specs.Reads.{message_in}
 use Rattle.iox_hub.specs.Words.{Carried, stored_in}
 use Rattle.iox_hub.proofs.MakingFits.{fits_made, free, made_is_value, pool_put, stored_else, values_stay}
@@ -51,7 +51,7 @@ module _ (h : HubState) (hub : IsHub h) where
   pub hub_stays : (c : ControlState) → c.tables ≡ h.control.tables → IsControl c → IsHub (with_control h c)
   hub_stays c same order = record {
     control = order;
-    words = subst (λ (u : HubTables). WordsFit h.words u) (sym same) hub.words;
+    words = subst (λ (u : HubTables). WordsFit (many_in h) h.words u) (sym same) hub.words;
     reached = (
       hub.reached.0,
       subst (λ (u : HubTables). IsReachableState (state_shown (given_by hub.reached.0 h) u)) (sym same) hub.reached.1,
@@ -88,11 +88,11 @@ module _ (h : HubState) (hub : IsHub h) where
         subst (λ (y : Given). IsHubCommand (state_of_hub x h) node (Create role id (options_of o)) (port_reply role t.next_number) (state_shown y c.tables)) (given_is x)
         (made (given_by x h) (given_by x after) (options_of o) (is x) (others x))
 
-    pub hub_made : ((x : Given) → IsAsked (given_by x h) t role (options_of o) asked) → MakesWhole t node role id asked c.tables → asked.grows ≡ false → IsControl c
-        → IsHub after
+    pub hub_made : ((x : Given) → IsAsked (given_by x h) t role (options_of o) asked) → MakesWhole t node role id asked c.tables
+        → (asked.grows ≡ true → (many_by (many_in h) role ≡ false) × (asked.longest ≡ 1)) → IsControl c → IsHub after
     hub_made is made grows order = record {
       control = order;
-      words = subst (λ (u : HubTables). WordsFit words u) (sym same) (fits_made t node role id asked hub.control.order h words hub.words grows put);
+      words = subst (λ (u : HubTables). WordsFit (many_in h) words u) (sym same) (fits_made t node role id asked hub.control.order h words hub.words grows put);
       reached = (
         hub.reached.0,
         step_is_reached (state_of_hub hub.reached.0 h) (state_of_hub hub.reached.0 after) (OfHub node (Create role id (options_of o)) (port_reply role t.next_number))
@@ -104,6 +104,18 @@ same_allocation : (x : Given) (u : HubTables) (role : Role) → allocation_of (l
 same_allocation x u Client = refl
 same_allocation x u Server = refl
 
+same_shape : (x : Given) (h : HubState) (role : Role) → shape_of (limits_of (given_by x h) h.control.tables) role ≡ shape_in h role
+same_shape x h Client = refl
+same_shape x h Server = refl
+
+many_is : (h : HubState) (role : Role) → many_by (many_in h) role ≡ (shape_in h role).many
+many_is h Client = refl
+many_is h Server = refl
+
+second_is : (a b : Bool) → a ≡ true → (a && b) ≡ false → b ≡ false
+second_is true b e f = f
+second_is false b e f = absurd (true≢false (sym e))
+
 -- ---- in code: a hub as it was met, and what its parts are now
 
 module _ (inside now : HubState) (view : inside ≡ now) (hub : IsHub inside) (node : ℕ) (role : Role) (id : UniqueSystemId) (asked : Asked) (o : Options)
@@ -114,12 +126,23 @@ module _ (inside now : HubState) (view : inside ≡ now) (hub : IsHub inside) (n
   is_inside : (x : Given) → IsAsked (given_by x inside) old role (options_of o) asked
   is_inside = subst (λ (k : HubState). (x : Given) → IsAsked (given_by x k) k.control.tables role (options_of o) asked) (sym view) is
 
+  -- where the messages of a port that is made are told to grow, each has one element
+  one_asked : asked.large ≡ false → (asked.grows && (shape_in now role).many) ≡ false → asked.grows ≡ true
+      → (many_by (many_in inside) role ≡ false) × (asked.longest ≡ 1)
+  one_asked small still e =
+      let none : (shape_in now role).many ≡ false = second_is asked.grows (shape_in now role).many e still in (
+        many_is inside role ∙ ap (λ (h : HubState). (shape_in h role).many) view ∙ none,
+        sym ((is hub.reached.0).longest small) ∙ ap (λ (z : Shape). longest_of z (options_of o)) (same_shape (given_by hub.reached.0 now) now role)
+            ∙ ap (λ (b : Bool). if b then o.max_slice_len else 1) none,
+      )
+
   -- a port that is made is allowed
-  pub allowed : asked.large ≡ false → asked.grows ≡ false → IsAllowed now role o
+  pub allowed : asked.large ≡ false → (asked.grows && (shape_in now role).many) ≡ false → IsAllowed now role o
   allowed small still = record {
     small = λ x. sym (is x).large ∙ small;
-    still = ap (λ a. not (is_static (unwrap_or o.allocation a))) (sym (same_allocation (given_by hub.reached.0 now) now.control.tables role))
-        ∙ (is hub.reached.0).grows small ∙ still;
+    still = ap (λ a. not (is_static (unwrap_or o.allocation a)) && (shape_in now role).many)
+        (sym (same_allocation (given_by hub.reached.0 now) now.control.tables role))
+        ∙ ap (λ b. b && (shape_in now role).many) ((is hub.reached.0).grows small) ∙ still;
   }
 
   module _ (ws : List (Option Carried)) (kept : ws ≡ inside.words) where
@@ -150,8 +173,9 @@ module _ (inside now : HubState) (view : inside ≡ now) (hub : IsHub inside) (n
           (subst (λ i. AreWordsPut ws i (words_made inside role asked.size asked.longest) words) place_is
           (subst (λ w. AreWordsPut ws place w words) (new ∙ ap (λ (h : HubState). words_made h role asked.size asked.longest) (sym view)) put))
 
-      pub hub_with : MakesWhole old node role id asked c.tables → asked.grows ≡ false → IsControl c → IsHub (record inside { control = c; words = words })
-      hub_with made grows order = hub_made inside hub node role id asked o words c put_inside same is_inside made grows order
+      pub hub_with : MakesWhole old node role id asked c.tables → asked.large ≡ false → (asked.grows && (shape_in now role).many) ≡ false → IsControl c
+          → IsHub (record inside { control = c; words = words })
+      hub_with made small still order = hub_made inside hub node role id asked o words c put_inside same is_inside made (one_asked small still) order
 
       pub whole_with : MakesWhole old node role id asked c.tables → (n : ℕ) → n ≡ old.next_number → (x : Given)
           → IsHubCommand (state_of_hub x now) node (Create role id (options_of o)) (port_reply role n) (state_of_hub x (record inside { control = c; words = words }))

@@ -21,6 +21,7 @@ use Rattle.iox_control_releasing.specs.Endings.{given_up_as, own_way, with_ended
 use Rattle.iox_control_releasing.specs.Goings.{KeptPools}
 use Rattle.iox_hub.specs.Fits.{SuitsHandle, WordsFit, are_requests_in, count_in, longest_in}
 use Rattle.iox_hub.specs.Words.{Carried, stored_in}
+use Rattle.iox_hub.proofs.Fitting.{one_as}
 
 -- ---- ports that are left
 
@@ -122,8 +123,8 @@ elements_as p q same k = sym (elements_bare p.slots k) ∙ ap (λ (z : PoolState
 abbrev slots_in : Option PoolState → List SlotState
 slots_in o = option_map_or (λ (p : PoolState). p.slots) o []
 
-module _ (words : List (Option Carried)) (t : HubTables) (fit : WordsFit words t) where
-  pub fits_left : (t' : HubTables) → AreLeft t.ports t'.ports → KeptPools t.pools t'.pools → OfEachHandle (SuitsHandle words) t'.handles → WordsFit words t'
+module _ {many : Bool × Bool} (words : List (Option Carried)) (t : HubTables) (fit : WordsFit many words t) where
+  pub fits_left : (t' : HubTables) → AreLeft t.ports t'.ports → KeptPools t.pools t'.pools → OfEachHandle (SuitsHandle words) t'.handles → WordsFit many words t'
   fits_left t' ports kept handles = record {
     pools = pools;
     elements = elements;
@@ -133,7 +134,7 @@ module _ (words : List (Option Carried)) (t : HubTables) (fit : WordsFit words t
     longest = λ n p at.
         let q = ports n p at in
         subst (λ k. p.longest ≤ longest_in words k) q.2.pool (subst (λ k. k ≤ longest_in words q.0.pool) q.2.longest (fit.longest n q.0 q.1));
-    none_grow = λ n p at. let q = ports n p at in sym q.2.grows ∙ fit.none_grow n q.0 q.1;
+    one = λ n p at. let q = ports n p at in one_as many q.0 p q.2.role q.2.longest q.2.grows (fit.one n q.0 q.1);
     handles = handles;
   }
     where
@@ -197,10 +198,10 @@ given_up_handles kinds.RequestMut t h = refl
 given_up_handles kinds.ResponseMutUninit t h = refl
 given_up_handles kinds.ResponseMut t h = refl
 
-module _ (words : List (Option Carried)) (t t' : HubTables) (fit : WordsFit words t) (kept : KeptPools t.pools t'.pools) where
+module _ {many : Bool × Bool} (words : List (Option Carried)) (t t' : HubTables) (fit : WordsFit many words t) (kept : KeptPools t.pools t'.pools) where
   -- then the port goes, if nothing of it is left
   pub fits_gone : (u : HubTables) (n : ℕ) → AreLeft t.ports u.ports → OfEachHandle (SuitsHandle words) u.handles
-      → t' ≡ record (with_released u n) { pools = t'.pools } → WordsFit words t'
+      → t' ≡ record (with_released u n) { pools = t'.pools } → WordsFit many words t'
   fits_gone u n ports handles is =
       fits_left words t fit t'
       (subst (λ (z : HubTables). AreLeft t.ports z.ports) (sym is) (left_twice t.ports u.ports (with_released u n).ports ports (left_released u n)))
@@ -208,14 +209,14 @@ module _ (words : List (Option Carried)) (t t' : HubTables) (fit : WordsFit word
       (subst (λ (z : HubTables). OfEachHandle (SuitsHandle words) z.handles) (sym is)
       (subst (λ hs. OfEachHandle (SuitsHandle words) hs) (sym (released_handles u n)) handles))
 
-  pub fits_released : (h : HandleState) → t' ≡ record (with_released (with_ended t h) h.port) { pools = t'.pools } → WordsFit words t'
+  pub fits_released : (h : HandleState) → t' ≡ record (with_released (with_ended t h) h.port) { pools = t'.pools } → WordsFit many words t'
   fits_released h is =
       fits_gone (with_ended t h) h.port (left_alike t.ports (given_up_as h.kind t h).ports (given_up_alike h.kind t h))
       (each_left (SuitsHandle words) h.node h.number (given_up_as h.kind t h).handles
       (subst (λ hs. OfEachHandle (SuitsHandle words) hs) (sym (given_up_handles h.kind t h)) fit.handles))
       is
 
-  pub fits_port_released : (n : ℕ) → t' ≡ record (with_released (with_value_released t n) n) { pools = t'.pools } → WordsFit words t'
+  pub fits_port_released : (n : ℕ) → t' ≡ record (with_released (with_value_released t n) n) { pools = t'.pools } → WordsFit many words t'
   fits_port_released n is =
       fits_gone (with_value_released t n) n
       (left_alike t.ports (with_value_released t n).ports (port_bare (λ p. record p { held = false }) (λ p. refl) t.ports n)) fit.handles is

@@ -15,7 +15,7 @@ use Rattle.iox_tables.proofs.HubBooks.Held.{each_handle_from}
 use Rattle.iox_tables.specs.HubKeeping.Connected.{IsFreePlace}
 use Rattle.iox_tables.proofs.HubKeeping.Ordered.{each_used, empty_free, nobody_has, used_else}
 use Rattle.iox_hub.specs.Fits.{SuitsHandle, WordsFit, count_in}
-use Rattle.iox_hub.specs.Hubs.{HubState, IsHub, given_by, state_of_hub}
+use Rattle.iox_hub.specs.Hubs.{HubState, IsHub, given_by, many_in, state_of_hub}
 use Rattle.iox_hub.specs.Sending.{with_words_left}
 use Rattle.iox_hub.specs.Words.{Carried, stored_in}
 
@@ -50,15 +50,15 @@ module _ (h : HubState) (place : ℕ) (order : AreInOrder h.control.tables) (gon
 
   -- ---- they fit
 
-  module _ (fit : WordsFit h.words t) where
-    fits_less : WordsFit less t
+  module _ (fit : WordsFit (many_in h) h.words t) where
+    fits_less : WordsFit (many_in h) less t
     fits_less = record {
       pools = pools;
       elements = elements;
       ports = λ n p at. ap (λ o. option_map_or (λ (c : Carried). c.requests) (option_map_or (λ z. z) o None) false) (of_port n p at) ∙ fit.ports n p at;
       longest = λ n p at.
           subst (λ o. p.longest ≤ option_map_or (λ (c : Carried). c.contents.longest) (option_map_or (λ z. z) o None) 0) (sym (of_port n p at)) (fit.longest n p at);
-      none_grow = fit.none_grow;
+      one = fit.one;
       handles =
           each_handle_from (λ g. IsUsed t g.pool g.slot × SuitsHandle h.words g) (SuitsHandle less) (λ g both. suits g both.0 both.1) t.handles
           (each_both (λ g. IsUsed t g.pool g.slot) (SuitsHandle h.words) t.handles (each_used t order) fit.handles);

@@ -96,8 +96,8 @@ pending_suits words h count kind is = record {
 
 -- ---- the calls
 
-module _ (words : List (Option Carried)) (t t' : HubTables) (fit : WordsFit words t) (kept : KeptPools t.pools t'.pools) (node n : ℕ) (h : HandleState) where
-  pub fits_response_sent : (fails : Bool) → t' ≡ record (with_released (with_response_ended t node n h fails) h.port) { pools = t'.pools } → WordsFit words t'
+module _ {many : Bool × Bool} (words : List (Option Carried)) (t t' : HubTables) (fit : WordsFit many words t) (kept : KeptPools t.pools t'.pools) (node n : ℕ) (h : HandleState) where
+  pub fits_response_sent : (fails : Bool) → t' ≡ record (with_released (with_response_ended t node n h fails) h.port) { pools = t'.pools } → WordsFit many words t'
   fits_response_sent fails is =
       fits_gone words t t' fit kept (with_response_ended t node n h fails) h.port (left_alike t.ports (with_response_sent t h).ports (response_alike t h))
       (each_left (SuitsHandle words) node n (with_response_sent t h).handles
@@ -105,7 +105,7 @@ module _ (words : List (Option Carried)) (t t' : HubTables) (fit : WordsFit word
       is
 
   module _ (there : handle_in t.handles node n ≡ Some h) (kind : h.kind ≡ kinds.RequestMut) where
-    pub fits_request_sent : (r : Requested) → t' ≡ record (with_lost_released r (with_request_ended t node n h r) h.port) { pools = t'.pools } → WordsFit words t'
+    pub fits_request_sent : (r : Requested) → t' ≡ record (with_lost_released r (with_request_ended t node n h r) h.port) { pools = t'.pools } → WordsFit many words t'
     fits_request_sent (To count) is =
         let u : HubTables = with_request_ended t node n h (To count) in
         let back : HubTables = with_requests_back t h in

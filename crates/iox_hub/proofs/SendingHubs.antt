@@ -39,7 +39,7 @@ use Rattle.iox_control_request_copies.specs.Sendings.{IsRequest, with_lost_relea
 use Rattle.iox_control_request_copies.specs.Responses.{IsResponse, with_response_ended, with_response_sent}
 use Rattle.iox_control_request_copies.proofs.Strategies.{by_strategy}
 use Rattle.iox_hub.specs.Fits.{WordsFit}
-use Rattle.iox_hub.specs.Hubs.{HasValue, HubState, IsHub, given_by, state_of_hub, with_control}
+use Rattle.iox_hub.specs.Hubs.{HasValue, HubState, IsHub, given_by, many_in, state_of_hub, with_control}
 use Rattle.iox_hub.specs.Reads.{HasOf}
 use Rattle.iox_hub.specs.Sending.{HasNothing, HasSent, is_handle}
 use Rattle.iox_hub.specs.Words.{all_carried, carried}
@@ -114,7 +114,7 @@ pub whole_then : {h : HubState} → IsHub h → (c : ControlState) (new : HubSta
 whole_then {h} hub c new node call reply x whole same = subst (λ s. IsWholeCall (state_of_hub x h) node call reply s) same whole
 
 -- so a hub goes on, if the call is one of the hub
-pub hub_goes_on_as : (h : HubState) (c : ControlState) (node : ℕ) (call : Call) (reply : Reply) → IsHub h → IsControl c → WordsFit h.words c.tables
+pub hub_goes_on_as : (h : HubState) (c : ControlState) (node : ℕ) (call : Call) (reply : Reply) → IsHub h → IsControl c → WordsFit (many_in h) h.words c.tables
     → ((x : Given) → IsWholeCall (state_of_hub x h) node call reply (state_of_hub x (with_control h c))) → IsHub (with_control h c)
 hub_goes_on_as h c node call reply hub order fit whole =
     let (x, reached) = hub.reached in record {

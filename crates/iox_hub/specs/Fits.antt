@@ -1,8 +1,9 @@
 -- The words of a hub fit its tables.
-use Rattle.std.specs.Prelude.{◌≡◌, ℕ, ◌<◌, ◌≤◌, Bool, true, false, ◌||◌, List, length, Option, None, Some, slice_get}
+use Rattle.std.specs.Prelude.{◌≡◌, ℕ, ◌<◌, ◌≤◌, Bool, true, false, ◌||◌, if◌then◌else◌, List, length, Option, None, Some, slice_get}
 use Rattle.std.specs.Option.{option_map_or}
 use Rattle.iox_model.specs.declared.kind.Kind.{Kind}
 use Rattle.iox_model.specs.declared.kind.Kind.TheVariants.{ActiveRequest, PendingResponse, RequestMut, ResponseMut}
+use Rattle.iox_model.specs.declared.kind.Role.{Role}
 use Rattle.iox_model.specs.Handles.{is_request_loan, same_kind}
 use Rattle.iox_model.specs.Settings.{is_client}
 use Rattle.iox_tables.specs.HubStates.Tables.{HandleState, HubTables, PortState, port_in, slot_at, slots_of}
@@ -42,19 +43,30 @@ pub record SuitsHandle (words : List (Option Carried)) (h : HandleState) : Type 
       is_full_loan h.kind ≡ true
       → (stored_in words h.pool h.slot).filled ≡ (stored_in words h.pool h.slot).elements
 
+-- whether what a role sends may have any number of elements, where it is said of requests, and of
+-- responses
+abbrev pub many_by : Bool × Bool → Role → Bool
+many_by many role = if is_client role then many.0 else many.1
+
+-- If the port is told that its messages grow, each of them has one element all the same.
+abbrev pub IsOneIfItGrows : Bool × Bool → PortState → Type 0
+IsOneIfItGrows many p = p.grows ≡ true → (many_by many p.role ≡ false) × (p.longest ≡ 1)
+
 -- Each slot of a pool has words, of as many elements as it has. They are those of requests if the
 -- pool is a client's, and if a handle that has a message of it is of a request. No port's messages
 -- grow past the room that its words have.
-pub record WordsFit (words : List (Option Carried)) (t : HubTables) : Type 0 where
-  pub pools : (place : ℕ) → length (slots_of t.pools place) ≤ count_in words place
-  pub elements :
-      (place k : ℕ) → k < length (slots_of t.pools place)
-      → (stored_in words place k).elements ≡ (slot_at t.pools place k).elements
-  pub ports :
-      (n : ℕ) (p : PortState) → port_in t.ports n ≡ Some p
-      → are_requests_in words p.pool ≡ is_client p.role
-  pub longest :
-      (n : ℕ) (p : PortState) → port_in t.ports n ≡ Some p
-      → p.longest ≤ longest_in words p.pool
-  pub none_grow : (n : ℕ) (p : PortState) → port_in t.ports n ≡ Some p → p.grows ≡ false
-  pub handles : OfEachHandle (SuitsHandle words) t.handles
+pub record WordsFit (many : Bool × Bool) (words : List (Option Carried)) (t : HubTables)
+    : Type 0
+  where
+    pub pools : (place : ℕ) → length (slots_of t.pools place) ≤ count_in words place
+    pub elements :
+        (place k : ℕ) → k < length (slots_of t.pools place)
+        → (stored_in words place k).elements ≡ (slot_at t.pools place k).elements
+    pub ports :
+        (n : ℕ) (p : PortState) → port_in t.ports n ≡ Some p
+        → are_requests_in words p.pool ≡ is_client p.role
+    pub longest :
+        (n : ℕ) (p : PortState) → port_in t.ports n ≡ Some p
+        → p.longest ≤ longest_in words p.pool
+    pub one : (n : ℕ) (p : PortState) → port_in t.ports n ≡ Some p → IsOneIfItGrows many p
+    pub handles : OfEachHandle (SuitsHandle words) t.handles

@@ -1,5 +1,5 @@
 -- A hub, as its callers see it, and the state that it shows.
-use Rattle.std.specs.Prelude.{◌≡◌, ℕ, List, Option, None, Some, ⊤}
+use Rattle.std.specs.Prelude.{◌≡◌, ℕ, Bool, List, Option, None, Some, ⊤}
 use Rattle.iox_model.specs.declared.kind.Kind.{Kind}
 use Rattle.iox_model.specs.Runs.{IsReachableState}
 use Rattle.iox_model.specs.Settings.{Shape}
@@ -44,10 +44,14 @@ state_of_hub x h = state_shown (given_by x h) h.control.tables
 abbrev pub IsReached : HubState → Type 0
 IsReached h = (x : Given) × IsReachableState (state_of_hub x h)
 
+-- whether a request, and whether a response, may have any number of elements
+abbrev pub many_in : HubState → Bool × Bool
+many_in h = (h.request.many, h.response.many)
+
 -- The tables are in order, the words fit them, and the state can be reached.
 pub record IsHub (h : HubState) : Type 0 where
   pub control : IsControl h.control
-  pub words : WordsFit h.words h.control.tables
+  pub words : WordsFit (many_in h) h.words h.control.tables
   pub reached : IsReached h
 
 -- The node has a port or a handle of that number and kind, which is not released.

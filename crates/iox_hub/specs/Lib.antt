@@ -10,6 +10,7 @@ pub mod Sending
 pub mod Lending
 pub mod Keeping
 pub mod Listings
+pub mod Cleaning
 pub mod Fillings
 pub mod Copying
 -- what clauses of hubs cite of the calls of its tables, for the crates above

@@ -1,5 +1,5 @@
 -- A port is made in a hub: what is asked, what is answered, and what the hub is then.
-use Rattle.std.specs.Prelude.{◌≡◌, ℕ, ◌==◌, Bool, false, not, List, Option, Some, None, Result, Ok, Err, max, min, unwrap_or}
+use Rattle.std.specs.Prelude.{◌≡◌, ℕ, ◌==◌, Bool, false, not, ◌&&◌, List, Option, Some, None, Result, Ok, Err, max, min, unwrap_or}
 use Rattle.iox_types.specs.declared.identifiers.system_id.UniqueSystemId.{UniqueSystemId}
 use Rattle.iox_types.specs.declared.backpressure.AllocationStrategy.{AllocationStrategy}
 use Rattle.iox_model.specs.declared.kind.Role.{Role}
@@ -52,10 +52,12 @@ abbrev pub allocation_in : HubSettings → Role → AllocationStrategy
 allocation_in s Client = s.client_allocation
 allocation_in s Server = s.server_allocation
 
--- whether the messages of the port would grow
+-- whether the messages of the port would grow: they may have any number of elements, and the port is
+-- not told that they stay as long as they are
 abbrev pub would_grow : HubState → Role → Options → Bool
 would_grow h role o =
     not (is_static (unwrap_or o.allocation (allocation_in h.control.tables.settings role)))
+    && (shape_in h role).many
 
 -- By these answers of a closure, a port that needs so many messages at most has a pool of that size:
 -- what the closure answers for that number, raised to 1 and lowered to it.

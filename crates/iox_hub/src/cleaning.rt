@@ -1,5 +1,7 @@
 //! All that a node has is released.
-ghost use Rattle.std.specs.Prelude.{◌≡◌, ◌≢◌, [], IfSome, IsSome, None, ℕ};
+ghost use Rattle.std.specs.List.{Contains};
+ghost use Rattle.std.specs.List.Sorted.{IsNonDecreasingBy};
+ghost use Rattle.std.specs.Prelude.{◌≡◌, ◌≢◌, [], IfSome, IsSome, None, map, ℕ};
 ghost use Rattle.iox_model.specs.declared.call.Call.TheVariants.{Release};
 ghost use Rattle.iox_model.specs.declared.reply.Reply.TheVariants.{Done};
 ghost use Rattle.iox_model.specs.Maps.{first_of, rest_of};
@@ -9,17 +11,17 @@ ghost use Rattle.iox_model.specs.WholeCalls.{IsWholeCall};
 ghost use Rattle.iox_tables.specs.HubLoans.Questions.{kind_in};
 ghost use Rattle.iox_tables.specs.HubStates.States.{Given};
 ghost use Rattle.iox_control_releasing.specs.Goings.{StaysTidy};
+ghost use Rattle.iox_hub.specs.Cleaning.{LeadsOn, NoneIsBelow};
 ghost use Rattle.iox_hub.specs.Hubs.{state_of_hub};
 ghost use Rattle.iox_hub.specs.Keeping.{Keeps, KeepsOthers};
 ghost use Rattle.iox_hub.specs.Sending.{HasNothing};
 
 use crate::hub::Hub;
+use crate::listings::NOWHERE;
+use iox_handles::Numbered;
 use iox_model::kind::Kind;
 use iox_store::Payload;
 use iox_words::Words;
-
-/// Where handles are looked for first: nowhere, since their places are not known.
-const NOWHERE: usize = usize::MAX;
 
 /// Whether a value of that kind is a port.
 fn is_port(kind: Kind) -> bool
@@ -29,24 +31,26 @@ fn is_port(kind: Kind) -> bool
 }
 
 impl<Q: Payload, QH: Words, P: Payload, PH: Words> Hub<Q, QH, P, PH> {
-    /// Releases the node's value of that number, a port's own or a handle.
-    fn release_value(&mut self, node: u64, number: u64)
+    /// Releases the node's value of that number, a port's own or a handle. A handle is looked for
+    /// at the hint first.
+    fn release_value(&mut self, node: u64, number: u64, hint: usize)
         requires has { IsSome (kind_in self.old.control.tables node number) }
         ensures whole { (x : Given) → IsWholeCall (state_of_hub x self.old) node
             (Release number) Done (state_of_hub x self.new) }
+        ensures gone { HasNothing self.new node number }
         ensures keeps { KeepsOthers self.old node number self.new }
         ensures request { self.new.request ≡ self.old.request }
         ensures response { self.new.response ≡ self.old.response }
         ensures tidy { StaysTidy self.old.control.tables self.new.control.tables }
     {
         self.is_in_order();
-        let Some(kind) = self.kind(node, number, NOWHERE) else {
+        let Some(kind) = self.kind(node, number, hint) else {
             unreachable!();
         };
         if is_port(kind) {
             self.release_port(node, number);
         } else {
-            self.release(node, number, NOWHERE);
+            self.release(node, number, hint);
         }
     }
 
@@ -67,12 +71,49 @@ impl<Q: Payload, QH: Words, P: Payload, PH: Words> Hub<Q, QH, P, PH> {
     {
         self.is_in_order();
         let number = self.first_number(node)?;
-        self.release_value(node, number);
+        self.release_value(node, number, NOWHERE);
         Some(number)
     }
 
-    /// Releases all that the node has, in the order of the numbers, and takes no memory. For each
-    /// value it looks at all ports and all handles a few times, beside what its release does.
+    /// Releases the node's value of that number, if it has it still. None of the node's values has
+    /// a lesser number.
+    fn release_listed(&mut self, node: u64, value: Numbered)
+        requires least { NoneIsBelow self.old node value.number }
+        ensures led { LeadsOn self.old self.new node }
+        ensures gone { HasNothing self.new node value.number }
+        ensures fewer { (k : ℕ) → IsSome (kind_in self.new.control.tables node k)
+            → IsSome (kind_in self.old.control.tables node k) }
+        ensures keeps { Keeps (λ other n. other ≢ node) self.old self.new }
+        ensures request { self.new.request ≡ self.old.request }
+        ensures response { self.new.response ≡ self.old.response }
+        ensures tidy { StaysTidy self.old.control.tables self.new.control.tables }
+    {
+        self.is_in_order();
+        if let Some(_) = self.kind(node, value.number, value.place) {
+            self.release_value(node, value.number, value.place);
+        }
+    }
+
+    /// Releases those values of the node, whose numbers ascend, one after another. All that it has
+    /// is among them.
+    fn release_each(&mut self, node: u64, values: &[Numbered])
+        requires all { (k : ℕ) → IsSome (kind_in self.old.control.tables node k)
+            → Contains (map (λ v. v.number) values.now) k }
+        requires ascending { IsNonDecreasingBy (λ v. v.number) values.now }
+        ensures led { LeadsOn self.old self.new node }
+        ensures keeps { Keeps (λ other n. other ≢ node) self.old self.new }
+        ensures request { self.new.request ≡ self.old.request }
+        ensures response { self.new.response ≡ self.old.response }
+        ensures tidy { StaysTidy self.old.control.tables self.new.control.tables }
+    {
+        for value in values {
+            self.release_listed(node, *value);
+        }
+    }
+
+    /// Releases all that the node has, in the order of the numbers. It looks at all ports and all
+    /// handles a few times in all, and lists those of the node, beside what the releases do. Where
+    /// there is no memory for the list, it looks at all of them for each value: so it never fails.
     pub fn release_all(&mut self, node: u64)
         ensures released { (x : Given) → Releases (state_of_hub x self.old) node
             (numbers_of_node (state_of_hub x self.old).fixed node) (state_of_hub x self.new) }
@@ -83,6 +124,9 @@ impl<Q: Payload, QH: Words, P: Payload, PH: Words> Hub<Q, QH, P, PH> {
         ensures response { self.new.response ≡ self.old.response }
         ensures tidy { StaysTidy self.old.control.tables self.new.control.tables }
     {
+        if let Ok(values) = self.values_of(node) {
+            self.release_each(node, &values);
+        }
         while let Some(_) = self.release_first(node) {}
     }
 }

@@ -32,6 +32,7 @@ pub(crate) fn has_layout(header: Part, user: Part, element: Part, elements: u64)
     if payload >= 1 << 63 {
         return false;
     }
-    let bytes = bytes_with(header, user, element, payload);
-    (bytes + (alignment - 1)) / alignment * alignment < 1 << 63
+    let bytes = bytes_with(header, user, element, payload) + (alignment - 1);
+    // Rounded down it is no more, so that most need no division.
+    bytes < 1 << 63 || bytes / alignment * alignment < 1 << 63
 }

@@ -1,5 +1,7 @@
 //! What a hub tells of its service: its settings, its ports by role, and what a node has.
-ghost use Rattle.std.specs.Prelude.{◌≡◌, IfOk, IfSome, IsSome, None, not, ℕ};
+ghost use Rattle.std.specs.List.{Contains};
+ghost use Rattle.std.specs.List.Sorted.{IsNonDecreasingBy};
+ghost use Rattle.std.specs.Prelude.{◌≡◌, ◌++◌, IfOk, IfSome, IsSome, None, OnOk, map, not, ℕ};
 ghost use Rattle.std.specs.Fn.{CalledAt};
 ghost use Rattle.iox_attributes.specs.Visits.{Visits};
 ghost use Rattle.iox_model.specs.Maps.{first_of, is_empty};
@@ -17,7 +19,7 @@ ghost use Rattle.iox_hub.specs.Sending.{HasNothing};
 
 use crate::hub::Hub;
 use iox_control::Settings;
-use iox_handles::lesser;
+use iox_handles::{Numbered, lesser};
 use iox_hub_ports::ports::Ports;
 use iox_hub_ports::walks::is_same_role;
 use iox_model::kind::Role;
@@ -25,6 +27,9 @@ use iox_store::Payload;
 use iox_types::identifiers::{UniqueId, UniqueSystemId};
 use iox_words::{CallbackProgression, Words};
 use std::alloc::{AllocError, Global};
+
+/// Where handles are looked for first whose places are not known: nowhere.
+pub(crate) const NOWHERE: usize = usize::MAX;
 
 /// The number of the port in that place, if it is of that role.
 fn number_at(ports: &Ports, at: usize, role: Role) -> Option<u64>
@@ -103,6 +108,23 @@ fn least_held(ports: &Ports, node: u64) -> Option<u64>
     least
 }
 
+/// Lists the numbers of the node's ports whose own values are still there, in their order, behind
+/// what is listed.
+fn list_held(ports: &Ports, node: u64, values: &mut Vec<Numbered>) -> Result<(), AllocError>
+    ensures { OnOk result (map (λ v. v.number) values.new.items
+        ≡ map (λ v. v.number) values.old.items ++ held_ports ports.now.ports node) }
+{
+    for at in 0..ports.len() {
+        if let Some(number) = held_at(ports, at, node) {
+            values.push(Numbered {
+                number,
+                place: NOWHERE,
+            })?;
+        }
+    }
+    Ok(())
+}
+
 impl<Q: Payload, QH: Words, P: Payload, PH: Words> Hub<Q, QH, P, PH> {
     /// The numbers and strategies of its service: what the hub was made with, where each limit of 0
     /// is 1 and no port keeps messages of ports that are gone.
@@ -148,6 +170,21 @@ impl<Q: Payload, QH: Words, P: Payload, PH: Words> Hub<Q, QH, P, PH> {
             least_held(self.control.ports(), node),
             self.control.handles().least_of(node),
         )
+    }
+
+    /// The numbers of the node's ports and handles that are not released, ascending, with the places
+    /// of the handles. It looks at each port and each handle once, and fails only for want of memory.
+    pub(crate) fn values_of(&self, node: u64) -> Result<Vec<Numbered>, AllocError>
+        ensures all { IfOk result (λ values. (k : ℕ)
+            → IsSome (kind_in self.now.control.tables node k)
+            → Contains (map (λ v. v.number) values.items) k) }
+        ensures ascending { IfOk result (λ values. IsNonDecreasingBy (λ v. v.number) values.items) }
+    {
+        let alloc = *self.words.allocator();
+        let mut values = self.control.handles().list_of(node, alloc)?;
+        list_held(self.control.ports(), node, &mut values)?;
+        values.sort_unstable_by_key(|value| value.number);
+        Ok(values)
     }
 
     /// Whether the node has a port or a handle that is not released.

@@ -1,5 +1,5 @@
 //! Ports are made.
-ghost use Rattle.std.specs.Prelude.{ℕ, ◌≡◌, ◌<◌, ◌≤◌, ◌^◌, IfOk, IfSome, IsErr, OnErr, OnOk, true, vec_capacity};
+ghost use Rattle.std.specs.Prelude.{ℕ, ◌≡◌, ◌<◌, ◌≤◌, ◌^◌, ◌&&◌, IfOk, IfSome, IsErr, OnErr, OnOk, true, vec_capacity};
 ghost use Rattle.iox_types.specs.Layouts.{as_usize};
 ghost use Rattle.iox_model.specs.declared.kind.Kind.{Kind};
 ghost use Rattle.iox_model.specs.Makings.{worst_pool};
@@ -143,8 +143,16 @@ impl<Q: Payload, QH: Words, P: Payload, PH: Words> Hub<Q, QH, P, PH> {
         }
     }
 
+    /// Whether the messages of such a port would grow: where each has one element, none does.
+    fn would_grow(&self, role: Role, asked: Asked) -> bool
+        ensures { result ≡ (asked.grows && (shape_in self.now role).many) }
+    {
+        asked.grows && self.form(role).many
+    }
+
     /// Makes a port of that role for the node with that id, and tells its number. Where it is
     /// refused, all stays. A port whose messages would grow is refused: there is no memory for it.
+    /// Where a message has one element, a port may be told that its messages grow, and none does.
     pub fn make_port(
         &mut self,
         alloc: Global,
@@ -168,7 +176,8 @@ impl<Q: Payload, QH: Words, P: Payload, PH: Words> Hub<Q, QH, P, PH> {
         if self.control.ports_made() >= 1 << 32 {
             return Err(NotMade::PortTag);
         }
-        if asked.large || asked.grows {
+        let grows = self.would_grow(role, asked);
+        if asked.large || grows {
             return Err(NotMade::DataSegment);
         }
         let Some(place) = next_place(self.control.pools()) else {

@@ -135,6 +135,13 @@ pub fn receives_with_a_new_server(
     }
 }
 
+/// No response of such a hub grows, whatever is said of it: each has one element.
+pub fn no_response_grows(hub: &Hub<Many<u64>, u32, One<u64>, ()>, options: Options)
+    ensures { would_grow hub.now roles.Server options ≡ false }
+{
+    hub.is_of_its_types();
+}
+
 /// A client whose messages would grow is not made, and all stays.
 pub fn makes_none_that_grows(
     hub: &mut Hub<Many<u64>, u32, One<u64>, ()>,

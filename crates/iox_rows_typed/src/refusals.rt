@@ -3,7 +3,7 @@
 use crate::exchange::{Active, Exchange, NODE, hub, ports, receive, tell};
 use iceoryx2_ports::{
     AllocationStrategy, BackpressureStrategy, ClientCreateError, LoanError, Many, One,
-    PortFactoryClient,
+    PortFactoryClient, PortFactoryServer, ServerCreateError,
 };
 use std::alloc::Global;
 use std::test::Fail;
@@ -73,19 +73,39 @@ fn refused(
     }
 }
 
+/// Why such a server is not made.
+fn refused_server(
+    alloc: Global,
+    hub: &mut Exchange,
+    factory: PortFactoryServer<One<u64>, (), Many<u8>, u32>,
+) -> Option<ServerCreateError> {
+    match factory.create(alloc, hub) {
+        Ok(server) => {
+            server.release(hub);
+            None
+        }
+        Err(error) => Some(error),
+    }
+}
+
 #[test]
-fn clients_are_refused_by_name(rt: HostRuntime) -> Result<(), Fail> {
+fn ports_are_refused_by_name(rt: HostRuntime) -> Result<(), Fail> {
     let mut hub = hub(rt.alloc(), true, BackpressureStrategy::DiscardData)?;
-    let growing = PortFactoryClient::new(0, NODE).allocation_strategy(
+    let growing = PortFactoryServer::new(1, NODE).allocation_strategy(
         AllocationStrategy::PowerOfTwo,
     );
-    let first = refused(rt.alloc(), &mut hub, growing);
+    let first = refused_server(rt.alloc(), &mut hub, growing);
+    let single = PortFactoryClient::new(0, NODE).allocation_strategy(
+        AllocationStrategy::PowerOfTwo,
+    );
+    let none = refused(rt.alloc(), &mut hub, single);
     let (client, server) = ports(rt.alloc(), &mut hub)?;
     let second = refused(rt.alloc(), &mut hub, PortFactoryClient::new(0, NODE));
     client.release(&mut hub);
     let third = refused(rt.alloc(), &mut hub, PortFactoryClient::new(0, NODE));
     server.release(&mut hub);
-    assert_eq!(rt; first, Some(ClientCreateError::UnableToCreateDataSegment));
+    assert_eq!(rt; first, Some(ServerCreateError::UnableToCreateDataSegment));
+    assert_eq!(rt; none, None);
     assert_eq!(rt; second, Some(ClientCreateError::ExceedsMaxSupportedClients));
     assert_eq!(rt; third, None);
     Ok(())

@@ -1,15 +1,14 @@
 //! Calls on the words of a wire where each setting is 1, with the exact number of their accesses.
 ghost use Rattle.std.specs.Prelude.{◌≡◌, ◌∷◌, ◌+◌, ◌<◌, ◌^◌, [], IfOk};
-ghost use Rattle.iox_wire_receives.specs.Aims.{HasRoomFor, MayReceive};
+ghost use Rattle.iox_wire_nodes.specs.ReceivesAims.{HasRoomFor, MayReceive};
 
 use crate::word_places::{CLIENT, SERVER, all_ones};
 use iox_model::kind::Kind;
 use iox_steps::Access;
-use iox_wire_locals::Entry;
-use iox_wire_receives::{ReceiveReply, Receiving};
-use iox_wire_seats::{Counts, Desks, SeatReply, StoredSeat};
-use iox_wire_ways::begin_request_receive;
-use iox_word_places::WordMap;
+use iox_wire_nodes::{
+    Counts, Desks, Entry, ReceiveReply, Receiving, SeatReply, StoredSeat, WordMap,
+    begin_request_receive,
+};
 use std::alloc::Global;
 use std::test::Fail;
 

@@ -2,9 +2,8 @@
 
 use iox_model::kind::Role;
 use iox_types::{MessageTypeDetails, RequestHeader, ResponseHeader, TypeVariant};
-use iox_wire_layouts::is_plan;
 use iox_wire_layouts::uses::map_if_it_makes_sense;
-use iox_word_places::{PlanLimits, PlanPort, WirePlan};
+use iox_wire_nodes::{PlanLimits, PlanPort, WirePlan, is_plan};
 use std::alloc::Global;
 use std::test::Fail;
 

@@ -4,9 +4,7 @@ ghost use Rattle.std.specs.Prelude.{◌≡◌};
 use crate::calls_on_words::{REQUESTS, WORDS};
 use crate::word_places::all_ones;
 use iox_steps::Access;
-use iox_wire_nodes::StoredNode;
-use iox_wire_seats::{Counts, Desks, StoredSeat};
-use iox_word_places::WordMap;
+use iox_wire_nodes::{Counts, Desks, StoredNode, StoredSeat, WordMap};
 use std::alloc::Global;
 use std::test::Fail;
 

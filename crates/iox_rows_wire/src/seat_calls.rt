@@ -4,8 +4,7 @@ ghost use Rattle.std.specs.Prelude.{◌≡◌, IfOk};
 use iox_model::kind::Kind;
 use iox_model::way::Way;
 use iox_steps::{Access, QueueKind, Site};
-use iox_wire_locals::Entry;
-use iox_wire_seats::{Counts, Desks, MessagePlaces, SeatReply, Stop, StoredSeat};
+use iox_wire_nodes::{Counts, Desks, Entry, MessagePlaces, SeatReply, Stop, StoredSeat};
 use std::alloc::Global;
 use std::test::Fail;
 

@@ -1,5 +1,5 @@
 //! What a new loan takes of the desks of a node.
-use iox_wire_seats::{Desks, StoredDesk};
+use iox_wire_nodes::{Desks, StoredDesk};
 use std::test::Fail;
 
 #[test]

@@ -4,8 +4,9 @@ ghost use Rattle.std.specs.Prelude.{◌≡◌, [], IfOk};
 use iox_model::kind::Kind;
 use iox_model::way::Way;
 use iox_steps::{QueueEvent, QueueKind, Site};
-use iox_wire_locals::{Borrowed, Entry};
-use iox_wire_seats::{Counts, Desks, Entries, Popper, Pusher, StoredDesk, StoredSeat};
+use iox_wire_nodes::{
+    Borrowed, Counts, Desks, Entries, Entry, Popper, Pusher, StoredDesk, StoredSeat,
+};
 use std::alloc::Global;
 use std::test::Fail;
 

@@ -1,11 +1,11 @@
 //! Maps of small wires, against places that were counted by hand.
 ghost use Rattle.std.specs.Prelude.{◌≡◌, [], ◌∷◌, IfOk};
-ghost use Rattle.iox_word_places.specs.Plans.{IsPlan};
+ghost use Rattle.iox_wire_nodes.specs.Plans.{IsPlan};
 
 use iox_model::kind::Role;
 use iox_types::{MessageTypeDetails, RequestHeader, ResponseHeader, TypeVariant};
+use iox_wire_nodes::{PlanLimits, PlanPort, WayIndex, WirePlan, WordMap, WordMapNewError};
 use iox_word_map::MessagePart;
-use iox_word_places::{PlanLimits, PlanPort, WayIndex, WirePlan, WordMap, WordMapNewError};
 use std::alloc::Global;
 use std::test::Fail;
 

@@ -25,49 +25,54 @@ use Rattle.iox_laws.proofs.WeaveLaws.MapLemmas.{eqb-refl}
 use Rattle.iox_laws.proofs.WeaveLaws.WholeLemmas.{or_else-none}
 use Rattle.iox_laws.proofs.WeaveLedger.Lists.{IsAmong, among-filter, among-map, among-number, find-among}
 use Rattle.iox_laws.proofs.WeaveLedger.Truths.{passed}
-use Rattle.iox_wire_moments.specs.MomentsOf.{Pools}
-use Rattle.iox_wire_locals.specs.declared.local.Ending.{Ending}
-use Rattle.iox_wire_locals.specs.declared.local.Ending.TheVariants as endings
-use Rattle.iox_wire_locals.specs.declared.local.Local.{Local}
-use Rattle.iox_wire_locals.specs.declared.local.Local.TheVariants.{Ends, Idle, LendStores, ReleaseExchanges, ReleaseLooks, SendAsks, SendEmpties, SendEnds, SendEvicts, SendGetsBack, SendLooks, SendOpens, SendPushes}
-use Rattle.iox_wire_locals.specs.declared.seat.Seat.{Seat}
-use Rattle.iox_wire_locals.specs.declared.table.Entry.{Entry}
-use Rattle.iox_wire_locals.specs.declared.table.Desk.{Desk}
-use Rattle.iox_wire_locals.specs.BeginLaws.{IsOwnEntry, IsOwnPort}
-use Rattle.iox_wire_locals.specs.Begins.{begin, begins_at_entry, begins_at_port, is_busy, misnamed_call, pending_visit, server_visit, ways_for}
-use Rattle.iox_wire_locals.specs.Desks.{picks}
-use Rattle.iox_wire_locals.specs.declared.local.Visit.{Visit}
-use Rattle.iox_wire_locals.specs.Known.{known, loans_at}
-use Rattle.iox_wire_locals.specs.Knowing.{Knows}
-use Rattle.iox_wire_locals.specs.ReceiveCourses.{checking, seeking, states_for, visiting}
-use Rattle.iox_wire_locals.specs.NewLoans.{message_in}
-use Rattle.iox_wire_locals.specs.Tables.{Setting, entry_at}
-use Rattle.iox_wire_laws.specs.WireRegions.OwnedBegins.{IsPortOf}
-use Rattle.iox_wire_laws.specs.WireRegions.OwnedWords.{Owns}
-use Rattle.iox_wire_laws.proofs.WireOwners.Borrowed.{counts_tell_limits}
-use Rattle.iox_wire_laws.proofs.WireOwners.Releases.{releases_begin_as_owners}
-use Rattle.iox_wire_laws.proofs.WireRegions.QuestionBegins.{questions_begin_as_owners}
-use Rattle.iox_wire_laws.proofs.WireRegions.ReceiveBegins.{receives_begin_as_owners}
-use Rattle.iox_wire_laws.specs.WireHolding.Aside.{shown_at}
-use Rattle.iox_wire_laws.specs.WireHolding.Holding.{held_at}
-use Rattle.iox_wire_laws.specs.WireHolding.SlotsKnown.{HasEntry, IsPortOfSeat}
-use Rattle.iox_wire_laws.specs.WireKeeping.UsedSlots.{CallHolds, slots_in_call}
-use Rattle.iox_wire_laws.proofs.WireKeeping.BeginBeats.{refusals_are_the_machines}
-use Rattle.iox_wire_laws.proofs.WireKeeping.CountsKept.{begins_keep_own}
-use Rattle.iox_wire_stands.specs.BeginLaws.{MayBegin}
-use Rattle.iox_wire_stands.specs.Following.{LeavesNothing, NoMessage, Sent, message_at}
-use Rattle.iox_wire_stands.specs.FollowingLaws.{TakesNext}
-use Rattle.iox_wire_stands.specs.Nodes.{NodeStands}
-use Rattle.iox_wire_stands.specs.Runs.{Run}
-use Rattle.iox_wire_stands.specs.Stands.{Player, Stands, seats_of, word_of}
-use Rattle.iox_wire_stands.proofs.Readiness.{own_port}
-use Rattle.iox_wire_stands.proofs.Starts.{Starting, Starts, Takes, starts}
-use Rattle.iox_wire_stands.proofs.StepsKept.{shown_same}
+use Rattle.iox_wire_steps.specs.MomentsOf.{Pools}
+use Rattle.iox_wire_steps.specs.Ending.{Ending}
+use Rattle.iox_wire_steps.specs.Ending.TheVariants as endings
+use Rattle.iox_wire_steps.specs.Local.{Local}
+use Rattle.iox_wire_steps.specs.Local.TheVariants.{Ends, Idle, LendStores, ReleaseExchanges, ReleaseLooks, SendAsks, SendEmpties, SendEnds, SendEvicts, SendGetsBack, SendLooks, SendOpens, SendPushes}
+use Rattle.iox_wire_steps.specs.Seat.{Seat}
+use Rattle.iox_wire_steps.specs.Entry.{Entry}
+use Rattle.iox_wire_steps.specs.Desk.{Desk}
+use Rattle.iox_wire_steps.specs.BeginLaws.{IsOwnEntry, IsOwnPort}
+use Rattle.iox_wire_steps.specs.Begins.{begin, begins_at_entry, begins_at_port, is_busy, misnamed_call, pending_visit, server_visit, ways_for}
+use Rattle.iox_wire_steps.specs.Desks.{picks}
+use Rattle.iox_wire_steps.specs.Visit.{Visit}
+use Rattle.iox_wire_steps.specs.Known.{known, loans_at}
+use Rattle.iox_wire_steps.specs.Knowing.{Knows}
+use Rattle.iox_wire_steps.specs.ReceiveCourses.{checking, seeking, states_for, visiting}
+use Rattle.iox_wire_steps.specs.NewLoans.{message_in}
+use Rattle.iox_wire_steps.specs.Tables.{Setting, entry_at}
+use Rattle.iox_wire_steps.specs.OwnedBegins.{IsPortOf}
+use Rattle.iox_wire_steps.specs.OwnedWords.{Owns}
+use Rattle.iox_wire_steps.proofs.Borrowed.{counts_tell_limits}
+use Rattle.iox_wire_steps.proofs.Releases.{releases_begin_as_owners}
+use Rattle.iox_wire_steps.proofs.QuestionBegins.{questions_begin_as_owners}
+use Rattle.iox_wire_steps.proofs.ReceiveBegins.{receives_begin_as_owners}
+use Rattle.iox_wire_steps.specs.Aside.{shown_at}
+use Rattle.iox_wire_steps.specs.Holding.{held_at}
+use Rattle.iox_wire_steps.specs.SlotsKnown.{HasEntry, IsPortOfSeat}
+use Rattle.iox_wire_steps.specs.UsedSlots.{CallHolds, slots_in_call}
+use Rattle.iox_wire_steps.proofs.BeginBeats.{refusals_are_the_machines}
+use Rattle.iox_wire_steps.proofs.CountsKept.{begins_keep_own}
+use Rattle.iox_wire_steps.specs.StandsBeginLaws.{MayBegin}
+use Rattle.iox_wire_steps.specs.Following.{LeavesNothing, NoMessage, Sent, message_at}
+use Rattle.iox_wire_steps.specs.FollowingLaws.{TakesNext}
+use Rattle.iox_wire_steps.specs.Nodes.{NodeStands}
+use Rattle.iox_wire_steps.specs.Runs.{Run}
+use Rattle.iox_wire_steps.specs.Stands.{Player, Stands, seats_of, word_of}
+use Rattle.iox_wire_steps.proofs.Readiness.{own_port}
+use Rattle.iox_wire_steps.proofs.Starts.{Starting, Starts, Takes, starts}
+use Rattle.iox_wire_steps.proofs.StepsKept.{shown_same}
 use Rattle.iox_wire_calls.specs.CallsStand.{BeginIsTold, CallStands, CallsMayBegin, CallsStand, moves_words}
 use Rattle.iox_wire_calls.specs.Places.{IsLoan, IsNext, OwnersAreSet, PlaceFits, SuitsPort}
 use Rattle.iox_wire_calls.proofs.EndsKnown.{lanes_fit_at_rest}
 use Rattle.iox_wire_calls.proofs.LanesTell.{port_there}
-use Rattle.iox_wire_calls.proofs.LoanSlots.{none_here}
+use Rattle.iox_wire_calls.proofs.LoanSlots.{none_here, on_lane}
+use Rattle.iox_wire_calls.proofs.LanesSet.{lanes_are_set}
+use Rattle.iox_wire_calls.proofs.LaneBegins.{begins_keep_lanes}
+use Rattle.iox_wire_calls.proofs.LaneSlots.{free_slots_have_lanes}
+use Rattle.iox_wire_calls.specs.LaneLaws.{HasLanesForSlots}
+use Rattle.iox_wire_calls.specs.Lanes.{AllLanesAreCounted}
 use Rattle.iox_wire_calls.proofs.HandleKinds.{asks_by, receives_is}
 use Rattle.iox_wire_calls.proofs.PlaceBegins.{begins_fit, by_call}
 use Rattle.iox_wire_calls.proofs.PlaceCourses.{desks_stay, loans_told}
@@ -262,6 +267,15 @@ module _ (p : Setting) (words : List ℕ) (players : ℕ → Player) (r : Run) (
       let own = ports_own m q at mine in
       stands.owners q.number ∙ ap (λ (o : Option Port). option_map_or (λ (r : Port). r.node) o 0) own.there ∙ mine
 
+  lanes_for : HasLanesForSlots p x
+  lanes_for =
+      subst (HasLanesForSlots p) rested
+      (free_slots_have_lanes p stands.held (word_of words) stands.contents (seats_of p players) r.last n stands.shows alive (stands.nodes n alive) (calls n alive).lanes)
+
+  -- the lanes of its clients stay counted
+  pub lanes_begun : AllLanesAreCounted p (begin p (players n).seat call)
+  lanes_begun = begins_keep_lanes p stands.held r.last.state x call stands.numbers owners_are_set named rests has.fits node lanes_for has.lanes
+
   module _ (few : (port : ℕ) → loans_at (players n).seat port < 2 ^ 64) (told : BeginIsTold p stands.held r.last.state (players n).seat call) where
     own_entry : (k : ℕ) (e : Entry) → entry_at k x.table ≡ Some e → IsOwnEntry p x r.last.state stands.held e
     own_entry k e at =
@@ -296,6 +310,7 @@ module _ (p : Setting) (words : List ℕ) (players : ℕ → Player) (r : Run) (
             alone = λ j low same.
                 absurd (none_here p stands.held r.last.state x 0 node has.fits has.loans few o j serial same (ap (slots_in_call o.port) rests)
                 (has.loans.serials o.port j home low));
+            lane = on_lane p y o slot 0 (lanes_are_set p words players r n stands alive) lanes_begun next takes.place;
           },
         )
 

@@ -2,21 +2,21 @@
 use Rattle.std.specs.Prelude.{◌⊎◌, map, ◌&&◌, ◌++◌}
 use Rattle.std.proofs.Common.{◌≡◌, ℕ, ◌+◌, Bool, true, false, if◌then◌else◌, ◌==◌, [], ◌∷◌, Some, refl, ap, sym, subst, ◌∙◌, inl, inr}
 use Rattle.iox_model.specs.States.{Fixed}
-use Rattle.iox_wire_moments.specs.MomentsOf.{Pools}
-use Rattle.iox_wire_locals.specs.declared.local.Local.{Local}
-use Rattle.iox_wire_locals.specs.declared.local.Local.TheVariants.{ReleaseExchanges, ReleaseLooks, ReleaseReturns}
-use Rattle.iox_wire_locals.specs.declared.seat.Seat.{Seat}
-use Rattle.iox_wire_locals.specs.declared.table.Entry.{Entry}
-use Rattle.iox_wire_locals.specs.Courses.{placed}
-use Rattle.iox_wire_locals.specs.Known.{free_lanes}
-use Rattle.iox_wire_locals.specs.NewLoans.{entry_in}
-use Rattle.iox_wire_locals.specs.Steps.{accessed, advance}
-use Rattle.iox_wire_locals.specs.Tables.{Setting, entry_at, with_entry}
-use Rattle.iox_wire_laws.specs.WireHolding.Aside.{aside, shown_at, with_aside}
-use Rattle.iox_wire_laws.specs.WireHolding.SlotsKnown.{HasEntry, PlaceStands}
-use Rattle.iox_wire_pools.specs.Uses.{how_often}
-use Rattle.iox_wire_stands.specs.Following.{CallMessage, Dropped, Follows, IsReturning, Leaving, LeavesNothing, Lent, NoMessage, Sent, Taken, drops, keeps, lets_go, message_at, picks_slot, puts_aside, sends_loan, takes}
-use Rattle.iox_wire_stands.proofs.EndTables.{one_other}
+use Rattle.iox_wire_steps.specs.MomentsOf.{Pools}
+use Rattle.iox_wire_steps.specs.Local.{Local}
+use Rattle.iox_wire_steps.specs.Local.TheVariants.{ReleaseExchanges, ReleaseLooks, ReleaseReturns}
+use Rattle.iox_wire_steps.specs.Seat.{Seat}
+use Rattle.iox_wire_steps.specs.Entry.{Entry}
+use Rattle.iox_wire_steps.specs.Courses.{placed}
+use Rattle.iox_wire_steps.specs.Known.{free_lanes}
+use Rattle.iox_wire_steps.specs.NewLoans.{entry_in}
+use Rattle.iox_wire_steps.specs.Steps.{accessed, advance}
+use Rattle.iox_wire_steps.specs.Tables.{Setting, entry_at, with_entry}
+use Rattle.iox_wire_steps.specs.Aside.{aside, shown_at, with_aside}
+use Rattle.iox_wire_steps.specs.SlotsKnown.{HasEntry, PlaceStands}
+use Rattle.iox_wire_steps.specs.Uses.{how_often}
+use Rattle.iox_wire_steps.specs.Following.{CallMessage, Dropped, Follows, IsReturning, Leaving, LeavesNothing, Lent, NoMessage, Sent, Taken, drops, keeps, lets_go, message_at, picks_slot, puts_aside, sends_loan, takes}
+use Rattle.iox_wire_steps.proofs.EndTables.{one_other}
 use Rattle.iox_wire_calls.specs.CallsStand.{CallStands}
 use Rattle.iox_wire_calls.specs.Lanes.{has_own_lane, lanes_in, lent_in}
 use Rattle.iox_wire_calls.specs.LoanSlots.{LoansStand}

@@ -9,21 +9,21 @@ use Rattle.iox_model.specs.Peers.{lanes_of, port_at}
 use Rattle.iox_model.specs.Settings.{is_client}
 use Rattle.iox_model.specs.States.{Handle, Port, State}
 use Rattle.iox_laws.proofs.WeaveLedger.Lists.{among-number, find-among, map-among}
-use Rattle.iox_wire_moments.specs.MomentsOf.{Pools}
-use Rattle.iox_wire_locals.specs.declared.local.Ending.{Ending}
-use Rattle.iox_wire_locals.specs.declared.local.Ending.TheVariants as endings
-use Rattle.iox_wire_locals.specs.declared.local.Local.TheVariants.{Ends, Idle}
-use Rattle.iox_wire_locals.specs.declared.seat.Seat.{Seat}
-use Rattle.iox_wire_locals.specs.declared.table.Entry.{Entry}
-use Rattle.iox_wire_locals.specs.Known.{free_lanes, known, told_handle}
-use Rattle.iox_wire_locals.specs.Tables.{Setting}
-use Rattle.iox_wire_laws.specs.WireKeeping.Readiness.{LanesFit}
-use Rattle.iox_wire_laws.specs.WireOwners.SentStates.{HasOpened}
-use Rattle.iox_wire_laws.specs.WireHolding.SlotsKnown.{IsPortOfSeat}
-use Rattle.iox_wire_pools.specs.Uses.{how_often}
-use Rattle.iox_wire_pools.proofs.Counting.{none_used, used}
-use Rattle.iox_wire_stands.specs.Following.{Sent, message_at}
-use Rattle.iox_wire_stands.specs.Stands.{AreNumbered}
+use Rattle.iox_wire_steps.specs.MomentsOf.{Pools}
+use Rattle.iox_wire_steps.specs.Ending.{Ending}
+use Rattle.iox_wire_steps.specs.Ending.TheVariants as endings
+use Rattle.iox_wire_steps.specs.Local.TheVariants.{Ends, Idle}
+use Rattle.iox_wire_steps.specs.Seat.{Seat}
+use Rattle.iox_wire_steps.specs.Entry.{Entry}
+use Rattle.iox_wire_steps.specs.Known.{free_lanes, known, told_handle}
+use Rattle.iox_wire_steps.specs.Tables.{Setting}
+use Rattle.iox_wire_steps.specs.Readiness.{LanesFit}
+use Rattle.iox_wire_steps.specs.SentStates.{HasOpened}
+use Rattle.iox_wire_steps.specs.SlotsKnown.{IsPortOfSeat}
+use Rattle.iox_wire_steps.specs.Uses.{how_often}
+use Rattle.iox_wire_steps.proofs.Counting.{none_used, used}
+use Rattle.iox_wire_steps.specs.Following.{Sent, message_at}
+use Rattle.iox_wire_steps.specs.Stands.{AreNumbered}
 use Rattle.iox_wire_steps.specs.Over.{CallIsOver, EndIsTold, EndsWith}
 use Rattle.iox_wire_calls.specs.EndsTold.{EndsAreTold, HeaderIsTold, LanesFitAtRest}
 use Rattle.iox_wire_calls.specs.Lanes.{AllLanesAreCounted, has_own_lane, lanes_in, lanes_used, lent_in}

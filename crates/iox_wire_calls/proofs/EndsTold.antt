@@ -6,21 +6,21 @@ use Rattle.iox_model.specs.Settings.{is_client}
 use Rattle.iox_model.specs.States.{State}
 use Rattle.iox_laws.proofs.WeaveLaws.WholeLemmas.{some-is}
 use Rattle.iox_laws.proofs.WeaveLedger.Truths.{none-some}
-use Rattle.iox_wire_moments.specs.MomentsOf.{Pools}
-use Rattle.iox_wire_locals.specs.declared.local.Delivery.{Delivery}
-use Rattle.iox_wire_locals.specs.declared.local.Ending.{Ending}
-use Rattle.iox_wire_locals.specs.declared.local.Ending.TheVariants as endings
-use Rattle.iox_wire_locals.specs.declared.local.Local.{Local}
-use Rattle.iox_wire_locals.specs.declared.local.Local.TheVariants.{Ends, SendEnds}
-use Rattle.iox_wire_locals.specs.declared.local.Visit.{Visit}
-use Rattle.iox_wire_locals.specs.declared.seat.Seat.{Seat}
-use Rattle.iox_wire_locals.specs.declared.table.Entry.{Entry}
-use Rattle.iox_wire_locals.specs.NewLoans.{request_in}
-use Rattle.iox_wire_locals.specs.Steps.{ending_at}
-use Rattle.iox_wire_locals.specs.Tables.{Setting, sent_entry}
-use Rattle.iox_wire_laws.specs.WireOwners.Releases.{HasOwnStates}
-use Rattle.iox_wire_laws.specs.WireOwners.SentStates.{HasOpened}
-use Rattle.iox_wire_laws.proofs.WireOwners.SentStates.{sent_requests_have_states}
+use Rattle.iox_wire_steps.specs.MomentsOf.{Pools}
+use Rattle.iox_wire_steps.specs.Delivery.{Delivery}
+use Rattle.iox_wire_steps.specs.Ending.{Ending}
+use Rattle.iox_wire_steps.specs.Ending.TheVariants as endings
+use Rattle.iox_wire_steps.specs.Local.{Local}
+use Rattle.iox_wire_steps.specs.Local.TheVariants.{Ends, SendEnds}
+use Rattle.iox_wire_steps.specs.Visit.{Visit}
+use Rattle.iox_wire_steps.specs.Seat.{Seat}
+use Rattle.iox_wire_steps.specs.Entry.{Entry}
+use Rattle.iox_wire_steps.specs.NewLoans.{request_in}
+use Rattle.iox_wire_steps.specs.Steps.{ending_at}
+use Rattle.iox_wire_steps.specs.Tables.{Setting, sent_entry}
+use Rattle.iox_wire_steps.specs.Releases.{HasOwnStates}
+use Rattle.iox_wire_steps.specs.SentStates.{HasOpened}
+use Rattle.iox_wire_steps.proofs.SentStates.{sent_requests_have_states}
 use Rattle.iox_wire_calls.specs.Places.{IsLoan, PlaceFits}
 
 module _ (p : Setting) (held : Pools) (s : State) (x : Seat) where

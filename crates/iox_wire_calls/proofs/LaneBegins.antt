@@ -13,28 +13,28 @@ use Rattle.iox_model.specs.Receives.{is_at_limit, server_ways}
 use Rattle.iox_model.specs.Settings.{is_client, is_count}
 use Rattle.iox_model.specs.States.{Port}
 use Rattle.iox_laws.proofs.WeaveLaws.MapLemmas.{either}
-use Rattle.iox_wire_locals.specs.declared.local.CallRefusal.{CallRefusal}
-use Rattle.iox_wire_locals.specs.declared.local.Ending.TheVariants as endings
-use Rattle.iox_wire_locals.specs.declared.local.CallRefusal.TheVariants.{WrongLength}
-use Rattle.iox_wire_locals.specs.declared.local.Local.{Local}
-use Rattle.iox_wire_locals.specs.declared.local.Local.TheVariants.{LendStores}
-use Rattle.iox_wire_locals.specs.declared.local.Visit.{Visit}
-use Rattle.iox_wire_locals.specs.declared.seat.Seat.{Seat}
-use Rattle.iox_wire_locals.specs.declared.table.Entry.{Entry}
-use Rattle.iox_wire_locals.specs.declared.table.NewLoan.{NewLoan}
-use Rattle.iox_wire_locals.specs.Begins.{misnamed_call}
-use Rattle.iox_wire_locals.specs.Begins as begins
-use Rattle.iox_wire_locals.specs.Courses as courses
-use Rattle.iox_wire_locals.specs.Known.{free_lanes, known}
-use Rattle.iox_wire_locals.specs.Lendings as lendings
-use Rattle.iox_wire_locals.specs.NewLoans.{loan_in}
-use Rattle.iox_wire_locals.specs.ReceiveCourses as receives
-use Rattle.iox_wire_locals.specs.Tables.{Setting, way_in, words_to_read}
-use Rattle.iox_wire_laws.proofs.WireKeeping.CountsKept.{begins_keep_own}
-use Rattle.iox_wire_stands.specs.Following.{CallMessage, Dropped, NoMessage, OfEntry, Sent, message_at}
-use Rattle.iox_wire_stands.specs.Stands.{AreNumbered}
-use Rattle.iox_wire_stands.proofs.Follows as follows
-use Rattle.iox_wire_stands.proofs.Starts.{Starting, Starts, Takes, starts}
+use Rattle.iox_wire_steps.specs.CallRefusal.{CallRefusal}
+use Rattle.iox_wire_steps.specs.Ending.TheVariants as endings
+use Rattle.iox_wire_steps.specs.CallRefusal.TheVariants.{WrongLength}
+use Rattle.iox_wire_steps.specs.Local.{Local}
+use Rattle.iox_wire_steps.specs.Local.TheVariants.{LendStores}
+use Rattle.iox_wire_steps.specs.Visit.{Visit}
+use Rattle.iox_wire_steps.specs.Seat.{Seat}
+use Rattle.iox_wire_steps.specs.Entry.{Entry}
+use Rattle.iox_wire_steps.specs.NewLoan.{NewLoan}
+use Rattle.iox_wire_steps.specs.Begins.{misnamed_call}
+use Rattle.iox_wire_steps.specs.Begins as begins
+use Rattle.iox_wire_steps.specs.Courses as courses
+use Rattle.iox_wire_steps.specs.Known.{free_lanes, known}
+use Rattle.iox_wire_steps.specs.Lendings as lendings
+use Rattle.iox_wire_steps.specs.NewLoans.{loan_in}
+use Rattle.iox_wire_steps.specs.ReceiveCourses as receives
+use Rattle.iox_wire_steps.specs.Tables.{Setting, way_in, words_to_read}
+use Rattle.iox_wire_steps.proofs.CountsKept.{begins_keep_own}
+use Rattle.iox_wire_steps.specs.Following.{CallMessage, Dropped, NoMessage, OfEntry, Sent, message_at}
+use Rattle.iox_wire_steps.specs.Stands.{AreNumbered}
+use Rattle.iox_wire_steps.proofs.Follows as follows
+use Rattle.iox_wire_steps.proofs.Starts.{Starting, Starts, Takes, starts}
 use Rattle.iox_wire_calls.specs.LaneLaws.{BeginsKeepLanes}
 use Rattle.iox_wire_calls.specs.Lanes.{AllLanesAreCounted, lent_in}
 use Rattle.iox_wire_calls.specs.Places.{CallFits, OwnersAreSet, PlaceFits, SuitsPort, TakesFirst}

@@ -3,11 +3,11 @@ use Rattle.std.specs.Prelude.{find, map, option_map}
 use Rattle.std.specs.Option.{option_map_or}
 use Rattle.std.proofs.Common.{◌≡◌, ℕ, Bool, true, false, if◌then◌else◌, ◌==◌, List, [], Some, refl, ap, ◌∙◌, eqb-true}
 use Rattle.iox_laws.proofs.WeaveLedger.Lists.{find-among}
-use Rattle.iox_wire_locals.specs.declared.seat.Seat.{Seat}
-use Rattle.iox_wire_locals.specs.declared.table.Desk.{Desk}
-use Rattle.iox_wire_locals.specs.Desks.{on_desk}
-use Rattle.iox_wire_locals.specs.Known.{free_lanes}
-use Rattle.iox_wire_laws.proofs.WireKeeping.RecordsKept.{found}
+use Rattle.iox_wire_steps.specs.Seat.{Seat}
+use Rattle.iox_wire_steps.specs.Desk.{Desk}
+use Rattle.iox_wire_steps.specs.Desks.{on_desk}
+use Rattle.iox_wire_steps.specs.Known.{free_lanes}
+use Rattle.iox_wire_steps.proofs.RecordsKept.{found}
 
 module _ (x : Seat) (port : ℕ) (d : Desk) (there : find (λ d. d.port == port) x.desks ≡ Some d) where
   -- those of its desk

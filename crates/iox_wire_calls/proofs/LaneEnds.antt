@@ -12,27 +12,27 @@ use Rattle.iox_laws.proofs.WeaveLaws.CallLaws.{eqb-flip}
 use Rattle.iox_laws.proofs.WeaveLaws.MapLemmas.{either, eqb-refl}
 use Rattle.iox_laws.proofs.WeaveLaws.WholeLemmas.{some-is}
 use Rattle.iox_laws.proofs.WeaveLedger.Truths.{none-some, second-fails}
-use Rattle.iox_wire_moments.specs.MomentsOf.{Pools}
-use Rattle.iox_wire_locals.specs.declared.local.CallRefusal.{CallRefusal}
-use Rattle.iox_wire_locals.specs.declared.local.Ending.{Ending}
-use Rattle.iox_wire_locals.specs.declared.local.Ending.TheVariants as endings
-use Rattle.iox_wire_locals.specs.declared.local.Local.{Local}
-use Rattle.iox_wire_locals.specs.declared.local.Local.TheVariants.{Ends, Idle, SendEnds}
-use Rattle.iox_wire_locals.specs.declared.seat.Seat.{Seat}
-use Rattle.iox_wire_locals.specs.declared.table.Desk.{Desk}
-use Rattle.iox_wire_locals.specs.declared.table.Entry.{Entry}
-use Rattle.iox_wire_locals.specs.Courses.{placed}
-use Rattle.iox_wire_locals.specs.Desks.{all_less, at_count, at_desk, counts_loan, forgets_ports, gives_up, lanes_back, on_desk, slots_to, uses_less}
-use Rattle.iox_wire_locals.specs.Known.{free_lanes, known}
-use Rattle.iox_wire_locals.specs.Lendings.{next_handle}
-use Rattle.iox_wire_locals.specs.NewLoans.{entry_in, received_entry}
-use Rattle.iox_wire_locals.specs.Settlements as settle
-use Rattle.iox_wire_locals.specs.Steps.{ending_at}
-use Rattle.iox_wire_locals.specs.Tables.{Setting, sent_entry, way_in, without_entry}
-use Rattle.iox_wire_laws.specs.WireHolding.SlotsKnown.{HasEntry, IsPortOfSeat}
-use Rattle.iox_wire_pools.specs.Uses.{how_often}
-use Rattle.iox_wire_pools.proofs.Counting.{often_both}
-use Rattle.iox_wire_stands.specs.Following.{message_at, message_ended}
+use Rattle.iox_wire_steps.specs.MomentsOf.{Pools}
+use Rattle.iox_wire_steps.specs.CallRefusal.{CallRefusal}
+use Rattle.iox_wire_steps.specs.Ending.{Ending}
+use Rattle.iox_wire_steps.specs.Ending.TheVariants as endings
+use Rattle.iox_wire_steps.specs.Local.{Local}
+use Rattle.iox_wire_steps.specs.Local.TheVariants.{Ends, Idle, SendEnds}
+use Rattle.iox_wire_steps.specs.Seat.{Seat}
+use Rattle.iox_wire_steps.specs.Desk.{Desk}
+use Rattle.iox_wire_steps.specs.Entry.{Entry}
+use Rattle.iox_wire_steps.specs.Courses.{placed}
+use Rattle.iox_wire_steps.specs.Desks.{all_less, at_count, at_desk, counts_loan, forgets_ports, gives_up, lanes_back, on_desk, slots_to, uses_less}
+use Rattle.iox_wire_steps.specs.Known.{free_lanes, known}
+use Rattle.iox_wire_steps.specs.Lendings.{next_handle}
+use Rattle.iox_wire_steps.specs.NewLoans.{entry_in, received_entry}
+use Rattle.iox_wire_steps.specs.Settlements as settle
+use Rattle.iox_wire_steps.specs.Steps.{ending_at}
+use Rattle.iox_wire_steps.specs.Tables.{Setting, sent_entry, way_in, without_entry}
+use Rattle.iox_wire_steps.specs.SlotsKnown.{HasEntry, IsPortOfSeat}
+use Rattle.iox_wire_steps.specs.Uses.{how_often}
+use Rattle.iox_wire_steps.proofs.Counting.{often_both}
+use Rattle.iox_wire_steps.specs.Following.{message_at, message_ended}
 use Rattle.iox_wire_steps.specs.Over.{CallIsOver}
 use Rattle.iox_wire_calls.specs.LaneLaws.{EndsKeepLanes}
 use Rattle.iox_wire_calls.specs.Lanes.{AllLanesAreCounted, has_own_lane, lanes_in, lent_in}

@@ -4,9 +4,9 @@ use Rattle.std.proofs.Common.{◌≡◌, ℕ, ◌+◌, Bool, true, false, if◌t
 use Rattle.iox_model.specs.Maps.{AreDistinct, has_number}
 use Rattle.iox_laws.proofs.WeaveLaws.WholeLemmas.{some-is}
 use Rattle.iox_laws.proofs.WeaveLedger.Truths.{none-some, or-false}
-use Rattle.iox_wire_locals.specs.declared.table.Entry.{Entry}
-use Rattle.iox_wire_locals.specs.Tables.{entry_at, with_entry, without_entry}
-use Rattle.iox_wire_pools.specs.Uses.{how_often}
+use Rattle.iox_wire_steps.specs.Entry.{Entry}
+use Rattle.iox_wire_steps.specs.Tables.{entry_at, with_entry, without_entry}
+use Rattle.iox_wire_steps.specs.Uses.{how_often}
 use Rattle.iox_wire_calls.specs.Lanes.{has_own_lane, lanes_in}
 
 module _ (port lane : ℕ) where

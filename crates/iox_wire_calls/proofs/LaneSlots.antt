@@ -11,20 +11,20 @@ use Rattle.iox_model.specs.Settings.{is_client}
 use Rattle.iox_model.specs.Weaves.{World}
 use Rattle.iox_laws.proofs.WeaveLedger.Lists.{IsAmong, NoRepeats, among-back, among-front, among-number, distinct-no_repeats, number-among}
 use Rattle.iox_laws.proofs.WeaveLedger.Ranges.{no-longer, range-apart, range-has}
-use Rattle.iox_wire_words.specs.Fits.{WireContents}
-use Rattle.iox_wire_moments.specs.MomentsOf.{Pools}
-use Rattle.iox_wire_locals.specs.declared.seat.Seat.{Seat}
-use Rattle.iox_wire_locals.specs.declared.table.Entry.{Entry}
-use Rattle.iox_wire_locals.specs.Known.{free_lanes, free_slots}
-use Rattle.iox_wire_locals.specs.Tables.{Setting}
-use Rattle.iox_wire_laws.specs.WireKeeping.PoolSlots.{PoolFits}
-use Rattle.iox_wire_laws.specs.WireKeeping.Shows.{ShowsWorld}
-use Rattle.iox_wire_laws.specs.WireKeeping.UsedSlots.{slots_held, slots_in_call, slots_used}
-use Rattle.iox_wire_laws.specs.WireHolding.SlotsKnown.{IsPortOfSeat}
-use Rattle.iox_wire_pools.specs.Uses.{how_often}
-use Rattle.iox_wire_pools.proofs.Counting.{is_used}
-use Rattle.iox_wire_stands.specs.Following.{message_at}
-use Rattle.iox_wire_stands.specs.Nodes.{NodeStands}
+use Rattle.iox_wire_steps.specs.Fits.{WireContents}
+use Rattle.iox_wire_steps.specs.MomentsOf.{Pools}
+use Rattle.iox_wire_steps.specs.Seat.{Seat}
+use Rattle.iox_wire_steps.specs.Entry.{Entry}
+use Rattle.iox_wire_steps.specs.Known.{free_lanes, free_slots}
+use Rattle.iox_wire_steps.specs.Tables.{Setting}
+use Rattle.iox_wire_steps.specs.PoolSlots.{PoolFits}
+use Rattle.iox_wire_steps.specs.Shows.{ShowsWorld}
+use Rattle.iox_wire_steps.specs.UsedSlots.{slots_held, slots_in_call, slots_used}
+use Rattle.iox_wire_steps.specs.SlotsKnown.{IsPortOfSeat}
+use Rattle.iox_wire_steps.specs.Uses.{how_often}
+use Rattle.iox_wire_steps.proofs.Counting.{is_used}
+use Rattle.iox_wire_steps.specs.Following.{message_at}
+use Rattle.iox_wire_steps.specs.Nodes.{NodeStands}
 use Rattle.iox_wire_steps.proofs.OwnSlotsApart.{slots_differ}
 use Rattle.iox_wire_calls.specs.LaneLaws.{FreeSlotsHaveLanes}
 use Rattle.iox_wire_calls.specs.Lanes.{AllLanesAreCounted, has_own_lane, lanes_in, lent_in}

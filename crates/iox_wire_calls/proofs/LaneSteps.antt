@@ -17,28 +17,28 @@ use Rattle.iox_steps.specs.declared.side.Popping.TheVariants as popping
 use Rattle.iox_steps.specs.declared.side.QueueEvent.{QueueEvent}
 use Rattle.iox_steps.specs.declared.side.QueueEvent.TheVariants.{HandOut, SeesEmpty}
 use Rattle.iox_word_map.specs.WordMaps.{ReturningQueue}
-use Rattle.iox_wire_words.specs.Programs.{site_of}
-use Rattle.iox_wire_locals.specs.declared.local.Local.{Local}
-use Rattle.iox_wire_locals.specs.declared.local.Local.TheVariants.{LendEmpties, LendStores, ReceivePops, ReleaseReturns}
-use Rattle.iox_wire_locals.specs.declared.seat.Seat.{Seat}
-use Rattle.iox_wire_locals.specs.declared.table.Desk.{Desk}
-use Rattle.iox_wire_locals.specs.declared.table.Entry.{Entry}
-use Rattle.iox_wire_locals.specs.declared.table.NewLoan.{NewLoan}
-use Rattle.iox_wire_locals.specs.Courses as courses
-use Rattle.iox_wire_locals.specs.Desks.{at_desk, delivers, gets_back, picks}
-use Rattle.iox_wire_locals.specs.Findings as findings
-use Rattle.iox_wire_locals.specs.Known.{free_lanes, free_slots}
-use Rattle.iox_wire_locals.specs.Lendings.{first_lane}
-use Rattle.iox_wire_locals.specs.NewLoans.{entry_in}
-use Rattle.iox_wire_locals.specs.Steps.{accessed, advance}
-use Rattle.iox_wire_locals.specs.Tables.{Setting}
-use Rattle.iox_wire_laws.specs.WireKeeping.OwnParts.{KeepsOwn}
-use Rattle.iox_wire_laws.specs.WireHolding.SlotsKnown.{IsPortOfSeat}
-use Rattle.iox_wire_laws.proofs.WireKeeping.CountsKept.{steps_keep_own}
-use Rattle.iox_wire_pools.specs.Uses.{AllUsesAreCounted, how_often}
-use Rattle.iox_wire_pools.proofs.Counting.{one_out}
-use Rattle.iox_wire_stands.specs.Following.{CallMessage, DeskChange, Delivered, Follows, GotBack, IsLending, IsOfEntry, IsReturning, Leaving, MayLetGo, OfEntry, Taken, TakesOn, Unchanged, changed, desk_change, drops, keeps, lets_go, message_at, picks_slot, puts_aside, sends_loan, takes}
-use Rattle.iox_wire_stands.proofs.Follows.{accesses_follow}
+use Rattle.iox_wire_steps.specs.Programs.{site_of}
+use Rattle.iox_wire_steps.specs.Local.{Local}
+use Rattle.iox_wire_steps.specs.Local.TheVariants.{LendEmpties, LendStores, ReceivePops, ReleaseReturns}
+use Rattle.iox_wire_steps.specs.Seat.{Seat}
+use Rattle.iox_wire_steps.specs.Desk.{Desk}
+use Rattle.iox_wire_steps.specs.Entry.{Entry}
+use Rattle.iox_wire_steps.specs.NewLoan.{NewLoan}
+use Rattle.iox_wire_steps.specs.Courses as courses
+use Rattle.iox_wire_steps.specs.Desks.{at_desk, delivers, gets_back, picks}
+use Rattle.iox_wire_steps.specs.Findings as findings
+use Rattle.iox_wire_steps.specs.Known.{free_lanes, free_slots}
+use Rattle.iox_wire_steps.specs.Lendings.{first_lane}
+use Rattle.iox_wire_steps.specs.NewLoans.{entry_in}
+use Rattle.iox_wire_steps.specs.Steps.{accessed, advance}
+use Rattle.iox_wire_steps.specs.Tables.{Setting}
+use Rattle.iox_wire_steps.specs.OwnParts.{KeepsOwn}
+use Rattle.iox_wire_steps.specs.SlotsKnown.{IsPortOfSeat}
+use Rattle.iox_wire_steps.proofs.CountsKept.{steps_keep_own}
+use Rattle.iox_wire_steps.specs.Uses.{AllUsesAreCounted, how_often}
+use Rattle.iox_wire_steps.proofs.Counting.{one_out}
+use Rattle.iox_wire_steps.specs.Following.{CallMessage, DeskChange, Delivered, Follows, GotBack, IsLending, IsOfEntry, IsReturning, Leaving, MayLetGo, OfEntry, Taken, TakesOn, Unchanged, changed, desk_change, drops, keeps, lets_go, message_at, picks_slot, puts_aside, sends_loan, takes}
+use Rattle.iox_wire_steps.proofs.Follows.{accesses_follow}
 use Rattle.iox_wire_calls.specs.LaneLaws.{AccessesKeepLanes, HasLanesForSlots}
 use Rattle.iox_wire_calls.specs.Lanes.{AllLanesAreCounted, has_own_lane, lanes_in, lanes_used, lent_in}
 use Rattle.iox_wire_calls.specs.Places.{CallFits, IsPop, PlaceFits, TakesFirst}

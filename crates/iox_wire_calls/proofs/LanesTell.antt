@@ -16,21 +16,21 @@ use Rattle.iox_laws.proofs.WeaveLaws.MapLemmas.{eqb-refl}
 use Rattle.iox_laws.proofs.WeaveLaws.WholeLemmas.{some-is}
 use Rattle.iox_laws.proofs.WeaveLedger.Lists.{IsAmong, among-filter, among-map, among-number, find-among}
 use Rattle.iox_laws.proofs.WeaveLedger.Truths.{both_true}
-use Rattle.iox_wire_moments.specs.MomentsOf.{Pools}
-use Rattle.iox_wire_locals.specs.declared.local.Delivery.{Delivery}
-use Rattle.iox_wire_locals.specs.declared.local.Local.{Local}
-use Rattle.iox_wire_locals.specs.declared.local.Local.TheVariants.{SendOpens}
-use Rattle.iox_wire_locals.specs.declared.seat.Seat.{Seat}
-use Rattle.iox_wire_locals.specs.declared.table.Entry.{Entry}
-use Rattle.iox_wire_locals.specs.Known.{free_lanes}
-use Rattle.iox_wire_locals.specs.Tables.{Setting, entry_at, without_entry}
-use Rattle.iox_wire_laws.specs.WireOwners.SentStates.{OpensElsewhere}
-use Rattle.iox_wire_laws.specs.WireHolding.SlotsKnown.{HasEntry, HasSent, IsPortOfSeat, PlaceStands}
-use Rattle.iox_wire_pools.specs.Uses.{how_often}
-use Rattle.iox_wire_pools.proofs.Counting.{used}
-use Rattle.iox_wire_stands.specs.Following.{message_at}
-use Rattle.iox_wire_stands.specs.Nodes.{NodeStands}
-use Rattle.iox_wire_stands.specs.Stands.{AreNumbered}
+use Rattle.iox_wire_steps.specs.MomentsOf.{Pools}
+use Rattle.iox_wire_steps.specs.Delivery.{Delivery}
+use Rattle.iox_wire_steps.specs.Local.{Local}
+use Rattle.iox_wire_steps.specs.Local.TheVariants.{SendOpens}
+use Rattle.iox_wire_steps.specs.Seat.{Seat}
+use Rattle.iox_wire_steps.specs.Entry.{Entry}
+use Rattle.iox_wire_steps.specs.Known.{free_lanes}
+use Rattle.iox_wire_steps.specs.Tables.{Setting, entry_at, without_entry}
+use Rattle.iox_wire_steps.specs.SentStates.{OpensElsewhere}
+use Rattle.iox_wire_steps.specs.SlotsKnown.{HasEntry, HasSent, IsPortOfSeat, PlaceStands}
+use Rattle.iox_wire_steps.specs.Uses.{how_often}
+use Rattle.iox_wire_steps.proofs.Counting.{used}
+use Rattle.iox_wire_steps.specs.Following.{message_at}
+use Rattle.iox_wire_steps.specs.Nodes.{NodeStands}
+use Rattle.iox_wire_steps.specs.Stands.{AreNumbered}
 use Rattle.iox_wire_calls.specs.EndsTold.{SendsOpenElsewhere}
 use Rattle.iox_wire_calls.specs.Lanes.{AllLanesAreCounted, has_own_lane, lanes_in, lanes_used, lent_in}
 use Rattle.iox_wire_calls.specs.Places.{CallFits, IsLoan, PlaceFits, SuitsPort, is_kind_of}

@@ -10,27 +10,27 @@ use Rattle.iox_laws.proofs.WeaveLaws.CallLaws.{eqb-flip}
 use Rattle.iox_laws.proofs.WeaveLaws.MapLemmas.{either}
 use Rattle.iox_laws.proofs.WeaveLedger.Lists.{among-front, among-number, find-among, number-among}
 use Rattle.iox_model.specs.Messages.{Message}
-use Rattle.iox_wire_moments.specs.MomentsOf.{Pools}
-use Rattle.iox_wire_locals.specs.declared.local.CallRefusal.{CallRefusal}
-use Rattle.iox_wire_locals.specs.declared.local.Ending.{Ending}
-use Rattle.iox_wire_locals.specs.declared.local.Ending.TheVariants as endings
-use Rattle.iox_wire_locals.specs.declared.seat.Seat.{Seat}
-use Rattle.iox_wire_locals.specs.declared.table.Desk.{Desk}
-use Rattle.iox_wire_locals.specs.declared.table.Entry.{Entry}
-use Rattle.iox_wire_locals.specs.declared.table.NewLoan.{NewLoan}
-use Rattle.iox_wire_locals.specs.Desks.{all_less, at_count, at_desk, counts_loan, forgets_ports, gives_up, on_desk, slots_to, uses_less}
-use Rattle.iox_wire_locals.specs.Known.{known, loans_at}
-use Rattle.iox_wire_locals.specs.NewLoans.{entry_in, message_in}
-use Rattle.iox_wire_locals.specs.Settlements as settle
-use Rattle.iox_wire_locals.specs.Steps.{closed}
-use Rattle.iox_wire_locals.specs.Tables.{Setting, way_in}
-use Rattle.iox_wire_laws.specs.WireKeeping.UsedSlots.{slots_in_call, slots_used}
-use Rattle.iox_wire_laws.specs.WireKeeping.Writes.{is_slot_of, with_payload}
-use Rattle.iox_wire_laws.specs.WireHolding.Holding.{held_with}
-use Rattle.iox_wire_laws.specs.WireHolding.SlotsKnown.{IsPortOfSeat}
-use Rattle.iox_wire_laws.proofs.WireKeeping.RecordsKept.{found}
-use Rattle.iox_wire_laws.proofs.WireRegions.OwnPorts.{both}
-use Rattle.iox_wire_stands.specs.Following.{message_at, message_ended}
+use Rattle.iox_wire_steps.specs.MomentsOf.{Pools}
+use Rattle.iox_wire_steps.specs.CallRefusal.{CallRefusal}
+use Rattle.iox_wire_steps.specs.Ending.{Ending}
+use Rattle.iox_wire_steps.specs.Ending.TheVariants as endings
+use Rattle.iox_wire_steps.specs.Seat.{Seat}
+use Rattle.iox_wire_steps.specs.Desk.{Desk}
+use Rattle.iox_wire_steps.specs.Entry.{Entry}
+use Rattle.iox_wire_steps.specs.NewLoan.{NewLoan}
+use Rattle.iox_wire_steps.specs.Desks.{all_less, at_count, at_desk, counts_loan, forgets_ports, gives_up, on_desk, slots_to, uses_less}
+use Rattle.iox_wire_steps.specs.Known.{known, loans_at}
+use Rattle.iox_wire_steps.specs.NewLoans.{entry_in, message_in}
+use Rattle.iox_wire_steps.specs.Settlements as settle
+use Rattle.iox_wire_steps.specs.Steps.{closed}
+use Rattle.iox_wire_steps.specs.Tables.{Setting, way_in}
+use Rattle.iox_wire_steps.specs.UsedSlots.{slots_in_call, slots_used}
+use Rattle.iox_wire_steps.specs.Writes.{is_slot_of, with_payload}
+use Rattle.iox_wire_steps.specs.Holding.{held_with}
+use Rattle.iox_wire_steps.specs.SlotsKnown.{IsPortOfSeat}
+use Rattle.iox_wire_steps.proofs.RecordsKept.{found}
+use Rattle.iox_wire_steps.proofs.OwnPorts.{both}
+use Rattle.iox_wire_steps.specs.Following.{message_at, message_ended}
 use Rattle.iox_wire_steps.specs.Over.{CallIsOver}
 use Rattle.iox_wire_steps.specs.WholeSteps.{held_closed}
 use Rattle.iox_wire_calls.specs.LoanSlots.{EndsKeepLoanSlots, HoldsLoan, HoldsSerial, LoansStand}

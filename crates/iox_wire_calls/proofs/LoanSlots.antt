@@ -1,41 +1,53 @@
 -- The slots of loans over each access, and what they tell.
-use Rattle.std.specs.Prelude.{◌<◌, ◌≤◌, ◌^◌, ◌&&◌, ◌||◌, find}
+use Rattle.iox_wire_steps.specs.Uses.{how_often}
+use Rattle.std.specs.Prelude.{find, ◌&&◌, ◌++◌, ◌+◌, ◌<◌, ◌^◌, ◌||◌, ◌≤◌}
 use Rattle.std.specs.Option.{option_map_or}
 use Rattle.std.proofs.Common.{◌≡◌, ℕ, Bool, true, false, if◌then◌else◌, ◌==◌, List, [], ◌∷◌, refl, ap, sym, subst, ◌∙◌, arith, inl, inr, true≢false}
 use Rattle.iox_model.specs.Maps.{has_number}
 use Rattle.iox_model.specs.declared.way.Way.{Way}
 use Rattle.iox_model.specs.States.{State}
-use Rattle.iox_wire_moments.specs.MomentsOf.{Pools}
-use Rattle.iox_wire_locals.specs.declared.local.Ending.TheVariants as endings
-use Rattle.iox_wire_locals.specs.declared.local.Local.{Local}
-use Rattle.iox_wire_locals.specs.declared.local.Local.TheVariants.{Ends, LendEmpties, LendStores, ReceivePops, ReleaseReturns}
-use Rattle.iox_wire_locals.specs.declared.seat.Seat.{Seat}
-use Rattle.iox_wire_locals.specs.declared.table.Desk.{Desk}
-use Rattle.iox_wire_locals.specs.declared.table.Entry.{Entry}
-use Rattle.iox_wire_locals.specs.declared.table.NewLoan.{NewLoan}
-use Rattle.iox_wire_locals.specs.Desks.{delivers, gets_back, picks}
-use Rattle.iox_wire_locals.specs.Known.{loans_at}
-use Rattle.iox_wire_locals.specs.NewLoans.{entry_in, message_in}
-use Rattle.iox_wire_locals.specs.StepLaws.{ReliesOn}
-use Rattle.iox_wire_locals.specs.Steps.{accessed, advance}
-use Rattle.iox_wire_locals.specs.Tables.{Setting}
-use Rattle.iox_wire_laws.specs.WireKeeping.UsedSlots.{slot_of_loan, slots_in_call}
-use Rattle.iox_wire_laws.specs.WireKeeping.OwnParts.{KeepsOwn}
-use Rattle.iox_wire_laws.specs.WireHolding.Holding.{held_after, held_from, held_with}
-use Rattle.iox_wire_laws.specs.WireHolding.SlotsKnown.{IsPortOfSeat}
-use Rattle.iox_wire_laws.proofs.WireKeeping.CountsKept.{steps_keep_own}
-use Rattle.iox_wire_laws.proofs.WireRegions.OwnPorts.{both}
+use Rattle.iox_wire_steps.specs.MomentsOf.{Pools}
+use Rattle.iox_wire_steps.specs.Ending.TheVariants as endings
+use Rattle.iox_wire_steps.specs.Local.{Local}
+use Rattle.iox_wire_steps.specs.Local.TheVariants.{Ends, LendEmpties, LendStores, ReceivePops, ReleaseReturns}
+use Rattle.iox_wire_steps.specs.Seat.{Seat}
+use Rattle.iox_wire_steps.specs.Desk.{Desk}
+use Rattle.iox_wire_steps.specs.Entry.{Entry}
+use Rattle.iox_wire_steps.specs.NewLoan.{NewLoan}
+use Rattle.iox_wire_steps.specs.Desks.{delivers, gets_back, picks}
+use Rattle.iox_wire_steps.specs.Known.{loans_at}
+use Rattle.iox_wire_steps.specs.NewLoans.{entry_in, message_in}
+use Rattle.iox_wire_steps.specs.StepLaws.{ReliesOn}
+use Rattle.iox_wire_steps.specs.Steps.{accessed, advance}
+use Rattle.iox_wire_steps.specs.Tables.{Setting}
+use Rattle.iox_wire_steps.specs.UsedSlots.{slot_of_loan, slots_in_call}
+use Rattle.iox_wire_steps.specs.OwnParts.{KeepsOwn}
+use Rattle.iox_wire_steps.specs.Holding.{held_after, held_from, held_with}
+use Rattle.iox_wire_steps.specs.SlotsKnown.{IsPortOfSeat}
+use Rattle.iox_wire_steps.proofs.CountsKept.{steps_keep_own}
+use Rattle.iox_wire_steps.proofs.OwnPorts.{both}
 use Rattle.iox_laws.proofs.WeaveLaws.MapLemmas.{eqb-refl}
-use Rattle.iox_wire_stands.specs.Following.{CallMessage, DeskChange, Delivered, Dropped, Follows, GotBack, IsOfEntry, IsReturning, Leaving, Lent, MayLetGo, NoMessage, OfEntry, Sent, Taken, TakesOn, Unchanged, changed, desk_change, drops, keeps, lets_go, message_at, picks_slot, puts_aside, sends_loan, takes}
-use Rattle.iox_wire_stands.specs.FollowingLaws.{TakesNext}
-use Rattle.iox_wire_stands.specs.Nodes.{NodeStands}
-use Rattle.iox_wire_stands.proofs.Follows.{accesses_follow}
-use Rattle.iox_wire_stands.proofs.SlotsFollow.{held_not, held_picked, held_stays, NotStores}
+use Rattle.iox_wire_steps.specs.Following.{CallMessage, DeskChange, Delivered, Dropped, Follows, GotBack, IsOfEntry, IsReturning, Leaving, Lent, MayLetGo, NoMessage, OfEntry, Sent, Taken, TakesOn, Unchanged, changed, desk_change, drops, keeps, lets_go, message_at, picks_slot, puts_aside, sends_loan, takes}
+use Rattle.iox_wire_steps.specs.FollowingLaws.{TakesNext}
+use Rattle.iox_wire_steps.specs.Nodes.{NodeStands}
+use Rattle.iox_wire_steps.proofs.Follows.{accesses_follow}
+use Rattle.iox_wire_steps.proofs.SlotsFollow.{held_not, held_picked, held_stays, NotStores}
 use Rattle.iox_wire_calls.specs.LoanSlots.{AccessesKeepLoans, HoldsLoan, HoldsSerial, LoansAreTold, LoansStand, WordsAreTold}
-use Rattle.iox_wire_calls.specs.Places.{CallFits, PlaceFits}
+use Rattle.iox_wire_calls.specs.Places.{CallFits, IsNext, LanesAreSet, PlaceFits}
 use Rattle.iox_wire_calls.specs.StepsTold.{MessageIsTold}
 use Rattle.iox_wire_calls.proofs.PlaceCourses.{desks_stay, loans_told}
 use Rattle.iox_wire_calls.proofs.PlaceSteps.{accesses_fit}
+use Rattle.iox_wire_calls.proofs.LaneLists.{front, often, one}
+use Rattle.iox_wire_calls.proofs.LaneSteps.{accesses_keep_lanes}
+use Rattle.iox_wire_calls.proofs.LanesTell.{low, one_is, request_has}
+use Rattle.iox_wire_calls.specs.Lanes.{AllLanesAreCounted, lanes_in, lanes_used, lent_in}
+use Rattle.iox_wire_calls.specs.LaneLaws.{HasLanesForSlots}
+use Rattle.iox_wire_steps.specs.OwnedWords.{HasLane}
+use Rattle.iox_model.specs.Handles.{is_request_loan}
+use Rattle.iox_model.specs.Loans.{kind_of_loan}
+use Rattle.iox_model.specs.Settings.{is_client}
+use Rattle.iox_model.specs.declared.kind.Role.{Role}
+use Rattle.iox_model.specs.declared.kind.Role.TheVariants.{Client, Server}
 
 -- ---- the slot of a call's loan
 
@@ -219,11 +231,29 @@ accesses_keep_loans p held s x seen relies stands =
 
 -- ---- what they tell
 
+-- a client's loan with a slot is on one of the client's lanes
+pub on_lane : (p : Setting) (y : Seat) (o : NewLoan) (slot next : ℕ) → LanesAreSet p → AllLanesAreCounted p y → IsNext p y o → y.local ≡ LendStores o slot next → HasLane p o
+on_lane p y o slot next set all place is request =
+    subst (λ lanes. o.lane < lanes) (sym (set o.port place.0.0 client)) (low p y all o.port place.0 client o.lane some)
+  where
+    -- only a client lends requests
+    of_client : (role : Role) → o.kind ≡ kind_of_loan role false → is_client role ≡ true
+    of_client Client kind = refl
+    of_client Server kind = absurd (true≢false (sym request ∙ ap is_request_loan kind))
+
+    client : is_client (p.port o.port).role ≡ true
+    client = of_client (p.port o.port).role place.1
+
+    at_least : (i k : ℕ) → i ≡ 1 → 1 ≤ i + k
+    at_least i k is = omega (arith, is)
+
+    some : 1 ≤ how_often o.lane (lanes_used y o.port)
+    some =
+        subst (λ k. 1 ≤ k) (sym (ap (λ l. how_often o.lane (lanes_in o.port (lent_in (message_at l) ++ y.table))) is ∙ front o.port o.lane (entry_in o slot) y.table))
+        (at_least (one o.port o.lane (entry_in o slot)) (often o.port o.lane y.table) (one_is o.port (entry_in o slot) (request_has o.kind request) refl))
+
 module _ (p : Setting) (held : Pools) (s : State) (x : Seat) (seen : ℕ) (node : NodeStands p held s x) (fits : CallFits p x) (stands : LoansStand p held x)
     (few : (port : ℕ) → loans_at x port < 2 ^ 64) where
-  abbrev z : Seat
-  z = advance p (accessed x) x.local seen
-
   pub none_here : (o : NewLoan) (j : ℕ) → o.serial ≡ loans_at x o.port → (held o.port j).serial ≡ o.serial → slots_in_call o.port x.local ≡ []
       → HoldsSerial held x o.port j → ⊥
   none_here o j serial same none (inl less) = off (held o.port j).serial (loans_at x o.port) less (same ∙ serial)
@@ -236,6 +266,11 @@ module _ (p : Setting) (held : Pools) (s : State) (x : Seat) (seen : ℕ) (node 
       off a b far same low = omega (arith, far, same, low)
   none_here o j serial same none (inr (inr there)) = true≢false (sym there ∙ ap (has_number j) none)
 
+module _ (p : Setting) (held : Pools) (s : State) (x : Seat) (seen : ℕ) (set : LanesAreSet p) (node : NodeStands p held s x) (fits : CallFits p x)
+    (stands : LoansStand p held x) (lanes : HasLanesForSlots p x) (all : AllLanesAreCounted p x) (few : (port : ℕ) → loans_at x port < 2 ^ 64) where
+  abbrev z : Seat
+  z = advance p (accessed x) x.local seen
+
   next_loan : (none : (port : ℕ) → slots_in_call port x.local ≡ []) (local : Local) → (advance p (accessed x) x.local seen).local ≡ local → TakesNext p held s NoMessage local
   next_loan none (LendStores o slot next) is =
       let place = subst (PlaceFits p z) is (accesses_fit p x seen fits).place in
@@ -243,7 +278,8 @@ module _ (p : Setting) (held : Pools) (s : State) (x : Seat) (seen : ℕ) (node 
       let serial : o.serial ≡ loans_at x o.port = place.2 ∙ loans_same p x seen o.port (accesses_follow p (accessed x) seen) in
       record {
         serial = serial ∙ sym (node.loans o.port home);
-        alone = λ j low same. absurd (none_here o j serial same (none o.port) (stands.serials o.port j home low));
+        alone = λ j low same. absurd (none_here p held s x seen node fits stands few o j serial same (none o.port) (stands.serials o.port j home low));
+        lane = on_lane p z o slot next set (accesses_keep_lanes p held s x seen fits node lanes all) place is;
       }
   next_loan none local is = tt
 
@@ -255,4 +291,4 @@ module _ (p : Setting) (held : Pools) (s : State) (x : Seat) (seen : ℕ) (node 
   told local is words = words
 
 pub loans_are_told : LoansAreTold
-loans_are_told p held s x seen node fits stands few words = told p held s x seen node fits stands few x.local refl words
+loans_are_told p held s x seen set node fits stands lanes all few words = told p held s x seen set node fits stands lanes all few x.local refl words

@@ -9,27 +9,27 @@ use Rattle.iox_model.specs.Messages.{Message}
 use Rattle.iox_model.specs.States.{State}
 use Rattle.iox_laws.proofs.WeaveLaws.MapLemmas.{eqb-refl}
 use Rattle.iox_laws.proofs.WeaveLedger.Lists.{among-front, among-number, number-among}
-use Rattle.iox_wire_moments.specs.MomentsOf.{Pools}
-use Rattle.iox_wire_locals.specs.declared.local.Ending.{Ending}
-use Rattle.iox_wire_locals.specs.declared.local.Ending.TheVariants as endings
-use Rattle.iox_wire_locals.specs.declared.local.Local.{Local}
-use Rattle.iox_wire_locals.specs.declared.local.Local.TheVariants.{Ends, LendStores, ReleaseExchanges, ReleaseLooks}
-use Rattle.iox_wire_locals.specs.declared.seat.Seat.{Seat}
-use Rattle.iox_wire_locals.specs.declared.table.Entry.{Entry}
-use Rattle.iox_wire_locals.specs.declared.table.NewLoan.{NewLoan}
-use Rattle.iox_wire_locals.specs.Known.{loans_at}
-use Rattle.iox_wire_locals.specs.NewLoans.{entry_in, message_in}
-use Rattle.iox_wire_locals.specs.Steps.{ending_at}
-use Rattle.iox_wire_locals.specs.Tables.{Setting}
-use Rattle.iox_wire_laws.specs.WireKeeping.UsedSlots.{slots_in_call, slots_used}
-use Rattle.iox_wire_laws.specs.WireKeeping.Writes.{is_slot_of, with_payload}
-use Rattle.iox_wire_laws.specs.WireHolding.Aside.{aside, shown_at}
-use Rattle.iox_wire_laws.specs.WireHolding.FarSlots.{IsInPool}
-use Rattle.iox_wire_laws.specs.WireHolding.Holding.{held_at, held_from, held_with}
-use Rattle.iox_wire_laws.specs.WireHolding.SlotsKnown.{IsPortOfSeat}
-use Rattle.iox_wire_laws.proofs.WireRegions.OwnPorts.{both}
-use Rattle.iox_wire_stands.specs.Following.{CallMessage, Lent, message_at}
-use Rattle.iox_wire_stands.specs.Nodes.{LendsAtHome, NodeStands}
+use Rattle.iox_wire_steps.specs.MomentsOf.{Pools}
+use Rattle.iox_wire_steps.specs.Ending.{Ending}
+use Rattle.iox_wire_steps.specs.Ending.TheVariants as endings
+use Rattle.iox_wire_steps.specs.Local.{Local}
+use Rattle.iox_wire_steps.specs.Local.TheVariants.{Ends, LendStores, ReleaseExchanges, ReleaseLooks}
+use Rattle.iox_wire_steps.specs.Seat.{Seat}
+use Rattle.iox_wire_steps.specs.Entry.{Entry}
+use Rattle.iox_wire_steps.specs.NewLoan.{NewLoan}
+use Rattle.iox_wire_steps.specs.Known.{loans_at}
+use Rattle.iox_wire_steps.specs.NewLoans.{entry_in, message_in}
+use Rattle.iox_wire_steps.specs.Steps.{ending_at}
+use Rattle.iox_wire_steps.specs.Tables.{Setting}
+use Rattle.iox_wire_steps.specs.UsedSlots.{slots_in_call, slots_used}
+use Rattle.iox_wire_steps.specs.Writes.{is_slot_of, with_payload}
+use Rattle.iox_wire_steps.specs.Aside.{aside, shown_at}
+use Rattle.iox_wire_steps.specs.FarSlots.{IsInPool}
+use Rattle.iox_wire_steps.specs.Holding.{held_at, held_from, held_with}
+use Rattle.iox_wire_steps.specs.SlotsKnown.{IsPortOfSeat}
+use Rattle.iox_wire_steps.proofs.OwnPorts.{both}
+use Rattle.iox_wire_steps.specs.Following.{CallMessage, Lent, message_at}
+use Rattle.iox_wire_steps.specs.Nodes.{LendsAtHome, NodeStands}
 use Rattle.iox_wire_steps.specs.Over.{CallIsOver}
 use Rattle.iox_wire_steps.specs.WholeSteps.{held_closed}
 use Rattle.iox_wire_calls.specs.LoanSlots.{HoldsLoan, HoldsSerial, LoansStand}

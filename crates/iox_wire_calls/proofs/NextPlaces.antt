@@ -16,27 +16,27 @@ use Rattle.iox_steps.specs.declared.side.Pushing.{Pushing}
 use Rattle.iox_steps.specs.declared.side.QueueEvent.{QueueEvent}
 use Rattle.iox_steps.specs.declared.side.QueueEvent.TheVariants.{HandOut, Publish, SeesEmpty}
 use Rattle.iox_word_map.specs.WordMaps.{MessageQueue, ReturningQueue}
-use Rattle.iox_wire_moments.specs.MomentsOf.{Pools}
-use Rattle.iox_wire_locals.specs.declared.local.Ending.{Ending}
-use Rattle.iox_wire_locals.specs.declared.local.Ending.TheVariants as endings
-use Rattle.iox_wire_locals.specs.declared.local.Local.{Local}
-use Rattle.iox_wire_locals.specs.declared.local.Local.TheVariants.{Ends, LendEmpties, LendStores, ReceiveAsks, ReceiveLoads, ReceivePops, ReceiveReturns, SendEnds}
-use Rattle.iox_wire_locals.specs.declared.local.Visit.{Visit}
-use Rattle.iox_wire_locals.specs.declared.seat.Seat.{Seat}
-use Rattle.iox_wire_locals.specs.Courses as courses
-use Rattle.iox_wire_locals.specs.Known.{known}
-use Rattle.iox_wire_locals.specs.Locals.{state_told}
-use Rattle.iox_wire_locals.specs.NewLoans.{entry_in, lane_in, received_length, request_in}
-use Rattle.iox_wire_locals.specs.ReceiveCourses as receives
-use Rattle.iox_wire_locals.specs.ReceiveFindings as found
-use Rattle.iox_wire_locals.specs.Steps.{accessed, advance, ending_at, pop_finds, pop_place, push_finds, push_place}
-use Rattle.iox_wire_locals.specs.Tables.{Setting}
-use Rattle.iox_wire_laws.specs.WireShows.OwnedCalls.{AsksOn, TellsLane}
-use Rattle.iox_wire_laws.specs.WireRegions.OwnedWords.{Owns}
-use Rattle.iox_wire_laws.specs.WireHolding.Holding.{held_at, held_from}
-use Rattle.iox_wire_stands.specs.Following.{CallMessage, Dropped, Follows, IsLending, Leaving, Lent, NoMessage, Sent, Taken, TakesOn, drops, keeps, lets_go, message_at, picks_slot, puts_aside, sends_loan, takes}
-use Rattle.iox_wire_stands.specs.FollowingLaws.{TakesNext}
-use Rattle.iox_wire_stands.proofs.Follows.{accesses_follow}
+use Rattle.iox_wire_steps.specs.MomentsOf.{Pools}
+use Rattle.iox_wire_steps.specs.Ending.{Ending}
+use Rattle.iox_wire_steps.specs.Ending.TheVariants as endings
+use Rattle.iox_wire_steps.specs.Local.{Local}
+use Rattle.iox_wire_steps.specs.Local.TheVariants.{Ends, LendEmpties, LendStores, ReceiveAsks, ReceiveLoads, ReceivePops, ReceiveReturns, SendEnds}
+use Rattle.iox_wire_steps.specs.Visit.{Visit}
+use Rattle.iox_wire_steps.specs.Seat.{Seat}
+use Rattle.iox_wire_steps.specs.Courses as courses
+use Rattle.iox_wire_steps.specs.Known.{known}
+use Rattle.iox_wire_steps.specs.Locals.{state_told}
+use Rattle.iox_wire_steps.specs.NewLoans.{entry_in, lane_in, received_length, request_in}
+use Rattle.iox_wire_steps.specs.ReceiveCourses as receives
+use Rattle.iox_wire_steps.specs.ReceiveFindings as found
+use Rattle.iox_wire_steps.specs.Steps.{accessed, advance, ending_at, pop_finds, pop_place, push_finds, push_place}
+use Rattle.iox_wire_steps.specs.Tables.{Setting}
+use Rattle.iox_wire_steps.specs.OwnedCalls.{AsksOn, TellsLane}
+use Rattle.iox_wire_steps.specs.OwnedWords.{Owns}
+use Rattle.iox_wire_steps.specs.Holding.{held_at, held_from}
+use Rattle.iox_wire_steps.specs.Following.{CallMessage, Dropped, Follows, IsLending, Leaving, Lent, NoMessage, Sent, Taken, TakesOn, drops, keeps, lets_go, message_at, picks_slot, puts_aside, sends_loan, takes}
+use Rattle.iox_wire_steps.specs.FollowingLaws.{TakesNext}
+use Rattle.iox_wire_steps.proofs.Follows.{accesses_follow}
 use Rattle.iox_wire_calls.specs.EndsTold.{HeaderIsTold}
 use Rattle.iox_wire_calls.specs.StepsTold.{HeaderTells, MessageIsTold}
 

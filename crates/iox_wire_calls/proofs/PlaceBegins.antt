@@ -18,21 +18,21 @@ use Rattle.iox_laws.proofs.WeaveLaws.MapLemmas.{either}
 use Rattle.iox_laws.proofs.WeaveLaws.WholeLemmas.{or_else-none}
 use Rattle.iox_laws.proofs.WeaveLedger.Lists.{IsAmong, among-number, any-among, filter-among, find-among, map-among}
 use Rattle.iox_laws.proofs.WeaveLedger.Truths.{false_if, none-some, passes}
-use Rattle.iox_wire_locals.specs.declared.local.CallRefusal.TheVariants.{UnknownNumber}
-use Rattle.iox_wire_locals.specs.declared.local.Ending.TheVariants as endings
-use Rattle.iox_wire_locals.specs.declared.seat.Seat.{Seat}
-use Rattle.iox_wire_locals.specs.Courses.{ended}
-use Rattle.iox_wire_locals.specs.declared.table.Entry.{Entry}
-use Rattle.iox_wire_locals.specs.Begins.{begin, begins_at, begins_at_entry, begins_at_port, misnamed_call, pending_visit, server_visit, ways_for}
-use Rattle.iox_wire_locals.specs.Known.{known, told_handle}
-use Rattle.iox_wire_locals.specs.ReceiveCourses.{states_for}
-use Rattle.iox_wire_locals.specs.Tables.{Setting, entry_at}
-use Rattle.iox_wire_laws.specs.WireShows.OwnedCalls.{Each}
-use Rattle.iox_wire_laws.specs.WireHolding.SlotsKnown.{HasEntry, IsPortOfSeat}
-use Rattle.iox_wire_laws.proofs.WireKeeping.CountsKept.{begins_keep_own}
-use Rattle.iox_wire_laws.proofs.WireKeeping.Lookups.{find_map}
-use Rattle.iox_wire_laws.proofs.WireRegions.OwnPorts.{both, each_map}
-use Rattle.iox_wire_stands.specs.Stands.{AreNumbered}
+use Rattle.iox_wire_steps.specs.CallRefusal.TheVariants.{UnknownNumber}
+use Rattle.iox_wire_steps.specs.Ending.TheVariants as endings
+use Rattle.iox_wire_steps.specs.Seat.{Seat}
+use Rattle.iox_wire_steps.specs.Courses.{ended}
+use Rattle.iox_wire_steps.specs.Entry.{Entry}
+use Rattle.iox_wire_steps.specs.Begins.{begin, begins_at, begins_at_entry, begins_at_port, misnamed_call, pending_visit, server_visit, ways_for}
+use Rattle.iox_wire_steps.specs.Known.{known, told_handle}
+use Rattle.iox_wire_steps.specs.ReceiveCourses.{states_for}
+use Rattle.iox_wire_steps.specs.Tables.{Setting, entry_at}
+use Rattle.iox_wire_steps.specs.OwnedCalls.{Each}
+use Rattle.iox_wire_steps.specs.SlotsKnown.{HasEntry, IsPortOfSeat}
+use Rattle.iox_wire_steps.proofs.CountsKept.{begins_keep_own}
+use Rattle.iox_wire_steps.proofs.Lookups.{find_map}
+use Rattle.iox_wire_steps.proofs.OwnPorts.{both, each_map}
+use Rattle.iox_wire_steps.specs.Stands.{AreNumbered}
 use Rattle.iox_wire_calls.specs.PlaceLaws.{BeginsFit}
 use Rattle.iox_wire_calls.specs.Places.{CallFits, OwnersAreSet, SuitsPort, VisitFits, Visits}
 use Rattle.iox_wire_calls.proofs.HandleKinds.{answers_is, asks_is, copies_is, loan_is, receives_is, sent_is}

@@ -22,29 +22,29 @@ use Rattle.iox_steps.specs.declared.pop.Pop.TheVariants as pop
 use Rattle.iox_steps.specs.declared.push.Push.TheVariants as push
 use Rattle.iox_steps.specs.declared.side.Popping.TheVariants as popping
 use Rattle.iox_steps.specs.declared.side.Pushing.TheVariants as pushing
-use Rattle.iox_wire_locals.specs.declared.local.CallRefusal.{CallRefusal}
-use Rattle.iox_wire_locals.specs.declared.local.CallRefusal.TheVariants.{ExceedsMaxActiveRequests, UnableToDeliver, WrongLength}
-use Rattle.iox_wire_locals.specs.declared.local.Delivery.{Delivery}
-use Rattle.iox_wire_locals.specs.declared.local.Ending.TheVariants as endings
-use Rattle.iox_wire_locals.specs.declared.local.Local.TheVariants.{Reads, ReceiveAsks, ReceiveLooks, ReceivePops, ReleaseLooks, ReleaseReturns, SendAsks}
-use Rattle.iox_wire_locals.specs.declared.local.Visit.{Visit}
-use Rattle.iox_wire_locals.specs.declared.seat.Seat.{Seat}
-use Rattle.iox_wire_locals.specs.declared.table.Desk.{Desk}
-use Rattle.iox_wire_locals.specs.declared.table.Entry.{Entry}
-use Rattle.iox_wire_locals.specs.declared.table.NewLoan.{NewLoan}
-use Rattle.iox_wire_locals.specs.Begins as begins
-use Rattle.iox_wire_locals.specs.Courses as courses
-use Rattle.iox_wire_locals.specs.Desks.{at_desk, on_desk, picks}
-use Rattle.iox_wire_locals.specs.Known.{free_lanes, free_slots, known, sending, told_handle}
-use Rattle.iox_wire_locals.specs.Lendings.{first_lane}
-use Rattle.iox_wire_locals.specs.Lendings as lendings
-use Rattle.iox_wire_locals.specs.NewLoans.{entry_in, loan_in, request_in}
-use Rattle.iox_wire_locals.specs.ReceiveCourses as receives
-use Rattle.iox_wire_locals.specs.Tables.{Setting, way_in, words_to_read}
-use Rattle.iox_wire_laws.specs.WireShows.OwnedCalls.{Each}
-use Rattle.iox_wire_laws.specs.WireHolding.SlotsKnown.{IsPortOfSeat}
+use Rattle.iox_wire_steps.specs.CallRefusal.{CallRefusal}
+use Rattle.iox_wire_steps.specs.CallRefusal.TheVariants.{ExceedsMaxActiveRequests, UnableToDeliver, WrongLength}
+use Rattle.iox_wire_steps.specs.Delivery.{Delivery}
+use Rattle.iox_wire_steps.specs.Ending.TheVariants as endings
+use Rattle.iox_wire_steps.specs.Local.TheVariants.{Reads, ReceiveAsks, ReceiveLooks, ReceivePops, ReleaseLooks, ReleaseReturns, SendAsks}
+use Rattle.iox_wire_steps.specs.Visit.{Visit}
+use Rattle.iox_wire_steps.specs.Seat.{Seat}
+use Rattle.iox_wire_steps.specs.Desk.{Desk}
+use Rattle.iox_wire_steps.specs.Entry.{Entry}
+use Rattle.iox_wire_steps.specs.NewLoan.{NewLoan}
+use Rattle.iox_wire_steps.specs.Begins as begins
+use Rattle.iox_wire_steps.specs.Courses as courses
+use Rattle.iox_wire_steps.specs.Desks.{at_desk, on_desk, picks}
+use Rattle.iox_wire_steps.specs.Known.{free_lanes, free_slots, known, sending, told_handle}
+use Rattle.iox_wire_steps.specs.Lendings.{first_lane}
+use Rattle.iox_wire_steps.specs.Lendings as lendings
+use Rattle.iox_wire_steps.specs.NewLoans.{entry_in, loan_in, request_in}
+use Rattle.iox_wire_steps.specs.ReceiveCourses as receives
+use Rattle.iox_wire_steps.specs.Tables.{Setting, way_in, words_to_read}
+use Rattle.iox_wire_steps.specs.OwnedCalls.{Each}
+use Rattle.iox_wire_steps.specs.SlotsKnown.{IsPortOfSeat}
 use Rattle.iox_wire_calls.specs.Places.{Opens, IsLoan, IsNext, PlaceFits, SendFits, SuitsPort, TakesFirst, Visits}
-use Rattle.iox_wire_laws.proofs.WireRegions.OwnPorts.{each_map}
+use Rattle.iox_wire_steps.proofs.OwnPorts.{each_map}
 use Rattle.iox_wire_calls.proofs.HandleKinds.{loan_kind, role_lends}
 
 -- ---- desks

@@ -8,19 +8,19 @@ use Rattle.iox_model.specs.Settings.{is_client}
 use Rattle.iox_laws.proofs.WeaveLaws.MapLemmas.{either}
 use Rattle.iox_laws.proofs.WeaveLaws.WholeLemmas.{some-is}
 use Rattle.iox_laws.proofs.WeaveLedger.Truths.{none-some}
-use Rattle.iox_wire_locals.specs.declared.local.Ending.{Ending}
-use Rattle.iox_wire_locals.specs.declared.local.Ending.TheVariants as endings
-use Rattle.iox_wire_locals.specs.declared.local.Local.{Local}
-use Rattle.iox_wire_locals.specs.declared.local.Local.TheVariants.{Ends, SendEnds}
-use Rattle.iox_wire_locals.specs.declared.seat.Seat.{Seat}
-use Rattle.iox_wire_locals.specs.declared.table.Entry.{Entry}
-use Rattle.iox_wire_locals.specs.Desks.{at_count, at_desk, gives_up}
-use Rattle.iox_wire_locals.specs.Settlements as settle
-use Rattle.iox_wire_locals.specs.Steps.{closed, ending_at}
-use Rattle.iox_wire_locals.specs.Tables.{Setting, sent_entry, way_in}
-use Rattle.iox_wire_laws.specs.WireHolding.SlotsKnown.{HasEntry}
-use Rattle.iox_wire_stands.proofs.EndTables.{stayed}
-use Rattle.iox_wire_stands.proofs.EndsKept.{ends_add_one_entry}
+use Rattle.iox_wire_steps.specs.Ending.{Ending}
+use Rattle.iox_wire_steps.specs.Ending.TheVariants as endings
+use Rattle.iox_wire_steps.specs.Local.{Local}
+use Rattle.iox_wire_steps.specs.Local.TheVariants.{Ends, SendEnds}
+use Rattle.iox_wire_steps.specs.Seat.{Seat}
+use Rattle.iox_wire_steps.specs.Entry.{Entry}
+use Rattle.iox_wire_steps.specs.Desks.{at_count, at_desk, gives_up}
+use Rattle.iox_wire_steps.specs.Settlements as settle
+use Rattle.iox_wire_steps.specs.Steps.{closed, ending_at}
+use Rattle.iox_wire_steps.specs.Tables.{Setting, sent_entry, way_in}
+use Rattle.iox_wire_steps.specs.SlotsKnown.{HasEntry}
+use Rattle.iox_wire_steps.proofs.EndTables.{stayed}
+use Rattle.iox_wire_steps.proofs.EndsKept.{ends_add_one_entry}
 use Rattle.iox_wire_calls.specs.PlaceLaws.{EndsFit}
 use Rattle.iox_wire_calls.specs.Places.{CallFits, EndingFits, PlaceFits, SuitsPort, is_kind_of}
 use Rattle.iox_wire_calls.proofs.HandleKinds.{role_received, role_sent}

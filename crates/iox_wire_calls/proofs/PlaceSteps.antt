@@ -14,27 +14,27 @@ use Rattle.iox_steps.specs.declared.side.Pushing.TheVariants as pushing
 use Rattle.iox_steps.specs.declared.side.QueueEvent.{QueueEvent}
 use Rattle.iox_steps.specs.declared.side.QueueEvent.TheVariants.{HandOut, Publish, SeesEmpty, SeesFull, SeesRoom, SeesWaiting}
 use Rattle.iox_word_map.specs.WordMaps.{MessageQueue, ReturningQueue}
-use Rattle.iox_wire_words.specs.Programs.{site_of}
-use Rattle.iox_wire_locals.specs.declared.local.Delivery.{Delivery}
-use Rattle.iox_wire_locals.specs.declared.local.Ending.TheVariants as endings
-use Rattle.iox_wire_locals.specs.declared.local.Local.{Local}
-use Rattle.iox_wire_locals.specs.declared.local.Local.TheVariants.{Checks, Ends, HintExchanges, Hints, Idle, LendEmpties, LendStores, Reads, ReceiveAsks, ReceiveLoads, ReceiveLooks, ReceivePops, ReceiveReturns, ReleaseCloses, ReleaseExchanges, ReleaseLooks, ReleaseReturns, Seeks, SendAsks, SendEmpties, SendEnds, SendEvicts, SendGetsBack, SendLooks, SendOpens, SendPushes, Writes}
-use Rattle.iox_wire_locals.specs.declared.local.Visit.{Visit}
-use Rattle.iox_wire_locals.specs.declared.seat.Seat.{Seat}
-use Rattle.iox_wire_locals.specs.declared.table.Entry.{Entry}
-use Rattle.iox_wire_locals.specs.declared.table.NewLoan.{NewLoan}
-use Rattle.iox_wire_locals.specs.Courses as courses
-use Rattle.iox_wire_locals.specs.Desks.{at_desk, delivers, gets_back}
-use Rattle.iox_wire_locals.specs.Findings as findings
-use Rattle.iox_wire_locals.specs.Known.{sending, told_handle}
-use Rattle.iox_wire_locals.specs.Locals.{state_told}
-use Rattle.iox_wire_locals.specs.NewLoans.{loan_words, received_length}
-use Rattle.iox_wire_locals.specs.ReceiveCourses as receives
-use Rattle.iox_wire_locals.specs.ReceiveFindings as found
-use Rattle.iox_wire_locals.specs.Steps.{accessed, advance, push_finds}
-use Rattle.iox_wire_locals.specs.Tables.{Setting, entry_at, words_to_read}
-use Rattle.iox_wire_laws.specs.WireShows.OwnedCalls.{Each}
-use Rattle.iox_wire_laws.proofs.WireKeeping.CountsKept.{steps_keep_own}
+use Rattle.iox_wire_steps.specs.Programs.{site_of}
+use Rattle.iox_wire_steps.specs.Delivery.{Delivery}
+use Rattle.iox_wire_steps.specs.Ending.TheVariants as endings
+use Rattle.iox_wire_steps.specs.Local.{Local}
+use Rattle.iox_wire_steps.specs.Local.TheVariants.{Checks, Ends, HintExchanges, Hints, Idle, LendEmpties, LendStores, Reads, ReceiveAsks, ReceiveLoads, ReceiveLooks, ReceivePops, ReceiveReturns, ReleaseCloses, ReleaseExchanges, ReleaseLooks, ReleaseReturns, Seeks, SendAsks, SendEmpties, SendEnds, SendEvicts, SendGetsBack, SendLooks, SendOpens, SendPushes, Writes}
+use Rattle.iox_wire_steps.specs.Visit.{Visit}
+use Rattle.iox_wire_steps.specs.Seat.{Seat}
+use Rattle.iox_wire_steps.specs.Entry.{Entry}
+use Rattle.iox_wire_steps.specs.NewLoan.{NewLoan}
+use Rattle.iox_wire_steps.specs.Courses as courses
+use Rattle.iox_wire_steps.specs.Desks.{at_desk, delivers, gets_back}
+use Rattle.iox_wire_steps.specs.Findings as findings
+use Rattle.iox_wire_steps.specs.Known.{sending, told_handle}
+use Rattle.iox_wire_steps.specs.Locals.{state_told}
+use Rattle.iox_wire_steps.specs.NewLoans.{loan_words, received_length}
+use Rattle.iox_wire_steps.specs.ReceiveCourses as receives
+use Rattle.iox_wire_steps.specs.ReceiveFindings as found
+use Rattle.iox_wire_steps.specs.Steps.{accessed, advance, push_finds}
+use Rattle.iox_wire_steps.specs.Tables.{Setting, entry_at, words_to_read}
+use Rattle.iox_wire_steps.specs.OwnedCalls.{Each}
+use Rattle.iox_wire_steps.proofs.CountsKept.{steps_keep_own}
 use Rattle.iox_wire_calls.specs.PlaceLaws.{AccessesFit}
 use Rattle.iox_wire_calls.specs.Places.{IsEmptyLook, IsEvicting, IsFullLook, IsLearning, IsLoan, IsNext, IsPop, PlaceFits, SendFits, TakesFirst, Visits}
 use Rattle.iox_wire_calls.proofs.Parts.{PublishesNot, empty_looks_on, evicts_on, full_looks_on, pops_on, pushes_on}

@@ -13,30 +13,30 @@ use Rattle.iox_steps.specs.declared.push.Push.TheVariants as push
 use Rattle.iox_steps.specs.declared.side.Popping.TheVariants as popping
 use Rattle.iox_steps.specs.declared.side.Pushing.TheVariants as pushing
 use Rattle.iox_steps.specs.Accesses.{seen_by}
-use Rattle.iox_wire_words.specs.Fits.{WireContents}
-use Rattle.iox_wire_words.specs.Programs.{program_access}
-use Rattle.iox_wire_moments.specs.MomentsOf.{Pools}
-use Rattle.iox_wire_locals.specs.declared.local.Delivery.{Delivery}
-use Rattle.iox_wire_locals.specs.declared.local.Local.{Local}
-use Rattle.iox_wire_locals.specs.declared.local.Local.TheVariants.{Ends, Idle, LendEmpties, LendStores, Reads, ReceiveAsks, ReceiveLoads, ReceiveLooks, ReceivePops, ReceiveReturns, ReleaseReturns, Seeks, SendEmpties, SendEnds, SendEvicts, SendGetsBack, SendLooks, SendPushes}
-use Rattle.iox_wire_locals.specs.declared.seat.Seat.{Seat}
-use Rattle.iox_wire_locals.specs.declared.table.NewLoan.{NewLoan}
-use Rattle.iox_wire_locals.specs.Begins.{is_busy}
-use Rattle.iox_wire_locals.specs.Knowing.{Knows}
-use Rattle.iox_wire_locals.specs.Known.{free_slots}
-use Rattle.iox_wire_locals.specs.Locals.{program_of}
-use Rattle.iox_wire_locals.specs.NewLoans.{entry_in, loan_in, message_in}
-use Rattle.iox_wire_locals.specs.StepLaws.{ReliesOn}
-use Rattle.iox_wire_locals.specs.Steps.{accessed, ending_at}
-use Rattle.iox_wire_locals.specs.Tables.{Setting, handle_of}
-use Rattle.iox_wire_laws.specs.WireKeeping.Shows.{ShowsWorld}
-use Rattle.iox_wire_laws.specs.WireKeeping.UsedSlots.{CallHolds, slots_in_call}
-use Rattle.iox_wire_laws.specs.WireRegions.OwnedWords.{Owns}
-use Rattle.iox_wire_laws.specs.WireHolding.SlotsKnown.{IsPortOfSeat}
-use Rattle.iox_wire_laws.proofs.WireKeeping.PushesOverflow.{full_pushes_overflow}
-use Rattle.iox_wire_laws.proofs.WireKeeping.SlotsFitted.{pools_are_told}
-use Rattle.iox_wire_stands.specs.Nodes.{NodeStands}
-use Rattle.iox_wire_stands.specs.Stands.{AreNumbered, OwnersAre}
+use Rattle.iox_wire_steps.specs.Fits.{WireContents}
+use Rattle.iox_wire_steps.specs.Programs.{program_access}
+use Rattle.iox_wire_steps.specs.MomentsOf.{Pools}
+use Rattle.iox_wire_steps.specs.Delivery.{Delivery}
+use Rattle.iox_wire_steps.specs.Local.{Local}
+use Rattle.iox_wire_steps.specs.Local.TheVariants.{Ends, Idle, LendEmpties, LendStores, Reads, ReceiveAsks, ReceiveLoads, ReceiveLooks, ReceivePops, ReceiveReturns, ReleaseReturns, Seeks, SendEmpties, SendEnds, SendEvicts, SendGetsBack, SendLooks, SendPushes}
+use Rattle.iox_wire_steps.specs.Seat.{Seat}
+use Rattle.iox_wire_steps.specs.NewLoan.{NewLoan}
+use Rattle.iox_wire_steps.specs.Begins.{is_busy}
+use Rattle.iox_wire_steps.specs.Knowing.{Knows}
+use Rattle.iox_wire_steps.specs.Known.{free_slots}
+use Rattle.iox_wire_steps.specs.Locals.{program_of}
+use Rattle.iox_wire_steps.specs.NewLoans.{entry_in, loan_in, message_in}
+use Rattle.iox_wire_steps.specs.StepLaws.{ReliesOn}
+use Rattle.iox_wire_steps.specs.Steps.{accessed, ending_at}
+use Rattle.iox_wire_steps.specs.Tables.{Setting, handle_of}
+use Rattle.iox_wire_steps.specs.Shows.{ShowsWorld}
+use Rattle.iox_wire_steps.specs.UsedSlots.{CallHolds, slots_in_call}
+use Rattle.iox_wire_steps.specs.OwnedWords.{Owns}
+use Rattle.iox_wire_steps.specs.SlotsKnown.{IsPortOfSeat}
+use Rattle.iox_wire_steps.proofs.PushesOverflow.{full_pushes_overflow}
+use Rattle.iox_wire_steps.proofs.SlotsFitted.{pools_are_told}
+use Rattle.iox_wire_steps.specs.Nodes.{NodeStands}
+use Rattle.iox_wire_steps.specs.Stands.{AreNumbered, OwnersAre}
 use Rattle.iox_wire_calls.specs.Places.{CallFits, PlaceFits}
 use Rattle.iox_wire_calls.specs.StepsTold.{MessageIsTold}
 use Rattle.iox_wire_calls.proofs.LanesTell.{port_there}

@@ -13,29 +13,29 @@ use Rattle.iox_model.specs.States.{Fixed, State}
 use Rattle.iox_model.specs.WholeCalls.{MayHold, PayloadMayBe, is_uninit}
 use Rattle.iox_laws.proofs.WeaveLaws.WholeLemmas.{some-is}
 use Rattle.iox_steps.specs.Accesses.{seen_by}
-use Rattle.iox_wire_words.specs.Laws.{IsMade}
-use Rattle.iox_wire_words.specs.Programs.{program_access}
-use Rattle.iox_wire_moments.specs.MomentsOf.{Pools}
-use Rattle.iox_wire_locals.specs.declared.local.Ending.{Ending}
-use Rattle.iox_wire_locals.specs.declared.local.Ending.TheVariants as endings
-use Rattle.iox_wire_locals.specs.declared.local.Local.TheVariants.{Ends}
-use Rattle.iox_wire_locals.specs.declared.seat.Seat.{Seat}
-use Rattle.iox_wire_locals.specs.Begins.{is_busy}
-use Rattle.iox_wire_locals.specs.Doings.{outcome_of}
-use Rattle.iox_wire_locals.specs.Locals.{program_of}
-use Rattle.iox_wire_locals.specs.StateMoments.{moment_at}
-use Rattle.iox_wire_locals.specs.Steps.{accessed, advance, ending_at}
-use Rattle.iox_wire_locals.specs.Tables.{Setting, port_shape}
-use Rattle.iox_wire_laws.specs.WireShows.OwnedCalls.{state_after}
-use Rattle.iox_wire_laws.specs.WireOwners.SentStates.{HasOpened}
-use Rattle.iox_wire_laws.specs.WireHolding.Holding.{held_after, held_from}
-use Rattle.iox_wire_laws.proofs.WireOwners.SentStates.{accesses_leave_opened}
-use Rattle.iox_wire_stands.specs.NodeLaws.{IsTold}
-use Rattle.iox_wire_stands.specs.Nodes.{NodeStands}
-use Rattle.iox_wire_stands.specs.Runs.{Run}
-use Rattle.iox_wire_stands.specs.Stands.{Player, Stands, seats_of, word_of}
-use Rattle.iox_wire_stands.proofs.NodesFollow.{after_fixed}
-use Rattle.iox_wire_stands.proofs.StepsAround.{Whole}
+use Rattle.iox_wire_steps.specs.Laws.{IsMade}
+use Rattle.iox_wire_steps.specs.Programs.{program_access}
+use Rattle.iox_wire_steps.specs.MomentsOf.{Pools}
+use Rattle.iox_wire_steps.specs.Ending.{Ending}
+use Rattle.iox_wire_steps.specs.Ending.TheVariants as endings
+use Rattle.iox_wire_steps.specs.Local.TheVariants.{Ends}
+use Rattle.iox_wire_steps.specs.Seat.{Seat}
+use Rattle.iox_wire_steps.specs.Begins.{is_busy}
+use Rattle.iox_wire_steps.specs.Doings.{outcome_of}
+use Rattle.iox_wire_steps.specs.Locals.{program_of}
+use Rattle.iox_wire_steps.specs.StateMoments.{moment_at}
+use Rattle.iox_wire_steps.specs.Steps.{accessed, advance, ending_at}
+use Rattle.iox_wire_steps.specs.Tables.{Setting, port_shape}
+use Rattle.iox_wire_steps.specs.OwnedCalls.{state_after}
+use Rattle.iox_wire_steps.specs.SentStates.{HasOpened}
+use Rattle.iox_wire_steps.specs.Holding.{held_after, held_from}
+use Rattle.iox_wire_steps.proofs.SentStates.{accesses_leave_opened}
+use Rattle.iox_wire_steps.specs.NodeLaws.{IsTold}
+use Rattle.iox_wire_steps.specs.Nodes.{NodeStands}
+use Rattle.iox_wire_steps.specs.Runs.{Run}
+use Rattle.iox_wire_steps.specs.Stands.{Player, Stands, seats_of, word_of}
+use Rattle.iox_wire_steps.proofs.NodesFollow.{after_fixed}
+use Rattle.iox_wire_steps.proofs.StepsAround.{Whole}
 use Rattle.iox_wire_steps.specs.Over.{CallIsOver, EndIsTold}
 use Rattle.iox_wire_steps.proofs.Accessed.{HasNone, no_access, over_too}
 use Rattle.iox_wire_steps.proofs.EndsStand.{standing_nodes_end}

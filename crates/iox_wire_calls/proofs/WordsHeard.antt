@@ -15,35 +15,35 @@ use Rattle.iox_steps.specs.declared.side.Popping.TheVariants as popping
 use Rattle.iox_steps.specs.declared.side.Pushing.TheVariants as pushing
 use Rattle.iox_steps.specs.Accesses.{seen_by}
 use Rattle.iox_word_map.specs.WordMaps.{IsWay, MessageQueue, ReturningQueue, WireQueue}
-use Rattle.iox_wire_words.specs.Fits.{WireContents}
-use Rattle.iox_wire_words.specs.Laws.{IsMade}
-use Rattle.iox_wire_words.specs.Programs.{program_access}
-use Rattle.iox_wire_moments.specs.MomentsOf.{Pools}
-use Rattle.iox_wire_locals.specs.declared.local.Local.{Local}
-use Rattle.iox_wire_locals.specs.declared.local.Local.TheVariants.{ReceiveLoads, ReceivePops, ReceiveReturns, ReleaseReturns, SendPushes}
-use Rattle.iox_wire_locals.specs.declared.local.Visit.{Visit}
-use Rattle.iox_wire_locals.specs.declared.seat.Seat.{Seat}
-use Rattle.iox_wire_locals.specs.Knowing.{Knows}
-use Rattle.iox_wire_locals.specs.Known.{known}
-use Rattle.iox_wire_locals.specs.Locals.{program_of}
-use Rattle.iox_wire_locals.specs.Stored.{header_length}
-use Rattle.iox_wire_locals.specs.Tables.{Setting, way_in}
-use Rattle.iox_wire_laws.specs.WireKeeping.Shows.{OwnsPlace}
-use Rattle.iox_wire_laws.specs.WireShows.OwnedCalls.{HasHeader, ReceivesOn, WordsTell}
-use Rattle.iox_wire_laws.specs.WireOwners.Pushes.{HasRoomFor, PushesInto}
-use Rattle.iox_wire_laws.specs.WireRegions.OwnedBegins.{LayoutFits}
-use Rattle.iox_wire_laws.specs.WireRegions.OwnedWords.{Owns}
-use Rattle.iox_wire_laws.specs.WireRegions.Regions.{HasRegion}
-use Rattle.iox_wire_laws.specs.WireHolding.FarSlots.{IsInPool}
-use Rattle.iox_wire_laws.proofs.WireOwners.PushesTold.{pushes_are_told}
-use Rattle.iox_wire_laws.proofs.WireRegions.OwnPorts.{connected}
-use Rattle.iox_wire_laws.proofs.WireRegions.OwnedPlaces.{owners_may_access}
-use Rattle.iox_wire_laws.proofs.WireRegions.SlotWords.{words_are_in_their_region}
-use Rattle.iox_wire_stands.specs.NamesLaws.{TakesInPool}
-use Rattle.iox_wire_stands.specs.Nodes.{NodeStands}
-use Rattle.iox_wire_stands.specs.Stands.{AreNumbered}
-use Rattle.iox_wire_stands.proofs.SendsFollow.{slots_are_found_in_pools}
-use Rattle.iox_wire_stands.proofs.StepsAround.{Whole}
+use Rattle.iox_wire_steps.specs.Fits.{WireContents}
+use Rattle.iox_wire_steps.specs.Laws.{IsMade}
+use Rattle.iox_wire_steps.specs.Programs.{program_access}
+use Rattle.iox_wire_steps.specs.MomentsOf.{Pools}
+use Rattle.iox_wire_steps.specs.Local.{Local}
+use Rattle.iox_wire_steps.specs.Local.TheVariants.{ReceiveLoads, ReceivePops, ReceiveReturns, ReleaseReturns, SendPushes}
+use Rattle.iox_wire_steps.specs.Visit.{Visit}
+use Rattle.iox_wire_steps.specs.Seat.{Seat}
+use Rattle.iox_wire_steps.specs.Knowing.{Knows}
+use Rattle.iox_wire_steps.specs.Known.{known}
+use Rattle.iox_wire_steps.specs.Locals.{program_of}
+use Rattle.iox_wire_steps.specs.Stored.{header_length}
+use Rattle.iox_wire_steps.specs.Tables.{Setting, way_in}
+use Rattle.iox_wire_steps.specs.Shows.{OwnsPlace}
+use Rattle.iox_wire_steps.specs.OwnedCalls.{HasHeader, ReceivesOn, WordsTell}
+use Rattle.iox_wire_steps.specs.Pushes.{HasRoomFor, PushesInto}
+use Rattle.iox_wire_steps.specs.OwnedBegins.{LayoutFits}
+use Rattle.iox_wire_steps.specs.OwnedWords.{Owns}
+use Rattle.iox_wire_steps.specs.Regions.{HasRegion}
+use Rattle.iox_wire_steps.specs.FarSlots.{IsInPool}
+use Rattle.iox_wire_steps.proofs.PushesTold.{pushes_are_told}
+use Rattle.iox_wire_steps.proofs.OwnPorts.{connected}
+use Rattle.iox_wire_steps.proofs.OwnedPlaces.{owners_may_access}
+use Rattle.iox_wire_steps.proofs.SlotWords.{words_are_in_their_region}
+use Rattle.iox_wire_steps.specs.NamesLaws.{TakesInPool}
+use Rattle.iox_wire_steps.specs.Nodes.{NodeStands}
+use Rattle.iox_wire_steps.specs.Stands.{AreNumbered}
+use Rattle.iox_wire_steps.proofs.SendsFollow.{slots_are_found_in_pools}
+use Rattle.iox_wire_steps.proofs.StepsAround.{Whole}
 use Rattle.iox_wire_steps.proofs.Homes as homes
 use Rattle.iox_wire_calls.specs.Places.{PlaceFits}
 use Rattle.iox_wire_calls.specs.StepsTold.{MessageIsTold, PushesBelow}

@@ -8,25 +8,25 @@ use Rattle.iox_model.specs.Maps.{put_at}
 use Rattle.iox_model.specs.States.{State}
 use Rattle.iox_model.specs.Weaves.{Begins, Dies, World, IsBeat, begin_refusal}
 use Rattle.iox_steps.specs.Accesses.{seen_by}
-use Rattle.iox_wire_words.specs.Laws.{IsMade}
-use Rattle.iox_wire_words.specs.Programs.{program_access}
-use Rattle.iox_wire_moments.specs.MomentsOf.{Pools}
-use Rattle.iox_wire_locals.specs.declared.seat.Seat.{Seat}
-use Rattle.iox_wire_locals.specs.declared.table.Entry.{Entry}
-use Rattle.iox_wire_locals.specs.Begins.{begin, is_busy}
-use Rattle.iox_wire_locals.specs.Known.{loans_at}
-use Rattle.iox_wire_locals.specs.Locals.{program_of}
-use Rattle.iox_wire_locals.specs.StateMoments.{moment_at}
-use Rattle.iox_wire_locals.specs.Steps.{accessed, advance, tells}
-use Rattle.iox_wire_locals.specs.Tables.{Setting, entry_at, words_to_read}
-use Rattle.iox_wire_laws.specs.WireKeeping.Readiness.{choice_for}
-use Rattle.iox_wire_laws.specs.WireHolding.Aside.{shown}
-use Rattle.iox_wire_laws.specs.WireHolding.Holding.{held_at}
-use Rattle.iox_wire_laws.specs.WireRegions.OwnedWords.{Owns}
-use Rattle.iox_wire_stands.specs.BeginLaws.{MayBegin}
-use Rattle.iox_wire_stands.specs.Openings.{opened_seat}
-use Rattle.iox_wire_stands.specs.Runs.{Asked, GoesOnBy, Run}
-use Rattle.iox_wire_stands.specs.Stands.{Player, Stands, seats_of, word_of}
+use Rattle.iox_wire_steps.specs.Laws.{IsMade}
+use Rattle.iox_wire_steps.specs.Programs.{program_access}
+use Rattle.iox_wire_steps.specs.MomentsOf.{Pools}
+use Rattle.iox_wire_steps.specs.Seat.{Seat}
+use Rattle.iox_wire_steps.specs.Entry.{Entry}
+use Rattle.iox_wire_steps.specs.Begins.{begin, is_busy}
+use Rattle.iox_wire_steps.specs.Known.{loans_at}
+use Rattle.iox_wire_steps.specs.Locals.{program_of}
+use Rattle.iox_wire_steps.specs.StateMoments.{moment_at}
+use Rattle.iox_wire_steps.specs.Steps.{accessed, advance, tells}
+use Rattle.iox_wire_steps.specs.Tables.{Setting, entry_at, words_to_read}
+use Rattle.iox_wire_steps.specs.Readiness.{choice_for}
+use Rattle.iox_wire_steps.specs.Aside.{shown}
+use Rattle.iox_wire_steps.specs.Holding.{held_at}
+use Rattle.iox_wire_steps.specs.OwnedWords.{Owns}
+use Rattle.iox_wire_steps.specs.StandsBeginLaws.{MayBegin}
+use Rattle.iox_wire_steps.specs.Openings.{opened_seat}
+use Rattle.iox_wire_steps.specs.Runs.{Asked, GoesOnBy, Run}
+use Rattle.iox_wire_steps.specs.Stands.{Player, Stands, seats_of, word_of}
 use Rattle.iox_wire_steps.specs.WholeSteps.{GoesOnWith, HoldsNext, player_next, step_beats}
 use Rattle.iox_wire_calls.specs.Lanes.{AllLanesAreCounted}
 use Rattle.iox_wire_calls.specs.LoanSlots.{LoansStand, WordsAreTold}

@@ -6,21 +6,21 @@ use Rattle.iox_model.specs.Handles.{same_kind}
 use Rattle.iox_model.specs.Peers.{port_at}
 use Rattle.iox_model.specs.Settings.{is_client}
 use Rattle.iox_model.specs.States.{Port, State}
-use Rattle.iox_wire_moments.specs.MomentsOf.{Pools}
-use Rattle.iox_wire_locals.specs.declared.local.Ending.{Ending}
-use Rattle.iox_wire_locals.specs.declared.local.Ending.TheVariants as endings
-use Rattle.iox_wire_locals.specs.declared.local.Local.TheVariants.{Idle}
-use Rattle.iox_wire_locals.specs.declared.seat.Seat.{Seat}
-use Rattle.iox_wire_locals.specs.declared.table.Entry.{Entry}
-use Rattle.iox_wire_locals.specs.Known.{known}
-use Rattle.iox_wire_locals.specs.NewLoans.{lane_in, request_in}
-use Rattle.iox_wire_locals.specs.Tables.{Setting}
-use Rattle.iox_wire_laws.specs.WireKeeping.Readiness.{LanesFit}
-use Rattle.iox_wire_laws.specs.WireShows.OwnedCalls.{AsksOn}
-use Rattle.iox_wire_laws.specs.WireOwners.SentStates.{HasOpened, OpensElsewhere}
-use Rattle.iox_wire_laws.specs.WireHolding.SlotsKnown.{HasEntry}
-use Rattle.iox_wire_stands.specs.Nodes.{NodeStands}
-use Rattle.iox_wire_stands.specs.Stands.{AreNumbered}
+use Rattle.iox_wire_steps.specs.MomentsOf.{Pools}
+use Rattle.iox_wire_steps.specs.Ending.{Ending}
+use Rattle.iox_wire_steps.specs.Ending.TheVariants as endings
+use Rattle.iox_wire_steps.specs.Local.TheVariants.{Idle}
+use Rattle.iox_wire_steps.specs.Seat.{Seat}
+use Rattle.iox_wire_steps.specs.Entry.{Entry}
+use Rattle.iox_wire_steps.specs.Known.{known}
+use Rattle.iox_wire_steps.specs.NewLoans.{lane_in, request_in}
+use Rattle.iox_wire_steps.specs.Tables.{Setting}
+use Rattle.iox_wire_steps.specs.Readiness.{LanesFit}
+use Rattle.iox_wire_steps.specs.OwnedCalls.{AsksOn}
+use Rattle.iox_wire_steps.specs.SentStates.{HasOpened, OpensElsewhere}
+use Rattle.iox_wire_steps.specs.SlotsKnown.{HasEntry}
+use Rattle.iox_wire_steps.specs.Nodes.{NodeStands}
+use Rattle.iox_wire_steps.specs.Stands.{AreNumbered}
 use Rattle.iox_wire_steps.specs.Over.{CallIsOver, EndIsTold}
 use Rattle.iox_wire_calls.specs.Lanes.{AllLanesAreCounted}
 use Rattle.iox_wire_calls.specs.Places.{CallFits}

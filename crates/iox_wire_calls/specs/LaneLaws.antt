@@ -6,20 +6,20 @@ use Rattle.iox_model.specs.Maps.{has_number}
 use Rattle.iox_model.specs.Settings.{is_client}
 use Rattle.iox_model.specs.States.{State}
 use Rattle.iox_model.specs.Weaves.{World}
-use Rattle.iox_wire_words.specs.Fits.{WireContents}
-use Rattle.iox_wire_moments.specs.MomentsOf.{Pools}
-use Rattle.iox_wire_locals.specs.declared.local.Ending.{Ending}
-use Rattle.iox_wire_locals.specs.declared.local.Local.TheVariants.{Idle}
-use Rattle.iox_wire_locals.specs.declared.seat.Seat.{Seat}
-use Rattle.iox_wire_locals.specs.Begins.{begin, misnamed_call}
-use Rattle.iox_wire_locals.specs.Known.{free_lanes, free_slots}
-use Rattle.iox_wire_locals.specs.Steps.{accessed, advance, closed}
-use Rattle.iox_wire_locals.specs.Tables.{Setting}
-use Rattle.iox_wire_laws.specs.WireKeeping.Shows.{ShowsWorld}
-use Rattle.iox_wire_laws.specs.WireHolding.SlotsKnown.{IsPortOfSeat}
-use Rattle.iox_wire_stands.specs.Following.{message_at}
-use Rattle.iox_wire_stands.specs.Nodes.{NodeStands}
-use Rattle.iox_wire_stands.specs.Stands.{AreNumbered}
+use Rattle.iox_wire_steps.specs.Fits.{WireContents}
+use Rattle.iox_wire_steps.specs.MomentsOf.{Pools}
+use Rattle.iox_wire_steps.specs.Ending.{Ending}
+use Rattle.iox_wire_steps.specs.Local.TheVariants.{Idle}
+use Rattle.iox_wire_steps.specs.Seat.{Seat}
+use Rattle.iox_wire_steps.specs.Begins.{begin, misnamed_call}
+use Rattle.iox_wire_steps.specs.Known.{free_lanes, free_slots}
+use Rattle.iox_wire_steps.specs.Steps.{accessed, advance, closed}
+use Rattle.iox_wire_steps.specs.Tables.{Setting}
+use Rattle.iox_wire_steps.specs.Shows.{ShowsWorld}
+use Rattle.iox_wire_steps.specs.SlotsKnown.{IsPortOfSeat}
+use Rattle.iox_wire_steps.specs.Following.{message_at}
+use Rattle.iox_wire_steps.specs.Nodes.{NodeStands}
+use Rattle.iox_wire_steps.specs.Stands.{AreNumbered}
 use Rattle.iox_wire_steps.specs.Over.{CallIsOver}
 use Rattle.iox_wire_calls.specs.Lanes.{AllLanesAreCounted, lent_in}
 use Rattle.iox_wire_calls.specs.Places.{CallFits, OwnersAreSet}

@@ -4,14 +4,14 @@ use Rattle.iox_model.specs.declared.kind.Kind.{Kind}
 use Rattle.iox_model.specs.declared.kind.Kind.TheVariants.{PendingResponse}
 use Rattle.iox_model.specs.Handles.{is_request_loan, same_kind}
 use Rattle.iox_model.specs.Settings.{is_client}
-use Rattle.iox_wire_locals.specs.declared.seat.Seat.{Seat}
-use Rattle.iox_wire_locals.specs.declared.table.Entry.{Entry}
-use Rattle.iox_wire_locals.specs.Known.{free_lanes}
-use Rattle.iox_wire_locals.specs.NewLoans.{entry_in}
-use Rattle.iox_wire_locals.specs.Tables.{Setting}
-use Rattle.iox_wire_laws.specs.WireHolding.SlotsKnown.{IsPortOfSeat}
-use Rattle.iox_wire_pools.specs.Uses.{how_often}
-use Rattle.iox_wire_stands.specs.Following.{CallMessage, Lent, Sent, message_at}
+use Rattle.iox_wire_steps.specs.Seat.{Seat}
+use Rattle.iox_wire_steps.specs.Entry.{Entry}
+use Rattle.iox_wire_steps.specs.Known.{free_lanes}
+use Rattle.iox_wire_steps.specs.NewLoans.{entry_in}
+use Rattle.iox_wire_steps.specs.Tables.{Setting}
+use Rattle.iox_wire_steps.specs.SlotsKnown.{IsPortOfSeat}
+use Rattle.iox_wire_steps.specs.Uses.{how_often}
+use Rattle.iox_wire_steps.specs.Following.{CallMessage, Lent, Sent, message_at}
 
 -- ---- lanes in use
 

@@ -3,25 +3,27 @@
 use Rattle.std.specs.Prelude.{◌≡◌, ◌<◌, ◌≤◌, ◌^◌, ◌⊎◌, ℕ, true, List, Some}
 use Rattle.iox_model.specs.Maps.{has_number}
 use Rattle.iox_model.specs.States.{State}
-use Rattle.iox_wire_moments.specs.MomentsOf.{Pools}
-use Rattle.iox_wire_locals.specs.declared.local.Ending.{Ending}
-use Rattle.iox_wire_locals.specs.declared.local.Local.{Local}
-use Rattle.iox_wire_locals.specs.declared.local.Local.TheVariants.{LendEmpties, LendStores}
-use Rattle.iox_wire_locals.specs.declared.seat.Seat.{Seat}
-use Rattle.iox_wire_locals.specs.Known.{loans_at}
-use Rattle.iox_wire_locals.specs.NewLoans.{message_in}
-use Rattle.iox_wire_locals.specs.StepLaws.{ReliesOn}
-use Rattle.iox_wire_locals.specs.Steps.{accessed, advance, closed}
-use Rattle.iox_wire_locals.specs.Tables.{Setting}
-use Rattle.iox_wire_laws.specs.WireKeeping.UsedSlots.{slots_in_call}
-use Rattle.iox_wire_laws.specs.WireHolding.FarSlots.{IsInPool}
-use Rattle.iox_wire_laws.specs.WireHolding.Holding.{held_after}
-use Rattle.iox_wire_laws.specs.WireHolding.SlotsKnown.{IsPortOfSeat}
-use Rattle.iox_wire_stands.specs.Following.{CallMessage, Lent, message_at}
-use Rattle.iox_wire_stands.specs.Nodes.{NodeStands}
+use Rattle.iox_wire_steps.specs.MomentsOf.{Pools}
+use Rattle.iox_wire_steps.specs.Ending.{Ending}
+use Rattle.iox_wire_steps.specs.Local.{Local}
+use Rattle.iox_wire_steps.specs.Local.TheVariants.{LendEmpties, LendStores}
+use Rattle.iox_wire_steps.specs.Seat.{Seat}
+use Rattle.iox_wire_steps.specs.Known.{loans_at}
+use Rattle.iox_wire_steps.specs.NewLoans.{message_in}
+use Rattle.iox_wire_steps.specs.StepLaws.{ReliesOn}
+use Rattle.iox_wire_steps.specs.Steps.{accessed, advance, closed}
+use Rattle.iox_wire_steps.specs.Tables.{Setting}
+use Rattle.iox_wire_steps.specs.UsedSlots.{slots_in_call}
+use Rattle.iox_wire_steps.specs.FarSlots.{IsInPool}
+use Rattle.iox_wire_steps.specs.Holding.{held_after}
+use Rattle.iox_wire_steps.specs.SlotsKnown.{IsPortOfSeat}
+use Rattle.iox_wire_steps.specs.Following.{CallMessage, Lent, message_at}
+use Rattle.iox_wire_steps.specs.Nodes.{NodeStands}
 use Rattle.iox_wire_steps.specs.Over.{CallIsOver}
 use Rattle.iox_wire_steps.specs.WholeSteps.{held_closed}
-use Rattle.iox_wire_calls.specs.Places.{CallFits}
+use Rattle.iox_wire_calls.specs.Lanes.{AllLanesAreCounted}
+use Rattle.iox_wire_calls.specs.LaneLaws.{HasLanesForSlots}
+use Rattle.iox_wire_calls.specs.Places.{CallFits, LanesAreSet}
 use Rattle.iox_wire_calls.specs.StepsTold.{MessageIsTold}
 
 -- the slot of a loan in the making holds the loan's message
@@ -47,11 +49,13 @@ WordsAreTold p held s x seen (LendEmpties o w place left) = Unit {0}
 WordsAreTold p held s x seen (LendStores o slot next) = Unit {0}
 WordsAreTold p held s x seen local = MessageIsTold p held s x seen local
 
--- Loans are told what is so, as long as fewer than 2^64 of each port succeeded.
+-- Loans are told what is so, as long as fewer than 2^64 of each port succeeded: one that takes a slot
+-- has its port's next serial, and a lane.
 abbrev pub LoansAreTold : Type 0
 LoansAreTold =
     (p : Setting) (held : Pools) (s : State) (x : Seat) (seen : ℕ)
-    → NodeStands p held s x → CallFits p x → LoansStand p held x
+    → LanesAreSet p → NodeStands p held s x → CallFits p x → LoansStand p held x
+    → HasLanesForSlots p x → AllLanesAreCounted p x
     → ((port : ℕ) → loans_at x port < 2 ^ 64) → WordsAreTold p held s x seen x.local
     → MessageIsTold p held s x seen x.local
 

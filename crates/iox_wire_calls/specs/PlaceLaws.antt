@@ -1,12 +1,12 @@
 -- What is so of each place of a call stays so: as a call begins, over each access, and at its end.
 use Rattle.std.specs.Prelude.{◌≡◌, ℕ, Some, None}
 use Rattle.iox_model.specs.Commands.{WireCall}
-use Rattle.iox_wire_locals.specs.declared.local.Ending.{Ending}
-use Rattle.iox_wire_locals.specs.declared.seat.Seat.{Seat}
-use Rattle.iox_wire_locals.specs.Begins.{begin, misnamed_call}
-use Rattle.iox_wire_locals.specs.Steps.{accessed, advance, closed, ending_at}
-use Rattle.iox_wire_locals.specs.Tables.{Setting}
-use Rattle.iox_wire_stands.specs.Stands.{AreNumbered}
+use Rattle.iox_wire_steps.specs.Ending.{Ending}
+use Rattle.iox_wire_steps.specs.Seat.{Seat}
+use Rattle.iox_wire_steps.specs.Begins.{begin, misnamed_call}
+use Rattle.iox_wire_steps.specs.Steps.{accessed, advance, closed, ending_at}
+use Rattle.iox_wire_steps.specs.Tables.{Setting}
+use Rattle.iox_wire_steps.specs.Stands.{AreNumbered}
 use Rattle.iox_wire_calls.specs.Places.{CallFits, OwnersAreSet}
 
 -- So it is at the first place of a call that names what it may.

@@ -15,21 +15,21 @@ use Rattle.iox_steps.specs.declared.side.Popping.{Popping}
 use Rattle.iox_steps.specs.declared.side.Popping.TheVariants as popping
 use Rattle.iox_steps.specs.declared.side.Pushing.{Pushing}
 use Rattle.iox_steps.specs.declared.side.Pushing.TheVariants as pushing
-use Rattle.iox_wire_locals.specs.declared.local.Delivery.{Delivery}
-use Rattle.iox_wire_locals.specs.declared.local.Ending.{Ending}
-use Rattle.iox_wire_locals.specs.declared.local.Ending.TheVariants as endings
-use Rattle.iox_wire_locals.specs.declared.local.Local.{Local}
-use Rattle.iox_wire_locals.specs.declared.local.Local.TheVariants.{Ends, LendEmpties, LendStores, ReceiveAsks, ReceiveLoads, ReceiveLooks, ReceivePops, ReceiveReturns, ReleaseReturns, Seeks, SendAsks, SendEmpties, SendEnds, SendEvicts, SendGetsBack, SendLooks, SendOpens, SendPushes, Writes}
-use Rattle.iox_wire_locals.specs.declared.local.Visit.{Visit}
-use Rattle.iox_wire_locals.specs.declared.seat.Seat.{Seat}
-use Rattle.iox_wire_locals.specs.declared.table.Entry.{Entry}
-use Rattle.iox_wire_locals.specs.declared.table.NewLoan.{NewLoan}
-use Rattle.iox_wire_locals.specs.Known.{free_lanes, known, loans_at}
-use Rattle.iox_wire_locals.specs.Lendings.{first_lane}
-use Rattle.iox_wire_locals.specs.NewLoans.{request_in}
-use Rattle.iox_wire_locals.specs.Tables.{Setting, way_in}
-use Rattle.iox_wire_laws.specs.WireShows.OwnedCalls.{Each}
-use Rattle.iox_wire_laws.specs.WireHolding.SlotsKnown.{HasEntry, IsPortOfSeat}
+use Rattle.iox_wire_steps.specs.Delivery.{Delivery}
+use Rattle.iox_wire_steps.specs.Ending.{Ending}
+use Rattle.iox_wire_steps.specs.Ending.TheVariants as endings
+use Rattle.iox_wire_steps.specs.Local.{Local}
+use Rattle.iox_wire_steps.specs.Local.TheVariants.{Ends, LendEmpties, LendStores, ReceiveAsks, ReceiveLoads, ReceiveLooks, ReceivePops, ReceiveReturns, ReleaseReturns, Seeks, SendAsks, SendEmpties, SendEnds, SendEvicts, SendGetsBack, SendLooks, SendOpens, SendPushes, Writes}
+use Rattle.iox_wire_steps.specs.Visit.{Visit}
+use Rattle.iox_wire_steps.specs.Seat.{Seat}
+use Rattle.iox_wire_steps.specs.Entry.{Entry}
+use Rattle.iox_wire_steps.specs.NewLoan.{NewLoan}
+use Rattle.iox_wire_steps.specs.Known.{free_lanes, known, loans_at}
+use Rattle.iox_wire_steps.specs.Lendings.{first_lane}
+use Rattle.iox_wire_steps.specs.NewLoans.{request_in}
+use Rattle.iox_wire_steps.specs.Tables.{Setting, way_in}
+use Rattle.iox_wire_steps.specs.OwnedCalls.{Each}
+use Rattle.iox_wire_steps.specs.SlotsKnown.{HasEntry, IsPortOfSeat}
 
 -- ---- the node's part in a queue
 
@@ -162,3 +162,9 @@ abbrev pub OwnersAreSet : Setting → Type 0
 OwnersAreSet p =
     (port : ℕ) → has_number port p.layout.sizes.ports ≡ true
     → p.layout.owner port ≡ (p.port port).node
+
+-- and has as many lanes of a client as its pool has slots
+abbrev pub LanesAreSet : Setting → Type 0
+LanesAreSet p =
+    (port : ℕ) → has_number port p.layout.sizes.ports ≡ true → is_client (p.port port).role ≡ true
+    → p.layout.sizes.lanes port ≡ (p.port port).pool

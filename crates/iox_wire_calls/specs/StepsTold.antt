@@ -9,25 +9,25 @@ use Rattle.iox_steps.specs.Accesses.{seen_by}
 use Rattle.iox_steps.specs.Fits.{write_of}
 use Rattle.iox_steps.specs.Sites.{last_position}
 use Rattle.iox_word_map.specs.WordMaps.{WireQueue}
-use Rattle.iox_wire_words.specs.Laws.{IsMade}
-use Rattle.iox_wire_words.specs.Programs.{program_access, site_of}
-use Rattle.iox_wire_moments.specs.MomentsOf.{Pools}
-use Rattle.iox_wire_locals.specs.declared.local.Ending.TheVariants.{Lends}
-use Rattle.iox_wire_locals.specs.declared.local.Local.{Local}
-use Rattle.iox_wire_locals.specs.declared.local.Local.TheVariants.{Ends, LendEmpties, LendStores, Reads, ReceiveAsks, ReceiveLoads}
-use Rattle.iox_wire_locals.specs.declared.local.Visit.{Visit}
-use Rattle.iox_wire_locals.specs.declared.seat.Seat.{Seat}
-use Rattle.iox_wire_locals.specs.Begins.{is_busy}
-use Rattle.iox_wire_locals.specs.Locals.{program_of}
-use Rattle.iox_wire_locals.specs.NewLoans.{lane_in, message_in, received_length, request_in}
-use Rattle.iox_wire_locals.specs.Steps.{accessed, advance}
-use Rattle.iox_wire_locals.specs.Tables.{Setting, port_shape, words_to_read}
-use Rattle.iox_wire_laws.specs.WireShows.OwnedCalls.{AsksOn}
-use Rattle.iox_wire_laws.specs.WireOwners.Pushes.{PushesInto}
-use Rattle.iox_wire_stands.specs.Following.{NoMessage}
-use Rattle.iox_wire_stands.specs.FollowingLaws.{TakesNext}
-use Rattle.iox_wire_stands.specs.Runs.{Run}
-use Rattle.iox_wire_stands.specs.Stands.{Player, Stands, seats_of, word_of}
+use Rattle.iox_wire_steps.specs.Laws.{IsMade}
+use Rattle.iox_wire_steps.specs.Programs.{program_access, site_of}
+use Rattle.iox_wire_steps.specs.MomentsOf.{Pools}
+use Rattle.iox_wire_steps.specs.Ending.TheVariants.{Lends}
+use Rattle.iox_wire_steps.specs.Local.{Local}
+use Rattle.iox_wire_steps.specs.Local.TheVariants.{Ends, LendEmpties, LendStores, Reads, ReceiveAsks, ReceiveLoads}
+use Rattle.iox_wire_steps.specs.Visit.{Visit}
+use Rattle.iox_wire_steps.specs.Seat.{Seat}
+use Rattle.iox_wire_steps.specs.Begins.{is_busy}
+use Rattle.iox_wire_steps.specs.Locals.{program_of}
+use Rattle.iox_wire_steps.specs.NewLoans.{lane_in, message_in, received_length, request_in}
+use Rattle.iox_wire_steps.specs.Steps.{accessed, advance}
+use Rattle.iox_wire_steps.specs.Tables.{Setting, port_shape, words_to_read}
+use Rattle.iox_wire_steps.specs.OwnedCalls.{AsksOn}
+use Rattle.iox_wire_steps.specs.Pushes.{PushesInto}
+use Rattle.iox_wire_steps.specs.Following.{NoMessage}
+use Rattle.iox_wire_steps.specs.FollowingLaws.{TakesNext}
+use Rattle.iox_wire_steps.specs.Runs.{Run}
+use Rattle.iox_wire_steps.specs.Stands.{Player, Stands, seats_of, word_of}
 use Rattle.iox_wire_steps.specs.WholeSteps.{StepIsTold}
 use Rattle.iox_wire_calls.specs.EndsTold.{HeaderIsTold}
 use Rattle.iox_wire_calls.specs.Lanes.{AllLanesAreCounted}

@@ -9,3 +9,20 @@ pub mod CopyCalls
 pub mod ResponseCopies
 -- how many accesses a copy takes
 pub mod WorkedCopies
+-- what the crates above cite of those below
+pub use Rattle.iox_wire_loans.specs.Aims as LoansAims
+pub use Rattle.iox_wire_loans.specs.Lenders
+pub use Rattle.iox_wire_loans.specs.Loans
+pub use Rattle.iox_wire_loans.specs.declared.at.LendReply
+pub use Rattle.iox_wire_loans.specs.declared.lender.Lender
+pub use Rattle.iox_wire_loans.specs.declared.slot_places.SlotPlaces
+pub use Rattle.iox_wire_request_sends.specs.Aims as RequestSendsAims
+pub use Rattle.iox_wire_request_sends.specs.RequestDispatches
+pub use Rattle.iox_wire_request_sends.specs.Targets
+pub use Rattle.iox_wire_request_sends.specs.declared.at.RequestReply
+pub use Rattle.iox_wire_request_sends.specs.declared.target.RequestTerms
+pub use Rattle.iox_wire_request_sends.specs.declared.target.Target
+pub use Rattle.iox_wire_sends.specs.Aims
+pub use Rattle.iox_wire_sends.specs.Dispatches
+pub use Rattle.iox_wire_sends.specs.declared.at.RespondReply
+pub use Rattle.iox_wire_sends.specs.declared.terms.ResponseTerms

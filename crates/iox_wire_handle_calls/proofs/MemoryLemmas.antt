@@ -12,20 +12,20 @@ use Rattle.iox_word_map.specs.declared.message_part.MessagePart.{MessagePart}
 use Rattle.iox_word_map.specs.MessageWords.{IsInWords, part_place, part_word, part_words}
 use Rattle.iox_word_map.specs.WordMaps.{total_words}
 use Rattle.iox_word_map.proofs.Messages.{parts_are_computed, words_are_in_their_slot}
-use Rattle.iox_word_places.specs.declared.plan.PlanPort.{PlanPort}
-use Rattle.iox_word_places.specs.declared.plan.WirePlan.{WirePlan}
-use Rattle.iox_word_places.specs.declared.word_map.PortPlaces.{PortPlaces}
-use Rattle.iox_word_places.specs.MapFields.{places_before}
-use Rattle.iox_word_places.specs.Plans.{IsPlan, IsSlotAt, details_of, number_at, part_start, role_of, sizes_of}
-use Rattle.iox_wire_layouts.specs.PlansOf.{IsSettingOf, IsShapeOf}
-use Rattle.iox_wire_layouts.proofs.Planned.{each_planned}
-use Rattle.iox_wire_locals.specs.Tables.{Setting, port_shape}
-use Rattle.iox_wire_seats.specs.Aims.{AreInMemory}
-use Rattle.iox_wire_seats.specs.declared.message_places.MessagePlaces.{MessagePlaces}
+use Rattle.iox_wire_stops.specs.PlanPort.{PlanPort}
+use Rattle.iox_wire_stops.specs.WirePlan.{WirePlan}
+use Rattle.iox_wire_stops.specs.PortPlaces.{PortPlaces}
+use Rattle.iox_wire_stops.specs.MapFields.{places_before}
+use Rattle.iox_wire_stops.specs.Plans.{IsPlan, IsSlotAt, details_of, number_at, part_start, role_of, sizes_of}
+use Rattle.iox_wire_stops.specs.PlansOf.{IsSettingOf, IsShapeOf}
+use Rattle.iox_wire_stops.proofs.Planned.{each_planned}
+use Rattle.iox_wire_stops.specs.Tables.{Setting, port_shape}
+use Rattle.iox_wire_stops.specs.Aims.{AreInMemory}
+use Rattle.iox_wire_stops.specs.MessagePlaces.{MessagePlaces}
 use Rattle.iox_wire_handle_calls.specs.PlacedHandles.{words_behind_header}
-use Rattle.iox_word_places.proofs.PairLemmas.{index_there, one_of}
-use Rattle.iox_word_places.proofs.PlanLemmas.{port_is}
-use Rattle.iox_word_places.proofs.SlotLemmas.{SlotFacts, part_is, slot_facts}
+use Rattle.iox_wire_stops.proofs.PairLemmas.{index_there, one_of}
+use Rattle.iox_wire_stops.proofs.PlanLemmas.{port_is}
+use Rattle.iox_wire_stops.proofs.SlotLemmas.{SlotFacts, part_is, slot_facts}
 
 self_there : (ps : List PlanPort) (i : ℕ) (d : PlanPort) → i < length ps → get_or ps i d ≡ get_or ps i (get_or ps i d)
 self_there [] i d low = absurd (omega (arith, low))

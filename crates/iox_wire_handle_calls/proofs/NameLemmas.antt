@@ -14,19 +14,19 @@ use Rattle.iox_model.specs.declared.kind.Role.{Role}
 use Rattle.iox_model.specs.declared.kind.Role.TheVariants.{Client, Server}
 use Rattle.iox_model.specs.Settings.{is_client}
 use Rattle.iox_model.specs.States.{Port}
-use Rattle.iox_wire_words.specs.Programs.{WireLayout}
-use Rattle.iox_word_places.specs.declared.plan.PlanPort.{PlanPort}
-use Rattle.iox_word_places.specs.declared.plan.WirePlan.{WirePlan}
-use Rattle.iox_word_places.specs.Plans.{IsPlan, layout_of, number_at, port_of}
-use Rattle.iox_word_places.proofs.PlanLemmas.{number_is, port_is}
-use Rattle.iox_wire_layouts.proofs.Planned.{each_planned}
-use Rattle.iox_wire_layouts.specs.PlansOf.{AreAsPlanned, IsAsPlanned, IsSettingOf}
-use Rattle.iox_wire_locals.specs.declared.table.Entry.{Entry}
-use Rattle.iox_wire_locals.specs.declared.seat.Seat.{Seat}
-use Rattle.iox_wire_locals.specs.Begins.{begin, begins_at, begins_at_entry, begins_at_port, is_busy, refusal_at}
-use Rattle.iox_wire_locals.specs.Known.{known, told_handle}
-use Rattle.iox_wire_locals.specs.Tables.{Setting, entry_at}
-use Rattle.iox_wire_laws.proofs.WireKeeping.Lookups.{find_map}
+use Rattle.iox_wire_stops.specs.Programs.{WireLayout}
+use Rattle.iox_wire_stops.specs.PlanPort.{PlanPort}
+use Rattle.iox_wire_stops.specs.WirePlan.{WirePlan}
+use Rattle.iox_wire_stops.specs.Plans.{IsPlan, layout_of, number_at, port_of}
+use Rattle.iox_wire_stops.proofs.PlanLemmas.{number_is, port_is}
+use Rattle.iox_wire_stops.proofs.Planned.{each_planned}
+use Rattle.iox_wire_stops.specs.PlansOf.{AreAsPlanned, IsAsPlanned, IsSettingOf}
+use Rattle.iox_wire_stops.specs.Entry.{Entry}
+use Rattle.iox_wire_stops.specs.Seat.{Seat}
+use Rattle.iox_wire_stops.specs.Begins.{begin, begins_at, begins_at_entry, begins_at_port, is_busy, refusal_at}
+use Rattle.iox_wire_stops.specs.Known.{known, told_handle}
+use Rattle.iox_wire_stops.specs.Tables.{Setting, entry_at}
+use Rattle.iox_wire_stops.proofs.Lookups.{find_map}
 use Rattle.iox_wire_handle_calls.specs.declared.asked.Asked.{Asked}
 use Rattle.iox_wire_handle_calls.specs.declared.asked.Asked.TheVariants as asked
 use Rattle.iox_wire_handle_calls.specs.HandleCalls.{call_of, port_kind}
@@ -58,6 +58,9 @@ no_port plan p x n setting none =
 -- ---- a call of it
 
 asked_number : (a : Asked) (n : ℕ) (y : Payload) → number_of (call_of a n y) ≡ n
+asked_number (asked.Loan k) n y = refl
+asked_number (asked.LoanUninit k) n y = refl
+asked_number (asked.SendCopy role) n y = refl
 asked_number (asked.Write role) n y = refl
 asked_number asked.Send n y = refl
 asked_number asked.Receive n y = refl

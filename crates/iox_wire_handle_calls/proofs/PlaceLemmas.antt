@@ -5,10 +5,10 @@ use Rattle.std.specs.Option.{option_map_or}
 use Rattle.std.proofs.Common.{◌≡◌, ℕ, ◌<◌, ◌≤◌, ◌==◌, Bool, true, false, cond, if◌then◌else◌, eqb-true, List, [], ◌∷◌, map, length, Option, Some, None, refl, ap, sym, subst, ◌∙◌, true≢false, arith}
 use Rattle.std.proofs.lemmas.Bool.{ltb-false}
 use Rattle.std.proofs.lemmas.List.Folds.{find_at}
-use Rattle.iox_word_places.specs.declared.plan.PlanPort.{PlanPort}
-use Rattle.iox_word_places.specs.declared.plan.WirePlan.{WirePlan}
-use Rattle.iox_word_places.specs.Plans.{number_at}
-use Rattle.iox_word_places.proofs.PairLemmas.{index_there}
+use Rattle.iox_wire_stops.specs.PlanPort.{PlanPort}
+use Rattle.iox_wire_stops.specs.WirePlan.{WirePlan}
+use Rattle.iox_wire_stops.specs.Plans.{number_at}
+use Rattle.iox_wire_stops.proofs.PairLemmas.{index_there}
 
 -- ---- found by its number
 

@@ -8,10 +8,10 @@ use Rattle.iox_model.specs.declared.kind.Role.{Role}
 use Rattle.iox_model.specs.declared.kind.Role.TheVariants.{Client, Server}
 use Rattle.iox_model.specs.declared.reply.Refusal.TheVariants as refusals
 use Rattle.iox_model.specs.Commands.{Call, Payload, Refusal, WireCall}
-use Rattle.iox_wire_locals.specs.Begins.{begin, refusal_at}
-use Rattle.iox_wire_locals.specs.Tables.{Setting}
-use Rattle.iox_wire_seats.specs.Aims.{IsAimed}
-use Rattle.iox_wire_seats.specs.Seats.{Placed}
+use Rattle.iox_wire_stops.specs.Begins.{begin, refusal_at}
+use Rattle.iox_wire_stops.specs.Tables.{Setting}
+use Rattle.iox_wire_stops.specs.Aims.{IsAimed}
+use Rattle.iox_wire_stops.specs.Seats.{Placed}
 use Rattle.iox_wire_handle_calls.specs.declared.asked.Asked.{Asked}
 use Rattle.iox_wire_handle_calls.specs.declared.asked.Asked.TheVariants as asked
 use Rattle.iox_wire_handle_calls.specs.declared.error.BeginError.{BeginError}
@@ -19,8 +19,11 @@ use Rattle.iox_wire_handle_calls.specs.declared.error.BeginError.TheVariants as 
 
 -- ---- the calls
 
--- the call of that number, with that payload if it is a write
+-- the call of that number, with that payload if it is a write or a copy
 abbrev pub call_of : Asked → ℕ → Payload → Call
+call_of (asked.Loan k) n y = calls.Loan n k
+call_of (asked.LoanUninit k) n y = calls.LoanUninit n k
+call_of (asked.SendCopy role) n y = calls.SendCopy n y
 call_of (asked.Write role) n y = calls.Write n y
 call_of asked.Send n y = calls.Send n
 call_of asked.Receive n y = calls.Receive n
@@ -37,9 +40,10 @@ abbrev pub port_kind : Role → Kind
 port_kind Client = kinds.Client
 port_kind Server = kinds.Server
 
--- the payload is of that role, if the call is a write
+-- the payload is of that role, if the call is a write or a copy
 abbrev pub HasRole : Asked → Payload → Type 0
 HasRole (asked.Write role) y = y.role ≡ role
+HasRole (asked.SendCopy role) y = y.role ≡ role
 HasRole call y = Unit {0}
 
 -- the write of such a payload

@@ -1,10 +1,11 @@
 -- Where the messages of handles stand.
-use Rattle.std.specs.Prelude.{◌+◌, ◌*◌, ◌/◌, ◌<◌, ◌^◌, ℕ, IsSomeAnd}
+use Rattle.std.specs.Prelude.{◌≡◌, ◌+◌, ◌*◌, ◌/◌, ◌<◌, ◌^◌, ℕ, false, IsSomeAnd}
+use Rattle.iox_model.specs.Handles.{is_received}
 use Rattle.iox_word_map.specs.WordMaps.{total_words}
-use Rattle.iox_word_places.specs.declared.plan.WirePlan.{WirePlan}
-use Rattle.iox_word_places.specs.Plans.{details_of, port_of}
-use Rattle.iox_word_places.specs.Plans.{role_of, sizes_of}
-use Rattle.iox_wire_locals.specs.declared.table.Entry.{Entry}
+use Rattle.iox_wire_stops.specs.WirePlan.{WirePlan}
+use Rattle.iox_wire_stops.specs.Plans.{details_of, port_of}
+use Rattle.iox_wire_stops.specs.Plans.{role_of, sizes_of}
+use Rattle.iox_wire_stops.specs.Entry.{Entry}
 
 -- the port of that number has that slot
 abbrev pub HasSlot : WirePlan → (port slot : ℕ) → Type 0
@@ -13,6 +14,10 @@ HasSlot plan port slot = IsSomeAnd (port_of plan port) (λ q. slot < q.pool)
 -- the message of the entry stands in a slot of its own port
 abbrev pub HasOwnSlot : WirePlan → Entry → Type 0
 HasOwnSlot plan e = HasSlot plan e.port e.slot
+
+-- so it is unless the message was received
+abbrev pub HasLoanSlot : WirePlan → Entry → Type 0
+HasLoanSlot plan e = is_received e.kind ≡ false → HasOwnSlot plan e
 
 -- how many words a message of so many elements has behind its header, by its sender
 abbrev pub words_behind_header : WirePlan → (sender elements : ℕ) → ℕ

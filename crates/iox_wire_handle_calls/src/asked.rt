@@ -6,12 +6,15 @@ ghost use Rattle.iox_wire_handle_calls.specs.HandleCalls.{HasRole, call_of};
 
 use iox_model::kind::{Kind, Role};
 
-/// Which call a port or a handle is asked for. A write is of a request or of a response, as its role
-/// tells.
+/// Which call a port or a handle is asked for. A loan is of so many elements. A write or a copy is of
+/// a request or of a response, as its role tells.
 #[derive(Clone, Copy, Debug, PartialEq, Eq)]
 pub enum Asked {
+    Loan(u64),
+    LoanUninit(u64),
     Write(Role),
     Send,
+    SendCopy(Role),
     Receive,
     Read,
     Release,
@@ -30,6 +33,10 @@ impl Asked {
             → result ≡ suits true (call_of self n y) kind }
     {
         match self {
+            Asked::Loan(_) => matches!(kind, Kind::Client | Kind::ActiveRequest),
+            Asked::LoanUninit(_) => false,
+            Asked::SendCopy(Role::Client) => matches!(kind, Kind::Client),
+            Asked::SendCopy(Role::Server) => matches!(kind, Kind::ActiveRequest),
             Asked::Write(Role::Client) => {
                 matches!(kind, Kind::RequestMut | Kind::RequestMutUninit)
             }

@@ -2,20 +2,18 @@
 ghost use Rattle.std.specs.Prelude.{◌≡◌, IfErr, IfSome, None, OnErr, OnOk};
 ghost use Rattle.iox_model.specs.declared.call.Call.TheVariants.{SetHint};
 ghost use Rattle.iox_model.specs.declared.call.WireCall.TheVariants.{Port};
-ghost use Rattle.iox_word_places.specs.Plans.{port_of};
-ghost use Rattle.iox_wire_layouts.specs.PlansOf.{IsSettingOf};
-ghost use Rattle.iox_wire_locals.specs.Begins.{refusal_at};
-ghost use Rattle.iox_wire_locals.specs.Tables.{Setting, entry_at};
-ghost use Rattle.iox_wire_seats.specs.Aims.{HasRoomForHint};
+ghost use Rattle.iox_wire_stops.specs.Plans.{port_of};
+ghost use Rattle.iox_wire_stops.specs.PlansOf.{IsSettingOf};
+ghost use Rattle.iox_wire_stops.specs.Begins.{refusal_at};
+ghost use Rattle.iox_wire_stops.specs.Tables.{Setting, entry_at};
+ghost use Rattle.iox_wire_stops.specs.Aims.{HasRoomForHint};
 ghost use Rattle.iox_wire_handle_calls.specs.HandleCalls.{IsBegun, refusal_in};
 ghost use Rattle.iox_wire_stops.specs.OwnStates.{HasStates};
 
 use crate::asked::Asked;
 use crate::error::BeginError;
 use crate::naming::named;
-use iox_wire_seats::{Stop, StoredSeat};
-use iox_wire_stops::list_states_of;
-use iox_word_places::WordMap;
+use iox_wire_stops::{Stop, StoredSeat, WordMap, list_states_of};
 
 /// Begins to give a hint to the pending response of that number. The number is no port's. What it
 /// lists in `stops` is of no use later.

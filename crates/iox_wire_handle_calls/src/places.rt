@@ -1,16 +1,15 @@
 //! Where the words of a message stand, in memory.
 ghost use Rattle.std.specs.Prelude.{ℕ, ◌≡◌, ◌<◌, ◌≤◌, ◌/◌, ◌^◌};
 ghost use Rattle.iox_word_map.specs.WordMaps.{total_words};
-ghost use Rattle.iox_word_places.specs.Plans.{IsSlotAt, details_of, number_at, role_of, sizes_of};
-ghost use Rattle.iox_wire_layouts.specs.PlansOf.{IsSettingOf};
-ghost use Rattle.iox_wire_locals.specs.declared.table.Entry.{Entry};
-ghost use Rattle.iox_wire_locals.specs.Tables.{Setting, words_to_read};
-ghost use Rattle.iox_wire_seats.specs.Aims.{IsPayloadAt, StandAt};
+ghost use Rattle.iox_wire_stops.specs.Plans.{IsSlotAt, details_of, number_at, role_of, sizes_of};
+ghost use Rattle.iox_wire_stops.specs.PlansOf.{IsSettingOf};
+ghost use Rattle.iox_wire_stops.specs.Entry.{Entry};
+ghost use Rattle.iox_wire_stops.specs.Tables.{Setting, words_to_read};
+ghost use Rattle.iox_wire_stops.specs.Aims.{IsPayloadAt, StandAt};
 ghost use Rattle.iox_wire_handle_calls.specs.PlacedHandles.{words_behind_header as words_in};
 
-use iox_wire_seats::MessagePlaces;
+use iox_wire_stops::{MessagePlaces, WordMap};
 use iox_word_map::MessagePart;
-use iox_word_places::WordMap;
 
 /// Where the payload of the message in a slot of a port begins.
 #[inline]

@@ -1,10 +1,10 @@
 //! Where a port stands in a plan.
 ghost use Rattle.std.specs.Prelude.{◌≡◌, ◌<◌, ◌==◌, IfSome, length};
 ghost use Rattle.std.specs.List.{position};
-ghost use Rattle.iox_word_places.specs.Plans.{IsSlotAt, number_at};
+ghost use Rattle.iox_wire_stops.specs.Plans.{IsSlotAt, number_at};
 ghost use Rattle.iox_wire_handle_calls.specs.PlacedHandles.{HasSlot};
 
-use iox_word_places::{PlanPort, WirePlan};
+use iox_wire_stops::{PlanPort, WirePlan};
 
 /// Where the port of that number stands among these.
 #[inline]

@@ -2,10 +2,10 @@
 ghost use Rattle.std.specs.Prelude.{◌≡◌, IfErr, IfSome, None, OnErr, OnOk};
 ghost use Rattle.iox_model.specs.declared.call.Call.TheVariants.{Read};
 ghost use Rattle.iox_model.specs.declared.call.WireCall.TheVariants.{Port};
-ghost use Rattle.iox_word_places.specs.Plans.{port_of};
-ghost use Rattle.iox_wire_layouts.specs.PlansOf.{IsSettingOf};
-ghost use Rattle.iox_wire_locals.specs.Begins.{refusal_at};
-ghost use Rattle.iox_wire_locals.specs.Tables.{Setting, entry_at};
+ghost use Rattle.iox_wire_stops.specs.Plans.{port_of};
+ghost use Rattle.iox_wire_stops.specs.PlansOf.{IsSettingOf};
+ghost use Rattle.iox_wire_stops.specs.Begins.{refusal_at};
+ghost use Rattle.iox_wire_stops.specs.Tables.{Setting, entry_at};
 ghost use Rattle.iox_wire_handle_calls.specs.HandleCalls.{IsBegun, refusal_in};
 ghost use Rattle.iox_wire_handle_calls.specs.PlacedHandles.{IsReadable};
 
@@ -14,8 +14,7 @@ use crate::error::BeginError;
 use crate::naming::named;
 use crate::places::{message_of, words_behind_header};
 use crate::port_index::port_with_slot;
-use iox_wire_seats::StoredSeat;
-use iox_word_places::WordMap;
+use iox_wire_stops::{StoredSeat, WordMap};
 
 /// Begins to read the message of the handle of that number, which is no port's.
 pub fn begin_read(seat: &mut StoredSeat, map: &WordMap, number: u64) -> Result<(), BeginError>

@@ -3,22 +3,18 @@ ghost use Rattle.std.specs.Prelude.{◌≡◌, ◌*◌, IfErr, IfSome, None, OnE
 ghost use Rattle.iox_model.specs.declared.call.Call.TheVariants.{HasResponse};
 ghost use Rattle.iox_model.specs.declared.call.WireCall.TheVariants.{Port};
 ghost use Rattle.iox_model.specs.declared.kind.Role.TheVariants.{Server};
-ghost use Rattle.iox_word_places.specs.Plans.{port_of};
-ghost use Rattle.iox_wire_layouts.specs.PlansOf.{IsSettingOf};
-ghost use Rattle.iox_wire_locals.specs.Begins.{refusal_at};
-ghost use Rattle.iox_wire_locals.specs.Stored.{header_length};
-ghost use Rattle.iox_wire_locals.specs.Tables.{Setting, entry_at};
+ghost use Rattle.iox_wire_stops.specs.Plans.{port_of};
+ghost use Rattle.iox_wire_stops.specs.PlansOf.{IsSettingOf};
+ghost use Rattle.iox_wire_stops.specs.Begins.{refusal_at};
+ghost use Rattle.iox_wire_stops.specs.Stored.{header_length};
+ghost use Rattle.iox_wire_stops.specs.Tables.{Setting, entry_at};
 ghost use Rattle.iox_wire_handle_calls.specs.HandleCalls.{IsBegun, refusal_in};
 ghost use Rattle.iox_wire_stops.specs.OwnStates.{HasStates};
 
 use crate::asked::Asked;
 use crate::error::BeginError;
 use crate::naming::named;
-use iox_wire_receives::Source;
-use iox_wire_releases::client_place;
-use iox_wire_seats::{Stop, StoredSeat};
-use iox_wire_stops::list_waiting_responses;
-use iox_word_places::WordMap;
+use iox_wire_stops::{Source, Stop, StoredSeat, WordMap, client_place, list_waiting_responses};
 
 /// Begins to look whether a response waits for the pending response of that number. The number is
 /// no port's. What it lists in `sources` and `stops` is of no use later.

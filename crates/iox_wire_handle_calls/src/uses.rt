@@ -1,22 +1,20 @@
 //! Callers, proved from the clauses alone.
 ghost use Rattle.std.specs.Prelude.{◌≡◌, ◌+◌, ◌<◌, ◌^◌, Err, IfOk, IfSome, None, OnOk, Some};
-ghost use Rattle.std.specs.Prelude.{length};
 ghost use Rattle.iox_model.specs.declared.call.Call.TheVariants.{IsConnected, Read, SetHint};
 ghost use Rattle.iox_model.specs.declared.call.WireCall.TheVariants.{Port};
 ghost use Rattle.iox_model.specs.declared.kind.Role.TheVariants.{Client};
 ghost use Rattle.iox_model.specs.declared.reply.Refusal.TheVariants as refusals;
-ghost use Rattle.iox_word_map.specs.WordMaps.{total_words};
-ghost use Rattle.iox_word_places.specs.Plans.{port_of, sizes_of};
-ghost use Rattle.iox_wire_layouts.specs.PlansOf.{IsSettingOf};
-ghost use Rattle.iox_wire_locals.specs.Begins.{begin, refusal_at};
-ghost use Rattle.iox_wire_locals.specs.Locals.{program_of};
-ghost use Rattle.iox_wire_locals.specs.Steps.{next};
-ghost use Rattle.iox_wire_locals.specs.Tables.{Setting, entry_at};
-ghost use Rattle.iox_wire_seats.specs.Aims.{HasRoomForHint};
-ghost use Rattle.iox_wire_words.specs.Programs.{program_access};
+ghost use Rattle.iox_wire_stops.specs.Plans.{port_of};
+ghost use Rattle.iox_wire_stops.specs.PlansOf.{IsSettingOf};
+ghost use Rattle.iox_wire_stops.specs.Begins.{begin, refusal_at};
+ghost use Rattle.iox_wire_stops.specs.Locals.{program_of};
+ghost use Rattle.iox_wire_stops.specs.Steps.{next};
+ghost use Rattle.iox_wire_stops.specs.Tables.{Setting, entry_at};
+ghost use Rattle.iox_wire_stops.specs.Aims.{HasRoomForHint};
+ghost use Rattle.iox_wire_stops.specs.Programs.{program_access};
 ghost use Rattle.iox_wire_handle_calls.specs.declared.error.BeginError.TheVariants as errors;
 ghost use Rattle.iox_wire_handle_calls.specs.HandleCalls.{write_of};
-ghost use Rattle.iox_wire_handle_calls.specs.PlacedHandles.{HasOwnSlot, IsReadable};
+ghost use Rattle.iox_wire_handle_calls.specs.PlacedHandles.{HasLoanSlot, IsReadable};
 ghost use Rattle.iox_wire_stops.specs.OwnStates.{HasStates};
 
 use crate::asking::begin_is_connected;
@@ -26,8 +24,7 @@ use crate::reading::begin_read;
 use crate::writing::begin_write;
 use iox_model::kind::Role;
 use iox_steps::Access;
-use iox_wire_seats::{SeatReply, Stop, StoredSeat};
-use iox_word_places::WordMap;
+use iox_wire_stops::{SeatReply, Stop, StoredSeat, WordMap};
 
 /// A write begins, and makes one access, as the node does.
 pub fn payload_written_by_one_step(
@@ -39,8 +36,7 @@ pub fn payload_written_by_one_step(
     seen: u64,
 ) -> Result<Option<SeatReply>, BeginError>
     requires no_port { port_of map.now number ≡ None }
-    requires slot { IfSome (entry_at number seat.old.seat.table) (HasOwnSlot map.now) }
-    requires memory { total_words (sizes_of map.now) + length words.now < 2 ^ 64 }
+    requires slot { IfSome (entry_at number seat.old.seat.table) (HasLoanSlot map.now) }
     requires accesses { seat.old.seat.accesses + 1 < 2 ^ 64 }
     ensures { (p : Setting) → IsSettingOf map.now p → OnOk result (seat.new.seat
         ≡ next p (begin p seat.old.seat (write_of number Client elements words.now)) seen) }

@@ -1,12 +1,11 @@
 //! The write of a payload.
-ghost use Rattle.std.specs.Prelude.{◌≡◌, ◌+◌, ◌<◌, ◌^◌, IfErr, IfSome, None, OnErr, OnOk, length};
-ghost use Rattle.iox_word_map.specs.WordMaps.{total_words};
-ghost use Rattle.iox_word_places.specs.Plans.{port_of, sizes_of};
-ghost use Rattle.iox_wire_layouts.specs.PlansOf.{IsSettingOf};
-ghost use Rattle.iox_wire_locals.specs.Begins.{refusal_at};
-ghost use Rattle.iox_wire_locals.specs.Tables.{Setting, entry_at};
+ghost use Rattle.std.specs.Prelude.{◌≡◌, IfErr, IfSome, None, OnErr, OnOk};
+ghost use Rattle.iox_wire_stops.specs.Plans.{port_of};
+ghost use Rattle.iox_wire_stops.specs.PlansOf.{IsSettingOf};
+ghost use Rattle.iox_wire_stops.specs.Begins.{refusal_at};
+ghost use Rattle.iox_wire_stops.specs.Tables.{Setting, entry_at};
 ghost use Rattle.iox_wire_handle_calls.specs.HandleCalls.{IsBegun, refusal_in, write_of};
-ghost use Rattle.iox_wire_handle_calls.specs.PlacedHandles.{HasOwnSlot};
+ghost use Rattle.iox_wire_handle_calls.specs.PlacedHandles.{HasLoanSlot};
 
 use crate::asked::Asked;
 use crate::error::BeginError;
@@ -14,8 +13,7 @@ use crate::naming::named;
 use crate::places::payload_of;
 use crate::port_index::port_with_slot;
 use iox_model::kind::Role;
-use iox_wire_seats::StoredSeat;
-use iox_word_places::WordMap;
+use iox_wire_stops::{StoredSeat, WordMap};
 
 /// Begins to write the payload of the loan of that number, a request's if the role is a client's.
 /// The number is no port's.
@@ -28,8 +26,7 @@ pub fn begin_write(
     words: &[u64],
 ) -> Result<(), BeginError>
     requires no_port { port_of map.now number ≡ None }
-    requires slot { IfSome (entry_at number seat.old.seat.table) (HasOwnSlot map.now) }
-    requires memory { total_words (sizes_of map.now) + length words.now < 2 ^ 64 }
+    requires slot { IfSome (entry_at number seat.old.seat.table) (HasLoanSlot map.now) }
     ensures begun { (p : Setting) → IsSettingOf map.now p → OnOk result (IsBegun p seat.old
         (write_of number role elements words.now) seat.new) }
     ensures refused { (p : Setting) → IsSettingOf map.now p → IfErr result (λ error.
@@ -40,8 +37,13 @@ pub fn begin_write(
     ensures room { seat.new.room ≡ seat.old.room }
 {
     let loan = named(seat, map, Asked::Write(role), number)?;
+    // only what this promises is wanted
+    let _total = map.total();
     let port = port_with_slot(map.plan(), loan.port, loan.slot);
     let payload = payload_of(map, port, loan.slot as usize);
+    if words.len() > usize::MAX - payload {
+        return Err(BeginError::WantOfMemory);
+    }
     seat.write(loan, payload, elements, words)?;
     Ok(())
 }

@@ -3,66 +3,66 @@
 use Rattle.iox_wire_keeps.specs.Accesses.{AccessesLeaveMessages}
 use Rattle.iox_wire_keeps.proofs.Kept.{slot_itself, named_sent, loan_lane}
 use Rattle.iox_steps.specs.Events.{rest, IsTrueOf}
-use Rattle.iox_wire_locals.specs.Courses as courses
-use Rattle.iox_wire_locals.specs.declared.local.Ending.TheVariants as endings
-use Rattle.iox_wire_stands.specs.Following.{CallMessage, Follows, Sent, Taken, lets_go, message_at, picks_slot, puts_aside, sends_loan, keeps, takes, drops, Lent, OfEntry, TakesOn}
-use Rattle.iox_wire_locals.specs.declared.local.Local.TheVariants.{Ends, LendStores, Writes, ReceivePops}
-use Rattle.iox_wire_locals.specs.NewLoans.{entry_in, loan_words, message_in}
+use Rattle.iox_wire_calls.specs.Courses as courses
+use Rattle.iox_wire_calls.specs.Ending.TheVariants as endings
+use Rattle.iox_wire_calls.specs.Following.{CallMessage, Follows, Sent, Taken, lets_go, message_at, picks_slot, puts_aside, sends_loan, keeps, takes, drops, Lent, OfEntry, TakesOn}
+use Rattle.iox_wire_calls.specs.Local.TheVariants.{Ends, LendStores, Writes, ReceivePops}
+use Rattle.iox_wire_calls.specs.NewLoans.{entry_in, loan_words, message_in}
 use Rattle.std.specs.Prelude.{Bool, List, None, false, if◌then◌else◌, length, refl, true, ℕ, ◌+◌, ◌<◌, ◌==◌, ◌∷◌, ◌≡◌, ◌⊎◌, ◌*◌, ◌≤◌}
 use Rattle.std.proofs.Common.{ap, inl, inr, subst, sym, true≢false, ◌∙◌}
-use Rattle.iox_wire_keeps.specs.Stored.{CallIsStored, GoesThrough, HoldsStored, IsStored, IsWritten, LoanFits, SlotsHoldMessages, WhatWaitsIsStored}
-use Rattle.iox_wire_locals.specs.Steps.{accessed, advance}
-use Rattle.iox_wire_laws.specs.WireHolding.Holding.{held_after, held_from}
-use Rattle.iox_wire_locals.specs.Tables.{Setting, entry_at, port_shape}
-use Rattle.iox_wire_stands.proofs.Follows.{accesses_follow}
-use Rattle.iox_wire_words.specs.Fits.{WireContents, contents_after, MayRun}
-use Rattle.iox_wire_stands.proofs.SlotsFollow.{NotLent}
+use Rattle.iox_wire_keeps.specs.Stored.{CallIsStored, EntrySuits, GoesThrough, HoldsStored, IsAddressed, IsStored, IsWritten, LoanFits, SlotsHoldMessages, WhatWaitsIsStored}
+use Rattle.iox_wire_calls.specs.Steps.{accessed, advance}
+use Rattle.iox_wire_calls.specs.Holding.{held_after, held_from}
+use Rattle.iox_wire_calls.specs.Tables.{Setting, entry_at, port_shape}
+use Rattle.iox_wire_calls.proofs.Follows.{accesses_follow}
+use Rattle.iox_wire_calls.specs.Fits.{WireContents, contents_after, MayRun}
+use Rattle.iox_wire_calls.proofs.SlotsFollow.{NotLent}
 use Rattle.iox_model.specs.Settings.{is_client}
 use Rattle.iox_model.specs.Responses.{copies, sends}
-use Rattle.iox_wire_laws.proofs.WireRegions.MessageStores.{loans_are_stored}
+use Rattle.iox_wire_calls.proofs.MessageStores.{loans_are_stored}
 use Rattle.iox_word_map.specs.WordMaps.{MessageQueue}
 use Rattle.iox_laws.proofs.WeaveLaws.MapLemmas.{either, eqb-refl}
-use Rattle.iox_wire_words.specs.Programs.{program_access, site_of}
-use Rattle.iox_wire_laws.specs.WireRegions.StoredMessages.{HoldsMessage, StandFrom, StoresInto}
+use Rattle.iox_wire_calls.specs.Programs.{program_access, site_of}
+use Rattle.iox_wire_calls.specs.StoredMessages.{HoldsMessage, StandFrom, StoresInto}
 use Rattle.iox_laws.proofs.WeaveLedger.Truths.{or-left}
 use Rattle.iox_model.specs.Weaves.{World}
 use Rattle.iox_model.specs.Messages.{Message}
-use Rattle.iox_wire_moments.specs.MomentsOf.{Pools}
-use Rattle.iox_wire_laws.specs.WireHolding.SlotsKnown.{HasEntry, IsPortOfSeat}
-use Rattle.iox_wire_laws.specs.WireRegions.OwnedWords.{Owns}
+use Rattle.iox_wire_calls.specs.MomentsOf.{Pools}
+use Rattle.iox_wire_calls.specs.SlotsKnown.{HasEntry, IsPortOfSeat}
+use Rattle.iox_wire_calls.specs.OwnedWords.{Owns}
 use Rattle.iox_model.specs.Maps.{has_number, put_at}
 use Rattle.iox_steps.specs.Accesses.{seen_by}
 use Rattle.iox_wire_calls.specs.Places.{PlaceFits}
 use Rattle.iox_model.specs.declared.way.Way.{Way}
-use Rattle.iox_wire_locals.specs.StepLaws.{ReliesOn}
-use Rattle.iox_wire_stands.specs.Stands.{AreNumbered, OwnersAre}
-use Rattle.iox_wire_locals.specs.Locals.{program_of}
-use Rattle.iox_wire_laws.specs.WireHolding.FarSlots.{IsInPool}
+use Rattle.iox_wire_calls.specs.StepLaws.{ReliesOn}
+use Rattle.iox_wire_calls.specs.Stands.{AreNumbered, OwnersAre}
+use Rattle.iox_wire_calls.specs.Locals.{program_of}
+use Rattle.iox_wire_calls.specs.FarSlots.{IsInPool}
 use Rattle.iox_wire_keeps.specs.Alone.{IsAlone}
 use Rattle.iox_wire_keeps.proofs.Kept.{Stays, named_entry, stays}
-use Rattle.iox_wire_laws.specs.WireRegions.Regions.{HasRegion}
-use Rattle.iox_wire_words.specs.Laws.{IsMade, Finds}
-use Rattle.iox_wire_laws.specs.WireHolding.Named.{place_names}
-use Rattle.iox_wire_locals.specs.declared.seat.Seat.{Seat}
-use Rattle.iox_wire_laws.specs.WireRegions.OwnedBegins.{LayoutFits}
-use Rattle.iox_wire_laws.specs.WireKeeping.Shows.{ShowsWorld, programs_of}
-use Rattle.iox_wire_laws.proofs.WireKeeping.CountsKept.{steps_keep_own}
-use Rattle.iox_wire_locals.specs.declared.table.Entry.{Entry}
+use Rattle.iox_wire_calls.specs.Regions.{HasRegion}
+use Rattle.iox_wire_calls.specs.Laws.{IsMade, Finds}
+use Rattle.iox_wire_calls.specs.Named.{place_names}
+use Rattle.iox_wire_calls.specs.Seat.{Seat}
+use Rattle.iox_wire_calls.specs.OwnedBegins.{LayoutFits}
+use Rattle.iox_wire_calls.specs.Shows.{ShowsWorld, programs_of}
+use Rattle.iox_wire_calls.proofs.CountsKept.{steps_keep_own}
+use Rattle.iox_wire_calls.specs.Entry.{Entry}
 use Rattle.iox_model.specs.Joins.{not_living}
-use Rattle.iox_wire_stands.specs.Nodes.{NodeStands}
-use Rattle.iox_wire_laws.specs.WireHolding.HeldSteps.{FreeSlotsAreUnnamed}
+use Rattle.iox_wire_calls.specs.Nodes.{NodeStands}
+use Rattle.iox_wire_calls.specs.HeldSteps.{FreeSlotsAreUnnamed}
 use Rattle.iox_laws.proofs.WeaveLedger.Outs.{out}
 use Rattle.iox_wire_calls.specs.CallsStand.{CallStands}
-use Rattle.iox_wire_locals.specs.Known.{free_slots}
-use Rattle.iox_wire_locals.specs.declared.local.Local.{Local}
-use Rattle.iox_wire_locals.specs.declared.table.NewLoan.{NewLoan}
+use Rattle.iox_wire_calls.specs.Known.{free_slots}
+use Rattle.iox_wire_calls.specs.Local.{Local}
+use Rattle.iox_wire_calls.specs.NewLoan.{NewLoan}
 use Rattle.iox_wire_calls.specs.Lanes.{lent_in}
 use Rattle.iox_wire_calls.proofs.LanesTell.{low}
 use Rattle.iox_wire_calls.specs.LoanSlots.{HoldsLoan}
-use Rattle.iox_wire_laws.proofs.WireRegions.OwnedPlaces.{owners_may_access}
-use Rattle.iox_wire_words.proofs.Steps.{each_access_keeps_the_words}
+use Rattle.iox_wire_calls.proofs.OwnedPlaces.{owners_may_access}
+use Rattle.iox_wire_calls.proofs.Steps.{each_access_keeps_the_words}
 use Rattle.iox_steps.specs.Fits.{write_of}
-use Rattle.iox_wire_stands.proofs.OthersHold.{named_taken}
+use Rattle.iox_wire_calls.proofs.OthersHold.{named_taken}
 use Rattle.iox_model.specs.Counts.{lent}
 use Rattle.iox_wire_keeps.proofs.SlotsLeft as left
 use Rattle.iox_wire_keeps.proofs.Queued as queued
@@ -177,7 +177,7 @@ module _ (p : Setting) (held : Pools) (word word' : ℕ → ℕ) (c : WireConten
       (kept_there z.sender slot (named_taken (seats n).local z slot is) (not_storing (Taken z slot) tt (seats n).local is (λ e same. absurd (cc)) z.sender slot)) stored
   kept_call (Sent e true) is stored =
       let still = kept_there e.sender e.slot (named_sent (seats n).local e true is) (not_storing (Sent e true) tt (seats n).local is (λ k same. absurd (cc)) e.sender e.slot) in
-      (stays p held new c after e.sender e.slot still stored.0, ap (λ (m : Message). m.elements) still.message ∙ stored.1)
+      (stays p held new c after e.sender e.slot still stored.0, ap (λ (m : Message). m.elements) still.message ∙ stored.1, stored.2)
   kept_call m is stored = tt
 
   -- what a receive takes waited in its queue
@@ -241,16 +241,17 @@ module _ (p : Setting) (held : Pools) (word word' : ℕ → ℕ) (c : WireConten
       };
       words = subst (λ l. HoldsMessage p held (contents_after p.layout (program_of p l) seen c) o.port slot) (sym is)
           ((loans_are_stored p (seats n).node w.state.fixed w.state.request_state o c slot next seen owns_it size.1).1 held last message);
-      lane = λ client. subst (λ (m : Message). m.lane < p.layout.sizes.lanes o.port) (sym message) (lane_low client);
+      addressed = subst (IsAddressed p o.port) (sym message) ((size.0.3 slot).small, lane_low);
     }
 
     same_pools : new ≡ held
     same_pools = ap (λ l. held_from p held l y.local) is
 
-    sent_there : IsStored p new after o.port slot × ((new o.port slot).elements ≡ o.elements)
+    sent_there : IsStored p new after o.port slot × ((new o.port slot).elements ≡ o.elements) × EntrySuits p (entry_in o slot)
     sent_there = (
       subst (λ h. IsStored p h after o.port slot) (sym same_pools) lent_stored,
       ap (λ (h : Pools). (h o.port slot).elements) same_pools ∙ ap (λ (m : Message). m.elements) message,
+      size.0.3 slot,
     )
 
   -- it is the last word, if the call sends then
@@ -292,6 +293,7 @@ module _ (p : Setting) (held : Pools) (word word' : ℕ → ℕ) (c : WireConten
   own_holds = record {
     entries = own_entries;
     lengths = own_lengths;
+    suits = λ e there low. (has.nodes n living).suits e (has_before e there) low;
     call = call_goes (accesses_follow p (accessed (seats n)) seen);
     place = places.own_place p held word c seats w n shows nodes calls living relies has;
   }

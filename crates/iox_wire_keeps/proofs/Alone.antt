@@ -1,58 +1,58 @@
 -- A slot into which a node stores is its call's alone: its message is out on no way.
-use Rattle.iox_wire_locals.specs.declared.local.Ending.TheVariants as endings
+use Rattle.iox_wire_calls.specs.Ending.TheVariants as endings
 use Rattle.iox_laws.proofs.WeaveLedger.Truths.{false_if}
-use Rattle.iox_wire_stands.specs.Following.{LeavesNothing, Leaving, message_at}
+use Rattle.iox_wire_calls.specs.Following.{LeavesNothing, Leaving, message_at}
 use Rattle.iox_wire_keeps.specs.Stored.{IsWritten, StoresAt}
-use Rattle.iox_wire_locals.specs.declared.seat.Seat.{Seat}
+use Rattle.iox_wire_calls.specs.Seat.{Seat}
 use Rattle.iox_model.specs.Doings.{Doing, Ended, Fills, Loans}
 use Rattle.std.specs.Prelude.{Bool, List, None, Option, Some, [], false, if◌then◌else◌, not, refl, true, ℕ, ◌&&◌, ◌<◌, ◌==◌, ◌∷◌, ◌≡◌, ◌⊎◌}
 use Rattle.std.proofs.Common.{ap, arith, eq-eqb, eqb-true, inl, inr, subst, sym, true≢false, ◌∙◌}
 use Rattle.iox_laws.proofs.WeaveBeats.LiveWays.{Here, from_is_live, here}
 use Rattle.iox_laws.proofs.WeaveLedger.Lists.{IsAmong, among-front, among-map, among-number, find-among, number-among}
-use Rattle.iox_wire_locals.specs.Tables.{Setting, entry_at, handle_of}
-use Rattle.iox_wire_locals.specs.declared.table.Entry.{Entry}
-use Rattle.iox_wire_laws.proofs.WireHolding.OutNowhere.{handles_are, none_named, not_received, on_no_way, place_not}
-use Rattle.iox_wire_locals.specs.NewLoans.{loan_in}
+use Rattle.iox_wire_calls.specs.Tables.{Setting, entry_at, handle_of}
+use Rattle.iox_wire_calls.specs.Entry.{Entry}
+use Rattle.iox_wire_calls.proofs.OutNowhere.{handles_are, none_named, not_received, on_no_way, place_not}
+use Rattle.iox_wire_calls.specs.NewLoans.{loan_in}
 use Rattle.iox_laws.proofs.WeaveLedger.LedgerHolds.{record_is_what_is_out}
 use Rattle.iox_model.specs.Handles.{is_own, is_received}
-use Rattle.iox_wire_laws.specs.WireHolding.Named.{place_names}
-use Rattle.iox_wire_laws.specs.WireHolding.SlotsKnown.{HasEntry, IsPortOfSeat, NamesStand, PlaceStands}
+use Rattle.iox_wire_calls.specs.Named.{place_names}
+use Rattle.iox_wire_calls.specs.SlotsKnown.{HasEntry, IsPortOfSeat, NamesStand, PlaceStands}
 use Rattle.iox_wire_calls.specs.Places.{CallFits, IsLoan, IsNext, PlaceFits}
-use Rattle.iox_wire_steps.proofs.OwnMessages.{own_messages_are_apart, own_messages_are_lent}
-use Rattle.iox_wire_laws.specs.WireKeeping.UsedSlots.{CallHolds, slots_in_call, slots_used}
+use Rattle.iox_wire_calls.proofs.OwnMessages.{own_messages_are_apart, own_messages_are_lent}
+use Rattle.iox_wire_calls.specs.UsedSlots.{CallHolds, slots_in_call, slots_used}
 use Rattle.std.specs.List.{list_any}
-use Rattle.iox_wire_laws.specs.WireKeeping.Writes.{is_slot_of}
-use Rattle.iox_wire_stands.specs.Nodes.{NodeStands}
-use Rattle.iox_wire_words.specs.Fits.{WireContents}
-use Rattle.iox_wire_locals.specs.declared.table.NewLoan.{NewLoan}
-use Rattle.iox_wire_locals.specs.declared.local.Ending.{Ending}
-use Rattle.iox_wire_moments.specs.MomentsOf.{Pools}
+use Rattle.iox_wire_calls.specs.Writes.{is_slot_of}
+use Rattle.iox_wire_calls.specs.Nodes.{NodeStands}
+use Rattle.iox_wire_calls.specs.Fits.{WireContents}
+use Rattle.iox_wire_calls.specs.NewLoan.{NewLoan}
+use Rattle.iox_wire_calls.specs.Ending.{Ending}
+use Rattle.iox_wire_calls.specs.MomentsOf.{Pools}
 use Rattle.iox_model.specs.Peers.{node_of_port, ways_from}
-use Rattle.iox_wire_locals.specs.declared.local.Local.TheVariants.{Ends, LendStores, Writes}
+use Rattle.iox_wire_calls.specs.Local.TheVariants.{Ends, LendStores, Writes}
 use Rattle.iox_model.specs.Weaves.{World}
-use Rattle.iox_wire_locals.specs.declared.local.Local.{Local}
+use Rattle.iox_wire_calls.specs.Local.{Local}
 use Rattle.iox_model.specs.Joins.{not_living}
 use Rattle.iox_laws.specs.WeaveLedger.LedgerLaws.{out_on}
-use Rattle.iox_wire_locals.specs.Doings.{doing_of}
-use Rattle.iox_wire_steps.proofs.Homes.{handle_there}
+use Rattle.iox_wire_calls.specs.Doings.{doing_of}
+use Rattle.iox_wire_calls.proofs.Homes.{handle_there}
 use Rattle.iox_wire_keeps.specs.Alone.{IsAlone, StoredSlotsAreAlone}
-use Rattle.iox_wire_laws.proofs.WireRegions.Unsent.{copies_are_fresh}
+use Rattle.iox_wire_calls.proofs.Unsent.{copies_are_fresh}
 use Rattle.iox_model.specs.declared.way.Way.{Way}
 use Rattle.iox_model.specs.Responses.{sends}
 use Rattle.iox_laws.proofs.WeaveBeats.Fresh.{unsent_is_nowhere}
-use Rattle.iox_wire_laws.specs.WireKeeping.Shows.{ShowsWorld}
+use Rattle.iox_wire_calls.specs.Shows.{ShowsWorld}
 use Rattle.iox_laws.proofs.WeaveLedger.Outs.{out}
-use Rattle.iox_wire_laws.specs.WireRegions.OwnedBegins.{LayoutFits}
-use Rattle.iox_wire_stands.specs.Stands.{AreNumbered, OwnersAre}
+use Rattle.iox_wire_calls.specs.OwnedBegins.{LayoutFits}
+use Rattle.iox_wire_calls.specs.Stands.{AreNumbered, OwnersAre}
 use Rattle.iox_model.specs.Begins.{written}
 use Rattle.iox_model.specs.declared.kind.Kind.{Kind}
 use Rattle.iox_model.specs.declared.kind.Kind.TheVariants as kinds
 use Rattle.iox_model.specs.Maps.{has_number, has_way}
 use Rattle.iox_laws.proofs.WeaveLaws.MapLemmas.{eqb-refl}
 use Rattle.iox_laws.specs.WeaveBeats.LiveWays.{GoesFrom}
-use Rattle.iox_wire_laws.specs.WireHolding.FarSlots.{IsInPool}
+use Rattle.iox_wire_calls.specs.FarSlots.{IsInPool}
 use Rattle.std.specs.Ordering.{on}
-use Rattle.iox_wire_laws.proofs.WireRegions.OwnPorts.{both}
+use Rattle.iox_wire_calls.proofs.OwnPorts.{both}
 
 -- it holds of each node that holds of this one and of all others
 none_if : (b : Bool) → not b ≡ true → b ≡ false

@@ -1,61 +1,67 @@
 -- The begin of a call leads from what stands to what stands.
+use Rattle.iox_wire_calls.proofs.LaneSlots.{free_slots_have_lanes}
+use Rattle.iox_wire_calls.specs.LaneLaws.{HasLanesForSlots}
+use Rattle.iox_wire_calls.specs.Lanes.{AllLanesAreCounted}
+use Rattle.iox_wire_calls.specs.Knowing.{Knows}
+use Rattle.iox_wire_keeps.proofs.FirstOwners.{lends_or_sends, owned_entry, owned_port}
+use Rattle.iox_wire_keeps.proofs.FirstPlaces.{AnswersOnLanes, at_entry, at_port}
 use Rattle.iox_model.specs.declared.call.Call.TheVariants.{Read, Write}
 use Rattle.iox_model.specs.declared.call.WireCall.TheVariants as wire_calls
-use Rattle.iox_wire_locals.specs.Begins as begins
-use Rattle.iox_wire_locals.specs.Courses as courses
-use Rattle.iox_wire_locals.specs.declared.local.Ending.TheVariants as endings
+use Rattle.iox_wire_calls.specs.Begins as begins
+use Rattle.iox_wire_calls.specs.Courses as courses
+use Rattle.iox_wire_calls.specs.Ending.TheVariants as endings
 use Rattle.std.proofs.lemmas.Nat.{mul-le}
 use Rattle.iox_wire_calls.proofs.PlaceBegins.{by_call}
-use Rattle.iox_wire_laws.specs.WireHolding.Aside.{shown}
+use Rattle.iox_wire_calls.specs.Aside.{shown}
 use Rattle.std.specs.Prelude.{Bool, List, None, Some, [], false, if◌then◌else◌, length, refl, true, ℕ, ◌*◌, ◌++◌, ◌+◌, ◌-◌, ◌<◌, ◌==◌, ◌^◌, ◌∷◌, ◌≡◌, ◌≤◌, ◌⊎◌, Option, ◌||◌}
-use Rattle.iox_wire_stands.specs.Stands.{Player, Stands, seats_of, word_of}
+use Rattle.iox_wire_calls.specs.Stands.{Player, Stands, seats_of, word_of}
 use Rattle.std.proofs.Common.{ap, arith, eqb-true, inl, inr, subst, sym, ◌∙◌, suc}
-use Rattle.iox_wire_calls.specs.Places.{CallFits, IsLoan}
-use Rattle.iox_wire_stands.specs.Runs.{Asked, GoesOnBy, Run}
+use Rattle.iox_wire_calls.specs.Places.{CallFits, IsLoan, OwnersAreSet}
+use Rattle.iox_wire_calls.specs.Runs.{Asked, GoesOnBy, Run}
 use Rattle.iox_wire_calls.proofs.CallsBegin.{owners_are_set, rested, named, rests, alive}
 use Rattle.iox_wire_calls.proofs.PlaceBegins.{begins_fit}
-use Rattle.iox_wire_stands.specs.Following.{LeavesNothing, Leaving, message_at}
+use Rattle.iox_wire_calls.specs.Following.{LeavesNothing, Leaving, message_at}
 use Rattle.iox_laws.proofs.WeaveLedger.Lists.{find-among}
-use Rattle.iox_wire_locals.specs.Known.{loans_at, known}
-use Rattle.iox_wire_locals.specs.Tables.{Setting, entry_at, port_shape, words_before_payload}
-use Rattle.iox_wire_locals.specs.declared.seat.Seat.{Seat}
-use Rattle.iox_wire_laws.specs.WireHolding.SlotsKnown.{HasEntry}
-use Rattle.iox_wire_calls.proofs.CallsStand.{begun_calls_stand}
-use Rattle.iox_wire_keeps.specs.MessageBegins.{BegunWiresStand, FirstFits, FirstIsTold, lends_or_sends}
-use Rattle.iox_wire_locals.specs.Begins.{begin, misnamed_call}
-use Rattle.iox_wire_laws.specs.WireKeeping.Readiness.{choice_for}
+use Rattle.iox_wire_calls.specs.Known.{loans_at, known}
+use Rattle.iox_wire_calls.specs.Tables.{Setting, entry_at, port_shape, words_before_payload}
+use Rattle.iox_wire_calls.specs.Seat.{Seat}
+use Rattle.iox_wire_calls.specs.SlotsKnown.{HasEntry}
+use Rattle.iox_wire_calls.proofs.CallsBegun.{begun_calls_stand}
+use Rattle.iox_wire_keeps.specs.MessageBegins.{BegunWiresStand, FirstFits, WordsAreWhole}
+use Rattle.iox_wire_calls.specs.Begins.{begin, misnamed_call}
+use Rattle.iox_wire_calls.specs.Readiness.{choice_for}
 use Rattle.iox_model.specs.Joins.{not_living}
 use Rattle.iox_wire_calls.specs.CallsStand.{BeginIsTold, CallsStand, moves_words}
-use Rattle.iox_wire_locals.specs.declared.table.Entry.{Entry}
+use Rattle.iox_wire_calls.specs.Entry.{Entry}
 use Rattle.iox_model.specs.Weaves.{Begins, World, begin_refusal}
-use Rattle.iox_wire_keeps.specs.Stored.{HoldsStored, IsWritten, SlotsHoldMessages, IsStored}
+use Rattle.iox_wire_keeps.specs.Stored.{EntrySuits, HoldsStored, IsStored, IsWritten, SlotsHoldMessages}
 use Rattle.iox_wire_keeps.specs.WireStands.{WireStands}
-use Rattle.iox_wire_laws.specs.WireHolding.Holding.{held_at}
-use Rattle.iox_wire_stands.specs.Nodes.{NodeStands}
-use Rattle.iox_wire_stands.proofs.StepsKept.{shown_same}
-use Rattle.iox_model.specs.Maps.{put_at}
+use Rattle.iox_wire_calls.specs.Holding.{held_at}
+use Rattle.iox_wire_calls.specs.Nodes.{NodeStands}
+use Rattle.iox_wire_calls.proofs.StepsKept.{shown_same}
+use Rattle.iox_model.specs.Maps.{has_number, put_at}
 use Rattle.iox_laws.proofs.WeaveLedger.Views.{less}
 use Rattle.iox_model.specs.Commands.{WireCall, Payload}
 use Rattle.iox_wire_keeps.specs.Bounds.{AccessesBound}
 use Rattle.iox_wire_keeps.proofs.Bounds.{begins_leave_bounds}
 use Rattle.iox_wire_keeps.proofs.MessageBegins.{begins_leave_messages}
-use Rattle.iox_wire_laws.specs.WireHolding.FarSlots.{IsInPool}
+use Rattle.iox_wire_calls.specs.FarSlots.{IsInPool}
 use Rattle.iox_model.specs.States.{State}
-use Rattle.iox_wire_locals.specs.declared.local.Local.TheVariants.{Idle}
-use Rattle.iox_wire_stands.proofs.BeginsKept.{begins_leave_nothing}
+use Rattle.iox_wire_calls.specs.Local.TheVariants.{Idle}
+use Rattle.iox_wire_calls.proofs.BeginsKept.{begins_leave_nothing}
 use Rattle.iox_steps.specs.Sites.{last_position}
 use Rattle.iox_model.specs.Handles.{is_request_loan, is_response_loan}
-use Rattle.iox_wire_laws.specs.WireRegions.OwnedWords.{HasSlot, Owns}
+use Rattle.iox_wire_calls.specs.OwnedWords.{HasSlot, Owns}
 use Rattle.iox_model.specs.declared.kind.Role.TheVariants.{Client, Server}
 use Rattle.iox_model.specs.Settings.{is_client}
 use Rattle.iox_model.specs.declared.kind.Role.{Role}
-use Rattle.iox_wire_locals.specs.Begins.{begins_at}
+use Rattle.iox_wire_calls.specs.Begins.{begins_at}
 use Rattle.iox_model.specs.declared.kind.Kind.{Kind}
-use Rattle.iox_wire_locals.specs.declared.local.CallRefusal.TheVariants.{WrongLength}
+use Rattle.iox_wire_calls.specs.CallRefusal.TheVariants.{WrongLength}
 use Rattle.iox_wire_keeps.proofs.OwnWrites.{loan_kept}
 use Rattle.iox_model.specs.Peers.{port_at}
 use Rattle.iox_laws.proofs.WeaveLaws.MapLemmas.{either}
-use Rattle.iox_wire_laws.proofs.WireRegions.OwnedBegins.{writes_and_reads_begin_as_owners}
+use Rattle.iox_wire_calls.proofs.OwnedBegins.{writes_and_reads_begin_as_owners}
 
 -- two lists without a word
 no_words_left : (xs ys : List ℕ) (a b : ℕ) → length xs ≡ a → length ys ≡ b → (a + b == 0) ≡ true → xs ++ ys ≡ []
@@ -70,7 +76,7 @@ no_words_left (x ∷ xs) ys a b first second is = absurd (some a b (length xs) f
     some a b m more none = omega (arith, more, none)
 
 module _ (p : Setting) (words : List ℕ) (players : ℕ → Player) (r : Run) (n : ℕ) (call : WireCall) (wire : WireStands p words players r)
-    (few : (players n).seat.accesses < last_position) (told : FirstIsTold p r.last.state (players n).seat call) (free : begin_refusal r.last n call ≡ None) where
+    (few : (players n).seat.accesses < last_position) (whole : WordsAreWhole p.limits call) (free : begin_refusal r.last n call ≡ None) where
   abbrev z : Seat
   z = (players n).seat
 
@@ -178,21 +184,75 @@ module _ (p : Setting) (words : List ℕ) (players : ℕ → Player) (r : Run) (
   abbrev FirstOwned : WireCall → Type 0
   FirstOwned c = Owns p (players n).seat.node r.last.state.fixed r.last.state.request_state (begin p (players n).seat c).local
 
-  owns_first : (c : WireCall) → call ≡ c → (lends_or_sends c ≡ true → FirstOwned c) → moves_words c ≡ true → FirstOwned c
-  owns_first (wire_calls.Port (Write k y)) is other moves = write_owned k y is (subst (λ i. FirstFits p (begin p (players n).seat i).local) is told.fits)
-  owns_first (wire_calls.Port (Read k)) is other moves = read_owned k is (subst (λ i. FirstFits p (begin p (players n).seat i).local) is told.fits)
-  owns_first c is other moves = other moves
+  -- ---- loans, sends and hints do, too
+
+  knows : Knows p (players n).seat r.last.state.fixed wire.stands.held
+  knows = subst (λ q. Knows p q r.last.state.fixed wire.stands.held) same (wire.stands.shows.counts n living).knows
+
+  suited : (e : Entry) → HasEntry (players n).seat e → EntrySuits p e
+  suited e there = stored.suits e there (entry_low e there)
+
+  -- a request that was received is on a lane of its client
+  answers : AnswersOnLanes p (players n).seat
+  answers e there received =
+      let at = (node.released e there).request received in (
+        subst (λ ks. has_number e.client ks ≡ true) (sym wire.stands.layout.clients) at.3,
+        subst (λ lanes. e.lane < lanes) (sym (wire.stands.layout.lanes e.client at.3)) at.1,
+      )
+
+  set : OwnersAreSet p
+  set = owners_are_set p words players r n call wire.stands wire.calls free
+
+  handled : CallFits p (players n).seat
+  handled = subst (CallFits p) same (wire.calls n living).fits
+
+  lanes : AllLanesAreCounted p (players n).seat
+  lanes = subst (AllLanesAreCounted p) same (wire.calls n living).lanes
+
+  lanes_for : HasLanesForSlots p (players n).seat
+  lanes_for =
+      subst (HasLanesForSlots p) same
+      (free_slots_have_lanes p wire.stands.held (word_of words) wire.stands.contents (seats_of p players) r.last n wire.stands.shows living (wire.stands.nodes n living)
+      (wire.calls n living).lanes)
+
+  sent_owned : (c : WireCall) → call ≡ c → lends_or_sends c ≡ true → FirstOwned c
+  sent_owned (wire_calls.Port c) is moves =
+      by_call p (players n).seat wire.stands.numbers set c handled
+      (λ q. Owns p (players n).seat.node r.last.state.fixed r.last.state.request_state q.local) tt
+      (owned_port p words players r n wire.stands living (players n).seat knows node set lanes_for lanes idle wire.sizes suited answers c moves
+      (subst (WordsAreWhole p.limits) is whole))
+      (owned_entry p words players r n wire.stands living (players n).seat knows node set lanes_for lanes idle wire.sizes suited answers c moves
+      (subst (WordsAreWhole p.limits) is whole))
+      (subst (λ c. misnamed_call p (players n).seat c ≡ None) is (named p words players r n call wire.stands wire.calls free))
+  sent_owned (wire_calls.Forget dead) is moves = tt
+
+  -- what is lent or written is as long as it says
+  long_first : (c : WireCall) → call ≡ c → FirstFits p (begin p (players n).seat c).local
+  long_first (wire_calls.Port c) is =
+      by_call p (players n).seat wire.stands.numbers set c handled (λ q. FirstFits p q.local) tt
+      (at_port p (players n).seat wire.sizes suited answers c (subst (WordsAreWhole p.limits) is whole))
+      (at_entry p (players n).seat wire.sizes suited answers c (subst (WordsAreWhole p.limits) is whole))
+      (subst (λ c. misnamed_call p (players n).seat c ≡ None) is (named p words players r n call wire.stands wire.calls free))
+  long_first (wire_calls.Forget dead) is = tt
+
+  long : FirstFits p (begin p (players n).seat call).local
+  long = long_first call refl
+
+  owns_first : (c : WireCall) → call ≡ c → moves_words c ≡ true → FirstOwned c
+  owns_first (wire_calls.Port (Write k y)) is moves = write_owned k y is (subst (λ i. FirstFits p (begin p (players n).seat i).local) is long)
+  owns_first (wire_calls.Port (Read k)) is moves = read_owned k is (subst (λ i. FirstFits p (begin p (players n).seat i).local) is long)
+  owns_first c is moves = sent_owned c is moves
 
   begin_told : BeginIsTold p wire.stands.held r.last.state (players n).seat call
   begin_told = record {
     elements = λ k e at. stored.lengths e (its_entry k e at) (entry_low e (its_entry k e at));
     words = λ k e at none.
         let there = its_entry k e at in
-        let whole = (stored.entries e there (entry_low e there) (λ its. subst (λ l. IsWritten l e) idle its)).fits in
+        let fit = (stored.entries e there (entry_low e there) (λ its. subst (λ l. IsWritten l e) idle its)).fits in
         no_words_left (wire.stands.held e.sender e.slot).user (wire.stands.held e.sender e.slot).payload (length (port_shape p e.sender).user)
-        (e.elements * (port_shape p e.sender).width) whole.user
-        (whole.payload ∙ ap (λ i. i * (port_shape p e.sender).width) (stored.lengths e there (entry_low e there))) none;
-    owns = owns_first call refl told.owns;
+        (e.elements * (port_shape p e.sender).width) fit.user
+        (fit.payload ∙ ap (λ i. i * (port_shape p e.sender).width) (stored.lengths e there (entry_low e there))) none;
+    owns = owns_first call refl;
   }
 
   pub begun_run : (next : Run) × GoesOnBy r (Begins n call (choice_for p (players n).seat call)) next
@@ -216,7 +276,7 @@ module _ (p : Setting) (words : List ℕ) (players : ℕ → Player) (r : Run) (
       subst Held same
       (begins_leave_messages p wire.stands.held (word_of words) wire.stands.contents (seats_of p players) r.last n call wire.stands.shows wire.stands.layout wire.stands.nodes
       (λ k lives. (wire.calls k lives).fits) living (ap (λ (q : Seat). q.local) same ∙ idle) (subst (λ q. CallFits p (begin p q call)) (sym same) first_fits)
-      (subst (λ q. FirstFits p (begin p q call).local) (sym same) told.fits) wire.messages)
+      (subst (λ q. FirstFits p (begin p q call).local) (sym same) long) wire.messages)
 
   same_shown : shown p (begin p (players n).seat call) ≡ begin p (players n).seat call
   same_shown = shown_same p (begin p (players n).seat call) (begin p (players n).seat call).local (begins_leave_nothing p (players n).seat call)
@@ -251,11 +311,12 @@ module _ (p : Setting) (words : List ℕ) (players : ℕ → Player) (r : Run) (
     bounds = subst (λ (ss : ℕ → Seat). AccessesBound p begun_run.2.contents ss) (sym same_raw)
         (subst (λ d. AccessesBound p d (put_at (λ i. (players i).seat) n (begin p (players n).seat call))) (sym begun_run.4)
         (begins_leave_bounds p wire.stands.contents (λ i. (players i).seat) n call wire.bounds));
+    sizes = wire.sizes;
   }
 
 pub begun_wires_stand : BegunWiresStand
-begun_wires_stand p words players r n call wire few told free = (
-  (begun_run p words players r n call wire few told free).0,
-  (begun_run p words players r n call wire few told free).1,
-  begun_wire p words players r n call wire few told free,
+begun_wires_stand p words players r n call wire few whole free = (
+  (begun_run p words players r n call wire few whole free).0,
+  (begun_run p words players r n call wire few whole free).1,
+  begun_wire p words players r n call wire few whole free,
 )

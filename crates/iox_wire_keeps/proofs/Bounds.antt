@@ -1,55 +1,59 @@
 -- Queues are written, and loans made, at most as often as their node made accesses.
+use Rattle.iox_wire_calls.proofs.CountsKept.{begins_keep_own}
+use Rattle.iox_wire_calls.specs.Borrowed.{Borrowed}
+use Rattle.iox_model.specs.declared.way.Way.{Way}
+use Rattle.iox_wire_keeps.proofs.HandleBounds.{none_borrowed, one_borrowed, one_handle}
 use Rattle.iox_steps.specs.Sites.{is_empty, last_position}
 use Rattle.iox_wire_keeps.proofs.AccessesMade.{begun, stepped}
 use Rattle.iox_steps.specs.declared.pop.Pop.TheVariants as pop
 use Rattle.iox_steps.specs.declared.side.Pushing.TheVariants as pushing
 use Rattle.iox_steps.specs.declared.side.Popping.TheVariants as popping
-use Rattle.iox_wire_locals.specs.Steps as steps
+use Rattle.iox_wire_calls.specs.Steps as steps
 use Rattle.iox_steps.specs.declared.pop.EmptyLook.TheVariants as empty_look
-use Rattle.iox_wire_locals.specs.declared.local.Ending.TheVariants as endings
-use Rattle.iox_wire_locals.specs.Settlements as settle
+use Rattle.iox_wire_calls.specs.Ending.TheVariants as endings
+use Rattle.iox_wire_calls.specs.Settlements as settle
 use Rattle.iox_wire_calls.proofs.PlaceCourses.{desks_stay, loans_told}
 use Rattle.iox_steps.specs.EventLists.{state_after, write_after}
 use Rattle.iox_wire_keeps.specs.Bounds.{BeginsLeaveBounds, BoundsTell, OpenedWiresAreBound, StepsLeaveBounds}
 use Rattle.iox_word_map.specs.WordMaps.{IsQueue, WireQueue, total_words}
 use Rattle.std.specs.Prelude.{Bool, List, None, Option, Some, [], false, find, flat_map, if◌then◌else◌, map, refl, true, ℕ, ◌+◌, ◌-◌, ◌<◌, ◌==◌, ◌^◌, ◌∷◌, ◌≡◌, ◌≤◌, ◌⊎◌}
-use Rattle.iox_wire_locals.specs.declared.seat.Seat.{Seat}
+use Rattle.iox_wire_calls.specs.Seat.{Seat}
 use Rattle.std.proofs.Common.{ap, arith, eq-eqb, eqb-true, inl, inr, subst, sym, true≢false, ◌∙◌}
-use Rattle.iox_wire_locals.specs.Desks.{all_less, at_count, at_desk, counts_loan, forgets_ports, gives_up, on_desk, picks, slots_to, uses_less}
-use Rattle.iox_wire_words.specs.Programs.{Pops, Program, Pushes, pusher_of, same_queue, site_of}
+use Rattle.iox_wire_calls.specs.Desks.{all_less, at_count, at_desk, counts_loan, forgets_ports, gives_up, on_desk, picks, slots_to, uses_less}
+use Rattle.iox_wire_calls.specs.Programs.{Pops, Program, Pushes, pusher_of, same_queue, site_of}
 use Rattle.iox_steps.specs.Sides.{popping_event, pushing_event}
 use Rattle.iox_wire_calls.proofs.LoanSlots.{loans_same}
-use Rattle.iox_wire_words.specs.Fits.{MayRun, WireContents, contents_after}
-use Rattle.iox_wire_stands.proofs.OpenedDesks.{desk_there}
-use Rattle.iox_wire_laws.specs.WireOwners.Pushes.{PushesInto}
+use Rattle.iox_wire_calls.specs.Fits.{MayRun, WireContents, contents_after}
+use Rattle.iox_wire_calls.proofs.OpenedDesks.{desk_there}
+use Rattle.iox_wire_calls.specs.Pushes.{PushesInto}
 use Rattle.std.specs.Option.{option_map_or}
-use Rattle.iox_wire_locals.specs.declared.local.Local.TheVariants.{ReceiveReturns, ReleaseReturns, SendPushes}
-use Rattle.iox_wire_locals.specs.Known.{known, loans_at}
-use Rattle.iox_wire_stands.specs.Openings.{opened_desk, opened_seat, ports_on}
-use Rattle.iox_wire_stands.proofs.Follows.{accesses_follow}
-use Rattle.iox_wire_words.proofs.PieceLemmas.{same_queue-true}
-use Rattle.iox_wire_locals.specs.Begins.{begin}
+use Rattle.iox_wire_calls.specs.Local.TheVariants.{ReceiveReturns, ReleaseReturns, SendPushes}
+use Rattle.iox_wire_calls.specs.Known.{count_on, known, loans_at}
+use Rattle.iox_wire_calls.specs.Openings.{opened_desk, opened_seat, ports_on}
+use Rattle.iox_wire_calls.proofs.Follows.{accesses_follow}
+use Rattle.iox_wire_calls.proofs.PieceLemmas.{same_queue-true}
+use Rattle.iox_wire_calls.specs.Begins.{begin}
 use Rattle.iox_steps.specs.Pops.{is_taken, waiting_event}
 use Rattle.iox_model.specs.Handles.{is_received, is_request_loan}
 use Rattle.iox_steps.specs.declared.side.Popping.{Popping}
 use Rattle.iox_model.specs.Peers.{ports_of_node}
 use Rattle.iox_steps.specs.Fits.{write_of}
-use Rattle.iox_wire_locals.specs.declared.table.Desk.{Desk}
-use Rattle.iox_wire_stands.proofs.Starts.{Starts, Takes, starts}
+use Rattle.iox_wire_calls.specs.Desk.{Desk}
+use Rattle.iox_wire_calls.proofs.Starts.{Starts, Takes, starts}
 use Rattle.iox_steps.specs.declared.side.QueueEvent.TheVariants.{HandOut, Publish, Quiet, SeesEmpty, SeesWaiting}
 use Rattle.iox_steps.specs.declared.site.Site.{Site}
-use Rattle.iox_wire_locals.specs.declared.local.Ending.{Ending}
+use Rattle.iox_wire_calls.specs.Ending.{Ending}
 use Rattle.iox_model.specs.declared.way.RequestState.TheVariants.{Closed}
 use Rattle.iox_steps.specs.declared.side.Pushing.{Pushing}
-use Rattle.iox_model.specs.Maps.{has_number}
-use Rattle.iox_wire_stands.proofs.Ranges.{zero_word}
-use Rattle.iox_wire_locals.specs.Locals.{program_of}
+use Rattle.iox_model.specs.Maps.{has_number, same_way}
+use Rattle.iox_wire_calls.proofs.Ranges.{zero_word}
+use Rattle.iox_wire_calls.specs.Locals.{program_of}
 use Rattle.iox_model.specs.Commands.{WireCall}
-use Rattle.iox_wire_locals.specs.declared.table.Entry.{Entry}
+use Rattle.iox_wire_calls.specs.Entry.{Entry}
 use Rattle.iox_laws.proofs.WeaveLaws.MapLemmas.{either}
-use Rattle.iox_wire_locals.specs.Tables.{Setting, way_in}
+use Rattle.iox_wire_calls.specs.Tables.{Setting, way_in}
 use Rattle.iox_steps.specs.declared.side.QueueEvent.{QueueEvent}
-use Rattle.iox_wire_locals.specs.declared.local.Local.{Local}
+use Rattle.iox_wire_calls.specs.Local.{Local}
 
 -- the count of loans at these desks
 abbrev at_port : ℕ → List Desk → ℕ
@@ -238,6 +242,8 @@ pub opened_wires_are_bound : OpenedWiresAreBound
 opened_wires_are_bound p c programs fits = record {
   writes = λ q there. subst (λ k. k ≤ 0) (sym (zero_word (total_words p.layout.sizes) _) ∙ (fits.queues q there).0) (omega arith);
   loans = λ n port. none n port;
+  handles = λ n. omega arith;
+  borrowed = none_borrowed p;
 }
   where
     none : (n port : ℕ) → loans_at (opened_seat p n) port ≤ 0
@@ -253,6 +259,8 @@ begins_leave_bounds p c seats n call bound = record {
   writes = λ q there.
       subst (λ k. (c.queues q).write ≤ k) (sym (same_count (pusher_of p.layout q) (pusher_of p.layout q == n) refl)) (bound.writes q there);
   loans = λ k port. by_node k port (k == n) refl;
+  handles = λ k. its_handles k (k == n) refl;
+  borrowed = λ k y. its_count k y (k == n) refl;
 }
   where
     same_count : (k : ℕ) (b : Bool) → (k == n) ≡ b → (if b then begin p (seats n) call else seats k).accesses ≡ (seats k).accesses
@@ -265,10 +273,24 @@ begins_leave_bounds p c seats n call bound = record {
         (subst (λ a. loans_at (seats n) port ≤ a) (sym (begun p (seats n) call)) (bound.loans n port))
     by_node k port false is = bound.loans k port
 
+    its_handles : (k : ℕ) (b : Bool) → (k == n) ≡ b → (if b then begin p (seats n) call else seats k).handles_made ≤ (if b then begin p (seats n) call else seats k).accesses
+    its_handles k true is =
+        subst (λ a. a ≤ (begin p (seats n) call).accesses) (sym (begins_keep_own p (seats n) call).handles_made)
+        (subst (λ a. (seats n).handles_made ≤ a) (sym (begun p (seats n) call)) (bound.handles n))
+    its_handles k false is = bound.handles k
+
+    its_count : (k : ℕ) (y : Way) (b : Bool) → (k == n) ≡ b → count_on (if b then begin p (seats n) call else seats k) y ≤ (if b then begin p (seats n) call else seats k).accesses
+    its_count k y true is =
+        subst (λ bs. option_map_or (λ (b : Borrowed). b.count) (find (λ (b : Borrowed). same_way b.way y) bs) 0 ≤ (begin p (seats n) call).accesses)
+        (sym (begins_keep_own p (seats n) call).borrowed) (subst (λ a. count_on (seats n) y ≤ a) (sym (begun p (seats n) call)) (bound.borrowed n y))
+    its_count k y false is = bound.borrowed k y
+
 pub steps_leave_bounds : StepsLeaveBounds
 steps_leave_bounds p c seats n seen may bound = record {
   writes = λ q there. by_pusher q there (pusher_of p.layout q == n) refl;
   loans = λ k port. by_node k port (k == n);
+  handles = λ k. its_handles k (k == n);
+  borrowed = λ k y. its_count k y (k == n);
 }
   where
     plus : (a b d : ℕ) → a ≤ b + 1 → b ≤ d → a ≤ d + 1
@@ -288,6 +310,18 @@ steps_leave_bounds p c seats n seen may bound = record {
         subst (λ a. loans_at (steps.next p (seats n) seen) port ≤ a) (sym (stepped p (seats n) seen))
         (plus _ (loans_at (seats n) port) (seats n).accesses (one_loan p (seats n) port seen) (bound.loans n port))
     by_node k port false = bound.loans k port
+
+    its_handles : (k : ℕ) (b : Bool) → (if b then steps.next p (seats n) seen else seats k).handles_made ≤ (if b then steps.next p (seats n) seen else seats k).accesses
+    its_handles k true =
+        subst (λ a. (steps.next p (seats n) seen).handles_made ≤ a) (sym (stepped p (seats n) seen))
+        (plus _ (seats n).handles_made (seats n).accesses (one_handle p (seats n) seen) (bound.handles n))
+    its_handles k false = bound.handles k
+
+    its_count : (k : ℕ) (y : Way) (b : Bool) → count_on (if b then steps.next p (seats n) seen else seats k) y ≤ (if b then steps.next p (seats n) seen else seats k).accesses
+    its_count k y true =
+        subst (λ a. count_on (steps.next p (seats n) seen) y ≤ a) (sym (stepped p (seats n) seen))
+        (plus _ (count_on (seats n) y) (seats n).accesses (one_borrowed p (seats n) seen y) (bound.borrowed n y))
+    its_count k y false = bound.borrowed k y
 
 -- ---- what they tell
 

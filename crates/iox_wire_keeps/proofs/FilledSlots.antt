@@ -1,29 +1,28 @@
 -- A slot whose message has another payload, and which slots the end of a call fills.
-use Rattle.iox_wire_laws.proofs.WireRegions.OwnPorts.{both}
-use Rattle.iox_wire_locals.specs.declared.local.Ending.TheVariants as endings
+use Rattle.iox_wire_calls.proofs.OwnPorts.{both}
+use Rattle.iox_wire_calls.specs.Ending.TheVariants as endings
 use Rattle.std.proofs.Common.{ap, append_assoc, arith, eqb-true, inl, inr, subst, sym, true≢false, ◌∙◌}
-use Rattle.iox_wire_keeps.specs.Stored.{IsStored, StoresAt}
+use Rattle.iox_wire_keeps.specs.Stored.{IsAddressed, IsStored, StoresAt}
 use Rattle.std.specs.Prelude.{Bool, List, false, if◌then◌else◌, length, refl, slice_index, true, ℕ, ◌&&◌, ◌*◌, ◌++◌, ◌+◌, ◌-◌, ◌<◌, ◌==◌, ◌≡◌, ◌≤◌}
 use Rattle.iox_laws.proofs.WeaveLedger.Truths.{never}
-use Rattle.iox_wire_laws.specs.WireRegions.Regions.{HasRegion}
+use Rattle.iox_wire_calls.specs.Regions.{HasRegion}
 use Rattle.iox_model.specs.declared.kind.Role.{Role}
-use Rattle.iox_model.specs.Settings.{is_client}
-use Rattle.iox_wire_laws.specs.WireKeeping.Writes.{is_slot_of, with_payload}
-use Rattle.iox_wire_laws.specs.WireRegions.StoredMessages.{StandFrom, words_in}
-use Rattle.iox_wire_locals.specs.Stored.{header_length, header_words, message_words}
-use Rattle.iox_wire_locals.specs.Tables.{Setting, port_shape, region_word, words_before_payload}
+use Rattle.iox_wire_calls.specs.Writes.{is_slot_of, with_payload}
+use Rattle.iox_wire_calls.specs.StoredMessages.{StandFrom, words_in}
+use Rattle.iox_wire_calls.specs.Stored.{header_length, header_words, message_words}
+use Rattle.iox_wire_calls.specs.Tables.{Setting, port_shape, region_word, words_before_payload}
 use Rattle.iox_model.specs.declared.kind.Role.TheVariants.{Client, Server}
 use Rattle.iox_laws.proofs.CallFunctions.Leads.{behind}
-use Rattle.iox_wire_laws.proofs.WireRegions.MessageLists.{header_count}
-use Rattle.iox_wire_locals.specs.declared.local.Local.TheVariants.{Ends}
-use Rattle.iox_wire_moments.specs.MomentsOf.{Pools}
+use Rattle.iox_wire_calls.proofs.MessageLists.{header_count}
+use Rattle.iox_wire_calls.specs.Local.TheVariants.{Ends}
+use Rattle.iox_wire_calls.specs.MomentsOf.{Pools}
 use Rattle.std.proofs.lemmas.List.{get_or-append-add, length-append}
 use Rattle.std.proofs.Math.ListN.{get_or-append}
-use Rattle.iox_wire_words.specs.Fits.{WireContents}
-use Rattle.iox_wire_locals.specs.declared.local.Ending.{Ending}
+use Rattle.iox_wire_calls.specs.Fits.{WireContents}
+use Rattle.iox_wire_calls.specs.Ending.{Ending}
 use Rattle.iox_model.specs.Messages.{Message}
 use Rattle.std.proofs.lemmas.Bool.{cases_lt}
-use Rattle.iox_wire_locals.specs.declared.table.Entry.{Entry}
+use Rattle.iox_wire_calls.specs.Entry.{Entry}
 
 -- ---- a message with another payload
 
@@ -65,7 +64,7 @@ with_words Server m words = refl
 pub filled_slot : (p : Setting) (held new : Pools) (c : WireContents) (port slot : ℕ) (words : List ℕ) → new port slot ≡ record (held port slot) { payload = words }
     → HasRegion p port → slot < (p.port port).pool → length (held port slot).user ≡ length (port_shape p port).user
     → (held port slot).elements ≤ (p.port port).longest → length words ≡ (held port slot).elements * (port_shape p port).width
-    → (is_client (p.port port).role ≡ true → (held port slot).lane < p.layout.sizes.lanes port)
+    → IsAddressed p port (held port slot)
     → StandFrom p c port slot 0 (words_in p held port slot) (words_before_payload p port) → StandFrom p c port slot (words_before_payload p port) words (length words)
     → IsStored p new c port slot
 filled_slot p held new c port slot words is region low user room long lane head tail = record {
@@ -78,7 +77,7 @@ filled_slot p held new c port slot words is region low user room long lane head 
   };
   words = subst (λ xs. StandFrom p c port slot 0 xs (length xs)) (sym (ap (message_words (p.port port).role) is ∙ with_words (p.port port).role (held port slot) words))
       (joined p c port slot (p.port port).role (held port slot) words (words_before_payload p port) (ap (λ k. header_length (p.port port).role + k) (sym user)) head tail);
-  lane = λ client. subst (λ (m : Message). m.lane < p.layout.sizes.lanes port) (sym is) (lane client);
+  addressed = subst (IsAddressed p port) (sym is) lane;
 }
 
 -- ---- which slots change

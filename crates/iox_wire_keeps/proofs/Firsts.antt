@@ -1,32 +1,32 @@
 -- Where a call begins: no word is stored or loaded yet.
 use Rattle.iox_wire_keeps.proofs.Quiet as quiet
 use Rattle.iox_wire_keeps.proofs.Quiet.{IsQuiet}
-use Rattle.iox_wire_locals.specs.declared.local.Local.TheVariants.{Ends}
-use Rattle.iox_wire_locals.specs.Courses as courses
-use Rattle.iox_wire_locals.specs.ReceiveCourses as receives
-use Rattle.iox_wire_locals.specs.Lendings as lendings
-use Rattle.iox_wire_locals.specs.declared.local.Ending.TheVariants as endings
+use Rattle.iox_wire_calls.specs.Local.TheVariants.{Ends}
+use Rattle.iox_wire_calls.specs.Courses as courses
+use Rattle.iox_wire_calls.specs.ReceiveCourses as receives
+use Rattle.iox_wire_calls.specs.Lendings as lendings
+use Rattle.iox_wire_calls.specs.Ending.TheVariants as endings
 use Rattle.iox_model.specs.declared.call.Call.TheVariants as calls
 use Rattle.iox_model.specs.declared.call.WireCall.TheVariants as wire_calls
-use Rattle.iox_wire_locals.specs.Begins as begins
+use Rattle.iox_wire_calls.specs.Begins as begins
 use Rattle.iox_model.specs.Peers.{forgot_port, port_at}
 use Rattle.iox_model.specs.Handles.{is_received, same_kind}
 use Rattle.std.specs.Prelude.{Bool, List, None, Option, Some, [], false, if◌then◌else◌, refl, true, ◌==◌, ◌∷◌, ◌≡◌, ℕ}
-use Rattle.iox_wire_locals.specs.declared.local.Local.TheVariants.{LendStores, Reads, ReceiveAsks, ReceiveLoads, Writes}
-use Rattle.iox_wire_locals.specs.Known.{free_slots, known}
+use Rattle.iox_wire_calls.specs.Local.TheVariants.{LendStores, Reads, ReceiveAsks, ReceiveLoads, Writes}
+use Rattle.iox_wire_calls.specs.Known.{free_slots, known}
 use Rattle.iox_model.specs.Commands.{Call, WireCall, number_of}
-use Rattle.iox_wire_locals.specs.declared.local.Ending.{Ending}
-use Rattle.iox_wire_locals.specs.declared.seat.Seat.{Seat}
-use Rattle.iox_wire_locals.specs.declared.table.NewLoan.{NewLoan}
-use Rattle.iox_wire_locals.specs.NewLoans.{loan_in}
-use Rattle.iox_wire_locals.specs.Tables.{Setting, entry_at, way_in, words_to_read}
-use Rattle.iox_wire_locals.specs.declared.table.Entry.{Entry}
+use Rattle.iox_wire_calls.specs.Ending.{Ending}
+use Rattle.iox_wire_calls.specs.Seat.{Seat}
+use Rattle.iox_wire_calls.specs.NewLoan.{NewLoan}
+use Rattle.iox_wire_calls.specs.NewLoans.{loan_in}
+use Rattle.iox_wire_calls.specs.Tables.{Setting, entry_at, way_in, words_to_read}
+use Rattle.iox_wire_calls.specs.Entry.{Entry}
 use Rattle.iox_model.specs.declared.kind.Kind.TheVariants.{PendingResponse}
 use Rattle.iox_model.specs.Settings.{is_count}
-use Rattle.iox_wire_locals.specs.Steps.{next}
-use Rattle.iox_wire_locals.specs.declared.local.CallRefusal.{CallRefusal}
+use Rattle.iox_wire_calls.specs.Steps.{next}
+use Rattle.iox_wire_calls.specs.CallRefusal.{CallRefusal}
 use Rattle.iox_model.specs.Loans.{lending_ways}
-use Rattle.iox_wire_locals.specs.declared.local.Local.{Local}
+use Rattle.iox_wire_calls.specs.Local.{Local}
 use Rattle.iox_model.specs.States.{Port}
 use Rattle.iox_model.specs.declared.way.Way.{Way}
 

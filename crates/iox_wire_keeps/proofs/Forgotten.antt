@@ -1,26 +1,26 @@
 -- Who lives stays so over a step, and who was forgotten stays forgotten: so a way that is counted
 -- after it was counted before.
 use Rattle.iox_model.specs.Weaves as weaves
-use Rattle.iox_wire_locals.specs.declared.local.Ending.TheVariants as endings
-use Rattle.iox_wire_locals.specs.Settlements as settle
-use Rattle.iox_wire_locals.specs.declared.local.Local.TheVariants.{ReleaseExchanges, ReleaseLooks}
+use Rattle.iox_wire_calls.specs.Ending.TheVariants as endings
+use Rattle.iox_wire_calls.specs.Settlements as settle
+use Rattle.iox_wire_calls.specs.Local.TheVariants.{ReleaseExchanges, ReleaseLooks}
 use Rattle.iox_model.specs.Handles.{is_received, is_request_loan}
 use Rattle.iox_model.specs.States.{Fixed, Port}
-use Rattle.iox_wire_locals.specs.Steps.{accessed, advance, closed, ending_at, next}
+use Rattle.iox_wire_calls.specs.Steps.{accessed, advance, closed, ending_at, next}
 use Rattle.iox_laws.proofs.WeaveLaws.DeathLaws.{settled-members}
 use Rattle.std.specs.Prelude.{Bool, List, None, Option, Some, [], false, find, not, refl, true, ℕ, ◌&&◌, ◌++◌, ◌-◌, ◌==◌, ◌∷◌, ◌≡◌}
-use Rattle.iox_wire_locals.specs.Tables.{Setting, way_in}
-use Rattle.iox_wire_stands.proofs.OthersSame.{view_same}
+use Rattle.iox_wire_calls.specs.Tables.{Setting, way_in}
+use Rattle.iox_wire_calls.proofs.OthersSame.{view_same}
 use Rattle.iox_laws.proofs.WeaveLaws.MapLemmas.{either}
-use Rattle.iox_wire_steps.specs.WholeSteps.{reply_beats, step_beats}
+use Rattle.iox_wire_calls.specs.WholeSteps.{reply_beats, step_beats}
 use Rattle.iox_model.specs.declared.way.Way.{Way}
-use Rattle.iox_wire_locals.specs.declared.local.Ending.{Ending}
+use Rattle.iox_wire_calls.specs.Ending.{Ending}
 use Rattle.iox_model.specs.Peers.{forgot_port, is_connected_port, is_counted_on, node_of_port}
 use Rattle.iox_laws.proofs.WeaveLaws.WholeLemmas.{moved-members}
-use Rattle.iox_wire_locals.specs.Desks.{at_count, at_desk, gives_up}
-use Rattle.iox_wire_locals.specs.declared.seat.Seat.{Seat}
+use Rattle.iox_wire_calls.specs.Desks.{at_count, at_desk, gives_up}
+use Rattle.iox_wire_calls.specs.Seat.{Seat}
 use Rattle.iox_laws.proofs.WeaveLedger.Views.{View, less}
-use Rattle.iox_wire_laws.specs.WireHolding.Aside.{shown_at}
+use Rattle.iox_wire_calls.specs.Aside.{shown_at}
 use Rattle.std.proofs.Common.{ap, subst, sym, true≢false, ◌∙◌}
 use Rattle.iox_laws.proofs.WeaveLedger.Truths.{or-false}
 use Rattle.std.specs.List.{list_any}
@@ -29,10 +29,10 @@ use Rattle.iox_model.specs.Maps.{has_number}
 use Rattle.iox_model.specs.Moments.{Moment}
 use Rattle.iox_laws.proofs.WeaveBeats.LiveWays.{beats_are_reachable}
 use Rattle.iox_laws.specs.WeaveWorlds.Worlds.{IsReachable}
-use Rattle.iox_wire_locals.specs.declared.local.Local.{Local}
-use Rattle.iox_wire_laws.proofs.WireRegions.OwnPorts.{both}
+use Rattle.iox_wire_calls.specs.Local.{Local}
+use Rattle.iox_wire_calls.proofs.OwnPorts.{both}
 use Rattle.iox_laws.proofs.WeaveLedger.Lists.{among-front, among-number, number-among}
-use Rattle.iox_wire_laws.proofs.WireKeeping.CountsKept.{steps_keep_own}
+use Rattle.iox_wire_calls.proofs.CountsKept.{steps_keep_own}
 use Rattle.std.specs.Option.{option_map_or}
 use Rattle.iox_model.specs.Commands.{Reply}
 

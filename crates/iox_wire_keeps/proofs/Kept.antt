@@ -1,49 +1,49 @@
 -- What other slots hold stays over an access: their messages, and their words.
 use Rattle.iox_model.specs.States.{Fixed, Port}
-use Rattle.iox_wire_locals.specs.declared.local.Ending.TheVariants as endings
+use Rattle.iox_wire_calls.specs.Ending.TheVariants as endings
 use Rattle.std.specs.Prelude.{Bool, List, Some, false, if◌then◌else◌, length, refl, slice_index, true, ℕ, ◌*◌, ◌++◌, ◌+◌, ◌<◌, ◌==◌, ◌≡◌, ◌≤◌, [], filter, find, map, ◌∷◌}
-use Rattle.iox_wire_keeps.specs.Stored.{CallIsStored, GoesThrough, HoldsStored, IsStored, IsWritten, StandsWritten, StoresAt}
-use Rattle.iox_wire_locals.specs.declared.local.Local.TheVariants.{Ends, LendEmpties, LendStores, Reads, ReceiveAsks, ReceiveLoads, SendAsks, SendEmpties, SendEnds, SendEvicts, SendGetsBack, SendLooks, SendOpens, SendPushes, Writes}
-use Rattle.iox_wire_moments.specs.MomentsOf.{Pools}
-use Rattle.iox_wire_laws.specs.WireRegions.StoredMessages.{AreFirst, StandFrom, StoresInto, header_in, words_in}
+use Rattle.iox_wire_keeps.specs.Stored.{CallIsStored, GoesThrough, HoldsStored, IsAddressed, IsStored, IsWritten, StandsWritten, StoresAt}
+use Rattle.iox_wire_calls.specs.Local.TheVariants.{Ends, LendEmpties, LendStores, Reads, ReceiveAsks, ReceiveLoads, SendAsks, SendEmpties, SendEnds, SendEvicts, SendGetsBack, SendLooks, SendOpens, SendPushes, Writes}
+use Rattle.iox_wire_calls.specs.MomentsOf.{Pools}
+use Rattle.iox_wire_calls.specs.StoredMessages.{AreFirst, StandFrom, StoresInto, header_in, words_in}
 use Rattle.iox_steps.specs.Sites.{size}
-use Rattle.iox_wire_locals.specs.Steps.{next}
-use Rattle.iox_wire_laws.specs.WireHolding.SlotsKnown.{HasEntry}
+use Rattle.iox_wire_calls.specs.Steps.{next}
+use Rattle.iox_wire_calls.specs.SlotsKnown.{HasEntry}
 use Rattle.iox_laws.proofs.WeaveLedger.Truths.{never}
 use Rattle.iox_laws.proofs.WeaveLedger.Lists.{among-any, find-among, IsAmong, among-filter, among-map, among-number}
-use Rattle.iox_wire_stands.proofs.OthersHold.{named_taken}
+use Rattle.iox_wire_calls.proofs.OthersHold.{named_taken}
 use Rattle.std.proofs.Common.{ap, eqb-true, subst, sym, true≢false, ◌∙◌, inl}
-use Rattle.iox_wire_stands.specs.Following.{CallMessage, Sent, Taken, message_at}
-use Rattle.iox_wire_locals.specs.declared.local.Ending.{Ending}
+use Rattle.iox_wire_calls.specs.Following.{CallMessage, Sent, Taken, message_at}
+use Rattle.iox_wire_calls.specs.Ending.{Ending}
 use Rattle.iox_laws.proofs.WeaveLedger.Views.{less}
-use Rattle.iox_wire_locals.specs.Tables.{Setting, entry_at, port_shape, region_word, words_before_payload}
-use Rattle.iox_wire_locals.specs.Stored.{header_words, message_words}
-use Rattle.iox_wire_locals.specs.NewLoans.{loan_words, entry_in}
-use Rattle.iox_wire_words.specs.Fits.{WireContents, contents_after, with_word}
-use Rattle.iox_wire_locals.specs.declared.seat.Seat.{Seat}
+use Rattle.iox_wire_calls.specs.Tables.{Setting, entry_at, port_shape, region_word, words_before_payload}
+use Rattle.iox_wire_calls.specs.Stored.{header_words, message_words}
+use Rattle.iox_wire_calls.specs.NewLoans.{loan_words, entry_in}
+use Rattle.iox_wire_calls.specs.Fits.{WireContents, contents_after, with_word}
+use Rattle.iox_wire_calls.specs.Seat.{Seat}
 use Rattle.iox_model.specs.declared.way.Way.{Way}
 use Rattle.iox_model.specs.Maps.{put_at, has_number}
 use Rattle.iox_model.specs.Messages.{Message}
-use Rattle.iox_wire_locals.specs.Locals.{program_of}
-use Rattle.iox_wire_laws.specs.WireHolding.Named.{ending_names, place_names}
-use Rattle.iox_wire_laws.specs.WireHolding.FarSlots.{IsInPool}
-use Rattle.iox_wire_laws.specs.WireKeeping.Writes.{is_slot_of}
+use Rattle.iox_wire_calls.specs.Locals.{program_of}
+use Rattle.iox_wire_calls.specs.Named.{ending_names, place_names}
+use Rattle.iox_wire_calls.specs.FarSlots.{IsInPool}
+use Rattle.iox_wire_calls.specs.Writes.{is_slot_of}
 use Rattle.iox_laws.proofs.WeaveLaws.MapLemmas.{eqb-refl}
 use Rattle.std.specs.List.{list_any}
-use Rattle.iox_wire_locals.specs.declared.local.Local.{Local}
-use Rattle.iox_wire_locals.specs.declared.table.Entry.{Entry}
+use Rattle.iox_wire_calls.specs.Local.{Local}
+use Rattle.iox_wire_calls.specs.Entry.{Entry}
 use Rattle.iox_wire_calls.specs.Lanes.{AllLanesAreCounted, lanes_in, lent_in}
 use Rattle.iox_wire_calls.specs.Places.{IsNext}
 use Rattle.iox_model.specs.Peers.{ports_of_role}
-use Rattle.iox_wire_laws.specs.WireRegions.OwnedBegins.{LayoutFits}
-use Rattle.iox_wire_pools.specs.Uses.{how_often}
+use Rattle.iox_wire_calls.specs.OwnedBegins.{LayoutFits}
+use Rattle.iox_wire_calls.specs.Uses.{how_often}
 use Rattle.iox_wire_calls.proofs.LanesTell.{lanes_are_the_pools, port_there, request_has, there_is, low}
 use Rattle.iox_model.specs.declared.kind.Role.{Role}
-use Rattle.iox_wire_stands.specs.Stands.{AreNumbered}
+use Rattle.iox_wire_calls.specs.Stands.{AreNumbered}
 use Rattle.iox_model.specs.Counts.{lent, numbered}
 use Rattle.iox_model.specs.Loans.{kind_of_loan}
 use Rattle.iox_model.specs.Settings.{is_client, same_role}
-use Rattle.iox_wire_locals.specs.declared.table.NewLoan.{NewLoan}
+use Rattle.iox_wire_calls.specs.NewLoan.{NewLoan}
 use Rattle.iox_model.specs.declared.kind.Role.TheVariants.{Client, Server}
 use Rattle.iox_model.specs.Handles.{is_request_loan}
 
@@ -60,7 +60,7 @@ stored_same p held new c port slot same stored = record {
     room = subst (λ (m : Message). m.elements ≤ (p.port port).longest) (sym same) stored.fits.room;
   };
   words = subst (λ (m : Message). StandFrom p c port slot 0 (message_words (p.port port).role m) (length (message_words (p.port port).role m))) (sym same) stored.words;
-  lane = λ client. subst (λ (m : Message). m.lane < p.layout.sizes.lanes port) (sym same) (stored.lane client);
+  addressed = subst (IsAddressed p port) (sym same) stored.addressed;
 }
 
 -- the words of a region stay where the node stores into another one
@@ -193,7 +193,7 @@ module _ (p : Setting) (held new : Pools) (c d : WireContents) (x : Seat)
   call_stays (Taken w slot) is stored = stays p held new c d w.sender slot (place w.sender slot (named_taken x.local w slot is)) stored
   call_stays (Sent e true) is stored =
       let still = place e.sender e.slot (named_sent x.local e true is) in
-      (stays p held new c d e.sender e.slot still stored.0, ap (λ (m : Message). m.elements) still.message ∙ stored.1)
+      (stays p held new c d e.sender e.slot still stored.0, ap (λ (m : Message). m.elements) still.message ∙ stored.1, stored.2)
   call_stays m is stored = tt
 
   written_stays : (e : Entry) (words : List ℕ) (count : ℕ) → place_names x.local e.sender e.slot ≡ true → StoresAt x.local e.port e.slot → e.sender ≡ e.port
@@ -208,7 +208,7 @@ module _ (p : Setting) (held new : Pools) (c d : WireContents) (x : Seat)
           payload = ap (λ (m : Message). length m.payload) still ∙ fits.payload ∙ ap (λ (m : Message). m.elements * (port_shape p e.port).width) (sym still);
           room = subst (λ (m : Message). m.elements ≤ (p.port e.port).longest) (sym still) fits.room;
         },
-        λ client. subst (λ (m : Message). m.lane < p.layout.sizes.lanes e.port) (sym still) (lane client),
+        subst (IsAddressed p e.port) (sym still) lane,
         subst (λ (m : Message). StandFrom p d e.port e.slot 0 (message_words (p.port e.port).role m) (words_before_payload p e.port)) (sym still)
             (stand e.port e.slot 0 (words_in p held e.port e.slot) (words_before_payload p e.port) into head),
         stand e.port e.slot (words_before_payload p e.port) words count into tail,
@@ -248,6 +248,7 @@ module _ (p : Setting) (held new : Pools) (c d : WireContents) (x : Seat)
   node_stays = record {
     entries = λ e there low free. stays p held new c d e.sender e.slot (entry e there low) (has.entries e there low free);
     lengths = λ e there low. ap (λ (m : Message). m.elements) (entry e there low).message ∙ has.lengths e there low;
+    suits = has.suits;
     call = call_stays (message_at x.local) refl has.call;
     place = place_stays x.local refl has.place;
   }

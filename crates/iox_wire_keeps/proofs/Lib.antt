@@ -1,4 +1,5 @@
 pub mod AccessesMade
+pub mod HandleBounds
 pub mod Bounds
 pub mod Stored
 pub mod Alone
@@ -18,5 +19,26 @@ pub mod Forgotten
 pub mod StepMessages
 pub mod StepWhole
 pub mod Firsts
+pub mod FirstPlaces
+pub mod FirstOwners
 pub mod MessageBegins
 pub mod BeginWhole
+-- what the crates above cite of those below
+pub use Rattle.iox_wire_calls.proofs.AccessUses
+pub use Rattle.iox_wire_calls.proofs.AccessesFound
+pub use Rattle.iox_wire_calls.proofs.CallsAround
+pub use Rattle.iox_wire_calls.proofs.Counting
+pub use Rattle.iox_wire_calls.proofs.FoundUses
+pub use Rattle.iox_wire_calls.proofs.Fresh
+pub use Rattle.iox_wire_calls.proofs.HandleKinds
+pub use Rattle.iox_wire_calls.proofs.LanesTell
+pub use Rattle.iox_wire_calls.proofs.LoanSlots
+pub use Rattle.iox_wire_calls.proofs.NodesFollow
+pub use Rattle.iox_wire_calls.proofs.OpenedDesks
+pub use Rattle.iox_wire_calls.proofs.OwnPorts
+pub use Rattle.iox_wire_calls.proofs.OwnSlotsApart
+pub use Rattle.iox_wire_calls.proofs.OwnedPlaces
+pub use Rattle.iox_wire_calls.proofs.PoolsFit
+pub use Rattle.iox_wire_calls.proofs.SendsFollow
+pub use Rattle.iox_wire_calls.proofs.StepsKept
+pub use Rattle.iox_wire_calls.proofs.UsedSlots

@@ -1,51 +1,51 @@
 -- Slots hold their messages as a call begins.
 use Rattle.iox_wire_keeps.proofs.Firsts.{IsFirst, first}
-use Rattle.iox_wire_locals.specs.declared.local.Ending.TheVariants as endings
+use Rattle.iox_wire_calls.specs.Ending.TheVariants as endings
 use Rattle.std.specs.Prelude.{Bool, List, None, false, if◌then◌else◌, length, refl, true, ℕ, ◌*◌, ◌++◌, ◌<◌, ◌==◌, ◌≡◌, ◌⊎◌}
-use Rattle.iox_wire_locals.specs.declared.local.Ending.{Ending}
-use Rattle.iox_wire_laws.specs.WireRegions.StoredMessages.{StandFrom, header_in, words_in}
+use Rattle.iox_wire_calls.specs.Ending.{Ending}
+use Rattle.iox_wire_calls.specs.StoredMessages.{StandFrom, header_in, words_in}
 use Rattle.std.proofs.Common.{ap, arith, inl, inr, subst, sym, true≢false, ◌∙◌}
-use Rattle.iox_wire_stands.proofs.Starts.{Starting, Starts, Takes, starts}
-use Rattle.iox_wire_locals.specs.declared.local.Local.TheVariants.{Ends, Idle, LendEmpties, LendStores, Reads, ReceiveAsks, ReceiveLoads, Writes}
-use Rattle.iox_wire_laws.specs.WireKeeping.Shows.{ShowsWorld}
+use Rattle.iox_wire_calls.proofs.Starts.{Starting, Starts, Takes, starts}
+use Rattle.iox_wire_calls.specs.Local.TheVariants.{Ends, Idle, LendEmpties, LendStores, Reads, ReceiveAsks, ReceiveLoads, Writes}
+use Rattle.iox_wire_calls.specs.Shows.{ShowsWorld}
 use Rattle.iox_wire_keeps.proofs.OwnWrites.{loan_kept, written_own}
-use Rattle.iox_wire_locals.specs.NewLoans.{loan_words, message_in}
-use Rattle.iox_wire_laws.specs.WireHolding.Holding.{held_at}
+use Rattle.iox_wire_calls.specs.NewLoans.{loan_words, message_in}
+use Rattle.iox_wire_calls.specs.Holding.{held_at}
 use Rattle.iox_model.specs.Weaves.{World}
-use Rattle.iox_wire_stands.specs.Following.{CallMessage, LeavesNothing, Leaving, Sent, Taken, message_at}
-use Rattle.iox_wire_locals.specs.Steps.{next}
-use Rattle.iox_wire_locals.specs.declared.table.Entry.{Entry}
+use Rattle.iox_wire_calls.specs.Following.{CallMessage, LeavesNothing, Leaving, Sent, Taken, message_at}
+use Rattle.iox_wire_calls.specs.Steps.{next}
+use Rattle.iox_wire_calls.specs.Entry.{Entry}
 use Rattle.iox_wire_keeps.specs.Stored.{CallIsStored, GoesThrough, HoldsStored, IsStored, IsWritten, SlotsHoldMessages, StandsWritten, WhatWaitsIsStored}
 use Rattle.iox_model.specs.Receives.{took}
-use Rattle.iox_wire_laws.specs.WireHolding.FarSlots.{IsInPool}
-use Rattle.iox_wire_locals.specs.declared.seat.Seat.{Seat}
+use Rattle.iox_wire_calls.specs.FarSlots.{IsInPool}
+use Rattle.iox_wire_calls.specs.Seat.{Seat}
 use Rattle.iox_laws.proofs.WeaveLedger.Truths.{or-left}
-use Rattle.iox_wire_laws.specs.WireRegions.OwnedBegins.{LayoutFits}
-use Rattle.iox_wire_laws.proofs.WireKeeping.CountsKept.{begins_keep_own}
-use Rattle.iox_wire_moments.specs.MomentsOf.{Pools}
+use Rattle.iox_wire_calls.specs.OwnedBegins.{LayoutFits}
+use Rattle.iox_wire_calls.proofs.CountsKept.{begins_keep_own}
+use Rattle.iox_wire_calls.specs.MomentsOf.{Pools}
 use Rattle.iox_steps.specs.Sites.{size}
-use Rattle.iox_wire_locals.specs.Tables.{Setting, entry_at, port_shape, words_before_payload}
+use Rattle.iox_wire_calls.specs.Tables.{Setting, entry_at, port_shape, words_before_payload}
 use Rattle.iox_model.specs.Maps.{has_number, put_at}
 use Rattle.iox_wire_keeps.proofs.Kept.{Stays, named_entry, node_stays, stays}
 use Rattle.iox_wire_calls.specs.Places.{CallFits, IsLoan, PlaceFits}
-use Rattle.iox_wire_words.specs.Fits.{WireContents}
-use Rattle.iox_wire_pools.proofs.Counting.{used}
-use Rattle.iox_wire_locals.specs.declared.table.NewLoan.{NewLoan}
-use Rattle.iox_wire_locals.specs.Begins.{begin}
-use Rattle.iox_wire_laws.specs.WireHolding.SlotsKnown.{HasEntry}
+use Rattle.iox_wire_calls.specs.Fits.{WireContents}
+use Rattle.iox_wire_calls.proofs.Counting.{used}
+use Rattle.iox_wire_calls.specs.NewLoan.{NewLoan}
+use Rattle.iox_wire_calls.specs.Begins.{begin}
+use Rattle.iox_wire_calls.specs.SlotsKnown.{HasEntry}
 use Rattle.iox_wire_keeps.specs.MessageBegins.{BeginsLeaveMessages, FirstFits}
-use Rattle.iox_wire_stands.specs.Nodes.{NodeStands}
-use Rattle.iox_wire_laws.specs.WireHolding.HeldSteps.{FreeSlotsAreUnnamed}
+use Rattle.iox_wire_calls.specs.Nodes.{NodeStands}
+use Rattle.iox_wire_calls.specs.HeldSteps.{FreeSlotsAreUnnamed}
 use Rattle.iox_model.specs.Commands.{WireCall}
-use Rattle.iox_wire_laws.proofs.WireRegions.MessageLists.{count_of_words}
+use Rattle.iox_wire_calls.proofs.MessageLists.{count_of_words}
 use Rattle.iox_wire_keeps.proofs.Firsts.{IsFirst}
 use Rattle.iox_model.specs.Joins.{not_living}
-use Rattle.iox_wire_locals.specs.declared.local.Local.{Local}
+use Rattle.iox_wire_calls.specs.Local.{Local}
 use Rattle.iox_laws.proofs.WeaveLaws.MapLemmas.{eqb-refl}
-use Rattle.iox_wire_laws.proofs.WireHolding.HoldingLaws.{one_slot_changes}
-use Rattle.iox_wire_locals.specs.Known.{free_slots}
+use Rattle.iox_wire_calls.proofs.HoldingLaws.{one_slot_changes}
+use Rattle.iox_wire_calls.specs.Known.{free_slots}
 use Rattle.std.specs.Ordering.{on}
-use Rattle.iox_wire_laws.proofs.WireHolding.FreeSlots.{free_slots_are_nobodys}
+use Rattle.iox_wire_calls.proofs.FreeSlots.{free_slots_are_nobodys}
 
 -- a call that starts without a loan of its own changes no slot
 starts_held : (p : Setting) (x : Seat) (held : Pools) (local : Local) (m : CallMessage) → message_at local ≡ m → Starting p x m → held_at p held local ≡ held
@@ -140,7 +140,7 @@ module _ (p : Setting) (held : Pools) (word : ℕ → ℕ) (c : WireContents) (s
       let own : e.sender ≡ e.port = (((nodes n living).names.entries e its).own (loan_kept e.kind loan)).1 in
       let stored : IsStored p new c e.port e.slot = subst (λ i. IsStored p new c i e.slot) own (before.entries e its (entry_low e its) (unwritten e)) in (
         stored.fits,
-        stored.lane,
+        stored.addressed,
         λ k less. stored.words k (shorter k stored.fits.user less),
         none_yet e.port e.slot (words_before_payload p e.port) words count none,
         long,
@@ -181,6 +181,7 @@ module _ (p : Setting) (held : Pools) (word : ℕ → ℕ) (c : WireContents) (s
   own_holds = record {
     entries = λ e there low free. before.entries e (has_before e there) low (unwritten e);
     lengths = λ e there low. before.lengths e (has_before e there) low;
+    suits = λ e there low. before.suits e (has_before e there) low;
     call = call_now begun_so;
     place = place_now y.local (first p (seats n) call) sized first_fits.place (starting begun_so);
   }

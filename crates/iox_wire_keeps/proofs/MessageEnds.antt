@@ -1,55 +1,58 @@
 -- Slots hold their messages after the end of a call: the slot that it fills is no other's.
-use Rattle.iox_wire_laws.proofs.WireRegions.OwnPorts.{both}
+use Rattle.iox_model.specs.Settings.{is_client}
+use Rattle.iox_model.specs.Handles.{is_response_loan}
+use Rattle.iox_wire_calls.proofs.OwnPorts.{both}
 use Rattle.iox_wire_calls.proofs.EndsTold.{at_end}
-use Rattle.iox_wire_locals.specs.declared.local.Ending.TheVariants as endings
+use Rattle.iox_wire_calls.specs.Ending.TheVariants as endings
+use Rattle.iox_model.specs.declared.kind.Kind.TheVariants as kinds
 use Rattle.std.proofs.Common.{ap, arith, eq-eqb, eqb-true, inl, inr, subst, sym, true≢false, ◌∙◌}
 use Rattle.iox_wire_calls.specs.Lanes.{lent_in}
-use Rattle.iox_wire_keeps.specs.Stored.{CallIsStored, GoesThrough, HoldsStored, IsStored, IsWritten, SlotsHoldMessages, WhatWaitsIsStored}
-use Rattle.std.specs.Prelude.{Bool, List, None, Option, Some, [], false, if◌then◌else◌, length, map, refl, slice_index, true, ℕ, ◌&&◌, ◌*◌, ◌+◌, ◌-◌, ◌<◌, ◌==◌, ◌≡◌, ◌≤◌, not, ◌⊎◌}
+use Rattle.iox_wire_keeps.specs.Stored.{CallIsStored, EntrySuits, GoesThrough, HoldsStored, IsAddressed, IsStored, IsWritten, SlotsHoldMessages, WhatWaitsIsStored}
+use Rattle.std.specs.Prelude.{Bool, List, None, Option, Some, [], false, if◌then◌else◌, length, map, not, refl, slice_index, true, ℕ, ◌&&◌, ◌*◌, ◌+◌, ◌-◌, ◌<◌, ◌==◌, ◌^◌, ◌≡◌, ◌≤◌, ◌⊎◌}
 use Rattle.iox_laws.proofs.WeaveLedger.Truths.{false_if}
-use Rattle.iox_wire_laws.specs.WireHolding.SlotsKnown.{IsPortOfSeat, HasEntry}
-use Rattle.iox_wire_laws.specs.WireRegions.Regions.{HasRegion}
-use Rattle.iox_wire_laws.specs.WireKeeping.Writes.{with_payload}
-use Rattle.iox_wire_laws.specs.WireHolding.Holding.{held_with}
-use Rattle.iox_wire_laws.specs.WireRegions.StoredMessages.{StandFrom, words_in, header_in}
+use Rattle.iox_wire_calls.specs.SlotsKnown.{IsPortOfSeat, HasEntry}
+use Rattle.iox_wire_calls.specs.Regions.{HasRegion}
+use Rattle.iox_wire_calls.specs.Writes.{with_payload}
+use Rattle.iox_wire_calls.specs.Holding.{held_with}
+use Rattle.iox_wire_calls.specs.StoredMessages.{StandFrom, words_in, header_in}
 use Rattle.iox_model.specs.declared.way.Way.{Way}
-use Rattle.iox_wire_locals.specs.NewLoans.{entry_in, loan_words, message_in, received_entry, received_length}
+use Rattle.iox_wire_calls.specs.NewLoans.{entry_in, loan_words, message_in, received_entry, received_length}
 use Rattle.iox_wire_keeps.proofs.Kept.{Stays, loan_lane, named_entry, node_stays, slot_itself, stored_same, stays}
-use Rattle.iox_wire_locals.specs.Stored.{header_length, message_words}
-use Rattle.iox_wire_locals.specs.Tables.{Setting, port_shape, words_before_payload, sent_entry}
+use Rattle.iox_wire_calls.specs.Stored.{header_length, message_words}
+use Rattle.iox_wire_calls.specs.Tables.{Setting, port_shape, words_before_payload, sent_entry}
 use Rattle.iox_model.specs.Maps.{has_number, put_at}
-use Rattle.iox_wire_laws.proofs.WireHolding.HoldingLaws.{one_slot_changes}
+use Rattle.iox_wire_calls.proofs.HoldingLaws.{one_slot_changes}
 use Rattle.iox_model.specs.States.{State}
 use Rattle.iox_wire_calls.specs.CallsStand.{CallStands}
-use Rattle.iox_wire_stands.specs.Following.{message_at, message_ended}
-use Rattle.iox_wire_laws.proofs.WireRegions.MessageLists.{count_of_words}
-use Rattle.iox_wire_locals.specs.declared.local.Local.TheVariants.{Ends, SendEnds}
-use Rattle.iox_wire_moments.specs.MomentsOf.{Pools}
-use Rattle.iox_wire_words.specs.Fits.{WireContents}
-use Rattle.iox_wire_locals.specs.declared.local.Ending.{Ending}
+use Rattle.iox_wire_calls.specs.Following.{message_at, message_ended}
+use Rattle.iox_wire_calls.proofs.MessageLists.{count_of_words, header_request}
+use Rattle.iox_wire_calls.specs.Local.TheVariants.{Ends, SendEnds}
+use Rattle.iox_wire_calls.specs.MomentsOf.{Pools}
+use Rattle.iox_wire_calls.specs.Fits.{WireContents}
+use Rattle.iox_wire_calls.specs.Ending.{Ending}
 use Rattle.iox_wire_keeps.specs.MessageEnds.{EndsAlone, PayloadStands, EndsLeaveMessages}
 use Rattle.iox_model.specs.Messages.{Message}
 use Rattle.iox_wire_calls.specs.LoanSlots.{HoldsLoan}
 use Rattle.iox_laws.proofs.WeaveLaws.MapLemmas.{eqb-refl}
-use Rattle.iox_wire_locals.specs.declared.local.Delivery.{Delivery}
-use Rattle.iox_wire_steps.specs.Over.{CallIsOver, EndsWith, IsDropped}
-use Rattle.iox_wire_laws.specs.WireRegions.OwnedBegins.{LayoutFits}
-use Rattle.iox_wire_locals.specs.Steps.{closed}
-use Rattle.iox_wire_locals.specs.declared.seat.Seat.{Seat}
-use Rattle.iox_wire_locals.specs.declared.table.NewLoan.{NewLoan}
-use Rattle.iox_wire_locals.specs.declared.table.Entry.{Entry}
-use Rattle.iox_wire_stands.specs.Stands.{AreNumbered}
+use Rattle.iox_wire_calls.specs.Delivery.{Delivery}
+use Rattle.iox_wire_calls.specs.Over.{CallIsOver, EndsWith, IsDropped}
+use Rattle.iox_wire_calls.specs.OwnedBegins.{LayoutFits}
+use Rattle.iox_wire_calls.specs.Steps.{closed}
+use Rattle.iox_wire_calls.specs.Seat.{Seat}
+use Rattle.iox_wire_calls.specs.NewLoan.{NewLoan}
+use Rattle.iox_wire_calls.specs.Entry.{Entry}
+use Rattle.iox_wire_calls.specs.Stands.{AreNumbered}
 use Rattle.iox_wire_calls.specs.Places.{IsNext, PlaceFits}
-use Rattle.iox_wire_steps.specs.WholeSteps.{held_closed}
+use Rattle.iox_wire_calls.specs.WholeSteps.{held_closed}
 use Rattle.iox_model.specs.Joins.{not_living}
-use Rattle.iox_wire_locals.specs.declared.local.Visit.{Visit}
+use Rattle.iox_wire_calls.specs.Visit.{Visit}
 use Rattle.iox_laws.proofs.WeaveLedger.Lists.{among-front, among-number, number-among}
-use Rattle.iox_wire_stands.specs.EndLaws.{IsAdded}
+use Rattle.iox_wire_calls.specs.EndLaws.{IsAdded}
 use Rattle.iox_wire_keeps.proofs.Stored.{header_elements}
-use Rattle.iox_wire_laws.specs.WireHolding.FarSlots.{IsInPool}
-use Rattle.iox_wire_locals.specs.Lendings.{next_handle}
-use Rattle.iox_wire_laws.specs.WireKeeping.UsedSlots.{slots_in_call, slots_used}
-use Rattle.iox_wire_stands.proofs.EndsKept.{ends_add_one_entry}
+use Rattle.iox_wire_calls.specs.FarSlots.{IsInPool}
+use Rattle.iox_wire_calls.specs.Lendings.{next_handle}
+use Rattle.iox_wire_calls.specs.UsedSlots.{slots_in_call, slots_used}
+use Rattle.iox_wire_calls.proofs.EndsKept.{ends_add_one_entry}
 use Rattle.iox_wire_keeps.proofs.FilledSlots.{filled_slot, payload_elsewhere, payload_there, elements_same, fills, fills_at}
 
 module _ (p : Setting) (held : Pools) (c : WireContents) (seats : ℕ → Seat) (s t : State) (n : ℕ) (payload : List ℕ)
@@ -170,7 +173,7 @@ module _ (p : Setting) (held : Pools) (c : WireContents) (seats : ℕ → Seat) 
 
     new_loan : (o : NewLoan) (slot : ℕ) → ending ≡ endings.Lends o slot → Ended (endings.Lends o slot) → PayloadStands p c payload (endings.Lends o slot)
         → IsStored p (held_closed p held payload (Some (endings.Lends o slot))) c o.port slot
-        × ((held_closed p held payload (Some (endings.Lends o slot)) o.port slot).elements ≡ o.elements)
+        × ((held_closed p held payload (Some (endings.Lends o slot)) o.port slot).elements ≡ o.elements) × EntrySuits p (entry_in o slot)
     new_loan o slot is ends found =
         let home : IsPortOfSeat p (seats n) o.port = (ends.3 o slot refl).0 in
         let now : held_closed p held payload (Some (endings.Lends o slot)) o.port slot ≡ record (held o.port slot) { payload = payload }
@@ -180,12 +183,15 @@ module _ (p : Setting) (held : Pools) (c : WireContents) (seats : ℕ → Seat) 
               (ap (λ (m : Message). length m.user) ends.2)
               (subst (λ (m : Message). m.elements ≤ (p.port o.port).longest) (sym ends.2) ends.0.0.0)
               (found.0 ∙ ap (λ (m : Message). m.elements * (port_shape p o.port).width) (sym ends.2))
-              (λ client. subst (λ (m : Message). m.lane < p.layout.sizes.lanes o.port) (sym ends.2)
-              (loan_lane p s.fixed (seats n) layout numbered ports calls.lanes o slot (ends.3 o slot refl) (ap (λ l. lent_in (message_at l)) (ends.6 o slot refl)) client))
+              (subst (IsAddressed p o.port) (sym ends.2) (
+                (ends.0.0.3 slot).small,
+                loan_lane p s.fixed (seats n) layout numbered ports calls.lanes o slot (ends.3 o slot refl) (ap (λ l. lent_in (message_at l)) (ends.6 o slot refl)),
+              ))
               (subst (StandFrom p c o.port slot 0 (words_in p held o.port slot)) (before_payload o (ends.0.0.2 ends.0.1))
               (subst (λ (m : Message). StandFrom p c o.port slot 0 (message_words (p.port o.port).role m) (length (loan_words p o))) (sym ends.2) ends.0.2))
               found.1,
           ap (λ (m : Message). m.elements) now ∙ ap (λ (m : Message). m.elements) ends.2,
+          ends.0.0.3 slot,
         )
 
     -- the entries of the node are in pools, but for one that is dropped
@@ -263,14 +269,23 @@ module _ (p : Setting) (held : Pools) (c : WireContents) (seats : ℕ → Seat) 
     abbrev Added : Ending → Entry → Type 0
     Added e q =
         IsStored p (held_closed p held payload (Some e)) c q.sender q.slot × ((held_closed p held payload (Some e) q.sender q.slot).elements ≡ q.elements)
+        × EntrySuits p q
+
+    -- a pending response is on the lane of its loan, and has its id
+    sent_suits : (k : Entry) (count : ℕ) → EntrySuits p k → EntrySuits p (sent_entry k count)
+    sent_suits k count suits = record { small = suits.small; lane = λ is. absurd (true≢false (sym is)) }
+
+    no_loan : (b : Bool) → is_response_loan (if b then kinds.Response else kinds.ActiveRequest) ≡ true → ⊥
+    no_loan true is = true≢false (sym is)
+    no_loan false is = true≢false (sym is)
 
     sent_added : (k : Entry) (copied : Bool) (count : ℕ) → ending ≡ endings.Sends k copied count → Ended (endings.Sends k copied count)
         → Added (endings.Sends k copied count) (sent_entry k count)
-    sent_added k true count is ends = ends.1
+    sent_added k true count is ends = (ends.1.0, ends.1.1, sent_suits k count ends.1.2)
     sent_added k false count is ends =
         let there : HasEntry (seats n) k = subst (EndsWith p t.fixed (seats n)) is over.message in
         let low : IsInPool p k.sender k.slot = low_of k (λ dropped. subst (λ e. IsDropped e k → ⊥) (sym is) (λ none. none) dropped) there in
-        ((has.nodes n living).entries k there low (λ its. ends.5 k its), (has.nodes n living).lengths k there low)
+        ((has.nodes n living).entries k there low (λ its. ends.5 k its), (has.nodes n living).lengths k there low, sent_suits k count ((has.nodes n living).suits k there low))
 
     received_added : (v : Visit) (u : Way) (slot : ℕ) (header : List ℕ) (number : ℕ) → Ended (endings.Receives v u slot header)
         → Added (endings.Receives v u slot header) (received_entry number v u slot header)
@@ -279,6 +294,13 @@ module _ (p : Setting) (held : Pools) (c : WireContents) (seats : ℕ → Seat) 
       sym (ap (λ xs. slice_index xs (received_length v - 1)) ends.0.0
           ∙ ap (λ r. slice_index (header_in p held u.sender slot) (header_length r - 1)) (sym ends.0.1)
           ∙ header_elements (p.port u.sender).role (held u.sender slot)),
+      record {
+        small = subst (λ i. i < 2 ^ 62)
+            (sym (ap (λ xs. slice_index xs (received_length v - 2)) ends.0.0
+            ∙ ap (λ r. slice_index (header_in p held u.sender slot) (header_length r - 2)) (sym ends.0.1)
+            ∙ header_request (p.port u.sender).role (held u.sender slot))) ends.1.addressed.0;
+        lane = λ is. absurd (no_loan (is_client v.role) is);
+      },
     )
 
     added : (e : Ending) → ending ≡ e → Ended e → PayloadStands p c payload e → (q : Entry) → IsAdded p (seats n) e q → Added e q
@@ -293,13 +315,14 @@ module _ (p : Setting) (held : Pools) (c : WireContents) (seats : ℕ → Seat) 
       where
         by_part : HasEntry (seats n) q ⊎ IsAdded p (seats n) ending q → Added ending q
         by_part (inl old) =
-            (old_entry ending refl ended q old low, elements_at ending ended q.sender q.slot ∙ (has.nodes n living).lengths q old low)
+            (old_entry ending refl ended q old low, elements_at ending ended q.sender q.slot ∙ (has.nodes n living).lengths q old low, (has.nodes n living).suits q old low)
         by_part (inr new_entry) = added ending refl ended stands q new_entry
 
     own_holds : HoldsStored p new c z
     own_holds = record {
       entries = λ q there low free. (entry_now q there low).0;
       lengths = λ q there low. (entry_now q there low).1;
+      suits = λ q there low. (entry_now q there low).2;
       call = tt;
       place = tt;
     }

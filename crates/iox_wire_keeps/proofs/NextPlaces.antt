@@ -1,55 +1,55 @@
 -- The place that an access leads to: what it goes through stands in the slots.
 use Rattle.iox_wire_keeps.proofs.Quiet.{IsQuiet, MovesWords}
 use Rattle.iox_wire_keeps.proofs.Quiet as quiet
-use Rattle.iox_wire_locals.specs.Findings as findings
-use Rattle.iox_wire_locals.specs.ReceiveCourses as receives
-use Rattle.iox_wire_locals.specs.Courses as courses
-use Rattle.iox_wire_locals.specs.declared.local.Ending.TheVariants as endings
-use Rattle.iox_wire_stands.specs.Following.{LeavesNothing, Leaving, message_at}
-use Rattle.iox_wire_locals.specs.declared.local.Local.TheVariants.{Ends, Idle, LendEmpties, LendStores, Reads, ReceiveAsks, ReceiveLoads, SendEnds, Writes}
-use Rattle.iox_wire_locals.specs.NewLoans.{entry_in, loan_words, message_in, received_length, request_in}
+use Rattle.iox_wire_calls.specs.Findings as findings
+use Rattle.iox_wire_calls.specs.ReceiveCourses as receives
+use Rattle.iox_wire_calls.specs.Courses as courses
+use Rattle.iox_wire_calls.specs.Ending.TheVariants as endings
+use Rattle.iox_wire_calls.specs.Following.{LeavesNothing, Leaving, message_at}
+use Rattle.iox_wire_calls.specs.Local.TheVariants.{Ends, Idle, LendEmpties, LendStores, Reads, ReceiveAsks, ReceiveLoads, SendEnds, Writes}
+use Rattle.iox_wire_calls.specs.NewLoans.{entry_in, loan_words, message_in, received_length, request_in}
 use Rattle.std.specs.Prelude.{Bool, List, None, [], length, refl, true, ℕ, ◌++◌, ◌+◌, ◌<◌, ◌==◌, ◌∷◌, ◌≡◌, ◌⊎◌}
 use Rattle.std.proofs.Common.{ap, arith, eqb-true, inl, inr, subst, sym, ◌∙◌}
 use Rattle.iox_wire_keeps.specs.Stored.{CallIsStored, GoesThrough, IsStored, IsWritten, LoanFits, SlotsHoldMessages}
-use Rattle.iox_wire_locals.specs.Steps.{accessed, advance}
-use Rattle.iox_wire_laws.specs.WireHolding.Holding.{held_after, held_from}
-use Rattle.iox_wire_locals.specs.Tables.{Setting, words_before_payload, words_to_read}
-use Rattle.iox_wire_words.specs.Fits.{WireContents, contents_after}
+use Rattle.iox_wire_calls.specs.Steps.{accessed, advance}
+use Rattle.iox_wire_calls.specs.Holding.{held_after, held_from}
+use Rattle.iox_wire_calls.specs.Tables.{Setting, words_before_payload, words_to_read}
+use Rattle.iox_wire_calls.specs.Fits.{WireContents, contents_after}
 use Rattle.iox_model.specs.Settings.{is_client, other_role}
-use Rattle.iox_wire_locals.specs.declared.local.Visit.{Visit}
-use Rattle.iox_wire_laws.proofs.WireRegions.MessageStores.{loans_are_stored, writes_are_stored}
+use Rattle.iox_wire_calls.specs.Visit.{Visit}
+use Rattle.iox_wire_calls.proofs.MessageStores.{loans_are_stored, writes_are_stored}
 use Rattle.iox_laws.proofs.WeaveLaws.MapLemmas.{either}
-use Rattle.iox_wire_words.specs.Programs.{program_access}
-use Rattle.iox_wire_laws.proofs.WireRegions.MessageLoads.{headers_tell_their_messages, reads_find_their_messages}
-use Rattle.iox_wire_laws.specs.WireRegions.StoredMessages.{AreFirst, HoldsMessage, StandFrom, header_in}
+use Rattle.iox_wire_calls.specs.Programs.{program_access}
+use Rattle.iox_wire_calls.proofs.MessageLoads.{headers_tell_their_messages, reads_find_their_messages}
+use Rattle.iox_wire_calls.specs.StoredMessages.{AreFirst, HoldsMessage, StandFrom, header_in}
 use Rattle.iox_model.specs.Weaves.{World}
 use Rattle.iox_model.specs.Messages.{names}
-use Rattle.iox_wire_moments.specs.MomentsOf.{Pools}
-use Rattle.iox_wire_laws.specs.WireHolding.SlotsKnown.{HasEntry, PlaceStands}
-use Rattle.iox_wire_laws.specs.WireRegions.OwnedWords.{Owns}
-use Rattle.iox_wire_laws.proofs.WireRegions.MessageLists.{all_first, header_count}
+use Rattle.iox_wire_calls.specs.MomentsOf.{Pools}
+use Rattle.iox_wire_calls.specs.SlotsKnown.{HasEntry, PlaceStands}
+use Rattle.iox_wire_calls.specs.OwnedWords.{Owns}
+use Rattle.iox_wire_calls.proofs.MessageLists.{all_first, header_count}
 use Rattle.iox_steps.specs.Accesses.{seen_by}
 use Rattle.iox_wire_calls.specs.Places.{PlaceFits}
-use Rattle.iox_wire_locals.specs.declared.local.Ending.{Ending}
+use Rattle.iox_wire_calls.specs.Ending.{Ending}
 use Rattle.iox_steps.specs.declared.side.QueueEvent.TheVariants.{HandOut, SeesEmpty}
 use Rattle.iox_model.specs.declared.way.Way.{Way}
-use Rattle.iox_wire_locals.specs.StepLaws.{ReliesOn}
+use Rattle.iox_wire_calls.specs.StepLaws.{ReliesOn}
 use Rattle.iox_laws.proofs.WeaveLedger.Views.{less}
-use Rattle.iox_wire_locals.specs.Locals.{program_of, state_told}
-use Rattle.iox_wire_laws.specs.WireHolding.FarSlots.{IsInPool}
+use Rattle.iox_wire_calls.specs.Locals.{program_of, state_told}
+use Rattle.iox_wire_calls.specs.FarSlots.{IsInPool}
 use Rattle.iox_steps.specs.declared.side.Popping.{Popping}
-use Rattle.iox_wire_locals.specs.declared.seat.Seat.{Seat}
-use Rattle.iox_wire_laws.specs.WireKeeping.Shows.{ShowsWorld, programs_of}
-use Rattle.iox_wire_locals.specs.declared.table.Entry.{Entry}
-use Rattle.iox_wire_locals.specs.Stored.{header_length}
+use Rattle.iox_wire_calls.specs.Seat.{Seat}
+use Rattle.iox_wire_calls.specs.Shows.{ShowsWorld, programs_of}
+use Rattle.iox_wire_calls.specs.Entry.{Entry}
+use Rattle.iox_wire_calls.specs.Stored.{header_length}
 use Rattle.iox_model.specs.Joins.{not_living}
-use Rattle.iox_wire_stands.specs.Nodes.{NodeStands}
+use Rattle.iox_wire_calls.specs.Nodes.{NodeStands}
 use Rattle.iox_wire_calls.specs.CallsStand.{CallStands}
-use Rattle.iox_wire_locals.specs.Known.{free_slots}
+use Rattle.iox_wire_calls.specs.Known.{free_slots}
 use Rattle.iox_steps.specs.declared.side.QueueEvent.{QueueEvent}
 use Rattle.iox_model.specs.declared.way.RequestState.{RequestState}
-use Rattle.iox_wire_locals.specs.declared.local.Local.{Local}
-use Rattle.iox_wire_locals.specs.declared.table.NewLoan.{NewLoan}
+use Rattle.iox_wire_calls.specs.Local.{Local}
+use Rattle.iox_wire_calls.specs.NewLoan.{NewLoan}
 use Rattle.iox_wire_calls.proofs.LanesTell.{low}
 
 module _ (p : Setting) (held : Pools) (word : ℕ → ℕ) (c : WireContents) (seats : ℕ → Seat) (w : World) (n : ℕ)

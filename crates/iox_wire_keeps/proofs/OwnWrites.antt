@@ -1,24 +1,24 @@
 -- Entries that are written are loans of their own ports.
 use Rattle.iox_model.specs.declared.kind.Kind.TheVariants as kinds
-use Rattle.iox_wire_locals.specs.declared.local.Ending.TheVariants as endings
-use Rattle.iox_wire_locals.specs.declared.local.Local.TheVariants.{Ends, Writes}
+use Rattle.iox_wire_calls.specs.Ending.TheVariants as endings
+use Rattle.iox_wire_calls.specs.Local.TheVariants.{Ends, Writes}
 use Rattle.std.specs.Prelude.{false, refl, ◌≡◌}
 use Rattle.std.proofs.Common.{subst, sym}
 use Rattle.iox_model.specs.Handles.{is_received}
 use Rattle.iox_wire_keeps.specs.Stored.{IsWritten}
-use Rattle.iox_wire_locals.specs.Tables.{Setting}
-use Rattle.iox_wire_moments.specs.MomentsOf.{Pools}
-use Rattle.iox_wire_laws.specs.WireHolding.SlotsKnown.{HasEntry, PlaceStands}
+use Rattle.iox_wire_calls.specs.Tables.{Setting}
+use Rattle.iox_wire_calls.specs.MomentsOf.{Pools}
+use Rattle.iox_wire_calls.specs.SlotsKnown.{HasEntry, PlaceStands}
 use Rattle.iox_wire_calls.specs.Places.{IsLoan, PlaceFits}
-use Rattle.iox_wire_locals.specs.declared.local.Ending.{Ending}
-use Rattle.iox_wire_locals.specs.declared.seat.Seat.{Seat}
-use Rattle.iox_wire_locals.specs.declared.table.Entry.{Entry}
-use Rattle.iox_wire_stands.specs.Nodes.{NodeStands}
-use Rattle.iox_wire_locals.specs.declared.local.Local.{Local}
+use Rattle.iox_wire_calls.specs.Ending.{Ending}
+use Rattle.iox_wire_calls.specs.Seat.{Seat}
+use Rattle.iox_wire_calls.specs.Entry.{Entry}
+use Rattle.iox_wire_calls.specs.Nodes.{NodeStands}
+use Rattle.iox_wire_calls.specs.Local.{Local}
 use Rattle.iox_model.specs.declared.kind.Kind.{Kind}
-use Rattle.iox_wire_locals.specs.declared.local.Ending.TheVariants as endings
+use Rattle.iox_wire_calls.specs.Ending.TheVariants as endings
 use Rattle.iox_model.specs.States.{State}
-use Rattle.iox_wire_locals.specs.Steps.{next}
+use Rattle.iox_wire_calls.specs.Steps.{next}
 use Rattle.iox_wire_calls.specs.Places.{CallFits}
 
 -- a loan that was written is no received message

@@ -6,41 +6,41 @@ use Rattle.iox_wire_keeps.proofs.Kept.{slot_itself}
 use Rattle.iox_steps.specs.Events.{rest, waiting_after}
 use Rattle.iox_steps.specs.declared.push.Push.TheVariants as push
 use Rattle.iox_steps.specs.declared.side.Pushing.TheVariants as pushing
-use Rattle.iox_wire_stands.specs.Following.{Sent, message_at}
+use Rattle.iox_wire_calls.specs.Following.{Sent, message_at}
 use Rattle.iox_steps.specs.Sides.{popping_event, pushing_event}
-use Rattle.iox_wire_locals.specs.declared.local.Local.TheVariants.{ReceiveReturns, ReleaseReturns, SendEvicts, SendGetsBack, SendLooks, SendPushes}
+use Rattle.iox_wire_calls.specs.Local.TheVariants.{ReceiveReturns, ReleaseReturns, SendEvicts, SendGetsBack, SendLooks, SendPushes}
 use Rattle.std.specs.Prelude.{Bool, List, None, [], false, if◌then◌else◌, refl, true, ℕ, ◌++◌, ◌==◌, ◌∷◌, ◌≡◌, ◌⊎◌}
 use Rattle.std.proofs.Common.{ap, inl, inr, subst, sym, ◌∙◌}
-use Rattle.iox_wire_laws.specs.WireKeeping.Writes.{is_slot_of}
+use Rattle.iox_wire_calls.specs.Writes.{is_slot_of}
 use Rattle.iox_wire_keeps.specs.Stored.{CallIsStored, IsStored, IsWritten, SlotsHoldMessages}
-use Rattle.iox_wire_locals.specs.Steps.{accessed}
-use Rattle.iox_wire_locals.specs.Tables.{Setting}
-use Rattle.iox_wire_words.specs.Fits.{WireContents, contents_after}
-use Rattle.iox_wire_locals.specs.declared.local.Delivery.{Delivery}
+use Rattle.iox_wire_calls.specs.Steps.{accessed}
+use Rattle.iox_wire_calls.specs.Tables.{Setting}
+use Rattle.iox_wire_calls.specs.Fits.{WireContents, contents_after}
+use Rattle.iox_wire_calls.specs.Delivery.{Delivery}
 use Rattle.iox_laws.proofs.WeaveLedger.Lists.{IsAmong, among-append, among-number, number-among}
 use Rattle.iox_word_map.specs.WordMaps.{MessageQueue}
-use Rattle.iox_wire_words.specs.Programs.{Pops, Program, Pushes, program_access, same_queue, site_of}
-use Rattle.iox_wire_laws.specs.WireRegions.StoredMessages.{StoresInto}
+use Rattle.iox_wire_calls.specs.Programs.{Pops, Program, Pushes, program_access, same_queue, site_of}
+use Rattle.iox_wire_calls.specs.StoredMessages.{StoresInto}
 use Rattle.iox_model.specs.Weaves.{World}
-use Rattle.iox_wire_moments.specs.MomentsOf.{Pools}
-use Rattle.iox_wire_laws.specs.WireHolding.SlotsKnown.{HasSent, PlaceStands}
-use Rattle.iox_wire_laws.specs.WireRegions.OwnedWords.{Owns}
+use Rattle.iox_wire_calls.specs.MomentsOf.{Pools}
+use Rattle.iox_wire_calls.specs.SlotsKnown.{HasSent, PlaceStands}
+use Rattle.iox_wire_calls.specs.OwnedWords.{Owns}
 use Rattle.iox_model.specs.Maps.{has_number}
 use Rattle.iox_steps.specs.Accesses.{seen_by}
 use Rattle.iox_steps.specs.declared.side.QueueEvent.TheVariants.{Evict, HandOut, Publish}
-use Rattle.iox_wire_words.proofs.PieceLemmas.{same_queue-true}
+use Rattle.iox_wire_calls.proofs.PieceLemmas.{same_queue-true}
 use Rattle.iox_model.specs.declared.way.Way.{Way}
-use Rattle.iox_wire_locals.specs.StepLaws.{ReliesOn}
-use Rattle.iox_wire_locals.specs.Locals.{program_of}
-use Rattle.iox_wire_laws.specs.WireHolding.FarSlots.{IsInPool, TakesFromPool}
+use Rattle.iox_wire_calls.specs.StepLaws.{ReliesOn}
+use Rattle.iox_wire_calls.specs.Locals.{program_of}
+use Rattle.iox_wire_calls.specs.FarSlots.{IsInPool, TakesFromPool}
 use Rattle.iox_steps.specs.declared.side.Popping.{Popping}
-use Rattle.iox_wire_pools.proofs.AccessesFound.{Only, only}
-use Rattle.iox_wire_laws.specs.WireHolding.Named.{place_names}
-use Rattle.iox_wire_locals.specs.declared.seat.Seat.{Seat}
-use Rattle.iox_wire_locals.specs.declared.table.Entry.{Entry}
+use Rattle.iox_wire_calls.proofs.AccessesFound.{Only, only}
+use Rattle.iox_wire_calls.specs.Named.{place_names}
+use Rattle.iox_wire_calls.specs.Seat.{Seat}
+use Rattle.iox_wire_calls.specs.Entry.{Entry}
 use Rattle.iox_model.specs.Joins.{not_living}
 use Rattle.iox_steps.specs.declared.side.QueueEvent.{QueueEvent}
-use Rattle.iox_wire_locals.specs.declared.local.Local.{Local}
+use Rattle.iox_wire_calls.specs.Local.{Local}
 use Rattle.iox_wire_calls.proofs.LanesTell.{low}
 
 module _ (p : Setting) (held : Pools) (word : ℕ → ℕ) (c : WireContents) (seats : ℕ → Seat) (w : World) (n : ℕ)

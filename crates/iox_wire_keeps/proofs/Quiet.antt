@@ -1,39 +1,39 @@
 -- Which courses of a call leave words of messages alone: their place neither lends, writes nor reads.
 use Rattle.iox_steps.specs.declared.side.Pushing.TheVariants as pushing
-use Rattle.iox_wire_locals.specs.Courses as courses
-use Rattle.iox_wire_locals.specs.ReceiveCourses as receives
-use Rattle.iox_wire_locals.specs.Findings as findings
-use Rattle.iox_wire_locals.specs.ReceiveFindings as found
-use Rattle.iox_wire_locals.specs.Steps as steps
-use Rattle.iox_wire_locals.specs.declared.local.Ending.TheVariants as endings
+use Rattle.iox_wire_calls.specs.Courses as courses
+use Rattle.iox_wire_calls.specs.ReceiveCourses as receives
+use Rattle.iox_wire_calls.specs.Findings as findings
+use Rattle.iox_wire_calls.specs.ReceiveFindings as found
+use Rattle.iox_wire_calls.specs.Steps as steps
+use Rattle.iox_wire_calls.specs.Ending.TheVariants as endings
 use Rattle.iox_model.specs.Peers.{forgot_port, others}
 use Rattle.iox_steps.specs.declared.side.QueueEvent.TheVariants.{Evict, HandOut, Learn, Publish, SeesEmpty, SeesFull, SeesRoom, SeesWaiting}
 use Rattle.iox_model.specs.Handles.{is_request_loan, same_kind}
 use Rattle.std.specs.Prelude.{Bool, List, None, Option, Some, [], false, if◌then◌else◌, map, not, refl, true, ◌&&◌, ◌+◌, ◌==◌, ◌∷◌, ◌≡◌, ℕ}
-use Rattle.iox_wire_locals.specs.declared.local.Local.TheVariants.{Ends, Idle, SendEnds, Checks, HintExchanges, Hints, LendEmpties, LendStores, Reads, ReceiveAsks, ReceiveLoads, ReceiveLooks, ReceivePops, ReceiveReturns, ReleaseCloses, ReleaseExchanges, ReleaseLooks, ReleaseReturns, Seeks, SendAsks, SendEmpties, SendEvicts, SendGetsBack, SendLooks, SendOpens, SendPushes, Writes}
-use Rattle.iox_wire_locals.specs.Known.{known, sending, told_handle}
+use Rattle.iox_wire_calls.specs.Local.TheVariants.{Ends, Idle, SendEnds, Checks, HintExchanges, Hints, LendEmpties, LendStores, Reads, ReceiveAsks, ReceiveLoads, ReceiveLooks, ReceivePops, ReceiveReturns, ReleaseCloses, ReleaseExchanges, ReleaseLooks, ReleaseReturns, Seeks, SendAsks, SendEmpties, SendEvicts, SendGetsBack, SendLooks, SendOpens, SendPushes, Writes}
+use Rattle.iox_wire_calls.specs.Known.{known, sending, told_handle}
 use Rattle.iox_model.specs.Messages.{names, names_with_hint, request_way}
 use Rattle.iox_steps.specs.declared.side.Pushing.{Pushing}
-use Rattle.iox_wire_locals.specs.declared.seat.Seat.{Seat}
-use Rattle.iox_wire_locals.specs.Tables.{Setting}
-use Rattle.iox_wire_locals.specs.declared.table.Entry.{Entry}
-use Rattle.iox_wire_locals.specs.Locals.{state_told}
-use Rattle.iox_wire_locals.specs.Desks.{at_desk, delivers, gets_back}
+use Rattle.iox_wire_calls.specs.Seat.{Seat}
+use Rattle.iox_wire_calls.specs.Tables.{Setting}
+use Rattle.iox_wire_calls.specs.Entry.{Entry}
+use Rattle.iox_wire_calls.specs.Locals.{state_told}
+use Rattle.iox_wire_calls.specs.Desks.{at_desk, delivers, gets_back}
 use Rattle.iox_model.specs.Requests.{is_active_spent, targets, to_open}
 use Rattle.iox_model.specs.declared.kind.Kind.TheVariants.{ActiveRequest}
 use Rattle.iox_model.specs.Maps.{has_number, not_in}
 use Rattle.iox_model.specs.declared.kind.Role.TheVariants.{Client, Server}
-use Rattle.iox_wire_locals.specs.Steps.{accessed, next}
+use Rattle.iox_wire_calls.specs.Steps.{accessed, next}
 use Rattle.iox_model.specs.Receives.{is_at_limit}
 use Rattle.iox_model.specs.Looks.{is_shown}
-use Rattle.iox_wire_locals.specs.declared.local.Delivery.{Delivery}
-use Rattle.iox_wire_locals.specs.declared.local.Local.{Local}
+use Rattle.iox_wire_calls.specs.Delivery.{Delivery}
+use Rattle.iox_wire_calls.specs.Local.{Local}
 use Rattle.iox_steps.specs.declared.side.QueueEvent.{QueueEvent}
 use Rattle.iox_model.specs.declared.way.RequestState.{RequestState}
 use Rattle.std.specs.List.{list_any}
 use Rattle.iox_steps.specs.declared.side.Popping.{Popping}
 use Rattle.iox_model.specs.declared.way.Way.{Way}
-use Rattle.iox_wire_locals.specs.declared.local.Visit.{Visit}
+use Rattle.iox_wire_calls.specs.Visit.{Visit}
 
 -- the place lends, writes and reads nothing, and loaded no word of a header
 abbrev pub IsQuiet : Local → Type 0

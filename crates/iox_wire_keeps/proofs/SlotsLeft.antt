@@ -1,50 +1,50 @@
 -- What an access leaves in the slots: only a free slot gets another message, only the slot that it
 -- stores into gets other words, and what other nodes hold stays.
-use Rattle.iox_wire_locals.specs.declared.local.Ending.TheVariants as endings
-use Rattle.iox_wire_stands.specs.Following.{CallMessage, Dropped, Follows, Leaving, NoMessage, Sent, Taken, lets_go, message_at, picks_slot, puts_aside, sends_loan, keeps, takes, drops}
-use Rattle.iox_wire_locals.specs.declared.local.Local.TheVariants.{Ends, LendStores, Writes}
-use Rattle.iox_wire_locals.specs.NewLoans.{entry_in, message_in}
+use Rattle.iox_wire_calls.specs.Ending.TheVariants as endings
+use Rattle.iox_wire_calls.specs.Following.{CallMessage, Dropped, Follows, Leaving, NoMessage, Sent, Taken, lets_go, message_at, picks_slot, puts_aside, sends_loan, keeps, takes, drops}
+use Rattle.iox_wire_calls.specs.Local.TheVariants.{Ends, LendStores, Writes}
+use Rattle.iox_wire_calls.specs.NewLoans.{entry_in, message_in}
 use Rattle.std.specs.Prelude.{None, false, refl, true, ℕ, ◌==◌, ◌≡◌, ◌⊎◌}
 use Rattle.std.proofs.Common.{ap, eq-eqb, inl, inr, subst, sym, true≢false, ◌∙◌}
 use Rattle.iox_wire_keeps.specs.Stored.{HoldsStored, IsStored, SlotsHoldMessages, StoresAt}
-use Rattle.iox_wire_locals.specs.Steps.{accessed, advance}
-use Rattle.iox_wire_laws.specs.WireHolding.Holding.{held_after, held_from, held_with}
-use Rattle.iox_wire_locals.specs.Tables.{Setting}
-use Rattle.iox_wire_stands.proofs.Follows.{accesses_follow}
-use Rattle.iox_wire_words.specs.Fits.{WireContents, contents_after}
-use Rattle.iox_wire_stands.proofs.SlotsFollow.{NotLent, held_not, held_picked, held_stays, not_stores}
+use Rattle.iox_wire_calls.specs.Steps.{accessed, advance}
+use Rattle.iox_wire_calls.specs.Holding.{held_after, held_from, held_with}
+use Rattle.iox_wire_calls.specs.Tables.{Setting}
+use Rattle.iox_wire_calls.proofs.Follows.{accesses_follow}
+use Rattle.iox_wire_calls.specs.Fits.{WireContents, contents_after}
+use Rattle.iox_wire_calls.proofs.SlotsFollow.{NotLent, held_not, held_picked, held_stays, not_stores}
 use Rattle.iox_model.specs.Responses.{copies}
-use Rattle.iox_wire_laws.proofs.WireRegions.MessageStores.{messages_stay}
+use Rattle.iox_wire_calls.proofs.MessageStores.{messages_stay}
 use Rattle.iox_laws.proofs.WeaveLaws.MapLemmas.{eqb-refl}
-use Rattle.iox_wire_words.specs.Programs.{program_access}
-use Rattle.iox_wire_laws.specs.WireRegions.StoredMessages.{StoresInto}
+use Rattle.iox_wire_calls.specs.Programs.{program_access}
+use Rattle.iox_wire_calls.specs.StoredMessages.{StoresInto}
 use Rattle.iox_laws.proofs.WeaveLedger.Truths.{or-left}
 use Rattle.iox_model.specs.Weaves.{World}
-use Rattle.iox_wire_moments.specs.MomentsOf.{Pools}
-use Rattle.iox_wire_laws.specs.WireHolding.SlotsKnown.{IsPortOfSeat, PlaceStands}
+use Rattle.iox_wire_calls.specs.MomentsOf.{Pools}
+use Rattle.iox_wire_calls.specs.SlotsKnown.{IsPortOfSeat, PlaceStands}
 use Rattle.iox_model.specs.Maps.{has_number}
 use Rattle.iox_steps.specs.Accesses.{seen_by}
 use Rattle.iox_wire_calls.specs.Places.{PlaceFits}
-use Rattle.iox_wire_locals.specs.declared.local.Ending.{Ending}
-use Rattle.iox_wire_laws.proofs.WireHolding.HoldingLaws.{one_slot_changes}
-use Rattle.iox_wire_locals.specs.StepLaws.{ReliesOn}
-use Rattle.iox_wire_stands.specs.Stands.{AreNumbered, OwnersAre}
-use Rattle.iox_wire_locals.specs.Locals.{program_of}
-use Rattle.iox_wire_pools.proofs.Counting.{used}
+use Rattle.iox_wire_calls.specs.Ending.{Ending}
+use Rattle.iox_wire_calls.proofs.HoldingLaws.{one_slot_changes}
+use Rattle.iox_wire_calls.specs.StepLaws.{ReliesOn}
+use Rattle.iox_wire_calls.specs.Stands.{AreNumbered, OwnersAre}
+use Rattle.iox_wire_calls.specs.Locals.{program_of}
+use Rattle.iox_wire_calls.proofs.Counting.{used}
 use Rattle.iox_wire_keeps.specs.Alone.{IsAlone}
 use Rattle.iox_wire_keeps.proofs.Kept.{Stays, named_entry, node_stays, stands_same, stores_at}
-use Rattle.iox_wire_locals.specs.declared.seat.Seat.{Seat}
-use Rattle.iox_wire_laws.specs.WireRegions.OwnedBegins.{LayoutFits}
-use Rattle.iox_wire_laws.specs.WireKeeping.Shows.{ShowsWorld}
+use Rattle.iox_wire_calls.specs.Seat.{Seat}
+use Rattle.iox_wire_calls.specs.OwnedBegins.{LayoutFits}
+use Rattle.iox_wire_calls.specs.Shows.{ShowsWorld}
 use Rattle.iox_wire_keeps.proofs.Alone.{stored_slots_are_alone}
 use Rattle.iox_model.specs.Joins.{not_living}
-use Rattle.iox_wire_stands.specs.Nodes.{NodeStands}
-use Rattle.iox_wire_laws.specs.WireHolding.HeldSteps.{FreeSlotsAreUnnamed}
+use Rattle.iox_wire_calls.specs.Nodes.{NodeStands}
+use Rattle.iox_wire_calls.specs.HeldSteps.{FreeSlotsAreUnnamed}
 use Rattle.iox_wire_calls.specs.CallsStand.{CallStands}
-use Rattle.iox_wire_locals.specs.Known.{free_slots}
-use Rattle.iox_wire_locals.specs.declared.local.Local.{Local}
-use Rattle.iox_wire_laws.proofs.WireHolding.FreeSlots.{free_slots_are_nobodys}
-use Rattle.iox_wire_locals.specs.declared.table.NewLoan.{NewLoan}
+use Rattle.iox_wire_calls.specs.Known.{free_slots}
+use Rattle.iox_wire_calls.specs.Local.{Local}
+use Rattle.iox_wire_calls.proofs.FreeSlots.{free_slots_are_nobodys}
+use Rattle.iox_wire_calls.specs.NewLoan.{NewLoan}
 use Rattle.iox_wire_keeps.proofs.OwnWrites.{written_own}
 
 module _ (p : Setting) (held : Pools) (word : ℕ → ℕ) (c : WireContents) (seats : ℕ → Seat) (w : World) (n : ℕ)
@@ -115,7 +115,7 @@ module _ (p : Setting) (held : Pools) (word : ℕ → ℕ) (c : WireContents) (s
   words_at port slot other stored = record {
     fits = stored.fits;
     words = messages_stay p held (seats n).node w.state.fixed w.state.request_state (seats n).local c seen port slot mine.owns.owns stored.fits other stored.words;
-    lane = stored.lane;
+    addressed = stored.addressed;
   }
 
   pub still_at : (port slot : ℕ) → (has_number slot (free_slots (seats n) port) ≡ true → ⊥) → (StoresInto (seats n).local port slot → ⊥) → Stays p held new c after port slot

@@ -1,63 +1,65 @@
 -- Slots hold their messages after the access of a step, and after the end of the call that it ends.
 use Rattle.iox_wire_calls.proofs.StepsTold.{over}
-use Rattle.iox_wire_locals.specs.declared.local.Ending.TheVariants as endings
-use Rattle.iox_wire_locals.specs.declared.local.Local.TheVariants.{Ends, SendEnds, Writes}
-use Rattle.iox_wire_laws.specs.WireHolding.Holding.{held_after, held_from}
+use Rattle.iox_wire_calls.specs.Ending.TheVariants as endings
+use Rattle.iox_wire_calls.specs.Local.TheVariants.{Ends, SendEnds, Writes}
+use Rattle.iox_wire_calls.specs.Holding.{held_after, held_from}
 use Rattle.iox_steps.specs.EventLists.{QueueState}
 use Rattle.iox_wire_keeps.proofs.StepParts.{bound_shown, came, payload_at, payload_stands, queues_same, shown_accesses, shown_busy, written_next}
 use Rattle.iox_model.specs.States.{State}
-use Rattle.iox_wire_locals.specs.Steps.{accessed, advance, closed, ending_at, next}
+use Rattle.iox_wire_calls.specs.Steps.{accessed, advance, closed, ending_at, next}
 use Rattle.std.specs.Prelude.{Bool, List, None, Option, Some, false, if◌then◌else◌, length, refl, true, ℕ, ◌<◌, ◌==◌, ◌^◌, ◌≡◌}
-use Rattle.iox_wire_locals.specs.Tables.{Setting, entry_at}
+use Rattle.iox_wire_calls.specs.Tables.{Setting, entry_at}
 use Rattle.iox_wire_keeps.specs.Stored.{HoldsStored, IsWritten, SlotsHoldMessages, StoresAt, WhatWaitsIsStored}
-use Rattle.iox_wire_stands.specs.Stands.{Player, seats_of, word_of}
-use Rattle.iox_wire_laws.specs.WireHolding.SlotsKnown.{HasEntry}
-use Rattle.iox_wire_steps.specs.Over.{CallIsOver, EndsWith}
+use Rattle.iox_wire_calls.specs.Stands.{Player, seats_of, word_of}
+use Rattle.iox_wire_calls.specs.SlotsKnown.{HasEntry}
+use Rattle.iox_wire_calls.specs.Over.{CallIsOver, EndsWith}
 use Rattle.iox_wire_calls.specs.CallsStand.{CallStands}
 use Rattle.iox_laws.proofs.WeaveLaws.MapLemmas.{eqb-refl}
-use Rattle.iox_wire_steps.specs.WholeSteps.{held_closed}
-use Rattle.iox_wire_locals.specs.declared.table.Entry.{Entry}
-use Rattle.iox_wire_locals.specs.declared.local.Ending.{Ending}
+use Rattle.iox_wire_calls.specs.WholeSteps.{held_closed}
+use Rattle.iox_wire_calls.specs.Entry.{Entry}
+use Rattle.iox_wire_calls.specs.Ending.{Ending}
 use Rattle.iox_laws.proofs.WeaveLaws.WholeLemmas.{some-is}
-use Rattle.iox_wire_stands.specs.Nodes.{NodeStands}
+use Rattle.iox_wire_calls.specs.Nodes.{NodeStands}
 use Rattle.iox_model.specs.Joins.{not_living}
-use Rattle.iox_wire_laws.specs.WireHolding.Named.{place_names}
+use Rattle.iox_wire_calls.specs.Named.{place_names}
 use Rattle.iox_wire_keeps.proofs.Stored.{stored_words_are_told}
-use Rattle.iox_wire_locals.specs.declared.seat.Seat.{Seat}
+use Rattle.iox_wire_calls.specs.Seat.{Seat}
 use Rattle.iox_wire_calls.specs.StepsTold.{MessageIsTold, PushesBelow}
 use Rattle.iox_wire_keeps.proofs.Accesses.{accesses_leave_messages}
-use Rattle.iox_wire_words.specs.Programs.{Program, program_access}
+use Rattle.iox_wire_calls.specs.Programs.{Program, program_access}
 use Rattle.std.proofs.Common.{ap, subst, sym, ◌∙◌}
 use Rattle.iox_wire_keeps.specs.MessageEnds.{EndsAlone}
-use Rattle.iox_wire_steps.proofs.Accessed.{HasNone, no_access}
+use Rattle.iox_wire_calls.proofs.Accessed.{HasNone, no_access}
 use Rattle.iox_wire_keeps.specs.Alone.{IsAlone}
 use Rattle.iox_wire_calls.proofs.LoanSlots.{accesses_keep_loans, loans_are_told}
-use Rattle.iox_wire_laws.specs.WireKeeping.Shows.{OwnsPlace}
-use Rattle.iox_wire_locals.specs.Known.{loans_at}
+use Rattle.iox_wire_calls.proofs.LanesSet.{lanes_are_set}
+use Rattle.iox_wire_calls.proofs.LaneSlots.{free_slots_have_lanes}
+use Rattle.iox_wire_calls.specs.Shows.{OwnsPlace}
+use Rattle.iox_wire_calls.specs.Known.{loans_at}
 use Rattle.iox_laws.proofs.WeaveLedger.Truths.{none-some}
 use Rattle.std.specs.List.{list_any}
-use Rattle.iox_wire_words.specs.Laws.{IsMade}
-use Rattle.iox_wire_laws.proofs.WireHolding.Aside.{shown_nodes_run_the_same}
+use Rattle.iox_wire_calls.specs.Laws.{IsMade}
+use Rattle.iox_wire_calls.proofs.Aside.{shown_nodes_run_the_same}
 use Rattle.iox_model.specs.Maps.{has_number, put_at}
 use Rattle.iox_steps.specs.Accesses.{seen_by}
-use Rattle.iox_wire_locals.specs.Locals.{program_of}
+use Rattle.iox_wire_calls.specs.Locals.{program_of}
 use Rattle.iox_wire_calls.specs.LoanSlots.{LoansStand, WordsAreTold}
 use Rattle.iox_wire_keeps.proofs.MessageEnds.{ends_leave_messages}
-use Rattle.iox_wire_locals.specs.StateMoments.{moment_at}
+use Rattle.iox_wire_calls.specs.StateMoments.{moment_at}
 use Rattle.iox_wire_calls.specs.Places.{IsLoan, PlaceFits}
-use Rattle.iox_wire_locals.specs.declared.local.Local.{Local}
-use Rattle.iox_wire_laws.specs.WireShows.OwnedCalls.{state_after}
-use Rattle.iox_wire_locals.specs.StepLaws.{ReliesOn}
-use Rattle.iox_wire_words.specs.Fits.{WireContents, contents_after}
+use Rattle.iox_wire_calls.specs.Local.{Local}
+use Rattle.iox_wire_calls.specs.OwnedCalls.{state_after}
+use Rattle.iox_wire_calls.specs.StepLaws.{ReliesOn}
+use Rattle.iox_wire_calls.specs.Fits.{WireContents, contents_after}
 use Rattle.iox_wire_calls.proofs.PlaceSteps.{accesses_fit}
-use Rattle.iox_wire_stands.specs.Runs.{Run}
+use Rattle.iox_wire_calls.specs.Runs.{Run}
 use Rattle.iox_wire_keeps.specs.WireStands.{WireStands}
-use Rattle.iox_wire_moments.specs.MomentsOf.{Pools}
-use Rattle.iox_wire_locals.specs.Begins.{is_busy}
+use Rattle.iox_wire_calls.specs.MomentsOf.{Pools}
+use Rattle.iox_wire_calls.specs.Begins.{is_busy}
 use Rattle.iox_word_map.specs.WordMaps.{MessageQueue, ReturningQueue, WireQueue}
-use Rattle.iox_wire_laws.proofs.WireRegions.OwnedPlaces.{owners_may_access}
-use Rattle.iox_wire_laws.proofs.WireKeeping.CountsKept.{steps_keep_own}
-use Rattle.iox_wire_laws.specs.WireKeeping.Writes.{is_slot_of}
+use Rattle.iox_wire_calls.proofs.OwnedPlaces.{owners_may_access}
+use Rattle.iox_wire_calls.proofs.CountsKept.{steps_keep_own}
+use Rattle.iox_wire_calls.specs.Writes.{is_slot_of}
 use Rattle.iox_wire_keeps.proofs.Alone.{stored_slots_are_alone}
 use Rattle.iox_wire_calls.proofs.StepsTold.{access_told, lanes}
 use Rattle.iox_wire_keeps.proofs.Bounds.{bounds_tell}
@@ -76,7 +78,7 @@ module _ (p : Setting) (words words' : List ℕ) (players : ℕ → Player) (r :
   pub node : NodeStands p wire.stands.held r.last.state (seats_of p players n)
   node = wire.stands.nodes n living
 
-  call : CallStands p wire.stands.held (seats_of p players n)
+  pub call : CallStands p wire.stands.held (seats_of p players n)
   call = wire.calls n living
 
   pub runs : program_of p (seats_of p players n).local ≡ program_of p (players n).seat.local
@@ -85,7 +87,7 @@ module _ (p : Setting) (words words' : List ℕ) (players : ℕ → Player) (r :
   pub same_seen : k ≡ j
   same_seen = ap (λ (g : Program). seen_by (program_access p.layout g) (word_of words)) runs
 
-  made_too : IsMade (program_access p.layout (program_of p (seats_of p players n).local)) (word_of words) (word_of words')
+  pub made_too : IsMade (program_access p.layout (program_of p (seats_of p players n).local)) (word_of words) (word_of words')
   made_too = subst (λ g. IsMade (program_access p.layout g) (word_of words) (word_of words')) (sym runs) made
 
   pub owns_place : OwnsPlace p wire.stands.held r.last.state (seats_of p players n)
@@ -102,7 +104,9 @@ module _ (p : Setting) (words words' : List ℕ) (players : ℕ → Player) (r :
       wire.stands.owners wire.stands.numbers node call.fits (wire.messages.nodes n living)
 
   all_told : MessageIsTold p wire.stands.held r.last.state (seats_of p players n) k (seats_of p players n).local
-  all_told = loans_are_told p wire.stands.held r.last.state (seats_of p players n) k node call.fits call.loans bound.1 told
+  all_told = loans_are_told p wire.stands.held r.last.state (seats_of p players n) k (lanes_are_set p words players r n wire.stands living) node call.fits call.loans
+      (free_slots_have_lanes p wire.stands.held (word_of words) wire.stands.contents (seats_of p players) r.last n wire.stands.shows living node call.lanes) call.lanes bound.1
+      told
 
   busy_too : is_busy (seats_of p players n).local ≡ true
   busy_too = shown_busy p (players n).seat (players n).seat.local refl busy
@@ -119,14 +123,14 @@ module _ (p : Setting) (words words' : List ℕ) (players : ℕ → Player) (r :
   abbrev payload : List ℕ
   payload = payload_at p after y.local
 
-  relies : ending_at (seats_of p players n).local ≡ None → ReliesOn p (accessed (seats_of p players n)) r.last.state wire.stands.held (seats_of p players n).local k
+  pub relies : ending_at (seats_of p players n).local ≡ None → ReliesOn p (accessed (seats_of p players n)) r.last.state wire.stands.held (seats_of p players n).local k
   relies going =
       (access_told p words words' players r n payload wire.stands living busy_too call.fits call.lanes bound.0 all_told made_too going).relies
 
   -- ---- after the access
 
   rested : HoldsStored p wire.stands.held wire.stands.contents (seats_of p players n) → HoldsStored p wire.stands.held wire.stands.contents (accessed (seats_of p players n))
-  rested has = record { entries = has.entries; lengths = has.lengths; call = has.call; place = has.place }
+  rested has = record { entries = has.entries; lengths = has.lengths; suits = has.suits; call = has.call; place = has.place }
 
   no_words : (local : Local) (ending : Ending) (seen : ℕ) → ending_at local ≡ Some ending → contents_after p.layout (program_of p local) seen wire.stands.contents ≡ wire.stands.contents
   no_words (Ends e) ending seen is = refl

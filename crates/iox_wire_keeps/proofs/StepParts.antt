@@ -1,51 +1,51 @@
 -- Parts of a whole step: the payload of a new loan, nodes as they are shown, pools that agree, and
 -- where the end of a call comes from.
-use Rattle.iox_wire_stands.specs.Following.{keeps, lets_go, takes, puts_aside, drops, picks_slot, sends_loan}
-use Rattle.iox_wire_locals.specs.declared.local.Ending.TheVariants as endings
-use Rattle.iox_wire_locals.specs.Courses as courses
+use Rattle.iox_wire_calls.specs.Following.{keeps, lets_go, takes, puts_aside, drops, picks_slot, sends_loan}
+use Rattle.iox_wire_calls.specs.Ending.TheVariants as endings
+use Rattle.iox_wire_calls.specs.Courses as courses
 use Rattle.iox_wire_keeps.proofs.Quiet as quiet
-use Rattle.iox_wire_locals.specs.declared.local.Local.TheVariants.{Checks, Ends, HintExchanges, Hints, LendEmpties, LendStores, Reads, ReceiveAsks, ReceiveLoads, ReleaseCloses, ReleaseExchanges, ReleaseLooks, ReleaseReturns, SendEnds, Writes}
+use Rattle.iox_wire_calls.specs.Local.TheVariants.{Checks, Ends, HintExchanges, Hints, LendEmpties, LendStores, Reads, ReceiveAsks, ReceiveLoads, ReleaseCloses, ReleaseExchanges, ReleaseLooks, ReleaseReturns, SendEnds, Writes}
 use Rattle.std.proofs.Common.{ap, arith, inl, inr, subst, sym, ◌∙◌}
 use Rattle.std.specs.Prelude.{List, Some, [], length, refl, slice_index, suc, true, zero, ℕ, ◌*◌, ◌++◌, ◌+◌, ◌<◌, ◌==◌, ◌∷◌, ◌≡◌, ◌≤◌, ◌⊎◌}
 use Rattle.iox_model.specs.declared.way.Way.{Way}
-use Rattle.iox_wire_locals.specs.declared.seat.Seat.{Seat}
-use Rattle.iox_wire_locals.specs.declared.local.Ending.{Ending}
-use Rattle.iox_wire_locals.specs.Tables.{Setting, entry_at, port_shape, region_word, words_before_payload, words_to_read}
-use Rattle.iox_wire_keeps.specs.Stored.{CallIsStored, GoesThrough, HoldsStored, IsStored, IsWritten, StandsWritten, StoresAt}
-use Rattle.iox_wire_locals.specs.Stored.{header_words, message_words}
-use Rattle.iox_wire_words.specs.Fits.{WireContents, contents_after}
-use Rattle.iox_wire_laws.specs.WireHolding.Aside.{aside, shown_at, with_aside, shown}
-use Rattle.iox_wire_locals.specs.NewLoans.{entry_in, loan_words}
-use Rattle.iox_wire_stands.specs.Following.{CallMessage, Dropped, Follows, LeavesNothing, Leaving, Lent, NoMessage, OfEntry, Sent, Taken, lets_go, message_at, picks_slot, puts_aside, sends_loan}
+use Rattle.iox_wire_calls.specs.Seat.{Seat}
+use Rattle.iox_wire_calls.specs.Ending.{Ending}
+use Rattle.iox_wire_calls.specs.Tables.{Setting, entry_at, port_shape, region_word, words_before_payload, words_to_read}
+use Rattle.iox_wire_keeps.specs.Stored.{CallIsStored, EntrySuits, GoesThrough, HoldsStored, IsAddressed, IsStored, IsWritten, StandsWritten, StoresAt}
+use Rattle.iox_wire_calls.specs.Stored.{header_words, message_words}
+use Rattle.iox_wire_calls.specs.Fits.{WireContents, contents_after}
+use Rattle.iox_wire_calls.specs.Aside.{aside, shown_at, with_aside, shown}
+use Rattle.iox_wire_calls.specs.NewLoans.{entry_in, loan_words}
+use Rattle.iox_wire_calls.specs.Following.{CallMessage, Dropped, Follows, LeavesNothing, Leaving, Lent, NoMessage, OfEntry, Sent, Taken, lets_go, message_at, picks_slot, puts_aside, sends_loan}
 use Rattle.iox_laws.proofs.WeaveLaws.MapLemmas.{either}
-use Rattle.iox_wire_locals.specs.Courses.{placed}
+use Rattle.iox_wire_calls.specs.Courses.{placed}
 use Rattle.iox_wire_keeps.specs.MessageEnds.{PayloadStands}
-use Rattle.iox_wire_laws.specs.WireHolding.SlotsKnown.{HasEntry, PlaceStands}
-use Rattle.iox_wire_words.specs.Programs.{pusher_of}
+use Rattle.iox_wire_calls.specs.SlotsKnown.{HasEntry, PlaceStands}
+use Rattle.iox_wire_calls.specs.Programs.{pusher_of}
 use Rattle.iox_wire_calls.specs.StepsTold.{PayloadFits}
-use Rattle.iox_wire_laws.specs.WireRegions.StoredMessages.{AreFirst, StandFrom, header_in}
+use Rattle.iox_wire_calls.specs.StoredMessages.{AreFirst, StandFrom, header_in}
 use Rattle.iox_laws.proofs.WeaveLedger.Views.{less}
-use Rattle.iox_wire_laws.specs.WireHolding.FarSlots.{IsInPool}
-use Rattle.iox_wire_stands.specs.Stands.{Player, seats_of}
+use Rattle.iox_wire_calls.specs.FarSlots.{IsInPool}
+use Rattle.iox_wire_calls.specs.Stands.{Player, seats_of}
 use Rattle.iox_model.specs.Messages.{Message}
-use Rattle.iox_wire_locals.specs.Steps.{accessed, advance, ending_at}
-use Rattle.iox_wire_locals.specs.WorkedCalls.{hinted}
+use Rattle.iox_wire_calls.specs.Steps.{accessed, advance, ending_at}
+use Rattle.iox_wire_calls.specs.WorkedCalls.{hinted}
 use Rattle.iox_model.specs.Receives.{took}
-use Rattle.iox_wire_moments.specs.MomentsOf.{Pools}
-use Rattle.iox_wire_locals.specs.declared.local.Local.{Local}
+use Rattle.iox_wire_calls.specs.MomentsOf.{Pools}
+use Rattle.iox_wire_calls.specs.Local.{Local}
 use Rattle.iox_wire_keeps.proofs.Kept.{stored_same}
 use Rattle.iox_laws.proofs.WeaveLedger.Truths.{none-some}
-use Rattle.iox_wire_stands.specs.Nodes.{NodeStands}
+use Rattle.iox_wire_calls.specs.Nodes.{NodeStands}
 use Rattle.iox_laws.proofs.WeaveLaws.WholeLemmas.{some-is}
-use Rattle.iox_wire_locals.specs.Locals.{program_of}
-use Rattle.iox_wire_stands.proofs.EndTables.{one_other}
-use Rattle.iox_wire_locals.specs.Begins.{is_busy}
+use Rattle.iox_wire_calls.specs.Locals.{program_of}
+use Rattle.iox_wire_calls.proofs.EndTables.{one_other}
+use Rattle.iox_wire_calls.specs.Begins.{is_busy}
 use Rattle.iox_model.specs.States.{State}
 use Rattle.iox_wire_keeps.proofs.Quiet.{IsQuiet}
-use Rattle.iox_wire_stands.proofs.Follows.{accesses_follow}
-use Rattle.iox_wire_locals.specs.Known.{loans_at}
+use Rattle.iox_wire_calls.proofs.Follows.{accesses_follow}
+use Rattle.iox_wire_calls.specs.Known.{count_on, loans_at}
 use Rattle.iox_wire_keeps.specs.Bounds.{AccessesBound}
-use Rattle.iox_wire_locals.specs.declared.table.Entry.{Entry}
+use Rattle.iox_wire_calls.specs.Entry.{Entry}
 
 -- ---- a payload
 
@@ -108,6 +108,16 @@ shown_busy p q (ReleaseLooks e) is busy = refl
 shown_busy p q (ReleaseExchanges e old) is busy = refl
 shown_busy p q local is busy = ap is_busy is ∙ busy
 
+shown_handles : (p : Setting) (q : Seat) (local : Local) → (shown_at p q local).handles_made ≡ q.handles_made
+shown_handles p q (ReleaseLooks e) = refl
+shown_handles p q (ReleaseExchanges e old) = refl
+shown_handles p q local = refl
+
+shown_count : (p : Setting) (q : Seat) (local : Local) (y : Way) → count_on (shown_at p q local) y ≡ count_on q y
+shown_count p q (ReleaseLooks e) y = refl
+shown_count p q (ReleaseExchanges e old) y = refl
+shown_count p q local y = refl
+
 pub bound_shown : (p : Setting) (c : WireContents) (players : ℕ → Player) → AccessesBound p c (λ n. (players n).seat) → AccessesBound p c (seats_of p players)
 bound_shown p c players bound = record {
   writes = λ q there.
@@ -116,6 +126,12 @@ bound_shown p c players bound = record {
   loans = λ k port.
       subst (λ a. a ≤ (shown p (players k).seat).accesses) (sym (shown_loans p (players k).seat (players k).seat.local port))
       (subst (λ a. loans_at (players k).seat port ≤ a) (sym (shown_accesses p (players k).seat (players k).seat.local)) (bound.loans k port));
+  handles = λ k.
+      subst (λ a. a ≤ (shown p (players k).seat).accesses) (sym (shown_handles p (players k).seat (players k).seat.local))
+      (subst (λ a. (players k).seat.handles_made ≤ a) (sym (shown_accesses p (players k).seat (players k).seat.local)) (bound.handles k));
+  borrowed = λ k y.
+      subst (λ a. a ≤ (shown p (players k).seat).accesses) (sym (shown_count p (players k).seat (players k).seat.local y))
+      (subst (λ a. count_on (players k).seat y ≤ a) (sym (shown_accesses p (players k).seat (players k).seat.local)) (bound.borrowed k y));
 }
 
 -- where a release put its entry aside, all other entries are as they were
@@ -125,6 +141,7 @@ aside_holds p held c q e local has message through at = record {
   entries = λ k there low free. by_part k (one_other k.number (aside p q.node e) q.table k there) low
       (λ old. has.entries k old low (λ its. nobody k at its)) (λ is. absurd (no_room k is low));
   lengths = λ k there low. by_length k (one_other k.number (aside p q.node e) q.table k there) low (λ old. has.lengths k old low) (λ is. absurd (no_room k is low));
+  suits = λ k there low. by_entry k (one_other k.number (aside p q.node e) q.table k there) low (λ old. has.suits k old low) (λ is. absurd (no_room k is low));
   call = message;
   place = through;
 }
@@ -150,6 +167,11 @@ aside_holds p held c q e local has message through at = record {
     by_length k (inl old) low first second = first old
     by_length k (inr is) low first second = second is
 
+    by_entry : (k : Entry) → (entry_at k.number q.table ≡ Some k) ⊎ (k ≡ aside p q.node e) → IsInPool p k.sender k.slot → (HasEntry q k → EntrySuits p k)
+        → (k ≡ aside p q.node e → EntrySuits p k) → EntrySuits p k
+    by_entry k (inl old) low first second = first old
+    by_entry k (inr is) low first second = second is
+
 pub shown_holds : (p : Setting) (held : Pools) (c : WireContents) (q : Seat) (local : Local) → q.local ≡ local → HoldsStored p held c q → HoldsStored p held c (shown_at p q local)
 shown_holds p held c q (ReleaseLooks e) is has = aside_holds p held c q e (ReleaseLooks (aside p q.node e)) has tt tt (inl is)
 shown_holds p held c q (ReleaseExchanges e old) is has = aside_holds p held c q e (ReleaseExchanges (aside p q.node e) old) has tt tt (inr (old, is))
@@ -164,7 +186,7 @@ module _ (p : Setting) (held new : Pools) (c : WireContents) (agree : (port slot
   call_agrees : (m : CallMessage) → CallIsStored p held c m → CallIsStored p new c m
   call_agrees (Taken w slot) stored = stored_agrees w.sender slot stored
   call_agrees (Sent e true) stored =
-      (stored_agrees e.sender e.slot stored.0, ap (λ (m : Message). m.elements) (agree e.sender e.slot stored.0.fits.in_pool) ∙ stored.1)
+      (stored_agrees e.sender e.slot stored.0, ap (λ (m : Message). m.elements) (agree e.sender e.slot stored.0.fits.in_pool) ∙ stored.1, stored.2)
   call_agrees m stored = tt
 
   written_agrees : (e : Entry) (words : List ℕ) (count : ℕ) → StandsWritten p held c e words count → StandsWritten p new c e words count
@@ -177,7 +199,7 @@ module _ (p : Setting) (held new : Pools) (c : WireContents) (agree : (port slot
           payload = ap (λ (m : Message). length m.payload) still ∙ fits.payload ∙ ap (λ (m : Message). m.elements * (port_shape p e.port).width) (sym still);
           room = subst (λ (m : Message). m.elements ≤ (p.port e.port).longest) (sym still) fits.room;
         },
-        λ client. subst (λ (m : Message). m.lane < p.layout.sizes.lanes e.port) (sym still) (lane client),
+        subst (IsAddressed p e.port) (sym still) lane,
         subst (λ (m : Message). StandFrom p c e.port e.slot 0 (message_words (p.port e.port).role m) (words_before_payload p e.port)) (sym still) head,
         tail,
         long,
@@ -208,6 +230,7 @@ module _ (p : Setting) (held new : Pools) (c : WireContents) (agree : (port slot
   node_agrees x low has = record {
     entries = λ e there in_pool free. stored_same p held new c e.sender e.slot (agree e.sender e.slot in_pool) (has.entries e there in_pool free);
     lengths = λ e there in_pool. ap (λ (m : Message). m.elements) (agree e.sender e.slot in_pool) ∙ has.lengths e there in_pool;
+    suits = has.suits;
     call = call_agrees (message_at x.local) has.call;
     place = place_agrees x x.local refl low has.call has.place;
   }

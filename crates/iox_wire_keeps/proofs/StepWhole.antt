@@ -1,50 +1,50 @@
 -- The whole step of a node leads from what stands to what stands.
 use Rattle.iox_wire_keeps.proofs.Forgotten.{counted_back, forgot_next, forgot_stays, members_stay, shown_forgot}
-use Rattle.iox_wire_locals.specs.declared.local.Local.TheVariants.{ReleaseExchanges, ReleaseLooks}
-use Rattle.iox_wire_laws.specs.WireHolding.Holding.{held_after}
+use Rattle.iox_wire_calls.specs.Local.TheVariants.{ReleaseExchanges, ReleaseLooks}
+use Rattle.iox_wire_calls.specs.Holding.{held_after}
 use Rattle.iox_wire_keeps.proofs.StepParts.{payload_at, node_agrees, payload_fits, reads_low, shown_holds, stored_agrees}
-use Rattle.iox_wire_locals.specs.Steps.{accessed, advance, closed, ending_at, next, tells}
+use Rattle.iox_wire_calls.specs.Steps.{accessed, advance, closed, ending_at, next, tells}
 use Rattle.std.specs.Prelude.{Bool, List, None, Option, false, if◌then◌else◌, length, refl, true, ℕ, ◌<◌, ◌==◌, ◌^◌, ◌≡◌, ◌⊎◌}
-use Rattle.iox_wire_locals.specs.Tables.{Setting}
+use Rattle.iox_wire_calls.specs.Tables.{Setting}
 use Rattle.iox_wire_keeps.specs.Stored.{HoldsStored, SlotsHoldMessages, WhatWaitsIsStored}
-use Rattle.iox_wire_stands.specs.Stands.{Player, seats_of, word_of, Stands}
+use Rattle.iox_wire_calls.specs.Stands.{Player, seats_of, word_of, Stands}
 use Rattle.iox_wire_calls.specs.CallsStand.{CallsStand}
 use Rattle.iox_laws.proofs.WeaveLaws.MapLemmas.{eqb-refl}
-use Rattle.iox_wire_steps.specs.WholeSteps.{held_closed, step_beats, GoesOnWith, HoldsNext, held_next, player_next}
+use Rattle.iox_wire_calls.specs.WholeSteps.{held_closed, step_beats, GoesOnWith, HoldsNext, held_next, player_next}
 use Rattle.iox_model.specs.declared.way.Way.{Way}
-use Rattle.iox_wire_locals.specs.declared.local.Ending.{Ending}
+use Rattle.iox_wire_calls.specs.Ending.{Ending}
 use Rattle.iox_model.specs.Peers.{is_counted_on, node_of_port}
 use Rattle.iox_laws.proofs.WeaveLaws.WholeLemmas.{not_living-members}
-use Rattle.iox_wire_stands.specs.Nodes.{NodeStands}
+use Rattle.iox_wire_calls.specs.Nodes.{NodeStands}
 use Rattle.iox_model.specs.Joins.{not_living}
-use Rattle.iox_wire_locals.specs.declared.seat.Seat.{Seat}
+use Rattle.iox_wire_calls.specs.Seat.{Seat}
 use Rattle.iox_wire_calls.specs.StepsTold.{PushesBelow, PayloadFits}
-use Rattle.iox_wire_laws.specs.WireHolding.Aside.{shown_at, shown}
-use Rattle.iox_wire_words.specs.Programs.{program_access}
+use Rattle.iox_wire_calls.specs.Aside.{shown_at, shown}
+use Rattle.iox_wire_calls.specs.Programs.{program_access}
 use Rattle.std.proofs.Common.{ap, subst, sym, true≢false, ◌∙◌, eqb-true, inl, inr}
-use Rattle.iox_wire_laws.specs.WireKeeping.Shows.{OwnsPlace}
-use Rattle.iox_wire_locals.specs.Known.{loans_at}
-use Rattle.iox_wire_words.specs.Laws.{IsMade}
+use Rattle.iox_wire_calls.specs.Shows.{OwnsPlace}
+use Rattle.iox_wire_calls.specs.Known.{loans_at}
+use Rattle.iox_wire_calls.specs.Laws.{IsMade}
 use Rattle.iox_model.specs.Maps.{has_number, put_at}
 use Rattle.iox_steps.specs.Accesses.{seen_by}
-use Rattle.iox_wire_locals.specs.Locals.{program_of}
+use Rattle.iox_wire_calls.specs.Locals.{program_of}
 use Rattle.iox_wire_calls.specs.LoanSlots.{WordsAreTold}
-use Rattle.iox_wire_locals.specs.StateMoments.{moment_at}
-use Rattle.iox_wire_locals.specs.declared.local.Local.{Local}
-use Rattle.iox_wire_words.specs.Fits.{WireContents, contents_after, MayRun}
-use Rattle.iox_wire_stands.specs.Runs.{Run}
+use Rattle.iox_wire_calls.specs.StateMoments.{moment_at}
+use Rattle.iox_wire_calls.specs.Local.{Local}
+use Rattle.iox_wire_calls.specs.Fits.{WireContents, contents_after, MayRun}
+use Rattle.iox_wire_calls.specs.Runs.{Run}
 use Rattle.iox_wire_keeps.specs.WireStands.{WireStands, SteppedWiresStand}
-use Rattle.iox_wire_moments.specs.MomentsOf.{Pools}
-use Rattle.iox_wire_locals.specs.Begins.{is_busy}
+use Rattle.iox_wire_calls.specs.MomentsOf.{Pools}
+use Rattle.iox_wire_calls.specs.Begins.{is_busy}
 use Rattle.iox_wire_keeps.proofs.Bounds.{steps_leave_bounds}
 use Rattle.iox_steps.specs.Sites.{last_position}
 use Rattle.iox_wire_calls.proofs.CallsStand.{stepped_calls_stand}
-use Rattle.iox_wire_stands.proofs.StepsAround.{Whole}
-use Rattle.iox_wire_steps.proofs.StepsWhole.{IsLeft, IsOther, IsReceiving, goes_alike, leaving_none, receiving}
-use Rattle.iox_wire_stands.specs.Following.{LeavesNothing, message_at}
+use Rattle.iox_wire_calls.proofs.StepsAround.{Whole}
+use Rattle.iox_wire_calls.proofs.StepsWhole.{IsLeft, IsOther, IsReceiving, goes_alike, leaving_none, receiving}
+use Rattle.iox_wire_calls.specs.Following.{LeavesNothing, message_at}
 use Rattle.iox_wire_keeps.specs.Bounds.{AccessesBound}
-use Rattle.iox_wire_stands.proofs.StepsKept.{shown_same}
-use Rattle.iox_wire_laws.specs.WireHolding.FarSlots.{IsInPool}
+use Rattle.iox_wire_calls.proofs.StepsKept.{shown_same}
+use Rattle.iox_wire_calls.specs.FarSlots.{IsInPool}
 use Rattle.iox_wire_keeps.proofs.StepMessages as messages
 
 module _ (p : Setting) (words words' : List ℕ) (players : ℕ → Player) (r : Run) (n : ℕ) (wire : WireStands p words players r)
@@ -253,7 +253,7 @@ module _ (p : Setting) (words words' : List ℕ) (players : ℕ → Player) (r :
     payload,
     stepped.0,
     stepped.1,
-    record { stands = stepped.2; calls = stepped.4; messages = messages_after; bounds = bounds_after },
+    record { stands = stepped.2; calls = stepped.4; messages = messages_after; bounds = bounds_after; sizes = wire.sizes },
   )
 
 pub stepped_wires_stand : SteppedWiresStand

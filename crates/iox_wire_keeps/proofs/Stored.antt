@@ -1,57 +1,57 @@
 -- What slots hold at first and after deaths, and what that tells the steps of a node.
-use Rattle.iox_wire_locals.specs.declared.local.Ending.TheVariants as endings
-use Rattle.iox_wire_stands.specs.Nodes.{NodeStands}
-use Rattle.iox_wire_locals.specs.NewLoans.{lane_in, received_length, request_in}
-use Rattle.iox_wire_locals.specs.declared.local.Local.TheVariants.{Ends, Reads, ReceiveAsks, ReceiveLoads}
+use Rattle.iox_wire_calls.specs.Ending.TheVariants as endings
+use Rattle.iox_wire_calls.specs.Nodes.{NodeStands}
+use Rattle.iox_wire_calls.specs.NewLoans.{lane_in, received_length, request_in}
+use Rattle.iox_wire_calls.specs.Local.TheVariants.{Ends, Reads, ReceiveAsks, ReceiveLoads}
 use Rattle.iox_steps.specs.Accesses.{seen_by}
-use Rattle.iox_wire_laws.specs.WireRegions.StoredMessages.{AreFirst, header_in}
+use Rattle.iox_wire_calls.specs.StoredMessages.{AreFirst, header_in}
 use Rattle.std.proofs.Common.{ap, arith, eqb-true, inl, inr, subst, sym, true≢false, ◌∙◌}
 use Rattle.iox_wire_keeps.specs.Stored.{CallIsStored, IsWritten, DeathsLeaveSlots, GoesThrough, HoldsStored, IsStored, OpenedSlotsHoldMessages, StoredWordsAreTold}
-use Rattle.iox_wire_locals.specs.declared.local.Visit.{Visit}
-use Rattle.iox_wire_stands.proofs.Ranges.{zero_word}
-use Rattle.iox_wire_laws.proofs.WireRegions.MessageLists.{all_first, header_count, header_request}
-use Rattle.iox_wire_locals.specs.Stored.{header_length, header_words}
-use Rattle.iox_wire_locals.specs.declared.seat.Seat.{Seat}
+use Rattle.iox_wire_calls.specs.Visit.{Visit}
+use Rattle.iox_wire_calls.proofs.Ranges.{zero_word}
+use Rattle.iox_wire_calls.proofs.MessageLists.{all_first, header_count, header_request}
+use Rattle.iox_wire_calls.specs.Stored.{header_length, header_words}
+use Rattle.iox_wire_calls.specs.Seat.{Seat}
 use Rattle.iox_wire_calls.specs.Places.{CallFits, PlaceFits}
 use Rattle.std.specs.Prelude.{Bool, List, None, Option, [], false, find, if◌then◌else◌, length, refl, replicate, slice_index, true, ℕ, ◌++◌, ◌+◌, ◌-◌, ◌<◌, ◌==◌, ◌∷◌, ◌≡◌, ◌⊎◌}
 use Rattle.iox_model.specs.declared.kind.Role.{Role}
 use Rattle.iox_word_map.specs.WordMaps.{IsQueue, IsResponseWay, IsWay, MessageQueue, WireQueue, total_words}
-use Rattle.iox_wire_laws.specs.WireRegions.OwnedWords.{Owns}
+use Rattle.iox_wire_calls.specs.OwnedWords.{Owns}
 use Rattle.iox_wire_calls.specs.LoanSlots.{WordsAreTold}
-use Rattle.iox_wire_steps.proofs.Received.{no_client, no_server}
-use Rattle.iox_wire_stands.specs.Stands.{AreNumbered, OwnersAre, word_of}
+use Rattle.iox_wire_calls.proofs.Received.{no_client, no_server}
+use Rattle.iox_wire_calls.specs.Stands.{AreNumbered, OwnersAre, word_of}
 use Rattle.iox_model.specs.Peers.{is_counted_on, ports_of_role, role_at}
 use Rattle.iox_steps.specs.Fits.{read_of, write_of}
-use Rattle.iox_wire_stands.proofs.Deaths.{lived}
+use Rattle.iox_wire_calls.proofs.Deaths.{lived}
 use Rattle.iox_wire_calls.specs.EndsTold.{HeaderIsTold}
-use Rattle.iox_wire_stands.specs.Following.{LeavesNothing, Leaving, message_at}
+use Rattle.iox_wire_calls.specs.Following.{LeavesNothing, Leaving, message_at}
 use Rattle.iox_model.specs.Maps.{has_number}
 use Rattle.iox_model.specs.States.{Fixed, Port}
 use Rattle.std.specs.Option.{option_map_or}
 use Rattle.iox_wire_calls.proofs.LanesTell.{port_there}
-use Rattle.iox_wire_laws.specs.WireRegions.OwnedBegins.{LayoutFits}
+use Rattle.iox_wire_calls.specs.OwnedBegins.{LayoutFits}
 use Rattle.iox_model.specs.Settings.{is_client, other_role}
 use Rattle.iox_laws.proofs.WeaveLedger.Truths.{false_if, none-some}
 use Rattle.iox_model.specs.Joins.{not_living}
-use Rattle.iox_wire_laws.specs.WireHolding.SlotsKnown.{HasEntry, PlaceStands}
-use Rattle.iox_wire_words.specs.Programs.{program_access, site_of}
-use Rattle.iox_wire_locals.specs.Knowing.{Knows}
-use Rattle.iox_wire_moments.specs.MomentsOf.{Pools}
-use Rattle.iox_wire_locals.specs.declared.table.Entry.{Entry}
+use Rattle.iox_wire_calls.specs.SlotsKnown.{HasEntry, PlaceStands}
+use Rattle.iox_wire_calls.specs.Programs.{program_access, site_of}
+use Rattle.iox_wire_calls.specs.Knowing.{Knows}
+use Rattle.iox_wire_calls.specs.MomentsOf.{Pools}
+use Rattle.iox_wire_calls.specs.Entry.{Entry}
 use Rattle.iox_model.specs.Weaves.{World}
-use Rattle.iox_wire_locals.specs.StepLaws.{ReliesOn}
-use Rattle.iox_wire_laws.proofs.WireRegions.MessageLoads.{headers_tell_their_messages, reads_find_their_messages}
-use Rattle.iox_wire_laws.specs.WireKeeping.Shows.{ShowsWorld, programs_of}
+use Rattle.iox_wire_calls.specs.StepLaws.{ReliesOn}
+use Rattle.iox_wire_calls.proofs.MessageLoads.{headers_tell_their_messages, reads_find_their_messages}
+use Rattle.iox_wire_calls.specs.Shows.{ShowsWorld, programs_of}
 use Rattle.iox_wire_calls.specs.StepsTold.{HeaderTells}
-use Rattle.iox_wire_locals.specs.declared.local.Ending.{Ending}
+use Rattle.iox_wire_calls.specs.Ending.{Ending}
 use Rattle.iox_model.specs.Messages.{Message, response_way}
 use Rattle.iox_model.specs.declared.way.Way.{Way}
 use Rattle.iox_model.specs.declared.kind.Role.TheVariants.{Client, Server}
-use Rattle.iox_wire_words.specs.Fits.{WireContents}
-use Rattle.iox_wire_locals.specs.Tables.{Setting}
-use Rattle.iox_wire_locals.specs.declared.local.Local.{Local}
-use Rattle.iox_wire_locals.specs.Locals.{program_of}
-use Rattle.iox_wire_laws.specs.WireHolding.FarSlots.{IsInPool}
+use Rattle.iox_wire_calls.specs.Fits.{WireContents}
+use Rattle.iox_wire_calls.specs.Tables.{Setting}
+use Rattle.iox_wire_calls.specs.Local.{Local}
+use Rattle.iox_wire_calls.specs.Locals.{program_of}
+use Rattle.iox_wire_calls.specs.FarSlots.{IsInPool}
 
 -- ---- as a wire opens
 
@@ -61,6 +61,7 @@ opened_slots_hold_messages p held c programs s fits = record {
   nodes = λ n lives. record {
     entries = λ e has low free. none-some e has;
     lengths = λ e has low. none-some e has;
+    suits = λ e has low. none-some e has;
     call = tt;
     place = tt;
   };
@@ -157,7 +158,7 @@ module _ (p : Setting) (held : Pools) (word : ℕ → ℕ) (c : WireContents) (s
     λ server. (
       lane server,
       subst (λ k. IsResponseWay p.layout.sizes (response_way y.sender k y.receiver)) (sym (lane server))
-          (asks v y (held y.sender slot).lane way role server message.fits.region.there (message.lane (ap is_client role ∙ client_is v.role server))),
+          (asks v y (held y.sender slot).lane way role server message.fits.region.there (message.addressed.1 (ap is_client role ∙ client_is v.role server))),
     ),
   )
     where

@@ -1,26 +1,26 @@
 -- Slots hold their messages after each access of a node.
 use Rattle.iox_model.specs.Joins.{not_living}
-use Rattle.iox_wire_moments.specs.MomentsOf.{Pools}
+use Rattle.iox_wire_calls.specs.MomentsOf.{Pools}
 use Rattle.iox_model.specs.Weaves.{World}
-use Rattle.iox_wire_words.specs.Fits.{WireContents, contents_after}
+use Rattle.iox_wire_calls.specs.Fits.{WireContents, contents_after}
 use Rattle.std.specs.Prelude.{None, true, ℕ, ◌≡◌}
-use Rattle.iox_wire_locals.specs.Steps.{accessed, advance}
-use Rattle.iox_wire_locals.specs.Locals.{program_of}
-use Rattle.iox_wire_locals.specs.StepLaws.{ReliesOn}
-use Rattle.iox_wire_laws.specs.WireHolding.Holding.{held_after}
-use Rattle.iox_wire_words.specs.Programs.{program_access}
+use Rattle.iox_wire_calls.specs.Steps.{accessed, advance}
+use Rattle.iox_wire_calls.specs.Locals.{program_of}
+use Rattle.iox_wire_calls.specs.StepLaws.{ReliesOn}
+use Rattle.iox_wire_calls.specs.Holding.{held_after}
+use Rattle.iox_wire_calls.specs.Programs.{program_access}
 use Rattle.iox_model.specs.Maps.{has_number, put_at}
-use Rattle.iox_wire_words.specs.Laws.{IsMade}
-use Rattle.iox_wire_locals.specs.Tables.{Setting}
-use Rattle.iox_wire_laws.specs.WireRegions.Regions.{HasRegion}
+use Rattle.iox_wire_calls.specs.Laws.{IsMade}
+use Rattle.iox_wire_calls.specs.Tables.{Setting}
+use Rattle.iox_wire_calls.specs.Regions.{HasRegion}
 use Rattle.iox_wire_keeps.specs.Stored.{SlotsHoldMessages}
-use Rattle.iox_wire_locals.specs.declared.seat.Seat.{Seat}
+use Rattle.iox_wire_calls.specs.Seat.{Seat}
 use Rattle.iox_steps.specs.Accesses.{seen_by}
 use Rattle.iox_wire_calls.specs.CallsStand.{CallStands}
-use Rattle.iox_wire_stands.specs.Stands.{AreNumbered, OwnersAre}
-use Rattle.iox_wire_laws.specs.WireKeeping.Shows.{ShowsWorld}
-use Rattle.iox_wire_stands.specs.Nodes.{NodeStands}
-use Rattle.iox_wire_laws.specs.WireRegions.OwnedBegins.{LayoutFits}
+use Rattle.iox_wire_calls.specs.Stands.{AreNumbered, OwnersAre}
+use Rattle.iox_wire_calls.specs.Shows.{ShowsWorld}
+use Rattle.iox_wire_calls.specs.Nodes.{NodeStands}
+use Rattle.iox_wire_calls.specs.OwnedBegins.{LayoutFits}
 
 -- An access of a living node in the midst of its call leaves slots that hold their messages, where
 -- all nodes stand and so do their calls: with what slots hold then, and what the words hold. (No

@@ -1,23 +1,23 @@
 -- A slot into which a node stores is its call's alone.
 use Rattle.iox_wire_keeps.specs.Stored.{IsWritten, StoresAt}
-use Rattle.iox_wire_locals.specs.declared.seat.Seat.{Seat}
-use Rattle.iox_wire_moments.specs.MomentsOf.{Pools}
+use Rattle.iox_wire_calls.specs.Seat.{Seat}
+use Rattle.iox_wire_calls.specs.MomentsOf.{Pools}
 use Rattle.std.specs.Prelude.{None, false, true, ℕ, ◌==◌, ◌≡◌}
-use Rattle.iox_wire_laws.specs.WireKeeping.Shows.{ShowsWorld}
-use Rattle.iox_wire_locals.specs.Tables.{Setting}
-use Rattle.iox_wire_laws.specs.WireHolding.SlotsKnown.{HasEntry}
-use Rattle.iox_wire_locals.specs.declared.table.Entry.{Entry}
+use Rattle.iox_wire_calls.specs.Shows.{ShowsWorld}
+use Rattle.iox_wire_calls.specs.Tables.{Setting}
+use Rattle.iox_wire_calls.specs.SlotsKnown.{HasEntry}
+use Rattle.iox_wire_calls.specs.Entry.{Entry}
 use Rattle.iox_model.specs.Weaves.{World}
-use Rattle.iox_wire_laws.specs.WireHolding.Named.{IsOnNoWay, place_names}
-use Rattle.iox_wire_laws.specs.WireRegions.OwnedBegins.{LayoutFits}
+use Rattle.iox_wire_calls.specs.Named.{IsOnNoWay, place_names}
+use Rattle.iox_wire_calls.specs.OwnedBegins.{LayoutFits}
 use Rattle.iox_model.specs.Joins.{not_living}
-use Rattle.iox_wire_stands.specs.Stands.{AreNumbered, OwnersAre}
+use Rattle.iox_wire_calls.specs.Stands.{AreNumbered, OwnersAre}
 use Rattle.iox_wire_calls.specs.Places.{CallFits}
 use Rattle.iox_model.specs.States.{State}
 use Rattle.std.specs.List.{list_any}
-use Rattle.iox_wire_laws.specs.WireKeeping.Writes.{is_slot_of}
-use Rattle.iox_wire_stands.specs.Nodes.{NodeStands}
-use Rattle.iox_wire_words.specs.Fits.{WireContents}
+use Rattle.iox_wire_calls.specs.Writes.{is_slot_of}
+use Rattle.iox_wire_calls.specs.Nodes.{NodeStands}
+use Rattle.iox_wire_calls.specs.Fits.{WireContents}
 
 -- No queue has the slot of a port on a way on which the sender counts, and no other living node
 -- names it; of the node's own entries only the one that its place writes does.

@@ -1,31 +1,35 @@
--- What the accesses of a node bound: how far its queues are written, and how many loans it made.
+-- What the accesses of a node bound: how far its queues are written, how many loans and handles it
+-- made, and how many messages it borrows.
 use Rattle.std.specs.Prelude.{◌≡◌, ◌≤◌, ◌<◌, ◌^◌, ℕ, None, replicate}
 use Rattle.iox_model.specs.Commands.{WireCall}
+use Rattle.iox_model.specs.declared.way.Way.{Way}
 use Rattle.iox_model.specs.Joins.{not_living}
 use Rattle.iox_model.specs.Maps.{put_at}
 use Rattle.iox_model.specs.Weaves.{World}
 use Rattle.iox_steps.specs.Sites.{last_position}
 use Rattle.iox_word_map.specs.WordMaps.{IsQueue, WireQueue, total_words}
-use Rattle.iox_wire_words.specs.Fits.{MayRun, WireContents, WordsFit, contents_after}
-use Rattle.iox_wire_words.specs.Programs.{Program, pusher_of}
-use Rattle.iox_wire_moments.specs.MomentsOf.{Pools}
-use Rattle.iox_wire_locals.specs.declared.seat.Seat.{Seat}
-use Rattle.iox_wire_locals.specs.Begins.{begin}
-use Rattle.iox_wire_locals.specs.Known.{loans_at}
-use Rattle.iox_wire_locals.specs.Locals.{program_of}
-use Rattle.iox_wire_locals.specs.Steps.{next}
-use Rattle.iox_wire_locals.specs.Tables.{Setting}
-use Rattle.iox_wire_laws.specs.WireKeeping.Shows.{OwnsPlace, ShowsWorld}
-use Rattle.iox_wire_stands.specs.Openings.{opened_seat}
-use Rattle.iox_wire_stands.specs.Stands.{word_of}
+use Rattle.iox_wire_calls.specs.Fits.{MayRun, WireContents, WordsFit, contents_after}
+use Rattle.iox_wire_calls.specs.Programs.{Program, pusher_of}
+use Rattle.iox_wire_calls.specs.MomentsOf.{Pools}
+use Rattle.iox_wire_calls.specs.Seat.{Seat}
+use Rattle.iox_wire_calls.specs.Begins.{begin}
+use Rattle.iox_wire_calls.specs.Known.{count_on, loans_at}
+use Rattle.iox_wire_calls.specs.Locals.{program_of}
+use Rattle.iox_wire_calls.specs.Steps.{next}
+use Rattle.iox_wire_calls.specs.Tables.{Setting}
+use Rattle.iox_wire_calls.specs.Shows.{OwnsPlace, ShowsWorld}
+use Rattle.iox_wire_calls.specs.Openings.{opened_seat}
+use Rattle.iox_wire_calls.specs.Stands.{word_of}
 use Rattle.iox_wire_calls.specs.StepsTold.{PushesBelow}
 
--- No queue's write position, and no port's count of loans, is above the number of accesses that its
--- node made.
+-- No queue's write position, no count of loans, of handles or of borrowed messages is above the
+-- number of accesses that its node made.
 pub record AccessesBound (p : Setting) (c : WireContents) (seats : ℕ → Seat) : Type 0 where
   pub writes : (q : WireQueue) → IsQueue p.layout.sizes q
       → (c.queues q).write ≤ (seats (pusher_of p.layout q)).accesses
   pub loans : (n port : ℕ) → loans_at (seats n) port ≤ (seats n).accesses
+  pub handles : (n : ℕ) → (seats n).handles_made ≤ (seats n).accesses
+  pub borrowed : (n : ℕ) (y : Way) → count_on (seats n) y ≤ (seats n).accesses
 
 -- So it is as a wire opens, whose words are all 0,
 abbrev pub OpenedWiresAreBound : Type 0

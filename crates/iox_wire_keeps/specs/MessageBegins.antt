@@ -1,35 +1,34 @@
 -- Slots hold their messages as a call begins, and so a wire stands.
-use Rattle.iox_model.specs.declared.call.Call.TheVariants.{Read, Write}
+use Rattle.iox_model.specs.declared.call.Call.TheVariants.{SendCopy, Write}
 use Rattle.iox_model.specs.declared.call.WireCall.TheVariants as wire_calls
-use Rattle.iox_wire_locals.specs.declared.local.Ending.TheVariants as endings
-use Rattle.iox_wire_locals.specs.declared.seat.Seat.{Seat}
-use Rattle.iox_wire_stands.specs.Stands.{Player}
-use Rattle.std.specs.Prelude.{Bool, false, List, None, [], length, true, ℕ, ◌*◌, ◌++◌, ◌<◌, ◌∷◌, ◌≡◌}
-use Rattle.iox_wire_locals.specs.declared.local.Local.TheVariants.{Ends, Idle, LendEmpties, LendStores, Writes}
-use Rattle.iox_wire_laws.specs.WireRegions.OwnedBegins.{LayoutFits}
-use Rattle.iox_model.specs.Commands.{WireCall}
-use Rattle.iox_wire_calls.specs.CallsStand.{moves_words}
+use Rattle.iox_wire_calls.specs.Ending.TheVariants as endings
+use Rattle.iox_wire_calls.specs.Seat.{Seat}
+use Rattle.iox_wire_calls.specs.Stands.{Player}
+use Rattle.std.specs.Prelude.{List, None, Some, [], length, ℕ, ◌*◌, ◌++◌, ◌<◌, ◌∷◌, ◌≡◌}
+use Rattle.iox_wire_calls.specs.Local.TheVariants.{Ends, Idle, LendEmpties, LendStores, Writes}
+use Rattle.iox_wire_calls.specs.OwnedBegins.{LayoutFits}
+use Rattle.iox_model.specs.Commands.{Payload, WireCall}
+use Rattle.iox_model.specs.Settings.{Limits, shape_of}
 use Rattle.iox_model.specs.Weaves.{Begins, World, begin_refusal}
-use Rattle.iox_wire_moments.specs.MomentsOf.{Pools}
-use Rattle.iox_wire_locals.specs.Begins.{begin}
+use Rattle.iox_wire_calls.specs.MomentsOf.{Pools}
+use Rattle.iox_wire_calls.specs.Begins.{begin}
 use Rattle.iox_wire_keeps.specs.WireStands.{WireStands}
-use Rattle.iox_wire_laws.specs.WireKeeping.Shows.{ShowsWorld}
-use Rattle.iox_wire_locals.specs.Tables.{Setting, port_shape}
+use Rattle.iox_wire_calls.specs.Shows.{ShowsWorld}
+use Rattle.iox_wire_calls.specs.Tables.{Setting, port_shape}
 use Rattle.iox_wire_keeps.specs.Stored.{LoanFits, SlotsHoldMessages}
-use Rattle.iox_wire_stands.specs.Runs.{Asked, GoesOnBy, Run}
-use Rattle.iox_wire_laws.specs.WireHolding.Holding.{held_at}
+use Rattle.iox_wire_calls.specs.Runs.{Asked, GoesOnBy, Run}
+use Rattle.iox_wire_calls.specs.Holding.{held_at}
 use Rattle.iox_model.specs.Joins.{not_living}
-use Rattle.iox_wire_locals.specs.declared.local.Local.{Local}
+use Rattle.iox_wire_calls.specs.Local.{Local}
 use Rattle.iox_model.specs.Maps.{put_at}
-use Rattle.iox_model.specs.States.{State}
 use Rattle.iox_wire_calls.specs.Places.{CallFits}
 use Rattle.iox_steps.specs.Sites.{last_position}
-use Rattle.iox_wire_laws.specs.WireRegions.OwnedWords.{Owns}
-use Rattle.iox_wire_laws.specs.WireKeeping.Readiness.{choice_for}
-use Rattle.iox_wire_stands.specs.Nodes.{NodeStands}
-use Rattle.iox_wire_words.specs.Fits.{WireContents}
+use Rattle.iox_wire_calls.specs.Readiness.{choice_for}
+use Rattle.iox_wire_calls.specs.Nodes.{NodeStands}
+use Rattle.iox_wire_calls.specs.Fits.{WireContents}
 
--- what is lent or written at the first place of a call is as long as it says
+-- what is lent or written at the first place of a call is as long as it says, and will be an entry
+-- as it may be
 abbrev pub FirstFits : Setting → Local → Type 0
 FirstFits p (LendEmpties o w place left) = LoanFits p o
 FirstFits p (LendStores o slot next) = LoanFits p o
@@ -53,27 +52,26 @@ BeginsLeaveMessages =
     → SlotsHoldMessages p (held_at p held (begin p x call).local) c
     (put_at seats n (begin p x call)) w.state
 
--- whether the call lends, sends or hints: all that moves words, but for writes and reads
-abbrev pub lends_or_sends : WireCall → Bool
-lends_or_sends (wire_calls.Port (Write n y)) = false
-lends_or_sends (wire_calls.Port (Read n)) = false
-lends_or_sends call = moves_words call
+-- the words of a payload are as many as its elements have, if it says how many these are
+abbrev pub PayloadIsWhole : Limits → Payload → Type 0
+PayloadIsWhole limits y =
+    (k : ℕ) → y.elements ≡ Some k → length y.words ≡ k * (shape_of limits y.role).width
 
--- What the begin of a call is still to be told: a call that lends, sends or hints owns its first
--- place, and what it lends or writes there is as long as it says.
-pub record FirstIsTold (p : Setting) (s : State) (x : Seat) (call : WireCall) : Type 0 where
-  pub owns : lends_or_sends call ≡ true
-      → Owns p x.node s.fixed s.request_state (begin p x call).local
-  pub fits : FirstFits p (begin p x call).local
+-- so it is with the words of a call
+abbrev pub WordsAreWhole : Limits → WireCall → Type 0
+WordsAreWhole limits (wire_calls.Port (Write n y)) = PayloadIsWhole limits y
+WordsAreWhole limits (wire_calls.Port (SendCopy n y)) = PayloadIsWhole limits y
+WordsAreWhole limits call = Unit {0}
 
 -- A call that is not refused leads from what stands to what stands, where its node made fewer
--- accesses than a queue has positions: it is one beat of the machine, and no word changes.
+-- accesses than a queue has positions, and the words that it brings are of whole elements: it is one
+-- beat of the machine, and no word changes. Nothing else need be told.
 abbrev pub BegunWiresStand : Type 0
 BegunWiresStand =
     (p : Setting) (words : List ℕ) (players : ℕ → Player) (r : Run) (n : ℕ) (call : WireCall)
     → WireStands p words players r
     → let x = (players n).seat in
-    x.accesses < last_position → FirstIsTold p r.last.state x call
+    x.accesses < last_position → WordsAreWhole p.limits call
     → begin_refusal r.last n call ≡ None
     → (next : Run) × GoesOnBy r (Begins n call (choice_for p x call)) next
     × WireStands p words

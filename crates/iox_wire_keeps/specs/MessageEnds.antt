@@ -1,26 +1,26 @@
 -- Slots hold their messages after the end of a call.
-use Rattle.iox_wire_locals.specs.declared.local.Ending.TheVariants as endings
-use Rattle.iox_wire_locals.specs.Steps.{closed}
+use Rattle.iox_wire_calls.specs.Ending.TheVariants as endings
+use Rattle.iox_wire_calls.specs.Steps.{closed}
 use Rattle.iox_wire_keeps.specs.Stored.{IsWritten, SlotsHoldMessages, StoresAt}
 use Rattle.iox_model.specs.Maps.{has_number, put_at}
-use Rattle.iox_wire_steps.specs.Over.{CallIsOver}
+use Rattle.iox_wire_calls.specs.Over.{CallIsOver}
 use Rattle.std.specs.Prelude.{List, None, Some, length, true, ℕ, ◌*◌, ◌≡◌, map}
 use Rattle.iox_model.specs.States.{State}
 use Rattle.iox_wire_calls.specs.CallsStand.{CallStands}
-use Rattle.iox_wire_laws.specs.WireRegions.StoredMessages.{StandFrom}
-use Rattle.iox_wire_locals.specs.Tables.{Setting, port_shape, words_before_payload}
-use Rattle.iox_wire_steps.specs.WholeSteps.{held_closed}
-use Rattle.iox_wire_laws.specs.WireRegions.Regions.{HasRegion}
-use Rattle.iox_wire_locals.specs.declared.table.Entry.{Entry}
-use Rattle.iox_wire_moments.specs.MomentsOf.{Pools}
-use Rattle.iox_wire_words.specs.Fits.{WireContents}
-use Rattle.iox_wire_locals.specs.declared.local.Local.TheVariants.{Ends}
-use Rattle.iox_wire_locals.specs.declared.seat.Seat.{Seat}
-use Rattle.iox_wire_locals.specs.declared.local.Ending.{Ending}
+use Rattle.iox_wire_calls.specs.StoredMessages.{StandFrom}
+use Rattle.iox_wire_calls.specs.Tables.{Setting, port_shape, words_before_payload}
+use Rattle.iox_wire_calls.specs.WholeSteps.{held_closed}
+use Rattle.iox_wire_calls.specs.Regions.{HasRegion}
+use Rattle.iox_wire_calls.specs.Entry.{Entry}
+use Rattle.iox_wire_calls.specs.MomentsOf.{Pools}
+use Rattle.iox_wire_calls.specs.Fits.{WireContents}
+use Rattle.iox_wire_calls.specs.Local.TheVariants.{Ends}
+use Rattle.iox_wire_calls.specs.Seat.{Seat}
+use Rattle.iox_wire_calls.specs.Ending.{Ending}
 use Rattle.iox_model.specs.Joins.{not_living}
 use Rattle.iox_wire_keeps.specs.Alone.{IsAlone}
-use Rattle.iox_wire_stands.specs.Stands.{AreNumbered}
-use Rattle.iox_wire_laws.specs.WireRegions.OwnedBegins.{LayoutFits}
+use Rattle.iox_wire_calls.specs.Stands.{AreNumbered}
+use Rattle.iox_wire_calls.specs.OwnedBegins.{LayoutFits}
 
 -- the payload of a new loan is what stands in its slot
 abbrev pub PayloadStands : Setting → WireContents → List ℕ → Ending → Type 0

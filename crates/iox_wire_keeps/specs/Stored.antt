@@ -1,47 +1,54 @@
 -- Which slots hold their messages: all that living nodes and queues name, but for the one that a
 -- node stores.
-use Rattle.iox_wire_locals.specs.declared.local.Ending.TheVariants as endings
-use Rattle.iox_wire_locals.specs.declared.table.NewLoan.{NewLoan}
-use Rattle.iox_wire_locals.specs.declared.table.Entry.{Entry}
+use Rattle.iox_wire_calls.specs.Ending.TheVariants as endings
+use Rattle.iox_wire_calls.specs.NewLoan.{NewLoan}
+use Rattle.iox_wire_calls.specs.Entry.{Entry}
 use Rattle.iox_model.specs.Weaves.{Dies, IsBeat, World}
-use Rattle.iox_wire_laws.specs.WireHolding.FarSlots.{IsInPool}
+use Rattle.iox_wire_calls.specs.FarSlots.{IsInPool}
 use Rattle.iox_model.specs.Joins.{not_living}
-use Rattle.iox_wire_locals.specs.declared.local.Local.TheVariants.{Ends, LendEmpties, LendStores, Reads, ReceiveAsks, ReceiveLoads, Writes}
-use Rattle.iox_wire_stands.specs.Following.{CallMessage, Sent, Taken, message_at}
-use Rattle.std.specs.Prelude.{List, None, [], false, length, replicate, true, ℕ, ◌*◌, ◌++◌, ◌<◌, ◌≡◌, ◌≤◌}
+use Rattle.iox_wire_calls.specs.Local.TheVariants.{Ends, LendEmpties, LendStores, Reads, ReceiveAsks, ReceiveLoads, Writes}
+use Rattle.iox_wire_calls.specs.Following.{CallMessage, Sent, Taken, message_at}
+use Rattle.std.specs.Prelude.{List, None, [], false, length, replicate, true, ℕ, ◌*◌, ◌++◌, ◌<◌, ◌^◌, ◌≡◌, ◌≤◌}
 use Rattle.iox_model.specs.Peers.{is_counted_on}
-use Rattle.iox_wire_locals.specs.Tables.{Setting, port_shape, words_before_payload}
-use Rattle.iox_wire_laws.specs.WireRegions.StoredMessages.{AreFirst, HasMessage, HoldsMessage, StandFrom, header_in, words_in}
+use Rattle.iox_wire_calls.specs.Tables.{Setting, port_shape, words_before_payload}
+use Rattle.iox_wire_calls.specs.StoredMessages.{AreFirst, HasMessage, HoldsMessage, StandFrom, header_in, words_in}
 use Rattle.iox_model.specs.declared.way.Way.{Way}
 use Rattle.iox_wire_calls.specs.LoanSlots.{WordsAreTold}
-use Rattle.iox_wire_locals.specs.declared.local.Local.{Local}
+use Rattle.iox_wire_calls.specs.Local.{Local}
 use Rattle.iox_wire_calls.specs.Places.{CallFits}
 use Rattle.iox_word_map.specs.WordMaps.{IsWay, MessageQueue, total_words}
-use Rattle.iox_wire_stands.specs.Nodes.{NodeStands}
-use Rattle.iox_wire_stands.specs.Openings.{opened_seat}
+use Rattle.iox_wire_calls.specs.Nodes.{NodeStands}
+use Rattle.iox_wire_calls.specs.Openings.{opened_seat}
 use Rattle.iox_model.specs.States.{Fixed, State}
-use Rattle.iox_wire_stands.specs.Stands.{AreNumbered, OwnersAre, word_of}
-use Rattle.iox_wire_laws.specs.WireRegions.OwnedBegins.{LayoutFits}
+use Rattle.iox_wire_calls.specs.Stands.{AreNumbered, OwnersAre, word_of}
+use Rattle.iox_wire_calls.specs.OwnedBegins.{LayoutFits}
 use Rattle.iox_model.specs.Maps.{has_number}
 use Rattle.iox_model.specs.Settings.{is_client, other_role}
-use Rattle.iox_wire_moments.specs.MomentsOf.{Pools}
-use Rattle.iox_wire_words.specs.Programs.{Program, program_access}
-use Rattle.iox_wire_laws.specs.WireHolding.SlotsKnown.{HasEntry}
-use Rattle.iox_wire_laws.specs.WireKeeping.Shows.{ShowsWorld}
-use Rattle.iox_wire_locals.specs.declared.seat.Seat.{Seat}
-use Rattle.iox_wire_words.specs.Fits.{WireContents, WordsFit}
-use Rattle.iox_wire_locals.specs.Locals.{program_of}
+use Rattle.iox_wire_calls.specs.MomentsOf.{Pools}
+use Rattle.iox_wire_calls.specs.Programs.{Program, program_access}
+use Rattle.iox_wire_calls.specs.SlotsKnown.{HasEntry}
+use Rattle.iox_wire_calls.specs.Shows.{ShowsWorld}
+use Rattle.iox_wire_calls.specs.Seat.{Seat}
+use Rattle.iox_wire_calls.specs.Fits.{WireContents, WordsFit}
+use Rattle.iox_wire_calls.specs.Locals.{program_of}
 use Rattle.iox_steps.specs.Accesses.{seen_by}
-use Rattle.iox_wire_locals.specs.NewLoans.{loan_words}
+use Rattle.iox_wire_calls.specs.NewLoans.{entry_in, loan_words}
+use Rattle.iox_model.specs.Handles.{is_response_loan}
+use Rattle.iox_model.specs.Messages.{Message}
 
 -- ---- slots
+
+-- a message has a small id, and a request is on a lane of its client
+abbrev pub IsAddressed : Setting → (port : ℕ) → Message → Type 0
+IsAddressed p port m =
+    (m.request < 2 ^ 62) × (is_client (p.port port).role ≡ true → m.lane < p.layout.sizes.lanes port)
 
 -- The message of a slot has the shape of its port, on a lane that it may have, and its words stand
 -- in the slot.
 pub record IsStored (p : Setting) (held : Pools) (c : WireContents) (port slot : ℕ) : Type 0 where
   pub fits : HasMessage p held port slot
   pub words : HoldsMessage p held c port slot
-  pub lane : is_client (p.port port).role ≡ true → (held port slot).lane < p.layout.sizes.lanes port
+  pub addressed : IsAddressed p port (held port slot)
 
 -- the place stores the words of this slot, or has just stored them
 abbrev pub StoresAt : Local → (port slot : ℕ) → Type 0
@@ -57,14 +64,23 @@ IsWritten (Ends (endings.Fills k words)) e = k ≡ e
 IsWritten (Writes k words next) e = k ≡ e
 IsWritten local e = ⊥
 
+-- ---- entries
+
+-- An entry has a small id, and a loan of a response is on a lane of its client.
+pub record EntrySuits (p : Setting) (e : Entry) : Type 0 where
+  pub small : e.request < 2 ^ 62
+  pub lane : is_response_loan e.kind ≡ true
+      → (has_number e.client p.layout.sizes.clients ≡ true) × (e.lane < p.layout.sizes.lanes e.client)
+
 -- ---- loans
 
--- a loan is no longer than its port allows, and has its payload if it is sent at once
+-- a loan is no longer than its port allows, has its payload if it is sent at once, and will be an
+-- entry as it may be
 abbrev pub LoanFits : Setting → NewLoan → Type 0
 LoanFits p o =
     (o.elements ≤ (p.port o.port).longest)
     × (o.copies ≡ true → length o.payload ≡ o.elements * (port_shape p o.port).width)
-    × (o.copies ≡ false → o.payload ≡ [])
+    × (o.copies ≡ false → o.payload ≡ []) × ((slot : ℕ) → EntrySuits p (entry_in o slot))
 
 -- ---- a call
 
@@ -73,15 +89,14 @@ abbrev pub CallIsStored : Setting → Pools → WireContents → CallMessage →
 CallIsStored p held c (Taken w slot) = IsStored p held c w.sender slot
 CallIsStored p held c (Sent e true) =
     IsStored p held c e.sender e.slot × ((held e.sender e.slot).elements ≡ e.elements)
+    × EntrySuits p e
 CallIsStored p held c other = Unit {0}
 
 -- the words before the payload of a message stand in the slot of the entry, and so many of these
 -- words behind them; they will be the payload
 abbrev pub StandsWritten : Setting → Pools → WireContents → Entry → List ℕ → ℕ → Type 0
 StandsWritten p held c e words count =
-    HasMessage p held e.port e.slot
-    × (is_client (p.port e.port).role ≡ true
-    → (held e.port e.slot).lane < p.layout.sizes.lanes e.port)
+    HasMessage p held e.port e.slot × IsAddressed p e.port (held e.port e.slot)
     × StandFrom p c e.port e.slot 0 (words_in p held e.port e.slot) (words_before_payload p e.port)
     × StandFrom p c e.port e.slot (words_before_payload p e.port) words count
     × (length words ≡ e.elements * (port_shape p e.port).width)
@@ -110,12 +125,14 @@ GoesThrough p held c local = Unit {0}
 -- ---- nodes and queues
 
 -- What is so of a living node: the messages of its entries are stored, but for the one that it
--- stores, and as long as the entries say; and so is what its call has.
+-- stores, and as long as the entries say; so is what its call has. (What a release gave back is in no
+-- pool any more.)
 pub record HoldsStored (p : Setting) (held : Pools) (c : WireContents) (x : Seat) : Type 0 where
   pub entries : (e : Entry) → HasEntry x e → IsInPool p e.sender e.slot
       → (IsWritten x.local e → ⊥) → IsStored p held c e.sender e.slot
   pub lengths : (e : Entry) → HasEntry x e → IsInPool p e.sender e.slot
       → (held e.sender e.slot).elements ≡ e.elements
+  pub suits : (e : Entry) → HasEntry x e → IsInPool p e.sender e.slot → EntrySuits p e
   pub call : CallIsStored p held c (message_at x.local)
   pub place : GoesThrough p held c x.local
 

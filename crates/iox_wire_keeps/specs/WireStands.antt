@@ -1,38 +1,44 @@
 -- All that is so of a wire between any two accesses, and that each step keeps it.
 use Rattle.iox_word_places.specs.Plans.{IsPlan}
 use Rattle.iox_word_places.specs.declared.plan.WirePlan.{WirePlan}
-use Rattle.iox_wire_locals.specs.Steps.{tells}
-use Rattle.std.specs.Prelude.{List, None, [], length, replicate, true, ℕ, ◌<◌, ◌≡◌}
+use Rattle.iox_wire_calls.specs.Steps.{tells}
+use Rattle.std.specs.Prelude.{List, None, [], false, length, replicate, true, ℕ, ◌<◌, ◌≡◌}
 use Rattle.iox_wire_keeps.specs.Bounds.{AccessesBound}
-use Rattle.iox_wire_locals.specs.StateMoments.{moment_at}
+use Rattle.iox_wire_calls.specs.StateMoments.{moment_at}
 use Rattle.iox_model.specs.WireCalls.{wire_refusal, opened}
 use Rattle.iox_model.specs.Weaves.{Dies, IsBeat, World, at_work}
-use Rattle.iox_wire_locals.specs.Locals.{program_of}
-use Rattle.iox_wire_steps.specs.WholeSteps.{GoesOnWith, player_next, step_beats}
-use Rattle.iox_model.specs.Maps.{put_at}
+use Rattle.iox_wire_calls.specs.Locals.{program_of}
+use Rattle.iox_wire_calls.specs.WholeSteps.{GoesOnWith, player_next, step_beats}
+use Rattle.iox_model.specs.Maps.{has_number, put_at}
 use Rattle.iox_model.specs.Joins.{not_living}
 use Rattle.iox_model.specs.States.{State}
-use Rattle.iox_wire_stands.specs.Stands.{Player, Stands, seats_of, word_of}
-use Rattle.iox_wire_locals.specs.Tables.{Setting}
+use Rattle.iox_wire_calls.specs.Stands.{Player, Stands, seats_of, word_of}
+use Rattle.iox_wire_calls.specs.Tables.{Setting}
 use Rattle.iox_wire_keeps.specs.Stored.{SlotsHoldMessages}
 use Rattle.iox_word_map.specs.WordMaps.{total_words}
-use Rattle.iox_wire_stands.specs.Openings.{AgreesWith, opened_seat}
-use Rattle.iox_wire_stands.specs.Runs.{GoesOnBy, Run}
-use Rattle.iox_wire_locals.specs.Begins.{is_busy}
+use Rattle.iox_wire_calls.specs.Openings.{AgreesWith, opened_seat}
+use Rattle.iox_wire_calls.specs.Runs.{GoesOnBy, Run}
+use Rattle.iox_wire_calls.specs.Begins.{is_busy}
 use Rattle.iox_steps.specs.Sites.{last_position}
-use Rattle.iox_wire_words.specs.Laws.{IsMade}
+use Rattle.iox_wire_calls.specs.Laws.{IsMade}
 use Rattle.iox_wire_calls.specs.CallsStand.{CallsStand}
-use Rattle.iox_wire_words.specs.Programs.{program_access}
+use Rattle.iox_wire_calls.specs.Programs.{program_access}
 use Rattle.iox_model.specs.Runs.{IsReachableState}
 use Rattle.iox_steps.specs.Accesses.{seen_by}
 
+-- no port of the wire has messages that may grow
+abbrev pub NoneGrows : Setting → Type 0
+NoneGrows p =
+    (port : ℕ) → has_number port p.layout.sizes.ports ≡ true → (p.port port).grows ≡ false
+
 -- The words and nodes stand for a run of the machine, all calls are where they may be, slots hold
--- the messages that are named, and accesses bound queues and loans.
+-- the messages that are named, accesses bound queues and loans, and no port grows.
 pub record WireStands (p : Setting) (words : List ℕ) (players : ℕ → Player) (r : Run) : Type 0 where
   pub stands : Stands p words players r
   pub calls : CallsStand p stands.held players r.last.state
   pub messages : SlotsHoldMessages p stands.held stands.contents (seats_of p players) r.last.state
   pub bounds : AccessesBound p stands.contents (λ n. (players n).seat)
+  pub sizes : NoneGrows p
 
 -- A wire that opens stands so.
 abbrev pub OpenedWiresStand : Type 0

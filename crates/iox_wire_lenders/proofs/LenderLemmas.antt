@@ -6,18 +6,18 @@ use Rattle.iox_model.specs.declared.kind.Role.TheVariants.{Client, Server}
 use Rattle.iox_model.specs.Loans.{fits_size}
 use Rattle.iox_model.specs.Settings.{Shape, has_layout, shape_of}
 use Rattle.iox_types.specs.Identifiers.{id_words}
-use Rattle.iox_word_places.specs.declared.plan.PlanPort.{PlanPort}
-use Rattle.iox_word_places.specs.declared.plan.WirePlan.{WirePlan}
-use Rattle.iox_word_places.specs.Plans.{IsPlan, number_at}
-use Rattle.iox_word_places.proofs.PlanLemmas.{number_is}
-use Rattle.iox_wire_layouts.specs.PlansOf.{IsAsPlanned}
-use Rattle.iox_wire_layouts.proofs.Planned.{each_planned}
+use Rattle.iox_wire_ways.specs.PlanPort.{PlanPort}
+use Rattle.iox_wire_ways.specs.WirePlan.{WirePlan}
+use Rattle.iox_wire_ways.specs.Plans.{IsPlan, number_at}
+use Rattle.iox_wire_ways.proofs.PlanLemmas.{number_is}
+use Rattle.iox_wire_ways.specs.PlansOf.{IsAsPlanned}
+use Rattle.iox_wire_ways.proofs.Planned.{each_planned}
 use Rattle.iox_wire_lenders.specs.declared.terms.PortTerms.{PortTerms}
 use Rattle.iox_wire_lenders.specs.declared.terms.WireTerms.{WireTerms}
 use Rattle.iox_wire_lenders.specs.Terms.{IsPortWith, IsSettingWith, messages_of}
-use Rattle.iox_wire_loans.specs.declared.lender.Lender.{Lender}
-use Rattle.iox_wire_loans.specs.Lenders.{AreSlots, IsClient, IsLender, IsServer}
-use Rattle.iox_wire_locals.specs.Tables.{Setting, port_shape}
+use Rattle.iox_wire_ways.specs.Lender.{Lender}
+use Rattle.iox_wire_ways.specs.Lenders.{AreSlots, IsClient, IsLender, IsServer}
+use Rattle.iox_wire_ways.specs.Tables.{Setting, port_shape}
 
 -- no message that fits lacks a layout
 size_fits : (grows : Bool) (longest k : ℕ) (layout : Bool) → grows ≡ false → (k ≤ longest → layout ≡ true)

@@ -6,10 +6,10 @@ use Rattle.iox_model.specs.declared.kind.Role.TheVariants.{Client, Server}
 use Rattle.iox_model.specs.Settings.{fails_by_strategy}
 use Rattle.iox_model.specs.Settings.{Shape, has_layout, shape_of}
 use Rattle.iox_model.specs.States.{Port}
-use Rattle.iox_word_places.specs.declared.plan.WirePlan.{WirePlan}
-use Rattle.iox_word_places.specs.Plans.{details_of, number_at}
-use Rattle.iox_wire_locals.specs.Tables.{Setting, port_shape}
-use Rattle.iox_wire_layouts.specs.PlansOf.{IsSettingOf}
+use Rattle.iox_wire_ways.specs.WirePlan.{WirePlan}
+use Rattle.iox_wire_ways.specs.Plans.{details_of, number_at}
+use Rattle.iox_wire_ways.specs.Tables.{Setting, port_shape}
+use Rattle.iox_wire_ways.specs.PlansOf.{IsSettingOf}
 use Rattle.iox_wire_lenders.specs.declared.terms.MessageTerms.{MessageTerms}
 use Rattle.iox_wire_lenders.specs.declared.terms.PortTerms.{PortTerms}
 use Rattle.iox_wire_lenders.specs.declared.terms.WireTerms.{WireTerms}

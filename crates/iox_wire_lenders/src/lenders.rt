@@ -1,17 +1,16 @@
 //! The lender of a port, from the map and the terms of a wire.
 ghost use Rattle.std.specs.Prelude.{◌≡◌, IfOk, OnOk};
 ghost use Rattle.iox_model.specs.declared.kind.Role.TheVariants.{Client, Server};
-ghost use Rattle.iox_word_places.specs.Plans.{IsPortAt, IsSlotAt, number_at};
+ghost use Rattle.iox_wire_ways.specs.Plans.{IsPortAt, IsSlotAt, number_at};
 ghost use Rattle.iox_wire_lenders.specs.Terms.{FitsPlan, IsSettingWith};
-ghost use Rattle.iox_wire_loans.specs.Lenders.{IsClient, IsLender, IsServer, IsWhole};
-ghost use Rattle.iox_wire_locals.specs.Tables.{Setting};
-ghost use Rattle.iox_wire_ways.specs.PlannedSlots.{HasHeader};
+ghost use Rattle.iox_wire_ways.specs.Lenders.{IsClient, IsLender, IsServer, IsWhole};
+ghost use Rattle.iox_wire_ways.specs.Tables.{Setting};
+ghost use Rattle.iox_wire_ways.specs.PlannedSlots.{HasHeader, longest_of, planned_slots};
+ghost use Rattle.iox_wire_ways.specs.Visits.{pool_of};
 
 use crate::terms::WireTerms;
 use iox_model::kind::Role;
-use iox_wire_loans::Lender;
-use iox_wire_ways::slot_places;
-use iox_word_places::WordMap;
+use iox_wire_ways::{Lender, WordMap, slot_places};
 use std::alloc::{AllocError, Global};
 
 /// These words in memory of their own.
@@ -23,13 +22,14 @@ fn copied(alloc: Global, words: &[u64]) -> Result<Vec<u64>, AllocError>
     Ok(copy)
 }
 
-/// The lender of the port at an index, as the map and the terms of the wire tell it. It is not told
-/// yet how many messages may return on each of its ways.
+/// The lender of the port at an index, as the map and the terms of the wire tell it. So many
+/// messages may return on each of its ways.
 pub fn make_lender(
     alloc: Global,
     map: &WordMap,
     terms: &WireTerms,
     port: usize,
+    room: usize,
 ) -> Result<Lender, AllocError>
     requires slot { IsSlotAt map.now port 0 }
     requires header { HasHeader map.now port }
@@ -42,6 +42,11 @@ pub fn make_lender(
         → IsPortAt map.now Server port → IfOk result (λ lender. IsServer p lender) }
     ensures whole { IfOk result IsWhole }
     ensures number { IfOk result (λ lender. lender.port ≡ number_at map.now port) }
+    ensures room { IfOk result (λ lender. lender.room ≡ room) }
+    ensures places { IfOk result (λ lender. lender.places ≡ planned_slots map.now port) }
+    ensures longest { IfOk result (λ lender. lender.longest
+        ≡ longest_of map.now (number_at map.now port)) }
+    ensures pool { IfOk result (λ lender. lender.pool ≡ pool_of map.now (number_at map.now port)) }
 {
     let plan = map.plan();
     let at = plan.ports[port];
@@ -60,7 +65,7 @@ pub fn make_lender(
         limit,
         each,
         pool: at.pool as u64,
-        room: 0,
+        room,
         ids: copied(alloc, &own.ids)?,
         user: copied(alloc, &messages.user)?,
         places: slot_places(map, port),

@@ -8,9 +8,13 @@ ghost use Rattle.iox_wire_locals.specs.Tables.{Setting, words_to_read};
 ghost use Rattle.iox_wire_layouts.specs.PlansOf.{IsSettingOf};
 ghost use Rattle.iox_wire_seats.specs.Aims.{IsPayloadAt, StandAt};
 
-use iox_wire_seats::MessagePlaces;
+pub use iox_wire_layouts::is_plan;
+pub use iox_wire_locals::{Borrowed, Entry, Visit};
+pub use iox_wire_seats::{
+    Counts, Desks, Entries, MessagePlaces, Popper, Pusher, SeatReply, Stop, StoredDesk, StoredSeat,
+};
 use iox_word_map::MessagePart;
-use iox_word_places::WordMap;
+pub use iox_word_places::{PlanLimits, PlanPort, WayIndex, WirePlan, WordMap, WordMapNewError};
 
 /// Where the words of the message in a slot of a port stand.
 pub fn message_places(map: &WordMap, port: usize, slot: usize) -> MessagePlaces

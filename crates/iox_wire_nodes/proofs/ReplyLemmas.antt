@@ -1,8 +1,8 @@
 -- What a node answers, by the call that is under way.
 use Rattle.std.proofs.Common.{◌≡◌, ℕ, List, Option, sym, subst}
 use Rattle.std.specs.Option.{option_map}
-use Rattle.iox_wire_locals.specs.Steps.{tells}
-use Rattle.iox_wire_locals.specs.Tables.{Setting}
+use Rattle.iox_wire_begins.specs.Steps.{tells}
+use Rattle.iox_wire_begins.specs.Tables.{Setting}
 use Rattle.iox_wire_nodes.specs.declared.call_at.CallAt.{CallAt}
 use Rattle.iox_wire_nodes.specs.declared.call_at.NodeReply.{NodeReply}
 use Rattle.iox_wire_nodes.specs.Aims.{IsAimed}

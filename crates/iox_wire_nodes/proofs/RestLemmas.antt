@@ -9,27 +9,27 @@ use Rattle.iox_model.specs.declared.kind.Role.{Role}
 use Rattle.iox_model.specs.declared.kind.Role.TheVariants.{Client, Server}
 use Rattle.iox_model.specs.Commands.{WireCall}
 use Rattle.iox_model.specs.Names.{suits}
-use Rattle.iox_word_places.specs.declared.plan.PlanPort.{PlanPort}
-use Rattle.iox_word_places.specs.declared.plan.WirePlan.{WirePlan}
-use Rattle.iox_word_places.specs.Plans.{IsPlan, IsPortAt, number_at, port_of, role_of}
-use Rattle.iox_word_places.proofs.PlanLemmas.{port_is}
-use Rattle.iox_wire_locals.specs.declared.local.Local.{Local}
-use Rattle.iox_wire_locals.specs.declared.local.Local.TheVariants.{Idle}
-use Rattle.iox_wire_locals.specs.declared.seat.Seat.{Seat}
-use Rattle.iox_wire_handle_calls.specs.HandleCalls as handles
-use Rattle.iox_wire_locals.specs.Begins.{begin, is_busy, refusal_at}
-use Rattle.iox_wire_locals.specs.Courses.{placed}
-use Rattle.iox_wire_locals.specs.Lendings.{next_handle}
-use Rattle.iox_wire_locals.specs.Tables.{Setting}
-use Rattle.iox_wire_receives.specs.Aims as receives
-use Rattle.iox_wire_receives.specs.Receipts.{Receipt}
-use Rattle.iox_wire_seats.specs.Seats.{Placed}
+use Rattle.iox_wire_begins.specs.PlanPort.{PlanPort}
+use Rattle.iox_wire_begins.specs.WirePlan.{WirePlan}
+use Rattle.iox_wire_begins.specs.Plans.{IsPlan, IsPortAt, number_at, port_of, role_of}
+use Rattle.iox_wire_begins.proofs.PlanLemmas.{port_is}
+use Rattle.iox_wire_begins.specs.Local.{Local}
+use Rattle.iox_wire_begins.specs.Local.TheVariants.{Idle}
+use Rattle.iox_wire_begins.specs.Seat.{Seat}
+use Rattle.iox_wire_begins.specs.HandleCalls as handles
+use Rattle.iox_wire_begins.specs.Begins.{begin, is_busy, refusal_at}
+use Rattle.iox_wire_begins.specs.Courses.{placed}
+use Rattle.iox_wire_begins.specs.Lendings.{next_handle}
+use Rattle.iox_wire_begins.specs.Tables.{Setting}
+use Rattle.iox_wire_begins.specs.ReceivesAims as receives
+use Rattle.iox_wire_begins.specs.Receipts.{Receipt}
+use Rattle.iox_wire_begins.specs.Seats.{Placed}
 use Rattle.iox_wire_nodes.specs.Begins.{IsBegun}
 use Rattle.iox_wire_nodes.specs.declared.call_at.CallAt.{CallAt}
 use Rattle.iox_wire_nodes.specs.declared.call_at.CallAt.TheVariants as at
 use Rattle.iox_wire_nodes.specs.Nodes.{Node, RestsUnless, same_call, seat_at, seat_in}
 
-idle_is : (l : Local) → is_busy l ≡ false → l ≡ Idle
+pub idle_is : (l : Local) → is_busy l ≡ false → l ≡ Idle
 idle_is Idle rests = refl
 idle_is _ rests = absurd (true≢false rests)
 
@@ -111,3 +111,9 @@ pub refusal_alike : (p : Setting) (call : WireCall) {m old : Node} → m ≡ old
 refusal_alike p call {m} same own rests =
     sym (ap (λ (o : Node). refusal_at p (seat_in o) call) same)
     ∙ ap (λ (x : Seat). refusal_at p x call) (seat_rests m m.at own (ap (λ (o : Node). is_busy (seat_in o).local) same ∙ rests))
+
+-- its own part, as the code has it
+pub own_alike : {m old : Node} → m ≡ old → RestsUnless (same_call at.Seats m.at) m.seat.seat.local → is_busy (seat_in old).local ≡ false
+    → seat_in old ≡ m.seat.seat
+own_alike {m} same own rests =
+    sym (ap seat_in same) ∙ seat_rests m m.at own (ap (λ (o : Node). is_busy (seat_in o).local) same ∙ rests)

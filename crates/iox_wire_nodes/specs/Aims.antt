@@ -1,19 +1,19 @@
 -- Which places a node knows of, what its step asks of what it keeps, and what a step of it does.
 use Rattle.std.specs.Prelude.{◌≡◌, ℕ, Option, option_map}
-use Rattle.iox_wire_locals.specs.Steps.{next, tells}
-use Rattle.iox_wire_locals.specs.Tables.{Setting}
-use Rattle.iox_wire_seats.specs.Aims as seats
-use Rattle.iox_wire_seats.specs.Desks.{IsUsed}
-use Rattle.iox_wire_seats.specs.Lends.{MayLend}
-use Rattle.iox_wire_receives.specs.Aims as receives
-use Rattle.iox_wire_receives.specs.Aims.{HasRoomFor, MayReceive, TellsOfSource}
-use Rattle.iox_wire_loans.specs.Aims as loans
-use Rattle.iox_wire_loans.specs.Aims.{GetsBackUsed, TellsOfSlot}
-use Rattle.iox_wire_request_sends.specs.Aims as requests
-use Rattle.iox_wire_sends.specs.Aims as responses
-use Rattle.iox_wire_sends.specs.Aims.{MayCountMade}
-use Rattle.iox_wire_copies.specs.CopyCalls as request_copies
-use Rattle.iox_wire_copies.specs.ResponseCopies as response_copies
+use Rattle.iox_wire_begins.specs.Steps.{next, tells}
+use Rattle.iox_wire_begins.specs.Tables.{Setting}
+use Rattle.iox_wire_begins.specs.Aims as seats
+use Rattle.iox_wire_begins.specs.Desks.{IsUsed}
+use Rattle.iox_wire_begins.specs.Lends.{MayLend}
+use Rattle.iox_wire_begins.specs.ReceivesAims as receives
+use Rattle.iox_wire_begins.specs.ReceivesAims.{HasRoomFor, MayReceive, TellsOfSource}
+use Rattle.iox_wire_begins.specs.LoansAims as loans
+use Rattle.iox_wire_begins.specs.LoansAims.{GetsBackUsed, TellsOfSlot}
+use Rattle.iox_wire_begins.specs.RequestSendsAims as requests
+use Rattle.iox_wire_begins.specs.SendsAims as responses
+use Rattle.iox_wire_begins.specs.SendsAims.{MayCountMade}
+use Rattle.iox_wire_begins.specs.CopyCalls as request_copies
+use Rattle.iox_wire_begins.specs.ResponseCopies as response_copies
 use Rattle.iox_wire_nodes.specs.declared.call_at.CallAt.{CallAt}
 use Rattle.iox_wire_nodes.specs.declared.call_at.CallAt.TheVariants as at
 use Rattle.iox_wire_nodes.specs.declared.call_at.NodeReply.{NodeReply}

@@ -1,23 +1,23 @@
 -- A node of a wire, with whatever call is under way: what it stands for.
 use Rattle.std.specs.Prelude.{◌≡◌, ℕ, Bool, true, false, List}
 use Rattle.iox_model.specs.Commands.{Reply}
-use Rattle.iox_wire_locals.specs.declared.local.Local.{Local}
-use Rattle.iox_wire_locals.specs.declared.seat.Seat.{Seat}
-use Rattle.iox_wire_locals.specs.Begins.{is_busy}
-use Rattle.iox_wire_locals.specs.Courses.{placed}
-use Rattle.iox_wire_seats.specs.Seats.{Placed, reply_with}
-use Rattle.iox_wire_receives.specs.Receipts as receives
-use Rattle.iox_wire_receives.specs.Receipts.{Receipt}
-use Rattle.iox_wire_loans.specs.Loans as loans
-use Rattle.iox_wire_loans.specs.Loans.{Loaned}
-use Rattle.iox_wire_request_sends.specs.RequestDispatches as requests
-use Rattle.iox_wire_request_sends.specs.RequestDispatches.{RequestDispatch}
-use Rattle.iox_wire_sends.specs.Dispatches as responses
-use Rattle.iox_wire_sends.specs.Dispatches.{Dispatch}
-use Rattle.iox_wire_copies.specs.CopyCalls as request_copies
-use Rattle.iox_wire_copies.specs.CopyCalls.{CopyCall}
-use Rattle.iox_wire_copies.specs.ResponseCopies as response_copies
-use Rattle.iox_wire_copies.specs.ResponseCopies.{ResponseCopy}
+use Rattle.iox_wire_begins.specs.Local.{Local}
+use Rattle.iox_wire_begins.specs.Seat.{Seat}
+use Rattle.iox_wire_begins.specs.Begins.{is_busy}
+use Rattle.iox_wire_begins.specs.Courses.{placed}
+use Rattle.iox_wire_begins.specs.Seats.{Placed, reply_with}
+use Rattle.iox_wire_begins.specs.Receipts as receives
+use Rattle.iox_wire_begins.specs.Receipts.{Receipt}
+use Rattle.iox_wire_begins.specs.Loans as loans
+use Rattle.iox_wire_begins.specs.Loans.{Loaned}
+use Rattle.iox_wire_begins.specs.RequestDispatches as requests
+use Rattle.iox_wire_begins.specs.RequestDispatches.{RequestDispatch}
+use Rattle.iox_wire_begins.specs.Dispatches as responses
+use Rattle.iox_wire_begins.specs.Dispatches.{Dispatch}
+use Rattle.iox_wire_begins.specs.CopyCalls as request_copies
+use Rattle.iox_wire_begins.specs.CopyCalls.{CopyCall}
+use Rattle.iox_wire_begins.specs.ResponseCopies as response_copies
+use Rattle.iox_wire_begins.specs.ResponseCopies.{ResponseCopy}
 use Rattle.iox_wire_nodes.specs.declared.call_at.CallAt.{CallAt}
 use Rattle.iox_wire_nodes.specs.declared.call_at.CallAt.TheVariants as at
 use Rattle.iox_wire_nodes.specs.declared.call_at.NodeReply.{NodeReply}

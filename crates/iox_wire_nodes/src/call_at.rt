@@ -1,10 +1,7 @@
 //! Which call of a node is under way, and what it answers as that is over.
-use iox_wire_copies::{CopyReply, ResponseCopyReply};
-use iox_wire_loans::LendReply;
-use iox_wire_receives::ReceiveReply;
-use iox_wire_request_sends::RequestReply;
-use iox_wire_seats::SeatReply;
-use iox_wire_sends::RespondReply;
+use iox_wire_begins::{
+    CopyReply, LendReply, ReceiveReply, RequestReply, RespondReply, ResponseCopyReply, SeatReply,
+};
 
 /// Which call of a node began last. It is under way until it answers.
 #[derive(Clone, Copy)]

@@ -4,8 +4,19 @@
 
 mod call_at;
 mod handle_call;
+mod laws;
 mod node;
+mod node_call;
+mod node_error;
 
 pub use call_at::{CallAt, NodeReply};
 pub use handle_call::HandleCall;
+pub use iox_wire_begins::{
+    Borrowed, Counts, Desks, Entries, Entry, MessagePlaces, PlanLimits, PlanPort, Popper, Pusher,
+    ReceiveReply, Receiving, SeatReply, Stop, StoredDesk, StoredSeat, WayIndex, WirePlan, WordMap,
+    WordMapNewError, begin_request_receive, is_plan,
+};
+pub use laws::{nodes_keep_their_room, nodes_with_fewer_handles_have_room};
 pub use node::StoredNode;
+pub use node_call::{NodeCall, NodePayload};
+pub use node_error::NodeError;

@@ -2,18 +2,23 @@
 ghost use Rattle.std.specs.Prelude.{◌≡◌};
 
 mod begin;
+mod copy;
+mod copy_response;
+mod elements;
+mod lend;
 mod look;
+mod name;
 mod receive;
+mod receive_response;
+mod send;
+mod told;
 mod write;
 
 use crate::call_at::{CallAt, NodeReply};
 use iox_steps::Access;
-use iox_wire_copies::{CopyingClient, CopyingServer};
-use iox_wire_loans::Lending;
-use iox_wire_receives::Receiving;
-use iox_wire_request_sends::Requesting;
-use iox_wire_seats::StoredSeat;
-use iox_wire_sends::Responding;
+use iox_wire_begins::{
+    CopyingClient, CopyingServer, Lending, Receiving, Requesting, Responding, StoredSeat,
+};
 use std::alloc::Global;
 use std::marker::Model;
 
@@ -64,11 +69,12 @@ impl Model for StoredNode {
 
 impl StoredNode {
     ghost use Rattle.std.specs.Prelude.{◌≡◌, ◌+◌, ◌<◌, ◌^◌, false, true};
-    ghost use Rattle.iox_wire_words.specs.Programs.{program_access};
-    ghost use Rattle.iox_wire_locals.specs.Begins.{is_busy};
-    ghost use Rattle.iox_wire_locals.specs.Locals.{program_of};
-    ghost use Rattle.iox_wire_locals.specs.Tables.{Setting};
-    ghost use Rattle.iox_wire_seats.specs.Aims.{KeepsRoom};
+    ghost use Rattle.iox_wire_begins.specs.Programs.{program_access};
+    ghost use Rattle.iox_wire_begins.specs.Begins.{is_busy};
+    ghost use Rattle.iox_wire_begins.specs.Locals.{program_of};
+    ghost use Rattle.iox_wire_begins.specs.Tables.{Setting};
+    ghost use Rattle.iox_wire_begins.specs.Aims.{KeepsRoom};
+    ghost use Rattle.iox_wire_nodes.specs.declared.call_at.CallAt.TheVariants.{Seats};
     ghost use Rattle.iox_wire_nodes.specs.Aims.{Answers, GoesOn, IsAimed, MayGoOn, StaysAimed};
     ghost use Rattle.iox_wire_nodes.specs.Nodes.{seat_in};
 
@@ -77,6 +83,7 @@ impl StoredNode {
         requires { is_busy seat.seat.local ≡ false }
         ensures seat { seat_in result ≡ seat.seat }
         ensures whole { result.seat ≡ seat }
+        ensures at { result.at ≡ Seats }
     {
         StoredNode {
             at: CallAt::Seats,

@@ -12,6 +12,7 @@ mod release;
 mod seek;
 mod send;
 mod tell;
+mod told;
 mod write;
 
 use crate::at::{At, SeatReply};

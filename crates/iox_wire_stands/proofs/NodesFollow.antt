@@ -21,7 +21,7 @@ use Rattle.iox_wire_words.specs.Laws.{IsMade}
 use Rattle.iox_wire_words.specs.Programs.{program_access}
 use Rattle.iox_wire_moments.specs.MomentsOf.{Pools}
 use Rattle.iox_wire_locals.specs.declared.local.Local.{Local}
-use Rattle.iox_wire_locals.specs.declared.local.Local.TheVariants.{Ends, ReleaseReturns}
+use Rattle.iox_wire_locals.specs.declared.local.Local.TheVariants.{Ends, LendEmpties, LendStores, ReleaseReturns}
 use Rattle.iox_wire_locals.specs.declared.seat.Seat.{Seat}
 use Rattle.iox_wire_locals.specs.declared.table.Borrowed.{Borrowed}
 use Rattle.iox_wire_locals.specs.declared.table.Desk.{Desk}
@@ -49,6 +49,7 @@ use Rattle.iox_wire_laws.specs.WireOwners.SentStates.{HasOpened}
 use Rattle.iox_wire_laws.proofs.WireOwners.SentStates.{accesses_leave_opened, accesses_leave_states}
 use Rattle.iox_wire_laws.specs.WireRegions.OwnedBegins.{LayoutFits}
 use Rattle.iox_wire_laws.specs.WireRegions.OwnedWords.{FreeSlotsAreThePools}
+use Rattle.iox_wire_laws.specs.WireRegions.OwnedWordLaws.{LoanHasLane, TakesLane}
 use Rattle.iox_wire_laws.proofs.WireRegions.OwnPorts.{both}
 use Rattle.iox_wire_laws.proofs.WireRegions.OwnedPlaces.{owners_may_access}
 use Rattle.iox_wire_laws.specs.WireHolding.FarSlots.{IsInPool, NamesSlots, QueuesHaveSlots}
@@ -59,7 +60,8 @@ use Rattle.iox_wire_pools.specs.Uses.{AllUsesAreCounted}
 use Rattle.iox_wire_pools.specs.UsesLaws.{FindsUsed}
 use Rattle.iox_wire_pools.proofs.AccessUses.{accesses_keep_uses}
 use Rattle.iox_wire_pools.proofs.AccessesFound.{accesses_find_used}
-use Rattle.iox_wire_stands.specs.Following.{CallMessage, Delivered, DeskChange, Dropped, Follows, IsReturning, Leaving, LeavesNothing, Lent, MayLetGo, GotBack, Unchanged, changed, desk_change, drops, keeps, lets_go, message_at, picks_slot, puts_aside, sends_loan, takes}
+use Rattle.iox_wire_stands.specs.FollowingLaws.{TakesNext}
+use Rattle.iox_wire_stands.specs.Following.{CallMessage, Delivered, DeskChange, Dropped, Follows, IsReturning, Leaving, LeavesNothing, Lent, MayLetGo, NoMessage, GotBack, Unchanged, changed, desk_change, drops, keeps, lets_go, message_at, picks_slot, puts_aside, sends_loan, takes}
 use Rattle.iox_wire_stands.specs.NamesLaws.{ReturnsNothing, TakesInPool}
 use Rattle.iox_wire_stands.specs.NodeLaws.{AccessesKeepNodes, IsTold}
 use Rattle.iox_wire_stands.specs.Nodes.{HasOwnDesks, LendsAtHome, NodeStands}
@@ -214,6 +216,15 @@ pub record KeptPart (p : Setting) (held : Pools) (s : State) (x : Seat) : Type 0
   pub opened : HasOpened s.request_state x.local
   pub tells : TellsLane held x.local
 
+-- a loan that takes a slot has a lane
+pub takes_lane : (p : Setting) (held : Pools) (s : State) (before after : Local) → TakesNext p held s (message_at before) after → TakesLane p before after
+takes_lane p held s (LendEmpties o w place left) after next = lane after next
+  where
+    lane : (after : Local) → TakesNext p held s NoMessage after → LoanHasLane p after
+    lane (LendStores k slot stored) is = is.lane
+    lane local is = tt
+takes_lane p held s before after next = tt
+
 -- ---- an access
 
 module _ (p : Setting) (held : Pools) (word word' : ℕ → ℕ) (c : WireContents) (seats : ℕ → Seat) (w : World) (n : ℕ)
@@ -279,7 +290,8 @@ module _ (p : Setting) (held : Pools) (word word' : ℕ → ℕ) (c : WireConten
     -- what does not depend on where the call goes
     pub part_kept : KeptPart p (held_after p x seen held) t y
     part_kept = record {
-      owns = firm_owners_stay p held s x seen stands.owns knows (free_pools p held s x stands) (limits p held s x stands knows) told.relies told.words;
+      owns = firm_owners_stay p held s x seen stands.owns knows (free_pools p held s x stands) (limits p held s x stands knows) told.relies told.words
+          (takes_lane p held s x.local y.local told.next);
       lends = lends (accesses_follow p (accessed x) seen);
       slots = accesses_keep_slots p held s x seen stands.slots stands.at_desks stands.uses finds told.relies
           (delivers_fresh p held word c seats w n shows living seen place.knows told.relies) told.next;

@@ -47,7 +47,7 @@ use Rattle.iox_wire_stands.specs.NodeLaws.{IsTold}
 use Rattle.iox_wire_stands.specs.Nodes.{NodeStands}
 use Rattle.iox_wire_stands.specs.Stands.{AreNumbered, OwnersAre}
 use Rattle.iox_wire_stands.proofs.Follows.{accesses_follow}
-use Rattle.iox_wire_stands.proofs.NodesFollow.{KeptPart, accesses_keep_nodes, free_pools, limits, part_kept}
+use Rattle.iox_wire_stands.proofs.NodesFollow.{KeptPart, accesses_keep_nodes, free_pools, limits, part_kept, takes_lane}
 use Rattle.iox_wire_stands.proofs.OthersHold.{OneSlot, others_hold}
 use Rattle.iox_wire_stands.proofs.OthersKept.{others_leave_nodes}
 use Rattle.iox_wire_stands.proofs.QueuesFollow.{accesses_keep_queues}
@@ -202,7 +202,8 @@ module _ (p : Setting) (held : Pools) (word word' : ℕ → ℕ) (c : WireConten
     shown_next : ShowsNext p new word' after seats' w n (moment_at p new x.local seen)
     shown_next =
         (steps_show_what_is_held p held word word' c seats w n whole.shows living unnamed mine.owns.owns (free_pools p held w.state x mine) mine.tells
-        (limits p held w.state x mine (whole.shows.counts n living).knows) told.words told.relies made).0
+        (limits p held w.state x mine (whole.shows.counts n living).knows) told.words told.relies
+        (takes_lane p held w.state x.local next_seat.local told.next) made).0
 
     -- at a state with the same fixed part, and the other nodes there
     assembled : (u : World) → ShowsWorld p new word' after seats' u → u.state.fixed ≡ w.state.fixed → LayoutFits p u.state.fixed

@@ -16,3 +16,8 @@ pub mod QueuesLaws
 pub mod StepLaws
 pub mod BeginLaws
 pub mod EndLaws
+-- what the crates above cite of those below
+pub use Rattle.iox_wire_layouts.specs.Counts
+pub use Rattle.iox_wire_layouts.specs.Desks
+pub use Rattle.iox_wire_layouts.specs.Records
+pub use Rattle.iox_wire_layouts.specs.Rows

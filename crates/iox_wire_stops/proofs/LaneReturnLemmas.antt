@@ -16,24 +16,24 @@ use Rattle.iox_model.specs.Peers.{lanes_of, lanes_to}
 use Rattle.iox_model.specs.States.{Port}
 use Rattle.iox_steps.specs.declared.site.QueueKind.TheVariants.{Index}
 use Rattle.iox_word_map.specs.WordMaps.{ReturningQueue, total_words}
-use Rattle.iox_word_places.specs.declared.plan.PlanPort.{PlanPort}
-use Rattle.iox_word_places.specs.declared.plan.WirePlan.{WirePlan}
-use Rattle.iox_word_places.specs.declared.way_index.WayIndex.TheVariants.{Responses}
-use Rattle.iox_word_places.specs.Plans.{IsLaneAt, IsPlan, IsPortAt, layout_of, number_at, port_numbers, returning_room, sizes_of, way_at}
-use Rattle.iox_word_places.proofs.PlanLemmas.{number_is, port_is}
-use Rattle.iox_word_places.proofs.PairLemmas.{index_there, one_of}
-use Rattle.iox_word_places.proofs.WayLemmas.{sender_role}
-use Rattle.iox_wire_words.specs.Programs.{WireLayout, site_of}
-use Rattle.iox_wire_locals.specs.declared.seat.Seat.{Seat}
-use Rattle.iox_wire_locals.specs.Known.{known}
-use Rattle.iox_wire_locals.specs.Tables.{Setting}
-use Rattle.iox_wire_layouts.specs.PlansOf.{IsSettingOf}
-use Rattle.iox_wire_layouts.proofs.Planned.{same_found}
-use Rattle.iox_wire_loans.specs.Lenders.{AreReturning}
-use Rattle.iox_wire_seats.specs.declared.stops.Stop.{Stop}
-use Rattle.iox_wire_seats.specs.Aims.{IsInMemory, QueuesInMemory, queue_at}
-use Rattle.iox_wire_seats.specs.Seats.{ways_of}
-use Rattle.iox_wire_seats.proofs.BeginLemmas.{queue_in_memory}
+use Rattle.iox_wire_ways.specs.PlanPort.{PlanPort}
+use Rattle.iox_wire_ways.specs.WirePlan.{WirePlan}
+use Rattle.iox_wire_ways.specs.WayIndex.TheVariants.{Responses}
+use Rattle.iox_wire_ways.specs.Plans.{IsLaneAt, IsPlan, IsPortAt, layout_of, number_at, port_numbers, returning_room, sizes_of, way_at}
+use Rattle.iox_wire_ways.proofs.PlanLemmas.{number_is, port_is}
+use Rattle.iox_wire_ways.proofs.PairLemmas.{index_there, one_of}
+use Rattle.iox_wire_ways.proofs.WayLemmas.{sender_role}
+use Rattle.iox_wire_ways.specs.Programs.{WireLayout, site_of}
+use Rattle.iox_wire_ways.specs.Seat.{Seat}
+use Rattle.iox_wire_ways.specs.Known.{known}
+use Rattle.iox_wire_ways.specs.Tables.{Setting}
+use Rattle.iox_wire_ways.specs.PlansOf.{IsSettingOf}
+use Rattle.iox_wire_ways.proofs.Planned.{same_found}
+use Rattle.iox_wire_ways.specs.Lenders.{AreReturning}
+use Rattle.iox_wire_ways.specs.Stop.{Stop}
+use Rattle.iox_wire_ways.specs.Aims.{IsInMemory, QueuesInMemory, queue_at}
+use Rattle.iox_wire_ways.specs.Seats.{ways_of}
+use Rattle.iox_wire_ways.proofs.BeginLemmas.{queue_in_memory}
 use Rattle.iox_wire_stops.specs.LaneReturns.{client_stops, lane_stop, lane_stops, stops_at}
 use Rattle.iox_wire_ways.specs.Visits.{is_other, pool_of}
 use Rattle.iox_wire_ways.proofs.ListLemmas.{others_are, visited}

@@ -8,15 +8,15 @@ use Rattle.iox_model.specs.declared.kind.Role.TheVariants.{Client}
 use Rattle.iox_model.specs.declared.way.Way.{Way}
 use Rattle.iox_model.specs.Maps.{has_number}
 use Rattle.iox_model.specs.Settings.{same_role}
-use Rattle.iox_word_places.specs.declared.plan.PlanPort.{PlanPort}
-use Rattle.iox_word_places.specs.declared.plan.WirePlan.{WirePlan}
-use Rattle.iox_word_places.specs.Plans.{IsLaneAt, IsPlan, layout_of, port_of, sizes_of}
-use Rattle.iox_word_places.proofs.PlanLemmas.{number_is, port_is}
-use Rattle.iox_wire_words.specs.Programs.{WireLayout, state_place}
-use Rattle.iox_wire_locals.specs.Tables.{Setting}
+use Rattle.iox_wire_ways.specs.PlanPort.{PlanPort}
+use Rattle.iox_wire_ways.specs.WirePlan.{WirePlan}
+use Rattle.iox_wire_ways.specs.Plans.{IsLaneAt, IsPlan, layout_of, port_of, sizes_of}
+use Rattle.iox_wire_ways.proofs.PlanLemmas.{number_is, port_is}
+use Rattle.iox_wire_ways.specs.Programs.{WireLayout, state_place}
+use Rattle.iox_wire_ways.specs.Tables.{Setting}
 use Rattle.iox_wire_releases.specs.StatesOf.{state_stop}
-use Rattle.iox_wire_seats.specs.declared.stops.Stop.{Stop}
-use Rattle.iox_wire_seats.specs.Aims.{AreStates}
+use Rattle.iox_wire_ways.specs.Stop.{Stop}
+use Rattle.iox_wire_ways.specs.Aims.{AreStates}
 use Rattle.iox_wire_stops.specs.OwnStates.{is_client_left}
 use Rattle.iox_wire_ways.specs.Visits.{is_other, made_at}
 use Rattle.iox_wire_ways.proofs.ListLemmas.{all_made, made_before, visited}

@@ -2,14 +2,14 @@
 use Rattle.std.proofs.Common.{◌≡◌, ℕ, List, [], ◌∷◌, map, refl, ap, sym, subst}
 use Rattle.iox_model.specs.declared.way.Way.{Way}
 use Rattle.iox_steps.specs.declared.site.QueueKind.{QueueKind}
-use Rattle.iox_wire_locals.specs.Tables.{Setting}
-use Rattle.iox_wire_receives.specs.declared.source.ReceiveTerms.{ReceiveTerms}
-use Rattle.iox_wire_receives.specs.declared.source.Source.{Source}
-use Rattle.iox_wire_receives.specs.Sources.{AreSources, AreWithin}
-use Rattle.iox_wire_receives.specs.Sources as sources
-use Rattle.iox_wire_seats.specs.declared.stops.Stop.{Stop}
-use Rattle.iox_wire_seats.specs.Aims.{AreQueues, QueuesInMemory}
-use Rattle.iox_wire_seats.specs.Seats.{ways_of}
+use Rattle.iox_wire_ways.specs.Tables.{Setting}
+use Rattle.iox_wire_ways.specs.ReceiveTerms.{ReceiveTerms}
+use Rattle.iox_wire_ways.specs.Source.{Source}
+use Rattle.iox_wire_ways.specs.Sources.{AreSources, AreWithin}
+use Rattle.iox_wire_ways.specs.Sources as sources
+use Rattle.iox_wire_ways.specs.Stop.{Stop}
+use Rattle.iox_wire_ways.specs.Aims.{AreQueues, QueuesInMemory}
+use Rattle.iox_wire_ways.specs.Seats.{ways_of}
 use Rattle.iox_wire_stops.specs.Waiting.{stop_of}
 
 pub same_ways : (ss : List Source) → ways_of (map stop_of ss) ≡ sources.ways_of ss

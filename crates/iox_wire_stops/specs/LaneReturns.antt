@@ -3,12 +3,12 @@ use Rattle.std.specs.Prelude.{ℕ, Bool, false, if◌then◌else◌, List, [], m
 use Rattle.std.specs.List.{range_with_len}
 use Rattle.std.specs.Option.{option_map_or}
 use Rattle.iox_word_map.specs.WordMaps.{ReturningQueue}
-use Rattle.iox_word_places.specs.declared.plan.PlanPort.{PlanPort}
-use Rattle.iox_word_places.specs.declared.plan.WirePlan.{WirePlan}
-use Rattle.iox_word_places.specs.declared.way_index.WayIndex.TheVariants.{Responses}
-use Rattle.iox_word_places.specs.Plans.{layout_of, number_at, way_at}
-use Rattle.iox_wire_words.specs.Programs.{site_of}
-use Rattle.iox_wire_seats.specs.declared.stops.Stop.{Stop}
+use Rattle.iox_wire_ways.specs.PlanPort.{PlanPort}
+use Rattle.iox_wire_ways.specs.WirePlan.{WirePlan}
+use Rattle.iox_wire_ways.specs.WayIndex.TheVariants.{Responses}
+use Rattle.iox_wire_ways.specs.Plans.{layout_of, number_at, way_at}
+use Rattle.iox_wire_ways.specs.Programs.{site_of}
+use Rattle.iox_wire_ways.specs.Stop.{Stop}
 use Rattle.iox_wire_ways.specs.Visits.{pool_of}
 
 -- where the responses of the server at an index return on a lane of the client at another

@@ -6,11 +6,11 @@ use Rattle.iox_model.specs.declared.kind.Role.TheVariants.{Client}
 use Rattle.iox_model.specs.Handles.{same_kind}
 use Rattle.iox_model.specs.Maps.{has_number}
 use Rattle.iox_word_map.specs.WordMaps.{IsResponseWay}
-use Rattle.iox_word_places.specs.declared.plan.PlanPort.{PlanPort}
-use Rattle.iox_word_places.specs.declared.plan.WirePlan.{WirePlan}
-use Rattle.iox_word_places.specs.Plans.{sizes_of}
-use Rattle.iox_wire_locals.specs.declared.table.Entry.{Entry}
-use Rattle.iox_wire_locals.specs.Tables.{state_in}
+use Rattle.iox_wire_ways.specs.PlanPort.{PlanPort}
+use Rattle.iox_wire_ways.specs.WirePlan.{WirePlan}
+use Rattle.iox_wire_ways.specs.Plans.{sizes_of}
+use Rattle.iox_wire_ways.specs.Entry.{Entry}
+use Rattle.iox_wire_ways.specs.Tables.{state_in}
 use Rattle.iox_wire_ways.specs.Visits.{is_other}
 
 -- whether a port is the client of that number, of none of these nodes

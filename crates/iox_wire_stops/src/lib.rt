@@ -6,7 +6,15 @@ mod lane_returns;
 mod states;
 mod waiting;
 
-pub use iox_wire_ways::begin_request_receive;
+pub use iox_wire_releases::{begin_release, client_place, place_of, server_place};
+pub use iox_wire_ways::{
+    Borrowed, CopyReply, CopyingClient, CopyingServer, Counts, Desks, Entries, Entry, LendReply,
+    Lending, MessagePlaces, PlanLimits, PlanPort, Popper, Pusher, ReceiveReply, Receiving,
+    RequestReply, RequestTerms, Requesting, RespondReply, Responding, ResponseCopyReply,
+    ResponseTerms, SeatReply, Source, Stop, StoredDesk, StoredSeat, Target, WayIndex, WirePlan,
+    WordMap, WordMapNewError, begin_request_receive, begin_response_receive, is_plan,
+    list_request_returns, list_targets, payload_places, terms_of_response,
+};
 pub use lane_returns::list_response_returns;
 pub use states::list_states_of;
 pub use waiting::{list_waiting_requests, list_waiting_responses};

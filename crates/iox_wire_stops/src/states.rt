@@ -5,25 +5,23 @@ ghost use Rattle.iox_model.specs.declared.kind.Role.TheVariants.{Client, Server}
 ghost use Rattle.iox_model.specs.Messages.{response_way};
 ghost use Rattle.iox_model.specs.Peers.{others};
 ghost use Rattle.iox_word_map.specs.WordMaps.{IsResponseWay};
-ghost use Rattle.iox_word_places.specs.declared.way_index.WayIndex.TheVariants.{Responses};
-ghost use Rattle.iox_word_places.specs.Plans.{IsPortAt, IsWayAt, number_at, sizes_of};
-ghost use Rattle.iox_wire_locals.specs.Known.{known};
-ghost use Rattle.iox_wire_locals.specs.ReceiveCourses.{states_for};
-ghost use Rattle.iox_wire_locals.specs.Tables.{Setting, state_in};
-ghost use Rattle.iox_wire_layouts.specs.PlansOf.{IsSettingOf};
+ghost use Rattle.iox_wire_ways.specs.WayIndex.TheVariants.{Responses};
+ghost use Rattle.iox_wire_ways.specs.Plans.{IsPortAt, IsWayAt, number_at, sizes_of};
+ghost use Rattle.iox_wire_ways.specs.Known.{known};
+ghost use Rattle.iox_wire_ways.specs.ReceiveCourses.{states_for};
+ghost use Rattle.iox_wire_ways.specs.Tables.{Setting, state_in};
+ghost use Rattle.iox_wire_ways.specs.PlansOf.{IsSettingOf};
 ghost use Rattle.iox_wire_releases.specs.StatesOf.{state_stop};
-ghost use Rattle.iox_wire_seats.specs.declared.stops.Stop.{Stop};
-ghost use Rattle.iox_wire_seats.specs.Aims.{AreStates};
-ghost use Rattle.iox_wire_seats.specs.Seats.{ways_of};
+ghost use Rattle.iox_wire_ways.specs.Stop.{Stop};
+ghost use Rattle.iox_wire_ways.specs.Aims.{AreStates};
+ghost use Rattle.iox_wire_ways.specs.Seats.{ways_of};
 ghost use Rattle.iox_wire_stops.specs.OwnStates.{HasStates, has_states, is_client_left};
 ghost use Rattle.iox_wire_ways.specs.Visits.{made_at};
 
 use iox_model::kind::{Kind, Role};
 use iox_model::way::Way;
-use iox_wire_locals::Entry;
 use iox_wire_releases::{client_place, list_states, server_place};
-use iox_wire_seats::{Stop, StoredSeat};
-use iox_word_places::{PlanPort, WordMap};
+use iox_wire_ways::{Entry, PlanPort, Stop, StoredSeat, WordMap};
 use std::alloc::AllocError;
 
 /// Whether a port is the client of that number, and the node did not forget it.

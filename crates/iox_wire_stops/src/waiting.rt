@@ -4,22 +4,21 @@ ghost use Rattle.iox_model.specs.declared.kind.Role.TheVariants.{Server};
 ghost use Rattle.iox_model.specs.Messages.{response_way};
 ghost use Rattle.iox_model.specs.Peers.{ports_of_role};
 ghost use Rattle.iox_model.specs.Receives.{server_ways};
-ghost use Rattle.iox_word_places.specs.Plans.{IsLaneAt, IsPortAt, number_at};
-ghost use Rattle.iox_wire_layouts.specs.PlansOf.{IsSettingOf};
-ghost use Rattle.iox_wire_locals.specs.declared.seat.Seat.{Seat};
-ghost use Rattle.iox_wire_locals.specs.Known.{known};
-ghost use Rattle.iox_wire_locals.specs.Stored.{header_length};
-ghost use Rattle.iox_wire_locals.specs.Tables.{Setting};
-ghost use Rattle.iox_wire_seats.specs.Aims.{AreQueues, QueuesInMemory};
-ghost use Rattle.iox_wire_seats.specs.Seats.{ways_of};
+ghost use Rattle.iox_wire_ways.specs.Plans.{IsLaneAt, IsPortAt, number_at};
+ghost use Rattle.iox_wire_ways.specs.PlansOf.{IsSettingOf};
+ghost use Rattle.iox_wire_ways.specs.Seat.{Seat};
+ghost use Rattle.iox_wire_ways.specs.Known.{known};
+ghost use Rattle.iox_wire_ways.specs.Stored.{header_length};
+ghost use Rattle.iox_wire_ways.specs.Tables.{Setting};
+ghost use Rattle.iox_wire_ways.specs.Aims.{AreQueues, QueuesInMemory};
+ghost use Rattle.iox_wire_ways.specs.Seats.{ways_of};
 ghost use Rattle.iox_wire_stops.specs.Waiting.{stop_of};
 ghost use Rattle.iox_wire_ways.specs.RequestSources.{HasRequestWays};
 
 use iox_steps::Site;
-use iox_wire_receives::{ReceiveTerms, Source};
-use iox_wire_seats::{Stop, StoredSeat};
-use iox_wire_ways::{list_request_sources, list_response_sources};
-use iox_word_places::WordMap;
+use iox_wire_ways::{
+    ReceiveTerms, Source, Stop, StoredSeat, WordMap, list_request_sources, list_response_sources,
+};
 use std::alloc::AllocError;
 
 /// Lists the queues of sources. What was listed before is lost.

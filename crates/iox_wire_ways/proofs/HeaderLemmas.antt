@@ -11,16 +11,16 @@ use Rattle.iox_types.specs.Layouts.{message_bytes, message_size as bytes_for}
 use Rattle.iox_types.proofs.LayoutLemmas.{IsPowerOfTwo-positive, aligned_place-ge}
 use Rattle.iox_word_map.specs.MessageWords.{IsInWords}
 use Rattle.iox_word_map.specs.WordMaps.{Region, piece_place, total_words}
-use Rattle.iox_word_places.specs.declared.plan.PlanPort.{PlanPort}
-use Rattle.iox_word_places.specs.declared.plan.WirePlan.{WirePlan}
-use Rattle.iox_word_places.specs.Plans.{IsPlan, IsPortAt, details_of, number_at, port_of, sizes_of, slot_words_of}
-use Rattle.iox_word_places.proofs.PairLemmas.{index_there, one_of}
-use Rattle.iox_word_places.proofs.PlanLemmas.{number_is, port_is, region_place, region_within, there}
-use Rattle.iox_wire_locals.specs.Stored.{header_length, word_start}
-use Rattle.iox_wire_locals.specs.Tables.{Setting, port_shape, region_word}
-use Rattle.iox_wire_layouts.specs.PlansOf.{IsAsPlanned, IsSettingOf, IsShapeOf}
-use Rattle.iox_wire_layouts.proofs.Planned.{each_planned}
-use Rattle.iox_wire_seats.specs.Seats.{node_at}
+use Rattle.iox_wire_messages.specs.PlanPort.{PlanPort}
+use Rattle.iox_wire_messages.specs.WirePlan.{WirePlan}
+use Rattle.iox_wire_messages.specs.Plans.{IsPlan, IsPortAt, details_of, number_at, port_of, sizes_of, slot_words_of}
+use Rattle.iox_wire_messages.proofs.PairLemmas.{index_there, one_of}
+use Rattle.iox_wire_messages.proofs.PlanLemmas.{number_is, port_is, region_place, region_within, there}
+use Rattle.iox_wire_messages.specs.Stored.{header_length, word_start}
+use Rattle.iox_wire_messages.specs.Tables.{Setting, port_shape, region_word}
+use Rattle.iox_wire_messages.specs.PlansOf.{IsAsPlanned, IsSettingOf, IsShapeOf}
+use Rattle.iox_wire_messages.proofs.Planned.{each_planned}
+use Rattle.iox_wire_messages.specs.Seats.{node_at}
 use Rattle.iox_wire_ways.specs.Visits.{pool_of}
 
 first_words : (x : Shape) (header user start k : ℕ) → k < header → word_start x header user start k ≡ start + 8 * k

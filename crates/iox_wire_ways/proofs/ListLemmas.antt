@@ -11,16 +11,16 @@ use Rattle.iox_model.specs.Maps.{has_number}
 use Rattle.iox_model.specs.Peers.{others}
 use Rattle.iox_model.specs.Settings.{same_role}
 use Rattle.iox_model.specs.States.{Port}
-use Rattle.iox_word_places.specs.declared.plan.PlanPort.{PlanPort}
-use Rattle.iox_word_places.specs.declared.plan.WirePlan.{WirePlan}
-use Rattle.iox_word_places.specs.Plans.{IsPlan, number_at}
-use Rattle.iox_word_places.proofs.PlanLemmas.{number_is}
-use Rattle.iox_word_places.proofs.PairLemmas.{one_of}
-use Rattle.iox_wire_words.specs.Programs.{WireLayout}
-use Rattle.iox_wire_locals.specs.declared.seat.Seat.{Seat}
-use Rattle.iox_wire_locals.specs.Known.{known}
-use Rattle.iox_wire_locals.specs.Tables.{Setting}
-use Rattle.iox_wire_layouts.specs.PlansOf.{AreAsPlanned, IsSettingOf}
+use Rattle.iox_wire_messages.specs.PlanPort.{PlanPort}
+use Rattle.iox_wire_messages.specs.WirePlan.{WirePlan}
+use Rattle.iox_wire_messages.specs.Plans.{IsPlan, number_at}
+use Rattle.iox_wire_messages.proofs.PlanLemmas.{number_is}
+use Rattle.iox_wire_messages.proofs.PairLemmas.{one_of}
+use Rattle.iox_wire_messages.specs.Programs.{WireLayout}
+use Rattle.iox_wire_messages.specs.Seat.{Seat}
+use Rattle.iox_wire_messages.specs.Known.{known}
+use Rattle.iox_wire_messages.specs.Tables.{Setting}
+use Rattle.iox_wire_messages.specs.PlansOf.{AreAsPlanned, IsSettingOf}
 use Rattle.iox_wire_ways.specs.Visits.{is_other, made_at}
 
 -- ---- those of the ports so far

@@ -10,23 +10,23 @@ use Rattle.iox_model.specs.Settings.{borrow_limit_of, other_role, same_role}
 use Rattle.iox_model.specs.States.{Port}
 use Rattle.iox_word_map.specs.WordMaps.{MessageQueue, ReturningQueue, QueueWords, lane_place, piece_place, total_words}
 use Rattle.iox_word_map.proofs.Places.{lanes_are_computed}
-use Rattle.iox_word_places.specs.declared.plan.WirePlan.{WirePlan}
-use Rattle.iox_word_places.specs.declared.way_index.WayIndex.TheVariants.{Requests, Responses}
-use Rattle.iox_word_places.specs.Plans.{IsLaneAt, IsPlan, IsPortAt, layout_of, message_kind, number_at, planned_buffer, port_numbers, returning_room, role_of, sizes_of, slot_words_of, way_at}
-use Rattle.iox_word_places.proofs.PairLemmas.{client_of_lane}
-use Rattle.iox_word_places.proofs.WayLemmas.{response_way_at, sender_role}
-use Rattle.iox_wire_words.specs.Programs.{WireLayout, site_of, word_place}
-use Rattle.iox_wire_locals.specs.declared.seat.Seat.{Seat}
-use Rattle.iox_wire_locals.specs.Known.{known}
-use Rattle.iox_wire_locals.specs.Stored.{header_length}
-use Rattle.iox_wire_locals.specs.Tables.{Setting, region_word}
-use Rattle.iox_wire_layouts.specs.PlansOf.{IsSettingOf}
-use Rattle.iox_wire_layouts.proofs.Layouts.{planned_settings_agree}
-use Rattle.iox_wire_layouts.proofs.Planned.{same_found}
+use Rattle.iox_wire_messages.specs.WirePlan.{WirePlan}
+use Rattle.iox_wire_messages.specs.WayIndex.TheVariants.{Requests, Responses}
+use Rattle.iox_wire_messages.specs.Plans.{IsLaneAt, IsPlan, IsPortAt, layout_of, message_kind, number_at, planned_buffer, port_numbers, returning_room, role_of, sizes_of, slot_words_of, way_at}
+use Rattle.iox_wire_messages.proofs.PairLemmas.{client_of_lane}
+use Rattle.iox_wire_messages.proofs.WayLemmas.{response_way_at, sender_role}
+use Rattle.iox_wire_messages.specs.Programs.{WireLayout, site_of, word_place}
+use Rattle.iox_wire_messages.specs.Seat.{Seat}
+use Rattle.iox_wire_messages.specs.Known.{known}
+use Rattle.iox_wire_messages.specs.Stored.{header_length}
+use Rattle.iox_wire_messages.specs.Tables.{Setting, region_word}
+use Rattle.iox_wire_messages.specs.PlansOf.{IsSettingOf}
+use Rattle.iox_wire_messages.proofs.Layouts.{planned_settings_agree}
+use Rattle.iox_wire_messages.proofs.Planned.{same_found}
 use Rattle.iox_wire_receives.specs.declared.source.Source.{Source}
 use Rattle.iox_wire_receives.specs.Sources.{AreSources, AreWithin, IsSource, IsWithin, messages_at, returning_at, ways_of}
-use Rattle.iox_wire_seats.specs.Aims.{IsInMemory}
-use Rattle.iox_wire_seats.proofs.BeginLemmas.{forgot_is, queue_in_memory}
+use Rattle.iox_wire_messages.specs.Aims.{IsInMemory}
+use Rattle.iox_wire_messages.proofs.BeginLemmas.{forgot_is, queue_in_memory}
 use Rattle.iox_wire_ways.specs.ResponseSources.{response_source, response_terms}
 use Rattle.iox_wire_ways.specs.Visits.{is_other}
 use Rattle.iox_wire_ways.proofs.HeaderLemmas.{header_fits, header_word, low, slots_in_memory}

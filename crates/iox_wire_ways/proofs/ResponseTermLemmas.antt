@@ -11,23 +11,23 @@ use Rattle.iox_model.specs.Requests.{fails_at}
 use Rattle.iox_model.specs.Settings.{overflow_of, same_role}
 use Rattle.iox_model.specs.States.{Port}
 use Rattle.iox_word_map.specs.WordMaps.{MessageQueue, ReturningQueue}
-use Rattle.iox_word_places.specs.declared.plan.PlanPort.{PlanPort}
-use Rattle.iox_word_places.specs.declared.plan.WirePlan.{WirePlan}
-use Rattle.iox_word_places.specs.declared.way_index.WayIndex.TheVariants.{Responses}
-use Rattle.iox_word_places.specs.Plans.{IsLaneAt, IsPlan, IsPortAt, layout_of, number_at, planned_overflow, port_numbers, way_at}
-use Rattle.iox_word_places.proofs.PairLemmas.{client_of_lane, index_there}
-use Rattle.iox_word_places.proofs.PlanLemmas.{number_is, there}
-use Rattle.iox_word_places.proofs.PortLemmas.{named_at, unnamed_at}
-use Rattle.iox_word_places.proofs.WayLemmas.{sender_role}
-use Rattle.iox_wire_words.specs.Programs.{WireLayout, site_of, state_place}
-use Rattle.iox_wire_locals.specs.declared.seat.Seat.{Seat}
-use Rattle.iox_wire_locals.specs.declared.table.Entry.{Entry}
-use Rattle.iox_wire_locals.specs.Known.{known}
-use Rattle.iox_wire_locals.specs.Tables.{Setting, state_in}
-use Rattle.iox_wire_layouts.specs.PlansOf.{IsSettingOf}
-use Rattle.iox_wire_layouts.proofs.Planned.{same_found}
-use Rattle.iox_wire_sends.specs.declared.terms.ResponseTerms.{ResponseTerms}
-use Rattle.iox_wire_sends.specs.Aims.{IsToldOf}
+use Rattle.iox_wire_messages.specs.PlanPort.{PlanPort}
+use Rattle.iox_wire_messages.specs.WirePlan.{WirePlan}
+use Rattle.iox_wire_messages.specs.WayIndex.TheVariants.{Responses}
+use Rattle.iox_wire_messages.specs.Plans.{IsLaneAt, IsPlan, IsPortAt, layout_of, number_at, planned_overflow, port_numbers, way_at}
+use Rattle.iox_wire_messages.proofs.PairLemmas.{client_of_lane, index_there}
+use Rattle.iox_wire_messages.proofs.PlanLemmas.{number_is, there}
+use Rattle.iox_wire_messages.proofs.PortLemmas.{named_at, unnamed_at}
+use Rattle.iox_wire_messages.proofs.WayLemmas.{sender_role}
+use Rattle.iox_wire_messages.specs.Programs.{WireLayout, site_of, state_place}
+use Rattle.iox_wire_messages.specs.Seat.{Seat}
+use Rattle.iox_wire_messages.specs.Entry.{Entry}
+use Rattle.iox_wire_messages.specs.Known.{known}
+use Rattle.iox_wire_messages.specs.Tables.{Setting, state_in}
+use Rattle.iox_wire_messages.specs.PlansOf.{IsSettingOf}
+use Rattle.iox_wire_messages.proofs.Planned.{same_found}
+use Rattle.iox_wire_copies.specs.ResponseTerms.{ResponseTerms}
+use Rattle.iox_wire_copies.specs.Aims.{IsToldOf}
 use Rattle.iox_wire_ways.specs.Visits.{is_other}
 use Rattle.iox_wire_ways.proofs.ListLemmas.{others_are, visited}
 

@@ -8,17 +8,17 @@ use Rattle.iox_model.specs.Maps.{has_number}
 use Rattle.iox_model.specs.Settings.{same_role}
 use Rattle.iox_steps.specs.declared.site.QueueKind.TheVariants.{Index}
 use Rattle.iox_word_map.specs.WordMaps.{ReturningQueue, total_words}
-use Rattle.iox_word_places.specs.declared.plan.PlanPort.{PlanPort}
-use Rattle.iox_word_places.specs.declared.plan.WirePlan.{WirePlan}
-use Rattle.iox_word_places.specs.declared.way_index.WayIndex.TheVariants.{Requests}
-use Rattle.iox_word_places.specs.Plans.{IsPlan, IsPortAt, layout_of, returning_room, sizes_of, way_at}
-use Rattle.iox_word_places.proofs.WayLemmas.{sender_role}
-use Rattle.iox_wire_words.specs.Programs.{WireLayout, site_of}
-use Rattle.iox_wire_locals.specs.Tables.{Setting}
-use Rattle.iox_wire_loans.specs.Lenders.{AreReturning}
-use Rattle.iox_wire_seats.specs.declared.stops.Stop.{Stop}
-use Rattle.iox_wire_seats.specs.Aims.{IsInMemory, QueuesInMemory, queue_at}
-use Rattle.iox_wire_seats.proofs.BeginLemmas.{queue_in_memory}
+use Rattle.iox_wire_messages.specs.PlanPort.{PlanPort}
+use Rattle.iox_wire_messages.specs.WirePlan.{WirePlan}
+use Rattle.iox_wire_messages.specs.WayIndex.TheVariants.{Requests}
+use Rattle.iox_wire_messages.specs.Plans.{IsPlan, IsPortAt, layout_of, returning_room, sizes_of, way_at}
+use Rattle.iox_wire_messages.proofs.WayLemmas.{sender_role}
+use Rattle.iox_wire_messages.specs.Programs.{WireLayout, site_of}
+use Rattle.iox_wire_messages.specs.Tables.{Setting}
+use Rattle.iox_wire_copies.specs.Lenders.{AreReturning}
+use Rattle.iox_wire_messages.specs.Stop.{Stop}
+use Rattle.iox_wire_messages.specs.Aims.{IsInMemory, QueuesInMemory, queue_at}
+use Rattle.iox_wire_messages.proofs.BeginLemmas.{queue_in_memory}
 use Rattle.iox_wire_ways.specs.Visits.{is_other, returning_stop}
 use Rattle.iox_wire_ways.proofs.ListLemmas.{all_made, made_before}
 

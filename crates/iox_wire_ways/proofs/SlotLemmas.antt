@@ -16,25 +16,25 @@ use Rattle.iox_word_map.specs.MessageWords.{IsInWords, in_words}
 use Rattle.iox_word_map.specs.WordMaps.{Region, piece_place, total_words}
 use Rattle.iox_word_map.specs.declared.message_part.MessagePart.TheVariants.{Payload, UserHeader}
 use Rattle.iox_word_map.proofs.Messages.{parts_are_computed}
-use Rattle.iox_word_places.specs.declared.plan.PlanPort.{PlanPort}
-use Rattle.iox_word_places.specs.declared.plan.WirePlan.{WirePlan}
-use Rattle.iox_word_places.specs.Plans.{IsPlan, IsPortAt, IsSlotAt, details_of, number_at, part_start, port_of, sizes_of, slot_words_of}
-use Rattle.iox_word_places.proofs.PairLemmas.{index_there, one_of}
-use Rattle.iox_word_places.proofs.PlanLemmas.{port_is, there}
-use Rattle.iox_wire_words.specs.Programs.{WireLayout, word_place}
-use Rattle.iox_wire_locals.specs.declared.table.Entry.{Entry}
-use Rattle.iox_wire_locals.specs.Stored.{header_length}
-use Rattle.iox_wire_locals.specs.Tables.{Setting, port_shape, region_word, words_to_read}
-use Rattle.iox_wire_layouts.specs.PlansOf.{IsSettingOf}
-use Rattle.iox_wire_loans.specs.declared.slot_places.SlotPlaces.{SlotPlaces}
-use Rattle.iox_wire_loans.specs.Lenders.{AreSlots, IsWithin, place_in, user_in}
+use Rattle.iox_wire_messages.specs.PlanPort.{PlanPort}
+use Rattle.iox_wire_messages.specs.WirePlan.{WirePlan}
+use Rattle.iox_wire_messages.specs.Plans.{IsPlan, IsPortAt, IsSlotAt, details_of, number_at, part_start, port_of, sizes_of, slot_words_of}
+use Rattle.iox_wire_messages.proofs.PairLemmas.{index_there, one_of}
+use Rattle.iox_wire_messages.proofs.PlanLemmas.{port_is, there}
+use Rattle.iox_wire_messages.specs.Programs.{WireLayout, word_place}
+use Rattle.iox_wire_messages.specs.Entry.{Entry}
+use Rattle.iox_wire_messages.specs.Stored.{header_length}
+use Rattle.iox_wire_messages.specs.Tables.{Setting, port_shape, region_word, words_to_read}
+use Rattle.iox_wire_messages.specs.PlansOf.{IsSettingOf}
+use Rattle.iox_wire_copies.specs.SlotPlaces.{SlotPlaces}
+use Rattle.iox_wire_copies.specs.Lenders.{AreSlots, IsWithin, place_in, user_in}
 use Rattle.iox_wire_copies.specs.declared.payload_places.PayloadPlaces.{PayloadPlaces}
 use Rattle.iox_wire_copies.specs.Copies.{ArePayloads}
 use Rattle.iox_wire_copies.specs.Payloads.{HasRoom, payload_at}
 use Rattle.iox_wire_messages.proofs.PlaceLemmas.{payload_there, stand_there, user_words}
-use Rattle.iox_wire_seats.specs.declared.message_places.MessagePlaces.{MessagePlaces}
-use Rattle.iox_wire_seats.specs.Aims.{StandAt}
-use Rattle.iox_wire_ways.specs.PlannedSlots.{HasHeader, planned_payloads, planned_slots, role_there, words_in_front}
+use Rattle.iox_wire_messages.specs.MessagePlaces.{MessagePlaces}
+use Rattle.iox_wire_messages.specs.Aims.{StandAt}
+use Rattle.iox_wire_ways.specs.PlannedSlots.{HasHeader, element_words, longest_of, planned_payloads, planned_slots, role_there, words_in_front}
 use Rattle.iox_wire_ways.specs.Visits.{pool_of}
 use Rattle.iox_wire_ways.proofs.HeaderLemmas.{header_word, longest_planned, role_planned, slots_in_memory, turned, whole_words, width_planned}
 
@@ -165,6 +165,13 @@ module _ (plan : WirePlan) (is : IsPlan plan) (i : ℕ) (slot_there : IsSlotAt p
     step = step_least (details_of plan (role_there plan i)).payload.alignment;
     room = let a = front_fits in omega (arith, a);
   }
+
+  -- a message of no more elements than the planned longest has room
+  pub planned_fits : (k : ℕ) → k ≤ longest_of plan (number_at plan i) → k * element_words plan i ≤ (planned_payloads plan i).room
+  planned_fits k most =
+      let same : longest_of plan (number_at plan i) ≡ (get_or plan.ports.items i d).longest = ap (λ o. option_map_or (λ (q : PlanPort). q.longest) o 0) found in
+      let a = longest_fits k (subst (λ n. k ≤ n) same most) in
+      omega (arith, a)
 
   -- ---- on the wire
 

@@ -14,20 +14,20 @@ use Rattle.iox_steps.specs.declared.site.Site.{Site}
 use Rattle.iox_word_map.specs.WordMaps.{MessageQueue, ReturningQueue, QueueWords, StateWord, IsResponseWay, lane_place, lane_words, pair_place, piece_place, piece_size, total_words}
 use Rattle.iox_word_map.proofs.Pieces.{pieces_are_sized, pieces_are_within}
 use Rattle.iox_word_map.proofs.Places.{lanes_are_computed, request_queues_are_computed}
-use Rattle.iox_word_places.specs.declared.plan.PlanLimits.{PlanLimits}
-use Rattle.iox_word_places.specs.declared.plan.WirePlan.{WirePlan}
-use Rattle.iox_word_places.specs.declared.way_index.WayIndex.TheVariants.{Requests, Responses}
-use Rattle.iox_word_places.specs.Plans.{IsLaneAt, IsPlan, IsPortAt, layout_of, message_kind, number_at, planned_buffer, port_numbers, returning_room, role_of, sizes_of, slot_words_of, way_at}
-use Rattle.iox_word_places.proofs.WayLemmas.{request_way_at, response_way_at, sender_role}
-use Rattle.iox_wire_words.specs.Programs.{WireLayout, site_of, state_place, word_place}
-use Rattle.iox_wire_locals.specs.Stored.{header_length}
-use Rattle.iox_wire_locals.specs.Tables.{Setting, region_word}
-use Rattle.iox_wire_layouts.specs.PlansOf.{IsSettingOf}
-use Rattle.iox_wire_layouts.proofs.Layouts.{planned_settings_agree}
-use Rattle.iox_wire_layouts.proofs.Planned.{same_found}
+use Rattle.iox_wire_messages.specs.PlanLimits.{PlanLimits}
+use Rattle.iox_wire_messages.specs.WirePlan.{WirePlan}
+use Rattle.iox_wire_messages.specs.WayIndex.TheVariants.{Requests, Responses}
+use Rattle.iox_wire_messages.specs.Plans.{IsLaneAt, IsPlan, IsPortAt, layout_of, message_kind, number_at, planned_buffer, port_numbers, returning_room, role_of, sizes_of, slot_words_of, way_at}
+use Rattle.iox_wire_messages.proofs.WayLemmas.{request_way_at, response_way_at, sender_role}
+use Rattle.iox_wire_messages.specs.Programs.{WireLayout, site_of, state_place, word_place}
+use Rattle.iox_wire_messages.specs.Stored.{header_length}
+use Rattle.iox_wire_messages.specs.Tables.{Setting, region_word}
+use Rattle.iox_wire_messages.specs.PlansOf.{IsSettingOf}
+use Rattle.iox_wire_messages.proofs.Layouts.{planned_settings_agree}
+use Rattle.iox_wire_messages.proofs.Planned.{same_found}
 use Rattle.iox_wire_receives.specs.Sources.{IsSource, IsWithin, messages_at, returning_at}
-use Rattle.iox_wire_seats.specs.Aims.{IsInMemory}
-use Rattle.iox_wire_seats.proofs.BeginLemmas.{forgot_is, queue_in_memory}
+use Rattle.iox_wire_messages.specs.Aims.{IsInMemory}
+use Rattle.iox_wire_messages.proofs.BeginLemmas.{forgot_is, queue_in_memory}
 use Rattle.iox_wire_ways.specs.RequestSources.{HasRequestWays, request_source, request_terms}
 use Rattle.iox_wire_ways.proofs.HeaderLemmas.{header_fits, header_word, low, slots_in_memory}
 

@@ -8,22 +8,22 @@ use Rattle.iox_steps.specs.declared.site.QueueKind.{QueueKind}
 use Rattle.iox_word_map.specs.WordMaps.{MessageQueue, ReturningQueue, QueueWords, StateWord, lane_place, lane_words, pair_place, piece_place, piece_size, total_words}
 use Rattle.iox_word_map.proofs.Pieces.{pieces_are_sized, pieces_are_within}
 use Rattle.iox_word_map.proofs.Places.{lanes_are_computed, request_queues_are_computed}
-use Rattle.iox_word_places.specs.declared.plan.WirePlan.{WirePlan}
-use Rattle.iox_word_places.specs.declared.way_index.WayIndex.TheVariants.{Requests, Responses}
-use Rattle.iox_word_places.specs.Plans.{IsLaneAt, IsPlan, IsPortAt, layout_of, message_kind, number_at, planned_buffer, returning_room, role_of, sizes_of, way_at}
-use Rattle.iox_word_places.proofs.PairLemmas.{client_of_lane}
-use Rattle.iox_word_places.proofs.WayLemmas.{request_way_at, response_way_at, sender_role}
-use Rattle.iox_wire_words.specs.Programs.{WireLayout, site_of, state_place}
-use Rattle.iox_wire_locals.specs.declared.seat.Seat.{Seat}
-use Rattle.iox_wire_locals.specs.declared.table.Entry.{Entry}
-use Rattle.iox_wire_locals.specs.Known.{known}
-use Rattle.iox_wire_locals.specs.Tables.{Setting}
-use Rattle.iox_wire_layouts.specs.PlansOf.{IsSettingOf}
-use Rattle.iox_wire_request_sends.specs.declared.target.RequestTerms.{RequestTerms}
-use Rattle.iox_wire_request_sends.specs.declared.target.Target.{Target}
-use Rattle.iox_wire_request_sends.specs.Targets.{AreTargets, AreWithin, IsTarget, IsWithin, messages_at, returning_at, servers_of}
-use Rattle.iox_wire_seats.specs.Aims.{IsInMemory}
-use Rattle.iox_wire_seats.proofs.BeginLemmas.{queue_in_memory}
+use Rattle.iox_wire_messages.specs.WirePlan.{WirePlan}
+use Rattle.iox_wire_messages.specs.WayIndex.TheVariants.{Requests, Responses}
+use Rattle.iox_wire_messages.specs.Plans.{IsLaneAt, IsPlan, IsPortAt, layout_of, message_kind, number_at, planned_buffer, returning_room, role_of, sizes_of, way_at}
+use Rattle.iox_wire_messages.proofs.PairLemmas.{client_of_lane}
+use Rattle.iox_wire_messages.proofs.WayLemmas.{request_way_at, response_way_at, sender_role}
+use Rattle.iox_wire_messages.specs.Programs.{WireLayout, site_of, state_place}
+use Rattle.iox_wire_messages.specs.Seat.{Seat}
+use Rattle.iox_wire_messages.specs.Entry.{Entry}
+use Rattle.iox_wire_messages.specs.Known.{known}
+use Rattle.iox_wire_messages.specs.Tables.{Setting}
+use Rattle.iox_wire_messages.specs.PlansOf.{IsSettingOf}
+use Rattle.iox_wire_copies.specs.RequestTerms.{RequestTerms}
+use Rattle.iox_wire_copies.specs.Target.{Target}
+use Rattle.iox_wire_copies.specs.Targets.{AreTargets, AreWithin, IsTarget, IsWithin, messages_at, returning_at, servers_of}
+use Rattle.iox_wire_messages.specs.Aims.{IsInMemory}
+use Rattle.iox_wire_messages.proofs.BeginLemmas.{queue_in_memory}
 use Rattle.iox_wire_ways.specs.RequestTargets.{target_of, target_terms}
 use Rattle.iox_wire_ways.specs.Visits.{is_other}
 use Rattle.iox_wire_ways.proofs.ListLemmas.{all_made, all_numbers, made_before, others_are}

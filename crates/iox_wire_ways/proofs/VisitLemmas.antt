@@ -9,14 +9,14 @@ use Rattle.iox_model.specs.Peers.{others, ports_of_role}
 use Rattle.iox_model.specs.Receives.{clients_to_visit, server_ways}
 use Rattle.iox_model.specs.Settings.{same_role}
 use Rattle.iox_model.specs.States.{Port}
-use Rattle.iox_word_places.specs.declared.plan.WirePlan.{WirePlan}
-use Rattle.iox_word_places.specs.Plans.{IsPlan, IsPortAt, number_at}
-use Rattle.iox_wire_words.specs.Programs.{WireLayout}
-use Rattle.iox_wire_locals.specs.declared.seat.Seat.{Seat}
-use Rattle.iox_wire_locals.specs.Known.{known}
-use Rattle.iox_wire_locals.specs.Stored.{header_length}
-use Rattle.iox_wire_locals.specs.Tables.{Setting}
-use Rattle.iox_wire_layouts.specs.PlansOf.{IsSettingOf}
+use Rattle.iox_wire_messages.specs.WirePlan.{WirePlan}
+use Rattle.iox_wire_messages.specs.Plans.{IsPlan, IsPortAt, number_at}
+use Rattle.iox_wire_messages.specs.Programs.{WireLayout}
+use Rattle.iox_wire_messages.specs.Seat.{Seat}
+use Rattle.iox_wire_messages.specs.Known.{known}
+use Rattle.iox_wire_messages.specs.Stored.{header_length}
+use Rattle.iox_wire_messages.specs.Tables.{Setting}
+use Rattle.iox_wire_messages.specs.PlansOf.{IsSettingOf}
 use Rattle.iox_wire_receives.specs.declared.source.ReceiveTerms.{ReceiveTerms}
 use Rattle.iox_wire_receives.specs.declared.source.Source.{Source}
 use Rattle.iox_wire_receives.specs.Sources.{AreSources, AreWithin, IsSource, IsWithin, ways_of}

@@ -1,13 +1,14 @@
 -- Where the messages of a port stand, as a plan tells it.
 use Rattle.std.specs.Prelude.{◌≡◌, ◌+◌, ◌-◌, ◌*◌, ◌/◌, ℕ}
+use Rattle.std.specs.Option.{option_map_or}
 use Rattle.iox_model.specs.declared.kind.Role.{Role}
 use Rattle.iox_word_map.specs.MessageWords.{in_words}
 use Rattle.iox_word_map.specs.WordMaps.{Region, piece_place}
-use Rattle.iox_word_places.specs.declared.plan.WirePlan.{WirePlan}
-use Rattle.iox_word_places.specs.Plans.{details_of, number_at, role_of, sizes_of, slot_words_of}
-use Rattle.iox_wire_locals.specs.Stored.{header_length}
+use Rattle.iox_wire_messages.specs.WirePlan.{WirePlan}
+use Rattle.iox_wire_messages.specs.Plans.{details_of, number_at, port_of, role_of, sizes_of, slot_words_of}
+use Rattle.iox_wire_messages.specs.Stored.{header_length}
 use Rattle.iox_wire_copies.specs.declared.payload_places.PayloadPlaces.{PayloadPlaces}
-use Rattle.iox_wire_loans.specs.declared.slot_places.SlotPlaces.{SlotPlaces}
+use Rattle.iox_wire_copies.specs.SlotPlaces.{SlotPlaces}
 use Rattle.iox_wire_ways.specs.Visits.{pool_of}
 
 -- the role of the port at an index
@@ -18,6 +19,14 @@ role_there plan i = role_of plan (number_at plan i)
 abbrev pub HasHeader : WirePlan → ℕ → Type 0
 HasHeader plan i =
     (details_of plan (role_there plan i)).header.size ≡ 8 * header_length (role_there plan i)
+
+-- the most elements of a message of a port
+abbrev pub longest_of : WirePlan → ℕ → ℕ
+longest_of plan n = option_map_or (λ q. q.longest) (port_of plan n) 0
+
+-- how many words an element has of what the port at an index sends
+abbrev pub element_words : WirePlan → ℕ → ℕ
+element_words plan i = (details_of plan (role_there plan i)).payload.size / 8
 
 -- how many words a slot has in front of its payload at most, wherever that begins
 abbrev pub words_in_front : WirePlan → ℕ → ℕ

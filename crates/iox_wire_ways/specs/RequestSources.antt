@@ -2,14 +2,14 @@
 use Rattle.std.specs.Prelude.{◌≡◌, ◌+◌, ◌*◌, ◌<◌, ◌^◌, ℕ, Bool, if◌then◌else◌, List, []}
 use Rattle.iox_model.specs.declared.kind.Role.TheVariants.{Client}
 use Rattle.iox_word_map.specs.WordMaps.{MessageQueue, Region, lane_words, piece_place, total_words}
-use Rattle.iox_word_places.specs.declared.plan.WirePlan.{WirePlan}
-use Rattle.iox_word_places.specs.declared.way_index.WayIndex.TheVariants.{Requests}
-use Rattle.iox_word_places.specs.Plans.{IsLaneAt, IsPortAt, layout_of, message_kind, number_at, planned_buffer, planned_limit, returning_room, sizes_of, slot_words_of, way_at}
-use Rattle.iox_wire_words.specs.Programs.{site_of}
-use Rattle.iox_wire_locals.specs.Stored.{header_length}
+use Rattle.iox_wire_messages.specs.WirePlan.{WirePlan}
+use Rattle.iox_wire_messages.specs.WayIndex.TheVariants.{Requests}
+use Rattle.iox_wire_messages.specs.Plans.{IsLaneAt, IsPortAt, layout_of, message_kind, number_at, planned_buffer, planned_limit, returning_room, sizes_of, slot_words_of, way_at}
+use Rattle.iox_wire_messages.specs.Programs.{site_of}
+use Rattle.iox_wire_messages.specs.Stored.{header_length}
 use Rattle.iox_wire_receives.specs.declared.source.Source.{Source}
 use Rattle.iox_wire_receives.specs.declared.source.ReceiveTerms.{ReceiveTerms}
-use Rattle.iox_wire_seats.specs.Seats.{node_at}
+use Rattle.iox_wire_messages.specs.Seats.{node_at}
 use Rattle.iox_wire_ways.specs.Visits.{pool_of}
 
 -- Each client has a lane, the header of a request has its words, and a number counts the words of

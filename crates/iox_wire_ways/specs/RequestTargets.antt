@@ -2,12 +2,12 @@
 use Rattle.std.specs.Prelude.{◌≡◌, ◌+◌, ◌*◌, ℕ}
 use Rattle.iox_model.specs.declared.kind.Role.TheVariants.{Client}
 use Rattle.iox_word_map.specs.WordMaps.{MessageQueue, lane_words}
-use Rattle.iox_word_places.specs.declared.plan.WirePlan.{WirePlan}
-use Rattle.iox_word_places.specs.declared.way_index.WayIndex.TheVariants.{Requests}
-use Rattle.iox_word_places.specs.Plans.{layout_of, message_kind, number_at, planned_buffer, returning_room, sizes_of, way_at}
-use Rattle.iox_wire_words.specs.Programs.{site_of}
-use Rattle.iox_wire_request_sends.specs.declared.target.RequestTerms.{RequestTerms}
-use Rattle.iox_wire_request_sends.specs.declared.target.Target.{Target}
+use Rattle.iox_wire_messages.specs.WirePlan.{WirePlan}
+use Rattle.iox_wire_messages.specs.WayIndex.TheVariants.{Requests}
+use Rattle.iox_wire_messages.specs.Plans.{layout_of, message_kind, number_at, planned_buffer, returning_room, sizes_of, way_at}
+use Rattle.iox_wire_messages.specs.Programs.{site_of}
+use Rattle.iox_wire_copies.specs.RequestTerms.{RequestTerms}
+use Rattle.iox_wire_copies.specs.Target.{Target}
 
 -- what is the same of all servers, for a loan on that lane; the rest is told elsewhere
 abbrev pub target_terms : WirePlan → (lane : ℕ) → RequestTerms → RequestTerms

@@ -2,13 +2,13 @@
 use Rattle.std.specs.Prelude.{ℕ, Bool}
 use Rattle.iox_model.specs.declared.kind.Role.TheVariants.{Server}
 use Rattle.iox_word_map.specs.WordMaps.{MessageQueue, Region, piece_place}
-use Rattle.iox_word_places.specs.declared.plan.WirePlan.{WirePlan}
-use Rattle.iox_word_places.specs.declared.way_index.WayIndex.TheVariants.{Responses}
-use Rattle.iox_word_places.specs.Plans.{layout_of, message_kind, number_at, planned_buffer, planned_limit, returning_room, sizes_of, slot_words_of, way_at}
-use Rattle.iox_wire_words.specs.Programs.{site_of}
+use Rattle.iox_wire_messages.specs.WirePlan.{WirePlan}
+use Rattle.iox_wire_messages.specs.WayIndex.TheVariants.{Responses}
+use Rattle.iox_wire_messages.specs.Plans.{layout_of, message_kind, number_at, planned_buffer, planned_limit, returning_room, sizes_of, slot_words_of, way_at}
+use Rattle.iox_wire_messages.specs.Programs.{site_of}
 use Rattle.iox_wire_receives.specs.declared.source.Source.{Source}
 use Rattle.iox_wire_receives.specs.declared.source.ReceiveTerms.{ReceiveTerms}
-use Rattle.iox_wire_seats.specs.Seats.{node_at}
+use Rattle.iox_wire_messages.specs.Seats.{node_at}
 use Rattle.iox_wire_ways.specs.Visits.{pool_of}
 
 -- what is the same of all servers: no request state is asked

@@ -5,12 +5,12 @@ use Rattle.iox_model.specs.declared.kind.Role.{Role}
 use Rattle.iox_model.specs.Maps.{has_number}
 use Rattle.iox_model.specs.Settings.{same_role}
 use Rattle.iox_word_map.specs.WordMaps.{ReturningQueue}
-use Rattle.iox_word_places.specs.declared.plan.PlanPort.{PlanPort}
-use Rattle.iox_word_places.specs.declared.plan.WirePlan.{WirePlan}
-use Rattle.iox_word_places.specs.declared.way_index.WayIndex.TheVariants.{Requests}
-use Rattle.iox_word_places.specs.Plans.{layout_of, port_of, way_at}
-use Rattle.iox_wire_words.specs.Programs.{site_of}
-use Rattle.iox_wire_seats.specs.declared.stops.Stop.{Stop}
+use Rattle.iox_wire_messages.specs.PlanPort.{PlanPort}
+use Rattle.iox_wire_messages.specs.WirePlan.{WirePlan}
+use Rattle.iox_wire_messages.specs.WayIndex.TheVariants.{Requests}
+use Rattle.iox_wire_messages.specs.Plans.{layout_of, port_of, way_at}
+use Rattle.iox_wire_messages.specs.Programs.{site_of}
+use Rattle.iox_wire_messages.specs.Stop.{Stop}
 
 -- whether a port is one of that role, of none of these nodes
 abbrev pub is_other : Role → List ℕ → PlanPort → Bool

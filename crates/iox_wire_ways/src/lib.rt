@@ -10,6 +10,15 @@ mod slots;
 mod sources;
 mod targets;
 
+pub use iox_wire_copies::{
+    CopyReply, CopyingClient, CopyingServer, LendReply, Lender, Lending, RequestReply,
+    RequestTerms, Requesting, RespondReply, Responding, ResponseCopyReply, ResponseTerms, Target,
+};
+pub use iox_wire_messages::{
+    Borrowed, Counts, Desks, Entries, Entry, MessagePlaces, PlanLimits, PlanPort, Popper, Pusher,
+    SeatReply, Stop, StoredDesk, StoredSeat, WayIndex, WirePlan, WordMap, WordMapNewError, is_plan,
+};
+pub use iox_wire_receives::{ReceiveReply, ReceiveTerms, Receiving, Source};
 pub use receives::{begin_request_receive, begin_response_receive};
 pub use response_terms::terms_of_response;
 pub use responses::list_response_sources;

@@ -2,23 +2,21 @@
 ghost use Rattle.std.specs.Prelude.{ℕ, ◌≡◌, ◌*◌, OnErr, OnOk, false};
 ghost use Rattle.iox_model.specs.declared.call.Call.TheVariants.{Receive};
 ghost use Rattle.iox_model.specs.declared.kind.Role.TheVariants.{Server};
-ghost use Rattle.iox_word_places.specs.Plans.{IsLaneAt, IsPortAt, number_at};
-ghost use Rattle.iox_wire_layouts.specs.PlansOf.{IsSettingOf};
-ghost use Rattle.iox_wire_locals.specs.Begins.{begins_at_entry, begins_at_port, is_busy};
-ghost use Rattle.iox_wire_locals.specs.Courses.{placed};
-ghost use Rattle.iox_wire_locals.specs.Lendings.{next_handle};
-ghost use Rattle.iox_wire_locals.specs.Stored.{header_length};
-ghost use Rattle.iox_wire_locals.specs.Tables.{Setting};
+ghost use Rattle.iox_wire_messages.specs.Plans.{IsLaneAt, IsPortAt, number_at};
+ghost use Rattle.iox_wire_messages.specs.PlansOf.{IsSettingOf};
+ghost use Rattle.iox_wire_messages.specs.Begins.{begins_at_entry, begins_at_port, is_busy};
+ghost use Rattle.iox_wire_messages.specs.Courses.{placed};
+ghost use Rattle.iox_wire_messages.specs.Lendings.{next_handle};
+ghost use Rattle.iox_wire_messages.specs.Stored.{header_length};
+ghost use Rattle.iox_wire_messages.specs.Tables.{Setting};
 ghost use Rattle.iox_wire_receives.specs.Aims.{HasRoomFor, IsAimed};
 ghost use Rattle.iox_wire_ways.specs.RequestSources.{HasRequestWays};
 
 use crate::responses::list_response_sources;
 use crate::sources::list_request_sources;
 use iox_model::kind::Role;
-use iox_wire_locals::{Entry, Visit};
+use iox_wire_messages::{Entry, StoredSeat, Visit, WordMap};
 use iox_wire_receives::{Receiving, Source};
-use iox_wire_seats::StoredSeat;
-use iox_word_places::WordMap;
 use std::alloc::AllocError;
 
 /// Begins the receive of the server at an index, whose handle will have that number. No receive may

@@ -1,18 +1,18 @@
 //! The way of a response.
 ghost use Rattle.std.specs.Prelude.{◌≡◌};
 ghost use Rattle.iox_model.specs.Requests.{fails_at};
-ghost use Rattle.iox_word_places.specs.declared.way_index.WayIndex.TheVariants.{Responses};
-ghost use Rattle.iox_word_places.specs.Plans.{IsWayAt, way_at};
-ghost use Rattle.iox_wire_layouts.specs.PlansOf.{IsSettingOf};
-ghost use Rattle.iox_wire_locals.specs.declared.seat.Seat.{Seat};
-ghost use Rattle.iox_wire_locals.specs.declared.table.Entry.{Entry};
-ghost use Rattle.iox_wire_locals.specs.Known.{known};
-ghost use Rattle.iox_wire_locals.specs.Tables.{Setting, state_in};
-ghost use Rattle.iox_wire_seats.specs.Aims.{IsInMemory};
-ghost use Rattle.iox_wire_sends.specs.Aims.{IsToldOf};
+ghost use Rattle.iox_wire_messages.specs.WayIndex.TheVariants.{Responses};
+ghost use Rattle.iox_wire_messages.specs.Plans.{IsWayAt, way_at};
+ghost use Rattle.iox_wire_messages.specs.PlansOf.{IsSettingOf};
+ghost use Rattle.iox_wire_messages.specs.Seat.{Seat};
+ghost use Rattle.iox_wire_messages.specs.Entry.{Entry};
+ghost use Rattle.iox_wire_messages.specs.Known.{known};
+ghost use Rattle.iox_wire_messages.specs.Tables.{Setting, state_in};
+ghost use Rattle.iox_wire_messages.specs.Aims.{IsInMemory};
+ghost use Rattle.iox_wire_copies.specs.Aims.{IsToldOf};
 
-use iox_wire_sends::ResponseTerms;
-use iox_word_places::{WayIndex, WordMap};
+use iox_wire_copies::ResponseTerms;
+use iox_wire_messages::{WayIndex, WordMap};
 
 /// What the send of a response is told of its way, from the server at an index to a lane of the
 /// client at another. Whether it fails at a full client is told elsewhere.

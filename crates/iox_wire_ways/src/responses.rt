@@ -3,13 +3,13 @@ ghost use Rattle.std.specs.Prelude.{◌≡◌, ◌*◌, ◌<◌, IfOk, IfSome, O
 ghost use Rattle.iox_model.specs.declared.kind.Role.TheVariants.{Client, Server};
 ghost use Rattle.iox_model.specs.Messages.{response_way};
 ghost use Rattle.iox_model.specs.Peers.{ports_of_role};
-ghost use Rattle.iox_word_places.specs.declared.way_index.WayIndex.TheVariants.{Responses};
-ghost use Rattle.iox_word_places.specs.Plans.{IsLaneAt, IsPortAt, IsWayAt, number_at};
-ghost use Rattle.iox_wire_layouts.specs.PlansOf.{IsSettingOf};
-ghost use Rattle.iox_wire_locals.specs.declared.seat.Seat.{Seat};
-ghost use Rattle.iox_wire_locals.specs.Known.{known};
-ghost use Rattle.iox_wire_locals.specs.Stored.{header_length};
-ghost use Rattle.iox_wire_locals.specs.Tables.{Setting};
+ghost use Rattle.iox_wire_messages.specs.WayIndex.TheVariants.{Responses};
+ghost use Rattle.iox_wire_messages.specs.Plans.{IsLaneAt, IsPortAt, IsWayAt, number_at};
+ghost use Rattle.iox_wire_messages.specs.PlansOf.{IsSettingOf};
+ghost use Rattle.iox_wire_messages.specs.Seat.{Seat};
+ghost use Rattle.iox_wire_messages.specs.Known.{known};
+ghost use Rattle.iox_wire_messages.specs.Stored.{header_length};
+ghost use Rattle.iox_wire_messages.specs.Tables.{Setting};
 ghost use Rattle.iox_wire_receives.specs.declared.source.Source.{Source};
 ghost use Rattle.iox_wire_receives.specs.Sources.{AreSources, AreWithin, ways_of};
 ghost use Rattle.iox_wire_ways.specs.ResponseSources.{response_source, response_terms};
@@ -18,8 +18,8 @@ ghost use Rattle.iox_wire_ways.specs.Visits.{is_other, made_at};
 use iox_model::kind::Role;
 use iox_model::way::Way;
 use iox_steps::QueueKind;
+use iox_wire_messages::{PlanPort, WayIndex, WordMap};
 use iox_wire_receives::{ReceiveTerms, Source};
-use iox_word_places::{PlanPort, WayIndex, WordMap};
 use std::alloc::AllocError;
 
 /// Whether a port is a server, of whatever node.

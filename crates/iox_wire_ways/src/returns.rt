@@ -3,21 +3,20 @@ ghost use Rattle.std.specs.Prelude.{◌≡◌, ◌<◌, IfOk, IfSome, OnOk, leng
 ghost use Rattle.iox_model.specs.declared.kind.Role.TheVariants.{Client, Server};
 ghost use Rattle.iox_model.specs.Loans.{request_ways};
 ghost use Rattle.iox_steps.specs.declared.site.QueueKind.TheVariants.{Index};
-ghost use Rattle.iox_word_places.specs.declared.way_index.WayIndex.TheVariants.{Requests};
-ghost use Rattle.iox_word_places.specs.Plans.{IsPortAt, IsWayAt, number_at, returning_room};
-ghost use Rattle.iox_wire_layouts.specs.PlansOf.{IsSettingOf};
-ghost use Rattle.iox_wire_loans.specs.Lenders.{AreReturning};
-ghost use Rattle.iox_wire_locals.specs.Known.{known};
-ghost use Rattle.iox_wire_locals.specs.Tables.{Setting};
-ghost use Rattle.iox_wire_seats.specs.declared.stops.Stop.{Stop};
-ghost use Rattle.iox_wire_seats.specs.Aims.{QueuesInMemory};
-ghost use Rattle.iox_wire_seats.specs.Seats.{ways_of};
+ghost use Rattle.iox_wire_messages.specs.WayIndex.TheVariants.{Requests};
+ghost use Rattle.iox_wire_messages.specs.Plans.{IsPortAt, IsWayAt, number_at, returning_room};
+ghost use Rattle.iox_wire_messages.specs.PlansOf.{IsSettingOf};
+ghost use Rattle.iox_wire_copies.specs.Lenders.{AreReturning};
+ghost use Rattle.iox_wire_messages.specs.Known.{known};
+ghost use Rattle.iox_wire_messages.specs.Tables.{Setting};
+ghost use Rattle.iox_wire_messages.specs.Stop.{Stop};
+ghost use Rattle.iox_wire_messages.specs.Aims.{QueuesInMemory};
+ghost use Rattle.iox_wire_messages.specs.Seats.{ways_of};
 ghost use Rattle.iox_wire_ways.specs.Visits.{is_other, made_at, returning_stop};
 
 use iox_model::kind::Role;
 use iox_model::way::Way;
-use iox_wire_seats::{Stop, StoredSeat};
-use iox_word_places::{PlanPort, WayIndex, WordMap};
+use iox_wire_messages::{PlanPort, Stop, StoredSeat, WayIndex, WordMap};
 use std::alloc::AllocError;
 
 /// A way on which messages return, and for how many there is room.

@@ -1,18 +1,17 @@
 //! Where the messages of a port stand.
 ghost use Rattle.std.specs.Prelude.{ℕ, ◌≡◌, ◌*◌, ◌≤◌};
 ghost use Rattle.iox_word_map.specs.MessageWords.{in_words as words_of};
-ghost use Rattle.iox_word_places.specs.Plans.{IsSlotAt, number_at, slot_words_of};
-ghost use Rattle.iox_wire_layouts.specs.PlansOf.{IsSettingOf};
-ghost use Rattle.iox_wire_loans.specs.Lenders.{AreSlots, IsWithin};
-ghost use Rattle.iox_wire_locals.specs.Tables.{Setting, port_shape};
+ghost use Rattle.iox_wire_messages.specs.Plans.{IsSlotAt, number_at, slot_words_of};
+ghost use Rattle.iox_wire_messages.specs.PlansOf.{IsSettingOf};
+ghost use Rattle.iox_wire_copies.specs.Lenders.{AreSlots, IsWithin};
+ghost use Rattle.iox_wire_messages.specs.Tables.{Setting, port_shape};
 ghost use Rattle.iox_wire_copies.specs.Copies.{ArePayloads};
 ghost use Rattle.iox_wire_copies.specs.Payloads.{HasRoom};
 ghost use Rattle.iox_wire_ways.specs.PlannedSlots.{HasHeader, planned_payloads, planned_slots};
-ghost use Rattle.iox_wire_ways.specs.PlannedSlots.{words_in_front};
+ghost use Rattle.iox_wire_ways.specs.PlannedSlots.{element_words, longest_of, words_in_front};
 
-use iox_wire_copies::PayloadPlaces;
-use iox_wire_loans::SlotPlaces;
-use iox_word_places::WordMap;
+use iox_wire_copies::{PayloadPlaces, SlotPlaces};
+use iox_wire_messages::WordMap;
 
 /// An alignment of bytes as one of words.
 fn in_words(alignment: usize) -> usize
@@ -93,6 +92,8 @@ pub fn payload_places(map: &WordMap, port: usize) -> PayloadPlaces
     ensures payloads { (p : Setting) → IsSettingOf map.now p
         → ArePayloads p (number_at map.now port) (planned_slots map.now port) result }
     ensures room { HasRoom (planned_slots map.now port) result }
+    ensures fits { (k : ℕ) → k ≤ longest_of map.now (number_at map.now port)
+        → k * element_words map.now port ≤ result.room }
     ensures longest { (p : Setting) → (k : ℕ) → IsSettingOf map.now p
         → k ≤ (p.port (number_at map.now port)).longest
         → k * (port_shape p (number_at map.now port)).width ≤ result.room }

@@ -2,12 +2,12 @@
 ghost use Rattle.std.specs.Prelude.{◌≡◌, ◌<◌, IfOk, IfSome, OnOk, length, option_map};
 ghost use Rattle.iox_model.specs.declared.kind.Role.TheVariants.{Client, Server};
 ghost use Rattle.iox_model.specs.Receives.{server_ways};
-ghost use Rattle.iox_word_places.specs.declared.way_index.WayIndex.TheVariants.{Requests, Responses};
-ghost use Rattle.iox_word_places.specs.Plans.{IsPortAt, IsWayAt, number_at};
-ghost use Rattle.iox_wire_layouts.specs.PlansOf.{IsSettingOf};
-ghost use Rattle.iox_wire_locals.specs.Known.{known};
-ghost use Rattle.iox_wire_locals.specs.Stored.{header_length};
-ghost use Rattle.iox_wire_locals.specs.Tables.{Setting};
+ghost use Rattle.iox_wire_messages.specs.WayIndex.TheVariants.{Requests, Responses};
+ghost use Rattle.iox_wire_messages.specs.Plans.{IsPortAt, IsWayAt, number_at};
+ghost use Rattle.iox_wire_messages.specs.PlansOf.{IsSettingOf};
+ghost use Rattle.iox_wire_messages.specs.Known.{known};
+ghost use Rattle.iox_wire_messages.specs.Stored.{header_length};
+ghost use Rattle.iox_wire_messages.specs.Tables.{Setting};
 ghost use Rattle.iox_wire_receives.specs.declared.source.Source.{Source};
 ghost use Rattle.iox_wire_receives.specs.Sources.{AreSources, AreWithin, ways_of};
 ghost use Rattle.iox_wire_ways.specs.RequestSources.{HasRequestWays, passed_over};
@@ -17,9 +17,8 @@ ghost use Rattle.iox_wire_ways.specs.Visits.{is_other, made_at};
 use iox_model::kind::Role;
 use iox_model::way::Way;
 use iox_steps::QueueKind;
+use iox_wire_messages::{PlanPort, StoredSeat, WayIndex, WordMap};
 use iox_wire_receives::{ReceiveTerms, Source};
-use iox_wire_seats::StoredSeat;
-use iox_word_places::{PlanPort, WayIndex, WordMap};
 use std::alloc::AllocError;
 
 /// Whether a receive visits a port: it is a client, and its node is not forgotten or all are

@@ -2,21 +2,20 @@
 ghost use Rattle.std.specs.Prelude.{◌≡◌, ◌<◌, IfOk, IfSome, OnOk, length};
 ghost use Rattle.iox_model.specs.declared.kind.Role.TheVariants.{Client, Server};
 ghost use Rattle.iox_model.specs.Peers.{others};
-ghost use Rattle.iox_word_places.specs.declared.way_index.WayIndex.TheVariants.{Requests, Responses};
-ghost use Rattle.iox_word_places.specs.Plans.{IsLaneAt, IsPortAt, IsWayAt, number_at};
-ghost use Rattle.iox_wire_layouts.specs.PlansOf.{IsSettingOf};
-ghost use Rattle.iox_wire_locals.specs.declared.table.Entry.{Entry};
-ghost use Rattle.iox_wire_locals.specs.Known.{known};
-ghost use Rattle.iox_wire_locals.specs.Tables.{Setting};
-ghost use Rattle.iox_wire_request_sends.specs.declared.target.Target.{Target};
-ghost use Rattle.iox_wire_request_sends.specs.Targets.{AreTargets, AreWithin, servers_of};
+ghost use Rattle.iox_wire_messages.specs.WayIndex.TheVariants.{Requests, Responses};
+ghost use Rattle.iox_wire_messages.specs.Plans.{IsLaneAt, IsPortAt, IsWayAt, number_at};
+ghost use Rattle.iox_wire_messages.specs.PlansOf.{IsSettingOf};
+ghost use Rattle.iox_wire_messages.specs.Entry.{Entry};
+ghost use Rattle.iox_wire_messages.specs.Known.{known};
+ghost use Rattle.iox_wire_messages.specs.Tables.{Setting};
+ghost use Rattle.iox_wire_copies.specs.Target.{Target};
+ghost use Rattle.iox_wire_copies.specs.Targets.{AreTargets, AreWithin, servers_of};
 ghost use Rattle.iox_wire_ways.specs.RequestTargets.{KeepsTerms, target_of, target_terms};
 ghost use Rattle.iox_wire_ways.specs.Visits.{is_other, made_at};
 
 use crate::returns::is_server_left;
-use iox_wire_request_sends::{RequestTerms, Target};
-use iox_wire_seats::StoredSeat;
-use iox_word_places::{WayIndex, WordMap};
+use iox_wire_copies::{RequestTerms, Target};
+use iox_wire_messages::{StoredSeat, WayIndex, WordMap};
 use std::alloc::AllocError;
 
 /// A server, for a client.

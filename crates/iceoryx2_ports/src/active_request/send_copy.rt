@@ -11,6 +11,7 @@ ghost use Rattle.iox_hub.specs.Lending.{payload_of};
 ghost use Rattle.iox_hub_laws.specs.Sends.{BringsOnly, CopiesResponse, WaitsAsBefore};
 ghost use Rattle.iceoryx2_ports.specs.Copies.{LeavesUnsent, reply_of_response_copy};
 ghost use Rattle.iceoryx2_ports.specs.Keeping.{KeepsAsking, KeepsValues};
+ghost use Rattle.iceoryx2_ports.specs.Opens.{KeepsRequests};
 ghost use Rattle.iceoryx2_ports.specs.Responses.{ReachesAsker};
 
 use super::ActiveRequest;
@@ -37,6 +38,7 @@ impl<Q: Payload, QH: Words, E: Words, PH: Words> ActiveRequest<Q, QH, One<E>, PH
         ensures unsent { OnErr result (WaitsAsBefore hub.old hub.new) }
         ensures reaches { OnOk result
             (ReachesAsker hub.old self.now.node self.now.number hub.new) }
+        ensures requests { KeepsRequests hub.old hub.new }
         ensures only { BringsOnly hub.old (flat_map E.words (value ∷ [])) hub.new }
         ensures left { IfErr result (λ error. LeavesUnsent hub.old error hub.new) }
     {

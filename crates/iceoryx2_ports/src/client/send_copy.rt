@@ -10,6 +10,8 @@ ghost use Rattle.iox_hub.specs.Copying.{IsAwaited};
 ghost use Rattle.iox_hub.specs.Hubs.{HasValue, state_of_hub};
 ghost use Rattle.iox_hub.specs.Lending.{payload_of};
 ghost use Rattle.iox_hub_laws.specs.Sends.{BringsOnly};
+ghost use Rattle.iox_hub_laws.specs.Waiting.{client_in};
+ghost use Rattle.iceoryx2_ports.specs.Asking.{BringsItsRequest, LendsQuietly, OpensAtServers};
 ghost use Rattle.iceoryx2_ports.specs.Copies.{LeavesUnasked, reply_of_request_copy};
 ghost use Rattle.iceoryx2_ports.specs.Idling.{BringsOne};
 ghost use Rattle.iceoryx2_ports.specs.Keeping.{KeepsAsking, KeepsValues};
@@ -44,6 +46,12 @@ impl<E: Words, QH: Words, P: Payload, PH: Words> Client<One<E>, QH, P, PH> {
         ensures sent { OnOk result (CopiesRequest hub.old self.now.number
             (flat_map E.words (value ∷ [])) hub.new) }
         ensures reaches { OnOk result (ReachesServers hub.old hub.new) }
+        ensures quiet { IfOk result (λ pending.
+            LendsQuietly hub.old self.now.number hub.new pending.node pending.number) }
+        ensures asked { IfOk result (λ pending. BringsItsRequest hub.old
+            (client_in hub.new pending.node pending.number) hub.new) }
+        ensures opens { IfOk result (λ pending. OpensAtServers hub.old
+            (client_in hub.new pending.node pending.number) hub.new) }
         ensures keeps { KeepsValues hub.old hub.new }
         ensures asks { KeepsAsking hub.old hub.new }
         ensures only { BringsOnly hub.old (flat_map E.words (value ∷ [])) hub.new }

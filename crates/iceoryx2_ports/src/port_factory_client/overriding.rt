@@ -8,7 +8,7 @@ ghost use Rattle.iox_hub_laws.specs.Sends.{NothingComes};
 ghost use Rattle.iceoryx2_ports.specs.Idling.{IsIdle, client_on};
 ghost use Rattle.iceoryx2_ports.specs.Keeping.{KeepsValues};
 ghost use Rattle.iceoryx2_ports.specs.Makings.{reply_of_client};
-ghost use Rattle.iceoryx2_ports.specs.Overrides.{IsMadeWithItsPool};
+ghost use Rattle.iceoryx2_ports.specs.Overrides.{IsMadeWithItsPool, MadeWith};
 ghost use Rattle.iceoryx2_ports.specs.Reaching.{KeepsRoom};
 ghost use Rattle.iceoryx2_ports.specs.declared.errors.ClientCreateError.TheVariants.{FailedToDeployThreadsafetyPolicy};
 
@@ -21,12 +21,24 @@ use iox_model::kind::Role;
 use iox_store::Payload;
 use iox_words::Words;
 use std::alloc::Global;
+use std::marker::Model;
 
 /// What a client is made with, where a closure chooses how many requests it has memory for.
 #[derive(Drop)]
 pub struct PreallocatedClient<Q, QH, P, PH, F> {
     factory: PortFactoryClient<Q, QH, P, PH>,
     callback: F,
+}
+
+impl<Q, QH, P, PH, F> Model for PreallocatedClient<Q, QH, P, PH, F> {
+    ghost Value = { MadeWith F };
+
+    ghost view = { λ it. record {
+      node = it.factory.node;
+      id = it.factory.node_id;
+      options = it.factory.options;
+      closure = it.callback;
+    } };
 }
 
 impl<Q: Payload, QH: Words, P: Payload, PH: Words> PortFactoryClient<Q, QH, P, PH> {
@@ -37,8 +49,10 @@ impl<Q: Payload, QH: Words, P: Payload, PH: Words> PortFactoryClient<Q, QH, P, P
         self,
         callback: F,
     ) -> PreallocatedClient<Q, QH, P, PH, F>
-        ensures factory { result.factory ≡ self }
-        ensures callback { result.callback ≡ callback }
+        ensures node { result.node ≡ self.node }
+        ensures id { result.id ≡ self.node_id }
+        ensures options { result.options ≡ self.options }
+        ensures closure { result.closure ≡ callback }
     {
         PreallocatedClient {
             factory: self,
@@ -60,11 +74,10 @@ impl<Q: Payload, QH: Words, P: Payload, PH: Words, F: Fn(usize) -> usize + Drop>
         alloc: Global,
         hub: &mut Hub<Q, QH, P, PH>,
     ) -> Result<Client<Q, QH, P, PH>, ClientCreateError>
-        requires { F.IsAlwaysCallable self.callback }
-        ensures whole { IsMadeWithItsPool hub.old self.factory.node roles.Client
-            self.factory.node_id (F.post self.callback) self.factory.options
-            (reply_of_client result) hub.new }
-        ensures node { IfOk result (λ client. client.node ≡ self.factory.node) }
+        requires { F.IsAlwaysCallable self.closure }
+        ensures whole { IsMadeWithItsPool hub.old self.node roles.Client self.id
+            (F.post self.closure) self.options (reply_of_client result) hub.new }
+        ensures node { IfOk result (λ client. client.node ≡ self.node) }
         ensures has { IfOk result (λ client.
             HasValue hub.new client.node client.number kinds.Client) }
         ensures keeps { KeepsValues hub.old hub.new }

@@ -9,7 +9,7 @@ ghost use Rattle.iox_hub_laws.specs.Waiting.{server_of};
 ghost use Rattle.iceoryx2_ports.specs.Idling.{IsIdle};
 ghost use Rattle.iceoryx2_ports.specs.Keeping.{KeepsValues};
 ghost use Rattle.iceoryx2_ports.specs.Makings.{reply_of_server};
-ghost use Rattle.iceoryx2_ports.specs.Overrides.{IsMadeWithItsPool};
+ghost use Rattle.iceoryx2_ports.specs.Overrides.{IsMadeWithItsPool, MadeWith};
 ghost use Rattle.iceoryx2_ports.specs.Reaching.{KeepsRoom};
 ghost use Rattle.iceoryx2_ports.specs.declared.errors.ServerCreateError.TheVariants.{FailedToDeployThreadsafetyPolicy};
 
@@ -22,12 +22,24 @@ use iox_model::kind::Role;
 use iox_store::Payload;
 use iox_words::Words;
 use std::alloc::Global;
+use std::marker::Model;
 
 /// What a server is made with, where a closure chooses how many responses it has memory for.
 #[derive(Drop)]
 pub struct PreallocatedServer<Q, QH, P, PH, F> {
     factory: PortFactoryServer<Q, QH, P, PH>,
     callback: F,
+}
+
+impl<Q, QH, P, PH, F> Model for PreallocatedServer<Q, QH, P, PH, F> {
+    ghost Value = { MadeWith F };
+
+    ghost view = { λ it. record {
+      node = it.factory.node;
+      id = it.factory.node_id;
+      options = it.factory.options;
+      closure = it.callback;
+    } };
 }
 
 impl<Q: Payload, QH: Words, P: Payload, PH: Words> PortFactoryServer<Q, QH, P, PH> {
@@ -38,8 +50,10 @@ impl<Q: Payload, QH: Words, P: Payload, PH: Words> PortFactoryServer<Q, QH, P, P
         self,
         callback: F,
     ) -> PreallocatedServer<Q, QH, P, PH, F>
-        ensures factory { result.factory ≡ self }
-        ensures callback { result.callback ≡ callback }
+        ensures node { result.node ≡ self.node }
+        ensures id { result.id ≡ self.node_id }
+        ensures options { result.options ≡ self.options }
+        ensures closure { result.closure ≡ callback }
     {
         PreallocatedServer {
             factory: self,
@@ -61,11 +75,10 @@ impl<Q: Payload, QH: Words, P: Payload, PH: Words, F: Fn(usize) -> usize + Drop>
         alloc: Global,
         hub: &mut Hub<Q, QH, P, PH>,
     ) -> Result<Server<Q, QH, P, PH>, ServerCreateError>
-        requires { F.IsAlwaysCallable self.callback }
-        ensures whole { IsMadeWithItsPool hub.old self.factory.node roles.Server
-            self.factory.node_id (F.post self.callback) self.factory.options
-            (reply_of_server result) hub.new }
-        ensures node { IfOk result (λ server. server.node ≡ self.factory.node) }
+        requires { F.IsAlwaysCallable self.closure }
+        ensures whole { IsMadeWithItsPool hub.old self.node roles.Server self.id
+            (F.post self.closure) self.options (reply_of_server result) hub.new }
+        ensures node { IfOk result (λ server. server.node ≡ self.node) }
         ensures has { IfOk result (λ server.
             HasValue hub.new server.node server.number kinds.Server) }
         ensures keeps { KeepsValues hub.old hub.new }

@@ -15,6 +15,7 @@ ghost use Rattle.iox_hub.specs.Reads.{message_in};
 ghost use Rattle.iox_hub_laws.specs.Sends.{NothingComes};
 ghost use Rattle.iceoryx2_ports.specs.Asking.{AnswersAs};
 ghost use Rattle.iceoryx2_ports.specs.Keeping.{KeepsAsking};
+ghost use Rattle.iceoryx2_ports.specs.Opens.{KeepsRequests};
 ghost use Rattle.iceoryx2_ports.specs.Payloads.{reply_of_put};
 ghost use Rattle.iceoryx2_ports.specs.Reaching.{KeepsRoom};
 
@@ -41,6 +42,7 @@ impl<Q: Payload, QH: Words, P: Payload, PH: Words> ResponseMut<Q, QH, P, PH> {
         ensures keeps { KeepsOthers hub.old self.now.node self.now.number hub.new }
         ensures asks { KeepsAsking hub.old hub.new }
         ensures room { KeepsRoom hub.old hub.new }
+        ensures requests { KeepsRequests hub.old hub.new }
         ensures unchanged { OnFalse result (hub.new ≡ hub.old) }
     {
         match hub.write_response(self.node, self.number, self.hint, values) {
@@ -67,6 +69,7 @@ impl<Q: Payload, QH: Words, E: Words, PH: Words> ResponseMut<Q, QH, One<E>, PH> 
         ensures keeps { KeepsOthers hub.old self.now.node self.now.number hub.new }
         ensures asks { KeepsAsking hub.old hub.new }
         ensures room { KeepsRoom hub.old hub.new }
+        ensures requests { KeepsRequests hub.old hub.new }
     {
         if !self.set_payload_from_slice(hub, &[value]) {
             unreachable!();

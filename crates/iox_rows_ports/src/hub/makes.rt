@@ -115,6 +115,27 @@ fn the_ninth_client_of_eight_is_refused(rt: HostRuntime) -> Result<(), Fail> {
 }
 
 #[test]
+fn a_server_of_single_elements_is_made_though_its_messages_are_to_grow(
+    rt: HostRuntime,
+) -> Result<(), Fail> {
+    let mut hub = hub(rt.alloc(), AllocationStrategy::BestFit)?;
+    for (expected, allocation) in [
+        (0, AllocationStrategy::BestFit),
+        (1, AllocationStrategy::PowerOfTwo),
+    ] {
+        let growing = Options {
+            allocation: Some(allocation),
+            ..OPTIONS
+        };
+        let server = hub.make_port(rt.alloc(), 0, Role::Server, NODE, growing);
+        assert_eq!(rt; number(server), expected);
+    }
+    let client = hub.make_port(rt.alloc(), 0, Role::Client, NODE, OPTIONS);
+    assert_eq!(rt; reason(client), Some(NotMade::DataSegment));
+    Ok(())
+}
+
+#[test]
 fn a_port_that_is_too_large_or_would_grow_is_refused(rt: HostRuntime) -> Result<(), Fail> {
     let mut hub = hub(rt.alloc(), AllocationStrategy::BestFit)?;
     let growing = hub.make_port(rt.alloc(), 0, Role::Client, NODE, OPTIONS);

@@ -1,7 +1,8 @@
 //! How many messages a port needs, and who chooses fewer.
 ghost use Rattle.std.specs.Prelude.{◌≡◌};
 
-use iox_control_lending::Lent;
+use iox_control::Settings;
+use iox_control_lending::{Lent, LoanRefusal};
 use iox_control_making::NotMade;
 use iox_hub::{
     Hub, MessageShape, Options, PreallocatedRequestsOverride, PreallocatedResponseOverride,
@@ -35,6 +36,18 @@ fn hub(alloc: Global) -> Result<TheHub, AllocError> {
     let request = MessageShape::of_requests(None, ());
     let response = MessageShape::of_responses(None, ());
     Hub::new(alloc, default_settings(), request, response)
+}
+
+/// A hub whose settings say that the messages of its ports grow.
+fn growing_hub(alloc: Global) -> Result<TheHub, AllocError> {
+    let settings = Settings {
+        client_allocation: AllocationStrategy::BestFit,
+        server_allocation: AllocationStrategy::PowerOfTwo,
+        ..default_settings()
+    };
+    let request = MessageShape::of_requests(None, ());
+    let response = MessageShape::of_responses(None, ());
+    Hub::new(alloc, settings, request, response)
 }
 
 /// Whether the client lends a request, and if not, whether its pool is dry.
@@ -126,11 +139,36 @@ fn a_client_whose_pool_is_chosen_has_that_many_messages(rt: HostRuntime) -> Resu
 fn without_memory_a_port_lacks_its_data_segment(rt: HostRuntime) -> Result<(), Fail> {
     let mut hub = hub(rt.alloc())?;
     assert_eq!(rt; hub.without_memory(), NotMade::DataSegment);
-    let growing = Options {
-        allocation: Some(AllocationStrategy::PowerOfTwo),
+    let large = Options {
+        loaned_responses: Some(1 << 62),
         ..OPTIONS
     };
-    let made = hub.make_port(rt.alloc(), 0, Role::Client, NODE, growing);
+    let made = hub.make_port(rt.alloc(), 0, Role::Server, NODE, large);
     assert_eq!(rt; made.err(), Some(NotMade::DataSegment));
+    Ok(())
+}
+
+/// What comes of the client's loan of so many elements: its slot, or why there is none.
+fn lent(hub: &mut TheHub, client: u64, elements: usize) -> Option<Result<u64, LoanRefusal>> {
+    if !hub.has(0, client, Kind::Client, 0) {
+        return None;
+    }
+    match hub.lend_request(0, client, elements, true) {
+        Lent::Handle(loan) => Some(Ok(loan.number)),
+        Lent::Refused(refusal) => Some(Err(refusal)),
+        Lent::OutOfMemory => None,
+    }
+}
+
+#[test]
+fn a_message_of_one_element_never_grows(rt: HostRuntime) -> Result<(), Fail> {
+    let mut hub = growing_hub(rt.alloc())?;
+    let client = hub.make_port(rt.alloc(), 0, Role::Client, NODE, OPTIONS);
+    assert_eq!(rt; client.ok(), Some(0));
+    let server = hub.make_port(rt.alloc(), 0, Role::Server, NODE, OPTIONS);
+    assert_eq!(rt; server.ok(), Some(1));
+    assert_eq!(rt; lent(&mut hub, 0, 33), Some(Err(LoanRefusal::WrongLength)));
+    assert_eq!(rt; lent(&mut hub, 0, 0), Some(Err(LoanRefusal::WrongLength)));
+    assert_eq!(rt; lent(&mut hub, 0, 1), Some(Ok(2)));
     Ok(())
 }

@@ -1,4 +1,6 @@
-use Rattle.iox_wire_calls.proofs.CallsStand.{begun_calls_stand, calls_stand_at_first, deaths_leave_calls, stepped_calls_stand}
+use Rattle.iox_wire_calls.proofs.CallsAround.{calls_stand_at_first, deaths_leave_calls}
+use Rattle.iox_wire_calls.proofs.CallsBegun.{begun_calls_stand}
+use Rattle.iox_wire_calls.proofs.CallsStand.{stepped_calls_stand}
 use Rattle.iox_wire_calls.proofs.calls_stand.Goals as goal
 
 pub returns-clause-first : goal.returns-clause-first

@@ -37,6 +37,7 @@ use Rattle.iox_wire_laws.specs.WireShows.OwnedCalls.{LimitsAreKnown, OwnsCall, T
 use Rattle.iox_wire_laws.specs.WireShows.StepsShow.{ShowsNext}
 use Rattle.iox_wire_laws.proofs.WireShows.OwnedSteps.{steps_own_the_next_place}
 use Rattle.iox_wire_laws.specs.WireRegions.OwnedWords.{FreeSlotsAreThePools, Owns}
+use Rattle.iox_wire_laws.specs.WireRegions.OwnedWordLaws.{TakesLane}
 use Rattle.iox_wire_laws.proofs.WireRegions.OwnedNext.{owners_go_on}
 use Rattle.iox_wire_laws.specs.WireHolding.HeldSteps.{FreeSlotsAreUnnamed, StepsShowWhatIsHeld}
 use Rattle.iox_wire_laws.specs.WireHolding.Holding.{held_at, held_from, held_with}
@@ -72,10 +73,10 @@ module _ (p : Setting) (held : Pools) (word word' : ℕ → ℕ) (c : WireConten
 
   module _ (free : FreeSlotsAreUnnamed p c seats w.state (seats n)) (owns : Owns p (seats n).node w.state.fixed w.state.request_state (seats n).local)
       (pools : FreeSlotsAreThePools p (seats n)) (limits : LimitsAreKnown p (seats n) w.state.fixed) (tells : WordsTell p (seats n).local seen)
-      (made : IsMade (program_access p.layout (program_of p (seats n).local)) word word') where
+      (lent : TakesLane p (seats n).local y.local) (made : IsMade (program_access p.layout (program_of p (seats n).local)) word word') where
     go : (new : Pools) → ShowsWorld p new word c seats w → TellsLane new (seats n).local
         → ReliesOn p (accessed (seats n)) w.state new (seats n).local seen → Goal new
-    go new shown lane relies = owners_go_on p new word word' c seats w n shown living owns pools lane limits tells relies made
+    go new shown lane relies = owners_go_on p new word word' c seats w n shown living owns pools lane limits tells relies lent made
 
     -- ---- a loan
 
@@ -132,5 +133,5 @@ module _ (p : Setting) (held : Pools) (word word' : ℕ → ℕ) (c : WireConten
       by_place local is own rests = subst Goal (sym (others local is own)) (go held shows lane relies)
 
 pub steps_show_what_is_held : StepsShowWhatIsHeld
-steps_show_what_is_held p held word word' c seats w n shows living free owns pools lane limits tells relies made =
-    by_place p held word word' c seats w n shows living free owns pools limits tells made lane relies (seats n).local refl owns relies
+steps_show_what_is_held p held word word' c seats w n shows living free owns pools lane limits tells relies lent made =
+    by_place p held word word' c seats w n shows living free owns pools limits tells lent made lane relies (seats n).local refl owns relies

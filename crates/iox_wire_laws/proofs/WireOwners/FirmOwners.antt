@@ -68,18 +68,18 @@ others_leave_firm p w u b n local reach beat other living fits firm = by_place p
 -- ---- own accesses
 
 pub firm_owners_stay : FirmOwnersStay
-firm_owners_stay p held s x seen firm knows free limits relies tells = record {
-  owns = owners_stay_owners p held s x seen firm.owns knows free limits relies tells;
+firm_owners_stay p held s x seen firm knows free limits relies tells lent = record {
+  owns = owners_stay_owners p held s x seen firm.owns knows free limits relies tells lent;
   closes =
       subst (λ k. ClosesOwn p k (advance p (accessed x) x.local seen).local) (sym (steps_keep_own p x seen).node)
       (calls.advance p x.node (accessed x) x.local seen refl firm.closes).closes;
 }
 
 pub firm_owners_go_on : FirmOwnersGoOn
-firm_owners_go_on p held word word' c seats w n shows living firm free lane limits tells relies made = (
-  (owners_go_on p held word word' c seats w n shows living firm.owns free lane limits tells relies made).0,
+firm_owners_go_on p held word word' c seats w n shows living firm free lane limits tells relies lent made = (
+  (owners_go_on p held word word' c seats w n shows living firm.owns free lane limits tells relies lent made).0,
   firm_owners_stay p held w.state (seats n) (seen_by (program_access p.layout (program_of p (seats n).local)) word) firm
-      (shows.counts n living).knows free limits relies tells,
+      (shows.counts n living).knows free limits relies tells lent,
 )
 
 -- ---- begins

@@ -1,6 +1,6 @@
 -- A state that names no other request stays such a state as others close it and give hints.
 use Rattle.std.specs.Prelude.{if◌then◌else◌}
-use Rattle.std.proofs.Common.{◌≡◌, ℕ, Bool, true, false, ◌==◌, refl, ap, sym, subst, ◌∙◌, true≢false, eqb-true, eq-eqb}
+use Rattle.std.proofs.Common.{◌≡◌, ℕ, Bool, true, false, ◌==◌, refl, sym, subst, ◌∙◌, true≢false, eqb-true, eq-eqb}
 use Rattle.iox_model.specs.declared.way.RequestState.{RequestState}
 use Rattle.iox_model.specs.declared.way.RequestState.TheVariants.{Closed, Named}
 use Rattle.iox_model.specs.declared.way.Way.{Way}
@@ -8,7 +8,6 @@ use Rattle.iox_model.specs.Maps.{same_way}
 use Rattle.iox_model.specs.Messages.{closed_for, hinted_for, names}
 use Rattle.iox_model.specs.Moments.{Moment, Open, Close, Hint, moved}
 use Rattle.iox_model.specs.Peers.{node_of_port}
-use Rattle.iox_model.specs.States.{State}
 use Rattle.iox_model.specs.Weaves.{World, Begins, Makes, Ends, Dies, IsBeat}
 use Rattle.iox_laws.proofs.WeaveLaws.MapLemmas.{either, same_way-true}
 use Rattle.iox_laws.proofs.WeaveLaws.WireLemmas.{settled_same}

@@ -116,7 +116,7 @@ module _ (p : Setting) (held : Pools) (s : State) (x : Seat) (seen : ℕ) (pools
       (courses.ended (accessed x) (endings.Lends o slot))
       (λ copies. elsewhere p x.node s.fixed s.request_state (courses.sends p (accessed x) (entry_in o slot) true)
       (courses.sends p (accessed x) (entry_in o slot) true).local
-      (sent.copies p (accessed x) s.fixed s.request_state held (entry_in o slot) knows_still (owns.0.copy copies slot))) (λ copies. tt))
+      (sent.copies p (accessed x) s.fixed s.request_state held (entry_in o slot) knows_still (owns.0.copy copies owns.3 slot))) (λ copies. tt))
       (λ more. own)
 
   others : (local : Local) → x.local ≡ local → OwnsCall p x.node s.fixed s.request_state local → ReliesOn p (accessed x) s held local seen → WordsTell p local seen

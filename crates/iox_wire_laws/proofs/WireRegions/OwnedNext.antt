@@ -41,8 +41,8 @@ use Rattle.iox_wire_laws.specs.WireShows.OwnedCalls.{Each, LimitsAreKnown, OwnsC
 use Rattle.iox_wire_laws.proofs.WireShows.OwnedSteps.{steps_own_the_next_place}
 use Rattle.iox_wire_laws.proofs.WireShows.OwnedWays.{longer}
 use Rattle.iox_wire_laws.proofs.WireShows.StepsShow.{steps_show_the_world}
-use Rattle.iox_wire_laws.specs.WireRegions.OwnedWords.{FreeSlotsAreThePools, LendsOn, Owns, OwnsLoan}
-use Rattle.iox_wire_laws.specs.WireRegions.OwnedWordLaws.{OwnersGoOn, OwnersStayOwners}
+use Rattle.iox_wire_laws.specs.WireRegions.OwnedWords.{FreeSlotsAreThePools, HasLane, LendsOn, Owns, OwnsLoan}
+use Rattle.iox_wire_laws.specs.WireRegions.OwnedWordLaws.{LoanHasLane, OwnersGoOn, OwnersStayOwners, TakesLane}
 use Rattle.iox_wire_laws.proofs.WireRegions.OwnedPlaces.{owners_may_access}
 use Rattle.iox_wire_laws.proofs.WireRegions.SendCourses as sent
 
@@ -73,30 +73,31 @@ module _ (p : Setting) (z : Seat) (f : Fixed) (shown : Way → RequestState) (he
   -- ---- loans
 
   picked : (o : NewLoan) → OwnsLoan p n f o → (slots : List ℕ) → ((slot : ℕ) → has_number slot slots ≡ true → slot < (p.port o.port).pool)
-      → K (courses.takes_slot z o slots)
-  picked o owns [] few = tt
-  picked o owns (slot ∷ slots) few = (owns, few slot (rw (eqb-refl slot) refl), worded (p.port o.port).role _)
+      → LoanHasLane p (courses.takes_slot z o slots).local → K (courses.takes_slot z o slots)
+  picked o owns [] few lane = tt
+  picked o owns (slot ∷ slots) few lane = (owns, few slot (rw (eqb-refl slot) refl), worded (p.port o.port).role _, lane)
 
-  pub loaning : (o : NewLoan) (left : List Way) → OwnsLoan p n f o → Each (LendsOn p n f o) left → K (courses.loaning z o left)
-  loaning o [] owns each = picked o owns (free_slots z o.port) (free o.port)
-  loaning o (w ∷ left) owns each = (owns, each)
+  pub loaning : (o : NewLoan) (left : List Way) → OwnsLoan p n f o → Each (LendsOn p n f o) left → LoanHasLane p (courses.loaning z o left).local
+      → K (courses.loaning z o left)
+  loaning o [] owns each lane = picked o owns (free_slots z o.port) (free o.port) lane
+  loaning o (w ∷ left) owns each lane = (owns, each)
 
   emptied : (o : NewLoan) (w : Way) (left : List Way) (place : Popping) (event : QueueEvent) → OwnsLoan p n f o → Each (LendsOn p n f o) (w ∷ left)
-      → K (findings.loan_emptied z o w left place event)
-  emptied o w left place (HandOut slot) owns each = (owns, each)
-  emptied o w left place SeesEmpty owns each = loaning o left owns each.1
-  emptied o w left place event owns each = (owns, each)
+      → LoanHasLane p (findings.loan_emptied z o w left place event).local → K (findings.loan_emptied z o w left place event)
+  emptied o w left place (HandOut slot) owns each lane = (owns, each)
+  emptied o w left place SeesEmpty owns each lane = loaning o left owns each.1 lane
+  emptied o w left place event owns each lane = (owns, each)
 
-  lent : (o : NewLoan) (slot : ℕ) → OwnsLoan p n f o → K (courses.lent p z o slot)
-  lent o slot owns =
+  lent : (o : NewLoan) (slot : ℕ) → OwnsLoan p n f o → HasLane p o → K (courses.lent p z o slot)
+  lent o slot owns lane =
       either K o.copies (courses.sends p z (entry_in o slot) true) (courses.ended z (endings.Lends o slot))
-      (λ is. raised p n f shown (courses.sends p z (entry_in o slot) true).local (sent.copies p z f shown held (entry_in o slot) knows (owns.copy is slot)))
+      (λ is. raised p n f shown (courses.sends p z (entry_in o slot) true).local (sent.copies p z f shown held (entry_in o slot) knows (owns.copy is lane slot)))
       (λ is. tt)
 
   stored : (o : NewLoan) (slot next : ℕ) → Owns p n f shown (LendStores o slot next) → K (findings.loan_stored p z o slot next)
   stored o slot next owns =
       either K (next + 1 == length (loan_words p o)) (courses.lent p z o slot) (courses.placed z (LendStores o slot (next + 1)))
-      (λ is. lent o slot owns.0) (λ is. (owns.0, owns.1, next_low next (length (loan_words p o)) owns.2 is))
+      (λ is. lent o slot owns.0 owns.3) (λ is. (owns.0, owns.1, next_low next (length (loan_words p o)) owns.2 is, owns.3))
 
   -- ---- words
 
@@ -157,22 +158,23 @@ module _ (p : Setting) (held : Pools) (s : State) (x : Seat) (seen : ℕ) (knows
       (subst (λ l. ReliesOn p (accessed x) s held l seen) (sym is) relies) (subst (λ l. WordsTell p l seen) (sym is) tells)))
 
   step : (local : Local) → x.local ≡ local → Owns p x.node s.fixed s.request_state local → ReliesOn p (accessed x) s held local seen → WordsTell p local seen
-      → Next local
-  step (LendEmpties o w (popping.Pops place) left) is owns relies tells =
-      settles _ is (λ shown. emptied p (accessed x) s.fixed shown held knows_still free o w left _ _ owns.0 owns.1)
-  step (LendEmpties o w place left) is owns relies tells = absurd relies
-  step (LendStores o slot next) is owns relies tells = settles _ is (λ shown. stored p (accessed x) s.fixed shown held knows_still free o slot next owns)
-  step (Writes e words next) is owns relies tells = settles _ is (λ shown. written p (accessed x) s.fixed shown held knows_still free e words next owns)
-  step (Reads e words) is owns relies tells = settles _ is (λ shown. read p (accessed x) s.fixed shown held knows_still free e words seen owns)
-  step local is owns relies tells = others local is owns relies tells
+      → TakesLane p local (advance p (accessed x) local seen).local → Next local
+  step (LendEmpties o w (popping.Pops place) left) is owns relies tells lent =
+      settles _ is (λ shown. emptied p (accessed x) s.fixed shown held knows_still free o w left _ _ owns.0 owns.1 lent)
+  step (LendEmpties o w place left) is owns relies tells lent = absurd relies
+  step (LendStores o slot next) is owns relies tells lent = settles _ is (λ shown. stored p (accessed x) s.fixed shown held knows_still free o slot next owns)
+  step (Writes e words next) is owns relies tells lent = settles _ is (λ shown. written p (accessed x) s.fixed shown held knows_still free e words next owns)
+  step (Reads e words) is owns relies tells lent = settles _ is (λ shown. read p (accessed x) s.fixed shown held knows_still free e words seen owns)
+  step local is owns relies tells lent = others local is owns relies tells
 
 pub owners_stay_owners : OwnersStayOwners
-owners_stay_owners p held s x seen owns knows free limits relies tells = step p held s x seen knows free limits x.local refl owns relies tells
+owners_stay_owners p held s x seen owns knows free limits relies tells lent =
+    step p held s x seen knows free limits x.local refl owns relies tells lent
 
 pub owners_go_on : OwnersGoOn
-owners_go_on p held word word' c seats w n shows living owns free lane limits tells relies made =
+owners_go_on p held word word' c seats w n shows living owns free lane limits tells relies lent made =
     let may = owners_may_access p held w.state (seats n) owns lane in (
       steps_show_the_world p held word word' c seats w n shows living may.0 may.1 relies made,
       owners_stay_owners p held w.state (seats n) (seen_by (program_access p.layout (program_of p (seats n).local)) word) owns
-          (shows.counts n living).knows free limits relies tells,
+          (shows.counts n living).knows free limits relies tells lent,
     )

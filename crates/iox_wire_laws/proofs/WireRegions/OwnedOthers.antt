@@ -146,7 +146,7 @@ module _ (p : Setting) (w u : World) (n : ℕ) (reach : IsReachable u) (living :
   }
 
   loan : (o : NewLoan) → OwnsLoan p n w.state.fixed o → OwnsLoan p n u.state.fixed o
-  loan o owns = record { region = owns.region; room = owns.room; copy = λ copies slot. copy _ (owns.copy copies slot) }
+  loan o owns = record { region = owns.region; room = owns.room; copy = λ copies lane slot. copy _ (owns.copy copies lane slot) }
 
   lends : (o : NewLoan) (ways : List Way) → Each (LendsOn p n w.state.fixed o) ways → Each (LendsOn p n u.state.fixed o) ways
   lends o = each_change (LendsOn p n w.state.fixed o) (LendsOn p n u.state.fixed o) (λ y on. (sends_on y on.0, on.1))
@@ -155,7 +155,7 @@ module _ (p : Setting) (w u : World) (n : ℕ) (reach : IsReachable u) (living :
 
   by_place : (a b : Way → RequestState) (local : Local) → ClosesNothing local → Owns p n w.state.fixed a local → Owns p n u.state.fixed b local
   by_place a b (LendEmpties o y place left) free owns = (loan o owns.0, lends o (y ∷ left) owns.1)
-  by_place a b (LendStores o slot next) free owns = (loan o owns.0, owns.1, owns.2)
+  by_place a b (LendStores o slot next) free owns = (loan o owns.0, owns.1, owns.2, owns.3)
   by_place a b (SendEnds d last count) free owns = last_on last owns
   by_place a b (SendAsks d) free owns = (send d owns.0, owns.1)
   by_place a b (SendEmpties d y place left) free owns = (send d owns.0, delivers d (y ∷ left) owns.1)

@@ -20,6 +20,7 @@ use Rattle.iox_wire_laws.specs.WireKeeping.Shows.{ShowsWorld}
 use Rattle.iox_wire_laws.specs.WireShows.OwnedCalls.{LimitsAreKnown, TellsLane, WordsTell, state_after}
 use Rattle.iox_wire_laws.specs.WireShows.StepsShow.{ShowsNext}
 use Rattle.iox_wire_laws.specs.WireRegions.OwnedWords.{FreeSlotsAreThePools, Owns}
+use Rattle.iox_wire_laws.specs.WireRegions.OwnedWordLaws.{TakesLane}
 use Rattle.iox_wire_laws.specs.WireHolding.Holding.{held_after}
 use Rattle.iox_wire_laws.specs.WireHolding.Named.{IsUnnamed}
 
@@ -44,7 +45,7 @@ StepsShowWhatIsHeld =
     FreeSlotsAreUnnamed p c seats w.state x
     → Owns p x.node w.state.fixed w.state.request_state x.local → FreeSlotsAreThePools p x
     → TellsLane held x.local → LimitsAreKnown p x w.state.fixed → WordsTell p x.local seen
-    → ReliesOn p (accessed x) w.state held x.local seen
+    → ReliesOn p (accessed x) w.state held x.local seen → TakesLane p x.local y.local
     → IsMade (program_access p.layout program) word word'
     → ShowsNext p new word' (contents_after p.layout program seen c) (put_at seats n y) w n
     (moment_at p new x.local seen)

@@ -9,14 +9,16 @@ use Rattle.iox_wire_locals.specs.Known.{free_slots}
 use Rattle.iox_wire_locals.specs.NewLoans.{message_in}
 use Rattle.iox_wire_locals.specs.Tables.{Setting}
 use Rattle.iox_wire_laws.specs.WireKeeping.UsedSlots.{slots_in_call}
+use Rattle.iox_wire_laws.specs.WireRegions.OwnedWords.{HasLane}
 use Rattle.iox_wire_laws.specs.WireHolding.Holding.{held_with}
 use Rattle.iox_wire_laws.specs.WireHolding.SlotsKnown.{SlotsKnown}
 
--- A loan has its port's next serial, which no other slot of the pool holds.
+-- A loan has its port's next serial, which no other slot of the pool holds, and a lane.
 pub record IsNextLoan (p : Setting) (held : Pools) (s : State) (o : NewLoan) (slot : ℕ)
     : Type 0 where
   pub serial : o.serial ≡ s.fixed.loans o.port
   pub alone : (j : ℕ) → j < (p.port o.port).pool → (held o.port j).serial ≡ o.serial → j ≡ slot
+  pub lane : HasLane p o
 
 -- A loan that takes the first free slot, which then holds its message, leaves slots that are known.
 abbrev pub PicksAreKnown : Type 0

@@ -21,9 +21,9 @@ use Rattle.iox_wire_locals.specs.declared.table.Entry.{Entry}
 use Rattle.iox_wire_locals.specs.declared.table.NewLoan.{NewLoan}
 use Rattle.iox_wire_locals.specs.Begins.{reads, ways_for, writing}
 use Rattle.iox_wire_locals.specs.Courses.{loaning, sends}
-use Rattle.iox_wire_locals.specs.Known.{known}
+use Rattle.iox_wire_locals.specs.Known.{free_slots, known}
 use Rattle.iox_wire_locals.specs.Knowing.{Knows}
-use Rattle.iox_wire_locals.specs.NewLoans.{entry_in, loan_in, loan_words}
+use Rattle.iox_wire_locals.specs.NewLoans.{loan_in, loan_words}
 use Rattle.iox_wire_locals.specs.ReceiveCourses.{seeking, visiting}
 use Rattle.iox_wire_locals.specs.Tables.{Setting, port_shape}
 use Rattle.iox_wire_locals.specs.WorkedWires.{ones}
@@ -31,7 +31,7 @@ use Rattle.iox_wire_locals.specs.WorkedCalls.{fresh}
 use Rattle.iox_wire_laws.specs.WireKeeping.Shows.{ShowsWorld}
 use Rattle.iox_wire_laws.specs.WireShows.OwnedCalls.{LimitsAreKnown}
 use Rattle.iox_wire_laws.specs.WireRegions.Regions.{HasRegion, words_of_longest}
-use Rattle.iox_wire_laws.specs.WireRegions.OwnedWords.{FreeSlotsAreThePools, HasSlot, Owns, OwnsCopy}
+use Rattle.iox_wire_laws.specs.WireRegions.OwnedWords.{FreeSlotsAreThePools, HasLane, HasSlot, Owns, OwnsCopy}
 
 -- The layout of a wire agrees with the machine's ports on numbers, roles, nodes and lanes.
 pub record LayoutFits (p : Setting) (f : Fixed) : Type 0 where
@@ -65,13 +65,26 @@ CopiesAreOwned =
     (p : Setting) (f : Fixed) (node : ℕ) (e : Entry) → LayoutFits p f → LendsByOwnPort f node e
     → OwnsCopy p node f e
 
--- A loan that has room in a slot of its port's pool begins as the owner of its first place: it gets
--- back on the port's own ways, or has taken its slot.
+-- A loan in the making is one of the node's own ports, with a small id: a client lends requests, a
+-- server lends responses on a lane of the client that it answers.
+pub record LendsFromHome (f : Fixed) (node : ℕ) (o : NewLoan) : Type 0 where
+  pub small : o.request < 2 ^ 62
+  pub request : is_request_loan o.kind ≡ true → IsPortOf f node Client o.port
+  pub response : is_request_loan o.kind ≡ false
+      → IsPortOf f node Server o.port × (o.lane < lanes_of f o.client)
+
+-- a free slot of its port leaves it a lane
+abbrev pub LeavesLane : Setting → Seat → NewLoan → Type 0
+LeavesLane p x o =
+    (slot : ℕ) → has_number slot (free_slots x o.port) ≡ true → HasLane p o
+
+-- A loan that has room in a slot of its port's pool, and a lane where one is free, begins as the
+-- owner of its first place: it gets back on the port's own ways, or has taken its slot.
 abbrev pub LoansBeginAsOwners : Type 0
 LoansBeginAsOwners =
     (p : Setting) (x : Seat) (f : Fixed) (held : Pools) (shown : Way → RequestState) (o : NewLoan)
     → LayoutFits p f → Knows p x f held → FreeSlotsAreThePools p x
-    → (p.port o.port).node ≡ x.node → ((slot : ℕ) → LendsByOwnPort f x.node (entry_in o slot))
+    → (p.port o.port).node ≡ x.node → LendsFromHome f x.node o → LeavesLane p x o
     → HasRegion p o.port → length (loan_words p o) ≤ words_of_longest p o.port
     → Owns p x.node f shown (loaning x o (lending_ways (known p x) (loan_in p o))).local
 

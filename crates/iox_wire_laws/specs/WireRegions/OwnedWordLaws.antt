@@ -12,6 +12,7 @@ use Rattle.iox_wire_words.specs.Fits.{WireContents, contents_after}
 use Rattle.iox_wire_words.specs.Laws.{IsMade}
 use Rattle.iox_wire_moments.specs.MomentsOf.{Pools}
 use Rattle.iox_wire_locals.specs.declared.local.Local.{Local}
+use Rattle.iox_wire_locals.specs.declared.local.Local.TheVariants.{LendEmpties, LendStores}
 use Rattle.iox_wire_locals.specs.declared.seat.Seat.{Seat}
 use Rattle.iox_wire_locals.specs.Knowing.{Knows}
 use Rattle.iox_wire_locals.specs.Locals.{program_of}
@@ -23,7 +24,7 @@ use Rattle.iox_wire_laws.specs.WireKeeping.Shows.{ShowsWorld, OwnsPlace}
 use Rattle.iox_wire_laws.specs.WireShows.Ids.{NamesSmall}
 use Rattle.iox_wire_laws.specs.WireShows.OwnedCalls.{LimitsAreKnown, TellsLane, WordsTell, state_after}
 use Rattle.iox_wire_laws.specs.WireShows.StepsShow.{ShowsNext}
-use Rattle.iox_wire_laws.specs.WireRegions.OwnedWords.{FreeSlotsAreThePools, Owns}
+use Rattle.iox_wire_laws.specs.WireRegions.OwnedWords.{FreeSlotsAreThePools, HasLane, Owns}
 
 -- What a call owns, it may access, and its place knows what it needs.
 abbrev pub OwnersMayAccess : Type 0
@@ -36,6 +37,16 @@ OwnersMayAccess =
 abbrev pub Owning : Type 1
 Owning = Setting → ℕ → Fixed → (Way → RequestState) → Local → Type 0
 
+-- a loan that has its slot has a lane
+abbrev pub LoanHasLane : Setting → Local → Type 0
+LoanHasLane p (LendStores o slot next) = HasLane p o
+LoanHasLane p local = Unit {0}
+
+-- a loan that takes a slot has a lane
+abbrev pub TakesLane : Setting → (before after : Local) → Type 0
+TakesLane p (LendEmpties o w place left) after = LoanHasLane p after
+TakesLane p before after = Unit {0}
+
 -- After an access the call owns its next place, in this sense of owning.
 abbrev pub StayOwners : Owning → Type 0
 StayOwners owns =
@@ -45,7 +56,7 @@ StayOwners owns =
     → ReliesOn p (accessed x) s held x.local seen → WordsTell p x.local seen
     → let t = state_after s (moment_at p held x.local seen) in
     let y = advance p (accessed x) x.local seen in
-    owns p y.node t.fixed t.request_state y.local
+    TakesLane p x.local y.local → owns p y.node t.fixed t.request_state y.local
 
 -- Where words and seats show a world, and the call of a living node owns its place, the next access
 -- is one beat of the machine or none. The world after it is shown, and the call owns its next
@@ -61,7 +72,7 @@ GoOnAsOwners owns =
     let t = state_after w.state (moment_at p held x.local seen) in
     owns p x.node w.state.fixed w.state.request_state x.local → FreeSlotsAreThePools p x
     → TellsLane held x.local → LimitsAreKnown p x w.state.fixed → WordsTell p x.local seen
-    → ReliesOn p (accessed x) w.state held x.local seen
+    → ReliesOn p (accessed x) w.state held x.local seen → TakesLane p x.local y.local
     → IsMade (program_access p.layout program) word word'
     → ShowsNext p held word' (contents_after p.layout program seen c) (put_at seats n y) w n
     (moment_at p held x.local seen)

@@ -40,12 +40,16 @@ pub record OwnsCopy (p : Setting) (node : ℕ) (f : Fixed) (e : Entry) : Type 0 
 abbrev pub LendsOn : Setting → ℕ → Fixed → NewLoan → Way → Type 0
 LendsOn p node f o y = SendsOn p node f y × (y.sender ≡ o.port)
 
+-- a request has a lane of its client; there is none while all lanes are in use
+abbrev pub HasLane : Setting → NewLoan → Type 0
+HasLane p o = is_request_loan o.kind ≡ true → o.lane < p.layout.sizes.lanes o.port
+
 -- A loan in the making has room in each slot of its port's pool. If it is to be sent in the same
--- call, the node owns that send, whichever slot the loan takes.
+-- call and has a lane, the node owns that send, whichever slot the loan takes.
 pub record OwnsLoan (p : Setting) (node : ℕ) (f : Fixed) (o : NewLoan) : Type 0 where
   pub region : HasRegion p o.port
   pub room : length (loan_words p o) ≤ words_of_longest p o.port
-  pub copy : o.copies ≡ true → (slot : ℕ) → OwnsCopy p node f (entry_in o slot)
+  pub copy : o.copies ≡ true → HasLane p o → (slot : ℕ) → OwnsCopy p node f (entry_in o slot)
 
 -- ---- entries
 
@@ -57,13 +61,15 @@ pub record HasSlot (p : Setting) (e : Entry) : Type 0 where
 
 -- ---- places
 
--- What the call owns at its place: a loan has its ways, and then a slot with room for its words; a
--- write has room in its own slot, a read has its message's words in a slot. All else is OwnsCall.
+-- What the call owns at its place: a loan has its ways, and then a lane and a slot with room for its
+-- words; a write has room in its own slot, a read has its message's words in a slot. All else is
+-- OwnsCall.
 abbrev pub Owns : Setting → ℕ → Fixed → (Way → RequestState) → Local → Type 0
 Owns p node f shown (LendEmpties o w place left) =
     OwnsLoan p node f o × Each (LendsOn p node f o) (w ∷ left)
 Owns p node f shown (LendStores o slot next) =
     OwnsLoan p node f o × (slot < (p.port o.port).pool) × (next < length (loan_words p o))
+    × HasLane p o
 Owns p node f shown (Writes e words next) =
     HasSlot p e × (e.sender ≡ e.port)
     × (length words ≤ e.elements * (port_shape p e.sender).width) × (next < length words)

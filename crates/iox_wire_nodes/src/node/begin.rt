@@ -3,29 +3,26 @@ ghost use Rattle.std.specs.Prelude.{◌≡◌, ◌*◌, IfErr, IfSome, None, OnE
 ghost use Rattle.iox_model.specs.declared.call.Call.TheVariants.{Release};
 ghost use Rattle.iox_model.specs.declared.call.WireCall.TheVariants.{Port};
 ghost use Rattle.iox_model.specs.declared.kind.Role.TheVariants.{Server};
-ghost use Rattle.iox_word_places.specs.Plans.{port_of};
-ghost use Rattle.iox_wire_handle_calls.specs.HandleCalls.{IsBegun as IsBegunBy, refusal_in};
-ghost use Rattle.iox_wire_handle_calls.specs.PlacedHandles.{IsReadable};
-ghost use Rattle.iox_wire_layouts.specs.PlansOf.{IsSettingOf};
-ghost use Rattle.iox_wire_locals.specs.Begins.{refusal_at};
-ghost use Rattle.iox_wire_locals.specs.Stored.{header_length};
-ghost use Rattle.iox_wire_locals.specs.Tables.{Setting, entry_at};
+ghost use Rattle.iox_wire_begins.specs.Plans.{port_of};
+ghost use Rattle.iox_wire_begins.specs.HandleCalls.{IsBegun as IsBegunBy, refusal_in};
+ghost use Rattle.iox_wire_begins.specs.PlacedHandles.{IsReadable};
+ghost use Rattle.iox_wire_begins.specs.PlansOf.{IsSettingOf};
+ghost use Rattle.iox_wire_begins.specs.Begins.{refusal_at};
+ghost use Rattle.iox_wire_begins.specs.Stored.{header_length};
+ghost use Rattle.iox_wire_begins.specs.Tables.{Setting, entry_at};
 ghost use Rattle.iox_wire_nodes.specs.Begins.{IsBegun, called};
 ghost use Rattle.iox_wire_nodes.specs.Nodes.{seat_in};
-ghost use Rattle.iox_wire_handle_calls.specs.Released.{MayReleaseNumber};
-ghost use Rattle.iox_wire_seats.specs.Aims.{HasRoomForHint};
-ghost use Rattle.iox_wire_handle_calls.specs.OwnStates.{HasStates};
+ghost use Rattle.iox_wire_begins.specs.Released.{MayReleaseNumber};
+ghost use Rattle.iox_wire_begins.specs.Aims.{HasRoomForHint};
+ghost use Rattle.iox_wire_begins.specs.OwnStates.{HasStates};
 
 use super::StoredNode;
 use crate::call_at::CallAt;
 use crate::handle_call::HandleCall;
-use iox_wire_handle_calls::{
-    Asked, BeginError, begin_has_hint, begin_has_response, begin_is_connected, begin_read,
-    begin_release, begin_set_hint, named,
+use iox_wire_begins::{
+    Asked, BeginError, Source, Stop, StoredSeat, WordMap, begin_has_hint, begin_has_response,
+    begin_is_connected, begin_read, begin_release, begin_set_hint, named,
 };
-use iox_wire_receives::Source;
-use iox_wire_seats::{Stop, StoredSeat};
-use iox_word_places::WordMap;
 
 /// Begins the release of the handle of that number, which is no port's, in a seat.
 fn release(

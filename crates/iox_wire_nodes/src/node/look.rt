@@ -2,21 +2,19 @@
 ghost use Rattle.std.specs.Prelude.{◌≡◌, ◌<◌, IfErr, OnErr, OnOk, length, true};
 ghost use Rattle.iox_model.specs.declared.call.Call.TheVariants.{HasRequests};
 ghost use Rattle.iox_model.specs.declared.call.WireCall.TheVariants.{Port};
-ghost use Rattle.iox_word_places.specs.Plans.{number_at};
-ghost use Rattle.iox_wire_handle_calls.specs.HandleCalls.{refusal_in};
-ghost use Rattle.iox_wire_layouts.specs.PlansOf.{IsSettingOf};
-ghost use Rattle.iox_wire_locals.specs.Begins.{refusal_at};
-ghost use Rattle.iox_wire_locals.specs.Tables.{Setting};
+ghost use Rattle.iox_wire_begins.specs.Plans.{number_at};
+ghost use Rattle.iox_wire_begins.specs.HandleCalls.{refusal_in};
+ghost use Rattle.iox_wire_begins.specs.PlansOf.{IsSettingOf};
+ghost use Rattle.iox_wire_begins.specs.Begins.{refusal_at};
+ghost use Rattle.iox_wire_begins.specs.Tables.{Setting};
+ghost use Rattle.iox_wire_nodes.specs.declared.call_at.CallAt.TheVariants.{Seats};
 ghost use Rattle.iox_wire_nodes.specs.Begins.{IsBegun};
 ghost use Rattle.iox_wire_nodes.specs.Nodes.{seat_in};
-ghost use Rattle.iox_wire_handle_calls.specs.RequestSources.{HasRequestWays};
+ghost use Rattle.iox_wire_begins.specs.RequestSources.{HasRequestWays};
 
 use super::StoredNode;
 use crate::call_at::CallAt;
-use iox_wire_handle_calls::{Asked, BeginError, list_waiting_requests, name_port};
-use iox_wire_receives::Source;
-use iox_wire_seats::Stop;
-use iox_word_places::WordMap;
+use iox_wire_begins::{Asked, BeginError, Source, Stop, WordMap, list_waiting_requests, name_port};
 
 impl StoredNode {
     /// Begins to look whether a request waits for the port at an index, which has that number. What
@@ -41,6 +39,7 @@ impl StoredNode {
         ensures refused { (p : Setting) → IsSettingOf map.now p → (p.port number).held ≡ true
             → IfErr result (λ error. refusal_at p (seat_in self.old) (Port (HasRequests number))
             ≡ refusal_in error) }
+        ensures at { OnOk result (self.new.at ≡ Seats) }
         ensures unchanged { OnErr result (self.new ≡ self.old) }
     {
         if self.is_busy() {

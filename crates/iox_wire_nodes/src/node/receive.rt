@@ -2,21 +2,19 @@
 ghost use Rattle.std.specs.Prelude.{◌≡◌, ◌<◌, IfErr, OnErr, OnOk, length, true};
 ghost use Rattle.iox_model.specs.declared.call.Call.TheVariants.{Receive};
 ghost use Rattle.iox_model.specs.declared.call.WireCall.TheVariants.{Port};
-ghost use Rattle.iox_word_places.specs.Plans.{number_at};
-ghost use Rattle.iox_wire_handle_calls.specs.HandleCalls.{refusal_in};
-ghost use Rattle.iox_wire_layouts.specs.PlansOf.{IsSettingOf};
-ghost use Rattle.iox_wire_locals.specs.Begins.{refusal_at};
-ghost use Rattle.iox_wire_locals.specs.Lendings.{next_handle};
-ghost use Rattle.iox_wire_locals.specs.Tables.{Setting};
+ghost use Rattle.iox_wire_begins.specs.Plans.{number_at};
+ghost use Rattle.iox_wire_begins.specs.HandleCalls.{refusal_in};
+ghost use Rattle.iox_wire_begins.specs.PlansOf.{IsSettingOf};
+ghost use Rattle.iox_wire_begins.specs.Begins.{refusal_at};
+ghost use Rattle.iox_wire_begins.specs.Lendings.{next_handle};
+ghost use Rattle.iox_wire_begins.specs.Tables.{Setting};
 ghost use Rattle.iox_wire_nodes.specs.Begins.{IsBegun};
 ghost use Rattle.iox_wire_nodes.specs.Nodes.{seat_in};
-ghost use Rattle.iox_wire_handle_calls.specs.RequestSources.{HasRequestWays};
+ghost use Rattle.iox_wire_begins.specs.RequestSources.{HasRequestWays};
 
 use super::StoredNode;
 use crate::call_at::CallAt;
-use iox_wire_handle_calls::{Asked, BeginError, begin_request_receive, name_port};
-use iox_wire_receives::Source;
-use iox_word_places::WordMap;
+use iox_wire_begins::{Asked, BeginError, Source, WordMap, begin_request_receive, name_port};
 
 impl StoredNode {
     /// Begins to receive a request at the port at an index, which has that number. The node's next

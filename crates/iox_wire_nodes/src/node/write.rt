@@ -1,20 +1,18 @@
 //! How a node begins a write.
-ghost use Rattle.std.specs.Prelude.{◌≡◌, ◌+◌, ◌<◌, ◌^◌, IfErr, IfSome, None, OnErr, OnOk, length};
-ghost use Rattle.iox_word_map.specs.WordMaps.{total_words};
-ghost use Rattle.iox_word_places.specs.Plans.{port_of, sizes_of};
-ghost use Rattle.iox_wire_handle_calls.specs.HandleCalls.{refusal_in, write_of};
-ghost use Rattle.iox_wire_handle_calls.specs.PlacedHandles.{HasOwnSlot};
-ghost use Rattle.iox_wire_layouts.specs.PlansOf.{IsSettingOf};
-ghost use Rattle.iox_wire_locals.specs.Begins.{refusal_at};
-ghost use Rattle.iox_wire_locals.specs.Tables.{Setting, entry_at};
+ghost use Rattle.std.specs.Prelude.{◌≡◌, IfErr, IfSome, None, OnErr, OnOk};
+ghost use Rattle.iox_wire_begins.specs.Plans.{port_of};
+ghost use Rattle.iox_wire_begins.specs.HandleCalls.{refusal_in, write_of};
+ghost use Rattle.iox_wire_begins.specs.PlacedHandles.{HasLoanSlot};
+ghost use Rattle.iox_wire_begins.specs.PlansOf.{IsSettingOf};
+ghost use Rattle.iox_wire_begins.specs.Begins.{refusal_at};
+ghost use Rattle.iox_wire_begins.specs.Tables.{Setting, entry_at};
 ghost use Rattle.iox_wire_nodes.specs.Begins.{IsBegun};
 ghost use Rattle.iox_wire_nodes.specs.Nodes.{seat_in};
 
 use super::StoredNode;
 use crate::call_at::CallAt;
 use iox_model::kind::Role;
-use iox_wire_handle_calls::{BeginError, begin_write};
-use iox_word_places::WordMap;
+use iox_wire_begins::{BeginError, WordMap, begin_write};
 
 impl StoredNode {
     /// Begins to write these words, of so many elements, as the payload of the loan of that number,
@@ -28,8 +26,7 @@ impl StoredNode {
         words: &[u64],
     ) -> Result<(), BeginError>
         requires no_port { port_of map.now number ≡ None }
-        requires slot { IfSome (entry_at number self.old.seat.seat.table) (HasOwnSlot map.now) }
-        requires memory { total_words (sizes_of map.now) + length words.now < 2 ^ 64 }
+        requires slot { IfSome (entry_at number self.old.seat.seat.table) (HasLoanSlot map.now) }
         ensures begun { (p : Setting) → IsSettingOf map.now p → OnOk result
             (IsBegun p self.old (write_of number role elements words.now) self.new) }
         ensures refused { (p : Setting) → IsSettingOf map.now p → IfErr result (λ error.

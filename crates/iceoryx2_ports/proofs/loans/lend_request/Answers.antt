@@ -9,6 +9,7 @@ use Rattle.iceoryx2_ports.proofs.Reaching.{loan_keeps_room}
 use Rattle.iceoryx2_ports.proofs.Staying.{loan_asks_as_before, loan_keeps}
 use Rattle.iceoryx2_ports.proofs.Telling.{called_as}
 use Rattle.iceoryx2_ports.proofs.Lent.{lends_quietly}
+use Rattle.iceoryx2_ports.proofs.Remaining.{loan_keeps_requests}
 use Rattle.iceoryx2_ports.proofs.loans.lend_request.Goals as goal
 
 pub returns-in-Handle-clause-keeps : goal.returns-in-Handle-clause-keeps
@@ -107,3 +108,13 @@ returns-in-Handle-clause-quiet g c =
     c.requires.has c.in-Handle.ensures.whole c.lend_request.ensures.comes
     (loan_keeps_room c.args.hub.now c.lend_request.new.hub c.args.node c.args.uninit c.args.client c.args.elements (reply_of_loan c.lend_request.result)
     c.lend_request.ensures.whole)
+
+pub returns-in-Handle-clause-requests : goal.returns-in-Handle-clause-requests
+returns-in-Handle-clause-requests g c =
+    loan_keeps_requests c.args.hub.now c.lend_request.new.hub c.args.node c.args.uninit c.args.client c.args.elements (reply_of_loan c.lend_request.result)
+    c.lend_request.ensures.whole
+
+pub returns-in-OutOfMemory-clause-requests : goal.returns-in-OutOfMemory-clause-requests
+returns-in-OutOfMemory-clause-requests g c =
+    loan_keeps_requests c.args.hub.now c.lend_request.new.hub c.args.node c.args.uninit c.args.client c.args.elements (reply_of_loan c.lend_request.result)
+    c.lend_request.ensures.whole

@@ -10,6 +10,7 @@ use Rattle.iceoryx2_ports.proofs.ResponseLimits.{responds_one_more, response_ref
 use Rattle.iceoryx2_ports.proofs.Staying.{loan_asks_as_before, loan_keeps}
 use Rattle.iceoryx2_ports.proofs.Telling.{called_as}
 use Rattle.iceoryx2_ports.proofs.Lent.{lends_for}
+use Rattle.iceoryx2_ports.proofs.Remaining.{loan_keeps_requests}
 use Rattle.iceoryx2_ports.proofs.loans.lend_response.Goals as goal
 
 pub returns-in-Handle-clause-keeps : goal.returns-in-Handle-clause-keeps
@@ -106,3 +107,13 @@ pub returns-in-Handle-clause-answers : goal.returns-in-Handle-clause-answers
 returns-in-Handle-clause-answers g c =
     lends_for c.args.hub.now c.lend_response.new.hub c.is_in_order.ensures c.args.node c.args.number c.args.elements c.args.uninit c.in-Handle.loan.number
     c.requires.has c.in-Handle.ensures.whole
+
+pub returns-in-Handle-clause-requests : goal.returns-in-Handle-clause-requests
+returns-in-Handle-clause-requests g c =
+    loan_keeps_requests c.args.hub.now c.lend_response.new.hub c.args.node c.args.uninit c.args.number c.args.elements (reply_of_loan c.lend_response.result)
+    c.lend_response.ensures.whole
+
+pub returns-in-OutOfMemory-clause-requests : goal.returns-in-OutOfMemory-clause-requests
+returns-in-OutOfMemory-clause-requests g c =
+    loan_keeps_requests c.args.hub.now c.lend_response.new.hub c.args.node c.args.uninit c.args.number c.args.elements (reply_of_loan c.lend_response.result)
+    c.lend_response.ensures.whole

@@ -1,5 +1,5 @@
 use Rattle.std.proofs.Common.{◌≡◌, ◌≤◌}
-use Rattle.iox_wire_receives.specs.Aims.{HasRoomFor, MayReceive}
+use Rattle.iox_wire_nodes.specs.ReceivesAims.{HasRoomFor, MayReceive}
 use Rattle.iox_rows_wire.proofs.calls_on_words.received.Given as goal
 
 abbrev pub invariant-loop-made : goal.invariant-loop-made

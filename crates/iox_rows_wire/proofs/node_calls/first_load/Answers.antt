@@ -2,9 +2,9 @@ use Rattle.std.proofs.Common.{◌≡◌, ℕ, zero, suc, ◌<◌, List, [], ◌�
 use Rattle.std.specs.Prelude.{IsSomeAnd, slice_get}
 use Rattle.iox_model.specs.declared.kind.Role.TheVariants.{Client, Server}
 use Rattle.iox_word_map.specs.WordMaps.{total_words}
-use Rattle.iox_word_places.specs.declared.plan.PlanPort.{PlanPort}
-use Rattle.iox_word_places.specs.declared.plan.WirePlan.{WirePlan}
-use Rattle.iox_word_places.specs.Plans.{sizes_of}
+use Rattle.iox_wire_nodes.specs.PlanPort.{PlanPort}
+use Rattle.iox_wire_nodes.specs.WirePlan.{WirePlan}
+use Rattle.iox_wire_nodes.specs.Plans.{sizes_of}
 use Rattle.iox_rows_wire.proofs.node_calls.first_load.Goals as goal
 
 abbrev client : PlanPort

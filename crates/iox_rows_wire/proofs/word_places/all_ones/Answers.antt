@@ -5,9 +5,9 @@ use Rattle.iox_model.specs.Maps.{AreDistinct}
 use Rattle.iox_types.specs.declared.message_type_details.MessageTypeDetails.{MessageTypeDetails}
 use Rattle.iox_types.specs.Layouts.{message_size}
 use Rattle.iox_word_map.specs.MessageWords.{IsInWords}
-use Rattle.iox_word_places.specs.declared.plan.PlanPort.{PlanPort}
-use Rattle.iox_word_places.specs.declared.plan.WirePlan.{WirePlan}
-use Rattle.iox_word_places.specs.Plans.{IsPlan, HasSlots}
+use Rattle.iox_wire_nodes.specs.PlanPort.{PlanPort}
+use Rattle.iox_wire_nodes.specs.WirePlan.{WirePlan}
+use Rattle.iox_wire_nodes.specs.Plans.{IsPlan, HasSlots}
 use Rattle.iox_rows_wire.proofs.word_places.all_ones.Goals as goal
 
 -- a header of so many words, no user header, and a payload of one word

@@ -5,11 +5,11 @@ use Rattle.iox_model.specs.declared.call.WireCall.TheVariants.{Port}
 use Rattle.iox_model.specs.declared.kind.Role.TheVariants.{Client}
 use Rattle.iox_model.specs.declared.way.Way.{Way}
 use Rattle.iox_model.specs.Commands.{Payload}
-use Rattle.iox_wire_locals.specs.declared.table.Entry.{Entry}
-use Rattle.iox_wire_locals.specs.Begins.{refusal_at}
-use Rattle.iox_wire_locals.specs.ReceiveCourses.{checking}
-use Rattle.iox_wire_seats.specs.Aims.{AreStates}
-use Rattle.iox_wire_seats.specs.Seats.{ways_of}
+use Rattle.iox_wire_stops.specs.Entry.{Entry}
+use Rattle.iox_wire_stops.specs.Begins.{refusal_at}
+use Rattle.iox_wire_stops.specs.ReceiveCourses.{checking}
+use Rattle.iox_wire_stops.specs.Aims.{AreStates}
+use Rattle.iox_wire_stops.specs.Seats.{ways_of}
 use Rattle.iox_wire_handle_calls.specs.HandleCalls.{refusal_in}
 use Rattle.iox_wire_stops.specs.OwnStates.{HasStates}
 use Rattle.iox_wire_handle_calls.proofs.asking.begin_is_connected.Goals as goal

@@ -7,11 +7,11 @@ use Rattle.iox_model.specs.declared.kind.Role.TheVariants.{Client}
 use Rattle.iox_model.specs.Handles.{same_kind}
 use Rattle.iox_model.specs.declared.way.Way.{Way}
 use Rattle.iox_model.specs.Commands.{Payload}
-use Rattle.iox_wire_locals.specs.declared.table.Entry.{Entry}
-use Rattle.iox_wire_locals.specs.Begins.{refusal_at}
-use Rattle.iox_wire_locals.specs.ReceiveCourses.{hinting}
-use Rattle.iox_wire_seats.specs.Aims.{AreStates}
-use Rattle.iox_wire_seats.specs.Seats.{ways_of}
+use Rattle.iox_wire_stops.specs.Entry.{Entry}
+use Rattle.iox_wire_stops.specs.Begins.{refusal_at}
+use Rattle.iox_wire_stops.specs.ReceiveCourses.{hinting}
+use Rattle.iox_wire_stops.specs.Aims.{AreStates}
+use Rattle.iox_wire_stops.specs.Seats.{ways_of}
 use Rattle.iox_wire_handle_calls.specs.HandleCalls.{refusal_in}
 use Rattle.iox_wire_stops.specs.OwnStates.{HasStates}
 use Rattle.iox_wire_handle_calls.proofs.hinting.begin_set_hint.Goals as goal

@@ -3,10 +3,10 @@ use Rattle.iox_model.specs.declared.kind.Role.{Role}
 use Rattle.iox_types.specs.declared.message_type_details.MessageTypeDetails.{MessageTypeDetails}
 use Rattle.iox_word_map.specs.WordMaps.{total_words}
 use Rattle.iox_word_map.specs.declared.message_part.MessagePart.TheVariants.{Payload, UserHeader}
-use Rattle.iox_word_places.specs.declared.plan.PlanPort.{PlanPort}
-use Rattle.iox_word_places.specs.declared.plan.WirePlan.{WirePlan}
-use Rattle.iox_word_places.specs.Plans.{details_of, sizes_of}
-use Rattle.iox_wire_messages.proofs.PlaceLemmas.{stand_there}
+use Rattle.iox_wire_stops.specs.PlanPort.{PlanPort}
+use Rattle.iox_wire_stops.specs.WirePlan.{WirePlan}
+use Rattle.iox_wire_stops.specs.Plans.{details_of, sizes_of}
+use Rattle.iox_wire_stops.proofs.PlaceLemmas.{stand_there}
 use Rattle.iox_wire_handle_calls.proofs.MemoryLemmas.{part_within, port_there, role_there}
 use Rattle.iox_wire_handle_calls.proofs.places.message_of.Goals as goal
 

@@ -1,9 +1,9 @@
 use Rattle.std.proofs.Common.{◌<◌, ◌≤◌, sym, subst, length, ℕ}
 use Rattle.iox_word_map.specs.WordMaps.{total_words}
 use Rattle.iox_word_map.specs.declared.message_part.MessagePart.TheVariants.{Payload}
-use Rattle.iox_word_places.specs.Plans.{sizes_of}
-use Rattle.iox_word_places.proofs.PairLemmas.{one_of}
-use Rattle.iox_wire_messages.proofs.PlaceLemmas.{payload_there}
+use Rattle.iox_wire_stops.specs.Plans.{sizes_of}
+use Rattle.iox_wire_stops.proofs.PairLemmas.{one_of}
+use Rattle.iox_wire_stops.proofs.PlaceLemmas.{payload_there}
 use Rattle.iox_wire_handle_calls.proofs.MemoryLemmas.{part_within, port_there}
 use Rattle.iox_wire_handle_calls.proofs.places.payload_of.Goals as goal
 

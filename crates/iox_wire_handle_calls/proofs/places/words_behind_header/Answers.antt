@@ -1,10 +1,10 @@
 use Rattle.std.proofs.Common.{◌≡◌, ℕ, ◌+◌, ◌*◌, ◌/◌, ◌<◌, ◌^◌, get_or, length, ap, ap₂, sym, ◌∙◌, arith}
 use Rattle.iox_model.specs.declared.kind.Role.{Role}
 use Rattle.iox_types.specs.declared.message_type_details.MessageTypeDetails.{MessageTypeDetails}
-use Rattle.iox_word_places.specs.declared.plan.PlanPort.{PlanPort}
-use Rattle.iox_word_places.specs.declared.plan.WirePlan.{WirePlan}
-use Rattle.iox_word_places.specs.Plans.{details_of, number_at, role_of}
-use Rattle.iox_wire_locals.specs.Tables.{port_shape}
+use Rattle.iox_wire_stops.specs.PlanPort.{PlanPort}
+use Rattle.iox_wire_stops.specs.WirePlan.{WirePlan}
+use Rattle.iox_wire_stops.specs.Plans.{details_of, number_at, role_of}
+use Rattle.iox_wire_stops.specs.Tables.{port_shape}
 use Rattle.iox_wire_handle_calls.specs.PlacedHandles.{words_behind_header}
 use Rattle.iox_wire_handle_calls.proofs.MemoryLemmas.{read_there, role_there}
 use Rattle.iox_wire_handle_calls.proofs.places.words_behind_header.Goals as goal

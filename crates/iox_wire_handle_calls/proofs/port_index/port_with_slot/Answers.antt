@@ -1,7 +1,7 @@
 use Rattle.std.specs.Prelude.{◌==◌}
 use Rattle.std.specs.List.{position}
 use Rattle.std.proofs.Common.{◌<◌, List, ap, sym, ◌∙◌}
-use Rattle.iox_word_places.specs.declared.plan.PlanPort.{PlanPort}
+use Rattle.iox_wire_stops.specs.PlanPort.{PlanPort}
 use Rattle.iox_wire_handle_calls.proofs.PlaceLemmas.{at_place, has_place, number_there}
 use Rattle.iox_wire_handle_calls.proofs.port_index.port_with_slot.Goals as goal
 

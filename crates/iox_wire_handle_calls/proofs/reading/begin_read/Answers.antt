@@ -3,13 +3,13 @@ use Rattle.std.proofs.Common.{rules, ◌≡◌, ◌+◌, ◌<◌, ◌^◌, ℕ, 
 use Rattle.iox_model.specs.declared.kind.Role.TheVariants.{Client}
 use Rattle.iox_model.specs.Commands.{Payload}
 use Rattle.iox_word_map.specs.WordMaps.{total_words}
-use Rattle.iox_word_places.specs.declared.plan.WirePlan.{WirePlan}
-use Rattle.iox_word_places.specs.Plans.{number_at, sizes_of}
-use Rattle.iox_wire_locals.specs.declared.table.Entry.{Entry}
-use Rattle.iox_wire_seats.specs.Aims.{StandAt}
+use Rattle.iox_wire_stops.specs.WirePlan.{WirePlan}
+use Rattle.iox_wire_stops.specs.Plans.{number_at, sizes_of}
+use Rattle.iox_wire_stops.specs.Entry.{Entry}
+use Rattle.iox_wire_stops.specs.Aims.{StandAt}
 use Rattle.iox_model.specs.declared.call.Call.TheVariants.{Read}
 use Rattle.iox_model.specs.declared.call.WireCall.TheVariants.{Port}
-use Rattle.iox_wire_locals.specs.Begins.{refusal_at}
+use Rattle.iox_wire_stops.specs.Begins.{refusal_at}
 use Rattle.iox_wire_handle_calls.specs.HandleCalls.{refusal_in}
 use Rattle.iox_wire_handle_calls.specs.PlacedHandles.{IsReadable, words_behind_header}
 use Rattle.iox_wire_handle_calls.proofs.MemoryLemmas.{in_memory, user_first}

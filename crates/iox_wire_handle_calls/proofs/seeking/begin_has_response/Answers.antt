@@ -7,12 +7,12 @@ use Rattle.iox_model.specs.declared.way.Way.{Way}
 use Rattle.iox_model.specs.Commands.{Payload}
 use Rattle.iox_model.specs.Messages.{response_way}
 use Rattle.iox_model.specs.Peers.{ports_of_role}
-use Rattle.iox_wire_locals.specs.declared.table.Entry.{Entry}
-use Rattle.iox_wire_locals.specs.Begins.{refusal_at}
-use Rattle.iox_wire_locals.specs.Known.{known}
-use Rattle.iox_wire_locals.specs.ReceiveCourses.{seeking}
-use Rattle.iox_wire_seats.specs.Aims.{AreQueues}
-use Rattle.iox_wire_seats.specs.Seats.{ways_of}
+use Rattle.iox_wire_stops.specs.Entry.{Entry}
+use Rattle.iox_wire_stops.specs.Begins.{refusal_at}
+use Rattle.iox_wire_stops.specs.Known.{known}
+use Rattle.iox_wire_stops.specs.ReceiveCourses.{seeking}
+use Rattle.iox_wire_stops.specs.Aims.{AreQueues}
+use Rattle.iox_wire_stops.specs.Seats.{ways_of}
 use Rattle.iox_wire_handle_calls.specs.HandleCalls.{refusal_in}
 use Rattle.iox_wire_stops.specs.OwnStates.{HasStates}
 use Rattle.iox_wire_handle_calls.proofs.seeking.begin_has_response.Goals as goal

@@ -1,20 +1,21 @@
 use Rattle.std.proofs.Common.{◌≡◌, ℕ, ◌*◌, ◌/◌, ◌<◌, List, length, get_or, refl, ap, sym, subst, ◌∙◌, arith, true≢false}
 use Rattle.std.specs.Prelude.{Option, Some, IsSomeAnd, slice_get}
+use Rattle.std.specs.Option.{option_map_or}
 use Rattle.std.proofs.lemmas.Option.{slice_get-get_or}
 use Rattle.iox_model.specs.declared.kind.Role.{Role}
 use Rattle.iox_model.specs.declared.kind.Role.TheVariants.{Client, Server}
 use Rattle.iox_model.specs.Settings.{is_client}
-use Rattle.iox_word_places.specs.declared.plan.PlanPort.{PlanPort}
-use Rattle.iox_word_places.specs.declared.plan.WirePlan.{WirePlan}
-use Rattle.iox_word_places.specs.Plans.{details_of}
-use Rattle.iox_word_places.proofs.PairLemmas.{index_there}
-use Rattle.iox_word_places.proofs.PlanLemmas.{number_is}
+use Rattle.iox_wire_ways.specs.PlanPort.{PlanPort}
+use Rattle.iox_wire_ways.specs.WirePlan.{WirePlan}
+use Rattle.iox_wire_ways.specs.Plans.{details_of}
+use Rattle.iox_wire_ways.proofs.PairLemmas.{index_there}
+use Rattle.iox_wire_ways.proofs.PlanLemmas.{number_is, port_is}
 use Rattle.iox_wire_lenders.specs.declared.terms.MessageTerms.{MessageTerms}
 use Rattle.iox_wire_lenders.specs.declared.terms.PortTerms.{PortTerms}
 use Rattle.iox_wire_lenders.specs.Terms.{IsWholePort, messages_of}
 use Rattle.iox_wire_lenders.proofs.LenderLemmas as lenders
-use Rattle.iox_wire_loans.specs.declared.slot_places.SlotPlaces.{SlotPlaces}
-use Rattle.iox_wire_locals.specs.Stored.{header_length}
+use Rattle.iox_wire_ways.specs.SlotPlaces.{SlotPlaces}
+use Rattle.iox_wire_ways.specs.Stored.{header_length}
 use Rattle.iox_wire_ways.specs.PlannedSlots.{role_there}
 use Rattle.iox_wire_ways.proofs.SlotLemmas.{role_of_port, slot_below}
 use Rattle.iox_wire_lenders.proofs.lenders.make_lender.Goals as goal
@@ -117,3 +118,21 @@ returns-clause-number c =
     let same : q ≡ get_or c.args.map.now.ports.items c.args.port q =
     c.index-at.ensures ∙ ap (λ (plan : WirePlan). get_or plan.ports.items c.args.port q) c.plan-plan.ensures.value in
     ap (λ (r : PlanPort). r.number) same ∙ sym (number_is c.args.map.now c.plan-plan.ensures.plan.numbers c.args.port q low)
+
+pub returns-clause-longest : goal.returns-clause-longest
+returns-clause-longest c =
+    let q : PlanPort = c.index-at.result.now in
+    let low : c.args.port < length c.args.map.now.ports.items = slot_below c.args.map.now c.args.port c.requires.slot in
+    let same : q ≡ get_or c.args.map.now.ports.items c.args.port q =
+    c.index-at.ensures ∙ ap (λ (plan : WirePlan). get_or plan.ports.items c.args.port q) c.plan-plan.ensures.value in
+    ap (λ (r : PlanPort). r.longest) same
+    ∙ sym (ap (λ (o : Option PlanPort). option_map_or (λ r. r.longest) o 0) (port_is c.args.map.now c.plan-plan.ensures.plan.numbers c.args.port q low))
+
+pub returns-clause-pool : goal.returns-clause-pool
+returns-clause-pool c =
+    let q : PlanPort = c.index-at.result.now in
+    let low : c.args.port < length c.args.map.now.ports.items = slot_below c.args.map.now c.args.port c.requires.slot in
+    let same : q ≡ get_or c.args.map.now.ports.items c.args.port q =
+    c.index-at.ensures ∙ ap (λ (plan : WirePlan). get_or plan.ports.items c.args.port q) c.plan-plan.ensures.value in
+    ap (λ (r : PlanPort). r.pool) same
+    ∙ sym (ap (λ (o : Option PlanPort). option_map_or (λ r. r.pool) o 0) (port_is c.args.map.now c.plan-plan.ensures.plan.numbers c.args.port q low))

@@ -1,7 +1,7 @@
 use Rattle.std.proofs.Common.{◌++◌, [], List, ◌∷◌, get_or, ap, sym, ◌∙◌, arith, append_assoc, append-nil}
 use Rattle.iox_model.specs.declared.kind.Role.TheVariants.{Client}
-use Rattle.iox_word_places.specs.declared.plan.WirePlan.{WirePlan}
-use Rattle.iox_wire_seats.specs.declared.stops.Stop.{Stop}
+use Rattle.iox_wire_ways.specs.WirePlan.{WirePlan}
+use Rattle.iox_wire_ways.specs.Stop.{Stop}
 use Rattle.iox_wire_stops.specs.LaneReturns.{lane_stops}
 use Rattle.iox_wire_stops.proofs.LaneReturnLemmas.{lane_below, one_lane_more}
 use Rattle.iox_wire_ways.proofs.HeaderLemmas.{PortFacts, index_of_port, port_facts}

@@ -1,6 +1,6 @@
 use Rattle.std.proofs.Common.{◌≡◌, ◌≤◌, ◌<◌, ◌++◌, length}
 use Rattle.iox_model.specs.declared.kind.Role.TheVariants.{Server}
-use Rattle.iox_word_places.specs.Plans.{number_at, returning_room}
+use Rattle.iox_wire_ways.specs.Plans.{number_at, returning_room}
 use Rattle.iox_wire_stops.specs.LaneReturns.{lane_stops}
 use Rattle.iox_wire_ways.specs.Visits.{pool_of}
 use Rattle.iox_wire_stops.proofs.lane_returns.list_lanes.Given as goal

@@ -1,7 +1,7 @@
 use Rattle.std.proofs.Common.{◌≡◌, ◌++◌, List, false, get_or, ap, sym, ◌∙◌, append-nil}
 use Rattle.iox_model.specs.declared.kind.Role.TheVariants.{Client}
-use Rattle.iox_word_places.specs.declared.plan.WirePlan.{WirePlan}
-use Rattle.iox_wire_seats.specs.declared.stops.Stop.{Stop}
+use Rattle.iox_wire_ways.specs.WirePlan.{WirePlan}
+use Rattle.iox_wire_ways.specs.Stop.{Stop}
 use Rattle.iox_wire_stops.specs.LaneReturns.{client_stops}
 use Rattle.iox_wire_stops.proofs.LaneReturnLemmas.{visited_here}
 use Rattle.iox_wire_ways.specs.Visits.{is_other}

@@ -1,10 +1,10 @@
 use Rattle.std.proofs.Common.{◌≡◌, length, ap, sym, subst, ◌∙◌, arith}
 use Rattle.iox_model.specs.declared.kind.Role.TheVariants.{Server}
 use Rattle.iox_steps.specs.declared.site.QueueKind.TheVariants.{Index}
-use Rattle.iox_word_places.specs.Plans.{number_at, returning_room}
-use Rattle.iox_wire_loans.specs.Lenders.{AreReturning}
-use Rattle.iox_wire_seats.specs.Aims.{QueuesInMemory}
-use Rattle.iox_wire_seats.specs.Seats.{ways_of}
+use Rattle.iox_wire_ways.specs.Plans.{number_at, returning_room}
+use Rattle.iox_wire_ways.specs.Lenders.{AreReturning}
+use Rattle.iox_wire_ways.specs.Aims.{QueuesInMemory}
+use Rattle.iox_wire_ways.specs.Seats.{ways_of}
 use Rattle.iox_wire_stops.proofs.LaneReturnLemmas.{all_in_memory, all_return, all_return_ways}
 use Rattle.iox_wire_ways.proofs.ReturnLemmas.{memory_with, returning_with}
 use Rattle.iox_wire_stops.proofs.lane_returns.list_response_returns.Goals as goal

@@ -1,6 +1,6 @@
 use Rattle.std.proofs.Common.{◌≡◌, ◌≤◌, ◌<◌, length}
 use Rattle.iox_model.specs.declared.kind.Role.TheVariants.{Client, Server}
-use Rattle.iox_word_places.specs.Plans.{returning_room}
+use Rattle.iox_wire_ways.specs.Plans.{returning_room}
 use Rattle.iox_wire_stops.specs.LaneReturns.{client_stops}
 use Rattle.iox_wire_ways.specs.Visits.{is_other}
 use Rattle.iox_wire_stops.proofs.LaneReturnLemmas.{gathered_before}

@@ -3,11 +3,11 @@ use Rattle.std.specs.Prelude.{filter}
 use Rattle.iox_model.specs.declared.kind.Role.TheVariants.{Client}
 use Rattle.iox_model.specs.declared.way.Way.{Way}
 use Rattle.iox_model.specs.Messages.{response_way}
-use Rattle.iox_word_places.specs.Plans.{number_at}
+use Rattle.iox_wire_ways.specs.Plans.{number_at}
 use Rattle.iox_wire_releases.specs.StatesOf.{state_stop}
-use Rattle.iox_wire_seats.specs.declared.stops.Stop.{Stop}
-use Rattle.iox_wire_seats.specs.Aims.{AreStates}
-use Rattle.iox_wire_seats.specs.Seats.{ways_of}
+use Rattle.iox_wire_ways.specs.Stop.{Stop}
+use Rattle.iox_wire_ways.specs.Aims.{AreStates}
+use Rattle.iox_wire_ways.specs.Seats.{ways_of}
 use Rattle.iox_wire_stops.specs.OwnStates.{is_client_left}
 use Rattle.iox_wire_stops.proofs.OwnStateLemmas.{only_one, own_places}
 use Rattle.iox_wire_ways.proofs.ListLemmas.{all_ways, others_are}

@@ -1,6 +1,6 @@
 use Rattle.std.proofs.Common.{◌≡◌, ◌≤◌, length}
 use Rattle.iox_wire_releases.specs.StatesOf.{state_stop}
-use Rattle.iox_wire_seats.specs.declared.stops.Stop.{Stop}
+use Rattle.iox_wire_ways.specs.Stop.{Stop}
 use Rattle.iox_wire_stops.specs.OwnStates.{is_client_left}
 use Rattle.iox_wire_ways.proofs.ListLemmas.{made_before}
 use Rattle.iox_wire_stops.proofs.states.list_own_state.Given as goal

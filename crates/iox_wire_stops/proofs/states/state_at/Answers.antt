@@ -1,5 +1,5 @@
 use Rattle.std.proofs.Common.{◌≡◌, true, false, Some, get_or, ap, sym, ◌∙◌}
-use Rattle.iox_word_places.specs.declared.plan.WirePlan.{WirePlan}
+use Rattle.iox_wire_ways.specs.WirePlan.{WirePlan}
 use Rattle.iox_wire_releases.specs.StatesOf.{state_stop}
 use Rattle.iox_wire_stops.specs.OwnStates.{is_client_left}
 use Rattle.iox_wire_stops.proofs.OwnStateLemmas.{lane_is_there, made_here}

@@ -1,9 +1,9 @@
 use Rattle.std.proofs.Common.{ap, ◌∙◌, subst, sym}
 use Rattle.iox_model.specs.declared.kind.Role.TheVariants.{Client}
-use Rattle.iox_wire_locals.specs.Stored.{header_length}
-use Rattle.iox_wire_receives.specs.Sources as sources
-use Rattle.iox_wire_receives.specs.Sources.{AreSources, AreWithin}
-use Rattle.iox_wire_seats.specs.Seats.{ways_of}
+use Rattle.iox_wire_ways.specs.Stored.{header_length}
+use Rattle.iox_wire_ways.specs.Sources as sources
+use Rattle.iox_wire_ways.specs.Sources.{AreSources, AreWithin}
+use Rattle.iox_wire_ways.specs.Seats.{ways_of}
 use Rattle.iox_wire_stops.proofs.WaitingLemmas.{are_told, same_ways, told_in_memory}
 use Rattle.iox_wire_stops.proofs.waiting.list_waiting_requests.Goals as goal
 

@@ -2,12 +2,12 @@ use Rattle.std.proofs.Common.{◌≡◌, ℕ, false, List, get_or, OnOk, sym, su
 use Rattle.iox_model.specs.declared.kind.Role.TheVariants.{Client, Server}
 use Rattle.iox_model.specs.declared.way.Way.{Way}
 use Rattle.iox_model.specs.Receives.{server_ways}
-use Rattle.iox_word_places.specs.declared.plan.WirePlan.{WirePlan}
-use Rattle.iox_word_places.specs.Plans.{number_at}
-use Rattle.iox_wire_locals.specs.Courses.{placed}
-use Rattle.iox_wire_locals.specs.Known.{known}
-use Rattle.iox_wire_locals.specs.ReceiveCourses.{visiting}
-use Rattle.iox_wire_locals.specs.Stored.{header_length}
+use Rattle.iox_wire_messages.specs.WirePlan.{WirePlan}
+use Rattle.iox_wire_messages.specs.Plans.{number_at}
+use Rattle.iox_wire_messages.specs.Courses.{placed}
+use Rattle.iox_wire_messages.specs.Known.{known}
+use Rattle.iox_wire_messages.specs.ReceiveCourses.{visiting}
+use Rattle.iox_wire_messages.specs.Stored.{header_length}
 use Rattle.iox_wire_receives.specs.declared.source.Source.{Source}
 use Rattle.iox_wire_receives.specs.Sources.{AreSources, ways_of}
 use Rattle.iox_wire_ways.proofs.HeaderLemmas.{index_of_port, number_there, port_facts}

@@ -3,11 +3,11 @@ use Rattle.iox_model.specs.declared.kind.Role.TheVariants.{Server}
 use Rattle.iox_model.specs.declared.way.Way.{Way}
 use Rattle.iox_model.specs.Messages.{response_way}
 use Rattle.iox_model.specs.Peers.{ports_of_role}
-use Rattle.iox_wire_locals.specs.Begins.{pending_visit, ways_for}
-use Rattle.iox_wire_locals.specs.Courses.{placed}
-use Rattle.iox_wire_locals.specs.Known.{known}
-use Rattle.iox_wire_locals.specs.ReceiveCourses.{visiting}
-use Rattle.iox_wire_locals.specs.Stored.{header_length}
+use Rattle.iox_wire_messages.specs.Begins.{pending_visit, ways_for}
+use Rattle.iox_wire_messages.specs.Courses.{placed}
+use Rattle.iox_wire_messages.specs.Known.{known}
+use Rattle.iox_wire_messages.specs.ReceiveCourses.{visiting}
+use Rattle.iox_wire_messages.specs.Stored.{header_length}
 use Rattle.iox_wire_receives.specs.declared.source.Source.{Source}
 use Rattle.iox_wire_receives.specs.Sources.{AreSources, ways_of}
 use Rattle.iox_wire_ways.proofs.receives.begin_response_receive.Goals as goal

@@ -1,11 +1,11 @@
 use Rattle.std.proofs.Common.{get_or, ap, sym, subst, ◌∙◌}
 use Rattle.iox_model.specs.declared.kind.Role.TheVariants.{Server}
-use Rattle.iox_word_places.specs.declared.plan.PlanPort.{PlanPort}
-use Rattle.iox_word_places.specs.declared.plan.WirePlan.{WirePlan}
-use Rattle.iox_word_places.specs.declared.way_index.WayIndex.TheVariants.{Responses}
-use Rattle.iox_word_places.specs.Plans.{planned_overflow}
-use Rattle.iox_wire_seats.specs.Aims.{IsInMemory}
-use Rattle.iox_wire_seats.proofs.BeginLemmas.{queue_in_memory}
+use Rattle.iox_wire_messages.specs.PlanPort.{PlanPort}
+use Rattle.iox_wire_messages.specs.WirePlan.{WirePlan}
+use Rattle.iox_wire_messages.specs.WayIndex.TheVariants.{Responses}
+use Rattle.iox_wire_messages.specs.Plans.{planned_overflow}
+use Rattle.iox_wire_messages.specs.Aims.{IsInMemory}
+use Rattle.iox_wire_messages.proofs.BeginLemmas.{queue_in_memory}
 use Rattle.iox_wire_ways.proofs.ResponseTermLemmas.{told_is}
 use Rattle.iox_wire_ways.proofs.response_terms.terms_of_response.Goals as goal
 

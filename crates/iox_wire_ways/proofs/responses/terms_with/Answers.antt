@@ -2,9 +2,9 @@ use Rattle.std.proofs.Common.{◌≡◌, refl, ap, ◌∙◌, arith}
 use Rattle.iox_model.specs.declared.kind.Role.TheVariants.{Server}
 use Rattle.iox_steps.specs.declared.site.Site.{Site}
 use Rattle.iox_word_map.specs.WordMaps.{MessageQueue, QueueWords, ReturningQueue, piece_place}
-use Rattle.iox_word_places.specs.declared.plan.WirePlan.{WirePlan}
-use Rattle.iox_word_places.specs.declared.way_index.WayIndex.TheVariants.{Responses}
-use Rattle.iox_word_places.specs.Plans.{planned_limit, sizes_of, way_at}
+use Rattle.iox_wire_messages.specs.WirePlan.{WirePlan}
+use Rattle.iox_wire_messages.specs.WayIndex.TheVariants.{Responses}
+use Rattle.iox_wire_messages.specs.Plans.{planned_limit, sizes_of, way_at}
 use Rattle.iox_wire_ways.specs.ResponseSources.{response_terms}
 use Rattle.iox_wire_ways.proofs.PartLemmas.{terms_are}
 use Rattle.iox_wire_ways.proofs.ResponseLemmas.{response_back, response_capacity, response_kind, response_room}

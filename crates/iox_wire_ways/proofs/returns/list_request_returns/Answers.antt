@@ -3,12 +3,12 @@ use Rattle.iox_model.specs.declared.kind.Role.TheVariants.{Client, Server}
 use Rattle.iox_model.specs.declared.way.Way.{Way}
 use Rattle.iox_model.specs.Messages.{request_way}
 use Rattle.iox_steps.specs.declared.site.QueueKind.TheVariants.{Index}
-use Rattle.iox_word_places.specs.Plans.{number_at, returning_room}
+use Rattle.iox_wire_messages.specs.Plans.{number_at, returning_room}
 use Rattle.std.specs.Prelude.{map}
-use Rattle.iox_wire_loans.specs.Lenders.{AreReturning}
-use Rattle.iox_wire_seats.specs.declared.stops.Stop.{Stop}
-use Rattle.iox_wire_seats.specs.Aims.{QueuesInMemory}
-use Rattle.iox_wire_seats.specs.Seats.{ways_of}
+use Rattle.iox_wire_copies.specs.Lenders.{AreReturning}
+use Rattle.iox_wire_messages.specs.Stop.{Stop}
+use Rattle.iox_wire_messages.specs.Aims.{QueuesInMemory}
+use Rattle.iox_wire_messages.specs.Seats.{ways_of}
 use Rattle.iox_wire_ways.specs.Visits.{is_other, returning_stop}
 use Rattle.iox_wire_ways.proofs.ListLemmas.{all_ways, others_are}
 use Rattle.iox_wire_ways.proofs.ReturnLemmas.{all_in_memory, all_return, memory_with, returning_with}

@@ -1,7 +1,7 @@
 use Rattle.std.proofs.Common.{◌≡◌, ◌≤◌, ◌<◌, length}
 use Rattle.iox_model.specs.declared.kind.Role.TheVariants.{Client, Server}
-use Rattle.iox_word_places.specs.Plans.{returning_room}
-use Rattle.iox_wire_seats.specs.declared.stops.Stop.{Stop}
+use Rattle.iox_wire_messages.specs.Plans.{returning_room}
+use Rattle.iox_wire_messages.specs.Stop.{Stop}
 use Rattle.iox_wire_ways.specs.Visits.{is_other, returning_stop}
 use Rattle.iox_wire_ways.proofs.ListLemmas.{made_before}
 use Rattle.iox_wire_ways.proofs.returns.list_request_returns.Given as goal

@@ -2,8 +2,8 @@ use Rattle.std.proofs.Common.{◌≡◌, ◌/◌, ℕ, get_or, ap, ap₂, ◌∙
 use Rattle.iox_model.specs.declared.kind.Role.{Role}
 use Rattle.iox_types.specs.declared.message_type_details.MessageTypeDetails.{MessageTypeDetails}
 use Rattle.iox_word_map.specs.MessageWords.{in_words}
-use Rattle.iox_word_places.specs.declared.plan.WirePlan.{WirePlan}
-use Rattle.iox_word_places.specs.Plans.{details_of}
+use Rattle.iox_wire_messages.specs.WirePlan.{WirePlan}
+use Rattle.iox_wire_messages.specs.Plans.{details_of}
 use Rattle.iox_wire_ways.specs.PlannedSlots.{planned_slots, role_there}
 use Rattle.iox_wire_ways.proofs.HeaderLemmas.{PortFacts, port_facts}
 use Rattle.iox_wire_ways.proofs.SlotLemmas.{header_told, role_of_port, slot_below, slots_are}

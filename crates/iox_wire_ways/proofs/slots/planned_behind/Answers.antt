@@ -2,8 +2,8 @@ use Rattle.std.proofs.Common.{◌≡◌, ◌-◌, ◌≤◌, ℕ, get_or, ap, ap
 use Rattle.iox_model.specs.declared.kind.Role.{Role}
 use Rattle.iox_types.specs.declared.message_type_details.MessageTypeDetails.{MessageTypeDetails}
 use Rattle.iox_word_map.specs.MessageWords.{in_words}
-use Rattle.iox_word_places.specs.declared.plan.WirePlan.{WirePlan}
-use Rattle.iox_word_places.specs.Plans.{details_of, number_at, slot_words_of}
+use Rattle.iox_wire_messages.specs.WirePlan.{WirePlan}
+use Rattle.iox_wire_messages.specs.Plans.{details_of, number_at, slot_words_of}
 use Rattle.iox_wire_ways.specs.PlannedSlots.{planned_payloads, role_there}
 use Rattle.iox_wire_ways.proofs.HeaderLemmas.{port_facts}
 use Rattle.iox_wire_ways.proofs.SlotLemmas.{payloads_are, role_of_port, slot_below}

@@ -1,6 +1,6 @@
 use Rattle.std.proofs.Common.{sym, subst}
-use Rattle.iox_word_places.specs.Plans.{number_at}
-use Rattle.iox_wire_loans.specs.Lenders.{AreSlots, IsWithin}
+use Rattle.iox_wire_messages.specs.Plans.{number_at}
+use Rattle.iox_wire_copies.specs.Lenders.{AreSlots, IsWithin}
 use Rattle.iox_wire_ways.proofs.SlotLemmas.{are_slots, slots_within}
 use Rattle.iox_wire_ways.proofs.slots.slot_places.Goals as goal
 

@@ -2,9 +2,9 @@ use Rattle.std.proofs.Common.{◌≡◌, ◌<◌, ◌≤◌, ◌^◌, get_or, ap
 use Rattle.iox_model.specs.declared.kind.Role.{Role}
 use Rattle.iox_types.specs.declared.message_type_details.MessageTypeDetails.{MessageTypeDetails}
 use Rattle.iox_word_map.specs.MessageWords.{in_words}
-use Rattle.iox_word_places.specs.declared.plan.WirePlan.{WirePlan}
-use Rattle.iox_word_places.specs.Plans.{details_of, number_at, slot_words_of}
-use Rattle.iox_wire_loans.specs.declared.slot_places.SlotPlaces.{SlotPlaces}
+use Rattle.iox_wire_messages.specs.WirePlan.{WirePlan}
+use Rattle.iox_wire_messages.specs.Plans.{details_of, number_at, slot_words_of}
+use Rattle.iox_wire_copies.specs.SlotPlaces.{SlotPlaces}
 use Rattle.iox_wire_ways.specs.PlannedSlots.{planned_slots, role_there, words_in_front}
 use Rattle.iox_wire_ways.proofs.SlotLemmas.{front_fits, role_of_port, slot_below, slot_words_fit}
 use Rattle.iox_wire_ways.proofs.slots.words_before.Goals as goal

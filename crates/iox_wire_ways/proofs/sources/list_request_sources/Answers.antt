@@ -1,6 +1,6 @@
 use Rattle.std.proofs.Common.{◌≡◌, length, ap, sym, subst, ◌∙◌, arith}
 use Rattle.iox_model.specs.declared.kind.Role.TheVariants.{Client}
-use Rattle.iox_wire_locals.specs.Stored.{header_length}
+use Rattle.iox_wire_messages.specs.Stored.{header_length}
 use Rattle.iox_wire_receives.specs.Sources.{AreSources, AreWithin, ways_of}
 use Rattle.iox_wire_ways.specs.RequestSources.{passed_over, request_terms}
 use Rattle.iox_wire_ways.proofs.VisitLemmas.{all_sources, all_visited, all_within, sources_with, within_with}

@@ -2,7 +2,7 @@ use Rattle.std.proofs.Common.{get_or, ap, ap₂, ◌∙◌}
 use Rattle.iox_model.specs.declared.kind.Role.TheVariants.{Client, Server}
 use Rattle.iox_model.specs.Messages.{request_way}
 use Rattle.iox_steps.specs.declared.site.Site.{Site}
-use Rattle.iox_word_places.specs.declared.plan.WirePlan.{WirePlan}
+use Rattle.iox_wire_messages.specs.WirePlan.{WirePlan}
 use Rattle.iox_wire_ways.proofs.HeaderLemmas.{PortFacts, index_of_port, port_facts}
 use Rattle.iox_wire_ways.specs.RequestSources.{request_source}
 use Rattle.iox_wire_ways.proofs.PartLemmas.{source_is_told}

@@ -2,10 +2,10 @@ use Rattle.std.proofs.Common.{◌≡◌, ◌*◌, ◌<◌, ◌^◌, ap, ◌∙�
 use Rattle.iox_model.specs.declared.kind.Role.TheVariants.{Client}
 use Rattle.iox_steps.specs.declared.site.Site.{Site}
 use Rattle.iox_word_map.specs.WordMaps.{MessageQueue, QueueWords, ReturningQueue, piece_place, total_words}
-use Rattle.iox_word_places.specs.declared.plan.WirePlan.{WirePlan}
-use Rattle.iox_word_places.specs.declared.way_index.WayIndex.TheVariants.{Requests, Responses}
-use Rattle.iox_word_places.specs.Plans.{layout_of, planned_limit, sizes_of, way_at}
-use Rattle.iox_wire_words.specs.Programs.{state_place}
+use Rattle.iox_wire_messages.specs.WirePlan.{WirePlan}
+use Rattle.iox_wire_messages.specs.WayIndex.TheVariants.{Requests, Responses}
+use Rattle.iox_wire_messages.specs.Plans.{layout_of, planned_limit, sizes_of, way_at}
+use Rattle.iox_wire_messages.specs.Programs.{state_place}
 use Rattle.iox_wire_ways.specs.RequestSources.{request_terms}
 use Rattle.iox_wire_ways.proofs.PartLemmas.{terms_are}
 use Rattle.iox_wire_ways.proofs.SourceLemmas.{told_back, told_capacity, told_kind, told_lane, told_room, told_state, told_within}

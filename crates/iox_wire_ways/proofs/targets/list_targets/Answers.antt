@@ -1,5 +1,5 @@
 use Rattle.std.proofs.Common.{◌≡◌, length, ap, sym, subst, ◌∙◌, arith}
-use Rattle.iox_wire_request_sends.specs.Targets.{AreTargets, AreWithin, servers_of}
+use Rattle.iox_wire_copies.specs.Targets.{AreTargets, AreWithin, servers_of}
 use Rattle.iox_wire_ways.specs.RequestTargets.{target_terms}
 use Rattle.iox_wire_ways.proofs.TargetLemmas.{all_servers_left, all_targets, all_targets_within, targets_with, within_with}
 use Rattle.iox_wire_ways.proofs.targets.list_targets.Goals as goal

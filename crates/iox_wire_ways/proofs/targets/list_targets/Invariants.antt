@@ -1,6 +1,6 @@
 use Rattle.std.proofs.Common.{◌≡◌, ◌≤◌, ◌<◌, length}
 use Rattle.iox_model.specs.declared.kind.Role.TheVariants.{Server}
-use Rattle.iox_wire_request_sends.specs.declared.target.Target.{Target}
+use Rattle.iox_wire_copies.specs.Target.{Target}
 use Rattle.iox_wire_ways.specs.RequestTargets.{KeepsTerms, target_of, target_terms}
 use Rattle.iox_wire_ways.specs.Visits.{is_other}
 use Rattle.iox_wire_ways.proofs.ListLemmas.{made_before}

@@ -1,9 +1,9 @@
 use Rattle.std.proofs.Common.{◌≡◌, refl, ap, ◌∙◌, arith}
 use Rattle.iox_steps.specs.declared.site.Site.{Site}
 use Rattle.iox_word_map.specs.WordMaps.{MessageQueue, QueueWords, ReturningQueue, piece_place}
-use Rattle.iox_word_places.specs.declared.way_index.WayIndex.TheVariants.{Requests, Responses}
-use Rattle.iox_word_places.specs.Plans.{layout_of, sizes_of, way_at}
-use Rattle.iox_wire_words.specs.Programs.{state_place}
+use Rattle.iox_wire_messages.specs.WayIndex.TheVariants.{Requests, Responses}
+use Rattle.iox_wire_messages.specs.Plans.{layout_of, sizes_of, way_at}
+use Rattle.iox_wire_messages.specs.Programs.{state_place}
 use Rattle.iox_wire_ways.specs.RequestTargets.{target_terms}
 use Rattle.iox_wire_ways.proofs.TargetLemmas.{target_back, target_capacity, target_kind, target_room, target_state, terms_told}
 use Rattle.iox_wire_ways.proofs.targets.terms_with.Goals as goal

@@ -11,6 +11,7 @@ use Rattle.iceoryx2_ports.proofs.Staying.{asks_as_before, kept}
 use Rattle.iceoryx2_ports.proofs.Coming.{receive_brings_nothing}
 use Rattle.iceoryx2_ports.proofs.Responding.{waited_in}
 use Rattle.iceoryx2_ports.specs.Rooms.{TakesOfRoom}
+use Rattle.iceoryx2_ports.proofs.Remaining.{receive_keeps_requests}
 use Rattle.iceoryx2_ports.proofs.pending_response.PendingResponse.receive.Goals as goal
 
 pub returns-in-Handle-clause-keeps : goal.returns-in-Handle-clause-keeps
@@ -89,3 +90,18 @@ returns-in-Handle-clause-room g c =
     (sym c.new.ensures.node) (sym c.new.ensures.number)
     (response_takes_of_room c.args.hub.now c.receive_response.new.hub c.is_in_order.ensures c.args.self.now.node c.args.self.now.number c.in-Handle.number c.requires.has
     c.in-Handle.ensures.whole c.in-Handle.ensures.takes)
+
+pub returns-in-Handle-clause-requests : goal.returns-in-Handle-clause-requests
+returns-in-Handle-clause-requests g c =
+    receive_keeps_requests c.args.hub.now c.receive_response.new.hub c.args.self.now.node c.args.self.now.number (reply_of_receive c.receive_response.result)
+    c.receive_response.ensures.whole
+
+pub returns-in-Nothing-clause-requests : goal.returns-in-Nothing-clause-requests
+returns-in-Nothing-clause-requests g c =
+    receive_keeps_requests c.args.hub.now c.receive_response.new.hub c.args.self.now.node c.args.self.now.number (reply_of_receive c.receive_response.result)
+    c.receive_response.ensures.whole
+
+pub returns-in-AtLimit-clause-requests : goal.returns-in-AtLimit-clause-requests
+returns-in-AtLimit-clause-requests g c =
+    receive_keeps_requests c.args.hub.now c.receive_response.new.hub c.args.self.now.node c.args.self.now.number (reply_of_receive c.receive_response.result)
+    c.receive_response.ensures.whole

@@ -8,6 +8,7 @@ use Rattle.iceoryx2_ports.proofs.Aside.{loan_asks_as_always}
 use Rattle.iceoryx2_ports.proofs.Coming.{write_brings_nothing}
 use Rattle.iceoryx2_ports.proofs.Reaching.{keeps_room}
 use Rattle.iceoryx2_ports.proofs.Filled.{write_asks_as}
+use Rattle.iceoryx2_ports.proofs.Remaining.{write_keeps_requests}
 use Rattle.iceoryx2_ports.proofs.request_mut.RequestMut.set_payload_from_slice.Goals as goal
 
 pub returns-in-Done-clause-comes : goal.returns-in-Done-clause-comes
@@ -37,5 +38,17 @@ returns-in-Done-clause-asker g c =
 pub returns-in-WrongLength-clause-asker : goal.returns-in-WrongLength-clause-asker
 returns-in-WrongLength-clause-asker g c =
     write_asks_as c.args.hub.now c.write_request.new.self c.args.self.now.node c.args.self.now.number
+    (payload_of roles.Client (length c.args.values.now) (flat_map g.Q.Element.Words.words c.args.values.now)) (reply_of_write c.write_request.result)
+    c.write_request.ensures.whole RequestMut refl c.requires.has
+
+pub returns-in-Done-clause-requests : goal.returns-in-Done-clause-requests
+returns-in-Done-clause-requests g c =
+    write_keeps_requests c.args.hub.now c.write_request.new.self c.args.self.now.node c.args.self.now.number
+    (payload_of roles.Client (length c.args.values.now) (flat_map g.Q.Element.Words.words c.args.values.now)) (reply_of_write c.write_request.result)
+    c.write_request.ensures.whole RequestMut refl c.requires.has
+
+pub returns-in-WrongLength-clause-requests : goal.returns-in-WrongLength-clause-requests
+returns-in-WrongLength-clause-requests g c =
+    write_keeps_requests c.args.hub.now c.write_request.new.self c.args.self.now.node c.args.self.now.number
     (payload_of roles.Client (length c.args.values.now) (flat_map g.Q.Element.Words.words c.args.values.now)) (reply_of_write c.write_request.result)
     c.write_request.ensures.whole RequestMut refl c.requires.has

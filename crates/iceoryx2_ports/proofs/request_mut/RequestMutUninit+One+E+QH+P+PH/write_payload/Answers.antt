@@ -8,6 +8,7 @@ use Rattle.iox_model.specs.declared.kind.Kind.TheVariants.{RequestMutUninit}
 use Rattle.iceoryx2_ports.proofs.Aside.{loan_asks_as_always}
 use Rattle.iceoryx2_ports.proofs.Reaching.{keeps_room}
 use Rattle.iceoryx2_ports.proofs.Filled.{write_asks_as}
+use Rattle.iceoryx2_ports.proofs.Remaining.{write_keeps_requests}
 use Rattle.iceoryx2_ports.proofs.request_mut.RequestMutUninit+One+E+QH+P+PH.write_payload.Goals as goal
 
 pub returns-clause-comes : goal.returns-clause-comes
@@ -31,5 +32,11 @@ returns-clause-room g c =
 pub returns-clause-asker : goal.returns-clause-asker
 returns-clause-asker g c =
     write_asks_as c.args.hub.now c.write_request.new.self c.args.self.node c.args.self.number
+    (payload_of roles.Client 1 (flat_map g.E.Words.words (c.args.value ∷ []))) (reply_of_write c.write_request.result)
+    c.write_request.ensures.whole RequestMutUninit refl c.requires.has
+
+pub returns-clause-requests : goal.returns-clause-requests
+returns-clause-requests g c =
+    write_keeps_requests c.args.hub.now c.write_request.new.self c.args.self.node c.args.self.number
     (payload_of roles.Client 1 (flat_map g.E.Words.words (c.args.value ∷ []))) (reply_of_write c.write_request.result)
     c.write_request.ensures.whole RequestMutUninit refl c.requires.has

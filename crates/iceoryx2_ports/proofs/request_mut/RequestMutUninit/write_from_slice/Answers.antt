@@ -8,6 +8,7 @@ use Rattle.iox_model.specs.declared.kind.Kind.TheVariants.{RequestMutUninit}
 use Rattle.iceoryx2_ports.proofs.Aside.{loan_asks_as_always}
 use Rattle.iceoryx2_ports.proofs.Reaching.{keeps_room}
 use Rattle.iceoryx2_ports.proofs.Filled.{write_asks_as}
+use Rattle.iceoryx2_ports.proofs.Remaining.{write_keeps_requests}
 use Rattle.iceoryx2_ports.proofs.request_mut.RequestMutUninit.write_from_slice.Goals as goal
 
 pub returns-in-Done-clause-comes : goal.returns-in-Done-clause-comes
@@ -31,5 +32,11 @@ returns-in-Done-clause-room g c =
 pub returns-in-Done-clause-asker : goal.returns-in-Done-clause-asker
 returns-in-Done-clause-asker g c =
     write_asks_as c.args.hub.now c.write_request.new.self c.args.self.node c.args.self.number
+    (payload_of roles.Client (length c.args.values.now) (flat_map g.Q.Element.Words.words c.args.values.now)) (reply_of_write c.write_request.result)
+    c.write_request.ensures.whole RequestMutUninit refl c.requires.has
+
+pub returns-in-Done-clause-requests : goal.returns-in-Done-clause-requests
+returns-in-Done-clause-requests g c =
+    write_keeps_requests c.args.hub.now c.write_request.new.self c.args.self.node c.args.self.number
     (payload_of roles.Client (length c.args.values.now) (flat_map g.Q.Element.Words.words c.args.values.now)) (reply_of_write c.write_request.result)
     c.write_request.ensures.whole RequestMutUninit refl c.requires.has

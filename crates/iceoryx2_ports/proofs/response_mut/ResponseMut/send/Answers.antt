@@ -6,6 +6,7 @@ use Rattle.iox_model.specs.declared.kind.Kind.TheVariants.{ResponseMut}
 use Rattle.iox_hub.specs.Responses.{reply_of_send}
 use Rattle.iceoryx2_ports.proofs.Answering.{loan_reaches_asker}
 use Rattle.iceoryx2_ports.proofs.Aside.{loan_asks_as_always}
+use Rattle.iceoryx2_ports.proofs.SentOpen.{send_closes_none}
 use Rattle.iceoryx2_ports.proofs.response_mut.ResponseMut.send.Goals as goal
 
 pub returns-in-Done-clause-only : goal.returns-in-Done-clause-only
@@ -28,5 +29,15 @@ returns-in-Undelivered-clause-asks g c =
 
 pub returns-in-Done-clause-reaches : goal.returns-in-Done-clause-reaches
 returns-in-Done-clause-reaches g c =
-    loan_reaches_asker c.args.hub.now c.send_response.new.hub c.is_in_order.ensures c.is_in_order-in-Done.ensures c.args.self.node c.args.self.number
-    c.requires.has c.in-Done.ensures.brings c.in-Done.ensures.whole c.send_response.ensures.keeps
+    loan_reaches_asker c.args.hub.now c.send_response.new.hub c.is_in_order-in-Done.ensures c.args.self.node c.args.self.number c.requires.has
+    c.send_response.ensures.keeps c.is_in_order.ensures c.in-Done.ensures.brings c.in-Done.ensures.whole
+
+pub returns-in-Done-clause-requests : goal.returns-in-Done-clause-requests
+returns-in-Done-clause-requests g c =
+    send_closes_none c.args.hub.now c.send_response.new.hub c.is_in_order.ensures c.is_in_order-in-Done.ensures c.args.self.node c.args.self.number
+    (reply_of_send c.send_response.result) c.requires.has c.send_response.ensures.whole c.send_response.ensures.keeps
+
+pub returns-in-Undelivered-clause-requests : goal.returns-in-Undelivered-clause-requests
+returns-in-Undelivered-clause-requests g c =
+    send_closes_none c.args.hub.now c.send_response.new.hub c.is_in_order.ensures c.is_in_order-in-Undelivered.ensures c.args.self.node c.args.self.number
+    (reply_of_send c.send_response.result) c.requires.has c.send_response.ensures.whole c.send_response.ensures.keeps

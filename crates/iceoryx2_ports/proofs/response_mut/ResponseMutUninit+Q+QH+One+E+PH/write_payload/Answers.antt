@@ -8,6 +8,7 @@ use Rattle.iox_model.specs.declared.kind.Kind.TheVariants.{ResponseMutUninit}
 use Rattle.iceoryx2_ports.proofs.Aside.{loan_asks_as_always}
 use Rattle.iceoryx2_ports.proofs.Reaching.{keeps_room}
 use Rattle.iceoryx2_ports.proofs.Filled.{write_answers_as}
+use Rattle.iceoryx2_ports.proofs.Remaining.{write_keeps_requests}
 use Rattle.iceoryx2_ports.proofs.response_mut.ResponseMutUninit+Q+QH+One+E+PH.write_payload.Goals as goal
 
 pub returns-clause-comes : goal.returns-clause-comes
@@ -31,5 +32,11 @@ returns-clause-room g c =
 pub returns-clause-answers : goal.returns-clause-answers
 returns-clause-answers g c =
     write_answers_as c.args.hub.now c.write_response.new.self c.args.self.node c.args.self.number
+    (payload_of roles.Server 1 (flat_map g.E.Words.words (c.args.value ∷ []))) (reply_of_write c.write_response.result)
+    c.write_response.ensures.whole ResponseMutUninit refl c.requires.has
+
+pub returns-clause-requests : goal.returns-clause-requests
+returns-clause-requests g c =
+    write_keeps_requests c.args.hub.now c.write_response.new.self c.args.self.node c.args.self.number
     (payload_of roles.Server 1 (flat_map g.E.Words.words (c.args.value ∷ []))) (reply_of_write c.write_response.result)
     c.write_response.ensures.whole ResponseMutUninit refl c.requires.has

@@ -13,6 +13,7 @@ use Rattle.iceoryx2_ports.proofs.Telling.{called_as}
 use Rattle.iceoryx2_ports.proofs.Staying.{asks_as_before, kept}
 use Rattle.iceoryx2_ports.proofs.Coming.{receive_brings_nothing}
 use Rattle.iceoryx2_ports.proofs.Received.{is_its_request, receive_keeps_askers_idle}
+use Rattle.iceoryx2_ports.proofs.Remaining.{receive_keeps_requests}
 use Rattle.iceoryx2_ports.proofs.server.Server.receive.Goals as goal
 
 pub returns-in-Handle-clause-keeps : goal.returns-in-Handle-clause-keeps
@@ -88,3 +89,18 @@ pub returns-in-Handle-clause-askers : goal.returns-in-Handle-clause-askers
 returns-in-Handle-clause-askers g c =
     receive_keeps_askers_idle c.args.hub.now c.receive_request.new.hub c.is_in_order.ensures c.args.self.now.node c.args.self.now.number c.in-Handle.number
     c.in-Handle.ensures.whole c.in-Handle.ensures.takes c.requires.has
+
+pub returns-in-Handle-clause-requests : goal.returns-in-Handle-clause-requests
+returns-in-Handle-clause-requests g c =
+    receive_keeps_requests c.args.hub.now c.receive_request.new.hub c.args.self.now.node c.args.self.now.number (reply_of_receive c.receive_request.result)
+    c.receive_request.ensures.whole
+
+pub returns-in-Nothing-clause-requests : goal.returns-in-Nothing-clause-requests
+returns-in-Nothing-clause-requests g c =
+    receive_keeps_requests c.args.hub.now c.receive_request.new.hub c.args.self.now.node c.args.self.now.number (reply_of_receive c.receive_request.result)
+    c.receive_request.ensures.whole
+
+pub returns-in-AtLimit-clause-requests : goal.returns-in-AtLimit-clause-requests
+returns-in-AtLimit-clause-requests g c =
+    receive_keeps_requests c.args.hub.now c.receive_request.new.hub c.args.self.now.node c.args.self.now.number (reply_of_receive c.receive_request.result)
+    c.receive_request.ensures.whole

@@ -1,9 +1,9 @@
 use Rattle.std.proofs.Common.{◌≡◌, length}
 use Rattle.std.specs.Prelude.{◌≢◌}
 use Rattle.iox_control_releasing.specs.Goings.{StaysTidy}
+use Rattle.iox_hub.specs.Cleaning.{LeadsOn}
 use Rattle.iox_hub.specs.Keeping.{Keeps}
 use Rattle.iox_hub.specs.Listings.{numbers_had}
-use Rattle.iox_hub.proofs.CleaningLemmas.{LeadsOn}
 use Rattle.iox_hub.proofs.hub.Hub.release_all.Given as goal
 
 -- what is left is yet to be released, and the rest was

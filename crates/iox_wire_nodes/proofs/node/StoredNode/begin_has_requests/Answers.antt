@@ -4,12 +4,12 @@ use Rattle.iox_model.specs.declared.call.WireCall.TheVariants.{Port}
 use Rattle.iox_model.specs.declared.kind.Role.TheVariants.{Client}
 use Rattle.iox_model.specs.declared.way.Way.{Way}
 use Rattle.iox_model.specs.Commands.{Payload}
-use Rattle.iox_word_places.proofs.PairLemmas.{one_of}
-use Rattle.iox_wire_handle_calls.specs.HandleCalls.{refusal_in}
-use Rattle.iox_wire_locals.specs.Begins.{begins_at_port, refusal_at}
-use Rattle.iox_wire_locals.specs.ReceiveCourses.{seeking}
-use Rattle.iox_wire_seats.specs.Aims.{AreQueues}
-use Rattle.iox_wire_seats.specs.Seats.{ways_of}
+use Rattle.iox_wire_begins.proofs.PairLemmas.{one_of}
+use Rattle.iox_wire_begins.specs.HandleCalls.{refusal_in}
+use Rattle.iox_wire_begins.specs.Begins.{begins_at_port, refusal_at}
+use Rattle.iox_wire_begins.specs.ReceiveCourses.{seeking}
+use Rattle.iox_wire_begins.specs.Aims.{AreQueues}
+use Rattle.iox_wire_begins.specs.Seats.{ways_of}
 use Rattle.iox_wire_nodes.specs.Nodes.{seat_in}
 use Rattle.iox_wire_nodes.proofs.RestLemmas.{begun_in, looks_at_server, refusal_alike}
 use Rattle.iox_wire_nodes.proofs.node.StoredNode.begin_has_requests.Goals as goal

@@ -3,9 +3,9 @@ use Rattle.iox_model.specs.declared.call.Call.TheVariants.{Receive}
 use Rattle.iox_model.specs.declared.call.WireCall.TheVariants.{Port}
 use Rattle.iox_model.specs.declared.kind.Role.TheVariants.{Client}
 use Rattle.iox_model.specs.Commands.{Payload}
-use Rattle.iox_word_places.proofs.PairLemmas.{one_of}
-use Rattle.iox_wire_handle_calls.specs.HandleCalls.{refusal_in}
-use Rattle.iox_wire_locals.specs.Begins.{begins_at_port, refusal_at}
+use Rattle.iox_wire_begins.proofs.PairLemmas.{one_of}
+use Rattle.iox_wire_begins.specs.HandleCalls.{refusal_in}
+use Rattle.iox_wire_begins.specs.Begins.{begins_at_port, refusal_at}
 use Rattle.iox_wire_nodes.specs.Nodes.{seat_in}
 use Rattle.iox_wire_nodes.proofs.RestLemmas.{is_server, next_alike, received_at, refusal_alike}
 use Rattle.iox_wire_nodes.proofs.node.StoredNode.begin_receive_at_port.Goals as goal

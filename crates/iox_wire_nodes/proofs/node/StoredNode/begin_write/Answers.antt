@@ -1,5 +1,5 @@
 use Rattle.std.proofs.Common.{sym, ◌∙◌}
-use Rattle.iox_wire_handle_calls.specs.HandleCalls.{write_of}
+use Rattle.iox_wire_begins.specs.HandleCalls.{write_of}
 use Rattle.iox_wire_nodes.proofs.RestLemmas.{begun_in}
 use Rattle.iox_wire_nodes.proofs.node.StoredNode.begin_write.Goals as goal
 

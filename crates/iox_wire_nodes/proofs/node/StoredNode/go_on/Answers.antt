@@ -1,12 +1,12 @@
 use Rattle.std.proofs.Common.{ap, sym, ◌∙◌}
 use Rattle.std.specs.Option.{option_map}
-use Rattle.iox_wire_seats.specs.Seats.{reply_with}
-use Rattle.iox_wire_receives.specs.Receipts as receives
-use Rattle.iox_wire_loans.specs.Loans as loans
-use Rattle.iox_wire_request_sends.specs.RequestDispatches as requests
-use Rattle.iox_wire_sends.specs.Dispatches as responses
-use Rattle.iox_wire_copies.specs.CopyCalls as request_copies
-use Rattle.iox_wire_copies.specs.ResponseCopies as response_copies
+use Rattle.iox_wire_begins.specs.Seats.{reply_with}
+use Rattle.iox_wire_begins.specs.Receipts as receives
+use Rattle.iox_wire_begins.specs.Loans as loans
+use Rattle.iox_wire_begins.specs.RequestDispatches as requests
+use Rattle.iox_wire_begins.specs.Dispatches as responses
+use Rattle.iox_wire_begins.specs.CopyCalls as request_copies
+use Rattle.iox_wire_begins.specs.ResponseCopies as response_copies
 use Rattle.iox_wire_nodes.specs.declared.call_at.CallAt.TheVariants as at
 use Rattle.iox_wire_nodes.specs.Nodes.{reply_in}
 use Rattle.iox_wire_nodes.proofs.ReplyLemmas.{over_told}

@@ -3,8 +3,8 @@ use Rattle.iox_model.specs.declared.call.Call.TheVariants.{Release}
 use Rattle.iox_model.specs.declared.call.WireCall.TheVariants.{Port}
 use Rattle.iox_model.specs.declared.kind.Role.TheVariants.{Client}
 use Rattle.iox_model.specs.Commands.{Payload}
-use Rattle.iox_wire_handle_calls.specs.HandleCalls.{refusal_in}
-use Rattle.iox_wire_locals.specs.Begins.{refusal_at}
+use Rattle.iox_wire_begins.specs.HandleCalls.{refusal_in}
+use Rattle.iox_wire_begins.specs.Begins.{refusal_at}
 use Rattle.iox_wire_nodes.proofs.node.begin.release.Goals as goal
 
 -- no payload is asked

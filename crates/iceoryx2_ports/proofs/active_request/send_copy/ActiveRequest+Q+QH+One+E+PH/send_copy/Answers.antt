@@ -13,6 +13,7 @@ use Rattle.iceoryx2_ports.specs.Loans.{loan_refusal}
 use Rattle.iceoryx2_ports.proofs.Copying.{copy_asks_as_before, copy_keeps, test_is_told}
 use Rattle.iceoryx2_ports.proofs.Responding.{copy_has_as_before, copy_reaches_asker}
 use Rattle.iceoryx2_ports.proofs.Telling.{called_as}
+use Rattle.iceoryx2_ports.proofs.Unclosed.{copy_keeps_requests}
 use Rattle.iceoryx2_ports.proofs.active_request.send_copy.ActiveRequest+Q+QH+One+E+PH.send_copy.Goals as goal
 
 pub returns-in-Done-clause-keeps : goal.returns-in-Done-clause-keeps
@@ -54,3 +55,27 @@ returns-in-Done-clause-reaches g c =
     (flat_map g.E.Words.words (c.args.value ∷ [])) c.requires.has c.in-Done.ensures.brings
     (copy_has_as_before (shown c.args.hub.now) (shown c.copy_response.new.hub) c.args.self.now.node c.args.self.now.number
     (payload_of roles.Server 1 (flat_map g.E.Words.words (c.args.value ∷ []))) (c.in-Done.ensures.whole (nothing_given c.args.hub.now)))
+
+pub returns-in-Done-clause-requests : goal.returns-in-Done-clause-requests
+returns-in-Done-clause-requests g c =
+    copy_keeps_requests c.args.hub.now c.copy_response.new.hub c.is_in_order.ensures c.args.self.now.node c.args.self.now.number
+    (payload_of roles.Server 1 (flat_map g.E.Words.words (c.args.value ∷ []))) (reply_of_copy c.copy_response.result) c.requires.has
+    c.copy_response.ensures.whole
+
+pub returns-in-Refused-clause-requests : goal.returns-in-Refused-clause-requests
+returns-in-Refused-clause-requests g c =
+    copy_keeps_requests c.args.hub.now c.copy_response.new.hub c.is_in_order.ensures c.args.self.now.node c.args.self.now.number
+    (payload_of roles.Server 1 (flat_map g.E.Words.words (c.args.value ∷ []))) (reply_of_copy c.copy_response.result) c.requires.has
+    c.copy_response.ensures.whole
+
+pub returns-in-OutOfMemory-clause-requests : goal.returns-in-OutOfMemory-clause-requests
+returns-in-OutOfMemory-clause-requests g c =
+    copy_keeps_requests c.args.hub.now c.copy_response.new.hub c.is_in_order.ensures c.args.self.now.node c.args.self.now.number
+    (payload_of roles.Server 1 (flat_map g.E.Words.words (c.args.value ∷ []))) (reply_of_copy c.copy_response.result) c.requires.has
+    c.copy_response.ensures.whole
+
+pub returns-in-Undelivered-clause-requests : goal.returns-in-Undelivered-clause-requests
+returns-in-Undelivered-clause-requests g c =
+    copy_keeps_requests c.args.hub.now c.copy_response.new.hub c.is_in_order.ensures c.args.self.now.node c.args.self.now.number
+    (payload_of roles.Server 1 (flat_map g.E.Words.words (c.args.value ∷ []))) (reply_of_copy c.copy_response.result) c.requires.has
+    c.copy_response.ensures.whole

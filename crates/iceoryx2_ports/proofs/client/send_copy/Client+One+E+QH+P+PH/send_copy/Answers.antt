@@ -1,5 +1,5 @@
-use Rattle.std.specs.Prelude.{◌∷◌, [], flat_map}
-use Rattle.std.proofs.Common.{ap, sym, ◌∙◌}
+use Rattle.std.specs.Prelude.{ℕ, ◌∷◌, [], flat_map}
+use Rattle.std.proofs.Common.{ap, subst₂, sym, ◌∙◌}
 use Rattle.iox_model.specs.declared.call.Call.TheVariants.{SendCopy}
 use Rattle.iox_model.specs.declared.kind.Role.TheVariants as roles
 use Rattle.iox_model.specs.declared.reply.Refusal.TheVariants as refusals
@@ -12,6 +12,9 @@ use Rattle.iceoryx2_ports.specs.Loans.{loan_refusal}
 use Rattle.iceoryx2_ports.proofs.Copying.{copy_asks_as_before, copy_keeps, test_is_told}
 use Rattle.iceoryx2_ports.proofs.Reaching.{copy_brings_one, copy_is_sent, copy_reaches}
 use Rattle.iceoryx2_ports.proofs.Telling.{called_as}
+use Rattle.iceoryx2_ports.proofs.CopyAsked.{copy_asks_quietly, copy_brings_its_request, copy_opens}
+use Rattle.iceoryx2_ports.specs.Asking.{BringsItsRequest, LendsQuietly, OpensAtServers}
+use Rattle.iox_hub_laws.specs.Waiting.{client_in}
 use Rattle.iceoryx2_ports.proofs.client.send_copy.Client+One+E+QH+P+PH.send_copy.Goals as goal
 
 pub returns-in-To-clause-whole : goal.returns-in-To-clause-whole
@@ -73,3 +76,21 @@ pub returns-in-To-clause-one : goal.returns-in-To-clause-one
 returns-in-To-clause-one g c =
     copy_brings_one c.args.hub.now c.copy_request.new.hub c.is_in_order.ensures c.args.self.now.node c.args.self.now.number 1 c.in-To.number
     (flat_map g.E.Words.words (c.args.value ∷ [])) c.requires.has c.in-To.ensures.whole
+
+pub returns-in-To-clause-quiet : goal.returns-in-To-clause-quiet
+returns-in-To-clause-quiet g c =
+    subst₂ (λ (i n : ℕ). LendsQuietly c.args.hub.now c.args.self.now.number c.copy_request.new.hub i n) (sym c.new.ensures.node) (sym c.new.ensures.number)
+    (copy_asks_quietly c.args.hub.now c.copy_request.new.hub c.is_in_order.ensures c.args.self.now.node c.args.self.now.number 1 c.in-To.number
+    (flat_map g.E.Words.words (c.args.value ∷ [])) c.requires.has c.in-To.ensures.whole)
+
+pub returns-in-To-clause-asked : goal.returns-in-To-clause-asked
+returns-in-To-clause-asked g c =
+    subst₂ (λ (i n : ℕ). BringsItsRequest c.args.hub.now (client_in c.copy_request.new.hub i n) c.copy_request.new.hub) (sym c.new.ensures.node) (sym c.new.ensures.number)
+    (copy_brings_its_request c.args.hub.now c.copy_request.new.hub c.is_in_order.ensures c.args.self.now.node c.args.self.now.number 1 c.in-To.number
+    (flat_map g.E.Words.words (c.args.value ∷ [])) c.requires.has c.in-To.ensures.whole)
+
+pub returns-in-To-clause-opens : goal.returns-in-To-clause-opens
+returns-in-To-clause-opens g c =
+    subst₂ (λ (i n : ℕ). OpensAtServers c.args.hub.now (client_in c.copy_request.new.hub i n) c.copy_request.new.hub) (sym c.new.ensures.node) (sym c.new.ensures.number)
+    (copy_opens c.args.hub.now c.copy_request.new.hub c.is_in_order.ensures c.args.self.now.node c.args.self.now.number 1 c.in-To.number
+    (flat_map g.E.Words.words (c.args.value ∷ [])) c.requires.has c.in-To.ensures.whole)

@@ -1,4 +1,13 @@
+use Rattle.std.specs.Prelude.{ℕ}
+use Rattle.iox_model.specs.declared.kind.Role.TheVariants as roles
+use Rattle.iceoryx2_ports.specs.Makings.{reply_of_client}
+use Rattle.iceoryx2_ports.specs.Overrides.{IsMadeWithItsPool, MadeWith}
+use Rattle.std.proofs.Common.{subst}
 use Rattle.iceoryx2_ports.proofs.port_factory_client.overriding.PreallocatedClient.create.Goals as goal
 
 pub returns-clause-whole : goal.returns-clause-whole
-returns-clause-whole g c = (c.with_pool-options.result, c.with_pool-options.ensures, c.create.ensures.whole)
+returns-clause-whole g c =
+    subst
+    (λ (it : MadeWith _).
+    IsMadeWithItsPool c.args.hub.now it.node roles.Client it.id (λ (n : ℕ). g.F.Fn.post it.closure (n, tt)) it.options (reply_of_client c.create.result) c.create.new.hub)
+    c.self.view_is (c.with_pool-options.result, c.with_pool-options.ensures, c.create.ensures.whole)

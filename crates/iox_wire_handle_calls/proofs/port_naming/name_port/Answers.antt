@@ -5,11 +5,11 @@ use Rattle.iox_model.specs.declared.kind.Kind.{Kind}
 use Rattle.iox_model.specs.declared.kind.Role.{Role}
 use Rattle.iox_model.specs.declared.kind.Role.TheVariants.{Client}
 use Rattle.iox_model.specs.Names.{suits}
-use Rattle.iox_word_places.specs.declared.plan.PlanPort.{PlanPort}
-use Rattle.iox_word_places.specs.declared.plan.WirePlan.{WirePlan}
+use Rattle.iox_wire_stops.specs.PlanPort.{PlanPort}
+use Rattle.iox_wire_stops.specs.WirePlan.{WirePlan}
 use Rattle.iox_wire_handle_calls.specs.HandleCalls.{call_of, port_kind}
 use Rattle.iox_wire_handle_calls.proofs.NameLemmas.{found_there, port_begins, port_refusal, port_there}
-use Rattle.iox_wire_handle_calls.proofs.naming.name_port.Goals as goal
+use Rattle.iox_wire_handle_calls.proofs.port_naming.name_port.Goals as goal
 
 pub returns-then-port-node-clause-refused : goal.returns-then-port-node-clause-refused
 returns-then-port-node-clause-refused c p y setting held role =

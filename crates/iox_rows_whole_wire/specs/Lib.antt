@@ -1,0 +1,2 @@
+-- a plan where each setting is 1
+pub mod Ones

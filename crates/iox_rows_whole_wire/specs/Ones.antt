@@ -1,0 +1,40 @@
+-- A plan where each setting is 1: a client on one node, a server on the other.
+use Rattle.std.specs.Prelude.{◌≡◌, ℕ, false, List, [], ◌∷◌}
+use Rattle.iox_model.specs.declared.kind.Role.TheVariants.{Client, Server}
+use Rattle.iox_types.specs.declared.message_type_details.MessageTypeDetails.{MessageTypeDetails}
+use Rattle.iox_word_places.specs.declared.plan.PlanLimits.{PlanLimits}
+use Rattle.iox_word_places.specs.declared.plan.PlanPort.{PlanPort}
+use Rattle.iox_word_places.specs.declared.plan.WirePlan.{WirePlan}
+
+-- a client, and a server
+abbrev pub client : PlanPort
+client = record { number = 0; node = 0; role = Client; pool = 4; longest = 1; slot_words = 10 }
+
+abbrev pub server : PlanPort
+server = record { number = 1; node = 1; role = Server; pool = 9; longest = 1; slot_words = 9 }
+
+-- each limit is 1, and nothing overflows
+abbrev pub limits_of_ones : PlanLimits
+limits_of_ones = record {
+  active_requests = 1;
+  response_buffer = 1;
+  borrowed_responses = 1;
+  request_overflow = false;
+  response_overflow = false;
+}
+
+-- Messages have a header of so many bytes, no user header, and a payload of one word.
+pub record HasOneWord (details : MessageTypeDetails) (header : ℕ) : Type 0 where
+  pub header_size : details.header.size ≡ header
+  pub header_alignment : details.header.alignment ≡ 8
+  pub user_size : details.user_header.size ≡ 0
+  pub user_alignment : details.user_header.alignment ≡ 8
+  pub payload_size : details.payload.size ≡ 8
+  pub payload_alignment : details.payload.alignment ≡ 8
+
+-- It is the plan of these ports and limits.
+pub record IsPlanOfOnes (plan : WirePlan) : Type 0 where
+  pub ports : plan.ports.items ≡ client ∷ server ∷ []
+  pub limits : plan.limits ≡ limits_of_ones
+  pub request : HasOneWord plan.request 56
+  pub response : HasOneWord plan.response 48

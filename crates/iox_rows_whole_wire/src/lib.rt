@@ -1,0 +1,5 @@
+//! Tests of a whole wire, by what its crate makes public.
+#![tactic(auto)]
+
+#[cfg(test)]
+mod wires;

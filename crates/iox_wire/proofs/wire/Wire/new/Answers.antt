@@ -1,0 +1,34 @@
+use Rattle.std.specs.Prelude.{replicate}
+use Rattle.std.proofs.Common.{ap, subst, ◌∙◌}
+use Rattle.iox_word_map.specs.WordMaps.{total_words}
+use Rattle.iox_wire_weaves.specs.WirePlan.{WirePlan}
+use Rattle.iox_wire_weaves.specs.Plans.{sizes_of}
+use Rattle.iox_wire_weaves.specs.Wires.{WireData}
+use Rattle.iox_wire.specs.Kept.{AreOpened}
+use Rattle.iox_wire.proofs.Members.{opened_node}
+use Rattle.iox_wire.proofs.Fresh.{shown_opened, shows_opened}
+use Rattle.iox_wire.proofs.Replies.{told_by}
+use Rattle.iox_wire.proofs.wire.Wire.new.Goals as goal
+
+pub invariant_of-result : goal.invariant_of-result
+invariant_of-result c =
+    let w : WireData = record { plan = c.in_ok-places.places; words = c.in_ok-words.words.items; nodes = c.in_ok-members.members.items; replies = told_by c.new-2.result.items } in
+    shown_opened c.args.plan c.args.nodes.now w c.requires.plan c.in_ok-places.ensures.made
+    (c.in_ok-words.ensures
+    ∙ ap (λ n. replicate n 0) (c.total.ensures ∙ ap (λ (q : WirePlan). total_words (sizes_of q)) c.in_ok-places.ensures.made))
+    c.args.handles
+    (subst (λ (q : WirePlan). AreOpened q c.args.handles c.args.nodes.now c.in_ok-members.members.items) (c.plan.ensures.value ∙ c.in_ok-places.ensures.made) c.in_ok-members.ensures)
+    (ap told_by c.new-2.ensures.items) c.requires.opens
+
+pub returns-clause-opened : goal.returns-clause-opened
+returns-clause-opened c p s opens =
+    let w : WireData = record { plan = c.in_ok-places.places; words = c.in_ok-words.words.items; nodes = c.in_ok-members.members.items; replies = told_by c.new-2.result.items } in
+    shows_opened c.args.plan c.args.nodes.now w c.requires.plan c.in_ok-places.ensures.made
+    (c.in_ok-words.ensures
+    ∙ ap (λ n. replicate n 0) (c.total.ensures ∙ ap (λ (q : WirePlan). total_words (sizes_of q)) c.in_ok-places.ensures.made))
+    c.args.handles
+    (subst (λ (q : WirePlan). AreOpened q c.args.handles c.args.nodes.now c.in_ok-members.members.items) (c.plan.ensures.value ∙ c.in_ok-places.ensures.made) c.in_ok-members.ensures)
+    (ap told_by c.new-2.ensures.items) p s opens
+
+pub returns-clause-room : goal.returns-clause-room
+returns-clause-room c n x at = (opened_node c.plan.result.now c.args.handles c.args.nodes.now c.in_ok-members.members.items n x c.in_ok-members.ensures at).room

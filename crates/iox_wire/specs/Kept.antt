@@ -1,0 +1,74 @@
+-- What a wire keeps to, and what a node's access does.
+use Rattle.std.specs.Prelude.{◌≡◌, ◌==◌, ℕ, false, List, [], ◌∷◌, Option, Some, length, true}
+use Rattle.iox_steps.specs.declared.access.Access.{Access}
+use Rattle.iox_steps.specs.Accesses.{IsWithin, seen_at, words_after}
+use Rattle.iox_wire_weaves.specs.Programs.{program_access}
+use Rattle.iox_wire_weaves.specs.Locals.{program_of}
+use Rattle.iox_wire_weaves.specs.Tables.{Setting}
+use Rattle.iox_wire_weaves.specs.CallAt.TheVariants.{Seats}
+use Rattle.iox_wire_weaves.specs.NodeReply.{NodeReply}
+use Rattle.iox_wire_weaves.specs.Aims.{IsAimed}
+use Rattle.iox_wire_weaves.specs.Nodes.{Node, seat_in}
+use Rattle.iox_wire_openings.specs.OpenedNodes.{planned_seat}
+use Rattle.iox_wire_weaves.specs.Runs.{Run}
+use Rattle.iox_wire_weaves.specs.WirePlan.{WirePlan}
+use Rattle.iox_wire_weaves.specs.declared.refusal.WireRefusal.TheVariants.{NodeIsDead}
+use Rattle.iox_wire_weaves.specs.Laws.{WentOn}
+use Rattle.iox_wire_weaves.specs.Wires.{Shows, WireData, WireNode, living_refusal, node_at}
+
+-- ---- a wire
+
+-- each node's call is one that its seat keeps
+abbrev pub AreSeated : List WireNode → Type 0
+AreSeated nodes = (n : ℕ) (x : WireNode) → node_at n nodes ≡ Some x → x.node.at ≡ Seats
+
+-- A wire shows a run of the machine, and plays the calls that its nodes' seats keep.
+abbrev pub IsShown : WireData → Type 0
+IsShown wire = ((p : Setting) × (r : Run) × Shows p wire r) × AreSeated wire.nodes
+
+-- The wire lost the node: it is dead, and all else stays.
+pub record Loses (old : WireData) (n : ℕ) (new : WireData) : Type 0 where
+  pub dead : living_refusal new.nodes n ≡ Some NodeIsDead
+  pub others : (m : ℕ) → (m == n) ≡ false → node_at m new.nodes ≡ node_at m old.nodes
+  pub words : new.words ≡ old.words
+  pub replies : new.replies ≡ old.replies
+
+-- ---- an opening
+
+-- a living node of that number that has what the plan tells, and room for so many handles
+pub record IsOpenedNode (plan : WirePlan) (handles number : ℕ) (x : WireNode) : Type 0 where
+  pub number_is : x.number ≡ number
+  pub lives : x.alive ≡ true
+  pub seat : seat_in x.node ≡ planned_seat plan number
+  pub seated : x.node.at ≡ Seats
+  pub room : x.node.seat.room ≡ handles
+
+-- such are the nodes of these numbers
+abbrev pub AreOpened : WirePlan → (handles : ℕ) → List ℕ → List WireNode → Type 0
+AreOpened plan handles [] [] = Unit {0}
+AreOpened plan handles (n ∷ ns) (x ∷ xs) =
+    IsOpenedNode plan handles n x × AreOpened plan handles ns xs
+AreOpened plan handles ns xs = ⊥
+
+-- so many handles each node has room for
+abbrev pub HaveRoomFor : ℕ → List WireNode → Type 0
+HaveRoomFor handles nodes =
+    (n : ℕ) (x : WireNode) → node_at n nodes ≡ Some x → x.node.seat.room ≡ handles
+
+-- ---- an access
+
+-- the access that a node makes next
+abbrev pub access_in : Setting → Node → Access
+access_in p x = program_access p.layout (program_of p (seat_in x).local)
+
+-- The node may make its access: it knows where, and that is among the words.
+pub record MayAccess (p : Setting) (x : Node) (words : List ℕ) : Type 0 where
+  pub aimed : IsAimed p x
+  pub within : IsWithin 0 (length words) (access_in p x)
+
+-- It made its access: the words are those after it, and the node went on with what it found; its
+-- call answers this if it is over.
+pub record HasAccessed (p : Setting) (x : Node) (words : List ℕ) (reply : Option NodeReply)
+    (y : Node) (after : List ℕ) : Type 0 where
+  pub words_are : after ≡ words_after (access_in p x) words
+  pub went : WentOn p x (seen_at (access_in p x) words) reply y

@@ -1,0 +1,117 @@
+//! A node of a wire.
+ghost use Rattle.std.specs.Prelude.{◌≡◌, ◌+◌, ◌<◌, ◌^◌, false, nat_le, true};
+ghost use Rattle.std.specs.Option.{option_map_or};
+
+use iox_steps::{Access, perform};
+use iox_wire_weaves::{NodeReply, StoredNode, WireRefusal};
+use std::marker::Model;
+
+/// How many accesses a node may make.
+const MOST_ACCESSES: u64 = 1 << 56;
+
+/// A node of a wire: its number, whether it lives, and its own part of the wire.
+#[derive(Drop)]
+pub(crate) struct Member {
+    number: u64,
+    alive: bool,
+    accesses: u64,
+    node: StoredNode,
+}
+
+impl Model for Member {
+    ghost use Rattle.std.specs.Prelude.{◌≡◌};
+    ghost use Rattle.iox_wire_weaves.specs.Wires.{WireNode};
+
+    ghost Value = { WireNode };
+
+    ghost view = { λ m. record { number = m.number; alive = m.alive; node = m.node } };
+
+    ghost invariant = { λ m. m.accesses ≡ m.node.seat.seat.accesses };
+}
+
+impl Member {
+    ghost use Rattle.std.specs.Prelude.{◌≡◌, ◌<◌, false, nat_le, true};
+    ghost use Rattle.iox_wire_weaves.specs.Begins.{is_busy};
+    ghost use Rattle.iox_wire_weaves.specs.Tables.{Setting};
+    ghost use Rattle.iox_wire_weaves.specs.CallAt.TheVariants.{Seats};
+    ghost use Rattle.iox_wire_weaves.specs.Aims.{IsAimed};
+    ghost use Rattle.iox_wire_weaves.specs.Nodes.{seat_in};
+    ghost use Rattle.iox_wire_weaves.specs.Steps.{most_accesses, rest_refusal};
+    ghost use Rattle.iox_wire.specs.Kept.{HasAccessed, MayAccess};
+
+    /// A living node that made no access.
+    pub(crate) fn new(number: u64, node: StoredNode) -> Member
+        requires { node.seat.seat.accesses ≡ 0 }
+        ensures { result ≡ record { number = number; alive = true; node = node } }
+    {
+        Member {
+            number,
+            alive: true,
+            accesses: 0,
+            node,
+        }
+    }
+
+    /// The number of the node.
+    #[inline]
+    pub(crate) fn number(&self) -> u64
+        ensures { result ≡ self.now.number }
+    {
+        self.number
+    }
+
+    /// Whether it lives.
+    #[inline]
+    pub(crate) fn is_alive(&self) -> bool
+        ensures { result ≡ self.now.alive }
+    {
+        self.alive
+    }
+
+    /// It dies.
+    pub(crate) fn die(&mut self)
+        ensures { self.new ≡ record (self.old) { alive = false } }
+    {
+        self.alive = false;
+    }
+
+    /// The words that its last read loaded.
+    pub(crate) fn words(&self) -> &[u64]
+        ensures { result.now ≡ self.now.node.seat.words }
+    {
+        self.node.words()
+    }
+
+    /// Why it makes no step, if it lives.
+    #[inline]
+    pub(crate) fn rest_refusal(&self) -> Option<WireRefusal>
+        ensures { result ≡ rest_refusal self.now }
+    {
+        if !self.node.is_busy() {
+            return Some(WireRefusal::AtRest);
+        }
+        if self.accesses >= MOST_ACCESSES {
+            return Some(WireRefusal::AccessesSpent);
+        }
+        None
+    }
+
+    /// Makes its next access, and goes on with what that found.
+    #[inline]
+    pub(crate) fn make_access(&mut self, words: &mut Vec<u64>) -> Option<NodeReply>
+        requires may { (p : Setting) × MayAccess p self.old.node words.old.items }
+        requires busy { is_busy (seat_in self.old.node).local ≡ true }
+        requires few { (seat_in self.old.node).accesses < most_accesses }
+        requires seated { self.old.node.at ≡ Seats }
+        ensures made { (p : Setting) → MayAccess p self.old.node words.old.items
+            → HasAccessed p self.old.node words.old.items result self.new.node words.new.items }
+        ensures number { self.new.number ≡ self.old.number }
+        ensures alive { self.new.alive ≡ self.old.alive }
+        ensures seated { self.new.node.at ≡ Seats }
+    {
+        let access: Access = self.node.asks();
+        let seen = perform(words, access);
+        self.accesses += 1;
+        self.node.go_on(seen)
+    }
+}

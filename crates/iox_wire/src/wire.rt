@@ -1,0 +1,197 @@
+//! A wire: the words that nodes share, and the nodes.
+ghost use Rattle.std.specs.Prelude.{◌≡◌, IfOk, option_map, replicate};
+ghost use Rattle.iox_wire_weaves.specs.WordMapNewError.TheVariants as new_error;
+ghost use Rattle.iox_wire_weaves.specs.Laws.{progress_of};
+
+use crate::member::Member;
+use crate::opening::open_members;
+use iox_steps::{Progress, tell};
+use iox_wire_weaves::{NodeReply, WirePlan, WireRefusal, WordMap, WordMapNewError};
+use std::alloc::{AllocError, Global};
+use std::marker::Model;
+
+/// What a finished call of a node answered. The words of a read are those that its node lends.
+#[derive(Clone, Copy)]
+pub struct Answer {
+    pub node: u64,
+    pub reply: NodeReply,
+}
+
+/// A wire. Its nodes make one access of its words at a time, in any order, and each may die
+/// anywhere in its call.
+#[derive(Drop)]
+pub struct Wire {
+    places: WordMap,
+    words: Vec<u64>,
+    members: Vec<Member>,
+    answers: Vec<Answer>,
+}
+
+impl Model for Wire {
+    ghost use Rattle.std.specs.Prelude.{map, []};
+    ghost use Rattle.iox_wire_weaves.specs.Nodes.{reply_in};
+    ghost use Rattle.iox_wire_weaves.specs.Wires.{WireData};
+    ghost use Rattle.iox_wire.specs.Kept.{IsShown};
+
+    ghost Value = { WireData };
+
+    ghost view = { λ w. record {
+      plan = w.places;
+      words = w.words.items;
+      nodes = w.members.items;
+      replies = map (λ a. (a.node, reply_in [] a.reply)) w.answers.items;
+    } };
+
+    ghost invariant = { λ w. IsShown (record {
+      plan = w.places;
+      words = w.words.items;
+      nodes = w.members.items;
+      replies = map (λ a. (a.node, reply_in [] a.reply)) w.answers.items;
+    }) };
+}
+
+impl Wire {
+    ghost use Rattle.std.specs.Prelude.{◌≡◌, ◌<◌, IfErr, IfOk, IfSome, None, OnErr, OnOk, Some};
+    ghost use Rattle.std.specs.Prelude.{length, position, ◌==◌, map, []};
+    ghost use Rattle.iox_model.specs.States.{State};
+    ghost use Rattle.iox_sets.specs.Refusals.{IsRefusal};
+    ghost use Rattle.iox_wire_weaves.specs.Plans.{IsPlan};
+    ghost use Rattle.iox_wire_weaves.specs.Refusals.{map_refusal};
+    ghost use Rattle.iox_wire_weaves.specs.Tables.{Setting};
+    ghost use Rattle.iox_wire_weaves.specs.Nodes.{reply_in};
+    ghost use Rattle.iox_wire_weaves.specs.declared.refusal.WireRefusal.TheVariants.{WantOfMemory};
+    ghost use Rattle.iox_wire_weaves.specs.Steps.{DeathIsWoven, MakesItsAccess, StepIsWoven};
+    ghost use Rattle.iox_wire_weaves.specs.Steps.{step_refusal};
+    ghost use Rattle.iox_wire_weaves.specs.Wires.{OpensOn, ShowsOpened, living_refusal};
+    ghost use Rattle.iox_wire.specs.Kept.{HaveRoomFor, Loses};
+
+    /// A wire of that plan, with these nodes alive, on which nothing happened yet. Each node has
+    /// room for so many handles. The plan is to be that of a service on which a wire may open.
+    pub fn new(
+        alloc: Global,
+        plan: WirePlan,
+        nodes: &[u64],
+        handles: usize,
+    ) -> Result<Wire, WordMapNewError>
+        requires plan { IsPlan plan }
+        requires opens { (p : Setting) × (s : State) × OpensOn plan nodes.now p s }
+        ensures opened { (p : Setting) → (s : State) → OpensOn plan nodes.now p s
+            → IfOk result (ShowsOpened p s) }
+        ensures room { IfOk result (λ wire. HaveRoomFor handles wire.nodes) }
+        ensures allowed { OnOk result (map_refusal plan ≡ None) }
+        ensures refused { IfErr result (IsRefusal new_error.WantOfMemory (map_refusal plan)) }
+    {
+        let places = WordMap::new(alloc, plan)?;
+        let words = zeros(alloc, places.total())?;
+        let members = open_members(alloc, places.plan(), nodes, handles)?;
+        Ok(Wire {
+            places,
+            words,
+            members,
+            answers: Vec::new(alloc),
+        })
+    }
+
+    /// The words that all nodes share.
+    pub fn words(&self) -> &[u64]
+        ensures { result.now ≡ self.now.words }
+    {
+        &self.words
+    }
+
+    /// What the finished calls answered, in the order of their ends.
+    pub fn replies(&self) -> &[Answer]
+        ensures { map (λ a. (a.node, reply_in [] a.reply)) result.now ≡ self.now.replies }
+    {
+        &self.answers
+    }
+
+    /// Where the node of that number stands.
+    fn place(&self, node: u64) -> Option<usize>
+        ensures first { result ≡ position (λ x. x.number == node) self.now.nodes }
+        ensures within { IfSome result (λ place. place < length self.now.nodes) }
+    {
+        self.members
+            .iter()
+            .position(|member| member.number() == node)
+    }
+
+    /// Where the living node of that number stands.
+    fn living(&self, node: u64) -> Result<usize, WireRefusal>
+        ensures first { IfOk result (λ place.
+            position (λ x. x.number == node) self.now.nodes ≡ Some place) }
+        ensures within { IfOk result (λ place. place < length self.now.nodes) }
+        ensures alive { OnOk result (living_refusal self.now.nodes node ≡ None) }
+        ensures refused { IfErr result (λ error. living_refusal self.now.nodes node ≡ Some error) }
+    {
+        let Some(place) = self.place(node) else {
+            return Err(WireRefusal::UnknownNode);
+        };
+        if self.members[place].is_alive() {
+            return Ok(place);
+        }
+        Err(WireRefusal::NodeIsDead)
+    }
+
+    /// One access of the node's call.
+    pub fn step(&mut self, node: u64) -> Result<Progress<NodeReply>, WireRefusal>
+        ensures one_access { OnOk result (MakesItsAccess self.old node self.new) }
+        ensures weave { IfOk result (λ progress. StepIsWoven self.old node progress self.new) }
+        ensures allowed { OnOk result (step_refusal self.old node ≡ None) }
+        ensures refused { IfErr result (IsRefusal WantOfMemory (step_refusal self.old node)) }
+        ensures unchanged { OnErr result (self.new ≡ self.old) }
+    {
+        let place = self.living(node)?;
+        if let Some(refusal) = self.members[place].rest_refusal() {
+            return Err(refusal);
+        }
+        if self.answers.reserve(1).is_err() {
+            return Err(WireRefusal::WantOfMemory);
+        }
+        let reply = self.members[place].make_access(&mut self.words);
+        tell(&mut self.answers, answered(node, reply));
+        Ok(progress(reply))
+    }
+
+    /// The node stops for good, wherever it is in its call.
+    pub fn declare_dead(&mut self, node: u64) -> Result<(), WireRefusal>
+        ensures weave { OnOk result (DeathIsWoven self.old node self.new) }
+        ensures lost { OnOk result (Loses self.old node self.new) }
+        ensures allowed { OnOk result (living_refusal self.old.nodes node ≡ None) }
+        ensures refused { IfErr result (λ error. living_refusal self.old.nodes node ≡ Some error) }
+        ensures unchanged { OnErr result (self.new ≡ self.old) }
+    {
+        let place = self.living(node)?;
+        self.members[place].die();
+        Ok(())
+    }
+}
+
+/// So many zeros.
+fn zeros(alloc: Global, count: usize) -> Result<Vec<u64>, AllocError>
+    ensures { IfOk result (λ words. words.items ≡ replicate count 0) }
+{
+    vec![in alloc; 0u64; count]
+}
+
+/// What a node answers, if its call is over.
+#[inline]
+fn answered(node: u64, reply: Option<NodeReply>) -> Option<Answer>
+    ensures { result ≡ option_map (λ r. record { node = node; reply = r }) reply }
+{
+    match reply {
+        None => None,
+        Some(reply) => Some(Answer { node, reply }),
+    }
+}
+
+/// Whether a call goes on.
+#[inline]
+fn progress(reply: Option<NodeReply>) -> Progress<NodeReply>
+    ensures { result ≡ progress_of reply }
+{
+    match reply {
+        None => Progress::Going,
+        Some(reply) => Progress::Done(reply),
+    }
+}

@@ -1,0 +1,122 @@
+//! How copies begin: loan, write and send in one call.
+ghost use Rattle.std.specs.Prelude.{ℕ, ◌≡◌, ◌*◌, ◌<◌, OnErr, OnOk, Some, false, length};
+ghost use Rattle.iox_model.specs.declared.kind.Role.TheVariants.{Client};
+ghost use Rattle.iox_wire_handle_calls.specs.WayIndex.TheVariants.{Responses};
+ghost use Rattle.iox_wire_handle_calls.specs.Plans.{IsPortAt, IsWayAt, number_at, way_at};
+ghost use Rattle.iox_wire_begins.specs.WirePlans.{IsWirePlan};
+ghost use Rattle.iox_wire_handle_calls.specs.CopyCalls as requests;
+ghost use Rattle.iox_wire_handle_calls.specs.ResponseCopies as responses;
+ghost use Rattle.iox_wire_lenders.specs.Terms.{IsSettingWith};
+ghost use Rattle.iox_wire_handle_calls.specs.LoansAims.{LeavesSeat, TellsOfSlot};
+ghost use Rattle.iox_wire_handle_calls.specs.Begins.{is_busy};
+ghost use Rattle.iox_wire_handle_calls.specs.Courses.{placed};
+ghost use Rattle.iox_wire_handle_calls.specs.Known.{free_lanes};
+ghost use Rattle.iox_wire_handle_calls.specs.Lendings.{copies_request, copies_response};
+ghost use Rattle.iox_wire_handle_calls.specs.Lendings.{first_lane, next_handle};
+ghost use Rattle.iox_wire_handle_calls.specs.Tables.{Setting, state_in};
+ghost use Rattle.iox_wire_handle_calls.specs.PlannedSlots.{element_words};
+ghost use Rattle.iox_wire_handle_calls.specs.Visits.{pool_of};
+
+use crate::lists::Lists;
+use crate::told::{request_terms, response_terms};
+use iox_wire_handle_calls::{
+    CopyingClient, CopyingServer, Entry, Stop, StoredSeat, WordMap, list_request_returns,
+    list_response_returns, list_targets, payload_places,
+};
+use iox_wire_lenders::{WireTerms, make_lender};
+use std::alloc::{AllocError, Global};
+
+/// Begins to copy a request of these words, of so many elements, by the client at an index, on its
+/// first free lane. Its pending response will have that number. No copy may be under way. What is
+/// listed is of no use later.
+pub fn begin_request_copy(
+    alloc: Global,
+    map: &WordMap,
+    terms: &WireTerms,
+    seat: &mut StoredSeat,
+    copying: &mut CopyingClient,
+    client: usize,
+    lane: u64,
+    elements: Option<u64>,
+    words: &[u64],
+    number: u64,
+    lists: &mut Lists,
+) -> Result<(), AllocError>
+    requires rests { is_busy copying.old.local ≡ false }
+    requires seat { is_busy seat.old.seat.local ≡ false }
+    requires client { IsPortAt map.now Client client }
+    requires plan { IsWirePlan map.now terms.now }
+    requires lane { lane ≡ first_lane (pool_of map.now (number_at map.now client))
+        (free_lanes seat.old.seat (number_at map.now client)) }
+    requires open { lane < pool_of map.now (number_at map.now client) }
+    requires whole { (k : ℕ) → elements ≡ Some k
+        → length words.now ≡ k * element_words map.now client }
+    ensures begun { (p : Setting) → IsSettingWith map.now terms.now p
+        → number ≡ next_handle p seat.old.seat
+        → OnOk result (placed seat.new.seat copying.new.local
+        ≡ copies_request p seat.old.seat (p.port (number_at map.now client)) elements words.now) }
+    ensures aimed { (p : Setting) → IsSettingWith map.now terms.now p
+        → number ≡ next_handle p seat.old.seat
+        → TellsOfSlot copying.new.lends.slots copying.new.local
+        → OnOk result (requests.IsAimed p seat.new.seat copying.new) }
+    ensures leaves { LeavesSeat seat.old seat.new }
+    ensures rests { OnErr result (is_busy copying.new.local ≡ false) }
+    ensures seat_unchanged { OnErr result (seat.new ≡ seat.old) }
+{
+    // only what this promises is wanted
+    let _plan = map.plan();
+    let own = request_terms(map, terms, client);
+    let told = list_targets(map, seat, client, lane, own, &mut lists.targets)?;
+    let room = list_request_returns(map, seat, client, &mut lists.stops)?;
+    let lender = make_lender(alloc, map, terms, client, room)?;
+    let places = payload_places(map, client);
+    copying.prepare(told, &lists.targets)?;
+    copying.begin(seat, &lender, places, number, elements, words, &lists.stops)
+}
+
+/// Begins to copy a response of these words, of so many elements, to a request that the server at
+/// an index received on a lane of the client at another. No copy may be under way. What it lists in
+/// `stops` is of no use later.
+pub fn begin_response_copy(
+    alloc: Global,
+    map: &WordMap,
+    terms: &WireTerms,
+    seat: &mut StoredSeat,
+    copying: &mut CopyingServer,
+    request: Entry,
+    client: usize,
+    server: usize,
+    elements: Option<u64>,
+    words: &[u64],
+    number: u64,
+    stops: &mut Vec<Stop>,
+) -> Result<(), AllocError>
+    requires rests { is_busy copying.old.local ≡ false }
+    requires seat { is_busy seat.old.seat.local ≡ false }
+    requires way { IsWayAt map.now (Responses client server request.lane) }
+    requires own { state_in request ≡ way_at map.now (Responses client server request.lane) }
+    requires plan { IsWirePlan map.now terms.now }
+    requires whole { (k : ℕ) → elements ≡ Some k
+        → length words.now ≡ k * element_words map.now server }
+    ensures begun { (p : Setting) → IsSettingWith map.now terms.now p
+        → number ≡ next_handle p seat.old.seat
+        → OnOk result (placed seat.new.seat copying.new.local
+        ≡ copies_response p seat.old.seat request elements words.now) }
+    ensures aimed { (p : Setting) → IsSettingWith map.now terms.now p
+        → number ≡ next_handle p seat.old.seat
+        → TellsOfSlot copying.new.lends.slots copying.new.local
+        → OnOk result (responses.IsAimed p seat.new.seat copying.new) }
+    ensures leaves { LeavesSeat seat.old seat.new }
+    ensures unchanged { OnErr result (copying.new ≡ copying.old) }
+    ensures seat_unchanged { OnErr result (seat.new ≡ seat.old) }
+{
+    // only what this promises is wanted
+    let _plan = map.plan();
+    let told = response_terms(map, terms, client, server, request.lane);
+    let room = list_response_returns(map, seat, server, stops)?;
+    let lender = make_lender(alloc, map, terms, server, room)?;
+    let places = payload_places(map, server);
+    copying.begin(
+        seat, &lender, places, request, told, number, elements, words, stops,
+    )
+}

@@ -1,0 +1,6 @@
+pub mod AtDesks
+pub mod Counts
+pub mod Places
+pub mod Delivers
+pub mod Uses
+pub mod GivenUp

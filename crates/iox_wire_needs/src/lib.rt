@@ -1,0 +1,30 @@
+//! What the code of a wire's node asks of what the node keeps, where that follows from what stands.
+//! The functions have nothing to do: each is there for its contract.
+#![tactic(auto)]
+
+ghost use Rattle.iox_wire_needs.specs.Counts.{NodesMayCountMore};
+ghost use Rattle.iox_wire_needs.specs.Places.{PlacesAreInPools};
+ghost use Rattle.iox_wire_needs.specs.Uses.{AccessesFindInUse, RequestsMayBeGivenUp};
+ghost use Rattle.iox_wire_needs.specs.Uses.{LoansGetBackInUse, WhatIsSentIsInUse};
+
+/// A living node may have one handle more, count one loan more, and borrow one message more.
+pub fn nodes_may_count_more()
+    ensures { NodesMayCountMore }
+{}
+
+/// The slot that a call has is one of a pool, and so is a lane that a header tells.
+pub fn places_are_in_pools()
+    ensures { PlacesAreInPools }
+{}
+
+/// What an access gets back or delivers is in use, and so is what a call sends.
+pub fn slots_are_in_use()
+    ensures found { AccessesFindInUse }
+    ensures lent { LoansGetBackInUse }
+    ensures sent { WhatIsSentIsInUse }
+{}
+
+/// A request that a call made or sends may be given up.
+pub fn requests_may_be_given_up()
+    ensures { RequestsMayBeGivenUp }
+{}

@@ -1,0 +1,115 @@
+-- What begins beside the seat of a node is a call of the node.
+use Rattle.std.specs.Prelude.{IfSome, Option}
+use Rattle.iox_wire_begins.specs.Local.{Local}
+use Rattle.iox_wire_nodes.specs.declared.call_at.CallAt.{CallAt}
+use Rattle.iox_wire_nodes.proofs.RestLemmas.{idle_is}
+use Rattle.std.proofs.Common.{◌≡◌, ℕ, ◌+◌, false, List, Some, None, refl, ap, ap₂, sym, subst, ◌∙◌}
+use Rattle.iox_wire_begins.specs.WirePlan.{WirePlan}
+use Rattle.iox_wire_begins.specs.WirePlans.{HandleStands}
+use Rattle.iox_wire_begins.specs.WireTerms.{WireTerms}
+use Rattle.iox_wire_begins.specs.Desk.{Desk}
+use Rattle.iox_wire_begins.specs.Entry.{Entry}
+use Rattle.iox_model.specs.Commands.{WireCall}
+use Rattle.iox_wire_begins.specs.Seat.{Seat}
+use Rattle.iox_wire_begins.specs.Begins.{begin, is_busy, refusal_at}
+use Rattle.iox_wire_begins.specs.Courses.{placed}
+use Rattle.iox_wire_begins.specs.Tables.{Setting, entry_at}
+use Rattle.iox_wire_begins.specs.Seats.{Placed}
+use Rattle.iox_wire_begins.specs.ReceivesAims as receives
+use Rattle.iox_wire_begins.specs.Receipts.{Receipt}
+use Rattle.iox_wire_begins.specs.LoansAims as loans
+use Rattle.iox_wire_begins.specs.LoansAims.{TellsOfSlot}
+use Rattle.iox_wire_begins.specs.Loans.{Loaned}
+use Rattle.iox_wire_begins.specs.RequestSendsAims as requests
+use Rattle.iox_wire_begins.specs.RequestDispatches.{RequestDispatch}
+use Rattle.iox_wire_begins.specs.SendsAims as responses
+use Rattle.iox_wire_begins.specs.Dispatches.{Dispatch}
+use Rattle.iox_wire_begins.specs.CopyCalls as request_copies
+use Rattle.iox_wire_begins.specs.CopyCalls.{CopyCall}
+use Rattle.iox_wire_begins.specs.ResponseCopies as response_copies
+use Rattle.iox_wire_begins.specs.ResponseCopies.{ResponseCopy}
+use Rattle.iox_wire_nodes.specs.declared.call_at.CallAt.TheVariants as at
+use Rattle.iox_wire_nodes.specs.Begins.{IsAtOnce, IsBegun, IsUnchanged, IsUnderWay}
+use Rattle.iox_wire_nodes.specs.Aims.{IsAimed}
+use Rattle.iox_wire_nodes.specs.Nodes.{Node, seat_at, seat_in}
+
+-- a call that is begun is under way
+pub is_under_way : (p : Setting) (old : Node) (call : WireCall) (new : Node) → IsBegun p old call new → IsUnderWay p old call new
+is_under_way p old call new by = record { allowed = by.allowed; begun = by.begun; aimed = λ of_pools. by.aimed }
+
+-- what is as it was is unchanged
+pub is_unchanged : (old new : Node) → new ≡ old → IsUnchanged old new
+is_unchanged old new same = subst (λ (n : Node). IsUnchanged old n) (sym same) (record { call = refl; seat = refl; place = refl })
+
+-- the node's own seat, as the code has it
+pub own_seat : {n old : Node} → n ≡ old → seat_in old ≡ old.seat.seat → seat_in old ≡ n.seat.seat
+own_seat same own = own ∙ ap (λ (o : Node). o.seat.seat) (sym same)
+
+-- the call begins so at what it names
+module _ (p : Setting) (call : WireCall) (X : Seat → Seat) {n old : Node} (same : n ≡ old) (own : seat_in old ≡ old.seat.seat) (allowed : refusal_at p (seat_in old) call ≡ None)
+    (named : begin p (seat_in old) call ≡ X (seat_in old)) where
+  begins_alike : (x : Seat) → x ≡ X n.seat.seat → x ≡ begin p (seat_in old) call
+  begins_alike x begun = begun ∙ ap X (sym (own_seat same own)) ∙ sym named
+
+  pub lent_beside : (s : Placed) (y : Loaned) → placed s.seat y.local ≡ X n.seat.seat → (TellsOfSlot y.places y.local → loans.IsAimed p s.seat y)
+      → IsUnderWay p old call (record n { at = at.Lends; seat = s; lends = y })
+  lent_beside s y begun aimed = record { allowed = allowed; begun = begins_alike (placed s.seat y.local) begun; aimed = aimed }
+
+  pub received_beside : (y : Receipt) → placed n.seat.seat y.local ≡ X n.seat.seat → receives.IsAimed p n.seat.seat y
+      → IsUnderWay p old call (record n { at = at.Receives; receives = y })
+  received_beside y begun aimed = record { allowed = allowed; begun = begins_alike (placed n.seat.seat y.local) begun; aimed = λ of_pools. aimed }
+
+  pub copied_request_beside : (s : Placed) (y : CopyCall) → placed s.seat y.local ≡ X n.seat.seat → (TellsOfSlot y.lends.slots y.local → request_copies.IsAimed p s.seat y)
+      → IsUnderWay p old call (record n { at = at.CopiesRequest; seat = s; copies_request = y })
+  copied_request_beside s y begun aimed = record { allowed = allowed; begun = begins_alike (placed s.seat y.local) begun; aimed = aimed }
+
+  pub copied_response_beside : (s : Placed) (y : ResponseCopy) → placed s.seat y.local ≡ X n.seat.seat → (TellsOfSlot y.lends.slots y.local → response_copies.IsAimed p s.seat y)
+      → IsUnderWay p old call (record n { at = at.CopiesResponse; seat = s; copies_response = y })
+  copied_response_beside s y begun aimed = record { allowed = allowed; begun = begins_alike (placed s.seat y.local) begun; aimed = aimed }
+
+-- the number of the next handle, as the code has it
+pub next_number_is : (t : WireTerms) (p : Setting) {n old : Node} → n ≡ old → p.next_number ≡ t.first_number
+    → t.first_number + old.seat.seat.handles_made ≡ p.next_number + n.seat.seat.handles_made
+next_number_is t p same first = ap₂ (λ a b. a + b) (sym first) (ap (λ (o : Node). o.seat.seat.handles_made) (sym same))
+
+-- the handle of that number stands
+pub stands_at : (plan : WirePlan) (old : Node) (n : ℕ) (e : Entry) → entry_at n old.seat.seat.table ≡ Some e
+    → IfSome (entry_at n old.seat.seat.table) (HandleStands plan old.seat.seat.desks) → HandleStands plan old.seat.seat.desks e
+stands_at plan old n e found stands = subst (λ (o : Option Entry). IfSome o (HandleStands plan old.seat.seat.desks)) found stands
+
+-- what is left of a copy that did not begin
+place_left : (a : CallAt) (m : Node) (s : Placed) (y : CopyCall) → is_busy (seat_at a m).local ≡ false → s ≡ m.seat → is_busy y.local ≡ false
+    → seat_at a (record m { seat = s; copies_request = y }) ≡ seat_at a m
+place_left at.Seats m s y rests seat y_rests = ap (λ (z : Placed). z.seat) seat
+place_left at.Receives m s y rests seat y_rests = ap (λ (z : Placed). placed z.seat m.receives.local) seat
+place_left at.Lends m s y rests seat y_rests = ap (λ (z : Placed). placed z.seat m.lends.local) seat
+place_left at.SendsRequest m s y rests seat y_rests = ap (λ (z : Placed). placed z.seat m.requests.local) seat
+place_left at.SendsResponse m s y rests seat y_rests = ap (λ (z : Placed). placed z.seat m.responds.local) seat
+place_left at.CopiesRequest m s y rests seat y_rests =
+    ap₂ (λ (z : Placed) (l : Local). placed z.seat l) seat (idle_is y.local y_rests ∙ sym (idle_is m.copies_request.local rests))
+place_left at.CopiesResponse m s y rests seat y_rests = ap (λ (z : Placed). placed z.seat m.copies_response.local) seat
+
+pub copy_left : {m old : Node} (s : Placed) (y : CopyCall) → m ≡ old → is_busy (seat_in old).local ≡ false → s ≡ m.seat → is_busy y.local ≡ false
+    → IsUnchanged old (record m { seat = s; copies_request = y })
+copy_left {m} s y same rests seat y_rests =
+    subst (λ (o : Node). IsUnchanged o (record m { seat = s; copies_request = y })) same (record {
+      call = refl;
+      seat = seat;
+      place = place_left m.at m s y (ap (λ (o : Node). is_busy (seat_in o).local) same ∙ rests) seat y_rests;
+    })
+
+-- how many handles it made
+pub handles_in : (a : CallAt) (n : Node) → (seat_at a n).handles_made ≡ n.seat.seat.handles_made
+handles_in at.Seats n = refl
+handles_in at.Receives n = refl
+handles_in at.Lends n = refl
+handles_in at.SendsRequest n = refl
+handles_in at.SendsResponse n = refl
+handles_in at.CopiesRequest n = refl
+handles_in at.CopiesResponse n = refl
+
+-- what is so of each handle that stands is so of that one
+pub stands_so : (plan : WirePlan) (desks : List Desk) (P : Entry → Type 0) → ((e : Entry) → HandleStands plan desks e → P e) → (o : Option Entry)
+    → IfSome o (HandleStands plan desks) → IfSome o P
+stands_so plan desks P so None stands = tt
+stands_so plan desks P so (Some e) stands = so e stands

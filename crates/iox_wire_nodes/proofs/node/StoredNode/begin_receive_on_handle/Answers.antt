@@ -1,0 +1,59 @@
+use Rattle.std.specs.Prelude.{IfSome}
+use Rattle.std.proofs.Common.{rules, ◌≡◌, ℕ, ◌+◌, ◌*◌, ◌/◌, ◌<◌, List, Option, length, true, false, Some, None, [], refl, ap, ap₂, sym, subst, ◌∙◌}
+use Rattle.iox_model.specs.declared.call.Call.TheVariants.{Loan, Receive, Send, SendCopy}
+use Rattle.iox_model.specs.declared.call.WireCall.TheVariants.{Port}
+use Rattle.iox_model.specs.declared.kind.Kind.{Kind}
+use Rattle.iox_model.specs.declared.kind.Kind.TheVariants.{ActiveRequest}
+use Rattle.iox_model.specs.declared.kind.Role.{Role}
+use Rattle.iox_model.specs.declared.kind.Role.TheVariants.{Client, Server}
+use Rattle.iox_model.specs.Commands.{Payload}
+use Rattle.iox_model.specs.Handles.{same_kind}
+use Rattle.iox_model.specs.Messages.{response_way}
+use Rattle.iox_wire_begins.specs.Plans.{details_of, number_at, role_of}
+use Rattle.iox_wire_begins.specs.WirePlans.{HandleStands}
+use Rattle.iox_wire_begins.specs.HandleCalls.{refusal_in}
+use Rattle.iox_wire_begins.specs.Seat.{Seat}
+use Rattle.iox_wire_begins.specs.Entry.{Entry}
+use Rattle.iox_wire_begins.specs.Begins.{begin, begins_at_entry, begins_at_port, refusal_at}
+use Rattle.iox_wire_begins.specs.Tables.{Setting, entry_at}
+use Rattle.iox_wire_nodes.specs.Calls.{payload_with}
+use Rattle.iox_wire_nodes.specs.Nodes.{Node, seat_in}
+use Rattle.iox_wire_nodes.proofs.BesideLemmas
+use Rattle.iox_wire_nodes.proofs.BesideLemmas.{copied_request_beside, copied_response_beside, lent_beside, next_number_is, own_seat, received_beside, stands_at}
+use Rattle.iox_wire_nodes.proofs.NameLemmas.{copies_as_client, copies_to_request, elements_planned, lends_as_client, lends_to_request, port_of_role, receives_as_pending, role_there_is, sends_response_else}
+use Rattle.iox_wire_nodes.proofs.node.StoredNode.begin_receive_on_handle.Goals as goal
+
+-- no payload is asked
+abbrev none : Payload
+none = record { role = Client; elements = None; words = [] }
+
+pub client_place-client-requires-clause-client : goal.client_place-client-requires-clause-client
+client_place-client-requires-clause-client c =
+    let stands : HandleStands c.args.map.now c.args.self.now.seat.seat.desks c.in_ok-pending.pending = stands_at c.args.map.now c.args.self.now c.args.number c.in_ok-pending.pending c.in_ok-pending.ensures.found c.requires.handle in
+    (stands.states.pending (receives_as_pending c.args.number c.in_ok-pending.pending.kind stands.handle (c.in_ok-pending.ensures.suits c.args.number none tt))).0
+
+pub client_place-client-requires-clause-lane : goal.client_place-client-requires-clause-lane
+client_place-client-requires-clause-lane c =
+    let stands : HandleStands c.args.map.now c.args.self.now.seat.seat.desks c.in_ok-pending.pending = stands_at c.args.map.now c.args.self.now c.args.number c.in_ok-pending.pending c.in_ok-pending.ensures.found c.requires.handle in
+    (stands.states.pending (receives_as_pending c.args.number c.in_ok-pending.pending.kind stands.handle (c.in_ok-pending.ensures.suits c.args.number none tt))).1
+
+pub begin_response_receive-requires-clause-header : goal.begin_response_receive-requires-clause-header
+begin_response_receive-requires-clause-header c = c.requires.plan.headers Server
+
+pub returns-in_err-pending-clause-refused : goal.returns-in_err-pending-clause-refused
+returns-in_err-pending-clause-refused c p with =
+    let known : refusal_at p (seat_in c.args.self.now) (Port (Receive c.args.number)) ≡ refusal_in c.in_err-pending.field-0.0 = c.in_err-pending.ensures.refused p none with.setting tt in
+    search (rules, known)
+
+pub returns-in_err-begin_response_receive-clause-refused : goal.returns-in_err-begin_response_receive-clause-refused
+returns-in_err-begin_response_receive-clause-refused c p with =
+    let known : refusal_at p (seat_in c.args.self.now) (Port (Receive c.args.number)) ≡ None = c.in_ok-pending.ensures.allowed p none with.setting tt in
+    search (rules, known)
+
+pub returns-clause-begun : goal.returns-clause-begun
+returns-clause-begun c p with =
+    received_beside p (Port (Receive c.args.number)) (λ x. begins_at_entry p x (Receive c.args.number) c.in_ok-pending.pending)
+    c.self.view_is c.in_ok-pending.ensures.own (c.in_ok-pending.ensures.allowed p none with.setting tt) (c.in_ok-pending.ensures.begins p none with.setting)
+    c.begin_response_receive.new.receiving
+    (c.in_ok-begin_response_receive.ensures.begun p c.args.number with.setting)
+    (c.in_ok-begin_response_receive.ensures.aimed p with.setting with.fire_and_forget (c.next_number-next.ensures ∙ next_number_is c.args.terms.now p c.self.view_is with.first_number))

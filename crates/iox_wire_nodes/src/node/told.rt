@@ -1,0 +1,31 @@
+//! What a node tells of itself.
+ghost use Rattle.std.specs.Prelude.{◌≡◌};
+ghost use Rattle.iox_wire_nodes.specs.Nodes.{seat_in};
+
+use super::StoredNode;
+
+impl StoredNode {
+    /// Its number.
+    #[inline]
+    pub fn node(&self) -> u64
+        ensures { result ≡ (seat_in self.now).node }
+    {
+        self.seat.node()
+    }
+
+    /// How many accesses it made.
+    #[inline]
+    pub fn accesses(&self) -> u64
+        ensures { result ≡ (seat_in self.now).accesses }
+    {
+        self.seat.accesses()
+    }
+
+    /// How many handles it made.
+    #[inline]
+    pub fn handles_made(&self) -> u64
+        ensures { result ≡ (seat_in self.now).handles_made }
+    {
+        self.seat.handles_made()
+    }
+}

@@ -1,0 +1,11 @@
+use Rattle.std.proofs.Common.{◌≡◌, ◌++◌, ◌==◌, [], if◌then◌else◌, take}
+use Rattle.std.specs.Prelude.{flat_map}
+use Rattle.iox_wire_openings.specs.OpenedNodes.{ways_between}
+use Rattle.iox_wire_openings.proofs.ways.list_to.Given as goal
+
+-- the ways to the node's ports so far
+abbrev pub invariant-loop-receiver : goal.invariant-loop-receiver
+invariant-loop-receiver l = record {
+  ways : l.ways.items
+      ≡ l.fn.ways.items ++ flat_map (λ r. if r.node == l.node then ways_between l.sender r else []) (take l.receiver-index l.plan.ports.items);
+}

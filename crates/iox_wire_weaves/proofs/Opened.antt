@@ -1,0 +1,108 @@
+-- A wire that opens shows a run without a beat.
+use Rattle.std.specs.Prelude.{find, not, option_map, is_some, replicate, if◌then◌else◌}
+use Rattle.std.specs.Option.{option_map_or}
+use Rattle.std.proofs.Common.{◌≡◌, ℕ, Bool, true, false, ◌==◌, List, [], ◌∷◌, map, Option, Some, None, refl, ap, ap₂, sym, subst, ◌∙◌, true≢false}
+use Rattle.iox_model.specs.declared.reply.Refusal.TheVariants as refusals
+use Rattle.iox_model.specs.Commands.{Refusal, Reply}
+use Rattle.iox_model.specs.Joins.{not_living}
+use Rattle.iox_model.specs.Maps.{has_number, refused_if}
+use Rattle.iox_model.specs.States.{Fixed, State}
+use Rattle.iox_model.specs.WireCalls.{opened}
+use Rattle.iox_model.specs.Weaves.{Beat, World, at_work}
+use Rattle.iox_word_map.specs.WordMaps.{total_words}
+use Rattle.iox_wire_nodes.specs.WirePlan.{WirePlan}
+use Rattle.iox_wire_nodes.specs.Plans.{IsPlan, sizes_of}
+use Rattle.iox_wire_nodes.specs.Programs.{WireLayout}
+use Rattle.iox_wire_nodes.specs.PlansOf.{IsSettingOf}
+use Rattle.iox_wire_nodes.proofs.Layouts.{known_settings_are_planned}
+use Rattle.iox_wire_nodes.specs.Local.{Local}
+use Rattle.iox_wire_nodes.specs.Local.TheVariants.{Idle}
+use Rattle.iox_wire_nodes.specs.Seat.{Seat}
+use Rattle.iox_wire_nodes.specs.Tables.{Setting}
+use Rattle.iox_wire_nodes.specs.SeatsAims as seats
+use Rattle.iox_wire_nodes.specs.Aims.{AreAimed, IsAimed}
+use Rattle.iox_wire_nodes.specs.declared.call_at.CallAt.{CallAt}
+use Rattle.iox_wire_nodes.specs.declared.call_at.CallAt.TheVariants.{Seats}
+use Rattle.iox_wire_nodes.specs.Nodes.{Node, seat_at, seat_in}
+use Rattle.iox_wire_keeps.specs.Openings.{opened_seat}
+use Rattle.iox_wire_keeps.specs.Runs.{Run, Said, history}
+use Rattle.iox_wire_keeps.specs.Stands.{Player}
+use Rattle.iox_wire_keeps.proofs.OpenedDesks.{held_first}
+use Rattle.iox_wire_keeps.specs.WireStands.{WireStands}
+use Rattle.iox_wire_keeps.proofs.WireStands.{opened_wires_stand}
+use Rattle.iox_wire_weaves.specs.declared.refusal.WireRefusal.TheVariants.{NodeIsDead}
+use Rattle.iox_wire_weaves.specs.Laws.{IsFresh, WiresOpen}
+use Rattle.iox_wire_weaves.specs.Wires.{OpensOn, Shows, WireData, WireNode, answers_in, living_refusal, node_at, players_of, refusal_in, seat_of, wordless_all}
+use Rattle.iox_wire_weaves.proofs.Lookups.{fun_ext, living_by}
+
+-- a node at rest knows of no place
+idle_aims : (p : Setting) (n : ℕ) (k : Node) → seat_in k ≡ opened_seat p n → k.at ≡ Seats → IsAimed p k
+idle_aims p n k same at =
+    let own : k.seat.seat ≡ opened_seat p n = sym (ap (λ (c : CallAt). seat_at c k) at) ∙ same in
+    let rests : k.seat.seat.local ≡ Idle = ap (λ (x : Seat). x.local) own in
+    subst (λ (c : CallAt). AreAimed p c k) (sym at) (subst (λ (l : Local). seats.AreAimed p l k.seat) (sym rests) tt)
+
+module _ (plan : WirePlan) (nodes : List ℕ) (p : Setting) (s : State) (wire : WireData) (is : IsPlan plan) (opens : OpensOn plan nodes p s)
+    (fresh : IsFresh p plan nodes wire) where
+  abbrev o : (r : Run) × (r.first ≡ at_work (opened s)) × (r.beats ≡ []) × (r.last ≡ at_work (opened s))
+      × WireStands p (replicate (total_words p.layout.sizes) 0) (λ n. record { seat = opened_seat p n; said = [] }) r
+  o = opened_wires_stand plan p s is opens.agrees opens.reached opens.allowed
+
+  setting : IsSettingOf plan p
+  setting =
+      known_settings_are_planned plan p (opened_seat p 0) (opened s).fixed held_first opens.agrees.plan_of opens.agrees.layout
+      (record {
+        limits = opens.agrees.limits;
+        ports = opens.agrees.ports;
+        unhandled = opens.agrees.unhandled;
+        handles = refl;
+        forgot = refl;
+        sent = λ port slot. refl;
+      })
+
+  seat_is : (n : ℕ) (u : Option WireNode) → node_at n wire.nodes ≡ u → option_map_or (λ (x : WireNode). seat_in x.node) u (opened_seat p n) ≡ opened_seat p n
+  seat_is n None at = refl
+  seat_is n (Some x) at = (fresh.seats n x at).0
+
+  players_agree : (n : ℕ) → record { seat = opened_seat p n; said = [] } ≡ players_of p wire.nodes o.0 n
+  players_agree n =
+      ap₂ (λ (x : Seat) (h : List Said). record { seat = x; said = h }) (sym (seat_is n (node_at n wire.nodes) refl)) (ap (history n) (sym o.2))
+
+  words_are : replicate (total_words p.layout.sizes) 0 ≡ wire.words
+  words_are = ap (λ (l : WireLayout). replicate (total_words l.sizes) 0) opens.agrees.layout ∙ sym fresh.words
+
+  stands_now : WireStands p wire.words (players_of p wire.nodes o.0) o.0
+  stands_now =
+      subst (λ ws. WireStands p ws (players_of p wire.nodes o.0) o.0) words_are
+      (subst (λ (f : ℕ → Player). WireStands p (replicate (total_words p.layout.sizes) 0) f o.0) (fun_ext players_agree) o.4)
+
+  lives : (n : ℕ) (u : Option WireNode) → node_at n wire.nodes ≡ u
+      → (if has_number n nodes then None else Some refusals.UnknownNode) ≡ option_map refusal_in (living_refusal wire.nodes n)
+  lives n None at =
+      ap (λ b. if b then None else Some refusals.UnknownNode) (sym (fresh.nodes_are n) ∙ ap is_some at)
+      ∙ sym (ap (option_map refusal_in) (living_by wire.nodes n None at))
+  lives n (Some x) at =
+      ap (λ b. if b then None else Some refusals.UnknownNode) (sym (fresh.nodes_are n) ∙ ap is_some at)
+      ∙ sym (ap (option_map refusal_in) (living_by wire.nodes n (Some x) at ∙ ap (λ b. refused_if (not b) NodeIsDead) (fresh.seats n x at).1))
+
+  living_now : (n : ℕ) → not_living o.0.last.state n ≡ option_map refusal_in (living_refusal wire.nodes n)
+  living_now n = ap (λ (w : World). not_living w.state n) o.3 ∙ opens.living n ∙ lives n (node_at n wire.nodes) refl
+
+  shows : Shows p wire o.0
+  shows = record {
+    setting = subst (λ q. IsSettingOf q p) (sym fresh.plan_is) setting;
+    stands = stands_now;
+    living = living_now;
+    aimed = λ n x at. idle_aims p n x.node (fresh.seats n x at).0 (fresh.seats n x at).2;
+    replies = fresh.replies ∙ ap (λ bs. wordless_all (answers_in bs)) (sym o.2);
+  }
+
+pub wires_open : WiresOpen
+wires_open plan nodes p s wire is opens fresh =
+    let o = opened_wires_stand plan p s is opens.agrees opens.reached opens.allowed in (
+      o.0,
+      o.1,
+      o.2,
+      o.3,
+      shows plan nodes p s wire is opens fresh,
+    )

@@ -1,0 +1,235 @@
+-- After a step of a node the wire shows the run that goes on so.
+use Rattle.std.specs.Prelude.{option_map}
+use Rattle.std.specs.Option.{option_map_or}
+use Rattle.std.proofs.Common.{◌≡◌, ℕ, ◌<◌, ◌^◌, ◌-◌, ◌≤◌, Bool, true, false, ◌==◌, List, [], ◌∷◌, ◌++◌, length, Option, Some, None, refl, ap, ap₂, sym, subst, ◌∙◌, arith, eqb-true, eq-eqb, append-nil, if◌then◌else◌, inl, inr}
+use Rattle.std.proofs.lemmas.Bool.{cases_Bool}
+use Rattle.iox_model.specs.Commands.{Reply}
+use Rattle.iox_model.specs.Joins.{not_living}
+use Rattle.iox_model.specs.Maps.{put_at}
+use Rattle.iox_model.specs.Moments.{Moment}
+use Rattle.iox_model.specs.Schedules.{IsStepOf, nothing, makes, ends_alone, makes_and_ends}
+use Rattle.iox_model.specs.Weaves.{Beat}
+use Rattle.iox_laws.proofs.WeaveLaws.WholeLemmas.{not_living-members}
+use Rattle.iox_steps.specs.declared.access.Access.{Access}
+use Rattle.iox_steps.specs.Accesses.{IsWithin, seen_by, words_after}
+use Rattle.iox_steps.specs.Sites.{last_position}
+use Rattle.iox_steps.proofs.AccessLemmas.{length-words_after, list_changes}
+use Rattle.iox_wire_nodes.specs.Programs.{Program, program_access}
+use Rattle.iox_wire_nodes.specs.Fits.{MayRun}
+use Rattle.iox_wire_nodes.specs.Laws.{IsMade}
+use Rattle.iox_wire_nodes.proofs.Steps.{each_access_keeps_the_list}
+use Rattle.iox_wire_nodes.specs.Shows.{programs_of}
+use Rattle.iox_wire_nodes.proofs.OwnedPlaces.{owners_may_access}
+use Rattle.iox_wire_nodes.proofs.Aside.{shown_nodes_run_the_same}
+use Rattle.iox_wire_nodes.specs.PlansOf.{IsSettingOf}
+use Rattle.iox_wire_nodes.specs.Seat.{Seat}
+use Rattle.iox_wire_nodes.specs.LocalsBegins.{is_busy}
+use Rattle.iox_wire_nodes.specs.Locals.{program_of}
+use Rattle.iox_wire_nodes.specs.StateMoments.{moment_at}
+use Rattle.iox_wire_nodes.specs.Steps.{next, tells}
+use Rattle.iox_wire_nodes.specs.Tables.{Setting}
+use Rattle.iox_wire_nodes.specs.Aims.{IsAimed}
+use Rattle.iox_wire_nodes.specs.declared.call_at.NodeReply.{NodeReply}
+use Rattle.iox_wire_nodes.specs.Nodes.{reply_in, seat_in}
+use Rattle.iox_wire_keeps.specs.Nodes.{NodeStands}
+use Rattle.iox_wire_keeps.specs.Openings.{opened_seat}
+use Rattle.iox_wire_keeps.specs.Runs.{Run, Said, history}
+use Rattle.iox_wire_keeps.specs.Stands.{Player, seats_of, word_of}
+use Rattle.iox_wire_keeps.specs.WholeSteps.{GoesOnWith, moment_beats, player_next, reply_beats, step_beats}
+use Rattle.iox_wire_keeps.specs.WireStands.{WireStands}
+use Rattle.iox_wire_keeps.proofs.StepWhole.{stepped_wires_stand}
+use Rattle.iox_wire_keeps.proofs.Forgotten.{members_stay}
+use Rattle.iox_wire_weaves.specs.Laws.{Replaces, StepsAreSafe, StepsShow, WentOn, progress_of}
+use Rattle.iox_wire_weaves.specs.Steps.{MakesOneAccess, access_of, answer_of, step_refusal}
+use Rattle.iox_wire_weaves.specs.Wires.{Shows, WireData, WireNode, answers_in, living_refusal, node_at, players_of, refusal_in, seat_of, wordless_all}
+use Rattle.iox_wire_weaves.proofs.Lookups.{answers_on, fun_ext, same_living, seat_there, steps_on, wordless_on}
+
+-- ---- the access
+
+module _ (p : Setting) (wire : WireData) (r : Run) (n : ℕ) (shows : Shows p wire r) (alive : living_refusal wire.nodes n ≡ None) where
+  abbrev players : ℕ → Player
+  players = players_of p wire.nodes r
+
+  lives : not_living r.last.state n ≡ None
+  lives = shows.living n ∙ ap (option_map refusal_in) alive
+
+  abbrev shown_seat : Seat
+  shown_seat = seats_of p (players_of p wire.nodes r) n
+
+  runs : program_of p shown_seat.local ≡ program_of p (seat_of p wire.nodes n).local
+  runs = shown_nodes_run_the_same p (seat_of p wire.nodes n)
+
+  node_stands : NodeStands p shows.stands.stands.held r.last.state shown_seat
+  node_stands = shows.stands.stands.nodes n lives
+
+  may_run : MayRun p.layout n (program_of p shown_seat.local)
+  may_run =
+      subst (λ k. MayRun p.layout k (program_of p shown_seat.local)) (shows.stands.stands.shows.node n)
+      (owners_may_access p shows.stands.stands.held r.last.state shown_seat node_stands.owns.owns node_stands.tells).0.may_run
+
+  pub within : IsWithin 0 (length wire.words) (access_of p wire n)
+  within =
+      subst (λ (g : Program). IsWithin 0 (length wire.words) (program_access p.layout g)) runs
+      (each_access_keeps_the_list p.layout wire.words (programs_of p (seats_of p (players_of p wire.nodes r))) shows.stands.stands.contents n
+      (program_of p shown_seat.local) shows.stands.stands.shows.sized (omega (arith, shows.stands.stands.length_is)) shows.stands.stands.shows.words refl may_run).0
+
+pub steps_are_safe : StepsAreSafe
+steps_are_safe p wire r n shows alive = within p wire r n shows alive
+
+-- ---- beats
+
+is_step : (n : ℕ) (payload : List ℕ) (m : Option Moment) (reply : Option Reply) → IsStepOf n (step_beats n payload m reply)
+is_step n payload None None = nothing
+is_step n payload (Some m) None = makes m
+is_step n payload None (Some reply) = ends_alone reply payload
+is_step n payload (Some m) (Some reply) = makes_and_ends m reply payload
+
+answered_in : (n : ℕ) (payload : List ℕ) (m : Option Moment) (words : List ℕ) (reply : Option NodeReply) (told : Option Reply)
+    → told ≡ option_map (reply_in words) reply → (nodes : List WireNode)
+    → option_map_or (λ (x : WireNode). x.node.seat.words) (node_at n nodes) [] ≡ words
+    → answers_in (step_beats n payload m told) ≡ answer_of n nodes (progress_of reply)
+answered_in n payload m words reply told same nodes there =
+    ap (λ o. answers_in (step_beats n payload m o)) same ∙ by_reply m reply
+  where
+    by_reply : (k : Option Moment) (o : Option NodeReply) → answers_in (step_beats n payload k (option_map (reply_in words) o)) ≡ answer_of n nodes (progress_of o)
+    by_reply None None = refl
+    by_reply (Some k) None = refl
+    by_reply None (Some a) = ap (λ ws. (n, reply_in ws a) ∷ []) (sym there)
+    by_reply (Some k) (Some a) = ap (λ ws. (n, reply_in ws a) ∷ []) (sym there)
+
+-- ---- the step
+
+module _ (p : Setting) (old new : WireData) (r : Run) (n : ℕ) (x y : WireNode) (reply : Option NodeReply)
+    (shows : Shows p old r) (goes : step_refusal old n ≡ None) (puts : Replaces old.nodes n x y new.nodes) (alive : y.alive ≡ x.alive)
+    (went : WentOn p x.node (seen_by (access_of p old n) (word_of old.words)) reply y.node) (plan : new.plan ≡ old.plan)
+    (words : new.words ≡ words_after (access_of p old n) old.words)
+    (told : new.replies ≡ old.replies ++ wordless_all (answer_of n new.nodes (progress_of reply))) where
+  abbrev seat : Seat
+  seat = seat_of p old.nodes n
+
+  abbrev seen : ℕ
+  seen = seen_by (access_of p old n) (word_of old.words)
+
+  may : (living_refusal old.nodes n ≡ None) × (is_busy (seat_in x.node).local ≡ true) × ((seat_in x.node).accesses < 2 ^ 56)
+  may = steps_on old n x puts.before goes
+
+  here : seat ≡ seat_in x.node
+  here = seat_there p old.nodes n x puts.before
+
+  living_now : not_living r.last.state n ≡ None
+  living_now = lives p old r n shows may.0
+
+  busy : is_busy seat.local ≡ true
+  busy = ap (λ (s : Seat). is_busy s.local) here ∙ may.1
+
+  few : seat.accesses < last_position
+  few = let e : seat.accesses ≡ (seat_in x.node).accesses = ap (λ (s : Seat). s.accesses) here in let f = may.2 in omega (arith, e, f)
+
+  in_words : IsWithin 0 (length old.words) (access_of p old n)
+  in_words = within p old r n shows may.0
+
+  made : IsMade (access_of p old n) (word_of old.words) (word_of new.words)
+  made = subst (λ ws. IsMade (access_of p old n) (word_of old.words) (word_of ws)) (sym words) (list_changes (access_of p old n) old.words in_words)
+
+  as_long : length new.words ≡ length old.words
+  as_long = ap length words ∙ length-words_after (access_of p old n) old.words
+
+  stepped : (payload : List ℕ) × (after : Run)
+      × GoesOnWith r (step_beats n payload (moment_at p shows.stands.stands.held seat.local seen) (tells p seat seen)) after
+      × WireStands p new.words (put_at (players_of p old.nodes r) n (player_next p (players_of p old.nodes r n) seen)) after
+  stepped = stepped_wires_stand p old.words new.words (players_of p old.nodes r) r n shows.stands living_now busy few made as_long
+
+  abbrev after : Run
+  after = stepped.1
+
+  -- ---- the nodes
+
+  next_is : seat_in y.node ≡ next p seat seen
+  next_is = went.next_is ∙ ap (λ s. next p s seen) (sym here)
+
+  tells_it : tells p seat seen ≡ option_map (reply_in y.node.seat.words) reply
+  tells_it = ap (λ s. tells p s seen) here ∙ went.told
+
+  there : seat_of p new.nodes n ≡ next p seat seen
+  there = seat_there p new.nodes n y puts.here ∙ next_is
+
+  others : (m : ℕ) → (m == n) ≡ false → seat_of p new.nodes m ≡ seat_of p old.nodes m
+  others m other = ap (λ o. option_map_or (λ (z : WireNode). seat_in z.node) o (opened_seat p m)) (puts.others m other)
+
+  abbrev put_players : ℕ → Player
+  put_players = put_at (players_of p old.nodes r) n (player_next p (players_of p old.nodes r n) seen)
+
+  seats_agree : (m : ℕ) (b : Bool) → (m == n) ≡ b
+      → seat_of p new.nodes m ≡ (if b then player_next p (players_of p old.nodes r n) seen else players_of p old.nodes r m).seat
+  seats_agree m true same = ap (seat_of p new.nodes) (eqb-true m n same) ∙ there
+  seats_agree m false other = others m other
+
+  players_agree : (m : ℕ) → put_players m ≡ players_of p new.nodes after m
+  players_agree m =
+      ap₂ (λ (s : Seat) (h : List Said). record { seat = s; said = h }) (sym (seats_agree m (m == n) refl)) (sym (stepped.3.stands.histories m))
+
+  stands_now : WireStands p new.words (players_of p new.nodes after) after
+  stands_now = subst (λ (f : ℕ → Player). WireStands p new.words f after) (fun_ext players_agree) stepped.3
+
+  -- ---- who lives
+
+  living_then : (m : ℕ) → not_living after.last.state m ≡ option_map refusal_in (living_refusal new.nodes m)
+  living_then m =
+      not_living-members after.last.state r.last.state m
+      (members_stay n stepped.0 (moment_at p shows.stands.stands.held seat.local seen) (tells p seat seen) r.last after.last stepped.2.woven)
+      ∙ shows.living m ∙ ap (option_map refusal_in) (sym (same_living old.nodes n x y new.nodes puts alive m))
+
+  -- ---- places
+
+  aimed_then : (m : ℕ) (z : WireNode) → node_at m new.nodes ≡ Some z → IsAimed p z.node
+  aimed_then m z at = elim (cases_Bool (m == n)) [
+    | inl same ↦ (
+        let e : Some y ≡ Some z = sym puts.here ∙ sym (ap (λ k. node_at k new.nodes) (eqb-true m n same)) ∙ at in
+        subst (λ (v : WireNode). IsAimed p v.node) (some_same y z e) went.aimed
+        )
+    | inr other ↦ shows.aimed m z (sym (puts.others m other) ∙ at)
+  ]
+    where
+      some_same : (a b : WireNode) → Some a ≡ Some b → a ≡ b
+      some_same a b same = ap (λ o. option_map_or (λ v. v) o a) same
+
+  -- ---- replies
+
+  words_there : option_map_or (λ (z : WireNode). z.node.seat.words) (node_at n new.nodes) [] ≡ y.node.seat.words
+  words_there = ap (λ o. option_map_or (λ (z : WireNode). z.node.seat.words) o []) puts.here
+
+  answers : answers_in (step_beats n stepped.0 (moment_at p shows.stands.stands.held seat.local seen) (tells p seat seen)) ≡ answer_of n new.nodes (progress_of reply)
+  answers = answered_in n stepped.0 (moment_at p shows.stands.stands.held seat.local seen) y.node.seat.words reply (tells p seat seen) tells_it new.nodes words_there
+
+  replies_then : new.replies ≡ wordless_all (answers_in after.beats)
+  replies_then =
+      told ∙ ap₂ (λ xs ys. xs ++ wordless_all ys) shows.replies (sym answers)
+      ∙ sym (wordless_on (answers_in r.beats) (answers_in (step_beats n stepped.0 (moment_at p shows.stands.stands.held seat.local seen) (tells p seat seen))))
+      ∙ ap wordless_all (sym (answers_on r.beats (step_beats n stepped.0 (moment_at p shows.stands.stands.held seat.local seen) (tells p seat seen))))
+      ∙ ap (λ bs. wordless_all (answers_in bs)) (sym stepped.2.beats)
+
+  shows_then : Shows p new after
+  shows_then = record {
+    setting = subst (λ q. IsSettingOf q p) (sym plan) shows.setting;
+    stands = stands_now;
+    living = living_then;
+    aimed = aimed_then;
+    replies = replies_then;
+  }
+
+  one_access : MakesOneAccess p old n new
+  one_access = record { words = words; node = there; others = puts.others }
+
+pub steps_show : StepsShow
+steps_show p old new r n x y reply shows goes puts alive went plan words told =
+    let s = stepped p old new r n x y reply shows goes puts alive went plan words told in (
+      one_access p old new r n x y reply shows goes puts alive went plan words told,
+      step_beats n s.0 (moment_at p shows.stands.stands.held (seat_of p old.nodes n).local (seen_by (access_of p old n) (word_of old.words)))
+          (tells p (seat_of p old.nodes n) (seen_by (access_of p old n) (word_of old.words))),
+      s.1,
+      is_step n s.0 (moment_at p shows.stands.stands.held (seat_of p old.nodes n).local (seen_by (access_of p old n) (word_of old.words)))
+          (tells p (seat_of p old.nodes n) (seen_by (access_of p old n) (word_of old.words))),
+      s.2,
+      answers p old new r n x y reply shows goes puts alive went plan words told,
+      shows_then p old new r n x y reply shows goes puts alive went plan words told,
+    )

@@ -1,0 +1,95 @@
+-- That a wire shows a run as it opens, and goes on showing one.
+use Rattle.std.specs.Prelude.{◌≡◌, ℕ, ◌==◌, false, true, ◌++◌, List, [], length, replicate, Option, Some, None, is_some, option_map}
+use Rattle.iox_model.specs.Maps.{has_number}
+use Rattle.iox_model.specs.Schedules.{IsStepOf}
+use Rattle.iox_model.specs.States.{State}
+use Rattle.iox_model.specs.Weaves.{Beat, Dies}
+use Rattle.iox_steps.specs.declared.access.Progress.{Progress}
+use Rattle.iox_steps.specs.declared.access.Progress.TheVariants.{Done, Going}
+use Rattle.iox_steps.specs.Accesses.{IsWithin, seen_at, words_after}
+use Rattle.iox_word_map.specs.WordMaps.{total_words}
+use Rattle.iox_wire_nodes.specs.WirePlan.{WirePlan}
+use Rattle.iox_wire_nodes.specs.Plans.{IsPlan, sizes_of}
+use Rattle.iox_wire_nodes.specs.Steps.{next, tells}
+use Rattle.iox_wire_nodes.specs.Tables.{Setting}
+use Rattle.iox_wire_nodes.specs.Aims.{IsAimed}
+use Rattle.iox_wire_nodes.specs.declared.call_at.CallAt.TheVariants.{Seats}
+use Rattle.iox_wire_nodes.specs.declared.call_at.NodeReply.{NodeReply}
+use Rattle.iox_wire_nodes.specs.Nodes.{Node, reply_in, seat_in}
+use Rattle.iox_wire_keeps.specs.Openings.{opened_seat}
+use Rattle.iox_wire_keeps.specs.Runs.{GoesOnBy, Run}
+use Rattle.iox_wire_keeps.specs.WholeSteps.{GoesOnWith}
+use Rattle.iox_wire_weaves.specs.Wires.{OpensOn, Shows, ShowsOpened, WireData, WireNode, answers_in, living_refusal, node_at, wordless_all}
+use Rattle.iox_wire_weaves.specs.Steps.{MakesOneAccess, access_of, answer_of, step_refusal}
+
+-- ---- an opening
+
+-- A wire as it is made from the plan for these nodes: its words are all 0, and each node has nothing.
+pub record IsFresh (p : Setting) (plan : WirePlan) (nodes : List ℕ) (wire : WireData) : Type 0 where
+  pub plan_is : wire.plan ≡ plan
+  pub words : wire.words ≡ replicate (total_words (sizes_of plan)) 0
+  pub nodes_are : (n : ℕ) → is_some (node_at n wire.nodes) ≡ has_number n nodes
+  pub seats : (n : ℕ) (x : WireNode) → node_at n wire.nodes ≡ Some x
+      → (seat_in x.node ≡ opened_seat p n) × (x.alive ≡ true) × (x.node.at ≡ Seats)
+  pub replies : wire.replies ≡ []
+
+-- It shows a run from each state on which it may open.
+abbrev pub WiresOpen : Type 0
+WiresOpen =
+    (plan : WirePlan) (nodes : List ℕ) (p : Setting) (s : State) (wire : WireData)
+    → IsPlan plan → OpensOn plan nodes p s → IsFresh p plan nodes wire → ShowsOpened p s wire
+
+-- ---- one node
+
+-- one node became another, and all others stay
+pub record Replaces (old : List WireNode) (n : ℕ) (x y : WireNode) (new : List WireNode)
+    : Type 0 where
+  pub before : node_at n old ≡ Some x
+  pub here : node_at n new ≡ Some y
+  pub others : (m : ℕ) → (m == n) ≡ false → node_at m new ≡ node_at m old
+
+-- ---- a step
+
+-- whether the call is over
+abbrev pub progress_of : Option NodeReply → Progress NodeReply
+progress_of None = Going
+progress_of (Some reply) = Done reply
+
+-- After an access that found this the node is the next, it answers this if its call is over, and it
+-- knows where the words stand that it accesses next.
+pub record WentOn (p : Setting) (x : Node) (seen : ℕ) (reply : Option NodeReply) (y : Node)
+    : Type 0 where
+  pub next_is : seat_in y ≡ next p (seat_in x) seen
+  pub told : tells p (seat_in x) seen ≡ option_map (reply_in y.seat.words) reply
+  pub aimed : IsAimed p y
+
+-- A living node accesses a word of the wire.
+abbrev pub StepsAreSafe : Type 0
+StepsAreSafe =
+    (p : Setting) (wire : WireData) (r : Run) (n : ℕ) → Shows p wire r
+    → living_refusal wire.nodes n ≡ None → IsWithin 0 (length wire.words) (access_of p wire n)
+
+-- After a step that is not refused, the wire shows the run that goes on so.
+abbrev pub StepsShow : Type 0
+StepsShow =
+    (p : Setting) (old new : WireData) (r : Run) (n : ℕ) (x y : WireNode)
+    (reply : Option NodeReply)
+    → Shows p old r → step_refusal old n ≡ None
+    → Replaces old.nodes n x y new.nodes → y.alive ≡ x.alive
+    → WentOn p x.node (seen_at (access_of p old n) old.words) reply y.node
+    → new.plan ≡ old.plan → new.words ≡ words_after (access_of p old n) old.words
+    → new.replies ≡ old.replies ++ wordless_all (answer_of n new.nodes (progress_of reply))
+    → MakesOneAccess p old n new
+    × (bs : List Beat) × (after : Run) × IsStepOf n bs × GoesOnWith r bs after
+    × (answers_in bs ≡ answer_of n new.nodes (progress_of reply)) × Shows p new after
+
+-- ---- a death
+
+-- After a death that is not refused, the wire shows the run with that beat.
+abbrev pub DeathsShow : Type 0
+DeathsShow =
+    (p : Setting) (old new : WireData) (r : Run) (n : ℕ) (x : WireNode)
+    → Shows p old r → living_refusal old.nodes n ≡ None
+    → Replaces old.nodes n x (record x { alive = false }) new.nodes
+    → new.plan ≡ old.plan → new.words ≡ old.words → new.replies ≡ old.replies
+    → (after : Run) × GoesOnBy r (Dies n) after × Shows p new after

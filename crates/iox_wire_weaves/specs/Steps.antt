@@ -1,0 +1,81 @@
+-- What a step, and a death, do to a wire.
+use Rattle.std.specs.Prelude.{◌≡◌, ℕ, ◌==◌, false, nat_le, not, ◌^◌, ◌++◌, List, [], ◌∷◌, Option, Some, None}
+use Rattle.std.specs.Option.{option_map_or}
+use Rattle.iox_model.specs.Commands.{Reply}
+use Rattle.iox_model.specs.Maps.{or_else, refused_if}
+use Rattle.iox_model.specs.Schedules.{IsStepOf}
+use Rattle.iox_model.specs.Weaves.{Beat, Dies}
+use Rattle.iox_steps.specs.declared.access.Access.{Access}
+use Rattle.iox_steps.specs.declared.access.Progress.{Progress}
+use Rattle.iox_steps.specs.declared.access.Progress.TheVariants.{Done, Going}
+use Rattle.iox_steps.specs.Accesses.{seen_at, words_after}
+use Rattle.iox_wire_nodes.specs.Programs.{program_access}
+use Rattle.iox_wire_nodes.specs.Seat.{Seat}
+use Rattle.iox_wire_nodes.specs.LocalsBegins.{is_busy}
+use Rattle.iox_wire_nodes.specs.Locals.{program_of}
+use Rattle.iox_wire_nodes.specs.Steps.{next}
+use Rattle.iox_wire_nodes.specs.Tables.{Setting}
+use Rattle.iox_wire_keeps.specs.Runs.{GoesOnBy, Run}
+use Rattle.iox_wire_keeps.specs.WholeSteps.{GoesOnWith}
+use Rattle.iox_wire_nodes.specs.declared.call_at.NodeReply.{NodeReply}
+use Rattle.iox_wire_nodes.specs.Nodes.{reply_in, seat_in}
+use Rattle.iox_wire_weaves.specs.declared.refusal.WireRefusal.{WireRefusal}
+use Rattle.iox_wire_weaves.specs.declared.refusal.WireRefusal.TheVariants.{AccessesSpent, AtRest}
+use Rattle.iox_wire_weaves.specs.Wires.{Shows, WireData, WireNode, answers_in, living_refusal, node_at, seat_of}
+
+-- ---- refusals
+
+-- the most accesses of a node
+abbrev pub most_accesses : ℕ
+most_accesses = 2 ^ 56
+
+-- why a living node makes no step: it has no call, or it made all its accesses
+abbrev pub rest_refusal : WireNode → Option WireRefusal
+rest_refusal x =
+    or_else (refused_if (not (is_busy (seat_in x.node).local)) AtRest)
+    (refused_if (nat_le most_accesses (seat_in x.node).accesses) AccessesSpent)
+
+-- why a node makes no step
+abbrev pub step_refusal : WireData → ℕ → Option WireRefusal
+step_refusal wire n =
+    or_else (living_refusal wire.nodes n) (option_map_or rest_refusal (node_at n wire.nodes) None)
+
+-- ---- a step
+
+-- the access that the node makes next
+abbrev pub access_of : Setting → WireData → ℕ → Access
+access_of p wire n = program_access p.layout (program_of p (seat_of p wire.nodes n).local)
+
+-- The step of a node is the one access of its place: the words are those after it, the node goes on
+-- with what it found, and all other nodes stay.
+pub record MakesOneAccess (p : Setting) (old : WireData) (n : ℕ) (new : WireData) : Type 0 where
+  pub words : new.words ≡ words_after (access_of p old n) old.words
+  pub node : seat_of p new.nodes n
+      ≡ next p (seat_of p old.nodes n) (seen_at (access_of p old n) old.words)
+  pub others : (m : ℕ) → (m == n) ≡ false → node_at m new.nodes ≡ node_at m old.nodes
+
+-- so it is in each run that the wire shows
+abbrev pub MakesItsAccess : WireData → ℕ → WireData → Type 0
+MakesItsAccess old n new = (p : Setting) (r : Run) → Shows p old r → MakesOneAccess p old n new
+
+-- what the step of a node answers, with its node; a read answers the words that it loaded
+abbrev pub answer_of : ℕ → List WireNode → Progress NodeReply → List (ℕ × Reply)
+answer_of n nodes Going = []
+answer_of n nodes (Done reply) =
+    (n, reply_in (option_map_or (λ x. x.node.seat.words) (node_at n nodes) []) reply) ∷ []
+
+-- Each run that the wire showed goes on by a step of the node: at most one moment of the machine,
+-- and then the end of its call with that answer. The wire shows the run that goes on so.
+abbrev pub StepIsWoven : WireData → ℕ → Progress NodeReply → WireData → Type 0
+StepIsWoven old n progress new =
+    (p : Setting) (r : Run) → Shows p old r
+    → (bs : List Beat) × (after : Run) × IsStepOf n bs × GoesOnWith r bs after
+    × (answers_in bs ≡ answer_of n new.nodes progress) × Shows p new after
+
+-- ---- a death
+
+-- Each run that the wire showed goes on by the death of the node, and the wire shows that run.
+abbrev pub DeathIsWoven : WireData → ℕ → WireData → Type 0
+DeathIsWoven old n new =
+    (p : Setting) (r : Run) → Shows p old r
+    → (after : Run) × GoesOnBy r (Dies n) after × Shows p new after

@@ -1,0 +1,117 @@
+-- A wire as its callers see it, and when it shows a run of the machine.
+use Rattle.std.specs.Prelude.{◌≡◌, ℕ, Bool, not, ◌==◌, List, [], ◌∷◌, find, flat_map, map, if◌then◌else◌, true, Option, None, Some, option_map}
+use Rattle.std.specs.Option.{option_map_or}
+use Rattle.iox_model.specs.declared.reply.Refusal.TheVariants as refusals
+use Rattle.iox_model.specs.declared.reply.Reply.TheVariants.{Words}
+use Rattle.iox_model.specs.Commands.{Refusal, Reply}
+use Rattle.iox_model.specs.Joins.{not_living}
+use Rattle.iox_model.specs.Maps.{has_number, refused_if}
+use Rattle.iox_model.specs.Runs.{IsReachableState}
+use Rattle.iox_model.specs.States.{State}
+use Rattle.iox_model.specs.WireCalls.{opened, wire_refusal}
+use Rattle.iox_model.specs.Weaves.{Beat, Begins, Dies, Ends, Makes, at_work}
+use Rattle.iox_wire_nodes.specs.WirePlan.{WirePlan}
+use Rattle.iox_wire_nodes.specs.PlansOf.{IsSettingOf}
+use Rattle.iox_wire_nodes.specs.Seat.{Seat}
+use Rattle.iox_wire_nodes.specs.Tables.{Setting}
+use Rattle.iox_wire_keeps.specs.WireStands.{WireStands}
+use Rattle.iox_wire_nodes.specs.Aims.{IsAimed}
+use Rattle.iox_wire_nodes.specs.Nodes.{Node, seat_in}
+use Rattle.iox_wire_keeps.specs.Openings.{AgreesWith, opened_seat}
+use Rattle.iox_wire_keeps.specs.Runs.{Run, history}
+use Rattle.iox_wire_keeps.specs.Stands.{Player}
+use Rattle.iox_wire_weaves.specs.declared.refusal.WireRefusal.{WireRefusal}
+use Rattle.iox_wire_weaves.specs.declared.refusal.WireRefusal.TheVariants.{AccessesSpent, AtRest, NodeIsDead, UnknownNode, WantOfMemory}
+
+-- ---- a wire
+
+-- A node of a wire: its number, whether it lives, and its own part of the wire.
+pub record WireNode : Type 0 where
+  pub number : ℕ
+  pub alive : Bool
+  pub node : Node
+
+-- A wire: what it was made for, its words, its nodes, and what calls were answered, each with its
+-- node, oldest first. The words of reads are not kept there.
+pub record WireData : Type 0 where
+  pub plan : WirePlan
+  pub words : List ℕ
+  pub nodes : List WireNode
+  pub replies : List (ℕ × Reply)
+
+-- the node of that number
+abbrev pub node_at : ℕ → List WireNode → Option WireNode
+node_at n nodes = find (λ x. x.number == n) nodes
+
+-- why a node is not a living one: it is unknown, or it is dead
+abbrev pub living_refusal : List WireNode → ℕ → Option WireRefusal
+living_refusal nodes n =
+    option_map_or (λ x. refused_if (not x.alive) NodeIsDead) (node_at n nodes) (Some UnknownNode)
+
+-- the machine's name of a refusal
+abbrev pub refusal_in : WireRefusal → Refusal
+refusal_in UnknownNode = refusals.UnknownNode
+refusal_in NodeIsDead = refusals.NodeIsDead
+refusal_in AtRest = refusals.AtRest
+refusal_in AccessesSpent = refusals.AccessesSpent
+refusal_in WantOfMemory = refusals.WantOfMemory
+
+-- the part of a node; a node that is none of the wire has nothing
+abbrev pub seat_of : Setting → List WireNode → ℕ → Seat
+seat_of p nodes n = option_map_or (λ x. seat_in x.node) (node_at n nodes) (opened_seat p n)
+
+-- ---- a run
+
+-- each node's part, and what it was asked and answered in the run
+abbrev pub players_of : Setting → List WireNode → Run → ℕ → Player
+players_of p nodes r n = record { seat = seat_of p nodes n; said = history n r.beats }
+
+-- the answer in a beat, with its node
+abbrev pub answer_in : Beat → List (ℕ × Reply)
+answer_in (Begins node call choice) = []
+answer_in (Makes node m) = []
+answer_in (Ends node reply payload) = (node, reply) ∷ []
+answer_in (Dies node) = []
+
+-- the answers in beats, each with its node
+abbrev pub answers_in : List Beat → List (ℕ × Reply)
+answers_in beats = flat_map answer_in beats
+
+-- a reply, without the words of a read
+abbrev pub wordless : Reply → Reply
+wordless (Words words) = Words []
+wordless reply = reply
+
+-- answers, without the words of reads
+abbrev pub wordless_all : List (ℕ × Reply) → List (ℕ × Reply)
+wordless_all answers = map (λ a. (a.0, wordless a.1)) answers
+
+-- The wire shows the run: it is one of the machine on whose ports the wire was opened.
+pub record Shows (p : Setting) (wire : WireData) (r : Run) : Type 0 where
+  -- the setting is made from the plan
+  pub setting : IsSettingOf wire.plan p
+  -- words and nodes stand for the world to which the run led
+  pub stands : WireStands p wire.words (players_of p wire.nodes r) r
+  -- the nodes that live are those of the machine
+  pub living : (n : ℕ) → not_living r.last.state n ≡ option_map refusal_in (living_refusal wire.nodes n)
+  -- each node knows where the words stand that it accesses next
+  pub aimed : (n : ℕ) (x : WireNode) → node_at n wire.nodes ≡ Some x → IsAimed p x.node
+  -- the replies are the run's
+  pub replies : wire.replies ≡ wordless_all (answers_in r.beats)
+
+-- ---- an opening
+
+-- A state that a service reached, on which a wire of that plan may open with these nodes alive, and
+-- the setting of that wire.
+pub record OpensOn (plan : WirePlan) (nodes : List ℕ) (p : Setting) (s : State) : Type 0 where
+  pub agrees : AgreesWith plan p s
+  pub reached : IsReachableState s
+  pub allowed : wire_refusal s 0 true ≡ None
+  pub living : (n : ℕ)
+      → not_living s n ≡ (if has_number n nodes then None else Some refusals.UnknownNode)
+
+-- The wire shows a run without a beat, from that state on.
+abbrev pub ShowsOpened : Setting → State → WireData → Type 0
+ShowsOpened p s wire =
+    (r : Run) × (r.first ≡ at_work (opened s)) × (r.beats ≡ []) × (r.last ≡ at_work (opened s))
+    × Shows p wire r

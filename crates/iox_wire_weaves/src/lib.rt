@@ -1,0 +1,30 @@
+//! When a wire shows a run of the machine, and that it goes on showing one.
+//! The functions have nothing to do: each is there for its contract.
+#![tactic(auto)]
+
+ghost use Rattle.iox_wire_weaves.specs.Laws.{DeathsShow, StepsAreSafe, StepsShow, WiresOpen};
+
+mod refusal;
+
+pub use iox_wire_nodes::{NodeReply, StoredNode, WirePlan, WordMap, WordMapNewError};
+pub use refusal::WireRefusal;
+
+/// A wire that opens shows a run without a beat.
+pub fn wires_open()
+    ensures { WiresOpen }
+{}
+
+/// A living node accesses a word of the wire.
+pub fn steps_are_safe()
+    ensures { StepsAreSafe }
+{}
+
+/// After a step of a node the wire shows the run that goes on so.
+pub fn steps_show()
+    ensures { StepsShow }
+{}
+
+/// After a death the wire shows the run with that beat.
+pub fn deaths_show()
+    ensures { DeathsShow }
+{}

@@ -1,0 +1,16 @@
+//! Why a wire refuses what is asked of a node.
+
+/// Why a wire refuses what is asked of a node. The first that applies is told; nothing changes.
+#[derive(Clone, Copy, Debug, PartialEq, Eq)]
+pub enum WireRefusal {
+    /// The wire has no node of that number.
+    UnknownNode,
+    /// The node was declared dead: it does nothing more.
+    NodeIsDead,
+    /// No call of the node is under way: begin one first.
+    AtRest,
+    /// The node made as many accesses as it may.
+    AccessesSpent,
+    /// There is no memory for what the step is to record.
+    WantOfMemory,
+}
