@@ -32,9 +32,9 @@ use Rattle.iox_tables.specs.HubStates.Tables.{HandleState, HubTables, PortState}
 use Rattle.iox_tables.specs.HubStates.Wirings.{IsServer}
 use Rattle.iox_tables.proofs.HubStates.Naming.{each_handle_is_named}
 use Rattle.iox_tables.proofs.HubStates.Steps.{connected_is}
-use Rattle.iox_hub.specs.Hubs.{HasValue, HubState, IsHub, given_by, state_of_hub}
-use Rattle.iox_hub.specs.Keeping.{KeepsOthers}
-use Rattle.iox_hub.proofs.Named.{server_is}
+use Rattle.iox_hub_laws.specs.Hubs.{HasValue, HubState, IsHub, given_by, state_of_hub}
+use Rattle.iox_hub_laws.specs.Keeping.{KeepsOthers}
+use Rattle.iox_hub_laws.proofs.Named.{server_is}
 use Rattle.iox_hub_laws.specs.Sends.{SendsResponse}
 use Rattle.iox_hub_laws.specs.Shown.{handle_of, shown}
 use Rattle.iox_hub_laws.proofs.Arrivals.{EndsSo, Fits, IsRefusal}

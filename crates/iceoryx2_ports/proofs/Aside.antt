@@ -15,8 +15,8 @@ use Rattle.iox_tables.specs.HubStates.States.{Given, handle_of, message_of}
 use Rattle.iox_tables.specs.HubStates.Tables.{HandleState, HubTables}
 use Rattle.iox_tables.specs.HubStates.Wirings.{handle_in}
 use Rattle.iox_tables.proofs.HubStates.Fixing.{find_handle}
-use Rattle.iox_hub.specs.Hubs.{HasValue, HubState, given_by, state_of_hub}
-use Rattle.iox_hub.proofs.SendingNames.{found_node}
+use Rattle.iox_hub_laws.specs.Hubs.{HasValue, HubState, given_by, state_of_hub}
+use Rattle.iox_hub_laws.proofs.SendingNames.{found_node}
 use Rattle.iox_hub_laws.specs.Waiting.{server_of}
 use Rattle.iceoryx2_ports.specs.Keeping.{KeepsAsking, KeepsOthersAsking, spends}
 use Rattle.iceoryx2_ports.proofs.Others.{IsAt, whole_there}

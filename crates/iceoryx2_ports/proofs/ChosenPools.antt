@@ -4,9 +4,9 @@ use Rattle.std.proofs.Common.{sym, subst, ◌∙◌}
 use Rattle.std.proofs.lemmas.Option.{none-some, same_Some}
 use Rattle.iox_model.specs.declared.kind.Role.{Role}
 use Rattle.iox_tables.specs.HubStates.States.{Given}
-use Rattle.iox_hub.specs.declared.options.Options.{Options}
-use Rattle.iox_hub.specs.Hubs.{HubState}
-use Rattle.iox_hub.specs.Making.{IsChosenBy}
+use Rattle.iox_hub_laws.specs.Options.{Options}
+use Rattle.iox_hub_laws.specs.Hubs.{HubState}
+use Rattle.iox_hub_laws.specs.Making.{IsChosenBy}
 use Rattle.iceoryx2_ports.specs.Overrides.{AskForItsPool, HaveItsPool, most_needed}
 
 -- where so many are needed, the pool is chosen by that

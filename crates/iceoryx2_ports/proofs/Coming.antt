@@ -4,7 +4,7 @@ use Rattle.iox_model.specs.declared.call.Call.TheVariants.{Receive, Release, Wri
 use Rattle.iox_model.specs.Commands.{Payload, Reply}
 use Rattle.iox_model.specs.WholeCalls.{IsWholeCall}
 use Rattle.iox_tables.specs.HubStates.States.{Given}
-use Rattle.iox_hub.specs.Hubs.{HubState, state_of_hub}
+use Rattle.iox_hub_laws.specs.Hubs.{HubState, state_of_hub}
 use Rattle.iox_hub_laws.specs.Sends.{NothingComes}
 use Rattle.iox_hub_laws.proofs.BringsOnly.{nothing_comes}
 

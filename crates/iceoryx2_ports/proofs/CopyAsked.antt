@@ -20,8 +20,8 @@ use Rattle.iox_laws.proofs.WeaveLedger.Lists.{IsAmong, find-own}
 use Rattle.iox_tables.specs.HubLoans.Lenders.{IsClient}
 use Rattle.iox_tables.specs.HubStates.States.{Given}
 use Rattle.iox_tables.specs.HubStates.Tables.{HubTables, PortState, port_in}
-use Rattle.iox_hub.specs.Hubs.{HasValue, HubState, IsHub, state_of_hub}
-use Rattle.iox_hub.specs.Lending.{payload_of}
+use Rattle.iox_hub_laws.specs.Hubs.{HasValue, HubState, IsHub, state_of_hub}
+use Rattle.iox_hub_laws.specs.Lending.{payload_of}
 use Rattle.iox_hub_laws.specs.Sends.{IsRequestSent}
 use Rattle.iox_hub_laws.specs.Shown.{shown}
 use Rattle.iox_hub_laws.specs.Waiting.{client_in}

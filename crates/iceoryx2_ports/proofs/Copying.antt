@@ -4,10 +4,10 @@ use Rattle.iox_model.specs.declared.call.Call.TheVariants.{SendCopy}
 use Rattle.iox_model.specs.Commands.{Payload, Reply}
 use Rattle.iox_model.specs.WholeCalls.{IsWholeCall}
 use Rattle.iox_tables.specs.HubStates.States.{Given}
-use Rattle.iox_hub.specs.LoanRefusal.{LoanRefusal}
-use Rattle.iox_hub.specs.LoanRefusal.TheVariants.{CallsSpent, WrongLength, ExceedsMaxLoanSize, ExceedsMaxLoans}
-use Rattle.iox_hub.specs.Lends.{refusal_of}
-use Rattle.iox_hub.specs.Hubs.{HubState, state_of_hub}
+use Rattle.iox_hub_laws.specs.LoanRefusal.{LoanRefusal}
+use Rattle.iox_hub_laws.specs.LoanRefusal.TheVariants.{CallsSpent, WrongLength, ExceedsMaxLoanSize, ExceedsMaxLoans}
+use Rattle.iox_hub_laws.specs.Lends.{refusal_of}
+use Rattle.iox_hub_laws.specs.Hubs.{HubState, state_of_hub}
 use Rattle.iceoryx2_ports.specs.Copies.{LeavesUnloaned, error_of_test}
 use Rattle.iceoryx2_ports.specs.Keeping.{KeepsAsking, KeepsValues}
 use Rattle.iceoryx2_ports.specs.Loans.{loan_refusal}

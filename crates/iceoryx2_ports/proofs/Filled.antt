@@ -24,7 +24,7 @@ use Rattle.iox_tables.specs.HubStates.States.{Given, message_of}
 use Rattle.iox_tables.specs.HubStates.Tables.{HubTables}
 use Rattle.iox_tables.proofs.HubStates.Fixing.{find_handle}
 use Rattle.iox_tables.proofs.HubStates.Naming.{each_handle_is_named, handle_node, handle_number}
-use Rattle.iox_hub.specs.Hubs.{HasValue, HubState, given_by, state_of_hub}
+use Rattle.iox_hub_laws.specs.Hubs.{HasValue, HubState, given_by, state_of_hub}
 use Rattle.iox_hub_laws.specs.Sends.{NothingComes}
 use Rattle.iox_hub_laws.specs.Shown.{handle_of, nothing_given, shown}
 use Rattle.iox_hub_laws.specs.Waiting.{client_in}

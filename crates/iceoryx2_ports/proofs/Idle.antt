@@ -31,7 +31,7 @@ use Rattle.iox_tables.specs.HubStates.States.{Given, message_of}
 use Rattle.iox_tables.specs.HubStates.Steps.{is_there}
 use Rattle.iox_tables.specs.HubStates.Tables.{HandleState, HubTables, PortState, numbers_of, port_in}
 use Rattle.iox_tables.specs.HubStates.Ways.{lane_on}
-use Rattle.iox_hub.specs.Hubs.{HubState, IsHub, given_by, state_of_hub}
+use Rattle.iox_hub_laws.specs.Hubs.{HubState, IsHub, given_by, state_of_hub}
 use Rattle.iox_hub_laws.specs.Gone.{IsBetweenPorts}
 use Rattle.iox_hub_laws.specs.Sends.{NothingComes}
 use Rattle.iox_hub_laws.specs.Shown.{nothing_given, shown}

@@ -16,10 +16,10 @@ use Rattle.iox_model.specs.Peers.{port_at}
 use Rattle.iox_model.specs.Settings.{Limits, Shape, has_layout, is_count, shape_of}
 use Rattle.iox_model.specs.States as m
 use Rattle.iox_model.specs.WholeCalls.{IsWholeCall}
-use Rattle.iox_hub.specs.Lends.{reply_of_loan}
-use Rattle.iox_hub.specs.LoanRefusal.TheVariants as tests
-use Rattle.iox_hub.specs.Lent.{Lent}
-use Rattle.iox_hub.specs.Lent.TheVariants as lents
+use Rattle.iox_hub_laws.specs.Lends.{reply_of_loan}
+use Rattle.iox_hub_laws.specs.LoanRefusal.TheVariants as tests
+use Rattle.iox_hub_laws.specs.Lent.{Lent}
+use Rattle.iox_hub_laws.specs.Lent.TheVariants as lents
 use Rattle.iox_tables.specs.HubLoans.Counts.{requests_on_loan}
 use Rattle.iox_tables.specs.HubLoans.Lenders.{IsClient, calls_refusal, count_refusal_by, is_pool_to_be_dry, lender_of_request, loan_refusal, shape_in, size_refusal}
 use Rattle.iox_tables.specs.HubLoans.Loans.{loan_call}
@@ -29,8 +29,8 @@ use Rattle.iox_tables.proofs.HubLending.Owning.{handles_are_on_nodes}
 use Rattle.iox_tables.proofs.HubLoans.Counting.{each_count_is_the_same}
 use Rattle.iox_tables.proofs.HubStates.Fixing.{find_port, first_key}
 use Rattle.iox_tables.proofs.HubStates.Naming.{each_port_is_named}
-use Rattle.iox_hub.specs.Hubs.{HasValue, HubState, IsHub, given_by, state_of_hub}
-use Rattle.iox_hub.proofs.LendingNamed.{client_of_hub}
+use Rattle.iox_hub_laws.specs.Hubs.{HasValue, HubState, IsHub, given_by, state_of_hub}
+use Rattle.iox_hub_laws.proofs.LendingNamed.{client_of_hub}
 use Rattle.iox_hub_laws.specs.Loans.{AnswersOfClient, answer_of}
 use Rattle.iox_hub_laws.specs.Shown.{nothing_given, shown}
 use Rattle.iceoryx2_ports.specs.Copies.{error_of_test}

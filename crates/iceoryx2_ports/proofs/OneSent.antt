@@ -10,7 +10,7 @@ use Rattle.iox_model.specs.States as m
 use Rattle.iox_laws.proofs.WeaveLaws.MapLemmas.{either, same_way-true}
 use Rattle.iox_laws.proofs.WeaveLedger.Truths.{by_cases, or-rest}
 use Rattle.iox_tables.specs.HubStates.Receives.{way_to}
-use Rattle.iox_hub.specs.Hubs.{HubState}
+use Rattle.iox_hub_laws.specs.Hubs.{HubState}
 use Rattle.iox_hub_laws.specs.Arrivals.{newest, takes_more}
 use Rattle.iox_hub_laws.specs.Sends.{IsRequestSent, servers_of}
 use Rattle.iox_hub_laws.specs.Shown.{shown}

@@ -27,8 +27,8 @@ use Rattle.iox_tables.specs.HubStates.Releases.{lane_of}
 use Rattle.iox_tables.specs.HubStates.States.{Given, message_of}
 use Rattle.iox_tables.specs.HubStates.Tables.{HandleState, HubTables}
 use Rattle.iox_tables.proofs.HubStates.Fixing.{find_handle}
-use Rattle.iox_hub.specs.Received.TheVariants.{Handle}
-use Rattle.iox_hub.specs.Hubs.{HasValue, HubState, IsHub, given_by, state_of_hub}
+use Rattle.iox_hub_laws.specs.Received.TheVariants.{Handle}
+use Rattle.iox_hub_laws.specs.Hubs.{HasValue, HubState, IsHub, given_by, state_of_hub}
 use Rattle.iox_hub_laws.specs.Receives.{TakesNext, TakesRequest, TakesResponse}
 use Rattle.iox_hub_laws.specs.Shown.{handle_of, shown}
 use Rattle.iox_hub_laws.specs.Waiting.{client_in, client_of, server_of}

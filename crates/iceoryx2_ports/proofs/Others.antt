@@ -30,7 +30,7 @@ use Rattle.iox_model.specs.WholeCalls.{IsDone, IsWholeCall, MayCome, UnlessRefus
 use Rattle.iox_laws.proofs.WeaveLaws.MapLemmas.{either}
 use Rattle.iox_laws.proofs.WeaveLaws.WholeLemmas.{moved_by-fixed, some-is}
 use Rattle.iox_laws.proofs.WeaveLedger.Truths.{by_cases, none-some}
-use Rattle.iox_hub.specs.Keeping.{IsOther}
+use Rattle.iox_hub_laws.specs.Keeping.{IsOther}
 use Rattle.iceoryx2_ports.specs.Keeping.{spends}
 
 -- ---- lists of handles

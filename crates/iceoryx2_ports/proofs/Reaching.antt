@@ -34,10 +34,10 @@ use Rattle.iox_tables.specs.HubStates.Wirings.{IsServer, numbers_of_role}
 use Rattle.iox_tables.proofs.HubStates.Fixing.{first_key, roles_are}
 use Rattle.iox_tables.proofs.HubStates.Naming.{each_port_is_named}
 use Rattle.iox_tables.proofs.HubStates.Steps.{connected_is}
-use Rattle.iox_hub.specs.Hubs.{HasValue, HubState, IsHub, given_by, state_of_hub}
-use Rattle.iox_hub.specs.Lending.{payload_of}
-use Rattle.iox_hub.proofs.LendingNamed.{client_of_hub}
-use Rattle.iox_hub.proofs.Named.{server_is}
+use Rattle.iox_hub_laws.specs.Hubs.{HasValue, HubState, IsHub, given_by, state_of_hub}
+use Rattle.iox_hub_laws.specs.Lending.{payload_of}
+use Rattle.iox_hub_laws.proofs.LendingNamed.{client_of_hub}
+use Rattle.iox_hub_laws.proofs.Named.{server_is}
 use Rattle.iox_hub_laws.specs.Arrivals.{IsSentOn, newest, with_last}
 use Rattle.iox_hub_laws.specs.Sends.{IsRequestSent, SendsRequest, servers_of}
 use Rattle.iox_hub_laws.specs.Shown.{handle_of, nothing_given, shown}

@@ -26,9 +26,9 @@ use Rattle.iox_tables.specs.HubStates.States.{Given, message_of}
 use Rattle.iox_tables.specs.HubStates.Tables.{HandleState, HubTables, PortState, port_in}
 use Rattle.iox_tables.specs.HubStates.Wirings.{IsPending, IsServer}
 use Rattle.iox_tables.proofs.HubStates.Fixing.{find_handle}
-use Rattle.iox_hub.specs.Received.TheVariants as received
-use Rattle.iox_hub.specs.Hubs.{HasValue, HubState, IsHub, given_by, state_of_hub}
-use Rattle.iox_hub.proofs.Named.{pending_is, server_is}
+use Rattle.iox_hub_laws.specs.Received.TheVariants as received
+use Rattle.iox_hub_laws.specs.Hubs.{HasValue, HubState, IsHub, given_by, state_of_hub}
+use Rattle.iox_hub_laws.proofs.Named.{pending_is, server_is}
 use Rattle.iox_hub_laws.specs.Receives.{TakesNext, TakesRequest}
 use Rattle.iox_hub_laws.specs.Shown.{handle_of, nothing_given, shown}
 use Rattle.iox_hub_laws.specs.Waiting.{client_in, client_of, server_of}

@@ -32,14 +32,14 @@ use Rattle.iox_tables.specs.HubStates.States.{Given}
 use Rattle.iox_tables.specs.HubStates.Tables.{HandleState, HubTables, PortState}
 use Rattle.iox_tables.specs.HubStates.Wirings.{handle_in}
 use Rattle.iox_tables.proofs.HubLoans.Asked.{awaited_are_named, connections_are_told}
-use Rattle.iox_hub.specs.Hubs.{HasValue, HubState, IsHub, given_by, state_of_hub}
-use Rattle.iox_hub.proofs.LendingNamed.{active_of_hub}
+use Rattle.iox_hub_laws.specs.Hubs.{HasValue, HubState, IsHub, given_by, state_of_hub}
+use Rattle.iox_hub_laws.proofs.LendingNamed.{active_of_hub}
 use Rattle.iox_hub_laws.specs.Arrivals.{IsSentOn}
 use Rattle.iox_hub_laws.specs.Sends.{CopiesResponse, response_of, way_of_response}
 use Rattle.iox_hub_laws.specs.Shown.{handle_of, nothing_given, shown}
 use Rattle.iox_hub_laws.specs.Waiting.{WaitedFor, WaitedForPending, client_in, client_of, server_of}
 use Rattle.iox_hub_laws.proofs.Values.{IsHandleOf, value_is_handle}
-use Rattle.iox_hub.specs.Received.{Received}
+use Rattle.iox_hub_laws.specs.Received.{Received}
 use Rattle.iceoryx2_ports.specs.Reaching.{HasRoom, SomeCanCome}
 use Rattle.iceoryx2_ports.specs.Responses.{ReachesAsker, asker_in, asker_of, is_open}
 use Rattle.iceoryx2_ports.proofs.Gathering.{Gathers, at_gathers, by_gathers, ended_gathers}

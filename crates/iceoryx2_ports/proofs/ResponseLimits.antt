@@ -17,7 +17,7 @@ use Rattle.iox_model.specs.Peers.{port_at}
 use Rattle.iox_model.specs.Settings.{Limits, is_count, shape_of}
 use Rattle.iox_model.specs.States as m
 use Rattle.iox_model.specs.WholeCalls.{IsWholeCall}
-use Rattle.iox_hub.specs.Lent.{Lent}
+use Rattle.iox_hub_laws.specs.Lent.{Lent}
 use Rattle.iox_tables.specs.HubLoans.Counts.{responses_on_loan, responses_to}
 use Rattle.iox_tables.specs.HubLoans.Lenders.{IsActive, Lender, calls_refusal, count_refusal_by, is_pool_to_be_dry, lender_of_response, loan_refusal, shape_in, size_refusal}
 use Rattle.iox_tables.specs.HubLoans.Loans.{loan_call}
@@ -29,8 +29,8 @@ use Rattle.iox_tables.proofs.HubLending.Owning.{handles_are_on_nodes}
 use Rattle.iox_tables.proofs.HubLoans.Counting.{each_count_is_the_same}
 use Rattle.iox_tables.proofs.HubStates.Fixing.{find_handle, find_port, first_key}
 use Rattle.iox_tables.proofs.HubStates.Naming.{each_handle_is_named}
-use Rattle.iox_hub.specs.Hubs.{HasValue, HubState, IsHub, given_by, state_of_hub}
-use Rattle.iox_hub.proofs.LendingNamed.{active_of_hub}
+use Rattle.iox_hub_laws.specs.Hubs.{HasValue, HubState, IsHub, given_by, state_of_hub}
+use Rattle.iox_hub_laws.proofs.LendingNamed.{active_of_hub}
 use Rattle.iox_hub_laws.specs.Loans.{AnswersOfRequest, answer_of}
 use Rattle.iox_hub_laws.specs.Shown.{nothing_given, shown}
 use Rattle.iceoryx2_ports.specs.LoanLimits.{HasAllResponses, RespondsLength, RespondsOneMore, most_responses, responses_lent, server_in}

@@ -28,8 +28,8 @@ use Rattle.iox_laws.proofs.WeaveLaws.WholeLemmas.{moved_by-fixed}
 use Rattle.iox_tables.specs.HubStates.States.{Given}
 use Rattle.iox_tables.proofs.HubStates.Naming.{each_handle_is_named}
 use Rattle.iox_tables.proofs.HubStates.Steps.{connected_is}
-use Rattle.iox_hub.specs.Hubs.{HasValue, HubState, IsHub, given_by, state_of_hub}
-use Rattle.iox_hub.specs.Keeping.{KeepsOthers}
+use Rattle.iox_hub_laws.specs.Hubs.{HasValue, HubState, IsHub, given_by, state_of_hub}
+use Rattle.iox_hub_laws.specs.Keeping.{KeepsOthers}
 use Rattle.iox_hub_laws.specs.Shown.{handle_of}
 use Rattle.iox_hub_laws.proofs.Arrivals.{EndsSo, Fits, IsBrought, IsUnawaited}
 use Rattle.iox_hub_laws.proofs.Brought.{apart, goes_to, starts_quiet, to_client, to_servers, within}

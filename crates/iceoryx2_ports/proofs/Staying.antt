@@ -29,7 +29,7 @@ use Rattle.iox_tables.specs.HubLoans.Loans.{loan_call}
 use Rattle.iox_tables.specs.HubLoans.Questions.{kind_in}
 use Rattle.iox_tables.proofs.HubStates.Fixing.{find_handle}
 use Rattle.iox_tables.proofs.HubLoans.Asked.{each_value_is_there}
-use Rattle.iox_hub.specs.Hubs.{HasValue, HubState, given_by, state_of_hub}
+use Rattle.iox_hub_laws.specs.Hubs.{HasValue, HubState, given_by, state_of_hub}
 use Rattle.iox_hub_laws.specs.Waiting.{client_in, client_of, server_of}
 use Rattle.iox_hub_laws.proofs.Values.{IsHandleOf, value_is_handle}
 use Rattle.iceoryx2_ports.specs.Keeping.{KeepsAsking, KeepsValues, spends}

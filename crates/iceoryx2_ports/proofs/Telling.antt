@@ -5,7 +5,7 @@ use Rattle.iox_model.specs.Commands.{Call, HubCommand, Reply}
 use Rattle.iox_model.specs.Makings.{IsHubCommand}
 use Rattle.iox_model.specs.WholeCalls.{IsWholeCall}
 use Rattle.iox_tables.specs.HubStates.States.{Given}
-use Rattle.iox_hub.specs.Hubs.{HubState, state_of_hub}
+use Rattle.iox_hub_laws.specs.Hubs.{HubState, state_of_hub}
 
 pub called_as : (old new : HubState) (node : ℕ) (call : Call) (a b : Reply) → a ≡ b
     → ((x : Given) → IsWholeCall (state_of_hub x old) node call a (state_of_hub x new))

@@ -3,8 +3,8 @@ use Rattle.std.specs.Prelude.{Option, Some, None, Result, Ok, Err}
 use Rattle.iox_model.specs.declared.reply.Refusal.TheVariants.{ExceedsMaxBorrows}
 use Rattle.iox_model.specs.declared.reply.Reply.TheVariants as replies
 use Rattle.iox_model.specs.Commands.{Reply}
-use Rattle.iox_hub.specs.Received.{Received}
-use Rattle.iox_hub.specs.Received.TheVariants as received
+use Rattle.iox_hub_laws.specs.Received.{Received}
+use Rattle.iox_hub_laws.specs.Received.TheVariants as received
 use Rattle.iceoryx2_ports.specs.declared.active_request.ActiveRequest.{ActiveRequest}
 use Rattle.iceoryx2_ports.specs.declared.errors.ReceiveError.{ReceiveError}
 use Rattle.iceoryx2_ports.specs.declared.response.Response.{Response}

@@ -1,7 +1,7 @@
 -- What the send of a loan brings to those who receive.
 use Rattle.std.specs.Prelude.{◌≡◌, ℕ, List}
-use Rattle.iox_hub.specs.Hubs.{HubState}
-use Rattle.iox_hub.specs.Reads.{message_in}
+use Rattle.iox_hub_laws.specs.Hubs.{HubState}
+use Rattle.iox_hub_laws.specs.Reads.{message_in}
 use Rattle.iox_hub_laws.specs.Sends.{BringsOnly}
 
 -- For whom nothing waited, what waits now carries what the node's loan of that number carried.

@@ -7,7 +7,7 @@ use Rattle.iox_model.specs.Doings.{Receiver}
 use Rattle.iox_model.specs.Maps.{has_number}
 use Rattle.iox_model.specs.Messages.{Message, names, response_way}
 use Rattle.iox_tables.specs.HubStates.Wirings.{numbers_of_role}
-use Rattle.iox_hub.specs.Hubs.{HasValue, HubState}
+use Rattle.iox_hub_laws.specs.Hubs.{HasValue, HubState}
 use Rattle.iox_hub_laws.specs.Shown.{shown}
 use Rattle.iox_hub_laws.specs.Waiting.{IsWaiting, NothingWaits, client_in, server_of}
 use Rattle.iceoryx2_ports.specs.Idling.{IsIdle, client_on}

@@ -1,6 +1,6 @@
 -- How many calls of a hub are counted.
 use Rattle.std.specs.Prelude.{◌<◌, ◌^◌}
-use Rattle.iox_hub.specs.Hubs.{HubState}
+use Rattle.iox_hub_laws.specs.Hubs.{HubState}
 
 -- One more call is counted: of the loans, sends and receives that were not refused, it counts fewer
 -- than 2^56.

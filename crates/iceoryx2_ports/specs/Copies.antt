@@ -3,9 +3,9 @@ use Rattle.std.specs.Prelude.{◌≡◌, Result, Ok, Err, ⊤}
 use Rattle.iox_model.specs.declared.reply.Refusal.TheVariants as refusals
 use Rattle.iox_model.specs.declared.reply.Reply.TheVariants as replies
 use Rattle.iox_model.specs.Commands.{Reply}
-use Rattle.iox_hub.specs.LoanRefusal.{LoanRefusal}
-use Rattle.iox_hub.specs.LoanRefusal.TheVariants as tests
-use Rattle.iox_hub.specs.Hubs.{HubState, with_control}
+use Rattle.iox_hub_laws.specs.LoanRefusal.{LoanRefusal}
+use Rattle.iox_hub_laws.specs.LoanRefusal.TheVariants as tests
+use Rattle.iox_hub_laws.specs.Hubs.{HubState, with_control}
 use Rattle.iceoryx2_ports.specs.declared.pending_response.PendingResponse.{PendingResponse}
 use Rattle.iceoryx2_ports.specs.declared.errors.LoanError.{LoanError}
 use Rattle.iceoryx2_ports.specs.declared.errors.LoanError.TheVariants as loan_errors

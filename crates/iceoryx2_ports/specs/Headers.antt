@@ -5,7 +5,7 @@ use Rattle.iox_types.specs.declared.header.RequestHeader.{RequestHeader}
 use Rattle.iox_types.specs.declared.header.ResponseHeader.{ResponseHeader}
 use Rattle.iox_types.specs.declared.identifiers.node_id.UniqueNodeIdError.{UniqueNodeIdError}
 use Rattle.iox_types.specs.declared.identifiers.node_id.UniqueNodeIdError.TheVariants.{InvalidNodeId}
-use Rattle.iox_hub.specs.declared.headers.MessageHeader.{MessageHeader}
+use Rattle.iox_hub_laws.specs.MessageHeader.{MessageHeader}
 
 -- a request as headers name it; ids of requests count modulo 2^62
 abbrev pub request_id_of : MessageHeader → ℕ

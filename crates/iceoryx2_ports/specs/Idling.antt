@@ -8,7 +8,7 @@ use Rattle.iox_model.specs.Receives.{is_at_limit}
 use Rattle.iox_tables.specs.HubStates.Receives.{way_to}
 use Rattle.iox_tables.specs.HubStates.Tables.{HandleState}
 use Rattle.iox_tables.specs.HubStates.Wirings.{handle_in}
-use Rattle.iox_hub.specs.Hubs.{HasValue, HubState}
+use Rattle.iox_hub_laws.specs.Hubs.{HasValue, HubState}
 use Rattle.iox_hub_laws.specs.Shown.{handle_of, shown}
 use Rattle.iox_hub_laws.specs.Waiting.{NothingWaits, has_its_most}
 use Rattle.iceoryx2_ports.specs.Reaching.{HasRoom}

@@ -4,8 +4,8 @@ use Rattle.iox_model.specs.declared.call.Call.TheVariants.{Release, Send, Write}
 use Rattle.iox_model.specs.Commands.{Call}
 use Rattle.iox_tables.specs.HubLoans.Questions.{kind_in}
 use Rattle.iox_model.specs.declared.kind.Kind.TheVariants.{PendingResponse}
-use Rattle.iox_hub.specs.Hubs.{HasValue, HubState}
-use Rattle.iox_hub.specs.Keeping.{IsOther}
+use Rattle.iox_hub_laws.specs.Hubs.{HasValue, HubState}
+use Rattle.iox_hub_laws.specs.Keeping.{IsOther}
 use Rattle.iox_hub_laws.specs.Waiting.{client_in}
 
 -- whether the call ends a value, or makes another of it

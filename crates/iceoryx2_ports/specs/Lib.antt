@@ -14,16 +14,16 @@ pub use Rattle.iox_store.specs.Stored
 -- of hubs
 pub use Rattle.iox_tables.specs.HubLoans.Counts
 pub use Rattle.iox_tables.specs.HubStates.States
-pub use Rattle.iox_hub.specs.Copying
-pub use Rattle.iox_hub.specs.Fillings
-pub use Rattle.iox_hub.specs.Headers as HubHeaders
-pub use Rattle.iox_hub.specs.Hubs
-pub use Rattle.iox_hub.specs.Keeping as HubKeeping
-pub use Rattle.iox_hub.specs.Lending
-pub use Rattle.iox_hub.specs.Making
-pub use Rattle.iox_hub.specs.Reads
-pub use Rattle.iox_hub.specs.Sending
-pub use Rattle.iox_hub.specs.Shapes
+pub use Rattle.iox_hub_laws.specs.Copying
+pub use Rattle.iox_hub_laws.specs.Fillings
+pub use Rattle.iox_hub_laws.specs.Headers as HubHeaders
+pub use Rattle.iox_hub_laws.specs.Hubs
+pub use Rattle.iox_hub_laws.specs.Keeping as HubKeeping
+pub use Rattle.iox_hub_laws.specs.Lending
+pub use Rattle.iox_hub_laws.specs.Making
+pub use Rattle.iox_hub_laws.specs.Reads
+pub use Rattle.iox_hub_laws.specs.Sending
+pub use Rattle.iox_hub_laws.specs.Shapes
 pub use Rattle.iox_hub_laws.specs.Receives
 pub use Rattle.iox_hub_laws.specs.Sends
 pub use Rattle.iox_hub_laws.specs.Waiting

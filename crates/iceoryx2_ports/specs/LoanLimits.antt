@@ -9,7 +9,7 @@ use Rattle.iox_model.specs.States.{Handle, Port}
 use Rattle.iox_tables.specs.HubLoans.Counts.{requests_on_loan}
 use Rattle.iox_tables.specs.HubLoans.Lenders.{size_refusal}
 use Rattle.iox_tables.specs.HubStates.Tables.{PortState, port_in}
-use Rattle.iox_hub.specs.Hubs.{HubState}
+use Rattle.iox_hub_laws.specs.Hubs.{HubState}
 use Rattle.iox_hub_laws.specs.Shown.{shown}
 use Rattle.iceoryx2_ports.specs.Calls.{HasCallsLeft}
 

@@ -3,7 +3,7 @@ use Rattle.std.specs.Prelude.{None, Result, Ok, Err}
 use Rattle.iox_model.specs.declared.reply.Refusal.TheVariants as refusals
 use Rattle.iox_model.specs.declared.reply.Reply.TheVariants as replies
 use Rattle.iox_model.specs.Commands.{Reply}
-use Rattle.iox_hub.specs.declared.options.Options.{Options}
+use Rattle.iox_hub_laws.specs.Options.{Options}
 use Rattle.iceoryx2_ports.specs.declared.client.Client.{Client}
 use Rattle.iceoryx2_ports.specs.declared.server.Server.{Server}
 use Rattle.iceoryx2_ports.specs.declared.errors.ClientCreateError.{ClientCreateError}

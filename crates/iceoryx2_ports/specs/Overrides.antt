@@ -6,9 +6,9 @@ use Rattle.iox_model.specs.declared.kind.Role.{Role}
 use Rattle.iox_model.specs.Commands.{Create, Reply}
 use Rattle.iox_model.specs.Makings.{IsHubCommand, worst_pool}
 use Rattle.iox_tables.specs.HubStates.States.{Given, limits_of}
-use Rattle.iox_hub.specs.declared.options.Options.{Options}
-use Rattle.iox_hub.specs.Hubs.{HubState, given_by, state_of_hub}
-use Rattle.iox_hub.specs.Making.{IsChosenBy, options_of}
+use Rattle.iox_hub_laws.specs.Options.{Options}
+use Rattle.iox_hub_laws.specs.Hubs.{HubState, given_by, state_of_hub}
+use Rattle.iox_hub_laws.specs.Making.{IsChosenBy, options_of}
 
 -- What a port is made with whose pool a closure chooses.
 pub record MadeWith (F : Type 0) : Type 0 where

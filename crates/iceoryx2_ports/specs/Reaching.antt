@@ -6,7 +6,7 @@ use Rattle.iox_model.specs.Messages.{Message}
 use Rattle.iox_model.specs.States.{Handle}
 use Rattle.iox_laws.specs.CallFunctions.Sends.{is_full}
 use Rattle.iox_tables.specs.HubStates.Receives.{way_to}
-use Rattle.iox_hub.specs.Hubs.{HasValue, HubState}
+use Rattle.iox_hub_laws.specs.Hubs.{HasValue, HubState}
 use Rattle.iox_hub_laws.specs.Sends.{IsRequestSent}
 use Rattle.iox_hub_laws.specs.Shown.{shown}
 use Rattle.iox_hub_laws.specs.Waiting.{CanCome, has_its_most, server_of}

@@ -5,9 +5,9 @@ use Rattle.iox_model.specs.declared.kind.Kind.{Kind}
 use Rattle.iox_model.specs.declared.reply.Reply.TheVariants.{Done}
 use Rattle.iox_model.specs.WholeCalls.{IsWholeCall}
 use Rattle.iox_tables.specs.HubStates.States.{Given}
-use Rattle.iox_hub.specs.Hubs.{HasValue, HubState, state_of_hub}
-use Rattle.iox_hub.specs.Keeping.{KeepsOthers}
-use Rattle.iox_hub.specs.Sending.{HasNothing}
+use Rattle.iox_hub_laws.specs.Hubs.{HasValue, HubState, state_of_hub}
+use Rattle.iox_hub_laws.specs.Keeping.{KeepsOthers}
+use Rattle.iox_hub_laws.specs.Sending.{HasNothing}
 use Rattle.iox_hub_laws.specs.Sends.{NothingComes}
 use Rattle.iceoryx2_ports.specs.Idling.{KeepsIdle}
 use Rattle.iceoryx2_ports.specs.Keeping.{KeepsOthersAsking}

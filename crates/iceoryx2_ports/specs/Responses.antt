@@ -8,7 +8,7 @@ use Rattle.iox_tables.specs.HubLoans.Questions.{is_named_by_client}
 use Rattle.iox_tables.specs.HubStates.Releases.{lane_of, request_of}
 use Rattle.iox_tables.specs.HubStates.Tables.{HandleState, HubTables}
 use Rattle.iox_tables.specs.HubStates.Wirings.{handle_in}
-use Rattle.iox_hub.specs.Hubs.{HasValue, HubState}
+use Rattle.iox_hub_laws.specs.Hubs.{HasValue, HubState}
 use Rattle.iox_hub_laws.specs.Waiting.{server_of}
 use Rattle.iceoryx2_ports.specs.Reaching.{HasRoom, SomeCanCome}
 

@@ -3,7 +3,7 @@ ghost use Rattle.std.specs.Prelude.{◌≡◌};
 ghost use Rattle.iceoryx2_ports.specs.Copies as spec;
 
 use crate::errors::LoanError;
-use iox_hub::LoanRefusal;
+use iox_hub_laws::LoanRefusal;
 
 /// The error by which a test refuses a loan.
 pub(crate) fn error_of_test(refusal: LoanRefusal) -> LoanError

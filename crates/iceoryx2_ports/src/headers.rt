@@ -2,7 +2,7 @@
 ghost use Rattle.std.specs.Prelude.{◌≡◌, ◌%◌, ◌^◌};
 ghost use Rattle.iceoryx2_ports.specs.Headers.{request_header_of, response_header_of};
 
-use iox_hub::MessageHeader;
+use iox_hub_laws::MessageHeader;
 use iox_types::identifiers::{UniqueClientId, UniqueNodeId, UniqueNodeIdError, UniqueServerId};
 use iox_types::{RequestHeader, RequestId, ResponseHeader};
 

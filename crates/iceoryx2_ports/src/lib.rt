@@ -36,7 +36,7 @@ pub use errors::{
     ClientCreateError, ConnectionFailure, LoanError, ReceiveError, RequestSendError, SendError,
     ServerCreateError,
 };
-pub use iox_hub::{
+pub use iox_hub_laws::{
     Hub, MessageShape, Part, PreallocatedRequestsOverride, PreallocatedResponseOverride, Settings,
 };
 pub use iox_model::kind::{Kind, Role};

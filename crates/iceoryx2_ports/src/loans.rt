@@ -5,8 +5,8 @@ ghost use Rattle.iox_model.specs.declared.kind.Role.TheVariants as roles;
 ghost use Rattle.iox_model.specs.WholeCalls.{IsWholeCall};
 ghost use Rattle.iox_tables.specs.HubLoans.Loans.{loan_call};
 ghost use Rattle.iox_tables.specs.HubStates.States.{Given};
-ghost use Rattle.iox_hub.specs.Hubs.{HasValue, state_of_hub, with_control};
-ghost use Rattle.iox_hub.specs.Lending.{IsFresh};
+ghost use Rattle.iox_hub_laws.specs.Hubs.{HasValue, state_of_hub, with_control};
+ghost use Rattle.iox_hub_laws.specs.Lending.{IsFresh};
 ghost use Rattle.iox_hub_laws.specs.Sends.{NothingComes};
 ghost use Rattle.iceoryx2_ports.specs.Asking.{AnswersAs, LendsQuietly};
 ghost use Rattle.iceoryx2_ports.specs.Keeping.{KeepsAsking, KeepsValues};
@@ -18,7 +18,7 @@ ghost use Rattle.iceoryx2_ports.specs.Reaching.{KeepsRoom};
 ghost use Rattle.iceoryx2_ports.specs.declared.errors.LoanError.TheVariants.{ExceedsMaxLoans, OutOfMemory};
 
 use crate::errors::LoanError;
-use iox_hub::{Hub, Lent, LoanRefusal};
+use iox_hub_laws::{Hub, Lent, LoanRefusal};
 use iox_store::Payload;
 use iox_words::Words;
 

@@ -1,7 +1,7 @@
 //! Pools that closures choose for the ports that factories make.
 ghost use Rattle.iceoryx2_ports.specs.Overrides.{HaveItsPool};
 
-use iox_hub::{Hub, Options, PreallocatedRequestsOverride, PreallocatedResponseOverride};
+use iox_hub_laws::{Hub, Options, PreallocatedRequestsOverride, PreallocatedResponseOverride};
 use iox_model::kind::Role;
 use iox_store::Payload;
 use iox_words::Words;

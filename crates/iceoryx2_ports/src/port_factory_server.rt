@@ -5,8 +5,8 @@ ghost use Rattle.iox_model.specs.declared.kind.Role.TheVariants as roles;
 ghost use Rattle.iox_model.specs.Commands.{Create};
 ghost use Rattle.iox_model.specs.Makings.{IsHubCommand};
 ghost use Rattle.iox_tables.specs.HubStates.States.{Given};
-ghost use Rattle.iox_hub.specs.Hubs.{HasValue, state_of_hub};
-ghost use Rattle.iox_hub.specs.Making.{LeavesMessages, StaysAs, options_of};
+ghost use Rattle.iox_hub_laws.specs.Hubs.{HasValue, state_of_hub};
+ghost use Rattle.iox_hub_laws.specs.Making.{LeavesMessages, StaysAs, options_of};
 ghost use Rattle.iox_hub_laws.specs.Sends.{NothingComes};
 ghost use Rattle.iox_hub_laws.specs.Waiting.{server_of};
 ghost use Rattle.iceoryx2_ports.specs.Keeping.{KeepsValues};
@@ -17,7 +17,7 @@ ghost use Rattle.iceoryx2_ports.specs.declared.errors.ServerCreateError.TheVaria
 
 use crate::errors::ServerCreateError;
 use crate::server::Server;
-use iox_hub::{Hub, NotMade, Options};
+use iox_hub_laws::{Hub, NotMade, Options};
 use iox_model::kind::Role;
 use iox_store::Payload;
 use iox_types::identifiers::UniqueSystemId;

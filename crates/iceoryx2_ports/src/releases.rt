@@ -1,12 +1,12 @@
 //! The release of handles and ports, by their numbers.
 ghost use Rattle.std.specs.Prelude.{◌≡◌, true};
 ghost use Rattle.iox_model.specs.Names.{is_port};
-ghost use Rattle.iox_hub.specs.Sending.{is_handle};
+ghost use Rattle.iox_hub_laws.specs.Sending.{is_handle};
 ghost use Rattle.iceoryx2_ports.specs.Idling.{GivesBack};
 ghost use Rattle.iceoryx2_ports.specs.Releases.{IsReleased};
 ghost use Rattle.iceoryx2_ports.specs.Rooms.{GivesRoomBack};
 
-use iox_hub::Hub;
+use iox_hub_laws::Hub;
 use iox_model::kind::Kind;
 use iox_store::Payload;
 use iox_words::Words;

@@ -12,17 +12,17 @@ use Rattle.iox_model.specs.Commands.{Refusal, Reply}
 use Rattle.iox_model.specs.Joins.{opening_refusal}
 use Rattle.iox_model.specs.Settings.{Limits}
 use Rattle.iox_model.specs.States.{State}
-use Rattle.iox_nodes.specs.MessageShape.{MessageShape}
+use Rattle.iox_service_laws.specs.MessageShape.{MessageShape}
 use Rattle.iox_model.specs.WholeCalls.{UnlessRefused}
 use Rattle.iox_openers.specs.Causes.{as_refusal, cause_of, with_cause}
 use Rattle.iox_openers.specs.Openers.{IsAsked, IsAskedOfCreator, opener}
 use Rattle.iox_openers.specs.declared.message_types.MessageTypes.{MessageTypes}
 use Rattle.iox_openers.specs.declared.service_description.ServiceDescription.{ServiceDescription}
-use Rattle.iox_nodes.specs.Asking.{command_for}
-use Rattle.iox_nodes.specs.Elements.{Elements}
-use Rattle.iox_nodes.specs.Served.{IsCreated, IsJoin, IsPortAnswered}
-use Rattle.iox_nodes.specs.Shown.{ServiceTables}
-use Rattle.iox_nodes.specs.Shown as nodes
+use Rattle.iox_service_laws.specs.Asking.{command_for}
+use Rattle.iox_service_laws.specs.Elements.{Elements}
+use Rattle.iox_service_laws.specs.Served.{IsCreated, IsJoin, IsPortAnswered}
+use Rattle.iox_service_laws.specs.Shown.{ServiceTables}
+use Rattle.iox_service_laws.specs.Shown as nodes
 use Rattle.iceoryx2_wire.specs.Services.{DescribedService, IsMade, IsOpened}
 use Rattle.iceoryx2_wire.specs.Serving.{IsAnswered, OpenCommand, OpenReply}
 use Rattle.iceoryx2_wire.specs.declared.identity.ServiceIdentity.{ServiceIdentity}

@@ -8,8 +8,8 @@ use Rattle.iox_model.specs.Runs.{IsRun}
 use Rattle.iox_model.specs.States.{State}
 use Rattle.iox_openers.specs.Causes.{cause_of}
 use Rattle.iox_openers.specs.declared.service_description.ServiceDescription.{ServiceDescription}
-use Rattle.iox_nodes.specs.Given.{reply_given}
-use Rattle.iox_nodes.proofs.Reaching.{run_more}
+use Rattle.iox_service_laws.specs.Given.{reply_given}
+use Rattle.iox_service_laws.proofs.Reaching.{run_more}
 use Rattle.iceoryx2_wire.specs.Serving.{Correspond, IsAnswered, IsGivenAs, IsRunOf, OpenCommand, OpenReply}
 
 append_nothing : {A : Type 0} (xs : List A) → xs ++ [] ≡ xs

@@ -5,9 +5,9 @@ use Rattle.iox_types.specs.declared.message_type_details.MessageTypeDetails.{Mes
 use Rattle.iox_types.specs.declared.type_detail.TypeVariant.{TypeVariant}
 use Rattle.iox_types.specs.declared.type_detail.TypeVariant.TheVariants.{Dynamic, FixedSize}
 use Rattle.std.specs.Prelude.{codes}
-use Rattle.iox_nodes.specs.Shapes.{message_of, words_part}
-use Rattle.iox_nodes.specs.MessageShape.{MessageShape}
-use Rattle.iox_nodes.specs.Part.{Part}
+use Rattle.iox_service_laws.specs.Shapes.{message_of, words_part}
+use Rattle.iox_service_laws.specs.MessageShape.{MessageShape}
+use Rattle.iox_service_laws.specs.Part.{Part}
 use Rattle.iox_openers.specs.declared.message_types.MessageTypes.{MessageTypes}
 use Rattle.iceoryx2_wire.specs.declared.defaults.Defaults.{Defaults}
 

@@ -17,8 +17,8 @@ use Rattle.iox_openers.specs.Causes.{cause_of}
 use Rattle.iox_openers.specs.Openers.{IsAsked, IsAskedOfCreator, opener}
 use Rattle.iox_openers.specs.declared.message_types.MessageTypes.{MessageTypes}
 use Rattle.iox_openers.specs.declared.service_description.ServiceDescription.{ServiceDescription}
-use Rattle.iox_nodes.specs.Shown.{ServiceTables}
-use Rattle.iox_nodes.specs.Shown as nodes
+use Rattle.iox_service_laws.specs.Shown.{ServiceTables}
+use Rattle.iox_service_laws.specs.Shown as nodes
 use Rattle.iceoryx2_wire.specs.declared.identity.ServiceIdentity.{ServiceIdentity}
 
 -- What a service has: which one it is, what its creator and its openers are compared with, and its

@@ -14,10 +14,10 @@ use Rattle.iox_model.specs.States.{State}
 use Rattle.iox_openers.specs.Causes.{cause_of}
 use Rattle.iox_openers.specs.Openers.{IsAsked, Opener}
 use Rattle.iox_openers.specs.declared.service_description.ServiceDescription.{ServiceDescription}
-use Rattle.iox_nodes.specs.Asking.{command_for}
-use Rattle.iox_nodes.specs.Elements.{Elements}
-use Rattle.iox_nodes.specs.Given.{reply_given}
-use Rattle.iox_nodes.specs.Memory.{IsDoneWithMemory, MayLackMemory}
+use Rattle.iox_service_laws.specs.Asking.{command_for}
+use Rattle.iox_service_laws.specs.Elements.{Elements}
+use Rattle.iox_service_laws.specs.Given.{reply_given}
+use Rattle.iox_service_laws.specs.Memory.{IsDoneWithMemory, MayLackMemory}
 
 -- a command with which an opener is lent
 abbrev pub OpenCommand : Type 0 → Type 0 → Type 0 → Type 0

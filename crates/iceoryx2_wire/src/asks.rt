@@ -1,13 +1,13 @@
 //! What a service's nodes ask of its ports.
 ghost use Rattle.std.specs.Prelude.{◌≡◌};
-ghost use Rattle.iox_nodes.specs.Served.{IsPortAnswered};
+ghost use Rattle.iox_service_laws.specs.Served.{IsPortAnswered};
 ghost use Rattle.iceoryx2_wire.specs.Services.{service_of};
 
 use crate::service::Service;
 use iox_attributes::AttributeVerificationError;
 use iox_model::command::PortCommand;
 use iox_model::reply::Reply;
-use iox_nodes::Elements;
+use iox_service_laws::Elements;
 use iox_store::Payload;
 use iox_words::Words;
 use std::alloc::Global;

@@ -1,9 +1,9 @@
 //! A service is made.
 ghost use Rattle.iox_types.specs.Details.{detail};
 ghost use Rattle.iox_types.specs.declared.type_detail.TypeVariant.TheVariants.{FixedSize};
-ghost use Rattle.iox_nodes.specs.Settings.{settings_of};
-ghost use Rattle.iox_nodes.specs.Shapes.{shape_of};
-ghost use Rattle.iox_nodes.specs.Shown.{limits_for};
+ghost use Rattle.iox_service_laws.specs.Settings.{settings_of};
+ghost use Rattle.iox_service_laws.specs.Shapes.{shape_of};
+ghost use Rattle.iox_service_laws.specs.Shown.{limits_for};
 ghost use Rattle.iceoryx2_wire.specs.OwnTypes.{message_types, variant_of};
 ghost use Rattle.iceoryx2_wire.specs.OwnTypes.{request_shape, response_shape};
 ghost use Rattle.iceoryx2_wire.specs.Services.{IsMade};
@@ -14,8 +14,8 @@ use crate::own_types::creator_refusal;
 use crate::service::Service;
 use iox_attributes::AttributeVerificationError;
 use iox_model::reply::Refusal;
-use iox_nodes::{MessageShape, Settings};
 use iox_openers::ServiceDescription;
+use iox_service_laws::{MessageShape, Settings};
 use iox_store::Payload;
 use iox_types::identifiers::UniqueSystemId;
 use iox_words::ZeroCopySend;
@@ -60,7 +60,7 @@ where
         let asked = creator_refusal::<Q, QH, P, PH>(&description.types);
         let request = MessageShape::of_requests(Some(requests.element), requests.user_header);
         let response = MessageShape::of_responses(Some(responses.element), responses.user_header);
-        match iox_nodes::Service::new(alloc, settings, id, asked, request, response) {
+        match iox_service_laws::Service::new(alloc, settings, id, asked, request, response) {
             Ok(nodes) => Ok(Service {
                 identity,
                 description,

@@ -4,7 +4,7 @@ ghost use Rattle.std.specs.Fn.{CalledAt};
 ghost use Rattle.iox_attributes.specs.Visits.{Visits};
 ghost use Rattle.iox_model.specs.declared.kind.Role.TheVariants.{Client, Server};
 ghost use Rattle.iox_model.specs.Peers.{ports_of_role};
-ghost use Rattle.iox_nodes.specs.Listings.{ids_of_role};
+ghost use Rattle.iox_service_laws.specs.Listings.{ids_of_role};
 ghost use Rattle.iceoryx2_wire.specs.Services.{service_of};
 
 use crate::service::Service;

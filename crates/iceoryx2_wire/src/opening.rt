@@ -1,7 +1,7 @@
 //! Nodes open the service, die and leave.
 ghost use Rattle.std.specs.Prelude.{◌≡◌, OnErr};
 ghost use Rattle.iox_model.specs.declared.command.Command.TheVariants.{Cleanup, DeclareDead, Leave};
-ghost use Rattle.iox_nodes.specs.Served.{IsDone};
+ghost use Rattle.iox_service_laws.specs.Served.{IsDone};
 ghost use Rattle.iceoryx2_wire.specs.Services.{IsOpened, service_of};
 
 use crate::service::Service;

@@ -20,7 +20,7 @@ use std::marker::Model;
 pub struct Service<Q: Payload, QH: Words, P: Payload, PH: Words> {
     pub(crate) identity: ServiceIdentity,
     pub(crate) description: ServiceDescription,
-    pub(crate) nodes: iox_nodes::Service<Q, QH, P, PH>,
+    pub(crate) nodes: iox_service_laws::Service<Q, QH, P, PH>,
 }
 
 impl<Q: Payload, QH: Words, P: Payload, PH: Words> Model for Service<Q, QH, P, PH> {
@@ -55,7 +55,7 @@ impl<Q: Payload, QH: Words, P: Payload, PH: Words> Service<Q, QH, P, PH> {
     /// The nodes and ports of the service, with neither name nor description. Each of its `laws`
     /// holds of them.
     #[inline]
-    pub fn nodes(&self) -> &iox_nodes::Service<Q, QH, P, PH>
+    pub fn nodes(&self) -> &iox_service_laws::Service<Q, QH, P, PH>
         ensures { result.now ≡ self.now.nodes }
     {
         &self.nodes

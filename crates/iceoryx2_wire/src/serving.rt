@@ -1,7 +1,7 @@
 //! Commands one after another, and what they are answered.
 ghost use Rattle.std.specs.Prelude.{◌≡◌, ◌+◌, ◌<◌, List, IfOk, OnErr, OnOk, true, vec_len, ℕ};
 ghost use Rattle.iox_openers.specs.Causes.{cause_of};
-ghost use Rattle.iox_nodes.specs.Given.{command_given, is_listing};
+ghost use Rattle.iox_service_laws.specs.Given.{command_given, is_listing};
 ghost use Rattle.iceoryx2_wire.specs.Services.{service_of};
 ghost use Rattle.iceoryx2_wire.specs.Serving.{IsAnswered, IsAnsweredWithMemory, IsGivenAs};
 ghost use Rattle.iceoryx2_wire.specs.Serving.{IsRunOf, MayFindNoMemory};
@@ -11,8 +11,8 @@ use crate::service::Service;
 use iox_attributes::AttributeVerificationError;
 use iox_model::command::Command;
 use iox_model::reply::{Refusal, Reply};
-use iox_nodes::Elements;
 use iox_openers::ServiceDescription;
+use iox_service_laws::Elements;
 use iox_store::Payload;
 use iox_words::Words;
 use std::alloc::{AllocError, Global};

@@ -3,7 +3,7 @@ ghost use Rattle.std.specs.Prelude.{◌≡◌, [], IfOk, OnErr, vec_len};
 ghost use Rattle.iox_words.specs.Numbers.{no_word, one_word};
 ghost use Rattle.iox_model.specs.declared.command.Command.TheVariants.{Cleanup, ListNodes};
 ghost use Rattle.iox_model.specs.Runs.{IsServed};
-ghost use Rattle.iox_nodes.specs.Served.{IsDone};
+ghost use Rattle.iox_service_laws.specs.Served.{IsDone};
 ghost use Rattle.iceoryx2_wire.specs.Services.{IsOpened, service_of};
 ghost use Rattle.iceoryx2_wire.specs.Serving.{IsAnsweredWithMemory};
 
@@ -12,8 +12,8 @@ use crate::service::Service;
 use iox_attributes::{AttributeVerificationError, AttributeVerifier};
 use iox_model::command::Command;
 use iox_model::reply::{Refusal, Reply};
-use iox_nodes::Elements;
 use iox_openers::MessageTypes;
+use iox_service_laws::Elements;
 use iox_store::{Many, One};
 use iox_types::identifiers::UniqueSystemId;
 use std::alloc::{AllocError, Global};

@@ -4,9 +4,9 @@ use Rattle.std.proofs.Common.{sym, ap, ◌∙◌, true≢false}
 use Rattle.std.proofs.lemmas.Option.{none-some}
 use Rattle.iox_handles.specs.declared.entry.Entry.{Entry}
 use Rattle.iox_handles.specs.Tables.{Contents, IsSound, changed, handle_at, handle_of, removed}
-use Rattle.iox_tables.specs.HubStates.Tables.{HandleState, PoolState}
-use Rattle.iox_tables.specs.HubStates.Ends.{changed_handles, with_changed}
-use Rattle.iox_tables.specs.HubStates.Wirings.{handle_in}
+use Rattle.iox_hub_ports.specs.HubStates.Tables.{HandleState, PoolState}
+use Rattle.iox_hub_ports.specs.HubStates.Ends.{changed_handles, with_changed}
+use Rattle.iox_hub_ports.specs.HubStates.Wirings.{handle_in}
 use Rattle.iox_hub_ports.specs.Ports.{PortsState}
 use Rattle.iox_control.specs.declared.settings.Settings.{Settings}
 use Rattle.iox_control.specs.Controls.{ControlState, control_of, with_handle_dropped, with_tables}

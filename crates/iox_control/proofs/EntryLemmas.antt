@@ -7,8 +7,8 @@ use Rattle.std.proofs.lemmas.Option.{none-some, same_Some}
 use Rattle.iox_handles.specs.declared.entry.Entry.{Entry}
 use Rattle.iox_model.specs.Maps.{has_number, AreDistinct}
 use Rattle.iox_handles.specs.Tables.{Contents, IsSound, added, changed, handle_at, handle_of, has_port, has_that, if_of, removed, with_handle}
-use Rattle.iox_tables.specs.HubStates.Wirings.{handle_in}
-use Rattle.iox_tables.specs.HubStates.Ends.{changed_handles, dropped_handles}
+use Rattle.iox_hub_ports.specs.HubStates.Wirings.{handle_in}
+use Rattle.iox_hub_ports.specs.HubStates.Ends.{changed_handles, dropped_handles}
 use Rattle.iox_control.specs.Entries.{handle_state, handles_of}
 
 -- the numbers of the handles

@@ -11,21 +11,21 @@ use Rattle.iox_model.specs.declared.way.Way.{Way}
 use Rattle.iox_model.specs.Messages.{hinted_for, response_way}
 use Rattle.iox_model.specs.WholeCalls.{IsWholeCall}
 use Rattle.iox_laws.proofs.CallFunctions.Looking.{each_hint_is_whole}
-use Rattle.iox_tables.specs.HubStates.Tables.{HandleState, HubTables, PortState, labels_of}
-use Rattle.iox_tables.specs.HubStates.States.{Given, state_shown}
-use Rattle.iox_tables.specs.HubStates.Changes.{with_states}
-use Rattle.iox_tables.specs.HubStates.Wirings.{IsPending, numbers_of_role}
-use Rattle.iox_tables.proofs.HubStates.Sending.{hints_are_given}
-use Rattle.iox_tables.specs.HubBooks.Counts.{OfAll, on_lanes, total}
-use Rattle.iox_tables.specs.HubBooks.Rooms.{CanCountHolders, HasRoomForAll, own_count, spare}
-use Rattle.iox_tables.proofs.HubBooks.Frames.{bare_port, bare_ports, states_on_bare}
-use Rattle.iox_tables.proofs.HubBooks.Little.{little_changes_keep_order}
-use Rattle.iox_tables.proofs.HubBooks.Released.{states_keep, states_total}
+use Rattle.iox_hub_ports.specs.HubStates.Tables.{HandleState, HubTables, PortState, labels_of}
+use Rattle.iox_hub_ports.specs.HubStates.States.{Given, state_shown}
+use Rattle.iox_hub_ports.specs.HubStates.Changes.{with_states}
+use Rattle.iox_hub_ports.specs.HubStates.Wirings.{IsPending, numbers_of_role}
+use Rattle.iox_hub_ports.proofs.HubStates.Sending.{hints_are_given}
+use Rattle.iox_hub_ports.specs.HubBooks.Counts.{OfAll, on_lanes, total}
+use Rattle.iox_hub_ports.specs.HubBooks.Rooms.{CanCountHolders, HasRoomForAll, own_count, spare}
+use Rattle.iox_hub_ports.proofs.HubBooks.Frames.{bare_port, bare_ports, states_on_bare}
+use Rattle.iox_hub_ports.proofs.HubBooks.Little.{little_changes_keep_order}
+use Rattle.iox_hub_ports.proofs.HubBooks.Released.{states_keep, states_total}
 use Rattle.iox_control.specs.Controls.{ControlState, IsControl, with_hint, with_tables}
 use Rattle.iox_control.specs.Entries.{handle_state}
 use Rattle.iox_control.proofs.RoomLemmas.{room_as, states_seats}
 use Rattle.iox_control.proofs.WholeLemmas.{is_whole_of}
-use Rattle.iox_tables.proofs.HubBooks.Alike.{loans_stay, own_stays}
+use Rattle.iox_hub_ports.proofs.HubBooks.Alike.{loans_stay, own_stays}
 
 -- what is told to the servers, by the handle
 pub hint_is : (c new : ControlState) (h : HandleState) (e : Entry) (l : Label) → handle_state e ≡ h → l ≡ labels_of c.tables.pools e.pool e.slot

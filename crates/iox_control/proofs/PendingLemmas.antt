@@ -4,10 +4,10 @@ use Rattle.std.specs.Option.{option_map_or}
 use Rattle.std.proofs.Common.{sym, ap, subst, ◌∙◌}
 use Rattle.std.proofs.lemmas.Option.{same_Some}
 use Rattle.iox_handles.specs.declared.entry.Entry.{Entry}
-use Rattle.iox_tables.specs.HubStates.Tables.{HandleState, HubTables, labels_of, port_in}
-use Rattle.iox_tables.specs.HubStates.Asks.{waits_for}
-use Rattle.iox_tables.specs.HubStates.Releases.{lane_of}
-use Rattle.iox_tables.specs.HubStates.Wirings.{IsHandle, IsPending, handle_in}
+use Rattle.iox_hub_ports.specs.HubStates.Tables.{HandleState, HubTables, labels_of, port_in}
+use Rattle.iox_hub_ports.specs.HubStates.Asks.{waits_for}
+use Rattle.iox_hub_ports.specs.HubStates.Releases.{lane_of}
+use Rattle.iox_hub_ports.specs.HubStates.Wirings.{IsHandle, IsPending, handle_in}
 use Rattle.iox_control.specs.Entries.{handle_state}
 
 module _ (t : HubTables) (node n : ℕ) (given : IsPending t node n) (e : Entry) (found : Some (handle_state e) ≡ handle_in t.handles node n) where

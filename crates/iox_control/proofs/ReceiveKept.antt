@@ -9,16 +9,16 @@ use Rattle.iox_lanes.specs.declared.wanted.Wanted.{Wanted}
 use Rattle.iox_model.specs.declared.kind.Role.{Role}
 use Rattle.iox_model.specs.Commands.{Call, Reply}
 use Rattle.iox_model.specs.WholeCalls.{IsWholeCall}
-use Rattle.iox_tables.specs.HubStates.Tables.{HubTables, PoolState, SlotState, labels_of, slot_at}
-use Rattle.iox_tables.specs.HubStates.States.{Given, state_shown}
-use Rattle.iox_tables.specs.HubStates.Ways.{with_port}
-use Rattle.iox_tables.specs.HubStates.Ends.{DifferInHolders, with_call}
-use Rattle.iox_tables.specs.HubStates.Receives as hub
-use Rattle.iox_tables.specs.HubStates.Receives.{got_handle, got_reply, visits_at, with_visited}
-use Rattle.iox_tables.specs.HubBooks.Hubs.{AreInOrder}
-use Rattle.iox_tables.specs.HubKeeping.Connected.{KeepsNone}
-use Rattle.iox_tables.specs.HubBooks.Rooms.{CanCountHolders, HasRoomForAll}
-use Rattle.iox_tables.specs.HubBooks.Keeps.{HasMoreHolders, bare_pool, bare_pools, bare_slot, got_once}
+use Rattle.iox_hub_ports.specs.HubStates.Tables.{HubTables, PoolState, SlotState, labels_of, slot_at}
+use Rattle.iox_hub_ports.specs.HubStates.States.{Given, state_shown}
+use Rattle.iox_hub_ports.specs.HubStates.Ways.{with_port}
+use Rattle.iox_hub_ports.specs.HubStates.Ends.{DifferInHolders, with_call}
+use Rattle.iox_hub_ports.specs.HubStates.Receives as hub
+use Rattle.iox_hub_ports.specs.HubStates.Receives.{got_handle, got_reply, visits_at, with_visited}
+use Rattle.iox_hub_ports.specs.HubBooks.Hubs.{AreInOrder}
+use Rattle.iox_hub_ports.specs.HubKeeping.Connected.{KeepsNone}
+use Rattle.iox_hub_ports.specs.HubBooks.Rooms.{CanCountHolders, HasRoomForAll}
+use Rattle.iox_hub_ports.specs.HubBooks.Keeps.{HasMoreHolders, bare_pool, bare_pools, bare_slot, got_once}
 use Rattle.iox_slots.specs.Pools.{with_slot}
 use Rattle.iox_slots.specs.Slots.{held, with_slot_of}
 use Rattle.iox_slots.proofs.CallerLemmas.{hold_differs_in_holders, holders_held, taken_is_there}

@@ -8,16 +8,16 @@ use Rattle.iox_lanes.specs.Searches.{first_wanted, searched, visited, with_found
 use Rattle.iox_model.specs.declared.kind.Role.{Role}
 use Rattle.iox_model.specs.declared.kind.Role.TheVariants.{Client, Server}
 use Rattle.iox_model.specs.Handles.{is_own}
-use Rattle.iox_tables.specs.HubStates.Tables.{HandleState, HubTables, PortState, labels_of, slot_at}
-use Rattle.iox_tables.specs.HubStates.Ways.{with_port}
-use Rattle.iox_tables.specs.HubStates.Receives.{got_handle, visited_port, visits_at}
-use Rattle.iox_tables.specs.HubBooks.Counts.{OfAll, OfAllLanes, how_many, on_lanes, total}
-use Rattle.iox_tables.specs.HubBooks.Hubs.{AreInOrder}
-use Rattle.iox_tables.specs.HubBooks.Rooms.{CanCountHolders, HasRoomForAll, own_count, spare}
-use Rattle.iox_tables.proofs.HubBooks.Bounds.{all_lanes_from, holders_can_be_counted}
-use Rattle.iox_tables.proofs.HubBooks.Eachs.{all_from, all_with_first}
-use Rattle.iox_tables.proofs.HubBooks.LaneLists.{visits_keep, visits_same}
-use Rattle.iox_tables.proofs.HubBooks.Totals.{total-last, total_same}
+use Rattle.iox_hub_ports.specs.HubStates.Tables.{HandleState, HubTables, PortState, labels_of, slot_at}
+use Rattle.iox_hub_ports.specs.HubStates.Ways.{with_port}
+use Rattle.iox_hub_ports.specs.HubStates.Receives.{got_handle, visited_port, visits_at}
+use Rattle.iox_hub_ports.specs.HubBooks.Counts.{OfAll, OfAllLanes, how_many, on_lanes, total}
+use Rattle.iox_hub_ports.specs.HubBooks.Hubs.{AreInOrder}
+use Rattle.iox_hub_ports.specs.HubBooks.Rooms.{CanCountHolders, HasRoomForAll, own_count, spare}
+use Rattle.iox_hub_ports.proofs.HubBooks.Bounds.{all_lanes_from, holders_can_be_counted}
+use Rattle.iox_hub_ports.proofs.HubBooks.Eachs.{all_from, all_with_first}
+use Rattle.iox_hub_ports.proofs.HubBooks.LaneLists.{visits_keep, visits_same}
+use Rattle.iox_hub_ports.proofs.HubBooks.Totals.{total-last, total_same}
 use Rattle.iox_control.specs.Controls.{AreCounted}
 use Rattle.iox_control.proofs.VisitCounts.{got_one, visited_had, visited_spare}
 

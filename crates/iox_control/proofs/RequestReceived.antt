@@ -7,10 +7,10 @@ use Rattle.iox_lanes.specs.declared.wanted.Wanted.{Wanted}
 use Rattle.iox_model.specs.declared.call.Call.TheVariants.{Receive}
 use Rattle.iox_model.specs.declared.kind.Role.TheVariants.{Server}
 use Rattle.iox_model.specs.declared.reply.Reply.TheVariants as replies
-use Rattle.iox_tables.specs.HubStates.Wirings.{IsServer}
-use Rattle.iox_tables.specs.HubStates.Ends.{with_call}
-use Rattle.iox_tables.specs.HubStates.Receives.{got_reply, request_reply, visits_at, wanted_by_server, with_request, with_visited}
-use Rattle.iox_tables.proofs.HubBooks.Received.{requests_keep_order}
+use Rattle.iox_hub_ports.specs.HubStates.Wirings.{IsServer}
+use Rattle.iox_hub_ports.specs.HubStates.Ends.{with_call}
+use Rattle.iox_hub_ports.specs.HubStates.Receives.{got_reply, request_reply, visits_at, wanted_by_server, with_request, with_visited}
+use Rattle.iox_hub_ports.proofs.HubBooks.Received.{requests_keep_order}
 use Rattle.iox_control.specs.Controls.{ControlState, IsControl, with_got, with_tables}
 use Rattle.iox_control.proofs.WholeLemmas.{request_received}
 use Rattle.iox_control.proofs.ReceiveKept.{IsReceived, IsWhole, KeepsOrder, got_is_received, limit_is_received, nothing_is_received}

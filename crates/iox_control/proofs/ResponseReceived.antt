@@ -10,11 +10,11 @@ use Rattle.iox_lanes.specs.declared.wanted.Wanted.TheVariants.{Of}
 use Rattle.iox_model.specs.declared.call.Call.TheVariants.{Receive}
 use Rattle.iox_model.specs.declared.kind.Role.TheVariants.{Client}
 use Rattle.iox_model.specs.declared.reply.Reply.TheVariants as replies
-use Rattle.iox_tables.specs.HubStates.Tables.{labels_of}
-use Rattle.iox_tables.specs.HubStates.Wirings.{IsPending, handle_in}
-use Rattle.iox_tables.specs.HubStates.Ends.{with_call}
-use Rattle.iox_tables.specs.HubStates.Receives.{got_reply, response_reply, visits_at, with_response, with_visited}
-use Rattle.iox_tables.proofs.HubBooks.Received.{responses_keep_order}
+use Rattle.iox_hub_ports.specs.HubStates.Tables.{labels_of}
+use Rattle.iox_hub_ports.specs.HubStates.Wirings.{IsPending, handle_in}
+use Rattle.iox_hub_ports.specs.HubStates.Ends.{with_call}
+use Rattle.iox_hub_ports.specs.HubStates.Receives.{got_reply, response_reply, visits_at, with_response, with_visited}
+use Rattle.iox_hub_ports.proofs.HubBooks.Received.{responses_keep_order}
 use Rattle.iox_control.specs.Controls.{ControlState, IsControl, with_got, with_tables}
 use Rattle.iox_control.specs.Entries.{handle_state}
 use Rattle.iox_control.proofs.PendingLemmas.{pending_of}

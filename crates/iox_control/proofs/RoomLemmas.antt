@@ -14,12 +14,12 @@ use Rattle.iox_model.specs.declared.way.RequestState.{RequestState}
 use Rattle.iox_model.specs.declared.way.Way.{Way}
 use Rattle.iox_model.specs.Maps.{has_number}
 use Rattle.iox_model.specs.Settings.{other_role, same_role}
-use Rattle.iox_tables.specs.HubStates.Tables.{HubTables, PortState, first_by, port_in, senders_of}
-use Rattle.iox_tables.specs.HubStates.Ways.{with_lane_on, with_lanes_on, with_pipe_from, with_pipe_of, with_pipes, with_port, with_state_on, with_states_on}
-use Rattle.iox_tables.specs.HubStates.Receives.{has_got, visited_port}
-use Rattle.iox_tables.specs.HubStates.Wirings.{numbers_of_role}
-use Rattle.iox_tables.proofs.HubStates.Keys.{same_mapped}
-use Rattle.iox_tables.specs.HubMaking.OneByOne.{HaveRoom, most_of}
+use Rattle.iox_hub_ports.specs.HubStates.Tables.{HubTables, PortState, first_by, port_in, senders_of}
+use Rattle.iox_hub_ports.specs.HubStates.Ways.{with_lane_on, with_lanes_on, with_pipe_from, with_pipe_of, with_pipes, with_port, with_state_on, with_states_on}
+use Rattle.iox_hub_ports.specs.HubStates.Receives.{has_got, visited_port}
+use Rattle.iox_hub_ports.specs.HubStates.Wirings.{numbers_of_role}
+use Rattle.iox_hub_ports.proofs.HubStates.Keys.{same_mapped}
+use Rattle.iox_hub_ports.specs.HubMaking.OneByOne.{HaveRoom, most_of}
 
 -- all that room asks of a port
 pub record Seat : Type 0 where

@@ -4,12 +4,12 @@ use Rattle.std.proofs.Common.{arith}
 use Rattle.std.proofs.lemmas.Option.{none-some}
 use Rattle.iox_model.specs.Runs.{at_rest, raised, untouched}
 use Rattle.iox_model.specs.Settings.{Limits}
-use Rattle.iox_tables.specs.HubStates.Tables.{HubSettings}
-use Rattle.iox_tables.specs.HubStates.States.{Given, limits_of, state_shown}
-use Rattle.iox_tables.specs.HubMaking.Starts.{no_ports}
-use Rattle.iox_tables.proofs.HubMaking.Starting.{each_start_is_shown}
-use Rattle.iox_tables.proofs.HubKeeping.Starting.{starts_are_in_order}
-use Rattle.iox_tables.specs.HubKeeping.Connected.{KeepsNone}
+use Rattle.iox_hub_ports.specs.HubStates.Tables.{HubSettings}
+use Rattle.iox_hub_ports.specs.HubStates.States.{Given, limits_of, state_shown}
+use Rattle.iox_hub_ports.specs.HubMaking.Starts.{no_ports}
+use Rattle.iox_hub_ports.proofs.HubMaking.Starting.{each_start_is_shown}
+use Rattle.iox_hub_ports.proofs.HubKeeping.Starting.{starts_are_in_order}
+use Rattle.iox_hub_ports.specs.HubKeeping.Connected.{KeepsNone}
 use Rattle.iox_control.specs.Controls.{HaveBuffers, IsControl, new_control}
 
 pub new_is_control : (settings : HubSettings) → KeepsNone settings → HaveBuffers settings → IsControl (new_control settings)

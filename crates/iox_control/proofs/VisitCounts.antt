@@ -12,15 +12,15 @@ use Rattle.iox_lanes.specs.Lanes.{LaneState, is_at_limit}
 use Rattle.iox_lanes.specs.Pipes.{PipeState}
 use Rattle.iox_lanes.specs.Searches.{LabelsByPlace, found, first_wanted, lane_visit, searched, seen, visited, visit_on, visited_on, wanted_on, with_found}
 use Rattle.iox_lanes.specs.Visited.{after_visit, all_visited, all_visits, is_got, pipe_visit, pipe_visited, pool_on, visits_from}
-use Rattle.iox_tables.specs.HubStates.Tables.{PortState, pipes_of, pipes_to, port_in}
-use Rattle.iox_tables.specs.HubStates.Ways.{with_port}
-use Rattle.iox_tables.specs.HubStates.Receives.{visited_port}
-use Rattle.iox_tables.specs.HubStates.Steps.{places_on}
-use Rattle.iox_tables.proofs.HubStates.Borrows.{both_left}
-use Rattle.iox_tables.specs.HubBooks.Counts.{how_often, in_pipe, in_port, lane_count, lane_uses, on_lanes, total}
-use Rattle.iox_tables.specs.HubBooks.Rooms.{spare}
-use Rattle.iox_tables.proofs.HubBooks.Places.{get_below, first_below}
-use Rattle.iox_tables.proofs.HubBooks.Totals.{total-append, total_first, total_set, first_none}
+use Rattle.iox_hub_ports.specs.HubStates.Tables.{PortState, pipes_of, pipes_to, port_in}
+use Rattle.iox_hub_ports.specs.HubStates.Ways.{with_port}
+use Rattle.iox_hub_ports.specs.HubStates.Receives.{visited_port}
+use Rattle.iox_hub_ports.specs.HubStates.Steps.{places_on}
+use Rattle.iox_hub_ports.proofs.HubStates.Borrows.{both_left}
+use Rattle.iox_hub_ports.specs.HubBooks.Counts.{how_often, in_pipe, in_port, lane_count, lane_uses, on_lanes, total}
+use Rattle.iox_hub_ports.specs.HubBooks.Rooms.{spare}
+use Rattle.iox_hub_ports.proofs.HubBooks.Places.{get_below, first_below}
+use Rattle.iox_hub_ports.proofs.HubBooks.Totals.{total-append, total_first, total_set, first_none}
 
 -- 1 where a message was got
 abbrev pub one_got : LaneVisit → ℕ

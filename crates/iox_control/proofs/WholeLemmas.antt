@@ -5,20 +5,20 @@ use Rattle.iox_model.specs.declared.call.Call.TheVariants.{HasRequests, HasRespo
 use Rattle.iox_model.specs.declared.reply.Reply.TheVariants.{Answer}
 use Rattle.std.specs.Option.{option_map_or}
 use Rattle.iox_laws.proofs.CallFunctions.Looking.{each_seek_is_whole}
-use Rattle.iox_tables.specs.HubStates.Asks.{waits_for}
-use Rattle.iox_tables.specs.HubStates.Releases.{lane_of}
-use Rattle.iox_tables.proofs.HubStates.Asking.{pendings_are_told, servers_are_told}
+use Rattle.iox_hub_ports.specs.HubStates.Asks.{waits_for}
+use Rattle.iox_hub_ports.specs.HubStates.Releases.{lane_of}
+use Rattle.iox_hub_ports.proofs.HubStates.Asking.{pendings_are_told, servers_are_told}
 use Rattle.iox_model.specs.Commands.{Call, Reply}
 use Rattle.iox_model.specs.WholeCalls.{IsWholeCall}
 use Rattle.iox_model.specs.States as m
 use Rattle.iox_laws.proofs.CallFunctions.Received.{each_receive_is_whole}
-use Rattle.iox_tables.specs.HubStates.Tables.{HubTables, PoolState, port_in}
-use Rattle.iox_tables.specs.HubStates.States.{Given, state_shown}
-use Rattle.iox_tables.specs.HubStates.Wirings.{HaveLimits, IsPending, IsServer, IsWired}
-use Rattle.iox_tables.specs.HubStates.Receives.{request_reply, response_reply, with_request, with_response}
-use Rattle.iox_tables.specs.HubStates.Ends.{DifferInHolders}
-use Rattle.iox_tables.proofs.HubStates.Serving.{responses_are_received, servers_receive}
-use Rattle.iox_tables.proofs.HubStates.Holding.{holders_are_not_shown}
+use Rattle.iox_hub_ports.specs.HubStates.Tables.{HubTables, PoolState, port_in}
+use Rattle.iox_hub_ports.specs.HubStates.States.{Given, state_shown}
+use Rattle.iox_hub_ports.specs.HubStates.Wirings.{HaveLimits, IsPending, IsServer, IsWired}
+use Rattle.iox_hub_ports.specs.HubStates.Receives.{request_reply, response_reply, with_request, with_response}
+use Rattle.iox_hub_ports.specs.HubStates.Ends.{DifferInHolders}
+use Rattle.iox_hub_ports.proofs.HubStates.Serving.{responses_are_received, servers_receive}
+use Rattle.iox_hub_ports.proofs.HubStates.Holding.{holders_are_not_shown}
 use Rattle.iox_model.specs.Handles.{Subject, TheHandle, ThePort}
 
 -- a whole call, by what its function answers and leaves

@@ -2,22 +2,22 @@
 use Rattle.std.specs.Prelude.{◌≡◌, ℕ, ◌≤◌, ◌+◌, ◌-◌, ◌^◌, List, [], ◌∷◌, ◌++◌, Option}
 use Rattle.iox_handles.specs.Tables.{Contents}
 use Rattle.iox_hub_ports.specs.Ports.{PortsState, without_port}
-use Rattle.iox_tables.specs.HubStates.Tables.{HandleState, HubSettings, HubTables, PoolState, PortState}
-use Rattle.iox_tables.specs.HubMaking.Starts.{no_ports}
+use Rattle.iox_hub_ports.specs.HubStates.Tables.{HandleState, HubSettings, HubTables, PoolState, PortState}
+use Rattle.iox_hub_ports.specs.HubMaking.Starts.{no_ports}
 use Rattle.iox_model.specs.declared.kind.Role.{Role}
-use Rattle.iox_tables.specs.HubStates.Ends.{with_added, with_call, with_dropped, DifferInHolders}
-use Rattle.iox_tables.specs.HubStates.Changes.{with_states}
-use Rattle.iox_tables.specs.HubStates.Receives.{got_handle}
-use Rattle.iox_tables.specs.HubStates.Releases.{pending_states, request_of}
+use Rattle.iox_hub_ports.specs.HubStates.Ends.{with_added, with_call, with_dropped, DifferInHolders}
+use Rattle.iox_hub_ports.specs.HubStates.Changes.{with_states}
+use Rattle.iox_hub_ports.specs.HubStates.Receives.{got_handle}
+use Rattle.iox_hub_ports.specs.HubStates.Releases.{pending_states, request_of}
 use Rattle.iox_model.specs.Messages.{hinted_for}
 use Rattle.iox_slots.specs.Pools.{with_slot}
 use Rattle.iox_slots.specs.Slots.{held}
-use Rattle.iox_tables.specs.HubMaking.OneByOne.{HaveRoom}
-use Rattle.iox_tables.specs.HubKeeping.Connected.{KeepsNone}
-use Rattle.iox_tables.specs.HubBooks.Counts.{OfAll, OfAllLanes}
-use Rattle.iox_tables.specs.HubBooks.Hubs.{AreInOrder}
-use Rattle.iox_tables.specs.HubBooks.Keeps.{bare_pools}
-use Rattle.iox_tables.specs.HubBooks.Rooms.{CanCountHolders, HasRoomForAll}
+use Rattle.iox_hub_ports.specs.HubMaking.OneByOne.{HaveRoom}
+use Rattle.iox_hub_ports.specs.HubKeeping.Connected.{KeepsNone}
+use Rattle.iox_hub_ports.specs.HubBooks.Counts.{OfAll, OfAllLanes}
+use Rattle.iox_hub_ports.specs.HubBooks.Hubs.{AreInOrder}
+use Rattle.iox_hub_ports.specs.HubBooks.Keeps.{bare_pools}
+use Rattle.iox_hub_ports.specs.HubBooks.Rooms.{CanCountHolders, HasRoomForAll}
 use Rattle.iox_control.specs.declared.settings.Settings.{Settings}
 use Rattle.iox_control.specs.Settings.{settings_of}
 use Rattle.iox_control.specs.Entries.{handles_of}

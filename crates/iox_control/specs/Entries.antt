@@ -2,7 +2,7 @@
 use Rattle.std.specs.Prelude.{List, map}
 use Rattle.iox_handles.specs.declared.entry.Entry.{Entry}
 use Rattle.iox_handles.specs.Tables.{Contents}
-use Rattle.iox_tables.specs.HubStates.Tables.{HandleState}
+use Rattle.iox_hub_ports.specs.HubStates.Tables.{HandleState}
 
 -- a handle as the table keeps it
 abbrev pub handle_state : Entry → HandleState

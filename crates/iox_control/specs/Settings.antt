@@ -1,6 +1,6 @@
 -- The settings of a hub, as its tables have them.
 use Rattle.iox_control.specs.declared.settings.Settings.{Settings}
-use Rattle.iox_tables.specs.HubStates.Tables.{HubSettings}
+use Rattle.iox_hub_ports.specs.HubStates.Tables.{HubSettings}
 
 -- the same numbers and strategies
 abbrev pub settings_of : Settings → HubSettings

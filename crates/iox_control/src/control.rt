@@ -1,19 +1,19 @@
 //! The tables of a hub.
 ghost use Rattle.std.specs.Prelude.{◌≡◌, ◌+◌, ◌-◌, ◌<◌, ◌^◌, IfOk, false, map};
 ghost use Rattle.iox_control.specs.Settings.{settings_of};
-ghost use Rattle.iox_tables.specs.HubStates.States.{Given, limits_of, state_shown};
+ghost use Rattle.iox_hub_ports.specs.HubStates.States.{Given, limits_of, state_shown};
 ghost use Rattle.iox_model.specs.Runs.{at_rest, raised, untouched};
 ghost use Rattle.iox_model.specs.Settings.{Limits};
-ghost use Rattle.iox_tables.specs.HubKeeping.Connected.{KeepsNone};
-ghost use Rattle.iox_tables.specs.HubStates.Ends.{with_call};
-ghost use Rattle.iox_tables.specs.HubStates.Receives.{got_handle, visits_at, wanted_by_server, with_visited};
-ghost use Rattle.iox_tables.specs.HubStates.Tables.{labels_of, port_in, slot_at};
-ghost use Rattle.iox_tables.specs.HubStates.Asks.{waits_for};
-ghost use Rattle.iox_tables.specs.HubStates.Changes.{with_states};
-ghost use Rattle.iox_tables.specs.HubStates.Wirings.{numbers_of_role};
+ghost use Rattle.iox_hub_ports.specs.HubKeeping.Connected.{KeepsNone};
+ghost use Rattle.iox_hub_ports.specs.HubStates.Ends.{with_call};
+ghost use Rattle.iox_hub_ports.specs.HubStates.Receives.{got_handle, visits_at, wanted_by_server, with_visited};
+ghost use Rattle.iox_hub_ports.specs.HubStates.Tables.{labels_of, port_in, slot_at};
+ghost use Rattle.iox_hub_ports.specs.HubStates.Asks.{waits_for};
+ghost use Rattle.iox_hub_ports.specs.HubStates.Changes.{with_states};
+ghost use Rattle.iox_hub_ports.specs.HubStates.Wirings.{numbers_of_role};
 ghost use Rattle.iox_model.specs.Messages.{hinted_for, response_way};
 ghost use Rattle.iox_model.specs.declared.kind.Role.TheVariants.{Server};
-ghost use Rattle.iox_tables.specs.HubStates.Wirings.{handle_in};
+ghost use Rattle.iox_hub_ports.specs.HubStates.Wirings.{handle_in};
 ghost use Rattle.std.specs.Option.{option_map, option_map_or};
 ghost use Rattle.iox_slots.specs.Pools.{with_slot};
 ghost use Rattle.iox_slots.specs.Slots.{held};

@@ -5,11 +5,11 @@ ghost use Rattle.iox_model.specs.declared.kind.Role.TheVariants.{Server};
 ghost use Rattle.iox_model.specs.declared.way.RequestState.TheVariants.{Named};
 ghost use Rattle.iox_model.specs.Messages.{closed_for, response_way};
 ghost use Rattle.iox_lanes.specs.Lanes.{has_room, is_taken, offered, released, without_returned};
-ghost use Rattle.iox_tables.specs.HubStates.Changes.{with_lanes, with_states};
-ghost use Rattle.iox_tables.specs.HubStates.Ends.{with_loan};
-ghost use Rattle.iox_tables.specs.HubStates.Releases.{with_value_released};
-ghost use Rattle.iox_tables.specs.HubStates.Tables.{pipes_to, port_in};
-ghost use Rattle.iox_tables.specs.HubStates.Wirings.{numbers_of_role};
+ghost use Rattle.iox_hub_ports.specs.HubStates.Changes.{with_lanes, with_states};
+ghost use Rattle.iox_hub_ports.specs.HubStates.Ends.{with_loan};
+ghost use Rattle.iox_hub_ports.specs.HubStates.Releases.{with_value_released};
+ghost use Rattle.iox_hub_ports.specs.HubStates.Tables.{pipes_to, port_in};
+ghost use Rattle.iox_hub_ports.specs.HubStates.Wirings.{numbers_of_role};
 ghost use Rattle.iox_hub_ports.specs.Ports.{lane_to_get_at, lane_to_get_on, on_way, on_way_at, pushed, pushed_out, with_lane_at};
 ghost use Rattle.iox_control.specs.Controls.{with_ports, with_tables};
 

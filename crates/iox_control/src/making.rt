@@ -3,8 +3,8 @@ ghost use Rattle.std.specs.Prelude.{◌≡◌, ◌<◌, ◌+◌, ◌^◌, IfOk, 
 ghost use Rattle.std.specs.Option.{option_map_or};
 ghost use Rattle.iox_model.specs.Maps.{has_number};
 ghost use Rattle.iox_lanes.specs.Incomings.{has_room_for};
-ghost use Rattle.iox_tables.specs.HubStates.Tables.{numbers_of, pipe_from, port_in};
-ghost use Rattle.iox_tables.specs.HubStates.Ways.{with_port};
+ghost use Rattle.iox_hub_ports.specs.HubStates.Tables.{numbers_of, pipe_from, port_in};
+ghost use Rattle.iox_hub_ports.specs.HubStates.Ways.{with_port};
 ghost use Rattle.iox_hub_ports.specs.Ports.{with_connected, without_pipe_from, without_port};
 ghost use Rattle.iox_slots.specs.Pools.{place_for_one, with_one_more, without_pool};
 ghost use Rattle.iox_slots.specs.Slots.{new_pool};

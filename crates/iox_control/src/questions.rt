@@ -1,11 +1,11 @@
 //! Questions and hints.
 ghost use Rattle.std.specs.Prelude.{◌≡◌, Some, false};
 ghost use Rattle.std.specs.Option.{option_map_or};
-ghost use Rattle.iox_tables.specs.HubStates.Asks.{waits_for};
-ghost use Rattle.iox_tables.specs.HubStates.Releases.{lane_of};
-ghost use Rattle.iox_tables.specs.HubStates.Tables.{HandleState, port_in};
-ghost use Rattle.iox_tables.specs.HubStates.States.{Given, state_shown};
-ghost use Rattle.iox_tables.specs.HubStates.Wirings.{IsPending, IsServer, handle_in};
+ghost use Rattle.iox_hub_ports.specs.HubStates.Asks.{waits_for};
+ghost use Rattle.iox_hub_ports.specs.HubStates.Releases.{lane_of};
+ghost use Rattle.iox_hub_ports.specs.HubStates.Tables.{HandleState, port_in};
+ghost use Rattle.iox_hub_ports.specs.HubStates.States.{Given, state_shown};
+ghost use Rattle.iox_hub_ports.specs.HubStates.Wirings.{IsPending, IsServer, handle_in};
 ghost use Rattle.iox_model.specs.WholeCalls.{IsWholeCall};
 ghost use Rattle.iox_model.specs.declared.call.Call.TheVariants.{HasRequests, HasResponse, SetHint};
 ghost use Rattle.iox_model.specs.declared.reply.Reply.TheVariants.{Answer, Done};

@@ -1,9 +1,9 @@
 //! The receives of servers and of pending responses.
 ghost use Rattle.std.specs.Prelude.{◌≡◌, ◌<◌, ◌^◌, Some};
-ghost use Rattle.iox_tables.specs.HubStates.Tables.{HandleState};
-ghost use Rattle.iox_tables.specs.HubStates.Receives.{request_reply, response_reply, with_request, with_response};
-ghost use Rattle.iox_tables.specs.HubStates.States.{Given, state_shown};
-ghost use Rattle.iox_tables.specs.HubStates.Wirings.{IsPending, IsServer, handle_in};
+ghost use Rattle.iox_hub_ports.specs.HubStates.Tables.{HandleState};
+ghost use Rattle.iox_hub_ports.specs.HubStates.Receives.{request_reply, response_reply, with_request, with_response};
+ghost use Rattle.iox_hub_ports.specs.HubStates.States.{Given, state_shown};
+ghost use Rattle.iox_hub_ports.specs.HubStates.Wirings.{IsPending, IsServer, handle_in};
 ghost use Rattle.iox_model.specs.WholeCalls.{IsWholeCall};
 ghost use Rattle.iox_model.specs.declared.call.Call.TheVariants.{Receive};
 ghost use Rattle.iox_control.specs.Controls.{IsButHolders, IsControl};

@@ -1,6 +1,6 @@
 //! Callers of a hub's tables, proved from the clauses alone.
 ghost use Rattle.std.specs.Prelude.{◌≡◌, IfOk, None, true};
-ghost use Rattle.iox_tables.specs.HubStates.Wirings.{IsPending, IsServer};
+ghost use Rattle.iox_hub_ports.specs.HubStates.Wirings.{IsPending, IsServer};
 ghost use Rattle.iox_control.specs.Controls.{IsControl};
 
 use crate::{Control, Settings};

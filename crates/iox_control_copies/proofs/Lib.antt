@@ -10,3 +10,8 @@ pub mod Machine
 pub mod Whole
 -- of the send of a response, what crates above may cite
 pub use Rattle.iox_control_responses.proofs.Strategies
+pub use Rattle.iox_control_lending.proofs.LaneLemmas
+pub use Rattle.iox_control_lending.proofs.LendLemmas
+pub use Rattle.iox_control_lending.proofs.PortLemmas
+pub use Rattle.iox_control_lending.proofs.SlotLemmas
+pub use Rattle.iox_control_lending.proofs.MadeLemmas

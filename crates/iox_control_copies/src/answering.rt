@@ -17,7 +17,7 @@ use crate::losing::lose;
 use crate::shutting::is_shut;
 use iox_control::Control;
 use iox_control_lending::{Asked, Lending, loan_refusal};
-use iox_control_retrieving::retrieve_all;
+use iox_control_responses::retrieve_all;
 use iox_model::way::Way;
 
 /// Copies for that lender, where some slot of its pool is free: it is told whether its client waits

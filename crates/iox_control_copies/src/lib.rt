@@ -11,4 +11,8 @@ pub mod uses;
 
 pub use answered::Answered;
 pub use copying::copy_response;
+pub use iox_control_lending::{
+    Asked, Lending, Lent, LoanRefusal, Place, Written, fill, lend_request, lend_response,
+    loan_refusal, write,
+};
 pub use iox_control_responses::{Responded, fails_when_full, send_response};

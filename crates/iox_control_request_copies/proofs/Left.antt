@@ -10,8 +10,8 @@ use Rattle.iox_tables.proofs.HubLending.Owning.{number_is}
 use Rattle.iox_tables.specs.HubLoans.Counts.{has_all_active}
 use Rattle.iox_tables.specs.HubLoans.Lenders.{count_refusal_by, lender_of_request, shape_in, size_refusal}
 use Rattle.iox_control.specs.Controls.{ControlState, IsControl}
-use Rattle.iox_control_lending.specs.declared.asked.Asked.{Asked}
-use Rattle.iox_control_lending.specs.Lends.{IsAskedOf, IsRefused}
+use Rattle.iox_control_copies.specs.Asked.{Asked}
+use Rattle.iox_control_copies.specs.Lends.{IsAskedOf, IsRefused}
 use Rattle.iox_control_request_copies.specs.declared.copied.Copied.{Copied}
 use Rattle.iox_control_request_copies.specs.declared.copied.Copied.TheVariants.{To, Refused, OutOfMemory, ExceedsMaxActiveRequests, UnableToDeliver}
 use Rattle.iox_control_request_copies.specs.Copies.{Copies, Loses, Sends, WaitsThen, fails_for, to_fill}

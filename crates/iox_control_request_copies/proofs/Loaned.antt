@@ -26,10 +26,10 @@ use Rattle.iox_tables.specs.HubLoans.Lenders.{IsClient, Lender, lender_of_reques
 use Rattle.iox_tables.specs.HubLoans.Loans.{loaned_handle, with_loaned}
 use Rattle.iox_tables.specs.HubMaking.Worked.{at_first}
 use Rattle.iox_control.specs.Controls.{ControlState, IsControl, with_tables}
-use Rattle.iox_control_lending.specs.declared.asked.Asked.{Asked}
-use Rattle.iox_control_lending.specs.declared.asked.Loaned.{Loaned}
-use Rattle.iox_control_lending.specs.Lends.{IsLoaned, on_lane}
-use Rattle.iox_control_lending.proofs.LaneLemmas.{lane_within}
+use Rattle.iox_control_copies.specs.Asked.{Asked}
+use Rattle.iox_control_copies.specs.Loaned.{Loaned}
+use Rattle.iox_control_copies.specs.Lends.{IsLoaned, on_lane}
+use Rattle.iox_control_copies.proofs.LaneLemmas.{lane_within}
 use Rattle.iox_control_requests.specs.Requests.{ways_of, with_request_sent}
 use Rattle.iox_control_requests.specs.Servers.{request_ways}
 use Rattle.iox_control_requests.proofs.Emptied.{each_after, each_waits, same_ways_then}

@@ -13,11 +13,11 @@ use Rattle.iox_hub_ports.specs.declared.info.PortInfo.{PortInfo}
 use Rattle.iox_hub_ports.specs.Ports.{info_in, info_of}
 use Rattle.iox_slots.specs.Pools.{free_count}
 use Rattle.iox_control.specs.Controls.{ControlState, IsControl, with_tables}
-use Rattle.iox_control_lending.specs.declared.asked.Asked.{Asked}
-use Rattle.iox_control_lending.specs.Lends.{FindsDry, IsGotBack, IsPortOf, IsTold, lender_of}
-use Rattle.iox_control_lending.proofs.LendLemmas.{few_back}
-use Rattle.iox_control_lending.proofs.PortLemmas.{info_is, request_of_port, there_by}
-use Rattle.iox_control_lending.proofs.SlotLemmas.{all_have_holders}
+use Rattle.iox_control_copies.specs.Asked.{Asked}
+use Rattle.iox_control_copies.specs.Lends.{FindsDry, IsGotBack, IsPortOf, IsTold, lender_of}
+use Rattle.iox_control_copies.proofs.LendLemmas.{few_back}
+use Rattle.iox_control_copies.proofs.PortLemmas.{info_is, request_of_port, there_by}
+use Rattle.iox_control_copies.proofs.SlotLemmas.{all_have_holders}
 use Rattle.iox_control_copies.proofs.Kept.{loans_below, lost_keeps}
 use Rattle.iox_control_request_copies.specs.Copies.{IsLost}
 use Rattle.iox_slots.proofs.FreeSlots.{free_slot}

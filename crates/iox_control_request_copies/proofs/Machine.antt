@@ -48,9 +48,9 @@ use Rattle.iox_model.specs.Names.{suits}
 use Rattle.iox_model.specs.Settings.{is_client}
 use Rattle.iox_control.specs.Controls.{ControlState, IsControl}
 use Rattle.iox_control.proofs.WholeLemmas.{is_whole_of}
-use Rattle.iox_control_lending.specs.declared.asked.Asked.{Asked}
-use Rattle.iox_control_lending.specs.Lends.{FindsDry, IsAskedOf, IsRefused}
-use Rattle.iox_control_lending.proofs.MadeLemmas.{have_messages}
+use Rattle.iox_control_copies.specs.Asked.{Asked}
+use Rattle.iox_control_copies.specs.Lends.{FindsDry, IsAskedOf, IsRefused}
+use Rattle.iox_control_copies.proofs.MadeLemmas.{have_messages}
 use Rattle.iox_control_request_copies.specs.Copies.{IsLost}
 use Rattle.iox_control_request_copies.proofs.Leads as leads
 

@@ -57,8 +57,8 @@ use Rattle.iox_tables.proofs.HubLoans.CopyMay.{copies_may_be_sent}
 use Rattle.iox_tables.proofs.HubLoans.Lent.{fixed_back}
 use Rattle.iox_tables.proofs.HubLoans.Placed.{unused_slots_may_change}
 use Rattle.iox_control.specs.Controls.{ControlState, IsControl}
-use Rattle.iox_control_lending.specs.declared.asked.Asked.{Asked}
-use Rattle.iox_control_lending.specs.Lends.{IsAskedOf, IsGotBack}
+use Rattle.iox_control_copies.specs.Asked.{Asked}
+use Rattle.iox_control_copies.specs.Lends.{IsAskedOf, IsGotBack}
 use Rattle.iox_control_requests.specs.Requests.{ways_of, with_request_sent}
 use Rattle.iox_control_requests.specs.Servers.{request_ways}
 use Rattle.iox_control_requests.proofs.Emptied.{each_after, same_ways_then}

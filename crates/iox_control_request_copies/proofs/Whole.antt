@@ -55,11 +55,11 @@ use Rattle.iox_tables.specs.HubLoans.Slots.{with_contents}
 use Rattle.iox_tables.proofs.HubLoans.Loaning.{each_choice_may_be}
 use Rattle.iox_control.specs.Controls.{ControlState, IsControl}
 use Rattle.iox_control.proofs.WholeLemmas.{is_whole_of}
-use Rattle.iox_control_lending.specs.declared.asked.Asked.{Asked}
-use Rattle.iox_control_lending.specs.declared.asked.Loaned.{Loaned}
-use Rattle.iox_control_lending.specs.declared.asked.Place.{Place}
-use Rattle.iox_control_lending.specs.Lends.{IsAskedOf, IsGotBack, lane_by, refusal_of}
-use Rattle.iox_control_lending.proofs.LaneLemmas.{found_passes, has_lane, lane_within}
+use Rattle.iox_control_copies.specs.Asked.{Asked}
+use Rattle.iox_control_copies.specs.Loaned.{Loaned}
+use Rattle.iox_control_copies.specs.Place.{Place}
+use Rattle.iox_control_copies.specs.Lends.{IsAskedOf, IsGotBack, lane_by, refusal_of}
+use Rattle.iox_control_copies.proofs.LaneLemmas.{found_passes, has_lane, lane_within}
 use Rattle.iox_control_requests.specs.Requests.{ways_of, with_request_sent}
 use Rattle.iox_control_requests.specs.Servers.{request_ways}
 use Rattle.iox_control_request_copies.specs.declared.copied.Copied.{Copied}

@@ -17,10 +17,10 @@ use Rattle.iox_tables.specs.HubLoans.Counts.{has_all_active}
 use Rattle.iox_tables.specs.HubLoans.Lenders.{lender_of_request}
 use Rattle.iox_tables.specs.HubLoans.Slots.{with_contents}
 use Rattle.iox_control.specs.Controls.{ControlState, with_tables}
-use Rattle.iox_control_lending.specs.declared.asked.Asked.{Asked}
-use Rattle.iox_control_lending.specs.declared.asked.Loaned.{Loaned}
-use Rattle.iox_control_lending.specs.declared.asked.Place.{Place}
-use Rattle.iox_control_lending.specs.Lends.{FindsDry, IsGotBack, IsLoaned, IsRefused, IsTold, refusal_of}
+use Rattle.iox_control_copies.specs.Asked.{Asked}
+use Rattle.iox_control_copies.specs.Loaned.{Loaned}
+use Rattle.iox_control_copies.specs.Place.{Place}
+use Rattle.iox_control_copies.specs.Lends.{FindsDry, IsGotBack, IsLoaned, IsRefused, IsTold, refusal_of}
 use Rattle.iox_control_requests.specs.Requests.{is_failing, ways_of, with_request_sent}
 use Rattle.iox_control_requests.specs.Servers.{request_ways}
 use Rattle.iox_control_request_copies.specs.declared.copied.Copied.{Copied}

@@ -8,3 +8,11 @@ pub use Rattle.iox_control_requests.specs.Sendings
 pub use Rattle.iox_control_requests.specs.Servers
 pub use Rattle.iox_control_copies.specs.declared.answered.Answered
 pub use Rattle.iox_control_copies.specs.Answers
+pub use Rattle.iox_control_copies.specs.Fills
+pub use Rattle.iox_control_copies.specs.Lends
+pub use Rattle.iox_control_copies.specs.Asked
+pub use Rattle.iox_control_copies.specs.Place
+pub use Rattle.iox_control_copies.specs.Lent
+pub use Rattle.iox_control_copies.specs.Written
+pub use Rattle.iox_control_copies.specs.LoanRefusal
+pub use Rattle.iox_control_copies.specs.Loaned

@@ -1,6 +1,6 @@
 //! What the copy of a request comes to.
 
-use iox_control_lending::{LoanRefusal, Place};
+use iox_control_copies::{LoanRefusal, Place};
 
 /// What the copy of a request came to.
 #[derive(Clone, Copy, Debug, PartialEq, Eq)]

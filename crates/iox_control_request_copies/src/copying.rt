@@ -8,14 +8,14 @@ ghost use Rattle.iox_tables.specs.HubStates.States.{Given, state_shown};
 ghost use Rattle.iox_tables.specs.HubStates.Tables.{PortState, port_in};
 ghost use Rattle.iox_tables.specs.HubLoans.Lenders.{IsClient};
 ghost use Rattle.iox_control.specs.Controls.{IsControl};
-ghost use Rattle.iox_control_lending.specs.Lends.{IsAskedOf};
+ghost use Rattle.iox_control_copies.specs.Lends.{IsAskedOf};
 ghost use Rattle.iox_control_request_copies.specs.Copies.{AreFailuresOf, Copies, fails_for, given_after_copy, reply_of_copy, to_fill};
 
 use crate::copied::Copied;
 use crate::losing::lose;
 use crate::sending::lend_and_send;
 use iox_control::Control;
-use iox_control_lending::{Asked, LoanRefusal};
+use iox_control_copies::{Asked, LoanRefusal};
 use iox_control_requests::{Backpressure, is_refused, is_spent};
 
 /// Whether a server is full at which the client's send fails.

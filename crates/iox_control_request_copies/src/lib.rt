@@ -10,5 +10,8 @@ pub mod uses;
 
 pub use copied::Copied;
 pub use copying::copy_request;
-pub use iox_control_copies::{Answered, Responded, copy_response, fails_when_full, send_response};
+pub use iox_control_copies::{
+    Answered, Asked, Lent, LoanRefusal, Place, Responded, Written, copy_response, fails_when_full,
+    fill, lend_request, lend_response, send_response, write,
+};
 pub use iox_control_requests::{ByStrategy, Requested, send_request};

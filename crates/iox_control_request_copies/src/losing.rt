@@ -6,8 +6,8 @@ ghost use Rattle.iox_control_request_copies.specs.Copies.{Loses};
 
 use crate::copied::Copied;
 use iox_control::Control;
-use iox_control_lending::{Asked, Lending, loan_refusal};
-use iox_control_retrieving::retrieve_all;
+use iox_control_copies::{Asked, Lending, loan_refusal};
+use iox_control_requests::retrieve_all;
 
 /// Counts the loan of a copy that the client cannot send. Where no loan would be made for it, that
 /// is said, and nothing is counted.

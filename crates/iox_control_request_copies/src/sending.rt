@@ -7,7 +7,7 @@ ghost use Rattle.iox_control_request_copies.specs.Copies.{Sends, WaitsThen};
 
 use crate::copied::Copied;
 use iox_control::Control;
-use iox_control_lending::{Asked, Lent, Place, lend_request};
+use iox_control_copies::{Asked, Lent, Place, lend_request};
 use iox_control_requests::send_to_all;
 use iox_handles::Entry;
 use iox_model::kind::Kind;

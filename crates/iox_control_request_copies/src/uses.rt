@@ -4,7 +4,7 @@ ghost use Rattle.iox_control.specs.Controls.{IsControl};
 
 use crate::{Copied, copy_request};
 use iox_control::Control;
-use iox_control_lending::Asked;
+use iox_control_copies::Asked;
 use iox_control_requests::ByStrategy;
 use iox_types::backpressure::BackpressureStrategy;
 

@@ -16,6 +16,7 @@ pub use attempts::attempt;
 pub use backpressure::{Backpressure, ByStrategy};
 pub use counts::is_spent;
 pub use deliveries::deliver_to_all;
+pub use iox_control_retrieving::retrieve_all;
 pub use offering::offer_request;
 pub use requested::Requested;
 pub use sending::send_request;

@@ -11,6 +11,7 @@ pub mod uses;
 
 pub use awaited::is_awaited;
 pub use failing::fails_when_full;
+pub use iox_control_retrieving::retrieve_all;
 pub use offering::offer_response;
 pub use responded::Responded;
 pub use sending::send_response;

@@ -21,10 +21,10 @@ use Rattle.iox_control.specs.Controls.{ControlState, IsControl}
 use Rattle.iox_control_request_copies.specs.Answered.{Answered}
 use Rattle.iox_control_request_copies.specs.Answered.TheVariants.{Done, Refused, OutOfMemory, Undelivered}
 use Rattle.iox_control_request_copies.specs.Answers.{Answers, IsInLine, IsLost, given_after_copy, reply_of_copy, with_copy_sent}
-use Rattle.iox_control_lending.specs.declared.asked.Asked.{Asked}
-use Rattle.iox_control_lending.specs.declared.asked.Loaned.{Loaned}
-use Rattle.iox_control_lending.specs.declared.asked.Place.{Place}
-use Rattle.iox_control_lending.specs.Lends.{IsAskedOf, IsLoaned, lane_by, on_lane}
+use Rattle.iox_control_request_copies.specs.Asked.{Asked}
+use Rattle.iox_control_request_copies.specs.Loaned.{Loaned}
+use Rattle.iox_control_request_copies.specs.Place.{Place}
+use Rattle.iox_control_request_copies.specs.Lends.{IsAskedOf, IsLoaned, lane_by, on_lane}
 use Rattle.iox_control_request_copies.specs.Responses.{IsFailure, way_to_client}
 use Rattle.iox_hub.specs.Copying.{LeavesAnswered, asked_of_copy, copied_stored, hub_with_copies, place_of}
 use Rattle.iox_hub.specs.Fits.{WordsFit, are_requests_in, count_in, longest_in}

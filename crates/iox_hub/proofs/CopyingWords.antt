@@ -18,7 +18,7 @@ use Rattle.iox_tables.specs.HubStates.Ends.{OfEachHandle, with_call, with_loan}
 use Rattle.iox_tables.specs.HubStates.Tables.{HubTables, PoolState, SlotState}
 use Rattle.iox_hub_delivering.proofs.Counted.{gives_bare}
 use Rattle.iox_control_request_copies.specs.Answers.{way_of, with_copy_lost, with_copy_sent}
-use Rattle.iox_control_lending.specs.declared.asked.Asked.{Asked}
+use Rattle.iox_control_request_copies.specs.Asked.{Asked}
 use Rattle.iox_hub.specs.declared.shape.MessageShape.{MessageShape}
 use Rattle.iox_hub.specs.Copying.{asked_of_copy, copied_stored}
 use Rattle.iox_hub.specs.Fits.{WordsFit, are_requests_in, count_in, longest_in}

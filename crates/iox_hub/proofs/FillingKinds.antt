@@ -10,7 +10,7 @@ use Rattle.iox_model.specs.Values.{CountMayBe, is_still}
 use Rattle.iox_model.specs.Handles.{is_request_loan}
 use Rattle.iox_model.specs.WholeCalls.{is_uninit}
 use Rattle.iox_tables.specs.HubBooks.Handles.{is_loan}
-use Rattle.iox_control_lending.specs.Fills.{kind_after}
+use Rattle.iox_control_request_copies.specs.Fills.{kind_after}
 use Rattle.iox_hub.specs.Fits.{is_full_loan, is_of_request}
 use Rattle.iox_hub.proofs.LendingWrites.{is_loan_of}
 

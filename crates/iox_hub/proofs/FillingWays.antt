@@ -6,8 +6,8 @@ use Rattle.iox_store.specs.Answering.{FillsByAnswers}
 use Rattle.iox_store.specs.Stored.{Stored, unlent, with_user, written_next}
 use Rattle.iox_model.specs.declared.kind.Role.{Role}
 use Rattle.iox_control.specs.Controls.{ControlState}
-use Rattle.iox_control_lending.specs.declared.asked.Place.{Place}
-use Rattle.iox_control_lending.specs.Fills.{kind_after}
+use Rattle.iox_control_request_copies.specs.Place.{Place}
+use Rattle.iox_control_request_copies.specs.Fills.{kind_after}
 use Rattle.iox_hub.specs.Fillings.{FillsLoan, SuitsShape}
 use Rattle.iox_hub.specs.Fits.{carried_in, is_full_loan}
 use Rattle.iox_hub.specs.Hubs.{HubState, IsHub}

@@ -20,14 +20,14 @@ use Rattle.iox_tables.specs.HubBooks.Hubs.{AreInOrder}
 use Rattle.iox_tables.specs.HubLending.Emptying.{with_back}
 use Rattle.iox_tables.proofs.HubLending.Owning.{free_is_unused}
 use Rattle.iox_control.specs.Controls.{ControlState}
-use Rattle.iox_control_lending.specs.declared.asked.Loaned.{Loaned}
-use Rattle.iox_control_lending.specs.declared.asked.Lent.{Lent}
-use Rattle.iox_control_lending.specs.declared.asked.Lent.TheVariants as lents
-use Rattle.iox_control_lending.specs.declared.asked.Place.{Place}
-use Rattle.iox_control_lending.specs.declared.asked.Written.{Written}
-use Rattle.iox_control_lending.specs.declared.asked.Written.TheVariants as written
-use Rattle.iox_control_lending.specs.Fills.{IsFilled}
-use Rattle.iox_control_lending.specs.Lends.{on_lane}
+use Rattle.iox_control_request_copies.specs.Loaned.{Loaned}
+use Rattle.iox_control_request_copies.specs.Lent.{Lent}
+use Rattle.iox_control_request_copies.specs.Lent.TheVariants as lents
+use Rattle.iox_control_request_copies.specs.Place.{Place}
+use Rattle.iox_control_request_copies.specs.Written.{Written}
+use Rattle.iox_control_request_copies.specs.Written.TheVariants as written
+use Rattle.iox_control_request_copies.specs.Fills.{IsFilled}
+use Rattle.iox_control_request_copies.specs.Lends.{on_lane}
 use Rattle.iox_hub.specs.Hubs.{HasValue, HubState, IsHub, with_control}
 use Rattle.iox_hub.specs.Keeping.{IsNewLoan, KeepsAll, KeepsOthers}
 use Rattle.iox_hub.specs.Lending.{with_message}

@@ -17,12 +17,12 @@ use Rattle.iox_tables.specs.HubLoans.Lenders.{IsActive, IsClient, Lender, lender
 use Rattle.iox_tables.specs.HubLoans.Loans.{loan_call}
 use Rattle.iox_tables.specs.HubLoans.Slots.{with_contents}
 use Rattle.iox_control.specs.Controls.{ControlState, IsControl}
-use Rattle.iox_control_lending.specs.declared.asked.Asked.{Asked}
-use Rattle.iox_control_lending.specs.declared.asked.Loaned.{Loaned}
-use Rattle.iox_control_lending.specs.declared.asked.LoanRefusal.{LoanRefusal}
-use Rattle.iox_control_lending.specs.declared.asked.Lent.{Lent}
-use Rattle.iox_control_lending.specs.declared.asked.Lent.TheVariants as lents
-use Rattle.iox_control_lending.specs.Lends.{FindsDry, IsAskedOf, IsLoaned, IsRefused, Lends, first_contents, given_after, refusal_of, reply_of_loan}
+use Rattle.iox_control_request_copies.specs.Asked.{Asked}
+use Rattle.iox_control_request_copies.specs.Loaned.{Loaned}
+use Rattle.iox_control_request_copies.specs.LoanRefusal.{LoanRefusal}
+use Rattle.iox_control_request_copies.specs.Lent.{Lent}
+use Rattle.iox_control_request_copies.specs.Lent.TheVariants as lents
+use Rattle.iox_control_request_copies.specs.Lends.{FindsDry, IsAskedOf, IsLoaned, IsRefused, Lends, first_contents, given_after, refusal_of, reply_of_loan}
 use Rattle.iox_hub.specs.Fits.{are_requests_in, count_in, longest_in}
 use Rattle.iox_hub.specs.Hubs.{HubState, IsHub, given_by, state_of_hub, with_control}
 use Rattle.iox_hub.specs.Lending.{HasLent, IsFresh, LeavesLent, first_stored, with_message}

@@ -33,9 +33,9 @@ use Rattle.iox_tables.specs.HubLending.Emptying.{with_back}
 use Rattle.iox_tables.proofs.HubLending.Back.{back_in_order, getting_back_keeps_order}
 use Rattle.iox_tables.proofs.HubLending.Owning.{free_is_unused, slot_count, slot_there}
 use Rattle.iox_control.specs.Controls.{ControlState, IsControl}
-use Rattle.iox_control_lending.specs.declared.asked.Asked.{Asked}
-use Rattle.iox_control_lending.specs.declared.asked.Loaned.{Loaned}
-use Rattle.iox_control_lending.specs.Lends.{IsAskedOf, IsGotBack, IsLoaned, first_contents, on_lane}
+use Rattle.iox_control_request_copies.specs.Asked.{Asked}
+use Rattle.iox_control_request_copies.specs.Loaned.{Loaned}
+use Rattle.iox_control_request_copies.specs.Lends.{IsAskedOf, IsGotBack, IsLoaned, first_contents, on_lane}
 use Rattle.iox_hub.specs.Fits.{SuitsHandle, WordsFit, are_requests_in, count_in, is_full_loan, is_of_request, longest_in, many_by}
 use Rattle.iox_hub.specs.Hubs.{HubState, IsHub, given_by, many_in, state_of_hub}
 use Rattle.iox_hub.specs.Lending.{IsFresh, first_stored, with_message}

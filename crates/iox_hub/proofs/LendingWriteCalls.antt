@@ -8,10 +8,10 @@ use Rattle.iox_model.specs.Settings.{is_client}
 use Rattle.iox_model.specs.WholeCalls.{IsWholeCall}
 use Rattle.iox_tables.specs.HubStates.States.{Given}
 use Rattle.iox_control.specs.Controls.{ControlState}
-use Rattle.iox_control_lending.specs.declared.asked.Place.{Place}
-use Rattle.iox_control_lending.specs.declared.asked.Written.{Written}
-use Rattle.iox_control_lending.specs.declared.asked.Written.TheVariants as written
-use Rattle.iox_control_lending.specs.Fills.{IsFilled, reply_of_write}
+use Rattle.iox_control_request_copies.specs.Place.{Place}
+use Rattle.iox_control_request_copies.specs.Written.{Written}
+use Rattle.iox_control_request_copies.specs.Written.TheVariants as written
+use Rattle.iox_control_request_copies.specs.Fills.{IsFilled, reply_of_write}
 use Rattle.iox_hub.specs.Fits.{are_requests_in, count_in}
 use Rattle.iox_hub.specs.Hubs.{HubState, IsHub, given_by, state_of_hub, with_control}
 use Rattle.iox_hub.specs.Lending.{HasWritten, IsWrite, IsWritten, LeavesWritten, payload_of, with_message}

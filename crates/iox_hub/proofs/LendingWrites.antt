@@ -26,9 +26,9 @@ use Rattle.iox_tables.specs.HubLoans.Questions.{kind_by, kind_of_role}
 use Rattle.iox_tables.specs.HubLoans.Slots.{with_contents}
 use Rattle.iox_tables.specs.HubLending.Filling.{with_kind}
 use Rattle.iox_control.specs.Controls.{ControlState, IsControl, with_tables}
-use Rattle.iox_control_lending.specs.declared.asked.Place.{Place}
-use Rattle.iox_control_lending.specs.declared.asked.Written.TheVariants as written
-use Rattle.iox_control_lending.specs.Fills.{IsFilled, IsLoan, IsMisfit, given_written, reply_of_write}
+use Rattle.iox_control_request_copies.specs.Place.{Place}
+use Rattle.iox_control_request_copies.specs.Written.TheVariants as written
+use Rattle.iox_control_request_copies.specs.Fills.{IsFilled, IsLoan, IsMisfit, given_written, reply_of_write}
 use Rattle.iox_hub.specs.Fits.{SuitsHandle, WordsFit, are_requests_in, count_in, is_of_request}
 use Rattle.iox_hub.specs.Hubs.{HasValue, HubState, IsHub, given_by, many_in, state_of_hub}
 use Rattle.iox_hub.specs.Lending.{IsWritten, payload_of, with_message}

@@ -6,8 +6,8 @@ use Rattle.iox_model.specs.declared.kind.Kind.TheVariants.{PendingResponse}
 use Rattle.iox_model.specs.Settings.{Shape, has_layout, is_count}
 use Rattle.iox_tables.specs.HubStates.Tables.{HandleState}
 use Rattle.iox_tables.specs.HubStates.Wirings.{handle_in}
-use Rattle.iox_control_lending.specs.declared.asked.Asked.{Asked}
-use Rattle.iox_control_lending.specs.declared.asked.Place.{Place}
+use Rattle.iox_control_request_copies.specs.Asked.{Asked}
+use Rattle.iox_control_request_copies.specs.Place.{Place}
 use Rattle.iox_control_request_copies.specs.Answered.{Answered}
 use Rattle.iox_control_request_copies.specs.Answered.TheVariants as answered
 use Rattle.iox_control_request_copies.specs.declared.copied.Copied.{Copied}

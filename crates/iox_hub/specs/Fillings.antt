@@ -13,8 +13,8 @@ use Rattle.iox_tables.specs.HubLoans.Fillings.{contents_of}
 use Rattle.iox_tables.specs.HubLoans.Questions.{kind_in}
 use Rattle.iox_tables.specs.HubLoans.Slots.{with_contents}
 use Rattle.iox_control.specs.Controls.{ControlState, IsControl, with_tables}
-use Rattle.iox_control_lending.specs.declared.asked.Place.{Place}
-use Rattle.iox_control_lending.specs.Fills.{kind_after, place_of}
+use Rattle.iox_control_request_copies.specs.Place.{Place}
+use Rattle.iox_control_request_copies.specs.Fills.{kind_after, place_of}
 use Rattle.iox_hub.specs.Hubs.{HasValue, HubState, state_of_hub}
 use Rattle.iox_hub.specs.Keeping.{IsSame}
 use Rattle.iox_hub.specs.Lending.{with_message}

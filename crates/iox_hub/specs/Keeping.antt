@@ -2,8 +2,8 @@
 use Rattle.std.specs.Prelude.{◌≡◌, ◌≢◌, ℕ, IsSome, ⊤}
 use Rattle.iox_control.specs.declared.received.Received.{Received}
 use Rattle.iox_control.specs.declared.received.Received.TheVariants as received
-use Rattle.iox_control_lending.specs.declared.asked.Lent.{Lent}
-use Rattle.iox_control_lending.specs.declared.asked.Lent.TheVariants.{Handle, Refused, OutOfMemory}
+use Rattle.iox_control_request_copies.specs.Lent.{Lent}
+use Rattle.iox_control_request_copies.specs.Lent.TheVariants.{Handle, Refused, OutOfMemory}
 use Rattle.iox_tables.specs.HubStates.Wirings.{handle_in}
 use Rattle.iox_tables.specs.HubLoans.Questions.{kind_in}
 use Rattle.iox_hub.specs.Hubs.{HubState}

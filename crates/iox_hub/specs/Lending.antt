@@ -13,13 +13,13 @@ use Rattle.iox_tables.specs.HubStates.States.{Given, state_shown}
 use Rattle.iox_tables.specs.HubStates.Tables.{HandleState}
 use Rattle.iox_tables.specs.HubStates.Wirings.{handle_in}
 use Rattle.iox_control.specs.Controls.{ControlState, IsControl}
-use Rattle.iox_control_lending.specs.Fills.{Writes, given_written, reply_of_write}
-use Rattle.iox_control_lending.specs.Lends.{IsAskedOf}
-use Rattle.iox_control_lending.specs.declared.asked.Asked.{Asked}
-use Rattle.iox_control_lending.specs.declared.asked.Lent.{Lent}
-use Rattle.iox_control_lending.specs.declared.asked.Lent.TheVariants.{Handle, Refused, OutOfMemory}
-use Rattle.iox_control_lending.specs.declared.asked.Written.{Written}
-use Rattle.iox_control_lending.specs.declared.asked.Written.TheVariants.{Done, WrongLength}
+use Rattle.iox_control_request_copies.specs.Fills.{Writes, given_written, reply_of_write}
+use Rattle.iox_control_request_copies.specs.Lends.{IsAskedOf}
+use Rattle.iox_control_request_copies.specs.Asked.{Asked}
+use Rattle.iox_control_request_copies.specs.Lent.{Lent}
+use Rattle.iox_control_request_copies.specs.Lent.TheVariants.{Handle, Refused, OutOfMemory}
+use Rattle.iox_control_request_copies.specs.Written.{Written}
+use Rattle.iox_control_request_copies.specs.Written.TheVariants.{Done, WrongLength}
 use Rattle.iox_hub.specs.Hubs.{HasValue, HubState, with_control}
 use Rattle.iox_hub.specs.declared.shape.MessageShape.{MessageShape}
 use Rattle.iox_hub.specs.Reads.{message_in}

@@ -17,10 +17,10 @@ pub mod Copying
 pub use Rattle.iox_control.specs.declared.received.Received
 pub use Rattle.iox_control.specs.Replies
 pub use Rattle.iox_control.specs.Settings
-pub use Rattle.iox_control_lending.specs.declared.asked.Lent
-pub use Rattle.iox_control_lending.specs.declared.asked.LoanRefusal
-pub use Rattle.iox_control_lending.specs.Lends
-pub use Rattle.iox_control_lending.specs.Fills
+pub use Rattle.iox_control_request_copies.specs.Lent
+pub use Rattle.iox_control_request_copies.specs.LoanRefusal
+pub use Rattle.iox_control_request_copies.specs.Lends
+pub use Rattle.iox_control_request_copies.specs.Fills
 pub use Rattle.iox_control_making.specs.declared.asked.NotMade
 pub use Rattle.iox_control_making.specs.Making as MadePorts
 pub use Rattle.iox_control_questions.specs.Asking

@@ -7,7 +7,7 @@ ghost use Rattle.iox_hub.specs.Lending.{with_message};
 ghost use Rattle.iox_hub.specs.Words.{all_carried, stored_in};
 
 use crate::words::PoolWords;
-use iox_control_lending::Place;
+use iox_control_request_copies::Place;
 use iox_store::Store;
 use iox_words::Words;
 

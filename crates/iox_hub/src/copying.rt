@@ -20,8 +20,7 @@ ghost use Rattle.iox_hub.specs.Lending.{payload_of};
 use crate::copies::{copy_request_in, copy_response_in};
 use crate::hub::Hub;
 use crate::lending::asked_of;
-use iox_control_lending::Place;
-use iox_control_request_copies::{Answered, ByStrategy, Copied, fails_when_full};
+use iox_control_request_copies::{Answered, ByStrategy, Copied, Place, fails_when_full};
 use iox_store::Payload;
 use iox_words::Words;
 

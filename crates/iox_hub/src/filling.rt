@@ -6,7 +6,7 @@ ghost use Rattle.iox_store.specs.Stored.{with_user, written_next};
 ghost use Rattle.iox_model.specs.Handles.{is_request_loan, is_response_loan};
 ghost use Rattle.iox_tables.specs.HubBooks.Handles.{is_loan};
 ghost use Rattle.iox_control.specs.Controls.{IsControl};
-ghost use Rattle.iox_control_lending.specs.Fills.{IsLoan};
+ghost use Rattle.iox_control_request_copies.specs.Fills.{IsLoan};
 ghost use Rattle.iox_hub.specs.Fillings.{FillsLoan, IsFill};
 ghost use Rattle.iox_hub.specs.Reads.{HasOf, message_in};
 
@@ -17,7 +17,7 @@ use crate::filled::{
 use crate::hub::Hub;
 use crate::reads::{requests_in, responses_in};
 use iox_control::Control;
-use iox_control_lending::{Place, fill};
+use iox_control_request_copies::{Place, fill};
 use iox_store::Payload;
 use iox_words::Words;
 

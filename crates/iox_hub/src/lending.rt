@@ -5,7 +5,7 @@ ghost use Rattle.iox_model.specs.declared.kind.Role.TheVariants as roles;
 ghost use Rattle.iox_model.specs.WholeCalls.{IsWholeCall};
 ghost use Rattle.iox_tables.specs.HubStates.States.{Given};
 ghost use Rattle.iox_tables.specs.HubLoans.Loans.{loan_call};
-ghost use Rattle.iox_control_lending.specs.Lends.{reply_of_loan};
+ghost use Rattle.iox_control_request_copies.specs.Lends.{reply_of_loan};
 ghost use Rattle.iox_hub.specs.Hubs.{HasValue, state_of_hub};
 ghost use Rattle.iox_hub.specs.Keeping.{IsNewLoan, KeepsAll};
 ghost use Rattle.iox_hub.specs.Lending.{HasLent, IsAskedFor, LeavesLent};
@@ -14,7 +14,7 @@ use crate::contents::{lend_request_in, lend_response_in};
 use crate::hub::Hub;
 use crate::layouts::has_layout;
 use crate::shape::MessageShape;
-use iox_control_lending::{Asked, Lent, lend_request, lend_response};
+use iox_control_request_copies::{Asked, Lent, lend_request, lend_response};
 use iox_store::{Payload, is_length};
 use iox_words::Words;
 

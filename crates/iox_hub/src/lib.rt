@@ -43,10 +43,11 @@ mod writing;
 pub use headers::MessageHeader;
 pub use hub::Hub;
 pub use iox_control::{Received, Settings};
-pub use iox_control_lending::{Lent, LoanRefusal, Written};
 pub use iox_control_making::NotMade;
 pub use iox_control_questions::{Asked, NotBegun};
-pub use iox_control_request_copies::{Answered, Copied, Requested, Responded};
+pub use iox_control_request_copies::{
+    Answered, Copied, Lent, LoanRefusal, Requested, Responded, Written,
+};
 pub use options::Options;
 pub use overrides::{PreallocatedRequestsOverride, PreallocatedResponseOverride};
 pub use settings::default_settings;

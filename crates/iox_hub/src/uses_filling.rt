@@ -5,7 +5,7 @@ ghost use Rattle.iox_hub.specs.Hubs.{HasValue, IsReached};
 ghost use Rattle.iox_hub.specs.Reads.{message_in};
 
 use crate::Hub;
-use iox_control_lending::{Lent, Written};
+use iox_control_request_copies::{Lent, Written};
 use iox_store::{Many, One};
 
 /// A user header that was set is the one that is read, and the payload is the one that was there.

@@ -5,7 +5,7 @@ ghost use Rattle.iox_model.specs.WholeCalls.{default_payload};
 ghost use Rattle.iox_hub.specs.Hubs.{HasValue, IsReached};
 
 use crate::Hub;
-use iox_control_lending::{Lent, Written};
+use iox_control_request_copies::{Lent, Written};
 use iox_store::{Many, One};
 use iox_words::Words;
 

@@ -7,7 +7,7 @@ ghost use Rattle.iox_model.specs.Handles.{is_request_loan, is_response_loan};
 ghost use Rattle.iox_model.specs.WholeCalls.{IsWholeCall};
 ghost use Rattle.iox_tables.specs.HubStates.States.{Given};
 ghost use Rattle.iox_control.specs.Controls.{IsControl};
-ghost use Rattle.iox_control_lending.specs.Fills.{IsLoan, reply_of_write};
+ghost use Rattle.iox_control_request_copies.specs.Fills.{IsLoan, reply_of_write};
 ghost use Rattle.iox_hub.specs.Hubs.{state_of_hub};
 ghost use Rattle.iox_hub.specs.Keeping.{KeepsOthers};
 ghost use Rattle.iox_hub.specs.Lending.{HasWritten, IsWrite, LeavesWritten, payload_of};
@@ -16,7 +16,7 @@ ghost use Rattle.iox_hub.specs.Reads.{HasOf};
 use crate::contents::{write_request_in, write_response_in};
 use crate::hub::Hub;
 use iox_control::Control;
-use iox_control_lending::{Written, write};
+use iox_control_request_copies::{Written, write};
 use iox_store::Payload;
 use iox_words::Words;
 

@@ -15,6 +15,11 @@ pub use histories::{
     messages_are_as_delivered, messages_come_at_most_once, messages_come_in_order,
     messages_were_sent,
 };
+pub use iox_hub::{
+    Answered, Copied, Hub, Lent, LoanRefusal, MessageHeader, MessageShape, NotMade, Options, Part,
+    PreallocatedRequestsOverride, PreallocatedResponseOverride, Received, Requested, Responded,
+    Settings, Written,
+};
 pub use limits::{borrows_hold, buffers_hold, nothing_is_kept_of_the_gone, slots_are_of_holders};
 pub use loans::{lend_request, lend_response};
 pub use receives::{receive_request, receive_response};

@@ -7,10 +7,10 @@ use Rattle.std.proofs.lemmas.Bool.{false≢true}
 use Rattle.std.proofs.lemmas.Option.{none-some}
 use Rattle.iox_model.specs.declared.way.RequestState.TheVariants.{Closed}
 use Rattle.iox_model.specs.Maps.{has_number, or_else}
-use Rattle.iox_lanes.specs.Incomings.{IncomingState, disconnected, on_lane_of, on_pipe, rank_from, with_pipe}
-use Rattle.iox_lanes.specs.Lanes.{LaneState}
-use Rattle.iox_lanes.specs.Pipes.{PipeState, on_lane}
-use Rattle.iox_lanes.specs.Searches.{state_on}
+use Rattle.iox_tables.specs.Incomings.{IncomingState, disconnected, on_lane_of, on_pipe, rank_from, with_pipe}
+use Rattle.iox_tables.specs.Lanes.{LaneState}
+use Rattle.iox_tables.specs.Pipes.{PipeState, on_lane}
+use Rattle.iox_tables.specs.Searches.{state_on}
 use Rattle.iox_tables.specs.HubStates.Tables.{PortState, first_by, pipe_from, pipes_of, senders_of, with_first_by}
 use Rattle.iox_tables.specs.HubStates.Ways.{with_pipe_of, with_pipe_from, with_pipes}
 use Rattle.iox_tables.proofs.HubStates.Keys.{first_append, has_some}

@@ -7,8 +7,8 @@ use Rattle.std.proofs.lemmas.Bool.{false≢true, or_parts}
 use Rattle.iox_model.specs.declared.way.Way.{Way}
 use Rattle.iox_model.specs.declared.way.RequestState.{RequestState}
 use Rattle.iox_model.specs.Maps.{AreDistinct, has_number}
-use Rattle.iox_lanes.specs.Lanes.{LaneState}
-use Rattle.iox_lanes.specs.Pipes.{with_lane, with_state}
+use Rattle.iox_tables.specs.Lanes.{LaneState}
+use Rattle.iox_tables.specs.Pipes.{with_lane, with_state}
 use Rattle.iox_tables.specs.HubStates.Tables.{PortState, numbers_of, port_in}
 use Rattle.iox_tables.specs.HubStates.Ways.{with_lane_on, with_lanes_on, with_state_on, with_states_on}
 use Rattle.iox_tables.proofs.HubStates.Keys.{flip, lane_sender, same_mapped, same_number, state_sender}

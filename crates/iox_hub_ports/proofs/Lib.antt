@@ -6,3 +6,8 @@ pub mod Walking
 pub mod Keeping
 pub mod Sound
 pub mod Finding
+-- what the crates above cite of those below
+pub use Rattle.iox_tables.proofs.HubStates
+pub use Rattle.iox_tables.proofs.HubBooks
+pub use Rattle.iox_tables.proofs.HubMaking
+pub use Rattle.iox_tables.proofs.HubKeeping

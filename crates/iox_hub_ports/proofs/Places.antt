@@ -5,11 +5,11 @@ use Rattle.std.proofs.Common.{sym, ap, ◌∙◌, get_or}
 use Rattle.std.proofs.lemmas.Bool.{false≢true}
 use Rattle.iox_model.specs.declared.way.Way.{Way}
 use Rattle.iox_model.specs.declared.way.RequestState.TheVariants.{Closed}
-use Rattle.iox_lanes.specs.declared.incoming.Visits.TheVariants.{Nothing}
-use Rattle.iox_lanes.specs.declared.wanted.Wanted.{Wanted}
-use Rattle.iox_lanes.specs.Lanes.{LaneState}
-use Rattle.iox_lanes.specs.Searches.{LabelsByPlace}
-use Rattle.iox_lanes.specs.Visited.{all_visits}
+use Rattle.iox_tables.specs.Visits.TheVariants.{Nothing}
+use Rattle.iox_tables.specs.Wanted.{Wanted}
+use Rattle.iox_tables.specs.Lanes.{LaneState}
+use Rattle.iox_tables.specs.Searches.{LabelsByPlace}
+use Rattle.iox_tables.specs.Visited.{all_visits}
 use Rattle.iox_tables.specs.HubStates.Tables.{PortState, port_in, pipes_of}
 use Rattle.iox_tables.specs.HubStates.Ways.{lanes_from, states_from, with_port}
 use Rattle.iox_tables.proofs.HubStates.Placing.{places_are_of_numbers}

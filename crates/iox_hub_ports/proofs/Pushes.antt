@@ -2,9 +2,9 @@
 use Rattle.std.specs.Prelude.{◌≡◌, ℕ, zero, suc, ◌≤◌, Bool, true, false, if◌then◌else◌, List, [], ◌∷◌, Option, Some, None, slice_get, slice_set, refl}
 use Rattle.std.specs.Option.{option_map_or}
 use Rattle.std.proofs.Common.{sym, ap, ◌∙◌}
-use Rattle.iox_lanes.specs.Incomings.{IncomingState, on_lane_of, with_lane_of}
-use Rattle.iox_lanes.specs.Lanes.{LaneState, delivered, has_room, is_full, offered, without_oldest}
-use Rattle.iox_lanes.specs.Pipes.{PipeState, on_lane, with_lane}
+use Rattle.iox_tables.specs.Incomings.{IncomingState, on_lane_of, with_lane_of}
+use Rattle.iox_tables.specs.Lanes.{LaneState, delivered, has_room, is_full, offered, without_oldest}
+use Rattle.iox_tables.specs.Pipes.{PipeState, on_lane, with_lane}
 use Rattle.iox_tables.specs.HubStates.Changes.{pushed_lane}
 use Rattle.iox_tables.proofs.HubStates.Pushing.{oldest_goes_first}
 use Rattle.iox_hub_ports.specs.Ports.{pushed, with_one_out}

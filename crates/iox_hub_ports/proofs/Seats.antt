@@ -4,8 +4,8 @@ use Rattle.std.specs.Option.{option_map_or}
 use Rattle.std.proofs.Common.{sym, ap, ◌∙◌, arith, get_or}
 use Rattle.std.proofs.lemmas.Option.{none-some}
 use Rattle.iox_model.specs.Maps.{AreDistinct, has_number}
-use Rattle.iox_laws.proofs.WeaveLaws.MapLemmas.{eqb-refl}
-use Rattle.iox_lanes.specs.Lanes.{LaneState}
+use Rattle.iox_tables.proofs.WeaveLaws.MapLemmas.{eqb-refl}
+use Rattle.iox_tables.specs.Lanes.{LaneState}
 use Rattle.iox_tables.specs.HubStates.Tables.{PortState, numbers_of, pipes_of, port_in}
 use Rattle.iox_tables.specs.HubStates.Ways.{lanes_from, with_port}
 use Rattle.iox_tables.proofs.HubStates.Keys.{flip}

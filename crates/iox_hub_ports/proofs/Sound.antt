@@ -5,9 +5,9 @@ use Rattle.std.proofs.Common.{sym, ap, subst, ◌∙◌, get_or}
 use Rattle.std.proofs.lemmas.Option.{none-some}
 use Rattle.iox_model.specs.declared.way.Way.{Way}
 use Rattle.iox_model.specs.Maps.{AreDistinct}
-use Rattle.iox_lanes.specs.Incomings.{rank_from}
-use Rattle.iox_lanes.specs.Lanes.{IsSound, LaneState}
-use Rattle.iox_lanes.specs.Pipes.{IsSoundAt, PipeState}
+use Rattle.iox_tables.specs.Incomings.{rank_from}
+use Rattle.iox_tables.specs.Lanes.{IsSound, LaneState}
+use Rattle.iox_tables.specs.Pipes.{IsSoundAt, PipeState}
 use Rattle.iox_tables.specs.HubStates.Tables.{PortState, numbers_of, pipe_from, pipes_of, pipes_to, port_in}
 use Rattle.iox_tables.specs.HubStates.Ways.{lane_on, lanes_from}
 use Rattle.iox_tables.proofs.HubStates.Placing.{places_are_of_numbers}

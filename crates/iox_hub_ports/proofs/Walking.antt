@@ -8,15 +8,15 @@ use Rattle.iox_model.specs.declared.way.RequestState.{RequestState}
 use Rattle.iox_model.specs.Maps.{AreDistinct, has_number}
 use Rattle.iox_model.specs.Messages.{response_way}
 use Rattle.iox_model.specs.Settings.{same_role}
-use Rattle.iox_laws.proofs.WeaveLaws.MapLemmas.{eqb-refl}
-use Rattle.iox_lanes.specs.Lanes.{LaneState}
-use Rattle.iox_lanes.specs.Pipes.{with_lane, with_state}
+use Rattle.iox_tables.proofs.WeaveLaws.MapLemmas.{eqb-refl}
+use Rattle.iox_tables.specs.Lanes.{LaneState}
+use Rattle.iox_tables.specs.Pipes.{with_lane, with_state}
 use Rattle.iox_tables.specs.HubStates.Tables.{PortState, numbers_of}
 use Rattle.iox_tables.specs.HubStates.Ways.{with_lanes_on, with_port, with_states_on}
 use Rattle.iox_tables.specs.HubStates.Wirings.{numbers_of_role}
 use Rattle.iox_tables.proofs.HubStates.Keys.{flip, lane_sender, same_number, state_sender}
 use Rattle.iox_hub_ports.specs.Ports.{if_role, state_ways, way_from, ways_from, with_lane_from, with_state_from}
-use Rattle.iox_lanes.proofs.Visiting.{drop_at, drop_set, take_all, take_set}
+use Rattle.iox_tables.proofs.Visiting.{drop_at, drop_set, take_all, take_set}
 
 -- ---- a list whose items are changed one after another
 

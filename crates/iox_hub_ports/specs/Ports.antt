@@ -9,9 +9,9 @@ use Rattle.iox_model.specs.declared.way.RequestState.TheVariants.{Closed}
 use Rattle.iox_model.specs.Maps.{AreDistinct, has_number}
 use Rattle.iox_model.specs.Messages.{response_way}
 use Rattle.iox_model.specs.Settings.{same_role}
-use Rattle.iox_lanes.specs.Incomings.{IncomingState, connected}
-use Rattle.iox_lanes.specs.Lanes.{LaneState, is_full, offered, oldest, without_oldest}
-use Rattle.iox_lanes.specs.Pipes.{PipeState, lane_to_get, with_lane, with_state}
+use Rattle.iox_tables.specs.Incomings.{IncomingState, connected}
+use Rattle.iox_tables.specs.Lanes.{LaneState, is_full, offered, oldest, without_oldest}
+use Rattle.iox_tables.specs.Pipes.{PipeState, lane_to_get, with_lane, with_state}
 use Rattle.iox_tables.specs.HubStates.Tables.{PortState, numbers_of, pipe_from, pipes_of, pipes_to, port_in}
 use Rattle.iox_tables.specs.HubStates.Ways.{lane_on, lanes_from, state_on, states_from, with_lane_on, with_pipe_of, with_pipes}
 use Rattle.iox_tables.specs.HubStates.Wirings.{numbers_of_role}

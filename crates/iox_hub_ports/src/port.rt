@@ -2,23 +2,23 @@
 ghost use Rattle.std.specs.Prelude.{◌≡◌, ◌<◌, ◌+◌, ◌^◌, ◌-◌, None, List, ℕ, true};
 ghost use Rattle.iox_tables.specs.HubStates.Asks.{waits_for};
 ghost use Rattle.iox_tables.specs.HubStates.Receives.{both_visits, visited_port};
-ghost use Rattle.iox_lanes.specs.declared.incoming.Visits.TheVariants.{AtLimit};
+ghost use Rattle.iox_tables.specs.Visits.TheVariants.{AtLimit};
 ghost use Rattle.iox_tables.specs.HubStates.Tables.{PortState, pipe_from, pipes_of};
-ghost use Rattle.iox_lanes.specs.Incomings.{has_room_for};
-ghost use Rattle.iox_lanes.specs.Pipes.{IsSoundAt};
+ghost use Rattle.iox_tables.specs.Incomings.{has_room_for};
+ghost use Rattle.iox_tables.specs.Pipes.{IsSoundAt};
 ghost use Rattle.iox_tables.specs.HubStates.Ways.{lanes_from};
-ghost use Rattle.iox_lanes.specs.Lanes.{is_full};
-ghost use Rattle.iox_lanes.specs.Visited.{all_visits};
+ghost use Rattle.iox_tables.specs.Lanes.{is_full};
+ghost use Rattle.iox_tables.specs.Visited.{all_visits};
 ghost use Rattle.iox_hub_ports.specs.Ports.{info_of, lane_to_get_on, on_lane_from, port_of, state_from, with_connected};
 ghost use Rattle.iox_hub_ports.specs.Ports.{with_lane_from, with_loan_counted, with_state_from, without_pipe_from, without_value};
 
 use crate::info::PortInfo;
 use crate::steps::{LaneStep, StateStep};
-use iox_lanes::incoming::{Incoming, Visits};
-use iox_lanes::pipe::Pipe;
-use iox_lanes::wanted::{Labels, Wanted};
 use iox_model::kind::Role;
 use iox_model::way::RequestState;
+use iox_tables::incoming::{Incoming, Visits};
+use iox_tables::pipe::Pipe;
+use iox_tables::wanted::{Labels, Wanted};
 use std::marker::Model;
 
 /// A connected port: what is said of it, and what comes to it. Pipes from ports that are gone stand

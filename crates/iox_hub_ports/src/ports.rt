@@ -4,9 +4,9 @@
 ghost use Rattle.std.specs.Prelude.{◌≡◌, ◌<◌, ◌%◌, ◌^◌, ◌-◌, ◌+◌, IfOk, IfSome, IsSome, OnErr, OnOk, None, false, length};
 ghost use Rattle.std.specs.Option.{option_map_or};
 ghost use Rattle.iox_model.specs.Maps.{AreDistinct, has_number};
-ghost use Rattle.iox_lanes.specs.Incomings.{has_room_for};
-ghost use Rattle.iox_lanes.specs.Lanes.{is_taken, released};
-ghost use Rattle.iox_lanes.specs.Visited.{all_visits};
+ghost use Rattle.iox_tables.specs.Incomings.{has_room_for};
+ghost use Rattle.iox_tables.specs.Lanes.{is_taken, released};
+ghost use Rattle.iox_tables.specs.Visited.{all_visits};
 ghost use Rattle.iox_tables.specs.HubStates.Asks.{waits_for};
 ghost use Rattle.iox_tables.specs.HubStates.Receives.{visited_port};
 ghost use Rattle.iox_tables.specs.HubStates.Tables.{numbers_of, pipe_from, pipes_to, port_in};
@@ -21,10 +21,10 @@ use crate::info::PortInfo;
 use crate::port::Port;
 use crate::steps::{LaneStep, Release, StateStep};
 use crate::walks::{is_at, place_of};
-use iox_lanes::incoming::Visits;
-use iox_lanes::pipe::Pipe;
-use iox_lanes::wanted::{Labels, Wanted};
 use iox_model::way::Way;
+use iox_tables::incoming::Visits;
+use iox_tables::pipe::Pipe;
+use iox_tables::wanted::{Labels, Wanted};
 use std::alloc::{AllocError, Global};
 use std::marker::Model;
 

@@ -3,12 +3,12 @@ ghost use Rattle.std.specs.Prelude.{◌≡◌, None, Option, false, slice_get, �
 ghost use Rattle.iox_model.specs.declared.way.RequestState.{RequestState};
 ghost use Rattle.iox_model.specs.declared.way.RequestState.TheVariants.{Named};
 ghost use Rattle.iox_model.specs.Messages.{closed_for, hinted_for};
-ghost use Rattle.iox_lanes.specs.Incomings.{on_lane_of, with_lane_of, with_pipe};
-ghost use Rattle.iox_lanes.specs.Lanes.{LaneState, has_room, is_taken, offered, oldest, released, without_oldest, without_returned};
-ghost use Rattle.iox_lanes.specs.Pipes.{with_state};
+ghost use Rattle.iox_tables.specs.Incomings.{on_lane_of, with_lane_of, with_pipe};
+ghost use Rattle.iox_tables.specs.Lanes.{LaneState, has_room, is_taken, offered, oldest, released, without_oldest, without_returned};
+ghost use Rattle.iox_tables.specs.Pipes.{with_state};
 ghost use Rattle.iox_hub_ports.specs.Ports.{pushed, pushed_out};
 
-use iox_lanes::incoming::Incoming;
+use iox_tables::incoming::Incoming;
 
 /// A step of a sender or a receiver on one lane, and what it is told.
 pub trait LaneStep {

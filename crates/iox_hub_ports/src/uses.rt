@@ -2,18 +2,18 @@
 ghost use Rattle.std.specs.Prelude.{◌≡◌, IfOk, None, Some, true, false};
 ghost use Rattle.iox_model.specs.declared.kind.Role.TheVariants.{Server};
 ghost use Rattle.iox_model.specs.declared.way.RequestState.TheVariants.{Closed, Named};
-ghost use Rattle.iox_lanes.specs.declared.incoming.Visits.TheVariants.{Got};
-ghost use Rattle.iox_lanes.specs.Incomings.{connected, no_pipes};
-ghost use Rattle.iox_lanes.specs.Pipes.{new_pipe};
+ghost use Rattle.iox_tables.specs.Visits.TheVariants.{Got};
+ghost use Rattle.iox_tables.specs.Incomings.{connected, no_pipes};
+ghost use Rattle.iox_tables.specs.Pipes.{new_pipe};
 
 use crate::info::PortInfo;
 use crate::port::Port;
 use crate::ports::Ports;
-use iox_lanes::incoming::{Incoming, Visits};
-use iox_lanes::pipe::Pipe;
-use iox_lanes::wanted::{Label, Labels, Wanted};
 use iox_model::kind::Role;
 use iox_model::way::{RequestState, Way};
+use iox_tables::incoming::{Incoming, Visits};
+use iox_tables::pipe::Pipe;
+use iox_tables::wanted::{Label, Labels, Wanted};
 use iox_types::backpressure::BackpressureStrategy;
 use iox_types::identifiers::UniqueSystemId;
 use std::alloc::{AllocError, Global};

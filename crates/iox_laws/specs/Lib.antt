@@ -13,3 +13,8 @@ pub mod ReplyLaws
 pub mod ServiceLaws
 pub mod RunLedger
 pub mod RunPools
+-- what the crates above cite of those below
+pub use Rattle.iox_model.specs.UniqueSystemId
+pub use Rattle.iox_model.specs.Parts
+pub use Rattle.iox_model.specs.BackpressureStrategy
+pub use Rattle.iox_model.specs.AllocationStrategy

@@ -33,3 +33,13 @@ pub mod WireCalls
 pub mod Weaves
 pub mod Keeping
 pub mod Schedules
+-- what the crates above cite of those below
+pub use Rattle.iox_types.specs.declared.identifiers.system_id.UniqueSystemId
+pub use Rattle.iox_types.specs.declared.backpressure.BackpressureStrategy
+pub use Rattle.iox_types.specs.declared.backpressure.AllocationStrategy
+pub use Rattle.iox_types.specs.Identifiers
+pub use Rattle.iox_types.specs.Parts
+pub use Rattle.iox_types.specs.declared.message_type_details.MessageTypeDetails
+pub use Rattle.iox_types.specs.Compatibility
+pub use Rattle.iox_types.specs.Layouts
+pub use Rattle.iox_types.specs.Places

@@ -10,3 +10,10 @@ pub mod PatternTexts
 pub mod Padding
 pub mod PaddingLaws
 pub mod Digits
+-- what the crates above cite of those below
+pub use Rattle.iox_words.specs.Numbers
+pub use Rattle.iox_words.specs.NumberLaws
+pub use Rattle.iox_words.specs.WordLists
+pub use Rattle.iox_words.specs.WordLaws
+pub use Rattle.iox_words.specs.WordParts
+pub use Rattle.iox_words.specs.WhereLaws

@@ -15,6 +15,7 @@ mod text_error;
 
 pub use bounded_name::BoundedName;
 pub use bounded_text::{BoundedText, is_text};
+pub use iox_words::{Words, ZeroCopySend};
 pub use messaging_pattern::MessagingPattern;
 pub use service_hash::ServiceHash;
 pub use service_name::{INTERNAL_SERVICE_PREFIX, ServiceName};

@@ -14,3 +14,4 @@ pub use Rattle.iox_port_commands.specs.Lending
 pub use Rattle.iox_port_commands.specs.declared.elements.Elements
 pub use Rattle.iox_port_commands.specs.Asking
 pub use Rattle.iox_port_commands.specs.Memory as PortMemory
+pub use Rattle.iox_port_commands.specs.Starts

@@ -22,7 +22,10 @@ mod writing;
 pub use applying::{apply, try_apply};
 pub use copies::{copy_request, copy_response};
 pub use elements::Elements;
-pub use iox_hub::{Hub, MessageShape, Part, Settings};
+pub use iox_hub::{
+    Hub, MessageShape, Options, Part, PreallocatedRequestsOverride, PreallocatedResponseOverride,
+    Settings, default_settings,
+};
 pub use makings::make_port;
 pub use methods::ApplyCommand;
 pub use reading::read;

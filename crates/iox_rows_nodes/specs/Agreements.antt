@@ -2,7 +2,7 @@
 use Rattle.std.specs.Prelude.{◌≡◌}
 use Rattle.iox_configs.specs.FirstSettings.{first_request_response}
 use Rattle.iox_configs.specs.declared.config.patterns.RequestResonse.{RequestResonse}
-use Rattle.iox_hub.specs.Starts.{default_settings}
+use Rattle.iox_nodes.specs.Starts.{default_settings}
 use Rattle.iox_model.specs.Defaults.{defaults}
 use Rattle.iox_tables.specs.HubStates.States.{Given, limits_of}
 use Rattle.iox_tables.specs.HubStates.Tables.{HubSettings, HubTables}

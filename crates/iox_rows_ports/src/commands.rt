@@ -10,10 +10,9 @@ mod pools;
 mod runs;
 
 use iox_control::Settings;
-use iox_hub::{Hub, MessageShape, Part};
 use iox_model::command::{PortCommand, PortOptions};
 use iox_model::reply::{PortReply, Refusal};
-use iox_port_commands::{Elements, apply};
+use iox_port_commands::{Elements, Hub, MessageShape, Part, apply};
 use iox_store::{Many, One};
 use iox_types::identifiers::{UniqueNodeId, UniqueSystemId};
 use iox_types::{AllocationStrategy, BackpressureStrategy};

@@ -26,7 +26,7 @@ use Rattle.iox_word_places.specs.Plans.{HasSlots, IsPlan, details_of, layout_of,
 use Rattle.iox_wire_layouts.specs.PlansOf.{AreAsPlanned, IsShapeOf}
 use Rattle.iox_wire_locals.specs.Tables.{Setting}
 use Rattle.iox_wire_locals.specs.WorkedWires.{port_of_ones}
-use Rattle.iox_wire_weaves.specs.Wires.{OpensOn}
+use Rattle.iox_wire.specs.Wires.{OpensOn}
 use Rattle.iox_rows_whole_wire.specs.Ones.{HasOneWord, IsPlanOfOnes, client, limits_of_ones, server}
 
 -- ---- the service

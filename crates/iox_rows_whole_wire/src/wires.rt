@@ -4,8 +4,7 @@ ghost use Rattle.iox_rows_whole_wire.specs.Ones.{IsPlanOfOnes};
 
 use iox_model::kind::Role;
 use iox_types::{MessageTypeDetails, RequestHeader, ResponseHeader, TypeVariant};
-use iox_wire::{Wire, WireEntry};
-use iox_wire_weaves::WireRefusal;
+use iox_wire::{Wire, WireEntry, WireRefusal};
 use iox_word_places::{PlanLimits, PlanPort, WirePlan};
 use std::alloc::Global;
 use std::test::Fail;

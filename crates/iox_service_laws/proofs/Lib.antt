@@ -1,1 +1,5 @@
 pub mod OfServices
+-- what the crates above cite of those below
+pub use Rattle.iox_nodes.proofs.Reaching
+pub use Rattle.iox_nodes.proofs.Running
+pub use Rattle.iox_nodes.proofs.Leading

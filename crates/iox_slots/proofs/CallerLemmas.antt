@@ -5,7 +5,7 @@ use Rattle.std.specs.Option.{option_map_or}
 use Rattle.std.proofs.Common.{sym, ap, ◌∙◌, arith, eqb-true, true≢false}
 use Rattle.std.proofs.lemmas.Bool.{eq-eqb, lt-ltb}
 use Rattle.std.proofs.lemmas.Option.{slice_get_within}
-use Rattle.iox_lanes.specs.declared.wanted.Label.{Label}
+use Rattle.iox_tables.specs.Label.{Label}
 use Rattle.iox_tables.specs.HubStates.Ends.{DifferInHolders}
 use Rattle.iox_tables.specs.HubStates.Tables.{PoolState, SlotState, labels_of, no_slot, slot_at, slots_of}
 use Rattle.iox_slots.specs.FreeLists.{has_free_slot}

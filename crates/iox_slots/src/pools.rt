@@ -16,7 +16,7 @@ use crate::place::{
 };
 use crate::pool::Pool;
 use crate::slot::Slot;
-use iox_lanes::wanted::{Label, Labels};
+use iox_tables::wanted::{Label, Labels};
 use iox_types::identifiers::UniqueSystemId;
 use std::alloc::{AllocError, Global};
 use std::marker::Model;

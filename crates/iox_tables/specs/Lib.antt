@@ -6,3 +6,12 @@ pub mod HubLoans
 pub mod HubBooks
 pub mod HubKeeping
 pub mod HubLending
+-- what the crates above cite of those below
+pub use Rattle.iox_lanes.specs.declared.wanted.Label
+pub use Rattle.iox_lanes.specs.declared.incoming.Visits
+pub use Rattle.iox_lanes.specs.Incomings
+pub use Rattle.iox_lanes.specs.Pipes
+pub use Rattle.iox_lanes.specs.Lanes
+pub use Rattle.iox_lanes.specs.Visited
+pub use Rattle.iox_lanes.specs.Searches
+pub use Rattle.iox_lanes.specs.declared.wanted.Wanted

@@ -9,3 +9,5 @@ pub mod hub_lending;
 pub mod hub_loans;
 pub mod hub_making;
 pub mod hub_states;
+
+pub use iox_lanes::{incoming, pipe, wanted};

@@ -1,10 +1,10 @@
 -- A request's header is seven words of 64 bits, a response's six.
 use Rattle.std.proofs.Common.{ℕ, ◌+◌, ◌<◌, ◌^◌, ◌++◌, List, Option, refl, lit≤}
-use Rattle.iox_words.specs.WordLists.{AreWords}
-use Rattle.iox_words.specs.WordLaws.{AreWords-option_map, AreWords-pair}
-use Rattle.iox_words.specs.WordParts.{IsWordsInParts, of_parts}
-use Rattle.iox_words.specs.Numbers.{one_word, IsOneWord, of_one_word, IsTwoWords}
-use Rattle.iox_words.specs.NumberLaws.{one_word_is_a_number}
+use Rattle.iox_names.specs.WordLists.{AreWords}
+use Rattle.iox_names.specs.WordLaws.{AreWords-option_map, AreWords-pair}
+use Rattle.iox_names.specs.WordParts.{IsWordsInParts, of_parts}
+use Rattle.iox_names.specs.Numbers.{one_word, IsOneWord, of_one_word, IsTwoWords}
+use Rattle.iox_names.specs.NumberLaws.{one_word_is_a_number}
 use Rattle.iox_types.specs.Identifiers.{IsId, id_words, id_of_words, IsNodeId, IsNodeIdWords, node_id_of_words}
 use Rattle.iox_types.specs.IdentifierLaws.{two_words_are_an_id, two_words_are_a_node_id}
 use Rattle.iox_types.specs.Headers.{tail_words, IsTail, IsTailWords, tail_of_words, request_header_words, IsRequestHeader, IsRequestHeaderWords, request_header_of, request_header_of_words, response_header_words, IsResponseHeader, IsResponseHeaderWords, response_header_of, response_header_of_words}

@@ -1,8 +1,8 @@
 -- The headers of requests and responses as words: those of their fields, one after the other.
 use Rattle.std.specs.Prelude.{ℕ, ◌<◌, ◌^◌, List, ◌++◌, Option}
 use Rattle.std.specs.Option.{option_map}
-use Rattle.iox_words.specs.Numbers.{one_word, IsOneWord, of_one_word, IsTwoWords}
-use Rattle.iox_words.specs.WordParts.{IsWordsInParts, of_parts}
+use Rattle.iox_names.specs.Numbers.{one_word, IsOneWord, of_one_word, IsTwoWords}
+use Rattle.iox_names.specs.WordParts.{IsWordsInParts, of_parts}
 use Rattle.iox_types.specs.Identifiers.{IsId, id_words, id_of_words, IsNodeId, IsNodeIdWords, node_id_of_words}
 use Rattle.iox_types.specs.declared.identifiers.system_id.UniqueSystemId.{UniqueSystemId}
 use Rattle.iox_types.specs.declared.header.RequestHeader.{RequestHeader}

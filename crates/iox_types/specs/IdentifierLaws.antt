@@ -1,10 +1,10 @@
 -- Two words are an identifier.
 use Rattle.std.proofs.Common.{ℕ, ◌≡◌, ◌/◌, ◌%◌, ◌<◌, ◌^◌, arith, refl}
-use Rattle.iox_words.specs.WordLists.{AreWords}
-use Rattle.iox_words.specs.WordLaws.{AreWords-option_map}
-use Rattle.iox_words.specs.WhereLaws.{AreWords-where}
-use Rattle.iox_words.specs.Numbers.{two_words, IsTwoWords, of_two_words}
-use Rattle.iox_words.specs.NumberLaws.{two_words_are_a_number}
+use Rattle.iox_names.specs.WordLists.{AreWords}
+use Rattle.iox_names.specs.WordLaws.{AreWords-option_map}
+use Rattle.iox_names.specs.WhereLaws.{AreWords-where}
+use Rattle.iox_names.specs.Numbers.{two_words, IsTwoWords, of_two_words}
+use Rattle.iox_names.specs.NumberLaws.{two_words_are_a_number}
 use Rattle.iox_types.specs.Identifiers.{IsId, id_value, id_of_value, id_words, id_of_words, is_node_id, IsNodeId, IsNodeIdWords, node_id_of_words}
 use Rattle.iox_types.specs.declared.identifiers.system_id.UniqueSystemId.{UniqueSystemId}
 

@@ -3,8 +3,8 @@ use Rattle.std.specs.Prelude.{ℕ, ◌+◌, ◌*◌, ◌/◌, ◌%◌, ◌^◌, 
 use Rattle.std.specs.Option.{option_map}
 use Rattle.std.specs.Int.{w128, to_be_bytes}
 use Rattle.hex.specs.Hex.{encode_lower}
-use Rattle.iox_words.specs.Numbers.{two_words, IsTwoWords, of_two_words}
-use Rattle.iox_words.specs.WordParts.{IsWordsWhere, of_where}
+use Rattle.iox_names.specs.Numbers.{two_words, IsTwoWords, of_two_words}
+use Rattle.iox_names.specs.WordParts.{IsWordsWhere, of_where}
 use Rattle.iox_types.specs.declared.identifiers.system_id.UniqueSystemId.{UniqueSystemId}
 
 -- each of the four has 32 bits

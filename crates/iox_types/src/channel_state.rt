@@ -1,7 +1,7 @@
 //! Which request a channel serves.
 ghost use Rattle.std.specs.Prelude.{◌≡◌, ◌<◌, ◌^◌, ◌↔◌, IfSome, IsSome};
 
-use iox_words::Words;
+use iox_names::Words;
 use std::marker::Model;
 
 /// The number of a request, below 2^62, so that a word that keeps it has room for two marks.
@@ -58,8 +58,8 @@ impl ChannelState {
 impl Words for ChannelState {
     ghost use Rattle.std.specs.Prelude.{◌<◌, ◌^◌};
     ghost use Rattle.std.proofs.Common.{lit≤};
-    ghost use Rattle.iox_words.specs.Numbers.{IsOneWord, of_one_word, one_word};
-    ghost use Rattle.iox_words.specs.NumberLaws.{one_word_is_a_number};
+    ghost use Rattle.iox_names.specs.Numbers.{IsOneWord, of_one_word, one_word};
+    ghost use Rattle.iox_names.specs.NumberLaws.{one_word_is_a_number};
 
     ghost WORDS = { 1 };
 

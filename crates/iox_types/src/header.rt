@@ -3,7 +3,7 @@ ghost use Rattle.std.specs.Prelude.{◌≡◌, codes, refl};
 
 use crate::channel_state::RequestId;
 use crate::identifiers::{UniqueClientId, UniqueNodeId, UniqueServerId};
-use iox_words::{Words, ZeroCopySend};
+use iox_names::{Words, ZeroCopySend};
 
 /// The header of a request.
 #[derive(Clone, Copy, Debug, PartialEq, Eq)]

@@ -5,7 +5,7 @@ ghost use Rattle.std.specs.Int.{IsPowerOfTwo};
 
 use crate::layout::{SampleLayout, aligned_place};
 use crate::type_detail::{TypeDetail, TypeDetailError, TypeVariant};
-use iox_words::ZeroCopySend;
+use iox_names::ZeroCopySend;
 
 /// The description of a message: of its header, its user header and its payload.
 #[derive(Clone, Copy, Debug, PartialEq, Eq)]

@@ -1,10 +1,9 @@
 //! The description of a type.
 ghost use Rattle.std.specs.Prelude.{◌≡◌, ◌≤◌, ◌↔◌, IfErr, IfOk, IsOk, IsTrue, Some, None, length};
 ghost use Rattle.std.specs.Int.{IsPowerOfTwo};
-ghost use Rattle.iox_words.specs.WordLists.{is_name};
+ghost use Rattle.iox_names.specs.WordLists.{is_name};
 
-use iox_names::{BoundedText, is_text};
-use iox_words::ZeroCopySend;
+use iox_names::{BoundedText, ZeroCopySend, is_text};
 use std::marker::Model;
 use thiserror::Error;
 

@@ -2,3 +2,5 @@
 pub mod Kept
 -- and what a schedule leads to
 pub mod Schedules
+-- what the crates above cite of those below
+pub use Rattle.iox_wire_weaves.specs.Wires

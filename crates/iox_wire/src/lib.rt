@@ -10,4 +10,5 @@ pub mod uses;
 mod wire;
 
 pub use entry::WireEntry;
+pub use iox_wire_weaves::WireRefusal;
 pub use wire::{Answer, Wire};

@@ -18,8 +18,8 @@ use Rattle.iox_wire_locals.specs.declared.table.Entry.{Entry}
 use Rattle.iox_wire_locals.specs.Lendings.{lends, lends_request, lends_response, new_request, new_response, request_refusal, response_refusal}
 use Rattle.iox_wire_locals.specs.NewLoans.{loan_in}
 use Rattle.iox_wire_locals.specs.Tables.{Setting}
-use Rattle.iox_wire_loans.specs.declared.lender.Lender.{Lender}
-use Rattle.iox_wire_loans.specs.Lenders.{IsClient, IsLender, IsServer}
+use Rattle.iox_wire_request_sends.specs.Lender.{Lender}
+use Rattle.iox_wire_request_sends.specs.Lenders.{IsClient, IsLender, IsServer}
 use Rattle.iox_wire_copies.specs.Copies.{copy_of}
 use Rattle.iox_wire_copies.specs.CopyAims.{HasSamePeers}
 use Rattle.iox_wire_copies.proofs.CopyLemmas.{copied}

@@ -15,8 +15,8 @@ use Rattle.iox_wire_locals.specs.Findings.{loan_emptied}
 use Rattle.iox_wire_locals.specs.Known.{free_slots}
 use Rattle.iox_wire_locals.specs.Steps.{accessed, next, tells, pop_place, pop_finds}
 use Rattle.iox_wire_locals.specs.Tables.{Setting}
-use Rattle.iox_wire_loans.specs.declared.order.Order.{Order}
-use Rattle.iox_wire_loans.specs.Aims.{IsLoanAt, after, answered, is_storing}
+use Rattle.iox_wire_request_sends.specs.Order.{Order}
+use Rattle.iox_wire_request_sends.specs.WireLoansAims.{IsLoanAt, after, answered, is_storing}
 use Rattle.iox_wire_copies.specs.Copies.{copy_of, with_payload}
 use Rattle.iox_wire_copies.specs.CopyAims.{HasSamePeers}
 

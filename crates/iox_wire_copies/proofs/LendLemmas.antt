@@ -10,11 +10,11 @@ use Rattle.iox_wire_locals.specs.Courses.{placed}
 use Rattle.iox_wire_locals.specs.Steps.{next, tells}
 use Rattle.iox_wire_locals.specs.Tables.{Setting}
 use Rattle.iox_wire_seats.specs.Seats.{Placed}
-use Rattle.iox_wire_loans.specs.declared.at.LendReply.{LendReply}
-use Rattle.iox_wire_loans.specs.declared.order.Order.{Order}
-use Rattle.iox_wire_loans.specs.declared.slot_places.SlotPlaces.{SlotPlaces}
-use Rattle.iox_wire_loans.specs.Aims.{GetsBackUsed, IsLoanAt, TellsOfSlot, is_storing}
-use Rattle.iox_wire_loans.specs.Aims as loans
+use Rattle.iox_wire_request_sends.specs.LendReply.{LendReply}
+use Rattle.iox_wire_request_sends.specs.Order.{Order}
+use Rattle.iox_wire_request_sends.specs.SlotPlaces.{SlotPlaces}
+use Rattle.iox_wire_request_sends.specs.WireLoansAims.{GetsBackUsed, IsLoanAt, TellsOfSlot, is_storing}
+use Rattle.iox_wire_request_sends.specs.WireLoansAims as loans
 use Rattle.iox_wire_copies.specs.declared.at.CopyAt.{CopyAt}
 use Rattle.iox_wire_copies.specs.declared.at.CopyAt.TheVariants as at
 use Rattle.iox_wire_copies.specs.declared.at.CopyLent.TheVariants as lent

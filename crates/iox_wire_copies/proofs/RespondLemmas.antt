@@ -16,10 +16,10 @@ use Rattle.iox_wire_locals.specs.Steps.{closed, ending_at, next, tells}
 use Rattle.iox_wire_locals.specs.Tables.{Setting, state_in}
 use Rattle.iox_wire_seats.specs.Desks.{IsUsed, MayGiveUp}
 use Rattle.iox_wire_seats.specs.Seats.{Placed}
-use Rattle.iox_wire_loans.specs.Aims.{TellsOfSlot, after, answered}
-use Rattle.iox_wire_loans.specs.Orders.{IsResponse, loan_of}
-use Rattle.iox_wire_loans.specs.declared.at.LendReply.{LendReply}
-use Rattle.iox_wire_loans.specs.declared.order.Order.{Order}
+use Rattle.iox_wire_request_sends.specs.WireLoansAims.{TellsOfSlot, after, answered}
+use Rattle.iox_wire_request_sends.specs.Orders.{IsResponse, loan_of}
+use Rattle.iox_wire_request_sends.specs.LendReply.{LendReply}
+use Rattle.iox_wire_request_sends.specs.Order.{Order}
 use Rattle.iox_wire_sends.specs.declared.at.RespondReply.{RespondReply}
 use Rattle.iox_wire_sends.specs.declared.terms.ResponseTerms.{ResponseTerms}
 use Rattle.iox_wire_sends.specs.Aims as responses

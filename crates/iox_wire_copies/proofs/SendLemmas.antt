@@ -15,10 +15,10 @@ use Rattle.iox_wire_locals.specs.Settlements.{reply_of}
 use Rattle.iox_wire_locals.specs.Steps.{closed, ending_at, next, tells}
 use Rattle.iox_wire_locals.specs.Tables.{Setting}
 use Rattle.iox_wire_seats.specs.Seats.{Placed}
-use Rattle.iox_wire_loans.specs.Aims.{TellsOfSlot, after, answered}
-use Rattle.iox_wire_loans.specs.Orders.{loan_of}
-use Rattle.iox_wire_loans.specs.declared.at.LendReply.{LendReply}
-use Rattle.iox_wire_loans.specs.declared.order.Order.{Order}
+use Rattle.iox_wire_request_sends.specs.WireLoansAims.{TellsOfSlot, after, answered}
+use Rattle.iox_wire_request_sends.specs.Orders.{loan_of}
+use Rattle.iox_wire_request_sends.specs.LendReply.{LendReply}
+use Rattle.iox_wire_request_sends.specs.Order.{Order}
 use Rattle.iox_wire_request_sends.specs.declared.at.RequestReply.{RequestReply}
 use Rattle.iox_wire_request_sends.specs.Aims as requests
 use Rattle.iox_wire_request_sends.specs.Aims.{Knows, is_ending}

@@ -19,7 +19,7 @@ use Rattle.iox_wire_locals.specs.Known.{known, told_handle}
 use Rattle.iox_wire_locals.specs.NewLoans.{entry_in, loan_words}
 use Rattle.iox_wire_locals.specs.Steps.{accessed, next, tells}
 use Rattle.iox_wire_locals.specs.Tables.{Setting}
-use Rattle.iox_wire_loans.specs.Aims.{after, answered}
+use Rattle.iox_wire_request_sends.specs.WireLoansAims.{after, answered}
 use Rattle.iox_wire_request_sends.proofs.RoundLemmas.{empties_alike}
 use Rattle.iox_wire_copies.specs.Copies.{copy_of}
 

@@ -8,10 +8,10 @@ use Rattle.iox_wire_locals.specs.declared.seat.Seat.{Seat}
 use Rattle.iox_wire_locals.specs.NewLoans.{loan_words, message_in}
 use Rattle.iox_wire_locals.specs.Stored.{header_length, header_words}
 use Rattle.iox_wire_locals.specs.Tables.{Setting, words_before_payload}
-use Rattle.iox_wire_loans.specs.declared.order.Order.{Order}
-use Rattle.iox_wire_loans.specs.Aims.{Knows}
-use Rattle.iox_wire_loans.specs.Loans.{Loaned}
-use Rattle.iox_wire_loans.specs.Orders.{loan_of}
+use Rattle.iox_wire_request_sends.specs.Order.{Order}
+use Rattle.iox_wire_request_sends.specs.WireLoansAims.{Knows}
+use Rattle.iox_wire_request_sends.specs.Loans.{Loaned}
+use Rattle.iox_wire_request_sends.specs.Orders.{loan_of}
 use Rattle.iox_wire_copies.specs.Copies.{copy_of}
 
 header_alike : (role : Role) (m : Message) (payload : List ℕ)

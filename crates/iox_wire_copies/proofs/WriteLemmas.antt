@@ -18,13 +18,13 @@ use Rattle.iox_wire_locals.specs.Tables.{Setting, region_word, words_before_payl
 use Rattle.iox_wire_seats.specs.Aims.{IsPayloadAt}
 use Rattle.iox_wire_seats.specs.Keeps.{counted}
 use Rattle.iox_wire_seats.specs.Seats.{Placed}
-use Rattle.iox_wire_loans.specs.declared.order.Order.{Order}
-use Rattle.iox_wire_loans.specs.declared.slot_places.SlotPlaces.{SlotPlaces}
-use Rattle.iox_wire_loans.specs.Aims.{AreAimed, HasNextWord, IsLoanAt, IsSameLoan, Knows, StoresAhead, TellsOfSlot, after, answered}
-use Rattle.iox_wire_loans.specs.Aims as loans
-use Rattle.iox_wire_loans.specs.Lenders.{AreSlots}
-use Rattle.iox_wire_loans.specs.Loans.{Loaned}
-use Rattle.iox_wire_loans.specs.Orders.{loan_of}
+use Rattle.iox_wire_request_sends.specs.Order.{Order}
+use Rattle.iox_wire_request_sends.specs.SlotPlaces.{SlotPlaces}
+use Rattle.iox_wire_request_sends.specs.WireLoansAims.{AreAimed, HasNextWord, IsLoanAt, IsSameLoan, Knows, StoresAhead, TellsOfSlot, after, answered}
+use Rattle.iox_wire_request_sends.specs.WireLoansAims as loans
+use Rattle.iox_wire_request_sends.specs.Lenders.{AreSlots}
+use Rattle.iox_wire_request_sends.specs.Loans.{Loaned}
+use Rattle.iox_wire_request_sends.specs.Orders.{loan_of}
 use Rattle.iox_wire_copies.specs.declared.payload_places.PayloadPlaces.{PayloadPlaces}
 use Rattle.iox_wire_copies.specs.declared.at.CopyAt.{CopyAt}
 use Rattle.iox_wire_copies.specs.declared.at.CopyAt.TheVariants as at

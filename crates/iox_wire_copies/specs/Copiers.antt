@@ -6,8 +6,8 @@ use Rattle.iox_wire_locals.specs.declared.local.Local.{Local}
 use Rattle.iox_wire_locals.specs.declared.local.Local.TheVariants.{Idle, Ends}
 use Rattle.iox_wire_locals.specs.declared.table.Entry.{Entry}
 use Rattle.iox_wire_locals.specs.NewLoans.{entry_in}
-use Rattle.iox_wire_loans.specs.Orders.{loan_of}
-use Rattle.iox_wire_loans.specs.declared.order.Order.{Order}
+use Rattle.iox_wire_request_sends.specs.Orders.{loan_of}
+use Rattle.iox_wire_request_sends.specs.Order.{Order}
 use Rattle.iox_wire_copies.specs.declared.at.CopierAt.{CopierAt}
 use Rattle.iox_wire_copies.specs.declared.at.CopierAt.TheVariants as at
 

@@ -7,10 +7,10 @@ use Rattle.iox_wire_locals.specs.declared.table.Entry.{Entry}
 use Rattle.iox_wire_locals.specs.declared.table.NewLoan.{NewLoan}
 use Rattle.iox_wire_locals.specs.NewLoans.{entry_in}
 use Rattle.iox_wire_locals.specs.Tables.{Setting, region_word, words_before_payload}
-use Rattle.iox_wire_loans.specs.Loans.{Loaned}
-use Rattle.iox_wire_loans.specs.Orders.{loan_of}
-use Rattle.iox_wire_loans.specs.declared.order.Order.{Order}
-use Rattle.iox_wire_loans.specs.declared.slot_places.SlotPlaces.{SlotPlaces}
+use Rattle.iox_wire_request_sends.specs.Loans.{Loaned}
+use Rattle.iox_wire_request_sends.specs.Orders.{loan_of}
+use Rattle.iox_wire_request_sends.specs.Order.{Order}
+use Rattle.iox_wire_request_sends.specs.SlotPlaces.{SlotPlaces}
 use Rattle.iox_wire_copies.specs.declared.at.CopyAt.{CopyAt}
 use Rattle.iox_wire_copies.specs.declared.at.CopyAt.TheVariants as at
 use Rattle.iox_wire_copies.specs.declared.payload_places.PayloadPlaces.{PayloadPlaces}

@@ -12,11 +12,11 @@ use Rattle.iox_wire_seats.specs.Aims.{IsPayloadAt}
 use Rattle.iox_wire_seats.specs.Desks.{MayGiveUp}
 use Rattle.iox_wire_seats.specs.Lends.{MayLend}
 use Rattle.iox_wire_seats.specs.Seats.{Placed}
-use Rattle.iox_wire_loans.specs.Aims.{Knows, TellsOfSlot, after, answered}
-use Rattle.iox_wire_loans.specs.Aims as loans
-use Rattle.iox_wire_loans.specs.Loans.{reply_in}
-use Rattle.iox_wire_loans.specs.Orders.{loan_of}
-use Rattle.iox_wire_loans.specs.declared.order.Order.{Order}
+use Rattle.iox_wire_request_sends.specs.WireLoansAims.{Knows, TellsOfSlot, after, answered}
+use Rattle.iox_wire_request_sends.specs.WireLoansAims as loans
+use Rattle.iox_wire_request_sends.specs.Loans.{reply_in}
+use Rattle.iox_wire_request_sends.specs.Orders.{loan_of}
+use Rattle.iox_wire_request_sends.specs.Order.{Order}
 use Rattle.iox_wire_copies.specs.declared.at.CopyAt.{CopyAt}
 use Rattle.iox_wire_copies.specs.declared.at.CopyAt.TheVariants as at
 use Rattle.iox_wire_copies.specs.declared.at.CopyLent.{CopyLent}

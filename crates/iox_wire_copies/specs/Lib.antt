@@ -10,12 +10,12 @@ pub mod ResponseCopies
 -- how many accesses a copy takes
 pub mod WorkedCopies
 -- what the crates above cite of those below
-pub use Rattle.iox_wire_loans.specs.Aims as LoansAims
-pub use Rattle.iox_wire_loans.specs.Lenders
-pub use Rattle.iox_wire_loans.specs.Loans
-pub use Rattle.iox_wire_loans.specs.declared.at.LendReply
-pub use Rattle.iox_wire_loans.specs.declared.lender.Lender
-pub use Rattle.iox_wire_loans.specs.declared.slot_places.SlotPlaces
+pub use Rattle.iox_wire_request_sends.specs.WireLoansAims as LoansAims
+pub use Rattle.iox_wire_request_sends.specs.Lenders
+pub use Rattle.iox_wire_request_sends.specs.Loans
+pub use Rattle.iox_wire_request_sends.specs.LendReply
+pub use Rattle.iox_wire_request_sends.specs.Lender
+pub use Rattle.iox_wire_request_sends.specs.SlotPlaces
 pub use Rattle.iox_wire_request_sends.specs.Aims as RequestSendsAims
 pub use Rattle.iox_wire_request_sends.specs.RequestDispatches
 pub use Rattle.iox_wire_request_sends.specs.Targets

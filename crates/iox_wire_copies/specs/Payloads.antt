@@ -1,8 +1,8 @@
 -- Where the payloads of a port stand.
 use Rattle.std.specs.Prelude.{◌+◌, ◌-◌, ◌<◌, ◌≤◌, ℕ}
 use Rattle.iox_types.specs.Places.{aligned_place}
-use Rattle.iox_wire_loans.specs.declared.slot_places.SlotPlaces.{SlotPlaces}
-use Rattle.iox_wire_loans.specs.Lenders.{user_in}
+use Rattle.iox_wire_request_sends.specs.SlotPlaces.{SlotPlaces}
+use Rattle.iox_wire_request_sends.specs.Lenders.{user_in}
 use Rattle.iox_wire_copies.specs.declared.payload_places.PayloadPlaces.{PayloadPlaces}
 
 -- how far behind the first slot the payload of a slot begins

@@ -13,9 +13,9 @@ use Rattle.iox_wire_locals.specs.Tables.{Setting, state_in}
 use Rattle.iox_wire_seats.specs.Desks.{IsUsed}
 use Rattle.iox_wire_seats.specs.Lends.{MayLend}
 use Rattle.iox_wire_seats.specs.Seats.{Placed}
-use Rattle.iox_wire_loans.specs.Aims.{GetsBackUsed, TellsOfSlot, after, answered}
-use Rattle.iox_wire_loans.specs.Loans as loans
-use Rattle.iox_wire_loans.specs.declared.order.Order.{Order}
+use Rattle.iox_wire_request_sends.specs.WireLoansAims.{GetsBackUsed, TellsOfSlot, after, answered}
+use Rattle.iox_wire_request_sends.specs.Loans as loans
+use Rattle.iox_wire_request_sends.specs.Order.{Order}
 use Rattle.iox_wire_sends.specs.Aims as responses
 use Rattle.iox_wire_sends.specs.Aims.{FindsAt, IsToldOf, MayCountMade}
 use Rattle.iox_wire_sends.specs.Dispatches as dispatches

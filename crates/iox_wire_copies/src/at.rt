@@ -1,7 +1,6 @@
 //! Where a copy is, and what it answers as it is over.
-use iox_wire_loans::LendReply;
 use iox_wire_locals::Entry;
-use iox_wire_request_sends::RequestReply;
+use iox_wire_request_sends::{LendReply, RequestReply};
 use iox_wire_sends::RespondReply;
 
 /// Where the loan of a copy is, without what belongs to it.

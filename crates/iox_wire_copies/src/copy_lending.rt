@@ -10,8 +10,8 @@ use crate::at::{CopyAt, CopyLent};
 use crate::payload_places::PayloadPlaces;
 use iox_model::kind::Kind;
 use iox_steps::Access;
-use iox_wire_loans::{Lending, SlotPlaces};
 use iox_wire_locals::Entry;
+use iox_wire_request_sends::{Lending, SlotPlaces};
 use iox_wire_seats::StoredSeat;
 use std::alloc::Global;
 use std::marker::Model;
@@ -61,7 +61,7 @@ pub struct CopyLending {
 impl Model for CopyLending {
     ghost use Rattle.std.specs.Prelude.{◌≡◌, ◌≤◌, length};
     ghost use Rattle.iox_wire_locals.specs.Begins.{is_busy};
-    ghost use Rattle.iox_wire_loans.specs.Lenders.{IsWithin};
+    ghost use Rattle.iox_wire_request_sends.specs.Lenders.{IsWithin};
     ghost use Rattle.iox_wire_copies.specs.Copies.{CopyLoan, HasMade, HasSlots, HasWordsLeft};
     ghost use Rattle.iox_wire_copies.specs.Copies.{lends_at, local_of};
     ghost use Rattle.iox_wire_copies.specs.Payloads.{HasRoom};
@@ -98,7 +98,7 @@ impl CopyLending {
     ghost use Rattle.iox_wire_locals.specs.Tables.{Setting};
     ghost use Rattle.iox_wire_seats.specs.Aims.{KeepsRoom};
     ghost use Rattle.iox_wire_seats.specs.Lends.{MayLend};
-    ghost use Rattle.iox_wire_loans.specs.Aims.{GetsBackUsed};
+    ghost use Rattle.iox_wire_request_sends.specs.WireLoansAims.{GetsBackUsed};
     ghost use Rattle.iox_wire_copies.specs.CopyAims.{GoesOn, HoldsMade, IsAimed, IsMade, IsSameCopy};
     ghost use Rattle.iox_wire_copies.specs.CopyAims.{KeepsPeers, MayLendMade, StaysAimed};
 

@@ -14,8 +14,9 @@ pub use at::{CopyLent, CopyReply, ResponseCopyReply};
 pub use copy_lending::CopyLending;
 pub use copying_client::CopyingClient;
 pub use copying_server::CopyingServer;
-pub use iox_wire_loans::{LendReply, Lender, Lending, SlotPlaces};
-pub use iox_wire_request_sends::{RequestReply, RequestTerms, Requesting, Target};
+pub use iox_wire_request_sends::{
+    LendReply, Lender, Lending, RequestReply, RequestTerms, Requesting, SlotPlaces, Target,
+};
 pub use iox_wire_sends::{RespondReply, Responding, ResponseTerms};
 pub use payload_places::PayloadPlaces;
 pub use worked::worked_copies_take_nineteen;

@@ -1,7 +1,7 @@
 //! Where the payloads of a port stand.
 ghost use Rattle.std.specs.Prelude.{◌≡◌, ◌+◌, ◌*◌, ◌<◌, ◌≤◌, ◌^◌};
 
-use iox_wire_loans::SlotPlaces;
+use iox_wire_request_sends::SlotPlaces;
 
 /// Where the payload stands in a slot, behind both headers.
 #[derive(Clone, Copy, Debug)]
@@ -14,7 +14,7 @@ pub struct PayloadPlaces {
 
 impl PayloadPlaces {
     ghost use Rattle.std.specs.Prelude.{◌≡◌, ◌+◌, ◌*◌, ◌<◌, ◌≤◌, ◌^◌};
-    ghost use Rattle.iox_wire_loans.specs.Lenders.{IsWithin};
+    ghost use Rattle.iox_wire_request_sends.specs.Lenders.{IsWithin};
     ghost use Rattle.iox_wire_copies.specs.Payloads.{HasRoom, payload_at};
 
     /// Where it stands in that slot.

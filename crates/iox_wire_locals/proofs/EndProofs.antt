@@ -1,7 +1,7 @@
 -- By cases of the ending.
 use Rattle.std.specs.Prelude.{map, not, ◌++◌}
 use Rattle.std.proofs.Common.{◌≡◌, ℕ, Bool, true, false, if◌then◌else◌, ◌==◌, List, [], ◌∷◌, refl, ap, sym, subst}
-use Rattle.iox_laws.proofs.WeaveLaws.MapLemmas.{eqb-refl}
+use Rattle.iox_wire_moments.proofs.WeaveLaws.MapLemmas.{eqb-refl}
 use Rattle.iox_model.specs.Counts.{without_handle, with_handle, dropped, gives_up, with_fixed, received_handle, holding}
 use Rattle.iox_model.specs.Ends as ends
 use Rattle.iox_model.specs.Expiries.{released}

@@ -30,10 +30,10 @@ use Rattle.iox_steps.specs.Pushes.{push_event, full_look_event}
 use Rattle.iox_steps.specs.Pops.{pop_event, empty_look_event}
 use Rattle.iox_steps.specs.Sides.{pushing_after, popping_after}
 use Rattle.iox_steps.specs.Sites.{last_position, is_full}
-use Rattle.iox_word_map.specs.WordMaps.{MessageQueue, ReturningQueue}
-use Rattle.iox_wire_words.specs.Programs.{site_of}
+use Rattle.iox_wire_moments.specs.WordMaps.{MessageQueue, ReturningQueue}
+use Rattle.iox_wire_moments.specs.Programs.{site_of}
 use Rattle.iox_wire_moments.specs.MomentsOf.{Pools, push_moment, full_look_moment, pop_moment, empty_look_moment, give_back_moment, get_back_moment}
-use Rattle.iox_laws.proofs.WeaveLaws.MapLemmas.{same_way-refl}
+use Rattle.iox_wire_moments.proofs.WeaveLaws.MapLemmas.{same_way-refl}
 use Rattle.iox_wire_locals.specs.declared.table.Entry.{Entry}
 use Rattle.iox_wire_locals.specs.declared.table.NewLoan.{NewLoan}
 use Rattle.iox_wire_locals.specs.declared.local.Delivery.{Delivery}

@@ -3,8 +3,8 @@ use Rattle.std.specs.Prelude.{not}
 use Rattle.std.proofs.Common.{◌≡◌, Bool, true, false, if◌then◌else◌, ◌||◌, List, [], ◌∷◌, refl, ap, sym, subst}
 use Rattle.iox_model.specs.declared.way.Way.{Way}
 use Rattle.iox_model.specs.Maps.{same_way, has_way, without_way, not_in}
-use Rattle.iox_laws.proofs.WeaveLaws.MapLemmas.{is_in-first, same_way-true, same_way-flip}
-use Rattle.iox_laws.proofs.WeaveLedger.Truths.{or-false, or-right}
+use Rattle.iox_wire_moments.proofs.WeaveLaws.MapLemmas.{is_in-first, same_way-true, same_way-flip}
+use Rattle.iox_wire_moments.proofs.WeaveLedger.Truths.{or-false, or-right}
 use Rattle.iox_wire_locals.specs.Laws.{VisitsGoOn, VisitsEnd}
 
 -- a way that is not there is none of those left out

@@ -3,8 +3,8 @@ use Rattle.std.specs.Prelude.{ℕ, ◌+◌, ◌-◌, ◌^◌, true, false, if◌
 use Rattle.iox_model.specs.declared.way.RequestState.{RequestState}
 use Rattle.iox_model.specs.declared.way.RequestState.TheVariants.{Closed, Named}
 use Rattle.iox_model.specs.Messages.{response_way}
-use Rattle.iox_word_map.specs.WordMaps.{MessageQueue, ReturningQueue}
-use Rattle.iox_wire_words.specs.Programs.{Program, Rests, Pushes, Pops, LoadsState, StoresState, ExchangesState, LoadsWord, StoresWord}
+use Rattle.iox_wire_moments.specs.WordMaps.{MessageQueue, ReturningQueue}
+use Rattle.iox_wire_moments.specs.Programs.{Program, Rests, Pushes, Pops, LoadsState, StoresState, ExchangesState, LoadsWord, StoresWord}
 use Rattle.iox_wire_locals.specs.declared.local.Local.{Local}
 use Rattle.iox_wire_locals.specs.declared.local.Local.TheVariants.{Idle, Ends, LendEmpties, LendStores, Writes, SendAsks, SendEmpties, SendLooks, SendOpens, SendPushes, SendEvicts, SendGetsBack, SendEnds, ReceiveLooks, ReceivePops, ReceiveLoads, ReceiveAsks, ReceiveReturns, Reads, ReleaseCloses, ReleaseReturns, ReleaseLooks, ReleaseExchanges, Checks, Hints, HintExchanges, Seeks}
 use Rattle.iox_wire_locals.specs.Stored.{header_length}

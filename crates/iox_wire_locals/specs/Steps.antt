@@ -5,8 +5,8 @@ use Rattle.iox_steps.specs.declared.side.Pushing.{Pushing}
 use Rattle.iox_steps.specs.declared.side.Popping.{Popping}
 use Rattle.iox_steps.specs.declared.side.QueueEvent.{QueueEvent}
 use Rattle.iox_steps.specs.Sides.{pushing_event, pushing_after, popping_event, popping_after}
-use Rattle.iox_word_map.specs.WordMaps.{WireQueue, MessageQueue, ReturningQueue}
-use Rattle.iox_wire_words.specs.Programs.{site_of}
+use Rattle.iox_wire_moments.specs.WordMaps.{WireQueue, MessageQueue, ReturningQueue}
+use Rattle.iox_wire_moments.specs.Programs.{site_of}
 use Rattle.iox_wire_locals.specs.declared.local.Ending.{Ending}
 use Rattle.iox_wire_locals.specs.declared.local.Ending.TheVariants as endings
 use Rattle.iox_wire_locals.specs.declared.local.Local.{Local}

@@ -6,7 +6,7 @@ use Rattle.iox_model.specs.Handles.{same_kind}
 use Rattle.iox_model.specs.Messages.{request_way, response_way}
 use Rattle.iox_model.specs.Settings.{Limits, Shape, shape_of}
 use Rattle.iox_model.specs.States.{Port, Handle}
-use Rattle.iox_wire_words.specs.Programs.{WireLayout}
+use Rattle.iox_wire_moments.specs.Programs.{WireLayout}
 use Rattle.iox_wire_moments.specs.MomentsOf.{Pools}
 use Rattle.iox_wire_locals.specs.declared.table.Entry.{Entry}
 use Rattle.iox_wire_locals.specs.Stored.{header_length, pool_word}

@@ -10,7 +10,7 @@ use Rattle.iox_model.specs.Commands.{Reply, Call, Payload}
 use Rattle.iox_model.specs.Messages.{request_way}
 use Rattle.iox_steps.specs.declared.access.Access.{Access}
 use Rattle.iox_steps.specs.Accesses.{seen_at, words_after}
-use Rattle.iox_wire_words.specs.Programs.{program_access}
+use Rattle.iox_wire_moments.specs.Programs.{program_access}
 use Rattle.iox_wire_locals.specs.declared.seat.Seat.{Seat}
 use Rattle.iox_wire_locals.specs.Tables.{Setting}
 use Rattle.iox_wire_locals.specs.Locals.{program_of}

@@ -10,8 +10,8 @@ use Rattle.iox_model.specs.Messages.{response_way}
 use Rattle.iox_model.specs.Settings.{Limits, Shape}
 use Rattle.iox_model.specs.States.{Port}
 use Rattle.iox_steps.specs.declared.site.QueueKind.TheVariants.{Index}
-use Rattle.iox_word_map.specs.WordMaps.{WireQueue, MessageQueue, ReturningQueue, all_ones}
-use Rattle.iox_wire_words.specs.Programs.{WireLayout}
+use Rattle.iox_wire_moments.specs.WordMaps.{WireQueue, MessageQueue, ReturningQueue, all_ones}
+use Rattle.iox_wire_moments.specs.Programs.{WireLayout}
 use Rattle.iox_wire_locals.specs.declared.table.Desk.{Desk}
 use Rattle.iox_wire_locals.specs.declared.local.Local.TheVariants.{Idle}
 use Rattle.iox_wire_locals.specs.declared.seat.Seat.{Seat}

@@ -3,14 +3,14 @@ use Rattle.std.specs.Prelude.{map, take, nat_le, not, ◌++◌}
 use Rattle.std.proofs.Common.{if◌then◌else◌, ◌≡◌, ℕ, ◌+◌, ◌<◌, ◌≤◌, Bool, true, false, List, [], ◌∷◌, length, refl, ap, sym, subst, ◌∙◌, inl, inr, Some, arith}
 use Rattle.std.proofs.lemmas.Bool.{cases_Bool, lt-ltb, le-leb}
 use Rattle.std.proofs.lemmas.List.{length-map}
-use Rattle.iox_model.specs.declared.way.Way.{Way}
-use Rattle.iox_model.specs.Messages.{serials_of}
-use Rattle.iox_model.specs.States.{State}
-use Rattle.iox_model.specs.Maps.{is_empty, first_of, rest_of, same_way}
-use Rattle.iox_model.specs.Moments.{room_on}
-use Rattle.iox_model.specs.Moments as moments
-use Rattle.iox_model.specs.Peers.{is_counted_on, buffer_on, overflows_on}
-use Rattle.iox_laws.proofs.WeaveLaws.MapLemmas.{same_way-true}
+use Rattle.iox_wire_words.specs.Way.{Way}
+use Rattle.iox_wire_words.specs.Messages.{serials_of}
+use Rattle.iox_wire_words.specs.States.{State}
+use Rattle.iox_wire_words.specs.Maps.{is_empty, first_of, rest_of, same_way}
+use Rattle.iox_wire_words.specs.Moments.{room_on}
+use Rattle.iox_wire_words.specs.Moments as moments
+use Rattle.iox_wire_words.specs.Peers.{is_counted_on, buffer_on, overflows_on}
+use Rattle.iox_wire_words.proofs.WeaveLaws.MapLemmas.{same_way-true}
 use Rattle.iox_steps.specs.declared.site.QueueKind.TheVariants.{Index, Overflowing}
 use Rattle.iox_steps.specs.declared.side.QueueEvent.{QueueEvent}
 use Rattle.iox_steps.specs.declared.side.QueueEvent.TheVariants.{Quiet, Publish, HandOut, Evict, Learn, SeesEmpty, SeesWaiting, SeesFull, SeesRoom, SeesEnd}
@@ -22,7 +22,7 @@ use Rattle.iox_steps.specs.Events.{rest, front, waiting_after, hand_after, IsTru
 use Rattle.iox_steps.specs.Fits.{PushingKnows}
 use Rattle.iox_steps.specs.Pushes.{push_event, full_look_event}
 use Rattle.iox_steps.specs.Pops.{pop_event, empty_look_event}
-use Rattle.iox_word_map.specs.WordMaps.{WireQueue, MessageQueue, ReturningQueue, IsWay}
+use Rattle.iox_wire_words.specs.WordMaps.{WireQueue, MessageQueue, ReturningQueue, IsWay}
 use Rattle.iox_wire_words.specs.Programs.{same_queue, WireLayout, site_of, pusher_of, Pushes, Pops, pushing_in}
 use Rattle.iox_wire_words.specs.Fits.{WireContents, with_queue}
 use Rattle.iox_wire_words.proofs.PieceLemmas.{same_queue-refl, same_queue-true}

@@ -1,10 +1,10 @@
 -- Each access of a queue is one moment that is true of the state, or none.
 use Rattle.std.specs.Prelude.{◌≡◌, ℕ, true, Option, Some, None}
-use Rattle.iox_model.specs.States.{State}
-use Rattle.iox_model.specs.Moments.{Holds, moved, Moment}
-use Rattle.iox_model.specs.Peers.{is_counted_on}
+use Rattle.iox_wire_words.specs.States.{State}
+use Rattle.iox_wire_words.specs.Moments.{Holds, moved, Moment}
+use Rattle.iox_wire_words.specs.Peers.{is_counted_on}
 use Rattle.iox_steps.specs.Accesses.{seen_by}
-use Rattle.iox_word_map.specs.WordMaps.{MessageQueue, ReturningQueue}
+use Rattle.iox_wire_words.specs.WordMaps.{MessageQueue, ReturningQueue}
 use Rattle.iox_wire_words.specs.Programs.{WireLayout, Program, Pushes, Pops, program_access}
 use Rattle.iox_wire_words.specs.Fits.{WireContents, IsSized, WordsFit, contents_after, MayRun}
 use Rattle.iox_wire_moments.specs.MomentsOf.{Pools, moment_of}

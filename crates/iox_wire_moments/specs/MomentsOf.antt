@@ -1,16 +1,16 @@
 -- Which moment of the machine an access of a queue is, if any.
 use Rattle.std.specs.Prelude.{ℕ, Option, Some, None}
-use Rattle.iox_model.specs.declared.way.Way.{Way}
-use Rattle.iox_model.specs.Messages.{Message}
-use Rattle.iox_model.specs.Moments as moments
-use Rattle.iox_model.specs.Moments.{Moment}
+use Rattle.iox_wire_words.specs.Way.{Way}
+use Rattle.iox_wire_words.specs.Messages.{Message}
+use Rattle.iox_wire_words.specs.Moments as moments
+use Rattle.iox_wire_words.specs.Moments.{Moment}
 use Rattle.iox_steps.specs.declared.side.QueueEvent.{QueueEvent}
 use Rattle.iox_steps.specs.declared.side.QueueEvent.TheVariants.{Publish, HandOut, Evict, Learn, SeesEmpty, SeesWaiting, SeesFull, SeesRoom}
 use Rattle.iox_steps.specs.declared.side.Pushing.TheVariants as pushing
 use Rattle.iox_steps.specs.declared.side.Popping.TheVariants as popping
 use Rattle.iox_steps.specs.Pushes.{push_event, full_look_event}
 use Rattle.iox_steps.specs.Pops.{pop_event, empty_look_event}
-use Rattle.iox_word_map.specs.WordMaps.{MessageQueue, ReturningQueue}
+use Rattle.iox_wire_words.specs.WordMaps.{MessageQueue, ReturningQueue}
 use Rattle.iox_wire_words.specs.Programs.{WireLayout, site_of, Program, Pushes, Pops}
 
 -- the message in each slot of each port's pool

@@ -1,10 +1,10 @@
 -- How the queues of a wire agree with what the machine's state says of its ways.
 use Rattle.std.specs.Prelude.{◌≡◌, true, if◌then◌else◌, map}
-use Rattle.iox_model.specs.declared.way.Way.{Way}
-use Rattle.iox_model.specs.States.{Fixed, State}
-use Rattle.iox_model.specs.Peers.{is_counted_on, buffer_on, overflows_on}
+use Rattle.iox_wire_words.specs.Way.{Way}
+use Rattle.iox_wire_words.specs.States.{Fixed, State}
+use Rattle.iox_wire_words.specs.Peers.{is_counted_on, buffer_on, overflows_on}
 use Rattle.iox_steps.specs.declared.site.QueueKind.TheVariants.{Index, Overflowing}
-use Rattle.iox_word_map.specs.WordMaps.{MessageQueue, ReturningQueue, IsWay}
+use Rattle.iox_wire_words.specs.WordMaps.{MessageQueue, ReturningQueue, IsWay}
 use Rattle.iox_wire_words.specs.Programs.{WireLayout}
 use Rattle.iox_wire_words.specs.Fits.{WireContents}
 use Rattle.iox_wire_moments.specs.MomentsOf.{Pools, serial_in}

@@ -10,6 +10,7 @@ mod uses;
 mod worked;
 
 pub use at::RequestReply;
+pub use iox_wire_loans::{LendReply, Lender, Lending, SlotPlaces};
 pub use requesting::Requesting;
 pub use target::{RequestTerms, Target};
 pub use worked::worked_request_sends_take_nine;

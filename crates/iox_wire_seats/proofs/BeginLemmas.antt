@@ -13,7 +13,7 @@ use Rattle.iox_steps.specs.declared.push.Push.TheVariants as push
 use Rattle.iox_steps.specs.declared.side.Pushing.TheVariants as pushing
 use Rattle.iox_word_map.specs.WordMaps.{WireQueue, MessageQueue, ReturningQueue, QueueWords, IsQueue, piece_place, piece_size, total_words}
 use Rattle.iox_word_map.proofs.Pieces.{pieces_are_within}
-use Rattle.iox_wire_words.specs.Programs.{WireLayout, site_of}
+use Rattle.iox_word_places.specs.Programs.{WireLayout, site_of}
 use Rattle.iox_word_places.specs.declared.plan.PlanPort.{PlanPort}
 use Rattle.iox_word_places.specs.declared.plan.WirePlan.{WirePlan}
 use Rattle.iox_word_places.specs.declared.way_index.WayIndex.{WayIndex}

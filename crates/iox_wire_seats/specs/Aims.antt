@@ -12,7 +12,7 @@ use Rattle.iox_steps.specs.declared.site.QueueKind.{QueueKind}
 use Rattle.iox_steps.specs.declared.site.Site.{Site}
 use Rattle.iox_steps.specs.Sites.{size}
 use Rattle.iox_word_map.specs.WordMaps.{MessageQueue, ReturningQueue}
-use Rattle.iox_wire_words.specs.Programs.{site_of, state_place, word_place}
+use Rattle.iox_word_places.specs.Programs.{site_of, state_place, word_place}
 use Rattle.iox_wire_locals.specs.declared.table.Entry.{Entry}
 use Rattle.iox_wire_locals.specs.declared.table.Desk.{Desk}
 use Rattle.iox_wire_locals.specs.declared.local.Local.{Local}

@@ -146,7 +146,7 @@ impl Model for StoredSeat {
 
 impl StoredSeat {
     ghost use Rattle.std.specs.Prelude.{◌≡◌, ◌+◌, ◌<◌, ◌^◌, IfOk};
-    ghost use Rattle.iox_wire_words.specs.Programs.{program_access};
+    ghost use Rattle.iox_word_places.specs.Programs.{program_access};
     ghost use Rattle.iox_wire_locals.specs.Begins.{is_busy};
     ghost use Rattle.iox_wire_locals.specs.Tables.{Setting, entry_at};
     ghost use Rattle.iox_wire_locals.specs.Locals.{program_of};

@@ -7,7 +7,7 @@ ghost use Rattle.iox_steps.specs.Sites.{size};
 ghost use Rattle.iox_wire_locals.specs.ReceiveCourses.{releasing};
 ghost use Rattle.iox_wire_locals.specs.Locals.{program_of};
 ghost use Rattle.iox_wire_locals.specs.Steps.{next};
-ghost use Rattle.iox_wire_words.specs.Programs.{program_access};
+ghost use Rattle.iox_word_places.specs.Programs.{program_access};
 ghost use Rattle.iox_wire_locals.specs.Tables.{Setting};
 ghost use Rattle.iox_word_places.specs.declared.way_index.WayIndex.TheVariants.{Responses};
 ghost use Rattle.iox_word_places.specs.Plans.{IsWayAt, way_at};

@@ -1,7 +1,7 @@
 -- Programs that begin change no word, and empty queues fit.
 use Rattle.std.proofs.Common.{◌≡◌, ℕ, ◌⊎◌, ◌==◌, List, refl, ap, sym, ◌∙◌, inl, inr, eqb-true}
 use Rattle.std.proofs.lemmas.Bool.{cases_Bool}
-use Rattle.iox_model.specs.Maps.{put_at}
+use Rattle.iox_word_map.specs.Maps.{put_at}
 use Rattle.iox_steps.specs.declared.site.Site.{Site}
 use Rattle.iox_steps.specs.declared.side.Pushing.{Pushing}
 use Rattle.iox_steps.specs.declared.side.Pushing.TheVariants as pushing

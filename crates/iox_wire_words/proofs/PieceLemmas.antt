@@ -1,7 +1,7 @@
 -- Pieces and queues are the same, or others.
 use Rattle.std.proofs.Common.{◌≡◌, ◌⊎◌, Bool, true, false, ◌==◌, refl, ap, sym, subst, ◌∙◌, inl, inr, true≢false, eqb-true, eq-eqb}
 use Rattle.std.proofs.lemmas.Bool.{cases_Bool}
-use Rattle.iox_model.specs.Maps.{same_way}
+use Rattle.iox_word_map.specs.Maps.{same_way}
 use Rattle.iox_laws.proofs.WeaveLaws.MapLemmas.{same_way-refl, same_way-true}
 use Rattle.iox_word_map.specs.WordMaps.{WireQueue, MessageQueue, ReturningQueue, Piece, Region, QueueWords, StateWord}
 use Rattle.iox_wire_words.specs.Programs.{same_queue}

@@ -2,8 +2,8 @@
 use Rattle.std.proofs.Common.{◌≡◌, ℕ, ◌+◌, ◌<◌, ◌≤◌, true, false, if◌then◌else◌, ◌==◌, length, refl, ap, sym, subst, ◌∙◌, inl, inr, true≢false, eqb-true, eq-eqb, arith}
 use Rattle.std.proofs.lemmas.Bool.{cases_Bool}
 use Rattle.std.specs.Prelude.{slice_index}
-use Rattle.iox_model.specs.declared.way.Way.{Way}
-use Rattle.iox_model.specs.Maps.{has_number, put_at, same_way}
+use Rattle.iox_word_map.specs.Way.{Way}
+use Rattle.iox_word_map.specs.Maps.{has_number, put_at, same_way}
 use Rattle.iox_laws.proofs.WeaveLaws.MapLemmas.{same_way-refl, same_way-true}
 use Rattle.iox_steps.specs.declared.access.Access.{Access}
 use Rattle.iox_steps.specs.declared.access.Access.TheVariants.{Load, Store, CompareExchange}

@@ -1,6 +1,6 @@
 -- That programs may begin without a change of words, and what the words of a new wire hold.
 use Rattle.std.specs.Prelude.{◌≡◌, ℕ, ◌^◌, ◌<◌, []}
-use Rattle.iox_model.specs.Maps.{put_at}
+use Rattle.iox_word_map.specs.Maps.{put_at}
 use Rattle.iox_steps.specs.declared.site.QueueKind.TheVariants.{Overflowing}
 use Rattle.iox_steps.specs.declared.side.Pushing.TheVariants as pushing
 use Rattle.iox_steps.specs.declared.side.Popping.TheVariants as popping

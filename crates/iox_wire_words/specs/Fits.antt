@@ -1,7 +1,7 @@
 -- What the words of a wire hold while each node is somewhere in a program.
 use Rattle.std.specs.Prelude.{◌≡◌, ℕ, ◌<◌, true, if◌then◌else◌, ◌==◌}
-use Rattle.iox_model.specs.declared.way.Way.{Way}
-use Rattle.iox_model.specs.Maps.{has_number, put, put_at}
+use Rattle.iox_word_map.specs.Way.{Way}
+use Rattle.iox_word_map.specs.Maps.{has_number, put, put_at}
 use Rattle.iox_steps.specs.declared.site.Site.{Site}
 use Rattle.iox_steps.specs.declared.side.Pushing.{Pushing}
 use Rattle.iox_steps.specs.declared.side.Popping.{Popping}

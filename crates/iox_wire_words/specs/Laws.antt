@@ -1,7 +1,7 @@
 -- After each access of a node's program the words fit again, wherever in their programs the other
 -- nodes are.
 use Rattle.std.specs.Prelude.{◌≡◌, ℕ, ◌≤◌, List, length, slice_index}
-use Rattle.iox_model.specs.Maps.{put_at}
+use Rattle.iox_word_map.specs.Maps.{put_at}
 use Rattle.iox_steps.specs.declared.access.Access.{Access}
 use Rattle.iox_steps.specs.Accesses.{place_of, change_of, seen_by, words_after, IsWithin, Changes}
 use Rattle.iox_steps.specs.Laws.{Keeps, pushing_turn, popping_turn}

@@ -1,8 +1,8 @@
 -- What a node does to the words of a wire: it runs a queue's program, or accesses a request state
 -- or a word of a message.
 use Rattle.std.specs.Prelude.{ℕ, ◌+◌, Bool, false, if◌then◌else◌}
-use Rattle.iox_model.specs.declared.way.Way.{Way}
-use Rattle.iox_model.specs.Maps.{same_way}
+use Rattle.iox_word_map.specs.Way.{Way}
+use Rattle.iox_word_map.specs.Maps.{same_way}
 use Rattle.iox_steps.specs.declared.access.Access.{Access}
 use Rattle.iox_steps.specs.declared.access.Access.TheVariants.{Local, Load, Store, CompareExchange}
 use Rattle.iox_steps.specs.declared.site.QueueKind.{QueueKind}

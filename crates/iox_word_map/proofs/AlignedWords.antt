@@ -5,7 +5,7 @@ use Rattle.std.specs.Int.{IsPowerOfTwo}
 use Rattle.std.proofs.Math.Nat.{div-div-eq-div-mul, mul_assoc}
 use Rattle.std.proofs.lemmas.Nat.{pow-add, pow_pos}
 use Rattle.std.proofs.lemmas.Bool.{cases_lt}
-use Rattle.iox_types.specs.Places.{IsAlignedTo, aligned_place}
+use Rattle.iox_model.specs.Places.{IsAlignedTo, aligned_place}
 use Rattle.iox_word_map.specs.MessageWords.{in_words}
 
 -- what is below 8 keeps a whole word where it is

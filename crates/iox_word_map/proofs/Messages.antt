@@ -3,11 +3,11 @@ use Rattle.std.proofs.Common.{◌≡◌, ℕ, ◌+◌, ◌-◌, ◌*◌, ◌/◌
 use Rattle.std.proofs.Math.Nat.{add-mul, mul_assoc}
 use Rattle.std.proofs.lemmas.Nat.{mul-le, same_from_place}
 use Rattle.iox_steps.specs.Accesses.{AreApart}
-use Rattle.iox_types.specs.Compatibility.{AreCompatible}
-use Rattle.iox_types.specs.Layouts.{StandsAt, message_size, user_header_place, payload_place}
-use Rattle.iox_types.specs.Places.{IsAlignedTo, aligned_place}
-use Rattle.iox_types.specs.declared.message_type_details.MessageTypeDetails.{MessageTypeDetails}
-use Rattle.iox_types.proofs.LayoutLemmas.{IsPowerOfTwo-positive, aligned_place-ge, LaysOut-message}
+use Rattle.iox_model.specs.Compatibility.{AreCompatible}
+use Rattle.iox_model.specs.Layouts.{StandsAt, message_size, user_header_place, payload_place}
+use Rattle.iox_model.specs.Places.{IsAlignedTo, aligned_place}
+use Rattle.iox_model.specs.MessageTypeDetails.{MessageTypeDetails}
+use Rattle.iox_model.proofs.LayoutLemmas.{IsPowerOfTwo-positive, aligned_place-ge, LaysOut-message}
 use Rattle.iox_word_map.specs.declared.message_part.MessagePart.{MessagePart}
 use Rattle.iox_word_map.specs.declared.message_part.MessagePart.TheVariants.{Header, UserHeader, Payload}
 use Rattle.iox_word_map.specs.MessageWords.{part_byte, part_bytes, part_words, slot_place, part_place, place_in, user_word, payload_word, part_word, IsInWords, IsSlotFor}

@@ -1,7 +1,7 @@
 -- Each word of a message stands in its slot, and no two words of messages in one place.
 use Rattle.std.specs.Prelude.{◌≡◌, ℕ, ◌+◌, ◌*◌, ◌<◌, ◌≤◌}
 use Rattle.iox_steps.specs.Accesses.{AreApart}
-use Rattle.iox_types.specs.declared.message_type_details.MessageTypeDetails.{MessageTypeDetails}
+use Rattle.iox_model.specs.MessageTypeDetails.{MessageTypeDetails}
 use Rattle.iox_word_map.specs.declared.message_part.MessagePart.{MessagePart}
 use Rattle.iox_word_map.specs.declared.message_part.MessagePart.TheVariants.{Payload}
 use Rattle.iox_word_map.specs.MessageWords.{part_byte, part_bytes, part_words, part_place, part_word}

@@ -2,10 +2,10 @@
 -- Alignments are of bytes, and a slot may begin at an odd word: so where an alignment is above 8,
 -- the parts of a message stand elsewhere in one slot than in the next.
 use Rattle.std.specs.Prelude.{◌≡◌, ℕ, ◌+◌, ◌*◌, ◌/◌, max}
-use Rattle.iox_types.specs.Compatibility.{AreAligned}
-use Rattle.iox_types.specs.Layouts.{message_size, user_header_place, payload_place}
-use Rattle.iox_types.specs.Places.{IsAlignedTo, aligned_place}
-use Rattle.iox_types.specs.declared.message_type_details.MessageTypeDetails.{MessageTypeDetails}
+use Rattle.iox_model.specs.Compatibility.{AreAligned}
+use Rattle.iox_model.specs.Layouts.{message_size, user_header_place, payload_place}
+use Rattle.iox_model.specs.Places.{IsAlignedTo, aligned_place}
+use Rattle.iox_model.specs.MessageTypeDetails.{MessageTypeDetails}
 use Rattle.iox_word_map.specs.declared.message_part.MessagePart.{MessagePart}
 use Rattle.iox_word_map.specs.declared.message_part.MessagePart.TheVariants.{Header, UserHeader, Payload}
 

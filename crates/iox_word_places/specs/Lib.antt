@@ -6,3 +6,5 @@ pub mod PlanLaws
 -- for proofs of this crate alone: sums over ports, and the fields of a map
 pub mod PortSums
 pub mod MapFields
+-- what the crates above cite of those below
+pub use Rattle.iox_wire_words.specs.Programs

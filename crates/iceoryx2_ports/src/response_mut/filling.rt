@@ -3,13 +3,13 @@ ghost use Rattle.std.specs.Prelude.{◌≡◌, ◌↔◌, ◌<◌, ◌≤◌, If
 ghost use Rattle.iox_store.specs.Answering.{FillsByAnswers};
 ghost use Rattle.iox_store.specs.Stored.{with_user, written_next};
 ghost use Rattle.iox_model.specs.declared.kind.Kind.TheVariants as kinds;
-ghost use Rattle.iox_hub.specs.Fillings.{FillsLoan};
-ghost use Rattle.iox_hub.specs.Hubs.{HasValue};
-ghost use Rattle.iox_hub.specs.Reads.{message_in};
+ghost use Rattle.iox_hub_laws.specs.Fillings.{FillsLoan};
+ghost use Rattle.iox_hub_laws.specs.Hubs.{HasValue};
+ghost use Rattle.iox_hub_laws.specs.Reads.{message_in};
 ghost use Rattle.iceoryx2_ports.specs.Keeping.{KeepsValues};
 
 use super::{ResponseMut, ResponseMutUninit};
-use iox_hub::Hub;
+use iox_hub_laws::Hub;
 use iox_store::Payload;
 use iox_words::Words;
 

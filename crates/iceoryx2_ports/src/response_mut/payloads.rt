@@ -8,10 +8,10 @@ ghost use Rattle.iox_model.specs.declared.kind.Role.TheVariants as roles;
 ghost use Rattle.iox_model.specs.declared.reply.Reply.TheVariants.{Done};
 ghost use Rattle.iox_model.specs.WholeCalls.{IsWholeCall};
 ghost use Rattle.iox_tables.specs.HubStates.States.{Given};
-ghost use Rattle.iox_hub.specs.Hubs.{HasValue, state_of_hub};
-ghost use Rattle.iox_hub.specs.Keeping.{KeepsOthers};
-ghost use Rattle.iox_hub.specs.Lending.{IsWritten, payload_of};
-ghost use Rattle.iox_hub.specs.Reads.{message_in};
+ghost use Rattle.iox_hub_laws.specs.Hubs.{HasValue, state_of_hub};
+ghost use Rattle.iox_hub_laws.specs.Keeping.{KeepsOthers};
+ghost use Rattle.iox_hub_laws.specs.Lending.{IsWritten, payload_of};
+ghost use Rattle.iox_hub_laws.specs.Reads.{message_in};
 ghost use Rattle.iox_hub_laws.specs.Sends.{NothingComes};
 ghost use Rattle.iceoryx2_ports.specs.Asking.{AnswersAs};
 ghost use Rattle.iceoryx2_ports.specs.Keeping.{KeepsAsking};
@@ -20,7 +20,7 @@ ghost use Rattle.iceoryx2_ports.specs.Payloads.{reply_of_put};
 ghost use Rattle.iceoryx2_ports.specs.Reaching.{KeepsRoom};
 
 use super::ResponseMut;
-use iox_hub::{Hub, Written};
+use iox_hub_laws::{Hub, Written};
 use iox_store::{One, Payload};
 use iox_words::Words;
 

@@ -2,7 +2,7 @@
 #![tactic(auto, using(crate::proofs::Keeping::kept))]
 
 ghost use Rattle.std.specs.Prelude.{◌≡◌, None, Some, false, slice_get, true};
-ghost use Rattle.iox_lanes.specs.Lanes.{IsSound, LaneState, has_room, is_full, offered, oldest, without_oldest, without_returned};
+ghost use Rattle.iox_tables.specs.Lanes.{IsSound, LaneState, has_room, is_full, offered, oldest, without_oldest, without_returned};
 ghost use Rattle.iox_tables.specs.HubStates.Tables.{PortState, pipes_to};
 ghost use Rattle.iox_tables.specs.HubStates.Ways.{lane_on, with_lane_on};
 ghost use Rattle.iox_hub_ports.specs.Ports.{lane_to_get_at, lane_to_get_on, on_way, on_way_at, pushed, pushed_out, way_from, with_lane_at, with_ports};

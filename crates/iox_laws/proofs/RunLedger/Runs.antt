@@ -1,7 +1,7 @@
 -- Each step leaves what holds of the record between calls, so it holds of each state that is reached.
 use Rattle.std.specs.Prelude.{◌≡◌, ℕ, ◌+◌, ◌≤◌, Bool, true, false, nat_le, List, [], Some, None, refl}
 use Rattle.std.proofs.Common.{sym, subst, arith, inr}
-use Rattle.iox_types.specs.declared.identifiers.system_id.UniqueSystemId.{UniqueSystemId}
+use Rattle.iox_model.specs.UniqueSystemId.{UniqueSystemId}
 use Rattle.iox_model.specs.declared.backpressure.BackpressureAction.{BackpressureAction}
 use Rattle.iox_model.specs.Begins.{start}
 use Rattle.iox_model.specs.Commands.{Reply, Call}

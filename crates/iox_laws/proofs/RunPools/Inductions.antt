@@ -1,7 +1,7 @@
 -- What is so as a service is created, and stays so with each step where all is calm, is so of each
 -- state that is reached.
 use Rattle.std.specs.Prelude.{◌≡◌, ℕ, Bool, [], Some, None}
-use Rattle.iox_types.specs.declared.identifiers.system_id.UniqueSystemId.{UniqueSystemId}
+use Rattle.iox_model.specs.UniqueSystemId.{UniqueSystemId}
 use Rattle.iox_model.specs.declared.kind.Role.{Role}
 use Rattle.iox_model.specs.Commands.{Reply, Call, Options}
 use Rattle.iox_model.specs.Counts.{with_fixed}

@@ -3,8 +3,8 @@ use Rattle.std.specs.Prelude.{◌≡◌, ℕ, Bool, not, ◌||◌, ◌==◌, ◌
 use Rattle.std.specs.List.{list_any}
 use Rattle.std.specs.Option.{option_map_or}
 use Rattle.std.proofs.Common.{sym, subst}
-use Rattle.iox_types.specs.declared.identifiers.system_id.UniqueSystemId.{UniqueSystemId}
-use Rattle.iox_types.specs.Identifiers.{is_node_id}
+use Rattle.iox_model.specs.UniqueSystemId.{UniqueSystemId}
+use Rattle.iox_model.specs.Identifiers.{is_node_id}
 use Rattle.iox_model.specs.declared.kind.Role.{Role}
 use Rattle.iox_model.specs.declared.kind.Role.TheVariants.{Client, Server}
 use Rattle.iox_model.specs.declared.reply.Refusal.TheVariants.{OutOfMemory, UnknownNode, NodeIsDead, NodeIsAlive, HasPorts, ForeignNumber, UnknownNumber}

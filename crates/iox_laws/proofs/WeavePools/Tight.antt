@@ -3,7 +3,7 @@ use Rattle.std.specs.Prelude.{◌≡◌, ℕ, zero, suc, ◌+◌, true, false, L
 use Rattle.iox_model.specs.declared.kind.Role.TheVariants.{Client, Server}
 use Rattle.iox_model.specs.declared.call.Call.TheVariants.{Loan, SendCopy, Receive, Release}
 use Rattle.iox_model.specs.declared.call.WireCall.TheVariants as wire_calls
-use Rattle.iox_types.specs.declared.backpressure.BackpressureStrategy.TheVariants as strategies
+use Rattle.iox_model.specs.BackpressureStrategy.TheVariants as strategies
 use Rattle.iox_model.specs.declared.backpressure.BackpressureAction.TheVariants as actions
 use Rattle.iox_laws.specs.WorkedExamples.EvictionWeaves.{ones}
 use Rattle.iox_model.specs.declared.way.Way.{Way}

@@ -1,7 +1,7 @@
 -- What no step of a service or of its hub makes false stays so over each run and each history.
 use Rattle.std.specs.Prelude.{◌≡◌, ℕ, Bool, true, false, List, [], ◌∷◌, ◌++◌, Option, Some, None, ◌⊎◌, refl}
 use Rattle.std.proofs.Common.{sym, subst, inl, inr}
-use Rattle.iox_types.specs.declared.identifiers.system_id.UniqueSystemId.{UniqueSystemId}
+use Rattle.iox_model.specs.UniqueSystemId.{UniqueSystemId}
 use Rattle.iox_model.specs.declared.backpressure.BackpressureAction.{BackpressureAction}
 use Rattle.iox_model.specs.declared.call.Call.TheVariants.{Release}
 use Rattle.iox_model.specs.declared.command.Command.TheVariants as commands

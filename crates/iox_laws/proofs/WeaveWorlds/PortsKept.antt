@@ -2,7 +2,7 @@
 -- nor a port that goes, nor one whose value is released makes false, is kept by each call.
 use Rattle.std.specs.Prelude.{◌≡◌, ℕ, ◌+◌, ◌-◌, Bool, true, false, not, ◌==◌, List, map, filter, None}
 use Rattle.std.proofs.Common.{sym, subst}
-use Rattle.iox_types.specs.declared.identifiers.system_id.UniqueSystemId.{UniqueSystemId}
+use Rattle.iox_model.specs.UniqueSystemId.{UniqueSystemId}
 use Rattle.iox_model.specs.declared.kind.Role.{Role}
 use Rattle.iox_model.specs.Commands.{Options}
 use Rattle.iox_model.specs.Counts.{added, changed, dropped, numbered, called, gives_up, with_fixed, sent_handle}

@@ -4,7 +4,7 @@ use Rattle.iox_model.specs.declared.call.Call.TheVariants.{Loan, SendCopy, Recei
 use Rattle.iox_model.specs.declared.call.WireCall.TheVariants.{Forget}
 use Rattle.iox_model.specs.declared.call.WireCall.TheVariants as wire_calls
 use Rattle.iox_model.specs.Runs.{IsRun}
-use Rattle.iox_types.specs.declared.backpressure.AllocationStrategy.TheVariants.{PowerOfTwo}
+use Rattle.iox_model.specs.AllocationStrategy.TheVariants.{PowerOfTwo}
 use Rattle.iox_laws.specs.WorkedExamples.EvictionWeaves.{ones, deliver_beats, evict_beats, get_back_beats, next_loan_beats, KeepsTwo}
 use Rattle.iox_model.specs.Weaves.{at_work, World, Beat}
 use Rattle.iox_model.specs.Commands.{WireCall}

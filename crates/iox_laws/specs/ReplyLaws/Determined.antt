@@ -1,7 +1,7 @@
 -- From one state a call has only one reply, whatever lane it takes and in whatever order it visits
 -- its ways.
 use Rattle.std.specs.Prelude.{◌≡◌, ℕ, Bool, true, false, Option, None, ◌⊎◌}
-use Rattle.iox_types.specs.declared.identifiers.system_id.UniqueSystemId.{UniqueSystemId}
+use Rattle.iox_model.specs.UniqueSystemId.{UniqueSystemId}
 use Rattle.iox_model.specs.declared.call.Call.TheVariants.{Read}
 use Rattle.iox_model.specs.declared.kind.Role.{Role}
 use Rattle.iox_model.specs.declared.reply.Refusal.TheVariants.{WantOfMemory, UnableToCreateDataSegment}

@@ -1,7 +1,7 @@
 -- What a refused command leaves unchanged.
 use Rattle.std.specs.Prelude.{◌≡◌, ℕ, not, ◌&&◌, ◌||◌, if◌then◌else◌, ◌==◌, List, ◌++◌, Option, Some, IsTrue}
 use Rattle.std.specs.Option.{option_map_or}
-use Rattle.iox_types.specs.declared.identifiers.system_id.UniqueSystemId.{UniqueSystemId}
+use Rattle.iox_model.specs.UniqueSystemId.{UniqueSystemId}
 use Rattle.iox_model.specs.declared.call.Call.TheVariants.{Loan, LoanUninit, Send, SendCopy, Receive}
 use Rattle.iox_model.specs.declared.command.Command.TheVariants.{Join}
 use Rattle.iox_model.specs.declared.command.Command.TheVariants as commands

@@ -1,7 +1,7 @@
 -- A pool that was not reduced suffices: each loan within size and counts finds a message.
 use Rattle.std.specs.Prelude.{◌≡◌, ℕ, ◌<◌, ◌≤◌, Bool, true, false, if◌then◌else◌, List, [], length, Some, None, IsTrue}
 use Rattle.std.specs.Option.{option_map_or}
-use Rattle.iox_types.specs.declared.identifiers.system_id.UniqueSystemId.{UniqueSystemId}
+use Rattle.iox_model.specs.UniqueSystemId.{UniqueSystemId}
 use Rattle.iox_model.specs.declared.kind.Role.{Role}
 use Rattle.iox_model.specs.declared.way.Way.{Way}
 use Rattle.iox_model.specs.declared.reply.Refusal.TheVariants.{OutOfMemory}

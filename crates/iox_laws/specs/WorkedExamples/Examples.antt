@@ -2,7 +2,7 @@
 -- second.
 use Rattle.std.specs.Prelude.{ℕ, List, [], ◌∷◌, Some, None}
 use Rattle.iox_model.specs.declared.kind.Role.TheVariants.{Client, Server}
-use Rattle.iox_types.specs.declared.identifiers.system_id.UniqueSystemId.{UniqueSystemId}
+use Rattle.iox_model.specs.UniqueSystemId.{UniqueSystemId}
 use Rattle.iox_model.specs.declared.command.PortCommand.TheVariants as asks
 use Rattle.iox_model.specs.declared.command.Command.TheVariants.{Port}
 use Rattle.iox_model.specs.declared.command.Command.TheVariants as commands

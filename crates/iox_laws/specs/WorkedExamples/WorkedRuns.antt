@@ -1,7 +1,7 @@
 -- Worked runs.
 use Rattle.std.specs.Prelude.{◌≡◌, ◌-◌, ◌^◌, true, false, [], ◌∷◌, Some, None}
-use Rattle.iox_types.specs.declared.backpressure.BackpressureStrategy.TheVariants as strategies
-use Rattle.iox_types.specs.declared.backpressure.AllocationStrategy.TheVariants as allocations
+use Rattle.iox_model.specs.BackpressureStrategy.TheVariants as strategies
+use Rattle.iox_model.specs.AllocationStrategy.TheVariants as allocations
 use Rattle.iox_model.specs.declared.command.PortCommand.TheVariants as asks
 use Rattle.iox_model.specs.declared.command.Command.TheVariants.{Port, DeclareDead, Cleanup, ListServers}
 use Rattle.iox_model.specs.declared.reply.Refusal.TheVariants.{InvalidNodeId, LimitTooLarge, ExceedsMaxLoanSize, ExceedsMaxActiveRequests, UnableToDeliver, ExceedsMaxBorrows}

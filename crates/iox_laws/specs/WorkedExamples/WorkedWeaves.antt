@@ -1,7 +1,7 @@
 -- A worked weave, on the wire of a service with two nodes, a client of the first, a server of the
 -- second: a node stops.
 use Rattle.std.specs.Prelude.{◌≡◌, ℕ, true, false, List, [], ◌∷◌, Some, None}
-use Rattle.iox_types.specs.declared.backpressure.AllocationStrategy.TheVariants.{PowerOfTwo}
+use Rattle.iox_model.specs.AllocationStrategy.TheVariants.{PowerOfTwo}
 use Rattle.iox_model.specs.declared.way.RequestState.TheVariants.{Named}
 use Rattle.iox_model.specs.declared.call.Call.TheVariants.{Loan, SendCopy, Receive, IsConnected}
 use Rattle.iox_model.specs.declared.call.WireCall.TheVariants.{Forget}

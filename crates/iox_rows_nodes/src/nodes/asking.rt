@@ -3,7 +3,7 @@ use super::service::id;
 use super::{Ask, TheReply, TheService};
 use iox_model::command::{self, PortCommand, PortOptions};
 use iox_model::reply::{Refusal, Reply};
-use iox_port_commands::Elements;
+use iox_nodes::Elements;
 use iox_types::identifiers::UniqueNodeId;
 use std::alloc::{AllocError, Global};
 

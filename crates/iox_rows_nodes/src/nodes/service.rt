@@ -1,8 +1,8 @@
 //! Services to begin with.
 use super::TheService;
 use iox_control::Settings;
-use iox_hub::{MessageShape, Part};
 use iox_model::reply::Refusal;
+use iox_nodes::{MessageShape, Part};
 use iox_types::identifiers::UniqueSystemId;
 use iox_types::{AllocationStrategy, BackpressureStrategy};
 use std::alloc::{AllocError, Global};

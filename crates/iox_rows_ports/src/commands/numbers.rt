@@ -5,9 +5,8 @@ ghost use Rattle.iox_port_commands.specs.Applying.{HaveDefaults};
 
 use super::{OPTIONS, Told, id, without_list};
 use iox_control::Settings;
-use iox_hub::{Hub, MessageShape, Part};
 use iox_model::command::{PortCommand, PortOptions};
-use iox_port_commands::{Elements, apply};
+use iox_port_commands::{Elements, Hub, MessageShape, Part, apply};
 use iox_store::Many;
 use iox_types::{AllocationStrategy, BackpressureStrategy};
 use std::alloc::{AllocError, Global};

@@ -1,7 +1,7 @@
 use iox_control::Settings;
 use iox_control_making::NotMade;
-use iox_hub::{Hub, MessageShape, Options, Part};
 use iox_model::kind::{Kind, Role};
+use iox_port_commands::{Hub, MessageShape, Options, Part};
 use iox_store::{Many, One};
 use iox_types::identifiers::UniqueSystemId;
 use iox_types::{AllocationStrategy, BackpressureStrategy};

@@ -4,11 +4,11 @@ ghost use Rattle.std.specs.Prelude.{◌≡◌};
 use iox_control::Settings;
 use iox_control_lending::{Lent, LoanRefusal};
 use iox_control_making::NotMade;
-use iox_hub::{
+use iox_model::kind::{Kind, Role};
+use iox_port_commands::{
     Hub, MessageShape, Options, PreallocatedRequestsOverride, PreallocatedResponseOverride,
     default_settings,
 };
-use iox_model::kind::{Kind, Role};
 use iox_store::One;
 use iox_types::AllocationStrategy;
 use iox_types::identifiers::UniqueSystemId;

@@ -1,6 +1,6 @@
 use iox_control::Settings;
-use iox_hub::{Hub, MessageShape, Part};
 use iox_model::kind::Kind;
+use iox_port_commands::{Hub, MessageShape, Part};
 use iox_store::{Many, One};
 use iox_types::{AllocationStrategy, BackpressureStrategy};
 use std::test::Fail;

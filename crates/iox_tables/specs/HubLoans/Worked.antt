@@ -1,6 +1,6 @@
 -- Worked tables: what the laws of loans ask is so there, and more than a refusal is answered.
 use Rattle.std.specs.Prelude.{◌≡◌, ℕ, true, false, [], ◌∷◌, Some, None}
-use Rattle.iox_types.specs.Parts.{part_of_words}
+use Rattle.iox_laws.specs.Parts.{part_of_words}
 use Rattle.iox_model.specs.declared.backpressure.BackpressureAction.TheVariants.{FollowBackpressureStrategy}
 use Rattle.iox_model.specs.declared.kind.Role.TheVariants.{Client, Server}
 use Rattle.iox_model.specs.declared.call.Call.TheVariants.{Loan, Read, SendCopy, Write}

@@ -1,7 +1,7 @@
 -- The state of the machine that the tables of a hub show.
 use Rattle.std.specs.Prelude.{ℕ, false, if◌then◌else◌, ◌==◌, List, [], map, filter, Option}
 use Rattle.std.specs.Option.{option_map_or}
-use Rattle.iox_types.specs.declared.identifiers.system_id.UniqueSystemId.{UniqueSystemId}
+use Rattle.iox_laws.specs.UniqueSystemId.{UniqueSystemId}
 use Rattle.iox_model.specs.declared.backpressure.BackpressureAction.{BackpressureAction}
 use Rattle.iox_model.specs.Messages.{Message}
 use Rattle.iox_model.specs.Settings.{Limits, Shape}

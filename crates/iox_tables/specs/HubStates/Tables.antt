@@ -1,9 +1,9 @@
 -- All that a hub has but the words of messages, as plain data.
 use Rattle.std.specs.Prelude.{ℕ, Bool, if◌then◌else◌, ◌==◌, List, [], ◌∷◌, ◌++◌, map, Option, Some, None, slice_get}
 use Rattle.std.specs.Option.{option_map_or}
-use Rattle.iox_types.specs.declared.identifiers.system_id.UniqueSystemId.{UniqueSystemId}
-use Rattle.iox_types.specs.declared.backpressure.BackpressureStrategy.{BackpressureStrategy}
-use Rattle.iox_types.specs.declared.backpressure.AllocationStrategy.{AllocationStrategy}
+use Rattle.iox_laws.specs.UniqueSystemId.{UniqueSystemId}
+use Rattle.iox_laws.specs.BackpressureStrategy.{BackpressureStrategy}
+use Rattle.iox_laws.specs.AllocationStrategy.{AllocationStrategy}
 use Rattle.iox_model.specs.declared.kind.Kind.{Kind}
 use Rattle.iox_model.specs.declared.kind.Role.{Role}
 use Rattle.iox_lanes.specs.Incomings.{IncomingState}

@@ -1,7 +1,7 @@
 -- Worked tables: what the laws ask is so there, and a server receives.
 use Rattle.std.specs.Prelude.{◌≡◌, ℕ, ◌<◌, ◌^◌, true, false, [], ◌∷◌, Some, None}
-use Rattle.iox_types.specs.declared.backpressure.BackpressureStrategy.TheVariants.{DiscardData}
-use Rattle.iox_types.specs.declared.backpressure.AllocationStrategy.TheVariants.{Static}
+use Rattle.iox_laws.specs.BackpressureStrategy.TheVariants.{DiscardData}
+use Rattle.iox_laws.specs.AllocationStrategy.TheVariants.{Static}
 use Rattle.iox_model.specs.declared.kind.Role.{Role}
 use Rattle.iox_model.specs.declared.kind.Role.TheVariants.{Client, Server}
 use Rattle.iox_model.specs.declared.reply.Reply.TheVariants as replies

@@ -2,7 +2,7 @@
 ghost use Rattle.std.specs.Prelude.{◌≡◌, ◌↔◌, IfErr, IfOk, IsOk, IsTrue};
 
 use super::system_id::{Time, UniqueSystemId};
-use iox_words::Words;
+use iox_names::Words;
 use std::fmt;
 use std::marker::Model;
 use thiserror::Error;

@@ -3,7 +3,7 @@ ghost use Rattle.std.specs.Prelude.{◌≡◌};
 
 use super::kind;
 use super::system_id::{Time, UniqueSystemId};
-use iox_words::Words;
+use iox_names::Words;
 use std::fmt;
 use std::marker::{Model, PhantomData};
 
@@ -99,7 +99,7 @@ impl<Kind> fmt::Display for UniqueId<Kind> {
 impl<Kind> Words for UniqueId<Kind> {
     ghost use Rattle.iox_types.specs.Identifiers.{IsId, id_of_words, id_words};
     ghost use Rattle.iox_types.specs.IdentifierLaws.{two_words_are_an_id};
-    ghost use Rattle.iox_words.specs.Numbers.{IsTwoWords};
+    ghost use Rattle.iox_names.specs.Numbers.{IsTwoWords};
 
     ghost WORDS = { 2 };
 

@@ -1,7 +1,7 @@
 //! The number of 128 bits that every identifier is.
 ghost use Rattle.std.specs.Prelude.{◌≡◌, Some};
 
-use iox_words::Words;
+use iox_names::Words;
 use std::{fmt, str};
 
 /// The time at which an item was made.
@@ -57,7 +57,7 @@ impl UniqueSystemId {
 impl Words for UniqueSystemId {
     ghost use Rattle.iox_types.specs.Identifiers.{IsId, id_words, id_of_words};
     ghost use Rattle.iox_types.specs.IdentifierLaws.{two_words_are_an_id};
-    ghost use Rattle.iox_words.specs.Numbers.{IsTwoWords};
+    ghost use Rattle.iox_names.specs.Numbers.{IsTwoWords};
 
     ghost WORDS = { 2 };
 

@@ -4,7 +4,7 @@ ghost use Rattle.std.specs.Prelude.{◌≡◌, ◌≤◌, length, vec_capacity};
 use super::CopyLending;
 use crate::at::CopyAt;
 use crate::payload_places::PayloadPlaces;
-use iox_wire_loans::Lender;
+use iox_wire_request_sends::Lender;
 use iox_wire_seats::{Stop, StoredSeat};
 use std::alloc::AllocError;
 
@@ -19,9 +19,9 @@ impl CopyLending {
     ghost use Rattle.iox_wire_locals.specs.Tables.{Setting};
     ghost use Rattle.iox_wire_seats.specs.Aims.{QueuesInMemory};
     ghost use Rattle.iox_wire_seats.specs.Seats.{ways_of};
-    ghost use Rattle.iox_wire_loans.specs.Aims.{IsOrdered, LeavesSeat, TellsOfSlot};
-    ghost use Rattle.iox_wire_loans.specs.Lenders.{AreReturning, IsClient, IsLender, IsWhole};
-    ghost use Rattle.iox_wire_loans.specs.Orders.{IsRequest};
+    ghost use Rattle.iox_wire_request_sends.specs.WireLoansAims.{IsOrdered, LeavesSeat, TellsOfSlot};
+    ghost use Rattle.iox_wire_request_sends.specs.Lenders.{AreReturning, IsClient, IsLender, IsWhole};
+    ghost use Rattle.iox_wire_request_sends.specs.Orders.{IsRequest};
     ghost use Rattle.iox_wire_copies.specs.Copies.{ArePayloads};
     ghost use Rattle.iox_wire_copies.specs.CopyAims.{HasSamePeers, IsAimed};
     ghost use Rattle.iox_wire_copies.specs.Payloads.{HasRoom};

@@ -10,7 +10,7 @@ impl CopyLending {
     ghost use Rattle.iox_wire_locals.specs.Begins.{is_busy};
     ghost use Rattle.iox_wire_seats.specs.Aims.{KeepsRoom};
     ghost use Rattle.iox_wire_seats.specs.Lends.{MayLend};
-    ghost use Rattle.iox_wire_loans.specs.Aims.{GetsBackUsed, IsLoanAt, is_storing};
+    ghost use Rattle.iox_wire_request_sends.specs.WireLoansAims.{GetsBackUsed, IsLoanAt, is_storing};
     ghost use Rattle.iox_wire_copies.specs.CopyAims.{GoesOn, HoldsMade, IsLending, IsMade};
     ghost use Rattle.iox_wire_copies.specs.CopyAims.{IsSameCopy, KeepsPeers, MayLendMade};
     ghost use Rattle.iox_wire_copies.specs.CopyAims.{StaysAimed};

@@ -5,8 +5,8 @@ use super::CopyLending;
 use super::begin::replace;
 use crate::at::CopyAt;
 use crate::payload_places::PayloadPlaces;
-use iox_wire_loans::Lender;
 use iox_wire_locals::Entry;
+use iox_wire_request_sends::Lender;
 use iox_wire_seats::{Stop, StoredSeat};
 use std::alloc::AllocError;
 
@@ -21,9 +21,9 @@ impl CopyLending {
     ghost use Rattle.iox_wire_locals.specs.Tables.{Setting};
     ghost use Rattle.iox_wire_seats.specs.Aims.{QueuesInMemory};
     ghost use Rattle.iox_wire_seats.specs.Seats.{ways_of};
-    ghost use Rattle.iox_wire_loans.specs.Aims.{IsOrdered, LeavesSeat, TellsOfSlot};
-    ghost use Rattle.iox_wire_loans.specs.Lenders.{AreReturning, IsLender, IsServer, IsWhole};
-    ghost use Rattle.iox_wire_loans.specs.Orders.{IsResponse};
+    ghost use Rattle.iox_wire_request_sends.specs.WireLoansAims.{IsOrdered, LeavesSeat, TellsOfSlot};
+    ghost use Rattle.iox_wire_request_sends.specs.Lenders.{AreReturning, IsLender, IsServer, IsWhole};
+    ghost use Rattle.iox_wire_request_sends.specs.Orders.{IsResponse};
     ghost use Rattle.iox_wire_copies.specs.Copies.{ArePayloads};
     ghost use Rattle.iox_wire_copies.specs.CopyAims.{IsAimed};
     ghost use Rattle.iox_wire_copies.specs.Payloads.{HasRoom};

@@ -9,7 +9,7 @@ impl CopyLending {
     ghost use Rattle.std.specs.Prelude.{◌≡◌, ◌+◌, ◌<◌, ◌^◌, ℕ, false, is_none, length};
     ghost use Rattle.iox_wire_locals.specs.Begins.{is_busy};
     ghost use Rattle.iox_wire_seats.specs.Keeps.{counted};
-    ghost use Rattle.iox_wire_loans.specs.Aims.{HasNextWord, IsLoanAt, IsStoring};
+    ghost use Rattle.iox_wire_request_sends.specs.WireLoansAims.{HasNextWord, IsLoanAt, IsStoring};
     ghost use Rattle.iox_wire_copies.specs.CopyAims.{GoesOn, HoldsMade, IsLending, IsMade};
     ghost use Rattle.iox_wire_copies.specs.CopyAims.{IsSameCopy, IsWriting, StaysAimed};
 

@@ -4,8 +4,7 @@ ghost use Rattle.std.specs.Prelude.{◌≡◌};
 use super::CopyingClient;
 use crate::at::CopierAt;
 use crate::payload_places::PayloadPlaces;
-use iox_wire_loans::Lender;
-use iox_wire_request_sends::{RequestTerms, Target};
+use iox_wire_request_sends::{Lender, RequestTerms, Target};
 use iox_wire_seats::{Stop, StoredSeat};
 use std::alloc::AllocError;
 
@@ -21,8 +20,8 @@ impl CopyingClient {
     ghost use Rattle.iox_wire_locals.specs.Tables.{Setting};
     ghost use Rattle.iox_wire_seats.specs.Aims.{QueuesInMemory};
     ghost use Rattle.iox_wire_seats.specs.Seats.{ways_of};
-    ghost use Rattle.iox_wire_loans.specs.Aims.{IsOrdered, LeavesSeat, TellsOfSlot};
-    ghost use Rattle.iox_wire_loans.specs.Lenders.{AreReturning, IsClient, IsLender, IsWhole};
+    ghost use Rattle.iox_wire_request_sends.specs.WireLoansAims.{IsOrdered, LeavesSeat, TellsOfSlot};
+    ghost use Rattle.iox_wire_request_sends.specs.Lenders.{AreReturning, IsClient, IsLender, IsWhole};
     ghost use Rattle.iox_wire_request_sends.specs.Targets.{AreWithin};
     ghost use Rattle.iox_wire_copies.specs.Copies.{ArePayloads};
     ghost use Rattle.iox_wire_copies.specs.CopyCalls.{IsAimed, KnowsServers};

@@ -14,7 +14,7 @@ impl CopyingClient {
     ghost use Rattle.iox_wire_seats.specs.Aims.{HasRoomForHint, KeepsRoom};
     ghost use Rattle.iox_wire_seats.specs.Desks.{MayGiveUp};
     ghost use Rattle.iox_wire_seats.specs.Lends.{MayLend};
-    ghost use Rattle.iox_wire_loans.specs.Orders.{loan_of};
+    ghost use Rattle.iox_wire_request_sends.specs.Orders.{loan_of};
     ghost use Rattle.iox_wire_request_sends.specs.Aims.{IsOneStep};
     ghost use Rattle.iox_wire_copies.specs.Copiers.{IsLending, IsSending};
     ghost use Rattle.iox_wire_copies.specs.CopyCalls.{Answers, FindsUsed, GoesOn, IsSameCall};

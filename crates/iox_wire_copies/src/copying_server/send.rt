@@ -13,7 +13,7 @@ impl CopyingServer {
     ghost use Rattle.iox_wire_locals.specs.NewLoans.{entry_in};
     ghost use Rattle.iox_wire_seats.specs.Aims.{KeepsRoom};
     ghost use Rattle.iox_wire_seats.specs.Desks.{IsUsed, MayCount};
-    ghost use Rattle.iox_wire_loans.specs.Orders.{loan_of};
+    ghost use Rattle.iox_wire_request_sends.specs.Orders.{loan_of};
     ghost use Rattle.iox_wire_request_sends.specs.Aims.{IsOneStep};
     ghost use Rattle.iox_wire_copies.specs.Copiers.{IsLending, IsSending};
     ghost use Rattle.iox_wire_copies.specs.ResponseCopies.{Answers, FindsUsed, GoesOn, IsSameCall};

@@ -4,7 +4,7 @@ ghost use Rattle.iox_model.specs.declared.kind.Kind.TheVariants.{ActiveRequest};
 ghost use Rattle.iox_model.specs.Handles.{same_kind};
 ghost use Rattle.iox_model.specs.Messages.{names};
 ghost use Rattle.iox_word_map.specs.WordMaps.{ReturningQueue};
-ghost use Rattle.iox_wire_words.specs.Programs.{site_of};
+ghost use Rattle.iox_word_places.specs.Programs.{site_of};
 ghost use Rattle.iox_word_places.specs.Plans.{IsPlan, IsWayAt, layout_of, way_at};
 ghost use Rattle.iox_wire_locals.specs.Desks.{with_count};
 ghost use Rattle.iox_wire_locals.specs.Locals.{state_told};

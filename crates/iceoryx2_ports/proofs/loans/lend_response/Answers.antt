@@ -1,9 +1,9 @@
 use Rattle.std.proofs.Common.{ap, sym, ◌∙◌}
 use Rattle.iox_model.specs.declared.reply.Reply.TheVariants as replies
 use Rattle.iox_tables.specs.HubLoans.Loans.{loan_call}
-use Rattle.iox_hub.specs.Lends.{refusal_of, reply_of_loan}
-use Rattle.iox_hub.specs.LoanRefusal.TheVariants as refusals
-use Rattle.iox_hub.specs.Lent.TheVariants as lents
+use Rattle.iox_hub_laws.specs.Lends.{refusal_of, reply_of_loan}
+use Rattle.iox_hub_laws.specs.LoanRefusal.TheVariants as refusals
+use Rattle.iox_hub_laws.specs.Lent.TheVariants as lents
 use Rattle.iceoryx2_ports.proofs.LoanLimits.{result_of}
 use Rattle.iceoryx2_ports.proofs.Reaching.{loan_keeps_room}
 use Rattle.iceoryx2_ports.proofs.ResponseLimits.{responds_one_more, response_refused_at_limit}

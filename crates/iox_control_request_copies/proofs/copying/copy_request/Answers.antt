@@ -1,7 +1,7 @@
 use Rattle.std.proofs.Common.{ap, arith, refl, sym, ◌∙◌}
 use Rattle.std.specs.Prelude.{false, true}
 use Rattle.iox_tables.specs.HubStates.Tables.{HubSettings}
-use Rattle.iox_control_lending.specs.declared.asked.LoanRefusal.TheVariants.{CallsSpent}
+use Rattle.iox_control_copies.specs.LoanRefusal.TheVariants.{CallsSpent}
 use Rattle.iox_control_request_copies.specs.declared.copied.Copied.TheVariants.{Refused, ExceedsMaxActiveRequests, UnableToDeliver}
 use Rattle.iox_control_request_copies.specs.Copies.{to_fill}
 use Rattle.iox_control_request_copies.proofs.Left.{active_is, asked_filled, calls_spent, fails_is, lost_so, lost_waits, sent_so}

@@ -2,8 +2,8 @@ use Rattle.std.proofs.Common.{ap, subst, sym, ◌∙◌}
 use Rattle.std.specs.Option.{option_map}
 use Rattle.iox_hub_ports.specs.Ports.{info_in}
 use Rattle.iox_slots.specs.Pools.{free_count}
-use Rattle.iox_control_lending.specs.Lends.{IsTold, lender_of, refusal_of}
-use Rattle.iox_control_lending.proofs.PortLemmas.{request_of_port}
+use Rattle.iox_control_copies.specs.Lends.{IsTold, lender_of, refusal_of}
+use Rattle.iox_control_copies.proofs.PortLemmas.{request_of_port}
 use Rattle.iox_control_request_copies.proofs.Lost.{dry_left, loan_fits, lost_in_order, lost_left, port_there}
 use Rattle.iox_control_request_copies.proofs.losing.lose.Goals as goal
 use Rattle.iox_control_copies.proofs.Outcomes.{some_of}

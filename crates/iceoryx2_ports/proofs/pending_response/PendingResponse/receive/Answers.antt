@@ -1,8 +1,8 @@
 use Rattle.std.specs.Prelude.{ℕ, refl}
 use Rattle.std.proofs.Common.{subst, subst₂, sym}
 use Rattle.iox_model.specs.declared.call.Call.TheVariants.{Receive}
-use Rattle.iox_hub.specs.Received.TheVariants as received
-use Rattle.iox_hub.specs.Replies.{reply_of_receive}
+use Rattle.iox_hub_laws.specs.Received.TheVariants as received
+use Rattle.iox_hub_laws.specs.Replies.{reply_of_receive}
 use Rattle.iox_hub_laws.specs.Receives.{TakesResponse}
 use Rattle.iox_hub_laws.specs.Waiting.{client_in}
 use Rattle.iceoryx2_ports.specs.Idling.{TakesTheOne}

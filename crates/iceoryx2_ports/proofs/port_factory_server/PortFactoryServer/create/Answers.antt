@@ -3,9 +3,9 @@ use Rattle.std.proofs.Common.{ap, sym}
 use Rattle.iox_model.specs.Commands.{Create}
 use Rattle.iox_model.specs.declared.kind.Role.TheVariants as roles
 use Rattle.iox_model.specs.declared.reply.Reply.TheVariants as replies
-use Rattle.iox_hub.specs.MadePorts.{refusal_of}
-use Rattle.iox_hub.specs.NotMade.TheVariants as not_made
-use Rattle.iox_hub.specs.Making.{options_of, reply_of_making}
+use Rattle.iox_hub_laws.specs.MadePorts.{refusal_of}
+use Rattle.iox_hub_laws.specs.NotMade.TheVariants as not_made
+use Rattle.iox_hub_laws.specs.Making.{options_of, reply_of_making}
 use Rattle.iox_hub_laws.specs.Waiting.{server_of}
 use Rattle.iceoryx2_ports.proofs.Idle.{made_is_idle, making_brings_nothing, making_keeps_room}
 use Rattle.iceoryx2_ports.proofs.Staying.{kept_by}

@@ -3,7 +3,7 @@ use Rattle.std.proofs.Common.{subst, subst₂, sym}
 use Rattle.iox_hub_laws.specs.Sends.{BringsOnly}
 use Rattle.iox_model.specs.declared.call.Call.TheVariants.{Send}
 use Rattle.iox_model.specs.declared.kind.Kind.TheVariants.{RequestMut}
-use Rattle.iox_hub.specs.Sendings.{reply_of_send}
+use Rattle.iox_hub_laws.specs.Sendings.{reply_of_send}
 use Rattle.iox_hub_laws.specs.Waiting.{client_in}
 use Rattle.iceoryx2_ports.specs.Asking.{AsksAs, BringsItsRequest, OpensAtServers}
 use Rattle.iceoryx2_ports.proofs.Aside.{loan_asks_as_always}

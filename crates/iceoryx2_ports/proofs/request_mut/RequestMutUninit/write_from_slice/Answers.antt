@@ -1,7 +1,7 @@
 use Rattle.std.specs.Prelude.{flat_map, length, refl}
 use Rattle.iox_model.specs.declared.kind.Role.TheVariants as roles
-use Rattle.iox_hub.specs.Fills.{reply_of_write}
-use Rattle.iox_hub.specs.Lending.{payload_of}
+use Rattle.iox_hub_laws.specs.Fills.{reply_of_write}
+use Rattle.iox_hub_laws.specs.Lending.{payload_of}
 use Rattle.iceoryx2_ports.proofs.Coming.{write_brings_nothing}
 use Rattle.iox_model.specs.declared.call.Call.TheVariants.{Write}
 use Rattle.iox_model.specs.declared.kind.Kind.TheVariants.{RequestMutUninit}

@@ -3,7 +3,7 @@ use Rattle.std.proofs.Common.{subst}
 use Rattle.iox_hub_laws.specs.Sends.{BringsOnly}
 use Rattle.iox_model.specs.declared.call.Call.TheVariants.{Send}
 use Rattle.iox_model.specs.declared.kind.Kind.TheVariants.{ResponseMut}
-use Rattle.iox_hub.specs.Responses.{reply_of_send}
+use Rattle.iox_hub_laws.specs.Responses.{reply_of_send}
 use Rattle.iceoryx2_ports.proofs.Answering.{loan_reaches_asker}
 use Rattle.iceoryx2_ports.proofs.Aside.{loan_asks_as_always}
 use Rattle.iceoryx2_ports.proofs.SentOpen.{send_closes_none}

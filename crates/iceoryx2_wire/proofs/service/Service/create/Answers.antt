@@ -1,7 +1,7 @@
 use Rattle.std.specs.Prelude.{Ok, Err}
-use Rattle.iox_nodes.specs.Settings.{settings_of}
-use Rattle.iox_nodes.specs.Shapes.{shape_of}
-use Rattle.iox_nodes.specs.Shown.{limits_for}
+use Rattle.iox_service_laws.specs.Settings.{settings_of}
+use Rattle.iox_service_laws.specs.Shapes.{shape_of}
+use Rattle.iox_service_laws.specs.Shown.{limits_for}
 use Rattle.iceoryx2_wire.proofs.Comparing.{made_so, not_made_so, with_shapes}
 use Rattle.iceoryx2_wire.proofs.service.Service.create.Goals as goal
 

@@ -1,4 +1,4 @@
-use Rattle.iox_nodes.specs.Shown.{service_of}
+use Rattle.iox_service_laws.specs.Shown.{service_of}
 use Rattle.iceoryx2_wire.proofs.Comparing.{opened_so, refused_keeps}
 use Rattle.iceoryx2_wire.proofs.service.Service.open.Goals as goal
 

@@ -1,7 +1,7 @@
 use Rattle.std.proofs.Common.{◌≡◌, ◌<◌, ◌+◌, ◌∷◌, length, ap, arith, rules, refl, subst, sym, ◌∙◌}
 use Rattle.std.specs.Vec.{vec_len}
 use Rattle.std.specs.Vec.Iter.{into_iter_items}
-use Rattle.iox_nodes.proofs.Running.{on_err}
+use Rattle.iox_service_laws.proofs.Running.{on_err}
 use Rattle.iceoryx2_wire.specs.Serving.{IsAnswered}
 use Rattle.iceoryx2_wire.specs.Services.{service_of}
 use Rattle.iceoryx2_wire.proofs.Running.{HasRun, run_goes_on, run_is_short, run_starts}

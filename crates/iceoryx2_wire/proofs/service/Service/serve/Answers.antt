@@ -1,4 +1,4 @@
-use Rattle.iox_nodes.specs.Shown as nodes
+use Rattle.iox_service_laws.specs.Shown as nodes
 use Rattle.iceoryx2_wire.proofs.Comparing.{port_answered}
 use Rattle.iceoryx2_wire.proofs.service.Service.serve.Goals as goal
 

@@ -1,6 +1,6 @@
 use Rattle.iox_openers.specs.Causes.{cause_of}
-use Rattle.iox_nodes.specs.Given.{command_given}
-use Rattle.iox_nodes.proofs.Leading.{if_ok}
+use Rattle.iox_service_laws.specs.Given.{command_given}
+use Rattle.iox_service_laws.proofs.Leading.{if_ok}
 use Rattle.iceoryx2_wire.proofs.service.Service.serve_compared.Goals as goal
 
 pub returns-clause-answered : goal.returns-clause-answered

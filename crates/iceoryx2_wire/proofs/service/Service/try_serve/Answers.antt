@@ -1,6 +1,6 @@
 use Rattle.iox_openers.specs.Causes.{cause_of}
-use Rattle.iox_nodes.specs.Given.{command_given}
-use Rattle.iox_nodes.proofs.Leading.{if_ok}
+use Rattle.iox_service_laws.specs.Given.{command_given}
+use Rattle.iox_service_laws.proofs.Leading.{if_ok}
 use Rattle.iceoryx2_wire.proofs.Comparing.{if_err}
 use Rattle.iceoryx2_wire.proofs.service.Service.try_serve.Goals as goal
 

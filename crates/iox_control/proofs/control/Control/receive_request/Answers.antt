@@ -3,8 +3,8 @@ use Rattle.iox_lanes.specs.declared.incoming.Visits.TheVariants.{AtLimit, Nothin
 use Rattle.iox_model.specs.declared.call.Call.TheVariants.{Receive}
 use Rattle.iox_model.specs.Commands.{Reply}
 use Rattle.iox_model.specs.WholeCalls.{IsWholeCall}
-use Rattle.iox_tables.specs.HubStates.Tables.{slot_at}
-use Rattle.iox_tables.specs.HubStates.States.{state_shown}
+use Rattle.iox_hub_ports.specs.HubStates.Tables.{slot_at}
+use Rattle.iox_hub_ports.specs.HubStates.States.{state_shown}
 use Rattle.iox_control.specs.Controls.{ControlState}
 use Rattle.iox_control.proofs.ReceiveLemmas.{can_hold, has_holders, room_for_one}
 use Rattle.iox_control.proofs.RequestReceived.{request_got, request_got_reply, request_limit, request_none, request_other_reply}

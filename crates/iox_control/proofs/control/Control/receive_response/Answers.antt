@@ -5,9 +5,9 @@ use Rattle.iox_lanes.specs.declared.wanted.Wanted.TheVariants.{Of}
 use Rattle.iox_model.specs.declared.call.Call.TheVariants.{Receive}
 use Rattle.iox_model.specs.Commands.{Reply}
 use Rattle.iox_model.specs.WholeCalls.{IsWholeCall}
-use Rattle.iox_tables.specs.HubStates.Tables.{HandleState, slot_at}
-use Rattle.iox_tables.specs.HubStates.States.{state_shown}
-use Rattle.iox_tables.specs.HubStates.Receives.{response_reply, with_response}
+use Rattle.iox_hub_ports.specs.HubStates.Tables.{HandleState, slot_at}
+use Rattle.iox_hub_ports.specs.HubStates.States.{state_shown}
+use Rattle.iox_hub_ports.specs.HubStates.Receives.{response_reply, with_response}
 use Rattle.iox_control.specs.Controls.{ControlState, IsButHolders}
 use Rattle.iox_control.proofs.ReceiveLemmas.{can_hold, has_holders, room_for_one}
 use Rattle.iox_control.proofs.ResponseReceived.{response_got, response_got_reply, response_limit, response_none, response_said}

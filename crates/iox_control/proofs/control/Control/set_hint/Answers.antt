@@ -3,7 +3,7 @@ use Rattle.std.proofs.lemmas.Option.{same_Some}
 use Rattle.iox_model.specs.declared.call.Call.TheVariants.{SetHint}
 use Rattle.iox_model.specs.declared.reply.Reply.TheVariants.{Done}
 use Rattle.iox_model.specs.WholeCalls.{IsWholeCall}
-use Rattle.iox_tables.specs.HubStates.States.{state_shown}
+use Rattle.iox_hub_ports.specs.HubStates.States.{state_shown}
 use Rattle.iox_control.specs.Controls.{ControlState}
 use Rattle.iox_control.proofs.HintKept.{hint_is, hint_is_whole, hint_keeps}
 use Rattle.iox_control.proofs.PendingLemmas.{same_handle}

@@ -1,5 +1,5 @@
 use Rattle.std.proofs.Common.{sym, ◌∙◌, true}
-use Rattle.iox_lanes.specs.Lanes.{is_full}
+use Rattle.iox_tables.specs.Lanes.{is_full}
 use Rattle.iox_hub_ports.specs.Ports.{port_of}
 use Rattle.iox_hub_ports.proofs.Firsts.{told_expired, told_incoming, told_nobody}
 use Rattle.iox_hub_ports.proofs.Sound.{sound_expired, sound_incoming, sound_nobody}

@@ -1,6 +1,6 @@
 use Rattle.std.proofs.Common.{None, ap, sym, ◌∙◌}
 use Rattle.std.specs.Option.{option_map_or}
-use Rattle.iox_lanes.specs.Pipes.{lane_to_get}
+use Rattle.iox_tables.specs.Pipes.{lane_to_get}
 use Rattle.iox_hub_ports.specs.Ports.{port_of}
 use Rattle.iox_hub_ports.proofs.Firsts.{from_expired, from_incoming, from_nobody}
 use Rattle.iox_hub_ports.proofs.port.Port.lane_to_get.Goals as goal

@@ -1,5 +1,5 @@
 use Rattle.std.proofs.Common.{sym, ◌∙◌}
-use Rattle.iox_lanes.specs.Pipes.{with_lane}
+use Rattle.iox_tables.specs.Pipes.{with_lane}
 use Rattle.iox_hub_ports.specs.Ports.{port_of}
 use Rattle.iox_hub_ports.proofs.Firsts.{changed_expired, changed_incoming, changed_nobody, told_expired, told_incoming, told_nobody}
 use Rattle.iox_hub_ports.proofs.port.Port.on_lane.Goals as goal

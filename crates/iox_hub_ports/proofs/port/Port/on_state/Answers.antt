@@ -1,5 +1,5 @@
 use Rattle.std.proofs.Common.{sym, ◌∙◌}
-use Rattle.iox_lanes.specs.Pipes.{with_state}
+use Rattle.iox_tables.specs.Pipes.{with_state}
 use Rattle.iox_hub_ports.specs.Ports.{port_of}
 use Rattle.iox_hub_ports.proofs.Firsts.{changed_expired, changed_incoming, changed_nobody}
 use Rattle.iox_hub_ports.proofs.port.Port.on_state.Goals as goal

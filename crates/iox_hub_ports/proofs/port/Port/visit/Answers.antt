@@ -1,6 +1,6 @@
 use Rattle.std.proofs.Common.{sym, ap, ◌∙◌}
-use Rattle.iox_lanes.specs.declared.incoming.Visits.TheVariants.{AtLimit}
-use Rattle.iox_lanes.specs.Visited.{all_visits}
+use Rattle.iox_tables.specs.Visits.TheVariants.{AtLimit}
+use Rattle.iox_tables.specs.Visited.{all_visits}
 use Rattle.iox_tables.specs.HubStates.Receives.{both_visits}
 use Rattle.iox_tables.proofs.HubStates.Both.{visits_are_of_both}
 use Rattle.iox_hub_ports.specs.Ports.{port_of}

@@ -1,7 +1,7 @@
 use Rattle.std.proofs.Common.{sym, ap, ◌∙◌, slice_set}
 use Rattle.iox_tables.specs.HubStates.Tables.{PortState}
 use Rattle.std.proofs.Common.{false}
-use Rattle.iox_lanes.specs.Incomings.{has_room_for}
+use Rattle.iox_tables.specs.Incomings.{has_room_for}
 use Rattle.iox_hub_ports.specs.Ports.{PortsState, with_connected}
 use Rattle.iox_hub_ports.proofs.Keeping.{IsPorts-set}
 use Rattle.iox_hub_ports.proofs.Places.{changed, looked, missing, told, unchanged}

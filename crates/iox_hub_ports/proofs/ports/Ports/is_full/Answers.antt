@@ -1,6 +1,6 @@
 use Rattle.std.proofs.Common.{sym, ap, ◌∙◌}
 use Rattle.std.proofs.Common.{true}
-use Rattle.iox_lanes.specs.Lanes.{is_full}
+use Rattle.iox_tables.specs.Lanes.{is_full}
 use Rattle.iox_hub_ports.specs.Ports.{PortsState}
 use Rattle.iox_hub_ports.proofs.Places.{looked, way_missing, way_told}
 use Rattle.iox_hub_ports.proofs.Sound.{sound_missing, sound_way}

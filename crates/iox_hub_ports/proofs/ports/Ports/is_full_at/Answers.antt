@@ -1,5 +1,5 @@
 use Rattle.std.proofs.Common.{◌∙◌, arith, true}
-use Rattle.iox_lanes.specs.Lanes.{is_full}
+use Rattle.iox_tables.specs.Lanes.{is_full}
 use Rattle.iox_hub_ports.proofs.Seats.{told_at, told_past}
 use Rattle.iox_hub_ports.proofs.Sound.{sound_at, sound_past}
 use Rattle.iox_hub_ports.proofs.ports.Ports.is_full_at.Goals as goal

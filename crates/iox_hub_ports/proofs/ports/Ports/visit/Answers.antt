@@ -1,7 +1,7 @@
 use Rattle.std.proofs.Common.{sym, ap, ◌∙◌, slice_set}
 use Rattle.iox_tables.specs.HubStates.Tables.{PortState}
-use Rattle.iox_lanes.specs.declared.incoming.Visits.TheVariants.{Nothing}
-use Rattle.iox_lanes.specs.Visited.{all_visits}
+use Rattle.iox_tables.specs.Visits.TheVariants.{Nothing}
+use Rattle.iox_tables.specs.Visited.{all_visits}
 use Rattle.iox_tables.specs.HubStates.Receives.{visited_port}
 use Rattle.iox_tables.specs.HubStates.Tables.{pipes_of, port_in}
 use Rattle.iox_hub_ports.proofs.Keeping.{IsPorts-set}

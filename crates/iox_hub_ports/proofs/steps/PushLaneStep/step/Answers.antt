@@ -1,6 +1,6 @@
 use Rattle.std.proofs.Common.{ap, sym, ◌∙◌}
-use Rattle.iox_lanes.specs.Incomings.{with_lane_of}
-use Rattle.iox_lanes.specs.Lanes.{offered}
+use Rattle.iox_tables.specs.Incomings.{with_lane_of}
+use Rattle.iox_tables.specs.Lanes.{offered}
 use Rattle.iox_hub_ports.proofs.Pushes.{pushes_full}
 use Rattle.iox_hub_ports.proofs.steps.PushLaneStep.step.Goals as goal
 

@@ -7,8 +7,8 @@ use Rattle.iox_wire_locals.specs.declared.local.Local.{Local}
 use Rattle.iox_wire_locals.specs.declared.local.Local.TheVariants.{LendStores}
 use Rattle.iox_wire_locals.specs.Locals.{program_of}
 use Rattle.iox_wire_seats.specs.Aims.{IsPayloadAt}
-use Rattle.iox_wire_loans.specs.Aims.{HasNextWord, Knows, is_storing}
-use Rattle.iox_wire_loans.specs.Aims as loans
+use Rattle.iox_wire_request_sends.specs.WireLoansAims.{HasNextWord, Knows, is_storing}
+use Rattle.iox_wire_request_sends.specs.WireLoansAims as loans
 use Rattle.iox_wire_copies.specs.contracts.copy_lending.CopyLending.{the_view}
 use Rattle.iox_wire_copies.specs.Copies.{ArePayloads, CopyLoan, HasMade, HasWordsLeft, local_of}
 use Rattle.iox_wire_copies.specs.CopyAims.{IsAimed}

@@ -1,6 +1,6 @@
 use Rattle.std.proofs.Common.{◌≡◌, false, None, Some, refl, sym, subst, ap, ◌∙◌}
 use Rattle.std.specs.Prelude.{is_none}
-use Rattle.iox_wire_loans.specs.Aims.{Answers, IsLoanAt, is_storing}
+use Rattle.iox_wire_request_sends.specs.WireLoansAims.{Answers, IsLoanAt, is_storing}
 use Rattle.iox_wire_copies.specs.contracts.copy_lending.CopyLending.{the_view}
 use Rattle.iox_wire_copies.specs.Copies.{CopyLoan, HasSlots, local_of}
 use Rattle.iox_wire_copies.specs.CopyAims as copies

@@ -1,7 +1,7 @@
 use Rattle.std.proofs.Common.{◌≡◌, ◌<◌, None, Some, length, refl, sym, subst, ap, arith}
 use Rattle.std.specs.Prelude.{Option}
 use Rattle.iox_wire_locals.specs.declared.table.Entry.{Entry}
-use Rattle.iox_wire_loans.specs.Aims.{IsLoanAt, StoresAhead}
+use Rattle.iox_wire_request_sends.specs.WireLoansAims.{IsLoanAt, StoresAhead}
 use Rattle.iox_wire_copies.specs.contracts.copy_lending.CopyLending.{the_view}
 use Rattle.iox_wire_copies.specs.Copies.{CopyLoan, local_of}
 use Rattle.iox_wire_copies.specs.CopyAims.{GoesOn, IsLending, StaysAimed}

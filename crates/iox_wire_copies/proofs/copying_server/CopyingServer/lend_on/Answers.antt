@@ -3,7 +3,7 @@ use Rattle.std.specs.Prelude.{Option}
 use Rattle.iox_wire_locals.specs.Courses.{placed}
 use Rattle.iox_wire_locals.specs.NewLoans.{entry_in}
 use Rattle.iox_wire_locals.specs.Steps.{next, tells}
-use Rattle.iox_wire_loans.specs.Orders.{loan_of}
+use Rattle.iox_wire_request_sends.specs.Orders.{loan_of}
 use Rattle.iox_wire_copies.specs.contracts.copying_server.CopyingServer.{the_view}
 use Rattle.iox_wire_copies.specs.declared.at.CopierAt.{CopierAt}
 use Rattle.iox_wire_copies.specs.declared.at.CopierAt.TheVariants as at

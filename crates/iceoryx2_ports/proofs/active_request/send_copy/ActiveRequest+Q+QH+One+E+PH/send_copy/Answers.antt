@@ -4,9 +4,9 @@ use Rattle.iox_model.specs.declared.call.Call.TheVariants.{SendCopy}
 use Rattle.iox_model.specs.declared.kind.Role.TheVariants as roles
 use Rattle.iox_model.specs.declared.reply.Refusal.TheVariants as refusals
 use Rattle.iox_model.specs.declared.reply.Reply.TheVariants as replies
-use Rattle.iox_hub.specs.Answers.{reply_of_copy}
-use Rattle.iox_hub.specs.Lends.{refusal_of}
-use Rattle.iox_hub.specs.Lending.{payload_of}
+use Rattle.iox_hub_laws.specs.Answers.{reply_of_copy}
+use Rattle.iox_hub_laws.specs.Lends.{refusal_of}
+use Rattle.iox_hub_laws.specs.Lending.{payload_of}
 use Rattle.iox_hub_laws.specs.Shown.{nothing_given, shown}
 use Rattle.iceoryx2_ports.specs.Copies.{copy_reply}
 use Rattle.iceoryx2_ports.specs.Loans.{loan_refusal}

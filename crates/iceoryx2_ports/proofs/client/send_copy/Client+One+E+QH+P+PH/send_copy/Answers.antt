@@ -4,9 +4,9 @@ use Rattle.iox_model.specs.declared.call.Call.TheVariants.{SendCopy}
 use Rattle.iox_model.specs.declared.kind.Role.TheVariants as roles
 use Rattle.iox_model.specs.declared.reply.Refusal.TheVariants as refusals
 use Rattle.iox_model.specs.declared.reply.Reply.TheVariants as replies
-use Rattle.iox_hub.specs.Copies.{reply_of_copy}
-use Rattle.iox_hub.specs.Lends.{refusal_of}
-use Rattle.iox_hub.specs.Lending.{payload_of}
+use Rattle.iox_hub_laws.specs.Copies.{reply_of_copy}
+use Rattle.iox_hub_laws.specs.Lends.{refusal_of}
+use Rattle.iox_hub_laws.specs.Lending.{payload_of}
 use Rattle.iceoryx2_ports.specs.Copies.{unasked_reply}
 use Rattle.iceoryx2_ports.specs.Loans.{loan_refusal}
 use Rattle.iceoryx2_ports.proofs.Copying.{copy_asks_as_before, copy_keeps, test_is_told}
