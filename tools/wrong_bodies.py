@@ -1,7 +1,7 @@
 #!/usr/bin/env python3
 """Tries wrong bodies on the crates of this repository, many in one check.
 
-usage: wrong_bodies.py [--must-fail | --dir FOLDER] [--jobs N] [--minutes N] [--single] [CRATE ..]
+usage: wrong_bodies.py [--must-fail | --dir FOLDER] [--jobs N] [--minutes N] [--turn TEXT] [--single] [CRATE ..]
        wrong_bodies.py --self-test
 
 Run it at the top of the checkout. For each crate that is named, or else for each that has any, it takes the edits
@@ -21,8 +21,9 @@ A GOAL ends in 'the facts known there allow values at which this goal is false' 
 is 0 if all passed, 1 if not, and 2 if nothing could be tried.
 
 --jobs N runs N checks side by side (one a processor if left out; each takes 1 to 2 GB, and none starts that has no room).
---minutes N starts no further check after so many minutes, but for the first one of each crate, and these come before all others. The last
-line then ends in ', K skipped'.
+--minutes N starts no further check after so many minutes, and ends what runs 8 minutes later. The first check of each crate comes
+before all others. The last line then ends in ', K skipped'.
+--turn TEXT tries the crates in an order that changes with the text, so that others come late where time runs short.
 --single tries each edit singly, to compare.
 
 How it works. Callers see a function by its contract alone, so an edit of one body leaves the goals of all other functions as
@@ -75,6 +76,7 @@ def main():
     words.add_argument("--must-fail", dest="dir", action="store_const", const="must-fail")
     words.add_argument("--jobs", type=int, default=0)
     words.add_argument("--minutes", type=float, default=float("inf"))
+    words.add_argument("--turn", default="")
     words.add_argument("--single", action="store_true")
     words.add_argument("--self-test", action="store_true")
     words.add_argument("crates", nargs="*")
@@ -83,7 +85,7 @@ def main():
     try:
         if given.self_test:
             return self_test(kit)
-        return try_checkout(kit, os.getcwd(), given.crates, given.dir, given.jobs, given.single, given.minutes)
+        return try_checkout(kit, os.getcwd(), given.crates, given.dir, given.jobs, given.single, given.minutes, given.turn)
     finally:
         shutil.rmtree(tempfile.tempdir, ignore_errors=True)
 

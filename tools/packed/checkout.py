@@ -1,4 +1,5 @@
 """Copies a checkout, finds or builds its libraries, and tries the edits of all its crates side by side."""
+import hashlib
 import io
 import os
 import re
@@ -8,12 +9,15 @@ import tempfile
 import threading
 import time
 import types
-from concurrent.futures import ThreadPoolExecutor
+from concurrent.futures import ThreadPoolExecutor, wait
 
 from packed.edits import Edit
 from packed.kit import stop, tell
 from packed.said import REFUSED, UNTOLD, UNTRIED
-from packed.trial import FLAGS, Slots, Trial, linked
+from packed.trial import FLAGS, NoTime, Slots, Trial, linked, untold
+
+# A check that still runs so many seconds after the time for the last start is ended.
+GRACE = 480
 
 # How an edit's file is named, as rt wants it of those in must-fail/. A .md file beside them is only to be read.
 NAME = re.compile(r"[A-Za-z0-9_-][A-Za-z0-9_.-]*\.edit")
@@ -37,8 +41,9 @@ def times(folder, parts):
 class Checkout:
     """A copy of the checkout in which all is tried, so that nothing is written in the checkout itself."""
 
-    def __init__(self, kit, root, folder, slots):
-        self.kit, self.root, self.folder, self.slots, self.printing = kit, root, folder, slots, threading.Lock()
+    def __init__(self, kit, root, folder, slots, chance):
+        self.kit, self.root, self.folder, self.slots, self.chance = kit, root, folder, slots, chance
+        self.printing, self.ended = threading.Lock(), set()
         if not os.path.isfile(f"{root}/crates.txt") or not os.path.isdir(f"{root}/crates"):
             stop("run it at the top of a repository, where crates.txt and crates/ stand")
         top = f"{tempfile.gettempdir()}/repository"
@@ -104,26 +109,41 @@ class Checkout:
                 return f"its library {it.name} is not proved: {' / '.join(it.out.getvalue().splitlines()[-3:])[:300]}"
         return None
 
+    def weight(self, name, edits):
+        """Returns how early the crate comes: those with most to do first or, where a turn is given, in an order that changes with it."""
+        if self.chance:
+            return int(hashlib.sha256(f"{self.chance} {name}".encode()).hexdigest()[:8], 16)
+        return self.crates[name].count(rb"\n") + 300 * len(edits)
+
     def try_crate(self, name, edits, lost, is_single):
         """Tries the edits of one crate, prints their verdicts, and returns how many were refused, how many not, and how many were not tried."""
         start, crate = time.time(), self.crates[name]
-        trial = Trial(self.kit, crate, f"{crate.folder}/out/incremental", edits, self.slots, name in self.of_ci)
+        kept = f"{crate.folder}/out/incremental"
+        trial = Trial(self.kit, crate, kept, edits, self.slots, name in self.of_ci, self.weight(name, edits))
         why = next((lost[it.name] for it in crate.below() if it.name in lost), None)
-        if not why:
-            self.link(crate, "incremental")
-            os.makedirs(trial.kept, exist_ok=True)
-            why = trial.begin(is_single)
-        if not why:
-            trial.run(is_single)
-        shutil.rmtree(trial.kept, ignore_errors=True)
+        try:
+            if not why:
+                self.link(crate, "incremental")
+                os.makedirs(kept, exist_ok=True)
+                why = trial.begin(is_single)
+            if not why:
+                trial.run(is_single)
+        except NoTime:
+            untold(edits)
+        shutil.rmtree(kept, ignore_errors=True)
+        for it in edits if why else []:
+            it.settle(UNTOLD, why)
         with self.printing:
-            for it in edits:
-                if why:
-                    it.settle(UNTOLD, why)
-                print(f"{name}/{it.name}: {it.verdict}{' ' * bool(it.where)}{it.where}{': ' * bool(it.said)}{it.said[:300]}", flush=True)
+            self.ended.add(name)
+            return self.say(name, edits, f", {trial.rounds} rounds and {trial.alone} single checks in {time.time() - start:.0f} s")
+
+    @staticmethod
+    def say(name, edits, what=""):
+        """Prints the verdicts on the edits of one crate, and returns how many there are of each kind."""
         passed, late = (sum(it.verdict == wanted for it in edits) for wanted in (REFUSED, UNTRIED))
-        what = f"{len(edits)} edits, {trial.rounds} rounds and {trial.alone} single checks in {time.time() - start:.0f} s"
-        tell(f"{name}: {passed} passed, {len(edits) - passed - late} failed{skipped(late)}; {what}")
+        for it in edits:
+            print(f"{name}/{it.name}: {it.verdict}{' ' * bool(it.where)}{it.where}{': ' * bool(it.said)}{it.said[:300]}", flush=True)
+        tell(f"{name}: {passed} passed, {len(edits) - passed - late} failed{skipped(late)}; {len(edits)} edits{what}")
         return passed, len(edits) - passed - late, late
 
     def try_all(self, names, is_single):
@@ -138,18 +158,24 @@ class Checkout:
             stop(f"there is no edit in the folder {self.folder} of {', '.join(lacking)}")
         libraries = [it for it in self.crates.values() if any(it in self.crates[name].below() for name in edits)]
         lost = self.make_libraries(libraries)
-        with ThreadPoolExecutor(len(edits)) as pool:
-            tried = [pool.submit(self.try_crate, name, those, lost, is_single) for name, those in edits.items()]
-            counts = [it.result() for it in tried]
+        pool = ThreadPoolExecutor(len(edits))
+        tried = {name: pool.submit(self.try_crate, name, those, lost, is_single) for name, those in edits.items()}
+        wait(tried.values(), self.slots.left(GRACE))
+        # (no thread prints from here on)
+        self.printing.acquire()
+        late = {*edits} - self.ended
+        counts = [self.say(it, untold(edits[it])) if it in late else tried[it].result() for it in edits]
         for it in bad:
             print(f"{it}: not judged: an edit's name is of letters, digits, _, - and . and ends in .edit", flush=True)
-        passed, failed, late = map(sum, zip(*counts))
+        passed, failed, skips = map(sum, zip(*counts))
         tell(f"all checks took {processor() / 60:.1f} processor minutes")
-        print(f"{passed} passed, {failed + len(bad)} failed{skipped(late)}", flush=True)
-        return 1 if failed or bad else 0
+        print(f"{passed} passed, {failed + len(bad)} failed{skipped(skips)}", flush=True)
+        status = 1 if failed or bad else 0
+        # (checks that still run end with this process)
+        return os._exit(status) if late else status
 
 
-def try_checkout(kit, root, names, folder, jobs, is_single, minutes=float("inf")):
+def try_checkout(kit, root, names, folder, jobs, is_single, minutes=float("inf"), chance=""):
     """Tries the edits of a checkout's crates, and returns the status."""
     slots = Slots(jobs or kit.rt.processors(), 0.85 * kit.rt.free(), time.monotonic() + 60 * minutes)
-    return Checkout(kit, root, folder, slots).try_all(names, is_single)
+    return Checkout(kit, root, folder, slots, chance).try_all(names, is_single)

@@ -28,11 +28,15 @@ class NoTime(Exception):
 
 class Slots:
     """Lets as many checks run at a time as there are processors and memory for: first checks before others, and of these those of
-    the crate with most to do. After the time until none starts but first ones."""
+    the crate with most weight. After the time until none starts."""
 
     def __init__(self, limit, memory, until):
         self.limit, self.memory, self.until, self.running, self.turn = limit, memory, until, 0, 0
         self.free, self.queue = threading.Condition(), []
+
+    def left(self, grace):
+        """Returns the seconds that are left, and the grace, or None where there is no end."""
+        return None if self.until == float("inf") else max(0.0, self.until + grace - time.monotonic())
 
     @contextlib.contextmanager
     def taken(self, weight, need, is_first=False):
@@ -44,7 +48,7 @@ class Slots:
             self.free.wait_for(lambda: self.queue[0] == mine and fits())
             heapq.heappop(self.queue)
             self.free.notify_all()
-            if not is_first and time.monotonic() > self.until:
+            if time.monotonic() > self.until:
                 raise NoTime
             self.running, self.memory = self.running + 1, self.memory - need
         try:
@@ -75,10 +79,9 @@ class Trial:
     """The trial of one crate's edits, over the work that kept holds. Where rt ci has just proved the crate (is_proved), no function is
     proved without an edit but for those that an edited one calls: rounds come one after another, each over what those before it kept."""
 
-    def __init__(self, kit, crate, kept, edits, slots, is_proved):
+    def __init__(self, kit, crate, kept, edits, slots, is_proved, weight):
         self.kit, self.crate, self.kept, self.edits, self.slots, self.is_proved = kit, crate, kept, edits, slots, is_proved
-        self.rounds, self.alone, self.need = 0, 0, kit.rt.need(crate)
-        self.weight = crate.count(rb"\n") + 300 * len(edits)
+        self.rounds, self.alone, self.need, self.weight = 0, 0, kit.rt.need(crate), weight
         self.functions = Functions(kit, crate)
 
     def check(self, texts, flags, is_first=False):
@@ -229,11 +232,17 @@ class Trial:
             try:
                 call(edits)
             except NoTime:
-                for it in edits:
-                    if it.verdict not in (REFUSED, WEAK):
-                        it.settle(UNTRIED, "no time was left")
+                untold(edits)
 
         return tried
+
+
+def untold(edits):
+    """Settles those of which no check has told, since no time is left, and returns all."""
+    for it in edits:
+        if it.verdict not in (REFUSED, WEAK):
+            it.settle(UNTRIED, "no time was left")
+    return edits
 
 
 def in_rounds(edits):
