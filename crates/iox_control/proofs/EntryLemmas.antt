@@ -7,6 +7,7 @@ use Rattle.std.proofs.lemmas.Option.{none-some, same_Some}
 use Rattle.iox_handles.specs.declared.entry.Entry.{Entry}
 use Rattle.iox_model.specs.Maps.{has_number, AreDistinct}
 use Rattle.iox_handles.specs.Tables.{Contents, IsSound, added, changed, handle_at, handle_of, has_port, has_that, if_of, removed, with_handle}
+use Rattle.iox_hub_ports.specs.HubStates.Tables.{HandleState}
 use Rattle.iox_hub_ports.specs.HubStates.Wirings.{handle_in}
 use Rattle.iox_hub_ports.specs.HubStates.Ends.{changed_handles, dropped_handles}
 use Rattle.iox_control.specs.Entries.{handle_state, handles_of}
@@ -233,3 +234,16 @@ its_own (Some h) node e at = by_case (h.node == node) refl at
 pub any_state : (hs : List Entry) (n : ℕ) → list_any (has_port n) hs ≡ list_any (λ h. h.port == n) (map handle_state hs)
 any_state [] n = refl
 any_state (h ∷ hs) n = ap (λ (b : Bool). (h.port == n) || b) (any_state hs n)
+
+-- ---- the handles of a node
+
+pub node_numbers : (hs : List Entry) (node : ℕ)
+    → map (λ (h : Entry). h.number) (filter (λ h. h.node == node) hs) ≡ map (λ (h : HandleState). h.number) (filter (λ h. h.node == node) (map handle_state hs))
+node_numbers [] node = refl
+node_numbers (h ∷ hs) node = by_case (h.node == node) (node_numbers hs node)
+  where
+    by_case : (b : Bool) → map (λ (g : Entry). g.number) (filter (λ g. g.node == node) hs) ≡ map (λ (g : HandleState). g.number) (filter (λ g. g.node == node) (map handle_state hs))
+        → map (λ (g : Entry). g.number) (if b then h ∷ filter (λ g. g.node == node) hs else filter (λ g. g.node == node) hs)
+        ≡ map (λ (g : HandleState). g.number) (if b then handle_state h ∷ filter (λ g. g.node == node) (map handle_state hs) else filter (λ g. g.node == node) (map handle_state hs))
+    by_case true same = ap (λ ns. h.number ∷ ns) same
+    by_case false same = same

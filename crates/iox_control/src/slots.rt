@@ -1,8 +1,9 @@
 //! Single changes of slots and of handles.
 ghost use Rattle.std.specs.List.{list_any};
-ghost use Rattle.std.specs.Prelude.{◌≡◌, ◌==◌, ◌<◌, IfSome, IsSome, None, ◌↔◌};
+ghost use Rattle.std.specs.Prelude.{◌≡◌, ◌==◌, ◌<◌, IfSome, IsSome, None, ◌↔◌, filter, map};
 ghost use Rattle.std.specs.Bool.{OnFalse};
 ghost use Rattle.std.specs.Option.{option_map};
+ghost use Rattle.iox_handles.specs.Least.{least};
 ghost use Rattle.iox_hub_ports.specs.HubStates.Ends.{with_changed};
 ghost use Rattle.iox_hub_ports.specs.HubStates.Wirings.{handle_in};
 ghost use Rattle.iox_slots.specs.Pools.{Acquires, free_count, has_slot, is_taken_at, with_slot};
@@ -11,7 +12,7 @@ ghost use Rattle.iox_control.specs.Controls.{with_handle_dropped, with_pools, wi
 ghost use Rattle.iox_control.specs.Entries.{handle_state};
 
 use crate::control::Control;
-use iox_handles::Entry;
+use iox_handles::{Entry, Numbered};
 
 impl Control {
     // ---- slots
@@ -67,6 +68,18 @@ impl Control {
         ensures unchanged { self.new ≡ self.old }
     {
         self.handles.has_any(port)
+    }
+
+    /// The node's handle of the least number, by that number and where it is looked for first. Where
+    /// a node's handles go one after another, and this is asked after each, it looks at each place
+    /// of the table a few times in all. It takes no memory.
+    #[inline]
+    pub fn first_handle(&mut self, node: u64) -> Option<Numbered>
+        ensures first { option_map (λ v. v.number) result ≡ least
+            (map (λ h. h.number) (filter (λ h. h.node == node) self.old.tables.handles)) }
+        ensures unchanged { self.new ≡ self.old }
+    {
+        self.handles.first_of(node)
     }
 
     /// A handle of that node and number is as it is now; it is looked for at the hint first. Where

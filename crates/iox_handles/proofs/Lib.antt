@@ -7,4 +7,5 @@ pub mod CountLemmas
 pub mod NodeLemmas
 pub mod LeastLemmas
 pub mod AnyLemmas
-pub mod ListLemmas
+pub mod NodeListLemmas
+pub mod WholeLemmas

@@ -17,7 +17,7 @@ same_eq a b false e = other a b e
 pub inner : (o p : Option Entry) → Some o ≡ Some p → o ≡ p
 inner o p e = ap (λ (q : Option (Option Entry)). option_map_or (λ r. r) q None) e
 
-inside : (g h : Entry) → Some (Some g) ≡ Some (Some h) → g ≡ h
+pub inside : (g h : Entry) → Some (Some g) ≡ Some (Some h) → g ≡ h
 inside g h e = ap (λ (o : Option Entry). option_map_or (λ r. r) o g) (inner (Some g) (Some h) e)
 
 -- what is read in a place is there

@@ -133,7 +133,7 @@ handles-take ps free k i room next pc fc t e =
 -- ---- a handle changes
 
 -- the number of a handle is below the next
-is_below : (ps : List (Option Entry)) (free : List ℕ) (room next pc fc : ℕ) → IsTable ps free room next pc fc
+pub is_below : (ps : List (Option Entry)) (free : List ℕ) (room next pc fc : ℕ) → IsTable ps free room next pc fc
     → (i : ℕ) (h : Entry) → slice_get ps i ≡ Some (Some h) → h.number < next
 is_below ps free room next pc fc t i h at = by_case (nat_lt h.number next) refl
   where

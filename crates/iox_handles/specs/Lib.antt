@@ -2,3 +2,4 @@ pub mod Least
 pub mod Tables
 -- for proofs of this crate alone
 pub mod Places
+pub mod NodeLists

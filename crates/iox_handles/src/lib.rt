@@ -5,6 +5,7 @@
 mod entry;
 mod entry_test;
 mod least;
+mod node_list;
 mod numbered;
 mod places;
 mod table;

@@ -1,13 +1,14 @@
 //! The table of a hub's handles.
-ghost use Rattle.std.specs.List.{Contains};
-ghost use Rattle.std.specs.Prelude.{ℕ, ◌≡◌, ◌↔◌, ◌<◌, ◌≤◌, ◌+◌, ◌-◌, ◌%◌, ◌^◌, ◌==◌, if◌then◌else◌, IfOk, IsSome, None, OnErr, OnOk, Some, filter, length, map};
+ghost use Rattle.std.specs.Option.{option_map};
+ghost use Rattle.std.specs.Prelude.{◌≡◌, ◌<◌, ◌≤◌, ◌+◌, ◌-◌, ◌%◌, ◌^◌, ◌==◌, if◌then◌else◌, IfOk, IsSome, None, OnErr, OnOk, Some, filter, length, map};
 ghost use Rattle.iox_handles.specs.Least.{least};
 ghost use Rattle.iox_handles.specs.Tables.{IsSound, added, changed, count_of, handle_at, handle_of, handles_of, has_any, new_contents, removed};
 
 use crate::entry::Entry;
 use crate::entry_test::EntryTest;
 use crate::least::least_in;
-use crate::numbered::{Numbered, list_in};
+use crate::node_list::NodeList;
+use crate::numbered::Numbered;
 use crate::places::{count_if_in, count_in, place_of, place_of_port};
 use iox_model::kind::Kind;
 use std::alloc::{AllocError, Global};
@@ -35,12 +36,15 @@ pub struct Table {
     likely: [usize; REMAINDERS],
     // By remainders of ports' numbers, where a handle of the port was found last.
     found: [usize; REMAINDERS],
+    // The handles of the node whose handles went last.
+    listed: NodeList,
 }
 
 impl Model for Table {
     ghost use Rattle.std.specs.Prelude.{vec_capacity};
     ghost use Rattle.iox_handles.specs.Tables.{Contents};
-    ghost use Rattle.iox_handles.specs.Places.{IsTable, handles_in};
+    ghost use Rattle.iox_handles.specs.NodeLists.{IsWhole};
+    ghost use Rattle.iox_handles.specs.Places.{handles_in};
 
     ghost Value = { Contents };
 
@@ -50,8 +54,8 @@ impl Model for Table {
       handles = handles_in t.places.items t.next;
     } };
 
-    ghost invariant = { λ t. IsTable t.places.items t.free.items t.room t.next
-        (vec_capacity t.places) (vec_capacity t.free) };
+    ghost invariant = { λ t. IsWhole t.places.items t.free.items t.room t.next
+        (vec_capacity t.places) (vec_capacity t.free) t.listed };
 }
 
 /// The remainder of a handle's number.
@@ -91,6 +95,7 @@ impl Table {
     {
         let places = Vec::with_capacity(alloc, room)?;
         let free = Vec::with_capacity(alloc, room)?;
+        let listed = NodeList::new(alloc, room)?;
         Ok(Table {
             places,
             free,
@@ -98,6 +103,7 @@ impl Table {
             next: 0,
             likely: [NOWHERE; REMAINDERS],
             found: [0; REMAINDERS],
+            listed,
         })
     }
 
@@ -121,6 +127,7 @@ impl Table {
         };
         self.places.reserve(room - self.free.len())?;
         self.free.reserve(self.places.capacity() - self.free.len())?;
+        self.listed.reserve(self.places.capacity())?;
         self.room = room;
         Ok(())
     }
@@ -194,6 +201,7 @@ impl Table {
         let place = place_of(&self.places, entry.number, self.guess(entry.number), hint)?;
         let old = self.places[place];
         self.places[place] = Some(entry);
+        self.listed.forget();
         old
     }
 
@@ -267,16 +275,18 @@ impl Table {
         true
     }
 
-    /// The numbers of the node's handles, each with the place where the handle is. It looks at each
-    /// place once, and fails only for want of memory.
-    pub fn list_of(&self, node: u64, alloc: Global) -> Result<Vec<Numbered>, AllocError>
-        ensures listed { IfOk result (λ list. (k : ℕ)
-            → Contains (map (λ v. v.number) list.items) k ↔ IsSome (handle_of self.now node k)) }
-        ensures each { IfOk result (λ list. length list.items
-            ≡ length (handles_of self.now node)) }
-        ensures sound { IsSound self.now }
+    /// The node's handle of the least number, by that number and its place. All of the node's are
+    /// listed at first, and as long as none is added, the list serves: where they go one after
+    /// another, and this is asked after each, it looks at each place a few times in all.
+    pub fn first_of(&mut self, node: u64) -> Option<Numbered>
+        ensures first { option_map (λ v. v.number) result
+            ≡ least (map (λ h. h.number) (handles_of self.old node)) }
+        ensures unchanged { self.new ≡ self.old }
     {
-        list_in(&self.places, node, alloc)
+        if !self.listed.is_of(node, self.next) {
+            self.listed.fill(&self.places, node, self.next);
+        }
+        self.listed.first(&self.places)
     }
 
     /// The least number of the node's handles. It looks at all places.

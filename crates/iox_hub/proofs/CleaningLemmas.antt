@@ -1,6 +1,6 @@
 -- The release of the value of the least number leaves the node the others, so that one after another takes all.
 use Rattle.std.specs.Prelude.{◌≡◌, ◌≢◌, ℕ, ◌<◌, Bool, true, false, not, ◌==◌, List, [], ◌∷◌, length, Option, Some, None, IfSome, IsSome, is_some, refl}
-use Rattle.std.specs.Option.{option_map_or}
+use Rattle.std.specs.Option.{option_map, option_map_or}
 use Rattle.std.proofs.Common.{sym, ap, subst, ◌∙◌, arith, eqb-true, inl, inr}
 use Rattle.std.proofs.lemmas.Option.{none-some, same_Some}
 use Rattle.iox_model.specs.declared.backpressure.BackpressureAction.TheVariants.{FollowBackpressureStrategy}
@@ -25,6 +25,7 @@ use Rattle.iox_laws.proofs.ServiceLaws.Ordered.{releases_ascend}
 use Rattle.iox_laws.proofs.ServiceLaws.Releasing.{nothing_left, values_are_numbers}
 use Rattle.iox_model.specs.declared.kind.Kind.{Kind}
 use Rattle.iox_model.specs.Names.{is_port}
+use Rattle.iox_handles.specs.declared.numbered.Numbered.{Numbered}
 use Rattle.iox_tables.specs.HubStates.States.{Given}
 use Rattle.iox_tables.specs.HubStates.Tables.{HandleState, PortState, port_in}
 use Rattle.iox_tables.specs.HubStates.Wirings.{handle_in}
@@ -155,6 +156,12 @@ pub first_has : (h : HubState) (node : ℕ) (r : Option ℕ) → IsHub h
     → ((x : Given) → r ≡ first_of (numbers_of_node (state_of_hub x h).fixed node)) → IfSome r (λ n. IsSome (kind_in h.control.tables node n))
 first_has h node None hub is = tt
 first_has h node (Some n) hub is = first_is_value hub.reached.0 h node n hub.control.order (sym (is hub.reached.0))
+
+pub value_has : (h : HubState) (node : ℕ) (r : Option Numbered) → IsHub h
+    → ((x : Given) → option_map (λ v. v.number) r ≡ first_of (numbers_of_node (state_of_hub x h).fixed node))
+    → IfSome r (λ v. IsSome (kind_in h.control.tables node v.number))
+value_has h node None hub is = tt
+value_has h node (Some v) hub is = first_is_value hub.reached.0 h node v.number hub.control.order (sym (is hub.reached.0))
 
 pub rest_is_left : (old new : HubState) (node n : ℕ) → IsReached old → AreInOrder old.control.tables
     → ((x : Given) → Some n ≡ first_of (numbers_of_node (state_of_hub x old).fixed node))

@@ -45,4 +45,3 @@ pub mod ListingLemmas
 pub mod VisitLemmas
 pub mod ValueLemmas
 pub mod CleaningLemmas
-pub mod ListedLemmas

@@ -17,7 +17,7 @@ use Rattle.iox_handles.specs.Tables as table
 use Rattle.iox_handles.proofs.LeastLemmas.{least-append}
 use Rattle.iox_hub_ports.specs.Ports.{info_at, info_of}
 use Rattle.iox_tables.specs.HubStates.States.{Given, handle_of, message_of, port_of}
-use Rattle.iox_tables.specs.HubStates.Tables.{HubTables, PortState}
+use Rattle.iox_tables.specs.HubStates.Tables.{HandleState, HubTables, PortState}
 use Rattle.iox_tables.specs.HubStates.Wirings.{numbers_of_role}
 use Rattle.iox_control.specs.Entries.{handle_state, handles_of}
 use Rattle.iox_hub.specs.Hubs.{HubState, given_by, state_of_hub}
@@ -68,6 +68,16 @@ pub first_is : (x : Given) (h : HubState) (node : ℕ) (ports : List PortState) 
 first_is x h node ports handles of_ports of_handles =
     ap₂ (λ ps ns. lesser (least (held_ports ps node)) (least ns)) of_ports
     (sym (listed_as handle_state (λ k. k.node == node) (λ k. k.number) handles.handles) ∙ ap (λ hs. handles_had hs node) of_handles)
+    ∙ sym (least-append (held_ports h.control.tables.ports node) (handles_had h.control.tables.handles node))
+    ∙ sym (first-ascending (held_ports h.control.tables.ports node ++ handles_had h.control.tables.handles node))
+    ∙ ap first_of (sym (numbers_are x h node))
+
+-- so it is where the tables tell the least of each
+pub first_of_both : (x : Given) (h : HubState) (node : ℕ) (ports : List PortState) (handles : List HandleState) → ports ≡ h.control.tables.ports
+    → handles ≡ h.control.tables.handles
+    → lesser (least (held_ports ports node)) (least (handles_had handles node)) ≡ first_of (numbers_of_node (state_of_hub x h).fixed node)
+first_of_both x h node ports handles of_ports of_handles =
+    ap₂ (λ ps hs. lesser (least (held_ports ps node)) (least (handles_had hs node))) of_ports of_handles
     ∙ sym (least-append (held_ports h.control.tables.ports node) (handles_had h.control.tables.handles node))
     ∙ sym (first-ascending (held_ports h.control.tables.ports node ++ handles_had h.control.tables.handles node))
     ∙ ap first_of (sym (numbers_are x h node))
@@ -149,28 +159,3 @@ one_held node ports at low =
     by_case : (p : PortState) (b : Bool) → (if b then Some p.number else None) ≡ least (if b then p.number ∷ [] else [])
     by_case p true = refl
     by_case p false = refl
-
--- its number is listed, if it is the node's and its value is there
-pub one_kept : (node : ℕ) (ports : List PortState) (at : ℕ) → at < length ports → (n : ℕ) → held_number node (info_at ports at) ≡ Some n
-    → held_ports (take (at + 1) ports) node ≡ held_ports (take at ports) node ++ n ∷ []
-one_kept node ports at low n is =
-    let next = next_port ports at low in
-    ap (λ ps. held_ports ps node) next.more ∙ held-last node (take at ports) next.port
-    ∙ ap (λ ns. held_ports (take at ports) node ++ ns)
-    (by_case next.port ((next.port.node == node) && next.port.held) (sym (ap (held_number node) next.told) ∙ is))
-  where
-    by_case : (p : PortState) (b : Bool) → (if b then Some p.number else None) ≡ Some n → (if b then p.number ∷ [] else []) ≡ n ∷ []
-    by_case p true e = ap (λ m. m ∷ []) (same_Some p.number n e)
-    by_case p false e = absurd (none-some n e)
-
-pub none_kept : (node : ℕ) (ports : List PortState) (at : ℕ) → at < length ports → held_number node (info_at ports at) ≡ None
-    → held_ports (take (at + 1) ports) node ≡ held_ports (take at ports) node
-none_kept node ports at low is =
-    let next = next_port ports at low in
-    ap (λ ps. held_ports ps node) next.more ∙ held-last node (take at ports) next.port
-    ∙ by_case next.port ((next.port.node == node) && next.port.held) (sym (ap (held_number node) next.told) ∙ is)
-  where
-    by_case : (p : PortState) (b : Bool) → (if b then Some p.number else None) ≡ None
-        → held_ports (take at ports) node ++ (if b then p.number ∷ [] else []) ≡ held_ports (take at ports) node
-    by_case p true e = absurd (none-some p.number (sym e))
-    by_case p false e = append-nil (held_ports (take at ports) node)

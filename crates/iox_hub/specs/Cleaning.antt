@@ -1,9 +1,8 @@
 -- How the values of a node are released one after another, for proofs of this crate alone.
-use Rattle.std.specs.Prelude.{ℕ, ◌≤◌, IsSome}
+use Rattle.std.specs.Prelude.{ℕ}
 use Rattle.iox_model.specs.Services.{Releases, numbers_of_node}
 use Rattle.iox_model.specs.States.{State}
 use Rattle.iox_tables.specs.HubStates.States.{Given}
-use Rattle.iox_tables.specs.HubLoans.Questions.{kind_in}
 use Rattle.iox_hub.specs.Hubs.{HubState, state_of_hub}
 
 -- What releases of all that is left lead to, those of all that was there lead to.
@@ -12,7 +11,3 @@ LeadsOn first now node =
     (x : Given) (t : State)
     → Releases (state_of_hub x now) node (numbers_of_node (state_of_hub x now).fixed node) t
     → Releases (state_of_hub x first) node (numbers_of_node (state_of_hub x first).fixed node) t
-
--- none of the node's values has a lesser number
-abbrev pub NoneIsBelow : HubState → ℕ → ℕ → Type 0
-NoneIsBelow h node n = (k : ℕ) → IsSome (kind_in h.control.tables node k) → n ≤ k

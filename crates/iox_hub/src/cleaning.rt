@@ -1,7 +1,5 @@
 //! All that a node has is released.
-ghost use Rattle.std.specs.List.{Contains};
-ghost use Rattle.std.specs.List.Sorted.{IsNonDecreasingBy};
-ghost use Rattle.std.specs.Prelude.{◌≡◌, ◌≢◌, [], IfSome, IsSome, None, map, ℕ};
+ghost use Rattle.std.specs.Prelude.{◌≡◌, ◌≢◌, [], IfSome, IsSome, None, ℕ};
 ghost use Rattle.iox_model.specs.declared.call.Call.TheVariants.{Release};
 ghost use Rattle.iox_model.specs.declared.reply.Reply.TheVariants.{Done};
 ghost use Rattle.iox_model.specs.Maps.{first_of, rest_of};
@@ -11,14 +9,11 @@ ghost use Rattle.iox_model.specs.WholeCalls.{IsWholeCall};
 ghost use Rattle.iox_tables.specs.HubLoans.Questions.{kind_in};
 ghost use Rattle.iox_tables.specs.HubStates.States.{Given};
 ghost use Rattle.iox_control_releasing.specs.Goings.{StaysTidy};
-ghost use Rattle.iox_hub.specs.Cleaning.{LeadsOn, NoneIsBelow};
 ghost use Rattle.iox_hub.specs.Hubs.{state_of_hub};
 ghost use Rattle.iox_hub.specs.Keeping.{Keeps, KeepsOthers};
 ghost use Rattle.iox_hub.specs.Sending.{HasNothing};
 
 use crate::hub::Hub;
-use crate::listings::NOWHERE;
-use iox_handles::Numbered;
 use iox_model::kind::Kind;
 use iox_store::Payload;
 use iox_words::Words;
@@ -55,7 +50,7 @@ impl<Q: Payload, QH: Words, P: Payload, PH: Words> Hub<Q, QH, P, PH> {
     }
 
     /// Releases the node's value of the least number, and tells that number; nothing is changed if
-    /// the node has none. To find it, it looks at each port and each handle a few times.
+    /// the node has none. It takes no memory.
     pub fn release_first(&mut self, node: u64) -> Option<u64>
         ensures first { (x : Given)
             → result ≡ first_of (numbers_of_node (state_of_hub x self.old).fixed node) }
@@ -70,50 +65,14 @@ impl<Q: Payload, QH: Words, P: Payload, PH: Words> Hub<Q, QH, P, PH> {
         ensures tidy { StaysTidy self.old.control.tables self.new.control.tables }
     {
         self.is_in_order();
-        let number = self.first_number(node)?;
-        self.release_value(node, number, NOWHERE);
-        Some(number)
+        let value = self.first_value(node)?;
+        self.release_value(node, value.number, value.place);
+        Some(value.number)
     }
 
-    /// Releases the node's value of that number, if it has it still. None of the node's values has
-    /// a lesser number.
-    fn release_listed(&mut self, node: u64, value: Numbered)
-        requires least { NoneIsBelow self.old node value.number }
-        ensures led { LeadsOn self.old self.new node }
-        ensures gone { HasNothing self.new node value.number }
-        ensures fewer { (k : ℕ) → IsSome (kind_in self.new.control.tables node k)
-            → IsSome (kind_in self.old.control.tables node k) }
-        ensures keeps { Keeps (λ other n. other ≢ node) self.old self.new }
-        ensures request { self.new.request ≡ self.old.request }
-        ensures response { self.new.response ≡ self.old.response }
-        ensures tidy { StaysTidy self.old.control.tables self.new.control.tables }
-    {
-        self.is_in_order();
-        if let Some(_) = self.kind(node, value.number, value.place) {
-            self.release_value(node, value.number, value.place);
-        }
-    }
-
-    /// Releases those values of the node, whose numbers ascend, one after another. All that it has
-    /// is among them.
-    fn release_each(&mut self, node: u64, values: &[Numbered])
-        requires all { (k : ℕ) → IsSome (kind_in self.old.control.tables node k)
-            → Contains (map (λ v. v.number) values.now) k }
-        requires ascending { IsNonDecreasingBy (λ v. v.number) values.now }
-        ensures led { LeadsOn self.old self.new node }
-        ensures keeps { Keeps (λ other n. other ≢ node) self.old self.new }
-        ensures request { self.new.request ≡ self.old.request }
-        ensures response { self.new.response ≡ self.old.response }
-        ensures tidy { StaysTidy self.old.control.tables self.new.control.tables }
-    {
-        for value in values {
-            self.release_listed(node, *value);
-        }
-    }
-
-    /// Releases all that the node has, in the order of the numbers. It looks at all ports and all
-    /// handles a few times in all, and lists those of the node, beside what the releases do. Where
-    /// there is no memory for the list, it looks at all of them for each value: so it never fails.
+    /// Releases all that the node has, in the order of the numbers. It takes no memory, so it never
+    /// fails; beside what the releases do, it looks at all handles a few times in all, and at all
+    /// ports for each value.
     pub fn release_all(&mut self, node: u64)
         ensures released { (x : Given) → Releases (state_of_hub x self.old) node
             (numbers_of_node (state_of_hub x self.old).fixed node) (state_of_hub x self.new) }
@@ -124,9 +83,6 @@ impl<Q: Payload, QH: Words, P: Payload, PH: Words> Hub<Q, QH, P, PH> {
         ensures response { self.new.response ≡ self.old.response }
         ensures tidy { StaysTidy self.old.control.tables self.new.control.tables }
     {
-        if let Ok(values) = self.values_of(node) {
-            self.release_each(node, &values);
-        }
         while let Some(_) = self.release_first(node) {}
     }
 }

@@ -1,13 +1,12 @@
 //! What a hub tells of its service: its settings, its ports by role, and what a node has.
-ghost use Rattle.std.specs.List.{Contains};
-ghost use Rattle.std.specs.List.Sorted.{IsNonDecreasingBy};
-ghost use Rattle.std.specs.Prelude.{◌≡◌, ◌++◌, IfOk, IfSome, IsSome, None, OnOk, map, not, ℕ};
+ghost use Rattle.std.specs.Option.{option_map};
+ghost use Rattle.std.specs.Prelude.{◌≡◌, IfOk, IfSome, IsSome, None, not, ℕ};
 ghost use Rattle.std.specs.Fn.{CalledAt};
 ghost use Rattle.iox_attributes.specs.Visits.{Visits};
 ghost use Rattle.iox_model.specs.Maps.{first_of, is_empty};
 ghost use Rattle.iox_model.specs.Peers.{ports_of_role};
 ghost use Rattle.iox_model.specs.Services.{numbers_of_node};
-ghost use Rattle.iox_handles.specs.Least.{least};
+ghost use Rattle.iox_handles.specs.Least.{least, lesser};
 ghost use Rattle.iox_tables.specs.HubLoans.Questions.{kind_in};
 ghost use Rattle.iox_tables.specs.HubStates.States.{Given};
 ghost use Rattle.iox_tables.specs.HubStates.Wirings.{numbers_of_role};
@@ -108,21 +107,18 @@ fn least_held(ports: &Ports, node: u64) -> Option<u64>
     least
 }
 
-/// Lists the numbers of the node's ports whose own values are still there, in their order, behind
-/// what is listed.
-fn list_held(ports: &Ports, node: u64, values: &mut Vec<Numbered>) -> Result<(), AllocError>
-    ensures { OnOk result (map (λ v. v.number) values.new.items
-        ≡ map (λ v. v.number) values.old.items ++ held_ports ports.now.ports node) }
+/// The lesser of the numbers of a port and of a handle, or the one that there is.
+fn lesser_value(port: Option<u64>, handle: Option<Numbered>) -> Option<Numbered>
+    ensures { option_map (λ v. v.number) result ≡ lesser port (option_map (λ v. v.number) handle) }
 {
-    for at in 0..ports.len() {
-        if let Some(number) = held_at(ports, at, node) {
-            values.push(Numbered {
-                number,
-                place: NOWHERE,
-            })?;
-        }
+    match (port, handle) {
+        (Some(number), Some(other)) if other.number < number => handle,
+        (Some(number), _) => Some(Numbered {
+            number,
+            place: NOWHERE,
+        }),
+        (None, _) => handle,
     }
-    Ok(())
 }
 
 impl<Q: Payload, QH: Words, P: Payload, PH: Words> Hub<Q, QH, P, PH> {
@@ -172,19 +168,18 @@ impl<Q: Payload, QH: Words, P: Payload, PH: Words> Hub<Q, QH, P, PH> {
         )
     }
 
-    /// The numbers of the node's ports and handles that are not released, ascending, with the places
-    /// of the handles. It looks at each port and each handle once, and fails only for want of memory.
-    pub(crate) fn values_of(&self, node: u64) -> Result<Vec<Numbered>, AllocError>
-        ensures all { IfOk result (λ values. (k : ℕ)
-            → IsSome (kind_in self.now.control.tables node k)
-            → Contains (map (λ v. v.number) values.items) k) }
-        ensures ascending { IfOk result (λ values. IsNonDecreasingBy (λ v. v.number) values.items) }
+    /// The same number, and where its handle is looked for first. Where a node's values are released
+    /// one after another, and this is asked before each, it looks at each handle a few times in all.
+    pub(crate) fn first_value(&mut self, node: u64) -> Option<Numbered>
+        ensures first { (x : Given) → option_map (λ v. v.number) result
+            ≡ first_of (numbers_of_node (state_of_hub x self.old).fixed node) }
+        ensures has { IfSome result (λ v. IsSome (kind_in self.old.control.tables node v.number)) }
+        ensures none { result ≡ None → (n : ℕ) → HasNothing self.old node n }
+        ensures unchanged { self.new ≡ self.old }
     {
-        let alloc = *self.words.allocator();
-        let mut values = self.control.handles().list_of(node, alloc)?;
-        list_held(self.control.ports(), node, &mut values)?;
-        values.sort_unstable_by_key(|value| value.number);
-        Ok(values)
+        let port = least_held(self.control.ports(), node);
+        let handle = self.control.first_handle(node);
+        lesser_value(port, handle)
     }
 
     /// Whether the node has a port or a handle that is not released.

@@ -1,28 +1,55 @@
-use Rattle.std.proofs.Common.{◌≡◌, ◌++◌, ◌∷◌, [], map, take, ap, sym, ◌∙◌, append-nil, rules}
-use Rattle.std.proofs.lemmas.List.{map-append, take_more}
+use Rattle.std.proofs.Common.{◌≡◌, ◌+◌, ◌++◌, ◌∷◌, [], List, Vec, Global, length, sym, ap, subst, ◌∙◌, arith, length-append, refl}
+use Rattle.std.specs.Vec.{vec_capacity}
+use Rattle.std.specs.Prelude.{Some}
+use Rattle.std.proofs.lemmas.Option.{slice_get_within}
 use Rattle.iox_handles.specs.declared.numbered.Numbered.{Numbered}
-use Rattle.iox_handles.specs.Places.{number_list, numbers_in}
-use Rattle.iox_handles.proofs.ListLemmas.{numbers_in-last}
+use Rattle.iox_handles.proofs.NodeListLemmas.{ListedBelow, entry_at, listed_push, listed_skip}
 use Rattle.iox_handles.proofs.numbered.list_in.Goals as goal
-use Rattle.iox_handles.proofs.numbered.list_in.Goals.{in-Some+in_ok-push, in_default}
+use Rattle.iox_handles.proofs.numbered.list_in.Goals.{in-Some, in_default}
+
+pub loop-place-init : goal.loop-place-init
+loop-place-init c = record {
+  listed = λ p h low at on. absurd (omega (arith, low));
+  many = let none = ap length c.requires.empty in omega (arith, none);
+  room = refl;
+  size = refl;
+}
+
+pub push_reserved-requires : goal.push_reserved-requires
+push_reserved-requires c =
+    let many = c.loop-place.invariant.many in let room = c.loop-place.invariant.room in let asked = c.requires.room in
+    let low = c.loop-place-test.true in let size = c.loop-place.list.ok.0 in
+    omega (arith, many, room, asked, low, size)
 
 pub loop-place-preserved : goal.loop-place-preserved
-loop-place-preserved c = record {
-  numbers = elim c.match-number_for.branch [
-    | in-Some+in_ok-push w ↦
-        let pushed : w.push.new.self.items ≡ c.loop-place.list.items ++ record { number = w.in-Some.number; place = c.loop-place.place } ∷ [] = search rules in
-        ap (λ v. map (λ (n : Numbered). n.number) v.items) w.list-is ∙ ap (map (λ (n : Numbered). n.number)) pushed
-        ∙ map-append (λ (n : Numbered). n.number) c.loop-place.list.items _
-        ∙ ap (λ ns. ns ++ w.in-Some.number ∷ []) c.loop-place.invariant.numbers
-        ∙ ap (λ o. numbers_in c.args.node (take c.loop-place.place c.args.places.now) ++ number_list o) (sym w.in-Some.is ∙ c.number_for.ensures)
-        ∙ sym (numbers_in-last c.args.node (take c.loop-place.place c.args.places.now) _)
-        ∙ ap (numbers_in c.args.node) (sym (take_more c.args.places.now c.loop-place.place _ c.loop-place-test.true))
-    | in_default w ↦
-        ap (λ v. map (λ (n : Numbered). n.number) v.items) w.list-is ∙ c.loop-place.invariant.numbers
-        ∙ sym (append-nil _)
-        ∙ ap (λ o. numbers_in c.args.node (take c.loop-place.place c.args.places.now) ++ number_list o) (sym w.in_default.is ∙ c.number_for.ensures)
-        ∙ sym (numbers_in-last c.args.node (take c.loop-place.place c.args.places.now) _)
-        ∙ ap (numbers_in c.args.node) (sym (take_more c.args.places.now c.loop-place.place _ c.loop-place-test.true))
-  ];
-  size = c.loop-place.invariant.size;
-}
+loop-place-preserved c = elim c.match-number_for.branch [
+  | in-Some w ↦
+      let items : c.match-number_for.list.items ≡ c.loop-place.list.items ++ entry_at w.in-Some.number c.loop-place.place ∷ []
+      = ap (λ (v : Vec Numbered Global). v.items) w.list-is ∙ w.push_reserved.ensures.items in
+      record {
+        listed = subst (λ (vs : List Numbered). ListedBelow c.args.node c.args.places.now vs (c.loop-place.place + 1)) (sym items)
+            (listed_push c.args.node c.args.places.now c.loop-place.list.items c.loop-place.place w.in-Some.number
+            (sym c.number_for.ensures ∙ w.in-Some.is) c.loop-place.invariant.listed);
+        many =
+            let size = ap length items ∙ length-append c.loop-place.list.items (entry_at w.in-Some.number c.loop-place.place ∷ []) in
+            let before = c.loop-place.invariant.many in
+            omega (arith, size, before);
+        room = ap (λ (v : Vec Numbered Global). vec_capacity v) w.list-is ∙ w.push_reserved.ensures.capacity ∙ c.loop-place.invariant.room;
+        size = refl;
+      }
+  | in_default w ↦
+      let items : c.match-number_for.list.items ≡ c.loop-place.list.items = ap (λ (v : Vec Numbered Global). v.items) w.list-is in
+      record {
+        listed = subst (λ (vs : List Numbered). ListedBelow c.args.node c.args.places.now vs (c.loop-place.place + 1)) (sym items)
+            (listed_skip c.args.node c.args.places.now c.loop-place.list.items c.loop-place.place
+            (sym c.number_for.ensures ∙ w.in_default.is) c.loop-place.invariant.listed);
+        many = let size = ap length items in let before = c.loop-place.invariant.many in omega (arith, size, before);
+        room = ap (λ (v : Vec Numbered Global). vec_capacity v) w.list-is ∙ c.loop-place.invariant.room;
+        size = refl;
+      }
+]
+
+pub returns-clause-listed : goal.returns-clause-listed
+returns-clause-listed c p h at on =
+    let within = slice_get_within c.args.places.now p (Some h) at in let end = c.loop-place-test.false in
+    c.loop-place.invariant.listed p h (omega (arith, within, end)) at on

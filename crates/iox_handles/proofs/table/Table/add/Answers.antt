@@ -6,7 +6,8 @@ use Rattle.std.specs.Prelude.{find}
 use Rattle.iox_handles.proofs.NumberLemmas.{finds_last}
 use Rattle.iox_handles.proofs.PlaceLemmas.{own_numbers}
 use Rattle.std.proofs.lemmas.Option.{slice_get_within}
-use Rattle.iox_handles.proofs.TableLemmas.{IsTable-behind, IsTable-put, contents, handles-behind, handles-put, listed_last, moved, none_left}
+use Rattle.iox_handles.proofs.WholeLemmas.{IsWhole-behind, IsWhole-put, moved_whole}
+use Rattle.iox_handles.proofs.TableLemmas.{contents, handles-behind, handles-put, listed_last, moved, none_left}
 use Rattle.iox_handles.proofs.table.Table.add.Goals as goal
 
 pub index_mut-requires : goal.index_mut-requires
@@ -14,13 +15,13 @@ index_mut-requires c =
     subst (λ (n : ℕ). c.in-Some.place < n) (sym c.self.inside.places.ok.0)
     (slice_get_within c.self.inside.places.items c.in-Some.place None
     (listed_last c.self.inside.places.items c.pop.new.self.items c.in-Some.place _ _ _ _
-    (moved c.self.inside.places.items c.self.inside.places.items c.self.inside.free.items (c.pop.new.self.items ++ c.in-Some.place ∷ []) _ _ _ _ _ _ refl (sym c.in-Some.ensures.items) refl refl c.self.invariant)))
+    (moved c.self.inside.places.items c.self.inside.places.items c.self.inside.free.items (c.pop.new.self.items ++ c.in-Some.place ∷ []) _ _ _ _ _ _ refl (sym c.in-Some.ensures.items) refl refl c.self.invariant.table)))
 
 pub invariant_of-self : goal.invariant_of-self
 invariant_of-self c =
-    moved _ _ _ _ _ _ _ _ _ _ refl refl refl c.pop.ensures.capacity
-    (IsTable-put c.self.inside.places.items c.pop.new.self.items c.in-Some.place _ _ _ _ c.args.entry
-    (moved c.self.inside.places.items c.self.inside.places.items c.self.inside.free.items (c.pop.new.self.items ++ c.in-Some.place ∷ []) _ _ _ _ _ _ refl (sym c.in-Some.ensures.items) refl refl c.self.invariant)
+    moved_whole _ _ _ _ _ _ _ _ _ _ _ refl refl refl c.pop.ensures.capacity
+    (IsWhole-put c.self.inside.places.items c.pop.new.self.items c.in-Some.place _ _ _ _ _ c.args.entry
+    (moved_whole c.self.inside.places.items c.self.inside.places.items c.self.inside.free.items (c.pop.new.self.items ++ c.in-Some.place ∷ []) _ _ _ _ _ _ _ refl (sym c.in-Some.ensures.items) refl refl c.self.invariant)
     (subst (λ (x : Contents). 0 < x.room) (sym c.self.view_is) c.requires.room) (subst (λ (x : Contents). x.next ≤ c.args.entry.number) (sym c.self.view_is) c.requires.newer))
 
 pub returns-in-Some-clause-added : goal.returns-in-Some-clause-added
@@ -28,14 +29,14 @@ returns-in-Some-clause-added c =
     rw (← c.self.view_is)
     (ap (contents (c.self.inside.room - 1) (c.args.entry.number + 1))
     (handles-put c.self.inside.places.items c.pop.new.self.items c.in-Some.place _ _ _ _ c.args.entry
-    (moved c.self.inside.places.items c.self.inside.places.items c.self.inside.free.items (c.pop.new.self.items ++ c.in-Some.place ∷ []) _ _ _ _ _ _ refl (sym c.in-Some.ensures.items) refl refl c.self.invariant)
+    (moved c.self.inside.places.items c.self.inside.places.items c.self.inside.free.items (c.pop.new.self.items ++ c.in-Some.place ∷ []) _ _ _ _ _ _ refl (sym c.in-Some.ensures.items) refl refl c.self.invariant.table)
     (subst (λ (x : Contents). x.next ≤ c.args.entry.number) (sym c.self.view_is) c.requires.newer)))
 
 pub invariant_of-self-in-None : goal.invariant_of-self-in-None
 invariant_of-self-in-None c =
-    moved _ _ _ _ _ _ _ _ _ _ c.push_reserved.ensures.items (none_left c.pop.new.self.items (sym c.pop.new.self.ok.0 ∙ c.in-None.ensures.cases.1)) c.push_reserved.ensures.capacity c.pop.ensures.capacity
-    (IsTable-behind c.self.inside.places.items _ _ _ _ c.args.entry
-    (moved c.self.inside.places.items c.self.inside.places.items c.self.inside.free.items [] _ _ _ _ _ _ refl (sym (none_left c.self.inside.free.items (sym c.self.inside.free.ok.0 ∙ c.in-None.ensures.cases.0))) refl refl c.self.invariant)
+    moved_whole _ _ _ _ _ _ _ _ _ _ _ c.push_reserved.ensures.items (none_left c.pop.new.self.items (sym c.pop.new.self.ok.0 ∙ c.in-None.ensures.cases.1)) c.push_reserved.ensures.capacity c.pop.ensures.capacity
+    (IsWhole-behind c.self.inside.places.items _ _ _ _ _ c.args.entry
+    (moved_whole c.self.inside.places.items c.self.inside.places.items c.self.inside.free.items [] _ _ _ _ _ _ _ refl (sym (none_left c.self.inside.free.items (sym c.self.inside.free.ok.0 ∙ c.in-None.ensures.cases.0))) refl refl c.self.invariant)
     (subst (λ (x : Contents). 0 < x.room) (sym c.self.view_is) c.requires.room) (subst (λ (x : Contents). x.next ≤ c.args.entry.number) (sym c.self.view_is) c.requires.newer))
 
 pub returns-in-None-clause-added : goal.returns-in-None-clause-added
@@ -44,14 +45,14 @@ returns-in-None-clause-added c =
     (ap (λ (ps : List (Option Entry)). contents (c.self.inside.room - 1) (c.args.entry.number + 1) (handles_in ps (c.args.entry.number + 1))) c.push_reserved.ensures.items
     ∙ ap (contents (c.self.inside.room - 1) (c.args.entry.number + 1))
     (handles-behind c.self.inside.places.items _ _ _ _ c.args.entry
-    (moved c.self.inside.places.items c.self.inside.places.items c.self.inside.free.items [] _ _ _ _ _ _ refl (sym (none_left c.self.inside.free.items (sym c.self.inside.free.ok.0 ∙ c.in-None.ensures.cases.0))) refl refl c.self.invariant)
+    (moved c.self.inside.places.items c.self.inside.places.items c.self.inside.free.items [] _ _ _ _ _ _ refl (sym (none_left c.self.inside.free.items (sym c.self.inside.free.ok.0 ∙ c.in-None.ensures.cases.0))) refl refl c.self.invariant.table)
     (subst (λ (x : Contents). x.next ≤ c.args.entry.number) (sym c.self.view_is) c.requires.newer)))
 
 pub returns-in-Some-clause-has : goal.returns-in-Some-clause-has
 returns-in-Some-clause-has c =
     ap (find (has_that c.args.entry.number))
     (handles-put c.self.inside.places.items c.pop.new.self.items c.in-Some.place _ _ _ _ c.args.entry
-    (moved c.self.inside.places.items c.self.inside.places.items c.self.inside.free.items (c.pop.new.self.items ++ c.in-Some.place ∷ []) _ _ _ _ _ _ refl (sym c.in-Some.ensures.items) refl refl c.self.invariant)
+    (moved c.self.inside.places.items c.self.inside.places.items c.self.inside.free.items (c.pop.new.self.items ++ c.in-Some.place ∷ []) _ _ _ _ _ _ refl (sym c.in-Some.ensures.items) refl refl c.self.invariant.table)
     (subst (λ (x : Contents). x.next ≤ c.args.entry.number) (sym c.self.view_is) c.requires.newer))
     ∙ finds_last (in_places c.self.inside.places.items) c.self.inside.next c.args.entry (own_numbers c.self.inside.places.items)
     (subst (λ (x : Contents). x.next ≤ c.args.entry.number) (sym c.self.view_is) c.requires.newer)
@@ -61,7 +62,7 @@ returns-in-None-clause-has c =
     ap (λ (ps : List (Option Entry)). find (has_that c.args.entry.number) (handles_in ps (c.args.entry.number + 1))) c.push_reserved.ensures.items
     ∙ ap (find (has_that c.args.entry.number))
     (handles-behind c.self.inside.places.items _ _ _ _ c.args.entry
-    (moved c.self.inside.places.items c.self.inside.places.items c.self.inside.free.items [] _ _ _ _ _ _ refl (sym (none_left c.self.inside.free.items (sym c.self.inside.free.ok.0 ∙ c.in-None.ensures.cases.0))) refl refl c.self.invariant)
+    (moved c.self.inside.places.items c.self.inside.places.items c.self.inside.free.items [] _ _ _ _ _ _ refl (sym (none_left c.self.inside.free.items (sym c.self.inside.free.ok.0 ∙ c.in-None.ensures.cases.0))) refl refl c.self.invariant.table)
     (subst (λ (x : Contents). x.next ≤ c.args.entry.number) (sym c.self.view_is) c.requires.newer))
     ∙ finds_last (in_places c.self.inside.places.items) c.self.inside.next c.args.entry (own_numbers c.self.inside.places.items)
     (subst (λ (x : Contents). x.next ≤ c.args.entry.number) (sym c.self.view_is) c.requires.newer)

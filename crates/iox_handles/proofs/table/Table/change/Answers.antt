@@ -1,7 +1,11 @@
 use Rattle.std.proofs.Common.{◌≡◌, ◌<◌, ℕ, List, Option, true, subst, sym, ap, ◌∙◌}
 use Rattle.iox_handles.specs.declared.entry.Entry.{Entry}
 use Rattle.iox_handles.specs.Places.{has_at, in_places}
-use Rattle.iox_handles.proofs.TableLemmas.{IsTable-change, contents, found_is, handles-change, is_within, not_none, read_found}
+use Rattle.std.specs.Prelude.{Some, slice_set}
+use Rattle.std.specs.Vec.{vec_capacity}
+use Rattle.iox_handles.specs.NodeLists.{IsWhole, ListState}
+use Rattle.iox_handles.proofs.WholeLemmas.{IsWhole-change}
+use Rattle.iox_handles.proofs.TableLemmas.{contents, found_is, handles-change, is_within, not_none, read_found}
 use Rattle.iox_handles.proofs.table.Table.change.Goals as goal
 
 pub returns-in_err-place-clause-found : goal.returns-in_err-place-clause-found
@@ -9,7 +13,7 @@ returns-in_err-place-clause-found c =
     rw (← c.self.view_is)
     (c.from_residual.ensures ∙ sym (c.place_of.ensures.missing c.in_err-place.was)
     ∙ ap (λ (ps : List (Option Entry)). in_places ps c.args.entry.number) c.deref.ensures.value
-    ∙ sym (found_is c.self.inside.places.items _ _ _ _ _ c.self.invariant c.args.entry.number))
+    ∙ sym (found_is c.self.inside.places.items _ _ _ _ _ c.self.invariant.table c.args.entry.number))
 
 pub index-old-requires : goal.index-old-requires
 index-old-requires c =
@@ -25,13 +29,15 @@ index_mut-requires c =
 
 pub invariant_of-self : goal.invariant_of-self
 invariant_of-self c =
-    IsTable-change c.self.inside.places.items c.self.inside.free.items c.in_ok-place.place _ _ _ _ c.args.entry c.self.invariant
-    (subst (λ (ps : List (Option Entry)). has_at c.args.entry.number ps c.in_ok-place.place ≡ true) c.deref.ensures.value c.in_ok-place.ensures.found)
+    subst (λ (l : ListState). IsWhole (slice_set c.self.inside.places.items c.in_ok-place.place (Some c.args.entry)) c.self.inside.free.items c.self.inside.room c.self.inside.next
+    (vec_capacity c.self.inside.places) (vec_capacity c.self.inside.free) l) (sym c.forget.ensures)
+    (IsWhole-change c.self.inside.places.items c.self.inside.free.items c.in_ok-place.place _ _ _ _ _ c.args.entry c.self.invariant
+    (subst (λ (ps : List (Option Entry)). has_at c.args.entry.number ps c.in_ok-place.place ≡ true) c.deref.ensures.value c.in_ok-place.ensures.found))
 
 pub returns-clause-found : goal.returns-clause-found
 returns-clause-found c =
     rw (← c.self.view_is)
-    (read_found c.self.inside.places.items _ _ _ _ _ c.self.invariant c.args.entry.number c.in_ok-place.place c.index-old.result.now
+    (read_found c.self.inside.places.items _ _ _ _ _ c.self.invariant.table c.args.entry.number c.in_ok-place.place c.index-old.result.now
     (subst (λ (ps : List (Option Entry)). has_at c.args.entry.number ps c.in_ok-place.place ≡ true) c.deref.ensures.value c.in_ok-place.ensures.found)
     c.index-old.ensures)
 
@@ -39,7 +45,7 @@ pub returns-clause-changed : goal.returns-clause-changed
 returns-clause-changed c =
     λ some. rw (← c.self.view_is)
     (ap (contents c.self.inside.room c.self.inside.next)
-    (handles-change c.self.inside.places.items c.self.inside.free.items c.in_ok-place.place _ _ _ _ c.args.entry c.self.invariant
+    (handles-change c.self.inside.places.items c.self.inside.free.items c.in_ok-place.place _ _ _ _ c.args.entry c.self.invariant.table
     (subst (λ (ps : List (Option Entry)). has_at c.args.entry.number ps c.in_ok-place.place ≡ true) c.deref.ensures.value c.in_ok-place.ensures.found)))
 
 pub returns-clause-unchanged : goal.returns-clause-unchanged

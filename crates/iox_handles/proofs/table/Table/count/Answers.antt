@@ -11,4 +11,4 @@ returns c =
     rw (← c.self.view_is)
     (c.count_in.ensures
     ∙ ap (λ (ps : List (Option Entry)). count_by (passes (is_of c.args.port c.args.kind)) ps) c.deref.ensures.value
-    ∙ passing-places (is_of c.args.port c.args.kind) c.self.inside.places.items c.self.inside.next c.self.invariant.apart c.self.invariant.below)
+    ∙ passing-places (is_of c.args.port c.args.kind) c.self.inside.places.items c.self.inside.next c.self.invariant.table.apart c.self.invariant.table.below)

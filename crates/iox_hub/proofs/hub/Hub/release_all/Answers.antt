@@ -24,12 +24,12 @@ pub returns-clause-released : goal.returns-clause-released
 returns-clause-released g c x =
     subst (λ (h : HubState). Releases (state_of_hub x c.args.self.now) c.args.node
     (numbers_of_node (state_of_hub x c.args.self.now).fixed c.args.node) (state_of_hub x h))
-    (sym (c.release_first.ensures.unchanged c.in_default-release_first.is))
-    (all_led_on c.args.self.now c.loop.self c.args.node c.loop.invariant.leads c.in_default-release_first.ensures.first x)
+    (sym (c.release_first.ensures.unchanged c.in_default.is))
+    (all_led_on c.args.self.now c.loop.self c.args.node c.loop.invariant.leads c.in_default.ensures.first x)
 
 pub returns-clause-none : goal.returns-clause-none
 returns-clause-none g c x =
-    c.release_first.ensures.rest x ∙ ap rest_of (none_then _ (sym (c.in_default-release_first.ensures.first x)))
+    c.release_first.ensures.rest x ∙ ap rest_of (none_then _ (sym (c.in_default.ensures.first x)))
 
 pub returns-clause-gone : goal.returns-clause-gone
 returns-clause-gone g c = names_none c.release_first.new.self c.args.node (returns-clause-none g c)
