@@ -35,7 +35,7 @@ use Rattle.iox_hub_laws.specs.Sends.{BringsResponseCopy, WaitsAsBefore, response
 use Rattle.iox_hub_laws.specs.Shown.{handle_of, shown}
 use Rattle.iox_hub_laws.proofs.Arrivals.{IsRefusal}
 use Rattle.iox_hub_laws.proofs.Brought.{CameTo, IsLeft, LeavesSo, goes_on}
-use Rattle.iox_hub_laws.proofs.Copied.{loan_of_copy, response_copy_leaves}
+use Rattle.iox_hub_laws.proofs.CopyLeaves.{loan_of_copy, response_copy_leaves}
 use Rattle.iox_hub_laws.proofs.Values.{IsHandleOf, value_is_handle}
 
 module _ (old new : HubState) (hub : IsHub old) (node n : ℕ) (active : HandleState)

@@ -16,7 +16,7 @@ pub mod Arrivals
 pub mod Phases
 pub mod Moments
 pub mod Brought
-pub mod Copied
+pub mod CopyLeaves
 pub mod Sending
 pub mod CopySending
 -- what the crates above cite of those below
