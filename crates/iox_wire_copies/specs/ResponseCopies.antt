@@ -108,7 +108,7 @@ Answers x r seen reply =
 -- and it knows the places of what it accesses next.
 abbrev pub StaysAimed : Placed → ResponseCopy → Placed → ResponseCopy → Type 0
 StaysAimed x r y s =
-    (p : Setting) → IsAimed p x.seat r → TellsOfSlot s.lends.slots s.local → IsAimed p y.seat s
+    (p : Setting) → IsAimed p x.seat r → TellsOfSlot p s.local → IsAimed p y.seat s
 
 -- it is the copy of the same order, told of the same way
 pub record IsSameCall (r s : ResponseCopy) : Type 0 where
