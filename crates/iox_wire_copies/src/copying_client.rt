@@ -2,6 +2,7 @@
 ghost use Rattle.std.specs.Prelude.{◌≡◌};
 
 mod begin;
+mod place;
 mod send;
 
 use crate::at::{CopierAt, CopyReply};
