@@ -1,5 +1,5 @@
 -- What a node may add at the end of a call that it begins beside its seat.
-use Rattle.std.proofs.Common.{◌≡◌, ℕ, true, false, refl, sym, subst, ◌∙◌, true≢false}
+use Rattle.std.proofs.Common.{◌≡◌, ℕ, false, refl, sym, subst, ◌∙◌}
 use Rattle.iox_wire_begins.specs.Copiers.{MayBeMade}
 use Rattle.iox_wire_begins.specs.CopyCalls.{CopyCall}
 use Rattle.iox_wire_begins.specs.Dispatches.{Dispatch}
@@ -49,18 +49,10 @@ module _ (p : Setting) (n : Node) where
 
   -- a loan that is a handle adds none
   pub ready_to_send_request : (y : RequestDispatch) → y.copied ≡ false → IsReady p n (record n { at = at.SendsRequest; requests = y })
-  ready_to_send_request y own = record {
-    accesses = refl;
-    room = refl;
-    may = λ lends copied. absurd (true≢false (sym copied ∙ own));
-  }
+  ready_to_send_request y own = record { accesses = refl; room = refl; may = λ lends. own }
 
   pub ready_to_send_response : (y : Dispatch) → y.copied ≡ false → IsReady p n (record n { at = at.SendsResponse; responds = y })
-  ready_to_send_response y own = record {
-    accesses = refl;
-    room = refl;
-    may = λ lends copied. absurd (true≢false (sym copied ∙ own));
-  }
+  ready_to_send_response y own = record { accesses = refl; room = refl; may = λ lends. own }
 
 -- the node is told as its own code has it
 pub sent_so : (p : Setting) {n old : Node} {new : Node} → n ≡ old → IsReady p n new → IsReady p old new

@@ -1,22 +1,16 @@
 -- What a node may add at the end of its call stays so, as long as that is not over.
-use Rattle.std.proofs.Common.{◌≡◌, ℕ, true, Option, None, ap, sym, subst, ◌∙◌}
+use Rattle.std.proofs.Common.{◌≡◌, ℕ, Option, None, sym, subst, ◌∙◌}
 use Rattle.iox_wire_begins.proofs.CountLemmas.{CountsAlike, counts_beside, lends_at_work, lends_still, made_still}
 use Rattle.iox_wire_begins.specs.Aims.{KeepsRoom}
 use Rattle.iox_wire_begins.specs.Copiers.{IsAtWork, MayBeMade}
 use Rattle.iox_wire_begins.specs.CopyCalls as request_copies
 use Rattle.iox_wire_begins.specs.CopyCalls.{CopyCall}
 use Rattle.iox_wire_begins.specs.Courses.{placed}
-use Rattle.iox_wire_begins.specs.Desks.{MayCount}
-use Rattle.iox_wire_begins.specs.Dispatches.{Dispatch}
-use Rattle.iox_wire_begins.specs.Entry.{Entry}
 use Rattle.iox_wire_begins.specs.Lends.{MayLend}
 use Rattle.iox_wire_begins.specs.Local.{Local}
-use Rattle.iox_wire_begins.specs.RequestDispatches.{RequestDispatch}
-use Rattle.iox_wire_begins.specs.RequestSendsAims as requests
 use Rattle.iox_wire_begins.specs.ResponseCopies as response_copies
 use Rattle.iox_wire_begins.specs.ResponseCopies.{ResponseCopy}
 use Rattle.iox_wire_begins.specs.Seats.{Placed}
-use Rattle.iox_wire_begins.specs.SendsAims as responses
 use Rattle.iox_wire_begins.specs.Steps.{next, tells}
 use Rattle.iox_wire_begins.specs.Tables.{Setting}
 use Rattle.iox_wire_nodes.specs.declared.call_at.CallAt.{CallAt}
@@ -36,15 +30,6 @@ stays_ready reply {n} call new same at stays ready p aim none may =
 module _ (p : Setting) (x y : Placed) (l k : Local) (seen : ℕ) (led : placed y.seat k ≡ next p (placed x.seat l) seen) (none : tells p (placed x.seat l) seen ≡ None) where
   alike : CountsAlike x.seat y.seat
   alike = counts_beside p x y l k seen led none
-
-  pub request_ready : (r s : RequestDispatch) → requests.IsSameSend r s → KeepsRoom x y
-      → (r.copied ≡ true → MayLend x r.loan.number r.loan.port) → s.copied ≡ true → MayLend y s.loan.number s.loan.port
-  request_ready r s same room may copied =
-      subst (λ (e : Entry). MayLend y e.number e.port) (sym same.loan) (lends_still x y r.loan.number r.loan.port alike room (may (sym same.copied ∙ copied)))
-
-  pub response_ready : (r s : Dispatch) → responses.IsSameSend r s → responses.MayCountMade x r → responses.MayCountMade y s
-  response_ready r s same may copied =
-      subst (λ (e : Entry). MayCount e.port y.seat.desks) (sym same.loan) (alike.loans r.loan.port (may (sym same.copied ∙ copied)))
 
   pub request_copy_ready : (r s : CopyCall) → request_copies.IsSameCall r s → request_copies.SendsItsLoan s → IsAtWork r.at → KeepsRoom x y
       → MayBeMade x r.at r.lends.lending.order r.sends.loan → MayBeMade y s.at s.lends.lending.order s.sends.loan

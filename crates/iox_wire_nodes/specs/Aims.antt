@@ -1,5 +1,5 @@
 -- Which places a node knows of, what its step asks of what it keeps, and what a step of it does.
-use Rattle.std.specs.Prelude.{◌≡◌, ℕ, true, Option, None, option_map}
+use Rattle.std.specs.Prelude.{◌≡◌, ℕ, false, Option, None, option_map}
 use Rattle.iox_wire_begins.specs.Local.{Local}
 use Rattle.iox_wire_begins.specs.Steps.{next, tells}
 use Rattle.iox_wire_begins.specs.Tables.{Setting}
@@ -46,6 +46,16 @@ TellsOfPools p at.CopiesRequest local = TellsOfSlot p local
 TellsOfPools p at.CopiesResponse local = TellsOfSlot p local
 TellsOfPools p call local = Unit {0}
 
+-- ---- what it sends
+
+-- the place of a send or a copy is one of its own loan
+abbrev pub KnowsItsPlace : CallAt → Node → Type 0
+KnowsItsPlace at.SendsRequest n = requests.SendsItsRequest n.requests
+KnowsItsPlace at.SendsResponse n = responses.SendsItsResponse n.responds
+KnowsItsPlace at.CopiesRequest n = request_copies.CopiesItsRequest n.copies_request
+KnowsItsPlace at.CopiesResponse n = response_copies.CopiesItsResponse n.copies_response
+KnowsItsPlace call n = Unit {0}
+
 -- ---- what a step asks of what it keeps
 
 -- There is room for what the call adds at its end, and what an access that finds this gets back,
@@ -70,14 +80,14 @@ MayGoOn at.CopiesResponse n seen =
     response_copies.MayEndCall n.seat n.copies_response
     × response_copies.FindsUsed n.seat n.copies_response seen
 
--- Of that, what the node tells by itself: there is room for what the call adds, and it may be counted.
+-- Of that, what does not depend on the wire: there is room for what the call adds, and it may be
+-- counted. What a send sends is a handle.
 abbrev pub MayAdd : CallAt → Node → Type 0
 MayAdd at.Receives n =
     MayReceive n.seat n.receives.terms.number × HasRoomFor n.seat.seat n.receives.local
 MayAdd at.Lends n = MayLend n.seat n.lends.order.number n.lends.order.port
-MayAdd at.SendsRequest n =
-    n.requests.copied ≡ true → MayLend n.seat n.requests.loan.number n.requests.loan.port
-MayAdd at.SendsResponse n = MayCountMade n.seat n.responds
+MayAdd at.SendsRequest n = n.requests.copied ≡ false
+MayAdd at.SendsResponse n = n.responds.copied ≡ false
 MayAdd at.CopiesRequest n =
     MayBeMade n.seat n.copies_request.at n.copies_request.lends.lending.order
     n.copies_request.sends.loan

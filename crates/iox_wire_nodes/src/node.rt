@@ -8,6 +8,7 @@ mod elements;
 mod lend;
 mod look;
 mod name;
+mod place;
 mod receive;
 mod receive_response;
 mod send;

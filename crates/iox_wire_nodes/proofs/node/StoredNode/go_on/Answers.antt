@@ -11,7 +11,7 @@ use Rattle.iox_wire_begins.specs.ResponseCopies as response_copies
 use Rattle.iox_wire_nodes.specs.declared.call_at.CallAt.TheVariants as at
 use Rattle.iox_wire_nodes.specs.Nodes.{reply_in}
 use Rattle.iox_wire_nodes.proofs.ReplyLemmas.{over_told}
-use Rattle.iox_wire_nodes.proofs.StayLemmas.{request_copy_ready, request_ready, response_copy_ready, response_ready, stays_ready}
+use Rattle.iox_wire_nodes.proofs.StayLemmas.{request_copy_ready, response_copy_ready, stays_ready}
 use Rattle.iox_wire_nodes.proofs.node.StoredNode.go_on.Goals as goal
 use Rattle.iox_wire_nodes.proofs.node.StoredNode.go_on.Goals.{in-Some, in-None, in-Some-go_on, in-None-go_on, in-Some-go_on-2, in-None-go_on-2, in-Some-go_on-3, in-None-go_on-3, in-Some-go_on-4, in-None-go_on-4, in-Some-go_on-5, in-None-go_on-5, in-Some-go_on-6, in-None-go_on-6}
 
@@ -95,25 +95,11 @@ returns-after-go_on-3-clause-ready c =
 
 pub returns-after-go_on-4-clause-ready : goal.returns-after-go_on-4-clause-ready
 returns-after-go_on-4-clause-ready c =
-    stays_ready c.match-go_on-4.result at.SendsRequest _ c.self.view_is c.in-SendsRequest.is refl (λ p aimed none may.
-    (let quiet : c.go_on-in-SendsRequest.result ≡ None = elim c.match-go_on-4.branch [
-      | in-Some-go_on-3 w ↦ absurd (none-some _ (sym none ∙ w.result-is))
-      | in-None-go_on-3 w ↦ w.in-None-go_on-3.is
-    ] in
-    let tells_none = c.go_on-in-SendsRequest.ensures.over p aimed ∙ ap (option_map requests.reply_in) quiet in
-    request_ready p c.self.inside.seat c.go_on-in-SendsRequest.new.seat c.self.inside.requesting.local c.go_on-in-SendsRequest.new.self.local c.args.seen (c.go_on-in-SendsRequest.ensures.next p aimed) tells_none
-    c.self.inside.requesting c.go_on-in-SendsRequest.new.self c.go_on-in-SendsRequest.ensures.same c.go_on-in-SendsRequest.ensures.step.room may))
+    stays_ready c.match-go_on-4.result at.SendsRequest _ c.self.view_is c.in-SendsRequest.is refl (λ p aimed none may. c.go_on-in-SendsRequest.ensures.same.copied ∙ may)
 
 pub returns-after-go_on-5-clause-ready : goal.returns-after-go_on-5-clause-ready
 returns-after-go_on-5-clause-ready c =
-    stays_ready c.match-go_on-5.result at.SendsResponse _ c.self.view_is c.in-SendsResponse.is refl (λ p aimed none may.
-    (let quiet : c.go_on-in-SendsResponse.result ≡ None = elim c.match-go_on-5.branch [
-      | in-Some-go_on-4 w ↦ absurd (none-some _ (sym none ∙ w.result-is))
-      | in-None-go_on-4 w ↦ w.in-None-go_on-4.is
-    ] in
-    let tells_none = c.go_on-in-SendsResponse.ensures.over p aimed ∙ ap (option_map responses.reply_in) quiet in
-    response_ready p c.self.inside.seat c.go_on-in-SendsResponse.new.seat c.self.inside.responding.local c.go_on-in-SendsResponse.new.self.local c.args.seen (c.go_on-in-SendsResponse.ensures.next p aimed) tells_none
-    c.self.inside.responding c.go_on-in-SendsResponse.new.self c.go_on-in-SendsResponse.ensures.same may))
+    stays_ready c.match-go_on-5.result at.SendsResponse _ c.self.view_is c.in-SendsResponse.is refl (λ p aimed none may. c.go_on-in-SendsResponse.ensures.same.copied ∙ may)
 
 pub returns-after-go_on-6-clause-ready : goal.returns-after-go_on-6-clause-ready
 returns-after-go_on-6-clause-ready c =
