@@ -1,6 +1,8 @@
 pub mod TermLemmas
 -- what the crates above cite of those below
 pub use Rattle.iox_wire_handle_calls.proofs.Aside
+pub use Rattle.iox_wire_handle_calls.proofs.BeginCounts
+pub use Rattle.iox_wire_handle_calls.proofs.CountLemmas
 pub use Rattle.iox_wire_handle_calls.proofs.HeaderLemmas
 pub use Rattle.iox_wire_handle_calls.proofs.Layouts
 pub use Rattle.iox_wire_handle_calls.proofs.OwnedPlaces

@@ -5,6 +5,7 @@ pub mod WirePlans
 -- what the crates above cite of those below
 pub use Rattle.iox_wire_handle_calls.specs.Aims as RequestSendsAims
 pub use Rattle.iox_wire_handle_calls.specs.Begins
+pub use Rattle.iox_wire_handle_calls.specs.Copiers
 pub use Rattle.iox_wire_handle_calls.specs.CopyCalls
 pub use Rattle.iox_wire_handle_calls.specs.CopyReply
 pub use Rattle.iox_wire_handle_calls.specs.Courses

@@ -4,6 +4,7 @@ ghost use Rattle.iox_model.specs.declared.kind.Role.TheVariants.{Client};
 ghost use Rattle.iox_wire_handle_calls.specs.WayIndex.TheVariants.{Responses};
 ghost use Rattle.iox_wire_handle_calls.specs.Plans.{IsPortAt, IsWayAt, number_at, way_at};
 ghost use Rattle.iox_wire_begins.specs.WirePlans.{IsWirePlan};
+ghost use Rattle.iox_wire_handle_calls.specs.Copiers.{MayBeMade};
 ghost use Rattle.iox_wire_handle_calls.specs.CopyCalls as requests;
 ghost use Rattle.iox_wire_handle_calls.specs.ResponseCopies as responses;
 ghost use Rattle.iox_wire_lenders.specs.Terms.{IsSettingWith};
@@ -13,6 +14,8 @@ ghost use Rattle.iox_wire_handle_calls.specs.Courses.{placed};
 ghost use Rattle.iox_wire_handle_calls.specs.Known.{free_lanes};
 ghost use Rattle.iox_wire_handle_calls.specs.Lendings.{copies_request, copies_response};
 ghost use Rattle.iox_wire_handle_calls.specs.Lendings.{first_lane, next_handle};
+ghost use Rattle.iox_wire_handle_calls.specs.Lends.{MayLend};
+ghost use Rattle.iox_wire_handle_calls.specs.Seats.{Placed};
 ghost use Rattle.iox_wire_handle_calls.specs.Tables.{Setting, state_in};
 ghost use Rattle.iox_wire_handle_calls.specs.PlannedSlots.{element_words};
 ghost use Rattle.iox_wire_handle_calls.specs.Visits.{pool_of};
@@ -57,8 +60,10 @@ pub fn begin_request_copy(
         ≡ copies_request p seat.old.seat (p.port (number_at map.now client)) elements words.now) }
     ensures aimed { (p : Setting) → IsSettingWith map.now terms.now p
         → number ≡ next_handle p seat.old.seat
-        → TellsOfSlot copying.new.lends.slots copying.new.local
+        → TellsOfSlot p copying.new.local
         → OnOk result (requests.IsAimed p seat.new.seat copying.new) }
+    ensures may { (x : Placed) → MayLend x number (number_at map.now client) → OnOk result
+        (MayBeMade x copying.new.at copying.new.lends.lending.order copying.new.sends.loan) }
     ensures leaves { LeavesSeat seat.old seat.new }
     ensures rests { OnErr result (is_busy copying.new.local ≡ false) }
     ensures seat_unchanged { OnErr result (seat.new ≡ seat.old) }
@@ -104,8 +109,10 @@ pub fn begin_response_copy(
         ≡ copies_response p seat.old.seat request elements words.now) }
     ensures aimed { (p : Setting) → IsSettingWith map.now terms.now p
         → number ≡ next_handle p seat.old.seat
-        → TellsOfSlot copying.new.lends.slots copying.new.local
+        → TellsOfSlot p copying.new.local
         → OnOk result (responses.IsAimed p seat.new.seat copying.new) }
+    ensures may { (x : Placed) → MayLend x number (number_at map.now server) → OnOk result
+        (MayBeMade x copying.new.at copying.new.lends.lending.order copying.new.sends.loan) }
     ensures leaves { LeavesSeat seat.old seat.new }
     ensures unchanged { OnErr result (copying.new ≡ copying.old) }
     ensures seat_unchanged { OnErr result (seat.new ≡ seat.old) }

@@ -40,7 +40,7 @@ pub fn begin_request_loan(
         ≡ begins_at_port p seat.old.seat (Loan n elements) (p.port (number_at map.now client))) }
     ensures aimed { (p : Setting) → IsSettingWith map.now terms.now p
         → number ≡ next_handle p seat.old.seat
-        → TellsOfSlot lending.new.places lending.new.local
+        → TellsOfSlot p lending.new.local
         → OnOk result (IsAimed p seat.new.seat lending.new) }
     ensures ordered { OnOk result (IsOrdered lending.new number (number_at map.now client)) }
     ensures leaves { LeavesSeat seat.old seat.new }
@@ -80,7 +80,7 @@ pub fn begin_response_loan(
         ≡ begins_at_entry p seat.old.seat (Loan n elements) request) }
     ensures aimed { (p : Setting) → IsSettingWith map.now terms.now p
         → number ≡ next_handle p seat.old.seat
-        → TellsOfSlot lending.new.places lending.new.local
+        → TellsOfSlot p lending.new.local
         → OnOk result (IsAimed p seat.new.seat lending.new) }
     ensures ordered { OnOk result (IsOrdered lending.new number (number_at map.now server)) }
     ensures leaves { LeavesSeat seat.old seat.new }

@@ -43,6 +43,7 @@ pub fn begin_request_send(
     ensures aimed { (p : Setting) → IsSettingWith map.now terms.now p
         → OnOk result (requests.IsAimed p seat.now.seat requesting.new) }
     ensures loan { OnOk result (requesting.new.loan ≡ loan) }
+    ensures own { OnOk result (requesting.new.copied ≡ false) }
     ensures unchanged { OnErr result (requesting.new ≡ requesting.old) }
 {
     // only what this promises is wanted
@@ -74,6 +75,7 @@ pub fn begin_response_send(
     ensures aimed { (p : Setting) → IsSettingWith map.now terms.now p
         → responses.IsAimed p responding.new }
     ensures loan { responding.new.loan ≡ loan }
+    ensures own { responding.new.copied ≡ false }
 {
     let told = response_terms(map, terms, client, server, loan.lane);
     responding.begin(seat, loan, told);

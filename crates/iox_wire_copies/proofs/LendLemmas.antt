@@ -49,9 +49,9 @@ used_alike x payload (LendEmpties o w (popping.Pops (pop.LoadsCell read index)) 
 used_alike x payload (LendEmpties o w (popping.Pops (pop.Takes read slot)) left) used = used
 used_alike x payload l used = tt
 
-pub slot_alike : (t : SlotPlaces) (payload : List ℕ) (l : Local) → TellsOfSlot t (with_payload payload l) → TellsOfSlot t l
-slot_alike t payload (LendStores o slot n) told = told
-slot_alike t payload l told = tt
+pub slot_alike : (p : Setting) (payload : List ℕ) (l : Local) → TellsOfSlot p (with_payload payload l) → TellsOfSlot p l
+slot_alike p payload (LendStores o slot n) told = told
+slot_alike p payload l told = tt
 
 -- ---- a step
 
@@ -111,14 +111,12 @@ lend_peers x y r s seen lends loan before next_is p aim =
 
 -- and it knows the places
 pub lend_aimed : (p : Setting) (x y : Placed) (r s : CopyLoan) → Lends r → s.at ≡ at.Lends → s.local ≡ with_payload s.payload s.lending.local
-    → s.slots ≡ s.lending.places → s.lending.order ≡ r.lending.order → s.slots ≡ r.slots → s.places ≡ r.places
-    → loans.StaysAimed x r.lending y s.lending → IsAimed p x.seat r → TellsOfSlot s.slots s.local → IsAimed p y.seat s
-lend_aimed p x y r s lends at' local slots order same same_places stays aim told =
+    → s.lending.order ≡ r.lending.order → s.slots ≡ r.slots → s.places ≡ r.places
+    → loans.StaysAimed x r.lending y s.lending → IsAimed p x.seat r → TellsOfSlot p s.local → IsAimed p y.seat s
+lend_aimed p x y r s lends at' local order same same_places stays aim told =
     let known : loans.IsAimed p x.seat r.lending × ArePayloads p r.lending.order.port r.slots r.places = aimed_loan p x.seat r lends aim in
     subst (λ (a : CopyAt). AreAimed p y.seat a s) (sym at') (
-      stays p known.0 (slot_alike s.lending.places s.payload s.lending.local
-          (subst (λ (t : SlotPlaces). TellsOfSlot t (with_payload s.payload s.lending.local)) slots
-          (subst (TellsOfSlot s.slots) local told))),
+      stays p known.0 (slot_alike p s.payload s.lending.local (subst (TellsOfSlot p) local told)),
       subst (λ (o : Order). ArePayloads p o.port s.slots s.places) (sym order)
           (subst (λ (t : SlotPlaces). ArePayloads p r.lending.order.port t s.places) (sym same)
           (subst (ArePayloads p r.lending.order.port r.slots) (sym same_places) known.1)),

@@ -7,3 +7,5 @@ pub mod WriteLemmas
 pub mod CopierLemmas
 pub mod SendLemmas
 pub mod RespondLemmas
+pub mod CountLemmas
+pub mod BeginCounts

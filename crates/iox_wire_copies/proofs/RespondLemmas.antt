@@ -126,7 +126,7 @@ pub lends_aimed : (x y : Placed) (r s : ResponseCopy) → Lends r → s.at ≡ a
 lends_aimed x y r s lends at' local told stays same p aim of_slot =
     let known_so : copies.IsAimed p x.seat r.lends × KnowsWay p (way_of r.lends.lending.order) r.sends.terms = aimed_lends p x.seat r lends aim in
     subst (λ (a : CopierAt). AreAimed p y.seat a s) (sym at') (
-      stays p known_so.0 (subst (TellsOfSlot s.lends.slots) local of_slot),
+      stays p known_so.0 (subst (TellsOfSlot p) local of_slot),
       subst (λ (q : Dispatch). KnowsWay p (way_of s.lends.lending.order) q.terms) (sym told)
           (subst (λ (o : Order). KnowsWay p (way_of o) r.sends.terms) (sym same.order) known_so.1),
     )

@@ -122,7 +122,7 @@ pub lends_aimed : (x y : Placed) (r s : CopyCall) → Lends r → s.at ≡ at.Le
 lends_aimed x y r s lends at' local told stays peers same p aim of_slot =
     let known_so : copies.IsAimed p x.seat r.lends × KnowsServers p x.seat r.lends.lending.order.port r.lends.lending.order.lane r.sends = aimed_lends p x.seat r lends aim in
     subst (λ (a : CopierAt). AreAimed p y.seat a s) (sym at') (
-      stays p known_so.0 (subst (TellsOfSlot s.lends.slots) local of_slot),
+      stays p known_so.0 (subst (TellsOfSlot p) local of_slot),
       subst (λ (q : RequestDispatch). KnowsServers p y.seat s.lends.lending.order.port s.lends.lending.order.lane q) (sym told)
           (subst (λ (o : Order). KnowsServers p y.seat o.port o.lane r.sends) (sym same.order)
           (servers_stay p x.seat y.seat r.lends.lending.order.port r.lends.lending.order.lane r.sends (peers p known_so.0) known_so.1)),

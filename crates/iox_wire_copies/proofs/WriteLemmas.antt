@@ -221,14 +221,15 @@ copy_makes x y r s seen k loan lends seat at' ahead none p aim =
 
 pub copy_aimed : (x y : Placed) (r s : CopyLoan) (k : Local) (loan : Entry) → Lends r → y ≡ counted x → s.at ≡ at.Writes → s.loan ≡ loan
     → s.local ≡ LendStores (copy_of (loan_of s.lending.order) r.payload) loan.slot (length s.lending.words + 0) → IsSameLoan r.lending s.lending
-    → IsLoanAt r.lending.order r.lending.local → StoresAhead r.lending.local (length r.lending.words) (Some loan) k → s.slots ≡ r.slots
+    → IsLoanAt r.lending.order r.lending.local → StoresAhead r.lending.local (length r.lending.words) (Some loan) k → s.slots ≡ r.slots → r.slots ≡ r.lending.places
     → (loan.slot < r.slots.slots → s.place ≡ payload_at r.slots r.places loan.slot) → StaysAimed x r y s
-copy_aimed x y r s k loan lends seat writes made local same at' ahead slots there p aim told =
+copy_aimed x y r s k loan lends seat writes made local same at' ahead slots own there p aim told =
     let known : loans.IsAimed p x.seat r.lending × ArePayloads p r.lending.order.port r.slots r.places = aimed_loan p x.seat r lends aim in
-    let within : loan.slot < r.slots.slots = subst (λ (t : SlotPlaces). loan.slot < t.slots) slots (subst (TellsOfSlot s.slots) local told) in
+    let knows : Knows p (accessed x.seat) s.lending = stored_knows p x.seat r.lending s.lending r.lending.local k loan known.0 ahead same in
+    let pool : r.slots.slots ≡ (p.port s.lending.order.port).pool = ap (λ (t : SlotPlaces). t.slots) (own ∙ sym same.places) ∙ knows.slots.pool in
+    let within : loan.slot < r.slots.slots = subst (λ (n : ℕ). loan.slot < n) (sym pool) (subst (TellsOfSlot p) local told) in
     subst (λ (a : CopyAt). copies.AreAimed p y.seat a s) (sym writes) (
-      subst (λ (z : Seat). Knows p z s.lending) (sym (seat_is x y seat))
-          (stored_knows p x.seat r.lending s.lending r.lending.local k loan known.0 ahead same),
+      subst (λ (z : Seat). Knows p z s.lending) (sym (seat_is x y seat)) knows,
       subst (λ (e : Entry). IsPayloadAt p e s.place (length s.payload)) (sym made)
           (payload_there p r.lending.order r.slots r.places loan s.place (length s.payload) known.1
           (stored_loan r.lending.order r.lending.local k (length r.lending.words) loan at' ahead) within (there within)),

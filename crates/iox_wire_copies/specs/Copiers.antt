@@ -6,6 +6,8 @@ use Rattle.iox_wire_locals.specs.declared.local.Local.{Local}
 use Rattle.iox_wire_locals.specs.declared.local.Local.TheVariants.{Idle, Ends}
 use Rattle.iox_wire_locals.specs.declared.table.Entry.{Entry}
 use Rattle.iox_wire_locals.specs.NewLoans.{entry_in}
+use Rattle.iox_wire_seats.specs.Lends.{MayLend}
+use Rattle.iox_wire_seats.specs.Seats.{Placed}
 use Rattle.iox_wire_request_sends.specs.Orders.{loan_of}
 use Rattle.iox_wire_request_sends.specs.Order.{Order}
 use Rattle.iox_wire_copies.specs.declared.at.CopierAt.{CopierAt}
@@ -32,6 +34,20 @@ sends_at name = false
 abbrev pub SendsLoan : CopierAt → Order → Entry → Type 0
 SendsLoan at.Sends order loan = loan ≡ entry_in (loan_of order) loan.slot
 SendsLoan name order loan = Unit {0}
+
+-- The loan of that order may become a handle, as long as the copy lends or sends; what it sends is
+-- that loan.
+abbrev pub MayBeMade : Placed → CopierAt → Order → Entry → Type 0
+MayBeMade x at.Lends order loan = MayLend x order.number order.port
+MayBeMade x at.Sends order loan =
+    MayLend x order.number order.port × (loan.number ≡ order.number) × (loan.port ≡ order.port)
+MayBeMade x name order loan = Unit {0}
+
+-- it lends or sends
+abbrev pub IsAtWork : CopierAt → Type 0
+IsAtWork at.Lends = Unit {0}
+IsAtWork at.Sends = Unit {0}
+IsAtWork name = ⊥
 
 -- it lends
 abbrev pub IsLending : CopierAt → Type 0

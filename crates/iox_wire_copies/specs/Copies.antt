@@ -1,8 +1,10 @@
 -- The loan of a copy: a loan whose words go on with its payload, and which the same call sends.
 use Rattle.std.specs.Prelude.{◌≡◌, ◌+◌, ◌<◌, ◌^◌, ℕ, Bool, true, false, List, length}
+use Rattle.iox_model.specs.declared.kind.Kind.{Kind}
 use Rattle.iox_wire_words.specs.Programs.{word_place}
 use Rattle.iox_wire_locals.specs.declared.local.Local.{Local}
-use Rattle.iox_wire_locals.specs.declared.local.Local.TheVariants.{Idle, LendEmpties, LendStores}
+use Rattle.iox_wire_locals.specs.declared.local.Ending.TheVariants as endings
+use Rattle.iox_wire_locals.specs.declared.local.Local.TheVariants.{Ends, Idle, LendEmpties, LendStores}
 use Rattle.iox_wire_locals.specs.declared.table.Entry.{Entry}
 use Rattle.iox_wire_locals.specs.declared.table.NewLoan.{NewLoan}
 use Rattle.iox_wire_locals.specs.NewLoans.{entry_in}
@@ -72,6 +74,16 @@ HasWordsLeft name place next count = Unit {0}
 abbrev pub HasMade : CopyAt → Order → Entry → Type 0
 HasMade at.Writes order loan = loan ≡ entry_in (loan_of order) loan.slot
 HasMade name order loan = Unit {0}
+
+-- ---- where it is
+
+-- the place is one of a loan of that kind
+abbrev pub IsLoanOf : Kind → Local → Type 0
+IsLoanOf kind Idle = Unit {0}
+IsLoanOf kind (Ends (endings.Refuses r)) = Unit {0}
+IsLoanOf kind (LendEmpties o w place left) = o.kind ≡ kind
+IsLoanOf kind (LendStores o slot next) = o.kind ≡ kind
+IsLoanOf kind local = ⊥
 
 -- ---- the wire
 

@@ -60,7 +60,7 @@ GoesOn x r seen y s result =
 -- and it knows the places of what it accesses next.
 abbrev pub StaysAimed : Placed → CopyLoan → Placed → CopyLoan → Type 0
 StaysAimed x r y s =
-    (p : Setting) → IsAimed p x.seat r → TellsOfSlot s.slots s.local → IsAimed p y.seat s
+    (p : Setting) → IsAimed p x.seat r → TellsOfSlot p s.local → IsAimed p y.seat s
 
 -- the loan that is made is that of this order
 abbrev pub IsMade : Order → Option CopyLent → Type 0

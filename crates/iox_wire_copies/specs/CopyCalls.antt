@@ -4,7 +4,10 @@ use Rattle.iox_model.specs.Commands.{Reply}
 use Rattle.iox_model.specs.Peers.{others}
 use Rattle.iox_model.specs.declared.kind.Kind.TheVariants.{RequestMut}
 use Rattle.iox_model.specs.declared.kind.Role.TheVariants.{Server}
+use Rattle.iox_wire_locals.specs.declared.local.CallRefusal.TheVariants.{WrongLength}
+use Rattle.iox_wire_locals.specs.declared.local.Ending.TheVariants.{Refuses}
 use Rattle.iox_wire_locals.specs.declared.local.Local.{Local}
+use Rattle.iox_wire_locals.specs.declared.local.Local.TheVariants.{Ends, Idle}
 use Rattle.iox_wire_locals.specs.declared.seat.Seat.{Seat}
 use Rattle.iox_wire_locals.specs.declared.table.Entry.{Entry}
 use Rattle.iox_wire_locals.specs.Courses.{placed, sends}
@@ -26,7 +29,7 @@ use Rattle.iox_wire_copies.specs.declared.at.CopierAt.{CopierAt}
 use Rattle.iox_wire_copies.specs.declared.at.CopierAt.TheVariants as at
 use Rattle.iox_wire_copies.specs.declared.at.CopyReply.{CopyReply}
 use Rattle.iox_wire_copies.specs.declared.at.CopyReply.TheVariants as copy_replies
-use Rattle.iox_wire_copies.specs.Copies.{CopyLoan}
+use Rattle.iox_wire_copies.specs.Copies.{CopyLoan, IsLoanOf}
 use Rattle.iox_wire_copies.specs.Copiers.{SendsLoan}
 use Rattle.iox_wire_copies.specs.CopyAims as copies
 use Rattle.iox_wire_copies.specs.CopyAims.{IsHeld, IsSameCopy}
@@ -75,6 +78,19 @@ AreAimed p x at.Sends r = requests.IsAimed p x r.sends
 abbrev pub IsAimed : Setting → Seat → CopyCall → Type 0
 IsAimed p x r = AreAimed p x r.at r
 
+-- ---- where it is
+
+-- it is where its loan or its send is, a request's
+abbrev pub HasItsPlace : CopierAt → CopyCall → Type 0
+HasItsPlace at.Rest r = r.local ≡ Idle
+HasItsPlace at.Refuses r = r.local ≡ Ends (Refuses WrongLength)
+HasItsPlace at.Lends r = (r.local ≡ r.lends.local) × IsLoanOf RequestMut r.lends.local
+HasItsPlace at.Sends r = (r.local ≡ r.sends.local) × requests.SendsItsRequest r.sends
+
+-- so it is of a call
+abbrev pub CopiesItsRequest : CopyCall → Type 0
+CopiesItsRequest r = HasItsPlace r.at r
+
 -- ---- what the seat beside it keeps
 
 -- What it lends may become a handle, and may be given up as long as its send may be refused.
@@ -108,7 +124,7 @@ Answers x r seen reply =
 -- and it knows the places of what it accesses next.
 abbrev pub StaysAimed : Placed → CopyCall → Placed → CopyCall → Type 0
 StaysAimed x r y s =
-    (p : Setting) → IsAimed p x.seat r → TellsOfSlot s.lends.slots s.local → IsAimed p y.seat s
+    (p : Setting) → IsAimed p x.seat r → TellsOfSlot p s.local → IsAimed p y.seat s
 
 -- it is the copy of the same order, told of the same servers
 pub record IsSameCall (r s : CopyCall) : Type 0 where

@@ -4,7 +4,10 @@ use Rattle.iox_model.specs.Commands.{Reply}
 use Rattle.iox_model.specs.Messages.{response_way}
 use Rattle.iox_model.specs.declared.kind.Kind.TheVariants.{ResponseMut}
 use Rattle.iox_model.specs.declared.way.Way.{Way}
+use Rattle.iox_wire_locals.specs.declared.local.CallRefusal.TheVariants.{WrongLength}
+use Rattle.iox_wire_locals.specs.declared.local.Ending.TheVariants.{Refuses}
 use Rattle.iox_wire_locals.specs.declared.local.Local.{Local}
+use Rattle.iox_wire_locals.specs.declared.local.Local.TheVariants.{Ends, Idle}
 use Rattle.iox_wire_locals.specs.declared.seat.Seat.{Seat}
 use Rattle.iox_wire_locals.specs.declared.table.Entry.{Entry}
 use Rattle.iox_wire_locals.specs.Courses.{placed, sends}
@@ -25,7 +28,7 @@ use Rattle.iox_wire_copies.specs.declared.at.CopierAt.{CopierAt}
 use Rattle.iox_wire_copies.specs.declared.at.CopierAt.TheVariants as at
 use Rattle.iox_wire_copies.specs.declared.at.ResponseCopyReply.{ResponseCopyReply}
 use Rattle.iox_wire_copies.specs.declared.at.ResponseCopyReply.TheVariants as copy_replies
-use Rattle.iox_wire_copies.specs.Copies.{CopyLoan}
+use Rattle.iox_wire_copies.specs.Copies.{CopyLoan, IsLoanOf}
 use Rattle.iox_wire_copies.specs.Copiers.{SendsLoan}
 use Rattle.iox_wire_copies.specs.CopyAims as copies
 use Rattle.iox_wire_copies.specs.CopyAims.{IsHeld, IsSameCopy}
@@ -73,6 +76,19 @@ AreAimed p x at.Sends r = responses.IsAimed p r.sends
 abbrev pub IsAimed : Setting → Seat → ResponseCopy → Type 0
 IsAimed p x r = AreAimed p x r.at r
 
+-- ---- where it is
+
+-- it is where its loan or its send is, a response's
+abbrev pub HasItsPlace : CopierAt → ResponseCopy → Type 0
+HasItsPlace at.Rest r = r.local ≡ Idle
+HasItsPlace at.Refuses r = r.local ≡ Ends (Refuses WrongLength)
+HasItsPlace at.Lends r = (r.local ≡ r.lends.local) × IsLoanOf ResponseMut r.lends.local
+HasItsPlace at.Sends r = (r.local ≡ r.sends.local) × responses.SendsItsResponse r.sends
+
+-- so it is of a call
+abbrev pub CopiesItsResponse : ResponseCopy → Type 0
+CopiesItsResponse r = HasItsPlace r.at r
+
 -- ---- what the seat beside it keeps
 
 -- What it lends may be counted as a handle would be, and may be given up; what it sends is in use,
@@ -108,7 +124,7 @@ Answers x r seen reply =
 -- and it knows the places of what it accesses next.
 abbrev pub StaysAimed : Placed → ResponseCopy → Placed → ResponseCopy → Type 0
 StaysAimed x r y s =
-    (p : Setting) → IsAimed p x.seat r → TellsOfSlot s.lends.slots s.local → IsAimed p y.seat s
+    (p : Setting) → IsAimed p x.seat r → TellsOfSlot p s.local → IsAimed p y.seat s
 
 -- it is the copy of the same order, told of the same way
 pub record IsSameCall (r s : ResponseCopy) : Type 0 where

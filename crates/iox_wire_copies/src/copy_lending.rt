@@ -3,6 +3,7 @@ ghost use Rattle.std.specs.Prelude.{◌≡◌};
 
 mod begin;
 mod lend;
+mod place;
 mod respond;
 mod store;
 

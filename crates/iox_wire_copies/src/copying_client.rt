@@ -2,6 +2,7 @@
 ghost use Rattle.std.specs.Prelude.{◌≡◌};
 
 mod begin;
+mod place;
 mod send;
 
 use crate::at::{CopierAt, CopyReply};
@@ -44,7 +45,7 @@ impl Model for CopyingClient {
 }
 
 impl CopyingClient {
-    ghost use Rattle.std.specs.Prelude.{◌≡◌, ◌+◌, ◌<◌, ◌^◌, false, is_none, true};
+    ghost use Rattle.std.specs.Prelude.{◌≡◌, ◌+◌, ◌<◌, ◌^◌, None, false, is_none, true};
     ghost use Rattle.iox_wire_words.specs.Programs.{program_access};
     ghost use Rattle.iox_wire_locals.specs.declared.local.Local.TheVariants.{Idle};
     ghost use Rattle.iox_wire_locals.specs.declared.seat.Seat.{Seat};
@@ -52,6 +53,7 @@ impl CopyingClient {
     ghost use Rattle.iox_wire_locals.specs.Locals.{program_of};
     ghost use Rattle.iox_wire_locals.specs.Tables.{Setting};
     ghost use Rattle.iox_wire_request_sends.specs.Aims.{IsOneStep};
+    ghost use Rattle.iox_wire_copies.specs.Copiers.{IsAtWork};
     ghost use Rattle.iox_wire_copies.specs.CopyCalls.{Answers, FindsUsed, GoesOn, IsAimed};
     ghost use Rattle.iox_wire_copies.specs.CopyCalls.{IsSameCall, MayEndCall, SendsItsLoan};
     ghost use Rattle.iox_wire_copies.specs.CopyCalls.{StaysAimed};
@@ -101,6 +103,7 @@ impl CopyingClient {
         ensures over { Answers seat.old self.old seen result }
         ensures aimed { StaysAimed seat.old self.old seat.new self.new }
         ensures busy { is_busy self.new.local ≡ is_none result }
+        ensures works { result ≡ None → IsAtWork self.old.at }
         ensures same { IsSameCall self.old self.new }
         ensures loan { SendsItsLoan self.new }
         ensures step { IsOneStep seat.old seat.new }

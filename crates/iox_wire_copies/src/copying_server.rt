@@ -2,6 +2,7 @@
 ghost use Rattle.std.specs.Prelude.{◌≡◌};
 
 mod begin;
+mod place;
 mod send;
 
 use crate::at::{CopierAt, ResponseCopyReply};
@@ -45,7 +46,7 @@ impl Model for CopyingServer {
 }
 
 impl CopyingServer {
-    ghost use Rattle.std.specs.Prelude.{◌≡◌, ◌+◌, ◌<◌, ◌^◌, false, is_none, true};
+    ghost use Rattle.std.specs.Prelude.{◌≡◌, ◌+◌, ◌<◌, ◌^◌, None, false, is_none, true};
     ghost use Rattle.iox_wire_words.specs.Programs.{program_access};
     ghost use Rattle.iox_wire_locals.specs.declared.local.Local.TheVariants.{Idle};
     ghost use Rattle.iox_wire_locals.specs.declared.seat.Seat.{Seat};
@@ -53,6 +54,7 @@ impl CopyingServer {
     ghost use Rattle.iox_wire_locals.specs.Locals.{program_of};
     ghost use Rattle.iox_wire_locals.specs.Tables.{Setting};
     ghost use Rattle.iox_wire_request_sends.specs.Aims.{IsOneStep};
+    ghost use Rattle.iox_wire_copies.specs.Copiers.{IsAtWork};
     ghost use Rattle.iox_wire_copies.specs.ResponseCopies.{Answers, FindsUsed, GoesOn, IsAimed};
     ghost use Rattle.iox_wire_copies.specs.ResponseCopies.{IsSameCall, MayEndCall, SendsItsLoan};
     ghost use Rattle.iox_wire_copies.specs.ResponseCopies.{StaysAimed};
@@ -102,6 +104,7 @@ impl CopyingServer {
         ensures over { Answers seat.old self.old seen result }
         ensures aimed { StaysAimed seat.old self.old seat.new self.new }
         ensures busy { is_busy self.new.local ≡ is_none result }
+        ensures works { result ≡ None → IsAtWork self.old.at }
         ensures same { IsSameCall self.old self.new }
         ensures loan { SendsItsLoan self.new }
         ensures step { IsOneStep seat.old seat.new }

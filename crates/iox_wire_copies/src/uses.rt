@@ -145,7 +145,7 @@ pub fn response_copy_begins(
         → AreReturning p lender.now.room stops.now
         → ArePayloads p lender.now.port lender.now.places places
         → responses.KnowsWay p (state_in request) terms
-        → TellsOfSlot copying.new.lends.slots copying.new.local
+        → TellsOfSlot p copying.new.local
         → OnOk result (responses.IsAimed p seat.new.seat copying.new) }
     ensures unchanged { OnErr result (seat.new ≡ seat.old) }
 {

@@ -85,10 +85,10 @@ AreAimed p x local r = Unit {0}
 abbrev pub IsAimed : Setting → Seat → Loaned → Type 0
 IsAimed p x r = AreAimed p x r.local r
 
--- the slot that it took is one of its port's
-abbrev pub TellsOfSlot : SlotPlaces → Local → Type 0
-TellsOfSlot t (LendStores o slot next) = slot < t.slots
-TellsOfSlot t local = Unit {0}
+-- the slot that it took is one of its port's pool
+abbrev pub TellsOfSlot : Setting → Local → Type 0
+TellsOfSlot p (LendStores o slot next) = slot < (p.port o.port).pool
+TellsOfSlot p local = Unit {0}
 
 -- ---- what the seat beside it keeps
 
@@ -121,7 +121,7 @@ Answers x r seen reply =
 -- and it knows the places of what it accesses next.
 abbrev pub StaysAimed : Placed → Loaned → Placed → Loaned → Type 0
 StaysAimed x r y s =
-    (p : Setting) → IsAimed p x.seat r → TellsOfSlot s.places s.local → IsAimed p y.seat s
+    (p : Setting) → IsAimed p x.seat r → TellsOfSlot p s.local → IsAimed p y.seat s
 
 -- a call that is there now, and is over if it has no access left
 abbrev pub after : Setting → Seat → Seat

@@ -40,11 +40,11 @@ pub record IsWithin (t : SlotPlaces) : Type 0 where
   pub step : 0 < t.step
   pub room : t.header + (t.step - 1) + t.user ≤ t.slot_words
 
--- The words of both headers stand there on the wire, in each slot.
-abbrev pub AreSlots : Setting → ℕ → SlotPlaces → Type 0
-AreSlots p port t =
-    (slot k : ℕ) → slot < t.slots → k < t.header + t.user
-    → place_in t slot k ≡ word_place p.layout port (region_word p port slot k)
+-- So many slots the port has, and the words of both headers stand there on the wire, in each slot.
+pub record AreSlots (p : Setting) (port : ℕ) (t : SlotPlaces) : Type 0 where
+  pub pool : t.slots ≡ (p.port port).pool
+  pub words : (slot k : ℕ) → slot < t.slots → k < t.header + t.user
+      → place_in t slot k ≡ word_place p.layout port (region_word p port slot k)
 
 -- ---- a port
 

@@ -29,13 +29,13 @@ use Rattle.iox_wire_begins.specs.CopyCalls.{CopyCall}
 use Rattle.iox_wire_begins.specs.ResponseCopies as response_copies
 use Rattle.iox_wire_begins.specs.ResponseCopies.{ResponseCopy}
 use Rattle.iox_wire_nodes.specs.declared.call_at.CallAt.TheVariants as at
-use Rattle.iox_wire_nodes.specs.Begins.{IsAtOnce, IsBegun, IsUnchanged, IsUnderWay}
+use Rattle.iox_wire_nodes.specs.Begins.{IsBegun, IsReady, IsUnchanged, IsUnderWay}
 use Rattle.iox_wire_nodes.specs.Aims.{IsAimed}
 use Rattle.iox_wire_nodes.specs.Nodes.{Node, seat_at, seat_in}
 
 -- a call that is begun is under way
 pub is_under_way : (p : Setting) (old : Node) (call : WireCall) (new : Node) → IsBegun p old call new → IsUnderWay p old call new
-is_under_way p old call new by = record { allowed = by.allowed; begun = by.begun; aimed = λ of_pools. by.aimed }
+is_under_way p old call new by = record { allowed = by.allowed; begun = by.begun; aimed = λ of_pools. by.aimed; ready = by.ready }
 
 -- what is as it was is unchanged
 pub is_unchanged : (old new : Node) → new ≡ old → IsUnchanged old new
@@ -51,21 +51,45 @@ module _ (p : Setting) (call : WireCall) (X : Seat → Seat) {n old : Node} (sam
   begins_alike : (x : Seat) → x ≡ X n.seat.seat → x ≡ begin p (seat_in old) call
   begins_alike x begun = begun ∙ ap X (sym (own_seat same own)) ∙ sym named
 
-  pub lent_beside : (s : Placed) (y : Loaned) → placed s.seat y.local ≡ X n.seat.seat → (TellsOfSlot y.places y.local → loans.IsAimed p s.seat y)
+  pub lent_beside : (s : Placed) (y : Loaned) → placed s.seat y.local ≡ X n.seat.seat → (TellsOfSlot p y.local → loans.IsAimed p s.seat y)
+      → IsReady p n (record n { at = at.Lends; seat = s; lends = y })
       → IsUnderWay p old call (record n { at = at.Lends; seat = s; lends = y })
-  lent_beside s y begun aimed = record { allowed = allowed; begun = begins_alike (placed s.seat y.local) begun; aimed = aimed }
+  lent_beside s y begun aimed ready = record {
+    allowed = allowed;
+    begun = begins_alike (placed s.seat y.local) begun;
+    aimed = aimed;
+    ready = subst (λ (o : Node). IsReady p o (record n { at = at.Lends; seat = s; lends = y })) same ready;
+  }
 
   pub received_beside : (y : Receipt) → placed n.seat.seat y.local ≡ X n.seat.seat → receives.IsAimed p n.seat.seat y
+      → IsReady p n (record n { at = at.Receives; receives = y })
       → IsUnderWay p old call (record n { at = at.Receives; receives = y })
-  received_beside y begun aimed = record { allowed = allowed; begun = begins_alike (placed n.seat.seat y.local) begun; aimed = λ of_pools. aimed }
+  received_beside y begun aimed ready = record {
+    allowed = allowed;
+    begun = begins_alike (placed n.seat.seat y.local) begun;
+    aimed = λ of_pools. aimed;
+    ready = subst (λ (o : Node). IsReady p o (record n { at = at.Receives; receives = y })) same ready;
+  }
 
-  pub copied_request_beside : (s : Placed) (y : CopyCall) → placed s.seat y.local ≡ X n.seat.seat → (TellsOfSlot y.lends.slots y.local → request_copies.IsAimed p s.seat y)
+  pub copied_request_beside : (s : Placed) (y : CopyCall) → placed s.seat y.local ≡ X n.seat.seat → (TellsOfSlot p y.local → request_copies.IsAimed p s.seat y)
+      → IsReady p n (record n { at = at.CopiesRequest; seat = s; copies_request = y })
       → IsUnderWay p old call (record n { at = at.CopiesRequest; seat = s; copies_request = y })
-  copied_request_beside s y begun aimed = record { allowed = allowed; begun = begins_alike (placed s.seat y.local) begun; aimed = aimed }
+  copied_request_beside s y begun aimed ready = record {
+    allowed = allowed;
+    begun = begins_alike (placed s.seat y.local) begun;
+    aimed = aimed;
+    ready = subst (λ (o : Node). IsReady p o (record n { at = at.CopiesRequest; seat = s; copies_request = y })) same ready;
+  }
 
-  pub copied_response_beside : (s : Placed) (y : ResponseCopy) → placed s.seat y.local ≡ X n.seat.seat → (TellsOfSlot y.lends.slots y.local → response_copies.IsAimed p s.seat y)
+  pub copied_response_beside : (s : Placed) (y : ResponseCopy) → placed s.seat y.local ≡ X n.seat.seat → (TellsOfSlot p y.local → response_copies.IsAimed p s.seat y)
+      → IsReady p n (record n { at = at.CopiesResponse; seat = s; copies_response = y })
       → IsUnderWay p old call (record n { at = at.CopiesResponse; seat = s; copies_response = y })
-  copied_response_beside s y begun aimed = record { allowed = allowed; begun = begins_alike (placed s.seat y.local) begun; aimed = aimed }
+  copied_response_beside s y begun aimed ready = record {
+    allowed = allowed;
+    begun = begins_alike (placed s.seat y.local) begun;
+    aimed = aimed;
+    ready = subst (λ (o : Node). IsReady p o (record n { at = at.CopiesResponse; seat = s; copies_response = y })) same ready;
+  }
 
 -- the number of the next handle, as the code has it
 pub next_number_is : (t : WireTerms) (p : Setting) {n old : Node} → n ≡ old → p.next_number ≡ t.first_number

@@ -1,6 +1,8 @@
 pub mod ReplyLemmas
 pub mod RestLemmas
 pub mod BesideLemmas
+pub mod ReadyLemmas
+pub mod StayLemmas
 pub mod NameLemmas
 -- what the crates above cite of those below
 pub use Rattle.iox_wire_begins.proofs.Aside

@@ -1,5 +1,5 @@
 -- A node between calls is what its seat is.
-use Rattle.std.proofs.Common.{◌≡◌, ℕ, ◌<◌, length, get_or, None, true, false, refl, ap, sym, subst, ◌∙◌, true≢false}
+use Rattle.std.proofs.Common.{◌≡◌, ℕ, ◌<◌, ◌+◌, List, length, get_or, None, true, false, refl, ap, ap₂, sym, subst, ◌∙◌, true≢false}
 use Rattle.std.specs.Prelude.{Option, IsSomeAnd}
 use Rattle.std.specs.Option.{option_map_or}
 use Rattle.std.proofs.lemmas.Option.{slice_get-get_or}
@@ -24,7 +24,9 @@ use Rattle.iox_wire_begins.specs.Tables.{Setting}
 use Rattle.iox_wire_begins.specs.ReceivesAims as receives
 use Rattle.iox_wire_begins.specs.Receipts.{Receipt}
 use Rattle.iox_wire_begins.specs.Seats.{Placed}
-use Rattle.iox_wire_nodes.specs.Begins.{IsBegun}
+use Rattle.iox_wire_nodes.specs.Begins.{IsBegun, IsReady}
+use Rattle.iox_wire_begins.proofs.BeginCounts.{begins_alike}
+use Rattle.iox_wire_begins.specs.Entry.{Entry}
 use Rattle.iox_wire_nodes.specs.declared.call_at.CallAt.{CallAt}
 use Rattle.iox_wire_nodes.specs.declared.call_at.CallAt.TheVariants as at
 use Rattle.iox_wire_nodes.specs.Nodes.{Node, RestsUnless, same_call, seat_at, seat_in}
@@ -47,14 +49,35 @@ seat_rests n at.CopiesResponse own rests = at_its_place n.seat.seat n.copies_res
 
 -- what begins in the seat begins so
 pub begun_in : (p : Setting) (call : WireCall) {n old : Node} (y : Placed) → n ≡ old → RestsUnless (same_call at.Seats n.at) n.seat.seat.local
-    → is_busy (seat_in old).local ≡ false → handles.IsBegun p n.seat call y → IsBegun p old call (record n { at = at.Seats; seat = y })
-begun_in p call {n} y same own rests by =
+    → is_busy (seat_in old).local ≡ false → handles.IsBegun p n.seat call y → y.seat.accesses ≡ n.seat.seat.accesses → y.room ≡ n.seat.room
+    → IsBegun p old call (record n { at = at.Seats; seat = y })
+begun_in p call {n} y same own rests by accesses room =
     let alike : seat_in n ≡ n.seat.seat = seat_rests n n.at own (ap (λ (o : Node). is_busy (seat_in o).local) same ∙ rests) in
     subst (λ (o : Node). IsBegun p o call (record n { at = at.Seats; seat = y })) same (record {
       allowed = ap (λ (x : Seat). refusal_at p x call) alike ∙ by.allowed;
       begun = by.begun ∙ ap (λ (x : Seat). begin p x call) (sym alike);
       aimed = by.aimed;
+      ready = record {
+          accesses = accesses;
+          room = ap₂ (λ (k : ℕ) (es : List Entry). k + length es) room (ap (λ (x : Seat). x.table) by.begun ∙ (begins_alike p n.seat.seat call).table);
+          may = λ lends. tt;
+      };
     })
+
+-- ---- what it may add
+
+-- what begins beside the seat finds it as it was
+pub ready_to_receive : (p : Setting) (n : Node) (y : Receipt) → y.terms.number ≡ next_handle p n.seat.seat → receives.HasRoomFor n.seat.seat y.local
+    → IsReady p n (record n { at = at.Receives; receives = y })
+ready_to_receive p n y number counts = record {
+  accesses = refl;
+  room = refl;
+  may = λ lends. (
+      subst (λ (k : ℕ). receives.MayReceive n.seat k) (sym number)
+          (record { room = (lends 0).room; newer = (lends 0).newer; handles = (lends 0).handles }),
+      counts,
+      );
+}
 
 -- ---- a receive of a port
 
@@ -88,14 +111,15 @@ looks_at_server plan is i n d low number has =
 pub received_at : (p : Setting) (n : ℕ) {m old : Node} (y : Receipt) → m ≡ old → RestsUnless (same_call at.Seats m.at) m.seat.seat.local
     → is_busy (seat_in old).local ≡ false
     → refusal_at p m.seat.seat (Port (calls.Receive n)) ≡ None → placed m.seat.seat y.local ≡ begin p m.seat.seat (Port (calls.Receive n))
-    → receives.IsAimed p m.seat.seat y
+    → receives.IsAimed p m.seat.seat y → y.terms.number ≡ next_handle p m.seat.seat → receives.HasRoomFor m.seat.seat y.local
     → IsBegun p old (Port (calls.Receive n)) (record m { at = at.Receives; receives = y })
-received_at p n {m} y same own rests allowed begun aimed =
+received_at p n {m} y same own rests allowed begun aimed number counts =
     let alike : seat_in m ≡ m.seat.seat = seat_rests m m.at own (ap (λ (o : Node). is_busy (seat_in o).local) same ∙ rests) in
     subst (λ (o : Node). IsBegun p o (Port (calls.Receive n)) (record m { at = at.Receives; receives = y })) same (record {
       allowed = ap (λ (x : Seat). refusal_at p x (Port (calls.Receive n))) alike ∙ allowed;
       begun = begun ∙ ap (λ (x : Seat). begin p x (Port (calls.Receive n))) (sym alike);
       aimed = aimed;
+      ready = ready_to_receive p m y number counts;
     })
 
 -- the number of its next handle

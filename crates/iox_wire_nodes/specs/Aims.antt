@@ -1,5 +1,6 @@
 -- Which places a node knows of, what its step asks of what it keeps, and what a step of it does.
-use Rattle.std.specs.Prelude.{◌≡◌, ℕ, Option, option_map}
+use Rattle.std.specs.Prelude.{◌≡◌, ℕ, false, Option, None, option_map}
+use Rattle.iox_wire_begins.specs.Local.{Local}
 use Rattle.iox_wire_begins.specs.Steps.{next, tells}
 use Rattle.iox_wire_begins.specs.Tables.{Setting}
 use Rattle.iox_wire_begins.specs.Aims as seats
@@ -12,6 +13,7 @@ use Rattle.iox_wire_begins.specs.LoansAims.{GetsBackUsed, TellsOfSlot}
 use Rattle.iox_wire_begins.specs.RequestSendsAims as requests
 use Rattle.iox_wire_begins.specs.SendsAims as responses
 use Rattle.iox_wire_begins.specs.SendsAims.{MayCountMade}
+use Rattle.iox_wire_begins.specs.Copiers.{MayBeMade}
 use Rattle.iox_wire_begins.specs.CopyCalls as request_copies
 use Rattle.iox_wire_begins.specs.ResponseCopies as response_copies
 use Rattle.iox_wire_nodes.specs.declared.call_at.CallAt.{CallAt}
@@ -35,15 +37,24 @@ AreAimed p at.CopiesResponse n = response_copies.IsAimed p n.seat.seat n.copies_
 abbrev pub IsAimed : Setting → Node → Type 0
 IsAimed p n = AreAimed p n.at n
 
--- a slot that its call took is one of a pool, and so is a lane that a header tells
-abbrev pub TellsOfPools : CallAt → Node → Type 0
-TellsOfPools at.Receives n = TellsOfSource n.receives.source n.receives.local
-TellsOfPools at.Lends n = TellsOfSlot n.lends.places n.lends.local
-TellsOfPools at.CopiesRequest n =
-    TellsOfSlot n.copies_request.lends.slots n.copies_request.local
-TellsOfPools at.CopiesResponse n =
-    TellsOfSlot n.copies_response.lends.slots n.copies_response.local
-TellsOfPools call n = Unit {0}
+-- the slot that a call took is one of a port's pool, and the lane that a header tells one of its
+-- client; a call that takes no slot asks nothing
+abbrev pub TellsOfPools : Setting → CallAt → Local → Type 0
+TellsOfPools p at.Receives local = TellsOfSource p local
+TellsOfPools p at.Lends local = TellsOfSlot p local
+TellsOfPools p at.CopiesRequest local = TellsOfSlot p local
+TellsOfPools p at.CopiesResponse local = TellsOfSlot p local
+TellsOfPools p call local = Unit {0}
+
+-- ---- what it sends
+
+-- the place of a send or a copy is one of its own loan
+abbrev pub KnowsItsPlace : CallAt → Node → Type 0
+KnowsItsPlace at.SendsRequest n = requests.SendsItsRequest n.requests
+KnowsItsPlace at.SendsResponse n = responses.SendsItsResponse n.responds
+KnowsItsPlace at.CopiesRequest n = request_copies.CopiesItsRequest n.copies_request
+KnowsItsPlace at.CopiesResponse n = response_copies.CopiesItsResponse n.copies_response
+KnowsItsPlace call n = Unit {0}
 
 -- ---- what a step asks of what it keeps
 
@@ -69,6 +80,22 @@ MayGoOn at.CopiesResponse n seen =
     response_copies.MayEndCall n.seat n.copies_response
     × response_copies.FindsUsed n.seat n.copies_response seen
 
+-- Of that, what does not depend on the wire: there is room for what the call adds, and it may be
+-- counted. What a send sends is a handle.
+abbrev pub MayAdd : CallAt → Node → Type 0
+MayAdd at.Receives n =
+    MayReceive n.seat n.receives.terms.number × HasRoomFor n.seat.seat n.receives.local
+MayAdd at.Lends n = MayLend n.seat n.lends.order.number n.lends.order.port
+MayAdd at.SendsRequest n = n.requests.copied ≡ false
+MayAdd at.SendsResponse n = n.responds.copied ≡ false
+MayAdd at.CopiesRequest n =
+    MayBeMade n.seat n.copies_request.at n.copies_request.lends.lending.order
+    n.copies_request.sends.loan
+MayAdd at.CopiesResponse n =
+    MayBeMade n.seat n.copies_response.at n.copies_response.lends.lending.order
+    n.copies_response.sends.loan
+MayAdd call n = Unit {0}
+
 -- ---- a step
 
 -- After an access that found this it is the next,
@@ -82,7 +109,12 @@ Answers old seen reply new =
     (p : Setting) → IsAimed p old
     → tells p (seat_in old) seen ≡ option_map (reply_in new.seat.words) reply
 
+-- as long as its call is not over it may add what that adds at its end,
+abbrev pub StaysReady : Node → Option NodeReply → Node → Type 0
+StaysReady old reply new =
+    (p : Setting) → IsAimed p old → reply ≡ None → MayAdd old.at old → MayAdd new.at new
+
 -- and it knows the places of what it accesses next.
 abbrev pub StaysAimed : Node → Node → Type 0
 StaysAimed old new =
-    (p : Setting) → IsAimed p old → TellsOfPools new.at new → IsAimed p new
+    (p : Setting) → IsAimed p old → TellsOfPools p new.at (seat_in new).local → IsAimed p new

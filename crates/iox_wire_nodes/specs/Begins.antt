@@ -1,23 +1,29 @@
 -- How a node begins a call.
-use Rattle.std.specs.Prelude.{◌≡◌, ◌+◌, ◌<◌, ◌^◌, ◌≤◌, ℕ, IfSome, None, Option}
+use Rattle.std.specs.Prelude.{◌≡◌, ◌+◌, ◌<◌, ◌^◌, ◌≤◌, ℕ, if◌then◌else◌, IfSome, None, Option}
 use Rattle.iox_model.specs.declared.call.Call.TheVariants as calls
 use Rattle.iox_model.specs.declared.call.WireCall.TheVariants.{Forget, Port}
+use Rattle.iox_model.specs.declared.kind.Kind.{Kind}
 use Rattle.iox_model.specs.Commands.{Refusal, WireCall}
+use Rattle.iox_model.specs.Handles.{is_request_loan}
 use Rattle.iox_wire_begins.specs.WirePlan.{WirePlan}
 use Rattle.iox_wire_begins.specs.HandleCalls.{refusal_in}
 use Rattle.iox_wire_begins.specs.WirePlans.{HandleStands}
 use Rattle.iox_wire_begins.specs.WireTerms.{WireTerms}
 use Rattle.iox_wire_begins.specs.Seat.{Seat}
 use Rattle.iox_wire_begins.specs.Known.{free_lanes}
-use Rattle.iox_wire_begins.specs.Lendings.{first_lane}
+use Rattle.iox_wire_begins.specs.Lendings.{first_lane, next_handle}
+use Rattle.iox_wire_begins.specs.Aims.{KeepsRoom}
+use Rattle.iox_wire_begins.specs.Lends.{MayLend}
 use Rattle.iox_wire_begins.specs.Begins.{begin, refusal_at}
 use Rattle.iox_wire_begins.specs.Tables.{Setting, entry_at}
 use Rattle.iox_wire_begins.specs.Visits.{pool_of}
+use Rattle.iox_wire_nodes.specs.declared.call_at.CallAt.{CallAt}
+use Rattle.iox_wire_nodes.specs.declared.call_at.CallAt.TheVariants as at
 use Rattle.iox_wire_nodes.specs.declared.node_error.NodeError.{NodeError}
 use Rattle.iox_wire_nodes.specs.declared.node_error.NodeError.TheVariants as errors
 use Rattle.iox_wire_nodes.specs.declared.handle_call.HandleCall.{HandleCall}
 use Rattle.iox_wire_nodes.specs.declared.handle_call.HandleCall.TheVariants as handle_calls
-use Rattle.iox_wire_nodes.specs.Aims.{IsAimed, TellsOfPools}
+use Rattle.iox_wire_nodes.specs.Aims.{IsAimed, MayAdd, TellsOfPools}
 use Rattle.iox_wire_nodes.specs.Nodes.{Node, seat_in}
 
 -- the call of that number
@@ -29,23 +35,33 @@ called handle_calls.SetHint n = Port (calls.SetHint n)
 called handle_calls.HasHint n = Port (calls.HasHint n)
 called handle_calls.HasResponse n = Port (calls.HasResponse n)
 
+-- With a begin the node makes no access, and gets no handle. If it may have one handle more, with its
+-- next number, it may add what the call adds at its end.
+pub record IsReady (p : Setting) (old new : Node) : Type 0 where
+  pub accesses : new.seat.seat.accesses ≡ old.seat.seat.accesses
+  pub room : KeepsRoom old.seat new.seat
+  pub may : ((port : ℕ) → MayLend old.seat (next_handle p old.seat.seat) port) → MayAdd new.at new
+
 -- The call is not refused: the node begins it, and knows the places of the words that it accesses.
 pub record IsBegun (p : Setting) (old : Node) (call : WireCall) (new : Node) : Type 0 where
   pub allowed : refusal_at p (seat_in old) call ≡ None
   pub begun : seat_in new ≡ begin p (seat_in old) call
   pub aimed : IsAimed p new
+  pub ready : IsReady p old new
 
 -- The same, where the call may have taken a slot already: if that is one of a pool, it knows the
 -- places.
 pub record IsUnderWay (p : Setting) (old : Node) (call : WireCall) (new : Node) : Type 0 where
   pub allowed : refusal_at p (seat_in old) call ≡ None
   pub begun : seat_in new ≡ begin p (seat_in old) call
-  pub aimed : TellsOfPools new.at new → IsAimed p new
+  pub aimed : TellsOfPools p new.at (seat_in new).local → IsAimed p new
+  pub ready : IsReady p old new
 
--- The node is at that place of its call, and knows the places of the words that it accesses.
-pub record IsAtOnce (p : Setting) (there : Seat) (new : Node) : Type 0 where
+-- The node begins at that place of its call, and knows the places of the words that it accesses.
+pub record IsAtOnce (p : Setting) (old : Node) (there : Seat) (new : Node) : Type 0 where
   pub begun : seat_in new ≡ there
   pub aimed : IsAimed p new
+  pub ready : IsReady p old new
 
 -- Nothing of the node changes that a caller may see: which call began last, what it keeps for itself,
 -- and where it is in its call.
@@ -53,6 +69,10 @@ pub record IsUnchanged (old new : Node) : Type 0 where
   pub call : new.at ≡ old.at
   pub seat : new.seat ≡ old.seat
   pub place : seat_in new ≡ seat_in old
+
+-- the call by which a loan of that kind is sent
+abbrev pub send_at : Kind → CallAt
+send_at kind = if is_request_loan kind then at.SendsRequest else at.SendsResponse
 
 -- ---- why no call begins
 

@@ -8,6 +8,7 @@ mod elements;
 mod lend;
 mod look;
 mod name;
+mod place;
 mod receive;
 mod receive_response;
 mod send;
@@ -76,6 +77,7 @@ impl StoredNode {
     ghost use Rattle.iox_wire_begins.specs.Aims.{KeepsRoom};
     ghost use Rattle.iox_wire_nodes.specs.declared.call_at.CallAt.TheVariants.{Seats};
     ghost use Rattle.iox_wire_nodes.specs.Aims.{Answers, GoesOn, IsAimed, MayGoOn, StaysAimed};
+    ghost use Rattle.iox_wire_nodes.specs.Aims.{StaysReady};
     ghost use Rattle.iox_wire_nodes.specs.Nodes.{seat_in};
 
     /// A node with that seat, which is between calls.
@@ -146,6 +148,7 @@ impl StoredNode {
         requires may { MayGoOn self.old.at self.old seen }
         ensures next { GoesOn self.old seen self.new }
         ensures over { Answers self.old seen result self.new }
+        ensures ready { StaysReady self.old result self.new }
         ensures aimed { StaysAimed self.old self.new }
         ensures call { self.new.at ≡ self.old.at }
         ensures accesses { self.new.seat.seat.accesses ≡ self.old.seat.seat.accesses + 1 }

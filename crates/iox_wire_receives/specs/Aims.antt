@@ -78,11 +78,13 @@ AreAimed p x local r = Unit {0}
 abbrev pub IsAimed : Setting → Seat → Receipt → Type 0
 IsAimed p x r = AreAimed p x r.local r
 
--- the slot that it took is one of its sender's, and the lane that the header tells
-abbrev pub TellsOfSource : Source → Local → Type 0
-TellsOfSource s (ReceiveLoads v w slot header left waiting) = slot < s.slots
-TellsOfSource s (ReceiveAsks v w slot header left waiting) = lane_in v w header < s.lanes
-TellsOfSource s local = Unit {0}
+-- the slot that it took is one of its sender's pool, and the lane that the header tells one of its
+-- client
+abbrev pub TellsOfSource : Setting → Local → Type 0
+TellsOfSource p (ReceiveLoads v w slot header left waiting) = slot < (p.port w.sender).pool
+TellsOfSource p (ReceiveAsks v w slot header left waiting) =
+    lane_in v w header < p.layout.sizes.lanes w.sender
+TellsOfSource p local = Unit {0}
 
 -- ---- what the seat beside it keeps
 
@@ -116,7 +118,7 @@ Answers x r seen reply =
 -- and it knows the places of what it accesses next.
 abbrev pub StaysAimed : Placed → Receipt → Placed → Receipt → Type 0
 StaysAimed x r y s =
-    (p : Setting) → IsAimed p x.seat r → TellsOfSource s.source s.local → IsAimed p y.seat s
+    (p : Setting) → IsAimed p x.seat r → TellsOfSource p s.local → IsAimed p y.seat s
 
 -- a call that is there now, and is over if it has no access left
 abbrev pub after : Setting → Seat → Seat

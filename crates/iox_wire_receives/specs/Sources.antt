@@ -4,11 +4,13 @@ use Rattle.iox_model.specs.declared.way.Way.{Way}
 use Rattle.iox_model.specs.Maps.{has_number}
 use Rattle.iox_model.specs.Messages.{response_way}
 use Rattle.iox_model.specs.Peers.{forgot_port, borrow_limit_on}
+use Rattle.iox_model.specs.declared.kind.Role.TheVariants.{Client}
 use Rattle.iox_steps.specs.declared.site.QueueKind.TheVariants.{Index}
 use Rattle.iox_steps.specs.declared.site.Site.{Site}
 use Rattle.iox_word_map.specs.WordMaps.{MessageQueue, ReturningQueue}
 use Rattle.iox_wire_words.specs.Programs.{site_of, state_place, word_place}
 use Rattle.iox_wire_locals.specs.declared.seat.Seat.{Seat}
+use Rattle.iox_wire_locals.specs.Stored.{header_length}
 use Rattle.iox_wire_locals.specs.Tables.{Setting, region_word}
 use Rattle.iox_wire_locals.specs.Known.{known}
 use Rattle.iox_wire_seats.specs.Aims.{IsInMemory}
@@ -57,6 +59,9 @@ pub record IsSource (p : Setting) (t : ReceiveTerms) (header : ℕ) (s : Source)
   pub states : (lane : ℕ) → lane < s.lanes
       → s.place + t.state + lane * t.lane_words
       ≡ state_place p.layout (response_way s.way.sender lane s.way.receiver)
+  -- so many slots the sender has, and so many lanes where the header is that of requests
+  pub pool : s.slots ≡ (p.port s.way.sender).pool
+  pub lanes : header ≡ header_length Client → s.lanes ≡ p.layout.sizes.lanes s.way.sender
   pub node : (x : Seat) → forgot_port (known p x) x.node s.way.sender ≡ has_number s.node x.forgot
   pub limit : (x : Seat) → borrow_limit_on (known p x) s.way ≡ t.limit
 

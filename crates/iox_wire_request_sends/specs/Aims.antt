@@ -3,6 +3,7 @@
 use Rattle.std.specs.Prelude.{◌≡◌, ◌+◌, ◌<◌, ◌≤◌, ℕ, Bool, true, false, List, Option, option_map}
 use Rattle.std.specs.Prelude.{is_none}
 use Rattle.iox_model.specs.Commands.{Reply}
+use Rattle.iox_model.specs.Handles.{is_request_loan}
 use Rattle.iox_model.specs.Messages.{request_way}
 use Rattle.iox_model.specs.Peers.{role_at}
 use Rattle.iox_model.specs.Requests.{fails_at}
@@ -13,8 +14,10 @@ use Rattle.iox_word_map.specs.WordMaps.{MessageQueue, ReturningQueue}
 use Rattle.iox_wire_words.specs.Programs.{site_of, state_place}
 use Rattle.iox_wire_locals.specs.declared.table.Desk.{Desk}
 use Rattle.iox_wire_locals.specs.declared.table.Entry.{Entry}
+use Rattle.iox_wire_locals.specs.declared.local.Delivery.{Delivery}
+use Rattle.iox_wire_locals.specs.declared.local.Ending.TheVariants as endings
 use Rattle.iox_wire_locals.specs.declared.local.Local.{Local}
-use Rattle.iox_wire_locals.specs.declared.local.Local.TheVariants.{Ends, SendEmpties, SendLooks, SendOpens, SendPushes, SendEvicts, SendGetsBack, SendEnds}
+use Rattle.iox_wire_locals.specs.declared.local.Local.TheVariants.{Ends, Idle, SendEmpties, SendLooks, SendOpens, SendPushes, SendEvicts, SendGetsBack, SendEnds}
 use Rattle.iox_wire_locals.specs.declared.seat.Seat.{Seat}
 use Rattle.iox_wire_locals.specs.Tables.{Setting}
 use Rattle.iox_wire_locals.specs.Begins.{is_busy}
@@ -116,6 +119,30 @@ IsHeldIn local loan desks = Unit {0}
 pub record MayEnd (x : Placed) (r : RequestDispatch) : Type 0 where
   pub made : r.copied ≡ true → MayLend x r.loan.number r.loan.port
   pub held : IsHeldIn r.local r.loan x.seat.desks
+
+-- ---- what it sends
+
+-- what is delivered is that loan
+abbrev pub IsDeliveryOf : Entry → Bool → Delivery → Type 0
+IsDeliveryOf loan copied d = (d.loan ≡ loan) × (d.copied ≡ copied)
+
+-- the place is one of the send of that loan
+abbrev pub IsSendOf : Entry → Bool → Local → Type 0
+IsSendOf loan copied Idle = Unit {0}
+IsSendOf loan copied (Ends (endings.FailsToSend e own r)) = (e ≡ loan) × (own ≡ copied)
+IsSendOf loan copied (SendEmpties d w place left) = IsDeliveryOf loan copied d
+IsSendOf loan copied (SendLooks d w place left full) = IsDeliveryOf loan copied d
+IsSendOf loan copied (SendOpens d w left full) = IsDeliveryOf loan copied d
+IsSendOf loan copied (SendPushes d last w place left count) = IsDeliveryOf loan copied d
+IsSendOf loan copied (SendEvicts d w place left count) = IsDeliveryOf loan copied d
+IsSendOf loan copied (SendGetsBack d w place left count) = IsDeliveryOf loan copied d
+IsSendOf loan copied (SendEnds d last count) = IsDeliveryOf loan copied d
+IsSendOf loan copied local = ⊥
+
+-- Its loan is a request, and its place one of the send of that.
+pub record SendsItsRequest (r : RequestDispatch) : Type 0 where
+  pub kind : is_request_loan r.loan.kind ≡ true
+  pub place : IsSendOf r.loan r.copied r.local
 
 -- ---- a step
 

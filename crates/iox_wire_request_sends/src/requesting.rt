@@ -6,6 +6,7 @@ mod deliver;
 mod empty;
 mod finish;
 mod look;
+mod place;
 mod visit;
 
 use crate::at::{RequestAt, RequestReply};

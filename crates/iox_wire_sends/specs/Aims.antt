@@ -1,7 +1,8 @@
 -- What the send of a response is told of the wire, what its accesses find, and what a step of it
 -- does.
-use Rattle.std.specs.Prelude.{◌≡◌, ℕ, true, not, Option, option_map}
+use Rattle.std.specs.Prelude.{◌≡◌, ℕ, Bool, true, not, Option, option_map}
 use Rattle.iox_model.specs.declared.kind.Role.TheVariants.{Client}
+use Rattle.iox_model.specs.Handles.{is_response_loan}
 use Rattle.iox_model.specs.Maps.{has_number}
 use Rattle.iox_model.specs.Peers.{others, overflows_on}
 use Rattle.iox_model.specs.Requests.{fails_at}
@@ -10,8 +11,10 @@ use Rattle.iox_steps.specs.declared.side.QueueEvent.TheVariants.{HandOut, Learn,
 use Rattle.iox_word_map.specs.WordMaps.{MessageQueue, ReturningQueue}
 use Rattle.iox_wire_words.specs.Programs.{site_of, state_place}
 use Rattle.iox_wire_locals.specs.declared.table.Entry.{Entry}
+use Rattle.iox_wire_locals.specs.declared.local.Delivery.{Delivery}
+use Rattle.iox_wire_locals.specs.declared.local.Ending.TheVariants as endings
 use Rattle.iox_wire_locals.specs.declared.local.Local.{Local}
-use Rattle.iox_wire_locals.specs.declared.local.Local.TheVariants.{SendAsks, SendEmpties, SendLooks, SendPushes, SendEvicts, SendGetsBack}
+use Rattle.iox_wire_locals.specs.declared.local.Local.TheVariants.{Ends, Idle, SendAsks, SendEmpties, SendLooks, SendPushes, SendEvicts, SendGetsBack}
 use Rattle.iox_wire_locals.specs.declared.seat.Seat.{Seat}
 use Rattle.iox_wire_locals.specs.Tables.{Setting, state_in}
 use Rattle.iox_wire_locals.specs.Desks.{at_desk, gets_back}
@@ -67,6 +70,34 @@ FindsUsed x r seen = FindsAt x.seat r.terms r.local seen
 -- a loan of the same call may be counted
 abbrev pub MayCountMade : Placed → Dispatch → Type 0
 MayCountMade x r = r.copied ≡ true → MayCount r.loan.port x.seat.desks
+
+-- ---- what it sends
+
+-- what is delivered is that loan
+abbrev pub IsDeliveryOf : Entry → Bool → Delivery → Type 0
+IsDeliveryOf loan copied d = (d.loan ≡ loan) × (d.copied ≡ copied)
+
+-- the place is one of the send of that loan, on its way
+abbrev pub IsSendOf : Entry → Bool → Local → Type 0
+IsSendOf loan copied Idle = Unit {0}
+IsSendOf loan copied (Ends (endings.Sends e own count)) = (e ≡ loan) × (own ≡ copied)
+IsSendOf loan copied (SendAsks d) = IsDeliveryOf loan copied d
+IsSendOf loan copied (SendEmpties d w place left) =
+    IsDeliveryOf loan copied d × (w ≡ state_in loan)
+IsSendOf loan copied (SendLooks d w place left full) =
+    IsDeliveryOf loan copied d × (w ≡ state_in loan)
+IsSendOf loan copied (SendPushes d last w place left count) =
+    IsDeliveryOf loan copied d × (w ≡ state_in loan)
+IsSendOf loan copied (SendEvicts d w place left count) =
+    IsDeliveryOf loan copied d × (w ≡ state_in loan)
+IsSendOf loan copied (SendGetsBack d w place left count) =
+    IsDeliveryOf loan copied d × (w ≡ state_in loan)
+IsSendOf loan copied local = ⊥
+
+-- Its loan is a response, and its place one of the send of that.
+pub record SendsItsResponse (r : Dispatch) : Type 0 where
+  pub kind : is_response_loan r.loan.kind ≡ true
+  pub place : IsSendOf r.loan r.copied r.local
 
 -- ---- a step
 

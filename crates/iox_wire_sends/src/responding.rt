@@ -6,6 +6,7 @@ mod begin;
 mod deliver;
 mod finish;
 mod look;
+mod place;
 
 use crate::at::{RespondAt, RespondReply};
 use crate::terms::ResponseTerms;

@@ -93,6 +93,9 @@ module _ (plan : WirePlan) (is : IsPlan plan) (role : Role) (i : ℕ) (at : IsPo
     pub role_planned : (p.port (number_at plan i)).role ≡ role
     role_planned = planned.role ∙ is_of_role
 
+    pub pool_planned : pool_of plan (number_at plan i) ≡ (p.port (number_at plan i)).pool
+    pool_planned = pool_is ∙ sym planned.pool
+
     shape : IsShapeOf (details_of plan (get_or plan.ports.items i d).role) (get_or plan.ports.items i d).role (port_shape p (number_at plan i))
     shape =
         subst (λ r. IsShapeOf (details_of plan (get_or plan.ports.items i d).role) (get_or plan.ports.items i d).role (shape_of p.limits r))

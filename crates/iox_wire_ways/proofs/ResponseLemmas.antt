@@ -29,7 +29,7 @@ use Rattle.iox_wire_messages.specs.Aims.{IsInMemory}
 use Rattle.iox_wire_messages.proofs.BeginLemmas.{forgot_is, queue_in_memory}
 use Rattle.iox_wire_ways.specs.ResponseSources.{response_source, response_terms}
 use Rattle.iox_wire_ways.specs.Visits.{is_other}
-use Rattle.iox_wire_ways.proofs.HeaderLemmas.{header_fits, header_word, low, slots_in_memory}
+use Rattle.iox_wire_ways.proofs.HeaderLemmas.{header_fits, header_word, low, pool_planned, slots_in_memory}
 use Rattle.iox_wire_ways.proofs.ListLemmas.{all_made, all_ways, left_are, made_before}
 use Rattle.iox_wire_ways.proofs.ReturnLemmas.{port_is_there}
 use Rattle.iox_wire_ways.proofs.SourceLemmas.{back_of, queue_of}
@@ -70,6 +70,8 @@ module _ (plan : WirePlan) (is : IsPlan plan) (i j lane : ℕ) (l : IsLaneAt pla
         omega (arith, h))
         ∙ ap (λ (y : WireLayout). word_place y (number_at plan j) (region_word p (number_at plan j) slot k)) (sym setting.layout);
     states = λ k below. absurd (omega (arith, below));
+    pool = pool_planned plan is Server j s p setting;
+    lanes = λ of_requests. absurd (omega (arith, of_requests));
     node = λ x. forgot_is p plan x j (planned_settings_agree plan p setting) is (low plan is Server j s);
     limit = λ x.
         ap (λ (rs : List Port). borrow_limit_of p.limits (other_role (option_map_or (λ (r : Port). r.role) (find (λ (r : Port). r.number == number_at plan i) rs) Client)))

@@ -36,7 +36,7 @@ use Rattle.iox_wire_messages.specs.MessagePlaces.{MessagePlaces}
 use Rattle.iox_wire_messages.specs.Aims.{StandAt}
 use Rattle.iox_wire_ways.specs.PlannedSlots.{HasHeader, element_words, longest_of, planned_payloads, planned_slots, role_there, words_in_front}
 use Rattle.iox_wire_ways.specs.Visits.{pool_of}
-use Rattle.iox_wire_ways.proofs.HeaderLemmas.{header_word, longest_planned, role_planned, slots_in_memory, turned, whole_words, width_planned}
+use Rattle.iox_wire_ways.proofs.HeaderLemmas.{header_word, longest_planned, pool_planned, role_planned, slots_in_memory, turned, whole_words, width_planned}
 
 under : (a b : ℕ) → a < b → nat_lt a b ≡ true
 under a b low = by_case (nat_lt a b) refl
@@ -208,8 +208,9 @@ module _ (plan : WirePlan) (is : IsPlan plan) (i : ℕ) (slot_there : IsSlotAt p
         (parts_are_computed (details_of plan (role_there plan i)) (slot_words_of plan (number_at plan i)) slot UserHeader whole
         ∙ ap (λ h. aligned_place (slot * slot_words_of plan (number_at plan i) + h) (in_words (details_of plan (role_there plan i)).user_header.alignment)) header_words)
 
-    pub are_slots : AreSlots p (number_at plan i) (planned_slots plan i)
-    are_slots slot k inside low = by_case (nat_lt k (header_length (role_there plan i))) refl
+    headers_there : (slot k : ℕ) → slot < (planned_slots plan i).slots → k < (planned_slots plan i).header + (planned_slots plan i).user
+        → place_in (planned_slots plan i) slot k ≡ word_place p.layout (number_at plan i) (region_word p (number_at plan i) slot k)
+    headers_there slot k inside low = by_case (nat_lt k (header_length (role_there plan i))) refl
       where
         by_case : (b : Bool) → nat_lt k (header_length (role_there plan i)) ≡ b
             → place_in (planned_slots plan i) slot k ≡ word_place p.layout (number_at plan i) (region_word p (number_at plan i) slot k)
@@ -239,6 +240,9 @@ module _ (plan : WirePlan) (is : IsPlan plan) (i : ℕ) (slot_there : IsSlotAt p
             (under (k - header_length (role_there plan i)) ((details_of plan (role_there plan i)).user_header.size / 8) in_user))
             ∙ there_is
             ∙ ap (λ n. word_place p.layout (number_at plan i) (region_word p (number_at plan i) slot n)) role_so
+
+    pub are_slots : AreSlots p (number_at plan i) (planned_slots plan i)
+    are_slots = record { pool = pool_planned plan is (role_there plan i) i at p setting; words = headers_there }
 
     payload_start_there : (slot : ℕ) → part_start plan (number_at plan i) slot Payload ≡ payload_at (planned_slots plan i) (planned_payloads plan i) slot
     payload_start_there slot =

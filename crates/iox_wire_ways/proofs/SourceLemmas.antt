@@ -29,7 +29,7 @@ use Rattle.iox_wire_receives.specs.Sources.{IsSource, IsWithin, messages_at, ret
 use Rattle.iox_wire_messages.specs.Aims.{IsInMemory}
 use Rattle.iox_wire_messages.proofs.BeginLemmas.{forgot_is, queue_in_memory}
 use Rattle.iox_wire_ways.specs.RequestSources.{HasRequestWays, request_source, request_terms}
-use Rattle.iox_wire_ways.proofs.HeaderLemmas.{header_fits, header_word, low, slots_in_memory}
+use Rattle.iox_wire_ways.proofs.HeaderLemmas.{header_fits, header_word, low, pool_planned, slots_in_memory}
 
 abbrev pub queue_of : PlanLimits → ℕ → Role → Site
 queue_of l base r = record { kind = message_kind l r; base = base; capacity = planned_buffer l r }
@@ -103,6 +103,8 @@ module _ (plan : WirePlan) (is : IsPlan plan) (i j : ℕ) (c : IsPortAt plan Cli
       states = λ lane below.
           (let a = queues.0 in let b = state_there lane below in omega (arith, a, b))
           ∙ ap (λ (y : WireLayout). state_place y (response_way (number_at plan i) lane (number_at plan j))) (sym setting.layout);
+      pool = pool_planned plan is Client i c p setting;
+      lanes = λ of_requests. ap (λ (y : WireLayout). y.sizes.lanes (number_at plan i)) (sym setting.layout);
       node = λ x. forgot_is p plan x i (planned_settings_agree plan p setting) is (low plan is Client i c);
       limit = λ x.
           ap (λ (rs : List Port). borrow_limit_of p.limits (other_role (option_map_or (λ (r : Port). r.role) (find (λ (r : Port). r.number == number_at plan j) rs) Client)))

@@ -56,7 +56,7 @@ impl CopyLending {
         ensures aimed { (p : Setting) → IsLender p lender.now → IsServer p lender.now
             → number ≡ next_handle p seat.old.seat → AreReturning p lender.now.room stops.now
             → ArePayloads p lender.now.port lender.now.places places
-            → TellsOfSlot self.new.slots self.new.local
+            → TellsOfSlot p self.new.local
             → OnOk result (IsAimed p seat.new.seat self.new) }
         ensures ordered { OnOk result (IsOrdered self.new.lending number lender.now.port) }
         ensures response { OnOk result (IsResponse self.new.lending.order request) }

@@ -19,10 +19,12 @@ impl CopyingClient {
     ghost use Rattle.iox_wire_locals.specs.Lendings.{copies_request, first_lane, next_handle};
     ghost use Rattle.iox_wire_locals.specs.Tables.{Setting};
     ghost use Rattle.iox_wire_seats.specs.Aims.{QueuesInMemory};
-    ghost use Rattle.iox_wire_seats.specs.Seats.{ways_of};
+    ghost use Rattle.iox_wire_seats.specs.Lends.{MayLend};
+    ghost use Rattle.iox_wire_seats.specs.Seats.{Placed, ways_of};
     ghost use Rattle.iox_wire_request_sends.specs.WireLoansAims.{IsOrdered, LeavesSeat, TellsOfSlot};
     ghost use Rattle.iox_wire_request_sends.specs.Lenders.{AreReturning, IsClient, IsLender, IsWhole};
     ghost use Rattle.iox_wire_request_sends.specs.Targets.{AreWithin};
+    ghost use Rattle.iox_wire_copies.specs.Copiers.{MayBeMade};
     ghost use Rattle.iox_wire_copies.specs.Copies.{ArePayloads};
     ghost use Rattle.iox_wire_copies.specs.CopyCalls.{IsAimed, KnowsServers};
     ghost use Rattle.iox_wire_copies.specs.Payloads.{HasRoom};
@@ -72,10 +74,12 @@ impl CopyingClient {
             ≡ request_ways (known p seat.old.seat) (p.port lender.now.port).node lender.now.port
             → KnowsServers p seat.old.seat lender.now.port
             (first_lane lender.now.pool (free_lanes seat.old.seat lender.now.port)) self.old.sends
-            → TellsOfSlot self.new.lends.slots self.new.local
+            → TellsOfSlot p self.new.local
             → OnOk result (IsAimed p seat.new.seat self.new) }
         ensures ordered { (k : ℕ) → elements ≡ Some k
             → OnOk result (IsOrdered self.new.lends.lending number lender.now.port) }
+        ensures may { (x : Placed) → MayLend x number lender.now.port → OnOk result
+            (MayBeMade x self.new.at self.new.lends.lending.order self.new.sends.loan) }
         ensures busy { OnOk result (is_busy self.new.local ≡ true) }
         ensures told { self.new.sends ≡ self.old.sends }
         ensures leaves { LeavesSeat seat.old seat.new }

@@ -20,10 +20,12 @@ impl CopyingServer {
     ghost use Rattle.iox_wire_locals.specs.Lendings.{copies_response, next_handle};
     ghost use Rattle.iox_wire_locals.specs.Tables.{Setting, state_in};
     ghost use Rattle.iox_wire_seats.specs.Aims.{IsInMemory, QueuesInMemory};
-    ghost use Rattle.iox_wire_seats.specs.Seats.{ways_of};
+    ghost use Rattle.iox_wire_seats.specs.Lends.{MayLend};
+    ghost use Rattle.iox_wire_seats.specs.Seats.{Placed, ways_of};
     ghost use Rattle.iox_wire_request_sends.specs.WireLoansAims.{IsOrdered, LeavesSeat, TellsOfSlot};
     ghost use Rattle.iox_wire_request_sends.specs.Lenders.{AreReturning, IsLender, IsServer, IsWhole};
     ghost use Rattle.iox_wire_request_sends.specs.Orders.{IsResponse};
+    ghost use Rattle.iox_wire_copies.specs.Copiers.{MayBeMade};
     ghost use Rattle.iox_wire_copies.specs.Copies.{ArePayloads};
     ghost use Rattle.iox_wire_copies.specs.ResponseCopies.{IsAimed, KnowsWay};
     ghost use Rattle.iox_wire_copies.specs.Payloads.{HasRoom};
@@ -63,12 +65,14 @@ impl CopyingServer {
             → AreReturning p lender.now.room stops.now
             → ArePayloads p lender.now.port lender.now.places places
             → KnowsWay p (state_in request) terms
-            → TellsOfSlot self.new.lends.slots self.new.local
+            → TellsOfSlot p self.new.local
             → OnOk result (IsAimed p seat.new.seat self.new) }
         ensures ordered { (k : ℕ) → elements ≡ Some k
             → OnOk result (IsOrdered self.new.lends.lending number lender.now.port) }
         ensures response { (k : ℕ) → elements ≡ Some k
             → OnOk result (IsResponse self.new.lends.lending.order request) }
+        ensures may { (x : Placed) → MayLend x number lender.now.port → OnOk result
+            (MayBeMade x self.new.at self.new.lends.lending.order self.new.sends.loan) }
         ensures busy { OnOk result (is_busy self.new.local ≡ true) }
         ensures told { (k : ℕ) → elements ≡ Some k → OnOk result (self.new.sends.terms ≡ terms) }
         ensures leaves { LeavesSeat seat.old seat.new }

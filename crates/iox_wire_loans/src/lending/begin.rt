@@ -54,7 +54,7 @@ impl Lending {
             ≡ lends_request p seat.old.seat (p.port lender.now.port) elements [] false) }
         ensures aimed { (p : Setting) → IsLender p lender.now → IsClient p lender.now
             → number ≡ next_handle p seat.old.seat → AreReturning p lender.now.room stops.now
-            → TellsOfSlot self.new.places self.new.local
+            → TellsOfSlot p self.new.local
             → OnOk result (IsAimed p seat.new.seat self.new) }
         ensures ordered { OnOk result (IsOrdered self.new number lender.now.port) }
         ensures request { OnOk result (IsRequest self.new.order
@@ -109,7 +109,7 @@ impl Lending {
             ≡ lends_response p seat.old.seat request elements [] false) }
         ensures aimed { (p : Setting) → IsLender p lender.now → IsServer p lender.now
             → number ≡ next_handle p seat.old.seat → AreReturning p lender.now.room stops.now
-            → TellsOfSlot self.new.places self.new.local
+            → TellsOfSlot p self.new.local
             → OnOk result (IsAimed p seat.new.seat self.new) }
         ensures ordered { OnOk result (IsOrdered self.new number lender.now.port) }
         ensures response { OnOk result (IsResponse self.new.order request) }
@@ -170,7 +170,7 @@ impl Lending {
             ≡ loan_words p (loan_of order)
             → AreSlots p order.port lender.now.places
             → AreReturning p lender.now.room stops.now
-            → TellsOfSlot self.new.places self.new.local
+            → TellsOfSlot p self.new.local
             → OnOk result (IsAimed p seat.new.seat self.new) }
         ensures ordered { OnOk result (self.new.order ≡ order) }
         ensures places { OnOk result (self.new.places ≡ lender.now.places) }

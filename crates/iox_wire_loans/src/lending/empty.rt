@@ -38,7 +38,7 @@ impl Lending {
         ensures unchanged { OnFalse result (self.new ≡ self.old) }
         ensures seat_unchanged { OnFalse result (seat.new ≡ seat.old) }
         ensures aimed { (p : Setting) → Knows p seat.old.seat self.old
-            → TellsOfSlot self.new.places self.new.local
+            → TellsOfSlot p self.new.local
             → OnTrue result (IsAimed p seat.new.seat self.new) }
         ensures leaves { LeavesSeat seat.old seat.new }
         ensures same { IsSameLoan self.old self.new }
@@ -67,7 +67,7 @@ impl Lending {
             ≡ option_map reply_in result }
         ensures aimed { (p : Setting) → Knows p seat.old.seat self.old
             → AreReturning p self.old.room self.old.left
-            → TellsOfSlot self.new.places self.new.local → IsAimed p seat.new.seat self.new }
+            → TellsOfSlot p self.new.local → IsAimed p seat.new.seat self.new }
         ensures busy { is_busy self.new.local ≡ is_none result }
         ensures visits { 0 < length self.old.left → result ≡ None }
         ensures leaves { LeavesSeat seat.old seat.new }

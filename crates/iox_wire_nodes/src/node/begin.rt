@@ -10,6 +10,7 @@ ghost use Rattle.iox_wire_begins.specs.PlansOf.{IsSettingOf};
 ghost use Rattle.iox_wire_begins.specs.Begins.{refusal_at};
 ghost use Rattle.iox_wire_begins.specs.Stored.{header_length};
 ghost use Rattle.iox_wire_begins.specs.Tables.{Setting, entry_at};
+ghost use Rattle.iox_wire_nodes.specs.declared.call_at.CallAt.TheVariants.{Seats};
 ghost use Rattle.iox_wire_nodes.specs.Begins.{IsBegun, called};
 ghost use Rattle.iox_wire_nodes.specs.Nodes.{seat_in};
 ghost use Rattle.iox_wire_begins.specs.Released.{MayReleaseNumber};
@@ -37,6 +38,8 @@ fn release(
         → OnOk result (IsBegunBy p seat.old (Port (Release number)) seat.new) }
     ensures refused { (p : Setting) → IsSettingOf map.now p → IfErr result (λ error.
         refusal_at p seat.old.seat (Port (Release number)) ≡ refusal_in error) }
+    ensures accesses { seat.new.seat.accesses ≡ seat.old.seat.accesses }
+    ensures room { seat.new.room ≡ seat.old.room }
     ensures unchanged { OnErr result (seat.new ≡ seat.old) }
 {
     named(seat, map, Asked::Release, number)?;
@@ -63,6 +66,8 @@ fn begin_in(
         → OnOk result (IsBegunBy p seat.old (called call number) seat.new) }
     ensures refused { (p : Setting) → IsSettingOf map.now p → IfErr result (λ error.
         refusal_at p seat.old.seat (called call number) ≡ refusal_in error) }
+    ensures accesses { seat.new.seat.accesses ≡ seat.old.seat.accesses }
+    ensures room { seat.new.room ≡ seat.old.room }
     ensures unchanged { OnErr result (seat.new ≡ seat.old) }
 {
     match call {
@@ -96,6 +101,7 @@ impl StoredNode {
             → OnOk result (IsBegun p self.old (called call number) self.new) }
         ensures refused { (p : Setting) → IsSettingOf map.now p → IfErr result (λ error.
             refusal_at p (seat_in self.old) (called call number) ≡ refusal_in error) }
+        ensures at { OnOk result (self.new.at ≡ Seats) }
         ensures unchanged { OnErr result (self.new ≡ self.old) }
     {
         if self.is_busy() {

@@ -8,6 +8,7 @@ ghost use Rattle.iox_wire_begins.specs.WirePlans.{IsWirePlan};
 ghost use Rattle.iox_wire_begins.specs.Terms.{IsSettingWith};
 ghost use Rattle.iox_wire_begins.specs.Begins.{refusal_at};
 ghost use Rattle.iox_wire_begins.specs.Tables.{Setting};
+ghost use Rattle.iox_wire_nodes.specs.declared.call_at.CallAt.TheVariants.{CopiesRequest};
 ghost use Rattle.iox_wire_nodes.specs.declared.node_error.NodeError.TheVariants.{Unsupported};
 ghost use Rattle.iox_wire_nodes.specs.Begins.{HasNoLane, IsUnchanged, IsUnderWay, node_refusal};
 ghost use Rattle.iox_wire_nodes.specs.Calls.{payload_with};
@@ -45,6 +46,7 @@ impl StoredNode {
             (λ error. refusal_at p (seat_in self.old)
             (Port (SendCopy number (payload_with p role words.now))) ≡ node_refusal error) }
         ensures left_out { result ≡ Err Unsupported → HasNoLane map.now (seat_in self.old) number }
+        ensures at { OnOk result (self.new.at ≡ CopiesRequest) }
         ensures unchanged { OnErr result (IsUnchanged self.old self.new) }
     {
         self.name_at_port(map, terms, Asked::SendCopy(role), number, port)?;

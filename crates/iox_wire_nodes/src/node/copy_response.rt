@@ -8,6 +8,7 @@ ghost use Rattle.iox_wire_begins.specs.HandleCalls.{refusal_in};
 ghost use Rattle.iox_wire_begins.specs.Terms.{IsSettingWith};
 ghost use Rattle.iox_wire_begins.specs.Begins.{refusal_at};
 ghost use Rattle.iox_wire_begins.specs.Tables.{Setting, entry_at};
+ghost use Rattle.iox_wire_nodes.specs.declared.call_at.CallAt.TheVariants.{CopiesResponse};
 ghost use Rattle.iox_wire_nodes.specs.Begins.{IsUnderWay};
 ghost use Rattle.iox_wire_nodes.specs.Calls.{payload_with};
 ghost use Rattle.iox_wire_nodes.specs.Nodes.{seat_in};
@@ -44,6 +45,7 @@ impl StoredNode {
         ensures refused { (p : Setting) → IsSettingWith map.now terms.now p → IfErr result
             (λ error. refusal_at p (seat_in self.old)
             (Port (SendCopy number (payload_with p role words.now))) ≡ refusal_in error) }
+        ensures at { OnOk result (self.new.at ≡ CopiesResponse) }
         ensures unchanged { OnErr result (self.new ≡ self.old) }
     {
         let request = self.name_handle(map, Asked::SendCopy(role), number)?;

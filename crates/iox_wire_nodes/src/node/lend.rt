@@ -8,6 +8,7 @@ ghost use Rattle.iox_wire_begins.specs.HandleCalls.{refusal_in};
 ghost use Rattle.iox_wire_begins.specs.Terms.{IsSettingWith};
 ghost use Rattle.iox_wire_begins.specs.Begins.{refusal_at};
 ghost use Rattle.iox_wire_begins.specs.Tables.{Setting, entry_at};
+ghost use Rattle.iox_wire_nodes.specs.declared.call_at.CallAt.TheVariants.{Lends};
 ghost use Rattle.iox_wire_nodes.specs.Begins.{IsUnderWay};
 ghost use Rattle.iox_wire_nodes.specs.Nodes.{seat_in};
 
@@ -41,6 +42,7 @@ impl StoredNode {
         ensures refused { (p : Setting) → IsSettingWith map.now terms.now p
             → IfErr result (λ error. refusal_at p (seat_in self.old)
             (Port (Loan number elements)) ≡ refusal_in error) }
+        ensures at { OnOk result (self.new.at ≡ Lends) }
         ensures unchanged { OnErr result (self.new ≡ self.old) }
     {
         self.name_at_port(map, terms, Asked::Loan(elements), number, port)?;
@@ -83,6 +85,7 @@ impl StoredNode {
         ensures refused { (p : Setting) → IsSettingWith map.now terms.now p
             → IfErr result (λ error. refusal_at p (seat_in self.old)
             (Port (Loan number elements)) ≡ refusal_in error) }
+        ensures at { OnOk result (self.new.at ≡ Lends) }
         ensures unchanged { OnErr result (self.new ≡ self.old) }
     {
         let request = self.name_handle(map, Asked::Loan(elements), number)?;

@@ -8,6 +8,7 @@ ghost use Rattle.iox_wire_begins.specs.PlansOf.{IsSettingOf};
 ghost use Rattle.iox_wire_begins.specs.Begins.{refusal_at};
 ghost use Rattle.iox_wire_begins.specs.Lendings.{next_handle};
 ghost use Rattle.iox_wire_begins.specs.Tables.{Setting};
+ghost use Rattle.iox_wire_nodes.specs.declared.call_at.CallAt.TheVariants.{Receives};
 ghost use Rattle.iox_wire_nodes.specs.Begins.{IsBegun};
 ghost use Rattle.iox_wire_nodes.specs.Nodes.{seat_in};
 ghost use Rattle.iox_wire_begins.specs.RequestSources.{HasRequestWays};
@@ -39,6 +40,7 @@ impl StoredNode {
         ensures refused { (p : Setting) → IsSettingOf map.now p → (p.port number).held ≡ true
             → IfErr result (λ error. refusal_at p (seat_in self.old) (Port (Receive number))
             ≡ refusal_in error) }
+        ensures at { OnOk result (self.new.at ≡ Receives) }
         ensures unchanged { OnErr result (self.new ≡ self.old) }
     {
         if self.is_busy() {

@@ -8,6 +8,7 @@ ghost use Rattle.iox_wire_begins.specs.HandleCalls.{refusal_in};
 ghost use Rattle.iox_wire_begins.specs.Terms.{IsSettingWith};
 ghost use Rattle.iox_wire_begins.specs.Begins.{refusal_at};
 ghost use Rattle.iox_wire_begins.specs.Tables.{Setting, entry_at};
+ghost use Rattle.iox_wire_nodes.specs.declared.call_at.CallAt.TheVariants.{Receives};
 ghost use Rattle.iox_wire_nodes.specs.Begins.{IsUnderWay};
 ghost use Rattle.iox_wire_nodes.specs.Nodes.{seat_in};
 
@@ -37,6 +38,7 @@ impl StoredNode {
         ensures refused { (p : Setting) → IsSettingWith map.now terms.now p
             → IfErr result (λ error.
             refusal_at p (seat_in self.old) (Port (Receive number)) ≡ refusal_in error) }
+        ensures at { OnOk result (self.new.at ≡ Receives) }
         ensures unchanged { OnErr result (self.new ≡ self.old) }
     {
         let pending = self.name_handle(map, Asked::Receive, number)?;

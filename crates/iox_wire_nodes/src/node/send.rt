@@ -9,7 +9,8 @@ ghost use Rattle.iox_wire_begins.specs.HandleCalls.{refusal_in};
 ghost use Rattle.iox_wire_begins.specs.Terms.{IsSettingWith};
 ghost use Rattle.iox_wire_begins.specs.Begins.{begins_at_entry, is_busy, refusal_at};
 ghost use Rattle.iox_wire_begins.specs.Tables.{Setting, entry_at};
-ghost use Rattle.iox_wire_nodes.specs.Begins.{IsAtOnce, IsUnderWay};
+ghost use Rattle.iox_wire_nodes.specs.declared.call_at.CallAt.TheVariants.{SendsRequest, SendsResponse};
+ghost use Rattle.iox_wire_nodes.specs.Begins.{IsAtOnce, IsUnderWay, send_at};
 ghost use Rattle.iox_wire_nodes.specs.Nodes.{seat_in};
 
 use super::StoredNode;
@@ -39,6 +40,8 @@ impl StoredNode {
         ensures refused { (p : Setting) → IsSettingWith map.now terms.now p
             → IfErr result (λ error.
             refusal_at p (seat_in self.old) (Port (Send number)) ≡ refusal_in error) }
+        ensures at { OnOk result (IfSome (entry_at number self.old.seat.seat.table)
+            (λ loan. self.new.at ≡ send_at loan.kind)) }
         ensures unchanged { OnErr result (self.new ≡ self.old) }
     {
         let loan = self.name_handle(map, Asked::Send, number)?;
@@ -64,8 +67,9 @@ impl StoredNode {
         requires kind { is_request_loan loan.kind ≡ true }
         requires handle { HandleStands map.now self.old.seat.seat.desks loan }
         ensures begun { (p : Setting) → IsSettingWith map.now terms.now p → OnOk result
-            (IsAtOnce p (begins_at_entry p (seat_in self.old) (Send 0) loan) self.new) }
+            (IsAtOnce p self.old (begins_at_entry p (seat_in self.old) (Send 0) loan) self.new) }
         ensures memory { IfErr result (λ error. refusal_in error ≡ None) }
+        ensures at { OnOk result (self.new.at ≡ SendsRequest) }
         ensures unchanged { OnErr result (self.new ≡ self.old) }
     {
         let client = client_place(map, loan.port, loan.lane);
@@ -89,8 +93,9 @@ impl StoredNode {
         requires plan { IsWirePlan map.now terms.now }
         requires kind { is_response_loan loan.kind ≡ true }
         requires handle { HandleStands map.now self.old.seat.seat.desks loan }
-        ensures { (p : Setting) → IsSettingWith map.now terms.now p
-            → IsAtOnce p (begins_at_entry p (seat_in self.old) (Send 0) loan) self.new }
+        ensures begun { (p : Setting) → IsSettingWith map.now terms.now p
+            → IsAtOnce p self.old (begins_at_entry p (seat_in self.old) (Send 0) loan) self.new }
+        ensures at { self.new.at ≡ SendsResponse }
     {
         let client = client_place(map, loan.client, loan.lane);
         let server = server_place(map, loan.port);

@@ -6,6 +6,7 @@ ghost use Rattle.iox_wire_begins.specs.PlacedHandles.{HasLoanSlot};
 ghost use Rattle.iox_wire_begins.specs.PlansOf.{IsSettingOf};
 ghost use Rattle.iox_wire_begins.specs.Begins.{refusal_at};
 ghost use Rattle.iox_wire_begins.specs.Tables.{Setting, entry_at};
+ghost use Rattle.iox_wire_nodes.specs.declared.call_at.CallAt.TheVariants.{Seats};
 ghost use Rattle.iox_wire_nodes.specs.Begins.{IsBegun};
 ghost use Rattle.iox_wire_nodes.specs.Nodes.{seat_in};
 
@@ -32,6 +33,7 @@ impl StoredNode {
         ensures refused { (p : Setting) → IsSettingOf map.now p → IfErr result (λ error.
             refusal_at p (seat_in self.old) (write_of number role elements words.now)
             ≡ refusal_in error) }
+        ensures at { OnOk result (self.new.at ≡ Seats) }
         ensures unchanged { OnErr result (self.new ≡ self.old) }
     {
         if self.is_busy() {

@@ -2,7 +2,7 @@ use Rattle.std.proofs.Common.{◌≡◌, false, None, Some, refl, sym, subst, ap
 use Rattle.std.specs.Prelude.{is_none}
 use Rattle.iox_wire_request_sends.specs.WireLoansAims.{Answers, IsLoanAt, is_storing}
 use Rattle.iox_wire_copies.specs.contracts.copy_lending.CopyLending.{the_view}
-use Rattle.iox_wire_copies.specs.Copies.{CopyLoan, HasSlots, local_of}
+use Rattle.iox_wire_copies.specs.Copies.{CopyLoan, local_of}
 use Rattle.iox_wire_copies.specs.CopyAims as copies
 use Rattle.iox_wire_copies.specs.CopyAims.{IsAimed, IsLending, KeepsPeers}
 use Rattle.iox_wire_copies.specs.declared.at.CopyAt.{CopyAt}
@@ -31,7 +31,6 @@ returns-in-None-clause-aimed c p aim told =
     let new : CopyLoan = record (the_view c.self.inside) { lending = c.go_on.new.self; local = local_of c.self.inside.at c.go_on.new.self c.self.inside.payload.items c.self.inside.loan.slot c.self.inside.next } in
     lend_aimed p c.args.seat.now c.go_on.new.seat (the_view c.self.inside) new lends at'
     (ap (λ (a : CopyAt). local_of a c.go_on.new.self c.self.inside.payload.items c.self.inside.loan.slot c.self.inside.next) at')
-    (subst (λ (a : CopyAt). HasSlots a c.self.inside.slots c.self.inside.lending) at' c.self.invariant.4 ∙ sym c.go_on.ensures.same.places)
     c.go_on.ensures.same.order refl refl c.go_on.ensures.aimed
     (subst (IsAimed p c.args.seat.now.seat) (sym c.self.view_is) aim) told
 

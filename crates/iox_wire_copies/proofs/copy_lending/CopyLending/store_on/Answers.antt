@@ -3,7 +3,7 @@ use Rattle.std.specs.Prelude.{Option}
 use Rattle.iox_wire_locals.specs.declared.table.Entry.{Entry}
 use Rattle.iox_wire_request_sends.specs.WireLoansAims.{IsLoanAt, StoresAhead}
 use Rattle.iox_wire_copies.specs.contracts.copy_lending.CopyLending.{the_view}
-use Rattle.iox_wire_copies.specs.Copies.{CopyLoan, local_of}
+use Rattle.iox_wire_copies.specs.Copies.{CopyLoan, HasSlots, local_of}
 use Rattle.iox_wire_copies.specs.CopyAims.{GoesOn, IsLending, StaysAimed}
 use Rattle.iox_wire_copies.specs.declared.at.CopyAt.{CopyAt}
 use Rattle.iox_wire_copies.specs.declared.at.CopyAt.TheVariants as at
@@ -54,4 +54,5 @@ returns-clause-aimed c =
     let new : CopyLoan = record { at = at.Writes; local = local_of at.Writes c.store_ahead.new.self c.self.inside.payload.items c.in-Some.loan.slot 0; lending = c.store_ahead.new.self; payload = c.self.inside.payload.items; slots = c.self.inside.slots; places = c.self.inside.places; loan = c.in-Some.loan; place = c.place-self-inside.result } in
     subst (λ (r : CopyLoan). StaysAimed c.args.seat.now r c.count_access.new.self new) c.self.view_is
     (copy_aimed c.args.seat.now c.count_access.new.self (the_view c.self.inside) new c.store_ahead.new.self.local c.in-Some.loan lends c.count_access.ensures
-    refl refl refl c.store_ahead.ensures.same loan ahead refl c.place-self-inside.ensures.there)
+    refl refl refl c.store_ahead.ensures.same loan ahead refl
+    (subst (λ (a : CopyAt). HasSlots a c.self.inside.slots c.self.inside.lending) at' c.self.invariant.4) c.place-self-inside.ensures.there)

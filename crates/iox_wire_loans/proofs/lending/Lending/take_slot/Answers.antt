@@ -18,9 +18,10 @@ invariant_of-self c =
     (c.self.invariant.0, tt, fits, (omega (arith, fits.0, fits.1.header), c.header_place-self-inside.ensures.within, c.user_place-self-inside.ensures.within))
 
 pub returns-clause-aimed : goal.returns-clause-aimed
-returns-clause-aimed c p known_so within =
+returns-clause-aimed c p known_so of_pool =
     let fits : FitsSlots c.self.inside.words.items c.self.inside.places = subst (λ (r : Loaned). FitsSlots r.words r.places) (sym c.self.view_is) c.requires.fits in
     let knows : Knows p c.args.seat.now.seat (the_view c.self.inside) = subst (Knows p c.args.seat.now.seat) (sym c.self.view_is) known_so in
+    let within : c.in-Some.slot < c.self.inside.places.slots = subst (λ (n : ℕ). c.in-Some.slot < n) (sym knows.slots.pool) of_pool in
     let there : c.pick.new.self ≡ picked c.args.seat.now c.self.inside.order.port (loan_of c.self.inside.order) c.in-Some.slot (drop 1 (free_slots c.args.seat.now.seat c.self.inside.order.port)) =
     c.in-Some.ensures.picked (loan_of c.self.inside.order) refl refl in (
       record {
@@ -30,7 +31,7 @@ returns-clause-aimed c p known_so within =
       },
       λ k h.
           ap₂ (λ (a b : ℕ). word_at c.self.inside.places.header a b k) (c.header_place-self-inside.ensures.there within) (c.user_place-self-inside.ensures.there within)
-          ∙ knows.slots c.in-Some.slot k within (subst (λ (n : ℕ). k < n) fits.0 h),
+          ∙ knows.slots.words c.in-Some.slot k within (subst (λ (n : ℕ). k < n) fits.0 h),
     )
 
 pub returns-clause-leaves : goal.returns-clause-leaves

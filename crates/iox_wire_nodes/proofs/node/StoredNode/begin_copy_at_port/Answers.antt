@@ -29,6 +29,7 @@ use Rattle.iox_wire_begins.specs.Lendings.{copies_request, copies_response, firs
 use Rattle.iox_wire_nodes.specs.Begins.{node_refusal}
 use Rattle.iox_wire_begins.specs.Visits.{pool_of}
 use Rattle.iox_wire_begins.proofs.HeaderLemmas.{port_facts}
+use Rattle.iox_wire_nodes.proofs.ReadyLemmas.{ready_to_copy_request}
 use Rattle.iox_wire_nodes.proofs.node.StoredNode.begin_copy_at_port.Goals as goal
 
 -- a payload of that role
@@ -94,3 +95,5 @@ returns-clause-begun c p with =
     ∙ ap₂ (λ k e. copies_request p c.self.inside.seat.seat (p.port k) e c.args.words.now) c.requires.there
     (c.elements_in-elements.ensures.elements ∙ elements_planned c.args.map.now c.args.terms.now p with c.args.role c.args.words.now))
     (λ of_slot. c.in_ok-begin_request_copy.ensures.aimed p with (c.next_number-next.ensures ∙ next_number_is c.args.terms.now p c.self.view_is with.first_number) of_slot)
+    (ready_to_copy_request p _ c.begin_request_copy.new.seat c.begin_request_copy.new.copying c.next_number-next.result (number_at c.args.map.now c.args.port)
+    c.begin_request_copy.ensures.leaves c.in_ok-begin_request_copy.ensures.may (c.next_number-next.ensures ∙ next_number_is c.args.terms.now p c.self.view_is with.first_number))

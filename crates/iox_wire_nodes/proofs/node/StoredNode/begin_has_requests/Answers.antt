@@ -56,3 +56,4 @@ returns-clause-begun c p setting held told =
       aimed = c.in_ok-seek.ensures.aimed p
           (subst (AreQueues p c.in_ok-queue.queue.kind c.in_ok-queue.queue.capacity) (sym c.deref.ensures.value) (c.in_ok-queue.ensures.queues p setting));
     })
+    c.seek.ensures.accesses c.seek.ensures.room

@@ -21,6 +21,7 @@ use Rattle.iox_wire_nodes.specs.Nodes.{Node, seat_in}
 use Rattle.iox_wire_nodes.proofs.BesideLemmas
 use Rattle.iox_wire_nodes.proofs.BesideLemmas.{copied_request_beside, copied_response_beside, lent_beside, next_number_is, own_seat, received_beside, stands_at}
 use Rattle.iox_wire_nodes.proofs.NameLemmas.{copies_as_client, copies_to_request, elements_planned, lends_as_client, lends_to_request, port_of_role, receives_as_pending, role_there_is, sends_response_else}
+use Rattle.iox_wire_nodes.proofs.ReadyLemmas.{ready_to_lend}
 use Rattle.iox_wire_nodes.proofs.node.StoredNode.begin_loan_at_port.Goals as goal
 
 -- no payload is asked
@@ -50,3 +51,5 @@ returns-clause-begun c p with =
     (c.in_ok-begin_request_loan.ensures.begun p c.args.number with (c.next_number-next.ensures ∙ next_number_is c.args.terms.now p c.self.view_is with.first_number)
     ∙ ap (λ k. begins_at_port p c.self.inside.seat.seat (Loan c.args.number c.args.elements) (p.port k)) c.requires.there)
     (λ of_slot. c.in_ok-begin_request_loan.ensures.aimed p with (c.next_number-next.ensures ∙ next_number_is c.args.terms.now p c.self.view_is with.first_number) of_slot)
+    (ready_to_lend p _ c.begin_request_loan.new.seat c.begin_request_loan.new.lending _ _ c.begin_request_loan.ensures.leaves c.in_ok-begin_request_loan.ensures.ordered
+    (c.next_number-next.ensures ∙ next_number_is c.args.terms.now p c.self.view_is with.first_number))

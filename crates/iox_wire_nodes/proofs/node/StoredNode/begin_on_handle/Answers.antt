@@ -7,3 +7,4 @@ pub returns-clause-begun : goal.returns-clause-begun
 returns-clause-begun c p setting =
     begun_in p (called c.args.call c.args.number) c.begin_in.new.seat c.self.view_is c.self.invariant.0
     (sym c.is_busy.ensures ∙ c.if-is_busy.false) (c.in_ok-begin_in.ensures.begun p setting)
+    c.begin_in.ensures.accesses c.begin_in.ensures.room

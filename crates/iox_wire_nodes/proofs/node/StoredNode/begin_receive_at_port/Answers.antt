@@ -42,3 +42,5 @@ returns-clause-begun c p setting held told next =
     ∙ sym (c.in_ok-name_port.ensures.begins p none setting))
     (c.in_ok-begin_request_receive.ensures.aimed p setting told
     (next ∙ next_alike p c.self.view_is c.self.invariant.0 (sym c.is_busy.ensures ∙ c.if-is_busy.false)))
+    (c.in_ok-begin_request_receive.ensures.number ∙ next ∙ next_alike p c.self.view_is c.self.invariant.0 (sym c.is_busy.ensures ∙ c.if-is_busy.false))
+    c.in_ok-begin_request_receive.ensures.counts

@@ -21,6 +21,7 @@ use Rattle.iox_wire_nodes.specs.Nodes.{Node, seat_in}
 use Rattle.iox_wire_nodes.proofs.BesideLemmas
 use Rattle.iox_wire_nodes.proofs.BesideLemmas.{copied_request_beside, copied_response_beside, lent_beside, next_number_is, own_seat, received_beside, stands_at}
 use Rattle.iox_wire_nodes.proofs.NameLemmas.{copies_as_client, copies_to_request, elements_planned, lends_as_client, lends_to_request, port_of_role, receives_as_pending, role_there_is, sends_response_else}
+use Rattle.iox_wire_nodes.proofs.RestLemmas.{ready_to_receive}
 use Rattle.iox_wire_nodes.proofs.node.StoredNode.begin_receive_on_handle.Goals as goal
 
 -- no payload is asked
@@ -57,3 +58,6 @@ returns-clause-begun c p with =
     c.begin_response_receive.new.receiving
     (c.in_ok-begin_response_receive.ensures.begun p c.args.number with.setting)
     (c.in_ok-begin_response_receive.ensures.aimed p with.setting with.fire_and_forget (c.next_number-next.ensures ∙ next_number_is c.args.terms.now p c.self.view_is with.first_number))
+    (ready_to_receive p _ c.begin_response_receive.new.receiving
+    (c.in_ok-begin_response_receive.ensures.number ∙ c.next_number-next.ensures ∙ next_number_is c.args.terms.now p c.self.view_is with.first_number)
+    c.in_ok-begin_response_receive.ensures.counts)

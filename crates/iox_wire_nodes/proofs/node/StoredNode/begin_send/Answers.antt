@@ -53,11 +53,13 @@ returns-then-is_request-clause-begun c p with = record {
   allowed = c.in_ok-loan.ensures.allowed p none with.setting tt;
   begun = (c.in_ok-send_request.ensures.begun p with).begun ∙ sym (c.in_ok-loan.ensures.begins p none with.setting);
   aimed = λ of_pools. (c.in_ok-send_request.ensures.begun p with).aimed;
+  ready = (c.in_ok-send_request.ensures.begun p with).ready;
 }
 
 pub returns-clause-begun : goal.returns-clause-begun
 returns-clause-begun c p with = record {
   allowed = c.in_ok-loan.ensures.allowed p none with.setting tt;
-  begun = (c.send_response.ensures p with).begun ∙ sym (c.in_ok-loan.ensures.begins p none with.setting);
-  aimed = λ of_pools. (c.send_response.ensures p with).aimed;
+  begun = (c.send_response.ensures.begun p with).begun ∙ sym (c.in_ok-loan.ensures.begins p none with.setting);
+  aimed = λ of_pools. (c.send_response.ensures.begun p with).aimed;
+  ready = (c.send_response.ensures.begun p with).ready;
 }

@@ -7,3 +7,4 @@ pub returns-clause-begun : goal.returns-clause-begun
 returns-clause-begun c p setting =
     begun_in p (write_of c.args.number c.args.role c.args.elements c.args.words.now) c.begin_write.new.seat c.self.view_is c.self.invariant.0
     (sym c.is_busy.ensures ∙ c.if-is_busy.false) (c.in_ok-begin_write.ensures.begun p setting)
+    c.begin_write.ensures.accesses c.begin_write.ensures.room

@@ -1,4 +1,5 @@
-use Rattle.std.proofs.Common.{ap, sym, ◌∙◌}
+use Rattle.std.proofs.Common.{◌≡◌, None, refl, ap, sym, subst, ◌∙◌}
+use Rattle.std.proofs.lemmas.Option.{none-some}
 use Rattle.std.specs.Option.{option_map}
 use Rattle.iox_wire_begins.specs.Seats.{reply_with}
 use Rattle.iox_wire_begins.specs.Receipts as receives
@@ -10,6 +11,7 @@ use Rattle.iox_wire_begins.specs.ResponseCopies as response_copies
 use Rattle.iox_wire_nodes.specs.declared.call_at.CallAt.TheVariants as at
 use Rattle.iox_wire_nodes.specs.Nodes.{reply_in}
 use Rattle.iox_wire_nodes.proofs.ReplyLemmas.{over_told}
+use Rattle.iox_wire_nodes.proofs.StayLemmas.{request_copy_ready, response_copy_ready, stays_ready}
 use Rattle.iox_wire_nodes.proofs.node.StoredNode.go_on.Goals as goal
 use Rattle.iox_wire_nodes.proofs.node.StoredNode.go_on.Goals.{in-Some, in-None, in-Some-go_on, in-None-go_on, in-Some-go_on-2, in-None-go_on-2, in-Some-go_on-3, in-None-go_on-3, in-Some-go_on-4, in-None-go_on-4, in-Some-go_on-5, in-None-go_on-5, in-Some-go_on-6, in-None-go_on-6}
 
@@ -68,3 +70,57 @@ returns-after-go_on-7-clause-over c p =
       | in-Some-go_on-6 w ↦ ap (option_map response_copies.reply_in) w.in-Some-go_on-6.is ∙ sym (ap (option_map (reply_in c.go_on-in-CopiesResponse.new.seat.words)) w.result-is)
       | in-None-go_on-6 w ↦ ap (option_map response_copies.reply_in) w.in-None-go_on-6.is ∙ sym (ap (option_map (reply_in c.go_on-in-CopiesResponse.new.seat.words)) w.result-is)
     ])
+
+pub returns-after-go_on-clause-ready : goal.returns-after-go_on-clause-ready
+returns-after-go_on-clause-ready c =
+    stays_ready c.match-go_on.result at.Seats _ c.self.view_is c.in-Seats.is refl (λ p aimed none may. tt)
+
+pub returns-after-go_on-2-clause-ready : goal.returns-after-go_on-2-clause-ready
+returns-after-go_on-2-clause-ready c =
+    stays_ready c.match-go_on-2.result at.Receives _ c.self.view_is c.in-Receives.is refl (λ p aimed none may.
+    (let quiet : c.go_on-in-Receives.result ≡ None = elim c.match-go_on-2.branch [
+      | in-Some-go_on w ↦ absurd (none-some _ (sym none ∙ w.result-is))
+      | in-None-go_on w ↦ w.in-None-go_on.is
+    ] in
+    (c.go_on-in-Receives.ensures.may quiet, c.go_on-in-Receives.ensures.counts)))
+
+pub returns-after-go_on-3-clause-ready : goal.returns-after-go_on-3-clause-ready
+returns-after-go_on-3-clause-ready c =
+    stays_ready c.match-go_on-3.result at.Lends _ c.self.view_is c.in-Lends.is refl (λ p aimed none may.
+    (let quiet : c.go_on-in-Lends.result ≡ None = elim c.match-go_on-3.branch [
+      | in-Some-go_on-2 w ↦ absurd (none-some _ (sym none ∙ w.result-is))
+      | in-None-go_on-2 w ↦ w.in-None-go_on-2.is
+    ] in
+    c.go_on-in-Lends.ensures.may quiet))
+
+pub returns-after-go_on-4-clause-ready : goal.returns-after-go_on-4-clause-ready
+returns-after-go_on-4-clause-ready c =
+    stays_ready c.match-go_on-4.result at.SendsRequest _ c.self.view_is c.in-SendsRequest.is refl (λ p aimed none may. c.go_on-in-SendsRequest.ensures.same.copied ∙ may)
+
+pub returns-after-go_on-5-clause-ready : goal.returns-after-go_on-5-clause-ready
+returns-after-go_on-5-clause-ready c =
+    stays_ready c.match-go_on-5.result at.SendsResponse _ c.self.view_is c.in-SendsResponse.is refl (λ p aimed none may. c.go_on-in-SendsResponse.ensures.same.copied ∙ may)
+
+pub returns-after-go_on-6-clause-ready : goal.returns-after-go_on-6-clause-ready
+returns-after-go_on-6-clause-ready c =
+    stays_ready c.match-go_on-6.result at.CopiesRequest _ c.self.view_is c.in-CopiesRequest.is refl (λ p aimed none may.
+    (let quiet : c.go_on-in-CopiesRequest.result ≡ None = elim c.match-go_on-6.branch [
+      | in-Some-go_on-5 w ↦ absurd (none-some _ (sym none ∙ w.result-is))
+      | in-None-go_on-5 w ↦ w.in-None-go_on-5.is
+    ] in
+    let tells_none = c.go_on-in-CopiesRequest.ensures.over p aimed ∙ ap (option_map request_copies.reply_in) quiet in
+    request_copy_ready p c.self.inside.seat c.go_on-in-CopiesRequest.new.seat c.self.inside.copying_client.local c.go_on-in-CopiesRequest.new.self.local c.args.seen (c.go_on-in-CopiesRequest.ensures.next p aimed) tells_none
+    c.self.inside.copying_client c.go_on-in-CopiesRequest.new.self c.go_on-in-CopiesRequest.ensures.same c.go_on-in-CopiesRequest.ensures.loan
+    (c.go_on-in-CopiesRequest.ensures.works quiet) c.go_on-in-CopiesRequest.ensures.step.room may))
+
+pub returns-after-go_on-7-clause-ready : goal.returns-after-go_on-7-clause-ready
+returns-after-go_on-7-clause-ready c =
+    stays_ready c.match-go_on-7.result at.CopiesResponse _ c.self.view_is c.in-CopiesResponse.is refl (λ p aimed none may.
+    (let quiet : c.go_on-in-CopiesResponse.result ≡ None = elim c.match-go_on-7.branch [
+      | in-Some-go_on-6 w ↦ absurd (none-some _ (sym none ∙ w.result-is))
+      | in-None-go_on-6 w ↦ w.in-None-go_on-6.is
+    ] in
+    let tells_none = c.go_on-in-CopiesResponse.ensures.over p aimed ∙ ap (option_map response_copies.reply_in) quiet in
+    response_copy_ready p c.self.inside.seat c.go_on-in-CopiesResponse.new.seat c.self.inside.copying_server.local c.go_on-in-CopiesResponse.new.self.local c.args.seen (c.go_on-in-CopiesResponse.ensures.next p aimed) tells_none
+    c.self.inside.copying_server c.go_on-in-CopiesResponse.new.self c.go_on-in-CopiesResponse.ensures.same c.go_on-in-CopiesResponse.ensures.loan
+    (c.go_on-in-CopiesResponse.ensures.works quiet) c.go_on-in-CopiesResponse.ensures.step.room may))

@@ -21,6 +21,7 @@ use Rattle.iox_wire_nodes.specs.Nodes.{Node, seat_in}
 use Rattle.iox_wire_nodes.proofs.BesideLemmas
 use Rattle.iox_wire_nodes.proofs.BesideLemmas.{copied_request_beside, copied_response_beside, lent_beside, next_number_is, own_seat, received_beside, stands_at}
 use Rattle.iox_wire_nodes.proofs.NameLemmas.{copies_as_client, copies_to_request, elements_planned, lends_as_client, lends_to_request, port_of_role, receives_as_pending, role_there_is, sends_response_else}
+use Rattle.iox_wire_nodes.proofs.ReadyLemmas.{ready_to_send_request, sent_so}
 use Rattle.iox_wire_nodes.proofs.node.StoredNode.send_request.Goals as goal
 
 pub client_place-client-requires-clause-client : goal.client_place-client-requires-clause-client
@@ -39,4 +40,5 @@ pub returns-clause-begun : goal.returns-clause-begun
 returns-clause-begun c p with = record {
   begun = c.in_ok-begin_request_send.ensures.begun p 0 with ∙ ap (λ x. begins_at_entry p x (Send 0) c.args.loan) (sym (own_seat c.self.view_is c.requires.own));
   aimed = c.in_ok-begin_request_send.ensures.aimed p with;
+  ready = sent_so p c.self.view_is (ready_to_send_request p _ c.begin_request_send.new.requesting c.in_ok-begin_request_send.ensures.own);
 }

@@ -1,4 +1,4 @@
-use Rattle.std.proofs.Common.{◌≡◌, ◌+◌, ℕ, sym, subst, ap, ◌∙◌}
+use Rattle.std.proofs.Common.{◌≡◌, ◌<◌, ◌+◌, ℕ, sym, subst, ap, ◌∙◌}
 use Rattle.iox_steps.specs.declared.site.Site.{Site}
 use Rattle.iox_steps.specs.Sides.{popping_event}
 use Rattle.iox_wire_locals.specs.declared.local.Local.{Local}
@@ -42,7 +42,7 @@ returns-in-SeesEmpty-clause-over c p aim =
     ∙ c.visit_next.ensures.over p aimed.0.left
 
 pub returns-in-HandOut-clause-aimed : goal.returns-in-HandOut-clause-aimed
-returns-in-HandOut-clause-aimed c p aim there =
+returns-in-HandOut-clause-aimed c p aim of_pool =
     let local : (the_view c.self.inside).local ≡ ReceivePops c.self.inside.visit c.self.inside.source.way c.self.inside.again c.self.inside.popper (ways_of c.self.inside.left) c.self.inside.waiting =
     it_pops c.self.inside.at _ (subst (λ (r : Receipt). IsPopping r.local) (sym c.self.view_is) c.requires.there) in
     let aimed : AreAimed p c.args.seat.now.seat (ReceivePops c.self.inside.visit c.self.inside.source.way c.self.inside.again c.self.inside.popper (ways_of c.self.inside.left) c.self.inside.waiting) (the_view c.self.inside) =
@@ -50,7 +50,8 @@ returns-in-HandOut-clause-aimed c p aim there =
     (subst (IsAimed p c.args.seat.now.seat) (sym c.self.view_is) aim) in
     let terms : KnowsTerms p c.count_access.new.self.seat c.self.inside.terms =
     subst (λ (y : Placed). KnowsTerms p y.seat c.self.inside.terms) (sym c.count_access.ensures)
-    (record { number = aimed.0.terms.number; fire_and_forget = aimed.0.terms.fire_and_forget }) in (
+    (record { number = aimed.0.terms.number; fire_and_forget = aimed.0.terms.fire_and_forget }) in
+    let there : c.in-HandOut.slot < c.self.inside.source.slots = subst (λ (n : ℕ). c.in-HandOut.slot < n) (sym aimed.0.source.pool) of_pool in (
       record { terms = terms; source = aimed.0.source; left = aimed.0.left },
       λ k less. ap (λ (n : ℕ). n + k) (c.part_of-self-inside.ensures.there there) ∙ aimed.0.source.words c.in-HandOut.slot k there less,
     )

@@ -1,0 +1,17 @@
+//! What the loan of a copy tells of its place.
+ghost use Rattle.std.specs.Prelude.{◌≡◌};
+
+use super::CopyLending;
+
+impl CopyLending {
+    ghost use Rattle.iox_wire_copies.specs.Copies.{IsLoanOf};
+
+    /// Its place is one of a loan of its order's kind. The function has nothing to do.
+    #[inline]
+    pub fn place(&self)
+        ensures { IsLoanOf self.now.lending.order.kind self.now.local }
+    {
+        // only what this promises is wanted
+        let _storing = self.lending.is_storing();
+    }
+}
