@@ -26,11 +26,13 @@ pub mod BeginWhole
 -- what the crates above cite of those below
 pub use Rattle.iox_wire_calls.proofs.AccessUses
 pub use Rattle.iox_wire_calls.proofs.AccessesFound
+pub use Rattle.iox_wire_calls.proofs.BeginBeats
 pub use Rattle.iox_wire_calls.proofs.CallsAround
 pub use Rattle.iox_wire_calls.proofs.Counting
 pub use Rattle.iox_wire_calls.proofs.FoundUses
 pub use Rattle.iox_wire_calls.proofs.Fresh
 pub use Rattle.iox_wire_calls.proofs.HandleKinds
+pub use Rattle.iox_wire_calls.proofs.LaneCounts
 pub use Rattle.iox_wire_calls.proofs.LanesTell
 pub use Rattle.iox_wire_calls.proofs.LoanSlots
 pub use Rattle.iox_wire_calls.proofs.NodesFollow
