@@ -46,6 +46,8 @@ pub use Rattle.iox_wire_calls.specs.Runs
 pub use Rattle.iox_wire_calls.specs.Seat
 pub use Rattle.iox_wire_calls.specs.SeatsDesks as Desks
 pub use Rattle.iox_wire_calls.specs.SeatsRecords
+pub use Rattle.iox_wire_calls.specs.Settlements
+pub use Rattle.iox_wire_calls.specs.Shows
 pub use Rattle.iox_wire_calls.specs.SlotsKnown
 pub use Rattle.iox_wire_calls.specs.Stands
 pub use Rattle.iox_wire_calls.specs.Steps

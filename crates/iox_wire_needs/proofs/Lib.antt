@@ -4,3 +4,5 @@ pub mod Places
 pub mod Delivers
 pub mod Uses
 pub mod GivenUp
+pub mod Tidying
+pub mod Handles
