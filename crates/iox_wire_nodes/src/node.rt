@@ -10,6 +10,7 @@ mod look;
 mod name;
 mod receive;
 mod receive_response;
+mod refuse;
 mod send;
 mod told;
 mod write;
