@@ -1,12 +1,13 @@
 -- In reading order: what a wire is and when it shows a run of the machine; what a step and a death do
--- to it; and the laws that it goes on showing one.
+-- to it, and the begin of a call; and the laws that it goes on showing one.
 pub mod Wires
 pub mod Steps
+pub mod Asking
 pub mod Laws
 -- what the crates above cite of those below
-pub use Rattle.iox_wire_keeps.specs.Openings
-pub use Rattle.iox_wire_keeps.specs.Runs
-pub use Rattle.iox_wire_keeps.specs.WholeSteps
+pub use Rattle.iox_wire_needs.specs.Openings
+pub use Rattle.iox_wire_needs.specs.Runs
+pub use Rattle.iox_wire_needs.specs.WholeSteps
 pub use Rattle.iox_wire_nodes.specs.Aims
 pub use Rattle.iox_wire_nodes.specs.CopyReply
 pub use Rattle.iox_wire_nodes.specs.Desk

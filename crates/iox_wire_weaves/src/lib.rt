@@ -2,7 +2,8 @@
 //! The functions have nothing to do: each is there for its contract.
 #![tactic(auto)]
 
-ghost use Rattle.iox_wire_weaves.specs.Laws.{DeathsShow, StepsAreSafe, StepsShow, WiresOpen};
+ghost use Rattle.iox_wire_weaves.specs.Laws.{BeginsShow, DeathsShow, RefusalsAreShown, StepsAreSafe};
+ghost use Rattle.iox_wire_weaves.specs.Laws.{StepsShow, WiresOpen};
 
 mod refusal;
 
@@ -27,4 +28,14 @@ pub fn steps_show()
 /// After a death the wire shows the run with that beat.
 pub fn deaths_show()
     ensures { DeathsShow }
+{}
+
+/// A call is refused for the machine's reason.
+pub fn refusals_are_shown()
+    ensures { RefusalsAreShown }
+{}
+
+/// After the begin of a call the wire shows the run with that beat.
+pub fn begins_show()
+    ensures { BeginsShow }
 {}
