@@ -12,4 +12,5 @@ pub use Rattle.iox_wire_keeps.proofs.BeginWhole
 pub use Rattle.iox_wire_keeps.proofs.Forgotten
 pub use Rattle.iox_wire_keeps.proofs.OpenedDesks
 pub use Rattle.iox_wire_keeps.proofs.StepWhole
+pub use Rattle.iox_wire_keeps.proofs.StepsKept
 pub use Rattle.iox_wire_keeps.proofs.WireStands

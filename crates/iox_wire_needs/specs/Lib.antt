@@ -9,12 +9,14 @@ pub mod Handles
 pub use Rattle.iox_wire_keeps.specs.Aside
 pub use Rattle.iox_wire_keeps.specs.CallsStand
 pub use Rattle.iox_wire_keeps.specs.Entry
+pub use Rattle.iox_wire_keeps.specs.Following
 pub use Rattle.iox_wire_keeps.specs.Lanes
 pub use Rattle.iox_wire_keeps.specs.Local
 pub use Rattle.iox_wire_keeps.specs.MessageBegins
 pub use Rattle.iox_wire_keeps.specs.Nodes
 pub use Rattle.iox_wire_keeps.specs.Openings
 pub use Rattle.iox_wire_keeps.specs.OwnedWords
+pub use Rattle.iox_wire_keeps.specs.Places as CallPlaces
 pub use Rattle.iox_wire_keeps.specs.PoolSlots
 pub use Rattle.iox_wire_keeps.specs.Readiness
 pub use Rattle.iox_wire_keeps.specs.Runs
@@ -24,4 +26,3 @@ pub use Rattle.iox_wire_keeps.specs.Stored
 pub use Rattle.iox_wire_keeps.specs.UsedSlots
 pub use Rattle.iox_wire_keeps.specs.WholeSteps
 pub use Rattle.iox_wire_keeps.specs.WireStands
-pub use Rattle.iox_wire_keeps.specs.Places as CallPlaces

@@ -1,5 +1,5 @@
 -- That a wire shows a run as it opens, and goes on showing one.
-use Rattle.std.specs.Prelude.{◌≡◌, ℕ, ◌==◌, false, true, ◌++◌, List, [], length, replicate, Option, Some, None, is_some, option_map, ◌<◌}
+use Rattle.std.specs.Prelude.{◌≡◌, ℕ, ◌==◌, false, true, ◌++◌, List, [], length, replicate, Option, Some, None, is_some, option_map, ◌<◌, IfSome}
 use Rattle.iox_model.specs.Maps.{has_number}
 use Rattle.iox_model.specs.Schedules.{IsStepOf}
 use Rattle.iox_model.specs.States.{State}
@@ -12,12 +12,13 @@ use Rattle.iox_steps.specs.declared.access.Progress.TheVariants.{Done, Going}
 use Rattle.iox_steps.specs.Accesses.{IsWithin, seen_at, words_after}
 use Rattle.iox_steps.specs.Sites.{last_position}
 use Rattle.iox_wire_needs.specs.MessageBegins.{WordsAreWhole}
-use Rattle.iox_wire_nodes.specs.LocalsBegins.{begin}
+use Rattle.iox_model.specs.Names.{is_port}
+use Rattle.iox_wire_nodes.specs.LocalsBegins.{begin, is_busy}
 use Rattle.iox_word_map.specs.WordMaps.{total_words}
 use Rattle.iox_wire_nodes.specs.WirePlan.{WirePlan}
 use Rattle.iox_wire_nodes.specs.Plans.{IsPlan, sizes_of}
 use Rattle.iox_wire_nodes.specs.Steps.{next, tells}
-use Rattle.iox_wire_nodes.specs.Tables.{Setting}
+use Rattle.iox_wire_nodes.specs.Tables.{Setting, entry_at}
 use Rattle.iox_wire_nodes.specs.WireTerms.{WireTerms}
 use Rattle.iox_wire_nodes.specs.Aims.{IsAimed}
 use Rattle.iox_wire_nodes.specs.declared.call_at.CallAt.TheVariants.{Seats}
@@ -109,6 +110,15 @@ DeathsShow =
     → (after : Run) × GoesOnBy r (Dies n) after × Shows p new after
 
 -- ---- a begin
+
+-- A node of the wire has its number; and where it lives and is between calls, no handle is a port.
+abbrev pub NodesAreKnown : Type 0
+NodesAreKnown =
+    (p : Setting) (wire : WireData) (r : Run) (n : ℕ) (x : WireNode) → Shows p wire r
+    → node_at n wire.nodes ≡ Some x → let own = x.node.seat.seat in
+    (own.node ≡ n)
+    × (living_refusal wire.nodes n ≡ None → is_busy (seat_in x.node).local ≡ false → (k : ℕ)
+    → IfSome (entry_at k own.table) (λ e. is_port e.kind ≡ false))
 
 -- A call of a port or a handle is refused for the machine's reason: its node does not live, or its
 -- own tables say why.

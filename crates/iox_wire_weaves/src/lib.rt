@@ -3,11 +3,14 @@
 #![tactic(auto)]
 
 ghost use Rattle.iox_wire_weaves.specs.Laws.{BeginsShow, DeathsShow, RefusalsAreShown, StepsAreSafe};
-ghost use Rattle.iox_wire_weaves.specs.Laws.{StepsShow, WiresOpen};
+ghost use Rattle.iox_wire_weaves.specs.Laws.{NodesAreKnown, StepsShow, WiresOpen};
 
 mod refusal;
 
-pub use iox_wire_nodes::{NodeReply, StoredNode, WirePlan, WordMap, WordMapNewError};
+pub use iox_wire_nodes::{
+    Asked, BeginError, HandleCall, Lists, NodeCall, NodePayload, NodeReply, StoredNode, WirePlan,
+    WireTerms, WordMap, WordMapNewError,
+};
 pub use refusal::WireRefusal;
 
 /// A wire that opens shows a run without a beat.
@@ -38,4 +41,9 @@ pub fn refusals_are_shown()
 /// After the begin of a call the wire shows the run with that beat.
 pub fn begins_show()
     ensures { BeginsShow }
+{}
+
+/// What a call relies on of the node that begins it.
+pub fn nodes_are_known()
+    ensures { NodesAreKnown }
 {}
