@@ -7,6 +7,7 @@ pub mod GivenUp
 pub mod Tidying
 pub mod Handles
 -- what the crates above cite of those below
+pub use Rattle.iox_wire_keeps.proofs.AccessesMade
 pub use Rattle.iox_wire_keeps.proofs.BeginBeats
 pub use Rattle.iox_wire_keeps.proofs.BeginWhole
 pub use Rattle.iox_wire_keeps.proofs.Forgotten

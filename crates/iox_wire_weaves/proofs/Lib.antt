@@ -5,6 +5,7 @@ pub mod BeginsShown
 pub mod NodesKnown
 pub mod Opened
 -- what the crates above cite of those below
+pub use Rattle.iox_wire_needs.proofs.AccessesMade
 pub use Rattle.iox_wire_needs.proofs.OpenedDesks
 pub use Rattle.iox_wire_needs.proofs.Tidying
 pub use Rattle.iox_wire_nodes.proofs.Layouts

@@ -8,8 +8,8 @@ ghost use Rattle.iox_wire_weaves.specs.Laws.{NodesAreKnown, StepsShow, WiresOpen
 mod refusal;
 
 pub use iox_wire_nodes::{
-    Asked, BeginError, HandleCall, Lists, NodeCall, NodePayload, NodeReply, StoredNode, WirePlan,
-    WireTerms, WordMap, WordMapNewError,
+    Asked, BeginError, HandleCall, Lists, NodeCall, NodePayload, NodeReply, PlanPort, SeatReply,
+    StoredNode, WirePlan, WireTerms, WordMap, WordMapNewError,
 };
 pub use refusal::WireRefusal;
 
