@@ -1,11 +1,16 @@
 -- A node of a wire by its number, and another in its place.
-use Rattle.std.specs.Prelude.{position, not, nat_lt}
+use Rattle.std.specs.Prelude.{IfSome, Option, find, position, not, nat_lt}
 use Rattle.std.specs.List.{prefix_len}
 use Rattle.std.proofs.Common.{◌≡◌, ℕ, zero, suc, ◌<◌, ◌≤◌, ◌+◌, ◌==◌, Bool, true, false, cond, List, [], ◌∷◌, length, get_or, Some, None, refl, ap, sym, ◌∙◌, arith, slice_set, eqb-true, inl, inr}
 use Rattle.std.proofs.lemmas.Bool.{cases_Bool, ltb-false}
 use Rattle.std.proofs.lemmas.List.Quantifiers.{position-Some}
 use Rattle.iox_laws.proofs.WeaveLaws.MapLemmas.{eqb-refl}
 use Rattle.iox_laws.proofs.WeaveLedger.Truths.{none-some}
+use Rattle.std.proofs.lemmas.List.{get_or-map}
+use Rattle.iox_model.specs.declared.kind.Role.TheVariants.{Client}
+use Rattle.iox_wire_weaves.specs.PlanPort.{PlanPort}
+use Rattle.iox_wire_weaves.specs.Plans.{number_at}
+use Rattle.iox_wire_weaves.specs.WirePlan.{WirePlan}
 use Rattle.iox_wire_weaves.specs.Laws.{Replaces}
 use Rattle.iox_model.specs.Maps.{refused_if}
 use Rattle.iox_wire_weaves.specs.declared.refusal.WireRefusal.TheVariants.{NodeIsDead, UnknownNode}
@@ -68,30 +73,46 @@ replaced n xs i d y at read same =
       | inr apart ↦ apart
     ]
 
--- no node has the number
-none_from : (n : ℕ) (xs : List WireNode) → length xs ≤ prefix_len (λ x. not (x.number == n)) xs → node_at n xs ≡ None
-none_from n [] h = refl
-none_from n (x ∷ xs) h = by_case (x.number == n) refl h (none_from n xs)
+-- the same node in its place
+pub unchanged_there : (xs : List WireNode) (i : ℕ) (d y : WireNode) → d ≡ get_or xs i d → y ≡ d → slice_set xs i y ≡ xs
+unchanged_there [] i d y read same = refl
+unchanged_there (x ∷ xs) zero d y read same = ap (λ z. z ∷ xs) (same ∙ read)
+unchanged_there (x ∷ xs) (suc i) d y read same = ap (λ ys. x ∷ ys) (unchanged_there xs i d y read same)
+
+-- no element passes
+none_passes : {A : Type 0} (test : A → Bool) (xs : List A) → length xs ≤ prefix_len (λ x. not (test x)) xs → find test xs ≡ None
+none_passes test [] h = refl
+none_passes test (x ∷ xs) h = by_case (test x) refl h (none_passes test xs)
   where
-    by_case : (t : Bool) → (x.number == n) ≡ t
-        → suc (length xs) ≤ cond (not t) (1 + prefix_len (λ x. not (x.number == n)) xs) 0
-        → (length xs ≤ prefix_len (λ x. not (x.number == n)) xs → node_at n xs ≡ None)
-        → cond t (Some x) (node_at n xs) ≡ None
+    by_case : (t : Bool) → test x ≡ t
+        → suc (length xs) ≤ cond (not t) (1 + prefix_len (λ x. not (test x)) xs) 0
+        → (length xs ≤ prefix_len (λ x. not (test x)) xs → find test xs ≡ None)
+        → cond t (Some x) (find test xs) ≡ None
     by_case true is h rest = absurd (omega (arith, h))
     by_case false is h rest = rest (omega (arith, h))
 
-pub none_there : (n : ℕ) (xs : List WireNode) → position (λ x. x.number == n) xs ≡ None → node_at n xs ≡ None
-none_there n xs e = by_case (nat_lt (prefix_len (λ x. not (x.number == n)) xs) (length xs)) refl e
+pub none_found : {A : Type 0} (test : A → Bool) (xs : List A) → position test xs ≡ None → find test xs ≡ None
+none_found test xs e = by_case (nat_lt (prefix_len (λ x. not (test x)) xs) (length xs)) refl e
   where
-    by_case : (t : Bool) → nat_lt (prefix_len (λ x. not (x.number == n)) xs) (length xs) ≡ t
-        → cond t (Some (prefix_len (λ x. not (x.number == n)) xs)) None ≡ None → node_at n xs ≡ None
-    by_case true is none = absurd (none-some (prefix_len (λ x. not (x.number == n)) xs) (sym none))
-    by_case false is none = none_from n xs (ltb-false _ _ is)
+    by_case : (t : Bool) → nat_lt (prefix_len (λ x. not (test x)) xs) (length xs) ≡ t
+        → cond t (Some (prefix_len (λ x. not (test x)) xs)) None ≡ None → find test xs ≡ None
+    by_case true is none = absurd (none-some (prefix_len (λ x. not (test x)) xs) (sym none))
+    by_case false is none = none_passes test xs (ltb-false _ _ is)
+
+-- the port at the place of a number has it
+no_port : PlanPort
+no_port = record { number = 0; node = 0; role = Client; pool = 0; longest = 0; slot_words = 0 }
+
+pub found_port : (plan : WirePlan) (n : ℕ) (o : Option ℕ) → o ≡ position (λ q. q.number == n) plan.ports.items → IfSome o (λ i. number_at plan i ≡ n)
+found_port plan n None at = tt
+found_port plan n (Some i) at =
+    let facts = position-Some (λ (q : PlanPort). q.number == n) plan.ports.items i no_port (sym at) in
+    get_or-map (λ (q : PlanPort). q.number) plan.ports.items i no_port 0 facts.0 ∙ eqb-true (get_or plan.ports.items i no_port).number n facts.1
 
 -- ---- why a node does not live
 
 pub unknown_there : (n : ℕ) (xs : List WireNode) → position (λ x. x.number == n) xs ≡ None → living_refusal xs n ≡ Some UnknownNode
-unknown_there n xs at = living_by xs n None (none_there n xs at)
+unknown_there n xs at = living_by xs n None (none_found (λ x. x.number == n) xs at)
 
 pub refusal_there : (n : ℕ) (xs ys : List WireNode) (i : ℕ) (d : WireNode) (b : Bool) → xs ≡ ys → position (λ x. x.number == n) ys ≡ Some i → d ≡ get_or xs i d
     → d.alive ≡ b → living_refusal ys n ≡ refused_if (not b) NodeIsDead

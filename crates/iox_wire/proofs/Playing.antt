@@ -2,17 +2,20 @@
 use Rattle.std.specs.Prelude.{Err, IfErr, IfOk, Ok, OnErr, OnOk, Result, option_map}
 use Rattle.std.proofs.Common.{◌≡◌, ℕ, zero, suc, ◌≤◌, arith, length, take, List, [], ◌∷◌, ◌++◌, map, Option, Some, None, refl, ap, sym, subst, ◌∙◌, append-nil, append_assoc}
 use Rattle.std.proofs.lemmas.List.{map-append}
-use Rattle.iox_model.specs.Commands.{Refusal}
+use Rattle.iox_model.specs.Commands.{Refusal, WireCall}
 use Rattle.iox_model.specs.Joins.{not_living}
-use Rattle.iox_model.specs.Schedules.{Entry, IsDeathOf, IsWeaveOf, nothing}
-use Rattle.iox_model.specs.Weaves.{Beat, Dies, World}
+use Rattle.iox_model.specs.Schedules.{Entry, IsBeginOf, IsDeathOf, IsWeaveOf, nothing}
+use Rattle.iox_model.specs.Weaves.{Beat, Begins, Dies, World, begin_refusal}
 use Rattle.iox_steps.specs.declared.access.Progress.{Progress}
 use Rattle.iox_wire_weaves.specs.NodeReply.{NodeReply}
 use Rattle.iox_wire_weaves.specs.declared.refusal.WireRefusal.{WireRefusal}
 use Rattle.iox_wire_weaves.specs.Steps.{DeathIsWoven, StepIsWoven}
 use Rattle.iox_wire_weaves.specs.Wires.{WireData, living_refusal, refusal_in}
 use Rattle.iox_wire.specs.declared.entry.WireEntry.{WireEntry}
-use Rattle.iox_wire.specs.declared.entry.WireEntry.TheVariants.{Die, Step}
+use Rattle.iox_wire.specs.declared.entry.WireEntry.TheVariants.{Die, HasRequests, Step}
+use Rattle.iox_wire_weaves.specs.Asking.{BeginIsWoven, IsBeginRefusal, machine_refusal}
+use Rattle.iox_model.specs.declared.call.Call.TheVariants as calls
+use Rattle.iox_model.specs.declared.call.WireCall.TheVariants.{Port}
 use Rattle.iox_wire.specs.Schedules.{IsPlayed, entry_of}
 
 -- ---- one after another
@@ -99,6 +102,59 @@ death_passed a b n refusal same refused =
       shows,
     )
     ))
+
+-- ---- a begin
+
+pub begin_played : (a b : WireData) (n k : ℕ) → BeginIsWoven a n (Port (calls.HasRequests k)) b → IsPlayed a (HasRequests n k ∷ []) b
+begin_played a b n k woven p r shows =
+    let s = woven p r shows in
+    let asked : WireCall = Port (calls.HasRequests k) in (
+      Begins n asked s.0 ∷ [],
+      s.1,
+      (
+        Begins n asked s.0 ∷ [],
+        [],
+        s.1.last,
+        refl,
+        subst (λ (o : Option Refusal). IsBeginOf o n asked (Begins n asked s.0 ∷ [])) (sym s.2.beat.0) (s.0, refl),
+        (s.1.last, s.2.beat, refl),
+        (refl, refl),
+      ),
+      s.2.first,
+      s.2.beats,
+      s.3,
+    )
+
+pub begin_passed : (a b : WireData) (n k : ℕ) (refusal : WireRefusal) → b ≡ a → IsBeginRefusal a n (Port (calls.HasRequests k)) refusal
+    → machine_refusal refusal ≡ Some (refusal_in refusal) → IsPlayed a (HasRequests n k ∷ []) b
+begin_passed a b n k refusal same refused named =
+    subst (IsPlayed a (HasRequests n k ∷ [])) (sym same)
+    (λ p r shows. (
+    let asked : WireCall = Port (calls.HasRequests k) in
+    let not_begun : begin_refusal r.last n asked ≡ Some (refusal_in refusal) = refused p r shows ∙ named in (
+      [],
+      r,
+      (
+        [],
+        [],
+        r.last,
+        refl,
+        subst (λ (o : Option Refusal). IsBeginOf o n asked []) (sym not_begun) refl,
+        refl,
+        (refl, refl),
+      ),
+      refl,
+      sym (append-nil r.beats),
+      shows,
+    )
+    ))
+
+pub begin_told : (a b : WireData) (n k : ℕ) (told want : Result (Unit {0}) WireRefusal) → OnOk told (BeginIsWoven a n (Port (calls.HasRequests k)) b)
+    → IfErr told (IsBeginRefusal a n (Port (calls.HasRequests k))) → OnErr told (b ≡ a)
+    → OnOk want (IfErr told (λ refusal. machine_refusal refusal ≡ Some (refusal_in refusal))) → OnOk want (IsPlayed a (HasRequests n k ∷ []) b)
+begin_told a b n k (Ok done) (Ok none) woven refused same named = begin_played a b n k woven
+begin_told a b n k (Err refusal) (Ok none) woven refused same named = begin_passed a b n k refusal same refused named
+begin_told a b n k told (Err want) woven refused same named = tt
 
 -- ---- what the calls tell
 

@@ -1,5 +1,5 @@
 -- What a wire keeps to, and what a node's access does.
-use Rattle.std.specs.Prelude.{◌≡◌, ◌==◌, ℕ, false, List, [], ◌∷◌, Option, Some, length, true}
+use Rattle.std.specs.Prelude.{◌≤◌, ◌≡◌, ◌==◌, ℕ, false, List, [], ◌∷◌, Option, Some, length, true}
 use Rattle.iox_steps.specs.declared.access.Access.{Access}
 use Rattle.iox_steps.specs.Accesses.{IsWithin, seen_at, words_after}
 use Rattle.iox_wire_weaves.specs.Programs.{program_access}
@@ -12,6 +12,20 @@ use Rattle.iox_wire_weaves.specs.Nodes.{Node, seat_in}
 use Rattle.iox_wire_openings.specs.OpenedNodes.{planned_seat}
 use Rattle.iox_wire_weaves.specs.Runs.{Run}
 use Rattle.iox_wire_weaves.specs.WirePlan.{WirePlan}
+use Rattle.iox_wire_weaves.specs.WirePlans.{IsWirePlan}
+use Rattle.iox_wire_weaves.specs.WireTerms.{WireTerms}
+use Rattle.iox_wire_weaves.specs.Terms.{IsSettingWith}
+use Rattle.iox_wire_weaves.specs.NodePayload.{NodePayload}
+use Rattle.iox_wire_weaves.specs.NodesBegins.{IsBegun}
+use Rattle.iox_wire_weaves.specs.Calls.{machine_call}
+use Rattle.iox_wire_weaves.specs.Begins.{refusal_at}
+use Rattle.iox_wire_weaves.specs.BeginError.{BeginError}
+use Rattle.iox_wire_weaves.specs.HandleCalls.{refusal_in}
+use Rattle.iox_wire_weaves.specs.Counts.{IsTidy}
+use Rattle.iox_wire_weaves.specs.Seat.{Seat}
+use Rattle.iox_wire_weaves.specs.Steps.{most_accesses}
+use Rattle.iox_model.specs.declared.call.Call as the_call
+use Rattle.iox_model.specs.declared.call.WireCall.TheVariants.{Port}
 use Rattle.iox_wire_weaves.specs.declared.refusal.WireRefusal.TheVariants.{NodeIsDead}
 use Rattle.iox_wire_weaves.specs.Laws.{WentOn}
 use Rattle.iox_wire_weaves.specs.Wires.{Shows, WireData, WireNode, living_refusal, node_at}
@@ -22,9 +36,22 @@ use Rattle.iox_wire_weaves.specs.Wires.{Shows, WireData, WireNode, living_refusa
 abbrev pub AreSeated : List WireNode → Type 0
 AreSeated nodes = (n : ℕ) (x : WireNode) → node_at n nodes ≡ Some x → x.node.at ≡ Seats
 
--- A wire shows a run of the machine, and plays the calls that its nodes' seats keep.
-abbrev pub IsShown : WireData → Type 0
-IsShown wire = ((p : Setting) × (r : Run) × Shows p wire r) × AreSeated wire.nodes
+-- The node made no more accesses than it may, and has one desk for a port and one count for a way.
+pub record IsKept (x : Seat) : Type 0 where
+  pub few : x.accesses ≤ most_accesses
+  pub tidy : IsTidy x
+
+-- so it is with each node
+abbrev pub AreKept : List WireNode → Type 0
+AreKept nodes = (n : ℕ) (x : WireNode) → node_at n nodes ≡ Some x → IsKept (seat_in x.node)
+
+-- A wire shows a run of the machine, calls may begin with its plan and its terms, and it plays the
+-- calls that its nodes' seats keep.
+pub record IsShown (wire : WireData) : Type 0 where
+  pub shows : (p : Setting) × (r : Run) × Shows p wire r
+  pub whole : IsWirePlan wire.plan wire.terms
+  pub seated : AreSeated wire.nodes
+  pub kept : AreKept wire.nodes
 
 -- The wire lost the node: it is dead, and all else stays.
 pub record Loses (old : WireData) (n : ℕ) (new : WireData) : Type 0 where
@@ -54,6 +81,25 @@ AreOpened plan handles ns xs = ⊥
 abbrev pub HaveRoomFor : ℕ → List WireNode → Type 0
 HaveRoomFor handles nodes =
     (n : ℕ) (x : WireNode) → node_at n nodes ≡ Some x → x.node.seat.room ≡ handles
+
+-- ---- a begin
+
+-- The node began the call: it is at its first place, and knows the places of the words that it
+-- accesses.
+pub record HasBegun (plan : WirePlan) (terms : WireTerms) (old : WireNode)
+    (call : the_call.Call NodePayload) (new : WireNode) : Type 0 where
+  pub begun : (p : Setting) → IsSettingWith plan terms p
+      → IsBegun p old.node (machine_call p (Port call)) new.node
+  pub number : new.number ≡ old.number
+  pub alive : new.alive ≡ old.alive
+  pub seated : new.node.at ≡ Seats
+
+-- its own tables tell this why it does not
+abbrev pub IsRefusedBy : WirePlan → WireTerms → WireNode → the_call.Call NodePayload → BeginError
+    → Type 0
+IsRefusedBy plan terms old call error =
+    (p : Setting) → IsSettingWith plan terms p
+    → refusal_at p (seat_in old.node) (machine_call p (Port call)) ≡ refusal_in error
 
 -- ---- an access
 

@@ -2,7 +2,9 @@
 //! does is a run of the machine that copies messages.
 #![tactic(auto)]
 
+mod begin;
 mod entry;
+mod finding;
 mod member;
 mod opening;
 mod schedule;
@@ -10,5 +12,6 @@ pub mod uses;
 mod wire;
 
 pub use entry::WireEntry;
-pub use iox_wire_weaves::WireRefusal;
+pub use iox_steps::Progress;
+pub use iox_wire_weaves::{NodeReply, SeatReply, WireRefusal, WireTerms};
 pub use wire::{Answer, Wire};

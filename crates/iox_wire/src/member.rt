@@ -2,8 +2,11 @@
 ghost use Rattle.std.specs.Prelude.{◌≡◌, ◌+◌, ◌<◌, ◌^◌, false, nat_le, true};
 ghost use Rattle.std.specs.Option.{option_map_or};
 
+use crate::finding::find_port;
 use iox_steps::{Access, perform};
-use iox_wire_weaves::{NodeReply, StoredNode, WireRefusal};
+use iox_wire_weaves::{
+    Asked, BeginError, Lists, NodeReply, StoredNode, WireRefusal, WireTerms, WordMap,
+};
 use std::marker::Model;
 
 /// How many accesses a node may make.
@@ -14,40 +17,40 @@ const MOST_ACCESSES: u64 = 1 << 56;
 pub(crate) struct Member {
     number: u64,
     alive: bool,
-    accesses: u64,
     node: StoredNode,
 }
 
 impl Model for Member {
-    ghost use Rattle.std.specs.Prelude.{◌≡◌};
     ghost use Rattle.iox_wire_weaves.specs.Wires.{WireNode};
 
     ghost Value = { WireNode };
 
     ghost view = { λ m. record { number = m.number; alive = m.alive; node = m.node } };
-
-    ghost invariant = { λ m. m.accesses ≡ m.node.seat.seat.accesses };
 }
 
 impl Member {
     ghost use Rattle.std.specs.Prelude.{◌≡◌, ◌<◌, false, nat_le, true};
+    ghost use Rattle.std.specs.Prelude.{IfErr, IfSome, OnErr, OnOk};
+    ghost use Rattle.iox_model.specs.declared.call.Call.TheVariants.{HasRequests};
+    ghost use Rattle.iox_model.specs.declared.call.WireCall.TheVariants.{Port};
+    ghost use Rattle.iox_model.specs.Names.{is_port};
     ghost use Rattle.iox_wire_weaves.specs.Begins.{is_busy};
     ghost use Rattle.iox_wire_weaves.specs.Tables.{Setting};
     ghost use Rattle.iox_wire_weaves.specs.CallAt.TheVariants.{Seats};
     ghost use Rattle.iox_wire_weaves.specs.Aims.{IsAimed};
     ghost use Rattle.iox_wire_weaves.specs.Nodes.{seat_in};
     ghost use Rattle.iox_wire_weaves.specs.Steps.{most_accesses, rest_refusal};
-    ghost use Rattle.iox_wire.specs.Kept.{HasAccessed, MayAccess};
+    ghost use Rattle.iox_wire_weaves.specs.Tables.{entry_at};
+    ghost use Rattle.iox_wire_weaves.specs.WirePlans.{IsWirePlan};
+    ghost use Rattle.iox_wire.specs.Kept.{HasAccessed, HasBegun, IsRefusedBy, MayAccess};
 
-    /// A living node that made no access.
+    /// A living node.
     pub(crate) fn new(number: u64, node: StoredNode) -> Member
-        requires { node.seat.seat.accesses ≡ 0 }
         ensures { result ≡ record { number = number; alive = true; node = node } }
     {
         Member {
             number,
             alive: true,
-            accesses: 0,
             node,
         }
     }
@@ -90,7 +93,7 @@ impl Member {
         if !self.node.is_busy() {
             return Some(WireRefusal::AtRest);
         }
-        if self.accesses >= MOST_ACCESSES {
+        if self.node.accesses() >= MOST_ACCESSES {
             return Some(WireRefusal::AccessesSpent);
         }
         None
@@ -111,7 +114,42 @@ impl Member {
     {
         let access: Access = self.node.asks();
         let seen = perform(words, access);
-        self.accesses += 1;
         self.node.go_on(seen)
+    }
+
+    /// Begins to look whether a request waits for the port of that number. What it lists is of no
+    /// use later.
+    pub(crate) fn begin_has_requests(
+        &mut self,
+        map: &WordMap,
+        terms: &WireTerms,
+        number: u64,
+        lists: &mut Lists,
+    ) -> Result<(), BeginError>
+        requires plan { IsWirePlan map.now terms.now }
+        requires node { self.old.node.seat.seat.node ≡ self.old.number }
+        requires handles { is_busy (seat_in self.old.node).local ≡ false
+            → IfSome (entry_at number self.old.node.seat.seat.table) (λ e. is_port e.kind ≡ false) }
+        ensures begun { OnOk result
+            (HasBegun map.now terms.now self.old (HasRequests number) self.new) }
+        ensures refused { IfErr result
+            (IsRefusedBy map.now terms.now self.old (HasRequests number)) }
+        ensures unchanged { OnErr result (self.new ≡ self.old) }
+    {
+        if self.node.is_busy() {
+            return Err(BeginError::Busy);
+        }
+        let Some(port) = find_port(map, number) else {
+            return Err(self.node.refuse_on_handle(map, Asked::HasRequests, number));
+        };
+        self.node.begin_has_requests(
+            map,
+            self.number,
+            number,
+            port,
+            terms.fire_and_forget,
+            &mut lists.sources,
+            &mut lists.stops,
+        )
     }
 }

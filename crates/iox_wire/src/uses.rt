@@ -1,5 +1,10 @@
 //! Callers of a wire, proved from its clauses alone.
-ghost use Rattle.std.specs.Prelude.{◌≡◌, IfErr, IfOk, IsTrue, None, Some};
+ghost use Rattle.std.specs.Prelude.{◌≡◌, ◌∷◌, [], IfErr, IfOk, IsTrue, None, OnErr, OnOk, Some};
+ghost use Rattle.iox_model.specs.declared.call.Call.TheVariants as calls;
+ghost use Rattle.iox_model.specs.declared.call.WireCall.TheVariants.{Port};
+ghost use Rattle.iox_wire_weaves.specs.Asking.{IsBeginRefusal};
+ghost use Rattle.iox_wire.specs.Schedules.{IsPlayed};
+ghost use Rattle.iox_wire.specs.declared.entry.WireEntry.TheVariants.{HasRequests, Step};
 ghost use Rattle.std.specs.Bool.{OnTrue};
 ghost use Rattle.iox_model.specs.States.{State};
 ghost use Rattle.iox_wire_weaves.specs.WordMapNewError.TheVariants.{WantOfMemory};
@@ -8,23 +13,30 @@ ghost use Rattle.iox_wire_weaves.specs.Refusals.{map_refusal};
 ghost use Rattle.iox_wire_weaves.specs.Tables.{Setting};
 ghost use Rattle.iox_wire_weaves.specs.declared.refusal.WireRefusal.TheVariants as refusals;
 ghost use Rattle.iox_wire_weaves.specs.Steps.{DeathIsWoven, StepIsWoven, step_refusal};
-ghost use Rattle.iox_wire_weaves.specs.Wires.{OpensOn, ShowsOpened, living_refusal};
+ghost use Rattle.iox_wire_weaves.specs.Wires.{AreWhole, OpensOn, ShowsOpened, living_refusal};
 
+use crate::entry::WireEntry;
 use crate::wire::Wire;
 use iox_steps::Progress;
-use iox_wire_weaves::{NodeReply, WirePlan, WireRefusal, WordMapNewError};
+use iox_wire_weaves::{NodeReply, WirePlan, WireRefusal, WireTerms, WordMapNewError};
 use std::alloc::Global;
 
 /// A wire for these nodes whose plan is not too large wants nothing but memory.
-pub fn wire_that_fits(alloc: Global, plan: WirePlan, nodes: &[u64]) -> Result<Wire, WordMapNewError>
+pub fn wire_that_fits(
+    alloc: Global,
+    plan: WirePlan,
+    terms: WireTerms,
+    nodes: &[u64],
+) -> Result<Wire, WordMapNewError>
     requires plan { IsPlan plan }
+    requires whole { AreWhole plan terms }
     requires fits { map_refusal plan ≡ None }
-    requires opens { (p : Setting) × (s : State) × OpensOn plan nodes.now p s }
-    ensures opened { (p : Setting) → (s : State) → OpensOn plan nodes.now p s
+    requires opens { (p : Setting) × (s : State) × OpensOn plan terms nodes.now p s }
+    ensures opened { (p : Setting) → (s : State) → OpensOn plan terms nodes.now p s
         → IfOk result (ShowsOpened p s) }
     ensures refused { IfErr result (λ error. error ≡ WantOfMemory) }
 {
-    Wire::new(alloc, plan, nodes, 0)
+    Wire::new(alloc, plan, terms, nodes, 0)
 }
 
 /// A living node dies: no refusal is left, and what the wire showed goes on by that.
@@ -52,4 +64,26 @@ pub fn node_steps(wire: &mut Wire, node: u64) -> Result<Progress<NodeReply>, Wir
     ensures refused { IfErr result (λ error. error ≡ refusals.WantOfMemory) }
 {
     wire.step(node)
+}
+
+/// A node begins to look for requests, and makes three steps: a run of the machine goes on so.
+pub fn node_looks(wire: &mut Wire, node: u64, number: u64) -> Result<(), WireRefusal>
+    ensures woven { OnOk result (IsPlayed wire.old
+        (HasRequests node number ∷ Step node ∷ Step node ∷ Step node ∷ []) wire.new) }
+    ensures refused { IfErr result (λ error. error ≡ refusals.WantOfMemory) }
+{
+    wire.run(&[
+        WireEntry::HasRequests(node, number),
+        WireEntry::Step(node),
+        WireEntry::Step(node),
+        WireEntry::Step(node),
+    ])
+}
+
+/// What a refused begin leaves.
+pub fn refused_begin(wire: &mut Wire, node: u64, number: u64) -> Result<(), WireRefusal>
+    ensures unchanged { OnErr result (wire.new ≡ wire.old) }
+    ensures named { IfErr result (IsBeginRefusal wire.old node (Port (calls.HasRequests number))) }
+{
+    wire.begin_has_requests(node, number)
 }

@@ -6,9 +6,14 @@ ghost use Rattle.iox_wire_weaves.specs.Laws.{progress_of};
 use crate::member::Member;
 use crate::opening::open_members;
 use iox_steps::{Progress, tell};
-use iox_wire_weaves::{NodeReply, WirePlan, WireRefusal, WordMap, WordMapNewError};
+use iox_wire_weaves::{
+    Lists, NodeReply, WirePlan, WireRefusal, WireTerms, WordMap, WordMapNewError,
+};
 use std::alloc::{AllocError, Global};
 use std::marker::Model;
+
+/// As many words are more than any memory has.
+const MOST_WORDS: usize = 1 << 63;
 
 /// What a finished call of a node answered. The words of a read are those that its node lends.
 #[derive(Clone, Copy)]
@@ -21,10 +26,13 @@ pub struct Answer {
 /// anywhere in its call.
 #[derive(Drop)]
 pub struct Wire {
-    places: WordMap,
+    pub(crate) places: WordMap,
+    pub(crate) terms: WireTerms,
     words: Vec<u64>,
-    members: Vec<Member>,
+    pub(crate) members: Vec<Member>,
     answers: Vec<Answer>,
+    // what a begin lists; of no use later
+    pub(crate) lists: Lists,
 }
 
 impl Model for Wire {
@@ -37,6 +45,7 @@ impl Model for Wire {
 
     ghost view = { λ w. record {
       plan = w.places;
+      terms = w.terms;
       words = w.words.items;
       nodes = w.members.items;
       replies = map (λ a. (a.node, reply_in [] a.reply)) w.answers.items;
@@ -44,6 +53,7 @@ impl Model for Wire {
 
     ghost invariant = { λ w. IsShown (record {
       plan = w.places;
+      terms = w.terms;
       words = w.words.items;
       nodes = w.members.items;
       replies = map (λ a. (a.node, reply_in [] a.reply)) w.answers.items;
@@ -62,33 +72,42 @@ impl Wire {
     ghost use Rattle.iox_wire_weaves.specs.declared.refusal.WireRefusal.TheVariants.{WantOfMemory};
     ghost use Rattle.iox_wire_weaves.specs.Steps.{DeathIsWoven, MakesItsAccess, StepIsWoven};
     ghost use Rattle.iox_wire_weaves.specs.Steps.{step_refusal};
-    ghost use Rattle.iox_wire_weaves.specs.Wires.{OpensOn, ShowsOpened, living_refusal};
+    ghost use Rattle.iox_wire_weaves.specs.Wires.{AreWhole, OpensOn, ShowsOpened, living_refusal};
     ghost use Rattle.iox_wire.specs.Kept.{HaveRoomFor, Loses};
 
     /// A wire of that plan, with these nodes alive, on which nothing happened yet. Each node has
-    /// room for so many handles. The plan is to be that of a service on which a wire may open.
+    /// room for so many handles. The plan and the terms are to be those of a service on which a
+    /// wire may open.
     pub fn new(
         alloc: Global,
         plan: WirePlan,
+        terms: WireTerms,
         nodes: &[u64],
         handles: usize,
     ) -> Result<Wire, WordMapNewError>
         requires plan { IsPlan plan }
-        requires opens { (p : Setting) × (s : State) × OpensOn plan nodes.now p s }
-        ensures opened { (p : Setting) → (s : State) → OpensOn plan nodes.now p s
+        requires whole { AreWhole plan terms }
+        requires opens { (p : Setting) × (s : State) × OpensOn plan terms nodes.now p s }
+        ensures opened { (p : Setting) → (s : State) → OpensOn plan terms nodes.now p s
             → IfOk result (ShowsOpened p s) }
         ensures room { IfOk result (λ wire. HaveRoomFor handles wire.nodes) }
         ensures allowed { OnOk result (map_refusal plan ≡ None) }
         ensures refused { IfErr result (IsRefusal new_error.WantOfMemory (map_refusal plan)) }
     {
         let places = WordMap::new(alloc, plan)?;
-        let words = zeros(alloc, places.total())?;
+        let total = places.total();
+        if total >= MOST_WORDS {
+            return Err(WordMapNewError::WantOfMemory);
+        }
+        let words = zeros(alloc, total)?;
         let members = open_members(alloc, places.plan(), nodes, handles)?;
         Ok(Wire {
             places,
+            terms,
             words,
             members,
             answers: Vec::new(alloc),
+            lists: Lists::new(alloc),
         })
     }
 
@@ -117,7 +136,7 @@ impl Wire {
     }
 
     /// Where the living node of that number stands.
-    fn living(&self, node: u64) -> Result<usize, WireRefusal>
+    pub(crate) fn living(&self, node: u64) -> Result<usize, WireRefusal>
         ensures first { IfOk result (λ place.
             position (λ x. x.number == node) self.now.nodes ≡ Some place) }
         ensures within { IfOk result (λ place. place < length self.now.nodes) }

@@ -2,7 +2,7 @@
 use Rattle.std.specs.Prelude.{◌||◌}
 use Rattle.std.specs.List.{range_with_len}
 use Rattle.std.specs.Option.{option_map_or}
-use Rattle.std.proofs.Common.{◌≡◌, ℕ, ◌+◌, Bool, true, false, if◌then◌else◌, ◌==◌, List, [], ◌∷◌, Option, Some, None, refl, ap, sym, subst, ◌∙◌, arith, inl, inr, true≢false, eqb-true, eq-eqb}
+use Rattle.std.proofs.Common.{nat_lt, ◌≡◌, ℕ, ◌+◌, Bool, true, false, if◌then◌else◌, ◌==◌, List, [], ◌∷◌, Option, Some, None, refl, ap, sym, subst, ◌∙◌, arith, inl, inr, true≢false, eqb-true, eq-eqb}
 use Rattle.iox_model.specs.Commands.{Reply}
 use Rattle.iox_model.specs.Joins.{not_living}
 use Rattle.iox_model.specs.Maps.{AreDistinct, has_number, put_at}
@@ -29,6 +29,8 @@ use Rattle.iox_wire_steps.proofs.Deaths.{lived}
 use Rattle.iox_wire_steps.specs.WholeSteps.{reply_beats, step_beats}
 use Rattle.iox_wire_calls.specs.CallsStand.{CallStands, CallsStand, CallsStandAtFirst, DeathsLeaveCalls}
 use Rattle.iox_wire_calls.specs.Lanes.{AllLanesAreCounted}
+use Rattle.iox_model.specs.Settings.{is_client}
+use Rattle.iox_wire_calls.proofs.LaneCounts.{none_below}
 use Rattle.iox_wire_calls.proofs.LoansElsewhere.{LentInPool, lent_in_pool, loans_agree}
 use Rattle.iox_wire_steps.specs.MomentsOf.{Pools}
 use Rattle.iox_laws.proofs.WeaveLaws.MapLemmas.{eqb-refl}
@@ -50,16 +52,20 @@ distinct_often k (x ∷ xs) apart = by_number (x == k) refl (distinct_often k xs
         zero_on n = omega arith
 
 lanes_first : (p : Setting) (n : ℕ) → AllLanesAreCounted p (opened_seat p n)
-lanes_first p n port mine client lane =
+lanes_first p n port mine lane =
     none_on (how_often lane (free_lanes (opened_seat p n) port))
     ∙ ap (λ o. how_often lane (option_map_or (λ (d : Desk). d.free_lanes) o [])) (desk_there p (ports_on p n) port)
     ∙ ap (λ b. how_often lane (option_map_or (λ (d : Desk). d.free_lanes) (if b then Some (opened_desk p port) else None) [])) here
-    ∙ ap (λ b. how_often lane (if b then range_with_len 0 (p.port port).pool else [])) client
-    ∙ distinct_often lane (range_with_len 0 (p.port port).pool) (range_distinct (p.port port).pool)
-    ∙ ap (λ b. if b then 1 else 0) (range_number lane (p.port port).pool)
+    ∙ by_role (is_client (p.port port).role)
   where
     none_on : (k : ℕ) → k + 0 ≡ k
     none_on k = omega arith
+
+    by_role : (b : Bool) → how_often lane (if b then range_with_len 0 (p.port port).pool else []) ≡ (if nat_lt lane (if b then (p.port port).pool else 0) then 1 else 0)
+    by_role true =
+        distinct_often lane (range_with_len 0 (p.port port).pool) (range_distinct (p.port port).pool)
+        ∙ ap (λ b. if b then 1 else 0) (range_number lane (p.port port).pool)
+    by_role false = ap (λ b. if b then 1 else 0) (sym (none_below lane))
 
     here : has_number port (ports_on p n) ≡ true
     here =

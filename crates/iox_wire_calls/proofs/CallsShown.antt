@@ -47,11 +47,11 @@ module _ (p : Setting) (z : Seat) (e : Entry) (has : HasEntry z e) (held : Pools
       → CallStands p held (placed (with_aside p z e) local)
   aside_stands local nothing place loans = record {
     fits = record { handles = suited; place = place };
-    lanes = λ port mine client lane.
+    lanes = λ port mine lane.
         ap (λ es. how_often lane (free_lanes z port) + how_often lane (lanes_in port (es ++ with_entry (aside p z.node e) z.table))) nothing
         ∙ ap (λ k. how_often lane (free_lanes z port) + k) (put port lane (aside p z.node e) e refl (same_lane port lane) z.table has)
         ∙ ap (λ es. how_often lane (free_lanes z port) + how_often lane (lanes_in port (es ++ z.table))) (sym none)
-        ∙ stands.lanes port mine client lane;
+        ∙ stands.lanes port mine lane;
     loans = loans;
   }
 

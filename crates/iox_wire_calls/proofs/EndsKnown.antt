@@ -31,6 +31,7 @@ use Rattle.iox_wire_calls.specs.Places.{CallFits, PlaceFits, SuitsPort}
 use Rattle.iox_wire_calls.proofs.EndsTold.{at_end, received, states, written}
 use Rattle.iox_wire_calls.proofs.HandleKinds.{loans_are_filled}
 use Rattle.iox_wire_calls.proofs.LaneEnds.{ended_message}
+use Rattle.iox_wire_calls.proofs.LaneCounts.{of_clients}
 use Rattle.iox_wire_calls.proofs.LaneLists.{both, often, one}
 use Rattle.iox_wire_calls.proofs.LanesTell.{in_table, lane_of_client, lanes_are_the_pools, low, one_is, request_has, there_is}
 
@@ -163,7 +164,7 @@ module _ (p : Setting) (x : Seat) (n : ℕ) (q : Port) (numbered : AreNumbered p
   each_lane lane =
       subst (λ es. how_often lane (free_lanes x q.number) + how_often lane (lanes_in q.number (es ++ x.table)) ≡ (if nat_lt lane q.pool then 1 else 0)) none
       (subst (λ (r : Port). how_often lane (free_lanes x q.number) + how_often lane (lanes_used x q.number) ≡ (if nat_lt lane r.pool then 1 else 0)) set
-      (all q.number home client_there lane))
+      (of_clients p x all q.number home client_there lane))
 
   fit : LanesFit p x q
   fit = record {

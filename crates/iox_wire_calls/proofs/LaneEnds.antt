@@ -35,7 +35,7 @@ use Rattle.iox_wire_steps.proofs.Counting.{often_both}
 use Rattle.iox_wire_steps.specs.Following.{message_at, message_ended}
 use Rattle.iox_wire_steps.specs.Over.{CallIsOver}
 use Rattle.iox_wire_calls.specs.LaneLaws.{EndsKeepLanes}
-use Rattle.iox_wire_calls.specs.Lanes.{AllLanesAreCounted, has_own_lane, lanes_in, lent_in}
+use Rattle.iox_wire_calls.specs.Lanes.{lane_count, AllLanesAreCounted, has_own_lane, lanes_in, lent_in}
 use Rattle.iox_wire_calls.specs.Places.{CallFits, IsLoan, PlaceFits}
 use Rattle.iox_wire_calls.proofs.LaneDesks.{all_changed, lanes_are, one_changed}
 use Rattle.iox_wire_calls.proofs.EndsTold.{at_end}
@@ -122,20 +122,20 @@ module _ (p : Setting) (held : Pools) (s : State) (x : Seat) (ending : Ending) (
   pub ended_message : (local : Local) → ending_at local ≡ Some ending → message_at local ≡ message_ended ending
   ended_message local is = message_of_end ending local is
 
-  before : (port lane : ℕ) → IsPortOfSeat p x port → is_client (p.port port).role ≡ true
-      → how_often lane (free_lanes x port) + (often port lane (lent_in (message_ended ending)) + often port lane x.table) ≡ (if nat_lt lane (p.port port).pool then 1 else 0)
-  before port lane mine client =
+  before : (port lane : ℕ) → IsPortOfSeat p x port
+      → how_often lane (free_lanes x port) + (often port lane (lent_in (message_ended ending)) + often port lane x.table) ≡ (if nat_lt lane (lane_count p port) then 1 else 0)
+  before port lane mine =
       ap (λ k. how_often lane (free_lanes x port) + k) (sym (both port lane (lent_in (message_ended ending)) x.table))
       ∙ ap (λ m. how_often lane (free_lanes x port) + how_often lane (lanes_in port (lent_in m ++ x.table))) (sym (ended_message x.local over_now.at_end))
-      ∙ all port mine client lane
+      ∙ all port mine lane
 
   -- as many lanes are free or in use then
   counted : (z : Seat) → z.node ≡ x.node
       → ((port lane : ℕ) → IsPortOfSeat p x port → how_often lane (free_lanes z port) + often port lane z.table
       ≡ how_often lane (free_lanes x port) + (often port lane (lent_in (message_ended ending)) + often port lane x.table))
       → AllLanesAreCounted p (placed z Idle)
-  counted z node same port mine client lane =
-      let home : IsPortOfSeat p x port = (mine.0, mine.1 ∙ node) in same port lane home ∙ before port lane home client
+  counted z node same port mine lane =
+      let home : IsPortOfSeat p x port = (mine.0, mine.1 ∙ node) in same port lane home ∙ before port lane home
 
 -- ---- each end
 

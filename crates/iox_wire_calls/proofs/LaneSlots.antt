@@ -27,6 +27,7 @@ use Rattle.iox_wire_steps.specs.Following.{message_at}
 use Rattle.iox_wire_steps.specs.Nodes.{NodeStands}
 use Rattle.iox_wire_steps.proofs.OwnSlotsApart.{slots_differ}
 use Rattle.iox_wire_calls.specs.LaneLaws.{FreeSlotsHaveLanes}
+use Rattle.iox_wire_calls.proofs.LaneCounts.{of_clients}
 use Rattle.iox_wire_calls.specs.Lanes.{AllLanesAreCounted, has_own_lane, lanes_in, lent_in}
 
 -- ---- ranges
@@ -149,7 +150,7 @@ module _ (p : Setting) (held : Pools) (word : ℕ → ℕ) (c : WireContents) (s
       (is_used lane (lanes_in port x.table)
       (some (how_often lane (lanes_in port x.table)) (how_often lane (free_lanes x port)) (nat_lt lane pool) (ap (how_often lane) empty) low
       (subst (λ es. how_often lane (free_lanes x port) + how_often lane (lanes_in port (es ++ x.table)) ≡ (if nat_lt lane pool then 1 else 0)) none
-      (all port mine client lane))))
+      (of_clients p (seats n) all port mine client lane))))
     where
       below : lane < 0 + (p.port port).pool
       below = range-below 0 (p.port port).pool lane among

@@ -1,7 +1,8 @@
 -- Lanes stay counted over each access, and as a call begins: by the message that the call has then.
 use Rattle.std.specs.Prelude.{find, map, ◌&&◌, ◌++◌, nat_lt}
 use Rattle.std.specs.Option.{option_map_or}
-use Rattle.std.proofs.Common.{◌≡◌, ℕ, ◌+◌, Bool, true, false, if◌then◌else◌, ◌==◌, List, [], ◌∷◌, refl, ap, sym, subst, ◌∙◌, arith, true≢false, eq-eqb, eqb-true}
+use Rattle.std.proofs.Common.{◌≡◌, ℕ, ◌+◌, Bool, true, false, if◌then◌else◌, ◌==◌, List, [], ◌∷◌, refl, ap, sym, subst, ◌∙◌, arith, true≢false, eq-eqb, eqb-true, inl, inr}
+use Rattle.std.proofs.lemmas.Bool.{cases_Bool}
 use Rattle.iox_model.specs.declared.kind.Kind.{Kind}
 use Rattle.iox_model.specs.declared.kind.Role.{Role}
 use Rattle.iox_model.specs.declared.kind.Role.TheVariants.{Client, Server}
@@ -40,9 +41,10 @@ use Rattle.iox_wire_steps.proofs.Counting.{one_out}
 use Rattle.iox_wire_steps.specs.Following.{CallMessage, DeskChange, Delivered, Follows, GotBack, IsLending, IsOfEntry, IsReturning, Leaving, MayLetGo, OfEntry, Taken, TakesOn, Unchanged, changed, desk_change, drops, keeps, lets_go, message_at, picks_slot, puts_aside, sends_loan, takes}
 use Rattle.iox_wire_steps.proofs.Follows.{accesses_follow}
 use Rattle.iox_wire_calls.specs.LaneLaws.{AccessesKeepLanes, HasLanesForSlots}
-use Rattle.iox_wire_calls.specs.Lanes.{AllLanesAreCounted, has_own_lane, lanes_in, lanes_used, lent_in}
+use Rattle.iox_wire_calls.specs.Lanes.{lane_count, AllLanesAreCounted, has_own_lane, lanes_in, lanes_used, lent_in}
 use Rattle.iox_wire_calls.specs.Places.{CallFits, IsPop, PlaceFits, TakesFirst}
 use Rattle.iox_wire_calls.proofs.LaneDesks.{lanes_are, one_changed}
+use Rattle.iox_wire_calls.proofs.LaneCounts.{servers_have_no_lane}
 use Rattle.iox_wire_calls.proofs.LaneLists.{front, often, one}
 use Rattle.iox_wire_calls.proofs.Parts.{pops_on}
 use Rattle.iox_wire_calls.proofs.PlaceCourses.{desks_stay, lanes_told}
@@ -81,11 +83,11 @@ change_leaves x (Delivered q w slot) port = desks_stay lanes_told [] x q port (d
 -- the same lanes are free, and in use
 pub same_lanes : (p : Setting) (x y : Seat) → KeepsOwn x y → ((port : ℕ) → free_lanes y port ≡ free_lanes x port)
     → lent_in (message_at y.local) ≡ lent_in (message_at x.local) → AllLanesAreCounted p x → AllLanesAreCounted p y
-same_lanes p x y own free lent all port mine client lane =
+same_lanes p x y own free lent all port mine lane =
     ap (λ ls. how_often lane ls + how_often lane (lanes_used y port)) (free port)
     ∙ ap (λ es. how_often lane (free_lanes x port) + how_often lane (lanes_in port (es ++ y.table))) lent
     ∙ ap (λ es. how_often lane (free_lanes x port) + how_often lane (lanes_in port (lent_in (message_at x.local) ++ es))) own.table
-    ∙ all port (mine.0, mine.1 ∙ own.node) client lane
+    ∙ all port (mine.0, mine.1 ∙ own.node) lane
 
 -- ---- a loan takes the first free lane
 
@@ -125,22 +127,26 @@ client_lends : (kind : Kind) (role : Role) → kind ≡ kind_of_loan role false 
 client_lends kind Client is client = ap has_own_lane is
 client_lends kind Server is client = absurd (true≢false (sym client))
 
+-- of a server's
+server_lends : (kind : Kind) (role : Role) → kind ≡ kind_of_loan role false → is_client role ≡ false → has_own_lane kind ≡ false
+server_lends kind Client is server = absurd (true≢false server)
+server_lends kind Server is server = ap has_own_lane is
+
 module _ (p : Setting) (x y : Seat) (o : NewLoan) (slot : ℕ) (free : List ℕ) (own : KeepsOwn x y) (uses : AllUsesAreCounted p x)
     (lanes : HasLanesForSlots p x) (none : lent_in (message_at x.local) ≡ []) (there : free_slots x o.port ≡ slot ∷ free)
     (desks : y.desks ≡ (at_desk x o.port (picks o slot free)).desks) (place : y.local ≡ LendStores o slot 0)
     (kind : o.kind ≡ kind_of_loan (p.port o.port).role false) (first : TakesFirst p x o) (all : AllLanesAreCounted p x) where
   abbrev Counted : ℕ → ℕ → Type 0
-  Counted port lane = how_often lane (free_lanes y port) + how_often lane (lanes_used y port) ≡ (if nat_lt lane (p.port port).pool then 1 else 0)
+  Counted port lane = how_often lane (free_lanes y port) + how_often lane (lanes_used y port) ≡ (if nat_lt lane (lane_count p port) then 1 else 0)
 
   module _ (port : ℕ) (mine : IsPortOfSeat p x port) (lane : ℕ) where
     freed : free_lanes y port ≡ (if port == o.port then (picks o slot free (uses port mine).desk).free_lanes else (uses port mine).desk.free_lanes)
     freed = one_changed x port (uses port mine).desk (uses port mine).there y o.port (picks o slot free) (λ k. refl) desks
 
-    before : is_client (p.port port).role ≡ true
-        → how_often lane (free_lanes x port) + often port lane x.table ≡ (if nat_lt lane (p.port port).pool then 1 else 0)
-    before client =
-        subst (λ es. how_often lane (free_lanes x port) + how_often lane (lanes_in port (es ++ x.table)) ≡ (if nat_lt lane (p.port port).pool then 1 else 0)) none
-        (all port mine client lane)
+    before : how_often lane (free_lanes x port) + often port lane x.table ≡ (if nat_lt lane (lane_count p port) then 1 else 0)
+    before =
+        subst (λ es. how_often lane (free_lanes x port) + how_often lane (lanes_in port (es ++ x.table)) ≡ (if nat_lt lane (lane_count p port) then 1 else 0)) none
+        (all port mine lane)
 
     now_used : how_often lane (lanes_used y port) ≡ one port lane (entry_in o slot) + often port lane x.table
     now_used =
@@ -152,18 +158,34 @@ module _ (p : Setting) (x y : Seat) (o : NewLoan) (slot : ℕ) (free : List ℕ)
     new_lane b is = ap (λ c. how_often lane (map (λ (e : Entry). e.lane) (if c then entry_in o slot ∷ [] else []))) is
 
   -- of another port
-  elsewhere : (port : ℕ) → IsPortOfSeat p x port → is_client (p.port port).role ≡ true → (lane : ℕ) → (port == o.port) ≡ false → Counted port lane
-  elsewhere port mine client lane other =
+  elsewhere : (port : ℕ) → IsPortOfSeat p x port → (lane : ℕ) → (port == o.port) ≡ false → Counted port lane
+  elsewhere port mine lane other =
       still (how_often lane (free_lanes x port)) (often port lane x.table) _ _ _
       (ap (how_often lane) (freed port mine lane ∙ ap (λ b. if b then (picks o slot free (uses port mine).desk).free_lanes else (uses port mine).desk.free_lanes) other
       ∙ sym (lanes_are x port (uses port mine).desk (uses port mine).there)))
       (now_used port mine lane ∙ ap (λ k. k + often port lane x.table)
-      (new_lane port mine lane false (second-fails (has_own_lane o.kind) (o.port == port) (eqb-flip port o.port other)))) (before port mine lane client)
+      (new_lane port mine lane false (second-fails (has_own_lane o.kind) (o.port == port) (eqb-flip port o.port other)))) (before port mine lane)
     where
       still : (f u f' u' r : ℕ) → f' ≡ f → u' ≡ 0 + u → f + u ≡ r → f' + u' ≡ r
       still f u f' u' r one two is = omega (arith, one, two, is)
 
-  -- of the loan's port
+  -- of the loan's port, if that is a server: it has no lane
+  at_server : IsPortOfSeat p x o.port → is_client (p.port o.port).role ≡ false → (lane : ℕ) → Counted o.port lane
+  at_server mine server lane =
+      still (how_often lane (free_lanes x o.port)) (often o.port lane x.table) _ _ _
+      (ap (how_often lane) (freed o.port mine lane
+      ∙ ap (λ b. if b then (picks o slot free (uses o.port mine).desk).free_lanes else (uses o.port mine).desk.free_lanes) (eqb-refl o.port)
+      ∙ ap (without_number o.lane) (sym (lanes_are x o.port (uses o.port mine).desk (uses o.port mine).there) ∙ empty) ∙ sym empty))
+      (now_used o.port mine lane ∙ ap (λ k. k + often o.port lane x.table)
+      (new_lane o.port mine lane false (ap (λ b. b && (o.port == o.port)) (server_lends o.kind (p.port o.port).role kind server)))) (before o.port mine lane)
+    where
+      still : (f u f' u' r : ℕ) → f' ≡ f → u' ≡ 0 + u → f + u ≡ r → f' + u' ≡ r
+      still f u f' u' r one two is = omega (arith, one, two, is)
+
+      empty : free_lanes x o.port ≡ []
+      empty = servers_have_no_lane p x all o.port mine server
+
+  -- of a client
   here : IsPortOfSeat p x o.port → is_client (p.port o.port).role ≡ true → (lane : ℕ) → Counted o.port lane
   here mine client lane =
       moved (if o.lane == lane then 1 else 0) (how_often lane (without_number o.lane (free_lanes x o.port))) (often o.port lane x.table)
@@ -173,7 +195,7 @@ module _ (p : Setting) (x y : Seat) (o : NewLoan) (slot : ℕ) (free : List ℕ)
       ∙ ap (without_number o.lane) (sym (lanes_are x o.port (uses o.port mine).desk (uses o.port mine).there))))
       (now_used o.port mine lane ∙ ap (λ k. k + often o.port lane x.table)
       (new_lane o.port mine lane true (both_true (has_own_lane o.kind) (o.port == o.port) (client_lends o.kind (p.port o.port).role kind client) (eqb-refl o.port))))
-      (before o.port mine lane client)
+      (before o.port mine lane)
     where
       moved : (i w u f f' u' r : ℕ) → f ≡ i + w → f' ≡ w → u' ≡ (i + 0) + u → f + u ≡ r → f' + u' ≡ r
       moved i w u f f' u' r out now used is = omega (arith, out, now, used, is)
@@ -186,15 +208,18 @@ module _ (p : Setting) (x y : Seat) (o : NewLoan) (slot : ℕ) (free : List ℕ)
       has_lane (l ∷ ls) is at = or-left (l == o.lane) (has_number o.lane ls) (eq-eqb l o.lane (sym at))
 
   pub picked : AllLanesAreCounted p y
-  picked port mine client lane = by_port (port == o.port) refl
+  picked port mine lane = by_port (port == o.port) refl
     where
       home : IsPortOfSeat p x port
       home = (mine.0, mine.1 ∙ own.node)
 
       by_port : (b : Bool) → (port == o.port) ≡ b → Counted port lane
       by_port true is =
-          subst (λ q. IsPortOfSeat p x q → is_client (p.port q).role ≡ true → Counted q lane) (sym (eqb-true port o.port is)) (λ m c. here m c lane) home client
-      by_port false is = elsewhere port home client lane is
+          subst (λ q. IsPortOfSeat p x q → Counted q lane) (sym (eqb-true port o.port is)) (λ m. elim (cases_Bool (is_client (p.port o.port).role)) [
+            | inl client ↦ here m client lane
+            | inr server ↦ at_server m server lane
+          ]) home
+      by_port false is = elsewhere port home lane is
 
 -- ---- accesses
 

@@ -34,6 +34,7 @@ use Rattle.iox_wire_steps.specs.Stands.{AreNumbered}
 use Rattle.iox_wire_calls.specs.EndsTold.{SendsOpenElsewhere}
 use Rattle.iox_wire_calls.specs.Lanes.{AllLanesAreCounted, has_own_lane, lanes_in, lanes_used, lent_in}
 use Rattle.iox_wire_calls.specs.Places.{CallFits, IsLoan, PlaceFits, SuitsPort, is_kind_of}
+use Rattle.iox_wire_calls.proofs.LaneCounts.{of_clients}
 use Rattle.iox_wire_calls.proofs.LaneLists.{both, front, less, often, one}
 
 -- ---- roles
@@ -92,7 +93,7 @@ one_at_most false = omega arith
 module _ (p : Setting) (x : Seat) (all : AllLanesAreCounted p x) (port : ℕ) (mine : IsPortOfSeat p x port) (client : is_client (p.port port).role ≡ true) where
   -- what is counted is of the pool, once
   pub low : (lane : ℕ) → 1 ≤ how_often lane (lanes_used x port) → lane < (p.port port).pool
-  low lane some = by_lane (nat_lt lane (p.port port).pool) refl (all port mine client lane)
+  low lane some = by_lane (nat_lt lane (p.port port).pool) refl (of_clients p x all port mine client lane)
     where
       is_low : nat_lt lane (p.port port).pool ≡ true → lane < (p.port port).pool
       is_low is = grind (arith)
@@ -107,7 +108,7 @@ module _ (p : Setting) (x : Seat) (all : AllLanesAreCounted p x) (port : ℕ) (m
 
   pub once : (lane : ℕ) → how_often lane (lanes_used x port) ≤ 1
   once lane =
-      at_most (how_often lane (free_lanes x port)) (how_often lane (lanes_used x port)) _ (all port mine client lane) (one_at_most (nat_lt lane (p.port port).pool))
+      at_most (how_often lane (free_lanes x port)) (how_often lane (lanes_used x port)) _ (of_clients p x all port mine client lane) (one_at_most (nat_lt lane (p.port port).pool))
     where
       at_most : (f u r : ℕ) → f + u ≡ r → r ≤ 1 → u ≤ 1
       at_most f u r is less = omega (arith, is, less)

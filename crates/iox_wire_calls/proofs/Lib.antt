@@ -7,6 +7,7 @@ pub mod PlaceEnds
 pub mod EndsTold
 pub mod LaneLists
 pub mod LaneDesks
+pub mod LaneCounts
 pub mod LaneSlots
 pub mod LaneSteps
 pub mod LaneBegins
@@ -31,6 +32,7 @@ pub use Rattle.iox_wire_steps.proofs.AccessUses
 pub use Rattle.iox_wire_steps.proofs.Accessed
 pub use Rattle.iox_wire_steps.proofs.AccessesFound
 pub use Rattle.iox_wire_steps.proofs.Aside
+pub use Rattle.iox_wire_steps.proofs.BeginBeats
 pub use Rattle.iox_wire_steps.proofs.BeginsKept
 pub use Rattle.iox_wire_steps.proofs.Counting
 pub use Rattle.iox_wire_steps.proofs.CountsKept

@@ -1,4 +1,4 @@
--- Which lanes of a client are in use, and that its desk has all others as free ones.
+-- Which lanes of a port are in use, and that its desk has all others as free ones.
 use Rattle.std.specs.Prelude.{◌≡◌, ◌+◌, ◌==◌, ◌&&◌, ◌||◌, ◌++◌, ℕ, Bool, true, if◌then◌else◌, List, [], ◌∷◌, filter, map, nat_lt}
 use Rattle.iox_model.specs.declared.kind.Kind.{Kind}
 use Rattle.iox_model.specs.declared.kind.Kind.TheVariants.{PendingResponse}
@@ -36,15 +36,18 @@ lanes_used x port = lanes_in port (lent_in (message_at x.local) ++ x.table)
 
 -- ---- what is so of them
 
+-- how many lanes a port has: a client as many as its pool has slots, a server none
+abbrev pub lane_count : Setting → ℕ → ℕ
+lane_count p port = if is_client (p.port port).role then (p.port port).pool else 0
+
 -- Each lane of the port is free or in use, once, and no other is.
 abbrev pub LanesAreCounted : Setting → Seat → ℕ → Type 0
 LanesAreCounted p x port =
     (lane : ℕ)
     → how_often lane (free_lanes x port) + how_often lane (lanes_used x port)
-    ≡ (if nat_lt lane (p.port port).pool then 1 else 0)
+    ≡ (if nat_lt lane (lane_count p port) then 1 else 0)
 
--- So it is at each client of the node.
+-- So it is at each port of the node.
 abbrev pub AllLanesAreCounted : Setting → Seat → Type 0
 AllLanesAreCounted p x =
-    (port : ℕ) → IsPortOfSeat p x port → is_client (p.port port).role ≡ true
-    → LanesAreCounted p x port
+    (port : ℕ) → IsPortOfSeat p x port → LanesAreCounted p x port

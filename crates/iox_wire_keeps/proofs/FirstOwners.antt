@@ -19,6 +19,7 @@ use Rattle.iox_model.specs.Settings.{is_client, is_count}
 use Rattle.iox_model.specs.States.{Fixed, Port}
 use Rattle.iox_laws.proofs.WeaveLaws.MapLemmas.{either}
 use Rattle.iox_laws.proofs.WeaveLedger.Truths.{or-left}
+use Rattle.iox_wire_calls.proofs.LaneCounts.{of_clients}
 use Rattle.iox_wire_calls.specs.CallRefusal.{CallRefusal}
 use Rattle.iox_wire_calls.specs.CallRefusal.TheVariants.{WrongLength}
 use Rattle.iox_wire_calls.specs.Ending.TheVariants as endings
@@ -115,7 +116,7 @@ module _ (p : Setting) (words : List ℕ) (players : ℕ → Player) (r : Run) (
 
   -- a free lane is one of the client's
   free_low : (port : ℕ) → IsPortOfSeat p x port → is_client (p.port port).role ≡ true → (lane : ℕ) → has_number lane (free_lanes x port) ≡ true → lane < (p.port port).pool
-  free_low port home client lane free = by_lane (nat_lt lane (p.port port).pool) refl (all port home client lane)
+  free_low port home client lane free = by_lane (nat_lt lane (p.port port).pool) refl (of_clients p x all port home client lane)
     where
       is_low : nat_lt lane (p.port port).pool ≡ true → lane < (p.port port).pool
       is_low is = grind (arith)

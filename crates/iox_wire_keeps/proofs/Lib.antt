@@ -26,11 +26,15 @@ pub mod BeginWhole
 -- what the crates above cite of those below
 pub use Rattle.iox_wire_calls.proofs.AccessUses
 pub use Rattle.iox_wire_calls.proofs.AccessesFound
+pub use Rattle.iox_wire_calls.proofs.BeginBeats
 pub use Rattle.iox_wire_calls.proofs.CallsAround
 pub use Rattle.iox_wire_calls.proofs.Counting
+pub use Rattle.iox_wire_calls.proofs.CountsKept
+pub use Rattle.iox_wire_calls.proofs.Follows
 pub use Rattle.iox_wire_calls.proofs.FoundUses
 pub use Rattle.iox_wire_calls.proofs.Fresh
 pub use Rattle.iox_wire_calls.proofs.HandleKinds
+pub use Rattle.iox_wire_calls.proofs.LaneCounts
 pub use Rattle.iox_wire_calls.proofs.LanesTell
 pub use Rattle.iox_wire_calls.proofs.LoanSlots
 pub use Rattle.iox_wire_calls.proofs.NodesFollow
@@ -40,5 +44,6 @@ pub use Rattle.iox_wire_calls.proofs.OwnSlotsApart
 pub use Rattle.iox_wire_calls.proofs.OwnedPlaces
 pub use Rattle.iox_wire_calls.proofs.PoolsFit
 pub use Rattle.iox_wire_calls.proofs.SendsFollow
+pub use Rattle.iox_wire_calls.proofs.Starts
 pub use Rattle.iox_wire_calls.proofs.StepsKept
 pub use Rattle.iox_wire_calls.proofs.UsedSlots

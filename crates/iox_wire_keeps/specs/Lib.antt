@@ -9,6 +9,7 @@ pub mod MessageEnds
 pub mod WireStands
 pub mod MessageBegins
 -- what the crates above cite of those below
+pub use Rattle.iox_wire_calls.specs.Aside
 pub use Rattle.iox_wire_calls.specs.Begins
 pub use Rattle.iox_wire_calls.specs.Borrowed
 pub use Rattle.iox_wire_calls.specs.CallsStand
@@ -37,6 +38,7 @@ pub use Rattle.iox_wire_calls.specs.OwnedWords
 pub use Rattle.iox_wire_calls.specs.Places
 pub use Rattle.iox_wire_calls.specs.PoolSlots
 pub use Rattle.iox_wire_calls.specs.Programs
+pub use Rattle.iox_wire_calls.specs.Readiness
 pub use Rattle.iox_wire_calls.specs.Recorded
 pub use Rattle.iox_wire_calls.specs.Records
 pub use Rattle.iox_wire_calls.specs.Rows
@@ -44,6 +46,8 @@ pub use Rattle.iox_wire_calls.specs.Runs
 pub use Rattle.iox_wire_calls.specs.Seat
 pub use Rattle.iox_wire_calls.specs.SeatsDesks as Desks
 pub use Rattle.iox_wire_calls.specs.SeatsRecords
+pub use Rattle.iox_wire_calls.specs.Settlements
+pub use Rattle.iox_wire_calls.specs.Shows
 pub use Rattle.iox_wire_calls.specs.SlotsKnown
 pub use Rattle.iox_wire_calls.specs.Stands
 pub use Rattle.iox_wire_calls.specs.Steps

@@ -37,6 +37,7 @@ use Rattle.iox_wire_keeps.specs.CallsStand.{CallStands}
 use Rattle.iox_wire_keeps.specs.Lanes.{AllLanesAreCounted, lanes_in, lanes_used, lent_in}
 use Rattle.iox_wire_keeps.specs.Places.{PlaceFits, SuitsPort, is_kind_of}
 use Rattle.iox_wire_keeps.proofs.HandleKinds.{role_lends}
+use Rattle.iox_wire_keeps.proofs.LaneCounts.{of_clients}
 use Rattle.iox_wire_keeps.proofs.LanesTell.{in_table, lane_of_client, low, request_has, there_is}
 use Rattle.iox_wire_keeps.proofs.LoanSlots.{lent_slots, slots_by_message}
 use Rattle.iox_wire_keeps.specs.WireStands.{WireStands}
@@ -69,14 +70,14 @@ module _ (p : Setting) (x : Seat) (uses : AllUsesAreCounted p x) (all : AllLanes
     (client : is_client (p.port e.port).role ≡ true) (there : has_number e.slot (slots_used x e.port) ≡ true) (lane : 1 ≤ how_often e.lane (lanes_used x e.port)) where
   -- what is free is a lane of the client, once, and not this one
   at_most : (k : ℕ) → how_often k (free_lanes x e.port) + how_often k (lanes_used x e.port) ≤ 1
-  at_most k = subst (λ i. i ≤ 1) (sym (all e.port home client k)) (one (nat_lt k (p.port e.port).pool))
+  at_most k = subst (λ i. i ≤ 1) (sym (of_clients p x all e.port home client k)) (one (nat_lt k (p.port e.port).pool))
     where
       one : (b : Bool) → (if b then 1 else 0) ≤ 1
       one true = omega arith
       one false = omega arith
 
   free_low : (k : ℕ) → 1 ≤ how_often k (free_lanes x e.port) → k < (p.port e.port).pool
-  free_low k some = by_lane (nat_lt k (p.port e.port).pool) refl (all e.port home client k)
+  free_low k some = by_lane (nat_lt k (p.port e.port).pool) refl (of_clients p x all e.port home client k)
     where
       is_low : nat_lt k (p.port e.port).pool ≡ true → k < (p.port e.port).pool
       is_low is = grind (arith)

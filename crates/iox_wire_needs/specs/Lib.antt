@@ -1,5 +1,28 @@
--- In reading order: what a node may count; slots and lanes that its place names; and which slots are
--- in use.
+-- In reading order: what a node may count, and that it stays tidy; slots and lanes that its place
+-- names; which slots are in use; and what it may do with its handles.
 pub mod Counts
+pub mod Tidying
 pub mod Places
 pub mod Uses
+pub mod Handles
+-- what the crates above cite of those below
+pub use Rattle.iox_wire_keeps.specs.Aside
+pub use Rattle.iox_wire_keeps.specs.CallsStand
+pub use Rattle.iox_wire_keeps.specs.Entry
+pub use Rattle.iox_wire_keeps.specs.Following
+pub use Rattle.iox_wire_keeps.specs.Lanes
+pub use Rattle.iox_wire_keeps.specs.Local
+pub use Rattle.iox_wire_keeps.specs.MessageBegins
+pub use Rattle.iox_wire_keeps.specs.Nodes
+pub use Rattle.iox_wire_keeps.specs.Openings
+pub use Rattle.iox_wire_keeps.specs.OwnedWords
+pub use Rattle.iox_wire_keeps.specs.Places as CallPlaces
+pub use Rattle.iox_wire_keeps.specs.PoolSlots
+pub use Rattle.iox_wire_keeps.specs.Readiness
+pub use Rattle.iox_wire_keeps.specs.Runs
+pub use Rattle.iox_wire_keeps.specs.SlotsKnown
+pub use Rattle.iox_wire_keeps.specs.Stands
+pub use Rattle.iox_wire_keeps.specs.Stored
+pub use Rattle.iox_wire_keeps.specs.UsedSlots
+pub use Rattle.iox_wire_keeps.specs.WholeSteps
+pub use Rattle.iox_wire_keeps.specs.WireStands

@@ -3,7 +3,9 @@
 #![tactic(auto)]
 
 ghost use Rattle.iox_wire_needs.specs.Counts.{NodesMayCountMore};
+ghost use Rattle.iox_wire_needs.specs.Handles.{HandlesMayBeGivenUp};
 ghost use Rattle.iox_wire_needs.specs.Places.{PlacesAreInPools};
+ghost use Rattle.iox_wire_needs.specs.Tidying.{BegunNodesAreTidy, SteppedNodesAreTidy};
 ghost use Rattle.iox_wire_needs.specs.Uses.{AccessesFindInUse, RequestsMayBeGivenUp};
 ghost use Rattle.iox_wire_needs.specs.Uses.{LoansGetBackInUse, WhatIsSentIsInUse};
 
@@ -27,4 +29,15 @@ pub fn slots_are_in_use()
 /// A request that a call made or sends may be given up.
 pub fn requests_may_be_given_up()
     ensures { RequestsMayBeGivenUp }
+{}
+
+/// A handle that was not received may be given up.
+pub fn handles_may_be_given_up()
+    ensures { HandlesMayBeGivenUp }
+{}
+
+/// No two desks are of one port, and no two counts of one way, as a call begins and over each step.
+pub fn nodes_stay_tidy()
+    ensures begins { BegunNodesAreTidy }
+    ensures steps { SteppedNodesAreTidy }
 {}

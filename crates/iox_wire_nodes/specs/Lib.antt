@@ -9,14 +9,18 @@ pub mod Calls
 pub mod Rooms
 -- what the crates above cite of those below
 pub use Rattle.iox_wire_begins.specs.Aims as SeatsAims
+pub use Rattle.iox_wire_begins.specs.BeginError
 pub use Rattle.iox_wire_begins.specs.Begins as LocalsBegins
 pub use Rattle.iox_wire_begins.specs.CopyReply
 pub use Rattle.iox_wire_begins.specs.Desk
 pub use Rattle.iox_wire_begins.specs.Dispatches
+pub use Rattle.iox_wire_begins.specs.Entry
 pub use Rattle.iox_wire_begins.specs.Fits
+pub use Rattle.iox_wire_begins.specs.HandleCalls
 pub use Rattle.iox_wire_begins.specs.Known
 pub use Rattle.iox_wire_begins.specs.Laws
 pub use Rattle.iox_wire_begins.specs.LendReply
+pub use Rattle.iox_wire_begins.specs.Lendings
 pub use Rattle.iox_wire_begins.specs.Loans
 pub use Rattle.iox_wire_begins.specs.Local
 pub use Rattle.iox_wire_begins.specs.Locals
@@ -30,6 +34,7 @@ pub use Rattle.iox_wire_begins.specs.ReceivesAims
 pub use Rattle.iox_wire_begins.specs.Refusals
 pub use Rattle.iox_wire_begins.specs.RequestDispatches
 pub use Rattle.iox_wire_begins.specs.RequestReply
+pub use Rattle.iox_wire_begins.specs.RequestSources
 pub use Rattle.iox_wire_begins.specs.RespondReply
 pub use Rattle.iox_wire_begins.specs.ResponseCopyReply
 pub use Rattle.iox_wire_begins.specs.Seat
@@ -38,7 +43,11 @@ pub use Rattle.iox_wire_begins.specs.Seats
 pub use Rattle.iox_wire_begins.specs.Shows
 pub use Rattle.iox_wire_begins.specs.StateMoments
 pub use Rattle.iox_wire_begins.specs.Steps
+pub use Rattle.iox_wire_begins.specs.Stored
 pub use Rattle.iox_wire_begins.specs.Tables
+pub use Rattle.iox_wire_begins.specs.Terms
 pub use Rattle.iox_wire_begins.specs.WirePlan
+pub use Rattle.iox_wire_begins.specs.WirePlans
+pub use Rattle.iox_wire_begins.specs.WireTerms
 pub use Rattle.iox_wire_begins.specs.WordMapNewError
 pub use Rattle.iox_wire_begins.specs.WorkedWires

@@ -12,9 +12,9 @@ mod node_error;
 pub use call_at::{CallAt, NodeReply};
 pub use handle_call::HandleCall;
 pub use iox_wire_begins::{
-    Borrowed, Counts, Desks, Entries, Entry, MessagePlaces, PlanLimits, PlanPort, Popper, Pusher,
-    ReceiveReply, Receiving, SeatReply, Stop, StoredDesk, StoredSeat, WayIndex, WirePlan, WordMap,
-    WordMapNewError, begin_request_receive, is_plan,
+    Asked, BeginError, Borrowed, Counts, Desks, Entries, Entry, Lists, MessagePlaces, PlanLimits,
+    PlanPort, Popper, Pusher, ReceiveReply, Receiving, SeatReply, Stop, StoredDesk, StoredSeat,
+    WayIndex, WirePlan, WireTerms, WordMap, WordMapNewError, begin_request_receive, is_plan,
 };
 pub use laws::{nodes_keep_their_room, nodes_with_fewer_handles_have_room};
 pub use node::StoredNode;

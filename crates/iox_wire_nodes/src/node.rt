@@ -11,6 +11,7 @@ mod name;
 mod place;
 mod receive;
 mod receive_response;
+mod refuse;
 mod send;
 mod told;
 mod write;

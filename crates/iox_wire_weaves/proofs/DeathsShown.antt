@@ -1,29 +1,28 @@
 -- After a death the wire shows the run with that beat.
 use Rattle.std.specs.Prelude.{find, not, option_map}
 use Rattle.std.specs.Option.{option_map_or}
-use Rattle.std.proofs.Common.{◌≡◌, ℕ, Bool, true, false, ◌==◌, List, [], ◌∷◌, ◌++◌, map, Option, Some, None, refl, ap, ap₂, sym, subst, ◌∙◌, eqb-true, append-nil, inl, inr}
+use Rattle.std.proofs.Common.{◌≡◌, ℕ, false, ◌==◌, List, [], ◌∷◌, map, Option, Some, None, refl, ap, ap₂, sym, subst, ◌∙◌, eqb-true, append-nil, inl, inr}
 use Rattle.std.proofs.lemmas.Bool.{cases_Bool}
 use Rattle.iox_model.specs.declared.reply.Refusal.TheVariants as refusals
-use Rattle.iox_model.specs.Commands.{Refusal, Reply}
+use Rattle.iox_model.specs.Commands.{Refusal}
 use Rattle.iox_model.specs.Joins.{not_living}
 use Rattle.iox_model.specs.Maps.{refused_if}
 use Rattle.iox_model.specs.Services.{dies, with_death}
 use Rattle.iox_model.specs.States.{Node}
-use Rattle.iox_model.specs.Weaves.{Dies, IsBeat, World}
+use Rattle.iox_model.specs.Weaves.{Dies, World}
 use Rattle.iox_laws.proofs.WeaveLedger.Truths.{none-some}
-use Rattle.iox_wire_nodes.specs.PlansOf.{IsSettingOf}
 use Rattle.iox_wire_nodes.specs.Seat.{Seat}
 use Rattle.iox_wire_nodes.specs.Tables.{Setting}
 use Rattle.iox_wire_nodes.specs.Aims.{IsAimed}
 use Rattle.iox_wire_nodes.specs.Nodes.{seat_in}
-use Rattle.iox_wire_keeps.specs.Openings.{opened_seat}
-use Rattle.iox_wire_keeps.specs.Runs.{GoesOnBy, Run, Said}
-use Rattle.iox_wire_keeps.specs.Stands.{Player}
-use Rattle.iox_wire_keeps.specs.WireStands.{WireStands}
-use Rattle.iox_wire_keeps.proofs.WireStands.{wires_stand_after_deaths}
+use Rattle.iox_wire_needs.specs.Openings.{opened_seat}
+use Rattle.iox_wire_needs.specs.Runs.{GoesOnBy, Run, Said}
+use Rattle.iox_wire_needs.specs.Stands.{Player}
+use Rattle.iox_wire_needs.specs.WireStands.{WireStands}
+use Rattle.iox_wire_needs.proofs.WireStands.{wires_stand_after_deaths}
 use Rattle.iox_wire_weaves.specs.Laws.{DeathsShow, Replaces}
 use Rattle.iox_wire_weaves.specs.Wires.{Shows, WireData, WireNode, answers_in, living_refusal, node_at, players_of, refusal_in, seat_of, wordless_all}
-use Rattle.iox_wire_weaves.proofs.Lookups.{answers_on, fun_ext, living_by, seat_there}
+use Rattle.iox_wire_weaves.proofs.Lookups.{answers_on, fun_ext, living_by, same_setting, seat_there}
 
 -- ---- who lives in the machine
 
@@ -53,7 +52,7 @@ died n (m ∷ ms) lives = elim (cases_Bool (m.number == n)) [
 -- ---- the wire
 
 module _ (p : Setting) (old new : WireData) (r : Run) (n : ℕ) (x : WireNode) (shows : Shows p old r) (alive : living_refusal old.nodes n ≡ None)
-    (puts : Replaces old.nodes n x (record x { alive = false }) new.nodes) (plan : new.plan ≡ old.plan) (words : new.words ≡ old.words)
+    (puts : Replaces old.nodes n x (record x { alive = false }) new.nodes) (plan : new.plan ≡ old.plan) (terms : new.terms ≡ old.terms) (words : new.words ≡ old.words)
     (replies : new.replies ≡ old.replies) where
   abbrev u : World
   u = record (r.last) { state = with_death r.last.state n }
@@ -119,7 +118,7 @@ module _ (p : Setting) (old new : WireData) (r : Run) (n : ℕ) (x : WireNode) (
 
   shows_then : Shows p new after
   shows_then = record {
-    setting = subst (λ q. IsSettingOf q p) (sym plan) shows.setting;
+    setting = same_setting p old new plan terms shows.setting;
     stands = stands_now;
     living = living_then;
     aimed = aimed_then;
@@ -127,8 +126,8 @@ module _ (p : Setting) (old new : WireData) (r : Run) (n : ℕ) (x : WireNode) (
   }
 
 pub deaths_show : DeathsShow
-deaths_show p old new r n x shows alive puts plan words replies = (
-  (goes p old new r n x shows alive puts plan words replies).0,
-  (goes p old new r n x shows alive puts plan words replies).1,
-  shows_then p old new r n x shows alive puts plan words replies,
+deaths_show p old new r n x shows alive puts plan terms words replies = (
+  (goes p old new r n x shows alive puts plan terms words replies).0,
+  (goes p old new r n x shows alive puts plan terms words replies).1,
+  shows_then p old new r n x shows alive puts plan terms words replies,
 )

@@ -1,7 +1,7 @@
 -- The nodes of a wire by their numbers, and what calls answered.
-use Rattle.std.specs.Prelude.{find, flat_map, not, option_map, nat_le}
+use Rattle.std.specs.Prelude.{not, nat_le}
 use Rattle.std.specs.Option.{option_map_or}
-use Rattle.std.proofs.Common.{◌≡◌, ℕ, ◌<◌, ◌^◌, Bool, true, false, ◌==◌, List, [], ◌∷◌, ◌++◌, map, Option, Some, None, refl, ap, sym, subst, ◌∙◌, arith, eqb-true, inl, inr}
+use Rattle.std.proofs.Common.{◌≡◌, ℕ, ◌<◌, Bool, true, false, ◌==◌, List, ◌++◌, Option, Some, None, refl, ap, sym, subst, ◌∙◌, eqb-true, inl, inr}
 use Rattle.std.proofs.lemmas.Grind.{flat_map-append}
 use Rattle.std.proofs.lemmas.List.{map-append}
 use Rattle.std.proofs.lemmas.Bool.{cases_Bool, leb-false}
@@ -9,12 +9,11 @@ use Rattle.iox_model.specs.Commands.{Reply}
 use Rattle.iox_model.specs.Maps.{or_else, refused_if}
 use Rattle.iox_model.specs.Weaves.{Beat}
 use Rattle.iox_laws.proofs.WeaveLedger.Truths.{none-some}
-use Rattle.iox_wire_nodes.specs.Seat.{Seat}
 use Rattle.iox_wire_nodes.specs.LocalsBegins.{is_busy}
 use Rattle.iox_wire_nodes.specs.Tables.{Setting}
+use Rattle.iox_wire_nodes.specs.Terms.{IsSettingWith}
 use Rattle.iox_wire_nodes.specs.Nodes.{seat_in}
-use Rattle.iox_wire_keeps.specs.Openings.{opened_seat}
-use Rattle.iox_wire_weaves.specs.declared.refusal.WireRefusal.{WireRefusal}
+use Rattle.iox_wire_needs.specs.Openings.{opened_seat}
 use Rattle.iox_wire_weaves.specs.declared.refusal.WireRefusal.TheVariants.{NodeIsDead, UnknownNode, AtRest, AccessesSpent}
 use Rattle.iox_wire_weaves.specs.Laws.{Replaces}
 use Rattle.iox_wire_weaves.specs.Steps.{most_accesses, rest_refusal, step_refusal}
@@ -76,6 +75,12 @@ same_living old n x y new puts alive m = elim (cases_Bool (m == n)) [
       )
   | inr other ↦ living_by new m (node_at m old) (puts.others m other)
 ]
+
+-- the setting stays that of the plan and the terms
+pub same_setting : (p : Setting) (old new : WireData) → new.plan ≡ old.plan → new.terms ≡ old.terms → IsSettingWith old.plan old.terms p
+    → IsSettingWith new.plan new.terms p
+same_setting p old new plan terms setting =
+    subst (λ q. IsSettingWith q new.terms p) (sym plan) (subst (λ t. IsSettingWith old.plan t p) (sym terms) setting)
 
 -- ---- answers
 

@@ -1,20 +1,19 @@
 -- A wire that opens shows a run without a beat.
-use Rattle.std.specs.Prelude.{find, not, option_map, is_some, replicate, if◌then◌else◌}
+use Rattle.std.specs.Prelude.{not, option_map, is_some, replicate, if◌then◌else◌}
 use Rattle.std.specs.Option.{option_map_or}
-use Rattle.std.proofs.Common.{◌≡◌, ℕ, Bool, true, false, ◌==◌, List, [], ◌∷◌, map, Option, Some, None, refl, ap, ap₂, sym, subst, ◌∙◌, true≢false}
+use Rattle.std.proofs.Common.{◌≡◌, ℕ, List, [], Option, Some, None, refl, ap, ap₂, sym, subst, ◌∙◌}
 use Rattle.iox_model.specs.declared.reply.Refusal.TheVariants as refusals
-use Rattle.iox_model.specs.Commands.{Refusal, Reply}
 use Rattle.iox_model.specs.Joins.{not_living}
 use Rattle.iox_model.specs.Maps.{has_number, refused_if}
-use Rattle.iox_model.specs.States.{Fixed, State}
+use Rattle.iox_model.specs.States.{State}
 use Rattle.iox_model.specs.WireCalls.{opened}
-use Rattle.iox_model.specs.Weaves.{Beat, World, at_work}
+use Rattle.iox_model.specs.Weaves.{World, at_work}
 use Rattle.iox_word_map.specs.WordMaps.{total_words}
 use Rattle.iox_wire_nodes.specs.WirePlan.{WirePlan}
-use Rattle.iox_wire_nodes.specs.Plans.{IsPlan, sizes_of}
+use Rattle.iox_wire_nodes.specs.Plans.{IsPlan}
 use Rattle.iox_wire_nodes.specs.Programs.{WireLayout}
-use Rattle.iox_wire_nodes.specs.PlansOf.{IsSettingOf}
-use Rattle.iox_wire_nodes.proofs.Layouts.{known_settings_are_planned}
+use Rattle.iox_wire_nodes.specs.Terms.{IsSettingWith}
+use Rattle.iox_wire_nodes.specs.WireTerms.{WireTerms}
 use Rattle.iox_wire_nodes.specs.Local.{Local}
 use Rattle.iox_wire_nodes.specs.Local.TheVariants.{Idle}
 use Rattle.iox_wire_nodes.specs.Seat.{Seat}
@@ -24,15 +23,14 @@ use Rattle.iox_wire_nodes.specs.Aims.{AreAimed, IsAimed}
 use Rattle.iox_wire_nodes.specs.declared.call_at.CallAt.{CallAt}
 use Rattle.iox_wire_nodes.specs.declared.call_at.CallAt.TheVariants.{Seats}
 use Rattle.iox_wire_nodes.specs.Nodes.{Node, seat_at, seat_in}
-use Rattle.iox_wire_keeps.specs.Openings.{opened_seat}
-use Rattle.iox_wire_keeps.specs.Runs.{Run, Said, history}
-use Rattle.iox_wire_keeps.specs.Stands.{Player}
-use Rattle.iox_wire_keeps.proofs.OpenedDesks.{held_first}
-use Rattle.iox_wire_keeps.specs.WireStands.{WireStands}
-use Rattle.iox_wire_keeps.proofs.WireStands.{opened_wires_stand}
+use Rattle.iox_wire_needs.specs.Openings.{opened_seat}
+use Rattle.iox_wire_needs.specs.Runs.{Run, Said, history}
+use Rattle.iox_wire_needs.specs.Stands.{Player}
+use Rattle.iox_wire_needs.specs.WireStands.{WireStands}
+use Rattle.iox_wire_needs.proofs.WireStands.{opened_wires_stand}
 use Rattle.iox_wire_weaves.specs.declared.refusal.WireRefusal.TheVariants.{NodeIsDead}
 use Rattle.iox_wire_weaves.specs.Laws.{IsFresh, WiresOpen}
-use Rattle.iox_wire_weaves.specs.Wires.{OpensOn, Shows, WireData, WireNode, answers_in, living_refusal, node_at, players_of, refusal_in, seat_of, wordless_all}
+use Rattle.iox_wire_weaves.specs.Wires.{OpensOn, Shows, WireData, WireNode, answers_in, living_refusal, node_at, players_of, refusal_in, wordless_all}
 use Rattle.iox_wire_weaves.proofs.Lookups.{fun_ext, living_by}
 
 -- a node at rest knows of no place
@@ -42,23 +40,11 @@ idle_aims p n k same at =
     let rests : k.seat.seat.local ≡ Idle = ap (λ (x : Seat). x.local) own in
     subst (λ (c : CallAt). AreAimed p c k) (sym at) (subst (λ (l : Local). seats.AreAimed p l k.seat) (sym rests) tt)
 
-module _ (plan : WirePlan) (nodes : List ℕ) (p : Setting) (s : State) (wire : WireData) (is : IsPlan plan) (opens : OpensOn plan nodes p s)
-    (fresh : IsFresh p plan nodes wire) where
+module _ (plan : WirePlan) (terms : WireTerms) (nodes : List ℕ) (p : Setting) (s : State) (wire : WireData) (is : IsPlan plan) (opens : OpensOn plan terms nodes p s)
+    (fresh : IsFresh p plan terms nodes wire) where
   abbrev o : (r : Run) × (r.first ≡ at_work (opened s)) × (r.beats ≡ []) × (r.last ≡ at_work (opened s))
       × WireStands p (replicate (total_words p.layout.sizes) 0) (λ n. record { seat = opened_seat p n; said = [] }) r
   o = opened_wires_stand plan p s is opens.agrees opens.reached opens.allowed
-
-  setting : IsSettingOf plan p
-  setting =
-      known_settings_are_planned plan p (opened_seat p 0) (opened s).fixed held_first opens.agrees.plan_of opens.agrees.layout
-      (record {
-        limits = opens.agrees.limits;
-        ports = opens.agrees.ports;
-        unhandled = opens.agrees.unhandled;
-        handles = refl;
-        forgot = refl;
-        sent = λ port slot. refl;
-      })
 
   seat_is : (n : ℕ) (u : Option WireNode) → node_at n wire.nodes ≡ u → option_map_or (λ (x : WireNode). seat_in x.node) u (opened_seat p n) ≡ opened_seat p n
   seat_is n None at = refl
@@ -90,7 +76,7 @@ module _ (plan : WirePlan) (nodes : List ℕ) (p : Setting) (s : State) (wire : 
 
   shows : Shows p wire o.0
   shows = record {
-    setting = subst (λ q. IsSettingOf q p) (sym fresh.plan_is) setting;
+    setting = subst (λ q. IsSettingWith q wire.terms p) (sym fresh.plan_is) (subst (λ t. IsSettingWith plan t p) (sym fresh.terms_are) opens.told);
     stands = stands_now;
     living = living_now;
     aimed = λ n x at. idle_aims p n x.node (fresh.seats n x at).0 (fresh.seats n x at).2;
@@ -98,11 +84,11 @@ module _ (plan : WirePlan) (nodes : List ℕ) (p : Setting) (s : State) (wire : 
   }
 
 pub wires_open : WiresOpen
-wires_open plan nodes p s wire is opens fresh =
+wires_open plan terms nodes p s wire is opens fresh =
     let o = opened_wires_stand plan p s is opens.agrees opens.reached opens.allowed in (
       o.0,
       o.1,
       o.2,
       o.3,
-      shows plan nodes p s wire is opens fresh,
+      shows plan terms nodes p s wire is opens fresh,
     )

@@ -1,16 +1,14 @@
 -- After a step of a node the wire shows the run that goes on so.
 use Rattle.std.specs.Prelude.{option_map}
 use Rattle.std.specs.Option.{option_map_or}
-use Rattle.std.proofs.Common.{◌≡◌, ℕ, ◌<◌, ◌^◌, ◌-◌, ◌≤◌, Bool, true, false, ◌==◌, List, [], ◌∷◌, ◌++◌, length, Option, Some, None, refl, ap, ap₂, sym, subst, ◌∙◌, arith, eqb-true, eq-eqb, append-nil, if◌then◌else◌, inl, inr}
+use Rattle.std.proofs.Common.{◌≡◌, ℕ, ◌<◌, ◌^◌, Bool, true, false, ◌==◌, List, [], ◌∷◌, ◌++◌, length, Option, Some, None, refl, ap, ap₂, sym, subst, ◌∙◌, arith, eqb-true, if◌then◌else◌, inl, inr}
 use Rattle.std.proofs.lemmas.Bool.{cases_Bool}
 use Rattle.iox_model.specs.Commands.{Reply}
 use Rattle.iox_model.specs.Joins.{not_living}
 use Rattle.iox_model.specs.Maps.{put_at}
 use Rattle.iox_model.specs.Moments.{Moment}
 use Rattle.iox_model.specs.Schedules.{IsStepOf, nothing, makes, ends_alone, makes_and_ends}
-use Rattle.iox_model.specs.Weaves.{Beat}
 use Rattle.iox_laws.proofs.WeaveLaws.WholeLemmas.{not_living-members}
-use Rattle.iox_steps.specs.declared.access.Access.{Access}
 use Rattle.iox_steps.specs.Accesses.{IsWithin, seen_by, words_after}
 use Rattle.iox_steps.specs.Sites.{last_position}
 use Rattle.iox_steps.proofs.AccessLemmas.{length-words_after, list_changes}
@@ -21,7 +19,6 @@ use Rattle.iox_wire_nodes.proofs.Steps.{each_access_keeps_the_list}
 use Rattle.iox_wire_nodes.specs.Shows.{programs_of}
 use Rattle.iox_wire_nodes.proofs.OwnedPlaces.{owners_may_access}
 use Rattle.iox_wire_nodes.proofs.Aside.{shown_nodes_run_the_same}
-use Rattle.iox_wire_nodes.specs.PlansOf.{IsSettingOf}
 use Rattle.iox_wire_nodes.specs.Seat.{Seat}
 use Rattle.iox_wire_nodes.specs.LocalsBegins.{is_busy}
 use Rattle.iox_wire_nodes.specs.Locals.{program_of}
@@ -31,18 +28,18 @@ use Rattle.iox_wire_nodes.specs.Tables.{Setting}
 use Rattle.iox_wire_nodes.specs.Aims.{IsAimed}
 use Rattle.iox_wire_nodes.specs.declared.call_at.NodeReply.{NodeReply}
 use Rattle.iox_wire_nodes.specs.Nodes.{reply_in, seat_in}
-use Rattle.iox_wire_keeps.specs.Nodes.{NodeStands}
-use Rattle.iox_wire_keeps.specs.Openings.{opened_seat}
-use Rattle.iox_wire_keeps.specs.Runs.{Run, Said, history}
-use Rattle.iox_wire_keeps.specs.Stands.{Player, seats_of, word_of}
-use Rattle.iox_wire_keeps.specs.WholeSteps.{GoesOnWith, moment_beats, player_next, reply_beats, step_beats}
-use Rattle.iox_wire_keeps.specs.WireStands.{WireStands}
-use Rattle.iox_wire_keeps.proofs.StepWhole.{stepped_wires_stand}
-use Rattle.iox_wire_keeps.proofs.Forgotten.{members_stay}
+use Rattle.iox_wire_needs.specs.Nodes.{NodeStands}
+use Rattle.iox_wire_needs.specs.Openings.{opened_seat}
+use Rattle.iox_wire_needs.specs.Runs.{Run, Said}
+use Rattle.iox_wire_needs.specs.Stands.{Player, seats_of, word_of}
+use Rattle.iox_wire_needs.specs.WholeSteps.{GoesOnWith, player_next, step_beats}
+use Rattle.iox_wire_needs.specs.WireStands.{WireStands}
+use Rattle.iox_wire_needs.proofs.StepWhole.{stepped_wires_stand}
+use Rattle.iox_wire_needs.proofs.Forgotten.{members_stay}
 use Rattle.iox_wire_weaves.specs.Laws.{Replaces, StepsAreSafe, StepsShow, WentOn, progress_of}
 use Rattle.iox_wire_weaves.specs.Steps.{MakesOneAccess, access_of, answer_of, step_refusal}
 use Rattle.iox_wire_weaves.specs.Wires.{Shows, WireData, WireNode, answers_in, living_refusal, node_at, players_of, refusal_in, seat_of, wordless_all}
-use Rattle.iox_wire_weaves.proofs.Lookups.{answers_on, fun_ext, same_living, seat_there, steps_on, wordless_on}
+use Rattle.iox_wire_weaves.proofs.Lookups.{answers_on, fun_ext, same_living, same_setting, seat_there, steps_on, wordless_on}
 
 -- ---- the access
 
@@ -101,7 +98,7 @@ answered_in n payload m words reply told same nodes there =
 
 module _ (p : Setting) (old new : WireData) (r : Run) (n : ℕ) (x y : WireNode) (reply : Option NodeReply)
     (shows : Shows p old r) (goes : step_refusal old n ≡ None) (puts : Replaces old.nodes n x y new.nodes) (alive : y.alive ≡ x.alive)
-    (went : WentOn p x.node (seen_by (access_of p old n) (word_of old.words)) reply y.node) (plan : new.plan ≡ old.plan)
+    (went : WentOn p x.node (seen_by (access_of p old n) (word_of old.words)) reply y.node) (plan : new.plan ≡ old.plan) (terms : new.terms ≡ old.terms)
     (words : new.words ≡ words_after (access_of p old n) old.words)
     (told : new.replies ≡ old.replies ++ wordless_all (answer_of n new.nodes (progress_of reply))) where
   abbrev seat : Seat
@@ -210,7 +207,7 @@ module _ (p : Setting) (old new : WireData) (r : Run) (n : ℕ) (x y : WireNode)
 
   shows_then : Shows p new after
   shows_then = record {
-    setting = subst (λ q. IsSettingOf q p) (sym plan) shows.setting;
+    setting = same_setting p old new plan terms shows.setting;
     stands = stands_now;
     living = living_then;
     aimed = aimed_then;
@@ -221,15 +218,15 @@ module _ (p : Setting) (old new : WireData) (r : Run) (n : ℕ) (x y : WireNode)
   one_access = record { words = words; node = there; others = puts.others }
 
 pub steps_show : StepsShow
-steps_show p old new r n x y reply shows goes puts alive went plan words told =
-    let s = stepped p old new r n x y reply shows goes puts alive went plan words told in (
-      one_access p old new r n x y reply shows goes puts alive went plan words told,
+steps_show p old new r n x y reply shows goes puts alive went plan terms words told =
+    let s = stepped p old new r n x y reply shows goes puts alive went plan terms words told in (
+      one_access p old new r n x y reply shows goes puts alive went plan terms words told,
       step_beats n s.0 (moment_at p shows.stands.stands.held (seat_of p old.nodes n).local (seen_by (access_of p old n) (word_of old.words)))
           (tells p (seat_of p old.nodes n) (seen_by (access_of p old n) (word_of old.words))),
       s.1,
       is_step n s.0 (moment_at p shows.stands.stands.held (seat_of p old.nodes n).local (seen_by (access_of p old n) (word_of old.words)))
           (tells p (seat_of p old.nodes n) (seen_by (access_of p old n) (word_of old.words))),
       s.2,
-      answers p old new r n x y reply shows goes puts alive went plan words told,
-      shows_then p old new r n x y reply shows goes puts alive went plan words told,
+      answers p old new r n x y reply shows goes puts alive went plan terms words told,
+      shows_then p old new r n x y reply shows goes puts alive went plan terms words told,
     )

@@ -1,32 +1,43 @@
 -- That a wire shows a run as it opens, and goes on showing one.
-use Rattle.std.specs.Prelude.{◌≡◌, ℕ, ◌==◌, false, true, ◌++◌, List, [], length, replicate, Option, Some, None, is_some, option_map}
+use Rattle.std.specs.Prelude.{◌≡◌, ℕ, ◌==◌, false, true, ◌++◌, List, [], length, replicate, Option, Some, None, is_some, option_map, ◌<◌, IfSome}
 use Rattle.iox_model.specs.Maps.{has_number}
 use Rattle.iox_model.specs.Schedules.{IsStepOf}
 use Rattle.iox_model.specs.States.{State}
-use Rattle.iox_model.specs.Weaves.{Beat, Dies}
+use Rattle.iox_model.specs.Commands.{Call, WireCall}
+use Rattle.iox_model.specs.Loans.{Choice}
+use Rattle.iox_model.specs.Weaves.{Beat, Begins, Dies, begin_refusal}
+use Rattle.iox_model.specs.declared.call.WireCall.TheVariants.{Port}
 use Rattle.iox_steps.specs.declared.access.Progress.{Progress}
 use Rattle.iox_steps.specs.declared.access.Progress.TheVariants.{Done, Going}
 use Rattle.iox_steps.specs.Accesses.{IsWithin, seen_at, words_after}
+use Rattle.iox_steps.specs.Sites.{last_position}
+use Rattle.iox_wire_needs.specs.MessageBegins.{WordsAreWhole}
+use Rattle.iox_model.specs.Names.{is_port}
+use Rattle.iox_wire_nodes.specs.LocalsBegins.{begin, is_busy}
 use Rattle.iox_word_map.specs.WordMaps.{total_words}
 use Rattle.iox_wire_nodes.specs.WirePlan.{WirePlan}
 use Rattle.iox_wire_nodes.specs.Plans.{IsPlan, sizes_of}
 use Rattle.iox_wire_nodes.specs.Steps.{next, tells}
-use Rattle.iox_wire_nodes.specs.Tables.{Setting}
+use Rattle.iox_wire_nodes.specs.Tables.{Setting, entry_at}
+use Rattle.iox_wire_nodes.specs.WireTerms.{WireTerms}
 use Rattle.iox_wire_nodes.specs.Aims.{IsAimed}
 use Rattle.iox_wire_nodes.specs.declared.call_at.CallAt.TheVariants.{Seats}
 use Rattle.iox_wire_nodes.specs.declared.call_at.NodeReply.{NodeReply}
 use Rattle.iox_wire_nodes.specs.Nodes.{Node, reply_in, seat_in}
-use Rattle.iox_wire_keeps.specs.Openings.{opened_seat}
-use Rattle.iox_wire_keeps.specs.Runs.{GoesOnBy, Run}
-use Rattle.iox_wire_keeps.specs.WholeSteps.{GoesOnWith}
+use Rattle.iox_wire_needs.specs.Openings.{opened_seat}
+use Rattle.iox_wire_needs.specs.Runs.{GoesOnBy, Run}
+use Rattle.iox_wire_needs.specs.WholeSteps.{GoesOnWith}
 use Rattle.iox_wire_weaves.specs.Wires.{OpensOn, Shows, ShowsOpened, WireData, WireNode, answers_in, living_refusal, node_at, wordless_all}
 use Rattle.iox_wire_weaves.specs.Steps.{MakesOneAccess, access_of, answer_of, step_refusal}
+use Rattle.iox_wire_weaves.specs.Asking.{BeginsCall, call_refusal}
 
 -- ---- an opening
 
 -- A wire as it is made from the plan for these nodes: its words are all 0, and each node has nothing.
-pub record IsFresh (p : Setting) (plan : WirePlan) (nodes : List ℕ) (wire : WireData) : Type 0 where
+pub record IsFresh (p : Setting) (plan : WirePlan) (terms : WireTerms) (nodes : List ℕ)
+    (wire : WireData) : Type 0 where
   pub plan_is : wire.plan ≡ plan
+  pub terms_are : wire.terms ≡ terms
   pub words : wire.words ≡ replicate (total_words (sizes_of plan)) 0
   pub nodes_are : (n : ℕ) → is_some (node_at n wire.nodes) ≡ has_number n nodes
   pub seats : (n : ℕ) (x : WireNode) → node_at n wire.nodes ≡ Some x
@@ -36,8 +47,10 @@ pub record IsFresh (p : Setting) (plan : WirePlan) (nodes : List ℕ) (wire : Wi
 -- It shows a run from each state on which it may open.
 abbrev pub WiresOpen : Type 0
 WiresOpen =
-    (plan : WirePlan) (nodes : List ℕ) (p : Setting) (s : State) (wire : WireData)
-    → IsPlan plan → OpensOn plan nodes p s → IsFresh p plan nodes wire → ShowsOpened p s wire
+    (plan : WirePlan) (terms : WireTerms) (nodes : List ℕ) (p : Setting) (s : State)
+    (wire : WireData)
+    → IsPlan plan → OpensOn plan terms nodes p s → IsFresh p plan terms nodes wire
+    → ShowsOpened p s wire
 
 -- ---- one node
 
@@ -77,7 +90,8 @@ StepsShow =
     → Shows p old r → step_refusal old n ≡ None
     → Replaces old.nodes n x y new.nodes → y.alive ≡ x.alive
     → WentOn p x.node (seen_at (access_of p old n) old.words) reply y.node
-    → new.plan ≡ old.plan → new.words ≡ words_after (access_of p old n) old.words
+    → new.plan ≡ old.plan → new.terms ≡ old.terms
+    → new.words ≡ words_after (access_of p old n) old.words
     → new.replies ≡ old.replies ++ wordless_all (answer_of n new.nodes (progress_of reply))
     → MakesOneAccess p old n new
     × (bs : List Beat) × (after : Run) × IsStepOf n bs × GoesOnWith r bs after
@@ -91,5 +105,38 @@ DeathsShow =
     (p : Setting) (old new : WireData) (r : Run) (n : ℕ) (x : WireNode)
     → Shows p old r → living_refusal old.nodes n ≡ None
     → Replaces old.nodes n x (record x { alive = false }) new.nodes
-    → new.plan ≡ old.plan → new.words ≡ old.words → new.replies ≡ old.replies
+    → new.plan ≡ old.plan → new.terms ≡ old.terms → new.words ≡ old.words
+    → new.replies ≡ old.replies
     → (after : Run) × GoesOnBy r (Dies n) after × Shows p new after
+
+-- ---- a begin
+
+-- A node of the wire has its number; and where it lives and is between calls, no handle is a port.
+abbrev pub NodesAreKnown : Type 0
+NodesAreKnown =
+    (p : Setting) (wire : WireData) (r : Run) (n : ℕ) (x : WireNode) → Shows p wire r
+    → node_at n wire.nodes ≡ Some x → let own = x.node.seat.seat in
+    (own.node ≡ n)
+    × (living_refusal wire.nodes n ≡ None → is_busy (seat_in x.node).local ≡ false → (k : ℕ)
+    → IfSome (entry_at k own.table) (λ e. is_port e.kind ≡ false))
+
+-- A call of a port or a handle is refused for the machine's reason: its node does not live, or its
+-- own tables say why.
+abbrev pub RefusalsAreShown : Type 0
+RefusalsAreShown =
+    (p : Setting) (wire : WireData) (r : Run) (n : ℕ) (call : Call) → Shows p wire r
+    → begin_refusal r.last n (Port call) ≡ call_refusal p wire n call
+
+-- After the begin of a call that is not refused, whose words are of whole elements, the wire shows
+-- the run with that beat.
+abbrev pub BeginsShow : Type 0
+BeginsShow =
+    (p : Setting) (old new : WireData) (r : Run) (n : ℕ) (x y : WireNode) (call : WireCall)
+    → Shows p old r → begin_refusal r.last n call ≡ None → WordsAreWhole p.limits call
+    → (seat_in x.node).accesses < last_position
+    → Replaces old.nodes n x y new.nodes → y.alive ≡ x.alive
+    → seat_in y.node ≡ begin p (seat_in x.node) call → IsAimed p y.node
+    → new.plan ≡ old.plan → new.terms ≡ old.terms → new.words ≡ old.words
+    → new.replies ≡ old.replies
+    → BeginsCall p old n call new
+    × (c : Choice) × (after : Run) × GoesOnBy r (Begins n call c) after × Shows p new after

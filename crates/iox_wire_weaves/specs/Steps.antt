@@ -1,5 +1,5 @@
 -- What a step, and a death, do to a wire.
-use Rattle.std.specs.Prelude.{◌≡◌, ℕ, ◌==◌, false, nat_le, not, ◌^◌, ◌++◌, List, [], ◌∷◌, Option, Some, None}
+use Rattle.std.specs.Prelude.{◌≡◌, ℕ, ◌==◌, false, nat_le, not, ◌^◌, List, [], ◌∷◌, Option, None}
 use Rattle.std.specs.Option.{option_map_or}
 use Rattle.iox_model.specs.Commands.{Reply}
 use Rattle.iox_model.specs.Maps.{or_else, refused_if}
@@ -10,13 +10,12 @@ use Rattle.iox_steps.specs.declared.access.Progress.{Progress}
 use Rattle.iox_steps.specs.declared.access.Progress.TheVariants.{Done, Going}
 use Rattle.iox_steps.specs.Accesses.{seen_at, words_after}
 use Rattle.iox_wire_nodes.specs.Programs.{program_access}
-use Rattle.iox_wire_nodes.specs.Seat.{Seat}
 use Rattle.iox_wire_nodes.specs.LocalsBegins.{is_busy}
 use Rattle.iox_wire_nodes.specs.Locals.{program_of}
 use Rattle.iox_wire_nodes.specs.Steps.{next}
 use Rattle.iox_wire_nodes.specs.Tables.{Setting}
-use Rattle.iox_wire_keeps.specs.Runs.{GoesOnBy, Run}
-use Rattle.iox_wire_keeps.specs.WholeSteps.{GoesOnWith}
+use Rattle.iox_wire_needs.specs.Runs.{GoesOnBy, Run}
+use Rattle.iox_wire_needs.specs.WholeSteps.{GoesOnWith}
 use Rattle.iox_wire_nodes.specs.declared.call_at.NodeReply.{NodeReply}
 use Rattle.iox_wire_nodes.specs.Nodes.{reply_in, seat_in}
 use Rattle.iox_wire_weaves.specs.declared.refusal.WireRefusal.{WireRefusal}

@@ -1,5 +1,5 @@
 -- A wire as its callers see it, and when it shows a run of the machine.
-use Rattle.std.specs.Prelude.{◌≡◌, ℕ, Bool, not, ◌==◌, List, [], ◌∷◌, find, flat_map, map, if◌then◌else◌, true, Option, None, Some, option_map}
+use Rattle.std.specs.Prelude.{◌≡◌, ◌<◌, ℕ, Bool, not, ◌==◌, List, [], ◌∷◌, find, flat_map, length, map, if◌then◌else◌, true, Option, None, Some, option_map}
 use Rattle.std.specs.Option.{option_map_or}
 use Rattle.iox_model.specs.declared.reply.Refusal.TheVariants as refusals
 use Rattle.iox_model.specs.declared.reply.Reply.TheVariants.{Words}
@@ -11,17 +11,19 @@ use Rattle.iox_model.specs.States.{State}
 use Rattle.iox_model.specs.WireCalls.{opened, wire_refusal}
 use Rattle.iox_model.specs.Weaves.{Beat, Begins, Dies, Ends, Makes, at_work}
 use Rattle.iox_wire_nodes.specs.WirePlan.{WirePlan}
-use Rattle.iox_wire_nodes.specs.PlansOf.{IsSettingOf}
 use Rattle.iox_wire_nodes.specs.Seat.{Seat}
 use Rattle.iox_wire_nodes.specs.Tables.{Setting}
-use Rattle.iox_wire_keeps.specs.WireStands.{WireStands}
+use Rattle.iox_wire_nodes.specs.Terms.{FitsPlan, IsSettingWith}
+use Rattle.iox_wire_nodes.specs.WireTerms.{WireTerms}
+use Rattle.iox_wire_nodes.specs.Plans.{IsSlotAt}
+use Rattle.iox_wire_needs.specs.WireStands.{WireStands}
 use Rattle.iox_wire_nodes.specs.Aims.{IsAimed}
 use Rattle.iox_wire_nodes.specs.Nodes.{Node, seat_in}
-use Rattle.iox_wire_keeps.specs.Openings.{AgreesWith, opened_seat}
-use Rattle.iox_wire_keeps.specs.Runs.{Run, history}
-use Rattle.iox_wire_keeps.specs.Stands.{Player}
+use Rattle.iox_wire_needs.specs.Openings.{AgreesWith, opened_seat}
+use Rattle.iox_wire_needs.specs.Runs.{Run, history}
+use Rattle.iox_wire_needs.specs.Stands.{Player}
 use Rattle.iox_wire_weaves.specs.declared.refusal.WireRefusal.{WireRefusal}
-use Rattle.iox_wire_weaves.specs.declared.refusal.WireRefusal.TheVariants.{AccessesSpent, AtRest, NodeIsDead, UnknownNode, WantOfMemory}
+use Rattle.iox_wire_weaves.specs.declared.refusal.WireRefusal.TheVariants.{AccessesSpent, AtRest, Busy, ForeignNumber, NodeIsDead, UnknownNode, UnknownNumber, WantOfMemory, WrongKind}
 
 -- ---- a wire
 
@@ -31,10 +33,11 @@ pub record WireNode : Type 0 where
   pub alive : Bool
   pub node : Node
 
--- A wire: what it was made for, its words, its nodes, and what calls were answered, each with its
+-- A wire: what it was made for, and told beside that, its words, its nodes, and what calls were answered, each with its
 -- node, oldest first. The words of reads are not kept there.
 pub record WireData : Type 0 where
   pub plan : WirePlan
+  pub terms : WireTerms
   pub words : List ℕ
   pub nodes : List WireNode
   pub replies : List (ℕ × Reply)
@@ -55,6 +58,10 @@ refusal_in NodeIsDead = refusals.NodeIsDead
 refusal_in AtRest = refusals.AtRest
 refusal_in AccessesSpent = refusals.AccessesSpent
 refusal_in WantOfMemory = refusals.WantOfMemory
+refusal_in Busy = refusals.Busy
+refusal_in UnknownNumber = refusals.UnknownNumber
+refusal_in ForeignNumber = refusals.ForeignNumber
+refusal_in WrongKind = refusals.WrongKind
 
 -- the part of a node; a node that is none of the wire has nothing
 abbrev pub seat_of : Setting → List WireNode → ℕ → Seat
@@ -88,8 +95,8 @@ wordless_all answers = map (λ a. (a.0, wordless a.1)) answers
 
 -- The wire shows the run: it is one of the machine on whose ports the wire was opened.
 pub record Shows (p : Setting) (wire : WireData) (r : Run) : Type 0 where
-  -- the setting is made from the plan
-  pub setting : IsSettingOf wire.plan p
+  -- the setting is made from the plan, with these terms
+  pub setting : IsSettingWith wire.plan wire.terms p
   -- words and nodes stand for the world to which the run led
   pub stands : WireStands p wire.words (players_of p wire.nodes r) r
   -- the nodes that live are those of the machine
@@ -101,10 +108,17 @@ pub record Shows (p : Setting) (wire : WireData) (r : Run) : Type 0 where
 
 -- ---- an opening
 
--- A state that a service reached, on which a wire of that plan may open with these nodes alive, and
--- the setting of that wire.
-pub record OpensOn (plan : WirePlan) (nodes : List ℕ) (p : Setting) (s : State) : Type 0 where
+-- The terms fit the plan, and each port has a slot.
+pub record AreWhole (plan : WirePlan) (terms : WireTerms) : Type 0 where
+  pub fit : FitsPlan plan terms
+  pub slots : (i : ℕ) → i < length plan.ports.items → IsSlotAt plan i 0
+
+-- A state that a service reached, on which a wire of that plan and these terms may open with these
+-- nodes alive, and the setting of that wire.
+pub record OpensOn (plan : WirePlan) (terms : WireTerms) (nodes : List ℕ) (p : Setting) (s : State)
+    : Type 0 where
   pub agrees : AgreesWith plan p s
+  pub told : IsSettingWith plan terms p
   pub reached : IsReachableState s
   pub allowed : wire_refusal s 0 true ≡ None
   pub living : (n : ℕ)

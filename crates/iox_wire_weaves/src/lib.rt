@@ -2,11 +2,15 @@
 //! The functions have nothing to do: each is there for its contract.
 #![tactic(auto)]
 
-ghost use Rattle.iox_wire_weaves.specs.Laws.{DeathsShow, StepsAreSafe, StepsShow, WiresOpen};
+ghost use Rattle.iox_wire_weaves.specs.Laws.{BeginsShow, DeathsShow, RefusalsAreShown, StepsAreSafe};
+ghost use Rattle.iox_wire_weaves.specs.Laws.{NodesAreKnown, StepsShow, WiresOpen};
 
 mod refusal;
 
-pub use iox_wire_nodes::{NodeReply, StoredNode, WirePlan, WordMap, WordMapNewError};
+pub use iox_wire_nodes::{
+    Asked, BeginError, HandleCall, Lists, NodeCall, NodePayload, NodeReply, PlanPort, SeatReply,
+    StoredNode, WirePlan, WireTerms, WordMap, WordMapNewError,
+};
 pub use refusal::WireRefusal;
 
 /// A wire that opens shows a run without a beat.
@@ -27,4 +31,19 @@ pub fn steps_show()
 /// After a death the wire shows the run with that beat.
 pub fn deaths_show()
     ensures { DeathsShow }
+{}
+
+/// A call is refused for the machine's reason.
+pub fn refusals_are_shown()
+    ensures { RefusalsAreShown }
+{}
+
+/// After the begin of a call the wire shows the run with that beat.
+pub fn begins_show()
+    ensures { BeginsShow }
+{}
+
+/// What a call relies on of the node that begins it.
+pub fn nodes_are_known()
+    ensures { NodesAreKnown }
 {}

@@ -7,10 +7,18 @@ pub enum WireRefusal {
     UnknownNode,
     /// The node was declared dead: it does nothing more.
     NodeIsDead,
+    /// A call of the node is under way: let it end first.
+    Busy,
+    /// The node has no handle of that number, and it is no port's.
+    UnknownNumber,
+    /// The port of that number is another node's.
+    ForeignNumber,
+    /// Ports and handles of that kind do not have the call.
+    WrongKind,
     /// No call of the node is under way: begin one first.
     AtRest,
     /// The node made as many accesses as it may.
     AccessesSpent,
-    /// There is no memory for what the step is to record.
+    /// There is no memory for what the call visits, or for what the step is to record.
     WantOfMemory,
 }

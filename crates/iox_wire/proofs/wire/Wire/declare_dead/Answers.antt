@@ -8,14 +8,14 @@ use Rattle.iox_wire.proofs.wire.Wire.declare_dead.Goals as goal
 
 pub invariant_of-self : goal.invariant_of-self
 invariant_of-self c =
-    let w : WireData = record { plan = c.self.inside.places; words = c.self.inside.words.items; nodes = c.self.inside.members.items; replies = told_by c.self.inside.answers.items } in
+    let w : WireData = record { plan = c.self.inside.places; terms = c.self.inside.terms; words = c.self.inside.words.items; nodes = c.self.inside.members.items; replies = told_by c.self.inside.answers.items } in
     shown_dead w c.args.node c.in_ok-place.place c.index_mut.result.now
     (ap (λ (v : WireData). position (λ x. x.number == c.args.node) v.nodes) c.self.view_is ∙ c.in_ok-place.ensures.first) c.index_mut.ensures.value
     c.die.new.self c.self.invariant (ap (λ (v : WireData). living_refusal v.nodes c.args.node) c.self.view_is ∙ c.in_ok-place.ensures.alive) c.die.ensures
 
 pub returns-clause-weave : goal.returns-clause-weave
 returns-clause-weave c p r shows =
-    let w : WireData = record { plan = c.self.inside.places; words = c.self.inside.words.items; nodes = c.self.inside.members.items; replies = told_by c.self.inside.answers.items } in
+    let w : WireData = record { plan = c.self.inside.places; terms = c.self.inside.terms; words = c.self.inside.words.items; nodes = c.self.inside.members.items; replies = told_by c.self.inside.answers.items } in
     died w c.args.node c.in_ok-place.place c.index_mut.result.now
     (ap (λ (v : WireData). position (λ x. x.number == c.args.node) v.nodes) c.self.view_is ∙ c.in_ok-place.ensures.first) c.index_mut.ensures.value
     p r c.die.new.self (subst (λ (v : WireData). Shows p v r) (sym c.self.view_is) shows)
@@ -23,8 +23,8 @@ returns-clause-weave c p r shows =
 
 pub returns-clause-lost : goal.returns-clause-lost
 returns-clause-lost c =
-    let w : WireData = record { plan = c.self.inside.places; words = c.self.inside.words.items; nodes = c.self.inside.members.items; replies = told_by c.self.inside.answers.items } in
-    subst (λ (v : WireData). Loses v c.args.node (record { plan = w.plan; words = w.words; nodes = slice_set w.nodes c.in_ok-place.place c.die.new.self; replies = w.replies }))
+    let w : WireData = record { plan = c.self.inside.places; terms = c.self.inside.terms; words = c.self.inside.words.items; nodes = c.self.inside.members.items; replies = told_by c.self.inside.answers.items } in
+    subst (λ (v : WireData). Loses v c.args.node (record { plan = w.plan; terms = w.terms; words = w.words; nodes = slice_set w.nodes c.in_ok-place.place c.die.new.self; replies = w.replies }))
     c.self.view_is
     (lost w c.args.node c.in_ok-place.place c.index_mut.result.now
     (ap (λ (v : WireData). position (λ x. x.number == c.args.node) v.nodes) c.self.view_is ∙ c.in_ok-place.ensures.first) c.index_mut.ensures.value

@@ -1,5 +1,5 @@
 use Rattle.std.specs.Prelude.{replicate}
-use Rattle.std.proofs.Common.{ap, subst, ◌∙◌}
+use Rattle.std.proofs.Common.{arith, ap, refl, subst, ◌<◌, ◌^◌, ◌∙◌}
 use Rattle.iox_word_map.specs.WordMaps.{total_words}
 use Rattle.iox_wire_weaves.specs.WirePlan.{WirePlan}
 use Rattle.iox_wire_weaves.specs.Plans.{sizes_of}
@@ -12,20 +12,22 @@ use Rattle.iox_wire.proofs.wire.Wire.new.Goals as goal
 
 pub invariant_of-result : goal.invariant_of-result
 invariant_of-result c =
-    let w : WireData = record { plan = c.in_ok-places.places; words = c.in_ok-words.words.items; nodes = c.in_ok-members.members.items; replies = told_by c.new-2.result.items } in
-    shown_opened c.args.plan c.args.nodes.now w c.requires.plan c.in_ok-places.ensures.made
+    let w : WireData = record { plan = c.in_ok-places.places; terms = c.args.terms; words = c.in_ok-words.words.items; nodes = c.in_ok-members.members.items; replies = told_by c.new-2.result.items } in
+    let total : total_words (sizes_of c.args.plan) < 2 ^ 63
+    = subst (λ k. k < 2 ^ 63) (c.total-total.ensures ∙ ap (λ (q : WirePlan). total_words (sizes_of q)) c.in_ok-places.ensures.made) (omega (arith, c.if-total-ge-MOST_WORDS.false)) in
+    shown_opened c.args.plan c.args.terms c.args.nodes.now w c.requires.plan c.in_ok-places.ensures.made refl
     (c.in_ok-words.ensures
-    ∙ ap (λ n. replicate n 0) (c.total.ensures ∙ ap (λ (q : WirePlan). total_words (sizes_of q)) c.in_ok-places.ensures.made))
+    ∙ ap (λ n. replicate n 0) (c.total-total.ensures ∙ ap (λ (q : WirePlan). total_words (sizes_of q)) c.in_ok-places.ensures.made))
     c.args.handles
     (subst (λ (q : WirePlan). AreOpened q c.args.handles c.args.nodes.now c.in_ok-members.members.items) (c.plan.ensures.value ∙ c.in_ok-places.ensures.made) c.in_ok-members.ensures)
-    (ap told_by c.new-2.ensures.items) c.requires.opens
+    (ap told_by c.new-2.ensures.items) c.requires.whole total c.requires.opens
 
 pub returns-clause-opened : goal.returns-clause-opened
 returns-clause-opened c p s opens =
-    let w : WireData = record { plan = c.in_ok-places.places; words = c.in_ok-words.words.items; nodes = c.in_ok-members.members.items; replies = told_by c.new-2.result.items } in
-    shows_opened c.args.plan c.args.nodes.now w c.requires.plan c.in_ok-places.ensures.made
+    let w : WireData = record { plan = c.in_ok-places.places; terms = c.args.terms; words = c.in_ok-words.words.items; nodes = c.in_ok-members.members.items; replies = told_by c.new-2.result.items } in
+    shows_opened c.args.plan c.args.terms c.args.nodes.now w c.requires.plan c.in_ok-places.ensures.made refl
     (c.in_ok-words.ensures
-    ∙ ap (λ n. replicate n 0) (c.total.ensures ∙ ap (λ (q : WirePlan). total_words (sizes_of q)) c.in_ok-places.ensures.made))
+    ∙ ap (λ n. replicate n 0) (c.total-total.ensures ∙ ap (λ (q : WirePlan). total_words (sizes_of q)) c.in_ok-places.ensures.made))
     c.args.handles
     (subst (λ (q : WirePlan). AreOpened q c.args.handles c.args.nodes.now c.in_ok-members.members.items) (c.plan.ensures.value ∙ c.in_ok-places.ensures.made) c.in_ok-members.ensures)
     (ap told_by c.new-2.ensures.items) p s opens

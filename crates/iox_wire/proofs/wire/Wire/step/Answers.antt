@@ -16,7 +16,7 @@ use Rattle.iox_wire.proofs.wire.Wire.step.Goals as goal
 pub returns-in-Some-clause-refused : goal.returns-in-Some-clause-refused
 returns-in-Some-clause-refused c =
     let first = ap (λ (v : WireData). position (λ x. x.number == c.args.node) v.nodes) c.self.view_is ∙ c.in_ok-place.ensures.first in
-    let w : WireData = record { plan = c.self.inside.places; words = c.self.inside.words.items; nodes = c.self.inside.members.items; replies = told_by c.self.inside.answers.items } in
+    let w : WireData = record { plan = c.self.inside.places; terms = c.self.inside.terms; words = c.self.inside.words.items; nodes = c.self.inside.members.items; replies = told_by c.self.inside.answers.items } in
     let at : node_at c.args.node w.nodes ≡ Some c.index.result.now = there w c.args.node c.in_ok-place.place c.index.result.now first c.index.ensures in
     let e : step_refusal c.args.self.now c.args.node ≡ Some c.in-Some.refusal
     = refused_at c.args.self.now c.args.node c.index.result.now (Some c.in-Some.refusal) c.in_ok-place.ensures.alive
@@ -25,13 +25,13 @@ returns-in-Some-clause-refused c =
 
 pub invariant_of-self : goal.invariant_of-self
 invariant_of-self c =
-    subst (λ (xs : List Answer). IsShown (record { plan = c.self.inside.places; words = c.self.inside.words.items; nodes = c.self.inside.members.items; replies = told_by xs }))
+    subst (λ (xs : List Answer). IsShown (record { plan = c.self.inside.places; terms = c.self.inside.terms; words = c.self.inside.words.items; nodes = c.self.inside.members.items; replies = told_by xs }))
     (sym c.reserve.ensures.items) c.self.invariant
 
 pub returns-then-is_err-clause-refused : goal.returns-then-is_err-clause-refused
 returns-then-is_err-clause-refused c =
     let first = ap (λ (v : WireData). position (λ x. x.number == c.args.node) v.nodes) c.self.view_is ∙ c.in_ok-place.ensures.first in
-    let w : WireData = record { plan = c.self.inside.places; words = c.self.inside.words.items; nodes = c.self.inside.members.items; replies = told_by c.self.inside.answers.items } in
+    let w : WireData = record { plan = c.self.inside.places; terms = c.self.inside.terms; words = c.self.inside.words.items; nodes = c.self.inside.members.items; replies = told_by c.self.inside.answers.items } in
     let at : node_at c.args.node w.nodes ≡ Some c.index.result.now = there w c.args.node c.in_ok-place.place c.index.result.now first c.index.ensures in
     let e : step_refusal c.args.self.now c.args.node ≡ None
     = refused_at c.args.self.now c.args.node c.index.result.now None c.in_ok-place.ensures.alive
@@ -41,17 +41,17 @@ returns-then-is_err-clause-refused c =
 pub make_access-reply-requires-clause-may : goal.make_access-reply-requires-clause-may
 make_access-reply-requires-clause-may c =
     let first = ap (λ (v : WireData). position (λ x. x.number == c.args.node) v.nodes) c.self.view_is ∙ c.in_ok-place.ensures.first in
-    let w : WireData = record { plan = c.self.inside.places; words = c.self.inside.words.items; nodes = c.self.inside.members.items; replies = told_by c.self.inside.answers.items } in (
-      c.self.invariant.0.0,
+    let w : WireData = record { plan = c.self.inside.places; terms = c.self.inside.terms; words = c.self.inside.words.items; nodes = c.self.inside.members.items; replies = told_by c.self.inside.answers.items } in (
+      c.self.invariant.shows.0,
       may_access w c.args.node c.in_ok-place.place c.index_mut.result.now first c.index_mut.ensures.value
-          c.self.invariant.0.0 c.self.invariant.0.1 c.self.invariant.0.2
+          c.self.invariant.shows.0 c.self.invariant.shows.1 c.self.invariant.shows.2
           (ap (λ (v : WireData). living_refusal v.nodes c.args.node) c.self.view_is ∙ c.in_ok-place.ensures.alive),
     )
 
 pub make_access-reply-requires-clause-few : goal.make_access-reply-requires-clause-few
 make_access-reply-requires-clause-few c =
     let first = ap (λ (v : WireData). position (λ x. x.number == c.args.node) v.nodes) c.self.view_is ∙ c.in_ok-place.ensures.first in
-    let w : WireData = record { plan = c.self.inside.places; words = c.self.inside.words.items; nodes = c.self.inside.members.items; replies = told_by c.self.inside.answers.items } in
+    let w : WireData = record { plan = c.self.inside.places; terms = c.self.inside.terms; words = c.self.inside.words.items; nodes = c.self.inside.members.items; replies = told_by c.self.inside.answers.items } in
     let alive : living_refusal w.nodes c.args.node ≡ None = ap (λ (v : WireData). living_refusal v.nodes c.args.node) c.self.view_is ∙ c.in_ok-place.ensures.alive in
     let seen : node_at c.args.node w.nodes ≡ Some c.index.result.now = there w c.args.node c.in_ok-place.place c.index.result.now first c.index.ensures in
     let at : node_at c.args.node w.nodes ≡ Some c.index_mut.result.now = there w c.args.node c.in_ok-place.place c.index_mut.result.now first c.index_mut.ensures.value in
@@ -61,14 +61,14 @@ make_access-reply-requires-clause-few c =
 pub make_access-reply-requires-clause-seated : goal.make_access-reply-requires-clause-seated
 make_access-reply-requires-clause-seated c =
     let first = ap (λ (v : WireData). position (λ x. x.number == c.args.node) v.nodes) c.self.view_is ∙ c.in_ok-place.ensures.first in
-    let w : WireData = record { plan = c.self.inside.places; words = c.self.inside.words.items; nodes = c.self.inside.members.items; replies = told_by c.self.inside.answers.items } in
-    c.self.invariant.1 c.args.node c.index_mut.result.now
+    let w : WireData = record { plan = c.self.inside.places; terms = c.self.inside.terms; words = c.self.inside.words.items; nodes = c.self.inside.members.items; replies = told_by c.self.inside.answers.items } in
+    c.self.invariant.seated c.args.node c.index_mut.result.now
     (there w c.args.node c.in_ok-place.place c.index_mut.result.now first c.index_mut.ensures.value)
 
 pub invariant_of-self-2 : goal.invariant_of-self-2
 invariant_of-self-2 c =
     let first = ap (λ (v : WireData). position (λ x. x.number == c.args.node) v.nodes) c.self.view_is ∙ c.in_ok-place.ensures.first in
-    let w : WireData = record { plan = c.self.inside.places; words = c.self.inside.words.items; nodes = c.self.inside.members.items; replies = told_by c.self.inside.answers.items } in
+    let w : WireData = record { plan = c.self.inside.places; terms = c.self.inside.terms; words = c.self.inside.words.items; nodes = c.self.inside.members.items; replies = told_by c.self.inside.answers.items } in
     let alive : living_refusal w.nodes c.args.node ≡ None = ap (λ (v : WireData). living_refusal v.nodes c.args.node) c.self.view_is ∙ c.in_ok-place.ensures.alive in
     let seen : node_at c.args.node w.nodes ≡ Some c.index.result.now = there w c.args.node c.in_ok-place.place c.index.result.now first c.index.ensures in
     shown_after w c.args.node c.in_ok-place.place c.index_mut.result.now first c.index_mut.ensures.value
@@ -82,7 +82,7 @@ invariant_of-self-2 c =
 pub returns-clause-allowed : goal.returns-clause-allowed
 returns-clause-allowed c =
     let first = ap (λ (v : WireData). position (λ x. x.number == c.args.node) v.nodes) c.self.view_is ∙ c.in_ok-place.ensures.first in
-    let w : WireData = record { plan = c.self.inside.places; words = c.self.inside.words.items; nodes = c.self.inside.members.items; replies = told_by c.self.inside.answers.items } in
+    let w : WireData = record { plan = c.self.inside.places; terms = c.self.inside.terms; words = c.self.inside.words.items; nodes = c.self.inside.members.items; replies = told_by c.self.inside.answers.items } in
     let at : node_at c.args.node w.nodes ≡ Some c.index.result.now = there w c.args.node c.in_ok-place.place c.index.result.now first c.index.ensures in
     refused_at c.args.self.now c.args.node c.index.result.now None c.in_ok-place.ensures.alive
     (sym (ap (λ (v : WireData). node_at c.args.node v.nodes) c.self.view_is) ∙ at) (sym c.in_default.ensures)
@@ -90,7 +90,7 @@ returns-clause-allowed c =
 pub returns-clause-one_access : goal.returns-clause-one_access
 returns-clause-one_access c p r shows =
     let first = ap (λ (v : WireData). position (λ x. x.number == c.args.node) v.nodes) c.self.view_is ∙ c.in_ok-place.ensures.first in
-    let w : WireData = record { plan = c.self.inside.places; words = c.self.inside.words.items; nodes = c.self.inside.members.items; replies = told_by c.self.inside.answers.items } in
+    let w : WireData = record { plan = c.self.inside.places; terms = c.self.inside.terms; words = c.self.inside.words.items; nodes = c.self.inside.members.items; replies = told_by c.self.inside.answers.items } in
     let alive : living_refusal w.nodes c.args.node ≡ None = ap (λ (v : WireData). living_refusal v.nodes c.args.node) c.self.view_is ∙ c.in_ok-place.ensures.alive in
     let seen : node_at c.args.node w.nodes ≡ Some c.index.result.now = there w c.args.node c.in_ok-place.place c.index.result.now first c.index.ensures in
     let here : Shows p w r = subst (λ (v : WireData). Shows p v r) (sym c.self.view_is) shows in
@@ -103,13 +103,13 @@ returns-clause-one_access c p r shows =
     c.tell.new.events.items
     (c.tell.ensures ∙ ap₂ (λ xs o. xs ++ option_to_list o) c.reserve.ensures.items c.answered.ensures)) in
     subst (λ (v : WireData). MakesOneAccess p v c.args.node
-    (record { plan = w.plan; words = c.make_access-reply.new.words.items; nodes = slice_set w.nodes c.in_ok-place.place c.make_access-reply.new.self; replies = told_by c.tell.new.events.items }))
+    (record { plan = w.plan; terms = w.terms; words = c.make_access-reply.new.words.items; nodes = slice_set w.nodes c.in_ok-place.place c.make_access-reply.new.self; replies = told_by c.tell.new.events.items }))
     c.self.view_is made.0
 
 pub returns-clause-weave : goal.returns-clause-weave
 returns-clause-weave c p r shows =
     let first = ap (λ (v : WireData). position (λ x. x.number == c.args.node) v.nodes) c.self.view_is ∙ c.in_ok-place.ensures.first in
-    let w : WireData = record { plan = c.self.inside.places; words = c.self.inside.words.items; nodes = c.self.inside.members.items; replies = told_by c.self.inside.answers.items } in
+    let w : WireData = record { plan = c.self.inside.places; terms = c.self.inside.terms; words = c.self.inside.words.items; nodes = c.self.inside.members.items; replies = told_by c.self.inside.answers.items } in
     let alive : living_refusal w.nodes c.args.node ≡ None = ap (λ (v : WireData). living_refusal v.nodes c.args.node) c.self.view_is ∙ c.in_ok-place.ensures.alive in
     let seen : node_at c.args.node w.nodes ≡ Some c.index.result.now = there w c.args.node c.in_ok-place.place c.index.result.now first c.index.ensures in
     let here : Shows p w r = subst (λ (v : WireData). Shows p v r) (sym c.self.view_is) shows in

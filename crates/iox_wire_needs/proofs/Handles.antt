@@ -1,0 +1,134 @@
+-- A handle may be given up: its slot is in use, and fewer lanes are free than its port has slots.
+use Rattle.std.specs.Prelude.{find, length, ◌++◌}
+use Rattle.std.specs.Option.{option_map_or}
+use Rattle.std.proofs.Common.{◌≡◌, ℕ, ◌<◌, ◌≤◌, Bool, true, false, ◌&&◌, ◌==◌, List, [], Some, None, refl, ap, sym, subst, ◌∙◌, arith, inl, inr, true≢false, eq-eqb}
+use Rattle.std.proofs.lemmas.Bool.{cases_Bool}
+use Rattle.iox_model.specs.declared.kind.Kind.{Kind}
+use Rattle.iox_model.specs.declared.kind.Kind.TheVariants as kinds
+use Rattle.iox_model.specs.declared.kind.Role.{Role}
+use Rattle.iox_model.specs.declared.kind.Role.TheVariants.{Client, Server}
+use Rattle.iox_model.specs.Handles.{is_own, is_received}
+use Rattle.iox_model.specs.Joins.{not_living}
+use Rattle.iox_model.specs.Maps.{has_number}
+use Rattle.iox_model.specs.Settings.{is_client}
+use Rattle.iox_laws.proofs.WeaveLaws.WholeLemmas.{some-is}
+use Rattle.iox_laws.proofs.WeaveLedger.Lists.{among-back, among-filter, among-front, among-map, among-number}
+use Rattle.iox_wire_keeps.specs.Desk.{Desk}
+use Rattle.iox_wire_keeps.specs.Desks.{IsHeldAt, MayGiveUp}
+use Rattle.iox_wire_keeps.specs.Entry.{Entry}
+use Rattle.iox_wire_keeps.specs.Following.{LeavesNothing, message_at}
+use Rattle.iox_wire_keeps.specs.Known.{free_lanes}
+use Rattle.iox_wire_keeps.specs.Lanes.{has_own_lane, lanes_in, lent_in}
+use Rattle.iox_wire_keeps.specs.Local.TheVariants.{Idle}
+use Rattle.iox_wire_keeps.specs.Nodes.{NodeStands}
+use Rattle.iox_wire_keeps.specs.Places.{SuitsPort, is_kind_of}
+use Rattle.iox_wire_keeps.specs.CallsStand.{CallStands}
+use Rattle.iox_wire_keeps.specs.Seat.{Seat}
+use Rattle.iox_wire_keeps.specs.SlotsKnown.{HasEntry}
+use Rattle.iox_wire_keeps.specs.Tables.{Setting}
+use Rattle.iox_wire_keeps.specs.UsedSlots.{slots_held, slots_in_call, slots_used}
+use Rattle.iox_wire_keeps.specs.Uses.{how_often}
+use Rattle.iox_wire_keeps.specs.Runs.{Run}
+use Rattle.iox_wire_keeps.specs.Stands.{Player}
+use Rattle.iox_wire_keeps.specs.WireStands.{WireStands}
+use Rattle.iox_wire_keeps.proofs.Counting.{used}
+use Rattle.iox_wire_keeps.proofs.LaneCounts.{servers_have_no_lane}
+use Rattle.iox_wire_keeps.proofs.LanesTell.{in_table, there_is}
+use Rattle.iox_wire_keeps.proofs.StepsKept.{shown_same}
+use Rattle.iox_wire_needs.specs.Counts.{IsTidy}
+use Rattle.iox_wire_needs.specs.Handles.{HandlesMayBeGivenUp}
+use Rattle.iox_wire_needs.proofs.AtDesks.{at_desk, may_give_up}
+use Rattle.iox_wire_needs.proofs.GivenUp.{gives_up}
+use Rattle.iox_wire_needs.proofs.Places.{node}
+use Rattle.iox_wire_needs.proofs.Uses.{used_here}
+
+-- what a client has and did not receive has a lane, and what a port has and did not receive is its own
+own_lane : (kind : Kind) → is_kind_of Client kind ≡ true → is_received kind ≡ false → has_own_lane kind ≡ true
+own_lane kinds.RequestMut is own = refl
+own_lane kinds.PendingResponse is own = refl
+own_lane kinds.Response is own = absurd (true≢false own)
+own_lane kind is own = absurd (true≢false (sym is))
+
+own_kind : (role : Role) (kind : Kind) → is_kind_of role kind ≡ true → is_received kind ≡ false → is_own kind ≡ true
+own_kind Client kinds.RequestMut is own = refl
+own_kind Client kinds.PendingResponse is own = refl
+own_kind Client kinds.Response is own = absurd (true≢false own)
+own_kind Client kind is own = absurd (true≢false (sym is))
+own_kind Server kinds.ResponseMut is own = refl
+own_kind Server kinds.ActiveRequest is own = absurd (true≢false own)
+own_kind Server kind is own = absurd (true≢false (sym is))
+
+is_a_client : (role : Role) → is_client role ≡ true → role ≡ Client
+is_a_client Client is = refl
+is_a_client Server is = absurd (true≢false (sym is))
+
+both : (a b : Bool) → a ≡ true → b ≡ true → (a && b) ≡ true
+both true b first second = second
+both false b first second = absurd (true≢false (sym first))
+
+module _ (p : Setting) (words : List ℕ) (players : ℕ → Player) (r : Run) (n : ℕ) (wire : WireStands p words players r) (living : not_living r.last.state n ≡ None)
+    (idle : (players n).seat.local ≡ Idle) (tidy : IsTidy (players n).seat) (e : Entry) (has : HasEntry (players n).seat e) (own : is_received e.kind ≡ false) where
+  abbrev x : Seat
+  x = (players n).seat
+
+  leaves : LeavesNothing (message_at (players n).seat.local)
+  leaves = subst (λ l. LeavesNothing (message_at l)) (sym idle) tt
+
+  call : CallStands p wire.stands.held (players n).seat
+  call = subst (CallStands p wire.stands.held) (shown_same p x x.local leaves) (wire.calls n living)
+
+  mine : NodeStands p wire.stands.held r.last.state (players n).seat
+  mine = node p words players r n wire living leaves
+
+  suits : SuitsPort p (players n).seat e.port e.kind
+  suits = call.fits.handles e has
+
+  -- its slot is in use
+  there : has_number e.slot (slots_used (players n).seat e.port) ≡ true
+  there =
+      among-number e.slot (slots_used x e.port)
+      (among-back e.slot (slots_in_call e.port x.local) _
+      (among-front e.slot (slots_held x e.port) _
+      (among-map (λ (k : Entry). k.slot) e _
+      (among-filter (λ (k : Entry). is_own k.kind && (k.port == e.port)) e x.table (in_table x e has)
+      (both (is_own e.kind) (e.port == e.port) (own_kind (p.port e.port).role e.kind suits.1 own) (eq-eqb e.port e.port refl))))))
+
+  -- of a client
+  at_client : is_client (p.port e.port).role ≡ true → MayGiveUp e (players n).seat.desks
+  at_client client =
+      gives_up p x mine.uses call.lanes tidy e suits.0 client there
+      (subst (λ m. 1 ≤ how_often e.lane (lanes_in e.port (lent_in m ++ x.table))) (sym (ap message_at idle))
+      (there_is e.port e x.table (in_table x e has)
+      (own_lane e.kind (subst (λ role. is_kind_of role e.kind ≡ true) (is_a_client (p.port e.port).role client) suits.1) own) refl))
+
+  -- of a server, which has no lane
+  at_server : is_client (p.port e.port).role ≡ false → MayGiveUp e (players n).seat.desks
+  at_server server =
+      may_give_up e x.desks (at_desk (IsHeldAt e) e.port x.desks tidy.desks (λ d found. (
+        used_here p x mine.uses tidy.desks e.port e.slot suits.0 (used e.slot (slots_used x e.port) there) d found,
+        fewer d found,
+      )))
+    where
+      none_free : free_lanes (players n).seat e.port ≡ []
+      none_free = servers_have_no_lane p x call.lanes e.port suits.0 server
+
+      in_pool : e.slot < (p.port e.port).pool
+      in_pool = (mine.slots.pools e.port suits.0).within e.slot there
+
+      fewer : (d : Desk) → find (λ k. k.port == e.port) (players n).seat.desks ≡ Some d → length d.free_lanes < length d.uses
+      fewer d found =
+          let u = mine.uses e.port suits.0 in
+          let lanes : length d.free_lanes ≡ 0
+          = ap (λ o. length (option_map_or (λ (k : Desk). k.free_lanes) o [])) (sym found) ∙ ap length none_free in
+          let pool : length d.uses ≡ (p.port e.port).pool
+          = ap (λ (k : Desk). length k.uses) (some-is d u.desk (sym found ∙ u.there)) ∙ u.counts.words in
+          low (length d.free_lanes) (length d.uses) (p.port e.port).pool e.slot lanes pool in_pool
+        where
+          low : (a b c i : ℕ) → a ≡ 0 → b ≡ c → i < c → a < b
+          low a b c i none is less = omega (arith, none, is, less)
+
+pub handles_may_be_given_up : HandlesMayBeGivenUp
+handles_may_be_given_up p words players r n wire living idle tidy e has own = elim (cases_Bool (is_client (p.port e.port).role)) [
+  | inl client ↦ at_client p words players r n wire living idle tidy e has own client
+  | inr server ↦ at_server p words players r n wire living idle tidy e has own server
+]

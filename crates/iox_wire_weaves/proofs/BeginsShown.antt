@@ -1,0 +1,150 @@
+-- A call is refused for the machine's reason, and after its begin the wire shows the run with that beat.
+use Rattle.std.specs.Prelude.{is_some, option_map, if◌then◌else◌}
+use Rattle.std.specs.Option.{option_map_or}
+use Rattle.std.proofs.Common.{◌≡◌, ℕ, ◌<◌, Bool, true, false, ◌==◌, List, [], ◌∷◌, ◌++◌, Option, Some, None, refl, ap, ap₂, sym, subst, ◌∙◌, eqb-true, append-nil, inl, inr}
+use Rattle.std.proofs.lemmas.Bool.{cases_Bool}
+use Rattle.iox_model.specs.declared.call.WireCall.TheVariants.{Port}
+use Rattle.iox_model.specs.declared.reply.Refusal.TheVariants as refusals
+use Rattle.iox_model.specs.Commands.{Call, WireCall}
+use Rattle.iox_model.specs.Joins.{not_living}
+use Rattle.iox_model.specs.Maps.{or_else, put_at, refused_if}
+use Rattle.iox_model.specs.Weaves.{Begins, World, begin_refusal, miscalled}
+use Rattle.iox_steps.specs.Sites.{last_position}
+use Rattle.iox_wire_nodes.specs.Aims.{IsAimed}
+use Rattle.iox_wire_nodes.specs.Local.{Local}
+use Rattle.iox_wire_nodes.specs.LocalsBegins.{begin, is_busy, misnamed_call, refusal_at}
+use Rattle.iox_wire_nodes.specs.Nodes.{seat_in}
+use Rattle.iox_wire_nodes.specs.Seat.{Seat}
+use Rattle.iox_wire_nodes.specs.Tables.{Setting}
+use Rattle.iox_wire_needs.specs.Local.TheVariants.{ReleaseExchanges, ReleaseLooks}
+use Rattle.iox_wire_needs.specs.Aside.{shown_at}
+use Rattle.iox_wire_needs.specs.Readiness.{choice_for}
+use Rattle.iox_wire_needs.specs.Openings.{opened_seat}
+use Rattle.iox_wire_needs.specs.MessageBegins.{WordsAreWhole}
+use Rattle.iox_wire_needs.specs.Runs.{Asked, GoesOnBy, Run, Said, history}
+use Rattle.iox_wire_needs.specs.Stands.{Player, seats_of}
+use Rattle.iox_wire_needs.specs.WireStands.{WireStands}
+use Rattle.iox_wire_needs.proofs.BeginBeats.{refusals_are_the_machines}
+use Rattle.iox_wire_needs.proofs.BeginWhole.{begun_wires_stand}
+use Rattle.iox_wire_weaves.specs.Asking.{BeginsCall, call_refusal}
+use Rattle.iox_wire_weaves.specs.declared.refusal.WireRefusal.{WireRefusal}
+use Rattle.iox_wire_weaves.specs.Laws.{BeginsShow, RefusalsAreShown, Replaces}
+use Rattle.iox_wire_weaves.specs.Wires.{Shows, WireData, WireNode, answers_in, living_refusal, node_at, players_of, refusal_in, seat_of, wordless_all}
+use Rattle.iox_wire_weaves.proofs.Lookups.{answers_on, fun_ext, same_living, same_setting, seat_there}
+
+-- ---- refusals
+
+or_none : {A : Type 0} (o : Option A) → or_else o None ≡ o
+or_none None = refl
+or_none (Some a) = refl
+
+-- a node that is shown otherwise has a call under way, and is shown with one
+refused_alike : (p : Setting) (x : Seat) (call : WireCall) (local : Local) → x.local ≡ local → refusal_at p (shown_at p x local) call ≡ refusal_at p x call
+refused_alike p x call (ReleaseLooks e) is = sym (ap (λ l. or_else (refused_if (is_busy l) refusals.Busy) (misnamed_call p x call)) is)
+refused_alike p x call (ReleaseExchanges e old) is = sym (ap (λ l. or_else (refused_if (is_busy l) refusals.Busy) (misnamed_call p x call)) is)
+refused_alike p x call local is = refl
+
+module _ (p : Setting) (wire : WireData) (r : Run) (n : ℕ) (call : Call) (shows : Shows p wire r) where
+  abbrev own : Seat
+  own = seat_of p wire.nodes n
+
+  abbrev z : Seat
+  z = seats_of p (players_of p wire.nodes r) n
+
+  by_tables : not_living r.last.state n ≡ None → begin_refusal r.last n (Port call) ≡ refusal_at p own (Port call)
+  by_tables lives =
+      ap (λ k. begin_refusal r.last k (Port call)) (sym (shows.stands.stands.shows.node n))
+      ∙ refusals_are_the_machines p shows.stands.stands.held r.last z (Port call) (shows.stands.stands.shows.counts n lives) (shows.stands.stands.shows.doing n lives)
+      ∙ ap (λ o. or_else o (or_else (refusal_at p z (Port call)) None)) (ap (not_living r.last.state) (shows.stands.stands.shows.node n) ∙ lives)
+      ∙ or_none (refusal_at p z (Port call)) ∙ refused_alike p own (Port call) own.local refl
+
+  by_node : (o : Option WireRefusal) → living_refusal wire.nodes n ≡ o → begin_refusal r.last n (Port call) ≡ call_refusal p wire n call
+  by_node None at =
+      by_tables (shows.living n ∙ ap (option_map refusal_in) at)
+      ∙ sym (ap (λ o. or_else (option_map refusal_in o) (refusal_at p own (Port call))) at)
+  by_node (Some refusal) at =
+      ap (λ o. or_else o (or_else (refused_if (is_some (r.last.doing n)) refusals.Busy) (miscalled r.last.state n (Port call)))) (shows.living n ∙ ap (option_map refusal_in) at)
+      ∙ sym (ap (λ o. or_else (option_map refusal_in o) (refusal_at p own (Port call))) at)
+
+pub refusals_are_shown : RefusalsAreShown
+refusals_are_shown p wire r n call shows = by_node p wire r n call shows (living_refusal wire.nodes n) refl
+
+-- ---- the begin
+
+module _ (p : Setting) (old new : WireData) (r : Run) (n : ℕ) (x y : WireNode) (call : WireCall) (shows : Shows p old r)
+    (free : begin_refusal r.last n call ≡ None) (whole : WordsAreWhole p.limits call) (few : (seat_in x.node).accesses < last_position)
+    (puts : Replaces old.nodes n x y new.nodes) (alive : y.alive ≡ x.alive) (begins : seat_in y.node ≡ begin p (seat_in x.node) call) (aimed : IsAimed p y.node)
+    (plan : new.plan ≡ old.plan) (terms : new.terms ≡ old.terms) (words : new.words ≡ old.words) (replies : new.replies ≡ old.replies) where
+  abbrev seat : Seat
+  seat = seat_of p old.nodes n
+
+  here : seat ≡ seat_in x.node
+  here = seat_there p old.nodes n x puts.before
+
+  abbrev player : Player
+  player = record { seat = begin p seat call; said = history n r.beats ++ Asked call ∷ [] }
+
+  goes : (next : Run) × GoesOnBy r (Begins n call (choice_for p seat call)) next
+      × WireStands p old.words (put_at (players_of p old.nodes r) n player) next
+  goes =
+      begun_wires_stand p old.words (players_of p old.nodes r) r n call shows.stands
+      (subst (λ k. k < last_position) (sym (ap (λ (s : Seat). s.accesses) here)) few) whole free
+
+  abbrev after : Run
+  after = goes.0
+
+  there : seat_of p new.nodes n ≡ begin p seat call
+  there = seat_there p new.nodes n y puts.here ∙ begins ∙ ap (λ s. begin p s call) (sym here)
+
+  seats_agree : (m : ℕ) (b : Bool) → (m == n) ≡ b → seat_of p new.nodes m ≡ (if b then player else players_of p old.nodes r m).seat
+  seats_agree m true same = ap (seat_of p new.nodes) (eqb-true m n same) ∙ there
+  seats_agree m false other = ap (λ o. option_map_or (λ (z : WireNode). seat_in z.node) o (opened_seat p m)) (puts.others m other)
+
+  players_agree : (m : ℕ) → put_at (players_of p old.nodes r) n player m ≡ players_of p new.nodes after m
+  players_agree m =
+      ap₂ (λ (s : Seat) (h : List Said). record { seat = s; said = h }) (sym (seats_agree m (m == n) refl)) (sym (goes.2.stands.histories m))
+
+  stands_now : WireStands p new.words (players_of p new.nodes after) after
+  stands_now =
+      subst (λ ws. WireStands p ws (players_of p new.nodes after) after) (sym words)
+      (subst (λ (f : ℕ → Player). WireStands p old.words f after) (fun_ext players_agree) goes.2)
+
+  living_then : (m : ℕ) → not_living after.last.state m ≡ option_map refusal_in (living_refusal new.nodes m)
+  living_then m =
+      ap (λ (v : World). not_living v.state m) goes.1.beat.2
+      ∙ shows.living m ∙ ap (option_map refusal_in) (sym (same_living old.nodes n x y new.nodes puts alive m))
+
+  aimed_then : (m : ℕ) (z : WireNode) → node_at m new.nodes ≡ Some z → IsAimed p z.node
+  aimed_then m z at = elim (cases_Bool (m == n)) [
+    | inl same ↦ (
+        let e : Some y ≡ Some z = sym puts.here ∙ sym (ap (λ k. node_at k new.nodes) (eqb-true m n same)) ∙ at in
+        subst (λ (v : WireNode). IsAimed p v.node) (ap (λ o. option_map_or (λ v. v) o z) e) aimed
+        )
+    | inr other ↦ shows.aimed m z (sym (puts.others m other) ∙ at)
+  ]
+
+  replies_then : new.replies ≡ wordless_all (answers_in after.beats)
+  replies_then =
+      replies ∙ shows.replies
+      ∙ ap wordless_all (sym (append-nil (answers_in r.beats)) ∙ sym (answers_on r.beats (Begins n call (choice_for p seat call) ∷ [])) ∙ ap answers_in (sym goes.1.beats))
+
+  shows_then : Shows p new after
+  shows_then = record {
+    setting = same_setting p old new plan terms shows.setting;
+    stands = stands_now;
+    living = living_then;
+    aimed = aimed_then;
+    replies = replies_then;
+  }
+
+  begins_call : BeginsCall p old n call new
+  begins_call = record { node = there; others = puts.others; words = words; replies = replies }
+
+pub begins_show : BeginsShow
+begins_show p old new r n x y call shows free whole few puts alive begins aimed plan terms words replies = (
+  begins_call p old new r n x y call shows free whole few puts alive begins aimed plan terms words replies,
+  choice_for p (seat_of p old.nodes n) call,
+  (goes p old new r n x y call shows free whole few puts alive begins aimed plan terms words replies).0,
+  (goes p old new r n x y call shows free whole few puts alive begins aimed plan terms words replies).1,
+  shows_then p old new r n x y call shows free whole few puts alive begins aimed plan terms words replies,
+)
