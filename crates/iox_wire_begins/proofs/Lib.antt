@@ -3,6 +3,7 @@ pub mod TermLemmas
 pub use Rattle.iox_wire_handle_calls.proofs.Aside
 pub use Rattle.iox_wire_handle_calls.proofs.BeginCounts
 pub use Rattle.iox_wire_handle_calls.proofs.CountLemmas
+pub use Rattle.iox_wire_handle_calls.proofs.EndCounts
 pub use Rattle.iox_wire_handle_calls.proofs.HeaderLemmas
 pub use Rattle.iox_wire_handle_calls.proofs.Layouts
 pub use Rattle.iox_wire_handle_calls.proofs.OwnedPlaces

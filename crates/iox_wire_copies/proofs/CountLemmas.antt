@@ -1,10 +1,11 @@
 -- An access of a call that is not over makes and loses no handle, and counts no loan.
 use Rattle.std.specs.Prelude.{option_map}
-use Rattle.std.proofs.Common.{◌≡◌, ◌<◌, ◌+◌, ◌==◌, ◌^◌, ℕ, Bool, true, false, cond, if◌then◌else◌, List, [], ◌∷◌, ◌++◌, map, length, Option, Some, None, refl, ap, sym, subst, ◌∙◌, arith}
+use Rattle.std.proofs.Common.{◌≡◌, ◌<◌, ◌+◌, ◌==◌, ◌^◌, ℕ, suc, Bool, true, false, cond, if◌then◌else◌, List, [], ◌∷◌, ◌++◌, map, length, Option, Some, None, refl, ap, ap₂, sym, subst, ◌∙◌, arith}
 use Rattle.std.proofs.lemmas.Option.{none-some}
 use Rattle.iox_model.specs.declared.kind.Role.TheVariants.{Server}
 use Rattle.iox_model.specs.declared.way.RequestState.{RequestState}
 use Rattle.iox_model.specs.declared.way.Way.{Way}
+use Rattle.iox_model.specs.Maps.{without_number}
 use Rattle.iox_model.specs.Peers.{others}
 use Rattle.iox_steps.specs.declared.side.Popping.{Popping}
 use Rattle.iox_steps.specs.declared.side.Pushing.{Pushing}
@@ -21,7 +22,7 @@ use Rattle.iox_wire_locals.specs.declared.table.Desk.{Desk}
 use Rattle.iox_wire_locals.specs.declared.table.Entry.{Entry}
 use Rattle.iox_wire_locals.specs.declared.table.NewLoan.{NewLoan}
 use Rattle.iox_wire_locals.specs.Courses.{asked, delivering, emptying, loaning, looking, lent, opening, placed, sends, sends_request, sends_response, takes_slot}
-use Rattle.iox_wire_locals.specs.Desks.{at_desk, delivers, gets_back, on_desk, picks}
+use Rattle.iox_wire_locals.specs.Desks.{at_desk, delivers, gets_back, on_desk, picks, with_slots}
 use Rattle.iox_wire_locals.specs.Findings.{loan_emptied, send_delivered, send_emptied, send_evicted, send_got_back, send_looked, send_pushed}
 use Rattle.iox_wire_locals.specs.Known.{free_slots, known}
 use Rattle.iox_wire_locals.specs.NewLoans.{entry_in}
@@ -40,14 +41,26 @@ use Rattle.iox_wire_copies.specs.declared.at.CopierAt.{CopierAt}
 use Rattle.iox_wire_copies.specs.declared.at.CopierAt.TheVariants as copier
 use Rattle.iox_wire_copies.specs.Copiers.{IsAtWork, MayBeMade, SendsLoan}
 
+-- It has the ports that it had, each with as many ways, and counts on the same ways.
+pub record PortsAlike (x y : Seat) : Type 0 where
+  pub ports : map (λ d. d.port) y.desks ≡ map (λ d. d.port) x.desks
+  pub sends : map (λ d. length d.recorded) y.desks ≡ map (λ d. length d.recorded) x.desks
+  pub ways : map (λ b. b.way) y.borrowed ≡ map (λ b. b.way) x.borrowed
+
 -- It has the handles that it had, made as many, and each desk that may count one loan more still may.
 pub record CountsAlike (x y : Seat) : Type 0 where
+  pub alike : PortsAlike x y
   pub table : y.table ≡ x.table
   pub handles : y.handles_made ≡ x.handles_made
   pub loans : (port : ℕ) → MayCount port x.desks → MayCount port y.desks
 
 both : (x y z : Seat) → CountsAlike x y → CountsAlike y z → CountsAlike x z
 both x y z first later = record {
+  alike = record {
+    ports = later.alike.ports ∙ first.alike.ports;
+    sends = later.alike.sends ∙ first.alike.sends;
+    ways = later.alike.ways ∙ first.alike.ways;
+  };
   table = later.table ∙ first.table;
   handles = later.handles ∙ first.handles;
   loans = λ port may. later.loans port (first.loans port may);
@@ -60,7 +73,7 @@ either x u v false first other = other
 -- ---- at another place, and at the desk of a port
 
 pub at_place : (x : Seat) (l : Local) → CountsAlike x (placed x l)
-at_place x l = record { table = refl; handles = refl; loans = λ port may. may }
+at_place x l = record { alike = record { ports = refl; sends = refl; ways = refl }; table = refl; handles = refl; loans = λ port may. may }
 
 still_counts : (b : Bool) (d e : Desk) (port : ℕ) → e.port ≡ d.port → e.loans ≡ d.loans
     → ((d.port == port) ≡ true → d.loans + 1 < 2 ^ 64)
@@ -74,15 +87,37 @@ desks_count port n f [] same loans may = tt
 desks_count port n f (d ∷ ds) same loans may =
     (still_counts (d.port == n) d (f d) port (same d) (loans d) may.0, desks_count port n f ds same loans may.1)
 
-at_its_desk : (x : Seat) (n : ℕ) (f : Desk → Desk) → ((d : Desk) → (f d).port ≡ d.port) → ((d : Desk) → (f d).loans ≡ d.loans) → CountsAlike x (at_desk x n f)
-at_its_desk x n f same loans = record {
+told_same : (g : Desk → ℕ) (n : ℕ) (f : Desk → Desk) (ds : List Desk) → ((d : Desk) → g (f d) ≡ g d) → map g (map (on_desk n f) ds) ≡ map g ds
+told_same g n f [] same = refl
+told_same g n f (d ∷ ds) same = ap₂ (λ (k : ℕ) (ks : List ℕ). k ∷ ks) (by_case (d.port == n)) (told_same g n f ds same)
+  where
+    by_case : (b : Bool) → g (cond b (f d) d) ≡ g d
+    by_case true = same d
+    by_case false = refl
+
+pub at_a_desk : (x : Seat) (n : ℕ) (f : Desk → Desk) → ((d : Desk) → (f d).port ≡ d.port) → ((d : Desk) → length (f d).recorded ≡ length d.recorded)
+    → PortsAlike x (at_desk x n f)
+at_a_desk x n f same ways = record {
+  ports = told_same (λ d. d.port) n f x.desks same;
+  sends = told_same (λ d. length d.recorded) n f x.desks ways;
+  ways = refl;
+}
+
+pub as_many : {A B : Type 0} (f : A → B) (xs : List A) → length (map f xs) ≡ length xs
+as_many f [] = refl
+as_many f (x ∷ xs) = ap (λ n. suc n) (as_many f xs)
+
+at_its_desk : (x : Seat) (n : ℕ) (f : Desk → Desk) → ((d : Desk) → (f d).port ≡ d.port) → ((d : Desk) → (f d).loans ≡ d.loans)
+    → ((d : Desk) → length (f d).recorded ≡ length d.recorded) → CountsAlike x (at_desk x n f)
+at_its_desk x n f same loans ways = record {
+  alike = at_a_desk x n f same ways;
   table = refl;
   handles = refl;
   loans = λ port may. desks_count port n f x.desks same loans may;
 }
 
 got_back : (x : Seat) (n : ℕ) (w : Way) (slot : ℕ) → CountsAlike x (at_desk x n (gets_back w slot))
-got_back x n w slot = at_its_desk x n (gets_back w slot) (λ d. refl) (λ d. refl)
+got_back x n w slot = at_its_desk x n (gets_back w slot) (λ d. refl) (λ d. refl) (λ d. as_many (with_slots w (without_number slot)) d.recorded)
 
 -- ---- a send
 
@@ -139,7 +174,7 @@ send_has_delivered p x d w left count place = at_place x _
 send_has_pushed : (p : Setting) (x : Seat) (d : Delivery) (last : Option Way) (w : Way) (left : List Way) (count : ℕ) (place : Pushing) (event : QueueEvent)
     → CountsAlike x (send_pushed p x d last w left count place event)
 send_has_pushed p x d last w left count place (Publish slot) =
-    both x (at_desk x d.loan.port (delivers w slot)) _ (at_its_desk x d.loan.port (delivers w slot) (λ d. refl) (λ d. refl))
+    both x (at_desk x d.loan.port (delivers w slot)) _ (at_its_desk x d.loan.port (delivers w slot) (λ d. refl) (λ d. refl) (λ e. as_many (with_slots w (λ slots. slots ++ slot ∷ [])) e.recorded))
     (send_has_delivered p (at_desk x d.loan.port (delivers w slot)) d w left (count + 1) place)
 send_has_pushed p x d last w left count place event = at_place x _
 
@@ -158,7 +193,7 @@ send_has_got_back x d w left count place event = at_place x _
 
 took_slot : (x : Seat) (o : NewLoan) (free : List ℕ) → CountsAlike x (takes_slot x o free)
 took_slot x o [] = at_place x _
-took_slot x o (slot ∷ free) = both x (at_desk x o.port (picks o slot free)) _ (at_its_desk x o.port (picks o slot free) (λ d. refl) (λ d. refl)) (at_place _ _)
+took_slot x o (slot ∷ free) = both x (at_desk x o.port (picks o slot free)) _ (at_its_desk x o.port (picks o slot free) (λ d. refl) (λ d. refl) (λ d. refl)) (at_place _ _)
 
 pub loaned : (x : Seat) (o : NewLoan) (left : List Way) → CountsAlike x (loaning x o left)
 loaned x o [] = took_slot x o (free_slots x o.port)
@@ -243,9 +278,9 @@ taken p x v w slot header left waiting =
 -- ---- an access
 
 itself : (x : Seat) → CountsAlike x x
-itself x = record { table = refl; handles = refl; loans = λ port may. may }
+itself x = record { alike = record { ports = refl; sends = refl; ways = refl }; table = refl; handles = refl; loans = λ port may. may }
 
-advanced : (p : Setting) (x : Seat) (l : Local) (seen : ℕ) → CountsAlike x (advance p x l seen)
+pub advanced : (p : Setting) (x : Seat) (l : Local) (seen : ℕ) → CountsAlike x (advance p x l seen)
 advanced p x Idle seen = itself x
 advanced p x (Ends ending) seen = itself x
 advanced p x (SendEnds d last count) seen = itself x
@@ -279,7 +314,7 @@ pub counts_alike : (p : Setting) (x : Seat) (seen : ℕ) → tells p x seen ≡ 
 counts_alike p x seen none =
     let y : Seat = advance p (accessed x) x.local seen in
     goes_on y (ending_at y.local) none
-    (both x (accessed x) y (record { table = refl; handles = refl; loans = λ port may. may }) (advanced p (accessed x) x.local seen))
+    (both x (accessed x) y (record { alike = record { ports = refl; sends = refl; ways = refl }; table = refl; handles = refl; loans = λ port may. may }) (advanced p (accessed x) x.local seen))
   where
     goes_on : (y : Seat) (o : Option Ending) → option_map (reply_of p y) o ≡ None → CountsAlike x y → CountsAlike x (closed p y o)
     goes_on y None none alike = alike
@@ -293,7 +328,7 @@ pub counts_beside : (p : Setting) (x y : Placed) (l k : Local) (seen : ℕ) → 
 counts_beside p x y l k seen led none =
     let alike : CountsAlike (placed x.seat l) (placed y.seat k) =
     subst (CountsAlike (placed x.seat l)) (sym led) (counts_alike p (placed x.seat l) seen none) in
-    record { table = alike.table; handles = alike.handles; loans = alike.loans }
+    record { alike = record { ports = alike.alike.ports; sends = alike.alike.sends; ways = alike.alike.ways }; table = alike.table; handles = alike.handles; loans = alike.loans }
 
 -- what might become a handle still may
 pub lends_still : (x y : Placed) (number port : ℕ) → CountsAlike x.seat y.seat → KeepsRoom x y → MayLend x number port → MayLend y number port

@@ -9,3 +9,4 @@ pub mod SendLemmas
 pub mod RespondLemmas
 pub mod CountLemmas
 pub mod BeginCounts
+pub mod EndCounts

@@ -5,6 +5,7 @@ pub mod MemoryLemmas
 pub use Rattle.iox_wire_stops.proofs.Aside
 pub use Rattle.iox_wire_stops.proofs.BeginCounts
 pub use Rattle.iox_wire_stops.proofs.CountLemmas
+pub use Rattle.iox_wire_stops.proofs.EndCounts
 pub use Rattle.iox_wire_stops.proofs.HeaderLemmas
 pub use Rattle.iox_wire_stops.proofs.Layouts
 pub use Rattle.iox_wire_stops.proofs.OwnedPlaces

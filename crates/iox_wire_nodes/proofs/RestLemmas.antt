@@ -58,9 +58,9 @@ begun_in p call {n} y same own rests by accesses room =
       begun = by.begun ∙ ap (λ (x : Seat). begin p x call) (sym alike);
       aimed = by.aimed;
       ready = record {
-          accesses = accesses;
-          room = ap₂ (λ (k : ℕ) (es : List Entry). k + length es) room (ap (λ (x : Seat). x.table) by.begun ∙ (begins_alike p n.seat.seat call).table);
-          may = λ lends. tt;
+        accesses = accesses;
+        room = ap₂ (λ (k : ℕ) (es : List Entry). k + length es) room (ap (λ (x : Seat). x.table) by.begun ∙ (begins_alike p n.seat.seat call).table);
+        may = λ lends. tt;
       };
     })
 
@@ -73,10 +73,10 @@ ready_to_receive p n y number counts = record {
   accesses = refl;
   room = refl;
   may = λ lends. (
-      subst (λ (k : ℕ). receives.MayReceive n.seat k) (sym number)
-          (record { room = (lends 0).room; newer = (lends 0).newer; handles = (lends 0).handles }),
-      counts,
-      );
+    subst (λ (k : ℕ). receives.MayReceive n.seat k) (sym number)
+        (record { room = (lends 0).room; newer = (lends 0).newer; handles = (lends 0).handles }),
+    counts,
+  );
 }
 
 -- ---- a receive of a port

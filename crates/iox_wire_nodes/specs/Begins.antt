@@ -35,8 +35,8 @@ called handle_calls.SetHint n = Port (calls.SetHint n)
 called handle_calls.HasHint n = Port (calls.HasHint n)
 called handle_calls.HasResponse n = Port (calls.HasResponse n)
 
--- With a begin the node makes no access, and gets no handle. If it may have one handle more, with its
--- next number, it may add what the call adds at its end.
+-- With a begin the node makes no access, and gets no handle. If it may have one handle more, with
+-- its next number, it may add what the call adds at its end.
 pub record IsReady (p : Setting) (old new : Node) : Type 0 where
   pub accesses : new.seat.seat.accesses ≡ old.seat.seat.accesses
   pub room : KeepsRoom old.seat new.seat

@@ -7,6 +7,8 @@ pub mod Begins
 pub mod Calls
 -- and the room that it has for handles
 pub mod Rooms
+-- and its ports
+pub mod Ports
 -- what the crates above cite of those below
 pub use Rattle.iox_wire_begins.specs.Aims as SeatsAims
 pub use Rattle.iox_wire_begins.specs.BeginError

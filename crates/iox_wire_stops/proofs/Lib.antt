@@ -6,6 +6,7 @@ pub use Rattle.iox_wire_releases.proofs.PlaceLemmas as ReleasesPlaceLemmas
 pub use Rattle.iox_wire_ways.proofs.Aside
 pub use Rattle.iox_wire_ways.proofs.BeginCounts
 pub use Rattle.iox_wire_ways.proofs.CountLemmas
+pub use Rattle.iox_wire_ways.proofs.EndCounts
 pub use Rattle.iox_wire_ways.proofs.HeaderLemmas
 pub use Rattle.iox_wire_ways.proofs.Layouts
 pub use Rattle.iox_wire_ways.proofs.Lookups

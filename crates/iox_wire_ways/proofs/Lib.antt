@@ -11,6 +11,7 @@ pub mod SlotLemmas
 -- what the crates above cite of those below
 pub use Rattle.iox_wire_copies.proofs.BeginCounts
 pub use Rattle.iox_wire_copies.proofs.CountLemmas
+pub use Rattle.iox_wire_copies.proofs.EndCounts
 pub use Rattle.iox_wire_messages.proofs.Aside
 pub use Rattle.iox_wire_messages.proofs.BeginLemmas
 pub use Rattle.iox_wire_messages.proofs.Layouts

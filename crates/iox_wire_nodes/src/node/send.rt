@@ -9,7 +9,8 @@ ghost use Rattle.iox_wire_begins.specs.HandleCalls.{refusal_in};
 ghost use Rattle.iox_wire_begins.specs.Terms.{IsSettingWith};
 ghost use Rattle.iox_wire_begins.specs.Begins.{begins_at_entry, is_busy, refusal_at};
 ghost use Rattle.iox_wire_begins.specs.Tables.{Setting, entry_at};
-ghost use Rattle.iox_wire_nodes.specs.declared.call_at.CallAt.TheVariants.{SendsRequest, SendsResponse};
+ghost use Rattle.iox_wire_nodes.specs.declared.call_at.CallAt.TheVariants.{SendsRequest};
+ghost use Rattle.iox_wire_nodes.specs.declared.call_at.CallAt.TheVariants.{SendsResponse};
 ghost use Rattle.iox_wire_nodes.specs.Begins.{IsAtOnce, IsUnderWay, send_at};
 ghost use Rattle.iox_wire_nodes.specs.Nodes.{seat_in};
 
