@@ -1,6 +1,6 @@
 -- A wire of ones may open on a worked service.
-use Rattle.std.specs.Prelude.{if◌then◌else◌, find}
-use Rattle.std.proofs.Common.{◌≡◌, ℕ, ◌*◌, ◌<◌, Bool, true, false, ◌==◌, List, [], ◌∷◌, map, Some, None, refl, ap, sym, subst, ◌∙◌, arith, get_or, true≢false}
+use Rattle.std.specs.Prelude.{if◌then◌else◌, find, IsSomeAnd, slice_get, slice_index}
+use Rattle.std.proofs.Common.{◌≡◌, ℕ, zero, suc, length, ◌*◌, ◌<◌, ◌≤◌, Bool, true, false, ◌==◌, List, [], ◌∷◌, map, Some, None, refl, ap, sym, subst, ◌∙◌, arith, get_or, true≢false}
 use Rattle.std.proofs.lemmas.List.Elements.{All-nil, All-cons, All-same}
 use Rattle.iox_model.specs.declared.kind.Role.{Role}
 use Rattle.iox_model.specs.declared.kind.Role.TheVariants.{Client, Server}
@@ -10,7 +10,7 @@ use Rattle.iox_model.specs.Defaults.{follow}
 use Rattle.iox_model.specs.Joins.{not_living}
 use Rattle.iox_model.specs.Maps.{AreDistinct, has_number}
 use Rattle.iox_model.specs.Runs.{IsHistory, IsReachableState, IsRun, OfService, ServiceStep}
-use Rattle.iox_model.specs.Settings.{Limits, borrow_limit_of, buffer_of, overflow_of, shape_of}
+use Rattle.iox_model.specs.Settings.{Limits, borrow_limit_of, buffer_of, has_layout, overflow_of, shape_of}
 use Rattle.iox_model.specs.States.{Port, State}
 use Rattle.iox_laws.specs.WorkedExamples.EvictionWeaves.{ones}
 use Rattle.iox_laws.specs.WorkedExamples.Examples.{is_set_up, process, service, set_up}
@@ -23,11 +23,14 @@ use Rattle.iox_word_places.specs.declared.plan.PlanLimits.{PlanLimits}
 use Rattle.iox_word_places.specs.declared.plan.PlanPort.{PlanPort}
 use Rattle.iox_word_places.specs.declared.plan.WirePlan.{WirePlan}
 use Rattle.iox_word_places.specs.Plans.{HasSlots, IsPlan, details_of, layout_of, planned_buffer, planned_limit, planned_overflow, port_numbers}
-use Rattle.iox_wire_layouts.specs.PlansOf.{AreAsPlanned, IsShapeOf}
-use Rattle.iox_wire_locals.specs.Tables.{Setting}
+use Rattle.iox_wire_layouts.specs.PlansOf.{AreAsPlanned, IsPlanFor, IsShapeOf}
+use Rattle.iox_wire_lenders.specs.Terms.{IsPortWith, IsSettingWith, IsWholePort, messages_of}
+use Rattle.iox_wire_lenders.specs.declared.terms.PortTerms.{PortTerms}
+use Rattle.iox_wire_lenders.specs.declared.terms.WireTerms.{WireTerms}
+use Rattle.iox_wire_locals.specs.Tables.{Setting, port_shape}
 use Rattle.iox_wire_locals.specs.WorkedWires.{port_of_ones}
-use Rattle.iox_wire.specs.Wires.{OpensOn}
-use Rattle.iox_rows_whole_wire.specs.Ones.{HasOneWord, IsPlanOfOnes, client, limits_of_ones, server}
+use Rattle.iox_wire.specs.Wires.{AreWhole, OpensOn}
+use Rattle.iox_rows_whole_wire.specs.Ones.{ArePortsOfOnes, AreTermsOfOnes, HasOneWord, IsPlanOfOnes, IsPortOfOnes, client, limits_of_ones, server}
 
 -- ---- the service
 
@@ -96,7 +99,7 @@ is_plan plan is =
           (All-cons (HasSlots plan) server [] (nine plan.response is.response) (All-nil (HasSlots plan))));
     }
 
-module _ (plan : WirePlan) (is : IsPlanOfOnes plan) where
+module _ (plan : WirePlan) (terms : WireTerms) (is : IsPlanOfOnes plan) (are : AreTermsOfOnes terms) where
   abbrev p : Setting
   p = record {
     layout = layout_of plan;
@@ -155,27 +158,134 @@ module _ (plan : WirePlan) (is : IsPlanOfOnes plan) where
   none_over Client = refl
   none_over Server = refl
 
-  opens : OpensOn plan (0 ∷ 1 ∷ []) p state_here
+  plan_for : IsPlanFor plan state_here.fixed.limits state_here.fixed.ports
+  plan_for = record {
+    ports = as_planned;
+    shapes = shaped;
+    buffers = λ role. ap (λ (l : PlanLimits). planned_buffer l role) is.limits ∙ buffers role;
+    borrows = λ role. ap (λ (l : PlanLimits). planned_limit l role) is.limits ∙ borrows role;
+    overflows = λ role. ap (λ (l : PlanLimits). planned_overflow l role) is.limits ∙ overflows role;
+  }
+
+  -- ---- the terms
+
+  in_layout : (role : Role) (k : ℕ) → k ≤ 1 → has_layout (shape_of state_here.fixed.limits role) k ≡ true
+  in_layout Client zero low = refl
+  in_layout Client (suc zero) low = refl
+  in_layout Client (suc (suc k)) low = absurd (omega (arith, low))
+  in_layout Server zero low = refl
+  in_layout Server (suc zero) low = refl
+  in_layout Server (suc (suc k)) low = absurd (omega (arith, low))
+
+  client_told : (r : PortTerms) → IsPortOfOnes 4_294_967_296 0 r → IsPortWith (p.port 0) (port_shape p 0) r
+  client_told r of = record {
+    held = refl;
+    grows = refl;
+    layouts = in_layout Client;
+    ids = of.ids;
+    loaned_responses = sym of.loaned_responses;
+    handler = refl;
+    fails = sym of.fails;
+  }
+
+  server_told : (r : PortTerms) → IsPortOfOnes 8_589_934_592 1 r → IsPortWith (p.port 1) (port_shape p 1) r
+  server_told r of = record {
+    held = refl;
+    grows = refl;
+    layouts = in_layout Server;
+    ids = of.ids;
+    loaned_responses = sym of.loaned_responses;
+    handler = refl;
+    fails = sym of.fails;
+  }
+
+  ports_told : (ts : List PortTerms) → ArePortsOfOnes ts → (i : ℕ) → i < 2
+      → IsSomeAnd (slice_get ts i) (IsPortWith (p.port (slice_index (0 ∷ 1 ∷ []) i)) (port_shape p (slice_index (0 ∷ 1 ∷ []) i)))
+  ports_told (c ∷ s ∷ []) of zero low = client_told c of.0
+  ports_told (c ∷ s ∷ []) of (suc zero) low = server_told s of.1
+  ports_told (c ∷ s ∷ []) of (suc (suc i)) low = absurd (omega (arith, low))
+  ports_told [] of i low = absurd of
+  ports_told (c ∷ []) of i low = absurd of
+  ports_told (c ∷ s ∷ t ∷ ts) of i low = absurd of
+
+  two : (i : ℕ) → i < length plan.ports.items → i < 2
+  two i low = subst (λ (qs : List PlanPort). i < length qs) is.ports low
+
+  many : (role : Role) → (shape_of state_here.fixed.limits role).many ≡ (messages_of terms role).many
+  many Client = sym are.request.many
+  many Server = sym are.response.many
+
+  user : (role : Role) → (shape_of state_here.fixed.limits role).user ≡ (messages_of terms role).user.items
+  user Client = sym are.request.user
+  user Server = sym are.response.user
+
+  told : IsSettingWith plan terms p
+  told = record {
+    setting = record {
+      layout = refl;
+      is_for = subst (λ (qs : List Port). IsPlanFor plan state_here.fixed.limits qs) (sym (ap (map p.port) numbers_are)) plan_for;
+    };
+    many = many;
+    user = user;
+    clients = sym are.clients;
+    loaned_requests = sym are.loaned_requests;
+    fire_and_forget = sym are.fire_and_forget;
+    first_number = sym are.first_number;
+    ports = λ i low.
+        subst (λ ns. IsSomeAnd (slice_get terms.ports.items i) (IsPortWith (p.port (slice_index ns i)) (port_shape p (slice_index ns i)))) (sym numbers_are)
+        (ports_told terms.ports.items are.ports i (two i low));
+  }
+
+  -- ---- they are whole
+
+  whole_port : (process number : ℕ) (r : PortTerms) → IsPortOfOnes process number r → IsWholePort plan terms r
+  whole_port process number r of =
+      let active : plan.limits.active_requests ≡ 1 = ap (λ (l : PlanLimits). l.active_requests) is.limits in
+      record {
+        ids = ap length of.ids;
+        each = rw (of.loaned_responses, active) (omega arith);
+        all = rw (of.loaned_responses, active, are.clients) (omega arith);
+      }
+
+  whole_ports : (ts : List PortTerms) → ArePortsOfOnes ts → (i : ℕ) → i < 2 → IsSomeAnd (slice_get ts i) (IsWholePort plan terms)
+  whole_ports (c ∷ s ∷ []) of zero low = whole_port 4_294_967_296 0 c of.0
+  whole_ports (c ∷ s ∷ []) of (suc zero) low = whole_port 8_589_934_592 1 s of.1
+  whole_ports (c ∷ s ∷ []) of (suc (suc i)) low = absurd (omega (arith, low))
+  whole_ports [] of i low = absurd of
+  whole_ports (c ∷ []) of i low = absurd of
+  whole_ports (c ∷ s ∷ t ∷ ts) of i low = absurd of
+
+  user_bytes : (role : Role) → (details_of plan role).user_header.size ≡ 8 * length (messages_of terms role).user.items
+  user_bytes Client = is.request.user_size ∙ sym (ap (λ us. 8 * length us) are.request.user)
+  user_bytes Server = is.response.user_size ∙ sym (ap (λ us. 8 * length us) are.response.user)
+
+  slot_there : (i : ℕ) → i < 2 → IsSomeAnd (slice_get (client ∷ server ∷ []) i) (λ q. 0 < q.pool)
+  slot_there zero low = omega arith
+  slot_there (suc zero) low = omega arith
+  slot_there (suc (suc i)) low = absurd (omega (arith, low))
+
+  pub whole_terms : AreWhole plan terms
+  whole_terms = record {
+    fit = record { ports = λ i low. whole_ports terms.ports.items are.ports i (two i low); user = user_bytes };
+    slots = λ i low. subst (λ (qs : List PlanPort). IsSomeAnd (slice_get qs i) (λ q. 0 < q.pool)) (sym is.ports) (slot_there i (two i low));
+  }
+
+  opens : OpensOn plan terms (0 ∷ 1 ∷ []) p state_here
   opens = record {
     agrees = record {
       layout = refl;
-      plan_of = record {
-        ports = as_planned;
-        shapes = shaped;
-        buffers = λ role. ap (λ (l : PlanLimits). planned_buffer l role) is.limits ∙ buffers role;
-        borrows = λ role. ap (λ (l : PlanLimits). planned_limit l role) is.limits ∙ borrows role;
-        overflows = λ role. ap (λ (l : PlanLimits). planned_overflow l role) is.limits ∙ overflows role;
-      };
+      plan_of = plan_for;
       limits = refl;
       ports = sym (ap (map p.port) numbers_are);
       unhandled = λ n. unhandled (n == 0);
       next_number = refl;
       room = λ role over. absurd (true≢false (sym over ∙ ap (λ (l : PlanLimits). planned_overflow l role) is.limits ∙ none_over role));
     };
+    told = told;
     reached = reached_here;
     allowed = refl;
     living = lives;
   }
 
-  pub may_open : (q : Setting) × (s : State) × OpensOn plan (0 ∷ 1 ∷ []) q s
+  pub may_open : (q : Setting) × (s : State) × OpensOn plan terms (0 ∷ 1 ∷ []) q s
   may_open = (p, state_here, opens)

@@ -1,5 +1,8 @@
--- A plan where each setting is 1: a client on one node, a server on the other.
-use Rattle.std.specs.Prelude.{◌≡◌, ℕ, false, List, [], ◌∷◌}
+-- A plan, and its terms, where each setting is 1: a client on one node, a server on the other.
+use Rattle.std.specs.Prelude.{◌≡◌, ℕ, false, true, List, [], ◌∷◌}
+use Rattle.iox_wire_lenders.specs.declared.terms.MessageTerms.{MessageTerms}
+use Rattle.iox_wire_lenders.specs.declared.terms.PortTerms.{PortTerms}
+use Rattle.iox_wire_lenders.specs.declared.terms.WireTerms.{WireTerms}
 use Rattle.iox_model.specs.declared.kind.Role.TheVariants.{Client, Server}
 use Rattle.iox_types.specs.declared.message_type_details.MessageTypeDetails.{MessageTypeDetails}
 use Rattle.iox_word_places.specs.declared.plan.PlanLimits.{PlanLimits}
@@ -38,3 +41,30 @@ pub record IsPlanOfOnes (plan : WirePlan) : Type 0 where
   pub limits : plan.limits ≡ limits_of_ones
   pub request : HasOneWord plan.request 56
   pub response : HasOneWord plan.response 48
+
+-- The terms of a port with that number, of a node whose identifier has that first word: its own has
+-- the same, and its number behind that.
+pub record IsPortOfOnes (process number : ℕ) (r : PortTerms) : Type 0 where
+  pub ids : r.ids.items ≡ process ∷ 0 ∷ process ∷ number ∷ []
+  pub loaned_responses : r.loaned_responses ≡ 1
+  pub fails : r.fails ≡ true
+
+-- of the client, and of the server
+abbrev pub ArePortsOfOnes : List PortTerms → Type 0
+ArePortsOfOnes (c ∷ s ∷ []) = IsPortOfOnes 4_294_967_296 0 c × IsPortOfOnes 8_589_934_592 1 s
+ArePortsOfOnes other = ⊥
+
+-- a message may have any number of elements, and has no user header
+pub record IsMessageOfOnes (m : MessageTerms) : Type 0 where
+  pub many : m.many ≡ true
+  pub user : m.user.items ≡ []
+
+-- They are the terms of that plan.
+pub record AreTermsOfOnes (t : WireTerms) : Type 0 where
+  pub ports : ArePortsOfOnes t.ports.items
+  pub request : IsMessageOfOnes t.request
+  pub response : IsMessageOfOnes t.response
+  pub clients : t.clients ≡ 1
+  pub loaned_requests : t.loaned_requests ≡ 1
+  pub fire_and_forget : t.fire_and_forget ≡ true
+  pub first_number : t.first_number ≡ 2

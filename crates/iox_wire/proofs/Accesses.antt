@@ -30,6 +30,6 @@ module _ (p : Setting) (x z y : Node) (same : x ≡ z) (words after : List ℕ) 
     went = record {
       next_is = goes p aimed_here ∙ ap₂ (λ (k : Node) s. next p (seat_in k) s) same its_word;
       told = sym (ap₂ (λ (k : Node) s. tells p (seat_in k) s) same its_word) ∙ over p aimed_here;
-      aimed = stays p aimed_here (subst (λ (c : CallAt). TellsOfPools c y) (sym seated) tt);
+      aimed = stays p aimed_here (subst (λ (c : CallAt). TellsOfPools p c (seat_in y).local) (sym seated) tt);
     };
   }

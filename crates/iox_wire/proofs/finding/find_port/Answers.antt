@@ -1,5 +1,5 @@
 use Rattle.std.specs.Prelude.{position}
-use Rattle.std.proofs.Common.{◌≡◌, ◌==◌, List, ap, sym, ◌∙◌}
+use Rattle.std.proofs.Common.{◌==◌, List, ap, sym, ◌∙◌}
 use Rattle.iox_wire_weaves.specs.PlanPort.{PlanPort}
 use Rattle.iox_wire_weaves.specs.WirePlan.{WirePlan}
 use Rattle.iox_wire.proofs.Places.{found_port, none_found}

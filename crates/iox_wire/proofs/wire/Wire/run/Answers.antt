@@ -1,4 +1,4 @@
-use Rattle.std.proofs.Common.{subst, sym, take, arith, ◌∷◌, []}
+use Rattle.std.proofs.Common.{subst, sym, take, arith}
 use Rattle.iox_wire_openings.proofs.OpenedLemmas.{one_more}
 use Rattle.iox_wire_weaves.specs.Wires.{WireData}
 use Rattle.iox_wire.specs.declared.entry.WireEntry.TheVariants.{HasRequests}
