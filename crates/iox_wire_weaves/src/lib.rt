@@ -2,8 +2,8 @@
 //! The functions have nothing to do: each is there for its contract.
 #![tactic(auto)]
 
-ghost use Rattle.iox_wire_weaves.specs.Laws.{BeginsShow, DeathsShow, RefusalsAreShown, StepsAreSafe};
-ghost use Rattle.iox_wire_weaves.specs.Laws.{NodesAreKnown, StepsShow, WiresOpen};
+ghost use Rattle.iox_wire_weaves.specs.Laws.{BeginsShow, DeathsShow, RefusalsAreShown};
+ghost use Rattle.iox_wire_weaves.specs.Laws.{NodesAreKnown, StepsAreSafe, StepsShow, WiresOpen};
 
 mod refusal;
 

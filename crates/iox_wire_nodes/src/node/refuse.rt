@@ -16,7 +16,8 @@ use super::StoredNode;
 use iox_wire_begins::{Asked, BeginError, WireTerms, WordMap};
 
 impl StoredNode {
-    /// Why it does not begin a call that no port has on the port at an index, which has that number.
+    /// Why it does not begin a call that no port has on the port at an index, which has that
+    /// number.
     pub fn refuse_at_port(
         &self,
         map: &WordMap,
