@@ -1,3 +1,4 @@
+mod Lending
 pub mod OfServices
 -- what the crates above cite of those below
 pub use Rattle.iox_nodes.proofs.Reaching

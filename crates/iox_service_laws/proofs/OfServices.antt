@@ -19,8 +19,9 @@ use Rattle.iox_laws.proofs.ServiceLaws.Ordered.{releases_ascend}
 use Rattle.iox_laws.proofs.ServiceLaws.Refusals.{refused_command_leaves}
 use Rattle.iox_service_laws.specs.Asked.{CleanupsAreReleases, ListingsAreExact, RefusalsLeave}
 use Rattle.iox_service_laws.specs.Gone.{ClosesWithTheLastNode, KeepsNothingForTheGone, TheDeadDoNothing}
-use Rattle.iox_service_laws.specs.Limits.{LimitsHold, PoolsSuffice}
+use Rattle.iox_service_laws.specs.Limits.{LimitsHold, LoansSucceed, PoolsSuffice}
 use Rattle.iox_service_laws.specs.Messages.{AreAsDelivered, ComeAtMostOnce, ComeAtTheirRequest, ComeInOrder, WereSent}
+use Rattle.iox_service_laws.proofs.Lending as lending
 
 -- what the service's own nodes asked is a history
 history_of : (s : State) (xs : List ServiceStep) (t : State) → IsMembersHistory s xs t → IsHistory s xs t
@@ -72,6 +73,9 @@ pub pools_suffice : {s : State} → IsServed s → PoolsSuffice s
 pools_suffice {s} served = record {
   never = λ t command unreduced done. pools.no_command s t command (reached served) unreduced done;
 }
+
+pub loans_succeed : {s : State} → IsServed s → LoansSucceed s
+loans_succeed served = lending.loans_succeed (pools_suffice served)
 
 -- ---- the gone
 

@@ -8,8 +8,8 @@ use iox_nodes::Service;
 use iox_store::Payload;
 use iox_words::Words;
 
-/// A cleanup does what the dead node would do if it lived: it releases its values in ascending order,
-/// and leaves.
+/// A cleanup does what the dead node would do if it lived: it releases its values in ascending
+/// order, and leaves.
 pub fn cleanups_are_releases<Q: Payload, QH: Words, P: Payload, PH: Words>(
     service: &Service<Q, QH, P, PH>,
 )

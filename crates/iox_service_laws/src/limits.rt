@@ -1,7 +1,7 @@
-//! What holds of a service between calls: how many messages there are. The functions have nothing to
-//! do: each is there for its contract.
+//! What holds of a service between calls: how many messages there are. The functions have nothing
+//! to do: each is there for its contract.
 ghost use Rattle.iox_nodes.specs.Shown.{service_of};
-ghost use Rattle.iox_service_laws.specs.Limits.{LimitsHold, PoolsSuffice};
+ghost use Rattle.iox_service_laws.specs.Limits.{LimitsHold, LoansSucceed, PoolsSuffice};
 
 use iox_nodes::Service;
 use iox_store::Payload;
@@ -17,6 +17,13 @@ pub fn limits_hold<Q: Payload, QH: Words, P: Payload, PH: Words>(service: &Servi
 /// No command of a node whose pools were not reduced runs out of messages.
 pub fn pools_suffice<Q: Payload, QH: Words, P: Payload, PH: Words>(service: &Service<Q, QH, P, PH>)
     ensures { PoolsSuffice (service_of service.now) }
+{
+    service.is_served();
+}
+
+/// A loan within its limits is made, or finds no memory, where no pool of its node was reduced.
+pub fn loans_succeed<Q: Payload, QH: Words, P: Payload, PH: Words>(service: &Service<Q, QH, P, PH>)
+    ensures { LoansSucceed (service_of service.now) }
 {
     service.is_served();
 }
