@@ -1,6 +1,6 @@
 //! A client.
-ghost use Rattle.std.specs.Prelude.{◌≡◌, ◌≢◌, ◌↔◌, Err, IfErr, IfOk, IsOk, IsSome, IsTrue, OnErr, OnOk};
-ghost use Rattle.std.specs.Prelude.{false, true};
+ghost use Rattle.std.specs.Prelude.{◌≡◌, ◌≢◌, ◌↔◌, Err, IfErr, IfOk, IsOk, IsSome, IsTrue, OnErr};
+ghost use Rattle.std.specs.Prelude.{OnOk, false, true};
 ghost use Rattle.iox_model.specs.declared.call.Call.TheVariants as calls;
 ghost use Rattle.iox_model.specs.declared.kind.Kind.TheVariants as kinds;
 ghost use Rattle.iox_model.specs.declared.kind.Role.TheVariants as roles;
@@ -17,7 +17,8 @@ ghost use Rattle.iceoryx2_ports.specs.Loans.{reply_of_loan};
 ghost use Rattle.iceoryx2_ports.specs.Opens.{KeepsRequests};
 ghost use Rattle.iceoryx2_ports.specs.Reaching.{KeepsRoom};
 ghost use Rattle.iceoryx2_ports.specs.Releases.{IsReleased};
-ghost use Rattle.iceoryx2_ports.specs.declared.errors.LoanError.TheVariants.{ExceedsMaxLoans, OutOfMemory};
+ghost use Rattle.iceoryx2_ports.specs.declared.errors.LoanError.TheVariants.{ExceedsMaxLoans};
+ghost use Rattle.iceoryx2_ports.specs.declared.errors.LoanError.TheVariants.{OutOfMemory};
 
 use crate::errors::{ConnectionFailure, LoanError};
 use crate::loans::lend_request;

@@ -1,5 +1,6 @@
 //! Loaned requests.
-ghost use Rattle.std.specs.Prelude.{◌≡◌, ◌≢◌, ◌∷◌, ◌++◌, ◌↔◌, IfErr, IfOk, IsTrue, OnErr, OnOk, [], flat_map, length};
+ghost use Rattle.std.specs.Prelude.{◌≡◌, ◌≢◌, ◌∷◌, ◌++◌, ◌↔◌, IfErr, IfOk, IsTrue, OnErr, OnOk};
+ghost use Rattle.std.specs.Prelude.{[], flat_map, length};
 ghost use Rattle.std.specs.Mem.{FitsInMemory};
 ghost use Rattle.iox_model.specs.declared.call.Call.TheVariants as calls;
 ghost use Rattle.iox_model.specs.declared.kind.Kind.TheVariants as kinds;

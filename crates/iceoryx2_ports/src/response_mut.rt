@@ -1,5 +1,6 @@
 //! Loaned responses.
-ghost use Rattle.std.specs.Prelude.{◌≡◌, ◌≢◌, ◌∷◌, ◌++◌, ◌↔◌, IfErr, IfOk, IsTrue, OnErr, OnOk, [], flat_map, length};
+ghost use Rattle.std.specs.Prelude.{◌≡◌, ◌≢◌, ◌∷◌, ◌++◌, ◌↔◌, IfErr, IfOk, IsTrue, OnErr, OnOk};
+ghost use Rattle.std.specs.Prelude.{[], flat_map, length};
 ghost use Rattle.std.specs.Mem.{FitsInMemory};
 ghost use Rattle.iox_model.specs.declared.call.Call.TheVariants as calls;
 ghost use Rattle.iox_model.specs.declared.kind.Kind.TheVariants as kinds;
@@ -167,7 +168,8 @@ impl<Q: Payload, QH: Words, E: Words, PH: Words> ResponseMutUninit<Q, QH, One<E>
             Done (state_of_hub x hub.new) }
         ensures written { IsWritten hub.old self.node self.number kinds.ResponseMut 1
             (flat_map E.words (value ∷ [])) hub.new }
-        ensures answers { AnswersAs hub.old self.node self.number hub.new result.node result.number }
+        ensures answers { AnswersAs hub.old self.node self.number
+            hub.new result.node result.number }
         ensures comes { NothingComes hub.old hub.new }
         ensures keeps { KeepsOthers hub.old self.node self.number hub.new }
         ensures asks { KeepsAsking hub.old hub.new }

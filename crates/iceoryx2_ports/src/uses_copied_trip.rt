@@ -18,8 +18,8 @@ use crate::{
 };
 use std::alloc::Global;
 
-/// A client sends a copy of 456. A server that was idle can receive just that, and the client, which
-/// was idle for each request, can wait for its response.
+/// A client sends a copy of 456. A server that was idle can receive just that, and the client,
+/// which was idle for each request, can wait for its response.
 pub fn copies_456(
     client: &Client<One<u64>, (), One<u64>, ()>,
     server: &Server<One<u64>, (), One<u64>, ()>,
