@@ -38,7 +38,7 @@ use Rattle.iox_wire_keeps.proofs.StepsKept.{shown_same}
 use Rattle.iox_wire_needs.specs.Counts.{IsTidy}
 use Rattle.iox_wire_needs.specs.Handles.{HandlesMayBeGivenUp}
 use Rattle.iox_wire_needs.proofs.AtDesks.{at_desk, may_give_up}
-use Rattle.iox_wire_needs.proofs.GivenUp.{gives_up}
+use Rattle.iox_wire_needs.proofs.GivenUp.{gives_up, server_gives_up}
 use Rattle.iox_wire_needs.proofs.Places.{node}
 use Rattle.iox_wire_needs.proofs.Uses.{used_here}
 
@@ -103,29 +103,7 @@ module _ (p : Setting) (words : List ℕ) (players : ℕ → Player) (r : Run) (
 
   -- of a server, which has no lane
   at_server : is_client (p.port e.port).role ≡ false → MayGiveUp e (players n).seat.desks
-  at_server server =
-      may_give_up e x.desks (at_desk (IsHeldAt e) e.port x.desks tidy.desks (λ d found. (
-        used_here p x mine.uses tidy.desks e.port e.slot suits.0 (used e.slot (slots_used x e.port) there) d found,
-        fewer d found,
-      )))
-    where
-      none_free : free_lanes (players n).seat e.port ≡ []
-      none_free = servers_have_no_lane p x call.lanes e.port suits.0 server
-
-      in_pool : e.slot < (p.port e.port).pool
-      in_pool = (mine.slots.pools e.port suits.0).within e.slot there
-
-      fewer : (d : Desk) → find (λ k. k.port == e.port) (players n).seat.desks ≡ Some d → length d.free_lanes < length d.uses
-      fewer d found =
-          let u = mine.uses e.port suits.0 in
-          let lanes : length d.free_lanes ≡ 0
-          = ap (λ o. length (option_map_or (λ (k : Desk). k.free_lanes) o [])) (sym found) ∙ ap length none_free in
-          let pool : length d.uses ≡ (p.port e.port).pool
-          = ap (λ (k : Desk). length k.uses) (some-is d u.desk (sym found ∙ u.there)) ∙ u.counts.words in
-          low (length d.free_lanes) (length d.uses) (p.port e.port).pool e.slot lanes pool in_pool
-        where
-          low : (a b c i : ℕ) → a ≡ 0 → b ≡ c → i < c → a < b
-          low a b c i none is less = omega (arith, none, is, less)
+  at_server server = server_gives_up p x mine.uses call.lanes tidy e suits.0 server there ((mine.slots.pools e.port suits.0).within e.slot there)
 
 pub handles_may_be_given_up : HandlesMayBeGivenUp
 handles_may_be_given_up p words players r n wire living idle tidy e has own = elim (cases_Bool (is_client (p.port e.port).role)) [

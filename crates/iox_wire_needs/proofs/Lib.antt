@@ -5,6 +5,7 @@ pub mod Delivers
 pub mod Uses
 pub mod GivenUp
 pub mod Tidying
+pub mod Copying
 pub mod Handles
 -- what the crates above cite of those below
 pub use Rattle.iox_wire_keeps.proofs.AccessesMade
