@@ -14,7 +14,9 @@ pub use Rattle.iox_wire_begins.specs.Aims as SeatsAims
 pub use Rattle.iox_wire_begins.specs.BeginError
 pub use Rattle.iox_wire_begins.specs.Begins as LocalsBegins
 pub use Rattle.iox_wire_begins.specs.CopyReply
+pub use Rattle.iox_wire_begins.specs.Courses
 pub use Rattle.iox_wire_begins.specs.Desk
+pub use Rattle.iox_wire_begins.specs.Desks
 pub use Rattle.iox_wire_begins.specs.Dispatches
 pub use Rattle.iox_wire_begins.specs.Entry
 pub use Rattle.iox_wire_begins.specs.Fits
@@ -23,6 +25,7 @@ pub use Rattle.iox_wire_begins.specs.Known
 pub use Rattle.iox_wire_begins.specs.Laws
 pub use Rattle.iox_wire_begins.specs.LendReply
 pub use Rattle.iox_wire_begins.specs.Lendings
+pub use Rattle.iox_wire_begins.specs.Lends
 pub use Rattle.iox_wire_begins.specs.Loans
 pub use Rattle.iox_wire_begins.specs.Local
 pub use Rattle.iox_wire_begins.specs.Locals

@@ -25,6 +25,7 @@ use Rattle.iox_wire_nodes.specs.declared.call_at.CallAt.TheVariants.{Seats}
 use Rattle.iox_wire_nodes.specs.declared.call_at.NodeReply.{NodeReply}
 use Rattle.iox_wire_nodes.specs.Nodes.{Node, reply_in, seat_in}
 use Rattle.iox_wire_needs.specs.Openings.{opened_seat}
+use Rattle.iox_wire_needs.specs.Places.{InPools}
 use Rattle.iox_wire_needs.specs.Runs.{GoesOnBy, Run}
 use Rattle.iox_wire_needs.specs.WholeSteps.{GoesOnWith}
 use Rattle.iox_wire_weaves.specs.Wires.{OpensOn, Shows, ShowsOpened, WireData, WireNode, answers_in, living_refusal, node_at, wordless_all}
@@ -69,12 +70,12 @@ progress_of None = Going
 progress_of (Some reply) = Done reply
 
 -- After an access that found this the node is the next, it answers this if its call is over, and it
--- knows where the words stand that it accesses next.
+-- knows where the words stand that it accesses next, as far as a slot that it took is one of a pool.
 pub record WentOn (p : Setting) (x : Node) (seen : ℕ) (reply : Option NodeReply) (y : Node)
     : Type 0 where
   pub next_is : seat_in y ≡ next p (seat_in x) seen
   pub told : tells p (seat_in x) seen ≡ option_map (reply_in y.seat.words) reply
-  pub aimed : IsAimed p y
+  pub aimed : InPools p (seat_in y).local → IsAimed p y
 
 -- A living node accesses a word of the wire.
 abbrev pub StepsAreSafe : Type 0
@@ -135,7 +136,8 @@ BeginsShow =
     → Shows p old r → begin_refusal r.last n call ≡ None → WordsAreWhole p.limits call
     → (seat_in x.node).accesses < last_position
     → Replaces old.nodes n x y new.nodes → y.alive ≡ x.alive
-    → seat_in y.node ≡ begin p (seat_in x.node) call → IsAimed p y.node
+    → seat_in y.node ≡ begin p (seat_in x.node) call
+    → (InPools p (seat_in y.node).local → IsAimed p y.node)
     → new.plan ≡ old.plan → new.terms ≡ old.terms → new.words ≡ old.words
     → new.replies ≡ old.replies
     → BeginsCall p old n call new

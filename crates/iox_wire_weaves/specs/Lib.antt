@@ -5,30 +5,45 @@ pub mod Steps
 pub mod Asking
 pub mod Laws
 -- what the crates above cite of those below
+pub use Rattle.iox_wire_needs.specs.Copying
 pub use Rattle.iox_wire_needs.specs.Counts
+pub use Rattle.iox_wire_needs.specs.Ending
+pub use Rattle.iox_wire_needs.specs.Following
 pub use Rattle.iox_wire_needs.specs.MessageBegins
+pub use Rattle.iox_wire_needs.specs.NewLoan
+pub use Rattle.iox_wire_needs.specs.NewLoans
 pub use Rattle.iox_wire_needs.specs.Openings
+pub use Rattle.iox_wire_needs.specs.Places
 pub use Rattle.iox_wire_needs.specs.Runs
+pub use Rattle.iox_wire_needs.specs.Settlements
+pub use Rattle.iox_wire_needs.specs.Stands
 pub use Rattle.iox_wire_needs.specs.Tidying
+pub use Rattle.iox_wire_needs.specs.Uses
 pub use Rattle.iox_wire_needs.specs.WholeSteps
 pub use Rattle.iox_wire_nodes.specs.Aims
 pub use Rattle.iox_wire_nodes.specs.BeginError
 pub use Rattle.iox_wire_nodes.specs.Begins as NodesBegins
 pub use Rattle.iox_wire_nodes.specs.Calls
 pub use Rattle.iox_wire_nodes.specs.CopyReply
+pub use Rattle.iox_wire_nodes.specs.Courses
 pub use Rattle.iox_wire_nodes.specs.Desk
+pub use Rattle.iox_wire_nodes.specs.Desks
 pub use Rattle.iox_wire_nodes.specs.Dispatches
 pub use Rattle.iox_wire_nodes.specs.Entry
 pub use Rattle.iox_wire_nodes.specs.HandleCalls
 pub use Rattle.iox_wire_nodes.specs.Known
 pub use Rattle.iox_wire_nodes.specs.LendReply
+pub use Rattle.iox_wire_nodes.specs.Lendings
+pub use Rattle.iox_wire_nodes.specs.Lends
 pub use Rattle.iox_wire_nodes.specs.Loans
+pub use Rattle.iox_wire_nodes.specs.Local
 pub use Rattle.iox_wire_nodes.specs.Locals
 pub use Rattle.iox_wire_nodes.specs.LocalsBegins as Begins
 pub use Rattle.iox_wire_nodes.specs.Nodes
 pub use Rattle.iox_wire_nodes.specs.PlanPort
 pub use Rattle.iox_wire_nodes.specs.Plans
 pub use Rattle.iox_wire_nodes.specs.PlansOf
+pub use Rattle.iox_wire_nodes.specs.Ports
 pub use Rattle.iox_wire_nodes.specs.Programs
 pub use Rattle.iox_wire_nodes.specs.Receipts
 pub use Rattle.iox_wire_nodes.specs.ReceiveReply
@@ -38,9 +53,11 @@ pub use Rattle.iox_wire_nodes.specs.RequestReply
 pub use Rattle.iox_wire_nodes.specs.RequestSources
 pub use Rattle.iox_wire_nodes.specs.RespondReply
 pub use Rattle.iox_wire_nodes.specs.ResponseCopyReply
+pub use Rattle.iox_wire_nodes.specs.Rooms
 pub use Rattle.iox_wire_nodes.specs.Seat
 pub use Rattle.iox_wire_nodes.specs.SeatReply
 pub use Rattle.iox_wire_nodes.specs.Seats
+pub use Rattle.iox_wire_nodes.specs.SeatsAims
 pub use Rattle.iox_wire_nodes.specs.Steps as LocalsSteps
 pub use Rattle.iox_wire_nodes.specs.Stored
 pub use Rattle.iox_wire_nodes.specs.Tables
