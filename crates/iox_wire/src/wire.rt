@@ -15,6 +15,9 @@ use std::marker::Model;
 /// As many words are more than any memory has.
 const MOST_WORDS: usize = 1 << 63;
 
+/// As many handles have no numbers.
+const MOST_NUMBERS: u64 = 1 << 63;
+
 /// What a finished call of a node answered. The words of a read are those that its node lends.
 #[derive(Clone, Copy)]
 pub struct Answer {
@@ -97,6 +100,9 @@ impl Wire {
         let places = WordMap::new(alloc, plan)?;
         let total = places.total();
         if total >= MOST_WORDS {
+            return Err(WordMapNewError::WantOfMemory);
+        }
+        if terms.first_number >= MOST_NUMBERS {
             return Err(WordMapNewError::WantOfMemory);
         }
         let words = zeros(alloc, total)?;

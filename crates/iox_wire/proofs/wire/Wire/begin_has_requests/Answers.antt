@@ -9,6 +9,9 @@ use Rattle.iox_wire.proofs.Replies.{told_by}
 use Rattle.iox_wire.proofs.WireSteps.{begun, known_there, left_alone, refused, shown_begun, there}
 use Rattle.iox_wire.proofs.wire.Wire.begin_has_requests.Goals as goal
 
+pub begin_has_requests-told-requires-clause-setting : goal.begin_has_requests-told-requires-clause-setting
+begin_has_requests-told-requires-clause-setting c = (c.self.invariant.shows.0, c.self.invariant.shows.2.setting)
+
 pub begin_has_requests-told-requires-clause-node : goal.begin_has_requests-told-requires-clause-node
 begin_has_requests-told-requires-clause-node c =
     let first = ap (λ (v : WireData). position (λ x. x.number == c.args.node) v.nodes) c.self.view_is ∙ c.in_ok-place.ensures.first in
