@@ -13,10 +13,10 @@ use Rattle.iox_wire_keeps.specs.Tables.{Setting}
 abbrev pub CopyGoesOn : Local → Type 0
 CopyGoesOn local = (e : Entry) → message_at local ≡ Sent e true → ending_at local ≡ None
 
--- So it is as a call begins,
+-- No call begins where a message that it made is sent already, or its send refused.
 abbrev pub BegunCopiesGoOn : Type 0
 BegunCopiesGoOn = (p : Setting) (x : Seat) (call : WireCall) → CopyGoesOn (begin p x call).local
 
--- and after each step.
+-- No step leads there, either: the call is over then.
 abbrev pub SteppedCopiesGoOn : Type 0
 SteppedCopiesGoOn = (p : Setting) (x : Seat) (seen : ℕ) → CopyGoesOn (next p x seen).local

@@ -89,7 +89,7 @@ RequestsMayBeGivenUp =
     × ((e : Entry) → message_at x.local ≡ Sent e false → is_request_loan e.kind ≡ true
     → MayGiveUp e x.desks)
 
--- So may a loan that a living node's call makes, of a request or of a response.
+-- A loan that a living node's call makes may be given up, of a request or of a response.
 abbrev pub NewLoansMayBeGivenUp : Type 0
 NewLoansMayBeGivenUp =
     (p : Setting) (words : List ℕ) (players : ℕ → Player) (r : Run) (n : ℕ)
