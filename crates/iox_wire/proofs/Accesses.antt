@@ -4,7 +4,6 @@ use Rattle.std.proofs.Common.{◌≡◌, ℕ, List, ap, ap₂, sym, subst, ◌�
 use Rattle.iox_steps.specs.declared.access.Access.{Access}
 use Rattle.iox_steps.specs.Accesses.{seen_at, words_after}
 use Rattle.iox_wire_weaves.specs.Local.{Local}
-use Rattle.iox_wire_weaves.specs.Local.TheVariants.{LendStores, ReceiveAsks, ReceiveLoads}
 use Rattle.iox_wire_weaves.specs.LocalsSteps.{next, tells}
 use Rattle.iox_wire_weaves.specs.Places.{InPools}
 use Rattle.iox_wire_weaves.specs.Tables.{Setting}
@@ -17,21 +16,12 @@ use Rattle.iox_wire.specs.Kept.{HasAccessed, MayAccess, access_in}
 
 -- ---- slots and lanes of pools
 
-source_told : (p : Setting) (local : Local) → InPools p local → TellsOfPools p at.Receives local
-source_told p (ReceiveLoads v w slot header left waiting) told = told
-source_told p (ReceiveAsks v w slot header left waiting) told = told
-source_told p local told = tt
-
-slot_told : (p : Setting) (local : Local) → InPools p local → TellsOfPools p at.Lends local
-slot_told p (LendStores o slot next) told = told
-slot_told p local told = tt
-
 -- what is so at each place is so of each call
 pub tells_of_pools : (p : Setting) (call : CallAt) (local : Local) → InPools p local → TellsOfPools p call local
-tells_of_pools p at.Receives local told = source_told p local told
-tells_of_pools p at.Lends local told = slot_told p local told
-tells_of_pools p at.CopiesRequest local told = slot_told p local told
-tells_of_pools p at.CopiesResponse local told = slot_told p local told
+tells_of_pools p at.Receives local told = told.0
+tells_of_pools p at.Lends local told = told.1
+tells_of_pools p at.CopiesRequest local told = told.1
+tells_of_pools p at.CopiesResponse local told = told.1
 tells_of_pools p call local told = tt
 
 -- ---- an access

@@ -5,7 +5,6 @@ use Rattle.iox_model.specs.declared.kind.Kind.TheVariants.{RequestMut, ResponseM
 use Rattle.iox_model.specs.Handles.{is_request_loan}
 use Rattle.iox_steps.specs.declared.pop.Pop.TheVariants as pop
 use Rattle.iox_steps.specs.declared.side.Popping.TheVariants as popping
-use Rattle.iox_steps.specs.declared.side.QueueEvent.TheVariants.{HandOut, Learn, Publish}
 use Rattle.iox_steps.specs.Sides.{popping_event, pushing_event}
 use Rattle.iox_word_map.specs.WordMaps.{MessageQueue, ReturningQueue}
 use Rattle.iox_wire_weaves.specs.Aims.{AreAimed, KnowsItsPlace, MayAdd, MayGoOn}
@@ -26,7 +25,7 @@ use Rattle.iox_wire_weaves.specs.Entry.{Entry}
 use Rattle.iox_wire_weaves.specs.Following.{Lent, Sent, message_at}
 use Rattle.iox_wire_weaves.specs.Lends.{MayLend}
 use Rattle.iox_wire_weaves.specs.Local.{Local}
-use Rattle.iox_wire_weaves.specs.Local.TheVariants.{Ends, Idle, LendEmpties, LendStores, SendAsks, SendEmpties, SendEvicts, SendGetsBack, SendLooks, SendOpens, SendPushes}
+use Rattle.iox_wire_weaves.specs.Local.TheVariants.{Ends, Idle, LendEmpties, LendStores, SendAsks, SendEmpties, SendEvicts, SendGetsBack, SendLooks, SendPushes}
 use Rattle.iox_wire_copies.specs.LoansAims as loans
 use Rattle.iox_wire_weaves.specs.LocalsSteps.{ending_at}
 use Rattle.iox_wire_weaves.specs.NewLoan.{NewLoan}
@@ -39,7 +38,7 @@ use Rattle.iox_wire_copies.specs.ResponseCopies as response_copies
 use Rattle.iox_wire_weaves.specs.Seat.{Seat}
 use Rattle.iox_wire_weaves.specs.Seats.{Placed}
 use Rattle.iox_wire_copies.specs.Aims as responses
-use Rattle.iox_wire_weaves.specs.Tables.{Setting, state_in}
+use Rattle.iox_wire_weaves.specs.Tables.{Setting}
 use Rattle.iox_wire_weaves.specs.Uses.{FindsInUse, GetsBackInUse}
 
 -- What the laws tell of a node at its place, whose access finds this.

@@ -1,6 +1,6 @@
 -- A living node at rest, with room for a handle, may have one more and lend by each of its ports.
 use Rattle.std.specs.Prelude.{option_map}
-use Rattle.std.proofs.Common.{◌≡◌, ℕ, ◌<◌, ◌≤◌, true, false, Some, None, ap, sym, subst, ◌∙◌, arith, true≢false}
+use Rattle.std.proofs.Common.{◌≡◌, ℕ, ◌<◌, ◌≤◌, false, Some, None, ap, sym, subst, ◌∙◌, arith, true≢false}
 use Rattle.iox_model.specs.Joins.{not_living}
 use Rattle.iox_steps.specs.Sites.{last_position}
 use Rattle.iox_wire_weaves.specs.Begins.{is_busy}

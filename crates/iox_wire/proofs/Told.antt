@@ -1,6 +1,6 @@
 -- What the laws tell of a node of a wire that shows a run, as it makes its next access.
 use Rattle.std.specs.Prelude.{option_map}
-use Rattle.std.proofs.Common.{◌≡◌, ℕ, ◌<◌, Bool, true, false, List, length, Some, None, refl, ap, sym, subst, ◌∙◌, arith}
+use Rattle.std.proofs.Common.{◌≡◌, ℕ, ◌<◌, Bool, true, false, length, Some, None, ap, sym, subst, ◌∙◌, arith}
 use Rattle.iox_model.specs.Handles.{is_request_loan}
 use Rattle.iox_model.specs.Joins.{not_living}
 use Rattle.iox_steps.specs.Accesses.{IsWithin, seen_at, words_after}

@@ -1,19 +1,16 @@
 -- A copy goes on: a step closes what is over, and no call begins with a message that it made.
 use Rattle.std.specs.Prelude.{◌⊎◌}
-use Rattle.std.proofs.Common.{◌≡◌, ℕ, Bool, true, false, Option, Some, None, refl, ap, sym, subst, ◌∙◌, inl, inr, true≢false}
-use Rattle.iox_model.specs.Commands.{WireCall}
+use Rattle.std.proofs.Common.{◌≡◌, true, Option, Some, None, refl, ap, subst, inl, inr, true≢false}
 use Rattle.iox_model.specs.declared.way.RequestState.TheVariants.{Closed}
 use Rattle.iox_wire_keeps.specs.Begins.{begin}
 use Rattle.iox_wire_keeps.specs.Ending.{Ending}
 use Rattle.iox_wire_keeps.specs.Entry.{Entry}
 use Rattle.iox_wire_keeps.specs.Following.{CallMessage, Sent, message_at}
-use Rattle.iox_wire_keeps.specs.Local.{Local}
-use Rattle.iox_wire_keeps.specs.Local.TheVariants.{LendStores}
 use Rattle.iox_wire_keeps.specs.Seat.{Seat}
 use Rattle.iox_wire_keeps.specs.Steps.{accessed, advance, closed, ending_at}
 use Rattle.iox_wire_keeps.specs.Tables.{Setting}
 use Rattle.iox_wire_keeps.proofs.Starts.{Starting, Starts, Takes, starts}
-use Rattle.iox_wire_needs.specs.Copying.{BegunCopiesGoOn, CopyGoesOn, SteppedCopiesGoOn}
+use Rattle.iox_wire_needs.specs.Copying.{BegunCopiesGoOn, SteppedCopiesGoOn}
 
 -- what is over is closed
 pub over_is_closed : (p : Setting) (y : Seat) → ending_at (closed p y (ending_at y.local)).local ≡ None
