@@ -8,5 +8,6 @@ pub mod Told
 pub mod Keeping
 pub mod MayLend
 pub mod WireSteps
+pub mod Begun
 pub mod Fresh
 pub mod Playing

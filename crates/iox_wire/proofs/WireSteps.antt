@@ -1,20 +1,7 @@
 -- What a step, and a death, leave of a wire.
 use Rattle.std.specs.Prelude.{IfSome, not, option_map, position}
-use Rattle.iox_model.specs.declared.call.Call as the_call
-use Rattle.iox_model.specs.declared.call.WireCall.TheVariants.{Port}
-use Rattle.iox_model.specs.Loans.{Choice}
-use Rattle.iox_model.specs.Names.{is_port}
-use Rattle.iox_wire_weaves.specs.Asking.{BeginsCall, IsBeginRefusal, machine_refusal}
-use Rattle.iox_wire_weaves.specs.BeginError.{BeginError}
-use Rattle.iox_wire_weaves.specs.HandleCalls as handle_calls
-use Rattle.iox_wire_weaves.specs.Begins.{begin, is_busy, refusal_at}
-use Rattle.iox_wire_weaves.specs.Calls.{call_in, machine_call}
-use Rattle.iox_wire_weaves.specs.MessageBegins.{WordsAreWhole}
-use Rattle.iox_wire_weaves.specs.NodePayload.{NodePayload}
+use Rattle.iox_wire_weaves.specs.Begins.{is_busy}
 use Rattle.iox_wire_weaves.specs.Nodes.{seat_in}
-use Rattle.iox_wire_weaves.proofs.BeginsShown.{begins_show, refusals_are_shown}
-use Rattle.iox_wire_weaves.proofs.NodesKnown.{nodes_are_known}
-use Rattle.iox_model.specs.Commands.{WireCall}
 use Rattle.iox_wire_weaves.specs.LocalsSteps.{next}
 use Rattle.std.specs.Option.{option_map_or}
 use Rattle.std.proofs.Common.{arith, ◌<◌, ◌≤◌, ◌≡◌, ℕ, ◌==◌, true, false, List, ◌++◌, length, get_or, Option, Some, None, refl, ap, sym, subst, ◌∙◌, slice_set, eqb-true, inl, inr}
@@ -22,13 +9,13 @@ use Rattle.std.proofs.lemmas.Bool.{cases_Bool}
 use Rattle.iox_model.specs.Commands.{Reply}
 use Rattle.iox_model.specs.Maps.{or_else, refused_if}
 use Rattle.iox_model.specs.Schedules.{IsStepOf}
-use Rattle.iox_model.specs.Weaves.{Beat, Begins, Dies, begin_refusal}
+use Rattle.iox_model.specs.Weaves.{Beat, Dies}
 use Rattle.iox_steps.specs.declared.access.Access.{Access}
 use Rattle.iox_steps.specs.Accesses.{IsWithin, seen_at, words_after}
 use Rattle.iox_wire_weaves.specs.Programs.{program_access}
 use Rattle.iox_wire_weaves.specs.Seat.{Seat}
 use Rattle.iox_wire_weaves.specs.Locals.{program_of}
-use Rattle.iox_wire_weaves.specs.Tables.{Setting, entry_at}
+use Rattle.iox_wire_weaves.specs.Tables.{Setting}
 use Rattle.iox_wire_weaves.specs.CallAt.TheVariants.{Seats}
 use Rattle.iox_wire_weaves.specs.NodeReply.{NodeReply}
 use Rattle.iox_wire_weaves.specs.Runs.{GoesOnBy, Run}
@@ -41,12 +28,11 @@ use Rattle.iox_wire_weaves.specs.Wires.{Shows, WireData, WireNode, answers_in, l
 use Rattle.iox_wire_weaves.proofs.DeathsShown.{deaths_show}
 use Rattle.iox_wire_weaves.proofs.Lookups.{living_by, seat_there, steps_on}
 use Rattle.iox_wire_weaves.proofs.StepsShown.{steps_show}
-use Rattle.iox_wire.specs.Kept.{HasAccessed, HasBegun, IsKept, IsRefusedBy, IsShown, Loses, MayAccess, access_in}
-use Rattle.iox_wire.proofs.Accesses.{tells_of_pools}
+use Rattle.iox_wire.specs.Kept.{HasAccessed, IsKept, IsShown, Loses, MayAccess, access_in}
 use Rattle.iox_wire.proofs.GoingOn.{goes_on}
-use Rattle.iox_wire.proofs.Keeping.{kept_begun, kept_on, kept_still}
+use Rattle.iox_wire.proofs.Keeping.{kept_on, kept_still}
 use Rattle.iox_wire.proofs.Told.{may, told, within}
-use Rattle.iox_wire.proofs.Places.{number_there, read_there, replaced, unchanged_there}
+use Rattle.iox_wire.proofs.Places.{read_there, replaced}
 
 -- why a living node makes no step
 pub refused_at : (w : WireData) (n : ℕ) (d : WireNode) (o : Option WireRefusal) → living_refusal w.nodes n ≡ None → node_at n w.nodes ≡ Some d
@@ -106,54 +92,6 @@ module _ (w : WireData) (n i : ℕ) (d : WireNode) (at : position (λ x. x.numbe
         kept = kept_still w.nodes n d y (slice_set w.nodes i y) (replaced n w.nodes i d y at read number) shown.kept
             (kept_on p d.node y.node (seen_at (access_in p d.node) w.words) reply kept rests.1 rests.2 made.went made.ready);
       }
-
-  -- ---- a begin
-
-  module _ (p : Setting) (r : Run) (shows : Shows p w r) (call : the_call.Call NodePayload) where
-    -- the machine refuses a call of a living node as its own tables tell
-    own_refusal : living_refusal w.nodes n ≡ None → begin_refusal r.last n (machine_call p (Port call)) ≡ refusal_at p (seat_in d.node) (machine_call p (Port call))
-    own_refusal alive =
-        refusals_are_shown p w r n (call_in p call) shows
-        ∙ ap (λ o. or_else (option_map refusal_in o) (refusal_at p (seat_of p w.nodes n) (machine_call p (Port call)))) alive
-        ∙ ap (λ s. refusal_at p s (machine_call p (Port call))) (seat_there p w.nodes n d there)
-
-    pub begun : (y : WireNode) → living_refusal w.nodes n ≡ None → (seat_in d.node).accesses ≤ most_accesses → HasBegun w.plan w.terms d call y → WordsAreWhole p.limits (machine_call p (Port call))
-        → let new : WireData = record { plan = w.plan; terms = w.terms; words = w.words; nodes = slice_set w.nodes i y; replies = w.replies } in
-        BeginsCall p w n (machine_call p (Port call)) new
-        × (c : Choice) × (after : Run) × GoesOnBy r (Begins n (machine_call p (Port call)) c) after × Shows p new after
-    begun y alive few has whole =
-        begins_show p w (record { plan = w.plan; terms = w.terms; words = w.words; nodes = slice_set w.nodes i y; replies = w.replies }) r n d y (machine_call p (Port call)) shows
-        (own_refusal alive ∙ (has.begun p shows.setting).allowed) whole (omega (arith, few)) (replaced n w.nodes i d y at read has.number) has.alive
-        (has.begun p shows.setting).begun (λ pools. (has.begun p shows.setting).aimed (tells_of_pools p y.node.at (seat_in y.node).local pools)) refl refl refl refl
-
-  pub shown_begun : (call : the_call.Call NodePayload) (y : WireNode) → IsShown w → living_refusal w.nodes n ≡ None → HasBegun w.plan w.terms d call y
-      → ((p : Setting) → WordsAreWhole p.limits (machine_call p (Port call)))
-      → IsShown (record { plan = w.plan; terms = w.terms; words = w.words; nodes = slice_set w.nodes i y; replies = w.replies })
-  shown_begun call y shown alive has whole =
-      let p : Setting = shown.shows.0 in
-      let b = begun p shown.shows.1 shown.shows.2 call y alive (shown.kept n d there).few has (whole p) in
-      record {
-        shows = (p, b.2, b.4);
-        whole = shown.whole;
-        numbers = shown.numbers;
-        kept = kept_still w.nodes n d y (slice_set w.nodes i y) (replaced n w.nodes i d y at read has.number) shown.kept
-            (kept_begun p d.node y.node (machine_call p (Port call)) (shown.kept n d there) (has.begun p shown.shows.2.setting).begun has.ready);
-      }
-
-  pub refused : (call : the_call.Call NodePayload) (error : BeginError) (refusal : WireRefusal) → living_refusal w.nodes n ≡ None → IsRefusedBy w.plan w.terms d call error
-      → machine_refusal refusal ≡ handle_calls.refusal_in error → IsBeginRefusal w n (Port call) refusal
-  refused call error refusal alive by same p r shows = own_refusal p r shows call alive ∙ by p shows.setting ∙ sym same
-
-  -- a node that stays leaves the wire as it is
-  pub left_alone : (y : WireNode) → y ≡ d → (record { plan = w.plan; terms = w.terms; words = w.words; nodes = slice_set w.nodes i y; replies = w.replies }) ≡ w
-  left_alone y same = ap (λ xs. record w { nodes = xs }) (unchanged_there w.nodes i d y read same)
-
-  -- what a begin relies on
-  pub known_there : IsShown w → living_refusal w.nodes n ≡ None → (d.node.seat.seat.node ≡ d.number)
-      × (is_busy (seat_in d.node).local ≡ false → (k : ℕ) → IfSome (entry_at k d.node.seat.seat.table) (λ e. is_port e.kind ≡ false))
-  known_there shown alive =
-      let k = nodes_are_known shown.shows.0 w shown.shows.1 n d shown.shows.2 there in
-      (k.0 ∙ sym (number_there n w.nodes i d at read), k.1 alive)
 
   -- ---- a death
 

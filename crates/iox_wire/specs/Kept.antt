@@ -14,19 +14,11 @@ use Rattle.iox_wire_weaves.specs.Runs.{Run}
 use Rattle.iox_wire_weaves.specs.WirePlan.{WirePlan}
 use Rattle.iox_wire_weaves.specs.WirePlans.{IsWirePlan}
 use Rattle.iox_wire_weaves.specs.WireTerms.{WireTerms}
-use Rattle.iox_wire_weaves.specs.Terms.{IsSettingWith}
-use Rattle.iox_wire_weaves.specs.NodePayload.{NodePayload}
-use Rattle.iox_wire_weaves.specs.NodesBegins.{IsUnderWay}
-use Rattle.iox_wire_weaves.specs.Calls.{machine_call}
-use Rattle.iox_wire_weaves.specs.Begins.{is_busy, refusal_at}
-use Rattle.iox_wire_weaves.specs.BeginError.{BeginError}
-use Rattle.iox_wire_weaves.specs.HandleCalls.{refusal_in}
+use Rattle.iox_wire_weaves.specs.Begins.{is_busy}
 use Rattle.iox_wire_weaves.specs.Copying.{CopyGoesOn}
 use Rattle.iox_wire_weaves.specs.Counts.{IsTidy}
 use Rattle.iox_wire_weaves.specs.Uses.{HaveFewWays}
 use Rattle.iox_wire_weaves.specs.Steps.{most_accesses}
-use Rattle.iox_model.specs.declared.call.Call as the_call
-use Rattle.iox_model.specs.declared.call.WireCall.TheVariants.{Port}
 use Rattle.iox_wire_weaves.specs.declared.refusal.WireRefusal.TheVariants.{NodeIsDead}
 use Rattle.iox_wire_weaves.specs.Laws.{WentOn}
 use Rattle.iox_wire_weaves.specs.Wires.{Shows, WireData, WireNode, living_refusal, node_at}
@@ -86,25 +78,6 @@ AreOpened plan handles ns xs = ⊥
 abbrev pub HaveRoomFor : ℕ → List WireNode → Type 0
 HaveRoomFor handles nodes =
     (n : ℕ) (x : WireNode) → node_at n nodes ≡ Some x → x.node.seat.room ≡ handles
-
--- ---- a begin
-
--- The node began the call: it is at its first place, knows the places of the words that it accesses,
--- and has room for what the call adds at its end.
-pub record HasBegun (plan : WirePlan) (terms : WireTerms) (old : WireNode)
-    (call : the_call.Call NodePayload) (new : WireNode) : Type 0 where
-  pub begun : (p : Setting) → IsSettingWith plan terms p
-      → IsUnderWay p old.node (machine_call p (Port call)) new.node
-  pub ready : MayAdd new.node.at new.node
-  pub number : new.number ≡ old.number
-  pub alive : new.alive ≡ old.alive
-
--- its own tables tell this why it does not
-abbrev pub IsRefusedBy : WirePlan → WireTerms → WireNode → the_call.Call NodePayload → BeginError
-    → Type 0
-IsRefusedBy plan terms old call error =
-    (p : Setting) → IsSettingWith plan terms p
-    → refusal_at p (seat_in old.node) (machine_call p (Port call)) ≡ refusal_in error
 
 -- ---- an access
 

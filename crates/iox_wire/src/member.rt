@@ -2,11 +2,10 @@
 ghost use Rattle.std.specs.Prelude.{◌≡◌, ◌+◌, ◌<◌, ◌^◌, false, nat_le, true};
 ghost use Rattle.std.specs.Option.{option_map_or};
 
-use crate::finding::find_port;
+mod begin;
+
 use iox_steps::{Access, perform};
-use iox_wire_weaves::{
-    Asked, BeginError, Lists, NodeReply, StoredNode, WireRefusal, WireTerms, WordMap,
-};
+use iox_wire_weaves::{NodeReply, StoredNode, WireRefusal};
 use std::marker::Model;
 
 /// How many accesses a node may make.
@@ -34,21 +33,14 @@ impl Model for Member {
 }
 
 impl Member {
-    ghost use Rattle.std.specs.Prelude.{◌≡◌, ◌<◌, false, nat_le, true};
-    ghost use Rattle.std.specs.Prelude.{IfErr, IfSome, OnErr, OnOk};
-    ghost use Rattle.iox_model.specs.declared.call.Call.TheVariants.{HasRequests};
-    ghost use Rattle.iox_model.specs.declared.call.WireCall.TheVariants.{Port};
-    ghost use Rattle.iox_model.specs.Names.{is_port};
+    ghost use Rattle.std.specs.Prelude.{◌≡◌, ◌<◌, nat_le, true};
     ghost use Rattle.std.specs.Bool.{OnTrue};
     ghost use Rattle.iox_wire_weaves.specs.Begins.{is_busy};
     ghost use Rattle.iox_wire_weaves.specs.Rooms.{HasItsRoom};
-    ghost use Rattle.iox_wire_weaves.specs.Terms.{IsSettingWith};
     ghost use Rattle.iox_wire_weaves.specs.Tables.{Setting};
     ghost use Rattle.iox_wire_weaves.specs.Nodes.{seat_in};
     ghost use Rattle.iox_wire_weaves.specs.Steps.{most_accesses, rest_refusal};
-    ghost use Rattle.iox_wire_weaves.specs.Tables.{entry_at};
-    ghost use Rattle.iox_wire_weaves.specs.WirePlans.{IsWirePlan};
-    ghost use Rattle.iox_wire.specs.Kept.{HasAccessed, HasBegun, IsRefusedBy, MayAccess};
+    ghost use Rattle.iox_wire.specs.Kept.{HasAccessed, MayAccess};
 
     /// A living node, which has so many handles and room for more together.
     pub(crate) fn new(number: u64, node: StoredNode, most: usize) -> Member
@@ -129,42 +121,5 @@ impl Member {
         let access: Access = self.node.asks();
         let seen = perform(words, access);
         self.node.go_on(seen)
-    }
-
-    /// Begins to look whether a request waits for the port of that number. What it lists is of no
-    /// use later.
-    pub(crate) fn begin_has_requests(
-        &mut self,
-        map: &WordMap,
-        terms: &WireTerms,
-        number: u64,
-        lists: &mut Lists,
-    ) -> Result<(), BeginError>
-        requires plan { IsWirePlan map.now terms.now }
-        requires setting { (p : Setting) × IsSettingWith map.now terms.now p }
-        requires node { self.old.node.seat.seat.node ≡ self.old.number }
-        requires handles { is_busy (seat_in self.old.node).local ≡ false
-            → IfSome (entry_at number self.old.node.seat.seat.table) (λ e. is_port e.kind ≡ false) }
-        ensures begun { OnOk result
-            (HasBegun map.now terms.now self.old (HasRequests number) self.new) }
-        ensures refused { IfErr result
-            (IsRefusedBy map.now terms.now self.old (HasRequests number)) }
-        ensures unchanged { OnErr result (self.new ≡ self.old) }
-    {
-        if self.node.is_busy() {
-            return Err(BeginError::Busy);
-        }
-        let Some(port) = find_port(map, number) else {
-            return Err(self.node.refuse_on_handle(map, Asked::HasRequests, number));
-        };
-        self.node.begin_has_requests(
-            map,
-            self.number,
-            number,
-            port,
-            terms.fire_and_forget,
-            &mut lists.sources,
-            &mut lists.stops,
-        )
     }
 }

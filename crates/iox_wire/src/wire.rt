@@ -29,6 +29,7 @@ pub struct Answer {
 /// anywhere in its call.
 #[derive(Drop)]
 pub struct Wire {
+    pub(crate) alloc: Global,
     pub(crate) places: WordMap,
     pub(crate) terms: WireTerms,
     words: Vec<u64>,
@@ -108,6 +109,7 @@ impl Wire {
         let words = zeros(alloc, total)?;
         let members = open_members(alloc, places.plan(), nodes, handles)?;
         Ok(Wire {
+            alloc,
             places,
             terms,
             words,
@@ -132,7 +134,7 @@ impl Wire {
     }
 
     /// Where the node of that number stands.
-    fn place(&self, node: u64) -> Option<usize>
+    pub(crate) fn place(&self, node: u64) -> Option<usize>
         ensures first { result ≡ position (λ x. x.number == node) self.now.nodes }
         ensures within { IfSome result (λ place. place < length self.now.nodes) }
     {

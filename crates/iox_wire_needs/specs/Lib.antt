@@ -9,6 +9,7 @@ pub mod Handles
 -- what the crates above cite of those below
 pub use Rattle.iox_wire_keeps.specs.Aside
 pub use Rattle.iox_wire_keeps.specs.CallsStand
+pub use Rattle.iox_wire_keeps.specs.Desks
 pub use Rattle.iox_wire_keeps.specs.Ending
 pub use Rattle.iox_wire_keeps.specs.Entry
 pub use Rattle.iox_wire_keeps.specs.Following
@@ -29,5 +30,6 @@ pub use Rattle.iox_wire_keeps.specs.SlotsKnown
 pub use Rattle.iox_wire_keeps.specs.Stands
 pub use Rattle.iox_wire_keeps.specs.Stored
 pub use Rattle.iox_wire_keeps.specs.UsedSlots
+pub use Rattle.iox_wire_keeps.specs.Uses as CountedUses
 pub use Rattle.iox_wire_keeps.specs.WholeSteps
 pub use Rattle.iox_wire_keeps.specs.WireStands

@@ -29,6 +29,8 @@ pub use Rattle.iox_wire_begins.specs.Lends
 pub use Rattle.iox_wire_begins.specs.Loans
 pub use Rattle.iox_wire_begins.specs.Local
 pub use Rattle.iox_wire_begins.specs.Locals
+pub use Rattle.iox_wire_begins.specs.OwnStates
+pub use Rattle.iox_wire_begins.specs.PlacedHandles
 pub use Rattle.iox_wire_begins.specs.PlanPort
 pub use Rattle.iox_wire_begins.specs.Plans
 pub use Rattle.iox_wire_begins.specs.PlansOf
@@ -37,6 +39,7 @@ pub use Rattle.iox_wire_begins.specs.Receipts
 pub use Rattle.iox_wire_begins.specs.ReceiveReply
 pub use Rattle.iox_wire_begins.specs.ReceivesAims
 pub use Rattle.iox_wire_begins.specs.Refusals
+pub use Rattle.iox_wire_begins.specs.Released
 pub use Rattle.iox_wire_begins.specs.RequestDispatches
 pub use Rattle.iox_wire_begins.specs.RequestReply
 pub use Rattle.iox_wire_begins.specs.RequestSources
@@ -51,6 +54,7 @@ pub use Rattle.iox_wire_begins.specs.Steps
 pub use Rattle.iox_wire_begins.specs.Stored
 pub use Rattle.iox_wire_begins.specs.Tables
 pub use Rattle.iox_wire_begins.specs.Terms
+pub use Rattle.iox_wire_begins.specs.WholeElements
 pub use Rattle.iox_wire_begins.specs.WirePlan
 pub use Rattle.iox_wire_begins.specs.WirePlans
 pub use Rattle.iox_wire_begins.specs.WireTerms

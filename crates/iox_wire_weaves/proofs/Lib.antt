@@ -3,6 +3,7 @@ pub mod StepsShown
 pub mod DeathsShown
 pub mod BeginsShown
 pub mod NodesKnown
+pub mod HandlesStanding
 pub mod Opened
 -- what the crates above cite of those below
 pub use Rattle.iox_wire_needs.proofs.AccessesMade
@@ -13,6 +14,7 @@ pub use Rattle.iox_wire_needs.proofs.OpenedDesks
 pub use Rattle.iox_wire_needs.proofs.Tidying
 pub use Rattle.iox_wire_needs.proofs.Uses
 pub use Rattle.iox_wire_nodes.proofs.BesideLemmas
+pub use Rattle.iox_wire_nodes.proofs.CallLemmas
 pub use Rattle.iox_wire_nodes.proofs.Layouts
 pub use Rattle.iox_wire_nodes.proofs.NameLemmas
 pub use Rattle.iox_wire_nodes.proofs.Planned

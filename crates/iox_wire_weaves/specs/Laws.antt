@@ -11,6 +11,7 @@ use Rattle.iox_steps.specs.declared.access.Progress.{Progress}
 use Rattle.iox_steps.specs.declared.access.Progress.TheVariants.{Done, Going}
 use Rattle.iox_steps.specs.Accesses.{IsWithin, seen_at, words_after}
 use Rattle.iox_steps.specs.Sites.{last_position}
+use Rattle.iox_wire_needs.specs.Counts.{IsTidy}
 use Rattle.iox_wire_needs.specs.MessageBegins.{WordsAreWhole}
 use Rattle.iox_model.specs.Names.{is_port}
 use Rattle.iox_wire_nodes.specs.LocalsBegins.{begin, is_busy}
@@ -19,6 +20,7 @@ use Rattle.iox_wire_nodes.specs.WirePlan.{WirePlan}
 use Rattle.iox_wire_nodes.specs.Plans.{IsPlan, sizes_of}
 use Rattle.iox_wire_nodes.specs.Steps.{next, tells}
 use Rattle.iox_wire_nodes.specs.Tables.{Setting, entry_at}
+use Rattle.iox_wire_nodes.specs.WirePlans.{HandleStands, IsWirePlan}
 use Rattle.iox_wire_nodes.specs.WireTerms.{WireTerms}
 use Rattle.iox_wire_nodes.specs.Aims.{IsAimed}
 use Rattle.iox_wire_nodes.specs.declared.call_at.CallAt.TheVariants.{Seats}
@@ -120,6 +122,16 @@ NodesAreKnown =
     (own.node ≡ n)
     × (living_refusal wire.nodes n ≡ None → is_busy (seat_in x.node).local ≡ false → (k : ℕ)
     → IfSome (entry_at k own.table) (λ e. is_port e.kind ≡ false))
+
+-- Each handle of a living node that is between calls, and has one desk for a port and one count for a
+-- way, is what it may be on the wire.
+abbrev pub HandlesStand : Type 0
+HandlesStand =
+    (p : Setting) (wire : WireData) (r : Run) (n : ℕ) (x : WireNode) → Shows p wire r
+    → IsWirePlan wire.plan wire.terms → node_at n wire.nodes ≡ Some x
+    → living_refusal wire.nodes n ≡ None → is_busy (seat_in x.node).local ≡ false
+    → IsTidy (seat_in x.node) → let own = x.node.seat.seat in
+    (k : ℕ) → IfSome (entry_at k own.table) (HandleStands wire.plan own.desks)
 
 -- A call of a port or a handle is refused for the machine's reason: its node does not live, or its
 -- own tables say why.

@@ -20,6 +20,7 @@ pub use Rattle.iox_wire_needs.specs.Stands
 pub use Rattle.iox_wire_needs.specs.Tidying
 pub use Rattle.iox_wire_needs.specs.Uses
 pub use Rattle.iox_wire_needs.specs.WholeSteps
+pub use Rattle.iox_wire_needs.specs.WireStands
 pub use Rattle.iox_wire_nodes.specs.Aims
 pub use Rattle.iox_wire_nodes.specs.BeginError
 pub use Rattle.iox_wire_nodes.specs.Begins as NodesBegins
@@ -40,6 +41,8 @@ pub use Rattle.iox_wire_nodes.specs.Local
 pub use Rattle.iox_wire_nodes.specs.Locals
 pub use Rattle.iox_wire_nodes.specs.LocalsBegins as Begins
 pub use Rattle.iox_wire_nodes.specs.Nodes
+pub use Rattle.iox_wire_nodes.specs.OwnStates
+pub use Rattle.iox_wire_nodes.specs.PlacedHandles
 pub use Rattle.iox_wire_nodes.specs.PlanPort
 pub use Rattle.iox_wire_nodes.specs.Plans
 pub use Rattle.iox_wire_nodes.specs.PlansOf
@@ -48,6 +51,7 @@ pub use Rattle.iox_wire_nodes.specs.Programs
 pub use Rattle.iox_wire_nodes.specs.Receipts
 pub use Rattle.iox_wire_nodes.specs.ReceiveReply
 pub use Rattle.iox_wire_nodes.specs.Refusals
+pub use Rattle.iox_wire_nodes.specs.Released
 pub use Rattle.iox_wire_nodes.specs.RequestDispatches
 pub use Rattle.iox_wire_nodes.specs.RequestReply
 pub use Rattle.iox_wire_nodes.specs.RequestSources
@@ -62,6 +66,7 @@ pub use Rattle.iox_wire_nodes.specs.Steps as LocalsSteps
 pub use Rattle.iox_wire_nodes.specs.Stored
 pub use Rattle.iox_wire_nodes.specs.Tables
 pub use Rattle.iox_wire_nodes.specs.Terms
+pub use Rattle.iox_wire_nodes.specs.WholeElements
 pub use Rattle.iox_wire_nodes.specs.WirePlan
 pub use Rattle.iox_wire_nodes.specs.WirePlans
 pub use Rattle.iox_wire_nodes.specs.WireTerms
@@ -69,4 +74,7 @@ pub use Rattle.iox_wire_nodes.specs.WordMapNewError
 pub use Rattle.iox_wire_nodes.specs.WorkedWires
 pub use Rattle.iox_wire_nodes.specs.declared.call_at.CallAt
 pub use Rattle.iox_wire_nodes.specs.declared.call_at.NodeReply
+pub use Rattle.iox_wire_nodes.specs.declared.handle_call.HandleCall
+pub use Rattle.iox_wire_nodes.specs.declared.node_call.NodeCall
 pub use Rattle.iox_wire_nodes.specs.declared.node_call.NodePayload
+pub use Rattle.iox_wire_nodes.specs.declared.node_error.NodeError
