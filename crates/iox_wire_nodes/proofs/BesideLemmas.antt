@@ -3,7 +3,7 @@ use Rattle.std.specs.Prelude.{IfSome, Option}
 use Rattle.iox_wire_begins.specs.Local.{Local}
 use Rattle.iox_wire_begins.specs.Local.TheVariants.{Idle}
 use Rattle.iox_wire_nodes.specs.declared.call_at.CallAt.{CallAt}
-use Rattle.std.proofs.Common.{◌≡◌, ℕ, ◌+◌, true, false, List, Some, None, refl, ap, ap₂, sym, subst, ◌∙◌, true≢false}
+use Rattle.std.proofs.Common.{◌≡◌, ℕ, ◌+◌, false, List, Some, None, refl, ap, ap₂, sym, subst, ◌∙◌, true≢false}
 use Rattle.iox_wire_begins.specs.WirePlan.{WirePlan}
 use Rattle.iox_wire_begins.specs.WirePlans.{HandleStands}
 use Rattle.iox_wire_begins.specs.WireTerms.{WireTerms}
@@ -21,17 +21,12 @@ use Rattle.iox_wire_begins.specs.Receipts.{Receipt}
 use Rattle.iox_wire_begins.specs.LoansAims as loans
 use Rattle.iox_wire_begins.specs.LoansAims.{TellsOfSlot}
 use Rattle.iox_wire_begins.specs.Loans.{Loaned}
-use Rattle.iox_wire_begins.specs.RequestSendsAims as requests
-use Rattle.iox_wire_begins.specs.RequestDispatches.{RequestDispatch}
-use Rattle.iox_wire_begins.specs.SendsAims as responses
-use Rattle.iox_wire_begins.specs.Dispatches.{Dispatch}
 use Rattle.iox_wire_begins.specs.CopyCalls as request_copies
 use Rattle.iox_wire_begins.specs.CopyCalls.{CopyCall}
 use Rattle.iox_wire_begins.specs.ResponseCopies as response_copies
 use Rattle.iox_wire_begins.specs.ResponseCopies.{ResponseCopy}
 use Rattle.iox_wire_nodes.specs.declared.call_at.CallAt.TheVariants as at
 use Rattle.iox_wire_nodes.specs.Begins.{IsBegun, IsReady, IsUnchanged, IsUnderWay}
-use Rattle.iox_wire_nodes.specs.Aims.{IsAimed}
 use Rattle.iox_wire_nodes.specs.Nodes.{Node, seat_at, seat_in}
 
 -- a call that is begun is under way

@@ -1,5 +1,5 @@
 -- What a call of a node is asked as, and named.
-use Rattle.std.proofs.Common.{◌≡◌, ℕ, ◌+◌, None, [], refl, ap, ap₂, sym, subst, ◌∙◌}
+use Rattle.std.proofs.Common.{◌≡◌, ℕ, ◌+◌, None, [], refl, ap₂, sym, subst, ◌∙◌}
 use Rattle.iox_model.specs.declared.kind.Role.TheVariants.{Client}
 use Rattle.iox_model.specs.Commands.{Payload}
 use Rattle.iox_wire_begins.specs.HandleCalls.{HasRole, call_of}

@@ -1,7 +1,7 @@
 -- Each handle of a living node between calls stands: its ports, its lane and its slot are the plan's.
-use Rattle.std.specs.Prelude.{filter, find, IfSome, IsSomeAnd, ◌++◌, ◌⊎◌}
+use Rattle.std.specs.Prelude.{filter, IsSomeAnd, ◌++◌, ◌⊎◌}
 use Rattle.std.specs.Option.{option_map_or}
-use Rattle.std.proofs.Common.{◌≡◌, ℕ, ◌+◌, ◌-◌, ◌*◌, ◌/◌, ◌^◌, ◌<◌, ◌≤◌, ◌==◌, Bool, true, false, if◌then◌else◌, List, [], length, Option, Some, None, refl, ap, ap₂, sym, subst, ◌∙◌, arith, inl, inr, true≢false}
+use Rattle.std.proofs.Common.{◌≡◌, ℕ, ◌+◌, ◌-◌, ◌*◌, ◌/◌, ◌^◌, ◌<◌, ◌≤◌, ◌==◌, true, false, if◌then◌else◌, List, length, Option, Some, None, refl, ap, ap₂, sym, subst, ◌∙◌, arith, inl, inr, true≢false}
 use Rattle.std.proofs.Math.Nat.{mul_assoc}
 use Rattle.std.proofs.lemmas.Nat.{mul-le}
 use Rattle.iox_model.specs.declared.kind.Kind.{Kind}
@@ -9,21 +9,19 @@ use Rattle.iox_model.specs.declared.kind.Kind.TheVariants as kinds
 use Rattle.iox_model.specs.declared.kind.Role.{Role}
 use Rattle.iox_model.specs.declared.kind.Role.TheVariants.{Client, Server}
 use Rattle.iox_model.specs.declared.way.Way.{Way}
-use Rattle.iox_model.specs.Handles.{is_received, is_request_loan, is_response_loan, same_kind}
+use Rattle.iox_model.specs.Handles.{is_request_loan, is_response_loan, same_kind}
 use Rattle.iox_model.specs.Joins.{not_living}
 use Rattle.iox_model.specs.Maps.{has_number}
 use Rattle.iox_model.specs.Messages.{request_way, response_way}
-use Rattle.iox_model.specs.Names.{is_port}
 use Rattle.iox_model.specs.Parts.{bytes_of_parts}
 use Rattle.iox_model.specs.Settings.{Shape, is_client, message_size, same_role, shape_of}
-use Rattle.iox_model.specs.States.{Fixed, Port}
+use Rattle.iox_model.specs.States.{Fixed}
 use Rattle.iox_model.proofs.LayoutLemmas.{IsPowerOfTwo-positive, aligned_place-ge}
 use Rattle.iox_laws.proofs.WeaveLedger.Lists.{among-filter, among-map, among-number, find-among}
 use Rattle.iox_word_map.specs.WordMaps.{IsResponseWay, Region, Sizes, piece_place, piece_size, total_words}
 use Rattle.iox_word_map.proofs.Pieces.{pieces_are_sized, pieces_are_within}
 use Rattle.iox_wire_nodes.specs.Desk.{Desk}
 use Rattle.iox_wire_nodes.specs.Entry.{Entry}
-use Rattle.iox_wire_nodes.specs.Local.{Local}
 use Rattle.iox_wire_nodes.specs.LocalsBegins.{is_busy}
 use Rattle.iox_wire_nodes.specs.Nodes.{Node, seat_at, seat_in}
 use Rattle.iox_wire_nodes.specs.declared.call_at.CallAt.{CallAt}
@@ -42,7 +40,7 @@ use Rattle.iox_wire_needs.specs.CallsStand.{CallStands}
 use Rattle.iox_wire_needs.specs.Counts.{IsTidy}
 use Rattle.iox_wire_needs.specs.CountedUses.{how_often}
 use Rattle.iox_wire_needs.specs.Desks.{MayGiveUp}
-use Rattle.iox_wire_needs.specs.Following.{CallMessage, Leaving, LeavesNothing, message_at}
+use Rattle.iox_wire_needs.specs.Following.{Leaving, LeavesNothing, message_at}
 use Rattle.iox_wire_needs.specs.Lanes.{lanes_in, lent_in}
 use Rattle.iox_wire_needs.specs.Local.TheVariants.{Idle}
 use Rattle.iox_wire_needs.specs.Nodes.{NodeStands}
@@ -54,7 +52,7 @@ use Rattle.iox_wire_needs.proofs.LanesTell.{in_table, lane_of_client, low, reque
 use Rattle.iox_wire_needs.proofs.OwnPorts.{is_response}
 use Rattle.iox_wire_weaves.specs.Laws.{HandlesStand}
 use Rattle.iox_wire_weaves.specs.Wires.{Shows, WireData, WireNode, living_refusal, node_at, players_of, seat_of}
-use Rattle.iox_wire_weaves.proofs.NodesKnown.{entry_there, fits, handle_kind, here, idle, if_some, lives, same}
+use Rattle.iox_wire_weaves.proofs.NodesKnown.{entry_there, handle_kind, here, idle, if_some, lives, same}
 
 -- ---- kinds and roles
 
