@@ -1,16 +1,15 @@
 -- What the begin of a call leads to, and what is left where it is refused.
-use Rattle.std.specs.Prelude.{Err, IfSome, Ok, OnOk, Result, ◌*◌, ◌%◌, ◌/◌, ◌^◌, if◌then◌else◌, option_map, position}
+use Rattle.std.specs.Prelude.{Err, Ok, OnOk, Result, ◌*◌, ◌%◌, ◌/◌, ◌^◌, if◌then◌else◌, option_map, position}
 use Rattle.std.specs.Option.{option_map_or}
-use Rattle.std.proofs.Common.{◌≡◌, ℕ, ◌+◌, ◌-◌, ◌<◌, ◌≤◌, ◌==◌, Bool, true, false, List, length, get_or, Option, None, Some, refl, ap, sym, subst, ◌∙◌, arith, slice_set, eqb-true, true≢false, inl, inr}
+use Rattle.std.proofs.Common.{◌≡◌, ℕ, ◌+◌, ◌-◌, ◌<◌, ◌≤◌, ◌==◌, Bool, true, false, length, get_or, Option, None, Some, refl, ap, sym, subst, ◌∙◌, arith, slice_set, eqb-true, inl, inr}
 use Rattle.std.proofs.Math.Nat.{div-mul-le_self, mod-eq-sub-div-mul}
 use Rattle.std.proofs.lemmas.Bool.{cases_Bool}
 use Rattle.iox_model.specs.declared.call.WireCall.TheVariants.{Port}
 use Rattle.iox_model.specs.Commands.{WireCall}
-use Rattle.iox_model.specs.Joins.{not_living}
 use Rattle.iox_model.specs.Loans.{Choice}
 use Rattle.iox_model.specs.declared.reply.Refusal.TheVariants as refusals
 use Rattle.iox_model.specs.Maps.{or_else, refused_if}
-use Rattle.iox_model.specs.Settings.{Shape, shape_of}
+use Rattle.iox_model.specs.Settings.{shape_of}
 use Rattle.iox_model.specs.Weaves.{Begins, begin_refusal}
 use Rattle.iox_laws.proofs.WeaveLedger.Truths.{none-some}
 use Rattle.iox_wire_weaves.specs.Aims.{IsAimed, MayAdd}
@@ -21,7 +20,6 @@ use Rattle.iox_wire_weaves.specs.CallAt.TheVariants as at
 use Rattle.iox_wire_weaves.specs.Calls.{call_in, may_add_handle}
 use Rattle.iox_wire_weaves.specs.Copying.{CopyGoesOn}
 use Rattle.iox_wire_weaves.specs.Counts.{IsTidy}
-use Rattle.iox_wire_weaves.specs.HandleCall.{HandleCall}
 use Rattle.iox_wire_weaves.specs.HandleCall.TheVariants as handle_calls
 use Rattle.iox_wire_weaves.specs.Laws.{Replaces}
 use Rattle.iox_wire_weaves.specs.Lendings.{next_handle}
@@ -44,7 +42,7 @@ use Rattle.iox_wire_weaves.specs.Steps.{most_accesses}
 use Rattle.iox_wire_weaves.specs.Tables.{Setting}
 use Rattle.iox_wire_weaves.specs.Terms.{IsSettingWith}
 use Rattle.iox_wire_weaves.specs.Uses.{HaveFewWays}
-use Rattle.iox_wire_weaves.specs.WholeElements.{elements_in, elements_of_nothing, whole_elements}
+use Rattle.iox_wire_weaves.specs.WholeElements.{elements_in, elements_of_nothing}
 use Rattle.iox_wire_weaves.specs.WirePlan.{WirePlan}
 use Rattle.iox_wire_weaves.specs.WireStands.{WireStands}
 use Rattle.iox_wire_weaves.specs.WireTerms.{WireTerms}

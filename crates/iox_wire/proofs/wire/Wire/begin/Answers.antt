@@ -5,7 +5,6 @@ use Rattle.iox_wire_weaves.specs.Asking.{BeginsCall, IsBeginRefusal}
 use Rattle.iox_wire_weaves.specs.Calls.{call_in}
 use Rattle.iox_wire_weaves.specs.Wires.{Shows, WireData, living_refusal}
 use Rattle.iox_wire.specs.Begun.{IsLeft}
-use Rattle.iox_wire.specs.Kept.{IsShown}
 use Rattle.iox_wire.proofs.Begun.{begun, left, may_begin, may_lend_there, refused, set_there, shown_begun, shown_refused}
 use Rattle.iox_wire.proofs.Replies.{told_by}
 use Rattle.iox_wire.proofs.WireSteps.{there}
