@@ -84,11 +84,16 @@ fn terms_of_ones(alloc: Global) -> Result<WireTerms, Fail>
     })
 }
 
-/// A wire of that plan, whose nodes live.
-fn open(alloc: Global) -> Result<Wire, Fail> {
+/// A wire of that plan, whose nodes live, each with room for so many handles.
+pub(super) fn open_with(alloc: Global, handles: usize) -> Result<Wire, Fail> {
     let plan = plan_of_ones(alloc)?;
     let terms = terms_of_ones(alloc)?;
-    Ok(Wire::new(alloc, plan, terms, &[0, 1], 4)?)
+    Ok(Wire::new(alloc, plan, terms, &[0, 1], handles)?)
+}
+
+/// The same with room for four handles each.
+pub(super) fn open(alloc: Global) -> Result<Wire, Fail> {
+    open_with(alloc, 4)
 }
 
 #[test]

@@ -1,10 +1,20 @@
 -- A wire that is made from a plan is fresh.
-use Rattle.std.specs.Prelude.{replicate}
-use Rattle.std.proofs.Common.{◌≡◌, ℕ, ◌<◌, ◌^◌, List, [], Some, ◌∙◌, arith, subst, sym}
+use Rattle.std.specs.Prelude.{filter, replicate}
+use Rattle.std.proofs.Common.{◌≡◌, ℕ, ◌+◌, ◌<◌, ◌≤◌, ◌==◌, ◌^◌, List, [], ◌∷◌, length, map, Some, ◌∙◌, ap, arith, inl, inr, refl, subst, sym, true≢false}
+use Rattle.std.proofs.lemmas.List.{length-map}
+use Rattle.iox_model.specs.Maps.{AreDistinct}
+use Rattle.iox_laws.proofs.WeaveLedger.Lists.{IsAmong}
+use Rattle.iox_wire_weaves.specs.Begins.{is_busy}
+use Rattle.iox_wire_weaves.specs.Copying.{CopyGoesOn}
+use Rattle.iox_wire_weaves.specs.Counts.{IsTidy}
+use Rattle.iox_wire_weaves.specs.PlanPort.{PlanPort}
+use Rattle.iox_wire_weaves.specs.Seat.{Seat}
+use Rattle.iox_wire_weaves.specs.Steps.{most_accesses}
+use Rattle.iox_wire_weaves.specs.Uses.{HaveFewWays}
 use Rattle.iox_model.specs.States.{State}
 use Rattle.iox_word_map.specs.WordMaps.{total_words}
 use Rattle.iox_wire_weaves.specs.WirePlan.{WirePlan}
-use Rattle.iox_wire_weaves.specs.Plans.{IsPlan, sizes_of}
+use Rattle.iox_wire_weaves.specs.Plans.{IsPlan, port_numbers, sizes_of}
 use Rattle.iox_wire_weaves.specs.PlansOf.{IsSettingOf}
 use Rattle.iox_wire_weaves.specs.Tables.{Setting}
 use Rattle.iox_wire_weaves.specs.Laws.{IsFresh}
@@ -14,9 +24,41 @@ use Rattle.iox_wire_weaves.specs.WireTerms.{WireTerms}
 use Rattle.iox_wire_weaves.specs.Wires.{AreWhole, OpensOn, ShowsOpened, WireData, WireNode, node_at}
 use Rattle.iox_wire_weaves.proofs.Opened.{wires_open}
 use Rattle.iox_wire.specs.Kept.{AreOpened, IsKept, IsOpenedNode, IsShown}
+use Rattle.iox_wire_openings.specs.OpenedNodes.{planned_desk, planned_ways}
+use Rattle.iox_wire_openings.proofs.FewWays.{ways_are_few}
 use Rattle.iox_wire_openings.proofs.OpenedLemmas.{counts_differ, desks_differ}
 use Rattle.iox_wire.proofs.Members.{opened_has, opened_node}
-use Rattle.iox_wire.proofs.OpenedSeats.{opened_as_planned}
+use Rattle.iox_wire.proofs.OpenedSeats.{filtered_among, opened_as_planned}
+
+-- ---- what a node keeps to at first
+
+few_ways : (plan : WirePlan) → ((q : PlanPort) → IsAmong q plan.ports.items → length (planned_ways plan q) < 2 ^ 63) → (qs : List PlanPort)
+    → ((q : PlanPort) → IsAmong q qs → IsAmong q plan.ports.items) → HaveFewWays (map (planned_desk plan) qs)
+few_ways plan few [] all = tt
+few_ways plan few (q ∷ qs) all = (
+  less (length (planned_desk plan q).recorded) (length (planned_ways plan q)) (length-map (planned_ways plan q) (λ y. record { way = y; slots = [] })) (few q (all q (inl refl))),
+  few_ways plan few qs (λ k among. all k (inr among)),
+)
+  where
+    less : (a b : ℕ) → a ≡ b → b < 2 ^ 63 → a + 3 < 2 ^ 64
+    less a b is low = omega (arith, is, low)
+
+kept_first : (plan : WirePlan) → AreDistinct (port_numbers plan) → total_words (sizes_of plan) < 2 ^ 63 → (handles n : ℕ) (x : WireNode) → IsOpenedNode plan handles n x
+    → IsKept x.node
+kept_first plan apart low handles n x opened = record {
+  few = subst (λ (s : Seat). s.accesses ≤ most_accesses) (sym opened.seat) (omega arith);
+  tidy = subst IsTidy (sym opened.seat) (record { desks = desks_differ plan apart n; counts = counts_differ plan apart n });
+  ways = subst (λ (s : Seat). HaveFewWays s.desks) (sym opened.seat)
+      (few_ways plan (λ q among. under _ _ (ways_are_few plan apart q among) low) (filter (λ (q : PlanPort). q.node == n) plan.ports.items)
+      (λ q among. filtered_among (λ (q : PlanPort). q.node == n) q plan.ports.items among));
+  copies = subst (λ (s : Seat). CopyGoesOn s.local) (sym opened.seat) (λ e is. refl);
+  ready = λ busy. absurd (true≢false (sym busy ∙ ap (λ (s : Seat). is_busy s.local) opened.seat));
+}
+  where
+    under : (a b : ℕ) → a ≤ b → b < 2 ^ 63 → a < 2 ^ 63
+    under a b less few = omega (arith, less, few)
+
+-- ---- the wire
 
 module _ (plan : WirePlan) (terms : WireTerms) (ns : List ℕ) (wire : WireData) (is : IsPlan plan) (plan_is : wire.plan ≡ plan) (terms_are : wire.terms ≡ terms)
     (words : wire.words ≡ replicate (total_words (sizes_of plan)) 0) (handles : ℕ) (nodes : AreOpened plan handles ns wire.nodes) (replies : wire.replies ≡ []) where
@@ -49,15 +91,12 @@ module _ (plan : WirePlan) (terms : WireTerms) (ns : List ℕ) (wire : WireData)
     memory = omega (arith, low);
   }
 
-  pub shown_opened : AreWhole plan terms → total_words (sizes_of plan) < 2 ^ 63 → (p : Setting) × (s : State) × OpensOn plan terms ns p s → IsShown wire
-  shown_opened whole low o =
+  pub shown_opened : AreWhole plan terms → total_words (sizes_of plan) < 2 ^ 63 → terms.first_number < 2 ^ 63 → (p : Setting) × (s : State) × OpensOn plan terms ns p s → IsShown wire
+  shown_opened whole low first o =
       let shows : ShowsOpened o.0 o.1 wire = shows_opened o.0 o.1 o.2 in
       record {
         shows = (o.0, shows.0, shows.4);
         whole = subst (λ q. IsWirePlan q wire.terms) (sym plan_is) (subst (IsWirePlan plan) (sym terms_are) (wire_plan o.0 o.2.told whole low));
-        seated = λ n x at. (opened_node plan handles ns wire.nodes n x nodes at).seated;
-        kept = λ n x at. subst IsKept (sym (opened_node plan handles ns wire.nodes n x nodes at).seat) (record {
-          few = omega arith;
-          tidy = record { desks = desks_differ plan is.numbers n; counts = counts_differ plan is.numbers n };
-        });
+        numbers = subst (λ (t : WireTerms). t.first_number + most_accesses < 2 ^ 64) (sym terms_are) (omega (arith, first));
+        kept = λ n x at. kept_first plan is.numbers low handles n x (opened_node plan handles ns wire.nodes n x nodes at);
       }

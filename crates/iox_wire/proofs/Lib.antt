@@ -3,6 +3,11 @@ pub mod OpenedSeats
 pub mod Members
 pub mod Accesses
 pub mod Replies
+pub mod GoingOn
+pub mod Told
+pub mod Keeping
+pub mod MayLend
 pub mod WireSteps
+pub mod Begun
 pub mod Fresh
 pub mod Playing

@@ -57,7 +57,7 @@ flat_map_map : {A B C : Type 0} (f : B → List C) (g : A → B) (xs : List A) �
 flat_map_map f g [] = refl
 flat_map_map f g (x ∷ xs) = ap (λ ys. f (g x) ++ ys) (flat_map_map f g xs)
 
-filtered_among : {A : Type 0} (test : A → Bool) (a : A) (xs : List A) → IsAmong a (filter test xs) → IsAmong a xs
+pub filtered_among : {A : Type 0} (test : A → Bool) (a : A) (xs : List A) → IsAmong a (filter test xs) → IsAmong a xs
 filtered_among test a [] among = among
 filtered_among test a (x ∷ xs) among = by_case (test x) (filtered_among test a xs) among
   where

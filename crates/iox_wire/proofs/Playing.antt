@@ -4,19 +4,29 @@ use Rattle.std.proofs.Common.{◌≡◌, ℕ, zero, suc, ◌≤◌, arith, lengt
 use Rattle.std.proofs.lemmas.List.{map-append}
 use Rattle.iox_model.specs.Commands.{Refusal, WireCall}
 use Rattle.iox_model.specs.Joins.{not_living}
-use Rattle.iox_model.specs.Schedules.{Entry, IsBeginOf, IsDeathOf, IsWeaveOf, nothing}
+use Rattle.iox_model.specs.Schedules.{Entry, IsBeginOf, IsDeathOf, IsEntry, IsWeaveOf, nothing}
+use Rattle.iox_model.specs.States.{Fixed}
+use Rattle.iox_model.specs.WireCalls.{in_words, said_on_wire}
 use Rattle.iox_model.specs.Weaves.{Beat, Begins, Dies, World, begin_refusal}
 use Rattle.iox_steps.specs.declared.access.Progress.{Progress}
 use Rattle.iox_wire_weaves.specs.NodeReply.{NodeReply}
 use Rattle.iox_wire_weaves.specs.declared.refusal.WireRefusal.{WireRefusal}
 use Rattle.iox_wire_weaves.specs.Steps.{DeathIsWoven, StepIsWoven}
-use Rattle.iox_wire_weaves.specs.Wires.{WireData, living_refusal, refusal_in}
+use Rattle.iox_wire_weaves.specs.Wires.{Shows, WireData, living_refusal, machine_refusal, refusal_in}
+use Rattle.iox_wire_weaves.specs.Calls.{call_in, of_handle}
+use Rattle.iox_wire_weaves.specs.HandleCall.{HandleCall}
+use Rattle.iox_wire_weaves.specs.HandleCall.TheVariants as handle_calls
+use Rattle.iox_wire_weaves.specs.NodeCall.{NodeCall}
+use Rattle.iox_wire_weaves.specs.NodeCall.TheVariants.{Handle, HasRequests, Loan, Receive, Send, SendCopy, Write}
+use Rattle.iox_wire_weaves.specs.Runs.{Run}
+use Rattle.iox_wire_weaves.specs.Tables.{Setting}
 use Rattle.iox_wire.specs.declared.entry.WireEntry.{WireEntry}
-use Rattle.iox_wire.specs.declared.entry.WireEntry.TheVariants.{Die, HasRequests, Step}
-use Rattle.iox_wire_weaves.specs.Asking.{BeginIsWoven, IsBeginRefusal, machine_refusal}
-use Rattle.iox_model.specs.declared.call.Call.TheVariants as calls
+use Rattle.iox_wire.specs.declared.entry.WireEntry.TheVariants as entries
+use Rattle.iox_wire.specs.declared.entry.WireEntry.TheVariants.{Die, Step}
+use Rattle.iox_wire_weaves.specs.Asking.{BeginIsWoven, IsBeginRefusal}
 use Rattle.iox_model.specs.declared.call.WireCall.TheVariants.{Port}
-use Rattle.iox_wire.specs.Schedules.{IsPlayed, entry_of}
+use Rattle.iox_wire.specs.Begun.{IsLeft}
+use Rattle.iox_wire.specs.Schedules.{IsAsked, IsPlayed, entry_of}
 
 -- ---- one after another
 
@@ -105,56 +115,102 @@ death_passed a b n refusal same refused =
 
 -- ---- a begin
 
-pub begin_played : (a b : WireData) (n k : ℕ) → BeginIsWoven a n (Port (calls.HasRequests k)) b → IsPlayed a (HasRequests n k ∷ []) b
-begin_played a b n k woven p r shows =
+pub begin_asked : (a b : WireData) (n : ℕ) (call : NodeCall) → BeginIsWoven a n call b → IsAsked a n call b
+begin_asked a b n call woven p r shows =
     let s = woven p r shows in
-    let asked : WireCall = Port (calls.HasRequests k) in (
+    let asked : WireCall = Port (call_in p call) in (
       Begins n asked s.0 ∷ [],
       s.1,
-      (
-        Begins n asked s.0 ∷ [],
-        [],
-        s.1.last,
-        refl,
-        subst (λ (o : Option Refusal). IsBeginOf o n asked (Begins n asked s.0 ∷ [])) (sym s.2.beat.0) (s.0, refl),
-        (s.1.last, s.2.beat, refl),
-        (refl, refl),
-      ),
+      subst (λ (o : Option Refusal). IsBeginOf o n asked (Begins n asked s.0 ∷ [])) (sym s.2.beat.0) (s.0, refl),
+      (s.1.last, s.2.beat, refl),
       s.2.first,
       s.2.beats,
       s.3,
     )
 
-pub begin_passed : (a b : WireData) (n k : ℕ) (refusal : WireRefusal) → b ≡ a → IsBeginRefusal a n (Port (calls.HasRequests k)) refusal
-    → machine_refusal refusal ≡ Some (refusal_in refusal) → IsPlayed a (HasRequests n k ∷ []) b
-begin_passed a b n k refusal same refused named =
-    subst (IsPlayed a (HasRequests n k ∷ [])) (sym same)
-    (λ p r shows. (
-    let asked : WireCall = Port (calls.HasRequests k) in
-    let not_begun : begin_refusal r.last n asked ≡ Some (refusal_in refusal) = refused p r shows ∙ named in (
+-- what is left of a wire shows the runs that it showed
+left_shows : (call : NodeCall) (a b : WireData) → IsLeft call a b → (p : Setting) (r : Run) → Shows p a r → Shows p b r
+left_shows (SendCopy n y) a b left p r shows = left.shows p r shows
+left_shows (Loan n k) a b left p r shows = subst (λ w. Shows p w r) (sym left) shows
+left_shows (Write n y) a b left p r shows = subst (λ w. Shows p w r) (sym left) shows
+left_shows (Send n) a b left p r shows = subst (λ w. Shows p w r) (sym left) shows
+left_shows (Receive n) a b left p r shows = subst (λ w. Shows p w r) (sym left) shows
+left_shows (HasRequests n) a b left p r shows = subst (λ w. Shows p w r) (sym left) shows
+left_shows (Handle n h) a b left p r shows = subst (λ w. Shows p w r) (sym left) shows
+
+begin_left : (a b : WireData) (n : ℕ) (call : NodeCall) (refusal : WireRefusal) → IsLeft call a b → IsBeginRefusal a n call refusal
+    → machine_refusal refusal ≡ Some (refusal_in refusal) → IsAsked a n call b
+begin_left a b n call refusal left refused named p r shows =
+    let asked : WireCall = Port (call_in p call) in
+    let not_begun : begin_refusal r.last n asked ≡ Some (refusal_in refusal) = refused.named p r shows ∙ named in (
       [],
       r,
-      (
-        [],
-        [],
-        r.last,
-        refl,
-        subst (λ (o : Option Refusal). IsBeginOf o n asked []) (sym not_begun) refl,
-        refl,
-        (refl, refl),
-      ),
+      subst (λ (o : Option Refusal). IsBeginOf o n asked []) (sym not_begun) refl,
+      refl,
       refl,
       sym (append-nil r.beats),
-      shows,
+      left_shows call a b left p r shows,
     )
-    ))
 
-pub begin_told : (a b : WireData) (n k : ℕ) (told want : Result (Unit {0}) WireRefusal) → OnOk told (BeginIsWoven a n (Port (calls.HasRequests k)) b)
-    → IfErr told (IsBeginRefusal a n (Port (calls.HasRequests k))) → OnErr told (b ≡ a)
-    → OnOk want (IfErr told (λ refusal. machine_refusal refusal ≡ Some (refusal_in refusal))) → OnOk want (IsPlayed a (HasRequests n k ∷ []) b)
-begin_told a b n k (Ok done) (Ok none) woven refused same named = begin_played a b n k woven
-begin_told a b n k (Err refusal) (Ok none) woven refused same named = begin_passed a b n k refusal same refused named
-begin_told a b n k told (Err want) woven refused same named = tt
+pub begin_told : (a b : WireData) (n : ℕ) (call : NodeCall) (told want : Result (Unit {0}) WireRefusal) → OnOk told (BeginIsWoven a n call b)
+    → IfErr told (IsBeginRefusal a n call) → OnErr told (IsLeft call a b)
+    → OnOk want (IfErr told (λ refusal. machine_refusal refusal ≡ Some (refusal_in refusal))) → OnOk want (IsAsked a n call b)
+begin_told a b n call (Ok done) (Ok none) woven refused left named = begin_asked a b n call woven
+begin_told a b n call (Err refusal) (Ok none) woven refused left named = begin_left a b n call refusal left refused named
+begin_told a b n call told (Err want) woven refused left named = tt
+
+-- what is told of a begin that is not asked is a refusal
+pub left_told : (a b : WireData) (call : NodeCall) (told want : Result (Unit {0}) WireRefusal) → OnErr told (IsLeft call a b) → OnErr want (IfOk told (λ done. ⊥))
+    → OnErr want (IsLeft call a b)
+left_told a b call told (Ok none) left wants = tt
+left_told a b call (Ok done) (Err want) left wants = absurd wants
+left_told a b call (Err refusal) (Err want) left wants = left
+
+-- ---- an entry that begins a call
+
+asked_played : (a b : WireData) (n : ℕ) (call : NodeCall) (entry : WireEntry) → IsAsked a n call b
+    → ((p : Setting) (r : Run) (bs : List Beat) → let asked = Port (call_in p call) in
+    IsBeginOf (begin_refusal r.last n asked) n asked bs → IsEntry r.last (entry_of entry) bs)
+    → IsPlayed a (entry ∷ []) b
+asked_played a b n call entry asked means p r shows =
+    let s = asked p r shows in
+    (s.0, s.1, (s.0, [], s.1.last, sym (append-nil s.0), means p r s.0 s.2, s.3, (refl, refl)), s.4, s.5, s.6)
+
+-- a call of a handle is said without words
+said_so : (f : Fixed) (n k : ℕ) (call : HandleCall) → said_on_wire f n (Port (in_words (of_handle call k))) ≡ Port (of_handle call k)
+said_so f n k handle_calls.Read = refl
+said_so f n k handle_calls.Release = refl
+said_so f n k handle_calls.IsConnected = refl
+said_so f n k handle_calls.SetHint = refl
+said_so f n k handle_calls.HasHint = refl
+said_so f n k handle_calls.HasResponse = refl
+
+pub loan_played : (a b : WireData) (n k elements : ℕ) (told : Result (Unit {0}) WireRefusal) → OnOk told (IsAsked a n (Loan k elements) b)
+    → OnOk told (IsPlayed a (entries.Loan n k elements ∷ []) b)
+loan_played a b n k elements (Ok done) asked = asked_played a b n (Loan k elements) (entries.Loan n k elements) asked (λ p r bs is. is)
+loan_played a b n k elements (Err refusal) asked = tt
+
+pub send_played : (a b : WireData) (n k : ℕ) (told : Result (Unit {0}) WireRefusal) → OnOk told (IsAsked a n (Send k) b)
+    → OnOk told (IsPlayed a (entries.Send n k ∷ []) b)
+send_played a b n k (Ok done) asked = asked_played a b n (Send k) (entries.Send n k) asked (λ p r bs is. is)
+send_played a b n k (Err refusal) asked = tt
+
+pub receive_played : (a b : WireData) (n k : ℕ) (told : Result (Unit {0}) WireRefusal) → OnOk told (IsAsked a n (Receive k) b)
+    → OnOk told (IsPlayed a (entries.Receive n k ∷ []) b)
+receive_played a b n k (Ok done) asked = asked_played a b n (Receive k) (entries.Receive n k) asked (λ p r bs is. is)
+receive_played a b n k (Err refusal) asked = tt
+
+pub look_played : (a b : WireData) (n k : ℕ) (told : Result (Unit {0}) WireRefusal) → OnOk told (IsAsked a n (HasRequests k) b)
+    → OnOk told (IsPlayed a (entries.HasRequests n k ∷ []) b)
+look_played a b n k (Ok done) asked = asked_played a b n (HasRequests k) (entries.HasRequests n k) asked (λ p r bs is. is)
+look_played a b n k (Err refusal) asked = tt
+
+pub handle_played : (a b : WireData) (n k : ℕ) (call : HandleCall) (told : Result (Unit {0}) WireRefusal) → OnOk told (IsAsked a n (Handle k call) b)
+    → OnOk told (IsPlayed a (entries.Handle n k call ∷ []) b)
+handle_played a b n k call (Ok done) asked =
+    asked_played a b n (Handle k call) (entries.Handle n k call) asked
+    (λ p r bs is. subst (λ (c : WireCall). IsBeginOf (begin_refusal r.last n c) n c bs) (sym (said_so r.last.state.fixed n k call)) is)
+handle_played a b n k call (Err refusal) asked = tt
 
 -- ---- what the calls tell
 

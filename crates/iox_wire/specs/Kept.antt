@@ -1,5 +1,5 @@
 -- What a wire keeps to, and what a node's access does.
-use Rattle.std.specs.Prelude.{◌≤◌, ◌≡◌, ◌==◌, ℕ, false, List, [], ◌∷◌, Option, Some, length, true}
+use Rattle.std.specs.Prelude.{◌+◌, ◌<◌, ◌≤◌, ◌^◌, ◌≡◌, ◌==◌, ℕ, false, List, [], ◌∷◌, Option, None, Some, length, true}
 use Rattle.iox_steps.specs.declared.access.Access.{Access}
 use Rattle.iox_steps.specs.Accesses.{IsWithin, seen_at, words_after}
 use Rattle.iox_wire_weaves.specs.Programs.{program_access}
@@ -7,50 +7,46 @@ use Rattle.iox_wire_weaves.specs.Locals.{program_of}
 use Rattle.iox_wire_weaves.specs.Tables.{Setting}
 use Rattle.iox_wire_weaves.specs.CallAt.TheVariants.{Seats}
 use Rattle.iox_wire_weaves.specs.NodeReply.{NodeReply}
-use Rattle.iox_wire_weaves.specs.Aims.{IsAimed}
+use Rattle.iox_wire_weaves.specs.Aims.{IsAimed, KnowsItsPlace, MayAdd, MayGoOn}
 use Rattle.iox_wire_weaves.specs.Nodes.{Node, seat_in}
 use Rattle.iox_wire_openings.specs.OpenedNodes.{planned_seat}
 use Rattle.iox_wire_weaves.specs.Runs.{Run}
 use Rattle.iox_wire_weaves.specs.WirePlan.{WirePlan}
 use Rattle.iox_wire_weaves.specs.WirePlans.{IsWirePlan}
-use Rattle.iox_wire_weaves.specs.WireTerms.{WireTerms}
-use Rattle.iox_wire_weaves.specs.Terms.{IsSettingWith}
-use Rattle.iox_wire_weaves.specs.NodePayload.{NodePayload}
-use Rattle.iox_wire_weaves.specs.NodesBegins.{IsBegun}
-use Rattle.iox_wire_weaves.specs.Calls.{machine_call}
-use Rattle.iox_wire_weaves.specs.Begins.{refusal_at}
-use Rattle.iox_wire_weaves.specs.BeginError.{BeginError}
-use Rattle.iox_wire_weaves.specs.HandleCalls.{refusal_in}
+use Rattle.iox_wire_weaves.specs.Begins.{is_busy}
+use Rattle.iox_wire_weaves.specs.Copying.{CopyGoesOn}
 use Rattle.iox_wire_weaves.specs.Counts.{IsTidy}
-use Rattle.iox_wire_weaves.specs.Seat.{Seat}
+use Rattle.iox_wire_weaves.specs.Uses.{HaveFewWays}
 use Rattle.iox_wire_weaves.specs.Steps.{most_accesses}
-use Rattle.iox_model.specs.declared.call.Call as the_call
-use Rattle.iox_model.specs.declared.call.WireCall.TheVariants.{Port}
 use Rattle.iox_wire_weaves.specs.declared.refusal.WireRefusal.TheVariants.{NodeIsDead}
 use Rattle.iox_wire_weaves.specs.Laws.{WentOn}
 use Rattle.iox_wire_weaves.specs.Wires.{Shows, WireData, WireNode, living_refusal, node_at}
 
 -- ---- a wire
 
--- each node's call is one that its seat keeps
-abbrev pub AreSeated : List WireNode → Type 0
-AreSeated nodes = (n : ℕ) (x : WireNode) → node_at n nodes ≡ Some x → x.node.at ≡ Seats
+-- What a node keeps to.
+pub record IsKept (x : Node) : Type 0 where
+  -- it made no more accesses than it may
+  pub few : (seat_in x).accesses ≤ most_accesses
+  -- it has one desk for a port, and one count for a way
+  pub tidy : IsTidy (seat_in x)
+  -- its ports send on fewer ways than a word counts
+  pub ways : HaveFewWays (seat_in x).desks
+  -- a message that its call made and sends goes on
+  pub copies : CopyGoesOn (seat_in x).local
+  -- there is room for what its call adds at its end
+  pub ready : is_busy (seat_in x).local ≡ true → MayAdd x.at x
 
--- The node made no more accesses than it may, and has one desk for a port and one count for a way.
-pub record IsKept (x : Seat) : Type 0 where
-  pub few : x.accesses ≤ most_accesses
-  pub tidy : IsTidy x
-
--- so it is with each node
+-- so does each node
 abbrev pub AreKept : List WireNode → Type 0
-AreKept nodes = (n : ℕ) (x : WireNode) → node_at n nodes ≡ Some x → IsKept (seat_in x.node)
+AreKept nodes = (n : ℕ) (x : WireNode) → node_at n nodes ≡ Some x → IsKept x.node
 
--- A wire shows a run of the machine, calls may begin with its plan and its terms, and it plays the
--- calls that its nodes' seats keep.
+-- A wire shows a run of the machine, calls may begin with its plan and its terms, and its handles have
+-- numbers.
 pub record IsShown (wire : WireData) : Type 0 where
   pub shows : (p : Setting) × (r : Run) × Shows p wire r
   pub whole : IsWirePlan wire.plan wire.terms
-  pub seated : AreSeated wire.nodes
+  pub numbers : wire.terms.first_number + most_accesses < 2 ^ 64
   pub kept : AreKept wire.nodes
 
 -- The wire lost the node: it is dead, and all else stays.
@@ -82,39 +78,23 @@ abbrev pub HaveRoomFor : ℕ → List WireNode → Type 0
 HaveRoomFor handles nodes =
     (n : ℕ) (x : WireNode) → node_at n nodes ≡ Some x → x.node.seat.room ≡ handles
 
--- ---- a begin
-
--- The node began the call: it is at its first place, and knows the places of the words that it
--- accesses.
-pub record HasBegun (plan : WirePlan) (terms : WireTerms) (old : WireNode)
-    (call : the_call.Call NodePayload) (new : WireNode) : Type 0 where
-  pub begun : (p : Setting) → IsSettingWith plan terms p
-      → IsBegun p old.node (machine_call p (Port call)) new.node
-  pub number : new.number ≡ old.number
-  pub alive : new.alive ≡ old.alive
-  pub seated : new.node.at ≡ Seats
-
--- its own tables tell this why it does not
-abbrev pub IsRefusedBy : WirePlan → WireTerms → WireNode → the_call.Call NodePayload → BeginError
-    → Type 0
-IsRefusedBy plan terms old call error =
-    (p : Setting) → IsSettingWith plan terms p
-    → refusal_at p (seat_in old.node) (machine_call p (Port call)) ≡ refusal_in error
-
 -- ---- an access
 
 -- the access that a node makes next
 abbrev pub access_in : Setting → Node → Access
 access_in p x = program_access p.layout (program_of p (seat_in x).local)
 
--- The node may make its access: it knows where, and that is among the words.
+-- The node may make its access: it knows where, that is among the words, and it may go on with what
+-- it finds there, its place being one of its own loan if it sends.
 pub record MayAccess (p : Setting) (x : Node) (words : List ℕ) : Type 0 where
   pub aimed : IsAimed p x
   pub within : IsWithin 0 (length words) (access_in p x)
+  pub goes_on : KnowsItsPlace x.at x → MayGoOn x.at x (seen_at (access_in p x) words)
 
 -- It made its access: the words are those after it, and the node went on with what it found; its
--- call answers this if it is over.
+-- call answers this if it is over, and there is room for what it adds if not.
 pub record HasAccessed (p : Setting) (x : Node) (words : List ℕ) (reply : Option NodeReply)
     (y : Node) (after : List ℕ) : Type 0 where
   pub words_are : after ≡ words_after (access_in p x) words
   pub went : WentOn p x (seen_at (access_in p x) words) reply y
+  pub ready : reply ≡ None → MayAdd x.at x → MayAdd y.at y

@@ -1,5 +1,7 @@
 -- what a wire keeps to, beside that it shows a run
 pub mod Kept
+-- how a call begins
+pub mod Begun
 -- and what a schedule leads to
 pub mod Schedules
 -- what the crates above cite of those below

@@ -1,44 +1,55 @@
 //! How a node of a wire begins a call.
 ghost use Rattle.std.specs.Prelude.{◌≡◌, IfErr, OnErr, OnOk};
-ghost use Rattle.iox_model.specs.declared.call.Call.TheVariants.{HasRequests};
-ghost use Rattle.iox_model.specs.declared.call.WireCall.TheVariants.{Port};
 ghost use Rattle.iox_wire_weaves.specs.Asking.{BeginIsWoven, BeginsItsCall, IsBeginRefusal};
-ghost use Rattle.iox_wire_weaves.specs.Asking.{machine_refusal};
-ghost use Rattle.iox_wire_weaves.specs.HandleCalls.{refusal_in};
+ghost use Rattle.iox_wire_weaves.specs.NodeCall.TheVariants.{HasRequests};
+ghost use Rattle.iox_wire_weaves.specs.NodeError.TheVariants as errors;
+ghost use Rattle.iox_wire_weaves.specs.NodesBegins.{node_refusal};
+ghost use Rattle.iox_wire_weaves.specs.Wires.{machine_refusal};
+ghost use Rattle.iox_wire_weaves.specs.declared.refusal.WireRefusal.TheVariants.{Unsupported};
+ghost use Rattle.iox_wire.specs.Begun.{IsLeft};
 
 use crate::wire::Wire;
-use iox_wire_weaves::{BeginError, WireRefusal};
+use iox_wire_weaves::{BeginError, NodeCall, NodeError, WireRefusal};
 
 /// A wire's name of a refusal.
-fn refusal_of(error: BeginError) -> WireRefusal
-    ensures { machine_refusal result ≡ refusal_in error }
+fn refusal_of(error: NodeError) -> WireRefusal
+    ensures named { machine_refusal result ≡ node_refusal error }
+    ensures left_out { result ≡ Unsupported → error ≡ errors.Unsupported }
 {
     match error {
-        BeginError::Busy => WireRefusal::Busy,
-        BeginError::UnknownNumber => WireRefusal::UnknownNumber,
-        BeginError::ForeignNumber => WireRefusal::ForeignNumber,
-        BeginError::WrongKind => WireRefusal::WrongKind,
-        BeginError::WantOfMemory => WireRefusal::WantOfMemory,
+        NodeError::Begin(BeginError::Busy) => WireRefusal::Busy,
+        NodeError::Begin(BeginError::UnknownNumber) => WireRefusal::UnknownNumber,
+        NodeError::Begin(BeginError::ForeignNumber) => WireRefusal::ForeignNumber,
+        NodeError::Begin(BeginError::WrongKind) => WireRefusal::WrongKind,
+        NodeError::Begin(BeginError::WantOfMemory) => WireRefusal::WantOfMemory,
+        NodeError::Unsupported => WireRefusal::Unsupported,
     }
 }
 
 impl Wire {
-    /// The node begins to look whether a request waits for its server of that number.
-    pub fn begin_has_requests(&mut self, node: u64, number: u64) -> Result<(), WireRefusal>
-        ensures begun { OnOk result
-            (BeginsItsCall self.old node (Port (HasRequests number)) self.new) }
-        ensures weave { OnOk result
-            (BeginIsWoven self.old node (Port (HasRequests number)) self.new) }
-        ensures refused { IfErr result
-            (IsBeginRefusal self.old node (Port (HasRequests number))) }
-        ensures unchanged { OnErr result (self.new ≡ self.old) }
+    /// The node begins a call of the port or the handle of its number.
+    pub fn begin(&mut self, node: u64, call: NodeCall<'_>) -> Result<(), WireRefusal>
+        ensures begun { OnOk result (BeginsItsCall self.old node call.entry self.new) }
+        ensures weave { OnOk result (BeginIsWoven self.old node call.entry self.new) }
+        ensures refused { IfErr result (IsBeginRefusal self.old node call.entry) }
+        ensures unchanged { OnErr result (IsLeft call.entry self.old self.new) }
     {
         let place = self.living(node)?;
         let member = &mut self.members[place];
-        let told = member.begin_has_requests(&self.places, &self.terms, number, &mut self.lists);
+        let told = member.begin(self.alloc, &self.places, &self.terms, call, &mut self.lists);
         if let Err(error) = told {
             return Err(refusal_of(error));
         }
         Ok(())
+    }
+
+    /// The node begins to look whether a request waits for its server of that number.
+    pub fn begin_has_requests(&mut self, node: u64, number: u64) -> Result<(), WireRefusal>
+        ensures begun { OnOk result (BeginsItsCall self.old node (HasRequests number) self.new) }
+        ensures weave { OnOk result (BeginIsWoven self.old node (HasRequests number) self.new) }
+        ensures refused { IfErr result (IsBeginRefusal self.old node (HasRequests number)) }
+        ensures unchanged { OnErr result (self.new ≡ self.old) }
+    {
+        self.begin(node, NodeCall::HasRequests { number })
     }
 }

@@ -7,11 +7,15 @@ mod entry;
 mod finding;
 mod member;
 mod opening;
+mod reading;
 mod schedule;
 pub mod uses;
 mod wire;
 
 pub use entry::WireEntry;
 pub use iox_steps::Progress;
-pub use iox_wire_weaves::{NodeReply, SeatReply, WireRefusal, WireTerms};
+pub use iox_wire_weaves::{
+    CopyReply, HandleCall, LendReply, NodeCall, NodePayload, NodeReply, ReceiveReply, RequestReply,
+    RespondReply, ResponseCopyReply, SeatReply, WireRefusal, WireTerms,
+};
 pub use wire::{Answer, Wire};

@@ -2,11 +2,10 @@
 ghost use Rattle.std.specs.Prelude.{◌≡◌, ◌+◌, ◌<◌, ◌^◌, false, nat_le, true};
 ghost use Rattle.std.specs.Option.{option_map_or};
 
-use crate::finding::find_port;
+mod begin;
+
 use iox_steps::{Access, perform};
-use iox_wire_weaves::{
-    Asked, BeginError, Lists, NodeReply, StoredNode, WireRefusal, WireTerms, WordMap,
-};
+use iox_wire_weaves::{NodeReply, StoredNode, WireRefusal};
 use std::marker::Model;
 
 /// How many accesses a node may make.
@@ -18,40 +17,41 @@ pub(crate) struct Member {
     number: u64,
     alive: bool,
     node: StoredNode,
+    // the handles that it has, and those for which it has room
+    most: usize,
 }
 
 impl Model for Member {
+    ghost use Rattle.iox_wire_weaves.specs.Rooms.{HasItsRoom};
     ghost use Rattle.iox_wire_weaves.specs.Wires.{WireNode};
 
     ghost Value = { WireNode };
 
     ghost view = { λ m. record { number = m.number; alive = m.alive; node = m.node } };
+
+    ghost invariant = { λ m. HasItsRoom m.most m.node };
 }
 
 impl Member {
-    ghost use Rattle.std.specs.Prelude.{◌≡◌, ◌<◌, false, nat_le, true};
-    ghost use Rattle.std.specs.Prelude.{IfErr, IfSome, OnErr, OnOk};
-    ghost use Rattle.iox_model.specs.declared.call.Call.TheVariants.{HasRequests};
-    ghost use Rattle.iox_model.specs.declared.call.WireCall.TheVariants.{Port};
-    ghost use Rattle.iox_model.specs.Names.{is_port};
+    ghost use Rattle.std.specs.Prelude.{◌≡◌, ◌<◌, nat_le, true};
+    ghost use Rattle.std.specs.Bool.{OnTrue};
     ghost use Rattle.iox_wire_weaves.specs.Begins.{is_busy};
+    ghost use Rattle.iox_wire_weaves.specs.Rooms.{HasItsRoom};
     ghost use Rattle.iox_wire_weaves.specs.Tables.{Setting};
-    ghost use Rattle.iox_wire_weaves.specs.CallAt.TheVariants.{Seats};
-    ghost use Rattle.iox_wire_weaves.specs.Aims.{IsAimed};
     ghost use Rattle.iox_wire_weaves.specs.Nodes.{seat_in};
     ghost use Rattle.iox_wire_weaves.specs.Steps.{most_accesses, rest_refusal};
-    ghost use Rattle.iox_wire_weaves.specs.Tables.{entry_at};
-    ghost use Rattle.iox_wire_weaves.specs.WirePlans.{IsWirePlan};
-    ghost use Rattle.iox_wire.specs.Kept.{HasAccessed, HasBegun, IsRefusedBy, MayAccess};
+    ghost use Rattle.iox_wire.specs.Kept.{HasAccessed, MayAccess};
 
-    /// A living node.
-    pub(crate) fn new(number: u64, node: StoredNode) -> Member
+    /// A living node, which has so many handles and room for more together.
+    pub(crate) fn new(number: u64, node: StoredNode, most: usize) -> Member
+        requires { HasItsRoom most node }
         ensures { result ≡ record { number = number; alive = true; node = node } }
     {
         Member {
             number,
             alive: true,
             node,
+            most,
         }
     }
 
@@ -69,6 +69,13 @@ impl Member {
         ensures { result ≡ self.now.alive }
     {
         self.alive
+    }
+
+    /// Whether it has room for a handle more.
+    pub(crate) fn has_room(&self) -> bool
+        ensures { OnTrue result (0 < self.now.node.seat.room) }
+    {
+        self.node.handles() < self.most
     }
 
     /// It dies.
@@ -105,51 +112,14 @@ impl Member {
         requires may { (p : Setting) × MayAccess p self.old.node words.old.items }
         requires busy { is_busy (seat_in self.old.node).local ≡ true }
         requires few { (seat_in self.old.node).accesses < most_accesses }
-        requires seated { self.old.node.at ≡ Seats }
         ensures made { (p : Setting) → MayAccess p self.old.node words.old.items
             → HasAccessed p self.old.node words.old.items result self.new.node words.new.items }
         ensures number { self.new.number ≡ self.old.number }
         ensures alive { self.new.alive ≡ self.old.alive }
-        ensures seated { self.new.node.at ≡ Seats }
     {
+        self.node.place();
         let access: Access = self.node.asks();
         let seen = perform(words, access);
         self.node.go_on(seen)
-    }
-
-    /// Begins to look whether a request waits for the port of that number. What it lists is of no
-    /// use later.
-    pub(crate) fn begin_has_requests(
-        &mut self,
-        map: &WordMap,
-        terms: &WireTerms,
-        number: u64,
-        lists: &mut Lists,
-    ) -> Result<(), BeginError>
-        requires plan { IsWirePlan map.now terms.now }
-        requires node { self.old.node.seat.seat.node ≡ self.old.number }
-        requires handles { is_busy (seat_in self.old.node).local ≡ false
-            → IfSome (entry_at number self.old.node.seat.seat.table) (λ e. is_port e.kind ≡ false) }
-        ensures begun { OnOk result
-            (HasBegun map.now terms.now self.old (HasRequests number) self.new) }
-        ensures refused { IfErr result
-            (IsRefusedBy map.now terms.now self.old (HasRequests number)) }
-        ensures unchanged { OnErr result (self.new ≡ self.old) }
-    {
-        if self.node.is_busy() {
-            return Err(BeginError::Busy);
-        }
-        let Some(port) = find_port(map, number) else {
-            return Err(self.node.refuse_on_handle(map, Asked::HasRequests, number));
-        };
-        self.node.begin_has_requests(
-            map,
-            self.number,
-            number,
-            port,
-            terms.fire_and_forget,
-            &mut lists.sources,
-            &mut lists.stops,
-        )
     }
 }

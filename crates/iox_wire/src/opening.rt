@@ -21,7 +21,7 @@ fn open_member(
     ensures { IfOk result (IsOpenedNode plan.now handles number) }
 {
     let seat = open_node(alloc, plan, number, handles)?;
-    Ok(Member::new(number, StoredNode::new(alloc, seat)))
+    Ok(Member::new(number, StoredNode::new(alloc, seat), handles))
 }
 
 /// The nodes of these numbers as the wire opens, each with room for so many handles.

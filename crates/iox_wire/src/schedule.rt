@@ -1,15 +1,15 @@
 //! Begins, steps and deaths of nodes, one after another.
 ghost use Rattle.std.specs.Bool.{OnFalse, OnTrue};
-ghost use Rattle.std.specs.Prelude.{◌≡◌, ◌∷◌, ℕ, [], Err, IfErr, OnErr, OnOk, Some, take};
-ghost use Rattle.iox_wire_weaves.specs.Asking.{machine_refusal};
-ghost use Rattle.iox_wire_weaves.specs.Wires.{refusal_in};
+ghost use Rattle.std.specs.Prelude.{◌≡◌, ◌∷◌, ℕ, [], Err, IfErr, IfOk, None, OnErr, OnOk, Some, take};
+ghost use Rattle.iox_wire_weaves.specs.Wires.{machine_refusal, refusal_in};
 ghost use Rattle.iox_wire_weaves.specs.declared.refusal.WireRefusal.TheVariants.{WantOfMemory};
-ghost use Rattle.iox_wire.specs.Schedules.{IsPlayed};
+ghost use Rattle.iox_wire.specs.Begun.{IsLeft};
+ghost use Rattle.iox_wire.specs.Schedules.{IsAsked, IsPlayed};
 
 use crate::entry::WireEntry;
 use crate::wire::Wire;
 use iox_steps::Progress;
-use iox_wire_weaves::{NodeReply, WireRefusal};
+use iox_wire_weaves::{NodeCall, NodeReply, WireRefusal};
 
 /// Want of memory, if that is told.
 fn want_in(told: Result<Progress<NodeReply>, WireRefusal>) -> Result<(), WireRefusal>
@@ -22,43 +22,54 @@ fn want_in(told: Result<Progress<NodeReply>, WireRefusal>) -> Result<(), WireRef
     }
 }
 
-/// Whether that is want of memory; the machine has all other names.
-fn is_want(error: WireRefusal) -> bool
-    ensures want { OnTrue result (error ≡ WantOfMemory) }
-    ensures named { OnFalse result (machine_refusal error ≡ Some (refusal_in error)) }
+/// Whether the machine has that refusal.
+fn is_named(error: WireRefusal) -> bool
+    ensures named { OnTrue result (machine_refusal error ≡ Some (refusal_in error)) }
+    ensures left { OnFalse result (machine_refusal error ≡ None) }
 {
     match error {
-        WireRefusal::WantOfMemory => true,
-        WireRefusal::UnknownNode => false,
-        WireRefusal::NodeIsDead => false,
-        WireRefusal::Busy => false,
-        WireRefusal::UnknownNumber => false,
-        WireRefusal::ForeignNumber => false,
-        WireRefusal::WrongKind => false,
-        WireRefusal::AtRest => false,
-        WireRefusal::AccessesSpent => false,
+        WireRefusal::WantOfMemory => false,
+        WireRefusal::Unsupported => false,
+        WireRefusal::UnknownNode => true,
+        WireRefusal::NodeIsDead => true,
+        WireRefusal::Busy => true,
+        WireRefusal::UnknownNumber => true,
+        WireRefusal::ForeignNumber => true,
+        WireRefusal::WrongKind => true,
+        WireRefusal::AtRest => true,
+        WireRefusal::AccessesSpent => true,
     }
 }
 
-/// Want of memory for a begin, if that is told.
+/// Want of memory for a begin, if the machine does not refuse it so.
 fn want_of(told: Result<(), WireRefusal>) -> Result<(), WireRefusal>
     ensures named { OnOk result
         (IfErr told (λ error. machine_refusal error ≡ Some (refusal_in error))) }
-    ensures want { OnErr result (told ≡ Err WantOfMemory) }
+    ensures want { OnErr result (IfOk told (λ done. ⊥)) }
     ensures refused { IfErr result (λ error. error ≡ WantOfMemory) }
 {
     match told {
         Err(error) => {
-            if is_want(error) {
-                return Err(WireRefusal::WantOfMemory);
+            if is_named(error) {
+                return Ok(());
             }
-            Ok(())
+            Err(WireRefusal::WantOfMemory)
         }
         Ok(()) => Ok(()),
     }
 }
 
 impl Wire {
+    /// The node begins the call. If the machine refuses it nothing changes; want of memory is told.
+    fn ask(&mut self, node: u64, call: NodeCall<'_>) -> Result<(), WireRefusal>
+        ensures asked { OnOk result (IsAsked self.old node call.entry self.new) }
+        ensures refused { IfErr result (λ error. error ≡ WantOfMemory) }
+        ensures unchanged { OnErr result (IsLeft call.entry self.old self.new) }
+    {
+        let told = self.begin(node, call);
+        want_of(told)
+    }
+
     /// Plays an entry. If it is refused it changes nothing; want of memory is told.
     fn play(&mut self, entry: WireEntry) -> Result<(), WireRefusal>
         ensures played { OnOk result (IsPlayed self.old (entry ∷ []) self.new) }
@@ -66,9 +77,16 @@ impl Wire {
         ensures unchanged { OnErr result (self.new ≡ self.old) }
     {
         match entry {
+            WireEntry::Loan(node, number, elements) => {
+                self.ask(node, NodeCall::Loan { number, elements })
+            }
+            WireEntry::Send(node, number) => self.ask(node, NodeCall::Send { number }),
+            WireEntry::Receive(node, number) => self.ask(node, NodeCall::Receive { number }),
             WireEntry::HasRequests(node, number) => {
-                let told = self.begin_has_requests(node, number);
-                want_of(told)
+                self.ask(node, NodeCall::HasRequests { number })
+            }
+            WireEntry::Handle(node, number, call) => {
+                self.ask(node, NodeCall::Handle { number, call })
             }
             WireEntry::Step(node) => {
                 let told = self.step(node);

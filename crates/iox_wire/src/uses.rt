@@ -1,10 +1,11 @@
 //! Callers of a wire, proved from its clauses alone.
 ghost use Rattle.std.specs.Prelude.{◌≡◌, ◌∷◌, [], IfErr, IfOk, IsTrue, None, OnErr, OnOk, Some};
-ghost use Rattle.iox_model.specs.declared.call.Call.TheVariants as calls;
-ghost use Rattle.iox_model.specs.declared.call.WireCall.TheVariants.{Port};
-ghost use Rattle.iox_wire_weaves.specs.Asking.{IsBeginRefusal};
+ghost use Rattle.iox_wire_weaves.specs.Asking.{BeginIsWoven, BeginsItsCall, IsBeginRefusal};
+ghost use Rattle.iox_wire_weaves.specs.HandleCall.TheVariants.{Release};
+ghost use Rattle.iox_wire_weaves.specs.NodeCall.TheVariants as calls;
+ghost use Rattle.iox_wire.specs.Begun.{IsLeftAlone};
 ghost use Rattle.iox_wire.specs.Schedules.{IsPlayed};
-ghost use Rattle.iox_wire.specs.declared.entry.WireEntry.TheVariants.{HasRequests, Step};
+ghost use Rattle.iox_wire.specs.declared.entry.WireEntry.TheVariants.{HasRequests, Receive, Step};
 ghost use Rattle.std.specs.Bool.{OnTrue};
 ghost use Rattle.iox_model.specs.States.{State};
 ghost use Rattle.iox_wire_weaves.specs.WordMapNewError.TheVariants.{WantOfMemory};
@@ -18,7 +19,9 @@ ghost use Rattle.iox_wire_weaves.specs.Wires.{AreWhole, OpensOn, ShowsOpened, li
 use crate::entry::WireEntry;
 use crate::wire::Wire;
 use iox_steps::Progress;
-use iox_wire_weaves::{NodeReply, WirePlan, WireRefusal, WireTerms, WordMapNewError};
+use iox_wire_weaves::{
+    HandleCall, NodeCall, NodePayload, NodeReply, WirePlan, WireRefusal, WireTerms, WordMapNewError,
+};
 use std::alloc::Global;
 
 /// A wire for these nodes whose plan is not too large wants nothing but memory.
@@ -83,7 +86,43 @@ pub fn node_looks(wire: &mut Wire, node: u64, number: u64) -> Result<(), WireRef
 /// What a refused begin leaves.
 pub fn refused_begin(wire: &mut Wire, node: u64, number: u64) -> Result<(), WireRefusal>
     ensures unchanged { OnErr result (wire.new ≡ wire.old) }
-    ensures named { IfErr result (IsBeginRefusal wire.old node (Port (calls.HasRequests number))) }
+    ensures named { IfErr result (IsBeginRefusal wire.old node (calls.HasRequests number)) }
 {
     wire.begin_has_requests(node, number)
+}
+
+/// A client begins to copy a request. What it leaves otherwise shows the runs that it showed.
+pub fn client_asks(
+    wire: &mut Wire,
+    node: u64,
+    number: u64,
+    payload: NodePayload<'_>,
+) -> Result<(), WireRefusal>
+    ensures woven { OnOk result
+        (BeginIsWoven wire.old node (calls.SendCopy number payload.entry) wire.new) }
+    ensures left { OnErr result (IsLeftAlone wire.old wire.new) }
+{
+    wire.begin(node, NodeCall::SendCopy { number, payload })
+}
+
+/// A server begins to receive, and makes two steps: a run of the machine goes on so.
+pub fn server_receives(wire: &mut Wire, node: u64, number: u64) -> Result<(), WireRefusal>
+    ensures woven { OnOk result (IsPlayed wire.old
+        (Receive node number ∷ Step node ∷ Step node ∷ []) wire.new) }
+{
+    wire.run(&[
+        WireEntry::Receive(node, number),
+        WireEntry::Step(node),
+        WireEntry::Step(node),
+    ])
+}
+
+/// A node begins to release a handle, or nothing changes.
+pub fn handle_goes(wire: &mut Wire, node: u64, number: u64) -> Result<(), WireRefusal>
+    ensures begun { OnOk result
+        (BeginsItsCall wire.old node (calls.Handle number Release) wire.new) }
+    ensures unchanged { OnErr result (wire.new ≡ wire.old) }
+{
+    let call = HandleCall::Release;
+    wire.begin(node, NodeCall::Handle { number, call })
 }

@@ -15,6 +15,9 @@ use std::marker::Model;
 /// As many words are more than any memory has.
 const MOST_WORDS: usize = 1 << 63;
 
+/// As many handles have no numbers.
+const MOST_NUMBERS: u64 = 1 << 63;
+
 /// What a finished call of a node answered. The words of a read are those that its node lends.
 #[derive(Clone, Copy)]
 pub struct Answer {
@@ -26,6 +29,7 @@ pub struct Answer {
 /// anywhere in its call.
 #[derive(Drop)]
 pub struct Wire {
+    pub(crate) alloc: Global,
     pub(crate) places: WordMap,
     pub(crate) terms: WireTerms,
     words: Vec<u64>,
@@ -99,9 +103,13 @@ impl Wire {
         if total >= MOST_WORDS {
             return Err(WordMapNewError::WantOfMemory);
         }
+        if terms.first_number >= MOST_NUMBERS {
+            return Err(WordMapNewError::WantOfMemory);
+        }
         let words = zeros(alloc, total)?;
         let members = open_members(alloc, places.plan(), nodes, handles)?;
         Ok(Wire {
+            alloc,
             places,
             terms,
             words,
@@ -126,7 +134,7 @@ impl Wire {
     }
 
     /// Where the node of that number stands.
-    fn place(&self, node: u64) -> Option<usize>
+    pub(crate) fn place(&self, node: u64) -> Option<usize>
         ensures first { result ≡ position (λ x. x.number == node) self.now.nodes }
         ensures within { IfSome result (λ place. place < length self.now.nodes) }
     {

@@ -1,13 +1,16 @@
 -- A request may be given up: its lane is used, so fewer are free than its client has.
 use Rattle.std.proofs.lemmas.Option.{none-some}
-use Rattle.std.specs.Prelude.{length, nat_lt}
+use Rattle.std.specs.Prelude.{find, length, nat_lt}
 use Rattle.std.specs.List.{range_with_len}
 use Rattle.std.specs.Option.{option_map_or}
-use Rattle.std.proofs.Common.{◌≡◌, ℕ, Bool, true, false, if◌then◌else◌, ◌==◌, ◌<◌, ◌≤◌, ◌+◌, ◌++◌, List, [], ◌∷◌, Option, None, suc, ap, refl, sym, subst, ◌∙◌, arith, inl, inr, true≢false}
+use Rattle.std.proofs.Common.{◌≡◌, ℕ, Bool, true, false, if◌then◌else◌, ◌==◌, ◌<◌, ◌≤◌, ◌+◌, ◌++◌, List, [], ◌∷◌, Option, Some, None, suc, ap, refl, sym, subst, ◌∙◌, arith, inl, inr, true≢false}
 use Rattle.iox_model.specs.Handles.{is_request_loan}
 use Rattle.iox_model.specs.Joins.{not_living}
 use Rattle.iox_model.specs.Maps.{has_number}
+use Rattle.iox_model.specs.Loans.{kind_of_loan}
 use Rattle.iox_model.specs.Settings.{is_client}
+use Rattle.iox_model.specs.declared.kind.Role.{Role}
+use Rattle.iox_model.specs.declared.kind.Role.TheVariants.{Client, Server}
 use Rattle.iox_laws.proofs.WeaveLaws.MapLemmas.{eqb-refl}
 use Rattle.iox_laws.proofs.WeaveLaws.WholeLemmas.{some-is}
 use Rattle.iox_laws.proofs.WeaveLedger.Lists.{IsAmong, NoRepeats, among-front, among-number}
@@ -34,15 +37,14 @@ use Rattle.iox_wire_keeps.specs.Runs.{Run}
 use Rattle.iox_wire_keeps.specs.Stands.{Player, seats_of}
 use Rattle.iox_wire_keeps.proofs.StepsKept.{shown_same}
 use Rattle.iox_wire_keeps.specs.CallsStand.{CallStands}
-use Rattle.iox_wire_keeps.specs.Lanes.{AllLanesAreCounted, lanes_in, lanes_used, lent_in}
-use Rattle.iox_wire_keeps.specs.Places.{PlaceFits, SuitsPort, is_kind_of}
-use Rattle.iox_wire_keeps.proofs.HandleKinds.{role_lends}
-use Rattle.iox_wire_keeps.proofs.LaneCounts.{of_clients}
+use Rattle.iox_wire_keeps.specs.Lanes.{AllLanesAreCounted, has_own_lane, lanes_in, lanes_used, lent_in}
+use Rattle.iox_wire_keeps.specs.Places.{PlaceFits, SuitsPort}
+use Rattle.iox_wire_keeps.proofs.LaneCounts.{of_clients, servers_have_no_lane}
 use Rattle.iox_wire_keeps.proofs.LanesTell.{in_table, lane_of_client, low, request_has, there_is}
 use Rattle.iox_wire_keeps.proofs.LoanSlots.{lent_slots, slots_by_message}
 use Rattle.iox_wire_keeps.specs.WireStands.{WireStands}
 use Rattle.iox_wire_needs.specs.Counts.{IsTidy}
-use Rattle.iox_wire_needs.specs.Uses.{RequestsMayBeGivenUp}
+use Rattle.iox_wire_needs.specs.Uses.{NewLoansMayBeGivenUp, RequestsMayBeGivenUp}
 use Rattle.iox_wire_needs.proofs.AtDesks.{at_desk, may_give_up}
 use Rattle.iox_wire_needs.proofs.Delivers.{range_length}
 use Rattle.iox_wire_needs.proofs.Places.{node}
@@ -126,7 +128,33 @@ module _ (p : Setting) (x : Seat) (uses : AllUsesAreCounted p x) (all : AllLanes
             (subst (λ (o : Option Desk). length (option_map_or (λ (k : Desk). k.free_lanes) o []) < (p.port e.port).pool) found fewer),
       )))
 
--- ---- what a call sends or made
+-- ---- an entry of a server, which has no lane
+
+module _ (p : Setting) (x : Seat) (uses : AllUsesAreCounted p x) (all : AllLanesAreCounted p x) (tidy : IsTidy x) (e : Entry) (home : IsPortOfSeat p x e.port)
+    (server : is_client (p.port e.port).role ≡ false) (there : has_number e.slot (slots_used x e.port) ≡ true) (in_pool : e.slot < (p.port e.port).pool) where
+  none_free : free_lanes x e.port ≡ []
+  none_free = servers_have_no_lane p x all e.port home server
+
+  fewer_free : (d : Desk) → find (λ k. k.port == e.port) x.desks ≡ Some d → length d.free_lanes < length d.uses
+  fewer_free d found =
+      let u = uses e.port home in
+      let lanes : length d.free_lanes ≡ 0
+      = ap (λ o. length (option_map_or (λ (k : Desk). k.free_lanes) o [])) (sym found) ∙ ap length none_free in
+      let pool : length d.uses ≡ (p.port e.port).pool
+      = ap (λ (k : Desk). length k.uses) (some-is d u.desk (sym found ∙ u.there)) ∙ u.counts.words in
+      low (length d.free_lanes) (length d.uses) (p.port e.port).pool e.slot lanes pool in_pool
+    where
+      low : (a b c i : ℕ) → a ≡ 0 → b ≡ c → i < c → a < b
+      low a b c i none is less = omega (arith, none, is, less)
+
+  pub server_gives_up : MayGiveUp e x.desks
+  server_gives_up =
+      may_give_up e x.desks (at_desk (IsHeldAt e) e.port x.desks tidy.desks (λ d found. (
+        used_here p x uses tidy.desks e.port e.slot home (used e.slot (slots_used x e.port) there) d found,
+        fewer_free d found,
+      )))
+
+-- ---- what a call sends or makes
 
 -- what is sent suits its port
 abbrev SuitsBy : Setting → Seat → CallMessage → Type 0
@@ -145,15 +173,14 @@ suits_by p x (SendEvicts d w place left count) fits going = fits.1.1
 suits_by p x (SendGetsBack d w place left count) fits going = fits.1.1
 suits_by p x local fits going = tt
 
--- what is lent is of a port that lends it
+-- what is lent is a loan of its port
 abbrev LendsBy : Setting → Seat → CallMessage → Type 0
-LendsBy p x (Lent o slot) = SuitsPort p x o.port o.kind
+LendsBy p x (Lent o slot) = IsPortOfSeat p x o.port × (o.kind ≡ kind_of_loan (p.port o.port).role false)
 LendsBy p x other = Unit {0}
 
 lends_by : (p : Setting) (x : Seat) (local : Local) → PlaceFits p x local → ending_at local ≡ None → LendsBy p x (message_at local)
 lends_by p x (Ends ending) fits going = absurd (none-some ending (sym going))
-lends_by p x (LendStores o slot next) fits going =
-    (fits.0, ap (is_kind_of (p.port o.port).role) fits.1 ∙ role_lends (p.port o.port).role)
+lends_by p x (LendStores o slot next) fits going = (fits.0, fits.1)
 lends_by p x local fits going = tt
 
 module _ (p : Setting) (words : List ℕ) (players : ℕ → Player) (r : Run) (n : ℕ) (wire : WireStands p words players r) (living : not_living r.last.state n ≡ None)
@@ -198,20 +225,35 @@ module _ (p : Setting) (words : List ℕ) (players : ℕ → Player) (r : Run) (
   of_entry : (e : Entry) → message_at (players n).seat.local ≡ Sent e false → is_request_loan e.kind ≡ true → MayGiveUp e (players n).seat.desks
   of_entry e is request = given e false is request ((call (sent_leaves e false is)).fits.handles e (sent p words players r n wire living e false is))
 
-  made : (o : NewLoan) (slot : ℕ) → message_at (players n).seat.local ≡ Lent o slot → ending_at (players n).seat.local ≡ None → is_request_loan o.kind ≡ true
-      → MayGiveUp (entry_in o slot) (players n).seat.desks
-  made o slot is going request =
-      let leaves : LeavesNothing (message_at (players n).seat.local) = subst LeavesNothing (sym is) tt in
-      let its : SuitsPort p x o.port o.kind = subst (LendsBy p x) is (lends_by p x x.local (call leaves).fits.place going) in
-      gives_up p x (mine leaves).uses (call leaves).lanes tidy (entry_in o slot) its.0 (lane_of_client (p.port o.port).role o.kind its.1 (request_has o.kind request))
-      (among-number slot (slots_used x o.port) (among-front slot (slots_in_call o.port x.local) _
-      (subst (IsAmong slot) (sym (slots_by_message o.port x.local ∙ ap (lent_slots o.port) is ∙ ap (λ b. if b then slot ∷ [] else []) (eqb-refl o.port))) (inl refl))))
-      (subst (λ m. 1 ≤ how_often o.lane (lanes_in o.port (lent_in m ++ x.table))) (sym is)
-      (there_is o.port (entry_in o slot) (entry_in o slot ∷ x.table) (inl refl) (request_has o.kind request) refl))
+  module _ (o : NewLoan) (slot : ℕ) (is : message_at (players n).seat.local ≡ Lent o slot) (going : ending_at (players n).seat.local ≡ None) where
+    made_leaves : LeavesNothing (message_at (players n).seat.local)
+    made_leaves = subst LeavesNothing (sym is) tt
+
+    its : IsPortOfSeat p (players n).seat o.port × (o.kind ≡ kind_of_loan (p.port o.port).role false)
+    its = subst (LendsBy p x) is (lends_by p x x.local (call made_leaves).fits.place going)
+
+    made_there : has_number slot (slots_used (players n).seat o.port) ≡ true
+    made_there =
+        among-number slot (slots_used x o.port) (among-front slot (slots_in_call o.port x.local) _
+        (subst (IsAmong slot) (sym (slots_by_message o.port x.local ∙ ap (lent_slots o.port) is ∙ ap (λ b. if b then slot ∷ [] else []) (eqb-refl o.port))) (inl refl)))
+
+    -- a client's loan has a lane
+    made_by : (role : Role) → (p.port o.port).role ≡ role → MayGiveUp (entry_in o slot) (players n).seat.desks
+    made_by Client is_client_port =
+        let has : has_own_lane o.kind ≡ true = ap has_own_lane (its.1 ∙ ap (λ role. kind_of_loan role false) is_client_port) in
+        gives_up p x (mine made_leaves).uses (call made_leaves).lanes tidy (entry_in o slot) its.0 (ap is_client is_client_port) made_there
+        (subst (λ m. 1 ≤ how_often o.lane (lanes_in o.port (lent_in m ++ x.table))) (sym is)
+        (there_is o.port (entry_in o slot) (entry_in o slot ∷ x.table) (inl refl) has refl))
+    made_by Server is_server_port =
+        server_gives_up p x (mine made_leaves).uses (call made_leaves).lanes tidy (entry_in o slot) its.0 (ap is_client is_server_port) made_there
+        (((mine made_leaves).slots.pools o.port its.0).within slot made_there)
+
+    pub made : MayGiveUp (entry_in o slot) (players n).seat.desks
+    made = made_by (p.port o.port).role refl
 
 pub requests_may_be_given_up : RequestsMayBeGivenUp
-requests_may_be_given_up p words players r n wire living tidy = (
-  going_on p words players r n wire living tidy,
-  of_entry p words players r n wire living tidy,
-  made p words players r n wire living tidy,
-)
+requests_may_be_given_up p words players r n wire living tidy =
+    (going_on p words players r n wire living tidy, of_entry p words players r n wire living tidy)
+
+pub new_loans_may_be_given_up : NewLoansMayBeGivenUp
+new_loans_may_be_given_up p words players r n wire living tidy = made p words players r n wire living tidy

@@ -1,7 +1,6 @@
 -- A handle may be given up: its slot is in use, and fewer lanes are free than its port has slots.
-use Rattle.std.specs.Prelude.{find, length, ◌++◌}
-use Rattle.std.specs.Option.{option_map_or}
-use Rattle.std.proofs.Common.{◌≡◌, ℕ, ◌<◌, ◌≤◌, Bool, true, false, ◌&&◌, ◌==◌, List, [], Some, None, refl, ap, sym, subst, ◌∙◌, arith, inl, inr, true≢false, eq-eqb}
+use Rattle.std.specs.Prelude.{◌++◌}
+use Rattle.std.proofs.Common.{◌≡◌, ℕ, ◌≤◌, Bool, true, false, ◌&&◌, ◌==◌, List, None, refl, ap, sym, subst, inl, inr, true≢false, eq-eqb}
 use Rattle.std.proofs.lemmas.Bool.{cases_Bool}
 use Rattle.iox_model.specs.declared.kind.Kind.{Kind}
 use Rattle.iox_model.specs.declared.kind.Kind.TheVariants as kinds
@@ -11,13 +10,10 @@ use Rattle.iox_model.specs.Handles.{is_own, is_received}
 use Rattle.iox_model.specs.Joins.{not_living}
 use Rattle.iox_model.specs.Maps.{has_number}
 use Rattle.iox_model.specs.Settings.{is_client}
-use Rattle.iox_laws.proofs.WeaveLaws.WholeLemmas.{some-is}
 use Rattle.iox_laws.proofs.WeaveLedger.Lists.{among-back, among-filter, among-front, among-map, among-number}
-use Rattle.iox_wire_keeps.specs.Desk.{Desk}
-use Rattle.iox_wire_keeps.specs.Desks.{IsHeldAt, MayGiveUp}
+use Rattle.iox_wire_keeps.specs.Desks.{MayGiveUp}
 use Rattle.iox_wire_keeps.specs.Entry.{Entry}
 use Rattle.iox_wire_keeps.specs.Following.{LeavesNothing, message_at}
-use Rattle.iox_wire_keeps.specs.Known.{free_lanes}
 use Rattle.iox_wire_keeps.specs.Lanes.{has_own_lane, lanes_in, lent_in}
 use Rattle.iox_wire_keeps.specs.Local.TheVariants.{Idle}
 use Rattle.iox_wire_keeps.specs.Nodes.{NodeStands}
@@ -31,16 +27,12 @@ use Rattle.iox_wire_keeps.specs.Uses.{how_often}
 use Rattle.iox_wire_keeps.specs.Runs.{Run}
 use Rattle.iox_wire_keeps.specs.Stands.{Player}
 use Rattle.iox_wire_keeps.specs.WireStands.{WireStands}
-use Rattle.iox_wire_keeps.proofs.Counting.{used}
-use Rattle.iox_wire_keeps.proofs.LaneCounts.{servers_have_no_lane}
 use Rattle.iox_wire_keeps.proofs.LanesTell.{in_table, there_is}
 use Rattle.iox_wire_keeps.proofs.StepsKept.{shown_same}
 use Rattle.iox_wire_needs.specs.Counts.{IsTidy}
 use Rattle.iox_wire_needs.specs.Handles.{HandlesMayBeGivenUp}
-use Rattle.iox_wire_needs.proofs.AtDesks.{at_desk, may_give_up}
-use Rattle.iox_wire_needs.proofs.GivenUp.{gives_up}
+use Rattle.iox_wire_needs.proofs.GivenUp.{gives_up, server_gives_up}
 use Rattle.iox_wire_needs.proofs.Places.{node}
-use Rattle.iox_wire_needs.proofs.Uses.{used_here}
 
 -- what a client has and did not receive has a lane, and what a port has and did not receive is its own
 own_lane : (kind : Kind) → is_kind_of Client kind ≡ true → is_received kind ≡ false → has_own_lane kind ≡ true
@@ -103,29 +95,7 @@ module _ (p : Setting) (words : List ℕ) (players : ℕ → Player) (r : Run) (
 
   -- of a server, which has no lane
   at_server : is_client (p.port e.port).role ≡ false → MayGiveUp e (players n).seat.desks
-  at_server server =
-      may_give_up e x.desks (at_desk (IsHeldAt e) e.port x.desks tidy.desks (λ d found. (
-        used_here p x mine.uses tidy.desks e.port e.slot suits.0 (used e.slot (slots_used x e.port) there) d found,
-        fewer d found,
-      )))
-    where
-      none_free : free_lanes (players n).seat e.port ≡ []
-      none_free = servers_have_no_lane p x call.lanes e.port suits.0 server
-
-      in_pool : e.slot < (p.port e.port).pool
-      in_pool = (mine.slots.pools e.port suits.0).within e.slot there
-
-      fewer : (d : Desk) → find (λ k. k.port == e.port) (players n).seat.desks ≡ Some d → length d.free_lanes < length d.uses
-      fewer d found =
-          let u = mine.uses e.port suits.0 in
-          let lanes : length d.free_lanes ≡ 0
-          = ap (λ o. length (option_map_or (λ (k : Desk). k.free_lanes) o [])) (sym found) ∙ ap length none_free in
-          let pool : length d.uses ≡ (p.port e.port).pool
-          = ap (λ (k : Desk). length k.uses) (some-is d u.desk (sym found ∙ u.there)) ∙ u.counts.words in
-          low (length d.free_lanes) (length d.uses) (p.port e.port).pool e.slot lanes pool in_pool
-        where
-          low : (a b c i : ℕ) → a ≡ 0 → b ≡ c → i < c → a < b
-          low a b c i none is less = omega (arith, none, is, less)
+  at_server server = server_gives_up p x mine.uses call.lanes tidy e suits.0 server there ((mine.slots.pools e.port suits.0).within e.slot there)
 
 pub handles_may_be_given_up : HandlesMayBeGivenUp
 handles_may_be_given_up p words players r n wire living idle tidy e has own = elim (cases_Bool (is_client (p.port e.port).role)) [

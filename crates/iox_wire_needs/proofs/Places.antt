@@ -27,12 +27,12 @@ module _ (p : Setting) (words : List ℕ) (players : ℕ → Player) (r : Run) (
 
   by_place : (local : Local) → (players n).seat.local ≡ local → InPools p local
   by_place (LendStores o slot next) is =
-      (subst (Owns p (players n).seat.node r.last.state.fixed r.last.state.request_state) is (node (subst (λ l. LeavesNothing (message_at l)) (sym is) tt)).owns.owns).1
+      (tt, (subst (Owns p (players n).seat.node r.last.state.fixed r.last.state.request_state) is (node (subst (λ l. LeavesNothing (message_at l)) (sym is) tt)).owns.owns).1)
   by_place (ReceiveLoads v w slot header left waiting) is =
-      (subst (λ l. CallIsStored p wire.stands.held wire.stands.contents (message_at l)) is (stored (subst (λ l. LeavesNothing (message_at l)) (sym is) tt)).call).fits.in_pool
+      ((subst (λ l. CallIsStored p wire.stands.held wire.stands.contents (message_at l)) is (stored (subst (λ l. LeavesNothing (message_at l)) (sym is) tt)).call).fits.in_pool, tt)
   by_place (ReceiveAsks v w slot header left waiting) is =
-      (subst (Owns p (players n).seat.node r.last.state.fixed r.last.state.request_state) is (node (subst (λ l. LeavesNothing (message_at l)) (sym is) tt)).owns.owns).1.3
-  by_place local is = tt
+      ((subst (Owns p (players n).seat.node r.last.state.fixed r.last.state.request_state) is (node (subst (λ l. LeavesNothing (message_at l)) (sym is) tt)).owns.owns).1.3, tt)
+  by_place local is = (tt, tt)
 
 pub places_are_in_pools : PlacesAreInPools
 places_are_in_pools p words players r n wire living = by_place p words players r n wire living (players n).seat.local refl

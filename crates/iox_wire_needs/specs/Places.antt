@@ -1,21 +1,17 @@
 -- The slots and lanes that a call's place names.
-use Rattle.std.specs.Prelude.{◌≡◌, ◌<◌, ℕ, None, List}
+use Rattle.std.specs.Prelude.{◌≡◌, ℕ, None, List}
 use Rattle.iox_model.specs.Joins.{not_living}
 use Rattle.iox_wire_keeps.specs.Local.{Local}
-use Rattle.iox_wire_keeps.specs.Local.TheVariants.{LendStores, ReceiveAsks, ReceiveLoads}
-use Rattle.iox_wire_keeps.specs.NewLoans.{lane_in}
+use Rattle.iox_wire_loans.specs.Aims.{TellsOfSlot}
+use Rattle.iox_wire_receives.specs.Aims.{TellsOfSource}
 use Rattle.iox_wire_keeps.specs.Tables.{Setting}
 use Rattle.iox_wire_keeps.specs.Runs.{Run}
 use Rattle.iox_wire_keeps.specs.Stands.{Player}
 use Rattle.iox_wire_keeps.specs.WireStands.{WireStands}
 
--- a slot that the call took is one of its pool, and the lane that a header tells is one of its client
+-- a slot that the call took is one of its pool, and the lane that a header tells one of its client
 abbrev pub InPools : Setting → Local → Type 0
-InPools p (ReceiveLoads v w slot header left waiting) = slot < (p.port w.sender).pool
-InPools p (ReceiveAsks v w slot header left waiting) =
-    lane_in v w header < p.layout.sizes.lanes w.sender
-InPools p (LendStores o slot next) = slot < (p.port o.port).pool
-InPools p local = Unit {0}
+InPools p local = TellsOfSource p local × TellsOfSlot p local
 
 -- So it is of each living node.
 abbrev pub PlacesAreInPools : Type 0

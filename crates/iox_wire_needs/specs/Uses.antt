@@ -77,8 +77,8 @@ LoansGetBackInUse =
     (p : Setting) (x : Seat) (seen : ℕ) → ((w : Way) → p.layout.kind (ReturningQueue w) ≡ Index)
     → FindsInUse p x x.local seen → GetsBackInUse x x.local
 
--- A request that a living node's call made, or sends, may be given up: its slot is in use, and fewer
--- lanes are free than its client has.
+-- A request that a living node's call sends may be given up: its slot is in use, and fewer lanes are
+-- free than its client has.
 abbrev pub RequestsMayBeGivenUp : Type 0
 RequestsMayBeGivenUp =
     (p : Setting) (words : List ℕ) (players : ℕ → Player) (r : Run) (n : ℕ)
@@ -88,8 +88,15 @@ RequestsMayBeGivenUp =
     → ending_at x.local ≡ None → is_request_loan e.kind ≡ true → MayGiveUp e x.desks)
     × ((e : Entry) → message_at x.local ≡ Sent e false → is_request_loan e.kind ≡ true
     → MayGiveUp e x.desks)
-    × ((o : NewLoan) (slot : ℕ) → message_at x.local ≡ Lent o slot → ending_at x.local ≡ None
-    → is_request_loan o.kind ≡ true → MayGiveUp (entry_in o slot) x.desks)
+
+-- A loan that a living node's call makes may be given up, of a request or of a response.
+abbrev pub NewLoansMayBeGivenUp : Type 0
+NewLoansMayBeGivenUp =
+    (p : Setting) (words : List ℕ) (players : ℕ → Player) (r : Run) (n : ℕ)
+    → WireStands p words players r → not_living r.last.state n ≡ None
+    → let x = (players n).seat in
+    IsTidy x → (o : NewLoan) (slot : ℕ) → message_at x.local ≡ Lent o slot
+    → ending_at x.local ≡ None → MayGiveUp (entry_in o slot) x.desks
 
 -- The slot of what a living node's call sends is in use, wherever the call is.
 abbrev pub WhatIsSentIsInUse : Type 0

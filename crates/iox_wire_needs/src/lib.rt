@@ -2,12 +2,14 @@
 //! The functions have nothing to do: each is there for its contract.
 #![tactic(auto)]
 
+ghost use Rattle.iox_wire_needs.specs.Copying.{BegunCopiesGoOn, SteppedCopiesGoOn};
 ghost use Rattle.iox_wire_needs.specs.Counts.{NodesMayCountMore};
 ghost use Rattle.iox_wire_needs.specs.Handles.{HandlesMayBeGivenUp};
 ghost use Rattle.iox_wire_needs.specs.Places.{PlacesAreInPools};
 ghost use Rattle.iox_wire_needs.specs.Tidying.{BegunNodesAreTidy, SteppedNodesAreTidy};
 ghost use Rattle.iox_wire_needs.specs.Uses.{AccessesFindInUse, RequestsMayBeGivenUp};
-ghost use Rattle.iox_wire_needs.specs.Uses.{LoansGetBackInUse, WhatIsSentIsInUse};
+ghost use Rattle.iox_wire_needs.specs.Uses.{LoansGetBackInUse, NewLoansMayBeGivenUp};
+ghost use Rattle.iox_wire_needs.specs.Uses.{WhatIsSentIsInUse};
 
 /// A living node may have one handle more, count one loan more, and borrow one message more.
 pub fn nodes_may_count_more()
@@ -26,9 +28,16 @@ pub fn slots_are_in_use()
     ensures sent { WhatIsSentIsInUse }
 {}
 
-/// A request that a call made or sends may be given up.
-pub fn requests_may_be_given_up()
-    ensures { RequestsMayBeGivenUp }
+/// A request that a call sends may be given up, and so may a loan that it makes.
+pub fn loans_may_be_given_up()
+    ensures sent { RequestsMayBeGivenUp }
+    ensures made { NewLoansMayBeGivenUp }
+{}
+
+/// A copy that sends its message is not over, as a call begins and over each step.
+pub fn copies_go_on()
+    ensures begins { BegunCopiesGoOn }
+    ensures steps { SteppedCopiesGoOn }
 {}
 
 /// A handle that was not received may be given up.

@@ -1,9 +1,9 @@
 -- What begins beside the seat of a node is a call of the node.
 use Rattle.std.specs.Prelude.{IfSome, Option}
 use Rattle.iox_wire_begins.specs.Local.{Local}
+use Rattle.iox_wire_begins.specs.Local.TheVariants.{Idle}
 use Rattle.iox_wire_nodes.specs.declared.call_at.CallAt.{CallAt}
-use Rattle.iox_wire_nodes.proofs.RestLemmas.{idle_is}
-use Rattle.std.proofs.Common.{◌≡◌, ℕ, ◌+◌, false, List, Some, None, refl, ap, ap₂, sym, subst, ◌∙◌}
+use Rattle.std.proofs.Common.{◌≡◌, ℕ, ◌+◌, false, List, Some, None, refl, ap, ap₂, sym, subst, ◌∙◌, true≢false}
 use Rattle.iox_wire_begins.specs.WirePlan.{WirePlan}
 use Rattle.iox_wire_begins.specs.WirePlans.{HandleStands}
 use Rattle.iox_wire_begins.specs.WireTerms.{WireTerms}
@@ -14,23 +14,19 @@ use Rattle.iox_wire_begins.specs.Seat.{Seat}
 use Rattle.iox_wire_begins.specs.Begins.{begin, is_busy, refusal_at}
 use Rattle.iox_wire_begins.specs.Courses.{placed}
 use Rattle.iox_wire_begins.specs.Tables.{Setting, entry_at}
+use Rattle.iox_wire_begins.specs.Aims as seats
 use Rattle.iox_wire_begins.specs.Seats.{Placed}
 use Rattle.iox_wire_begins.specs.ReceivesAims as receives
 use Rattle.iox_wire_begins.specs.Receipts.{Receipt}
 use Rattle.iox_wire_begins.specs.LoansAims as loans
 use Rattle.iox_wire_begins.specs.LoansAims.{TellsOfSlot}
 use Rattle.iox_wire_begins.specs.Loans.{Loaned}
-use Rattle.iox_wire_begins.specs.RequestSendsAims as requests
-use Rattle.iox_wire_begins.specs.RequestDispatches.{RequestDispatch}
-use Rattle.iox_wire_begins.specs.SendsAims as responses
-use Rattle.iox_wire_begins.specs.Dispatches.{Dispatch}
 use Rattle.iox_wire_begins.specs.CopyCalls as request_copies
 use Rattle.iox_wire_begins.specs.CopyCalls.{CopyCall}
 use Rattle.iox_wire_begins.specs.ResponseCopies as response_copies
 use Rattle.iox_wire_begins.specs.ResponseCopies.{ResponseCopy}
 use Rattle.iox_wire_nodes.specs.declared.call_at.CallAt.TheVariants as at
 use Rattle.iox_wire_nodes.specs.Begins.{IsBegun, IsReady, IsUnchanged, IsUnderWay}
-use Rattle.iox_wire_nodes.specs.Aims.{IsAimed}
 use Rattle.iox_wire_nodes.specs.Nodes.{Node, seat_at, seat_in}
 
 -- a call that is begun is under way
@@ -39,7 +35,8 @@ is_under_way p old call new by = record { allowed = by.allowed; begun = by.begun
 
 -- what is as it was is unchanged
 pub is_unchanged : (old new : Node) → new ≡ old → IsUnchanged old new
-is_unchanged old new same = subst (λ (n : Node). IsUnchanged old n) (sym same) (record { call = refl; seat = refl; place = refl })
+is_unchanged old new same =
+    subst (λ (n : Node). IsUnchanged old n) (sym same) (record { seat = refl; place = refl; going = λ busy. refl; aimed = λ p aimed. aimed })
 
 -- the node's own seat, as the code has it
 pub own_seat : {n old : Node} → n ≡ old → seat_in old ≡ old.seat.seat → seat_in old ≡ n.seat.seat
@@ -101,26 +98,23 @@ pub stands_at : (plan : WirePlan) (old : Node) (n : ℕ) (e : Entry) → entry_a
     → IfSome (entry_at n old.seat.seat.table) (HandleStands plan old.seat.seat.desks) → HandleStands plan old.seat.seat.desks e
 stands_at plan old n e found stands = subst (λ (o : Option Entry). IfSome o (HandleStands plan old.seat.seat.desks)) found stands
 
--- what is left of a copy that did not begin
-place_left : (a : CallAt) (m : Node) (s : Placed) (y : CopyCall) → is_busy (seat_at a m).local ≡ false → s ≡ m.seat → is_busy y.local ≡ false
-    → seat_at a (record m { seat = s; copies_request = y }) ≡ seat_at a m
-place_left at.Seats m s y rests seat y_rests = ap (λ (z : Placed). z.seat) seat
-place_left at.Receives m s y rests seat y_rests = ap (λ (z : Placed). placed z.seat m.receives.local) seat
-place_left at.Lends m s y rests seat y_rests = ap (λ (z : Placed). placed z.seat m.lends.local) seat
-place_left at.SendsRequest m s y rests seat y_rests = ap (λ (z : Placed). placed z.seat m.requests.local) seat
-place_left at.SendsResponse m s y rests seat y_rests = ap (λ (z : Placed). placed z.seat m.responds.local) seat
-place_left at.CopiesRequest m s y rests seat y_rests =
-    ap₂ (λ (z : Placed) (l : Local). placed z.seat l) seat (idle_is y.local y_rests ∙ sym (idle_is m.copies_request.local rests))
-place_left at.CopiesResponse m s y rests seat y_rests = ap (λ (z : Placed). placed z.seat m.copies_response.local) seat
+-- a node at rest accesses no word
+aimed_at_rest : (p : Setting) (x : Placed) (local : Local) → is_busy local ≡ false → seats.AreAimed p local x
+aimed_at_rest p x Idle rests = tt
+aimed_at_rest p x local rests = absurd (true≢false rests)
 
-pub copy_left : {m old : Node} (s : Placed) (y : CopyCall) → m ≡ old → is_busy (seat_in old).local ≡ false → s ≡ m.seat → is_busy y.local ≡ false
-    → IsUnchanged old (record m { seat = s; copies_request = y })
-copy_left {m} s y same rests seat y_rests =
-    subst (λ (o : Node). IsUnchanged o (record m { seat = s; copies_request = y })) same (record {
-      call = refl;
-      seat = seat;
-      place = place_left m.at m s y (ap (λ (o : Node). is_busy (seat_in o).local) same ∙ rests) seat y_rests;
-    })
+-- what is left of a copy that did not begin
+pub copy_left : {m old : Node} (s : Placed) (y : CopyCall) → m ≡ old → seat_in old ≡ old.seat.seat → is_busy (seat_in old).local ≡ false → s ≡ m.seat
+    → IsUnchanged old (record m { at = at.Seats; seat = s; copies_request = y })
+copy_left {m} {old} s y same own rests seat =
+    let alike : s ≡ old.seat = seat ∙ ap (λ (o : Node). o.seat) same in (
+    record {
+      seat = alike;
+      place = ap (λ (z : Placed). z.seat) alike ∙ sym own;
+      going = λ busy. absurd (true≢false (sym busy ∙ rests));
+      aimed = λ p aimed. aimed_at_rest p s s.seat.local (ap (λ (z : Placed). is_busy z.seat.local) alike ∙ sym (ap (λ (z : Seat). is_busy z.local) own) ∙ rests);
+    }
+    )
 
 -- how many handles it made
 pub handles_in : (a : CallAt) (n : Node) → (seat_at a n).handles_made ≡ n.seat.seat.handles_made

@@ -4,6 +4,8 @@ pub mod BesideLemmas
 pub mod ReadyLemmas
 pub mod StayLemmas
 pub mod NameLemmas
+pub mod PortsKept
+pub mod CallLemmas
 -- what the crates above cite of those below
 pub use Rattle.iox_wire_begins.proofs.Aside
 pub use Rattle.iox_wire_begins.proofs.Layouts

@@ -1,7 +1,6 @@
 -- How a node begins a call.
-use Rattle.std.specs.Prelude.{◌≡◌, ◌+◌, ◌<◌, ◌^◌, ◌≤◌, ℕ, if◌then◌else◌, IfSome, None, Option}
-use Rattle.iox_model.specs.declared.call.Call.TheVariants as calls
-use Rattle.iox_model.specs.declared.call.WireCall.TheVariants.{Forget, Port}
+use Rattle.std.specs.Prelude.{◌≡◌, ◌+◌, ◌<◌, ◌^◌, ◌≤◌, ℕ, if◌then◌else◌, IfSome, None, Option, true}
+use Rattle.iox_model.specs.declared.call.WireCall.TheVariants.{Port}
 use Rattle.iox_model.specs.declared.kind.Kind.{Kind}
 use Rattle.iox_model.specs.Commands.{Refusal, WireCall}
 use Rattle.iox_model.specs.Handles.{is_request_loan}
@@ -14,7 +13,7 @@ use Rattle.iox_wire_begins.specs.Known.{free_lanes}
 use Rattle.iox_wire_begins.specs.Lendings.{first_lane, next_handle}
 use Rattle.iox_wire_begins.specs.Aims.{KeepsRoom}
 use Rattle.iox_wire_begins.specs.Lends.{MayLend}
-use Rattle.iox_wire_begins.specs.Begins.{begin, refusal_at}
+use Rattle.iox_wire_begins.specs.Begins.{begin, is_busy, refusal_at}
 use Rattle.iox_wire_begins.specs.Tables.{Setting, entry_at}
 use Rattle.iox_wire_begins.specs.Visits.{pool_of}
 use Rattle.iox_wire_nodes.specs.declared.call_at.CallAt.{CallAt}
@@ -22,25 +21,30 @@ use Rattle.iox_wire_nodes.specs.declared.call_at.CallAt.TheVariants as at
 use Rattle.iox_wire_nodes.specs.declared.node_error.NodeError.{NodeError}
 use Rattle.iox_wire_nodes.specs.declared.node_error.NodeError.TheVariants as errors
 use Rattle.iox_wire_nodes.specs.declared.handle_call.HandleCall.{HandleCall}
-use Rattle.iox_wire_nodes.specs.declared.handle_call.HandleCall.TheVariants as handle_calls
+use Rattle.iox_wire_nodes.specs.declared.node_call.NodeCall.{NodeCall}
+use Rattle.iox_wire_nodes.specs.declared.node_call.NodeCall.TheVariants.{SendCopy}
+use Rattle.iox_wire_nodes.specs.Calls.{of_handle}
 use Rattle.iox_wire_nodes.specs.Aims.{IsAimed, MayAdd, TellsOfPools}
 use Rattle.iox_wire_nodes.specs.Nodes.{Node, seat_in}
 
 -- the call of that number
 abbrev pub called : HandleCall → ℕ → WireCall
-called handle_calls.Read n = Port (calls.Read n)
-called handle_calls.Release n = Port (calls.Release n)
-called handle_calls.IsConnected n = Port (calls.IsConnected n)
-called handle_calls.SetHint n = Port (calls.SetHint n)
-called handle_calls.HasHint n = Port (calls.HasHint n)
-called handle_calls.HasResponse n = Port (calls.HasResponse n)
+called call n = Port (of_handle call n)
+
+-- the call may add a handle at its end
+abbrev pub AddsHandle : CallAt → Type 0
+AddsHandle at.Seats = ⊥
+AddsHandle at.SendsRequest = ⊥
+AddsHandle at.SendsResponse = ⊥
+AddsHandle call = Unit {0}
 
 -- With a begin the node makes no access, and gets no handle. If it may have one handle more, with
--- its next number, it may add what the call adds at its end.
+-- its next number, where the call adds one, it may add what the call adds at its end.
 pub record IsReady (p : Setting) (old new : Node) : Type 0 where
   pub accesses : new.seat.seat.accesses ≡ old.seat.seat.accesses
   pub room : KeepsRoom old.seat new.seat
-  pub may : ((port : ℕ) → MayLend old.seat (next_handle p old.seat.seat) port) → MayAdd new.at new
+  pub may : (AddsHandle new.at → (port : ℕ)
+      → MayLend old.seat (next_handle p old.seat.seat) port) → MayAdd new.at new
 
 -- The call is not refused: the node begins it, and knows the places of the words that it accesses.
 pub record IsBegun (p : Setting) (old : Node) (call : WireCall) (new : Node) : Type 0 where
@@ -63,12 +67,19 @@ pub record IsAtOnce (p : Setting) (old : Node) (there : Seat) (new : Node) : Typ
   pub aimed : IsAimed p new
   pub ready : IsReady p old new
 
--- Nothing of the node changes that a caller may see: which call began last, what it keeps for itself,
--- and where it is in its call.
+-- Nothing of the node changes that a caller may see: what it keeps for itself, and where it is in its
+-- call. It still knows the places of the words that it accesses; with a call under way it is the same.
 pub record IsUnchanged (old new : Node) : Type 0 where
-  pub call : new.at ≡ old.at
   pub seat : new.seat ≡ old.seat
   pub place : seat_in new ≡ seat_in old
+  pub going : is_busy (seat_in old).local ≡ true → new ≡ old
+  pub aimed : (p : Setting) → IsAimed p old → IsAimed p new
+
+-- What a begin that is refused leaves: the node as it was, or, of a copy, one of which a caller sees
+-- nothing else.
+abbrev pub IsLeftBy : NodeCall → Node → Node → Type 0
+IsLeftBy (SendCopy n y) old new = IsUnchanged old new
+IsLeftBy call old new = new ≡ old
 
 -- the call by which a loan of that kind is sent
 abbrev pub send_at : Kind → CallAt
@@ -85,12 +96,10 @@ node_refusal errors.Unsupported = None
 abbrev pub HasNoLane : WirePlan → Seat → ℕ → Type 0
 HasNoLane plan x port = pool_of plan port ≤ first_lane (pool_of plan port) (free_lanes x port)
 
--- what no node begins yet: that a dead node is forgotten, and the copy of a request where all lanes
--- of its client are in use
-abbrev pub IsLeftOut : WirePlan → Seat → WireCall → Type 0
-IsLeftOut plan x (Port (calls.SendCopy n y)) = HasNoLane plan x n
-IsLeftOut plan x (Port call) = ⊥
-IsLeftOut plan x (Forget dead) = Unit {0}
+-- what no node begins yet: the copy of a request where all lanes of its client are in use
+abbrev pub IsLeftOut : WirePlan → Seat → NodeCall → Type 0
+IsLeftOut plan x (SendCopy n y) = HasNoLane plan x n
+IsLeftOut plan x call = ⊥
 
 -- ---- what a node may rely on as it begins a call
 

@@ -1,11 +1,8 @@
 -- The calls of a node, as its code is given them.
 use Rattle.std.specs.Prelude.{ℕ, ◌/◌, Bool, true, false, List, length, Option}
-use Rattle.iox_model.specs.declared.call.Call as the_call
 use Rattle.iox_model.specs.declared.call.Call.TheVariants as calls
-use Rattle.iox_model.specs.declared.call.WireCall as the_wire_call
-use Rattle.iox_model.specs.declared.call.WireCall.TheVariants as wire_calls
 use Rattle.iox_model.specs.declared.kind.Role.{Role}
-use Rattle.iox_model.specs.Commands.{Call, Payload, WireCall}
+use Rattle.iox_model.specs.Commands.{Call, Payload}
 use Rattle.iox_model.specs.Settings.{shape_of}
 use Rattle.iox_wire_begins.specs.WirePlan.{WirePlan}
 use Rattle.iox_wire_begins.specs.Plans.{details_of}
@@ -15,6 +12,10 @@ use Rattle.iox_wire_begins.specs.Asked.TheVariants as asked
 use Rattle.iox_wire_begins.specs.WireTerms.{WireTerms}
 use Rattle.iox_wire_begins.specs.Terms.{messages_of}
 use Rattle.iox_wire_begins.specs.Tables.{Setting}
+use Rattle.iox_wire_nodes.specs.declared.handle_call.HandleCall.{HandleCall}
+use Rattle.iox_wire_nodes.specs.declared.handle_call.HandleCall.TheVariants as handle_calls
+use Rattle.iox_wire_nodes.specs.declared.node_call.NodeCall.{NodeCall}
+use Rattle.iox_wire_nodes.specs.declared.node_call.NodeCall.TheVariants as node_calls
 use Rattle.iox_wire_nodes.specs.declared.node_call.NodePayload.{NodePayload}
 
 -- ---- payloads
@@ -29,7 +30,7 @@ payload_with p role words = record {
 
 -- so it is told
 abbrev pub payload_of : Setting → NodePayload → Payload
-payload_of p y = payload_with p y.role y.words.items
+payload_of p y = payload_with p y.role y.words.now
 
 -- how many elements so many words are, as the plan and the terms of a wire tell
 abbrev pub planned_elements : WirePlan → WireTerms → Role → List ℕ → Option ℕ
@@ -38,42 +39,60 @@ planned_elements plan t role words =
 
 -- ---- calls
 
--- the machine's name of a call of a port or a handle
-abbrev pub call_in : Setting → the_call.Call NodePayload → Call
-call_in p (calls.Loan n k) = calls.Loan n k
-call_in p (calls.LoanUninit n k) = calls.LoanUninit n k
-call_in p (calls.Write n y) = calls.Write n (payload_of p y)
-call_in p (calls.Send n) = calls.Send n
-call_in p (calls.SendCopy n y) = calls.SendCopy n (payload_of p y)
-call_in p (calls.Receive n) = calls.Receive n
-call_in p (calls.Read n) = calls.Read n
-call_in p (calls.Release n) = calls.Release n
-call_in p (calls.IsConnected n) = calls.IsConnected n
-call_in p (calls.SetHint n) = calls.SetHint n
-call_in p (calls.HasHint n) = calls.HasHint n
-call_in p (calls.HasRequests n) = calls.HasRequests n
-call_in p (calls.HasResponse n) = calls.HasResponse n
+-- the machine's name of a call of a handle
+abbrev pub of_handle : HandleCall → ℕ → Call
+of_handle handle_calls.Read n = calls.Read n
+of_handle handle_calls.Release n = calls.Release n
+of_handle handle_calls.IsConnected n = calls.IsConnected n
+of_handle handle_calls.SetHint n = calls.SetHint n
+of_handle handle_calls.HasHint n = calls.HasHint n
+of_handle handle_calls.HasResponse n = calls.HasResponse n
 
--- the machine's name of a call of a node
-abbrev pub machine_call : Setting → the_wire_call.WireCall NodePayload → WireCall
-machine_call p (wire_calls.Port call) = wire_calls.Port (call_in p call)
-machine_call p (wire_calls.Forget dead) = wire_calls.Forget dead
+-- and of a call of a port or a handle
+abbrev pub call_in : Setting → NodeCall → Call
+call_in p (node_calls.Loan n k) = calls.Loan n k
+call_in p (node_calls.Write n y) = calls.Write n (payload_of p y)
+call_in p (node_calls.Send n) = calls.Send n
+call_in p (node_calls.SendCopy n y) = calls.SendCopy n (payload_of p y)
+call_in p (node_calls.Receive n) = calls.Receive n
+call_in p (node_calls.HasRequests n) = calls.HasRequests n
+call_in p (node_calls.Handle n call) = of_handle call n
 
 -- the number of the port or the handle that it names
-abbrev pub number_in : the_call.Call NodePayload → ℕ
-number_in (calls.Loan n k) = n
-number_in (calls.LoanUninit n k) = n
-number_in (calls.Write n y) = n
-number_in (calls.Send n) = n
-number_in (calls.SendCopy n y) = n
-number_in (calls.Receive n) = n
-number_in (calls.Read n) = n
-number_in (calls.Release n) = n
-number_in (calls.IsConnected n) = n
-number_in (calls.SetHint n) = n
-number_in (calls.HasHint n) = n
-number_in (calls.HasRequests n) = n
-number_in (calls.HasResponse n) = n
+abbrev pub number_in : NodeCall → ℕ
+number_in (node_calls.Loan n k) = n
+number_in (node_calls.Write n y) = n
+number_in (node_calls.Send n) = n
+number_in (node_calls.SendCopy n y) = n
+number_in (node_calls.Receive n) = n
+number_in (node_calls.HasRequests n) = n
+number_in (node_calls.Handle n call) = n
+
+-- what a handle is asked
+abbrev pub asked_by : HandleCall → Asked
+asked_by handle_calls.Read = asked.Read
+asked_by handle_calls.Release = asked.Release
+asked_by handle_calls.IsConnected = asked.IsConnected
+asked_by handle_calls.SetHint = asked.SetHint
+asked_by handle_calls.HasHint = asked.HasHint
+asked_by handle_calls.HasResponse = asked.HasResponse
+
+-- and what is asked with a call
+abbrev pub asked_in : NodeCall → Asked
+asked_in (node_calls.Loan n k) = asked.Loan k
+asked_in (node_calls.Write n y) = asked.Write y.role
+asked_in (node_calls.Send n) = asked.Send
+asked_in (node_calls.SendCopy n y) = asked.SendCopy y.role
+asked_in (node_calls.Receive n) = asked.Receive
+asked_in (node_calls.HasRequests n) = asked.HasRequests
+asked_in (node_calls.Handle n call) = asked_by call
+
+-- whether a node that makes the call may have a handle more at its end
+abbrev pub may_add_handle : NodeCall → Bool
+may_add_handle (node_calls.Loan n k) = true
+may_add_handle (node_calls.SendCopy n y) = true
+may_add_handle (node_calls.Receive n) = true
+may_add_handle call = false
 
 -- ---- which kinds have a call
 

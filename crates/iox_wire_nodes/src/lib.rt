@@ -12,9 +12,10 @@ mod node_error;
 pub use call_at::{CallAt, NodeReply};
 pub use handle_call::HandleCall;
 pub use iox_wire_begins::{
-    Asked, BeginError, Borrowed, Counts, Desks, Entries, Entry, Lists, MessagePlaces, PlanLimits,
-    PlanPort, Popper, Pusher, ReceiveReply, Receiving, SeatReply, Stop, StoredDesk, StoredSeat,
-    WayIndex, WirePlan, WireTerms, WordMap, WordMapNewError, begin_request_receive, is_plan,
+    Asked, BeginError, Borrowed, CopyReply, Counts, Desks, Entries, Entry, LendReply, Lists,
+    MessagePlaces, PlanLimits, PlanPort, Popper, Pusher, ReceiveReply, Receiving, RequestReply,
+    RespondReply, ResponseCopyReply, SeatReply, Stop, StoredDesk, StoredSeat, WayIndex, WirePlan,
+    WireTerms, WordMap, WordMapNewError, begin_request_receive, is_plan,
 };
 pub use laws::{
     begins_keep_ports, nodes_keep_their_room, nodes_with_fewer_handles_have_room, steps_keep_ports,

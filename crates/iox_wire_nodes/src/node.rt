@@ -2,6 +2,7 @@
 ghost use Rattle.std.specs.Prelude.{◌≡◌};
 
 mod begin;
+mod call;
 mod copy;
 mod copy_response;
 mod elements;

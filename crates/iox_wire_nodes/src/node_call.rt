@@ -1,14 +1,95 @@
 //! What a node of a wire is asked.
-use iox_model::call::WireCall;
+ghost use Rattle.std.specs.Prelude.{◌≡◌};
+ghost use Rattle.iox_wire_nodes.specs.Calls.{asked_in, may_add_handle, number_in};
+
+use crate::handle_call::HandleCall;
 use iox_model::kind::Role;
+use iox_wire_begins::Asked;
 
 /// The payload of a request or of a response, as its words. How many elements that is follows from
 /// the messages of the role.
-#[derive(Debug, Drop)]
-pub struct NodePayload {
+#[derive(Clone, Copy, Debug)]
+pub struct NodePayload<'a> {
     pub role: Role,
-    pub words: Vec<u64>,
+    pub words: &'a [u64],
 }
 
-/// A call of a node of a wire.
-pub type NodeCall = WireCall<NodePayload>;
+/// A call of the port or the handle of that number.
+#[derive(Clone, Copy, Debug)]
+pub enum NodeCall<'a> {
+    /// Of a client or an active request: a message that holds the default.
+    Loan {
+        number: u64,
+        elements: u64,
+    },
+    Write {
+        number: u64,
+        payload: NodePayload<'a>,
+    },
+    Send {
+        number: u64,
+    },
+    /// Loan, write and send in one.
+    SendCopy {
+        number: u64,
+        payload: NodePayload<'a>,
+    },
+    /// Of a server or a pending response.
+    Receive {
+        number: u64,
+    },
+    HasRequests {
+        number: u64,
+    },
+    Handle {
+        number: u64,
+        call: HandleCall,
+    },
+}
+
+impl<'a> NodeCall<'a> {
+    /// The number of the port or the handle that it names.
+    pub fn number(self) -> u64
+        ensures { result ≡ number_in self.entry }
+    {
+        match self {
+            NodeCall::Loan { number, .. } => number,
+            NodeCall::Write { number, .. } => number,
+            NodeCall::Send { number } => number,
+            NodeCall::SendCopy { number, .. } => number,
+            NodeCall::Receive { number } => number,
+            NodeCall::HasRequests { number } => number,
+            NodeCall::Handle { number, .. } => number,
+        }
+    }
+
+    /// Whether a node that makes the call may have a handle more at its end.
+    pub fn may_add_handle(self) -> bool
+        ensures { result ≡ may_add_handle self.entry }
+    {
+        match self {
+            NodeCall::Loan { .. } => true,
+            NodeCall::SendCopy { .. } => true,
+            NodeCall::Receive { .. } => true,
+            NodeCall::Write { .. } => false,
+            NodeCall::Send { .. } => false,
+            NodeCall::HasRequests { .. } => false,
+            NodeCall::Handle { .. } => false,
+        }
+    }
+
+    /// What the port or the handle is asked.
+    pub(crate) fn asked(self) -> Asked
+        ensures { result ≡ asked_in self.entry }
+    {
+        match self {
+            NodeCall::Loan { elements, .. } => Asked::Loan(elements),
+            NodeCall::Write { payload, .. } => Asked::Write(payload.role),
+            NodeCall::Send { .. } => Asked::Send,
+            NodeCall::SendCopy { payload, .. } => Asked::SendCopy(payload.role),
+            NodeCall::Receive { .. } => Asked::Receive,
+            NodeCall::HasRequests { .. } => Asked::HasRequests,
+            NodeCall::Handle { call, .. } => call.asked(),
+        }
+    }
+}

@@ -1,16 +1,15 @@
 -- The ways of a plan differ, and so do the desks of a node.
 use Rattle.std.specs.Prelude.{filter, flat_map, ◌==◌, if◌then◌else◌}
 use Rattle.std.specs.List.{range_with_len}
-use Rattle.std.proofs.Common.{◌≡◌, ℕ, zero, suc, ◌<◌, ◌+◌, Bool, true, false, List, [], ◌∷◌, ◌++◌, map, take, length, get_or, refl, ap, sym, subst, ◌∙◌, arith, inl, inr, eqb-true, append-nil, append_assoc}
+use Rattle.std.proofs.Common.{◌≡◌, ℕ, zero, suc, ◌<◌, ◌+◌, Bool, true, false, List, [], ◌∷◌, ◌++◌, map, take, length, get_or, refl, ap, sym, subst, ◌∙◌, arith, inl, inr, eqb-true}
 use Rattle.std.proofs.Math.Seq.{take-suc}
-use Rattle.std.proofs.lemmas.Grind.{flat_map-append}
 use Rattle.std.proofs.lemmas.List.{map-append}
 use Rattle.std.proofs.lemmas.List.Elements.{filter-append}
 use Rattle.iox_model.specs.declared.kind.Role.{Role}
 use Rattle.iox_model.specs.declared.kind.Role.TheVariants.{Client, Server}
 use Rattle.iox_model.specs.declared.way.Way.{Way}
 use Rattle.iox_model.specs.Maps.{AreDistinct, has_way, same_way}
-use Rattle.iox_model.specs.Messages.{request_way, response_way}
+use Rattle.iox_model.specs.Messages.{response_way}
 use Rattle.iox_laws.proofs.WeaveLaws.MapLemmas.{same_way-true}
 use Rattle.iox_laws.proofs.WeaveLedger.Lists.{IsAmong, NoRepeats, among-map, distinct-no_repeats, flat-among, map-among, no_repeats-append, no_repeats-map, no_repeats-map_filter, way-among}
 use Rattle.iox_laws.proofs.WeaveLedger.Ranges.{range-apart}
@@ -18,9 +17,7 @@ use Rattle.iox_laws.proofs.WeaveLedger.Truths.{false_if}
 use Rattle.iox_word_places.specs.declared.plan.PlanPort.{PlanPort}
 use Rattle.iox_word_places.specs.declared.plan.WirePlan.{WirePlan}
 use Rattle.iox_word_places.specs.Plans.{port_numbers}
-use Rattle.iox_wire_locals.specs.declared.table.Desk.{Desk}
 use Rattle.iox_wire_locals.specs.declared.table.Recorded.{Recorded}
-use Rattle.iox_wire_locals.specs.WorkedWires.{fresh_desk}
 use Rattle.iox_wire_seats.specs.Counts.{AreOfDifferentWays, AreOfOtherWays}
 use Rattle.iox_wire_seats.specs.Desks.{AreOfDifferentPorts, AreOfOtherPorts}
 use Rattle.iox_wire_openings.specs.OpenedNodes.{lanes_between, no_count, planned_desk, planned_desks, planned_ways, ways_between, ways_by, ways_into, ways_to}

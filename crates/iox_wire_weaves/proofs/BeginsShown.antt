@@ -24,13 +24,15 @@ use Rattle.iox_wire_needs.specs.MessageBegins.{WordsAreWhole}
 use Rattle.iox_wire_needs.specs.Runs.{Asked, GoesOnBy, Run, Said, history}
 use Rattle.iox_wire_needs.specs.Stands.{Player, seats_of}
 use Rattle.iox_wire_needs.specs.WireStands.{WireStands}
+use Rattle.iox_wire_needs.specs.Places.{InPools}
+use Rattle.iox_wire_needs.proofs.Places.{places_are_in_pools}
 use Rattle.iox_wire_needs.proofs.BeginBeats.{refusals_are_the_machines}
 use Rattle.iox_wire_needs.proofs.BeginWhole.{begun_wires_stand}
 use Rattle.iox_wire_weaves.specs.Asking.{BeginsCall, call_refusal}
 use Rattle.iox_wire_weaves.specs.declared.refusal.WireRefusal.{WireRefusal}
 use Rattle.iox_wire_weaves.specs.Laws.{BeginsShow, RefusalsAreShown, Replaces}
 use Rattle.iox_wire_weaves.specs.Wires.{Shows, WireData, WireNode, answers_in, living_refusal, node_at, players_of, refusal_in, seat_of, wordless_all}
-use Rattle.iox_wire_weaves.proofs.Lookups.{answers_on, fun_ext, same_living, same_setting, seat_there}
+use Rattle.iox_wire_weaves.proofs.Lookups.{answers_on, first_none, fun_ext, same_living, same_setting, seat_there}
 
 -- ---- refusals
 
@@ -73,7 +75,8 @@ refusals_are_shown p wire r n call shows = by_node p wire r n call shows (living
 
 module _ (p : Setting) (old new : WireData) (r : Run) (n : ℕ) (x y : WireNode) (call : WireCall) (shows : Shows p old r)
     (free : begin_refusal r.last n call ≡ None) (whole : WordsAreWhole p.limits call) (few : (seat_in x.node).accesses < last_position)
-    (puts : Replaces old.nodes n x y new.nodes) (alive : y.alive ≡ x.alive) (begins : seat_in y.node ≡ begin p (seat_in x.node) call) (aimed : IsAimed p y.node)
+    (puts : Replaces old.nodes n x y new.nodes) (alive : y.alive ≡ x.alive) (begins : seat_in y.node ≡ begin p (seat_in x.node) call)
+    (aimed : InPools p (seat_in y.node).local → IsAimed p y.node)
     (plan : new.plan ≡ old.plan) (terms : new.terms ≡ old.terms) (words : new.words ≡ old.words) (replies : new.replies ≡ old.replies) where
   abbrev seat : Seat
   seat = seat_of p old.nodes n
@@ -114,11 +117,21 @@ module _ (p : Setting) (old new : WireData) (r : Run) (n : ℕ) (x y : WireNode)
       ap (λ (v : World). not_living v.state m) goes.1.beat.2
       ∙ shows.living m ∙ ap (option_map refusal_in) (sym (same_living old.nodes n x y new.nodes puts alive m))
 
+  -- the node lives, since the machine does not refuse its call
+  lives : not_living r.last.state n ≡ None
+  lives = first_none (not_living r.last.state n) _ free
+
+  in_pools : InPools p (seat_in y.node).local
+  in_pools =
+      subst (λ (s : Seat). InPools p s.local) (seat_there p new.nodes n y puts.here)
+      (places_are_in_pools p new.words (players_of p new.nodes after) after n stands_now
+      (living_then n ∙ ap (option_map refusal_in) (same_living old.nodes n x y new.nodes puts alive n) ∙ sym (shows.living n) ∙ lives))
+
   aimed_then : (m : ℕ) (z : WireNode) → node_at m new.nodes ≡ Some z → IsAimed p z.node
   aimed_then m z at = elim (cases_Bool (m == n)) [
     | inl same ↦ (
         let e : Some y ≡ Some z = sym puts.here ∙ sym (ap (λ k. node_at k new.nodes) (eqb-true m n same)) ∙ at in
-        subst (λ (v : WireNode). IsAimed p v.node) (ap (λ o. option_map_or (λ v. v) o z) e) aimed
+        subst (λ (v : WireNode). IsAimed p v.node) (ap (λ o. option_map_or (λ v. v) o z) e) (aimed in_pools)
         )
     | inr other ↦ shows.aimed m z (sym (puts.others m other) ∙ at)
   ]

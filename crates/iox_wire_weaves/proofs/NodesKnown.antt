@@ -53,7 +53,7 @@ at_rest Idle rests = refl
 at_rest local rests = absurd (true≢false rests)
 
 -- no kind of a handle is a port's
-handle_kind : (role : Role) (kind : Kind) → is_kind_of role kind ≡ true → is_port kind ≡ false
+pub handle_kind : (role : Role) (kind : Kind) → is_kind_of role kind ≡ true → is_port kind ≡ false
 handle_kind Client kinds.RequestMut is = refl
 handle_kind Client kinds.PendingResponse is = refl
 handle_kind Client kinds.Response is = refl
@@ -62,7 +62,7 @@ handle_kind Server kinds.ResponseMut is = refl
 handle_kind Server kinds.ActiveRequest is = refl
 handle_kind Server kind is = absurd (true≢false (sym is))
 
-if_some : {A : Type 0} (P : A → Type 0) (o : Option A) → ((a : A) → o ≡ Some a → P a) → IfSome o P
+pub if_some : {A : Type 0} (P : A → Type 0) (o : Option A) → ((a : A) → o ≡ Some a → P a) → IfSome o P
 if_some P None each = tt
 if_some P (Some a) each = each a refl
 

@@ -34,6 +34,8 @@ use Rattle.iox_wire_needs.specs.Runs.{Run, Said}
 use Rattle.iox_wire_needs.specs.Stands.{Player, seats_of, word_of}
 use Rattle.iox_wire_needs.specs.WholeSteps.{GoesOnWith, player_next, step_beats}
 use Rattle.iox_wire_needs.specs.WireStands.{WireStands}
+use Rattle.iox_wire_needs.specs.Places.{InPools}
+use Rattle.iox_wire_needs.proofs.Places.{places_are_in_pools}
 use Rattle.iox_wire_needs.proofs.StepWhole.{stepped_wires_stand}
 use Rattle.iox_wire_needs.proofs.Forgotten.{members_stay}
 use Rattle.iox_wire_weaves.specs.Laws.{Replaces, StepsAreSafe, StepsShow, WentOn, progress_of}
@@ -178,11 +180,17 @@ module _ (p : Setting) (old new : WireData) (r : Run) (n : ℕ) (x y : WireNode)
 
   -- ---- places
 
+  in_pools : InPools p (seat_in y.node).local
+  in_pools =
+      subst (λ (s : Seat). InPools p s.local) (seat_there p new.nodes n y puts.here)
+      (places_are_in_pools p new.words (players_of p new.nodes after) after n stands_now
+      (living_then n ∙ ap (option_map refusal_in) (same_living old.nodes n x y new.nodes puts alive n ∙ may.0)))
+
   aimed_then : (m : ℕ) (z : WireNode) → node_at m new.nodes ≡ Some z → IsAimed p z.node
   aimed_then m z at = elim (cases_Bool (m == n)) [
     | inl same ↦ (
         let e : Some y ≡ Some z = sym puts.here ∙ sym (ap (λ k. node_at k new.nodes) (eqb-true m n same)) ∙ at in
-        subst (λ (v : WireNode). IsAimed p v.node) (some_same y z e) went.aimed
+        subst (λ (v : WireNode). IsAimed p v.node) (some_same y z e) (went.aimed in_pools)
         )
     | inr other ↦ shows.aimed m z (sym (puts.others m other) ∙ at)
   ]

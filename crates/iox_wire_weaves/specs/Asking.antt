@@ -1,19 +1,21 @@
 -- Why a call does not begin on a wire, and what the begin of one does.
 use Rattle.std.specs.Prelude.{◌≡◌, ℕ, ◌==◌, false, Option, None, Some, option_map}
-use Rattle.iox_model.specs.declared.call.WireCall as the_wire_call
 use Rattle.iox_model.specs.declared.call.WireCall.TheVariants.{Port}
 use Rattle.iox_model.specs.Commands.{Call, Refusal, WireCall}
 use Rattle.iox_model.specs.Loans.{Choice}
 use Rattle.iox_model.specs.Maps.{or_else}
 use Rattle.iox_model.specs.Weaves.{Begins, begin_refusal}
-use Rattle.iox_wire_nodes.specs.Calls.{machine_call}
+use Rattle.iox_wire_nodes.specs.Calls.{call_in}
 use Rattle.iox_wire_nodes.specs.LocalsBegins.{begin, refusal_at}
 use Rattle.iox_wire_nodes.specs.Tables.{Setting}
-use Rattle.iox_wire_nodes.specs.declared.node_call.NodePayload.{NodePayload}
+use Rattle.iox_wire_nodes.specs.declared.node_call.NodeCall.{NodeCall}
+use Rattle.iox_wire_nodes.specs.declared.node_call.NodeCall.TheVariants.{SendCopy}
+use Rattle.iox_wire_nodes.specs.Begins.{HasNoLane}
+use Rattle.iox_wire_nodes.specs.Nodes.{seat_in}
 use Rattle.iox_wire_needs.specs.Runs.{GoesOnBy, Run}
 use Rattle.iox_wire_weaves.specs.declared.refusal.WireRefusal.{WireRefusal}
-use Rattle.iox_wire_weaves.specs.declared.refusal.WireRefusal.TheVariants.{WantOfMemory}
-use Rattle.iox_wire_weaves.specs.Wires.{Shows, WireData, living_refusal, node_at, refusal_in, seat_of}
+use Rattle.iox_wire_weaves.specs.declared.refusal.WireRefusal.TheVariants.{Unsupported}
+use Rattle.iox_wire_weaves.specs.Wires.{Shows, WireData, WireNode, living_refusal, machine_refusal, node_at, refusal_in, seat_of}
 
 -- ---- refusals
 
@@ -24,27 +26,25 @@ call_refusal p wire n call =
     or_else (option_map refusal_in (living_refusal wire.nodes n))
     (refusal_at p (seat_of p wire.nodes n) (Port call))
 
--- the machine's name of a refusal; want of memory is none
-abbrev pub machine_refusal : WireRefusal → Option Refusal
-machine_refusal WantOfMemory = None
-machine_refusal refusal = Some (refusal_in refusal)
-
--- a call as a node is given it
-abbrev pub NodeCall : Type 0
-NodeCall = the_wire_call.WireCall NodePayload
+-- the node begins no such call yet: the copy of a request where all lanes of its client are in use
+abbrev pub IsLeftOut : WireData → ℕ → NodeCall → Type 0
+IsLeftOut wire n (SendCopy k y) =
+    (x : WireNode) → node_at n wire.nodes ≡ Some x → HasNoLane wire.plan (seat_in x.node) k
+IsLeftOut wire n call = ⊥
 
 -- The machine refuses the call by that name, in each run that the wire shows; where it refuses
--- nothing, there is no memory.
-abbrev pub IsBeginRefusal : WireData → ℕ → NodeCall → WireRefusal → Type 0
-IsBeginRefusal wire n call refusal =
-    (p : Setting) (r : Run) → Shows p wire r
-    → begin_refusal r.last n (machine_call p call) ≡ machine_refusal refusal
+-- nothing, there is no memory, or the node begins no such call yet.
+pub record IsBeginRefusal (wire : WireData) (n : ℕ) (call : NodeCall) (refusal : WireRefusal)
+    : Type 0 where
+  pub named : (p : Setting) (r : Run) → Shows p wire r
+      → begin_refusal r.last n (Port (call_in p call)) ≡ machine_refusal refusal
+  pub left_out : refusal ≡ Unsupported → IsLeftOut wire n call
 
 -- The machine does not refuse the call, in any run that the wire shows.
 abbrev pub MayBegin : WireData → ℕ → NodeCall → Type 0
 MayBegin wire n call =
     (p : Setting) (r : Run) → Shows p wire r
-    → begin_refusal r.last n (machine_call p call) ≡ None
+    → begin_refusal r.last n (Port (call_in p call)) ≡ None
 
 -- ---- a begin
 
@@ -59,11 +59,11 @@ pub record BeginsCall (p : Setting) (old : WireData) (n : ℕ) (call : WireCall)
 -- so it is in each run that the wire shows
 abbrev pub BeginsItsCall : WireData → ℕ → NodeCall → WireData → Type 0
 BeginsItsCall old n call new =
-    (p : Setting) (r : Run) → Shows p old r → BeginsCall p old n (machine_call p call) new
+    (p : Setting) (r : Run) → Shows p old r → BeginsCall p old n (Port (call_in p call)) new
 
 -- Each run that the wire showed goes on by the begin of that call, and the wire shows that run.
 abbrev pub BeginIsWoven : WireData → ℕ → NodeCall → WireData → Type 0
 BeginIsWoven old n call new =
     (p : Setting) (r : Run) → Shows p old r
-    → (c : Choice) × (after : Run) × GoesOnBy r (Begins n (machine_call p call) c) after
+    → (c : Choice) × (after : Run) × GoesOnBy r (Begins n (Port (call_in p call)) c) after
     × Shows p new after

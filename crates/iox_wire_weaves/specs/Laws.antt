@@ -11,6 +11,7 @@ use Rattle.iox_steps.specs.declared.access.Progress.{Progress}
 use Rattle.iox_steps.specs.declared.access.Progress.TheVariants.{Done, Going}
 use Rattle.iox_steps.specs.Accesses.{IsWithin, seen_at, words_after}
 use Rattle.iox_steps.specs.Sites.{last_position}
+use Rattle.iox_wire_needs.specs.Counts.{IsTidy}
 use Rattle.iox_wire_needs.specs.MessageBegins.{WordsAreWhole}
 use Rattle.iox_model.specs.Names.{is_port}
 use Rattle.iox_wire_nodes.specs.LocalsBegins.{begin, is_busy}
@@ -19,12 +20,14 @@ use Rattle.iox_wire_nodes.specs.WirePlan.{WirePlan}
 use Rattle.iox_wire_nodes.specs.Plans.{IsPlan, sizes_of}
 use Rattle.iox_wire_nodes.specs.Steps.{next, tells}
 use Rattle.iox_wire_nodes.specs.Tables.{Setting, entry_at}
+use Rattle.iox_wire_nodes.specs.WirePlans.{HandleStands, IsWirePlan}
 use Rattle.iox_wire_nodes.specs.WireTerms.{WireTerms}
 use Rattle.iox_wire_nodes.specs.Aims.{IsAimed}
 use Rattle.iox_wire_nodes.specs.declared.call_at.CallAt.TheVariants.{Seats}
 use Rattle.iox_wire_nodes.specs.declared.call_at.NodeReply.{NodeReply}
 use Rattle.iox_wire_nodes.specs.Nodes.{Node, reply_in, seat_in}
 use Rattle.iox_wire_needs.specs.Openings.{opened_seat}
+use Rattle.iox_wire_needs.specs.Places.{InPools}
 use Rattle.iox_wire_needs.specs.Runs.{GoesOnBy, Run}
 use Rattle.iox_wire_needs.specs.WholeSteps.{GoesOnWith}
 use Rattle.iox_wire_weaves.specs.Wires.{OpensOn, Shows, ShowsOpened, WireData, WireNode, answers_in, living_refusal, node_at, wordless_all}
@@ -69,12 +72,12 @@ progress_of None = Going
 progress_of (Some reply) = Done reply
 
 -- After an access that found this the node is the next, it answers this if its call is over, and it
--- knows where the words stand that it accesses next.
+-- knows where the words stand that it accesses next, as far as a slot that it took is one of a pool.
 pub record WentOn (p : Setting) (x : Node) (seen : ℕ) (reply : Option NodeReply) (y : Node)
     : Type 0 where
   pub next_is : seat_in y ≡ next p (seat_in x) seen
   pub told : tells p (seat_in x) seen ≡ option_map (reply_in y.seat.words) reply
-  pub aimed : IsAimed p y
+  pub aimed : InPools p (seat_in y).local → IsAimed p y
 
 -- A living node accesses a word of the wire.
 abbrev pub StepsAreSafe : Type 0
@@ -120,6 +123,16 @@ NodesAreKnown =
     × (living_refusal wire.nodes n ≡ None → is_busy (seat_in x.node).local ≡ false → (k : ℕ)
     → IfSome (entry_at k own.table) (λ e. is_port e.kind ≡ false))
 
+-- Each handle of a living node that is between calls, and has one desk for a port and one count for a
+-- way, is what it may be on the wire.
+abbrev pub HandlesStand : Type 0
+HandlesStand =
+    (p : Setting) (wire : WireData) (r : Run) (n : ℕ) (x : WireNode) → Shows p wire r
+    → IsWirePlan wire.plan wire.terms → node_at n wire.nodes ≡ Some x
+    → living_refusal wire.nodes n ≡ None → is_busy (seat_in x.node).local ≡ false
+    → IsTidy (seat_in x.node) → let own = x.node.seat.seat in
+    (k : ℕ) → IfSome (entry_at k own.table) (HandleStands wire.plan own.desks)
+
 -- A call of a port or a handle is refused for the machine's reason: its node does not live, or its
 -- own tables say why.
 abbrev pub RefusalsAreShown : Type 0
@@ -135,7 +148,8 @@ BeginsShow =
     → Shows p old r → begin_refusal r.last n call ≡ None → WordsAreWhole p.limits call
     → (seat_in x.node).accesses < last_position
     → Replaces old.nodes n x y new.nodes → y.alive ≡ x.alive
-    → seat_in y.node ≡ begin p (seat_in x.node) call → IsAimed p y.node
+    → seat_in y.node ≡ begin p (seat_in x.node) call
+    → (InPools p (seat_in y.node).local → IsAimed p y.node)
     → new.plan ≡ old.plan → new.terms ≡ old.terms → new.words ≡ old.words
     → new.replies ≡ old.replies
     → BeginsCall p old n call new

@@ -23,7 +23,7 @@ use Rattle.iox_wire_needs.specs.Openings.{AgreesWith, opened_seat}
 use Rattle.iox_wire_needs.specs.Runs.{Run, history}
 use Rattle.iox_wire_needs.specs.Stands.{Player}
 use Rattle.iox_wire_weaves.specs.declared.refusal.WireRefusal.{WireRefusal}
-use Rattle.iox_wire_weaves.specs.declared.refusal.WireRefusal.TheVariants.{AccessesSpent, AtRest, Busy, ForeignNumber, NodeIsDead, UnknownNode, UnknownNumber, WantOfMemory, WrongKind}
+use Rattle.iox_wire_weaves.specs.declared.refusal.WireRefusal.TheVariants.{AccessesSpent, AtRest, Busy, ForeignNumber, NodeIsDead, UnknownNode, UnknownNumber, Unsupported, WantOfMemory, WrongKind}
 
 -- ---- a wire
 
@@ -51,17 +51,22 @@ abbrev pub living_refusal : List WireNode → ℕ → Option WireRefusal
 living_refusal nodes n =
     option_map_or (λ x. refused_if (not x.alive) NodeIsDead) (node_at n nodes) (Some UnknownNode)
 
--- the machine's name of a refusal
+-- the machine's name of a refusal, if it has one: it knows no want of memory, and begins all calls
+abbrev pub machine_refusal : WireRefusal → Option Refusal
+machine_refusal UnknownNode = Some refusals.UnknownNode
+machine_refusal NodeIsDead = Some refusals.NodeIsDead
+machine_refusal AtRest = Some refusals.AtRest
+machine_refusal AccessesSpent = Some refusals.AccessesSpent
+machine_refusal Busy = Some refusals.Busy
+machine_refusal UnknownNumber = Some refusals.UnknownNumber
+machine_refusal ForeignNumber = Some refusals.ForeignNumber
+machine_refusal WrongKind = Some refusals.WrongKind
+machine_refusal WantOfMemory = None
+machine_refusal Unsupported = None
+
+-- that name; what has none is told as want of memory
 abbrev pub refusal_in : WireRefusal → Refusal
-refusal_in UnknownNode = refusals.UnknownNode
-refusal_in NodeIsDead = refusals.NodeIsDead
-refusal_in AtRest = refusals.AtRest
-refusal_in AccessesSpent = refusals.AccessesSpent
-refusal_in WantOfMemory = refusals.WantOfMemory
-refusal_in Busy = refusals.Busy
-refusal_in UnknownNumber = refusals.UnknownNumber
-refusal_in ForeignNumber = refusals.ForeignNumber
-refusal_in WrongKind = refusals.WrongKind
+refusal_in refusal = option_map_or (λ r. r) (machine_refusal refusal) refusals.WantOfMemory
 
 -- the part of a node; a node that is none of the wire has nothing
 abbrev pub seat_of : Setting → List WireNode → ℕ → Seat

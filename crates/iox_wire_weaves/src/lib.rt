@@ -3,12 +3,14 @@
 #![tactic(auto)]
 
 ghost use Rattle.iox_wire_weaves.specs.Laws.{BeginsShow, DeathsShow, RefusalsAreShown};
+ghost use Rattle.iox_wire_weaves.specs.Laws.{HandlesStand};
 ghost use Rattle.iox_wire_weaves.specs.Laws.{NodesAreKnown, StepsAreSafe, StepsShow, WiresOpen};
 
 mod refusal;
 
 pub use iox_wire_nodes::{
-    Asked, BeginError, HandleCall, Lists, NodeCall, NodePayload, NodeReply, PlanPort, SeatReply,
+    Asked, BeginError, CopyReply, HandleCall, LendReply, Lists, NodeCall, NodeError, NodePayload,
+    NodeReply, PlanPort, ReceiveReply, RequestReply, RespondReply, ResponseCopyReply, SeatReply,
     StoredNode, WirePlan, WireTerms, WordMap, WordMapNewError,
 };
 pub use refusal::WireRefusal;
@@ -46,4 +48,9 @@ pub fn begins_show()
 /// What a call relies on of the node that begins it.
 pub fn nodes_are_known()
     ensures { NodesAreKnown }
+{}
+
+/// Each handle of a node between calls is what it may be on the wire.
+pub fn handles_stand()
+    ensures { HandlesStand }
 {}

@@ -58,7 +58,7 @@ impl StoredNode {
         }
         let next = self.next_number(terms);
         let elements = elements_in(map, terms, role, words);
-        begin_request_copy(
+        let begun = begin_request_copy(
             alloc,
             map,
             terms,
@@ -70,7 +70,11 @@ impl StoredNode {
             words,
             next,
             lists,
-        )?;
+        );
+        if let Err(error) = begun {
+            self.at = CallAt::Seats;
+            return Err(NodeError::from(error));
+        }
         self.at = CallAt::CopiesRequest;
         Ok(())
     }

@@ -11,7 +11,7 @@ ghost use Rattle.iox_wire_begins.specs.Begins.{begins_at_entry, is_busy, refusal
 ghost use Rattle.iox_wire_begins.specs.Tables.{Setting, entry_at};
 ghost use Rattle.iox_wire_nodes.specs.declared.call_at.CallAt.TheVariants.{SendsRequest};
 ghost use Rattle.iox_wire_nodes.specs.declared.call_at.CallAt.TheVariants.{SendsResponse};
-ghost use Rattle.iox_wire_nodes.specs.Begins.{IsAtOnce, IsUnderWay, send_at};
+ghost use Rattle.iox_wire_nodes.specs.Begins.{AddsHandle, IsAtOnce, IsUnderWay, send_at};
 ghost use Rattle.iox_wire_nodes.specs.Nodes.{seat_in};
 
 use super::StoredNode;
@@ -43,6 +43,7 @@ impl StoredNode {
             refusal_at p (seat_in self.old) (Port (Send number)) ≡ refusal_in error) }
         ensures at { OnOk result (IfSome (entry_at number self.old.seat.seat.table)
             (λ loan. self.new.at ≡ send_at loan.kind)) }
+        ensures adds { OnOk result (AddsHandle self.new.at → ⊥) }
         ensures unchanged { OnErr result (self.new ≡ self.old) }
     {
         let loan = self.name_handle(map, Asked::Send, number)?;

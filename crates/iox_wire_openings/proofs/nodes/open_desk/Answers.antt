@@ -1,5 +1,4 @@
-use Rattle.std.proofs.Common.{List, ap, arith, get_or, map, subst, sym, take, ◌∙◌}
-use Rattle.iox_model.specs.declared.way.Way.{Way}
+use Rattle.std.proofs.Common.{ap, arith, get_or, map, subst, sym, ◌∙◌}
 use Rattle.iox_model.specs.Maps.{has_way}
 use Rattle.iox_laws.proofs.WeaveLedger.Lists.{NoRepeats}
 use Rattle.iox_wire_locals.specs.declared.table.Desk.{Desk}

@@ -20,7 +20,7 @@ invariant_of-result c =
     ∙ ap (λ n. replicate n 0) (c.total-total.ensures ∙ ap (λ (q : WirePlan). total_words (sizes_of q)) c.in_ok-places.ensures.made))
     c.args.handles
     (subst (λ (q : WirePlan). AreOpened q c.args.handles c.args.nodes.now c.in_ok-members.members.items) (c.plan.ensures.value ∙ c.in_ok-places.ensures.made) c.in_ok-members.ensures)
-    (ap told_by c.new-2.ensures.items) c.requires.whole total c.requires.opens
+    (ap told_by c.new-2.ensures.items) c.requires.whole total (omega (arith, c.if-terms-ge-MOST_NUMBERS.false)) c.requires.opens
 
 pub returns-clause-opened : goal.returns-clause-opened
 returns-clause-opened c p s opens =

@@ -2,14 +2,33 @@ use Rattle.std.specs.Prelude.{OnOk}
 use Rattle.std.proofs.Common.{[], ◌∷◌, subst, sym}
 use Rattle.iox_wire.specs.declared.entry.WireEntry.{WireEntry}
 use Rattle.iox_wire.specs.Schedules.{IsPlayed}
-use Rattle.iox_wire.proofs.Playing.{begin_told, death_told, so_told, step_told}
+use Rattle.iox_wire.proofs.Playing.{death_told, handle_played, loan_played, look_played, receive_played, send_played, so_told, step_told}
 use Rattle.iox_wire.proofs.wire.Wire.play.Goals as goal
+
+pub returns-in-Loan-clause-played : goal.returns-in-Loan-clause-played
+returns-in-Loan-clause-played c =
+    subst (λ (e : WireEntry). OnOk c.ask.result (IsPlayed c.args.self.now (e ∷ []) c.ask.new.self)) (sym c.in-Loan.is)
+    (loan_played c.args.self.now c.ask.new.self c.in-Loan.node c.in-Loan.number c.in-Loan.elements c.ask.result c.ask.ensures.asked)
+
+pub returns-in-Send-clause-played : goal.returns-in-Send-clause-played
+returns-in-Send-clause-played c =
+    subst (λ (e : WireEntry). OnOk c.ask-in-Send.result (IsPlayed c.args.self.now (e ∷ []) c.ask-in-Send.new.self)) (sym c.in-Send.is)
+    (send_played c.args.self.now c.ask-in-Send.new.self c.in-Send.node c.in-Send.number c.ask-in-Send.result c.ask-in-Send.ensures.asked)
+
+pub returns-in-Receive-clause-played : goal.returns-in-Receive-clause-played
+returns-in-Receive-clause-played c =
+    subst (λ (e : WireEntry). OnOk c.ask-in-Receive.result (IsPlayed c.args.self.now (e ∷ []) c.ask-in-Receive.new.self)) (sym c.in-Receive.is)
+    (receive_played c.args.self.now c.ask-in-Receive.new.self c.in-Receive.node c.in-Receive.number c.ask-in-Receive.result c.ask-in-Receive.ensures.asked)
 
 pub returns-in-HasRequests-clause-played : goal.returns-in-HasRequests-clause-played
 returns-in-HasRequests-clause-played c =
-    subst (λ (e : WireEntry). OnOk c.want_of.result (IsPlayed c.args.self.now (e ∷ []) c.begin_has_requests-told.new.self)) (sym c.in-HasRequests.is)
-    (begin_told c.args.self.now c.begin_has_requests-told.new.self c.in-HasRequests.node c.in-HasRequests.number c.begin_has_requests-told.result c.want_of.result c.begin_has_requests-told.ensures.weave
-    c.begin_has_requests-told.ensures.refused c.begin_has_requests-told.ensures.unchanged c.want_of.ensures.named)
+    subst (λ (e : WireEntry). OnOk c.ask-in-HasRequests.result (IsPlayed c.args.self.now (e ∷ []) c.ask-in-HasRequests.new.self)) (sym c.in-HasRequests.is)
+    (look_played c.args.self.now c.ask-in-HasRequests.new.self c.in-HasRequests.node c.in-HasRequests.number c.ask-in-HasRequests.result c.ask-in-HasRequests.ensures.asked)
+
+pub returns-in-Handle-clause-played : goal.returns-in-Handle-clause-played
+returns-in-Handle-clause-played c =
+    subst (λ (e : WireEntry). OnOk c.ask-in-Handle.result (IsPlayed c.args.self.now (e ∷ []) c.ask-in-Handle.new.self)) (sym c.in-Handle.is)
+    (handle_played c.args.self.now c.ask-in-Handle.new.self c.in-Handle.node c.in-Handle.number c.in-Handle.call c.ask-in-Handle.result c.ask-in-Handle.ensures.asked)
 
 pub returns-in-Step-clause-played : goal.returns-in-Step-clause-played
 returns-in-Step-clause-played c =

@@ -41,11 +41,14 @@ returns-then-is_err-clause-refused c =
 pub make_access-reply-requires-clause-may : goal.make_access-reply-requires-clause-may
 make_access-reply-requires-clause-may c =
     let first = ap (λ (v : WireData). position (λ x. x.number == c.args.node) v.nodes) c.self.view_is ∙ c.in_ok-place.ensures.first in
-    let w : WireData = record { plan = c.self.inside.places; terms = c.self.inside.terms; words = c.self.inside.words.items; nodes = c.self.inside.members.items; replies = told_by c.self.inside.answers.items } in (
+    let w : WireData = record { plan = c.self.inside.places; terms = c.self.inside.terms; words = c.self.inside.words.items; nodes = c.self.inside.members.items; replies = told_by c.self.inside.answers.items } in
+    let alive : living_refusal w.nodes c.args.node ≡ None = ap (λ (v : WireData). living_refusal v.nodes c.args.node) c.self.view_is ∙ c.in_ok-place.ensures.alive in
+    let seen : node_at c.args.node w.nodes ≡ Some c.index.result.now = there w c.args.node c.in_ok-place.place c.index.result.now first c.index.ensures in
+    let at : node_at c.args.node w.nodes ≡ Some c.index_mut.result.now = there w c.args.node c.in_ok-place.place c.index_mut.result.now first c.index_mut.ensures.value in (
       c.self.invariant.shows.0,
       may_access w c.args.node c.in_ok-place.place c.index_mut.result.now first c.index_mut.ensures.value
           c.self.invariant.shows.0 c.self.invariant.shows.1 c.self.invariant.shows.2
-          (ap (λ (v : WireData). living_refusal v.nodes c.args.node) c.self.view_is ∙ c.in_ok-place.ensures.alive),
+          (refused_at w c.args.node c.index.result.now None alive seen (sym c.in_default.ensures)) (c.self.invariant.kept c.args.node c.index_mut.result.now at),
     )
 
 pub make_access-reply-requires-clause-few : goal.make_access-reply-requires-clause-few
@@ -58,13 +61,6 @@ make_access-reply-requires-clause-few c =
     (steps_on w c.args.node c.index_mut.result.now at
     (refused_at w c.args.node c.index.result.now None alive seen (sym c.in_default.ensures))).2
 
-pub make_access-reply-requires-clause-seated : goal.make_access-reply-requires-clause-seated
-make_access-reply-requires-clause-seated c =
-    let first = ap (λ (v : WireData). position (λ x. x.number == c.args.node) v.nodes) c.self.view_is ∙ c.in_ok-place.ensures.first in
-    let w : WireData = record { plan = c.self.inside.places; terms = c.self.inside.terms; words = c.self.inside.words.items; nodes = c.self.inside.members.items; replies = told_by c.self.inside.answers.items } in
-    c.self.invariant.seated c.args.node c.index_mut.result.now
-    (there w c.args.node c.in_ok-place.place c.index_mut.result.now first c.index_mut.ensures.value)
-
 pub invariant_of-self-2 : goal.invariant_of-self-2
 invariant_of-self-2 c =
     let first = ap (λ (v : WireData). position (λ x. x.number == c.args.node) v.nodes) c.self.view_is ∙ c.in_ok-place.ensures.first in
@@ -73,8 +69,8 @@ invariant_of-self-2 c =
     let seen : node_at c.args.node w.nodes ≡ Some c.index.result.now = there w c.args.node c.in_ok-place.place c.index.result.now first c.index.ensures in
     shown_after w c.args.node c.in_ok-place.place c.index_mut.result.now first c.index_mut.ensures.value
     c.make_access-reply.new.self c.make_access-reply.result c.make_access-reply.new.words.items (told_by c.tell.new.events.items) c.self.invariant
-    (refused_at w c.args.node c.index.result.now None alive seen (sym c.in_default.ensures)) alive
-    c.make_access-reply.ensures.made c.make_access-reply.ensures.number c.make_access-reply.ensures.alive c.make_access-reply.ensures.seated
+    (refused_at w c.args.node c.index.result.now None alive seen (sym c.in_default.ensures))
+    c.make_access-reply.ensures.made c.make_access-reply.ensures.number c.make_access-reply.ensures.alive
     (told_more c.args.node (slice_set w.nodes c.in_ok-place.place c.make_access-reply.new.self) c.make_access-reply.result c.self.inside.answers.items
     c.tell.new.events.items
     (c.tell.ensures ∙ ap₂ (λ xs o. xs ++ option_to_list o) c.reserve.ensures.items c.answered.ensures))
@@ -97,7 +93,10 @@ returns-clause-one_access c p r shows =
     let made = stepped w c.args.node c.in_ok-place.place c.index_mut.result.now first c.index_mut.ensures.value
     p r c.make_access-reply.new.self c.make_access-reply.result c.make_access-reply.new.words.items (told_by c.tell.new.events.items) here
     (refused_at w c.args.node c.index.result.now None alive seen (sym c.in_default.ensures))
-    (c.make_access-reply.ensures.made p (may_access w c.args.node c.in_ok-place.place c.index_mut.result.now first c.index_mut.ensures.value p r here alive))
+    (c.make_access-reply.ensures.made p
+    (may_access w c.args.node c.in_ok-place.place c.index_mut.result.now first c.index_mut.ensures.value p r here
+    (refused_at w c.args.node c.index.result.now None alive seen (sym c.in_default.ensures))
+    (c.self.invariant.kept c.args.node c.index_mut.result.now (there w c.args.node c.in_ok-place.place c.index_mut.result.now first c.index_mut.ensures.value))))
     c.make_access-reply.ensures.number c.make_access-reply.ensures.alive
     (told_more c.args.node (slice_set w.nodes c.in_ok-place.place c.make_access-reply.new.self) c.make_access-reply.result c.self.inside.answers.items
     c.tell.new.events.items
@@ -116,7 +115,10 @@ returns-clause-weave c p r shows =
     let made = stepped w c.args.node c.in_ok-place.place c.index_mut.result.now first c.index_mut.ensures.value
     p r c.make_access-reply.new.self c.make_access-reply.result c.make_access-reply.new.words.items (told_by c.tell.new.events.items) here
     (refused_at w c.args.node c.index.result.now None alive seen (sym c.in_default.ensures))
-    (c.make_access-reply.ensures.made p (may_access w c.args.node c.in_ok-place.place c.index_mut.result.now first c.index_mut.ensures.value p r here alive))
+    (c.make_access-reply.ensures.made p
+    (may_access w c.args.node c.in_ok-place.place c.index_mut.result.now first c.index_mut.ensures.value p r here
+    (refused_at w c.args.node c.index.result.now None alive seen (sym c.in_default.ensures))
+    (c.self.invariant.kept c.args.node c.index_mut.result.now (there w c.args.node c.in_ok-place.place c.index_mut.result.now first c.index_mut.ensures.value))))
     c.make_access-reply.ensures.number c.make_access-reply.ensures.alive
     (told_more c.args.node (slice_set w.nodes c.in_ok-place.place c.make_access-reply.new.self) c.make_access-reply.result c.self.inside.answers.items
     c.tell.new.events.items

@@ -1,4 +1,4 @@
-use Rattle.std.proofs.Common.{rules, ◌≡◌, ℕ, true, ap, sym, subst, ◌∙◌}
+use Rattle.std.proofs.Common.{rules, ◌≡◌, ap, sym, subst, ◌∙◌}
 use Rattle.iox_model.specs.declared.call.WireCall.TheVariants.{Port}
 use Rattle.iox_wire_begins.specs.HandleCalls.{call_of, refusal_in}
 use Rattle.iox_wire_nodes.proofs.NameLemmas.{is_held}

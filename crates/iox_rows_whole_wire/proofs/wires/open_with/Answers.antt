@@ -1,5 +1,5 @@
 use Rattle.iox_rows_whole_wire.proofs.OpensOnOnes.{is_plan, may_open, whole_terms}
-use Rattle.iox_rows_whole_wire.proofs.wires.open.Goals as goal
+use Rattle.iox_rows_whole_wire.proofs.wires.open_with.Goals as goal
 
 pub new-requires-clause-plan : goal.new-requires-clause-plan
 new-requires-clause-plan c = is_plan _ c.in_ok-plan.ensures

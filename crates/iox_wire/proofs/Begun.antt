@@ -1,0 +1,330 @@
+-- What the begin of a call leads to, and what is left where it is refused.
+use Rattle.std.specs.Prelude.{Err, Ok, OnOk, Result, ◌*◌, ◌%◌, ◌/◌, ◌^◌, if◌then◌else◌, option_map, position}
+use Rattle.std.specs.Option.{option_map_or}
+use Rattle.std.proofs.Common.{◌≡◌, ℕ, ◌+◌, ◌-◌, ◌<◌, ◌≤◌, ◌==◌, Bool, true, false, length, get_or, Option, None, Some, refl, ap, sym, subst, ◌∙◌, arith, slice_set, eqb-true, inl, inr}
+use Rattle.std.proofs.Math.Nat.{div-mul-le_self, mod-eq-sub-div-mul}
+use Rattle.std.proofs.lemmas.Bool.{cases_Bool}
+use Rattle.iox_model.specs.declared.call.WireCall.TheVariants.{Port}
+use Rattle.iox_model.specs.Commands.{WireCall}
+use Rattle.iox_model.specs.Loans.{Choice}
+use Rattle.iox_model.specs.declared.reply.Refusal.TheVariants as refusals
+use Rattle.iox_model.specs.Maps.{or_else, refused_if}
+use Rattle.iox_model.specs.Settings.{shape_of}
+use Rattle.iox_model.specs.Weaves.{Begins, begin_refusal}
+use Rattle.iox_laws.proofs.WeaveLedger.Truths.{none-some}
+use Rattle.iox_wire_weaves.specs.Aims.{IsAimed, MayAdd}
+use Rattle.iox_wire_weaves.specs.Asking.{BeginsCall, IsBeginRefusal, IsLeftOut}
+use Rattle.iox_wire_weaves.specs.Begins.{is_busy, misnamed_call, refusal_at}
+use Rattle.iox_wire_weaves.specs.CallAt.{CallAt}
+use Rattle.iox_wire_weaves.specs.CallAt.TheVariants as at
+use Rattle.iox_wire_weaves.specs.Calls.{call_in, may_add_handle}
+use Rattle.iox_wire_weaves.specs.Copying.{CopyGoesOn}
+use Rattle.iox_wire_weaves.specs.Counts.{IsTidy}
+use Rattle.iox_wire_weaves.specs.HandleCall.TheVariants as handle_calls
+use Rattle.iox_wire_weaves.specs.Laws.{Replaces}
+use Rattle.iox_wire_weaves.specs.Lendings.{next_handle}
+use Rattle.iox_wire_weaves.specs.Lends.{MayLend}
+use Rattle.iox_wire_weaves.specs.Local.{Local}
+use Rattle.iox_wire_weaves.specs.MessageBegins.{WordsAreWhole}
+use Rattle.iox_wire_weaves.specs.NodeCall.{NodeCall}
+use Rattle.iox_wire_weaves.specs.NodeCall.TheVariants.{Handle, HasRequests, Loan, Receive, Send, SendCopy, Write}
+use Rattle.iox_wire_weaves.specs.NodeError.{NodeError}
+use Rattle.iox_wire_weaves.specs.NodeError.TheVariants as errors
+use Rattle.iox_wire_weaves.specs.Nodes.{Node, seat_at, seat_in}
+use Rattle.iox_wire_weaves.specs.NodesBegins as nodes
+use Rattle.iox_wire_weaves.specs.NodesBegins.{AddsHandle, IsLeftBy, IsUnchanged, IsUnderWay, MayBegin, node_refusal}
+use Rattle.iox_wire_weaves.specs.Openings.{opened_seat}
+use Rattle.iox_wire_weaves.specs.Runs.{GoesOnBy, Run}
+use Rattle.iox_wire_weaves.specs.Seat.{Seat}
+use Rattle.iox_wire_weaves.specs.Seats.{Placed}
+use Rattle.iox_wire_weaves.specs.Stands.{Player}
+use Rattle.iox_wire_weaves.specs.Steps.{most_accesses}
+use Rattle.iox_wire_weaves.specs.Tables.{Setting}
+use Rattle.iox_wire_weaves.specs.Terms.{IsSettingWith}
+use Rattle.iox_wire_weaves.specs.Uses.{HaveFewWays}
+use Rattle.iox_wire_weaves.specs.WholeElements.{elements_in, elements_of_nothing}
+use Rattle.iox_wire_weaves.specs.WirePlan.{WirePlan}
+use Rattle.iox_wire_weaves.specs.WireStands.{WireStands}
+use Rattle.iox_wire_weaves.specs.WireTerms.{WireTerms}
+use Rattle.iox_wire_weaves.specs.declared.refusal.WireRefusal.{WireRefusal}
+use Rattle.iox_wire_weaves.specs.declared.refusal.WireRefusal.TheVariants.{Unsupported}
+use Rattle.iox_wire_weaves.specs.Wires.{Shows, WireData, WireNode, living_refusal, machine_refusal, node_at, players_of, refusal_in, seat_of}
+use Rattle.iox_wire_weaves.proofs.BeginsShown.{begins_show, refusals_are_shown}
+use Rattle.iox_wire_weaves.proofs.CallLemmas.{left_as_it_was}
+use Rattle.iox_wire_weaves.proofs.HandlesStanding.{handles_stand}
+use Rattle.iox_wire_weaves.proofs.Lookups.{first_none, fun_ext, not_refused, same_living, seat_there}
+use Rattle.iox_wire.specs.Begun.{HasBegun, IsLeft, IsLeftAlone, IsRefusedBy, StaysPut, seen_of}
+use Rattle.iox_wire.specs.Kept.{IsKept, IsShown}
+use Rattle.iox_wire.proofs.Accesses.{tells_of_pools}
+use Rattle.iox_wire.proofs.Keeping.{kept_begun, kept_still}
+use Rattle.iox_wire.proofs.MayLend.{may_lend}
+use Rattle.iox_wire.proofs.Places.{read_there, replaced, unchanged_there}
+
+-- ---- payloads
+
+-- so many words are of so many elements
+elements_whole : (many : Bool) (width n k : ℕ) → elements_in many width n ≡ Some k → n ≡ k * width
+elements_whole many width n k = by_width (width == 0) refl
+  where
+    told : (a : ℕ) → Some a ≡ Some k → a ≡ k
+    told a is = ap (λ (o : Option ℕ). option_map_or (λ i. i) o 0) is
+
+    of_nothing : width ≡ 0 → (b : Bool) → (n == 0) ≡ b → (if b then Some (if many then 0 else 1) else None) ≡ Some k → n ≡ k * width
+    of_nothing none true empty is = eqb-true n 0 empty ∙ none_of k width none
+      where
+        none_of : (a w : ℕ) → w ≡ 0 → 0 ≡ a * w
+        none_of a w is = sym (ap (λ i. a * i) is ∙ (let e : a * 0 ≡ 0 = omega arith in e))
+    of_nothing none false other is = absurd (none-some k is)
+
+    of_some : (b : Bool) → (n % width == 0) ≡ b → (if b then Some (n / width) else None) ≡ Some k → n ≡ k * width
+    of_some true rest is =
+        let whole : n % width ≡ 0 = eqb-true (n % width) 0 rest in
+        let less : n / width * width ≤ n = div-mul-le_self n width in
+        let left : n % width ≡ n - n / width * width = mod-eq-sub-div-mul n width in
+        same n (n / width * width) (n % width) whole less left ∙ ap (λ i. i * width) (told (n / width) is)
+      where
+        same : (a b r : ℕ) → r ≡ 0 → b ≤ a → r ≡ a - b → a ≡ b
+        same a b r none less left = omega (arith, none, less, left)
+    of_some false rest is = absurd (none-some k is)
+
+    by_width : (b : Bool) → (width == 0) ≡ b → (if b then elements_of_nothing many n else (if n % width == 0 then Some (n / width) else None)) ≡ Some k → n ≡ k * width
+    by_width true none is = of_nothing (eqb-true width 0 none) (n == 0) refl is
+    by_width false some is = of_some (n % width == 0) refl is
+
+-- the words of each call are of whole elements
+pub words_are_whole : (p : Setting) (call : NodeCall) → WordsAreWhole p.limits (Port (call_in p call))
+words_are_whole p (Loan n k) = tt
+words_are_whole p (Write n y) = λ k is. elements_whole (shape_of p.limits y.role).many (shape_of p.limits y.role).width (length y.words.now) k is
+words_are_whole p (Send n) = tt
+words_are_whole p (SendCopy n y) = λ k is. elements_whole (shape_of p.limits y.role).many (shape_of p.limits y.role).width (length y.words.now) k is
+words_are_whole p (Receive n) = tt
+words_are_whole p (HasRequests n) = tt
+words_are_whole p (Handle n handle_calls.Read) = tt
+words_are_whole p (Handle n handle_calls.Release) = tt
+words_are_whole p (Handle n handle_calls.IsConnected) = tt
+words_are_whole p (Handle n handle_calls.SetHint) = tt
+words_are_whole p (Handle n handle_calls.HasHint) = tt
+words_are_whole p (Handle n handle_calls.HasResponse) = tt
+
+-- ---- a node
+
+three : {A B C D : Type 0} (f : A → B → C → D) {a a' : A} {b b' : B} {c c' : C} → a ≡ a' → b ≡ b' → c ≡ c' → f a b c ≡ f a' b' c'
+three f p q r = λ i. f (p i) (q i) (r i)
+
+made_alike : (x : Node) (c : CallAt) → (seat_at c x).handles_made ≡ x.seat.seat.handles_made
+made_alike x at.Seats = refl
+made_alike x at.Receives = refl
+made_alike x at.Lends = refl
+made_alike x at.SendsRequest = refl
+made_alike x at.SendsResponse = refl
+made_alike x at.CopiesRequest = refl
+made_alike x at.CopiesResponse = refl
+
+-- what is left of a node is unchanged
+same_unchanged : (old new : Node) → new ≡ old → IsUnchanged old new
+same_unchanged old new same = subst (IsUnchanged old) (sym same) (record { seat = refl; place = refl; going = λ busy. refl; aimed = λ p aimed. aimed })
+
+left_unchanged : (call : NodeCall) (old new : Node) → IsLeftBy call old new → IsUnchanged old new
+left_unchanged (SendCopy n y) old new left = left
+left_unchanged (Loan n k) old new same = same_unchanged old new same
+left_unchanged (Write n y) old new same = same_unchanged old new same
+left_unchanged (Send n) old new same = same_unchanged old new same
+left_unchanged (Receive n) old new same = same_unchanged old new same
+left_unchanged (HasRequests n) old new same = same_unchanged old new same
+left_unchanged (Handle n h) old new same = same_unchanged old new same
+
+-- and keeps to what it kept to
+kept_left : (old new : Node) → IsUnchanged old new → IsKept old → IsKept new
+kept_left old new left kept = record {
+  few = subst (λ (s : Seat). s.accesses ≤ most_accesses) (sym left.place) kept.few;
+  tidy = subst IsTidy (sym left.place) kept.tidy;
+  ways = subst (λ (s : Seat). HaveFewWays s.desks) (sym left.place) kept.ways;
+  copies = subst (λ (s : Seat). CopyGoesOn s.local) (sym left.place) kept.copies;
+  ready = λ busy.
+      let was : is_busy (seat_in old).local ≡ true = subst (λ (s : Seat). is_busy s.local ≡ true) left.place busy in
+      subst (λ (n : Node). MayAdd n.at n) (sym (left.going was)) (kept.ready was);
+}
+
+-- a node that begins a call rests
+rests_if : (p : Setting) (x : Seat) (call : WireCall) → refusal_at p x call ≡ None → is_busy x.local ≡ false
+rests_if p x call allowed =
+    not_refused (is_busy x.local) refusals.Busy (first_none (refused_if (is_busy x.local) refusals.Busy) (misnamed_call p x call) allowed)
+
+-- a node that began a call, with room where that may add a handle
+pub has_begun : (plan : WirePlan) (terms : WireTerms) (old new : WireNode) (call : NodeCall) (told : Result (Unit {0}) NodeError)
+    → (p : Setting) × IsSettingWith plan terms p
+    → ((p : Setting) → IsSettingWith plan terms p → OnOk told (IsUnderWay p old.node (Port (call_in p call)) new.node))
+    → OnOk told (AddsHandle new.node.at → may_add_handle call ≡ true) → (may_add_handle call ≡ true → 0 < old.node.seat.room)
+    → (is_busy (seat_in old.node).local ≡ false → 0 < old.node.seat.room → (p : Setting) → IsSettingWith plan terms p → (port : ℕ)
+    → MayLend old.node.seat (next_handle p old.node.seat.seat) port)
+    → new.number ≡ old.number → new.alive ≡ old.alive → OnOk told (HasBegun plan terms old call new)
+has_begun plan terms old new call (Ok done) set begun adds room lends number alive =
+    let way : IsUnderWay set.0 old.node (Port (call_in set.0 call)) new.node = begun set.0 set.1 in
+    let rests : is_busy (seat_in old.node).local ≡ false = rests_if set.0 (seat_in old.node) (Port (call_in set.0 call)) way.allowed in
+    record { begun = begun; ready = way.ready.may (λ more. lends rests (room (adds more)) set.0 set.1); number = number; alive = alive }
+has_begun plan terms old new call (Err error) set begun adds room lends number alive = tt
+
+-- a wire has a setting
+pub set_there : (w : WireData) → IsShown w → (p : Setting) × IsSettingWith w.plan w.terms p
+set_there w shown = (shown.shows.0, shown.shows.2.setting)
+
+module _ (w : WireData) (n i : ℕ) (d : WireNode) (at : position (λ x. x.number == n) w.nodes ≡ Some i) (read : d ≡ get_or w.nodes i d) where
+  there : node_at n w.nodes ≡ Some d
+  there = read_there n w.nodes i d at read
+
+  abbrev Now : WireNode → WireData
+  Now y = record { plan = w.plan; terms = w.terms; words = w.words; nodes = slice_set w.nodes i y; replies = w.replies }
+
+  -- ---- what a begin relies on
+
+  pub may_begin : IsShown w → living_refusal w.nodes n ≡ None → is_busy (seat_in d.node).local ≡ false → MayBegin w.plan w.terms d.node.seat.seat
+  may_begin shown alive rests =
+      let p : Setting = shown.shows.0 in let r : Run = shown.shows.1 in let shows : Shows p w r = shown.shows.2 in
+      record {
+        next = counted w.terms.first_number d.node.seat.seat.handles_made (seat_in d.node).handles_made (seat_in d.node).accesses
+            (made_alike d.node d.node.at)
+            (subst (λ (s : Seat). s.handles_made ≤ s.accesses) (seat_there p w.nodes n d there) (shows.stands.bounds.handles n))
+            (shown.kept n d there).few shown.numbers;
+        handles = handles_stand p w r n d shows shown.whole there alive rests (shown.kept n d there).tidy;
+      }
+    where
+      counted : (first own made accesses : ℕ) → made ≡ own → made ≤ accesses → accesses ≤ most_accesses → first + most_accesses < 2 ^ 64 → first + own < 2 ^ 64
+      counted first own made accesses is less few numbers = omega (arith, is, less, few, numbers)
+
+  -- with room it may have a handle more, in each setting of the plan
+  pub may_lend_there : IsShown w → living_refusal w.nodes n ≡ None → is_busy (seat_in d.node).local ≡ false → 0 < d.node.seat.room
+      → (p : Setting) → IsSettingWith w.plan w.terms p → (port : ℕ) → MayLend d.node.seat (next_handle p d.node.seat.seat) port
+  may_lend_there shown alive rests room p setting port =
+      let q : Setting = shown.shows.0 in
+      let same : next_handle q d.node.seat.seat ≡ next_handle p d.node.seat.seat
+      = ap (λ k. k + d.node.seat.seat.handles_made) (shown.shows.2.setting.first_number ∙ sym setting.first_number) in
+      subst (λ k. MayLend d.node.seat k port) same
+      (may_lend q w shown.shows.1 n d shown.shows.2 there alive (shown.kept n d there) rests room port)
+
+  -- ---- a begin
+
+  module _ (p : Setting) (r : Run) (shows : Shows p w r) (call : NodeCall) where
+    -- the machine refuses a call of a living node as its own tables tell
+    own_refusal : living_refusal w.nodes n ≡ None → begin_refusal r.last n (Port (call_in p call)) ≡ refusal_at p (seat_in d.node) (Port (call_in p call))
+    own_refusal alive =
+        refusals_are_shown p w r n (call_in p call) shows
+        ∙ ap (λ o. or_else (option_map refusal_in o) (refusal_at p (seat_of p w.nodes n) (Port (call_in p call)))) alive
+        ∙ ap (λ s. refusal_at p s (Port (call_in p call))) (seat_there p w.nodes n d there)
+
+    pub begun : (y : WireNode) → living_refusal w.nodes n ≡ None → (seat_in d.node).accesses ≤ most_accesses → HasBegun w.plan w.terms d call y
+        → BeginsCall p w n (Port (call_in p call)) (Now y)
+        × (c : Choice) × (after : Run) × GoesOnBy r (Begins n (Port (call_in p call)) c) after × Shows p (Now y) after
+    begun y alive few has =
+        begins_show p w (Now y) r n d y (Port (call_in p call)) shows
+        (own_refusal alive ∙ (has.begun p shows.setting).allowed) (words_are_whole p call) (omega (arith, few)) (replaced n w.nodes i d y at read has.number) has.alive
+        (has.begun p shows.setting).begun (λ pools. (has.begun p shows.setting).aimed (tells_of_pools p y.node.at (seat_in y.node).local pools)) refl refl refl refl
+
+  pub shown_begun : (call : NodeCall) (y : WireNode) → IsShown w → living_refusal w.nodes n ≡ None → HasBegun w.plan w.terms d call y → IsShown (Now y)
+  shown_begun call y shown alive has =
+      let p : Setting = shown.shows.0 in
+      let b = begun p shown.shows.1 shown.shows.2 call y alive (shown.kept n d there).few has in
+      record {
+        shows = (p, b.2, b.4);
+        whole = shown.whole;
+        numbers = shown.numbers;
+        kept = kept_still w.nodes n d y (slice_set w.nodes i y) (replaced n w.nodes i d y at read has.number) shown.kept
+            (kept_begun p d.node y.node (Port (call_in p call)) (shown.kept n d there) (has.begun p shown.shows.2.setting).begun has.ready);
+      }
+
+  -- ---- a refusal
+
+  -- what the node begins not yet, the wire does not
+  left_out : (call : NodeCall) → nodes.IsLeftOut w.plan (seat_in d.node) call → IsLeftOut w n call
+  left_out (SendCopy k y) out = λ x here. subst (λ (z : WireNode). nodes.HasNoLane w.plan (seat_in z.node) k) (ap (λ o. option_map_or (λ z. z) o d) (sym there ∙ here)) out
+  left_out (Loan k e) out = absurd out
+  left_out (Write k y) out = absurd out
+  left_out (Send k) out = absurd out
+  left_out (Receive k) out = absurd out
+  left_out (HasRequests k) out = absurd out
+  left_out (Handle k h) out = absurd out
+
+  pub refused : (call : NodeCall) (error : NodeError) (refusal : WireRefusal) → living_refusal w.nodes n ≡ None → IsRefusedBy w.plan w.terms d call error
+      → (error ≡ errors.Unsupported → nodes.IsLeftOut w.plan (seat_in d.node) call)
+      → machine_refusal refusal ≡ node_refusal error → (refusal ≡ Unsupported → error ≡ errors.Unsupported) → IsBeginRefusal w n call refusal
+  refused call error refusal alive by out same so = record {
+    named = λ p r shows. own_refusal p r shows call alive ∙ by p shows.setting ∙ sym same;
+    left_out = λ is. left_out call (out (so is));
+  }
+
+  -- ---- what is left
+
+  module _ (y : WireNode) (number : y.number ≡ d.number) (alive : y.alive ≡ d.alive) (left : IsUnchanged d.node y.node) where
+    puts : Replaces w.nodes n d y (slice_set w.nodes i y)
+    puts = replaced n w.nodes i d y at read number
+
+    seats_same : (p : Setting) (m : ℕ) (b : Bool) → (m == n) ≡ b → seat_of p (slice_set w.nodes i y) m ≡ seat_of p w.nodes m
+    seats_same p m true same =
+        ap (seat_of p (slice_set w.nodes i y)) (eqb-true m n same) ∙ seat_there p (slice_set w.nodes i y) n y puts.here ∙ left.place
+        ∙ sym (seat_there p w.nodes n d there) ∙ sym (ap (seat_of p w.nodes) (eqb-true m n same))
+    seats_same p m false other = ap (λ o. option_map_or (λ (z : WireNode). seat_in z.node) o (opened_seat p m)) (puts.others m other)
+
+    players_same : (p : Setting) (r : Run) (m : ℕ) → players_of p w.nodes r m ≡ players_of p (slice_set w.nodes i y) r m
+    players_same p r m = ap (λ (s : Seat). record { seat = s; said = (players_of p w.nodes r m).said }) (sym (seats_same p m (m == n) refl))
+
+    shows_left : (p : Setting) (r : Run) → Shows p w r → Shows p (Now y) r
+    shows_left p r shows = record {
+      setting = shows.setting;
+      stands = subst (λ (f : ℕ → Player). WireStands p w.words f r) (fun_ext (players_same p r)) shows.stands;
+      living = λ m. shows.living m ∙ ap (option_map refusal_in) (sym (same_living w.nodes n d y (slice_set w.nodes i y) puts alive m));
+      aimed = λ m z has. elim (cases_Bool (m == n)) [
+        | inl same ↦ (
+            let e : Some y ≡ Some z = sym puts.here ∙ sym (ap (λ k. node_at k (slice_set w.nodes i y)) (eqb-true m n same)) ∙ has in
+            subst (λ (v : WireNode). IsAimed p v.node) (ap (λ o. option_map_or (λ v. v) o z) e) (left.aimed p (shows.aimed n d there))
+            )
+        | inr other ↦ shows.aimed m z (sym (puts.others m other) ∙ has)
+      ];
+      replies = shows.replies;
+    }
+
+    pub shown_left : IsShown w → IsShown (Now y)
+    shown_left shown = record {
+      shows = (shown.shows.0, shown.shows.1, shows_left shown.shows.0 shown.shows.1 shown.shows.2);
+      whole = shown.whole;
+      numbers = shown.numbers;
+      kept = kept_still w.nodes n d y (slice_set w.nodes i y) puts shown.kept (kept_left d.node y.node left (shown.kept n d there));
+    }
+
+    seen_same : (m : ℕ) (b : Bool) → (m == n) ≡ b → option_map seen_of (node_at m (slice_set w.nodes i y)) ≡ option_map seen_of (node_at m w.nodes)
+    seen_same m true same =
+        ap (λ k. option_map seen_of (node_at k (slice_set w.nodes i y))) (eqb-true m n same) ∙ ap (option_map seen_of) puts.here ∙ ap Some seen
+        ∙ sym (ap (option_map seen_of) there) ∙ sym (ap (λ k. option_map seen_of (node_at k w.nodes)) (eqb-true m n same))
+      where
+        seen : seen_of y ≡ seen_of d
+        seen = three (λ (a : Bool) (s : Placed) (l : Local). (a, s, l)) alive left.seat (ap (λ (s : Seat). s.local) left.place)
+    seen_same m false other = ap (option_map seen_of) (puts.others m other)
+
+    left_alone : IsLeftAlone w (Now y)
+    left_alone = record { words = refl; replies = refl; nodes = λ m. seen_same m (m == n) refl; shows = shows_left }
+
+  pub shown_refused : (call : NodeCall) (y : WireNode) → StaysPut d call y → IsShown w → IsShown (Now y)
+  shown_refused call y stays shown = shown_left y stays.number stays.alive (left_unchanged call d.node y.node stays.node) shown
+
+  same_node : (y : WireNode) → y.number ≡ d.number → y.alive ≡ d.alive → y.node ≡ d.node → y ≡ d
+  same_node y number alive node = three (λ (a : ℕ) (b : Bool) (c : Node). record { number = a; alive = b; node = c }) number alive node
+
+  as_it_was : (y : WireNode) → y ≡ d → Now y ≡ w
+  as_it_was y same = ap (λ xs. record w { nodes = xs }) (unchanged_there w.nodes i d y read same)
+
+  -- the wire is as it was, but for a copy
+  pub left : (call : NodeCall) (y : WireNode) → StaysPut d call y → IsLeft call w (Now y)
+  left (SendCopy k z) y stays = left_alone y stays.number stays.alive stays.node
+  left (Loan k e) y stays = as_it_was y (same_node y stays.number stays.alive stays.node)
+  left (Write k z) y stays = as_it_was y (same_node y stays.number stays.alive stays.node)
+  left (Send k) y stays = as_it_was y (same_node y stays.number stays.alive stays.node)
+  left (Receive k) y stays = as_it_was y (same_node y stays.number stays.alive stays.node)
+  left (HasRequests k) y stays = as_it_was y (same_node y stays.number stays.alive stays.node)
+  left (Handle k h) y stays = as_it_was y (same_node y stays.number stays.alive stays.node)
+
+-- ---- what is left of a node that stays
+
+pub stays_put : (call : NodeCall) (old new : WireNode) → new ≡ old → StaysPut old call new
+stays_put call old new same = record {
+  node = left_as_it_was call old.node new.node (ap (λ (x : WireNode). x.node) same);
+  number = ap (λ (x : WireNode). x.number) same;
+  alive = ap (λ (x : WireNode). x.alive) same;
+}

@@ -1,0 +1,87 @@
+-- What a call of a node is asked as, and named.
+use Rattle.std.proofs.Common.{◌≡◌, ℕ, ◌+◌, None, [], refl, ap₂, sym, subst, ◌∙◌}
+use Rattle.iox_model.specs.declared.kind.Role.TheVariants.{Client}
+use Rattle.iox_model.specs.Commands.{Payload}
+use Rattle.iox_wire_begins.specs.HandleCalls.{HasRole, call_of}
+use Rattle.iox_wire_begins.specs.Asked.{Asked}
+use Rattle.iox_wire_begins.specs.Lendings.{next_handle}
+use Rattle.iox_wire_begins.specs.Tables.{Setting}
+use Rattle.iox_wire_begins.specs.Terms.{IsSettingWith}
+use Rattle.iox_wire_begins.specs.WirePlan.{WirePlan}
+use Rattle.iox_wire_begins.specs.WireTerms.{WireTerms}
+use Rattle.iox_wire_nodes.specs.declared.handle_call.HandleCall.{HandleCall}
+use Rattle.iox_wire_nodes.specs.declared.handle_call.HandleCall.TheVariants as handle_calls
+use Rattle.iox_wire_nodes.specs.declared.node_call.NodeCall.{NodeCall}
+use Rattle.iox_wire_nodes.specs.declared.node_call.NodeCall.TheVariants as node_calls
+use Rattle.iox_wire_nodes.specs.Begins.{IsLeftBy}
+use Rattle.iox_wire_nodes.specs.Calls.{asked_by, asked_in, call_in, number_in, of_handle, payload_of}
+use Rattle.iox_wire_nodes.specs.Nodes.{Node, seat_in}
+use Rattle.iox_wire_nodes.proofs.BesideLemmas.{handles_in, is_unchanged}
+
+-- no payload is asked
+abbrev pub none : Payload
+none = record { role = Client; elements = None; words = [] }
+
+-- the payload of a call, if it has one
+abbrev pub payload_in : Setting → NodeCall → Payload
+payload_in p (node_calls.Write n y) = payload_of p y
+payload_in p (node_calls.SendCopy n y) = payload_of p y
+payload_in p call = none
+
+pub handle_called : (h : HandleCall) (n : ℕ) (y : Payload) → call_of (asked_by h) n y ≡ of_handle h n
+handle_called handle_calls.Read n y = refl
+handle_called handle_calls.Release n y = refl
+handle_called handle_calls.IsConnected n y = refl
+handle_called handle_calls.SetHint n y = refl
+handle_called handle_calls.HasHint n y = refl
+handle_called handle_calls.HasResponse n y = refl
+
+pub handle_role : (h : HandleCall) (y : Payload) → HasRole (asked_by h) y
+handle_role handle_calls.Read y = tt
+handle_role handle_calls.Release y = tt
+handle_role handle_calls.IsConnected y = tt
+handle_role handle_calls.SetHint y = tt
+handle_role handle_calls.HasHint y = tt
+handle_role handle_calls.HasResponse y = tt
+
+-- the call is the one that is asked
+asked_so : (p : Setting) (call : NodeCall) → call_of (asked_in call) (number_in call) (payload_in p call) ≡ call_in p call
+asked_so p (node_calls.Loan n k) = refl
+asked_so p (node_calls.Write n y) = refl
+asked_so p (node_calls.Send n) = refl
+asked_so p (node_calls.SendCopy n y) = refl
+asked_so p (node_calls.Receive n) = refl
+asked_so p (node_calls.HasRequests n) = refl
+asked_so p (node_calls.Handle n h) = handle_called h n none
+
+its_role : (p : Setting) (call : NodeCall) → HasRole (asked_in call) (payload_in p call)
+its_role p (node_calls.Loan n k) = tt
+its_role p (node_calls.Write n y) = refl
+its_role p (node_calls.Send n) = tt
+its_role p (node_calls.SendCopy n y) = refl
+its_role p (node_calls.Receive n) = tt
+its_role p (node_calls.HasRequests n) = tt
+its_role p (node_calls.Handle n h) = handle_role h none
+
+-- as code has it
+module _ (p : Setting) (call : NodeCall) (asked : Asked) (number : ℕ) (asks : asked ≡ asked_in call) (names : number ≡ number_in call) where
+  pub called_so : call_of asked number (payload_in p call) ≡ call_in p call
+  called_so = ap₂ (λ a n. call_of a n (payload_in p call)) asks names ∙ asked_so p call
+
+  pub has_its_role : HasRole asked (payload_in p call)
+  has_its_role = subst (λ a. HasRole a (payload_in p call)) (sym asks) (its_role p call)
+
+-- the number of the node's next handle
+pub next_is : (plan : WirePlan) (t : WireTerms) (p : Setting) (n : Node) (next : ℕ) → IsSettingWith plan t p → next ≡ t.first_number + n.seat.seat.handles_made
+    → next ≡ next_handle p (seat_in n)
+next_is plan t p n next with is = is ∙ ap₂ (λ a b. a + b) (sym with.first_number) (sym (handles_in n.at n))
+
+-- a node that stays is left so by each begin
+pub left_as_it_was : (call : NodeCall) (old new : Node) → new ≡ old → IsLeftBy call old new
+left_as_it_was (node_calls.SendCopy n y) old new same = is_unchanged old new same
+left_as_it_was (node_calls.Loan n k) old new same = same
+left_as_it_was (node_calls.Write n y) old new same = same
+left_as_it_was (node_calls.Send n) old new same = same
+left_as_it_was (node_calls.Receive n) old new same = same
+left_as_it_was (node_calls.HasRequests n) old new same = same
+left_as_it_was (node_calls.Handle n h) old new same = same

@@ -1,0 +1,29 @@
+use Rattle.std.proofs.Common.{◌≡◌, Option, ℕ, subst, sym, ◌∙◌}
+use Rattle.iox_model.specs.declared.call.WireCall.TheVariants.{Port}
+use Rattle.iox_model.specs.declared.kind.Role.TheVariants.{Server}
+use Rattle.iox_wire_begins.specs.Begins.{refusal_at}
+use Rattle.iox_wire_begins.specs.HandleCalls.{refusal_in, write_of}
+use Rattle.iox_wire_nodes.specs.declared.node_call.NodeCall.{NodeCall}
+use Rattle.iox_wire_nodes.specs.Begins.{IsUnderWay}
+use Rattle.iox_wire_nodes.specs.Calls.{call_in}
+use Rattle.iox_wire_nodes.specs.Nodes.{seat_in}
+use Rattle.iox_wire_nodes.proofs.BesideLemmas.{is_under_way}
+use Rattle.iox_wire_nodes.proofs.CallLemmas.{none}
+use Rattle.iox_wire_nodes.proofs.NameLemmas.{elements_planned}
+use Rattle.iox_wire_nodes.proofs.node.StoredNode.begin_at_handle.Goals as goal
+
+pub begin_on_handle-requires-clause-header : goal.begin_on_handle-requires-clause-header
+begin_on_handle-requires-clause-header c = c.requires.plan.headers Server
+
+pub returns-in-HasRequests-clause-refused : goal.returns-in-HasRequests-clause-refused
+returns-in-HasRequests-clause-refused c p with =
+    subst (λ (k : NodeCall). refusal_at p (seat_in c.args.self.now) (Port (call_in p k)) ≡ refusal_in c.refuse_on_handle.result) (sym c.in-HasRequests.is)
+    (c.refuse_on_handle.ensures p none with.setting tt)
+
+pub returns-in_ok-begin_write-in-Write-clause-begun : goal.returns-in_ok-begin_write-in-Write-clause-begun
+returns-in_ok-begin_write-in-Write-clause-begun c p with =
+    subst (λ (k : NodeCall). IsUnderWay p c.args.self.now (Port (call_in p k)) c.begin_write.new.self) (sym c.in-Write.is)
+    (subst (λ (k : Option ℕ). IsUnderWay p c.args.self.now (write_of c.in-Write.number c.in-Write.payload.role k c.in-Write.payload.words.now) c.begin_write.new.self)
+    (c.elements_in-elements.ensures.elements ∙ elements_planned c.args.map.now c.args.terms.now p with c.in-Write.payload.role c.in-Write.payload.words.now)
+    (is_under_way p c.args.self.now (write_of c.in-Write.number c.in-Write.payload.role c.elements_in-elements.result c.in-Write.payload.words.now) c.begin_write.new.self
+    (c.in_ok-begin_write-in-Write.ensures.begun p with.setting)))
