@@ -1,7 +1,7 @@
 use Rattle.iox_model.specs.declared.reply.Reply.TheVariants.{Refused}
 use Rattle.iox_hub.specs.Asking.{refusal_of}
 use Rattle.iox_port_commands.proofs.Calling.{called}
-use Rattle.iox_port_commands.proofs.begins.begin.Goals as goal
+use Rattle.iox_port_commands.proofs.begins.begin_with_each_test.Goals as goal
 
 pub returns-in-Some-clause-refused : goal.returns-in-Some-clause-refused
 returns-in-Some-clause-refused g c =
