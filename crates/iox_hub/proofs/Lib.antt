@@ -45,3 +45,4 @@ pub mod ListingLemmas
 pub mod VisitLemmas
 pub mod ValueLemmas
 pub mod CleaningLemmas
+pub mod Ahead

@@ -21,7 +21,7 @@ use Rattle.iox_tables.specs.HubStates.Tables.{HandleState, HubTables, PortState}
 use Rattle.iox_tables.specs.HubStates.Wirings.{numbers_of_role}
 use Rattle.iox_control.specs.Entries.{handle_state, handles_of}
 use Rattle.iox_hub.specs.Hubs.{HubState, given_by, state_of_hub}
-use Rattle.iox_hub.specs.Listings.{handles_had, held_number, held_ports, ids_of_role, numbers_had, role_ids, role_number}
+use Rattle.iox_hub.specs.Listings.{handles_had, held_ports, ids_of_role, numbers_had, role_ids, role_number}
 use Rattle.iox_hub.proofs.Ascending.{first-ascending}
 
 -- ---- the state that a hub shows
@@ -38,7 +38,7 @@ listed_as {A} {B} f test number (x ∷ xs) = by_case (test (f x)) (listed_as f t
     by_case true rest = ap (λ ns. number (f x) ∷ ns) rest
     by_case false rest = rest
 
-all_as : {A B : Type 0} (f : A → B) (number : B → ℕ) (xs : List A) → map number (map f xs) ≡ map (λ a. number (f a)) xs
+pub all_as : {A B : Type 0} (f : A → B) (number : B → ℕ) (xs : List A) → map number (map f xs) ≡ map (λ a. number (f a)) xs
 all_as f number [] = refl
 all_as f number (x ∷ xs) = ap (λ ns. number (f x) ∷ ns) (all_as f number xs)
 
@@ -109,17 +109,6 @@ role-last role ps p =
     by_case true = refl
     by_case false = refl
 
-held-last : (node : ℕ) (ps : List PortState) (p : PortState)
-    → held_ports (ps ++ p ∷ []) node ≡ held_ports ps node ++ (if (p.node == node) && p.held then p.number ∷ [] else [])
-held-last node ps p =
-    ap (map (λ q. q.number)) (filter-append (λ q. (q.node == node) && q.held) ps (p ∷ []))
-    ∙ map-append (λ q. q.number) (filter (λ q. (q.node == node) && q.held) ps) (filter (λ q. (q.node == node) && q.held) (p ∷ []))
-    ∙ ap (λ ns. held_ports ps node ++ ns) (by_case ((p.node == node) && p.held))
-  where
-    by_case : (b : Bool) → map (λ (q : PortState). q.number) (if b then p ∷ [] else []) ≡ (if b then p.number ∷ [] else [])
-    by_case true = refl
-    by_case false = refl
-
 -- its number is listed, if it is of the role
 pub one_listed : (role : Role) (ports : List PortState) (at : ℕ) → at < length ports → (n : ℕ) → role_number role (info_at ports at) ≡ Some n
     → numbers_of_role role (take (at + 1) ports) ≡ numbers_of_role role (take at ports) ++ n ∷ []
@@ -144,18 +133,3 @@ none_listed role ports at low is =
         → numbers_of_role role (take at ports) ++ (if b then p.number ∷ [] else []) ≡ numbers_of_role role (take at ports)
     by_case p true e = absurd (none-some p.number (sym e))
     by_case p false e = append-nil (numbers_of_role role (take at ports))
-
--- the least so far
-pub one_held : (node : ℕ) (ports : List PortState) (at : ℕ) → at < length ports
-    → lesser (least (held_ports (take at ports) node)) (held_number node (info_at ports at)) ≡ least (held_ports (take (at + 1) ports) node)
-one_held node ports at low =
-    let next = next_port ports at low in
-    let before : List ℕ = held_ports (take at ports) node in
-    ap (λ o. lesser (least before) (held_number node o)) next.told
-    ∙ ap (lesser (least before)) (by_case next.port ((next.port.node == node) && next.port.held))
-    ∙ sym (least-append before _)
-    ∙ ap least (sym (held-last node (take at ports) next.port) ∙ ap (λ ps. held_ports ps node) (sym next.more))
-  where
-    by_case : (p : PortState) (b : Bool) → (if b then Some p.number else None) ≡ least (if b then p.number ∷ [] else [])
-    by_case p true = refl
-    by_case p false = refl

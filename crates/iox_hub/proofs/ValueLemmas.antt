@@ -16,7 +16,7 @@ use Rattle.iox_hub.proofs.Named.{found_is_handle}
 
 -- ---- of the tables, so of the state
 
-port_among : (ports : List PortState) (n : ℕ) (p : PortState) → port_in ports n ≡ Some p → IsAmong p ports × (p.number ≡ n)
+pub port_among : (ports : List PortState) (n : ℕ) (p : PortState) → port_in ports n ≡ Some p → IsAmong p ports × (p.number ≡ n)
 port_among [] n p e = absurd (none-some p e)
 port_among (q ∷ qs) n p e = step (q.number == n) refl e (port_among qs n p)
   where

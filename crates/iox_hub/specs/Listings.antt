@@ -1,11 +1,13 @@
 -- What a hub's tables list: the numbers and ids of the ports of a role, and the numbers of what a
 -- node has.
-use Rattle.std.specs.Prelude.{ℕ, ◌&&◌, if◌then◌else◌, ◌==◌, List, ◌++◌, map, filter, Option, Some, None}
+use Rattle.std.specs.Prelude.{◌≡◌, ℕ, true, ◌&&◌, if◌then◌else◌, ◌==◌, nat_le, List, [], ◌++◌, map, filter, Option, Some, None}
+use Rattle.std.specs.List.{list_all}
 use Rattle.iox_types.specs.declared.identifiers.system_id.UniqueSystemId.{UniqueSystemId}
 use Rattle.iox_model.specs.declared.kind.Role.{Role}
 use Rattle.iox_model.specs.Services.{ascending}
 use Rattle.iox_model.specs.Settings.{same_role}
 use Rattle.iox_model.specs.States.{Fixed}
+use Rattle.iox_handles.specs.declared.numbered.Numbered.{Numbered}
 use Rattle.iox_hub_ports.specs.declared.info.PortInfo.{PortInfo}
 use Rattle.iox_tables.specs.HubStates.Tables.{HandleState, HubTables, PortState}
 
@@ -45,3 +47,8 @@ role_number role (Some i) = if same_role i.role role then Some i.number else Non
 abbrev pub held_number : ℕ → Option PortInfo → Option ℕ
 held_number node None = None
 held_number node (Some i) = if (i.node == node) && i.held then Some i.number else None
+
+-- None of these numbers is less than that of what is ahead; there is none if nothing is ahead.
+abbrev pub NoneBefore : Option Numbered → List ℕ → Type 0
+NoneBefore None ns = ns ≡ []
+NoneBefore (Some ahead) ns = list_all (nat_le ahead.number) ns ≡ true

@@ -11,9 +11,12 @@ ghost use Rattle.iox_tables.specs.HubStates.States.{Given};
 ghost use Rattle.iox_control_releasing.specs.Goings.{StaysTidy};
 ghost use Rattle.iox_hub.specs.Hubs.{state_of_hub};
 ghost use Rattle.iox_hub.specs.Keeping.{Keeps, KeepsOthers};
+ghost use Rattle.iox_hub.specs.Listings.{NoneBefore, held_ports};
 ghost use Rattle.iox_hub.specs.Sending.{HasNothing};
 
 use crate::hub::Hub;
+use crate::listings::START;
+use iox_handles::Numbered;
 use iox_model::kind::Kind;
 use iox_store::Payload;
 use iox_words::Words;
@@ -50,6 +53,34 @@ impl<Q: Payload, QH: Words, P: Payload, PH: Words> Hub<Q, QH, P, PH> {
     }
 
     /// Releases the node's value of the least number, and tells that number; nothing is changed if
+    /// the node has none. None of the node's ports is before what is ahead, and afterwards what is
+    /// ahead is the first of them.
+    fn release_next(&mut self, node: u64, ahead: &mut Option<Numbered>) -> Option<u64>
+        requires before { NoneBefore ahead.old
+            (held_ports self.old.control.tables.ports node) }
+        ensures before { NoneBefore ahead.new (held_ports self.new.control.tables.ports node) }
+        ensures first { (x : Given)
+            → result ≡ first_of (numbers_of_node (state_of_hub x self.old).fixed node) }
+        ensures whole { IfSome result (λ n. (x : Given) → IsWholeCall (state_of_hub x self.old)
+            node (Release n) Done (state_of_hub x self.new)) }
+        ensures rest { (x : Given) → numbers_of_node (state_of_hub x self.new).fixed node
+            ≡ rest_of (numbers_of_node (state_of_hub x self.old).fixed node) }
+        ensures unchanged { result ≡ None → self.new ≡ self.old }
+        ensures keeps { IfSome result (λ n. KeepsOthers self.old node n self.new) }
+        ensures request { self.new.request ≡ self.old.request }
+        ensures response { self.new.response ≡ self.old.response }
+        ensures tidy { StaysTidy self.old.control.tables self.new.control.tables }
+    {
+        self.is_in_order();
+        let port = self.next_port(node, *ahead);
+        let value = self.first_value(node, port)?;
+        *ahead = port;
+        self.release_value(node, value.number, value.place);
+        self.is_in_order();
+        Some(value.number)
+    }
+
+    /// Releases the node's value of the least number, and tells that number; nothing is changed if
     /// the node has none. It takes no memory.
     pub fn release_first(&mut self, node: u64) -> Option<u64>
         ensures first { (x : Given)
@@ -64,15 +95,13 @@ impl<Q: Payload, QH: Words, P: Payload, PH: Words> Hub<Q, QH, P, PH> {
         ensures response { self.new.response ≡ self.old.response }
         ensures tidy { StaysTidy self.old.control.tables self.new.control.tables }
     {
-        self.is_in_order();
-        let value = self.first_value(node)?;
-        self.release_value(node, value.number, value.place);
-        Some(value.number)
+        let mut ahead = START;
+        self.release_next(node, &mut ahead)
     }
 
     /// Releases all that the node has, in the order of the numbers. It takes no memory, so it never
-    /// fails; beside what the releases do, it looks at all handles a few times in all, and at all
-    /// ports for each value.
+    /// fails; beside what the releases do, it looks at all handles and at all ports a few times in
+    /// all.
     pub fn release_all(&mut self, node: u64)
         ensures released { (x : Given) → Releases (state_of_hub x self.old) node
             (numbers_of_node (state_of_hub x self.old).fixed node) (state_of_hub x self.new) }
@@ -83,6 +112,7 @@ impl<Q: Payload, QH: Words, P: Payload, PH: Words> Hub<Q, QH, P, PH> {
         ensures response { self.new.response ≡ self.old.response }
         ensures tidy { StaysTidy self.old.control.tables self.new.control.tables }
     {
-        while let Some(_) = self.release_first(node) {}
+        let mut ahead = START;
+        while let Some(_) = self.release_next(node, &mut ahead) {}
     }
 }

@@ -42,38 +42,39 @@ fn dispatch<Q: Payload, QH: Words, P: Payload, PH: Words, H: Words, C>(
     ensures takes { OnErr result ((is_making command || is_read command) ≡ true) }
     ensures unchanged { OnErr result (StaysAs hub.old hub.new) }
 {
-    match command {
+    // One place for the replies of all calls: each place is cleared before it is filled.
+    Ok(match command {
         PortCommand::Client { node, id, options } => {
-            make(hub, alloc, node, Role::Client, id, options)
+            return make(hub, alloc, node, Role::Client, id, options);
         }
         PortCommand::Server { node, id, options } => {
-            make(hub, alloc, node, Role::Server, id, options)
+            return make(hub, alloc, node, Role::Server, id, options);
         }
+        PortCommand::Read { node, number } => return read(hub, alloc, node, number),
         PortCommand::Loan {
             node,
             number,
             elements,
-        } => Ok(loan(hub, node, number, elements)),
+        } => loan(hub, node, number, elements),
         PortCommand::Write {
             node,
             number,
             payload,
-        } => Ok(write(hub, node, number, &payload)),
-        PortCommand::Send { node, number } => Ok(send(hub, node, number)),
+        } => write(hub, node, number, &payload),
+        PortCommand::Send { node, number } => send(hub, node, number),
         PortCommand::SendCopy {
             node,
             number,
             payload,
-        } => Ok(send_copy(hub, node, number, &payload)),
-        PortCommand::Receive { node, number } => Ok(receive(hub, node, number)),
-        PortCommand::Read { node, number } => read(hub, alloc, node, number),
-        PortCommand::Release { node, number } => Ok(release(hub, node, number)),
-        PortCommand::IsConnected { node, number } => Ok(is_connected(hub, node, number)),
-        PortCommand::SetHint { node, number } => Ok(set_hint(hub, node, number)),
-        PortCommand::HasHint { node, number } => Ok(has_hint(hub, node, number)),
-        PortCommand::HasRequests { node, number } => Ok(has_requests(hub, node, number)),
-        PortCommand::HasResponse { node, number } => Ok(has_response(hub, node, number)),
-    }
+        } => send_copy(hub, node, number, &payload),
+        PortCommand::Receive { node, number } => receive(hub, node, number),
+        PortCommand::Release { node, number } => release(hub, node, number),
+        PortCommand::IsConnected { node, number } => is_connected(hub, node, number),
+        PortCommand::SetHint { node, number } => set_hint(hub, node, number),
+        PortCommand::HasHint { node, number } => has_hint(hub, node, number),
+        PortCommand::HasRequests { node, number } => has_requests(hub, node, number),
+        PortCommand::HasResponse { node, number } => has_response(hub, node, number),
+    })
 }
 
 /// Applies a command: makes a port, or calls what its number names. What cannot be done is refused,

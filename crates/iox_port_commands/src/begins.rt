@@ -1,5 +1,5 @@
 //! How calls by number begin.
-ghost use Rattle.std.specs.Prelude.{◌≡◌, ◌<◌, ◌^◌, IfErr, IfOk, OnOk, false, true};
+ghost use Rattle.std.specs.Prelude.{◌≡◌, ◌<◌, ◌^◌, ◌⊎◌, IfErr, IfOk, IfSome, OnOk, false, true};
 ghost use Rattle.iox_model.specs.Commands.{Call, number_of};
 ghost use Rattle.iox_model.specs.Names.{suits};
 ghost use Rattle.iox_model.specs.WholeCalls.{is_counted};
@@ -18,9 +18,60 @@ use iox_words::Words;
 /// Where handles are looked for first: nowhere, since a command names no place.
 pub(crate) const NOWHERE: usize = usize::MAX;
 
-/// Of what kind the node's value of that number is, of which that may be asked. Where it may not,
-/// the call is answered with the first reason, and nothing changes.
+/// The count of calls at which no further one is counted.
+const SPENT: u64 = 1 << 56;
+
+/// Of what kind the node's value of that number is, of which that may be asked, where it is one of
+/// these two and calls can still be counted.
+#[inline]
+fn begin_at_once<Q: Payload, QH: Words, P: Payload, PH: Words>(
+    hub: &Hub<Q, QH, P, PH>,
+    node: u64,
+    number: u64,
+    one: Kind,
+    other: Kind,
+) -> Option<Kind>
+    ensures has { IfSome result (λ kind. HasValue hub.now node number kind) }
+    ensures suits { IfSome result (λ kind. (kind ≡ one) ⊎ (kind ≡ other)) }
+    ensures calls { IfSome result (λ kind. hub.now.control.tables.calls < 2 ^ 56) }
+{
+    let kind = hub.kind(node, number, NOWHERE)?;
+    if (kind == one || kind == other) && hub.calls() < SPENT {
+        return Some(kind);
+    }
+    None
+}
+
+/// Of what kind the node's value of that number is, of which that may be asked, as of values of
+/// these two kinds. Where it may not, the call is answered with the first reason, and nothing
+/// changes.
 pub(crate) fn begin<Q: Payload, QH: Words, P: Payload, PH: Words, C>(
+    hub: &Hub<Q, QH, P, PH>,
+    node: u64,
+    number: u64,
+    asked: Asked,
+    one: Kind,
+    other: Kind,
+) -> Result<Kind, PortReply<Vec<u64>, C>>
+    requires one { suits false (call_of number asked) one ≡ true }
+    requires other { suits false (call_of number asked) other ≡ true }
+    ensures refused { IfErr result (λ reply. (call : Call) → number_of call ≡ number
+        → asked_of call ≡ asked → IsCalled hub.now node call reply hub.now) }
+    ensures memory { IfErr result (λ reply. tells_want reply ≡ false) }
+    ensures has { IfOk result (λ kind. HasValue hub.now node number kind) }
+    ensures suits { IfOk result (λ kind. suits false (call_of number asked) kind ≡ true) }
+    ensures calls { OnOk result (is_counted (call_of number asked) ≡ true
+        → hub.now.control.tables.calls < 2 ^ 56) }
+{
+    match begin_at_once(hub, node, number, one, other) {
+        Some(kind) => Ok(kind),
+        None => begin_with_each_test(hub, node, number, asked),
+    }
+}
+
+/// The same of any kind.
+#[inline(never)]
+fn begin_with_each_test<Q: Payload, QH: Words, P: Payload, PH: Words, C>(
     hub: &Hub<Q, QH, P, PH>,
     node: u64,
     number: u64,

@@ -28,7 +28,14 @@ pub fn copy_request<Q: Payload, QH: Words, P: Payload, PH: Words, C>(
         (flat_map Q.Element.words values.now))) result hub.new }
     ensures memory { tells_want result ≡ false }
 {
-    match begin(hub, node, number, Asked::SendCopy(Role::Client)) {
+    match begin(
+        hub,
+        node,
+        number,
+        Asked::SendCopy(Role::Client),
+        Kind::Client,
+        Kind::Client,
+    ) {
         Ok(Kind::Client) => copied(hub.copy_request(node, number, values)),
         Ok(_) => unreachable!(),
         Err(reply) => reply,
@@ -47,7 +54,14 @@ pub fn copy_response<Q: Payload, QH: Words, P: Payload, PH: Words, C>(
         (flat_map P.Element.words values.now))) result hub.new }
     ensures memory { tells_want result ≡ false }
 {
-    match begin(hub, node, number, Asked::SendCopy(Role::Server)) {
+    match begin(
+        hub,
+        node,
+        number,
+        Asked::SendCopy(Role::Server),
+        Kind::ActiveRequest,
+        Kind::ActiveRequest,
+    ) {
         Ok(Kind::ActiveRequest) => answered(hub.copy_response(node, number, NOWHERE, values)),
         Ok(_) => unreachable!(),
         Err(reply) => reply,

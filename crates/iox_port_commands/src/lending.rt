@@ -24,7 +24,14 @@ pub(crate) fn loan<Q: Payload, QH: Words, P: Payload, PH: Words, C>(
     ensures memory { tells_want result ≡ false }
 {
     let count = elements as usize;
-    match begin(hub, node, number, Asked::Loan) {
+    match begin(
+        hub,
+        node,
+        number,
+        Asked::Loan,
+        Kind::Client,
+        Kind::ActiveRequest,
+    ) {
         Ok(Kind::Client) => lent(hub.lend_request(node, number, count, false)),
         Ok(Kind::ActiveRequest) => lent(hub.lend_response(node, number, NOWHERE, count, false)),
         Ok(_) => unreachable!(),

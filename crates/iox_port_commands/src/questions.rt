@@ -20,7 +20,14 @@ pub(crate) fn is_connected<Q: Payload, QH: Words, P: Payload, PH: Words, C>(
     ensures whole { IsCalled hub.now node (IsConnected number) result hub.now }
     ensures memory { tells_want result ≡ false }
 {
-    match begin(hub, node, number, Asked::IsConnected) {
+    match begin(
+        hub,
+        node,
+        number,
+        Asked::IsConnected,
+        Kind::PendingResponse,
+        Kind::ActiveRequest,
+    ) {
         Ok(_) => PortReply::Answer(hub.is_connected(node, number, NOWHERE)),
         Err(reply) => reply,
     }
@@ -36,7 +43,14 @@ pub(crate) fn set_hint<Q: Payload, QH: Words, P: Payload, PH: Words, C>(
     ensures whole { IsCalled hub.old node (SetHint number) result hub.new }
     ensures memory { tells_want result ≡ false }
 {
-    match begin(hub, node, number, Asked::SetHint) {
+    match begin(
+        hub,
+        node,
+        number,
+        Asked::SetHint,
+        Kind::PendingResponse,
+        Kind::PendingResponse,
+    ) {
         Ok(Kind::PendingResponse) => {
             hub.set_hint(node, number, NOWHERE);
             PortReply::Done
@@ -55,7 +69,14 @@ pub(crate) fn has_hint<Q: Payload, QH: Words, P: Payload, PH: Words, C>(
     ensures whole { IsCalled hub.now node (HasHint number) result hub.now }
     ensures memory { tells_want result ≡ false }
 {
-    match begin(hub, node, number, Asked::HasHint) {
+    match begin(
+        hub,
+        node,
+        number,
+        Asked::HasHint,
+        Kind::ActiveRequest,
+        Kind::ActiveRequest,
+    ) {
         Ok(Kind::ActiveRequest) => PortReply::Answer(hub.has_hint(node, number, NOWHERE)),
         Ok(_) => unreachable!(),
         Err(reply) => reply,
@@ -71,7 +92,14 @@ pub(crate) fn has_requests<Q: Payload, QH: Words, P: Payload, PH: Words, C>(
     ensures whole { IsCalled hub.now node (HasRequests number) result hub.now }
     ensures memory { tells_want result ≡ false }
 {
-    match begin(hub, node, number, Asked::HasRequests) {
+    match begin(
+        hub,
+        node,
+        number,
+        Asked::HasRequests,
+        Kind::Server,
+        Kind::Server,
+    ) {
         Ok(Kind::Server) => PortReply::Answer(hub.has_requests(node, number)),
         Ok(_) => unreachable!(),
         Err(reply) => reply,
@@ -87,7 +115,14 @@ pub(crate) fn has_response<Q: Payload, QH: Words, P: Payload, PH: Words, C>(
     ensures whole { IsCalled hub.now node (HasResponse number) result hub.now }
     ensures memory { tells_want result ≡ false }
 {
-    match begin(hub, node, number, Asked::HasResponse) {
+    match begin(
+        hub,
+        node,
+        number,
+        Asked::HasResponse,
+        Kind::PendingResponse,
+        Kind::PendingResponse,
+    ) {
         Ok(Kind::PendingResponse) => { PortReply::Answer(hub.has_response(node, number, NOWHERE)) }
         Ok(_) => unreachable!(),
         Err(reply) => reply,

@@ -65,7 +65,14 @@ pub fn read<Q: Payload, QH: Words, P: Payload, PH: Words, C>(
     ensures memory { IfOk result (λ reply. tells_want reply ≡ false) }
     ensures wanting { OnErr result (LacksMemory hub.now node (Use (Read number)) hub.now) }
 {
-    match begin(hub, node, number, Asked::Read) {
+    match begin(
+        hub,
+        node,
+        number,
+        Asked::Read,
+        Kind::ActiveRequest,
+        Kind::Response,
+    ) {
         Ok(Kind::RequestMut | Kind::PendingResponse | Kind::ActiveRequest) => {
             read_request(hub, alloc, node, number)
         }

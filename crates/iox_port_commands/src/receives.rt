@@ -21,7 +21,14 @@ pub fn receive<Q: Payload, QH: Words, P: Payload, PH: Words, C>(
     ensures whole { IsCalled hub.old node (Receive number) result hub.new }
     ensures memory { tells_want result ≡ false }
 {
-    match begin(hub, node, number, Asked::Receive) {
+    match begin(
+        hub,
+        node,
+        number,
+        Asked::Receive,
+        Kind::Server,
+        Kind::PendingResponse,
+    ) {
         Ok(Kind::Server) => received(hub.receive_request(node, number)),
         Ok(Kind::PendingResponse) => received(hub.receive_response(node, number, NOWHERE)),
         Ok(_) => unreachable!(),

@@ -20,7 +20,14 @@ pub(crate) fn release<Q: Payload, QH: Words, P: Payload, PH: Words, C>(
     ensures whole { IsCalled hub.old node (Release number) result hub.new }
     ensures memory { tells_want result ≡ false }
 {
-    match begin(hub, node, number, Asked::Release) {
+    match begin(
+        hub,
+        node,
+        number,
+        Asked::Release,
+        Kind::ActiveRequest,
+        Kind::Response,
+    ) {
         Ok(Kind::Client | Kind::Server) => {
             hub.release_port(node, number);
             PortReply::Done

@@ -21,7 +21,14 @@ pub(crate) fn send<Q: Payload, QH: Words, P: Payload, PH: Words, C>(
     ensures whole { IsCalled hub.old node (Send number) result hub.new }
     ensures memory { tells_want result ≡ false }
 {
-    match begin(hub, node, number, Asked::Send) {
+    match begin(
+        hub,
+        node,
+        number,
+        Asked::Send,
+        Kind::RequestMut,
+        Kind::ResponseMut,
+    ) {
         Ok(Kind::RequestMut) => requested(hub.send_request(node, number, NOWHERE)),
         Ok(Kind::ResponseMut) => responded(hub.send_response(node, number, NOWHERE)),
         Ok(_) => unreachable!(),

@@ -23,7 +23,11 @@ pub(crate) fn words_of<H: Words, E: Words>(
 ) -> Result<Vec<u64>, AllocError>
     ensures { IfOk result (λ list. list.items ≡ H.words header.now ++ flat_map E.words values.now) }
 {
-    let mut list = Vec::new(alloc);
+    let count = values
+        .len()
+        .saturating_mul(E::WORDS)
+        .saturating_add(H::WORDS);
+    let mut list = Vec::with_capacity(alloc, count)?;
     push_words(&mut list, *header)?;
     for value in values {
         push_words(&mut list, *value)?;

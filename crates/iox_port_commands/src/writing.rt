@@ -11,7 +11,7 @@ use crate::answers::written;
 use crate::begins::{NOWHERE, begin};
 use crate::elements::Elements;
 use iox_hub::{Asked, Hub};
-use iox_model::kind::Role;
+use iox_model::kind::{Kind, Role};
 use iox_model::reply::PortReply;
 use iox_store::Payload;
 use iox_words::Words;
@@ -28,7 +28,14 @@ fn write_request<Q: Payload, QH: Words, P: Payload, PH: Words, C>(
         (flat_map Q.Element.words values.now))) result hub.new }
     ensures memory { tells_want result ≡ false }
 {
-    match begin(hub, node, number, Asked::Write(Role::Client)) {
+    match begin(
+        hub,
+        node,
+        number,
+        Asked::Write(Role::Client),
+        Kind::RequestMut,
+        Kind::RequestMutUninit,
+    ) {
         Ok(_) => written(hub.write_request(node, number, NOWHERE, values)),
         Err(reply) => reply,
     }
@@ -46,7 +53,14 @@ fn write_response<Q: Payload, QH: Words, P: Payload, PH: Words, C>(
         (flat_map P.Element.words values.now))) result hub.new }
     ensures memory { tells_want result ≡ false }
 {
-    match begin(hub, node, number, Asked::Write(Role::Server)) {
+    match begin(
+        hub,
+        node,
+        number,
+        Asked::Write(Role::Server),
+        Kind::ResponseMut,
+        Kind::ResponseMutUninit,
+    ) {
         Ok(_) => written(hub.write_response(node, number, NOWHERE, values)),
         Err(reply) => reply,
     }

@@ -100,6 +100,7 @@ fn push_refused(out: &mut Vec<u8>, name: &str) -> Result<(), AllocError>
     out.extend_from_slice(name.as_bytes())
 }
 
+#[inline(always)]
 fn push_listed(out: &mut Vec<u8>, name: &[u8], numbers: &[u64]) -> Result<(), AllocError>
     ensures written { OnOk result
         (out.new.items ≡ out.old.items ++ (name.now ++ flat_map spaced numbers.now)) }
@@ -112,6 +113,7 @@ fn push_listed(out: &mut Vec<u8>, name: &[u8], numbers: &[u64]) -> Result<(), Al
     Ok(())
 }
 
+#[inline(always)]
 fn push_named(out: &mut Vec<u8>, name: &[u8], number: u64) -> Result<(), AllocError>
     ensures written { OnOk result (out.new.items ≡ out.old.items ++ (name.now ++ spaced number)) }
     ensures begun { take (length out.old.items) out.new.items ≡ out.old.items }

@@ -77,7 +77,10 @@ impl Session {
         }
     }
 
-    /// Plays a command before the service is created.
+    /// Plays a command before the service is created. It is a call of its own, so that no other
+    /// command makes room for a service.
+    #[cold]
+    #[inline(never)]
     fn prepare(&mut self, alloc: Global, command: ScriptCommand) -> Result<ScriptReply, AllocError>
         requires none { self.old.service ≡ None }
         ensures played { IfOk result (λ reply.

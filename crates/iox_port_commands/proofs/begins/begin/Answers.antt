@@ -1,10 +1,12 @@
-use Rattle.iox_model.specs.declared.reply.Reply.TheVariants.{Refused}
-use Rattle.iox_hub.specs.Asking.{refusal_of}
-use Rattle.iox_port_commands.proofs.Calling.{called}
+use Rattle.std.specs.Prelude.{◌≡◌, false, true}
+use Rattle.std.proofs.Common.{inl, inr, subst, sym}
+use Rattle.iox_model.specs.declared.kind.Kind.{Kind}
+use Rattle.iox_model.specs.Names.{suits}
+use Rattle.iox_hub.specs.Asking.{call_of}
 use Rattle.iox_port_commands.proofs.begins.begin.Goals as goal
 
-pub returns-in-Some-clause-refused : goal.returns-in-Some-clause-refused
-returns-in-Some-clause-refused g c =
-    λ call named what.
-    called c.args.hub.now c.args.hub.now c.args.node call c.not_begun.result (Refused (refusal_of c.in-Some.reason)) c.not_begun.ensures.reply
-    (λ x. c.refusal.ensures.whole x call named what c.in-Some.reason c.in-Some.is)
+pub returns-in-Some-clause-suits : goal.returns-in-Some-clause-suits
+returns-in-Some-clause-suits g c = elim c.in-Some.ensures.suits as (λ u. suits false (call_of c.args.number c.args.asked) c.in-Some.kind ≡ true) [
+  | inl e ↦ subst (λ (kind : Kind). suits false (call_of c.args.number c.args.asked) kind ≡ true) (sym e) c.requires.one
+  | inr e ↦ subst (λ (kind : Kind). suits false (call_of c.args.number c.args.asked) kind ≡ true) (sym e) c.requires.other
+]

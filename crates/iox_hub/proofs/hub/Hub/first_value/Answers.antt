@@ -1,4 +1,4 @@
-use Rattle.std.proofs.Common.{ap, ap₂, subst, sym, ◌∙◌}
+use Rattle.std.proofs.Common.{ap, ap₂, refl, subst, sym, ◌∙◌}
 use Rattle.std.specs.Option.{option_map}
 use Rattle.iox_handles.specs.Least.{lesser}
 use Rattle.iox_handles.specs.declared.numbered.Numbered.{Numbered}
@@ -9,9 +9,8 @@ use Rattle.iox_hub.proofs.hub.Hub.first_value.Goals as goal
 
 pub returns-clause-first : goal.returns-clause-first
 returns-clause-first g c x =
-    c.lesser_value.ensures ∙ ap₂ lesser c.least_held-port.ensures c.first_handle-handle.ensures.first
-    ∙ first_of_both x c.args.self.now c.args.node c.ports.result.now.ports c.self.inside.control.tables.handles
-    (c.ports.ensures.ports ∙ ap (λ (h : HubState). h.control.tables.ports) c.self.view_is)
+    c.lesser_value.ensures ∙ ap₂ lesser c.requires.port c.first_handle-handle.ensures.first
+    ∙ first_of_both x c.args.self.now c.args.node c.args.self.now.control.tables.ports c.self.inside.control.tables.handles refl
     (ap (λ (h : HubState). h.control.tables.handles) c.self.view_is)
 
 pub returns-clause-has : goal.returns-clause-has
