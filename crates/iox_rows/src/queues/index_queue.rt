@@ -106,28 +106,31 @@ fn pop_by_guard<const CAPACITY: usize>(queue: &mut FixedSizeIndexQueue<CAPACITY>
     consumer.pop()
 }
 
+/// What two pops by one guard answer.
+fn popped_by_guard(queue: &mut IndexQueue) -> (Option<u64>, Option<u64>) {
+    match queue.acquire_consumer() {
+        Some(mut consumer) => (consumer.pop(), consumer.pop()),
+        None => unreachable!(),
+    }
+}
+
+/// What pushes of 3, 4 and 5 by one guard answer.
+fn pushed_by_guard(queue: &mut FixedSizeIndexQueue<2>) -> (bool, bool, bool) {
+    match queue.acquire_producer() {
+        Some(mut producer) => (producer.push(3), producer.push(4), producer.push(5)),
+        None => unreachable!(),
+    }
+}
+
 #[test]
 fn guards_push_and_pop(rt: HostRuntime) -> Result<(), Fail> {
     let mut queue = IndexQueue::new(rt.alloc(), 1)?;
     holds(&rt, push_by_guard(&mut queue, 1));
     holds(&rt, !push_by_guard(&mut queue, 2));
-    match queue.acquire_consumer() {
-        Some(mut consumer) => {
-            equal(&rt, consumer.pop(), Some(1));
-            equal(&rt, consumer.pop(), None);
-        }
-        None => unreachable!(),
-    }
+    equal(&rt, popped_by_guard(&mut queue), (Some(1), None));
     holds(&rt, queue.is_empty());
     let mut fixed = FixedSizeIndexQueue::<2>::new(rt.alloc())?;
-    match fixed.acquire_producer() {
-        Some(mut producer) => {
-            holds(&rt, producer.push(3));
-            holds(&rt, producer.push(4));
-            holds(&rt, !producer.push(5));
-        }
-        None => unreachable!(),
-    }
+    equal(&rt, pushed_by_guard(&mut fixed), (true, true, false));
     equal(&rt, pop_by_guard(&mut fixed), Some(3));
     equal(&rt, pop_by_guard(&mut fixed), Some(4));
     Ok(())

@@ -118,24 +118,33 @@ fn pop_by_guard<const CAPACITY: usize>(
     consumer.pop()
 }
 
+/// What a pop by a guard answers.
+fn popped_by_guard(queue: &mut SafelyOverflowingIndexQueue) -> Option<u64> {
+    match queue.acquire_consumer() {
+        Some(mut consumer) => consumer.pop(),
+        None => unreachable!(),
+    }
+}
+
+/// What pushes of 3 and 4 by one guard answer.
+fn pushed_by_guard(
+    queue: &mut FixedSizeSafelyOverflowingIndexQueue<1>,
+) -> (Option<u64>, Option<u64>) {
+    match queue.acquire_producer() {
+        Some(mut producer) => (producer.push(3), producer.push(4)),
+        None => unreachable!(),
+    }
+}
+
 #[test]
 fn guards_push_and_pop(rt: HostRuntime) -> Result<(), Fail> {
     let mut queue = SafelyOverflowingIndexQueue::new(rt.alloc(), 1)?;
     equal(&rt, push_by_guard(&mut queue, 1), None);
     equal(&rt, push_by_guard(&mut queue, 2), Some(1));
-    match queue.acquire_consumer() {
-        Some(mut consumer) => equal(&rt, consumer.pop(), Some(2)),
-        None => unreachable!(),
-    }
+    equal(&rt, popped_by_guard(&mut queue), Some(2));
     equal(&rt, queue.pop(), None);
     let mut fixed = FixedSizeSafelyOverflowingIndexQueue::<1>::new(rt.alloc())?;
-    match fixed.acquire_producer() {
-        Some(mut producer) => {
-            equal(&rt, producer.push(3), None);
-            equal(&rt, producer.push(4), Some(3));
-        }
-        None => unreachable!(),
-    }
+    equal(&rt, pushed_by_guard(&mut fixed), (None, Some(3)));
     equal(&rt, pop_by_guard(&mut fixed), Some(4));
     equal(&rt, pop_by_guard(&mut fixed), None);
     Ok(())

@@ -1,3 +1,4 @@
+use crate::expected::{equal, holds};
 use iox_sets::mpmc::unique_index_set::{FixedSizeUniqueIndexSet, HeadDetails, UniqueIndexSet};
 use iox_sets::mpmc::unique_index_set_enums::{
     ReleaseMode, ReleaseState, UniqueIndexSetAcquireFailure, UniqueIndexSetNewError,
@@ -7,45 +8,60 @@ use std::test::Fail;
 #[test]
 fn a_capacity_of_zero_or_past_the_greatest_is_refused(rt: HostRuntime) -> Result<(), Fail> {
     let zero = UniqueIndexSet::new(rt.alloc(), 0);
-    assert_eq!(rt; zero.err(), Some(UniqueIndexSetNewError::CapacityIsZero));
+    equal(
+        &rt,
+        zero.err(),
+        Some(UniqueIndexSetNewError::CapacityIsZero),
+    );
     let large = UniqueIndexSet::new(rt.alloc(), (1 << 24) - 1);
-    assert_eq!(rt; large.err(), Some(UniqueIndexSetNewError::CapacityTooLarge));
+    equal(
+        &rt,
+        large.err(),
+        Some(UniqueIndexSetNewError::CapacityTooLarge),
+    );
     let reduced = FixedSizeUniqueIndexSet::<4>::new_with_reduced_capacity(rt.alloc(), 5);
-    assert_eq!(rt;
+    equal(
+        &rt,
         reduced.err(),
-        Some(UniqueIndexSetNewError::ExceedsCapacity)
+        Some(UniqueIndexSetNewError::ExceedsCapacity),
     );
     let text = UniqueIndexSetNewError::ExceedsCapacity.to_string(rt.alloc())?;
-    assert_eq!(rt; text.as_str(), "UniqueIndexSetNewError::ExceedsCapacity");
+    equal(
+        &rt,
+        text.as_str(),
+        "UniqueIndexSetNewError::ExceedsCapacity",
+    );
     Ok(())
 }
 
 #[test]
 fn the_last_that_was_given_back_is_taken_first(rt: HostRuntime) -> Result<(), Fail> {
     let mut set = UniqueIndexSet::new(rt.alloc(), 3)?;
-    assert_eq!(rt; set.capacity(), 3);
+    equal(&rt, set.capacity(), 3);
     let zero = set.acquire_raw_index()?;
     let one = set.acquire_raw_index()?;
     let two = set.acquire_raw_index()?;
-    assert_eq!(rt; [zero, one, two], [0, 1, 2]);
-    assert_eq!(rt;
+    equal(&rt, [zero, one, two], [0, 1, 2]);
+    equal(
+        &rt,
         set.acquire_raw_index(),
-        Err(UniqueIndexSetAcquireFailure::OutOfIndices)
+        Err(UniqueIndexSetAcquireFailure::OutOfIndices),
     );
     set.release_raw_index(zero, ReleaseMode::Default);
     set.release_raw_index(two, ReleaseMode::Default);
-    assert_eq!(rt; set.borrowed_indices(), 1);
+    equal(&rt, set.borrowed_indices(), 1);
     let again = set.acquire_raw_index()?;
-    assert_eq!(rt; again, 2);
+    equal(&rt, again, 2);
     let unlocked = set.release_raw_index(again, ReleaseMode::LockIfLastIndex);
-    assert_eq!(rt; unlocked, ReleaseState::Unlocked);
-    assert!(rt; !set.is_locked());
+    equal(&rt, unlocked, ReleaseState::Unlocked);
+    holds(&rt, !set.is_locked());
     let locked = set.release_raw_index(one, ReleaseMode::LockIfLastIndex);
-    assert_eq!(rt; locked, ReleaseState::Locked);
-    assert!(rt; set.is_locked());
-    assert_eq!(rt;
+    equal(&rt, locked, ReleaseState::Locked);
+    holds(&rt, set.is_locked());
+    equal(
+        &rt,
         set.acquire_raw_index(),
-        Err(UniqueIndexSetAcquireFailure::IsLocked)
+        Err(UniqueIndexSetAcquireFailure::IsLocked),
     );
     Ok(())
 }
@@ -55,26 +71,28 @@ fn the_last_index_locks_for_good(rt: HostRuntime) -> Result<(), Fail> {
     let mut set = FixedSizeUniqueIndexSet::<2>::new(rt.alloc())?;
     let index = set.acquire_raw_index()?;
     let state = set.release_raw_index(index, ReleaseMode::LockIfLastIndex);
-    assert_eq!(rt; state, ReleaseState::Locked);
-    assert!(rt; set.is_locked());
-    assert_eq!(rt;
+    equal(&rt, state, ReleaseState::Locked);
+    holds(&rt, set.is_locked());
+    equal(
+        &rt,
         set.acquire_raw_index(),
-        Err(UniqueIndexSetAcquireFailure::IsLocked)
+        Err(UniqueIndexSetAcquireFailure::IsLocked),
     );
     let text = UniqueIndexSetAcquireFailure::IsLocked.to_string(rt.alloc())?;
-    assert_eq!(rt; text.as_str(), "UniqueIndexSetAcquireFailure::IsLocked");
+    equal(&rt, text.as_str(), "UniqueIndexSetAcquireFailure::IsLocked");
     Ok(())
 }
 
 #[test]
 fn a_reduced_capacity_is_kept(rt: HostRuntime) -> Result<(), Fail> {
     let mut set = FixedSizeUniqueIndexSet::<4>::new_with_reduced_capacity(rt.alloc(), 2)?;
-    assert_eq!(rt; set.capacity(), 2);
-    assert_eq!(rt; set.acquire_raw_index(), Ok(0));
-    assert_eq!(rt; set.acquire_raw_index(), Ok(1));
-    assert_eq!(rt;
+    equal(&rt, set.capacity(), 2);
+    equal(&rt, set.acquire_raw_index(), Ok(0));
+    equal(&rt, set.acquire_raw_index(), Ok(1));
+    equal(
+        &rt,
         set.acquire_raw_index(),
-        Err(UniqueIndexSetAcquireFailure::OutOfIndices)
+        Err(UniqueIndexSetAcquireFailure::OutOfIndices),
     );
     Ok(())
 }
@@ -84,13 +102,13 @@ fn a_guard_gives_its_index_back(rt: HostRuntime) -> Result<(), Fail> {
     let mut set = UniqueIndexSet::new(rt.alloc(), 2)?;
     for _ in 0..3 {
         let index = set.acquire()?;
-        assert_eq!(rt; index.value(), 0);
+        equal(&rt, index.value(), 0);
     }
-    assert_eq!(rt; set.borrowed_indices(), 0);
+    equal(&rt, set.borrowed_indices(), 0);
     let mut fixed = FixedSizeUniqueIndexSet::<2>::new(rt.alloc())?;
     let value = fixed.acquire()?.value();
-    assert_eq!(rt; value, 0);
-    assert_eq!(rt; fixed.borrowed_indices(), 0);
+    equal(&rt, value, 0);
+    equal(&rt, fixed.borrowed_indices(), 0);
     Ok(())
 }
 
@@ -101,7 +119,7 @@ fn head_details_come_back(rt: HostRuntime) -> Result<(), Fail> {
         aba: 6789,
         borrowed_indices: 54321,
     };
-    assert_eq!(rt; details.value(), 0x0030_391A_8500_D431);
-    assert_eq!(rt; HeadDetails::from(0x0030_391A_8500_D431), details);
+    equal(&rt, details.value(), 0x0030_391A_8500_D431);
+    equal(&rt, HeadDetails::from(0x0030_391A_8500_D431), details);
     Ok(())
 }
