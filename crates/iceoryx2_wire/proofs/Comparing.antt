@@ -1,5 +1,7 @@
 -- Creators and openers are asked what the description says, and a refused open keeps the state.
 use Rattle.std.specs.Prelude.{◌≡◌, ℕ, List, Option, Some, None, Result, Ok, Err, OnErr, refl}
+use Rattle.std.specs.declared.convert.Infallible.{Infallible}
+use Rattle.std.specs.declared.vec.Vec.{Vec}
 use Rattle.std.proofs.Common.{subst, sym}
 use Rattle.iox_types.specs.declared.identifiers.system_id.UniqueSystemId.{UniqueSystemId}
 use Rattle.iox_attributes.specs.Verifiers.{Requirements}
@@ -8,8 +10,10 @@ use Rattle.iox_model.specs.declared.command.Command.TheVariants as commands
 use Rattle.iox_model.specs.declared.command.PortCommand as the_port_command
 use Rattle.iox_model.specs.declared.reply.Refusal as the_refusal
 use Rattle.iox_model.specs.declared.reply.Reply.TheVariants as replies
-use Rattle.iox_model.specs.Commands.{Refusal, Reply}
+use Rattle.iox_model.specs.declared.reply.Reply as the_reply
+use Rattle.iox_model.specs.Commands.{Cause, Refusal, Reply}
 use Rattle.iox_model.specs.Joins.{opening_refusal}
+use Rattle.iox_model.specs.Services.{IsCommand}
 use Rattle.iox_model.specs.Settings.{Limits}
 use Rattle.iox_model.specs.States.{State}
 use Rattle.iox_service_laws.specs.MessageShape.{MessageShape}
@@ -23,6 +27,7 @@ use Rattle.iox_service_laws.specs.Elements.{Elements}
 use Rattle.iox_service_laws.specs.Served.{IsCreated, IsJoin, IsPortAnswered}
 use Rattle.iox_service_laws.specs.Shown.{ServiceTables}
 use Rattle.iox_service_laws.specs.Shown as nodes
+use Rattle.iceoryx2_wire.specs.Replies.{IsSameReply}
 use Rattle.iceoryx2_wire.specs.Services.{DescribedService, IsMade, IsOpened}
 use Rattle.iceoryx2_wire.specs.Serving.{IsAnswered, OpenCommand, OpenReply}
 use Rattle.iceoryx2_wire.specs.declared.identity.ServiceIdentity.{ServiceIdentity}
@@ -87,3 +92,14 @@ pub port_answered :
     → command ≡ commands.Port at_port → IsPortAnswered q p w s at_port reply s' → IsAnswered q p w d s command reply s'
 port_answered q p w d s s' command at_port reply is done =
     subst (λ k. IsAnswered q p w d s k reply s') (sym is) (commands.Port (command_for q p w at_port), refl, done cause_of)
+
+-- no attribute is named where there is no room for one
+no_cause : Infallible → Cause
+no_cause cause = elim cause [ ]
+
+-- what is answered without room for an attribute is answered so with it
+pub with_room : {Q P H Z : Type 0} (q : Q → List ℕ) (p : P → List ℕ) (words : H → List ℕ) (s s' : State)
+    (command : the_port_command.PortCommand (Elements Q P) H) (reply : the_reply.Reply (Vec ℕ Z) Infallible) (other : OpenReply Z)
+    → IsSameReply reply other → IsPortAnswered q p words s command reply s' → IsPortAnswered q p words s command other s'
+with_room q p words s s' command reply other same answered cause =
+    subst (λ r. IsCommand s (commands.Port (command_for q p words command)) r s') (sym (same no_cause cause)) (answered no_cause)

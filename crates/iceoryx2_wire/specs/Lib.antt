@@ -35,3 +35,4 @@ pub use Rattle.iox_openers.specs.declared.service_description.ServiceDescription
 pub mod Services
 pub mod OwnTypes
 pub mod Serving
+pub mod Replies

@@ -3,6 +3,7 @@ ghost use Rattle.std.specs.Prelude.{◌≡◌};
 ghost use Rattle.iox_service_laws.specs.Served.{IsPortAnswered};
 ghost use Rattle.iceoryx2_wire.specs.Services.{service_of};
 
+use crate::replies::reply_of;
 use crate::service::Service;
 use iox_attributes::AttributeVerificationError;
 use iox_model::command::PortCommand;
@@ -27,6 +28,6 @@ impl<Q: Payload, QH: Words, P: Payload, PH: Words> Service<Q, QH, P, PH> {
         ensures says { self.new.description ≡ self.old.description }
         ensures identity { self.new.identity ≡ self.old.identity }
     {
-        self.nodes.port(alloc, command)
+        reply_of(self.nodes.port(alloc, command))
     }
 }

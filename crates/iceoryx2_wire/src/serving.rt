@@ -1,12 +1,15 @@
 //! Commands one after another, and what they are answered.
-ghost use Rattle.std.specs.Prelude.{◌≡◌, ◌+◌, ◌<◌, List, IfOk, OnErr, OnOk, true, vec_len, ℕ};
+ghost use Rattle.std.specs.Prelude.{◌≡◌, ◌+◌, ◌<◌, List, IfOk, OnErr, OnOk, true};
+ghost use Rattle.std.specs.Prelude.{vec_capacity, vec_len, ℕ};
 ghost use Rattle.iox_openers.specs.Causes.{cause_of};
 ghost use Rattle.iox_service_laws.specs.Given.{command_given, is_listing};
+ghost use Rattle.iceoryx2_wire.specs.Replies.{IsAnsweredBehind};
 ghost use Rattle.iceoryx2_wire.specs.Services.{service_of};
 ghost use Rattle.iceoryx2_wire.specs.Serving.{IsAnswered, IsAnsweredWithMemory, IsGivenAs};
 ghost use Rattle.iceoryx2_wire.specs.Serving.{IsRunOf, MayFindNoMemory};
 
 use crate::opener::Opener;
+use crate::replies::reply_of;
 use crate::service::Service;
 use iox_attributes::AttributeVerificationError;
 use iox_model::command::Command;
@@ -84,7 +87,7 @@ impl<Q: Payload, QH: Words, P: Payload, PH: Words> Service<Q, QH, P, PH> {
         ensures listing { OnErr result (is_listing command.entry ≡ true) }
     {
         match command {
-            Command::Port(command) => Ok(self.nodes.port(alloc, command)),
+            Command::Port(command) => Ok(self.port(alloc, command)),
             command => self.serve_compared(alloc, command),
         }
     }
@@ -104,6 +107,58 @@ impl<Q: Payload, QH: Words, P: Payload, PH: Words> Service<Q, QH, P, PH> {
     {
         let command = compared(&self.description, command);
         self.nodes.serve(alloc, command)
+    }
+
+    /// Answers a command, and puts the reply behind the others, for which there is room. It fails
+    /// only for want of memory for a listing, and changes nothing then.
+    fn answer<H: Words>(
+        &mut self,
+        alloc: Global,
+        command: Command<Elements<Q::Element, P::Element>, H, &Opener>,
+        replies: &mut Vec<Reply<Vec<u64>, AttributeVerificationError>>,
+    ) -> Result<(), AllocError>
+        requires room { vec_len replies.old < vec_capacity replies.old }
+        ensures answered { OnOk result (IsAnsweredBehind Q.Element.words P.Element.words
+            H.words self.old.description (service_of self.old) command.entry replies.old.items
+            replies.new.items (service_of self.new)) }
+        ensures length { OnOk result (vec_len replies.new ≡ vec_len replies.old + 1) }
+        ensures says { self.new.description ≡ self.old.description }
+        ensures identity { self.new.identity ≡ self.old.identity }
+        ensures unchanged { OnErr result (self.new ≡ self.old) }
+        ensures kept { OnErr result (replies.new ≡ replies.old) }
+    {
+        match command {
+            Command::Port(command) => {
+                let reply = self.nodes.port(alloc, command);
+                replies.push_reserved(reply_of(reply));
+                Ok(())
+            }
+            command => self.answer_compared(alloc, command, replies),
+        }
+    }
+
+    /// The same of any command, at a greater cost for one of a port or a handle. It is a call of
+    /// its own, so that the others make no room for a reply once more.
+    #[inline(never)]
+    fn answer_compared<H: Words>(
+        &mut self,
+        alloc: Global,
+        command: Command<Elements<Q::Element, P::Element>, H, &Opener>,
+        replies: &mut Vec<Reply<Vec<u64>, AttributeVerificationError>>,
+    ) -> Result<(), AllocError>
+        requires room { vec_len replies.old < vec_capacity replies.old }
+        ensures answered { OnOk result (IsAnsweredBehind Q.Element.words P.Element.words
+            H.words self.old.description (service_of self.old) command.entry replies.old.items
+            replies.new.items (service_of self.new)) }
+        ensures length { OnOk result (vec_len replies.new ≡ vec_len replies.old + 1) }
+        ensures says { self.new.description ≡ self.old.description }
+        ensures identity { self.new.identity ≡ self.old.identity }
+        ensures unchanged { OnErr result (self.new ≡ self.old) }
+        ensures kept { OnErr result (replies.new ≡ replies.old) }
+    {
+        let reply = self.serve_compared(alloc, command)?;
+        replies.push_reserved(reply);
+        Ok(())
     }
 
     /// Answers commands one after another, and puts each reply behind the others. It ends before
@@ -127,8 +182,7 @@ impl<Q: Payload, QH: Words, P: Payload, PH: Words> Service<Q, QH, P, PH> {
     {
         for command in commands {
             replies.reserve(1)?;
-            let reply = self.serve(alloc, command)?;
-            replies.push_reserved(reply);
+            self.answer(alloc, command, replies)?;
         }
         Ok(())
     }

@@ -1,7 +1,8 @@
 //! What a hub tells of its service: its settings, its ports by role, and what a node has.
 ghost use Rattle.std.specs.List.{list_all};
 ghost use Rattle.std.specs.Option.{option_map, option_map_or};
-ghost use Rattle.std.specs.Prelude.{◌≡◌, [], IfOk, IfSome, IsSome, None, false, nat_lt, not, take, true, ℕ};
+ghost use Rattle.std.specs.Prelude.{◌≡◌, [], IfOk, IfSome, IsSome, None, not, ℕ};
+ghost use Rattle.std.specs.Prelude.{false, nat_lt, take, true};
 ghost use Rattle.std.specs.Fn.{CalledAt};
 ghost use Rattle.iox_attributes.specs.Visits.{Visits};
 ghost use Rattle.iox_model.specs.Maps.{first_of, is_empty};
@@ -197,7 +198,8 @@ impl<Q: Payload, QH: Words, P: Payload, PH: Words> Hub<Q, QH, P, PH> {
     }
 
     /// The node's port of the least number whose own value is still there, if one is. What is ahead
-    /// says that none has a lesser number, and where it is looked for first; nothing if none is left.
+    /// says that none has a lesser number, and where it is looked for first; it is nothing if none
+    /// is left.
     pub(crate) fn next_port(&self, node: u64, ahead: Option<Numbered>) -> Option<Numbered>
         requires { NoneBefore ahead (held_ports self.now.control.tables.ports node) }
         ensures { option_map (λ v. v.number) result

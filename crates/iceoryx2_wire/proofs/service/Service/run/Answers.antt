@@ -1,4 +1,4 @@
-use Rattle.std.proofs.Common.{◌≡◌, ◌<◌, ◌+◌, ◌∷◌, length, ap, arith, rules, refl, subst, sym, ◌∙◌}
+use Rattle.std.proofs.Common.{◌≡◌, ◌<◌, ◌+◌, ◌++◌, ◌∷◌, [], length, ap, arith, rules, refl, subst, sym, ◌∙◌}
 use Rattle.std.specs.Vec.{vec_len}
 use Rattle.std.specs.Vec.Iter.{into_iter_items}
 use Rattle.iox_service_laws.proofs.Running.{on_err}
@@ -35,8 +35,8 @@ returns-in_err-reserve-clause-short g c =
     let less : vec_len c.reserve.new.self < vec_len c.args.replies.now + vec_len c.args.commands = omega arith in
     on_err _ less
 
-pub returns-in_err-reply-clause-short : goal.returns-in_err-reply-clause-short
-returns-in_err-reply-clause-short g c =
+pub returns-in_err-answer-clause-short : goal.returns-in_err-answer-clause-short
+returns-in_err-answer-clause-short g c =
     let at = c.loop-command in
     let steps : into_iter_items at.command-iterator ≡ c.in-Some.command ∷ into_iter_items c.next.new.self = c.in-Some.ensures.steps.0 in
     let few =
@@ -44,32 +44,36 @@ returns-in_err-reply-clause-short g c =
     c.in-Some.command (into_iter_items c.next.new.self) at.replies.items (service_of at.self)
     (subst (λ cs. HasRun g.Q.Element.Words.words g.P.Element.Words.words g.H.Words.words c.args.self.now.description (service_of c.args.self.now) c.args.commands.items c.args.replies.now.items cs at.replies.items (service_of at.self)) steps at.invariant.0) in
     let kept : vec_len c.reserve.new.self ≡ vec_len at.replies = c.reserve.ensures.len in
+    let same : vec_len c.answer.new.replies ≡ vec_len c.reserve.new.self = ap (λ v. vec_len v) c.in_err-answer.ensures.kept in
     let there : vec_len at.replies ≡ length at.replies.items = at.replies.ok.0 in
     let before : vec_len c.args.replies.now ≡ length c.args.replies.now.items = c.args.replies.now.ok.0 in
     let asked : vec_len c.args.commands ≡ length c.args.commands.items = c.args.commands.ok.0 in
-    let less : vec_len c.reserve.new.self < vec_len c.args.replies.now + vec_len c.args.commands = omega arith in
+    let less : vec_len c.answer.new.replies < vec_len c.args.replies.now + vec_len c.args.commands = omega arith in
     on_err _ less
 
 pub loop-command-preserved : goal.loop-command-preserved
 loop-command-preserved g c =
     let at = c.loop-command in
-    let steps : into_iter_items at.command-iterator ≡ c.in-Some.command ∷ into_iter_items c.next.new.self = c.in-Some.ensures.steps.0 in (
-      rw c.push_reserved.ensures.items
-          (rw c.reserve.ensures.items
+    let steps : into_iter_items at.command-iterator ≡ c.in-Some.command ∷ into_iter_items c.next.new.self = c.in-Some.ensures.steps.0 in
+    let answered = c.in_ok-answer.ensures.answered in (
+      subst
+          (λ new. HasRun g.Q.Element.Words.words g.P.Element.Words.words g.H.Words.words c.args.self.now.description (service_of c.args.self.now) c.args.commands.items c.args.replies.now.items
+          (into_iter_items c.next.new.self) new (service_of c.answer.new.self))
+          (ap (λ old. old ++ answered.0 ∷ []) (sym c.reserve.ensures.items) ∙ sym answered.1)
           (run_goes_on g.Q.Element.Words.words g.P.Element.Words.words g.H.Words.words c.args.self.now.description (service_of c.args.self.now) c.args.commands.items c.args.replies.now.items
-          c.in-Some.command (into_iter_items c.next.new.self) at.replies.items (service_of at.self) (service_of c.serve.new.self) c.in_ok-reply.reply
+          c.in-Some.command (into_iter_items c.next.new.self) at.replies.items (service_of at.self) (service_of c.answer.new.self) answered.0
           (subst
           (λ cs. HasRun g.Q.Element.Words.words g.P.Element.Words.words g.H.Words.words c.args.self.now.description (service_of c.args.self.now) c.args.commands.items c.args.replies.now.items
           cs at.replies.items (service_of at.self))
           steps at.invariant.0)
           (subst
           (λ d. IsAnswered g.Q.Element.Words.words g.P.Element.Words.words g.H.Words.words d (service_of at.self) c.in-Some.command
-          c.in_ok-reply.reply (service_of c.serve.new.self))
-          at.invariant.2 c.in_ok-reply.ensures.answered))),
+          answered.0 (service_of c.answer.new.self))
+          at.invariant.2 answered.2)),
       let was = at.invariant.1 in
           let gone = c.in-Some.ensures.steps.1 in
           let short = ap length steps in
           omega arith,
-      c.in_ok-reply.ensures.says ∙ at.invariant.2,
-      c.in_ok-reply.ensures.identity ∙ at.invariant.3,
+      c.in_ok-answer.ensures.says ∙ at.invariant.2,
+      c.in_ok-answer.ensures.identity ∙ at.invariant.3,
     )
