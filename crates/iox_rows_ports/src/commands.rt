@@ -1,4 +1,5 @@
-//! Tests of `iox_port_commands`.
+//! Tests of `iox_port_commands`. A test is a list of what the nodes ask and of what they are told,
+//! which `plays` asks of a hub.
 ghost use Rattle.std.specs.Prelude.{IfOk};
 ghost use Rattle.iox_port_commands.specs.Applying.{HaveDefaults};
 
@@ -9,6 +10,7 @@ mod numbers;
 mod pools;
 mod runs;
 
+use crate::expected::equal;
 use iox_control::Settings;
 use iox_model::command::{PortCommand, PortOptions};
 use iox_model::reply::{PortReply, Refusal};
@@ -18,6 +20,8 @@ use iox_types::identifiers::{UniqueNodeId, UniqueSystemId};
 use iox_types::{AllocationStrategy, BackpressureStrategy};
 use std::alloc::{AllocError, Global};
 use std::convert::Infallible;
+use std::process::Abort;
+use std::test::Fail;
 
 type TheHub = Hub<Many<u64>, u32, One<u64>, ()>;
 
@@ -112,14 +116,6 @@ fn without_list(reply: PortReply<Vec<u64>, Infallible>) -> Told {
     }
 }
 
-/// Applies the command. Of what `apply` promises, it passes on what the next one needs.
-fn ask(hub: &mut TheHub, alloc: Global, command: Command) -> Told
-    requires { HaveDefaults hub.old }
-    ensures { HaveDefaults hub.new }
-{
-    without_list(apply(hub, alloc, command))
-}
-
 /// The id of a node.
 fn id() -> Option<UniqueNodeId> {
     UniqueNodeId::new(UniqueSystemId {
@@ -131,96 +127,157 @@ fn id() -> Option<UniqueNodeId> {
     .ok()
 }
 
-/// Node 0 makes a client with such options.
-fn client(hub: &mut TheHub, alloc: Global, options: PortOptions<u64>) -> Told
-    requires { HaveDefaults hub.old }
-    ensures { HaveDefaults hub.new }
-{
-    let Some(id) = id() else {
-        return Told::Nothing;
-    };
-    ask(
-        hub,
-        alloc,
-        PortCommand::Client {
-            node: 0,
-            id,
-            options,
-        },
-    )
+/// What is given as a client is made.
+#[derive(Clone, Copy)]
+enum Given {
+    Nothing,
+    /// The greatest length of its messages, which else is 2.
+    Longest(u64),
+    Pool(u64),
+    Allocation(AllocationStrategy),
+    Handler,
 }
 
-/// Node 1 makes a server.
-fn server(hub: &mut TheHub, alloc: Global) -> Told
-    requires { HaveDefaults hub.old }
-    ensures { HaveDefaults hub.new }
-{
+/// What a node asks.
+#[derive(Clone, Copy)]
+enum Asked {
+    Client(Given),
+    Server,
+    /// Of the client or the active request of this number, so many elements.
+    Loan(u64, u64),
+    /// To a loan, so many numbers from one on.
+    Write(u64, u64, u64),
+    /// A request of a client, of so many numbers from one on.
+    Request(u64, u64, u64),
+    /// A response to a request, of one number.
+    Response(u64, u64),
+    Send(u64),
+    Receive(u64),
+    Read(u64),
+    Release(u64),
+    IsConnected(u64),
+    SetHint(u64),
+    HasHint(u64),
+    HasRequests(u64),
+    HasResponse(u64),
+}
+
+/// A node, what it asks, and what it is told.
+type Row = (u64, Asked, Told);
+
+/// The options where this is given.
+fn options(given: Given) -> PortOptions<u64> {
+    match given {
+        Given::Nothing => OPTIONS,
+        Given::Longest(max_slice_len) => PortOptions {
+            max_slice_len,
+            ..OPTIONS
+        },
+        Given::Pool(messages) => PortOptions {
+            pool: Some(messages),
+            ..OPTIONS
+        },
+        Given::Allocation(strategy) => PortOptions {
+            allocation: Some(strategy),
+            ..OPTIONS
+        },
+        Given::Handler => PortOptions {
+            handler: Some(1),
+            ..OPTIONS
+        },
+    }
+}
+
+/// So many numbers from this one on.
+fn numbers_from(alloc: Global, first: u64, count: u64) -> Result<Vec<u64>, AllocError> {
+    let mut values = Vec::new(alloc);
+    for i in 0..count {
+        values.push(first.wrapping_add(i))?;
+    }
+    Ok(values)
+}
+
+/// What is asked, as a command, if the node has an id.
+fn command_of(alloc: Global, node: u64, asked: Asked) -> Result<Option<Command>, AllocError> {
     let Some(id) = id() else {
-        return Told::Nothing;
+        return Ok(None);
     };
-    ask(
-        hub,
-        alloc,
-        PortCommand::Server {
-            node: 1,
+    Ok(Some(match asked {
+        Asked::Client(given) => PortCommand::Client {
+            node,
+            id,
+            options: options(given),
+        },
+        Asked::Server => PortCommand::Server {
+            node,
             id,
             options: OPTIONS,
         },
-    )
-}
-
-/// The client of number 0 lends a request of one element.
-fn loan(hub: &mut TheHub, alloc: Global) -> Told
-    requires { HaveDefaults hub.old }
-    ensures { HaveDefaults hub.new }
-{
-    ask(
-        hub,
-        alloc,
-        PortCommand::Loan {
-            node: 0,
-            number: 0,
-            elements: 1,
-        },
-    )
-}
-
-/// Sends a request with these two elements.
-fn copy(hub: &mut TheHub, alloc: Global, number: u64) -> Result<Told, AllocError>
-    requires { HaveDefaults hub.old }
-    ensures { HaveDefaults hub.new }
-{
-    let values = vec![in alloc; 122, 123]?;
-    Ok(ask(
-        hub,
-        alloc,
-        PortCommand::SendCopy {
-            node: 0,
-            number,
-            payload: Elements::Requests(values),
-        },
-    ))
-}
-
-/// Sends a response with this element.
-fn answer(
-    hub: &mut TheHub,
-    alloc: Global,
-    node: u64,
-    number: u64,
-    value: u64,
-) -> Result<Told, AllocError>
-    requires { HaveDefaults hub.old }
-    ensures { HaveDefaults hub.new }
-{
-    let values = vec![in alloc; value]?;
-    Ok(ask(
-        hub,
-        alloc,
-        PortCommand::SendCopy {
+        Asked::Write(number, first, count) => PortCommand::Write {
             node,
             number,
-            payload: Elements::Responses(values),
+            payload: Elements::Requests(numbers_from(alloc, first, count)?),
         },
-    ))
+        Asked::Request(number, first, count) => PortCommand::SendCopy {
+            node,
+            number,
+            payload: Elements::Requests(numbers_from(alloc, first, count)?),
+        },
+        Asked::Response(number, value) => PortCommand::SendCopy {
+            node,
+            number,
+            payload: Elements::Responses(numbers_from(alloc, value, 1)?),
+        },
+        other => of_numbers(node, other),
+    }))
+}
+
+/// What is asked by numbers alone, as a command.
+fn of_numbers(node: u64, asked: Asked) -> Command {
+    match asked {
+        Asked::Loan(number, elements) => PortCommand::Loan {
+            node,
+            number,
+            elements,
+        },
+        Asked::Send(number) => PortCommand::Send { node, number },
+        Asked::Receive(number) => PortCommand::Receive { node, number },
+        Asked::Read(number) => PortCommand::Read { node, number },
+        Asked::IsConnected(number) => PortCommand::IsConnected { node, number },
+        Asked::SetHint(number) => PortCommand::SetHint { node, number },
+        Asked::HasHint(number) => PortCommand::HasHint { node, number },
+        Asked::HasRequests(number) => PortCommand::HasRequests { node, number },
+        Asked::HasResponse(number) => PortCommand::HasResponse { node, number },
+        Asked::Release(number) => PortCommand::Release { node, number },
+        _ => PortCommand::Release { node, number: 0 },
+    }
+}
+
+/// What is told. Of what `apply` promises, it passes on what the next one needs.
+fn ask(hub: &mut TheHub, alloc: Global, node: u64, asked: Asked) -> Result<Told, AllocError>
+    requires { HaveDefaults hub.old }
+    ensures { HaveDefaults hub.new }
+{
+    match command_of(alloc, node, asked)? {
+        Some(command) => Ok(without_list(apply(hub, alloc, command))),
+        None => Ok(Told::Nothing),
+    }
+}
+
+/// Ends the test if something else is told.
+fn goes(rt: &impl Abort, hub: &mut TheHub, alloc: Global, list: &[Row]) -> Result<(), AllocError>
+    requires { HaveDefaults hub.old }
+{
+    for (node, asked, told) in list {
+        let answer = ask(hub, alloc, *node, *asked)?;
+        equal(rt, answer, *told);
+    }
+    Ok(())
+}
+
+/// The same of a new hub.
+fn plays(rt: &impl Abort, alloc: Global, list: &[Row]) -> Result<(), Fail> {
+    let mut hub = hub(alloc)?;
+    goes(rt, &mut hub, alloc, list)?;
+    Ok(())
 }

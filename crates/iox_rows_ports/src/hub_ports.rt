@@ -1,6 +1,7 @@
-//! Each function once.
+//! Each function once. A test calls the ports by helpers that promise nothing.
 ghost use Rattle.std.specs.Prelude.{◌≡◌, IfOk};
 
+use crate::expected::{equal, holds};
 use iox_hub_ports::info::PortInfo;
 use iox_hub_ports::port::Port;
 use iox_hub_ports::ports::Ports;
@@ -12,6 +13,7 @@ use iox_model::way::{RequestState, Way};
 use iox_types::backpressure::BackpressureStrategy;
 use iox_types::identifiers::UniqueSystemId;
 use std::alloc::{AllocError, Global};
+use std::process::Abort;
 use std::test::Fail;
 
 /// Every message has the same label.
@@ -88,70 +90,122 @@ fn from(server: u64) -> Way {
     }
 }
 
+/// The number of the port of that place.
+fn number_at(ports: &Ports, place: usize) -> Option<u64> {
+    Some(ports.at(place)?.number)
+}
+
+/// How many loans the port has, and whether it is held.
+fn seen(ports: &Ports, number: u64) -> Option<(u64, bool)> {
+    let info = ports.find(number)?;
+    Some((info.loans, info.held))
+}
+
+/// Who was disconnected.
+fn disconnect(ports: &mut Ports, number: u64, sender: u64) -> Option<u64> {
+    Some(ports.disconnect(number, sender)?.sender())
+}
+
+/// The number of what was removed.
+fn remove(ports: &mut Ports, number: u64) -> Option<u64> {
+    Some(ports.remove(number)?.number())
+}
+
 #[test]
 fn ports_are_found_until_they_go(rt: HostRuntime) -> Result<(), Fail> {
     let mut ports = one_client_two_servers(rt.alloc())?;
-    assert_eq!(rt; ports.len(), 3);
-    assert_eq!(rt; ports.room(), 0);
-    assert_eq!(rt; ports.find(1).map(|info| info.loans), Some(1));
-    assert_eq!(rt; ports.at(2).map(|info| info.number), Some(3));
+    equal(&rt, (ports.len(), ports.room()), (3, 0));
+    equal(&rt, seen(&ports, 1), Some((1, true)));
+    equal(&rt, number_at(&ports, 2), Some(3));
     ports.release_value(2);
-    assert_eq!(rt; ports.find(2).map(|info| info.held), Some(false));
-    assert!(rt; !ports.connect(2, Pipe::new(rt.alloc(), 4, 1, 1, 1, 1, 0)?));
-    assert_eq!(rt; ports.disconnect(2, 1).map(|pipe| pipe.sender()), Some(1));
-    assert_eq!(rt; ports.remove(2).map(|port| port.number()), Some(2));
-    assert!(rt; ports.remove(2).is_none());
-    assert_eq!(rt; ports.at(1).map(|info| info.number), Some(3));
+    equal(&rt, seen(&ports, 2), Some((0, false)));
+    holds(
+        &rt,
+        !ports.connect(2, Pipe::new(rt.alloc(), 4, 1, 1, 1, 1, 0)?),
+    );
+    equal(&rt, disconnect(&mut ports, 2, 1), Some(1));
+    equal(&rt, remove(&mut ports, 2), Some(2));
+    equal(&rt, remove(&mut ports, 2), None);
+    equal(&rt, number_at(&ports, 1), Some(3));
     Ok(())
+}
+
+/// Delivers to the first server, which then is full.
+fn fills(rt: &impl Abort, ports: &mut Ports, place: u64) {
+    holds(rt, ports.deliver(to(2), place));
+    holds(rt, ports.is_full(to(2)));
+    holds(rt, !ports.is_full(to(3)));
+    holds(rt, ports.has_waiting(2, 0));
+}
+
+/// The first server gets what waits, and releases it, and the client gets it back.
+fn goes_back(rt: &impl Abort, ports: &mut Ports, place: u64) {
+    let visits = ports.visit(2, 0, Wanted::Any, &NoLabel);
+    equal(rt, visits, Visits::Got(1, 0, place));
+    holds(rt, ports.release(to(2), place));
+    equal(rt, ports.lane_to_get(1, 2), Some(0));
+    equal(rt, ports.get_back(to(2)), Some(place));
 }
 
 #[test]
 fn a_message_goes_around(rt: HostRuntime) -> Result<(), Fail> {
     let mut ports = one_client_two_servers(rt.alloc())?;
-    assert!(rt; ports.deliver(to(2), 7));
-    assert!(rt; ports.is_full(to(2)));
-    assert!(rt; !ports.is_full(to(3)));
-    assert!(rt; ports.has_waiting(2, 0));
-    let visits = ports.visit(2, 0, Wanted::Any, &NoLabel);
-    assert_eq!(rt; visits, Visits::Got(1, 0, 7));
-    assert!(rt; ports.release(to(2), 7));
-    assert_eq!(rt; ports.lane_to_get(1, 2), Some(0));
-    assert_eq!(rt; ports.get_back(to(2)), Some(7));
+    fills(&rt, &mut ports, 7);
+    goes_back(&rt, &mut ports, 7);
     Ok(())
+}
+
+/// Delivers by the place of the server, and pushes the message out.
+fn pushes_at(rt: &impl Abort, ports: &mut Ports, place: u64, newer: u64) {
+    holds(rt, ports.deliver_at(1, 1, 0, place));
+    holds(rt, ports.is_full_at(1, 1, 0));
+    equal(rt, ports.push_at(1, 1, 0, newer), Some(place));
 }
 
 #[test]
 fn the_oldest_is_pushed_out(rt: HostRuntime) -> Result<(), Fail> {
     let mut ports = one_client_two_servers(rt.alloc())?;
-    assert!(rt; ports.deliver_at(1, 1, 0, 7));
-    assert!(rt; ports.is_full_at(1, 1, 0));
-    assert_eq!(rt; ports.push_at(1, 1, 0, 8), Some(7));
-    assert_eq!(rt; ports.push(to(2), 9), Some(8));
-    assert_eq!(rt; ports.evict(to(2)), Some(9));
-    assert_eq!(rt; ports.get_back_at(1, 1, 0), None);
+    pushes_at(&rt, &mut ports, 7, 8);
+    equal(&rt, ports.push(to(2), 9), Some(8));
+    equal(&rt, ports.evict(to(2)), Some(9));
+    equal(&rt, ports.get_back_at(1, 1, 0), None);
     Ok(())
 }
 
-#[test]
-fn requests_are_open_with_each_server(rt: HostRuntime) -> Result<(), Fail> {
-    let mut ports = one_client_two_servers(rt.alloc())?;
+/// Opens a request with all servers, hints it to the first, and closes it there.
+fn opens_and_closes(rt: &impl Abort, ports: &mut Ports) {
     ports.open_all(1, 1, 5);
     ports.hint(from(2), 5);
     let hinted = RequestState::Named {
         id: 5,
         hinted: true,
     };
-    assert_eq!(rt; ports.state(from(2)), hinted);
+    equal(rt, ports.state(from(2)), hinted);
     ports.close(from(2), 5);
-    assert_eq!(rt; ports.state(from(2)), RequestState::Closed);
+    equal(rt, ports.state(from(2)), RequestState::Closed);
+}
+
+/// Hints that request to all, closes it, and opens another with the second server.
+fn hints_and_opens(rt: &impl Abort, ports: &mut Ports) {
     ports.hint_all(1, 1, 5);
-    assert_eq!(rt; ports.state(from(3)), hinted);
+    let hinted = RequestState::Named {
+        id: 5,
+        hinted: true,
+    };
+    equal(rt, ports.state(from(3)), hinted);
     ports.close_all(1, 1, 5);
     ports.open(from(3), 6);
     let open = RequestState::Named {
         id: 6,
         hinted: false,
     };
-    assert_eq!(rt; ports.state(from(3)), open);
+    equal(rt, ports.state(from(3)), open);
+}
+
+#[test]
+fn requests_are_open_with_each_server(rt: HostRuntime) -> Result<(), Fail> {
+    let mut ports = one_client_two_servers(rt.alloc())?;
+    opens_and_closes(&rt, &mut ports);
+    hints_and_opens(&rt, &mut ports);
     Ok(())
 }

@@ -6,6 +6,8 @@ mod commands;
 #[cfg(test)]
 mod control;
 #[cfg(test)]
+mod expected;
+#[cfg(test)]
 mod handles;
 #[cfg(test)]
 mod hub;

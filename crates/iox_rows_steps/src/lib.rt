@@ -1,5 +1,5 @@
-//! Tests and callers of calls as single accesses, and of the paths at which users reach the queues and
-//! sets, by what their crates make public. So the gate proves each of those crates once.
+//! Tests and callers of calls as single accesses, and of the paths at which users reach the queues
+//! and sets, by what their crates make public. So the gate proves each of those crates once.
 #![tactic(auto)]
 
 #[cfg(test)]

@@ -35,7 +35,8 @@ fn acquire_fixed<const CAPACITY: usize>(
     set.acquire(owner)
 }
 
-/// The index that is found where the owner is asked about, or that of nobody, and how often was asked.
+/// The index that is found where the owner is asked about, or that of nobody, and how often was
+/// asked.
 fn found(set: &RobustUniqueIndexSet, wanted: Option<OwnerId>) -> (Option<u32>, u8) {
     let mut calls = 0u8;
     let found = set.find(|owner| {

@@ -1,91 +1,75 @@
 //! Each command on its happy path.
-use super::{OPTIONS, Told, answer, ask, client, copy, hub, server};
-use iox_model::command::PortCommand;
-use iox_port_commands::Elements;
+use super::{Asked, Given, Told, plays};
 use std::test::Fail;
 
 #[test]
 fn a_copied_request_is_received_and_read(rt: HostRuntime) -> Result<(), Fail> {
-    let a = rt.alloc();
-    let mut hub = hub(a)?;
-    assert_eq!(rt; client(&mut hub, a, OPTIONS), Told::Client(0));
-    assert_eq!(rt; server(&mut hub, a), Told::Server(1));
-    assert_eq!(rt; copy(&mut hub, a, 0)?, Told::Handle(2));
-    let waits = ask(&mut hub, a, PortCommand::HasRequests { node: 1, number: 1 });
-    assert_eq!(rt; waits, Told::Answer(true));
-    let received = ask(&mut hub, a, PortCommand::Receive { node: 1, number: 1 });
-    assert_eq!(rt; received, Told::Handle(3));
-    // The word of the user header, and then those of the elements.
-    let read = ask(&mut hub, a, PortCommand::Read { node: 1, number: 3 });
-    assert_eq!(rt; read, Told::Words(3, 123));
-    let none = ask(&mut hub, a, PortCommand::Receive { node: 1, number: 1 });
-    assert_eq!(rt; none, Told::Nothing);
-    Ok(())
+    plays(
+        &rt,
+        rt.alloc(),
+        &[
+            (0, Asked::Client(Given::Nothing), Told::Client(0)),
+            (1, Asked::Server, Told::Server(1)),
+            (0, Asked::Request(0, 122, 2), Told::Handle(2)),
+            (1, Asked::HasRequests(1), Told::Answer(true)),
+            (1, Asked::Receive(1), Told::Handle(3)),
+            // The word of the user header, and then those of the elements.
+            (1, Asked::Read(3), Told::Words(3, 123)),
+            (1, Asked::Receive(1), Told::Nothing),
+        ],
+    )
 }
 
 #[test]
 fn a_copied_response_is_received_and_released(rt: HostRuntime) -> Result<(), Fail> {
-    let a = rt.alloc();
-    let mut hub = hub(a)?;
-    client(&mut hub, a, OPTIONS);
-    server(&mut hub, a);
-    copy(&mut hub, a, 0)?;
-    ask(&mut hub, a, PortCommand::Receive { node: 1, number: 1 });
-    assert_eq!(rt; answer(&mut hub, a, 1, 3, 456)?, Told::Done);
-    let waits = ask(&mut hub, a, PortCommand::HasResponse { node: 0, number: 2 });
-    assert_eq!(rt; waits, Told::Answer(true));
-    let received = ask(&mut hub, a, PortCommand::Receive { node: 0, number: 2 });
-    assert_eq!(rt; received, Told::Handle(4));
-    let read = ask(&mut hub, a, PortCommand::Read { node: 0, number: 4 });
-    assert_eq!(rt; read, Told::Words(1, 456));
-    let released = ask(&mut hub, a, PortCommand::Release { node: 0, number: 4 });
-    assert_eq!(rt; released, Told::Done);
-    Ok(())
+    plays(
+        &rt,
+        rt.alloc(),
+        &[
+            (0, Asked::Client(Given::Nothing), Told::Client(0)),
+            (1, Asked::Server, Told::Server(1)),
+            (0, Asked::Request(0, 122, 2), Told::Handle(2)),
+            (1, Asked::Receive(1), Told::Handle(3)),
+            (1, Asked::Response(3, 456), Told::Done),
+            (0, Asked::HasResponse(2), Told::Answer(true)),
+            (0, Asked::Receive(2), Told::Handle(4)),
+            (0, Asked::Read(4), Told::Words(1, 456)),
+            (0, Asked::Release(4), Told::Done),
+        ],
+    )
 }
 
 #[test]
 fn a_hint_is_set_and_seen(rt: HostRuntime) -> Result<(), Fail> {
-    let a = rt.alloc();
-    let mut hub = hub(a)?;
-    client(&mut hub, a, OPTIONS);
-    server(&mut hub, a);
-    copy(&mut hub, a, 0)?;
-    ask(&mut hub, a, PortCommand::Receive { node: 1, number: 1 });
-    let before = ask(&mut hub, a, PortCommand::HasHint { node: 1, number: 3 });
-    assert_eq!(rt; before, Told::Answer(false));
-    let hint = ask(&mut hub, a, PortCommand::SetHint { node: 0, number: 2 });
-    assert_eq!(rt; hint, Told::Done);
-    let after = ask(&mut hub, a, PortCommand::HasHint { node: 1, number: 3 });
-    assert_eq!(rt; after, Told::Answer(true));
-    let open = ask(&mut hub, a, PortCommand::IsConnected { node: 1, number: 3 });
-    assert_eq!(rt; open, Told::Answer(true));
-    Ok(())
+    plays(
+        &rt,
+        rt.alloc(),
+        &[
+            (0, Asked::Client(Given::Nothing), Told::Client(0)),
+            (1, Asked::Server, Told::Server(1)),
+            (0, Asked::Request(0, 122, 2), Told::Handle(2)),
+            (1, Asked::Receive(1), Told::Handle(3)),
+            (1, Asked::HasHint(3), Told::Answer(false)),
+            (0, Asked::SetHint(2), Told::Done),
+            (1, Asked::HasHint(3), Told::Answer(true)),
+            (1, Asked::IsConnected(3), Told::Answer(true)),
+        ],
+    )
 }
 
 #[test]
 fn a_loan_holds_the_default_and_is_written_and_sent(rt: HostRuntime) -> Result<(), Fail> {
-    let a = rt.alloc();
-    let mut hub = hub(a)?;
-    client(&mut hub, a, OPTIONS);
-    server(&mut hub, a);
-    let loan = PortCommand::Loan {
-        node: 0,
-        number: 0,
-        elements: 2,
-    };
-    assert_eq!(rt; ask(&mut hub, a, loan), Told::Handle(2));
-    let first = ask(&mut hub, a, PortCommand::Read { node: 0, number: 2 });
-    assert_eq!(rt; first, Told::Words(3, 7));
-    let values = vec![in a; 5, 6]?;
-    let write = PortCommand::Write {
-        node: 0,
-        number: 2,
-        payload: Elements::Requests(values),
-    };
-    assert_eq!(rt; ask(&mut hub, a, write), Told::Done);
-    let then = ask(&mut hub, a, PortCommand::Read { node: 0, number: 2 });
-    assert_eq!(rt; then, Told::Words(3, 6));
-    let sent = ask(&mut hub, a, PortCommand::Send { node: 0, number: 2 });
-    assert_eq!(rt; sent, Told::Sent(1));
-    Ok(())
+    plays(
+        &rt,
+        rt.alloc(),
+        &[
+            (0, Asked::Client(Given::Nothing), Told::Client(0)),
+            (1, Asked::Server, Told::Server(1)),
+            (0, Asked::Loan(0, 2), Told::Handle(2)),
+            (0, Asked::Read(2), Told::Words(3, 7)),
+            (0, Asked::Write(2, 5, 2), Told::Done),
+            (0, Asked::Read(2), Told::Words(3, 6)),
+            (0, Asked::Send(2), Told::Sent(1)),
+        ],
+    )
 }

@@ -1,3 +1,4 @@
+use crate::expected::equal;
 use iox_control::{Control, Settings};
 use iox_types::{AllocationStrategy, BackpressureStrategy};
 use std::test::Fail;
@@ -27,6 +28,6 @@ fn settings() -> Settings {
 #[test]
 fn a_new_hub_has_no_handle(rt: HostRuntime) -> Result<(), Fail> {
     let control = Control::new(rt.alloc(), settings())?;
-    assert_eq!(rt; control.entry(0, 0, 0), None);
+    equal(&rt, control.entry(0, 0, 0), None);
     Ok(())
 }

@@ -1,3 +1,4 @@
+use crate::expected::{equal, holds};
 use iox_control::Settings;
 use iox_control_making::NotMade;
 use iox_model::kind::{Kind, Role};
@@ -7,6 +8,8 @@ use iox_types::identifiers::UniqueSystemId;
 use iox_types::{AllocationStrategy, BackpressureStrategy};
 use std::alloc::{AllocError, Global};
 use std::test::Fail;
+
+type TheHub = Hub<Many<u64>, u32, One<u64>, ()>;
 
 const NODE: UniqueSystemId = UniqueSystemId {
     process: 1,
@@ -50,10 +53,7 @@ fn settings(client_allocation: AllocationStrategy) -> Settings {
     }
 }
 
-fn hub(
-    alloc: Global,
-    client_allocation: AllocationStrategy,
-) -> Result<Hub<Many<u64>, u32, One<u64>, ()>, AllocError> {
+fn hub(alloc: Global, client_allocation: AllocationStrategy) -> Result<TheHub, AllocError> {
     let request: MessageShape<u64, u32> = MessageShape {
         default: Some(7),
         user_header: 3,
@@ -71,33 +71,34 @@ fn hub(
     Hub::new(alloc, settings(client_allocation), request, response)
 }
 
-// the number, or 99 where no port was made
-fn number(made: Result<u64, NotMade>) -> u64 {
-    match made {
-        Ok(number) => number,
-        Err(_) => 99,
-    }
+/// A port of that node. This promises nothing, since what is known of each port would stand in the
+/// proof of all that come after.
+fn make(
+    hub: &mut TheHub,
+    alloc: Global,
+    node: u64,
+    role: Role,
+    options: Options,
+) -> Result<u64, NotMade> {
+    hub.make_port(alloc, node, role, NODE, options)
 }
 
-// why no port was made, if none was
-fn reason(made: Result<u64, NotMade>) -> Option<NotMade> {
-    match made {
-        Ok(_) => None,
-        Err(reason) => Some(reason),
-    }
+/// A client of node 0.
+fn client(hub: &mut TheHub, alloc: Global, options: Options) -> Result<u64, NotMade> {
+    make(hub, alloc, 0, Role::Client, options)
 }
 
 #[test]
 fn a_client_and_a_server_are_made(rt: HostRuntime) -> Result<(), Fail> {
     let mut hub = hub(rt.alloc(), AllocationStrategy::Static)?;
-    let client = hub.make_port(rt.alloc(), 0, Role::Client, NODE, OPTIONS);
-    assert_eq!(rt; number(client), 0);
-    let server = hub.make_port(rt.alloc(), 1, Role::Server, NODE, OPTIONS);
-    assert_eq!(rt; number(server), 1);
-    assert!(rt; hub.has(0, 0, Kind::Client, 0));
-    assert!(rt; hub.has(1, 1, Kind::Server, 0));
-    assert!(rt; !hub.has(0, 1, Kind::Server, 0));
-    assert_eq!(rt; hub.calls(), 0);
+    let made = client(&mut hub, rt.alloc(), OPTIONS);
+    equal(&rt, made, Ok(0));
+    let server = make(&mut hub, rt.alloc(), 1, Role::Server, OPTIONS);
+    equal(&rt, server, Ok(1));
+    holds(&rt, hub.has(0, 0, Kind::Client, 0));
+    holds(&rt, hub.has(1, 1, Kind::Server, 0));
+    holds(&rt, !hub.has(0, 1, Kind::Server, 0));
+    equal(&rt, hub.calls(), 0);
     Ok(())
 }
 
@@ -105,12 +106,12 @@ fn a_client_and_a_server_are_made(rt: HostRuntime) -> Result<(), Fail> {
 fn the_ninth_client_of_eight_is_refused(rt: HostRuntime) -> Result<(), Fail> {
     let mut hub = hub(rt.alloc(), AllocationStrategy::Static)?;
     for expected in 0..8u64 {
-        let client = hub.make_port(rt.alloc(), 0, Role::Client, NODE, OPTIONS);
-        assert_eq!(rt; number(client), expected);
+        let made = client(&mut hub, rt.alloc(), OPTIONS);
+        equal(&rt, made, Ok(expected));
     }
-    let ninth = hub.make_port(rt.alloc(), 0, Role::Client, NODE, OPTIONS);
-    assert_eq!(rt; reason(ninth), Some(NotMade::TooManyPorts));
-    assert_eq!(rt; hub.kind(0, 8, 0), None);
+    let ninth = client(&mut hub, rt.alloc(), OPTIONS);
+    equal(&rt, ninth, Err(NotMade::TooManyPorts));
+    equal(&rt, hub.kind(0, 8, 0), None);
     Ok(())
 }
 
@@ -127,19 +128,19 @@ fn a_server_of_single_elements_is_made_though_its_messages_are_to_grow(
             allocation: Some(allocation),
             ..OPTIONS
         };
-        let server = hub.make_port(rt.alloc(), 0, Role::Server, NODE, growing);
-        assert_eq!(rt; number(server), expected);
+        let server = make(&mut hub, rt.alloc(), 0, Role::Server, growing);
+        equal(&rt, server, Ok(expected));
     }
-    let client = hub.make_port(rt.alloc(), 0, Role::Client, NODE, OPTIONS);
-    assert_eq!(rt; reason(client), Some(NotMade::DataSegment));
+    let made = client(&mut hub, rt.alloc(), OPTIONS);
+    equal(&rt, made, Err(NotMade::DataSegment));
     Ok(())
 }
 
 #[test]
 fn a_port_that_is_too_large_or_would_grow_is_refused(rt: HostRuntime) -> Result<(), Fail> {
     let mut hub = hub(rt.alloc(), AllocationStrategy::BestFit)?;
-    let growing = hub.make_port(rt.alloc(), 0, Role::Client, NODE, OPTIONS);
-    assert_eq!(rt; reason(growing), Some(NotMade::DataSegment));
+    let growing = client(&mut hub, rt.alloc(), OPTIONS);
+    equal(&rt, growing, Err(NotMade::DataSegment));
     let fixed = Options {
         allocation: Some(AllocationStrategy::Static),
         ..OPTIONS
@@ -148,9 +149,9 @@ fn a_port_that_is_too_large_or_would_grow_is_refused(rt: HostRuntime) -> Result<
         max_slice_len: 1 << 60,
         ..fixed
     };
-    let refused = hub.make_port(rt.alloc(), 0, Role::Client, NODE, large);
-    assert_eq!(rt; reason(refused), Some(NotMade::DataSegment));
-    let client = hub.make_port(rt.alloc(), 0, Role::Client, NODE, fixed);
-    assert_eq!(rt; number(client), 0);
+    let refused = client(&mut hub, rt.alloc(), large);
+    equal(&rt, refused, Err(NotMade::DataSegment));
+    let made = client(&mut hub, rt.alloc(), fixed);
+    equal(&rt, made, Ok(0));
     Ok(())
 }

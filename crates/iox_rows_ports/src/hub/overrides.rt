@@ -1,6 +1,7 @@
 //! How many messages a port needs, and who chooses fewer.
 ghost use Rattle.std.specs.Prelude.{◌≡◌};
 
+use crate::expected::{equal, holds};
 use iox_control::Settings;
 use iox_control_lending::{Lent, LoanRefusal};
 use iox_control_making::NotMade;
@@ -50,6 +51,16 @@ fn growing_hub(alloc: Global) -> Result<TheHub, AllocError> {
     Hub::new(alloc, settings, request, response)
 }
 
+/// A port of node 0. This promises nothing.
+fn make(hub: &mut TheHub, alloc: Global, role: Role, options: Options) -> Result<u64, NotMade> {
+    hub.make_port(alloc, 0, role, NODE, options)
+}
+
+/// How many messages a port needs. This promises nothing.
+fn worst(hub: &TheHub, role: Role, options: Options) -> Option<usize> {
+    hub.worst_pool(role, options)
+}
+
 /// Whether the client lends a request, and if not, whether its pool is dry.
 fn lends(hub: &mut TheHub, client: u64) -> Option<bool> {
     if !hub.has(0, client, Kind::Client, 0) {
@@ -74,14 +85,14 @@ fn what_a_closure_answers_is_raised_to_1_and_lowered_to_what_is_needed(
     rt: HostRuntime,
 ) -> Result<(), Fail> {
     let half = PreallocatedRequestsOverride::new(|needed: usize| needed / 2);
-    assert_eq!(rt; half.call(22), 11);
-    assert_eq!(rt; half.pool(22), 11);
-    assert_eq!(rt; half.call(1), 0);
-    assert_eq!(rt; half.pool(1), 1);
-    assert_eq!(rt; chooses_one(22), 1);
+    equal(&rt, half.call(22), 11);
+    equal(&rt, half.pool(22), 11);
+    equal(&rt, half.call(1), 0);
+    equal(&rt, half.pool(1), 1);
+    equal(&rt, chooses_one(22), 1);
     let many = PreallocatedResponseOverride::new(|_needed: usize| 1000);
-    assert_eq!(rt; many.call(768), 1000);
-    assert_eq!(rt; many.pool(768), 768);
+    equal(&rt, many.call(768), 1000);
+    equal(&rt, many.pool(768), 768);
     Ok(())
 }
 
@@ -89,26 +100,26 @@ fn what_a_closure_answers_is_raised_to_1_and_lowered_to_what_is_needed(
 fn a_port_needs_messages_for_all_at_once(rt: HostRuntime) -> Result<(), Fail> {
     let hub = hub(rt.alloc())?;
     // 2 on loan, 4 active, and at each of 2 servers 4 that wait and 4 that were received.
-    assert_eq!(rt; hub.worst_pool(Role::Client, OPTIONS), Some(22));
+    equal(&rt, worst(&hub, Role::Client, OPTIONS), Some(22));
     // 2 on loan for each of 4 requests of 8 clients, and 4 on each of 22 lanes of theirs.
-    assert_eq!(rt; hub.worst_pool(Role::Server, OPTIONS), Some(768));
+    equal(&rt, worst(&hub, Role::Server, OPTIONS), Some(768));
     let one = Options {
         loaned_responses: Some(1),
         ..OPTIONS
     };
-    assert_eq!(rt; hub.worst_pool(Role::Server, one), Some(736));
+    equal(&rt, worst(&hub, Role::Server, one), Some(736));
     let far = Options {
         loaned_responses: Some(1 << 62),
         ..OPTIONS
     };
-    assert_eq!(rt; hub.worst_pool(Role::Server, far), None);
+    equal(&rt, worst(&hub, Role::Server, far), None);
     Ok(())
 }
 
 #[test]
 fn a_client_whose_pool_is_chosen_has_that_many_messages(rt: HostRuntime) -> Result<(), Fail> {
     let mut hub = hub(rt.alloc())?;
-    let Some(needed) = hub.worst_pool(Role::Client, OPTIONS) else {
+    let Some(needed) = worst(&hub, Role::Client, OPTIONS) else {
         return Err(Fail::from("counted"));
     };
     let none = PreallocatedRequestsOverride::new(|_needed: usize| 0);
@@ -116,35 +127,31 @@ fn a_client_whose_pool_is_chosen_has_that_many_messages(rt: HostRuntime) -> Resu
         pool: Some(none.pool(needed) as u64),
         ..OPTIONS
     };
-    assert!(rt;
-        hub.make_port(rt.alloc(), 0, Role::Client, NODE, small)
-            .is_ok()
-    );
-    assert_eq!(rt; lends(&mut hub, 0), Some(true));
-    assert_eq!(rt; lends(&mut hub, 0), Some(false));
+    let made = make(&mut hub, rt.alloc(), Role::Client, small);
+    equal(&rt, made, Ok(0));
+    equal(&rt, lends(&mut hub, 0), Some(true));
+    equal(&rt, lends(&mut hub, 0), Some(false));
     let more = Options {
         pool: Some(u64::MAX),
         ..OPTIONS
     };
-    assert!(rt;
-        hub.make_port(rt.alloc(), 0, Role::Client, NODE, more)
-            .is_ok()
-    );
-    assert_eq!(rt; lends(&mut hub, 2), Some(true));
-    assert_eq!(rt; lends(&mut hub, 2), Some(true));
+    let made = make(&mut hub, rt.alloc(), Role::Client, more);
+    equal(&rt, made, Ok(2));
+    equal(&rt, lends(&mut hub, 2), Some(true));
+    equal(&rt, lends(&mut hub, 2), Some(true));
     Ok(())
 }
 
 #[test]
 fn without_memory_a_port_lacks_its_data_segment(rt: HostRuntime) -> Result<(), Fail> {
     let mut hub = hub(rt.alloc())?;
-    assert_eq!(rt; hub.without_memory(), NotMade::DataSegment);
+    equal(&rt, hub.without_memory(), NotMade::DataSegment);
     let large = Options {
         loaned_responses: Some(1 << 62),
         ..OPTIONS
     };
-    let made = hub.make_port(rt.alloc(), 0, Role::Server, NODE, large);
-    assert_eq!(rt; made.err(), Some(NotMade::DataSegment));
+    let made = make(&mut hub, rt.alloc(), Role::Server, large);
+    equal(&rt, made.err(), Some(NotMade::DataSegment));
     Ok(())
 }
 
@@ -163,12 +170,20 @@ fn lent(hub: &mut TheHub, client: u64, elements: usize) -> Option<Result<u64, Lo
 #[test]
 fn a_message_of_one_element_never_grows(rt: HostRuntime) -> Result<(), Fail> {
     let mut hub = growing_hub(rt.alloc())?;
-    let client = hub.make_port(rt.alloc(), 0, Role::Client, NODE, OPTIONS);
-    assert_eq!(rt; client.ok(), Some(0));
-    let server = hub.make_port(rt.alloc(), 0, Role::Server, NODE, OPTIONS);
-    assert_eq!(rt; server.ok(), Some(1));
-    assert_eq!(rt; lent(&mut hub, 0, 33), Some(Err(LoanRefusal::WrongLength)));
-    assert_eq!(rt; lent(&mut hub, 0, 0), Some(Err(LoanRefusal::WrongLength)));
-    assert_eq!(rt; lent(&mut hub, 0, 1), Some(Ok(2)));
+    let client = make(&mut hub, rt.alloc(), Role::Client, OPTIONS);
+    equal(&rt, client.ok(), Some(0));
+    let server = make(&mut hub, rt.alloc(), Role::Server, OPTIONS);
+    equal(&rt, server.ok(), Some(1));
+    equal(
+        &rt,
+        lent(&mut hub, 0, 33),
+        Some(Err(LoanRefusal::WrongLength)),
+    );
+    equal(
+        &rt,
+        lent(&mut hub, 0, 0),
+        Some(Err(LoanRefusal::WrongLength)),
+    );
+    equal(&rt, lent(&mut hub, 0, 1), Some(Ok(2)));
     Ok(())
 }

@@ -1,3 +1,4 @@
+use crate::expected::{equal, holds};
 use iox_control::Settings;
 use iox_model::kind::Kind;
 use iox_port_commands::{Hub, MessageShape, Part};
@@ -54,8 +55,8 @@ fn a_new_hub_has_nothing(rt: HostRuntime) -> Result<(), Fail> {
         request,
         response,
     )?;
-    assert_eq!(rt; hub.calls(), 0);
-    assert_eq!(rt; hub.kind(0, 0, 0), None);
-    assert!(rt; !hub.has(0, 0, Kind::Client, 0));
+    equal(&rt, hub.calls(), 0);
+    equal(&rt, hub.kind(0, 0, 0), None);
+    holds(&rt, !hub.has(0, 0, Kind::Client, 0));
     Ok(())
 }

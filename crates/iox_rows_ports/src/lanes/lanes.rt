@@ -1,54 +1,142 @@
+//! A lane, asked one thing after another. A test is a list of what is asked and of what has to be
+//! answered, since what is known of each answer would stand in the proof of all that come after.
+use crate::expected::equal;
 use iox_lanes::lane::Lane;
+use std::process::Abort;
 use std::test::Fail;
+
+#[derive(Clone, Copy)]
+enum Asked {
+    Pool,
+    IsEmpty,
+    IsFull,
+    IsAtLimit,
+    Waiting,
+    Taken,
+    Deliver(u64),
+    Take,
+    Release(u64),
+    LetGo(u64),
+    GetBack,
+    PassOver,
+    Evict,
+}
+
+#[derive(Clone, Copy, Debug, PartialEq, Eq)]
+enum Told {
+    Is(bool),
+    Count(usize),
+    Place(u64),
+    NoPlace,
+}
+
+fn place_told(place: Option<u64>) -> Told {
+    match place {
+        Some(place) => Told::Place(place),
+        None => Told::NoPlace,
+    }
+}
+
+/// What is seen of the lane.
+fn look(lane: &Lane, asked: Asked) -> Told {
+    match asked {
+        Asked::Pool => Told::Count(lane.pool()),
+        Asked::IsEmpty => Told::Is(lane.is_empty()),
+        Asked::IsFull => Told::Is(lane.is_full()),
+        Asked::IsAtLimit => Told::Is(lane.is_at_limit()),
+        Asked::Waiting => Told::Count(lane.waiting_len()),
+        _ => Told::Count(lane.taken_len()),
+    }
+}
+
+fn ask(rt: &impl Abort, lane: &mut Lane, asked: Asked) -> Told {
+    match asked {
+        Asked::Deliver(place) => Told::Is(lane.deliver(place)),
+        Asked::Take => {
+            assert!(rt; !lane.is_at_limit());
+            place_told(lane.take())
+        }
+        Asked::Release(place) => Told::Is(lane.release(place)),
+        Asked::LetGo(place) => Told::Is(lane.let_go(place)),
+        Asked::GetBack => place_told(lane.get_back()),
+        Asked::PassOver => place_told(lane.pass_over()),
+        Asked::Evict => place_told(lane.evict()),
+        _ => look(lane, asked),
+    }
+}
+
+fn answers(rt: &impl Abort, lane: &mut Lane, list: &[(Asked, Told)]) {
+    for (asked, told) in list {
+        equal(rt, ask(rt, lane, *asked), *told);
+    }
+}
 
 #[test]
 fn what_is_delivered_goes_around(rt: HostRuntime) -> Result<(), Fail> {
     let mut lane = Lane::new(rt.alloc(), 4, 2, 1)?;
-    assert_eq!(rt; lane.pool(), 4);
-    assert!(rt; lane.is_empty());
-    assert!(rt; lane.deliver(7));
-    assert!(rt; lane.deliver(8));
-    assert!(rt; lane.is_full());
-    assert!(rt; !lane.deliver(9));
-    assert_eq!(rt; lane.take(), Some(7));
-    assert!(rt; lane.is_at_limit());
-    assert_eq!(rt; lane.waiting_len(), 1);
-    assert!(rt; lane.release(7));
-    assert!(rt; !lane.release(7));
-    assert_eq!(rt; lane.taken_len(), 0);
-    assert_eq!(rt; lane.get_back(), Some(7));
-    assert_eq!(rt; lane.get_back(), None);
-    assert_eq!(rt; lane.pass_over(), Some(8));
-    assert_eq!(rt; lane.get_back(), Some(8));
-    assert_eq!(rt; lane.take(), None);
+    answers(
+        &rt,
+        &mut lane,
+        &[
+            (Asked::Pool, Told::Count(4)),
+            (Asked::IsEmpty, Told::Is(true)),
+            (Asked::Deliver(7), Told::Is(true)),
+            (Asked::Deliver(8), Told::Is(true)),
+            (Asked::IsFull, Told::Is(true)),
+            (Asked::Deliver(9), Told::Is(false)),
+            (Asked::Take, Told::Place(7)),
+            (Asked::IsAtLimit, Told::Is(true)),
+            (Asked::Waiting, Told::Count(1)),
+            (Asked::Release(7), Told::Is(true)),
+            (Asked::Release(7), Told::Is(false)),
+            (Asked::Taken, Told::Count(0)),
+            (Asked::GetBack, Told::Place(7)),
+            (Asked::GetBack, Told::NoPlace),
+            (Asked::PassOver, Told::Place(8)),
+            (Asked::GetBack, Told::Place(8)),
+            (Asked::Take, Told::NoPlace),
+        ],
+    );
     Ok(())
 }
 
 #[test]
 fn the_oldest_is_pushed_out(rt: HostRuntime) -> Result<(), Fail> {
     let mut lane = Lane::new(rt.alloc(), 0, 2, 2)?;
-    assert!(rt; lane.deliver(5));
-    assert!(rt; lane.deliver(6));
-    assert_eq!(rt; lane.evict(), Some(5));
-    assert!(rt; lane.deliver(7));
-    assert_eq!(rt; lane.take(), Some(6));
-    assert!(rt; lane.let_go(6));
-    assert_eq!(rt; lane.taken_len(), 0);
-    assert_eq!(rt; lane.get_back(), None);
+    answers(
+        &rt,
+        &mut lane,
+        &[
+            (Asked::Deliver(5), Told::Is(true)),
+            (Asked::Deliver(6), Told::Is(true)),
+            (Asked::Evict, Told::Place(5)),
+            (Asked::Deliver(7), Told::Is(true)),
+            (Asked::Take, Told::Place(6)),
+            (Asked::LetGo(6), Told::Is(true)),
+            (Asked::Taken, Told::Count(0)),
+            (Asked::GetBack, Told::NoPlace),
+        ],
+    );
     Ok(())
 }
 
 #[test]
 fn there_is_room_for_each_return(rt: HostRuntime) -> Result<(), Fail> {
     let mut lane = Lane::new(rt.alloc(), 0, 1, 1)?;
-    assert!(rt; lane.deliver(5));
-    assert_eq!(rt; lane.take(), Some(5));
-    assert!(rt; lane.deliver(6));
-    assert!(rt; lane.release(5));
-    assert_eq!(rt; lane.pass_over(), Some(6));
-    assert!(rt; !lane.deliver(7));
-    assert_eq!(rt; lane.get_back(), Some(5));
-    assert_eq!(rt; lane.get_back(), Some(6));
-    assert!(rt; lane.deliver(7));
+    answers(
+        &rt,
+        &mut lane,
+        &[
+            (Asked::Deliver(5), Told::Is(true)),
+            (Asked::Take, Told::Place(5)),
+            (Asked::Deliver(6), Told::Is(true)),
+            (Asked::Release(5), Told::Is(true)),
+            (Asked::PassOver, Told::Place(6)),
+            (Asked::Deliver(7), Told::Is(false)),
+            (Asked::GetBack, Told::Place(5)),
+            (Asked::GetBack, Told::Place(6)),
+            (Asked::Deliver(7), Told::Is(true)),
+        ],
+    );
     Ok(())
 }

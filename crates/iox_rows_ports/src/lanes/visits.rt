@@ -1,9 +1,12 @@
+//! Pipes that are visited. A test calls them by helpers that promise nothing.
+use crate::expected::{equal, holds};
 use iox_lanes::incoming::{Incoming, Visits};
 use iox_lanes::pipe::Pipe;
 use iox_lanes::search::LaneVisit;
 use iox_lanes::wanted::{Label, Labels, Wanted};
 use iox_model::way::RequestState;
 use std::alloc::{AllocError, Global};
+use std::process::Abort;
 use std::test::Fail;
 
 /// The message in a place answers the request of that number, and goes on lane 0.
@@ -28,63 +31,74 @@ fn two_pipes(alloc: Global) -> Result<Incoming, AllocError> {
     Ok(incoming)
 }
 
+/// Delivers a message to the pipe of that rank.
+fn deliver(incoming: &mut Incoming, rank: usize, place: u64) -> bool {
+    incoming.deliver(rank, 0, place)
+}
+
+/// Ends the test if a visit of all senders does not end so.
+fn visits(rt: &impl Abort, incoming: &mut Incoming, wanted: Visits) {
+    let seen = incoming.visit_all(0, Wanted::Any, &ByPlace);
+    equal(rt, seen, wanted);
+}
+
+/// Ends the test if the first sender cannot get back this alone.
+fn gets_back(rt: &impl Abort, incoming: &mut Incoming, place: u64) {
+    equal(rt, incoming.lane_to_get(0), Some(0));
+    equal(rt, incoming.get_back(0, 0), Some(place));
+    equal(rt, incoming.lane_to_get(0), None);
+}
+
 #[test]
 fn all_senders_are_visited_in_their_order(rt: HostRuntime) -> Result<(), Fail> {
-    let labels = ByPlace;
     let mut incoming = two_pipes(rt.alloc())?;
-    assert_eq!(rt;
-        incoming.visit_all(0, Wanted::Any, &labels),
-        Visits::Nothing
-    );
-    assert!(rt; incoming.deliver(1, 0, 5));
-    assert!(rt; incoming.deliver(0, 0, 3));
-    assert!(rt; incoming.deliver(0, 0, 4));
-    assert!(rt; incoming.is_full(0, 0));
-    assert_eq!(rt;
-        incoming.visit_all(0, Wanted::Any, &labels),
-        Visits::Got(11, 0, 3)
-    );
-    assert_eq!(rt;
-        incoming.visit_all(0, Wanted::Any, &labels),
-        Visits::Got(12, 1, 5)
-    );
-    assert_eq!(rt;
-        incoming.visit_all(0, Wanted::Any, &labels),
-        Visits::AtLimit
-    );
-    assert!(rt; incoming.release(0, 0, 3));
-    assert_eq!(rt;
-        incoming.visit_all(0, Wanted::Any, &labels),
-        Visits::Got(11, 0, 4)
-    );
-    assert_eq!(rt; incoming.lane_to_get(0), Some(0));
-    assert_eq!(rt; incoming.get_back(0, 0), Some(3));
-    assert_eq!(rt; incoming.lane_to_get(0), None);
-    assert!(rt; !incoming.has_waiting_from_any(0));
-    assert_eq!(rt;
-        incoming.visit_all(0, Wanted::Any, &labels),
-        Visits::Nothing
-    );
+    visits(&rt, &mut incoming, Visits::Nothing);
+    for (rank, place) in [(1, 5), (0, 3), (0, 4)] {
+        holds(&rt, deliver(&mut incoming, rank, place));
+    }
+    holds(&rt, incoming.is_full(0, 0));
+    visits(&rt, &mut incoming, Visits::Got(11, 0, 3));
+    visits(&rt, &mut incoming, Visits::Got(12, 1, 5));
+    visits(&rt, &mut incoming, Visits::AtLimit);
+    holds(&rt, incoming.release(0, 0, 3));
+    visits(&rt, &mut incoming, Visits::Got(11, 0, 4));
+    gets_back(&rt, &mut incoming, 3);
+    holds(&rt, !incoming.has_waiting_from_any(0));
+    visits(&rt, &mut incoming, Visits::Nothing);
     Ok(())
+}
+
+/// A pipe of one lane, on which 3, 4 and 5 wait, and the request 4 is open.
+fn three_on_one_lane(alloc: Global, rt: &impl Abort) -> Result<Pipe, AllocError> {
+    let mut pipe = Pipe::new(alloc, 11, 0, 1, 3, 2, 1)?;
+    holds(rt, !pipe.has_waiting_on_any());
+    for place in 3..6 {
+        holds(rt, pipe.deliver(0, place));
+    }
+    holds(rt, pipe.has_waiting_on_any());
+    pipe.open_request(0, 4);
+    Ok(pipe)
+}
+
+/// Ends the test if a visit does not end so, and then this is not got back.
+fn passes_over(rt: &impl Abort, pipe: &mut Pipe, wanted: Wanted, seen: LaneVisit, place: u64) {
+    equal(rt, pipe.visit(0, wanted, &ByPlace), seen);
+    equal(rt, pipe.get_back(0), Some(place));
 }
 
 #[test]
 fn only_what_is_wanted_is_taken(rt: HostRuntime) -> Result<(), Fail> {
-    let labels = ByPlace;
-    let mut pipe = Pipe::new(rt.alloc(), 11, 0, 1, 3, 2, 1)?;
-    assert!(rt; !pipe.has_waiting_on_any());
-    assert!(rt; pipe.deliver(0, 3));
-    assert!(rt; pipe.deliver(0, 4));
-    assert!(rt; pipe.deliver(0, 5));
-    assert!(rt; pipe.has_waiting_on_any());
-    pipe.open_request(0, 4);
-    assert_eq!(rt; pipe.visit(0, Wanted::Named, &labels), LaneVisit::Got(4));
-    assert_eq!(rt; pipe.get_back(0), Some(3));
-    assert_eq!(rt; pipe.visit(0, Wanted::Of(6), &labels), LaneVisit::Nothing);
-    assert_eq!(rt; pipe.get_back(0), Some(5));
-    assert_eq!(rt; pipe.taken_len(0), 1);
-    assert!(rt; !pipe.has_waiting_on_any());
+    let mut pipe = three_on_one_lane(rt.alloc(), &rt)?;
+    passes_over(&rt, &mut pipe, Wanted::Named, LaneVisit::Got(4), 3);
+    passes_over(&rt, &mut pipe, Wanted::Of(6), LaneVisit::Nothing, 5);
+    equal(&rt, pipe.taken_len(0), 1);
+    holds(&rt, !pipe.has_waiting_on_any());
     Ok(())
+}
+
+/// Ends the test if the request of that lane of the second sender is not so.
+fn is_so(rt: &impl Abort, incoming: &Incoming, state: RequestState) {
+    equal(rt, incoming.state(1, 0), state);
 }
 
 #[test]
@@ -96,30 +110,36 @@ fn request_states_open_and_close(rt: HostRuntime) -> Result<(), Fail> {
         id: 9,
         hinted: false,
     };
-    assert_eq!(rt; incoming.state(1, 0), open);
+    is_so(&rt, &incoming, open);
     incoming.hint_request(1, 0, 9);
     let hinted = RequestState::Named {
         id: 9,
         hinted: true,
     };
-    assert_eq!(rt; incoming.state(1, 0), hinted);
-    assert_eq!(rt; incoming.state(0, 0), RequestState::Closed);
+    is_so(&rt, &incoming, hinted);
+    equal(&rt, incoming.state(0, 0), RequestState::Closed);
     incoming.close_request(1, 0, 9);
-    assert_eq!(rt; incoming.state(1, 0), RequestState::Closed);
+    is_so(&rt, &incoming, RequestState::Closed);
     Ok(())
+}
+
+/// Who was disconnected.
+fn disconnect(incoming: &mut Incoming, rank: usize) -> Option<u64> {
+    Some(incoming.disconnect(rank)?.sender())
 }
 
 #[test]
 fn ports_come_and_go(rt: HostRuntime) -> Result<(), Fail> {
     let mut incoming = two_pipes(rt.alloc())?;
-    assert_eq!(rt; incoming.len(), 2);
-    assert!(rt; !incoming.connect(Pipe::new(rt.alloc(), 13, 2, 1, 1, 1, 0)?));
-    assert_eq!(rt; incoming.rank(12), Some(1));
-    let gone = incoming.disconnect(0);
-    assert_eq!(rt; gone.map(|pipe| pipe.sender()), Some(11));
-    assert_eq!(rt; incoming.rank(12), Some(0));
-    assert_eq!(rt; incoming.rank(11), None);
-    assert_eq!(rt; incoming.sender(0), Some(12));
-    assert!(rt; incoming.disconnect(1).is_none());
+    equal(&rt, incoming.len(), 2);
+    holds(
+        &rt,
+        !incoming.connect(Pipe::new(rt.alloc(), 13, 2, 1, 1, 1, 0)?),
+    );
+    equal(&rt, incoming.rank(12), Some(1));
+    equal(&rt, disconnect(&mut incoming, 0), Some(11));
+    equal(&rt, (incoming.rank(12), incoming.rank(11)), (Some(0), None));
+    equal(&rt, incoming.sender(0), Some(12));
+    equal(&rt, disconnect(&mut incoming, 1), None);
     Ok(())
 }

@@ -1,3 +1,4 @@
+use crate::expected::equal;
 use iox_control::{Control, Settings};
 use iox_control_lending::{
     Asked, Lending, LoanRefusal, free_lane, is_lane_taken, loan_refusal, pendings_of,
@@ -77,18 +78,21 @@ fn loans_are_refused_by_length_size_and_count(rt: HostRuntime) -> Result<(), Fai
     let control = Control::new(rt.alloc(), settings())?;
     let client = lender(Role::Client);
     let server = lender(Role::Server);
-    assert_eq!(rt; loan_refusal(&control, client, asked(8, true)), None);
-    assert_eq!(rt;
+    equal(&rt, loan_refusal(&control, client, asked(8, true)), None);
+    equal(
+        &rt,
         loan_refusal(&control, client, asked(8, false)),
-        Some(LoanRefusal::WrongLength)
+        Some(LoanRefusal::WrongLength),
     );
-    assert_eq!(rt;
+    equal(
+        &rt,
         loan_refusal(&control, client, asked(9, true)),
-        Some(LoanRefusal::ExceedsMaxLoanSize)
+        Some(LoanRefusal::ExceedsMaxLoanSize),
     );
-    assert_eq!(rt;
+    equal(
+        &rt,
         loan_refusal(&control, server, asked(8, true)),
-        Some(LoanRefusal::ExceedsMaxLoans)
+        Some(LoanRefusal::ExceedsMaxLoans),
     );
     Ok(())
 }
@@ -96,18 +100,18 @@ fn loans_are_refused_by_length_size_and_count(rt: HostRuntime) -> Result<(), Fai
 #[test]
 fn a_new_hub_has_nothing_on_loan(rt: HostRuntime) -> Result<(), Fail> {
     let control = Control::new(rt.alloc(), settings())?;
-    assert_eq!(rt; requests_on_loan(&control, 0), 0);
-    assert_eq!(rt; responses_on_loan(&control, 0), 0);
-    assert_eq!(rt; responses_to(&control, 0, 0, 0), 0);
-    assert_eq!(rt; pendings_of(&control, 0), 0);
+    equal(&rt, requests_on_loan(&control, 0), 0);
+    equal(&rt, responses_on_loan(&control, 0), 0);
+    equal(&rt, responses_to(&control, 0, 0, 0), 0);
+    equal(&rt, pendings_of(&control, 0), 0);
     Ok(())
 }
 
 #[test]
 fn the_lowest_lane_of_a_new_hub_is_free(rt: HostRuntime) -> Result<(), Fail> {
     let control = Control::new(rt.alloc(), settings())?;
-    assert_eq!(rt; is_lane_taken(&control, 0, 0), false);
-    assert_eq!(rt; free_lane(&control, 0, 2), Some(0));
-    assert_eq!(rt; free_lane(&control, 0, 0), None);
+    equal(&rt, is_lane_taken(&control, 0, 0), false);
+    equal(&rt, free_lane(&control, 0, 2), Some(0));
+    equal(&rt, free_lane(&control, 0, 0), None);
     Ok(())
 }

@@ -1,5 +1,6 @@
 ghost use Rattle.std.specs.Prelude.{◌≡◌, ◌≤◌};
 
+use crate::expected::equal;
 use iox_control::{Control, Settings};
 use iox_control_making::{Asked, NotMade, make_port};
 use iox_model::kind::Role;
@@ -72,17 +73,17 @@ fn reason(made: Result<u64, NotMade>) -> Option<NotMade> {
 fn a_client_and_a_server_are_made(rt: HostRuntime) -> Result<(), Fail> {
     let mut control = Control::new(rt.alloc(), settings())?;
     let client = make_port(&mut control, rt.alloc(), 0, Role::Client, NODE, asked(5));
-    assert_eq!(rt; number(client), 0);
+    equal(&rt, number(client), 0);
     // of its own messages: no server is there yet
-    assert_eq!(rt; control.handles().room(), 5);
+    equal(&rt, control.handles().room(), 5);
     let server = make_port(&mut control, rt.alloc(), 1, Role::Server, NODE, asked(9));
-    assert_eq!(rt; number(server), 1);
+    equal(&rt, number(server), 1);
     // of both, and of what may be received: 3 responses to each of 5 requests, and 4 requests
-    assert_eq!(rt; control.handles().room(), 33);
-    assert_eq!(rt; control.ports_made(), 2);
-    assert_eq!(rt; control.next_number(), 2);
-    assert_eq!(rt; control.pools().len(0), 5);
-    assert_eq!(rt; control.pools().len(1), 9);
+    equal(&rt, control.handles().room(), 33);
+    equal(&rt, control.ports_made(), 2);
+    equal(&rt, control.next_number(), 2);
+    equal(&rt, control.pools().len(0), 5);
+    equal(&rt, control.pools().len(1), 9);
     Ok(())
 }
 
@@ -98,11 +99,11 @@ fn what_there_is_too_much_of_is_refused(rt: HostRuntime) -> Result<(), Fail> {
         loaned_responses: 2,
     };
     let refused = make_port(&mut control, rt.alloc(), 0, Role::Client, NODE, large);
-    assert_eq!(rt; reason(refused), Some(NotMade::DataSegment));
+    equal(&rt, reason(refused), Some(NotMade::DataSegment));
     let first = make_port(&mut control, rt.alloc(), 0, Role::Client, NODE, asked(5));
-    assert_eq!(rt; number(first), 0);
+    equal(&rt, number(first), 0);
     let second = make_port(&mut control, rt.alloc(), 0, Role::Client, NODE, asked(5));
-    assert_eq!(rt; reason(second), Some(NotMade::TooManyPorts));
-    assert_eq!(rt; control.ports_made(), 1);
+    equal(&rt, reason(second), Some(NotMade::TooManyPorts));
+    equal(&rt, control.ports_made(), 1);
     Ok(())
 }

@@ -1,3 +1,4 @@
+use crate::expected::{equal, holds};
 use iox_lanes::wanted::{Label, Labels};
 use iox_slots::{Pools, Slot};
 use iox_types::identifiers::UniqueSystemId;
@@ -47,17 +48,17 @@ fn slot(pools: &Pools, place: usize, slot: u64) -> Option<(u64, u64, u64, u64, u
 fn slots_come_and_go(rt: HostRuntime) -> Result<(), Fail> {
     let mut pools = Pools::new(rt.alloc());
     let place = pool_of(&mut pools, rt.alloc(), 2)?;
-    assert_eq!(rt; place, 0);
+    equal(&rt, place, 0);
     let Some(first) = acquire(&mut pools, place) else {
-        assert!(rt; false);
+        holds(&rt, false);
         return Ok(());
     };
-    assert!(rt; acquire(&mut pools, place).is_some());
-    assert_eq!(rt; acquire(&mut pools, place), None);
-    assert!(rt; let_go(&mut pools, place, first));
-    assert!(rt; !let_go(&mut pools, place, first));
-    assert!(rt; !let_go(&mut pools, place, 2));
-    assert_eq!(rt; acquire(&mut pools, place), Some(first));
+    holds(&rt, acquire(&mut pools, place).is_some());
+    equal(&rt, acquire(&mut pools, place), None);
+    holds(&rt, let_go(&mut pools, place, first));
+    holds(&rt, !let_go(&mut pools, place, first));
+    holds(&rt, !let_go(&mut pools, place, 2));
+    equal(&rt, acquire(&mut pools, place), Some(first));
     Ok(())
 }
 
@@ -65,16 +66,16 @@ fn slots_come_and_go(rt: HostRuntime) -> Result<(), Fail> {
 fn what_is_written_is_read(rt: HostRuntime) -> Result<(), Fail> {
     let mut pools = Pools::new(rt.alloc());
     let place = pool_of(&mut pools, rt.alloc(), 2)?;
-    assert!(rt; write(&mut pools, place, 1));
-    assert!(rt; !write(&mut pools, place, 2));
-    assert_eq!(rt; slot(&pools, place, 1), Some((10, 11, 12, 13, 0)));
-    assert_eq!(rt; slot(&pools, place, 0), Some((0, 0, 0, 0, 0)));
-    assert_eq!(rt; slot(&pools, place, 2), None);
+    holds(&rt, write(&mut pools, place, 1));
+    holds(&rt, !write(&mut pools, place, 2));
+    equal(&rt, slot(&pools, place, 1), Some((10, 11, 12, 13, 0)));
+    equal(&rt, slot(&pools, place, 0), Some((0, 0, 0, 0, 0)));
+    equal(&rt, slot(&pools, place, 2), None);
     let label = Label {
         lane: 11,
         request: 12,
     };
-    assert_eq!(rt; pools.label(place, 1), label);
+    equal(&rt, pools.label(place, 1), label);
     Ok(())
 }
 
@@ -83,14 +84,14 @@ fn pools_come_and_go(rt: HostRuntime) -> Result<(), Fail> {
     let mut pools = Pools::new(rt.alloc());
     let first = pool_of(&mut pools, rt.alloc(), 2)?;
     let second = pool_of(&mut pools, rt.alloc(), 3)?;
-    assert_eq!(rt; (first, second), (0, 1));
-    assert_eq!(rt; pools.owner(second), 7);
-    assert_eq!(rt; pools.ids(second), Some((id(4), id(5))));
-    assert_eq!(rt; (pools.len(second), pools.free_len(second)), (3, 3));
-    assert!(rt; pools.is_idle(second));
+    equal(&rt, (first, second), (0, 1));
+    equal(&rt, pools.owner(second), 7);
+    equal(&rt, pools.ids(second), Some((id(4), id(5))));
+    equal(&rt, (pools.len(second), pools.free_len(second)), (3, 3));
+    holds(&rt, pools.is_idle(second));
     pools.remove(first);
-    assert_eq!(rt; (pools.len(first), pools.ids(first)), (0, None));
-    assert_eq!(rt; pool_of(&mut pools, rt.alloc(), 1)?, first);
-    assert!(rt; pool_of(&mut pools, rt.alloc(), usize::MAX).is_err());
+    equal(&rt, (pools.len(first), pools.ids(first)), (0, None));
+    equal(&rt, pool_of(&mut pools, rt.alloc(), 1)?, first);
+    holds(&rt, pool_of(&mut pools, rt.alloc(), usize::MAX).is_err());
     Ok(())
 }

@@ -1,7 +1,8 @@
-//! Parties that are kept in memory.
+//! Parties that are kept in memory. A test calls the queue by helpers that promise nothing.
+use super::machine_at;
 use crate::expected::{equal, holds};
 use iox_queue_steps::{Call, QueueMachine, StepAnswer, StoredQueue};
-use iox_steps::{Entry, Progress, QueueKind, QueueReply, Site};
+use iox_steps::{Entry, MachineError, Progress, QueueKind, QueueReply, Site};
 use std::alloc::Global;
 use std::process::Abort;
 use std::test::Fail;
@@ -25,55 +26,85 @@ fn queue_at(
     Ok(StoredQueue::new(words, site))
 }
 
-/// Makes accesses of the pushing party until its call is done.
-fn end_push(queue: &mut StoredQueue) -> StepAnswer {
-    for _ in 0..5u64 {
-        let answer = queue.step_push();
-        if answer != StepAnswer::Going {
-            return answer;
-        }
+/// Begins a call, if its party is at rest.
+fn begin(queue: &mut StoredQueue, call: Call) -> bool {
+    match call {
+        Call::Push(value) => queue.begin_push(value),
+        Call::Pop => queue.begin_pop(),
+        Call::IsFull => queue.begin_is_full(),
+        Call::IsEmpty => queue.begin_is_empty(),
     }
-    queue.step_push()
 }
 
-/// The same of the popping party.
-fn end_pop(queue: &mut StoredQueue) -> StepAnswer {
+/// An access of the party whose call this is.
+fn step(queue: &mut StoredQueue, call: Call) -> StepAnswer {
+    match call {
+        Call::Push(_) | Call::IsFull => queue.step_push(),
+        Call::Pop | Call::IsEmpty => queue.step_pop(),
+    }
+}
+
+/// Makes accesses of the call until it is done.
+fn end(queue: &mut StoredQueue, call: Call) -> StepAnswer {
     for _ in 0..5u64 {
-        let answer = queue.step_pop();
+        let answer = step(queue, call);
         if answer != StepAnswer::Going {
             return answer;
         }
     }
-    queue.step_pop()
+    step(queue, call)
+}
+
+/// Ends the test if a call is not begun or does not answer this.
+fn calls(rt: &impl Abort, queue: &mut StoredQueue, call: Call, answer: StepAnswer) {
+    holds(rt, begin(queue, call));
+    equal(rt, end(queue, call), answer);
+}
+
+/// A look that nothing of its party can be begun beside. Its second access answers this.
+fn looks(rt: &impl Abort, queue: &mut StoredQueue, look: Call, other: Call, answer: StepAnswer) {
+    holds(rt, begin(queue, look));
+    holds(rt, !begin(queue, look));
+    holds(rt, !begin(queue, other));
+    equal(rt, step(queue, look), StepAnswer::Going);
+    equal(rt, step(queue, look), answer);
 }
 
 #[test]
 fn looks_answer_yes_and_no(rt: HostRuntime) -> Result<(), Fail> {
     let mut queue = queue_at(rt.alloc(), &rt, QueueKind::Index, 4)?;
-    holds(
-        &rt,
-        queue.begin_is_empty() && !queue.begin_is_empty() && !queue.begin_pop(),
-    );
-    equal(&rt, queue.step_pop(), StepAnswer::Going);
-    equal(&rt, queue.step_pop(), StepAnswer::Yes);
-    holds(
-        &rt,
-        queue.begin_is_full() && !queue.begin_is_full() && !queue.begin_push(1),
-    );
-    equal(&rt, queue.step_push(), StepAnswer::Going);
-    equal(&rt, queue.step_push(), StepAnswer::No);
+    looks(&rt, &mut queue, Call::IsEmpty, Call::Pop, StepAnswer::Yes);
+    looks(&rt, &mut queue, Call::IsFull, Call::Push(1), StepAnswer::No);
     for value in 1..3u64 {
-        holds(&rt, queue.begin_push(value));
-        equal(&rt, end_push(&mut queue), StepAnswer::Done);
+        calls(&rt, &mut queue, Call::Push(value), StepAnswer::Done);
     }
-    holds(&rt, queue.begin_is_full() && queue.begin_is_empty());
-    equal(&rt, end_push(&mut queue), StepAnswer::Yes);
-    equal(&rt, end_pop(&mut queue), StepAnswer::No);
-    holds(&rt, queue.begin_push(3));
-    equal(&rt, end_push(&mut queue), StepAnswer::Refuses(3));
-    holds(&rt, queue.begin_pop());
-    equal(&rt, end_pop(&mut queue), StepAnswer::Gives(1));
+    holds(&rt, begin(&mut queue, Call::IsFull));
+    holds(&rt, begin(&mut queue, Call::IsEmpty));
+    equal(&rt, end(&mut queue, Call::IsFull), StepAnswer::Yes);
+    equal(&rt, end(&mut queue, Call::IsEmpty), StepAnswer::No);
+    calls(&rt, &mut queue, Call::Push(3), StepAnswer::Refuses(3));
+    calls(&rt, &mut queue, Call::Pop, StepAnswer::Gives(1));
     Ok(())
+}
+
+/// Pushes the numbers from 1 to the last, of which each after the second pushes one out, and pops
+/// the two that are left.
+fn last_two_are_left(rt: &impl Abort, queue: &mut StoredQueue, last: u64) {
+    for value in 1..last.saturating_add(1) {
+        let oldest = match value.checked_sub(2) {
+            None | Some(0) => StepAnswer::Done,
+            Some(older) => StepAnswer::Gives(older),
+        };
+        calls(rt, queue, Call::Push(value), oldest);
+    }
+    calls(
+        rt,
+        queue,
+        Call::Pop,
+        StepAnswer::Gives(last.saturating_sub(1)),
+    );
+    calls(rt, queue, Call::Pop, StepAnswer::Gives(last));
+    calls(rt, queue, Call::Pop, StepAnswer::Done);
 }
 
 #[test]
@@ -81,47 +112,44 @@ fn a_pop_finds_its_cell_after_any_number_of_evictions(rt: HostRuntime) -> Result
     for position in 0..4u64 {
         for last in 3..12u64 {
             let mut queue = queue_at(rt.alloc(), &rt, QueueKind::Overflowing, position)?;
-            for value in 1..last + 1 {
-                holds(&rt, queue.begin_push(value));
-                let oldest = if value < 3 {
-                    StepAnswer::Done
-                } else {
-                    StepAnswer::Gives(value - 2)
-                };
-                equal(&rt, end_push(&mut queue), oldest);
-            }
-            for value in last - 1..last + 1 {
-                holds(&rt, queue.begin_pop());
-                equal(&rt, end_pop(&mut queue), StepAnswer::Gives(value));
-            }
-            holds(&rt, queue.begin_pop());
-            equal(&rt, end_pop(&mut queue), StepAnswer::Done);
+            last_two_are_left(&rt, &mut queue, last);
         }
     }
     Ok(())
 }
 
+/// Pushes the numbers from 1 to the last, and then pops: how the pop ends.
+fn popped_after(
+    machine: &mut QueueMachine,
+    last: u64,
+) -> Result<Progress<QueueReply>, MachineError> {
+    for value in 1..last.saturating_add(1) {
+        begin_and_run(machine, 0, Call::Push(value), &[Entry::Step(0); 6])?;
+    }
+    begin_and_run(machine, 1, Call::Pop, &[Entry::Step(1); 3])?;
+    machine.step(1)
+}
+
+/// Begins a call, and then plays a schedule.
+fn begin_and_run(
+    machine: &mut QueueMachine,
+    party: usize,
+    call: Call,
+    schedule: &[Entry<Call>],
+) -> Result<(), MachineError> {
+    machine.begin(party, call)?;
+    machine.run(schedule)
+}
+
 #[test]
 fn a_machine_pops_after_any_number_of_evictions(rt: HostRuntime) -> Result<(), Fail> {
     for last in 3..9u64 {
-        let words = vec![in rt.alloc(); 0u64; 8]?;
-        assert!(rt; words.len() == 8 && words[1] == words[2]);
-        let site = Site {
-            kind: QueueKind::Overflowing,
-            base: 1,
-            capacity: 2,
-        };
-        let mut machine = QueueMachine::new(rt.alloc(), words, site)?;
-        for value in 1..last + 1 {
-            machine.begin(0, Call::Push(value))?;
-            machine.run(&[Entry::Step(0); 6])?;
-        }
-        machine.begin(1, Call::Pop)?;
-        machine.run(&[Entry::Step(1); 3])?;
+        let mut machine = machine_at(rt.alloc(), &rt, QueueKind::Overflowing, 2, 0)?;
+        let popped = QueueReply::Popped(last.checked_sub(1));
         equal(
             &rt,
-            machine.step(1)?,
-            Progress::Done(QueueReply::Popped(Some(last - 1))),
+            popped_after(&mut machine, last)?,
+            Progress::Done(popped),
         );
     }
     Ok(())
