@@ -4,14 +4,14 @@ ghost use Rattle.iox_service_laws.specs.Asked.{CleanupsAreReleases, ListingsAreE
 ghost use Rattle.iox_service_laws.specs.Asked.{RefusalsLeave};
 ghost use Rattle.iox_service_laws.specs.Gone.{ClosesWithTheLastNode, KeepsNothingForTheGone};
 ghost use Rattle.iox_service_laws.specs.Gone.{TheDeadDoNothing};
-ghost use Rattle.iox_service_laws.specs.Limits.{LimitsHold, PoolsSuffice};
+ghost use Rattle.iox_service_laws.specs.Limits.{LimitsHold, LoansSucceed, PoolsSuffice};
 ghost use Rattle.iox_service_laws.specs.Messages.{AreAsDelivered, ComeAtMostOnce};
 ghost use Rattle.iox_service_laws.specs.Messages.{ComeAtTheirRequest, ComeInOrder, WereSent};
 ghost use Rattle.iceoryx2_wire.specs.Services.{service_of};
 
 use crate::laws::{
     cleanups_are_releases, closes_with_the_last_node, keeps_nothing_for_the_gone, limits_hold,
-    listings_are_exact, messages_are_as_delivered, messages_come_at_most_once,
+    listings_are_exact, loans_succeed, messages_are_as_delivered, messages_come_at_most_once,
     messages_come_at_their_request, messages_come_in_order, messages_were_sent, pools_suffice,
     refusals_leave_the_state, the_dead_do_nothing,
 };
@@ -42,10 +42,12 @@ pub fn knows_its_messages(service: &Bytes)
 pub fn knows_its_limits(service: &Bytes)
     ensures limits { LimitsHold (service_of service.now) }
     ensures pools { PoolsSuffice (service_of service.now) }
+    ensures loans { LoansSucceed (service_of service.now) }
 {
     let nodes = service.nodes();
     limits_hold(nodes);
     pools_suffice(nodes);
+    loans_succeed(nodes);
 }
 
 /// What is left of those that are gone, and what commands come to.
