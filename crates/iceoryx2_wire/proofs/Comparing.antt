@@ -1,4 +1,4 @@
--- Creators and openers are asked what the description says, and a refused open keeps the state.
+-- Creators and openers are asked what the description says.
 use Rattle.std.specs.Prelude.{◌≡◌, ℕ, List, Option, Some, None, Result, Ok, Err, OnErr, refl}
 use Rattle.std.specs.declared.convert.Infallible.{Infallible}
 use Rattle.std.specs.declared.vec.Vec.{Vec}
@@ -33,7 +33,7 @@ use Rattle.iceoryx2_wire.specs.Serving.{IsAnswered, OpenCommand, OpenReply}
 use Rattle.iceoryx2_wire.specs.declared.identity.ServiceIdentity.{ServiceIdentity}
 
 -- that service with this description and these nodes
-abbrev with_nodes : ServiceIdentity → ServiceDescription → ServiceTables → DescribedService
+abbrev pub with_nodes : ServiceIdentity → ServiceDescription → ServiceTables → DescribedService
 with_nodes i d v = record { identity = i; description = d; nodes = v }
 
 pub made_so : (l : Limits) (own : MessageTypes) (i : ServiceIdentity) (d : ServiceDescription) (id : UniqueSystemId) (v : ServiceTables)
@@ -61,26 +61,6 @@ pub opened_so : (i : ServiceIdentity) (d : ServiceDescription) (v w : ServiceTab
     → IsOpened (with_nodes i d v) types required id result (with_nodes i d w)
 opened_so i d v w types required id asked result tests joined =
     record { asked = as_refusal asked; tests = tests; join = joined cause_of; says = refl; named = refl }
-
-abbrev IsRefused : Reply → Type 0
-IsRefused (replies.Refused r) = Unit {0}
-IsRefused reply = ⊥
-
-not_refused : (x : Refusal) (answer : Reply) → (IsRefused answer → ⊥) → replies.Refused x ≡ answer → ⊥
-not_refused x answer not e = not (subst IsRefused e tt)
-
-kept_if : (r : Option Refusal) (x : Refusal) (answer : Reply) (s s' : State) (Q : Type 0) → (IsRefused answer → ⊥)
-    → UnlessRefused r s (replies.Refused x) s' ((replies.Refused x ≡ answer) × Q) → s' ≡ s
-kept_if (Some y) x answer s s' Q not h = h.1
-kept_if None x answer s s' Q not h = absurd (not_refused x answer not h.0)
-
--- a refused join keeps the state
-pub refused_keeps : (s s' : State) (id : UniqueSystemId) (asked : Option (the_refusal.Refusal AttributeVerificationError))
-    (result : Result ℕ (the_refusal.Refusal AttributeVerificationError)) → IsJoin s id asked result s' → OnErr result (s' ≡ s)
-refused_keeps s s' id asked (Ok n) joined = tt
-refused_keeps s s' id asked (Err r) joined =
-    kept_if (opening_refusal s id (as_refusal asked) (joined cause_of).0) (with_cause cause_of r) (replies.Node s.members.joins) s s' _
-    (λ no. no) (joined cause_of).1
 
 pub if_err : {A E P Q : Type 0} (r : Result A E) → (P → Q) → OnErr r P → OnErr r Q
 if_err (Ok x) f p = tt

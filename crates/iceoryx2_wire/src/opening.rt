@@ -27,7 +27,7 @@ impl<Q: Payload, QH: Words, P: Payload, PH: Words> Service<Q, QH, P, PH> {
         id: UniqueSystemId,
     ) -> Result<u64, Refusal<AttributeVerificationError>>
         ensures opened { IsOpened self.old types.now verifier.now id result self.new }
-        ensures unchanged { OnErr result (service_of self.new ≡ service_of self.old) }
+        ensures unchanged { OnErr result (self.new ≡ self.old) }
     {
         let asked = self.description.opener_refusal(types, verifier);
         self.nodes.join(id, asked)

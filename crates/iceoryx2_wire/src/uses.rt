@@ -29,7 +29,7 @@ pub fn opens(
 ) -> Result<u64, Refusal<AttributeVerificationError>>
     ensures opened { IsOpened service.old types.now (record { pairs = []; keys = [] }) id result
         service.new }
-    ensures unchanged { OnErr result (service_of service.new ≡ service_of service.old) }
+    ensures unchanged { OnErr result (service.new ≡ service.old) }
     ensures served { IsServed (service_of service.new) }
 {
     let verifier = AttributeVerifier::new();

@@ -79,6 +79,16 @@ join_keeps x x' h id asked r done =
     (refused_stays (opening_refusal (state_of x h) id (option_map (with_cause any_cause) asked) (done any_cause).0) (state_of x h) (state_of x' h)
     (with_cause any_cause r) x.joins (state_of x' h ≡ with_members (state_of x h) (joined x id)) (done any_cause).1)
 
+pub if_err : {A E P Q : Type 0} (r : Result A E) → (P → Q) → OnErr r P → OnErr r Q
+if_err (Ok x) f p = tt
+if_err (Err e) f p = f p
+
+-- where a join is refused, all stays
+pub join_stays : {C : Type 0} (x x' : Members) (h : HubState) (id : UniqueSystemId) (asked : Option (the_refusal.Refusal C)) (s : HubSettings)
+    (result : Result ℕ (the_refusal.Refusal C)) → IsJoined x id asked s.nodes result x' → s ≡ h.control.tables.settings → OnErr result (x' ≡ x)
+join_stays x x' h id asked s (Ok n) joins limit = tt
+join_stays x x' h id asked s (Err r) joins limit = join_keeps x x' h id asked r (joined_so x x' h id asked s (Err r) joins limit)
+
 -- where memory was wanted for a join, all stays, and it may be refused for that
 pub join_lacks : {C : Type 0} (x x' : Members) (h : HubState) (id : UniqueSystemId) (asked : Option (the_refusal.Refusal C)) (s : HubSettings)
     (result : Result ℕ (the_refusal.Refusal C)) → IsJoined x id asked s.nodes result x' → s ≡ h.control.tables.settings → is_wanting result ≡ true

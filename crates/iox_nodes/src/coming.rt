@@ -32,7 +32,8 @@ impl<Q: Payload, QH: Words, P: Payload, PH: Words> Service<Q, QH, P, PH> {
         id: UniqueSystemId,
         asked: Option<Refusal<C>>,
     ) -> Result<u64, Refusal<C>>
-        ensures { IsJoin (service_of self.old) id asked result (service_of self.new) }
+        ensures joined { IsJoin (service_of self.old) id asked result (service_of self.new) }
+        ensures unchanged { OnErr result (self.new ≡ self.old) }
     {
         match self.try_join(id, asked) {
             Ok(answer) => answer,
@@ -48,6 +49,7 @@ impl<Q: Payload, QH: Words, P: Payload, PH: Words> Service<Q, QH, P, PH> {
     ) -> Result<Result<u64, Refusal<C>>, AllocError>
         ensures joined { IfOk result (λ answer.
             IsJoin (service_of self.old) id asked answer (service_of self.new)) }
+        ensures refused { IfOk result (λ answer. OnErr answer (self.new ≡ self.old)) }
         ensures memory { IfOk result (λ answer. is_wanting answer ≡ false) }
         ensures wanting { OnErr result
             (IsJoin (service_of self.old) id asked (Err WantOfMemory) (service_of self.old)) }

@@ -1,7 +1,7 @@
 use Rattle.std.proofs.Common.{ap, sym, ◌∙◌}
 use Rattle.iox_port_commands.specs.Settings.{settings_of}
 use Rattle.iox_nodes.specs.Shown.{tables_of}
-use Rattle.iox_nodes.proofs.Lacking.{join_lacks}
+use Rattle.iox_nodes.proofs.Lacking.{if_err, join_lacks, join_stays}
 use Rattle.iox_nodes.proofs.Leading.{joined_service, joined_so}
 use Rattle.iox_nodes.proofs.service.Service.try_join.Goals as goal
 
@@ -29,6 +29,13 @@ returns-then-is_wanting-clause-unchanged g c =
     (ap (λ m. tables_of m c.self.inside.hub)
     (join_lacks c.self.inside.members c.join-answer.new.self c.self.inside.hub c.args.id c.args.asked (settings_of c.settings-most.result)
     c.join-answer.result c.join-answer.ensures c.settings-most.ensures (sym c.is_wanting.ensures ∙ c.if-is_wanting.true)).0)
+
+pub returns-clause-refused : goal.returns-clause-refused
+returns-clause-refused g c =
+    rw (← c.self.view_is)
+    (if_err c.join-answer.result (ap (λ m. tables_of m c.self.inside.hub))
+    (join_stays c.self.inside.members c.join-answer.new.self c.self.inside.hub c.args.id c.args.asked (settings_of c.settings-most.result)
+    c.join-answer.result c.join-answer.ensures c.settings-most.ensures))
 
 pub returns-clause-joined : goal.returns-clause-joined
 returns-clause-joined g c =
