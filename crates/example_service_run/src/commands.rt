@@ -6,8 +6,6 @@ use std::alloc::{AllocError, Global};
 /// A command. No port has a backpressure handler, so its type does not matter.
 pub type TheCommand<'a> = Command<Elements<u8, u64>, (), &'a Opener>;
 
-type AtPort = PortCommand<Elements<u8, u64>, ()>;
-
 const OPTIONS: PortOptions<()> = PortOptions {
     max_slice_len: 16,
     pool: None,
@@ -17,45 +15,123 @@ const OPTIONS: PortOptions<()> = PortOptions {
     handler: None,
 };
 
-/// A server of node 0, and a client of node 1. They are numbers 0 and 1. The id is no matter: the
-/// service gives each port the id with which its node opened it.
-fn ports(alloc: Global, id: UniqueNodeId) -> Result<Vec<AtPort>, AllocError> {
-    let (server, client) = (OPTIONS, OPTIONS);
-    let mut ports = Vec::with_capacity(alloc, 2)?;
-    ports.push(PortCommand::Server {
-        node: 0,
+/// A node makes a server. The id is no matter: the service gives each port the id with which its
+/// node opened it.
+fn server<'a>(node: u64, id: UniqueNodeId) -> TheCommand<'a> {
+    Command::Port(PortCommand::Server {
+        node,
         id,
-        options: server,
-    })?;
-    ports.push(PortCommand::Client {
-        node: 1,
+        options: OPTIONS,
+    })
+}
+
+/// A node makes a client.
+fn client<'a>(node: u64, id: UniqueNodeId) -> TheCommand<'a> {
+    Command::Port(PortCommand::Client {
+        node,
         id,
-        options: client,
-    })?;
-    Ok(ports)
+        options: OPTIONS,
+    })
+}
+
+/// A port or a handle of a node receives.
+fn receive<'a>(node: u64, number: u64) -> TheCommand<'a> {
+    Command::Port(PortCommand::Receive { node, number })
+}
+
+/// A node reads the message of a handle.
+fn read<'a>(node: u64, number: u64) -> TheCommand<'a> {
+    Command::Port(PortCommand::Read { node, number })
+}
+
+/// A node sends by a client or an active request.
+fn send<'a>(node: u64, number: u64, payload: Elements<u8, u64>) -> TheCommand<'a> {
+    Command::Port(PortCommand::SendCopy {
+        node,
+        number,
+        payload,
+    })
+}
+
+/// Node 1 opens the service at the second try. Node 0 has a server and node 1 a client: numbers 0
+/// and 1.
+fn opening<'a>(
+    commands: &mut Vec<TheCommand<'a>>,
+    any: UniqueNodeId,
+    fits: &'a Opener,
+    unfit: &'a Opener,
+) -> Result<(), AllocError> {
+    for asked in [unfit, fits] {
+        commands.push(Command::Join { id: id(2), asked })?;
+    }
+    commands.push(server(0, any))?;
+    commands.push(client(1, any))?;
+    Ok(())
 }
 
 /// The client asks for the length of a text; the server receives it as handle 3, reads it and
 /// answers; the client hears the answer as handle 4.
-fn exchange(alloc: Global) -> Result<Vec<AtPort>, AllocError> {
+fn exchange(alloc: Global, commands: &mut Vec<TheCommand<'_>>) -> Result<(), AllocError> {
     let text = vec![in alloc; b'h', b'e', b'l', b'l', b'o']?;
     let length = vec![in alloc; text.len() as u64]?;
-    let mut exchange = Vec::with_capacity(alloc, 6)?;
-    exchange.push(PortCommand::SendCopy {
-        node: 1,
-        number: 1,
-        payload: Elements::Requests(text),
+    commands.push(send(1, 1, Elements::Requests(text)))?;
+    commands.push(receive(0, 0))?;
+    commands.push(read(0, 3))?;
+    commands.push(send(0, 3, Elements::Responses(length)))?;
+    commands.push(receive(1, 2))?;
+    commands.push(read(1, 4))?;
+    Ok(())
+}
+
+/// Node 1 lives, so it is not cleaned up, and has a client, so it does not leave. Once it is dead it
+/// asks nothing more, and once it is cleaned up it is not known.
+fn death(commands: &mut Vec<TheCommand<'_>>) -> Result<(), AllocError> {
+    commands.push(Command::Cleanup { node: 1 })?;
+    commands.push(Command::Leave { node: 1 })?;
+    commands.push(Command::DeclareDead { node: 1 })?;
+    commands.push(receive(1, 2))?;
+    commands.push(Command::ListClients)?;
+    commands.push(Command::Cleanup { node: 1 })?;
+    commands.push(receive(1, 2))?;
+    commands.push(Command::ListClients)?;
+    Ok(())
+}
+
+/// Node 2 has a server, too, number 5, and dies. That of node 0 stays, and receives a request as
+/// handle 8.
+fn two_servers<'a>(
+    alloc: Global,
+    commands: &mut Vec<TheCommand<'a>>,
+    any: UniqueNodeId,
+    fits: &'a Opener,
+) -> Result<(), AllocError> {
+    commands.push(Command::Join {
+        id: id(2),
+        asked: fits,
     })?;
-    exchange.push(PortCommand::Receive { node: 0, number: 0 })?;
-    exchange.push(PortCommand::Read { node: 0, number: 3 })?;
-    exchange.push(PortCommand::SendCopy {
-        node: 0,
-        number: 3,
-        payload: Elements::Responses(length),
+    commands.push(server(2, any))?;
+    commands.push(Command::DeclareDead { node: 2 })?;
+    commands.push(Command::ListServers)?;
+    commands.push(Command::Cleanup { node: 2 })?;
+    commands.push(Command::ListServers)?;
+    let text = vec![in alloc; b'h', b'i']?;
+    commands.push(client(0, any))?;
+    commands.push(send(0, 6, Elements::Requests(text)))?;
+    commands.push(receive(0, 0))?;
+    commands.push(read(0, 8))?;
+    Ok(())
+}
+
+/// The last node dies and is cleaned up. Nobody may open the service then.
+fn end<'a>(commands: &mut Vec<TheCommand<'a>>, fits: &'a Opener) -> Result<(), AllocError> {
+    commands.push(Command::ListNodes)?;
+    commands.push(Command::DeclareDead { node: 0 })?;
+    commands.push(Command::Cleanup { node: 0 })?;
+    commands.push(Command::Join {
+        id: id(3),
+        asked: fits,
     })?;
-    exchange.push(PortCommand::Receive { node: 1, number: 2 })?;
-    exchange.push(PortCommand::Read { node: 1, number: 4 })?;
-    Ok(exchange)
+    Ok(())
 }
 
 /// All that is asked.
@@ -66,18 +142,10 @@ pub fn commands<'a>(
     unfit: &'a Opener,
 ) -> Result<Vec<TheCommand<'a>>, AllocError> {
     let mut commands = Vec::new(alloc);
-    for asked in [unfit, fits] {
-        commands.push(Command::Join { id: id(2), asked })?;
-    }
-    for command in ports(alloc, any)? {
-        commands.push(Command::Port(command))?;
-    }
-    for command in exchange(alloc)? {
-        commands.push(Command::Port(command))?;
-    }
-    commands.push(Command::DeclareDead { node: 1 })?;
-    commands.push(Command::ListClients)?;
-    commands.push(Command::Cleanup { node: 1 })?;
-    commands.push(Command::ListClients)?;
+    opening(&mut commands, any, fits, unfit)?;
+    exchange(alloc, &mut commands)?;
+    death(&mut commands)?;
+    two_servers(alloc, &mut commands, any, fits)?;
+    end(&mut commands, fits)?;
     Ok(commands)
 }

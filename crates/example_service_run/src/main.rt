@@ -1,5 +1,6 @@
 //! A program over a service: two nodes try to open it, and one is refused. Then a client asks for
-//! the length of a text, and a server answers. All of it is one list of commands.
+//! the length of a text, and a server answers. Nodes die and are cleaned up, until the service is
+//! closed. All of it is one list of commands.
 #![tactic(auto)]
 
 mod commands;
