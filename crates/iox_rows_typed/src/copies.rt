@@ -1,6 +1,7 @@
 //! Copies go to a server and back, by typed ports: loan, write and send in one.
 
 use crate::exchange::{NODE, PART, settings};
+use crate::expected::equal;
 use iceoryx2_ports::{
     ActiveRequest, BackpressureStrategy, Client, Hub, LoanError, MessageShape, One,
     PendingResponse, PortFactoryClient, PortFactoryServer, RequestSendError, SendError, Server,
@@ -128,7 +129,7 @@ fn a_copy_is_answered_by_a_copy(rt: HostRuntime) -> Result<(), Fail> {
     };
     client.release(&mut hub);
     server.release(&mut hub);
-    assert_eq!(rt; seen, Some((123, Ok(()), Some(246))));
+    equal(&rt, seen, Some((123, Ok(()), Some(246))));
     Ok(())
 }
 
@@ -140,8 +141,8 @@ fn a_copy_counts_two_calls(rt: HostRuntime) -> Result<(), Fail> {
     let after = hub.calls();
     client.release(&mut hub);
     server.release(&mut hub);
-    assert_eq!(rt; sent, Some(Ok(1)));
-    assert_eq!(rt; (before, after), (0, 2));
+    equal(&rt, sent, Some(Ok(1)));
+    equal(&rt, (before, after), (0, 2));
     Ok(())
 }
 
@@ -160,11 +161,12 @@ fn a_copy_past_the_limit_is_refused(rt: HostRuntime) -> Result<(), Fail> {
     let third = tell(&mut hub, &client, 3);
     client.release(&mut hub);
     server.release(&mut hub);
-    assert_eq!(rt;
+    equal(
+        &rt,
         second,
-        Some(Err(RequestSendError::ExceedsMaxActiveRequests))
+        Some(Err(RequestSendError::ExceedsMaxActiveRequests)),
     );
-    assert_eq!(rt; third, Some(Ok(1)));
+    equal(&rt, third, Some(Ok(1)));
     Ok(())
 }
 
@@ -179,7 +181,7 @@ fn a_full_server_makes_a_copy_fail(rt: HostRuntime) -> Result<(), Fail> {
     client.release(&mut hub);
     server.release(&mut hub);
     let refused = RequestSendError::SendError(SendError::UnableToDeliver);
-    assert_eq!(rt; sent, (Some(Ok(1)), Some(Err(refused))));
+    equal(&rt, sent, (Some(Ok(1)), Some(Err(refused))));
     Ok(())
 }
 
@@ -208,12 +210,13 @@ fn a_copy_beside_two_loans_is_refused(rt: HostRuntime) -> Result<(), Fail> {
     let told = beside_loans(&mut hub, &client);
     client.release(&mut hub);
     server.release(&mut hub);
-    assert_eq!(rt;
+    equal(
+        &rt,
         told,
         Some((
             Err(RequestSendError::from(LoanError::ExceedsMaxLoans)),
-            Ok(1)
-        ))
+            Ok(1),
+        )),
     );
     Ok(())
 }

@@ -1,7 +1,8 @@
 //! Loans are filled piece by piece, by typed ports.
 
 use crate::exchange::{Active, Asker, Exchange, Pending, ask, hub, ports, receive};
-use iceoryx2_ports::{BackpressureStrategy, Many, One, RequestMut};
+use crate::expected::equal;
+use iceoryx2_ports::{BackpressureStrategy, Many, One, RequestMut, ResponseMutUninit};
 use std::test::Fail;
 
 /// A loaned request.
@@ -47,32 +48,49 @@ fn a_write_replaces_what_was_filled(rt: HostRuntime) -> Result<(), Fail> {
     let other = carried(&mut hub, answered);
     client.release(&mut hub);
     server.release(&mut hub);
-    assert_eq!(rt; value, Some(456));
-    assert_eq!(rt; other, Some(40));
+    equal(&rt, value, Some(456));
+    equal(&rt, other, Some(40));
     Ok(())
 }
 
-/// A response of two bytes, 5 and 6, whose user header is 9: whether it counted as filled after the
-/// first of them, and whether it was sent.
-fn answer_by_bytes(hub: &mut Exchange, request: &Active) -> Option<(bool, bool)> {
+/// A loaned response.
+type Answering = ResponseMutUninit<One<u64>, (), Many<u8>, u32>;
+
+/// A response of two bytes, whose user header is 9, and of which the first byte is 5.
+fn half_an_answer(hub: &mut Exchange, request: &Active) -> Option<Answering> {
     if !request.exists(hub) {
         return None;
     }
     let loan = request.loan_slice_uninit(hub, 2).ok()?;
     loan.set_user_header(hub, 9);
     loan.write_next(hub, 5);
-    let loan = match loan.assume_init(hub) {
-        Ok(response) => {
-            response.release(hub);
-            return Some((true, false));
-        }
-        Err(loan) => loan,
-    };
-    if !loan.is_filled(hub) {
-        loan.write_next(hub, 6);
+    Some(loan)
+}
+
+/// The loan again, unless it counts as filled.
+fn unfilled(hub: &mut Exchange, loan: Answering) -> Option<Answering> {
+    if !loan.exists(hub) {
+        loan.release(hub);
+        return None;
     }
     match loan.assume_init(hub) {
-        Ok(response) if hub.calls() < 1 << 56 => Some((false, response.send(hub).is_ok())),
+        Ok(response) => {
+            response.release(hub);
+            None
+        }
+        Err(loan) => Some(loan),
+    }
+}
+
+/// Whether the loan is sent, once its second byte is 6.
+fn sends_the_rest(hub: &mut Exchange, loan: Answering) -> Option<bool> {
+    if !loan.exists(hub) || loan.is_filled(hub) {
+        loan.release(hub);
+        return None;
+    }
+    loan.write_next(hub, 6);
+    match loan.assume_init(hub) {
+        Ok(response) if hub.calls() < 1 << 56 => Some(response.send(hub).is_ok()),
         Ok(response) => {
             response.release(hub);
             None
@@ -81,6 +99,16 @@ fn answer_by_bytes(hub: &mut Exchange, request: &Active) -> Option<(bool, bool)>
             loan.release(hub);
             None
         }
+    }
+}
+
+/// A response of two bytes, 5 and 6, whose user header is 9: whether it counted as filled after the
+/// first of them, and whether it was sent.
+fn answer_by_bytes(hub: &mut Exchange, request: &Active) -> Option<(bool, bool)> {
+    let half = half_an_answer(hub, request)?;
+    match unfilled(hub, half) {
+        Some(loan) => Some((false, sends_the_rest(hub, loan)?)),
+        None => Some((true, false)),
     }
 }
 
@@ -118,7 +146,7 @@ fn a_response_is_filled_byte_by_byte(rt: HostRuntime) -> Result<(), Fail> {
     }
     client.release(&mut hub);
     server.release(&mut hub);
-    assert_eq!(rt; told, Some((false, true)));
-    assert_eq!(rt; read, Some((9, 2, Some(6))));
+    equal(&rt, told, Some((false, true)));
+    equal(&rt, read, Some((9, 2, Some(6))));
     Ok(())
 }

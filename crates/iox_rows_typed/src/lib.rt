@@ -8,6 +8,8 @@ mod errors;
 #[cfg(test)]
 mod exchange;
 #[cfg(test)]
+mod expected;
+#[cfg(test)]
 mod fillings;
 #[cfg(test)]
 mod long_requests;

@@ -1,6 +1,7 @@
 //! Requests of many elements, by typed ports.
 
 use crate::exchange::{NODE, PART, settings};
+use crate::expected::equal;
 use iceoryx2_ports::{
     BackpressureStrategy, Client, Hub, LoanError, Many, MessageShape, One, PortFactoryClient,
 };
@@ -54,7 +55,7 @@ fn a_closure_fills_thirteen_elements(rt: HostRuntime) -> Result<(), Fail> {
     let (mut hub, client) = lists(rt.alloc())?;
     let same = filled_from_123(&mut hub, &client);
     client.release(&mut hub);
-    assert_eq!(rt; same, Some(true));
+    equal(&rt, same, Some(true));
     Ok(())
 }
 
@@ -80,7 +81,7 @@ fn a_loan_is_no_longer_than_the_client_said(rt: HostRuntime) -> Result<(), Fail>
     let longest = refused(&mut hub, &client, 32);
     let after = hub.calls();
     client.release(&mut hub);
-    assert_eq!(rt; (long, calls), (Some(LoanError::ExceedsMaxLoanSize), 0));
-    assert_eq!(rt; (longest, after), (None, 1));
+    equal(&rt, (long, calls), (Some(LoanError::ExceedsMaxLoanSize), 0));
+    equal(&rt, (longest, after), (None, 1));
     Ok(())
 }

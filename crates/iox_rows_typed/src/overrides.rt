@@ -1,45 +1,59 @@
 //! Closures choose how many messages a port has memory for.
 
 use crate::exchange::{Active, Asker, Exchange, NODE, hub, receive, tell};
+use crate::expected::equal;
 use iceoryx2_ports::{BackpressureStrategy, LoanError, PortFactoryClient, PortFactoryServer};
+use std::alloc::Global;
 use std::test::Fail;
 
-/// Whether a client is lent two requests at once, and if not, why.
+/// Whether a client is lent a request, and if not, why.
+fn lends(hub: &mut Exchange, client: &Asker) -> Option<Result<(), LoanError>> {
+    if !client.exists(hub) {
+        return None;
+    }
+    match client.loan_uninit(hub) {
+        Ok(loan) => {
+            loan.release(hub);
+            Some(Ok(()))
+        }
+        Err(error) => Some(Err(error)),
+    }
+}
+
+/// The same while it has another on loan.
 fn lends_two(hub: &mut Exchange, client: &Asker) -> Option<Result<(), LoanError>> {
     if !client.exists(hub) {
         return None;
     }
-    let Ok(first) = client.loan_uninit(hub) else {
-        return None;
-    };
-    let second = match client.loan_uninit(hub) {
-        Ok(loan) => {
-            loan.release(hub);
-            Ok(())
-        }
-        Err(error) => Err(error),
-    };
+    let first = client.loan_uninit(hub).ok()?;
+    let second = lends(hub, client);
     first.release(hub);
-    Some(second)
+    second
 }
 
-/// The same of a server's responses to one request.
+/// Whether a server is lent a response to the request, and if not, why.
+fn responds(hub: &mut Exchange, request: &Active) -> Option<Result<(), LoanError>> {
+    if !request.exists(hub) {
+        return None;
+    }
+    match request.loan_slice_uninit(hub, 1) {
+        Ok(loan) => {
+            loan.release(hub);
+            Some(Ok(()))
+        }
+        Err(error) => Some(Err(error)),
+    }
+}
+
+/// The same while it has another on loan.
 fn responds_twice(hub: &mut Exchange, request: &Active) -> Option<Result<(), LoanError>> {
     if !request.exists(hub) {
         return None;
     }
-    let Ok(first) = request.loan_slice_uninit(hub, 1) else {
-        return None;
-    };
-    let second = match request.loan_slice_uninit(hub, 1) {
-        Ok(loan) => {
-            loan.release(hub);
-            Ok(())
-        }
-        Err(error) => Err(error),
-    };
+    let first = request.loan_slice_uninit(hub, 1).ok()?;
+    let second = responds(hub, request);
     first.release(hub);
-    Some(second)
+    second
 }
 
 #[test]
@@ -54,8 +68,28 @@ fn a_closure_is_asked_with_what_a_client_needs(rt: HostRuntime) -> Result<(), Fa
     };
     let second = lends_two(&mut hub, &client);
     client.release(&mut hub);
-    assert_eq!(rt; second, Some(Err(LoanError::OutOfMemory)));
+    equal(&rt, second, Some(Err(LoanError::OutOfMemory)));
     Ok(())
+}
+
+/// Whether a client has two messages whose closure asks for none, if the client is made.
+fn least_lends_two(alloc: Global, hub: &mut Exchange) -> Option<Result<(), LoanError>> {
+    let factory = PortFactoryClient::new(0, NODE).override_request_preallocation(|_needed| 0);
+    let client = factory.create(alloc, hub).ok()?;
+    let second = lends_two(hub, &client);
+    client.release(hub);
+    second
+}
+
+/// The same where the closure asks for far more than is needed.
+fn most_lends_two(alloc: Global, hub: &mut Exchange) -> Option<Result<(), LoanError>> {
+    let factory = PortFactoryClient::new(0, NODE).override_request_preallocation(
+        |_needed| usize::MAX,
+    );
+    let client = factory.create(alloc, hub).ok()?;
+    let second = lends_two(hub, &client);
+    client.release(hub);
+    second
 }
 
 #[test]
@@ -63,20 +97,9 @@ fn what_a_closure_answers_is_brought_between_1_and_what_is_needed(
     rt: HostRuntime,
 ) -> Result<(), Fail> {
     let mut hub = hub(rt.alloc(), true, BackpressureStrategy::DiscardData)?;
-    let none = PortFactoryClient::new(0, NODE).override_request_preallocation(|_needed| 0);
-    let Ok(client) = none.create(rt.alloc(), &mut hub) else {
-        return Err(Fail::from("a client with one message"));
-    };
-    let least = lends_two(&mut hub, &client);
-    client.release(&mut hub);
-    let all = PortFactoryClient::new(0, NODE).override_request_preallocation(|_needed| usize::MAX);
-    let Ok(client) = all.create(rt.alloc(), &mut hub) else {
-        return Err(Fail::from("a client with all messages"));
-    };
-    let most = lends_two(&mut hub, &client);
-    client.release(&mut hub);
-    assert_eq!(rt; least, Some(Err(LoanError::OutOfMemory)));
-    assert_eq!(rt; most, Some(Ok(())));
+    let least = least_lends_two(rt.alloc(), &mut hub);
+    equal(&rt, least, Some(Err(LoanError::OutOfMemory)));
+    equal(&rt, most_lends_two(rt.alloc(), &mut hub), Some(Ok(())));
     Ok(())
 }
 
@@ -105,7 +128,7 @@ fn a_closure_is_asked_with_what_a_server_needs(rt: HostRuntime) -> Result<(), Fa
     };
     client.release(&mut hub);
     server.release(&mut hub);
-    assert_eq!(rt; sent, Some(Ok(1)));
-    assert_eq!(rt; second, Some(Err(LoanError::OutOfMemory)));
+    equal(&rt, sent, Some(Ok(1)));
+    equal(&rt, second, Some(Err(LoanError::OutOfMemory)));
     Ok(())
 }

@@ -1,6 +1,7 @@
 //! What typed ports refuse, by name.
 
 use crate::exchange::{Active, Exchange, NODE, hub, ports, receive, tell};
+use crate::expected::equal;
 use iceoryx2_ports::{
     AllocationStrategy, BackpressureStrategy, ClientCreateError, LoanError, Many, One,
     PortFactoryClient, PortFactoryServer, ServerCreateError,
@@ -8,34 +9,42 @@ use iceoryx2_ports::{
 use std::alloc::Global;
 use std::test::Fail;
 
-/// What comes of an answer that is too long, and of one that is not as long as its loan.
-fn wrong_lengths(hub: &mut Exchange, request: &Active) -> Option<(Option<LoanError>, bool)> {
+/// What comes of a loan for an answer that is too long.
+fn too_long(hub: &mut Exchange, request: &Active) -> Option<LoanError> {
     if !request.exists(hub) {
         return None;
     }
-    let long = match request.loan_slice_uninit(hub, 5) {
+    match request.loan_slice_uninit(hub, 5) {
         Ok(loan) => {
             loan.release(hub);
             None
         }
         Err(error) => Some(error),
-    };
+    }
+}
+
+/// Whether an answer is written that is not as long as its loan.
+fn is_written(hub: &mut Exchange, request: &Active) -> Option<bool> {
     if !request.exists(hub) {
         return None;
     }
-    let Ok(loan) = request.loan_slice_uninit(hub, 2) else {
-        return None;
-    };
+    let loan = request.loan_slice_uninit(hub, 2).ok()?;
     match loan.write_from_slice(hub, &[1, 2, 3]) {
         Ok(response) => {
             response.release(hub);
-            Some((long, true))
+            Some(true)
         }
         Err(loan) => {
             loan.release(hub);
-            Some((long, false))
+            Some(false)
         }
     }
+}
+
+/// What comes of an answer that is too long, and of one that is not as long as its loan.
+fn wrong_lengths(hub: &mut Exchange, request: &Active) -> Option<(Option<LoanError>, bool)> {
+    let long = too_long(hub, request);
+    Some((long, is_written(hub, request)?))
 }
 
 #[test]
@@ -53,8 +62,12 @@ fn lengths_are_minded(rt: HostRuntime) -> Result<(), Fail> {
     };
     client.release(&mut hub);
     server.release(&mut hub);
-    assert_eq!(rt; sent, Some(Ok(1)));
-    assert_eq!(rt; told, Some((Some(LoanError::ExceedsMaxLoanSize), false)));
+    equal(&rt, sent, Some(Ok(1)));
+    equal(
+        &rt,
+        told,
+        Some((Some(LoanError::ExceedsMaxLoanSize), false)),
+    );
     Ok(())
 }
 
@@ -104,9 +117,17 @@ fn ports_are_refused_by_name(rt: HostRuntime) -> Result<(), Fail> {
     client.release(&mut hub);
     let third = refused(rt.alloc(), &mut hub, PortFactoryClient::new(0, NODE));
     server.release(&mut hub);
-    assert_eq!(rt; first, Some(ServerCreateError::UnableToCreateDataSegment));
-    assert_eq!(rt; none, None);
-    assert_eq!(rt; second, Some(ClientCreateError::ExceedsMaxSupportedClients));
-    assert_eq!(rt; third, None);
+    equal(
+        &rt,
+        first,
+        Some(ServerCreateError::UnableToCreateDataSegment),
+    );
+    equal(&rt, none, None);
+    equal(
+        &rt,
+        second,
+        Some(ClientCreateError::ExceedsMaxSupportedClients),
+    );
+    equal(&rt, third, None);
     Ok(())
 }

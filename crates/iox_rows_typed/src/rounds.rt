@@ -1,6 +1,7 @@
 //! Requests go to a server and their responses come back, by typed ports.
 
 use crate::exchange::{Asker, Exchange, Pending, answered, ask, heard, hub, ports, round, tell};
+use crate::expected::{equal, holds};
 use iceoryx2_ports::{
     BackpressureStrategy, Client, Kind, LoanError, Many, One, PendingResponse, RequestMut,
     RequestSendError, SendError, Server,
@@ -23,7 +24,7 @@ fn a_request_is_answered(rt: HostRuntime) -> Result<(), Fail> {
     };
     client.release(&mut hub);
     server.release(&mut hub);
-    assert_eq!(rt; seen, Some((Some((123, 3, 15)), None)));
+    equal(&rt, seen, Some((Some((123, 3, 15)), None)));
     Ok(())
 }
 
@@ -43,11 +44,12 @@ fn a_client_awaits_one_request(rt: HostRuntime) -> Result<(), Fail> {
     let third = tell(&mut hub, &client, 3);
     client.release(&mut hub);
     server.release(&mut hub);
-    assert_eq!(rt;
+    equal(
+        &rt,
         second,
-        Some(Err(RequestSendError::ExceedsMaxActiveRequests))
+        Some(Err(RequestSendError::ExceedsMaxActiveRequests)),
     );
-    assert_eq!(rt; third, Some(Ok(1)));
+    equal(&rt, third, Some(Ok(1)));
     Ok(())
 }
 
@@ -98,7 +100,7 @@ fn a_client_has_two_loans(rt: HostRuntime) -> Result<(), Fail> {
     let told = loans_beside(&mut hub, &client);
     client.release(&mut hub);
     server.release(&mut hub);
-    assert_eq!(rt; told, Some((Some(LoanError::ExceedsMaxLoans), None)));
+    equal(&rt, told, Some((Some(LoanError::ExceedsMaxLoans), None)));
     Ok(())
 }
 
@@ -110,8 +112,8 @@ fn the_oldest_request_is_pushed_out(rt: HostRuntime) -> Result<(), Fail> {
     let read = (heard(&mut hub, &server), heard(&mut hub, &server));
     client.release(&mut hub);
     server.release(&mut hub);
-    assert_eq!(rt; sent, (Some(Ok(1)), Some(Ok(1))));
-    assert_eq!(rt; read, (Some(8), None));
+    equal(&rt, sent, (Some(Ok(1)), Some(Ok(1))));
+    equal(&rt, read, (Some(8), None));
     Ok(())
 }
 
@@ -124,8 +126,8 @@ fn a_full_server_makes_a_send_fail(rt: HostRuntime) -> Result<(), Fail> {
     client.release(&mut hub);
     server.release(&mut hub);
     let refused = RequestSendError::SendError(SendError::UnableToDeliver);
-    assert_eq!(rt; sent, (Some(Ok(1)), Some(Err(refused))));
-    assert_eq!(rt; read, (Some(5), None));
+    equal(&rt, sent, (Some(Ok(1)), Some(Err(refused))));
+    equal(&rt, read, (Some(5), None));
     Ok(())
 }
 
@@ -148,8 +150,8 @@ fn what_is_released_is_gone(rt: HostRuntime) -> Result<(), Fail> {
     };
     client.release(&mut hub);
     server.release(&mut hub);
-    assert_eq!(rt; told, Some((true, true, false)));
-    assert!(rt; !hub.has(0, 0, Kind::Client, 0));
-    assert!(rt; !hub.has(1, 1, Kind::Server, 0));
+    equal(&rt, told, Some((true, true, false)));
+    holds(&rt, !hub.has(0, 0, Kind::Client, 0));
+    holds(&rt, !hub.has(1, 1, Kind::Server, 0));
     Ok(())
 }

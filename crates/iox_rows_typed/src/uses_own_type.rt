@@ -6,6 +6,7 @@ ghost use Rattle.iceoryx2_ports.specs.Kind.TheVariants as kinds;
 ghost use Rattle.iceoryx2_ports.specs.Waiting.{NothingWaits, server_of};
 
 use crate::exchange::{NODE, settings};
+use crate::expected::equal;
 use iceoryx2_ports::{
     BackpressureStrategy, Client, Hub, MessageShape, One, PortFactoryClient, PortFactoryServer,
     Server, Words, ZeroCopySend,
@@ -166,6 +167,6 @@ fn a_reading_arrives(rt: HostRuntime) -> Result<(), Fail> {
         level: 7,
     };
     let told = exchanges(alloc, &mut hub, reading);
-    assert_eq!(rt; told, Some(reading));
+    equal(&rt, told, Some(reading));
     Ok(())
 }
