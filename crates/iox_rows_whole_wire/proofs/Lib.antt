@@ -1,1 +1,2 @@
 pub mod OpensOnOnes
+pub mod OpensOnFour

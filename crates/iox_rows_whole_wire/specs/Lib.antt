@@ -1,2 +1,4 @@
--- a plan where each setting is 1
+-- a plan where each limit is 1
 pub mod Ones
+-- a plan of four ports on three nodes
+pub mod Fours

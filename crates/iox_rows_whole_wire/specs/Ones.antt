@@ -1,5 +1,5 @@
--- A plan, and its terms, where each setting is 1: a client on one node, a server on the other.
-use Rattle.std.specs.Prelude.{◌≡◌, ℕ, false, true, List, [], ◌∷◌}
+-- A plan, and its terms, where each limit is 1: a client on one node, a server on the other.
+use Rattle.std.specs.Prelude.{◌≡◌, ℕ, Bool, true, List, [], ◌∷◌}
 use Rattle.iox_wire_lenders.specs.declared.terms.MessageTerms.{MessageTerms}
 use Rattle.iox_wire_lenders.specs.declared.terms.PortTerms.{PortTerms}
 use Rattle.iox_wire_lenders.specs.declared.terms.WireTerms.{WireTerms}
@@ -16,14 +16,14 @@ client = record { number = 0; node = 0; role = Client; pool = 4; longest = 1; sl
 abbrev pub server : PlanPort
 server = record { number = 1; node = 1; role = Server; pool = 9; longest = 1; slot_words = 9 }
 
--- each limit is 1, and nothing overflows
-abbrev pub limits_of_ones : PlanLimits
-limits_of_ones = record {
+-- each limit is 1; requests overflow, and responses, where these say so
+abbrev pub limits_of_ones : (requests responses : Bool) → PlanLimits
+limits_of_ones requests responses = record {
   active_requests = 1;
   response_buffer = 1;
   borrowed_responses = 1;
-  request_overflow = false;
-  response_overflow = false;
+  request_overflow = requests;
+  response_overflow = responses;
 }
 
 -- Messages have a header of so many bytes, no user header, and a payload of one word.
@@ -36,9 +36,9 @@ pub record HasOneWord (details : MessageTypeDetails) (header : ℕ) : Type 0 whe
   pub payload_alignment : details.payload.alignment ≡ 8
 
 -- It is the plan of these ports and limits.
-pub record IsPlanOfOnes (plan : WirePlan) : Type 0 where
+pub record IsPlanOfOnes (requests responses : Bool) (plan : WirePlan) : Type 0 where
   pub ports : plan.ports.items ≡ client ∷ server ∷ []
-  pub limits : plan.limits ≡ limits_of_ones
+  pub limits : plan.limits ≡ limits_of_ones requests responses
   pub request : HasOneWord plan.request 56
   pub response : HasOneWord plan.response 48
 
@@ -59,12 +59,12 @@ pub record IsMessageOfOnes (m : MessageTerms) : Type 0 where
   pub many : m.many ≡ true
   pub user : m.user.items ≡ []
 
--- They are the terms of that plan.
-pub record AreTermsOfOnes (t : WireTerms) : Type 0 where
+-- They are the terms of that plan, with fire and forget where this says so.
+pub record AreTermsOfOnes (fires : Bool) (t : WireTerms) : Type 0 where
   pub ports : ArePortsOfOnes t.ports.items
   pub request : IsMessageOfOnes t.request
   pub response : IsMessageOfOnes t.response
   pub clients : t.clients ≡ 1
   pub loaned_requests : t.loaned_requests ≡ 1
-  pub fire_and_forget : t.fire_and_forget ≡ true
+  pub fire_and_forget : t.fire_and_forget ≡ fires
   pub first_number : t.first_number ≡ 2

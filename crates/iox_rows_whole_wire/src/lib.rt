@@ -2,6 +2,32 @@
 #![tactic(auto)]
 
 #[cfg(test)]
+mod between;
+#[cfg(test)]
 mod calls;
+#[cfg(test)]
+mod chances;
+#[cfg(test)]
+mod client_stops;
+#[cfg(test)]
+mod four;
+#[cfg(test)]
+mod games;
+#[cfg(test)]
+mod play;
+#[cfg(test)]
+mod rows;
+#[cfg(test)]
+mod server_stops;
+#[cfg(test)]
+mod settings;
+#[cfg(test)]
+mod stops;
+#[cfg(test)]
+mod stops_among_three;
+#[cfg(test)]
+mod stops_on_other_wires;
+#[cfg(test)]
+mod two_servers;
 #[cfg(test)]
 mod wires;

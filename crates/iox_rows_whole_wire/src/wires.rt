@@ -1,94 +1,12 @@
 //! A wire where each setting is 1, with a client on one node and a server on the other.
-ghost use Rattle.std.specs.Prelude.{IfOk};
-ghost use Rattle.iox_rows_whole_wire.specs.Ones.{AreTermsOfOnes, IsPlanOfOnes, IsPortOfOnes};
-
-use iox_model::kind::Role;
-use iox_types::{MessageTypeDetails, RequestHeader, ResponseHeader, TypeVariant};
+use super::settings::{self, NO_OVERFLOW};
 use iox_wire::{NodeReply, Progress, SeatReply, Wire, WireEntry, WireRefusal};
-use iox_wire_lenders::{MessageTerms, PortTerms, WireTerms};
-use iox_word_places::{PlanLimits, PlanPort, WirePlan};
 use std::alloc::Global;
 use std::test::Fail;
 
-const CLIENT: PlanPort = PlanPort {
-    number: 0,
-    node: 0,
-    role: Role::Client,
-    pool: 4,
-    longest: 1,
-    slot_words: 10,
-};
-
-const SERVER: PlanPort = PlanPort {
-    number: 1,
-    node: 1,
-    role: Role::Server,
-    pool: 9,
-    longest: 1,
-    slot_words: 9,
-};
-
-/// A client and a server where each setting is 1: requests of 10 words, responses of 9.
-fn plan_of_ones(alloc: Global) -> Result<WirePlan, Fail>
-    ensures { IfOk result IsPlanOfOnes }
-{
-    let request = MessageTypeDetails::from::<RequestHeader, (), u64>(TypeVariant::FixedSize)?;
-    let response = MessageTypeDetails::from::<ResponseHeader, (), u64>(TypeVariant::FixedSize)?;
-    let ports = vec![in alloc; CLIENT, SERVER]?;
-    Ok(WirePlan {
-        ports,
-        limits: PlanLimits {
-            active_requests: 1,
-            response_buffer: 1,
-            borrowed_responses: 1,
-            request_overflow: false,
-            response_overflow: false,
-        },
-        request,
-        response,
-    })
-}
-
-/// The terms of a port with that number, of a node whose identifier has that first word.
-fn port_of_ones(alloc: Global, process: u64, number: u64) -> Result<PortTerms, Fail>
-    ensures { IfOk result (IsPortOfOnes process number) }
-{
-    Ok(PortTerms {
-        ids: vec![in alloc; process, 0, process, number]?,
-        loaned_responses: 1,
-        fails: true,
-    })
-}
-
-/// The terms of that plan.
-fn terms_of_ones(alloc: Global) -> Result<WireTerms, Fail>
-    ensures { IfOk result AreTermsOfOnes }
-{
-    let client = port_of_ones(alloc, 4_294_967_296, 0)?;
-    let server = port_of_ones(alloc, 8_589_934_592, 1)?;
-    let ports = vec![in alloc; client, server]?;
-    Ok(WireTerms {
-        ports,
-        request: MessageTerms {
-            many: true,
-            user: Vec::new(alloc),
-        },
-        response: MessageTerms {
-            many: true,
-            user: Vec::new(alloc),
-        },
-        clients: 1,
-        loaned_requests: 1,
-        fire_and_forget: true,
-        first_number: 2,
-    })
-}
-
-/// A wire of that plan, whose nodes live, each with room for so many handles.
+/// A wire whose nodes live, each with room for so many handles.
 pub(super) fn open_with(alloc: Global, handles: usize) -> Result<Wire, Fail> {
-    let plan = plan_of_ones(alloc)?;
-    let terms = terms_of_ones(alloc)?;
-    Ok(Wire::new(alloc, plan, terms, &[0, 1], handles)?)
+    settings::open_with(alloc, NO_OVERFLOW, handles)
 }
 
 /// The same with room for four handles each.

@@ -1,0 +1,283 @@
+//! Tables of what nodes of a wire do, and of what they are answered.
+use iox_model::kind::Role;
+use iox_wire::{
+    CopyReply, HandleCall, LendReply, NodeCall, NodePayload, NodeReply, Progress, ReceiveReply,
+    RequestReply, RespondReply, ResponseCopyReply, SeatReply, Wire, WireRefusal,
+};
+use iox_wire_locals::CallRefusal;
+use std::process::Abort;
+
+/// No call of these tests takes as many steps.
+const MOST_STEPS: u64 = 1000;
+
+/// A call of the port or the handle of that number. What is written or copied is one word.
+#[derive(Clone, Copy, Debug)]
+pub(super) enum Ask {
+    Loan(u64),
+    /// A loan of so many elements.
+    LoanOf(u64, u64),
+    WriteRequest(u64, u64),
+    WriteResponse(u64, u64),
+    Send(u64),
+    CopyRequest(u64, u64),
+    CopyResponse(u64, u64),
+    /// The same of no word.
+    WriteNoRequest(u64),
+    CopyNoRequest(u64),
+    Receive(u64),
+    HasRequests(u64),
+    Read(u64),
+    Release(u64),
+    IsConnected(u64),
+    SetHint(u64),
+    HasHint(u64),
+    HasResponse(u64),
+}
+
+/// What a call answered.
+#[derive(Clone, Copy, Debug, PartialEq, Eq)]
+pub(super) enum Told {
+    Done,
+    Handle(u64),
+    Sent(u64),
+    Nothing,
+    Answer(bool),
+    /// One word was read.
+    Word(u64),
+    OtherWords,
+    WrongLength,
+    ExceedsMaxLoanSize,
+    ExceedsMaxLoans,
+    OutOfMemory,
+    ExceedsMaxActiveRequests,
+    ExceedsMaxBorrows,
+    UnableToDeliver,
+    OtherRefusal,
+}
+
+/// What a node does, and what is to come of it.
+#[derive(Clone, Copy, Debug)]
+pub(super) enum Act {
+    /// It makes a call from its begin to its end, in so many steps, and is answered that.
+    Whole(u64, Ask, u64, Told),
+    Begins(u64, Ask),
+    /// It makes so many steps, and its call goes on.
+    Goes(u64, u64),
+    /// Its call ends with so many steps more.
+    Ends(u64, u64, Told),
+    Dies(u64),
+    RefusedCall(u64, Ask, WireRefusal),
+    RefusedStep(u64, WireRefusal),
+    RefusedDeath(u64, WireRefusal),
+}
+
+/// What came of it.
+#[derive(Clone, Copy, Debug, PartialEq, Eq)]
+pub(super) enum Came {
+    /// The call ended with so many steps more.
+    Ended(u64, Told),
+    /// It is under way.
+    UnderWay,
+    Died,
+    Refused(WireRefusal),
+}
+
+/// What a call that is refused answers.
+fn refusal(refusal: CallRefusal) -> Told {
+    match refusal {
+        CallRefusal::WrongLength => Told::WrongLength,
+        CallRefusal::ExceedsMaxLoanSize => Told::ExceedsMaxLoanSize,
+        CallRefusal::ExceedsMaxLoans => Told::ExceedsMaxLoans,
+        CallRefusal::OutOfMemory => Told::OutOfMemory,
+        CallRefusal::ExceedsMaxActiveRequests => Told::ExceedsMaxActiveRequests,
+        CallRefusal::ExceedsMaxBorrows => Told::ExceedsMaxBorrows,
+        CallRefusal::UnableToDeliver => Told::UnableToDeliver,
+        CallRefusal::UnknownNumber | CallRefusal::WrongKind => Told::OtherRefusal,
+    }
+}
+
+/// What a loan answers.
+fn lent(reply: LendReply) -> Told {
+    match reply {
+        LendReply::Handle(number) => Told::Handle(number),
+        LendReply::Refused(refused) => refusal(refused),
+    }
+}
+
+/// What the send of a request answers.
+fn requested(reply: RequestReply) -> Told {
+    match reply {
+        RequestReply::Sent(count) => Told::Sent(count),
+        RequestReply::Handle(number) => Told::Handle(number),
+        RequestReply::ExceedsMaxActiveRequests => Told::ExceedsMaxActiveRequests,
+        RequestReply::UnableToDeliver => Told::UnableToDeliver,
+    }
+}
+
+/// What the send of a response answers.
+fn responded(reply: RespondReply) -> Told {
+    match reply {
+        RespondReply::Done => Told::Done,
+        RespondReply::UnableToDeliver => Told::UnableToDeliver,
+    }
+}
+
+/// What was read last.
+fn word_read(words: Option<&[u64]>) -> Told {
+    match words {
+        Some([word]) => Told::Word(*word),
+        _ => Told::OtherWords,
+    }
+}
+
+/// What a call that was asked of one port or handle answers.
+fn answered(wire: &Wire, node: u64, reply: SeatReply) -> Told {
+    match reply {
+        SeatReply::Done => Told::Done,
+        SeatReply::Answer(answer) => Told::Answer(answer),
+        SeatReply::Words => word_read(wire.words_read(node)),
+        SeatReply::Refused(refused) => refusal(refused),
+    }
+}
+
+/// What that reply says.
+pub(super) fn answer(wire: &Wire, node: u64, reply: NodeReply) -> Told {
+    match reply {
+        NodeReply::OfSeat(reply) => answered(wire, node, reply),
+        NodeReply::OfReceive(ReceiveReply::Nothing) => Told::Nothing,
+        NodeReply::OfReceive(ReceiveReply::ExceedsMaxBorrows) => Told::ExceedsMaxBorrows,
+        NodeReply::OfReceive(ReceiveReply::Handle(number)) => Told::Handle(number),
+        NodeReply::OfLoan(reply) => lent(reply),
+        NodeReply::OfRequest(reply) => requested(reply),
+        NodeReply::OfResponse(reply) => responded(reply),
+        NodeReply::OfRequestCopy(CopyReply::OfLoan(reply)) => lent(reply),
+        NodeReply::OfRequestCopy(CopyReply::OfSend(reply)) => requested(reply),
+        NodeReply::OfResponseCopy(ResponseCopyReply::OfLoan(reply)) => lent(reply),
+        NodeReply::OfResponseCopy(ResponseCopyReply::OfSend(reply)) => responded(reply),
+    }
+}
+
+/// The node begins to write these words.
+fn writes(
+    wire: &mut Wire,
+    node: u64,
+    number: u64,
+    role: Role,
+    words: &[u64],
+) -> Result<(), WireRefusal> {
+    let payload = NodePayload { role, words };
+    wire.begin(node, NodeCall::Write { number, payload })
+}
+
+/// The node begins to copy these words.
+fn copies(
+    wire: &mut Wire,
+    node: u64,
+    number: u64,
+    role: Role,
+    words: &[u64],
+) -> Result<(), WireRefusal> {
+    let payload = NodePayload { role, words };
+    wire.begin(node, NodeCall::SendCopy { number, payload })
+}
+
+/// The node begins a loan of so many elements.
+fn lends(wire: &mut Wire, node: u64, number: u64, elements: u64) -> Result<(), WireRefusal> {
+    wire.begin(node, NodeCall::Loan { number, elements })
+}
+
+/// The node begins a call of a handle.
+fn of(wire: &mut Wire, node: u64, number: u64, call: HandleCall) -> Result<(), WireRefusal> {
+    wire.begin(node, NodeCall::Handle { number, call })
+}
+
+/// The node begins that call.
+pub(super) fn begin(wire: &mut Wire, node: u64, ask: Ask) -> Result<(), WireRefusal> {
+    match ask {
+        Ask::Loan(number) => lends(wire, node, number, 1),
+        Ask::LoanOf(number, elements) => lends(wire, node, number, elements),
+        Ask::WriteRequest(number, word) => writes(wire, node, number, Role::Client, &[word]),
+        Ask::WriteResponse(number, word) => writes(wire, node, number, Role::Server, &[word]),
+        Ask::WriteNoRequest(number) => writes(wire, node, number, Role::Client, &[]),
+        Ask::Send(number) => wire.begin(node, NodeCall::Send { number }),
+        Ask::CopyRequest(number, word) => copies(wire, node, number, Role::Client, &[word]),
+        Ask::CopyResponse(number, word) => copies(wire, node, number, Role::Server, &[word]),
+        Ask::CopyNoRequest(number) => copies(wire, node, number, Role::Client, &[]),
+        Ask::Receive(number) => wire.begin(node, NodeCall::Receive { number }),
+        Ask::HasRequests(number) => wire.begin(node, NodeCall::HasRequests { number }),
+        Ask::Read(number) => of(wire, node, number, HandleCall::Read),
+        Ask::Release(number) => of(wire, node, number, HandleCall::Release),
+        Ask::IsConnected(number) => of(wire, node, number, HandleCall::IsConnected),
+        Ask::SetHint(number) => of(wire, node, number, HandleCall::SetHint),
+        Ask::HasHint(number) => of(wire, node, number, HandleCall::HasHint),
+        Ask::HasResponse(number) => of(wire, node, number, HandleCall::HasResponse),
+    }
+}
+
+/// So many steps of the node, or those up to the end of its call.
+pub(super) fn steps(wire: &mut Wire, node: u64, most: u64) -> Came {
+    for made in 0..most {
+        match wire.step(node) {
+            Err(refusal) => return Came::Refused(refusal),
+            Ok(Progress::Going) => {}
+            Ok(Progress::Done(reply)) => return Came::Ended(made + 1, answer(wire, node, reply)),
+        }
+    }
+    Came::UnderWay
+}
+
+/// A call of the node, from its begin to its end.
+pub(super) fn calls(wire: &mut Wire, node: u64, ask: Ask) -> Came {
+    match begin(wire, node, ask) {
+        Err(refusal) => Came::Refused(refusal),
+        Ok(()) => steps(wire, node, MOST_STEPS),
+    }
+}
+
+/// What comes of the begin of a call.
+fn begins(wire: &mut Wire, node: u64, ask: Ask) -> Came {
+    match begin(wire, node, ask) {
+        Err(refusal) => Came::Refused(refusal),
+        Ok(()) => Came::UnderWay,
+    }
+}
+
+/// What comes of a death.
+fn dies(wire: &mut Wire, node: u64) -> Came {
+    match wire.declare_dead(node) {
+        Err(refusal) => Came::Refused(refusal),
+        Ok(()) => Came::Died,
+    }
+}
+
+/// What comes of what a node does.
+fn acts(wire: &mut Wire, act: Act) -> Came {
+    match act {
+        Act::Whole(node, ask, _, _) | Act::RefusedCall(node, ask, _) => calls(wire, node, ask),
+        Act::Begins(node, ask) => begins(wire, node, ask),
+        Act::Goes(node, most) => steps(wire, node, most),
+        Act::Ends(node, _, _) => steps(wire, node, MOST_STEPS),
+        Act::RefusedStep(node, _) => steps(wire, node, 1),
+        Act::Dies(node) | Act::RefusedDeath(node, _) => dies(wire, node),
+    }
+}
+
+/// What is to come of it.
+fn wanted(act: Act) -> Came {
+    match act {
+        Act::Whole(_, _, steps, told) | Act::Ends(_, steps, told) => Came::Ended(steps, told),
+        Act::Begins(_, _) | Act::Goes(_, _) => Came::UnderWay,
+        Act::Dies(_) => Came::Died,
+        Act::RefusedCall(_, _, refusal)
+        | Act::RefusedStep(_, refusal)
+        | Act::RefusedDeath(_, refusal) => Came::Refused(refusal),
+    }
+}
+
+/// Plays a table, and ends the test where something else comes of it.
+pub(super) fn plays(rt: &impl Abort, wire: &mut Wire, table: &[Act]) {
+    for (place, act) in table.iter().enumerate() {
+        let came = acts(wire, *act);
+        assert_eq!(rt; (place, came), (place, wanted(*act)));
+    }
+}
