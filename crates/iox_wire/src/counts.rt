@@ -26,8 +26,8 @@ fn node_of(map: &WordMap, port: u64) -> Option<u64>
 
 impl Wire {
     ghost use Rattle.std.specs.Prelude.{◌≡◌, IfSome, None, Some};
-    ghost use Rattle.iox_wire_counts.specs.Laws.{owner_in};
-    ghost use Rattle.iox_wire_counts.specs.Living.{kept_count, outstanding_count};
+    ghost use Rattle.iox_wire_weaves.specs.CountLaws.{owner_in};
+    ghost use Rattle.iox_wire_weaves.specs.Living.{kept_count, outstanding_count};
     ghost use Rattle.iox_wire_weaves.specs.Runs.{Run};
     ghost use Rattle.iox_wire_weaves.specs.Tables.{Setting};
     ghost use Rattle.iox_wire_weaves.specs.Wires.{Shows, node_at};

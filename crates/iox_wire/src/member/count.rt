@@ -4,8 +4,8 @@ use iox_model::way::Way;
 
 impl Member {
     ghost use Rattle.std.specs.Prelude.{◌≡◌, option_map};
-    ghost use Rattle.iox_wire_counts.specs.Counted.{kept_at, outstanding_at};
-    ghost use Rattle.iox_wire_counts.specs.Laws.{desk_at_living};
+    ghost use Rattle.iox_wire_weaves.specs.Counted.{kept_at, outstanding_at};
+    ghost use Rattle.iox_wire_weaves.specs.CountLaws.{desk_at_living};
 
     /// How many of its messages a port keeps, if the node has it and lives.
     pub(crate) fn kept(&self, port: u64) -> Option<usize>

@@ -2,9 +2,9 @@ use Rattle.std.specs.Prelude.{None, Option, option_map}
 use Rattle.std.specs.Option.{option_map_or}
 use Rattle.std.proofs.Common.{◌≡◌, ap, refl, sym, ◌∙◌}
 use Rattle.iox_wire_weaves.specs.Wires.{WireNode}
-use Rattle.iox_wire_counts.specs.Counted.{outstanding_at}
-use Rattle.iox_wire_counts.specs.Laws.{desk_at_living}
-use Rattle.iox_wire_counts.proofs.Told.{outstanding_is_told}
+use Rattle.iox_wire_weaves.specs.Counted.{outstanding_at}
+use Rattle.iox_wire_weaves.specs.CountLaws.{desk_at_living}
+use Rattle.iox_wire_weaves.proofs.CountsTold.{outstanding_is_told}
 use Rattle.iox_wire.proofs.wire.Wire.outstanding.Goals as goal
 
 pub returns-in-Some : goal.returns-in-Some

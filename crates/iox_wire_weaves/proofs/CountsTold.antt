@@ -17,20 +17,20 @@ use Rattle.iox_wire_seats.specs.Counted.{desk_of, kept_at, outstanding_at}
 use Rattle.iox_word_places.specs.Plans.{port_numbers, port_of}
 use Rattle.iox_word_places.specs.declared.plan.PlanPort.{PlanPort}
 use Rattle.iox_wire_words.specs.Programs.{WireLayout}
-use Rattle.iox_wire_weaves.specs.Nodes.{Node, seat_at}
-use Rattle.iox_wire_weaves.specs.CallAt.{CallAt}
-use Rattle.iox_wire_weaves.specs.CallAt.TheVariants as at
-use Rattle.iox_wire_weaves.specs.Runs.{Run}
-use Rattle.iox_wire_weaves.specs.Seat.{Seat}
-use Rattle.iox_wire_weaves.specs.Stands.{Player}
-use Rattle.iox_wire_weaves.specs.Tables.{Setting}
+use Rattle.iox_wire_nodes.specs.Nodes.{Node, seat_at}
+use Rattle.iox_wire_nodes.specs.declared.call_at.CallAt.{CallAt}
+use Rattle.iox_wire_nodes.specs.declared.call_at.CallAt.TheVariants as at
+use Rattle.iox_wire_needs.specs.Runs.{Run}
+use Rattle.iox_wire_nodes.specs.Seat.{Seat}
+use Rattle.iox_wire_needs.specs.Stands.{Player}
+use Rattle.iox_wire_nodes.specs.Tables.{Setting}
 use Rattle.iox_wire_weaves.specs.Wires.{Shows, WireData, WireNode, living_refusal, node_at, players_of, refusal_in, seat_of}
 use Rattle.iox_wire_weaves.specs.declared.refusal.WireRefusal.{WireRefusal}
 use Rattle.iox_wire_weaves.specs.declared.refusal.WireRefusal.TheVariants.{NodeIsDead, UnknownNode}
 use Rattle.iox_wire_weaves.proofs.Lookups.{seat_there}
-use Rattle.iox_wire_counts.specs.Laws.{KeptIsTold, OutstandingIsTold, desk_at_living, living_desk}
-use Rattle.iox_wire_counts.specs.Living.{is_at_living, kept_count, outstanding_count, sends_to}
-use Rattle.iox_wire_counts.proofs.Living as living
+use Rattle.iox_wire_weaves.specs.CountLaws.{KeptIsTold, OutstandingIsTold, desk_at_living, living_desk}
+use Rattle.iox_wire_weaves.specs.Living.{is_at_living, kept_count, outstanding_count, sends_to}
+use Rattle.iox_wire_weaves.proofs.LivingDesks as living
 
 abbrev way_of : (port other lane : ℕ) → Way
 way_of port other lane = record { sender = port; receiver = other; lane = lane }

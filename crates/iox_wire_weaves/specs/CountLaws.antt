@@ -5,10 +5,10 @@ use Rattle.std.specs.Option.{option_map_or}
 use Rattle.iox_wire_locals.specs.declared.table.Desk.{Desk}
 use Rattle.iox_wire_seats.specs.Counted.{desk_of, kept_at, outstanding_at}
 use Rattle.iox_word_places.specs.Plans.{port_of}
-use Rattle.iox_wire_weaves.specs.Runs.{Run}
-use Rattle.iox_wire_weaves.specs.Tables.{Setting}
+use Rattle.iox_wire_needs.specs.Runs.{Run}
+use Rattle.iox_wire_nodes.specs.Tables.{Setting}
 use Rattle.iox_wire_weaves.specs.Wires.{Shows, WireData, WireNode, node_at}
-use Rattle.iox_wire_counts.specs.Living.{kept_count, outstanding_count}
+use Rattle.iox_wire_weaves.specs.Living.{kept_count, outstanding_count}
 
 -- the desk of the port at the node, if that lives
 abbrev pub desk_at_living : ℕ → WireNode → Option Desk
