@@ -1,5 +1,5 @@
 -- The desk of a port at its living node tells how many messages the port keeps and has outstanding.
-use Rattle.std.specs.Prelude.{◌&&◌, find, is_some, length, map, not, option_map}
+use Rattle.std.specs.Prelude.{◌&&◌, find, is_some, length, not, option_map}
 use Rattle.std.specs.Option.{option_map_or}
 use Rattle.std.proofs.Common.{◌≡◌, ℕ, Bool, true, false, if◌then◌else◌, ◌==◌, List, [], ◌∷◌, Option, None, Some, refl, ap, sym, subst, ◌∙◌, inl, inr, true≢false, eqb-true, eq-eqb}
 use Rattle.iox_model.specs.declared.way.Way.{Way}
@@ -24,7 +24,7 @@ use Rattle.iox_wire_needs.specs.Runs.{Run}
 use Rattle.iox_wire_nodes.specs.Seat.{Seat}
 use Rattle.iox_wire_needs.specs.Stands.{Player}
 use Rattle.iox_wire_nodes.specs.Tables.{Setting}
-use Rattle.iox_wire_weaves.specs.Wires.{Shows, WireData, WireNode, living_refusal, node_at, players_of, refusal_in, seat_of}
+use Rattle.iox_wire_weaves.specs.Wires.{Shows, WireData, WireNode, living_refusal, node_at, players_of, refusal_in}
 use Rattle.iox_wire_weaves.specs.declared.refusal.WireRefusal.{WireRefusal}
 use Rattle.iox_wire_weaves.specs.declared.refusal.WireRefusal.TheVariants.{NodeIsDead, UnknownNode}
 use Rattle.iox_wire_weaves.proofs.Lookups.{seat_there}

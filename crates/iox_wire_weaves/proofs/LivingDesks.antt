@@ -1,17 +1,17 @@
 -- What the desk of a living node's port counts is what the machine keeps and has outstanding.
-use Rattle.std.specs.Prelude.{find, is_some, length, map, ◌-◌, ◌||◌, suc}
+use Rattle.std.specs.Prelude.{is_some, length, map, ◌-◌, ◌||◌, suc}
 use Rattle.std.specs.List.{range_with_len}
 use Rattle.std.specs.Option.{option_map_or}
-use Rattle.std.proofs.Common.{◌≡◌, ℕ, ◌+◌, ◌≤◌, Bool, true, false, if◌then◌else◌, ◌==◌, List, [], ◌∷◌, Option, None, Some, refl, ap, sym, subst, ◌∙◌, arith, true≢false, eqb-true, eq-eqb}
+use Rattle.std.proofs.Common.{◌≡◌, ℕ, ◌+◌, ◌≤◌, Bool, true, false, if◌then◌else◌, ◌==◌, List, [], ◌∷◌, Option, None, Some, refl, ap, sym, subst, ◌∙◌, arith, eqb-true, eq-eqb}
 use Rattle.iox_model.specs.declared.way.Way.{Way}
 use Rattle.iox_model.specs.Joins.{not_living}
 use Rattle.iox_model.specs.Keeping.{kept_in}
-use Rattle.iox_model.specs.Maps.{AreApart, has_number, has_way, same_way}
+use Rattle.iox_model.specs.Maps.{has_number, has_way, same_way}
 use Rattle.iox_model.specs.Outstandings.{outstanding_on}
-use Rattle.iox_model.specs.Peers.{is_connected_port, node_of_port, ways_from}
+use Rattle.iox_model.specs.Peers.{is_connected_port, ways_from}
 use Rattle.iox_model.specs.States.{Port, State}
 use Rattle.iox_laws.proofs.WeaveLaws.MapLemmas.{same_way-flip, same_way-refl, same_way-true}
-use Rattle.iox_laws.proofs.WeaveLedger.Lists.{IsAmong, NoRepeats, among-any, among-filter, among-map, among-number, among-way, any-among, distinct-no_repeats, filter-among, find-among, map-among, no_repeats-filter, number-among, way-among}
+use Rattle.iox_laws.proofs.WeaveLedger.Lists.{IsAmong, NoRepeats, among-any, among-filter, among-map, among-number, any-among, distinct-no_repeats, filter-among, map-among, no_repeats-filter, number-among}
 use Rattle.iox_laws.proofs.WeaveLedger.Ranges.{no-longer, range-apart, up-to}
 use Rattle.iox_wire_moments.specs.MomentsOf.{Pools, serial_in}
 use Rattle.iox_wire_locals.specs.declared.seat.Seat.{Seat}

@@ -1,6 +1,6 @@
 -- The desk of a port at its living node tells how many messages the port keeps, and how many are
 -- outstanding.
-use Rattle.std.specs.Prelude.{◌≡◌, ◌==◌, ℕ, if◌then◌else◌, Option, None, option_map}
+use Rattle.std.specs.Prelude.{◌≡◌, ℕ, if◌then◌else◌, Option, None, option_map}
 use Rattle.std.specs.Option.{option_map_or}
 use Rattle.iox_wire_locals.specs.declared.table.Desk.{Desk}
 use Rattle.iox_wire_seats.specs.Counted.{desk_of, kept_at, outstanding_at}

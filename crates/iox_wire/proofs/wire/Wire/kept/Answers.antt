@@ -1,6 +1,6 @@
 use Rattle.std.specs.Prelude.{Option, None, option_map}
 use Rattle.std.specs.Option.{option_map_or}
-use Rattle.std.proofs.Common.{◌≡◌, ap, refl, sym, ◌∙◌}
+use Rattle.std.proofs.Common.{ap, refl, sym, ◌∙◌}
 use Rattle.iox_wire_weaves.specs.Wires.{WireNode}
 use Rattle.iox_wire_weaves.specs.Counted.{kept_at}
 use Rattle.iox_wire_weaves.specs.CountLaws.{desk_at_living}
