@@ -20,7 +20,7 @@ enum Told {
 }
 
 /// What that answer says.
-fn told(reply: NodeReply) -> Told {
+fn answer(reply: NodeReply) -> Told {
     match reply {
         NodeReply::OfSeat(SeatReply::Done) => Told::Done,
         NodeReply::OfSeat(SeatReply::Answer(answer)) => Told::Answer(answer),
@@ -43,7 +43,7 @@ fn play(wire: &mut Wire, node: u64, call: NodeCall<'_>) -> Result<Option<(u64, T
     wire.begin(node, call)?;
     for made in 0..64 {
         if let Progress::Done(reply) = wire.step(node)? {
-            return Ok(Some((made + 1, told(reply))));
+            return Ok(Some((made + 1, answer(reply))));
         }
     }
     Ok(None)
