@@ -1,4 +1,4 @@
-use Rattle.std.proofs.Common.{◌≡◌, Some, List, length, sym, ap, subst, ◌∙◌}
+use Rattle.std.proofs.Common.{◌≡◌, Some, None, List, length, sym, ap, subst, ◌∙◌}
 use Rattle.std.specs.Prelude.{Option, find, position}
 use Rattle.std.specs.Option.{option_map_or}
 use Rattle.iox_model.specs.Maps.{same_way}
