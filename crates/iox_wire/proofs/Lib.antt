@@ -1,4 +1,5 @@
 pub mod Places
+pub mod Owners
 pub mod OpenedSeats
 pub mod Members
 pub mod Accesses

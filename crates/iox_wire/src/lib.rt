@@ -3,6 +3,7 @@
 #![tactic(auto)]
 
 mod begin;
+mod counts;
 mod entry;
 mod finding;
 mod member;

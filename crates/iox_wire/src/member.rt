@@ -3,6 +3,7 @@ ghost use Rattle.std.specs.Prelude.{◌≡◌, ◌+◌, ◌<◌, ◌^◌, false,
 ghost use Rattle.std.specs.Option.{option_map_or};
 
 mod begin;
+mod count;
 
 use iox_steps::{Access, perform};
 use iox_wire_weaves::{NodeReply, StoredNode, WireRefusal};

@@ -5,6 +5,7 @@ mod begin;
 mod call;
 mod copy;
 mod copy_response;
+mod count;
 mod elements;
 mod lend;
 mod look;

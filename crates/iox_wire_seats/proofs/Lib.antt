@@ -6,5 +6,6 @@ pub mod PickLemmas
 pub mod BeginLemmas
 pub mod DeskLemmas
 pub mod RecordLemmas
+pub mod CountedLemmas
 pub mod LendLemmas
 pub mod CopyLemmas

@@ -6,6 +6,8 @@ pub mod Counts
 pub mod Slots
 pub mod Records
 pub mod Desks
+-- how many messages of a port they count
+pub mod Counted
 -- a seat, and the places that it knows of
 pub mod Seats
 pub mod Aims

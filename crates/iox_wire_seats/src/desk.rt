@@ -7,6 +7,7 @@ ghost use Rattle.iox_model.specs.Handles.{is_request_loan, same_kind};
 ghost use Rattle.iox_wire_locals.specs.Desks.{counts_loan, gives_up, uses_less, uses_more};
 ghost use Rattle.iox_wire_seats.specs.Slots.{new_desk};
 
+mod count;
 mod deliver;
 mod lend;
 mod loans;

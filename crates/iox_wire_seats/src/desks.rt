@@ -3,6 +3,7 @@ ghost use Rattle.std.specs.Prelude.{◌≡◌, ◌==◌, ◌<◌, IfSome, length
 ghost use Rattle.iox_wire_locals.specs.Desks.{counts_loan, gives_up, on_desk, picks};
 ghost use Rattle.iox_wire_seats.specs.Desks.{AreOfDifferentPorts, MayGiveUp};
 
+mod count;
 mod lend;
 
 use crate::desk::StoredDesk;

@@ -3,6 +3,8 @@ ghost use Rattle.std.specs.Prelude.{◌≡◌, ◌==◌, ◌<◌, IfSome, length
 ghost use Rattle.iox_model.specs.Maps.{same_way, without_number};
 ghost use Rattle.iox_wire_seats.specs.Records.{Noted, with_noted};
 
+mod count;
+
 use crate::counts::is_same_way;
 use iox_model::way::Way;
 use std::alloc::{AllocError, Global};

@@ -4,6 +4,7 @@ ghost use Rattle.std.specs.Prelude.{◌≡◌};
 mod ask;
 mod close;
 mod copy;
+mod count;
 mod hint;
 mod keep;
 mod lend;

@@ -5,6 +5,8 @@ pub mod BeginsShown
 pub mod NodesKnown
 pub mod HandlesStanding
 pub mod Opened
+pub mod LivingDesks
+pub mod CountsTold
 -- what the crates above cite of those below
 pub use Rattle.iox_wire_needs.proofs.AccessesMade
 pub use Rattle.iox_wire_needs.proofs.Copying

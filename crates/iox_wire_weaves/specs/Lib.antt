@@ -1,9 +1,12 @@
 -- In reading order: what a wire is and when it shows a run of the machine; what a step and a death do
--- to it, and the begin of a call; and the laws that it goes on showing one.
+-- to it, and the begin of a call; the laws that it goes on showing one; and how many messages its
+-- ports keep and have outstanding.
 pub mod Wires
 pub mod Steps
 pub mod Asking
 pub mod Laws
+pub mod Living
+pub mod CountLaws
 -- what the crates above cite of those below
 pub use Rattle.iox_wire_needs.specs.Copying
 pub use Rattle.iox_wire_needs.specs.Counts
@@ -27,6 +30,7 @@ pub use Rattle.iox_wire_nodes.specs.Begins as NodesBegins
 pub use Rattle.iox_wire_nodes.specs.Calls
 pub use Rattle.iox_wire_nodes.specs.CopyReply
 pub use Rattle.iox_wire_nodes.specs.Courses
+pub use Rattle.iox_wire_seats.specs.Counted
 pub use Rattle.iox_wire_nodes.specs.Desk
 pub use Rattle.iox_wire_nodes.specs.Desks
 pub use Rattle.iox_wire_nodes.specs.Dispatches

@@ -2,6 +2,7 @@
 //! The functions have nothing to do: each is there for its contract.
 #![tactic(auto)]
 
+ghost use Rattle.iox_wire_weaves.specs.CountLaws.{KeptIsTold, OutstandingIsTold};
 ghost use Rattle.iox_wire_weaves.specs.Laws.{BeginsShow, DeathsShow, RefusalsAreShown};
 ghost use Rattle.iox_wire_weaves.specs.Laws.{HandlesStand};
 ghost use Rattle.iox_wire_weaves.specs.Laws.{NodesAreKnown, StepsAreSafe, StepsShow, WiresOpen};
@@ -53,4 +54,11 @@ pub fn nodes_are_known()
 /// Each handle of a node between calls is what it may be on the wire.
 pub fn handles_stand()
     ensures { HandlesStand }
+{}
+
+/// The desk of a port at its living node tells how many messages the port keeps, and how many are
+/// outstanding on each way.
+pub fn desks_tell()
+    ensures kept { KeptIsTold }
+    ensures outstanding { OutstandingIsTold }
 {}

@@ -1,0 +1,24 @@
+//! How many messages of its ports a node counts.
+use super::StoredNode;
+use iox_model::way::Way;
+
+impl StoredNode {
+    ghost use Rattle.std.specs.Prelude.{◌≡◌, option_map};
+    ghost use Rattle.iox_wire_seats.specs.Counted.{desk_of, kept_at, outstanding_at};
+
+    /// How many of its messages a port keeps, if it is one of the node's.
+    pub fn kept(&self, port: u64) -> Option<usize>
+        ensures { result ≡ option_map kept_at (desk_of port self.now.seat.seat.desks) }
+    {
+        self.seat.kept(port)
+    }
+
+    /// How many messages its sender delivered on the way and did not get back, if that is a port of
+    /// the node.
+    pub fn outstanding(&self, way: Way) -> Option<usize>
+        ensures { result
+            ≡ option_map (outstanding_at way) (desk_of way.sender self.now.seat.seat.desks) }
+    {
+        self.seat.outstanding(way)
+    }
+}
