@@ -11,7 +11,11 @@ impl Member {
     pub(crate) fn kept(&self, port: u64) -> Option<usize>
         ensures { result ≡ option_map kept_at (desk_at_living port self.now) }
     {
-        if self.alive { self.node.kept(port) } else { None }
+        if self.alive {
+            self.node.kept(port)
+        } else {
+            None
+        }
     }
 
     /// How many messages its sender delivered on the way and did not get back, if the node has that
@@ -19,6 +23,10 @@ impl Member {
     pub(crate) fn outstanding(&self, way: Way) -> Option<usize>
         ensures { result ≡ option_map (outstanding_at way) (desk_at_living way.sender self.now) }
     {
-        if self.alive { self.node.outstanding(way) } else { None }
+        if self.alive {
+            self.node.outstanding(way)
+        } else {
+            None
+        }
     }
 }
