@@ -10,6 +10,8 @@ mod chances;
 #[cfg(test)]
 mod client_stops;
 #[cfg(test)]
+mod counts;
+#[cfg(test)]
 mod four;
 #[cfg(test)]
 mod games;
