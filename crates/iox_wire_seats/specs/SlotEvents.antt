@@ -3,7 +3,8 @@
 use Rattle.std.specs.Prelude.{ℕ, [], Option, option_map}
 use Rattle.iox_model.specs.declared.event.Event.{Event}
 use Rattle.iox_model.specs.Moments.{event_of}
-use Rattle.iox_wire_moments.specs.MomentsOf.{Pools}
+use Rattle.iox_wire_moments.specs.MomentsOf.{Pools, moment_of}
+use Rattle.iox_wire_moments.specs.Programs.{Program, WireLayout}
 use Rattle.iox_wire_locals.specs.declared.local.Local.{Local}
 use Rattle.iox_wire_locals.specs.Tables.{Setting}
 use Rattle.iox_wire_locals.specs.StateMoments.{moment_at}
@@ -26,3 +27,7 @@ by_slot port slot = record {
 -- with the message's slot where its serial would stand
 abbrev pub slot_event : Setting → Local → ℕ → Option Event
 slot_event p local seen = option_map event_of (moment_at p by_slot local seen)
+
+-- the event of the next access of a program, which found this
+abbrev pub program_event : WireLayout → Program → ℕ → Option Event
+program_event p program seen = option_map event_of (moment_of p by_slot program seen)
