@@ -1,5 +1,7 @@
--- In reading order: what a node may count, and that it stays tidy; slots and lanes that its place
--- names; which slots are in use; that a copy goes on; and what it may do with its handles.
+-- In reading order: what no step changes; what a node may count, and that it stays tidy; slots and
+-- lanes that its place names; which slots are in use; that a copy goes on; and what it may do with its
+-- handles.
+pub mod SettingsStay
 pub mod Counts
 pub mod Tidying
 pub mod Places

@@ -6,6 +6,7 @@ ghost use Rattle.iox_wire_needs.specs.Copying.{BegunCopiesGoOn, SteppedCopiesGoO
 ghost use Rattle.iox_wire_needs.specs.Counts.{NodesMayCountMore};
 ghost use Rattle.iox_wire_needs.specs.Handles.{HandlesMayBeGivenUp};
 ghost use Rattle.iox_wire_needs.specs.Places.{PlacesAreInPools};
+ghost use Rattle.iox_wire_needs.specs.SettingsStay.{StepsLeaveSettings};
 ghost use Rattle.iox_wire_needs.specs.Tidying.{BegunNodesAreTidy, SteppedNodesAreTidy};
 ghost use Rattle.iox_wire_needs.specs.Uses.{AccessesFindInUse, RequestsMayBeGivenUp};
 ghost use Rattle.iox_wire_needs.specs.Uses.{LoansGetBackInUse, NewLoansMayBeGivenUp};
@@ -49,4 +50,9 @@ pub fn handles_may_be_given_up()
 pub fn nodes_stay_tidy()
     ensures begins { BegunNodesAreTidy }
     ensures steps { SteppedNodesAreTidy }
+{}
+
+/// A step leaves the members, the ports, the limits, and whom other nodes forgot.
+pub fn steps_leave_settings()
+    ensures { StepsLeaveSettings }
 {}
