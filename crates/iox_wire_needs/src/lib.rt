@@ -5,6 +5,7 @@
 ghost use Rattle.iox_wire_needs.specs.Copying.{BegunCopiesGoOn, SteppedCopiesGoOn};
 ghost use Rattle.iox_wire_needs.specs.Counts.{NodesMayCountMore};
 ghost use Rattle.iox_wire_needs.specs.Handles.{HandlesMayBeGivenUp};
+ghost use Rattle.iox_wire_needs.specs.OwnBegins.{CallsBeginByOwnData};
 ghost use Rattle.iox_wire_needs.specs.Places.{PlacesAreInPools};
 ghost use Rattle.iox_wire_needs.specs.SettingsStay.{StepsLeaveSettings};
 ghost use Rattle.iox_wire_needs.specs.Tidying.{BegunNodesAreTidy, SteppedNodesAreTidy};
@@ -55,4 +56,10 @@ pub fn nodes_stay_tidy()
 /// A step leaves the members, the ports, the limits, and whom other nodes forgot.
 pub fn steps_leave_settings()
     ensures { StepsLeaveSettings }
+{}
+
+/// A living node's own data decides whether a call of a port or a handle begins, and then what
+/// stands stands.
+pub fn calls_begin_by_own_data()
+    ensures { CallsBeginByOwnData }
 {}
