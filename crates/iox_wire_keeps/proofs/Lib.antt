@@ -39,6 +39,7 @@ pub use Rattle.iox_wire_calls.proofs.LanesTell
 pub use Rattle.iox_wire_calls.proofs.LoanSlots
 pub use Rattle.iox_wire_calls.proofs.NodesFollow
 pub use Rattle.iox_wire_calls.proofs.OpenedDesks
+pub use Rattle.iox_wire_calls.proofs.OthersSame
 pub use Rattle.iox_wire_calls.proofs.OwnPorts
 pub use Rattle.iox_wire_calls.proofs.OwnSlotsApart
 pub use Rattle.iox_wire_calls.proofs.OwnedPlaces

@@ -7,6 +7,8 @@ pub mod GivenUp
 pub mod Tidying
 pub mod Copying
 pub mod Handles
+pub mod SettingsStay
+pub mod OwnBegins
 -- what the crates above cite of those below
 pub use Rattle.iox_wire_keeps.proofs.AccessesMade
 pub use Rattle.iox_wire_keeps.proofs.BeginBeats

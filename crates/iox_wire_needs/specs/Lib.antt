@@ -1,5 +1,8 @@
--- In reading order: what a node may count, and that it stays tidy; slots and lanes that its place
--- names; which slots are in use; that a copy goes on; and what it may do with its handles.
+-- In reading order: what no step changes, and that calls begin by their node's own data; what a node
+-- may count, and that it stays tidy; slots and lanes that its place names; which slots are in use; that a
+-- copy goes on; and what it may do with its handles.
+pub mod SettingsStay
+pub mod OwnBegins
 pub mod Counts
 pub mod Tidying
 pub mod Places

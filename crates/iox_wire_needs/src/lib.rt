@@ -5,7 +5,9 @@
 ghost use Rattle.iox_wire_needs.specs.Copying.{BegunCopiesGoOn, SteppedCopiesGoOn};
 ghost use Rattle.iox_wire_needs.specs.Counts.{NodesMayCountMore};
 ghost use Rattle.iox_wire_needs.specs.Handles.{HandlesMayBeGivenUp};
+ghost use Rattle.iox_wire_needs.specs.OwnBegins.{CallsBeginByOwnData};
 ghost use Rattle.iox_wire_needs.specs.Places.{PlacesAreInPools};
+ghost use Rattle.iox_wire_needs.specs.SettingsStay.{StepsLeaveSettings};
 ghost use Rattle.iox_wire_needs.specs.Tidying.{BegunNodesAreTidy, SteppedNodesAreTidy};
 ghost use Rattle.iox_wire_needs.specs.Uses.{AccessesFindInUse, RequestsMayBeGivenUp};
 ghost use Rattle.iox_wire_needs.specs.Uses.{LoansGetBackInUse, NewLoansMayBeGivenUp};
@@ -49,4 +51,15 @@ pub fn handles_may_be_given_up()
 pub fn nodes_stay_tidy()
     ensures begins { BegunNodesAreTidy }
     ensures steps { SteppedNodesAreTidy }
+{}
+
+/// A step leaves the members, the ports, the limits, and whom other nodes forgot.
+pub fn steps_leave_settings()
+    ensures { StepsLeaveSettings }
+{}
+
+/// A living node's own data decides whether a call of a port or a handle begins, and then what
+/// stands stands.
+pub fn calls_begin_by_own_data()
+    ensures { CallsBeginByOwnData }
 {}
