@@ -26,6 +26,7 @@ pub mod BeginWhole
 -- what the crates above cite of those below
 pub use Rattle.iox_wire_calls.proofs.AccessUses
 pub use Rattle.iox_wire_calls.proofs.AccessesFound
+pub use Rattle.iox_wire_calls.proofs.Aside
 pub use Rattle.iox_wire_calls.proofs.BeginBeats
 pub use Rattle.iox_wire_calls.proofs.CallsAround
 pub use Rattle.iox_wire_calls.proofs.Counting
@@ -43,6 +44,7 @@ pub use Rattle.iox_wire_calls.proofs.OthersSame
 pub use Rattle.iox_wire_calls.proofs.OwnPorts
 pub use Rattle.iox_wire_calls.proofs.OwnSlotsApart
 pub use Rattle.iox_wire_calls.proofs.OwnedPlaces
+pub use Rattle.iox_wire_calls.proofs.PieceLemmas
 pub use Rattle.iox_wire_calls.proofs.PoolsFit
 pub use Rattle.iox_wire_calls.proofs.SendsFollow
 pub use Rattle.iox_wire_calls.proofs.Starts

@@ -21,6 +21,7 @@ pub use Rattle.iox_wire_calls.specs.Desks as LocalsDesks
 pub use Rattle.iox_wire_calls.specs.Ending
 pub use Rattle.iox_wire_calls.specs.Entry
 pub use Rattle.iox_wire_calls.specs.Findings
+pub use Rattle.iox_wire_calls.specs.Fits
 pub use Rattle.iox_wire_calls.specs.Following
 pub use Rattle.iox_wire_calls.specs.FollowingLaws
 pub use Rattle.iox_wire_calls.specs.Known

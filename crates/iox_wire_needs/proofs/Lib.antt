@@ -9,6 +9,7 @@ pub mod Copying
 pub mod Handles
 pub mod SettingsStay
 pub mod OwnBegins
+pub mod PlaceBounds
 -- what the crates above cite of those below
 pub use Rattle.iox_wire_keeps.proofs.AccessesMade
 pub use Rattle.iox_wire_keeps.proofs.BeginBeats

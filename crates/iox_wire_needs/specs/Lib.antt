@@ -1,8 +1,9 @@
--- In reading order: what no step changes, and that calls begin by their node's own data; what a node
--- may count, and that it stays tidy; slots and lanes that its place names; which slots are in use; that a
--- copy goes on; and what it may do with its handles.
+-- In reading order: what no step changes, that calls begin by their node's own data, and that a place
+-- bounds its access; what a node may count, and that it stays tidy; slots and lanes that its place names;
+-- which slots are in use; that a copy goes on; and what it may do with its handles.
 pub mod SettingsStay
 pub mod OwnBegins
+pub mod PlaceBounds
 pub mod Counts
 pub mod Tidying
 pub mod Places

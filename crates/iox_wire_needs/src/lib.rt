@@ -6,6 +6,7 @@ ghost use Rattle.iox_wire_needs.specs.Copying.{BegunCopiesGoOn, SteppedCopiesGoO
 ghost use Rattle.iox_wire_needs.specs.Counts.{NodesMayCountMore};
 ghost use Rattle.iox_wire_needs.specs.Handles.{HandlesMayBeGivenUp};
 ghost use Rattle.iox_wire_needs.specs.OwnBegins.{CallsBeginByOwnData};
+ghost use Rattle.iox_wire_needs.specs.PlaceBounds.{CellsStay, NodesAreBound, PlacesBoundAccesses};
 ghost use Rattle.iox_wire_needs.specs.Places.{PlacesAreInPools};
 ghost use Rattle.iox_wire_needs.specs.SettingsStay.{StepsLeaveSettings};
 ghost use Rattle.iox_wire_needs.specs.Tidying.{BegunNodesAreTidy, SteppedNodesAreTidy};
@@ -62,4 +63,11 @@ pub fn steps_leave_settings()
 /// stands stands.
 pub fn calls_begin_by_own_data()
     ensures { CallsBeginByOwnData }
+{}
+
+/// The place of a node bounds the access that comes next, whatever the words are.
+pub fn places_bound_accesses()
+    ensures accesses { PlacesBoundAccesses }
+    ensures cells { CellsStay }
+    ensures nodes { NodesAreBound }
 {}
