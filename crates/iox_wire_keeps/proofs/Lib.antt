@@ -13,11 +13,14 @@ pub mod NextPlaces
 pub mod Accesses
 pub mod FilledSlots
 pub mod MessageEnds
+pub mod Serials
+pub mod WireSerials
 pub mod WireStands
 pub mod StepParts
 pub mod Forgotten
 pub mod StepMessages
 pub mod StepWhole
+pub mod NamedSlots
 pub mod Firsts
 pub mod FirstPlaces
 pub mod FirstOwners
@@ -39,6 +42,7 @@ pub use Rattle.iox_wire_calls.proofs.LanesTell
 pub use Rattle.iox_wire_calls.proofs.LoanSlots
 pub use Rattle.iox_wire_calls.proofs.NodesFollow
 pub use Rattle.iox_wire_calls.proofs.OpenedDesks
+pub use Rattle.iox_wire_calls.proofs.OthersSame
 pub use Rattle.iox_wire_calls.proofs.OwnPorts
 pub use Rattle.iox_wire_calls.proofs.OwnSlotsApart
 pub use Rattle.iox_wire_calls.proofs.OwnedPlaces
