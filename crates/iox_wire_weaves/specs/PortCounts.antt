@@ -1,31 +1,33 @@
--- How many messages a port of a living node keeps, and how many are outstanding from it.
-use Rattle.std.specs.Prelude.{ℕ, Bool, not, ◌&&◌, if◌then◌else◌, length, Option, None, Some, is_some}
-use Rattle.iox_model.specs.Joins.{not_living}
+-- How many messages a port of the machine keeps, and how many are outstanding from it. So many tells
+-- its desk, whether its node lives or is dead.
+use Rattle.std.specs.Prelude.{◌≡◌, ℕ, Bool, ◌&&◌, if◌then◌else◌, length, Some}
+use Rattle.iox_model.specs.declared.way.Way.{Way}
 use Rattle.iox_model.specs.Keeping.{kept_in}
 use Rattle.iox_model.specs.Maps.{has_way}
-use Rattle.iox_model.specs.Outstandings.{outstanding}
-use Rattle.iox_model.specs.Peers.{is_connected_port, node_of_port, ways_from}
+use Rattle.iox_model.specs.Outstandings.{outstanding_on}
+use Rattle.iox_model.specs.Peers.{is_connected_port, ways_from}
 use Rattle.iox_model.specs.States.{State}
 use Rattle.iox_model.specs.Weaves.{World}
+use Rattle.iox_wire_locals.specs.declared.table.Desk.{Desk}
+use Rattle.iox_wire_nodes.specs.Seat.{Seat}
+use Rattle.iox_wire_seats.specs.Counted.{desk_of, kept_at, outstanding_at}
 
--- whether a living node has the port
-abbrev pub is_at_living : State → ℕ → Bool
-is_at_living s port =
-    is_connected_port s.fixed port && not (is_some (not_living s (node_of_port s.fixed port)))
+-- how many messages the port keeps; none where there is no such port
+abbrev pub kept_count : World → ℕ → ℕ
+kept_count w port = if is_connected_port w.state.fixed port then length (kept_in w port) else 0
 
--- how many messages the port keeps, if a living node has it
-abbrev pub kept_count : World → ℕ → Option ℕ
-kept_count w port = if is_at_living w.state port then Some (length (kept_in w port)) else None
+-- whether the port sends on the way
+abbrev pub sends_on : State → ℕ → Way → Bool
+sends_on s port y = is_connected_port s.fixed port && has_way y (ways_from s.fixed port)
 
--- whether the port sends to the other on that lane; a client does on lane 0
-abbrev pub sends_to : State → (port other lane : ℕ) → Bool
-sends_to s port other lane =
-    has_way (record { sender = port; receiver = other; lane = lane }) (ways_from s.fixed port)
+-- how many messages are outstanding on the way; none where its sender is no port, or does not send there
+abbrev pub outstanding_count : State → Way → ℕ
+outstanding_count s y = if sends_on s y.sender y then length (outstanding_on s y) else 0
 
--- how many messages are outstanding from one port to another on a lane, if a living node has the
--- first; none where it does not send there
-abbrev pub outstanding_count : State → (port other lane : ℕ) → Option ℕ
-outstanding_count s port other lane =
-    if is_at_living s port then
-    Some (if sends_to s port other lane then length (outstanding s port other lane) else 0)
-    else None
+-- The node has a desk for the port, which tells how many messages the port keeps, and how many are
+-- outstanding on each of its ways.
+pub record TellsCounts (w : World) (port : ℕ) (x : Seat) : Type 0 where
+  pub desk : Desk
+  pub there : desk_of port x.desks ≡ Some desk
+  pub kept : kept_at desk ≡ kept_count w port
+  pub outstanding : (y : Way) → y.sender ≡ port → outstanding_at y desk ≡ outstanding_count w.state y
