@@ -15,7 +15,7 @@ fn answers(wire: &mut Wire, node: u64, ask: Ask) -> Option<Told> {
 }
 
 /// What the client keeps, and what it has outstanding at the server.
-fn counts(wire: &Wire) -> (Option<usize>, Option<usize>) {
+fn counts(wire: &Wire) -> (usize, usize) {
     (wire.kept(0), wire.outstanding(0, 1, 0))
 }
 
@@ -28,7 +28,7 @@ fn open_with_two(rt: &impl Abort, alloc: Global) -> Result<Wire, Fail> {
     assert_eq!(rt; received, Some(Told::Handle(2)));
     let released = answers(&mut wire, 0, Ask::Release(2));
     assert_eq!(rt; released, Some(Told::Done));
-    assert_eq!(rt; counts(&wire), (Some(1), Some(1)));
+    assert_eq!(rt; counts(&wire), (1, 1));
     let second = answers(&mut wire, 0, Ask::CopyRequest(0, 12));
     assert_eq!(rt; second, Some(Told::Handle(3)));
     let released = answers(&mut wire, 0, Ask::Release(3));
@@ -39,39 +39,52 @@ fn open_with_two(rt: &impl Abort, alloc: Global) -> Result<Wire, Fail> {
 #[test]
 fn evicted_request_is_outstanding_up_to_the_last_step(rt: HostRuntime) -> Result<(), Fail> {
     let mut wire = open_with_two(&rt, rt.alloc())?;
-    assert_eq!(rt; counts(&wire), (Some(2), Some(2)));
+    assert_eq!(rt; counts(&wire), (2, 2));
     begin(&mut wire, 0, Ask::CopyRequest(0, 13))?;
     assert_eq!(rt; steps(&mut wire, 0, 17), Came::UnderWay);
-    assert_eq!(rt; counts(&wire), (Some(3), Some(3)));
+    assert_eq!(rt; counts(&wire), (3, 3));
     assert_eq!(rt; steps(&mut wire, 0, 1), Came::UnderWay);
-    assert_eq!(rt; counts(&wire), (Some(3), Some(3)));
+    assert_eq!(rt; counts(&wire), (3, 3));
     let last = steps(&mut wire, 0, 1);
     assert_eq!(rt; last, Came::Ended(1, Told::Handle(4)));
-    assert_eq!(rt; counts(&wire), (Some(2), Some(2)));
+    assert_eq!(rt; counts(&wire), (2, 2));
     let lent = answers(&mut wire, 0, Ask::Loan(0));
     assert_eq!(rt; lent, Some(Told::Handle(5)));
-    assert_eq!(rt; counts(&wire), (Some(3), Some(2)));
+    assert_eq!(rt; counts(&wire), (3, 2));
     Ok(())
 }
 
 #[test]
 fn other_ways_have_nothing_outstanding(rt: HostRuntime) -> Result<(), Fail> {
     let wire = open_with_two(&rt, rt.alloc())?;
-    assert_eq!(rt; wire.kept(1), Some(0));
-    assert_eq!(rt; wire.outstanding(1, 0, 0), Some(0));
-    assert_eq!(rt; wire.outstanding(0, 1, 1), Some(0));
-    assert_eq!(rt; wire.outstanding(0, 0, 0), Some(0));
-    assert_eq!(rt; wire.outstanding(0, 7, 0), Some(0));
+    assert_eq!(rt; wire.kept(1), 0);
+    assert_eq!(rt; wire.outstanding(1, 0, 0), 0);
+    assert_eq!(rt; wire.outstanding(0, 1, 1), 0);
+    assert_eq!(rt; wire.outstanding(0, 0, 0), 0);
+    assert_eq!(rt; wire.outstanding(0, 7, 0), 0);
     Ok(())
 }
 
 #[test]
-fn port_of_no_living_node_has_no_counts(rt: HostRuntime) -> Result<(), Fail> {
+fn no_port_has_nothing(rt: HostRuntime) -> Result<(), Fail> {
+    let wire = open_with_two(&rt, rt.alloc())?;
+    assert_eq!(rt; wire.kept(7), 0);
+    assert_eq!(rt; wire.outstanding(7, 1, 0), 0);
+    Ok(())
+}
+
+#[test]
+fn port_of_a_dead_node_has_what_it_had(rt: HostRuntime) -> Result<(), Fail> {
     let mut wire = open_with_two(&rt, rt.alloc())?;
-    assert_eq!(rt; wire.kept(7), None);
-    assert_eq!(rt; wire.outstanding(7, 1, 0), None);
+    begin(&mut wire, 0, Ask::CopyRequest(0, 13))?;
+    assert_eq!(rt; steps(&mut wire, 0, 17), Came::UnderWay);
     wire.declare_dead(0)?;
-    assert_eq!(rt; counts(&wire), (None, None));
-    assert_eq!(rt; wire.kept(1), Some(0));
+    assert_eq!(rt; counts(&wire), (3, 3));
+    assert_eq!(rt; wire.kept(1), 0);
+    let released = answers(&mut wire, 1, Ask::Release(2));
+    assert_eq!(rt; released, Some(Told::Done));
+    let received = answers(&mut wire, 1, Ask::Receive(1));
+    assert_eq!(rt; received, Some(Told::Handle(3)));
+    assert_eq!(rt; counts(&wire), (3, 3));
     Ok(())
 }

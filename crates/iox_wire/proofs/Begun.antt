@@ -48,6 +48,7 @@ use Rattle.iox_wire_weaves.specs.WireStands.{WireStands}
 use Rattle.iox_wire_weaves.specs.WireTerms.{WireTerms}
 use Rattle.iox_wire_weaves.specs.declared.refusal.WireRefusal.{WireRefusal}
 use Rattle.iox_wire_weaves.specs.declared.refusal.WireRefusal.TheVariants.{Unsupported}
+use Rattle.iox_wire_weaves.specs.PortCounts.{TellsCounts}
 use Rattle.iox_wire_weaves.specs.Wires.{Shows, WireData, WireNode, living_refusal, machine_refusal, node_at, players_of, refusal_in, seat_of}
 use Rattle.iox_wire_weaves.proofs.BeginsShown.{begins_show, refusals_are_shown}
 use Rattle.iox_wire_weaves.proofs.CallLemmas.{left_as_it_was}
@@ -278,6 +279,8 @@ module _ (w : WireData) (n i : ℕ) (d : WireNode) (at : position (λ x. x.numbe
             )
         | inr other ↦ shows.aimed m z (sym (puts.others m other) ∙ has)
       ];
+      ports = shows.ports;
+      counts = λ port has. subst (TellsCounts r.last port) (sym (seats_same p (p.layout.owner port) (p.layout.owner port == n) refl)) (shows.counts port has);
       replies = shows.replies;
     }
 

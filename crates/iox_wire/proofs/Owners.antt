@@ -8,7 +8,7 @@ use Rattle.iox_wire_weaves.specs.PlanPort.{PlanPort}
 use Rattle.iox_wire_weaves.specs.Plans.{port_of}
 use Rattle.iox_wire_weaves.specs.WirePlan.{WirePlan}
 use Rattle.iox_wire_weaves.specs.Wires.{WireData, WireNode, node_at}
-use Rattle.iox_wire_weaves.specs.CountLaws.{owner_in}
+use Rattle.iox_wire_weaves.specs.Owners.{owner_in}
 
 at_port : (nodes : List WireNode) (n : ℕ) (o : Option PlanPort) → Some n ≡ option_map (λ (q : PlanPort). q.node) o
     → option_map_or (λ (q : PlanPort). node_at q.node nodes) o None ≡ node_at n nodes

@@ -6,7 +6,7 @@ use Rattle.std.specs.Option.{option_map_or}
 use Rattle.std.proofs.Common.{◌≡◌, ℕ, ◌==◌, true, false, List, ◌++◌, length, get_or, Option, Some, None, refl, ap, sym, subst, ◌∙◌, slice_set}
 use Rattle.iox_model.specs.Commands.{Reply}
 use Rattle.iox_model.specs.Maps.{or_else, refused_if}
-use Rattle.iox_model.specs.Schedules.{IsStepOf}
+use Rattle.iox_model.specs.Schedules.{IsStepOf, events_of}
 use Rattle.iox_model.specs.Weaves.{Beat, Dies}
 use Rattle.iox_steps.specs.declared.access.Access.{Access}
 use Rattle.iox_steps.specs.Accesses.{IsWithin, seen_at, words_after}
@@ -20,8 +20,9 @@ use Rattle.iox_wire_weaves.specs.WholeSteps.{GoesOnWith}
 use Rattle.iox_wire_weaves.specs.declared.refusal.WireRefusal.{WireRefusal}
 use Rattle.iox_wire_weaves.specs.declared.refusal.WireRefusal.TheVariants.{NodeIsDead}
 use Rattle.iox_wire_weaves.specs.Laws.{Replaces, WentOn, progress_of}
-use Rattle.iox_wire_weaves.specs.Steps.{MakesOneAccess, access_of, answer_of, rest_refusal, step_refusal}
-use Rattle.iox_wire_weaves.specs.Wires.{Shows, WireData, WireNode, answers_in, living_refusal, node_at, wordless_all}
+use Rattle.iox_wire_weaves.specs.Events.{slot_event}
+use Rattle.iox_wire_weaves.specs.Steps.{MakesOneAccess, access_of, answer_of, recorded, rest_refusal, step_refusal}
+use Rattle.iox_wire_weaves.specs.Wires.{Shows, WireData, WireNode, answers_in, living_refusal, node_at, seat_of, wordless_all}
 use Rattle.iox_wire_weaves.proofs.DeathsShown.{deaths_show}
 use Rattle.iox_wire_weaves.proofs.Lookups.{living_by, seat_there, steps_on}
 use Rattle.iox_wire_weaves.proofs.StepsShown.{steps_show}
@@ -65,7 +66,8 @@ module _ (w : WireData) (n i : ℕ) (d : WireNode) (at : position (λ x. x.numbe
       → let new : WireData = record { plan = w.plan; terms = w.terms; words = words; nodes = slice_set w.nodes i y; replies = replies } in
       MakesOneAccess p w n new
       × (bs : List Beat) × (after : Run) × IsStepOf n bs × GoesOnWith r bs after
-      × (answers_in bs ≡ answer_of n new.nodes (progress_of reply)) × Shows p new after
+      × (answers_in bs ≡ answer_of n new.nodes (progress_of reply))
+      × (events_of bs ≡ recorded w n (slot_event p (seat_of p w.nodes n).local (seen_at (access_of p w n) w.words))) × Shows p new after
   stepped p r y reply words replies shows goes made number alive told =
       steps_show p w (record { plan = w.plan; terms = w.terms; words = words; nodes = slice_set w.nodes i y; replies = replies }) r n d y reply shows goes
       (replaced n w.nodes i d y at read number) alive
@@ -83,7 +85,7 @@ module _ (w : WireData) (n i : ℕ) (d : WireNode) (at : position (λ x. x.numbe
       let s = stepped p r y reply words replies shows goes made number alive told in
       let rests = steps_on w n d there goes in
       record {
-        shows = (p, s.2, s.6);
+        shows = (p, s.2, s.7);
         whole = shown.whole;
         numbers = shown.numbers;
         kept = kept_still w.nodes n d y (slice_set w.nodes i y) (replaced n w.nodes i d y at read number) shown.kept

@@ -26,8 +26,8 @@ fn node_of(map: &WordMap, port: u64) -> Option<u64>
 
 impl Wire {
     ghost use Rattle.std.specs.Prelude.{◌≡◌, IfSome, None, Some};
-    ghost use Rattle.iox_wire_weaves.specs.CountLaws.{owner_in};
-    ghost use Rattle.iox_wire_weaves.specs.Living.{kept_count, outstanding_count};
+    ghost use Rattle.iox_wire_weaves.specs.Owners.{owner_in};
+    ghost use Rattle.iox_wire_weaves.specs.PortCounts.{kept_count, outstanding_count};
     ghost use Rattle.iox_wire_weaves.specs.Runs.{Run};
     ghost use Rattle.iox_wire_weaves.specs.Tables.{Setting};
     ghost use Rattle.iox_wire_weaves.specs.Wires.{Shows, node_at};
@@ -54,23 +54,24 @@ impl Wire {
         }
     }
 
-    /// How many messages the port keeps: in its handles, in the call of its node, and outstanding.
-    /// `None` exactly where no living node has the port.
-    pub fn kept(&self, port: u64) -> Option<usize>
+    /// How many messages the port keeps, whether its node lives or is dead: in its handles, in the
+    /// call of its node, and outstanding. 0 where there is no such port.
+    pub fn kept(&self, port: u64) -> usize
         ensures { (p : Setting) → (r : Run) → Shows p self.now r
             → result ≡ kept_count r.last port }
     {
         match self.owner(port) {
             Some(member) => member.kept(port),
-            None => None,
+            None => 0,
         }
     }
 
-    /// How many messages the port delivered to the other on that lane and did not get back, 0 where
-    /// it does not send there. `None` exactly where no living node has the port.
-    pub fn outstanding(&self, port: u64, other: u64, lane: u64) -> Option<usize>
+    /// How many messages the port delivered to the other on that lane and did not get back, whether
+    /// its node lives or is dead. 0 where there is no such port, or it does not send there.
+    pub fn outstanding(&self, port: u64, other: u64, lane: u64) -> usize
         ensures { (p : Setting) → (r : Run) → Shows p self.now r
-            → result ≡ outstanding_count r.last.state port other lane }
+            → result ≡ outstanding_count r.last.state
+            (record { sender = port; receiver = other; lane = lane }) }
     {
         let way = Way {
             sender: port,
@@ -79,7 +80,7 @@ impl Wire {
         };
         match self.owner(port) {
             Some(member) => member.outstanding(way),
-            None => None,
+            None => 0,
         }
     }
 }

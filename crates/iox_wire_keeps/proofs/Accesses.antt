@@ -241,7 +241,7 @@ module _ (p : Setting) (held : Pools) (word word' : ℕ → ℕ) (c : WireConten
       };
       words = subst (λ l. HoldsMessage p held (contents_after p.layout (program_of p l) seen c) o.port slot) (sym is)
           ((loans_are_stored p (seats n).node w.state.fixed w.state.request_state o c slot next seen owns_it size.1).1 held last message);
-      addressed = subst (IsAddressed p o.port) (sym message) ((size.0.3 slot).small, lane_low);
+      addressed = subst (IsAddressed p o.port) (sym message) ((size.0.3 slot).small, lane_low, size.0.4);
     }
 
     same_pools : new ≡ held

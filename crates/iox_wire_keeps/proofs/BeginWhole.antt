@@ -47,7 +47,11 @@ use Rattle.iox_wire_keeps.proofs.Bounds.{begins_leave_bounds}
 use Rattle.iox_wire_keeps.proofs.MessageBegins.{begins_leave_messages}
 use Rattle.iox_wire_calls.specs.FarSlots.{IsInPool}
 use Rattle.iox_model.specs.States.{State}
-use Rattle.iox_wire_calls.specs.Local.TheVariants.{Idle}
+use Rattle.iox_wire_calls.specs.Local.TheVariants.{Idle, LendStores}
+use Rattle.iox_wire_calls.specs.NewLoan.{NewLoan}
+use Rattle.iox_wire_calls.specs.Places.{PlaceFits}
+use Rattle.iox_wire_keeps.specs.Serials.{TellsSerials}
+use Rattle.iox_wire_keeps.proofs.WireSerials.{begun_serials}
 use Rattle.iox_wire_calls.proofs.BeginsKept.{begins_leave_nothing}
 use Rattle.iox_steps.specs.Sites.{last_position}
 use Rattle.iox_model.specs.Handles.{is_request_loan, is_response_loan}
@@ -219,9 +223,9 @@ module _ (p : Setting) (words : List ℕ) (players : ℕ → Player) (r : Run) (
   sent_owned (wire_calls.Port c) is moves =
       by_call p (players n).seat wire.stands.numbers set c handled
       (λ q. Owns p (players n).seat.node r.last.state.fixed r.last.state.request_state q.local) tt
-      (owned_port p words players r n wire.stands living (players n).seat knows node set lanes_for lanes idle wire.sizes suited answers c moves
+      (owned_port p words players r n wire.stands living (players n).seat knows node set lanes_for lanes idle wire.sizes suited answers few_loans c moves
       (subst (WordsAreWhole p.limits) is whole))
-      (owned_entry p words players r n wire.stands living (players n).seat knows node set lanes_for lanes idle wire.sizes suited answers c moves
+      (owned_entry p words players r n wire.stands living (players n).seat knows node set lanes_for lanes idle wire.sizes suited answers few_loans c moves
       (subst (WordsAreWhole p.limits) is whole))
       (subst (λ c. misnamed_call p (players n).seat c ≡ None) is (named p words players r n call wire.stands wire.calls free))
   sent_owned (wire_calls.Forget dead) is moves = tt
@@ -230,8 +234,8 @@ module _ (p : Setting) (words : List ℕ) (players : ℕ → Player) (r : Run) (
   long_first : (c : WireCall) → call ≡ c → FirstFits p (begin p (players n).seat c).local
   long_first (wire_calls.Port c) is =
       by_call p (players n).seat wire.stands.numbers set c handled (λ q. FirstFits p q.local) tt
-      (at_port p (players n).seat wire.sizes suited answers c (subst (WordsAreWhole p.limits) is whole))
-      (at_entry p (players n).seat wire.sizes suited answers c (subst (WordsAreWhole p.limits) is whole))
+      (at_port p (players n).seat wire.sizes suited answers few_loans c (subst (WordsAreWhole p.limits) is whole))
+      (at_entry p (players n).seat wire.sizes suited answers few_loans c (subst (WordsAreWhole p.limits) is whole))
       (subst (λ c. misnamed_call p (players n).seat c ≡ None) is (named p words players r n call wire.stands wire.calls free))
   long_first (wire_calls.Forget dead) is = tt
 
@@ -298,6 +302,19 @@ module _ (p : Setting) (words : List ℕ) (players : ℕ → Player) (r : Run) (
       by_seat k true = refl
       by_seat k false = refl
 
+  lives_then : not_living begun_run.0.last.state n ≡ None
+  lives_then = ap (λ (v : World). not_living v.state n) begun_run.1.beat.2 ∙ living
+
+  serials_begun : (m : ℕ) → TellsSerials p begun_run.2.held (put_at players n player m).seat
+  serials_begun =
+      begun_serials p words players r n wire call player refl begun_run.2.held begun_run.3
+      (λ o slot is. at_home o slot is ∙ begun_run.2.shows.node n)
+    where
+      -- the slot that a loan takes is one of the node's port
+      at_home : (o : NewLoan) (slot : ℕ) → (seats_of p (put_at players n player) n).local ≡ LendStores o slot 0
+          → p.layout.owner o.port ≡ (seats_of p (put_at players n player) n).node
+      at_home o slot is = (subst (PlaceFits p (seats_of p (put_at players n player) n)) is (begun_run.5 n lives_then).fits.place).0.1
+
   pub begun_wire : WireStands p words (put_at players n player) begun_run.0
   begun_wire = record {
     stands = begun_run.2;
@@ -312,6 +329,7 @@ module _ (p : Setting) (words : List ℕ) (players : ℕ → Player) (r : Run) (
         (subst (λ d. AccessesBound p d (put_at (λ i. (players i).seat) n (begin p (players n).seat call))) (sym begun_run.4)
         (begins_leave_bounds p wire.stands.contents (λ i. (players i).seat) n call wire.bounds));
     sizes = wire.sizes;
+    serials = serials_begun;
   }
 
 pub begun_wires_stand : BegunWiresStand

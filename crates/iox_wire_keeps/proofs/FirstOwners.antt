@@ -1,5 +1,5 @@
 -- A call that lends, sends or hints owns its first place, where all stands.
-use Rattle.std.specs.Prelude.{nat_lt, ◌++◌}
+use Rattle.std.specs.Prelude.{nat_lt, ◌++◌, ◌^◌}
 use Rattle.std.proofs.Common.{Bool, List, None, Option, Some, [], ap, arith, eq-eqb, false, if◌then◌else◌, length, refl, subst, sym, true, true≢false, ℕ, ◌*◌, ◌+◌, ◌<◌, ◌==◌, ◌||◌, ◌∙◌, ◌∷◌, ◌≡◌, ◌≤◌}
 use Rattle.std.proofs.lemmas.Nat.{mul-le}
 use Rattle.iox_model.specs.declared.call.Call.TheVariants as calls
@@ -30,7 +30,7 @@ use Rattle.iox_wire_calls.specs.NewLoan.{NewLoan}
 use Rattle.iox_wire_calls.specs.Begins as begins
 use Rattle.iox_wire_calls.specs.Courses as courses
 use Rattle.iox_wire_calls.specs.Knowing.{Knows}
-use Rattle.iox_wire_calls.specs.Known.{free_lanes, known}
+use Rattle.iox_wire_calls.specs.Known.{free_lanes, known, loans_at}
 use Rattle.iox_wire_calls.specs.Lendings as lendings
 use Rattle.iox_wire_calls.specs.Lendings.{first_lane}
 use Rattle.iox_wire_calls.specs.NewLoans.{loan_in, loan_words, message_in}
@@ -94,7 +94,8 @@ response_server Client kind is loan = absurd (true≢false (sym is))
 module _ (p : Setting) (words : List ℕ) (players : ℕ → Player) (r : Run) (n : ℕ) (stands : Stands p words players r) (living : not_living r.last.state n ≡ None)
     (x : Seat) (knows : Knows p x r.last.state.fixed stands.held) (node : NodeStands p stands.held r.last.state x) (owners : OwnersAreSet p)
     (lanes : HasLanesForSlots p x) (all : AllLanesAreCounted p x) (idle : x.local ≡ Idle) (sizes : NoneGrows p)
-    (entries : (e : Entry) → HasEntry x e → EntrySuits p e) (answers : AnswersOnLanes p x) where
+    (entries : (e : Entry) → HasEntry x e → EntrySuits p e) (answers : AnswersOnLanes p x)
+    (few : (port : ℕ) → loans_at x port < 2 ^ 64) where
   abbrev f : Fixed
   f = r.last.state.fixed
 
@@ -189,7 +190,7 @@ module _ (p : Setting) (words : List ℕ) (players : ℕ → Player) (r : Run) (
       (courses.ended x (endings.Refuses WrongLength))
       (λ is. lends (lendings.request_refusal p x q k) (lendings.new_request p x q k payload copies) home
       (ap (λ (d : Port). kind_of_loan d.role false) (sym set)) (λ its. ap (λ (d : Port). first_lane d.pool (free_lanes x q.number)) (sym set))
-      (request_fits p x sizes entries answers q k payload copies home set client long empty)) (λ is. tt)
+      (request_fits p x sizes entries answers few q k payload copies home set client long empty)) (λ is. tt)
 
   lends_response : (e : Entry) (k : ℕ) (payload : List ℕ) (copies : Bool) → HasEntry x e → SuitsPort p x e.port e.kind → same_kind e.kind kinds.ActiveRequest ≡ true
       → (copies ≡ true → length payload ≡ k * (port_shape p e.port).width) → (copies ≡ false → payload ≡ [])
@@ -199,7 +200,7 @@ module _ (p : Setting) (words : List ℕ) (players : ℕ → Player) (r : Run) (
       (courses.ended x (endings.Refuses WrongLength))
       (λ is. lends (lendings.response_refusal p x e (p.port e.port) k) (lendings.new_response p x e k payload copies) its.0 refl
       (λ client. absurd (true≢false (sym client ∙ ap is_client (server_is (p.port e.port).role e.kind its.1 kind))))
-      (response_fits p x sizes entries answers e k payload copies there its.0 kind long empty)) (λ is. tt)
+      (response_fits p x sizes entries answers few e k payload copies there its.0 kind long empty)) (λ is. tt)
 
   copies_request : (q : Port) (k : Option ℕ) (list : List ℕ) → IsPortOfSeat p x q.number → p.port q.number ≡ q → q.role ≡ Client
       → ((i : ℕ) → k ≡ Some i → length list ≡ i * (port_shape p q.number).width) → First (lendings.copies_request p x q k list)
@@ -249,7 +250,7 @@ module _ (p : Setting) (words : List ℕ) (players : ℕ → Player) (r : Run) (
   owned_port (calls.SendCopy k y) moves whole q home set suited =
       let roles = copier_is k y q.role suited in
       copies_request q y.elements y.words home set roles.0
-      (as_long p x sizes entries answers y q.number whole (roles.1 ∙ sym roles.0 ∙ ap (λ (d : Port). d.role) (sym set)))
+      (as_long p x sizes entries answers few y q.number whole (roles.1 ∙ sym roles.0 ∙ ap (λ (d : Port). d.role) (sym set)))
   owned_port (calls.Receive k) moves whole q home set suited = absurd (true≢false (sym moves))
   owned_port (calls.HasRequests k) moves whole q home set suited = absurd (true≢false (sym moves))
   owned_port c moves whole q home set suited = tt
@@ -261,7 +262,7 @@ module _ (p : Setting) (words : List ℕ) (players : ℕ → Player) (r : Run) (
   owned_entry (calls.SendCopy k y) moves whole e there its suited =
       let is = copied_is k y (p.port e.port).role e.kind its.1 suited in
       copies_response e y.elements y.words there its is.0
-      (as_long p x sizes entries answers y e.port whole (is.1 ∙ sym (server_is (p.port e.port).role e.kind its.1 is.0)))
+      (as_long p x sizes entries answers few y e.port whole (is.1 ∙ sym (server_is (p.port e.port).role e.kind its.1 is.0)))
   owned_entry (calls.Send k) moves whole e there its suited = sends e there its (sent_is k e.kind suited)
   owned_entry (calls.SetHint k) moves whole e there its suited = hints e there suited
   owned_entry (calls.Write k y) moves whole e there its suited = absurd (true≢false (sym moves))

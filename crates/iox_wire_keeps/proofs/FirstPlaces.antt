@@ -1,5 +1,5 @@
 -- What is lent or written at the first place of a call is as long as it says, and will be an entry as it may be.
-use Rattle.std.specs.Prelude.{nat_le}
+use Rattle.std.specs.Prelude.{nat_le, ◌^◌}
 use Rattle.std.proofs.Common.{◌≡◌, ℕ, Bool, true, false, if◌then◌else◌, ◌==◌, ◌≤◌, ◌<◌, ◌*◌, ◌||◌, List, [], ◌∷◌, length, Option, Some, None, refl, ap, sym, subst, ◌∙◌, arith, eqb-true, true≢false}
 use Rattle.iox_model.specs.declared.call.Call.TheVariants as calls
 use Rattle.iox_model.specs.declared.call.WireCall.TheVariants as wire_calls
@@ -30,7 +30,7 @@ use Rattle.iox_wire_calls.specs.NewLoan.{NewLoan}
 use Rattle.iox_model.specs.declared.way.Way.{Way}
 use Rattle.iox_wire_calls.specs.Begins as begins
 use Rattle.iox_wire_calls.specs.Courses as courses
-use Rattle.iox_wire_calls.specs.Known.{free_slots, known}
+use Rattle.iox_wire_calls.specs.Known.{free_slots, known, loans_at}
 use Rattle.iox_wire_calls.specs.Lendings as lendings
 use Rattle.iox_wire_calls.specs.NewLoans.{loan_in}
 use Rattle.iox_wire_calls.specs.ReceiveCourses as receives
@@ -140,7 +140,8 @@ AnswersOnLanes p x =
     (e : Entry) → HasEntry x e → same_kind e.kind kinds.ActiveRequest ≡ true
     → (has_number e.client p.layout.sizes.clients ≡ true) × (e.lane < p.layout.sizes.lanes e.client)
 
-module _ (p : Setting) (x : Seat) (sizes : NoneGrows p) (entries : (e : Entry) → HasEntry x e → EntrySuits p e) (answers : AnswersOnLanes p x) where
+module _ (p : Setting) (x : Seat) (sizes : NoneGrows p) (entries : (e : Entry) → HasEntry x e → EntrySuits p e) (answers : AnswersOnLanes p x)
+    (few : (port : ℕ) → loans_at x port < 2 ^ 64) where
   abbrev K : Seat → Type 0
   K y = FirstFits p y.local
 
@@ -156,6 +157,7 @@ module _ (p : Setting) (x : Seat) (sizes : NoneGrows p) (entries : (e : Entry) �
     long,
     none,
     λ slot. record { small = new_requests_are_small p x q k payload copies; lane = λ is. absurd (no_response q.role client is) },
+    few q.number,
   )
 
   -- and a server's
@@ -167,6 +169,7 @@ module _ (p : Setting) (x : Seat) (sizes : NoneGrows p) (entries : (e : Entry) �
     long,
     none,
     λ slot. record { small = (entries e there).small; lane = λ is. answers e there kind },
+    few e.port,
   )
 
   takes_slot : (o : NewLoan) (free : List ℕ) → LoanFits p o → K (courses.takes_slot x o free)

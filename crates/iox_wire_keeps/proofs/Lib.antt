@@ -13,11 +13,14 @@ pub mod NextPlaces
 pub mod Accesses
 pub mod FilledSlots
 pub mod MessageEnds
+pub mod Serials
+pub mod WireSerials
 pub mod WireStands
 pub mod StepParts
 pub mod Forgotten
 pub mod StepMessages
 pub mod StepWhole
+pub mod NamedSlots
 pub mod Firsts
 pub mod FirstPlaces
 pub mod FirstOwners

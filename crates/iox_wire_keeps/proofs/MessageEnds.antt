@@ -186,6 +186,7 @@ module _ (p : Setting) (held : Pools) (c : WireContents) (seats : ℕ → Seat) 
               (subst (IsAddressed p o.port) (sym ends.2) (
                 (ends.0.0.3 slot).small,
                 loan_lane p s.fixed (seats n) layout numbered ports calls.lanes o slot (ends.3 o slot refl) (ap (λ l. lent_in (message_at l)) (ends.6 o slot refl)),
+                ends.0.0.4,
               ))
               (subst (StandFrom p c o.port slot 0 (words_in p held o.port slot)) (before_payload o (ends.0.0.2 ends.0.1))
               (subst (λ (m : Message). StandFrom p c o.port slot 0 (message_words (p.port o.port).role m) (length (loan_words p o))) (sym ends.2) ends.0.2))

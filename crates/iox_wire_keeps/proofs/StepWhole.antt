@@ -46,6 +46,11 @@ use Rattle.iox_wire_keeps.specs.Bounds.{AccessesBound}
 use Rattle.iox_wire_calls.proofs.StepsKept.{shown_same}
 use Rattle.iox_wire_calls.specs.FarSlots.{IsInPool}
 use Rattle.iox_wire_keeps.proofs.StepMessages as messages
+use Rattle.iox_wire_calls.specs.Local.TheVariants.{LendStores}
+use Rattle.iox_wire_calls.specs.NewLoan.{NewLoan}
+use Rattle.iox_wire_calls.specs.Places.{PlaceFits}
+use Rattle.iox_wire_keeps.specs.Serials.{TellsSerials}
+use Rattle.iox_wire_keeps.proofs.WireSerials.{stepped_serials}
 
 module _ (p : Setting) (words words' : List ℕ) (players : ℕ → Player) (r : Run) (n : ℕ) (wire : WireStands p words players r)
     (living : not_living r.last.state n ≡ None) (busy : is_busy (players n).seat.local ≡ true) (few : (players n).seat.accesses < last_position)
@@ -246,6 +251,19 @@ module _ (p : Setting) (words words' : List ℕ) (players : ℕ → Player) (r :
       may : MayRun p.layout n (program_of p (players n).seat.local)
       may = subst (MayRun p.layout n) runs (subst (λ i. MayRun p.layout i (program_of p (seats_of p players n).local)) (wire.stands.shows.node n) owns_place.may_run)
 
+  -- ---- serials
+
+  serials_after : (m : ℕ) → TellsSerials p stepped.2.held (put_at players n (player_next p (players n) j) m).seat
+  serials_after =
+      stepped_serials p words players r n wire j payload (wire.calls n living).loans.loan stepped.2.held stepped.3.pools
+      (λ o slot is. at_home o slot is ∙ stepped.2.shows.node n)
+    where
+      -- the slot that a loan takes is one of the node's port
+      at_home : (o : NewLoan) (slot : ℕ) → (seats_of p (put_at players n (player_next p (players n) j)) n).local ≡ LendStores o slot 0
+          → p.layout.owner o.port ≡ (seats_of p (put_at players n (player_next p (players n) j)) n).node
+      at_home o slot is =
+          (subst (PlaceFits p (seats_of p (put_at players n (player_next p (players n) j)) n)) is (stepped.4 n still_lives).fits.place).0.1
+
   pub steps : (payload : List ℕ) × (later_run : Run)
       × GoesOnWith r (step_beats n payload (moment_at p wire.stands.held (players n).seat.local j) (tells p (players n).seat j)) later_run
       × WireStands p words' (put_at players n (player_next p (players n) j)) later_run
@@ -253,7 +271,7 @@ module _ (p : Setting) (words words' : List ℕ) (players : ℕ → Player) (r :
     payload,
     stepped.0,
     stepped.1,
-    record { stands = stepped.2; calls = stepped.4; messages = messages_after; bounds = bounds_after; sizes = wire.sizes },
+    record { stands = stepped.2; calls = stepped.4; messages = messages_after; bounds = bounds_after; sizes = wire.sizes; serials = serials_after },
   )
 
 pub stepped_wires_stand : SteppedWiresStand

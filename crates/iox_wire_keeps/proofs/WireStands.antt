@@ -19,6 +19,8 @@ use Rattle.iox_wire_calls.specs.Stands.{Stands, seats_of}
 use Rattle.iox_word_map.specs.WordMaps.{total_words}
 use Rattle.iox_wire_calls.specs.Openings.{AgreesWith, opened_seat}
 use Rattle.iox_wire_keeps.proofs.Bounds.{opened_wires_are_bound}
+use Rattle.iox_wire_keeps.proofs.Serials.{opened_tells}
+use Rattle.iox_wire_keeps.specs.Serials.{TellsSerials}
 use Rattle.iox_wire_keeps.proofs.Stored.{deaths_leave_slots, opened_slots_hold_messages}
 use Rattle.iox_wire_calls.specs.Shows.{programs_of}
 use Rattle.iox_wire_calls.specs.CallsStand.{CallsStand}
@@ -53,6 +55,7 @@ opened_wires_stand plan p s is agrees reach allowed =
             st.shows.words;
         bounds = opened_wires_are_bound p st.contents (programs_of p (seats_of p (λ n. record { seat = opened_seat p n; said = [] }))) st.shows.words;
         sizes = none_grows plan p s agrees allowed;
+        serials = λ n. opened_tells p st.held n o.5;
       },
     )
 
@@ -73,5 +76,6 @@ wires_stand_after_deaths p words players r n u wire beat =
             (deaths_leave_slots p wire.stands.held wire.stands.contents (seats_of p players) r.last u n beat wire.messages)));
         bounds = subst (λ c. AccessesBound p c (λ n. (players n).seat)) (sym o.5) wire.bounds;
         sizes = wire.sizes;
+        serials = λ k. subst (λ h. TellsSerials p h (players k).seat) (sym o.4) (wire.serials k);
       },
     )

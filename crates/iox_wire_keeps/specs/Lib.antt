@@ -1,13 +1,16 @@
 -- In reading order: what the accesses of nodes bound; slots that hold their messages, and what that
--- tells; that a slot which is stored is its call's alone; accesses, ends and begins; and all of it on a
--- wire, as it opens, after deaths, after each step, and as calls begin.
+-- tells; that a slot which is stored is its call's alone; accesses, ends and begins; serials that desks
+-- tell; all of it on a wire, as it opens, after deaths, after each step, and as calls begin; and what
+-- the slots hold that an access names.
 pub mod Bounds
 pub mod Stored
 pub mod Alone
 pub mod Accesses
 pub mod MessageEnds
+pub mod Serials
 pub mod WireStands
 pub mod MessageBegins
+pub mod NamedSlots
 -- what the crates above cite of those below
 pub use Rattle.iox_wire_calls.specs.Aside
 pub use Rattle.iox_wire_calls.specs.Begins

@@ -38,10 +38,11 @@ use Rattle.iox_model.specs.Messages.{Message}
 
 -- ---- slots
 
--- a message has a small id, and a request is on a lane of its client
+-- a message has a small id, a request is on a lane of its client, and a word holds the serial
 abbrev pub IsAddressed : Setting → (port : ℕ) → Message → Type 0
 IsAddressed p port m =
     (m.request < 2 ^ 62) × (is_client (p.port port).role ≡ true → m.lane < p.layout.sizes.lanes port)
+    × (m.serial < 2 ^ 64)
 
 -- The message of a slot has the shape of its port, on a lane that it may have, and its words stand
 -- in the slot.
@@ -74,13 +75,14 @@ pub record EntrySuits (p : Setting) (e : Entry) : Type 0 where
 
 -- ---- loans
 
--- a loan is no longer than its port allows, has its payload if it is sent at once, and will be an
--- entry as it may be
+-- a loan is no longer than its port allows, has its payload if it is sent at once, will be an entry
+-- as it may be, and has a serial that a word holds
 abbrev pub LoanFits : Setting → NewLoan → Type 0
 LoanFits p o =
     (o.elements ≤ (p.port o.port).longest)
     × (o.copies ≡ true → length o.payload ≡ o.elements * (port_shape p o.port).width)
     × (o.copies ≡ false → o.payload ≡ []) × ((slot : ℕ) → EntrySuits p (entry_in o slot))
+    × (o.serial < 2 ^ 64)
 
 -- ---- a call
 

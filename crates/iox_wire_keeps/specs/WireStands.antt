@@ -4,6 +4,7 @@ use Rattle.iox_word_places.specs.declared.plan.WirePlan.{WirePlan}
 use Rattle.iox_wire_calls.specs.Steps.{tells}
 use Rattle.std.specs.Prelude.{List, None, [], false, length, replicate, true, ℕ, ◌<◌, ◌≡◌}
 use Rattle.iox_wire_keeps.specs.Bounds.{AccessesBound}
+use Rattle.iox_wire_keeps.specs.Serials.{TellsSerials}
 use Rattle.iox_wire_calls.specs.StateMoments.{moment_at}
 use Rattle.iox_model.specs.WireCalls.{wire_refusal, opened}
 use Rattle.iox_model.specs.Weaves.{Dies, IsBeat, World, at_work}
@@ -32,13 +33,15 @@ NoneGrows p =
     (port : ℕ) → has_number port p.layout.sizes.ports ≡ true → (p.port port).grows ≡ false
 
 -- The words and nodes stand for a run of the machine, all calls are where they may be, slots hold
--- the messages that are named, accesses bound queues and loans, and no port grows.
+-- the messages that are named, accesses bound queues and loans, no port grows, and the desks of each
+-- node, alive or dead, tell the serials of what their slots hold.
 pub record WireStands (p : Setting) (words : List ℕ) (players : ℕ → Player) (r : Run) : Type 0 where
   pub stands : Stands p words players r
   pub calls : CallsStand p stands.held players r.last.state
   pub messages : SlotsHoldMessages p stands.held stands.contents (seats_of p players) r.last.state
   pub bounds : AccessesBound p stands.contents (λ n. (players n).seat)
   pub sizes : NoneGrows p
+  pub serials : (n : ℕ) → TellsSerials p stands.held (players n).seat
 
 -- A wire that opens stands so.
 abbrev pub OpenedWiresStand : Type 0

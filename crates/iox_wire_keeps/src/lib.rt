@@ -8,6 +8,7 @@ ghost use Rattle.iox_wire_keeps.specs.Bounds.{BeginsLeaveBounds, BoundsTell, Ope
 ghost use Rattle.iox_wire_keeps.specs.Bounds.{StepsLeaveBounds};
 ghost use Rattle.iox_wire_keeps.specs.MessageBegins.{BeginsLeaveMessages, BegunWiresStand};
 ghost use Rattle.iox_wire_keeps.specs.MessageEnds.{EndsLeaveMessages};
+ghost use Rattle.iox_wire_keeps.specs.NamedSlots.{NamedSlotsHoldLent};
 ghost use Rattle.iox_wire_keeps.specs.Stored.{DeathsLeaveSlots, OpenedSlotsHoldMessages};
 ghost use Rattle.iox_wire_keeps.specs.Stored.{StoredWordsAreTold};
 ghost use Rattle.iox_wire_keeps.specs.WireStands.{OpenedWiresStand, SteppedWiresStand, WiresStandAfterDeaths};
@@ -56,6 +57,11 @@ pub fn wires_stand()
 /// And it stands after each step of a living node with a call.
 pub fn steps_keep()
     ensures { SteppedWiresStand }
+{}
+
+/// The slots that an access names hold messages of loans.
+pub fn named_slots_hold_lent()
+    ensures { NamedSlotsHoldLent }
 {}
 
 /// As a call begins slots hold their messages.

@@ -16,6 +16,8 @@ pub use Rattle.iox_wire_keeps.proofs.BeginBeats
 pub use Rattle.iox_wire_keeps.proofs.BeginWhole
 pub use Rattle.iox_wire_keeps.proofs.Forgotten
 pub use Rattle.iox_wire_keeps.proofs.LanesTell
+pub use Rattle.iox_wire_keeps.proofs.NamedSlots
+pub use Rattle.iox_wire_keeps.proofs.OthersSame
 pub use Rattle.iox_wire_keeps.proofs.OpenedDesks
 pub use Rattle.iox_wire_keeps.proofs.OwnPorts
 pub use Rattle.iox_wire_keeps.proofs.StepWhole

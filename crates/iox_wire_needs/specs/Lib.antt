@@ -20,6 +20,7 @@ pub use Rattle.iox_wire_keeps.specs.Following
 pub use Rattle.iox_wire_keeps.specs.Lanes
 pub use Rattle.iox_wire_keeps.specs.Local
 pub use Rattle.iox_wire_keeps.specs.MessageBegins
+pub use Rattle.iox_wire_keeps.specs.NamedSlots
 pub use Rattle.iox_wire_keeps.specs.NewLoan
 pub use Rattle.iox_wire_keeps.specs.NewLoans
 pub use Rattle.iox_wire_keeps.specs.Nodes
@@ -29,6 +30,7 @@ pub use Rattle.iox_wire_keeps.specs.Places as CallPlaces
 pub use Rattle.iox_wire_keeps.specs.PoolSlots
 pub use Rattle.iox_wire_keeps.specs.Readiness
 pub use Rattle.iox_wire_keeps.specs.Runs
+pub use Rattle.iox_wire_keeps.specs.Serials
 pub use Rattle.iox_wire_keeps.specs.Settlements
 pub use Rattle.iox_wire_keeps.specs.SlotsKnown
 pub use Rattle.iox_wire_keeps.specs.Stands

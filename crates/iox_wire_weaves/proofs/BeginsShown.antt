@@ -7,7 +7,7 @@ use Rattle.iox_model.specs.declared.call.WireCall.TheVariants.{Port}
 use Rattle.iox_model.specs.declared.reply.Refusal.TheVariants as refusals
 use Rattle.iox_model.specs.Commands.{Call, WireCall}
 use Rattle.iox_model.specs.Joins.{not_living}
-use Rattle.iox_model.specs.Maps.{or_else, put_at, refused_if}
+use Rattle.iox_model.specs.Maps.{has_number, or_else, put_at, refused_if}
 use Rattle.iox_model.specs.Weaves.{Begins, World, begin_refusal, miscalled}
 use Rattle.iox_steps.specs.Sites.{last_position}
 use Rattle.iox_wire_nodes.specs.Aims.{IsAimed}
@@ -32,7 +32,10 @@ use Rattle.iox_wire_weaves.specs.Asking.{BeginsCall, call_refusal}
 use Rattle.iox_wire_weaves.specs.declared.refusal.WireRefusal.{WireRefusal}
 use Rattle.iox_wire_weaves.specs.Laws.{BeginsShow, RefusalsAreShown, Replaces}
 use Rattle.iox_wire_weaves.specs.Wires.{Shows, WireData, WireNode, answers_in, living_refusal, node_at, players_of, refusal_in, seat_of, wordless_all}
+use Rattle.iox_wire_weaves.specs.PortCounts.{TellsCounts}
+use Rattle.iox_wire_weaves.proofs.LivingDesks as desks
 use Rattle.iox_wire_weaves.proofs.Lookups.{answers_on, first_none, fun_ext, same_living, same_setting, seat_there}
+use Rattle.iox_wire_weaves.proofs.PortsElsewhere.{beat_leaves, tells_same}
 
 -- ---- refusals
 
@@ -141,12 +144,32 @@ module _ (p : Setting) (old new : WireData) (r : Run) (n : ℕ) (x y : WireNode)
       replies ∙ shows.replies
       ∙ ap wordless_all (sym (append-nil (answers_in r.beats)) ∙ sym (answers_on r.beats (Begins n call (choice_for p seat call) ∷ [])) ∙ ap answers_in (sym goes.1.beats))
 
+  lives_then : not_living after.last.state n ≡ None
+  lives_then = living_then n ∙ ap (option_map refusal_in) (same_living old.nodes n x y new.nodes puts alive n) ∙ sym (shows.living n) ∙ lives
+
+  counts_then : (port : ℕ) → has_number port p.layout.sizes.ports ≡ true → TellsCounts after.last port (seat_of p new.nodes (p.layout.owner port))
+  counts_then port has = elim (cases_Bool (p.layout.owner port == n)) [
+    | inl same ↦ (
+        let e : p.layout.owner port ≡ n = eqb-true (p.layout.owner port) n same in
+        subst (λ m. TellsCounts after.last port (seat_of p new.nodes m)) (sym e)
+        (desks.tells p new.words (players_of p new.nodes after) after n stands_now lives_then port has e)
+        )
+    | inr other ↦ (
+        tells_same r.last after.last port (seat_of p old.nodes (p.layout.owner port)) (seat_of p new.nodes (p.layout.owner port))
+        (ap (λ o. option_map_or (λ (z : WireNode). seat_in z.node) o (opened_seat p (p.layout.owner port))) (puts.others (p.layout.owner port) other))
+        (beat_leaves r.last after.last (Begins n call (choice_for p seat call)) (p.layout.owner port) port shows.stands.stands.shows.reachable goes.1.beat other
+        (sym (shows.stands.stands.owners port))) (shows.counts port has)
+        )
+  ]
+
   shows_then : Shows p new after
   shows_then = record {
     setting = same_setting p old new plan terms shows.setting;
     stands = stands_now;
     living = living_then;
     aimed = aimed_then;
+    ports = ap (λ (v : World). v.state.fixed.ports) goes.1.beat.2 ∙ shows.ports;
+    counts = counts_then;
     replies = replies_then;
   }
 

@@ -1,12 +1,12 @@
 -- After a death the wire shows the run with that beat.
 use Rattle.std.specs.Prelude.{find, not, option_map}
 use Rattle.std.specs.Option.{option_map_or}
-use Rattle.std.proofs.Common.{◌≡◌, ℕ, false, ◌==◌, List, [], ◌∷◌, map, Option, Some, None, refl, ap, ap₂, sym, subst, ◌∙◌, eqb-true, append-nil, inl, inr}
+use Rattle.std.proofs.Common.{◌≡◌, ℕ, true, false, ◌==◌, List, [], ◌∷◌, map, Option, Some, None, refl, ap, ap₂, sym, subst, ◌∙◌, eqb-true, append-nil, inl, inr}
 use Rattle.std.proofs.lemmas.Bool.{cases_Bool}
 use Rattle.iox_model.specs.declared.reply.Refusal.TheVariants as refusals
 use Rattle.iox_model.specs.Commands.{Refusal}
 use Rattle.iox_model.specs.Joins.{not_living}
-use Rattle.iox_model.specs.Maps.{refused_if}
+use Rattle.iox_model.specs.Maps.{has_number, refused_if}
 use Rattle.iox_model.specs.Services.{dies, with_death}
 use Rattle.iox_model.specs.States.{Node}
 use Rattle.iox_model.specs.Weaves.{Dies, World}
@@ -22,7 +22,9 @@ use Rattle.iox_wire_needs.specs.WireStands.{WireStands}
 use Rattle.iox_wire_needs.proofs.WireStands.{wires_stand_after_deaths}
 use Rattle.iox_wire_weaves.specs.Laws.{DeathsShow, Replaces}
 use Rattle.iox_wire_weaves.specs.Wires.{Shows, WireData, WireNode, answers_in, living_refusal, node_at, players_of, refusal_in, seat_of, wordless_all}
+use Rattle.iox_wire_weaves.specs.PortCounts.{TellsCounts}
 use Rattle.iox_wire_weaves.proofs.Lookups.{answers_on, fun_ext, living_by, same_setting, seat_there}
+use Rattle.iox_wire_weaves.proofs.PortsElsewhere.{same_world, tells_same, then_same}
 
 -- ---- who lives in the machine
 
@@ -116,12 +118,19 @@ module _ (p : Setting) (old new : WireData) (r : Run) (n : ℕ) (x : WireNode) (
       replies ∙ shows.replies
       ∙ ap wordless_all (sym (append-nil (answers_in r.beats)) ∙ sym (answers_on r.beats (Dies n ∷ [])) ∙ ap answers_in (sym goes.1.beats))
 
+  counts_then : (port : ℕ) → has_number port p.layout.sizes.ports ≡ true → TellsCounts after.last port (seat_of p new.nodes (p.layout.owner port))
+  counts_then port has =
+      tells_same r.last after.last port (seat_of p old.nodes (p.layout.owner port)) (seat_of p new.nodes (p.layout.owner port)) (seats_agree (p.layout.owner port))
+      (then_same r.last u after.last port (record { kept = refl; outstanding = λ y from. refl }) (same_world u after.last port goes.2)) (shows.counts port has)
+
   shows_then : Shows p new after
   shows_then = record {
     setting = same_setting p old new plan terms shows.setting;
     stands = stands_now;
     living = living_then;
     aimed = aimed_then;
+    ports = ap (λ (v : World). v.state.fixed.ports) goes.2 ∙ shows.ports;
+    counts = counts_then;
     replies = replies_then;
   }
 

@@ -1,4 +1,8 @@
 pub mod Lookups
+pub mod PortsElsewhere
+pub mod FreshDesks
+pub mod PlanPorts
+pub mod EventsTold
 pub mod StepsShown
 pub mod DeathsShown
 pub mod BeginsShown

@@ -1,5 +1,5 @@
 -- What the desk of a living node's port counts is what the machine keeps and has outstanding.
-use Rattle.std.specs.Prelude.{is_some, length, map, ◌-◌, ◌||◌, suc}
+use Rattle.std.specs.Prelude.{is_some, length, map, ◌-◌, ◌&&◌, ◌||◌, suc}
 use Rattle.std.specs.List.{range_with_len}
 use Rattle.std.specs.Option.{option_map_or}
 use Rattle.std.proofs.Common.{◌≡◌, ℕ, ◌+◌, ◌≤◌, Bool, true, false, if◌then◌else◌, ◌==◌, List, [], ◌∷◌, Option, None, Some, refl, ap, sym, subst, ◌∙◌, arith, eqb-true, eq-eqb}
@@ -36,6 +36,7 @@ use Rattle.iox_wire_needs.specs.Nodes.{NodeStands}
 use Rattle.iox_wire_needs.specs.Runs.{Run}
 use Rattle.iox_wire_needs.specs.Stands.{Player, seats_of}
 use Rattle.iox_wire_needs.specs.WireStands.{WireStands}
+use Rattle.iox_wire_weaves.specs.PortCounts.{TellsCounts, kept_count, outstanding_count, sends_on}
 
 -- ---- lists
 
@@ -90,15 +91,7 @@ module _ (p : Setting) (words : List ℕ) (players : ℕ → Player) (r : Run) (
 
   -- ---- ports
 
-  pub listed : (port : ℕ) → is_connected_port s.fixed port ≡ true → has_number port p.layout.sizes.ports ≡ true
-  listed port there =
-      let at = any-among (λ (q : Port). q.number == port) s.fixed.ports there in
-      let from = map-among p.port at.0 p.layout.sizes.ports (subst (IsAmong at.0) counts.knows.ports at.1) in
-      let has : has_number from.0 p.layout.sizes.ports ≡ true = among-number from.0 p.layout.sizes.ports from.1 in
-      subst (λ k. has_number k p.layout.sizes.ports ≡ true)
-      (sym (wire.stands.numbers from.0 has) ∙ ap (λ (q : Port). q.number) (sym from.2) ∙ eqb-true at.0.number port at.2) has
-
-  pub connected : (port : ℕ) → has_number port p.layout.sizes.ports ≡ true → is_connected_port s.fixed port ≡ true
+  connected : (port : ℕ) → has_number port p.layout.sizes.ports ≡ true → is_connected_port s.fixed port ≡ true
   connected port has =
       among-any (λ (q : Port). q.number == port) (p.port port) s.fixed.ports
       (subst (IsAmong (p.port port)) (sym counts.knows.ports) (among-map p.port port p.layout.sizes.ports (number-among port p.layout.sizes.ports has)))
@@ -194,3 +187,18 @@ module _ (p : Setting) (words : List ℕ) (players : ℕ → Player) (r : Run) (
               ∙ sym (ap (λ b. if b then length (outstanding_on s w) else 0) (recorded ∙ ap is_some is))
           by_record (Some i) is =
               sym (counted_out (ap is_some is)) ∙ sym (ap (λ b. if b then length (outstanding_on s w) else 0) (recorded ∙ ap is_some is))
+
+    -- ---- what the machine counts
+
+    counts_on : (w : Way) → w.sender ≡ port → outstanding_count s w ≡ (if has_way w (ways_from s.fixed port) then length (outstanding_on s w) else 0)
+    counts_on w from =
+        ap (λ q. if sends_on s q w then length (outstanding_on s w) else 0) from
+        ∙ ap (λ b. if b && has_way w (ways_from s.fixed port) then length (outstanding_on s w) else 0) (connected port has)
+
+    pub tells : TellsCounts r.last port (players n).seat
+    tells = record {
+      desk = used.desk;
+      there = there;
+      kept = kept_is ∙ sym (ap (λ b. if b then length (kept_in r.last port) else 0) (connected port has));
+      outstanding = λ w from. outstanding_is w from ∙ sym (counts_on w from);
+    }

@@ -1,7 +1,7 @@
 -- A wire that opens shows a run without a beat.
 use Rattle.std.specs.Prelude.{not, option_map, is_some, replicate, if◌then◌else◌}
 use Rattle.std.specs.Option.{option_map_or}
-use Rattle.std.proofs.Common.{◌≡◌, ℕ, List, [], Option, Some, None, refl, ap, ap₂, sym, subst, ◌∙◌}
+use Rattle.std.proofs.Common.{◌≡◌, ℕ, true, List, [], Option, Some, None, refl, ap, ap₂, sym, subst, ◌∙◌}
 use Rattle.iox_model.specs.declared.reply.Refusal.TheVariants as refusals
 use Rattle.iox_model.specs.Joins.{not_living}
 use Rattle.iox_model.specs.Maps.{has_number, refused_if}
@@ -30,7 +30,9 @@ use Rattle.iox_wire_needs.specs.WireStands.{WireStands}
 use Rattle.iox_wire_needs.proofs.WireStands.{opened_wires_stand}
 use Rattle.iox_wire_weaves.specs.declared.refusal.WireRefusal.TheVariants.{NodeIsDead}
 use Rattle.iox_wire_weaves.specs.Laws.{IsFresh, WiresOpen}
-use Rattle.iox_wire_weaves.specs.Wires.{OpensOn, Shows, WireData, WireNode, answers_in, living_refusal, node_at, players_of, refusal_in, wordless_all}
+use Rattle.iox_wire_weaves.specs.Wires.{OpensOn, Shows, WireData, WireNode, answers_in, living_refusal, node_at, players_of, refusal_in, seat_of, wordless_all}
+use Rattle.iox_wire_weaves.specs.PortCounts.{TellsCounts}
+use Rattle.iox_wire_weaves.proofs.FreshDesks.{opened_tells}
 use Rattle.iox_wire_weaves.proofs.Lookups.{fun_ext, living_by}
 
 -- a node at rest knows of no place
@@ -74,12 +76,20 @@ module _ (plan : WirePlan) (terms : WireTerms) (nodes : List ℕ) (p : Setting) 
   living_now : (n : ℕ) → not_living o.0.last.state n ≡ option_map refusal_in (living_refusal wire.nodes n)
   living_now n = ap (λ (w : World). not_living w.state n) o.3 ∙ opens.living n ∙ lives n (node_at n wire.nodes) refl
 
+  counts_now : (port : ℕ) → has_number port p.layout.sizes.ports ≡ true → TellsCounts o.0.last port (seat_of p wire.nodes (p.layout.owner port))
+  counts_now port has =
+      let owner : ℕ = p.layout.owner port in
+      subst (λ (w : World). TellsCounts w port (seat_of p wire.nodes owner)) (sym o.3)
+      (subst (TellsCounts (at_work (opened s)) port) (sym (seat_is owner (node_at owner wire.nodes) refl)) (opened_tells p s owner port has refl))
+
   shows : Shows p wire o.0
   shows = record {
     setting = subst (λ q. IsSettingWith q wire.terms p) (sym fresh.plan_is) (subst (λ t. IsSettingWith plan t p) (sym fresh.terms_are) opens.told);
     stands = stands_now;
     living = living_now;
     aimed = λ n x at. idle_aims p n x.node (fresh.seats n x at).0 (fresh.seats n x at).2;
+    ports = ap (λ (w : World). w.state.fixed.ports) o.3 ∙ opens.agrees.ports;
+    counts = counts_now;
     replies = fresh.replies ∙ ap (λ bs. wordless_all (answers_in bs)) (sym o.2);
   }
 

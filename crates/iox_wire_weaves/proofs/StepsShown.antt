@@ -1,13 +1,14 @@
 -- After a step of a node the wire shows the run that goes on so.
 use Rattle.std.specs.Prelude.{option_map}
 use Rattle.std.specs.Option.{option_map_or}
-use Rattle.std.proofs.Common.{◌≡◌, ℕ, ◌<◌, ◌^◌, Bool, true, false, ◌==◌, List, [], ◌∷◌, ◌++◌, length, Option, Some, None, refl, ap, ap₂, sym, subst, ◌∙◌, arith, eqb-true, if◌then◌else◌, inl, inr}
+use Rattle.std.proofs.Common.{◌≡◌, ℕ, ◌<◌, ◌^◌, Bool, true, false, ◌==◌, List, [], ◌∷◌, ◌++◌, length, map, Option, Some, None, refl, ap, ap₂, sym, subst, ◌∙◌, arith, eqb-true, if◌then◌else◌, inl, inr}
 use Rattle.std.proofs.lemmas.Bool.{cases_Bool}
 use Rattle.iox_model.specs.Commands.{Reply}
 use Rattle.iox_model.specs.Joins.{not_living}
-use Rattle.iox_model.specs.Maps.{put_at}
+use Rattle.iox_model.specs.Maps.{has_number, put_at}
 use Rattle.iox_model.specs.Moments.{Moment}
-use Rattle.iox_model.specs.Schedules.{IsStepOf, nothing, makes, ends_alone, makes_and_ends}
+use Rattle.iox_model.specs.Schedules.{IsStepOf, nothing, makes, ends_alone, makes_and_ends, events_of}
+use Rattle.iox_model.specs.declared.way.Way.{Way}
 use Rattle.iox_laws.proofs.WeaveLaws.WholeLemmas.{not_living-members}
 use Rattle.iox_steps.specs.Accesses.{IsWithin, seen_by, words_after}
 use Rattle.iox_steps.specs.Sites.{last_position}
@@ -37,11 +38,18 @@ use Rattle.iox_wire_needs.specs.WireStands.{WireStands}
 use Rattle.iox_wire_needs.specs.Places.{InPools}
 use Rattle.iox_wire_needs.proofs.Places.{places_are_in_pools}
 use Rattle.iox_wire_needs.proofs.StepWhole.{stepped_wires_stand}
+use Rattle.iox_wire_needs.specs.NamedSlots.{HoldsLent, Names}
 use Rattle.iox_wire_needs.proofs.Forgotten.{members_stay}
+use Rattle.iox_wire_needs.proofs.NamedSlots.{named_slots_hold_lent}
 use Rattle.iox_wire_weaves.specs.Laws.{Replaces, StepsAreSafe, StepsShow, WentOn, progress_of}
-use Rattle.iox_wire_weaves.specs.Steps.{MakesOneAccess, access_of, answer_of, step_refusal}
+use Rattle.iox_wire_weaves.specs.Events.{slot_event}
+use Rattle.iox_wire_weaves.specs.PortCounts.{TellsCounts}
+use Rattle.iox_wire_weaves.specs.Steps.{MakesOneAccess, access_of, answer_of, recorded, step_refusal}
 use Rattle.iox_wire_weaves.specs.Wires.{Shows, WireData, WireNode, answers_in, living_refusal, node_at, players_of, refusal_in, seat_of, wordless_all}
+use Rattle.iox_wire_weaves.proofs.EventsTold.{step_events, told_serial}
+use Rattle.iox_wire_weaves.proofs.LivingDesks as desks
 use Rattle.iox_wire_weaves.proofs.Lookups.{answers_on, fun_ext, same_living, same_setting, seat_there, steps_on, wordless_on}
+use Rattle.iox_wire_weaves.proofs.PortsElsewhere.{step_leaves, tells_same}
 
 -- ---- the access
 
@@ -213,12 +221,47 @@ module _ (p : Setting) (old new : WireData) (r : Run) (n : ℕ) (x y : WireNode)
       ∙ ap wordless_all (sym (answers_on r.beats (step_beats n stepped.0 (moment_at p shows.stands.stands.held seat.local seen) (tells p seat seen))))
       ∙ ap (λ bs. wordless_all (answers_in bs)) (sym stepped.2.beats)
 
+  -- ---- counts
+
+  lives_then : not_living after.last.state n ≡ None
+  lives_then = living_then n ∙ ap (option_map refusal_in) (same_living old.nodes n x y new.nodes puts alive n ∙ may.0)
+
+  ports_then : after.last.state.fixed.ports ≡ map p.port p.layout.sizes.ports
+  ports_then = (stands_now.stands.shows.counts n lives_then).knows.ports
+
+  counts_then : (port : ℕ) → has_number port p.layout.sizes.ports ≡ true → TellsCounts after.last port (seat_of p new.nodes (p.layout.owner port))
+  counts_then port has = elim (cases_Bool (p.layout.owner port == n)) [
+    | inl same ↦ (
+        let e : p.layout.owner port ≡ n = eqb-true (p.layout.owner port) n same in
+        subst (λ m. TellsCounts after.last port (seat_of p new.nodes m)) (sym e)
+        (desks.tells p new.words (players_of p new.nodes after) after n stands_now lives_then port has e)
+        )
+    | inr other ↦ (
+        tells_same r.last after.last port (seat_of p old.nodes (p.layout.owner port)) (seat_of p new.nodes (p.layout.owner port)) (others (p.layout.owner port) other)
+        (step_leaves r.last after.last (p.layout.owner port) n port stepped.0 (moment_at p shows.stands.stands.held seat.local seen) (tells p seat seen)
+        shows.stands.stands.shows.reachable other (sym (shows.stands.stands.owners port)) stepped.2.woven) (shows.counts port has)
+        )
+  ]
+
+  -- ---- events
+
+  lent_there : (v : Way) (slot : ℕ) → Names p.layout (program_of p (seat_of p old.nodes n).local) seen v slot → HoldsLent p shows.stands.stands.held v.sender slot
+  lent_there v slot named =
+      named_slots_hold_lent p old.words new.words (players_of p old.nodes r) r n shows.stands living_now busy few made as_long v slot named
+
+  events_then : events_of (step_beats n stepped.0 (moment_at p shows.stands.stands.held seat.local seen) (tells p seat seen)) ≡ recorded old n (slot_event p seat.local seen)
+  events_then =
+      step_events p old shows.stands.stands.held n stepped.0 seat.local seen (tells p seat seen)
+      (λ v slot named. told_serial p old r shows v.sender slot (lent_there v slot named))
+
   shows_then : Shows p new after
   shows_then = record {
     setting = same_setting p old new plan terms shows.setting;
     stands = stands_now;
     living = living_then;
     aimed = aimed_then;
+    ports = ports_then;
+    counts = counts_then;
     replies = replies_then;
   }
 
@@ -236,5 +279,6 @@ steps_show p old new r n x y reply shows goes puts alive went plan terms words t
           (tells p (seat_of p old.nodes n) (seen_by (access_of p old n) (word_of old.words))),
       s.2,
       answers p old new r n x y reply shows goes puts alive went plan terms words told,
+      events_then p old new r n x y reply shows goes puts alive went plan terms words told,
       shows_then p old new r n x y reply shows goes puts alive went plan terms words told,
     )

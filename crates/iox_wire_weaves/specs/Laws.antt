@@ -1,7 +1,7 @@
 -- That a wire shows a run as it opens, and goes on showing one.
 use Rattle.std.specs.Prelude.{◌≡◌, ℕ, ◌==◌, false, true, ◌++◌, List, [], length, replicate, Option, Some, None, is_some, option_map, ◌<◌, IfSome}
 use Rattle.iox_model.specs.Maps.{has_number}
-use Rattle.iox_model.specs.Schedules.{IsStepOf}
+use Rattle.iox_model.specs.Schedules.{IsStepOf, events_of}
 use Rattle.iox_model.specs.States.{State}
 use Rattle.iox_model.specs.Commands.{Call, WireCall}
 use Rattle.iox_model.specs.Loans.{Choice}
@@ -30,8 +30,9 @@ use Rattle.iox_wire_needs.specs.Openings.{opened_seat}
 use Rattle.iox_wire_needs.specs.Places.{InPools}
 use Rattle.iox_wire_needs.specs.Runs.{GoesOnBy, Run}
 use Rattle.iox_wire_needs.specs.WholeSteps.{GoesOnWith}
-use Rattle.iox_wire_weaves.specs.Wires.{OpensOn, Shows, ShowsOpened, WireData, WireNode, answers_in, living_refusal, node_at, wordless_all}
-use Rattle.iox_wire_weaves.specs.Steps.{MakesOneAccess, access_of, answer_of, step_refusal}
+use Rattle.iox_wire_weaves.specs.Events.{slot_event}
+use Rattle.iox_wire_weaves.specs.Wires.{OpensOn, Shows, ShowsOpened, WireData, WireNode, answers_in, living_refusal, node_at, seat_of, wordless_all}
+use Rattle.iox_wire_weaves.specs.Steps.{MakesOneAccess, access_of, answer_of, recorded, step_refusal}
 use Rattle.iox_wire_weaves.specs.Asking.{BeginsCall, call_refusal}
 
 -- ---- an opening
@@ -85,7 +86,8 @@ StepsAreSafe =
     (p : Setting) (wire : WireData) (r : Run) (n : ℕ) → Shows p wire r
     → living_refusal wire.nodes n ≡ None → IsWithin 0 (length wire.words) (access_of p wire n)
 
--- After a step that is not refused, the wire shows the run that goes on so.
+-- After a step that is not refused, the wire shows the run that goes on so. The event of the node's
+-- access is that of the moment of the run, if it is one.
 abbrev pub StepsShow : Type 0
 StepsShow =
     (p : Setting) (old new : WireData) (r : Run) (n : ℕ) (x y : WireNode)
@@ -98,7 +100,10 @@ StepsShow =
     → new.replies ≡ old.replies ++ wordless_all (answer_of n new.nodes (progress_of reply))
     → MakesOneAccess p old n new
     × (bs : List Beat) × (after : Run) × IsStepOf n bs × GoesOnWith r bs after
-    × (answers_in bs ≡ answer_of n new.nodes (progress_of reply)) × Shows p new after
+    × (answers_in bs ≡ answer_of n new.nodes (progress_of reply))
+    × (let seen = seen_at (access_of p old n) old.words in
+    events_of bs ≡ recorded old n (slot_event p (seat_of p old.nodes n).local seen))
+    × Shows p new after
 
 -- ---- a death
 

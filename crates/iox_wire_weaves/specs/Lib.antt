@@ -1,11 +1,14 @@
--- In reading order: what a wire is and when it shows a run of the machine; what a step and a death do
--- to it, and the begin of a call; the laws that it goes on showing one; and how many messages its
--- ports keep and have outstanding.
+-- In reading order: how many messages ports keep and have outstanding; what a wire is and when it shows
+-- a run of the machine; which node has a port, and which events are recorded; what a step and a death do
+-- to a wire, and the begin of a call; the laws that it goes on showing a run; and that desks tell how
+-- many messages ports keep and have outstanding.
+pub mod PortCounts
 pub mod Wires
+pub mod Owners
+pub mod Events
 pub mod Steps
 pub mod Asking
 pub mod Laws
-pub mod Living
 pub mod CountLaws
 -- what the crates above cite of those below
 pub use Rattle.iox_wire_needs.specs.Copying
@@ -13,11 +16,13 @@ pub use Rattle.iox_wire_needs.specs.Counts
 pub use Rattle.iox_wire_needs.specs.Ending
 pub use Rattle.iox_wire_needs.specs.Following
 pub use Rattle.iox_wire_needs.specs.MessageBegins
+pub use Rattle.iox_wire_needs.specs.NamedSlots
 pub use Rattle.iox_wire_needs.specs.NewLoan
 pub use Rattle.iox_wire_needs.specs.NewLoans
 pub use Rattle.iox_wire_needs.specs.Openings
 pub use Rattle.iox_wire_needs.specs.Places
 pub use Rattle.iox_wire_needs.specs.Runs
+pub use Rattle.iox_wire_needs.specs.Serials
 pub use Rattle.iox_wire_needs.specs.Settlements
 pub use Rattle.iox_wire_needs.specs.Stands
 pub use Rattle.iox_wire_needs.specs.Tidying

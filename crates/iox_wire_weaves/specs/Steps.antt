@@ -1,7 +1,8 @@
 -- What a step, and a death, do to a wire.
-use Rattle.std.specs.Prelude.{◌≡◌, ℕ, ◌==◌, false, nat_le, not, ◌^◌, List, [], ◌∷◌, Option, None}
+use Rattle.std.specs.Prelude.{◌≡◌, ℕ, ◌==◌, false, nat_le, not, ◌^◌, List, [], ◌∷◌, Option, None, Some}
 use Rattle.std.specs.Option.{option_map_or}
 use Rattle.iox_model.specs.Commands.{Reply}
+use Rattle.iox_model.specs.declared.event.Event.{Event}
 use Rattle.iox_model.specs.Maps.{or_else, refused_if}
 use Rattle.iox_model.specs.Schedules.{IsStepOf}
 use Rattle.iox_model.specs.Weaves.{Beat, Dies}
@@ -18,6 +19,8 @@ use Rattle.iox_wire_needs.specs.Runs.{GoesOnBy, Run}
 use Rattle.iox_wire_needs.specs.WholeSteps.{GoesOnWith}
 use Rattle.iox_wire_nodes.specs.declared.call_at.NodeReply.{NodeReply}
 use Rattle.iox_wire_nodes.specs.Nodes.{reply_in, seat_in}
+use Rattle.iox_wire_weaves.specs.Events.{with_serials}
+use Rattle.iox_wire_weaves.specs.Owners.{serial_in}
 use Rattle.iox_wire_weaves.specs.declared.refusal.WireRefusal.{WireRefusal}
 use Rattle.iox_wire_weaves.specs.declared.refusal.WireRefusal.TheVariants.{AccessesSpent, AtRest}
 use Rattle.iox_wire_weaves.specs.Wires.{Shows, WireData, WireNode, answers_in, living_refusal, node_at, seat_of}
@@ -62,6 +65,11 @@ abbrev pub answer_of : ℕ → List WireNode → Progress NodeReply → List (�
 answer_of n nodes Going = []
 answer_of n nodes (Done reply) =
     (n, reply_in (option_map_or (λ x. x.node.seat.words) (node_at n nodes) []) reply) ∷ []
+
+-- what the step of a node records: its event, if it has one, with serials in place of slots
+abbrev pub recorded : WireData → ℕ → Option Event → List (ℕ × Event)
+recorded wire n None = []
+recorded wire n (Some event) = (n, with_serials (serial_in wire) event) ∷ []
 
 -- Each run that the wire showed goes on by a step of the node: at most one moment of the machine,
 -- and then the end of its call with that answer. The wire shows the run that goes on so.

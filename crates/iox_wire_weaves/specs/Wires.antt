@@ -22,6 +22,7 @@ use Rattle.iox_wire_nodes.specs.Nodes.{Node, seat_in}
 use Rattle.iox_wire_needs.specs.Openings.{AgreesWith, opened_seat}
 use Rattle.iox_wire_needs.specs.Runs.{Run, history}
 use Rattle.iox_wire_needs.specs.Stands.{Player}
+use Rattle.iox_wire_weaves.specs.PortCounts.{TellsCounts}
 use Rattle.iox_wire_weaves.specs.declared.refusal.WireRefusal.{WireRefusal}
 use Rattle.iox_wire_weaves.specs.declared.refusal.WireRefusal.TheVariants.{AccessesSpent, AtRest, Busy, ForeignNumber, NodeIsDead, UnknownNode, UnknownNumber, Unsupported, WantOfMemory, WrongKind}
 
@@ -108,6 +109,11 @@ pub record Shows (p : Setting) (wire : WireData) (r : Run) : Type 0 where
   pub living : (n : ℕ) → not_living r.last.state n ≡ option_map refusal_in (living_refusal wire.nodes n)
   -- each node knows where the words stand that it accesses next
   pub aimed : (n : ℕ) (x : WireNode) → node_at n wire.nodes ≡ Some x → IsAimed p x.node
+  -- the machine has the setting's ports
+  pub ports : r.last.state.fixed.ports ≡ map p.port p.layout.sizes.ports
+  -- the desk of each port tells what the machine counts of it, whether its node lives or is dead
+  pub counts : (port : ℕ) → has_number port p.layout.sizes.ports ≡ true
+      → TellsCounts r.last port (seat_of p wire.nodes (p.layout.owner port))
   -- the replies are the run's
   pub replies : wire.replies ≡ wordless_all (answers_in r.beats)
 

@@ -3,6 +3,7 @@
 #![tactic(auto)]
 
 ghost use Rattle.iox_wire_weaves.specs.CountLaws.{KeptIsTold, OutstandingIsTold};
+ghost use Rattle.iox_wire_weaves.specs.Events.{SlotsTellEvents};
 ghost use Rattle.iox_wire_weaves.specs.Laws.{BeginsShow, DeathsShow, RefusalsAreShown};
 ghost use Rattle.iox_wire_weaves.specs.Laws.{HandlesStand};
 ghost use Rattle.iox_wire_weaves.specs.Laws.{NodesAreKnown, StepsAreSafe, StepsShow, WiresOpen};
@@ -56,9 +57,14 @@ pub fn handles_stand()
     ensures { HandlesStand }
 {}
 
-/// The desk of a port at its living node tells how many messages the port keeps, and how many are
-/// outstanding on each way.
+/// The desk of a port tells how many messages the port keeps, and how many are outstanding on each
+/// way, whether its node lives or is dead.
 pub fn desks_tell()
     ensures kept { KeptIsTold }
     ensures outstanding { OutstandingIsTold }
+{}
+
+/// The slots of an access tell its event, with the serials of what they hold.
+pub fn slots_tell_events()
+    ensures { SlotsTellEvents }
 {}

@@ -1,32 +1,31 @@
-//! How many messages of its ports a living node of a wire counts.
+//! How many messages of its ports a node of a wire counts, alive or dead.
 use super::Member;
 use iox_model::way::Way;
 
 impl Member {
-    ghost use Rattle.std.specs.Prelude.{◌≡◌, option_map};
-    ghost use Rattle.iox_wire_weaves.specs.Counted.{kept_at, outstanding_at};
-    ghost use Rattle.iox_wire_weaves.specs.CountLaws.{desk_at_living};
+    ghost use Rattle.std.specs.Prelude.{◌≡◌};
+    ghost use Rattle.std.specs.Option.{option_map_or};
+    ghost use Rattle.iox_wire_weaves.specs.Counted.{desk_of, kept_at, outstanding_at};
 
-    /// How many of its messages a port keeps, if the node has it and lives.
-    pub(crate) fn kept(&self, port: u64) -> Option<usize>
-        ensures { result ≡ option_map kept_at (desk_at_living port self.now) }
+    /// How many of its messages a port keeps; none if the node does not have it.
+    pub(crate) fn kept(&self, port: u64) -> usize
+        ensures { result ≡ option_map_or kept_at (desk_of port self.now.node.seat.seat.desks) 0 }
     {
-        if self.alive {
-            self.node.kept(port)
-        } else {
-            None
+        match self.node.kept(port) {
+            Some(count) => count,
+            None => 0,
         }
     }
 
-    /// How many messages its sender delivered on the way and did not get back, if the node has that
-    /// port and lives.
-    pub(crate) fn outstanding(&self, way: Way) -> Option<usize>
-        ensures { result ≡ option_map (outstanding_at way) (desk_at_living way.sender self.now) }
+    /// How many messages its sender delivered on the way and did not get back; none if the node does
+    /// not have that port.
+    pub(crate) fn outstanding(&self, way: Way) -> usize
+        ensures { result
+            ≡ option_map_or (outstanding_at way) (desk_of way.sender self.now.node.seat.seat.desks) 0 }
     {
-        if self.alive {
-            self.node.outstanding(way)
-        } else {
-            None
+        match self.node.outstanding(way) {
+            Some(count) => count,
+            None => 0,
         }
     }
 }

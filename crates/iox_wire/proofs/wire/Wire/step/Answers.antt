@@ -123,4 +123,4 @@ returns-clause-weave c p r shows =
     (told_more c.args.node (slice_set w.nodes c.in_ok-place.place c.make_access-reply.new.self) c.make_access-reply.result c.self.inside.answers.items
     c.tell.new.events.items
     (c.tell.ensures ∙ ap₂ (λ xs o. xs ++ option_to_list o) c.reserve.ensures.items c.answered.ensures)) in
-    (made.1, made.2, made.3, made.4, made.5 ∙ ap (answer_of c.args.node (slice_set w.nodes c.in_ok-place.place c.make_access-reply.new.self)) (sym c.progress.ensures), made.6)
+    (made.1, made.2, made.3, made.4, made.5 ∙ ap (answer_of c.args.node (slice_set w.nodes c.in_ok-place.place c.make_access-reply.new.self)) (sym c.progress.ensures), made.7)
