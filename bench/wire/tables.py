@@ -2,9 +2,9 @@
 """tables.py tables FOLDER: what begins and steps take, from callgrind's files FOLDER/NAME.WIRE.few and .many, NAME being
 ours, clang or g++. A begin and a step is a call of a function whose name begins with `one_`, from one that is named after
 the call of the wire. FOLDER/WIRE.counts has of how many exchanges they are.
-tables.py counts ROUNDS: of how many exchanges they are to be, from ROUNDS to four times as many, so that between them no list doubles
-its room. Standard input has the last lines of runs of 64 and of 128: the second and the third word count the replies and the
-events."""
+tables.py counts ROUNDS: of how many exchanges they are to be, from ROUNDS to four times as many, so that between them no
+list doubles its room. Standard input has the last lines of runs of 64 and of 128: the second and the third word count the
+replies and the events."""
 import collections
 import math
 import re

@@ -344,7 +344,7 @@ Progress Wire::step(u64 node) {
         return go(x, Place::LoanTake);
     case Place::LoanTake:
         w[x.queue + 1] = x.read + 1;
-        tell(x, EventKind::GetBack, x.at->way, x.value);
+        tell_slot(x, EventKind::GetBack, x.at->way, x.value);
         got_back(x, x.value);
         return go(x, Place::LoanRead);
     case Place::Stores:
@@ -369,7 +369,7 @@ Progress Wire::step(u64 node) {
         return go(x, Place::RequestTake);
     case Place::RequestTake:
         w[x.queue + 1] = x.read + 1;
-        tell(x, EventKind::GetBack, x.at->way, x.value);
+        tell_slot(x, EventKind::GetBack, x.at->way, x.value);
         got_back(x, x.value);
         return go(x, Place::RequestRead);
     case Place::RequestLookWrite:
@@ -408,7 +408,7 @@ Progress Wire::step(u64 node) {
         return go(x, Place::RequestPublish);
     case Place::RequestPublish:
         w[x.queue] = x.position + 1;
-        tell(x, EventKind::Deliver, x.at->way, x.entry.slot);
+        tell_slot(x, EventKind::Deliver, x.at->way, x.entry.slot);
         delivered(x);
         ++x.deliveries;
         if (x.full) return go(x, Place::RequestEvict);
@@ -421,7 +421,7 @@ Progress Wire::step(u64 node) {
         return go(x, Place::RequestLearn);
     case Place::RequestLearn:
         x.value = w[x.cell];
-        tell(x, EventKind::GetBack, x.at->way, x.value);
+        tell_slot(x, EventKind::GetBack, x.at->way, x.value);
         got_back(x, x.value);
         return deliver_next(x);
 
@@ -447,7 +447,7 @@ Progress Wire::step(u64 node) {
         return go(x, Place::ResponseTake);
     case Place::ResponseTake:
         w[x.queue + 1] = x.read + 1;
-        tell(x, EventKind::GetBack, x.at->way, x.value);
+        tell_slot(x, EventKind::GetBack, x.at->way, x.value);
         got_back(x, x.value);
         return go(x, Place::ResponseRead);
     case Place::ResponseLookWrite:
@@ -473,7 +473,7 @@ Progress Wire::step(u64 node) {
         return go(x, Place::ResponsePublish);
     case Place::ResponsePublish:
         w[x.queue] = x.position + 1;
-        tell(x, EventKind::Deliver, x.at->way, x.entry.slot);
+        tell_slot(x, EventKind::Deliver, x.at->way, x.entry.slot);
         delivered(x);
         if (x.full) return go(x, Place::ResponseEvict);
         return end_response(x, Answer::Done);
@@ -485,7 +485,7 @@ Progress Wire::step(u64 node) {
         return go(x, Place::ResponseLearn);
     case Place::ResponseLearn:
         x.value = w[x.cell];
-        tell(x, EventKind::GetBack, x.at->way, x.value);
+        tell_slot(x, EventKind::GetBack, x.at->way, x.value);
         got_back(x, x.value);
         return end_response(x, Answer::Done);
 
@@ -521,7 +521,7 @@ Progress Wire::step(u64 node) {
             return go(x, Place::PopCell);
         }
         w[x.queue + 1] = x.read + 1;
-        tell(x, EventKind::Take, x.at->way, x.value);
+        tell_slot(x, EventKind::Take, x.at->way, x.value);
         const Port& sender = ports_[x.at->way.sender];
         x.first = sender.region + x.value * sender.plan.slot_words;
         x.count = sender.header;
@@ -534,7 +534,7 @@ Progress Wire::step(u64 node) {
         return loaded(x);
     case Place::Asks:
         x.seen = w[x.state];
-        tell(x, EventKind::Look, x.at->way, x.seen);
+        tell(x, EventKind::Look, {x.port->plan.number, x.at->way.sender, x.message[4]}, x.seen);
         if (names(x.seen, x.message[5])) return take(x);
         x.queue = x.at->base + x.queues->back;
         return go(x, Place::ReturnWrite);
@@ -550,7 +550,7 @@ Progress Wire::step(u64 node) {
         return go(x, Place::ReturnPublish);
     case Place::ReturnPublish:
         w[x.queue] = x.position + 1;
-        tell(x, EventKind::GiveBack, x.at->way, x.value);
+        tell_slot(x, EventKind::GiveBack, x.at->way, x.value);
         x.queue = x.at->base;
         return go(x, Place::PopRead);
 
@@ -571,7 +571,7 @@ Progress Wire::step(u64 node) {
         return go(x, Place::ReleasePublish);
     case Place::ReleasePublish:
         w[x.queue] = x.position + 1;
-        tell(x, EventKind::GiveBack, x.at->way, x.value);
+        tell_slot(x, EventKind::GiveBack, x.at->way, x.value);
         if (x.entry.kind == Kind::ActiveRequest) return go(x, Place::ReleaseLooks);
         return drop(x);
     case Place::ReleaseLooks: {

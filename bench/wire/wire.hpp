@@ -51,7 +51,7 @@ enum class EventKind : std::uint8_t {
     SeesNoneBack, GetBack, SeesFull, SeesRoom, Open, Deliver, Evict, SeesEmpty, SeesWaiting, Take, GiveBack, Look, Close
 };
 
-// The number is that of the slot, of the request, or what the request state was.
+// The number is the serial of the message, that of the request, or what the request state was.
 struct Event {
     EventKind kind;
     Way way;
@@ -207,6 +207,10 @@ class Wire {
 #else
         (void)x, (void)kind, (void)way, (void)number;
 #endif
+    }
+    // the same of the message in a slot of the way's sender
+    void tell_slot(const Node& x, EventKind kind, const Way& way, u64 slot) {
+        tell(x, kind, way, ports_[way.sender].serials[slot]);
     }
     [[gnu::noinline]] Progress answer(Node& x, Answer told, u64 number = 0) {
         x.place = Place::Rest;
