@@ -1,5 +1,5 @@
 -- A node among those that are kept, and what is so of the others.
-use Rattle.std.proofs.Common.{◌≡◌, ◌==◌, ◌&&◌, ◌||◌, ◌+◌, ◌<◌, ◌≤◌, ℕ, zero, suc, Bool, true, false, not, List, [], ◌∷◌, ◌++◌, Option, Some, None, cond, filter, length, map, refl, ap, ap₂, sym, subst, ◌∙◌, arith, true≢false}
+use Rattle.std.proofs.Common.{◌≡◌, ◌==◌, ◌||◌, ◌+◌, ℕ, Bool, true, false, not, List, [], ◌∷◌, ◌++◌, Option, Some, None, cond, filter, length, map, refl, ap, ap₂, sym, subst, ◌∙◌, arith, true≢false}
 use Rattle.std.specs.Prelude.{⊤, find}
 use Rattle.std.specs.List.{count_by, list_any}
 use Rattle.std.proofs.lemmas.Bool.{and_from, eq-eqb, eqb-true}
@@ -58,13 +58,19 @@ found-beside node m (x ∷ xs) is apart = of_test (x.number == node) refl (found
         → Beside m (x ∷ xs) (filter (λ x. not (x.number == node)) (x ∷ xs))
     of_test true e rest =
         let here : x ≡ m = one_of x m (sym (ap (λ b. cond b (Some x) (find (λ x. x.number == node) xs)) e) ∙ is) in
-        let none : has_number node (map (λ x. x.number) xs) ≡ false = subst (λ n. has_number n (map (λ x. x.number) xs) ≡ false) (eqb-true x.number node e) apart.0 in
-        ([], xs, ap (λ y. y ∷ xs) here,
-        ap (λ b. cond (not b) (x ∷ filter (λ x. not (x.number == node)) xs) (filter (λ x. not (x.number == node)) xs)) e ∙ none_filtered node xs none)
+        let none : has_number node (map (λ x. x.number) xs) ≡ false = subst (λ n. has_number n (map (λ x. x.number) xs) ≡ false) (eqb-true x.number node e) apart.0 in (
+          [],
+          xs,
+          ap (λ y. y ∷ xs) here,
+          ap (λ b. cond (not b) (x ∷ filter (λ x. not (x.number == node)) xs) (filter (λ x. not (x.number == node)) xs)) e ∙ none_filtered node xs none,
+        )
     of_test false e rest =
-        let later = rest (sym (ap (λ b. cond b (Some x) (find (λ x. x.number == node) xs)) e) ∙ is) apart.1 in
-        (x ∷ later.0, later.1, ap (λ ys. x ∷ ys) later.2,
-        ap (λ b. cond (not b) (x ∷ filter (λ x. not (x.number == node)) xs) (filter (λ x. not (x.number == node)) xs)) e ∙ ap (λ ys. x ∷ ys) later.3)
+        let later = rest (sym (ap (λ b. cond b (Some x) (find (λ x. x.number == node) xs)) e) ∙ is) apart.1 in (
+          x ∷ later.0,
+          later.1,
+          ap (λ ys. x ∷ ys) later.2,
+          ap (λ b. cond (not b) (x ∷ filter (λ x. not (x.number == node)) xs) (filter (λ x. not (x.number == node)) xs)) e ∙ ap (λ ys. x ∷ ys) later.3,
+        )
 
 -- a number that no node has takes nobody away
 pub none-found : (node : ℕ) (xs : List Member) → find (λ x. x.number == node) xs ≡ None → filter (λ x. not (x.number == node)) xs ≡ xs

@@ -1,16 +1,14 @@
 -- What is so at all times of the nodes and their register, as nodes come and go.
-use Rattle.std.proofs.Common.{◌≡◌, ◌==◌, ◌&&◌, ◌||◌, ◌+◌, ◌-◌, ◌^◌, ◌<◌, ◌≤◌, ℕ, zero, suc, Bool, true, false, not, List, [], ◌∷◌, ◌++◌, Option, Some, None, Result, Ok, Err, IsOk, cond, is_some, filter, length, get_or, map, replicate, set, refl, ap, ap₂, sym, subst, ◌∙◌, arith, true≢false}
+use Rattle.std.proofs.Common.{◌≡◌, ◌==◌, ◌&&◌, ◌||◌, ◌+◌, ◌-◌, ◌<◌, ◌≤◌, ℕ, zero, suc, Bool, true, false, not, List, [], ◌∷◌, ◌++◌, Option, Some, None, Result, Ok, Err, IsOk, cond, is_some, filter, length, get_or, map, replicate, set, refl, ap, ap₂, sym, subst, ◌∙◌, arith}
 use Rattle.std.specs.Prelude.{IfErr, IfOk, IsPermutation, OnOk, find, is_none}
 use Rattle.std.specs.List.{count_by, list_any}
-use Rattle.std.specs.Option.{option_map}
-use Rattle.std.proofs.lemmas.Bool.{and_from, eq-eqb, lt-ltb, ne_eqb}
+use Rattle.std.proofs.lemmas.Bool.{lt-ltb, ne_eqb}
 use Rattle.std.proofs.lemmas.List.{length-map, length-replicate, length-set, length_push, nil_from_length}
-use Rattle.std.proofs.lemmas.List.Sorted.{IsPermutation-cons, IsPermutation-refl, IsPermutation-trans, length_permutation, sum_by-IsPermutation}
+use Rattle.std.proofs.lemmas.List.Sorted.{IsPermutation-cons, IsPermutation-refl, IsPermutation-trans, sum_by-IsPermutation}
 use Rattle.iox_types.specs.declared.identifiers.system_id.UniqueSystemId.{UniqueSystemId}
 use Rattle.iox_model.specs.Joins.{same_id, with_members}
 use Rattle.iox_model.specs.Maps.{AreDistinct, has_number, is_empty}
 use Rattle.iox_model.specs.Services.{without_node}
-use Rattle.iox_model.specs.States.{Members, State}
 use Rattle.iox_model.specs.States as States
 use Rattle.iox_registry.specs.declared.refusals.ReleaseError.TheVariants.{Foreign, Spent}
 use Rattle.iox_registry.specs.declared.roles.Role.TheVariants.{Node}
@@ -21,9 +19,9 @@ use Rattle.iox_registry.proofs.NumberLemmas.{listed-added, listed-removed, locke
 use Rattle.iox_registry.proofs.RegisterLemmas.{open_parts}
 use Rattle.iox_members.specs.declared.member.Member.{Member}
 use Rattle.iox_members.specs.Nodes.{killed, node_of}
-use Rattle.iox_members.specs.Registering.{AreBelow, AreKept, AreOnce, AreRegistered, HaveRegistrations, IsSameRegister}
+use Rattle.iox_members.specs.Registering.{AreBelow, AreKept, AreOnce, AreRegistered, HaveRegistrations}
 use Rattle.iox_members.specs.Steps.{IsAfterLeaving}
-use Rattle.iox_members.proofs.Among.{Beside, TellsOn, differ-since, found-beside, not-empty, one-has, one-more, or_parts, others-below, others-distinct, others-once, others-registered, others-since, own-registration}
+use Rattle.iox_members.proofs.Among.{Beside, TellsOn, differ-since, found-beside, not-empty, one-has, one-more, or_parts, others-below, others-distinct, others-once, others-registered, own-registration}
 use Rattle.iox_members.proofs.Kept.{empty_kept, removed_kept}
 use Rattle.iox_members.proofs.Registered.{listed-beside, listed-recovered, stays-added, stays-recovered, stays-removed, told}
 
@@ -49,9 +47,11 @@ all-listed (m ∷ nodes) registry own once count =
         → HaveRegistrations registry xs → list_any (same_id m.id) (map (λ x. x.id) xs) ≡ false → HaveRegistrations left xs
     still left is [] own other = tt
     still left is (x ∷ xs) own other =
-        let parts = or_parts (same_id m.id x.id) _ other in
-        (subst (λ r. details_of r x.registration ≡ Some x.id) (sym is)
-        (stays-removed registry m.registration x.registration m.id x.id own_first own.0 (differ-since m.id x.id parts.0)), still left is xs own.1 parts.1)
+        let parts = or_parts (same_id m.id x.id) _ other in (
+          subst (λ r. details_of r x.registration ≡ Some x.id) (sym is)
+              (stays-removed registry m.registration x.registration m.id x.id own_first own.0 (differ-since m.id x.id parts.0)),
+          still left is xs own.1 parts.1,
+        )
 
 pub ids-kept : (nodes : List Member) → map (λ m. m.id) (map node_of nodes) ≡ map (λ m. m.id) nodes
 ids-kept [] = refl

@@ -1,8 +1,7 @@
 -- Registers: what a handle tells as another comes or goes, and what is listed then.
-use Rattle.std.proofs.Common.{◌≡◌, ◌==◌, ◌&&◌, ◌+◌, ◌<◌, ◌≤◌, ℕ, zero, suc, Bool, true, false, List, [], ◌∷◌, Option, Some, None, is_some, cond, length, get_or, map, set, refl, ap, sym, subst, ◌∙◌, inl, inr, arith, get_or-set_other}
+use Rattle.std.proofs.Common.{◌≡◌, ◌==◌, ◌+◌, ℕ, zero, suc, Bool, true, false, List, [], ◌∷◌, Option, Some, None, cond, length, get_or, map, set, refl, ap, sym, subst, ◌∙◌, arith, get_or-set_other}
 use Rattle.std.specs.Prelude.{IsPermutation}
 use Rattle.std.specs.List.{count_by}
-use Rattle.std.proofs.lemmas.Bool.{cases_eq}
 use Rattle.std.proofs.lemmas.List.Sorted.{IsPermutation-cons, IsPermutation-middle, IsPermutation-refl, IsPermutation-sym, IsPermutation-trans}
 use Rattle.std.proofs.lemmas.List.Sums.{sum_by-cons}
 use Rattle.iox_types.specs.declared.identifiers.system_id.UniqueSystemId.{UniqueSystemId}

@@ -257,7 +257,10 @@ impl Members {
         let Some(member) = find(&self.nodes, node) else {
             return;
         };
-        let _owners = self.registered.deregister_node_id(member.registration).unwrap();
+        let _owners = self
+            .registered
+            .deregister_node_id(member.registration)
+            .unwrap();
         remove(&mut self.nodes, node);
     }
 

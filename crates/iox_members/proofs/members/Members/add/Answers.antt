@@ -2,7 +2,7 @@ use Rattle.std.specs.Prelude.{◌≡◌, ◌+◌, ◌∷◌, ◌++◌, [], List,
 use Rattle.std.proofs.Common.{ap, refl, subst, sym, ◌∙◌}
 use Rattle.std.specs.List.{list_any}
 use Rattle.iox_model.specs.Joins.{same_id}
-use Rattle.iox_registry.specs.Registers.{Adds, Handle, details_of}
+use Rattle.iox_registry.specs.Registers.{Adds, details_of}
 use Rattle.iox_members.specs.declared.member.Member.{Member}
 use Rattle.iox_members.specs.Registering.{AreKept}
 use Rattle.iox_members.proofs.Keeping.{at-ok, fresh-since, joins-kept}
