@@ -14,6 +14,8 @@ pub use Rattle.iox_model.specs.declared.command.Command
 pub use Rattle.iox_model.specs.declared.kind.Role
 pub use Rattle.iox_model.specs.declared.reply.Refusal
 pub use Rattle.iox_model.specs.declared.reply.Reply
+pub use Rattle.iox_members.specs.Registering
+pub use Rattle.iox_members.specs.Registers
 pub use Rattle.iox_members.specs.Steps
 pub use Rattle.iox_service_laws.specs.Settings
 pub use Rattle.iox_service_laws.specs.Listings

@@ -60,7 +60,15 @@ where
         let asked = creator_refusal::<Q, QH, P, PH>(&description.types);
         let request = MessageShape::of_requests(Some(requests.element), requests.user_header);
         let response = MessageShape::of_responses(Some(responses.element), responses.user_header);
-        match iox_service_laws::Service::new(alloc, settings, id, asked, request, response) {
+        match iox_service_laws::Service::new(
+            alloc,
+            identity.number,
+            settings,
+            id,
+            asked,
+            request,
+            response,
+        ) {
             Ok(nodes) => Ok(Service {
                 identity,
                 description,

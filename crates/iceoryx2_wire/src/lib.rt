@@ -22,6 +22,7 @@ pub use identity::ServiceIdentity;
 pub use iox_attributes::{
     AttributeSet, AttributeSpecifier, AttributeVerificationError, AttributeVerifier,
 };
+pub use iox_members::Nodes;
 pub use iox_model::command::{Command, PortCommand, PortOptions};
 pub use iox_model::reply::{Refusal, Reply};
 pub use iox_names::ServiceName;

@@ -1,9 +1,11 @@
 //! A service with its description.
 ghost use Rattle.std.specs.Prelude.{◌≡◌};
+ghost use Rattle.iox_members.specs.Registering.{AreRegistered};
 ghost use Rattle.iox_model.specs.Runs.{IsServed};
 ghost use Rattle.iceoryx2_wire.specs.Services.{service_of};
 
 use crate::identity::ServiceIdentity;
+use iox_members::Nodes;
 use iox_names::ServiceName;
 use iox_openers::ServiceDescription;
 use iox_store::Payload;
@@ -84,5 +86,15 @@ impl<Q: Payload, QH: Words, P: Payload, PH: Words> Service<Q, QH, P, PH> {
         ensures { result ≡ (service_of self.now).members.closed }
     {
         self.nodes.is_closed()
+    }
+
+    /// What is registered with the service: the id of each node, those of dead ones too. It tells
+    /// how many there are, and lists them.
+    #[inline]
+    pub fn dynamic_config(&self) -> &Nodes
+        ensures registry { result.now ≡ self.now.nodes.registry }
+        ensures registered { AreRegistered (service_of self.now).members self.now.nodes.registry }
+    {
+        self.nodes.dynamic_config()
     }
 }

@@ -1,10 +1,20 @@
 -- The nodes of a service, apart from its hub.
-use Rattle.std.specs.Prelude.{ℕ, ◌==◌, false, if◌then◌else◌, [], ◌∷◌, map, find, Option}
+use Rattle.std.specs.Prelude.{ℕ, ◌==◌, false, if◌then◌else◌, [], ◌∷◌, length, map, find, Option}
 use Rattle.iox_types.specs.declared.identifiers.system_id.UniqueSystemId.{UniqueSystemId}
 use Rattle.iox_model.specs.Joins.{new_node}
 use Rattle.iox_model.specs.Services.{dies}
 use Rattle.iox_model.specs.States.{Members, Node}
+use Rattle.iox_registry.specs.Registers.{Registrations}
 use Rattle.iox_members.specs.declared.member.Member.{Member}
+
+-- What a service keeps of its nodes: who they are, and what is registered of them.
+pub record RegisteredMembers : Type 0 where
+  pub members : Members
+  pub registry : Registrations UniqueSystemId
+
+-- how many nodes there may be at once: as many as may be registered
+abbrev pub room_in : RegisteredMembers → ℕ
+room_in x = length x.registry.slots
 
 -- the node of the machine
 abbrev pub node_of : Member → Node

@@ -1,10 +1,9 @@
 //! Searches in the list of nodes, and changes of it.
-ghost use Rattle.std.specs.Prelude.{◌≡◌, ◌==◌, ◌||◌, IfOk, filter, find, length, map, not};
+ghost use Rattle.std.specs.Prelude.{◌≡◌, ◌==◌, IfOk, filter, find, map, not};
 ghost use Rattle.std.specs.Fn.{CalledAt};
 ghost use Rattle.std.specs.List.{list_any};
 ghost use Rattle.iox_attributes.specs.Visits.{Visits};
 ghost use Rattle.iox_model.specs.Joins.{same_id};
-ghost use Rattle.iox_model.specs.Maps.{is_empty};
 ghost use Rattle.iox_members.specs.Nodes.{killed};
 
 use crate::ids::is_same_id;
@@ -44,13 +43,6 @@ pub(crate) fn find(nodes: &[Member], node: u64) -> Option<Member>
     nodes.iter().copied().find(|member| member.number == node)
 }
 
-/// How many nodes there are.
-pub(crate) fn count(nodes: &[Member]) -> u64
-    ensures { result ≡ length nodes.now }
-{
-    nodes.len() as u64
-}
-
 /// Whether a node has that id.
 pub(crate) fn has_id(nodes: &[Member], id: UniqueSystemId) -> bool
     ensures { result ≡ list_any (λ m. same_id m.id id) nodes.now }
@@ -87,11 +79,4 @@ pub(crate) fn remove(nodes: &mut Vec<Member>, node: u64)
     ensures { nodes.new.items ≡ filter (λ m. not (m.number == node)) nodes.old.items }
 {
     nodes.retain(|member| member.number != node);
-}
-
-/// Whether nodes are gone for good: they were already, or none is left.
-pub(crate) fn are_gone(closed: bool, nodes: &[Member]) -> bool
-    ensures { result ≡ (closed || is_empty nodes.now) }
-{
-    closed || nodes.is_empty()
 }

@@ -1,4 +1,5 @@
 //! A node of a service, as it is kept.
+use iox_registry::RegistryHandle;
 use iox_types::identifiers::UniqueNodeId;
 
 /// A node that did not leave.
@@ -8,4 +9,6 @@ pub(crate) struct Member {
     pub(crate) number: u64,
     pub(crate) id: UniqueNodeId,
     pub(crate) alive: bool,
+    /// What tells its registration.
+    pub(crate) registration: RegistryHandle,
 }

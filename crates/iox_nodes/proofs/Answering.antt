@@ -23,7 +23,7 @@ use Rattle.iox_model.specs.Services.{IsNodeCommand}
 use Rattle.iox_model.specs.States.{Members, Node, State}
 use Rattle.iox_model.specs.WholeCalls.{UnlessRefused}
 use Rattle.iox_port_commands.specs.Hubs.{HubState}
-use Rattle.iox_members.specs.Nodes.{node_in}
+use Rattle.iox_members.specs.Nodes.{RegisteredMembers, node_in}
 use Rattle.iox_members.specs.Steps.{IsRefusedUnlessLiving}
 use Rattle.iox_openers.specs.Causes.{with_cause}
 use Rattle.iox_port_commands.specs.Applying.{HaveDefaults, IsApplied, IsReplied}
@@ -32,8 +32,8 @@ use Rattle.iox_port_commands.specs.Telling.{IsToldAnd}
 use Rattle.iox_port_commands.specs.declared.elements.Elements.{Elements}
 use Rattle.iox_nodes.specs.Given.{asker, reply_given, reply_of, with_id}
 use Rattle.iox_nodes.specs.Served.{IsPortAnswered}
-use Rattle.iox_nodes.specs.Shown.{IsService, given_for, state_of}
-use Rattle.iox_nodes.proofs.Leading.{any_cause, kept_service}
+use Rattle.iox_nodes.specs.Shown.{IsServiceWithRoom, given_for, state_of}
+use Rattle.iox_nodes.proofs.Leading.{any_cause, kept_with_room}
 
 -- ---- replies
 
@@ -199,8 +199,9 @@ may_not {C = C} Z X q p w x h node command r asks is =
     may_not_ask Z X q p w x h command r (subst (λ n. IsRefusedUnlessLiving {C = C} {X = X} x n (Err r)) asks is)
 
 pub port_service :
-    {Q P H C Z : Type 0} (q : Q → List ℕ) (p : P → List ℕ) (w : H → List ℕ) (x : Members) (h h' : HubState)
+    {Q P H C Z : Type 0} (q : Q → List ℕ) (p : P → List ℕ) (w : H → List ℕ) (x : RegisteredMembers) (h h' : HubState)
     (command : the_port_command.PortCommand (Elements Q P) H) (reply : the_reply.Reply (Vec ℕ Z) C)
-    → IsService x h → IsPortAnswered q p w (state_of x h) command reply (state_of x h') → HaveDefaults h' → IsService x h'
-port_service q p w x h h' command reply service done defaults =
-    kept_service x x h h' (Port (command_for q p w command)) (reply_given any_cause reply) service (done any_cause) defaults
+    → IsServiceWithRoom x h → IsPortAnswered q p w (state_of x.members h) command reply (state_of x.members h') → HaveDefaults h'
+    → IsServiceWithRoom x h'
+port_service q p w x h h' command reply kept done defaults =
+    kept_with_room x x h h' (Port (command_for q p w command)) (reply_given any_cause reply) kept (done any_cause) (refl, refl) defaults

@@ -21,10 +21,10 @@ use Rattle.iox_model.specs.Runs.{IsServed}
 use Rattle.iox_model.specs.Services.{IsCommand}
 use Rattle.iox_model.specs.States.{Members, State}
 use Rattle.iox_model.specs.WholeCalls.{UnlessRefused}
-use Rattle.iox_tables.specs.HubStates.Tables.{HubSettings}
+use Rattle.iox_tables.specs.HubStates.Tables.{HubTables}
 use Rattle.iox_port_commands.specs.Hubs.{HubState}
 use Rattle.iox_port_commands.specs.Making.{StaysAs}
-use Rattle.iox_members.specs.Nodes.{node_in}
+use Rattle.iox_members.specs.Nodes.{RegisteredMembers, node_in, room_in}
 use Rattle.iox_members.specs.Steps.{IsJoined}
 use Rattle.iox_openers.specs.Causes.{with_cause}
 use Rattle.iox_port_commands.specs.Applying.{HaveDefaults, IsApplied, LacksMemoryFor}
@@ -33,30 +33,36 @@ use Rattle.iox_port_commands.specs.declared.elements.Elements.{Elements}
 use Rattle.iox_nodes.specs.Given.{asker, is_listing, reply_of, with_id}
 use Rattle.iox_nodes.specs.Memory.{MayFindNoMemory, is_wanting, refusal_for_want, want_of}
 use Rattle.iox_nodes.specs.Served.{IsAnswered, IsJoin, IsPortAnswered}
-use Rattle.iox_nodes.specs.Shown.{IsService, given_for, service_of, state_of, tables_of}
+use Rattle.iox_nodes.specs.Shown.{IsServiceWithRoom, given_for, state_of, tables_of}
 use Rattle.iox_nodes.proofs.Answering.{known, port_service, port_so}
 use Rattle.iox_nodes.proofs.Leading.{any_cause, joined_so}
 
 -- ---- what stays
 
 -- where a hub stays as it is, so does all that its service keeps
-pub stays_so : (x : Members) (old new : HubState) → StaysAs old new → tables_of x new ≡ tables_of x old
+pub stays_so : (x : RegisteredMembers) (old new : HubState) → StaysAs old new → tables_of x new ≡ tables_of x old
 stays_so x old new stays =
     ap (tables_of x) stays.others
-    ∙ ap (λ t. record { members = x; tables = t; words = old.words; request = old.request; response = old.response }) stays.tables
+    ∙ ap (λ t. record { members = x.members; registry = x.registry; tables = t; words = old.words; request = old.request; response = old.response }) stays.tables
+
+-- and so does the state
+stays_shown : (x : Members) (old new : HubState) → StaysAs old new → state_of x new ≡ state_of x old
+stays_shown x old new stays =
+    ap (state_of x) stays.others
+    ∙ ap (λ t. state_of x (record old { control = record (old.control) { tables = t } })) stays.tables
 
 -- a service whose hub was asked is one again, whether it found memory or not
 pub tried_service :
-    {Q P H C Z E : Type 0} (q : Q → List ℕ) (p : P → List ℕ) (w : H → List ℕ) (x : Members) (h h' : HubState) (own : UniqueSystemId) (node : ℕ)
+    {Q P H C Z E : Type 0} (q : Q → List ℕ) (p : P → List ℕ) (w : H → List ℕ) (x : RegisteredMembers) (h h' : HubState) (own : UniqueSystemId) (node : ℕ)
     (command given : the_port_command.PortCommand (Elements Q P) H) (r : Result (the_port_reply.PortReply (Vec ℕ Z) C) E)
-    → node ≡ asker command → node_in x node ≡ Some (new_node node own) → given ≡ with_id own command
-    → IfOk r (λ answer. IsApplied q p w h given answer h') → OnErr r (StaysAs h h') → HaveDefaults h' → IsService x h → IsService x h'
-tried_service q p w x h h' own node command given (Ok answer) asks is with done stays defaults service =
-    port_service q p w x h h' command (reply_of answer) service
-    (port_so q p w x h h' own node command given answer (reply_of answer) asks is with done refl) defaults
-tried_service q p w x h h' own node command given (Err e) asks is with done stays defaults service = record {
-  served = subst (λ v. IsServed (service_of v)) (sym (stays_so x h h' stays)) service.served;
-  defaults = defaults;
+    → node ≡ asker command → node_in x.members node ≡ Some (new_node node own) → given ≡ with_id own command
+    → IfOk r (λ answer. IsApplied q p w h given answer h') → OnErr r (StaysAs h h') → HaveDefaults h' → IsServiceWithRoom x h → IsServiceWithRoom x h'
+tried_service q p w x h h' own node command given (Ok answer) asks is with done stays defaults kept =
+    port_service q p w x h h' command (reply_of answer) kept
+    (port_so q p w x.members h h' own node command given answer (reply_of answer) asks is with done refl) defaults
+tried_service q p w x h h' own node command given (Err e) asks is with done stays defaults kept = record {
+  service = record { served = subst IsServed (sym (stays_shown x.members h h' stays)) kept.service.served; defaults = defaults };
+  room = kept.room ∙ sym (ap (λ (t : HubTables). t.settings.nodes) stays.tables);
 }
 
 -- ---- joins
@@ -83,21 +89,19 @@ pub if_err : {A E P Q : Type 0} (r : Result A E) → (P → Q) → OnErr r P →
 if_err (Ok x) f p = tt
 if_err (Err e) f p = f p
 
--- where a join is refused, all stays
-pub join_stays : {C : Type 0} (x x' : Members) (h : HubState) (id : UniqueSystemId) (asked : Option (the_refusal.Refusal C)) (s : HubSettings)
-    (result : Result ℕ (the_refusal.Refusal C)) → IsJoined x id asked s.nodes result x' → s ≡ h.control.tables.settings → OnErr result (x' ≡ x)
-join_stays x x' h id asked s (Ok n) joins limit = tt
-join_stays x x' h id asked s (Err r) joins limit = join_keeps x x' h id asked r (joined_so x x' h id asked s (Err r) joins limit)
+-- a join for which memory was wanted may be refused for that
+pub join_lacks : {C : Type 0} (x x' : RegisteredMembers) (h : HubState) (id : UniqueSystemId) (asked : Option (the_refusal.Refusal C))
+    (result : Result ℕ (the_refusal.Refusal C)) → IsJoined x.members id asked (room_in x) result x'.members
+    → room_in x ≡ h.control.tables.settings.nodes → is_wanting result ≡ true
+    → IsJoin (state_of x.members h) id asked (Err WantOfMemory) (state_of x.members h)
+join_lacks x x' h id asked result joins room wants =
+    let done : IsJoin (state_of x.members h) id asked (Err WantOfMemory) (state_of x'.members h) =
+    subst (λ r. IsJoin (state_of x.members h) id asked r (state_of x'.members h)) (wanting_is result wants) (joined_so x x' h id asked result joins room) in
+    subst (λ m. IsJoin (state_of x.members h) id asked (Err WantOfMemory) (state_of m h)) (join_keeps x.members x'.members h id asked WantOfMemory done) done
 
--- where memory was wanted for a join, all stays, and it may be refused for that
-pub join_lacks : {C : Type 0} (x x' : Members) (h : HubState) (id : UniqueSystemId) (asked : Option (the_refusal.Refusal C)) (s : HubSettings)
-    (result : Result ℕ (the_refusal.Refusal C)) → IsJoined x id asked s.nodes result x' → s ≡ h.control.tables.settings → is_wanting result ≡ true
-    → (x' ≡ x) × IsJoin (state_of x h) id asked (Err WantOfMemory) (state_of x h)
-join_lacks x x' h id asked s result joins limit wants =
-    let done : IsJoin (state_of x h) id asked (Err WantOfMemory) (state_of x' h) =
-    subst (λ r. IsJoin (state_of x h) id asked r (state_of x' h)) (wanting_is result wants) (joined_so x x' h id asked s result joins limit) in
-    let same : x' ≡ x = join_keeps x x' h id asked WantOfMemory done in
-    (same, subst (λ m. IsJoin (state_of x h) id asked (Err WantOfMemory) (state_of m h)) same done)
+-- what stays where memory was wanted
+pub wanting_stays : {X C : Type 0} (P : Type 0) (r : Result X (the_refusal.Refusal C)) → is_wanting r ≡ true → OnErr r P → P
+wanting_stays P r wants stays = subst (λ q. OnErr q P) (wanting_is r wants) stays
 
 -- ---- ports and handles
 
@@ -126,7 +130,7 @@ pub port_lacks :
 port_lacks q p w x h h' own node command given asks is with lacks takes stays =
     lacks_owned q p w x h h' own command (subst (λ n. node_in x n ≡ Some (new_node n own)) asks is)
     (subst (λ g. LacksMemoryFor q p w h g h') with lacks) (subst (λ g. (is_making g || is_read g) ≡ true) with takes)
-    (ap service_of (stays_so x h h' stays))
+    (stays_shown x h h' stays)
 
 -- ---- the refusal for want of memory
 

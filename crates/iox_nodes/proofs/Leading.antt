@@ -9,17 +9,18 @@ use Rattle.iox_model.specs.declared.reply.Reply.TheVariants as replies
 use Rattle.iox_model.specs.Commands.{Cause, Command, MissingKey, Reply}
 use Rattle.iox_model.specs.Maps.{is_empty}
 use Rattle.iox_model.specs.Services.{IsCommand, Releases, numbers_of_node}
-use Rattle.iox_model.specs.Settings.{Shape}
+use Rattle.iox_model.specs.Settings.{Limits, Shape}
 use Rattle.iox_model.specs.States.{Members}
 use Rattle.iox_tables.specs.HubStates.States.{Given}
-use Rattle.iox_tables.specs.HubStates.Tables.{HubSettings}
 use Rattle.iox_port_commands.specs.Hubs.{HubState, state_of_hub}
 use Rattle.iox_openers.specs.Causes.{with_cause}
+use Rattle.iox_members.specs.Nodes.{RegisteredMembers, room_in}
+use Rattle.iox_members.specs.Registering.{IsSameRegister}
 use Rattle.iox_members.specs.Steps.{IsAfterLeaving, IsDeclaredDead, IsJoined, IsLeaving, IsRefusedUnlessDead, answer_in}
 use Rattle.iox_port_commands.specs.Applying.{HaveDefaults}
 use Rattle.iox_nodes.specs.Served.{IsDone, IsJoin}
-use Rattle.iox_nodes.specs.Shown.{IsService, given_for, state_of}
-use Rattle.iox_nodes.proofs.Reaching.{served_after}
+use Rattle.iox_nodes.specs.Shown.{IsService, IsServiceWithRoom, given_for, state_of}
+use Rattle.iox_nodes.proofs.Reaching.{limits_stay, served_after}
 
 pub if_ok : {A E : Type 0} {P Q : A → Type 0} (r : Result A E) → ((x : A) → P x → Q x) → IfOk r P → IfOk r Q
 if_ok (Ok x) f p = f x p
@@ -36,22 +37,34 @@ kept_service x x' h h' c reply service done defaults = record {
   defaults = defaults;
 }
 
-pub done_service : {C X : Type 0} (x x' : Members) (h h' : HubState) (c : Command) (result : Result X (the_refusal.Refusal C)) → IsService x h
-    → IsDone (state_of x h) c result (state_of x' h') → HaveDefaults h' → IsService x' h'
-done_service x x' h h' c result service done defaults =
-    kept_service x x' h h' c (answer_in any_cause (λ u. replies.Done) result) service (done any_cause) defaults
+-- as many nodes may be registered as before, and as the service may have
+pub kept_with_room : (x x' : RegisteredMembers) (h h' : HubState) (c : Command) (reply : Reply) → IsServiceWithRoom x h
+    → IsCommand (state_of x.members h) c reply (state_of x'.members h') → IsSameRegister x.registry x'.registry → HaveDefaults h'
+    → IsServiceWithRoom x' h'
+kept_with_room x x' h h' c reply kept done same defaults = record {
+  service = kept_service x.members x'.members h h' c reply kept.service done defaults;
+  room = same.1 ∙ kept.room ∙ sym (ap (λ (l : Limits). l.nodes) (limits_stay (state_of x.members h) c reply (state_of x'.members h') done));
+}
+
+pub done_service : {C X : Type 0} (x x' : RegisteredMembers) (h h' : HubState) (c : Command) (result : Result X (the_refusal.Refusal C))
+    → IsServiceWithRoom x h → IsDone (state_of x.members h) c result (state_of x'.members h') → IsSameRegister x.registry x'.registry
+    → HaveDefaults h' → IsServiceWithRoom x' h'
+done_service x x' h h' c result kept done same defaults =
+    kept_with_room x x' h h' c (answer_in any_cause (λ u. replies.Done) result) kept (done any_cause) same defaults
 
 -- ---- joins and deaths
 
-pub joined_so : {C : Type 0} (x x' : Members) (h : HubState) (id : UniqueSystemId) (asked : Option (the_refusal.Refusal C)) (s : HubSettings)
-    (result : Result ℕ (the_refusal.Refusal C)) → IsJoined x id asked s.nodes result x' → s ≡ h.control.tables.settings
-    → IsJoin (state_of x h) id asked result (state_of x' h)
-joined_so x x' h id asked s result done limit cause = done cause (state_of x h) (sym (ap (λ (t : HubSettings). t.nodes) limit))
+pub joined_so : {C : Type 0} (x x' : RegisteredMembers) (h : HubState) (id : UniqueSystemId) (asked : Option (the_refusal.Refusal C))
+    (result : Result ℕ (the_refusal.Refusal C)) → IsJoined x.members id asked (room_in x) result x'.members
+    → room_in x ≡ h.control.tables.settings.nodes → IsJoin (state_of x.members h) id asked result (state_of x'.members h)
+joined_so x x' h id asked result done room cause = done cause (state_of x.members h) (sym room)
 
-pub joined_service : {C : Type 0} (x x' : Members) (h : HubState) (id : UniqueSystemId) (asked : Option (the_refusal.Refusal C))
-    (result : Result ℕ (the_refusal.Refusal C)) → IsService x h → IsJoin (state_of x h) id asked result (state_of x' h) → IsService x' h
-joined_service x x' h id asked result service done =
-    kept_service x x' h h (Join id (option_map (with_cause any_cause) asked)) (answer_in any_cause replies.Node result) service (done any_cause) service.defaults
+pub joined_service : {C : Type 0} (x x' : RegisteredMembers) (h : HubState) (id : UniqueSystemId) (asked : Option (the_refusal.Refusal C))
+    (result : Result ℕ (the_refusal.Refusal C)) → IsServiceWithRoom x h → IsJoined x.members id asked (room_in x) result x'.members
+    → IsSameRegister x.registry x'.registry → IsServiceWithRoom x' h
+joined_service x x' h id asked result kept joins same =
+    kept_with_room x x' h h (Join id (option_map (with_cause any_cause) asked)) (answer_in any_cause replies.Node result) kept
+    (joined_so x x' h id asked result joins kept.room any_cause) same kept.service.defaults
 
 pub death_so : {C : Type 0} (x x' : Members) (h : HubState) (node : ℕ) (result : Result ⊤ (the_refusal.Refusal C)) → IsDeclaredDead x node result x'
     → IsDone (state_of x h) (DeclareDead node) result (state_of x' h)

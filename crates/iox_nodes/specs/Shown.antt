@@ -1,9 +1,12 @@
 -- The state of a service: its nodes, and what its hub shows.
-use Rattle.std.specs.Prelude.{List, [], Option, None}
+use Rattle.std.specs.Prelude.{◌≡◌, List, [], Option, None}
+use Rattle.iox_types.specs.declared.identifiers.system_id.UniqueSystemId.{UniqueSystemId}
 use Rattle.iox_model.specs.Defaults.{follow, words}
 use Rattle.iox_model.specs.Runs.{IsServed}
 use Rattle.iox_model.specs.Settings.{Limits, Shape}
 use Rattle.iox_model.specs.States.{Members, State}
+use Rattle.iox_members.specs.Nodes.{RegisteredMembers, room_in}
+use Rattle.iox_members.specs.Registers.{Registrations}
 use Rattle.iox_tables.specs.HubStates.States.{Given}
 use Rattle.iox_tables.specs.HubStates.Tables.{HubSettings, HubTables}
 use Rattle.iox_port_commands.specs.Hubs.{HubState, state_of_hub}
@@ -27,19 +30,21 @@ given_for x = record {
 abbrev pub state_of : Members → HubState → State
 state_of x h = state_of_hub (given_for x) h
 
--- What a service keeps: its nodes, the tables of its hub, what messages carry, and what they are
--- made of.
+-- What a service keeps: its nodes, what is registered of them, the tables of its hub, what messages
+-- carry, and what they are made of.
 pub record ServiceTables : Type 0 where
   pub members : Members
+  pub registry : Registrations UniqueSystemId
   pub tables : HubTables
   pub words : List (Option Carried)
   pub request : Shape
   pub response : Shape
 
 -- what a service with these nodes and that hub keeps
-abbrev pub tables_of : Members → HubState → ServiceTables
+abbrev pub tables_of : RegisteredMembers → HubState → ServiceTables
 tables_of x h = record {
-  members = x;
+  members = x.members;
+  registry = x.registry;
   tables = h.control.tables;
   words = h.words;
   request = h.request;
@@ -86,3 +91,8 @@ limits_for s request response = record {
 pub record IsService (x : Members) (h : HubState) : Type 0 where
   pub served : IsServed (state_of x h)
   pub defaults : HaveDefaults h
+
+-- What is so of each service beside: as many nodes may be registered as it may have.
+pub record IsServiceWithRoom (x : RegisteredMembers) (h : HubState) : Type 0 where
+  pub service : IsService x.members h
+  pub room : room_in x ≡ h.control.tables.settings.nodes

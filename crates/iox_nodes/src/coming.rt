@@ -55,8 +55,7 @@ impl<Q: Payload, QH: Words, P: Payload, PH: Words> Service<Q, QH, P, PH> {
             (IsJoin (service_of self.old) id asked (Err WantOfMemory) (service_of self.old)) }
         ensures unchanged { OnErr result (self.new ≡ self.old) }
     {
-        let most = self.hub.settings().nodes;
-        let answer = self.members.join(id, asked, most);
+        let answer = self.members.join(id, asked);
         if is_wanting(&answer) {
             return Err(AllocError);
         }

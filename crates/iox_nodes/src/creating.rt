@@ -30,7 +30,7 @@ fn is_too_large(settings: &Settings) -> bool
 }
 
 impl<Q: Payload, QH: Words, P: Payload, PH: Words> Service<Q, QH, P, PH> {
-    /// A service with its first node, which has number 0 and that id. `asked` is the first of the
+    /// The service of that number, with its first node, which has number 0 and that id. `asked` is the first of the
     /// creator's tests by types that fails, if one does. A limit of 0 is raised to 1, and no port
     /// keeps messages of ports that are gone.
     ///
@@ -38,6 +38,7 @@ impl<Q: Payload, QH: Words, P: Payload, PH: Words> Service<Q, QH, P, PH> {
     /// `WantOfMemory`, in this order.
     pub fn new<C: Copy>(
         alloc: Global,
+        service: u64,
         settings: Settings,
         id: UniqueSystemId,
         asked: Option<Refusal<C>>,
@@ -61,7 +62,7 @@ impl<Q: Payload, QH: Words, P: Payload, PH: Words> Service<Q, QH, P, PH> {
         if is_too_large(&settings) {
             return Err(Refusal::LimitTooLarge);
         }
-        match Self::first(alloc, settings, own, request, response) {
+        match Self::first(alloc, service, settings, own, request, response) {
             Ok(service) => Ok(service),
             Err(_) => Err(Refusal::WantOfMemory),
         }
@@ -70,6 +71,7 @@ impl<Q: Payload, QH: Words, P: Payload, PH: Words> Service<Q, QH, P, PH> {
     /// The same, where nothing is against it.
     fn first(
         alloc: Global,
+        service: u64,
         settings: Settings,
         id: UniqueNodeId,
         request: MessageShape<Q::Element, QH>,
@@ -89,7 +91,9 @@ impl<Q: Payload, QH: Words, P: Payload, PH: Words> Service<Q, QH, P, PH> {
     {
         let hub = Hub::new(alloc, settings, request, response)?;
         hub.is_in_order();
-        let members = Members::new(alloc, id)?;
-        Ok(Service { members, hub })
+        match Members::new(alloc, service, id, settings.nodes as usize) {
+            Ok(members) => Ok(Service { members, hub }),
+            Err(_) => Err(AllocError),
+        }
     }
 }

@@ -12,5 +12,6 @@ mod service;
 mod serving;
 pub mod uses;
 
+pub use iox_members::Nodes;
 pub use iox_port_commands::{Elements, MessageShape, Part, Settings};
 pub use service::Service;

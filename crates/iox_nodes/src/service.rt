@@ -1,9 +1,10 @@
 //! A service: its nodes, and the hub of its ports.
 ghost use Rattle.std.specs.Prelude.{◌≡◌};
 ghost use Rattle.iox_model.specs.Runs.{IsServed};
+ghost use Rattle.iox_members.specs.Registering.{AreRegistered};
 ghost use Rattle.iox_nodes.specs.Shown.{service_of};
 
-use iox_members::Members;
+use iox_members::{Members, Nodes};
 use iox_port_commands::Hub;
 use iox_store::Payload;
 use iox_words::Words;
@@ -21,13 +22,13 @@ pub struct Service<Q: Payload, QH: Words, P: Payload, PH: Words> {
 }
 
 impl<Q: Payload, QH: Words, P: Payload, PH: Words> Model for Service<Q, QH, P, PH> {
-    ghost use Rattle.iox_nodes.specs.Shown.{IsService, ServiceTables, tables_of};
+    ghost use Rattle.iox_nodes.specs.Shown.{IsServiceWithRoom, ServiceTables, tables_of};
 
     ghost Value = { ServiceTables };
 
     ghost view = { λ s. tables_of s.members s.hub };
 
-    ghost invariant = { λ s. IsService s.members s.hub };
+    ghost invariant = { λ s. IsServiceWithRoom s.members s.hub };
 }
 
 impl<Q: Payload, QH: Words, P: Payload, PH: Words> Service<Q, QH, P, PH> {
@@ -46,5 +47,15 @@ impl<Q: Payload, QH: Words, P: Payload, PH: Words> Service<Q, QH, P, PH> {
         ensures { result ≡ self.now.members.closed }
     {
         self.members.is_closed()
+    }
+
+    /// What is registered: the id of each node, those of dead ones too. It tells how many there
+    /// are, and lists them.
+    #[inline]
+    pub fn dynamic_config(&self) -> &Nodes
+        ensures registry { result.now ≡ self.now.registry }
+        ensures registered { AreRegistered (service_of self.now).members self.now.registry }
+    {
+        self.members.dynamic_config()
     }
 }

@@ -1,12 +1,12 @@
-mod IdLemmas
+pub mod IdLemmas
 mod KeptLemmas
 mod CountLemmas
 mod StandingLemmas
 mod RecoveryLemmas
 mod HandleLemmas
-mod RegisterLemmas
+pub mod RegisterLemmas
 mod AddLemmas
 mod ReleaseLemmas
 mod NodeLemmas
-mod LawLemmas
-mod NumberLemmas
+pub mod LawLemmas
+pub mod NumberLemmas

@@ -6,3 +6,5 @@ pub mod RegisteredPorts
 pub mod DynamicConfigs
 -- for proofs of this crate alone
 pub mod Standing
+-- how refusals are told, for the crates above
+pub use Rattle.iox_sets.specs.Refusals

@@ -13,6 +13,9 @@ use iox_types::identifiers::UniqueSystemId;
 use std::alloc::{AllocError, Global};
 use std::marker::Model;
 
+/// The number of the service: a session has one alone.
+const NUMBER: u64 = 0;
+
 /// A service of words, with the limits of scripts.
 #[derive(Drop)]
 pub(crate) struct Service {
@@ -43,7 +46,7 @@ impl Service {
         let settings = settings(request_overflow, response_overflow);
         let request = words(REQUEST_HEADER);
         let response = words(RESPONSE_HEADER);
-        match Words::new(alloc, settings, id, None, request, response) {
+        match Words::new(alloc, NUMBER, settings, id, None, request, response) {
             Ok(nodes) => Ok(Service { nodes }),
             Err(refusal) => Err(refusal),
         }

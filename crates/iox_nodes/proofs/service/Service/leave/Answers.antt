@@ -5,12 +5,12 @@ use Rattle.iox_nodes.proofs.service.Service.leave.Goals as goal
 pub invariant_of-self : goal.invariant_of-self
 invariant_of-self g c =
     done_service c.self.inside.members c.leave.new.self c.self.inside.hub c.self.inside.hub (Leave c.args.node) c.leave.result c.self.invariant
-    (leave_so c.self.inside.members c.leave.new.self c.self.inside.hub c.args.node c.has_values-has_values.result c.leave.result c.leave.ensures
+    (leave_so c.self.inside.members.members c.leave.new.self.members c.self.inside.hub c.args.node c.has_values-has_values.result c.leave.result c.leave.ensures.left
     c.has_values-has_values.ensures)
-    c.self.invariant.defaults
+    c.leave.ensures.register c.self.invariant.service.defaults
 
 pub returns : goal.returns
 returns g c =
     rw (← c.self.view_is)
-    (leave_so c.self.inside.members c.leave.new.self c.self.inside.hub c.args.node c.has_values-has_values.result c.leave.result c.leave.ensures
+    (leave_so c.self.inside.members.members c.leave.new.self.members c.self.inside.hub c.args.node c.has_values-has_values.result c.leave.result c.leave.ensures.left
     c.has_values-has_values.ensures)

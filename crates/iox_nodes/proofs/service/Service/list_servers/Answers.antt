@@ -5,4 +5,4 @@ use Rattle.iox_nodes.proofs.service.Service.list_servers.Goals as goal
 pub returns : goal.returns
 returns g c =
     rw (← c.self.view_is)
-    (if_ok c.list_ports.result (λ numbers are. are (given_for c.self.inside.members)) c.list_ports.ensures)
+    (if_ok c.list_ports.result (λ numbers are. are (given_for c.self.inside.members.members)) c.list_ports.ensures)

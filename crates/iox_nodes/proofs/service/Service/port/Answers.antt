@@ -7,7 +7,7 @@ pub invariant_of-self : goal.invariant_of-self
 invariant_of-self g c =
     port_service g.Q.Element.Words.words g.P.Element.Words.words g.H.Words.words c.self.inside.members c.self.inside.hub c.apply.new.hub
     c.args.command c.reply_of.result c.self.invariant
-    (port_so g.Q.Element.Words.words g.P.Element.Words.words g.H.Words.words c.self.inside.members c.self.inside.hub c.apply.new.hub c.in-Ok.id
+    (port_so g.Q.Element.Words.words g.P.Element.Words.words g.H.Words.words c.self.inside.members.members c.self.inside.hub c.apply.new.hub c.in-Ok.id
     c.asker.result c.args.command c.put_id.new.command c.apply.result c.reply_of.result c.asker.ensures c.in-Ok.ensures.lives c.put_id.ensures
     c.apply.ensures.whole c.reply_of.ensures)
     c.apply.ensures.defaults
@@ -15,12 +15,12 @@ invariant_of-self g c =
 pub returns-in-Err : goal.returns-in-Err
 returns-in-Err g c =
     rw (← c.self.view_is)
-    (may_not Global UniqueSystemId g.Q.Element.Words.words g.P.Element.Words.words g.H.Words.words c.self.inside.members c.self.inside.hub
+    (may_not Global UniqueSystemId g.Q.Element.Words.words g.P.Element.Words.words g.H.Words.words c.self.inside.members.members c.self.inside.hub
     c.asker.result c.args.command c.in-Err.refusal c.asker.ensures c.in-Err.ensures.refused)
 
 pub returns-in-Ok : goal.returns-in-Ok
 returns-in-Ok g c =
     rw (← c.self.view_is)
-    (port_so g.Q.Element.Words.words g.P.Element.Words.words g.H.Words.words c.self.inside.members c.self.inside.hub c.apply.new.hub c.in-Ok.id
+    (port_so g.Q.Element.Words.words g.P.Element.Words.words g.H.Words.words c.self.inside.members.members c.self.inside.hub c.apply.new.hub c.in-Ok.id
     c.asker.result c.args.command c.put_id.new.command c.apply.result c.reply_of.result c.asker.ensures c.in-Ok.ensures.lives c.put_id.ensures
     c.apply.ensures.whole c.reply_of.ensures)

@@ -24,13 +24,13 @@ invariant_of-self-in-Ok g c =
 pub returns-in-Err-clause-answered : goal.returns-in-Err-clause-answered
 returns-in-Err-clause-answered g c =
     rw (← c.self.view_is)
-    (may_not_with_memory Global UniqueSystemId g.Q.Element.Words.words g.P.Element.Words.words g.H.Words.words c.self.inside.members c.self.inside.hub
+    (may_not_with_memory Global UniqueSystemId g.Q.Element.Words.words g.P.Element.Words.words g.H.Words.words c.self.inside.members.members c.self.inside.hub
     c.asker.result c.args.command c.in-Err.refusal c.asker.ensures c.in-Err.ensures.refused)
 
 pub returns-in_ok-try_apply-in-Ok-clause-answered : goal.returns-in_ok-try_apply-in-Ok-clause-answered
 returns-in_ok-try_apply-in-Ok-clause-answered g c =
     rw (← c.self.view_is)
-    (port_with_memory g.Q.Element.Words.words g.P.Element.Words.words g.H.Words.words c.self.inside.members c.self.inside.hub c.try_apply.new.hub
+    (port_with_memory g.Q.Element.Words.words g.P.Element.Words.words g.H.Words.words c.self.inside.members.members c.self.inside.hub c.try_apply.new.hub
     c.in-Ok.id c.asker.result c.args.command c.put_id.new.command c.in_ok-try_apply-in-Ok.field-0 c.reply_of.result c.asker.ensures c.in-Ok.ensures.lives
     c.put_id.ensures c.in_ok-try_apply-in-Ok.ensures.whole c.in_ok-try_apply-in-Ok.ensures.memory c.reply_of.ensures)
 
@@ -40,6 +40,6 @@ returns-in_err-try_apply-in-Ok-clause-wanting g c =
     (subst
     (λ v. MayFindNoMemory {C = g.row.C.Denot} g.Q.Element.Words.words g.P.Element.Words.words g.H.Words.words (service_of v) (Port c.args.command))
     c.self.view_is
-    (port_lacks g.Q.Element.Words.words g.P.Element.Words.words g.H.Words.words c.self.inside.members c.self.inside.hub c.try_apply.new.hub
+    (port_lacks g.Q.Element.Words.words g.P.Element.Words.words g.H.Words.words c.self.inside.members.members c.self.inside.hub c.try_apply.new.hub
     c.in-Ok.id c.asker.result c.args.command c.put_id.new.command c.asker.ensures c.in-Ok.ensures.lives c.put_id.ensures
     c.in_err-try_apply-in-Ok.ensures.wanting c.in_err-try_apply-in-Ok.ensures.takes c.in_err-try_apply-in-Ok.ensures.unchanged))
