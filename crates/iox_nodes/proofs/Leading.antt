@@ -1,16 +1,18 @@
 -- What the calls of nodes lead to, and that it is a service again.
-use Rattle.std.specs.Prelude.{◌≡◌, ℕ, ⊤, [], Bool, true, false, not, Option, Result, Ok, Err, IfOk, IsSome, refl}
+use Rattle.std.specs.Prelude.{◌≡◌, ℕ, ⊤, [], Bool, true, false, not, Option, Some, None, Result, Ok, Err, IfOk, OnErr, IsSome, refl}
 use Rattle.std.specs.Option.{option_map}
 use Rattle.std.proofs.Common.{ap, subst, sym, ◌∙◌}
 use Rattle.iox_types.specs.declared.identifiers.system_id.UniqueSystemId.{UniqueSystemId}
 use Rattle.iox_model.specs.declared.command.Command.TheVariants.{Cleanup, DeclareDead, Join, Leave}
 use Rattle.iox_model.specs.declared.reply.Refusal as the_refusal
 use Rattle.iox_model.specs.declared.reply.Reply.TheVariants as replies
-use Rattle.iox_model.specs.Commands.{Cause, Command, MissingKey, Reply}
+use Rattle.iox_model.specs.Commands.{Cause, Command, MissingKey, Refusal, Reply}
 use Rattle.iox_model.specs.Maps.{is_empty}
-use Rattle.iox_model.specs.Services.{IsCommand, Releases, numbers_of_node}
+use Rattle.iox_model.specs.Joins.{not_living}
+use Rattle.iox_model.specs.Services.{IsCommand, Releases, leaving_refusal, numbers_of_node, with_death, without_node}
 use Rattle.iox_model.specs.Settings.{Shape}
-use Rattle.iox_model.specs.States.{Members}
+use Rattle.iox_model.specs.States.{Members, State}
+use Rattle.iox_model.specs.WholeCalls.{UnlessRefused}
 use Rattle.iox_tables.specs.HubStates.States.{Given}
 use Rattle.iox_tables.specs.HubStates.Tables.{HubSettings}
 use Rattle.iox_port_commands.specs.Hubs.{HubState, state_of_hub}
@@ -57,7 +59,31 @@ pub death_so : {C : Type 0} (x x' : Members) (h : HubState) (node : ℕ) (result
     → IsDone (state_of x h) (DeclareDead node) result (state_of x' h)
 death_so x x' h node result done cause = done cause (state_of x h)
 
+-- what is refused, where it tells nothing else, changes nothing
+refused_keeps : (q : Option Refusal) (s s' : State) (k : Refusal) (X : Type 0)
+    → UnlessRefused q s (replies.Refused k) s' ((◌≡◌ {A = Reply} (replies.Refused k) replies.Done) × X) → s' ≡ s
+refused_keeps (Some r) s s' k X u = u.1
+refused_keeps None s s' k X u = let e : ◌≡◌ {A = Reply} (replies.Refused k) replies.Done = u.0 in absurd (cc)
+
+-- where a death is refused, no node changes
+pub death_stays : {C : Type 0} (x x' : Members) (h : HubState) (node : ℕ) (result : Result ⊤ (the_refusal.Refusal C))
+    → IsDone (state_of x h) (DeclareDead node) result (state_of x' h) → OnErr result (x' ≡ x)
+death_stays x x' h node (Ok u) done = tt
+death_stays x x' h node (Err r) done =
+    ap (λ (t : State). t.members)
+    (refused_keeps (not_living (state_of x h) node) (state_of x h) (state_of x' h) (with_cause any_cause r)
+    (state_of x' h ≡ with_death (state_of x h) node) (done any_cause))
+
 -- ---- leaves and cleanups
+
+-- where a leave is refused, no node changes
+pub leave_stays : {C : Type 0} (x x' : Members) (h : HubState) (node : ℕ) (result : Result ⊤ (the_refusal.Refusal C))
+    → IsDone (state_of x h) (Leave node) result (state_of x' h) → OnErr result (x' ≡ x)
+leave_stays x x' h node (Ok u) done = tt
+leave_stays x x' h node (Err r) done =
+    ap (λ (t : State). t.members)
+    (refused_keeps (leaving_refusal (state_of x h) node) (state_of x h) (state_of x' h) (with_cause any_cause r)
+    (state_of x' h ≡ without_node (state_of x h) node) (done any_cause))
 
 not_twice : (b : Bool) → b ≡ not (not b)
 not_twice true = refl

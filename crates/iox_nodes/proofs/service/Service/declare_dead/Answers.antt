@@ -1,5 +1,8 @@
 use Rattle.iox_model.specs.declared.command.Command.TheVariants.{DeclareDead}
-use Rattle.iox_nodes.proofs.Leading.{death_so, done_service}
+use Rattle.std.proofs.Common.{ap}
+use Rattle.iox_nodes.specs.Shown.{tables_of}
+use Rattle.iox_nodes.proofs.Lacking.{if_err}
+use Rattle.iox_nodes.proofs.Leading.{death_so, death_stays, done_service}
 use Rattle.iox_nodes.proofs.service.Service.declare_dead.Goals as goal
 
 pub invariant_of-self : goal.invariant_of-self
@@ -9,7 +12,14 @@ invariant_of-self g c =
     (death_so c.self.inside.members c.declare_dead.new.self c.self.inside.hub c.args.node c.declare_dead.result c.declare_dead.ensures)
     c.self.invariant.defaults
 
-pub returns : goal.returns
-returns g c =
+pub returns-clause-done : goal.returns-clause-done
+returns-clause-done g c =
     rw (← c.self.view_is)
     (death_so c.self.inside.members c.declare_dead.new.self c.self.inside.hub c.args.node c.declare_dead.result c.declare_dead.ensures)
+
+pub returns-clause-unchanged : goal.returns-clause-unchanged
+returns-clause-unchanged g c =
+    rw (← c.self.view_is)
+    (if_err c.declare_dead.result (ap (λ m. tables_of m c.self.inside.hub))
+    (death_stays c.self.inside.members c.declare_dead.new.self c.self.inside.hub c.args.node c.declare_dead.result
+    (death_so c.self.inside.members c.declare_dead.new.self c.self.inside.hub c.args.node c.declare_dead.result c.declare_dead.ensures)))

@@ -1,5 +1,8 @@
 use Rattle.iox_model.specs.declared.command.Command.TheVariants.{Leave}
-use Rattle.iox_nodes.proofs.Leading.{done_service, leave_so}
+use Rattle.std.proofs.Common.{ap}
+use Rattle.iox_nodes.specs.Shown.{tables_of}
+use Rattle.iox_nodes.proofs.Lacking.{if_err}
+use Rattle.iox_nodes.proofs.Leading.{done_service, leave_so, leave_stays}
 use Rattle.iox_nodes.proofs.service.Service.leave.Goals as goal
 
 pub invariant_of-self : goal.invariant_of-self
@@ -9,8 +12,16 @@ invariant_of-self g c =
     c.has_values-has_values.ensures)
     c.self.invariant.defaults
 
-pub returns : goal.returns
-returns g c =
+pub returns-clause-done : goal.returns-clause-done
+returns-clause-done g c =
     rw (← c.self.view_is)
     (leave_so c.self.inside.members c.leave.new.self c.self.inside.hub c.args.node c.has_values-has_values.result c.leave.result c.leave.ensures
     c.has_values-has_values.ensures)
+
+pub returns-clause-unchanged : goal.returns-clause-unchanged
+returns-clause-unchanged g c =
+    rw (← c.self.view_is)
+    (if_err c.leave.result (ap (λ m. tables_of m c.self.inside.hub))
+    (leave_stays c.self.inside.members c.leave.new.self c.self.inside.hub c.args.node c.leave.result
+    (leave_so c.self.inside.members c.leave.new.self c.self.inside.hub c.args.node c.has_values-has_values.result c.leave.result c.leave.ensures
+    c.has_values-has_values.ensures)))
