@@ -1,5 +1,5 @@
 -- How far commands were answered, one after another, where those who open the service are compared.
-use Rattle.std.specs.Prelude.{◌≡◌, ℕ, ◌+◌, ◌<◌, List, [], ◌∷◌, ◌++◌, length, map, take, refl}
+use Rattle.std.specs.Prelude.{◌≡◌, ℕ, ◌+◌, ◌-◌, ◌<◌, true, List, [], ◌∷◌, ◌++◌, length, map, take, refl}
 use Rattle.std.proofs.Common.{ap, subst, sym, ◌∙◌, arith}
 use Rattle.std.proofs.lemmas.List.{length-append, map-append}
 use Rattle.std.proofs.Math.Seq.{take-append_seam}
@@ -8,9 +8,12 @@ use Rattle.iox_model.specs.Runs.{IsRun}
 use Rattle.iox_model.specs.States.{State}
 use Rattle.iox_openers.specs.Causes.{cause_of}
 use Rattle.iox_openers.specs.declared.service_description.ServiceDescription.{ServiceDescription}
-use Rattle.iox_service_laws.specs.Given.{reply_given}
+use Rattle.iox_service_laws.specs.Given.{is_listing, reply_given}
+use Rattle.iox_service_laws.specs.Memory.{WantsRightly}
+use Rattle.iox_service_laws.specs.Served.{Correspond, IsListingAt}
 use Rattle.iox_service_laws.proofs.Reaching.{run_more}
-use Rattle.iceoryx2_wire.specs.Serving.{Correspond, IsAnswered, IsGivenAs, IsRunOf, OpenCommand, OpenReply}
+use Rattle.iox_service_laws.proofs.Running.{correspond_more, lists_next}
+use Rattle.iceoryx2_wire.specs.Serving.{IsAnswered, IsGivenAs, IsRunOf, OpenCommand, OpenReply}
 
 append_nothing : {A : Type 0} (xs : List A) → xs ++ [] ≡ xs
 append_nothing [] = refl
@@ -19,13 +22,6 @@ append_nothing (x ∷ xs) = ap (λ ys. x ∷ ys) (append_nothing xs)
 append_twice : {A : Type 0} (xs ys zs : List A) → (xs ++ ys) ++ zs ≡ xs ++ (ys ++ zs)
 append_twice [] ys zs = refl
 append_twice (x ∷ xs) ys zs = ap (λ l. x ∷ l) (append_twice xs ys zs)
-
-correspond_more : {A B : Type 0} (is : A → B → Type 0) (xs : List A) (ys : List B) (x : A) (y : B)
-    → Correspond is xs ys → is x y → Correspond is (xs ++ x ∷ []) (ys ++ y ∷ [])
-correspond_more is [] [] x y so more = (more, tt)
-correspond_more is (a ∷ xs) (b ∷ ys) x y so more = (so.0, correspond_more is xs ys x y so.1 more)
-correspond_more is [] (b ∷ ys) x y so more = absurd so
-correspond_more is (a ∷ xs) [] x y so more = absurd so
 
 module _ {Q P H Z : Type 0} (q : Q → List ℕ) (p : P → List ℕ) (w : H → List ℕ) (d : ServiceDescription) (s : State)
     (commands : List (OpenCommand Q P H)) (old : List (OpenReply Z)) where
@@ -39,6 +35,7 @@ module _ {Q P H Z : Type 0} (q : Q → List ℕ) (p : P → List ℕ) (w : H →
     pub played : List Command
     pub given : Correspond (IsGivenAs q p w d) done played
     pub run : IsRun s played (map (reply_given cause_of) more) s'
+    pub want : Correspond WantsRightly done more
 
   pub run_starts : HasRun commands old s
   run_starts = record {
@@ -50,11 +47,13 @@ module _ {Q P H Z : Type 0} (q : Q → List ℕ) (p : P → List ℕ) (w : H →
     played = [];
     given = tt;
     run = refl;
+    want = tt;
   }
 
   pub run_goes_on : (command : OpenCommand Q P H) (rest : List (OpenCommand Q P H)) (new : List (OpenReply Z)) (s' s'' : State)
-      (reply : OpenReply Z) → HasRun (command ∷ rest) new s' → IsAnswered q p w d s' command reply s'' → HasRun rest (new ++ reply ∷ []) s''
-  run_goes_on command rest new s' s'' reply so answered = record {
+      (reply : OpenReply Z) → HasRun (command ∷ rest) new s' → IsAnswered q p w d s' command reply s'' → WantsRightly command reply
+      → HasRun rest (new ++ reply ∷ []) s''
+  run_goes_on command rest new s' s'' reply so answered wants = record {
     more = so.more ++ reply ∷ [];
     told = ap (λ xs. xs ++ reply ∷ []) so.told ∙ append_twice old so.more (reply ∷ []);
     done = so.done ++ command ∷ [];
@@ -64,6 +63,7 @@ module _ {Q P H Z : Type 0} (q : Q → List ℕ) (p : P → List ℕ) (w : H →
     given = correspond_more (IsGivenAs q p w d) so.done so.played command answered.0 so.given answered.1;
     run = subst (λ (rs : List Reply). IsRun s (so.played ++ answered.0 ∷ []) rs s'') (sym (map-append (reply_given cause_of) so.more (reply ∷ [])))
         (run_more s s' s'' so.played (map (reply_given cause_of) so.more) answered.0 (reply_given cause_of reply) so.run answered.2);
+    want = correspond_more WantsRightly so.done so.more command reply so.want wants;
   }
 
   pub run_ends : (rest : List (OpenCommand Q P H)) (new : List (OpenReply Z)) (s' : State)
@@ -74,6 +74,7 @@ module _ {Q P H Z : Type 0} (q : Q → List ℕ) (p : P → List ℕ) (w : H →
     played = so.played;
     given = subst (λ cs. Correspond (IsGivenAs q p w d) cs so.played) (sym taken) so.given;
     run = so.run;
+    want = subst (λ cs. Correspond WantsRightly cs so.more) (sym taken) so.want;
   }
     where
       taken : take (length so.more) commands ≡ so.done
@@ -92,3 +93,12 @@ module _ {Q P H Z : Type 0} (q : Q → List ℕ) (p : P → List ℕ) (w : H →
       let split : length so.done + length (command ∷ rest) ≡ length commands =
       sym (length-append so.done (command ∷ rest)) ∙ ap length so.split in
       omega arith
+
+  -- where a run ends before a listing, that is the command behind those that are answered
+  pub run_lists : (command : OpenCommand Q P H) (rest : List (OpenCommand Q P H)) (new : List (OpenReply Z)) (s' : State) (before after : ℕ)
+      → HasRun (command ∷ rest) new s' → before ≡ length old → after ≡ length new → is_listing command ≡ true → IsListingAt commands (after - before)
+  run_lists command rest new s' before after so was is lists =
+      let told : length new ≡ length old + length so.more = ap length so.told ∙ length-append old so.more in
+      let many : length so.done ≡ length so.more = so.many in
+      let place : after - before ≡ length so.done = omega arith in
+      lists_next so.done rest commands command (after - before) so.split place lists

@@ -11,6 +11,7 @@ use Rattle.iox_model.specs.States.{State}
 use Rattle.iox_openers.specs.Causes.{with_cause}
 use Rattle.iox_openers.specs.declared.service_description.ServiceDescription.{ServiceDescription}
 use Rattle.iox_service_laws.specs.Given.{reply_given}
+use Rattle.iox_service_laws.specs.Memory.{WantsRightly}
 use Rattle.iceoryx2_wire.specs.Serving.{IsAnswered, OpenCommand, OpenReply}
 
 -- the same refusal, whatever the causes of attributes are: the first can name none
@@ -33,3 +34,4 @@ abbrev pub IsAnsweredBehind :
     → OpenCommand Q P H → List (OpenReply Z) → List (OpenReply Z) → State → Type 0
 IsAnsweredBehind {Z = Z} q p words d s command old new s' =
     (reply : OpenReply Z) × (new ≡ old ++ reply ∷ []) × IsAnswered q p words d s command reply s'
+    × WantsRightly command reply

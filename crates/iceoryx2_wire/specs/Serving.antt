@@ -1,6 +1,6 @@
 -- Commands of a service that compares who opens it: each is one command of the machine, and a list
 -- of them is a run.
-use Rattle.std.specs.Prelude.{◌≡◌, ℕ, ⊤, List, [], ◌∷◌, ◌++◌, length, map, take, Option}
+use Rattle.std.specs.Prelude.{◌≡◌, ℕ, List, ◌++◌, length, map, take, Option}
 use Rattle.std.specs.Borrow.{Bor}
 use Rattle.std.specs.declared.vec.Vec.{Vec}
 use Rattle.iox_attributes.specs.declared.verification_error.AttributeVerificationError.{AttributeVerificationError}
@@ -17,7 +17,8 @@ use Rattle.iox_openers.specs.declared.service_description.ServiceDescription.{Se
 use Rattle.iox_service_laws.specs.Asking.{command_for}
 use Rattle.iox_service_laws.specs.Elements.{Elements}
 use Rattle.iox_service_laws.specs.Given.{reply_given}
-use Rattle.iox_service_laws.specs.Memory.{IsDoneWithMemory, MayLackMemory}
+use Rattle.iox_service_laws.specs.Memory.{IsDoneWithMemory, MayLackMemory, WantsRightly}
+use Rattle.iox_service_laws.specs.Served.{Correspond}
 
 -- a command with which an opener is lent
 abbrev pub OpenCommand : Type 0 → Type 0 → Type 0 → Type 0
@@ -66,13 +67,6 @@ abbrev pub MayFindNoMemory :
 MayFindNoMemory q p words d s command =
     (c : Command) × IsGivenAs q p words d command c × MayLackMemory s c
 
--- the lists are as long as each other, and what stands in the same place is so related
-abbrev pub Correspond : {A B : Type 0} → (A → B → Type 0) → List A → List B → Type 0
-Correspond is [] [] = ⊤
-Correspond is (x ∷ xs) (y ∷ ys) = is x y × Correspond is xs ys
-Correspond is [] (y ∷ ys) = ⊥
-Correspond is (x ∷ xs) [] = ⊥
-
 -- The first of these commands are answered by the replies that are new, one after another, from a
 -- state to another: a run of the machine. The rest is not begun.
 pub record IsRunOf {Q P H Z : Type 0} (q : Q → List ℕ) (p : P → List ℕ) (words : H → List ℕ)
@@ -86,3 +80,4 @@ pub record IsRunOf {Q P H Z : Type 0} (q : Q → List ℕ) (p : P → List ℕ) 
     pub played : List Command
     pub given : Correspond (IsGivenAs q p words d) (take (length more) commands) played
     pub run : IsRun s played (map (reply_given cause_of) more) s'
+    pub want : Correspond WantsRightly (take (length more) commands) more

@@ -1,5 +1,6 @@
 //! What a service's nodes ask of its ports.
 ghost use Rattle.std.specs.Prelude.{◌≡◌};
+ghost use Rattle.iox_service_laws.specs.Memory.{PortWantsRightly};
 ghost use Rattle.iox_service_laws.specs.Served.{IsPortAnswered};
 ghost use Rattle.iceoryx2_wire.specs.Services.{service_of};
 
@@ -17,7 +18,7 @@ impl<Q: Payload, QH: Words, P: Payload, PH: Words> Service<Q, QH, P, PH> {
     /// A node makes a port, or calls a port or a handle by its number. A port gets the id with
     /// which its node opened the service. It is refused as `UnknownNode` or `NodeIsDead` before all
     /// that the port tests. Where there is no memory for a port or for what is read, that is a
-    /// reply, too.
+    /// reply, too; no other command is told so.
     pub fn port<H: Words>(
         &mut self,
         alloc: Global,
@@ -25,6 +26,7 @@ impl<Q: Payload, QH: Words, P: Payload, PH: Words> Service<Q, QH, P, PH> {
     ) -> Reply<Vec<u64>, AttributeVerificationError>
         ensures answered { IsPortAnswered Q.Element.words P.Element.words H.words
             (service_of self.old) command result (service_of self.new) }
+        ensures want { PortWantsRightly command result }
         ensures says { self.new.description ≡ self.old.description }
         ensures identity { self.new.identity ≡ self.old.identity }
     {

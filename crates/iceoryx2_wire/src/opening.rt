@@ -40,6 +40,7 @@ impl<Q: Payload, QH: Words, P: Payload, PH: Words> Service<Q, QH, P, PH> {
             (service_of self.new) }
         ensures says { self.new.description ≡ self.old.description }
         ensures identity { self.new.identity ≡ self.old.identity }
+        ensures unchanged { OnErr result (self.new ≡ self.old) }
     {
         self.nodes.declare_dead(node)
     }
@@ -50,6 +51,7 @@ impl<Q: Payload, QH: Words, P: Payload, PH: Words> Service<Q, QH, P, PH> {
         ensures done { IsDone (service_of self.old) (Leave node) result (service_of self.new) }
         ensures says { self.new.description ≡ self.old.description }
         ensures identity { self.new.identity ≡ self.old.identity }
+        ensures unchanged { OnErr result (self.new ≡ self.old) }
     {
         self.nodes.leave(node)
     }
@@ -61,6 +63,7 @@ impl<Q: Payload, QH: Words, P: Payload, PH: Words> Service<Q, QH, P, PH> {
         ensures done { IsDone (service_of self.old) (Cleanup node) result (service_of self.new) }
         ensures says { self.new.description ≡ self.old.description }
         ensures identity { self.new.identity ≡ self.old.identity }
+        ensures unchanged { OnErr result (self.new ≡ self.old) }
     {
         self.nodes.cleanup(node)
     }

@@ -1,8 +1,10 @@
 //! Commands one after another, and what they are answered.
-ghost use Rattle.std.specs.Prelude.{◌≡◌, ◌+◌, ◌<◌, List, IfOk, OnErr, OnOk, true};
+ghost use Rattle.std.specs.Prelude.{◌≡◌, ◌+◌, ◌-◌, ◌<◌, ◌≤◌, List, IfOk, OnErr, OnOk, true};
 ghost use Rattle.std.specs.Prelude.{vec_capacity, vec_len, ℕ};
 ghost use Rattle.iox_openers.specs.Causes.{cause_of};
 ghost use Rattle.iox_service_laws.specs.Given.{command_given, is_listing};
+ghost use Rattle.iox_service_laws.specs.Memory.{WantsRightly};
+ghost use Rattle.iox_service_laws.specs.Served.{IsListingAt};
 ghost use Rattle.iceoryx2_wire.specs.Replies.{IsAnsweredBehind};
 ghost use Rattle.iceoryx2_wire.specs.Services.{service_of};
 ghost use Rattle.iceoryx2_wire.specs.Serving.{IsAnswered, IsAnsweredWithMemory, IsGivenAs};
@@ -72,8 +74,8 @@ impl<Q: Payload, QH: Words, P: Payload, PH: Words> Service<Q, QH, P, PH> {
 
     /// Answers a command. A node that opens the service is compared with what the service says of
     /// itself, as by `open`. It fails only for want of memory for a listing, and changes nothing
-    /// then. Want of memory for a join, for a port and for a read is a reply, as the machine has
-    /// it.
+    /// then. Want of memory for a join, for a port and for a read is a reply, as the machine has it;
+    /// no other command is told so.
     pub fn serve<H: Words>(
         &mut self,
         alloc: Global,
@@ -81,6 +83,7 @@ impl<Q: Payload, QH: Words, P: Payload, PH: Words> Service<Q, QH, P, PH> {
     ) -> Result<Reply<Vec<u64>, AttributeVerificationError>, AllocError>
         ensures answered { IfOk result (λ reply. IsAnswered Q.Element.words P.Element.words H.words
             self.old.description (service_of self.old) command.entry reply (service_of self.new)) }
+        ensures want { IfOk result (λ reply. WantsRightly command.entry reply) }
         ensures says { self.new.description ≡ self.old.description }
         ensures identity { self.new.identity ≡ self.old.identity }
         ensures unchanged { OnErr result (self.new ≡ self.old) }
@@ -100,6 +103,7 @@ impl<Q: Payload, QH: Words, P: Payload, PH: Words> Service<Q, QH, P, PH> {
     ) -> Result<Reply<Vec<u64>, AttributeVerificationError>, AllocError>
         ensures answered { IfOk result (λ reply. IsAnswered Q.Element.words P.Element.words H.words
             self.old.description (service_of self.old) command.entry reply (service_of self.new)) }
+        ensures want { IfOk result (λ reply. WantsRightly command.entry reply) }
         ensures says { self.new.description ≡ self.old.description }
         ensures identity { self.new.identity ≡ self.old.identity }
         ensures unchanged { OnErr result (self.new ≡ self.old) }
@@ -122,10 +126,12 @@ impl<Q: Payload, QH: Words, P: Payload, PH: Words> Service<Q, QH, P, PH> {
             H.words self.old.description (service_of self.old) command.entry replies.old.items
             replies.new.items (service_of self.new)) }
         ensures length { OnOk result (vec_len replies.new ≡ vec_len replies.old + 1) }
+        ensures capacity { vec_capacity replies.new ≡ vec_capacity replies.old }
         ensures says { self.new.description ≡ self.old.description }
         ensures identity { self.new.identity ≡ self.old.identity }
         ensures unchanged { OnErr result (self.new ≡ self.old) }
         ensures kept { OnErr result (replies.new ≡ replies.old) }
+        ensures listing { OnErr result (is_listing command.entry ≡ true) }
     {
         match command {
             Command::Port(command) => {
@@ -151,10 +157,12 @@ impl<Q: Payload, QH: Words, P: Payload, PH: Words> Service<Q, QH, P, PH> {
             H.words self.old.description (service_of self.old) command.entry replies.old.items
             replies.new.items (service_of self.new)) }
         ensures length { OnOk result (vec_len replies.new ≡ vec_len replies.old + 1) }
+        ensures capacity { vec_capacity replies.new ≡ vec_capacity replies.old }
         ensures says { self.new.description ≡ self.old.description }
         ensures identity { self.new.identity ≡ self.old.identity }
         ensures unchanged { OnErr result (self.new ≡ self.old) }
         ensures kept { OnErr result (replies.new ≡ replies.old) }
+        ensures listing { OnErr result (is_listing command.entry ≡ true) }
     {
         let reply = self.serve_compared(alloc, command)?;
         replies.push_reserved(reply);
@@ -163,7 +171,8 @@ impl<Q: Payload, QH: Words, P: Payload, PH: Words> Service<Q, QH, P, PH> {
 
     /// Answers commands one after another, and puts each reply behind the others. It ends before
     /// the command whose reply finds no room, and before a listing for which there is no memory;
-    /// what was answered until then stays.
+    /// what was answered until then stays. So where there is room for one reply more, the command
+    /// before which it ends is a listing.
     pub fn run<H: Words>(
         &mut self,
         alloc: Global,
@@ -179,6 +188,9 @@ impl<Q: Payload, QH: Words, P: Payload, PH: Words> Service<Q, QH, P, PH> {
             (vec_len replies.new ≡ vec_len replies.old + vec_len commands.entry) }
         ensures short { OnErr result
             (vec_len replies.new < vec_len replies.old + vec_len commands.entry) }
+        ensures listing { OnErr result (vec_len replies.new < vec_capacity replies.new
+            → IsListingAt commands.entry.items (vec_len replies.new - vec_len replies.old)) }
+        ensures capacity { vec_capacity replies.old ≤ vec_capacity replies.new }
     {
         for command in commands {
             replies.reserve(1)?;

@@ -280,6 +280,7 @@ impl Members {
     pub fn declare_dead<C>(&mut self, node: u64) -> Result<(), Refusal<C>>
         ensures declared { IsDeclaredDead self.old.members node result self.new.members }
         ensures registry { self.new.registry ≡ self.old.registry }
+        ensures unchanged { OnErr result (self.new ≡ self.old) }
     {
         if let Err(refusal) = self.living(node) {
             return Err(refusal);

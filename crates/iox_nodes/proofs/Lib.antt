@@ -6,4 +6,5 @@ pub mod Telling
 pub mod Running
 pub mod Having
 pub mod Lacking
+pub mod Wanting
 pub mod Questions

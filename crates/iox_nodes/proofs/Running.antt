@@ -1,5 +1,7 @@
 -- How far commands were answered, one after another.
-use Rattle.std.specs.Prelude.{◌≡◌, ℕ, ◌+◌, ◌<◌, List, [], ◌∷◌, ◌++◌, length, map, take, Option, Result, Ok, Err, OnErr, refl}
+use Rattle.std.specs.Prelude.{◌≡◌, ℕ, ◌+◌, ◌-◌, ◌<◌, true, List, [], ◌∷◌, ◌++◌, length, map, take, Option, Some, Result, Ok, Err, OnErr, refl}
+use Rattle.std.specs.List.{slice_get}
+use Rattle.std.specs.Option.{IsSomeAnd}
 use Rattle.std.specs.declared.vec.Vec.{Vec}
 use Rattle.std.proofs.Common.{ap, subst, sym, ◌∙◌, arith}
 use Rattle.std.proofs.lemmas.List.{length-append, map-append}
@@ -11,8 +13,9 @@ use Rattle.iox_model.specs.Commands.{Cause, Command, Reply}
 use Rattle.iox_model.specs.Runs.{IsRun}
 use Rattle.iox_model.specs.States.{State}
 use Rattle.iox_port_commands.specs.declared.elements.Elements.{Elements}
-use Rattle.iox_nodes.specs.Given.{command_given, reply_given}
-use Rattle.iox_nodes.specs.Served.{IsAnswered, IsRunOf}
+use Rattle.iox_nodes.specs.Given.{command_given, is_listing, reply_given}
+use Rattle.iox_nodes.specs.Memory.{WantsRightly}
+use Rattle.iox_nodes.specs.Served.{Correspond, IsAnswered, IsListingAt, IsRunOf}
 use Rattle.iox_nodes.proofs.Reaching.{run_more}
 
 append_nothing : {A : Type 0} (xs : List A) → xs ++ [] ≡ xs
@@ -31,6 +34,24 @@ pub nothing_left : {A : Type 0} (xs : List A) → length xs ≡ 0 → xs ≡ []
 nothing_left [] e = refl
 nothing_left (x ∷ xs) e = absurd (omega arith)
 
+pub correspond_more : {A B : Type 0} (is : A → B → Type 0) (xs : List A) (ys : List B) (x : A) (y : B)
+    → Correspond is xs ys → is x y → Correspond is (xs ++ x ∷ []) (ys ++ y ∷ [])
+correspond_more is [] [] x y so more = (more, tt)
+correspond_more is (a ∷ xs) (b ∷ ys) x y so more = (so.0, correspond_more is xs ys x y so.1 more)
+correspond_more is [] (b ∷ ys) x y so more = absurd so
+correspond_more is (a ∷ xs) [] x y so more = absurd so
+
+at_seam : {A : Type 0} (xs : List A) (x : A) (ys : List A) → slice_get (xs ++ x ∷ ys) (length xs) ≡ Some x
+at_seam [] x ys = refl
+at_seam (z ∷ xs) x ys = at_seam xs x ys
+
+-- a listing stands behind what is done
+pub lists_next : {E H V : Type 0} (done rest commands : List (the_command.Command E H V)) (command : the_command.Command E H V) (place : ℕ)
+    → done ++ command ∷ rest ≡ commands → place ≡ length done → is_listing command ≡ true → IsListingAt commands place
+lists_next done rest commands command place split at lists =
+    subst (λ o. IsSomeAnd o (λ c. is_listing c ≡ true))
+    (sym (ap (λ cs. slice_get cs place) (sym split) ∙ ap (slice_get (done ++ command ∷ rest)) at ∙ at_seam done command rest)) lists
+
 module _ {Q P H C Z : Type 0} (q : Q → List ℕ) (p : P → List ℕ) (w : H → List ℕ) (s : State)
     (commands : List (the_command.Command (Elements Q P) H (Option (the_refusal.Refusal C)))) (old : List (the_reply.Reply (Vec ℕ Z) C)) where
   -- of these commands all but the rest are answered, by the replies that are new
@@ -41,14 +62,15 @@ module _ {Q P H C Z : Type 0} (q : Q → List ℕ) (p : P → List ℕ) (w : H �
     pub split : done ++ rest ≡ commands
     pub many : length done ≡ length more
     pub run : (cause : C → Cause) → IsRun s (map (command_given q p w cause) done) (map (reply_given cause) more) s'
+    pub want : Correspond WantsRightly done more
 
   pub run_starts : HasRun commands old s
-  run_starts = record { more = []; told = sym (append_nothing old); done = []; split = refl; many = refl; run = λ cause. refl }
+  run_starts = record { more = []; told = sym (append_nothing old); done = []; split = refl; many = refl; run = λ cause. refl; want = tt }
 
   pub run_goes_on : (command : the_command.Command (Elements Q P) H (Option (the_refusal.Refusal C)))
       (rest : List (the_command.Command (Elements Q P) H (Option (the_refusal.Refusal C)))) (new : List (the_reply.Reply (Vec ℕ Z) C)) (s' s'' : State)
-      (reply : the_reply.Reply (Vec ℕ Z) C) → HasRun (command ∷ rest) new s' → IsAnswered q p w s' command reply s'' → HasRun rest (new ++ reply ∷ []) s''
-  run_goes_on command rest new s' s'' reply so answered = record {
+      (reply : the_reply.Reply (Vec ℕ Z) C) → HasRun (command ∷ rest) new s' → IsAnswered q p w s' command reply s'' → WantsRightly command reply → HasRun rest (new ++ reply ∷ []) s''
+  run_goes_on command rest new s' s'' reply so answered wants = record {
     more = so.more ++ reply ∷ [];
     told = ap (λ xs. xs ++ reply ∷ []) so.told ∙ append_twice old so.more (reply ∷ []);
     done = so.done ++ command ∷ [];
@@ -60,12 +82,17 @@ module _ {Q P H C Z : Type 0} (q : Q → List ℕ) (p : P → List ℕ) (w : H �
         (sym (map-append (reply_given cause) so.more (reply ∷ [])))
         (run_more s s' s'' (map (command_given q p w cause) so.done) (map (reply_given cause) so.more) (command_given q p w cause command) (reply_given cause reply)
         (so.run cause) (answered cause)));
+    want = correspond_more WantsRightly so.done so.more command reply so.want wants;
   }
 
   pub run_ends : (rest : List (the_command.Command (Elements Q P) H (Option (the_refusal.Refusal C)))) (new : List (the_reply.Reply (Vec ℕ Z) C)) (s' : State)
       → HasRun rest new s' → IsRunOf q p w s commands old new s'
-  run_ends rest new s' so =
-      (so.more, so.told, λ cause. subst (λ cs. IsRun s (map (command_given q p w cause) cs) (map (reply_given cause) so.more) s') (sym taken) (so.run cause))
+  run_ends rest new s' so = record {
+    more = so.more;
+    told = so.told;
+    run = λ cause. subst (λ cs. IsRun s (map (command_given q p w cause) cs) (map (reply_given cause) so.more) s') (sym taken) (so.run cause);
+    want = subst (λ cs. Correspond WantsRightly cs so.more) (sym taken) so.want;
+  }
     where
       taken : take (length so.more) commands ≡ so.done
       taken = ap (λ n. take n commands) (sym so.many) ∙ ap (take (length so.done)) (sym so.split) ∙ take-append_seam so.done rest
@@ -84,3 +111,14 @@ module _ {Q P H C Z : Type 0} (q : Q → List ℕ) (p : P → List ℕ) (w : H �
       let split : length so.done + length (command ∷ rest) ≡ length commands =
       sym (length-append so.done (command ∷ rest)) ∙ ap length so.split in
       omega arith
+
+  -- where a run ends before a listing, that is the command behind those that are answered
+  pub run_lists : (command : the_command.Command (Elements Q P) H (Option (the_refusal.Refusal C)))
+      (rest : List (the_command.Command (Elements Q P) H (Option (the_refusal.Refusal C)))) (new : List (the_reply.Reply (Vec ℕ Z) C)) (s' : State)
+      (before after : ℕ) → HasRun (command ∷ rest) new s' → before ≡ length old → after ≡ length new → is_listing command ≡ true
+      → IsListingAt commands (after - before)
+  run_lists command rest new s' before after so was is lists =
+      let told : length new ≡ length old + length so.more = ap length so.told ∙ length-append old so.more in
+      let many : length so.done ≡ length so.more = so.many in
+      let place : after - before ≡ length so.done = omega arith in
+      lists_next so.done rest commands command (after - before) so.split place lists

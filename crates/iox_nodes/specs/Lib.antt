@@ -1,9 +1,9 @@
--- In reading order: what a service shows, its commands and replies as the machine's, what its calls
--- come to, and whether memory was there for them.
+-- In reading order: what a service shows, its commands and replies as the machine's, whether memory
+-- was there for them, and what its calls come to.
 pub mod Shown
 pub mod Given
-pub mod Served
 pub mod Memory
+pub mod Served
 -- what clauses of services cite of hubs and of commands, for the crates above
 pub use Rattle.iox_port_commands.specs.Settings
 pub use Rattle.iox_port_commands.specs.MessageShape

@@ -1,8 +1,9 @@
 -- Memory for the commands of a service: that it was there, and which of them may find none.
-use Rattle.std.specs.Prelude.{ℕ, ⊤, Bool, true, false, if◌then◌else◌, List, Option, Some, None, Result, Err}
+use Rattle.std.specs.Prelude.{◌≡◌, ℕ, ⊤, Bool, true, false, if◌then◌else◌, List, Option, Some, None, Result, Err}
 use Rattle.std.specs.declared.vec.Vec.{Vec}
 use Rattle.iox_model.specs.declared.command.Command as the_command
 use Rattle.iox_model.specs.declared.command.Command.TheVariants.{Join, Port, ListNodes, ListClients, ListServers}
+use Rattle.iox_model.specs.declared.command.PortCommand as the_port_command
 use Rattle.iox_model.specs.declared.command.PortCommand.TheVariants.{Client, Server, Read}
 use Rattle.iox_model.specs.declared.reply.Refusal as the_refusal
 use Rattle.iox_model.specs.declared.reply.Refusal.TheVariants.{UnableToCreateDataSegment, WantOfMemory}
@@ -11,7 +12,7 @@ use Rattle.iox_model.specs.declared.reply.Reply.TheVariants.{Refused}
 use Rattle.iox_model.specs.Commands.{Cause, Command, Reply}
 use Rattle.iox_model.specs.Services.{IsCommand}
 use Rattle.iox_model.specs.States.{State}
-use Rattle.iox_port_commands.specs.Asking.{is_making}
+use Rattle.iox_port_commands.specs.Asking.{is_making, is_read}
 use Rattle.iox_port_commands.specs.Memory.{HadMemory}
 use Rattle.iox_port_commands.specs.declared.elements.Elements.{Elements}
 use Rattle.iox_nodes.specs.Given.{command_given, reply_given}
@@ -62,6 +63,22 @@ abbrev pub MayFindNoMemory :
     → the_command.Command (Elements Q P) H (Option (the_refusal.Refusal C)) → Type 0
 MayFindNoMemory {C = C} q p words s command =
     (cause : C → Cause) → MayLackMemory s (command_given q p words cause command)
+
+-- ---- want of memory is told
+
+-- What a node asks of its ports is told want of memory only where memory is taken: `WantOfMemory`
+-- only where it reads, `UnableToCreateDataSegment` only where it makes a port.
+pub record PortWantsRightly {E H L C : Type 0} (command : the_port_command.PortCommand E H)
+    (reply : the_reply.Reply L C) : Type 0
+  where
+    pub memory : reply ≡ Refused WantOfMemory → is_read command ≡ true
+    pub segment : reply ≡ Refused UnableToCreateDataSegment → is_making command ≡ true
+
+-- The same of a command of a service. Of all others the machine lets only a join be told so.
+abbrev pub WantsRightly :
+    {E H V L C : Type 0} → the_command.Command E H V → the_reply.Reply L C → Type 0
+WantsRightly (Port command) reply = PortWantsRightly command reply
+WantsRightly command reply = ⊤
 
 -- ---- only for proofs of this crate
 

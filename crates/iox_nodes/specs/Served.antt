@@ -1,7 +1,8 @@
 -- What a call of a service comes to: it is one command of the machine, whatever the causes of
 -- attributes are.
-use Rattle.std.specs.Prelude.{◌≡◌, ℕ, List, ◌++◌, length, map, take, Option, Some, None, Result, Ok, Err}
-use Rattle.std.specs.Option.{option_map}
+use Rattle.std.specs.Prelude.{◌≡◌, ℕ, ⊤, true, List, [], ◌∷◌, ◌++◌, length, map, take, Option, Some, None, Result, Ok, Err}
+use Rattle.std.specs.List.{slice_get}
+use Rattle.std.specs.Option.{IsSomeAnd, option_map}
 use Rattle.std.specs.declared.vec.Vec.{Vec}
 use Rattle.iox_types.specs.declared.identifiers.system_id.UniqueSystemId.{UniqueSystemId}
 use Rattle.iox_model.specs.declared.command.Command as the_command
@@ -20,7 +21,8 @@ use Rattle.iox_openers.specs.Causes.{with_cause}
 use Rattle.iox_members.specs.Steps.{answer_in}
 use Rattle.iox_port_commands.specs.Asking.{command_for}
 use Rattle.iox_port_commands.specs.declared.elements.Elements.{Elements}
-use Rattle.iox_nodes.specs.Given.{command_given, reply_given}
+use Rattle.iox_nodes.specs.Given.{command_given, is_listing, reply_given}
+use Rattle.iox_nodes.specs.Memory.{WantsRightly}
 use Rattle.iox_nodes.specs.Shown.{ServiceTables, service_of}
 
 -- ---- a service is made
@@ -74,14 +76,31 @@ IsAnswered {C = C} q p words s command reply s' =
     (cause : C → Cause)
     → IsCommand s (command_given q p words cause command) (reply_given cause reply) s'
 
+-- ---- runs
+
+-- the lists are as long as each other, and what stands in the same place is so related
+abbrev pub Correspond : {A B : Type 0} → (A → B → Type 0) → List A → List B → Type 0
+Correspond is [] [] = ⊤
+Correspond is (x ∷ xs) (y ∷ ys) = is x y × Correspond is xs ys
+Correspond is [] (y ∷ ys) = ⊥
+Correspond is (x ∷ xs) [] = ⊥
+
 -- The first of these commands are answered by the replies that are new, one after another: a run of
 -- the machine. The rest is not begun.
-abbrev pub IsRunOf :
-    {Q P H C Z : Type 0} → (Q → List ℕ) → (P → List ℕ) → (H → List ℕ) → State
-    → List (the_command.Command (Elements Q P) H (Option (the_refusal.Refusal C)))
-    → List (the_reply.Reply (Vec ℕ Z) C) → List (the_reply.Reply (Vec ℕ Z) C) → State → Type 0
-IsRunOf {C = C} {Z = Z} q p words s commands old new s' =
-    (more : List (the_reply.Reply (Vec ℕ Z) C)) × (new ≡ old ++ more)
-    × ((cause : C → Cause)
-    → IsRun s (map (command_given q p words cause) (take (length more) commands))
-    (map (reply_given cause) more) s')
+pub record IsRunOf {Q P H C Z : Type 0} (q : Q → List ℕ) (p : P → List ℕ) (words : H → List ℕ)
+    (s : State)
+    (commands : List (the_command.Command (Elements Q P) H (Option (the_refusal.Refusal C))))
+    (old new : List (the_reply.Reply (Vec ℕ Z) C)) (s' : State) : Type 0
+  where
+    -- the new replies, behind the old ones
+    pub more : List (the_reply.Reply (Vec ℕ Z) C)
+    pub told : new ≡ old ++ more
+    pub run :
+        (cause : C → Cause)
+        → IsRun s (map (command_given q p words cause) (take (length more) commands))
+        (map (reply_given cause) more) s'
+    pub want : Correspond WantsRightly (take (length more) commands) more
+
+-- there is a command in that place, and it asks for a list of numbers
+abbrev pub IsListingAt : {E H V : Type 0} → List (the_command.Command E H V) → ℕ → Type 0
+IsListingAt commands place = IsSomeAnd (slice_get commands place) (λ c. is_listing c ≡ true)

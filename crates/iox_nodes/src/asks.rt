@@ -2,7 +2,8 @@
 ghost use Rattle.std.specs.Prelude.{◌≡◌, IfOk, OnErr};
 ghost use Rattle.iox_model.specs.declared.command.Command.TheVariants.{Port};
 ghost use Rattle.iox_model.specs.Handles.{has};
-ghost use Rattle.iox_nodes.specs.Memory.{IsAnsweredWithMemory, MayFindNoMemory, want_of};
+ghost use Rattle.iox_nodes.specs.Memory.{IsAnsweredWithMemory, MayFindNoMemory, PortWantsRightly};
+ghost use Rattle.iox_nodes.specs.Memory.{want_of};
 ghost use Rattle.iox_nodes.specs.Served.{IsPortAnswered};
 ghost use Rattle.iox_nodes.specs.Shown.{service_of};
 ghost use Rattle.iox_port_commands.specs.Asking.{is_making};
@@ -41,14 +42,16 @@ pub(crate) fn want_of<C>(making: bool) -> Refusal<C>
 impl<Q: Payload, QH: Words, P: Payload, PH: Words> Service<Q, QH, P, PH> {
     /// A node makes a port, or calls a port or a handle by its number. A port gets the id with
     /// which its node joined. It is refused as `UnknownNode` or `NodeIsDead` before all that the
-    /// hub tests. Where there is no memory for a port or for what is read, that is a reply, too.
+    /// hub tests. Where there is no memory for a port or for what is read, that is a reply, too; no
+    /// other command is told so.
     pub fn port<H: Words, C>(
         &mut self,
         alloc: Global,
         command: PortCommand<Elements<Q::Element, P::Element>, H>,
     ) -> Reply<Vec<u64>, C>
-        ensures { IsPortAnswered Q.Element.words P.Element.words H.words (service_of self.old)
-            command result (service_of self.new) }
+        ensures answered { IsPortAnswered Q.Element.words P.Element.words H.words
+            (service_of self.old) command result (service_of self.new) }
+        ensures want { PortWantsRightly command result }
     {
         match self.members.living::<C>(asker(&command)) {
             Err(refusal) => Reply::Refused(refusal),

@@ -65,7 +65,8 @@ impl<Q: Payload, QH: Words, P: Payload, PH: Words> Service<Q, QH, P, PH> {
     /// A node is declared dead: it asks nothing more. Its ports stay connected, and its number and
     /// its id stay in use, until it is cleaned up. It is refused as `UnknownNode` or `NodeIsDead`.
     pub fn declare_dead<C>(&mut self, node: u64) -> Result<(), Refusal<C>>
-        ensures { IsDone (service_of self.old) (DeclareDead node) result (service_of self.new) }
+        ensures done { IsDone (service_of self.old) (DeclareDead node) result (service_of self.new) }
+        ensures unchanged { OnErr result (self.new ≡ self.old) }
     {
         self.members.declare_dead(node)
     }
@@ -73,7 +74,8 @@ impl<Q: Payload, QH: Words, P: Payload, PH: Words> Service<Q, QH, P, PH> {
     /// A node leaves; the last one closes the service for good. It is refused as `UnknownNode`,
     /// `NodeIsDead`, or `HasPorts` while a port or a handle of it is not released.
     pub fn leave<C>(&mut self, node: u64) -> Result<(), Refusal<C>>
-        ensures { IsDone (service_of self.old) (Leave node) result (service_of self.new) }
+        ensures done { IsDone (service_of self.old) (Leave node) result (service_of self.new) }
+        ensures unchanged { OnErr result (self.new ≡ self.old) }
     {
         let has_values = self.hub.has_values(node);
         self.members.leave(node, has_values)
@@ -83,7 +85,8 @@ impl<Q: Payload, QH: Words, P: Payload, PH: Words> Service<Q, QH, P, PH> {
     /// numbers, and then it is gone. The last one closes the service for good. It is refused as
     /// `UnknownNode` or `NodeIsAlive`.
     pub fn cleanup<C>(&mut self, node: u64) -> Result<(), Refusal<C>>
-        ensures { IsDone (service_of self.old) (Cleanup node) result (service_of self.new) }
+        ensures done { IsDone (service_of self.old) (Cleanup node) result (service_of self.new) }
+        ensures unchanged { OnErr result (self.new ≡ self.old) }
     {
         if let Err(refusal) = self.members.dead(node) {
             return Err(refusal);

@@ -1,9 +1,11 @@
 //! Commands one after another, and what they are answered.
-ghost use Rattle.std.specs.Prelude.{◌≡◌, ◌+◌, ◌<◌, IfOk, OnErr, OnOk, true, vec_len};
+ghost use Rattle.std.specs.Prelude.{◌≡◌, ◌+◌, ◌-◌, ◌<◌, ◌≤◌, IfOk, OnErr, OnOk, true};
+ghost use Rattle.std.specs.Prelude.{vec_capacity, vec_len};
 ghost use Rattle.iox_model.specs.declared.reply.Reply.TheVariants as replies;
 ghost use Rattle.iox_nodes.specs.Given.{is_listing, reply_to};
-ghost use Rattle.iox_nodes.specs.Memory.{IsAnsweredWithMemory, MayFindNoMemory, refusal_for_want};
-ghost use Rattle.iox_nodes.specs.Served.{IsAnswered, IsRunOf};
+ghost use Rattle.iox_nodes.specs.Memory.{IsAnsweredWithMemory, MayFindNoMemory, WantsRightly};
+ghost use Rattle.iox_nodes.specs.Memory.{refusal_for_want};
+ghost use Rattle.iox_nodes.specs.Served.{IsAnswered, IsListingAt, IsRunOf};
 ghost use Rattle.iox_nodes.specs.Shown.{service_of};
 
 use crate::asks::{is_making, want_of};
@@ -78,7 +80,8 @@ impl<Q: Payload, QH: Words, P: Payload, PH: Words> Service<Q, QH, P, PH> {
     }
 
     /// Answers a command. It fails only for want of memory for a listing, and changes nothing then.
-    /// Want of memory for a join, for a port and for a read is a reply, as the machine has it.
+    /// Want of memory for a join, for a port and for a read is a reply, as the machine has it; no
+    /// other command is told so.
     pub fn serve<H: Words, C: Copy>(
         &mut self,
         alloc: Global,
@@ -86,6 +89,7 @@ impl<Q: Payload, QH: Words, P: Payload, PH: Words> Service<Q, QH, P, PH> {
     ) -> Result<Reply<Vec<u64>, C>, AllocError>
         ensures answered { IfOk result (λ reply. IsAnswered Q.Element.words P.Element.words H.words
             (service_of self.old) command reply (service_of self.new)) }
+        ensures want { IfOk result (λ reply. WantsRightly command reply) }
         ensures unchanged { OnErr result (self.new ≡ self.old) }
         ensures listing { OnErr result (is_listing command ≡ true) }
     {
@@ -103,6 +107,7 @@ impl<Q: Payload, QH: Words, P: Payload, PH: Words> Service<Q, QH, P, PH> {
     ) -> Result<Reply<Vec<u64>, C>, AllocError>
         ensures answered { IfOk result (λ reply. IsAnswered Q.Element.words P.Element.words H.words
             (service_of self.old) command reply (service_of self.new)) }
+        ensures want { IfOk result (λ reply. WantsRightly command reply) }
         ensures unchanged { OnErr result (self.new ≡ self.old) }
         ensures listing { OnErr result (is_listing command ≡ true) }
     {
@@ -118,7 +123,8 @@ impl<Q: Payload, QH: Words, P: Payload, PH: Words> Service<Q, QH, P, PH> {
 
     /// Answers commands one after another, and puts each reply behind the others. It ends before
     /// the command whose reply finds no room, and before a listing for which there is no memory;
-    /// what was answered until then stays.
+    /// what was answered until then stays. So where there is room for one reply more, the command
+    /// before which it ends is a listing.
     pub fn run<H: Words, C: Copy>(
         &mut self,
         alloc: Global,
@@ -130,6 +136,9 @@ impl<Q: Payload, QH: Words, P: Payload, PH: Words> Service<Q, QH, P, PH> {
         ensures whole { OnOk result (vec_len replies.new ≡ vec_len replies.old + vec_len commands) }
         ensures short { OnErr result
             (vec_len replies.new < vec_len replies.old + vec_len commands) }
+        ensures listing { OnErr result (vec_len replies.new < vec_capacity replies.new
+            → IsListingAt commands.items (vec_len replies.new - vec_len replies.old)) }
+        ensures capacity { vec_capacity replies.old ≤ vec_capacity replies.new }
     {
         for command in commands {
             replies.reserve(1)?;

@@ -4,3 +4,4 @@ pub mod OfServices
 pub use Rattle.iox_nodes.proofs.Reaching
 pub use Rattle.iox_nodes.proofs.Running
 pub use Rattle.iox_nodes.proofs.Leading
+pub use Rattle.iox_nodes.proofs.Wanting

@@ -1,10 +1,11 @@
-use Rattle.std.proofs.Common.{◌≡◌, ◌<◌, ◌+◌, ◌++◌, ◌∷◌, [], length, ap, arith, rules, refl, subst, sym, ◌∙◌}
-use Rattle.std.specs.Vec.{vec_len}
+use Rattle.std.proofs.Common.{◌≡◌, ◌<◌, ◌≤◌, ◌+◌, ◌-◌, ◌++◌, ◌∷◌, [], length, ap, arith, rules, refl, subst, sym, ◌∙◌}
+use Rattle.std.specs.Vec.{vec_capacity, vec_len}
 use Rattle.std.specs.Vec.Iter.{into_iter_items}
+use Rattle.iox_service_laws.specs.Served.{IsListingAt}
 use Rattle.iox_service_laws.proofs.Running.{on_err}
 use Rattle.iceoryx2_wire.specs.Serving.{IsAnswered}
 use Rattle.iceoryx2_wire.specs.Services.{service_of}
-use Rattle.iceoryx2_wire.proofs.Running.{HasRun, run_goes_on, run_is_short, run_starts}
+use Rattle.iceoryx2_wire.proofs.Running.{HasRun, run_ends, run_goes_on, run_is_short, run_lists, run_starts}
 use Rattle.iceoryx2_wire.proofs.service.Service.run.Goals as goal
 
 pub loop-command-init : goal.loop-command-init
@@ -18,6 +19,7 @@ loop-command-init g c =
       search rules,
       refl,
       refl,
+      omega arith,
     )
 
 pub returns-in_err-reserve-clause-short : goal.returns-in_err-reserve-clause-short
@@ -69,11 +71,70 @@ loop-command-preserved g c =
           (subst
           (λ d. IsAnswered g.Q.Element.Words.words g.P.Element.Words.words g.H.Words.words d (service_of at.self) c.in-Some.command
           answered.0 (service_of c.answer.new.self))
-          at.invariant.2 answered.2)),
+          at.invariant.2 answered.2) answered.3),
       let was = at.invariant.1 in
           let gone = c.in-Some.ensures.steps.1 in
           let short = ap length steps in
           omega arith,
       c.in_ok-answer.ensures.says ∙ at.invariant.2,
       c.in_ok-answer.ensures.identity ∙ at.invariant.3,
+      let was : vec_capacity c.args.replies.now ≤ vec_capacity at.replies = at.invariant.4 in
+          let grown : vec_capacity at.replies ≤ vec_capacity c.reserve.new.self = c.reserve.ensures.capacity in
+          let kept : vec_capacity c.answer.new.replies ≡ vec_capacity c.reserve.new.self = c.in_ok-answer.ensures.capacity in
+          omega arith,
     )
+
+pub returns-in_err-reserve-clause-listing : goal.returns-in_err-reserve-clause-listing
+returns-in_err-reserve-clause-listing g c =
+    let at = c.loop-command in
+    let full : vec_capacity at.replies < vec_len at.replies + 1 = c.in_err-reserve.ensures.full in
+    let stays : vec_capacity c.reserve.new.self ≡ vec_capacity at.replies = c.in_err-reserve.ensures.err in
+    let kept : vec_len c.reserve.new.self ≡ vec_len at.replies = c.reserve.ensures.len in
+    let none : vec_len c.reserve.new.self < vec_capacity c.reserve.new.self
+    → IsListingAt c.args.commands.items (vec_len c.reserve.new.self - vec_len c.args.replies.now) = λ room. absurd (omega arith) in
+    on_err _ none
+
+pub returns-in_err-answer-clause-listing : goal.returns-in_err-answer-clause-listing
+returns-in_err-answer-clause-listing g c =
+    let at = c.loop-command in
+    let steps : into_iter_items at.command-iterator ≡ c.in-Some.command ∷ into_iter_items c.next.new.self = c.in-Some.ensures.steps.0 in
+    let kept : vec_len c.reserve.new.self ≡ vec_len at.replies = c.reserve.ensures.len in
+    let same : vec_len c.answer.new.replies ≡ vec_len c.reserve.new.self = ap (λ v. vec_len v) c.in_err-answer.ensures.kept in
+    let there : vec_len at.replies ≡ length at.replies.items = at.replies.ok.0 in
+    let before : vec_len c.args.replies.now ≡ length c.args.replies.now.items = c.args.replies.now.ok.0 in
+    let next : IsListingAt c.args.commands.items (vec_len c.answer.new.replies - vec_len c.args.replies.now) =
+    run_lists g.Q.Element.Words.words g.P.Element.Words.words g.H.Words.words c.args.self.now.description (service_of c.args.self.now) c.args.commands.items c.args.replies.now.items
+    c.in-Some.command (into_iter_items c.next.new.self) at.replies.items (service_of at.self) (vec_len c.args.replies.now) (vec_len c.answer.new.replies)
+    (subst (λ cs. HasRun g.Q.Element.Words.words g.P.Element.Words.words g.H.Words.words c.args.self.now.description (service_of c.args.self.now) c.args.commands.items c.args.replies.now.items cs at.replies.items (service_of at.self)) steps at.invariant.0)
+    before (same ∙ kept ∙ there) c.in_err-answer.ensures.listing in
+    let listed : vec_len c.answer.new.replies < vec_capacity c.answer.new.replies
+    → IsListingAt c.args.commands.items (vec_len c.answer.new.replies - vec_len c.args.replies.now) = λ room. next in
+    on_err _ listed
+
+pub returns-in_err-reserve-clause-capacity : goal.returns-in_err-reserve-clause-capacity
+returns-in_err-reserve-clause-capacity g c =
+    let was : vec_capacity c.args.replies.now ≤ vec_capacity c.loop-command.replies = c.loop-command.invariant.4 in
+    let grown : vec_capacity c.loop-command.replies ≤ vec_capacity c.reserve.new.self = c.reserve.ensures.capacity in
+    omega arith
+
+pub returns-in_err-answer-clause-capacity : goal.returns-in_err-answer-clause-capacity
+returns-in_err-answer-clause-capacity g c =
+    let was : vec_capacity c.args.replies.now ≤ vec_capacity c.loop-command.replies = c.loop-command.invariant.4 in
+    let grown : vec_capacity c.loop-command.replies ≤ vec_capacity c.reserve.new.self = c.reserve.ensures.capacity in
+    let kept : vec_capacity c.answer.new.replies ≡ vec_capacity c.reserve.new.self = c.in_err-answer.ensures.capacity in
+    omega arith
+
+pub returns-clause-ran : goal.returns-clause-ran
+returns-clause-ran g c =
+    run_ends g.Q.Element.Words.words g.P.Element.Words.words g.H.Words.words c.args.self.now.description (service_of c.args.self.now)
+    c.args.commands.items c.args.replies.now.items (into_iter_items c.loop-command.command-iterator) c.loop-command.replies.items
+    (service_of c.loop-command.self) c.loop-command.invariant.0
+
+pub returns-in_err-answer-clause-ran : goal.returns-in_err-answer-clause-ran
+returns-in_err-answer-clause-ran g c =
+    rw c.in_err-answer.ensures.kept
+    (rw c.reserve.ensures.items
+    (rw c.in_err-answer.ensures.unchanged
+    (run_ends g.Q.Element.Words.words g.P.Element.Words.words g.H.Words.words c.args.self.now.description (service_of c.args.self.now)
+    c.args.commands.items c.args.replies.now.items (into_iter_items c.loop-command.command-iterator) c.loop-command.replies.items
+    (service_of c.loop-command.self) c.loop-command.invariant.0)))

@@ -1,4 +1,5 @@
-use Rattle.std.proofs.Common.{◌≡◌, length}
+use Rattle.std.proofs.Common.{◌≡◌, ◌≤◌, length}
+use Rattle.std.specs.Vec.{vec_capacity}
 use Rattle.std.specs.Vec.Iter.{into_iter_items, into_iter_len}
 use Rattle.iceoryx2_wire.specs.Services.{service_of}
 use Rattle.iceoryx2_wire.proofs.Running.{HasRun}
@@ -12,3 +13,4 @@ invariant-loop-command g l =
     × (into_iter_len l.command-iterator ≡ length (into_iter_items l.command-iterator))
     × (l.self.description ≡ l.fn.self.description)
     × (l.self.identity ≡ l.fn.self.identity)
+    × (vec_capacity l.fn.replies ≤ vec_capacity l.replies)

@@ -1,6 +1,7 @@
 use Rattle.iox_openers.specs.Causes.{cause_of}
 use Rattle.iox_service_laws.specs.Given.{command_given}
 use Rattle.iox_service_laws.proofs.Leading.{if_ok}
+use Rattle.iceoryx2_wire.proofs.Comparing.{compared_wants}
 use Rattle.iceoryx2_wire.proofs.service.Service.serve_compared.Goals as goal
 
 pub returns-clause-answered : goal.returns-clause-answered
@@ -13,3 +14,11 @@ returns-clause-answered g c =
       answered cause_of,
     ))
     c.serve.ensures.answered)
+
+pub returns-clause-want : goal.returns-clause-want
+returns-clause-want g c =
+    if_ok c.serve.result
+    (λ reply wants.
+    compared_wants g.Q.Element.Words.words g.P.Element.Words.words g.H.Words.words c.self.inside.description c.args.command c.compared-command.result reply
+    (c.compared-command.ensures.given g.Q.Element.Words.words g.P.Element.Words.words g.H.Words.words) wants)
+    c.serve.ensures.want

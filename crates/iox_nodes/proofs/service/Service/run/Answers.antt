@@ -1,8 +1,9 @@
-use Rattle.std.proofs.Common.{◌≡◌, ◌<◌, ◌+◌, ◌∷◌, [], length, ap, arith, rules, subst, sym, ◌∙◌}
-use Rattle.std.specs.Vec.{vec_len}
+use Rattle.std.proofs.Common.{◌≡◌, ◌<◌, ◌≤◌, ◌+◌, ◌-◌, ◌∷◌, [], length, ap, arith, rules, subst, sym, ◌∙◌}
+use Rattle.std.specs.Vec.{vec_capacity, vec_len}
 use Rattle.std.specs.Vec.Iter.{into_iter_items}
+use Rattle.iox_nodes.specs.Served.{IsListingAt}
 use Rattle.iox_nodes.specs.Shown.{service_of}
-use Rattle.iox_nodes.proofs.Running.{HasRun, nothing_left, on_err, run_ends, run_goes_on, run_is_short, run_is_whole, run_starts}
+use Rattle.iox_nodes.proofs.Running.{HasRun, nothing_left, on_err, run_ends, run_goes_on, run_is_short, run_is_whole, run_lists, run_starts}
 use Rattle.iox_nodes.proofs.service.Service.run.Goals as goal
 
 pub loop-command-init : goal.loop-command-init
@@ -14,6 +15,7 @@ loop-command-init g c =
           (sym it.ensures.into_iter_gives.0)
           (run_starts g.Q.Element.Words.words g.P.Element.Words.words g.H.Words.words (service_of c.args.self.now) c.args.commands.items c.args.replies.now.items),
       search rules,
+      omega arith,
     )
 
 pub returns-in_err-reserve-clause-ran : goal.returns-in_err-reserve-clause-ran
@@ -41,10 +43,14 @@ loop-command-preserved g c =
           (λ cs. HasRun g.Q.Element.Words.words g.P.Element.Words.words g.H.Words.words (service_of c.args.self.now) c.args.commands.items
           c.args.replies.now.items cs at.replies.items (service_of at.self))
           steps at.invariant.0)
-          c.in_ok-reply.ensures.answered)),
+          c.in_ok-reply.ensures.answered c.in_ok-reply.ensures.want)),
       let was = at.invariant.1 in
           let gone = c.in-Some.ensures.steps.1 in
           let short = ap length steps in
+          omega arith,
+      let was : vec_capacity c.args.replies.now ≤ vec_capacity at.replies = at.invariant.2 in
+          let grown : vec_capacity at.replies ≤ vec_capacity c.reserve.new.self = c.reserve.ensures.capacity in
+          let kept : vec_capacity c.push_reserved.new.self ≡ vec_capacity c.reserve.new.self = c.push_reserved.ensures.capacity in
           omega arith,
     )
 
@@ -96,3 +102,41 @@ returns-in_err-reply-clause-short g c =
     let asked : vec_len c.args.commands ≡ length c.args.commands.items = c.args.commands.ok.0 in
     let less : vec_len c.reserve.new.self < vec_len c.args.replies.now + vec_len c.args.commands = omega arith in
     on_err _ less
+
+pub returns-in_err-reserve-clause-listing : goal.returns-in_err-reserve-clause-listing
+returns-in_err-reserve-clause-listing g c =
+    let at = c.loop-command in
+    let full : vec_capacity at.replies < vec_len at.replies + 1 = c.in_err-reserve.ensures.full in
+    let stays : vec_capacity c.reserve.new.self ≡ vec_capacity at.replies = c.in_err-reserve.ensures.err in
+    let kept : vec_len c.reserve.new.self ≡ vec_len at.replies = c.reserve.ensures.len in
+    let none : vec_len c.reserve.new.self < vec_capacity c.reserve.new.self
+    → IsListingAt c.args.commands.items (vec_len c.reserve.new.self - vec_len c.args.replies.now) = λ room. absurd (omega arith) in
+    on_err _ none
+
+pub returns-in_err-reply-clause-listing : goal.returns-in_err-reply-clause-listing
+returns-in_err-reply-clause-listing g c =
+    let at = c.loop-command in
+    let steps : into_iter_items at.command-iterator ≡ c.in-Some.command ∷ into_iter_items c.next.new.self = c.in-Some.ensures.steps.0 in
+    let kept : vec_len c.reserve.new.self ≡ vec_len at.replies = c.reserve.ensures.len in
+    let there : vec_len at.replies ≡ length at.replies.items = at.replies.ok.0 in
+    let before : vec_len c.args.replies.now ≡ length c.args.replies.now.items = c.args.replies.now.ok.0 in
+    let next : IsListingAt c.args.commands.items (vec_len c.reserve.new.self - vec_len c.args.replies.now) =
+    run_lists g.Q.Element.Words.words g.P.Element.Words.words g.H.Words.words (service_of c.args.self.now) c.args.commands.items c.args.replies.now.items
+    c.in-Some.command (into_iter_items c.next.new.self) at.replies.items (service_of at.self) (vec_len c.args.replies.now) (vec_len c.reserve.new.self)
+    (subst (λ cs. HasRun g.Q.Element.Words.words g.P.Element.Words.words g.H.Words.words (service_of c.args.self.now) c.args.commands.items c.args.replies.now.items cs at.replies.items (service_of at.self)) steps at.invariant.0)
+    before (kept ∙ there) c.in_err-reply.ensures.listing in
+    let listed : vec_len c.reserve.new.self < vec_capacity c.reserve.new.self
+    → IsListingAt c.args.commands.items (vec_len c.reserve.new.self - vec_len c.args.replies.now) = λ room. next in
+    on_err _ listed
+
+pub returns-in_err-reserve-clause-capacity : goal.returns-in_err-reserve-clause-capacity
+returns-in_err-reserve-clause-capacity g c =
+    let was : vec_capacity c.args.replies.now ≤ vec_capacity c.loop-command.replies = c.loop-command.invariant.2 in
+    let grown : vec_capacity c.loop-command.replies ≤ vec_capacity c.reserve.new.self = c.reserve.ensures.capacity in
+    omega arith
+
+pub returns-in_err-reply-clause-capacity : goal.returns-in_err-reply-clause-capacity
+returns-in_err-reply-clause-capacity g c =
+    let was : vec_capacity c.args.replies.now ≤ vec_capacity c.loop-command.replies = c.loop-command.invariant.2 in
+    let grown : vec_capacity c.loop-command.replies ≤ vec_capacity c.reserve.new.self = c.reserve.ensures.capacity in
+    omega arith

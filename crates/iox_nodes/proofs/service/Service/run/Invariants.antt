@@ -1,4 +1,5 @@
-use Rattle.std.proofs.Common.{◌≡◌, length}
+use Rattle.std.proofs.Common.{◌≡◌, ◌≤◌, length}
+use Rattle.std.specs.Vec.{vec_capacity}
 use Rattle.std.specs.Vec.Iter.{into_iter_items, into_iter_len}
 use Rattle.iox_nodes.specs.Shown.{service_of}
 use Rattle.iox_nodes.proofs.Running.{HasRun}
@@ -10,3 +11,4 @@ invariant-loop-command g l =
     HasRun g.Q.Element.Words.words g.P.Element.Words.words g.H.Words.words (service_of l.fn.self) l.fn.commands.items l.fn.replies.items
     (into_iter_items l.command-iterator) l.replies.items (service_of l.self)
     × (into_iter_len l.command-iterator ≡ length (into_iter_items l.command-iterator))
+    × (vec_capacity l.fn.replies ≤ vec_capacity l.replies)

@@ -25,7 +25,7 @@ returns-in-Leave-clause-answered g c =
     c.args.command (commands.Leave c.in-Leave.node) c.done.result c.in-Leave.is (λ cause. tt)
     (done_answered g.Q.Element.Words.words g.P.Element.Words.words g.H.Words.words (service_of c.args.self.now) (service_of c.leave.new.self)
     c.args.command (commands.Leave c.in-Leave.node) (commands.Leave c.in-Leave.node) c.leave.result c.done.result c.in-Leave.is (λ cause. refl)
-    c.done.ensures c.leave.ensures)
+    c.done.ensures c.leave.ensures.done)
 
 pub returns-in-DeclareDead-clause-answered : goal.returns-in-DeclareDead-clause-answered
 returns-in-DeclareDead-clause-answered g c =
@@ -33,7 +33,7 @@ returns-in-DeclareDead-clause-answered g c =
     c.args.command (commands.DeclareDead c.in-DeclareDead.node) c.done-in-DeclareDead.result c.in-DeclareDead.is (λ cause. tt)
     (done_answered g.Q.Element.Words.words g.P.Element.Words.words g.H.Words.words (service_of c.args.self.now) (service_of c.declare_dead.new.self)
     c.args.command (commands.DeclareDead c.in-DeclareDead.node) (commands.DeclareDead c.in-DeclareDead.node) c.declare_dead.result
-    c.done-in-DeclareDead.result c.in-DeclareDead.is (λ cause. refl) c.done-in-DeclareDead.ensures c.declare_dead.ensures)
+    c.done-in-DeclareDead.result c.in-DeclareDead.is (λ cause. refl) c.done-in-DeclareDead.ensures c.declare_dead.ensures.done)
 
 pub returns-in-Cleanup-clause-answered : goal.returns-in-Cleanup-clause-answered
 returns-in-Cleanup-clause-answered g c =
@@ -41,7 +41,7 @@ returns-in-Cleanup-clause-answered g c =
     c.args.command (commands.Cleanup c.in-Cleanup.node) c.done-in-Cleanup.result c.in-Cleanup.is (λ cause. tt)
     (done_answered g.Q.Element.Words.words g.P.Element.Words.words g.H.Words.words (service_of c.args.self.now) (service_of c.cleanup.new.self)
     c.args.command (commands.Cleanup c.in-Cleanup.node) (commands.Cleanup c.in-Cleanup.node) c.cleanup.result c.done-in-Cleanup.result c.in-Cleanup.is
-    (λ cause. refl) c.done-in-Cleanup.ensures c.cleanup.ensures)
+    (λ cause. refl) c.done-in-Cleanup.ensures c.cleanup.ensures.done)
 
 pub returns-in-Port-clause-wanting : goal.returns-in-Port-clause-wanting
 returns-in-Port-clause-wanting g c = rw c.in-Port.is c.try_port.ensures.wanting
