@@ -260,10 +260,11 @@ has_kept node = record {
   fills = λ s n number h x there may p. p;
 }
 
-pub the_dead_are_dead : (s t : State) (node : ℕ) → IsReachableState s → IsCommand s (DeclareDead node) Done t
+pub the_dead_are_dead : (s t : State) (node : ℕ) (command : Command) → IsReachableState s → command ≡ DeclareDead node → IsCommand s command Done t
     → LivesNoMore t node × IsTrue (is_member t node)
-the_dead_are_dead s t node r done =
-    let q : (not_living s node ≡ None) × ((Done ≡ Done) × (t ≡ with_death s node)) = done_so (not_living s node) s t _ done in
+the_dead_are_dead s t node command r is done =
+    let q : (not_living s node ≡ None) × ((Done ≡ Done) × (t ≡ with_death s node)) =
+    done_so (not_living s node) s t _ (subst (λ c. IsCommand s c Done t) is done) in
     subst (λ (u : State). LivesNoMore u node × IsTrue (is_member u node)) (sym (q.1).1) (
       record {
         joined = was_there s node (λ m. refused_if (not m.alive) NodeIsDead) r q.0;

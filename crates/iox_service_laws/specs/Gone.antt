@@ -69,8 +69,8 @@ pub record IsRefusedToTheDead (s : State) (node : ℕ) (command : Command) : Typ
 -- changes nothing.
 pub record TheDeadDoNothing (s : State) : Type 0 where
   pub dies :
-      (t : State) (node : ℕ) → IsCommand s (DeclareDead node) Done t
-      → LivesNoMore t node × IsTrue (is_member t node)
+      (t : State) (node : ℕ) (command : Command) → command ≡ DeclareDead node
+      → IsCommand s command Done t → LivesNoMore t node × IsTrue (is_member t node)
   pub leaves :
       (t : State) (node : ℕ) (command : Command) → IsOneOf command (Leave node ∷ Cleanup node ∷ [])
       → IsCommand s command Done t → LivesNoMore t node × (is_member t node ≡ false)
