@@ -114,8 +114,8 @@ closes_with_the_last_node {s} served = record {
 
 pub the_dead_do_nothing : {s : State} → IsServed s → TheDeadDoNothing s
 the_dead_do_nothing {s} served = record {
-  dies = λ t node command is done. the_dead_are_dead s t node command (reached served) is done;
-  leaves = λ t node command is done. who_left_is_unknown s t node command (reached served) is done;
+  dies = λ t node command done is. the_dead_are_dead s t node command (reached served) is done;
+  leaves = λ t node command done is. who_left_is_unknown s t node command (reached served) is done;
   refused = λ t xs node over history command asks. the_dead_are_refused s t xs node over history command asks;
   parts = λ t xs node over history command is. the_dead_do_not_part s t xs node over history command is;
 }

@@ -69,11 +69,12 @@ pub record IsRefusedToTheDead (s : State) (node : ℕ) (command : Command) : Typ
 -- changes nothing.
 pub record TheDeadDoNothing (s : State) : Type 0 where
   pub dies :
-      (t : State) (node : ℕ) (command : Command) → command ≡ DeclareDead node
-      → IsCommand s command Done t → LivesNoMore t node × IsTrue (is_member t node)
+      (t : State) (node : ℕ) (command : Command) → IsCommand s command Done t
+      → command ≡ DeclareDead node → LivesNoMore t node × IsTrue (is_member t node)
   pub leaves :
-      (t : State) (node : ℕ) (command : Command) → IsOneOf command (Leave node ∷ Cleanup node ∷ [])
-      → IsCommand s command Done t → LivesNoMore t node × (is_member t node ≡ false)
+      (t : State) (node : ℕ) (command : Command) → IsCommand s command Done t
+      → IsOneOf command (Leave node ∷ Cleanup node ∷ [])
+      → LivesNoMore t node × (is_member t node ≡ false)
   pub refused :
       (t : State) (xs : List ServiceStep) (node : ℕ) → LivesNoMore s node → IsHistory s xs t
       → (command : PortCommand) → (asking command).0 ≡ node
