@@ -1,12 +1,13 @@
 -- The laws of runs, of the state that a service shows.
 use Rattle.std.specs.Prelude.{List, [], ◌∷◌}
 use Rattle.iox_model.specs.Runs.{IsHistory, IsMembersHistory, IsReachableState, IsServed, ServiceStep, created}
+use Rattle.iox_model.specs.Joins.{not_living}
 use Rattle.iox_model.specs.States.{State}
+use Rattle.iox_model.specs.declared.reply.Reply.TheVariants.{Handle}
 use Rattle.iox_laws.proofs.MessageLaws.Holdings.{had_as_delivered}
 use Rattle.iox_laws.proofs.MessageLaws.Orders.{whole_over_runs}
 use Rattle.iox_laws.proofs.MessageLaws.Origins.{each_was_sent}
 use Rattle.iox_laws.proofs.RunLaws.Bounded.{borrows_rest_within, queues_of_the_gone_rest_within}
-use Rattle.iox_laws.proofs.RunLaws.Dead.{the_dead_stay_dead}
 use Rattle.iox_laws.proofs.RunLaws.Received.{requests_are_named, responses_name_their_request}
 use Rattle.iox_laws.proofs.RunLaws.Values.{values_have_own_numbers}
 use Rattle.iox_laws.proofs.RunPools.Laws as pools
@@ -21,7 +22,13 @@ use Rattle.iox_service_laws.specs.Asked.{CleanupsAreReleases, ListingsAreExact, 
 use Rattle.iox_service_laws.specs.Gone.{ClosesWithTheLastNode, KeepsNothingForTheGone, TheDeadDoNothing}
 use Rattle.iox_service_laws.specs.Limits.{LimitsHold, LoansSucceed, PoolsSuffice}
 use Rattle.iox_service_laws.specs.Messages.{AreAsDelivered, ComeAtMostOnce, ComeAtTheirRequest, ComeInOrder, WereSent}
+use Rattle.iox_service_laws.specs.Histories.{RunsAreHistories}
+use Rattle.iox_service_laws.proofs.Closing.{nobody_joins, stays_closed}
+use Rattle.iox_service_laws.proofs.Dead.{the_dead_are_dead, the_dead_are_refused, the_dead_do_not_part, who_left_is_unknown}
+use Rattle.iox_service_laws.proofs.Histories as histories
 use Rattle.iox_service_laws.proofs.Lending as lending
+use Rattle.iox_service_laws.proofs.Reading.{not_refused, reads_are_of_messages}
+use Rattle.iox_service_laws.proofs.Receivers.{all_is_back}
 
 -- what the service's own nodes asked is a history
 history_of : (s : State) (xs : List ServiceStep) (t : State) → IsMembersHistory s xs t → IsHistory s xs t
@@ -49,15 +56,22 @@ pub messages_come_in_order : {s : State} → IsServed s → ComeInOrder s
 messages_come_in_order {s} served = record { order = λ r y. whole_over_runs s r y }
 
 pub messages_are_as_delivered : {s : State} → IsServed s → AreAsDelivered s
-messages_are_as_delivered {s} served = record { had = λ r node h. had_as_delivered s r node h }
+messages_are_as_delivered {s} served = record {
+  had = λ r node h. had_as_delivered s r node h;
+  read = λ t node n words command. reads_are_of_messages s t node n words command;
+}
 
 pub messages_were_sent : {s : State} → IsServed s → WereSent s
 messages_were_sent {s} served = record { sent = λ r y m. each_was_sent s r y m }
 
 pub messages_come_at_their_request : {s : State} → IsServed s → ComeAtTheirRequest s
 messages_come_at_their_request {s} served = record {
-  responses = λ t node n k h found received. responses_name_their_request s t node n k h (reached served) found received;
-  requests = λ t node n k p found received. requests_are_named s t node n k p (reached served) found received;
+  responses = λ t node n k h found received.
+      responses_name_their_request s t node n k h (reached served) found
+      (not_refused (not_living s node) s (Handle k) t _ (λ x. x) received);
+  requests = λ t node n k p found received.
+      requests_are_named s t node n k p (reached served) found
+      (not_refused (not_living s node) s (Handle k) t _ (λ x. x) received);
 }
 
 -- ---- limits
@@ -83,6 +97,8 @@ pub keeps_nothing_for_the_gone : {s : State} → IsServed s → KeepsNothingForT
 keeps_nothing_for_the_gone {s} served = record {
   waiting = λ w gone. (nothing_is_for_the_gone s w (reached served) gone).0;
   request_state = λ w gone. (nothing_is_for_the_gone s w (reached served) gone).1;
+  returned_by = λ w gone. (all_is_back s (reached served)).returned w gone;
+  outstanding_to = λ w k gone. (all_is_back s (reached served)).delivered w gone k;
   returned = λ w gone. (nothing_is_owed_to_the_gone s w (reached served) gone).0;
   outstanding = λ w k gone. (nothing_is_owed_to_the_gone s w (reached served) gone).1 k;
 }
@@ -92,12 +108,16 @@ closes_with_the_last_node {s} served = record {
   closed = closed_with_the_last_node s served;
   bare = closed_services_are_bare s served;
   ports = λ n p there. ports_are_of_nodes s n p served there;
+  stays = λ t xs closed history. stays_closed s t xs closed history;
+  joins = λ t id asked reply closed command. nobody_joins s t id asked reply closed command;
 }
 
 pub the_dead_do_nothing : {s : State} → IsServed s → TheDeadDoNothing s
 the_dead_do_nothing {s} served = record {
-  refused = λ t u xs node r joined gone history command reply own done.
-      the_dead_stay_dead s t u xs node r joined gone history command reply own done;
+  dies = λ t node command done is. the_dead_are_dead s t node command (reached served) is done;
+  leaves = λ t node command done is. who_left_is_unknown s t node command (reached served) is done;
+  refused = λ t xs node over history command asks. the_dead_are_refused s t xs node over history command asks;
+  parts = λ t xs node over history command is. the_dead_do_not_part s t xs node over history command is;
 }
 
 -- ---- commands
@@ -119,3 +139,6 @@ pub refusals_leave_the_state : {s : State} → IsServed s → RefusalsLeave s
 refusals_leave_the_state {s} served = record {
   left = λ t command r done. refused_command_leaves s t command r (reached served) done;
 }
+
+pub runs_are_histories : {s : State} → IsServed s → RunsAreHistories s
+runs_are_histories served = histories.runs_are_histories

@@ -1,15 +1,17 @@
 -- What holds of all messages, whatever history led to the state.
-use Rattle.std.specs.Prelude.{◌≡◌, ℕ, false, Some, IsTrue}
-use Rattle.iox_model.specs.declared.call.Call.TheVariants.{Receive}
+use Rattle.std.specs.Prelude.{◌≡◌, ℕ, false, List, ◌++◌, Some, IsTrue}
+use Rattle.iox_model.specs.declared.command.Command.TheVariants.{Port}
+use Rattle.iox_model.specs.declared.command.PortCommand.TheVariants.{Read, Receive}
 use Rattle.iox_model.specs.declared.kind.Kind.TheVariants.{ActiveRequest, Response}
 use Rattle.iox_model.specs.declared.reply.Reply.TheVariants as replies
 use Rattle.iox_model.specs.declared.way.Way.{Way}
-use Rattle.iox_model.specs.Handles.{is_received, own_state, subject, ThePort, TheHandle, way_of}
+use Rattle.iox_model.specs.Handles.{TheHandle, ThePort, is_received, own_state, subject, way_of}
 use Rattle.iox_model.specs.Maps.{AreDistinct}
 use Rattle.iox_model.specs.Messages.{Message, names}
 use Rattle.iox_model.specs.Runs.{IsReachableState}
-use Rattle.iox_model.specs.States.{Handle, Port, State}
-use Rattle.iox_model.specs.WholeCalls.{IsWholeCall}
+use Rattle.iox_model.specs.Services.{IsCommand}
+use Rattle.iox_model.specs.States as m
+use Rattle.iox_model.specs.States.{Handle, State}
 use Rattle.iox_laws.specs.MessageLaws.Deliveries.{messages_put_on}
 use Rattle.iox_laws.specs.MessageLaws.Holdings.{CameBy}
 use Rattle.iox_laws.specs.MessageLaws.Lists.{IsOneOf}
@@ -29,12 +31,19 @@ pub record ComeAtMostOnce (s : State) : Type 0 where
 pub record ComeInOrder (s : State) : Type 0 where
   pub order : (r : IsReachableState s) (y : Way) → AreWholeInOrder y (beats_of_reached s r) s
 
--- What a handle has that was received was delivered on its way and taken from there, whole.
+-- What a handle has that was received was delivered on its way and taken from there, whole. A read
+-- answers the words of its handle's message, user header and payload, and changes nothing.
 pub record AreAsDelivered (s : State) : Type 0 where
   pub had :
       (r : IsReachableState s) (node : ℕ) (h : Handle)
       → IsOneOf h (s.fixed.handles node) → IsTrue (is_received h.kind)
       → CameBy (way_of h) h.message (beats_of_reached s r)
+  pub read :
+      (t : State) (node n : ℕ) (words : List ℕ)
+      → IsCommand s (Port (Read node n)) (replies.Words words) t
+      → (h : Handle) × (subject s.fixed node n ≡ Some (TheHandle h))
+      × IsOneOf h (s.fixed.handles node)
+      × (words ≡ h.message.user ++ h.message.payload) × (t ≡ s)
 
 -- Each message that was delivered was sent, by some step of the same history.
 pub record WereSent (s : State) : Type 0 where
@@ -47,13 +56,13 @@ pub record WereSent (s : State) : Type 0 where
 pub record ComeAtTheirRequest (s : State) : Type 0 where
   pub responses :
       (t : State) (node n k : ℕ) (h : Handle) → subject s.fixed node n ≡ Some (TheHandle h)
-      → IsWholeCall s node (Receive n) (replies.Handle k) t
+      → IsCommand s (Port (Receive node n)) (replies.Handle k) t
       → (g : Handle) × (subject t.fixed node k ≡ Some (TheHandle g))
       × (g.kind ≡ Response) × (g.port ≡ h.port)
       × (g.message.lane ≡ h.lane) × (g.message.request ≡ h.request)
   pub requests :
-      (t : State) (node n k : ℕ) (p : Port) → subject s.fixed node n ≡ Some (ThePort p)
-      → IsWholeCall s node (Receive n) (replies.Handle k) t
+      (t : State) (node n k : ℕ) (p : m.Port) → subject s.fixed node n ≡ Some (ThePort p)
+      → IsCommand s (Port (Receive node n)) (replies.Handle k) t
       → (g : Handle) × (subject t.fixed node k ≡ Some (TheHandle g))
       × (g.kind ≡ ActiveRequest) × (g.port ≡ p.number)
       × (s.fixed.limits.fire_and_forget ≡ false

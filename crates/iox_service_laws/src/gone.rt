@@ -8,7 +8,7 @@ use iox_nodes::Service;
 use iox_store::Payload;
 use iox_words::Words;
 
-/// Nothing waits for a port that is gone, and nothing of it is outstanding.
+/// Nothing waits for a port that is gone, and nothing is outstanding to it or of it.
 pub fn keeps_nothing_for_the_gone<Q: Payload, QH: Words, P: Payload, PH: Words>(
     service: &Service<Q, QH, P, PH>,
 )
@@ -17,7 +17,8 @@ pub fn keeps_nothing_for_the_gone<Q: Payload, QH: Words, P: Payload, PH: Words>(
     service.is_served();
 }
 
-/// A service is closed exactly if it has no node, and then it has no port, handle or message.
+/// A service is closed exactly if it has no node, and then it has no port, handle or message. It
+/// stays closed, and nobody joins it.
 pub fn closes_with_the_last_node<Q: Payload, QH: Words, P: Payload, PH: Words>(
     service: &Service<Q, QH, P, PH>,
 )
@@ -26,8 +27,8 @@ pub fn closes_with_the_last_node<Q: Payload, QH: Words, P: Payload, PH: Words>(
     service.is_served();
 }
 
-/// Each later command of a port or handle by a node that died or left is refused, and changes
-/// nothing.
+/// Each later command of a node that died or left, also one to leave or to die, is refused, and
+/// changes nothing.
 pub fn the_dead_do_nothing<Q: Payload, QH: Words, P: Payload, PH: Words>(
     service: &Service<Q, QH, P, PH>,
 )

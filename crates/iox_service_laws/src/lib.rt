@@ -7,6 +7,7 @@ mod asked;
 mod gone;
 mod limits;
 mod messages;
+mod runs;
 pub mod uses;
 
 pub use asked::{cleanups_are_releases, listings_are_exact, refusals_leave_the_state};
@@ -17,3 +18,4 @@ pub use messages::{
     messages_are_as_delivered, messages_come_at_most_once, messages_come_at_their_request,
     messages_come_in_order, messages_were_sent,
 };
+pub use runs::runs_are_histories;

@@ -29,7 +29,7 @@ pub fn messages_come_in_order<Q: Payload, QH: Words, P: Payload, PH: Words>(
     service.is_served();
 }
 
-/// What a handle has that was received was delivered to it, whole.
+/// What a handle has that was received was delivered to it, whole, and is what a read answers.
 pub fn messages_are_as_delivered<Q: Payload, QH: Words, P: Payload, PH: Words>(
     service: &Service<Q, QH, P, PH>,
 )
