@@ -28,7 +28,7 @@ returns-in-Ok-clause-answered g c =
 
 pub returns-in-Err-clause-want : goal.returns-in-Err-clause-want
 returns-in-Err-clause-want g c =
-    living_wants UniqueSystemId c.self.inside.members c.self.inside.hub c.asker.result c.args.command c.in-Err.refusal c.in-Err.ensures.refused
+    living_wants UniqueSystemId c.self.inside.members.members c.self.inside.hub c.asker.result c.args.command c.in-Err.refusal c.in-Err.ensures.refused
 
 pub returns-in-Ok-clause-want : goal.returns-in-Ok-clause-want
 returns-in-Ok-clause-want g c =
