@@ -30,7 +30,7 @@ use iox_wire_lenders::{WireTerms, make_lender};
 use std::alloc::{AllocError, Global};
 
 /// Tells a copy of the servers to which the client at an index sends a request on its first free
-/// lane. Where it has none the copy is told of nobody. What it lists is of no use later.
+/// lane. Where it has none nothing is told. What it lists is of no use later.
 fn tell_servers(
     map: &WordMap,
     terms: &WireTerms,

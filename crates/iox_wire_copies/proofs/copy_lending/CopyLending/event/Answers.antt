@@ -1,4 +1,4 @@
-use Rattle.std.proofs.Common.{◌≡◌, None, sym, subst, ap, ◌∙◌}
+use Rattle.std.proofs.Common.{sym, subst, ap, ◌∙◌}
 use Rattle.iox_wire_locals.specs.declared.local.Local.{Local}
 use Rattle.iox_wire_seats.specs.SlotEvents.{slot_event}
 use Rattle.iox_wire_request_sends.specs.WireLoansAims as loans
@@ -6,7 +6,6 @@ use Rattle.iox_wire_copies.specs.contracts.copy_lending.CopyLending.{the_view}
 use Rattle.iox_wire_copies.specs.Copies.{ArePayloads, CopyLoan, local_of}
 use Rattle.iox_wire_copies.specs.CopyAims.{IsAimed}
 use Rattle.iox_wire_copies.specs.declared.at.CopyAt.{CopyAt}
-use Rattle.iox_wire_copies.specs.declared.at.CopyAt.TheVariants as at
 use Rattle.iox_wire_copies.proofs.EventLemmas.{event_alike}
 use Rattle.iox_wire_copies.proofs.LendLemmas.{Lends, aimed_loan}
 use Rattle.iox_wire_copies.proofs.copy_lending.CopyLending.event.Goals as goal
