@@ -1,5 +1,5 @@
 -- What the terms of a wire tell of a port, as its nodes know it.
-use Rattle.std.proofs.Common.{◌≡◌, ℕ, ◌<◌, Bool, true, false, List, length, get_or, Some, None, refl, ap, sym, subst, ◌∙◌}
+use Rattle.std.proofs.Common.{◌≡◌, ℕ, ◌<◌, true, false, List, length, get_or, Some, ap, sym, subst, ◌∙◌}
 use Rattle.std.specs.Prelude.{Option, IsSomeAnd, slice_get}
 use Rattle.std.specs.Option.{option_map_or}
 use Rattle.std.proofs.lemmas.Option.{slice_get-get_or}
@@ -13,7 +13,7 @@ use Rattle.iox_model.specs.Settings.{fails_by, fails_by_strategy, overflow_of}
 use Rattle.iox_model.specs.States.{Port}
 use Rattle.iox_wire_handle_calls.specs.PlanPort.{PlanPort}
 use Rattle.iox_wire_handle_calls.specs.WirePlan.{WirePlan}
-use Rattle.iox_wire_handle_calls.specs.Plans.{IsLaneAt, IsPlan, IsPortAt, IsSlotAt, details_of, number_at, planned_overflow, port_of, role_of}
+use Rattle.iox_wire_handle_calls.specs.Plans.{IsLaneAt, IsPlan, IsPortAt, IsSlotAt, number_at}
 use Rattle.iox_wire_handle_calls.proofs.PairLemmas.{index_there, one_of}
 use Rattle.iox_wire_handle_calls.proofs.PlanLemmas.{port_is}
 use Rattle.iox_wire_handle_calls.proofs.NameLemmas.{port_named}

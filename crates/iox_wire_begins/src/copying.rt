@@ -1,5 +1,5 @@
 //! How copies begin: loan, write and send in one call.
-ghost use Rattle.std.specs.Prelude.{ℕ, ◌≡◌, ◌*◌, ◌<◌, OnErr, OnOk, Some, false, length};
+ghost use Rattle.std.specs.Prelude.{ℕ, ◌≡◌, ◌*◌, OnErr, OnOk, Some, false, length};
 ghost use Rattle.iox_model.specs.declared.kind.Role.TheVariants.{Client};
 ghost use Rattle.iox_wire_handle_calls.specs.WayIndex.TheVariants.{Responses};
 ghost use Rattle.iox_wire_handle_calls.specs.Plans.{IsPortAt, IsWayAt, number_at, way_at};
@@ -23,15 +23,46 @@ ghost use Rattle.iox_wire_handle_calls.specs.Visits.{pool_of};
 use crate::lists::Lists;
 use crate::told::{request_terms, response_terms};
 use iox_wire_handle_calls::{
-    CopyingClient, CopyingServer, Entry, Stop, StoredSeat, WordMap, list_request_returns,
+    CopyingClient, CopyingServer, Entry, Stop, StoredSeat, Target, WordMap, list_request_returns,
     list_response_returns, list_targets, payload_places,
 };
 use iox_wire_lenders::{WireTerms, make_lender};
 use std::alloc::{AllocError, Global};
 
+/// Tells a copy of the servers to which the client at an index sends a request on its first free
+/// lane. Where it has none the copy is told of nobody. What it lists is of no use later.
+fn tell_servers(
+    map: &WordMap,
+    terms: &WireTerms,
+    seat: &StoredSeat,
+    copying: &mut CopyingClient,
+    client: usize,
+    targets: &mut Vec<Target>,
+) -> Result<(), AllocError>
+    requires rests { is_busy copying.old.local ≡ false }
+    requires client { IsPortAt map.now Client client }
+    requires plan { IsWirePlan map.now terms.now }
+    ensures knows { (p : Setting) → IsSettingWith map.now terms.now p
+        → OnOk result (requests.KnowsServersOnLane p seat.now.seat (number_at map.now client)
+        (first_lane (pool_of map.now (number_at map.now client))
+        (free_lanes seat.now.seat (number_at map.now client))) copying.new.sends) }
+    ensures rests { is_busy copying.new.local ≡ false }
+{
+    let plan = map.plan();
+    let at = plan.ports[client];
+    let lane = seat.first_lane(at.number, at.pool as u64);
+    if lane >= at.pool as u64 {
+        return Ok(());
+    }
+    let own = request_terms(map, terms, client);
+    let told = list_targets(map, seat, client, lane, own, targets)?;
+    copying.prepare(told, targets)?;
+    Ok(())
+}
+
 /// Begins to copy a request of these words, of so many elements, by the client at an index, on its
-/// first free lane. Its pending response will have that number. No copy may be under way. What is
-/// listed is of no use later.
+/// first free lane. Where it has none the loan finds no free slot. Its pending response will have
+/// that number. No copy may be under way. What is listed is of no use later.
 pub fn begin_request_copy(
     alloc: Global,
     map: &WordMap,
@@ -39,7 +70,6 @@ pub fn begin_request_copy(
     seat: &mut StoredSeat,
     copying: &mut CopyingClient,
     client: usize,
-    lane: u64,
     elements: Option<u64>,
     words: &[u64],
     number: u64,
@@ -49,9 +79,6 @@ pub fn begin_request_copy(
     requires seat { is_busy seat.old.seat.local ≡ false }
     requires client { IsPortAt map.now Client client }
     requires plan { IsWirePlan map.now terms.now }
-    requires lane { lane ≡ first_lane (pool_of map.now (number_at map.now client))
-        (free_lanes seat.old.seat (number_at map.now client)) }
-    requires open { lane < pool_of map.now (number_at map.now client) }
     requires whole { (k : ℕ) → elements ≡ Some k
         → length words.now ≡ k * element_words map.now client }
     ensures begun { (p : Setting) → IsSettingWith map.now terms.now p
@@ -60,7 +87,7 @@ pub fn begin_request_copy(
         ≡ copies_request p seat.old.seat (p.port (number_at map.now client)) elements words.now) }
     ensures aimed { (p : Setting) → IsSettingWith map.now terms.now p
         → number ≡ next_handle p seat.old.seat
-        → TellsOfSlot p copying.new.local
+        → requests.TellsOfSlotAndLane p copying.new.local
         → OnOk result (requests.IsAimed p seat.new.seat copying.new) }
     ensures may { (x : Placed) → MayLend x number (number_at map.now client) → OnOk result
         (MayBeMade x copying.new.at copying.new.lends.lending.order copying.new.sends.loan) }
@@ -70,12 +97,10 @@ pub fn begin_request_copy(
 {
     // only what this promises is wanted
     let _plan = map.plan();
-    let own = request_terms(map, terms, client);
-    let told = list_targets(map, seat, client, lane, own, &mut lists.targets)?;
+    tell_servers(map, terms, seat, copying, client, &mut lists.targets)?;
     let room = list_request_returns(map, seat, client, &mut lists.stops)?;
     let lender = make_lender(alloc, map, terms, client, room)?;
     let places = payload_places(map, client);
-    copying.prepare(told, &lists.targets)?;
     copying.begin(seat, &lender, places, number, elements, words, &lists.stops)
 }
 

@@ -1,20 +1,18 @@
 -- Neither a step nor the end of a call changes which ports a node has, and on which ways it sends and counts.
-use Rattle.std.proofs.Common.{◌≡◌, ℕ, Bool, true, false, if◌then◌else◌, List, [], ◌∷◌, ◌++◌, map, length, Option, Some, None, refl, ap, ap₂, sym, subst, ◌∙◌}
+use Rattle.std.proofs.Common.{◌≡◌, ℕ, Bool, true, false, if◌then◌else◌, List, [], ◌∷◌, map, length, Option, Some, None, refl, ap, ap₂, ◌∙◌}
 use Rattle.std.specs.Prelude.{flat_map}
-use Rattle.iox_model.specs.Maps.{has_number, same_way}
+use Rattle.iox_model.specs.Maps.{same_way}
 use Rattle.iox_model.specs.Peers.{ports_of_node}
 use Rattle.iox_model.specs.declared.way.Way.{Way}
 use Rattle.iox_wire_locals.specs.declared.local.Ending.{Ending}
 use Rattle.iox_wire_locals.specs.declared.local.Ending.TheVariants as endings
-use Rattle.iox_wire_locals.specs.declared.local.Local.TheVariants.{Idle}
 use Rattle.iox_wire_locals.specs.declared.seat.Seat.{Seat}
 use Rattle.iox_wire_locals.specs.declared.table.Borrowed.{Borrowed}
 use Rattle.iox_wire_locals.specs.declared.table.Desk.{Desk}
 use Rattle.iox_wire_locals.specs.declared.table.Entry.{Entry}
-use Rattle.iox_wire_locals.specs.Courses.{placed}
-use Rattle.iox_wire_locals.specs.Desks.{all_less, at_count, at_desk, counts_loan, forgets_ports, gives_up, releases_message, slots_to, uses_less, with_count, without_slots_to}
+use Rattle.iox_wire_locals.specs.Desks.{all_less, at_count, counts_loan, forgets_ports, gives_up, releases_message, slots_to, uses_less, with_count, without_slots_to}
 use Rattle.iox_wire_locals.specs.Known.{known}
-use Rattle.iox_wire_locals.specs.Settlements.{after_refused_send, after_send, forgets, sends_away, sends_entry, settled}
+use Rattle.iox_wire_locals.specs.Settlements.{after_refused_send, forgets, sends_away, sends_entry, settled}
 use Rattle.iox_wire_locals.specs.Steps.{accessed, advance, closed, ending_at, next}
 use Rattle.iox_wire_locals.specs.Tables.{Setting, way_in}
 use Rattle.iox_wire_copies.proofs.CountLemmas.{PortsAlike, advanced, as_many, at_a_desk}

@@ -13,7 +13,7 @@ use Rattle.iox_wire_seats.specs.Seats.{Placed}
 use Rattle.iox_wire_request_sends.specs.LendReply.{LendReply}
 use Rattle.iox_wire_request_sends.specs.Order.{Order}
 use Rattle.iox_wire_request_sends.specs.SlotPlaces.{SlotPlaces}
-use Rattle.iox_wire_request_sends.specs.WireLoansAims.{GetsBackUsed, IsLoanAt, TellsOfSlot, is_storing}
+use Rattle.iox_wire_request_sends.specs.WireLoansAims.{GetsBackUsed, IsLoanAt, IsStoring, TellsOfSlot, is_storing}
 use Rattle.iox_wire_request_sends.specs.WireLoansAims as loans
 use Rattle.iox_wire_copies.specs.declared.at.CopyAt.{CopyAt}
 use Rattle.iox_wire_copies.specs.declared.at.CopyAt.TheVariants as at
@@ -52,6 +52,10 @@ used_alike x payload l used = tt
 pub slot_alike : (p : Setting) (payload : List ℕ) (l : Local) → TellsOfSlot p (with_payload payload l) → TellsOfSlot p l
 slot_alike p payload (LendStores o slot n) told = told
 slot_alike p payload l told = tt
+
+pub stores_alike : (payload : List ℕ) (l : Local) → IsStoring l → IsStoring (with_payload payload l)
+stores_alike payload (LendStores o slot n) is = tt
+stores_alike payload l is = absurd is
 
 -- ---- a step
 

@@ -10,3 +10,4 @@ pub mod RespondLemmas
 pub mod CountLemmas
 pub mod BeginCounts
 pub mod EndCounts
+pub mod EventLemmas

@@ -1,10 +1,12 @@
 -- How the copy of a request goes on from its loan to its send.
-use Rattle.std.proofs.Common.{◌≡◌, ℕ, true, false, List, refl, ap, sym, subst, true≢false, ◌∙◌}
+use Rattle.std.proofs.Common.{◌≡◌, ◌<◌, ℕ, true, false, List, refl, ap, sym, subst, true≢false, ◌∙◌}
 use Rattle.std.specs.Prelude.{Option, None, Some, option_map}
+use Rattle.iox_model.specs.Handles.{is_request_loan}
+use Rattle.iox_model.specs.declared.kind.Kind.TheVariants.{RequestMut}
 use Rattle.iox_model.specs.declared.kind.Role.TheVariants.{Server}
 use Rattle.iox_model.specs.Peers.{others}
 use Rattle.iox_wire_locals.specs.declared.local.Local.{Local}
-use Rattle.iox_wire_locals.specs.declared.local.Local.TheVariants.{Idle, Ends, SendEnds}
+use Rattle.iox_wire_locals.specs.declared.local.Local.TheVariants.{Idle, Ends, LendStores, SendEnds}
 use Rattle.iox_wire_locals.specs.declared.seat.Seat.{Seat}
 use Rattle.iox_wire_locals.specs.declared.table.Entry.{Entry}
 use Rattle.iox_wire_locals.specs.Begins.{is_busy}
@@ -15,7 +17,7 @@ use Rattle.iox_wire_locals.specs.Settlements.{reply_of}
 use Rattle.iox_wire_locals.specs.Steps.{closed, ending_at, next, tells}
 use Rattle.iox_wire_locals.specs.Tables.{Setting}
 use Rattle.iox_wire_seats.specs.Seats.{Placed}
-use Rattle.iox_wire_request_sends.specs.WireLoansAims.{TellsOfSlot, after, answered}
+use Rattle.iox_wire_request_sends.specs.WireLoansAims.{IsStoring, TellsOfSlot, after, answered}
 use Rattle.iox_wire_request_sends.specs.Orders.{loan_of}
 use Rattle.iox_wire_request_sends.specs.LendReply.{LendReply}
 use Rattle.iox_wire_request_sends.specs.Order.{Order}
@@ -28,10 +30,10 @@ use Rattle.iox_wire_copies.specs.declared.at.CopierAt.TheVariants as at
 use Rattle.iox_wire_copies.specs.declared.at.CopyLent.TheVariants as lent
 use Rattle.iox_wire_copies.specs.declared.at.CopyReply.{CopyReply}
 use Rattle.iox_wire_copies.specs.declared.at.CopyReply.TheVariants as copy_replies
-use Rattle.iox_wire_copies.specs.Copies.{CopyLoan}
+use Rattle.iox_wire_copies.specs.Copies.{CopyLoan, StoresOrder}
 use Rattle.iox_wire_copies.specs.CopyAims as copies
 use Rattle.iox_wire_copies.specs.CopyAims.{HasSamePeers, IsSameCopy}
-use Rattle.iox_wire_copies.specs.CopyCalls.{AreAimed, CopyCall, GoesOn, Answers, IsAimed, KnowsServers, LeadsTo, SendsTo, StaysAimed, reply_in}
+use Rattle.iox_wire_copies.specs.CopyCalls.{AreAimed, CopyCall, GoesOn, Answers, IsAimed, KnowsServers, KnowsServersAt, KnowsServersOnLane, LeadsTo, SendsTo, StaysAimed, TellsOfLane, reply_in}
 use Rattle.iox_wire_copies.proofs.LendLemmas.{it_rests}
 
 -- ---- where it is
@@ -47,7 +49,7 @@ pub record Sends (r : CopyCall) : Type 0 where
   pub local : r.local ≡ r.sends.local
 
 pub aimed_lends : (p : Setting) (x : Seat) (r : CopyCall) → Lends r → IsAimed p x r
-    → copies.IsAimed p x r.lends × KnowsServers p x r.lends.lending.order.port r.lends.lending.order.lane r.sends
+    → copies.IsAimed p x r.lends × KnowsServersAt p x r.lends.local r.lends.lending.order r.sends
 aimed_lends p x r lends aim = subst (λ (a : CopierAt). AreAimed p x a r) lends.at aim
 
 pub aimed_sends : (p : Setting) (x : Seat) (r : CopyCall) → Sends r → IsAimed p x r → requests.IsAimed p x r.sends
@@ -64,6 +66,24 @@ servers_stay p x y port lane r peers knows = record {
   targets = knows.targets;
   servers = knows.servers ∙ sym (same_others p x y peers);
 }
+
+-- ---- a loan knows the servers once it has a lane
+
+on_lane : (p : Setting) (x : Seat) (l : Local) (order : Order) (r : RequestDispatch) → KnowsServersAt p x l order r → KnowsServersOnLane p x order.port order.lane r
+on_lane p x (LendStores o slot n) order r knows = λ low. knows
+on_lane p x l order r knows = knows
+
+pub known_at : (p : Setting) (x : Seat) (l : Local) (order : Order) (r : RequestDispatch) → order.kind ≡ RequestMut → StoresOrder order l → TellsOfLane p l
+    → KnowsServersOnLane p x order.port order.lane r → KnowsServersAt p x l order r
+known_at p x (LendStores o slot n) order r kind stores told knows =
+    knows (subst (λ (lane : ℕ). lane < p.layout.sizes.lanes order.port) stores.2
+    (subst (λ (port : ℕ). o.lane < p.layout.sizes.lanes port) stores.1 (told (ap is_request_loan (stores.0 ∙ kind)))))
+known_at p x l order r kind stores told knows = knows
+
+known_stored : (p : Setting) (x : Seat) (l : Local) (order : Order) (r : RequestDispatch) → IsStoring l → KnowsServersAt p x l order r
+    → KnowsServers p x order.port order.lane r
+known_stored p x (LendStores o slot n) order r is knows = knows
+known_stored p x l order r is knows = absurd is
 
 -- ---- the send begins
 
@@ -118,14 +138,18 @@ lends_over x y r s seen lends led p aim =
     ap (λ (l : Local). tells p (placed x.seat l) seen) lends.local ∙ (led p (aimed_lends p x.seat r lends aim).0).1
 
 pub lends_aimed : (x y : Placed) (r s : CopyCall) → Lends r → s.at ≡ at.Lends → s.local ≡ s.lends.local → s.sends ≡ r.sends
-    → copies.StaysAimed x r.lends y s.lends → copies.KeepsPeers x r.lends y → IsSameCopy r.lends s.lends → StaysAimed x r y s
-lends_aimed x y r s lends at' local told stays peers same p aim of_slot =
-    let known_so : copies.IsAimed p x.seat r.lends × KnowsServers p x.seat r.lends.lending.order.port r.lends.lending.order.lane r.sends = aimed_lends p x.seat r lends aim in
+    → copies.StaysAimed x r.lends y s.lends → copies.KeepsPeers x r.lends y → IsSameCopy r.lends s.lends
+    → s.lends.lending.order.kind ≡ RequestMut → StoresOrder s.lends.lending.order s.lends.local → StaysAimed x r y s
+lends_aimed x y r s lends at' local told stays peers same kind stores p aim of_slot =
+    let known_so : copies.IsAimed p x.seat r.lends × KnowsServersAt p x.seat r.lends.local r.lends.lending.order r.sends = aimed_lends p x.seat r lends aim in
+    let knows : KnowsServersOnLane p y.seat r.lends.lending.order.port r.lends.lending.order.lane r.sends =
+    λ low. servers_stay p x.seat y.seat r.lends.lending.order.port r.lends.lending.order.lane r.sends (peers p known_so.0)
+    (on_lane p x.seat r.lends.local r.lends.lending.order r.sends known_so.1 low) in
     subst (λ (a : CopierAt). AreAimed p y.seat a s) (sym at') (
-      stays p known_so.0 (subst (TellsOfSlot p) local of_slot),
-      subst (λ (q : RequestDispatch). KnowsServers p y.seat s.lends.lending.order.port s.lends.lending.order.lane q) (sym told)
-          (subst (λ (o : Order). KnowsServers p y.seat o.port o.lane r.sends) (sym same.order)
-          (servers_stay p x.seat y.seat r.lends.lending.order.port r.lends.lending.order.lane r.sends (peers p known_so.0) known_so.1)),
+      stays p known_so.0 (subst (TellsOfSlot p) local of_slot.0),
+      known_at p y.seat s.lends.local s.lends.lending.order s.sends kind stores (subst (TellsOfLane p) local of_slot.1)
+          (subst (λ (q : RequestDispatch). KnowsServersOnLane p y.seat s.lends.lending.order.port s.lends.lending.order.lane q) (sym told)
+          (subst (λ (o : Order). KnowsServersOnLane p y.seat o.port o.lane r.sends) (sym same.order) knows)),
     )
 
 -- the loan is refused
@@ -143,12 +167,13 @@ refused_over x y r k seen reply lends led p aim =
 -- the loan is made, and sent
 pub made_leads : (p : Setting) (x y z : Placed) (r s : CopyCall) (k : CopyLoan) (loan : Entry) (seen : ℕ) (result : Option CopyReply) → Lends r
     → copies.GoesOn x r.lends seen y k (Some (lent.Made loan)) → copies.KeepsPeers x r.lends y → IsSameCopy r.lends k → loan ≡ entry_in (loan_of k.lending.order) loan.slot
-    → SendsTo y.seat r.sends loan z s result → IsAimed p x.seat r → LeadsTo p y.seat loan z s result
-made_leads p x y z r s k loan seen result lends led peers same made sent aim =
-    let known_so : copies.IsAimed p x.seat r.lends × KnowsServers p x.seat r.lends.lending.order.port r.lends.lending.order.lane r.sends = aimed_lends p x.seat r lends aim in
+    → IsStoring r.lends.local → SendsTo y.seat r.sends loan z s result → IsAimed p x.seat r → LeadsTo p y.seat loan z s result
+made_leads p x y z r s k loan seen result lends led peers same made stored sent aim =
+    let known_so : copies.IsAimed p x.seat r.lends × KnowsServersAt p x.seat r.lends.local r.lends.lending.order r.sends = aimed_lends p x.seat r lends aim in
     sent p
     (subst (λ (e : Entry). KnowsServers p y.seat e.port e.lane r.sends) (sym (made ∙ ap (λ (o : Order). entry_in (loan_of o) loan.slot) same.order))
-    (servers_stay p x.seat y.seat r.lends.lending.order.port r.lends.lending.order.lane r.sends (peers p known_so.0) known_so.1))
+    (servers_stay p x.seat y.seat r.lends.lending.order.port r.lends.lending.order.lane r.sends (peers p known_so.0)
+    (known_stored p x.seat r.lends.local r.lends.lending.order r.sends stored known_so.1)))
     (led p known_so.0).2
 
 pub made_next : (p : Setting) (x y z : Placed) (r s : CopyCall) (k : CopyLoan) (loan : Entry) (seen : ℕ) (result : Option CopyReply) → Lends r

@@ -85,6 +85,12 @@ IsLoanOf kind (LendEmpties o w place left) = o.kind ≡ kind
 IsLoanOf kind (LendStores o slot next) = o.kind ≡ kind
 IsLoanOf kind local = ⊥
 
+-- what is stored is the loan of that order
+abbrev pub StoresOrder : Order → Local → Type 0
+StoresOrder order (LendStores o slot next) =
+    (o.kind ≡ order.kind) × (o.port ≡ order.port) × (o.lane ≡ order.lane)
+StoresOrder order local = Unit {0}
+
 -- ---- the wire
 
 -- The payloads of the port stand there on the wire, in each slot.

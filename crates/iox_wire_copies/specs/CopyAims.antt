@@ -12,7 +12,7 @@ use Rattle.iox_wire_seats.specs.Aims.{IsPayloadAt}
 use Rattle.iox_wire_seats.specs.Desks.{MayGiveUp}
 use Rattle.iox_wire_seats.specs.Lends.{MayLend}
 use Rattle.iox_wire_seats.specs.Seats.{Placed}
-use Rattle.iox_wire_request_sends.specs.WireLoansAims.{Knows, TellsOfSlot, after, answered}
+use Rattle.iox_wire_request_sends.specs.WireLoansAims.{IsStoring, Knows, TellsOfSlot, after, answered}
 use Rattle.iox_wire_request_sends.specs.WireLoansAims as loans
 use Rattle.iox_wire_request_sends.specs.Loans.{reply_in}
 use Rattle.iox_wire_request_sends.specs.Orders.{loan_of}
@@ -66,6 +66,11 @@ StaysAimed x r y s =
 abbrev pub IsMade : Order → Option CopyLent → Type 0
 IsMade order (Some (lent.Made loan)) = loan ≡ entry_in (loan_of order) loan.slot
 IsMade order result = Unit {0}
+
+-- it is made with the last word that it stores
+abbrev pub IsMadeAt : Local → Option CopyLent → Type 0
+IsMadeAt local (Some (lent.Made loan)) = IsStoring local
+IsMadeAt local result = Unit {0}
 
 -- it is the loan of the same order, told of the same slots
 pub record IsSameCopy (r s : CopyLoan) : Type 0 where

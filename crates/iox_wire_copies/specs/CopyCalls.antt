@@ -1,13 +1,14 @@
 -- The call of a client that copies a request, and what a step of it does.
 use Rattle.std.specs.Prelude.{◌≡◌, ◌+◌, ◌<◌, ◌^◌, ℕ, true, Option, option_map}
 use Rattle.iox_model.specs.Commands.{Reply}
+use Rattle.iox_model.specs.Handles.{is_request_loan}
 use Rattle.iox_model.specs.Peers.{others}
 use Rattle.iox_model.specs.declared.kind.Kind.TheVariants.{RequestMut}
 use Rattle.iox_model.specs.declared.kind.Role.TheVariants.{Server}
 use Rattle.iox_wire_locals.specs.declared.local.CallRefusal.TheVariants.{WrongLength}
 use Rattle.iox_wire_locals.specs.declared.local.Ending.TheVariants.{Refuses}
 use Rattle.iox_wire_locals.specs.declared.local.Local.{Local}
-use Rattle.iox_wire_locals.specs.declared.local.Local.TheVariants.{Ends, Idle}
+use Rattle.iox_wire_locals.specs.declared.local.Local.TheVariants.{Ends, Idle, LendStores}
 use Rattle.iox_wire_locals.specs.declared.seat.Seat.{Seat}
 use Rattle.iox_wire_locals.specs.declared.table.Entry.{Entry}
 use Rattle.iox_wire_locals.specs.Courses.{placed, sends}
@@ -65,18 +66,39 @@ pub record KnowsServers
       (loan : Entry) → loan.port ≡ port → loan.lane ≡ lane → AreTargets p s.terms loan s.targets
   pub servers : servers_of s.targets ≡ others (known p x) x.node Server
 
+-- if the client has that lane
+abbrev pub KnowsServersOnLane :
+    Setting → Seat → (port lane : ℕ) → RequestDispatch → Type 0
+KnowsServersOnLane p x port lane s =
+    lane < p.layout.sizes.lanes port → KnowsServers p x port lane s
+
+-- A loan that stores its words is sent, so the servers are known. Before that it may have no lane.
+abbrev pub KnowsServersAt : Setting → Seat → Local → Order → RequestDispatch → Type 0
+KnowsServersAt p x (LendStores o slot next) order s = KnowsServers p x order.port order.lane s
+KnowsServersAt p x local order s = KnowsServersOnLane p x order.port order.lane s
+
 -- the places that it knows of are those of the words that it still accesses
 abbrev pub AreAimed : Setting → Seat → CopierAt → CopyCall → Type 0
 AreAimed p x at.Rest r = Unit {0}
 AreAimed p x at.Refuses r = Unit {0}
 AreAimed p x at.Lends r =
     copies.IsAimed p x r.lends
-    × KnowsServers p x r.lends.lending.order.port r.lends.lending.order.lane r.sends
+    × KnowsServersAt p x r.lends.local r.lends.lending.order r.sends
 AreAimed p x at.Sends r = requests.IsAimed p x r.sends
 
 -- the places that it knows of are those of its place
 abbrev pub IsAimed : Setting → Seat → CopyCall → Type 0
 IsAimed p x r = AreAimed p x r.at r
+
+-- a request whose words are stored is on a lane of its client
+abbrev pub TellsOfLane : Setting → Local → Type 0
+TellsOfLane p (LendStores o slot next) =
+    is_request_loan o.kind ≡ true → o.lane < p.layout.sizes.lanes o.port
+TellsOfLane p local = Unit {0}
+
+-- and the slot that it took is one of its port's pool
+abbrev pub TellsOfSlotAndLane : Setting → Local → Type 0
+TellsOfSlotAndLane p local = TellsOfSlot p local × TellsOfLane p local
 
 -- ---- where it is
 
@@ -124,7 +146,7 @@ Answers x r seen reply =
 -- and it knows the places of what it accesses next.
 abbrev pub StaysAimed : Placed → CopyCall → Placed → CopyCall → Type 0
 StaysAimed x r y s =
-    (p : Setting) → IsAimed p x.seat r → TellsOfSlot p s.local → IsAimed p y.seat s
+    (p : Setting) → IsAimed p x.seat r → TellsOfSlotAndLane p s.local → IsAimed p y.seat s
 
 -- it is the copy of the same order, told of the same servers
 pub record IsSameCall (r s : CopyCall) : Type 0 where

@@ -2,6 +2,7 @@
 ghost use Rattle.std.specs.Prelude.{◌≡◌};
 
 mod begin;
+mod event;
 mod lend;
 mod place;
 mod respond;
@@ -100,8 +101,8 @@ impl CopyLending {
     ghost use Rattle.iox_wire_seats.specs.Aims.{KeepsRoom};
     ghost use Rattle.iox_wire_seats.specs.Lends.{MayLend};
     ghost use Rattle.iox_wire_request_sends.specs.WireLoansAims.{GetsBackUsed};
-    ghost use Rattle.iox_wire_copies.specs.CopyAims.{GoesOn, HoldsMade, IsAimed, IsMade, IsSameCopy};
-    ghost use Rattle.iox_wire_copies.specs.CopyAims.{KeepsPeers, MayLendMade, StaysAimed};
+    ghost use Rattle.iox_wire_copies.specs.CopyAims.{GoesOn, HoldsMade, IsAimed, IsMade, IsMadeAt};
+    ghost use Rattle.iox_wire_copies.specs.CopyAims.{IsSameCopy, KeepsPeers, MayLendMade, StaysAimed};
 
     /// No loan is under way.
     pub fn new(alloc: Global) -> CopyLending
@@ -155,6 +156,7 @@ impl CopyLending {
         ensures next { GoesOn seat.old self.old seen seat.new self.new result }
         ensures aimed { StaysAimed seat.old self.old seat.new self.new }
         ensures made { IsMade self.new.lending.order result }
+        ensures stored { IsMadeAt self.old.local result }
         ensures held { HoldsMade seat.old self.old seat.new result }
         ensures busy { is_busy self.new.local ≡ is_none result }
         ensures accesses { seat.new.seat.accesses ≡ seat.old.seat.accesses + 1 }

@@ -3,6 +3,7 @@ ghost use Rattle.std.specs.Prelude.{◌≡◌};
 
 mod begin;
 mod empty;
+mod event;
 mod store;
 
 use crate::at::{LendAt, LendReply};

@@ -68,7 +68,7 @@ module _ (p : Setting) (call : WireCall) (X : Seat → Seat) {n old : Node} (sam
     ready = subst (λ (o : Node). IsReady p o (record n { at = at.Receives; receives = y })) same ready;
   }
 
-  pub copied_request_beside : (s : Placed) (y : CopyCall) → placed s.seat y.local ≡ X n.seat.seat → (TellsOfSlot p y.local → request_copies.IsAimed p s.seat y)
+  pub copied_request_beside : (s : Placed) (y : CopyCall) → placed s.seat y.local ≡ X n.seat.seat → (request_copies.TellsOfSlotAndLane p y.local → request_copies.IsAimed p s.seat y)
       → IsReady p n (record n { at = at.CopiesRequest; seat = s; copies_request = y })
       → IsUnderWay p old call (record n { at = at.CopiesRequest; seat = s; copies_request = y })
   copied_request_beside s y begun aimed ready = record {

@@ -38,11 +38,11 @@ abbrev pub IsAimed : Setting → Node → Type 0
 IsAimed p n = AreAimed p n.at n
 
 -- the slot that a call took is one of a port's pool, and the lane that a header tells one of its
--- client; a call that takes no slot asks nothing
+-- client, as is the lane of a request that a copy stores; a call that takes no slot asks nothing
 abbrev pub TellsOfPools : Setting → CallAt → Local → Type 0
 TellsOfPools p at.Receives local = TellsOfSource p local
 TellsOfPools p at.Lends local = TellsOfSlot p local
-TellsOfPools p at.CopiesRequest local = TellsOfSlot p local
+TellsOfPools p at.CopiesRequest local = request_copies.TellsOfSlotAndLane p local
 TellsOfPools p at.CopiesResponse local = TellsOfSlot p local
 TellsOfPools p call local = Unit {0}
 

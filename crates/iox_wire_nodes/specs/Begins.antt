@@ -1,5 +1,5 @@
 -- How a node begins a call.
-use Rattle.std.specs.Prelude.{◌≡◌, ◌+◌, ◌<◌, ◌^◌, ◌≤◌, ℕ, if◌then◌else◌, IfSome, None, Option, true}
+use Rattle.std.specs.Prelude.{◌≡◌, ◌+◌, ◌<◌, ◌^◌, ℕ, if◌then◌else◌, IfSome, None, Option, true}
 use Rattle.iox_model.specs.declared.call.WireCall.TheVariants.{Port}
 use Rattle.iox_model.specs.declared.kind.Kind.{Kind}
 use Rattle.iox_model.specs.Commands.{Refusal, WireCall}
@@ -9,13 +9,11 @@ use Rattle.iox_wire_begins.specs.HandleCalls.{refusal_in}
 use Rattle.iox_wire_begins.specs.WirePlans.{HandleStands}
 use Rattle.iox_wire_begins.specs.WireTerms.{WireTerms}
 use Rattle.iox_wire_begins.specs.Seat.{Seat}
-use Rattle.iox_wire_begins.specs.Known.{free_lanes}
-use Rattle.iox_wire_begins.specs.Lendings.{first_lane, next_handle}
+use Rattle.iox_wire_begins.specs.Lendings.{next_handle}
 use Rattle.iox_wire_begins.specs.Aims.{KeepsRoom}
 use Rattle.iox_wire_begins.specs.Lends.{MayLend}
 use Rattle.iox_wire_begins.specs.Begins.{begin, is_busy, refusal_at}
 use Rattle.iox_wire_begins.specs.Tables.{Setting, entry_at}
-use Rattle.iox_wire_begins.specs.Visits.{pool_of}
 use Rattle.iox_wire_nodes.specs.declared.call_at.CallAt.{CallAt}
 use Rattle.iox_wire_nodes.specs.declared.call_at.CallAt.TheVariants as at
 use Rattle.iox_wire_nodes.specs.declared.node_error.NodeError.{NodeError}
@@ -87,19 +85,9 @@ send_at kind = if is_request_loan kind then at.SendsRequest else at.SendsRespons
 
 -- ---- why no call begins
 
--- the machine's name of a refusal; what no node begins yet is none
+-- the machine's name of a refusal; want of memory is none
 abbrev pub node_refusal : NodeError → Option Refusal
 node_refusal (errors.Begin error) = refusal_in error
-node_refusal errors.Unsupported = None
-
--- all lanes of that client are in use
-abbrev pub HasNoLane : WirePlan → Seat → ℕ → Type 0
-HasNoLane plan x port = pool_of plan port ≤ first_lane (pool_of plan port) (free_lanes x port)
-
--- what no node begins yet: the copy of a request where all lanes of its client are in use
-abbrev pub IsLeftOut : WirePlan → Seat → NodeCall → Type 0
-IsLeftOut plan x (SendCopy n y) = HasNoLane plan x n
-IsLeftOut plan x call = ⊥
 
 -- ---- what a node may rely on as it begins a call
 

@@ -11,8 +11,6 @@ use std::alloc::AllocError;
 pub enum NodeError {
     /// It is refused, or there is no memory for it.
     Begin(BeginError),
-    /// It is not refused, but no node begins it yet.
-    Unsupported,
 }
 
 impl From<BeginError> for NodeError {

@@ -1,6 +1,7 @@
 //! A receive of a node of a wire.
 ghost use Rattle.std.specs.Prelude.{◌≡◌};
 
+mod event;
 mod give;
 mod load;
 mod pop;

@@ -5,3 +5,4 @@ pub mod StartLemmas
 pub mod StepLemmas
 pub mod LeadLemmas
 pub mod PlaceLemmas
+pub mod EventLemmas

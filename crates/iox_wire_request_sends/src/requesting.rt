@@ -4,6 +4,7 @@ ghost use Rattle.std.specs.Prelude.{◌≡◌};
 mod begin;
 mod deliver;
 mod empty;
+mod event;
 mod finish;
 mod look;
 mod place;

@@ -11,6 +11,8 @@ pub mod Counted
 -- a seat, and the places that it knows of
 pub mod Seats
 pub mod Aims
+-- the event of its next access
+pub mod SlotEvents
 -- what a call leaves there that is kept beside the seat
 pub mod Keeps
 pub mod Lends

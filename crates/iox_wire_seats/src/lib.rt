@@ -24,5 +24,5 @@ pub use entries::Entries;
 pub use message_places::MessagePlaces;
 pub use popper::Popper;
 pub use pusher::Pusher;
-pub use seat::{StoredSeat, is_named, pending_entry};
+pub use seat::{StoredSeat, is_named, look_event, pending_entry};
 pub use stops::{Stop, Stops};

@@ -2,6 +2,8 @@
 ghost use Rattle.std.specs.Prelude.{◌≡◌};
 ghost use Rattle.iox_steps.specs.Pops.{is_taken, take_access, waiting_event};
 
+mod event;
+
 use iox_steps::{Access, QueueEvent, QueueKind, Site};
 use std::marker::Model;
 

@@ -3,6 +3,8 @@ ghost use Rattle.std.specs.Prelude.{◌≡◌, ◌==◌};
 ghost use Rattle.iox_steps.specs.Pushes.{is_refused, room_event};
 ghost use Rattle.iox_steps.specs.Sites.{last_position};
 
+mod event;
+
 use iox_steps::{Access, QueueEvent, QueueKind, Site};
 use std::marker::Model;
 

@@ -4,6 +4,7 @@ ghost use Rattle.std.specs.Prelude.{◌≡◌};
 mod ask;
 mod begin;
 mod deliver;
+mod event;
 mod finish;
 mod look;
 mod place;

@@ -12,7 +12,7 @@ impl CopyLending {
     ghost use Rattle.iox_wire_seats.specs.Lends.{MayLend};
     ghost use Rattle.iox_wire_request_sends.specs.WireLoansAims.{GetsBackUsed, IsLoanAt, is_storing};
     ghost use Rattle.iox_wire_copies.specs.CopyAims.{GoesOn, HoldsMade, IsLending, IsMade};
-    ghost use Rattle.iox_wire_copies.specs.CopyAims.{IsSameCopy, KeepsPeers, MayLendMade};
+    ghost use Rattle.iox_wire_copies.specs.CopyAims.{IsMadeAt, IsSameCopy, KeepsPeers, MayLendMade};
     ghost use Rattle.iox_wire_copies.specs.CopyAims.{StaysAimed};
 
     /// An access of the loan before it stores. If the loan is over it is refused.
@@ -29,6 +29,7 @@ impl CopyLending {
         ensures next { GoesOn seat.old self.old seen seat.new self.new result }
         ensures aimed { StaysAimed seat.old self.old seat.new self.new }
         ensures made { IsMade self.new.lending.order result }
+        ensures stored { IsMadeAt self.old.local result }
         ensures held { HoldsMade seat.old self.old seat.new result }
         ensures busy { is_busy self.new.local ≡ is_none result }
         ensures accesses { seat.new.seat.accesses ≡ seat.old.seat.accesses + 1 }

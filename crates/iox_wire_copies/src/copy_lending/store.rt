@@ -11,7 +11,7 @@ impl CopyLending {
     ghost use Rattle.iox_wire_seats.specs.Keeps.{counted};
     ghost use Rattle.iox_wire_request_sends.specs.WireLoansAims.{HasNextWord, IsLoanAt, IsStoring};
     ghost use Rattle.iox_wire_copies.specs.CopyAims.{GoesOn, HoldsMade, IsLending, IsMade};
-    ghost use Rattle.iox_wire_copies.specs.CopyAims.{IsSameCopy, IsWriting, StaysAimed};
+    ghost use Rattle.iox_wire_copies.specs.CopyAims.{IsMadeAt, IsSameCopy, IsWriting, StaysAimed};
 
     /// A word in front of the payload is stored. With the last it goes on to the payload, and
     /// without one it is over.
@@ -25,6 +25,7 @@ impl CopyLending {
         ensures next { (seen : ℕ) → GoesOn seat.old self.old seen seat.new self.new result }
         ensures aimed { StaysAimed seat.old self.old seat.new self.new }
         ensures made { IsMade self.new.lending.order result }
+        ensures stored { IsMadeAt self.old.local result }
         ensures held { HoldsMade seat.old self.old seat.new result }
         ensures busy { is_busy self.new.local ≡ is_none result }
         ensures same { IsSameCopy self.old self.new }
@@ -53,6 +54,7 @@ impl CopyLending {
         ensures next { (seen : ℕ) → GoesOn seat.old self.old seen seat.new self.new result }
         ensures aimed { StaysAimed seat.old self.old seat.new self.new }
         ensures made { IsMade self.new.lending.order result }
+        ensures stored { IsMadeAt self.old.local result }
         ensures held { HoldsMade seat.old self.old seat.new result }
         ensures busy { is_busy self.new.local ≡ is_none result }
         ensures same { IsSameCopy self.old self.new }

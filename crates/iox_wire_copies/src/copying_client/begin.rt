@@ -21,12 +21,12 @@ impl CopyingClient {
     ghost use Rattle.iox_wire_seats.specs.Aims.{QueuesInMemory};
     ghost use Rattle.iox_wire_seats.specs.Lends.{MayLend};
     ghost use Rattle.iox_wire_seats.specs.Seats.{Placed, ways_of};
-    ghost use Rattle.iox_wire_request_sends.specs.WireLoansAims.{IsOrdered, LeavesSeat, TellsOfSlot};
+    ghost use Rattle.iox_wire_request_sends.specs.WireLoansAims.{IsOrdered, LeavesSeat};
     ghost use Rattle.iox_wire_request_sends.specs.Lenders.{AreReturning, IsClient, IsLender, IsWhole};
     ghost use Rattle.iox_wire_request_sends.specs.Targets.{AreWithin};
     ghost use Rattle.iox_wire_copies.specs.Copiers.{MayBeMade};
     ghost use Rattle.iox_wire_copies.specs.Copies.{ArePayloads};
-    ghost use Rattle.iox_wire_copies.specs.CopyCalls.{IsAimed, KnowsServers};
+    ghost use Rattle.iox_wire_copies.specs.CopyCalls.{IsAimed, KnowsServersOnLane, TellsOfSlotAndLane};
     ghost use Rattle.iox_wire_copies.specs.Payloads.{HasRoom};
 
     /// Is told of the servers to which it sends. No copy may be under way.
@@ -42,8 +42,8 @@ impl CopyingClient {
     }
 
     /// Begins to copy a request of these words, to the servers that it was told of: it gets back on
-    /// these ways first. Without a number of elements the words are not of whole elements. No copy
-    /// may be under way.
+    /// these ways first. Without a number of elements the words are not of whole elements. Where the
+    /// client has no free lane it need be told of no server. No copy may be under way.
     pub fn begin(
         &mut self,
         seat: &mut StoredSeat,
@@ -72,9 +72,9 @@ impl CopyingClient {
             → ArePayloads p lender.now.port lender.now.places places
             → ways_of stops.now
             ≡ request_ways (known p seat.old.seat) (p.port lender.now.port).node lender.now.port
-            → KnowsServers p seat.old.seat lender.now.port
+            → KnowsServersOnLane p seat.old.seat lender.now.port
             (first_lane lender.now.pool (free_lanes seat.old.seat lender.now.port)) self.old.sends
-            → TellsOfSlot p self.new.local
+            → TellsOfSlotAndLane p self.new.local
             → OnOk result (IsAimed p seat.new.seat self.new) }
         ensures ordered { (k : ℕ) → elements ≡ Some k
             → OnOk result (IsOrdered self.new.lends.lending number lender.now.port) }
@@ -92,6 +92,8 @@ impl CopyingClient {
         };
         self.lends
             .lend_request(seat, lender, places, number, count, words, stops)?;
+        // only what this promises is wanted
+        self.lends.place();
         self.at = CopierAt::Lends;
         Ok(())
     }

@@ -37,7 +37,11 @@ impl CopyingClient {
         ensures step { IsOneStep seat.old seat.new }
     {
         match self.lends.go_on(seat, seen) {
-            None => None,
+            None => {
+                // only what this promises is wanted
+                self.lends.place();
+                None
+            }
             Some(CopyLent::Refused(reply)) => {
                 self.at = CopierAt::Rest;
                 Some(CopyReply::OfLoan(reply))

@@ -1,5 +1,5 @@
 //! How a node begins a call of a port or a handle.
-ghost use Rattle.std.specs.Prelude.{◌≡◌, ◌<◌, Err, IfErr, IfSome, None, OnErr, OnOk, false, length};
+ghost use Rattle.std.specs.Prelude.{◌≡◌, ◌<◌, IfErr, IfSome, None, OnErr, OnOk, false, length};
 ghost use Rattle.std.specs.Prelude.{true};
 ghost use Rattle.iox_model.specs.declared.call.WireCall.TheVariants.{Port};
 ghost use Rattle.iox_wire_begins.specs.Plans.{number_at, port_of};
@@ -8,8 +8,7 @@ ghost use Rattle.iox_wire_begins.specs.HandleCalls.{refusal_in};
 ghost use Rattle.iox_wire_begins.specs.Terms.{IsSettingWith};
 ghost use Rattle.iox_wire_begins.specs.Begins.{is_busy, refusal_at};
 ghost use Rattle.iox_wire_begins.specs.Tables.{Setting};
-ghost use Rattle.iox_wire_nodes.specs.declared.node_error.NodeError.TheVariants.{Unsupported};
-ghost use Rattle.iox_wire_nodes.specs.Begins.{AddsHandle, IsLeftBy, IsLeftOut, IsUnderWay};
+ghost use Rattle.iox_wire_nodes.specs.Begins.{AddsHandle, IsLeftBy, IsUnderWay};
 ghost use Rattle.iox_wire_nodes.specs.Begins.{MayBegin, node_refusal};
 ghost use Rattle.iox_wire_nodes.specs.Calls.{call_in, may_add_handle, number_in};
 ghost use Rattle.iox_wire_nodes.specs.Nodes.{seat_in};
@@ -44,8 +43,6 @@ impl StoredNode {
         ensures refused { (p : Setting) → IsSettingWith map.now terms.now p → IfErr result
             (λ error. refusal_at p (seat_in self.old) (Port (call_in p call.entry))
             ≡ node_refusal error) }
-        ensures left_out { result ≡ Err Unsupported
-            → IsLeftOut map.now (seat_in self.old) call.entry }
         ensures adds { OnOk result (AddsHandle self.new.at → may_add_handle call.entry ≡ true) }
         ensures unchanged { OnErr result (IsLeftBy call.entry self.old self.new) }
     {
@@ -77,8 +74,6 @@ impl StoredNode {
         ensures refused { (p : Setting) → IsSettingWith map.now terms.now p → IfErr result
             (λ error. refusal_at p (seat_in self.old) (Port (call_in p call.entry))
             ≡ node_refusal error) }
-        ensures left_out { result ≡ Err Unsupported
-            → IsLeftOut map.now (seat_in self.old) call.entry }
         ensures adds { OnOk result (AddsHandle self.new.at → may_add_handle call.entry ≡ true) }
         ensures unchanged { OnErr result (IsLeftBy call.entry self.old self.new) }
     {
@@ -91,7 +86,8 @@ impl StoredNode {
             }
             NodeCall::SendCopy { number, payload } => {
                 let (role, words) = (payload.role, payload.words);
-                self.begin_copy_at_port(alloc, map, terms, number, port, role, words, lists)
+                self.begin_copy_at_port(alloc, map, terms, number, port, role, words, lists)?;
+                Ok(())
             }
             NodeCall::Receive { number } => {
                 let next = self.next_number(terms);
@@ -137,8 +133,6 @@ impl StoredNode {
         ensures refused { (p : Setting) → IsSettingWith map.now terms.now p → IfErr result
             (λ error. refusal_at p (seat_in self.old) (Port (call_in p call.entry))
             ≡ node_refusal error) }
-        ensures left_out { result ≡ Err Unsupported
-            → IsLeftOut map.now (seat_in self.old) call.entry }
         ensures adds { OnOk result (AddsHandle self.new.at → may_add_handle call.entry ≡ true) }
         ensures unchanged { OnErr result (IsLeftBy call.entry self.old self.new) }
     {

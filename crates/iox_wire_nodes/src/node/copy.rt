@@ -1,25 +1,23 @@
 //! How a node begins a copy: loan, write and send in one call.
-ghost use Rattle.std.specs.Prelude.{◌≡◌, ◌+◌, ◌<◌, ◌^◌, Err, IfErr, OnErr, OnOk};
-ghost use Rattle.std.specs.Prelude.{length};
+ghost use Rattle.std.specs.Prelude.{◌≡◌, ◌+◌, ◌<◌, ◌^◌, IfErr, OnErr, OnOk, length};
 ghost use Rattle.iox_model.specs.declared.call.Call.TheVariants.{SendCopy};
 ghost use Rattle.iox_model.specs.declared.call.WireCall.TheVariants.{Port};
 ghost use Rattle.iox_wire_begins.specs.Plans.{number_at};
 ghost use Rattle.iox_wire_begins.specs.WirePlans.{IsWirePlan};
+ghost use Rattle.iox_wire_begins.specs.HandleCalls.{refusal_in};
 ghost use Rattle.iox_wire_begins.specs.Terms.{IsSettingWith};
 ghost use Rattle.iox_wire_begins.specs.Begins.{refusal_at};
 ghost use Rattle.iox_wire_begins.specs.Tables.{Setting};
 ghost use Rattle.iox_wire_nodes.specs.declared.call_at.CallAt.TheVariants.{CopiesRequest};
-ghost use Rattle.iox_wire_nodes.specs.declared.node_error.NodeError.TheVariants.{Unsupported};
-ghost use Rattle.iox_wire_nodes.specs.Begins.{HasNoLane, IsUnchanged, IsUnderWay, node_refusal};
+ghost use Rattle.iox_wire_nodes.specs.Begins.{IsUnchanged, IsUnderWay};
 ghost use Rattle.iox_wire_nodes.specs.Calls.{payload_with};
 ghost use Rattle.iox_wire_nodes.specs.Nodes.{seat_in};
 
 use super::StoredNode;
 use super::elements::elements_in;
 use crate::call_at::CallAt;
-use crate::node_error::NodeError;
 use iox_model::kind::Role;
-use iox_wire_begins::{Asked, Lists, WireTerms, WordMap, begin_request_copy};
+use iox_wire_begins::{Asked, BeginError, Lists, WireTerms, WordMap, begin_request_copy};
 use std::alloc::Global;
 
 impl StoredNode {
@@ -35,7 +33,7 @@ impl StoredNode {
         role: Role,
         words: &[u64],
         lists: &mut Lists,
-    ) -> Result<(), NodeError>
+    ) -> Result<(), BeginError>
         requires plan { IsWirePlan map.now terms.now }
         requires next { terms.now.first_number + self.old.seat.seat.handles_made < 2 ^ 64 }
         requires within { port < length map.now.ports.items }
@@ -44,18 +42,13 @@ impl StoredNode {
             (IsUnderWay p self.old (Port (SendCopy number (payload_with p role words.now))) self.new) }
         ensures refused { (p : Setting) → IsSettingWith map.now terms.now p → IfErr result
             (λ error. refusal_at p (seat_in self.old)
-            (Port (SendCopy number (payload_with p role words.now))) ≡ node_refusal error) }
-        ensures left_out { result ≡ Err Unsupported → HasNoLane map.now (seat_in self.old) number }
+            (Port (SendCopy number (payload_with p role words.now))) ≡ refusal_in error) }
         ensures at { OnOk result (self.new.at ≡ CopiesRequest) }
         ensures unchanged { OnErr result (IsUnchanged self.old self.new) }
     {
         self.name_at_port(map, terms, Asked::SendCopy(role), number, port)?;
-        let plan = map.plan();
-        let at = plan.ports[port];
-        let lane = self.seat.first_lane(number, at.pool as u64);
-        if lane >= at.pool as u64 {
-            return Err(NodeError::Unsupported);
-        }
+        // only what this promises is wanted
+        let _plan = map.plan();
         let next = self.next_number(terms);
         let elements = elements_in(map, terms, role, words);
         let begun = begin_request_copy(
@@ -65,7 +58,6 @@ impl StoredNode {
             &mut self.seat,
             &mut self.copying_client,
             port,
-            lane,
             elements,
             words,
             next,
@@ -73,7 +65,7 @@ impl StoredNode {
         );
         if let Err(error) = begun {
             self.at = CallAt::Seats;
-            return Err(NodeError::from(error));
+            return Err(BeginError::from(error));
         }
         self.at = CallAt::CopiesRequest;
         Ok(())

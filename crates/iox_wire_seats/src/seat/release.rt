@@ -180,7 +180,7 @@ fn is_request(kind: Kind) -> bool
 
 /// The way on which a received message came.
 #[inline]
-fn way_in(entry: Entry) -> Way
+pub(super) fn way_in(entry: Entry) -> Way
     ensures { result ≡ way_of_entry entry }
 {
     if is_request(entry.kind) {

@@ -1,23 +1,17 @@
-use Rattle.std.proofs.Common.{◌≡◌, ℕ, ◌≤◌, List, ap, ap₂, sym, subst, ◌∙◌}
+use Rattle.std.proofs.Common.{◌≡◌, ℕ, ◌≤◌, List, ap, sym, subst, ◌∙◌}
 use Rattle.iox_model.specs.declared.kind.Role.TheVariants.{Client}
 use Rattle.iox_model.specs.Loans.{request_ways}
 use Rattle.iox_wire_handle_calls.specs.Plans.{number_at}
 use Rattle.iox_wire_handle_calls.specs.Copies.{ArePayloads}
 use Rattle.iox_wire_handle_calls.specs.SlotPlaces.{SlotPlaces}
 use Rattle.iox_wire_handle_calls.specs.Lenders.{AreReturning}
-use Rattle.iox_wire_handle_calls.specs.Entry.{Entry}
 use Rattle.iox_wire_handle_calls.specs.Known.{free_lanes, known}
 use Rattle.iox_wire_handle_calls.specs.Lendings.{first_lane}
-use Rattle.iox_wire_handle_calls.specs.Target.{Target}
-use Rattle.iox_wire_handle_calls.specs.Aims.{IsToldOf}
-use Rattle.iox_wire_handle_calls.specs.Targets.{AreTargets, servers_of}
+use Rattle.iox_wire_handle_calls.specs.CopyCalls.{KnowsServersOnLane}
 use Rattle.iox_wire_handle_calls.specs.Stop.{Stop}
 use Rattle.iox_wire_handle_calls.specs.Seats.{ways_of}
-use Rattle.iox_wire_begins.proofs.TermLemmas.{has_lane, has_slot, knows_servers, told_alike}
+use Rattle.iox_wire_begins.proofs.TermLemmas.{has_slot}
 use Rattle.iox_wire_begins.proofs.copying.begin_request_copy.Goals as goal
-
-pub list_targets-requires : goal.list_targets-requires
-list_targets-requires c = has_lane c.args.map.now c.plan-plan.ensures.plan c.args.client c.args.lane c.requires.client c.requires.open
 
 pub make_lender-requires-clause-slot : goal.make_lender-requires-clause-slot
 make_lender-requires-clause-slot c = has_slot c.args.map.now c.args.terms.now c.requires.plan Client c.args.client c.requires.client
@@ -33,22 +27,16 @@ begin-requires-clause-fits c k is most =
 pub returns-clause-aimed : goal.returns-clause-aimed
 returns-clause-aimed c p with next of_slot =
     let port : c.in_ok-lender.lender.port ≡ number_at c.args.map.now c.args.client = c.in_ok-lender.ensures.number in
-    let told : (loan : Entry) → loan.port ≡ number_at c.args.map.now c.args.client → IsToldOf p loan c.in_ok-told.told =
-    λ loan at. told_alike p loan c.request_terms-own.result c.in_ok-told.told c.in_ok-told.ensures.rest (c.request_terms-own.ensures p loan with at) in
     c.begin.ensures.aimed p (c.in_ok-lender.ensures.lender p with) (c.in_ok-lender.ensures.client p with c.requires.client) next
-    (subst (λ (n : ℕ). AreReturning p n c.deref-2.result.now) (sym c.in_ok-lender.ensures.room)
-    (subst (λ (ss : List Stop). AreReturning p c.in_ok-room.room ss) (sym c.deref-2.ensures.value) (c.in_ok-room.ensures.places p with.setting)))
+    (subst (λ (n : ℕ). AreReturning p n c.deref.result.now) (sym c.in_ok-lender.ensures.room)
+    (subst (λ (ss : List Stop). AreReturning p c.in_ok-room.room ss) (sym c.deref.ensures.value) (c.in_ok-room.ensures.places p with.setting)))
     (subst (λ (n : ℕ). ArePayloads p n c.in_ok-lender.lender.places c.payload_places-places.result) (sym port)
     (subst (λ (t : SlotPlaces). ArePayloads p (number_at c.args.map.now c.args.client) t c.payload_places-places.result) (sym c.in_ok-lender.ensures.places)
     (c.payload_places-places.ensures.payloads p with.setting)))
-    (ap ways_of c.deref-2.ensures.value ∙ c.in_ok-room.ensures.ways p with.setting
+    (ap ways_of c.deref.ensures.value ∙ c.in_ok-room.ensures.ways p with.setting
     ∙ ap (λ n. request_ways (known p c.args.seat.now.seat) (p.port n).node n) (sym port))
-    (knows_servers p c.args.seat.now.seat c.in_ok-lender.lender.port (first_lane c.in_ok-lender.lender.pool (free_lanes c.args.seat.now.seat c.in_ok-lender.lender.port))
-    c.prepare.new.self.sends c.in_ok-told.told c.deref.result.now c.in_ok-prepare.ensures.terms c.in_ok-prepare.ensures.targets
-    (λ loan at. told loan (at ∙ port))
-    (λ loan at on.
-    subst (λ (ts : List Target). AreTargets p c.in_ok-told.told loan ts) (sym c.deref.ensures.value)
-    (c.in_ok-told.ensures.targets p loan with.setting (at ∙ port)
-    (on ∙ ap₂ (λ a b. first_lane a (free_lanes c.args.seat.now.seat b)) c.in_ok-lender.ensures.pool port ∙ sym c.requires.lane)))
-    (ap servers_of c.deref.ensures.value ∙ c.in_ok-told.ensures.servers p with.setting))
+    (subst (λ (n : ℕ). KnowsServersOnLane p c.args.seat.now.seat n (first_lane c.in_ok-lender.lender.pool (free_lanes c.args.seat.now.seat n)) c.tell_servers.new.copying.sends) (sym port)
+    (subst (λ (n : ℕ). KnowsServersOnLane p c.args.seat.now.seat (number_at c.args.map.now c.args.client)
+    (first_lane n (free_lanes c.args.seat.now.seat (number_at c.args.map.now c.args.client))) c.tell_servers.new.copying.sends) (sym c.in_ok-lender.ensures.pool)
+    (c.in_ok-tell_servers.ensures.knows p with)))
     of_slot

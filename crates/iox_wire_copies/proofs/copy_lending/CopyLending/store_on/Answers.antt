@@ -1,14 +1,14 @@
 use Rattle.std.proofs.Common.{◌≡◌, ◌<◌, None, Some, length, refl, sym, subst, ap, arith}
 use Rattle.std.specs.Prelude.{Option}
 use Rattle.iox_wire_locals.specs.declared.table.Entry.{Entry}
-use Rattle.iox_wire_request_sends.specs.WireLoansAims.{IsLoanAt, StoresAhead}
+use Rattle.iox_wire_request_sends.specs.WireLoansAims.{IsLoanAt, IsStoring, StoresAhead}
 use Rattle.iox_wire_copies.specs.contracts.copy_lending.CopyLending.{the_view}
 use Rattle.iox_wire_copies.specs.Copies.{CopyLoan, HasSlots, local_of}
 use Rattle.iox_wire_copies.specs.CopyAims.{GoesOn, IsLending, StaysAimed}
 use Rattle.iox_wire_copies.specs.declared.at.CopyAt.{CopyAt}
 use Rattle.iox_wire_copies.specs.declared.at.CopyAt.TheVariants as at
 use Rattle.iox_wire_copies.specs.declared.at.CopyLent.TheVariants.{Made}
-use Rattle.iox_wire_copies.proofs.LendLemmas.{Lends, it_lends}
+use Rattle.iox_wire_copies.proofs.LendLemmas.{Lends, it_lends, stores_alike}
 use Rattle.iox_wire_copies.proofs.WriteLemmas.{copy_goes_on, copy_writes, copy_makes, copy_aimed}
 use Rattle.iox_wire_copies.proofs.copy_lending.CopyLending.store_on.Goals as goal
 
@@ -56,3 +56,11 @@ returns-clause-aimed c =
     (copy_aimed c.args.seat.now c.count_access.new.self (the_view c.self.inside) new c.store_ahead.new.self.local c.in-Some.loan lends c.count_access.ensures
     refl refl refl c.store_ahead.ensures.same loan ahead refl
     (subst (λ (a : CopyAt). HasSlots a c.self.inside.slots c.self.inside.lending) at' c.self.invariant.4) c.place-self-inside.ensures.there)
+
+pub returns-then-len-eq0-clause-stored : goal.returns-then-len-eq0-clause-stored
+returns-then-len-eq0-clause-stored c =
+    let at' : c.self.inside.at ≡ at.Lends = it_lends c.self.inside.at (subst (λ (r : CopyLoan). IsLending r.at) (sym c.self.view_is) c.requires.there) in
+    let storing : IsStoring c.self.inside.lending.local = subst (λ (r : CopyLoan). IsStoring r.lending.local) (sym c.self.view_is) c.requires.storing in
+    subst (λ (r : CopyLoan). IsStoring r.local) c.self.view_is
+    (subst (λ (a : CopyAt). IsStoring (local_of a c.self.inside.lending c.self.inside.payload.items c.self.inside.loan.slot c.self.inside.next)) (sym at')
+    (stores_alike c.self.inside.payload.items c.self.inside.lending.local storing))

@@ -1,4 +1,5 @@
 use Rattle.std.proofs.Common.{◌≡◌, ◌+◌, ◌<◌, ◌^◌, None, Some, length, sym, subst, ap, arith}
+use Rattle.iox_wire_request_sends.specs.WireLoansAims.{IsStoring}
 use Rattle.iox_wire_copies.specs.contracts.copy_lending.CopyLending.{the_view}
 use Rattle.iox_wire_copies.specs.Copies.{CopyLoan, HasMade, HasWordsLeft, local_of}
 use Rattle.iox_wire_copies.specs.CopyAims.{GoesOn, IsWriting, StaysAimed}
@@ -47,3 +48,9 @@ returns-clause-next c seen =
     subst (λ (r : CopyLoan). GoesOn c.args.seat.now r seen c.count_access.new.self (the_view c.self.inside) (Some (Made c.self.inside.loan))) c.self.view_is
     (writes_made c.args.seat.now c.count_access.new.self (the_view c.self.inside) (the_view c.self.inside) c.self.inside.next seen writes c.count_access.ensures
     left.0 (omega (arith, c.len.ensures, c.if-self-len.false)))
+
+pub returns-clause-stored : goal.returns-clause-stored
+returns-clause-stored c =
+    let at' : c.self.inside.at ≡ at.Writes = it_writes c.self.inside.at (subst (λ (r : CopyLoan). IsWriting r.at) (sym c.self.view_is) c.requires.there) in
+    subst (λ (r : CopyLoan). IsStoring r.local) c.self.view_is
+    (subst (λ (a : CopyAt). IsStoring (local_of a c.self.inside.lending c.self.inside.payload.items c.self.inside.loan.slot c.self.inside.next)) (sym at') tt)

@@ -3,6 +3,7 @@ use Rattle.std.specs.Prelude.{Option}
 use Rattle.iox_wire_locals.specs.Courses.{placed}
 use Rattle.iox_wire_locals.specs.NewLoans.{entry_in}
 use Rattle.iox_wire_locals.specs.Steps.{next, tells}
+use Rattle.iox_wire_request_sends.specs.Order.{Order}
 use Rattle.iox_wire_request_sends.specs.Orders.{loan_of}
 use Rattle.iox_wire_copies.specs.contracts.copying_client.CopyingClient.{the_view}
 use Rattle.iox_wire_copies.specs.declared.at.CopierAt.{CopierAt}
@@ -11,7 +12,7 @@ use Rattle.iox_wire_copies.specs.declared.at.CopyLent.{CopyLent}
 use Rattle.iox_wire_copies.specs.declared.at.CopyLent.TheVariants.{Made}
 use Rattle.iox_wire_copies.specs.CopyAims as copies
 use Rattle.iox_wire_copies.specs.Copiers.{IsLending, local_of}
-use Rattle.iox_wire_copies.specs.CopyCalls.{Answers, CopyCall, IsAimed, LeadsTo, StaysAimed}
+use Rattle.iox_wire_copies.specs.CopyCalls.{Answers, CopyCall, IsAimed, LeadsTo, LendsRequest, StaysAimed}
 use Rattle.iox_wire_copies.proofs.CopierLemmas.{copier_lends}
 use Rattle.iox_wire_copies.proofs.SendLemmas.{Lends, lends_aimed, lends_over, made_leads, made_next, made_over}
 use Rattle.iox_wire_copies.proofs.copying_client.CopyingClient.lend_on.Goals as goal
@@ -32,7 +33,10 @@ returns-in-None-clause-aimed c =
     subst (λ (r : CopyCall). StaysAimed c.args.seat.now r c.go_on.new.seat new) c.self.view_is
     (lends_aimed c.args.seat.now c.go_on.new.seat (the_view c.self.inside) new lends at'
     (ap (λ (a : CopierAt). local_of a c.go_on.new.self.local c.self.inside.sends.local) at') refl
-    c.go_on.ensures.aimed c.go_on.ensures.peers c.go_on.ensures.same)
+    c.go_on.ensures.aimed c.go_on.ensures.peers c.go_on.ensures.same
+    (ap (λ (o : Order). o.kind) c.go_on.ensures.same.order
+    ∙ (subst (λ (a : CopierAt). LendsRequest a c.self.inside.lends.lending.order) at' c.self.invariant.2).0)
+    c.place.ensures.order)
 
 pub returns-in-Some-Made-clause-next : goal.returns-in-Some-Made-clause-next
 returns-in-Some-Made-clause-next c p aimed =
@@ -45,7 +49,9 @@ returns-in-Some-Made-clause-next c p aimed =
     let aim : IsAimed p c.args.seat.now.seat (the_view c.self.inside) = subst (IsAimed p c.args.seat.now.seat) (sym c.self.view_is) aimed in
     let leads : LeadsTo p c.go_on.new.seat.seat c.in-Some-Made.loan c.send.new.seat c.send.new.self c.send.result =
     made_leads p c.args.seat.now c.go_on.new.seat c.send.new.seat (the_view c.self.inside) c.send.new.self c.go_on.new.self c.in-Some-Made.loan c.args.seen c.send.result lends
-    led c.go_on.ensures.peers c.go_on.ensures.same made c.send.ensures.next aim in
+    led c.go_on.ensures.peers c.go_on.ensures.same made
+    (subst (copies.IsMadeAt c.self.inside.lends.local) (c.in-Some-Made.is ∙ ap (λ (l : CopyLent). Some l) c.in-Some-Made.field-0-is) c.go_on.ensures.stored)
+    c.send.ensures.next aim in
     made_next p c.args.seat.now c.go_on.new.seat c.send.new.seat (the_view c.self.inside) c.send.new.self c.go_on.new.self c.in-Some-Made.loan c.args.seen c.send.result lends led leads aim
     ∙ ap (λ (r : CopyCall). next p (placed c.args.seat.now.seat r.local) c.args.seen) c.self.view_is
 
@@ -60,7 +66,9 @@ returns-in-Some-Made-clause-over c p aimed =
     let aim : IsAimed p c.args.seat.now.seat (the_view c.self.inside) = subst (IsAimed p c.args.seat.now.seat) (sym c.self.view_is) aimed in
     let leads : LeadsTo p c.go_on.new.seat.seat c.in-Some-Made.loan c.send.new.seat c.send.new.self c.send.result =
     made_leads p c.args.seat.now c.go_on.new.seat c.send.new.seat (the_view c.self.inside) c.send.new.self c.go_on.new.self c.in-Some-Made.loan c.args.seen c.send.result lends
-    led c.go_on.ensures.peers c.go_on.ensures.same made c.send.ensures.next aim in
+    led c.go_on.ensures.peers c.go_on.ensures.same made
+    (subst (copies.IsMadeAt c.self.inside.lends.local) (c.in-Some-Made.is ∙ ap (λ (l : CopyLent). Some l) c.in-Some-Made.field-0-is) c.go_on.ensures.stored)
+    c.send.ensures.next aim in
     ap (λ (r : CopyCall). tells p (placed c.args.seat.now.seat r.local) c.args.seen) (sym c.self.view_is)
     ∙ made_over p c.args.seat.now c.go_on.new.seat c.send.new.seat (the_view c.self.inside) c.send.new.self c.go_on.new.self c.in-Some-Made.loan c.args.seen c.send.result lends led leads aim
 
@@ -75,5 +83,7 @@ returns-in-Some-Made-clause-aimed c p aimed of_slot =
     let aim : IsAimed p c.args.seat.now.seat (the_view c.self.inside) = subst (IsAimed p c.args.seat.now.seat) (sym c.self.view_is) aimed in
     let leads : LeadsTo p c.go_on.new.seat.seat c.in-Some-Made.loan c.send.new.seat c.send.new.self c.send.result =
     made_leads p c.args.seat.now c.go_on.new.seat c.send.new.seat (the_view c.self.inside) c.send.new.self c.go_on.new.self c.in-Some-Made.loan c.args.seen c.send.result lends
-    led c.go_on.ensures.peers c.go_on.ensures.same made c.send.ensures.next aim in
+    led c.go_on.ensures.peers c.go_on.ensures.same made
+    (subst (copies.IsMadeAt c.self.inside.lends.local) (c.in-Some-Made.is ∙ ap (λ (l : CopyLent). Some l) c.in-Some-Made.field-0-is) c.go_on.ensures.stored)
+    c.send.ensures.next aim in
     leads.aimed

@@ -1,13 +1,12 @@
-use Rattle.std.proofs.Common.{◌≡◌, refl, subst}
+use Rattle.std.proofs.Common.{refl, subst}
 use Rattle.iox_model.specs.declared.kind.Kind.{Kind}
 use Rattle.iox_wire_sends.specs.Aims.{SendsItsResponse}
 use Rattle.iox_wire_sends.specs.Dispatches.{Dispatch}
-use Rattle.iox_wire_copies.specs.contracts.copying_server.CopyingServer.{the_view}
 use Rattle.iox_wire_copies.specs.declared.at.CopierAt.{CopierAt}
 use Rattle.iox_wire_copies.specs.declared.at.CopierAt.TheVariants as at
 use Rattle.iox_wire_copies.specs.Copiers.{local_of}
 use Rattle.iox_wire_copies.specs.Copies.{CopyLoan, IsLoanOf}
-use Rattle.iox_wire_copies.specs.ResponseCopies.{ResponseCopy, CopiesItsResponse, HasItsPlace, LendsResponse}
+use Rattle.iox_wire_copies.specs.ResponseCopies.{CopiesItsResponse, HasItsPlace, LendsResponse}
 use Rattle.iox_wire_copies.proofs.copying_server.CopyingServer.place.Goals as goal
 
 its_place : (name : CopierAt) (lends : CopyLoan) (sends : Dispatch) → LendsResponse name lends.lending.order → IsLoanOf lends.lending.order.kind lends.local → SendsItsResponse sends
@@ -20,4 +19,4 @@ its_place at.Sends lends sends is loan send = (refl, send)
 pub returns : goal.returns
 returns c =
     subst CopiesItsResponse c.self.view_is
-    (its_place c.self.inside.at c.self.inside.lends c.self.inside.sends c.self.invariant.2 c.place.ensures c.place-2.ensures)
+    (its_place c.self.inside.at c.self.inside.lends c.self.inside.sends c.self.invariant.2 c.place.ensures.kind c.place-2.ensures)
