@@ -81,8 +81,10 @@ fn port_of_a_dead_node_has_what_it_had(rt: HostRuntime) -> Result<(), Fail> {
     wire.declare_dead(0)?;
     assert_eq!(rt; counts(&wire), (3, 3));
     assert_eq!(rt; wire.kept(1), 0);
+    let released = answers(&mut wire, 1, Ask::Release(2));
+    assert_eq!(rt; released, Some(Told::Done));
     let received = answers(&mut wire, 1, Ask::Receive(1));
-    assert_eq!(rt; received, Some(Told::Nothing));
+    assert_eq!(rt; received, Some(Told::Handle(3)));
     assert_eq!(rt; counts(&wire), (3, 3));
     Ok(())
 }
