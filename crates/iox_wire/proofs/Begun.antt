@@ -174,7 +174,7 @@ module _ (w : WireData) (n i : ℕ) (d : WireNode) (at : position (λ x. x.numbe
   there = read_there n w.nodes i d at read
 
   abbrev Now : WireNode → WireData
-  Now y = record { plan = w.plan; terms = w.terms; words = w.words; nodes = slice_set w.nodes i y; replies = w.replies }
+  Now y = record { plan = w.plan; terms = w.terms; words = w.words; nodes = slice_set w.nodes i y; replies = w.replies; events = w.events }
 
   -- ---- what a begin relies on
 
@@ -218,7 +218,7 @@ module _ (w : WireData) (n i : ℕ) (d : WireNode) (at : position (λ x. x.numbe
     begun y alive few has =
         begins_show p w (Now y) r n d y (Port (call_in p call)) shows
         (own_refusal alive ∙ (has.begun p shows.setting).allowed) (words_are_whole p call) (omega (arith, few)) (replaced n w.nodes i d y at read has.number) has.alive
-        (has.begun p shows.setting).begun (λ pools. (has.begun p shows.setting).aimed (tells_of_pools p y.node.at (seat_in y.node).local pools)) refl refl refl refl
+        (has.begun p shows.setting).begun (λ pools. (has.begun p shows.setting).aimed (tells_of_pools p y.node.at (seat_in y.node).local pools)) refl refl refl refl refl
 
   pub shown_begun : (call : NodeCall) (y : WireNode) → IsShown w → living_refusal w.nodes n ≡ None → HasBegun w.plan w.terms d call y → IsShown (Now y)
   shown_begun call y shown alive has =
@@ -282,6 +282,7 @@ module _ (w : WireData) (n i : ℕ) (d : WireNode) (at : position (λ x. x.numbe
       ports = shows.ports;
       counts = λ port has. subst (TellsCounts r.last port) (sym (seats_same p (p.layout.owner port) (p.layout.owner port == n) refl)) (shows.counts port has);
       replies = shows.replies;
+      events = shows.events;
     }
 
     pub shown_left : IsShown w → IsShown (Now y)
@@ -302,7 +303,7 @@ module _ (w : WireData) (n i : ℕ) (d : WireNode) (at : position (λ x. x.numbe
     seen_same m false other = ap (option_map seen_of) (puts.others m other)
 
     left_alone : IsLeftAlone w (Now y)
-    left_alone = record { words = refl; replies = refl; nodes = λ m. seen_same m (m == n) refl; shows = shows_left }
+    left_alone = record { words = refl; replies = refl; events = refl; nodes = λ m. seen_same m (m == n) refl; shows = shows_left }
 
   pub shown_refused : (call : NodeCall) (y : WireNode) → StaysPut d call y → IsShown w → IsShown (Now y)
   shown_refused call y stays shown = shown_left y stays.number stays.alive (left_unchanged call d.node y.node stays.node) shown

@@ -48,13 +48,14 @@ MayBegin wire n call =
 
 -- ---- a begin
 
--- The node is at the first place of the call; words, replies and all other nodes stay.
+-- The node is at the first place of the call; words, replies, events and all other nodes stay.
 pub record BeginsCall (p : Setting) (old : WireData) (n : ℕ) (call : WireCall) (new : WireData)
     : Type 0 where
   pub node : seat_of p new.nodes n ≡ begin p (seat_of p old.nodes n) call
   pub others : (m : ℕ) → (m == n) ≡ false → node_at m new.nodes ≡ node_at m old.nodes
   pub words : new.words ≡ old.words
   pub replies : new.replies ≡ old.replies
+  pub events : new.events ≡ old.events
 
 -- so it is in each run that the wire shows
 abbrev pub BeginsItsCall : WireData → ℕ → NodeCall → WireData → Type 0
