@@ -7,6 +7,7 @@ mod copy;
 mod copy_response;
 mod count;
 mod elements;
+mod event;
 mod lend;
 mod look;
 mod name;
