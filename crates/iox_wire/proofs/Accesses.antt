@@ -20,7 +20,7 @@ use Rattle.iox_wire.specs.Kept.{HasGoneOn, MayAccess, access_in}
 pub tells_of_pools : (p : Setting) (call : CallAt) (local : Local) → InPools p local → TellsOfPools p call local
 tells_of_pools p at.Receives local told = told.0
 tells_of_pools p at.Lends local told = told.1
-tells_of_pools p at.CopiesRequest local told = told.1
+tells_of_pools p at.CopiesRequest local told = (told.1, told.2)
 tells_of_pools p at.CopiesResponse local told = told.1
 tells_of_pools p call local told = tt
 

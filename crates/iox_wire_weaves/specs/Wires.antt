@@ -26,7 +26,7 @@ use Rattle.iox_wire_needs.specs.Runs.{Run, history}
 use Rattle.iox_wire_needs.specs.Stands.{Player}
 use Rattle.iox_wire_weaves.specs.PortCounts.{TellsCounts}
 use Rattle.iox_wire_weaves.specs.declared.refusal.WireRefusal.{WireRefusal}
-use Rattle.iox_wire_weaves.specs.declared.refusal.WireRefusal.TheVariants.{AccessesSpent, AtRest, Busy, ForeignNumber, NodeIsDead, UnknownNode, UnknownNumber, Unsupported, WantOfMemory, WrongKind}
+use Rattle.iox_wire_weaves.specs.declared.refusal.WireRefusal.TheVariants.{AccessesSpent, AtRest, Busy, ForeignNumber, NodeIsDead, UnknownNode, UnknownNumber, WantOfMemory, WrongKind}
 
 -- ---- a wire
 
@@ -55,7 +55,7 @@ abbrev pub living_refusal : List WireNode → ℕ → Option WireRefusal
 living_refusal nodes n =
     option_map_or (λ x. refused_if (not x.alive) NodeIsDead) (node_at n nodes) (Some UnknownNode)
 
--- the machine's name of a refusal, if it has one: it knows no want of memory, and begins all calls
+-- the machine's name of a refusal, if it has one: it knows no want of memory
 abbrev pub machine_refusal : WireRefusal → Option Refusal
 machine_refusal UnknownNode = Some refusals.UnknownNode
 machine_refusal NodeIsDead = Some refusals.NodeIsDead
@@ -66,7 +66,6 @@ machine_refusal UnknownNumber = Some refusals.UnknownNumber
 machine_refusal ForeignNumber = Some refusals.ForeignNumber
 machine_refusal WrongKind = Some refusals.WrongKind
 machine_refusal WantOfMemory = None
-machine_refusal Unsupported = None
 
 -- that name; what has none is told as want of memory
 abbrev pub refusal_in : WireRefusal → Refusal

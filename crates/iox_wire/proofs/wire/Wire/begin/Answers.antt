@@ -1,4 +1,4 @@
-use Rattle.std.specs.Prelude.{Err, position}
+use Rattle.std.specs.Prelude.{position}
 use Rattle.std.proofs.Common.{◌≡◌, ◌==◌, None, ap, subst, sym, ◌∙◌, slice_set}
 use Rattle.iox_model.specs.declared.call.WireCall.TheVariants.{Port}
 use Rattle.iox_wire_weaves.specs.Asking.{BeginsCall, IsBeginRefusal}
@@ -42,7 +42,7 @@ returns-in-Err-clause-refused c =
     let w : WireData = record { plan = c.self.inside.places; terms = c.self.inside.terms; words = c.self.inside.words.items; nodes = c.self.inside.members.items; replies = told_by c.self.inside.answers.items; events = events_by c.self.inside.events.items } in
     let alive : living_refusal w.nodes c.args.node ≡ None = ap (λ (v : WireData). living_refusal v.nodes c.args.node) c.self.view_is ∙ c.in_ok-place.ensures.alive in
     subst (λ (v : WireData). IsBeginRefusal v c.args.node c.args.call c.refusal_of.result) c.self.view_is
-    (refused w c.args.node c.in_ok-place.place c.index_mut-member.result.now first c.index_mut-member.ensures.value c.args.call c.in-Err.error c.refusal_of.result alive c.in-Err.ensures.refused (λ is. c.in-Err.ensures.left_out (ap Err is)) c.refusal_of.ensures.named c.refusal_of.ensures.left_out)
+    (refused w c.args.node c.in_ok-place.place c.index_mut-member.result.now first c.index_mut-member.ensures.value c.args.call c.in-Err.error c.refusal_of.result alive c.in-Err.ensures.refused c.refusal_of.ensures)
 
 pub returns-in-Err-clause-unchanged : goal.returns-in-Err-clause-unchanged
 returns-in-Err-clause-unchanged c =
