@@ -114,6 +114,7 @@ impl Member {
     /// Makes its next access, and tells what that found.
     #[inline]
     pub(crate) fn make_access(&self, words: &mut Vec<u64>) -> u64
+        requires { (p : Setting) × MayAccess p self.now.node words.old.items }
         ensures seen { (p : Setting) → MayAccess p self.now.node words.old.items
             → result ≡ seen_at (access_in p self.now.node) words.old.items }
         ensures words { (p : Setting) → MayAccess p self.now.node words.old.items

@@ -5,8 +5,8 @@ use Rattle.iox_wire.proofs.member.Member.go_on.Goals as goal
 
 pub go_on-requires-clause-may : goal.go_on-requires-clause-may
 go_on-requires-clause-may c =
-    may_go_on c.requires.may.0 c.self.inside.node c.args.self.now.node (ap (λ (m : WireNode). m.node) c.self.view_is) c.requires.may.1 c.requires.may.2
-    c.args.seen c.requires.may.3 c.place.ensures
+    may_go_on c.requires.may.0 c.self.inside.node c.args.self.now.node (ap (λ (m : WireNode). m.node) c.self.view_is) c.requires.may.1.0 c.requires.may.1.1
+    c.args.seen c.requires.may.1.2 c.place.ensures
 
 pub returns-clause-made : goal.returns-clause-made
 returns-clause-made c p words may saw =

@@ -8,7 +8,7 @@ use Rattle.std.proofs.Common.{◌≡◌, ◌==◌, ◌++◌, List, None, Some, a
 use Rattle.iox_sets.specs.Refusals.{IsRefusal}
 use Rattle.iox_wire_weaves.specs.declared.refusal.WireRefusal.{WireRefusal}
 use Rattle.iox_wire_weaves.specs.declared.refusal.WireRefusal.TheVariants.{WantOfMemory}
-use Rattle.iox_wire_weaves.specs.Steps.{MakesOneAccess, answer_of, step_refusal}
+use Rattle.iox_wire_weaves.specs.Steps.{MakesOneAccess, answer_of, recorded, step_refusal}
 use Rattle.iox_wire_weaves.specs.Wires.{Shows, WireData, WireNode, living_refusal, node_at}
 use Rattle.iox_wire_weaves.proofs.Lookups.{steps_on}
 use Rattle.iox_wire.specs.declared.events.WireEvent.{WireEvent}
@@ -44,8 +44,8 @@ returns-then-is_err-clause-refused c =
     (sym (ap (λ (v : WireData). node_at c.args.node v.nodes) c.self.view_is) ∙ at) (sym c.in_default.ensures) in
     subst (λ (o : Option WireRefusal). IsRefusal WantOfMemory o WantOfMemory) (sym e) refl
 
-pub invariant_of-self-2 : goal.invariant_of-self-2
-invariant_of-self-2 c =
+pub invariant_of-self-then-is_err-2 : goal.invariant_of-self-then-is_err-2
+invariant_of-self-then-is_err-2 c =
     subst (λ (xs : List Answer). IsShown (record { plan = c.self.inside.places; terms = c.self.inside.terms; words = c.self.inside.words.items; nodes = c.self.inside.members.items; replies = told_by xs; events = events_by c.reserve-2.new.self.items }))
     (sym c.reserve.ensures.items)
     (subst (λ (es : List WireEvent). IsShown (record { plan = c.self.inside.places; terms = c.self.inside.terms; words = c.self.inside.words.items; nodes = c.self.inside.members.items; replies = told_by c.self.inside.answers.items; events = events_by es }))
@@ -61,6 +61,18 @@ returns-then-is_err-2-clause-refused c =
     (sym (ap (λ (v : WireData). node_at c.args.node v.nodes) c.self.view_is) ∙ at) (sym c.in_default.ensures) in
     subst (λ (o : Option WireRefusal). IsRefusal WantOfMemory o WantOfMemory) (sym e) refl
 
+pub make_access-seen-requires : goal.make_access-seen-requires
+make_access-seen-requires c =
+    let first = ap (λ (v : WireData). position (λ x. x.number == c.args.node) v.nodes) c.self.view_is ∙ c.in_ok-place.ensures.first in
+    let w : WireData = record { plan = c.self.inside.places; terms = c.self.inside.terms; words = c.self.inside.words.items; nodes = c.self.inside.members.items; replies = told_by c.self.inside.answers.items; events = events_by c.self.inside.events.items } in
+    let alive : living_refusal w.nodes c.args.node ≡ None = ap (λ (v : WireData). living_refusal v.nodes c.args.node) c.self.view_is ∙ c.in_ok-place.ensures.alive in
+    let seen : node_at c.args.node w.nodes ≡ Some c.index-member.result.now = there w c.args.node c.in_ok-place.place c.index-member.result.now first c.index-member.ensures in (
+      c.self.invariant.shows.0,
+      may_access w c.args.node c.in_ok-place.place c.index-member.result.now first c.index-member.ensures
+          c.self.invariant.shows.0 c.self.invariant.shows.1 c.self.invariant.shows.2
+          (refused_at w c.args.node c.index-member.result.now None alive seen (sym c.in_default.ensures)) (c.self.invariant.kept c.args.node c.index-member.result.now seen),
+    )
+
 pub go_on-reply-requires-clause-may : goal.go_on-reply-requires-clause-may
 go_on-reply-requires-clause-may c =
     let first = ap (λ (v : WireData). position (λ x. x.number == c.args.node) v.nodes) c.self.view_is ∙ c.in_ok-place.ensures.first in
@@ -74,10 +86,12 @@ go_on-reply-requires-clause-may c =
     c.self.invariant.shows.0 c.self.invariant.shows.1 c.self.invariant.shows.2 goes (c.self.invariant.kept c.args.node c.index_mut.result.now at) in
     (
       c.self.invariant.shows.0,
-      w.words,
-      may,
-      c.make_access-seen.ensures.seen c.self.invariant.shows.0 (subst (λ (d : WireNode). MayAccess c.self.invariant.shows.0 d.node w.words) (sym same) may)
-          ∙ ap (λ (d : WireNode). seen_at (access_in c.self.invariant.shows.0 d.node) w.words) same,
+      (
+        w.words,
+        may,
+        c.make_access-seen.ensures.seen c.self.invariant.shows.0 (subst (λ (d : WireNode). MayAccess c.self.invariant.shows.0 d.node w.words) (sym same) may)
+            ∙ ap (λ (d : WireNode). seen_at (access_in c.self.invariant.shows.0 d.node) w.words) same,
+      ),
     )
 
 pub go_on-reply-requires-clause-few : goal.go_on-reply-requires-clause-few
@@ -90,8 +104,8 @@ go_on-reply-requires-clause-few c =
     let at : node_at c.args.node w.nodes ≡ Some c.index_mut.result.now = there w c.args.node c.in_ok-place.place c.index_mut.result.now first c.index_mut.ensures.value in
     (steps_on w c.args.node c.index_mut.result.now at goes).2
 
-pub invariant_of-self-3 : goal.invariant_of-self-3
-invariant_of-self-3 c =
+pub invariant_of-self-2 : goal.invariant_of-self-2
+invariant_of-self-2 c =
     let first = ap (λ (v : WireData). position (λ x. x.number == c.args.node) v.nodes) c.self.view_is ∙ c.in_ok-place.ensures.first in
     let w : WireData = record { plan = c.self.inside.places; terms = c.self.inside.terms; words = c.self.inside.words.items; nodes = c.self.inside.members.items; replies = told_by c.self.inside.answers.items; events = events_by c.self.inside.events.items } in
     let alive : living_refusal w.nodes c.args.node ≡ None = ap (λ (v : WireData). living_refusal v.nodes c.args.node) c.self.view_is ∙ c.in_ok-place.ensures.alive in
@@ -113,7 +127,8 @@ invariant_of-self-3 c =
     let told = told_more c.args.node (slice_set w.nodes c.in_ok-place.place c.go_on-reply.new.self) c.go_on-reply.result c.self.inside.answers.items c.tell-2.new.events.items
     (c.tell-2.ensures ∙ ap₂ (λ xs o. xs ++ option_to_list o) c.reserve.ensures.items c.answered.ensures) in
     let noted = events_more c.self.inside.events.items c.tell.new.events.items (option_to_list c.put_serials-event.result) _
-    (c.tell.ensures ∙ ap (λ (xs : List WireEvent). xs ++ option_to_list c.put_serials-event.result) c.reserve-2.ensures.items) c.put_serials-event.ensures in
+    (c.tell.ensures ∙ ap (λ (xs : List WireEvent). xs ++ option_to_list c.put_serials-event.result) c.reserve-2.ensures.items)
+    (c.put_serials-event.ensures ∙ ap (λ (xs : List WireNode). recorded w.plan xs c.args.node c.event-told.result) c.deref.ensures.value) in
     shown_after w c.args.node c.in_ok-place.place c.index_mut.result.now first c.index_mut.ensures.value
     c.go_on-reply.new.self c.go_on-reply.result c.make_access-seen.new.words.items c.event-told.result (told_by c.tell-2.new.events.items) (events_by c.tell.new.events.items)
     c.self.invariant goes made c.go_on-reply.ensures.number c.go_on-reply.ensures.alive told noted
@@ -149,7 +164,8 @@ returns-clause-one_access c p r shows =
     let told = told_more c.args.node (slice_set w.nodes c.in_ok-place.place c.go_on-reply.new.self) c.go_on-reply.result c.self.inside.answers.items c.tell-2.new.events.items
     (c.tell-2.ensures ∙ ap₂ (λ xs o. xs ++ option_to_list o) c.reserve.ensures.items c.answered.ensures) in
     let noted = events_more c.self.inside.events.items c.tell.new.events.items (option_to_list c.put_serials-event.result) _
-    (c.tell.ensures ∙ ap (λ (xs : List WireEvent). xs ++ option_to_list c.put_serials-event.result) c.reserve-2.ensures.items) c.put_serials-event.ensures in
+    (c.tell.ensures ∙ ap (λ (xs : List WireEvent). xs ++ option_to_list c.put_serials-event.result) c.reserve-2.ensures.items)
+    (c.put_serials-event.ensures ∙ ap (λ (xs : List WireNode). recorded w.plan xs c.args.node c.event-told.result) c.deref.ensures.value) in
     let here : Shows p w r = subst (λ (v : WireData). Shows p v r) (sym c.self.view_is) shows in
     let s = stepped w c.args.node c.in_ok-place.place c.index_mut.result.now first c.index_mut.ensures.value
     p r c.go_on-reply.new.self c.go_on-reply.result c.make_access-seen.new.words.items c.event-told.result (told_by c.tell-2.new.events.items) (events_by c.tell.new.events.items)
@@ -182,7 +198,8 @@ returns-clause-weave c p r shows =
     let told = told_more c.args.node (slice_set w.nodes c.in_ok-place.place c.go_on-reply.new.self) c.go_on-reply.result c.self.inside.answers.items c.tell-2.new.events.items
     (c.tell-2.ensures ∙ ap₂ (λ xs o. xs ++ option_to_list o) c.reserve.ensures.items c.answered.ensures) in
     let noted = events_more c.self.inside.events.items c.tell.new.events.items (option_to_list c.put_serials-event.result) _
-    (c.tell.ensures ∙ ap (λ (xs : List WireEvent). xs ++ option_to_list c.put_serials-event.result) c.reserve-2.ensures.items) c.put_serials-event.ensures in
+    (c.tell.ensures ∙ ap (λ (xs : List WireEvent). xs ++ option_to_list c.put_serials-event.result) c.reserve-2.ensures.items)
+    (c.put_serials-event.ensures ∙ ap (λ (xs : List WireNode). recorded w.plan xs c.args.node c.event-told.result) c.deref.ensures.value) in
     let here : Shows p w r = subst (λ (v : WireData). Shows p v r) (sym c.self.view_is) shows in
     let s = stepped w c.args.node c.in_ok-place.place c.index_mut.result.now first c.index_mut.ensures.value
     p r c.go_on-reply.new.self c.go_on-reply.result c.make_access-seen.new.words.items c.event-told.result (told_by c.tell-2.new.events.items) (events_by c.tell.new.events.items)
