@@ -20,7 +20,7 @@ pub owner_is : (wire : WireData) (plan : WirePlan) (port n : ℕ) → plan ≡ w
 owner_is wire plan port n same is =
     at_port wire.nodes n (port_of wire.plan port) (is ∙ ap (λ k. option_map (λ (q : PlanPort). q.node) (port_of k port)) same)
 
-pub at_none : (nodes : List WireNode) (o : Option PlanPort) → None ≡ option_map (λ (q : PlanPort). q.node) o
+at_none : (nodes : List WireNode) (o : Option PlanPort) → None ≡ option_map (λ (q : PlanPort). q.node) o
     → option_map_or (λ (q : PlanPort). node_at q.node nodes) o None ≡ None
 at_none nodes None is = refl
 at_none nodes (Some q) is = absurd (none-some q.node is)

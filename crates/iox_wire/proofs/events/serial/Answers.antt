@@ -1,10 +1,10 @@
 use Rattle.std.specs.Prelude.{Option, None}
 use Rattle.std.specs.Option.{option_map_or}
-use Rattle.std.proofs.Common.{◌≡◌, ◌==◌, ℕ, Some, ap, sym, ◌∙◌}
+use Rattle.std.proofs.Common.{◌==◌, ap, sym, ◌∙◌}
 use Rattle.iox_wire_weaves.specs.Counted.{desk_of, serial_at}
 use Rattle.iox_wire_weaves.specs.Plans.{port_of}
-use Rattle.iox_wire_weaves.specs.Wires.{WireNode, node_at}
-use Rattle.iox_wire.proofs.Owners.{at_none, at_port}
+use Rattle.iox_wire_weaves.specs.Wires.{WireNode}
+use Rattle.iox_wire.proofs.Owners.{at_port}
 use Rattle.iox_wire.proofs.Places.{none_found, read_there}
 use Rattle.iox_wire.proofs.events.serial.Goals as goal
 
