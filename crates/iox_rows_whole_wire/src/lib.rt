@@ -12,6 +12,8 @@ mod client_stops;
 #[cfg(test)]
 mod counts;
 #[cfg(test)]
+mod events;
+#[cfg(test)]
 mod four;
 #[cfg(test)]
 mod games;

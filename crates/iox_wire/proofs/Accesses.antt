@@ -2,7 +2,7 @@
 use Rattle.std.specs.Prelude.{Option}
 use Rattle.std.proofs.Common.{◌≡◌, ℕ, List, ap, ap₂, sym, subst, ◌∙◌}
 use Rattle.iox_steps.specs.declared.access.Access.{Access}
-use Rattle.iox_steps.specs.Accesses.{seen_at, words_after}
+use Rattle.iox_steps.specs.Accesses.{seen_at}
 use Rattle.iox_wire_weaves.specs.Local.{Local}
 use Rattle.iox_wire_weaves.specs.LocalsSteps.{next, tells}
 use Rattle.iox_wire_weaves.specs.Places.{InPools}
@@ -12,7 +12,7 @@ use Rattle.iox_wire_weaves.specs.CallAt.TheVariants as at
 use Rattle.iox_wire_weaves.specs.NodeReply.{NodeReply}
 use Rattle.iox_wire_weaves.specs.Aims.{Answers, GoesOn, IsAimed, KnowsItsPlace, MayGoOn, StaysAimed, StaysReady, TellsOfPools}
 use Rattle.iox_wire_weaves.specs.Nodes.{Node, seat_in}
-use Rattle.iox_wire.specs.Kept.{HasAccessed, MayAccess, access_in}
+use Rattle.iox_wire.specs.Kept.{HasGoneOn, MayAccess, access_in}
 
 -- ---- slots and lanes of pools
 
@@ -20,37 +20,34 @@ use Rattle.iox_wire.specs.Kept.{HasAccessed, MayAccess, access_in}
 pub tells_of_pools : (p : Setting) (call : CallAt) (local : Local) → InPools p local → TellsOfPools p call local
 tells_of_pools p at.Receives local told = told.0
 tells_of_pools p at.Lends local told = told.1
-tells_of_pools p at.CopiesRequest local told = told.1
+tells_of_pools p at.CopiesRequest local told = (told.1, told.2)
 tells_of_pools p at.CopiesResponse local told = told.1
 tells_of_pools p call local told = tt
 
 -- ---- an access
 
-module _ (p : Setting) (x z : Node) (same : x ≡ z) (words : List ℕ) (access : Access) (seen : ℕ) (may : MayAccess p z words)
-    (asked : (q : Setting) → IsAimed q x → access ≡ access_in q x) (found : seen ≡ seen_at access words) where
+module _ (p : Setting) (x z : Node) (same : x ≡ z) (words : List ℕ) (may : MayAccess p z words) where
   aimed_here : IsAimed p x
   aimed_here = subst (IsAimed p) (sym same) may.aimed
 
-  its_access : access ≡ access_in p z
-  its_access = asked p aimed_here ∙ ap (access_in p) same
+  pub its_access : (access : Access) → ((q : Setting) → IsAimed q x → access ≡ access_in q x) → access ≡ access_in p z
+  its_access access asked = asked p aimed_here ∙ ap (access_in p) same
 
-  its_word : seen ≡ seen_at (access_in p z) words
-  its_word = found ∙ ap (λ a. seen_at a words) its_access
+  -- it goes on with what that found
+  module _ (seen : ℕ) (its_word : seen ≡ seen_at (access_in p z) words) where
+    pub may_go_on : KnowsItsPlace x.at x → MayGoOn x.at x seen
+    may_go_on place =
+        subst (MayGoOn x.at x) (sym its_word)
+        (subst (λ (k : Node). MayGoOn k.at k (seen_at (access_in p z) words)) (sym same)
+        (may.goes_on (subst (λ (k : Node). KnowsItsPlace k.at k) same place)))
 
-  pub may_go_on : KnowsItsPlace x.at x → MayGoOn x.at x seen
-  may_go_on place =
-      subst (MayGoOn x.at x) (sym its_word)
-      (subst (λ (k : Node). MayGoOn k.at k (seen_at (access_in p z) words)) (sym same)
-      (may.goes_on (subst (λ (k : Node). KnowsItsPlace k.at k) same place)))
-
-  pub has_accessed : (y : Node) (after : List ℕ) (reply : Option NodeReply) → after ≡ words_after access words → GoesOn x seen y → Answers x seen reply y
-      → StaysReady x reply y → StaysAimed x y → HasAccessed p z words reply y after
-  has_accessed y after reply left goes over ready stays = record {
-    words_are = left ∙ ap (λ a. words_after a words) its_access;
-    went = record {
-      next_is = goes p aimed_here ∙ ap₂ (λ (k : Node) s. next p (seat_in k) s) same its_word;
-      told = sym (ap₂ (λ (k : Node) s. tells p (seat_in k) s) same its_word) ∙ over p aimed_here;
-      aimed = λ pools. stays p aimed_here (tells_of_pools p y.at (seat_in y).local pools);
-    };
-    ready = subst (λ (k : Node). StaysReady k reply y) same ready p may.aimed;
-  }
+    pub has_gone_on : (y : Node) (reply : Option NodeReply) → GoesOn x seen y → Answers x seen reply y → StaysReady x reply y → StaysAimed x y
+        → HasGoneOn p z words reply y
+    has_gone_on y reply goes over ready stays = record {
+      went = record {
+        next_is = goes p aimed_here ∙ ap₂ (λ (k : Node) s. next p (seat_in k) s) same its_word;
+        told = sym (ap₂ (λ (k : Node) s. tells p (seat_in k) s) same its_word) ∙ over p aimed_here;
+        aimed = λ pools. stays p aimed_here (tells_of_pools p y.at (seat_in y).local pools);
+      };
+      ready = subst (λ (k : Node). StaysReady k reply y) same ready p may.aimed;
+    }

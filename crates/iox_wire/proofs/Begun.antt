@@ -13,7 +13,7 @@ use Rattle.iox_model.specs.Settings.{shape_of}
 use Rattle.iox_model.specs.Weaves.{Begins, begin_refusal}
 use Rattle.iox_laws.proofs.WeaveLedger.Truths.{none-some}
 use Rattle.iox_wire_weaves.specs.Aims.{IsAimed, MayAdd}
-use Rattle.iox_wire_weaves.specs.Asking.{BeginsCall, IsBeginRefusal, IsLeftOut}
+use Rattle.iox_wire_weaves.specs.Asking.{BeginsCall, IsBeginRefusal}
 use Rattle.iox_wire_weaves.specs.Begins.{is_busy, misnamed_call, refusal_at}
 use Rattle.iox_wire_weaves.specs.CallAt.{CallAt}
 use Rattle.iox_wire_weaves.specs.CallAt.TheVariants as at
@@ -29,9 +29,7 @@ use Rattle.iox_wire_weaves.specs.MessageBegins.{WordsAreWhole}
 use Rattle.iox_wire_weaves.specs.NodeCall.{NodeCall}
 use Rattle.iox_wire_weaves.specs.NodeCall.TheVariants.{Handle, HasRequests, Loan, Receive, Send, SendCopy, Write}
 use Rattle.iox_wire_weaves.specs.NodeError.{NodeError}
-use Rattle.iox_wire_weaves.specs.NodeError.TheVariants as errors
 use Rattle.iox_wire_weaves.specs.Nodes.{Node, seat_at, seat_in}
-use Rattle.iox_wire_weaves.specs.NodesBegins as nodes
 use Rattle.iox_wire_weaves.specs.NodesBegins.{AddsHandle, IsLeftBy, IsUnchanged, IsUnderWay, MayBegin, node_refusal}
 use Rattle.iox_wire_weaves.specs.Openings.{opened_seat}
 use Rattle.iox_wire_weaves.specs.Runs.{GoesOnBy, Run}
@@ -47,7 +45,6 @@ use Rattle.iox_wire_weaves.specs.WirePlan.{WirePlan}
 use Rattle.iox_wire_weaves.specs.WireStands.{WireStands}
 use Rattle.iox_wire_weaves.specs.WireTerms.{WireTerms}
 use Rattle.iox_wire_weaves.specs.declared.refusal.WireRefusal.{WireRefusal}
-use Rattle.iox_wire_weaves.specs.declared.refusal.WireRefusal.TheVariants.{Unsupported}
 use Rattle.iox_wire_weaves.specs.PortCounts.{TellsCounts}
 use Rattle.iox_wire_weaves.specs.Wires.{Shows, WireData, WireNode, living_refusal, machine_refusal, node_at, players_of, refusal_in, seat_of}
 use Rattle.iox_wire_weaves.proofs.BeginsShown.{begins_show, refusals_are_shown}
@@ -174,7 +171,7 @@ module _ (w : WireData) (n i : ℕ) (d : WireNode) (at : position (λ x. x.numbe
   there = read_there n w.nodes i d at read
 
   abbrev Now : WireNode → WireData
-  Now y = record { plan = w.plan; terms = w.terms; words = w.words; nodes = slice_set w.nodes i y; replies = w.replies }
+  Now y = record { plan = w.plan; terms = w.terms; words = w.words; nodes = slice_set w.nodes i y; replies = w.replies; events = w.events }
 
   -- ---- what a begin relies on
 
@@ -218,7 +215,7 @@ module _ (w : WireData) (n i : ℕ) (d : WireNode) (at : position (λ x. x.numbe
     begun y alive few has =
         begins_show p w (Now y) r n d y (Port (call_in p call)) shows
         (own_refusal alive ∙ (has.begun p shows.setting).allowed) (words_are_whole p call) (omega (arith, few)) (replaced n w.nodes i d y at read has.number) has.alive
-        (has.begun p shows.setting).begun (λ pools. (has.begun p shows.setting).aimed (tells_of_pools p y.node.at (seat_in y.node).local pools)) refl refl refl refl
+        (has.begun p shows.setting).begun (λ pools. (has.begun p shows.setting).aimed (tells_of_pools p y.node.at (seat_in y.node).local pools)) refl refl refl refl refl
 
   pub shown_begun : (call : NodeCall) (y : WireNode) → IsShown w → living_refusal w.nodes n ≡ None → HasBegun w.plan w.terms d call y → IsShown (Now y)
   shown_begun call y shown alive has =
@@ -234,23 +231,9 @@ module _ (w : WireData) (n i : ℕ) (d : WireNode) (at : position (λ x. x.numbe
 
   -- ---- a refusal
 
-  -- what the node begins not yet, the wire does not
-  left_out : (call : NodeCall) → nodes.IsLeftOut w.plan (seat_in d.node) call → IsLeftOut w n call
-  left_out (SendCopy k y) out = λ x here. subst (λ (z : WireNode). nodes.HasNoLane w.plan (seat_in z.node) k) (ap (λ o. option_map_or (λ z. z) o d) (sym there ∙ here)) out
-  left_out (Loan k e) out = absurd out
-  left_out (Write k y) out = absurd out
-  left_out (Send k) out = absurd out
-  left_out (Receive k) out = absurd out
-  left_out (HasRequests k) out = absurd out
-  left_out (Handle k h) out = absurd out
-
   pub refused : (call : NodeCall) (error : NodeError) (refusal : WireRefusal) → living_refusal w.nodes n ≡ None → IsRefusedBy w.plan w.terms d call error
-      → (error ≡ errors.Unsupported → nodes.IsLeftOut w.plan (seat_in d.node) call)
-      → machine_refusal refusal ≡ node_refusal error → (refusal ≡ Unsupported → error ≡ errors.Unsupported) → IsBeginRefusal w n call refusal
-  refused call error refusal alive by out same so = record {
-    named = λ p r shows. own_refusal p r shows call alive ∙ by p shows.setting ∙ sym same;
-    left_out = λ is. left_out call (out (so is));
-  }
+      → machine_refusal refusal ≡ node_refusal error → IsBeginRefusal w n call refusal
+  refused call error refusal alive by same p r shows = own_refusal p r shows call alive ∙ by p shows.setting ∙ sym same
 
   -- ---- what is left
 
@@ -282,6 +265,7 @@ module _ (w : WireData) (n i : ℕ) (d : WireNode) (at : position (λ x. x.numbe
       ports = shows.ports;
       counts = λ port has. subst (TellsCounts r.last port) (sym (seats_same p (p.layout.owner port) (p.layout.owner port == n) refl)) (shows.counts port has);
       replies = shows.replies;
+      events = shows.events;
     }
 
     pub shown_left : IsShown w → IsShown (Now y)
@@ -302,7 +286,7 @@ module _ (w : WireData) (n i : ℕ) (d : WireNode) (at : position (λ x. x.numbe
     seen_same m false other = ap (option_map seen_of) (puts.others m other)
 
     left_alone : IsLeftAlone w (Now y)
-    left_alone = record { words = refl; replies = refl; nodes = λ m. seen_same m (m == n) refl; shows = shows_left }
+    left_alone = record { words = refl; replies = refl; events = refl; nodes = λ m. seen_same m (m == n) refl; shows = shows_left }
 
   pub shown_refused : (call : NodeCall) (y : WireNode) → StaysPut d call y → IsShown w → IsShown (Now y)
   shown_refused call y stays shown = shown_left y stays.number stays.alive (left_unchanged call d.node y.node stays.node) shown

@@ -61,7 +61,7 @@ kept_first plan apart low handles n x opened = record {
 -- ---- the wire
 
 module _ (plan : WirePlan) (terms : WireTerms) (ns : List ℕ) (wire : WireData) (is : IsPlan plan) (plan_is : wire.plan ≡ plan) (terms_are : wire.terms ≡ terms)
-    (words : wire.words ≡ replicate (total_words (sizes_of plan)) 0) (handles : ℕ) (nodes : AreOpened plan handles ns wire.nodes) (replies : wire.replies ≡ []) where
+    (words : wire.words ≡ replicate (total_words (sizes_of plan)) 0) (handles : ℕ) (nodes : AreOpened plan handles ns wire.nodes) (replies : wire.replies ≡ []) (events : wire.events ≡ []) where
   module _ (p : Setting) (s : State) (opens : OpensOn plan terms ns p s) where
     setting : IsSettingOf plan p
     setting = opens.told.setting
@@ -77,6 +77,7 @@ module _ (plan : WirePlan) (terms : WireTerms) (ns : List ℕ) (wire : WireData)
       nodes_are = λ n. opened_has plan handles ns wire.nodes n nodes;
       seats = λ n x at. ((one n x at).seat ∙ opened_as_planned plan p is setting n, (one n x at).lives, (one n x at).seated);
       replies = replies;
+      events = events;
     }
 
     pub shows_opened : ShowsOpened p s wire

@@ -10,7 +10,7 @@ use Rattle.iox_wire_weaves.specs.WirePlan.{WirePlan}
 use Rattle.iox_wire_weaves.specs.Wires.{WireData, WireNode, node_at}
 use Rattle.iox_wire_weaves.specs.Owners.{owner_in}
 
-at_port : (nodes : List WireNode) (n : ℕ) (o : Option PlanPort) → Some n ≡ option_map (λ (q : PlanPort). q.node) o
+pub at_port : (nodes : List WireNode) (n : ℕ) (o : Option PlanPort) → Some n ≡ option_map (λ (q : PlanPort). q.node) o
     → option_map_or (λ (q : PlanPort). node_at q.node nodes) o None ≡ node_at n nodes
 at_port nodes n None is = absurd (none-some n (sym is))
 at_port nodes n (Some q) is = ap (λ k. node_at k nodes) (sym (some-is n q.node is))

@@ -142,7 +142,7 @@ begin_left : (a b : WireData) (n : ℕ) (call : NodeCall) (refusal : WireRefusal
     → machine_refusal refusal ≡ Some (refusal_in refusal) → IsAsked a n call b
 begin_left a b n call refusal left refused named p r shows =
     let asked : WireCall = Port (call_in p call) in
-    let not_begun : begin_refusal r.last n asked ≡ Some (refusal_in refusal) = refused.named p r shows ∙ named in (
+    let not_begun : begin_refusal r.last n asked ≡ Some (refusal_in refusal) = refused p r shows ∙ named in (
       [],
       r,
       subst (λ (o : Option Refusal). IsBeginOf o n asked []) (sym not_begun) refl,

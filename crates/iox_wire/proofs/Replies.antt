@@ -27,6 +27,8 @@ use Rattle.iox_wire_weaves.specs.Nodes.{reply_in}
 use Rattle.iox_wire_weaves.specs.Laws.{progress_of}
 use Rattle.iox_wire_weaves.specs.Steps.{answer_of}
 use Rattle.iox_wire_weaves.specs.Wires.{WireNode, wordless, wordless_all}
+use Rattle.iox_model.specs.declared.event.Event.{Event}
+use Rattle.iox_wire.specs.declared.events.WireEvent.{WireEvent}
 use Rattle.iox_wire.specs.declared.wire.Answer.{Answer}
 
 of_seat : (words : List ℕ) (r : SeatReply) → wordless (reply_with words r) ≡ reply_with [] r
@@ -68,6 +70,16 @@ wordless_reply words (nodes.OfResponseCopy (response_copies.OfSend r)) = of_resp
 -- the replies that stand for answers
 abbrev pub told_by : List Answer → List (ℕ × Reply)
 told_by answers = map (λ a. (a.node, reply_in [] a.reply)) answers
+
+-- the events that were recorded
+abbrev pub events_by : List WireEvent → List (ℕ × Event)
+events_by events = map (λ (e : WireEvent). (e.node, e.event)) events
+
+-- with one more event, if there is one
+pub events_more : (events after new : List WireEvent) (recorded : List (ℕ × Event)) → after ≡ events ++ new → events_by new ≡ recorded
+    → events_by after ≡ events_by events ++ recorded
+events_more events after new recorded is told =
+    ap events_by is ∙ map-append (λ (e : WireEvent). (e.node, e.event)) events new ∙ ap (λ es. events_by events ++ es) told
 
 one_answer : (n : ℕ) (ns : List WireNode) (reply : Option NodeReply)
     → told_by (option_to_list (option_map (λ r. record { node = n; reply = r }) reply)) ≡ wordless_all (answer_of n ns (progress_of reply))

@@ -3,10 +3,10 @@ use Rattle.std.specs.Prelude.{not, position}
 use Rattle.iox_wire_weaves.specs.Begins.{is_busy}
 use Rattle.iox_wire_weaves.specs.Nodes.{seat_in}
 use Rattle.std.specs.Option.{option_map_or}
-use Rattle.std.proofs.Common.{◌≡◌, ℕ, ◌==◌, true, false, List, ◌++◌, length, get_or, Option, Some, None, refl, ap, sym, subst, ◌∙◌, slice_set}
+use Rattle.std.proofs.Common.{◌≡◌, ℕ, ◌==◌, true, false, List, ◌++◌, length, get_or, Option, Some, None, refl, ap, ap₂, sym, subst, ◌∙◌, slice_set}
 use Rattle.iox_model.specs.Commands.{Reply}
 use Rattle.iox_model.specs.Maps.{or_else, refused_if}
-use Rattle.iox_model.specs.Schedules.{IsStepOf, events_of}
+use Rattle.iox_model.specs.Schedules.{IsStepOf}
 use Rattle.iox_model.specs.Weaves.{Beat, Dies}
 use Rattle.iox_steps.specs.declared.access.Access.{Access}
 use Rattle.iox_steps.specs.Accesses.{IsWithin, seen_at, words_after}
@@ -20,13 +20,14 @@ use Rattle.iox_wire_weaves.specs.WholeSteps.{GoesOnWith}
 use Rattle.iox_wire_weaves.specs.declared.refusal.WireRefusal.{WireRefusal}
 use Rattle.iox_wire_weaves.specs.declared.refusal.WireRefusal.TheVariants.{NodeIsDead}
 use Rattle.iox_wire_weaves.specs.Laws.{Replaces, WentOn, progress_of}
-use Rattle.iox_wire_weaves.specs.Events.{slot_event}
+use Rattle.iox_model.specs.declared.event.Event.{Event}
+use Rattle.iox_wire_weaves.specs.SlotEvents.{slot_event}
 use Rattle.iox_wire_weaves.specs.Steps.{MakesOneAccess, access_of, answer_of, recorded, rest_refusal, step_refusal}
-use Rattle.iox_wire_weaves.specs.Wires.{Shows, WireData, WireNode, answers_in, living_refusal, node_at, seat_of, wordless_all}
+use Rattle.iox_wire_weaves.specs.Wires.{Shows, WireData, WireNode, answers_in, living_refusal, node_at, wordless_all}
 use Rattle.iox_wire_weaves.proofs.DeathsShown.{deaths_show}
 use Rattle.iox_wire_weaves.proofs.Lookups.{living_by, seat_there, steps_on}
 use Rattle.iox_wire_weaves.proofs.StepsShown.{steps_show}
-use Rattle.iox_wire.specs.Kept.{HasAccessed, IsKept, IsShown, Loses, MayAccess, access_in}
+use Rattle.iox_wire.specs.Kept.{HasGoneOn, IsKept, IsShown, Loses, MayAccess, access_in}
 use Rattle.iox_wire.proofs.GoingOn.{goes_on}
 use Rattle.iox_wire.proofs.Keeping.{kept_on, kept_still}
 use Rattle.iox_wire.proofs.Told.{may, told, within}
@@ -60,50 +61,57 @@ module _ (w : WireData) (n i : ℕ) (d : WireNode) (at : position (λ x. x.numbe
 
   -- ---- a step
 
-  pub stepped : (p : Setting) (r : Run) (y : WireNode) (reply : Option NodeReply) (words : List ℕ) (replies : List (ℕ × Reply))
-      → Shows p w r → step_refusal w n ≡ None → HasAccessed p d.node w.words reply y.node words → y.number ≡ d.number → y.alive ≡ d.alive
-      → replies ≡ w.replies ++ wordless_all (answer_of n (slice_set w.nodes i y) (progress_of reply))
-      → let new : WireData = record { plan = w.plan; terms = w.terms; words = words; nodes = slice_set w.nodes i y; replies = replies } in
+  -- the node made its access, and went on
+  pub record Made (p : Setting) (reply : Option NodeReply) (words : List ℕ) (event : Option Event) (y : WireNode) : Type 0 where
+    pub gone : HasGoneOn p d.node w.words reply y.node
+    pub words_are : words ≡ words_after (access_in p d.node) w.words
+    pub event_is : event ≡ slot_event p (seat_in d.node).local (seen_at (access_in p d.node) w.words)
+
+  pub stepped : (p : Setting) (r : Run) (y : WireNode) (reply : Option NodeReply) (words : List ℕ) (event : Option Event) (replies : List (ℕ × Reply)) (events : List (ℕ × Event))
+      → Shows p w r → step_refusal w n ≡ None → Made p reply words event y → y.number ≡ d.number → y.alive ≡ d.alive
+      → replies ≡ w.replies ++ wordless_all (answer_of n (slice_set w.nodes i y) (progress_of reply)) → events ≡ w.events ++ recorded w.plan w.nodes n event
+      → let new : WireData = record { plan = w.plan; terms = w.terms; words = words; nodes = slice_set w.nodes i y; replies = replies; events = events } in
       MakesOneAccess p w n new
       × (bs : List Beat) × (after : Run) × IsStepOf n bs × GoesOnWith r bs after
-      × (answers_in bs ≡ answer_of n new.nodes (progress_of reply))
-      × (events_of bs ≡ recorded w n (slot_event p (seat_of p w.nodes n).local (seen_at (access_of p w n) w.words))) × Shows p new after
-  stepped p r y reply words replies shows goes made number alive told =
-      steps_show p w (record { plan = w.plan; terms = w.terms; words = words; nodes = slice_set w.nodes i y; replies = replies }) r n d y reply shows goes
+      × (answers_in bs ≡ answer_of n new.nodes (progress_of reply)) × Shows p new after
+  stepped p r y reply words event replies events shows goes made number alive told noted =
+      steps_show p w (record { plan = w.plan; terms = w.terms; words = words; nodes = slice_set w.nodes i y; replies = replies; events = events }) r n d y reply shows goes
       (replaced n w.nodes i d y at read number) alive
-      (subst (λ (a : Access). WentOn p d.node (seen_at a w.words) reply y.node) (sym (same_access p)) made.went) refl refl
+      (subst (λ (a : Access). WentOn p d.node (seen_at a w.words) reply y.node) (sym (same_access p)) made.gone.went) refl refl
       (made.words_are ∙ ap (λ a. words_after a w.words) (sym (same_access p))) told
+      (noted ∙ ap (λ e. w.events ++ recorded w.plan w.nodes n e)
+      (made.event_is ∙ ap₂ (λ (s : Seat) (a : Access). slot_event p s.local (seen_at a w.words)) (sym (seat_there p w.nodes n d there)) (sym (same_access p))))
 
-  pub shown_after : (y : WireNode) (reply : Option NodeReply) (words : List ℕ) (replies : List (ℕ × Reply)) → IsShown w → step_refusal w n ≡ None
-      → ((p : Setting) → MayAccess p d.node w.words → HasAccessed p d.node w.words reply y.node words) → y.number ≡ d.number → y.alive ≡ d.alive
-      → replies ≡ w.replies ++ wordless_all (answer_of n (slice_set w.nodes i y) (progress_of reply))
-      → IsShown (record { plan = w.plan; terms = w.terms; words = words; nodes = slice_set w.nodes i y; replies = replies })
-  shown_after y reply words replies shown goes access number alive told =
+  pub shown_after : (y : WireNode) (reply : Option NodeReply) (words : List ℕ) (event : Option Event) (replies : List (ℕ × Reply)) (events : List (ℕ × Event))
+      → IsShown w → step_refusal w n ≡ None → ((p : Setting) → MayAccess p d.node w.words → Made p reply words event y) → y.number ≡ d.number → y.alive ≡ d.alive
+      → replies ≡ w.replies ++ wordless_all (answer_of n (slice_set w.nodes i y) (progress_of reply)) → events ≡ w.events ++ recorded w.plan w.nodes n event
+      → IsShown (record { plan = w.plan; terms = w.terms; words = words; nodes = slice_set w.nodes i y; replies = replies; events = events })
+  shown_after y reply words event replies events shown goes access number alive told noted =
       let p : Setting = shown.shows.0 in let r : Run = shown.shows.1 in let shows : Shows p w r = shown.shows.2 in
       let kept : IsKept d.node = shown.kept n d there in
-      let made : HasAccessed p d.node w.words reply y.node words = access p (may_access p r shows goes kept) in
-      let s = stepped p r y reply words replies shows goes made number alive told in
+      let made : Made p reply words event y = access p (may_access p r shows goes kept) in
+      let s = stepped p r y reply words event replies events shows goes made number alive told noted in
       let rests = steps_on w n d there goes in
       record {
-        shows = (p, s.2, s.7);
+        shows = (p, s.2, s.6);
         whole = shown.whole;
         numbers = shown.numbers;
         kept = kept_still w.nodes n d y (slice_set w.nodes i y) (replaced n w.nodes i d y at read number) shown.kept
-            (kept_on p d.node y.node (seen_at (access_in p d.node) w.words) reply kept rests.1 rests.2 made.went made.ready);
+            (kept_on p d.node y.node (seen_at (access_in p d.node) w.words) reply kept rests.1 rests.2 made.gone.went made.gone.ready);
       }
 
   -- ---- a death
 
   pub died : (p : Setting) (r : Run) (y : WireNode) → Shows p w r → living_refusal w.nodes n ≡ None → y ≡ record d { alive = false }
       → (after : Run) × GoesOnBy r (Dies n) after
-      × Shows p (record { plan = w.plan; terms = w.terms; words = w.words; nodes = slice_set w.nodes i y; replies = w.replies }) after
+      × Shows p (record { plan = w.plan; terms = w.terms; words = w.words; nodes = slice_set w.nodes i y; replies = w.replies; events = w.events }) after
   died p r y shows lives dead =
-      deaths_show p w (record { plan = w.plan; terms = w.terms; words = w.words; nodes = slice_set w.nodes i y; replies = w.replies }) r n d shows lives
+      deaths_show p w (record { plan = w.plan; terms = w.terms; words = w.words; nodes = slice_set w.nodes i y; replies = w.replies; events = w.events }) r n d shows lives
       (subst (λ z. Replaces w.nodes n d z (slice_set w.nodes i y)) dead (replaced n w.nodes i d y at read (ap (λ (z : WireNode). z.number) dead)))
-      refl refl refl refl
+      refl refl refl refl refl
 
   pub shown_dead : (y : WireNode) → IsShown w → living_refusal w.nodes n ≡ None → y ≡ record d { alive = false }
-      → IsShown (record { plan = w.plan; terms = w.terms; words = w.words; nodes = slice_set w.nodes i y; replies = w.replies })
+      → IsShown (record { plan = w.plan; terms = w.terms; words = w.words; nodes = slice_set w.nodes i y; replies = w.replies; events = w.events })
   shown_dead y shown lives dead =
       let s = died shown.shows.0 shown.shows.1 y shown.shows.2 lives dead in (
       record {
@@ -116,7 +124,7 @@ module _ (w : WireData) (n i : ℕ) (d : WireNode) (at : position (λ x. x.numbe
       )
 
   pub lost : (y : WireNode) → y ≡ record d { alive = false }
-      → Loses w n (record { plan = w.plan; terms = w.terms; words = w.words; nodes = slice_set w.nodes i y; replies = w.replies })
+      → Loses w n (record { plan = w.plan; terms = w.terms; words = w.words; nodes = slice_set w.nodes i y; replies = w.replies; events = w.events })
   lost y dead =
       let puts : Replaces w.nodes n d y (slice_set w.nodes i y) = replaced n w.nodes i d y at read (ap (λ (z : WireNode). z.number) dead) in
       record {
@@ -124,4 +132,5 @@ module _ (w : WireData) (n i : ℕ) (d : WireNode) (at : position (λ x. x.numbe
         others = puts.others;
         words = refl;
         replies = refl;
+        events = refl;
       }

@@ -1,7 +1,7 @@
 -- What a wire keeps to, and what a node's access does.
 use Rattle.std.specs.Prelude.{◌+◌, ◌<◌, ◌≤◌, ◌^◌, ◌≡◌, ◌==◌, ℕ, false, List, [], ◌∷◌, Option, None, Some, length, true}
 use Rattle.iox_steps.specs.declared.access.Access.{Access}
-use Rattle.iox_steps.specs.Accesses.{IsWithin, seen_at, words_after}
+use Rattle.iox_steps.specs.Accesses.{IsWithin, seen_at}
 use Rattle.iox_wire_weaves.specs.Programs.{program_access}
 use Rattle.iox_wire_weaves.specs.Locals.{program_of}
 use Rattle.iox_wire_weaves.specs.Tables.{Setting}
@@ -55,6 +55,7 @@ pub record Loses (old : WireData) (n : ℕ) (new : WireData) : Type 0 where
   pub others : (m : ℕ) → (m == n) ≡ false → node_at m new.nodes ≡ node_at m old.nodes
   pub words : new.words ≡ old.words
   pub replies : new.replies ≡ old.replies
+  pub events : new.events ≡ old.events
 
 -- ---- an opening
 
@@ -91,10 +92,14 @@ pub record MayAccess (p : Setting) (x : Node) (words : List ℕ) : Type 0 where
   pub within : IsWithin 0 (length words) (access_in p x)
   pub goes_on : KnowsItsPlace x.at x → MayGoOn x.at x (seen_at (access_in p x) words)
 
--- It made its access: the words are those after it, and the node went on with what it found; its
--- call answers this if it is over, and there is room for what it adds if not.
-pub record HasAccessed (p : Setting) (x : Node) (words : List ℕ) (reply : Option NodeReply)
-    (y : Node) (after : List ℕ) : Type 0 where
-  pub words_are : after ≡ words_after (access_in p x) words
+-- It went on with what its access found: its call answers this if it is over, and there is room for
+-- what it adds if not.
+pub record HasGoneOn (p : Setting) (x : Node) (words : List ℕ) (reply : Option NodeReply) (y : Node)
+    : Type 0 where
   pub went : WentOn p x (seen_at (access_in p x) words) reply y
   pub ready : reply ≡ None → MayAdd x.at x → MayAdd y.at y
+
+-- its access found this in words where it may make it
+abbrev pub FoundThere : Setting → Node → ℕ → Type 0
+FoundThere p x seen =
+    (words : List ℕ) × MayAccess p x words × (seen ≡ seen_at (access_in p x) words)

@@ -2,10 +2,8 @@
 ghost use Rattle.std.specs.Prelude.{◌≡◌, IfErr, OnErr, OnOk};
 ghost use Rattle.iox_wire_weaves.specs.Asking.{BeginIsWoven, BeginsItsCall, IsBeginRefusal};
 ghost use Rattle.iox_wire_weaves.specs.NodeCall.TheVariants.{HasRequests};
-ghost use Rattle.iox_wire_weaves.specs.NodeError.TheVariants as errors;
 ghost use Rattle.iox_wire_weaves.specs.NodesBegins.{node_refusal};
 ghost use Rattle.iox_wire_weaves.specs.Wires.{machine_refusal};
-ghost use Rattle.iox_wire_weaves.specs.declared.refusal.WireRefusal.TheVariants.{Unsupported};
 ghost use Rattle.iox_wire.specs.Begun.{IsLeft};
 
 use crate::wire::Wire;
@@ -13,8 +11,7 @@ use iox_wire_weaves::{BeginError, NodeCall, NodeError, WireRefusal};
 
 /// A wire's name of a refusal.
 fn refusal_of(error: NodeError) -> WireRefusal
-    ensures named { machine_refusal result ≡ node_refusal error }
-    ensures left_out { result ≡ Unsupported → error ≡ errors.Unsupported }
+    ensures { machine_refusal result ≡ node_refusal error }
 {
     match error {
         NodeError::Begin(BeginError::Busy) => WireRefusal::Busy,
@@ -22,7 +19,6 @@ fn refusal_of(error: NodeError) -> WireRefusal
         NodeError::Begin(BeginError::ForeignNumber) => WireRefusal::ForeignNumber,
         NodeError::Begin(BeginError::WrongKind) => WireRefusal::WrongKind,
         NodeError::Begin(BeginError::WantOfMemory) => WireRefusal::WantOfMemory,
-        NodeError::Unsupported => WireRefusal::Unsupported,
     }
 }
 

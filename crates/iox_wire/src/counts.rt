@@ -15,7 +15,7 @@ fn port_in(ports: &[PlanPort], number: u64) -> Option<&PlanPort>
 }
 
 /// The node that the plan gives the port of that number, if there is one.
-fn node_of(map: &WordMap, port: u64) -> Option<u64>
+pub(crate) fn node_of(map: &WordMap, port: u64) -> Option<u64>
     ensures { result ≡ option_map (λ q. q.node) (port_of map.now port) }
 {
     match port_in(&map.plan().ports, port) {

@@ -5,6 +5,7 @@
 mod begin;
 mod counts;
 mod entry;
+mod events;
 mod finding;
 mod member;
 mod opening;
@@ -14,6 +15,9 @@ pub mod uses;
 mod wire;
 
 pub use entry::WireEntry;
+pub use events::WireEvent;
+pub use iox_model::event::Event;
+pub use iox_model::way::Way;
 pub use iox_steps::Progress;
 pub use iox_wire_weaves::{
     CopyReply, HandleCall, LendReply, NodeCall, NodePayload, NodeReply, ReceiveReply, RequestReply,

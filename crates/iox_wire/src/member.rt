@@ -5,6 +5,7 @@ ghost use Rattle.std.specs.Option.{option_map_or};
 mod begin;
 mod count;
 
+use iox_model::event::Event;
 use iox_steps::{Access, perform};
 use iox_wire_weaves::{NodeReply, StoredNode, WireRefusal};
 use std::marker::Model;
@@ -34,14 +35,17 @@ impl Model for Member {
 }
 
 impl Member {
-    ghost use Rattle.std.specs.Prelude.{◌≡◌, ◌<◌, nat_le, true};
+    ghost use Rattle.std.specs.Prelude.{◌≡◌, ◌<◌, ℕ, List, nat_le, true};
     ghost use Rattle.std.specs.Bool.{OnTrue};
     ghost use Rattle.iox_wire_weaves.specs.Begins.{is_busy};
     ghost use Rattle.iox_wire_weaves.specs.Rooms.{HasItsRoom};
     ghost use Rattle.iox_wire_weaves.specs.Tables.{Setting};
     ghost use Rattle.iox_wire_weaves.specs.Nodes.{seat_in};
     ghost use Rattle.iox_wire_weaves.specs.Steps.{most_accesses, rest_refusal};
-    ghost use Rattle.iox_wire.specs.Kept.{HasAccessed, MayAccess};
+    ghost use Rattle.iox_steps.specs.Accesses.{seen_at, words_after};
+    ghost use Rattle.iox_wire_weaves.specs.SlotEvents.{slot_event};
+    ghost use Rattle.iox_wire_weaves.specs.Aims.{IsAimed};
+    ghost use Rattle.iox_wire.specs.Kept.{FoundThere, HasGoneOn, MayAccess, access_in};
 
     /// A living node, which has so many handles and room for more together.
     pub(crate) fn new(number: u64, node: StoredNode, most: usize) -> Member
@@ -107,20 +111,41 @@ impl Member {
         None
     }
 
-    /// Makes its next access, and goes on with what that found.
+    /// Makes its next access, and tells what that found.
     #[inline]
-    pub(crate) fn make_access(&mut self, words: &mut Vec<u64>) -> Option<NodeReply>
-        requires may { (p : Setting) × MayAccess p self.old.node words.old.items }
+    pub(crate) fn make_access(&self, words: &mut Vec<u64>) -> u64
+        requires { (p : Setting) × MayAccess p self.now.node words.old.items }
+        ensures seen { (p : Setting) → MayAccess p self.now.node words.old.items
+            → result ≡ seen_at (access_in p self.now.node) words.old.items }
+        ensures words { (p : Setting) → MayAccess p self.now.node words.old.items
+            → words.new.items ≡ words_after (access_in p self.now.node) words.old.items }
+    {
+        let access: Access = self.node.asks();
+        perform(words, access)
+    }
+
+    /// The event of that access, if it is one. A message is named by its slot.
+    #[inline]
+    pub(crate) fn event(&self, seen: u64) -> Option<Event>
+        ensures { (p : Setting) → IsAimed p self.now.node
+            → result ≡ slot_event p (seat_in self.now.node).local seen }
+    {
+        self.node.event(seen)
+    }
+
+    /// Goes on with what its access found.
+    #[inline]
+    pub(crate) fn go_on(&mut self, seen: u64) -> Option<NodeReply>
+        requires may { (p : Setting) × FoundThere p self.old.node seen }
         requires busy { is_busy (seat_in self.old.node).local ≡ true }
         requires few { (seat_in self.old.node).accesses < most_accesses }
-        ensures made { (p : Setting) → MayAccess p self.old.node words.old.items
-            → HasAccessed p self.old.node words.old.items result self.new.node words.new.items }
+        ensures made { (p : Setting) → (words : List ℕ) → MayAccess p self.old.node words
+            → seen ≡ seen_at (access_in p self.old.node) words
+            → HasGoneOn p self.old.node words result self.new.node }
         ensures number { self.new.number ≡ self.old.number }
         ensures alive { self.new.alive ≡ self.old.alive }
     {
         self.node.place();
-        let access: Access = self.node.asks();
-        let seen = perform(words, access);
         self.node.go_on(seen)
     }
 }

@@ -29,7 +29,6 @@ fn is_named(error: WireRefusal) -> bool
 {
     match error {
         WireRefusal::WantOfMemory => false,
-        WireRefusal::Unsupported => false,
         WireRefusal::UnknownNode => true,
         WireRefusal::NodeIsDead => true,
         WireRefusal::Busy => true,

@@ -3,6 +3,7 @@ ghost use Rattle.std.specs.Prelude.{◌≡◌, IfOk, option_map, replicate};
 ghost use Rattle.iox_wire_weaves.specs.WordMapNewError.TheVariants as new_error;
 ghost use Rattle.iox_wire_weaves.specs.Laws.{progress_of};
 
+use crate::events::{WireEvent, put_serials};
 use crate::member::Member;
 use crate::opening::open_members;
 use iox_steps::{Progress, tell};
@@ -35,6 +36,7 @@ pub struct Wire {
     words: Vec<u64>,
     pub(crate) members: Vec<Member>,
     answers: Vec<Answer>,
+    events: Vec<WireEvent>,
     // what a begin lists; of no use later
     pub(crate) lists: Lists,
 }
@@ -53,6 +55,7 @@ impl Model for Wire {
       words = w.words.items;
       nodes = w.members.items;
       replies = map (λ a. (a.node, reply_in [] a.reply)) w.answers.items;
+      events = map (λ e. (e.node, e.event)) w.events.items;
     } };
 
     ghost invariant = { λ w. IsShown (record {
@@ -61,6 +64,7 @@ impl Model for Wire {
       words = w.words.items;
       nodes = w.members.items;
       replies = map (λ a. (a.node, reply_in [] a.reply)) w.answers.items;
+      events = map (λ e. (e.node, e.event)) w.events.items;
     }) };
 }
 
@@ -115,6 +119,7 @@ impl Wire {
             words,
             members,
             answers: Vec::new(alloc),
+            events: Vec::new(alloc),
             lists: Lists::new(alloc),
         })
     }
@@ -131,6 +136,13 @@ impl Wire {
         ensures { map (λ a. (a.node, reply_in [] a.reply)) result.now ≡ self.now.replies }
     {
         &self.answers
+    }
+
+    /// The moments that nodes made, in their order.
+    pub fn events(&self) -> &[WireEvent]
+        ensures { map (λ e. (e.node, e.event)) result.now ≡ self.now.events }
+    {
+        &self.events
     }
 
     /// Where the node of that number stands.
@@ -169,13 +181,21 @@ impl Wire {
         ensures unchanged { OnErr result (self.new ≡ self.old) }
     {
         let place = self.living(node)?;
-        if let Some(refusal) = self.members[place].rest_refusal() {
+        let member = &self.members[place];
+        if let Some(refusal) = member.rest_refusal() {
             return Err(refusal);
         }
         if self.answers.reserve(1).is_err() {
             return Err(WireRefusal::WantOfMemory);
         }
-        let reply = self.members[place].make_access(&mut self.words);
+        if self.events.reserve(1).is_err() {
+            return Err(WireRefusal::WantOfMemory);
+        }
+        let seen = member.make_access(&mut self.words);
+        let told = member.event(seen);
+        let event = put_serials(&self.places, &self.members, node, told);
+        let reply = self.members[place].go_on(seen);
+        tell(&mut self.events, event);
         tell(&mut self.answers, answered(node, reply));
         Ok(progress(reply))
     }

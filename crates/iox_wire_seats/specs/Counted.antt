@@ -1,5 +1,6 @@
--- How many of its messages a port keeps, and how many are outstanding on a way, as its desk tells.
-use Rattle.std.specs.Prelude.{ℕ, ◌-◌, ◌==◌, List, Option, find, length}
+-- How many of its messages a port keeps, how many are outstanding on a way, and which serials its slots
+-- hold, as its desk tells.
+use Rattle.std.specs.Prelude.{ℕ, ◌-◌, ◌==◌, List, Option, find, length, slice_index}
 use Rattle.std.specs.Option.{option_map_or}
 use Rattle.iox_model.specs.declared.way.Way.{Way}
 use Rattle.iox_model.specs.Maps.{same_way}
@@ -18,6 +19,10 @@ outstanding_at w d = count_recorded w d.recorded
 -- as many slots of the desk are not free
 abbrev pub kept_at : Desk → ℕ
 kept_at d = length d.uses - length d.free
+
+-- the serial of the last loan that took the slot
+abbrev pub serial_at : ℕ → Desk → ℕ
+serial_at slot d = slice_index d.serials slot
 
 -- the desk of that port
 abbrev pub desk_of : ℕ → List Desk → Option Desk

@@ -8,6 +8,7 @@ use Rattle.iox_model.specs.declared.reply.Refusal.TheVariants as refusals
 use Rattle.iox_model.specs.Commands.{Call, WireCall}
 use Rattle.iox_model.specs.Joins.{not_living}
 use Rattle.iox_model.specs.Maps.{has_number, or_else, put_at, refused_if}
+use Rattle.iox_model.specs.Schedules.{events_of}
 use Rattle.iox_model.specs.Weaves.{Begins, World, begin_refusal, miscalled}
 use Rattle.iox_steps.specs.Sites.{last_position}
 use Rattle.iox_wire_nodes.specs.Aims.{IsAimed}
@@ -33,6 +34,7 @@ use Rattle.iox_wire_weaves.specs.declared.refusal.WireRefusal.{WireRefusal}
 use Rattle.iox_wire_weaves.specs.Laws.{BeginsShow, RefusalsAreShown, Replaces}
 use Rattle.iox_wire_weaves.specs.Wires.{Shows, WireData, WireNode, answers_in, living_refusal, node_at, players_of, refusal_in, seat_of, wordless_all}
 use Rattle.iox_wire_weaves.specs.PortCounts.{TellsCounts}
+use Rattle.iox_wire_weaves.proofs.EventsTold.{no_events}
 use Rattle.iox_wire_weaves.proofs.LivingDesks as desks
 use Rattle.iox_wire_weaves.proofs.Lookups.{answers_on, first_none, fun_ext, same_living, same_setting, seat_there}
 use Rattle.iox_wire_weaves.proofs.PortsElsewhere.{beat_leaves, tells_same}
@@ -80,7 +82,8 @@ module _ (p : Setting) (old new : WireData) (r : Run) (n : ℕ) (x y : WireNode)
     (free : begin_refusal r.last n call ≡ None) (whole : WordsAreWhole p.limits call) (few : (seat_in x.node).accesses < last_position)
     (puts : Replaces old.nodes n x y new.nodes) (alive : y.alive ≡ x.alive) (begins : seat_in y.node ≡ begin p (seat_in x.node) call)
     (aimed : InPools p (seat_in y.node).local → IsAimed p y.node)
-    (plan : new.plan ≡ old.plan) (terms : new.terms ≡ old.terms) (words : new.words ≡ old.words) (replies : new.replies ≡ old.replies) where
+    (plan : new.plan ≡ old.plan) (terms : new.terms ≡ old.terms) (words : new.words ≡ old.words) (replies : new.replies ≡ old.replies)
+    (same_events : new.events ≡ old.events) where
   abbrev seat : Seat
   seat = seat_of p old.nodes n
 
@@ -171,16 +174,17 @@ module _ (p : Setting) (old new : WireData) (r : Run) (n : ℕ) (x y : WireNode)
     ports = ap (λ (v : World). v.state.fixed.ports) goes.1.beat.2 ∙ shows.ports;
     counts = counts_then;
     replies = replies_then;
+    events = same_events ∙ shows.events ∙ sym (no_events r.beats (Begins n call (choice_for p seat call)) refl) ∙ ap events_of (sym goes.1.beats);
   }
 
   begins_call : BeginsCall p old n call new
-  begins_call = record { node = there; others = puts.others; words = words; replies = replies }
+  begins_call = record { node = there; others = puts.others; words = words; replies = replies; events = same_events }
 
 pub begins_show : BeginsShow
-begins_show p old new r n x y call shows free whole few puts alive begins aimed plan terms words replies = (
-  begins_call p old new r n x y call shows free whole few puts alive begins aimed plan terms words replies,
+begins_show p old new r n x y call shows free whole few puts alive begins aimed plan terms words replies same_events = (
+  begins_call p old new r n x y call shows free whole few puts alive begins aimed plan terms words replies same_events,
   choice_for p (seat_of p old.nodes n) call,
-  (goes p old new r n x y call shows free whole few puts alive begins aimed plan terms words replies).0,
-  (goes p old new r n x y call shows free whole few puts alive begins aimed plan terms words replies).1,
-  shows_then p old new r n x y call shows free whole few puts alive begins aimed plan terms words replies,
+  (goes p old new r n x y call shows free whole few puts alive begins aimed plan terms words replies same_events).0,
+  (goes p old new r n x y call shows free whole few puts alive begins aimed plan terms words replies same_events).1,
+  shows_then p old new r n x y call shows free whole few puts alive begins aimed plan terms words replies same_events,
 )

@@ -7,6 +7,7 @@ use Rattle.iox_model.specs.declared.reply.Refusal.TheVariants as refusals
 use Rattle.iox_model.specs.Commands.{Refusal}
 use Rattle.iox_model.specs.Joins.{not_living}
 use Rattle.iox_model.specs.Maps.{has_number, refused_if}
+use Rattle.iox_model.specs.Schedules.{events_of}
 use Rattle.iox_model.specs.Services.{dies, with_death}
 use Rattle.iox_model.specs.States.{Node}
 use Rattle.iox_model.specs.Weaves.{Dies, World}
@@ -23,6 +24,7 @@ use Rattle.iox_wire_needs.proofs.WireStands.{wires_stand_after_deaths}
 use Rattle.iox_wire_weaves.specs.Laws.{DeathsShow, Replaces}
 use Rattle.iox_wire_weaves.specs.Wires.{Shows, WireData, WireNode, answers_in, living_refusal, node_at, players_of, refusal_in, seat_of, wordless_all}
 use Rattle.iox_wire_weaves.specs.PortCounts.{TellsCounts}
+use Rattle.iox_wire_weaves.proofs.EventsTold.{no_events}
 use Rattle.iox_wire_weaves.proofs.Lookups.{answers_on, fun_ext, living_by, same_setting, seat_there}
 use Rattle.iox_wire_weaves.proofs.PortsElsewhere.{same_world, tells_same, then_same}
 
@@ -55,7 +57,7 @@ died n (m ∷ ms) lives = elim (cases_Bool (m.number == n)) [
 
 module _ (p : Setting) (old new : WireData) (r : Run) (n : ℕ) (x : WireNode) (shows : Shows p old r) (alive : living_refusal old.nodes n ≡ None)
     (puts : Replaces old.nodes n x (record x { alive = false }) new.nodes) (plan : new.plan ≡ old.plan) (terms : new.terms ≡ old.terms) (words : new.words ≡ old.words)
-    (replies : new.replies ≡ old.replies) where
+    (replies : new.replies ≡ old.replies) (same_events : new.events ≡ old.events) where
   abbrev u : World
   u = record (r.last) { state = with_death r.last.state n }
 
@@ -132,11 +134,12 @@ module _ (p : Setting) (old new : WireData) (r : Run) (n : ℕ) (x : WireNode) (
     ports = ap (λ (v : World). v.state.fixed.ports) goes.2 ∙ shows.ports;
     counts = counts_then;
     replies = replies_then;
+    events = same_events ∙ shows.events ∙ sym (no_events r.beats (Dies n) refl) ∙ ap events_of (sym goes.1.beats);
   }
 
 pub deaths_show : DeathsShow
-deaths_show p old new r n x shows alive puts plan terms words replies = (
-  (goes p old new r n x shows alive puts plan terms words replies).0,
-  (goes p old new r n x shows alive puts plan terms words replies).1,
-  shows_then p old new r n x shows alive puts plan terms words replies,
+deaths_show p old new r n x shows alive puts plan terms words replies same_events = (
+  (goes p old new r n x shows alive puts plan terms words replies same_events).0,
+  (goes p old new r n x shows alive puts plan terms words replies same_events).1,
+  shows_then p old new r n x shows alive puts plan terms words replies same_events,
 )

@@ -1,7 +1,7 @@
 -- The moment of an access is told by slots, and by the serials that desks record of them.
 use Rattle.std.specs.Prelude.{◌&&◌, ◌⊎◌, find, not, option_map, slice_index}
 use Rattle.std.specs.Option.{option_map_or}
-use Rattle.std.proofs.Common.{◌≡◌, ℕ, ◌<◌, Bool, true, false, if◌then◌else◌, ◌==◌, List, [], ◌∷◌, length, Option, None, Some, refl, ap, sym, subst, ◌∙◌, inl, inr}
+use Rattle.std.proofs.Common.{◌≡◌, ℕ, ◌<◌, Bool, true, false, if◌then◌else◌, ◌==◌, List, [], ◌∷◌, ◌++◌, append-nil, length, map, Option, None, Some, refl, ap, sym, subst, ◌∙◌, inl, inr}
 use Rattle.iox_model.specs.declared.event.Event.{Event}
 use Rattle.iox_model.specs.declared.event.Event.TheVariants as events
 use Rattle.iox_model.specs.declared.way.RequestState.TheVariants.{Named}
@@ -11,7 +11,9 @@ use Rattle.iox_model.specs.Joins.{not_living}
 use Rattle.iox_model.specs.Maps.{has_number, or_else}
 use Rattle.iox_model.specs.Messages.{names, names_with_hint, response_way}
 use Rattle.iox_model.specs.Moments.{Close, Hint, Look, Moment, event_of}
-use Rattle.iox_model.specs.Schedules.{events_of}
+use Rattle.iox_model.specs.Schedules.{events_of, moments_of}
+use Rattle.iox_model.specs.Weaves.{Beat, Begins, Dies, Ends, Makes}
+use Rattle.std.proofs.lemmas.List.{map-append}
 use Rattle.iox_steps.specs.declared.side.Popping.TheVariants as popping
 use Rattle.iox_steps.specs.declared.side.Pushing.TheVariants as pushing
 use Rattle.iox_steps.specs.declared.side.QueueEvent.{QueueEvent}
@@ -42,8 +44,10 @@ use Rattle.iox_wire_needs.specs.Runs.{Run}
 use Rattle.iox_wire_needs.specs.Serials.{serials_at}
 use Rattle.iox_wire_needs.specs.SlotsKnown.{IsPortOfSeat}
 use Rattle.iox_wire_needs.specs.WholeSteps.{step_beats}
-use Rattle.iox_wire_weaves.specs.Events.{SlotsTellEvents, by_slot, slot_event, with_serials}
-use Rattle.iox_wire_weaves.specs.Owners.{owner_in, serial_in}
+use Rattle.iox_wire_seats.specs.SlotEvents.{by_slot, slot_event}
+use Rattle.iox_wire_seats.specs.Counted.{desk_of, serial_at}
+use Rattle.iox_wire_weaves.specs.Events.{SlotsTellEvents, with_serials}
+use Rattle.iox_wire_weaves.specs.Owners.{serial_of}
 use Rattle.iox_wire_weaves.specs.Steps.{recorded}
 use Rattle.iox_wire_weaves.specs.Wires.{Shows, WireData, WireNode, node_at, players_of, seat_of}
 use Rattle.iox_wire_weaves.proofs.FreshDesks.{fresh_serial}
@@ -167,23 +171,49 @@ module _ (p : Setting) (wire : WireData) (r : Run) (shows : Shows p wire r) wher
       here : slice_index (serials_at (seat_of p wire.nodes q.node) port) slot ≡ (shows.stands.stands.held port slot).serial
       here = ap (λ n. slice_index (serials_at (seat_of p wire.nodes n) port) slot) (sym (owner_is p wire r port shows q is)) ∙ own_serial
 
+      -- the desk tells it
+      at_desk : (o : Option Desk) → slice_index (option_map_or (λ (d : Desk). d.serials) o []) slot ≡ option_map_or (serial_at slot) o 0
+      at_desk None = refl
+      at_desk (Some d) = refl
+
       by_node : (o : Option WireNode) → node_at q.node wire.nodes ≡ o
-          → (shows.stands.stands.held port slot).serial ≡ option_map_or (λ (x : WireNode). slice_index (serials_at x.node.seat.seat port) slot) o 0
+          → (shows.stands.stands.held port slot).serial
+          ≡ option_map_or (serial_at slot) (option_map_or (λ (x : WireNode). desk_of port x.node.seat.seat.desks) o None) 0
       by_node (Some x) at =
           sym here ∙ ap (λ (ds : List Desk). slice_index (option_map_or (λ (d : Desk). d.serials) (find (λ (d : Desk). d.port == port) ds) []) slot) (desks_there p wire.nodes q.node x at)
+          ∙ at_desk (desk_of port x.node.seat.seat.desks)
       by_node None at =
           sym here ∙ ap (λ o. slice_index (serials_at (option_map_or (λ (x : WireNode). seat_in x.node) o (opened_seat p q.node)) port) slot) at
           ∙ fresh_serial p q.node port slot lent.there (owner_is p wire r port shows q is) lent.low
 
-    pub told_serial : (shows.stands.stands.held port slot).serial ≡ serial_in wire port slot
+    pub told_serial : (shows.stands.stands.held port slot).serial ≡ serial_of wire.plan wire.nodes port slot
     told_serial = by_port (port_of wire.plan port) refl
       where
         by_port : (o : Option PlanPort) → port_of wire.plan port ≡ o
             → (shows.stands.stands.held port slot).serial
-            ≡ option_map_or (λ (x : WireNode). slice_index (serials_at x.node.seat.seat port) slot)
-            (option_map_or (λ (q : PlanPort). node_at q.node wire.nodes) o None) 0
+            ≡ option_map_or (serial_at slot)
+            (option_map_or (λ (x : WireNode). desk_of port x.node.seat.seat.desks) (option_map_or (λ (q : PlanPort). node_at q.node wire.nodes) o None) None) 0
         by_port None is = absurd (not_in_plan p wire r port shows is lent.there)
         by_port (Some q) is = by_node q is (node_at q.node wire.nodes) refl
+
+-- ---- the events of beats
+
+moments_on : (bs cs : List Beat) → moments_of (bs ++ cs) ≡ moments_of bs ++ moments_of cs
+moments_on [] cs = refl
+moments_on (Begins node call c ∷ bs) cs = moments_on bs cs
+moments_on (Makes node m ∷ bs) cs = ap (λ ms. (node, m) ∷ ms) (moments_on bs cs)
+moments_on (Ends node reply payload ∷ bs) cs = moments_on bs cs
+moments_on (Dies node ∷ bs) cs = moments_on bs cs
+
+pub events_on : (bs cs : List Beat) → events_of (bs ++ cs) ≡ events_of bs ++ events_of cs
+events_on bs cs =
+    ap (map (λ (e : ℕ × Moment). (e.0, event_of e.1))) (moments_on bs cs)
+    ∙ map-append (λ (e : ℕ × Moment). (e.0, event_of e.1)) (moments_of bs) (moments_of cs)
+
+-- a begin and a death have none
+pub no_events : (bs : List Beat) (b : Beat) → moments_of (b ∷ []) ≡ [] → events_of (bs ++ b ∷ []) ≡ events_of bs
+no_events bs b none =
+    events_on bs (b ∷ []) ∙ ap (λ (ms : List (ℕ × Moment)). events_of bs ++ map (λ (e : ℕ × Moment). (e.0, event_of e.1)) ms) none ∙ append-nil (events_of bs)
 
 -- ---- the events of a step
 
@@ -197,13 +227,13 @@ events_of_step n payload None (Some reply) = refl
 events_of_step n payload (Some m) None = refl
 events_of_step n payload (Some m) (Some reply) = refl
 
-record_is : (wire : WireData) (n : ℕ) (o : Option Event) → recorded wire n o ≡ with_node n (option_map (with_serials (serial_in wire)) o)
+record_is : (wire : WireData) (n : ℕ) (o : Option Event) → recorded wire.plan wire.nodes n o ≡ with_node n (option_map (with_serials (serial_of wire.plan wire.nodes)) o)
 record_is wire n None = refl
 record_is wire n (Some event) = refl
 
 pub step_events : (p : Setting) (wire : WireData) (held : Pools) (n : ℕ) (payload : List ℕ) (local : Local) (seen : ℕ) (reply : Option Reply)
-    → ((y : Way) (slot : ℕ) → Names p.layout (program_of p local) seen y slot → (held y.sender slot).serial ≡ serial_in wire y.sender slot)
-    → events_of (step_beats n payload (moment_at p held local seen) reply) ≡ recorded wire n (slot_event p local seen)
+    → ((y : Way) (slot : ℕ) → Names p.layout (program_of p local) seen y slot → (held y.sender slot).serial ≡ serial_of wire.plan wire.nodes y.sender slot)
+    → events_of (step_beats n payload (moment_at p held local seen) reply) ≡ recorded wire.plan wire.nodes n (slot_event p local seen)
 step_events p wire held n payload local seen reply same =
-    events_of_step n payload (moment_at p held local seen) reply ∙ ap (with_node n) (told_event p held local seen (serial_in wire) same)
+    events_of_step n payload (moment_at p held local seen) reply ∙ ap (with_node n) (told_event p held local seen (serial_of wire.plan wire.nodes) same)
     ∙ sym (record_is wire n (slot_event p local seen))

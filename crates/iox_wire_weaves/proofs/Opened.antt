@@ -5,6 +5,7 @@ use Rattle.std.proofs.Common.{◌≡◌, ℕ, true, List, [], Option, Some, None
 use Rattle.iox_model.specs.declared.reply.Refusal.TheVariants as refusals
 use Rattle.iox_model.specs.Joins.{not_living}
 use Rattle.iox_model.specs.Maps.{has_number, refused_if}
+use Rattle.iox_model.specs.Schedules.{events_of}
 use Rattle.iox_model.specs.States.{State}
 use Rattle.iox_model.specs.WireCalls.{opened}
 use Rattle.iox_model.specs.Weaves.{World, at_work}
@@ -91,6 +92,7 @@ module _ (plan : WirePlan) (terms : WireTerms) (nodes : List ℕ) (p : Setting) 
     ports = ap (λ (w : World). w.state.fixed.ports) o.3 ∙ opens.agrees.ports;
     counts = counts_now;
     replies = fresh.replies ∙ ap (λ bs. wordless_all (answers_in bs)) (sym o.2);
+    events = fresh.events ∙ ap events_of (sym o.2);
   }
 
 pub wires_open : WiresOpen

@@ -42,11 +42,12 @@ use Rattle.iox_wire_needs.specs.NamedSlots.{HoldsLent, Names}
 use Rattle.iox_wire_needs.proofs.Forgotten.{members_stay}
 use Rattle.iox_wire_needs.proofs.NamedSlots.{named_slots_hold_lent}
 use Rattle.iox_wire_weaves.specs.Laws.{Replaces, StepsAreSafe, StepsShow, WentOn, progress_of}
-use Rattle.iox_wire_weaves.specs.Events.{slot_event}
+use Rattle.iox_model.specs.declared.event.Event.{Event}
+use Rattle.iox_wire_seats.specs.SlotEvents.{slot_event}
 use Rattle.iox_wire_weaves.specs.PortCounts.{TellsCounts}
 use Rattle.iox_wire_weaves.specs.Steps.{MakesOneAccess, access_of, answer_of, recorded, step_refusal}
 use Rattle.iox_wire_weaves.specs.Wires.{Shows, WireData, WireNode, answers_in, living_refusal, node_at, players_of, refusal_in, seat_of, wordless_all}
-use Rattle.iox_wire_weaves.proofs.EventsTold.{step_events, told_serial}
+use Rattle.iox_wire_weaves.proofs.EventsTold.{events_on, step_events, told_serial}
 use Rattle.iox_wire_weaves.proofs.LivingDesks as desks
 use Rattle.iox_wire_weaves.proofs.Lookups.{answers_on, fun_ext, same_living, same_setting, seat_there, steps_on, wordless_on}
 use Rattle.iox_wire_weaves.proofs.PortsElsewhere.{step_leaves, tells_same}
@@ -110,7 +111,8 @@ module _ (p : Setting) (old new : WireData) (r : Run) (n : ℕ) (x y : WireNode)
     (shows : Shows p old r) (goes : step_refusal old n ≡ None) (puts : Replaces old.nodes n x y new.nodes) (alive : y.alive ≡ x.alive)
     (went : WentOn p x.node (seen_by (access_of p old n) (word_of old.words)) reply y.node) (plan : new.plan ≡ old.plan) (terms : new.terms ≡ old.terms)
     (words : new.words ≡ words_after (access_of p old n) old.words)
-    (told : new.replies ≡ old.replies ++ wordless_all (answer_of n new.nodes (progress_of reply))) where
+    (told : new.replies ≡ old.replies ++ wordless_all (answer_of n new.nodes (progress_of reply)))
+    (tells_event : new.events ≡ old.events ++ recorded old.plan old.nodes n (slot_event p (seat_of p old.nodes n).local (seen_by (access_of p old n) (word_of old.words)))) where
   abbrev seat : Seat
   seat = seat_of p old.nodes n
 
@@ -249,10 +251,16 @@ module _ (p : Setting) (old new : WireData) (r : Run) (n : ℕ) (x y : WireNode)
   lent_there v slot named =
       named_slots_hold_lent p old.words new.words (players_of p old.nodes r) r n shows.stands living_now busy few made as_long v slot named
 
-  events_then : events_of (step_beats n stepped.0 (moment_at p shows.stands.stands.held seat.local seen) (tells p seat seen)) ≡ recorded old n (slot_event p seat.local seen)
-  events_then =
+  step_event : events_of (step_beats n stepped.0 (moment_at p shows.stands.stands.held seat.local seen) (tells p seat seen)) ≡ recorded old.plan old.nodes n (slot_event p seat.local seen)
+  step_event =
       step_events p old shows.stands.stands.held n stepped.0 seat.local seen (tells p seat seen)
       (λ v slot named. told_serial p old r shows v.sender slot (lent_there v slot named))
+
+  events_then : new.events ≡ events_of after.beats
+  events_then =
+      tells_event ∙ ap₂ (λ (xs ys : List (ℕ × Event)). xs ++ ys) shows.events (sym step_event)
+      ∙ sym (events_on r.beats (step_beats n stepped.0 (moment_at p shows.stands.stands.held seat.local seen) (tells p seat seen)))
+      ∙ ap events_of (sym stepped.2.beats)
 
   shows_then : Shows p new after
   shows_then = record {
@@ -263,22 +271,22 @@ module _ (p : Setting) (old new : WireData) (r : Run) (n : ℕ) (x y : WireNode)
     ports = ports_then;
     counts = counts_then;
     replies = replies_then;
+    events = events_then;
   }
 
   one_access : MakesOneAccess p old n new
   one_access = record { words = words; node = there; others = puts.others }
 
 pub steps_show : StepsShow
-steps_show p old new r n x y reply shows goes puts alive went plan terms words told =
-    let s = stepped p old new r n x y reply shows goes puts alive went plan terms words told in (
-      one_access p old new r n x y reply shows goes puts alive went plan terms words told,
+steps_show p old new r n x y reply shows goes puts alive went plan terms words told tells_event =
+    let s = stepped p old new r n x y reply shows goes puts alive went plan terms words told tells_event in (
+      one_access p old new r n x y reply shows goes puts alive went plan terms words told tells_event,
       step_beats n s.0 (moment_at p shows.stands.stands.held (seat_of p old.nodes n).local (seen_by (access_of p old n) (word_of old.words)))
           (tells p (seat_of p old.nodes n) (seen_by (access_of p old n) (word_of old.words))),
       s.1,
       is_step n s.0 (moment_at p shows.stands.stands.held (seat_of p old.nodes n).local (seen_by (access_of p old n) (word_of old.words)))
           (tells p (seat_of p old.nodes n) (seen_by (access_of p old n) (word_of old.words))),
       s.2,
-      answers p old new r n x y reply shows goes puts alive went plan terms words told,
-      events_then p old new r n x y reply shows goes puts alive went plan terms words told,
-      shows_then p old new r n x y reply shows goes puts alive went plan terms words told,
+      answers p old new r n x y reply shows goes puts alive went plan terms words told tells_event,
+      shows_then p old new r n x y reply shows goes puts alive went plan terms words told tells_event,
     )

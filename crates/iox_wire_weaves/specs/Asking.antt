@@ -1,5 +1,5 @@
 -- Why a call does not begin on a wire, and what the begin of one does.
-use Rattle.std.specs.Prelude.{◌≡◌, ℕ, ◌==◌, false, Option, None, Some, option_map}
+use Rattle.std.specs.Prelude.{◌≡◌, ℕ, ◌==◌, false, Option, None, option_map}
 use Rattle.iox_model.specs.declared.call.WireCall.TheVariants.{Port}
 use Rattle.iox_model.specs.Commands.{Call, Refusal, WireCall}
 use Rattle.iox_model.specs.Loans.{Choice}
@@ -9,13 +9,9 @@ use Rattle.iox_wire_nodes.specs.Calls.{call_in}
 use Rattle.iox_wire_nodes.specs.LocalsBegins.{begin, refusal_at}
 use Rattle.iox_wire_nodes.specs.Tables.{Setting}
 use Rattle.iox_wire_nodes.specs.declared.node_call.NodeCall.{NodeCall}
-use Rattle.iox_wire_nodes.specs.declared.node_call.NodeCall.TheVariants.{SendCopy}
-use Rattle.iox_wire_nodes.specs.Begins.{HasNoLane}
-use Rattle.iox_wire_nodes.specs.Nodes.{seat_in}
 use Rattle.iox_wire_needs.specs.Runs.{GoesOnBy, Run}
 use Rattle.iox_wire_weaves.specs.declared.refusal.WireRefusal.{WireRefusal}
-use Rattle.iox_wire_weaves.specs.declared.refusal.WireRefusal.TheVariants.{Unsupported}
-use Rattle.iox_wire_weaves.specs.Wires.{Shows, WireData, WireNode, living_refusal, machine_refusal, node_at, refusal_in, seat_of}
+use Rattle.iox_wire_weaves.specs.Wires.{Shows, WireData, living_refusal, machine_refusal, node_at, refusal_in, seat_of}
 
 -- ---- refusals
 
@@ -26,19 +22,12 @@ call_refusal p wire n call =
     or_else (option_map refusal_in (living_refusal wire.nodes n))
     (refusal_at p (seat_of p wire.nodes n) (Port call))
 
--- the node begins no such call yet: the copy of a request where all lanes of its client are in use
-abbrev pub IsLeftOut : WireData → ℕ → NodeCall → Type 0
-IsLeftOut wire n (SendCopy k y) =
-    (x : WireNode) → node_at n wire.nodes ≡ Some x → HasNoLane wire.plan (seat_in x.node) k
-IsLeftOut wire n call = ⊥
-
 -- The machine refuses the call by that name, in each run that the wire shows; where it refuses
--- nothing, there is no memory, or the node begins no such call yet.
-pub record IsBeginRefusal (wire : WireData) (n : ℕ) (call : NodeCall) (refusal : WireRefusal)
-    : Type 0 where
-  pub named : (p : Setting) (r : Run) → Shows p wire r
-      → begin_refusal r.last n (Port (call_in p call)) ≡ machine_refusal refusal
-  pub left_out : refusal ≡ Unsupported → IsLeftOut wire n call
+-- nothing, there is no memory.
+abbrev pub IsBeginRefusal : WireData → ℕ → NodeCall → WireRefusal → Type 0
+IsBeginRefusal wire n call refusal =
+    (p : Setting) (r : Run) → Shows p wire r
+    → begin_refusal r.last n (Port (call_in p call)) ≡ machine_refusal refusal
 
 -- The machine does not refuse the call, in any run that the wire shows.
 abbrev pub MayBegin : WireData → ℕ → NodeCall → Type 0
@@ -48,13 +37,14 @@ MayBegin wire n call =
 
 -- ---- a begin
 
--- The node is at the first place of the call; words, replies and all other nodes stay.
+-- The node is at the first place of the call; words, replies, events and all other nodes stay.
 pub record BeginsCall (p : Setting) (old : WireData) (n : ℕ) (call : WireCall) (new : WireData)
     : Type 0 where
   pub node : seat_of p new.nodes n ≡ begin p (seat_of p old.nodes n) call
   pub others : (m : ℕ) → (m == n) ≡ false → node_at m new.nodes ≡ node_at m old.nodes
   pub words : new.words ≡ old.words
   pub replies : new.replies ≡ old.replies
+  pub events : new.events ≡ old.events
 
 -- so it is in each run that the wire shows
 abbrev pub BeginsItsCall : WireData → ℕ → NodeCall → WireData → Type 0

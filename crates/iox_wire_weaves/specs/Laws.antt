@@ -1,7 +1,7 @@
 -- That a wire shows a run as it opens, and goes on showing one.
 use Rattle.std.specs.Prelude.{◌≡◌, ℕ, ◌==◌, false, true, ◌++◌, List, [], length, replicate, Option, Some, None, is_some, option_map, ◌<◌, IfSome}
 use Rattle.iox_model.specs.Maps.{has_number}
-use Rattle.iox_model.specs.Schedules.{IsStepOf, events_of}
+use Rattle.iox_model.specs.Schedules.{IsStepOf}
 use Rattle.iox_model.specs.States.{State}
 use Rattle.iox_model.specs.Commands.{Call, WireCall}
 use Rattle.iox_model.specs.Loans.{Choice}
@@ -30,7 +30,7 @@ use Rattle.iox_wire_needs.specs.Openings.{opened_seat}
 use Rattle.iox_wire_needs.specs.Places.{InPools}
 use Rattle.iox_wire_needs.specs.Runs.{GoesOnBy, Run}
 use Rattle.iox_wire_needs.specs.WholeSteps.{GoesOnWith}
-use Rattle.iox_wire_weaves.specs.Events.{slot_event}
+use Rattle.iox_wire_seats.specs.SlotEvents.{slot_event}
 use Rattle.iox_wire_weaves.specs.Wires.{OpensOn, Shows, ShowsOpened, WireData, WireNode, answers_in, living_refusal, node_at, seat_of, wordless_all}
 use Rattle.iox_wire_weaves.specs.Steps.{MakesOneAccess, access_of, answer_of, recorded, step_refusal}
 use Rattle.iox_wire_weaves.specs.Asking.{BeginsCall, call_refusal}
@@ -47,6 +47,7 @@ pub record IsFresh (p : Setting) (plan : WirePlan) (terms : WireTerms) (nodes : 
   pub seats : (n : ℕ) (x : WireNode) → node_at n wire.nodes ≡ Some x
       → (seat_in x.node ≡ opened_seat p n) × (x.alive ≡ true) × (x.node.at ≡ Seats)
   pub replies : wire.replies ≡ []
+  pub events : wire.events ≡ []
 
 -- It shows a run from each state on which it may open.
 abbrev pub WiresOpen : Type 0
@@ -86,8 +87,7 @@ StepsAreSafe =
     (p : Setting) (wire : WireData) (r : Run) (n : ℕ) → Shows p wire r
     → living_refusal wire.nodes n ≡ None → IsWithin 0 (length wire.words) (access_of p wire n)
 
--- After a step that is not refused, the wire shows the run that goes on so. The event of the node's
--- access is that of the moment of the run, if it is one.
+-- After a step that is not refused, the wire shows the run that goes on so.
 abbrev pub StepsShow : Type 0
 StepsShow =
     (p : Setting) (old new : WireData) (r : Run) (n : ℕ) (x y : WireNode)
@@ -98,11 +98,12 @@ StepsShow =
     → new.plan ≡ old.plan → new.terms ≡ old.terms
     → new.words ≡ words_after (access_of p old n) old.words
     → new.replies ≡ old.replies ++ wordless_all (answer_of n new.nodes (progress_of reply))
+    → let seen = seen_at (access_of p old n) old.words in
+    new.events ≡ old.events
+    ++ recorded old.plan old.nodes n (slot_event p (seat_of p old.nodes n).local seen)
     → MakesOneAccess p old n new
     × (bs : List Beat) × (after : Run) × IsStepOf n bs × GoesOnWith r bs after
     × (answers_in bs ≡ answer_of n new.nodes (progress_of reply))
-    × (let seen = seen_at (access_of p old n) old.words in
-    events_of bs ≡ recorded old n (slot_event p (seat_of p old.nodes n).local seen))
     × Shows p new after
 
 -- ---- a death
@@ -114,7 +115,7 @@ DeathsShow =
     → Shows p old r → living_refusal old.nodes n ≡ None
     → Replaces old.nodes n x (record x { alive = false }) new.nodes
     → new.plan ≡ old.plan → new.terms ≡ old.terms → new.words ≡ old.words
-    → new.replies ≡ old.replies
+    → new.replies ≡ old.replies → new.events ≡ old.events
     → (after : Run) × GoesOnBy r (Dies n) after × Shows p new after
 
 -- ---- a begin
@@ -156,6 +157,6 @@ BeginsShow =
     → seat_in y.node ≡ begin p (seat_in x.node) call
     → (InPools p (seat_in y.node).local → IsAimed p y.node)
     → new.plan ≡ old.plan → new.terms ≡ old.terms → new.words ≡ old.words
-    → new.replies ≡ old.replies
+    → new.replies ≡ old.replies → new.events ≡ old.events
     → BeginsCall p old n call new
     × (c : Choice) × (after : Run) × GoesOnBy r (Begins n call c) after × Shows p new after

@@ -36,6 +36,7 @@ pub use Rattle.iox_wire_nodes.specs.Calls
 pub use Rattle.iox_wire_nodes.specs.CopyReply
 pub use Rattle.iox_wire_nodes.specs.Courses
 pub use Rattle.iox_wire_seats.specs.Counted
+pub use Rattle.iox_wire_seats.specs.SlotEvents
 pub use Rattle.iox_wire_nodes.specs.Desk
 pub use Rattle.iox_wire_nodes.specs.Desks
 pub use Rattle.iox_wire_nodes.specs.Dispatches

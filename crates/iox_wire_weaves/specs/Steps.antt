@@ -15,12 +15,13 @@ use Rattle.iox_wire_nodes.specs.LocalsBegins.{is_busy}
 use Rattle.iox_wire_nodes.specs.Locals.{program_of}
 use Rattle.iox_wire_nodes.specs.Steps.{next}
 use Rattle.iox_wire_nodes.specs.Tables.{Setting}
+use Rattle.iox_wire_nodes.specs.WirePlan.{WirePlan}
 use Rattle.iox_wire_needs.specs.Runs.{GoesOnBy, Run}
 use Rattle.iox_wire_needs.specs.WholeSteps.{GoesOnWith}
 use Rattle.iox_wire_nodes.specs.declared.call_at.NodeReply.{NodeReply}
 use Rattle.iox_wire_nodes.specs.Nodes.{reply_in, seat_in}
 use Rattle.iox_wire_weaves.specs.Events.{with_serials}
-use Rattle.iox_wire_weaves.specs.Owners.{serial_in}
+use Rattle.iox_wire_weaves.specs.Owners.{serial_of}
 use Rattle.iox_wire_weaves.specs.declared.refusal.WireRefusal.{WireRefusal}
 use Rattle.iox_wire_weaves.specs.declared.refusal.WireRefusal.TheVariants.{AccessesSpent, AtRest}
 use Rattle.iox_wire_weaves.specs.Wires.{Shows, WireData, WireNode, answers_in, living_refusal, node_at, seat_of}
@@ -67,9 +68,9 @@ answer_of n nodes (Done reply) =
     (n, reply_in (option_map_or (λ x. x.node.seat.words) (node_at n nodes) []) reply) ∷ []
 
 -- what the step of a node records: its event, if it has one, with serials in place of slots
-abbrev pub recorded : WireData → ℕ → Option Event → List (ℕ × Event)
-recorded wire n None = []
-recorded wire n (Some event) = (n, with_serials (serial_in wire) event) ∷ []
+abbrev pub recorded : WirePlan → List WireNode → ℕ → Option Event → List (ℕ × Event)
+recorded plan nodes n None = []
+recorded plan nodes n (Some event) = (n, with_serials (serial_of plan nodes) event) ∷ []
 
 -- Each run that the wire showed goes on by a step of the node: at most one moment of the machine,
 -- and then the end of its call with that answer. The wire shows the run that goes on so.

@@ -1,12 +1,14 @@
 -- A wire as its callers see it, and when it shows a run of the machine.
 use Rattle.std.specs.Prelude.{◌≡◌, ◌<◌, ℕ, Bool, not, ◌==◌, List, [], ◌∷◌, find, flat_map, length, map, if◌then◌else◌, true, Option, None, Some, option_map}
 use Rattle.std.specs.Option.{option_map_or}
+use Rattle.iox_model.specs.declared.event.Event.{Event}
 use Rattle.iox_model.specs.declared.reply.Refusal.TheVariants as refusals
 use Rattle.iox_model.specs.declared.reply.Reply.TheVariants.{Words}
 use Rattle.iox_model.specs.Commands.{Refusal, Reply}
 use Rattle.iox_model.specs.Joins.{not_living}
 use Rattle.iox_model.specs.Maps.{has_number, refused_if}
 use Rattle.iox_model.specs.Runs.{IsReachableState}
+use Rattle.iox_model.specs.Schedules.{events_of}
 use Rattle.iox_model.specs.States.{State}
 use Rattle.iox_model.specs.WireCalls.{opened, wire_refusal}
 use Rattle.iox_model.specs.Weaves.{Beat, Begins, Dies, Ends, Makes, at_work}
@@ -24,7 +26,7 @@ use Rattle.iox_wire_needs.specs.Runs.{Run, history}
 use Rattle.iox_wire_needs.specs.Stands.{Player}
 use Rattle.iox_wire_weaves.specs.PortCounts.{TellsCounts}
 use Rattle.iox_wire_weaves.specs.declared.refusal.WireRefusal.{WireRefusal}
-use Rattle.iox_wire_weaves.specs.declared.refusal.WireRefusal.TheVariants.{AccessesSpent, AtRest, Busy, ForeignNumber, NodeIsDead, UnknownNode, UnknownNumber, Unsupported, WantOfMemory, WrongKind}
+use Rattle.iox_wire_weaves.specs.declared.refusal.WireRefusal.TheVariants.{AccessesSpent, AtRest, Busy, ForeignNumber, NodeIsDead, UnknownNode, UnknownNumber, WantOfMemory, WrongKind}
 
 -- ---- a wire
 
@@ -34,14 +36,15 @@ pub record WireNode : Type 0 where
   pub alive : Bool
   pub node : Node
 
--- A wire: what it was made for, and told beside that, its words, its nodes, and what calls were answered, each with its
--- node, oldest first. The words of reads are not kept there.
+-- A wire: what it was made for, and told beside that, its words, its nodes, what calls were answered, and
+-- the events that were recorded, each with its node, oldest first. The words of reads are not kept there.
 pub record WireData : Type 0 where
   pub plan : WirePlan
   pub terms : WireTerms
   pub words : List ℕ
   pub nodes : List WireNode
   pub replies : List (ℕ × Reply)
+  pub events : List (ℕ × Event)
 
 -- the node of that number
 abbrev pub node_at : ℕ → List WireNode → Option WireNode
@@ -52,7 +55,7 @@ abbrev pub living_refusal : List WireNode → ℕ → Option WireRefusal
 living_refusal nodes n =
     option_map_or (λ x. refused_if (not x.alive) NodeIsDead) (node_at n nodes) (Some UnknownNode)
 
--- the machine's name of a refusal, if it has one: it knows no want of memory, and begins all calls
+-- the machine's name of a refusal, if it has one: it knows no want of memory
 abbrev pub machine_refusal : WireRefusal → Option Refusal
 machine_refusal UnknownNode = Some refusals.UnknownNode
 machine_refusal NodeIsDead = Some refusals.NodeIsDead
@@ -63,7 +66,6 @@ machine_refusal UnknownNumber = Some refusals.UnknownNumber
 machine_refusal ForeignNumber = Some refusals.ForeignNumber
 machine_refusal WrongKind = Some refusals.WrongKind
 machine_refusal WantOfMemory = None
-machine_refusal Unsupported = None
 
 -- that name; what has none is told as want of memory
 abbrev pub refusal_in : WireRefusal → Refusal
@@ -116,6 +118,8 @@ pub record Shows (p : Setting) (wire : WireData) (r : Run) : Type 0 where
       → TellsCounts r.last port (seat_of p wire.nodes (p.layout.owner port))
   -- the replies are the run's
   pub replies : wire.replies ≡ wordless_all (answers_in r.beats)
+  -- and so are the events
+  pub events : wire.events ≡ events_of r.beats
 
 -- ---- an opening
 

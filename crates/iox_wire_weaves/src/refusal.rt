@@ -19,8 +19,6 @@ pub enum WireRefusal {
     AtRest,
     /// The node made as many accesses as it may.
     AccessesSpent,
-    /// The call is not refused, but nodes of a wire do not begin such calls yet.
-    Unsupported,
     /// There is no memory for what the call visits, or for what the step is to record.
     WantOfMemory,
 }

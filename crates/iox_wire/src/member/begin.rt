@@ -1,13 +1,12 @@
 //! How a node of a wire begins a call.
-ghost use Rattle.std.specs.Prelude.{ℕ, ◌≡◌, ◌<◌, Err, IfErr, OnErr, OnOk, false, true};
+ghost use Rattle.std.specs.Prelude.{ℕ, ◌≡◌, ◌<◌, IfErr, OnErr, OnOk, false, true};
 ghost use Rattle.std.specs.Bool.{OnFalse};
 ghost use Rattle.iox_wire_weaves.specs.Begins.{is_busy};
 ghost use Rattle.iox_wire_weaves.specs.Calls.{may_add_handle};
 ghost use Rattle.iox_wire_weaves.specs.Lendings.{next_handle};
 ghost use Rattle.iox_wire_weaves.specs.Lends.{MayLend};
-ghost use Rattle.iox_wire_weaves.specs.NodeError.TheVariants.{Unsupported};
 ghost use Rattle.iox_wire_weaves.specs.Nodes.{seat_in};
-ghost use Rattle.iox_wire_weaves.specs.NodesBegins.{IsLeftOut, MayBegin};
+ghost use Rattle.iox_wire_weaves.specs.NodesBegins.{MayBegin};
 ghost use Rattle.iox_wire_weaves.specs.Tables.{Setting};
 ghost use Rattle.iox_wire_weaves.specs.Terms.{IsSettingWith};
 ghost use Rattle.iox_wire_weaves.specs.WirePlans.{IsWirePlan};
@@ -46,8 +45,6 @@ impl Member {
             → MayLend self.old.node.seat (next_handle p self.old.node.seat.seat) port }
         ensures begun { OnOk result (HasBegun map.now terms.now self.old call.entry self.new) }
         ensures refused { IfErr result (IsRefusedBy map.now terms.now self.old call.entry) }
-        ensures left_out { result ≡ Err Unsupported
-            → IsLeftOut map.now (seat_in self.old.node) call.entry }
         ensures unchanged { OnErr result (StaysPut self.old call.entry self.new) }
     {
         let port = find_port(map, call.number());

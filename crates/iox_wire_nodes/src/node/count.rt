@@ -4,7 +4,7 @@ use iox_model::way::Way;
 
 impl StoredNode {
     ghost use Rattle.std.specs.Prelude.{◌≡◌, option_map};
-    ghost use Rattle.iox_wire_seats.specs.Counted.{desk_of, kept_at, outstanding_at};
+    ghost use Rattle.iox_wire_seats.specs.Counted.{desk_of, kept_at, outstanding_at, serial_at};
 
     /// How many of its messages a port keeps, if it is one of the node's.
     pub fn kept(&self, port: u64) -> Option<usize>
@@ -20,5 +20,12 @@ impl StoredNode {
             ≡ option_map (outstanding_at way) (desk_of way.sender self.now.seat.seat.desks) }
     {
         self.seat.outstanding(way)
+    }
+
+    /// The serial of the last loan that took the slot of the port, if that is one of the node's.
+    pub fn serial(&self, port: u64, slot: u64) -> Option<u64>
+        ensures { result ≡ option_map (serial_at slot) (desk_of port self.now.seat.seat.desks) }
+    {
+        self.seat.serial(port, slot)
     }
 }

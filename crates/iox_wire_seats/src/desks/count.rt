@@ -6,7 +6,7 @@ use iox_model::way::Way;
 
 impl Desks {
     ghost use Rattle.std.specs.Prelude.{◌≡◌, option_map};
-    ghost use Rattle.iox_wire_seats.specs.Counted.{desk_of, kept_at, outstanding_at};
+    ghost use Rattle.iox_wire_seats.specs.Counted.{desk_of, kept_at, outstanding_at, serial_at};
 
     /// How many of its messages the port keeps, if it has a desk.
     pub fn kept(&self, port: u64) -> Option<usize>
@@ -24,6 +24,16 @@ impl Desks {
     {
         match self.place(way.sender) {
             Some(place) => Some(self.desks[place].outstanding(way)),
+            None => None,
+        }
+    }
+
+    /// The serial of the last loan that took the slot of the port, if that has a desk.
+    pub fn serial(&self, port: u64, slot: u64) -> Option<u64>
+        ensures { result ≡ option_map (serial_at slot) (desk_of port self.now) }
+    {
+        match self.place(port) {
+            Some(place) => Some(self.desks[place].serial(slot)),
             None => None,
         }
     }
