@@ -15,8 +15,11 @@ mod wire;
 
 pub use entry::WireEntry;
 pub use iox_steps::Progress;
+pub use iox_wire_layouts::is_plan;
 pub use iox_wire_weaves::{
-    CopyReply, HandleCall, LendReply, NodeCall, NodePayload, NodeReply, ReceiveReply, RequestReply,
-    RespondReply, ResponseCopyReply, SeatReply, WireRefusal, WireTerms,
+    CopyReply, HandleCall, LendReply, NodeCall, NodePayload, NodeReply, PlanPort, ReceiveReply,
+    RequestReply, RespondReply, ResponseCopyReply, SeatReply, WirePlan, WireRefusal, WireTerms,
+    WordMapNewError,
 };
+pub use opening::is_whole;
 pub use wire::{Answer, Wire};
