@@ -1,2 +1,3 @@
 pub mod OpensOnOnes
 pub mod OpensOnFour
+pub mod OpensOnWide

@@ -2,3 +2,5 @@
 pub mod Ones
 -- a plan of four ports on three nodes
 pub mod Fours
+-- a plan with reduced pools and wide messages
+pub mod Wide

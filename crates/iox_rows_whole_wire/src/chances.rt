@@ -1,6 +1,29 @@
 //! What nodes are asked by chance on a wire of four ports, where each limit is 1.
 use super::play::Ask;
 
+/// Numbers by chance, the same ones from each seed.
+#[derive(Clone, Copy)]
+pub(super) struct Chance {
+    state: u64,
+}
+
+impl Chance {
+    /// Those of that seed.
+    pub(super) fn new(seed: u64) -> Chance {
+        Chance { state: seed }
+    }
+
+    /// A number below another one.
+    pub(super) fn below(&mut self, most: usize) -> usize {
+        self.state = self
+            .state
+            .wrapping_mul(6_364_136_223_846_793_005)
+            .wrapping_add(1_442_695_040_888_963_407);
+        let bits = (self.state >> 33) as usize;
+        bits.checked_rem(most).unwrap_or(0)
+    }
+}
+
 /// What a number stands for.
 #[derive(Clone, Copy, PartialEq, Eq)]
 pub(super) enum Kind {

@@ -1,5 +1,5 @@
 //! Three nodes that make calls by chance. Their steps come between each other.
-use super::chances::{Call, Kind, Owned, PORTS, ask, bound, lent_by, received_by, written};
+use super::chances::{Call, Chance, Kind, Owned, PORTS, ask, bound, lent_by, received_by, written};
 use super::four;
 use super::play::{Ask, Came, Told, begin, steps};
 use super::settings::{NO_FIRE_AND_FORGET, NO_OVERFLOW, OVERFLOW, Service};
@@ -13,7 +13,7 @@ use std::test::Fail;
 pub(super) struct Game {
     pub(super) wire: Wire,
     service: Service,
-    chance: u64,
+    chance: Chance,
     owned: Vec<Owned>,
     calls: Vec<Call>,
     ended: usize,
@@ -21,25 +21,15 @@ pub(super) struct Game {
 
 impl Game {
     /// A wire of that service on which nothing happened yet.
-    pub(super) fn new(alloc: Global, service: Service, chance: u64) -> Result<Game, Fail> {
+    pub(super) fn new(alloc: Global, service: Service, seed: u64) -> Result<Game, Fail> {
         Ok(Game {
             wire: four::open_with(alloc, service, 64)?,
             service,
-            chance,
+            chance: Chance::new(seed),
             owned: vec![in alloc; PORTS[0], PORTS[1], PORTS[2], PORTS[3]]?,
             calls: Vec::new(alloc),
             ended: 0,
         })
-    }
-
-    /// A number below another one.
-    pub(super) fn chance(&mut self, most: usize) -> usize {
-        self.chance = self
-            .chance
-            .wrapping_mul(6_364_136_223_846_793_005)
-            .wrapping_add(1_442_695_040_888_963_407);
-        let bits = (self.chance >> 33) as usize;
-        bits.checked_rem(most).unwrap_or(0)
     }
 
     /// How many of that kind a node has.
@@ -189,7 +179,7 @@ impl Game {
     /// Something that the node has.
     pub(super) fn picks(&mut self, node: u64) -> Option<Owned> {
         let count = self.owned.iter().filter(|owned| owned.node == node).count();
-        let place = self.chance(count);
+        let place = self.chance.below(count);
         self.owned
             .iter()
             .filter(|owned| owned.node == node)
@@ -202,7 +192,7 @@ impl Game {
         let Some(of) = self.picks(node) else {
             return Ok(());
         };
-        let chance = self.chance(1 << 20) as u64;
+        let chance = self.chance.below(1 << 20) as u64;
         let ask = ask(of.kind, of.number, chance);
         begin(&mut self.wire, node, ask)?;
         self.calls.push(Call { of, ask, made: 0 })?;
@@ -227,7 +217,7 @@ impl Game {
 
     /// A node begins a call, or steps in the one that is under way.
     fn turn(&mut self, rt: &impl Abort) -> Result<(), Fail> {
-        let node = self.chance(3) as u64;
+        let node = self.chance.below(3) as u64;
         match self.calls.iter().position(|call| call.of.node == node) {
             Some(place) => {
                 let call = self.calls.swap_remove(place);

@@ -4,8 +4,6 @@
 #[cfg(test)]
 mod between;
 #[cfg(test)]
-mod calls;
-#[cfg(test)]
 mod chances;
 #[cfg(test)]
 mod client_stops;
@@ -22,6 +20,8 @@ mod play;
 #[cfg(test)]
 mod rows;
 #[cfg(test)]
+mod schedules;
+#[cfg(test)]
 mod server_stops;
 #[cfg(test)]
 mod settings;
@@ -33,5 +33,7 @@ mod stops_among_three;
 mod stops_on_other_wires;
 #[cfg(test)]
 mod two_servers;
+#[cfg(test)]
+mod wide;
 #[cfg(test)]
 mod wires;

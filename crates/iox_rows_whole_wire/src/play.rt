@@ -24,6 +24,9 @@ pub(super) enum Ask {
     /// The same of no word.
     WriteNoRequest(u64),
     CopyNoRequest(u64),
+    /// Of two words, as a message of that role.
+    WriteTwo(u64, Role, [u64; 2]),
+    CopyTwo(u64, Role, [u64; 2]),
     Receive(u64),
     HasRequests(u64),
     Read(u64),
@@ -44,6 +47,9 @@ pub(super) enum Told {
     Answer(bool),
     /// One word was read.
     Word(u64),
+    /// So many were read.
+    Three(u64, u64, u64),
+    Four(u64, u64, u64, u64),
     OtherWords,
     WrongLength,
     ExceedsMaxLoanSize,
@@ -126,6 +132,8 @@ fn responded(reply: RespondReply) -> Told {
 fn word_read(words: Option<&[u64]>) -> Told {
     match words {
         Some([word]) => Told::Word(*word),
+        Some([a, b, c]) => Told::Three(*a, *b, *c),
+        Some([a, b, c, d]) => Told::Four(*a, *b, *c, *d),
         _ => Told::OtherWords,
     }
 }
@@ -203,6 +211,8 @@ pub(super) fn begin(wire: &mut Wire, node: u64, ask: Ask) -> Result<(), WireRefu
         Ask::CopyRequest(number, word) => copies(wire, node, number, Role::Client, &[word]),
         Ask::CopyResponse(number, word) => copies(wire, node, number, Role::Server, &[word]),
         Ask::CopyNoRequest(number) => copies(wire, node, number, Role::Client, &[]),
+        Ask::WriteTwo(number, role, words) => writes(wire, node, number, role, &words),
+        Ask::CopyTwo(number, role, words) => copies(wire, node, number, role, &words),
         Ask::Receive(number) => wire.begin(node, NodeCall::Receive { number }),
         Ask::HasRequests(number) => wire.begin(node, NodeCall::HasRequests { number }),
         Ask::Read(number) => of(wire, node, number, HandleCall::Read),

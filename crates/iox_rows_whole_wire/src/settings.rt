@@ -89,7 +89,7 @@ pub(super) fn response() -> Result<MessageTypeDetails, Fail>
 }
 
 /// Requests of 10 words, and responses of 9.
-fn plan(alloc: Global, service: Service) -> Result<WirePlan, Fail>
+pub(super) fn plan(alloc: Global, service: Service) -> Result<WirePlan, Fail>
     ensures { IfOk result (IsPlanOfOnes service.request_overflow service.response_overflow) }
 {
     let ports = vec![in alloc; CLIENT, SERVER]?;
@@ -123,7 +123,7 @@ pub(super) fn message(alloc: Global) -> MessageTerms
 }
 
 /// The terms of that plan.
-fn terms(alloc: Global, service: Service) -> Result<WireTerms, Fail>
+pub(super) fn terms(alloc: Global, service: Service) -> Result<WireTerms, Fail>
     ensures { IfOk result (AreTermsOfOnes service.fire_and_forget) }
 {
     let client = port(alloc, 4_294_967_296, 0)?;

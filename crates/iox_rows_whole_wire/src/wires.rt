@@ -1,60 +1,14 @@
 //! A wire where each setting is 1, with a client on one node and a server on the other.
-use super::settings::{self, NO_OVERFLOW};
-use iox_wire::{NodeReply, Progress, SeatReply, Wire, WireEntry, WireRefusal};
-use std::alloc::Global;
+use super::settings::{NO_OVERFLOW, open, plan, terms};
+use iox_wire::{NodeReply, Progress, SeatReply, Wire, WireRefusal, is_plan, is_whole};
 use std::test::Fail;
-
-/// A wire whose nodes live, each with room for so many handles.
-pub(super) fn open_with(alloc: Global, handles: usize) -> Result<Wire, Fail> {
-    settings::open_with(alloc, NO_OVERFLOW, handles)
-}
-
-/// The same with room for four handles each.
-pub(super) fn open(alloc: Global) -> Result<Wire, Fail> {
-    open_with(alloc, 4)
-}
 
 #[test]
 fn wire_of_ones_has_165_words(rt: HostRuntime) -> Result<(), Fail> {
-    let wire = open(rt.alloc())?;
+    let wire = open(rt.alloc(), NO_OVERFLOW)?;
     assert_eq!(rt; wire.words().len(), 165);
     assert!(rt; wire.words().iter().all(|word| *word == 0));
     assert!(rt; wire.replies().is_empty());
-    Ok(())
-}
-
-#[test]
-fn nodes_rest_at_first(rt: HostRuntime) -> Result<(), Fail> {
-    let mut wire = open(rt.alloc())?;
-    assert_eq!(rt; wire.step(0).err(), Some(WireRefusal::AtRest));
-    assert_eq!(rt; wire.step(1).err(), Some(WireRefusal::AtRest));
-    assert_eq!(rt; wire.step(2).err(), Some(WireRefusal::UnknownNode));
-    Ok(())
-}
-
-#[test]
-fn dead_node_makes_no_step(rt: HostRuntime) -> Result<(), Fail> {
-    let mut wire = open(rt.alloc())?;
-    wire.declare_dead(1)?;
-    assert_eq!(rt; wire.step(1).err(), Some(WireRefusal::NodeIsDead));
-    assert_eq!(rt; wire.declare_dead(1).err(), Some(WireRefusal::NodeIsDead));
-    assert_eq!(rt; wire.declare_dead(7).err(), Some(WireRefusal::UnknownNode));
-    assert_eq!(rt; wire.step(0).err(), Some(WireRefusal::AtRest));
-    Ok(())
-}
-
-#[test]
-fn schedule_passes_over_what_is_refused(rt: HostRuntime) -> Result<(), Fail> {
-    let mut wire = open(rt.alloc())?;
-    let schedule = [
-        WireEntry::Step(0),
-        WireEntry::Die(1),
-        WireEntry::Step(1),
-        WireEntry::Die(9),
-    ];
-    wire.run(&schedule)?;
-    assert_eq!(rt; wire.step(0).err(), Some(WireRefusal::AtRest));
-    assert_eq!(rt; wire.step(1).err(), Some(WireRefusal::NodeIsDead));
     Ok(())
 }
 
@@ -73,7 +27,7 @@ fn steps_to_no(wire: &mut Wire, node: u64) -> Result<Option<u64>, Fail> {
 
 #[test]
 fn server_finds_no_request_in_two_steps(rt: HostRuntime) -> Result<(), Fail> {
-    let mut wire = open(rt.alloc())?;
+    let mut wire = open(rt.alloc(), NO_OVERFLOW)?;
     wire.begin_has_requests(1, 1)?;
     assert_eq!(rt;
         wire.begin_has_requests(1, 1).err(),
@@ -87,7 +41,7 @@ fn server_finds_no_request_in_two_steps(rt: HostRuntime) -> Result<(), Fail> {
 
 #[test]
 fn begin_is_refused_by_what_it_names(rt: HostRuntime) -> Result<(), Fail> {
-    let mut wire = open(rt.alloc())?;
+    let mut wire = open(rt.alloc(), NO_OVERFLOW)?;
     assert_eq!(rt;
         wire.begin_has_requests(2, 1).err(),
         Some(WireRefusal::UnknownNode)
@@ -109,20 +63,41 @@ fn begin_is_refused_by_what_it_names(rt: HostRuntime) -> Result<(), Fail> {
 }
 
 #[test]
-fn node_dies_in_its_look(rt: HostRuntime) -> Result<(), Fail> {
-    let mut wire = open(rt.alloc())?;
-    let schedule = [
-        WireEntry::HasRequests(1, 1),
-        WireEntry::Step(1),
-        WireEntry::Die(1),
-        WireEntry::Step(1),
-        WireEntry::HasRequests(1, 1),
-    ];
-    wire.run(&schedule)?;
-    assert!(rt; wire.replies().is_empty());
-    assert_eq!(rt;
-        wire.begin_has_requests(1, 1).err(),
-        Some(WireRefusal::NodeIsDead)
-    );
+fn plan_and_terms_of_ones_are_whole(rt: HostRuntime) -> Result<(), Fail> {
+    let plan = plan(rt.alloc(), NO_OVERFLOW)?;
+    let terms = terms(rt.alloc(), NO_OVERFLOW)?;
+    assert!(rt; is_plan(&plan));
+    assert!(rt; is_whole(&plan, &terms));
+    Ok(())
+}
+
+#[test]
+fn port_without_a_slot_is_not_whole(rt: HostRuntime) -> Result<(), Fail> {
+    let mut plan = plan(rt.alloc(), NO_OVERFLOW)?;
+    let terms = terms(rt.alloc(), NO_OVERFLOW)?;
+    for port in &mut plan.ports {
+        port.pool = 0;
+    }
+    assert!(rt; is_plan(&plan));
+    assert!(rt; !is_whole(&plan, &terms));
+    Ok(())
+}
+
+#[test]
+fn ports_of_one_number_are_no_plan(rt: HostRuntime) -> Result<(), Fail> {
+    let mut plan = plan(rt.alloc(), NO_OVERFLOW)?;
+    for port in &mut plan.ports {
+        port.number = 0;
+    }
+    assert!(rt; !is_plan(&plan));
+    Ok(())
+}
+
+#[test]
+fn terms_of_one_port_are_too_few(rt: HostRuntime) -> Result<(), Fail> {
+    let plan = plan(rt.alloc(), NO_OVERFLOW)?;
+    let mut terms = terms(rt.alloc(), NO_OVERFLOW)?;
+    terms.ports.pop();
+    assert!(rt; !is_whole(&plan, &terms));
     Ok(())
 }

@@ -1,132 +1,141 @@
 -- Entries that are played one after another.
-use Rattle.std.specs.Prelude.{Err, IfErr, IfOk, Ok, OnErr, OnOk, Result, option_map}
-use Rattle.std.proofs.Common.{◌≡◌, ℕ, zero, suc, ◌≤◌, arith, length, take, List, [], ◌∷◌, ◌++◌, map, Option, Some, None, refl, ap, sym, subst, ◌∙◌, append-nil, append_assoc}
-use Rattle.std.proofs.lemmas.List.{map-append}
+use Rattle.std.specs.Prelude.{Err, IfErr, IfOk, MatchOption, Ok, OnErr, OnOk, Result, not, option_map}
+use Rattle.std.specs.Option.{option_map_or}
+use Rattle.std.proofs.Common.{◌≡◌, ℕ, zero, suc, ◌≤◌, nat_le, Bool, true, false, arith, length, take, List, [], ◌∷◌, ◌++◌, Option, Some, None, refl, ap, sym, subst, ◌∙◌, append-nil, append_assoc}
 use Rattle.iox_model.specs.Commands.{Refusal, WireCall}
 use Rattle.iox_model.specs.Joins.{not_living}
-use Rattle.iox_model.specs.Schedules.{Entry, IsBeginOf, IsDeathOf, IsEntry, IsWeaveOf, nothing}
-use Rattle.iox_model.specs.States.{Fixed}
-use Rattle.iox_model.specs.WireCalls.{in_words, said_on_wire}
-use Rattle.iox_model.specs.Weaves.{Beat, Begins, Dies, World, begin_refusal}
+use Rattle.iox_model.specs.Loans.{Choice}
+use Rattle.iox_model.specs.Maps.{or_else, refused_if}
+use Rattle.iox_model.specs.Schedules.{IsBeginOf, IsDeathOf, nothing}
+use Rattle.iox_model.specs.Weaves.{Beat, Begins, Dies, IsWeave, World, begin_refusal}
+use Rattle.iox_model.specs.declared.call.WireCall.TheVariants.{Port}
+use Rattle.iox_sets.specs.Refusals.{IsRefusal}
 use Rattle.iox_steps.specs.declared.access.Progress.{Progress}
-use Rattle.iox_wire_weaves.specs.NodeReply.{NodeReply}
-use Rattle.iox_wire_weaves.specs.declared.refusal.WireRefusal.{WireRefusal}
-use Rattle.iox_wire_weaves.specs.Steps.{DeathIsWoven, StepIsWoven}
-use Rattle.iox_wire_weaves.specs.Wires.{Shows, WireData, living_refusal, machine_refusal, refusal_in}
-use Rattle.iox_wire_weaves.specs.Calls.{call_in, of_handle}
-use Rattle.iox_wire_weaves.specs.HandleCall.{HandleCall}
-use Rattle.iox_wire_weaves.specs.HandleCall.TheVariants as handle_calls
+use Rattle.iox_wire_weaves.specs.Asking.{BeginIsWoven, BeginsCall, BeginsItsCall, IsBeginRefusal, MayBegin}
+use Rattle.iox_wire_weaves.specs.Begins.{is_busy}
+use Rattle.iox_wire_weaves.specs.Calls.{call_in}
 use Rattle.iox_wire_weaves.specs.NodeCall.{NodeCall}
 use Rattle.iox_wire_weaves.specs.NodeCall.TheVariants.{Handle, HasRequests, Loan, Receive, Send, SendCopy, Write}
-use Rattle.iox_wire_weaves.specs.Runs.{Run}
+use Rattle.iox_wire_weaves.specs.NodeReply.{NodeReply}
+use Rattle.iox_wire_weaves.specs.Nodes.{seat_in}
+use Rattle.iox_wire_weaves.specs.Runs.{GoesOnBy, Run}
+use Rattle.iox_wire_weaves.specs.Steps.{DeathIsWoven, MakesItsAccess, MakesOneAccess, StepIsWoven, most_accesses, rest_refusal, step_refusal}
 use Rattle.iox_wire_weaves.specs.Tables.{Setting}
-use Rattle.iox_wire.specs.declared.entry.WireEntry.{WireEntry}
-use Rattle.iox_wire.specs.declared.entry.WireEntry.TheVariants as entries
-use Rattle.iox_wire.specs.declared.entry.WireEntry.TheVariants.{Die, Step}
-use Rattle.iox_wire_weaves.specs.Asking.{BeginIsWoven, IsBeginRefusal}
-use Rattle.iox_model.specs.declared.call.WireCall.TheVariants.{Port}
+use Rattle.iox_wire_weaves.specs.Wires.{Shows, WireData, WireNode, living_refusal, machine_refusal, node_at, refusal_in}
+use Rattle.iox_wire_weaves.specs.declared.refusal.WireRefusal.{WireRefusal}
+use Rattle.iox_wire_weaves.specs.declared.refusal.WireRefusal.TheVariants.{AccessesSpent, AtRest, NodeIsDead, UnknownNode, WantOfMemory}
 use Rattle.iox_wire.specs.Begun.{IsLeft}
-use Rattle.iox_wire.specs.Schedules.{IsAsked, IsPlayed, entry_of}
+use Rattle.iox_wire.specs.Kept.{Loses}
+use Rattle.iox_wire.specs.Schedules.{AreEntered, IsAsked, IsDeclaredDead, IsEntered, IsPlayed, IsStepped, IsWeaveBy, IsWovenBy, LeadsTo, WantsMemory}
+use Rattle.iox_wire.specs.declared.entry.WireEntry.{WireEntry}
+use Rattle.iox_wire.specs.declared.entry.WireEntry.TheVariants.{Begin, Die, Step}
 
--- ---- one after another
+-- ---- what is done, and what is refused
 
-weaves_on : (w v u : World) (xs ys : List Entry) (bs cs : List Beat) → IsWeaveOf w xs bs v → IsWeaveOf v ys cs u → IsWeaveOf w (xs ++ ys) (bs ++ cs) u
-weaves_on w v u [] ys bs cs first later =
-    subst (λ ds. IsWeaveOf w ys (ds ++ cs) u) (sym first.0) (subst (λ (x : World). IsWeaveOf x ys cs u) first.1 later)
-weaves_on w v u (x ∷ xs) ys bs cs first later = (
-  first.0,
-  first.1 ++ cs,
-  first.2,
-  ap (λ ds. ds ++ cs) first.3 ∙ append_assoc first.0 first.1 cs,
-  first.4,
-  first.5,
-  weaves_on first.2 v u xs ys first.1 cs first.6 later,
-)
+so_where : {R : Type 0} (A : Type 0) (B : R → Type 0) (o : Option R) → o ≡ None → A → MatchOption o A B
+so_where {R} A B o none so = subst (λ (x : Option R). MatchOption x A B) (sym none) so
 
-pub played_on : (a b c : WireData) (xs ys : List WireEntry) → IsPlayed a xs b → IsPlayed b ys c → IsPlayed a (xs ++ ys) c
-played_on a b c xs ys first later p r shows =
-    let f = first p r shows in
-    let l = later p f.1 f.5 in (
-      f.0 ++ l.0,
-      l.1,
-      subst (λ es. IsWeaveOf r.last es (f.0 ++ l.0) l.1.last) (sym (map-append entry_of xs ys))
-          (weaves_on r.last f.1.last l.1.last (map entry_of xs) (map entry_of ys) f.0 l.0 f.2 l.2),
-      l.3 ∙ f.3,
-      l.4 ∙ ap (λ bs. bs ++ l.0) f.4 ∙ append_assoc r.beats f.0 l.0,
-      l.5,
-    )
+refused_where : {R : Type 0} (A : Type 0) (B : R → Type 0) (o : Option R) (r : R) → o ≡ Some r → B r → MatchOption o A B
+refused_where {R} A B o r is so = subst (λ (x : Option R). MatchOption x A B) (sym is) so
 
-pub nothing_played : (a : WireData) → IsPlayed a [] a
-nothing_played a p r shows = ([], r, (refl, refl), refl, sym (append-nil r.beats), shows)
+-- the machine has the refusal
+abbrev IsNamed : WireRefusal → Type 0
+IsNamed refusal = machine_refusal refusal ≡ Some (refusal_in refusal)
 
--- ---- an entry
+-- why a living node makes no step, or a node is none that lives, the machine knows too
+named_tests : (dead rests spent : Bool) (first : WireRefusal)
+    → or_else (refused_if dead NodeIsDead) (or_else (refused_if rests AtRest) (refused_if spent AccessesSpent)) ≡ Some first → IsNamed first
+named_tests true rests spent first is = subst IsNamed (let e : NodeIsDead ≡ first = cc in e) refl
+named_tests false true spent first is = subst IsNamed (let e : AtRest ≡ first = cc in e) refl
+named_tests false false true first is = subst IsNamed (let e : AccessesSpent ≡ first = cc in e) refl
+named_tests false false false first is = cc
 
-pub step_played : (a b : WireData) (n : ℕ) (progress : Progress NodeReply) → StepIsWoven a n progress b → IsPlayed a (Step n ∷ []) b
-step_played a b n progress woven p r shows =
-    let s = woven p r shows in
-    (s.0, s.1, (s.0, [], s.1.last, sym (append-nil s.0), s.2, s.3.woven, (refl, refl)), s.3.first, s.3.beats, s.5)
+named_node : (o : Option WireNode) (first : WireRefusal)
+    → or_else (option_map_or (λ x. refused_if (not x.alive) NodeIsDead) o (Some UnknownNode)) (option_map_or rest_refusal o None) ≡ Some first → IsNamed first
+named_node None first is = subst IsNamed (let e : UnknownNode ≡ first = cc in e) refl
+named_node (Some x) first is =
+    named_tests (not x.alive) (not (is_busy (seat_in x.node).local)) (nat_le most_accesses (seat_in x.node).accesses) first is
 
-pub step_passed : (a b : WireData) (n : ℕ) → b ≡ a → IsPlayed a (Step n ∷ []) b
-step_passed a b n same =
-    subst (IsPlayed a (Step n ∷ [])) (sym same)
-    (λ p r shows. ([], r, ([], [], r.last, refl, nothing, refl, (refl, refl)), refl, sym (append-nil r.beats), shows))
+step_named : (a : WireData) (n : ℕ) (first : WireRefusal) → step_refusal a n ≡ Some first → IsNamed first
+step_named a n first is = named_node (node_at n a.nodes) first is
 
-pub death_played : (a b : WireData) (n : ℕ) → living_refusal a.nodes n ≡ None → DeathIsWoven a n b → IsPlayed a (Die n ∷ []) b
-death_played a b n alive woven p r shows =
-    let s = woven p r shows in
-    let lives : not_living r.last.state n ≡ None = shows.living n ∙ ap (option_map refusal_in) alive in (
-      Dies n ∷ [],
-      s.0,
-      (
-        Dies n ∷ [],
-        [],
-        s.0.last,
-        refl,
-        subst (λ (o : Option Refusal). IsDeathOf o n (Dies n ∷ [])) (sym lives) refl,
-        (s.0.last, s.1.beat, refl),
-        (refl, refl),
-      ),
-      s.1.first,
-      s.1.beats,
-      s.2,
-    )
+-- ---- what is told of a step
 
-pub death_passed : (a b : WireData) (n : ℕ) (refusal : WireRefusal) → b ≡ a → living_refusal a.nodes n ≡ Some refusal → IsPlayed a (Die n ∷ []) b
-death_passed a b n refusal same refused =
-    subst (IsPlayed a (Die n ∷ [])) (sym same)
-    (λ p r shows. (
-    let dead : not_living r.last.state n ≡ Some (refusal_in refusal) = shows.living n ∙ ap (option_map refusal_in) refused in (
-      [],
-      r,
-      (
-        [],
-        [],
-        r.last,
-        refl,
-        subst (λ (o : Option Refusal). IsDeathOf o n []) (sym dead) refl,
-        refl,
-        (refl, refl),
-      ),
-      refl,
-      sym (append-nil r.beats),
-      shows,
-    )
-    ))
+-- a refusal that the machine has is not for want of memory
+by_state : (A B : Type 0) (o : Option WireRefusal) (refusal : WireRefusal) → IsRefusal WantOfMemory o refusal → IsNamed refusal → B → MatchOption o A (λ r. B)
+by_state A B (Some first) refusal is named so = so
+by_state A B None refusal is named so = absurd (let none : None ≡ Some (refusal_in WantOfMemory) = subst IsNamed is named in let no : ⊥ = cc in no)
 
--- ---- a begin
+pub step_told : (a b : WireData) (n : ℕ) (told : Result (Progress NodeReply) WireRefusal) (want : Result (Unit {0}) WireRefusal) → OnOk told (MakesItsAccess a n b)
+    → IfOk told (λ progress. StepIsWoven a n progress b) → OnOk told (step_refusal a n ≡ None)
+    → IfErr told (IsRefusal WantOfMemory (step_refusal a n)) → OnErr told (b ≡ a)
+    → OnOk want (IfErr told (λ refusal. machine_refusal refusal ≡ Some (refusal_in refusal))) → OnOk want (IsStepped a n b)
+step_told a b n (Ok progress) (Ok none) access woven allowed refused same named = so_where _ _ (step_refusal a n) allowed (access, (progress, woven))
+step_told a b n (Err refusal) (Ok none) access woven allowed refused same named = by_state _ _ (step_refusal a n) refusal refused named same
+step_told a b n told (Err want) access woven allowed refused same named = tt
 
-pub begin_asked : (a b : WireData) (n : ℕ) (call : NodeCall) → BeginIsWoven a n call b → IsAsked a n call b
-begin_asked a b n call woven p r shows =
-    let s = woven p r shows in
-    let asked : WireCall = Port (call_in p call) in (
-      Begins n asked s.0 ∷ [],
-      s.1,
-      subst (λ (o : Option Refusal). IsBeginOf o n asked (Begins n asked s.0 ∷ [])) (sym s.2.beat.0) (s.0, refl),
-      (s.1.last, s.2.beat, refl),
-      s.2.first,
-      s.2.beats,
-      s.3,
-    )
+-- want of memory is told where nothing refuses the step
+by_memory : (a : WireData) (n : ℕ) (o : Option WireRefusal) (refusal : WireRefusal) → step_refusal a n ≡ o → IsRefusal WantOfMemory o refusal
+    → machine_refusal refusal ≡ None → step_refusal a n ≡ None
+by_memory a n None refusal is first left = is
+by_memory a n (Some other) refusal is first left =
+    absurd (let named : machine_refusal other ≡ Some (refusal_in other) = step_named a n other is in
+    let none : machine_refusal other ≡ None = ap machine_refusal (sym first) ∙ left in let no : ⊥ = cc in no)
+
+pub step_allowed : (a : WireData) (n : ℕ) (told : Result (Progress NodeReply) WireRefusal) (want : Result (Unit {0}) WireRefusal)
+    → IfErr told (IsRefusal WantOfMemory (step_refusal a n)) → OnErr want (IfOk told (λ done. ⊥))
+    → OnErr want (IfErr told (λ refusal. machine_refusal refusal ≡ None)) → OnErr want (step_refusal a n ≡ None)
+step_allowed a n told (Ok none) refused wants left = tt
+step_allowed a n (Ok progress) (Err want) refused wants left = absurd wants
+step_allowed a n (Err refusal) (Err want) refused wants left = by_memory a n (step_refusal a n) refusal refl refused left
+
+-- what is told of a call that is not made is a refusal
+pub left_told : {A : Type 0} (P : Type 0) (told : Result A WireRefusal) (want : Result (Unit {0}) WireRefusal) → OnErr told P → OnErr want (IfOk told (λ done. ⊥)) → OnErr want P
+left_told P told (Ok none) left wants = tt
+left_told P (Ok done) (Err want) left wants = absurd wants
+left_told P (Err refusal) (Err want) left wants = left
+
+-- ---- what is told of a begin
+
+begin_asked : (a b : WireData) (n : ℕ) (call : NodeCall) → BeginsItsCall a n call b → BeginIsWoven a n call b → IsAsked a n call b
+begin_asked a b n call begun woven p r shows =
+    let w = woven p r shows in so_where _ _ (begin_refusal r.last n (Port (call_in p call))) w.2.beat.0 (begun p r shows, w)
+
+begin_passed : (a b : WireData) (n : ℕ) (call : NodeCall) (refusal : WireRefusal) → IsBeginRefusal a n call refusal → IsNamed refusal → IsLeft call a b
+    → IsAsked a n call b
+begin_passed a b n call refusal refused named left p r shows =
+    refused_where _ _ (begin_refusal r.last n (Port (call_in p call))) (refusal_in refusal) (refused.named p r shows ∙ named) left
+
+pub begin_told : (a b : WireData) (n : ℕ) (call : NodeCall) (told want : Result (Unit {0}) WireRefusal) → OnOk told (BeginsItsCall a n call b)
+    → OnOk told (BeginIsWoven a n call b) → IfErr told (IsBeginRefusal a n call) → OnErr told (IsLeft call a b)
+    → OnOk want (IfErr told (λ refusal. machine_refusal refusal ≡ Some (refusal_in refusal))) → OnOk want (IsAsked a n call b)
+begin_told a b n call (Ok done) (Ok none) begun woven refused left named = begin_asked a b n call begun woven
+begin_told a b n call (Err refusal) (Ok none) begun woven refused left named = begin_passed a b n call refusal refused named left
+begin_told a b n call told (Err want) begun woven refused left named = tt
+
+may_begin : (a : WireData) (n : ℕ) (call : NodeCall) (refusal : WireRefusal) → IsBeginRefusal a n call refusal → machine_refusal refusal ≡ None → MayBegin a n call
+may_begin a n call refusal refused left p r shows = refused.named p r shows ∙ left
+
+pub begin_allowed : (a : WireData) (n : ℕ) (call : NodeCall) (told want : Result (Unit {0}) WireRefusal) → IfErr told (IsBeginRefusal a n call)
+    → OnErr want (IfOk told (λ done. ⊥)) → OnErr want (IfErr told (λ refusal. machine_refusal refusal ≡ None)) → OnErr want (MayBegin a n call)
+begin_allowed a n call told (Ok none) refused wants left = tt
+begin_allowed a n call (Ok done) (Err want) refused wants left = absurd wants
+begin_allowed a n call (Err refusal) (Err want) refused wants left = may_begin a n call refusal refused left
+
+-- ---- and of a death
+
+pub death_told : (a b : WireData) (n : ℕ) (told : Result (Unit {0}) WireRefusal) → OnOk told (DeathIsWoven a n b) → OnOk told (Loses a n b)
+    → OnOk told (living_refusal a.nodes n ≡ None) → IfErr told (λ refusal. living_refusal a.nodes n ≡ Some refusal) → OnErr told (b ≡ a) → IsDeclaredDead a n b
+death_told a b n (Ok done) woven lost alive refused same = so_where _ _ (living_refusal a.nodes n) alive (lost, woven)
+death_told a b n (Err refusal) woven lost alive refused same = refused_where _ _ (living_refusal a.nodes n) refusal refused same
+
+-- ---- what an entry does to a run
+
+-- the run goes on by beats to which the entry may lead, and the wire shows it
+abbrev GoesOnIn : Setting → Run → WireEntry → WireData → Type 0
+GoesOnIn p r e b =
+    (bs : List Beat) × (after : Run) × LeadsTo p r.last e bs × IsWeave r.last bs after.last
+    × (after.first ≡ r.first) × (after.beats ≡ r.beats ++ bs) × Shows p b after
 
 -- what is left of a wire shows the runs that it showed
 left_shows : (call : NodeCall) (a b : WireData) → IsLeft call a b → (p : Setting) (r : Run) → Shows p a r → Shows p b r
@@ -138,98 +147,132 @@ left_shows (Receive n) a b left p r shows = subst (λ w. Shows p w r) (sym left)
 left_shows (HasRequests n) a b left p r shows = subst (λ w. Shows p w r) (sym left) shows
 left_shows (Handle n h) a b left p r shows = subst (λ w. Shows p w r) (sym left) shows
 
-begin_left : (a b : WireData) (n : ℕ) (call : NodeCall) (refusal : WireRefusal) → IsLeft call a b → IsBeginRefusal a n call refusal
-    → machine_refusal refusal ≡ Some (refusal_in refusal) → IsAsked a n call b
-begin_left a b n call refusal left refused named p r shows =
+begin_goes : (a b : WireData) (n : ℕ) (call : NodeCall) (p : Setting) (r : Run) → Shows p a r → let asked : WireCall = Port (call_in p call) in
+    (o : Option Refusal) → begin_refusal r.last n asked ≡ o
+    → MatchOption o (BeginsCall p a n asked b × ((c : Choice) × (after : Run) × GoesOnBy r (Begins n asked c) after × Shows p b after)) (λ refusal. IsLeft call a b)
+    → GoesOnIn p r (Begin n call) b
+begin_goes a b n call p r shows None is so =
     let asked : WireCall = Port (call_in p call) in
-    let not_begun : begin_refusal r.last n asked ≡ Some (refusal_in refusal) = refused p r shows ∙ named in (
+    let s = so.1 in (
+      Begins n asked s.0 ∷ [],
+      s.1,
+      subst (λ (o : Option Refusal). IsBeginOf o n asked (Begins n asked s.0 ∷ [])) (sym is) (s.0, refl),
+      (s.1.last, s.2.beat, refl),
+      s.2.first,
+      s.2.beats,
+      s.3,
+    )
+begin_goes a b n call p r shows (Some refusal) is left = (
+  [],
+  r,
+  subst (λ (o : Option Refusal). IsBeginOf o n (Port (call_in p call)) []) (sym is) refl,
+  refl,
+  refl,
+  sym (append-nil r.beats),
+  left_shows call a b left p r shows,
+)
+
+step_goes : (a b : WireData) (n : ℕ) (p : Setting) (r : Run) → Shows p a r → (o : Option WireRefusal)
+    → MatchOption o (MakesItsAccess a n b × ((progress : Progress NodeReply) × StepIsWoven a n progress b)) (λ refusal. b ≡ a) → GoesOnIn p r (Step n) b
+step_goes a b n p r shows None so = let s = so.1.1 p r shows in (s.0, s.1, s.2, s.3.woven, s.3.first, s.3.beats, s.5)
+step_goes a b n p r shows (Some refusal) same =
+    ([], r, nothing, refl, refl, sym (append-nil r.beats), subst (λ w. Shows p w r) (sym same) shows)
+
+death_goes : (a b : WireData) (n : ℕ) (p : Setting) (r : Run) → Shows p a r → (o : Option WireRefusal) → living_refusal a.nodes n ≡ o
+    → MatchOption o (Loses a n b × DeathIsWoven a n b) (λ refusal. b ≡ a) → GoesOnIn p r (Die n) b
+death_goes a b n p r shows None is so =
+    let s = so.1 p r shows in
+    let lives : not_living r.last.state n ≡ None = shows.living n ∙ ap (option_map refusal_in) is in (
+      Dies n ∷ [],
+      s.0,
+      subst (λ (o : Option Refusal). IsDeathOf o n (Dies n ∷ [])) (sym lives) refl,
+      (s.0.last, s.1.beat, refl),
+      s.1.first,
+      s.1.beats,
+      s.2,
+    )
+death_goes a b n p r shows (Some refusal) is same =
+    let dead : not_living r.last.state n ≡ Some (refusal_in refusal) = shows.living n ∙ ap (option_map refusal_in) is in (
       [],
       r,
-      subst (λ (o : Option Refusal). IsBeginOf o n asked []) (sym not_begun) refl,
+      subst (λ (o : Option Refusal). IsDeathOf o n []) (sym dead) refl,
       refl,
       refl,
       sym (append-nil r.beats),
-      left_shows call a b left p r shows,
+      subst (λ w. Shows p w r) (sym same) shows,
     )
 
-pub begin_told : (a b : WireData) (n : ℕ) (call : NodeCall) (told want : Result (Unit {0}) WireRefusal) → OnOk told (BeginIsWoven a n call b)
-    → IfErr told (IsBeginRefusal a n call) → OnErr told (IsLeft call a b)
-    → OnOk want (IfErr told (λ refusal. machine_refusal refusal ≡ Some (refusal_in refusal))) → OnOk want (IsAsked a n call b)
-begin_told a b n call (Ok done) (Ok none) woven refused left named = begin_asked a b n call woven
-begin_told a b n call (Err refusal) (Ok none) woven refused left named = begin_left a b n call refusal left refused named
-begin_told a b n call told (Err want) woven refused left named = tt
+entry_goes : (a b : WireData) (e : WireEntry) → IsEntered a e b → (p : Setting) (r : Run) → Shows p a r → GoesOnIn p r e b
+entry_goes a b (Begin n call) asked p r shows =
+    begin_goes a b n call p r shows (begin_refusal r.last n (Port (call_in p call))) refl (asked p r shows)
+entry_goes a b (Step n) stepped p r shows = step_goes a b n p r shows (step_refusal a n) stepped
+entry_goes a b (Die n) dead p r shows = death_goes a b n p r shows (living_refusal a.nodes n) refl dead
 
--- what is told of a begin that is not asked is a refusal
-pub left_told : (a b : WireData) (call : NodeCall) (told want : Result (Unit {0}) WireRefusal) → OnErr told (IsLeft call a b) → OnErr want (IfOk told (λ done. ⊥))
-    → OnErr want (IsLeft call a b)
-left_told a b call told (Ok none) left wants = tt
-left_told a b call (Ok done) (Err want) left wants = absurd wants
-left_told a b call (Err refusal) (Err want) left wants = left
+-- ---- one after another
 
--- ---- an entry that begins a call
+pub woven_by : (a b : WireData) (es : List WireEntry) → AreEntered a es b → IsWovenBy a es b
+woven_by a b [] same p r shows =
+    ([], r, (refl, refl), refl, sym (append-nil r.beats), subst (λ w. Shows p w r) (sym same) shows)
+woven_by a b (e ∷ es) entered p r shows =
+    let f = entry_goes a entered.0 e entered.1 p r shows in
+    let l = woven_by entered.0 b es entered.2 p f.1 f.6 in (
+      f.0 ++ l.0,
+      l.1,
+      (f.0, l.0, f.1.last, refl, f.2, f.3, l.2),
+      l.3 ∙ f.4,
+      l.4 ∙ ap (λ bs. bs ++ l.0) f.5 ∙ append_assoc r.beats f.0 l.0,
+      l.5,
+    )
 
-asked_played : (a b : WireData) (n : ℕ) (call : NodeCall) (entry : WireEntry) → IsAsked a n call b
-    → ((p : Setting) (r : Run) (bs : List Beat) → let asked = Port (call_in p call) in
-    IsBeginOf (begin_refusal r.last n asked) n asked bs → IsEntry r.last (entry_of entry) bs)
-    → IsPlayed a (entry ∷ []) b
-asked_played a b n call entry asked means p r shows =
-    let s = asked p r shows in
-    (s.0, s.1, (s.0, [], s.1.last, sym (append-nil s.0), means p r s.0 s.2, s.3, (refl, refl)), s.4, s.5, s.6)
+pub played : (a b : WireData) (es : List WireEntry) → AreEntered a es b → IsPlayed a es b
+played a b es entered = record { each = entered; woven = woven_by a b es entered }
 
--- a call of a handle is said without words
-said_so : (f : Fixed) (n k : ℕ) (call : HandleCall) → said_on_wire f n (Port (in_words (of_handle call k))) ≡ Port (of_handle call k)
-said_so f n k handle_calls.Read = refl
-said_so f n k handle_calls.Release = refl
-said_so f n k handle_calls.IsConnected = refl
-said_so f n k handle_calls.SetHint = refl
-said_so f n k handle_calls.HasHint = refl
-said_so f n k handle_calls.HasResponse = refl
+pub one_more : (a b c : WireData) (es : List WireEntry) (e : WireEntry) → AreEntered a es b → IsEntered b e c → AreEntered a (es ++ e ∷ []) c
+one_more a b c [] e same entered = (c, subst (λ w. IsEntered w e c) same entered, refl)
+one_more a b c (x ∷ es) e first entered = (first.0, first.1, one_more first.0 b c es e first.2 entered)
 
-pub loan_played : (a b : WireData) (n k elements : ℕ) (told : Result (Unit {0}) WireRefusal) → OnOk told (IsAsked a n (Loan k elements) b)
-    → OnOk told (IsPlayed a (entries.Loan n k elements ∷ []) b)
-loan_played a b n k elements (Ok done) asked = asked_played a b n (Loan k elements) (entries.Loan n k elements) asked (λ p r bs is. is)
-loan_played a b n k elements (Err refusal) asked = tt
+-- ---- three steps
 
-pub send_played : (a b : WireData) (n k : ℕ) (told : Result (Unit {0}) WireRefusal) → OnOk told (IsAsked a n (Send k) b)
-    → OnOk told (IsPlayed a (entries.Send n k ∷ []) b)
-send_played a b n k (Ok done) asked = asked_played a b n (Send k) (entries.Send n k) asked (λ p r bs is. is)
-send_played a b n k (Err refusal) asked = tt
+made_access : (a b : WireData) (n : ℕ) (o : Option WireRefusal)
+    → MatchOption o (MakesItsAccess a n b × ((progress : Progress NodeReply) × StepIsWoven a n progress b)) (λ refusal. b ≡ a) → o ≡ None → MakesItsAccess a n b
+made_access a b n None so none = so.0
+made_access a b n (Some refusal) same none = absurd (let no : ⊥ = cc in no)
 
-pub receive_played : (a b : WireData) (n k : ℕ) (told : Result (Unit {0}) WireRefusal) → OnOk told (IsAsked a n (Receive k) b)
-    → OnOk told (IsPlayed a (entries.Receive n k ∷ []) b)
-receive_played a b n k (Ok done) asked = asked_played a b n (Receive k) (entries.Receive n k) asked (λ p r bs is. is)
-receive_played a b n k (Err refusal) asked = tt
+three_made : (a d : WireData) (n : ℕ) → AreEntered a (Step n ∷ Step n ∷ Step n ∷ []) d → (p : Setting) (r : Run) → Shows p a r
+    → (b c : WireData) × (step_refusal a n ≡ None → MakesOneAccess p a n b) × (step_refusal b n ≡ None → MakesOneAccess p b n c)
+    × (step_refusal c n ≡ None → MakesOneAccess p c n d)
+three_made a d n entered p r shows =
+    let b : WireData = entered.0 in
+    let c : WireData = entered.2.0 in
+    let first = step_goes a b n p r shows (step_refusal a n) entered.1 in
+    let second = step_goes b c n p first.1 first.6 (step_refusal b n) entered.2.1 in (
+      b,
+      c,
+      λ goes. made_access a b n (step_refusal a n) entered.1 goes p r shows,
+      λ goes. made_access b c n (step_refusal b n) entered.2.1 goes p first.1 first.6,
+      λ goes. subst (λ w. MakesOneAccess p c n w) (sym entered.2.2.2) (made_access c entered.2.2.0 n (step_refusal c n) entered.2.2.1 goes p second.1 second.6),
+    )
 
-pub look_played : (a b : WireData) (n k : ℕ) (told : Result (Unit {0}) WireRefusal) → OnOk told (IsAsked a n (HasRequests k) b)
-    → OnOk told (IsPlayed a (entries.HasRequests n k ∷ []) b)
-look_played a b n k (Ok done) asked = asked_played a b n (HasRequests k) (entries.HasRequests n k) asked (λ p r bs is. is)
-look_played a b n k (Err refusal) asked = tt
+pub three_told : (told : Result (Unit {0}) WireRefusal) (a d : WireData) (n : ℕ) → OnOk told (IsPlayed a (Step n ∷ Step n ∷ Step n ∷ []) d)
+    → (p : Setting) (r : Run) → Shows p a r
+    → OnOk told ((b c : WireData) × (step_refusal a n ≡ None → MakesOneAccess p a n b) × (step_refusal b n ≡ None → MakesOneAccess p b n c)
+    × (step_refusal c n ≡ None → MakesOneAccess p c n d))
+three_told (Ok done) a d n played p r shows = three_made a d n played.each p r shows
+three_told (Err refusal) a d n played p r shows = tt
 
-pub handle_played : (a b : WireData) (n k : ℕ) (call : HandleCall) (told : Result (Unit {0}) WireRefusal) → OnOk told (IsAsked a n (Handle k call) b)
-    → OnOk told (IsPlayed a (entries.Handle n k call ∷ []) b)
-handle_played a b n k call (Ok done) asked =
-    asked_played a b n (Handle k call) (entries.Handle n k call) asked
-    (λ p r bs is. subst (λ (c : WireCall). IsBeginOf (begin_refusal r.last n c) n c bs) (sym (said_so r.last.state.fixed n k call)) is)
-handle_played a b n k call (Err refusal) asked = tt
+-- what wants memory leaves a wire that shows the runs that it showed
+pub wants_shows : (e : WireEntry) (a b : WireData) → WantsMemory a e b → (p : Setting) (r : Run) → Shows p a r → Shows p b r
+wants_shows (Begin n call) a b wants p r shows = left_shows call a b wants.1 p r shows
+wants_shows (Step n) a b wants p r shows = subst (λ w. Shows p w r) (sym wants.1) shows
+wants_shows (Die n) a b wants p r shows = absurd wants
 
--- ---- what the calls tell
+pub woven_on : (a b c : WireData) (es : List WireEntry) (e : WireEntry) → IsWovenBy a es b → WantsMemory b e c → IsWovenBy a es c
+woven_on a b c es e woven wants p r shows =
+    let w = woven p r shows in (w.0, w.1, w.2, w.3, w.4, wants_shows e b c wants p w.1 w.5)
 
-pub step_told : (a b : WireData) (n : ℕ) (told : Result (Progress NodeReply) WireRefusal) → IfOk told (λ progress. StepIsWoven a n progress b) → OnErr told (b ≡ a)
-    → IsPlayed a (Step n ∷ []) b
-step_told a b n (Ok progress) woven same = step_played a b n progress woven
-step_told a b n (Err refusal) woven same = step_passed a b n same
-
-pub death_told : (a b : WireData) (n : ℕ) (told : Result (Unit {0}) WireRefusal) → OnOk told (DeathIsWoven a n b) → OnOk told (living_refusal a.nodes n ≡ None)
-    → IfErr told (λ refusal. living_refusal a.nodes n ≡ Some refusal) → OnErr told (b ≡ a) → IsPlayed a (Die n ∷ []) b
-death_told a b n (Ok done) woven alive refused same = death_played a b n alive woven
-death_told a b n (Err refusal) woven alive refused same = death_passed a b n refusal same refused
-
-pub same_if_told : {A : Type 0} (a b : WireData) (told : Result A WireRefusal) (refusal : WireRefusal) → told ≡ Err refusal → OnErr told (b ≡ a) → b ≡ a
-same_if_told a b told refusal is same = subst (λ t. OnErr t (b ≡ a)) is same
-
-pub so_told : {A : Type 0} (told : Result A WireRefusal) (P : Type 0) → P → OnOk told P
-so_told (Ok done) P so = so
-so_told (Err refusal) P so = tt
+pub so_on_err : {A E : Type 0} (told : Result A E) (P : Type 0) → P → OnErr told P
+so_on_err (Ok done) P so = tt
+so_on_err (Err refusal) P so = so
 
 pub take_whole : {A : Type 0} (xs : List A) (i : ℕ) → length xs ≤ i → take i xs ≡ xs
 take_whole [] zero low = refl

@@ -1,43 +1,106 @@
 -- What a schedule of begins, steps and deaths leads to.
-use Rattle.std.specs.Prelude.{◌≡◌, ◌++◌, ℕ, List, map}
-use Rattle.iox_model.specs.Schedules as schedules
-use Rattle.iox_model.specs.Schedules.{Entry, IsBeginOf, IsWeaveOf, Transition}
-use Rattle.iox_model.specs.Weaves.{Beat, IsWeave, begin_refusal}
-use Rattle.iox_model.specs.WireCalls.{in_words}
-use Rattle.iox_model.specs.declared.call.Call.TheVariants as calls
+use Rattle.std.specs.Prelude.{◌≡◌, ◌++◌, ◌∷◌, ℕ, IsSomeAnd, List, MatchOption, None, [], slice_get, take}
+use Rattle.iox_model.specs.Joins.{not_living}
+use Rattle.iox_model.specs.Loans.{Choice}
+use Rattle.iox_model.specs.Schedules.{IsBeginOf, IsDeathOf, IsStepOf}
+use Rattle.iox_model.specs.Weaves.{Beat, Begins, IsWeave, World, begin_refusal}
 use Rattle.iox_model.specs.declared.call.WireCall.TheVariants.{Port}
-use Rattle.iox_wire_weaves.specs.Calls.{call_in, of_handle}
+use Rattle.iox_steps.specs.declared.access.Progress.{Progress}
+use Rattle.iox_wire_weaves.specs.Asking.{BeginsCall, MayBegin}
+use Rattle.iox_wire_weaves.specs.Calls.{call_in}
 use Rattle.iox_wire_weaves.specs.NodeCall.{NodeCall}
+use Rattle.iox_wire_weaves.specs.NodeReply.{NodeReply}
+use Rattle.iox_wire_weaves.specs.Runs.{GoesOnBy, Run}
+use Rattle.iox_wire_weaves.specs.Steps.{DeathIsWoven, MakesItsAccess, StepIsWoven, step_refusal}
 use Rattle.iox_wire_weaves.specs.Tables.{Setting}
-use Rattle.iox_wire_weaves.specs.Runs.{Run}
-use Rattle.iox_wire_weaves.specs.Wires.{Shows, WireData}
+use Rattle.iox_wire_weaves.specs.Wires.{Shows, WireData, living_refusal}
+use Rattle.iox_wire.specs.Begun.{IsLeft}
+use Rattle.iox_wire.specs.Kept.{Loses}
 use Rattle.iox_wire.specs.declared.entry.WireEntry.{WireEntry}
-use Rattle.iox_wire.specs.declared.entry.WireEntry.TheVariants.{Die, Handle, HasRequests, Loan, Receive, Send, Step}
+use Rattle.iox_wire.specs.declared.entry.WireEntry.TheVariants.{Begin, Die, Step}
 
--- the machine's name of an entry
-abbrev pub entry_of : WireEntry → Entry
-entry_of (Loan node number elements) = schedules.Begin node (Port (calls.Loan number elements))
-entry_of (Send node number) = schedules.Begin node (Port (calls.Send number))
-entry_of (Receive node number) = schedules.Begin node (Port (calls.Receive number))
-entry_of (HasRequests node number) = schedules.Begin node (Port (calls.HasRequests number))
-entry_of (Handle node number call) =
-    schedules.Begin node (Port (in_words (of_handle call number)))
-entry_of (Step node) = Transition node
-entry_of (Die node) = schedules.Die node
+-- ---- what an entry does to the wire
 
--- Each run that the wire showed goes on by beats to which these entries may lead, and the wire
--- shows that run.
-abbrev pub IsPlayed : WireData → List WireEntry → WireData → Type 0
-IsPlayed old entries new =
-    (p : Setting) (r : Run) → Shows p old r
-    → (bs : List Beat) × (after : Run) × IsWeaveOf r.last (map entry_of entries) bs after.last
-    × (after.first ≡ r.first) × (after.beats ≡ r.beats ++ bs) × Shows p new after
-
--- Each run that the wire showed goes on by the begin of that call, or stays if the machine refuses
--- it; the wire shows that run.
+-- In each run that the wire shows: the node begins the call, and the run goes on by that; where the
+-- machine refuses the call, nothing changes.
 abbrev pub IsAsked : WireData → ℕ → NodeCall → WireData → Type 0
 IsAsked old node call new =
     (p : Setting) (r : Run) → Shows p old r → let asked = Port (call_in p call) in
-    (bs : List Beat) × (after : Run)
-    × IsBeginOf (begin_refusal r.last node asked) node asked bs × IsWeave r.last bs after.last
+    MatchOption (begin_refusal r.last node asked)
+    (BeginsCall p old node asked new
+    × ((c : Choice) × (after : Run) × GoesOnBy r (Begins node asked c) after × Shows p new after))
+    (λ refusal. IsLeft call old new)
+
+-- The node makes the one access of its place, and each run that the wire showed goes on by that
+-- step; where the step is refused, nothing changes.
+abbrev pub IsStepped : WireData → ℕ → WireData → Type 0
+IsStepped old node new =
+    MatchOption (step_refusal old node)
+    (MakesItsAccess old node new
+    × ((progress : Progress NodeReply) × StepIsWoven old node progress new))
+    (λ refusal. new ≡ old)
+
+-- The node is lost, and each run that the wire showed goes on by its death; where the death is
+-- refused, nothing changes.
+abbrev pub IsDeclaredDead : WireData → ℕ → WireData → Type 0
+IsDeclaredDead old node new =
+    MatchOption (living_refusal old.nodes node)
+    (Loses old node new × DeathIsWoven old node new)
+    (λ refusal. new ≡ old)
+
+-- the entry leads the wire to the other
+abbrev pub IsEntered : WireData → WireEntry → WireData → Type 0
+IsEntered old (Begin node call) new = IsAsked old node call new
+IsEntered old (Step node) new = IsStepped old node new
+IsEntered old (Die node) new = IsDeclaredDead old node new
+
+-- so do these entries, one after another, with a wire after each
+abbrev pub AreEntered : WireData → List WireEntry → WireData → Type 0
+AreEntered old [] new = new ≡ old
+AreEntered old (e ∷ es) new = (mid : WireData) × IsEntered old e mid × AreEntered mid es new
+
+-- ---- what it does to a run
+
+-- The beats to which the entry may lead at a world. The machine's own entries begin a call with
+-- words alone, and read them as a payload of what the call names; a call of a wire says itself whose
+-- payload its words are. So a begin is that of the call as it is said.
+abbrev pub LeadsTo : Setting → World → WireEntry → List Beat → Type 0
+LeadsTo p w (Begin node call) bs =
+    let asked = Port (call_in p call) in IsBeginOf (begin_refusal w node asked) node asked bs
+LeadsTo p w (Step node) bs = IsStepOf node bs
+LeadsTo p w (Die node) bs = IsDeathOf (not_living w.state node) node bs
+
+-- the entries, from one world, may make these beats, which lead to the other world
+abbrev pub IsWeaveBy : Setting → World → List WireEntry → List Beat → World → Type 0
+IsWeaveBy p w [] bs w' = (bs ≡ []) × (w' ≡ w)
+IsWeaveBy p w (e ∷ es) bs w' =
+    (now later : List Beat) × (mid : World) × (bs ≡ now ++ later)
+    × LeadsTo p w e now × IsWeave w now mid × IsWeaveBy p mid es later w'
+
+-- Each run that the wire showed goes on by beats to which these entries may lead, and the wire
+-- shows that run.
+abbrev pub IsWovenBy : WireData → List WireEntry → WireData → Type 0
+IsWovenBy old entries new =
+    (p : Setting) (r : Run) → Shows p old r
+    → (bs : List Beat) × (after : Run) × IsWeaveBy p r.last entries bs after.last
     × (after.first ≡ r.first) × (after.beats ≡ r.beats ++ bs) × Shows p new after
+
+-- ---- schedules
+
+-- The entries are played: one after another on the wire, and on each run that it showed.
+pub record IsPlayed (old : WireData) (entries : List WireEntry) (new : WireData) : Type 0 where
+  pub each : AreEntered old entries new
+  pub woven : IsWovenBy old entries new
+
+-- Nothing refuses the entry, but there is no memory for it: a step changes nothing, and a begin
+-- leaves what one leaves that is refused. A death takes no memory.
+abbrev pub WantsMemory : WireData → WireEntry → WireData → Type 0
+WantsMemory old (Begin node call) new = MayBegin old node call × IsLeft call old new
+WantsMemory old (Step node) new = (step_refusal old node ≡ None) × (new ≡ old)
+WantsMemory old (Die node) new = ⊥
+
+-- The entries are played up to one that finds no memory.
+abbrev pub IsStopped : WireData → List WireEntry → WireData → Type 0
+IsStopped old entries new =
+    (count : ℕ) × (last : WireData) × IsPlayed old (take count entries) last
+    × IsSomeAnd (slice_get entries count) (λ entry. WantsMemory last entry new)

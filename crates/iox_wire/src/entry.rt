@@ -1,17 +1,12 @@
 //! An entry of a schedule.
-use iox_wire_weaves::HandleCall;
+use iox_wire_weaves::NodeCall;
 
-/// An entry of a schedule: a node begins a call, makes a step, or dies. The node's number comes
-/// first, then that of the port or the handle.
-#[derive(Clone, Copy, Debug, PartialEq, Eq)]
-pub enum WireEntry {
-    /// The node begins a loan of so many elements.
-    Loan(u64, u64, u64),
-    Send(u64, u64),
-    Receive(u64, u64),
-    /// The node begins to look whether a request waits for its server of that number.
-    HasRequests(u64, u64),
-    Handle(u64, u64, HandleCall),
+/// An entry of a schedule: what the node of that number does.
+#[derive(Clone, Copy, Debug)]
+pub enum WireEntry<'a> {
+    /// It begins the call.
+    Begin(u64, NodeCall<'a>),
+    /// It makes one access of its call.
     Step(u64),
     Die(u64),
 }

@@ -19,8 +19,11 @@ pub use events::WireEvent;
 pub use iox_model::event::Event;
 pub use iox_model::way::Way;
 pub use iox_steps::Progress;
+pub use iox_wire_layouts::is_plan;
 pub use iox_wire_weaves::{
-    CopyReply, HandleCall, LendReply, NodeCall, NodePayload, NodeReply, ReceiveReply, RequestReply,
-    RespondReply, ResponseCopyReply, SeatReply, WireRefusal, WireTerms,
+    CopyReply, HandleCall, LendReply, NodeCall, NodePayload, NodeReply, PlanPort, ReceiveReply,
+    RequestReply, RespondReply, ResponseCopyReply, SeatReply, WirePlan, WireRefusal, WireTerms,
+    WordMapNewError,
 };
+pub use opening::is_whole;
 pub use wire::{Answer, Wire};

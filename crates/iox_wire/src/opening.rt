@@ -1,13 +1,17 @@
-//! The nodes of a wire as it opens.
-ghost use Rattle.std.specs.Prelude.{◌≡◌, ◌++◌, ◌∷◌, [], IfOk, OnOk, Some, is_some, true};
-ghost use Rattle.iox_model.specs.Maps.{AreDistinct, has_number};
-ghost use Rattle.iox_wire_weaves.specs.Plans.{port_numbers};
-ghost use Rattle.iox_wire_openings.specs.OpenedNodes.{planned_seat};
+//! Whether a wire may open with a plan and its terms, and the nodes of a wire as it opens.
+ghost use Rattle.std.specs.Prelude.{◌≡◌, ◌↔◌, ◌*◌, ◌<◌, ℕ, IfOk, IsSomeAnd, IsTrue, length};
+ghost use Rattle.std.specs.Prelude.{slice_get};
+ghost use Rattle.iox_model.specs.Maps.{AreDistinct};
+ghost use Rattle.iox_model.specs.declared.kind.Role.{Role};
+ghost use Rattle.iox_wire_weaves.specs.Plans.{IsSlotAt, details_of, port_numbers};
+ghost use Rattle.iox_wire_weaves.specs.Terms.{IsWholePort, messages_of};
+ghost use Rattle.iox_wire_weaves.specs.Wires.{AreWhole};
 ghost use Rattle.iox_wire.specs.Kept.{AreOpened, IsOpenedNode};
 
 use crate::member::Member;
+use iox_model::kind::Role;
 use iox_wire_openings::open_node;
-use iox_wire_weaves::{StoredNode, WirePlan};
+use iox_wire_weaves::{StoredNode, WirePlan, WireTerms};
 use std::alloc::{AllocError, Global};
 
 /// A node as the wire opens, with room for so many handles.
@@ -39,4 +43,70 @@ pub(crate) fn open_members(
         members.push(open_member(alloc, plan, *number, handles)?)?;
     }
     Ok(members)
+}
+
+/// Whether the terms tell the port at that place, with the words of two identifiers, and numbers
+/// count what it may lend.
+fn is_port_told(plan: &WirePlan, terms: &WireTerms, place: usize) -> bool
+    ensures { IsTrue result
+        ↔ IsSomeAnd (slice_get terms.now.ports.items place) (IsWholePort plan.now terms.now) }
+{
+    let Some(port) = terms.ports.get(place) else {
+        return false;
+    };
+    let active = plan.limits.active_requests as u64;
+    let Some(each) = port.loaned_responses.checked_mul(active) else {
+        return false;
+    };
+    port.ids.len() == 4 && each.checked_mul(terms.clients).is_some()
+}
+
+/// Whether the port at that place has a slot.
+fn has_slot(plan: &WirePlan, place: usize) -> bool
+    ensures { IsTrue result ↔ IsSlotAt plan.now place 0 }
+{
+    match plan.ports.get(place) {
+        Some(port) => port.pool > 0,
+        None => false,
+    }
+}
+
+/// Whether the terms tell each port, and each has a slot.
+fn are_ports_whole(plan: &WirePlan, terms: &WireTerms) -> bool
+    ensures { IsTrue result ↔ ((i : ℕ) → i < length plan.now.ports.items
+        → IsSomeAnd (slice_get terms.now.ports.items i) (IsWholePort plan.now terms.now)
+        × IsSlotAt plan.now i 0) }
+{
+    for place in 0..plan.ports.len() {
+        if !is_port_told(plan, terms, place) || !has_slot(plan, place) {
+            return false;
+        }
+    }
+    true
+}
+
+/// Whether the user header of a role's messages has the words that the terms tell.
+fn is_user_header_told(plan: &WirePlan, terms: &WireTerms, role: Role) -> bool
+    ensures { IsTrue result ↔ ((details_of plan.now role).user_header.size
+        ≡ 8 * length (messages_of terms.now role).user.items) }
+{
+    let size = plan.details(role).user_header.size();
+    size % 8 == 0 && size / 8 == terms.messages(role).user.len()
+}
+
+/// The same of the messages of both roles.
+fn are_user_headers_told(plan: &WirePlan, terms: &WireTerms) -> bool
+    ensures { IsTrue result ↔ ((role : Role) → (details_of plan.now role).user_header.size
+        ≡ 8 * length (messages_of terms.now role).user.items) }
+{
+    is_user_header_told(plan, terms, Role::Client) && is_user_header_told(plan, terms, Role::Server)
+}
+
+/// Whether the terms fit the plan, and each port has a slot. With `is_plan` that is all that can be
+/// tested of what `Wire::new` asks: that a wire of both may `open` follows from the service that
+/// they were made of, and is for those to say who have it.
+pub fn is_whole(plan: &WirePlan, terms: &WireTerms) -> bool
+    ensures { IsTrue result ↔ AreWhole plan.now terms.now }
+{
+    are_ports_whole(plan, terms) && are_user_headers_told(plan, terms)
 }

@@ -1,26 +1,17 @@
 //! Begins, steps and deaths of nodes, one after another.
 ghost use Rattle.std.specs.Bool.{OnFalse, OnTrue};
-ghost use Rattle.std.specs.Prelude.{◌≡◌, ◌∷◌, ℕ, [], Err, IfErr, IfOk, None, OnErr, OnOk, Some, take};
+ghost use Rattle.std.specs.Prelude.{◌≡◌, ℕ, IfErr, IfOk, None, OnErr, OnOk, Some, take};
+ghost use Rattle.iox_wire_weaves.specs.Asking.{MayBegin};
+ghost use Rattle.iox_wire_weaves.specs.Steps.{step_refusal};
 ghost use Rattle.iox_wire_weaves.specs.Wires.{machine_refusal, refusal_in};
 ghost use Rattle.iox_wire_weaves.specs.declared.refusal.WireRefusal.TheVariants.{WantOfMemory};
 ghost use Rattle.iox_wire.specs.Begun.{IsLeft};
-ghost use Rattle.iox_wire.specs.Schedules.{IsAsked, IsPlayed};
+ghost use Rattle.iox_wire.specs.Schedules.{IsAsked, IsDeclaredDead, IsEntered, IsStepped};
+ghost use Rattle.iox_wire.specs.Schedules.{IsPlayed, IsStopped, IsWovenBy, WantsMemory};
 
 use crate::entry::WireEntry;
 use crate::wire::Wire;
-use iox_steps::Progress;
-use iox_wire_weaves::{NodeCall, NodeReply, WireRefusal};
-
-/// Want of memory, if that is told.
-fn want_in(told: Result<Progress<NodeReply>, WireRefusal>) -> Result<(), WireRefusal>
-    ensures want { OnErr result (told ≡ Err WantOfMemory) }
-    ensures refused { IfErr result (λ error. error ≡ WantOfMemory) }
-{
-    match told {
-        Err(WireRefusal::WantOfMemory) => Err(WireRefusal::WantOfMemory),
-        _ => Ok(()),
-    }
-}
+use iox_wire_weaves::{NodeCall, WireRefusal};
 
 /// Whether the machine has that refusal.
 fn is_named(error: WireRefusal) -> bool
@@ -40,11 +31,12 @@ fn is_named(error: WireRefusal) -> bool
     }
 }
 
-/// Want of memory for a begin, if the machine does not refuse it so.
-fn want_of(told: Result<(), WireRefusal>) -> Result<(), WireRefusal>
+/// Want of memory, where something else is told than what the machine refuses.
+fn want_of<T: Copy>(told: Result<T, WireRefusal>) -> Result<(), WireRefusal>
     ensures named { OnOk result
         (IfErr told (λ error. machine_refusal error ≡ Some (refusal_in error))) }
-    ensures want { OnErr result (IfOk told (λ done. ⊥)) }
+    ensures done { OnErr result (IfOk told (λ done. ⊥)) }
+    ensures want { OnErr result (IfErr told (λ error. machine_refusal error ≡ None)) }
     ensures refused { IfErr result (λ error. error ≡ WantOfMemory) }
 {
     match told {
@@ -54,7 +46,7 @@ fn want_of(told: Result<(), WireRefusal>) -> Result<(), WireRefusal>
             }
             Err(WireRefusal::WantOfMemory)
         }
-        Ok(()) => Ok(()),
+        Ok(_) => Ok(()),
     }
 }
 
@@ -62,37 +54,43 @@ impl Wire {
     /// The node begins the call. If the machine refuses it nothing changes; want of memory is told.
     fn ask(&mut self, node: u64, call: NodeCall<'_>) -> Result<(), WireRefusal>
         ensures asked { OnOk result (IsAsked self.old node call.entry self.new) }
-        ensures refused { IfErr result (λ error. error ≡ WantOfMemory) }
+        ensures allowed { OnErr result (MayBegin self.old node call.entry) }
         ensures unchanged { OnErr result (IsLeft call.entry self.old self.new) }
+        ensures refused { IfErr result (λ error. error ≡ WantOfMemory) }
     {
         let told = self.begin(node, call);
         want_of(told)
     }
 
-    /// Plays an entry. If it is refused it changes nothing; want of memory is told.
-    fn play(&mut self, entry: WireEntry) -> Result<(), WireRefusal>
-        ensures played { OnOk result (IsPlayed self.old (entry ∷ []) self.new) }
-        ensures refused { IfErr result (λ error. error ≡ WantOfMemory) }
+    /// The node makes a step. If that is refused nothing changes; want of memory is told.
+    fn go(&mut self, node: u64) -> Result<(), WireRefusal>
+        ensures stepped { OnOk result (IsStepped self.old node self.new) }
+        ensures allowed { OnErr result (step_refusal self.old node ≡ None) }
         ensures unchanged { OnErr result (self.new ≡ self.old) }
+        ensures refused { IfErr result (λ error. error ≡ WantOfMemory) }
+    {
+        let told = self.step(node);
+        want_of(told)
+    }
+
+    /// The node dies, or nothing changes.
+    fn lose(&mut self, node: u64)
+        ensures { IsDeclaredDead self.old node self.new }
+    {
+        let _told = self.declare_dead(node);
+    }
+
+    /// Plays an entry. If it is refused it changes nothing; want of memory is told.
+    fn play(&mut self, entry: WireEntry<'_>) -> Result<(), WireRefusal>
+        ensures played { OnOk result (IsEntered self.old entry.entry self.new) }
+        ensures wants { OnErr result (WantsMemory self.old entry.entry self.new) }
+        ensures refused { IfErr result (λ error. error ≡ WantOfMemory) }
     {
         match entry {
-            WireEntry::Loan(node, number, elements) => {
-                self.ask(node, NodeCall::Loan { number, elements })
-            }
-            WireEntry::Send(node, number) => self.ask(node, NodeCall::Send { number }),
-            WireEntry::Receive(node, number) => self.ask(node, NodeCall::Receive { number }),
-            WireEntry::HasRequests(node, number) => {
-                self.ask(node, NodeCall::HasRequests { number })
-            }
-            WireEntry::Handle(node, number, call) => {
-                self.ask(node, NodeCall::Handle { number, call })
-            }
-            WireEntry::Step(node) => {
-                let told = self.step(node);
-                want_in(told)
-            }
+            WireEntry::Begin(node, call) => self.ask(node, call),
+            WireEntry::Step(node) => self.go(node),
             WireEntry::Die(node) => {
-                let _told = self.declare_dead(node);
+                self.lose(node);
                 Ok(())
             }
         }
@@ -100,9 +98,10 @@ impl Wire {
 
     /// Plays a schedule to its end, or to the entry that finds no memory. Entries that are refused
     /// change nothing.
-    pub fn run(&mut self, schedule: &[WireEntry]) -> Result<(), WireRefusal>
-        ensures weave { (count : ℕ) × IsPlayed self.old (take count schedule.now) self.new }
+    pub fn run(&mut self, schedule: &[WireEntry<'_>]) -> Result<(), WireRefusal>
+        ensures weave { (count : ℕ) × IsWovenBy self.old (take count schedule.now) self.new }
         ensures whole { OnOk result (IsPlayed self.old schedule.now self.new) }
+        ensures stopped { OnErr result (IsStopped self.old schedule.now self.new) }
         ensures refused { IfErr result (λ error. error ≡ WantOfMemory) }
     {
         for entry in schedule {

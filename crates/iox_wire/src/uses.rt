@@ -1,11 +1,12 @@
 //! Callers of a wire, proved from its clauses alone.
-ghost use Rattle.std.specs.Prelude.{◌≡◌, ◌∷◌, [], IfErr, IfOk, IsTrue, None, OnErr, OnOk, Some};
+ghost use Rattle.std.specs.Prelude.{◌≡◌, ◌∷◌, ◌^◌, [], IfErr, IfOk, IsTrue, None, OnErr, OnOk, Some};
+ghost use Rattle.std.specs.Prelude.{true};
 ghost use Rattle.iox_wire_weaves.specs.Asking.{BeginIsWoven, BeginsItsCall, IsBeginRefusal};
 ghost use Rattle.iox_wire_weaves.specs.HandleCall.TheVariants.{Release};
 ghost use Rattle.iox_wire_weaves.specs.NodeCall.TheVariants as calls;
 ghost use Rattle.iox_wire.specs.Begun.{IsLeftAlone};
-ghost use Rattle.iox_wire.specs.Schedules.{IsPlayed};
-ghost use Rattle.iox_wire.specs.declared.entry.WireEntry.TheVariants.{HasRequests, Receive, Step};
+ghost use Rattle.iox_wire.specs.Schedules.{IsPlayed, IsStepped};
+ghost use Rattle.iox_wire.specs.declared.entry.WireEntry.TheVariants.{Begin, Step};
 ghost use Rattle.std.specs.Bool.{OnTrue};
 ghost use Rattle.iox_model.specs.States.{State};
 ghost use Rattle.iox_wire_weaves.specs.WordMapNewError.TheVariants.{WantOfMemory};
@@ -13,8 +14,13 @@ ghost use Rattle.iox_wire_weaves.specs.Plans.{IsPlan};
 ghost use Rattle.iox_wire_weaves.specs.Refusals.{map_refusal};
 ghost use Rattle.iox_wire_weaves.specs.Tables.{Setting};
 ghost use Rattle.iox_wire_weaves.specs.declared.refusal.WireRefusal.TheVariants as refusals;
-ghost use Rattle.iox_wire_weaves.specs.Steps.{DeathIsWoven, StepIsWoven, step_refusal};
-ghost use Rattle.iox_wire_weaves.specs.Wires.{AreWhole, OpensOn, ShowsOpened, living_refusal};
+ghost use Rattle.iox_wire_weaves.specs.Steps.{DeathIsWoven, MakesOneAccess, StepIsWoven};
+ghost use Rattle.iox_wire_weaves.specs.Steps.{step_refusal};
+ghost use Rattle.iox_wire_weaves.specs.Wires.{AreWhole, OpensOn, Shows, ShowsOpened, WireData};
+ghost use Rattle.iox_wire_weaves.specs.Wires.{WireNode, living_refusal, node_at};
+ghost use Rattle.iox_wire_weaves.specs.Begins.{is_busy};
+ghost use Rattle.iox_wire_weaves.specs.Nodes.{seat_in};
+ghost use Rattle.iox_wire_weaves.specs.Runs.{Run};
 
 use crate::entry::WireEntry;
 use crate::wire::Wire;
@@ -60,6 +66,25 @@ pub fn dead_node_steps(wire: &mut Wire, node: u64) -> Result<Progress<NodeReply>
     wire.step(node)
 }
 
+/// A living node that made all accesses that it may, in the midst of a call, makes no more.
+pub fn spent_node_steps(wire: &mut Wire, node: u64) -> Result<Progress<NodeReply>, WireRefusal>
+    requires { (x : WireNode) × (node_at node wire.old.nodes ≡ Some x) × (x.alive ≡ true)
+        × (is_busy (seat_in x.node).local ≡ true) × ((seat_in x.node).accesses ≡ 2 ^ 56) }
+    ensures refused { IfErr result (λ error. error ≡ refusals.AccessesSpent) }
+    ensures always { OnOk result ⊥ }
+    ensures unchanged { wire.new ≡ wire.old }
+{
+    wire.step(node)
+}
+
+/// A schedule passes over its step.
+pub fn spent_node_is_passed_over(wire: &mut Wire, node: u64) -> Result<(), WireRefusal>
+    requires { step_refusal wire.old node ≡ Some refusals.AccessesSpent }
+    ensures { OnOk result (wire.new ≡ wire.old) }
+{
+    wire.run(&[WireEntry::Step(node)])
+}
+
 /// Where a step is not refused, what the wire showed goes on by it.
 pub fn node_steps(wire: &mut Wire, node: u64) -> Result<Progress<NodeReply>, WireRefusal>
     requires { step_refusal wire.old node ≡ None }
@@ -72,11 +97,41 @@ pub fn node_steps(wire: &mut Wire, node: u64) -> Result<Progress<NodeReply>, Wir
 /// A node begins to look for requests, and makes three steps: a run of the machine goes on so.
 pub fn node_looks(wire: &mut Wire, node: u64, number: u64) -> Result<(), WireRefusal>
     ensures woven { OnOk result (IsPlayed wire.old
-        (HasRequests node number ∷ Step node ∷ Step node ∷ Step node ∷ []) wire.new) }
+        (Begin node (calls.HasRequests number) ∷ Step node ∷ Step node ∷ Step node ∷ [])
+        wire.new) }
     ensures refused { IfErr result (λ error. error ≡ refusals.WantOfMemory) }
 {
     wire.run(&[
-        WireEntry::HasRequests(node, number),
+        WireEntry::Begin(node, NodeCall::HasRequests { number }),
+        WireEntry::Step(node),
+        WireEntry::Step(node),
+        WireEntry::Step(node),
+    ])
+}
+
+/// A node makes three steps: there is a wire after each.
+pub fn node_makes_three_steps(wire: &mut Wire, node: u64) -> Result<(), WireRefusal>
+    ensures { OnOk result ((a : WireData) × IsStepped wire.old node a
+        × ((b : WireData) × IsStepped a node b
+        × ((c : WireData) × IsStepped b node c × (wire.new ≡ c)))) }
+{
+    wire.run(&[
+        WireEntry::Step(node),
+        WireEntry::Step(node),
+        WireEntry::Step(node),
+    ])?;
+    Ok(())
+}
+
+/// In each run that is shown these are three accesses: words and seats are those after each of
+/// them, as long as the node's call goes on.
+pub fn three_steps_are_three_accesses(wire: &mut Wire, node: u64) -> Result<(), WireRefusal>
+    ensures { (p : Setting) → (r : Run) → Shows p wire.old r → OnOk result ((a b : WireData)
+        × (step_refusal wire.old node ≡ None → MakesOneAccess p wire.old node a)
+        × (step_refusal a node ≡ None → MakesOneAccess p a node b)
+        × (step_refusal b node ≡ None → MakesOneAccess p b node wire.new)) }
+{
+    wire.run(&[
         WireEntry::Step(node),
         WireEntry::Step(node),
         WireEntry::Step(node),
@@ -108,10 +163,10 @@ pub fn client_asks(
 /// A server begins to receive, and makes two steps: a run of the machine goes on so.
 pub fn server_receives(wire: &mut Wire, node: u64, number: u64) -> Result<(), WireRefusal>
     ensures woven { OnOk result (IsPlayed wire.old
-        (Receive node number ∷ Step node ∷ Step node ∷ []) wire.new) }
+        (Begin node (calls.Receive number) ∷ Step node ∷ Step node ∷ []) wire.new) }
 {
     wire.run(&[
-        WireEntry::Receive(node, number),
+        WireEntry::Begin(node, NodeCall::Receive { number }),
         WireEntry::Step(node),
         WireEntry::Step(node),
     ])

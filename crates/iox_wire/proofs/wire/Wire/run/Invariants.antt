@@ -1,9 +1,9 @@
 use Rattle.std.proofs.Common.{take}
-use Rattle.iox_wire.specs.Schedules.{IsPlayed}
+use Rattle.iox_wire.specs.Schedules.{AreEntered}
 use Rattle.iox_wire.proofs.wire.Wire.run.Given as goal
 
 -- the entries so far are played
 abbrev pub invariant-loop-entry : goal.invariant-loop-entry
 invariant-loop-entry l = record {
-  played : IsPlayed l.fn.self (take l.entry-index l.schedule) l.self;
+  entered : AreEntered l.fn.self (take l.entry-index l.schedule) l.self;
 }

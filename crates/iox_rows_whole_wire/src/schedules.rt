@@ -1,0 +1,137 @@
+//! Schedules on the wire where each limit is 1.
+use super::play::{Act, Ask, Told, plays};
+use super::settings::{NO_OVERFLOW, open, open_with};
+use iox_model::kind::Role;
+use iox_wire::{HandleCall, NodeCall, NodePayload, WireEntry, WireRefusal};
+use std::test::Fail;
+
+const RECEIVE: NodeCall<'static> = NodeCall::Receive { number: 1 };
+
+const LOOK: NodeCall<'static> = NodeCall::HasRequests { number: 1 };
+
+/// The copy of a request of one word.
+fn copy(words: &[u64]) -> NodeCall<'_> {
+    let role = Role::Client;
+    let payload = NodePayload { role, words };
+    NodeCall::SendCopy { number: 0, payload }
+}
+
+/// The same word is written to a loan.
+fn write(words: &[u64]) -> NodeCall<'_> {
+    let role = Role::Client;
+    let payload = NodePayload { role, words };
+    NodeCall::Write { number: 2, payload }
+}
+
+/// A call of a node, and so many steps.
+fn add<'a>(
+    schedule: &mut Vec<WireEntry<'a>>,
+    node: u64,
+    call: NodeCall<'a>,
+    steps: u64,
+) -> Result<(), Fail> {
+    schedule.push(WireEntry::Begin(node, call))?;
+    for _ in 0..steps {
+        schedule.push(WireEntry::Step(node))?;
+    }
+    Ok(())
+}
+
+#[test]
+fn schedule_passes_over_what_is_refused(rt: HostRuntime) -> Result<(), Fail> {
+    let mut wire = open(rt.alloc(), NO_OVERFLOW)?;
+    wire.run(&[
+        WireEntry::Step(0),
+        WireEntry::Die(1),
+        WireEntry::Step(1),
+        WireEntry::Die(9),
+        WireEntry::Begin(1, RECEIVE),
+    ])?;
+    let table = [
+        Act::RefusedStep(0, WireRefusal::AtRest),
+        Act::RefusedStep(1, WireRefusal::NodeIsDead),
+    ];
+    plays(&rt, &mut wire, &table);
+    Ok(())
+}
+
+#[test]
+fn node_dies_in_its_look(rt: HostRuntime) -> Result<(), Fail> {
+    let mut wire = open(rt.alloc(), NO_OVERFLOW)?;
+    wire.run(&[
+        WireEntry::Begin(1, LOOK),
+        WireEntry::Step(1),
+        WireEntry::Die(1),
+        WireEntry::Step(1),
+        WireEntry::Begin(1, LOOK),
+    ])?;
+    assert!(rt; wire.replies().is_empty());
+    Ok(())
+}
+
+#[test]
+fn each_step_of_a_schedule_is_made(rt: HostRuntime) -> Result<(), Fail> {
+    let mut wire = open(rt.alloc(), NO_OVERFLOW)?;
+    let mut schedule = Vec::new(rt.alloc());
+    add(&mut schedule, 0, copy(&[456]), 18)?;
+    add(&mut schedule, 1, RECEIVE, 2)?;
+    wire.run(&schedule)?;
+    let table = [
+        Act::RefusedStep(1, WireRefusal::AtRest),
+        Act::Ends(0, 1, Told::Handle(2)),
+        Act::Whole(1, Ask::Receive(1), 11, Told::Handle(2)),
+        Act::Whole(1, Ask::Read(2), 1, Told::Word(456)),
+    ];
+    plays(&rt, &mut wire, &table);
+    Ok(())
+}
+
+#[test]
+fn schedule_lends_writes_and_sends(rt: HostRuntime) -> Result<(), Fail> {
+    let mut wire = open(rt.alloc(), NO_OVERFLOW)?;
+    let loan = NodeCall::Loan {
+        number: 0,
+        elements: 1,
+    };
+    let read = NodeCall::Handle {
+        number: 2,
+        call: HandleCall::Read,
+    };
+    let mut schedule = Vec::new(rt.alloc());
+    add(&mut schedule, 0, loan, 9)?;
+    add(&mut schedule, 0, write(&[789]), 1)?;
+    add(&mut schedule, 0, NodeCall::Send { number: 2 }, 9)?;
+    add(&mut schedule, 1, RECEIVE, 11)?;
+    add(&mut schedule, 1, read, 1)?;
+    wire.run(&schedule)?;
+    assert_eq!(rt; wire.replies().len(), 5);
+    assert_eq!(rt; wire.words_read(1), Some(&[789u64][..]));
+    Ok(())
+}
+
+#[test]
+fn call_that_is_under_way_goes_on(rt: HostRuntime) -> Result<(), Fail> {
+    let mut wire = open(rt.alloc(), NO_OVERFLOW)?;
+    let mut schedule = Vec::new(rt.alloc());
+    add(&mut schedule, 0, copy(&[456]), 19)?;
+    add(&mut schedule, 1, RECEIVE, 0)?;
+    add(&mut schedule, 1, RECEIVE, 1)?;
+    wire.run(&schedule)?;
+    plays(&rt, &mut wire, &[Act::Ends(1, 10, Told::Handle(2))]);
+    Ok(())
+}
+
+#[test]
+fn call_without_room_for_its_handle_is_refused(rt: HostRuntime) -> Result<(), Fail> {
+    let mut wire = open_with(rt.alloc(), NO_OVERFLOW, 0)?;
+    let told = wire.run(&[WireEntry::Begin(1, RECEIVE), WireEntry::Die(1)]);
+    assert_eq!(rt; told.err(), Some(WireRefusal::WantOfMemory));
+    let table = [
+        Act::RefusedCall(1, Ask::Receive(7), WireRefusal::UnknownNumber),
+        Act::RefusedCall(1, Ask::Receive(1), WireRefusal::WantOfMemory),
+        Act::RefusedCall(0, Ask::CopyRequest(0, 456), WireRefusal::WantOfMemory),
+        Act::Whole(1, Ask::HasRequests(1), 2, Told::Answer(false)),
+    ];
+    plays(&rt, &mut wire, &table);
+    Ok(())
+}
