@@ -2,6 +2,8 @@
 #![tactic(auto)]
 
 #[cfg(test)]
+mod answers;
+#[cfg(test)]
 mod between;
 #[cfg(test)]
 mod chances;
@@ -15,6 +17,8 @@ mod events;
 mod four;
 #[cfg(test)]
 mod games;
+#[cfg(test)]
+mod lists;
 #[cfg(test)]
 mod play;
 #[cfg(test)]
@@ -33,6 +37,8 @@ mod stops_among_three;
 mod stops_on_other_wires;
 #[cfg(test)]
 mod two_servers;
+#[cfg(test)]
+mod whole_calls;
 #[cfg(test)]
 mod wide;
 #[cfg(test)]

@@ -1,0 +1,82 @@
+//! Whole calls by chance, one after another, against lists that tell what they answer. Nodes die
+//! between calls.
+use super::chances::{Chance, ask};
+use super::four;
+use super::lists::Lists;
+use super::play::{Came, calls};
+use super::settings::{NO_FIRE_AND_FORGET, NO_OVERFLOW, OVERFLOW, Service};
+use iox_wire::{Wire, WireRefusal};
+use std::alloc::Global;
+use std::process::Abort;
+use std::test::Fail;
+
+/// A node makes a call, and is answered what the lists say.
+fn turn(
+    rt: &impl Abort,
+    wire: &mut Wire,
+    lists: &mut Lists,
+    chance: &mut Chance,
+    dead: &[bool; 3],
+) -> Result<(), Fail> {
+    let node = chance.below(3);
+    let place = chance.below(lists.of_node(node as u64));
+    let Some(held) = lists.pick(node as u64, place) else {
+        return Ok(());
+    };
+    let asked = ask(held.of.kind, held.of.number, chance.below(1 << 20) as u64);
+    let came = calls(wire, node as u64, asked);
+    if dead.get(node).copied().unwrap_or(false) {
+        assert_eq!(rt; came, Came::Refused(WireRefusal::NodeIsDead));
+        return Ok(());
+    }
+    let told = lists.answer(held, asked)?;
+    let steps = match came {
+        Came::Ended(steps, _) => steps,
+        _ => 0,
+    };
+    assert_eq!(rt; came, Came::Ended(steps, told));
+    Ok(())
+}
+
+/// A game of so many calls. After each it may be that a node dies.
+fn plays(rt: &impl Abort, alloc: Global, service: Service, seed: u64) -> Result<(), Fail> {
+    let mut wire = four::open_with(alloc, service, 64)?;
+    let mut lists = Lists::new(alloc, service)?;
+    let mut chance = Chance::new(seed);
+    let mut dead = [false; 3];
+    for _ in 0..400 {
+        turn(rt, &mut wire, &mut lists, &mut chance, &dead)?;
+        if chance.below(300) == 0 {
+            let node = chance.below(3);
+            if wire.declare_dead(node as u64).is_ok() {
+                if let Some(place) = dead.get_mut(node) {
+                    *place = true;
+                }
+            }
+        }
+    }
+    Ok(())
+}
+
+/// Ends the test where a wire of that service answers another thing than the lists say.
+fn play_all(rt: &impl Abort, alloc: Global, service: Service) -> Result<(), Fail> {
+    for seed in 1..101 {
+        plays(rt, alloc, service, seed)?;
+    }
+    Ok(())
+}
+
+#[test]
+fn nothing_overflows(rt: HostRuntime) -> Result<(), Fail> {
+    play_all(&rt, rt.alloc(), NO_OVERFLOW)
+}
+
+#[test]
+fn queues_overflow(rt: HostRuntime) -> Result<(), Fail> {
+    play_all(&rt, rt.alloc(), OVERFLOW)
+}
+
+#[test]
+fn requests_of_no_use_are_dropped(rt: HostRuntime) -> Result<(), Fail> {
+    play_all(&rt, rt.alloc(), NO_FIRE_AND_FORGET)
+}
