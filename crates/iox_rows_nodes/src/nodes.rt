@@ -6,6 +6,7 @@ mod comparing;
 mod creating;
 mod dying;
 mod joining;
+mod registered;
 mod running;
 mod service;
 mod trying;
@@ -116,10 +117,13 @@ impl Services {
         for (place, (ask, wanted)) in script.iter().enumerate() {
             let reply = asking::called(&mut self.called, alloc, *ask)?;
             assert_eq!(rt; (place, lent(&reply)), (place, *wanted));
+            registered::as_many_as_listed(rt, alloc, &self.called)?;
             let reply = asking::served(&mut self.served, alloc, *ask)?;
             assert_eq!(rt; (place, lent(&reply)), (place, *wanted));
+            registered::as_many_as_listed(rt, alloc, &self.served)?;
             let reply = asking::tried(&mut self.tried, alloc, *ask)?;
             assert_eq!(rt; (place, lent(&reply)), (place, *wanted));
+            registered::as_many_as_listed(rt, alloc, &self.tried)?;
         }
         Ok(())
     }

@@ -6,6 +6,7 @@ mod exchanges;
 mod listing;
 mod openers;
 mod opening;
+mod registered;
 mod running;
 mod starts;
 
@@ -113,6 +114,7 @@ impl Pair {
             let reply = asking::called(&mut self.called, alloc, *ask)?;
             let told = lent(&reply);
             assert_eq!(rt; (place, &told), (place, wanted));
+            registered::as_many_as_listed(rt, alloc, &self.called)?;
             commands.push(asking::command(alloc, *ask)?)?;
         }
         let mut replies = Vec::new(alloc);
@@ -126,6 +128,7 @@ impl Pair {
             assert_eq!(rt; (place, &told), (place, wanted));
         }
         assert_eq!(rt; self.ran.is_closed(), self.called.is_closed());
+        registered::as_many_as_listed(rt, alloc, &self.ran)?;
         Ok(())
     }
 }

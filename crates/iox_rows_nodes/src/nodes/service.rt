@@ -60,7 +60,7 @@ pub(super) fn new(
         user_part: PART,
         element_part: PART,
     };
-    TheService::new(alloc, settings, id, asked, shape, shape)
+    TheService::new(alloc, 7, settings, id, asked, shape, shape)
 }
 
 /// A service whose first node has the id 1 0 0 0.

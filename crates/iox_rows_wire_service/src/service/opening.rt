@@ -6,7 +6,7 @@ use iceoryx2_wire::{AttributeKey, AttributeValue, AttributeVerificationError, Re
 use std::test::Fail;
 
 /// The refusal that names a pair.
-fn pair_missing(key: &str, value: &str) -> Result<TheRefusal, Fail> {
+pub(super) fn pair_missing(key: &str, value: &str) -> Result<TheRefusal, Fail> {
     let (key, value) = (AttributeKey::new(key)?, AttributeValue::new(value)?);
     let cause = AttributeVerificationError::IncompatibleAttribute(key, value);
     Ok(Refusal::IncompatibleAttributes(cause))
