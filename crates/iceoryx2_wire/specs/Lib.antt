@@ -33,6 +33,38 @@ pub use Rattle.iox_service_laws.specs.Gone
 pub use Rattle.iox_service_laws.specs.Asked
 pub use Rattle.iox_openers.specs.declared.message_types.MessageTypes
 pub use Rattle.iox_openers.specs.declared.service_description.ServiceDescription
+-- what the laws of a service cite
+pub use Rattle.iox_types.specs.declared.identifiers.system_id.UniqueSystemId
+pub use Rattle.iox_model.specs.Handles
+pub use Rattle.iox_model.specs.Joins
+pub use Rattle.iox_model.specs.Loans
+pub use Rattle.iox_model.specs.Maps
+pub use Rattle.iox_model.specs.Messages as OnWays
+pub use Rattle.iox_model.specs.Names
+pub use Rattle.iox_model.specs.Responses
+pub use Rattle.iox_model.specs.Settings as OfMachine
+pub use Rattle.iox_model.specs.Weaves
+pub use Rattle.iox_model.specs.WholeCalls
+pub use Rattle.iox_model.specs.declared.call.Call
+pub use Rattle.iox_model.specs.declared.command.PortCommand
+pub use Rattle.iox_model.specs.declared.kind.Kind
+pub use Rattle.iox_model.specs.declared.way.RequestState
+pub use Rattle.iox_model.specs.declared.way.Way
+pub use Rattle.iox_service_laws.specs.Histories
+pub use Rattle.iox_service_laws.specs.Deliveries
+pub use Rattle.iox_service_laws.specs.Holdings
+pub use Rattle.iox_service_laws.specs.Lists
+pub use Rattle.iox_service_laws.specs.Orders
+pub use Rattle.iox_service_laws.specs.Origins
+pub use Rattle.iox_service_laws.specs.Resting
+pub use Rattle.iox_service_laws.specs.Traces
+pub use Rattle.iox_service_laws.specs.Finding
+pub use Rattle.iox_service_laws.specs.Cleaning
+pub use Rattle.iox_service_laws.specs.Closing
+pub use Rattle.iox_service_laws.specs.ListingLaws
+pub use Rattle.iox_service_laws.specs.Refusing
+pub use Rattle.iox_service_laws.specs.Ledgers
+pub use Rattle.iox_service_laws.specs.OrderLaws
 -- in reading order: a service with its description, its own messages, and its commands
 pub mod Services
 pub mod OwnTypes
