@@ -126,5 +126,13 @@ int main() {
     for (u64 steps : all) std::printf("%lu\n", steps);
     u64 words = 0;
     for (u64 word : wire.words()) words = words * 31 + word;
-    std::printf("%lu %zu %zu %zu %lu\n", sum, wire.replies().size(), wire.events().size(), wire.words().size(), words);
+    u64 events = 0;
+    for (const Recorded& it : wire.events()) {
+        const Way& way = it.event.way;
+        for (u64 part : {it.node, u64(it.event.kind), way.sender, way.receiver, way.lane, it.event.number}) {
+            events = events * 31 + part;
+        }
+    }
+    std::printf("%lu %zu %zu %zu %lu %lu\n", sum, wire.replies().size(), wire.events().size(), wire.words().size(), words,
+                events);
 }

@@ -1,5 +1,5 @@
 // A wire in C++ as the library has one: the same words at the same places, the same calls with the same accesses in the
-// same order, one access a step, the same replies and, with EVENTS, the same events. Each node is at a place of its call,
+// same order, one access a step, the same replies and the same events. Each node is at a place of its call,
 // and a step is a switch over that place. Ways stand in a table, so none is searched for.
 // It lacks what the rows do not use: loans, writes and sends of their own, questions and hints, more than one element,
 // user headers, nodes that are forgotten, two ports of a node, the last position of a queue, and an answer where memory
@@ -48,7 +48,7 @@ struct Way {
 };
 
 enum class EventKind : std::uint8_t {
-    SeesNoneBack, GetBack, SeesFull, SeesRoom, Open, Deliver, Evict, SeesEmpty, SeesWaiting, Take, GiveBack, Look, Close
+    Deliver, Evict, Take, GiveBack, GetBack, SeesEmpty, SeesWaiting, SeesFull, SeesRoom, SeesNoneBack, Open, Close, Hint, Look
 };
 
 // The number is the serial of the message, that of the request, or what the request state was.
@@ -202,11 +202,7 @@ class Wire {
     }
 
     void tell(const Node& x, EventKind kind, const Way& way, u64 number = 0) {
-#ifdef EVENTS
         events_.push_back({x.number, {kind, way, number}});
-#else
-        (void)x, (void)kind, (void)way, (void)number;
-#endif
     }
     // the same of the message in a slot of the way's sender
     void tell_slot(const Node& x, EventKind kind, const Way& way, u64 slot) {
