@@ -104,7 +104,7 @@ begin_asked a b n call begun woven p r shows =
 begin_passed : (a b : WireData) (n : ℕ) (call : NodeCall) (refusal : WireRefusal) → IsBeginRefusal a n call refusal → IsNamed refusal → IsLeft call a b
     → IsAsked a n call b
 begin_passed a b n call refusal refused named left p r shows =
-    refused_where _ _ (begin_refusal r.last n (Port (call_in p call))) (refusal_in refusal) (refused.named p r shows ∙ named) left
+    refused_where _ _ (begin_refusal r.last n (Port (call_in p call))) (refusal_in refusal) (refused p r shows ∙ named) left
 
 pub begin_told : (a b : WireData) (n : ℕ) (call : NodeCall) (told want : Result (Unit {0}) WireRefusal) → OnOk told (BeginsItsCall a n call b)
     → OnOk told (BeginIsWoven a n call b) → IfErr told (IsBeginRefusal a n call) → OnErr told (IsLeft call a b)
@@ -114,7 +114,7 @@ begin_told a b n call (Err refusal) (Ok none) begun woven refused left named = b
 begin_told a b n call told (Err want) begun woven refused left named = tt
 
 may_begin : (a : WireData) (n : ℕ) (call : NodeCall) (refusal : WireRefusal) → IsBeginRefusal a n call refusal → machine_refusal refusal ≡ None → MayBegin a n call
-may_begin a n call refusal refused left p r shows = refused.named p r shows ∙ left
+may_begin a n call refusal refused left p r shows = refused p r shows ∙ left
 
 pub begin_allowed : (a : WireData) (n : ℕ) (call : NodeCall) (told want : Result (Unit {0}) WireRefusal) → IfErr told (IsBeginRefusal a n call)
     → OnErr want (IfOk told (λ done. ⊥)) → OnErr want (IfErr told (λ refusal. machine_refusal refusal ≡ None)) → OnErr want (MayBegin a n call)
