@@ -14,23 +14,25 @@ const REQUESTS: Way = Way {
     lane: 0,
 };
 
-/// That of the responses on the first lane, where the state of a request is.
-const RESPONSES: Way = Way {
-    sender: 1,
-    receiver: 0,
-    lane: 0,
-};
+/// That of the responses on a lane, where the state of a request is.
+const fn responses(lane: u64) -> Way {
+    Way {
+        sender: 1,
+        receiver: 0,
+        lane,
+    }
+}
 
 const fn by(node: u64, event: Event) -> WireEvent {
     WireEvent { node, event }
 }
 
-/// What a client does to copy a request of that serial, with nothing to get back.
-const fn copy(serial: u64) -> [WireEvent; 4] {
+/// What a client does to copy a request of that serial on that lane, with nothing to get back.
+const fn copy(serial: u64, lane: u64) -> [WireEvent; 4] {
     [
         by(0, Event::SeesNoneBack { way: REQUESTS }),
         by(0, Event::SeesNoneBack { way: REQUESTS }),
-        by(0, Event::Open { way: RESPONSES, id: serial }),
+        by(0, Event::Open { way: responses(lane), id: serial }),
         by(0, Event::Deliver { way: REQUESTS, serial }),
     ]
 }
@@ -57,7 +59,7 @@ fn request_is_copied_and_received(rt: HostRuntime) -> Result<(), Fail> {
     let received = answers(&mut wire, 1, Ask::Receive(1));
     assert_eq!(rt; received, Some(Told::Handle(2)));
     let taken = by(1, Event::Take { way: REQUESTS, serial: 0 });
-    assert!(rt; recorded(&wire, &[&copy(0), &[taken]]));
+    assert!(rt; recorded(&wire, &[&copy(0, 0), &[taken]]));
     Ok(())
 }
 
@@ -78,10 +80,11 @@ fn serial_is_told_and_not_the_slot(rt: HostRuntime) -> Result<(), Fail> {
     let copied = answers(&mut wire, 0, Ask::CopyRequest(0, 11));
     assert_eq!(rt; copied, Some(Told::Handle(6)));
     let none = [by(0, Event::SeesNoneBack { way: REQUESTS }); 4];
-    assert!(rt; recorded(&wire, &[&none, &copy(4)]));
+    assert!(rt; recorded(&wire, &[&none, &copy(4, 0)]));
     Ok(())
 }
 
+/// A lane that is given back is the last of the free ones, so the second request has another.
 #[test]
 fn survivor_takes_what_a_dead_client_pushed(rt: HostRuntime) -> Result<(), Fail> {
     let mut wire = open(rt.alloc(), OVERFLOW)?;
@@ -100,17 +103,18 @@ fn survivor_takes_what_a_dead_client_pushed(rt: HostRuntime) -> Result<(), Fail>
     let received = answers(&mut wire, 1, Ask::Receive(1));
     assert_eq!(rt; received, Some(Told::Handle(3)));
     let none = [by(0, Event::SeesNoneBack { way: REQUESTS }); 4];
-    let gone = [by(0, Event::Close { way: RESPONSES, id: 4 })];
+    let gone = [by(0, Event::Close { way: responses(0), id: 4 })];
     let later = [
         by(1, Event::Take { way: REQUESTS, serial: 4 }),
         by(1, Event::GiveBack { way: REQUESTS, serial: 4 }),
-        by(1, Event::Close { way: RESPONSES, id: 4 }),
+        by(1, Event::Close { way: responses(0), id: 4 }),
         by(1, Event::Take { way: REQUESTS, serial: 5 }),
     ];
-    assert!(rt; recorded(&wire, &[&none, &copy(4), &gone, &copy(5), &later]));
+    assert!(rt; recorded(&wire, &[&none, &copy(4, 0), &gone, &copy(5, 1), &later]));
     Ok(())
 }
 
+/// A lane that is given back is the last of the free ones, so the second request has another.
 #[test]
 fn full_queue_pushes_its_oldest_request_out(rt: HostRuntime) -> Result<(), Fail> {
     let mut wire = open(rt.alloc(), OVERFLOW)?;
@@ -120,11 +124,11 @@ fn full_queue_pushes_its_oldest_request_out(rt: HostRuntime) -> Result<(), Fail>
     assert_eq!(rt; released, Some(Told::Done));
     let copied = answers(&mut wire, 0, Ask::CopyRequest(0, 12));
     assert_eq!(rt; copied, Some(Told::Handle(3)));
-    let gone = [by(0, Event::Close { way: RESPONSES, id: 0 })];
+    let gone = [by(0, Event::Close { way: responses(0), id: 0 })];
     let out = [
         by(0, Event::Evict { way: REQUESTS }),
         by(0, Event::GetBack { way: REQUESTS, serial: 0 }),
     ];
-    assert!(rt; recorded(&wire, &[&copy(0), &gone, &copy(1), &out]));
+    assert!(rt; recorded(&wire, &[&copy(0, 0), &gone, &copy(1, 1), &out]));
     Ok(())
 }
