@@ -32,8 +32,20 @@ const fn copy(serial: u64, lane: u64) -> [WireEvent; 4] {
     [
         by(0, Event::SeesNoneBack { way: REQUESTS }),
         by(0, Event::SeesNoneBack { way: REQUESTS }),
-        by(0, Event::Open { way: responses(lane), id: serial }),
-        by(0, Event::Deliver { way: REQUESTS, serial }),
+        by(
+            0,
+            Event::Open {
+                way: responses(lane),
+                id: serial,
+            },
+        ),
+        by(
+            0,
+            Event::Deliver {
+                way: REQUESTS,
+                serial,
+            },
+        ),
     ]
 }
 
@@ -58,7 +70,13 @@ fn request_is_copied_and_received(rt: HostRuntime) -> Result<(), Fail> {
     assert_eq!(rt; copied, Some(Told::Handle(2)));
     let received = answers(&mut wire, 1, Ask::Receive(1));
     assert_eq!(rt; received, Some(Told::Handle(2)));
-    let taken = by(1, Event::Take { way: REQUESTS, serial: 0 });
+    let taken = by(
+        1,
+        Event::Take {
+            way: REQUESTS,
+            serial: 0,
+        },
+    );
     assert!(rt; recorded(&wire, &[&copy(0, 0), &[taken]]));
     Ok(())
 }
@@ -103,12 +121,42 @@ fn survivor_takes_what_a_dead_client_pushed(rt: HostRuntime) -> Result<(), Fail>
     let received = answers(&mut wire, 1, Ask::Receive(1));
     assert_eq!(rt; received, Some(Told::Handle(3)));
     let none = [by(0, Event::SeesNoneBack { way: REQUESTS }); 4];
-    let gone = [by(0, Event::Close { way: responses(0), id: 4 })];
+    let gone = [by(
+        0,
+        Event::Close {
+            way: responses(0),
+            id: 4,
+        },
+    )];
     let later = [
-        by(1, Event::Take { way: REQUESTS, serial: 4 }),
-        by(1, Event::GiveBack { way: REQUESTS, serial: 4 }),
-        by(1, Event::Close { way: responses(0), id: 4 }),
-        by(1, Event::Take { way: REQUESTS, serial: 5 }),
+        by(
+            1,
+            Event::Take {
+                way: REQUESTS,
+                serial: 4,
+            },
+        ),
+        by(
+            1,
+            Event::GiveBack {
+                way: REQUESTS,
+                serial: 4,
+            },
+        ),
+        by(
+            1,
+            Event::Close {
+                way: responses(0),
+                id: 4,
+            },
+        ),
+        by(
+            1,
+            Event::Take {
+                way: REQUESTS,
+                serial: 5,
+            },
+        ),
     ];
     assert!(rt; recorded(&wire, &[&none, &copy(4, 0), &gone, &copy(5, 1), &later]));
     Ok(())
@@ -124,10 +172,22 @@ fn full_queue_pushes_its_oldest_request_out(rt: HostRuntime) -> Result<(), Fail>
     assert_eq!(rt; released, Some(Told::Done));
     let copied = answers(&mut wire, 0, Ask::CopyRequest(0, 12));
     assert_eq!(rt; copied, Some(Told::Handle(3)));
-    let gone = [by(0, Event::Close { way: responses(0), id: 0 })];
+    let gone = [by(
+        0,
+        Event::Close {
+            way: responses(0),
+            id: 0,
+        },
+    )];
     let out = [
         by(0, Event::Evict { way: REQUESTS }),
-        by(0, Event::GetBack { way: REQUESTS, serial: 0 }),
+        by(
+            0,
+            Event::GetBack {
+                way: REQUESTS,
+                serial: 0,
+            },
+        ),
     ];
     assert!(rt; recorded(&wire, &[&copy(0, 0), &gone, &copy(1, 1), &out]));
     Ok(())

@@ -83,8 +83,7 @@ go_on-reply-requires-clause-may c =
     let at : node_at c.args.node w.nodes ≡ Some c.index_mut.result.now = there w c.args.node c.in_ok-place.place c.index_mut.result.now first c.index_mut.ensures.value in
     let same : c.index-member.result.now ≡ c.index_mut.result.now = some-is c.index-member.result.now c.index_mut.result.now (sym seen ∙ at) in
     let may = may_access w c.args.node c.in_ok-place.place c.index_mut.result.now first c.index_mut.ensures.value
-    c.self.invariant.shows.0 c.self.invariant.shows.1 c.self.invariant.shows.2 goes (c.self.invariant.kept c.args.node c.index_mut.result.now at) in
-    (
+    c.self.invariant.shows.0 c.self.invariant.shows.1 c.self.invariant.shows.2 goes (c.self.invariant.kept c.args.node c.index_mut.result.now at) in (
       c.self.invariant.shows.0,
       (
         w.words,
