@@ -14,6 +14,7 @@ pub mod Accesses
 pub mod FilledSlots
 pub mod MessageEnds
 pub mod Serials
+pub mod OpenedSerials
 pub mod WireSerials
 pub mod WireStands
 pub mod StepParts

@@ -1,9 +1,9 @@
 -- Desks tell the serials of their slots still, as nodes go on.
-use Rattle.std.specs.Prelude.{◌⊎◌, ◌&&◌, ◌-◌, ◌^◌, find, flat_map, is_some, option_map, replicate, slice_index, slice_set}
+use Rattle.std.specs.Prelude.{◌⊎◌, ◌&&◌, ◌-◌, ◌^◌, find, flat_map, is_some, option_map, slice_index, slice_set}
 use Rattle.std.specs.Option.{option_map_or}
 use Rattle.std.proofs.Common.{◌≡◌, ℕ, ◌+◌, ◌<◌, ◌≤◌, Bool, true, false, if◌then◌else◌, ◌==◌, List, [], ◌∷◌, length, map, Option, Some, None, refl, ap, sym, subst, ◌∙◌, arith, inl, inr, eq-eqb, eqb-true, true≢false}
 use Rattle.std.proofs.lemmas.Bool.{cases_Bool}
-use Rattle.std.proofs.lemmas.List.{length-replicate, length-set, get_or-set_other, get_or-set_same}
+use Rattle.std.proofs.lemmas.List.{length-set, get_or-set_other, get_or-set_same}
 use Rattle.iox_model.specs.Commands.{WireCall}
 use Rattle.iox_model.specs.Handles.{is_received, is_request_loan}
 use Rattle.iox_model.specs.Maps.{has_number, put_at}
@@ -12,7 +12,6 @@ use Rattle.iox_model.specs.Peers.{ports_of_node}
 use Rattle.iox_model.specs.declared.way.RequestState.TheVariants.{Closed}
 use Rattle.iox_laws.proofs.WeaveLaws.CallLaws.{eqb-flip}
 use Rattle.iox_laws.proofs.WeaveLaws.MapLemmas.{either, eqb-refl}
-use Rattle.iox_laws.proofs.WeaveLedger.Lists.{among-filter, among-number, number-among}
 use Rattle.iox_wire_calls.specs.Begins.{begin}
 use Rattle.iox_wire_calls.specs.CallRefusal.{CallRefusal}
 use Rattle.iox_wire_calls.specs.Desk.{Desk}
@@ -29,7 +28,6 @@ use Rattle.iox_wire_calls.specs.Local.TheVariants.{LendStores}
 use Rattle.iox_wire_calls.specs.MomentsOf.{Pools}
 use Rattle.iox_wire_calls.specs.NewLoan.{NewLoan}
 use Rattle.iox_wire_calls.specs.NewLoans.{entry_in, message_in}
-use Rattle.iox_wire_calls.specs.Openings.{opened_desk, opened_seat, ports_on}
 use Rattle.iox_wire_calls.specs.Seat.{Seat}
 use Rattle.iox_wire_calls.specs.Settlements as settle
 use Rattle.iox_wire_calls.specs.SlotsKnown.{IsPortOfSeat}
@@ -39,7 +37,6 @@ use Rattle.iox_wire_calls.specs.WholeSteps.{held_closed, held_next}
 use Rattle.iox_wire_calls.specs.Writes.{is_slot_of, with_payload}
 use Rattle.iox_wire_calls.proofs.Follows.{accesses_follow}
 use Rattle.iox_wire_calls.proofs.LaneEnds.{message_of_end}
-use Rattle.iox_wire_calls.proofs.OpenedDesks.{desk_there}
 use Rattle.iox_wire_calls.proofs.OwnPorts.{both}
 use Rattle.iox_wire_calls.proofs.PlaceCourses.{Leaves, desks_stay}
 use Rattle.iox_wire_calls.proofs.SlotsFollow.{held_picked}
@@ -388,20 +385,3 @@ module _ (p : Setting) (held new : Pools) (x y : Seat) (o : NewLoan) (slot : ℕ
     each = λ port mine. ap length (lists port) ∙ length_of (port == o.port) (serials_at x port) ∙ tells.each port (home port mine);
     told = λ port j mine low small. ap (λ ks. slice_index ks j) (lists port) ∙ here port j mine low small (port == o.port) refl (slot == j) refl;
   }
-
--- ---- an opening
-
-pub opened_tells : (p : Setting) (held : Pools) (n : ℕ) → ((port slot : ℕ) → 2 ^ 64 ≤ (held port slot).serial) → TellsSerials p held (opened_seat p n)
-opened_tells p held n none = record {
-  each = λ port mine.
-      ap (λ o. length (option_map_or serials_told o [])) (desk_there p (ports_on p n) port ∙ ap (λ b. if b then Some (opened_desk p port) else None) (on port mine))
-      ∙ length-replicate (p.port port).pool 0;
-  told = λ port slot mine low small. absurd (never (held port slot).serial (none port slot) small);
-}
-  where
-    never : (k : ℕ) → 2 ^ 64 ≤ k → k < 2 ^ 64 → ⊥
-    never k far small = omega (arith, far, small)
-
-    on : (port : ℕ) → IsPortOfSeat p (opened_seat p n) port → has_number port (ports_on p n) ≡ true
-    on port mine =
-        among-number port (ports_on p n) (among-filter (λ k. p.layout.owner k == n) port p.layout.sizes.ports (number-among port p.layout.sizes.ports mine.0) (eq-eqb (p.layout.owner port) n mine.1))

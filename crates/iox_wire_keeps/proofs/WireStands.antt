@@ -19,7 +19,7 @@ use Rattle.iox_wire_calls.specs.Stands.{Stands, seats_of}
 use Rattle.iox_word_map.specs.WordMaps.{total_words}
 use Rattle.iox_wire_calls.specs.Openings.{AgreesWith, opened_seat}
 use Rattle.iox_wire_keeps.proofs.Bounds.{opened_wires_are_bound}
-use Rattle.iox_wire_keeps.proofs.Serials.{opened_tells}
+use Rattle.iox_wire_keeps.proofs.OpenedSerials.{opened_tells}
 use Rattle.iox_wire_keeps.specs.Serials.{TellsSerials}
 use Rattle.iox_wire_keeps.proofs.Stored.{deaths_leave_slots, opened_slots_hold_messages}
 use Rattle.iox_wire_calls.specs.Shows.{programs_of}
