@@ -6,6 +6,7 @@ use super::{Ask, Pair, TheService, Told};
 use iceoryx2_wire::{CallbackProgression, Refusal};
 use std::alloc::{AllocError, Global};
 use std::process::Abort;
+use std::slice::from_ref;
 use std::test::Fail;
 
 /// As many nodes are registered as are listed, and the register is locked if the service is closed.
@@ -49,12 +50,12 @@ fn plays(
     rt: &impl Abort,
     alloc: Global,
     nodes: u64,
-    script: &[(Ask<'_>, Told<'_>, &[u32])],
+    script: &[((Ask<'_>, Told<'_>), &[u32])],
 ) -> Result<(), Fail> {
     let mut pair = Pair::new(alloc, with_nodes(nodes))?;
     registered(rt, &pair.called, &[1]);
-    for (ask, told, wanted) in script {
-        pair.plays(rt, alloc, &[(*ask, *told)])?;
+    for (row, wanted) in script {
+        pair.plays(rt, alloc, from_ref(row))?;
         registered(rt, &pair.called, wanted);
         registered(rt, &pair.ran, wanted);
     }
@@ -72,17 +73,17 @@ fn a_refused_open_registers_nobody(rt: HostRuntime) -> Result<(), Fail> {
     let closed = Told::Refused(Refusal::MarkedForDestruction);
     let invalid = Told::Refused(Refusal::InvalidNodeId);
     let used = Told::Refused(Refusal::NodeIdInUse);
-    let script: [(Ask<'_>, Told<'_>, &[u32]); 10] = [
-        (Ask::Open(0, &fits), invalid, &[1]),
-        (Ask::Open(1, &fits), used, &[1]),
-        (Ask::Open(2, &both), requests, &[1]),
-        (Ask::Open(2, &responses), other, &[1]),
-        (Ask::Open(2, &unfit), missing, &[1]),
-        (Ask::Open(2, &fits), Told::Node(1), &[1, 2]),
-        (Ask::Open(3, &fits), full, &[1, 2]),
-        (Ask::Leave(0), Told::Done, &[2]),
-        (Ask::Leave(1), Told::Done, &[]),
-        (Ask::Open(3, &fits), closed, &[]),
+    let script: [((Ask<'_>, Told<'_>), &[u32]); 10] = [
+        ((Ask::Open(0, &fits), invalid), &[1]),
+        ((Ask::Open(1, &fits), used), &[1]),
+        ((Ask::Open(2, &both), requests), &[1]),
+        ((Ask::Open(2, &responses), other), &[1]),
+        ((Ask::Open(2, &unfit), missing), &[1]),
+        ((Ask::Open(2, &fits), Told::Node(1)), &[1, 2]),
+        ((Ask::Open(3, &fits), full), &[1, 2]),
+        ((Ask::Leave(0), Told::Done), &[2]),
+        ((Ask::Leave(1), Told::Done), &[]),
+        ((Ask::Open(3, &fits), closed), &[]),
     ];
     plays(&rt, rt.alloc(), 2, &script)
 }
@@ -90,17 +91,17 @@ fn a_refused_open_registers_nobody(rt: HostRuntime) -> Result<(), Fail> {
 #[test]
 fn who_leaves_or_is_cleaned_up_is_deregistered(rt: HostRuntime) -> Result<(), Fail> {
     let fits = fit()?;
-    let script: [(Ask<'_>, Told<'_>, &[u32]); 8] = [
-        (Ask::Open(2, &fits), Told::Node(1), &[1, 2]),
-        (Ask::Open(3, &fits), Told::Node(2), &[1, 2, 3]),
-        (Ask::Open(4, &fits), Told::Node(3), &[1, 2, 3, 4]),
-        (Ask::Leave(1), Told::Done, &[1, 3, 4]),
+    let script: [((Ask<'_>, Told<'_>), &[u32]); 8] = [
+        ((Ask::Open(2, &fits), Told::Node(1)), &[1, 2]),
+        ((Ask::Open(3, &fits), Told::Node(2)), &[1, 2, 3]),
+        ((Ask::Open(4, &fits), Told::Node(3)), &[1, 2, 3, 4]),
+        ((Ask::Leave(1), Told::Done), &[1, 3, 4]),
         // The dead are registered until their cleanup.
-        (Ask::Die(3), Told::Done, &[1, 3, 4]),
-        (Ask::Cleanup(3), Told::Done, &[1, 3]),
+        ((Ask::Die(3), Told::Done), &[1, 3, 4]),
+        ((Ask::Cleanup(3), Told::Done), &[1, 3]),
         // An id that is free again is registered again.
-        (Ask::Open(4, &fits), Told::Node(4), &[1, 3, 4]),
-        (Ask::Leave(4), Told::Done, &[1, 3]),
+        ((Ask::Open(4, &fits), Told::Node(4)), &[1, 3, 4]),
+        ((Ask::Leave(4), Told::Done), &[1, 3]),
     ];
     plays(&rt, rt.alloc(), 20, &script)
 }
@@ -108,10 +109,10 @@ fn who_leaves_or_is_cleaned_up_is_deregistered(rt: HostRuntime) -> Result<(), Fa
 #[test]
 fn ids_that_differ_in_one_half_are_deregistered_alone(rt: HostRuntime) -> Result<(), Fail> {
     let fits = fit()?;
-    let script: [(Ask<'_>, Told<'_>, &[u32]); 3] = [
-        (Ask::Open(2, &fits), Told::Node(1), &[1, 2]),
-        (Ask::Die(1), Told::Done, &[1, 2]),
-        (Ask::Cleanup(1), Told::Done, &[1]),
+    let script: [((Ask<'_>, Told<'_>), &[u32]); 3] = [
+        ((Ask::Open(2, &fits), Told::Node(1)), &[1, 2]),
+        ((Ask::Die(1), Told::Done), &[1, 2]),
+        ((Ask::Cleanup(1), Told::Done), &[1]),
     ];
     plays(&rt, rt.alloc(), 20, &script)
 }
@@ -122,11 +123,11 @@ fn the_last_that_goes_locks_the_register(rt: HostRuntime) -> Result<(), Fail> {
     let fits = fit()?;
     let full = Told::Refused(Refusal::ExceedsMaxNumberOfNodes);
     let closed = Told::Refused(Refusal::MarkedForDestruction);
-    let script: [(Ask<'_>, Told<'_>, &[u32]); 4] = [
-        (Ask::Open(2, &fits), full, &[1]),
-        (Ask::Die(0), Told::Done, &[1]),
-        (Ask::Cleanup(0), Told::Done, &[]),
-        (Ask::Open(2, &fits), closed, &[]),
+    let script: [((Ask<'_>, Told<'_>), &[u32]); 4] = [
+        ((Ask::Open(2, &fits), full), &[1]),
+        ((Ask::Die(0), Told::Done), &[1]),
+        ((Ask::Cleanup(0), Told::Done), &[]),
+        ((Ask::Open(2, &fits), closed), &[]),
     ];
     plays(&rt, rt.alloc(), 0, &script)
 }
