@@ -22,7 +22,7 @@ use Rattle.iox_wire.specs.declared.entry.WireEntry.TheVariants.{Begin, Die, Step
 -- ---- what an entry does to the wire
 
 -- In each run that the wire shows: the node begins the call, and the run goes on by that; where the
--- machine refuses the call, nothing changes.
+-- machine refuses the call, the wire is as a refused begin leaves it.
 abbrev pub IsAsked : WireData → ℕ → NodeCall → WireData → Type 0
 IsAsked old node call new =
     (p : Setting) (r : Run) → Shows p old r → let asked = Port (call_in p call) in

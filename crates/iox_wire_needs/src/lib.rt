@@ -19,7 +19,8 @@ pub fn nodes_may_count_more()
     ensures { NodesMayCountMore }
 {}
 
-/// The slot that a call has is one of a pool, and so is a lane that a header tells.
+/// The slot that a call has is one of a pool. A lane that a header tells is one of its client, and
+/// so is that of a request in the making.
 pub fn places_are_in_pools()
     ensures { PlacesAreInPools }
 {}

@@ -12,22 +12,19 @@ use Rattle.iox_model.specs.Schedules.{events_of}
 use Rattle.iox_model.specs.Weaves.{Begins, World, begin_refusal, miscalled}
 use Rattle.iox_steps.specs.Sites.{last_position}
 use Rattle.iox_wire_nodes.specs.Aims.{IsAimed}
-use Rattle.iox_wire_nodes.specs.Local.{Local}
-use Rattle.iox_wire_nodes.specs.LocalsBegins.{begin, is_busy, misnamed_call, refusal_at}
+use Rattle.iox_wire_nodes.specs.LocalsBegins.{begin, refusal_at}
 use Rattle.iox_wire_nodes.specs.Nodes.{seat_in}
 use Rattle.iox_wire_nodes.specs.Seat.{Seat}
 use Rattle.iox_wire_nodes.specs.Tables.{Setting}
-use Rattle.iox_wire_needs.specs.Local.TheVariants.{ReleaseExchanges, ReleaseLooks}
-use Rattle.iox_wire_needs.specs.Aside.{shown_at}
 use Rattle.iox_wire_needs.specs.Readiness.{choice_for}
 use Rattle.iox_wire_needs.specs.Openings.{opened_seat}
 use Rattle.iox_wire_needs.specs.MessageBegins.{WordsAreWhole}
 use Rattle.iox_wire_needs.specs.Runs.{Asked, GoesOnBy, Run, Said, history}
-use Rattle.iox_wire_needs.specs.Stands.{Player, seats_of}
+use Rattle.iox_wire_needs.specs.Stands.{Player}
 use Rattle.iox_wire_needs.specs.WireStands.{WireStands}
 use Rattle.iox_wire_needs.specs.Places.{InPools}
 use Rattle.iox_wire_needs.proofs.Places.{places_are_in_pools}
-use Rattle.iox_wire_needs.proofs.BeginBeats.{refusals_are_the_machines}
+use Rattle.iox_wire_needs.proofs.OwnBegins.{refused_by_tables}
 use Rattle.iox_wire_needs.proofs.BeginWhole.{begun_wires_stand}
 use Rattle.iox_wire_weaves.specs.Asking.{BeginsCall, call_refusal}
 use Rattle.iox_wire_weaves.specs.declared.refusal.WireRefusal.{WireRefusal}
@@ -41,29 +38,12 @@ use Rattle.iox_wire_weaves.proofs.PortsElsewhere.{beat_leaves, tells_same}
 
 -- ---- refusals
 
-or_none : {A : Type 0} (o : Option A) → or_else o None ≡ o
-or_none None = refl
-or_none (Some a) = refl
-
--- a node that is shown otherwise has a call under way, and is shown with one
-refused_alike : (p : Setting) (x : Seat) (call : WireCall) (local : Local) → x.local ≡ local → refusal_at p (shown_at p x local) call ≡ refusal_at p x call
-refused_alike p x call (ReleaseLooks e) is = sym (ap (λ l. or_else (refused_if (is_busy l) refusals.Busy) (misnamed_call p x call)) is)
-refused_alike p x call (ReleaseExchanges e old) is = sym (ap (λ l. or_else (refused_if (is_busy l) refusals.Busy) (misnamed_call p x call)) is)
-refused_alike p x call local is = refl
-
 module _ (p : Setting) (wire : WireData) (r : Run) (n : ℕ) (call : Call) (shows : Shows p wire r) where
   abbrev own : Seat
   own = seat_of p wire.nodes n
 
-  abbrev z : Seat
-  z = seats_of p (players_of p wire.nodes r) n
-
   by_tables : not_living r.last.state n ≡ None → begin_refusal r.last n (Port call) ≡ refusal_at p own (Port call)
-  by_tables lives =
-      ap (λ k. begin_refusal r.last k (Port call)) (sym (shows.stands.stands.shows.node n))
-      ∙ refusals_are_the_machines p shows.stands.stands.held r.last z (Port call) (shows.stands.stands.shows.counts n lives) (shows.stands.stands.shows.doing n lives)
-      ∙ ap (λ o. or_else o (or_else (refusal_at p z (Port call)) None)) (ap (not_living r.last.state) (shows.stands.stands.shows.node n) ∙ lives)
-      ∙ or_none (refusal_at p z (Port call)) ∙ refused_alike p own (Port call) own.local refl
+  by_tables lives = refused_by_tables p wire.words (players_of p wire.nodes r) r n call shows.stands lives
 
   by_node : (o : Option WireRefusal) → living_refusal wire.nodes n ≡ o → begin_refusal r.last n (Port call) ≡ call_refusal p wire n call
   by_node None at =
