@@ -22,6 +22,8 @@ mod lists;
 #[cfg(test)]
 mod play;
 #[cfg(test)]
+mod replies;
+#[cfg(test)]
 mod rows;
 #[cfg(test)]
 mod schedules;

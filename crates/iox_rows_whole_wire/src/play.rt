@@ -139,19 +139,19 @@ fn word_read(words: Option<&[u64]>) -> Told {
 }
 
 /// What a call that was asked of one port or handle answers.
-fn answered(wire: &Wire, node: u64, reply: SeatReply) -> Told {
+fn answered(reply: SeatReply, words: Option<&[u64]>) -> Told {
     match reply {
         SeatReply::Done => Told::Done,
         SeatReply::Answer(answer) => Told::Answer(answer),
-        SeatReply::Words => word_read(wire.words_read(node)),
+        SeatReply::Words => word_read(words),
         SeatReply::Refused(refused) => refusal(refused),
     }
 }
 
-/// What that reply says.
-pub(super) fn answer(wire: &Wire, node: u64, reply: NodeReply) -> Told {
+/// What that reply says, where a read has these words.
+pub(super) fn what_is_told(reply: NodeReply, words: Option<&[u64]>) -> Told {
     match reply {
-        NodeReply::OfSeat(reply) => answered(wire, node, reply),
+        NodeReply::OfSeat(reply) => answered(reply, words),
         NodeReply::OfReceive(ReceiveReply::Nothing) => Told::Nothing,
         NodeReply::OfReceive(ReceiveReply::ExceedsMaxBorrows) => Told::ExceedsMaxBorrows,
         NodeReply::OfReceive(ReceiveReply::Handle(number)) => Told::Handle(number),
@@ -163,6 +163,11 @@ pub(super) fn answer(wire: &Wire, node: u64, reply: NodeReply) -> Told {
         NodeReply::OfResponseCopy(ResponseCopyReply::OfLoan(reply)) => lent(reply),
         NodeReply::OfResponseCopy(ResponseCopyReply::OfSend(reply)) => responded(reply),
     }
+}
+
+/// What that reply of the node says.
+pub(super) fn answer(wire: &Wire, node: u64, reply: NodeReply) -> Told {
+    what_is_told(reply, wire.words_read(node))
 }
 
 /// The node begins to write these words.

@@ -6,7 +6,7 @@ use crate::word_places::{CLIENT, SERVER, all_ones};
 use iox_model::kind::Kind;
 use iox_steps::Access;
 use iox_wire_nodes::{
-    Counts, Desks, Entry, ReceiveReply, Receiving, SeatReply, StoredSeat, WordMap,
+    Counts, Desks, Entry, Lists, ReceiveReply, Receiving, SeatReply, StoredSeat, WordMap,
     begin_request_receive,
 };
 use std::alloc::Global;
@@ -94,7 +94,7 @@ fn receive(
     }
     let mut seat = node(alloc)?;
     let mut receiving = Receiving::new(alloc);
-    let mut sources = Vec::new(alloc);
+    let mut lists = Lists::new(alloc, &map)?;
     begin_request_receive(
         &map,
         &seat,
@@ -102,7 +102,7 @@ fn receive(
         1,
         fire_and_forget,
         2,
-        &mut sources,
+        &mut lists.sources,
     )?;
     Ok(received(&mut receiving, &mut seat, words))
 }

@@ -4,7 +4,7 @@ ghost use Rattle.std.specs.Prelude.{◌≡◌};
 use crate::calls_on_words::{REQUESTS, WORDS};
 use crate::word_places::all_ones;
 use iox_steps::Access;
-use iox_wire_nodes::{Counts, Desks, StoredNode, StoredSeat, WordMap};
+use iox_wire_nodes::{Counts, Desks, Lists, StoredNode, StoredSeat, WordMap};
 use std::alloc::Global;
 use std::test::Fail;
 
@@ -17,9 +17,9 @@ fn first_load(alloc: Global) -> Result<Option<usize>, Fail> {
     let counts = Counts::new(Vec::new(alloc));
     let seat = StoredSeat::new(alloc, 1, 4, Desks::new(Vec::new(alloc)), counts)?;
     let mut node = StoredNode::new(alloc, seat);
-    let mut sources = Vec::new(alloc);
+    let mut lists = Lists::new(alloc, &map)?;
     if node
-        .begin_receive_at_port(&map, 1, 1, 1, true, 2, &mut sources)
+        .begin_receive_at_port(&map, 1, 1, 1, true, 2, &mut lists.sources)
         .is_err()
     {
         return Ok(None);

@@ -114,6 +114,8 @@ fn counted(alloc: Global) -> Result<Counts, Fail> {
 
 #[test]
 fn a_way_is_counted(rt: HostRuntime) -> Result<(), Fail> {
-    counted(rt.alloc())?;
+    let counts = counted(rt.alloc())?;
+    assert!(rt; counts.has_as_many(WAY, 1));
+    assert!(rt; !counts.has_as_many(WAY, 2));
     Ok(())
 }

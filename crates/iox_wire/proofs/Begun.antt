@@ -1,7 +1,7 @@
 -- What the begin of a call leads to, and what is left where it is refused.
-use Rattle.std.specs.Prelude.{Err, Ok, OnOk, Result, ◌*◌, ◌%◌, ◌/◌, ◌^◌, if◌then◌else◌, option_map, position}
+use Rattle.std.specs.Prelude.{◌*◌, ◌%◌, ◌/◌, ◌^◌, if◌then◌else◌, option_map, position}
 use Rattle.std.specs.Option.{option_map_or}
-use Rattle.std.proofs.Common.{◌≡◌, ℕ, ◌+◌, ◌-◌, ◌<◌, ◌≤◌, ◌==◌, Bool, true, false, length, get_or, Option, None, Some, refl, ap, sym, subst, ◌∙◌, arith, slice_set, eqb-true, inl, inr}
+use Rattle.std.proofs.Common.{◌≡◌, ℕ, ◌+◌, ◌-◌, ◌<◌, ◌≤◌, ◌==◌, Bool, true, false, length, get_or, Option, None, Some, refl, ap, ap₂, sym, subst, ◌∙◌, arith, slice_set, eqb-true, inl, inr}
 use Rattle.std.proofs.Math.Nat.{div-mul-le_self, mod-eq-sub-div-mul}
 use Rattle.std.proofs.lemmas.Bool.{cases_Bool}
 use Rattle.iox_model.specs.declared.call.WireCall.TheVariants.{Port}
@@ -9,6 +9,8 @@ use Rattle.iox_model.specs.Commands.{WireCall}
 use Rattle.iox_model.specs.Loans.{Choice}
 use Rattle.iox_model.specs.declared.reply.Refusal.TheVariants as refusals
 use Rattle.iox_model.specs.Maps.{or_else, refused_if}
+use Rattle.iox_model.specs.Schedules.{UnderWay}
+use Rattle.iox_model.specs.WireCalls.{in_wire_words}
 use Rattle.iox_model.specs.Settings.{shape_of}
 use Rattle.iox_model.specs.Weaves.{Begins, begin_refusal}
 use Rattle.iox_laws.proofs.WeaveLedger.Truths.{none-some}
@@ -21,7 +23,7 @@ use Rattle.iox_wire_weaves.specs.Calls.{call_in, may_add_handle}
 use Rattle.iox_wire_weaves.specs.Copying.{CopyGoesOn}
 use Rattle.iox_wire_weaves.specs.Counts.{IsTidy}
 use Rattle.iox_wire_weaves.specs.HandleCall.TheVariants as handle_calls
-use Rattle.iox_wire_weaves.specs.Laws.{Replaces}
+use Rattle.iox_wire_weaves.specs.Laws.{LivesAs, Replaces}
 use Rattle.iox_wire_weaves.specs.Lendings.{next_handle}
 use Rattle.iox_wire_weaves.specs.Lends.{MayLend}
 use Rattle.iox_wire_weaves.specs.Local.{Local}
@@ -32,6 +34,7 @@ use Rattle.iox_wire_weaves.specs.NodeError.{NodeError}
 use Rattle.iox_wire_weaves.specs.Nodes.{Node, seat_at, seat_in}
 use Rattle.iox_wire_weaves.specs.NodesBegins.{AddsHandle, IsLeftBy, IsUnchanged, IsUnderWay, MayBegin, node_refusal}
 use Rattle.iox_wire_weaves.specs.Openings.{opened_seat}
+use Rattle.iox_wire_weaves.specs.Replies.{call_within, most_words}
 use Rattle.iox_wire_weaves.specs.Runs.{GoesOnBy, Run}
 use Rattle.iox_wire_weaves.specs.Seat.{Seat}
 use Rattle.iox_wire_weaves.specs.Seats.{Placed}
@@ -46,13 +49,14 @@ use Rattle.iox_wire_weaves.specs.WireStands.{WireStands}
 use Rattle.iox_wire_weaves.specs.WireTerms.{WireTerms}
 use Rattle.iox_wire_weaves.specs.declared.refusal.WireRefusal.{WireRefusal}
 use Rattle.iox_wire_weaves.specs.PortCounts.{TellsCounts}
-use Rattle.iox_wire_weaves.specs.Wires.{Shows, WireData, WireNode, living_refusal, machine_refusal, node_at, players_of, refusal_in, seat_of}
+use Rattle.iox_wire_weaves.specs.Wires.{KeepsItsCall, Shows, WireData, WireNode, living_refusal, machine_refusal, node_at, players_of, refusal_in, seat_of}
 use Rattle.iox_wire_weaves.proofs.BeginsShown.{begins_show, refusals_are_shown}
 use Rattle.iox_wire_weaves.proofs.CallLemmas.{left_as_it_was}
 use Rattle.iox_wire_weaves.proofs.HandlesStanding.{handles_stand}
 use Rattle.iox_wire_weaves.proofs.Lookups.{first_none, fun_ext, not_refused, same_living, seat_there}
 use Rattle.iox_wire.specs.Begun.{HasBegun, IsLeft, IsLeftAlone, IsRefusedBy, StaysPut, seen_of}
 use Rattle.iox_wire.specs.Kept.{IsKept, IsShown}
+use Rattle.iox_wire.specs.Replies.{words_call}
 use Rattle.iox_wire.proofs.Accesses.{tells_of_pools}
 use Rattle.iox_wire.proofs.Keeping.{kept_begun, kept_still}
 use Rattle.iox_wire.proofs.MayLend.{may_lend}
@@ -148,19 +152,40 @@ rests_if : (p : Setting) (x : Seat) (call : WireCall) → refusal_at p x call �
 rests_if p x call allowed =
     not_refused (is_busy x.local) refusals.Busy (first_none (refused_if (is_busy x.local) refusals.Busy) (misnamed_call p x call) allowed)
 
--- a node that began a call, with room where that may add a handle
-pub has_begun : (plan : WirePlan) (terms : WireTerms) (old new : WireNode) (call : NodeCall) (told : Result (Unit {0}) NodeError)
+-- a node that began a call, with room where that may add a handle, and keeps it
+pub has_begun : (plan : WirePlan) (terms : WireTerms) (old : WireNode) (call : NodeCall) (events : ℕ) (mid new : WireNode)
     → (p : Setting) × IsSettingWith plan terms p
-    → ((p : Setting) → IsSettingWith plan terms p → OnOk told (IsUnderWay p old.node (Port (call_in p call)) new.node))
-    → OnOk told (AddsHandle new.node.at → may_add_handle call ≡ true) → (may_add_handle call ≡ true → 0 < old.node.seat.room)
+    → ((p : Setting) → IsSettingWith plan terms p → IsUnderWay p old.node (Port (call_in p call)) mid.node)
+    → (AddsHandle mid.node.at → may_add_handle call ≡ true) → (may_add_handle call ≡ true → 0 < old.node.seat.room)
     → (is_busy (seat_in old.node).local ≡ false → 0 < old.node.seat.room → (p : Setting) → IsSettingWith plan terms p → (port : ℕ)
     → MayLend old.node.seat (next_handle p old.node.seat.seat) port)
-    → new.number ≡ old.number → new.alive ≡ old.alive → OnOk told (HasBegun plan terms old call new)
-has_begun plan terms old new call (Ok done) set begun adds room lends number alive =
-    let way : IsUnderWay set.0 old.node (Port (call_in set.0 call)) new.node = begun set.0 set.1 in
+    → mid.number ≡ old.number → LivesAs old mid
+    → new ≡ record mid { call = Some (record { call = call_within mid.longest (words_call call); begun = events }) } → HasBegun plan terms old call events new
+has_begun plan terms old call events mid new set begun adds room lends number lives keeps =
+    let way : IsUnderWay set.0 old.node (Port (call_in set.0 call)) mid.node = begun set.0 set.1 in
     let rests : is_busy (seat_in old.node).local ≡ false = rests_if set.0 (seat_in old.node) (Port (call_in set.0 call)) way.allowed in
-    record { begun = begun; ready = way.ready.may (λ more. lends rests (room (adds more)) set.0 set.1); number = number; alive = alive }
-has_begun plan terms old new call (Err error) set begun adds room lends number alive = tt
+    let same : mid.node ≡ new.node = sym (ap (λ (x : WireNode). x.node) keeps) in
+    record {
+      begun = λ p setting. subst (λ (x : Node). IsUnderWay p old.node (Port (call_in p call)) x) same (begun p setting);
+      ready = subst (λ (x : Node). MayAdd x.at x) same (way.ready.may (λ more. lends rests (room (adds more)) set.0 set.1));
+      number = ap (λ (x : WireNode). x.number) keeps ∙ number;
+      lives = record {
+        alive = ap (λ (x : WireNode). x.alive) keeps ∙ lives.alive;
+        died = ap (λ (x : WireNode). x.died) keeps ∙ lives.died;
+        longest = ap (λ (x : WireNode). x.longest) keeps ∙ lives.longest;
+      };
+      kept = ap (λ (x : WireNode). x.call) keeps ∙ ap (λ k. Some (record { call = call_within k (words_call call); begun = events })) lives.longest;
+    }
+
+-- a call in words is the same in each setting
+call_words : (p : Setting) (call : NodeCall) → words_call call ≡ in_wire_words (Port (call_in p call))
+call_words p (Loan n k) = refl
+call_words p (Write n y) = refl
+call_words p (Send n) = refl
+call_words p (SendCopy n y) = refl
+call_words p (Receive n) = refl
+call_words p (HasRequests n) = refl
+call_words p (Handle n h) = refl
 
 -- a wire has a setting
 pub set_there : (w : WireData) → IsShown w → (p : Setting) × IsSettingWith w.plan w.terms p
@@ -209,18 +234,21 @@ module _ (w : WireData) (n i : ℕ) (d : WireNode) (at : position (λ x. x.numbe
         ∙ ap (λ o. or_else (option_map refusal_in o) (refusal_at p (seat_of p w.nodes n) (Port (call_in p call)))) alive
         ∙ ap (λ s. refusal_at p s (Port (call_in p call))) (seat_there p w.nodes n d there)
 
-    pub begun : (y : WireNode) → living_refusal w.nodes n ≡ None → (seat_in d.node).accesses ≤ most_accesses → HasBegun w.plan w.terms d call y
+    pub begun : (y : WireNode) (events : ℕ) → events ≡ length w.events → living_refusal w.nodes n ≡ None → (seat_in d.node).accesses ≤ most_accesses
+        → HasBegun w.plan w.terms d call events y
         → BeginsCall p w n (Port (call_in p call)) (Now y)
         × (c : Choice) × (after : Run) × GoesOnBy r (Begins n (Port (call_in p call)) c) after × Shows p (Now y) after
-    begun y alive few has =
+    begun y events count alive few has =
         begins_show p w (Now y) r n d y (Port (call_in p call)) shows
-        (own_refusal alive ∙ (has.begun p shows.setting).allowed) (words_are_whole p call) (omega (arith, few)) (replaced n w.nodes i d y at read has.number) has.alive
+        (own_refusal alive ∙ (has.begun p shows.setting).allowed) (words_are_whole p call) (omega (arith, few)) (replaced n w.nodes i d y at read has.number) has.lives
         (has.begun p shows.setting).begun (λ pools. (has.begun p shows.setting).aimed (tells_of_pools p y.node.at (seat_in y.node).local pools)) refl refl refl refl refl
+        (has.kept ∙ ap₂ (λ c k. Some (record { call = call_within d.longest c; begun = k })) (call_words p call) count)
 
-  pub shown_begun : (call : NodeCall) (y : WireNode) → IsShown w → living_refusal w.nodes n ≡ None → HasBegun w.plan w.terms d call y → IsShown (Now y)
-  shown_begun call y shown alive has =
+  pub shown_begun : (call : NodeCall) (y : WireNode) (events : ℕ) → events ≡ length w.events → IsShown w → living_refusal w.nodes n ≡ None
+      → HasBegun w.plan w.terms d call events y → IsShown (Now y)
+  shown_begun call y events count shown alive has =
       let p : Setting = shown.shows.0 in
-      let b = begun p shown.shows.1 shown.shows.2 call y alive (shown.kept n d there).few has in
+      let b = begun p shown.shows.1 shown.shows.2 call y events count alive (shown.kept n d there).few has in
       record {
         shows = (p, b.2, b.4);
         whole = shown.whole;
@@ -237,7 +265,7 @@ module _ (w : WireData) (n i : ℕ) (d : WireNode) (at : position (λ x. x.numbe
 
   -- ---- what is left
 
-  module _ (y : WireNode) (number : y.number ≡ d.number) (alive : y.alive ≡ d.alive) (left : IsUnchanged d.node y.node) where
+  module _ (y : WireNode) (number : y.number ≡ d.number) (lives : LivesAs d y) (kept : y.call ≡ d.call) (left : IsUnchanged d.node y.node) where
     puts : Replaces w.nodes n d y (slice_set w.nodes i y)
     puts = replaced n w.nodes i d y at read number
 
@@ -254,7 +282,7 @@ module _ (w : WireData) (n i : ℕ) (d : WireNode) (at : position (λ x. x.numbe
     shows_left p r shows = record {
       setting = shows.setting;
       stands = subst (λ (f : ℕ → Player). WireStands p w.words f r) (fun_ext (players_same p r)) shows.stands;
-      living = λ m. shows.living m ∙ ap (option_map refusal_in) (sym (same_living w.nodes n d y (slice_set w.nodes i y) puts alive m));
+      living = λ m. shows.living m ∙ ap (option_map refusal_in) (sym (same_living w.nodes n d y (slice_set w.nodes i y) puts lives.alive m));
       aimed = λ m z has. elim (cases_Bool (m == n)) [
         | inl same ↦ (
             let e : Some y ≡ Some z = sym puts.here ∙ sym (ap (λ k. node_at k (slice_set w.nodes i y)) (eqb-true m n same)) ∙ has in
@@ -264,6 +292,17 @@ module _ (w : WireData) (n i : ℕ) (d : WireNode) (at : position (λ x. x.numbe
       ];
       ports = shows.ports;
       counts = λ port has. subst (TellsCounts r.last port) (sym (seats_same p (p.layout.owner port) (p.layout.owner port == n) refl)) (shows.counts port has);
+      calls = λ m z has. elim (cases_Bool (m == n)) [
+        | inl same ↦ (
+            let k : m ≡ n = eqb-true m n same in
+            let e : Some y ≡ Some z = sym puts.here ∙ sym (ap (λ k. node_at k (slice_set w.nodes i y)) k) ∙ has in
+            let own : KeepsItsCall (most_words w.plan) r.beats n d = shows.calls n d there in
+            subst (λ (v : WireNode). KeepsItsCall (most_words w.plan) r.beats m v) (ap (λ o. option_map_or (λ v. v) o z) e)
+            (subst (λ k. KeepsItsCall (most_words w.plan) r.beats k y) (sym k)
+            (record { room = lives.longest ∙ own.room; call = kept ∙ own.call; died = lives.died ∙ own.died }))
+            )
+        | inr other ↦ shows.calls m z (sym (puts.others m other) ∙ has)
+      ];
       replies = shows.replies;
       events = shows.events;
     }
@@ -282,30 +321,37 @@ module _ (w : WireData) (n i : ℕ) (d : WireNode) (at : position (λ x. x.numbe
         ∙ sym (ap (option_map seen_of) there) ∙ sym (ap (λ k. option_map seen_of (node_at k w.nodes)) (eqb-true m n same))
       where
         seen : seen_of y ≡ seen_of d
-        seen = three (λ (a : Bool) (s : Placed) (l : Local). (a, s, l)) alive left.seat (ap (λ (s : Seat). s.local) left.place)
+        seen = three (λ (a : Bool) (s : Placed) (l : Local). (a, s, l)) lives.alive left.seat (ap (λ (s : Seat). s.local) left.place)
     seen_same m false other = ap (option_map seen_of) (puts.others m other)
 
     left_alone : IsLeftAlone w (Now y)
     left_alone = record { words = refl; replies = refl; events = refl; nodes = λ m. seen_same m (m == n) refl; shows = shows_left }
 
   pub shown_refused : (call : NodeCall) (y : WireNode) → StaysPut d call y → IsShown w → IsShown (Now y)
-  shown_refused call y stays shown = shown_left y stays.number stays.alive (left_unchanged call d.node y.node stays.node) shown
+  shown_refused call y stays shown = shown_left y stays.number stays.lives stays.kept (left_unchanged call d.node y.node stays.node) shown
 
-  same_node : (y : WireNode) → y.number ≡ d.number → y.alive ≡ d.alive → y.node ≡ d.node → y ≡ d
-  same_node y number alive node = three (λ (a : ℕ) (b : Bool) (c : Node). record { number = a; alive = b; node = c }) number alive node
+  same_node : (y : WireNode) (call : NodeCall) → StaysPut d call y → y.node ≡ d.node → y ≡ d
+  same_node y call stays node =
+      all (λ (a : ℕ) (b : Bool) (o : Option ℕ) (c : Node) (u : Option UnderWay) (k : ℕ).
+      record { number = a; alive = b; died = o; node = c; call = u; longest = k })
+      stays.number stays.lives.alive stays.lives.died node stays.kept stays.lives.longest
+    where
+      all : {A B C D E F G : Type 0} (f : A → B → C → D → E → F → G) {a a' : A} {b b' : B} {c c' : C} {e e' : D} {g g' : E} {h h' : F}
+          → a ≡ a' → b ≡ b' → c ≡ c' → e ≡ e' → g ≡ g' → h ≡ h' → f a b c e g h ≡ f a' b' c' e' g' h'
+      all f p q r s t u = λ i. f (p i) (q i) (r i) (s i) (t i) (u i)
 
   as_it_was : (y : WireNode) → y ≡ d → Now y ≡ w
   as_it_was y same = ap (λ xs. record w { nodes = xs }) (unchanged_there w.nodes i d y read same)
 
   -- the wire is as it was, but for a copy
   pub left : (call : NodeCall) (y : WireNode) → StaysPut d call y → IsLeft call w (Now y)
-  left (SendCopy k z) y stays = left_alone y stays.number stays.alive stays.node
-  left (Loan k e) y stays = as_it_was y (same_node y stays.number stays.alive stays.node)
-  left (Write k z) y stays = as_it_was y (same_node y stays.number stays.alive stays.node)
-  left (Send k) y stays = as_it_was y (same_node y stays.number stays.alive stays.node)
-  left (Receive k) y stays = as_it_was y (same_node y stays.number stays.alive stays.node)
-  left (HasRequests k) y stays = as_it_was y (same_node y stays.number stays.alive stays.node)
-  left (Handle k h) y stays = as_it_was y (same_node y stays.number stays.alive stays.node)
+  left (SendCopy k z) y stays = left_alone y stays.number stays.lives stays.kept stays.node
+  left (Loan k e) y stays = as_it_was y (same_node y (Loan k e) stays stays.node)
+  left (Write k z) y stays = as_it_was y (same_node y (Write k z) stays stays.node)
+  left (Send k) y stays = as_it_was y (same_node y (Send k) stays stays.node)
+  left (Receive k) y stays = as_it_was y (same_node y (Receive k) stays stays.node)
+  left (HasRequests k) y stays = as_it_was y (same_node y (HasRequests k) stays stays.node)
+  left (Handle k h) y stays = as_it_was y (same_node y (Handle k h) stays stays.node)
 
 -- ---- what is left of a node that stays
 
@@ -313,5 +359,10 @@ pub stays_put : (call : NodeCall) (old new : WireNode) → new ≡ old → Stays
 stays_put call old new same = record {
   node = left_as_it_was call old.node new.node (ap (λ (x : WireNode). x.node) same);
   number = ap (λ (x : WireNode). x.number) same;
-  alive = ap (λ (x : WireNode). x.alive) same;
+  lives = record {
+    alive = ap (λ (x : WireNode). x.alive) same;
+    died = ap (λ (x : WireNode). x.died) same;
+    longest = ap (λ (x : WireNode). x.longest) same;
+  };
+  kept = ap (λ (x : WireNode). x.call) same;
 }

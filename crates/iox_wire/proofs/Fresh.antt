@@ -75,7 +75,7 @@ module _ (plan : WirePlan) (terms : WireTerms) (ns : List ℕ) (wire : WireData)
       terms_are = terms_are;
       words = words;
       nodes_are = λ n. opened_has plan handles ns wire.nodes n nodes;
-      seats = λ n x at. ((one n x at).seat ∙ opened_as_planned plan p is setting n, (one n x at).lives, (one n x at).seated);
+      seats = λ n x at. ((one n x at).seat ∙ opened_as_planned plan p is setting n, (one n x at).lives, (one n x at).seated, (one n x at).rests, (one n x at).longest, (one n x at).undead);
       replies = replies;
       events = events;
     }

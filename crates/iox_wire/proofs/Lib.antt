@@ -3,12 +3,15 @@ pub mod Owners
 pub mod OpenedSeats
 pub mod Members
 pub mod Accesses
-pub mod Replies
+pub mod Recorded
+pub mod KeptWords
+pub mod KeptCalls
 pub mod GoingOn
 pub mod Told
 pub mod Keeping
 pub mod MayLend
 pub mod WireSteps
+pub mod Stepping
 pub mod Begun
 pub mod Fresh
 pub mod Playing

@@ -4,9 +4,8 @@ use Rattle.iox_wire_weaves.specs.Begins.{is_busy}
 use Rattle.iox_wire_weaves.specs.Nodes.{seat_in}
 use Rattle.std.specs.Option.{option_map_or}
 use Rattle.std.proofs.Common.{◌≡◌, ℕ, ◌==◌, true, false, List, ◌++◌, length, get_or, Option, Some, None, refl, ap, ap₂, sym, subst, ◌∙◌, slice_set}
-use Rattle.iox_model.specs.Commands.{Reply}
 use Rattle.iox_model.specs.Maps.{or_else, refused_if}
-use Rattle.iox_model.specs.Schedules.{IsStepOf}
+use Rattle.iox_model.specs.Schedules.{Finished, IsStepOf}
 use Rattle.iox_model.specs.Weaves.{Beat, Dies}
 use Rattle.iox_steps.specs.declared.access.Access.{Access}
 use Rattle.iox_steps.specs.Accesses.{IsWithin, seen_at, words_after}
@@ -19,11 +18,11 @@ use Rattle.iox_wire_weaves.specs.Runs.{GoesOnBy, Run}
 use Rattle.iox_wire_weaves.specs.WholeSteps.{GoesOnWith}
 use Rattle.iox_wire_weaves.specs.declared.refusal.WireRefusal.{WireRefusal}
 use Rattle.iox_wire_weaves.specs.declared.refusal.WireRefusal.TheVariants.{NodeIsDead}
-use Rattle.iox_wire_weaves.specs.Laws.{Replaces, WentOn, progress_of}
+use Rattle.iox_wire_weaves.specs.Laws.{LivesAs, Replaces, WentOn, progress_of}
 use Rattle.iox_model.specs.declared.event.Event.{Event}
 use Rattle.iox_wire_weaves.specs.SlotEvents.{slot_event}
-use Rattle.iox_wire_weaves.specs.Steps.{MakesOneAccess, access_of, answer_of, recorded, rest_refusal, step_refusal}
-use Rattle.iox_wire_weaves.specs.Wires.{Shows, WireData, WireNode, answers_in, living_refusal, node_at, wordless_all}
+use Rattle.iox_wire_weaves.specs.Steps.{MakesOneAccess, access_of, answer_of, call_after, finished_by, recorded, rest_refusal, step_refusal}
+use Rattle.iox_wire_weaves.specs.Wires.{Shows, WireData, WireNode, answers_in, living_refusal, node_at}
 use Rattle.iox_wire_weaves.proofs.DeathsShown.{deaths_show}
 use Rattle.iox_wire_weaves.proofs.Lookups.{living_by, seat_there, steps_on}
 use Rattle.iox_wire_weaves.proofs.StepsShown.{steps_show}
@@ -67,42 +66,48 @@ module _ (w : WireData) (n i : ℕ) (d : WireNode) (at : position (λ x. x.numbe
     pub words_are : words ≡ words_after (access_in p d.node) w.words
     pub event_is : event ≡ slot_event p (seat_in d.node).local (seen_at (access_in p d.node) w.words)
 
-  pub stepped : (p : Setting) (r : Run) (y : WireNode) (reply : Option NodeReply) (words : List ℕ) (event : Option Event) (replies : List (ℕ × Reply)) (events : List (ℕ × Event))
-      → Shows p w r → step_refusal w n ≡ None → Made p reply words event y → y.number ≡ d.number → y.alive ≡ d.alive
-      → replies ≡ w.replies ++ wordless_all (answer_of n (slice_set w.nodes i y) (progress_of reply)) → events ≡ w.events ++ recorded w.plan w.nodes n event
+  -- and is that node, with its call under way as long as that is not over
+  pub record IsAfter (reply : Option NodeReply) (y : WireNode) : Type 0 where
+    pub number : y.number ≡ d.number
+    pub lives : LivesAs d y
+    pub call : y.call ≡ call_after d.call reply
+
+  pub stepped : (p : Setting) (r : Run) (y : WireNode) (reply : Option NodeReply) (words : List ℕ) (event : Option Event) (replies : List Finished) (events : List (ℕ × Event))
+      → Shows p w r → step_refusal w n ≡ None → Made p reply words event y → IsAfter reply y
+      → replies ≡ w.replies ++ finished_by n d y.node.seat.words (length events) reply → events ≡ w.events ++ recorded w.plan w.nodes n event
       → let new : WireData = record { plan = w.plan; terms = w.terms; words = words; nodes = slice_set w.nodes i y; replies = replies; events = events } in
       MakesOneAccess p w n new
       × (bs : List Beat) × (after : Run) × IsStepOf n bs × GoesOnWith r bs after
       × (answers_in bs ≡ answer_of n new.nodes (progress_of reply)) × Shows p new after
-  stepped p r y reply words event replies events shows goes made number alive told noted =
+  stepped p r y reply words event replies events shows goes made is told noted =
       steps_show p w (record { plan = w.plan; terms = w.terms; words = words; nodes = slice_set w.nodes i y; replies = replies; events = events }) r n d y reply shows goes
-      (replaced n w.nodes i d y at read number) alive
+      (replaced n w.nodes i d y at read is.number) is.lives
       (subst (λ (a : Access). WentOn p d.node (seen_at a w.words) reply y.node) (sym (same_access p)) made.gone.went) refl refl
-      (made.words_are ∙ ap (λ a. words_after a w.words) (sym (same_access p))) told
+      (made.words_are ∙ ap (λ a. words_after a w.words) (sym (same_access p))) is.call told
       (noted ∙ ap (λ e. w.events ++ recorded w.plan w.nodes n e)
       (made.event_is ∙ ap₂ (λ (s : Seat) (a : Access). slot_event p s.local (seen_at a w.words)) (sym (seat_there p w.nodes n d there)) (sym (same_access p))))
 
-  pub shown_after : (y : WireNode) (reply : Option NodeReply) (words : List ℕ) (event : Option Event) (replies : List (ℕ × Reply)) (events : List (ℕ × Event))
-      → IsShown w → step_refusal w n ≡ None → ((p : Setting) → MayAccess p d.node w.words → Made p reply words event y) → y.number ≡ d.number → y.alive ≡ d.alive
-      → replies ≡ w.replies ++ wordless_all (answer_of n (slice_set w.nodes i y) (progress_of reply)) → events ≡ w.events ++ recorded w.plan w.nodes n event
+  pub shown_after : (y : WireNode) (reply : Option NodeReply) (words : List ℕ) (event : Option Event) (replies : List Finished) (events : List (ℕ × Event))
+      → IsShown w → step_refusal w n ≡ None → ((p : Setting) → MayAccess p d.node w.words → Made p reply words event y) → IsAfter reply y
+      → replies ≡ w.replies ++ finished_by n d y.node.seat.words (length events) reply → events ≡ w.events ++ recorded w.plan w.nodes n event
       → IsShown (record { plan = w.plan; terms = w.terms; words = words; nodes = slice_set w.nodes i y; replies = replies; events = events })
-  shown_after y reply words event replies events shown goes access number alive told noted =
+  shown_after y reply words event replies events shown goes access is told noted =
       let p : Setting = shown.shows.0 in let r : Run = shown.shows.1 in let shows : Shows p w r = shown.shows.2 in
       let kept : IsKept d.node = shown.kept n d there in
       let made : Made p reply words event y = access p (may_access p r shows goes kept) in
-      let s = stepped p r y reply words event replies events shows goes made number alive told noted in
+      let s = stepped p r y reply words event replies events shows goes made is told noted in
       let rests = steps_on w n d there goes in
       record {
         shows = (p, s.2, s.6);
         whole = shown.whole;
         numbers = shown.numbers;
-        kept = kept_still w.nodes n d y (slice_set w.nodes i y) (replaced n w.nodes i d y at read number) shown.kept
+        kept = kept_still w.nodes n d y (slice_set w.nodes i y) (replaced n w.nodes i d y at read is.number) shown.kept
             (kept_on p d.node y.node (seen_at (access_in p d.node) w.words) reply kept rests.1 rests.2 made.gone.went made.gone.ready);
       }
 
   -- ---- a death
 
-  pub died : (p : Setting) (r : Run) (y : WireNode) → Shows p w r → living_refusal w.nodes n ≡ None → y ≡ record d { alive = false }
+  pub died : (p : Setting) (r : Run) (y : WireNode) → Shows p w r → living_refusal w.nodes n ≡ None → y ≡ record d { alive = false; died = Some (length w.events) }
       → (after : Run) × GoesOnBy r (Dies n) after
       × Shows p (record { plan = w.plan; terms = w.terms; words = w.words; nodes = slice_set w.nodes i y; replies = w.replies; events = w.events }) after
   died p r y shows lives dead =
@@ -110,7 +115,7 @@ module _ (w : WireData) (n i : ℕ) (d : WireNode) (at : position (λ x. x.numbe
       (subst (λ z. Replaces w.nodes n d z (slice_set w.nodes i y)) dead (replaced n w.nodes i d y at read (ap (λ (z : WireNode). z.number) dead)))
       refl refl refl refl refl
 
-  pub shown_dead : (y : WireNode) → IsShown w → living_refusal w.nodes n ≡ None → y ≡ record d { alive = false }
+  pub shown_dead : (y : WireNode) → IsShown w → living_refusal w.nodes n ≡ None → y ≡ record d { alive = false; died = Some (length w.events) }
       → IsShown (record { plan = w.plan; terms = w.terms; words = w.words; nodes = slice_set w.nodes i y; replies = w.replies; events = w.events })
   shown_dead y shown lives dead =
       let s = died shown.shows.0 shown.shows.1 y shown.shows.2 lives dead in (
@@ -123,7 +128,7 @@ module _ (w : WireData) (n i : ℕ) (d : WireNode) (at : position (λ x. x.numbe
       }
       )
 
-  pub lost : (y : WireNode) → y ≡ record d { alive = false }
+  pub lost : (y : WireNode) → y ≡ record d { alive = false; died = Some (length w.events) }
       → Loses w n (record { plan = w.plan; terms = w.terms; words = w.words; nodes = slice_set w.nodes i y; replies = w.replies; events = w.events })
   lost y dead =
       let puts : Replaces w.nodes n d y (slice_set w.nodes i y) = replaced n w.nodes i d y at read (ap (λ (z : WireNode). z.number) dead) in

@@ -1,15 +1,17 @@
 -- How a call begins on a wire, and what is left as it does not.
-use Rattle.std.specs.Prelude.{◌≡◌, ℕ, Bool, option_map}
+use Rattle.std.specs.Prelude.{◌≡◌, ℕ, Bool, Some, option_map}
 use Rattle.iox_model.specs.declared.call.WireCall.TheVariants.{Port}
 use Rattle.iox_wire_weaves.specs.Aims.{MayAdd}
 use Rattle.iox_wire_weaves.specs.Begins.{refusal_at}
 use Rattle.iox_wire_weaves.specs.Calls.{call_in}
+use Rattle.iox_wire_weaves.specs.Laws.{LivesAs}
 use Rattle.iox_wire_weaves.specs.Local.{Local}
 use Rattle.iox_wire_weaves.specs.NodeCall.{NodeCall}
 use Rattle.iox_wire_weaves.specs.NodeCall.TheVariants.{SendCopy}
 use Rattle.iox_wire_weaves.specs.NodeError.{NodeError}
 use Rattle.iox_wire_weaves.specs.Nodes.{seat_in}
 use Rattle.iox_wire_weaves.specs.NodesBegins.{IsLeftBy, IsUnderWay, node_refusal}
+use Rattle.iox_wire_weaves.specs.Replies.{call_within}
 use Rattle.iox_wire_weaves.specs.Runs.{Run}
 use Rattle.iox_wire_weaves.specs.Seats.{Placed}
 use Rattle.iox_wire_weaves.specs.Tables.{Setting}
@@ -17,18 +19,21 @@ use Rattle.iox_wire_weaves.specs.Terms.{IsSettingWith}
 use Rattle.iox_wire_weaves.specs.WirePlan.{WirePlan}
 use Rattle.iox_wire_weaves.specs.WireTerms.{WireTerms}
 use Rattle.iox_wire_weaves.specs.Wires.{Shows, WireData, WireNode, node_at}
+use Rattle.iox_wire.specs.Replies.{words_call}
 
 -- ---- a node
 
--- The node began the call: it is at its first place, knows the places of the words that it accesses,
--- and has room for what the call adds at its end.
+-- The node began the call, after so many events: it is at its first place, knows the places of the words
+-- that it accesses, has room for what the call adds at its end, and keeps the call.
 pub record HasBegun (plan : WirePlan) (terms : WireTerms) (old : WireNode) (call : NodeCall)
-    (new : WireNode) : Type 0 where
+    (events : ℕ) (new : WireNode) : Type 0 where
   pub begun : (p : Setting) → IsSettingWith plan terms p
       → IsUnderWay p old.node (Port (call_in p call)) new.node
   pub ready : MayAdd new.node.at new.node
   pub number : new.number ≡ old.number
-  pub alive : new.alive ≡ old.alive
+  pub lives : LivesAs old new
+  pub kept : new.call
+      ≡ Some (record { call = call_within old.longest (words_call call); begun = events })
 
 -- its own tables tell this why it does not
 abbrev pub IsRefusedBy : WirePlan → WireTerms → WireNode → NodeCall → NodeError → Type 0
@@ -40,7 +45,8 @@ IsRefusedBy plan terms old call error =
 pub record StaysPut (old : WireNode) (call : NodeCall) (new : WireNode) : Type 0 where
   pub node : IsLeftBy call old.node new.node
   pub number : new.number ≡ old.number
-  pub alive : new.alive ≡ old.alive
+  pub lives : LivesAs old new
+  pub kept : new.call ≡ old.call
 
 -- ---- a wire
 

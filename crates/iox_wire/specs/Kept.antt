@@ -10,6 +10,7 @@ use Rattle.iox_wire_weaves.specs.NodeReply.{NodeReply}
 use Rattle.iox_wire_weaves.specs.Aims.{IsAimed, KnowsItsPlace, MayAdd, MayGoOn}
 use Rattle.iox_wire_weaves.specs.Nodes.{Node, seat_in}
 use Rattle.iox_wire_openings.specs.OpenedNodes.{planned_seat}
+use Rattle.iox_wire_weaves.specs.Replies.{most_words}
 use Rattle.iox_wire_weaves.specs.Runs.{Run}
 use Rattle.iox_wire_weaves.specs.WirePlan.{WirePlan}
 use Rattle.iox_wire_weaves.specs.WirePlans.{IsWirePlan}
@@ -66,6 +67,9 @@ pub record IsOpenedNode (plan : WirePlan) (handles number : ℕ) (x : WireNode) 
   pub seat : seat_in x.node ≡ planned_seat plan number
   pub seated : x.node.at ≡ Seats
   pub room : x.node.seat.room ≡ handles
+  pub rests : x.call ≡ None
+  pub undead : x.died ≡ None
+  pub longest : x.longest ≡ most_words plan
 
 -- such are the nodes of these numbers
 abbrev pub AreOpened : WirePlan → (handles : ℕ) → List ℕ → List WireNode → Type 0

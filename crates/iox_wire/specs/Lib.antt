@@ -1,3 +1,5 @@
+-- calls and replies, as a wire keeps them
+pub mod Replies
 -- what a wire keeps to, beside that it shows a run
 pub mod Kept
 -- how a call begins

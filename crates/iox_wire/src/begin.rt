@@ -31,8 +31,10 @@ impl Wire {
         ensures unchanged { OnErr result (IsLeft call.entry self.old self.new) }
     {
         let place = self.living(node)?;
+        let begun = self.events().len();
         let member = &mut self.members[place];
-        let told = member.begin(self.alloc, &self.places, &self.terms, call, &mut self.lists);
+        let lists = &mut self.lists;
+        let told = member.begin(&self.places, &self.terms, call, begun, lists);
         if let Err(error) = told {
             return Err(refusal_of(error));
         }

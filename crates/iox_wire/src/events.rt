@@ -1,6 +1,6 @@
 //! The events that a wire records.
-ghost use Rattle.std.specs.Option.{option_to_list};
-ghost use Rattle.std.specs.Prelude.{◌≡◌, ◌<◌, ◌==◌, IfSome, length, map, position};
+ghost use Rattle.std.specs.Prelude.{◌≡◌, ◌<◌, ◌++◌, ◌==◌, IfSome, length, map, position};
+ghost use Rattle.std.specs.Prelude.{vec_capacity, vec_len};
 ghost use Rattle.iox_wire_weaves.specs.Events.{with_serials};
 ghost use Rattle.iox_wire_weaves.specs.Owners.{serial_of};
 ghost use Rattle.iox_wire_weaves.specs.Steps.{recorded};
@@ -63,22 +63,25 @@ fn named(places: &WordMap, members: &[Member], event: Event) -> Event
     }
 }
 
-/// What the step of a node records, whose access is that event, or none; it names a message by its
-/// slot.
-pub(crate) fn put_serials(
+/// Records that event of the node, if it is one, behind the others; there is room for it. It names
+/// a message by its slot.
+#[inline]
+pub(crate) fn note(
     places: &WordMap,
     members: &[Member],
     node: u64,
     event: Option<Event>,
-) -> Option<WireEvent>
-    ensures { map (λ e. (e.node, e.event)) (option_to_list result)
-        ≡ recorded places.now members.now node event }
+    events: &mut Vec<WireEvent>,
+)
+    requires { vec_len events.old < vec_capacity events.old }
+    ensures { map (λ e. (e.node, e.event)) events.new.items
+        ≡ map (λ e. (e.node, e.event)) events.old.items
+        ++ recorded places.now members.now node event }
 {
-    match event {
-        None => None,
-        Some(event) => Some(WireEvent {
+    if let Some(event) = event {
+        events.push_reserved(WireEvent {
             node,
             event: named(places, members, event),
-        }),
+        });
     }
 }

@@ -7,15 +7,19 @@ mod counts;
 mod entry;
 mod events;
 mod finding;
+mod finished;
 mod member;
 mod opening;
 mod reading;
 mod schedule;
+mod spans;
+mod stored_call;
 pub mod uses;
 mod wire;
 
 pub use entry::WireEntry;
 pub use events::WireEvent;
+pub use finished::{CallUnderWay, FinishedCall, Replies};
 pub use iox_model::event::Event;
 pub use iox_model::way::Way;
 pub use iox_steps::Progress;
@@ -26,4 +30,4 @@ pub use iox_wire_weaves::{
     WordMapNewError,
 };
 pub use opening::is_whole;
-pub use wire::{Answer, Wire};
+pub use wire::Wire;

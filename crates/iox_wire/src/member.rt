@@ -4,38 +4,64 @@ ghost use Rattle.std.specs.Option.{option_map_or};
 
 mod begin;
 mod count;
+mod over;
 
+use crate::stored_call::StoredCall;
 use iox_model::event::Event;
 use iox_steps::{Access, perform};
 use iox_wire_weaves::{NodeReply, StoredNode, WireRefusal};
+use std::alloc::{AllocError, Global};
 use std::marker::Model;
 
 /// How many accesses a node may make.
 const MOST_ACCESSES: u64 = 1 << 56;
 
-/// A node of a wire: its number, whether it lives, and its own part of the wire.
+/// A call under way, without its words, and how many events came before its begin.
+#[derive(Clone, Copy, Debug)]
+struct BegunCall {
+    call: StoredCall,
+    begun: usize,
+}
+
+/// A node of a wire: its number, how many events came before its death, if it is dead, its own part
+/// of the wire, and the call that it has under way.
 #[derive(Drop)]
 pub(crate) struct Member {
     number: u64,
-    alive: bool,
+    died: Option<usize>,
     node: StoredNode,
     // the handles that it has, and those for which it has room
     most: usize,
+    call: Option<BegunCall>,
+    // the words of that call, as far as there is room for them, and for how many that is
+    words: Vec<u64>,
+    longest: usize,
 }
 
 impl Model for Member {
+    ghost use Rattle.std.specs.Prelude.{is_none, option_map, vec_capacity};
+    ghost use Rattle.iox_wire.specs.Replies.{FitsRoom, call_with};
     ghost use Rattle.iox_wire_weaves.specs.Rooms.{HasItsRoom};
     ghost use Rattle.iox_wire_weaves.specs.Wires.{WireNode};
 
     ghost Value = { WireNode };
 
-    ghost view = { λ m. record { number = m.number; alive = m.alive; node = m.node } };
+    ghost view = { λ m. record {
+      number = m.number;
+      alive = is_none m.died;
+      died = m.died;
+      node = m.node;
+      call = option_map
+          (λ c. record { call = call_with m.words.items c.call; begun = c.begun }) m.call;
+      longest = m.longest;
+    } };
 
-    ghost invariant = { λ m. HasItsRoom m.most m.node };
+    ghost invariant = { λ m.
+        HasItsRoom m.most m.node × FitsRoom m.longest m.words.items (vec_capacity m.words) };
 }
 
 impl Member {
-    ghost use Rattle.std.specs.Prelude.{◌≡◌, ◌<◌, ℕ, List, nat_le, true};
+    ghost use Rattle.std.specs.Prelude.{◌≡◌, ◌<◌, ℕ, IfOk, List, None, Some, false, nat_le, true};
     ghost use Rattle.std.specs.Bool.{OnTrue};
     ghost use Rattle.iox_wire_weaves.specs.Begins.{is_busy};
     ghost use Rattle.iox_wire_weaves.specs.Rooms.{HasItsRoom};
@@ -45,19 +71,38 @@ impl Member {
     ghost use Rattle.iox_steps.specs.Accesses.{seen_at, words_after};
     ghost use Rattle.iox_wire_weaves.specs.SlotEvents.{slot_event};
     ghost use Rattle.iox_wire_weaves.specs.Aims.{IsAimed};
+    ghost use Rattle.iox_wire_weaves.specs.Laws.{LivesAs};
     ghost use Rattle.iox_wire.specs.Kept.{FoundThere, HasGoneOn, MayAccess, access_in};
 
-    /// A living node, which has so many handles and room for more together.
-    pub(crate) fn new(number: u64, node: StoredNode, most: usize) -> Member
+    /// A living node, which has so many handles and room for more together, and for so many words
+    /// of a call.
+    pub(crate) fn new(
+        alloc: Global,
+        number: u64,
+        node: StoredNode,
+        most: usize,
+        longest: usize,
+    ) -> Result<Member, AllocError>
         requires { HasItsRoom most node }
-        ensures { result ≡ record { number = number; alive = true; node = node } }
+        ensures { IfOk result (λ member. member ≡ record {
+          number = number;
+          alive = true;
+          died = None;
+          node = node;
+          call = None;
+          longest = longest;
+        }) }
     {
-        Member {
+        let words = Vec::with_capacity(alloc, longest)?;
+        Ok(Member {
             number,
-            alive: true,
+            died: None,
             node,
             most,
-        }
+            call: None,
+            words,
+            longest,
+        })
     }
 
     /// The number of the node.
@@ -73,7 +118,22 @@ impl Member {
     pub(crate) fn is_alive(&self) -> bool
         ensures { result ≡ self.now.alive }
     {
-        self.alive
+        self.died.is_none()
+    }
+
+    /// How many events came before its death, if it died.
+    pub(crate) fn died(&self) -> Option<usize>
+        ensures { result ≡ self.now.died }
+    {
+        self.died
+    }
+
+    /// The most words that it keeps of a call.
+    #[inline]
+    pub(crate) fn longest(&self) -> usize
+        ensures { result ≡ self.now.longest }
+    {
+        self.longest
     }
 
     /// Whether it has room for a handle more.
@@ -83,11 +143,11 @@ impl Member {
         self.node.handles() < self.most
     }
 
-    /// It dies.
-    pub(crate) fn die(&mut self)
-        ensures { self.new ≡ record (self.old) { alive = false } }
+    /// It dies after so many events.
+    pub(crate) fn die(&mut self, events: usize)
+        ensures { self.new ≡ record (self.old) { alive = false; died = Some events } }
     {
-        self.alive = false;
+        self.died = Some(events);
     }
 
     /// The words that its last read loaded.
@@ -98,7 +158,7 @@ impl Member {
     }
 
     /// Why it makes no step, if it lives.
-    #[inline]
+    #[inline(always)]
     pub(crate) fn rest_refusal(&self) -> Option<WireRefusal>
         ensures { result ≡ rest_refusal self.now }
     {
@@ -112,7 +172,7 @@ impl Member {
     }
 
     /// Makes its next access, and tells what that found.
-    #[inline]
+    #[inline(always)]
     pub(crate) fn make_access(&self, words: &mut Vec<u64>) -> u64
         requires { (p : Setting) × MayAccess p self.now.node words.old.items }
         ensures seen { (p : Setting) → MayAccess p self.now.node words.old.items
@@ -125,7 +185,7 @@ impl Member {
     }
 
     /// The event of that access, if it is one. A message is named by its slot.
-    #[inline]
+    #[inline(always)]
     pub(crate) fn event(&self, seen: u64) -> Option<Event>
         ensures { (p : Setting) → IsAimed p self.now.node
             → result ≡ slot_event p (seat_in self.now.node).local seen }
@@ -134,7 +194,7 @@ impl Member {
     }
 
     /// Goes on with what its access found.
-    #[inline]
+    #[inline(always)]
     pub(crate) fn go_on(&mut self, seen: u64) -> Option<NodeReply>
         requires may { (p : Setting) × FoundThere p self.old.node seen }
         requires busy { is_busy (seat_in self.old.node).local ≡ true }
@@ -143,7 +203,8 @@ impl Member {
             → seen ≡ seen_at (access_in p self.old.node) words
             → HasGoneOn p self.old.node words result self.new.node }
         ensures number { self.new.number ≡ self.old.number }
-        ensures alive { self.new.alive ≡ self.old.alive }
+        ensures lives { LivesAs self.old self.new }
+        ensures call { self.new.call ≡ self.old.call }
     {
         self.node.place();
         self.node.go_on(seen)

@@ -4,6 +4,7 @@ ghost use Rattle.std.specs.Prelude.{slice_get};
 ghost use Rattle.iox_model.specs.Maps.{AreDistinct};
 ghost use Rattle.iox_model.specs.declared.kind.Role.{Role};
 ghost use Rattle.iox_wire_weaves.specs.Plans.{IsSlotAt, details_of, port_numbers};
+ghost use Rattle.iox_wire_weaves.specs.Replies.{most_words};
 ghost use Rattle.iox_wire_weaves.specs.Terms.{IsWholePort, messages_of};
 ghost use Rattle.iox_wire_weaves.specs.Wires.{AreWhole};
 ghost use Rattle.iox_wire.specs.Kept.{AreOpened, IsOpenedNode};
@@ -14,18 +15,39 @@ use iox_wire_openings::open_node;
 use iox_wire_weaves::{StoredNode, WirePlan, WireTerms};
 use std::alloc::{AllocError, Global};
 
-/// A node as the wire opens, with room for so many handles.
+/// How many words the longest message takes in a slot of the plan's ports.
+fn longest_message(plan: &WirePlan) -> usize
+    ensures { result ≡ most_words plan.now }
+{
+    let mut most = 0;
+    for port in &plan.ports {
+        if port.slot_words > most {
+            most = port.slot_words;
+        }
+    }
+    most
+}
+
+/// A node as the wire opens, with room for so many handles, and for so many words of a call.
 fn open_member(
     alloc: Global,
     plan: &WirePlan,
     number: u64,
     handles: usize,
+    longest: usize,
 ) -> Result<Member, AllocError>
-    requires { AreDistinct (port_numbers plan.now) }
+    requires apart { AreDistinct (port_numbers plan.now) }
+    requires longest { longest ≡ most_words plan.now }
     ensures { IfOk result (IsOpenedNode plan.now handles number) }
 {
     let seat = open_node(alloc, plan, number, handles)?;
-    Ok(Member::new(number, StoredNode::new(alloc, seat), handles))
+    Member::new(
+        alloc,
+        number,
+        StoredNode::new(alloc, seat),
+        handles,
+        longest,
+    )
 }
 
 /// The nodes of these numbers as the wire opens, each with room for so many handles.
@@ -38,9 +60,10 @@ pub(crate) fn open_members(
     requires { AreDistinct (port_numbers plan.now) }
     ensures { IfOk result (λ members. AreOpened plan.now handles numbers.now members.items) }
 {
+    let longest = longest_message(plan);
     let mut members = Vec::new(alloc);
     for number in numbers {
-        members.push(open_member(alloc, plan, *number, handles)?)?;
+        members.push(open_member(alloc, plan, *number, handles, longest)?)?;
     }
     Ok(members)
 }

@@ -1,7 +1,9 @@
-//! What the nodes of a wire read.
-ghost use Rattle.std.specs.Prelude.{◌≡◌, IfSome, None, Some, option_map};
+//! What the nodes of a wire read, which calls they have under way, and when they died.
+ghost use Rattle.std.specs.Prelude.{◌≡◌, IfSome, None, Some, option_and_then, option_map};
+ghost use Rattle.iox_wire.specs.Replies.{under_way_of};
 ghost use Rattle.iox_wire_weaves.specs.Wires.{node_at};
 
+use crate::finished::CallUnderWay;
 use crate::wire::Wire;
 
 impl Wire {
@@ -13,6 +15,27 @@ impl Wire {
     {
         match self.place(node) {
             Some(place) => Some(self.members[place].words()),
+            None => None,
+        }
+    }
+
+    /// The call that the node of that number has under way, or had as it died, if there is one.
+    pub fn under_way(&self, node: u64) -> Option<CallUnderWay<'_>>
+        ensures { option_map under_way_of result
+            ≡ option_and_then (λ x. x.call) (node_at node self.now.nodes) }
+    {
+        match self.place(node) {
+            Some(place) => self.members[place].under_way(),
+            None => None,
+        }
+    }
+
+    /// How many events came before the death of the node of that number, if it died.
+    pub fn died_after(&self, node: u64) -> Option<usize>
+        ensures { result ≡ option_and_then (λ x. x.died) (node_at node self.now.nodes) }
+    {
+        match self.place(node) {
+            Some(place) => self.members[place].died(),
             None => None,
         }
     }

@@ -1,6 +1,6 @@
 //! Callers of a wire, proved from its clauses alone.
 ghost use Rattle.std.specs.Prelude.{◌≡◌, ◌∷◌, ◌^◌, [], IfErr, IfOk, IsTrue, None, OnErr, OnOk, Some};
-ghost use Rattle.std.specs.Prelude.{true};
+ghost use Rattle.std.specs.Prelude.{map, option_map, slice_get, true};
 ghost use Rattle.iox_wire_weaves.specs.Asking.{BeginIsWoven, BeginsItsCall, IsBeginRefusal};
 ghost use Rattle.iox_wire_weaves.specs.HandleCall.TheVariants.{Release};
 ghost use Rattle.iox_wire_weaves.specs.NodeCall.TheVariants as calls;
@@ -21,8 +21,12 @@ ghost use Rattle.iox_wire_weaves.specs.Wires.{WireNode, living_refusal, node_at}
 ghost use Rattle.iox_wire_weaves.specs.Begins.{is_busy};
 ghost use Rattle.iox_wire_weaves.specs.Nodes.{seat_in};
 ghost use Rattle.iox_wire_weaves.specs.Runs.{Run};
+ghost use Rattle.iox_model.specs.Schedules.{replies_of};
+ghost use Rattle.iox_wire_weaves.specs.Replies.{finished_within, most_words};
+ghost use Rattle.iox_wire.specs.Replies.{finished_of};
 
 use crate::entry::WireEntry;
+use crate::finished::FinishedCall;
 use crate::wire::Wire;
 use iox_steps::Progress;
 use iox_wire_weaves::{
@@ -180,4 +184,12 @@ pub fn handle_goes(wire: &mut Wire, node: u64, number: u64) -> Result<(), WireRe
 {
     let call = HandleCall::Release;
     wire.begin(node, NodeCall::Handle { number, call })
+}
+
+/// The finished call at a place is the one that each run that is shown has there.
+pub fn finished_call(wire: &Wire, place: usize) -> Option<FinishedCall<'_>>
+    ensures { (p : Setting) → (r : Run) → Shows p wire.now r → option_map finished_of result
+        ≡ slice_get (map (finished_within (most_words wire.now.plan)) (replies_of r.beats)) place }
+{
+    wire.replies().get(place)
 }

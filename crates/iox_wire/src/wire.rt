@@ -1,12 +1,12 @@
 //! A wire: the words that nodes share, and the nodes.
-ghost use Rattle.std.specs.Prelude.{◌≡◌, IfOk, option_map, replicate};
+ghost use Rattle.std.specs.Prelude.{◌≡◌, IfOk, replicate};
 ghost use Rattle.iox_wire_weaves.specs.WordMapNewError.TheVariants as new_error;
-ghost use Rattle.iox_wire_weaves.specs.Laws.{progress_of};
 
-use crate::events::{WireEvent, put_serials};
+use crate::events::{WireEvent, note};
+use crate::finished::Replies;
 use crate::member::Member;
 use crate::opening::open_members;
-use iox_steps::{Progress, tell};
+use iox_steps::Progress;
 use iox_wire_weaves::{
     Lists, NodeReply, WirePlan, WireRefusal, WireTerms, WordMap, WordMapNewError,
 };
@@ -19,31 +19,23 @@ const MOST_WORDS: usize = 1 << 63;
 /// As many handles have no numbers.
 const MOST_NUMBERS: u64 = 1 << 63;
 
-/// What a finished call of a node answered. The words of a read are those that its node lends.
-#[derive(Clone, Copy)]
-pub struct Answer {
-    pub node: u64,
-    pub reply: NodeReply,
-}
-
 /// A wire. Its nodes make one access of its words at a time, in any order, and each may die
 /// anywhere in its call.
 #[derive(Drop)]
 pub struct Wire {
-    pub(crate) alloc: Global,
     pub(crate) places: WordMap,
     pub(crate) terms: WireTerms,
     words: Vec<u64>,
     pub(crate) members: Vec<Member>,
-    answers: Vec<Answer>,
+    replies: Replies,
     events: Vec<WireEvent>,
-    // what a begin lists; of no use later
+    // what a begin lists, for which there is room; of no use later
     pub(crate) lists: Lists,
 }
 
 impl Model for Wire {
-    ghost use Rattle.std.specs.Prelude.{map, []};
-    ghost use Rattle.iox_wire_weaves.specs.Nodes.{reply_in};
+    ghost use Rattle.std.specs.Prelude.{map};
+    ghost use Rattle.iox_wire_weaves.specs.ListRooms.{HasRoomFor};
     ghost use Rattle.iox_wire_weaves.specs.Wires.{WireData};
     ghost use Rattle.iox_wire.specs.Kept.{IsShown};
 
@@ -54,29 +46,28 @@ impl Model for Wire {
       terms = w.terms;
       words = w.words.items;
       nodes = w.members.items;
-      replies = map (λ a. (a.node, reply_in [] a.reply)) w.answers.items;
+      replies = w.replies.finished;
       events = map (λ e. (e.node, e.event)) w.events.items;
     } };
 
-    ghost invariant = { λ w. IsShown (record {
+    ghost invariant = { λ w. HasRoomFor w.places w.lists × IsShown (record {
       plan = w.places;
       terms = w.terms;
       words = w.words.items;
       nodes = w.members.items;
-      replies = map (λ a. (a.node, reply_in [] a.reply)) w.answers.items;
+      replies = w.replies.finished;
       events = map (λ e. (e.node, e.event)) w.events.items;
     }) };
 }
 
 impl Wire {
     ghost use Rattle.std.specs.Prelude.{◌≡◌, ◌<◌, IfErr, IfOk, IfSome, None, OnErr, OnOk, Some};
-    ghost use Rattle.std.specs.Prelude.{length, position, ◌==◌, map, []};
+    ghost use Rattle.std.specs.Prelude.{length, position, ◌==◌, map};
     ghost use Rattle.iox_model.specs.States.{State};
     ghost use Rattle.iox_sets.specs.Refusals.{IsRefusal};
     ghost use Rattle.iox_wire_weaves.specs.Plans.{IsPlan};
     ghost use Rattle.iox_wire_weaves.specs.Refusals.{map_refusal};
     ghost use Rattle.iox_wire_weaves.specs.Tables.{Setting};
-    ghost use Rattle.iox_wire_weaves.specs.Nodes.{reply_in};
     ghost use Rattle.iox_wire_weaves.specs.declared.refusal.WireRefusal.TheVariants.{WantOfMemory};
     ghost use Rattle.iox_wire_weaves.specs.Steps.{DeathIsWoven, MakesItsAccess, StepIsWoven};
     ghost use Rattle.iox_wire_weaves.specs.Steps.{step_refusal};
@@ -112,15 +103,15 @@ impl Wire {
         }
         let words = zeros(alloc, total)?;
         let members = open_members(alloc, places.plan(), nodes, handles)?;
+        let lists = Lists::new(alloc, &places)?;
         Ok(Wire {
-            alloc,
             places,
             terms,
             words,
             members,
-            answers: Vec::new(alloc),
+            replies: Replies::new(alloc),
             events: Vec::new(alloc),
-            lists: Lists::new(alloc),
+            lists,
         })
     }
 
@@ -131,11 +122,11 @@ impl Wire {
         &self.words
     }
 
-    /// What the finished calls answered, in the order of their ends.
-    pub fn replies(&self) -> &[Answer]
-        ensures { map (λ a. (a.node, reply_in [] a.reply)) result.now ≡ self.now.replies }
+    /// The finished calls in the order of their ends.
+    pub fn replies(&self) -> &Replies
+        ensures { result.now.finished ≡ self.now.replies }
     {
-        &self.answers
+        &self.replies
     }
 
     /// The moments that nodes made, in their order.
@@ -185,7 +176,7 @@ impl Wire {
         if let Some(refusal) = member.rest_refusal() {
             return Err(refusal);
         }
-        if self.answers.reserve(1).is_err() {
+        if self.replies.reserve(member.longest()).is_err() {
             return Err(WireRefusal::WantOfMemory);
         }
         if self.events.reserve(1).is_err() {
@@ -193,11 +184,14 @@ impl Wire {
         }
         let seen = member.make_access(&mut self.words);
         let told = member.event(seen);
-        let event = put_serials(&self.places, &self.members, node, told);
-        let reply = self.members[place].go_on(seen);
-        tell(&mut self.events, event);
-        tell(&mut self.answers, answered(node, reply));
-        Ok(progress(reply))
+        note(&self.places, &self.members, node, told, &mut self.events);
+        let ended = self.events.len();
+        let member = &mut self.members[place];
+        let Some(reply) = member.go_on(seen) else {
+            return Ok(Progress::Going);
+        };
+        member.tell(reply, ended, &mut self.replies);
+        Ok(Progress::Done(reply))
     }
 
     /// The node stops for good, wherever it is in its call.
@@ -209,7 +203,8 @@ impl Wire {
         ensures unchanged { OnErr result (self.new ≡ self.old) }
     {
         let place = self.living(node)?;
-        self.members[place].die();
+        let before = self.events.len();
+        self.members[place].die(before);
         Ok(())
     }
 }
@@ -219,26 +214,4 @@ fn zeros(alloc: Global, count: usize) -> Result<Vec<u64>, AllocError>
     ensures { IfOk result (λ words. words.items ≡ replicate count 0) }
 {
     vec![in alloc; 0u64; count]
-}
-
-/// What a node answers, if its call is over.
-#[inline]
-fn answered(node: u64, reply: Option<NodeReply>) -> Option<Answer>
-    ensures { result ≡ option_map (λ r. record { node = node; reply = r }) reply }
-{
-    match reply {
-        None => None,
-        Some(reply) => Some(Answer { node, reply }),
-    }
-}
-
-/// Whether a call goes on.
-#[inline]
-fn progress(reply: Option<NodeReply>) -> Progress<NodeReply>
-    ensures { result ≡ progress_of reply }
-{
-    match reply {
-        None => Progress::Going,
-        Some(reply) => Progress::Done(reply),
-    }
 }

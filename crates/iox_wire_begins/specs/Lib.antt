@@ -1,5 +1,7 @@
 -- how many elements the words of a payload are
 pub mod WholeElements
+-- the room that lists have for what a begin lists
+pub mod ListRooms
 -- what a node may rely on of a plan, of its terms, and of its handles
 pub mod WirePlans
 -- what the crates above cite of those below

@@ -1,8 +1,9 @@
 //! How copies begin: loan, write and send in one call.
-ghost use Rattle.std.specs.Prelude.{ℕ, ◌≡◌, ◌*◌, OnErr, OnOk, Some, false, length};
+ghost use Rattle.std.specs.Prelude.{ℕ, ◌≡◌, ◌*◌, ◌≤◌, OnErr, OnOk, Some, false, length, vec_capacity};
 ghost use Rattle.iox_model.specs.declared.kind.Role.TheVariants.{Client};
 ghost use Rattle.iox_wire_handle_calls.specs.WayIndex.TheVariants.{Responses};
-ghost use Rattle.iox_wire_handle_calls.specs.Plans.{IsPortAt, IsWayAt, number_at, way_at};
+ghost use Rattle.iox_wire_handle_calls.specs.Plans.{IsPortAt, IsWayAt, most_ways, number_at, way_at};
+ghost use Rattle.iox_wire_begins.specs.ListRooms.{HasRoomFor};
 ghost use Rattle.iox_wire_begins.specs.WirePlans.{IsWirePlan};
 ghost use Rattle.iox_wire_handle_calls.specs.Copiers.{MayBeMade};
 ghost use Rattle.iox_wire_handle_calls.specs.CopyCalls as requests;
@@ -27,7 +28,7 @@ use iox_wire_handle_calls::{
     list_response_returns, list_targets, payload_places,
 };
 use iox_wire_lenders::{WireTerms, make_lender};
-use std::alloc::{AllocError, Global};
+use std::alloc::AllocError;
 
 /// Tells a copy of the servers to which the client at an index sends a request on its first free
 /// lane. Where it has none nothing is told. What it lists is of no use later.
@@ -42,11 +43,13 @@ fn tell_servers(
     requires rests { is_busy copying.old.local ≡ false }
     requires client { IsPortAt map.now Client client }
     requires plan { IsWirePlan map.now terms.now }
+    requires list { most_ways map.now ≤ vec_capacity targets.old }
     ensures knows { (p : Setting) → IsSettingWith map.now terms.now p
         → OnOk result (requests.KnowsServersOnLane p seat.now.seat (number_at map.now client)
         (first_lane (pool_of map.now (number_at map.now client))
         (free_lanes seat.now.seat (number_at map.now client))) copying.new.sends) }
     ensures rests { is_busy copying.new.local ≡ false }
+    ensures list { vec_capacity targets.new ≡ vec_capacity targets.old }
 {
     let plan = map.plan();
     let at = plan.ports[client];
@@ -55,7 +58,7 @@ fn tell_servers(
         return Ok(());
     }
     let own = request_terms(map, terms, client);
-    let told = list_targets(map, seat, client, lane, own, targets)?;
+    let told = list_targets(map, seat, client, lane, own, targets);
     copying.prepare(told, targets)?;
     Ok(())
 }
@@ -64,7 +67,6 @@ fn tell_servers(
 /// first free lane. Where it has none the loan finds no free slot. Its pending response will have
 /// that number. No copy may be under way. What is listed is of no use later.
 pub fn begin_request_copy(
-    alloc: Global,
     map: &WordMap,
     terms: &WireTerms,
     seat: &mut StoredSeat,
@@ -79,6 +81,7 @@ pub fn begin_request_copy(
     requires seat { is_busy seat.old.seat.local ≡ false }
     requires client { IsPortAt map.now Client client }
     requires plan { IsWirePlan map.now terms.now }
+    requires lists { HasRoomFor map.now lists.old }
     requires whole { (k : ℕ) → elements ≡ Some k
         → length words.now ≡ k * element_words map.now client }
     ensures begun { (p : Setting) → IsSettingWith map.now terms.now p
@@ -94,12 +97,13 @@ pub fn begin_request_copy(
     ensures leaves { LeavesSeat seat.old seat.new }
     ensures rests { OnErr result (is_busy copying.new.local ≡ false) }
     ensures seat_unchanged { OnErr result (seat.new ≡ seat.old) }
+    ensures lists { HasRoomFor map.now lists.new }
 {
     // only what this promises is wanted
     let _plan = map.plan();
     tell_servers(map, terms, seat, copying, client, &mut lists.targets)?;
-    let room = list_request_returns(map, seat, client, &mut lists.stops)?;
-    let lender = make_lender(alloc, map, terms, client, room)?;
+    let room = list_request_returns(map, seat, client, &mut lists.stops);
+    let lender = make_lender(map, terms, client, room);
     let places = payload_places(map, client);
     copying.begin(seat, &lender, places, number, elements, words, &lists.stops)
 }
@@ -108,7 +112,6 @@ pub fn begin_request_copy(
 /// an index received on a lane of the client at another. No copy may be under way. What it lists in
 /// `stops` is of no use later.
 pub fn begin_response_copy(
-    alloc: Global,
     map: &WordMap,
     terms: &WireTerms,
     seat: &mut StoredSeat,
@@ -126,6 +129,7 @@ pub fn begin_response_copy(
     requires way { IsWayAt map.now (Responses client server request.lane) }
     requires own { state_in request ≡ way_at map.now (Responses client server request.lane) }
     requires plan { IsWirePlan map.now terms.now }
+    requires list { most_ways map.now ≤ vec_capacity stops.old }
     requires whole { (k : ℕ) → elements ≡ Some k
         → length words.now ≡ k * element_words map.now server }
     ensures begun { (p : Setting) → IsSettingWith map.now terms.now p
@@ -141,12 +145,13 @@ pub fn begin_response_copy(
     ensures leaves { LeavesSeat seat.old seat.new }
     ensures unchanged { OnErr result (copying.new ≡ copying.old) }
     ensures seat_unchanged { OnErr result (seat.new ≡ seat.old) }
+    ensures list { vec_capacity stops.new ≡ vec_capacity stops.old }
 {
     // only what this promises is wanted
     let _plan = map.plan();
     let told = response_terms(map, terms, client, server, request.lane);
-    let room = list_response_returns(map, seat, server, stops)?;
-    let lender = make_lender(alloc, map, terms, server, room)?;
+    let room = list_response_returns(map, seat, server, stops);
+    let lender = make_lender(map, terms, server, room);
     let places = payload_places(map, server);
     copying.begin(
         seat, &lender, places, request, told, number, elements, words, stops,

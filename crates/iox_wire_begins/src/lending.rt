@@ -1,8 +1,8 @@
 //! How loans begin.
-ghost use Rattle.std.specs.Prelude.{ℕ, ◌≡◌, OnErr, OnOk, false};
+ghost use Rattle.std.specs.Prelude.{ℕ, ◌≡◌, ◌≤◌, OnErr, OnOk, false, vec_capacity};
 ghost use Rattle.iox_model.specs.declared.call.Call.TheVariants.{Loan};
 ghost use Rattle.iox_model.specs.declared.kind.Role.TheVariants.{Client, Server};
-ghost use Rattle.iox_wire_handle_calls.specs.Plans.{IsPortAt, number_at};
+ghost use Rattle.iox_wire_handle_calls.specs.Plans.{IsPortAt, most_ways, number_at};
 ghost use Rattle.iox_wire_begins.specs.WirePlans.{IsWirePlan};
 ghost use Rattle.iox_wire_lenders.specs.Terms.{IsSettingWith};
 ghost use Rattle.iox_wire_handle_calls.specs.LoansAims.{IsAimed, IsOrdered, LeavesSeat, TellsOfSlot};
@@ -15,12 +15,11 @@ use iox_wire_handle_calls::{
     Entry, Lending, Stop, StoredSeat, WordMap, list_request_returns, list_response_returns,
 };
 use iox_wire_lenders::{WireTerms, make_lender};
-use std::alloc::{AllocError, Global};
+use std::alloc::AllocError;
 
 /// Begins the loan of a request of so many elements by the client at an index, whose handle will
 /// have that number. No loan may be under way. What it lists in `stops` is of no use later.
 pub fn begin_request_loan(
-    alloc: Global,
     map: &WordMap,
     terms: &WireTerms,
     seat: &mut StoredSeat,
@@ -34,6 +33,7 @@ pub fn begin_request_loan(
     requires seat { is_busy seat.old.seat.local ≡ false }
     requires client { IsPortAt map.now Client client }
     requires plan { IsWirePlan map.now terms.now }
+    requires list { most_ways map.now ≤ vec_capacity stops.old }
     ensures begun { (p : Setting) → (n : ℕ) → IsSettingWith map.now terms.now p
         → number ≡ next_handle p seat.old.seat
         → OnOk result (placed seat.new.seat lending.new.local
@@ -46,11 +46,12 @@ pub fn begin_request_loan(
     ensures leaves { LeavesSeat seat.old seat.new }
     ensures unchanged { OnErr result (lending.new ≡ lending.old) }
     ensures seat_unchanged { OnErr result (seat.new ≡ seat.old) }
+    ensures list { vec_capacity stops.new ≡ vec_capacity stops.old }
 {
     // only what this promises is wanted
     let _plan = map.plan();
-    let room = list_request_returns(map, seat, client, stops)?;
-    let lender = make_lender(alloc, map, terms, client, room)?;
+    let room = list_request_returns(map, seat, client, stops);
+    let lender = make_lender(map, terms, client, room);
     lending.lend_request(seat, &lender, number, elements, stops)
 }
 
@@ -58,7 +59,6 @@ pub fn begin_request_loan(
 /// received, whose handle will have that number. No loan may be under way. What it lists in `stops`
 /// is of no use later.
 pub fn begin_response_loan(
-    alloc: Global,
     map: &WordMap,
     terms: &WireTerms,
     seat: &mut StoredSeat,
@@ -74,6 +74,7 @@ pub fn begin_response_loan(
     requires server { IsPortAt map.now Server server }
     requires own { request.port ≡ number_at map.now server }
     requires plan { IsWirePlan map.now terms.now }
+    requires list { most_ways map.now ≤ vec_capacity stops.old }
     ensures begun { (p : Setting) → (n : ℕ) → IsSettingWith map.now terms.now p
         → number ≡ next_handle p seat.old.seat
         → OnOk result (placed seat.new.seat lending.new.local
@@ -86,10 +87,11 @@ pub fn begin_response_loan(
     ensures leaves { LeavesSeat seat.old seat.new }
     ensures unchanged { OnErr result (lending.new ≡ lending.old) }
     ensures seat_unchanged { OnErr result (seat.new ≡ seat.old) }
+    ensures list { vec_capacity stops.new ≡ vec_capacity stops.old }
 {
     // only what this promises is wanted
     let _plan = map.plan();
-    let room = list_response_returns(map, seat, server, stops)?;
-    let lender = make_lender(alloc, map, terms, server, room)?;
+    let room = list_response_returns(map, seat, server, stops);
+    let lender = make_lender(map, terms, server, room);
     lending.lend_response(seat, &lender, request, number, elements, stops)
 }

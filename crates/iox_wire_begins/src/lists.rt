@@ -1,10 +1,10 @@
 //! What a node lists as it begins a call.
-ghost use Rattle.std.specs.Prelude.{◌≡◌, []};
+ghost use Rattle.std.specs.Prelude.{◌≡◌};
 
-use iox_wire_handle_calls::{Source, Stop, Target};
-use std::alloc::Global;
+use iox_wire_handle_calls::{Source, Stop, Target, WordMap};
+use std::alloc::{AllocError, Global};
 
-/// The ways that a node lists as it begins a call. They are of no use later.
+/// The ways that a node lists as it begins a call. They are of no use later. Only `new` takes memory.
 #[derive(Drop)]
 pub struct Lists {
     pub sources: Vec<Source>,
@@ -13,18 +13,20 @@ pub struct Lists {
 }
 
 impl Lists {
-    ghost use Rattle.std.specs.Prelude.{◌≡◌, []};
+    ghost use Rattle.std.specs.Prelude.{◌≡◌, IfOk};
+    ghost use Rattle.iox_wire_begins.specs.ListRooms.{HasRoomFor};
 
-    /// Nothing is listed.
-    pub fn new(alloc: Global) -> Lists
-        ensures sources { result.sources.items ≡ [] }
-        ensures stops { result.stops.items ≡ [] }
-        ensures targets { result.targets.items ≡ [] }
+    /// Lists with room for all that a begin lists on such a wire.
+    pub fn new(alloc: Global, map: &WordMap) -> Result<Lists, AllocError>
+        ensures { IfOk result (HasRoomFor map.now) }
     {
-        Lists {
-            sources: Vec::new(alloc),
-            stops: Vec::new(alloc),
-            targets: Vec::new(alloc),
-        }
+        let Some(ways) = map.most_ways() else {
+            return Err(AllocError);
+        };
+        Ok(Lists {
+            sources: Vec::with_capacity(alloc, ways)?,
+            stops: Vec::with_capacity(alloc, ways)?,
+            targets: Vec::with_capacity(alloc, ways)?,
+        })
     }
 }

@@ -1,9 +1,9 @@
 //! How sends of loans begin.
-ghost use Rattle.std.specs.Prelude.{ℕ, ◌≡◌, OnErr, OnOk, false, true};
+ghost use Rattle.std.specs.Prelude.{ℕ, ◌≡◌, ◌≤◌, OnErr, OnOk, false, true, vec_capacity};
 ghost use Rattle.iox_model.specs.declared.call.Call.TheVariants.{Send};
 ghost use Rattle.iox_model.specs.Handles.{is_request_loan, is_response_loan};
 ghost use Rattle.iox_wire_handle_calls.specs.WayIndex.TheVariants.{Responses};
-ghost use Rattle.iox_wire_handle_calls.specs.Plans.{IsLaneAt, IsWayAt, number_at, way_at};
+ghost use Rattle.iox_wire_handle_calls.specs.Plans.{IsLaneAt, IsWayAt, most_ways, number_at, way_at};
 ghost use Rattle.iox_wire_begins.specs.WirePlans.{IsWirePlan};
 ghost use Rattle.iox_wire_lenders.specs.Terms.{IsSettingWith};
 ghost use Rattle.iox_wire_handle_calls.specs.Begins.{begins_at_entry, is_busy};
@@ -37,6 +37,7 @@ pub fn begin_request_send(
     requires lane { IsLaneAt map.now client loan.lane }
     requires own { loan.port ≡ number_at map.now client }
     requires plan { IsWirePlan map.now terms.now }
+    requires list { most_ways map.now ≤ vec_capacity targets.old }
     ensures begun { (p : Setting) → (n : ℕ) → IsSettingWith map.now terms.now p
         → OnOk result (placed seat.now.seat requesting.new.local
         ≡ begins_at_entry p seat.now.seat (Send n) loan) }
@@ -45,11 +46,12 @@ pub fn begin_request_send(
     ensures loan { OnOk result (requesting.new.loan ≡ loan) }
     ensures own { OnOk result (requesting.new.copied ≡ false) }
     ensures unchanged { OnErr result (requesting.new ≡ requesting.old) }
+    ensures list { vec_capacity targets.new ≡ vec_capacity targets.old }
 {
     // only what this promises is wanted
     let _plan = map.plan();
     let own = request_terms(map, terms, client);
-    let told = list_targets(map, seat, client, loan.lane, own, targets)?;
+    let told = list_targets(map, seat, client, loan.lane, own, targets);
     requesting.begin(seat, loan, told, targets)
 }
 

@@ -147,22 +147,22 @@ refused_over x y r k seen reply lends led p aim =
 made_way : (o : Order) (loan : Entry) → loan ≡ entry_in (loan_of o) loan.slot → state_in loan ≡ way_of o
 made_way o loan made = ap state_in made
 
-pub made_leads : (p : Setting) (x y z : Placed) (r s : ResponseCopy) (k : CopyLoan) (loan : Entry) (result : Option ResponseCopyReply) → Lends r
-    → IsSameCopy r.lends k → loan ≡ entry_in (loan_of k.lending.order) loan.slot
-    → SendsTo y.seat r.sends.terms loan z s result → IsAimed p x.seat r → LeadsTo p y.seat loan z s result
-made_leads p x y z r s k loan result lends same made sent aim =
-    sent p ((aimed_lends p x.seat r lends aim).1 loan (made_way k.lending.order loan made ∙ ap way_of same.order))
+pub made_leads : (p : Setting) (x y z : Placed) (r s : ResponseCopy) (k : CopyLoan) (result : Option ResponseCopyReply) → Lends r
+    → IsSameCopy r.lends k → k.loan ≡ entry_in (loan_of k.lending.order) k.loan.slot
+    → SendsTo y.seat r.sends.terms k.loan z s result → IsAimed p x.seat r → LeadsTo p y.seat k.loan z s result
+made_leads p x y z r s k result lends same made sent aim =
+    sent p ((aimed_lends p x.seat r lends aim).1 k.loan (made_way k.lending.order k.loan made ∙ ap way_of same.order))
 
-pub made_next : (p : Setting) (x y z : Placed) (r s : ResponseCopy) (k : CopyLoan) (loan : Entry) (seen : ℕ) (result : Option ResponseCopyReply) → Lends r
-    → copies.GoesOn x r.lends seen y k (Some (lent.Made loan)) → LeadsTo p y.seat loan z s result → IsAimed p x.seat r
+pub made_next : (p : Setting) (x y z : Placed) (r s : ResponseCopy) (k : CopyLoan) (seen : ℕ) (result : Option ResponseCopyReply) → Lends r
+    → copies.GoesOn x r.lends seen y k (Some lent.Made) → LeadsTo p y.seat k.loan z s result → IsAimed p x.seat r
     → placed z.seat s.local ≡ next p (placed x.seat r.local) seen
-made_next p x y z r s k loan seen result lends led leads aim =
+made_next p x y z r s k seen result lends led leads aim =
     leads.next ∙ sym (led p (aimed_lends p x.seat r lends aim).0).0 ∙ ap (λ (l : Local). next p (placed x.seat l) seen) (sym lends.local)
 
-pub made_over : (p : Setting) (x y z : Placed) (r s : ResponseCopy) (k : CopyLoan) (loan : Entry) (seen : ℕ) (result : Option ResponseCopyReply) → Lends r
-    → copies.GoesOn x r.lends seen y k (Some (lent.Made loan)) → LeadsTo p y.seat loan z s result → IsAimed p x.seat r
+pub made_over : (p : Setting) (x y z : Placed) (r s : ResponseCopy) (k : CopyLoan) (seen : ℕ) (result : Option ResponseCopyReply) → Lends r
+    → copies.GoesOn x r.lends seen y k (Some lent.Made) → LeadsTo p y.seat k.loan z s result → IsAimed p x.seat r
     → tells p (placed x.seat r.local) seen ≡ option_map reply_in result
-made_over p x y z r s k loan seen result lends led leads aim =
+made_over p x y z r s k seen result lends led leads aim =
     ap (λ (l : Local). tells p (placed x.seat l) seen) lends.local ∙ (led p (aimed_lends p x.seat r lends aim).0).1 ∙ leads.over
 
 -- ---- a step of its send

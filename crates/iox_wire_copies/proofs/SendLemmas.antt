@@ -165,27 +165,27 @@ refused_over x y r k seen reply lends led p aim =
     ap (λ (l : Local). tells p (placed x.seat l) seen) lends.local ∙ (led p (aimed_lends p x.seat r lends aim).0).1
 
 -- the loan is made, and sent
-pub made_leads : (p : Setting) (x y z : Placed) (r s : CopyCall) (k : CopyLoan) (loan : Entry) (seen : ℕ) (result : Option CopyReply) → Lends r
-    → copies.GoesOn x r.lends seen y k (Some (lent.Made loan)) → copies.KeepsPeers x r.lends y → IsSameCopy r.lends k → loan ≡ entry_in (loan_of k.lending.order) loan.slot
-    → IsStoring r.lends.local → SendsTo y.seat r.sends loan z s result → IsAimed p x.seat r → LeadsTo p y.seat loan z s result
-made_leads p x y z r s k loan seen result lends led peers same made stored sent aim =
+pub made_leads : (p : Setting) (x y z : Placed) (r s : CopyCall) (k : CopyLoan) (seen : ℕ) (result : Option CopyReply) → Lends r
+    → copies.GoesOn x r.lends seen y k (Some lent.Made) → copies.KeepsPeers x r.lends y → IsSameCopy r.lends k → k.loan ≡ entry_in (loan_of k.lending.order) k.loan.slot
+    → IsStoring r.lends.local → SendsTo y.seat r.sends k.loan z s result → IsAimed p x.seat r → LeadsTo p y.seat k.loan z s result
+made_leads p x y z r s k seen result lends led peers same made stored sent aim =
     let known_so : copies.IsAimed p x.seat r.lends × KnowsServersAt p x.seat r.lends.local r.lends.lending.order r.sends = aimed_lends p x.seat r lends aim in
     sent p
-    (subst (λ (e : Entry). KnowsServers p y.seat e.port e.lane r.sends) (sym (made ∙ ap (λ (o : Order). entry_in (loan_of o) loan.slot) same.order))
+    (subst (λ (e : Entry). KnowsServers p y.seat e.port e.lane r.sends) (sym (made ∙ ap (λ (o : Order). entry_in (loan_of o) k.loan.slot) same.order))
     (servers_stay p x.seat y.seat r.lends.lending.order.port r.lends.lending.order.lane r.sends (peers p known_so.0)
     (known_stored p x.seat r.lends.local r.lends.lending.order r.sends stored known_so.1)))
     (led p known_so.0).2
 
-pub made_next : (p : Setting) (x y z : Placed) (r s : CopyCall) (k : CopyLoan) (loan : Entry) (seen : ℕ) (result : Option CopyReply) → Lends r
-    → copies.GoesOn x r.lends seen y k (Some (lent.Made loan)) → LeadsTo p y.seat loan z s result → IsAimed p x.seat r
+pub made_next : (p : Setting) (x y z : Placed) (r s : CopyCall) (k : CopyLoan) (seen : ℕ) (result : Option CopyReply) → Lends r
+    → copies.GoesOn x r.lends seen y k (Some lent.Made) → LeadsTo p y.seat k.loan z s result → IsAimed p x.seat r
     → placed z.seat s.local ≡ next p (placed x.seat r.local) seen
-made_next p x y z r s k loan seen result lends led leads aim =
+made_next p x y z r s k seen result lends led leads aim =
     leads.next ∙ sym (led p (aimed_lends p x.seat r lends aim).0).0 ∙ ap (λ (l : Local). next p (placed x.seat l) seen) (sym lends.local)
 
-pub made_over : (p : Setting) (x y z : Placed) (r s : CopyCall) (k : CopyLoan) (loan : Entry) (seen : ℕ) (result : Option CopyReply) → Lends r
-    → copies.GoesOn x r.lends seen y k (Some (lent.Made loan)) → LeadsTo p y.seat loan z s result → IsAimed p x.seat r
+pub made_over : (p : Setting) (x y z : Placed) (r s : CopyCall) (k : CopyLoan) (seen : ℕ) (result : Option CopyReply) → Lends r
+    → copies.GoesOn x r.lends seen y k (Some lent.Made) → LeadsTo p y.seat k.loan z s result → IsAimed p x.seat r
     → tells p (placed x.seat r.local) seen ≡ option_map reply_in result
-made_over p x y z r s k loan seen result lends led leads aim =
+made_over p x y z r s k seen result lends led leads aim =
     ap (λ (l : Local). tells p (placed x.seat l) seen) lends.local ∙ (led p (aimed_lends p x.seat r lends aim).0).1 ∙ leads.over
 
 -- ---- a step of its send

@@ -206,17 +206,17 @@ copy_writes x y r s seen k loan lends seat local same at' ahead some p aim =
       ap (λ (l : Local). tells p (placed x.seat l) seen) lends.local ∙ on.1,
     )
 
-pub copy_makes : (x y : Placed) (r s : CopyLoan) (seen : ℕ) (k : Local) (loan : Entry) → Lends r → y ≡ counted x
+pub copy_makes : (x y : Placed) (r s : CopyLoan) (seen : ℕ) (k : Local) (loan : Entry) → Lends r → y ≡ counted x → s.loan ≡ loan
     → IsLoanAt r.lending.order r.lending.local → StoresAhead r.lending.local (length r.lending.words) (Some loan) k → length r.payload ≡ 0
-    → GoesOn x r seen y s (Some (Made loan))
-copy_makes x y r s seen k loan lends seat at' ahead none p aim =
+    → GoesOn x r seen y s (Some Made)
+copy_makes x y r s seen k loan lends seat made at' ahead none p aim =
     let on : (next p (placed x.seat (with_payload r.payload r.lending.local)) seen ≡ after p (sends p (accessed x.seat) loan true))
     × (tells p (placed x.seat (with_payload r.payload r.lending.local)) seen ≡ answered p (sends p (accessed x.seat) loan true))
     × (loan.number ≡ next_handle p (accessed x.seat)) =
     store_makes p x.seat r.lending r.payload r.lending.local k loan seen at' (aimed_loan p x.seat r lends aim).0 ahead none in (
-      ap (λ (l : Local). next p (placed x.seat l) seen) lends.local ∙ on.0 ∙ ap (λ (z : Seat). after p (sends p z loan true)) (sym (seat_is x y seat)),
-      ap (λ (l : Local). tells p (placed x.seat l) seen) lends.local ∙ on.1 ∙ ap (λ (z : Seat). answered p (sends p z loan true)) (sym (seat_is x y seat)),
-      on.2 ∙ sym (ap (next_handle p) (seat_is x y seat)),
+      ap (λ (l : Local). next p (placed x.seat l) seen) lends.local ∙ on.0 ∙ ap₂ (λ (z : Seat) (e : Entry). after p (sends p z e true)) (sym (seat_is x y seat)) (sym made),
+      ap (λ (l : Local). tells p (placed x.seat l) seen) lends.local ∙ on.1 ∙ ap₂ (λ (z : Seat) (e : Entry). answered p (sends p z e true)) (sym (seat_is x y seat)) (sym made),
+      ap (λ (e : Entry). e.number) made ∙ on.2 ∙ sym (ap (next_handle p) (seat_is x y seat)),
     )
 
 pub copy_aimed : (x y : Placed) (r s : CopyLoan) (k : Local) (loan : Entry) → Lends r → y ≡ counted x → s.at ≡ at.Writes → s.loan ≡ loan
@@ -256,16 +256,16 @@ writes_on x y r s n seen writes seat local low p aim =
       ap (λ (l : Local). tells p (placed x.seat l) seen) writes.local ∙ on.1,
     )
 
-pub writes_made : (x y : Placed) (r s : CopyLoan) (n seen : ℕ) → Writes r n → y ≡ counted x → n < length r.payload → length r.payload ≤ n + 1
-    → GoesOn x r seen y s (Some (Made r.loan))
-writes_made x y r s n seen writes seat low high p aim =
+pub writes_made : (x y : Placed) (r s : CopyLoan) (n seen : ℕ) → Writes r n → y ≡ counted x → s.loan ≡ r.loan → n < length r.payload → length r.payload ≤ n + 1
+    → GoesOn x r seen y s (Some Made)
+writes_made x y r s n seen writes seat made low high p aim =
     let on : (next p (placed x.seat (LendStores (copy_of (loan_of r.lending.order) r.payload) r.loan.slot (length r.lending.words + n))) seen ≡ after p (sends p (accessed x.seat) r.loan true))
     × (tells p (placed x.seat (LendStores (copy_of (loan_of r.lending.order) r.payload) r.loan.slot (length r.lending.words + n))) seen ≡ answered p (sends p (accessed x.seat) r.loan true))
     × (r.loan.number ≡ next_handle p (accessed x.seat)) =
     write_makes p x.seat r.lending r.payload r.loan n seen (aimed_write p x.seat r n writes aim).0 low high writes.made in (
-      ap (λ (l : Local). next p (placed x.seat l) seen) writes.local ∙ on.0 ∙ ap (λ (z : Seat). after p (sends p z r.loan true)) (sym (seat_is x y seat)),
-      ap (λ (l : Local). tells p (placed x.seat l) seen) writes.local ∙ on.1 ∙ ap (λ (z : Seat). answered p (sends p z r.loan true)) (sym (seat_is x y seat)),
-      on.2 ∙ sym (ap (next_handle p) (seat_is x y seat)),
+      ap (λ (l : Local). next p (placed x.seat l) seen) writes.local ∙ on.0 ∙ ap₂ (λ (z : Seat) (e : Entry). after p (sends p z e true)) (sym (seat_is x y seat)) (sym made),
+      ap (λ (l : Local). tells p (placed x.seat l) seen) writes.local ∙ on.1 ∙ ap₂ (λ (z : Seat) (e : Entry). answered p (sends p z e true)) (sym (seat_is x y seat)) (sym made),
+      ap (λ (e : Entry). e.number) made ∙ on.2 ∙ sym (ap (next_handle p) (seat_is x y seat)),
     )
 
 pub writes_aimed : (x y : Placed) (r : CopyLoan) (k : Local) (n : ℕ) → Writes r n → y ≡ counted x → StaysAimed x r y (record r { local = k })

@@ -3,6 +3,7 @@ use Rattle.std.specs.Prelude.{◌≡◌, ℕ, true, length, Option, Some, None}
 use Rattle.iox_wire_locals.specs.declared.local.Local.{Local}
 use Rattle.iox_wire_locals.specs.declared.local.Local.TheVariants.{LendStores}
 use Rattle.iox_wire_locals.specs.declared.seat.Seat.{Seat}
+use Rattle.iox_wire_locals.specs.declared.table.Entry.{Entry}
 use Rattle.iox_wire_locals.specs.Courses.{placed, sends}
 use Rattle.iox_wire_locals.specs.Lendings.{next_handle}
 use Rattle.iox_wire_locals.specs.NewLoans.{entry_in}
@@ -41,35 +42,35 @@ IsAimed p x r = AreAimed p x r.at r
 
 -- After its access the node is the next. With the last word the loan is made, and sent by the
 -- same call.
-abbrev pub LeadsOn : Setting → Seat → ℕ → Placed → Local → Option CopyLent → Type 0
-LeadsOn p before seen y local None =
-    (placed y.seat local ≡ next p before seen) × (tells p before seen ≡ None)
-LeadsOn p before seen y local (Some (lent.Refused reply)) =
-    (placed y.seat local ≡ next p before seen) × (tells p before seen ≡ Some (reply_in reply))
-LeadsOn p before seen y local (Some (lent.Made loan)) =
-    (next p before seen ≡ after p (sends p y.seat loan true))
-    × (tells p before seen ≡ answered p (sends p y.seat loan true))
-    × (loan.number ≡ next_handle p y.seat)
+abbrev pub LeadsOn : Setting → Seat → ℕ → Placed → CopyLoan → Option CopyLent → Type 0
+LeadsOn p before seen y s None =
+    (placed y.seat s.local ≡ next p before seen) × (tells p before seen ≡ None)
+LeadsOn p before seen y s (Some (lent.Refused reply)) =
+    (placed y.seat s.local ≡ next p before seen) × (tells p before seen ≡ Some (reply_in reply))
+LeadsOn p before seen y s (Some lent.Made) =
+    (next p before seen ≡ after p (sends p y.seat s.loan true))
+    × (tells p before seen ≡ answered p (sends p y.seat s.loan true))
+    × (s.loan.number ≡ next_handle p y.seat)
 
 -- After an access that found this it leads there, the other numbers being as they may,
 abbrev pub GoesOn : Placed → CopyLoan → ℕ → Placed → CopyLoan → Option CopyLent → Type 0
 GoesOn x r seen y s result =
     (p : Setting) → IsAimed p x.seat r
-    → LeadsOn p (placed x.seat r.local) seen y s.local result
+    → LeadsOn p (placed x.seat r.local) seen y s result
 
 -- and it knows the places of what it accesses next.
 abbrev pub StaysAimed : Placed → CopyLoan → Placed → CopyLoan → Type 0
 StaysAimed x r y s =
     (p : Setting) → IsAimed p x.seat r → TellsOfSlot p s.local → IsAimed p y.seat s
 
--- the loan that is made is that of this order
-abbrev pub IsMade : Order → Option CopyLent → Type 0
-IsMade order (Some (lent.Made loan)) = loan ≡ entry_in (loan_of order) loan.slot
-IsMade order result = Unit {0}
+-- the loan that is made is that of its order
+abbrev pub IsMade : CopyLoan → Option CopyLent → Type 0
+IsMade s (Some lent.Made) = s.loan ≡ entry_in (loan_of s.lending.order) s.loan.slot
+IsMade s result = Unit {0}
 
 -- it is made with the last word that it stores
 abbrev pub IsMadeAt : Local → Option CopyLent → Type 0
-IsMadeAt local (Some (lent.Made loan)) = IsStoring local
+IsMadeAt local (Some lent.Made) = IsStoring local
 IsMadeAt local result = Unit {0}
 
 -- it is the loan of the same order, told of the same slots
@@ -87,13 +88,13 @@ IsHeld x (LendStores o slot next) = MayGiveUp (entry_in o slot) x.desks
 IsHeld x local = Unit {0}
 
 -- so may the message that it made
-abbrev pub IsHeldMade : Seat → Option CopyLent → Type 0
-IsHeldMade x (Some (lent.Made loan)) = MayGiveUp loan x.desks
-IsHeldMade x result = Unit {0}
+abbrev pub IsHeldMade : Seat → Entry → Option CopyLent → Type 0
+IsHeldMade x loan (Some lent.Made) = MayGiveUp loan x.desks
+IsHeldMade x loan result = Unit {0}
 
 -- what might be given up may be so
-abbrev pub HoldsMade : Placed → CopyLoan → Placed → Option CopyLent → Type 0
-HoldsMade x r y result = IsHeld x.seat r.local → IsHeldMade y.seat result
+abbrev pub HoldsMade : Placed → CopyLoan → Placed → CopyLoan → Option CopyLent → Type 0
+HoldsMade x r y s result = IsHeld x.seat r.local → IsHeldMade y.seat s.loan result
 
 -- unless it is refused, the loan may become a handle
 abbrev pub MayLendMade : Placed → Order → Option CopyLent → Type 0

@@ -1,5 +1,4 @@
 //! Where a copy is, and what it answers as it is over.
-use iox_wire_locals::Entry;
 use iox_wire_request_sends::{LendReply, RequestReply};
 use iox_wire_sends::RespondReply;
 
@@ -18,8 +17,8 @@ pub enum CopyAt {
 pub enum CopyLent {
     /// It is refused, which is told so.
     Refused(LendReply),
-    /// It is made, and is no handle: it is to be sent.
-    Made(Entry),
+    /// It is made, and is no handle: it is to be sent. `CopyLending::loan` tells it.
+    Made,
 }
 
 /// Where a client or a server is that copies a message, without what belongs to it.

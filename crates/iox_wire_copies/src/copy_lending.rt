@@ -127,8 +127,16 @@ impl CopyLending {
         !matches!(self.at, CopyAt::Rest)
     }
 
+    /// The loan that it made last.
+    #[inline(always)]
+    pub fn loan(&self) -> Entry
+        ensures { result ≡ self.now.loan }
+    {
+        self.loan
+    }
+
     /// The access that it makes next.
-    #[inline]
+    #[inline(always)]
     pub fn asks(&self) -> Access
         ensures { (p : Setting) → (x : Seat) → IsAimed p x self.now → result
             ≡ program_access p.layout (program_of p self.now.local) }
@@ -145,7 +153,7 @@ impl CopyLending {
     }
 
     /// Goes on after its access, which found `seen`. If it is over it says how.
-    #[inline]
+    #[inline(always)]
     pub fn go_on(&mut self, seat: &mut StoredSeat, seen: u64) -> Option<CopyLent>
         requires busy { is_busy self.old.local ≡ true }
         requires rests { is_busy seat.old.seat.local ≡ false }
@@ -155,9 +163,9 @@ impl CopyLending {
         requires used { GetsBackUsed seat.old.seat self.old.local }
         ensures next { GoesOn seat.old self.old seen seat.new self.new result }
         ensures aimed { StaysAimed seat.old self.old seat.new self.new }
-        ensures made { IsMade self.new.lending.order result }
+        ensures made { IsMade self.new result }
         ensures stored { IsMadeAt self.old.local result }
-        ensures held { HoldsMade seat.old self.old seat.new result }
+        ensures held { HoldsMade seat.old self.old seat.new self.new result }
         ensures busy { is_busy self.new.local ≡ is_none result }
         ensures accesses { seat.new.seat.accesses ≡ seat.old.seat.accesses + 1 }
         ensures room { KeepsRoom seat.old seat.new }

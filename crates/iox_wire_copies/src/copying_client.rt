@@ -78,7 +78,7 @@ impl CopyingClient {
     }
 
     /// The access that it makes next.
-    #[inline]
+    #[inline(always)]
     pub fn asks(&self) -> Access
         ensures { (p : Setting) → (x : Seat) → IsAimed p x self.now → result
             ≡ program_access p.layout (program_of p self.now.local) }
@@ -93,7 +93,7 @@ impl CopyingClient {
     /// Goes on after its access, which found `seen`. If it is over it says what that answers. What
     /// it gets back is to be in use at the port's desk, and what it delivers is to have room in the
     /// record of its way.
-    #[inline]
+    #[inline(always)]
     pub fn go_on(&mut self, seat: &mut StoredSeat, seen: u64) -> Option<CopyReply>
         requires busy { is_busy self.old.local ≡ true }
         requires accesses { seat.old.seat.accesses + 1 < 2 ^ 64 }

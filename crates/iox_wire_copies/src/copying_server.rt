@@ -79,7 +79,7 @@ impl CopyingServer {
     }
 
     /// The access that it makes next.
-    #[inline]
+    #[inline(always)]
     pub fn asks(&self) -> Access
         ensures { (p : Setting) → (x : Seat) → IsAimed p x self.now → result
             ≡ program_access p.layout (program_of p self.now.local) }
@@ -94,7 +94,7 @@ impl CopyingServer {
     /// Goes on after its access, which found `seen`. If it is over it says what that answers. What
     /// it gets back and what it sends is to be in use at the port's desk, and what it delivers is
     /// to have room in the record of its way.
-    #[inline]
+    #[inline(always)]
     pub fn go_on(&mut self, seat: &mut StoredSeat, seen: u64) -> Option<ResponseCopyReply>
         requires busy { is_busy self.old.local ≡ true }
         requires accesses { seat.old.seat.accesses + 1 < 2 ^ 64 }

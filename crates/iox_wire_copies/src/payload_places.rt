@@ -18,7 +18,7 @@ impl PayloadPlaces {
     ghost use Rattle.iox_wire_copies.specs.Payloads.{HasRoom, payload_at};
 
     /// Where it stands in that slot.
-    #[inline]
+    #[inline(always)]
     pub fn place(self, slots: SlotPlaces, slot: u64) -> usize
         requires within { IsWithin slots }
         requires room { HasRoom slots self }

@@ -40,7 +40,7 @@ use std::alloc::AllocError;
 pub fn copy_begins(
     copying: &mut CopyingClient,
     seat: &mut StoredSeat,
-    lender: &Lender,
+    lender: &Lender<'_>,
     places: PayloadPlaces,
     number: u64,
     elements: Option<u64>,
@@ -114,7 +114,7 @@ pub fn next_copy_is_prepared(
 pub fn response_copy_begins(
     copying: &mut CopyingServer,
     seat: &mut StoredSeat,
-    lender: &Lender,
+    lender: &Lender<'_>,
     places: PayloadPlaces,
     request: Entry,
     terms: ResponseTerms,

@@ -1,8 +1,8 @@
 //! Questions about a request: whether its peer is connected, and whether a hint was given.
-ghost use Rattle.std.specs.Prelude.{◌≡◌, IfErr, IfSome, None, OnErr, OnOk};
+ghost use Rattle.std.specs.Prelude.{◌≡◌, ◌≤◌, IfErr, IfSome, None, OnErr, OnOk, vec_capacity};
 ghost use Rattle.iox_model.specs.declared.call.Call.TheVariants.{HasHint, IsConnected};
 ghost use Rattle.iox_model.specs.declared.call.WireCall.TheVariants.{Port};
-ghost use Rattle.iox_wire_stops.specs.Plans.{port_of};
+ghost use Rattle.iox_wire_stops.specs.Plans.{most_ways, port_of};
 ghost use Rattle.iox_wire_stops.specs.PlansOf.{IsSettingOf};
 ghost use Rattle.iox_wire_stops.specs.Begins.{refusal_at};
 ghost use Rattle.iox_wire_stops.specs.Tables.{Setting, entry_at};
@@ -24,6 +24,7 @@ pub fn begin_is_connected(
 ) -> Result<(), BeginError>
     requires no_port { port_of map.now number ≡ None }
     requires states { IfSome (entry_at number seat.old.seat.table) (HasStates map.now) }
+    requires list { most_ways map.now ≤ vec_capacity stops.old }
     ensures begun { (p : Setting) → IsSettingOf map.now p
         → OnOk result (IsBegun p seat.old (Port (IsConnected number)) seat.new) }
     ensures allowed { (p : Setting) → IsSettingOf map.now p
@@ -33,9 +34,10 @@ pub fn begin_is_connected(
     ensures unchanged { OnErr result (seat.new ≡ seat.old) }
     ensures accesses { seat.new.seat.accesses ≡ seat.old.seat.accesses }
     ensures room { seat.new.room ≡ seat.old.room }
+    ensures list { vec_capacity stops.new ≡ vec_capacity stops.old }
 {
     let entry = named(seat, map, Asked::IsConnected, number)?;
-    list_states_of(map, seat, entry, stops)?;
+    list_states_of(map, seat, entry, stops);
     seat.check(entry, false, stops)?;
     Ok(())
 }
@@ -50,6 +52,7 @@ pub fn begin_has_hint(
 ) -> Result<(), BeginError>
     requires no_port { port_of map.now number ≡ None }
     requires states { IfSome (entry_at number seat.old.seat.table) (HasStates map.now) }
+    requires list { most_ways map.now ≤ vec_capacity stops.old }
     ensures begun { (p : Setting) → IsSettingOf map.now p
         → OnOk result (IsBegun p seat.old (Port (HasHint number)) seat.new) }
     ensures allowed { (p : Setting) → IsSettingOf map.now p
@@ -59,9 +62,10 @@ pub fn begin_has_hint(
     ensures unchanged { OnErr result (seat.new ≡ seat.old) }
     ensures accesses { seat.new.seat.accesses ≡ seat.old.seat.accesses }
     ensures room { seat.new.room ≡ seat.old.room }
+    ensures list { vec_capacity stops.new ≡ vec_capacity stops.old }
 {
     let entry = named(seat, map, Asked::HasHint, number)?;
-    list_states_of(map, seat, entry, stops)?;
+    list_states_of(map, seat, entry, stops);
     seat.check(entry, true, stops)?;
     Ok(())
 }

@@ -1,8 +1,8 @@
 //! A hint that no more responses are wanted.
-ghost use Rattle.std.specs.Prelude.{◌≡◌, IfErr, IfSome, None, OnErr, OnOk};
+ghost use Rattle.std.specs.Prelude.{◌≡◌, ◌≤◌, IfErr, IfSome, None, OnErr, OnOk, vec_capacity};
 ghost use Rattle.iox_model.specs.declared.call.Call.TheVariants.{SetHint};
 ghost use Rattle.iox_model.specs.declared.call.WireCall.TheVariants.{Port};
-ghost use Rattle.iox_wire_stops.specs.Plans.{port_of};
+ghost use Rattle.iox_wire_stops.specs.Plans.{most_ways, port_of};
 ghost use Rattle.iox_wire_stops.specs.PlansOf.{IsSettingOf};
 ghost use Rattle.iox_wire_stops.specs.Begins.{refusal_at};
 ghost use Rattle.iox_wire_stops.specs.Tables.{Setting, entry_at};
@@ -26,6 +26,7 @@ pub fn begin_set_hint(
     requires no_port { port_of map.now number ≡ None }
     requires states { IfSome (entry_at number seat.old.seat.table) (HasStates map.now) }
     requires hint { IfSome (entry_at number seat.old.seat.table) HasRoomForHint }
+    requires list { most_ways map.now ≤ vec_capacity stops.old }
     ensures begun { (p : Setting) → IsSettingOf map.now p
         → OnOk result (IsBegun p seat.old (Port (SetHint number)) seat.new) }
     ensures allowed { (p : Setting) → IsSettingOf map.now p
@@ -35,9 +36,10 @@ pub fn begin_set_hint(
     ensures unchanged { OnErr result (seat.new ≡ seat.old) }
     ensures accesses { seat.new.seat.accesses ≡ seat.old.seat.accesses }
     ensures room { seat.new.room ≡ seat.old.room }
+    ensures list { vec_capacity stops.new ≡ vec_capacity stops.old }
 {
     let entry = named(seat, map, Asked::SetHint, number)?;
-    list_states_of(map, seat, entry, stops)?;
+    list_states_of(map, seat, entry, stops);
     seat.hint(entry, stops)?;
     Ok(())
 }

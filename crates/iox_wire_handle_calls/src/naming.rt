@@ -15,6 +15,7 @@ use crate::error::BeginError;
 use iox_wire_stops::{Entry, StoredSeat, WordMap};
 
 /// The handle of that number, which is no port's, if the node may begin the call on it.
+#[inline(always)]
 pub fn named(
     seat: &StoredSeat,
     map: &WordMap,

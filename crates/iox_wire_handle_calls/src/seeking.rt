@@ -1,9 +1,9 @@
 //! The question whether a response waits.
-ghost use Rattle.std.specs.Prelude.{◌≡◌, ◌*◌, IfErr, IfSome, None, OnErr, OnOk};
+ghost use Rattle.std.specs.Prelude.{◌≡◌, ◌*◌, ◌≤◌, IfErr, IfSome, None, OnErr, OnOk, vec_capacity};
 ghost use Rattle.iox_model.specs.declared.call.Call.TheVariants.{HasResponse};
 ghost use Rattle.iox_model.specs.declared.call.WireCall.TheVariants.{Port};
 ghost use Rattle.iox_model.specs.declared.kind.Role.TheVariants.{Server};
-ghost use Rattle.iox_wire_stops.specs.Plans.{port_of};
+ghost use Rattle.iox_wire_stops.specs.Plans.{most_ways, port_of};
 ghost use Rattle.iox_wire_stops.specs.PlansOf.{IsSettingOf};
 ghost use Rattle.iox_wire_stops.specs.Begins.{refusal_at};
 ghost use Rattle.iox_wire_stops.specs.Stored.{header_length};
@@ -28,6 +28,8 @@ pub fn begin_has_response(
     requires no_port { port_of map.now number ≡ None }
     requires states { IfSome (entry_at number seat.old.seat.table) (HasStates map.now) }
     requires header { map.now.response.header.size ≡ 8 * header_length Server }
+    requires sources { most_ways map.now ≤ vec_capacity sources.old }
+    requires stops { most_ways map.now ≤ vec_capacity stops.old }
     ensures begun { (p : Setting) → IsSettingOf map.now p
         → OnOk result (IsBegun p seat.old (Port (HasResponse number)) seat.new) }
     ensures allowed { (p : Setting) → IsSettingOf map.now p
@@ -37,10 +39,12 @@ pub fn begin_has_response(
     ensures unchanged { OnErr result (seat.new ≡ seat.old) }
     ensures accesses { seat.new.seat.accesses ≡ seat.old.seat.accesses }
     ensures room { seat.new.room ≡ seat.old.room }
+    ensures sources { vec_capacity sources.new ≡ vec_capacity sources.old }
+    ensures stops { vec_capacity stops.new ≡ vec_capacity stops.old }
 {
     let pending = named(seat, map, Asked::HasResponse, number)?;
     let client = client_place(map, pending.port, pending.lane);
-    let queue = list_waiting_responses(map, client, pending.lane, sources, stops)?;
+    let queue = list_waiting_responses(map, client, pending.lane, sources, stops);
     seat.seek(queue, stops)?;
     Ok(())
 }

@@ -1,10 +1,10 @@
 //! Callers, proved from the clauses alone.
-ghost use Rattle.std.specs.Prelude.{◌≡◌, ◌+◌, ◌<◌, ◌^◌, Err, IfOk, IfSome, None, OnOk, Some};
+ghost use Rattle.std.specs.Prelude.{◌≡◌, ◌+◌, ◌<◌, ◌^◌, ◌≤◌, Err, IfOk, IfSome, None, OnOk, Some, vec_capacity};
 ghost use Rattle.iox_model.specs.declared.call.Call.TheVariants.{IsConnected, Read, SetHint};
 ghost use Rattle.iox_model.specs.declared.call.WireCall.TheVariants.{Port};
 ghost use Rattle.iox_model.specs.declared.kind.Role.TheVariants.{Client};
 ghost use Rattle.iox_model.specs.declared.reply.Refusal.TheVariants as refusals;
-ghost use Rattle.iox_wire_stops.specs.Plans.{port_of};
+ghost use Rattle.iox_wire_stops.specs.Plans.{most_ways, port_of};
 ghost use Rattle.iox_wire_stops.specs.PlansOf.{IsSettingOf};
 ghost use Rattle.iox_wire_stops.specs.Begins.{begin, refusal_at};
 ghost use Rattle.iox_wire_stops.specs.Locals.{program_of};
@@ -86,6 +86,7 @@ pub fn connection_asked_by_one_step(
 ) -> Result<Option<SeatReply>, BeginError>
     requires no_port { port_of map.now number ≡ None }
     requires states { IfSome (entry_at number seat.old.seat.table) (HasStates map.now) }
+    requires list { most_ways map.now ≤ vec_capacity stops.old }
     requires accesses { seat.old.seat.accesses + 1 < 2 ^ 64 }
     ensures { (p : Setting) → IsSettingOf map.now p → OnOk result (seat.new.seat
         ≡ next p (begin p seat.old.seat (Port (IsConnected number))) seen) }
@@ -103,6 +104,7 @@ pub fn busy_node_gives_no_hint(
 ) -> Result<(), BeginError>
     requires no_port { port_of map.now number ≡ None }
     requires states { IfSome (entry_at number seat.old.seat.table) (HasStates map.now) }
+    requires list { most_ways map.now ≤ vec_capacity stops.old }
     requires hint { IfSome (entry_at number seat.old.seat.table) HasRoomForHint }
     ensures { (p : Setting) → IsSettingOf map.now p
         → refusal_at p seat.old.seat (Port (SetHint number)) ≡ Some refusals.Busy

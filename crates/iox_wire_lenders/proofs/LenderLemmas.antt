@@ -46,8 +46,8 @@ module _ (plan : WirePlan) (is : IsPlan plan) (i : ℕ) (q : PlanPort) (low : i 
   shape_there = ap (shape_of p.limits) planned.role
 
   module _ (t2 : Lender) (number : t2.port ≡ q.number) (role : t2.role ≡ q.role) where
-    pub is_lender : t2.many ≡ (messages_of t q.role).many → t2.longest ≡ q.longest → t2.ids.items ≡ own.ids.items
-        → t2.user.items ≡ (messages_of t q.role).user.items → AreSlots p (number_at plan i) t2.places → IsLender p t2
+    pub is_lender : t2.many ≡ (messages_of t q.role).many → t2.longest ≡ q.longest → t2.ids.now ≡ own.ids.items
+        → t2.user.now ≡ (messages_of t q.role).user.items → AreSlots p (number_at plan i) t2.places → IsLender p t2
     is_lender many longest ids user slots = record {
       number = ap (λ n. (p.port n).number) number ∙ planned.number ∙ sym number;
       role = ap (λ n. (p.port n).role) number ∙ planned.role ∙ sym role;

@@ -1,5 +1,5 @@
 //! The lender of a port, from the map and the terms of a wire.
-ghost use Rattle.std.specs.Prelude.{◌≡◌, IfOk, OnOk};
+ghost use Rattle.std.specs.Prelude.{◌≡◌};
 ghost use Rattle.iox_model.specs.declared.kind.Role.TheVariants.{Client, Server};
 ghost use Rattle.iox_wire_ways.specs.Plans.{IsPortAt, IsSlotAt, number_at};
 ghost use Rattle.iox_wire_lenders.specs.Terms.{FitsPlan, IsSettingWith};
@@ -11,42 +11,27 @@ ghost use Rattle.iox_wire_ways.specs.Visits.{pool_of};
 use crate::terms::WireTerms;
 use iox_model::kind::Role;
 use iox_wire_ways::{Lender, WordMap, slot_places};
-use std::alloc::{AllocError, Global};
-
-/// These words in memory of their own.
-fn copied(alloc: Global, words: &[u64]) -> Result<Vec<u64>, AllocError>
-    ensures { IfOk result (λ copy. copy.items ≡ words.now) }
-{
-    let mut copy = Vec::new(alloc);
-    copy.extend_from_slice(words)?;
-    Ok(copy)
-}
 
 /// The lender of the port at an index, as the map and the terms of the wire tell it. So many
 /// messages may return on each of its ways.
-pub fn make_lender(
-    alloc: Global,
-    map: &WordMap,
-    terms: &WireTerms,
-    port: usize,
-    room: usize,
-) -> Result<Lender, AllocError>
+#[inline(always)]
+pub fn make_lender<'a>(map: &WordMap, terms: &'a WireTerms, port: usize, room: usize) -> Lender<'a>
     requires slot { IsSlotAt map.now port 0 }
     requires header { HasHeader map.now port }
     requires fits { FitsPlan map.now terms.now }
     ensures lender { (p : Setting) → IsSettingWith map.now terms.now p
-        → IfOk result (λ lender. IsLender p lender) }
+        → IsLender p result }
     ensures client { (p : Setting) → IsSettingWith map.now terms.now p
-        → IsPortAt map.now Client port → IfOk result (λ lender. IsClient p lender) }
+        → IsPortAt map.now Client port → IsClient p result }
     ensures server { (p : Setting) → IsSettingWith map.now terms.now p
-        → IsPortAt map.now Server port → IfOk result (λ lender. IsServer p lender) }
-    ensures whole { IfOk result IsWhole }
-    ensures number { IfOk result (λ lender. lender.port ≡ number_at map.now port) }
-    ensures room { IfOk result (λ lender. lender.room ≡ room) }
-    ensures places { IfOk result (λ lender. lender.places ≡ planned_slots map.now port) }
-    ensures longest { IfOk result (λ lender. lender.longest
-        ≡ longest_of map.now (number_at map.now port)) }
-    ensures pool { IfOk result (λ lender. lender.pool ≡ pool_of map.now (number_at map.now port)) }
+        → IsPortAt map.now Server port → IsServer p result }
+    ensures whole { IsWhole result }
+    ensures number { result.port ≡ number_at map.now port }
+    ensures room { result.room ≡ room }
+    ensures places { result.places ≡ planned_slots map.now port }
+    ensures longest { result.longest
+        ≡ longest_of map.now (number_at map.now port) }
+    ensures pool { result.pool ≡ pool_of map.now (number_at map.now port) }
 {
     let plan = map.plan();
     let at = plan.ports[port];
@@ -57,7 +42,7 @@ pub fn make_lender(
         Role::Client => terms.loaned_requests,
         Role::Server => each * plan.limits.active_requests as u64 * terms.clients,
     };
-    Ok(Lender {
+    Lender {
         port: at.number,
         role: at.role,
         many: messages.many,
@@ -66,8 +51,8 @@ pub fn make_lender(
         each,
         pool: at.pool as u64,
         room,
-        ids: copied(alloc, &own.ids)?,
-        user: copied(alloc, &messages.user)?,
+        ids: &own.ids,
+        user: &messages.user,
         places: slot_places(map, port),
-    })
+    }
 }

@@ -50,9 +50,9 @@ pub record AreSlots (p : Setting) (port : ℕ) (t : SlotPlaces) : Type 0 where
 
 -- The port is told with the words of its headers, and there is room for them in each slot.
 pub record IsWhole (t : Lender) : Type 0 where
-  pub ids : length t.ids.items ≡ 4
+  pub ids : length t.ids.now ≡ 4
   pub header : t.places.header ≡ header_length t.role
-  pub user : t.places.user ≡ length t.user.items
+  pub user : t.places.user ≡ length t.user.now
   pub within : IsWithin t.places
 
 -- What is told of the port is so on the wire, as far as all loans ask it.
@@ -63,8 +63,8 @@ pub record IsLender (p : Setting) (t : Lender) : Type 0 where
   pub many : (port_shape p t.port).many ≡ t.many
   pub longest : (k : ℕ) → fits_size (p.port t.port) (port_shape p t.port) k ≡ nat_le k t.longest
   -- the words of its identifiers, and of its user header
-  pub ids : t.ids.items ≡ id_words (p.port t.port).node_id ++ id_words (p.port t.port).id
-  pub user : t.user.items ≡ (port_shape p t.port).user
+  pub ids : t.ids.now ≡ id_words (p.port t.port).node_id ++ id_words (p.port t.port).id
+  pub user : t.user.now ≡ (port_shape p t.port).user
   pub slots : AreSlots p t.port t.places
 
 -- So many loans a client may have, and that number is no lane of it.

@@ -7,9 +7,9 @@ use iox_model::kind::{Kind, Role};
 use iox_wire_locals::{CallRefusal, Entry};
 use iox_wire_seats::StoredSeat;
 
-/// What the wire tells of a port that lends.
-#[derive(Drop)]
-pub struct Lender {
+/// What the wire tells of a port that lends. It borrows the words of its headers.
+#[derive(Clone, Copy)]
+pub struct Lender<'a> {
     pub port: u64,
     pub role: Role,
     /// Whether its messages may have any number of elements, and how many they may have at most.
@@ -23,12 +23,12 @@ pub struct Lender {
     /// How many messages may return on each way.
     pub room: usize,
     /// The words of its node's identifier and of its own, and those of its user header.
-    pub ids: Vec<u64>,
-    pub user: Vec<u64>,
+    pub ids: &'a [u64],
+    pub user: &'a [u64],
     pub places: SlotPlaces,
 }
 
-impl Lender {
+impl<'a> Lender<'a> {
     ghost use Rattle.std.specs.Prelude.{◌≡◌};
     ghost use Rattle.iox_wire_locals.specs.Tables.{Setting};
     ghost use Rattle.iox_wire_loans.specs.Lenders.{IsClient, IsLender, IsServer};

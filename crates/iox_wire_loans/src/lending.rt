@@ -148,7 +148,7 @@ impl Lending {
     }
 
     /// The access that it makes next.
-    #[inline]
+    #[inline(always)]
     pub fn asks(&self) -> Access
         ensures { (p : Setting) → (x : Seat) → IsAimed p x self.now → result
             ≡ program_access p.layout (program_of p self.now.local) }
@@ -169,7 +169,7 @@ impl Lending {
     }
 
     /// Goes on after its access, which found `seen`. If it is over it says what that answers.
-    #[inline]
+    #[inline(always)]
     pub fn go_on(&mut self, seat: &mut StoredSeat, seen: u64) -> Option<LendReply>
         requires busy { is_busy self.old.local ≡ true }
         requires rests { is_busy seat.old.seat.local ≡ false }

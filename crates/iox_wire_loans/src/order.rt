@@ -23,7 +23,7 @@ impl Order {
     ghost use Rattle.iox_wire_loans.specs.Orders.{loan_of};
 
     /// Its handle, once it has a slot.
-    #[inline]
+    #[inline(always)]
     pub fn entry(self, slot: u64) -> Entry
         ensures { result ≡ entry_in (loan_of self) slot }
     {

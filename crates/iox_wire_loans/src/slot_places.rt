@@ -19,7 +19,7 @@ impl SlotPlaces {
     ghost use Rattle.iox_wire_loans.specs.Lenders.{IsWithin, start_in, user_in};
 
     /// How far behind the first a slot begins. What is no slot is told as the first.
-    #[inline]
+    #[inline(always)]
     pub fn start(self, slot: u64) -> usize
         requires { IsWithin self }
         ensures there { slot < self.slots → result ≡ start_in self slot }
@@ -33,7 +33,7 @@ impl SlotPlaces {
     }
 
     /// Where the header stands in a slot.
-    #[inline]
+    #[inline(always)]
     pub fn header_place(self, slot: u64) -> usize
         requires { IsWithin self }
         ensures there { slot < self.slots → result ≡ self.region + start_in self slot }
@@ -43,7 +43,7 @@ impl SlotPlaces {
     }
 
     /// Where the user header stands in a slot.
-    #[inline]
+    #[inline(always)]
     pub fn user_place(self, slot: u64) -> usize
         requires { IsWithin self }
         ensures there { slot < self.slots → result ≡ self.region + user_in self slot }

@@ -31,7 +31,7 @@ use std::alloc::AllocError;
 pub fn request_loan_begins(
     lending: &mut Lending,
     seat: &mut StoredSeat,
-    lender: &Lender,
+    lender: &Lender<'_>,
     number: u64,
     elements: u64,
     stops: &[Stop],
@@ -54,7 +54,7 @@ pub fn request_loan_begins(
 pub fn response_loan_begins(
     lending: &mut Lending,
     seat: &mut StoredSeat,
-    lender: &Lender,
+    lender: &Lender<'_>,
     request: Entry,
     number: u64,
     elements: u64,

@@ -26,6 +26,7 @@ pub use Rattle.iox_wire_begins.specs.Laws
 pub use Rattle.iox_wire_begins.specs.LendReply
 pub use Rattle.iox_wire_begins.specs.Lendings
 pub use Rattle.iox_wire_begins.specs.Lends
+pub use Rattle.iox_wire_begins.specs.ListRooms
 pub use Rattle.iox_wire_begins.specs.Loans
 pub use Rattle.iox_wire_begins.specs.Local
 pub use Rattle.iox_wire_begins.specs.Locals

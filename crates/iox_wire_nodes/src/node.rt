@@ -126,7 +126,7 @@ impl StoredNode {
     }
 
     /// The access that it makes next.
-    #[inline]
+    #[inline(always)]
     pub fn asks(&self) -> Access
         ensures { (p : Setting) → IsAimed p self.now → result
             ≡ program_access p.layout (program_of p (seat_in self.now).local) }
@@ -145,7 +145,7 @@ impl StoredNode {
     /// Goes on after its access, which found `seen`. If its call is over it says what that answers.
     /// There is to be room for what the call adds at its end, and what the access gets back,
     /// delivers or gives up is to be in use.
-    #[inline]
+    #[inline(always)]
     pub fn go_on(&mut self, seen: u64) -> Option<NodeReply>
         requires busy { is_busy (seat_in self.old).local ≡ true }
         requires accesses { self.old.seat.seat.accesses + 1 < 2 ^ 64 }

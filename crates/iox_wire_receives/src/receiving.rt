@@ -158,7 +158,7 @@ impl Receiving {
     }
 
     /// The access that it makes next.
-    #[inline]
+    #[inline(always)]
     pub fn asks(&self) -> Access
         ensures { (p : Setting) → (x : Seat) → IsAimed p x self.now → result
             ≡ program_access p.layout (program_of p self.now.local) }
@@ -173,7 +173,7 @@ impl Receiving {
     }
 
     /// Goes on after its access, which found `seen`. If it is over it says what that answers.
-    #[inline]
+    #[inline(always)]
     pub fn go_on(&mut self, seat: &mut StoredSeat, seen: u64) -> Option<ReceiveReply>
         requires busy { is_busy self.old.local ≡ true }
         requires accesses { seat.old.seat.accesses + 1 < 2 ^ 64 }

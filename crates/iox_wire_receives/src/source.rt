@@ -46,7 +46,7 @@ impl ReceiveTerms {
     ghost use Rattle.iox_wire_receives.specs.Sources.{messages_at, returning_at};
 
     /// Where the messages of a way wait.
-    #[inline]
+    #[inline(always)]
     pub fn messages(self, source: Source) -> Site
         ensures { result ≡ messages_at self source }
     {
@@ -58,7 +58,7 @@ impl ReceiveTerms {
     }
 
     /// Where they return.
-    #[inline]
+    #[inline(always)]
     pub fn returning(self, source: Source) -> Site
         requires { source.place + self.back < 2 ^ 64 }
         ensures { result ≡ returning_at self source }
@@ -73,7 +73,7 @@ impl ReceiveTerms {
 
 /// Where the part of that number begins, of so many that have so many words each. What has no
 /// such part is at 0.
-#[inline]
+#[inline(always)]
 pub fn part_of(base: usize, part: u64, count: u64, words: usize) -> usize
     requires { base + count * words < 2 ^ 64 }
     ensures there { part < count → result ≡ base + part * words }

@@ -54,7 +54,7 @@ impl Sources {
     }
 
     /// Takes the next of them.
-    #[inline]
+    #[inline(always)]
     pub fn next(&mut self) -> Option<Source>
         ensures taken { IfSome result (λ source. self.old ≡ source ∷ self.new) }
         ensures none { result ≡ None → self.old ≡ [] }

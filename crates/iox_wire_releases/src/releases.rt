@@ -1,12 +1,12 @@
 //! How the release of a handle begins.
-ghost use Rattle.std.specs.Prelude.{◌≡◌, ◌<◌, OnErr, OnOk, true};
+ghost use Rattle.std.specs.Prelude.{◌≡◌, ◌<◌, ◌≤◌, OnErr, OnOk, true, vec_capacity};
 ghost use Rattle.iox_model.specs.declared.call.Call.TheVariants.{Release};
 ghost use Rattle.iox_model.specs.declared.call.WireCall.TheVariants.{Port};
 ghost use Rattle.iox_model.specs.declared.kind.Kind.TheVariants.{ActiveRequest, PendingResponse};
 ghost use Rattle.iox_model.specs.declared.kind.Kind.TheVariants.{Response};
 ghost use Rattle.iox_model.specs.Maps.{has_number};
 ghost use Rattle.iox_word_map.specs.WordMaps.{IsResponseWay};
-ghost use Rattle.iox_word_places.specs.Plans.{sizes_of};
+ghost use Rattle.iox_word_places.specs.Plans.{most_ways, sizes_of};
 ghost use Rattle.iox_wire_locals.specs.Begins.{begin};
 ghost use Rattle.iox_wire_locals.specs.ReceiveCourses.{releasing};
 ghost use Rattle.iox_wire_locals.specs.Tables.{Setting, state_in, way_in};
@@ -24,21 +24,22 @@ use iox_word_places::WordMap;
 use std::alloc::AllocError;
 
 /// Begins the release of what that number names. That of a port is refused, and so is that of
-/// nothing. Only that of a pending response takes memory, where `stops` has no room: what it lists
-/// there is of no use later.
+/// nothing. Only that of a pending response lists anything in `stops`, which is of no use later.
 pub fn begin_release(
     map: &WordMap,
     seat: &mut StoredSeat,
     number: u64,
     stops: &mut Vec<Stop>,
 ) -> Result<(), AllocError>
-    requires { MayReleaseNumber map.now number seat.old.seat }
+    requires home { MayReleaseNumber map.now number seat.old.seat }
+    requires list { most_ways map.now ≤ vec_capacity stops.old }
     ensures begun { (p : Setting) → IsSettingOf map.now p → OnOk result (seat.new.seat
         ≡ begin p seat.old.seat (Port (Release number))) }
     ensures aimed { (p : Setting) → IsSettingOf map.now p → OnOk result (IsAimed p seat.new) }
     ensures accesses { seat.new.seat.accesses ≡ seat.old.seat.accesses }
     ensures room { seat.new.room ≡ seat.old.room }
     ensures unchanged { OnErr result (seat.new ≡ seat.old) }
+    ensures list { vec_capacity stops.new ≡ vec_capacity stops.old }
 {
     if place_of(map, number).is_some() {
         seat.refuse(CallRefusal::WrongKind);
@@ -60,13 +61,15 @@ fn release(
     entry: Entry,
     stops: &mut Vec<Stop>,
 ) -> Result<(), AllocError>
-    requires { MayRelease map.now entry seat.old.seat.desks }
+    requires home { MayRelease map.now entry seat.old.seat.desks }
+    requires list { most_ways map.now ≤ vec_capacity stops.old }
     ensures begun { (p : Setting) → IsSettingOf map.now p → OnOk result (seat.new.seat
         ≡ releasing p seat.old.seat entry) }
     ensures aimed { (p : Setting) → IsSettingOf map.now p → OnOk result (IsAimed p seat.new) }
     ensures accesses { seat.new.seat.accesses ≡ seat.old.seat.accesses }
     ensures room { seat.new.room ≡ seat.old.room }
     ensures unchanged { OnErr result (seat.new ≡ seat.old) }
+    ensures list { vec_capacity stops.new ≡ vec_capacity stops.old }
 {
     match entry.kind {
         Kind::Response => release_response(map, seat, entry),
@@ -89,15 +92,17 @@ fn release_pending(
     requires client { has_number pending.port (sizes_of map.now).clients ≡ true }
     requires lane { pending.lane < (sizes_of map.now).lanes pending.port }
     requires held { MayGiveUp pending seat.old.seat.desks }
+    requires list { most_ways map.now ≤ vec_capacity stops.old }
     ensures begun { (p : Setting) → IsSettingOf map.now p → OnOk result (seat.new.seat
         ≡ releasing p seat.old.seat pending) }
     ensures aimed { (p : Setting) → IsSettingOf map.now p → OnOk result (IsAimed p seat.new) }
     ensures accesses { seat.new.seat.accesses ≡ seat.old.seat.accesses }
     ensures room { seat.new.room ≡ seat.old.room }
     ensures unchanged { OnErr result (seat.new ≡ seat.old) }
+    ensures list { vec_capacity stops.new ≡ vec_capacity stops.old }
 {
     let client = client_place(map, pending.port, pending.lane);
-    list_states(map, seat, client, pending.lane, stops)?;
+    list_states(map, seat, client, pending.lane, stops);
     seat.release_pending(pending, stops)
 }
 

@@ -1,11 +1,11 @@
 //! The request states of a client's lane with all servers.
-ghost use Rattle.std.specs.Prelude.{◌≡◌, ◌<◌, OnOk, length, map as each};
+ghost use Rattle.std.specs.Prelude.{◌≡◌, ◌<◌, ◌≤◌, length, map as each, vec_capacity};
 ghost use Rattle.iox_model.specs.declared.kind.Role.TheVariants.{Server};
 ghost use Rattle.iox_model.specs.Messages.{response_way};
 ghost use Rattle.iox_model.specs.Peers.{others};
 ghost use Rattle.iox_word_places.specs.declared.way_index.WayIndex.TheVariants.{Responses};
 ghost use Rattle.iox_word_places.specs.Plans.{IsLaneAt, IsPlan, IsWayAt, layout_of, number_at};
-ghost use Rattle.iox_word_places.specs.Plans.{way_at};
+ghost use Rattle.iox_word_places.specs.Plans.{most_ways, way_at};
 ghost use Rattle.iox_wire_words.specs.Programs.{state_place};
 ghost use Rattle.iox_wire_locals.specs.Known.{known};
 ghost use Rattle.iox_wire_locals.specs.Tables.{Setting};
@@ -18,7 +18,6 @@ use iox_model::kind::Role;
 use iox_model::way::Way;
 use iox_wire_seats::{Stop, StoredSeat};
 use iox_word_places::{PlanPort, WordMap};
-use std::alloc::AllocError;
 
 /// Whether a port is a server that the node did not forget.
 fn is_left(seat: &StoredSeat, port: PlanPort) -> bool
@@ -63,26 +62,26 @@ fn stop_with(
 }
 
 /// Lists where the request states of a lane of the client at an index stand, one with each server
-/// that the node did not forget. What was listed before is lost.
+/// that the node did not forget. What was listed before is lost. There is room for them.
 pub fn list_states(
     map: &WordMap,
     seat: &StoredSeat,
     client: usize,
     lane: u64,
     stops: &mut Vec<Stop>,
-) -> Result<(), AllocError>
-    requires { IsLaneAt map.now client lane }
-    ensures ways { (p : Setting) → IsSettingOf map.now p → OnOk result (ways_of stops.new.items
+)
+    requires lane { IsLaneAt map.now client lane }
+    requires list { most_ways map.now ≤ vec_capacity stops.old }
+    ensures ways { (p : Setting) → IsSettingOf map.now p → ways_of stops.new.items
         ≡ each (response_way (number_at map.now client) lane)
-        (others (known p seat.now.seat) seat.now.seat.node Server)) }
-    ensures places { (p : Setting) → IsSettingOf map.now p
-        → OnOk result (AreStates p stops.new.items) }
+        (others (known p seat.now.seat) seat.now.seat.node Server) }
+    ensures places { (p : Setting) → IsSettingOf map.now p → AreStates p stops.new.items }
+    ensures list { vec_capacity stops.new ≡ vec_capacity stops.old }
 {
     stops.clear();
     for index in 0..map.plan().ports.len() {
         if let Some(stop) = stop_with(map, seat, client, lane, index) {
-            stops.push(stop)?;
+            stops.push_reserved(stop);
         }
     }
-    Ok(())
 }

@@ -1,5 +1,6 @@
 //! Callers, proved from the clauses alone.
-ghost use Rattle.std.specs.Prelude.{ℕ, ◌≡◌, ◌≢◌, ◌+◌, ◌<◌, ◌^◌, [], None, OnOk, Some, true};
+ghost use Rattle.std.specs.Prelude.{ℕ, ◌≡◌, ◌≢◌, ◌+◌, ◌<◌, ◌≤◌, ◌^◌, [], None, OnOk, Some, true, vec_capacity};
+ghost use Rattle.iox_word_places.specs.Plans.{most_ways};
 ghost use Rattle.iox_model.specs.declared.call.Call.TheVariants.{Release};
 ghost use Rattle.iox_model.specs.declared.call.WireCall.TheVariants.{Port};
 ghost use Rattle.iox_model.specs.Messages.{names};
@@ -37,6 +38,7 @@ pub fn released_by_one_step(
     seen: u64,
 ) -> Result<Option<SeatReply>, AllocError>
     requires home { MayReleaseNumber map.now number seat.old.seat }
+    requires list { most_ways map.now ≤ vec_capacity stops.old }
     requires accesses { seat.old.seat.accesses + 1 < 2 ^ 64 }
     ensures { (p : Setting) → IsSettingOf map.now p → OnOk result (seat.new.seat
         ≡ next p (begin p seat.old.seat (Port (Release number))) seen) }
@@ -52,7 +54,8 @@ pub fn nothing_is_released(
     number: u64,
     stops: &mut Vec<Stop>,
 ) -> Result<(), AllocError>
-    requires { entry_at number seat.old.seat.table ≡ None }
+    requires none { entry_at number seat.old.seat.table ≡ None }
+    requires list { most_ways map.now ≤ vec_capacity stops.old }
     ensures { (p : Setting) → IsSettingOf map.now p
         → port_at (known p seat.old.seat) number ≡ None
         → OnOk result (seat.new.seat ≡ ended seat.old.seat (Refuses UnknownNumber)) }

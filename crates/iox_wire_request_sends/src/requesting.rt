@@ -165,7 +165,7 @@ impl Requesting {
     }
 
     /// The access that it makes next.
-    #[inline]
+    #[inline(always)]
     pub fn asks(&self) -> Access
         ensures { (p : Setting) → (x : Seat) → IsAimed p x self.now → result
             ≡ program_access p.layout (program_of p self.now.local) }
@@ -182,7 +182,7 @@ impl Requesting {
     /// Goes on after its access, which found `seen`. If it is over it says what that answers. What
     /// it gets back is to be in use at the port's desk, and what it delivers is to have room in the
     /// record of its way.
-    #[inline]
+    #[inline(always)]
     pub fn go_on(&mut self, seat: &mut StoredSeat, seen: u64) -> Option<RequestReply>
         requires busy { is_busy self.old.local ≡ true }
         requires accesses { seat.old.seat.accesses + 1 < 2 ^ 64 }

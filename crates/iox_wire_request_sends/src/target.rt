@@ -34,7 +34,7 @@ impl RequestTerms {
     ghost use Rattle.iox_wire_request_sends.specs.Targets.{messages_at, returning_at, state_at};
 
     /// Where requests wait for a server.
-    #[inline]
+    #[inline(always)]
     pub fn messages(self, target: Target) -> Site
         ensures { result ≡ messages_at self target }
     {
@@ -46,7 +46,7 @@ impl RequestTerms {
     }
 
     /// Where they return.
-    #[inline]
+    #[inline(always)]
     pub fn returning(self, target: Target) -> Site
         requires { target.place + self.back < 2 ^ 64 }
         ensures { result ≡ returning_at self target }
@@ -59,7 +59,7 @@ impl RequestTerms {
     }
 
     /// Where the request state stands.
-    #[inline]
+    #[inline(always)]
     pub fn state(self, target: Target) -> usize
         requires { target.place + self.state < 2 ^ 64 }
         ensures { result ≡ state_at self target }

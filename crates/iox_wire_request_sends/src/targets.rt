@@ -62,7 +62,7 @@ impl Targets {
     }
 
     /// All are left again.
-    #[inline]
+    #[inline(always)]
     pub fn restart(&mut self)
         ensures { self.new ≡ record { all = self.old.all; left = self.old.all } }
     {
@@ -70,7 +70,7 @@ impl Targets {
     }
 
     /// Takes the next of those left.
-    #[inline]
+    #[inline(always)]
     pub fn next(&mut self) -> Option<Target>
         ensures all { self.new.all ≡ self.old.all }
         ensures taken { IfSome result (λ target. self.old.left ≡ target ∷ self.new.left) }
@@ -86,7 +86,7 @@ impl Targets {
     }
 
     /// Takes the next of those left that is not among the full ones.
-    #[inline]
+    #[inline(always)]
     pub fn next_with_room(&mut self, full: &[u64]) -> Option<Target>
         ensures all { self.new.all ≡ self.old.all }
         ensures taken { IfSome result (λ target. with_room full.now self.old.left
@@ -113,7 +113,7 @@ impl Targets {
 }
 
 /// Whether a server was seen full.
-#[inline]
+#[inline(always)]
 fn is_full(full: &[u64], server: u64) -> bool
     ensures { result ≡ has_number server full.now }
 {

@@ -94,7 +94,7 @@ impl Counts {
 }
 
 /// Whether two ways are the same.
-#[inline]
+#[inline(always)]
 pub(crate) fn is_same_way(way: Way, other: Way) -> bool
     ensures { result ≡ same_way way other }
 {

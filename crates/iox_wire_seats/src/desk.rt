@@ -79,7 +79,7 @@ impl StoredDesk {
     }
 
     /// The port.
-    #[inline]
+    #[inline(always)]
     pub fn port(&self) -> u64
         ensures { result ≡ self.now.port }
     {

@@ -15,7 +15,7 @@ impl MessagePlaces {
     ghost use Rattle.std.specs.Prelude.{ℕ, ◌≡◌, ◌<◌};
 
     /// The place of a word, of so many behind the header.
-    #[inline]
+    #[inline(always)]
     pub fn word(self, k: usize, count: usize) -> usize
         requires memory { AreInMemory self count }
         requires within { k < count }

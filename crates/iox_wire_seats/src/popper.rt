@@ -62,7 +62,7 @@ impl Popper {
     }
 
     /// Begins a pop.
-    #[inline]
+    #[inline(always)]
     pub fn pop(&mut self)
         ensures { self.new ≡ Pops LoadsRead }
     {
@@ -70,7 +70,7 @@ impl Popper {
     }
 
     /// Begins a look at emptiness.
-    #[inline]
+    #[inline(always)]
     pub fn look(&mut self)
         ensures { self.new ≡ Looks empty_look.LoadsRead }
     {
@@ -78,7 +78,7 @@ impl Popper {
     }
 
     /// The access that it makes next.
-    #[inline]
+    #[inline(always)]
     pub fn access(&self, site: Site) -> Access
         requires { site.base + size site < 2 ^ 64 }
         ensures { result ≡ popping_access site self.now }
@@ -93,7 +93,7 @@ impl Popper {
     }
 
     /// Goes on after its access, which found `seen`, and tells the event of it.
-    #[inline]
+    #[inline(always)]
     pub fn advance(&mut self, site: Site, seen: u64) -> QueueEvent
         requires { site.base + size site < 2 ^ 64 }
         ensures place { self.new ≡ popping_after site self.old seen }
@@ -133,7 +133,7 @@ impl Popper {
     }
 
     /// The same, as it may have taken the oldest.
-    #[inline]
+    #[inline(always)]
     fn take(&mut self, site: Site, seen: u64) -> QueueEvent
         requires memory { site.base + size site < 2 ^ 64 }
         requires there { IsTaking self.old }
@@ -152,7 +152,7 @@ impl Popper {
 }
 
 /// The access that takes the oldest.
-#[inline]
+#[inline(always)]
 fn taking(kind: QueueKind, place: usize, read: u64) -> Access
     ensures { result ≡ take_access kind place read }
 {
@@ -164,7 +164,7 @@ fn taking(kind: QueueKind, place: usize, read: u64) -> Access
 }
 
 /// Was the oldest taken by an access that found `seen`?
-#[inline]
+#[inline(always)]
 fn takes(kind: QueueKind, read: u64, seen: u64) -> bool
     ensures { result ≡ is_taken kind read seen }
 {
@@ -175,7 +175,7 @@ fn takes(kind: QueueKind, read: u64, seen: u64) -> bool
 }
 
 /// What the write position tells of what waits in a queue.
-#[inline]
+#[inline(always)]
 fn waiting_seen(site: Site, read: u64, write: u64) -> QueueEvent
     ensures { result ≡ waiting_event site read write }
 {

@@ -70,7 +70,7 @@ impl Pusher {
     }
 
     /// Begins a push.
-    #[inline]
+    #[inline(always)]
     pub fn push(&mut self, value: u64)
         ensures { self.new ≡ Pushes (LoadsWrite value) }
     {
@@ -79,7 +79,7 @@ impl Pusher {
     }
 
     /// Begins a look at fullness.
-    #[inline]
+    #[inline(always)]
     pub fn look(&mut self)
         ensures { self.new ≡ Looks full_look.LoadsWrite }
     {
@@ -87,7 +87,7 @@ impl Pusher {
     }
 
     /// Whether it is in no program.
-    #[inline]
+    #[inline(always)]
     pub fn is_at_rest(&self) -> bool
         ensures { result ≡ is_at_rest self.now }
     {
@@ -95,7 +95,7 @@ impl Pusher {
     }
 
     /// The access that it makes next.
-    #[inline]
+    #[inline(always)]
     pub fn access(&self, site: Site) -> Access
         requires { site.base + size site < 2 ^ 64 }
         ensures { result ≡ pushing_access site self.now }
@@ -115,7 +115,7 @@ impl Pusher {
     }
 
     /// Goes on after its access, which found `seen`, and tells the event of it.
-    #[inline]
+    #[inline(always)]
     pub fn advance(&mut self, site: Site, seen: u64) -> QueueEvent
         requires { site.base + size site < 2 ^ 64 }
         ensures place { self.new ≡ pushing_after site self.old seen }
@@ -155,7 +155,7 @@ impl Pusher {
     }
 
     /// The same, as it sees the read position: is there room?
-    #[inline]
+    #[inline(always)]
     fn compare(&mut self, site: Site, seen: u64) -> QueueEvent
         requires memory { site.base + size site < 2 ^ 64 }
         requires there { IsComparing self.old }
@@ -181,7 +181,7 @@ impl Pusher {
     }
 
     /// The same, as it may have pushed the oldest out.
-    #[inline]
+    #[inline(always)]
     fn evict(&mut self, site: Site, seen: u64) -> QueueEvent
         requires memory { site.base + size site < 2 ^ 64 }
         requires there { IsPushingOut self.old }
@@ -199,7 +199,7 @@ impl Pusher {
 }
 
 /// Is a push refused at this write position, of a queue that is full or not?
-#[inline]
+#[inline(always)]
 fn refuses(kind: QueueKind, full: bool, write: u64) -> bool
     ensures { result ≡ is_refused kind (write == last_position) full }
 {
@@ -216,7 +216,7 @@ fn refuses(kind: QueueKind, full: bool, write: u64) -> bool
 }
 
 /// What the read position tells of the room in a queue.
-#[inline]
+#[inline(always)]
 fn room_seen(site: Site, read: u64, write: u64) -> QueueEvent
     ensures { result ≡ room_event site read write }
 {

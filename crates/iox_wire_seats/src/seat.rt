@@ -215,7 +215,7 @@ impl StoredSeat {
     }
 
     /// The access that it makes next.
-    #[inline]
+    #[inline(always)]
     pub fn asks(&self) -> Access
         ensures { (p : Setting) → IsAimed p self.now
             → result ≡ program_access p.layout (program_of p self.now.seat.local) }
@@ -242,7 +242,7 @@ impl StoredSeat {
     }
 
     /// Goes on after its access, which found `seen`. If its call is over it says what that answers.
-    #[inline]
+    #[inline(always)]
     pub fn go_on(&mut self, seen: u64) -> Option<SeatReply>
         requires { self.old.seat.accesses + 1 < 2 ^ 64 }
         ensures next { GoesOn self.old seen self.new }

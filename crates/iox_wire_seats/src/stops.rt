@@ -61,7 +61,7 @@ impl Stops {
     }
 
     /// Takes the next of them.
-    #[inline]
+    #[inline(always)]
     pub fn next(&mut self) -> Option<Stop>
         ensures taken { IfSome result (λ stop. self.old ≡ stop ∷ self.new) }
         ensures none { result ≡ None → self.old ≡ [] }

@@ -116,7 +116,7 @@ impl Responding {
     }
 
     /// The access that it makes next.
-    #[inline]
+    #[inline(always)]
     pub fn asks(&self) -> Access
         ensures { (p : Setting) → IsAimed p self.now → result
             ≡ program_access p.layout (program_of p self.now.local) }
@@ -133,7 +133,7 @@ impl Responding {
     /// Goes on after its access, which found `seen`. If it is over it says what that answers. The loan
     /// and what it gets back are to be in use at the port's desk, and what it delivers is to have room
     /// in the record of its way.
-    #[inline]
+    #[inline(always)]
     pub fn go_on(&mut self, seat: &mut StoredSeat, seen: u64) -> Option<RespondReply>
         requires busy { is_busy self.old.local ≡ true }
         requires accesses { seat.old.seat.accesses + 1 < 2 ^ 64 }

@@ -1,5 +1,6 @@
 pub mod OwnStateLemmas
 pub mod LaneReturnLemmas
+pub mod LaneCounts
 pub mod WaitingLemmas
 -- what the crates above cite of those below
 pub use Rattle.iox_wire_releases.proofs.PlaceLemmas as ReleasesPlaceLemmas

@@ -1,12 +1,12 @@
 //! The request states at which a handle looks.
-ghost use Rattle.std.specs.Prelude.{◌≡◌, ◌==◌, ◌<◌, OnOk, filter, length, map as each};
-ghost use Rattle.std.specs.Prelude.{true};
+ghost use Rattle.std.specs.Prelude.{◌≡◌, ◌==◌, ◌<◌, ◌≤◌, filter, length, map as each, true};
+ghost use Rattle.std.specs.Prelude.{vec_capacity};
 ghost use Rattle.iox_model.specs.declared.kind.Role.TheVariants.{Client, Server};
 ghost use Rattle.iox_model.specs.Messages.{response_way};
 ghost use Rattle.iox_model.specs.Peers.{others};
 ghost use Rattle.iox_word_map.specs.WordMaps.{IsResponseWay};
 ghost use Rattle.iox_wire_ways.specs.WayIndex.TheVariants.{Responses};
-ghost use Rattle.iox_wire_ways.specs.Plans.{IsPortAt, IsWayAt, number_at, sizes_of};
+ghost use Rattle.iox_wire_ways.specs.Plans.{IsPortAt, IsWayAt, most_ways, number_at, sizes_of};
 ghost use Rattle.iox_wire_ways.specs.Known.{known};
 ghost use Rattle.iox_wire_ways.specs.ReceiveCourses.{states_for};
 ghost use Rattle.iox_wire_ways.specs.Tables.{Setting, state_in};
@@ -22,7 +22,6 @@ use iox_model::kind::{Kind, Role};
 use iox_model::way::Way;
 use iox_wire_releases::{client_place, list_states, server_place};
 use iox_wire_ways::{Entry, PlanPort, Stop, StoredSeat, WordMap};
-use std::alloc::AllocError;
 
 /// Whether a port is the client of that number, and the node did not forget it.
 fn is_left(seat: &StoredSeat, client: u64, port: PlanPort) -> bool
@@ -68,56 +67,52 @@ fn state_at(
 }
 
 /// Lists where the request state of a received request stands, if the node did not forget its
-/// client. What was listed before is lost.
+/// client. What was listed before is lost. There is room for it.
 fn list_own_state(
     map: &WordMap,
     seat: &StoredSeat,
     request: Entry,
     server: usize,
     stops: &mut Vec<Stop>,
-) -> Result<(), AllocError>
+)
     requires home { IsResponseWay (sizes_of map.now) (state_in request) }
     requires server { IsPortAt map.now Server server }
-    ensures ways { (p : Setting) → IsSettingOf map.now p → OnOk result (ways_of stops.new.items
+    requires list { most_ways map.now ≤ vec_capacity stops.old }
+    ensures ways { (p : Setting) → IsSettingOf map.now p → ways_of stops.new.items
         ≡ each (λ client. response_way client request.lane (number_at map.now server))
         (filter (λ client. client == request.client)
-        (others (known p seat.now.seat) seat.now.seat.node Client))) }
-    ensures places { (p : Setting) → IsSettingOf map.now p
-        → OnOk result (AreStates p stops.new.items) }
+        (others (known p seat.now.seat) seat.now.seat.node Client)) }
+    ensures places { (p : Setting) → IsSettingOf map.now p → AreStates p stops.new.items }
+    ensures list { vec_capacity stops.new ≡ vec_capacity stops.old }
 {
     stops.clear();
     for index in 0..map.plan().ports.len() {
         if let Some(stop) = state_at(map, seat, request, server, index) {
-            stops.push(stop)?;
+            stops.push_reserved(stop);
         }
     }
-    Ok(())
 }
 
 /// Lists where the request states stand at which a handle looks: a pending response at those with
 /// all servers that its node did not forget, an active request at its own. What was listed
-/// before is lost.
-pub fn list_states_of(
-    map: &WordMap,
-    seat: &StoredSeat,
-    handle: Entry,
-    stops: &mut Vec<Stop>,
-) -> Result<(), AllocError>
+/// before is lost. There is room for them.
+pub fn list_states_of(map: &WordMap, seat: &StoredSeat, handle: Entry, stops: &mut Vec<Stop>)
     requires states { HasStates map.now handle }
     requires kind { has_states handle.kind ≡ true }
+    requires list { most_ways map.now ≤ vec_capacity stops.old }
     ensures ways { (p : Setting) → IsSettingOf map.now p
-        → OnOk result (ways_of stops.new.items ≡ states_for p seat.now.seat handle) }
-    ensures places { (p : Setting) → IsSettingOf map.now p
-        → OnOk result (AreStates p stops.new.items) }
+        → ways_of stops.new.items ≡ states_for p seat.now.seat handle }
+    ensures places { (p : Setting) → IsSettingOf map.now p → AreStates p stops.new.items }
+    ensures list { vec_capacity stops.new ≡ vec_capacity stops.old }
 {
     match handle.kind {
         Kind::PendingResponse => {
             let client = client_place(map, handle.port, handle.lane);
-            list_states(map, seat, client, handle.lane, stops)
+            list_states(map, seat, client, handle.lane, stops);
         }
         Kind::ActiveRequest => {
             let server = server_place(map, handle.port);
-            list_own_state(map, seat, handle, server, stops)
+            list_own_state(map, seat, handle, server, stops);
         }
         _ => unreachable!(),
     }

@@ -1,10 +1,10 @@
 //! The queues in which the messages wait that a receive would visit.
-ghost use Rattle.std.specs.Prelude.{◌≡◌, ◌*◌, IfOk, OnOk, map as each};
+ghost use Rattle.std.specs.Prelude.{◌≡◌, ◌*◌, ◌≤◌, length, map as each, vec_capacity};
 ghost use Rattle.iox_model.specs.declared.kind.Role.TheVariants.{Server};
 ghost use Rattle.iox_model.specs.Messages.{response_way};
 ghost use Rattle.iox_model.specs.Peers.{ports_of_role};
 ghost use Rattle.iox_model.specs.Receives.{server_ways};
-ghost use Rattle.iox_wire_ways.specs.Plans.{IsLaneAt, IsPortAt, number_at};
+ghost use Rattle.iox_wire_ways.specs.Plans.{IsLaneAt, IsPortAt, most_ways, number_at};
 ghost use Rattle.iox_wire_ways.specs.PlansOf.{IsSettingOf};
 ghost use Rattle.iox_wire_ways.specs.Seat.{Seat};
 ghost use Rattle.iox_wire_ways.specs.Known.{known};
@@ -19,21 +19,21 @@ use iox_steps::Site;
 use iox_wire_ways::{
     ReceiveTerms, Source, Stop, StoredSeat, WordMap, list_request_sources, list_response_sources,
 };
-use std::alloc::AllocError;
 
-/// Lists the queues of sources. What was listed before is lost.
-fn list_queues(sources: &[Source], stops: &mut Vec<Stop>) -> Result<(), AllocError>
-    ensures { OnOk result (stops.new.items ≡ each stop_of sources.now) }
+/// Lists the queues of sources. What was listed before is lost. There is room for them.
+fn list_queues(sources: &[Source], stops: &mut Vec<Stop>)
+    requires { length sources.now ≤ vec_capacity stops.old }
+    ensures stops { stops.new.items ≡ each stop_of sources.now }
+    ensures list { vec_capacity stops.new ≡ vec_capacity stops.old }
 {
     stops.clear();
     for index in 0..sources.len() {
         let source = sources[index];
-        stops.push(Stop {
+        stops.push_reserved(Stop {
             way: source.way,
             place: source.place,
-        })?;
+        });
     }
-    Ok(())
 }
 
 /// A queue like those of the sources that were told so.
@@ -57,20 +57,23 @@ pub fn list_waiting_requests(
     fire_and_forget: bool,
     sources: &mut Vec<Source>,
     stops: &mut Vec<Stop>,
-) -> Result<Site, AllocError>
+) -> Site
     requires server { IsPortAt map.now Server server }
     requires known { HasRequestWays map.now }
+    requires sources { most_ways map.now ≤ vec_capacity sources.old }
+    requires stops { most_ways map.now ≤ vec_capacity stops.old }
     ensures ways { (p : Setting) → IsSettingOf map.now p
-        → p.limits.fire_and_forget ≡ fire_and_forget → OnOk result (ways_of stops.new.items
-        ≡ server_ways (known p seat.now.seat) (p.port (number_at map.now server))) }
-    ensures queues { (p : Setting) → IsSettingOf map.now p → IfOk result
-        (λ queue. AreQueues p queue.kind queue.capacity stops.new.items) }
-    ensures within { IfOk result
-        (λ queue. QueuesInMemory queue.kind queue.capacity stops.new.items) }
+        → p.limits.fire_and_forget ≡ fire_and_forget → ways_of stops.new.items
+        ≡ server_ways (known p seat.now.seat) (p.port (number_at map.now server)) }
+    ensures queues { (p : Setting) → IsSettingOf map.now p
+        → AreQueues p result.kind result.capacity stops.new.items }
+    ensures within { QueuesInMemory result.kind result.capacity stops.new.items }
+    ensures sources { vec_capacity sources.new ≡ vec_capacity sources.old }
+    ensures stops { vec_capacity stops.new ≡ vec_capacity stops.old }
 {
-    let terms = list_request_sources(map, seat, server, fire_and_forget, 0, sources)?;
-    list_queues(sources, stops)?;
-    Ok(queue_like(terms))
+    let terms = list_request_sources(map, seat, server, fire_and_forget, 0, sources);
+    list_queues(sources, stops);
+    queue_like(terms)
 }
 
 /// Lists the queues in which responses wait on a lane of the client at an index, from all servers,
@@ -81,18 +84,20 @@ pub fn list_waiting_responses(
     lane: u64,
     sources: &mut Vec<Source>,
     stops: &mut Vec<Stop>,
-) -> Result<Site, AllocError>
+) -> Site
     requires lane { IsLaneAt map.now client lane }
     requires header { map.now.response.header.size ≡ 8 * header_length Server }
-    ensures ways { (p : Setting) → (x : Seat) → IsSettingOf map.now p
-        → OnOk result (ways_of stops.new.items
-        ≡ each (response_way (number_at map.now client) lane) (ports_of_role (known p x) Server)) }
-    ensures queues { (p : Setting) → IsSettingOf map.now p → IfOk result
-        (λ queue. AreQueues p queue.kind queue.capacity stops.new.items) }
-    ensures within { IfOk result
-        (λ queue. QueuesInMemory queue.kind queue.capacity stops.new.items) }
+    requires sources { most_ways map.now ≤ vec_capacity sources.old }
+    requires stops { most_ways map.now ≤ vec_capacity stops.old }
+    ensures ways { (p : Setting) → (x : Seat) → IsSettingOf map.now p → ways_of stops.new.items
+        ≡ each (response_way (number_at map.now client) lane) (ports_of_role (known p x) Server) }
+    ensures queues { (p : Setting) → IsSettingOf map.now p
+        → AreQueues p result.kind result.capacity stops.new.items }
+    ensures within { QueuesInMemory result.kind result.capacity stops.new.items }
+    ensures sources { vec_capacity sources.new ≡ vec_capacity sources.old }
+    ensures stops { vec_capacity stops.new ≡ vec_capacity stops.old }
 {
-    let terms = list_response_sources(map, client, lane, false, 0, sources)?;
-    list_queues(sources, stops)?;
-    Ok(queue_like(terms))
+    let terms = list_response_sources(map, client, lane, false, 0, sources);
+    list_queues(sources, stops);
+    queue_like(terms)
 }

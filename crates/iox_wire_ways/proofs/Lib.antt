@@ -20,6 +20,7 @@ pub use Rattle.iox_wire_messages.proofs.OwnedPlaces
 pub use Rattle.iox_wire_messages.proofs.PairLemmas
 pub use Rattle.iox_wire_messages.proofs.PlaceLemmas
 pub use Rattle.iox_wire_messages.proofs.PlanLemmas
+pub use Rattle.iox_wire_messages.proofs.WayCounts
 pub use Rattle.iox_wire_messages.proofs.Planned
 pub use Rattle.iox_wire_messages.proofs.SlotLemmas as PlacesSlotLemmas
 pub use Rattle.iox_wire_messages.proofs.Steps

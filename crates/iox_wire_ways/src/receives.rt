@@ -1,8 +1,8 @@
 //! How a receive begins, with its ways from the map.
-ghost use Rattle.std.specs.Prelude.{ℕ, ◌≡◌, ◌*◌, OnErr, OnOk, false};
+ghost use Rattle.std.specs.Prelude.{ℕ, ◌≡◌, ◌*◌, ◌≤◌, OnErr, OnOk, false, vec_capacity};
 ghost use Rattle.iox_model.specs.declared.call.Call.TheVariants.{Receive};
 ghost use Rattle.iox_model.specs.declared.kind.Role.TheVariants.{Server};
-ghost use Rattle.iox_wire_messages.specs.Plans.{IsLaneAt, IsPortAt, number_at};
+ghost use Rattle.iox_wire_messages.specs.Plans.{IsLaneAt, IsPortAt, most_ways, number_at};
 ghost use Rattle.iox_wire_messages.specs.PlansOf.{IsSettingOf};
 ghost use Rattle.iox_wire_messages.specs.Begins.{begins_at_entry, begins_at_port, is_busy};
 ghost use Rattle.iox_wire_messages.specs.Courses.{placed};
@@ -33,6 +33,7 @@ pub fn begin_request_receive(
     requires rests { is_busy receiving.old.local ≡ false }
     requires server { IsPortAt map.now Server server }
     requires known { HasRequestWays map.now }
+    requires list { most_ways map.now ≤ vec_capacity sources.old }
     ensures begun { (p : Setting) → (n : ℕ) → IsSettingOf map.now p
         → p.limits.fire_and_forget ≡ fire_and_forget
         → OnOk result (placed seat.now.seat receiving.new.local
@@ -43,8 +44,9 @@ pub fn begin_request_receive(
     ensures counts { OnOk result (HasRoomFor seat.now.seat receiving.new.local) }
     ensures number { OnOk result (receiving.new.terms.number ≡ number) }
     ensures unchanged { OnErr result (receiving.new ≡ receiving.old) }
+    ensures list { vec_capacity sources.new ≡ vec_capacity sources.old }
 {
-    let terms = list_request_sources(map, seat, server, fire_and_forget, number, sources)?;
+    let terms = list_request_sources(map, seat, server, fire_and_forget, number, sources);
     let visit = Visit {
         port: map.plan().ports[server].number,
         role: Role::Server,
@@ -70,6 +72,7 @@ pub fn begin_response_receive(
     requires client { number_at map.now client ≡ pending.port }
     requires lane { IsLaneAt map.now client pending.lane }
     requires header { map.now.response.header.size ≡ 8 * header_length Server }
+    requires list { most_ways map.now ≤ vec_capacity sources.old }
     ensures begun { (p : Setting) → (n : ℕ) → IsSettingOf map.now p
         → OnOk result (placed seat.now.seat receiving.new.local
         ≡ begins_at_entry p seat.now.seat (Receive n) pending) }
@@ -79,9 +82,10 @@ pub fn begin_response_receive(
     ensures counts { OnOk result (HasRoomFor seat.now.seat receiving.new.local) }
     ensures number { OnOk result (receiving.new.terms.number ≡ number) }
     ensures unchanged { OnErr result (receiving.new ≡ receiving.old) }
+    ensures list { vec_capacity sources.new ≡ vec_capacity sources.old }
 {
     let lane = pending.lane;
-    let terms = list_response_sources(map, client, lane, fire_and_forget, number, sources)?;
+    let terms = list_response_sources(map, client, lane, fire_and_forget, number, sources);
     let visit = Visit {
         port: pending.port,
         role: Role::Client,

@@ -1,10 +1,10 @@
 //! The ways from which a pending response receives.
-ghost use Rattle.std.specs.Prelude.{◌≡◌, ◌*◌, ◌<◌, IfOk, IfSome, OnOk, [], length, map as each};
+ghost use Rattle.std.specs.Prelude.{◌≡◌, ◌*◌, ◌<◌, ◌≤◌, IfSome, [], length, map as each, vec_capacity, vec_len};
 ghost use Rattle.iox_model.specs.declared.kind.Role.TheVariants.{Client, Server};
 ghost use Rattle.iox_model.specs.Messages.{response_way};
 ghost use Rattle.iox_model.specs.Peers.{ports_of_role};
 ghost use Rattle.iox_wire_messages.specs.WayIndex.TheVariants.{Responses};
-ghost use Rattle.iox_wire_messages.specs.Plans.{IsLaneAt, IsPortAt, IsWayAt, number_at};
+ghost use Rattle.iox_wire_messages.specs.Plans.{IsLaneAt, IsPortAt, IsWayAt, most_ways, number_at};
 ghost use Rattle.iox_wire_messages.specs.PlansOf.{IsSettingOf};
 ghost use Rattle.iox_wire_messages.specs.Seat.{Seat};
 ghost use Rattle.iox_wire_messages.specs.Known.{known};
@@ -20,7 +20,6 @@ use iox_model::way::Way;
 use iox_steps::QueueKind;
 use iox_wire_messages::{PlanPort, WayIndex, WordMap};
 use iox_wire_receives::{ReceiveTerms, Source};
-use std::alloc::AllocError;
 
 /// Whether a port is a server, of whatever node.
 fn is_server(port: PlanPort) -> bool
@@ -105,7 +104,7 @@ fn source_at(map: &WordMap, client: usize, lane: u64, index: usize) -> Option<So
 
 /// Lists the ways from which a pending response of the client at an index receives, on its lane,
 /// and tells what is the same of all. What was listed before is lost. The handle that the receive
-/// makes has that number.
+/// makes has that number. There is room for the ways.
 pub fn list_response_sources(
     map: &WordMap,
     client: usize,
@@ -113,18 +112,20 @@ pub fn list_response_sources(
     fire_and_forget: bool,
     number: u64,
     sources: &mut Vec<Source>,
-) -> Result<ReceiveTerms, AllocError>
+) -> ReceiveTerms
     requires lane { IsLaneAt map.now client lane }
     requires header { map.now.response.header.size ≡ 8 * header_length Server }
+    requires list { most_ways map.now ≤ vec_capacity sources.old }
     ensures ways { (p : Setting) → (x : Seat) → IsSettingOf map.now p
-        → OnOk result (ways_of sources.new.items
-        ≡ each (response_way (number_at map.now client) lane) (ports_of_role (known p x) Server)) }
-    ensures sources { (p : Setting) → IsSettingOf map.now p → IfOk result
-        (λ terms. AreSources p terms (header_length Server) sources.new.items) }
-    ensures within { IfOk result
-        (λ terms. AreWithin terms (header_length Server) sources.new.items) }
-    ensures number { IfOk result (λ terms. terms.number ≡ number) }
-    ensures asks { IfOk result (λ terms. terms.fire_and_forget ≡ fire_and_forget) }
+        → ways_of sources.new.items
+        ≡ each (response_way (number_at map.now client) lane) (ports_of_role (known p x) Server) }
+    ensures sources { (p : Setting) → IsSettingOf map.now p
+        → AreSources p result (header_length Server) sources.new.items }
+    ensures within { AreWithin result (header_length Server) sources.new.items }
+    ensures number { result.number ≡ number }
+    ensures asks { result.fire_and_forget ≡ fire_and_forget }
+    ensures many { vec_len sources.new ≤ length map.now.ports.items }
+    ensures list { vec_capacity sources.new ≡ vec_capacity sources.old }
 {
     // only what this promises is wanted
     let _total = map.total();
@@ -143,8 +144,8 @@ pub fn list_response_sources(
     for index in 0..map.plan().ports.len() {
         if let Some(source) = source_at(map, client, lane, index) {
             terms = terms_with(map, client, lane, index, fire_and_forget, number);
-            sources.push(source)?;
+            sources.push_reserved(source);
         }
     }
-    Ok(terms)
+    terms
 }

@@ -1,10 +1,10 @@
 //! Where the requests of a client return to it.
-ghost use Rattle.std.specs.Prelude.{◌≡◌, ◌<◌, IfOk, IfSome, OnOk, length, option_map};
+ghost use Rattle.std.specs.Prelude.{◌≡◌, ◌<◌, ◌≤◌, IfSome, length, option_map, vec_capacity};
 ghost use Rattle.iox_model.specs.declared.kind.Role.TheVariants.{Client, Server};
 ghost use Rattle.iox_model.specs.Loans.{request_ways};
 ghost use Rattle.iox_steps.specs.declared.site.QueueKind.TheVariants.{Index};
 ghost use Rattle.iox_wire_messages.specs.WayIndex.TheVariants.{Requests};
-ghost use Rattle.iox_wire_messages.specs.Plans.{IsPortAt, IsWayAt, number_at, returning_room};
+ghost use Rattle.iox_wire_messages.specs.Plans.{IsPortAt, IsWayAt, most_ways, number_at, returning_room};
 ghost use Rattle.iox_wire_messages.specs.PlansOf.{IsSettingOf};
 ghost use Rattle.iox_wire_copies.specs.Lenders.{AreReturning};
 ghost use Rattle.iox_wire_messages.specs.Known.{known};
@@ -17,7 +17,6 @@ ghost use Rattle.iox_wire_ways.specs.Visits.{is_other, made_at, returning_stop};
 use iox_model::kind::Role;
 use iox_model::way::Way;
 use iox_wire_messages::{PlanPort, Stop, StoredSeat, WayIndex, WordMap};
-use std::alloc::AllocError;
 
 /// A way on which messages return, and for how many there is room.
 #[derive(Clone, Copy)]
@@ -71,19 +70,22 @@ fn return_at(map: &WordMap, seat: &StoredSeat, client: usize, index: usize) -> O
 
 /// Lists where the requests of the client at an index return, from each server that the node did
 /// not forget, and says how many may return on each of these ways. What was listed before is lost.
+/// There is room for them.
 pub fn list_request_returns(
     map: &WordMap,
     seat: &StoredSeat,
     client: usize,
     stops: &mut Vec<Stop>,
-) -> Result<usize, AllocError>
-    requires { IsPortAt map.now Client client }
-    ensures ways { (p : Setting) → IsSettingOf map.now p → OnOk result (ways_of stops.new.items
+) -> usize
+    requires client { IsPortAt map.now Client client }
+    requires list { most_ways map.now ≤ vec_capacity stops.old }
+    ensures ways { (p : Setting) → IsSettingOf map.now p → ways_of stops.new.items
         ≡ request_ways (known p seat.now.seat)
-        (p.port (number_at map.now client)).node (number_at map.now client)) }
+        (p.port (number_at map.now client)).node (number_at map.now client) }
     ensures places { (p : Setting) → IsSettingOf map.now p
-        → IfOk result (λ room. AreReturning p room stops.new.items) }
-    ensures within { IfOk result (λ room. QueuesInMemory Index room stops.new.items) }
+        → AreReturning p result stops.new.items }
+    ensures within { QueuesInMemory Index result stops.new.items }
+    ensures list { vec_capacity stops.new ≡ vec_capacity stops.old }
 {
     // only what this promises is wanted
     let _total = map.total();
@@ -92,8 +94,8 @@ pub fn list_request_returns(
     for index in 0..map.plan().ports.len() {
         if let Some(back) = return_at(map, seat, client, index) {
             room = back.room;
-            stops.push(back.stop)?;
+            stops.push_reserved(back.stop);
         }
     }
-    Ok(room)
+    room
 }

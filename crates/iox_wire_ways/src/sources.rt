@@ -1,9 +1,9 @@
 //! The ways from which a server receives.
-ghost use Rattle.std.specs.Prelude.{◌≡◌, ◌<◌, IfOk, IfSome, OnOk, length, option_map};
+ghost use Rattle.std.specs.Prelude.{◌≡◌, ◌<◌, ◌≤◌, IfSome, length, option_map, vec_capacity, vec_len};
 ghost use Rattle.iox_model.specs.declared.kind.Role.TheVariants.{Client, Server};
 ghost use Rattle.iox_model.specs.Receives.{server_ways};
 ghost use Rattle.iox_wire_messages.specs.WayIndex.TheVariants.{Requests, Responses};
-ghost use Rattle.iox_wire_messages.specs.Plans.{IsPortAt, IsWayAt, number_at};
+ghost use Rattle.iox_wire_messages.specs.Plans.{IsPortAt, IsWayAt, most_ways, number_at};
 ghost use Rattle.iox_wire_messages.specs.PlansOf.{IsSettingOf};
 ghost use Rattle.iox_wire_messages.specs.Known.{known};
 ghost use Rattle.iox_wire_messages.specs.Stored.{header_length};
@@ -19,7 +19,6 @@ use iox_model::way::Way;
 use iox_steps::QueueKind;
 use iox_wire_messages::{PlanPort, StoredSeat, WayIndex, WordMap};
 use iox_wire_receives::{ReceiveTerms, Source};
-use std::alloc::AllocError;
 
 /// Whether a receive visits a port: it is a client, and its node is not forgotten or all are
 /// visited.
@@ -111,7 +110,8 @@ fn source_at(
 }
 
 /// Lists the ways from which the server at an index receives, and tells what is the same of all.
-/// What was listed before is lost. The handle that the receive makes has that number.
+/// What was listed before is lost. The handle that the receive makes has that number. There is room
+/// for the ways.
 pub fn list_request_sources(
     map: &WordMap,
     seat: &StoredSeat,
@@ -119,18 +119,20 @@ pub fn list_request_sources(
     fire_and_forget: bool,
     number: u64,
     sources: &mut Vec<Source>,
-) -> Result<ReceiveTerms, AllocError>
+) -> ReceiveTerms
     requires server { IsPortAt map.now Server server }
     requires known { HasRequestWays map.now }
+    requires list { most_ways map.now ≤ vec_capacity sources.old }
     ensures ways { (p : Setting) → IsSettingOf map.now p
-        → p.limits.fire_and_forget ≡ fire_and_forget → OnOk result (ways_of sources.new.items
-        ≡ server_ways (known p seat.now.seat) (p.port (number_at map.now server))) }
-    ensures sources { (p : Setting) → IsSettingOf map.now p → IfOk result
-        (λ terms. AreSources p terms (header_length Client) sources.new.items) }
-    ensures within { IfOk result
-        (λ terms. AreWithin terms (header_length Client) sources.new.items) }
-    ensures number { IfOk result (λ terms. terms.number ≡ number) }
-    ensures asks { IfOk result (λ terms. terms.fire_and_forget ≡ fire_and_forget) }
+        → p.limits.fire_and_forget ≡ fire_and_forget → ways_of sources.new.items
+        ≡ server_ways (known p seat.now.seat) (p.port (number_at map.now server)) }
+    ensures sources { (p : Setting) → IsSettingOf map.now p
+        → AreSources p result (header_length Client) sources.new.items }
+    ensures within { AreWithin result (header_length Client) sources.new.items }
+    ensures number { result.number ≡ number }
+    ensures asks { result.fire_and_forget ≡ fire_and_forget }
+    ensures many { vec_len sources.new ≤ length map.now.ports.items }
+    ensures list { vec_capacity sources.new ≡ vec_capacity sources.old }
 {
     let mut terms = ReceiveTerms {
         kind: QueueKind::Index,
@@ -147,8 +149,8 @@ pub fn list_request_sources(
     for index in 0..map.plan().ports.len() {
         if let Some(source) = source_at(map, seat, server, fire_and_forget, index) {
             terms = terms_with(map, server, index, fire_and_forget, number);
-            sources.push(source)?;
+            sources.push_reserved(source);
         }
     }
-    Ok(terms)
+    terms
 }

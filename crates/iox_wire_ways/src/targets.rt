@@ -1,9 +1,9 @@
 //! The servers to which a request goes.
-ghost use Rattle.std.specs.Prelude.{◌≡◌, ◌<◌, IfOk, IfSome, OnOk, length};
+ghost use Rattle.std.specs.Prelude.{◌≡◌, ◌<◌, ◌≤◌, IfSome, length, vec_capacity};
 ghost use Rattle.iox_model.specs.declared.kind.Role.TheVariants.{Client, Server};
 ghost use Rattle.iox_model.specs.Peers.{others};
 ghost use Rattle.iox_wire_messages.specs.WayIndex.TheVariants.{Requests, Responses};
-ghost use Rattle.iox_wire_messages.specs.Plans.{IsLaneAt, IsPortAt, IsWayAt, number_at};
+ghost use Rattle.iox_wire_messages.specs.Plans.{IsLaneAt, IsPortAt, IsWayAt, most_ways, number_at};
 ghost use Rattle.iox_wire_messages.specs.PlansOf.{IsSettingOf};
 ghost use Rattle.iox_wire_messages.specs.Entry.{Entry};
 ghost use Rattle.iox_wire_messages.specs.Known.{known};
@@ -16,7 +16,6 @@ ghost use Rattle.iox_wire_ways.specs.Visits.{is_other, made_at};
 use crate::returns::is_server_left;
 use iox_wire_copies::{RequestTerms, Target};
 use iox_wire_messages::{StoredSeat, WayIndex, WordMap};
-use std::alloc::AllocError;
 
 /// A server, for a client.
 fn target_from(map: &WordMap, client: usize, server: usize) -> Target
@@ -73,7 +72,7 @@ fn target_at(map: &WordMap, seat: &StoredSeat, client: usize, index: usize) -> O
 
 /// Lists the servers to which a request of the client at an index goes that was lent on a lane,
 /// those that the node did not forget, and tells where the words stand of each. What was listed
-/// before is lost.
+/// before is lost. There is room for them.
 pub fn list_targets(
     map: &WordMap,
     seat: &StoredSeat,
@@ -81,16 +80,17 @@ pub fn list_targets(
     lane: u64,
     terms: RequestTerms,
     targets: &mut Vec<Target>,
-) -> Result<RequestTerms, AllocError>
-    requires { IsLaneAt map.now client lane }
-    ensures servers { (p : Setting) → IsSettingOf map.now p
-        → OnOk result (servers_of targets.new.items
-        ≡ others (known p seat.now.seat) seat.now.seat.node Server) }
+) -> RequestTerms
+    requires lane { IsLaneAt map.now client lane }
+    requires list { most_ways map.now ≤ vec_capacity targets.old }
+    ensures servers { (p : Setting) → IsSettingOf map.now p → servers_of targets.new.items
+        ≡ others (known p seat.now.seat) seat.now.seat.node Server }
     ensures targets { (p : Setting) → (loan : Entry) → IsSettingOf map.now p
         → loan.port ≡ number_at map.now client → loan.lane ≡ lane
-        → IfOk result (λ told. AreTargets p told loan targets.new.items) }
-    ensures within { IfOk result (λ told. AreWithin told targets.new.items) }
-    ensures rest { IfOk result (λ told. KeepsTerms terms told) }
+        → AreTargets p result loan targets.new.items }
+    ensures within { AreWithin result targets.new.items }
+    ensures rest { KeepsTerms terms result }
+    ensures list { vec_capacity targets.new ≡ vec_capacity targets.old }
 {
     // only what this promises is wanted
     let _total = map.total();
@@ -99,8 +99,8 @@ pub fn list_targets(
     for index in 0..map.plan().ports.len() {
         if let Some(target) = target_at(map, seat, client, index) {
             told = terms_with(map, client, index, lane, terms);
-            targets.push(target)?;
+            targets.push_reserved(target);
         }
     }
-    Ok(told)
+    told
 }

@@ -1,17 +1,19 @@
 -- A call is refused for the machine's reason, and after its begin the wire shows the run with that beat.
 use Rattle.std.specs.Prelude.{is_some, option_map, if◌then◌else◌}
 use Rattle.std.specs.Option.{option_map_or}
-use Rattle.std.proofs.Common.{◌≡◌, ℕ, ◌<◌, Bool, true, false, ◌==◌, List, [], ◌∷◌, ◌++◌, Option, Some, None, refl, ap, ap₂, sym, subst, ◌∙◌, eqb-true, append-nil, inl, inr}
+use Rattle.std.proofs.Common.{◌≡◌, ℕ, ◌<◌, Bool, true, false, ◌==◌, List, [], ◌∷◌, ◌++◌, length, map, Option, Some, None, refl, ap, ap₂, sym, subst, ◌∙◌, eqb-true, inl, inr}
 use Rattle.std.proofs.lemmas.Bool.{cases_Bool}
 use Rattle.iox_model.specs.declared.call.WireCall.TheVariants.{Port}
 use Rattle.iox_model.specs.declared.reply.Refusal.TheVariants as refusals
 use Rattle.iox_model.specs.Commands.{Call, WireCall}
 use Rattle.iox_model.specs.Joins.{not_living}
 use Rattle.iox_model.specs.Maps.{has_number, or_else, put_at, refused_if}
-use Rattle.iox_model.specs.Schedules.{events_of}
+use Rattle.iox_model.specs.Schedules.{Finished, events_of, replies_of}
+use Rattle.iox_model.specs.WireCalls.{in_wire_words}
 use Rattle.iox_model.specs.Weaves.{Begins, World, begin_refusal, miscalled}
 use Rattle.iox_steps.specs.Sites.{last_position}
 use Rattle.iox_wire_nodes.specs.Aims.{IsAimed}
+use Rattle.iox_wire_nodes.specs.WirePlan.{WirePlan}
 use Rattle.iox_wire_nodes.specs.LocalsBegins.{begin, refusal_at}
 use Rattle.iox_wire_nodes.specs.Nodes.{seat_in}
 use Rattle.iox_wire_nodes.specs.Seat.{Seat}
@@ -28,12 +30,14 @@ use Rattle.iox_wire_needs.proofs.OwnBegins.{refused_by_tables}
 use Rattle.iox_wire_needs.proofs.BeginWhole.{begun_wires_stand}
 use Rattle.iox_wire_weaves.specs.Asking.{BeginsCall, call_refusal}
 use Rattle.iox_wire_weaves.specs.declared.refusal.WireRefusal.{WireRefusal}
-use Rattle.iox_wire_weaves.specs.Laws.{BeginsShow, RefusalsAreShown, Replaces}
-use Rattle.iox_wire_weaves.specs.Wires.{Shows, WireData, WireNode, answers_in, living_refusal, node_at, players_of, refusal_in, seat_of, wordless_all}
+use Rattle.iox_wire_weaves.specs.Laws.{BeginsShow, LivesAs, RefusalsAreShown, Replaces}
+use Rattle.iox_wire_weaves.specs.Replies.{call_within, finished_within, most_words}
+use Rattle.iox_wire_weaves.specs.Wires.{KeepsItsCall, Shows, WireData, WireNode, living_refusal, node_at, players_of, refusal_in, seat_of}
 use Rattle.iox_wire_weaves.specs.PortCounts.{TellsCounts}
 use Rattle.iox_wire_weaves.proofs.EventsTold.{no_events}
 use Rattle.iox_wire_weaves.proofs.LivingDesks as desks
-use Rattle.iox_wire_weaves.proofs.Lookups.{answers_on, first_none, fun_ext, same_living, same_setting, seat_there}
+use Rattle.iox_wire_weaves.proofs.Lookups.{first_none, fun_ext, same_living, same_setting, seat_there}
+use Rattle.iox_wire_weaves.proofs.RepliesTold.{begin_keeps_others, begin_keeps_own, begin_replies}
 use Rattle.iox_wire_weaves.proofs.PortsElsewhere.{beat_leaves, tells_same}
 
 -- ---- refusals
@@ -60,10 +64,11 @@ refusals_are_shown p wire r n call shows = by_node p wire r n call shows (living
 
 module _ (p : Setting) (old new : WireData) (r : Run) (n : ℕ) (x y : WireNode) (call : WireCall) (shows : Shows p old r)
     (free : begin_refusal r.last n call ≡ None) (whole : WordsAreWhole p.limits call) (few : (seat_in x.node).accesses < last_position)
-    (puts : Replaces old.nodes n x y new.nodes) (alive : y.alive ≡ x.alive) (begins : seat_in y.node ≡ begin p (seat_in x.node) call)
+    (puts : Replaces old.nodes n x y new.nodes) (lives_as : LivesAs x y) (begins : seat_in y.node ≡ begin p (seat_in x.node) call)
     (aimed : InPools p (seat_in y.node).local → IsAimed p y.node)
     (plan : new.plan ≡ old.plan) (terms : new.terms ≡ old.terms) (words : new.words ≡ old.words) (replies : new.replies ≡ old.replies)
-    (same_events : new.events ≡ old.events) where
+    (same_events : new.events ≡ old.events)
+    (call_is : y.call ≡ Some (record { call = call_within x.longest (in_wire_words call); begun = length old.events })) where
   abbrev seat : Seat
   seat = seat_of p old.nodes n
 
@@ -101,7 +106,7 @@ module _ (p : Setting) (old new : WireData) (r : Run) (n : ℕ) (x y : WireNode)
   living_then : (m : ℕ) → not_living after.last.state m ≡ option_map refusal_in (living_refusal new.nodes m)
   living_then m =
       ap (λ (v : World). not_living v.state m) goes.1.beat.2
-      ∙ shows.living m ∙ ap (option_map refusal_in) (sym (same_living old.nodes n x y new.nodes puts alive m))
+      ∙ shows.living m ∙ ap (option_map refusal_in) (sym (same_living old.nodes n x y new.nodes puts lives_as.alive m))
 
   -- the node lives, since the machine does not refuse its call
   lives : not_living r.last.state n ≡ None
@@ -111,7 +116,7 @@ module _ (p : Setting) (old new : WireData) (r : Run) (n : ℕ) (x y : WireNode)
   in_pools =
       subst (λ (s : Seat). InPools p s.local) (seat_there p new.nodes n y puts.here)
       (places_are_in_pools p new.words (players_of p new.nodes after) after n stands_now
-      (living_then n ∙ ap (option_map refusal_in) (same_living old.nodes n x y new.nodes puts alive n) ∙ sym (shows.living n) ∙ lives))
+      (living_then n ∙ ap (option_map refusal_in) (same_living old.nodes n x y new.nodes puts lives_as.alive n) ∙ sym (shows.living n) ∙ lives))
 
   aimed_then : (m : ℕ) (z : WireNode) → node_at m new.nodes ≡ Some z → IsAimed p z.node
   aimed_then m z at = elim (cases_Bool (m == n)) [
@@ -122,13 +127,28 @@ module _ (p : Setting) (old new : WireData) (r : Run) (n : ℕ) (x y : WireNode)
     | inr other ↦ shows.aimed m z (sym (puts.others m other) ∙ at)
   ]
 
-  replies_then : new.replies ≡ wordless_all (answers_in after.beats)
+  replies_then : new.replies ≡ map (finished_within (most_words new.plan)) (replies_of after.beats)
   replies_then =
       replies ∙ shows.replies
-      ∙ ap wordless_all (sym (append-nil (answers_in r.beats)) ∙ sym (answers_on r.beats (Begins n call (choice_for p seat call) ∷ [])) ∙ ap answers_in (sym goes.1.beats))
+      ∙ ap₂ (λ (q : WirePlan) (fs : List Finished). map (finished_within (most_words q)) fs) (sym plan)
+      (sym (begin_replies r.beats (Begins n call (choice_for p seat call)) (λ e u. refl)) ∙ ap replies_of (sym goes.1.beats))
+
+  calls_then : (m : ℕ) (z : WireNode) → node_at m new.nodes ≡ Some z → KeepsItsCall (most_words new.plan) after.beats m z
+  calls_then m z at =
+      subst (λ (q : WirePlan). KeepsItsCall (most_words q) after.beats m z) (sym plan)
+      (subst (λ bs. KeepsItsCall (most_words old.plan) bs m z) (sym goes.1.beats) (elim (cases_Bool (m == n)) [
+        | inl same ↦ (
+            let e : m ≡ n = eqb-true m n same in
+            let is : Some y ≡ Some z = sym puts.here ∙ sym (ap (λ k. node_at k new.nodes) e) ∙ at in
+            subst (λ (v : WireNode). KeepsItsCall (most_words old.plan) (r.beats ++ Begins n call (choice_for p seat call) ∷ []) m v) (ap (λ o. option_map_or (λ v. v) o z) is)
+            (subst (λ k. KeepsItsCall (most_words old.plan) (r.beats ++ Begins n call (choice_for p seat call) ∷ []) k y) (sym e)
+            (begin_keeps_own (most_words old.plan) n r.beats call (choice_for p seat call) x y old.events (shows.calls n x puts.before) shows.events lives_as call_is))
+            )
+        | inr other ↦ begin_keeps_others (most_words old.plan) n r.beats call (choice_for p seat call) m z other (shows.calls m z (sym (puts.others m other) ∙ at))
+      ]))
 
   lives_then : not_living after.last.state n ≡ None
-  lives_then = living_then n ∙ ap (option_map refusal_in) (same_living old.nodes n x y new.nodes puts alive n) ∙ sym (shows.living n) ∙ lives
+  lives_then = living_then n ∙ ap (option_map refusal_in) (same_living old.nodes n x y new.nodes puts lives_as.alive n) ∙ sym (shows.living n) ∙ lives
 
   counts_then : (port : ℕ) → has_number port p.layout.sizes.ports ≡ true → TellsCounts after.last port (seat_of p new.nodes (p.layout.owner port))
   counts_then port has = elim (cases_Bool (p.layout.owner port == n)) [
@@ -153,6 +173,7 @@ module _ (p : Setting) (old new : WireData) (r : Run) (n : ℕ) (x y : WireNode)
     aimed = aimed_then;
     ports = ap (λ (v : World). v.state.fixed.ports) goes.1.beat.2 ∙ shows.ports;
     counts = counts_then;
+    calls = calls_then;
     replies = replies_then;
     events = same_events ∙ shows.events ∙ sym (no_events r.beats (Begins n call (choice_for p seat call)) refl) ∙ ap events_of (sym goes.1.beats);
   }
@@ -161,10 +182,10 @@ module _ (p : Setting) (old new : WireData) (r : Run) (n : ℕ) (x y : WireNode)
   begins_call = record { node = there; others = puts.others; words = words; replies = replies; events = same_events }
 
 pub begins_show : BeginsShow
-begins_show p old new r n x y call shows free whole few puts alive begins aimed plan terms words replies same_events = (
-  begins_call p old new r n x y call shows free whole few puts alive begins aimed plan terms words replies same_events,
+begins_show p old new r n x y call shows free whole few puts lives_as begins aimed plan terms words replies same_events call_is = (
+  begins_call p old new r n x y call shows free whole few puts lives_as begins aimed plan terms words replies same_events call_is,
   choice_for p (seat_of p old.nodes n) call,
-  (goes p old new r n x y call shows free whole few puts alive begins aimed plan terms words replies same_events).0,
-  (goes p old new r n x y call shows free whole few puts alive begins aimed plan terms words replies same_events).1,
-  shows_then p old new r n x y call shows free whole few puts alive begins aimed plan terms words replies same_events,
+  (goes p old new r n x y call shows free whole few puts lives_as begins aimed plan terms words replies same_events call_is).0,
+  (goes p old new r n x y call shows free whole few puts lives_as begins aimed plan terms words replies same_events call_is).1,
+  shows_then p old new r n x y call shows free whole few puts lives_as begins aimed plan terms words replies same_events call_is,
 )

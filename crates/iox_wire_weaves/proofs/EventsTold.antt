@@ -198,7 +198,7 @@ module _ (p : Setting) (wire : WireData) (r : Run) (shows : Shows p wire r) wher
 
 -- ---- the events of beats
 
-moments_on : (bs cs : List Beat) → moments_of (bs ++ cs) ≡ moments_of bs ++ moments_of cs
+pub moments_on : (bs cs : List Beat) → moments_of (bs ++ cs) ≡ moments_of bs ++ moments_of cs
 moments_on [] cs = refl
 moments_on (Begins node call c ∷ bs) cs = moments_on bs cs
 moments_on (Makes node m ∷ bs) cs = ap (λ ms. (node, m) ∷ ms) (moments_on bs cs)

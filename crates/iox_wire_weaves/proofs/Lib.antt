@@ -3,6 +3,7 @@ pub mod PortsElsewhere
 pub mod FreshDesks
 pub mod PlanPorts
 pub mod EventsTold
+mod RepliesTold
 pub mod StepsShown
 pub mod DeathsShown
 pub mod BeginsShown

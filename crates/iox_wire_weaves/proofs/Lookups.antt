@@ -3,9 +3,7 @@ use Rattle.std.specs.Prelude.{not, nat_le}
 use Rattle.std.specs.Option.{option_map_or}
 use Rattle.std.proofs.Common.{◌≡◌, ℕ, ◌<◌, Bool, true, false, ◌==◌, List, ◌++◌, Option, Some, None, refl, ap, sym, subst, ◌∙◌, eqb-true, inl, inr}
 use Rattle.std.proofs.lemmas.Grind.{flat_map-append}
-use Rattle.std.proofs.lemmas.List.{map-append}
 use Rattle.std.proofs.lemmas.Bool.{cases_Bool, leb-false}
-use Rattle.iox_model.specs.Commands.{Reply}
 use Rattle.iox_model.specs.Maps.{or_else, refused_if}
 use Rattle.iox_model.specs.Weaves.{Beat}
 use Rattle.iox_laws.proofs.WeaveLedger.Truths.{none-some}
@@ -17,7 +15,7 @@ use Rattle.iox_wire_needs.specs.Openings.{opened_seat}
 use Rattle.iox_wire_weaves.specs.declared.refusal.WireRefusal.TheVariants.{NodeIsDead, UnknownNode, AtRest, AccessesSpent}
 use Rattle.iox_wire_weaves.specs.Laws.{Replaces}
 use Rattle.iox_wire_weaves.specs.Steps.{most_accesses, rest_refusal, step_refusal}
-use Rattle.iox_wire_weaves.specs.Wires.{WireData, WireNode, answer_in, answers_in, living_refusal, node_at, seat_of, wordless, wordless_all}
+use Rattle.iox_wire_weaves.specs.Wires.{WireData, WireNode, answer_in, answers_in, living_refusal, node_at, seat_of}
 
 -- functions that agree everywhere are the same
 pub fun_ext : {A B : Type 0} {f g : A → B} → ((x : A) → f x ≡ g x) → f ≡ g
@@ -86,6 +84,3 @@ same_setting p old new plan terms setting =
 
 pub answers_on : (bs cs : List Beat) → answers_in (bs ++ cs) ≡ answers_in bs ++ answers_in cs
 answers_on bs cs = flat_map-append answer_in bs cs
-
-pub wordless_on : (xs ys : List (ℕ × Reply)) → wordless_all (xs ++ ys) ≡ wordless_all xs ++ wordless_all ys
-wordless_on xs ys = map-append (λ a. (a.0, wordless a.1)) xs ys

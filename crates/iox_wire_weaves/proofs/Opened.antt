@@ -1,11 +1,11 @@
 -- A wire that opens shows a run without a beat.
 use Rattle.std.specs.Prelude.{not, option_map, is_some, replicate, if◌then◌else◌}
 use Rattle.std.specs.Option.{option_map_or}
-use Rattle.std.proofs.Common.{◌≡◌, ℕ, true, List, [], Option, Some, None, refl, ap, ap₂, sym, subst, ◌∙◌}
+use Rattle.std.proofs.Common.{◌≡◌, ℕ, true, List, [], map, Option, Some, None, refl, ap, ap₂, sym, subst, ◌∙◌}
 use Rattle.iox_model.specs.declared.reply.Refusal.TheVariants as refusals
 use Rattle.iox_model.specs.Joins.{not_living}
 use Rattle.iox_model.specs.Maps.{has_number, refused_if}
-use Rattle.iox_model.specs.Schedules.{events_of}
+use Rattle.iox_model.specs.Schedules.{events_of, replies_of}
 use Rattle.iox_model.specs.States.{State}
 use Rattle.iox_model.specs.WireCalls.{opened}
 use Rattle.iox_model.specs.Weaves.{World, at_work}
@@ -31,7 +31,8 @@ use Rattle.iox_wire_needs.specs.WireStands.{WireStands}
 use Rattle.iox_wire_needs.proofs.WireStands.{opened_wires_stand}
 use Rattle.iox_wire_weaves.specs.declared.refusal.WireRefusal.TheVariants.{NodeIsDead}
 use Rattle.iox_wire_weaves.specs.Laws.{IsFresh, WiresOpen}
-use Rattle.iox_wire_weaves.specs.Wires.{OpensOn, Shows, WireData, WireNode, answers_in, living_refusal, node_at, players_of, refusal_in, seat_of, wordless_all}
+use Rattle.iox_wire_weaves.specs.Replies.{died_after, finished_within, most_words, under_way, under_way_within}
+use Rattle.iox_wire_weaves.specs.Wires.{OpensOn, Shows, WireData, WireNode, living_refusal, node_at, players_of, refusal_in, seat_of}
 use Rattle.iox_wire_weaves.specs.PortCounts.{TellsCounts}
 use Rattle.iox_wire_weaves.proofs.FreshDesks.{opened_tells}
 use Rattle.iox_wire_weaves.proofs.Lookups.{fun_ext, living_by}
@@ -91,7 +92,12 @@ module _ (plan : WirePlan) (terms : WireTerms) (nodes : List ℕ) (p : Setting) 
     aimed = λ n x at. idle_aims p n x.node (fresh.seats n x at).0 (fresh.seats n x at).2;
     ports = ap (λ (w : World). w.state.fixed.ports) o.3 ∙ opens.agrees.ports;
     counts = counts_now;
-    replies = fresh.replies ∙ ap (λ bs. wordless_all (answers_in bs)) (sym o.2);
+    calls = λ n x at. record {
+      room = (fresh.seats n x at).4 ∙ ap most_words (sym fresh.plan_is);
+      call = (fresh.seats n x at).3 ∙ ap (λ bs. option_map (under_way_within (most_words wire.plan)) (under_way bs n)) (sym o.2);
+      died = (fresh.seats n x at).5 ∙ ap (λ bs. died_after bs n) (sym o.2);
+    };
+    replies = fresh.replies ∙ ap (λ bs. map (finished_within (most_words wire.plan)) (replies_of bs)) (sym o.2);
     events = fresh.events ∙ ap events_of (sym o.2);
   }
 

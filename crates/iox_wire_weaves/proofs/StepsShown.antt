@@ -7,7 +7,8 @@ use Rattle.iox_model.specs.Commands.{Reply}
 use Rattle.iox_model.specs.Joins.{not_living}
 use Rattle.iox_model.specs.Maps.{has_number, put_at}
 use Rattle.iox_model.specs.Moments.{Moment}
-use Rattle.iox_model.specs.Schedules.{IsStepOf, nothing, makes, ends_alone, makes_and_ends, events_of}
+use Rattle.iox_model.specs.Schedules.{Finished, IsStepOf, nothing, makes, ends_alone, makes_and_ends, events_of, replies_of}
+use Rattle.iox_model.specs.Weaves.{Beat}
 use Rattle.iox_model.specs.declared.way.Way.{Way}
 use Rattle.iox_laws.proofs.WeaveLaws.WholeLemmas.{not_living-members}
 use Rattle.iox_steps.specs.Accesses.{IsWithin, seen_by, words_after}
@@ -27,6 +28,7 @@ use Rattle.iox_wire_nodes.specs.StateMoments.{moment_at}
 use Rattle.iox_wire_nodes.specs.Steps.{next, tells}
 use Rattle.iox_wire_nodes.specs.Tables.{Setting}
 use Rattle.iox_wire_nodes.specs.Aims.{IsAimed}
+use Rattle.iox_wire_nodes.specs.WirePlan.{WirePlan}
 use Rattle.iox_wire_nodes.specs.declared.call_at.NodeReply.{NodeReply}
 use Rattle.iox_wire_nodes.specs.Nodes.{reply_in, seat_in}
 use Rattle.iox_wire_needs.specs.Nodes.{NodeStands}
@@ -41,15 +43,17 @@ use Rattle.iox_wire_needs.proofs.StepWhole.{stepped_wires_stand}
 use Rattle.iox_wire_needs.specs.NamedSlots.{HoldsLent, Names}
 use Rattle.iox_wire_needs.proofs.Forgotten.{members_stay}
 use Rattle.iox_wire_needs.proofs.NamedSlots.{named_slots_hold_lent}
-use Rattle.iox_wire_weaves.specs.Laws.{Replaces, StepsAreSafe, StepsShow, WentOn, progress_of}
+use Rattle.iox_wire_weaves.specs.Laws.{LivesAs, Replaces, StepsAreSafe, StepsShow, WentOn, progress_of}
 use Rattle.iox_model.specs.declared.event.Event.{Event}
 use Rattle.iox_wire_seats.specs.SlotEvents.{slot_event}
 use Rattle.iox_wire_weaves.specs.PortCounts.{TellsCounts}
-use Rattle.iox_wire_weaves.specs.Steps.{MakesOneAccess, access_of, answer_of, recorded, step_refusal}
-use Rattle.iox_wire_weaves.specs.Wires.{Shows, WireData, WireNode, answers_in, living_refusal, node_at, players_of, refusal_in, seat_of, wordless_all}
+use Rattle.iox_wire_weaves.specs.Replies.{finished_within, most_words}
+use Rattle.iox_wire_weaves.specs.Steps.{MakesOneAccess, access_of, answer_of, call_after, finished_by, recorded, step_refusal}
+use Rattle.iox_wire_weaves.specs.Wires.{KeepsItsCall, Shows, WireData, WireNode, answers_in, living_refusal, node_at, players_of, refusal_in, seat_of}
 use Rattle.iox_wire_weaves.proofs.EventsTold.{events_on, step_events, told_serial}
 use Rattle.iox_wire_weaves.proofs.LivingDesks as desks
-use Rattle.iox_wire_weaves.proofs.Lookups.{answers_on, fun_ext, same_living, same_setting, seat_there, steps_on, wordless_on}
+use Rattle.iox_wire_weaves.proofs.Lookups.{fun_ext, same_living, same_setting, seat_there, steps_on}
+use Rattle.iox_wire_weaves.proofs.RepliesTold.{step_keeps_others, step_keeps_own, step_replies}
 use Rattle.iox_wire_weaves.proofs.PortsElsewhere.{step_leaves, tells_same}
 
 -- ---- the access
@@ -108,10 +112,10 @@ answered_in n payload m words reply told same nodes there =
 -- ---- the step
 
 module _ (p : Setting) (old new : WireData) (r : Run) (n : ℕ) (x y : WireNode) (reply : Option NodeReply)
-    (shows : Shows p old r) (goes : step_refusal old n ≡ None) (puts : Replaces old.nodes n x y new.nodes) (alive : y.alive ≡ x.alive)
+    (shows : Shows p old r) (goes : step_refusal old n ≡ None) (puts : Replaces old.nodes n x y new.nodes) (lives_as : LivesAs x y)
     (went : WentOn p x.node (seen_by (access_of p old n) (word_of old.words)) reply y.node) (plan : new.plan ≡ old.plan) (terms : new.terms ≡ old.terms)
-    (words : new.words ≡ words_after (access_of p old n) old.words)
-    (told : new.replies ≡ old.replies ++ wordless_all (answer_of n new.nodes (progress_of reply)))
+    (words : new.words ≡ words_after (access_of p old n) old.words) (call_is : y.call ≡ call_after x.call reply)
+    (told : new.replies ≡ old.replies ++ finished_by n x y.node.seat.words (length new.events) reply)
     (tells_event : new.events ≡ old.events ++ recorded old.plan old.nodes n (slot_event p (seat_of p old.nodes n).local (seen_by (access_of p old n) (word_of old.words)))) where
   abbrev seat : Seat
   seat = seat_of p old.nodes n
@@ -151,6 +155,9 @@ module _ (p : Setting) (old new : WireData) (r : Run) (n : ℕ) (x y : WireNode)
   abbrev after : Run
   after = stepped.1
 
+  abbrev beats_now : List Beat
+  beats_now = step_beats n stepped.0 (moment_at p shows.stands.stands.held seat.local seen) (tells p seat seen)
+
   -- ---- the nodes
 
   next_is : seat_in y.node ≡ next p seat seen
@@ -186,7 +193,7 @@ module _ (p : Setting) (old new : WireData) (r : Run) (n : ℕ) (x y : WireNode)
   living_then m =
       not_living-members after.last.state r.last.state m
       (members_stay n stepped.0 (moment_at p shows.stands.stands.held seat.local seen) (tells p seat seen) r.last after.last stepped.2.woven)
-      ∙ shows.living m ∙ ap (option_map refusal_in) (sym (same_living old.nodes n x y new.nodes puts alive m))
+      ∙ shows.living m ∙ ap (option_map refusal_in) (sym (same_living old.nodes n x y new.nodes puts lives_as.alive m))
 
   -- ---- places
 
@@ -194,7 +201,7 @@ module _ (p : Setting) (old new : WireData) (r : Run) (n : ℕ) (x y : WireNode)
   in_pools =
       subst (λ (s : Seat). InPools p s.local) (seat_there p new.nodes n y puts.here)
       (places_are_in_pools p new.words (players_of p new.nodes after) after n stands_now
-      (living_then n ∙ ap (option_map refusal_in) (same_living old.nodes n x y new.nodes puts alive n ∙ may.0)))
+      (living_then n ∙ ap (option_map refusal_in) (same_living old.nodes n x y new.nodes puts lives_as.alive n ∙ may.0)))
 
   aimed_then : (m : ℕ) (z : WireNode) → node_at m new.nodes ≡ Some z → IsAimed p z.node
   aimed_then m z at = elim (cases_Bool (m == n)) [
@@ -207,43 +214,6 @@ module _ (p : Setting) (old new : WireData) (r : Run) (n : ℕ) (x y : WireNode)
     where
       some_same : (a b : WireNode) → Some a ≡ Some b → a ≡ b
       some_same a b same = ap (λ o. option_map_or (λ v. v) o a) same
-
-  -- ---- replies
-
-  words_there : option_map_or (λ (z : WireNode). z.node.seat.words) (node_at n new.nodes) [] ≡ y.node.seat.words
-  words_there = ap (λ o. option_map_or (λ (z : WireNode). z.node.seat.words) o []) puts.here
-
-  answers : answers_in (step_beats n stepped.0 (moment_at p shows.stands.stands.held seat.local seen) (tells p seat seen)) ≡ answer_of n new.nodes (progress_of reply)
-  answers = answered_in n stepped.0 (moment_at p shows.stands.stands.held seat.local seen) y.node.seat.words reply (tells p seat seen) tells_it new.nodes words_there
-
-  replies_then : new.replies ≡ wordless_all (answers_in after.beats)
-  replies_then =
-      told ∙ ap₂ (λ xs ys. xs ++ wordless_all ys) shows.replies (sym answers)
-      ∙ sym (wordless_on (answers_in r.beats) (answers_in (step_beats n stepped.0 (moment_at p shows.stands.stands.held seat.local seen) (tells p seat seen))))
-      ∙ ap wordless_all (sym (answers_on r.beats (step_beats n stepped.0 (moment_at p shows.stands.stands.held seat.local seen) (tells p seat seen))))
-      ∙ ap (λ bs. wordless_all (answers_in bs)) (sym stepped.2.beats)
-
-  -- ---- counts
-
-  lives_then : not_living after.last.state n ≡ None
-  lives_then = living_then n ∙ ap (option_map refusal_in) (same_living old.nodes n x y new.nodes puts alive n ∙ may.0)
-
-  ports_then : after.last.state.fixed.ports ≡ map p.port p.layout.sizes.ports
-  ports_then = (stands_now.stands.shows.counts n lives_then).knows.ports
-
-  counts_then : (port : ℕ) → has_number port p.layout.sizes.ports ≡ true → TellsCounts after.last port (seat_of p new.nodes (p.layout.owner port))
-  counts_then port has = elim (cases_Bool (p.layout.owner port == n)) [
-    | inl same ↦ (
-        let e : p.layout.owner port ≡ n = eqb-true (p.layout.owner port) n same in
-        subst (λ m. TellsCounts after.last port (seat_of p new.nodes m)) (sym e)
-        (desks.tells p new.words (players_of p new.nodes after) after n stands_now lives_then port has e)
-        )
-    | inr other ↦ (
-        tells_same r.last after.last port (seat_of p old.nodes (p.layout.owner port)) (seat_of p new.nodes (p.layout.owner port)) (others (p.layout.owner port) other)
-        (step_leaves r.last after.last (p.layout.owner port) n port stepped.0 (moment_at p shows.stands.stands.held seat.local seen) (tells p seat seen)
-        shows.stands.stands.shows.reachable other (sym (shows.stands.stands.owners port)) stepped.2.woven) (shows.counts port has)
-        )
-  ]
 
   -- ---- events
 
@@ -262,6 +232,65 @@ module _ (p : Setting) (old new : WireData) (r : Run) (n : ℕ) (x y : WireNode)
       ∙ sym (events_on r.beats (step_beats n stepped.0 (moment_at p shows.stands.stands.held seat.local seen) (tells p seat seen)))
       ∙ ap events_of (sym stepped.2.beats)
 
+  -- ---- replies
+
+  words_there : option_map_or (λ (z : WireNode). z.node.seat.words) (node_at n new.nodes) [] ≡ y.node.seat.words
+  words_there = ap (λ o. option_map_or (λ (z : WireNode). z.node.seat.words) o []) puts.here
+
+  answers : answers_in (step_beats n stepped.0 (moment_at p shows.stands.stands.held seat.local seen) (tells p seat seen)) ≡ answer_of n new.nodes (progress_of reply)
+  answers = answered_in n stepped.0 (moment_at p shows.stands.stands.held seat.local seen) y.node.seat.words reply (tells p seat seen) tells_it new.nodes words_there
+
+  -- the calls under way are kept, and the one that is over is told
+  keeps : KeepsItsCall (most_words old.plan) r.beats n x
+  keeps = shows.calls n x puts.before
+
+  replies_then : new.replies ≡ map (finished_within (most_words new.plan)) (replies_of after.beats)
+  replies_then =
+      told ∙ ap (λ (fs : List Finished). fs ++ finished_by n x y.node.seat.words (length new.events) reply) shows.replies
+      ∙ step_replies (most_words old.plan) n r.beats stepped.0 (moment_at p shows.stands.stands.held seat.local seen) (tells p seat seen) x y.node.seat.words reply new.events
+      keeps tells_it (events_then ∙ ap events_of stepped.2.beats)
+      ∙ ap₂ (λ (q : WirePlan) bs. map (finished_within (most_words q)) (replies_of bs)) (sym plan) (sym stepped.2.beats)
+
+  calls_then : (m : ℕ) (z : WireNode) → node_at m new.nodes ≡ Some z → KeepsItsCall (most_words new.plan) after.beats m z
+  calls_then m z at =
+      subst (λ (q : WirePlan). KeepsItsCall (most_words q) after.beats m z) (sym plan)
+      (subst (λ bs. KeepsItsCall (most_words old.plan) bs m z) (sym stepped.2.beats) (elim (cases_Bool (m == n)) [
+        | inl same ↦ (
+            let e : m ≡ n = eqb-true m n same in
+            let is : Some y ≡ Some z = sym puts.here ∙ sym (ap (λ k. node_at k new.nodes) e) ∙ at in
+            subst (λ (v : WireNode). KeepsItsCall (most_words old.plan) (r.beats ++ beats_now) m v) (ap (λ o. option_map_or (λ v. v) o z) is)
+            (subst (λ k. KeepsItsCall (most_words old.plan) (r.beats ++ beats_now) k y) (sym e)
+            (step_keeps_own (most_words old.plan) n r.beats stepped.0 (moment_at p shows.stands.stands.held seat.local seen) (tells p seat seen) x y y.node.seat.words reply
+            keeps tells_it lives_as call_is))
+            )
+        | inr other ↦ (
+            step_keeps_others (most_words old.plan) n r.beats stepped.0 (moment_at p shows.stands.stands.held seat.local seen) (tells p seat seen) m z other
+            (shows.calls m z (sym (puts.others m other) ∙ at))
+            )
+      ]))
+
+  -- ---- counts
+
+  lives_then : not_living after.last.state n ≡ None
+  lives_then = living_then n ∙ ap (option_map refusal_in) (same_living old.nodes n x y new.nodes puts lives_as.alive n ∙ may.0)
+
+  ports_then : after.last.state.fixed.ports ≡ map p.port p.layout.sizes.ports
+  ports_then = (stands_now.stands.shows.counts n lives_then).knows.ports
+
+  counts_then : (port : ℕ) → has_number port p.layout.sizes.ports ≡ true → TellsCounts after.last port (seat_of p new.nodes (p.layout.owner port))
+  counts_then port has = elim (cases_Bool (p.layout.owner port == n)) [
+    | inl same ↦ (
+        let e : p.layout.owner port ≡ n = eqb-true (p.layout.owner port) n same in
+        subst (λ m. TellsCounts after.last port (seat_of p new.nodes m)) (sym e)
+        (desks.tells p new.words (players_of p new.nodes after) after n stands_now lives_then port has e)
+        )
+    | inr other ↦ (
+        tells_same r.last after.last port (seat_of p old.nodes (p.layout.owner port)) (seat_of p new.nodes (p.layout.owner port)) (others (p.layout.owner port) other)
+        (step_leaves r.last after.last (p.layout.owner port) n port stepped.0 (moment_at p shows.stands.stands.held seat.local seen) (tells p seat seen)
+        shows.stands.stands.shows.reachable other (sym (shows.stands.stands.owners port)) stepped.2.woven) (shows.counts port has)
+        )
+  ]
+
   shows_then : Shows p new after
   shows_then = record {
     setting = same_setting p old new plan terms shows.setting;
@@ -270,6 +299,7 @@ module _ (p : Setting) (old new : WireData) (r : Run) (n : ℕ) (x y : WireNode)
     aimed = aimed_then;
     ports = ports_then;
     counts = counts_then;
+    calls = calls_then;
     replies = replies_then;
     events = events_then;
   }
@@ -278,15 +308,15 @@ module _ (p : Setting) (old new : WireData) (r : Run) (n : ℕ) (x y : WireNode)
   one_access = record { words = words; node = there; others = puts.others }
 
 pub steps_show : StepsShow
-steps_show p old new r n x y reply shows goes puts alive went plan terms words told tells_event =
-    let s = stepped p old new r n x y reply shows goes puts alive went plan terms words told tells_event in (
-      one_access p old new r n x y reply shows goes puts alive went plan terms words told tells_event,
+steps_show p old new r n x y reply shows goes puts lives_as went plan terms words call_is told tells_event =
+    let s = stepped p old new r n x y reply shows goes puts lives_as went plan terms words call_is told tells_event in (
+      one_access p old new r n x y reply shows goes puts lives_as went plan terms words call_is told tells_event,
       step_beats n s.0 (moment_at p shows.stands.stands.held (seat_of p old.nodes n).local (seen_by (access_of p old n) (word_of old.words)))
           (tells p (seat_of p old.nodes n) (seen_by (access_of p old n) (word_of old.words))),
       s.1,
       is_step n s.0 (moment_at p shows.stands.stands.held (seat_of p old.nodes n).local (seen_by (access_of p old n) (word_of old.words)))
           (tells p (seat_of p old.nodes n) (seen_by (access_of p old n) (word_of old.words))),
       s.2,
-      answers p old new r n x y reply shows goes puts alive went plan terms words told tells_event,
-      shows_then p old new r n x y reply shows goes puts alive went plan terms words told tells_event,
+      answers p old new r n x y reply shows goes puts lives_as went plan terms words call_is told tells_event,
+      shows_then p old new r n x y reply shows goes puts lives_as went plan terms words call_is told tells_event,
     )

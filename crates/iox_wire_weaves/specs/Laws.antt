@@ -3,6 +3,7 @@ use Rattle.std.specs.Prelude.{◌≡◌, ℕ, ◌==◌, false, true, ◌++◌, L
 use Rattle.iox_model.specs.Maps.{has_number}
 use Rattle.iox_model.specs.Schedules.{IsStepOf}
 use Rattle.iox_model.specs.States.{State}
+use Rattle.iox_model.specs.WireCalls.{in_wire_words}
 use Rattle.iox_model.specs.Commands.{Call, WireCall}
 use Rattle.iox_model.specs.Loans.{Choice}
 use Rattle.iox_model.specs.Weaves.{Beat, Begins, Dies, begin_refusal}
@@ -31,8 +32,9 @@ use Rattle.iox_wire_needs.specs.Places.{InPools}
 use Rattle.iox_wire_needs.specs.Runs.{GoesOnBy, Run}
 use Rattle.iox_wire_needs.specs.WholeSteps.{GoesOnWith}
 use Rattle.iox_wire_seats.specs.SlotEvents.{slot_event}
-use Rattle.iox_wire_weaves.specs.Wires.{OpensOn, Shows, ShowsOpened, WireData, WireNode, answers_in, living_refusal, node_at, seat_of, wordless_all}
-use Rattle.iox_wire_weaves.specs.Steps.{MakesOneAccess, access_of, answer_of, recorded, step_refusal}
+use Rattle.iox_wire_weaves.specs.Wires.{OpensOn, Shows, ShowsOpened, WireData, WireNode, answers_in, living_refusal, node_at, seat_of}
+use Rattle.iox_wire_weaves.specs.Replies.{call_within, most_words}
+use Rattle.iox_wire_weaves.specs.Steps.{MakesOneAccess, access_of, answer_of, call_after, finished_by, recorded, step_refusal}
 use Rattle.iox_wire_weaves.specs.Asking.{BeginsCall, call_refusal}
 
 -- ---- an opening
@@ -46,6 +48,7 @@ pub record IsFresh (p : Setting) (plan : WirePlan) (terms : WireTerms) (nodes : 
   pub nodes_are : (n : ℕ) → is_some (node_at n wire.nodes) ≡ has_number n nodes
   pub seats : (n : ℕ) (x : WireNode) → node_at n wire.nodes ≡ Some x
       → (seat_in x.node ≡ opened_seat p n) × (x.alive ≡ true) × (x.node.at ≡ Seats)
+      × (x.call ≡ None) × (x.longest ≡ most_words plan) × (x.died ≡ None)
   pub replies : wire.replies ≡ []
   pub events : wire.events ≡ []
 
@@ -65,6 +68,12 @@ pub record Replaces (old : List WireNode) (n : ℕ) (x y : WireNode) (new : List
   pub before : node_at n old ≡ Some x
   pub here : node_at n new ≡ Some y
   pub others : (m : ℕ) → (m == n) ≡ false → node_at m new ≡ node_at m old
+
+-- It lives or is dead as before, and keeps as many words of a call.
+pub record LivesAs (x y : WireNode) : Type 0 where
+  pub alive : y.alive ≡ x.alive
+  pub died : y.died ≡ x.died
+  pub longest : y.longest ≡ x.longest
 
 -- ---- a step
 
@@ -93,11 +102,12 @@ StepsShow =
     (p : Setting) (old new : WireData) (r : Run) (n : ℕ) (x y : WireNode)
     (reply : Option NodeReply)
     → Shows p old r → step_refusal old n ≡ None
-    → Replaces old.nodes n x y new.nodes → y.alive ≡ x.alive
+    → Replaces old.nodes n x y new.nodes → LivesAs x y
     → WentOn p x.node (seen_at (access_of p old n) old.words) reply y.node
     → new.plan ≡ old.plan → new.terms ≡ old.terms
     → new.words ≡ words_after (access_of p old n) old.words
-    → new.replies ≡ old.replies ++ wordless_all (answer_of n new.nodes (progress_of reply))
+    → y.call ≡ call_after x.call reply
+    → new.replies ≡ old.replies ++ finished_by n x y.node.seat.words (length new.events) reply
     → let seen = seen_at (access_of p old n) old.words in
     new.events ≡ old.events
     ++ recorded old.plan old.nodes n (slot_event p (seat_of p old.nodes n).local seen)
@@ -113,7 +123,8 @@ abbrev pub DeathsShow : Type 0
 DeathsShow =
     (p : Setting) (old new : WireData) (r : Run) (n : ℕ) (x : WireNode)
     → Shows p old r → living_refusal old.nodes n ≡ None
-    → Replaces old.nodes n x (record x { alive = false }) new.nodes
+    → let dead : WireNode = record x { alive = false; died = Some (length old.events) } in
+    Replaces old.nodes n x dead new.nodes
     → new.plan ≡ old.plan → new.terms ≡ old.terms → new.words ≡ old.words
     → new.replies ≡ old.replies → new.events ≡ old.events
     → (after : Run) × GoesOnBy r (Dies n) after × Shows p new after
@@ -153,10 +164,12 @@ BeginsShow =
     (p : Setting) (old new : WireData) (r : Run) (n : ℕ) (x y : WireNode) (call : WireCall)
     → Shows p old r → begin_refusal r.last n call ≡ None → WordsAreWhole p.limits call
     → (seat_in x.node).accesses < last_position
-    → Replaces old.nodes n x y new.nodes → y.alive ≡ x.alive
+    → Replaces old.nodes n x y new.nodes → LivesAs x y
     → seat_in y.node ≡ begin p (seat_in x.node) call
     → (InPools p (seat_in y.node).local → IsAimed p y.node)
     → new.plan ≡ old.plan → new.terms ≡ old.terms → new.words ≡ old.words
     → new.replies ≡ old.replies → new.events ≡ old.events
+    → y.call
+    ≡ Some (record { call = call_within x.longest (in_wire_words call); begun = length old.events })
     → BeginsCall p old n call new
     × (c : Choice) × (after : Run) × GoesOnBy r (Begins n call c) after × Shows p new after

@@ -1,8 +1,10 @@
--- In reading order: how many messages ports keep and have outstanding; what a wire is and when it shows
--- a run of the machine; which node has a port, and which events are recorded; what a step and a death do
--- to a wire, and the begin of a call; the laws that it goes on showing a run; and that desks tell how
--- many messages ports keep and have outstanding.
+-- In reading order: how many messages ports keep and have outstanding; which calls are under way, when
+-- nodes died, and how many words of calls a wire keeps; what a wire is and when it shows a run of the
+-- machine; which node has a port, and which events are recorded; what a step and a death do to a wire, and
+-- the begin of a call; the laws that it goes on showing a run; and that desks tell how many messages ports
+-- keep and have outstanding.
 pub mod PortCounts
+pub mod Replies
 pub mod Wires
 pub mod Owners
 pub mod Events
@@ -46,6 +48,7 @@ pub use Rattle.iox_wire_nodes.specs.Known
 pub use Rattle.iox_wire_nodes.specs.LendReply
 pub use Rattle.iox_wire_nodes.specs.Lendings
 pub use Rattle.iox_wire_nodes.specs.Lends
+pub use Rattle.iox_wire_nodes.specs.ListRooms
 pub use Rattle.iox_wire_nodes.specs.Loans
 pub use Rattle.iox_wire_nodes.specs.Local
 pub use Rattle.iox_wire_nodes.specs.Locals

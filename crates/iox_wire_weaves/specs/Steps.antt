@@ -4,7 +4,7 @@ use Rattle.std.specs.Option.{option_map_or}
 use Rattle.iox_model.specs.Commands.{Reply}
 use Rattle.iox_model.specs.declared.event.Event.{Event}
 use Rattle.iox_model.specs.Maps.{or_else, refused_if}
-use Rattle.iox_model.specs.Schedules.{IsStepOf}
+use Rattle.iox_model.specs.Schedules.{Finished, IsStepOf, UnderWay, finish}
 use Rattle.iox_model.specs.Weaves.{Beat, Dies}
 use Rattle.iox_steps.specs.declared.access.Access.{Access}
 use Rattle.iox_steps.specs.declared.access.Progress.{Progress}
@@ -22,6 +22,7 @@ use Rattle.iox_wire_nodes.specs.declared.call_at.NodeReply.{NodeReply}
 use Rattle.iox_wire_nodes.specs.Nodes.{reply_in, seat_in}
 use Rattle.iox_wire_weaves.specs.Events.{with_serials}
 use Rattle.iox_wire_weaves.specs.Owners.{serial_of}
+use Rattle.iox_wire_weaves.specs.Replies.{reply_within}
 use Rattle.iox_wire_weaves.specs.declared.refusal.WireRefusal.{WireRefusal}
 use Rattle.iox_wire_weaves.specs.declared.refusal.WireRefusal.TheVariants.{AccessesSpent, AtRest}
 use Rattle.iox_wire_weaves.specs.Wires.{Shows, WireData, WireNode, answers_in, living_refusal, node_at, seat_of}
@@ -66,6 +67,18 @@ abbrev pub answer_of : ℕ → List WireNode → Progress NodeReply → List (�
 answer_of n nodes Going = []
 answer_of n nodes (Done reply) =
     (n, reply_in (option_map_or (λ x. x.node.seat.words) (node_at n nodes) []) reply) ∷ []
+
+-- the call that a node has under way after its step
+abbrev pub call_after : Option UnderWay → Option NodeReply → Option UnderWay
+call_after call None = call
+call_after call (Some reply) = None
+
+-- what the step of a node adds to the finished calls: the one that it had under way, if that is over
+-- after so many events
+abbrev pub finished_by : ℕ → WireNode → (words : List ℕ) → ℕ → Option NodeReply → List Finished
+finished_by n x words events None = []
+finished_by n x words events (Some reply) =
+    finish x.call n (reply_within x.longest (reply_in words reply)) events []
 
 -- what the step of a node records: its event, if it has one, with serials in place of slots
 abbrev pub recorded : WirePlan → List WireNode → ℕ → Option Event → List (ℕ × Event)

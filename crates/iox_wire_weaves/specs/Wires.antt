@@ -3,12 +3,11 @@ use Rattle.std.specs.Prelude.{◌≡◌, ◌<◌, ℕ, Bool, not, ◌==◌, List
 use Rattle.std.specs.Option.{option_map_or}
 use Rattle.iox_model.specs.declared.event.Event.{Event}
 use Rattle.iox_model.specs.declared.reply.Refusal.TheVariants as refusals
-use Rattle.iox_model.specs.declared.reply.Reply.TheVariants.{Words}
 use Rattle.iox_model.specs.Commands.{Refusal, Reply}
 use Rattle.iox_model.specs.Joins.{not_living}
 use Rattle.iox_model.specs.Maps.{has_number, refused_if}
 use Rattle.iox_model.specs.Runs.{IsReachableState}
-use Rattle.iox_model.specs.Schedules.{events_of}
+use Rattle.iox_model.specs.Schedules.{Finished, UnderWay, events_of, replies_of}
 use Rattle.iox_model.specs.States.{State}
 use Rattle.iox_model.specs.WireCalls.{opened, wire_refusal}
 use Rattle.iox_model.specs.Weaves.{Beat, Begins, Dies, Ends, Makes, at_work}
@@ -25,25 +24,30 @@ use Rattle.iox_wire_needs.specs.Openings.{AgreesWith, opened_seat}
 use Rattle.iox_wire_needs.specs.Runs.{Run, history}
 use Rattle.iox_wire_needs.specs.Stands.{Player}
 use Rattle.iox_wire_weaves.specs.PortCounts.{TellsCounts}
+use Rattle.iox_wire_weaves.specs.Replies.{died_after, finished_within, most_words, under_way, under_way_within}
 use Rattle.iox_wire_weaves.specs.declared.refusal.WireRefusal.{WireRefusal}
 use Rattle.iox_wire_weaves.specs.declared.refusal.WireRefusal.TheVariants.{AccessesSpent, AtRest, Busy, ForeignNumber, NodeIsDead, UnknownNode, UnknownNumber, WantOfMemory, WrongKind}
 
 -- ---- a wire
 
--- A node of a wire: its number, whether it lives, and its own part of the wire.
+-- A node of a wire: its number, whether it lives, and else how many events came before its death; its own
+-- part of the wire, its call under way, and the most words that it keeps of a call.
 pub record WireNode : Type 0 where
   pub number : ℕ
   pub alive : Bool
+  pub died : Option ℕ
   pub node : Node
+  pub call : Option UnderWay
+  pub longest : ℕ
 
--- A wire: what it was made for, and told beside that, its words, its nodes, what calls were answered, and
--- the events that were recorded, each with its node, oldest first. The words of reads are not kept there.
+-- A wire: what it was made for, and told beside that, its words, its nodes, the finished calls in the
+-- order of their ends, and the events that were recorded, each with its node, oldest first.
 pub record WireData : Type 0 where
   pub plan : WirePlan
   pub terms : WireTerms
   pub words : List ℕ
   pub nodes : List WireNode
-  pub replies : List (ℕ × Reply)
+  pub replies : List Finished
   pub events : List (ℕ × Event)
 
 -- the node of that number
@@ -92,14 +96,12 @@ answer_in (Dies node) = []
 abbrev pub answers_in : List Beat → List (ℕ × Reply)
 answers_in beats = flat_map answer_in beats
 
--- a reply, without the words of a read
-abbrev pub wordless : Reply → Reply
-wordless (Words words) = Words []
-wordless reply = reply
-
--- answers, without the words of reads
-abbrev pub wordless_all : List (ℕ × Reply) → List (ℕ × Reply)
-wordless_all answers = map (λ a. (a.0, wordless a.1)) answers
+-- After these beats the node keeps the call that it has under way, with no more words than there is room
+-- for, and when it died, if it did.
+pub record KeepsItsCall (most : ℕ) (bs : List Beat) (n : ℕ) (x : WireNode) : Type 0 where
+  pub room : x.longest ≡ most
+  pub call : x.call ≡ option_map (under_way_within most) (under_way bs n)
+  pub died : x.died ≡ died_after bs n
 
 -- The wire shows the run: it is one of the machine on whose ports the wire was opened.
 pub record Shows (p : Setting) (wire : WireData) (r : Run) : Type 0 where
@@ -116,8 +118,11 @@ pub record Shows (p : Setting) (wire : WireData) (r : Run) : Type 0 where
   -- the desk of each port tells what the machine counts of it, whether its node lives or is dead
   pub counts : (port : ℕ) → has_number port p.layout.sizes.ports ≡ true
       → TellsCounts r.last port (seat_of p wire.nodes (p.layout.owner port))
-  -- the replies are the run's
-  pub replies : wire.replies ≡ wordless_all (answers_in r.beats)
+  -- each node keeps its call that is under way, and when it died
+  pub calls : (n : ℕ) (x : WireNode) → node_at n wire.nodes ≡ Some x
+      → KeepsItsCall (most_words wire.plan) r.beats n x
+  -- the replies are the run's, with no more words than the longest message has
+  pub replies : wire.replies ≡ map (finished_within (most_words wire.plan)) (replies_of r.beats)
   -- and so are the events
   pub events : wire.events ≡ events_of r.beats
 

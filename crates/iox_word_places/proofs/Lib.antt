@@ -5,3 +5,4 @@ pub mod SlotLemmas
 pub mod WayLemmas
 pub mod NewLemmas
 pub mod PlanLawProofs
+pub mod WayCounts

@@ -4,13 +4,12 @@ use Rattle.std.proofs.Common.{◌≡◌, ℕ, ◌+◌, ◌*◌, ◌^◌, ◌<◌
 use Rattle.std.proofs.lemmas.Nat.{mul-le}
 use Rattle.std.proofs.Math.Nat.{add-mul}
 use Rattle.iox_model.specs.declared.kind.Role.TheVariants.{Client, Server}
-use Rattle.iox_types.specs.Layouts.{as_usize}
 use Rattle.iox_word_map.specs.WordMaps.{total_words, pair_words, pair_place, lane_place, lane_words}
-use Rattle.iox_word_places.specs.declared.plan.PlanLimits.{PlanLimits}
 use Rattle.iox_word_places.specs.declared.plan.PlanPort.{PlanPort}
 use Rattle.iox_word_places.specs.declared.plan.WirePlan.{WirePlan}
 use Rattle.iox_word_places.specs.declared.word_map.PortPlaces.{PortPlaces}
-use Rattle.iox_word_places.specs.MapFields.{places_before}
+use Rattle.iox_word_places.specs.declared.way_sizes.WaySizes.{WaySizes}
+use Rattle.iox_word_places.specs.MapFields.{AreWaySizes, IsCounted, places_before}
 use Rattle.iox_word_places.specs.Plans.{number_at, sizes_of, IsPlan, IsPortAt, IsLaneAt, message_words, returning_words}
 use Rattle.iox_word_places.specs.PortSums.{planned_lane_words, planned_pair_words, regions_before, clients_before, servers_before}
 use Rattle.iox_word_places.proofs.PlanLemmas.{there, pair_words_there, pair_place_there, pair_within}
@@ -25,42 +24,51 @@ pub weaker : (X : Type 0) (P Q : X → Type 0) (o : Option X) → ((x : X) → P
 weaker X P Q None less h = h
 weaker X P Q (Some x) less h = less x h
 
--- a number that the code was told
-abbrev pub IsTold : ℕ → Option ℕ → Type 0
-IsTold number words = (n : ℕ) → n < 2 ^ 64 → words ≡ as_usize n → number ≡ n
+-- so many lanes have so many words, of which each is counted where there is one
+lanes_are : (lanes L each rest : ℕ) → IsCounted each L → rest + lanes * L < 2 ^ 64 → lanes * each ≡ lanes * L
+lanes_are zero L each rest counted fits = omega arith
+lanes_are (suc n) L each rest counted fits =
+    let some : 1 * L ≤ suc n * L = mul-le 1 L (suc n) L (omega arith) (omega arith) in
+    ap (λ k. suc n * k) (counted (omega arith))
 
-pub record PairFacts (plan : WirePlan) (client server regions clients servers pair : ℕ) : Type 0 where
+pub record PairFacts (plan : WirePlan) (client server regions clients servers pool way lane : ℕ) : Type 0 where
+  pub lanes : pool * lane < 2 ^ 64
+  pub size : way + pool * lane < 2 ^ 64
   pub first : regions + clients < 2 ^ 64
-  pub product : servers * pair < 2 ^ 64
-  pub sum : regions + clients + servers * pair < 2 ^ 64
-  pub place : regions + clients + servers * pair ≡ pair_place (sizes_of plan) (number_at plan client) (number_at plan server)
-  pub within : regions + clients + servers * pair + pair_words (sizes_of plan) (number_at plan client) ≤ total_words (sizes_of plan)
+  pub product : servers * (way + pool * lane) < 2 ^ 64
+  pub sum : regions + clients + servers * (way + pool * lane) < 2 ^ 64
+  pub place : regions + clients + servers * (way + pool * lane) ≡ pair_place (sizes_of plan) (number_at plan client) (number_at plan server)
+  pub within : regions + clients + servers * (way + pool * lane) + pair_words (sizes_of plan) (number_at plan client) ≤ total_words (sizes_of plan)
 
 pub pair_facts : (plan : WirePlan) → IsPlan plan → total_words (sizes_of plan) < 2 ^ 64
     → (client server : ℕ) → IsPortAt plan Client client → IsPortAt plan Server server
     → (at : PlanPort) → at ≡ get_or plan.ports.items client at
-    → (limits : PlanLimits) → limits ≡ plan.limits
-    → (words : Option ℕ) → words ≡ as_usize (planned_pair_words limits at.pool)
-    → (pair : ℕ) → IsTold pair words
+    → (sizes : WaySizes) → AreWaySizes plan.limits sizes
     → (regions : ℕ) → regions ≡ regions_before plan (length plan.ports.items)
     → (here : PortPlaces) → here ≡ places_before plan client
     → (over : PortPlaces) → over ≡ places_before plan server
-    → PairFacts plan client server regions here.clients over.servers pair
-pair_facts plan is fits client server c s at at_is limits limits_are words words_are pair told regions regions_are here here_is over over_is =
+    → PairFacts plan client server regions here.clients over.servers at.pool sizes.way sizes.lane
+pair_facts plan is fits client server c s at at_is sizes are regions regions_are here here_is over over_is =
+    let L : ℕ = planned_lane_words plan.limits in
+    let Q : ℕ = message_words plan.limits Client + returning_words plan.limits Client in
     let P : ℕ = planned_pair_words plan.limits (get_or plan.ports.items client at).pool in
     let R : ℕ = regions_before plan (length plan.ports.items) in
     let C : ℕ = clients_before plan client in
     let S : ℕ = servers_before plan server in
     let within : R + C + S * P + P ≤ total_words (sizes_of plan) = pair_within plan is.numbers client server c s at in
-    let same : planned_pair_words limits at.pool ≡ P =
-    ap (λ l. planned_pair_words l at.pool) limits_are ∙ ap (λ q. planned_pair_words plan.limits q.pool) at_is in
-    let pair_is : pair ≡ P = told P (omega arith) (words_are ∙ ap as_usize same) in
+    let same : Q + at.pool * L ≡ P = ap (λ q. planned_pair_words plan.limits q.pool) at_is in
+    let way_is : sizes.way ≡ Q = are.way (omega arith) in
+    let lanes : at.pool * sizes.lane ≡ at.pool * L = lanes_are at.pool L sizes.lane Q are.lane (omega arith) in
+    let pair_is : sizes.way + at.pool * sizes.lane ≡ P = omega arith in
     let clients_are : here.clients ≡ C = ap (λ q. q.clients) here_is in
     let servers_are : over.servers ≡ S = ap (λ q. q.servers) over_is in
-    let product : over.servers * pair ≡ S * P = ap (λ k. k * pair) servers_are ∙ ap (λ k. S * k) pair_is in
+    let product : over.servers * (sizes.way + at.pool * sizes.lane) ≡ S * P =
+    ap (λ k. k * (sizes.way + at.pool * sizes.lane)) servers_are ∙ ap (λ k. S * k) pair_is in
     let place : pair_place (sizes_of plan) (number_at plan client) (number_at plan server) ≡ R + C + S * P = pair_place_there plan is.numbers client server c s at in
     let size : pair_words (sizes_of plan) (number_at plan client) ≡ P = pair_words_there plan is.numbers client server c s at in
     record {
+      lanes = omega arith;
+      size = omega arith;
       first = omega arith;
       product = omega arith;
       sum = omega arith;
@@ -88,15 +96,11 @@ one_of (x ∷ xs) i low = x
 
 pub lane_facts : (plan : WirePlan) → IsPlan plan → total_words (sizes_of plan) < 2 ^ 64
     → (client server lane : ℕ) → IsLaneAt plan client lane → IsPortAt plan Server server
-    → (limits : PlanLimits) → limits ≡ plan.limits
     → (pair : ℕ) → pair ≡ pair_place (sizes_of plan) (number_at plan client) (number_at plan server)
     → pair + pair_words (sizes_of plan) (number_at plan client) ≤ total_words (sizes_of plan)
-    → (words : Option ℕ) → words ≡ as_usize (message_words limits Client + returning_words limits Client)
-    → (requests : ℕ) → IsTold requests words
-    → (lane_of : Option ℕ) → lane_of ≡ as_usize (planned_lane_words limits)
-    → (each : ℕ) → IsTold each lane_of
-    → LaneFacts plan client server lane pair requests each
-lane_facts plan is fits client server lane l s limits limits_are pair pair_is inside words words_are requests told lane_of lane_are each told' =
+    → (sizes : WaySizes) → AreWaySizes plan.limits sizes
+    → LaneFacts plan client server lane pair sizes.way sizes.lane
+lane_facts plan is fits client server lane l s pair pair_is inside sizes are =
     let low : client < length plan.ports.items = index_there PlanPort (λ p. (p.role ≡ Client) × (lane < p.pool)) plan.ports.items client l in
     let d : PlanPort = one_of plan.ports.items client low in
     let pool : ℕ = (get_or plan.ports.items client d).pool in
@@ -107,9 +111,9 @@ lane_facts plan is fits client server lane l s limits limits_are pair pair_is in
     let size : pair_words (sizes_of plan) (number_at plan client) ≡ Q + pool * L = pair_words_there plan is.numbers client server c s d in
     let lanes : (lane + 1) * L ≤ pool * L = mul-le (lane + 1) L pool L (omega arith) (omega arith) in
     let split : (lane + 1) * L ≡ lane * L + 1 * L = add-mul lane 1 L in
-    let requests_are : requests ≡ Q = told Q (omega arith) (words_are ∙ ap (λ k. as_usize (message_words k Client + returning_words k Client)) limits_are) in
-    let each_is : each ≡ L = told' L (omega arith) (lane_are ∙ ap (λ k. as_usize (planned_lane_words k)) limits_are) in
-    let product : lane * each ≡ lane * L = ap (λ k. lane * k) each_is in
+    let way_is : sizes.way ≡ Q = are.way (omega arith) in
+    let lane_is : sizes.lane ≡ L = are.lane (omega arith) in
+    let product : lane * sizes.lane ≡ lane * L = ap (λ k. lane * k) lane_is in
     let place : lane_place (sizes_of plan) (number_at plan client) (number_at plan server) lane
     ≡ pair_place (sizes_of plan) (number_at plan client) (number_at plan server) + Q + lane * L = omega arith in
     record {

@@ -1,6 +1,5 @@
 -- The queues and the request state of a way, by the indexes of its ports.
-use Rattle.std.specs.Prelude.{Option}
-use Rattle.std.proofs.Common.{◌≡◌, ℕ, ◌+◌, ◌^◌, ◌<◌, ◌≤◌, true, false, length, get_or, refl, ap, sym, ◌∙◌, arith}
+use Rattle.std.proofs.Common.{◌≡◌, ℕ, ◌+◌, ◌^◌, ◌<◌, ◌≤◌, true, false, length, get_or, refl, ap, subst, sym, ◌∙◌, arith}
 use Rattle.std.specs.Option.{option_map_or}
 use Rattle.iox_model.specs.declared.kind.Role.{Role}
 use Rattle.iox_model.specs.declared.kind.Role.TheVariants.{Client, Server}
@@ -9,7 +8,6 @@ use Rattle.iox_model.specs.Settings.{same_role}
 use Rattle.iox_steps.specs.declared.site.QueueKind.{QueueKind}
 use Rattle.iox_steps.specs.declared.site.QueueKind.TheVariants.{Index}
 use Rattle.iox_steps.specs.declared.site.Site.{Site}
-use Rattle.iox_types.specs.Layouts.{as_usize}
 use Rattle.iox_word_map.specs.WordMaps.{MessageQueue, ReturningQueue, QueueWords, IsRequestWay, IsResponseWay, piece_place, total_words, lane_place, lane_words}
 use Rattle.iox_word_map.proofs.Places.{request_queues_are_computed, lanes_are_computed}
 use Rattle.iox_wire_words.specs.Programs.{site_of, state_place}
@@ -19,10 +17,13 @@ use Rattle.iox_word_places.specs.declared.plan.WirePlan.{WirePlan}
 use Rattle.iox_word_places.specs.declared.way_index.WayIndex.{WayIndex}
 use Rattle.iox_word_places.specs.declared.way_index.WayIndex.TheVariants.{Requests, Responses}
 use Rattle.iox_word_places.specs.Plans.{IsPlan, IsPortAt, IsLaneAt, IsWayAt, number_at, numbers_of, role_of, sizes_of, layout_of, way_at, sender_of, planned_buffer, message_kind, message_words, returning_words, returning_room}
+use Rattle.iox_word_places.specs.declared.way_sizes.QueueSizes.{QueueSizes}
+use Rattle.iox_word_places.specs.declared.way_sizes.WaySizes.{WaySizes}
+use Rattle.iox_word_places.specs.MapFields.{AreQueueSizes, AreWaySizes, sizes_in}
 use Rattle.iox_word_places.specs.PortSums.{way_start, way_size}
 use Rattle.iox_word_places.proofs.PortLemmas.{named_at, unnamed_at}
 use Rattle.iox_word_places.proofs.PlanLemmas.{there, number_is, port_is}
-use Rattle.iox_word_places.proofs.PairLemmas.{IsTold, index_there, client_of_lane, one_of}
+use Rattle.iox_word_places.proofs.PairLemmas.{index_there, client_of_lane, one_of}
 
 module _ (plan : WirePlan) (is : IsPlan plan) where
   module _ (i : ℕ) (role : Role) (at : IsPortAt plan role i) where
@@ -110,31 +111,34 @@ module _ (plan : WirePlan) (is : IsPlan plan) where
         (kind_is ∙ by_role QueueKind message_kind) (base_is ∙ sym (message_place way at)) (capacity_is ∙ by_role ℕ planned_buffer)
 
     module _ (fits : total_words (sizes_of plan) < 2 ^ 64) (within : base + way_size plan way ≤ total_words (sizes_of plan))
-        (words : Option ℕ) (words_are : words ≡ as_usize (message_words limits sender)) (waiting : ℕ) (told : IsTold waiting words) where
-      waiting_is : waiting ≡ message_words plan.limits (sender_of way)
+        (queues : QueueSizes) (are : AreQueueSizes plan.limits sender queues) where
+      waiting_is : queues.waiting ≡ message_words plan.limits (sender_of way)
       waiting_is =
           let q = queues_fit way in
-          let same : message_words limits sender ≡ message_words plan.limits (sender_of way) =
-          ap (λ l. message_words l sender) limits_are ∙ ap (λ r. message_words plan.limits r) sender_is in
-          told (message_words plan.limits (sender_of way)) (omega arith) (words_are ∙ ap as_usize same)
+          let same : message_words plan.limits sender ≡ message_words plan.limits (sender_of way) = ap (λ r. message_words plan.limits r) sender_is in
+          let told : queues.waiting ≡ message_words plan.limits sender = are.waiting (omega arith) in
+          told ∙ same
 
-      pub waiting_fits : base + waiting < 2 ^ 64
+      pub waiting_fits : base + queues.waiting < 2 ^ 64
       waiting_fits = (let q = queues_fit way in let w = waiting_is in omega arith)
 
-      pub returning_queue_is : (room : Option ℕ) → room ≡ as_usize (returning_room limits sender) → (capacity : ℕ) → IsTold capacity room
-          → (let a : Site = record { kind = Index; base = base + waiting; capacity = capacity } in
+      pub returning_queue_is :
+          (let a : Site = record { kind = Index; base = base + queues.waiting; capacity = queues.room } in
           a ≡ site_of (layout_of plan) (ReturningQueue (way_at plan way)))
-      returning_queue_is room room_is capacity told' =
+      returning_queue_is =
           let q = queues_fit way in
-          let same : returning_room limits sender ≡ returning_room plan.limits (sender_of way) =
-          ap (λ l. returning_room l sender) limits_are ∙ ap (λ r. returning_room plan.limits r) sender_is in
-          let is_room : capacity ≡ returning_room plan.limits (sender_of way) =
-          told' (returning_room plan.limits (sender_of way)) (omega arith) (room_is ∙ ap as_usize same) in
-          let place : base + waiting ≡ piece_place (sizes_of plan) (QueueWords (ReturningQueue (way_at plan way))) =
+          let same : returning_room plan.limits sender ≡ returning_room plan.limits (sender_of way) = ap (λ r. returning_room plan.limits r) sender_is in
+          let is_room : queues.room ≡ returning_room plan.limits sender = are.room (omega arith) in
+          let place : base + queues.waiting ≡ piece_place (sizes_of plan) (QueueWords (ReturningQueue (way_at plan way))) =
           (let p = returning_place way at in let w = waiting_is in omega arith) in
-          same_site Index Index (base + waiting) (piece_place (sizes_of plan) (QueueWords (ReturningQueue (way_at plan way)))) capacity
+          same_site Index Index (base + queues.waiting) (piece_place (sizes_of plan) (QueueWords (ReturningQueue (way_at plan way)))) queues.room
           (returning_room plan.limits (role_of plan (way_at plan way).sender)) refl place
-          (is_room ∙ ap (λ r. returning_room plan.limits r) (sym (sender_role way at)))
+          (is_room ∙ same ∙ ap (λ r. returning_room plan.limits r) (sym (sender_role way at)))
+
+-- the sizes of a sender's queues are among those of all ways
+pub queues_are : (l : PlanLimits) (sizes : WaySizes) → AreWaySizes l sizes → (sender : Role) (queues : QueueSizes) → queues ≡ sizes_in sizes sender
+    → AreQueueSizes l sender queues
+queues_are l sizes are sender queues same = subst (AreQueueSizes l sender) (sym same) (are.queues sender)
 
 -- the two queues of a lane stand before its request state
 pub record StateFacts (plan : WirePlan) (client server lane base waiting returning : ℕ) : Type 0 where
@@ -144,17 +148,15 @@ pub record StateFacts (plan : WirePlan) (client server lane base waiting returni
 
 pub state_facts : (plan : WirePlan) → IsPlan plan → total_words (sizes_of plan) < 2 ^ 64
     → (client server lane : ℕ) → IsWayAt plan (Responses client server lane)
-    → (limits : PlanLimits) → limits ≡ plan.limits
     → (base : ℕ) → base ≡ lane_place (sizes_of plan) (number_at plan client) (number_at plan server) lane
     → base + lane_words (sizes_of plan) ≤ total_words (sizes_of plan)
-    → (words : Option ℕ) → words ≡ as_usize (message_words limits Server) → (waiting : ℕ) → IsTold waiting words
-    → (more : Option ℕ) → more ≡ as_usize (returning_words limits Server) → (returning : ℕ) → IsTold returning more
-    → StateFacts plan client server lane base waiting returning
-state_facts plan is fits client server lane at limits limits_are base base_is within words words_are waiting told more more_are returning told' =
+    → (queues : QueueSizes) → AreQueueSizes plan.limits Server queues
+    → StateFacts plan client server lane base queues.waiting queues.returning
+state_facts plan is fits client server lane at base base_is within queues are =
     let M : ℕ = message_words plan.limits Server in
     let R : ℕ = returning_words plan.limits Server in
-    let waiting_is : waiting ≡ M = told M (omega arith) (words_are ∙ ap (λ l. as_usize (message_words l Server)) limits_are) in
-    let returning_is : returning ≡ R = told' R (omega arith) (more_are ∙ ap (λ l. as_usize (returning_words l Server)) limits_are) in
+    let waiting_is : queues.waiting ≡ M = are.waiting (omega arith) in
+    let returning_is : queues.returning ≡ R = are.returning (omega arith) in
     let place : state_place (layout_of plan) (way_at plan (Responses client server lane))
     ≡ lane_place (sizes_of plan) (number_at plan client) (number_at plan server) lane + M + R = state_is plan is client server lane at in
     record {

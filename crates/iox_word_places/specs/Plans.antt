@@ -1,6 +1,6 @@
 -- A plan of a wire, as the layout that it describes.
 use Rattle.std.specs.Prelude.{◌≡◌, ℕ, ◌+◌, ◌*◌, ◌<◌, Bool, if◌then◌else◌, ◌==◌, List, map, filter, Option, IsSomeAnd, slice_get, slice_index}
-use Rattle.std.specs.List.{find, All}
+use Rattle.std.specs.List.{find, All, sum_by}
 use Rattle.std.specs.Option.{option_map_or}
 use Rattle.iox_model.specs.declared.kind.Role.{Role}
 use Rattle.iox_model.specs.declared.kind.Role.TheVariants.{Client, Server}
@@ -77,6 +77,14 @@ port_of plan n = find (λ p. p.number == n) plan.ports.items
 -- its role
 abbrev pub role_of : WirePlan → ℕ → Role
 role_of plan n = option_map_or (λ p. p.role) (port_of plan n) Client
+
+-- one way for the port, and one for each message of its pool
+abbrev pub port_ways : PlanPort → ℕ
+port_ways p = p.pool + 1
+
+-- no call visits more ways
+abbrev pub most_ways : WirePlan → ℕ
+most_ways plan = sum_by port_ways plan.ports.items
 
 -- ---- the layout
 

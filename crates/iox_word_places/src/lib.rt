@@ -9,6 +9,7 @@ mod part_words;
 mod plan;
 mod uses;
 mod way_index;
+mod way_sizes;
 mod word_map;
 
 pub use laws::plans_are_layouts;

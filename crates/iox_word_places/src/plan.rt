@@ -6,7 +6,7 @@ ghost use Rattle.iox_types.specs.Layouts.{as_usize};
 ghost use Rattle.iox_word_map.specs.WordMaps.{total_words};
 ghost use Rattle.iox_word_places.specs.Plans.{message_kind, planned_buffer, planned_limit};
 ghost use Rattle.iox_word_places.specs.Plans.{message_words, returning_room, returning_words};
-ghost use Rattle.iox_word_places.specs.Plans.{details_of, numbers_of, port_numbers, sizes_of};
+ghost use Rattle.iox_word_places.specs.Plans.{details_of, most_ways, numbers_of, port_numbers, sizes_of};
 ghost use Rattle.iox_word_places.specs.PortSums.{client_words, region_words, server_count};
 ghost use Rattle.iox_word_places.specs.PortSums.{planned_lane_words, planned_pair_words};
 
@@ -164,6 +164,17 @@ impl WirePlan {
             servers += port.servers();
         }
         servers
+    }
+
+    /// The most ways that a call visits, if that fits.
+    pub fn most_ways(&self) -> Option<usize>
+        ensures { result ≡ as_usize (most_ways self.now) }
+    {
+        let mut ways = Some(0);
+        for port in &self.ports {
+            ways = sum(ways, port.pool.checked_add(1));
+        }
+        ways
     }
 
     /// How many words the wire has, if that fits.

@@ -2,15 +2,17 @@
 ghost use Rattle.std.specs.Prelude.{◌≡◌, ◌+◌, ◌*◌, ◌<◌, ◌≤◌, ◌^◌, IfErr, IfOk, None, OnOk, length, slice_index_or};
 ghost use Rattle.iox_model.specs.declared.kind.Role.TheVariants.{Client, Server};
 ghost use Rattle.iox_sets.specs.Refusals.{IsRefusal};
+ghost use Rattle.iox_types.specs.Layouts.{as_usize};
 ghost use Rattle.iox_wire_words.specs.Programs.{site_of, state_place};
 ghost use Rattle.iox_word_map.specs.WordMaps.{MessageQueue, Region, ReturningQueue};
 ghost use Rattle.iox_word_map.specs.WordMaps.{lane_words, pair_words, piece_place, total_words};
 ghost use Rattle.iox_word_places.specs.declared.new_error.WordMapNewError.TheVariants.{WantOfMemory};
 ghost use Rattle.iox_word_places.specs.declared.way_index.WayIndex.TheVariants.{Requests, Responses};
 ghost use Rattle.iox_word_places.specs.Plans.{IsLaneAt, IsPlan, IsPortAt, IsSlotAt, IsWayAt};
-ghost use Rattle.iox_word_places.specs.Plans.{details_of, layout_of, number_at, part_start};
+ghost use Rattle.iox_word_places.specs.Plans.{details_of, layout_of, most_ways, number_at, part_start};
 ghost use Rattle.iox_word_places.specs.Plans.{sizes_of, slot_start, way_at};
 ghost use Rattle.iox_word_places.specs.PortSums.{regions_before, way_size, way_start};
+ghost use Rattle.iox_word_places.specs.MapFields.{AreWaySizes};
 ghost use Rattle.iox_word_places.specs.Refusals.{map_refusal};
 
 use crate::counting::told;
@@ -18,6 +20,7 @@ use crate::new_error::WordMapNewError;
 use crate::part_words::part_word;
 use crate::plan::{PlanLimits, PlanPort, WirePlan};
 use crate::way_index::WayIndex;
+use crate::way_sizes::WaySizes;
 use iox_model::kind::Role;
 use iox_steps::{QueueKind, Site};
 use iox_types::MessageTypeDetails;
@@ -30,9 +33,13 @@ use std::marker::Model;
 pub struct WordMap {
     plan: WirePlan,
     places: Vec<PortPlaces>,
+    // what is the same of all ways
+    sizes: WaySizes,
     // how many words all regions have, and all there is
     regions: usize,
     total: usize,
+    // the most ways that a call visits, if that fits
+    ways: Option<usize>,
 }
 
 /// What stands before a port's own words.
@@ -91,6 +98,8 @@ impl WordMap {
             return Err(WordMapNewError::TooManyWords);
         };
         let servers = plan.servers();
+        let ways = plan.most_ways();
+        let sizes = WaySizes::new(&plan.limits);
         let mut places = Vec::new(alloc);
         let mut next = PortPlaces {
             region: 0,
@@ -104,8 +113,10 @@ impl WordMap {
         Ok(WordMap {
             plan,
             places,
+            sizes,
             regions: next.region,
             total,
+            ways,
         })
     }
 
@@ -122,6 +133,13 @@ impl WordMap {
         ensures { result ≡ total_words (sizes_of self.now) }
     {
         self.total
+    }
+
+    /// The most ways that a call visits, if that fits.
+    pub fn most_ways(&self) -> Option<usize>
+        ensures { result ≡ as_usize (most_ways self.now) }
+    {
+        self.ways
     }
 
     /// The first word of a port's region.
@@ -179,14 +197,12 @@ impl WordMap {
         ensures { result ≡ site_of (layout_of self.now) (ReturningQueue (way_at self.now way)) }
     {
         let sender = way.sender();
-        let limits = self.limits();
         let base = self.way(way);
-        let waiting = told(limits.message_words(sender));
-        let capacity = told(limits.returning_room(sender));
+        let queues = self.sizes().queues(sender);
         Site {
             kind: QueueKind::Index,
-            base: base + waiting,
-            capacity,
+            base: base + queues.waiting,
+            capacity: queues.room,
         }
     }
 
@@ -196,11 +212,9 @@ impl WordMap {
         ensures { result
             ≡ state_place (layout_of self.now) (way_at self.now (Responses client server lane)) }
     {
-        let limits = self.limits();
         let base = self.lane(client, server, lane);
-        let waiting = told(limits.message_words(Role::Server));
-        let returning = told(limits.returning_words(Role::Server));
-        base + waiting + returning
+        let queues = self.sizes().queues(Role::Server);
+        base + queues.waiting + queues.returning
     }
 
     /// Where the words of a way begin.
@@ -232,9 +246,9 @@ impl WordMap {
         ensures fits { total_words (sizes_of self.now) < 2 ^ 64 }
     {
         let regions = self.regions();
-        let limits = self.limits();
+        let sizes = self.sizes();
         let at = self.port(client);
-        let pair = told(limits.pair_words(at.pool));
+        let pair = sizes.way + at.pool * sizes.lane;
         let here = self.before(client);
         let there = self.before(server);
         regions + here.clients + there.servers * pair
@@ -249,11 +263,9 @@ impl WordMap {
         ensures plan { IsPlan self.now }
         ensures fits { total_words (sizes_of self.now) < 2 ^ 64 }
     {
-        let limits = self.limits();
         let pair = self.pair(client, server);
-        let requests = told(limits.request_words());
-        let each = told(limits.lane_words());
-        pair + requests + lane * each
+        let sizes = self.sizes();
+        pair + sizes.way + lane * sizes.lane
     }
 
     /// How many words all regions have.
@@ -263,6 +275,13 @@ impl WordMap {
         ensures fits { total_words (sizes_of self.now) < 2 ^ 64 }
     {
         self.regions
+    }
+
+    /// What is the same of all ways.
+    fn sizes(&self) -> &WaySizes
+        ensures { AreWaySizes self.now.limits result.now }
+    {
+        &self.sizes
     }
 
     /// The limits of the plan.

@@ -7,6 +7,7 @@ ghost use Rattle.iox_wire_weaves.specs.Lendings.{next_handle};
 ghost use Rattle.iox_wire_weaves.specs.Lends.{MayLend};
 ghost use Rattle.iox_wire_weaves.specs.Nodes.{seat_in};
 ghost use Rattle.iox_wire_weaves.specs.NodesBegins.{MayBegin};
+ghost use Rattle.iox_wire_weaves.specs.ListRooms.{HasRoomFor};
 ghost use Rattle.iox_wire_weaves.specs.Tables.{Setting};
 ghost use Rattle.iox_wire_weaves.specs.Terms.{IsSettingWith};
 ghost use Rattle.iox_wire_weaves.specs.WirePlans.{IsWirePlan};
@@ -15,7 +16,6 @@ ghost use Rattle.iox_wire.specs.Begun.{HasBegun, IsRefusedBy, StaysPut};
 use super::Member;
 use crate::finding::find_port;
 use iox_wire_weaves::{Lists, NodeCall, NodeError, WireTerms, WordMap};
-use std::alloc::Global;
 
 impl Member {
     /// Whether there is no room for a handle that the call may add.
@@ -26,13 +26,13 @@ impl Member {
         call.may_add_handle() && !self.has_room()
     }
 
-    /// Begins a call. What it lists is of no use later.
+    /// Begins a call, after so many events. What it lists is of no use later.
     pub(crate) fn begin(
         &mut self,
-        alloc: Global,
         map: &WordMap,
         terms: &WireTerms,
         call: NodeCall<'_>,
+        begun: usize,
         lists: &mut Lists,
     ) -> Result<(), NodeError>
         requires plan { IsWirePlan map.now terms.now }
@@ -43,15 +43,19 @@ impl Member {
             → 0 < self.old.node.seat.room → (p : Setting) → IsSettingWith map.now terms.now p
             → (port : ℕ)
             → MayLend self.old.node.seat (next_handle p self.old.node.seat.seat) port }
-        ensures begun { OnOk result (HasBegun map.now terms.now self.old call.entry self.new) }
+        requires lists { HasRoomFor map.now lists.old }
+        ensures begun { OnOk result (HasBegun map.now terms.now self.old call.entry begun self.new) }
         ensures refused { IfErr result (IsRefusedBy map.now terms.now self.old call.entry) }
         ensures unchanged { OnErr result (StaysPut self.old call.entry self.new) }
+        ensures lists { HasRoomFor map.now lists.new }
     {
         let port = find_port(map, call.number());
         if self.lacks_room(call) {
             let error = self.node.refuse_without_room(map, terms, call, port);
             return Err(NodeError::Begin(error));
         }
-        self.node.begin(alloc, map, terms, call, port, lists)
+        self.node.begin(map, terms, call, port, lists)?;
+        self.keep(call, begun);
+        Ok(())
     }
 }

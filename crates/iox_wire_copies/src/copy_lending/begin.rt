@@ -31,7 +31,7 @@ impl CopyLending {
     pub fn lend_request(
         &mut self,
         seat: &mut StoredSeat,
-        lender: &Lender,
+        lender: &Lender<'_>,
         places: PayloadPlaces,
         number: u64,
         elements: u64,

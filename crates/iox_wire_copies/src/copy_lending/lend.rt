@@ -16,7 +16,7 @@ impl CopyLending {
     ghost use Rattle.iox_wire_copies.specs.CopyAims.{StaysAimed};
 
     /// An access of the loan before it stores. If the loan is over it is refused.
-    #[inline]
+    #[inline(always)]
     pub(super) fn lend_on(&mut self, seat: &mut StoredSeat, seen: u64) -> Option<CopyLent>
         requires there { IsLending self.old.at }
         requires before { is_storing self.old.lending.local ≡ false }
@@ -28,9 +28,9 @@ impl CopyLending {
         requires used { GetsBackUsed seat.old.seat self.old.local }
         ensures next { GoesOn seat.old self.old seen seat.new self.new result }
         ensures aimed { StaysAimed seat.old self.old seat.new self.new }
-        ensures made { IsMade self.new.lending.order result }
+        ensures made { IsMade self.new result }
         ensures stored { IsMadeAt self.old.local result }
-        ensures held { HoldsMade seat.old self.old seat.new result }
+        ensures held { HoldsMade seat.old self.old seat.new self.new result }
         ensures busy { is_busy self.new.local ≡ is_none result }
         ensures accesses { seat.new.seat.accesses ≡ seat.old.seat.accesses + 1 }
         ensures room { KeepsRoom seat.old seat.new }

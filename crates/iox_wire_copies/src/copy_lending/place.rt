@@ -8,7 +8,7 @@ impl CopyLending {
 
     /// Its place is one of a loan of its order's kind, and what it stores is the loan of its order.
     /// The function has nothing to do.
-    #[inline]
+    #[inline(always)]
     pub fn place(&self)
         ensures kind { IsLoanOf self.now.lending.order.kind self.now.local }
         ensures order { StoresOrder self.now.lending.order self.now.local }

@@ -33,7 +33,7 @@ impl CopyLending {
     pub fn lend_response(
         &mut self,
         seat: &mut StoredSeat,
-        lender: &Lender,
+        lender: &Lender<'_>,
         places: PayloadPlaces,
         request: Entry,
         number: u64,

@@ -15,7 +15,7 @@ impl CopyLending {
 
     /// A word in front of the payload is stored. With the last it goes on to the payload, and
     /// without one it is over.
-    #[inline]
+    #[inline(always)]
     pub(super) fn store_on(&mut self, seat: &mut StoredSeat) -> Option<CopyLent>
         requires there { IsLending self.old.at }
         requires storing { IsStoring self.old.lending.local }
@@ -24,9 +24,9 @@ impl CopyLending {
         ensures seat { seat.new ≡ counted seat.old }
         ensures next { (seen : ℕ) → GoesOn seat.old self.old seen seat.new self.new result }
         ensures aimed { StaysAimed seat.old self.old seat.new self.new }
-        ensures made { IsMade self.new.lending.order result }
+        ensures made { IsMade self.new result }
         ensures stored { IsMadeAt self.old.local result }
-        ensures held { HoldsMade seat.old self.old seat.new result }
+        ensures held { HoldsMade seat.old self.old seat.new self.new result }
         ensures busy { is_busy self.new.local ≡ is_none result }
         ensures same { IsSameCopy self.old self.new }
     {
@@ -34,11 +34,11 @@ impl CopyLending {
         let Some(loan) = self.lending.store_ahead() else {
             return None;
         };
+        self.loan = loan;
         if self.payload.len() == 0 {
             self.at = CopyAt::Rest;
-            return Some(CopyLent::Made(loan));
+            return Some(CopyLent::Made);
         }
-        self.loan = loan;
         self.place = self.places.place(self.slots, loan.slot);
         self.next = 0;
         self.at = CopyAt::Writes;
@@ -46,16 +46,16 @@ impl CopyLending {
     }
 
     /// A word of the payload is stored. With the last it is over.
-    #[inline]
+    #[inline(always)]
     pub(super) fn write_on(&mut self, seat: &mut StoredSeat) -> Option<CopyLent>
         requires there { IsWriting self.old.at }
         requires accesses { seat.old.seat.accesses + 1 < 2 ^ 64 }
         ensures seat { seat.new ≡ counted seat.old }
         ensures next { (seen : ℕ) → GoesOn seat.old self.old seen seat.new self.new result }
         ensures aimed { StaysAimed seat.old self.old seat.new self.new }
-        ensures made { IsMade self.new.lending.order result }
+        ensures made { IsMade self.new result }
         ensures stored { IsMadeAt self.old.local result }
-        ensures held { HoldsMade seat.old self.old seat.new result }
+        ensures held { HoldsMade seat.old self.old seat.new self.new result }
         ensures busy { is_busy self.new.local ≡ is_none result }
         ensures same { IsSameCopy self.old self.new }
     {
@@ -65,6 +65,6 @@ impl CopyLending {
             return None;
         }
         self.at = CopyAt::Rest;
-        Some(CopyLent::Made(self.loan))
+        Some(CopyLent::Made)
     }
 }

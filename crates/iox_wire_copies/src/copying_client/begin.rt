@@ -47,7 +47,7 @@ impl CopyingClient {
     pub fn begin(
         &mut self,
         seat: &mut StoredSeat,
-        lender: &Lender,
+        lender: &Lender<'_>,
         places: PayloadPlaces,
         number: u64,
         elements: Option<u64>,

@@ -7,7 +7,7 @@ impl CopyingClient {
     ghost use Rattle.iox_wire_copies.specs.CopyCalls.{CopiesItsRequest};
 
     /// It is where its loan or its send is, a request's. The function has nothing to do.
-    #[inline]
+    #[inline(always)]
     pub fn place(&self)
         ensures { CopiesItsRequest self.now }
     {

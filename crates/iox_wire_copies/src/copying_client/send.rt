@@ -21,7 +21,7 @@ impl CopyingClient {
     ghost use Rattle.iox_wire_copies.specs.CopyCalls.{MayEndCall, SendsItsLoan, SendsTo, StaysAimed};
 
     /// An access of its loan. Once that is made, it is sent.
-    #[inline]
+    #[inline(always)]
     pub(super) fn lend_on(&mut self, seat: &mut StoredSeat, seen: u64) -> Option<CopyReply>
         requires there { IsLending self.old.at }
         requires accesses { seat.old.seat.accesses + 1 < 2 ^ 64 }
@@ -46,14 +46,16 @@ impl CopyingClient {
                 self.at = CopierAt::Rest;
                 Some(CopyReply::OfLoan(reply))
             }
-            Some(CopyLent::Made(loan)) => {
+            Some(CopyLent::Made) => {
                 self.at = CopierAt::Rest;
+                let loan = self.lends.loan();
                 self.send(seat, loan)
             }
         }
     }
 
     /// Begins to send the loan that it made. Without an access to make it is over.
+    #[inline(always)]
     fn send(&mut self, seat: &mut StoredSeat, loan: Entry) -> Option<CopyReply>
         requires lends { is_busy self.old.lends.local ≡ false }
         requires sends { is_busy self.old.sends.local ≡ false }
@@ -86,7 +88,7 @@ impl CopyingClient {
     }
 
     /// An access of its send.
-    #[inline]
+    #[inline(always)]
     pub(super) fn send_on(&mut self, seat: &mut StoredSeat, seen: u64) -> Option<CopyReply>
         requires there { IsSending self.old.at }
         requires accesses { seat.old.seat.accesses + 1 < 2 ^ 64 }

@@ -36,7 +36,7 @@ impl CopyingServer {
     pub fn begin(
         &mut self,
         seat: &mut StoredSeat,
-        lender: &Lender,
+        lender: &Lender<'_>,
         places: PayloadPlaces,
         request: Entry,
         terms: ResponseTerms,

@@ -13,7 +13,7 @@ impl CopyingServer {
 
     /// The event of its next access, which finds `seen`, if it is one. It names a message by its
     /// slot.
-    #[inline]
+    #[inline(always)]
     pub fn event(&self, seen: u64) -> Option<Event>
         ensures { (p : Setting) → (x : Seat) → IsAimed p x self.now
             → result ≡ slot_event p self.now.local seen }

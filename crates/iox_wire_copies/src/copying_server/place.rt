@@ -7,7 +7,7 @@ impl CopyingServer {
     ghost use Rattle.iox_wire_copies.specs.ResponseCopies.{CopiesItsResponse};
 
     /// It is where its loan or its send is, a response's. The function has nothing to do.
-    #[inline]
+    #[inline(always)]
     pub fn place(&self)
         ensures { CopiesItsResponse self.now }
     {

@@ -21,7 +21,7 @@ impl CopyingServer {
     ghost use Rattle.iox_wire_copies.specs.ResponseCopies.{StaysAimed};
 
     /// An access of its loan. Once that is made, it is sent.
-    #[inline]
+    #[inline(always)]
     pub(super) fn lend_on(&mut self, seat: &mut StoredSeat, seen: u64) -> Option<ResponseCopyReply>
         requires there { IsLending self.old.at }
         requires accesses { seat.old.seat.accesses + 1 < 2 ^ 64 }
@@ -42,14 +42,16 @@ impl CopyingServer {
                 self.at = CopierAt::Rest;
                 Some(ResponseCopyReply::OfLoan(reply))
             }
-            Some(CopyLent::Made(loan)) => {
+            Some(CopyLent::Made) => {
                 self.at = CopierAt::Rest;
+                let loan = self.lends.loan();
                 self.send(seat, loan)
             }
         }
     }
 
     /// Begins to send the loan that it made. Without an access to make it is over.
+    #[inline(always)]
     fn send(&mut self, seat: &mut StoredSeat, loan: Entry) -> Option<ResponseCopyReply>
         requires lends { is_busy self.old.lends.local ≡ false }
         requires sends { is_busy self.old.sends.local ≡ false }
@@ -77,7 +79,7 @@ impl CopyingServer {
     }
 
     /// An access of its send.
-    #[inline]
+    #[inline(always)]
     pub(super) fn send_on(&mut self, seat: &mut StoredSeat, seen: u64) -> Option<ResponseCopyReply>
         requires there { IsSending self.old.at }
         requires accesses { seat.old.seat.accesses + 1 < 2 ^ 64 }

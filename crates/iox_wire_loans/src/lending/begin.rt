@@ -37,7 +37,7 @@ impl Lending {
     pub fn lend_request(
         &mut self,
         seat: &mut StoredSeat,
-        lender: &Lender,
+        lender: &Lender<'_>,
         number: u64,
         elements: u64,
         stops: &[Stop],
@@ -91,7 +91,7 @@ impl Lending {
     pub fn lend_response(
         &mut self,
         seat: &mut StoredSeat,
-        lender: &Lender,
+        lender: &Lender<'_>,
         request: Entry,
         number: u64,
         elements: u64,
@@ -155,7 +155,7 @@ impl Lending {
     fn begin(
         &mut self,
         seat: &mut StoredSeat,
-        lender: &Lender,
+        lender: &Lender<'_>,
         order: Order,
         stops: &[Stop],
     ) -> Result<(), AllocError>
@@ -166,7 +166,7 @@ impl Lending {
         ensures begun { (p : Setting) → OnOk result (placed seat.new.seat self.new.local
             ≡ loaning seat.old.seat (loan_of order) (ways_of stops.now)) }
         ensures aimed { (p : Setting) → order.number ≡ next_handle p seat.old.seat
-            → words_of lender.now.role lender.now.ids.items lender.now.user.items order
+            → words_of lender.now.role lender.now.ids.now lender.now.user.now order
             ≡ loan_words p (loan_of order)
             → AreSlots p order.port lender.now.places
             → AreReturning p lender.now.room stops.now
@@ -200,14 +200,14 @@ impl Lending {
 }
 
 /// Stores the words of a loan's message, in their order.
-fn fill_words(words: &mut Vec<u64>, lender: &Lender, order: Order)
+fn fill_words(words: &mut Vec<u64>, lender: &Lender<'_>, order: Order)
     requires whole { IsWhole lender.now }
     requires room { lender.now.places.header + lender.now.places.user ≤ vec_capacity words.old }
     ensures { words.new.items
-        ≡ words_of lender.now.role lender.now.ids.items lender.now.user.items order }
+        ≡ words_of lender.now.role lender.now.ids.now lender.now.user.now order }
 {
     words.clear();
-    if words.extend_from_slice(&lender.ids).is_err() {
+    if words.extend_from_slice(lender.ids).is_err() {
         unreachable!();
     }
     if let Role::Client = lender.role {
@@ -215,7 +215,7 @@ fn fill_words(words: &mut Vec<u64>, lender: &Lender, order: Order)
     }
     words.push_reserved(order.request);
     words.push_reserved(order.elements);
-    if words.extend_from_slice(&lender.user).is_err() {
+    if words.extend_from_slice(lender.user).is_err() {
         unreachable!();
     }
 }

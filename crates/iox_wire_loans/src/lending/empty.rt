@@ -56,6 +56,7 @@ impl Lending {
     }
 
     /// Goes on to the next way. Without one it takes a slot, or is over, refused.
+    #[inline(always)]
     pub(super) fn empty_next(&mut self, seat: &mut StoredSeat) -> Option<LendReply>
         requires rests { is_busy seat.old.seat.local ≡ false }
         requires fits { FitsSlots self.old.words self.old.places }
@@ -92,7 +93,7 @@ impl Lending {
     }
 
     /// An access of a pop of what was returned.
-    #[inline]
+    #[inline(always)]
     pub(super) fn empty_on(&mut self, seat: &mut StoredSeat, seen: u64) -> Option<LendReply>
         requires there { IsEmptying self.old.local }
         requires rests { is_busy seat.old.seat.local ≡ false }

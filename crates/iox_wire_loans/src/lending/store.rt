@@ -19,7 +19,7 @@ impl Lending {
     ghost use Rattle.iox_wire_loans.specs.Aims.{is_storing};
 
     /// A word of the message is stored. With the last the loan is made.
-    #[inline]
+    #[inline(always)]
     pub(super) fn store_on(&mut self, seat: &mut StoredSeat, seen: u64) -> Option<LendReply>
         requires there { IsStoring self.old.local }
         requires rests { is_busy seat.old.seat.local ≡ false }
@@ -46,7 +46,7 @@ impl Lending {
     }
 
     /// Whether it stores the words of its message.
-    #[inline]
+    #[inline(always)]
     pub fn is_storing(&self) -> bool
         ensures told { result ≡ is_storing self.now.local }
         ensures within { OnTrue result (HasNextWord self.now.local (length self.now.words)) }
@@ -57,7 +57,7 @@ impl Lending {
 
     /// A word is stored of a message whose payload the same call stores behind it. With the last
     /// word it is over, and tells the loan, which is no handle.
-    #[inline]
+    #[inline(always)]
     pub fn store_ahead(&mut self) -> Option<Entry>
         requires there { IsStoring self.old.local }
         ensures next { StoresAhead self.old.local (length self.old.words) result self.new.local }

@@ -1,9 +1,9 @@
 //! How a node begins a call of a handle.
-ghost use Rattle.std.specs.Prelude.{◌≡◌, ◌*◌, IfErr, IfSome, None, OnErr, OnOk};
+ghost use Rattle.std.specs.Prelude.{◌*◌, ◌≡◌, ◌≤◌, IfErr, IfSome, None, OnErr, OnOk, vec_capacity};
 ghost use Rattle.iox_model.specs.declared.call.Call.TheVariants.{Release};
 ghost use Rattle.iox_model.specs.declared.call.WireCall.TheVariants.{Port};
 ghost use Rattle.iox_model.specs.declared.kind.Role.TheVariants.{Server};
-ghost use Rattle.iox_wire_begins.specs.Plans.{port_of};
+ghost use Rattle.iox_wire_begins.specs.Plans.{most_ways, port_of};
 ghost use Rattle.iox_wire_begins.specs.HandleCalls.{IsBegun as IsBegunBy, refusal_in};
 ghost use Rattle.iox_wire_begins.specs.PlacedHandles.{IsReadable};
 ghost use Rattle.iox_wire_begins.specs.PlansOf.{IsSettingOf};
@@ -34,6 +34,7 @@ fn release(
 ) -> Result<(), BeginError>
     requires no_port { port_of map.now number ≡ None }
     requires home { MayReleaseNumber map.now number seat.old.seat }
+    requires list { most_ways map.now ≤ vec_capacity stops.old }
     ensures begun { (p : Setting) → IsSettingOf map.now p
         → OnOk result (IsBegunBy p seat.old (Port (Release number)) seat.new) }
     ensures refused { (p : Setting) → IsSettingOf map.now p → IfErr result (λ error.
@@ -41,6 +42,7 @@ fn release(
     ensures accesses { seat.new.seat.accesses ≡ seat.old.seat.accesses }
     ensures room { seat.new.room ≡ seat.old.room }
     ensures unchanged { OnErr result (seat.new ≡ seat.old) }
+    ensures list { vec_capacity stops.new ≡ vec_capacity stops.old }
 {
     named(seat, map, Asked::Release, number)?;
     begin_release(map, seat, number, stops)?;
@@ -62,6 +64,8 @@ fn begin_in(
     requires hint { IfSome (entry_at number seat.old.seat.table) HasRoomForHint }
     requires readable { IfSome (entry_at number seat.old.seat.table) (IsReadable map.now) }
     requires header { map.now.response.header.size ≡ 8 * header_length Server }
+    requires sources { most_ways map.now ≤ vec_capacity sources.old }
+    requires stops { most_ways map.now ≤ vec_capacity stops.old }
     ensures begun { (p : Setting) → IsSettingOf map.now p
         → OnOk result (IsBegunBy p seat.old (called call number) seat.new) }
     ensures refused { (p : Setting) → IsSettingOf map.now p → IfErr result (λ error.
@@ -69,6 +73,8 @@ fn begin_in(
     ensures accesses { seat.new.seat.accesses ≡ seat.old.seat.accesses }
     ensures room { seat.new.room ≡ seat.old.room }
     ensures unchanged { OnErr result (seat.new ≡ seat.old) }
+    ensures sources { vec_capacity sources.new ≡ vec_capacity sources.old }
+    ensures stops { vec_capacity stops.new ≡ vec_capacity stops.old }
 {
     match call {
         HandleCall::Read => begin_read(seat, map, number),
@@ -97,12 +103,16 @@ impl StoredNode {
         requires hint { IfSome (entry_at number self.old.seat.seat.table) HasRoomForHint }
         requires readable { IfSome (entry_at number self.old.seat.seat.table) (IsReadable map.now) }
         requires header { map.now.response.header.size ≡ 8 * header_length Server }
+        requires sources { most_ways map.now ≤ vec_capacity sources.old }
+        requires stops { most_ways map.now ≤ vec_capacity stops.old }
         ensures begun { (p : Setting) → IsSettingOf map.now p
             → OnOk result (IsBegun p self.old (called call number) self.new) }
         ensures refused { (p : Setting) → IsSettingOf map.now p → IfErr result (λ error.
             refusal_at p (seat_in self.old) (called call number) ≡ refusal_in error) }
         ensures at { OnOk result (self.new.at ≡ Seats) }
         ensures unchanged { OnErr result (self.new ≡ self.old) }
+        ensures sources { vec_capacity sources.new ≡ vec_capacity sources.old }
+        ensures stops { vec_capacity stops.new ≡ vec_capacity stops.old }
     {
         if self.is_busy() {
             return Err(BeginError::Busy);

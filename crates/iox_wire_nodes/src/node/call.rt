@@ -2,6 +2,7 @@
 ghost use Rattle.std.specs.Prelude.{◌≡◌, ◌<◌, IfErr, IfSome, None, OnErr, OnOk, false, length};
 ghost use Rattle.std.specs.Prelude.{true};
 ghost use Rattle.iox_model.specs.declared.call.WireCall.TheVariants.{Port};
+ghost use Rattle.iox_wire_begins.specs.ListRooms.{HasRoomFor};
 ghost use Rattle.iox_wire_begins.specs.Plans.{number_at, port_of};
 ghost use Rattle.iox_wire_begins.specs.WirePlans.{IsWirePlan};
 ghost use Rattle.iox_wire_begins.specs.HandleCalls.{refusal_in};
@@ -18,14 +19,12 @@ use super::elements::elements_in;
 use crate::node_call::NodeCall;
 use crate::node_error::NodeError;
 use iox_wire_begins::{Asked, BeginError, Lists, WireTerms, WordMap};
-use std::alloc::Global;
 
 impl StoredNode {
     /// Begins a call of what has its number: the port at an index or, for `None`, a handle. What
     /// it lists is of no use later.
     pub fn begin(
         &mut self,
-        alloc: Global,
         map: &WordMap,
         terms: &WireTerms,
         call: NodeCall<'_>,
@@ -38,6 +37,7 @@ impl StoredNode {
         requires within { IfSome port (λ place. place < length map.now.ports.items) }
         requires there { IfSome port (λ place. number_at map.now place ≡ number_in call) }
         requires none { port ≡ None → port_of map.now (number_in call) ≡ None }
+        requires lists { HasRoomFor map.now lists.old }
         ensures begun { (p : Setting) → IsSettingWith map.now terms.now p
             → OnOk result (IsUnderWay p self.old (Port (call_in p call.entry)) self.new) }
         ensures refused { (p : Setting) → IsSettingWith map.now terms.now p → IfErr result
@@ -45,20 +45,20 @@ impl StoredNode {
             ≡ node_refusal error) }
         ensures adds { OnOk result (AddsHandle self.new.at → may_add_handle call.entry ≡ true) }
         ensures unchanged { OnErr result (IsLeftBy call.entry self.old self.new) }
+        ensures lists { HasRoomFor map.now lists.new }
     {
         if self.is_busy() {
             return Err(NodeError::Begin(BeginError::Busy));
         }
         match port {
-            Some(port) => self.begin_at_port(alloc, map, terms, call, port, lists),
-            None => self.begin_at_handle(alloc, map, terms, call, lists),
+            Some(port) => self.begin_at_port(map, terms, call, port, lists),
+            None => self.begin_at_handle(map, terms, call, lists),
         }
     }
 
     /// Begins a call of the port at an index, which has its number.
     fn begin_at_port(
         &mut self,
-        alloc: Global,
         map: &WordMap,
         terms: &WireTerms,
         call: NodeCall<'_>,
@@ -69,6 +69,7 @@ impl StoredNode {
         requires may { MayBegin map.now terms.now self.old.seat.seat }
         requires within { port < length map.now.ports.items }
         requires there { number_at map.now port ≡ number_in call }
+        requires lists { HasRoomFor map.now lists.old }
         ensures begun { (p : Setting) → IsSettingWith map.now terms.now p
             → OnOk result (IsUnderWay p self.old (Port (call_in p call.entry)) self.new) }
         ensures refused { (p : Setting) → IsSettingWith map.now terms.now p → IfErr result
@@ -76,17 +77,18 @@ impl StoredNode {
             ≡ node_refusal error) }
         ensures adds { OnOk result (AddsHandle self.new.at → may_add_handle call.entry ≡ true) }
         ensures unchanged { OnErr result (IsLeftBy call.entry self.old self.new) }
+        ensures lists { HasRoomFor map.now lists.new }
     {
         let node = self.node();
         match call {
             NodeCall::Loan { number, elements } => {
                 let stops = &mut lists.stops;
-                self.begin_loan_at_port(alloc, map, terms, number, port, elements, stops)?;
+                self.begin_loan_at_port(map, terms, number, port, elements, stops)?;
                 Ok(())
             }
             NodeCall::SendCopy { number, payload } => {
                 let (role, words) = (payload.role, payload.words);
-                self.begin_copy_at_port(alloc, map, terms, number, port, role, words, lists)?;
+                self.begin_copy_at_port(map, terms, number, port, role, words, lists)?;
                 Ok(())
             }
             NodeCall::Receive { number } => {
@@ -119,7 +121,6 @@ impl StoredNode {
     /// Begins a call of the handle of its number, which is no port's.
     fn begin_at_handle(
         &mut self,
-        alloc: Global,
         map: &WordMap,
         terms: &WireTerms,
         call: NodeCall<'_>,
@@ -128,6 +129,7 @@ impl StoredNode {
         requires plan { IsWirePlan map.now terms.now }
         requires may { MayBegin map.now terms.now self.old.seat.seat }
         requires no_port { port_of map.now (number_in call) ≡ None }
+        requires lists { HasRoomFor map.now lists.old }
         ensures begun { (p : Setting) → IsSettingWith map.now terms.now p
             → OnOk result (IsUnderWay p self.old (Port (call_in p call.entry)) self.new) }
         ensures refused { (p : Setting) → IsSettingWith map.now terms.now p → IfErr result
@@ -135,15 +137,16 @@ impl StoredNode {
             ≡ node_refusal error) }
         ensures adds { OnOk result (AddsHandle self.new.at → may_add_handle call.entry ≡ true) }
         ensures unchanged { OnErr result (IsLeftBy call.entry self.old self.new) }
+        ensures lists { HasRoomFor map.now lists.new }
     {
         let (sources, stops) = (&mut lists.sources, &mut lists.stops);
         match call {
             NodeCall::Loan { number, elements } => {
-                self.begin_loan_on_handle(alloc, map, terms, number, elements, stops)?;
+                self.begin_loan_on_handle(map, terms, number, elements, stops)?;
             }
             NodeCall::SendCopy { number, payload } => {
                 let (role, words) = (payload.role, payload.words);
-                self.begin_copy_on_handle(alloc, map, terms, number, role, words, stops)?;
+                self.begin_copy_on_handle(map, terms, number, role, words, stops)?;
             }
             NodeCall::Receive { number } => {
                 self.begin_receive_on_handle(map, terms, number, sources)?;

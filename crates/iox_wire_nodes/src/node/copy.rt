@@ -2,6 +2,7 @@
 ghost use Rattle.std.specs.Prelude.{◌≡◌, ◌+◌, ◌<◌, ◌^◌, IfErr, OnErr, OnOk, length};
 ghost use Rattle.iox_model.specs.declared.call.Call.TheVariants.{SendCopy};
 ghost use Rattle.iox_model.specs.declared.call.WireCall.TheVariants.{Port};
+ghost use Rattle.iox_wire_begins.specs.ListRooms.{HasRoomFor};
 ghost use Rattle.iox_wire_begins.specs.Plans.{number_at};
 ghost use Rattle.iox_wire_begins.specs.WirePlans.{IsWirePlan};
 ghost use Rattle.iox_wire_begins.specs.HandleCalls.{refusal_in};
@@ -18,14 +19,12 @@ use super::elements::elements_in;
 use crate::call_at::CallAt;
 use iox_model::kind::Role;
 use iox_wire_begins::{Asked, BeginError, Lists, WireTerms, WordMap, begin_request_copy};
-use std::alloc::Global;
 
 impl StoredNode {
     /// Begins to copy a message of these words at the port at an index, which has that number. What
     /// is listed is of no use later.
     pub fn begin_copy_at_port(
         &mut self,
-        alloc: Global,
         map: &WordMap,
         terms: &WireTerms,
         number: u64,
@@ -38,6 +37,7 @@ impl StoredNode {
         requires next { terms.now.first_number + self.old.seat.seat.handles_made < 2 ^ 64 }
         requires within { port < length map.now.ports.items }
         requires there { number_at map.now port ≡ number }
+        requires lists { HasRoomFor map.now lists.old }
         ensures begun { (p : Setting) → IsSettingWith map.now terms.now p → OnOk result
             (IsUnderWay p self.old (Port (SendCopy number (payload_with p role words.now))) self.new) }
         ensures refused { (p : Setting) → IsSettingWith map.now terms.now p → IfErr result
@@ -45,6 +45,7 @@ impl StoredNode {
             (Port (SendCopy number (payload_with p role words.now))) ≡ refusal_in error) }
         ensures at { OnOk result (self.new.at ≡ CopiesRequest) }
         ensures unchanged { OnErr result (IsUnchanged self.old self.new) }
+        ensures lists { HasRoomFor map.now lists.new }
     {
         self.name_at_port(map, terms, Asked::SendCopy(role), number, port)?;
         // only what this promises is wanted
@@ -52,7 +53,6 @@ impl StoredNode {
         let next = self.next_number(terms);
         let elements = elements_in(map, terms, role, words);
         let begun = begin_request_copy(
-            alloc,
             map,
             terms,
             &mut self.seat,

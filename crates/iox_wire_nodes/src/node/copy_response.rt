@@ -1,8 +1,8 @@
 //! How a node begins to copy a response.
-ghost use Rattle.std.specs.Prelude.{◌≡◌, ◌+◌, ◌<◌, ◌^◌, IfErr, IfSome, None, OnErr, OnOk};
+ghost use Rattle.std.specs.Prelude.{◌+◌, ◌<◌, ◌^◌, ◌≡◌, ◌≤◌, IfErr, IfSome, None, OnErr, OnOk, vec_capacity};
 ghost use Rattle.iox_model.specs.declared.call.Call.TheVariants.{SendCopy};
 ghost use Rattle.iox_model.specs.declared.call.WireCall.TheVariants.{Port};
-ghost use Rattle.iox_wire_begins.specs.Plans.{port_of};
+ghost use Rattle.iox_wire_begins.specs.Plans.{most_ways, port_of};
 ghost use Rattle.iox_wire_begins.specs.WirePlans.{HandleStands, IsWirePlan};
 ghost use Rattle.iox_wire_begins.specs.HandleCalls.{refusal_in};
 ghost use Rattle.iox_wire_begins.specs.Terms.{IsSettingWith};
@@ -20,14 +20,12 @@ use iox_model::kind::Role;
 use iox_wire_begins::{
     Asked, BeginError, Stop, WireTerms, WordMap, begin_response_copy, client_place, server_place,
 };
-use std::alloc::Global;
 
 impl StoredNode {
     /// Begins to copy a response of these words to the received request of that number, which is no
     /// port's. What it lists in `stops` is of no use later.
     pub fn begin_copy_on_handle(
         &mut self,
-        alloc: Global,
         map: &WordMap,
         terms: &WireTerms,
         number: u64,
@@ -40,6 +38,7 @@ impl StoredNode {
         requires no_port { port_of map.now number ≡ None }
         requires handle { IfSome (entry_at number self.old.seat.seat.table)
             (HandleStands map.now self.old.seat.seat.desks) }
+        requires list { most_ways map.now ≤ vec_capacity stops.old }
         ensures begun { (p : Setting) → IsSettingWith map.now terms.now p → OnOk result
             (IsUnderWay p self.old (Port (SendCopy number (payload_with p role words.now))) self.new) }
         ensures refused { (p : Setting) → IsSettingWith map.now terms.now p → IfErr result
@@ -47,6 +46,7 @@ impl StoredNode {
             (Port (SendCopy number (payload_with p role words.now))) ≡ refusal_in error) }
         ensures at { OnOk result (self.new.at ≡ CopiesResponse) }
         ensures unchanged { OnErr result (self.new ≡ self.old) }
+        ensures list { vec_capacity stops.new ≡ vec_capacity stops.old }
     {
         let request = self.name_handle(map, Asked::SendCopy(role), number)?;
         // only what this promises is wanted
@@ -56,7 +56,6 @@ impl StoredNode {
         let next = self.next_number(terms);
         let elements = elements_in(map, terms, role, words);
         begin_response_copy(
-            alloc,
             map,
             terms,
             &mut self.seat,

@@ -1,8 +1,8 @@
 //! How a node begins a look for requests.
-ghost use Rattle.std.specs.Prelude.{◌≡◌, ◌<◌, IfErr, OnErr, OnOk, length, true};
+ghost use Rattle.std.specs.Prelude.{◌<◌, ◌≡◌, ◌≤◌, IfErr, OnErr, OnOk, length, true, vec_capacity};
 ghost use Rattle.iox_model.specs.declared.call.Call.TheVariants.{HasRequests};
 ghost use Rattle.iox_model.specs.declared.call.WireCall.TheVariants.{Port};
-ghost use Rattle.iox_wire_begins.specs.Plans.{number_at};
+ghost use Rattle.iox_wire_begins.specs.Plans.{most_ways, number_at};
 ghost use Rattle.iox_wire_begins.specs.HandleCalls.{refusal_in};
 ghost use Rattle.iox_wire_begins.specs.PlansOf.{IsSettingOf};
 ghost use Rattle.iox_wire_begins.specs.Begins.{refusal_at};
@@ -33,6 +33,8 @@ impl StoredNode {
         requires within { port < length map.now.ports.items }
         requires there { number_at map.now port ≡ number }
         requires known { HasRequestWays map.now }
+        requires sources { most_ways map.now ≤ vec_capacity sources.old }
+        requires stops { most_ways map.now ≤ vec_capacity stops.old }
         ensures begun { (p : Setting) → IsSettingOf map.now p → (p.port number).held ≡ true
             → p.limits.fire_and_forget ≡ fire_and_forget
             → OnOk result (IsBegun p self.old (Port (HasRequests number)) self.new) }
@@ -41,6 +43,8 @@ impl StoredNode {
             ≡ refusal_in error) }
         ensures at { OnOk result (self.new.at ≡ Seats) }
         ensures unchanged { OnErr result (self.new ≡ self.old) }
+        ensures sources { vec_capacity sources.new ≡ vec_capacity sources.old }
+        ensures stops { vec_capacity stops.new ≡ vec_capacity stops.old }
     {
         if self.is_busy() {
             return Err(BeginError::Busy);
@@ -48,7 +52,7 @@ impl StoredNode {
         // only what this promises is wanted
         let _plan = map.plan();
         name_port(&self.seat, map, Asked::HasRequests, number, port, node)?;
-        let queue = list_waiting_requests(map, &self.seat, port, fire_and_forget, sources, stops)?;
+        let queue = list_waiting_requests(map, &self.seat, port, fire_and_forget, sources, stops);
         self.seat.seek(queue, stops)?;
         self.at = CallAt::Seats;
         Ok(())

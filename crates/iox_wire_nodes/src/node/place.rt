@@ -6,7 +6,7 @@ use crate::call_at::CallAt;
 
 impl StoredNode {
     /// The place of a send or a copy is one of its own loan. The function has nothing to do.
-    #[inline]
+    #[inline(always)]
     pub fn place(&self)
         ensures { KnowsItsPlace self.now.at self.now }
     {

@@ -1,8 +1,8 @@
 //! How a node begins a receive of a server.
-ghost use Rattle.std.specs.Prelude.{◌≡◌, ◌<◌, IfErr, OnErr, OnOk, length, true};
+ghost use Rattle.std.specs.Prelude.{◌<◌, ◌≡◌, ◌≤◌, IfErr, OnErr, OnOk, length, true, vec_capacity};
 ghost use Rattle.iox_model.specs.declared.call.Call.TheVariants.{Receive};
 ghost use Rattle.iox_model.specs.declared.call.WireCall.TheVariants.{Port};
-ghost use Rattle.iox_wire_begins.specs.Plans.{number_at};
+ghost use Rattle.iox_wire_begins.specs.Plans.{most_ways, number_at};
 ghost use Rattle.iox_wire_begins.specs.HandleCalls.{refusal_in};
 ghost use Rattle.iox_wire_begins.specs.PlansOf.{IsSettingOf};
 ghost use Rattle.iox_wire_begins.specs.Begins.{refusal_at};
@@ -34,6 +34,7 @@ impl StoredNode {
         requires within { port < length map.now.ports.items }
         requires there { number_at map.now port ≡ number }
         requires known { HasRequestWays map.now }
+        requires list { most_ways map.now ≤ vec_capacity sources.old }
         ensures begun { (p : Setting) → IsSettingOf map.now p → (p.port number).held ≡ true
             → p.limits.fire_and_forget ≡ fire_and_forget → next ≡ next_handle p (seat_in self.old)
             → OnOk result (IsBegun p self.old (Port (Receive number)) self.new) }
@@ -42,6 +43,7 @@ impl StoredNode {
             ≡ refusal_in error) }
         ensures at { OnOk result (self.new.at ≡ Receives) }
         ensures unchanged { OnErr result (self.new ≡ self.old) }
+        ensures list { vec_capacity sources.new ≡ vec_capacity sources.old }
     {
         if self.is_busy() {
             return Err(BeginError::Busy);

@@ -1,8 +1,8 @@
 //! How a node begins to receive a response.
-ghost use Rattle.std.specs.Prelude.{◌≡◌, ◌+◌, ◌<◌, ◌^◌, IfErr, IfSome, None, OnErr, OnOk};
+ghost use Rattle.std.specs.Prelude.{◌+◌, ◌<◌, ◌^◌, ◌≡◌, ◌≤◌, IfErr, IfSome, None, OnErr, OnOk, vec_capacity};
 ghost use Rattle.iox_model.specs.declared.call.Call.TheVariants.{Receive};
 ghost use Rattle.iox_model.specs.declared.call.WireCall.TheVariants.{Port};
-ghost use Rattle.iox_wire_begins.specs.Plans.{port_of};
+ghost use Rattle.iox_wire_begins.specs.Plans.{most_ways, port_of};
 ghost use Rattle.iox_wire_begins.specs.WirePlans.{HandleStands, IsWirePlan};
 ghost use Rattle.iox_wire_begins.specs.HandleCalls.{refusal_in};
 ghost use Rattle.iox_wire_begins.specs.Terms.{IsSettingWith};
@@ -33,6 +33,7 @@ impl StoredNode {
         requires no_port { port_of map.now number ≡ None }
         requires handle { IfSome (entry_at number self.old.seat.seat.table)
             (HandleStands map.now self.old.seat.seat.desks) }
+        requires list { most_ways map.now ≤ vec_capacity sources.old }
         ensures begun { (p : Setting) → IsSettingWith map.now terms.now p
             → OnOk result (IsUnderWay p self.old (Port (Receive number)) self.new) }
         ensures refused { (p : Setting) → IsSettingWith map.now terms.now p
@@ -40,6 +41,7 @@ impl StoredNode {
             refusal_at p (seat_in self.old) (Port (Receive number)) ≡ refusal_in error) }
         ensures at { OnOk result (self.new.at ≡ Receives) }
         ensures unchanged { OnErr result (self.new ≡ self.old) }
+        ensures list { vec_capacity sources.new ≡ vec_capacity sources.old }
     {
         let pending = self.name_handle(map, Asked::Receive, number)?;
         let client = client_place(map, pending.port, pending.lane);

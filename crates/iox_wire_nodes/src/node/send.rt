@@ -1,9 +1,9 @@
 //! How a node begins to send a loan.
-ghost use Rattle.std.specs.Prelude.{◌≡◌, IfErr, IfSome, None, OnErr, OnOk, false, true};
+ghost use Rattle.std.specs.Prelude.{◌≡◌, ◌≤◌, IfErr, IfSome, None, OnErr, OnOk, false, true, vec_capacity};
 ghost use Rattle.iox_model.specs.declared.call.Call.TheVariants.{Send};
 ghost use Rattle.iox_model.specs.declared.call.WireCall.TheVariants.{Port};
 ghost use Rattle.iox_model.specs.Handles.{is_request_loan, is_response_loan};
-ghost use Rattle.iox_wire_begins.specs.Plans.{port_of};
+ghost use Rattle.iox_wire_begins.specs.Plans.{most_ways, port_of};
 ghost use Rattle.iox_wire_begins.specs.WirePlans.{HandleStands, IsWirePlan};
 ghost use Rattle.iox_wire_begins.specs.HandleCalls.{refusal_in};
 ghost use Rattle.iox_wire_begins.specs.Terms.{IsSettingWith};
@@ -36,6 +36,7 @@ impl StoredNode {
         requires no_port { port_of map.now number ≡ None }
         requires handle { IfSome (entry_at number self.old.seat.seat.table)
             (HandleStands map.now self.old.seat.seat.desks) }
+        requires list { most_ways map.now ≤ vec_capacity targets.old }
         ensures begun { (p : Setting) → IsSettingWith map.now terms.now p
             → OnOk result (IsUnderWay p self.old (Port (Send number)) self.new) }
         ensures refused { (p : Setting) → IsSettingWith map.now terms.now p
@@ -45,6 +46,7 @@ impl StoredNode {
             (λ loan. self.new.at ≡ send_at loan.kind)) }
         ensures adds { OnOk result (AddsHandle self.new.at → ⊥) }
         ensures unchanged { OnErr result (self.new ≡ self.old) }
+        ensures list { vec_capacity targets.new ≡ vec_capacity targets.old }
     {
         let loan = self.name_handle(map, Asked::Send, number)?;
         if is_request(loan.kind) {
@@ -68,11 +70,13 @@ impl StoredNode {
         requires plan { IsWirePlan map.now terms.now }
         requires kind { is_request_loan loan.kind ≡ true }
         requires handle { HandleStands map.now self.old.seat.seat.desks loan }
+        requires list { most_ways map.now ≤ vec_capacity targets.old }
         ensures begun { (p : Setting) → IsSettingWith map.now terms.now p → OnOk result
             (IsAtOnce p self.old (begins_at_entry p (seat_in self.old) (Send 0) loan) self.new) }
         ensures memory { IfErr result (λ error. refusal_in error ≡ None) }
         ensures at { OnOk result (self.new.at ≡ SendsRequest) }
         ensures unchanged { OnErr result (self.new ≡ self.old) }
+        ensures list { vec_capacity targets.new ≡ vec_capacity targets.old }
     {
         let client = client_place(map, loan.port, loan.lane);
         begin_request_send(

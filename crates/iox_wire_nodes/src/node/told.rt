@@ -6,7 +6,7 @@ use super::StoredNode;
 
 impl StoredNode {
     /// Its number.
-    #[inline]
+    #[inline(always)]
     pub fn node(&self) -> u64
         ensures { result ≡ (seat_in self.now).node }
     {
@@ -14,7 +14,7 @@ impl StoredNode {
     }
 
     /// How many accesses it made.
-    #[inline]
+    #[inline(always)]
     pub fn accesses(&self) -> u64
         ensures { result ≡ (seat_in self.now).accesses }
     {
@@ -22,7 +22,7 @@ impl StoredNode {
     }
 
     /// How many handles it made.
-    #[inline]
+    #[inline(always)]
     pub fn handles_made(&self) -> u64
         ensures { result ≡ (seat_in self.now).handles_made }
     {
@@ -30,7 +30,7 @@ impl StoredNode {
     }
 
     /// How many handles it has.
-    #[inline]
+    #[inline(always)]
     pub fn handles(&self) -> usize
         ensures { result ≡ length self.now.seat.seat.table }
     {

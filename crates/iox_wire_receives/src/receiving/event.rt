@@ -18,7 +18,7 @@ impl Receiving {
 
     /// The event of its next access, which finds `seen`, if it is one. It names a message by its
     /// slot.
-    #[inline]
+    #[inline(always)]
     pub fn event(&self, seen: u64) -> Option<Event>
         ensures { (p : Setting) → (x : Seat) → IsAimed p x self.now
             → result ≡ slot_event p self.now.local seen }
@@ -37,7 +37,7 @@ impl Receiving {
 }
 
 /// The way whose request state is that of a request, which came on this way and has that lane.
-#[inline]
+#[inline(always)]
 fn state_on(way: Way, lane: u64) -> Way
     ensures { result ≡ response_way way.sender lane way.receiver }
 {

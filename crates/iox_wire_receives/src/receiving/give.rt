@@ -49,7 +49,7 @@ impl Receiving {
     }
 
     /// An access of the push that gives back.
-    #[inline]
+    #[inline(always)]
     pub(super) fn return_on(&mut self, seat: &mut StoredSeat, seen: u64) -> Option<ReceiveReply>
         requires there { IsReturning self.old.local }
         requires accesses { seat.old.seat.accesses + 1 < 2 ^ 64 }

@@ -17,7 +17,7 @@ impl Receiving {
     ghost use Rattle.iox_wire_receives.specs.Aims.{IsLoading, MayReceive, StaysAimed};
 
     /// A word of the header is loaded.
-    #[inline]
+    #[inline(always)]
     pub(super) fn load_on(&mut self, seat: &mut StoredSeat, seen: u64) -> Option<ReceiveReply>
         requires there { IsLoading self.old.local }
         requires accesses { seat.old.seat.accesses + 1 < 2 ^ 64 }
@@ -62,7 +62,7 @@ impl Receiving {
         None
     }
     /// It sees the request state of what it took.
-    #[inline]
+    #[inline(always)]
     pub(super) fn ask_on(&mut self, seat: &mut StoredSeat, seen: u64) -> Option<ReceiveReply>
         requires there { IsAsking self.old.local }
         requires accesses { seat.old.seat.accesses + 1 < 2 ^ 64 }
@@ -89,7 +89,7 @@ impl Receiving {
 }
 
 /// Whether a request state, as its word tells it, names that request.
-#[inline]
+#[inline(always)]
 fn is_named(word: u64, request: u64) -> bool
     ensures { result ≡ names (state_told word) request }
 {

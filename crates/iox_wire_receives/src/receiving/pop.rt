@@ -14,7 +14,7 @@ impl Receiving {
     ghost use Rattle.iox_wire_seats.specs.Keeps.{counted};
 
     /// An access of a look at emptiness.
-    #[inline]
+    #[inline(always)]
     pub(super) fn look_on(&mut self, seat: &mut StoredSeat, seen: u64) -> Option<ReceiveReply>
         requires there { IsLooking self.old.local }
         requires accesses { seat.old.seat.accesses + 1 < 2 ^ 64 }
@@ -37,7 +37,7 @@ impl Receiving {
     }
 
     /// An access of a pop.
-    #[inline]
+    #[inline(always)]
     pub(super) fn pop_on(&mut self, seat: &mut StoredSeat, seen: u64) -> Option<ReceiveReply>
         requires there { IsPopping self.old.local }
         requires accesses { seat.old.seat.accesses + 1 < 2 ^ 64 }

@@ -17,7 +17,7 @@ impl Receiving {
     ghost use Rattle.iox_wire_receives.specs.Aims.{MayReceive};
 
     /// The request that the header tells.
-    #[inline]
+    #[inline(always)]
     pub(super) fn request(&self) -> u64
         requires { length self.now.header ≡ received_length self.now.visit }
         ensures { result ≡ request_in self.now.visit self.now.header }
@@ -53,6 +53,7 @@ impl Receiving {
     }
 
     /// It is over: the node has one handle more.
+    #[inline(always)]
     pub(super) fn take(&mut self, seat: &mut StoredSeat) -> Option<ReceiveReply>
         requires header { length self.old.header ≡ received_length self.old.visit }
         requires may { MayReceive seat.old self.old.terms.number }

@@ -59,6 +59,7 @@ impl Receiving {
 
     /// Goes on to the next way: at the borrow limit it looks there, else it pops. Without one it is
     /// over.
+    #[inline(always)]
     pub(super) fn visit_next(&mut self, seat: &StoredSeat) -> Option<ReceiveReply>
         requires busy { is_busy self.old.local ≡ true }
         requires within { AreWithin self.old.terms (received_length self.old.visit) self.old.left }
@@ -100,7 +101,7 @@ impl Receiving {
 }
 
 /// How many words the header has of what a port of that role receives.
-#[inline]
+#[inline(always)]
 pub(super) fn header_length(role: Role) -> usize
     ensures { result ≡ words_of_header (other_role role) }
 {

@@ -13,7 +13,7 @@ impl Requesting {
     ghost use Rattle.iox_wire_request_sends.specs.Aims.{IsOneStep, IsSameSend, MayEnd, StaysAimed};
 
     /// An access of the push.
-    #[inline]
+    #[inline(always)]
     pub(super) fn push_on(&mut self, seat: &mut StoredSeat, seen: u64) -> Option<RequestReply>
         requires there { IsPushing self.old.local }
         requires accesses { seat.old.seat.accesses + 1 < 2 ^ 64 }
@@ -42,7 +42,7 @@ impl Requesting {
     }
 
     /// It pushes the oldest out, unless the server took that.
-    #[inline]
+    #[inline(always)]
     pub(super) fn evict_on(&mut self, seat: &mut StoredSeat, seen: u64) -> Option<RequestReply>
         requires there { IsEvicting self.old.local }
         requires accesses { seat.old.seat.accesses + 1 < 2 ^ 64 }
@@ -65,7 +65,7 @@ impl Requesting {
     }
 
     /// It learns what it pushed out.
-    #[inline]
+    #[inline(always)]
     pub(super) fn get_back_on(&mut self, seat: &mut StoredSeat, seen: u64) -> Option<RequestReply>
         requires there { IsGettingBack self.old.local }
         requires accesses { seat.old.seat.accesses + 1 < 2 ^ 64 }

@@ -14,7 +14,7 @@ impl Requesting {
 
     /// The event of its next access, which finds `seen`, if it is one. It names a message by its
     /// slot.
-    #[inline]
+    #[inline(always)]
     pub fn event(&self, seen: u64) -> Option<Event>
         ensures { (p : Setting) → (x : Seat) → IsAimed p x self.now
             → result ≡ slot_event p self.now.local seen }
@@ -34,7 +34,7 @@ impl Requesting {
     }
 
     /// The way on which the request state lies at the server that it visits.
-    #[inline]
+    #[inline(always)]
     fn state_way(&self) -> Way
         ensures { result
             ≡ response_way self.now.loan.port self.now.loan.lane self.now.target.server }

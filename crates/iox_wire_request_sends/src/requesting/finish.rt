@@ -68,7 +68,7 @@ impl Requesting {
     }
 
     /// Whether it has no access left.
-    #[inline]
+    #[inline(always)]
     pub fn is_ending(&self) -> bool
         ensures { result ≡ is_ending self.now.local }
     {

@@ -13,7 +13,7 @@ impl Requesting {
     ghost use Rattle.iox_wire_request_sends.specs.Aims.{IsOneStep, IsSameSend, MayEnd, StaysAimed};
 
     /// An access of a look at fullness.
-    #[inline]
+    #[inline(always)]
     pub(super) fn look_on(&mut self, seat: &mut StoredSeat, seen: u64) -> Option<RequestReply>
         requires there { IsLooking self.old.local }
         requires accesses { seat.old.seat.accesses + 1 < 2 ^ 64 }

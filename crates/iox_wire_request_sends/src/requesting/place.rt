@@ -7,7 +7,7 @@ impl Requesting {
     ghost use Rattle.iox_wire_request_sends.specs.Aims.{SendsItsRequest};
 
     /// What it sends is its loan, a request. The function has nothing to do.
-    #[inline]
+    #[inline(always)]
     pub fn place(&self)
         ensures { SendsItsRequest self.now }
     {

@@ -25,7 +25,7 @@ impl Requesting {
     ghost use Rattle.iox_wire_request_sends.specs.Targets.{IsWithin, fails_at_full, returning_at, with_room};
 
     /// The way to the server that it visits.
-    #[inline]
+    #[inline(always)]
     pub(super) fn way(&self) -> Way
         ensures { result ≡ request_way self.now.loan.port self.now.target.server }
     {
@@ -149,7 +149,7 @@ impl Requesting {
     }
 
     /// Whether it fails at the servers that it saw full.
-    #[inline]
+    #[inline(always)]
     fn fails(&self) -> bool
         ensures { result ≡ fails_at_full self.now.terms.fails self.now.full }
     {
@@ -160,7 +160,7 @@ impl Requesting {
     }
 
     /// The way of a delivery that is done, if it may have to push out there.
-    #[inline]
+    #[inline(always)]
     pub(super) fn may_evict(&self) -> Option<Way>
         ensures { result
             ≡ (if self.now.terms.overflow
@@ -173,7 +173,7 @@ impl Requesting {
     }
 
     /// Begins to get back from a server.
-    #[inline]
+    #[inline(always)]
     pub(super) fn empty(&mut self, target: Target)
         requires { IsWithin self.old.terms target }
         ensures local { self.new.local

@@ -6,7 +6,7 @@ impl StoredDesk {
     ghost use Rattle.iox_wire_locals.specs.Lendings.{first_lane};
 
     /// How many loans succeeded.
-    #[inline]
+    #[inline(always)]
     pub fn loans(&self) -> u64
         ensures { result ≡ self.now.loans }
     {
@@ -14,7 +14,7 @@ impl StoredDesk {
     }
 
     /// The first free lane; `none` if no lane is free.
-    #[inline]
+    #[inline(always)]
     pub fn first_lane(&self, none: u64) -> u64
         ensures { result ≡ first_lane none self.now.free_lanes }
     {

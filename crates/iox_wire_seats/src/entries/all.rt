@@ -6,7 +6,7 @@ impl Entries {
     ghost use Rattle.std.specs.Prelude.{◌≡◌};
 
     /// All entries, oldest first.
-    #[inline]
+    #[inline(always)]
     pub fn all(&self) -> &[Entry]
         ensures { result.now ≡ self.now.entries }
     {

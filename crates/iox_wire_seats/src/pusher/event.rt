@@ -12,7 +12,7 @@ impl Pusher {
 
     /// The event of its next access, which finds `seen`, if it is one. Its queue is the one where
     /// the messages of that way wait.
-    #[inline]
+    #[inline(always)]
     pub fn message_event(&self, way: Way, site: Site, seen: u64) -> Option<Event>
         ensures { (p : WireLayout) → site ≡ site_of p (MessageQueue way)
             → result ≡ program_event p (Pushes (MessageQueue way) self.now) seen }
@@ -43,7 +43,7 @@ impl Pusher {
     }
 
     /// The same, of the queue where they return.
-    #[inline]
+    #[inline(always)]
     pub fn return_event(&self, way: Way, site: Site, seen: u64) -> Option<Event>
         ensures { (p : WireLayout) → site ≡ site_of p (ReturningQueue way)
             → result ≡ program_event p (Pushes (ReturningQueue way) self.now) seen }

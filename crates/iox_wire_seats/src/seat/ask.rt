@@ -46,7 +46,7 @@ impl StoredSeat {
     }
 
     /// A request state is seen.
-    #[inline]
+    #[inline(always)]
     pub(super) fn check_on(&mut self, seen: u64) -> Option<SeatReply>
         requires there { IsChecking self.old.seat.local }
         requires accesses { self.old.seat.accesses + 1 < 2 ^ 64 }
@@ -76,7 +76,7 @@ impl StoredSeat {
 }
 
 /// Whether a request state, as its word tells it, names that request, with a hint if that is asked.
-#[inline]
+#[inline(always)]
 pub(super) fn is_shown(word: u64, request: u64, hinted: bool) -> bool
     ensures { result ≡ shows (state_told word) request hinted }
 {

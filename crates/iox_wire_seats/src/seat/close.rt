@@ -57,7 +57,7 @@ impl StoredSeat {
     }
 
     /// A request state is closed, or none was left.
-    #[inline]
+    #[inline(always)]
     pub(super) fn close_on(&mut self, seen: u64) -> Option<SeatReply>
         requires there { IsClosing self.old.seat.local }
         requires accesses { self.old.seat.accesses + 1 < 2 ^ 64 }

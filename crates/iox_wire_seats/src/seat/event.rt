@@ -22,7 +22,7 @@ impl StoredSeat {
 
     /// The event of its next access, which finds `seen`, if it is one. It names a message by its
     /// slot.
-    #[inline]
+    #[inline(always)]
     pub fn event(&self, seen: u64) -> Option<Event>
         ensures { (p : Setting) → IsAimed p self.now
             → result ≡ slot_event p self.now.seat.local seen }
@@ -59,7 +59,7 @@ impl StoredSeat {
 }
 
 /// The event of a load of the request state on a way, which finds that word.
-#[inline]
+#[inline(always)]
 pub fn look_event(way: Way, word: u64) -> Option<Event>
     ensures { result ≡ option_map event_of (looked way word) }
 {
@@ -71,7 +71,7 @@ pub fn look_event(way: Way, word: u64) -> Option<Event>
 
 /// The event as the release of an entry finds that word as its request state: it is named still, or
 /// closed now.
-#[inline]
+#[inline(always)]
 fn leaving_event(entry: Entry, word: u64) -> Option<Event>
     ensures { result ≡ option_map event_of (leaving_moment entry word) }
 {
@@ -84,7 +84,7 @@ fn leaving_event(entry: Entry, word: u64) -> Option<Event>
 
 /// The event as a hint to an entry's request finds that word, unless the request is named without
 /// one.
-#[inline]
+#[inline(always)]
 fn hinting_event(entry: Entry, way: Way, word: u64) -> Option<Event>
     ensures { result ≡ option_map event_of (hinting_moment entry way word) }
 {
@@ -97,7 +97,7 @@ fn hinting_event(entry: Entry, way: Way, word: u64) -> Option<Event>
 }
 
 /// An entry's own request state is closed.
-#[inline]
+#[inline(always)]
 fn closing(entry: Entry) -> Event
     ensures { result ≡ events.Close (state_of entry) entry.request }
 {
@@ -108,7 +108,7 @@ fn closing(entry: Entry) -> Event
 }
 
 /// The way whose request state is an entry's own.
-#[inline]
+#[inline(always)]
 fn state_in(entry: Entry) -> Way
     ensures { result ≡ state_of entry }
 {
@@ -120,7 +120,7 @@ fn state_in(entry: Entry) -> Way
 }
 
 /// The request state that a word tells.
-#[inline]
+#[inline(always)]
 fn state_told(word: u64) -> RequestState
     ensures { result ≡ told word }
 {

@@ -40,7 +40,7 @@ impl StoredSeat {
     }
 
     /// A request state is seen, or its hint is given.
-    #[inline]
+    #[inline(always)]
     pub(super) fn hint_on(&mut self, seen: u64) -> Option<SeatReply>
         requires there { IsHinting self.old.seat.local }
         requires accesses { self.old.seat.accesses + 1 < 2 ^ 64 }

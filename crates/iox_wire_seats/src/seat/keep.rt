@@ -15,7 +15,7 @@ impl StoredSeat {
     ghost use Rattle.iox_wire_seats.specs.Rows.{AreBelow};
 
     /// Counts one more access.
-    #[inline]
+    #[inline(always)]
     pub fn count_access(&mut self)
         requires { self.old.seat.accesses + 1 < 2 ^ 64 }
         ensures { self.new ≡ counted self.old }
@@ -24,7 +24,7 @@ impl StoredSeat {
     }
 
     /// Whether it forgot a node.
-    #[inline]
+    #[inline(always)]
     pub fn has_forgotten(&self, node: u64) -> bool
         ensures { result ≡ has_number node self.now.seat.forgot }
     {
@@ -32,7 +32,7 @@ impl StoredSeat {
     }
 
     /// Whether as many messages of a way as that are its handles.
-    #[inline]
+    #[inline(always)]
     pub fn has_as_many(&self, way: Way, limit: u64) -> bool
         ensures many { result ≡ nat_le limit (count_on self.now.seat way) }
         ensures below { OnFalse result (IsBelow (2 ^ 64 - 1) way self.now.seat.borrowed) }

@@ -13,7 +13,7 @@ impl StoredSeat {
     ghost use Rattle.iox_wire_seats.specs.Lends.{MayLend, lent, picked};
 
     /// Its handles, oldest first.
-    #[inline]
+    #[inline(always)]
     pub fn entries(&self) -> &[Entry]
         ensures { result.now ≡ self.now.seat.table }
     {
@@ -21,7 +21,7 @@ impl StoredSeat {
     }
 
     /// How many loans of a port succeeded.
-    #[inline]
+    #[inline(always)]
     pub fn loans(&self, port: u64) -> u64
         ensures { result ≡ loans_at self.now.seat port }
     {
@@ -29,7 +29,7 @@ impl StoredSeat {
     }
 
     /// The first free lane of a port; `none` if no lane is free.
-    #[inline]
+    #[inline(always)]
     pub fn first_lane(&self, port: u64, none: u64) -> u64
         ensures { result ≡ first_lane none (free_lanes self.now.seat port) }
     {

@@ -47,7 +47,7 @@ impl StoredSeat {
     }
 
     /// A word of the message is loaded.
-    #[inline]
+    #[inline(always)]
     pub(super) fn read_on(&mut self, seen: u64) -> Option<SeatReply>
         requires there { IsReading self.old.seat.local }
         requires accesses { self.old.seat.accesses + 1 < 2 ^ 64 }

@@ -90,7 +90,7 @@ impl StoredSeat {
     }
 
     /// Goes on with a release: it gives back, and closes a request's state where it is named.
-    #[inline]
+    #[inline(always)]
     pub(super) fn release_on(&mut self, seen: u64) -> Option<SeatReply>
         requires there { IsReleasing self.old.seat.local }
         requires accesses { self.old.seat.accesses + 1 < 2 ^ 64 }
@@ -156,7 +156,7 @@ fn site_back(map: &WordMap, way: WayIndex) -> Site
 }
 
 /// Whether a request state, as its word tells it, names that request.
-#[inline]
+#[inline(always)]
 pub fn is_named(word: u64, request: u64) -> bool
     ensures { result ≡ names (state_told word) request }
 {
@@ -171,7 +171,7 @@ pub fn is_named(word: u64, request: u64) -> bool
 }
 
 /// Whether a handle is an active request.
-#[inline]
+#[inline(always)]
 fn is_request(kind: Kind) -> bool
     ensures { result ≡ same_kind kind ActiveRequest }
 {
@@ -179,7 +179,7 @@ fn is_request(kind: Kind) -> bool
 }
 
 /// The way on which a received message came.
-#[inline]
+#[inline(always)]
 pub(super) fn way_in(entry: Entry) -> Way
     ensures { result ≡ way_of_entry entry }
 {
@@ -210,7 +210,7 @@ fn drop_received(entries: &mut Entries, counts: &mut Counts, entry: Entry)
 }
 
 /// Whether a value joined those that wait.
-#[inline]
+#[inline(always)]
 fn is_publish(event: QueueEvent) -> bool
     ensures { result ≡ joins event }
 {

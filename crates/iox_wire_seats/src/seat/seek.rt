@@ -45,7 +45,7 @@ impl StoredSeat {
     }
 
     /// An access of a look at emptiness.
-    #[inline]
+    #[inline(always)]
     pub(super) fn seek_on(&mut self, seen: u64) -> Option<SeatReply>
         requires there { IsSeeking self.old.seat.local }
         requires accesses { self.old.seat.accesses + 1 < 2 ^ 64 }

@@ -65,7 +65,7 @@ impl StoredSeat {
 }
 
 /// The pending response that a loaned request is once it is sent to so many servers.
-#[inline]
+#[inline(always)]
 pub fn pending_entry(loan: Entry, servers: u64) -> Entry
     ensures { result ≡ sent_entry loan servers }
 {

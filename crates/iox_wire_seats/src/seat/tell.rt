@@ -24,7 +24,7 @@ impl StoredSeat {
     }
 
     /// The call ends with its one step.
-    #[inline]
+    #[inline(always)]
     pub(super) fn tell_on(&mut self, seen: u64) -> Option<SeatReply>
         requires there { IsTelling self.old.seat.local }
         requires accesses { self.old.seat.accesses + 1 < 2 ^ 64 }

@@ -7,7 +7,7 @@ impl StoredSeat {
     ghost use Rattle.std.specs.Prelude.{◌≡◌};
 
     /// The node's number.
-    #[inline]
+    #[inline(always)]
     pub fn node(&self) -> u64
         ensures { result ≡ self.now.seat.node }
     {
@@ -15,7 +15,7 @@ impl StoredSeat {
     }
 
     /// How many accesses it made.
-    #[inline]
+    #[inline(always)]
     pub fn accesses(&self) -> u64
         ensures { result ≡ self.now.seat.accesses }
     {
@@ -23,7 +23,7 @@ impl StoredSeat {
     }
 
     /// How many handles it made.
-    #[inline]
+    #[inline(always)]
     pub fn handles_made(&self) -> u64
         ensures { result ≡ self.now.seat.handles_made }
     {

@@ -63,7 +63,7 @@ impl StoredSeat {
     }
 
     /// A word of the payload is stored.
-    #[inline]
+    #[inline(always)]
     pub(super) fn write_on(&mut self, seen: u64) -> Option<SeatReply>
         requires there { IsWriting self.old.seat.local }
         requires accesses { self.old.seat.accesses + 1 < 2 ^ 64 }

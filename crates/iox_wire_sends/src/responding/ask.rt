@@ -15,7 +15,7 @@ impl Responding {
     ghost use Rattle.iox_wire_sends.specs.Aims.{IsSameSend, MayCountMade};
 
     /// It sees the request state.
-    #[inline]
+    #[inline(always)]
     pub(super) fn ask_on(&mut self, seat: &mut StoredSeat, seen: u64) -> Option<RespondReply>
         requires there { IsAsking self.old.local }
         requires accesses { seat.old.seat.accesses + 1 < 2 ^ 64 }
@@ -40,7 +40,7 @@ impl Responding {
     }
 
     /// An access of a pop of what returned.
-    #[inline]
+    #[inline(always)]
     pub(super) fn empty_on(&mut self, seat: &mut StoredSeat, seen: u64) -> Option<RespondReply>
         requires there { IsEmptying self.old.local }
         requires accesses { seat.old.seat.accesses + 1 < 2 ^ 64 }

@@ -16,7 +16,7 @@ impl Responding {
     ghost use Rattle.iox_wire_sends.specs.Aims.{MayCountMade};
 
     /// An access of the push.
-    #[inline]
+    #[inline(always)]
     pub(super) fn push_on(&mut self, seat: &mut StoredSeat, seen: u64) -> Option<RespondReply>
         requires there { IsPushing self.old.local }
         requires accesses { seat.old.seat.accesses + 1 < 2 ^ 64 }
@@ -45,7 +45,7 @@ impl Responding {
     }
 
     /// It pushes the oldest out, unless the client took that.
-    #[inline]
+    #[inline(always)]
     pub(super) fn evict_on(&mut self, seat: &mut StoredSeat, seen: u64) -> Option<RespondReply>
         requires there { IsEvicting self.old.local }
         requires accesses { seat.old.seat.accesses + 1 < 2 ^ 64 }
@@ -69,7 +69,7 @@ impl Responding {
     }
 
     /// It learns what it pushed out.
-    #[inline]
+    #[inline(always)]
     pub(super) fn get_back_on(&mut self, seat: &mut StoredSeat, seen: u64) -> Option<RespondReply>
         requires there { IsGettingBack self.old.local }
         requires accesses { seat.old.seat.accesses + 1 < 2 ^ 64 }

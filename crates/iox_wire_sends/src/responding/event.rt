@@ -12,7 +12,7 @@ impl Responding {
 
     /// The event of its next access, which finds `seen`, if it is one. It names a message by its
     /// slot.
-    #[inline]
+    #[inline(always)]
     pub fn event(&self, seen: u64) -> Option<Event>
         ensures { (p : Setting) → IsAimed p self.now
             → result ≡ slot_event p self.now.local seen }

@@ -22,7 +22,7 @@ impl Responding {
     ghost use Rattle.iox_wire_sends.specs.Dispatches.{reply_in};
 
     /// The way to the client, on which its request state lies, too.
-    #[inline]
+    #[inline(always)]
     pub(super) fn way(&self) -> Way
         ensures { result ≡ state_in self.now.loan }
     {
@@ -88,7 +88,7 @@ impl Responding {
     }
 
     /// Whether it has no access left.
-    #[inline]
+    #[inline(always)]
     pub fn is_ending(&self) -> bool
         ensures { result ≡ is_some (ending_at self.now.local) }
     {

@@ -15,7 +15,7 @@ impl Responding {
     ghost use Rattle.iox_wire_sends.specs.Aims.{MayCountMade};
 
     /// An access of a look at fullness.
-    #[inline]
+    #[inline(always)]
     pub(super) fn look_on(&mut self, seat: &mut StoredSeat, seen: u64) -> Option<RespondReply>
         requires there { IsLooking self.old.local }
         requires accesses { seat.old.seat.accesses + 1 < 2 ^ 64 }

@@ -7,7 +7,7 @@ impl Responding {
     ghost use Rattle.iox_wire_sends.specs.Aims.{SendsItsResponse};
 
     /// What it sends is its loan, a response. The function has nothing to do.
-    #[inline]
+    #[inline(always)]
     pub fn place(&self)
         ensures { SendsItsResponse self.now }
     {

@@ -13,8 +13,8 @@ use Rattle.iox_wire_handle_calls.specs.Seats.{ways_of}
 use Rattle.iox_wire_begins.proofs.TermLemmas.{has_slot}
 use Rattle.iox_wire_begins.proofs.copying.begin_request_copy.Goals as goal
 
-pub make_lender-requires-clause-slot : goal.make_lender-requires-clause-slot
-make_lender-requires-clause-slot c = has_slot c.args.map.now c.args.terms.now c.requires.plan Client c.args.client c.requires.client
+pub make_lender-lender-requires-clause-slot : goal.make_lender-lender-requires-clause-slot
+make_lender-lender-requires-clause-slot c = has_slot c.args.map.now c.args.terms.now c.requires.plan Client c.args.client c.requires.client
 
 pub payload_places-places-requires-clause-slot : goal.payload_places-places-requires-clause-slot
 payload_places-places-requires-clause-slot c = has_slot c.args.map.now c.args.terms.now c.requires.plan Client c.args.client c.requires.client
@@ -22,21 +22,21 @@ payload_places-places-requires-clause-slot c = has_slot c.args.map.now c.args.te
 pub begin-requires-clause-fits : goal.begin-requires-clause-fits
 begin-requires-clause-fits c k is most =
     subst (λ (n : ℕ). n ≤ c.payload_places-places.result.room) (sym (c.requires.whole k is))
-    (c.payload_places-places.ensures.fits k (subst (λ (n : ℕ). k ≤ n) c.in_ok-lender.ensures.longest most))
+    (c.payload_places-places.ensures.fits k (subst (λ (n : ℕ). k ≤ n) c.make_lender-lender.ensures.longest most))
 
 pub returns-clause-aimed : goal.returns-clause-aimed
 returns-clause-aimed c p with next of_slot =
-    let port : c.in_ok-lender.lender.port ≡ number_at c.args.map.now c.args.client = c.in_ok-lender.ensures.number in
-    c.begin.ensures.aimed p (c.in_ok-lender.ensures.lender p with) (c.in_ok-lender.ensures.client p with c.requires.client) next
-    (subst (λ (n : ℕ). AreReturning p n c.deref.result.now) (sym c.in_ok-lender.ensures.room)
-    (subst (λ (ss : List Stop). AreReturning p c.in_ok-room.room ss) (sym c.deref.ensures.value) (c.in_ok-room.ensures.places p with.setting)))
-    (subst (λ (n : ℕ). ArePayloads p n c.in_ok-lender.lender.places c.payload_places-places.result) (sym port)
-    (subst (λ (t : SlotPlaces). ArePayloads p (number_at c.args.map.now c.args.client) t c.payload_places-places.result) (sym c.in_ok-lender.ensures.places)
+    let port : c.make_lender-lender.result.port ≡ number_at c.args.map.now c.args.client = c.make_lender-lender.ensures.number in
+    c.begin.ensures.aimed p (c.make_lender-lender.ensures.lender p with) (c.make_lender-lender.ensures.client p with c.requires.client) next
+    (subst (λ (n : ℕ). AreReturning p n c.deref.result.now) (sym c.make_lender-lender.ensures.room)
+    (subst (λ (ss : List Stop). AreReturning p c.list_request_returns-room.result ss) (sym c.deref.ensures.value) (c.list_request_returns-room.ensures.places p with.setting)))
+    (subst (λ (n : ℕ). ArePayloads p n c.make_lender-lender.result.places c.payload_places-places.result) (sym port)
+    (subst (λ (t : SlotPlaces). ArePayloads p (number_at c.args.map.now c.args.client) t c.payload_places-places.result) (sym c.make_lender-lender.ensures.places)
     (c.payload_places-places.ensures.payloads p with.setting)))
-    (ap ways_of c.deref.ensures.value ∙ c.in_ok-room.ensures.ways p with.setting
+    (ap ways_of c.deref.ensures.value ∙ c.list_request_returns-room.ensures.ways p with.setting
     ∙ ap (λ n. request_ways (known p c.args.seat.now.seat) (p.port n).node n) (sym port))
-    (subst (λ (n : ℕ). KnowsServersOnLane p c.args.seat.now.seat n (first_lane c.in_ok-lender.lender.pool (free_lanes c.args.seat.now.seat n)) c.tell_servers.new.copying.sends) (sym port)
+    (subst (λ (n : ℕ). KnowsServersOnLane p c.args.seat.now.seat n (first_lane c.make_lender-lender.result.pool (free_lanes c.args.seat.now.seat n)) c.tell_servers.new.copying.sends) (sym port)
     (subst (λ (n : ℕ). KnowsServersOnLane p c.args.seat.now.seat (number_at c.args.map.now c.args.client)
-    (first_lane n (free_lanes c.args.seat.now.seat (number_at c.args.map.now c.args.client))) c.tell_servers.new.copying.sends) (sym c.in_ok-lender.ensures.pool)
+    (first_lane n (free_lanes c.args.seat.now.seat (number_at c.args.map.now c.args.client))) c.tell_servers.new.copying.sends) (sym c.make_lender-lender.ensures.pool)
     (c.in_ok-tell_servers.ensures.knows p with)))
     of_slot

@@ -10,17 +10,17 @@ use Rattle.iox_wire_begins.proofs.copying.begin_response_copy.Goals as goal
 pub begin-requires-clause-fits : goal.begin-requires-clause-fits
 begin-requires-clause-fits c k is most =
     subst (λ (n : ℕ). n ≤ c.payload_places-places.result.room) (sym (c.requires.whole k is))
-    (c.payload_places-places.ensures.fits k (subst (λ (n : ℕ). k ≤ n) c.in_ok-lender.ensures.longest most))
+    (c.payload_places-places.ensures.fits k (subst (λ (n : ℕ). k ≤ n) c.make_lender-lender.ensures.longest most))
 
 pub returns-clause-aimed : goal.returns-clause-aimed
 returns-clause-aimed c p with next of_slot =
-    let port : c.in_ok-lender.lender.port ≡ number_at c.args.map.now c.args.server = c.in_ok-lender.ensures.number in
-    c.begin.ensures.aimed p (c.in_ok-lender.ensures.lender p with) (c.in_ok-lender.ensures.server p with c.requires.way.1)
+    let port : c.make_lender-lender.result.port ≡ number_at c.args.map.now c.args.server = c.make_lender-lender.ensures.number in
+    c.begin.ensures.aimed p (c.make_lender-lender.ensures.lender p with) (c.make_lender-lender.ensures.server p with c.requires.way.1)
     (ap (λ (w : Way). w.sender) c.requires.own ∙ sym port) next
-    (subst (λ (n : ℕ). AreReturning p n c.deref.result.now) (sym c.in_ok-lender.ensures.room)
-    (subst (λ (ss : List Stop). AreReturning p c.in_ok-room.room ss) (sym c.deref.ensures.value) (c.in_ok-room.ensures.places p with.setting)))
-    (subst (λ (n : ℕ). ArePayloads p n c.in_ok-lender.lender.places c.payload_places-places.result) (sym port)
-    (subst (λ (t : SlotPlaces). ArePayloads p (number_at c.args.map.now c.args.server) t c.payload_places-places.result) (sym c.in_ok-lender.ensures.places)
+    (subst (λ (n : ℕ). AreReturning p n c.deref.result.now) (sym c.make_lender-lender.ensures.room)
+    (subst (λ (ss : List Stop). AreReturning p c.list_response_returns-room.result ss) (sym c.deref.ensures.value) (c.list_response_returns-room.ensures.places p with.setting)))
+    (subst (λ (n : ℕ). ArePayloads p n c.make_lender-lender.result.places c.payload_places-places.result) (sym port)
+    (subst (λ (t : SlotPlaces). ArePayloads p (number_at c.args.map.now c.args.server) t c.payload_places-places.result) (sym c.make_lender-lender.ensures.places)
     (c.payload_places-places.ensures.payloads p with.setting)))
     (λ loan same. c.response_terms-told.ensures.told p loan with (same ∙ c.requires.own))
     of_slot

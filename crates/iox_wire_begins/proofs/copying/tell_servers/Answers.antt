@@ -13,8 +13,8 @@ use Rattle.iox_wire_handle_calls.proofs.HeaderLemmas.{PortFacts, port_facts}
 use Rattle.iox_wire_begins.proofs.TermLemmas.{has_lane, knows_servers, port_below, told_alike}
 use Rattle.iox_wire_begins.proofs.copying.tell_servers.Goals as goal
 
-pub list_targets-requires : goal.list_targets-requires
-list_targets-requires c =
+pub list_targets-told-requires-clause-lane : goal.list_targets-told-requires-clause-lane
+list_targets-told-requires-clause-lane c =
     let facts : PortFacts c.args.map.now c.args.client c.index-at.result.now = port_facts c.args.map.now c.args.client c.index-at.result.now c.plan-plan.ensures.plan (port_below c.args.map.now Client c.args.client c.requires.client)
     (c.index-at.ensures ∙ ap (λ (plan : WirePlan). get_or plan.ports.items c.args.client c.index-at.result.now) c.plan-plan.ensures.value) in
     let pool : c.index-at.result.now.pool ≡ pool_of c.args.map.now (number_at c.args.map.now c.args.client) = facts.pool in
@@ -42,9 +42,9 @@ returns-clause-knows c p with low =
     let lane : c.first_lane-lane.result ≡ first_lane (pool_of c.args.map.now (number_at c.args.map.now c.args.client)) (free_lanes c.args.seat.now.seat (number_at c.args.map.now c.args.client)) =
     c.first_lane-lane.ensures ∙ ap₂ (λ a b. first_lane a (free_lanes c.args.seat.now.seat b)) facts.pool facts.number in
     knows_servers p c.args.seat.now.seat (number_at c.args.map.now c.args.client) (first_lane (pool_of c.args.map.now (number_at c.args.map.now c.args.client)) (free_lanes c.args.seat.now.seat (number_at c.args.map.now c.args.client)))
-    c.prepare.new.self.sends c.in_ok-told.told c.deref.result.now c.in_ok-prepare.ensures.terms c.in_ok-prepare.ensures.targets
-    (λ loan at. told_alike p loan c.request_terms-own.result c.in_ok-told.told c.in_ok-told.ensures.rest (c.request_terms-own.ensures p loan with at))
+    c.prepare.new.self.sends c.list_targets-told.result c.deref.result.now c.in_ok-prepare.ensures.terms c.in_ok-prepare.ensures.targets
+    (λ loan at. told_alike p loan c.request_terms-own.result c.list_targets-told.result c.list_targets-told.ensures.rest (c.request_terms-own.ensures p loan with at))
     (λ loan at on.
-    subst (λ (ts : List Target). AreTargets p c.in_ok-told.told loan ts) (sym c.deref.ensures.value)
-    (c.in_ok-told.ensures.targets p loan with.setting at (on ∙ sym lane)))
-    (ap servers_of c.deref.ensures.value ∙ c.in_ok-told.ensures.servers p with.setting)
+    subst (λ (ts : List Target). AreTargets p c.list_targets-told.result loan ts) (sym c.deref.ensures.value)
+    (c.list_targets-told.ensures.targets p loan with.setting at (on ∙ sym lane)))
+    (ap servers_of c.deref.ensures.value ∙ c.list_targets-told.ensures.servers p with.setting)

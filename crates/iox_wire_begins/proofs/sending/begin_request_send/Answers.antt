@@ -7,12 +7,12 @@ use Rattle.iox_wire_begins.proofs.sending.begin_request_send.Goals as goal
 pub returns-clause-begun : goal.returns-clause-begun
 returns-clause-begun c p n with =
     c.begin.ensures.begun p
-    (told_alike p c.args.loan c.request_terms-own.result c.in_ok-told.told c.in_ok-told.ensures.rest (c.request_terms-own.ensures p c.args.loan with c.requires.own))
-    (ap servers_of c.deref.ensures.value ∙ c.in_ok-told.ensures.servers p with.setting)
+    (told_alike p c.args.loan c.request_terms-own.result c.list_targets-told.result c.list_targets-told.ensures.rest (c.request_terms-own.ensures p c.args.loan with c.requires.own))
+    (ap servers_of c.deref.ensures.value ∙ c.list_targets-told.ensures.servers p with.setting)
 
 pub returns-clause-aimed : goal.returns-clause-aimed
 returns-clause-aimed c p with =
     c.begin.ensures.aimed p
-    (told_alike p c.args.loan c.request_terms-own.result c.in_ok-told.told c.in_ok-told.ensures.rest (c.request_terms-own.ensures p c.args.loan with c.requires.own))
-    (subst (λ (ts : List Target). AreTargets p c.in_ok-told.told c.args.loan ts) (sym c.deref.ensures.value)
-    (c.in_ok-told.ensures.targets p c.args.loan with.setting c.requires.own refl))
+    (told_alike p c.args.loan c.request_terms-own.result c.list_targets-told.result c.list_targets-told.ensures.rest (c.request_terms-own.ensures p c.args.loan with c.requires.own))
+    (subst (λ (ts : List Target). AreTargets p c.list_targets-told.result c.args.loan ts) (sym c.deref.ensures.value)
+    (c.list_targets-told.ensures.targets p c.args.loan with.setting c.requires.own refl))

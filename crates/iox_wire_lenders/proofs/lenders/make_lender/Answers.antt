@@ -40,8 +40,8 @@ returns-clause-lender c p with =
     (index_there PortTerms (IsWholePort c.args.map.now c.args.terms.now) c.args.terms.now.ports.items c.args.port (c.requires.fits.ports c.args.port low))
     ∙ ap (λ (r : PortTerms). Some r) (sym c.index-own.ensures) in
     lenders.is_lender c.args.map.now c.plan-plan.ensures.plan c.args.port q low same c.args.terms.now own told p with _ refl refl
-    (ap (λ (m : MessageTerms). m.many) c.messages-messages.ensures) refl (c.in_ok-copied.ensures ∙ c.deref.ensures.value)
-    (c.in_ok-copied-2.ensures ∙ c.deref-2.ensures.value ∙ ap (λ (m : MessageTerms). m.user.items) c.messages-messages.ensures)
+    (ap (λ (m : MessageTerms). m.many) c.messages-messages.ensures) refl c.deref.ensures.value
+    (c.deref-2.ensures.value ∙ ap (λ (m : MessageTerms). m.user.items) c.messages-messages.ensures)
     (c.slot_places.ensures.slots p with.setting)
 
 pub returns-clause-client : goal.returns-clause-client
@@ -97,12 +97,12 @@ returns-clause-whole c =
     ∙ ap (λ (r : PortTerms). Some r) (sym c.index-own.ensures) in
     let role : q.role ≡ role_there c.args.map.now c.args.port = role_of_port c.args.map.now c.args.port q c.plan-plan.ensures.plan low same in
     let words : List ℕ = (messages_of c.args.terms.now q.role).user.items in
-    let user : c.in_ok-copied-2.field-0.items ≡ words =
-    c.in_ok-copied-2.ensures ∙ c.deref-2.ensures.value ∙ ap (λ (m : MessageTerms). m.user.items) c.messages-messages.ensures in
+    let user : c.deref-2.result.now ≡ words =
+    c.deref-2.ensures.value ∙ ap (λ (m : MessageTerms). m.user.items) c.messages-messages.ensures in
     let whole : IsWholePort c.args.map.now c.args.terms.now own =
     subst (λ (o : Option PortTerms). IsSomeAnd o (IsWholePort c.args.map.now c.args.terms.now)) told (c.requires.fits.ports c.args.port low) in
     record {
-      ids = ap (λ (ids : List ℕ). length ids) (c.in_ok-copied.ensures ∙ c.deref.ensures.value) ∙ whole.ids;
+      ids = ap (λ (ids : List ℕ). length ids) c.deref.ensures.value ∙ whole.ids;
       header = ap (λ (t : SlotPlaces). t.header) c.slot_places.ensures.planned ∙ ap header_length (sym role);
       user = ap (λ (t : SlotPlaces). t.user) c.slot_places.ensures.planned
           ∙ ap (λ (r : Role). (details_of c.args.map.now r).user_header.size / 8) (sym role)

@@ -2,6 +2,7 @@ use Rattle.std.proofs.Common.{◌≡◌, length, ap, subst, sym, ◌∙◌, arit
 use Rattle.iox_wire_seats.specs.Aims.{AreStates}
 use Rattle.iox_wire_seats.specs.Seats.{ways_of}
 use Rattle.iox_wire_releases.proofs.StateLemmas.{all_places, all_ways}
+use Rattle.iox_word_places.proofs.WayCounts.{ports_fit}
 use Rattle.iox_wire_releases.proofs.states.list_states.Goals as goal
 
 pub returns-clause-ways : goal.returns-clause-ways
@@ -15,3 +16,9 @@ pub returns-clause-places : goal.returns-clause-places
 returns-clause-places c p setting =
     subst (AreStates p) (sym c.loop-index.invariant.stops)
     (all_places c.args.map.now p c.args.seat.now.seat.forgot c.args.client c.args.lane c.loop-index.index setting.layout)
+
+pub push_reserved-requires : goal.push_reserved-requires
+push_reserved-requires c =
+    let few = c.loop-index.invariant.few in let same = c.loop-index.invariant.list in let asked = c.requires.list in
+    let low = c.loop-index-test.true in let size = c.loop-index.invariant.size in let fit = ports_fit c.args.map.now in
+    omega (arith, few, same, asked, low, size, fit)

@@ -11,6 +11,7 @@ use Rattle.iox_wire_ways.specs.Seats.{ways_of}
 use Rattle.iox_wire_stops.specs.OwnStates.{is_client_left}
 use Rattle.iox_wire_stops.proofs.OwnStateLemmas.{only_one, own_places}
 use Rattle.iox_wire_ways.proofs.ListLemmas.{all_ways, others_are}
+use Rattle.iox_wire_ways.proofs.WayCounts.{ports_fit}
 use Rattle.iox_wire_stops.proofs.states.list_own_state.Goals as goal
 
 pub returns-clause-ways : goal.returns-clause-ways
@@ -29,3 +30,9 @@ pub returns-clause-places : goal.returns-clause-places
 returns-clause-places c p setting =
     subst (AreStates p) (sym c.loop-index.invariant.stops)
     (own_places c.args.map.now p c.args.seat.now.seat.forgot c.args.request.client c.args.request.lane c.args.server c.loop-index.index setting.layout)
+
+pub push_reserved-requires : goal.push_reserved-requires
+push_reserved-requires c =
+    let few = c.loop-index.invariant.few in let same = c.loop-index.invariant.list in let asked = c.requires.list in
+    let low = c.loop-index-test.true in let size = c.loop-index.invariant.size in let fit = ports_fit c.args.map.now in
+    omega (arith, few, same, asked, low, size, fit)

@@ -15,10 +15,10 @@ use Rattle.iox_wire_ways.proofs.receives.begin_request_receive.Goals as goal
 
 pub returns-clause-begun : goal.returns-clause-begun
 returns-clause-begun c p n setting told =
-    let sources : AreSources p c.in_ok-terms.terms (header_length Client) c.deref.result.now =
-    subst (AreSources p c.in_ok-terms.terms (header_length Client)) (sym c.deref.ensures.value) (c.in_ok-terms.ensures.sources p setting) in
+    let sources : AreSources p c.list_request_sources-terms.result (header_length Client) c.deref.result.now =
+    subst (AreSources p c.list_request_sources-terms.result (header_length Client)) (sym c.deref.ensures.value) (c.list_request_sources-terms.ensures.sources p setting) in
     let ways : ways_of c.deref.result.now ≡ server_ways (known p c.args.seat.now.seat) (p.port (number_at c.args.map.now c.args.server)) =
-    ap (λ (xs : List Source). ways_of xs) c.deref.ensures.value ∙ c.in_ok-terms.ensures.ways p setting told in
+    ap (λ (xs : List Source). ways_of xs) c.deref.ensures.value ∙ c.list_request_sources-terms.ensures.ways p setting told in
     let number : c.index.result.now.number ≡ (p.port (number_at c.args.map.now c.args.server)).number =
     (port_facts c.args.map.now c.args.server c.index.result.now c.plan.ensures.plan (index_of_port c.args.map.now Server c.args.server c.requires.server)
     (c.index.ensures ∙ ap (λ (plan : WirePlan). get_or plan.ports.items c.args.server c.index.result.now) c.plan.ensures.value)).number

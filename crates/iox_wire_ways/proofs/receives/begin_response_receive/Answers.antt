@@ -14,10 +14,10 @@ use Rattle.iox_wire_ways.proofs.receives.begin_response_receive.Goals as goal
 
 pub returns-clause-begun : goal.returns-clause-begun
 returns-clause-begun c p n setting =
-    let sources : AreSources p c.in_ok-terms.terms (header_length Server) c.deref.result.now =
-    subst (AreSources p c.in_ok-terms.terms (header_length Server)) (sym c.deref.ensures.value) (c.in_ok-terms.ensures.sources p setting) in
+    let sources : AreSources p c.list_response_sources-terms.result (header_length Server) c.deref.result.now =
+    subst (AreSources p c.list_response_sources-terms.result (header_length Server)) (sym c.deref.ensures.value) (c.list_response_sources-terms.ensures.sources p setting) in
     let ways : ways_of c.deref.result.now ≡ ways_for p c.args.seat.now.seat c.args.pending =
-    ap (λ (xs : List Source). ways_of xs) c.deref.ensures.value ∙ c.in_ok-terms.ensures.ways p c.args.seat.now.seat setting
+    ap (λ (xs : List Source). ways_of xs) c.deref.ensures.value ∙ c.list_response_sources-terms.ensures.ways p c.args.seat.now.seat setting
     ∙ ap (λ (k : ℕ). map (response_way k c.args.pending.lane) (ports_of_role (known p c.args.seat.now.seat) Server)) c.requires.client in
     subst (λ (ws : List Way). OnOk c.begin.result (placed c.args.seat.now.seat c.begin.new.self.local
     ≡ visiting p c.args.seat.now.seat (pending_visit c.args.pending) ws false)) ways

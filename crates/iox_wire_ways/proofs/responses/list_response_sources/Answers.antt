@@ -5,6 +5,7 @@ use Rattle.iox_wire_receives.specs.Sources.{AreSources, AreWithin, ways_of}
 use Rattle.iox_wire_ways.specs.ResponseSources.{response_terms}
 use Rattle.iox_wire_ways.proofs.ResponseLemmas.{all_responses, all_responses_within, all_servers}
 use Rattle.iox_wire_ways.proofs.VisitLemmas.{sources_with, within_with}
+use Rattle.iox_wire_messages.proofs.WayCounts.{ports_fit}
 use Rattle.iox_wire_ways.proofs.responses.list_response_sources.Goals as goal
 
 pub returns-clause-ways : goal.returns-clause-ways
@@ -26,3 +27,9 @@ returns-clause-within c =
     (subst (AreWithin (response_terms c.args.map.now c.args.fire_and_forget c.args.number) (header_length Server)) (sym c.loop-index.invariant.sources)
     (all_responses_within c.args.map.now c.plan.ensures.plan c.args.fire_and_forget c.args.number c.args.client c.args.lane c.requires.lane
     c.total-total.result c.loop-index.index c.total-total.ensures c.total-total.type_inv c.requires.header))
+
+pub push_reserved-requires : goal.push_reserved-requires
+push_reserved-requires c =
+    let few = c.loop-index.invariant.few in let same = c.loop-index.invariant.list in let asked = c.requires.list in
+    let low = c.loop-index-test.true in let size = c.loop-index.invariant.size in let fit = ports_fit c.args.map.now in
+    omega (arith, few, same, asked, low, size, fit)

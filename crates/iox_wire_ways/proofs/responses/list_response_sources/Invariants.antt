@@ -1,4 +1,5 @@
-use Rattle.std.proofs.Common.{◌≡◌, ◌≤◌, ◌<◌, [], length}
+use Rattle.std.specs.Prelude.{vec_len}
+use Rattle.std.proofs.Common.{◌≡◌, ◌≤◌, ◌<◌, [], length, vec_capacity}
 use Rattle.iox_model.specs.declared.kind.Role.TheVariants.{Server}
 use Rattle.iox_wire_receives.specs.declared.source.Source.{Source}
 use Rattle.iox_wire_ways.specs.ResponseSources.{response_source, response_terms}
@@ -13,6 +14,8 @@ invariant-loop-index l = record {
   terms : 0 < length l.sources.items → l.terms ≡ response_terms l.map l.fire_and_forget l.number;
   number : l.terms.number ≡ l.number;
   asks : l.terms.fire_and_forget ≡ l.fire_and_forget;
+  few : vec_len l.sources ≤ l.index;
+  list : vec_capacity l.sources ≡ vec_capacity l.fn.sources;
   below : l.index ≤ l.index-end;
   size : l.index-end ≡ length l.map.ports.items;
 }

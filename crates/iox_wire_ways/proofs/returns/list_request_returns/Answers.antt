@@ -12,6 +12,7 @@ use Rattle.iox_wire_messages.specs.Seats.{ways_of}
 use Rattle.iox_wire_ways.specs.Visits.{is_other, returning_stop}
 use Rattle.iox_wire_ways.proofs.ListLemmas.{all_ways, others_are}
 use Rattle.iox_wire_ways.proofs.ReturnLemmas.{all_in_memory, all_return, memory_with, returning_with}
+use Rattle.iox_wire_messages.proofs.WayCounts.{ports_fit}
 use Rattle.iox_wire_ways.proofs.returns.list_request_returns.Goals as goal
 
 pub returns-clause-ways : goal.returns-clause-ways
@@ -27,10 +28,16 @@ pub returns-clause-places : goal.returns-clause-places
 returns-clause-places c p setting =
     returning_with p (returning_room c.args.map.now.limits Client) c.loop-index.room c.loop-index.stops.items c.loop-index.invariant.room
     (subst (AreReturning p (returning_room c.args.map.now.limits Client)) (sym c.loop-index.invariant.stops)
-    (all_return c.args.map.now p c.args.seat.now.seat.forgot c.args.client c.loop-index.index c.plan.ensures.plan setting.layout c.requires))
+    (all_return c.args.map.now p c.args.seat.now.seat.forgot c.args.client c.loop-index.index c.plan.ensures.plan setting.layout c.requires.client))
 
 pub returns-clause-within : goal.returns-clause-within
 returns-clause-within c =
     memory_with (returning_room c.args.map.now.limits Client) c.loop-index.room c.loop-index.stops.items c.loop-index.invariant.room
     (subst (QueuesInMemory Index (returning_room c.args.map.now.limits Client)) (sym c.loop-index.invariant.stops)
-    (all_in_memory c.args.map.now c.args.seat.now.seat.forgot c.args.client c.loop-index.index c.total-total.result c.plan.ensures.plan c.requires c.total-total.ensures c.total-total.type_inv))
+    (all_in_memory c.args.map.now c.args.seat.now.seat.forgot c.args.client c.loop-index.index c.total-total.result c.plan.ensures.plan c.requires.client c.total-total.ensures c.total-total.type_inv))
+
+pub push_reserved-requires : goal.push_reserved-requires
+push_reserved-requires c =
+    let few = c.loop-index.invariant.few in let same = c.loop-index.invariant.list in let asked = c.requires.list in
+    let low = c.loop-index-test.true in let size = c.loop-index.invariant.size in let fit = ports_fit c.args.map.now in
+    omega (arith, few, same, asked, low, size, fit)

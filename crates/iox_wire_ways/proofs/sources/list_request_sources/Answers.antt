@@ -4,6 +4,7 @@ use Rattle.iox_wire_messages.specs.Stored.{header_length}
 use Rattle.iox_wire_receives.specs.Sources.{AreSources, AreWithin, ways_of}
 use Rattle.iox_wire_ways.specs.RequestSources.{passed_over, request_terms}
 use Rattle.iox_wire_ways.proofs.VisitLemmas.{all_sources, all_visited, all_within, sources_with, within_with}
+use Rattle.iox_wire_messages.proofs.WayCounts.{ports_fit}
 use Rattle.iox_wire_ways.proofs.sources.list_request_sources.Goals as goal
 
 pub returns-clause-ways : goal.returns-clause-ways
@@ -24,3 +25,9 @@ returns-clause-within c =
     within_with (request_terms c.args.map.now c.args.fire_and_forget c.args.number) c.loop-index.terms (header_length Client) c.loop-index.sources.items c.loop-index.invariant.terms
     (subst (AreWithin (request_terms c.args.map.now c.args.fire_and_forget c.args.number) (header_length Client)) (sym c.loop-index.invariant.sources)
     (all_within c.args.map.now c.plan.ensures.plan (passed_over c.args.fire_and_forget c.args.seat.now.seat.forgot) c.args.fire_and_forget c.args.number c.args.server c.requires.server c.requires.known c.loop-index.index))
+
+pub push_reserved-requires : goal.push_reserved-requires
+push_reserved-requires c =
+    let few = c.loop-index.invariant.few in let same = c.loop-index.invariant.list in let asked = c.requires.list in
+    let low = c.loop-index-test.true in let size = c.loop-index.invariant.size in let fit = ports_fit c.args.map.now in
+    omega (arith, few, same, asked, low, size, fit)

@@ -1,4 +1,5 @@
-use Rattle.std.proofs.Common.{◌≡◌, ◌≤◌, ◌<◌, length}
+use Rattle.std.specs.Prelude.{vec_len}
+use Rattle.std.proofs.Common.{◌≡◌, ◌≤◌, ◌<◌, length, vec_capacity}
 use Rattle.iox_model.specs.declared.kind.Role.TheVariants.{Server}
 use Rattle.iox_wire_copies.specs.Target.{Target}
 use Rattle.iox_wire_ways.specs.RequestTargets.{KeepsTerms, target_of, target_terms}
@@ -12,6 +13,8 @@ invariant-loop-index l = record {
   targets : l.targets.items ≡ made_before Target l.map (is_other Server l.seat.seat.forgot) (target_of l.map l.client) l.index;
   told : 0 < length l.targets.items → l.told ≡ target_terms l.map l.lane l.terms;
   rest : KeepsTerms l.terms l.told;
+  few : vec_len l.targets ≤ l.index;
+  list : vec_capacity l.targets ≡ vec_capacity l.fn.targets;
   below : l.index ≤ l.index-end;
   size : l.index-end ≡ length l.map.ports.items;
 }

@@ -1,18 +1,30 @@
-use Rattle.std.specs.Prelude.{OnOk}
+use Rattle.std.specs.Prelude.{is_none, option_map}
 use Rattle.std.proofs.Common.{ap, subst}
 use Rattle.iox_model.specs.declared.call.WireCall.TheVariants.{Port}
 use Rattle.iox_wire_weaves.specs.Calls.{call_in}
 use Rattle.iox_wire_weaves.specs.Nodes.{Node}
 use Rattle.iox_wire_weaves.specs.NodesBegins.{IsUnderWay}
 use Rattle.iox_wire_weaves.specs.Wires.{WireNode}
+use Rattle.iox_wire.specs.Replies.{call_with}
+use Rattle.iox_wire.specs.declared.member.BegunCall.{BegunCall}
 use Rattle.iox_wire.proofs.Begun.{has_begun}
 use Rattle.iox_wire.proofs.member.Member.begin.Goals as goal
 
 pub returns-clause-begun : goal.returns-clause-begun
 returns-clause-begun c =
-    has_begun c.args.map.now c.args.terms.now c.args.self.now (record { number = c.self.inside.number; alive = c.self.inside.alive; node = c.begin.new.self })
-    c.args.call c.begin.result c.requires.setting
-    (λ p setting. subst (λ (k : Node). OnOk c.begin.result (IsUnderWay p k (Port (call_in p c.args.call)) c.begin.new.self))
-    (ap (λ (m : WireNode). m.node) c.self.view_is) (c.begin.ensures.begun p setting))
-    c.begin.ensures.adds c.if-lacks_room.ensures c.requires.lends
-    (ap (λ (m : WireNode). m.number) c.self.view_is) (ap (λ (m : WireNode). m.alive) c.self.view_is)
+    has_begun c.args.map.now c.args.terms.now c.args.self.now c.args.call c.args.begun
+    (record {
+      number = c.self.inside.number;
+      alive = is_none c.self.inside.died;
+      died = c.self.inside.died;
+      node = c.begin.new.self;
+      call = option_map (λ (b : BegunCall). record { call = call_with c.self.inside.words.items b.call; begun = b.begun }) c.self.inside.call;
+      longest = c.self.inside.longest;
+    })
+    c.keep.new.self c.requires.setting
+    (λ p setting. subst (λ (k : Node). IsUnderWay p k (Port (call_in p c.args.call)) c.begin.new.self)
+    (ap (λ (m : WireNode). m.node) c.self.view_is) (c.in_ok-begin.ensures.begun p setting))
+    c.in_ok-begin.ensures.adds c.if-lacks_room.ensures c.requires.lends
+    (ap (λ (m : WireNode). m.number) c.self.view_is)
+    (record { alive = ap (λ (m : WireNode). m.alive) c.self.view_is; died = ap (λ (m : WireNode). m.died) c.self.view_is; longest = ap (λ (m : WireNode). m.longest) c.self.view_is })
+    c.keep.ensures

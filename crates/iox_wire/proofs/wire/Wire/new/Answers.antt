@@ -7,30 +7,32 @@ use Rattle.iox_wire_weaves.specs.Wires.{WireData}
 use Rattle.iox_wire.specs.Kept.{AreOpened}
 use Rattle.iox_wire.proofs.Members.{opened_node}
 use Rattle.iox_wire.proofs.Fresh.{shown_opened, shows_opened}
-use Rattle.iox_wire.proofs.Replies.{events_by, told_by}
+use Rattle.iox_wire.proofs.Recorded.{events_by}
 use Rattle.iox_wire.proofs.wire.Wire.new.Goals as goal
 
 pub invariant_of-result : goal.invariant_of-result
-invariant_of-result c =
-    let w : WireData = record { plan = c.in_ok-places.places; terms = c.args.terms; words = c.in_ok-words.words.items; nodes = c.in_ok-members.members.items; replies = told_by c.new-2.result.items; events = events_by c.new-3.result.items } in
-    let total : total_words (sizes_of c.args.plan) < 2 ^ 63
-    = subst (λ k. k < 2 ^ 63) (c.total-total.ensures ∙ ap (λ (q : WirePlan). total_words (sizes_of q)) c.in_ok-places.ensures.made) (omega (arith, c.if-total-ge-MOST_WORDS.false)) in
-    shown_opened c.args.plan c.args.terms c.args.nodes.now w c.requires.plan c.in_ok-places.ensures.made refl
-    (c.in_ok-words.ensures
-    ∙ ap (λ n. replicate n 0) (c.total-total.ensures ∙ ap (λ (q : WirePlan). total_words (sizes_of q)) c.in_ok-places.ensures.made))
-    c.args.handles
-    (subst (λ (q : WirePlan). AreOpened q c.args.handles c.args.nodes.now c.in_ok-members.members.items) (c.plan.ensures.value ∙ c.in_ok-places.ensures.made) c.in_ok-members.ensures)
-    (ap told_by c.new-2.ensures.items) (ap events_by c.new-3.ensures.items) c.requires.whole total (omega (arith, c.if-terms-ge-MOST_NUMBERS.false)) c.requires.opens
+invariant_of-result c = (
+  c.in_ok-lists.ensures,
+  let w : WireData = record { plan = c.in_ok-places.places; terms = c.args.terms; words = c.in_ok-words.words.items; nodes = c.in_ok-members.members.items; replies = c.new-3.result.finished; events = events_by c.new-4.result.items } in
+      let total : total_words (sizes_of c.args.plan) < 2 ^ 63
+      = subst (λ k. k < 2 ^ 63) (c.total-total.ensures ∙ ap (λ (q : WirePlan). total_words (sizes_of q)) c.in_ok-places.ensures.made) (omega (arith, c.if-total-ge-MOST_WORDS.false)) in
+      shown_opened c.args.plan c.args.terms c.args.nodes.now w c.requires.plan c.in_ok-places.ensures.made refl
+      (c.in_ok-words.ensures
+      ∙ ap (λ n. replicate n 0) (c.total-total.ensures ∙ ap (λ (q : WirePlan). total_words (sizes_of q)) c.in_ok-places.ensures.made))
+      c.args.handles
+      (subst (λ (q : WirePlan). AreOpened q c.args.handles c.args.nodes.now c.in_ok-members.members.items) (c.plan.ensures.value ∙ c.in_ok-places.ensures.made) c.in_ok-members.ensures)
+      c.new-3.ensures (ap events_by c.new-4.ensures.items) c.requires.whole total (omega (arith, c.if-terms-ge-MOST_NUMBERS.false)) c.requires.opens,
+)
 
 pub returns-clause-opened : goal.returns-clause-opened
 returns-clause-opened c p s opens =
-    let w : WireData = record { plan = c.in_ok-places.places; terms = c.args.terms; words = c.in_ok-words.words.items; nodes = c.in_ok-members.members.items; replies = told_by c.new-2.result.items; events = events_by c.new-3.result.items } in
+    let w : WireData = record { plan = c.in_ok-places.places; terms = c.args.terms; words = c.in_ok-words.words.items; nodes = c.in_ok-members.members.items; replies = c.new-3.result.finished; events = events_by c.new-4.result.items } in
     shows_opened c.args.plan c.args.terms c.args.nodes.now w c.requires.plan c.in_ok-places.ensures.made refl
     (c.in_ok-words.ensures
     ∙ ap (λ n. replicate n 0) (c.total-total.ensures ∙ ap (λ (q : WirePlan). total_words (sizes_of q)) c.in_ok-places.ensures.made))
     c.args.handles
     (subst (λ (q : WirePlan). AreOpened q c.args.handles c.args.nodes.now c.in_ok-members.members.items) (c.plan.ensures.value ∙ c.in_ok-places.ensures.made) c.in_ok-members.ensures)
-    (ap told_by c.new-2.ensures.items) (ap events_by c.new-3.ensures.items) p s opens
+    c.new-3.ensures (ap events_by c.new-4.ensures.items) p s opens
 
 pub returns-clause-room : goal.returns-clause-room
 returns-clause-room c n x at = (opened_node c.plan.result.now c.args.handles c.args.nodes.now c.in_ok-members.members.items n x c.in_ok-members.ensures at).room

@@ -29,9 +29,10 @@ returns-then-len-eq0-clause-next c seen =
     let lends : Lends (the_view c.self.inside) = record { at = at'; local = ap (λ (a : CopyAt). local_of a c.self.inside.lending c.self.inside.payload.items c.self.inside.loan.slot c.self.inside.next) at' } in
     let loan : IsLoanAt c.self.inside.lending.order c.self.inside.lending.local = subst (λ (r : CopyLoan). IsLoanAt r.lending.order r.lending.local) (sym c.self.view_is) c.requires.loan in
     let ahead : StoresAhead c.self.inside.lending.local (length c.self.inside.lending.words) (Some c.in-Some.loan) c.store_ahead.new.self.local = subst (λ (o : Option Entry). StoresAhead c.self.inside.lending.local (length c.self.inside.lending.words) o c.store_ahead.new.self.local) c.in-Some.is c.store_ahead.ensures.next in
-    subst (λ (r : CopyLoan). GoesOn c.args.seat.now r seen c.count_access.new.self (the_view c.self.inside) (Some (Made c.in-Some.loan))) c.self.view_is
-    (copy_makes c.args.seat.now c.count_access.new.self (the_view c.self.inside) (the_view c.self.inside) seen c.store_ahead.new.self.local c.in-Some.loan lends c.count_access.ensures
-    loan ahead (omega (arith, c.len.ensures, c.if-len-eq0.true)))
+    let made : CopyLoan = record (the_view c.self.inside) { loan = c.in-Some.loan } in
+    subst (λ (r : CopyLoan). GoesOn c.args.seat.now r seen c.count_access.new.self made (Some Made)) c.self.view_is
+    (copy_makes c.args.seat.now c.count_access.new.self (the_view c.self.inside) made seen c.store_ahead.new.self.local c.in-Some.loan lends c.count_access.ensures
+    refl loan ahead (omega (arith, c.len.ensures, c.if-len-eq0.true)))
 
 pub returns-clause-next : goal.returns-clause-next
 returns-clause-next c seen =

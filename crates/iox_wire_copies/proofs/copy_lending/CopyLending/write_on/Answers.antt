@@ -1,4 +1,4 @@
-use Rattle.std.proofs.Common.{◌≡◌, ◌+◌, ◌<◌, ◌^◌, None, Some, length, sym, subst, ap, arith}
+use Rattle.std.proofs.Common.{◌≡◌, ◌+◌, ◌<◌, ◌^◌, None, Some, length, refl, sym, subst, ap, arith}
 use Rattle.iox_wire_request_sends.specs.WireLoansAims.{IsStoring}
 use Rattle.iox_wire_copies.specs.contracts.copy_lending.CopyLending.{the_view}
 use Rattle.iox_wire_copies.specs.Copies.{CopyLoan, HasMade, HasWordsLeft, local_of}
@@ -45,9 +45,9 @@ returns-clause-next c seen =
     } in
     let left : (c.self.inside.next < length c.self.inside.payload.items) × (c.self.inside.place + length c.self.inside.payload.items < 2 ^ 64) =
     subst (λ (a : CopyAt). HasWordsLeft a c.self.inside.place c.self.inside.next (length c.self.inside.payload.items)) at' c.self.invariant.5 in
-    subst (λ (r : CopyLoan). GoesOn c.args.seat.now r seen c.count_access.new.self (the_view c.self.inside) (Some (Made c.self.inside.loan))) c.self.view_is
+    subst (λ (r : CopyLoan). GoesOn c.args.seat.now r seen c.count_access.new.self (the_view c.self.inside) (Some Made)) c.self.view_is
     (writes_made c.args.seat.now c.count_access.new.self (the_view c.self.inside) (the_view c.self.inside) c.self.inside.next seen writes c.count_access.ensures
-    left.0 (omega (arith, c.len.ensures, c.if-self-len.false)))
+    refl left.0 (omega (arith, c.len.ensures, c.if-self-len.false)))
 
 pub returns-clause-stored : goal.returns-clause-stored
 returns-clause-stored c =

@@ -25,17 +25,10 @@ returns-in_err-name_port-clause-refused c p setting held =
     ∙ c.in_err-name_port.ensures.refused p none setting held tt in
     search (rules, known)
 
-pub list_waiting_requests-requires-clause-server : goal.list_waiting_requests-requires-clause-server
-list_waiting_requests-requires-clause-server c =
+pub list_waiting_requests-queue-requires-clause-server : goal.list_waiting_requests-queue-requires-clause-server
+list_waiting_requests-queue-requires-clause-server c =
     looks_at_server c.args.map.now c.plan-plan.ensures.plan c.args.port c.args.number (one_of c.args.map.now.ports.items c.args.port c.requires.within)
     c.requires.within c.requires.there (c.in_ok-name_port.ensures.kind c.args.number none tt)
-
-pub returns-in_err-queue-clause-refused : goal.returns-in_err-queue-clause-refused
-returns-in_err-queue-clause-refused c p setting held =
-    let known : refusal_at p (seat_in c.args.self.now) (Port (HasRequests c.args.number)) ≡ None =
-    refusal_alike p (Port (HasRequests c.args.number)) c.self.view_is c.self.invariant.0 (sym c.is_busy.ensures ∙ c.if-is_busy.false)
-    ∙ c.in_ok-name_port.ensures.allowed p none setting held tt in
-    search (rules, known)
 
 pub returns-in_err-seek-clause-refused : goal.returns-in_err-seek-clause-refused
 returns-in_err-seek-clause-refused c p setting held =
@@ -50,10 +43,10 @@ returns-clause-begun c p setting held told =
     (record {
       allowed = c.in_ok-name_port.ensures.allowed p none setting held tt;
       begun = c.in_ok-seek.ensures.begun
-          ∙ ap (λ (ws : List Way). seeking c.self.inside.seat.seat ws) (ap ways_of c.deref.ensures.value ∙ c.in_ok-queue.ensures.ways p setting told)
+          ∙ ap (λ (ws : List Way). seeking c.self.inside.seat.seat ws) (ap ways_of c.deref.ensures.value ∙ c.list_waiting_requests-queue.ensures.ways p setting told)
           ∙ ap (λ k. begins_at_port p c.self.inside.seat.seat (HasRequests c.args.number) (p.port k)) c.requires.there
           ∙ sym (c.in_ok-name_port.ensures.begins p none setting);
       aimed = c.in_ok-seek.ensures.aimed p
-          (subst (AreQueues p c.in_ok-queue.queue.kind c.in_ok-queue.queue.capacity) (sym c.deref.ensures.value) (c.in_ok-queue.ensures.queues p setting));
+          (subst (AreQueues p c.list_waiting_requests-queue.result.kind c.list_waiting_requests-queue.result.capacity) (sym c.deref.ensures.value) (c.list_waiting_requests-queue.ensures.queues p setting));
     })
     c.seek.ensures.accesses c.seek.ensures.room

@@ -7,30 +7,20 @@ pair-pair-requires-clause-client c = client_of_lane c.args.self.now c.args.clien
 
 pub overflow_add-result : goal.overflow_add-result
 overflow_add-result c = (let h = (lane_facts c.args.self.now c.pair-pair.ensures.plan c.pair-pair.ensures.fits c.args.client c.args.server c.args.lane c.requires.lane c.requires.server
-    c.limits-limits.result c.limits-limits.ensures c.pair-pair.result c.pair-pair.ensures.place c.pair-pair.ensures.within
-    c.request_words.result c.request_words.ensures c.told-requests.result c.told-requests.ensures
-    c.lane_words.result c.lane_words.ensures c.told-each.result c.told-each.ensures).first in omega arith)
+    c.pair-pair.result c.pair-pair.ensures.place c.pair-pair.ensures.within c.sizes-sizes.result.now c.sizes-sizes.ensures).first in omega arith)
 
 pub overflow_mul-result : goal.overflow_mul-result
 overflow_mul-result c = (let h = (lane_facts c.args.self.now c.pair-pair.ensures.plan c.pair-pair.ensures.fits c.args.client c.args.server c.args.lane c.requires.lane c.requires.server
-    c.limits-limits.result c.limits-limits.ensures c.pair-pair.result c.pair-pair.ensures.place c.pair-pair.ensures.within
-    c.request_words.result c.request_words.ensures c.told-requests.result c.told-requests.ensures
-    c.lane_words.result c.lane_words.ensures c.told-each.result c.told-each.ensures).product in omega arith)
+    c.pair-pair.result c.pair-pair.ensures.place c.pair-pair.ensures.within c.sizes-sizes.result.now c.sizes-sizes.ensures).product in omega arith)
 
 pub overflow_add-result-2 : goal.overflow_add-result-2
 overflow_add-result-2 c = (let h = (lane_facts c.args.self.now c.pair-pair.ensures.plan c.pair-pair.ensures.fits c.args.client c.args.server c.args.lane c.requires.lane c.requires.server
-    c.limits-limits.result c.limits-limits.ensures c.pair-pair.result c.pair-pair.ensures.place c.pair-pair.ensures.within
-    c.request_words.result c.request_words.ensures c.told-requests.result c.told-requests.ensures
-    c.lane_words.result c.lane_words.ensures c.told-each.result c.told-each.ensures).sum in omega arith)
+    c.pair-pair.result c.pair-pair.ensures.place c.pair-pair.ensures.within c.sizes-sizes.result.now c.sizes-sizes.ensures).sum in omega arith)
 
 pub returns-clause-place : goal.returns-clause-place
 returns-clause-place c = (lane_facts c.args.self.now c.pair-pair.ensures.plan c.pair-pair.ensures.fits c.args.client c.args.server c.args.lane c.requires.lane c.requires.server
-    c.limits-limits.result c.limits-limits.ensures c.pair-pair.result c.pair-pair.ensures.place c.pair-pair.ensures.within
-    c.request_words.result c.request_words.ensures c.told-requests.result c.told-requests.ensures
-    c.lane_words.result c.lane_words.ensures c.told-each.result c.told-each.ensures).place
+    c.pair-pair.result c.pair-pair.ensures.place c.pair-pair.ensures.within c.sizes-sizes.result.now c.sizes-sizes.ensures).place
 
 pub returns-clause-within : goal.returns-clause-within
 returns-clause-within c = (lane_facts c.args.self.now c.pair-pair.ensures.plan c.pair-pair.ensures.fits c.args.client c.args.server c.args.lane c.requires.lane c.requires.server
-    c.limits-limits.result c.limits-limits.ensures c.pair-pair.result c.pair-pair.ensures.place c.pair-pair.ensures.within
-    c.request_words.result c.request_words.ensures c.told-requests.result c.told-requests.ensures
-    c.lane_words.result c.lane_words.ensures c.told-each.result c.told-each.ensures).within
+    c.pair-pair.result c.pair-pair.ensures.place c.pair-pair.ensures.within c.sizes-sizes.result.now c.sizes-sizes.ensures).within

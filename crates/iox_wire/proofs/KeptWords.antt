@@ -1,0 +1,100 @@
+-- Words that are kept one behind another in one list.
+use Rattle.std.specs.List.{All}
+use Rattle.std.proofs.Common.{◌≡◌, ℕ, ◌+◌, ◌-◌, ◌≤◌, List, [], ◌∷◌, ◌++◌, length, map, take, drop, refl, ap, ap₂, ◌∙◌, arith}
+use Rattle.std.proofs.Math.Seq.{drop-append_seam, take-length}
+use Rattle.std.proofs.lemmas.List.{append_assoc, drop-append-le, length-append, length-drop, map-append, take-append-le}
+use Rattle.std.proofs.lemmas.List.Elements.{All-head, All-tail, All-weaker}
+use Rattle.iox_model.specs.Schedules.{Finished}
+use Rattle.iox_wire_weaves.specs.Nodes.{reply_in}
+use Rattle.iox_wire.specs.Replies.{HasItsWords, IsSpan, call_with, finished_of, told_with, words_at, words_brought, words_call}
+use Rattle.iox_wire.specs.declared.finished.Answer.{Answer}
+use Rattle.iox_wire.specs.declared.finished.FinishedCall.{FinishedCall}
+use Rattle.iox_wire.specs.declared.spans.Span.{Span}
+
+-- ---- a span
+
+longer : (ws more : List ℕ) (s : Span) → IsSpan ws s → IsSpan (ws ++ more) s
+longer ws more s is = record {
+  order = is.order;
+  within = within s.end (length ws) (length (ws ++ more)) (length more) is.within (length-append ws more);
+}
+  where
+    within : (e a b c : ℕ) → e ≤ a → b ≡ a + c → e ≤ b
+    within e a b c low is = omega (arith, low, is)
+
+same_words : (ws more : List ℕ) (s : Span) → IsSpan ws s → words_at (ws ++ more) s ≡ words_at ws s
+same_words ws more s is =
+    ap (take (s.end - s.start)) (drop-append-le s.start ws more (before s.start s.end (length ws) is.order is.within))
+    ∙ take-append-le (s.end - s.start) (drop s.start ws) more
+    (few s.start s.end (length ws) (length (drop s.start ws)) is.order is.within (length-drop s.start ws))
+  where
+    before : (a b c : ℕ) → a ≤ b → b ≤ c → a ≤ c
+    before a b c order within = omega (arith, order, within)
+
+    few : (a b c d : ℕ) → a ≤ b → b ≤ c → d ≡ c - a → b - a ≤ d
+    few a b c d order within is = omega (arith, order, within, is)
+
+-- words that are written behind others are there
+pub words_behind : (ws more : List ℕ) (s : Span) → s.start ≡ length ws → s.end ≡ length ws + length more → words_at (ws ++ more) s ≡ more
+words_behind ws more s start end =
+    ap₂ (λ n k. take n (drop k (ws ++ more))) (count s.start s.end (length ws) (length more) start end) start
+    ∙ ap (take (length more)) (drop-append_seam ws more) ∙ take-length more
+  where
+    count : (a b c d : ℕ) → a ≡ c → b ≡ c + d → b - a ≡ d
+    count a b c d start end = omega (arith, start, end)
+
+pub is_span : (ws more : List ℕ) (s : Span) → s.start ≡ length ws → s.end ≡ length ws + length more → IsSpan (ws ++ more) s
+is_span ws more s start end = record {
+  order = order s.start s.end (length ws) (length more) start end;
+  within = within s.end (length ws) (length more) (length (ws ++ more)) end (length-append ws more);
+}
+  where
+    order : (a b c d : ℕ) → a ≡ c → b ≡ c + d → a ≤ b
+    order a b c d start end = omega (arith, start, end)
+
+    within : (b c d e : ℕ) → b ≡ c + d → e ≡ c + d → b ≤ e
+    within b c d e end is = omega (arith, end, is)
+
+-- ---- answers
+
+has_still : (ws more : List ℕ) (a : Answer) → HasItsWords ws a → HasItsWords (ws ++ more) a
+has_still ws more a has = (longer ws more a.brought has.0, longer ws more a.read has.1)
+
+told_still : (ws more : List ℕ) (a : Answer) → HasItsWords ws a → told_with (ws ++ more) a ≡ told_with ws a
+told_still ws more a has =
+    ap₂ (λ b r. record { node = a.node; call = call_with b a.call; reply = reply_in r a.reply; begun = a.begun; ended = a.ended })
+    (same_words ws more a.brought has.0) (same_words ws more a.read has.1)
+
+-- what was told before stays
+pub all_told_still : (ws more : List ℕ) (answers : List Answer) → All (HasItsWords ws) answers → map (told_with (ws ++ more)) answers ≡ map (told_with ws) answers
+all_told_still ws more [] has = refl
+all_told_still ws more (a ∷ answers) has =
+    ap₂ (λ (x : Finished) xs. x ∷ xs) (told_still ws more a (All-head (HasItsWords ws) a answers has))
+    (all_told_still ws more answers (All-tail (HasItsWords ws) a answers has))
+
+pub all_have_still : (ws more : List ℕ) (answers : List Answer) → All (HasItsWords ws) answers → All (HasItsWords (ws ++ more)) answers
+all_have_still ws more answers has = All-weaker (HasItsWords ws) (HasItsWords (ws ++ more)) (λ a one. has_still ws more a one) answers has
+
+-- ---- one more
+
+module _ (ws : List ℕ) (answers : List Answer) (a : Answer) (f : FinishedCall) (has : All (HasItsWords ws) answers) where
+  abbrev before : List ℕ
+  before = ws ++ words_brought f.call
+
+  pub told_more : a.node ≡ f.node → call_with (words_brought f.call) a.call ≡ words_call f.call → a.reply ≡ f.reply → a.begun ≡ f.begun → a.ended ≡ f.ended
+      → a.brought.start ≡ length ws → a.brought.end ≡ length ws + length (words_brought f.call)
+      → a.read.start ≡ length before → a.read.end ≡ length before + length f.words.now
+      → map (told_with (before ++ f.words.now)) (answers ++ a ∷ []) ≡ map (told_with ws) answers ++ finished_of f ∷ []
+  told_more node call reply begun ended b_start b_end r_start r_end =
+      map-append (told_with (before ++ f.words.now)) answers (a ∷ [])
+      ∙ ap₂ (λ (xs : List Finished) x. xs ++ x ∷ [])
+      (ap (λ vs. map (told_with vs) answers) (append_assoc ws (words_brought f.call) f.words.now) ∙ all_told_still ws (words_brought f.call ++ f.words.now) answers has)
+      (six (λ n c r b e. record { node = n; call = c; reply = r; begun = b; ended = e }) node
+      (ap (λ vs. call_with vs a.call)
+      (same_words before f.words.now a.brought (is_span ws (words_brought f.call) a.brought b_start b_end) ∙ words_behind ws (words_brought f.call) a.brought b_start b_end)
+      ∙ call)
+      (ap₂ reply_in (words_behind before f.words.now a.read r_start r_end) reply) begun ended)
+    where
+      six : {A B C D E F : Type 0} (f : A → B → C → D → E → F) {a a' : A} {b b' : B} {c c' : C} {d d' : D} {e e' : E}
+          → a ≡ a' → b ≡ b' → c ≡ c' → d ≡ d' → e ≡ e' → f a b c d e ≡ f a' b' c' d' e'
+      six f p q r s t = λ i. f (p i) (q i) (r i) (s i) (t i)

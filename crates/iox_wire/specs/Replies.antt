@@ -1,0 +1,94 @@
+-- Calls and replies as a wire keeps them, and the machine's calls and replies that these are.
+use Rattle.std.specs.Prelude.{ℕ, ◌≤◌, List, [], length, slice_range}
+use Rattle.iox_model.specs.Schedules.{Finished, UnderWay}
+use Rattle.iox_model.specs.WireCalls.{WordsCall, in_words}
+use Rattle.iox_model.specs.declared.call.Call.TheVariants as calls
+use Rattle.iox_model.specs.declared.call.WireCall.TheVariants.{Port}
+use Rattle.iox_wire_weaves.specs.Calls.{of_handle}
+use Rattle.iox_wire_weaves.specs.NodeCall.{NodeCall}
+use Rattle.iox_wire_weaves.specs.NodeCall.TheVariants as node_calls
+use Rattle.iox_wire_weaves.specs.Nodes.{reply_in}
+use Rattle.iox_wire.specs.declared.finished.Answer.{Answer}
+use Rattle.iox_wire.specs.declared.finished.CallUnderWay.{CallUnderWay}
+use Rattle.iox_wire.specs.declared.finished.FinishedCall.{FinishedCall}
+use Rattle.iox_wire.specs.declared.spans.Span.{Span}
+use Rattle.iox_wire.specs.declared.stored_call.StoredCall.{StoredCall}
+use Rattle.iox_wire.specs.declared.stored_call.StoredCall.TheVariants as stored
+
+-- ---- calls
+
+-- the words that a call brings
+abbrev pub words_brought : NodeCall → List ℕ
+words_brought (node_calls.Write n y) = y.words.now
+words_brought (node_calls.SendCopy n y) = y.words.now
+words_brought call = []
+
+-- a call in words
+abbrev pub words_call : NodeCall → WordsCall
+words_call (node_calls.Loan n k) = Port (calls.Loan n k)
+words_call (node_calls.Write n y) = Port (calls.Write n y.words.now)
+words_call (node_calls.Send n) = Port (calls.Send n)
+words_call (node_calls.SendCopy n y) = Port (calls.SendCopy n y.words.now)
+words_call (node_calls.Receive n) = Port (calls.Receive n)
+words_call (node_calls.HasRequests n) = Port (calls.HasRequests n)
+words_call (node_calls.Handle n call) = Port (in_words (of_handle call n))
+
+-- a call that is kept without its words, with these
+abbrev pub call_with : List ℕ → StoredCall → WordsCall
+call_with words (stored.Loan n k) = Port (calls.Loan n k)
+call_with words (stored.Write n role) = Port (calls.Write n words)
+call_with words (stored.Send n) = Port (calls.Send n)
+call_with words (stored.SendCopy n role) = Port (calls.SendCopy n words)
+call_with words (stored.Receive n) = Port (calls.Receive n)
+call_with words (stored.HasRequests n) = Port (calls.HasRequests n)
+call_with words (stored.Handle n call) = Port (in_words (of_handle call n))
+
+-- ---- finished calls, and those under way
+
+-- the machine's finished call that one stands for
+abbrev pub finished_of : FinishedCall → Finished
+finished_of f = record {
+  node = f.node;
+  call = words_call f.call;
+  reply = reply_in f.words.now f.reply;
+  begun = f.begun;
+  ended = f.ended;
+}
+
+-- and the machine's call under way
+abbrev pub under_way_of : CallUnderWay → UnderWay
+under_way_of u = record { call = words_call u.call; begun = u.begun }
+
+-- the words of a list from one place to another
+abbrev pub words_at : List ℕ → Span → List ℕ
+words_at words span = slice_range words span.start span.end
+
+-- the place ends within the list
+pub record IsSpan (words : List ℕ) (span : Span) : Type 0 where
+  pub order : span.start ≤ span.end
+  pub within : span.end ≤ length words
+
+-- the finished call that stands for an answer, whose words are in this list
+abbrev pub told_with : List ℕ → Answer → Finished
+told_with words a = record {
+  node = a.node;
+  call = call_with (words_at words a.brought) a.call;
+  reply = reply_in (words_at words a.read) a.reply;
+  begun = a.begun;
+  ended = a.ended;
+}
+
+-- the words of an answer are in the list
+abbrev pub HasItsWords : List ℕ → Answer → Type 0
+HasItsWords words a = IsSpan words a.brought × IsSpan words a.read
+
+-- Finished calls, and for how many more, and for how many words more, there is room.
+pub record FinishedCalls : Type 0 where
+  pub finished : List Finished
+  pub room : ℕ
+  pub words_room : ℕ
+
+-- The words are no more than so many, for which there is room.
+pub record FitsRoom (most : ℕ) (words : List ℕ) (capacity : ℕ) : Type 0 where
+  pub few : length words ≤ most
+  pub room : most ≤ capacity
