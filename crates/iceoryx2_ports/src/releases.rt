@@ -25,8 +25,7 @@ pub(crate) fn release_handle<Q: Payload, QH: Words, P: Payload, PH: Words>(
     ensures room { GivesRoomBack hub.old node number kind hub.new }
 {
     hub.is_in_order();
-    if hub.has(node, number, kind, hint) {
-        hub.release(node, number, hint);
+    if hub.release_if(node, number, kind, hint) {
         hub.is_in_order();
     }
 }

@@ -1,6 +1,6 @@
 -- A hint: what it changes, and that all that is so of a hub stays so.
-use Rattle.std.specs.Prelude.{◌≡◌, ℕ, ◌+◌, ◌-◌, ◌≤◌, List, [], ◌∷◌, map, refl}
-use Rattle.std.proofs.Common.{sym, ap, ap₂, subst, ◌∙◌, arith}
+use Rattle.std.specs.Prelude.{◌≡◌, ℕ, ◌-◌, ◌≤◌, List, map, refl}
+use Rattle.std.proofs.Common.{sym, ap, subst, ◌∙◌, arith}
 use Rattle.iox_handles.specs.declared.entry.Entry.{Entry}
 use Rattle.iox_lanes.specs.declared.wanted.Label.{Label}
 use Rattle.iox_model.specs.declared.call.Call.TheVariants.{SetHint}
@@ -11,14 +11,14 @@ use Rattle.iox_model.specs.declared.way.Way.{Way}
 use Rattle.iox_model.specs.Messages.{hinted_for, response_way}
 use Rattle.iox_model.specs.WholeCalls.{IsWholeCall}
 use Rattle.iox_laws.proofs.CallFunctions.Looking.{each_hint_is_whole}
-use Rattle.iox_hub_ports.specs.HubStates.Tables.{HandleState, HubTables, PortState, labels_of}
+use Rattle.iox_hub_ports.specs.HubStates.Tables.{HandleState, HubTables, labels_of}
 use Rattle.iox_hub_ports.specs.HubStates.States.{Given, state_shown}
 use Rattle.iox_hub_ports.specs.HubStates.Changes.{with_states}
 use Rattle.iox_hub_ports.specs.HubStates.Wirings.{IsPending, numbers_of_role}
 use Rattle.iox_hub_ports.proofs.HubStates.Sending.{hints_are_given}
-use Rattle.iox_hub_ports.specs.HubBooks.Counts.{OfAll, on_lanes, total}
+use Rattle.iox_hub_ports.specs.HubBooks.Counts.{on_lanes, total}
 use Rattle.iox_hub_ports.specs.HubBooks.Rooms.{CanCountHolders, HasRoomForAll, own_count, spare}
-use Rattle.iox_hub_ports.proofs.HubBooks.Frames.{bare_port, bare_ports, states_on_bare}
+use Rattle.iox_hub_ports.proofs.HubBooks.Frames.{bare_ports, states_on_bare}
 use Rattle.iox_hub_ports.proofs.HubBooks.Little.{little_changes_keep_order}
 use Rattle.iox_hub_ports.proofs.HubBooks.Released.{states_keep, states_total}
 use Rattle.iox_control.specs.Controls.{ControlState, IsControl, with_hint, with_tables}

@@ -1,15 +1,13 @@
 -- A receive of a hub's tables, once its visits are made: what it leaves, and that it is the machine's.
-use Rattle.std.specs.Prelude.{◌≡◌, ℕ, ◌+◌, ◌^◌, ◌≤◌, ◌<◌, List, [], ◌∷◌, ◌++◌, map, Option, Some, None, slice_get, slice_set, zero, suc, refl}
-use Rattle.std.specs.Option.{option_map, option_map_or}
+use Rattle.std.specs.Prelude.{◌≡◌, ℕ, ◌+◌, ◌^◌, ◌≤◌, ◌<◌, List, [], ◌∷◌, ◌++◌, Option, refl}
 use Rattle.std.proofs.Common.{◌⊎◌, inl, inr, sym, ap, ap₂, subst, ◌∙◌, arith}
-use Rattle.std.proofs.lemmas.Option.{same_Some}
 use Rattle.iox_lanes.specs.declared.incoming.Visits.{Visits}
 use Rattle.iox_lanes.specs.declared.incoming.Visits.TheVariants.{Got, AtLimit, Nothing}
 use Rattle.iox_lanes.specs.declared.wanted.Wanted.{Wanted}
 use Rattle.iox_model.specs.declared.kind.Role.{Role}
 use Rattle.iox_model.specs.Commands.{Call, Reply}
 use Rattle.iox_model.specs.WholeCalls.{IsWholeCall}
-use Rattle.iox_hub_ports.specs.HubStates.Tables.{HubTables, PoolState, SlotState, labels_of, slot_at}
+use Rattle.iox_hub_ports.specs.HubStates.Tables.{HubTables, PoolState, labels_of, slot_at}
 use Rattle.iox_hub_ports.specs.HubStates.States.{Given, state_shown}
 use Rattle.iox_hub_ports.specs.HubStates.Ways.{with_port}
 use Rattle.iox_hub_ports.specs.HubStates.Ends.{DifferInHolders, with_call}
@@ -18,9 +16,9 @@ use Rattle.iox_hub_ports.specs.HubStates.Receives.{got_handle, got_reply, visits
 use Rattle.iox_hub_ports.specs.HubBooks.Hubs.{AreInOrder}
 use Rattle.iox_hub_ports.specs.HubKeeping.Connected.{KeepsNone}
 use Rattle.iox_hub_ports.specs.HubBooks.Rooms.{CanCountHolders, HasRoomForAll}
-use Rattle.iox_hub_ports.specs.HubBooks.Keeps.{HasMoreHolders, bare_pool, bare_pools, bare_slot, got_once}
+use Rattle.iox_hub_ports.specs.HubBooks.Keeps.{HasMoreHolders, bare_pools, got_once}
 use Rattle.iox_slots.specs.Pools.{with_slot}
-use Rattle.iox_slots.specs.Slots.{held, with_slot_of}
+use Rattle.iox_slots.specs.Slots.{held}
 use Rattle.iox_slots.proofs.CallerLemmas.{hold_differs_in_holders, holders_held, taken_is_there}
 use Rattle.iox_control.proofs.RoomLemmas.{room_as, seats_of, visit_seats}
 use Rattle.iox_control.proofs.VisitCounts.{got_one}

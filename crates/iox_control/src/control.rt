@@ -131,6 +131,7 @@ impl Control {
     }
 
     /// Adds a handle, whose number is the next one.
+    #[inline(always)]
     pub fn add_handle(&mut self, entry: Entry)
         requires room { 0 < self.old.room }
         requires number { entry.number ≡ self.old.tables.next_number }
@@ -185,6 +186,7 @@ impl Control {
 
     /// Hands the message in that slot to a port of that role: it has a handle, and the call is
     /// counted.
+    #[inline(always)]
     pub fn got(&mut self, node: u64, role: Role, port: u64, pool: usize, slot: u64) -> u64
         requires room { 0 < self.old.room }
         requires number { self.old.tables.next_number + 1 < 2 ^ 64 }

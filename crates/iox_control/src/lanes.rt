@@ -1,6 +1,6 @@
 //! Single changes of lanes, of request states, and of what is kept of a port.
-ghost use Rattle.std.specs.Prelude.{◌≡◌, ◌<◌, ◌-◌, ◌^◌, ◌∷◌, [], None, false, map, slice_get};
-ghost use Rattle.std.specs.Option.{option_map_or};
+ghost use Rattle.std.specs.Prelude.{◌≡◌, ◌<◌, ◌-◌, ◌^◌, ◌∷◌, [], IfSome, None, Some, false, is_some, map, slice_get};
+ghost use Rattle.std.specs.Option.{option_map, option_map_or};
 ghost use Rattle.iox_model.specs.declared.kind.Role.TheVariants.{Server};
 ghost use Rattle.iox_model.specs.declared.way.RequestState.TheVariants.{Named};
 ghost use Rattle.iox_model.specs.Messages.{closed_for, response_way};
@@ -14,6 +14,7 @@ ghost use Rattle.iox_hub_ports.specs.Ports.{lane_to_get_at, lane_to_get_on, on_w
 ghost use Rattle.iox_control.specs.Controls.{with_ports, with_tables};
 
 use crate::control::Control;
+use iox_lanes::pipe::Next;
 use iox_model::way::Way;
 
 impl Control {
@@ -61,24 +62,23 @@ impl Control {
 
     // ---- for each port in its place
 
-    /// The lowest lane from the sender on which the port in that place left something to get back,
-    /// if there is one.
-    pub fn lane_to_get_at(&mut self, at: usize, sender: u64) -> Option<usize>
-        ensures lowest { result ≡ lane_to_get_at self.old.tables.ports at sender }
-        ensures unchanged { self.new ≡ self.old }
+    /// Gets back the oldest message of those that the port in that place gave back on the lowest
+    /// lane from the sender on which something is left to get back, if there is one. Its slot stays
+    /// as it is.
+    #[inline(always)]
+    pub fn get_next_at(&mut self, at: usize, sender: u64) -> Option<Next>
+        ensures lowest { option_map (λ n. n.lane) result
+            ≡ lane_to_get_at self.old.tables.ports at sender }
+        ensures oldest { IfSome result (λ n.
+            on_way_at (λ l. slice_get l.returned 0) None self.old.tables.ports at sender n.lane
+            ≡ Some n.place) }
+        ensures got_back { IfSome result (λ n. self.new ≡ with_ports self.old
+            (with_lane_at without_returned self.old.tables.ports at sender n.lane)) }
+        ensures more { IfSome result (λ n.
+            n.more ≡ is_some (lane_to_get_at self.new.tables.ports at sender)) }
+        ensures unchanged { result ≡ None → self.new ≡ self.old }
     {
-        self.ports.lane_to_get_at(at, sender)
-    }
-
-    /// Gets back the oldest message of those that the port in that place gave back on the lane from
-    /// the sender, if there is one. Its slot stays as it is.
-    pub fn get_back_at(&mut self, at: usize, sender: u64, lane: u64) -> Option<u64>
-        ensures oldest { result
-            ≡ on_way_at (λ l. slice_get l.returned 0) None self.old.tables.ports at sender lane }
-        ensures got_back { self.new ≡ with_ports self.old
-            (with_lane_at without_returned self.old.tables.ports at sender lane) }
-    {
-        self.ports.get_back_at(at, sender, lane)
+        self.ports.get_next_at(at, sender)
     }
 
     /// Puts a message last in line for the port in that place, on the lane from the sender, and

@@ -84,7 +84,7 @@ impl Control {
 
     /// A handle of that node and number is as it is now; it is looked for at the hint first. Where
     /// there is none, nothing changes.
-    #[inline]
+    #[inline(always)]
     pub fn change_handle(&mut self, entry: Entry, hint: usize)
         ensures { self.new ≡ with_tables self.old
             (with_changed self.old.tables (handle_state entry)) }
@@ -94,7 +94,7 @@ impl Control {
 
     /// Removes the node's handle of that number, which is looked for at the hint first. It leaves
     /// room for another.
-    #[inline]
+    #[inline(always)]
     pub fn remove_handle(&mut self, node: u64, number: u64, hint: usize) -> Option<Entry>
         ensures found { option_map handle_state result
             ≡ handle_in self.old.tables.handles node number }

@@ -3,9 +3,12 @@ use Rattle.std.specs.Prelude.{◌≡◌, ℕ, ◌+◌, ◌<◌, ◌≤◌, ◌-�
 use Rattle.std.specs.List.{list_any, range_with_len}
 use Rattle.std.proofs.Common.{ap, ◌∙◌, sym, arith, true≢false}
 use Rattle.std.proofs.lemmas.Bool.{lt-ltb}
-use Rattle.iox_model.specs.declared.kind.Kind.TheVariants.{PendingResponse}
+use Rattle.iox_model.specs.declared.kind.Kind.{Kind}
+use Rattle.iox_model.specs.declared.kind.Kind.TheVariants.{PendingResponse, RequestMut, RequestMutUninit, ResponseMut, ResponseMutUninit}
+use Rattle.iox_model.specs.declared.kind.Kind.TheVariants as kinds
 use Rattle.iox_model.specs.Handles.{is_request_loan, is_response_loan, same_kind}
 use Rattle.iox_handles.specs.declared.entry.Entry.{Entry}
+use Rattle.iox_handles.specs.Tables.{group_of, is_like}
 use Rattle.iox_tables.specs.HubStates.Tables.{HandleState, HubTables, PoolState, labels_of}
 use Rattle.iox_tables.specs.HubLoans.Counts.{responds_to, responses_on_loan, responses_to}
 use Rattle.iox_control.specs.Entries.{handle_state}
@@ -43,6 +46,55 @@ fewer_pass f g (x ∷ xs) all = step (f x) refl (g x) refl (fewer_pass f g xs al
     step true e false h rest = absurd (true≢false (sym (all x e) ∙ h))
     step false e true h rest = omega (arith, rest)
     step false e false h rest = rest
+
+-- ---- where a table counts none of a kind
+
+no_pass : (p : Bool) → (p && false) ≡ true → ⊥
+no_pass true e = true≢false (sym e)
+no_pass false e = true≢false (sym e)
+
+counted_as_request : (k : Kind) (p : Bool) → (p && is_request_loan k) ≡ true → (p && (group_of k == group_of RequestMut)) ≡ true
+counted_as_request RequestMut p e = e
+counted_as_request RequestMutUninit p e = e
+counted_as_request ResponseMut p e = absurd (no_pass p e)
+counted_as_request ResponseMutUninit p e = absurd (no_pass p e)
+counted_as_request PendingResponse p e = absurd (no_pass p e)
+counted_as_request kinds.Client p e = absurd (no_pass p e)
+counted_as_request kinds.Server p e = absurd (no_pass p e)
+counted_as_request kinds.ActiveRequest p e = absurd (no_pass p e)
+counted_as_request kinds.Response p e = absurd (no_pass p e)
+
+counted_as_response : (k : Kind) (p : Bool) → (p && is_response_loan k) ≡ true → (p && (group_of k == group_of ResponseMut)) ≡ true
+counted_as_response RequestMut p e = absurd (no_pass p e)
+counted_as_response RequestMutUninit p e = absurd (no_pass p e)
+counted_as_response ResponseMut p e = e
+counted_as_response ResponseMutUninit p e = e
+counted_as_response PendingResponse p e = absurd (no_pass p e)
+counted_as_response kinds.Client p e = absurd (no_pass p e)
+counted_as_response kinds.Server p e = absurd (no_pass p e)
+counted_as_response kinds.ActiveRequest p e = absurd (no_pass p e)
+counted_as_response kinds.Response p e = absurd (no_pass p e)
+
+none_of : (test : HandleState → Bool) (like : Entry → Bool) (hs : List Entry) (most : ℕ) → ((e : Entry) → test (handle_state e) ≡ true → like e ≡ true)
+    → length (filter like hs) ≤ most → most ≡ 0 → 0 ≡ length (filter test (map handle_state hs))
+none_of test like hs most all low none =
+    let fewer = fewer_pass (λ e. test (handle_state e)) like hs all in let same = counted_same test hs in omega (arith, fewer, low, none, same)
+
+-- no request is on loan
+pub no_requests : (hs : List Entry) (shown : List HandleState) (port most : ℕ) → map handle_state hs ≡ shown → length (filter (is_like port RequestMut) hs) ≤ most
+    → most ≡ 0 → 0 ≡ length (filter (λ h. (h.port == port) && is_request_loan h.kind) shown)
+no_requests hs shown port most is low none =
+    none_of (λ (h : HandleState). (h.port == port) && is_request_loan h.kind) (is_like port RequestMut) hs most
+    (λ e. counted_as_request e.kind (e.port == port)) low none
+    ∙ ap (λ gs. length (filter (λ (h : HandleState). (h.port == port) && is_request_loan h.kind) gs)) is
+
+-- no response is on loan
+pub no_responses : (hs : List Entry) (shown : List HandleState) (port most : ℕ) → map handle_state hs ≡ shown → length (filter (is_like port ResponseMut) hs) ≤ most
+    → most ≡ 0 → 0 ≡ length (filter (λ h. (h.port == port) && is_response_loan h.kind) shown)
+no_responses hs shown port most is low none =
+    none_of (λ (h : HandleState). (h.port == port) && is_response_loan h.kind) (is_like port ResponseMut) hs most
+    (λ e. counted_as_response e.kind (e.port == port)) low none
+    ∙ ap (λ gs. length (filter (λ (h : HandleState). (h.port == port) && is_response_loan h.kind) gs)) is
 
 -- with fewer loans in all than may be to one request there are fewer to that
 pub few_to_one : (t : HubTables) (n client request l m : ℕ) → m ≡ responses_on_loan t n → m < l → false ≡ nat_le l (responses_to t n client request)

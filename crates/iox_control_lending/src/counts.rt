@@ -113,6 +113,9 @@ impl<'a> EntryTest for Responding<'a> {
 pub fn requests_on_loan(control: &Control, client: u64) -> usize
     ensures { result ≡ requests_on_loan control.now.tables client }
 {
+    if control.handles().at_most(client, Kind::RequestMut) == 0 {
+        return 0;
+    }
     control.handles().count_if(&RequestLoan { port: client })
 }
 
@@ -120,6 +123,9 @@ pub fn requests_on_loan(control: &Control, client: u64) -> usize
 pub fn responses_on_loan(control: &Control, server: u64) -> usize
     ensures { result ≡ responses_on_loan control.now.tables server }
 {
+    if control.handles().at_most(server, Kind::ResponseMut) == 0 {
+        return 0;
+    }
     control.handles().count_if(&ResponseLoan { port: server })
 }
 

@@ -43,6 +43,7 @@ fn take_out(control: &mut Control, port: u64) -> Option<usize>
 }
 
 /// The pool in that place goes, if its port is gone and nobody has a message of it.
+#[inline(always)]
 pub fn drop_pool(control: &mut Control, place: usize)
     requires order { IsControl control.old }
     ensures left { control.new ≡ with_pools control.old
@@ -87,6 +88,7 @@ fn take_port(control: &mut Control, port: u64) -> Option<usize>
 
 /// The port goes if nothing of it is left: neither its own value nor a handle. Its pool goes with
 /// it, unless somebody still has a message of that.
+#[inline(always)]
 pub fn disconnect_if_unused(control: &mut Control, port: u64)
     requires order { IsControl control.old }
     ensures left { control.new.tables

@@ -7,15 +7,13 @@ use Rattle.iox_model.specs.declared.way.Way.{Way}
 use Rattle.iox_lanes.specs.Lanes.{LaneState, without_returned}
 use Rattle.iox_tables.specs.HubStates.Tables.{PortState, numbers_of, pipes_to}
 use Rattle.iox_tables.specs.HubStates.Ways.{with_lane_on}
-use Rattle.iox_tables.specs.HubStates.Changes.{emptied_lane, with_lanes}
+use Rattle.iox_tables.specs.HubStates.Changes.{with_lanes}
 use Rattle.iox_tables.proofs.HubBooks.Frames.{some_map}
-use Rattle.iox_hub_ports.proofs.Keeping.{lane_keeps, lanes_keep}
 use Rattle.iox_hub_ports.specs.declared.info.PortInfo.{PortInfo}
 use Rattle.iox_hub_ports.specs.Ports.{info_at, info_of, lane_to_get_at, lane_to_get_on, on_way, on_way_at, way_from, with_lane_at}
 use Rattle.iox_slots.specs.Pools.{with_slot}
 use Rattle.iox_slots.specs.Slots.{let_go}
 use Rattle.iox_control.specs.Controls.{ControlState, with_pools, with_ports, with_tables}
-use Rattle.iox_control_retrieving.specs.Retrieving.{GetsBack}
 
 -- the port of that number is in that place
 abbrev pub IsInPlace : List PortState → ℕ → ℕ → Type 0
@@ -45,27 +43,13 @@ lowest_there ports at n s there =
 module _ (now mid new : ControlState) (at : ℕ) (w : Way) (there : IsInPlace now.tables.ports at w.receiver)
     (got : mid ≡ with_ports now (with_lane_at without_returned now.tables.ports at w.sender w.lane)) where
   -- what is left where a message was got back
-  pub taken_there : mid ≡ with_tables now (with_lanes without_returned now.tables (w ∷ []))
+  taken_there : mid ≡ with_tables now (with_lanes without_returned now.tables (w ∷ []))
   taken_there = got ∙ ap (λ ps. with_ports now ps) (changed_there now.tables.ports at w there without_returned)
 
   -- and once it is let go
   pub let_go_there : (pool slot : ℕ) → new ≡ with_pools mid (with_slot let_go mid.tables.pools pool slot)
       → new ≡ with_pools (with_tables now (with_lanes without_returned now.tables (w ∷ []))) (with_slot let_go now.tables.pools pool slot)
   let_go_there pool slot left = left ∙ ap (λ (d : ControlState). with_pools d (with_slot let_go d.tables.pools pool slot)) taken_there
-
-  -- the port is in its place still
-  pub stays_there : (pool slot : ℕ) → new ≡ with_pools mid (with_slot let_go mid.tables.pools pool slot) → IsInPlace new.tables.ports at w.receiver
-  stays_there pool slot left =
-      ap (λ (d : ControlState). slice_get (numbers_of d.tables.ports) at) (let_go_there pool slot left)
-      ∙ ap (λ ns. slice_get ns at) (lane_keeps without_returned now.tables.ports w)
-      ∙ there
-
--- what is got back leaves ports in their places
-pub place_stays : (c new : ControlState) (ws : List Way) (at n : ℕ) → GetsBack c ws new → IsInPlace c.tables.ports at n → IsInPlace new.tables.ports at n
-place_stays c new ws at n got there =
-    ap (λ (d : ControlState). slice_get (numbers_of d.tables.ports) at) got.left
-    ∙ ap (λ ns. slice_get ns at) (lanes_keep emptied_lane c.tables.ports ws)
-    ∙ there
 
 -- a port is where that is said of it
 pub place_said : (ports : List PortState) (i : ℕ) (to : PortInfo) → Some to ≡ info_at ports i → IsInPlace ports i to.number

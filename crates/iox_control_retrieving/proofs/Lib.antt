@@ -1,7 +1,9 @@
 pub mod KeptInOrder
-pub mod OneWay
+pub mod Emptied
+pub mod OneByOne
 pub mod AtPlaces
 pub mod Together
 pub mod Infos
 pub mod Lanes
+pub mod FromPort
 pub mod Places

@@ -1,8 +1,7 @@
 //! What was given back on one way.
-ghost use Rattle.std.specs.Prelude.{◌≡◌, ◌∷◌, [], Some, slice_get};
+ghost use Rattle.std.specs.Prelude.{◌≡◌, ◌∷◌, [], Some};
 ghost use Rattle.iox_lanes.specs.Lanes.{LaneState};
 ghost use Rattle.iox_tables.specs.HubStates.Changes.{emptied_lane, with_lanes};
-ghost use Rattle.iox_tables.specs.HubStates.Tables.{numbers_of};
 ghost use Rattle.iox_tables.specs.HubStates.Ways.{lane_on};
 ghost use Rattle.iox_tables.specs.HubLending.Emptying.{HasFewerHolders, returned_on};
 ghost use Rattle.iox_control.specs.Controls.{IsControl, with_tables};
@@ -22,23 +21,6 @@ pub fn retrieve(control: &mut Control, way: Way, pool: usize)
     ensures order { IsControl control.new }
 {
     while let Some(slot) = control.get_back(way) {
-        control.let_go(pool, slot);
-    }
-}
-
-/// The same, where the way leads to the port in that place.
-pub(crate) fn retrieve_at(control: &mut Control, at: usize, way: Way, pool: usize)
-    requires order { IsControl control.old }
-    requires place { slice_get (numbers_of control.old.tables.ports) at ≡ Some way.receiver }
-    requires pool { (l : LaneState) → lane_on control.old.tables.ports way ≡ Some l
-        → l.pool ≡ pool }
-    ensures left { control.new ≡ with_tables control.old (record (with_lanes emptied_lane
-        control.old.tables (way ∷ [])) { pools = control.new.tables.pools }) }
-    ensures fewer { HasFewerHolders control.old.tables.pools control.new.tables.pools
-        (returned_on control.old.tables (way ∷ [])) }
-    ensures order { IsControl control.new }
-{
-    while let Some(slot) = control.get_back_at(at, way.sender, way.lane) {
         control.let_go(pool, slot);
     }
 }

@@ -1,41 +1,14 @@
 //! What was given back to one port.
 ghost use Rattle.std.specs.Prelude.{◌≡◌, Some, slice_get};
-ghost use Rattle.iox_model.specs.declared.kind.Role.TheVariants.{Client, Server};
 ghost use Rattle.iox_tables.specs.HubStates.Tables.{PortState, numbers_of, port_in};
 ghost use Rattle.iox_hub_ports.specs.Ports.{info_in};
-ghost use Rattle.iox_tables.specs.HubLoans.Lenders.{ways_to_client};
 ghost use Rattle.iox_tables.specs.HubLending.Emptying.{AreGotBack, with_back};
 ghost use Rattle.iox_control.specs.Controls.{IsControl, with_tables};
 ghost use Rattle.iox_control_retrieving.specs.Retrieving.{GetsBack, ways_to};
 
-use crate::one_way::retrieve_at;
 use iox_control::Control;
 use iox_hub_ports::info::PortInfo;
-use iox_model::kind::Role;
-use iox_model::way::Way;
-
-/// Gets back all that the client in that place gave back to the server, lane after lane on which
-/// there is something.
-fn retrieve_lanes(control: &mut Control, server: &PortInfo, at: usize, client: &PortInfo)
-    requires order { IsControl control.old }
-    requires from { info_in control.old.tables.ports server.now.number ≡ Some server.now }
-    requires to { info_in control.old.tables.ports client.now.number ≡ Some client.now }
-    requires place { slice_get (numbers_of control.old.tables.ports) at
-        ≡ Some client.now.number }
-    requires server { server.now.role ≡ Server }
-    requires client { client.now.role ≡ Client }
-    ensures { GetsBack control.old
-        (ways_to_client control.old.tables server.now.number client.now.number) control.new }
-{
-    while let Some(lane) = control.lane_to_get_at(at, server.number) {
-        let way = Way {
-            sender: server.number,
-            receiver: client.number,
-            lane: lane as u64,
-        };
-        retrieve_at(control, at, way, server.pool);
-    }
-}
+use iox_hub_ports::walks::is_same_role;
 
 /// Gets back all that the one port gave back to the other, which is in that place.
 fn retrieve_from(control: &mut Control, sender: &PortInfo, at: usize, to: &PortInfo)
@@ -46,17 +19,14 @@ fn retrieve_from(control: &mut Control, sender: &PortInfo, at: usize, to: &PortI
     ensures { GetsBack control.old
         (ways_to sender.now.role control.old.tables sender.now.number to.now) control.new }
 {
-    match (sender.role, to.role) {
-        (Role::Client, Role::Server) => {
-            let way = Way {
-                sender: sender.number,
-                receiver: to.number,
-                lane: 0,
-            };
-            retrieve_at(control, at, way, sender.pool);
+    if is_same_role(sender.role, to.role) {
+        return;
+    }
+    while let Some(next) = control.get_next_at(at, sender.number) {
+        control.let_go(sender.pool, next.place);
+        if !next.more {
+            return;
         }
-        (Role::Server, Role::Client) => retrieve_lanes(control, sender, at, to),
-        _ => {}
     }
 }
 

@@ -9,3 +9,4 @@ pub mod LeastLemmas
 pub mod AnyLemmas
 pub mod NodeListLemmas
 pub mod WholeLemmas
+pub mod TallyLemmas

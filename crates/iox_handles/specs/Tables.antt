@@ -3,7 +3,8 @@ use Rattle.std.specs.Prelude.{◌≡◌, ℕ, ◌+◌, ◌-◌, ◌≤◌, ◌==
 use Rattle.std.specs.List.{list_any}
 use Rattle.std.specs.Option.{option_and_then}
 use Rattle.iox_model.specs.declared.kind.Kind.{Kind}
-use Rattle.iox_model.specs.Handles.{same_kind}
+use Rattle.iox_model.specs.declared.kind.Kind.TheVariants.{PendingResponse}
+use Rattle.iox_model.specs.Handles.{is_request_loan, is_response_loan, same_kind}
 use Rattle.iox_model.specs.Maps.{AreDistinct}
 use Rattle.iox_handles.specs.declared.entry.Entry.{Entry}
 
@@ -44,6 +45,23 @@ is_of port kind h = (h.port == port) && same_kind h.kind kind
 -- how many handles of that kind a port has
 abbrev pub count_of : Contents → ℕ → Kind → ℕ
 count_of table port kind = length (filter (is_of port kind) table.handles)
+
+-- the groups of kinds that are counted together: loaned requests, loaned responses, pending
+-- responses, and all others
+abbrev pub group_of : Kind → ℕ
+group_of kind =
+    if is_request_loan kind then 0
+    else if is_response_loan kind then 1
+    else if same_kind kind PendingResponse then 2
+    else 3
+
+-- whether it is a handle of that port and of a kind that is counted with that one
+abbrev pub is_like : ℕ → Kind → Entry → Bool
+is_like port kind h = (h.port == port) && (group_of h.kind == group_of kind)
+
+-- how many such handles a port has
+abbrev pub count_like : Contents → ℕ → Kind → ℕ
+count_like table port kind = length (filter (is_like port kind) table.handles)
 
 -- whether it is a handle of that port
 abbrev pub has_port : ℕ → Entry → Bool

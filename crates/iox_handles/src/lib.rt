@@ -9,6 +9,7 @@ mod node_list;
 mod numbered;
 mod places;
 mod table;
+mod tally;
 
 pub use entry::Entry;
 pub use entry_test::EntryTest;

@@ -2,7 +2,8 @@
 ghost use Rattle.std.specs.Option.{option_map};
 ghost use Rattle.std.specs.Prelude.{◌≡◌, ◌<◌, ◌≤◌, ◌+◌, ◌-◌, ◌%◌, ◌^◌, ◌==◌, if◌then◌else◌, IfOk, IsSome, None, OnErr, OnOk, Some, filter, length, map};
 ghost use Rattle.iox_handles.specs.Least.{least};
-ghost use Rattle.iox_handles.specs.Tables.{IsSound, added, changed, count_of, handle_at, handle_of, handles_of, has_any, new_contents, removed};
+ghost use Rattle.iox_handles.specs.Tallies.{is_counted_at, tally_place};
+ghost use Rattle.iox_handles.specs.Tables.{IsSound, added, changed, count_like, count_of, handle_at, handle_of, handles_of, has_any, new_contents, removed};
 
 use crate::entry::Entry;
 use crate::entry_test::EntryTest;
@@ -10,6 +11,7 @@ use crate::least::least_in;
 use crate::node_list::NodeList;
 use crate::numbered::Numbered;
 use crate::places::{count_if_in, count_in, place_of, place_of_port};
+use crate::tally::Tally;
 use iox_model::kind::Kind;
 use std::alloc::{AllocError, Global};
 use std::marker::Model;
@@ -38,6 +40,8 @@ pub struct Table {
     found: [usize; REMAINDERS],
     // The handles of the node whose handles went last.
     listed: NodeList,
+    // How many handles of some kinds ports have.
+    tally: Tally,
 }
 
 impl Model for Table {
@@ -45,6 +49,7 @@ impl Model for Table {
     ghost use Rattle.iox_handles.specs.Tables.{Contents};
     ghost use Rattle.iox_handles.specs.NodeLists.{IsWhole};
     ghost use Rattle.iox_handles.specs.Places.{handles_in};
+    ghost use Rattle.iox_handles.specs.Tallies.{IsTallied};
 
     ghost Value = { Contents };
 
@@ -55,7 +60,8 @@ impl Model for Table {
     } };
 
     ghost invariant = { λ t. IsWhole t.places.items t.free.items t.room t.next
-        (vec_capacity t.places) (vec_capacity t.free) t.listed };
+        (vec_capacity t.places) (vec_capacity t.free) t.listed
+        × IsTallied t.tally.counts t.places.items };
 }
 
 /// The remainder of a handle's number.
@@ -104,6 +110,7 @@ impl Table {
             likely: [NOWHERE; REMAINDERS],
             found: [0; REMAINDERS],
             listed,
+            tally: Tally::new(),
         })
     }
 
@@ -133,6 +140,7 @@ impl Table {
     }
 
     /// Adds a handle that is newer than all others, and tells its place.
+    #[inline(always)]
     pub fn add(&mut self, entry: Entry) -> usize
         requires room { 0 < self.old.room }
         requires newer { self.old.next ≤ entry.number }
@@ -142,6 +150,7 @@ impl Table {
     {
         self.room -= 1;
         self.next = entry.number + 1;
+        self.tally.count(entry.port, entry.kind);
         let at = remainder(entry.number);
         match self.free.pop() {
             Some(place) => {
@@ -185,6 +194,7 @@ impl Table {
         let entry = self.places[place];
         let kept_at = remainder(number);
         self.likely[kept_at] = forgotten(self.likely[kept_at], place);
+        self.tally.discount_any(entry);
         self.places[place] = None;
         self.free.push_reserved(place);
         self.room += 1;
@@ -200,6 +210,8 @@ impl Table {
     {
         let place = place_of(&self.places, entry.number, self.guess(entry.number), hint)?;
         let old = self.places[place];
+        self.tally.discount_any(old);
+        self.tally.count(entry.port, entry.kind);
         self.places[place] = Some(entry);
         self.listed.forget();
         old
@@ -207,7 +219,7 @@ impl Table {
 
     /// Removes the node's handle of that number, which is looked for in its likely place and at the
     /// hint first.
-    #[inline]
+    #[inline(always)]
     pub fn remove_of(&mut self, node: u64, number: u64, hint: usize) -> Option<Entry>
         ensures found { result ≡ handle_of self.old node number }
         ensures removed { IsSome result → self.new ≡ removed self.old number }
@@ -222,7 +234,8 @@ impl Table {
         }
         let kept_at = remainder(number);
         self.likely[kept_at] = forgotten(self.likely[kept_at], at);
-        self.places[at] = None;
+        self.tally.discount(entry.port, entry.kind);
+        self.places[at].take();
         self.free.push_reserved(at);
         self.room = self.room + 1;
         Some(entry)
@@ -230,7 +243,7 @@ impl Table {
 
     /// Changes the handle of that node and number, which is looked for in its likely place and at
     /// the hint first, and tells what it was.
-    #[inline]
+    #[inline(always)]
     pub fn change_of(&mut self, entry: Entry, hint: usize) -> Option<Entry>
         ensures found { result ≡ handle_of self.old entry.node entry.number }
         ensures changed { IsSome result → self.new ≡ changed self.old entry }
@@ -242,14 +255,30 @@ impl Table {
         if old.node != entry.node {
             return None;
         }
+        self.tally.discount(old.port, old.kind);
+        self.tally.count(entry.port, entry.kind);
         self.places[at] = Some(entry);
         Some(old)
     }
 
-    /// How many handles of that kind a port has. It looks at all places.
+    /// The port has at most so many handles of that kind, and of those that are counted with it:
+    /// there are so many of ports whose numbers have its remainder.
+    #[inline]
+    pub fn at_most(&self, port: u64, kind: Kind) -> usize
+        ensures most { count_like self.now port kind ≤ result }
+        ensures counted { result
+            ≡ length (filter (is_counted_at (tally_place port kind)) self.now.handles) }
+    {
+        self.tally.at_most(port, kind)
+    }
+
+    /// How many handles of that kind a port has. Where there may be any, it looks at all places.
     pub fn count(&self, port: u64, kind: Kind) -> usize
         ensures { result ≡ count_of self.now port kind }
     {
+        if self.tally.at_most(port, kind) == 0 {
+            return 0;
+        }
         count_in(&self.places, port, kind)
     }
 

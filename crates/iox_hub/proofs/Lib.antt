@@ -1,5 +1,6 @@
 pub mod GoesOn
 pub mod Named
+pub mod HandleValues
 pub mod ReceivedValues
 pub mod Starting
 pub mod Shaping
@@ -28,6 +29,7 @@ pub mod LendingCalls
 pub mod LendingPut
 pub mod LendingWriteCalls
 pub mod KeepingPorts
+pub mod LayoutLemmas
 pub mod KeepingHandles
 pub mod Keeping
 pub mod KeepingCalls

@@ -1,5 +1,5 @@
 //! Whether a message can be addressed.
-ghost use Rattle.std.specs.Prelude.{◌≡◌, ◌+◌, ◌-◌, ◌<◌, ◌^◌, nat_lt};
+ghost use Rattle.std.specs.Prelude.{◌≡◌, ◌+◌, ◌-◌, ◌<◌, ◌^◌, IsTrue, nat_lt};
 ghost use Rattle.iox_types.specs.Parts.{size_of_parts};
 ghost use Rattle.iox_hub.specs.Shapes.{part_of};
 
@@ -17,18 +17,30 @@ fn bytes_with(header: Part, user: Part, element: Part, payload: u128) -> u128
     header.size as u128 + user.size as u128 + before_user + payload + before_payload
 }
 
+/// Whether the part is so small that a message of such parts can be addressed.
+#[inline]
+fn is_small(part: Part) -> bool
+    ensures { IsTrue result → (part.size < 2 ^ 60) × (part.alignment < 2 ^ 60) }
+{
+    part.size < 1 << 60 && part.alignment < 1 << 60
+}
+
 /// Whether a message of so many elements has fewer than 2^63 bytes, wherever its parts have to
 /// stand.
+#[tactic(auto, using(crate::proofs::LayoutLemmas::small_fits))]
 pub(crate) fn has_layout(header: Part, user: Part, element: Part, elements: u64) -> bool
     ensures { result
         ≡ nat_lt (size_of_parts (part_of header) (part_of user) (part_of element) elements)
         (2 ^ 63) }
 {
+    let payload = elements as u128 * element.size as u128;
+    if payload < 1 << 60 && is_small(header) && is_small(user) && is_small(element) {
+        return true;
+    }
     let alignment = header.alignment as u128;
     if alignment == 0 {
         return true;
     }
-    let payload = elements as u128 * element.size as u128;
     if payload >= 1 << 63 {
         return false;
     }

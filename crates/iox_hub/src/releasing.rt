@@ -1,5 +1,6 @@
 //! The releases of handles and of ports' own values.
-ghost use Rattle.std.specs.Prelude.{◌≡◌, None, Some, slice_set};
+ghost use Rattle.std.specs.Prelude.{◌≡◌, ◌↔◌, IsTrue, None, Some, slice_set, true};
+ghost use Rattle.std.specs.Bool.{OnFalse};
 ghost use Rattle.iox_model.specs.declared.call.Call.TheVariants.{Release};
 ghost use Rattle.iox_model.specs.declared.reply.Reply.TheVariants.{Done};
 ghost use Rattle.iox_model.specs.Names.{is_port};
@@ -7,14 +8,17 @@ ghost use Rattle.iox_model.specs.WholeCalls.{IsWholeCall};
 ghost use Rattle.iox_tables.specs.HubStates.States.{Given};
 ghost use Rattle.iox_tables.specs.HubStates.Tables.{HandleState, PortState, port_in};
 ghost use Rattle.iox_tables.specs.HubStates.Wirings.{handle_in};
+ghost use Rattle.iox_control.specs.Entries.{handle_state};
 ghost use Rattle.iox_control_releasing.specs.Goings.{StaysTidy};
-ghost use Rattle.iox_hub.specs.Hubs.{state_of_hub, with_control};
+ghost use Rattle.iox_hub.specs.Hubs.{HasValue, state_of_hub, with_control};
 ghost use Rattle.iox_hub.specs.Keeping.{KeepsOthers};
 ghost use Rattle.iox_hub.specs.Reads.{HasOf};
 ghost use Rattle.iox_hub.specs.Sending.{HasNothing, is_handle, with_words_left};
 
 use crate::hub::Hub;
 use crate::words::PoolWords;
+use iox_handles::Entry;
+use iox_model::kind::Kind;
 use iox_store::Payload;
 use iox_words::Words;
 
@@ -44,6 +48,29 @@ impl<Q: Payload, QH: Words, P: Payload, PH: Words> Hub<Q, QH, P, PH> {
         }
     }
 
+    /// Releases the node's handle of that number, which is this one, and is looked for at the hint
+    /// first. Its port goes if nothing of it is left, and pools go of which nobody has a message,
+    /// with their words.
+    fn release_entry(&mut self, node: u64, number: u64, entry: Entry, hint: usize)
+        requires there { Some (handle_state entry)
+            ≡ handle_in self.old.control.tables.handles node number }
+        ensures left { (p : PortState) → port_in self.old.control.tables.ports entry.port ≡ Some p
+            → self.new ≡ with_words_left
+            (with_words_left (with_control self.old self.new.control) entry.pool) p.pool }
+        ensures whole { (x : Given) → IsWholeCall (state_of_hub x self.old) node
+            (Release number) Done (state_of_hub x self.new) }
+        ensures gone { HasNothing self.new node number }
+        ensures keeps { KeepsOthers self.old node number self.new }
+        ensures tidy { StaysTidy self.old.control.tables self.new.control.tables }
+    {
+        let Some(port) = self.control.ports().find(entry.port) else {
+            unreachable!();
+        };
+        iox_control_releasing::release(&mut self.control, node, number, hint);
+        self.drop_words(entry.pool);
+        self.drop_words(port.pool);
+    }
+
     /// Releases the node's handle of that number, which is looked for at the hint first. Its port
     /// goes if nothing of it is left, and pools go of which nobody has a message, with their words.
     pub fn release(&mut self, node: u64, number: u64, hint: usize)
@@ -62,12 +89,36 @@ impl<Q: Payload, QH: Words, P: Payload, PH: Words> Hub<Q, QH, P, PH> {
         let Some(entry) = self.control.entry(node, number, hint) else {
             unreachable!();
         };
-        let Some(port) = self.control.ports().find(entry.port) else {
-            unreachable!();
+        self.release_entry(node, number, entry, hint);
+    }
+
+    /// The same where the node has a handle of that number and kind: it says whether it has one.
+    /// Where it has none, nothing changes.
+    pub fn release_if(&mut self, node: u64, number: u64, kind: Kind, hint: usize) -> bool
+        requires { is_handle kind ≡ true }
+        ensures told { IsTrue result ↔ HasValue self.old node number kind }
+        ensures unchanged { OnFalse result (self.new ≡ self.old) }
+        ensures left { IsTrue result → (h : HandleState)
+            → handle_in self.old.control.tables.handles node number ≡ Some h
+            → (p : PortState) → port_in self.old.control.tables.ports h.port ≡ Some p
+            → self.new ≡ with_words_left
+            (with_words_left (with_control self.old self.new.control) h.pool) p.pool }
+        ensures whole { IsTrue result → (x : Given)
+            → IsWholeCall (state_of_hub x self.old) node (Release number) Done
+            (state_of_hub x self.new) }
+        ensures gone { IsTrue result → HasNothing self.new node number }
+        ensures keeps { IsTrue result → KeepsOthers self.old node number self.new }
+        ensures tidy { IsTrue result
+            → StaysTidy self.old.control.tables self.new.control.tables }
+    {
+        let Some(entry) = self.control.entry(node, number, hint) else {
+            return false;
         };
-        iox_control_releasing::release(&mut self.control, node, number, hint);
-        self.drop_words(entry.pool);
-        self.drop_words(port.pool);
+        if entry.kind == kind {
+            self.release_entry(node, number, entry, hint);
+            return true;
+        }
+        false
     }
 
     /// Releases the own value of that port, which goes if nothing of it is left.

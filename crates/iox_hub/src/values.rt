@@ -1,7 +1,8 @@
 //! Which values nodes have.
-ghost use Rattle.std.specs.Prelude.{◌≡◌, ◌↔◌, IsTrue, Some};
+ghost use Rattle.std.specs.Prelude.{◌≡◌, ◌↔◌, IsTrue, Some, true};
 ghost use Rattle.iox_tables.specs.HubLoans.Questions.{kind_in, kind_of_role};
 ghost use Rattle.iox_hub.specs.Hubs.{HasValue};
+ghost use Rattle.iox_hub.specs.Sending.{is_handle};
 
 use crate::hub::Hub;
 use iox_model::kind::{Kind, Role};
@@ -43,8 +44,24 @@ impl<Q: Payload, QH: Words, P: Payload, PH: Words> Hub<Q, QH, P, PH> {
     pub fn has(&self, node: u64, number: u64, kind: Kind, hint: usize) -> bool
         ensures { IsTrue result ↔ HasValue self.now node number kind }
     {
-        match self.kind(node, number, hint) {
-            Some(other) => other == kind,
+        match kind {
+            Kind::Client | Kind::Server => match self.kind(node, number, hint) {
+                Some(other) => other == kind,
+                None => false,
+            },
+            _ => self.has_handle(node, number, kind, hint),
+        }
+    }
+
+    /// Whether the node has a handle of that number and kind. It is looked for at the hint first,
+    /// and no port is.
+    #[inline]
+    fn has_handle(&self, node: u64, number: u64, kind: Kind, hint: usize) -> bool
+        requires { is_handle kind ≡ true }
+        ensures { IsTrue result ↔ HasValue self.now node number kind }
+    {
+        match self.control.entry(node, number, hint) {
+            Some(entry) => entry.kind == kind,
             None => false,
         }
     }

@@ -57,7 +57,7 @@ IsPorts-kept xs ys room last cap cap' i same e =
       fits = omega (arith, i.fits, size, e);
     }
 
-set_number : (xs : List PortState) (n : ℕ) (p q : PortState) → p ≡ get_or xs n p → q.number ≡ p.number → numbers_of (slice_set xs n q) ≡ numbers_of xs
+pub set_number : (xs : List PortState) (n : ℕ) (p q : PortState) → p ≡ get_or xs n p → q.number ≡ p.number → numbers_of (slice_set xs n q) ≡ numbers_of xs
 set_number [] n p q e same = refl
 set_number (x ∷ xs) zero p q e same = ap (λ k. k ∷ numbers_of xs) (same ∙ ap (λ (r : PortState). r.number) e)
 set_number (x ∷ xs) (suc n) p q e same = ap (λ ks. x.number ∷ ks) (set_number xs n p q e same)

@@ -6,6 +6,7 @@ pub mod Walking
 pub mod Keeping
 pub mod Sound
 pub mod Finding
+pub mod Nexts
 -- what the crates above cite of those below
 pub use Rattle.iox_tables.proofs.HubStates
 pub use Rattle.iox_tables.proofs.HubBooks

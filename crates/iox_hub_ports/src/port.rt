@@ -1,5 +1,6 @@
 //! A connected port, and what comes to it.
-ghost use Rattle.std.specs.Prelude.{◌≡◌, ◌<◌, ◌+◌, ◌^◌, ◌-◌, None, List, ℕ, true};
+ghost use Rattle.std.specs.Option.{option_map};
+ghost use Rattle.std.specs.Prelude.{◌≡◌, ◌<◌, ◌+◌, ◌^◌, ◌-◌, IfSome, None, Some, List, is_some, slice_get, ℕ, true};
 ghost use Rattle.iox_tables.specs.HubStates.Asks.{waits_for};
 ghost use Rattle.iox_tables.specs.HubStates.Receives.{both_visits, visited_port};
 ghost use Rattle.iox_tables.specs.Visits.TheVariants.{AtLimit};
@@ -7,7 +8,7 @@ ghost use Rattle.iox_tables.specs.HubStates.Tables.{PortState, pipe_from, pipes_
 ghost use Rattle.iox_tables.specs.Incomings.{has_room_for};
 ghost use Rattle.iox_tables.specs.Pipes.{IsSoundAt};
 ghost use Rattle.iox_tables.specs.HubStates.Ways.{lanes_from};
-ghost use Rattle.iox_tables.specs.Lanes.{is_full};
+ghost use Rattle.iox_tables.specs.Lanes.{is_full, without_returned};
 ghost use Rattle.iox_tables.specs.Visited.{all_visits};
 ghost use Rattle.iox_hub_ports.specs.Ports.{info_of, lane_to_get_on, on_lane_from, port_of, state_from, with_connected};
 ghost use Rattle.iox_hub_ports.specs.Ports.{with_lane_from, with_loan_counted, with_state_from, without_pipe_from, without_value};
@@ -17,7 +18,7 @@ use crate::steps::{LaneStep, StateStep};
 use iox_model::kind::Role;
 use iox_model::way::RequestState;
 use iox_tables::incoming::{Incoming, Visits};
-use iox_tables::pipe::Pipe;
+use iox_tables::pipe::{Next, Pipe};
 use iox_tables::wanted::{Labels, Wanted};
 use std::marker::Model;
 
@@ -180,6 +181,31 @@ impl Port {
         }
     }
 
+    /// Gets back the oldest message of those that were given back on the lowest lane from this
+    /// sender on which something is left to get back, if there is one.
+    #[inline(always)]
+    pub fn get_next(&mut self, sender: u64) -> Option<Next>
+        ensures lowest { option_map (λ n. n.lane) result
+            ≡ lane_to_get_on (pipes_of self.old) sender }
+        ensures oldest { IfSome result (λ n.
+            on_lane_from (λ l. slice_get l.returned 0) None self.old sender n.lane
+            ≡ Some n.place) }
+        ensures got_back { IfSome result (λ n.
+            self.new ≡ with_lane_from without_returned self.old sender n.lane) }
+        ensures more { IfSome result (λ n.
+            n.more ≡ is_some (lane_to_get_on (pipes_of self.new) sender)) }
+        ensures number { self.new.number ≡ self.old.number }
+        ensures unchanged { result ≡ None → self.new ≡ self.old }
+    {
+        match self.expired.rank(sender) {
+            Some(rank) => self.expired.get_next(rank),
+            None => match self.incoming.rank(sender) {
+                Some(rank) => self.incoming.get_next(rank),
+                None => None,
+            },
+        }
+    }
+
     // ---- the receiver
 
     /// Whether something waits on the lane of that number, from some sender.
@@ -192,6 +218,20 @@ impl Port {
     /// Visits the lane of that number of each sender until one gives a message: first of the
     /// senders that are gone.
     pub fn visit<L: Labels>(&mut self, lane: usize, wanted: Wanted, labels: &L) -> Visits
+        ensures visits { result
+            ≡ all_visits wanted (L.label_of labels.now) lane (pipes_of self.old) }
+        ensures visited { self.new ≡ visited_port wanted (L.label_of labels.now) lane self.old }
+    {
+        if self.expired.len() == 0 {
+            return self.incoming.visit_all(lane, wanted, labels);
+        }
+        self.visit_both(lane, wanted, labels)
+    }
+
+    /// The same, where there may be senders that are gone. A call of its own, so that the visits to
+    /// connected senders alone are made in place.
+    #[inline(never)]
+    fn visit_both<L: Labels>(&mut self, lane: usize, wanted: Wanted, labels: &L) -> Visits
         ensures visits { result
             ≡ all_visits wanted (L.label_of labels.now) lane (pipes_of self.old) }
         ensures visited { self.new ≡ visited_port wanted (L.label_of labels.now) lane self.old }

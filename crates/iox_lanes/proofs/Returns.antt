@@ -1,10 +1,13 @@
 -- On which lanes something is left to get back.
-use Rattle.std.proofs.Common.{◌≡◌, ◌<◌, ◌≤◌, ◌+◌, ℕ, zero, suc, true, false, cond, List, [], ◌∷◌, length, get_or, slice_set, Some, None, refl, ap, ◌∙◌, arith}
+use Rattle.std.proofs.Common.{◌≡◌, ◌<◌, ◌≤◌, ◌+◌, ℕ, zero, suc, true, false, cond, List, [], ◌∷◌, length, get_or, slice_set, Some, None, Option, refl, ap, subst, ◌∙◌, arith}
 use Rattle.std.proofs.lemmas.Bool.{false≢true, ltb-true, ltb-false}
-use Rattle.std.specs.Prelude.{Bool, nat_lt}
+use Rattle.std.proofs.lemmas.Option.{none-some, same_Some}
+use Rattle.std.specs.Prelude.{Bool, nat_lt, not, slice_get}
 use Rattle.std.specs.List.{position_from}
+use Rattle.std.specs.Option.{option_map_or}
+use Rattle.iox_model.specs.Maps.{is_empty}
 use Rattle.iox_lanes.specs.Lanes.{LaneState, has_returned}
-use Rattle.iox_lanes.specs.Pipes.{NoneToGetBelow, NoneToGetFrom, has_returned_at}
+use Rattle.iox_lanes.specs.Pipes.{NoneToGetBelow, NoneToGetFrom, PipeState, has_returned_at, lane_to_get, on_lane}
 
 -- ---- a change of one lane
 
@@ -103,3 +106,31 @@ pub first_to_get : (lanes : List LaneState) (i : ℕ) → NoneToGetBelow i lanes
 first_to_get lanes i none h = first_from lanes 0 i none h ∙ ap (λ (k : ℕ). Some k) (omega arith)
 
 pub ruleset to_get = (none_to_get, first_to_get, none_below_any, none_from_any)
+
+-- ---- on it something is left
+
+returned_at : (lanes : List LaneState) (n i : ℕ) → position_from has_returned n lanes ≡ Some i
+    → (k : ℕ) × (i ≡ k + n) × (has_returned_at lanes k ≡ true)
+returned_at [] n i e = absurd (none-some i e)
+returned_at (x ∷ xs) n i e = step (has_returned x) refl e (returned_at xs (n + 1) i)
+  where
+    step : (b : Bool) → has_returned x ≡ b → cond b (Some n) (position_from has_returned (n + 1) xs) ≡ Some i
+        → (position_from has_returned (n + 1) xs ≡ Some i → (k : ℕ) × (i ≡ k + (n + 1)) × (has_returned_at xs k ≡ true))
+        → (k : ℕ) × (i ≡ k + n) × (has_returned_at (x ∷ xs) k ≡ true)
+    step true t h rest = let same = same_Some n i h in (0, omega (arith, same), t)
+    step false t h rest = let r = rest h in (suc r.0, let at = r.1 in omega (arith, at), r.2)
+
+oldest_there : (o : Option LaneState) → option_map_or has_returned o false ≡ true → None ≡ option_map_or (λ l. slice_get l.returned 0) o None → ⊥
+oldest_there None h e = false≢true h
+oldest_there (Some l) h e = step l.returned h e
+  where
+    step : (ks : List ℕ) → not (is_empty ks) ≡ true → None ≡ slice_get ks 0 → ⊥
+    step [] h e = false≢true h
+    step (k ∷ ks) h e = none-some k e
+
+-- on the lowest lane on which something is left there is an oldest message
+pub lowest_has : (p : PipeState) (lane : ℕ) → lane_to_get p ≡ Some lane → None ≡ on_lane (λ l. slice_get l.returned 0) None p lane → ⊥
+lowest_has p lane e none =
+    let r = returned_at p.lanes 0 lane e in
+    let is : r.0 ≡ lane = let at = r.1 in omega (arith, at) in
+    oldest_there (slice_get p.lanes lane) (subst (λ k. has_returned_at p.lanes k ≡ true) is r.2) none

@@ -1,5 +1,6 @@
 //! What comes to one port, from each port that is connected to it.
-ghost use Rattle.std.specs.Prelude.{◌≡◌, IfOk, IfSome, None, Some, ◌<◌, false, length, slice_get, true};
+ghost use Rattle.std.specs.Option.{option_map};
+ghost use Rattle.std.specs.Prelude.{◌≡◌, IfOk, IfSome, None, Some, ◌<◌, false, is_some, length, slice_get, true};
 ghost use Rattle.std.specs.Vec.{vec_capacity};
 ghost use Rattle.iox_model.specs.declared.way.RequestState.TheVariants.{Closed};
 ghost use Rattle.iox_lanes.specs.Lanes.{offered, has_room, is_full, is_taken, oldest, released, without_oldest, without_returned};
@@ -8,7 +9,7 @@ ghost use Rattle.iox_lanes.specs.Searches.{state_on};
 ghost use Rattle.iox_lanes.specs.Visited.{all_visited, all_visits};
 ghost use Rattle.iox_lanes.specs.Incomings.{IncomingState, all_visited_of, connected, disconnected, has_room_for, has_waiting_from_any, no_pipes, on_lane_of, on_pipe, rank_from, with_lane_of, with_pipe};
 
-use crate::pipe::Pipe;
+use crate::pipe::{Next, Pipe};
 use crate::search::LaneVisit;
 use crate::wanted::{Labels, Wanted};
 use iox_model::way::RequestState;
@@ -48,8 +49,8 @@ impl Model for Incoming {
     ghost invariant = { λ c. c.most ≤ vec_capacity c.pipes };
 }
 
-/// A call of its own, so that where there is no pipe nothing is called.
-#[inline(never)]
+/// Visits the lane of that number of each pipe, in their order, until one gives a message.
+#[inline(always)]
 fn visit_pipes<L: Labels>(all: &mut Vec<Pipe>, lane: usize, wanted: Wanted, labels: &L) -> Visits
     ensures visits { result ≡ all_visits wanted (L.label_of labels.now) lane all.old.items }
     ensures left { all.new.items ≡ all_visited wanted (L.label_of labels.now) lane all.old.items }
@@ -196,6 +197,25 @@ impl Incoming {
     {
         if rank < self.pipes.len() {
             return self.pipes[rank].lane_to_get();
+        }
+        None
+    }
+
+    /// Gets back the oldest message of those that were given back on the lowest lane of that pipe
+    /// on which something is left to get back, if there is one.
+    #[inline(always)]
+    pub fn get_next(&mut self, rank: usize) -> Option<Next>
+        ensures lowest { option_map (λ n. n.lane) result ≡ on_pipe lane_to_get None self.old rank }
+        ensures oldest { IfSome result (λ n.
+            on_lane_of (λ l. slice_get l.returned 0) None self.old rank n.lane ≡ Some n.place) }
+        ensures got_back { IfSome result (λ n.
+            self.new ≡ with_lane_of without_returned self.old rank n.lane) }
+        ensures more { IfSome result (λ n.
+            n.more ≡ is_some (on_pipe lane_to_get None self.new rank)) }
+        ensures unchanged { result ≡ None → self.new ≡ self.old }
+    {
+        if rank < self.pipes.len() {
+            return self.pipes[rank].get_next();
         }
         None
     }

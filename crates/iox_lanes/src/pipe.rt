@@ -1,5 +1,6 @@
 //! All lanes from one port to another.
-ghost use Rattle.std.specs.Prelude.{◌≡◌, ◌+◌, ◌-◌, ◌^◌, ◌<◌, ◌≤◌, IfOk, None, false, length, replicate, slice_get, take, true};
+ghost use Rattle.std.specs.Option.{option_map};
+ghost use Rattle.std.specs.Prelude.{◌≡◌, ◌+◌, ◌-◌, ◌^◌, ◌<◌, ◌≤◌, IfOk, IfSome, None, Some, false, is_some, length, replicate, slice_get, take, true};
 ghost use Rattle.iox_lanes.specs.Lanes.{offered, empty_lane, has_room, has_waiting, is_full, is_taken, oldest, released, without_oldest, without_returned, without_taken};
 ghost use Rattle.iox_lanes.specs.Pipes.{IsSoundAt, NoneToGetBelow, PipeState, closed, has_returned_at, has_waiting_on_any, hinted, lane_to_get, new_pipe, on_lane, opened, with_lane};
 ghost use Rattle.iox_lanes.specs.Searches.{state_on};
@@ -12,6 +13,16 @@ use crate::wanted::{Labels, Wanted};
 use iox_model::way::RequestState;
 use std::alloc::{AllocError, Global};
 use std::marker::Model;
+
+/// A message that its sender gets back.
+#[derive(Clone, Copy, Debug, PartialEq, Eq, Drop)]
+pub struct Next {
+    /// The lane on which it was given back.
+    pub lane: usize,
+    pub place: u64,
+    /// Whether something is left to get back.
+    pub more: bool,
+}
 
 /// All lanes from one port to its receiver. Beside the lane of requests from a client stand the
 /// states of the requests that it has open here.
@@ -230,6 +241,26 @@ impl Pipe {
         self.none_below = usize::MAX;
         self.none_from = 0;
         None
+    }
+
+    /// Gets back the oldest message of those that were given back on the lowest lane on which
+    /// something is left to get back, if there is one.
+    #[inline(always)]
+    pub fn get_next(&mut self) -> Option<Next>
+        ensures lowest { option_map (λ n. n.lane) result ≡ lane_to_get self.old }
+        ensures oldest { IfSome result (λ n.
+            on_lane (λ l. slice_get l.returned 0) None self.old n.lane ≡ Some n.place) }
+        ensures got_back { IfSome result (λ n.
+            self.new ≡ with_lane without_returned self.old n.lane) }
+        ensures more { IfSome result (λ n. n.more ≡ is_some (lane_to_get self.new)) }
+        ensures unchanged { result ≡ None → self.new ≡ self.old }
+    {
+        let lane = self.lane_to_get()?;
+        let Some(place) = self.get_back(lane) else {
+            unreachable!();
+        };
+        let more = self.lane_to_get().is_some();
+        Some(Next { lane, place, more })
     }
 
     // ---- the receiver

@@ -28,11 +28,13 @@ fn wants<L: Labels>(
 ) -> bool
     ensures { result ≡ is_wanted wanted states.now (L.label_of labels.now pool) place }
 {
-    let label = labels.label(pool, place);
     match wanted {
         Wanted::Any => true,
-        Wanted::Named => is_named(state_of(states, label.lane), label.request),
-        Wanted::Of(request) => label.request == request,
+        Wanted::Named => {
+            let label = labels.label(pool, place);
+            is_named(state_of(states, label.lane), label.request)
+        }
+        Wanted::Of(request) => labels.label(pool, place).request == request,
     }
 }
 

@@ -1,7 +1,8 @@
 //! What a sender does with the lanes to its receivers.
 #![tactic(auto, using(crate::proofs::Keeping::kept))]
 
-ghost use Rattle.std.specs.Prelude.{◌≡◌, None, Some, false, slice_get, true};
+ghost use Rattle.std.specs.Option.{option_map};
+ghost use Rattle.std.specs.Prelude.{◌≡◌, IfSome, None, Some, false, is_some, slice_get, true};
 ghost use Rattle.iox_tables.specs.Lanes.{IsSound, LaneState, has_room, is_full, offered, oldest, without_oldest, without_returned};
 ghost use Rattle.iox_tables.specs.HubStates.Tables.{PortState, pipes_to};
 ghost use Rattle.iox_tables.specs.HubStates.Ways.{lane_on, with_lane_on};
@@ -11,6 +12,7 @@ use crate::ports::Ports;
 use crate::steps::{Deliver, Evict, GetBack, Push};
 use crate::walks::on_lane_at;
 use iox_model::way::Way;
+use iox_tables::pipe::Next;
 
 impl Ports {
     /// The lowest lane from the sender to the receiver on which something is left to get back, if
@@ -83,6 +85,27 @@ impl Ports {
     {
         if at < self.ports.len() {
             return self.ports[at].lane_to_get(sender);
+        }
+        None
+    }
+
+    /// Gets back the oldest message of those that the port in that place gave back on the lowest
+    /// lane from the sender on which something is left to get back, if there is one.
+    #[inline(always)]
+    pub fn get_next_at(&mut self, at: usize, sender: u64) -> Option<Next>
+        ensures lowest { option_map (λ n. n.lane) result
+            ≡ lane_to_get_at self.old.ports at sender }
+        ensures oldest { IfSome result (λ n.
+            on_way_at (λ l. slice_get l.returned 0) None self.old.ports at sender n.lane
+            ≡ Some n.place) }
+        ensures got_back { IfSome result (λ n. self.new ≡ with_ports self.old
+            (with_lane_at without_returned self.old.ports at sender n.lane)) }
+        ensures more { IfSome result (λ n.
+            n.more ≡ is_some (lane_to_get_at self.new.ports at sender)) }
+        ensures unchanged { result ≡ None → self.new ≡ self.old }
+    {
+        if at < self.ports.len() {
+            return self.ports[at].get_next(sender);
         }
         None
     }

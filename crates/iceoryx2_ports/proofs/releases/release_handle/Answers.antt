@@ -2,19 +2,19 @@ use Rattle.iceoryx2_ports.proofs.GivingBack.{release_gives_room, release_idles}
 use Rattle.iceoryx2_ports.proofs.Released.{is_released}
 use Rattle.iceoryx2_ports.proofs.releases.release_handle.Goals as goal
 
-pub returns-then-has-clause-released : goal.returns-then-has-clause-released
-returns-then-has-clause-released g c =
-    is_released c.args.hub.now c.release.new.self c.is_in_order-then-has.ensures c.args.node c.args.number c.args.kind (c.has.ensures.0 c.if-has.true)
-    c.release.ensures.whole c.release.ensures.gone c.release.ensures.keeps
+pub returns-then-release_if-clause-released : goal.returns-then-release_if-clause-released
+returns-then-release_if-clause-released g c =
+    is_released c.args.hub.now c.release_if.new.self c.is_in_order-then-release_if.ensures c.args.node c.args.number c.args.kind (c.release_if.ensures.told.0 c.if-release_if.true)
+    (c.release_if.ensures.whole c.if-release_if.true) (c.release_if.ensures.gone c.if-release_if.true) (c.release_if.ensures.keeps c.if-release_if.true)
 
-pub returns-then-has-clause-idle : goal.returns-then-has-clause-idle
-returns-then-has-clause-idle g c =
+pub returns-then-release_if-clause-idle : goal.returns-then-release_if-clause-idle
+returns-then-release_if-clause-idle g c =
     λ has x idle.
-    release_idles c.args.hub.now c.release.new.self c.is_in_order.ensures c.is_in_order-then-has.ensures c.args.node c.args.number c.release.ensures.whole x
+    release_idles c.args.hub.now c.release_if.new.self c.is_in_order.ensures c.is_in_order-then-release_if.ensures c.args.node c.args.number (c.release_if.ensures.whole c.if-release_if.true) x
     idle
 
-pub returns-then-has-clause-room : goal.returns-then-has-clause-room
-returns-then-has-clause-room g c =
+pub returns-then-release_if-clause-room : goal.returns-then-release_if-clause-room
+returns-then-release_if-clause-room g c =
     λ has x room.
-    release_gives_room c.args.hub.now c.release.new.self c.is_in_order.ensures c.is_in_order-then-has.ensures c.args.node c.args.number c.release.ensures.whole x
+    release_gives_room c.args.hub.now c.release_if.new.self c.is_in_order.ensures c.is_in_order-then-release_if.ensures c.args.node c.args.number (c.release_if.ensures.whole c.if-release_if.true) x
     room

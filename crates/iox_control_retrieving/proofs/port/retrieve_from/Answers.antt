@@ -1,7 +1,35 @@
-use Rattle.iox_model.specs.Messages.{request_way}
-use Rattle.iox_control_retrieving.proofs.Infos.{pool_is}
+use Rattle.std.proofs.Common.{ap, refl, subst, sym, ◌∙◌}
+use Rattle.iox_hub_ports.specs.Ports.{lane_to_get_at}
+use Rattle.iox_control.specs.Controls.{ControlState}
+use Rattle.iox_control_retrieving.specs.Retrieving.{GetsBack, ways_to}
+use Rattle.iox_control_retrieving.proofs.FromPort.{done, fewer_left, goes_on, none_more}
 use Rattle.iox_control_retrieving.proofs.port.retrieve_from.Goals as goal
 
-pub retrieve_at-requires-clause-pool : goal.retrieve_at-requires-clause-pool
-retrieve_at-requires-clause-pool c =
-    pool_is c.args.control.now c.args.sender.now (request_way c.args.sender.now.number c.args.to.now.number) c.requires.order c.requires.from
+pub loop-next-smaller : goal.loop-next-smaller
+loop-next-smaller c =
+    fewer_left c.args.control.now c.args.sender.now c.args.to.now c.args.at c.requires.order c.requires.from c.requires.to c.requires.place (sym c.is_same_role.ensures ∙ c.if-is_same_role.false)
+    c.loop-next.control c.loop-next.invariant
+    c.get_next_at.new.self c.let_go.new.self c.in-Some.next.lane c.in-Some.next.place c.in-Some.ensures.lowest c.in-Some.ensures.oldest c.in-Some.ensures.got_back c.let_go.ensures.left
+
+pub loop-next-preserved : goal.loop-next-preserved
+loop-next-preserved c =
+    goes_on c.args.control.now c.args.sender.now c.args.to.now c.args.at c.requires.order c.requires.from c.requires.to c.requires.place (sym c.is_same_role.ensures ∙ c.if-is_same_role.false)
+    c.loop-next.control c.loop-next.invariant
+    c.get_next_at.new.self c.let_go.new.self c.in-Some.next.lane c.in-Some.next.place c.in-Some.ensures.lowest c.in-Some.ensures.oldest c.in-Some.ensures.got_back c.let_go.ensures.left
+
+pub returns-then-not-next : goal.returns-then-not-next
+returns-then-not-next c =
+    done c.args.control.now c.args.sender.now c.args.to.now c.args.at c.requires.order c.requires.from c.requires.to c.requires.place (sym c.is_same_role.ensures ∙ c.if-is_same_role.false)
+    c.let_go.new.self
+    (goes_on c.args.control.now c.args.sender.now c.args.to.now c.args.at c.requires.order c.requires.from c.requires.to c.requires.place (sym c.is_same_role.ensures ∙ c.if-is_same_role.false)
+    c.loop-next.control c.loop-next.invariant
+    c.get_next_at.new.self c.let_go.new.self c.in-Some.next.lane c.in-Some.next.place c.in-Some.ensures.lowest c.in-Some.ensures.oldest c.in-Some.ensures.got_back c.let_go.ensures.left)
+    (ap (λ (d : ControlState). lane_to_get_at d.tables.ports c.args.at c.args.sender.now.number) c.let_go.ensures.left
+    ∙ none_more (lane_to_get_at c.get_next_at.new.self.tables.ports c.args.at c.args.sender.now.number) c.in-Some.next.more c.in-Some.ensures.more c.if-not-next.true)
+
+pub returns : goal.returns
+returns c =
+    subst (λ (d : ControlState). GetsBack c.args.control.now (ways_to c.args.sender.now.role c.args.control.now.tables c.args.sender.now.number c.args.to.now) d)
+    (sym (c.in_default.ensures.unchanged refl))
+    (done c.args.control.now c.args.sender.now c.args.to.now c.args.at c.requires.order c.requires.from c.requires.to c.requires.place (sym c.is_same_role.ensures ∙ c.if-is_same_role.false)
+    c.loop-next.control c.loop-next.invariant (sym c.in_default.ensures.lowest))

@@ -10,4 +10,4 @@ returns g c =
     rw (← c.self.view_is)
     (c.count_if_in.ensures
     ∙ ap (λ (ps : List (Option Entry)). count_by (passes (g.T.EntryTest.passes c.args.test.now)) ps) c.deref.ensures.value
-    ∙ passing-places (g.T.EntryTest.passes c.args.test.now) c.self.inside.places.items c.self.inside.next c.self.invariant.table.apart c.self.invariant.table.below)
+    ∙ passing-places (g.T.EntryTest.passes c.args.test.now) c.self.inside.places.items c.self.inside.next c.self.invariant.0.table.apart c.self.invariant.0.table.below)

@@ -10,7 +10,7 @@ pub returns-clause-first : goal.returns-clause-first
 returns-clause-first c =
     rw (← c.self.view_is)
     (c.first.ensures.least ∙ ap₂ least_in node (c.deref-2.ensures.value ∙ places)
-    ∙ least-places c.args.node c.self.inside.places.items c.self.inside.next c.self.invariant.table.apart c.self.invariant.table.below)
+    ∙ least-places c.args.node c.self.inside.places.items c.self.inside.next c.self.invariant.0.table.apart c.self.invariant.0.table.below)
   where
     node : c.if-not-is_of.self-inside.listed.node ≡ c.args.node
     node = elim c.if-not-is_of.branch [

@@ -12,11 +12,11 @@ returns-in_default-clause-told c =
     rw (← c.self.view_is)
     (sym (ap (λ o. is_some o) c.in_default.is) ∙ c.place_of_port.ensures
     ∙ ap (λ (ps : List (Option Entry)). list_any (passes (has_port c.args.port)) ps) c.deref.ensures.value
-    ∙ any-places (has_port c.args.port) c.self.inside.places.items c.self.inside.next c.self.invariant.table.apart c.self.invariant.table.below)
+    ∙ any-places (has_port c.args.port) c.self.inside.places.items c.self.inside.next c.self.invariant.0.table.apart c.self.invariant.0.table.below)
 
 pub returns-clause-told : goal.returns-clause-told
 returns-clause-told c =
     rw (← c.self.view_is)
     (sym (ap (λ o. is_some o) c.in-Some.is) ∙ c.place_of_port.ensures
     ∙ ap (λ (ps : List (Option Entry)). list_any (passes (has_port c.args.port)) ps) c.deref.ensures.value
-    ∙ any-places (has_port c.args.port) c.self.inside.places.items c.self.inside.next c.self.invariant.table.apart c.self.invariant.table.below)
+    ∙ any-places (has_port c.args.port) c.self.inside.places.items c.self.inside.next c.self.invariant.0.table.apart c.self.invariant.0.table.below)

@@ -7,4 +7,4 @@ pub returns : goal.returns
 returns c =
     rw (← c.self.view_is)
     (c.least_in.ensures ∙ ap (least_in c.args.node) c.deref.ensures.value
-    ∙ least-places c.args.node c.self.inside.places.items c.self.inside.next c.self.invariant.table.apart c.self.invariant.table.below)
+    ∙ least-places c.args.node c.self.inside.places.items c.self.inside.next c.self.invariant.0.table.apart c.self.invariant.0.table.below)

@@ -4,7 +4,7 @@ use Rattle.iox_tables.specs.Visited.{all_visits}
 use Rattle.iox_tables.specs.HubStates.Receives.{both_visits}
 use Rattle.iox_tables.proofs.HubStates.Both.{visits_are_of_both}
 use Rattle.iox_hub_ports.specs.Ports.{port_of}
-use Rattle.iox_hub_ports.proofs.port.Port.visit.Goals as goal
+use Rattle.iox_hub_ports.proofs.port.Port.visit_both.Goals as goal
 
 pub returns-in-Got-clause-visits : goal.returns-in-Got-clause-visits
 returns-in-Got-clause-visits g c =

@@ -1,0 +1,92 @@
+-- A sender gets back, from the port in a place, one message after another.
+use Rattle.std.specs.Prelude.{◌≡◌, ℕ, ◌<◌, Bool, true, false, List, Option, Some, None, is_some, not, slice_get, refl}
+use Rattle.std.proofs.Common.{sym, ap, subst, ◌∙◌, true≢false}
+use Rattle.iox_model.specs.declared.way.Way.{Way}
+use Rattle.iox_model.specs.Maps.{AreApart}
+use Rattle.iox_model.specs.Settings.{same_role}
+use Rattle.iox_lanes.specs.Lanes.{LaneState, without_returned}
+use Rattle.iox_tables.specs.HubStates.Tables.{numbers_of}
+use Rattle.iox_tables.specs.HubStates.Ways.{lane_on}
+use Rattle.iox_tables.specs.HubStates.Changes.{emptied_lane}
+use Rattle.iox_hub_phases.specs.Phases.{OfEachWay}
+use Rattle.iox_hub_ports.proofs.Keeping.{lanes_keep}
+use Rattle.iox_hub_ports.specs.declared.info.PortInfo.{PortInfo}
+use Rattle.iox_hub_ports.specs.Ports.{info_in, lane_to_get_at, on_way, on_way_at, with_lane_at}
+use Rattle.iox_slots.specs.Pools.{with_slot}
+use Rattle.iox_slots.specs.Slots.{let_go}
+use Rattle.iox_control.specs.Controls.{ControlState, IsControl, with_pools, with_ports}
+use Rattle.iox_control_retrieving.specs.Retrieving.{GetsBack, ways_to}
+use Rattle.iox_control_retrieving.proofs.Emptied.{IsEmptied}
+use Rattle.iox_control_retrieving.proofs.AtPlaces.{IsInPlace, let_go_there, lowest_there, told_there}
+use Rattle.iox_control_retrieving.proofs.Infos.{pool_is}
+use Rattle.iox_control_retrieving.proofs.Lanes.{first_lanes, lane_way, lanes_apart, next_is, none_alike, none_left, ways_are, width, within}
+use Rattle.iox_control_retrieving.proofs.OneByOne.{GoesOn, IsNext, all_returned, falls, gets_all, goes_again, got_some, lane_was}
+use Rattle.iox_control_retrieving.proofs.Together.{gets_nothing}
+
+-- where both are of one role there is no way
+pub gets_alike : (c : ControlState) (from to : PortInfo) → IsControl c → same_role from.role to.role ≡ true → GetsBack c (ways_to from.role c.tables from.number to) c
+gets_alike c from to order alike = subst (λ ws. GetsBack c ws c) (sym (none_alike from.role c.tables from.number to alike)) (gets_nothing c order)
+
+module _ (c : ControlState) (from to : PortInfo) (at : ℕ) (order : IsControl c)
+    (sender : info_in c.tables.ports from.number ≡ Some from) (receiver : info_in c.tables.ports to.number ≡ Some to)
+    (place : IsInPlace c.tables.ports at to.number) (differ : same_role from.role to.role ≡ false) where
+  -- the ways to the port
+  abbrev ws : List Way
+  ws = ways_to from.role c.tables from.number to
+
+  ways : ws ≡ first_lanes from.number to.number (width c.tables.ports to)
+  ways = ways_are from.role c.tables from.number to differ
+
+  apart : AreApart ws
+  apart = subst AreApart (sym ways) (lanes_apart from.number to.number (width c.tables.ports to))
+
+  module _ (now : ControlState) (goes : GoesOn c ws now) where
+    there : IsInPlace now.tables.ports at to.number
+    there =
+        ap (λ ns. slice_get ns at)
+        (sym (lanes_keep emptied_lane now.tables.ports ws) ∙ ap numbers_of goes.ports ∙ lanes_keep emptied_lane c.tables.ports ws)
+        ∙ place
+
+    pub done : lane_to_get_at now.tables.ports at from.number ≡ None → GetsBack c ws now
+    done none =
+        gets_all c now ws order apart goes
+        (subst (λ vs. OfEachWay (IsEmptied now.tables.ports) vs) (sym ways)
+        (none_left from.number to.number now.tables.ports (sym none ∙ lowest_there now.tables.ports at to.number from.number there) (width c.tables.ports to)))
+
+    -- the next message, of the lowest lane on which one is left
+    module _ (mid new : ControlState) (lane slot : ℕ)
+        (lowest : Some lane ≡ lane_to_get_at now.tables.ports at from.number)
+        (oldest : on_way_at (λ l. slice_get l.returned 0) None now.tables.ports at from.number lane ≡ Some slot)
+        (got : mid ≡ with_ports now (with_lane_at without_returned now.tables.ports at from.number lane))
+        (left : new ≡ with_pools mid (with_slot let_go mid.tables.pools from.pool slot)) where
+      -- its way
+      abbrev w : Way
+      w = lane_way from.number to.number lane
+
+      here : Some slot ≡ on_way (λ l. slice_get l.returned 0) None now.tables.ports w
+      here = sym oldest ∙ told_there now.tables.ports at w there (λ (l : LaneState). slice_get l.returned 0) None
+
+      next : IsNext now.tables.ports ws w
+      next =
+          let found = got_some (lane_on now.tables.ports w) slot here in
+          let was = lane_was c now ws goes w found.0 found.1 in
+          subst (λ vs. IsNext now.tables.ports vs w) (sym ways)
+          (next_is from.number to.number now.tables.ports lane (width c.tables.ports to)
+          (lowest ∙ lowest_there now.tables.ports at to.number from.number there)
+          (within c from to order sender receiver differ lane was.0 was.1))
+
+      pub goes_on : GoesOn c ws new
+      goes_on =
+          goes_again c now new ws w from.pool slot order.order apart goes next (pool_is c from w order sender) here
+          (let_go_there now mid new at w there got from.pool slot left)
+
+      pub fewer_left : all_returned new.tables.ports < all_returned now.tables.ports
+      fewer_left =
+          falls c now new ws w from.pool slot order.order apart goes next (pool_is c from w order sender) here
+          (let_go_there now mid new at w there got from.pool slot left)
+
+-- it is said that nothing more is there
+pub none_more : (o : Option ℕ) (more : Bool) → more ≡ is_some o → not more ≡ true → o ≡ None
+none_more (Some n) true is e = absurd (true≢false (sym e))
+none_more (Some n) false is e = absurd (true≢false (sym is))
+none_more None more is e = refl
