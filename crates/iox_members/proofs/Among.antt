@@ -1,15 +1,12 @@
 -- A node among those that are kept, and what is so of the others.
-use Rattle.std.proofs.Common.{◌≡◌, ◌==◌, ◌||◌, ◌+◌, ℕ, Bool, true, false, not, List, [], ◌∷◌, ◌++◌, Option, Some, None, cond, filter, length, map, refl, ap, ap₂, sym, subst, ◌∙◌, arith, true≢false}
+use Rattle.std.proofs.Common.{◌≡◌, ◌==◌, ◌||◌, ◌+◌, ℕ, zero, suc, Bool, true, false, not, List, [], ◌∷◌, ◌++◌, Option, Some, None, cond, filter, length, map, refl, ap, ap₂, sym, subst, ◌∙◌, arith, true≢false}
 use Rattle.std.specs.Prelude.{⊤, find}
-use Rattle.std.specs.List.{count_by, list_any}
+use Rattle.std.specs.List.{list_any, slice_get}
 use Rattle.std.proofs.lemmas.Bool.{and_from, eq-eqb, eqb-true}
-use Rattle.std.proofs.lemmas.List.Sums.{sum_by-cons}
 use Rattle.iox_types.specs.declared.identifiers.system_id.UniqueSystemId.{UniqueSystemId}
 use Rattle.iox_model.specs.Joins.{same_id}
 use Rattle.iox_model.specs.Maps.{AreDistinct, has_number, is_empty}
-use Rattle.iox_registry.specs.Registers as registers
 use Rattle.iox_registry.specs.Registers.{Registrations, details_of}
-use Rattle.iox_registry.proofs.IdLemmas.{same_id-not, same_id-of}
 use Rattle.iox_members.specs.declared.member.Member.{Member}
 use Rattle.iox_members.specs.Registering.{AreBelow, AreOnce, HaveRegistrations}
 
@@ -164,20 +161,29 @@ others-registered old new m behind before on once is =
     without [] is = is.1
     without (x ∷ before) is = (is.0, without before is.1)
 
--- ---- how many have the id
+-- ---- where a node stands
 
-pub none-has : (id : UniqueSystemId) (xs : List Member) → HaveOtherIds id xs → count_by (λ x. registers.same_id x id) (map (λ x. x.id) xs) ≡ 0
-none-has id [] others = refl
-none-has id (x ∷ xs) others =
-    sum_by-cons (λ y. cond (registers.same_id y id) 1 0) x.id (map (λ x. x.id) xs)
-    ∙ ap₂ (λ b n. cond b 1 0 + n) (same_id-not x.id id others.0) (none-has id xs others.1)
+has-at : (xs : List Member) (i : ℕ) (m : Member) → slice_get xs i ≡ Some m → has_number m.number (map (λ x. x.number) xs) ≡ true
+has-at [] i m is = absurd (not_some m is)
+has-at (x ∷ xs) zero m is = rw (one_of x m is, eq-eqb m.number m.number refl) refl
+has-at (x ∷ xs) (suc i) m is = or_true (x.number == m.number) _ (has-at xs i m is)
+  where
+    or_true : (a b : Bool) → b ≡ true → (a || b) ≡ true
+    or_true true b is = refl
+    or_true false b is = is
 
-pub one-has : (m : Member) (behind before : List Member) → AreOnce (map (λ x. x.id) (before ++ m ∷ behind))
-    → count_by (λ x. registers.same_id x m.id) (map (λ x. x.id) (before ++ m ∷ behind)) ≡ 1
-one-has m behind [] is =
-    sum_by-cons (λ y. cond (registers.same_id y m.id) 1 0) m.id (map (λ x. x.id) behind)
-    ∙ ap₂ (λ b n. cond b 1 0 + n) (same_id-of m.id m.id refl) (none-has m.id behind (others-since m.id behind is.0))
-one-has m behind (x ∷ before) is =
-    let other = have-other-ids m behind (x ∷ before) is in
-    sum_by-cons (λ y. cond (registers.same_id y m.id) 1 0) x.id (map (λ x. x.id) (before ++ m ∷ behind))
-    ∙ ap₂ (λ b n. cond b 1 0 + n) (same_id-not x.id m.id other.0) (one-has m behind before is.1)
+-- the node that stands there is found by its number
+pub found-at : (xs : List Member) (i : ℕ) (m : Member) → slice_get xs i ≡ Some m → AreDistinct (map (λ x. x.number) xs)
+    → find (λ x. x.number == m.number) xs ≡ Some m
+found-at [] i m is apart = absurd (not_some m is)
+found-at (x ∷ xs) zero m is apart = rw (one_of x m is, eq-eqb m.number m.number refl) refl
+found-at (x ∷ xs) (suc i) m is apart = of_test (x.number == m.number) refl (found-at xs i m is apart.1)
+  where
+    of_test : (b : Bool) → (x.number == m.number) ≡ b → find (λ y. y.number == m.number) xs ≡ Some m
+        → find (λ y. y.number == m.number) (x ∷ xs) ≡ Some m
+    of_test true e later =
+        let has : has_number m.number (map (λ y. y.number) xs) ≡ true = has-at xs i m is in
+        let none : has_number m.number (map (λ y. y.number) xs) ≡ false =
+        subst (λ n. has_number n (map (λ y. y.number) xs) ≡ false) (eqb-true x.number m.number e) apart.0 in
+        absurd (true≢false (sym has ∙ none))
+    of_test false e later = ap (λ b. cond b (Some x) (find (λ y. y.number == m.number) xs)) e ∙ later

@@ -1,29 +1,27 @@
 -- What is so at all times of the nodes and their register, as nodes come and go.
-use Rattle.std.proofs.Common.{◌≡◌, ◌==◌, ◌&&◌, ◌||◌, ◌+◌, ◌<◌, ◌≤◌, ℕ, zero, suc, Bool, true, false, not, List, [], ◌∷◌, ◌++◌, Option, Some, None, Result, Ok, Err, IsOk, cond, is_some, filter, length, get_or, map, replicate, set, refl, ap, ap₂, sym, subst, ◌∙◌, arith}
+use Rattle.std.proofs.Common.{◌≡◌, ◌==◌, ◌||◌, ◌+◌, ◌≤◌, ℕ, zero, suc, Bool, true, false, not, List, [], ◌∷◌, ◌++◌, Option, Some, None, Result, Ok, Err, IsOk, cond, is_some, filter, length, get_or, map, replicate, set, refl, ap, ap₂, sym, subst, ◌∙◌, arith}
 use Rattle.std.specs.Prelude.{IfErr, IfOk, IsPermutation, OnOk, find, is_none}
-use Rattle.std.specs.List.{count_by, list_any}
-use Rattle.std.proofs.lemmas.Bool.{lt-ltb, ne_eqb}
+use Rattle.std.specs.List.{list_any}
+use Rattle.std.proofs.lemmas.Bool.{ne_eqb}
 use Rattle.std.proofs.lemmas.List.{length-map, length-replicate, length-set, length_push, nil_from_length}
-use Rattle.std.proofs.lemmas.List.Sorted.{IsPermutation-cons, IsPermutation-refl, IsPermutation-trans, sum_by-IsPermutation}
+use Rattle.std.proofs.lemmas.List.Sorted.{IsPermutation-cons, IsPermutation-refl, IsPermutation-trans}
 use Rattle.iox_types.specs.declared.identifiers.system_id.UniqueSystemId.{UniqueSystemId}
 use Rattle.iox_model.specs.Joins.{same_id, with_members}
 use Rattle.iox_model.specs.Maps.{AreDistinct, has_number, is_empty}
-use Rattle.iox_model.specs.Services.{without_node}
 use Rattle.iox_model.specs.States as States
 use Rattle.iox_registry.specs.declared.refusals.ReleaseError.TheVariants.{Foreign, Spent}
 use Rattle.iox_registry.specs.declared.roles.Role.TheVariants.{Node}
 use Rattle.iox_registry.specs.Registers as registers
 use Rattle.iox_registry.specs.Registers.{Adds, Handle, Registrations, Removes, details_in, details_of, is_own, left_with, listed, new_register, recovered, register_refusal, release_refusal, room_of, under_ticket}
-use Rattle.iox_registry.proofs.IdLemmas.{same_role-of}
 use Rattle.iox_registry.proofs.NumberLemmas.{listed-added, listed-removed, locked-removed}
 use Rattle.iox_registry.proofs.RegisterLemmas.{open_parts}
 use Rattle.iox_members.specs.declared.member.Member.{Member}
 use Rattle.iox_members.specs.Nodes.{killed, node_of}
 use Rattle.iox_members.specs.Registering.{AreBelow, AreKept, AreOnce, AreRegistered, HaveRegistrations}
 use Rattle.iox_members.specs.Steps.{IsAfterLeaving}
-use Rattle.iox_members.proofs.Among.{Beside, TellsOn, differ-since, found-beside, not-empty, one-has, one-more, or_parts, others-below, others-distinct, others-once, others-registered, own-registration}
+use Rattle.iox_members.proofs.Among.{Beside, TellsOn, differ-since, found-beside, not-empty, one-more, or_parts, others-below, others-distinct, others-once, others-registered, own-registration}
 use Rattle.iox_members.proofs.Kept.{empty_kept, removed_kept}
-use Rattle.iox_members.proofs.Registered.{listed-beside, listed-recovered, stays-added, stays-recovered, stays-removed, told}
+use Rattle.iox_members.proofs.Registered.{listed-beside, stays-added, stays-removed, told}
 
 -- ---- what is listed are the ids of the nodes
 
@@ -254,37 +252,6 @@ deregistered-kept nodes left m joins most old new kept among removes =
     (listed-removed m.registration old new removes) (locked-removed m.registration old new removes kept.role)
     (ap (λ r. r.role) removes.left) (ap (λ r. length r.slots) removes.left ∙ length-set old.slots m.registration.slot None)
     (ap (λ r. r.used_tickets) removes.left)
-
-pub recovered-kept : (nodes left : List Member) (m : Member) (joins most : ℕ) (old new : Registrations UniqueSystemId) → AreKept nodes joins most old
-    → Beside m nodes left → new ≡ recovered (λ id. id) m.id old → AreKept left joins most new
-recovered-kept nodes left m joins most old new kept among takes =
-    goes-kept nodes left m joins most old new kept among
-    (λ x is differ. ap (λ r. details_of r x.registration) takes ∙ stays-recovered (λ id. id) m.id old x.registration x.id is differ)
-    fewer (ap (λ r. r.locked) takes ∙ locked _ _ _ old.locked (lt-ltb _ _ less) (same_role-of old.role Node kept.role) ∙ sym (ap (λ r. length (listed r) == 0) takes))
-    (ap (λ r. r.role) takes) (ap (λ r. length r.slots) takes ∙ length-map old.slots (registers.without_node (λ id. id) m.id))
-    (ap (λ r. r.used_tickets) takes)
-  where
-    is_one : (before behind : List Member) → nodes ≡ before ++ m ∷ behind → count_by (λ x. registers.same_id x m.id) (map (λ x. x.id) nodes) ≡ 1
-    is_one before behind are =
-        ap (λ xs. count_by (λ x. registers.same_id x m.id) (map (λ x. x.id) xs)) are
-        ∙ one-has m behind before (subst (λ xs. AreOnce (map (λ x. x.id) xs)) are kept.once)
-
-    one : count_by (λ x. registers.same_id x m.id) (listed old) ≡ 1
-    one =
-        sum_by-IsPermutation (λ x. cond (registers.same_id x m.id) 1 0) (map (λ x. x.id) nodes) (listed old) (all-listed nodes old kept.own kept.once kept.count)
-        ∙ is_one among.0 among.1 among.2
-
-    left_there : length (details_in (map (registers.without_node (λ id. id) m.id) old.slots)) + 1 ≡ length (listed old)
-    left_there = ap (λ n. length (details_in (map (registers.without_node (λ id. id) m.id) old.slots)) + n) (sym one) ∙ listed-recovered (λ id. id) m.id old.slots
-
-    less : length (details_in (map (registers.without_node (λ id. id) m.id) old.slots)) < length (listed old)
-    less = let there = left_there in omega (arith, there)
-
-    fewer : length (listed new) + 1 ≡ length (listed old)
-    fewer = ap (λ r. length (listed r) + 1) takes ∙ left_there
-
-    locked : (a b c d : Bool) → a ≡ true → b ≡ true → cond a (b && c) d ≡ c
-    locked a b c d one two = rw (one, two) refl
 
 -- ---- the service once one is gone
 

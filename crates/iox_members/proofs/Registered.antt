@@ -1,13 +1,8 @@
 -- Registers: what a handle tells as another comes or goes, and what is listed then.
-use Rattle.std.proofs.Common.{◌≡◌, ◌==◌, ◌+◌, ℕ, zero, suc, Bool, true, false, List, [], ◌∷◌, Option, Some, None, cond, length, get_or, map, set, refl, ap, sym, subst, ◌∙◌, arith, get_or-set_other}
+use Rattle.std.proofs.Common.{◌≡◌, ◌==◌, ℕ, zero, suc, Bool, true, false, List, [], ◌∷◌, Option, Some, None, cond, get_or, set, refl, ap, sym, subst, ◌∙◌, get_or-set_other}
 use Rattle.std.specs.Prelude.{IsPermutation}
-use Rattle.std.specs.List.{count_by}
 use Rattle.std.proofs.lemmas.List.Sorted.{IsPermutation-cons, IsPermutation-middle, IsPermutation-refl, IsPermutation-sym, IsPermutation-trans}
-use Rattle.std.proofs.lemmas.List.Sums.{sum_by-cons}
-use Rattle.iox_types.specs.declared.identifiers.system_id.UniqueSystemId.{UniqueSystemId}
-use Rattle.iox_registry.specs.Registers.{Adds, Handle, Registration, Registrations, details_in, details_of, is_own, left_with, recovered, registration_of, same_id, under_ticket, without_node}
-use Rattle.iox_registry.proofs.IdLemmas.{same_id-not}
-use Rattle.iox_registry.proofs.LawLemmas.{recovered-of}
+use Rattle.iox_registry.specs.Registers.{Adds, Handle, Registration, Registrations, details_in, details_of, is_own, left_with, registration_of, under_ticket}
 
 module _ {D : Type 0} where
   not_some : (d : D) → ◌≡◌ {A = Option D} None (Some d) → ⊥
@@ -74,11 +69,6 @@ module _ {D : Type 0} where
           let one : second.0 ≡ first.0 = one_slot second.0 first.0 (sym second.1 ∙ ap (λ k. get_or old.slots k None) same ∙ first.1) in
           differ (sym second.2 ∙ ap (λ (r : Registration D). r.details) one ∙ first.2)
 
-  pub stays-recovered : (node : D → UniqueSystemId) (id : UniqueSystemId) (old : Registrations D) (other : Handle) (d : D)
-      → details_of old other ≡ Some d → (node d ≡ id → ⊥) → details_of (recovered node id old) other ≡ Some d
-  stays-recovered node id old other d is differ =
-      recovered-of node id old other d is ∙ ap (λ b. cond b None (Some d)) (same_id-not (node d) id differ)
-
   -- ---- what is listed
 
   -- one is listed beside those that are once its slot is empty
@@ -95,21 +85,3 @@ module _ {D : Type 0} where
       IsPermutation-trans (r.details ∷ first.details ∷ left) (first.details ∷ r.details ∷ left) (first.details ∷ details_in slots)
       (IsPermutation-sym _ _ (IsPermutation-middle (first.details ∷ []) r.details left))
       (IsPermutation-cons first.details _ _ (listed-beside slots i r has))
-
-  -- a recovery takes away as many as are of the node
-  pub listed-recovered : (node : D → UniqueSystemId) (id : UniqueSystemId) (slots : List (Option (Registration D)))
-      → length (details_in (map (without_node node id) slots)) + count_by (λ d. same_id (node d) id) (details_in slots) ≡ length (details_in slots)
-  listed-recovered node id [] = refl
-  listed-recovered node id (None ∷ slots) = listed-recovered node id slots
-  listed-recovered node id (Some r ∷ slots) =
-      of_test (same_id (node r.details) id) refl
-      (sum_by-cons (λ d. cond (same_id (node d) id) 1 0) r.details (details_in slots)) (listed-recovered node id slots)
-    where
-      of_test : (b : Bool) → same_id (node r.details) id ≡ b
-          → count_by (λ d. same_id (node d) id) (r.details ∷ details_in slots)
-          ≡ cond (same_id (node r.details) id) 1 0 + count_by (λ d. same_id (node d) id) (details_in slots)
-          → length (details_in (map (without_node node id) slots)) + count_by (λ d. same_id (node d) id) (details_in slots) ≡ length (details_in slots)
-          → length (details_in (map (without_node node id) (Some r ∷ slots))) + count_by (λ d. same_id (node d) id) (r.details ∷ details_in slots)
-          ≡ suc (length (details_in slots))
-      of_test true is more rest = rw is (let m = more ∙ ap (λ b. cond b 1 0 + count_by (λ d. same_id (node d) id) (details_in slots)) is in omega (arith, m, rest))
-      of_test false is more rest = rw is (let m = more ∙ ap (λ b. cond b 1 0 + count_by (λ d. same_id (node d) id) (details_in slots)) is in omega (arith, m, rest))

@@ -4,6 +4,7 @@ ghost use Rattle.std.specs.Fn.{CalledAt};
 ghost use Rattle.std.specs.List.{list_any};
 ghost use Rattle.iox_attributes.specs.Visits.{Visits};
 ghost use Rattle.iox_model.specs.Joins.{same_id};
+ghost use Rattle.iox_model.specs.Maps.{AreDistinct};
 ghost use Rattle.iox_members.specs.Nodes.{killed};
 
 use crate::ids::is_same_id;
@@ -36,8 +37,23 @@ pub(crate) fn list_ids<F: FnMut(&UniqueNodeId) -> CallbackProgression>(
     }
 }
 
-/// The node of that number.
+/// The node of that number. Each stands in the place of its number while no node before it left,
+/// so it is looked for there first.
 pub(crate) fn find(nodes: &[Member], node: u64) -> Option<Member>
+    requires { AreDistinct (map (λ m. m.number) nodes.now) }
+    ensures { result ≡ find (λ m. m.number == node) nodes.now }
+{
+    let place = node as usize;
+    if place < nodes.len() && nodes[place].number == node {
+        return Some(nodes[place]);
+    }
+    find_among(nodes, node)
+}
+
+/// The node of that number, wherever it stands.
+#[cold]
+#[inline(never)]
+fn find_among(nodes: &[Member], node: u64) -> Option<Member>
     ensures { result ≡ find (λ m. m.number == node) nodes.now }
 {
     nodes.iter().copied().find(|member| member.number == node)

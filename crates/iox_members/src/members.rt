@@ -245,12 +245,13 @@ impl Members {
         if has_values {
             return Err(Refusal::HasPorts);
         }
-        self.deregister(node);
+        self.remove(node);
         Ok(())
     }
 
-    /// Releases the registration of a node, which goes.
-    fn deregister(&mut self, node: u64)
+    /// Removes a node, and releases its registration: nothing else is registered under its id.
+    /// Without nodes a service is closed.
+    pub fn remove(&mut self, node: u64)
         ensures left { IsAfterLeaving self.old.members node self.new.members }
         ensures register { IsSameRegister self.old.registry self.new.registry }
     {
@@ -261,18 +262,6 @@ impl Members {
             .registered
             .deregister_node_id(member.registration)
             .unwrap();
-        remove(&mut self.nodes, node);
-    }
-
-    /// Removes a node with all that is registered under its id. Without nodes a service is closed.
-    pub fn remove(&mut self, node: u64)
-        ensures left { IsAfterLeaving self.old.members node self.new.members }
-        ensures register { IsSameRegister self.old.registry self.new.registry }
-    {
-        let Some(gone) = find(&self.nodes, node) else {
-            return;
-        };
-        let _owners = self.registered.remove_dead_node_id(&gone.id);
         remove(&mut self.nodes, node);
     }
 

@@ -4,6 +4,7 @@ mod CountLemmas
 mod StandingLemmas
 mod RecoveryLemmas
 mod HandleLemmas
+pub mod OwnerLemmas
 pub mod RegisterLemmas
 mod AddLemmas
 mod ReleaseLemmas

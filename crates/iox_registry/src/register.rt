@@ -129,7 +129,8 @@ impl<D: HasNode> Register<D> {
             return Err(failure);
         }
         let ticket = self.next_ticket;
-        let owner = owner_for(self.slots.as_slice(), details.node_id(), ticket);
+        let entries = self.len();
+        let owner = owner_for(self.slots.as_slice(), entries, details.node_id(), ticket);
         let entry = self.container.add((), owner).unwrap();
         self.slots[entry.index()] = Some(Registered {
             details,
@@ -170,7 +171,8 @@ impl<D: HasNode> Register<D> {
         ensures recovered { self.new ≡ recovered D.node id self.old }
         ensures handles { KeepsOrLoses self.old self.new }
     {
-        if let Some(owner) = owner_of(self.slots.as_slice(), id) {
+        let entries = self.len();
+        if let Some(owner) = owner_of(self.slots.as_slice(), entries, id) {
             self.container.recover(owner, |_| true, self.role.mode());
             forget(self.slots.as_mut_slice(), id);
         }

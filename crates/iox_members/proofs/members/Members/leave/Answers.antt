@@ -8,4 +8,4 @@ returns-in-Err-clause-left g c = leave_refused UniqueSystemId c.args.self.now.me
 pub returns-clause-left : goal.returns-clause-left
 returns-clause-left g c =
     rw c.if-has_values.false
-    (leave_done c.args.self.now.members c.args.node c.in_default.field-0 c.deregister.new.self.members c.in_default.ensures.refused c.deregister.ensures.left)
+    (leave_done c.args.self.now.members c.args.node c.in_default.field-0 c.remove.new.self.members c.in_default.ensures.refused c.remove.ensures.left)
