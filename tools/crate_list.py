@@ -9,8 +9,8 @@
 In crates.txt a comment line above a group of crates is the group's title. A crate's sentence is the first one of the
 `//!` lines of its src/lib.rt or src/main.rt. A crate of laws has a line for each of its modules. A library of the toolchain is named as crates.txt names it.
 
-With --check it also refuses a library of ours in crates.txt that the crate does not name, and more than MOST_WAYS ways down
-crates.txt in all: some kits' rt sums up the files of a library once for each way that leads down to it, so each needless line
+With --check it also refuses a count of folders in docs/USING.md that is not that of --below, a library of ours in crates.txt that
+the crate does not name, and more than MOST_WAYS ways down crates.txt in all: some kits' rt sums up the files of a library once for each way that leads down to it, so each needless line
 makes the gate slower. A crate passes on what its clauses cite of the crates below it, and then those above need not name them.
 """
 import pathlib
@@ -124,6 +124,13 @@ def below(name):
     return [crate for crate in crates if crate[0] in found]
 
 
+def miscounted():
+    """What docs/USING.md says of how many folders a crate needs with those below it, where that is wrong."""
+    for name, count in re.findall(r"(?m)^\| `(\w+)` \| (\d+) \|", (TOP / "docs" / "USING.md").read_text()):
+        if len(below(name)) != int(count):
+            yield f"{name} needs {len(below(name))} folders, and not {count}"
+
+
 def main():
     if len(sys.argv) == 3 and sys.argv[1] == "--below":
         for name, libraries in below(sys.argv[2]):
@@ -138,6 +145,8 @@ def main():
         PAGE.write_text(wanted)
     elif page != wanted:
         sys.exit("crate_list: docs/ARCHITECTURE.md is not as tools/crate_list.py writes it")
+    elif found := list(miscounted()):
+        sys.exit("crate_list: docs/USING.md: " + ", ".join(found))
     elif found := list(unnamed()):
         sys.exit("crate_list: crates.txt gives crates libraries that they do not name: " + ", ".join(found))
     elif (found := ways()) > MOST_WAYS:
