@@ -51,10 +51,7 @@ impl<Q: Payload, QH: Words, P: Payload, PH: Words> Service<Q, QH, P, PH> {
 
     /// A node leaves; the last one closes the service for good. It is refused as `UnknownNode`,
     /// `NodeIsDead`, or `HasPorts` while a port or a handle of it is not released.
-    pub fn leave(
-        &mut self,
-        node: u64,
-    ) -> Result<(), Refusal<AttributeVerificationError<'static>>>
+    pub fn leave(&mut self, node: u64) -> Result<(), Refusal<AttributeVerificationError<'static>>>
         ensures done { IsDone (service_of self.old) (Leave node) result (service_of self.new) }
         ensures says { self.new.description ≡ self.old.description }
         ensures identity { self.new.identity ≡ self.old.identity }
@@ -66,10 +63,7 @@ impl<Q: Payload, QH: Words, P: Payload, PH: Words> Service<Q, QH, P, PH> {
     /// A dead node is cleaned up: its ports and handles are released, in the order of their
     /// numbers, and then it is gone. The last one closes the service for good. It is refused as
     /// `UnknownNode` or `NodeIsAlive`.
-    pub fn cleanup(
-        &mut self,
-        node: u64,
-    ) -> Result<(), Refusal<AttributeVerificationError<'static>>>
+    pub fn cleanup(&mut self, node: u64) -> Result<(), Refusal<AttributeVerificationError<'static>>>
         ensures done { IsDone (service_of self.old) (Cleanup node) result (service_of self.new) }
         ensures says { self.new.description ≡ self.old.description }
         ensures identity { self.new.identity ≡ self.old.identity }

@@ -140,10 +140,7 @@ impl AttributeVerifier {
     {
         let defined = defined.as_slice();
         if let Some(pair) = missing_pair(self.attributes.as_slice(), defined) {
-            return Err(AttributeVerificationError::IncompatibleAttribute(
-                pair.key(),
-                pair.value(),
-            ));
+            return Err(AttributeVerificationError::IncompatibleAttribute(pair.key(), pair.value()));
         }
         if let Some(key) = missing_key(self.required_keys(), defined) {
             return Err(AttributeVerificationError::NonExistingKey(key));
