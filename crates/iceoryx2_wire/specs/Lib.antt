@@ -69,4 +69,3 @@ pub use Rattle.iox_service_laws.specs.OrderLaws
 pub mod Services
 pub mod OwnTypes
 pub mod Serving
-pub mod Replies

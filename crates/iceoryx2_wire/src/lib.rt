@@ -11,7 +11,6 @@ mod listings;
 mod opener;
 mod opening;
 mod own_types;
-mod replies;
 mod service;
 mod serving;
 pub mod uses;

@@ -16,19 +16,22 @@ impl ServiceDescription {
     ghost use Rattle.iox_openers.specs.Openers.{IsAsked, IsAskedOfCreator, opener};
 
     /// What a creator whose own messages have these types is refused by them, if it is refused.
-    pub fn creator_refusal(&self, own: &MessageTypes) -> Option<Refusal<AttributeVerificationError>>
+    pub fn creator_refusal(
+        &self,
+        own: &MessageTypes,
+    ) -> Option<Refusal<AttributeVerificationError<'static>>>
         ensures { IsAskedOfCreator own.now self.now.types (as_refusal result) }
     {
         own.incompatibility_to(&self.types)
     }
 
     /// What an opener whose messages have these types, and that requires this, is refused by types
-    /// and attributes, if it is refused.
-    pub fn opener_refusal(
+    /// and attributes, if it is refused. The attribute that is missing is lent from the verifier.
+    pub fn opener_refusal<'a>(
         &self,
         types: &MessageTypes,
-        verifier: &AttributeVerifier,
-    ) -> Option<Refusal<AttributeVerificationError>>
+        verifier: &'a AttributeVerifier,
+    ) -> Option<Refusal<AttributeVerificationError<'a>>>
         ensures { IsAsked self.now (opener types.now verifier.now) (as_refusal result) }
     {
         if let Some(refusal) = types.incompatibility_to(&self.types) {

@@ -35,10 +35,8 @@ fn attribute(key: &str, value: &str) -> Result<Attribute, ServiceNameError> {
 fn the_least_missing_pair_is_told(rt: HostRuntime) -> Result<(), Fail> {
     let specifier = define_all(&[("a", "1"), ("b", "2")])?;
     let verifier = require_all(&[("b", "3"), ("a", "2")], &["c"])?;
-    let error = AttributeVerificationError::IncompatibleAttribute(
-        AttributeKey::new("a")?,
-        AttributeValue::new("2")?,
-    );
+    let (a, two) = (AttributeKey::new("a")?, AttributeValue::new("2")?);
+    let error = AttributeVerificationError::IncompatibleAttribute(&a, &two);
     let verdict = verifier.verify_requirements(specifier.attributes());
     equal(&rt, verdict, Err(error));
     let shown = format!(in rt.alloc(); "{error}")?;
@@ -54,7 +52,8 @@ fn the_least_missing_pair_is_told(rt: HostRuntime) -> Result<(), Fail> {
 fn the_first_missing_key_is_told(rt: HostRuntime) -> Result<(), Fail> {
     let specifier = define_all(&[("a", "1"), ("b", "2")])?;
     let verifier = require_all(&[("a", "1"), ("a", "1")], &["d", "c"])?;
-    let error = AttributeVerificationError::NonExistingKey(AttributeKey::new("d")?);
+    let d = AttributeKey::new("d")?;
+    let error = AttributeVerificationError::NonExistingKey(&d);
     let verdict = verifier.verify_requirements(specifier.attributes());
     equal(&rt, verdict, Err(error));
     let shown = format!(in rt.alloc(); "{error}")?;

@@ -18,9 +18,9 @@ use std::test::Fail;
 /// Requests and responses of numbers.
 type TheService = Service<Many<u64>, (), Many<u64>, ()>;
 
-type TheRefusal = Refusal<AttributeVerificationError>;
+type TheRefusal<'a> = Refusal<AttributeVerificationError<'a>>;
 
-type TheReply = Reply<Vec<u64>, AttributeVerificationError>;
+type TheReply<'a> = Reply<Vec<u64>, AttributeVerificationError<'a>>;
 
 /// What is asked. Of a port's or a handle's node and number, the node comes first.
 #[derive(Clone, Copy)]
@@ -66,11 +66,11 @@ enum Told<'a> {
     Words(&'a [u64]),
     Answer(bool),
     Listed(&'a [u64]),
-    Refused(TheRefusal),
+    Refused(TheRefusal<'a>),
 }
 
 /// The reply, with its list lent.
-fn lent(reply: &TheReply) -> Told<'_> {
+fn lent<'a>(reply: &'a TheReply<'a>) -> Told<'a> {
     match reply {
         Reply::Node(n) => Told::Node(*n),
         Reply::Client(n) => Told::Client(*n),

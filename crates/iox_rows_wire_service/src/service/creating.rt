@@ -14,7 +14,7 @@ fn refusal(
     settings: Settings,
     types: MessageTypes,
     id: UniqueSystemId,
-) -> Result<Option<TheRefusal>, Fail> {
+) -> Result<Option<TheRefusal<'static>>, Fail> {
     let attributes = description()?.attributes;
     let described = ServiceDescription { types, attributes };
     Ok(new(alloc, settings, identity()?, described, id).err())
@@ -72,5 +72,7 @@ fn a_service_says_what_its_creator_gave(rt: HostRuntime) -> Result<(), Fail> {
         2
     );
     assert_eq!(rt; service.list_nodes(rt.alloc())?.first().copied(), Some(0));
+    let shown = format!(in rt.alloc(); "{service:?}")?;
+    assert_eq!(rt; shown.as_str(), "Service { name: \"a/b\", number: 7, .. }");
     Ok(())
 }

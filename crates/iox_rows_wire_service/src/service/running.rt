@@ -24,7 +24,7 @@ fn two<'a>(
 fn replies_stand_behind_those_of_earlier_runs(rt: HostRuntime) -> Result<(), Fail> {
     let (alloc, fits) = (rt.alloc(), fit()?);
     let mut service = first(alloc, SETTINGS)?;
-    let mut replies: Vec<TheReply> = vec![in alloc; Reply::Nothing]?;
+    let mut replies: Vec<TheReply<'_>> = vec![in alloc; Reply::Nothing]?;
     let nothing: Vec<TheCommand<'_>> = Vec::new(alloc);
     service.run(alloc, nothing, &mut replies)?;
     assert_eq!(rt; replies.len(), 1);
