@@ -49,13 +49,15 @@ abbrev cause_in : Cause → Option Refusal → Cause
 cause_in other (Some (IncompatibleAttributes cause)) = cause
 cause_in other _ = other
 
--- an answer that names no cause, as the code has it
+-- a text, lent from anywhere
 lent : List ℕ → Bor (List ℕ)
 lent text = record { ref_ptr = (0, 0); now = text }
 
+-- an answer as the code has it; which cause it names does not matter here
 abbrev untold : Option Refusal → Option (the_refusal.Refusal AttributeVerificationError)
 untold = option_map (with_cause (λ cause. NonExistingKey (lent (key_in cause))))
 
+-- where no cause is named, nothing is lost
 untold-told : (b : Option (the_refusal.Refusal AttributeVerificationError)) (told : Option Refusal) →
     as_refusal b ≡ told → has_cause told ≡ false → untold told ≡ b
 untold-told (Some (IncompatibleAttributes error)) told h k = absurd (true≢false (ap has_cause h ∙ k))

@@ -35,7 +35,7 @@ EachCreatorIsAnswered = (own given : MessageTypes) →
 abbrev pub RefusalsKeepTheirNames : Type 0
 RefusalsKeepTheirNames = (refusal : Refusal) → with_cause (λ cause. cause) refusal ≡ refusal
 
--- Two errors say the same: they are of one kind, and name the same key and value, wherever the
+-- Two errors say the same: both name a pair, or both name a key, and it is the same one, wherever the
 -- attribute stands that they name.
 abbrev pub IsSameError : AttributeVerificationError → AttributeVerificationError → Type 0
 IsSameError (IncompatibleAttribute key value) (IncompatibleAttribute other_key other_value) =
@@ -43,14 +43,13 @@ IsSameError (IncompatibleAttribute key value) (IncompatibleAttribute other_key o
 IsSameError (NonExistingKey key) (NonExistingKey other) = key.now ≡ other.now
 IsSameError error other = ⊥
 
--- Two answers of the code say the same.
+-- Two answers of the code say the same: they are one, or attributes are missing in both, and their
+-- errors say the same.
 abbrev pub IsSameAnswer :
     Option (the_refusal.Refusal AttributeVerificationError)
     → Option (the_refusal.Refusal AttributeVerificationError) → Type 0
--- attributes are missing
 IsSameAnswer (Some (IncompatibleAttributes error)) (Some (IncompatibleAttributes other)) =
     IsSameError error other
--- in one of them at least none is
 IsSameAnswer a b = a ≡ b
 
 -- Two answers of the code that are the same in the definitions say the same.
