@@ -38,6 +38,8 @@ mod stops_among_three;
 #[cfg(test)]
 mod stops_on_other_wires;
 #[cfg(test)]
+mod stops_on_returns;
+#[cfg(test)]
 mod two_servers;
 #[cfg(test)]
 mod whole_calls;

@@ -75,6 +75,10 @@ pub(super) enum Act {
     RefusedCall(u64, Ask, WireRefusal),
     RefusedStep(u64, WireRefusal),
     RefusedDeath(u64, WireRefusal),
+    /// The port keeps so many messages.
+    Keeps(u64, usize),
+    /// The port has so many outstanding at the other, on that lane.
+    Lacks(u64, u64, u64, usize),
 }
 
 /// What came of it.
@@ -86,6 +90,8 @@ pub(super) enum Came {
     UnderWay,
     Died,
     Refused(WireRefusal),
+    /// So many messages were counted.
+    Counted(usize),
 }
 
 /// What a call that is refused answers.
@@ -274,6 +280,8 @@ fn acts(wire: &mut Wire, act: Act) -> Came {
         Act::Ends(node, _, _) => steps(wire, node, MOST_STEPS),
         Act::RefusedStep(node, _) => steps(wire, node, 1),
         Act::Dies(node) | Act::RefusedDeath(node, _) => dies(wire, node),
+        Act::Keeps(port, _) => Came::Counted(wire.kept(port)),
+        Act::Lacks(port, other, lane, _) => Came::Counted(wire.outstanding(port, other, lane)),
     }
 }
 
@@ -286,6 +294,7 @@ fn wanted(act: Act) -> Came {
         Act::RefusedCall(_, _, refusal)
         | Act::RefusedStep(_, refusal)
         | Act::RefusedDeath(_, refusal) => Came::Refused(refusal),
+        Act::Keeps(_, count) | Act::Lacks(_, _, _, count) => Came::Counted(count),
     }
 }
 
