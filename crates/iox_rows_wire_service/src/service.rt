@@ -86,6 +86,12 @@ fn lent<'a>(reply: &'a TheReply<'a>) -> Told<'a> {
     }
 }
 
+/// Ends the test where a reply is not the wanted one.
+fn tells(rt: &impl Abort, reply: &TheReply<'_>, wanted: &Told<'_>) {
+    let told = lent(reply);
+    assert_eq!(rt; told, *wanted);
+}
+
 /// Two services that are asked the same: one by its calls, and one by `run`.
 #[derive(Drop)]
 struct Pair {
@@ -110,22 +116,18 @@ impl Pair {
         script: &[(Ask<'_>, Told<'_>)],
     ) -> Result<(), AllocError> {
         let mut commands = Vec::with_capacity(alloc, script.len())?;
-        for (place, (ask, wanted)) in script.iter().enumerate() {
+        for (ask, wanted) in script {
             let reply = asking::called(&mut self.called, alloc, *ask)?;
-            let told = lent(&reply);
-            assert_eq!(rt; (place, &told), (place, wanted));
+            tells(rt, &reply, wanted);
             registered::as_many_as_listed(rt, alloc, &self.called)?;
-            commands.push(asking::command(alloc, *ask)?)?;
+            let command = asking::command(alloc, *ask)?;
+            commands.push(command)?;
         }
         let mut replies = Vec::new(alloc);
         self.ran.run(alloc, commands, &mut replies)?;
         assert_eq!(rt; replies.len(), script.len());
-        for (place, (_, wanted)) in script.iter().enumerate() {
-            let Some(reply) = replies.get(place) else {
-                return Err(AllocError);
-            };
-            let told = lent(reply);
-            assert_eq!(rt; (place, &told), (place, wanted));
+        for (reply, (_, wanted)) in replies.iter().zip(script.iter()) {
+            tells(rt, reply, wanted);
         }
         assert_eq!(rt; self.ran.is_closed(), self.called.is_closed());
         registered::as_many_as_listed(rt, alloc, &self.ran)?;
