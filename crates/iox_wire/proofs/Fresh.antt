@@ -69,7 +69,7 @@ module _ (plan : WirePlan) (terms : WireTerms) (ns : List ℕ) (wire : WireData)
     one : (n : ℕ) (x : WireNode) → node_at n wire.nodes ≡ Some x → IsOpenedNode plan handles n x
     one n x at = opened_node plan handles ns wire.nodes n x nodes at
 
-    fresh : IsFresh p plan terms ns wire
+    pub fresh : IsFresh p plan terms ns wire
     fresh = record {
       plan_is = plan_is;
       terms_are = terms_are;

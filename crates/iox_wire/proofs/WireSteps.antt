@@ -1,5 +1,5 @@
 -- What a step, and a death, leave of a wire.
-use Rattle.std.specs.Prelude.{not, position}
+use Rattle.std.specs.Prelude.{not, option_map, position}
 use Rattle.iox_wire_weaves.specs.Begins.{is_busy}
 use Rattle.iox_wire_weaves.specs.Nodes.{seat_in}
 use Rattle.std.specs.Option.{option_map_or}
@@ -58,7 +58,7 @@ shown_with w room shown = record {
 -- nor has the access of a node
 pub access_with : (w : WireData) (n room : ℕ) (new : WireData) → MakesItsAccess (record w { room = room }) n new → MakesItsAccess w n new
 access_with w n room new makes p r shows =
-    let m = makes p r (shows_with p w r room shows) in record { words = m.words; node = m.node; others = m.others }
+    let m = makes p r (shows_with p w r room shows) in record { setting = record { plan = m.setting.plan; terms = m.setting.terms }; words = m.words; node = m.node; handles = m.handles; others = m.others }
 
 pub woven_with : (w : WireData) (n room : ℕ) (progress : Progress NodeReply) (new : WireData) → StepIsWoven (record w { room = room }) n progress new → StepIsWoven w n progress new
 woven_with w n room progress new woven p r shows = woven p r (shows_with p w r room shows)
@@ -164,6 +164,9 @@ module _ (w : WireData) (n i : ℕ) (d : WireNode) (at : position (λ x. x.numbe
   lost y dead =
       let puts : Replaces w.nodes n d y (slice_set w.nodes i y) = replaced n w.nodes i d y at read (ap (λ (z : WireNode). z.number) dead) in
       record {
+        setting = record { plan = refl; terms = refl };
+        node = λ x is. puts.here ∙ ap Some dead
+            ∙ ap (option_map (λ (z : WireNode). record z { alive = false; died = Some (length w.events) })) (sym there ∙ is);
         dead = living_by (slice_set w.nodes i y) n (Some y) puts.here ∙ ap (λ (z : WireNode). refused_if (not z.alive) NodeIsDead) dead;
         others = puts.others;
         words = refl;

@@ -1,5 +1,5 @@
 -- What a wire keeps to, and what a node's access does.
-use Rattle.std.specs.Prelude.{◌+◌, ◌<◌, ◌≤◌, ◌^◌, ◌≡◌, ◌==◌, ℕ, false, List, [], ◌∷◌, Option, None, Some, length, true}
+use Rattle.std.specs.Prelude.{◌+◌, ◌<◌, ◌≤◌, ◌^◌, ◌≡◌, ◌==◌, ℕ, false, List, [], ◌∷◌, Option, None, Some, IfSome, length, true}
 use Rattle.iox_steps.specs.declared.access.Access.{Access}
 use Rattle.iox_steps.specs.Accesses.{IsWithin, seen_at}
 use Rattle.iox_wire_weaves.specs.Programs.{program_access}
@@ -8,7 +8,7 @@ use Rattle.iox_wire_weaves.specs.Tables.{Setting}
 use Rattle.iox_wire_weaves.specs.CallAt.TheVariants.{Seats}
 use Rattle.iox_wire_weaves.specs.NodeReply.{NodeReply}
 use Rattle.iox_wire_weaves.specs.Aims.{IsAimed, KnowsItsPlace, MayAdd, MayGoOn}
-use Rattle.iox_wire_weaves.specs.Nodes.{Node, seat_in}
+use Rattle.iox_wire_weaves.specs.Nodes.{Node, call_of, seat_in}
 use Rattle.iox_wire_openings.specs.OpenedNodes.{planned_seat}
 use Rattle.iox_wire.specs.Replies.{FinishedCalls}
 use Rattle.iox_wire_weaves.specs.Replies.{most_words}
@@ -22,7 +22,7 @@ use Rattle.iox_wire_weaves.specs.Uses.{HaveFewWays}
 use Rattle.iox_wire_weaves.specs.Steps.{most_accesses}
 use Rattle.iox_wire_weaves.specs.declared.refusal.WireRefusal.TheVariants.{NodeIsDead}
 use Rattle.iox_wire_weaves.specs.Laws.{WentOn}
-use Rattle.iox_wire_weaves.specs.Wires.{Shows, WireData, WireNode, living_refusal, node_at}
+use Rattle.iox_wire_weaves.specs.Wires.{IsSameSetting, Shows, WireData, WireNode, living_refusal, node_at}
 
 -- ---- a wire
 
@@ -59,9 +59,12 @@ pub record HasRoomToRecord (plan : WirePlan) (room : ℕ) (told : FinishedCalls)
   pub longest : told.longest ≡ most_words plan
   pub events : noted + room ≤ capacity
 
--- The wire lost the node: it is dead, and all else stays.
+-- The wire lost the node: it is dead after the events so far, and all else stays, of the node too.
 pub record Loses (old : WireData) (n : ℕ) (new : WireData) : Type 0 where
+  pub setting : IsSameSetting old new
   pub dead : living_refusal new.nodes n ≡ Some NodeIsDead
+  pub node : (x : WireNode) → node_at n old.nodes ≡ Some x
+      → node_at n new.nodes ≡ Some (record x { alive = false; died = Some (length old.events) })
   pub others : (m : ℕ) → (m == n) ≡ false → node_at m new.nodes ≡ node_at m old.nodes
   pub words : new.words ≡ old.words
   pub replies : new.replies ≡ old.replies
@@ -105,11 +108,12 @@ pub record MayAccess (p : Setting) (x : Node) (words : List ℕ) : Type 0 where
   pub within : IsWithin 0 (length words) (access_in p x)
   pub goes_on : KnowsItsPlace x.at x → MayGoOn x.at x (seen_at (access_in p x) words)
 
--- It went on with what its access found: its call answers this if it is over, and there is room for
--- what it adds if not.
+-- It went on with what its access found: its call, and no other, answers this if it is over, and there
+-- is room for what it adds if not.
 pub record HasGoneOn (p : Setting) (x : Node) (words : List ℕ) (reply : Option NodeReply) (y : Node)
     : Type 0 where
   pub went : WentOn p x (seen_at (access_in p x) words) reply y
+  pub own : IfSome reply (λ r. call_of r ≡ x.at)
   pub ready : reply ≡ None → MayAdd x.at x → MayAdd y.at y
 
 -- its access found this in words where it may make it

@@ -304,13 +304,13 @@ module _ (p : Setting) (old new : WireData) (r : Run) (n : ℕ) (x y : WireNode)
     events = events_then;
   }
 
-  room_there : most_handles new.nodes n ≡ most_handles old.nodes n
-  room_there =
+  as_many : most_handles new.nodes n ≡ most_handles old.nodes n
+  as_many =
       ap (λ o. option_map_or (λ (z : WireNode). z.node.seat.room + length z.node.seat.seat.table) o 0) puts.here ∙ went.room
       ∙ sym (ap (λ o. option_map_or (λ (z : WireNode). z.node.seat.room + length z.node.seat.seat.table) o 0) puts.before)
 
   one_access : MakesOneAccess p old n new
-  one_access = record { setting = record { plan = plan; terms = terms }; words = words; node = there; room = room_there; others = puts.others }
+  one_access = record { setting = record { plan = plan; terms = terms }; words = words; node = there; handles = as_many; others = puts.others }
 
 pub steps_show : StepsShow
 steps_show p old new r n x y reply shows goes puts lives_as went plan terms words call_is told tells_event =

@@ -62,7 +62,7 @@ pub record MakesOneAccess (p : Setting) (old : WireData) (n : ℕ) (new : WireDa
   pub words : new.words ≡ words_after (access_of p old n) old.words
   pub node : seat_of p new.nodes n
       ≡ next p (seat_of p old.nodes n) (seen_at (access_of p old n) old.words)
-  pub room : most_handles new.nodes n ≡ most_handles old.nodes n
+  pub handles : most_handles new.nodes n ≡ most_handles old.nodes n
   pub others : (m : ℕ) → (m == n) ≡ false → node_at m new.nodes ≡ node_at m old.nodes
 
 -- so it is in each run that the wire shows
