@@ -190,7 +190,7 @@ module _ (p : Setting) (old new : WireData) (r : Run) (n : ℕ) (x y : WireNode)
   }
 
   begins_call : BeginsCall p old n call new
-  begins_call = record { node = there; others = puts.others; words = words; replies = replies; events = same_events }
+  begins_call = record { setting = record { plan = plan; terms = terms }; node = there; others = puts.others; words = words; replies = replies; events = same_events }
 
 pub begins_show : BeginsShow
 begins_show p old new r n x y call shows free whole few puts lives_as begins aimed plan terms words replies same_events call_is = (
