@@ -11,7 +11,7 @@ use Rattle.iox_wire_weaves.specs.CallAt.{CallAt}
 use Rattle.iox_wire_weaves.specs.CallAt.TheVariants as at
 use Rattle.iox_wire_weaves.specs.NodeReply.{NodeReply}
 use Rattle.iox_wire_weaves.specs.Aims.{Answers, GoesOn, IsAimed, KnowsItsPlace, MayGoOn, StaysAimed, StaysReady, TellsOfPools}
-use Rattle.iox_wire_weaves.specs.Nodes.{Node, call_of, seat_in}
+use Rattle.iox_wire_weaves.specs.Nodes.{Node, answered_at, seat_in}
 use Rattle.iox_wire_weaves.specs.SeatsAims.{KeepsRoom}
 use Rattle.iox_wire.specs.Kept.{HasGoneOn, MayAccess, access_in}
 
@@ -42,7 +42,7 @@ module _ (p : Setting) (x z : Node) (same : x ≡ z) (words : List ℕ) (may : M
         (subst (λ (k : Node). MayGoOn k.at k (seen_at (access_in p z) words)) (sym same)
         (may.goes_on (subst (λ (k : Node). KnowsItsPlace k.at k) same place)))
 
-    pub has_gone_on : (y : Node) (reply : Option NodeReply) → GoesOn x seen y → Answers x seen reply y → IfSome reply (λ r. call_of r ≡ x.at)
+    pub has_gone_on : (y : Node) (reply : Option NodeReply) → GoesOn x seen y → Answers x seen reply y → IfSome reply (λ r. answered_at r ≡ x.at)
         → StaysReady x reply y → StaysAimed x y → KeepsRoom x.seat y.seat → HasGoneOn p z words reply y
     has_gone_on y reply goes over own ready stays room = record {
       went = record {
@@ -51,6 +51,6 @@ module _ (p : Setting) (x z : Node) (same : x ≡ z) (words : List ℕ) (may : M
         aimed = λ pools. stays p aimed_here (tells_of_pools p y.at (seat_in y).local pools);
         room = subst (λ (k : Node). KeepsRoom k.seat y.seat) same room;
       };
-      own = subst (λ (k : Node). IfSome reply (λ r. call_of r ≡ k.at)) same own;
+      own = subst (λ (k : Node). IfSome reply (λ r. answered_at r ≡ k.at)) same own;
       ready = subst (λ (k : Node). StaysReady k reply y) same ready p may.aimed;
     }

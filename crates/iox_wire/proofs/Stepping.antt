@@ -9,7 +9,7 @@ use Rattle.iox_steps.specs.Accesses.{seen_at, words_after}
 use Rattle.iox_wire_weaves.specs.Aims.{IsAimed}
 use Rattle.iox_wire_weaves.specs.Laws.{LivesAs, progress_of}
 use Rattle.iox_wire_weaves.specs.NodeReply.{NodeReply}
-use Rattle.iox_wire_weaves.specs.Nodes.{Node, call_of, seat_in}
+use Rattle.iox_wire_weaves.specs.Nodes.{Node, answered_at, seat_in}
 use Rattle.iox_wire_weaves.specs.Runs.{Run}
 use Rattle.iox_wire_weaves.specs.SlotEvents.{slot_event}
 use Rattle.iox_wire_weaves.specs.Steps.{MakesOneAccess, answer_of, call_after, finished_by, most_accesses, recorded, rest_refusal, step_refusal}
@@ -89,9 +89,9 @@ module _ (w : WireData) (n i : ℕ) (m d : WireNode) (first : position (λ x. x.
     -- it is the call at which the node is that answers
     pub owned : (reply : Option NodeReply) (z : WireNode)
         → ((p : Setting) (ws : List ℕ) → MayAccess p d.node ws → seen ≡ seen_at (access_in p d.node) ws → HasGoneOn p d.node ws reply z.node)
-        → IfSome (node_at n w.nodes) (λ x. IfSome reply (λ r. call_of r ≡ x.node.at))
+        → IfSome (node_at n w.nodes) (λ x. IfSome reply (λ r. answered_at r ≡ x.node.at))
     owned reply z gone =
-        subst (λ (o : Option WireNode). IfSome o (λ x. IfSome reply (λ r. call_of r ≡ x.node.at))) (sym at_d)
+        subst (λ (o : Option WireNode). IfSome o (λ x. IfSome reply (λ r. answered_at r ≡ x.node.at))) (sym at_d)
         (gone shown.shows.0 w.words (may_d shown.shows.0 shown.shows.1 shown.shows.2) (saw_d shown.shows.0 (may_d shown.shows.0 shown.shows.1 shown.shows.2))).own
 
     module _ (reply : Option NodeReply) (z y : WireNode)

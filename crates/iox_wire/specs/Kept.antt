@@ -8,7 +8,7 @@ use Rattle.iox_wire_weaves.specs.Tables.{Setting}
 use Rattle.iox_wire_weaves.specs.CallAt.TheVariants.{Seats}
 use Rattle.iox_wire_weaves.specs.NodeReply.{NodeReply}
 use Rattle.iox_wire_weaves.specs.Aims.{IsAimed, KnowsItsPlace, MayAdd, MayGoOn}
-use Rattle.iox_wire_weaves.specs.Nodes.{Node, call_of, seat_in}
+use Rattle.iox_wire_weaves.specs.Nodes.{Node, answered_at, seat_in}
 use Rattle.iox_wire_openings.specs.OpenedNodes.{planned_seat}
 use Rattle.iox_wire.specs.Replies.{FinishedCalls}
 use Rattle.iox_wire_weaves.specs.Replies.{most_words}
@@ -113,7 +113,7 @@ pub record MayAccess (p : Setting) (x : Node) (words : List ℕ) : Type 0 where
 pub record HasGoneOn (p : Setting) (x : Node) (words : List ℕ) (reply : Option NodeReply) (y : Node)
     : Type 0 where
   pub went : WentOn p x (seen_at (access_in p x) words) reply y
-  pub own : IfSome reply (λ r. call_of r ≡ x.at)
+  pub own : IfSome reply (λ r. answered_at r ≡ x.at)
   pub ready : reply ≡ None → MayAdd x.at x → MayAdd y.at y
 
 -- its access found this in words where it may make it

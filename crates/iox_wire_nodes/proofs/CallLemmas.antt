@@ -2,6 +2,7 @@
 use Rattle.std.proofs.Common.{◌≡◌, ℕ, ◌+◌, None, [], refl, ap₂, sym, subst, ◌∙◌}
 use Rattle.iox_model.specs.declared.kind.Role.TheVariants.{Client}
 use Rattle.iox_model.specs.Commands.{Payload}
+use Rattle.iox_model.specs.WireCalls.{in_words}
 use Rattle.iox_wire_begins.specs.HandleCalls.{HasRole, call_of}
 use Rattle.iox_wire_begins.specs.Asked.{Asked}
 use Rattle.iox_wire_begins.specs.Lendings.{next_handle}
@@ -9,12 +10,14 @@ use Rattle.iox_wire_begins.specs.Tables.{Setting}
 use Rattle.iox_wire_begins.specs.Terms.{IsSettingWith}
 use Rattle.iox_wire_begins.specs.WirePlan.{WirePlan}
 use Rattle.iox_wire_begins.specs.WireTerms.{WireTerms}
+use Rattle.iox_wire_nodes.specs.declared.call_at.CallAt.{CallAt}
+use Rattle.iox_wire_nodes.specs.declared.call_at.CallAt.TheVariants as at
 use Rattle.iox_wire_nodes.specs.declared.handle_call.HandleCall.{HandleCall}
 use Rattle.iox_wire_nodes.specs.declared.handle_call.HandleCall.TheVariants as handle_calls
 use Rattle.iox_wire_nodes.specs.declared.node_call.NodeCall.{NodeCall}
 use Rattle.iox_wire_nodes.specs.declared.node_call.NodeCall.TheVariants as node_calls
 use Rattle.iox_wire_nodes.specs.Begins.{IsLeftBy}
-use Rattle.iox_wire_nodes.specs.Calls.{asked_by, asked_in, call_in, number_in, of_handle, payload_of}
+use Rattle.iox_wire_nodes.specs.Calls.{IsKeptAt, asked_by, asked_in, call_in, number_in, of_handle, payload_of}
 use Rattle.iox_wire_nodes.specs.Nodes.{Node, seat_in}
 use Rattle.iox_wire_nodes.proofs.BesideLemmas.{handles_in, is_unchanged}
 
@@ -43,6 +46,15 @@ handle_role handle_calls.IsConnected y = tt
 handle_role handle_calls.SetHint y = tt
 handle_role handle_calls.HasHint y = tt
 handle_role handle_calls.HasResponse y = tt
+
+-- a call of a handle is kept in the seat
+pub handle_kept : (h : HandleCall) (n : ℕ) (a : CallAt) → a ≡ at.Seats → IsKeptAt (in_words (of_handle h n)) a
+handle_kept handle_calls.Read n a same = same
+handle_kept handle_calls.Release n a same = same
+handle_kept handle_calls.IsConnected n a same = same
+handle_kept handle_calls.SetHint n a same = same
+handle_kept handle_calls.HasHint n a same = same
+handle_kept handle_calls.HasResponse n a same = same
 
 -- the call is the one that is asked
 asked_so : (p : Setting) (call : NodeCall) → call_of (asked_in call) (number_in call) (payload_in p call) ≡ call_in p call

@@ -1,9 +1,11 @@
 -- The calls of a node, as its code is given them.
-use Rattle.std.specs.Prelude.{ℕ, ◌/◌, Bool, true, false, List, length, Option}
+use Rattle.std.specs.Prelude.{◌≡◌, ◌⊎◌, ℕ, ◌/◌, Bool, true, false, List, length, Option}
+use Rattle.iox_model.specs.declared.call.Call as the_call
 use Rattle.iox_model.specs.declared.call.Call.TheVariants as calls
 use Rattle.iox_model.specs.declared.kind.Role.{Role}
 use Rattle.iox_model.specs.Commands.{Call, Payload}
 use Rattle.iox_model.specs.Settings.{shape_of}
+use Rattle.iox_model.specs.WireCalls.{in_words}
 use Rattle.iox_wire_begins.specs.WirePlan.{WirePlan}
 use Rattle.iox_wire_begins.specs.Plans.{details_of}
 use Rattle.iox_wire_begins.specs.WholeElements.{elements_in, whole_elements}
@@ -12,6 +14,8 @@ use Rattle.iox_wire_begins.specs.Asked.TheVariants as asked
 use Rattle.iox_wire_begins.specs.WireTerms.{WireTerms}
 use Rattle.iox_wire_begins.specs.Terms.{messages_of}
 use Rattle.iox_wire_begins.specs.Tables.{Setting}
+use Rattle.iox_wire_nodes.specs.declared.call_at.CallAt.{CallAt}
+use Rattle.iox_wire_nodes.specs.declared.call_at.CallAt.TheVariants as at
 use Rattle.iox_wire_nodes.specs.declared.handle_call.HandleCall.{HandleCall}
 use Rattle.iox_wire_nodes.specs.declared.handle_call.HandleCall.TheVariants as handle_calls
 use Rattle.iox_wire_nodes.specs.declared.node_call.NodeCall.{NodeCall}
@@ -57,6 +61,25 @@ call_in p (node_calls.SendCopy n y) = calls.SendCopy n (payload_of p y)
 call_in p (node_calls.Receive n) = calls.Receive n
 call_in p (node_calls.HasRequests n) = calls.HasRequests n
 call_in p (node_calls.Handle n call) = of_handle call n
+
+-- such a call, its payload as words
+abbrev pub call_in_words : NodeCall → the_call.Call (List ℕ)
+call_in_words (node_calls.Loan n k) = calls.Loan n k
+call_in_words (node_calls.Write n y) = calls.Write n y.words.now
+call_in_words (node_calls.Send n) = calls.Send n
+call_in_words (node_calls.SendCopy n y) = calls.SendCopy n y.words.now
+call_in_words (node_calls.Receive n) = calls.Receive n
+call_in_words (node_calls.HasRequests n) = calls.HasRequests n
+call_in_words (node_calls.Handle n call) = in_words (of_handle call n)
+
+-- a node is there with such a call under way
+abbrev pub IsKeptAt : {P : Type 0} → the_call.Call P → CallAt → Type 0
+IsKeptAt (calls.Loan n k) a = a ≡ at.Lends
+IsKeptAt (calls.LoanUninit n k) a = a ≡ at.Lends
+IsKeptAt (calls.Send n) a = (a ≡ at.SendsRequest) ⊎ (a ≡ at.SendsResponse)
+IsKeptAt (calls.SendCopy n y) a = (a ≡ at.CopiesRequest) ⊎ (a ≡ at.CopiesResponse)
+IsKeptAt (calls.Receive n) a = a ≡ at.Receives
+IsKeptAt call a = a ≡ at.Seats
 
 -- the number of the port or the handle that it names
 abbrev pub number_in : NodeCall → ℕ

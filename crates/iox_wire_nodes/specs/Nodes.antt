@@ -58,15 +58,15 @@ reply_in words (node_replies.OfResponse reply) = responses.reply_in reply
 reply_in words (node_replies.OfRequestCopy reply) = request_copies.reply_in reply
 reply_in words (node_replies.OfResponseCopy reply) = response_copies.reply_in reply
 
--- the call that answers so
-abbrev pub call_of : NodeReply → CallAt
-call_of (node_replies.OfSeat reply) = at.Seats
-call_of (node_replies.OfReceive reply) = at.Receives
-call_of (node_replies.OfLoan reply) = at.Lends
-call_of (node_replies.OfRequest reply) = at.SendsRequest
-call_of (node_replies.OfResponse reply) = at.SendsResponse
-call_of (node_replies.OfRequestCopy reply) = at.CopiesRequest
-call_of (node_replies.OfResponseCopy reply) = at.CopiesResponse
+-- which call answers so
+abbrev pub answered_at : NodeReply → CallAt
+answered_at (node_replies.OfSeat reply) = at.Seats
+answered_at (node_replies.OfReceive reply) = at.Receives
+answered_at (node_replies.OfLoan reply) = at.Lends
+answered_at (node_replies.OfRequest reply) = at.SendsRequest
+answered_at (node_replies.OfResponse reply) = at.SendsResponse
+answered_at (node_replies.OfRequestCopy reply) = at.CopiesRequest
+answered_at (node_replies.OfResponseCopy reply) = at.CopiesResponse
 
 -- ---- what a node keeps to
 

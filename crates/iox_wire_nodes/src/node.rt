@@ -82,7 +82,7 @@ impl StoredNode {
     ghost use Rattle.iox_wire_nodes.specs.declared.call_at.CallAt.TheVariants.{Seats};
     ghost use Rattle.iox_wire_nodes.specs.Aims.{Answers, GoesOn, IsAimed, MayGoOn, StaysAimed};
     ghost use Rattle.iox_wire_nodes.specs.Aims.{StaysReady};
-    ghost use Rattle.iox_wire_nodes.specs.Nodes.{call_of, seat_in};
+    ghost use Rattle.iox_wire_nodes.specs.Nodes.{answered_at, seat_in};
 
     /// A node with that seat, which is between calls.
     pub fn new(alloc: Global, seat: StoredSeat) -> StoredNode
@@ -152,7 +152,7 @@ impl StoredNode {
         requires may { MayGoOn self.old.at self.old seen }
         ensures next { GoesOn self.old seen self.new }
         ensures over { Answers self.old seen result self.new }
-        ensures own { IfSome result (λ reply. call_of reply ≡ self.old.at) }
+        ensures own { IfSome result (λ reply. answered_at reply ≡ self.old.at) }
         ensures ready { StaysReady self.old result self.new }
         ensures aimed { StaysAimed self.old self.new }
         ensures call { self.new.at ≡ self.old.at }

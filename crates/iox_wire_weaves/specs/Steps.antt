@@ -19,7 +19,7 @@ use Rattle.iox_wire_nodes.specs.WirePlan.{WirePlan}
 use Rattle.iox_wire_needs.specs.Runs.{GoesOnBy, Run}
 use Rattle.iox_wire_needs.specs.WholeSteps.{GoesOnWith}
 use Rattle.iox_wire_nodes.specs.declared.call_at.NodeReply.{NodeReply}
-use Rattle.iox_wire_nodes.specs.Nodes.{call_of, reply_in, seat_in}
+use Rattle.iox_wire_nodes.specs.Nodes.{answered_at, reply_in, seat_in}
 use Rattle.iox_wire_weaves.specs.Events.{with_serials}
 use Rattle.iox_wire_weaves.specs.Owners.{serial_of}
 use Rattle.iox_wire_weaves.specs.Replies.{reply_within}
@@ -79,7 +79,7 @@ answer_of n nodes (Done reply) =
 abbrev pub IsOwnAnswer : WireData → ℕ → Progress NodeReply → Type 0
 IsOwnAnswer old n Going = Unit {0}
 IsOwnAnswer old n (Done reply) =
-    IfSome (node_at n old.nodes) (λ x. call_of reply ≡ x.node.at)
+    IfSome (node_at n old.nodes) (λ x. answered_at reply ≡ x.node.at)
 
 -- the call that a node has under way after its step
 abbrev pub call_after : Option UnderWay → Option NodeReply → Option UnderWay

@@ -11,7 +11,8 @@ ghost use Rattle.iox_wire_begins.specs.Begins.{is_busy, refusal_at};
 ghost use Rattle.iox_wire_begins.specs.Tables.{Setting};
 ghost use Rattle.iox_wire_nodes.specs.Begins.{AddsHandle, IsLeftBy, IsUnderWay};
 ghost use Rattle.iox_wire_nodes.specs.Begins.{MayBegin, node_refusal};
-ghost use Rattle.iox_wire_nodes.specs.Calls.{call_in, may_add_handle, number_in};
+ghost use Rattle.iox_wire_nodes.specs.Calls.{IsKeptAt, call_in, call_in_words, may_add_handle};
+ghost use Rattle.iox_wire_nodes.specs.Calls.{number_in};
 ghost use Rattle.iox_wire_nodes.specs.Nodes.{seat_in};
 
 use super::StoredNode;
@@ -44,6 +45,7 @@ impl StoredNode {
             (λ error. refusal_at p (seat_in self.old) (Port (call_in p call.entry))
             ≡ node_refusal error) }
         ensures adds { OnOk result (AddsHandle self.new.at → may_add_handle call.entry ≡ true) }
+        ensures at { OnOk result (IsKeptAt (call_in_words call.entry) self.new.at) }
         ensures unchanged { OnErr result (IsLeftBy call.entry self.old self.new) }
         ensures lists { HasRoomFor map.now lists.new }
     {
@@ -76,6 +78,7 @@ impl StoredNode {
             (λ error. refusal_at p (seat_in self.old) (Port (call_in p call.entry))
             ≡ node_refusal error) }
         ensures adds { OnOk result (AddsHandle self.new.at → may_add_handle call.entry ≡ true) }
+        ensures at { OnOk result (IsKeptAt (call_in_words call.entry) self.new.at) }
         ensures unchanged { OnErr result (IsLeftBy call.entry self.old self.new) }
         ensures lists { HasRoomFor map.now lists.new }
     {
@@ -136,6 +139,7 @@ impl StoredNode {
             (λ error. refusal_at p (seat_in self.old) (Port (call_in p call.entry))
             ≡ node_refusal error) }
         ensures adds { OnOk result (AddsHandle self.new.at → may_add_handle call.entry ≡ true) }
+        ensures at { OnOk result (IsKeptAt (call_in_words call.entry) self.new.at) }
         ensures unchanged { OnErr result (IsLeftBy call.entry self.old self.new) }
         ensures lists { HasRoomFor map.now lists.new }
     {

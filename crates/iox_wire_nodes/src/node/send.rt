@@ -1,5 +1,6 @@
 //! How a node begins to send a loan.
-ghost use Rattle.std.specs.Prelude.{◌≡◌, ◌≤◌, IfErr, IfSome, None, OnErr, OnOk, false, true, vec_capacity};
+ghost use Rattle.std.specs.Prelude.{◌≡◌, ◌⊎◌, ◌≤◌, IfErr, IfSome, None, OnErr, OnOk, false, true};
+ghost use Rattle.std.specs.Prelude.{vec_capacity};
 ghost use Rattle.iox_model.specs.declared.call.Call.TheVariants.{Send};
 ghost use Rattle.iox_model.specs.declared.call.WireCall.TheVariants.{Port};
 ghost use Rattle.iox_model.specs.Handles.{is_request_loan, is_response_loan};
@@ -45,6 +46,8 @@ impl StoredNode {
         ensures at { OnOk result (IfSome (entry_at number self.old.seat.seat.table)
             (λ loan. self.new.at ≡ send_at loan.kind)) }
         ensures adds { OnOk result (AddsHandle self.new.at → ⊥) }
+        ensures sends { OnOk result
+            ((self.new.at ≡ SendsRequest) ⊎ (self.new.at ≡ SendsResponse)) }
         ensures unchanged { OnErr result (self.new ≡ self.old) }
         ensures list { vec_capacity targets.new ≡ vec_capacity targets.old }
     {

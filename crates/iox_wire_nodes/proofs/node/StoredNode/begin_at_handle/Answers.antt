@@ -5,10 +5,10 @@ use Rattle.iox_wire_begins.specs.Begins.{refusal_at}
 use Rattle.iox_wire_begins.specs.HandleCalls.{refusal_in, write_of}
 use Rattle.iox_wire_nodes.specs.declared.node_call.NodeCall.{NodeCall}
 use Rattle.iox_wire_nodes.specs.Begins.{IsUnderWay}
-use Rattle.iox_wire_nodes.specs.Calls.{call_in}
+use Rattle.iox_wire_nodes.specs.Calls.{IsKeptAt, call_in, call_in_words}
 use Rattle.iox_wire_nodes.specs.Nodes.{seat_in}
 use Rattle.iox_wire_nodes.proofs.BesideLemmas.{is_under_way}
-use Rattle.iox_wire_nodes.proofs.CallLemmas.{none}
+use Rattle.iox_wire_nodes.proofs.CallLemmas.{handle_kept, none}
 use Rattle.iox_wire_nodes.proofs.NameLemmas.{elements_planned}
 use Rattle.iox_wire_nodes.proofs.node.StoredNode.begin_at_handle.Goals as goal
 
@@ -27,3 +27,8 @@ returns-in_ok-begin_write-in-Write-clause-begun c p with =
     (c.elements_in-elements.ensures.elements ∙ elements_planned c.args.map.now c.args.terms.now p with c.in-Write.payload.role c.in-Write.payload.words.now)
     (is_under_way p c.args.self.now (write_of c.in-Write.number c.in-Write.payload.role c.elements_in-elements.result c.in-Write.payload.words.now) c.begin_write.new.self
     (c.in_ok-begin_write-in-Write.ensures.begun p with.setting)))
+
+pub returns-in_ok-begin_on_handle-in-Handle-clause-at : goal.returns-in_ok-begin_on_handle-in-Handle-clause-at
+returns-in_ok-begin_on_handle-in-Handle-clause-at c =
+    subst (λ (k : NodeCall). IsKeptAt (call_in_words k) c.begin_on_handle.new.self.at) (sym c.in-Handle.is)
+    (handle_kept c.in-Handle.call c.in-Handle.number c.begin_on_handle.new.self.at c.in_ok-begin_on_handle-in-Handle.ensures.at)
