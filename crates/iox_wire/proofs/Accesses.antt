@@ -43,14 +43,16 @@ module _ (p : Setting) (x z : Node) (same : x ≡ z) (words : List ℕ) (may : M
         (may.goes_on (subst (λ (k : Node). KnowsItsPlace k.at k) same place)))
 
     pub has_gone_on : (y : Node) (reply : Option NodeReply) → GoesOn x seen y → Answers x seen reply y → IfSome reply (λ r. answered_at r ≡ x.at)
-        → StaysReady x reply y → StaysAimed x y → KeepsRoom x.seat y.seat → HasGoneOn p z words reply y
-    has_gone_on y reply goes over own ready stays room = record {
+        → StaysReady x reply y → StaysAimed x y → KeepsRoom x.seat y.seat → y.at ≡ x.at
+        → HasGoneOn p z words reply y
+    has_gone_on y reply goes over own ready stays room there = record {
       went = record {
         next_is = goes p aimed_here ∙ ap₂ (λ (k : Node) s. next p (seat_in k) s) same its_word;
         told = sym (ap₂ (λ (k : Node) s. tells p (seat_in k) s) same its_word) ∙ over p aimed_here;
         aimed = λ pools. stays p aimed_here (tells_of_pools p y.at (seat_in y).local pools);
         room = subst (λ (k : Node). KeepsRoom k.seat y.seat) same room;
       };
+      at = there ∙ ap (λ (k : Node). k.at) same;
       own = subst (λ (k : Node). IfSome reply (λ r. answered_at r ≡ k.at)) same own;
       ready = subst (λ (k : Node). StaysReady k reply y) same ready p may.aimed;
     }

@@ -27,9 +27,10 @@ use Rattle.iox_wire_weaves.specs.Wires.{Shows, WireData, WireNode, answers_in, l
 use Rattle.iox_wire_weaves.proofs.DeathsShown.{deaths_show}
 use Rattle.iox_wire_weaves.proofs.Lookups.{living_by, seat_there, steps_on}
 use Rattle.iox_wire_weaves.proofs.StepsShown.{steps_show}
-use Rattle.iox_wire.specs.Kept.{HasGoneOn, IsKept, IsShown, Loses, MayAccess, access_in}
+use Rattle.iox_wire.specs.Kept.{HasGoneOn, IsAtItsCall, IsKept, IsShown, Loses, MayAccess, access_in}
 use Rattle.iox_wire.proofs.GoingOn.{goes_on}
-use Rattle.iox_wire.proofs.Keeping.{kept_on, kept_still}
+use Rattle.iox_wire.proofs.Keeping.{each_still, kept_on, kept_still}
+use Rattle.iox_wire.proofs.OwnCalls.{own_stepped}
 use Rattle.iox_wire.proofs.Told.{may, told, within}
 use Rattle.iox_wire.proofs.Places.{read_there, replaced}
 
@@ -53,6 +54,7 @@ shown_with w room shown = record {
   whole = shown.whole;
   numbers = shown.numbers;
   kept = shown.kept;
+  own = shown.own;
 }
 
 -- nor has the access of a node
@@ -134,6 +136,8 @@ module _ (w : WireData) (n i : ℕ) (d : WireNode) (at : position (λ x. x.numbe
         numbers = shown.numbers;
         kept = kept_still w.nodes n d y (slice_set w.nodes i y) (replaced n w.nodes i d y at read is.number) shown.kept
             (kept_on p d.node y.node (seen_at (access_in p d.node) w.words) reply kept rests.1 rests.2 made.gone.went made.gone.ready);
+        own = each_still IsAtItsCall w.nodes n d y (slice_set w.nodes i y) (replaced n w.nodes i d y at read is.number) shown.own
+            (own_stepped d y reply (shown.own n d there) rests.1 made.gone.at is.call);
       }
 
   -- ---- a death
@@ -156,6 +160,8 @@ module _ (w : WireData) (n i : ℕ) (d : WireNode) (at : position (λ x. x.numbe
         numbers = shown.numbers;
         kept = kept_still w.nodes n d y (slice_set w.nodes i y) (replaced n w.nodes i d y at read (ap (λ (z : WireNode). z.number) dead)) shown.kept
             (subst (λ (z : WireNode). IsKept z.node) (sym dead) (shown.kept n d there));
+        own = each_still IsAtItsCall w.nodes n d y (slice_set w.nodes i y) (replaced n w.nodes i d y at read (ap (λ (z : WireNode). z.number) dead)) shown.own
+            (subst IsAtItsCall (sym dead) (shown.own n d there));
       }
       )
 

@@ -19,7 +19,7 @@ use Rattle.iox_wire_weaves.specs.Begins.{is_busy}
 use Rattle.iox_wire_weaves.specs.Copying.{CopyGoesOn}
 use Rattle.iox_wire_weaves.specs.Counts.{IsTidy}
 use Rattle.iox_wire_weaves.specs.Uses.{HaveFewWays}
-use Rattle.iox_wire_weaves.specs.Steps.{most_accesses}
+use Rattle.iox_wire_weaves.specs.Steps.{IsWireCallAt, most_accesses}
 use Rattle.iox_wire_weaves.specs.declared.refusal.WireRefusal.TheVariants.{NodeIsDead}
 use Rattle.iox_wire_weaves.specs.Laws.{WentOn}
 use Rattle.iox_wire_weaves.specs.Wires.{IsSameSetting, Shows, WireData, WireNode, living_refusal, node_at}
@@ -43,6 +43,11 @@ pub record IsKept (x : Node) : Type 0 where
 abbrev pub AreKept : List WireNode → Type 0
 AreKept nodes = (n : ℕ) (x : WireNode) → node_at n nodes ≡ Some x → IsKept x.node
 
+-- a node with a call under way is where that call is kept
+abbrev pub IsAtItsCall : WireNode → Type 0
+IsAtItsCall x =
+    is_busy (seat_in x.node).local ≡ true → IfSome x.call (λ u. IsWireCallAt u.call x.node.at)
+
 -- A wire shows a run of the machine, calls may begin with its plan and its terms, and its handles have
 -- numbers.
 pub record IsShown (wire : WireData) : Type 0 where
@@ -50,6 +55,7 @@ pub record IsShown (wire : WireData) : Type 0 where
   pub whole : IsWirePlan wire.plan wire.terms
   pub numbers : wire.terms.first_number + most_accesses < 2 ^ 64
   pub kept : AreKept wire.nodes
+  pub own : (n : ℕ) (x : WireNode) → node_at n wire.nodes ≡ Some x → IsAtItsCall x
 
 -- There is room for what so many more steps record: an event each, and a finished call, which brings and
 -- reads no more words than the longest message has.
@@ -114,6 +120,7 @@ pub record HasGoneOn (p : Setting) (x : Node) (words : List ℕ) (reply : Option
     : Type 0 where
   pub went : WentOn p x (seen_at (access_in p x) words) reply y
   pub own : IfSome reply (λ r. answered_at r ≡ x.at)
+  pub at : y.at ≡ x.at
   pub ready : reply ≡ None → MayAdd x.at x → MayAdd y.at y
 
 -- its access found this in words where it may make it

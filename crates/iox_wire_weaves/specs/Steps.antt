@@ -5,11 +5,14 @@ use Rattle.iox_model.specs.Commands.{Reply}
 use Rattle.iox_model.specs.declared.event.Event.{Event}
 use Rattle.iox_model.specs.Maps.{or_else, refused_if}
 use Rattle.iox_model.specs.Schedules.{Finished, IsStepOf, UnderWay, finish}
+use Rattle.iox_model.specs.WireCalls.{WordsCall}
 use Rattle.iox_model.specs.Weaves.{Beat, Dies}
+use Rattle.iox_model.specs.declared.call.WireCall.TheVariants.{Forget, Port}
 use Rattle.iox_steps.specs.declared.access.Access.{Access}
 use Rattle.iox_steps.specs.declared.access.Progress.{Progress}
 use Rattle.iox_steps.specs.declared.access.Progress.TheVariants.{Done, Going}
 use Rattle.iox_steps.specs.Accesses.{seen_at, words_after}
+use Rattle.iox_wire_nodes.specs.Calls.{IsKeptAt}
 use Rattle.iox_wire_nodes.specs.Programs.{program_access}
 use Rattle.iox_wire_nodes.specs.LocalsBegins.{is_busy}
 use Rattle.iox_wire_nodes.specs.Locals.{program_of}
@@ -18,6 +21,8 @@ use Rattle.iox_wire_nodes.specs.Tables.{Setting}
 use Rattle.iox_wire_nodes.specs.WirePlan.{WirePlan}
 use Rattle.iox_wire_needs.specs.Runs.{GoesOnBy, Run}
 use Rattle.iox_wire_needs.specs.WholeSteps.{GoesOnWith}
+use Rattle.iox_wire_nodes.specs.declared.call_at.CallAt.{CallAt}
+use Rattle.iox_wire_nodes.specs.declared.call_at.CallAt.TheVariants.{Seats}
 use Rattle.iox_wire_nodes.specs.declared.call_at.NodeReply.{NodeReply}
 use Rattle.iox_wire_nodes.specs.Nodes.{answered_at, reply_in, seat_in}
 use Rattle.iox_wire_weaves.specs.Events.{with_serials}
@@ -75,11 +80,16 @@ answer_of n nodes Going = []
 answer_of n nodes (Done reply) =
     (n, reply_in (option_map_or (λ x. x.node.seat.words) (node_at n nodes) []) reply) ∷ []
 
--- what the step of a node answers is of the call at which the node is
+-- a node is there with that call under way: a Forget, which no code begins, is in the seat
+abbrev pub IsWireCallAt : WordsCall → CallAt → Type 0
+IsWireCallAt (Port call) a = IsKeptAt call a
+IsWireCallAt (Forget dead) a = a ≡ Seats
+
+-- what the step of a node answers is an answer to the call that it has under way
 abbrev pub IsOwnAnswer : WireData → ℕ → Progress NodeReply → Type 0
 IsOwnAnswer old n Going = Unit {0}
 IsOwnAnswer old n (Done reply) =
-    IfSome (node_at n old.nodes) (λ x. answered_at reply ≡ x.node.at)
+    IfSome (node_at n old.nodes) (λ x. IfSome x.call (λ u. IsWireCallAt u.call (answered_at reply)))
 
 -- the call that a node has under way after its step
 abbrev pub call_after : Option UnderWay → Option NodeReply → Option UnderWay
