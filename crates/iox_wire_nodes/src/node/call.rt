@@ -44,8 +44,8 @@ impl StoredNode {
         ensures refused { (p : Setting) → IsSettingWith map.now terms.now p → IfErr result
             (λ error. refusal_at p (seat_in self.old) (Port (call_in p call.entry))
             ≡ node_refusal error) }
-        ensures adds { OnOk result (AddsHandle self.new.at → may_add_handle call.entry ≡ true) }
         ensures at { OnOk result (IsKeptAt (call_in_words call.entry) self.new.at) }
+        ensures adds { OnOk result (AddsHandle self.new.at → may_add_handle call.entry ≡ true) }
         ensures unchanged { OnErr result (IsLeftBy call.entry self.old self.new) }
         ensures lists { HasRoomFor map.now lists.new }
     {
@@ -77,8 +77,8 @@ impl StoredNode {
         ensures refused { (p : Setting) → IsSettingWith map.now terms.now p → IfErr result
             (λ error. refusal_at p (seat_in self.old) (Port (call_in p call.entry))
             ≡ node_refusal error) }
-        ensures adds { OnOk result (AddsHandle self.new.at → may_add_handle call.entry ≡ true) }
         ensures at { OnOk result (IsKeptAt (call_in_words call.entry) self.new.at) }
+        ensures adds { OnOk result (AddsHandle self.new.at → may_add_handle call.entry ≡ true) }
         ensures unchanged { OnErr result (IsLeftBy call.entry self.old self.new) }
         ensures lists { HasRoomFor map.now lists.new }
     {
@@ -138,8 +138,8 @@ impl StoredNode {
         ensures refused { (p : Setting) → IsSettingWith map.now terms.now p → IfErr result
             (λ error. refusal_at p (seat_in self.old) (Port (call_in p call.entry))
             ≡ node_refusal error) }
-        ensures adds { OnOk result (AddsHandle self.new.at → may_add_handle call.entry ≡ true) }
         ensures at { OnOk result (IsKeptAt (call_in_words call.entry) self.new.at) }
+        ensures adds { OnOk result (AddsHandle self.new.at → may_add_handle call.entry ≡ true) }
         ensures unchanged { OnErr result (IsLeftBy call.entry self.old self.new) }
         ensures lists { HasRoomFor map.now lists.new }
     {
