@@ -1,5 +1,5 @@
 -- A node makes its access, and goes on.
-use Rattle.std.specs.Prelude.{Option}
+use Rattle.std.specs.Prelude.{IfSome, Option}
 use Rattle.std.proofs.Common.{◌≡◌, ℕ, List, ap, ap₂, sym, subst, ◌∙◌}
 use Rattle.iox_steps.specs.declared.access.Access.{Access}
 use Rattle.iox_steps.specs.Accesses.{seen_at}
@@ -11,7 +11,8 @@ use Rattle.iox_wire_weaves.specs.CallAt.{CallAt}
 use Rattle.iox_wire_weaves.specs.CallAt.TheVariants as at
 use Rattle.iox_wire_weaves.specs.NodeReply.{NodeReply}
 use Rattle.iox_wire_weaves.specs.Aims.{Answers, GoesOn, IsAimed, KnowsItsPlace, MayGoOn, StaysAimed, StaysReady, TellsOfPools}
-use Rattle.iox_wire_weaves.specs.Nodes.{Node, seat_in}
+use Rattle.iox_wire_weaves.specs.Nodes.{Node, answered_at, seat_in}
+use Rattle.iox_wire_weaves.specs.SeatsAims.{KeepsRoom}
 use Rattle.iox_wire.specs.Kept.{HasGoneOn, MayAccess, access_in}
 
 -- ---- slots and lanes of pools
@@ -41,13 +42,17 @@ module _ (p : Setting) (x z : Node) (same : x ≡ z) (words : List ℕ) (may : M
         (subst (λ (k : Node). MayGoOn k.at k (seen_at (access_in p z) words)) (sym same)
         (may.goes_on (subst (λ (k : Node). KnowsItsPlace k.at k) same place)))
 
-    pub has_gone_on : (y : Node) (reply : Option NodeReply) → GoesOn x seen y → Answers x seen reply y → StaysReady x reply y → StaysAimed x y
+    pub has_gone_on : (y : Node) (reply : Option NodeReply) → GoesOn x seen y → Answers x seen reply y → IfSome reply (λ r. answered_at r ≡ x.at)
+        → StaysReady x reply y → StaysAimed x y → KeepsRoom x.seat y.seat → y.at ≡ x.at
         → HasGoneOn p z words reply y
-    has_gone_on y reply goes over ready stays = record {
+    has_gone_on y reply goes over own ready stays room there = record {
       went = record {
         next_is = goes p aimed_here ∙ ap₂ (λ (k : Node) s. next p (seat_in k) s) same its_word;
         told = sym (ap₂ (λ (k : Node) s. tells p (seat_in k) s) same its_word) ∙ over p aimed_here;
         aimed = λ pools. stays p aimed_here (tells_of_pools p y.at (seat_in y).local pools);
+        room = subst (λ (k : Node). KeepsRoom k.seat y.seat) same room;
       };
+      at = there ∙ ap (λ (k : Node). k.at) same;
+      own = subst (λ (k : Node). IfSome reply (λ r. answered_at r ≡ k.at)) same own;
       ready = subst (λ (k : Node). StaysReady k reply y) same ready p may.aimed;
     }

@@ -19,7 +19,7 @@ use Rattle.iox_wire_weaves.specs.Asking.{BeginsCall, IsBeginRefusal}
 use Rattle.iox_wire_weaves.specs.Begins.{is_busy, misnamed_call, refusal_at}
 use Rattle.iox_wire_weaves.specs.CallAt.{CallAt}
 use Rattle.iox_wire_weaves.specs.CallAt.TheVariants as at
-use Rattle.iox_wire_weaves.specs.Calls.{call_in, may_add_handle}
+use Rattle.iox_wire_weaves.specs.Calls.{IsKeptAt, call_in, call_in_words, may_add_handle}
 use Rattle.iox_wire_weaves.specs.Copying.{CopyGoesOn}
 use Rattle.iox_wire_weaves.specs.Counts.{IsTidy}
 use Rattle.iox_wire_weaves.specs.HandleCall.TheVariants as handle_calls
@@ -55,10 +55,11 @@ use Rattle.iox_wire_weaves.proofs.CallLemmas.{left_as_it_was}
 use Rattle.iox_wire_weaves.proofs.HandlesStanding.{handles_stand}
 use Rattle.iox_wire_weaves.proofs.Lookups.{first_none, fun_ext, not_refused, same_living, seat_there}
 use Rattle.iox_wire.specs.Begun.{HasBegun, IsLeft, IsLeftAlone, IsRefusedBy, StaysPut, seen_of}
-use Rattle.iox_wire.specs.Kept.{IsKept, IsShown}
+use Rattle.iox_wire.specs.Kept.{IsAtItsCall, IsKept, IsShown}
 use Rattle.iox_wire.specs.Replies.{words_call}
 use Rattle.iox_wire.proofs.Accesses.{tells_of_pools}
-use Rattle.iox_wire.proofs.Keeping.{kept_begun, kept_still}
+use Rattle.iox_wire.proofs.Keeping.{each_still, kept_begun, kept_still}
+use Rattle.iox_wire.proofs.OwnCalls.{own_begun, own_left}
 use Rattle.iox_wire.proofs.MayLend.{may_lend}
 use Rattle.iox_wire.proofs.Places.{read_there, replaced, unchanged_there}
 
@@ -156,18 +157,19 @@ rests_if p x call allowed =
 pub has_begun : (plan : WirePlan) (terms : WireTerms) (old : WireNode) (call : NodeCall) (events : ℕ) (mid new : WireNode)
     → (p : Setting) × IsSettingWith plan terms p
     → ((p : Setting) → IsSettingWith plan terms p → IsUnderWay p old.node (Port (call_in p call)) mid.node)
-    → (AddsHandle mid.node.at → may_add_handle call ≡ true) → (may_add_handle call ≡ true → 0 < old.node.seat.room)
+    → (AddsHandle mid.node.at → may_add_handle call ≡ true) → IsKeptAt (call_in_words call) mid.node.at → (may_add_handle call ≡ true → 0 < old.node.seat.room)
     → (is_busy (seat_in old.node).local ≡ false → 0 < old.node.seat.room → (p : Setting) → IsSettingWith plan terms p → (port : ℕ)
     → MayLend old.node.seat (next_handle p old.node.seat.seat) port)
     → mid.number ≡ old.number → LivesAs old mid
     → new ≡ record mid { call = Some (record { call = call_within mid.longest (words_call call); begun = events }) } → HasBegun plan terms old call events new
-has_begun plan terms old call events mid new set begun adds room lends number lives keeps =
+has_begun plan terms old call events mid new set begun adds there room lends number lives keeps =
     let way : IsUnderWay set.0 old.node (Port (call_in set.0 call)) mid.node = begun set.0 set.1 in
     let rests : is_busy (seat_in old.node).local ≡ false = rests_if set.0 (seat_in old.node) (Port (call_in set.0 call)) way.allowed in
     let same : mid.node ≡ new.node = sym (ap (λ (x : WireNode). x.node) keeps) in
     record {
       begun = λ p setting. subst (λ (x : Node). IsUnderWay p old.node (Port (call_in p call)) x) same (begun p setting);
       ready = subst (λ (x : Node). MayAdd x.at x) same (way.ready.may (λ more. lends rests (room (adds more)) set.0 set.1));
+      at = subst (λ (x : Node). IsKeptAt (call_in_words call) x.at) same there;
       number = ap (λ (x : WireNode). x.number) keeps ∙ number;
       lives = record {
         alive = ap (λ (x : WireNode). x.alive) keeps ∙ lives.alive;
@@ -255,6 +257,8 @@ module _ (w : WireData) (n i : ℕ) (d : WireNode) (at : position (λ x. x.numbe
         numbers = shown.numbers;
         kept = kept_still w.nodes n d y (slice_set w.nodes i y) (replaced n w.nodes i d y at read has.number) shown.kept
             (kept_begun p d.node y.node (Port (call_in p call)) (shown.kept n d there) (has.begun p shown.shows.2.setting).begun has.ready);
+        own = each_still IsAtItsCall w.nodes n d y (slice_set w.nodes i y) (replaced n w.nodes i d y at read has.number) shown.own
+            (own_begun d y call events has.kept has.at);
       }
 
   -- ---- a refusal
@@ -313,6 +317,7 @@ module _ (w : WireData) (n i : ℕ) (d : WireNode) (at : position (λ x. x.numbe
       whole = shown.whole;
       numbers = shown.numbers;
       kept = kept_still w.nodes n d y (slice_set w.nodes i y) puts shown.kept (kept_left d.node y.node left (shown.kept n d there));
+      own = each_still IsAtItsCall w.nodes n d y (slice_set w.nodes i y) puts shown.own (own_left d y kept left (shown.own n d there));
     }
 
     seen_same : (m : ℕ) (b : Bool) → (m == n) ≡ b → option_map seen_of (node_at m (slice_set w.nodes i y)) ≡ option_map seen_of (node_at m w.nodes)

@@ -69,7 +69,7 @@ module _ (plan : WirePlan) (terms : WireTerms) (ns : List ℕ) (wire : WireData)
     one : (n : ℕ) (x : WireNode) → node_at n wire.nodes ≡ Some x → IsOpenedNode plan handles n x
     one n x at = opened_node plan handles ns wire.nodes n x nodes at
 
-    fresh : IsFresh p plan terms ns wire
+    pub fresh : IsFresh p plan terms ns wire
     fresh = record {
       plan_is = plan_is;
       terms_are = terms_are;
@@ -100,4 +100,6 @@ module _ (plan : WirePlan) (terms : WireTerms) (ns : List ℕ) (wire : WireData)
         whole = subst (λ q. IsWirePlan q wire.terms) (sym plan_is) (subst (IsWirePlan plan) (sym terms_are) (wire_plan o.0 o.2.told whole low));
         numbers = subst (λ (t : WireTerms). t.first_number + most_accesses < 2 ^ 64) (sym terms_are) (omega (arith, first));
         kept = λ n x at. kept_first plan is.numbers low handles n x (opened_node plan handles ns wire.nodes n x nodes at);
+        own = λ n x at busy.
+            absurd (true≢false (sym busy ∙ ap (λ (s : Seat). is_busy s.local) (opened_node plan handles ns wire.nodes n x nodes at).seat));
       }

@@ -1,5 +1,5 @@
 -- What a step leaves, by what its code does.
-use Rattle.std.specs.Prelude.{position}
+use Rattle.std.specs.Prelude.{IfSome, position}
 use Rattle.std.proofs.Common.{◌≡◌, ℕ, ◌<◌, ◌==◌, List, ◌++◌, append-nil, length, get_or, Option, Some, None, refl, ap, ap₂, sym, subst, ◌∙◌, slice_set}
 use Rattle.iox_laws.proofs.WeaveLaws.WholeLemmas.{some-is}
 use Rattle.iox_model.specs.declared.event.Event.{Event}
@@ -9,15 +9,16 @@ use Rattle.iox_steps.specs.Accesses.{seen_at, words_after}
 use Rattle.iox_wire_weaves.specs.Aims.{IsAimed}
 use Rattle.iox_wire_weaves.specs.Laws.{LivesAs, progress_of}
 use Rattle.iox_wire_weaves.specs.NodeReply.{NodeReply}
-use Rattle.iox_wire_weaves.specs.Nodes.{Node, seat_in}
+use Rattle.iox_wire_weaves.specs.Nodes.{Node, answered_at, seat_in}
 use Rattle.iox_wire_weaves.specs.Runs.{Run}
 use Rattle.iox_wire_weaves.specs.SlotEvents.{slot_event}
-use Rattle.iox_wire_weaves.specs.Steps.{MakesOneAccess, answer_of, call_after, finished_by, most_accesses, recorded, rest_refusal, step_refusal}
+use Rattle.iox_wire_weaves.specs.Steps.{IsWireCallAt, MakesOneAccess, answer_of, call_after, finished_by, most_accesses, recorded, rest_refusal, step_refusal}
 use Rattle.iox_wire_weaves.specs.Tables.{Setting}
 use Rattle.iox_wire_weaves.specs.WholeSteps.{GoesOnWith}
 use Rattle.iox_wire_weaves.specs.Wires.{Shows, WireData, WireNode, answers_in, living_refusal, node_at}
 use Rattle.iox_wire_weaves.proofs.Lookups.{steps_on}
 use Rattle.iox_wire.specs.Kept.{FoundThere, HasGoneOn, IsShown, MayAccess, access_in}
+use Rattle.iox_wire.proofs.OwnCalls.{own_answer}
 use Rattle.iox_wire.proofs.Places.{number_there}
 use Rattle.iox_wire.proofs.WireSteps as wires
 use Rattle.iox_wire.proofs.WireSteps.{may_access, refused_at, shown_after, stepped}
@@ -85,6 +86,15 @@ module _ (w : WireData) (n i : ℕ) (m d : WireNode) (first : position (λ x. x.
         saw_d shown.shows.0 (may_d shown.shows.0 shown.shows.1 shown.shows.2),
       ),
     )
+
+    -- it is the call that the node has under way that answers
+    pub owned : (reply : Option NodeReply) (z : WireNode)
+        → ((p : Setting) (ws : List ℕ) → MayAccess p d.node ws → seen ≡ seen_at (access_in p d.node) ws → HasGoneOn p d.node ws reply z.node)
+        → IfSome (node_at n w.nodes) (λ x. IfSome reply (λ r. IfSome x.call (λ u. IsWireCallAt u.call (answered_at r))))
+    owned reply z gone =
+        subst (λ (o : Option WireNode). IfSome o (λ x. IfSome reply (λ r. IfSome x.call (λ u. IsWireCallAt u.call (answered_at r))))) (sym at_d)
+        (own_answer d reply (shown.own n d at_d) (steps_on w n d at_d goes).1
+        (gone shown.shows.0 w.words (may_d shown.shows.0 shown.shows.1 shown.shows.2) (saw_d shown.shows.0 (may_d shown.shows.0 shown.shows.1 shown.shows.2))).own)
 
     module _ (reply : Option NodeReply) (z y : WireNode)
         (gone : (p : Setting) (ws : List ℕ) → MayAccess p d.node ws → seen ≡ seen_at (access_in p d.node) ws → HasGoneOn p d.node ws reply z.node)

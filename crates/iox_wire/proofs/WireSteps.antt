@@ -1,5 +1,5 @@
 -- What a step, and a death, leave of a wire.
-use Rattle.std.specs.Prelude.{not, position}
+use Rattle.std.specs.Prelude.{not, option_map, position}
 use Rattle.iox_wire_weaves.specs.Begins.{is_busy}
 use Rattle.iox_wire_weaves.specs.Nodes.{seat_in}
 use Rattle.std.specs.Option.{option_map_or}
@@ -22,14 +22,16 @@ use Rattle.iox_wire_weaves.specs.Laws.{LivesAs, Replaces, WentOn, progress_of}
 use Rattle.iox_model.specs.declared.event.Event.{Event}
 use Rattle.iox_wire_weaves.specs.SlotEvents.{slot_event}
 use Rattle.iox_steps.specs.declared.access.Progress.{Progress}
-use Rattle.iox_wire_weaves.specs.Steps.{MakesItsAccess, MakesOneAccess, StepIsWoven, access_of, answer_of, call_after, finished_by, recorded, rest_refusal, step_refusal}
+use Rattle.iox_steps.specs.declared.access.Progress.TheVariants.{Done, Going}
+use Rattle.iox_wire_weaves.specs.Steps.{IsOwnAnswer, MakesItsAccess, MakesOneAccess, StepIsWoven, access_of, answer_of, call_after, finished_by, recorded, rest_refusal, step_refusal}
 use Rattle.iox_wire_weaves.specs.Wires.{Shows, WireData, WireNode, answers_in, living_refusal, node_at}
 use Rattle.iox_wire_weaves.proofs.DeathsShown.{deaths_show}
 use Rattle.iox_wire_weaves.proofs.Lookups.{living_by, seat_there, steps_on}
 use Rattle.iox_wire_weaves.proofs.StepsShown.{steps_show}
-use Rattle.iox_wire.specs.Kept.{HasGoneOn, IsKept, IsShown, Loses, MayAccess, access_in}
+use Rattle.iox_wire.specs.Kept.{HasGoneOn, IsAtItsCall, IsKept, IsShown, Loses, MayAccess, access_in}
 use Rattle.iox_wire.proofs.GoingOn.{goes_on}
-use Rattle.iox_wire.proofs.Keeping.{kept_on, kept_still}
+use Rattle.iox_wire.proofs.Keeping.{each_still, kept_on, kept_still}
+use Rattle.iox_wire.proofs.OwnCalls.{own_stepped}
 use Rattle.iox_wire.proofs.Told.{may, told, within}
 use Rattle.iox_wire.proofs.Places.{read_there, replaced}
 
@@ -53,15 +55,20 @@ shown_with w room shown = record {
   whole = shown.whole;
   numbers = shown.numbers;
   kept = shown.kept;
+  own = shown.own;
 }
 
 -- nor has the access of a node
 pub access_with : (w : WireData) (n room : ℕ) (new : WireData) → MakesItsAccess (record w { room = room }) n new → MakesItsAccess w n new
 access_with w n room new makes p r shows =
-    let m = makes p r (shows_with p w r room shows) in record { words = m.words; node = m.node; others = m.others }
+    let m = makes p r (shows_with p w r room shows) in record { setting = record { plan = m.setting.plan; terms = m.setting.terms }; words = m.words; node = m.node; handles = m.handles; others = m.others }
 
 pub woven_with : (w : WireData) (n room : ℕ) (progress : Progress NodeReply) (new : WireData) → StepIsWoven (record w { room = room }) n progress new → StepIsWoven w n progress new
 woven_with w n room progress new woven p r shows = woven p r (shows_with p w r room shows)
+
+pub own_with : (w : WireData) (n room : ℕ) (progress : Progress NodeReply) → IsOwnAnswer (record w { room = room }) n progress → IsOwnAnswer w n progress
+own_with w n room Going own = own
+own_with w n room (Done reply) own = own
 
 -- why a living node makes no step
 pub refused_at : (w : WireData) (n : ℕ) (d : WireNode) (o : Option WireRefusal) → living_refusal w.nodes n ≡ None → node_at n w.nodes ≡ Some d
@@ -134,6 +141,8 @@ module _ (w : WireData) (n i : ℕ) (d : WireNode) (at : position (λ x. x.numbe
         numbers = shown.numbers;
         kept = kept_still w.nodes n d y (slice_set w.nodes i y) (replaced n w.nodes i d y at read is.number) shown.kept
             (kept_on p d.node y.node (seen_at (access_in p d.node) w.words) reply kept rests.1 rests.2 made.gone.went made.gone.ready);
+        own = each_still IsAtItsCall w.nodes n d y (slice_set w.nodes i y) (replaced n w.nodes i d y at read is.number) shown.own
+            (own_stepped d y reply (shown.own n d there) rests.1 made.gone.at is.call);
       }
 
   -- ---- a death
@@ -156,6 +165,8 @@ module _ (w : WireData) (n i : ℕ) (d : WireNode) (at : position (λ x. x.numbe
         numbers = shown.numbers;
         kept = kept_still w.nodes n d y (slice_set w.nodes i y) (replaced n w.nodes i d y at read (ap (λ (z : WireNode). z.number) dead)) shown.kept
             (subst (λ (z : WireNode). IsKept z.node) (sym dead) (shown.kept n d there));
+        own = each_still IsAtItsCall w.nodes n d y (slice_set w.nodes i y) (replaced n w.nodes i d y at read (ap (λ (z : WireNode). z.number) dead)) shown.own
+            (subst IsAtItsCall (sym dead) (shown.own n d there));
       }
       )
 
@@ -164,6 +175,9 @@ module _ (w : WireData) (n i : ℕ) (d : WireNode) (at : position (λ x. x.numbe
   lost y dead =
       let puts : Replaces w.nodes n d y (slice_set w.nodes i y) = replaced n w.nodes i d y at read (ap (λ (z : WireNode). z.number) dead) in
       record {
+        setting = record { plan = refl; terms = refl };
+        node = λ x is. puts.here ∙ ap Some dead
+            ∙ ap (option_map (λ (z : WireNode). record z { alive = false; died = Some (length w.events) })) (sym there ∙ is);
         dead = living_by (slice_set w.nodes i y) n (Some y) puts.here ∙ ap (λ (z : WireNode). refused_if (not z.alive) NodeIsDead) dead;
         others = puts.others;
         words = refl;

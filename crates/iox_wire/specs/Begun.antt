@@ -3,7 +3,7 @@ use Rattle.std.specs.Prelude.{◌≡◌, ℕ, Bool, Some, option_map}
 use Rattle.iox_model.specs.declared.call.WireCall.TheVariants.{Port}
 use Rattle.iox_wire_weaves.specs.Aims.{MayAdd}
 use Rattle.iox_wire_weaves.specs.Begins.{refusal_at}
-use Rattle.iox_wire_weaves.specs.Calls.{call_in}
+use Rattle.iox_wire_weaves.specs.Calls.{IsKeptAt, call_in, call_in_words}
 use Rattle.iox_wire_weaves.specs.Laws.{LivesAs}
 use Rattle.iox_wire_weaves.specs.Local.{Local}
 use Rattle.iox_wire_weaves.specs.NodeCall.{NodeCall}
@@ -30,6 +30,7 @@ pub record HasBegun (plan : WirePlan) (terms : WireTerms) (old : WireNode) (call
   pub begun : (p : Setting) → IsSettingWith plan terms p
       → IsUnderWay p old.node (Port (call_in p call)) new.node
   pub ready : MayAdd new.node.at new.node
+  pub at : IsKeptAt (call_in_words call) new.node.at
   pub number : new.number ≡ old.number
   pub lives : LivesAs old new
   pub kept : new.call

@@ -1,5 +1,5 @@
 -- What a wire keeps to, and what a node's access does.
-use Rattle.std.specs.Prelude.{◌+◌, ◌<◌, ◌≤◌, ◌^◌, ◌≡◌, ◌==◌, ℕ, false, List, [], ◌∷◌, Option, None, Some, length, true}
+use Rattle.std.specs.Prelude.{◌+◌, ◌<◌, ◌≤◌, ◌^◌, ◌≡◌, ◌==◌, ℕ, false, List, [], ◌∷◌, Option, None, Some, IfSome, length, true}
 use Rattle.iox_steps.specs.declared.access.Access.{Access}
 use Rattle.iox_steps.specs.Accesses.{IsWithin, seen_at}
 use Rattle.iox_wire_weaves.specs.Programs.{program_access}
@@ -8,7 +8,7 @@ use Rattle.iox_wire_weaves.specs.Tables.{Setting}
 use Rattle.iox_wire_weaves.specs.CallAt.TheVariants.{Seats}
 use Rattle.iox_wire_weaves.specs.NodeReply.{NodeReply}
 use Rattle.iox_wire_weaves.specs.Aims.{IsAimed, KnowsItsPlace, MayAdd, MayGoOn}
-use Rattle.iox_wire_weaves.specs.Nodes.{Node, seat_in}
+use Rattle.iox_wire_weaves.specs.Nodes.{Node, answered_at, seat_in}
 use Rattle.iox_wire_openings.specs.OpenedNodes.{planned_seat}
 use Rattle.iox_wire.specs.Replies.{FinishedCalls}
 use Rattle.iox_wire_weaves.specs.Replies.{most_words}
@@ -19,10 +19,10 @@ use Rattle.iox_wire_weaves.specs.Begins.{is_busy}
 use Rattle.iox_wire_weaves.specs.Copying.{CopyGoesOn}
 use Rattle.iox_wire_weaves.specs.Counts.{IsTidy}
 use Rattle.iox_wire_weaves.specs.Uses.{HaveFewWays}
-use Rattle.iox_wire_weaves.specs.Steps.{most_accesses}
+use Rattle.iox_wire_weaves.specs.Steps.{IsWireCallAt, most_accesses}
 use Rattle.iox_wire_weaves.specs.declared.refusal.WireRefusal.TheVariants.{NodeIsDead}
 use Rattle.iox_wire_weaves.specs.Laws.{WentOn}
-use Rattle.iox_wire_weaves.specs.Wires.{Shows, WireData, WireNode, living_refusal, node_at}
+use Rattle.iox_wire_weaves.specs.Wires.{IsSameSetting, Shows, WireData, WireNode, living_refusal, node_at}
 
 -- ---- a wire
 
@@ -43,6 +43,11 @@ pub record IsKept (x : Node) : Type 0 where
 abbrev pub AreKept : List WireNode → Type 0
 AreKept nodes = (n : ℕ) (x : WireNode) → node_at n nodes ≡ Some x → IsKept x.node
 
+-- a node with a call under way is where that call is kept
+abbrev pub IsAtItsCall : WireNode → Type 0
+IsAtItsCall x =
+    is_busy (seat_in x.node).local ≡ true → IfSome x.call (λ u. IsWireCallAt u.call x.node.at)
+
 -- A wire shows a run of the machine, calls may begin with its plan and its terms, and its handles have
 -- numbers.
 pub record IsShown (wire : WireData) : Type 0 where
@@ -50,6 +55,7 @@ pub record IsShown (wire : WireData) : Type 0 where
   pub whole : IsWirePlan wire.plan wire.terms
   pub numbers : wire.terms.first_number + most_accesses < 2 ^ 64
   pub kept : AreKept wire.nodes
+  pub own : (n : ℕ) (x : WireNode) → node_at n wire.nodes ≡ Some x → IsAtItsCall x
 
 -- There is room for what so many more steps record: an event each, and a finished call, which brings and
 -- reads no more words than the longest message has.
@@ -59,9 +65,12 @@ pub record HasRoomToRecord (plan : WirePlan) (room : ℕ) (told : FinishedCalls)
   pub longest : told.longest ≡ most_words plan
   pub events : noted + room ≤ capacity
 
--- The wire lost the node: it is dead, and all else stays.
+-- The wire lost the node: it is dead after the events so far, and all else stays, of the node too.
 pub record Loses (old : WireData) (n : ℕ) (new : WireData) : Type 0 where
+  pub setting : IsSameSetting old new
   pub dead : living_refusal new.nodes n ≡ Some NodeIsDead
+  pub node : (x : WireNode) → node_at n old.nodes ≡ Some x
+      → node_at n new.nodes ≡ Some (record x { alive = false; died = Some (length old.events) })
   pub others : (m : ℕ) → (m == n) ≡ false → node_at m new.nodes ≡ node_at m old.nodes
   pub words : new.words ≡ old.words
   pub replies : new.replies ≡ old.replies
@@ -105,11 +114,13 @@ pub record MayAccess (p : Setting) (x : Node) (words : List ℕ) : Type 0 where
   pub within : IsWithin 0 (length words) (access_in p x)
   pub goes_on : KnowsItsPlace x.at x → MayGoOn x.at x (seen_at (access_in p x) words)
 
--- It went on with what its access found: its call answers this if it is over, and there is room for
--- what it adds if not.
+-- It went on with what its access found: its call, and no other, answers this if it is over, and there
+-- is room for what it adds if not.
 pub record HasGoneOn (p : Setting) (x : Node) (words : List ℕ) (reply : Option NodeReply) (y : Node)
     : Type 0 where
   pub went : WentOn p x (seen_at (access_in p x) words) reply y
+  pub own : IfSome reply (λ r. answered_at r ≡ x.at)
+  pub at : y.at ≡ x.at
   pub ready : reply ≡ None → MayAdd x.at x → MayAdd y.at y
 
 -- its access found this in words where it may make it

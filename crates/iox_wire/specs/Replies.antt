@@ -4,7 +4,7 @@ use Rattle.iox_model.specs.Schedules.{Finished, UnderWay}
 use Rattle.iox_model.specs.WireCalls.{WordsCall, in_words}
 use Rattle.iox_model.specs.declared.call.Call.TheVariants as calls
 use Rattle.iox_model.specs.declared.call.WireCall.TheVariants.{Port}
-use Rattle.iox_wire_weaves.specs.Calls.{of_handle}
+use Rattle.iox_wire_weaves.specs.Calls.{call_in_words, of_handle}
 use Rattle.iox_wire_weaves.specs.NodeCall.{NodeCall}
 use Rattle.iox_wire_weaves.specs.NodeCall.TheVariants as node_calls
 use Rattle.iox_wire_weaves.specs.NodeReply.{NodeReply}
@@ -28,13 +28,7 @@ words_brought call = []
 
 -- a call in words
 abbrev pub words_call : NodeCall → WordsCall
-words_call (node_calls.Loan n k) = Port (calls.Loan n k)
-words_call (node_calls.Write n y) = Port (calls.Write n y.words.now)
-words_call (node_calls.Send n) = Port (calls.Send n)
-words_call (node_calls.SendCopy n y) = Port (calls.SendCopy n y.words.now)
-words_call (node_calls.Receive n) = Port (calls.Receive n)
-words_call (node_calls.HasRequests n) = Port (calls.HasRequests n)
-words_call (node_calls.Handle n call) = Port (in_words (of_handle call n))
+words_call call = Port (call_in_words call)
 
 -- a call that is kept without its words, with these
 abbrev pub call_with : List ℕ → StoredCall → WordsCall

@@ -69,12 +69,13 @@ impl Wire {
     ghost use Rattle.std.specs.Prelude.{OnOk, Some, length, max, position, ◌==◌, map};
     ghost use Rattle.iox_model.specs.States.{State};
     ghost use Rattle.iox_sets.specs.Refusals.{IsRefusal};
+    ghost use Rattle.iox_wire_weaves.specs.Laws.{IsFresh};
     ghost use Rattle.iox_wire_weaves.specs.Plans.{IsPlan};
     ghost use Rattle.iox_wire_weaves.specs.Refusals.{map_refusal};
     ghost use Rattle.iox_wire_weaves.specs.Tables.{Setting};
     ghost use Rattle.iox_wire_weaves.specs.declared.refusal.WireRefusal.TheVariants.{WantOfMemory};
     ghost use Rattle.iox_wire_weaves.specs.Steps.{DeathIsWoven, MakesItsAccess, StepIsWoven};
-    ghost use Rattle.iox_wire_weaves.specs.Steps.{step_refusal};
+    ghost use Rattle.iox_wire_weaves.specs.Steps.{IsOwnAnswer, step_refusal};
     ghost use Rattle.iox_wire_weaves.specs.Wires.{AreWhole, OpensOn, ShowsOpened, living_refusal};
     ghost use Rattle.iox_wire.specs.Kept.{HaveRoomFor, Loses};
 
@@ -93,6 +94,8 @@ impl Wire {
         requires opens { (p : Setting) × (s : State) × OpensOn plan terms nodes.now p s }
         ensures opened { (p : Setting) → (s : State) → OpensOn plan terms nodes.now p s
             → IfOk result (ShowsOpened p s) }
+        ensures fresh { (p : Setting) → (s : State) → OpensOn plan terms nodes.now p s
+            → IfOk result (IsFresh p plan terms nodes.now) }
         ensures room { IfOk result (λ wire. HaveRoomFor handles wire.nodes) }
         ensures allowed { OnOk result (map_refusal plan ≡ None) }
         ensures refused { IfErr result (IsRefusal new_error.WantOfMemory (map_refusal plan)) }
@@ -189,6 +192,7 @@ impl Wire {
     pub fn step(&mut self, node: u64) -> Result<Progress<NodeReply>, WireRefusal>
         ensures one_access { OnOk result (MakesItsAccess self.old node self.new) }
         ensures weave { IfOk result (λ progress. StepIsWoven self.old node progress self.new) }
+        ensures own { IfOk result (IsOwnAnswer self.old node) }
         ensures room { OnOk result (self.new.room + 1 ≡ max self.old.room 1) }
         ensures allowed { OnOk result (step_refusal self.old node ≡ None) }
         ensures refused { IfErr result (IsRefusal WantOfMemory (step_refusal self.old node)) }
@@ -213,6 +217,7 @@ impl Wire {
         requires room { 0 < self.old.room }
         ensures one_access { MakesItsAccess self.old node self.new }
         ensures weave { StepIsWoven self.old node result self.new }
+        ensures own { IsOwnAnswer self.old node result }
         ensures room { self.new.room + 1 ≡ self.old.room }
     {
         let member = &self.members[place];

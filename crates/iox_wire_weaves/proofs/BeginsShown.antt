@@ -3,7 +3,7 @@ use Rattle.std.specs.Prelude.{is_some, option_map, if◌then◌else◌}
 use Rattle.std.specs.Option.{option_map_or}
 use Rattle.std.proofs.Common.{◌≡◌, ℕ, ◌<◌, Bool, true, false, ◌==◌, List, [], ◌∷◌, ◌++◌, length, map, Option, Some, None, refl, ap, ap₂, sym, subst, ◌∙◌, eqb-true, inl, inr}
 use Rattle.std.proofs.lemmas.Bool.{cases_Bool}
-use Rattle.iox_model.specs.declared.call.WireCall.TheVariants.{Port}
+use Rattle.iox_model.specs.declared.call.WireCall.TheVariants.{Forget, Port}
 use Rattle.iox_model.specs.declared.reply.Refusal.TheVariants as refusals
 use Rattle.iox_model.specs.Commands.{Call, WireCall}
 use Rattle.iox_model.specs.Joins.{not_living}
@@ -26,7 +26,7 @@ use Rattle.iox_wire_needs.specs.Stands.{Player}
 use Rattle.iox_wire_needs.specs.WireStands.{WireStands}
 use Rattle.iox_wire_needs.specs.Places.{InPools}
 use Rattle.iox_wire_needs.proofs.Places.{places_are_in_pools}
-use Rattle.iox_wire_needs.proofs.OwnBegins.{refused_by_tables}
+use Rattle.iox_wire_needs.proofs.OwnBegins.{calls_begin_by_own_data, refused_by_tables}
 use Rattle.iox_wire_needs.proofs.BeginWhole.{begun_wires_stand}
 use Rattle.iox_wire_weaves.specs.Asking.{BeginsCall, call_refusal}
 use Rattle.iox_wire_weaves.specs.declared.refusal.WireRefusal.{WireRefusal}
@@ -78,11 +78,26 @@ module _ (p : Setting) (old new : WireData) (r : Run) (n : ℕ) (x y : WireNode)
   abbrev player : Player
   player = record { seat = begin p seat call; said = history n r.beats ++ Asked call ∷ [] }
 
+  -- the node lives, since the machine does not refuse its call
+  lives : not_living r.last.state n ≡ None
+  lives = first_none (not_living r.last.state n) _ free
+
+  few_there : seat.accesses < last_position
+  few_there = subst (λ k. k < last_position) (sym (ap (λ (s : Seat). s.accesses) here)) few
+
+  -- a call of a port or a handle begins by the node's own data, and a Forget by who is dead
+  goes_by : (c : WireCall) → begin_refusal r.last n c ≡ None → WordsAreWhole p.limits c
+      → (next : Run) × GoesOnBy r (Begins n c (choice_for p seat c)) next
+      × WireStands p old.words (put_at (players_of p old.nodes r) n (record { seat = begin p seat c; said = history n r.beats ++ Asked c ∷ [] })) next
+  goes_by (Port c) may words_whole =
+      calls_begin_by_own_data p old.words (players_of p old.nodes r) r n c shows.stands lives
+      (sym (by_tables p old r n c shows lives) ∙ may) few_there words_whole
+  goes_by (Forget dead) may words_whole =
+      begun_wires_stand p old.words (players_of p old.nodes r) r n (Forget dead) shows.stands few_there words_whole may
+
   goes : (next : Run) × GoesOnBy r (Begins n call (choice_for p seat call)) next
       × WireStands p old.words (put_at (players_of p old.nodes r) n player) next
-  goes =
-      begun_wires_stand p old.words (players_of p old.nodes r) r n call shows.stands
-      (subst (λ k. k < last_position) (sym (ap (λ (s : Seat). s.accesses) here)) few) whole free
+  goes = goes_by call free whole
 
   abbrev after : Run
   after = goes.0
@@ -107,10 +122,6 @@ module _ (p : Setting) (old new : WireData) (r : Run) (n : ℕ) (x y : WireNode)
   living_then m =
       ap (λ (v : World). not_living v.state m) goes.1.beat.2
       ∙ shows.living m ∙ ap (option_map refusal_in) (sym (same_living old.nodes n x y new.nodes puts lives_as.alive m))
-
-  -- the node lives, since the machine does not refuse its call
-  lives : not_living r.last.state n ≡ None
-  lives = first_none (not_living r.last.state n) _ free
 
   in_pools : InPools p (seat_in y.node).local
   in_pools =
@@ -179,7 +190,7 @@ module _ (p : Setting) (old new : WireData) (r : Run) (n : ℕ) (x y : WireNode)
   }
 
   begins_call : BeginsCall p old n call new
-  begins_call = record { node = there; others = puts.others; words = words; replies = replies; events = same_events }
+  begins_call = record { setting = record { plan = plan; terms = terms }; node = there; others = puts.others; words = words; replies = replies; events = same_events }
 
 pub begins_show : BeginsShow
 begins_show p old new r n x y call shows free whole few puts lives_as begins aimed plan terms words replies same_events call_is = (

@@ -1,7 +1,7 @@
 -- After a step of a node the wire shows the run that goes on so.
 use Rattle.std.specs.Prelude.{option_map}
 use Rattle.std.specs.Option.{option_map_or}
-use Rattle.std.proofs.Common.{◌≡◌, ℕ, ◌<◌, ◌^◌, Bool, true, false, ◌==◌, List, [], ◌∷◌, ◌++◌, length, map, Option, Some, None, refl, ap, ap₂, sym, subst, ◌∙◌, arith, eqb-true, if◌then◌else◌, inl, inr}
+use Rattle.std.proofs.Common.{◌≡◌, ℕ, ◌+◌, ◌<◌, ◌^◌, Bool, true, false, ◌==◌, List, [], ◌∷◌, ◌++◌, length, map, Option, Some, None, refl, ap, ap₂, sym, subst, ◌∙◌, arith, eqb-true, if◌then◌else◌, inl, inr}
 use Rattle.std.proofs.lemmas.Bool.{cases_Bool}
 use Rattle.iox_model.specs.Commands.{Reply}
 use Rattle.iox_model.specs.Joins.{not_living}
@@ -48,7 +48,7 @@ use Rattle.iox_model.specs.declared.event.Event.{Event}
 use Rattle.iox_wire_seats.specs.SlotEvents.{slot_event}
 use Rattle.iox_wire_weaves.specs.PortCounts.{TellsCounts}
 use Rattle.iox_wire_weaves.specs.Replies.{finished_within, most_words}
-use Rattle.iox_wire_weaves.specs.Steps.{MakesOneAccess, access_of, answer_of, call_after, finished_by, recorded, step_refusal}
+use Rattle.iox_wire_weaves.specs.Steps.{MakesOneAccess, access_of, answer_of, call_after, finished_by, most_handles, recorded, step_refusal}
 use Rattle.iox_wire_weaves.specs.Wires.{KeepsItsCall, Shows, WireData, WireNode, answers_in, living_refusal, node_at, players_of, refusal_in, seat_of}
 use Rattle.iox_wire_weaves.proofs.EventsTold.{events_on, step_events, told_serial}
 use Rattle.iox_wire_weaves.proofs.LivingDesks as desks
@@ -304,8 +304,13 @@ module _ (p : Setting) (old new : WireData) (r : Run) (n : ℕ) (x y : WireNode)
     events = events_then;
   }
 
+  as_many : most_handles new.nodes n ≡ most_handles old.nodes n
+  as_many =
+      ap (λ o. option_map_or (λ (z : WireNode). z.node.seat.room + length z.node.seat.seat.table) o 0) puts.here ∙ went.room
+      ∙ sym (ap (λ o. option_map_or (λ (z : WireNode). z.node.seat.room + length z.node.seat.seat.table) o 0) puts.before)
+
   one_access : MakesOneAccess p old n new
-  one_access = record { words = words; node = there; others = puts.others }
+  one_access = record { setting = record { plan = plan; terms = terms }; words = words; node = there; handles = as_many; others = puts.others }
 
 pub steps_show : StepsShow
 steps_show p old new r n x y reply shows goes puts lives_as went plan terms words call_is told tells_event =

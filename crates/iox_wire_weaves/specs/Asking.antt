@@ -11,7 +11,7 @@ use Rattle.iox_wire_nodes.specs.Tables.{Setting}
 use Rattle.iox_wire_nodes.specs.declared.node_call.NodeCall.{NodeCall}
 use Rattle.iox_wire_needs.specs.Runs.{GoesOnBy, Run}
 use Rattle.iox_wire_weaves.specs.declared.refusal.WireRefusal.{WireRefusal}
-use Rattle.iox_wire_weaves.specs.Wires.{Shows, WireData, living_refusal, machine_refusal, node_at, refusal_in, seat_of}
+use Rattle.iox_wire_weaves.specs.Wires.{IsSameSetting, Shows, WireData, living_refusal, machine_refusal, node_at, refusal_in, seat_of}
 
 -- ---- refusals
 
@@ -37,9 +37,11 @@ MayBegin wire n call =
 
 -- ---- a begin
 
--- The node is at the first place of the call; words, replies, events and all other nodes stay.
+-- The node is at the first place of the call; words, replies, events, all other nodes and the setting
+-- stay.
 pub record BeginsCall (p : Setting) (old : WireData) (n : ℕ) (call : WireCall) (new : WireData)
     : Type 0 where
+  pub setting : IsSameSetting old new
   pub node : seat_of p new.nodes n ≡ begin p (seat_of p old.nodes n) call
   pub others : (m : ℕ) → (m == n) ≡ false → node_at m new.nodes ≡ node_at m old.nodes
   pub words : new.words ≡ old.words

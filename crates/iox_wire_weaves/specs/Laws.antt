@@ -24,6 +24,7 @@ use Rattle.iox_wire_nodes.specs.Tables.{Setting, entry_at}
 use Rattle.iox_wire_nodes.specs.WirePlans.{HandleStands, IsWirePlan}
 use Rattle.iox_wire_nodes.specs.WireTerms.{WireTerms}
 use Rattle.iox_wire_nodes.specs.Aims.{IsAimed}
+use Rattle.iox_wire_nodes.specs.SeatsAims.{KeepsRoom}
 use Rattle.iox_wire_nodes.specs.declared.call_at.CallAt.TheVariants.{Seats}
 use Rattle.iox_wire_nodes.specs.declared.call_at.NodeReply.{NodeReply}
 use Rattle.iox_wire_nodes.specs.Nodes.{Node, reply_in, seat_in}
@@ -82,13 +83,15 @@ abbrev pub progress_of : Option NodeReply → Progress NodeReply
 progress_of None = Going
 progress_of (Some reply) = Done reply
 
--- After an access that found this the node is the next, it answers this if its call is over, and it
--- knows where the words stand that it accesses next, as far as a slot that it took is one of a pool.
+-- After an access that found this the node is the next, it answers this if its call is over, it knows
+-- where the words stand that it accesses next, as far as a slot that it took is one of a pool, and room
+-- for handles is neither made nor lost.
 pub record WentOn (p : Setting) (x : Node) (seen : ℕ) (reply : Option NodeReply) (y : Node)
     : Type 0 where
   pub next_is : seat_in y ≡ next p (seat_in x) seen
   pub told : tells p (seat_in x) seen ≡ option_map (reply_in y.seat.words) reply
   pub aimed : InPools p (seat_in y).local → IsAimed p y
+  pub room : KeepsRoom x.seat y.seat
 
 -- A living node accesses a word of the wire.
 abbrev pub StepsAreSafe : Type 0

@@ -1,15 +1,18 @@
 -- What a step, and a death, do to a wire.
-use Rattle.std.specs.Prelude.{◌≡◌, ℕ, ◌==◌, false, nat_le, not, ◌^◌, List, [], ◌∷◌, Option, None, Some}
+use Rattle.std.specs.Prelude.{◌≡◌, ℕ, ◌+◌, ◌==◌, false, nat_le, not, ◌^◌, List, [], ◌∷◌, length, Option, None, Some, IfSome}
 use Rattle.std.specs.Option.{option_map_or}
 use Rattle.iox_model.specs.Commands.{Reply}
 use Rattle.iox_model.specs.declared.event.Event.{Event}
 use Rattle.iox_model.specs.Maps.{or_else, refused_if}
 use Rattle.iox_model.specs.Schedules.{Finished, IsStepOf, UnderWay, finish}
+use Rattle.iox_model.specs.WireCalls.{WordsCall}
 use Rattle.iox_model.specs.Weaves.{Beat, Dies}
+use Rattle.iox_model.specs.declared.call.WireCall.TheVariants.{Forget, Port}
 use Rattle.iox_steps.specs.declared.access.Access.{Access}
 use Rattle.iox_steps.specs.declared.access.Progress.{Progress}
 use Rattle.iox_steps.specs.declared.access.Progress.TheVariants.{Done, Going}
 use Rattle.iox_steps.specs.Accesses.{seen_at, words_after}
+use Rattle.iox_wire_nodes.specs.Calls.{IsKeptAt}
 use Rattle.iox_wire_nodes.specs.Programs.{program_access}
 use Rattle.iox_wire_nodes.specs.LocalsBegins.{is_busy}
 use Rattle.iox_wire_nodes.specs.Locals.{program_of}
@@ -18,14 +21,16 @@ use Rattle.iox_wire_nodes.specs.Tables.{Setting}
 use Rattle.iox_wire_nodes.specs.WirePlan.{WirePlan}
 use Rattle.iox_wire_needs.specs.Runs.{GoesOnBy, Run}
 use Rattle.iox_wire_needs.specs.WholeSteps.{GoesOnWith}
+use Rattle.iox_wire_nodes.specs.declared.call_at.CallAt.{CallAt}
+use Rattle.iox_wire_nodes.specs.declared.call_at.CallAt.TheVariants.{Seats}
 use Rattle.iox_wire_nodes.specs.declared.call_at.NodeReply.{NodeReply}
-use Rattle.iox_wire_nodes.specs.Nodes.{reply_in, seat_in}
+use Rattle.iox_wire_nodes.specs.Nodes.{answered_at, reply_in, seat_in}
 use Rattle.iox_wire_weaves.specs.Events.{with_serials}
 use Rattle.iox_wire_weaves.specs.Owners.{serial_of}
 use Rattle.iox_wire_weaves.specs.Replies.{reply_within}
 use Rattle.iox_wire_weaves.specs.declared.refusal.WireRefusal.{WireRefusal}
 use Rattle.iox_wire_weaves.specs.declared.refusal.WireRefusal.TheVariants.{AccessesSpent, AtRest}
-use Rattle.iox_wire_weaves.specs.Wires.{Shows, WireData, WireNode, answers_in, living_refusal, node_at, seat_of}
+use Rattle.iox_wire_weaves.specs.Wires.{IsSameSetting, Shows, WireData, WireNode, answers_in, living_refusal, node_at, seat_of}
 
 -- ---- refusals
 
@@ -50,12 +55,19 @@ step_refusal wire n =
 abbrev pub access_of : Setting → WireData → ℕ → Access
 access_of p wire n = program_access p.layout (program_of p (seat_of p wire.nodes n).local)
 
+-- how many handles the node may have, with those for which it has room
+abbrev pub most_handles : List WireNode → ℕ → ℕ
+most_handles nodes n =
+    option_map_or (λ x. x.node.seat.room + length x.node.seat.seat.table) (node_at n nodes) 0
+
 -- The step of a node is the one access of its place: the words are those after it, the node goes on
--- with what it found, and all other nodes stay.
+-- with what it found, it may have as many handles as before, and all other nodes and the setting stay.
 pub record MakesOneAccess (p : Setting) (old : WireData) (n : ℕ) (new : WireData) : Type 0 where
+  pub setting : IsSameSetting old new
   pub words : new.words ≡ words_after (access_of p old n) old.words
   pub node : seat_of p new.nodes n
       ≡ next p (seat_of p old.nodes n) (seen_at (access_of p old n) old.words)
+  pub handles : most_handles new.nodes n ≡ most_handles old.nodes n
   pub others : (m : ℕ) → (m == n) ≡ false → node_at m new.nodes ≡ node_at m old.nodes
 
 -- so it is in each run that the wire shows
@@ -67,6 +79,17 @@ abbrev pub answer_of : ℕ → List WireNode → Progress NodeReply → List (�
 answer_of n nodes Going = []
 answer_of n nodes (Done reply) =
     (n, reply_in (option_map_or (λ x. x.node.seat.words) (node_at n nodes) []) reply) ∷ []
+
+-- a node is there with that call under way: a Forget, which no code begins, is in the seat
+abbrev pub IsWireCallAt : WordsCall → CallAt → Type 0
+IsWireCallAt (Port call) a = IsKeptAt call a
+IsWireCallAt (Forget dead) a = a ≡ Seats
+
+-- what the step of a node answers is an answer to the call that it has under way
+abbrev pub IsOwnAnswer : WireData → ℕ → Progress NodeReply → Type 0
+IsOwnAnswer old n Going = Unit {0}
+IsOwnAnswer old n (Done reply) =
+    IfSome (node_at n old.nodes) (λ x. IfSome x.call (λ u. IsWireCallAt u.call (answered_at reply)))
 
 -- the call that a node has under way after its step
 abbrev pub call_after : Option UnderWay → Option NodeReply → Option UnderWay

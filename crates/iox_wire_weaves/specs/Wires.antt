@@ -52,6 +52,11 @@ pub record WireData : Type 0 where
   pub events : List (ℕ × Event)
   pub room : ℕ
 
+-- What the wire was made for, and told beside that, stays.
+pub record IsSameSetting (old new : WireData) : Type 0 where
+  pub plan : new.plan ≡ old.plan
+  pub terms : new.terms ≡ old.terms
+
 -- the node of that number
 abbrev pub node_at : ℕ → List WireNode → Option WireNode
 node_at n nodes = find (λ x. x.number == n) nodes

@@ -25,12 +25,12 @@ invariant_of-self c =
     = c.write_behind-read.ensures.items ∙ ap (λ vs. vs ++ c.args.call.words.now) first in
     let pushed : Answer = record { node = c.args.call.node; call = c.of.result; brought = c.write_behind-brought.result; reply = c.args.call.reply; read = c.write_behind-read.result; begun = c.args.call.begun; ended = c.args.call.ended } in (
       subst (λ vs. All (HasItsWords vs) c.push_reserved.new.self.items) (sym both)
-      (subst (λ (done : List Answer). All (HasItsWords ((ws ++ words_brought c.args.call.call) ++ c.args.call.words.now)) done) (sym c.push_reserved.ensures.items)
-      (has_more ws c.self.inside.answers.items pushed c.args.call c.self.invariant.0 refl c.requires.read
-      c.write_behind-brought.ensures.start
-      (c.write_behind-brought.ensures.end ∙ ap (λ vs. length ws + length vs) c.words_of.ensures)
-      (c.write_behind-read.ensures.start ∙ ap length first)
-      (c.write_behind-read.ensures.end ∙ ap (λ vs. length vs + length c.args.call.words.now) first))),
+          (subst (λ (done : List Answer). All (HasItsWords ((ws ++ words_brought c.args.call.call) ++ c.args.call.words.now)) done) (sym c.push_reserved.ensures.items)
+          (has_more ws c.self.inside.answers.items pushed c.args.call c.self.invariant.0 refl c.requires.read
+          c.write_behind-brought.ensures.start
+          (c.write_behind-brought.ensures.end ∙ ap (λ vs. length ws + length vs) c.words_of.ensures)
+          (c.write_behind-read.ensures.start ∙ ap length first)
+          (c.write_behind-read.ensures.end ∙ ap (λ vs. length vs + length c.args.call.words.now) first))),
       record {
         answers = one_less (vec_len c.self.inside.answers) c.self.inside.room (vec_capacity c.self.inside.answers) (vec_len c.push_reserved.new.self) (vec_capacity c.push_reserved.new.self)
             (subst (λ (d : FinishedCalls). 0 < d.room) (sym c.self.view_is) c.requires.room) c.self.invariant.1.answers

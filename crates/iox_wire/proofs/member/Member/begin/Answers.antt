@@ -24,7 +24,7 @@ returns-clause-begun c =
     c.keep.new.self c.requires.setting
     (λ p setting. subst (λ (k : Node). IsUnderWay p k (Port (call_in p c.args.call)) c.begin.new.self)
     (ap (λ (m : WireNode). m.node) c.self.view_is) (c.in_ok-begin.ensures.begun p setting))
-    c.in_ok-begin.ensures.adds c.if-lacks_room.ensures c.requires.lends
+    c.in_ok-begin.ensures.adds c.in_ok-begin.ensures.at c.if-lacks_room.ensures c.requires.lends
     (ap (λ (m : WireNode). m.number) c.self.view_is)
     (record { alive = ap (λ (m : WireNode). m.alive) c.self.view_is; died = ap (λ (m : WireNode). m.died) c.self.view_is; longest = ap (λ (m : WireNode). m.longest) c.self.view_is })
     c.keep.ensures

@@ -11,4 +11,5 @@ go_on-requires-clause-may c =
 pub returns-clause-made : goal.returns-clause-made
 returns-clause-made c p words may saw =
     has_gone_on p c.self.inside.node c.args.self.now.node (ap (λ (m : WireNode). m.node) c.self.view_is) words may c.args.seen saw
-    c.go_on.new.self c.go_on.result c.go_on.ensures.next c.go_on.ensures.over c.go_on.ensures.ready c.go_on.ensures.aimed
+    c.go_on.new.self c.go_on.result c.go_on.ensures.next c.go_on.ensures.over
+    c.go_on.ensures.own c.go_on.ensures.ready c.go_on.ensures.aimed c.go_on.ensures.room c.go_on.ensures.call

@@ -1,8 +1,9 @@
-use Rattle.std.specs.Prelude.{Option, position, vec_capacity, vec_len}
+use Rattle.std.specs.Prelude.{IfSome, Option, position, vec_capacity, vec_len}
 use Rattle.std.proofs.Common.{◌≡◌, ℕ, ◌+◌, ◌-◌, ◌<◌, ◌≤◌, ◌==◌, ◌++◌, List, None, Some, ap, arith, length, subst, sym, ◌∙◌, slice_set}
 use Rattle.std.proofs.lemmas.List.{length-map}
+use Rattle.iox_wire_weaves.specs.Nodes.{answered_at}
 use Rattle.iox_wire_weaves.specs.Replies.{most_words}
-use Rattle.iox_wire_weaves.specs.Steps.{MakesOneAccess, finished_by, recorded, step_refusal}
+use Rattle.iox_wire_weaves.specs.Steps.{IsWireCallAt, MakesOneAccess, finished_by, recorded, step_refusal}
 use Rattle.iox_wire_weaves.specs.Wires.{Shows, WireData, WireNode, node_at}
 use Rattle.iox_wire_weaves.proofs.Lookups.{steps_on}
 use Rattle.iox_wire.specs.declared.events.WireEvent.{WireEvent}
@@ -175,3 +176,13 @@ returns-clause-weave c p r shows =
     (Some c.in-Some.reply) c.go_on.new.self c.tell.new.self c.in-Some.ensures.made c.in-Some.ensures.number c.in-Some.ensures.lives c.in-Some.ensures.call
     (is_over c.in-Some.reply c.go_on.new.self c.tell.new.self c.tell.ensures.over) c.tell.new.replies.finished (events_by c.note.new.events.items) _ noted replied p r (subst (λ (v : WireData). Shows p v r) (sym c.self.view_is) shows) in
     (s.1, s.2, s.3, s.4, s.5, s.6)
+
+pub returns-clause-own : goal.returns-clause-own
+returns-clause-own c =
+    let first = ap (λ (v : WireData). position (λ x. x.number == c.args.node) v.nodes) c.self.view_is ∙ c.requires.there in
+    let w : WireData = record { plan = c.self.inside.places; terms = c.self.inside.terms; words = c.self.inside.words.items; nodes = c.self.inside.members.items; replies = c.self.inside.replies.finished; events = events_by c.self.inside.events.items; room = c.self.inside.room } in
+    let goes : step_refusal w c.args.node ≡ None = ap (λ (v : WireData). step_refusal v c.args.node) c.self.view_is ∙ c.requires.goes in
+    subst (λ (v : WireData). IfSome (node_at c.args.node v.nodes) (λ x. IfSome x.call (λ u. IsWireCallAt u.call (answered_at c.in-Some.reply)))) c.self.view_is
+    (stepping.owned w c.args.node c.args.place c.index-member.result.now c.index_mut-member.result.now first c.index-member.ensures c.index_mut-member.ensures.value c.self.invariant.1 goes
+    c.make_access-seen.result c.make_access-seen.new.words.items c.event-told.result c.make_access-seen.ensures.seen c.make_access-seen.ensures.words (λ q aimed. c.event-told.ensures q aimed)
+    (Some c.in-Some.reply) c.go_on.new.self c.in-Some.ensures.made)

@@ -8,7 +8,7 @@ use Rattle.iox_wire_weaves.specs.Wires.{WireData}
 use Rattle.iox_wire.specs.Replies.{FinishedCalls}
 use Rattle.iox_wire.specs.Kept.{AreOpened}
 use Rattle.iox_wire.proofs.Members.{opened_node}
-use Rattle.iox_wire.proofs.Fresh.{shown_opened, shows_opened}
+use Rattle.iox_wire.proofs.Fresh.{fresh, shown_opened, shows_opened}
 use Rattle.iox_wire.proofs.Recorded.{events_by}
 use Rattle.iox_wire.proofs.wire.Wire.new.Goals as goal
 
@@ -35,6 +35,16 @@ pub returns-clause-opened : goal.returns-clause-opened
 returns-clause-opened c p s opens =
     let w : WireData = record { plan = c.in_ok-places.places; terms = c.args.terms; words = c.in_ok-words.words.items; nodes = c.in_ok-members.members.items; replies = c.new-3.result.finished; events = events_by c.new-4.result.items; room = 0 } in
     shows_opened c.args.plan c.args.terms c.args.nodes.now w c.requires.plan c.in_ok-places.ensures.made refl
+    (c.in_ok-words.ensures
+    ∙ ap (λ n. replicate n 0) (c.total-total.ensures ∙ ap (λ (q : WirePlan). total_words (sizes_of q)) c.in_ok-places.ensures.made))
+    c.args.handles
+    (subst (λ (q : WirePlan). AreOpened q c.args.handles c.args.nodes.now c.in_ok-members.members.items) (c.plan.ensures.value ∙ c.in_ok-places.ensures.made) c.in_ok-members.ensures)
+    (ap (λ (d : FinishedCalls). d.finished) c.new-3.ensures) (ap events_by c.new-4.ensures.items) p s opens
+
+pub returns-clause-fresh : goal.returns-clause-fresh
+returns-clause-fresh c p s opens =
+    let w : WireData = record { plan = c.in_ok-places.places; terms = c.args.terms; words = c.in_ok-words.words.items; nodes = c.in_ok-members.members.items; replies = c.new-3.result.finished; events = events_by c.new-4.result.items; room = 0 } in
+    fresh c.args.plan c.args.terms c.args.nodes.now w c.requires.plan c.in_ok-places.ensures.made refl
     (c.in_ok-words.ensures
     ∙ ap (λ n. replicate n 0) (c.total-total.ensures ∙ ap (λ (q : WirePlan). total_words (sizes_of q)) c.in_ok-places.ensures.made))
     c.args.handles

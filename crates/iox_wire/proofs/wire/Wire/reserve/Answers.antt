@@ -19,7 +19,7 @@ invariant_of-self-2 c =
     let shown : List Finished → List (ℕ × Event) → Type 0 = λ fs es. IsShown (record { plan = w.plan; terms = w.terms; words = w.words; nodes = w.nodes; replies = fs; events = es; room = c.args.steps }) in (
       c.self.invariant.0,
       subst (λ fs. shown fs (events_by c.reserve-2.new.self.items)) (sym (ap (λ (d : FinishedCalls). d.finished) told))
-      (subst (λ es. shown w.replies (events_by es)) (sym c.reserve-2.ensures.items) (shown_with w c.args.steps c.self.invariant.1)),
+          (subst (λ es. shown w.replies (events_by es)) (sym c.reserve-2.ensures.items) (shown_with w c.args.steps c.self.invariant.1)),
       record {
         replies = most c.self.inside.replies.room c.args.steps c.reserve.new.self.room (ap (λ (d : FinishedCalls). d.room) told);
         longest = ap (λ (d : FinishedCalls). d.longest) told ∙ c.self.invariant.2.longest;

@@ -3,10 +3,10 @@ use Rattle.std.proofs.Common.{◌≡◌, ℕ, zero, suc, ◌==◌, ◌≤◌, tr
 use Rattle.iox_sets.specs.Refusals.{IsRefusal}
 use Rattle.iox_wire_weaves.specs.declared.refusal.WireRefusal.{WireRefusal}
 use Rattle.iox_wire_weaves.specs.declared.refusal.WireRefusal.TheVariants.{WantOfMemory}
-use Rattle.iox_wire_weaves.specs.Steps.{MakesItsAccess, StepIsWoven, step_refusal}
+use Rattle.iox_wire_weaves.specs.Steps.{IsOwnAnswer, MakesItsAccess, StepIsWoven, step_refusal}
 use Rattle.iox_wire_weaves.specs.Wires.{WireData, node_at}
 use Rattle.iox_wire.proofs.Recorded.{events_by}
-use Rattle.iox_wire.proofs.WireSteps.{access_with, refused_at, there, woven_with}
+use Rattle.iox_wire.proofs.WireSteps.{access_with, own_with, refused_at, there, woven_with}
 use Rattle.iox_wire.proofs.wire.Wire.step.Goals as goal
 
 -- less than one is none
@@ -60,6 +60,11 @@ pub returns-clause-weave : goal.returns-clause-weave
 returns-clause-weave c =
     woven_with c.args.self.now c.args.node (max c.args.self.now.room 1) c.make_step.result c.make_step.new.self
     (subst (λ (v : WireData). StepIsWoven v c.args.node c.make_step.result c.make_step.new.self) c.in_default-reserve.ensures.reserved c.make_step.ensures.weave)
+
+pub returns-clause-own : goal.returns-clause-own
+returns-clause-own c =
+    own_with c.args.self.now c.args.node (max c.args.self.now.room 1) c.make_step.result
+    (subst (λ (v : WireData). IsOwnAnswer v c.args.node c.make_step.result) c.in_default-reserve.ensures.reserved c.make_step.ensures.own)
 
 pub returns-clause-allowed : goal.returns-clause-allowed
 returns-clause-allowed c =
