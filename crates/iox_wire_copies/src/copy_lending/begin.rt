@@ -89,7 +89,7 @@ impl CopyLending {
 pub(super) fn replace(payload: &mut Vec<u64>, words: &[u64])
     requires { length words.now ≤ vec_capacity payload.old }
     ensures items { payload.new.items ≡ words.now }
-    ensures capacity { vec_capacity payload.new ≡ vec_capacity payload.old }
+    ensures capacity { vec_capacity payload.old ≤ vec_capacity payload.new }
 {
     payload.clear();
     if payload.extend_from_slice(words).is_err() {

@@ -197,7 +197,7 @@ fn fill_words(words: &mut Vec<u64>, lender: &Lender<'_>, order: Order)
     requires room { lender.now.places.header + lender.now.places.user ≤ vec_capacity words.old }
     ensures words { words.new.items
         ≡ words_of lender.now.role lender.now.ids.now lender.now.user.now order }
-    ensures capacity { vec_capacity words.new ≡ vec_capacity words.old }
+    ensures capacity { vec_capacity words.old ≤ vec_capacity words.new }
 {
     words.clear();
     if words.extend_from_slice(lender.ids).is_err() {

@@ -7,9 +7,11 @@ use Rattle.iox_wire_nodes.specs.declared.node_call.NodeCall.{NodeCall}
 use Rattle.iox_wire_nodes.specs.Begins.{IsUnderWay}
 use Rattle.iox_wire_nodes.specs.Calls.{call_in}
 use Rattle.iox_wire_nodes.specs.Nodes.{seat_in}
-use Rattle.iox_wire_nodes.proofs.BesideLemmas.{is_under_way}
+use Rattle.iox_wire_nodes.proofs.BesideLemmas.{is_under_way, stands_so}
 use Rattle.iox_wire_nodes.proofs.CallLemmas.{none}
 use Rattle.iox_wire_nodes.proofs.NameLemmas.{elements_planned}
+use Rattle.iox_wire_begins.specs.PlacedHandles.{IsWritableAs}
+use Rattle.iox_wire_begins.specs.Tables.{entry_at}
 use Rattle.iox_wire_nodes.proofs.node.StoredNode.begin_at_handle.Goals as goal
 
 pub begin_on_handle-requires-clause-header : goal.begin_on_handle-requires-clause-header
@@ -27,3 +29,8 @@ returns-in_ok-begin_write-in-Write-clause-begun c p with =
     (c.elements_in-elements.ensures.elements ∙ elements_planned c.args.map.now c.args.terms.now p with c.in-Write.payload.role c.in-Write.payload.words.now)
     (is_under_way p c.args.self.now (write_of c.in-Write.number c.in-Write.payload.role c.elements_in-elements.result c.in-Write.payload.words.now) c.begin_write.new.self
     (c.in_ok-begin_write-in-Write.ensures.begun p with.setting)))
+
+pub begin_write-requires-clause-writable : goal.begin_write-requires-clause-writable
+begin_write-requires-clause-writable c =
+    stands_so c.args.map.now c.args.self.now.seat.seat.desks (IsWritableAs c.args.map.now c.in-Write.payload.role) (λ e stands. stands.writable c.in-Write.payload.role)
+    (entry_at c.in-Write.number c.args.self.now.seat.seat.table) (c.requires.may.handles c.in-Write.number)
