@@ -196,7 +196,7 @@ module _ (w : WireData) (n i : ℕ) (d : WireNode) (at : position (λ x. x.numbe
   there = read_there n w.nodes i d at read
 
   abbrev Now : WireNode → WireData
-  Now y = record { plan = w.plan; terms = w.terms; words = w.words; nodes = slice_set w.nodes i y; replies = w.replies; events = w.events }
+  Now y = record { plan = w.plan; terms = w.terms; words = w.words; nodes = slice_set w.nodes i y; replies = w.replies; events = w.events; room = w.room }
 
   -- ---- what a begin relies on
 
@@ -325,7 +325,7 @@ module _ (w : WireData) (n i : ℕ) (d : WireNode) (at : position (λ x. x.numbe
     seen_same m false other = ap (option_map seen_of) (puts.others m other)
 
     left_alone : IsLeftAlone w (Now y)
-    left_alone = record { words = refl; replies = refl; events = refl; nodes = λ m. seen_same m (m == n) refl; shows = shows_left }
+    left_alone = record { words = refl; replies = refl; events = refl; room = refl; nodes = λ m. seen_same m (m == n) refl; shows = shows_left }
 
   pub shown_refused : (call : NodeCall) (y : WireNode) → StaysPut d call y → IsShown w → IsShown (Now y)
   shown_refused call y stays shown = shown_left y stays.number stays.lives stays.kept (left_unchanged call d.node y.node stays.node) shown

@@ -1,6 +1,7 @@
 -- Words that are kept one behind another in one list.
 use Rattle.std.specs.List.{All}
-use Rattle.std.proofs.Common.{◌≡◌, ℕ, ◌+◌, ◌-◌, ◌≤◌, List, [], ◌∷◌, ◌++◌, length, map, take, drop, refl, ap, ap₂, ◌∙◌, arith}
+use Rattle.std.proofs.Math.Nat.{suc-mul}
+use Rattle.std.proofs.Common.{◌≡◌, ℕ, zero, suc, ◌+◌, ◌-◌, ◌*◌, ◌<◌, ◌≤◌, List, [], ◌∷◌, ◌++◌, length, map, take, drop, refl, ap, ap₂, ◌∙◌, arith}
 use Rattle.std.proofs.Math.Seq.{drop-append_seam, take-length}
 use Rattle.std.proofs.lemmas.List.{append_assoc, drop-append-le, length-append, length-drop, map-append, take-append-le}
 use Rattle.std.proofs.lemmas.List.Elements.{All-head, All-tail, All-weaker}
@@ -55,15 +56,38 @@ is_span ws more s start end = record {
     within : (b c d e : ℕ) → b ≡ c + d → e ≡ c + d → b ≤ e
     within b c d e end is = omega (arith, end, is)
 
+-- no words stand in a span that ends where it starts
+pub no_words : (ws : List ℕ) (s : Span) → s.end ≡ s.start → words_at ws s ≡ []
+no_words ws s none = ap (λ n. take n (drop s.start ws)) (nothing s.end s.start none)
+  where
+    nothing : (a b : ℕ) → a ≡ b → a - b ≡ 0
+    nothing a b is = omega (arith, is)
+
+-- ---- room
+
+pub room_for_one : (room longest words capacity : ℕ) → 0 < room → words + room * (longest + longest) ≤ capacity → words + (longest + longest) ≤ capacity
+room_for_one zero longest words capacity some fits = omega (arith, some)
+room_for_one (suc n) longest words capacity some fits = let e : suc n * (longest + longest) ≡ n * (longest + longest) + (longest + longest) = suc-mul n (longest + longest) in omega (arith, e, fits)
+
+-- room is left for one less behind the words of one
+pub room_left : (room longest words brought read capacity : ℕ) → 0 < room → words + room * (longest + longest) ≤ capacity → brought ≤ longest → read ≤ longest
+    → words + brought + read + (room - 1) * (longest + longest) ≤ capacity
+room_left zero longest words brought read capacity some fits few fewer = omega (arith, some)
+room_left (suc n) longest words brought read capacity some fits few fewer =
+    let e : suc n * (longest + longest) ≡ n * (longest + longest) + (longest + longest) = suc-mul n (longest + longest) in
+    let less : suc n - 1 ≡ n = omega arith in
+    let same : (suc n - 1) * (longest + longest) ≡ n * (longest + longest) = ap (λ k. k * (longest + longest)) less in
+    omega (arith, e, same, fits, few, fewer)
+
 -- ---- answers
 
 has_still : (ws more : List ℕ) (a : Answer) → HasItsWords ws a → HasItsWords (ws ++ more) a
-has_still ws more a has = (longer ws more a.brought has.0, longer ws more a.read has.1)
+has_still ws more a has = record { brought = longer ws more a.brought has.brought; read = longer ws more a.read has.read; none = has.none }
 
 told_still : (ws more : List ℕ) (a : Answer) → HasItsWords ws a → told_with (ws ++ more) a ≡ told_with ws a
 told_still ws more a has =
     ap₂ (λ b r. record { node = a.node; call = call_with b a.call; reply = reply_in r a.reply; begun = a.begun; ended = a.ended })
-    (same_words ws more a.brought has.0) (same_words ws more a.read has.1)
+    (same_words ws more a.brought has.brought) (same_words ws more a.read has.read)
 
 -- what was told before stays
 pub all_told_still : (ws more : List ℕ) (answers : List Answer) → All (HasItsWords ws) answers → map (told_with (ws ++ more)) answers ≡ map (told_with ws) answers

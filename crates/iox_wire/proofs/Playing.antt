@@ -1,7 +1,7 @@
 -- Entries that are played one after another.
-use Rattle.std.specs.Prelude.{Err, IfErr, IfOk, MatchOption, Ok, OnErr, OnOk, Result, not, option_map}
+use Rattle.std.specs.Prelude.{Err, IfErr, IfOk, MatchOption, Ok, OnErr, OnOk, Result, max, not, option_map}
 use Rattle.std.specs.Option.{option_map_or}
-use Rattle.std.proofs.Common.{◌≡◌, ℕ, zero, suc, ◌≤◌, nat_le, Bool, true, false, arith, length, take, List, [], ◌∷◌, ◌++◌, Option, Some, None, refl, ap, sym, subst, ◌∙◌, append-nil, append_assoc}
+use Rattle.std.proofs.Common.{◌≡◌, ℕ, zero, suc, ◌+◌, ◌≤◌, nat_le, Bool, true, false, arith, length, take, List, [], ◌∷◌, ◌++◌, Option, Some, None, refl, ap, sym, subst, ◌∙◌, append-nil, append_assoc}
 use Rattle.iox_model.specs.Commands.{Refusal, WireCall}
 use Rattle.iox_model.specs.Joins.{not_living}
 use Rattle.iox_model.specs.Loans.{Choice}
@@ -88,6 +88,25 @@ pub step_allowed : (a : WireData) (n : ℕ) (told : Result (Progress NodeReply) 
 step_allowed a n told (Ok none) refused wants left = tt
 step_allowed a n (Ok progress) (Err want) refused wants left = absurd wants
 step_allowed a n (Err refusal) (Err want) refused wants left = by_memory a n (step_refusal a n) refusal refl refused left
+
+-- where it is, there was no room left
+pub step_full : (a : WireData) (told : Result (Progress NodeReply) WireRefusal) (want : Result (Unit {0}) WireRefusal)
+    → IfErr told (λ refusal. refusal ≡ WantOfMemory → a.room ≡ 0) → OnErr want (IfOk told (λ done. ⊥))
+    → OnErr want (IfErr told (λ refusal. refusal ≡ WantOfMemory)) → OnErr want (a.room ≡ 0)
+step_full a told (Ok none) full wants memory = tt
+step_full a (Ok progress) (Err want) full wants memory = absurd wants
+step_full a (Err refusal) (Err want) full wants memory = full memory
+
+-- a step takes room for one
+pub step_room : (a b : WireData) (told : Result (Progress NodeReply) WireRefusal) → OnOk told (b.room + 1 ≡ max a.room 1) → OnErr told (b ≡ a) → a.room ≤ b.room + 1
+step_room a b (Ok progress) took same = one a.room b.room took
+  where
+    one : (n m : ℕ) → m + 1 ≡ max n 1 → n ≤ m + 1
+    one n m is = omega (arith, is)
+step_room a b (Err refusal) took same = let e : b.room ≡ a.room = ap (λ (w : WireData). w.room) same in more a.room b.room e
+  where
+    more : (n m : ℕ) → m ≡ n → n ≤ m + 1
+    more n m is = omega (arith, is)
 
 -- what is told of a call that is not made is a refusal
 pub left_told : {A : Type 0} (P : Type 0) (told : Result A WireRefusal) (want : Result (Unit {0}) WireRefusal) → OnErr told P → OnErr want (IfOk told (λ done. ⊥)) → OnErr want P
@@ -263,7 +282,7 @@ three_told (Err refusal) a d n played p r shows = tt
 -- what wants memory leaves a wire that shows the runs that it showed
 pub wants_shows : (e : WireEntry) (a b : WireData) → WantsMemory a e b → (p : Setting) (r : Run) → Shows p a r → Shows p b r
 wants_shows (Begin n call) a b wants p r shows = left_shows call a b wants.1 p r shows
-wants_shows (Step n) a b wants p r shows = subst (λ w. Shows p w r) (sym wants.1) shows
+wants_shows (Step n) a b wants p r shows = subst (λ w. Shows p w r) (sym wants.2) shows
 wants_shows (Die n) a b wants p r shows = absurd wants
 
 pub woven_on : (a b c : WireData) (es : List WireEntry) (e : WireEntry) → IsWovenBy a es b → WantsMemory b e c → IsWovenBy a es c

@@ -45,7 +45,7 @@ is_over reply z y is = record {
 }
 
 module _ (w : WireData) (n i : ℕ) (m d : WireNode) (first : position (λ x. x.number == n) w.nodes ≡ Some i) (read_m : m ≡ get_or w.nodes i m)
-    (read : d ≡ get_or w.nodes i d) (shown : IsShown w) (alive : living_refusal w.nodes n ≡ None) (rests : rest_refusal m ≡ None) where
+    (read : d ≡ get_or w.nodes i d) (shown : IsShown w) (goes : step_refusal w n ≡ None) where
   at_m : node_at n w.nodes ≡ Some m
   at_m = wires.there w n i m first read_m
 
@@ -54,9 +54,6 @@ module _ (w : WireData) (n i : ℕ) (m d : WireNode) (first : position (λ x. x.
 
   same : m ≡ d
   same = some-is m d (sym at_m ∙ at_d)
-
-  pub goes : step_refusal w n ≡ None
-  goes = refused_at w n m None alive at_m rests
 
   pub may_m : (p : Setting) (r : Run) → Shows p w r → MayAccess p m.node w.words
   may_m p r shows = may_access w n i m first read_m p r shows goes (shown.kept n m at_m)
@@ -92,10 +89,10 @@ module _ (w : WireData) (n i : ℕ) (m d : WireNode) (first : position (λ x. x.
     module _ (reply : Option NodeReply) (z y : WireNode)
         (gone : (p : Setting) (ws : List ℕ) → MayAccess p d.node ws → seen ≡ seen_at (access_in p d.node) ws → HasGoneOn p d.node ws reply z.node)
         (number : z.number ≡ d.number) (lives : LivesAs d z) (call : z.call ≡ d.call) (ends : EndsAs reply z y)
-        (replies : List Finished) (events : List (ℕ × Event)) (noted : events ≡ w.events ++ recorded w.plan w.nodes n event)
+        (replies : List Finished) (events : List (ℕ × Event)) (room : ℕ) (noted : events ≡ w.events ++ recorded w.plan w.nodes n event)
         (replied : replies ≡ w.replies ++ finished_by z.number z z.node.seat.words (length events) reply) where
       abbrev Now : WireData
-      Now = record { plan = w.plan; terms = w.terms; words = words; nodes = slice_set w.nodes i y; replies = replies; events = events }
+      Now = record { plan = w.plan; terms = w.terms; words = words; nodes = slice_set w.nodes i y; replies = replies; events = events; room = room }
 
       made : (p : Setting) → MayAccess p d.node w.words → wires.Made w n i d first read p reply words event y
       made p may = record {
@@ -127,13 +124,13 @@ module _ (w : WireData) (n i : ℕ) (m d : WireNode) (first : position (λ x. x.
       said = replied ∙ ap (λ (fs : List Finished). w.replies ++ fs) (by_reply reply)
 
       pub shown_now : IsShown Now
-      shown_now = shown_after w n i d first read y reply words event replies events shown goes made is_after said noted
+      shown_now = shown_after w n i d first read y reply words event replies events room shown goes made is_after said noted
 
       pub woven : (p : Setting) (r : Run) → Shows p w r
           → MakesOneAccess p w n Now
           × (bs : List Beat) × (after : Run) × IsStepOf n bs × GoesOnWith r bs after
           × (answers_in bs ≡ answer_of n Now.nodes (progress_of reply)) × Shows p Now after
-      woven p r shows = stepped w n i d first read p r y reply words event replies events shows goes (made p (may_d p r shows)) is_after said noted
+      woven p r shows = stepped w n i d first read p r y reply words event replies events room shows goes (made p (may_d p r shows)) is_after said noted
 
 -- ---- what is replied
 

@@ -21,7 +21,8 @@ use Rattle.iox_wire_weaves.specs.declared.refusal.WireRefusal.TheVariants.{NodeI
 use Rattle.iox_wire_weaves.specs.Laws.{LivesAs, Replaces, WentOn, progress_of}
 use Rattle.iox_model.specs.declared.event.Event.{Event}
 use Rattle.iox_wire_weaves.specs.SlotEvents.{slot_event}
-use Rattle.iox_wire_weaves.specs.Steps.{MakesOneAccess, access_of, answer_of, call_after, finished_by, recorded, rest_refusal, step_refusal}
+use Rattle.iox_steps.specs.declared.access.Progress.{Progress}
+use Rattle.iox_wire_weaves.specs.Steps.{MakesItsAccess, MakesOneAccess, StepIsWoven, access_of, answer_of, call_after, finished_by, recorded, rest_refusal, step_refusal}
 use Rattle.iox_wire_weaves.specs.Wires.{Shows, WireData, WireNode, answers_in, living_refusal, node_at}
 use Rattle.iox_wire_weaves.proofs.DeathsShown.{deaths_show}
 use Rattle.iox_wire_weaves.proofs.Lookups.{living_by, seat_there, steps_on}
@@ -31,6 +32,36 @@ use Rattle.iox_wire.proofs.GoingOn.{goes_on}
 use Rattle.iox_wire.proofs.Keeping.{kept_on, kept_still}
 use Rattle.iox_wire.proofs.Told.{may, told, within}
 use Rattle.iox_wire.proofs.Places.{read_there, replaced}
+
+-- what a wire shows has nothing to do with the room for what steps record
+pub shows_with : (p : Setting) (w : WireData) (r : Run) (room : ℕ) → Shows p w r → Shows p (record w { room = room }) r
+shows_with p w r room shows = record {
+  setting = shows.setting;
+  stands = shows.stands;
+  living = shows.living;
+  aimed = shows.aimed;
+  ports = shows.ports;
+  counts = shows.counts;
+  calls = shows.calls;
+  replies = shows.replies;
+  events = shows.events;
+}
+
+pub shown_with : (w : WireData) (room : ℕ) → IsShown w → IsShown (record w { room = room })
+shown_with w room shown = record {
+  shows = (shown.shows.0, shown.shows.1, shows_with shown.shows.0 w shown.shows.1 room shown.shows.2);
+  whole = shown.whole;
+  numbers = shown.numbers;
+  kept = shown.kept;
+}
+
+-- nor has the access of a node
+pub access_with : (w : WireData) (n room : ℕ) (new : WireData) → MakesItsAccess (record w { room = room }) n new → MakesItsAccess w n new
+access_with w n room new makes p r shows =
+    let m = makes p r (shows_with p w r room shows) in record { words = m.words; node = m.node; others = m.others }
+
+pub woven_with : (w : WireData) (n room : ℕ) (progress : Progress NodeReply) (new : WireData) → StepIsWoven (record w { room = room }) n progress new → StepIsWoven w n progress new
+woven_with w n room progress new woven p r shows = woven p r (shows_with p w r room shows)
 
 -- why a living node makes no step
 pub refused_at : (w : WireData) (n : ℕ) (d : WireNode) (o : Option WireRefusal) → living_refusal w.nodes n ≡ None → node_at n w.nodes ≡ Some d
@@ -72,30 +103,30 @@ module _ (w : WireData) (n i : ℕ) (d : WireNode) (at : position (λ x. x.numbe
     pub lives : LivesAs d y
     pub call : y.call ≡ call_after d.call reply
 
-  pub stepped : (p : Setting) (r : Run) (y : WireNode) (reply : Option NodeReply) (words : List ℕ) (event : Option Event) (replies : List Finished) (events : List (ℕ × Event))
+  pub stepped : (p : Setting) (r : Run) (y : WireNode) (reply : Option NodeReply) (words : List ℕ) (event : Option Event) (replies : List Finished) (events : List (ℕ × Event)) (room : ℕ)
       → Shows p w r → step_refusal w n ≡ None → Made p reply words event y → IsAfter reply y
       → replies ≡ w.replies ++ finished_by n d y.node.seat.words (length events) reply → events ≡ w.events ++ recorded w.plan w.nodes n event
-      → let new : WireData = record { plan = w.plan; terms = w.terms; words = words; nodes = slice_set w.nodes i y; replies = replies; events = events } in
+      → let new : WireData = record { plan = w.plan; terms = w.terms; words = words; nodes = slice_set w.nodes i y; replies = replies; events = events; room = room } in
       MakesOneAccess p w n new
       × (bs : List Beat) × (after : Run) × IsStepOf n bs × GoesOnWith r bs after
       × (answers_in bs ≡ answer_of n new.nodes (progress_of reply)) × Shows p new after
-  stepped p r y reply words event replies events shows goes made is told noted =
-      steps_show p w (record { plan = w.plan; terms = w.terms; words = words; nodes = slice_set w.nodes i y; replies = replies; events = events }) r n d y reply shows goes
+  stepped p r y reply words event replies events room shows goes made is told noted =
+      steps_show p w (record { plan = w.plan; terms = w.terms; words = words; nodes = slice_set w.nodes i y; replies = replies; events = events; room = room }) r n d y reply shows goes
       (replaced n w.nodes i d y at read is.number) is.lives
       (subst (λ (a : Access). WentOn p d.node (seen_at a w.words) reply y.node) (sym (same_access p)) made.gone.went) refl refl
       (made.words_are ∙ ap (λ a. words_after a w.words) (sym (same_access p))) is.call told
       (noted ∙ ap (λ e. w.events ++ recorded w.plan w.nodes n e)
       (made.event_is ∙ ap₂ (λ (s : Seat) (a : Access). slot_event p s.local (seen_at a w.words)) (sym (seat_there p w.nodes n d there)) (sym (same_access p))))
 
-  pub shown_after : (y : WireNode) (reply : Option NodeReply) (words : List ℕ) (event : Option Event) (replies : List Finished) (events : List (ℕ × Event))
+  pub shown_after : (y : WireNode) (reply : Option NodeReply) (words : List ℕ) (event : Option Event) (replies : List Finished) (events : List (ℕ × Event)) (room : ℕ)
       → IsShown w → step_refusal w n ≡ None → ((p : Setting) → MayAccess p d.node w.words → Made p reply words event y) → IsAfter reply y
       → replies ≡ w.replies ++ finished_by n d y.node.seat.words (length events) reply → events ≡ w.events ++ recorded w.plan w.nodes n event
-      → IsShown (record { plan = w.plan; terms = w.terms; words = words; nodes = slice_set w.nodes i y; replies = replies; events = events })
-  shown_after y reply words event replies events shown goes access is told noted =
+      → IsShown (record { plan = w.plan; terms = w.terms; words = words; nodes = slice_set w.nodes i y; replies = replies; events = events; room = room })
+  shown_after y reply words event replies events room shown goes access is told noted =
       let p : Setting = shown.shows.0 in let r : Run = shown.shows.1 in let shows : Shows p w r = shown.shows.2 in
       let kept : IsKept d.node = shown.kept n d there in
       let made : Made p reply words event y = access p (may_access p r shows goes kept) in
-      let s = stepped p r y reply words event replies events shows goes made is told noted in
+      let s = stepped p r y reply words event replies events room shows goes made is told noted in
       let rests = steps_on w n d there goes in
       record {
         shows = (p, s.2, s.6);
@@ -109,14 +140,14 @@ module _ (w : WireData) (n i : ℕ) (d : WireNode) (at : position (λ x. x.numbe
 
   pub died : (p : Setting) (r : Run) (y : WireNode) → Shows p w r → living_refusal w.nodes n ≡ None → y ≡ record d { alive = false; died = Some (length w.events) }
       → (after : Run) × GoesOnBy r (Dies n) after
-      × Shows p (record { plan = w.plan; terms = w.terms; words = w.words; nodes = slice_set w.nodes i y; replies = w.replies; events = w.events }) after
+      × Shows p (record { plan = w.plan; terms = w.terms; words = w.words; nodes = slice_set w.nodes i y; replies = w.replies; events = w.events; room = w.room }) after
   died p r y shows lives dead =
-      deaths_show p w (record { plan = w.plan; terms = w.terms; words = w.words; nodes = slice_set w.nodes i y; replies = w.replies; events = w.events }) r n d shows lives
+      deaths_show p w (record { plan = w.plan; terms = w.terms; words = w.words; nodes = slice_set w.nodes i y; replies = w.replies; events = w.events; room = w.room }) r n d shows lives
       (subst (λ z. Replaces w.nodes n d z (slice_set w.nodes i y)) dead (replaced n w.nodes i d y at read (ap (λ (z : WireNode). z.number) dead)))
       refl refl refl refl refl
 
   pub shown_dead : (y : WireNode) → IsShown w → living_refusal w.nodes n ≡ None → y ≡ record d { alive = false; died = Some (length w.events) }
-      → IsShown (record { plan = w.plan; terms = w.terms; words = w.words; nodes = slice_set w.nodes i y; replies = w.replies; events = w.events })
+      → IsShown (record { plan = w.plan; terms = w.terms; words = w.words; nodes = slice_set w.nodes i y; replies = w.replies; events = w.events; room = w.room })
   shown_dead y shown lives dead =
       let s = died shown.shows.0 shown.shows.1 y shown.shows.2 lives dead in (
       record {
@@ -129,7 +160,7 @@ module _ (w : WireData) (n i : ℕ) (d : WireNode) (at : position (λ x. x.numbe
       )
 
   pub lost : (y : WireNode) → y ≡ record d { alive = false; died = Some (length w.events) }
-      → Loses w n (record { plan = w.plan; terms = w.terms; words = w.words; nodes = slice_set w.nodes i y; replies = w.replies; events = w.events })
+      → Loses w n (record { plan = w.plan; terms = w.terms; words = w.words; nodes = slice_set w.nodes i y; replies = w.replies; events = w.events; room = w.room })
   lost y dead =
       let puts : Replaces w.nodes n d y (slice_set w.nodes i y) = replaced n w.nodes i d y at read (ap (λ (z : WireNode). z.number) dead) in
       record {

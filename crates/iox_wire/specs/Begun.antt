@@ -60,6 +60,7 @@ pub record IsLeftAlone (old new : WireData) : Type 0 where
   pub words : new.words ≡ old.words
   pub replies : new.replies ≡ old.replies
   pub events : new.events ≡ old.events
+  pub room : new.room ≡ old.room
   pub nodes : (m : ℕ)
       → option_map seen_of (node_at m new.nodes) ≡ option_map seen_of (node_at m old.nodes)
   pub shows : (p : Setting) (r : Run) → Shows p old r → Shows p new r

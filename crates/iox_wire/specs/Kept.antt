@@ -10,6 +10,7 @@ use Rattle.iox_wire_weaves.specs.NodeReply.{NodeReply}
 use Rattle.iox_wire_weaves.specs.Aims.{IsAimed, KnowsItsPlace, MayAdd, MayGoOn}
 use Rattle.iox_wire_weaves.specs.Nodes.{Node, seat_in}
 use Rattle.iox_wire_openings.specs.OpenedNodes.{planned_seat}
+use Rattle.iox_wire.specs.Replies.{FinishedCalls}
 use Rattle.iox_wire_weaves.specs.Replies.{most_words}
 use Rattle.iox_wire_weaves.specs.Runs.{Run}
 use Rattle.iox_wire_weaves.specs.WirePlan.{WirePlan}
@@ -49,6 +50,14 @@ pub record IsShown (wire : WireData) : Type 0 where
   pub whole : IsWirePlan wire.plan wire.terms
   pub numbers : wire.terms.first_number + most_accesses < 2 ^ 64
   pub kept : AreKept wire.nodes
+
+-- There is room for what so many more steps record: an event each, and a finished call, which brings and
+-- reads no more words than the longest message has.
+pub record HasRoomToRecord (plan : WirePlan) (room : ℕ) (told : FinishedCalls) (noted capacity : ℕ)
+    : Type 0 where
+  pub replies : room ≤ told.room
+  pub longest : told.longest ≡ most_words plan
+  pub events : noted + room ≤ capacity
 
 -- The wire lost the node: it is dead, and all else stays.
 pub record Loses (old : WireData) (n : ℕ) (new : WireData) : Type 0 where

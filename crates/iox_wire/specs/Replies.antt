@@ -1,5 +1,5 @@
 -- Calls and replies as a wire keeps them, and the machine's calls and replies that these are.
-use Rattle.std.specs.Prelude.{ℕ, ◌≤◌, List, [], length, slice_range}
+use Rattle.std.specs.Prelude.{ℕ, ◌≡◌, ◌+◌, ◌*◌, ◌≤◌, Bool, true, false, List, [], length, slice_range}
 use Rattle.iox_model.specs.Schedules.{Finished, UnderWay}
 use Rattle.iox_model.specs.WireCalls.{WordsCall, in_words}
 use Rattle.iox_model.specs.declared.call.Call.TheVariants as calls
@@ -7,7 +7,10 @@ use Rattle.iox_model.specs.declared.call.WireCall.TheVariants.{Port}
 use Rattle.iox_wire_weaves.specs.Calls.{of_handle}
 use Rattle.iox_wire_weaves.specs.NodeCall.{NodeCall}
 use Rattle.iox_wire_weaves.specs.NodeCall.TheVariants as node_calls
+use Rattle.iox_wire_weaves.specs.NodeReply.{NodeReply}
+use Rattle.iox_wire_weaves.specs.NodeReply.TheVariants as node_replies
 use Rattle.iox_wire_weaves.specs.Nodes.{reply_in}
+use Rattle.iox_wire_weaves.specs.SeatReply.TheVariants as seat_replies
 use Rattle.iox_wire.specs.declared.finished.Answer.{Answer}
 use Rattle.iox_wire.specs.declared.finished.CallUnderWay.{CallUnderWay}
 use Rattle.iox_wire.specs.declared.finished.FinishedCall.{FinishedCall}
@@ -42,6 +45,17 @@ call_with words (stored.SendCopy n role) = Port (calls.SendCopy n words)
 call_with words (stored.Receive n) = Port (calls.Receive n)
 call_with words (stored.HasRequests n) = Port (calls.HasRequests n)
 call_with words (stored.Handle n call) = Port (in_words (of_handle call n))
+
+-- ---- replies
+
+-- whether it is the answer of a read: no other answers words
+abbrev pub is_read : NodeReply → Bool
+is_read (node_replies.OfSeat seat_replies.Words) = true
+is_read reply = false
+
+-- there are no words, unless it is that
+abbrev pub HasWordsIfRead : NodeReply → List ℕ → Type 0
+HasWordsIfRead reply words = is_read reply ≡ false → words ≡ []
 
 -- ---- finished calls, and those under way
 
@@ -78,15 +92,23 @@ told_with words a = record {
   ended = a.ended;
 }
 
--- the words of an answer are in the list
-abbrev pub HasItsWords : List ℕ → Answer → Type 0
-HasItsWords words a = IsSpan words a.brought × IsSpan words a.read
+-- The words of an answer are in the list, and one that is no read has read none.
+pub record HasItsWords (words : List ℕ) (a : Answer) : Type 0 where
+  pub brought : IsSpan words a.brought
+  pub read : IsSpan words a.read
+  pub none : is_read a.reply ≡ false → a.read.end ≡ a.read.start
 
--- Finished calls, and for how many more, and for how many words more, there is room.
+-- Finished calls, the most words that one brings, or reads, and how many more find room.
 pub record FinishedCalls : Type 0 where
   pub finished : List Finished
+  pub longest : ℕ
   pub room : ℕ
-  pub words_room : ℕ
+
+-- There is room for so many more, each of which brings, and reads, so many words at most.
+pub record HasRoomLeft (room longest : ℕ) (told told_capacity : ℕ) (kept kept_capacity : ℕ)
+    : Type 0 where
+  pub answers : told + room ≤ told_capacity
+  pub words : kept + room * (longest + longest) ≤ kept_capacity
 
 -- The words are no more than so many, for which there is room.
 pub record FitsRoom (most : ℕ) (words : List ℕ) (capacity : ℕ) : Type 0 where

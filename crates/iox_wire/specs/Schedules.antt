@@ -1,5 +1,5 @@
 -- What a schedule of begins, steps and deaths leads to.
-use Rattle.std.specs.Prelude.{◌≡◌, ◌++◌, ◌∷◌, ℕ, IsSomeAnd, List, MatchOption, None, [], slice_get, take}
+use Rattle.std.specs.Prelude.{◌≡◌, ◌+◌, ◌≤◌, ◌++◌, ◌∷◌, ℕ, IsSomeAnd, List, MatchOption, None, [], slice_get, take}
 use Rattle.iox_model.specs.Joins.{not_living}
 use Rattle.iox_model.specs.Loans.{Choice}
 use Rattle.iox_model.specs.Schedules.{IsBeginOf, IsDeathOf, IsStepOf}
@@ -92,15 +92,15 @@ pub record IsPlayed (old : WireData) (entries : List WireEntry) (new : WireData)
   pub each : AreEntered old entries new
   pub woven : IsWovenBy old entries new
 
--- Nothing refuses the entry, but there is no memory for it: a step changes nothing, and a begin
--- leaves what one leaves that is refused. A death takes no memory.
+-- Nothing refuses the entry, but there is no memory for it: a step finds no room left and changes
+-- nothing, and a begin leaves what one leaves that is refused. A death takes no memory.
 abbrev pub WantsMemory : WireData → WireEntry → WireData → Type 0
 WantsMemory old (Begin node call) new = MayBegin old node call × IsLeft call old new
-WantsMemory old (Step node) new = (step_refusal old node ≡ None) × (new ≡ old)
+WantsMemory old (Step node) new = (step_refusal old node ≡ None) × (old.room ≡ 0) × (new ≡ old)
 WantsMemory old (Die node) new = ⊥
 
--- The entries are played up to one that finds no memory.
+-- The entries are played up to one that finds no memory. Each of them took room for one step at most.
 abbrev pub IsStopped : WireData → List WireEntry → WireData → Type 0
 IsStopped old entries new =
     (count : ℕ) × (last : WireData) × IsPlayed old (take count entries) last
-    × IsSomeAnd (slice_get entries count) (λ entry. WantsMemory last entry new)
+    × (old.room ≤ last.room + count) × IsSomeAnd (slice_get entries count) (λ entry. WantsMemory last entry new)

@@ -27,6 +27,7 @@ impl Wire {
     pub fn begin(&mut self, node: u64, call: NodeCall<'_>) -> Result<(), WireRefusal>
         ensures begun { OnOk result (BeginsItsCall self.old node call.entry self.new) }
         ensures weave { OnOk result (BeginIsWoven self.old node call.entry self.new) }
+        ensures room { self.new.room ≡ self.old.room }
         ensures refused { IfErr result (IsBeginRefusal self.old node call.entry) }
         ensures unchanged { OnErr result (IsLeft call.entry self.old self.new) }
     {
@@ -45,6 +46,7 @@ impl Wire {
     pub fn begin_has_requests(&mut self, node: u64, number: u64) -> Result<(), WireRefusal>
         ensures begun { OnOk result (BeginsItsCall self.old node (HasRequests number) self.new) }
         ensures weave { OnOk result (BeginIsWoven self.old node (HasRequests number) self.new) }
+        ensures room { self.new.room ≡ self.old.room }
         ensures refused { IfErr result (IsBeginRefusal self.old node (HasRequests number)) }
         ensures unchanged { OnErr result (self.new ≡ self.old) }
     {

@@ -1,5 +1,5 @@
 //! The events that a wire records.
-ghost use Rattle.std.specs.Prelude.{◌≡◌, ◌<◌, ◌++◌, ◌==◌, IfSome, length, map, position};
+ghost use Rattle.std.specs.Prelude.{◌≡◌, ◌+◌, ◌<◌, ◌≤◌, ◌++◌, ◌==◌, IfSome, length, map, position};
 ghost use Rattle.std.specs.Prelude.{vec_capacity, vec_len};
 ghost use Rattle.iox_wire_weaves.specs.Events.{with_serials};
 ghost use Rattle.iox_wire_weaves.specs.Owners.{serial_of};
@@ -74,9 +74,11 @@ pub(crate) fn note(
     events: &mut Vec<WireEvent>,
 )
     requires { vec_len events.old < vec_capacity events.old }
-    ensures { map (λ e. (e.node, e.event)) events.new.items
+    ensures noted { map (λ e. (e.node, e.event)) events.new.items
         ≡ map (λ e. (e.node, e.event)) events.old.items
         ++ recorded places.now members.now node event }
+    ensures few { vec_len events.new ≤ vec_len events.old + 1 }
+    ensures capacity { vec_capacity events.new ≡ vec_capacity events.old }
 {
     if let Some(event) = event {
         events.push_reserved(WireEvent {

@@ -12,7 +12,7 @@ pub struct FinishedCall<'a> {
     /// With the first of its words, if they are more than the longest message of the wire has.
     pub call: NodeCall<'a>,
     pub reply: NodeReply,
-    /// What a read answered.
+    /// What a read answered; no other answers words.
     pub words: &'a [u64],
     /// How many events came before its begin.
     pub begun: usize,
@@ -47,59 +47,81 @@ pub struct Replies {
     answers: Vec<Answer>,
     // the words of all of them
     words: Vec<u64>,
+    // the most words that one brings, or reads
+    longest: usize,
+    // how many more find room
+    room: usize,
 }
 
 impl Model for Replies {
-    ghost use Rattle.std.specs.Prelude.{◌-◌, map, vec_capacity, vec_len};
+    ghost use Rattle.std.specs.Prelude.{map, vec_capacity, vec_len};
     ghost use Rattle.std.specs.List.{All};
-    ghost use Rattle.iox_wire.specs.Replies.{FinishedCalls, HasItsWords, told_with};
+    ghost use Rattle.iox_wire.specs.Replies.{FinishedCalls, HasItsWords, HasRoomLeft, told_with};
 
     ghost Value = { FinishedCalls };
 
     ghost view = { λ r. record {
       finished = map (told_with r.words.items) r.answers.items;
-      room = vec_capacity r.answers - vec_len r.answers;
-      words_room = vec_capacity r.words - vec_len r.words;
+      longest = r.longest;
+      room = r.room;
     } };
 
-    ghost invariant = { λ r. All (HasItsWords r.words.items) r.answers.items };
+    ghost invariant = { λ r. All (HasItsWords r.words.items) r.answers.items
+        × HasRoomLeft r.room r.longest (vec_len r.answers) (vec_capacity r.answers)
+        (vec_len r.words) (vec_capacity r.words) };
 }
 
 impl Replies {
-    ghost use Rattle.std.specs.Prelude.{◌≡◌, ◌+◌, ◌<◌, ◌≤◌, ◌++◌, ◌∷◌, ◌==◌, [], OnOk, length};
-    ghost use Rattle.std.specs.Prelude.{option_map, slice_get};
-    ghost use Rattle.iox_wire.specs.Replies.{finished_of, words_brought};
+    ghost use Rattle.std.specs.Prelude.{◌≡◌, ◌-◌, ◌<◌, ◌≤◌, ◌++◌, ◌∷◌, ◌==◌, [], IfSome, OnErr};
+    ghost use Rattle.std.specs.Prelude.{OnOk, length, max, option_map, slice_get};
+    ghost use Rattle.iox_wire.specs.Replies.{HasWordsIfRead, finished_of, words_brought};
 
-    /// No finished calls.
-    pub(crate) fn new(alloc: Global) -> Replies
-        ensures { result.finished ≡ [] }
+    /// No finished calls, and room for none. Of each no more words are told than so many that it
+    /// brings, and so many that it reads.
+    pub(crate) fn new(alloc: Global, longest: usize) -> Replies
+        ensures { result ≡ record { finished = []; longest = longest; room = 0 } }
     {
         Replies {
             answers: Vec::new(alloc),
             words: Vec::new(alloc),
+            longest,
+            room: 0,
         }
     }
 
-    /// Makes room for one more, which brings so many words, and reads so many.
-    pub(crate) fn reserve(&mut self, words: usize) -> Result<(), AllocError>
-        ensures room { OnOk result (0 < self.new.room) }
-        ensures words { OnOk result (words + words ≤ self.new.words_room) }
-        ensures unchanged { self.new.finished ≡ self.old.finished }
+    /// Makes room for so many more.
+    pub(crate) fn reserve(&mut self, calls: usize) -> Result<(), AllocError>
+        ensures reserved { OnOk result (self.new
+            ≡ record (self.old) { room = max self.old.room calls }) }
+        ensures unchanged { OnErr result (self.new ≡ self.old) }
     {
-        let Some(count) = words.checked_add(words) else {
+        if calls <= self.room {
+            return Ok(());
+        }
+        let Some(each) = self.longest.checked_add(self.longest) else {
             return Err(AllocError);
         };
-        self.answers.reserve(1)?;
-        self.words.reserve(count)
+        let Some(words) = calls.checked_mul(each) else {
+            return Err(AllocError);
+        };
+        self.answers.reserve(calls)?;
+        self.words.reserve(words)?;
+        self.room = calls;
+        Ok(())
     }
 
     /// Writes a finished call behind the others; there is room for it.
     pub(crate) fn tell(&mut self, call: FinishedCall<'_>)
         requires room { 0 < self.old.room }
-        requires words { length (words_brought call.call) + length call.words.now
-            ≤ self.old.words_room }
-        ensures { self.new.finished ≡ self.old.finished ++ finished_of call.entry ∷ [] }
+        requires brought { length (words_brought call.call) ≤ self.old.longest }
+        requires words { length call.words.now ≤ self.old.longest }
+        requires read { HasWordsIfRead call.reply call.words.now }
+        ensures { self.new ≡ record (self.old) {
+          finished = self.old.finished ++ finished_of call.entry ∷ [];
+          room = self.old.room - 1;
+        } }
     {
+        self.room -= 1;
         let brought = write_behind(&mut self.words, words_of(call.call));
         let read = write_behind(&mut self.words, call.words);
         self.answers.push_reserved(Answer {
@@ -129,7 +151,8 @@ impl Replies {
 
     /// The finished call at that place.
     pub fn get(&self, place: usize) -> Option<FinishedCall<'_>>
-        ensures { option_map finished_of result ≡ slice_get self.now.finished place }
+        ensures there { option_map finished_of result ≡ slice_get self.now.finished place }
+        ensures words { IfSome result (λ f. HasWordsIfRead f.reply f.words.now) }
     {
         let answer = self.answers.get(place)?;
         Some(FinishedCall {

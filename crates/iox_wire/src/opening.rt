@@ -16,7 +16,7 @@ use iox_wire_weaves::{StoredNode, WirePlan, WireTerms};
 use std::alloc::{AllocError, Global};
 
 /// How many words the longest message takes in a slot of the plan's ports.
-fn longest_message(plan: &WirePlan) -> usize
+pub(crate) fn longest_message(plan: &WirePlan) -> usize
     ensures { result ≡ most_words plan.now }
 {
     let mut most = 0;

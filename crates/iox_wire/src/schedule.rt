@@ -1,6 +1,7 @@
 //! Begins, steps and deaths of nodes, one after another.
 ghost use Rattle.std.specs.Bool.{OnFalse, OnTrue};
-ghost use Rattle.std.specs.Prelude.{◌≡◌, ℕ, IfErr, IfOk, None, OnErr, OnOk, Some, take};
+ghost use Rattle.std.specs.Prelude.{◌≡◌, ◌+◌, ◌≤◌, ℕ, IfErr, IfOk, None, OnErr, OnOk, Some};
+ghost use Rattle.std.specs.Prelude.{length, take};
 ghost use Rattle.iox_wire_weaves.specs.Asking.{MayBegin};
 ghost use Rattle.iox_wire_weaves.specs.Steps.{step_refusal};
 ghost use Rattle.iox_wire_weaves.specs.Wires.{machine_refusal, refusal_in};
@@ -17,6 +18,7 @@ use iox_wire_weaves::{NodeCall, WireRefusal};
 fn is_named(error: WireRefusal) -> bool
     ensures named { OnTrue result (machine_refusal error ≡ Some (refusal_in error)) }
     ensures left { OnFalse result (machine_refusal error ≡ None) }
+    ensures memory { OnFalse result (error ≡ WantOfMemory) }
 {
     match error {
         WireRefusal::WantOfMemory => false,
@@ -37,6 +39,7 @@ fn want_of<T: Copy>(told: Result<T, WireRefusal>) -> Result<(), WireRefusal>
         (IfErr told (λ error. machine_refusal error ≡ Some (refusal_in error))) }
     ensures done { OnErr result (IfOk told (λ done. ⊥)) }
     ensures want { OnErr result (IfErr told (λ error. machine_refusal error ≡ None)) }
+    ensures memory { OnErr result (IfErr told (λ error. error ≡ WantOfMemory)) }
     ensures refused { IfErr result (λ error. error ≡ WantOfMemory) }
 {
     match told {
@@ -57,6 +60,7 @@ impl Wire {
         ensures allowed { OnErr result (MayBegin self.old node call.entry) }
         ensures unchanged { OnErr result (IsLeft call.entry self.old self.new) }
         ensures refused { IfErr result (λ error. error ≡ WantOfMemory) }
+        ensures room { self.new.room ≡ self.old.room }
     {
         let told = self.begin(node, call);
         want_of(told)
@@ -68,6 +72,8 @@ impl Wire {
         ensures allowed { OnErr result (step_refusal self.old node ≡ None) }
         ensures unchanged { OnErr result (self.new ≡ self.old) }
         ensures refused { IfErr result (λ error. error ≡ WantOfMemory) }
+        ensures full { OnErr result (self.old.room ≡ 0) }
+        ensures room { self.old.room ≤ self.new.room + 1 }
     {
         let told = self.step(node);
         want_of(told)
@@ -75,7 +81,8 @@ impl Wire {
 
     /// The node dies, or nothing changes.
     fn lose(&mut self, node: u64)
-        ensures { IsDeclaredDead self.old node self.new }
+        ensures lost { IsDeclaredDead self.old node self.new }
+        ensures room { self.new.room ≡ self.old.room }
     {
         let _told = self.declare_dead(node);
     }
@@ -85,6 +92,7 @@ impl Wire {
         ensures played { OnOk result (IsEntered self.old entry.entry self.new) }
         ensures wants { OnErr result (WantsMemory self.old entry.entry self.new) }
         ensures refused { IfErr result (λ error. error ≡ WantOfMemory) }
+        ensures room { self.old.room ≤ self.new.room + 1 }
     {
         match entry {
             WireEntry::Begin(node, call) => self.ask(node, call),
@@ -97,11 +105,12 @@ impl Wire {
     }
 
     /// Plays a schedule to its end, or to the entry that finds no memory. Entries that are refused
-    /// change nothing.
+    /// change nothing. No step finds none for which there was room before.
     pub fn run(&mut self, schedule: &[WireEntry<'_>]) -> Result<(), WireRefusal>
         ensures weave { (count : ℕ) × IsWovenBy self.old (take count schedule.now) self.new }
         ensures whole { OnOk result (IsPlayed self.old schedule.now self.new) }
         ensures stopped { OnErr result (IsStopped self.old schedule.now self.new) }
+        ensures room { self.old.room ≤ self.new.room + length schedule.now }
         ensures refused { IfErr result (λ error. error ≡ WantOfMemory) }
     {
         for entry in schedule {

@@ -5,7 +5,7 @@ ghost use Rattle.iox_wire_weaves.specs.WordMapNewError.TheVariants as new_error;
 use crate::events::{WireEvent, note};
 use crate::finished::Replies;
 use crate::member::Member;
-use crate::opening::open_members;
+use crate::opening::{longest_message, open_members};
 use iox_steps::Progress;
 use iox_wire_weaves::{
     Lists, NodeReply, WirePlan, WireRefusal, WireTerms, WordMap, WordMapNewError,
@@ -29,15 +29,17 @@ pub struct Wire {
     pub(crate) members: Vec<Member>,
     replies: Replies,
     events: Vec<WireEvent>,
+    // how many more steps find room for what they record
+    room: usize,
     // what a begin lists, for which there is room; of no use later
     pub(crate) lists: Lists,
 }
 
 impl Model for Wire {
-    ghost use Rattle.std.specs.Prelude.{map};
+    ghost use Rattle.std.specs.Prelude.{map, vec_capacity, vec_len};
     ghost use Rattle.iox_wire_weaves.specs.ListRooms.{HasRoomFor};
     ghost use Rattle.iox_wire_weaves.specs.Wires.{WireData};
-    ghost use Rattle.iox_wire.specs.Kept.{IsShown};
+    ghost use Rattle.iox_wire.specs.Kept.{HasRoomToRecord, IsShown};
 
     ghost Value = { WireData };
 
@@ -48,6 +50,7 @@ impl Model for Wire {
       nodes = w.members.items;
       replies = w.replies.finished;
       events = map (λ e. (e.node, e.event)) w.events.items;
+      room = w.room;
     } };
 
     ghost invariant = { λ w. HasRoomFor w.places w.lists × IsShown (record {
@@ -57,12 +60,13 @@ impl Model for Wire {
       nodes = w.members.items;
       replies = w.replies.finished;
       events = map (λ e. (e.node, e.event)) w.events.items;
-    }) };
+      room = w.room;
+    }) × HasRoomToRecord w.places w.room w.replies (vec_len w.events) (vec_capacity w.events) };
 }
 
 impl Wire {
-    ghost use Rattle.std.specs.Prelude.{◌≡◌, ◌<◌, IfErr, IfOk, IfSome, None, OnErr, OnOk, Some};
-    ghost use Rattle.std.specs.Prelude.{length, position, ◌==◌, map};
+    ghost use Rattle.std.specs.Prelude.{◌≡◌, ◌+◌, ◌<◌, IfErr, IfOk, IfSome, None, OnErr, OnOk, Some};
+    ghost use Rattle.std.specs.Prelude.{length, max, position, ◌==◌, map};
     ghost use Rattle.iox_model.specs.States.{State};
     ghost use Rattle.iox_sets.specs.Refusals.{IsRefusal};
     ghost use Rattle.iox_wire_weaves.specs.Plans.{IsPlan};
@@ -104,13 +108,15 @@ impl Wire {
         let words = zeros(alloc, total)?;
         let members = open_members(alloc, places.plan(), nodes, handles)?;
         let lists = Lists::new(alloc, &places)?;
+        let longest = longest_message(places.plan());
         Ok(Wire {
             places,
             terms,
             words,
             members,
-            replies: Replies::new(alloc),
+            replies: Replies::new(alloc, longest),
             events: Vec::new(alloc),
+            room: 0,
             lists,
         })
     }
@@ -163,41 +169,70 @@ impl Wire {
         Err(WireRefusal::NodeIsDead)
     }
 
-    /// One access of the node's call.
+    /// Makes room for what so many more steps record: none of them wants memory then.
+    pub fn reserve(&mut self, steps: usize) -> Result<(), AllocError>
+        ensures reserved { OnOk result (self.new
+            ≡ record (self.old) { room = max self.old.room steps }) }
+        ensures unchanged { OnErr result (self.new ≡ self.old) }
+    {
+        if steps <= self.room {
+            return Ok(());
+        }
+        self.replies.reserve(steps)?;
+        self.events.reserve(steps)?;
+        self.room = steps;
+        Ok(())
+    }
+
+    /// One access of the node's call. Where there is no room for what it records, it makes some.
     pub fn step(&mut self, node: u64) -> Result<Progress<NodeReply>, WireRefusal>
         ensures one_access { OnOk result (MakesItsAccess self.old node self.new) }
         ensures weave { IfOk result (λ progress. StepIsWoven self.old node progress self.new) }
+        ensures room { OnOk result (self.new.room + 1 ≡ max self.old.room 1) }
         ensures allowed { OnOk result (step_refusal self.old node ≡ None) }
         ensures refused { IfErr result (IsRefusal WantOfMemory (step_refusal self.old node)) }
+        ensures full { IfErr result (λ error. error ≡ WantOfMemory → self.old.room ≡ 0) }
         ensures unchanged { OnErr result (self.new ≡ self.old) }
     {
         let place = self.living(node)?;
-        let member = &self.members[place];
-        if let Some(refusal) = member.rest_refusal() {
+        if let Some(refusal) = self.members[place].rest_refusal() {
             return Err(refusal);
         }
-        if self.replies.reserve(member.longest()).is_err() {
+        if self.reserve(1).is_err() {
             return Err(WireRefusal::WantOfMemory);
         }
-        if self.events.reserve(1).is_err() {
-            return Err(WireRefusal::WantOfMemory);
-        }
+        Ok(self.make_step(node, place))
+    }
+
+    /// One access of a node that stands there and may make a step, which finds room.
+    fn make_step(&mut self, node: u64, place: usize) -> Progress<NodeReply>
+        requires there { position (λ x. x.number == node) self.old.nodes ≡ Some place }
+        requires within { place < length self.old.nodes }
+        requires goes { step_refusal self.old node ≡ None }
+        requires room { 0 < self.old.room }
+        ensures one_access { MakesItsAccess self.old node self.new }
+        ensures weave { StepIsWoven self.old node result self.new }
+        ensures room { self.new.room + 1 ≡ self.old.room }
+    {
+        let member = &self.members[place];
         let seen = member.make_access(&mut self.words);
         let told = member.event(seen);
         note(&self.places, &self.members, node, told, &mut self.events);
+        self.room -= 1;
         let ended = self.events.len();
         let member = &mut self.members[place];
         let Some(reply) = member.go_on(seen) else {
-            return Ok(Progress::Going);
+            return Progress::Going;
         };
         member.tell(reply, ended, &mut self.replies);
-        Ok(Progress::Done(reply))
+        Progress::Done(reply)
     }
 
     /// The node stops for good, wherever it is in its call.
     pub fn declare_dead(&mut self, node: u64) -> Result<(), WireRefusal>
         ensures weave { OnOk result (DeathIsWoven self.old node self.new) }
         ensures lost { OnOk result (Loses self.old node self.new) }
+        ensures room { self.new.room ≡ self.old.room }
         ensures allowed { OnOk result (living_refusal self.old.nodes node ≡ None) }
         ensures refused { IfErr result (λ error. living_refusal self.old.nodes node ≡ Some error) }
         ensures unchanged { OnErr result (self.new ≡ self.old) }

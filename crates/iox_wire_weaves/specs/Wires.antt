@@ -41,7 +41,8 @@ pub record WireNode : Type 0 where
   pub longest : ℕ
 
 -- A wire: what it was made for, and told beside that, its words, its nodes, the finished calls in the
--- order of their ends, and the events that were recorded, each with its node, oldest first.
+-- order of their ends, the events that were recorded, each with its node, oldest first, and how many more
+-- steps find room for what they record.
 pub record WireData : Type 0 where
   pub plan : WirePlan
   pub terms : WireTerms
@@ -49,6 +50,7 @@ pub record WireData : Type 0 where
   pub nodes : List WireNode
   pub replies : List Finished
   pub events : List (ℕ × Event)
+  pub room : ℕ
 
 -- the node of that number
 abbrev pub node_at : ℕ → List WireNode → Option WireNode

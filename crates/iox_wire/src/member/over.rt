@@ -7,7 +7,9 @@ ghost use Rattle.iox_wire_weaves.specs.Nodes.{reply_in};
 ghost use Rattle.iox_wire_weaves.specs.Replies.{call_within, reply_within};
 ghost use Rattle.iox_wire_weaves.specs.Seats.{reply_with};
 ghost use Rattle.iox_wire_weaves.specs.Steps.{finished_by};
-ghost use Rattle.iox_wire.specs.Replies.{finished_of, under_way_of, words_brought, words_call};
+ghost use Rattle.iox_wire_weaves.specs.NodeReply.TheVariants.{OfSeat};
+ghost use Rattle.iox_wire.specs.Replies.{HasWordsIfRead, finished_of, under_way_of};
+ghost use Rattle.iox_wire.specs.Replies.{words_brought, words_call};
 
 use super::{BegunCall, Member};
 use crate::finished::{CallUnderWay, FinishedCall, Replies};
@@ -19,6 +21,7 @@ use iox_wire_weaves::{NodeCall, NodeReply, SeatReply};
 fn words_of_seat(reply: SeatReply, words: &[u64], most: usize) -> &[u64]
     ensures told { reply_with result.now reply ≡ reply_within most (reply_with words.now reply) }
     ensures few { length result.now ≤ most }
+    ensures read { HasWordsIfRead (OfSeat reply) result.now }
 {
     match reply {
         SeatReply::Words => first_of(words, most),
@@ -32,6 +35,7 @@ fn words_of_seat(reply: SeatReply, words: &[u64], most: usize) -> &[u64]
 fn words_told(reply: NodeReply, words: &[u64], most: usize) -> &[u64]
     ensures told { reply_in result.now reply ≡ reply_within most (reply_in words.now reply) }
     ensures few { length result.now ≤ most }
+    ensures read { HasWordsIfRead reply result.now }
 {
     match reply {
         NodeReply::OfSeat(reply) => words_of_seat(reply, words, most),
@@ -91,6 +95,7 @@ impl Member {
             (reply_in self.now.node.seat.words reply)) ended [] }
         ensures brought { IfSome result (λ f. length (words_brought f.call) ≤ self.now.longest) }
         ensures words { IfSome result (λ f. length f.words.now ≤ self.now.longest) }
+        ensures read { IfSome result (λ f. HasWordsIfRead f.reply f.words.now) }
     {
         let Some(begun) = self.call else {
             return None;
@@ -109,10 +114,12 @@ impl Member {
     #[inline]
     pub(crate) fn tell(&mut self, reply: NodeReply, ended: usize, replies: &mut Replies)
         requires room { 0 < replies.old.room }
-        requires words { self.old.longest + self.old.longest ≤ replies.old.words_room }
+        requires words { self.old.longest ≤ replies.old.longest }
         ensures told { replies.new.finished ≡ replies.old.finished ++ finished_by self.old.number
             self.old self.old.node.seat.words ended (Some reply) }
         ensures over { self.new ≡ record (self.old) { call = None } }
+        ensures longest { replies.new.longest ≡ replies.old.longest }
+        ensures room { replies.old.room ≤ replies.new.room + 1 }
     {
         if let Some(call) = self.finished(reply, ended) {
             replies.tell(call);

@@ -13,20 +13,20 @@ use Rattle.iox_wire.proofs.wire.Wire.begin.Goals as goal
 pub begin-told-requires-clause-setting : goal.begin-told-requires-clause-setting
 begin-told-requires-clause-setting c =
     let first = ap (λ (v : WireData). position (λ x. x.number == c.args.node) v.nodes) c.self.view_is ∙ c.in_ok-place.ensures.first in
-    let w : WireData = record { plan = c.self.inside.places; terms = c.self.inside.terms; words = c.self.inside.words.items; nodes = c.self.inside.members.items; replies = c.self.inside.replies.finished; events = events_by c.self.inside.events.items } in
+    let w : WireData = record { plan = c.self.inside.places; terms = c.self.inside.terms; words = c.self.inside.words.items; nodes = c.self.inside.members.items; replies = c.self.inside.replies.finished; events = events_by c.self.inside.events.items; room = c.self.inside.room } in
     set_there w c.self.invariant.1
 
 pub begin-told-requires-clause-may : goal.begin-told-requires-clause-may
 begin-told-requires-clause-may c rests =
     let first = ap (λ (v : WireData). position (λ x. x.number == c.args.node) v.nodes) c.self.view_is ∙ c.in_ok-place.ensures.first in
-    let w : WireData = record { plan = c.self.inside.places; terms = c.self.inside.terms; words = c.self.inside.words.items; nodes = c.self.inside.members.items; replies = c.self.inside.replies.finished; events = events_by c.self.inside.events.items } in
+    let w : WireData = record { plan = c.self.inside.places; terms = c.self.inside.terms; words = c.self.inside.words.items; nodes = c.self.inside.members.items; replies = c.self.inside.replies.finished; events = events_by c.self.inside.events.items; room = c.self.inside.room } in
     let alive : living_refusal w.nodes c.args.node ≡ None = ap (λ (v : WireData). living_refusal v.nodes c.args.node) c.self.view_is ∙ c.in_ok-place.ensures.alive in
     may_begin w c.args.node c.in_ok-place.place c.index_mut-member.result.now first c.index_mut-member.ensures.value c.self.invariant.1 alive rests
 
 pub begin-told-requires-clause-lends : goal.begin-told-requires-clause-lends
 begin-told-requires-clause-lends c rests room p setting =
     let first = ap (λ (v : WireData). position (λ x. x.number == c.args.node) v.nodes) c.self.view_is ∙ c.in_ok-place.ensures.first in
-    let w : WireData = record { plan = c.self.inside.places; terms = c.self.inside.terms; words = c.self.inside.words.items; nodes = c.self.inside.members.items; replies = c.self.inside.replies.finished; events = events_by c.self.inside.events.items } in
+    let w : WireData = record { plan = c.self.inside.places; terms = c.self.inside.terms; words = c.self.inside.words.items; nodes = c.self.inside.members.items; replies = c.self.inside.replies.finished; events = events_by c.self.inside.events.items; room = c.self.inside.room } in
     let alive : living_refusal w.nodes c.args.node ≡ None = ap (λ (v : WireData). living_refusal v.nodes c.args.node) c.self.view_is ∙ c.in_ok-place.ensures.alive in
     may_lend_there w c.args.node c.in_ok-place.place c.index_mut-member.result.now first c.index_mut-member.ensures.value c.self.invariant.1 alive rests room p setting
 
@@ -34,14 +34,15 @@ pub invariant_of-self : goal.invariant_of-self
 invariant_of-self c = (
   c.begin-told.ensures.lists,
   let first = ap (λ (v : WireData). position (λ x. x.number == c.args.node) v.nodes) c.self.view_is ∙ c.in_ok-place.ensures.first in
-      let w : WireData = record { plan = c.self.inside.places; terms = c.self.inside.terms; words = c.self.inside.words.items; nodes = c.self.inside.members.items; replies = c.self.inside.replies.finished; events = events_by c.self.inside.events.items } in
+      let w : WireData = record { plan = c.self.inside.places; terms = c.self.inside.terms; words = c.self.inside.words.items; nodes = c.self.inside.members.items; replies = c.self.inside.replies.finished; events = events_by c.self.inside.events.items; room = c.self.inside.room } in
       shown_refused w c.args.node c.in_ok-place.place c.index_mut-member.result.now first c.index_mut-member.ensures.value c.args.call c.begin-told.new.self c.in-Err.ensures.unchanged c.self.invariant.1,
+  c.self.invariant.2,
 )
 
 pub returns-in-Err-clause-refused : goal.returns-in-Err-clause-refused
 returns-in-Err-clause-refused c =
     let first = ap (λ (v : WireData). position (λ x. x.number == c.args.node) v.nodes) c.self.view_is ∙ c.in_ok-place.ensures.first in
-    let w : WireData = record { plan = c.self.inside.places; terms = c.self.inside.terms; words = c.self.inside.words.items; nodes = c.self.inside.members.items; replies = c.self.inside.replies.finished; events = events_by c.self.inside.events.items } in
+    let w : WireData = record { plan = c.self.inside.places; terms = c.self.inside.terms; words = c.self.inside.words.items; nodes = c.self.inside.members.items; replies = c.self.inside.replies.finished; events = events_by c.self.inside.events.items; room = c.self.inside.room } in
     let alive : living_refusal w.nodes c.args.node ≡ None = ap (λ (v : WireData). living_refusal v.nodes c.args.node) c.self.view_is ∙ c.in_ok-place.ensures.alive in
     subst (λ (v : WireData). IsBeginRefusal v c.args.node c.args.call c.refusal_of.result) c.self.view_is
     (refused w c.args.node c.in_ok-place.place c.index_mut-member.result.now first c.index_mut-member.ensures.value c.args.call c.in-Err.error c.refusal_of.result alive c.in-Err.ensures.refused c.refusal_of.ensures)
@@ -49,33 +50,34 @@ returns-in-Err-clause-refused c =
 pub returns-in-Err-clause-unchanged : goal.returns-in-Err-clause-unchanged
 returns-in-Err-clause-unchanged c =
     let first = ap (λ (v : WireData). position (λ x. x.number == c.args.node) v.nodes) c.self.view_is ∙ c.in_ok-place.ensures.first in
-    let w : WireData = record { plan = c.self.inside.places; terms = c.self.inside.terms; words = c.self.inside.words.items; nodes = c.self.inside.members.items; replies = c.self.inside.replies.finished; events = events_by c.self.inside.events.items } in
-    subst (λ (v : WireData). IsLeft c.args.call v (record { plan = w.plan; terms = w.terms; words = w.words; nodes = slice_set w.nodes c.in_ok-place.place c.begin-told.new.self; replies = w.replies; events = w.events })) c.self.view_is
+    let w : WireData = record { plan = c.self.inside.places; terms = c.self.inside.terms; words = c.self.inside.words.items; nodes = c.self.inside.members.items; replies = c.self.inside.replies.finished; events = events_by c.self.inside.events.items; room = c.self.inside.room } in
+    subst (λ (v : WireData). IsLeft c.args.call v (record { plan = w.plan; terms = w.terms; words = w.words; nodes = slice_set w.nodes c.in_ok-place.place c.begin-told.new.self; replies = w.replies; events = w.events; room = w.room })) c.self.view_is
     (left w c.args.node c.in_ok-place.place c.index_mut-member.result.now first c.index_mut-member.ensures.value c.args.call c.begin-told.new.self c.in-Err.ensures.unchanged)
 
 pub invariant_of-self-2 : goal.invariant_of-self-2
 invariant_of-self-2 c = (
   c.begin-told.ensures.lists,
   let first = ap (λ (v : WireData). position (λ x. x.number == c.args.node) v.nodes) c.self.view_is ∙ c.in_ok-place.ensures.first in
-      let w : WireData = record { plan = c.self.inside.places; terms = c.self.inside.terms; words = c.self.inside.words.items; nodes = c.self.inside.members.items; replies = c.self.inside.replies.finished; events = events_by c.self.inside.events.items } in
+      let w : WireData = record { plan = c.self.inside.places; terms = c.self.inside.terms; words = c.self.inside.words.items; nodes = c.self.inside.members.items; replies = c.self.inside.replies.finished; events = events_by c.self.inside.events.items; room = c.self.inside.room } in
       let alive : living_refusal w.nodes c.args.node ≡ None = ap (λ (v : WireData). living_refusal v.nodes c.args.node) c.self.view_is ∙ c.in_ok-place.ensures.alive in
       shown_begun w c.args.node c.in_ok-place.place c.index_mut-member.result.now first c.index_mut-member.ensures.value c.args.call c.begin-told.new.self (length c.events-begun.result.now) (count c.events-begun.result.now c.self.inside.events.items (c.events-begun.ensures ∙ ap (λ (v : WireData). v.events) (sym c.self.view_is))) c.self.invariant.1 alive c.in_default.ensures.begun,
+  c.self.invariant.2,
 )
 
 pub returns-clause-begun : goal.returns-clause-begun
 returns-clause-begun c p r shows =
     let first = ap (λ (v : WireData). position (λ x. x.number == c.args.node) v.nodes) c.self.view_is ∙ c.in_ok-place.ensures.first in
-    let w : WireData = record { plan = c.self.inside.places; terms = c.self.inside.terms; words = c.self.inside.words.items; nodes = c.self.inside.members.items; replies = c.self.inside.replies.finished; events = events_by c.self.inside.events.items } in
+    let w : WireData = record { plan = c.self.inside.places; terms = c.self.inside.terms; words = c.self.inside.words.items; nodes = c.self.inside.members.items; replies = c.self.inside.replies.finished; events = events_by c.self.inside.events.items; room = c.self.inside.room } in
     let alive : living_refusal w.nodes c.args.node ≡ None = ap (λ (v : WireData). living_refusal v.nodes c.args.node) c.self.view_is ∙ c.in_ok-place.ensures.alive in
     let here : Shows p w r = subst (λ (v : WireData). Shows p v r) (sym c.self.view_is) shows in
-    subst (λ (v : WireData). BeginsCall p v c.args.node (Port (call_in p c.args.call)) (record { plan = w.plan; terms = w.terms; words = w.words; nodes = slice_set w.nodes c.in_ok-place.place c.begin-told.new.self; replies = w.replies; events = w.events })) c.self.view_is
+    subst (λ (v : WireData). BeginsCall p v c.args.node (Port (call_in p c.args.call)) (record { plan = w.plan; terms = w.terms; words = w.words; nodes = slice_set w.nodes c.in_ok-place.place c.begin-told.new.self; replies = w.replies; events = w.events; room = w.room })) c.self.view_is
     (begun w c.args.node c.in_ok-place.place c.index_mut-member.result.now first c.index_mut-member.ensures.value p r here c.args.call c.begin-told.new.self (length c.events-begun.result.now) (count c.events-begun.result.now c.self.inside.events.items (c.events-begun.ensures ∙ ap (λ (v : WireData). v.events) (sym c.self.view_is))) alive
     (c.self.invariant.1.kept c.args.node c.index_mut-member.result.now (there w c.args.node c.in_ok-place.place c.index_mut-member.result.now first c.index_mut-member.ensures.value)).few c.in_default.ensures.begun).0
 
 pub returns-clause-weave : goal.returns-clause-weave
 returns-clause-weave c p r shows =
     let first = ap (λ (v : WireData). position (λ x. x.number == c.args.node) v.nodes) c.self.view_is ∙ c.in_ok-place.ensures.first in
-    let w : WireData = record { plan = c.self.inside.places; terms = c.self.inside.terms; words = c.self.inside.words.items; nodes = c.self.inside.members.items; replies = c.self.inside.replies.finished; events = events_by c.self.inside.events.items } in
+    let w : WireData = record { plan = c.self.inside.places; terms = c.self.inside.terms; words = c.self.inside.words.items; nodes = c.self.inside.members.items; replies = c.self.inside.replies.finished; events = events_by c.self.inside.events.items; room = c.self.inside.room } in
     let alive : living_refusal w.nodes c.args.node ≡ None = ap (λ (v : WireData). living_refusal v.nodes c.args.node) c.self.view_is ∙ c.in_ok-place.ensures.alive in
     let here : Shows p w r = subst (λ (v : WireData). Shows p v r) (sym c.self.view_is) shows in
     let b = begun w c.args.node c.in_ok-place.place c.index_mut-member.result.now first c.index_mut-member.ensures.value p r here c.args.call c.begin-told.new.self (length c.events-begun.result.now) (count c.events-begun.result.now c.self.inside.events.items (c.events-begun.ensures ∙ ap (λ (v : WireData). v.events) (sym c.self.view_is))) alive

@@ -1,9 +1,11 @@
 use Rattle.std.specs.Prelude.{replicate}
-use Rattle.std.proofs.Common.{arith, ap, refl, subst, ◌<◌, ◌^◌, ◌∙◌}
+use Rattle.std.proofs.Common.{arith, ap, length, refl, subst, ◌<◌, ◌^◌, ◌∙◌}
 use Rattle.iox_word_map.specs.WordMaps.{total_words}
 use Rattle.iox_wire_weaves.specs.WirePlan.{WirePlan}
 use Rattle.iox_wire_weaves.specs.Plans.{sizes_of}
+use Rattle.iox_wire_weaves.specs.Replies.{most_words}
 use Rattle.iox_wire_weaves.specs.Wires.{WireData}
+use Rattle.iox_wire.specs.Replies.{FinishedCalls}
 use Rattle.iox_wire.specs.Kept.{AreOpened}
 use Rattle.iox_wire.proofs.Members.{opened_node}
 use Rattle.iox_wire.proofs.Fresh.{shown_opened, shows_opened}
@@ -13,7 +15,7 @@ use Rattle.iox_wire.proofs.wire.Wire.new.Goals as goal
 pub invariant_of-result : goal.invariant_of-result
 invariant_of-result c = (
   c.in_ok-lists.ensures,
-  let w : WireData = record { plan = c.in_ok-places.places; terms = c.args.terms; words = c.in_ok-words.words.items; nodes = c.in_ok-members.members.items; replies = c.new-3.result.finished; events = events_by c.new-4.result.items } in
+  let w : WireData = record { plan = c.in_ok-places.places; terms = c.args.terms; words = c.in_ok-words.words.items; nodes = c.in_ok-members.members.items; replies = c.new-3.result.finished; events = events_by c.new-4.result.items; room = 0 } in
       let total : total_words (sizes_of c.args.plan) < 2 ^ 63
       = subst (λ k. k < 2 ^ 63) (c.total-total.ensures ∙ ap (λ (q : WirePlan). total_words (sizes_of q)) c.in_ok-places.ensures.made) (omega (arith, c.if-total-ge-MOST_WORDS.false)) in
       shown_opened c.args.plan c.args.terms c.args.nodes.now w c.requires.plan c.in_ok-places.ensures.made refl
@@ -21,18 +23,23 @@ invariant_of-result c = (
       ∙ ap (λ n. replicate n 0) (c.total-total.ensures ∙ ap (λ (q : WirePlan). total_words (sizes_of q)) c.in_ok-places.ensures.made))
       c.args.handles
       (subst (λ (q : WirePlan). AreOpened q c.args.handles c.args.nodes.now c.in_ok-members.members.items) (c.plan.ensures.value ∙ c.in_ok-places.ensures.made) c.in_ok-members.ensures)
-      c.new-3.ensures (ap events_by c.new-4.ensures.items) c.requires.whole total (omega (arith, c.if-terms-ge-MOST_NUMBERS.false)) c.requires.opens,
+      (ap (λ (d : FinishedCalls). d.finished) c.new-3.ensures) (ap events_by c.new-4.ensures.items) c.requires.whole total (omega (arith, c.if-terms-ge-MOST_NUMBERS.false)) c.requires.opens,
+  record {
+    replies = omega arith;
+    longest = ap (λ (d : FinishedCalls). d.longest) c.new-3.ensures ∙ c.longest_message-longest.ensures ∙ ap most_words c.plan-2.ensures.value;
+    events = omega (arith, c.new-4.result.ok.0, ap length c.new-4.ensures.items);
+  },
 )
 
 pub returns-clause-opened : goal.returns-clause-opened
 returns-clause-opened c p s opens =
-    let w : WireData = record { plan = c.in_ok-places.places; terms = c.args.terms; words = c.in_ok-words.words.items; nodes = c.in_ok-members.members.items; replies = c.new-3.result.finished; events = events_by c.new-4.result.items } in
+    let w : WireData = record { plan = c.in_ok-places.places; terms = c.args.terms; words = c.in_ok-words.words.items; nodes = c.in_ok-members.members.items; replies = c.new-3.result.finished; events = events_by c.new-4.result.items; room = 0 } in
     shows_opened c.args.plan c.args.terms c.args.nodes.now w c.requires.plan c.in_ok-places.ensures.made refl
     (c.in_ok-words.ensures
     ∙ ap (λ n. replicate n 0) (c.total-total.ensures ∙ ap (λ (q : WirePlan). total_words (sizes_of q)) c.in_ok-places.ensures.made))
     c.args.handles
     (subst (λ (q : WirePlan). AreOpened q c.args.handles c.args.nodes.now c.in_ok-members.members.items) (c.plan.ensures.value ∙ c.in_ok-places.ensures.made) c.in_ok-members.ensures)
-    c.new-3.ensures (ap events_by c.new-4.ensures.items) p s opens
+    (ap (λ (d : FinishedCalls). d.finished) c.new-3.ensures) (ap events_by c.new-4.ensures.items) p s opens
 
 pub returns-clause-room : goal.returns-clause-room
 returns-clause-room c n x at = (opened_node c.plan.result.now c.args.handles c.args.nodes.now c.in_ok-members.members.items n x c.in_ok-members.ensures at).room

@@ -11,7 +11,7 @@ use Rattle.iox_wire.proofs.Playing.{played, so_on_err, take_whole, woven_by, wov
 use Rattle.iox_wire.proofs.wire.Wire.run.Goals as goal
 
 pub loop-entry-init : goal.loop-entry-init
-loop-entry-init c = record { entered = refl }
+loop-entry-init c = record { entered = refl; room = omega arith }
 
 pub loop-entry-preserved : goal.loop-entry-preserved
 loop-entry-preserved c = record {
@@ -19,6 +19,7 @@ loop-entry-preserved c = record {
       (sym (one_more c.args.schedule.now c.loop-entry.entry-index (Begin 0 (Loan 0 0)) (omega (arith, c.loop-entry-test.true))))
       (playing.one_more c.args.self.now c.loop-entry.self c.play.new.self (take c.loop-entry.entry-index c.args.schedule.now) _ c.loop-entry.invariant.entered
       c.in_ok-play.ensures.played);
+  room = let before = c.loop-entry.invariant.room in let took = c.play.ensures.room in omega (arith, before, took);
 }
 
 pub returns-clause-weave : goal.returns-clause-weave
@@ -46,6 +47,14 @@ returns-in_err-play-clause-stopped c = so_on_err c.from_residual.result _ (
   c.loop-entry.entry-index,
   c.loop-entry.self,
   played c.args.self.now c.loop-entry.self (take c.loop-entry.entry-index c.args.schedule.now) c.loop-entry.invariant.entered,
+  c.loop-entry.invariant.room,
   subst (λ (o : Option WireEntry). IsSomeAnd o (λ e. WantsMemory c.loop-entry.self e c.play.new.self))
       (sym (slice_get-get_or c.args.schedule.now c.loop-entry.entry-index (Begin 0 (Loan 0 0)) (omega (arith, c.loop-entry-test.true)))) c.in_err-play.ensures.wants,
 )
+
+pub returns-clause-room : goal.returns-clause-room
+returns-clause-room c = let before = c.loop-entry.invariant.room in let last = c.loop-entry-test.false in omega (arith, before, last)
+
+pub returns-in_err-play-clause-room : goal.returns-in_err-play-clause-room
+returns-in_err-play-clause-room c =
+    let before = c.loop-entry.invariant.room in let took = c.play.ensures.room in let more = c.loop-entry-test.true in omega (arith, before, took, more)
