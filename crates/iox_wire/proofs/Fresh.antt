@@ -9,6 +9,7 @@ use Rattle.iox_wire_weaves.specs.Copying.{CopyGoesOn}
 use Rattle.iox_wire_weaves.specs.Counts.{IsTidy}
 use Rattle.iox_wire_weaves.specs.PlanPort.{PlanPort}
 use Rattle.iox_wire_weaves.specs.Seat.{Seat}
+use Rattle.iox_wire_weaves.specs.Rooms.{HasRoomToBegin}
 use Rattle.iox_wire_weaves.specs.Steps.{most_accesses}
 use Rattle.iox_wire_weaves.specs.Uses.{HaveFewWays}
 use Rattle.iox_model.specs.States.{State}
@@ -100,4 +101,5 @@ module _ (plan : WirePlan) (terms : WireTerms) (ns : List ℕ) (wire : WireData)
         whole = subst (λ q. IsWirePlan q wire.terms) (sym plan_is) (subst (IsWirePlan plan) (sym terms_are) (wire_plan o.0 o.2.told whole low));
         numbers = subst (λ (t : WireTerms). t.first_number + most_accesses < 2 ^ 64) (sym terms_are) (omega (arith, first));
         kept = λ n x at. kept_first plan is.numbers low handles n x (opened_node plan handles ns wire.nodes n x nodes at);
+        rooms = λ n x at. subst (λ q. HasRoomToBegin q x.node) (sym plan_is) (opened_node plan handles ns wire.nodes n x nodes at).rooms;
       }

@@ -98,7 +98,7 @@ kept_begun p x y call kept begun ready = record {
 -- ---- all nodes
 
 -- what is so of each node stays so as one becomes another
-each_still : (P : WireNode → Type 0) (xs : List WireNode) (n : ℕ) (d y : WireNode) (new : List WireNode) → Replaces xs n d y new
+pub each_still : (P : WireNode → Type 0) (xs : List WireNode) (n : ℕ) (d y : WireNode) (new : List WireNode) → Replaces xs n d y new
     → ((m : ℕ) (x : WireNode) → node_at m xs ≡ Some x → P x) → P y → (m : ℕ) (x : WireNode) → node_at m new ≡ Some x → P x
 each_still P xs n d y new puts each own m x at = elim (cases_Bool (m == n)) [
   | inl same ↦ (

@@ -9,6 +9,7 @@ pub mod KeptCalls
 pub mod GoingOn
 pub mod Told
 pub mod Keeping
+pub mod Roomy
 pub mod MayLend
 pub mod WireSteps
 pub mod Stepping

@@ -44,7 +44,8 @@ impl Sources {
     /// Those are left now.
     pub fn fill(&mut self, sources: &[Source])
         requires { length sources.now ≤ self.old.room }
-        ensures { self.new ≡ record (self.old) { left = sources.now } }
+        ensures filled { self.new.left ≡ sources.now }
+        ensures room { self.new.room ≡ self.old.room }
     {
         self.sources.clear();
         self.turn = 0;
