@@ -122,6 +122,20 @@ fn call_that_is_under_way_goes_on(rt: HostRuntime) -> Result<(), Fail> {
 }
 
 #[test]
+fn schedule_is_played_in_the_room_that_was_made(rt: HostRuntime) -> Result<(), Fail> {
+    let mut wire = open(rt.alloc(), NO_OVERFLOW)?;
+    let mut schedule = Vec::new(rt.alloc());
+    add(&mut schedule, 0, copy(&[456]), 19)?;
+    wire.reserve(schedule.len())?;
+    wire.run(&schedule)?;
+    wire.reserve(1)?;
+    assert_eq!(rt; wire.replies().len(), 1);
+    let told = wire.replies().get(0).map(|finished| finished.words.len());
+    assert_eq!(rt; told, Some(0));
+    Ok(())
+}
+
+#[test]
 fn call_without_room_for_its_handle_is_refused(rt: HostRuntime) -> Result<(), Fail> {
     let mut wire = open_with(rt.alloc(), NO_OVERFLOW, 0)?;
     let told = wire.run(&[WireEntry::Begin(1, RECEIVE), WireEntry::Die(1)]);

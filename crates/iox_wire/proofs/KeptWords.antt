@@ -1,13 +1,13 @@
 -- Words that are kept one behind another in one list.
 use Rattle.std.specs.List.{All}
 use Rattle.std.proofs.Math.Nat.{suc-mul}
-use Rattle.std.proofs.Common.{◌≡◌, ℕ, zero, suc, ◌+◌, ◌-◌, ◌*◌, ◌<◌, ◌≤◌, List, [], ◌∷◌, ◌++◌, length, map, take, drop, refl, ap, ap₂, ◌∙◌, arith}
+use Rattle.std.proofs.Common.{◌≡◌, ℕ, zero, suc, ◌+◌, ◌-◌, ◌*◌, ◌<◌, ◌≤◌, false, List, [], ◌∷◌, ◌++◌, length, map, take, drop, refl, sym, subst, ap, ap₂, ◌∙◌, arith}
 use Rattle.std.proofs.Math.Seq.{drop-append_seam, take-length}
 use Rattle.std.proofs.lemmas.List.{append_assoc, drop-append-le, length-append, length-drop, map-append, take-append-le}
-use Rattle.std.proofs.lemmas.List.Elements.{All-head, All-tail, All-weaker}
+use Rattle.std.proofs.lemmas.List.Elements.{All-head, All-tail, All-push, All-weaker}
 use Rattle.iox_model.specs.Schedules.{Finished}
 use Rattle.iox_wire_weaves.specs.Nodes.{reply_in}
-use Rattle.iox_wire.specs.Replies.{HasItsWords, IsSpan, call_with, finished_of, told_with, words_at, words_brought, words_call}
+use Rattle.iox_wire.specs.Replies.{HasItsWords, HasWordsIfRead, IsSpan, call_with, finished_of, is_read, told_with, words_at, words_brought, words_call}
 use Rattle.iox_wire.specs.declared.finished.Answer.{Answer}
 use Rattle.iox_wire.specs.declared.finished.FinishedCall.{FinishedCall}
 use Rattle.iox_wire.specs.declared.spans.Span.{Span}
@@ -122,3 +122,19 @@ module _ (ws : List ℕ) (answers : List Answer) (a : Answer) (f : FinishedCall)
       six : {A B C D E F : Type 0} (f : A → B → C → D → E → F) {a a' : A} {b b' : B} {c c' : C} {d d' : D} {e e' : E}
           → a ≡ a' → b ≡ b' → c ≡ c' → d ≡ d' → e ≡ e' → f a b c d e ≡ f a' b' c' d' e'
       six f p q r s t = λ i. f (p i) (q i) (r i) (s i) (t i)
+
+  pub has_more : a.reply ≡ f.reply → HasWordsIfRead f.reply f.words.now
+      → a.brought.start ≡ length ws → a.brought.end ≡ length ws + length (words_brought f.call)
+      → a.read.start ≡ length before → a.read.end ≡ length before + length f.words.now
+      → All (HasItsWords (before ++ f.words.now)) (answers ++ a ∷ [])
+  has_more reply read b_start b_end r_start r_end =
+      All-push (HasItsWords (before ++ f.words.now)) answers a
+      (subst (λ vs. All (HasItsWords vs) answers) (sym (append_assoc ws (words_brought f.call) f.words.now)) (all_have_still ws (words_brought f.call ++ f.words.now) answers has))
+      (record {
+        brought = longer before f.words.now a.brought (is_span ws (words_brought f.call) a.brought b_start b_end);
+        read = is_span before f.words.now a.read r_start r_end;
+        none = λ no. ends a.read.start a.read.end (length before) (length f.words.now) r_start r_end (ap length (read (ap is_read (sym reply) ∙ no)));
+      })
+    where
+      ends : (s e l n : ℕ) → s ≡ l → e ≡ l + n → n ≡ 0 → e ≡ s
+      ends s e l n start end none = omega (arith, start, end, none)

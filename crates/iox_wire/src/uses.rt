@@ -1,5 +1,5 @@
 //! Callers of a wire, proved from its clauses alone.
-ghost use Rattle.std.specs.Prelude.{◌≡◌, ◌∷◌, ◌^◌, [], IfErr, IfOk, IsTrue, None, OnErr, OnOk, Some};
+ghost use Rattle.std.specs.Prelude.{◌≡◌, ◌<◌, ◌∷◌, ◌^◌, [], IfErr, IfOk, IsTrue, None, OnErr, OnOk, Some};
 ghost use Rattle.std.specs.Prelude.{map, option_map, slice_get, true};
 ghost use Rattle.iox_wire_weaves.specs.Asking.{BeginIsWoven, BeginsItsCall, IsBeginRefusal};
 ghost use Rattle.iox_wire_weaves.specs.HandleCall.TheVariants.{Release};
@@ -93,6 +93,16 @@ pub fn node_steps(wire: &mut Wire, node: u64) -> Result<Progress<NodeReply>, Wir
     requires { step_refusal wire.old node ≡ None }
     ensures stepped { IfOk result (λ progress. StepIsWoven wire.old node progress wire.new) }
     ensures refused { IfErr result (λ error. error ≡ refusals.WantOfMemory) }
+{
+    wire.step(node)
+}
+
+/// Where there is room for what it records, it wants no memory.
+pub fn node_steps_in_room(wire: &mut Wire, node: u64) -> Result<Progress<NodeReply>, WireRefusal>
+    requires goes { step_refusal wire.old node ≡ None }
+    requires room { 0 < wire.old.room }
+    ensures stepped { IfOk result (λ progress. StepIsWoven wire.old node progress wire.new) }
+    ensures always { OnErr result ⊥ }
 {
     wire.step(node)
 }

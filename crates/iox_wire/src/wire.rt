@@ -65,8 +65,8 @@ impl Model for Wire {
 }
 
 impl Wire {
-    ghost use Rattle.std.specs.Prelude.{◌≡◌, ◌+◌, ◌<◌, IfErr, IfOk, IfSome, None, OnErr, OnOk, Some};
-    ghost use Rattle.std.specs.Prelude.{length, max, position, ◌==◌, map};
+    ghost use Rattle.std.specs.Prelude.{◌≡◌, ◌+◌, ◌<◌, ◌≤◌, IfErr, IfOk, IfSome, IsOk, None, OnErr};
+    ghost use Rattle.std.specs.Prelude.{OnOk, Some, length, max, position, ◌==◌, map};
     ghost use Rattle.iox_model.specs.States.{State};
     ghost use Rattle.iox_sets.specs.Refusals.{IsRefusal};
     ghost use Rattle.iox_wire_weaves.specs.Plans.{IsPlan};
@@ -178,6 +178,7 @@ impl Wire {
         ensures reserved { OnOk result (self.new
             ≡ record (self.old) { room = max self.old.room steps }) }
         ensures unchanged { OnErr result (self.new ≡ self.old) }
+        ensures succeeds { steps ≤ self.old.room → IsOk result }
     {
         if steps <= self.room {
             return Ok(());
@@ -202,7 +203,7 @@ impl Wire {
         if let Some(refusal) = self.members[place].rest_refusal() {
             return Err(refusal);
         }
-        if self.reserve(1).is_err() {
+        if let Err(_) = self.reserve(1) {
             return Err(WireRefusal::WantOfMemory);
         }
         Ok(self.make_step(node, place))

@@ -4,6 +4,7 @@ use Rattle.std.proofs.lemmas.List.{length-map}
 use Rattle.iox_wire_weaves.specs.Replies.{most_words}
 use Rattle.iox_wire_weaves.specs.Steps.{MakesOneAccess, finished_by, recorded, step_refusal}
 use Rattle.iox_wire_weaves.specs.Wires.{Shows, WireData, WireNode, node_at}
+use Rattle.iox_wire_weaves.proofs.Lookups.{steps_on}
 use Rattle.iox_wire.specs.declared.events.WireEvent.{WireEvent}
 use Rattle.iox_wire.proofs.Recorded.{events_by}
 use Rattle.iox_wire.proofs.Stepping as stepping
@@ -59,6 +60,13 @@ go_on-requires-clause-may c =
     stepping.found w c.args.node c.args.place c.index-member.result.now c.index_mut-member.result.now first c.index-member.ensures c.index_mut-member.ensures.value c.self.invariant.1 goes
     c.make_access-seen.result c.make_access-seen.new.words.items c.event-told.result c.make_access-seen.ensures.seen c.make_access-seen.ensures.words (λ q aimed. c.event-told.ensures q aimed)
 
+pub go_on-requires-clause-busy : goal.go_on-requires-clause-busy
+go_on-requires-clause-busy c =
+    let first = ap (λ (v : WireData). position (λ x. x.number == c.args.node) v.nodes) c.self.view_is ∙ c.requires.there in
+    let w : WireData = record { plan = c.self.inside.places; terms = c.self.inside.terms; words = c.self.inside.words.items; nodes = c.self.inside.members.items; replies = c.self.inside.replies.finished; events = events_by c.self.inside.events.items; room = c.self.inside.room } in
+    let goes : step_refusal w c.args.node ≡ None = ap (λ (v : WireData). step_refusal v c.args.node) c.self.view_is ∙ c.requires.goes in
+    (steps_on w c.args.node c.index_mut-member.result.now (there w c.args.node c.args.place c.index_mut-member.result.now first c.index_mut-member.ensures.value) goes).1
+
 pub go_on-requires-clause-few : goal.go_on-requires-clause-few
 go_on-requires-clause-few c =
     let first = ap (λ (v : WireData). position (λ x. x.number == c.args.node) v.nodes) c.self.view_is ∙ c.requires.there in
@@ -66,8 +74,8 @@ go_on-requires-clause-few c =
     let goes : step_refusal w c.args.node ≡ None = ap (λ (v : WireData). step_refusal v c.args.node) c.self.view_is ∙ c.requires.goes in
     stepping.few w c.args.node c.args.place c.index-member.result.now c.index_mut-member.result.now first c.index-member.ensures c.index_mut-member.ensures.value c.self.invariant.1 goes
 
-pub invariant_of-self-in_default : goal.invariant_of-self-in_default
-invariant_of-self-in_default c = (
+pub invariant_of-self : goal.invariant_of-self
+invariant_of-self c = (
   c.self.invariant.0,
   let first = ap (λ (v : WireData). position (λ x. x.number == c.args.node) v.nodes) c.self.view_is ∙ c.requires.there in
       let w : WireData = record { plan = c.self.inside.places; terms = c.self.inside.terms; words = c.self.inside.words.items; nodes = c.self.inside.members.items; replies = c.self.inside.replies.finished; events = events_by c.self.inside.events.items; room = c.self.inside.room } in
