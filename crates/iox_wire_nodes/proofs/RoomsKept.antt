@@ -5,7 +5,6 @@ use Rattle.iox_wire_begins.specs.Plans.{most_ways, slot_words_of}
 use Rattle.iox_wire_begins.specs.Aims.{HasSameRooms}
 use Rattle.iox_wire_begins.specs.CopyAims as copies
 use Rattle.iox_wire_begins.specs.CopyCalls.{CopyCall}
-use Rattle.iox_wire_begins.specs.Copies.{CopyLoan}
 use Rattle.iox_wire_begins.specs.Dispatches.{Dispatch}
 use Rattle.iox_wire_begins.specs.ListRooms.{HasRoomToAsk, HasRoomToCopy, HasRoomToLend}
 use Rattle.iox_wire_begins.specs.Loans.{Loaned}
@@ -28,8 +27,11 @@ same_seat x = record { ways = refl; words = refl }
 same_loan : (r : Loaned) → loans.HasSameRooms r r
 same_loan r = record { ways = refl; words = refl }
 
-same_copy : (r : CopyLoan) → copies.HasSameRooms r r
-same_copy r = record { lending = same_loan r.lending; payload = refl }
+same_copy : (y : CopyCall) → copies.HasSameRooms y.lends y.lends
+same_copy y = record { lending = same_loan y.lends.lending; payload = refl }
+
+same_response : (y : ResponseCopy) → copies.HasSameRooms y.lends y.lends
+same_response y = record { lending = same_loan y.lends.lending; payload = refl }
 
 -- the node, as its own code has it
 module _ {n old : Node} (same : n ≡ old) where
@@ -42,9 +44,9 @@ module _ {n old : Node} (same : n ≡ old) where
     receives = refl;
     lends = same_loan n.lends;
     requests = refl;
-    copies_request = same_copy n.copies_request.lends;
+    copies_request = same_copy n.copies_request;
     servers = refl;
-    copies_response = same_copy n.copies_response.lends;
+    copies_response = same_response n.copies_response;
   })
 
   pub keeps_receives : (y : Receipt) → y.room ≡ n.receives.room → KeepsRooms old (record n { at = at.Receives; receives = y })
@@ -53,9 +55,9 @@ module _ {n old : Node} (same : n ≡ old) where
     receives = room;
     lends = same_loan n.lends;
     requests = refl;
-    copies_request = same_copy n.copies_request.lends;
+    copies_request = same_copy n.copies_request;
     servers = refl;
-    copies_response = same_copy n.copies_response.lends;
+    copies_response = same_response n.copies_response;
   })
 
   pub keeps_lends : (s : Placed) (y : Loaned) → HasSameRooms n.seat s → loans.HasSameRooms n.lends y
@@ -65,9 +67,9 @@ module _ {n old : Node} (same : n ≡ old) where
     receives = refl;
     lends = rooms;
     requests = refl;
-    copies_request = same_copy n.copies_request.lends;
+    copies_request = same_copy n.copies_request;
     servers = refl;
-    copies_response = same_copy n.copies_response.lends;
+    copies_response = same_response n.copies_response;
   })
 
   pub keeps_requests : (y : RequestDispatch) → y.room ≡ n.requests.room → KeepsRooms old (record n { at = at.SendsRequest; requests = y })
@@ -76,9 +78,9 @@ module _ {n old : Node} (same : n ≡ old) where
     receives = refl;
     lends = same_loan n.lends;
     requests = room;
-    copies_request = same_copy n.copies_request.lends;
+    copies_request = same_copy n.copies_request;
     servers = refl;
-    copies_response = same_copy n.copies_response.lends;
+    copies_response = same_response n.copies_response;
   })
 
   pub keeps_responds : (y : Dispatch) → KeepsRooms old (record n { at = at.SendsResponse; responds = y })
@@ -87,9 +89,9 @@ module _ {n old : Node} (same : n ≡ old) where
     receives = refl;
     lends = same_loan n.lends;
     requests = refl;
-    copies_request = same_copy n.copies_request.lends;
+    copies_request = same_copy n.copies_request;
     servers = refl;
-    copies_response = same_copy n.copies_response.lends;
+    copies_response = same_response n.copies_response;
   })
 
   pub keeps_copies : (s : Placed) (y : CopyCall) → HasSameRooms n.seat s → copies.HasSameRooms n.copies_request.lends y.lends
@@ -101,7 +103,7 @@ module _ {n old : Node} (same : n ≡ old) where
     requests = refl;
     copies_request = rooms;
     servers = room;
-    copies_response = same_copy n.copies_response.lends;
+    copies_response = same_response n.copies_response;
   })
 
   pub keeps_response_copies : (s : Placed) (y : ResponseCopy) → HasSameRooms n.seat s → copies.HasSameRooms n.copies_response.lends y.lends
@@ -111,7 +113,7 @@ module _ {n old : Node} (same : n ≡ old) where
     receives = refl;
     lends = same_loan n.lends;
     requests = refl;
-    copies_request = same_copy n.copies_request.lends;
+    copies_request = same_copy n.copies_request;
     servers = refl;
     copies_response = rooms;
   })
@@ -130,10 +132,16 @@ lends_still plan r s same has = record {
   words = for_slots plan r.words_room s.words_room same.words has.words;
 }
 
-copies_still : (plan : WirePlan) (r s : CopyLoan) → copies.HasSameRooms r s → HasRoomToCopy plan r → HasRoomToCopy plan s
-copies_still plan r s same has = record {
-  lending = lends_still plan r.lending s.lending same.lending has.lending;
-  payload = for_slots plan r.payload_room s.payload_room same.payload has.payload;
+copies_still : (plan : WirePlan) (y z : CopyCall) → copies.HasSameRooms y.lends z.lends → HasRoomToCopy plan y.lends → HasRoomToCopy plan z.lends
+copies_still plan y z same has = record {
+  lending = lends_still plan y.lends.lending z.lends.lending same.lending has.lending;
+  payload = for_slots plan y.lends.payload_room z.lends.payload_room same.payload has.payload;
+}
+
+response_still : (plan : WirePlan) (y z : ResponseCopy) → copies.HasSameRooms y.lends z.lends → HasRoomToCopy plan y.lends → HasRoomToCopy plan z.lends
+response_still plan y z same has = record {
+  lending = lends_still plan y.lends.lending z.lends.lending same.lending has.lending;
+  payload = for_slots plan y.lends.payload_room z.lends.payload_room same.payload has.payload;
 }
 
 pub room_suffices : RoomSuffices
@@ -145,7 +153,7 @@ room_suffices plan old new keeps has = record {
   receives = enough (most_ways plan) old.receives.room new.receives.room keeps.receives has.receives;
   lends = lends_still plan old.lends new.lends keeps.lends has.lends;
   requests = enough (most_ways plan) old.requests.room new.requests.room keeps.requests has.requests;
-  copies_request = copies_still plan old.copies_request.lends new.copies_request.lends keeps.copies_request has.copies_request;
+  copies_request = copies_still plan old.copies_request new.copies_request keeps.copies_request has.copies_request;
   servers = enough (most_ways plan) old.copies_request.sends.room new.copies_request.sends.room keeps.servers has.servers;
-  copies_response = copies_still plan old.copies_response.lends new.copies_response.lends keeps.copies_response has.copies_response;
+  copies_response = response_still plan old.copies_response new.copies_response keeps.copies_response has.copies_response;
 }
