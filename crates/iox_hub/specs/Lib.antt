@@ -8,6 +8,7 @@ pub mod Headers
 pub mod Making
 pub mod Sending
 pub mod Lending
+pub mod Growing
 pub mod Keeping
 pub mod Listings
 pub mod Cleaning

@@ -1,8 +1,9 @@
 use Rattle.iox_model.specs.declared.kind.Role.TheVariants as roles
-use Rattle.iox_hub.proofs.LendingCalls.{call_fresh, call_hub, call_left, call_of, call_room, call_whole, call_within, other_has, other_hub, other_left, other_whole, request_call}
+use Rattle.iox_hub.proofs.GrowingRoom.{client_room}
+use Rattle.iox_hub.proofs.LendingCalls.{call_fresh, call_hub, call_left, call_never_wants, call_of, call_room, call_whole, call_within, other_has, other_hub, other_left, other_whole, request_call}
 use Rattle.iox_hub.proofs.LendingNamed.{client_of_hub}
 use Rattle.iox_hub.proofs.KeepingLoans.{loan_is_new, loan_keeps, other_is_new, other_loan_keeps}
-use Rattle.iox_hub.proofs.hub.Hub.lend_request.Goals as goal
+use Rattle.iox_hub.proofs.hub.Hub.lend_request_in_room.Goals as goal
 
 pub lend_request-lent-requires-clause-client : goal.lend_request-lent-requires-clause-client
 lend_request-lent-requires-clause-client g c = client_of_hub c.self.invariant c.args.self.now c.self.view_is c.args.node c.args.client c.requires.has
@@ -30,6 +31,10 @@ lend_request_in-requires-clause-room g c =
     c.asked_of-asked.ensures.count c.asked_of-asked.ensures.unfilled c.asked_of-asked.ensures.asked
     (client_of_hub c.self.invariant c.args.self.now c.self.view_is c.args.node c.args.client c.requires.has)
     c.in-Handle.ensures.left c.in-Handle.ensures.order c.in-Handle.ensures.whole)
+    c.args.spare
+    (client_room c.args.self.now c.self.view_is c.args.node c.args.client c.args.elements c.args.spare
+    (client_of_hub c.self.invariant c.args.self.now c.self.view_is c.args.node c.args.client c.requires.has)
+    c.requires.room)
 
 pub invariant_of-self : goal.invariant_of-self
 invariant_of-self g c =
@@ -84,6 +89,11 @@ returns-in_default g c = rw (← c.self.view_is) (record {
       (client_of_hub c.self.invariant c.args.self.now c.self.view_is c.args.node c.args.client c.requires.has)
       c.lend_request-lent.ensures.left c.lend_request-lent.ensures.order c.lend_request-lent.ensures.whole);
   has = other_has c.self.invariant roles.Client _ c.args.uninit c.args.elements c.args.node c.args.client c.lend_request-lent.new.control c.lend_request-lent.result c.in_default.not-Handle;
+  memory = call_never_wants c.self.invariant roles.Client _ c.args.uninit c.args.elements c.args.node c.args.client c.lend_request-lent.new.control c.lend_request-lent.result
+      (request_call c.asked_of-asked.result c.args.elements c.args.uninit c.args.node c.args.client c.lend_request-lent.new.control _
+      c.asked_of-asked.ensures.count c.asked_of-asked.ensures.unfilled c.asked_of-asked.ensures.asked
+      (client_of_hub c.self.invariant c.args.self.now c.self.view_is c.args.node c.args.client c.requires.has)
+      c.lend_request-lent.ensures.left c.lend_request-lent.ensures.order c.lend_request-lent.ensures.whole);
   new = other_is_new c.self.invariant c.args.node c.lend_request-lent.result c.in_default.not-Handle;
   keeps = other_loan_keeps c.self.invariant roles.Client _ c.args.uninit c.args.elements c.args.node c.args.client c.lend_request-lent.new.control c.lend_request-lent.result c.in_default.not-Handle
       (request_call c.asked_of-asked.result c.args.elements c.args.uninit c.args.node c.args.client c.lend_request-lent.new.control _
@@ -107,3 +117,11 @@ returns-in-Handle-clause-new g c =
     c.asked_of-asked.ensures.count c.asked_of-asked.ensures.unfilled c.asked_of-asked.ensures.asked
     (client_of_hub c.self.invariant c.args.self.now c.self.view_is c.args.node c.args.client c.requires.has)
     c.in-Handle.ensures.left c.in-Handle.ensures.order c.in-Handle.ensures.whole))
+
+pub returns-in-Handle-clause-memory : goal.returns-in-Handle-clause-memory
+returns-in-Handle-clause-memory g c =
+    call_never_wants c.self.invariant roles.Client _ c.args.uninit c.args.elements c.args.node c.args.client c.lend_request-lent.new.control _
+    (request_call c.asked_of-asked.result c.args.elements c.args.uninit c.args.node c.args.client c.lend_request-lent.new.control _
+    c.asked_of-asked.ensures.count c.asked_of-asked.ensures.unfilled c.asked_of-asked.ensures.asked
+    (client_of_hub c.self.invariant c.args.self.now c.self.view_is c.args.node c.args.client c.requires.has)
+    c.in-Handle.ensures.left c.in-Handle.ensures.order c.in-Handle.ensures.whole)
