@@ -2,7 +2,7 @@
 use Rattle.std.specs.Prelude.{◌≡◌, ℕ, ◌+◌, ◌-◌, ◌<◌, ◌≤◌, zero, suc, Bool, true, false, if◌then◌else◌, ◌==◌, List, [], ◌∷◌, ◌++◌, filter, flat_map, length, map, Option, Some, None, slice_get, refl}
 use Rattle.std.specs.List.{range_with_len}
 use Rattle.std.specs.Option.{option_map, option_map_or}
-use Rattle.std.proofs.Common.{sym, ap, subst, ◌∙◌, arith}
+use Rattle.std.proofs.Common.{sym, ap, subst, ◌∙◌, arith, eqb-true, true≢false}
 use Rattle.std.proofs.lemmas.Option.{none-some, same_Some}
 use Rattle.iox_model.specs.declared.kind.Role.{Role}
 use Rattle.iox_model.specs.declared.way.Way.{Way}
@@ -10,7 +10,7 @@ use Rattle.iox_model.specs.Maps.{AreDistinct}
 use Rattle.iox_model.specs.Settings.{is_client, same_role}
 use Rattle.iox_laws.proofs.WeaveLaws.MapLemmas.{eqb-refl}
 use Rattle.iox_lanes.specs.Lanes.{LaneState, returned_times}
-use Rattle.iox_tables.specs.HubStates.Tables.{HubTables, PoolState, PortState, numbers_of, port_in, slot_at, slots_of}
+use Rattle.iox_tables.specs.HubStates.Tables.{HubTables, PoolState, PortState, SlotState, no_slot, numbers_of, port_in, slot_at, slots_of}
 use Rattle.iox_tables.specs.HubStates.Ways.{lane_on}
 use Rattle.iox_tables.specs.HubStates.Shown.{by_lane}
 use Rattle.iox_tables.specs.HubBooks.Counts.{how_often, total}
@@ -214,3 +214,57 @@ module _ (t : HubTables) (order : AreInOrder t) (n : ℕ) (p : PortState) (there
       let holders = is.back.holders p.pool is.slot in
       let free = is.free.free in
       let some = none is.slot (omega (arith, low, size)) in omega (arith, holders, free, some)
+
+-- ---- in code: what is said of the port, and of its slots in turn
+
+slot_found : (t : HubTables) (pool slot : ℕ) (s : SlotState) → Some s ≡ slice_get (slots_of t.pools pool) slot → slot_at t.pools pool slot ≡ s
+slot_found t pool slot s at = ap (λ o. option_map_or (λ z. z) o no_slot) (sym at)
+
+pub slot_within : (ss : List SlotState) (i : ℕ) → i < length ss → slice_get ss i ≡ None → ⊥
+slot_within [] i low none = absurd (omega (arith, low))
+slot_within (s ∷ ss) zero low none = none-some s (sym none)
+slot_within (s ∷ ss) (suc i) low none = slot_within ss i (omega (arith, low)) none
+
+module _ (t : HubTables) (order : AreInOrder t) (info : PortInfo) (said : info_in t.ports info.number ≡ Some info) where
+  -- how many have the slot then
+  abbrev pub left_by_info : ℕ → ℕ
+  left_by_info slot = (slot_at t.pools info.pool slot).holders - returned_on t (ways_by info.role t info.number) info.pool slot
+
+  -- what is left of the holders that the slot has
+  pub left_is : (slot left : ℕ) (s : SlotState) → Some s ≡ slice_get (slots_of t.pools info.pool) slot
+      → left ≡ s.holders - returned_on t (ways_by info.role t info.number) info.pool slot → left ≡ left_by_info slot
+  left_is slot left s at is = is ∙ ap (λ (z : SlotState). z.holders - returned_on t (ways_by info.role t info.number) info.pool slot) (sym (slot_found t info.pool slot s at))
+
+  -- one more slot has holders left
+  pub left_more : (slot left : ℕ) → ((k : ℕ) → k < slot → 1 ≤ left_by_info k) → left ≡ left_by_info slot → (left ≡ 0 → ⊥) → (k : ℕ) → k < slot + 1 → 1 ≤ left_by_info k
+  left_more slot left before is some k low = step (k == slot) refl
+    where
+      step : (b : Bool) → (k == slot) ≡ b → 1 ≤ left_by_info k
+      step true e = subst (λ i. 1 ≤ left_by_info i) (sym (eqb-true k slot e)) (positive left is)
+        where
+          positive : (n : ℕ) → n ≡ left_by_info slot → 1 ≤ left_by_info slot
+          positive zero same = absurd (some (is ∙ sym same))
+          positive (suc n) same = omega (arith, same)
+      step false e = before k (below k slot low (λ same. true≢false (sym (ap (λ i. k == i) (sym same) ∙ eqb-refl k) ∙ e)))
+
+      below : (i j : ℕ) → i < j + 1 → (i ≡ j → ⊥) → i < j
+      below i j near other = omega (arith, near, other)
+
+  module _ (p : PortState) (there : port_in t.ports info.number ≡ Some p) where
+    its_info : info_of p ≡ info
+    its_info = let f = some_map info_of (port_in t.ports info.number) info said in ap info_of (same_Some p f.0 (sym there ∙ f.1)) ∙ f.2
+
+    left_same : (slot : ℕ) → left_of t order info.number p there slot ≡ left_by_info slot
+    left_same slot = ap (λ (i : PortInfo). (slot_at t.pools i.pool slot).holders - returned_on t (ways_by i.role t i.number) i.pool slot) its_info
+
+    length_same : length (slots_of t.pools info.pool) ≡ length (slots_of t.pools p.pool)
+    length_same = ap (λ (i : PortInfo). length (slots_of t.pools i.pool)) (sym its_info)
+
+    pub free_told : (slot left : ℕ) → slot < length (slots_of t.pools info.pool) → left ≡ left_by_info slot → left ≡ 0 → HasFreeThen t p
+    free_told slot left low is none =
+        free_then t order info.number p there slot (omega (arith, low, length_same)) (left_same slot ∙ sym is ∙ none)
+
+    pub never_told : (n : ℕ) → length (slots_of t.pools info.pool) ≤ n → ((k : ℕ) → k < n → 1 ≤ left_by_info k) → HasFreeThen t p → ⊥
+    never_told n all some is =
+        never_then t order info.number p there
+        (λ slot low. let e = left_same slot in let s = some slot (omega (arith, low, all, length_same)) in omega (arith, e, s)) is
