@@ -49,10 +49,9 @@ pub(crate) fn copy_request_in<QE: Words, QH: Words, PE: Words, PH: Words>(
         (copied_stored (QH.words user) (length values.now) (flat_map QE.words values.now)
         (stored_in (all_carried words.old.items) place.pool place.slot)) }
 {
+    let slot = place.slot as usize;
     match &mut words[place.pool] {
-        Some(PoolWords::Requests(store)) => {
-            copy_in(store, place.slot as usize, values, user, spare)
-        }
+        Some(PoolWords::Requests(store)) => copy_in(store, slot, values, user, spare),
         _ => unreachable!(),
     }
 }
@@ -75,10 +74,9 @@ pub(crate) fn copy_response_in<QE: Words, QH: Words, PE: Words, PH: Words>(
         (copied_stored (PH.words user) (length values.now) (flat_map PE.words values.now)
         (stored_in (all_carried words.old.items) place.pool place.slot)) }
 {
+    let slot = place.slot as usize;
     match &mut words[place.pool] {
-        Some(PoolWords::Responses(store)) => {
-            copy_in(store, place.slot as usize, values, user, spare)
-        }
+        Some(PoolWords::Responses(store)) => copy_in(store, slot, values, user, spare),
         _ => unreachable!(),
     }
 }

@@ -15,7 +15,7 @@ ghost use Rattle.iox_control_request_copies.specs.Copies as requests;
 ghost use Rattle.iox_control_request_copies.specs.Answered.TheVariants as answered;
 ghost use Rattle.iox_control_request_copies.specs.declared.copied.Copied.TheVariants as copied;
 ghost use Rattle.iox_control_request_copies.specs.LoanRefusal.TheVariants.{WantOfMemory};
-ghost use Rattle.iox_hub.specs.Growing.{GrowsPast, HasRoomFor};
+ghost use Rattle.iox_hub.specs.Growing.{HasRoomFor, WantsRoom};
 ghost use Rattle.iox_hub.specs.Copying as spec;
 ghost use Rattle.iox_hub.specs.Copying.{HasCopied, LeavesAnswered, LeavesCopied, asked_of_copy};
 ghost use Rattle.iox_hub.specs.Hubs.{HasValue, state_of_hub};
@@ -90,13 +90,8 @@ impl<Q: Payload, QH: Words, P: Payload, PH: Words> Hub<Q, QH, P, PH> {
             place,
         } = copied
         {
-            copy_request_in(
-                &mut self.words,
-                place,
-                values,
-                self.request.user_header,
-                spare,
-            );
+            let user = self.request.user_header;
+            copy_request_in(&mut self.words, place, values, user, spare);
         }
         copied
     }
@@ -146,13 +141,8 @@ impl<Q: Payload, QH: Words, P: Payload, PH: Words> Hub<Q, QH, P, PH> {
             fails,
         );
         if let Some(place) = place_of(answered) {
-            copy_response_in(
-                &mut self.words,
-                place,
-                values,
-                self.response.user_header,
-                spare,
-            );
+            let user = self.response.user_header;
+            copy_response_in(&mut self.words, place, values, user, spare);
         }
         answered
     }
@@ -177,7 +167,7 @@ impl<Q: Payload, QH: Words, P: Payload, PH: Words> Hub<Q, QH, P, PH> {
             (flat_map Q.Element.words values.now) result }
         ensures memory { result ≡ copied.Refused WantOfMemory → (p : PortState)
             → port_in self.old.control.tables.ports client ≡ Some p
-            → GrowsPast p (length values.now) }
+            → WantsRoom self.old (lender_of_request p 0) self.old.request (length values.now) }
     {
         match self.room_for_request(node, client, values.len()) {
             Ok(spare) => self.copy_request_in_room(node, client, values, spare),
@@ -213,7 +203,8 @@ impl<Q: Payload, QH: Words, P: Payload, PH: Words> Hub<Q, QH, P, PH> {
         ensures memory { result ≡ answered.Refused WantOfMemory → (h : HandleState)
             (p : PortState) → handle_in self.old.control.tables.handles node number ≡ Some h
             → port_in self.old.control.tables.ports h.port ≡ Some p
-            → GrowsPast p (length values.now) }
+            → WantsRoom self.old (lender_of_response self.old.control.tables h p)
+            self.old.response (length values.now) }
     {
         match self.room_for_response(node, number, hint, values.len()) {
             Ok(spare) => self.copy_response_in_room(node, number, hint, values, spare),

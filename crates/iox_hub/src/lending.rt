@@ -11,7 +11,7 @@ ghost use Rattle.iox_tables.specs.HubLoans.Loans.{loan_call};
 ghost use Rattle.iox_control_request_copies.specs.Lends.{reply_of_loan};
 ghost use Rattle.iox_control_request_copies.specs.Lent.TheVariants.{Refused};
 ghost use Rattle.iox_control_request_copies.specs.LoanRefusal.TheVariants.{WantOfMemory};
-ghost use Rattle.iox_hub.specs.Growing.{GrowsPast, HasRoomFor};
+ghost use Rattle.iox_hub.specs.Growing.{HasRoomFor, WantsRoom};
 ghost use Rattle.iox_hub.specs.Hubs.{HasValue, state_of_hub};
 ghost use Rattle.iox_hub.specs.Keeping.{IsNewLoan, KeepsAll};
 ghost use Rattle.iox_hub.specs.Lending.{HasLent, IsAskedFor, LeavesLent};
@@ -141,7 +141,8 @@ impl<Q: Payload, QH: Words, P: Payload, PH: Words> Hub<Q, QH, P, PH> {
         ensures new { IsNewLoan self.old node result }
         ensures keeps { KeepsAll self.old self.new }
         ensures memory { result ≡ Refused WantOfMemory → (p : PortState)
-            → port_in self.old.control.tables.ports client ≡ Some p → GrowsPast p elements }
+            → port_in self.old.control.tables.ports client ≡ Some p
+            → WantsRoom self.old (lender_of_request p 0) self.old.request elements }
     {
         match self.room_for_request(node, client, elements) {
             Ok(spare) => self.lend_request_in_room(node, client, elements, uninit, spare),
@@ -170,7 +171,9 @@ impl<Q: Payload, QH: Words, P: Payload, PH: Words> Hub<Q, QH, P, PH> {
         ensures keeps { KeepsAll self.old self.new }
         ensures memory { result ≡ Refused WantOfMemory → (h : HandleState) (p : PortState)
             → handle_in self.old.control.tables.handles node number ≡ Some h
-            → port_in self.old.control.tables.ports h.port ≡ Some p → GrowsPast p elements }
+            → port_in self.old.control.tables.ports h.port ≡ Some p
+            → WantsRoom self.old (lender_of_response self.old.control.tables h p)
+            self.old.response elements }
     {
         match self.room_for_response(node, number, hint, elements) {
             Ok(spare) => { self.lend_response_in_room(node, number, hint, elements, uninit, spare) }
