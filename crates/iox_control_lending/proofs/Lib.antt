@@ -13,5 +13,6 @@ pub mod PortLemmas
 pub mod FillLemmas
 pub mod GotBack
 pub mod Foretold
+pub mod MayLemmas
 pub mod Wanting
 pub mod WantingCopies

@@ -6,7 +6,7 @@ ghost use Rattle.iox_tables.specs.HubStates.Wirings.{handle_in};
 ghost use Rattle.iox_model.specs.Settings.{is_client};
 ghost use Rattle.iox_tables.specs.HubLending.Emptying.{returned_on};
 ghost use Rattle.iox_tables.specs.HubLoans.Lenders.{IsActive, lender_of_request, lender_of_response, shape_in, ways_by};
-ghost use Rattle.iox_hub_ports.specs.Ports.{info_in, info_of};
+ghost use Rattle.iox_hub_ports.specs.Ports.{info_in};
 ghost use Rattle.iox_control.specs.Controls.{IsControl};
 ghost use Rattle.iox_control_retrieving.specs.Retrieving.{ways_to};
 ghost use Rattle.iox_control_lending.specs.Lends.{HasFreeThen, IsAskedOf, IsPortOf, MayBeMade, lender_of};
@@ -105,7 +105,8 @@ fn has_free_then(control: &Control, port: &PortInfo) -> bool
 fn may_be_made(control: &Control, lender: &Lending, asked: Asked) -> bool
     requires port { IsPortOf control.now.tables lender.now }
     requires order { IsControl control.now }
-    requires asked { (p : PortState) → lender.now.port ≡ info_of p
+    requires asked { (p : PortState)
+        → port_in control.now.tables.ports lender.now.port.number ≡ Some p
         → (x : Given) × IsAskedOf (shape_in x control.now.tables p) asked }
     ensures made { result ≡ true → (p : PortState)
         → port_in control.now.tables.ports lender.now.port.number ≡ Some p
