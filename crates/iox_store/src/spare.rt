@@ -24,7 +24,7 @@ impl<E: Words> Model for Spare<E> {
 
 impl<E: Words> Spare<E> {
     /// Room for so many elements, or more.
-    pub fn new(alloc: Global, elements: usize) -> Result<Self, AllocError>
+    pub(crate) fn new(alloc: Global, elements: usize) -> Result<Self, AllocError>
         ensures { IfOk result (λ spare. elements ≤ spare) }
     {
         Ok(Spare {
@@ -34,7 +34,7 @@ impl<E: Words> Spare<E> {
 
     /// For how many elements it is.
     #[inline]
-    pub fn room(&self) -> usize
+    pub(crate) fn room(&self) -> usize
         ensures { result ≡ self.now }
     {
         self.payload.capacity()

@@ -8,6 +8,15 @@ use crate::spare::Spare;
 use iox_words::Words;
 
 impl<E: Words, H: Words> Store<E, H> {
+    /// Keeps room that a message had no use for.
+    fn keep(&mut self, left: Option<Spare<E>>)
+        ensures { self.new ≡ self.old }
+    {
+        if left.is_some() {
+            self.spare = left;
+        }
+    }
+
     /// Lends the message for so many elements, none of which is filled. Where it has no room for
     /// them, it takes the room that is given.
     #[inline]
@@ -17,10 +26,9 @@ impl<E: Words, H: Words> Store<E, H> {
         ensures { self.new ≡ with_stored self.old place
             (lent_uninit (stored_at self.old place) elements (H.words user)) }
     {
-        let left = self.cells[place].lend_uninit(elements, user, spare);
-        if left.is_some() {
-            self.spare = left;
-        }
+        let cell = &mut self.cells[place];
+        let left = cell.lend_uninit(elements, user, spare);
+        self.keep(left);
     }
 
     /// Lends the message for so many elements, each filled with the same value. Where it has no
@@ -40,11 +48,9 @@ impl<E: Words, H: Words> Store<E, H> {
             (lent (stored_at self.old place) elements (H.words user) (E.words value)) }
     {
         let cell = &mut self.cells[place];
-        let left = cell.lend_uninit(elements, user, spare);
+        let unused = cell.lend_uninit(elements, user, spare);
         cell.fill(value);
-        if left.is_some() {
-            self.spare = left;
-        }
+        self.keep(unused);
     }
 
     /// Fills the message's next element.
