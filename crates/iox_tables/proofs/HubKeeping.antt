@@ -9,4 +9,6 @@ pub mod LeftPorts
 pub mod LeftHandles
 pub mod GonePools
 pub mod Reaching
+pub mod PipesLeft
+pub mod Parting
 pub mod WorkedKeeps

@@ -2,4 +2,5 @@
 pub mod Connected
 pub mod Keeps
 pub mod Hubs
+pub mod Partings
 pub mod Worked

@@ -5,6 +5,8 @@ pub mod WholeReleases
 pub mod FreePools
 -- the making of a port
 pub mod NewPorts
+-- what receivers keep of ports that are gone
+pub mod Expirings
 -- what is so between calls, and at first
 pub mod Wires
 pub mod LaneSums

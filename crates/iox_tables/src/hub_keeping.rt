@@ -5,6 +5,7 @@ ghost use Rattle.iox_tables.specs.HubKeeping.Hubs.{HubsDropPools, HubsReleasePor
 ghost use Rattle.iox_tables.specs.HubKeeping.Hubs.{HubsStart, HubsTakePorts};
 ghost use Rattle.iox_tables.specs.HubKeeping.Keeps.{DisconnectionsKeepOrder, MakingsKeepOrder};
 ghost use Rattle.iox_tables.specs.HubKeeping.Keeps.{PoolsMayGo, StartsAreInOrder, ValuesKeepOrder};
+ghost use Rattle.iox_tables.specs.HubKeeping.Partings.{NothingIsKept, PartingsAreShown};
 ghost use Rattle.iox_tables.specs.HubKeeping.Worked.{OneHasTheRequest, TwoPortsAreInOrder};
 
 /// A hub is in order as it starts.
@@ -33,6 +34,13 @@ pub fn makings()
 pub fn disconnections()
     ensures ports { DisconnectionsKeepOrder }
     ensures pools { PoolsMayGo }
+{}
+
+/// The disconnection of a port of which receivers keep what waits is the machine's. Where nothing
+/// is kept, all pipes from the port go with it.
+pub fn partings()
+    ensures shown { PartingsAreShown }
+    ensures none { NothingIsKept }
 {}
 
 /// A hub is one from its start on, and stays one as a port is made, as a port's own value is
