@@ -24,7 +24,8 @@ use Rattle.iox_tables.proofs.HubBooks.Eachs.{OfPipe, OfPort, all_from}
 use Rattle.iox_tables.proofs.HubMaking.Connecting.{other_twice, same_roles}
 use Rattle.iox_tables.proofs.HubMaking.Firsts.{first_among, has_first}
 use Rattle.iox_tables.proofs.HubKeeping.NewPorts.{some_is}
-use Rattle.iox_tables.proofs.HubKeeping.Ordered.{names_apart}
+use Rattle.iox_tables.specs.HubKeeping.Connected.{KeepsNone}
+use Rattle.iox_tables.proofs.HubKeeping.Ordered.{names_apart, nothing_is_kept}
 use Rattle.iox_control_making.specs.Bounds.{LanesAreBetween, NoMoreMayCome, count_of, sizes_of}
 use Rattle.iox_tables.specs.HubMaking.NewPorts.{width_of}
 use Rattle.iox_tables.proofs.HubBooks.Frames.{length_map}
@@ -77,12 +78,12 @@ among_role role ports n apart has =
 
 -- ---- what lanes count that count alike for each receiver of a role
 
-module _ (t : HubTables) (order : AreInOrder t) (f : LaneState → ℕ) (b : Role → ℕ)
+module _ (t : HubTables) (order : AreInOrder t) (none : KeepsNone t.settings) (f : LaneState → ℕ) (b : Role → ℕ)
     (alike : (w : Way) (l : LaneState) (p : PortState) → lane_on t.ports w ≡ Some l → port_in t.ports w.receiver ≡ Some p → f l ≡ b p.role)
   where
     module _ (p : PortState) (there : port_in t.ports p.number ≡ Some p) where
       senders : senders_of (pipes_of p) ≡ numbers_of_role (other_role p.role) t.ports
-      senders = ap (λ es. senders_of (es ++ p.incoming.pipes)) (order.wired.none_kept p.number p there) ∙ (order.wired.each p.number p there).senders
+      senders = ap (λ es. senders_of (es ++ p.incoming.pipes)) (nothing_is_kept t p.number p order none there) ∙ (order.wired.each p.number p there).senders
 
       pipes_to_it : pipes_to t.ports p.number ≡ pipes_of p
       pipes_to_it = ap (λ (o : Option PortState). option_map_or pipes_of o []) there
@@ -159,16 +160,16 @@ module _ (t : HubTables) (order : AreInOrder t) (f : LaneState → ℕ) (b : Rol
     lanes_count = by_port ∙ by_role t.ports t.ports ∙ sym (mul-add (count_of Server t.ports) (sizes_of Client t.ports * b Client) (count_of Client t.ports * b Server))
 
 pub lanes_are_between : LanesAreBetween
-lanes_are_between t order =
-    lanes_count t order (λ l. 1) (λ r. 1) (λ w l p at to. refl)
+lanes_are_between t order none =
+    lanes_count t order none (λ l. 1) (λ r. 1) (λ w l p at to. refl)
     ∙ ap₂ (λ a b. count_of Server t.ports * (a + b)) (mul-one (sizes_of Client t.ports)) (mul-one (count_of Client t.ports))
 
 -- ---- handles
 
-limits : (t : HubTables) → AreInOrder t
+limits : (t : HubTables) → AreInOrder t → KeepsNone t.settings
     → on_lanes (λ l. l.limit) t.ports ≡ count_of Server t.ports * (sizes_of Client t.ports * t.settings.borrowed_responses + count_of Client t.ports * t.settings.active_requests)
-limits t order =
-    lanes_count t order (λ l. l.limit) (λ r. limit_from t.settings (other_role r))
+limits t order none =
+    lanes_count t order none (λ l. l.limit) (λ r. limit_from t.settings (other_role r))
     (λ w l p at to. order.wired.limits w l at ∙ ap (λ (o : Option PortState). limit_from t.settings (other_role (option_map_or (λ (q : PortState). q.role) o Client))) to)
 
 all_so : {A : Type 0} (P : A → Type 0) → ((x : A) → P x) → (xs : List A) → OfAll P xs
@@ -194,8 +195,8 @@ owns own (p ∷ ps) = step p.role (owns own ps)
     step Server rest = omega (arith, rest)
 
 pub no_more_may_come : NoMoreMayCome
-no_more_may_come t order =
-    all (limits t order) (spares t.ports) (owns (own_count t.handles) t.ports)
+no_more_may_come t order none =
+    all (limits t order none) (spares t.ports) (owns (own_count t.handles) t.ports)
   where
     all : {a b c d e : ℕ} → a ≡ e → b ≤ a → c ≤ d → b + c ≤ e + d
     all p q r = omega (arith, p, q, r)

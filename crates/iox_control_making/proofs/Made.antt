@@ -128,7 +128,7 @@ module _ (t : HubTables) (node : ℕ) (role : Role) (id : UniqueSystemId) (asked
       may = record { number = refl; place = (places_become_free t (place_for_one t.pools) order).empty (vacant t.pools); none = refl }
 
       order_after : AreInOrder left
-      order_after = makings_keep_order t new pools order none may (one_more_is_put t.pools (pool_made new))
+      order_after = makings_keep_order t new pools order may (one_more_is_put t.pools (pool_made new))
 
       loans : OfAll (λ p. p.loans ≤ t.calls) (ports_with t.settings t.ports new)
       loans =
@@ -160,8 +160,8 @@ module _ (t : HubTables) (node : ℕ) (role : Role) (id : UniqueSystemId) (asked
         order = order_after;
         ports = (room_always_stays t).made new pools room not_too_many refl;
         counted = counted_after;
-        room = fits (no_more_may_come left order_after) (ap (λ s. all_handles s t.settings.borrowed_responses t.settings.active_requests) sizes_are) enough;
-        holders = below (length t.handles) (lanes_are_between left order_after) (ap all_lanes sizes_are) holders;
+        room = fits (no_more_may_come left order_after none) (ap (λ s. all_handles s t.settings.borrowed_responses t.settings.active_requests) sizes_are) enough;
+        holders = below (length t.handles) (lanes_are_between left order_after none) (ap all_lanes sizes_are) holders;
       }
         where
           fits : {a b d : ℕ} → a ≤ b → b ≡ d → d ≤ r → a ≤ r
@@ -171,7 +171,7 @@ module _ (t : HubTables) (node : ℕ) (role : Role) (id : UniqueSystemId) (asked
           below n h e g = omega (arith, h, e, g)
 
       have_room : PipesHaveRoom t new
-      have_room = new_pipes_have_room t new (are_connected t order none) room not_too_many
+      have_room = new_pipes_have_room t new (are_connected t order) room not_too_many
 
       -- what code leaves
       module _ (c1 : ControlState) (parts : Parts) (reserved : c1.tables ≡ record t { pools = pools }) (of : IsOfParts t (info_asked t node role id asked) parts) where
@@ -230,7 +230,7 @@ more_room c c' role size order same more either =
     below : (c'.room ≡ c.room) ⊎ HasRoomFor c' (with_size (sizes_among c.tables.ports) role size) → CanCountHolders c'.room c.tables
     below (inl e) = subst (λ r. CanCountHolders r c.tables) (sym e) order.holders
     below (inr has) =
-        fewer (length c.tables.handles) c'.room (lanes_are_between c.tables order.order) (more_lanes (sizes_among c.tables.ports) role size)
+        fewer (length c.tables.handles) c'.room (lanes_are_between c.tables order.order order.none) (more_lanes (sizes_among c.tables.ports) role size)
         (subst (λ (u : HubTables). all_lanes (with_size (sizes_among c.tables.ports) role size) + length u.handles + c'.room < 2 ^ 64) same has.counted)
       where
         fewer : {a b d : ℕ} (n r : ℕ) → a ≡ b → b ≤ d → d + n + r < 2 ^ 64 → a + n + r < 2 ^ 64

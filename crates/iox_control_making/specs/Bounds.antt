@@ -8,6 +8,7 @@ use Rattle.iox_tables.specs.HubStates.Wirings.{numbers_of_role}
 use Rattle.iox_tables.specs.HubBooks.Counts.{on_lanes, total}
 use Rattle.iox_tables.specs.HubBooks.Hubs.{AreInOrder}
 use Rattle.iox_tables.specs.HubBooks.Rooms.{may_come}
+use Rattle.iox_tables.specs.HubKeeping.Connected.{KeepsNone}
 
 -- how many ports there are of that role
 abbrev pub count_of : Role → List PortState → ℕ
@@ -31,10 +32,14 @@ most_handles settings ports =
     + count_of Client ports * settings.active_requests)
     + (sizes_of Client ports + sizes_of Server ports)
 
--- There are as many lanes as that.
+-- There are as many lanes as that, where no port keeps pipes of ports that are gone.
 abbrev pub LanesAreBetween : Type 0
-LanesAreBetween = (t : HubTables) → AreInOrder t → on_lanes (λ l. 1) t.ports ≡ lanes_between t.ports
+LanesAreBetween =
+    (t : HubTables) → AreInOrder t → KeepsNone t.settings
+    → on_lanes (λ l. 1) t.ports ≡ lanes_between t.ports
 
--- No more handles may come than that.
+-- No more handles may come than that then.
 abbrev pub NoMoreMayCome : Type 0
-NoMoreMayCome = (t : HubTables) → AreInOrder t → may_come t ≤ most_handles t.settings t.ports
+NoMoreMayCome =
+    (t : HubTables) → AreInOrder t → KeepsNone t.settings
+    → may_come t ≤ most_handles t.settings t.ports

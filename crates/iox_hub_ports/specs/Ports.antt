@@ -16,6 +16,7 @@ use Rattle.iox_tables.specs.HubStates.Tables.{PortState, numbers_of, pipe_from, 
 use Rattle.iox_tables.specs.HubStates.Ways.{lane_on, lanes_from, state_on, states_from, with_lane_on, with_pipe_of, with_pipes}
 use Rattle.iox_tables.specs.HubStates.Wirings.{numbers_of_role}
 use Rattle.iox_hub_ports.specs.declared.info.PortInfo.{PortInfo}
+use Rattle.iox_tables.specs.HubMaking.Expirings.{gone_with}
 use Rattle.iox_tables.specs.HubMaking.OneByOne.{without_first_by}
 
 -- a port with that information, and what comes to it
@@ -81,6 +82,10 @@ abbrev pub without_pipe_from : PortState → ℕ → PortState
 without_pipe_from p sender = record p {
   incoming = with_pipes p.incoming (without_first_by (λ q. q.sender) p.incoming.pipes sender);
 }
+
+-- the pipe that goes with this connected sender: the first from it, or one that is given up for it
+abbrev pub gone_from : PortState → ℕ → Option PipeState
+gone_from p sender = gone_with p.expired (pipe_from p.incoming.pipes sender)
 
 -- one more pipe leads to the port, where there is room
 abbrev pub with_connected : PortState → PipeState → PortState

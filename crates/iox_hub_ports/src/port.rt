@@ -10,7 +10,8 @@ ghost use Rattle.iox_tables.specs.Pipes.{IsSoundAt};
 ghost use Rattle.iox_tables.specs.HubStates.Ways.{lanes_from};
 ghost use Rattle.iox_tables.specs.Lanes.{is_full, without_returned};
 ghost use Rattle.iox_tables.specs.Visited.{all_visits};
-ghost use Rattle.iox_hub_ports.specs.Ports.{info_of, lane_to_get_on, on_lane_from, port_of, state_from, with_connected};
+ghost use Rattle.iox_tables.specs.HubMaking.OneByOne.{without_first_pipe};
+ghost use Rattle.iox_hub_ports.specs.Ports.{gone_from, info_of, lane_to_get_on, on_lane_from, port_of, state_from, with_connected};
 ghost use Rattle.iox_hub_ports.specs.Ports.{with_lane_from, with_loan_counted, with_state_from, without_pipe_from, without_value};
 
 use crate::info::PortInfo;
@@ -262,5 +263,31 @@ impl Port {
             Some(rank) => self.incoming.disconnect(rank),
             None => None,
         }
+    }
+
+    /// This connected sender is gone: the pipe from it is kept, as the last of those from ports
+    /// that are gone, if something waits there. It tells the pipe that goes: that one, or one that
+    /// is given up for it. It takes no memory.
+    pub fn expire(&mut self, sender: u64) -> Option<Pipe>
+        ensures gone { result ≡ gone_from self.old sender }
+        ensures left { self.new ≡ without_first_pipe sender self.old }
+    {
+        match self.disconnect(sender) {
+            None => None,
+            Some(pipe) => {
+                if pipe.has_waiting_on_any() {
+                    return self.expired.keep(pipe);
+                }
+                Some(pipe)
+            }
+        }
+    }
+
+    /// The pipes from ports that are gone, and those from connected ports, of a port that goes.
+    pub fn into_pipes(self) -> (Incoming, Incoming)
+        ensures expired { result.0 ≡ self.expired }
+        ensures incoming { result.1 ≡ self.incoming }
+    {
+        (self.expired, self.incoming)
     }
 }

@@ -1,6 +1,6 @@
 //! What comes to one port, from each port that is connected to it.
 ghost use Rattle.std.specs.Option.{option_map};
-ghost use Rattle.std.specs.Prelude.{◌≡◌, IfOk, IfSome, None, Some, ◌<◌, false, is_some, length, slice_get, true};
+ghost use Rattle.std.specs.Prelude.{◌≡◌, ◌-◌, IfOk, IfSome, None, Some, ◌<◌, false, is_some, length, slice_get, take, true};
 ghost use Rattle.std.specs.Vec.{vec_capacity};
 ghost use Rattle.iox_model.specs.declared.way.RequestState.TheVariants.{Closed};
 ghost use Rattle.iox_lanes.specs.Lanes.{offered, has_room, is_full, is_taken, oldest, released, without_oldest, without_returned};
@@ -152,6 +152,15 @@ impl Incoming {
         let oldest = self.pipes.remove(0);
         self.pipes.push_reserved(pipe);
         Some(oldest)
+    }
+
+    /// Takes the last pipe out, if there is one.
+    pub fn take_pipe(&mut self) -> Option<Pipe>
+        ensures last { result ≡ slice_get self.old.pipes (length self.old.pipes - 1) }
+        ensures left { self.new
+            ≡ record (self.old) { pipes = take (length self.old.pipes - 1) self.old.pipes } }
+    {
+        self.pipes.pop()
     }
 
     // ---- a sender

@@ -2,5 +2,4 @@
 pub mod Connected
 pub mod Keeps
 pub mod Hubs
-pub mod Partings
 pub mod Worked

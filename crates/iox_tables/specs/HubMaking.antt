@@ -1,12 +1,11 @@
 -- In reading order: the disconnection of a port, and calls that may end with one.
+pub mod Expirings
 pub mod Disconnections
 pub mod WholeReleases
 -- pools that nobody has messages of
 pub mod FreePools
 -- the making of a port
 pub mod NewPorts
--- what receivers keep of ports that are gone
-pub mod Expirings
 -- what is so between calls, and at first
 pub mod Wires
 pub mod LaneSums

@@ -1,11 +1,11 @@
 //! Tables of a hub that are in order stay so as ports come and go.
 //! The functions have nothing to do: each is there for its contract.
+ghost use Rattle.iox_tables.specs.HubKeeping.Connected.{ConnectedMayGo, NothingIsKept};
 ghost use Rattle.iox_tables.specs.HubKeeping.Connected.{OrderIsReadyForPorts, PlacesBecomeFree};
 ghost use Rattle.iox_tables.specs.HubKeeping.Hubs.{HubsDropPools, HubsReleasePorts};
 ghost use Rattle.iox_tables.specs.HubKeeping.Hubs.{HubsStart, HubsTakePorts};
 ghost use Rattle.iox_tables.specs.HubKeeping.Keeps.{DisconnectionsKeepOrder, MakingsKeepOrder};
 ghost use Rattle.iox_tables.specs.HubKeeping.Keeps.{PoolsMayGo, StartsAreInOrder, ValuesKeepOrder};
-ghost use Rattle.iox_tables.specs.HubKeeping.Partings.{NothingIsKept, PartingsAreShown};
 ghost use Rattle.iox_tables.specs.HubKeeping.Worked.{OneHasTheRequest, TwoPortsAreInOrder};
 
 /// A hub is in order as it starts.
@@ -18,8 +18,12 @@ pub fn values()
     ensures { ValuesKeepOrder }
 {}
 
-/// Where a hub is in order, a port may be made, in each place that is free for its pool.
+/// Where a hub is in order, a port may be made, in each place that is free for its pool, and each
+/// connected port may go. Where a service keeps nothing of ports that are gone, no port has pipes
+/// from them.
 pub fn places()
+    ensures goes { ConnectedMayGo }
+    ensures none { NothingIsKept }
     ensures ready { OrderIsReadyForPorts }
     ensures free { PlacesBecomeFree }
 {}
@@ -34,13 +38,6 @@ pub fn makings()
 pub fn disconnections()
     ensures ports { DisconnectionsKeepOrder }
     ensures pools { PoolsMayGo }
-{}
-
-/// The disconnection of a port of which receivers keep what waits is the machine's. Where nothing
-/// is kept, all pipes from the port go with it.
-pub fn partings()
-    ensures shown { PartingsAreShown }
-    ensures none { NothingIsKept }
 {}
 
 /// A hub is one from its start on, and stays one as a port is made, as a port's own value is

@@ -1,12 +1,12 @@
--- What becomes of the pipes from a port that goes: a receiver keeps its pipe if something waits there.
-use Rattle.std.specs.Prelude.{◌≡◌, ℕ, true, false, not, if◌then◌else◌, ◌==◌, List, map, filter, Option, Some, None}
+-- What receivers keep of ports that are gone: the pipes from them on which something waited.
+use Rattle.std.specs.Prelude.{◌≡◌, ℕ, ◌≤◌, true, if◌then◌else◌, length, Option, Some, None}
 use Rattle.iox_model.specs.Maps.{has_number}
-use Rattle.iox_lanes.specs.Incomings.{IncomingState, with_kept}
+use Rattle.iox_lanes.specs.Incomings.{IncomingState, given_up_for, with_kept}
 use Rattle.iox_lanes.specs.Pipes.{PipeState, has_waiting_on_any}
-use Rattle.iox_tables.specs.HubStates.Tables.{HubTables, PortState, pipe_from, senders_of}
-use Rattle.iox_tables.specs.HubStates.Steps.{is_there}
-use Rattle.iox_tables.specs.HubMaking.Disconnections.{without_sender}
-use Rattle.iox_tables.specs.HubMaking.NewPorts.{room_for_gone}
+use Rattle.iox_tables.specs.HubStates.Tables.{HubTables, PortState, pipe_from, port_in, senders_of}
+use Rattle.iox_tables.specs.HubMaking.NewPorts.{room_for_gone, width_of}
+
+-- ---- the sender of a pipe goes
 
 -- the pipes from ports that are gone, once the sender of this one is gone too: it is kept last if
 -- something waits there
@@ -14,25 +14,20 @@ abbrev pub with_expired : IncomingState → Option PipeState → IncomingState
 with_expired c None = c
 with_expired c (Some q) = if has_waiting_on_any q then with_kept c q else c
 
--- the port once that sender is gone
-abbrev pub parted_from : ℕ → PortState → PortState
-parted_from n p = record p {
-  expired = with_expired p.expired (pipe_from p.incoming.pipes n);
-  incoming = without_sender n p.incoming;
-}
+-- the pipe that goes then: this one, or one that is given up for it
+abbrev pub gone_with : IncomingState → Option PipeState → Option PipeState
+gone_with c None = None
+gone_with c (Some q) = if has_waiting_on_any q then given_up_for c q else Some q
 
--- the ports but the one of that number, each of them parted from it
-abbrev pub ports_parted : ℕ → List PortState → List PortState
-ports_parted n ports = map (parted_from n) (filter (λ p. not (p.number == n)) ports)
+-- ---- what is so between calls
 
--- the tables once that port is gone: with it go the pipes to it, and those from it on which nothing
--- waits
-abbrev pub with_parted : HubTables → ℕ → HubTables
-with_parted t n = record t { ports = ports_parted n t.ports }
-
--- A port has room for as many pipes from ports that are gone as its service keeps, and those that
--- it has come from such ports.
+-- A port has room for as many pipes from ports that are gone as its service says, and no more than
+-- those. They come from such ports, and are as wide as those from connected ones.
 pub record KeepsExpired (t : HubTables) (p : PortState) : Type 0 where
   pub room : p.expired.most ≡ room_for_gone t.settings p.role
+  pub few : length p.expired.pipes ≤ p.expired.most
   pub gone :
-      (n : ℕ) → has_number n (senders_of p.expired.pipes) ≡ true → is_there t.ports n ≡ false
+      (n : ℕ) → has_number n (senders_of p.expired.pipes) ≡ true → port_in t.ports n ≡ None
+  pub wide :
+      (n : ℕ) (q : PipeState) → pipe_from p.expired.pipes n ≡ Some q
+      → length q.lanes ≡ width_of p

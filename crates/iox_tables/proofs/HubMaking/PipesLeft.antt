@@ -10,7 +10,8 @@ use Rattle.iox_model.specs.Maps.{AreDistinct, has_number, or_else, rest_of}
 use Rattle.iox_lanes.specs.Incomings.{IncomingState, has_room_for, with_kept}
 use Rattle.iox_lanes.specs.Pipes.{PipeState, has_waiting_on_any}
 use Rattle.iox_tables.specs.HubStates.Tables.{PortState, pipe_from, pipes_of, senders_of}
-use Rattle.iox_tables.specs.HubMaking.Expirings.{parted_from, with_expired}
+use Rattle.iox_tables.specs.HubMaking.Disconnections.{cut_from}
+use Rattle.iox_tables.specs.HubMaking.Expirings.{with_expired}
 use Rattle.iox_tables.proofs.HubStates.Fixing.{first_key}
 use Rattle.iox_tables.proofs.HubStates.Keys.{first_append, flip}
 use Rattle.iox_tables.proofs.HubMaking.Connecting.{there_is}
@@ -38,7 +39,7 @@ not_behind (x ∷ xs) qs a apart e = step (x.sender == a) refl e (not_behind xs 
         ∙ parts (pipe_from xs x.sender) (pipe_from qs x.sender) (sym (first_append (λ q. q.sender) xs qs x.sender) ∙ both)
 
 -- what is first among some of the pipes is first among all
-abbrev IsPartOf : List PipeState → List PipeState → ℕ → Type 0
+abbrev pub IsPartOf : List PipeState → List PipeState → ℕ → Type 0
 IsPartOf es ds a = pipe_from ds a ≡ (if is_some (pipe_from ds a) then pipe_from es a else None)
 
 all_are : (es : List PipeState) (a : ℕ) → IsPartOf es es a
@@ -48,7 +49,7 @@ all_are es a = step (pipe_from es a)
     step (Some q) = refl
     step None = refl
 
-behind_the_first : (es : List PipeState) (a : ℕ) → AreDistinct (senders_of es) → IsPartOf es (drop 1 es) a
+pub behind_the_first : (es : List PipeState) (a : ℕ) → AreDistinct (senders_of es) → IsPartOf es (drop 1 es) a
 behind_the_first [] a apart = refl
 behind_the_first (x ∷ xs) a apart = step (x.sender == a) refl (pipe_from xs a) refl
   where
@@ -60,6 +61,17 @@ behind_the_first (x ∷ xs) a apart = step (x.sender == a) refl (pipe_from xs a)
         absurd (true≢false
         (sym (has_first (λ q. q.sender) xs x.sender ∙ ap (λ k. is_some (pipe_from xs k)) (eqb-true x.sender a is) ∙ ap (λ (o : Option PipeState). is_some o) at)
         ∙ apart.0))
+
+-- those in front are of different senders
+pub distinct_first : (xs ys : List PipeState) → AreDistinct (senders_of (xs ++ ys)) → AreDistinct (senders_of xs)
+distinct_first [] ys apart = tt
+distinct_first (x ∷ xs) ys apart = (there xs apart.0, distinct_first xs ys apart.1)
+  where
+    there : (xs : List PipeState) → has_number x.sender (senders_of (xs ++ ys)) ≡ false → has_number x.sender (senders_of xs) ≡ false
+    there [] h = refl
+    there (z ∷ zs) h =
+        let parts = or_parts (z.sender == x.sender) (has_number x.sender (senders_of (zs ++ ys))) h in
+        ap₂ (λ (b c : Bool). b || c) parts.0 (there zs parts.1)
 
 -- ---- the pipes of one port
 
@@ -137,24 +149,11 @@ module _ (n : ℕ) (p : PortState) (apart : AreDistinct (senders_of (pipes_of p)
             else (if c then record (p.expired) { pipes = drop 1 es ++ q ∷ [] } else p.expired)).pipes
         step true c = one_more es (all_are es a)
         step false true = one_more (drop 1 es) (behind_the_first es a (distinct_first es p.incoming.pipes apart))
-          where
-            distinct_first : (xs ys : List PipeState) → AreDistinct (senders_of (xs ++ ys)) → AreDistinct (senders_of xs)
-            distinct_first [] ys apart = tt
-            distinct_first (x ∷ xs) ys apart = (
-              there xs apart.0,
-              distinct_first xs ys apart.1,
-            )
-              where
-                there : (xs : List PipeState) → has_number x.sender (senders_of (xs ++ ys)) ≡ false → has_number x.sender (senders_of xs) ≡ false
-                there [] h = refl
-                there (z ∷ zs) h =
-                    let parts = or_parts (z.sender == x.sender) (has_number x.sender (senders_of (zs ++ ys))) h in
-                    ap₂ (λ (b c : Bool). b || c) parts.0 (there zs parts.1)
         step false false = same_left
 
-  pub pipe_parted : pipe_from (pipes_of (parted_from n p)) a
-      ≡ (if (if (a == n) || has_number a (senders_of es) then has_number a (senders_of (parted_from n p).expired.pipes) else true) then pipe_from (pipes_of p) a else None)
-  pipe_parted = step (pipe_from p.incoming.pipes n) refl
+  pub pipe_cut : pipe_from (pipes_of (cut_from n p)) a
+      ≡ (if (if (a == n) || has_number a (senders_of es) then has_number a (senders_of (cut_from n p).expired.pipes) else true) then pipe_from (pipes_of p) a else None)
+  pipe_cut = step (pipe_from p.incoming.pipes n) refl
     where
       step : (o : Option PipeState) → pipe_from p.incoming.pipes n ≡ o → IsLeft (with_expired p.expired o).pipes
       step None at = same_left
