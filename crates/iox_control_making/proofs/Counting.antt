@@ -78,12 +78,12 @@ among_role role ports n apart has =
 
 -- ---- what lanes count that count alike for each receiver of a role
 
-module _ (t : HubTables) (order : AreInOrder t) (none : KeepsNone t.settings) (f : LaneState → ℕ) (b : Role → ℕ)
+module _ (t : HubTables) (order : AreInOrder t) (keeps : KeepsNone t.settings) (f : LaneState → ℕ) (b : Role → ℕ)
     (alike : (w : Way) (l : LaneState) (p : PortState) → lane_on t.ports w ≡ Some l → port_in t.ports w.receiver ≡ Some p → f l ≡ b p.role)
   where
     module _ (p : PortState) (there : port_in t.ports p.number ≡ Some p) where
       senders : senders_of (pipes_of p) ≡ numbers_of_role (other_role p.role) t.ports
-      senders = ap (λ es. senders_of (es ++ p.incoming.pipes)) (nothing_is_kept t p.number p order none there) ∙ (order.wired.each p.number p there).senders
+      senders = ap (λ es. senders_of (es ++ p.incoming.pipes)) (nothing_is_kept t p.number p order keeps there) ∙ (order.wired.each p.number p there).senders
 
       pipes_to_it : pipes_to t.ports p.number ≡ pipes_of p
       pipes_to_it = ap (λ (o : Option PortState). option_map_or pipes_of o []) there
