@@ -146,6 +146,11 @@ place_in ports n = position_from (λ p. p.number == n) 0 ports
 abbrev pub info_at : List PortState → ℕ → Option PortInfo
 info_at ports place = option_map info_of (slice_get ports place)
 
+-- how many pipes from ports that are gone lead to the port in that place
+abbrev pub kept_at : List PortState → ℕ → ℕ
+kept_at ports place =
+    option_map_or (λ (p : PortState). length p.expired.pipes) (slice_get ports place) 0
+
 -- the lowest lane from the sender on which the receiver left something to get back
 abbrev pub lane_to_get_on : List PipeState → ℕ → Option ℕ
 lane_to_get_on ps sender = option_map_or lane_to_get (pipe_from ps sender) None

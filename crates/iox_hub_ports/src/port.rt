@@ -1,6 +1,6 @@
 //! A connected port, and what comes to it.
 ghost use Rattle.std.specs.Option.{option_map};
-ghost use Rattle.std.specs.Prelude.{◌≡◌, ◌<◌, ◌+◌, ◌^◌, ◌-◌, IfSome, None, Some, List, is_some, slice_get, ℕ, true};
+ghost use Rattle.std.specs.Prelude.{◌≡◌, ◌<◌, ◌+◌, ◌^◌, ◌-◌, IfSome, None, Some, List, is_some, length, slice_get, ℕ, true};
 ghost use Rattle.iox_tables.specs.HubStates.Asks.{waits_for};
 ghost use Rattle.iox_tables.specs.HubStates.Receives.{both_visits, visited_port};
 ghost use Rattle.iox_tables.specs.Visits.TheVariants.{AtLimit};
@@ -86,6 +86,13 @@ impl Port {
         ensures { result ≡ self.now.role }
     {
         self.info.role
+    }
+
+    /// How many pipes from ports that are gone lead to it.
+    pub fn kept(&self) -> usize
+        ensures { result ≡ length self.now.expired.pipes }
+    {
+        self.expired.len()
     }
 
     /// Counts one loan more.

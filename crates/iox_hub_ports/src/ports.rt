@@ -12,7 +12,7 @@ ghost use Rattle.iox_tables.specs.HubStates.Receives.{visited_port};
 ghost use Rattle.iox_tables.specs.HubStates.Tables.{numbers_of, pipes_to, port_in};
 ghost use Rattle.iox_tables.specs.HubMaking.OneByOne.{without_first_pipe};
 ghost use Rattle.iox_tables.specs.HubStates.Ways.{with_lane_on, with_port, with_state_on};
-ghost use Rattle.iox_hub_ports.specs.Ports.{gone_from, info_at, info_in, no_ports, on_way, place_in, with_connected, with_loan_counted};
+ghost use Rattle.iox_hub_ports.specs.Ports.{gone_from, info_at, info_in, kept_at, no_ports, on_way, place_in, with_connected, with_loan_counted};
 ghost use Rattle.iox_hub_ports.specs.Ports.{with_port_added, with_port_removed, with_ports, without_value};
 
 mod sender;
@@ -209,6 +209,16 @@ impl Ports {
             return Some(self.ports[place].info());
         }
         None
+    }
+
+    /// How many pipes from ports that are gone lead to the port in that place.
+    pub fn kept(&self, place: usize) -> usize
+        ensures { result ≡ kept_at self.now.ports place }
+    {
+        if place < self.ports.len() {
+            return self.ports[place].kept();
+        }
+        0
     }
 
     /// Counts one loan more of the port of that number.
