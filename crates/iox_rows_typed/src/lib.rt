@@ -4,8 +4,6 @@
 #[cfg(test)]
 mod copies;
 #[cfg(test)]
-mod defaults;
-#[cfg(test)]
 mod errors;
 #[cfg(test)]
 mod exchange;
