@@ -7,7 +7,6 @@ mod client;
 mod copies;
 mod errors;
 mod headers;
-pub mod laws;
 mod loans;
 mod overrides;
 mod pending_response;
@@ -26,8 +25,6 @@ pub mod uses_copying;
 pub mod uses_exchange;
 pub mod uses_filling;
 pub mod uses_headers;
-pub mod uses_keeping;
-pub mod uses_laws;
 pub mod uses_limits;
 pub mod uses_reaching;
 pub mod uses_reading;
@@ -41,7 +38,6 @@ pub use errors::{
 };
 pub use iox_hub_laws::{
     Hub, MessageShape, Part, PreallocatedRequestsOverride, PreallocatedResponseOverride, Settings,
-    default_settings,
 };
 pub use iox_model::kind::{Kind, Role};
 pub use iox_store::{Many, One, Payload};
