@@ -1,6 +1,8 @@
 -- Creators and openers are asked what the description says.
 use Rattle.std.specs.Prelude.{◌≡◌, ℕ, List, Option, Result, Ok, Err, OnErr, refl}
-use Rattle.std.proofs.Common.{subst, sym}
+use Rattle.std.specs.declared.convert.Infallible.{Infallible}
+use Rattle.std.specs.declared.vec.Vec.{Vec}
+use Rattle.std.proofs.Common.{ap, subst, sym, ◌∙◌}
 use Rattle.iox_types.specs.declared.identifiers.system_id.UniqueSystemId.{UniqueSystemId}
 use Rattle.iox_attributes.specs.Verifiers.{Requirements}
 use Rattle.iox_attributes.specs.declared.verification_error.AttributeVerificationError.{AttributeVerificationError}
@@ -8,7 +10,11 @@ use Rattle.iox_model.specs.declared.command.Command as the_command
 use Rattle.iox_model.specs.declared.command.Command.TheVariants as commands
 use Rattle.iox_model.specs.declared.command.PortCommand as the_port_command
 use Rattle.iox_model.specs.declared.reply.Refusal as the_refusal
-use Rattle.iox_model.specs.Commands.{Refusal}
+use Rattle.iox_model.specs.declared.reply.Refusal.TheVariants as refusals
+use Rattle.iox_model.specs.declared.reply.Reply.TheVariants as replies
+use Rattle.iox_model.specs.declared.reply.Reply as the_reply
+use Rattle.iox_model.specs.Commands.{Cause, Refusal, Reply}
+use Rattle.iox_model.specs.Services.{IsCommand}
 use Rattle.iox_model.specs.Settings.{Limits}
 use Rattle.iox_model.specs.States.{State}
 use Rattle.iox_service_laws.specs.MessageShape.{MessageShape}
@@ -18,12 +24,13 @@ use Rattle.iox_openers.specs.declared.message_types.MessageTypes.{MessageTypes}
 use Rattle.iox_openers.specs.declared.service_description.ServiceDescription.{ServiceDescription}
 use Rattle.iox_service_laws.specs.Asking.{command_for}
 use Rattle.iox_service_laws.specs.Elements.{Elements}
-use Rattle.iox_service_laws.specs.Given.{command_given}
-use Rattle.iox_service_laws.specs.Memory.{WantsRightly}
+use Rattle.iox_service_laws.specs.Given.{command_given, reply_given}
+use Rattle.iox_service_laws.specs.Memory.{PortWantsRightly, WantsRightly}
 use Rattle.iox_service_laws.specs.Served.{IsCreated, IsJoin, IsPortAnswered}
 use Rattle.iox_service_laws.specs.Shown.{ServiceTables}
 use Rattle.iox_service_laws.specs.Shown as nodes
-use Rattle.iox_service_laws.proofs.Wanting.{given_wants, port_given_wants}
+use Rattle.iox_service_laws.proofs.Wanting.{given_wants, no_memory_told, no_segment_told, port_given_wants}
+use Rattle.iceoryx2_wire.specs.Replies.{IsSameReply}
 use Rattle.iceoryx2_wire.specs.Services.{DescribedService, IsMade, IsOpened}
 use Rattle.iceoryx2_wire.specs.Serving.{IsAnswered, IsGivenAs, OpenCommand, OpenReply}
 use Rattle.iceoryx2_wire.specs.declared.identity.ServiceIdentity.{ServiceIdentity}
@@ -69,7 +76,38 @@ pub port_answered :
 port_answered q p w d s s' command at_port reply is done =
     subst (λ k. IsAnswered q p w d s k reply s') (sym is) (commands.Port (command_for q p w at_port), refl, done cause_of)
 
+-- no attribute is named where there is no room for one
+no_cause : Infallible → Cause
+no_cause cause = elim cause [ ]
+
+-- what is answered without room for an attribute is answered so with it
+pub with_room : {Q P H Z : Type 0} (q : Q → List ℕ) (p : P → List ℕ) (words : H → List ℕ) (s s' : State)
+    (command : the_port_command.PortCommand (Elements Q P) H) (reply : the_reply.Reply (Vec ℕ Z) Infallible) (other : OpenReply Z)
+    → IsSameReply reply other → IsPortAnswered q p words s command reply s' → IsPortAnswered q p words s command other s'
+with_room q p words s s' command reply other same answered cause =
+    subst (λ r. IsCommand s (commands.Port (command_for q p words command)) r s') (sym (same no_cause cause)) (answered no_cause)
+
 -- ---- want of memory
+
+told_without_room : {Z : Type 0} (reply : the_reply.Reply (Vec ℕ Z) Infallible) → reply_given no_cause reply ≡ replies.Refused refusals.WantOfMemory
+    → reply ≡ replies.Refused refusals.WantOfMemory
+told_without_room (replies.Refused refusals.WantOfMemory) e = refl
+told_without_room (replies.Refused r) e = no_memory_told _ _ refl e
+told_without_room reply e = no_memory_told _ _ refl e
+
+refused_without_room : {Z : Type 0} (reply : the_reply.Reply (Vec ℕ Z) Infallible)
+    → reply_given no_cause reply ≡ replies.Refused refusals.UnableToCreateDataSegment → reply ≡ replies.Refused refusals.UnableToCreateDataSegment
+refused_without_room (replies.Refused refusals.UnableToCreateDataSegment) e = refl
+refused_without_room (replies.Refused r) e = no_segment_told _ _ refl e
+refused_without_room reply e = no_segment_told _ _ refl e
+
+-- what is told without room for an attribute is told so with it
+pub with_room_wants : {E H Z : Type 0} (command : the_port_command.PortCommand E H) (reply : the_reply.Reply (Vec ℕ Z) Infallible) (other : OpenReply Z)
+    → IsSameReply reply other → PortWantsRightly command reply → PortWantsRightly command other
+with_room_wants command reply other same wants = record {
+  memory = λ e. wants.memory (told_without_room reply (sym (same no_cause cause_of) ∙ ap (reply_given cause_of) e));
+  segment = λ e. wants.segment (refused_without_room reply (sym (same no_cause cause_of) ∙ ap (reply_given cause_of) e));
+}
 
 -- who opens the service is no matter to it
 pub compared_wants :

@@ -69,3 +69,4 @@ pub use Rattle.iox_service_laws.specs.OrderLaws
 pub mod Services
 pub mod OwnTypes
 pub mod Serving
+pub mod Replies

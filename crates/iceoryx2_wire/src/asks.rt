@@ -4,6 +4,7 @@ ghost use Rattle.iox_service_laws.specs.Memory.{PortWantsRightly};
 ghost use Rattle.iox_service_laws.specs.Served.{IsPortAnswered};
 ghost use Rattle.iceoryx2_wire.specs.Services.{service_of};
 
+use crate::replies::reply_of;
 use crate::service::Service;
 use iox_attributes::AttributeVerificationError;
 use iox_model::command::PortCommand;
@@ -18,20 +19,17 @@ impl<Q: Payload, QH: Words, P: Payload, PH: Words> Service<Q, QH, P, PH> {
     /// which its node opened the service. It is refused as `UnknownNode` or `NodeIsDead` before all
     /// that the port tests. Where there is no memory for a port or for what is read, that is a
     /// reply, too; no other command is told so.
-    ///
-    /// It stands in its callers, since a call would copy the command and the reply once more.
-    #[inline(always)]
     pub fn port<H: Words>(
         &mut self,
         alloc: Global,
         command: PortCommand<Elements<Q::Element, P::Element>, H>,
-    ) -> Reply<Vec<u64>, AttributeVerificationError<'static>>
+    ) -> Reply<Vec<u64>, AttributeVerificationError>
         ensures answered { IsPortAnswered Q.Element.words P.Element.words H.words
             (service_of self.old) command result (service_of self.new) }
         ensures want { PortWantsRightly command result }
         ensures says { self.new.description ≡ self.old.description }
         ensures identity { self.new.identity ≡ self.old.identity }
     {
-        self.nodes.port(alloc, command)
+        reply_of(self.nodes.port(alloc, command))
     }
 }

@@ -42,7 +42,7 @@ where
         requests: Defaults<Q::Element, QH>,
         responses: Defaults<P::Element, PH>,
         id: UniqueSystemId,
-    ) -> Result<Self, Refusal<AttributeVerificationError<'static>>>
+    ) -> Result<Self, Refusal<AttributeVerificationError>>
         ensures { let of_requests = detail FixedSize QH.name QH.SIZE QH.ALIGNMENT in
             let request = detail (variant_of Q.MANY) Q.Element.name Q.Element.SIZE
             Q.Element.ALIGNMENT in

@@ -11,6 +11,7 @@ mod listings;
 mod opener;
 mod opening;
 mod own_types;
+mod replies;
 mod service;
 mod serving;
 pub mod uses;

@@ -14,19 +14,18 @@ use iox_words::Words;
 
 impl<Q: Payload, QH: Words, P: Payload, PH: Words> Service<Q, QH, P, PH> {
     /// A node opens the service, with these four numbers as its id; its number is how many joined
-    /// before it. `types` are those of its messages, and the verifier has what it requires. An
-    /// attribute that is missing is lent from the verifier.
+    /// before it. `types` are those of its messages, and the verifier has what it requires.
     ///
     /// It is refused as `MarkedForDestruction` once the service is closed, as `InvalidNodeId`, as
     /// `NodeIdInUse`, as `IncompatibleRequestTypes`, `IncompatibleResponseTypes` or
     /// `IncompatibleAttributes`, as `ExceedsMaxNumberOfNodes`, and as `WantOfMemory`, in this
     /// order. It is told of want of memory, too, once 2^64 - 1 nodes joined.
-    pub fn open<'a>(
+    pub fn open(
         &mut self,
         types: &MessageTypes,
-        verifier: &'a AttributeVerifier,
+        verifier: &AttributeVerifier,
         id: UniqueSystemId,
-    ) -> Result<u64, Refusal<AttributeVerificationError<'a>>>
+    ) -> Result<u64, Refusal<AttributeVerificationError>>
         ensures opened { IsOpened self.old types.now verifier.now id result self.new }
         ensures unchanged { OnErr result (self.new ≡ self.old) }
     {
@@ -36,10 +35,7 @@ impl<Q: Payload, QH: Words, P: Payload, PH: Words> Service<Q, QH, P, PH> {
 
     /// A node is declared dead: it asks nothing more. Its ports stay connected, and its number and
     /// its id stay in use, until it is cleaned up. It is refused as `UnknownNode` or `NodeIsDead`.
-    pub fn declare_dead(
-        &mut self,
-        node: u64,
-    ) -> Result<(), Refusal<AttributeVerificationError<'static>>>
+    pub fn declare_dead(&mut self, node: u64) -> Result<(), Refusal<AttributeVerificationError>>
         ensures done { IsDone (service_of self.old) (DeclareDead node) result
             (service_of self.new) }
         ensures says { self.new.description ≡ self.old.description }
@@ -51,7 +47,7 @@ impl<Q: Payload, QH: Words, P: Payload, PH: Words> Service<Q, QH, P, PH> {
 
     /// A node leaves; the last one closes the service for good. It is refused as `UnknownNode`,
     /// `NodeIsDead`, or `HasPorts` while a port or a handle of it is not released.
-    pub fn leave(&mut self, node: u64) -> Result<(), Refusal<AttributeVerificationError<'static>>>
+    pub fn leave(&mut self, node: u64) -> Result<(), Refusal<AttributeVerificationError>>
         ensures done { IsDone (service_of self.old) (Leave node) result (service_of self.new) }
         ensures says { self.new.description ≡ self.old.description }
         ensures identity { self.new.identity ≡ self.old.identity }
@@ -63,7 +59,7 @@ impl<Q: Payload, QH: Words, P: Payload, PH: Words> Service<Q, QH, P, PH> {
     /// A dead node is cleaned up: its ports and handles are released, in the order of their
     /// numbers, and then it is gone. The last one closes the service for good. It is refused as
     /// `UnknownNode` or `NodeIsAlive`.
-    pub fn cleanup(&mut self, node: u64) -> Result<(), Refusal<AttributeVerificationError<'static>>>
+    pub fn cleanup(&mut self, node: u64) -> Result<(), Refusal<AttributeVerificationError>>
         ensures done { IsDone (service_of self.old) (Cleanup node) result (service_of self.new) }
         ensures says { self.new.description ≡ self.old.description }
         ensures identity { self.new.identity ≡ self.old.identity }

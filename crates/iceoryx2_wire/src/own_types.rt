@@ -64,7 +64,7 @@ fn suit<H: ZeroCopySend, U: ZeroCopySend, E: ZeroCopySend>(
 /// types, if it is refused.
 pub(crate) fn creator_refusal<Q: Payload, QH: ZeroCopySend, P: Payload, PH: ZeroCopySend>(
     given: &MessageTypes,
-) -> Option<Refusal<AttributeVerificationError<'static>>>
+) -> Option<Refusal<AttributeVerificationError>>
 where
     Q::Element: ZeroCopySend,
     P::Element: ZeroCopySend,

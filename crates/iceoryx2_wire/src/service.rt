@@ -10,7 +10,6 @@ use iox_names::ServiceName;
 use iox_openers::ServiceDescription;
 use iox_store::Payload;
 use iox_words::Words;
-use std::fmt;
 use std::marker::Model;
 
 /// A service: which one it is, what its creator and its openers are compared with, its nodes, and
@@ -36,14 +35,6 @@ impl<Q: Payload, QH: Words, P: Payload, PH: Words> Model for Service<Q, QH, P, P
       description = s.description;
       nodes = s.nodes;
     } };
-}
-
-/// Its name and its number alone, since its tables are long.
-impl<Q: Payload, QH: Words, P: Payload, PH: Words> fmt::Debug for Service<Q, QH, P, PH> {
-    fn fmt<W: fmt::Write>(&self, f: &mut fmt::Formatter<W>) -> fmt::Result {
-        let ServiceIdentity { name, number } = &self.identity;
-        write!(f, "Service {{ name: {name:?}, number: {number}, .. }}")
-    }
 }
 
 impl<Q: Payload, QH: Words, P: Payload, PH: Words> Service<Q, QH, P, PH> {

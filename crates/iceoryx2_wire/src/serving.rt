@@ -5,11 +5,13 @@ ghost use Rattle.iox_openers.specs.Causes.{cause_of};
 ghost use Rattle.iox_service_laws.specs.Given.{command_given, is_listing};
 ghost use Rattle.iox_service_laws.specs.Memory.{WantsRightly};
 ghost use Rattle.iox_service_laws.specs.Served.{IsListingAt};
+ghost use Rattle.iceoryx2_wire.specs.Replies.{IsAnsweredBehind};
 ghost use Rattle.iceoryx2_wire.specs.Services.{service_of};
 ghost use Rattle.iceoryx2_wire.specs.Serving.{IsAnswered, IsAnsweredWithMemory, IsGivenAs};
 ghost use Rattle.iceoryx2_wire.specs.Serving.{IsRunOf, MayFindNoMemory};
 
 use crate::opener::Opener;
+use crate::replies::reply_of;
 use crate::service::Service;
 use iox_attributes::AttributeVerificationError;
 use iox_model::command::Command;
@@ -21,10 +23,10 @@ use iox_words::Words;
 use std::alloc::{AllocError, Global};
 
 /// The same command, with what the description asks of an opener in place of the opener.
-fn compared<'a, Q, P, H>(
+fn compared<Q, P, H>(
     description: &ServiceDescription,
-    command: Command<Elements<Q, P>, H, &'a Opener>,
-) -> Command<Elements<Q, P>, H, Option<Refusal<AttributeVerificationError<'a>>>>
+    command: Command<Elements<Q, P>, H, &Opener>,
+) -> Command<Elements<Q, P>, H, Option<Refusal<AttributeVerificationError>>>
     ensures given { (q : Q → List ℕ) (p : P → List ℕ) (words : H → List ℕ) →
         IsGivenAs q p words description.now command.entry
         (command_given q p words cause_of result) }
@@ -52,11 +54,11 @@ impl<Q: Payload, QH: Words, P: Payload, PH: Words> Service<Q, QH, P, PH> {
     ///
     /// For a port that is too large, that has a handler or whose messages would grow, a service
     /// never has memory. Nor has it for a join once 2^64 - 1 nodes joined.
-    pub fn try_serve<'a, H: Words>(
+    pub fn try_serve<H: Words>(
         &mut self,
         alloc: Global,
-        command: Command<Elements<Q::Element, P::Element>, H, &'a Opener>,
-    ) -> Result<Reply<Vec<u64>, AttributeVerificationError<'a>>, AllocError>
+        command: Command<Elements<Q::Element, P::Element>, H, &Opener>,
+    ) -> Result<Reply<Vec<u64>, AttributeVerificationError>, AllocError>
         ensures answered { IfOk result (λ reply. IsAnsweredWithMemory Q.Element.words
             P.Element.words H.words self.old.description (service_of self.old) command.entry reply
             (service_of self.new)) }
@@ -72,13 +74,13 @@ impl<Q: Payload, QH: Words, P: Payload, PH: Words> Service<Q, QH, P, PH> {
 
     /// Answers a command. A node that opens the service is compared with what the service says of
     /// itself, as by `open`. It fails only for want of memory for a listing, and changes nothing
-    /// then. Want of memory for a join, for a port and for a read is a reply, as the machine has
-    /// it; no other command is told so.
-    pub fn serve<'a, H: Words>(
+    /// then. Want of memory for a join, for a port and for a read is a reply, as the machine has it;
+    /// no other command is told so.
+    pub fn serve<H: Words>(
         &mut self,
         alloc: Global,
-        command: Command<Elements<Q::Element, P::Element>, H, &'a Opener>,
-    ) -> Result<Reply<Vec<u64>, AttributeVerificationError<'a>>, AllocError>
+        command: Command<Elements<Q::Element, P::Element>, H, &Opener>,
+    ) -> Result<Reply<Vec<u64>, AttributeVerificationError>, AllocError>
         ensures answered { IfOk result (λ reply. IsAnswered Q.Element.words P.Element.words H.words
             self.old.description (service_of self.old) command.entry reply (service_of self.new)) }
         ensures want { IfOk result (λ reply. WantsRightly command.entry reply) }
@@ -94,11 +96,11 @@ impl<Q: Payload, QH: Words, P: Payload, PH: Words> Service<Q, QH, P, PH> {
     }
 
     /// The same of any command, at a greater cost for one of a port or a handle.
-    fn serve_compared<'a, H: Words>(
+    fn serve_compared<H: Words>(
         &mut self,
         alloc: Global,
-        command: Command<Elements<Q::Element, P::Element>, H, &'a Opener>,
-    ) -> Result<Reply<Vec<u64>, AttributeVerificationError<'a>>, AllocError>
+        command: Command<Elements<Q::Element, P::Element>, H, &Opener>,
+    ) -> Result<Reply<Vec<u64>, AttributeVerificationError>, AllocError>
         ensures answered { IfOk result (λ reply. IsAnswered Q.Element.words P.Element.words H.words
             self.old.description (service_of self.old) command.entry reply (service_of self.new)) }
         ensures want { IfOk result (λ reply. WantsRightly command.entry reply) }
@@ -111,15 +113,71 @@ impl<Q: Payload, QH: Words, P: Payload, PH: Words> Service<Q, QH, P, PH> {
         self.nodes.serve(alloc, command)
     }
 
+    /// Answers a command, and puts the reply behind the others, for which there is room. It fails
+    /// only for want of memory for a listing, and changes nothing then.
+    fn answer<H: Words>(
+        &mut self,
+        alloc: Global,
+        command: Command<Elements<Q::Element, P::Element>, H, &Opener>,
+        replies: &mut Vec<Reply<Vec<u64>, AttributeVerificationError>>,
+    ) -> Result<(), AllocError>
+        requires room { vec_len replies.old < vec_capacity replies.old }
+        ensures answered { OnOk result (IsAnsweredBehind Q.Element.words P.Element.words
+            H.words self.old.description (service_of self.old) command.entry replies.old.items
+            replies.new.items (service_of self.new)) }
+        ensures length { OnOk result (vec_len replies.new ≡ vec_len replies.old + 1) }
+        ensures capacity { vec_capacity replies.new ≡ vec_capacity replies.old }
+        ensures says { self.new.description ≡ self.old.description }
+        ensures identity { self.new.identity ≡ self.old.identity }
+        ensures unchanged { OnErr result (self.new ≡ self.old) }
+        ensures kept { OnErr result (replies.new ≡ replies.old) }
+        ensures listing { OnErr result (is_listing command.entry ≡ true) }
+    {
+        match command {
+            Command::Port(command) => {
+                let reply = self.nodes.port(alloc, command);
+                replies.push_reserved(reply_of(reply));
+                Ok(())
+            }
+            command => self.answer_compared(alloc, command, replies),
+        }
+    }
+
+    /// The same of any command, at a greater cost for one of a port or a handle. It is a call of
+    /// its own, so that the others make no room for a reply once more.
+    #[inline(never)]
+    fn answer_compared<H: Words>(
+        &mut self,
+        alloc: Global,
+        command: Command<Elements<Q::Element, P::Element>, H, &Opener>,
+        replies: &mut Vec<Reply<Vec<u64>, AttributeVerificationError>>,
+    ) -> Result<(), AllocError>
+        requires room { vec_len replies.old < vec_capacity replies.old }
+        ensures answered { OnOk result (IsAnsweredBehind Q.Element.words P.Element.words
+            H.words self.old.description (service_of self.old) command.entry replies.old.items
+            replies.new.items (service_of self.new)) }
+        ensures length { OnOk result (vec_len replies.new ≡ vec_len replies.old + 1) }
+        ensures capacity { vec_capacity replies.new ≡ vec_capacity replies.old }
+        ensures says { self.new.description ≡ self.old.description }
+        ensures identity { self.new.identity ≡ self.old.identity }
+        ensures unchanged { OnErr result (self.new ≡ self.old) }
+        ensures kept { OnErr result (replies.new ≡ replies.old) }
+        ensures listing { OnErr result (is_listing command.entry ≡ true) }
+    {
+        let reply = self.serve_compared(alloc, command)?;
+        replies.push_reserved(reply);
+        Ok(())
+    }
+
     /// Answers commands one after another, and puts each reply behind the others. It ends before
     /// the command whose reply finds no room, and before a listing for which there is no memory;
     /// what was answered until then stays. So where there is room for one reply more, the command
     /// before which it ends is a listing.
-    pub fn run<'a, H: Words>(
+    pub fn run<H: Words>(
         &mut self,
         alloc: Global,
-        commands: Vec<Command<Elements<Q::Element, P::Element>, H, &'a Opener>>,
-        replies: &mut Vec<Reply<Vec<u64>, AttributeVerificationError<'a>>>,
+        commands: Vec<Command<Elements<Q::Element, P::Element>, H, &Opener>>,
+        replies: &mut Vec<Reply<Vec<u64>, AttributeVerificationError>>,
     ) -> Result<(), AllocError>
         ensures ran { IsRunOf Q.Element.words P.Element.words H.words self.old.description
             (service_of self.old) commands.entry.items replies.old.items replies.new.items
@@ -136,8 +194,7 @@ impl<Q: Payload, QH: Words, P: Payload, PH: Words> Service<Q, QH, P, PH> {
     {
         for command in commands {
             replies.reserve(1)?;
-            let reply = self.serve(alloc, command)?;
-            replies.push_reserved(reply);
+            self.answer(alloc, command, replies)?;
         }
         Ok(())
     }

@@ -1,5 +1,5 @@
 //! Callers of a service, with no proof of their own.
-ghost use Rattle.std.specs.Prelude.{◌≡◌, IfOk, OnErr, vec_len};
+ghost use Rattle.std.specs.Prelude.{◌≡◌, [], IfOk, OnErr, vec_len};
 ghost use Rattle.iox_words.specs.Numbers.{no_word, one_word};
 ghost use Rattle.iox_model.specs.declared.command.Command.TheVariants.{Cleanup, ListNodes};
 ghost use Rattle.iox_model.specs.Runs.{IsServed};
@@ -9,9 +9,10 @@ ghost use Rattle.iceoryx2_wire.specs.Serving.{IsAnsweredWithMemory};
 
 use crate::opener::Opener;
 use crate::service::Service;
-use iox_attributes::AttributeVerificationError;
+use iox_attributes::{AttributeVerificationError, AttributeVerifier};
 use iox_model::command::Command;
 use iox_model::reply::{Refusal, Reply};
+use iox_openers::MessageTypes;
 use iox_service_laws::Elements;
 use iox_store::{Many, One};
 use iox_types::identifiers::UniqueSystemId;
@@ -20,27 +21,25 @@ use std::alloc::{AllocError, Global};
 /// Requests of bytes, and responses that are a number each.
 type Bytes = Service<Many<u8>, (), One<u64>, ()>;
 
-/// A node opens the service. Where an attribute is missing, the refusal lends it from the opener.
-pub fn opens<'a>(
+/// A node opens the service, and requires nothing of its attributes.
+pub fn opens(
     service: &mut Bytes,
-    opener: &'a Opener,
+    types: &MessageTypes,
     id: UniqueSystemId,
-) -> Result<u64, Refusal<AttributeVerificationError<'a>>>
-    ensures opened { IsOpened service.old opener.now.types opener.now.required id result
+) -> Result<u64, Refusal<AttributeVerificationError>>
+    ensures opened { IsOpened service.old types.now (record { pairs = []; keys = [] }) id result
         service.new }
     ensures unchanged { OnErr result (service.new ≡ service.old) }
     ensures served { IsServed (service_of service.new) }
 {
-    let number = service.open(&opener.types, &opener.verifier, id);
+    let verifier = AttributeVerifier::new();
+    let number = service.open(types, &verifier, id);
     service.is_served();
     number
 }
 
 /// A dead node is cleaned up, and the service says of itself what it said.
-pub fn cleans_up(
-    service: &mut Bytes,
-    node: u64,
-) -> Result<(), Refusal<AttributeVerificationError<'static>>>
+pub fn cleans_up(service: &mut Bytes, node: u64) -> Result<(), Refusal<AttributeVerificationError>>
     ensures done { IsDone (service_of service.old) (Cleanup node) result (service_of service.new) }
     ensures says { service.new.description ≡ service.old.description }
 {
@@ -48,11 +47,11 @@ pub fn cleans_up(
 }
 
 /// Commands are run, and each has its reply. The machine can reach the state that is left.
-pub fn runs<'a>(
+pub fn runs(
     service: &mut Bytes,
     alloc: Global,
-    commands: Vec<Command<Elements<u8, u64>, u64, &'a Opener>>,
-) -> Result<Vec<Reply<Vec<u64>, AttributeVerificationError<'a>>>, AllocError>
+    commands: Vec<Command<Elements<u8, u64>, u64, &Opener>>,
+) -> Result<Vec<Reply<Vec<u64>, AttributeVerificationError>>, AllocError>
     ensures each { IfOk result (λ replies. vec_len replies ≡ vec_len commands.entry) }
     ensures served { IsServed (service_of service.new) }
 {
@@ -67,7 +66,7 @@ pub fn runs<'a>(
 pub fn lists(
     service: &mut Bytes,
     alloc: Global,
-) -> Result<Reply<Vec<u64>, AttributeVerificationError<'static>>, AllocError>
+) -> Result<Reply<Vec<u64>, AttributeVerificationError>, AllocError>
     ensures answered { IfOk result (λ reply. IsAnsweredWithMemory one_word one_word no_word
         service.old.description (service_of service.old) ListNodes reply (service_of service.new)) }
     ensures unchanged { OnErr result (service.new ≡ service.old) }

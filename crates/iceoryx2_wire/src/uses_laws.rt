@@ -134,13 +134,13 @@ pub fn dies(service: &mut Bytes, alloc: Global, node: u64) -> bool
 
 /// A node dies, and then commands are run. Where all this is done, whatever they were, the dead
 /// node may ask a server for nothing.
-pub fn goes_on_without<'a>(
+pub fn goes_on_without(
     service: &mut Bytes,
     alloc: Global,
     node: u64,
     number: u64,
-    commands: Vec<Command<Elements<u8, u64>, u64, &'a Opener>>,
-    replies: &mut Vec<Reply<Vec<u64>, AttributeVerificationError<'a>>>,
+    commands: Vec<Command<Elements<u8, u64>, u64, &Opener>>,
+    replies: &mut Vec<Reply<Vec<u64>, AttributeVerificationError>>,
 ) -> bool
     ensures { result ≡ true →
         IsRefusedToTheDead (service_of service.new) node (Port (HasRequests node number)) }
@@ -155,14 +155,14 @@ pub fn goes_on_without<'a>(
 
 /// A node dies, commands are run, and then the dead node asks something. It is refused as dead, or
 /// as unknown if it was cleaned up meanwhile.
-pub fn asks_when_dead<'a>(
+pub fn asks_when_dead(
     service: &mut Bytes,
     alloc: Global,
     node: u64,
     number: u64,
-    commands: Vec<Command<Elements<u8, u64>, u64, &'a Opener>>,
-    replies: &mut Vec<Reply<Vec<u64>, AttributeVerificationError<'a>>>,
-) -> Option<Reply<Vec<u64>, AttributeVerificationError<'static>>>
+    commands: Vec<Command<Elements<u8, u64>, u64, &Opener>>,
+    replies: &mut Vec<Reply<Vec<u64>, AttributeVerificationError>>,
+) -> Option<Reply<Vec<u64>, AttributeVerificationError>>
     ensures { (cause : causes.AttributeVerificationError → machine.Cause) →
         IfSome result (λ reply. reply_given cause reply
         ≡ Refused (if is_member (service_of service.new) node then NodeIsDead else UnknownNode)) }

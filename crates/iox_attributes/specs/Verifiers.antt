@@ -50,17 +50,11 @@ pub record IsFirstMissing (required : List (List ℕ)) (defined : List Attribute
   -- the key is not defined
   pub missing : has_key defined key ≡ false
 
--- a pair with that key and that value is missing: the least such
-abbrev pub LacksPair : Requirements → List Attribute → (key value : List ℕ) → Type 0
-LacksPair required defined key value = IsLeastMissing required.pairs defined (pair key value)
-
--- no pair is missing, but that key: the first such
-abbrev pub LacksKey : Requirements → List Attribute → (key : List ℕ) → Type 0
-LacksKey required defined key =
-    IsTrue (list_all (has_pair defined) required.pairs) × IsFirstMissing required.keys defined key
-
 -- why what is defined does not meet what is required
 abbrev pub Lacks : Requirements → List Attribute → AttributeVerificationError → Type 0
+-- a pair is missing: the least such
 Lacks required defined (IncompatibleAttribute key value) =
-    LacksPair required defined key.now value.now
-Lacks required defined (NonExistingKey key) = LacksKey required defined key.now
+    IsLeastMissing required.pairs defined (pair key value)
+-- no pair is missing, but a key: the first such
+Lacks required defined (NonExistingKey key) =
+    IsTrue (list_all (has_pair defined) required.pairs) × IsFirstMissing required.keys defined key

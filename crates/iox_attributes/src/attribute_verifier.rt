@@ -129,21 +129,23 @@ impl AttributeVerifier {
         self.keys.as_slice()
     }
 
-    /// Whether a service of these attributes has all that is required, or else what is missing,
-    /// lent from this verifier.
-    pub fn verify_requirements<'a>(
-        &'a self,
+    /// Whether a service of these attributes has all that is required, or else what is missing.
+    pub fn verify_requirements(
+        &self,
         defined: &AttributeSet,
-    ) -> Result<(), AttributeVerificationError<'a>>
+    ) -> Result<(), AttributeVerificationError>
         ensures meets { IfOk result (λ _. Meets self.now defined.now) }
         ensures lacks { IfErr result (λ e. Lacks self.now defined.now e) }
     {
         let defined = defined.as_slice();
         if let Some(pair) = missing_pair(self.attributes.as_slice(), defined) {
-            return Err(AttributeVerificationError::IncompatibleAttribute(pair.key(), pair.value()));
+            return Err(AttributeVerificationError::IncompatibleAttribute(
+                *pair.key(),
+                *pair.value(),
+            ));
         }
         if let Some(key) = missing_key(self.required_keys(), defined) {
-            return Err(AttributeVerificationError::NonExistingKey(key));
+            return Err(AttributeVerificationError::NonExistingKey(*key));
         }
         Ok(())
     }

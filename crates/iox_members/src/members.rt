@@ -135,8 +135,7 @@ impl Members {
     /// The id of a node that lives, or why it does not.
     pub fn living<C>(&self, node: u64) -> Result<UniqueNodeId, Refusal<C>>
         ensures refused { IsRefusedUnlessLiving self.now.members node result }
-        ensures lives { IfOk result (λ id.
-            node_in self.now.members node ≡ Some (new_node node id)) }
+        ensures lives { IfOk result (λ id. node_in self.now.members node ≡ Some (new_node node id)) }
     {
         let Some(member) = self.find(node) else {
             return Err(Refusal::UnknownNode);

@@ -44,9 +44,6 @@ impl<Q: Payload, QH: Words, P: Payload, PH: Words> Service<Q, QH, P, PH> {
     /// which its node joined. It is refused as `UnknownNode` or `NodeIsDead` before all that the
     /// hub tests. Where there is no memory for a port or for what is read, that is a reply, too; no
     /// other command is told so.
-    ///
-    /// It stands in its callers, since a call would copy the command and the reply once more.
-    #[inline(always)]
     pub fn port<H: Words, C>(
         &mut self,
         alloc: Global,

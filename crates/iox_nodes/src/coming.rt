@@ -65,8 +65,7 @@ impl<Q: Payload, QH: Words, P: Payload, PH: Words> Service<Q, QH, P, PH> {
     /// A node is declared dead: it asks nothing more. Its ports stay connected, and its number and
     /// its id stay in use, until it is cleaned up. It is refused as `UnknownNode` or `NodeIsDead`.
     pub fn declare_dead<C>(&mut self, node: u64) -> Result<(), Refusal<C>>
-        ensures done { IsDone (service_of self.old) (DeclareDead node) result
-            (service_of self.new) }
+        ensures done { IsDone (service_of self.old) (DeclareDead node) result (service_of self.new) }
         ensures unchanged { OnErr result (self.new ≡ self.old) }
     {
         self.members.declare_dead(node)

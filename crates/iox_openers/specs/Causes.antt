@@ -7,10 +7,10 @@ use Rattle.iox_model.specs.Commands.{Refusal, Cause, MissingPair, MissingKey}
 use Rattle.iox_model.specs.declared.reply.Refusal as the_refusal
 use Rattle.iox_model.specs.declared.reply.Refusal.TheVariants.{IncompatibleAttributes, UnknownNode, NodeIsDead, NodeIsAlive, UnknownNumber, ForeignNumber, WrongKind, CallsSpent, WrongLength, ExceedsMaxLoanSize, ExceedsMaxLoans, OutOfMemory, WantOfMemory, ExceedsMaxActiveRequests, UnableToDeliver, ExceedsMaxBorrows, UnableToCreatePortTag, UnableToCreateDataSegment, ExceedsMaxSupportedClients, ExceedsMaxSupportedServers, MarkedForDestruction, InvalidNodeId, NodeIdInUse, IncompatibleRequestTypes, IncompatibleResponseTypes, LimitTooLarge, ExceedsMaxNumberOfNodes, HasPorts, MessagesUnderWay, GrowingStrategy, HandlerSet, UnsuitableAlignment, TooManyWords, Busy, AtRest, AccessesSpent, NotOnThreads}
 
--- the cause that an error of the code names: which attribute is missing, wherever it stands
+-- the cause that an error of the code names: which attribute is missing
 abbrev pub cause_of : AttributeVerificationError → Cause
-cause_of (IncompatibleAttribute key value) = MissingPair key.now value.now
-cause_of (NonExistingKey key) = MissingKey key.now
+cause_of (IncompatibleAttribute key value) = MissingPair key value
+cause_of (NonExistingKey key) = MissingKey key
 
 -- the same refusal, with another cause of attributes
 abbrev pub with_cause : {A B : Type 0} → (A → B) → the_refusal.Refusal A → the_refusal.Refusal B

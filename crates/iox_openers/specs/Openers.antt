@@ -2,7 +2,8 @@
 use Rattle.std.specs.Prelude.{List, Option, Some, None}
 use Rattle.iox_types.specs.Compatibility.{AreCompatible}
 use Rattle.iox_names.specs.declared.attribute.Attribute.{Attribute}
-use Rattle.iox_attributes.specs.Verifiers.{Requirements, Meets, LacksPair, LacksKey}
+use Rattle.iox_attributes.specs.Verifiers.{Requirements, Meets, Lacks}
+use Rattle.iox_attributes.specs.declared.verification_error.AttributeVerificationError.TheVariants.{IncompatibleAttribute, NonExistingKey}
 use Rattle.iox_model.specs.Commands.{Refusal, Cause, MissingPair, MissingKey}
 use Rattle.iox_model.specs.declared.reply.Refusal.TheVariants.{IncompatibleRequestTypes, IncompatibleResponseTypes, IncompatibleAttributes}
 use Rattle.iox_openers.specs.declared.message_types.MessageTypes.{MessageTypes}
@@ -36,8 +37,10 @@ IsRefusedByTypes mine theirs (Some _) = ⊥
 
 -- why what is defined does not meet what is required
 abbrev pub IsLacking : Requirements → List Attribute → Cause → Type 0
-IsLacking required defined (MissingPair key value) = LacksPair required defined key value
-IsLacking required defined (MissingKey key) = LacksKey required defined key
+-- a pair is missing: the least such
+IsLacking required defined (MissingPair key value) = Lacks required defined (IncompatibleAttribute key value)
+-- no pair is missing, but a key: the first such
+IsLacking required defined (MissingKey key) = Lacks required defined (NonExistingKey key)
 
 -- The first of an opener's tests that fails, if one does: types of requests, types of responses,
 -- attributes. Each is compared to the service's.

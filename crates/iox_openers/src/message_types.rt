@@ -19,7 +19,7 @@ impl MessageTypes {
     pub fn incompatibility_to(
         &self,
         others: &MessageTypes,
-    ) -> Option<Refusal<AttributeVerificationError<'static>>>
+    ) -> Option<Refusal<AttributeVerificationError>>
         ensures { IsRefusedByTypes self.now others.now (as_refusal result) }
     {
         if !self.request.is_compatible_to(&others.request) {

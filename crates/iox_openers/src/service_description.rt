@@ -16,22 +16,19 @@ impl ServiceDescription {
     ghost use Rattle.iox_openers.specs.Openers.{IsAsked, IsAskedOfCreator, opener};
 
     /// What a creator whose own messages have these types is refused by them, if it is refused.
-    pub fn creator_refusal(
-        &self,
-        own: &MessageTypes,
-    ) -> Option<Refusal<AttributeVerificationError<'static>>>
+    pub fn creator_refusal(&self, own: &MessageTypes) -> Option<Refusal<AttributeVerificationError>>
         ensures { IsAskedOfCreator own.now self.now.types (as_refusal result) }
     {
         own.incompatibility_to(&self.types)
     }
 
     /// What an opener whose messages have these types, and that requires this, is refused by types
-    /// and attributes, if it is refused. The attribute that is missing is lent from the verifier.
-    pub fn opener_refusal<'a>(
+    /// and attributes, if it is refused.
+    pub fn opener_refusal(
         &self,
         types: &MessageTypes,
-        verifier: &'a AttributeVerifier,
-    ) -> Option<Refusal<AttributeVerificationError<'a>>>
+        verifier: &AttributeVerifier,
+    ) -> Option<Refusal<AttributeVerificationError>>
         ensures { IsAsked self.now (opener types.now verifier.now) (as_refusal result) }
     {
         if let Some(refusal) = types.incompatibility_to(&self.types) {

@@ -35,8 +35,10 @@ fn attribute(key: &str, value: &str) -> Result<Attribute, ServiceNameError> {
 fn the_least_missing_pair_is_told(rt: HostRuntime) -> Result<(), Fail> {
     let specifier = define_all(&[("a", "1"), ("b", "2")])?;
     let verifier = require_all(&[("b", "3"), ("a", "2")], &["c"])?;
-    let (a, two) = (AttributeKey::new("a")?, AttributeValue::new("2")?);
-    let error = AttributeVerificationError::IncompatibleAttribute(&a, &two);
+    let error = AttributeVerificationError::IncompatibleAttribute(
+        AttributeKey::new("a")?,
+        AttributeValue::new("2")?,
+    );
     let verdict = verifier.verify_requirements(specifier.attributes());
     equal(&rt, verdict, Err(error));
     let shown = format!(in rt.alloc(); "{error}")?;
@@ -52,8 +54,7 @@ fn the_least_missing_pair_is_told(rt: HostRuntime) -> Result<(), Fail> {
 fn the_first_missing_key_is_told(rt: HostRuntime) -> Result<(), Fail> {
     let specifier = define_all(&[("a", "1"), ("b", "2")])?;
     let verifier = require_all(&[("a", "1"), ("a", "1")], &["d", "c"])?;
-    let d = AttributeKey::new("d")?;
-    let error = AttributeVerificationError::NonExistingKey(&d);
+    let error = AttributeVerificationError::NonExistingKey(AttributeKey::new("d")?);
     let verdict = verifier.verify_requirements(specifier.attributes());
     equal(&rt, verdict, Err(error));
     let shown = format!(in rt.alloc(); "{error}")?;

@@ -55,8 +55,10 @@ fn an_opener_is_told_the_least_missing_pair(rt: HostRuntime) -> Result<(), Fail>
     let service = service(8, 8)?;
     let verifier = verifier(&[("b", "3"), ("a", "2")], &["c"])?;
     let refusal = service.opener_refusal(&types(8, 8)?, &verifier);
-    let (a, two) = (AttributeKey::new("a")?, AttributeValue::new("2")?);
-    let missing = AttributeVerificationError::IncompatibleAttribute(&a, &two);
+    let missing = AttributeVerificationError::IncompatibleAttribute(
+        AttributeKey::new("a")?,
+        AttributeValue::new("2")?,
+    );
     equal(&rt, refusal, Some(Refusal::IncompatibleAttributes(missing)));
     Ok(())
 }
@@ -66,8 +68,7 @@ fn an_opener_is_told_the_first_missing_key(rt: HostRuntime) -> Result<(), Fail> 
     let service = service(8, 8)?;
     let verifier = verifier(&[("a", "1"), ("a", "1")], &["d", "c"])?;
     let refusal = service.opener_refusal(&types(8, 8)?, &verifier);
-    let d = AttributeKey::new("d")?;
-    let missing = AttributeVerificationError::NonExistingKey(&d);
+    let missing = AttributeVerificationError::NonExistingKey(AttributeKey::new("d")?);
     equal(&rt, refusal, Some(Refusal::IncompatibleAttributes(missing)));
     holds(&rt, !suits(&service, &types(8, 8)?, &verifier));
     Ok(())

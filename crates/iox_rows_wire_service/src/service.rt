@@ -18,9 +18,9 @@ use std::test::Fail;
 /// Requests and responses of numbers.
 type TheService = Service<Many<u64>, (), Many<u64>, ()>;
 
-type TheRefusal<'a> = Refusal<AttributeVerificationError<'a>>;
+type TheRefusal = Refusal<AttributeVerificationError>;
 
-type TheReply<'a> = Reply<Vec<u64>, AttributeVerificationError<'a>>;
+type TheReply = Reply<Vec<u64>, AttributeVerificationError>;
 
 /// What is asked. Of a port's or a handle's node and number, the node comes first.
 #[derive(Clone, Copy)]
@@ -66,11 +66,11 @@ enum Told<'a> {
     Words(&'a [u64]),
     Answer(bool),
     Listed(&'a [u64]),
-    Refused(TheRefusal<'a>),
+    Refused(TheRefusal),
 }
 
 /// The reply, with its list lent.
-fn lent<'a>(reply: &'a TheReply<'a>) -> Told<'a> {
+fn lent(reply: &TheReply) -> Told<'_> {
     match reply {
         Reply::Node(n) => Told::Node(*n),
         Reply::Client(n) => Told::Client(*n),
@@ -84,12 +84,6 @@ fn lent<'a>(reply: &'a TheReply<'a>) -> Told<'a> {
         Reply::Listed(numbers) => Told::Listed(numbers.as_slice()),
         Reply::Refused(refusal) => Told::Refused(*refusal),
     }
-}
-
-/// Ends the test where a reply is not the wanted one.
-fn tells(rt: &impl Abort, reply: &TheReply<'_>, wanted: &Told<'_>) {
-    let told = lent(reply);
-    assert_eq!(rt; told, *wanted);
 }
 
 /// Two services that are asked the same: one by its calls, and one by `run`.
@@ -116,18 +110,22 @@ impl Pair {
         script: &[(Ask<'_>, Told<'_>)],
     ) -> Result<(), AllocError> {
         let mut commands = Vec::with_capacity(alloc, script.len())?;
-        for (ask, wanted) in script {
+        for (place, (ask, wanted)) in script.iter().enumerate() {
             let reply = asking::called(&mut self.called, alloc, *ask)?;
-            tells(rt, &reply, wanted);
+            let told = lent(&reply);
+            assert_eq!(rt; (place, &told), (place, wanted));
             registered::as_many_as_listed(rt, alloc, &self.called)?;
-            let command = asking::command(alloc, *ask)?;
-            commands.push(command)?;
+            commands.push(asking::command(alloc, *ask)?)?;
         }
         let mut replies = Vec::new(alloc);
         self.ran.run(alloc, commands, &mut replies)?;
         assert_eq!(rt; replies.len(), script.len());
-        for (reply, (_, wanted)) in replies.iter().zip(script.iter()) {
-            tells(rt, reply, wanted);
+        for (place, (_, wanted)) in script.iter().enumerate() {
+            let Some(reply) = replies.get(place) else {
+                return Err(AllocError);
+            };
+            let told = lent(reply);
+            assert_eq!(rt; (place, &told), (place, wanted));
         }
         assert_eq!(rt; self.ran.is_closed(), self.called.is_closed());
         registered::as_many_as_listed(rt, alloc, &self.ran)?;

@@ -6,11 +6,10 @@ use iox_model::reply::Refusal;
 use iox_names::attribute::{AttributeKey, AttributeValue};
 use iox_openers::{MessageTypes, ServiceDescription};
 use iox_types::{MessageTypeDetails, TypeVariant};
-use std::alloc::Global;
-use std::process::Abort;
+use std::alloc::{AllocError, Global};
 use std::test::Fail;
 
-type Cause<'a> = AttributeVerificationError<'a>;
+type Cause = AttributeVerificationError;
 
 /// A message of one number.
 fn number() -> Result<MessageTypeDetails, Fail> {
@@ -38,64 +37,47 @@ fn description() -> Result<ServiceDescription, Fail> {
     })
 }
 
-/// What an opener requires: these pairs and this key.
-fn requiring(pairs: &[(&str, &str)], key: &str) -> Result<AttributeVerifier, Fail> {
+/// Why an opener is refused that requires these pairs and this key.
+fn asked(pairs: &[(&str, &str)], key: &str) -> Result<Option<Refusal<Cause>>, Fail> {
     let mut verifier = AttributeVerifier::new();
     for (key, value) in pairs {
         let (key, value) = (AttributeKey::new(key)?, AttributeValue::new(value)?);
         verifier.try_require(&key, &value)?;
     }
     verifier.try_require_key(&AttributeKey::new(key)?)?;
-    Ok(verifier)
+    Ok(description()?.opener_refusal(&types()?, &verifier))
 }
 
-/// What a join is answered, where an opener requires this of types that fit.
-fn join<'a>(
+/// The answer to a join.
+fn join(
     service: &mut TheService,
-    verifier: &'a AttributeVerifier,
-) -> Result<Result<u64, Refusal<Cause<'a>>>, Fail> {
-    let asked = description()?.opener_refusal(&types()?, verifier);
-    Ok(service.join(id(2), asked))
+    n: u32,
+    asked: Option<Refusal<Cause>>,
+) -> Result<u64, Refusal<Cause>> {
+    service.join(id(n), asked)
 }
 
-/// An opener that requires this is refused for that cause. Then the next that joins is number 1.
-fn is_refused(
-    rt: &impl Abort,
-    alloc: Global,
-    verifier: &AttributeVerifier,
-    cause: Cause<'_>,
-) -> Result<(), Fail> {
-    let mut service = first(alloc, 20)?;
-    let refused = Err(Refusal::IncompatibleAttributes(cause));
-    assert_eq!(rt; join(&mut service, verifier)?, refused);
-    assert_eq!(rt; service.list_nodes(alloc)?.len(), 1);
-    let nothing = AttributeVerifier::new();
-    assert_eq!(rt; join(&mut service, &nothing)?, Ok(1));
-    Ok(())
+/// How many nodes there are, and the number of the last.
+fn nodes(service: &TheService, alloc: Global) -> Result<(usize, Option<u64>), AllocError> {
+    let numbers = service.list_nodes(alloc)?;
+    Ok((numbers.len(), numbers.last().copied()))
 }
 
 #[test]
-fn an_opener_is_told_the_least_missing_pair(rt: HostRuntime) -> Result<(), Fail> {
-    let (a, two) = (AttributeKey::new("a")?, AttributeValue::new("2")?);
-    let opener = requiring(&[("b", "3"), ("a", "2")], "c")?;
-    let missing = AttributeVerificationError::IncompatibleAttribute(&a, &two);
-    is_refused(&rt, rt.alloc(), &opener, missing)
-}
-
-#[test]
-fn an_opener_is_told_a_missing_key(rt: HostRuntime) -> Result<(), Fail> {
-    let c = AttributeKey::new("c")?;
-    let opener = requiring(&[("b", "2")], "c")?;
-    let missing = AttributeVerificationError::NonExistingKey(&c);
-    is_refused(&rt, rt.alloc(), &opener, missing)
-}
-
-#[test]
-fn an_opener_with_the_attributes_joins(rt: HostRuntime) -> Result<(), Fail> {
+fn an_opener_without_the_attributes_does_not_join(rt: HostRuntime) -> Result<(), Fail> {
     let mut service = first(rt.alloc(), 20)?;
-    let opener = requiring(&[("b", "2"), ("a", "1")], "b")?;
-    assert_eq!(rt; join(&mut service, &opener)?, Ok(1));
-    let numbers = service.list_nodes(rt.alloc())?;
-    assert_eq!(rt; numbers.as_slice(), [0, 1].as_slice());
+    let unfit = asked(&[("b", "3"), ("a", "2")], "c")?;
+    let (a, two) = (AttributeKey::new("a")?, AttributeValue::new("2")?);
+    let cause = AttributeVerificationError::IncompatibleAttribute(a, two);
+    let refused = Err(Refusal::IncompatibleAttributes(cause));
+    assert_eq!(rt; join(&mut service, 2, unfit), refused);
+    assert_eq!(rt; nodes(&service, rt.alloc())?, (1, Some(0)));
+    let unfit = asked(&[("b", "2")], "c")?;
+    let cause = AttributeVerificationError::NonExistingKey(AttributeKey::new("c")?);
+    let refused = Err(Refusal::IncompatibleAttributes(cause));
+    assert_eq!(rt; join(&mut service, 2, unfit), refused);
+    let fits = asked(&[("b", "2"), ("a", "1")], "b")?;
+    assert_eq!(rt; join(&mut service, 2, fits), Ok(1));
+    assert_eq!(rt; nodes(&service, rt.alloc())?, (2, Some(1)));
     Ok(())
 }

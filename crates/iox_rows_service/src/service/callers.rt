@@ -6,10 +6,10 @@ use iceoryx2_service::attribute::{AttributeSet, AttributeVerificationError, Attr
 use iceoryx2_service::static_config::StaticConfig;
 
 /// Whether a service says of itself all that is required, and what is missing if it does not.
-pub fn suits<'a>(
+pub fn suits(
     service: &StaticConfig,
-    verifier: &'a AttributeVerifier,
-) -> Result<(), AttributeVerificationError<'a>>
+    verifier: &AttributeVerifier,
+) -> Result<(), AttributeVerificationError>
     ensures meets { IfOk result (λ _. Meets verifier.now service.now.attributes) }
     ensures lacks { IfErr result (λ e. Lacks verifier.now service.now.attributes e) }
 {

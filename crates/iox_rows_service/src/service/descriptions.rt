@@ -42,7 +42,7 @@ fn a_service_is_described_by_its_paths(rt: HostRuntime) -> Result<(), Fail> {
     equal(
         &rt,
         suits(&config, &verifier),
-        Err(AttributeVerificationError::IncompatibleAttribute(&unit, &foot)),
+        Err(AttributeVerificationError::IncompatibleAttribute(unit, foot)),
     );
     Ok(())
 }

@@ -96,7 +96,7 @@ pub(super) fn command(alloc: Global, ask: Ask<'_>) -> Result<TheCommand<'_>, All
 }
 
 /// The reply to an open.
-fn opened(answer: Result<u64, TheRefusal<'_>>) -> TheReply<'_> {
+fn opened(answer: Result<u64, TheRefusal>) -> TheReply {
     match answer {
         Ok(number) => Reply::Node(number),
         Err(refusal) => Reply::Refused(refusal),
@@ -104,7 +104,7 @@ fn opened(answer: Result<u64, TheRefusal<'_>>) -> TheReply<'_> {
 }
 
 /// The reply to what has nothing to tell.
-fn done(answer: Result<(), TheRefusal<'static>>) -> TheReply<'static> {
+fn done(answer: Result<(), TheRefusal>) -> TheReply {
     match answer {
         Ok(()) => Reply::Done,
         Err(refusal) => Reply::Refused(refusal),
@@ -112,11 +112,11 @@ fn done(answer: Result<(), TheRefusal<'static>>) -> TheReply<'static> {
 }
 
 /// Asks by the calls.
-pub(super) fn called<'a>(
+pub(super) fn called(
     service: &mut TheService,
     alloc: Global,
-    ask: Ask<'a>,
-) -> Result<TheReply<'a>, AllocError> {
+    ask: Ask<'_>,
+) -> Result<TheReply, AllocError> {
     Ok(match command(alloc, ask)? {
         Command::Join { id, asked } => opened(service.open(&asked.types, &asked.verifier, id)),
         Command::Port(command) => service.port(alloc, command),

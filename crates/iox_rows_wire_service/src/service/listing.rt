@@ -2,7 +2,7 @@
 use super::openers::fit;
 use super::starts::SETTINGS;
 use super::{Ask, Pair, TheService, Told};
-use iceoryx2_wire::{CallbackProgression, Settings, UniqueSystemId};
+use iceoryx2_wire::{CallbackProgression, UniqueSystemId};
 use std::process::Abort;
 use std::test::Fail;
 
@@ -87,32 +87,11 @@ fn ids_are_told_until_the_callback_stops(rt: HostRuntime) -> Result<(), Fail> {
         (Ask::Open(40, &fits), Told::Node(3)),
         (Ask::Cleanup(1), Told::Done),
         (Ask::Open(20, &fits), Told::Node(4)),
-        (Ask::Client(0), Told::Client(2)),
-        (Ask::Client(0), Told::Client(3)),
-        (Ask::Client(0), Told::Client(4)),
     ];
     let mut pair = Pair::new(rt.alloc(), SETTINGS)?;
     pair.plays(&rt, rt.alloc(), &script)?;
-    // There are four nodes and four clients, and the third was the last that was told.
+    // There are four nodes, and the third was the last that was told.
     nodes(&rt, &pair.ran, [Some((1, 0)), Some((30, 0)), Some((40, 0))]);
-    clients(&rt, &pair.ran, [Some((1, 1)), Some((1, 2)), Some((1, 3))]);
-    Ok(())
-}
-
-#[test]
-fn servers_are_told_until_the_callback_stops(rt: HostRuntime) -> Result<(), Fail> {
-    let script = [
-        (Ask::Server(0), Told::Server(0)),
-        (Ask::Server(0), Told::Server(1)),
-        (Ask::Server(0), Told::Server(2)),
-        (Ask::Server(0), Told::Server(3)),
-    ];
-    let many = Settings {
-        servers: 4,
-        ..SETTINGS
-    };
-    let mut pair = Pair::new(rt.alloc(), many)?;
-    pair.plays(&rt, rt.alloc(), &script)?;
-    servers(&rt, &pair.ran, [Some((1, 0)), Some((1, 1)), Some((1, 2))]);
+    clients(&rt, &pair.ran, [None, None, Some((1, 1))]);
     Ok(())
 }

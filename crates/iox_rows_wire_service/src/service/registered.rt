@@ -1,6 +1,6 @@
 //! Which nodes are registered with a service.
 use super::openers::{fit, of_bytes};
-use super::opening::{pair, pair_missing};
+use super::opening::pair_missing;
 use super::starts::with_nodes;
 use super::{Ask, Pair, TheService, Told};
 use iceoryx2_wire::{CallbackProgression, Refusal};
@@ -66,8 +66,7 @@ fn plays(
 fn a_refused_open_registers_nobody(rt: HostRuntime) -> Result<(), Fail> {
     let (fits, unfit) = (fit()?, of_bytes(false, false)?);
     let (both, responses) = (of_bytes(true, true)?, of_bytes(false, true)?);
-    let (a, nine) = pair("a", "9")?;
-    let missing = pair_missing(&a, &nine);
+    let missing = Told::Refused(pair_missing("a", "9")?);
     let requests = Told::Refused(Refusal::IncompatibleRequestTypes);
     let other = Told::Refused(Refusal::IncompatibleResponseTypes);
     let full = Told::Refused(Refusal::ExceedsMaxNumberOfNodes);

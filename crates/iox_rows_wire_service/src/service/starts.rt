@@ -75,7 +75,7 @@ pub(super) fn new(
     identity: ServiceIdentity,
     description: ServiceDescription,
     id: UniqueSystemId,
-) -> Result<TheService, TheRefusal<'static>> {
+) -> Result<TheService, TheRefusal> {
     TheService::create(
         alloc,
         settings,
