@@ -181,7 +181,7 @@ module _ {h : HubState} (hub : IsHub h) (k : ℕ) (ws : List ℕ) (node n : ℕ)
 
   -- the same, where the result is said otherwise
   module _ (r : Answered) (place : Place) (at : place_of r ≡ Some place) (c : IsAnswerCall h k ws node n new r) where
-    done_is : r ≡ Done (Some place)
+    pub done_is : r ≡ Done (Some place)
     done_is = step r at
       where
         step : (q : Answered) → place_of q ≡ Some place → q ≡ Done (Some place)

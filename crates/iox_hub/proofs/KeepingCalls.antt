@@ -120,7 +120,7 @@ response_owned t h = step (is_named_by_client t h false) (is_shut t h)
 back_owned : (t : HubTables) (h : HandleState) → AreOwnedAs t.ports (with_requests_back t h).ports
 back_owned t h = lanes_owned emptied_lane t.ports (request_ways h.port t.ports)
 
-sent_owned : (t : HubTables) (h : HandleState) (overflow : Bool) → AreOwnedAs t.ports (with_request_sent t h overflow).ports
+pub sent_owned : (t : HubTables) (h : HandleState) (overflow : Bool) → AreOwnedAs t.ports (with_request_sent t h overflow).ports
 sent_owned t h overflow =
     lanes_owned (delivers overflow h.slot) (with_opened t (request_of t h) (pending_states t h)).ports (ways_of t h overflow)
     ∙ states_owned (λ r. Named (request_of t h) false) t.ports (pending_states t h)

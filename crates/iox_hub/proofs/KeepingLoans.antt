@@ -45,7 +45,7 @@ use Rattle.iox_hub.proofs.LendingWriteCalls.{IsWriteCall}
 use Rattle.iox_hub.proofs.LendingWrites.{found_has, loan_is_one, misfit_left}
 
 -- what passes for none of the handles does not pass for one that is found
-none_is : (test : HandleState → Bool) (hs : List HandleState) (a m : ℕ) (k : HandleState) → list_any test hs ≡ false → handle_in hs a m ≡ Some k → test k ≡ false
+pub none_is : (test : HandleState → Bool) (hs : List HandleState) (a m : ℕ) (k : HandleState) → list_any test hs ≡ false → handle_in hs a m ≡ Some k → test k ≡ false
 none_is test [] a m k none at = absurd (none-some k at)
 none_is test (j ∷ js) a m k none at =
     let both = or_false (test j) (list_any test js) none in step ((j.node == a) && (j.number == m)) at both.0 (none_is test js a m k both.1)

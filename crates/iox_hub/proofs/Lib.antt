@@ -1,11 +1,13 @@
 pub mod GoesOn
 pub mod Named
 pub mod HandleValues
+pub mod StillValues
 pub mod ReceivedValues
 pub mod Starting
 pub mod Shaping
 pub mod Fitting
 pub mod Reading
+pub mod LoanReading
 pub mod HeadersShown
 pub mod MakingSizes
 pub mod MakingAsked
@@ -42,6 +44,7 @@ pub mod FillingWays
 pub mod CopyingWords
 pub mod CopyingResponses
 pub mod CopyingRequests
+pub mod KeepingCopies
 pub mod Ascending
 pub mod ListingLemmas
 pub mod VisitLemmas

@@ -7,6 +7,7 @@ pub mod Reads
 pub mod Headers
 pub mod Making
 pub mod Sending
+pub mod Releases
 pub mod Lending
 pub mod Keeping
 pub mod Listings

@@ -15,6 +15,7 @@ ghost use Rattle.iox_control_request_copies.specs.Copies as requests;
 ghost use Rattle.iox_hub.specs.Copying as spec;
 ghost use Rattle.iox_hub.specs.Copying.{HasCopied, LeavesAnswered, LeavesCopied, asked_of_copy};
 ghost use Rattle.iox_hub.specs.Hubs.{HasValue, state_of_hub};
+ghost use Rattle.iox_hub.specs.Keeping.{KeepsAll};
 ghost use Rattle.iox_hub.specs.Lending.{payload_of};
 
 use crate::copies::{copy_request_in, copy_response_in};
@@ -54,6 +55,7 @@ impl<Q: Payload, QH: Words, P: Payload, PH: Words> Hub<Q, QH, P, PH> {
             (requests.reply_of_copy result) (state_of_hub x self.new) }
         ensures has { HasCopied self.new node (length values.now)
             (flat_map Q.Element.words values.now) result }
+        ensures keeps { KeepsAll self.old self.new }
     {
         let Some(port) = self.control.ports().find(client) else {
             unreachable!();
@@ -103,6 +105,7 @@ impl<Q: Payload, QH: Words, P: Payload, PH: Words> Hub<Q, QH, P, PH> {
             (SendCopy number (payload_of roles.Server (length values.now)
             (flat_map P.Element.words values.now)))
             (responses.reply_of_copy result) (state_of_hub x self.new) }
+        ensures keeps { KeepsAll self.old self.new }
     {
         let Some(entry) = self.control.entry(node, number, hint) else {
             unreachable!();

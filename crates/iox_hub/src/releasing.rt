@@ -4,15 +4,17 @@ ghost use Rattle.std.specs.Bool.{OnFalse};
 ghost use Rattle.iox_model.specs.declared.call.Call.TheVariants.{Release};
 ghost use Rattle.iox_model.specs.declared.reply.Reply.TheVariants.{Done};
 ghost use Rattle.iox_model.specs.Names.{is_port};
+ghost use Rattle.iox_model.specs.Values as spec;
 ghost use Rattle.iox_model.specs.WholeCalls.{IsWholeCall};
 ghost use Rattle.iox_tables.specs.HubStates.States.{Given};
 ghost use Rattle.iox_tables.specs.HubStates.Tables.{HandleState, PortState, port_in};
 ghost use Rattle.iox_tables.specs.HubStates.Wirings.{handle_in};
 ghost use Rattle.iox_control.specs.Entries.{handle_state};
 ghost use Rattle.iox_control_releasing.specs.Goings.{StaysTidy};
-ghost use Rattle.iox_hub.specs.Hubs.{HasValue, state_of_hub, with_control};
+ghost use Rattle.iox_hub.specs.Hubs.{state_of_hub, with_control};
 ghost use Rattle.iox_hub.specs.Keeping.{KeepsOthers};
 ghost use Rattle.iox_hub.specs.Reads.{HasOf};
+ghost use Rattle.iox_hub.specs.Releases.{StillHas};
 ghost use Rattle.iox_hub.specs.Sending.{HasNothing, is_handle, with_words_left};
 
 use crate::hub::Hub;
@@ -21,6 +23,18 @@ use iox_handles::Entry;
 use iox_model::kind::Kind;
 use iox_store::Payload;
 use iox_words::Words;
+
+/// Whether a handle of the old kind may be one of the new kind by now: it is of the same kind, or a
+/// loan that is filled.
+fn is_still(old: Kind, new: Kind) -> bool
+    ensures { result ≡ spec.is_still old new }
+{
+    match old {
+        Kind::RequestMutUninit => matches!(new, Kind::RequestMutUninit | Kind::RequestMut),
+        Kind::ResponseMutUninit => matches!(new, Kind::ResponseMutUninit | Kind::ResponseMut),
+        _ => new == old,
+    }
+}
 
 /// The words in that place go. It is rare, so it is a call of its own.
 #[cold]
@@ -92,11 +106,12 @@ impl<Q: Payload, QH: Words, P: Payload, PH: Words> Hub<Q, QH, P, PH> {
         self.release_entry(node, number, entry, hint);
     }
 
-    /// The same where the node has a handle of that number and kind: it says whether it has one.
-    /// Where it has none, nothing changes.
+    /// The same where the node still has what a handle of that kind stands for: the handle, or the
+    /// loan that a command filled meanwhile. It says whether it has it. Where it has not, nothing
+    /// changes.
     pub fn release_if(&mut self, node: u64, number: u64, kind: Kind, hint: usize) -> bool
         requires { is_handle kind ≡ true }
-        ensures told { IsTrue result ↔ HasValue self.old node number kind }
+        ensures told { IsTrue result ↔ StillHas self.old node number kind }
         ensures unchanged { OnFalse result (self.new ≡ self.old) }
         ensures left { IsTrue result → (h : HandleState)
             → handle_in self.old.control.tables.handles node number ≡ Some h
@@ -114,7 +129,7 @@ impl<Q: Payload, QH: Words, P: Payload, PH: Words> Hub<Q, QH, P, PH> {
         let Some(entry) = self.control.entry(node, number, hint) else {
             return false;
         };
-        if entry.kind == kind {
+        if is_still(kind, entry.kind) {
             self.release_entry(node, number, entry, hint);
             return true;
         }
