@@ -6,6 +6,7 @@ use Rattle.iox_model.specs.Maps.{AreDistinct}
 use Rattle.iox_model.specs.States as m
 use Rattle.iox_laws.proofs.WeaveLedger.Lists.{find-among}
 use Rattle.iox_laws.proofs.RunLaws.Bounded.{borrows_rest_within}
+use Rattle.iox_laws.proofs.RunLaws.Received.{requests_are_named, responses_name_their_request}
 use Rattle.iox_laws.proofs.RunLedger.Once.{delivered_once_over_runs, received_once_over_runs}
 use Rattle.iox_laws.proofs.MessageLaws.Holdings.{had_as_delivered}
 use Rattle.iox_laws.proofs.MessageLaws.Orders.{whole_over_runs}
@@ -14,7 +15,7 @@ use Rattle.iox_laws.proofs.MessageLaws.Serials.{serials_are_of_messages}
 use Rattle.iox_tables.specs.HubStates.States.{handle_of, handles_in, message_of}
 use Rattle.iox_tables.proofs.HubStates.Fixing.{find_handle}
 use Rattle.iox_hub.specs.Hubs.{HubState, IsHub, given_by, state_of_hub}
-use Rattle.iox_hub_laws.specs.Histories.{AreAsDelivered, ComeAtMostOnce, ComeInOrder, WereSent}
+use Rattle.iox_hub_laws.specs.Histories.{AreAsDelivered, ComeAtMostOnce, ComeAtTheirRequest, ComeInOrder, WereSent}
 use Rattle.iox_hub_laws.specs.Limits.{BorrowsHold, BuffersHold}
 use Rattle.iox_hub_laws.specs.Shown.{beats_of}
 use Rattle.iox_hub_laws.specs.Slots.{SlotsAreOfHolders}
@@ -43,6 +44,12 @@ are_as_delivered h r node n k there received =
 
 pub were_sent : (h : HubState) → WereSent h
 were_sent h r y m = each_was_sent (state_of_hub r.0 h) r.1 y m
+
+pub come_at_their_request : (h : HubState) → ComeAtTheirRequest h
+come_at_their_request h = record {
+  responses = λ r t node n k pending. responses_name_their_request (state_of_hub r.0 h) t node n k pending r.1;
+  requests = λ r t node n k server. requests_are_named (state_of_hub r.0 h) t node n k server r.1;
+}
 
 -- ---- between calls
 

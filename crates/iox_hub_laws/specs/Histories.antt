@@ -1,9 +1,14 @@
 -- What holds of all messages of a hub, whatever history led to the state that it shows.
-use Rattle.std.specs.Prelude.{◌≡◌, ℕ, ◌++◌, true, Some}
+use Rattle.std.specs.Prelude.{◌≡◌, ℕ, ◌++◌, false, true, Some, IsTrue}
+use Rattle.iox_model.specs.declared.call.Call.TheVariants.{Receive}
+use Rattle.iox_model.specs.declared.kind.Kind.TheVariants.{ActiveRequest, Response}
+use Rattle.iox_model.specs.declared.reply.Reply.TheVariants as replies
 use Rattle.iox_model.specs.declared.way.Way.{Way}
-use Rattle.iox_model.specs.Handles.{is_received, way_of}
+use Rattle.iox_model.specs.Handles.{TheHandle, ThePort, is_received, own_state, subject, way_of}
 use Rattle.iox_model.specs.Maps.{AreDistinct}
-use Rattle.iox_model.specs.Messages.{Message, serials_of}
+use Rattle.iox_model.specs.Messages.{Message, names, serials_of}
+use Rattle.iox_model.specs.States.{Handle, Port, State}
+use Rattle.iox_model.specs.WholeCalls.{IsWholeCall}
 use Rattle.iox_laws.specs.MessageLaws.Deliveries.{messages_put_on, messages_taken_from}
 use Rattle.iox_laws.specs.MessageLaws.Holdings.{CameBy}
 use Rattle.iox_laws.specs.MessageLaws.Lists.{GivesThese, IsOneOf}
@@ -41,3 +46,22 @@ abbrev pub WereSent : HubState → Type 0
 WereSent h =
     (r : IsReached h) (y : Way) (m : Message) → IsOneOf m (messages_put_on y (beats_of h r))
     → WasSent (state_of_hub r.0 h) r.1 y m
+
+-- What a receive answers next comes at its own request: a response to that of its pending response,
+-- and without fire-and-forget a request that its client did not give up.
+pub record ComeAtTheirRequest (h : HubState) : Type 0 where
+  pub responses :
+      (r : IsReached h) (t : State) (node n k : ℕ) (pending : Handle)
+      → subject (state_of_hub r.0 h).fixed node n ≡ Some (TheHandle pending)
+      → IsWholeCall (state_of_hub r.0 h) node (Receive n) (replies.Handle k) t
+      → (g : Handle) × (subject t.fixed node k ≡ Some (TheHandle g))
+      × (g.kind ≡ Response) × (g.port ≡ pending.port)
+      × (g.message.lane ≡ pending.lane) × (g.message.request ≡ pending.request)
+  pub requests :
+      (r : IsReached h) (t : State) (node n k : ℕ) (server : Port)
+      → subject (state_of_hub r.0 h).fixed node n ≡ Some (ThePort server)
+      → IsWholeCall (state_of_hub r.0 h) node (Receive n) (replies.Handle k) t
+      → (g : Handle) × (subject t.fixed node k ≡ Some (TheHandle g))
+      × (g.kind ≡ ActiveRequest) × (g.port ≡ server.number)
+      × (h.control.tables.settings.fire_and_forget ≡ false
+      → IsTrue (names (t.request_state (own_state g)) g.request))

@@ -17,6 +17,7 @@ pub use Rattle.iox_hub.specs.Reads
 pub use Rattle.iox_hub.specs.Copying
 pub use Rattle.iox_hub.specs.Making
 pub use Rattle.iox_hub.specs.Sending
+pub use Rattle.iox_hub.specs.Releases
 pub use Rattle.iox_hub.specs.Fillings
 pub use Rattle.iox_hub.specs.Keeping
 pub use Rattle.iox_hub.specs.Received

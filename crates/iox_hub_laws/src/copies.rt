@@ -9,6 +9,7 @@ ghost use Rattle.iox_hub.specs.Answers as responses;
 ghost use Rattle.iox_hub.specs.Copies as requests;
 ghost use Rattle.iox_hub.specs.Copying.{HasCopied, LeavesAnswered, LeavesCopied};
 ghost use Rattle.iox_hub.specs.Hubs.{HasValue, state_of_hub};
+ghost use Rattle.iox_hub.specs.Keeping.{KeepsAll};
 ghost use Rattle.iox_hub.specs.Lending.{payload_of};
 ghost use Rattle.iox_hub_laws.specs.Sends.{BringsOnly, BringsResponseCopy};
 
@@ -26,6 +27,7 @@ pub fn copy_request<Q: Payload, QH: Words, P: Payload, PH: Words>(
 ) -> Copied
     requires has { HasValue hub.old node client Client }
     ensures only { BringsOnly hub.old (flat_map Q.Element.words values.now) hub.new }
+    ensures keeps { KeepsAll hub.old hub.new }
     ensures left { LeavesCopied hub.old (length values.now)
         (flat_map Q.Element.words values.now) result hub.new }
     ensures whole { (x : Given) → IsWholeCall (state_of_hub x hub.old) node
@@ -53,6 +55,7 @@ pub fn copy_response<Q: Payload, QH: Words, P: Payload, PH: Words>(
     ensures brings { BringsResponseCopy hub.old node number (length values.now)
         (flat_map P.Element.words values.now) result hub.new }
     ensures only { BringsOnly hub.old (flat_map P.Element.words values.now) hub.new }
+    ensures keeps { KeepsAll hub.old hub.new }
     ensures left { LeavesAnswered hub.old (length values.now)
         (flat_map P.Element.words values.now) result hub.new }
     ensures whole { (x : Given) → IsWholeCall (state_of_hub x hub.old) node

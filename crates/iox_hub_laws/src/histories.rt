@@ -2,6 +2,7 @@
 //! nothing to do: each is there for its contract.
 ghost use Rattle.iox_hub.specs.Hubs.{IsReached};
 ghost use Rattle.iox_hub_laws.specs.Histories.{AreAsDelivered, ComeAtMostOnce, ComeInOrder};
+ghost use Rattle.iox_hub_laws.specs.Histories.{ComeAtTheirRequest};
 ghost use Rattle.iox_hub_laws.specs.Histories.{WereSent};
 
 use iox_hub::Hub;
@@ -40,6 +41,17 @@ pub fn messages_are_as_delivered<Q: Payload, QH: Words, P: Payload, PH: Words>(
 pub fn messages_were_sent<Q: Payload, QH: Words, P: Payload, PH: Words>(hub: &Hub<Q, QH, P, PH>)
     ensures reached { IsReached hub.now }
     ensures sent { WereSent hub.now }
+{
+    hub.is_in_order();
+}
+
+/// A response is received only at its own request. Without fire-and-forget, a server receives only
+/// requests that their clients did not give up.
+pub fn messages_come_at_their_request<Q: Payload, QH: Words, P: Payload, PH: Words>(
+    hub: &Hub<Q, QH, P, PH>,
+)
+    ensures reached { IsReached hub.now }
+    ensures request { ComeAtTheirRequest hub.now }
 {
     hub.is_in_order();
 }

@@ -12,13 +12,13 @@ pub mod uses;
 
 pub use copies::{copy_request, copy_response};
 pub use histories::{
-    messages_are_as_delivered, messages_come_at_most_once, messages_come_in_order,
-    messages_were_sent,
+    messages_are_as_delivered, messages_come_at_most_once, messages_come_at_their_request,
+    messages_come_in_order, messages_were_sent,
 };
 pub use iox_hub::{
     Answered, Copied, Hub, Lent, LoanRefusal, MessageHeader, MessageShape, NotMade, Options, Part,
     PreallocatedRequestsOverride, PreallocatedResponseOverride, Received, Requested, Responded,
-    Settings, Written,
+    Settings, Written, default_settings,
 };
 pub use limits::{borrows_hold, buffers_hold, nothing_is_kept_of_the_gone, slots_are_of_holders};
 pub use loans::{lend_request, lend_response};

@@ -7,6 +7,7 @@ ghost use Rattle.iox_tables.specs.HubLoans.Loans.{loan_call};
 ghost use Rattle.iox_tables.specs.HubStates.States.{Given};
 ghost use Rattle.iox_hub.specs.Lends.{reply_of_loan};
 ghost use Rattle.iox_hub.specs.Hubs.{HasValue, state_of_hub};
+ghost use Rattle.iox_hub.specs.Keeping.{IsNewLoan, KeepsAll};
 ghost use Rattle.iox_hub.specs.Lending.{HasLent, LeavesLent};
 ghost use Rattle.iox_hub_laws.specs.Loans.{AnswersOfClient, AnswersOfRequest};
 ghost use Rattle.iox_hub_laws.specs.Loans.{LendsWithinLimits, RespondsWithinLimits};
@@ -32,6 +33,8 @@ pub fn lend_request<Q: Payload, QH: Words, P: Payload, PH: Words>(
     ensures answers { AnswersOfClient hub.old client elements result }
     ensures within { LendsWithinLimits hub.old node client elements result }
     ensures comes { NothingComes hub.old hub.new }
+    ensures new { IsNewLoan hub.old node result }
+    ensures keeps { KeepsAll hub.old hub.new }
     ensures left { LeavesLent hub.old hub.old.request uninit elements result hub.new }
     ensures whole { (x : Given) → IsWholeCall (state_of_hub x hub.old) node
         (loan_call uninit client elements) (reply_of_loan result) (state_of_hub x hub.new) }
@@ -59,6 +62,8 @@ pub fn lend_response<Q: Payload, QH: Words, P: Payload, PH: Words>(
     ensures answers { AnswersOfRequest hub.old node number elements result }
     ensures within { RespondsWithinLimits hub.old node number elements result }
     ensures comes { NothingComes hub.old hub.new }
+    ensures new { IsNewLoan hub.old node result }
+    ensures keeps { KeepsAll hub.old hub.new }
     ensures left { LeavesLent hub.old hub.old.response uninit elements result hub.new }
     ensures whole { (x : Given) → IsWholeCall (state_of_hub x hub.old) node
         (loan_call uninit number elements) (reply_of_loan result) (state_of_hub x hub.new) }

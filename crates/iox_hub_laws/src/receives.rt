@@ -7,6 +7,7 @@ ghost use Rattle.iox_model.specs.WholeCalls.{IsWholeCall};
 ghost use Rattle.iox_tables.specs.HubStates.States.{Given};
 ghost use Rattle.iox_hub.specs.Replies.{reply_of_receive};
 ghost use Rattle.iox_hub.specs.Hubs.{HasReceived, HasValue, state_of_hub, with_control};
+ghost use Rattle.iox_hub.specs.Keeping.{IsNew, KeepsAll};
 ghost use Rattle.iox_hub_laws.specs.Receives.{GetsOnly, TakesRequest, TakesResponse};
 ghost use Rattle.iox_hub_laws.specs.Waiting.{WaitedFor, WaitedForPending, client_in, server_of};
 
@@ -32,6 +33,8 @@ pub fn receive_request<Q: Payload, QH: Words, P: Payload, PH: Words>(
     ensures whole { (x : Given) → IsWholeCall (state_of_hub x hub.old) node
         (Receive server) (reply_of_receive result) (state_of_hub x hub.new) }
     ensures has { HasReceived hub.new node ActiveRequest result }
+    ensures new { IsNew hub.old node result }
+    ensures keeps { KeepsAll hub.old hub.new }
 {
     hub.is_in_order();
     hub.receive_request(node, server)
@@ -56,6 +59,8 @@ pub fn receive_response<Q: Payload, QH: Words, P: Payload, PH: Words>(
     ensures whole { (x : Given) → IsWholeCall (state_of_hub x hub.old) node
         (Receive number) (reply_of_receive result) (state_of_hub x hub.new) }
     ensures has { HasReceived hub.new node Response result }
+    ensures new { IsNew hub.old node result }
+    ensures keeps { KeepsAll hub.old hub.new }
 {
     hub.is_in_order();
     hub.receive_response(node, number, hint)
