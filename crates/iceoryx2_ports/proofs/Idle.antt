@@ -1,5 +1,5 @@
--- A port that is made has nothing and has room; for all others nothing comes, and who had room has it still.
-use Rattle.std.specs.Prelude.{◌≡◌, ◌⊎◌, ℕ, ◌<◌, ◌≤◌, Bool, true, false, ◌||◌, ◌==◌, nat_le, if◌then◌else◌, List, [], ◌∷◌, ◌++◌, find, length, map, max, Option, None, Some, is_some, refl}
+-- A port that is made has nothing, has nothing on loan, and has room; for all others nothing comes, and who had room has it still.
+use Rattle.std.specs.Prelude.{◌≡◌, ◌⊎◌, ℕ, ◌<◌, ◌≤◌, Bool, true, false, ◌||◌, ◌==◌, nat_le, if◌then◌else◌, List, [], ◌∷◌, ◌++◌, filter, find, length, map, max, Option, None, Some, is_some, refl}
 use Rattle.std.specs.Option.{option_map_or}
 use Rattle.std.proofs.Common.{sym, ap, ◌∙◌, arith, inl, inr, eqb-true, true≢false}
 use Rattle.iox_types.specs.declared.identifiers.system_id.UniqueSystemId.{UniqueSystemId}
@@ -13,7 +13,8 @@ use Rattle.iox_model.specs.Doings.{Receiver}
 use Rattle.iox_model.specs.Makings.{IsHubCommand, making_refusal, new_port, port_reply, with_port}
 use Rattle.iox_model.specs.Maps.{has_number}
 use Rattle.iox_model.specs.Messages.{Message}
-use Rattle.iox_model.specs.Peers.{borrow_limit_on, buffer_on, role_at}
+use Rattle.iox_model.specs.Handles.{count_of, is_request_loan}
+use Rattle.iox_model.specs.Peers.{borrow_limit_on, buffer_on, node_of_port, role_at}
 use Rattle.iox_model.specs.Receives.{is_at_limit}
 use Rattle.iox_model.specs.Runs.{IsReachableState}
 use Rattle.iox_model.specs.Settings.{Limits, borrow_limit_of, buffer_of, other_role}
@@ -27,16 +28,21 @@ use Rattle.iox_laws.proofs.WeaveWorlds.PortsKept.{is_kept}
 use Rattle.iox_lanes.specs.Lanes.{LaneState}
 use Rattle.iox_tables.specs.HubStates.Receives.{way_to}
 use Rattle.iox_tables.specs.HubStates.Shown.{waiting_in}
-use Rattle.iox_tables.specs.HubStates.States.{Given, message_of}
+use Rattle.iox_tables.specs.HubBooks.Handles.{IsOfPort}
+use Rattle.iox_tables.specs.HubStates.Ends.{OfEachHandle}
+use Rattle.iox_tables.specs.HubStates.States.{Given, handle_of, message_of}
 use Rattle.iox_tables.specs.HubStates.Steps.{is_there}
 use Rattle.iox_tables.specs.HubStates.Tables.{HandleState, HubTables, PortState, numbers_of, port_in}
 use Rattle.iox_tables.specs.HubStates.Ways.{lane_on}
+use Rattle.iox_tables.proofs.HubLending.Owning.{handles_are_on_nodes}
+use Rattle.iox_tables.proofs.HubLoans.Counting.{each_count_is_the_same}
 use Rattle.iox_hub_laws.specs.Hubs.{HubState, IsHub, given_by, state_of_hub}
 use Rattle.iox_hub_laws.specs.Gone.{IsBetweenPorts}
 use Rattle.iox_hub_laws.specs.Sends.{NothingComes}
 use Rattle.iox_hub_laws.specs.Shown.{nothing_given, shown}
 use Rattle.iox_hub_laws.proofs.OfHubs.{hub_keeps_no_gone}
 use Rattle.iceoryx2_ports.specs.Idling.{IsIdle}
+use Rattle.iceoryx2_ports.specs.LoanLimits.{LendsNone}
 use Rattle.iceoryx2_ports.specs.Reaching.{HasRoom, KeepsRoom}
 
 -- ---- limits
@@ -212,6 +218,44 @@ module _ (old new : HubState) (hub : IsHub old) (node : ℕ) (role : Role) (id :
     where
       not_less : (n : ℕ) → n < n → ⊥
       not_less n e = omega arith
+
+  abbrev shows : HandleState → m.Handle
+  shows = handle_of (given_by (nothing_given old) old) (message_of (given_by (nothing_given old) old) t.pools)
+
+  abbrev of_new : m.Handle → Bool
+  of_new g = g.port == t.next_number
+
+  -- no handle is of the new number
+  none_of_new : (hs : List HandleState) → OfEachHandle (IsOfPort t) hs → (a : ℕ) → filter of_new (map shows (filter (λ (h : HandleState). h.node == a) hs)) ≡ []
+  none_of_new [] each a = refl
+  none_of_new (h ∷ hs) each a = step (h.node == a) (h.port == t.next_number) refl (none_of_new hs each.1 a)
+    where
+      later : List m.Handle
+      later = map shows (filter (λ (k : HandleState). k.node == a) hs)
+
+      step : (b c : Bool) → (h.port == t.next_number) ≡ c → filter of_new later ≡ []
+          → filter of_new (map shows (if b then h ∷ filter (λ (k : HandleState). k.node == a) hs else filter (λ (k : HandleState). k.node == a) hs)) ≡ []
+      step false c e rest = rest
+      step true true e rest =
+          absurd (true≢false
+          (ap (λ (q : Option PortState). is_some q) (sym each.0.there) ∙ ap (is_there t.ports) (eqb-true h.port t.next_number e) ∙ away))
+      step true false e rest = ap (λ (b : Bool). if b then shows h ∷ filter of_new later else filter of_new later) e ∙ rest
+
+  -- a client that is made has none on loan
+  pub made_lends_none : IsHub new → (number : ℕ) → reply ≡ replies.Client number → LendsNone old number new
+  made_lends_none after number e = elim made as (λ q. LendsNone old number new) [
+    | inl c ↦ absurd (true≢false (sym c.0 ∙ ap is_refused e))
+    | inr c ↦ record {
+      count =
+          sym ((each_count_is_the_same (given_by (nothing_given new) new) new.control.tables (handles_are_on_nodes new.control.tables after.control.order)).kinds number
+          is_request_loan)
+          ∙ ap (λ (v : m.State). count_of v.fixed number is_request_loan) c.1
+          ∙ ap (λ (k : ℕ). count_of u.fixed k is_request_loan) (sym (ap number_in e) ∙ ap number_in c.0 ∙ told_number role t.next_number)
+          ∙ ap (λ (hs : List m.Handle). length (filter (λ (g : m.Handle). is_request_loan g.kind) hs))
+          (none_of_new t.handles hub.control.order.ports (node_of_port u.fixed t.next_number));
+      limit = ap (λ (v : m.State). v.fixed.limits.loaned_requests) c.1;
+    }
+  ]
 
   -- a way of the new number has an end that is not there
   end_away : (w : Way) → (w.receiver ≡ t.next_number) ⊎ (w.sender ≡ t.next_number) → IsAway old w

@@ -6,6 +6,8 @@ pub mod Coming
 pub mod Resting
 pub mod Others
 pub mod Aside
+pub mod SameShapes
+pub mod Kept
 pub mod Released
 pub mod Sent
 pub mod Asked

@@ -1,23 +1,20 @@
--- A call that spends nothing keeps each value of each node.
-use Rattle.std.specs.Prelude.{◌≡◌, ℕ, ◌+◌, Bool, true, false, ◌&&◌, if◌then◌else◌, ◌==◌, List, [], ◌∷◌, ◌++◌, Option, Some, None, IsSome, find, refl}
+-- A call that spends nothing leaves for whom each pending response asks.
+use Rattle.std.specs.Prelude.{◌≡◌, ℕ, ◌+◌, Bool, true, false, ◌&&◌, if◌then◌else◌, ◌==◌, List, [], ◌∷◌, ◌++◌, Option, Some, None, find, refl}
 use Rattle.std.specs.Option.{option_map, option_map_or}
-use Rattle.std.proofs.Common.{sym, subst, ap, ap₂, ◌∙◌, true≢false, eqb-true, eq-eqb}
+use Rattle.std.proofs.Common.{sym, subst, ap, ap₂, ◌∙◌, true≢false, eqb-true}
 use Rattle.iox_model.specs.declared.backpressure.BackpressureAction.TheVariants.{FollowBackpressureStrategy}
 use Rattle.iox_model.specs.declared.call.Call.TheVariants.{Loan, LoanUninit}
-use Rattle.iox_model.specs.declared.kind.Kind.{Kind}
-use Rattle.iox_model.specs.declared.kind.Kind.TheVariants.{RequestMutUninit, RequestMut, ResponseMutUninit, ResponseMut, PendingResponse, ActiveRequest, Response}
-use Rattle.iox_model.specs.declared.kind.Kind.TheVariants as kinds
+use Rattle.iox_model.specs.declared.kind.Kind.TheVariants.{PendingResponse}
 use Rattle.iox_model.specs.declared.kind.Role.TheVariants as roles
 use Rattle.iox_model.specs.Begins.{start}
 use Rattle.iox_model.specs.Commands.{Refusal, Reply, Call, number_of}
 use Rattle.iox_model.specs.Counts.{with_fixed, added, borrows, lent, numbered, called, sent_handle, received_handle, holding}
 use Rattle.iox_model.specs.Doings.{Outcome, Tells, Loans, Sends, FailsToSend, Receives, Doing, Receiver}
 use Rattle.iox_model.specs.Ends.{is_nothing, sent_copy, settled}
-use Rattle.iox_model.specs.Handles.{Subject, handle_at, has, is_request_loan, kind_code, kind_of, node_of, port_or_handle, same_kind, subject}
+use Rattle.iox_model.specs.Handles.{handle_at, is_request_loan, subject}
 use Rattle.iox_model.specs.Maps.{put_at}
 use Rattle.iox_model.specs.Names.{misnamed}
-use Rattle.iox_model.specs.Peers.{port_at}
-use Rattle.iox_model.specs.States.{Port, Handle, Fixed, State}
+use Rattle.iox_model.specs.States.{Handle, Fixed, State}
 use Rattle.iox_model.specs.WholeCalls.{IsDone, IsWholeCall, UnlessRefused, moved_by, left_by, spent}
 use Rattle.iox_laws.proofs.WeaveLaws.MapLemmas.{either}
 use Rattle.iox_laws.proofs.WeaveLaws.WholeLemmas.{moved_by-fixed}
@@ -26,13 +23,11 @@ use Rattle.iox_tables.specs.HubStates.States.{Given, handle_of, message_of}
 use Rattle.iox_tables.specs.HubStates.Tables.{HandleState, HubTables}
 use Rattle.iox_tables.specs.HubStates.Wirings.{handle_in}
 use Rattle.iox_tables.specs.HubLoans.Loans.{loan_call}
-use Rattle.iox_tables.specs.HubLoans.Questions.{kind_in}
 use Rattle.iox_tables.proofs.HubStates.Fixing.{find_handle}
-use Rattle.iox_tables.proofs.HubLoans.Asked.{each_value_is_there}
 use Rattle.iox_hub_laws.specs.Hubs.{HasValue, HubState, given_by, state_of_hub}
 use Rattle.iox_hub_laws.specs.Waiting.{client_in, client_of, server_of}
 use Rattle.iox_hub_laws.proofs.Values.{IsHandleOf, value_is_handle}
-use Rattle.iceoryx2_ports.specs.Keeping.{KeepsAsking, KeepsValues, spends}
+use Rattle.iceoryx2_ports.specs.Keeping.{KeepsAsking, spends}
 use Rattle.iceoryx2_ports.proofs.Gathering.{Gathers, at_gathers, by_gathers, ended_gathers}
 
 -- ---- more handles
@@ -41,23 +36,6 @@ use Rattle.iceoryx2_ports.proofs.Gathering.{Gathers, at_gathers, by_gathers, end
 pub record Extends (f g : Fixed) : Type 0 where
   pub ports : g.ports ≡ f.ports
   pub handles : (a n : ℕ) (h : Handle) → handle_at f a n ≡ Some h → handle_at g a n ≡ Some h
-
-abbrev Stays : Fixed → Fixed → Type 0
-Stays f g = (a n : ℕ) (kind : Kind) → has f a n kind ≡ true → has g a n kind ≡ true
-
-stays : (f g : Fixed) → Extends f g → Stays f g
-stays f g more a n kind is =
-    step (port_at f n) (port_at g n) (ap (λ (ps : List Port). find (λ p. p.number == n) ps) more.ports) (handle_at f a n) refl is
-  where
-    test : Subject → Bool
-    test x = (node_of x == a) && same_kind (kind_of x) kind
-
-    step : (p q : Option Port) → q ≡ p → (o : Option Handle) → handle_at f a n ≡ o
-        → option_map_or test (port_or_handle p o) false ≡ true → option_map_or test (port_or_handle q (handle_at g a n)) false ≡ true
-    step (Some p) q same o at is = ap (λ r. option_map_or test (port_or_handle r (handle_at g a n)) false) same ∙ is
-    step None q same (Some h) at is =
-        ap₂ (λ r u. option_map_or test (port_or_handle r u) false) same (more.handles a n h at) ∙ is
-    step None q same None at is = absurd (true≢false (sym is))
 
 find-append : (test : Handle → Bool) (xs ys : List Handle) (h : Handle) → find test xs ≡ Some h → find test (xs ++ ys) ≡ Some h
 find-append test [] ys h e = none-some h e
@@ -150,34 +128,7 @@ whole_extends s t node call reply e =
     unless_extends (misnamed s.fixed node call) s t reply (UnlessRefused (spent s.fixed call) s reply t (IsDone s node call reply t))
     (unless_extends (spent s.fixed call) s t reply (IsDone s node call reply t) (done_extends s t node call reply e))
 
-whole_stays : (s t : State) (node : ℕ) (call : Call) (reply : Reply) → spends call ≡ false → IsWholeCall s node call reply t → Stays s.fixed t.fixed
-whole_stays s t node call reply e done = stays s.fixed t.fixed (whole_extends s t node call reply e done)
-
 -- ---- the values of a hub
-
-abbrev kind_of_code : ℕ → Kind
-kind_of_code n =
-    if n == 0 then kinds.Client else if n == 1 then kinds.Server else if n == 2 then RequestMutUninit else if n == 3 then RequestMut
-    else if n == 4 then ResponseMutUninit else if n == 5 then ResponseMut else if n == 6 then PendingResponse else if n == 7 then ActiveRequest
-    else Response
-
-code_and_back : (k : Kind) → kind_of_code (kind_code k) ≡ k
-code_and_back kinds.Client = refl
-code_and_back kinds.Server = refl
-code_and_back RequestMutUninit = refl
-code_and_back RequestMut = refl
-code_and_back ResponseMutUninit = refl
-code_and_back ResponseMut = refl
-code_and_back PendingResponse = refl
-code_and_back ActiveRequest = refl
-code_and_back Response = refl
-
-pub same_kinds : (a b : Kind) → same_kind a b ≡ true → a ≡ b
-same_kinds a b e = sym (code_and_back a) ∙ ap kind_of_code (eqb-true (kind_code a) (kind_code b) e) ∙ code_and_back b
-
-found_kind : (o : Option Kind) (kind : Kind) → option_map_or (λ k. same_kind k kind) o false ≡ true → o ≡ Some kind
-found_kind None kind e = absurd (true≢false (sym e))
-found_kind (Some k) kind e = ap Some (same_kinds k kind e)
 
 -- what a hub gives, whatever its service
 pub any_given : HubState → Given
@@ -191,14 +142,6 @@ any_given h = record {
   payload = λ pool k. [];
   filled = λ pool k. 0;
 }
-
--- where each node still has what it had, each value is kept
-pub kept_by : (old new : HubState) → ((a n : ℕ) (kind : Kind) → HasValue old a n kind → HasValue new a n kind) → KeepsValues old new
-kept_by old new still a n some = step (kind_in old.control.tables a n) refl some
-  where
-    step : (o : Option Kind) → kind_in old.control.tables a n ≡ o → IsSome o → kind_in new.control.tables a n ≡ kind_in old.control.tables a n
-    step (Some kind) is some = still a n kind is ∙ sym is
-    step None is some = absurd (true≢false (sym some))
 
 -- for whom a handle of the machine asks
 abbrev pub asker : Handle → Receiver
@@ -219,24 +162,9 @@ client_shown x h node n =
     step (Some k) = refl
     step None = refl
 
--- Where such a call is whole, each value is kept.
+-- Where such a call is whole, each pending response asks as before.
 module _ (old new : HubState) (node : ℕ) (call : Call) (reply : Reply) (e : spends call ≡ false)
     (whole : (x : Given) → IsWholeCall (state_of_hub x old) node call reply (state_of_hub x new)) where
-  pub still : (a n : ℕ) (kind : Kind) → HasValue old a n kind → HasValue new a n kind
-  still a n kind has =
-      let x : Given = any_given old in
-      let t : HubTables = old.control.tables in
-      let u : HubTables = new.control.tables in
-      let before : option_map_or (λ k. same_kind k kind) (kind_in t a n) false ≡ true =
-      ap (λ (o : Option Kind). option_map_or (λ k. same_kind k kind) o false) has ∙ eq-eqb (kind_code kind) (kind_code kind) refl in
-      found_kind (kind_in u a n) kind
-      (sym (each_value_is_there (given_by x new) u a n kind).has_it
-      ∙ whole_stays (state_of_hub x old) (state_of_hub x new) node call reply e (whole x) a n kind
-      ((each_value_is_there (given_by x old) t a n kind).has_it ∙ before))
-
-  pub kept : KeepsValues old new
-  kept = kept_by old new still
-
   pub asks_as_before : KeepsAsking old new
   asks_as_before a n has =
       let x : Given = any_given old in
@@ -252,11 +180,6 @@ module _ (old new : HubState) (node : ℕ) (call : Call) (reply : Reply) (e : sp
       ∙ client_shown x old a n
 
 -- a loan spends nothing
-pub loan_keeps : (old new : HubState) (node : ℕ) (uninit : Bool) (n k : ℕ) (reply : Reply)
-    → ((x : Given) → IsWholeCall (state_of_hub x old) node (loan_call uninit n k) reply (state_of_hub x new)) → KeepsValues old new
-loan_keeps old new node true n k reply whole = kept old new node (LoanUninit n k) reply refl whole
-loan_keeps old new node false n k reply whole = kept old new node (Loan n k) reply refl whole
-
 pub loan_asks_as_before : (old new : HubState) (node : ℕ) (uninit : Bool) (n k : ℕ) (reply : Reply)
     → ((x : Given) → IsWholeCall (state_of_hub x old) node (loan_call uninit n k) reply (state_of_hub x new)) → KeepsAsking old new
 loan_asks_as_before old new node true n k reply whole = asks_as_before old new node (LoanUninit n k) reply refl whole

@@ -37,6 +37,7 @@ use Rattle.iox_hub_laws.specs.Sending.{HasNothing}
 use Rattle.iox_hub_laws.proofs.Named.{pending_is, server_is}
 use Rattle.iox_hub_laws.specs.Shown.{handle_of, nothing_given, shown}
 use Rattle.iox_hub_laws.specs.Waiting.{client_in, client_of, server_of}
+use Rattle.iox_hub_laws.proofs.StillValues.{same_kinds}
 use Rattle.iox_hub_laws.proofs.Values.{IsHandleOf, value_is_handle}
 use Rattle.iceoryx2_ports.specs.Asking.{is_open_at}
 use Rattle.iceoryx2_ports.specs.Idling.{client_on}
@@ -47,7 +48,6 @@ use Rattle.iceoryx2_ports.proofs.Aside.{named_at}
 use Rattle.iceoryx2_ports.proofs.Others.{whole_there}
 use Rattle.iceoryx2_ports.proofs.Requested.{port_is_there}
 use Rattle.iceoryx2_ports.proofs.Sparing.{Spares, right_true, whole_spares}
-use Rattle.iceoryx2_ports.proofs.Staying.{same_kinds}
 
 -- ---- what a number names
 

@@ -1,8 +1,7 @@
--- Which values are still there after a call.
-use Rattle.std.specs.Prelude.{◌≡◌, ℕ, Bool, true, false, IsSome}
+-- What of messages and of pending responses is as before after a call.
+use Rattle.std.specs.Prelude.{◌≡◌, ℕ, Bool, true, false}
 use Rattle.iox_model.specs.declared.call.Call.TheVariants.{Release, Send, Write}
 use Rattle.iox_model.specs.Commands.{Call}
-use Rattle.iox_tables.specs.HubLoans.Questions.{kind_in}
 use Rattle.iox_model.specs.declared.kind.Kind.TheVariants.{PendingResponse}
 use Rattle.iox_hub_laws.specs.Hubs.{HasValue, HubState}
 use Rattle.iox_hub_laws.specs.Keeping.{IsOther}
@@ -15,11 +14,10 @@ spends (Send n) = true
 spends (Release n) = true
 spends call = false
 
--- Each value that a node had, it still has.
-abbrev pub KeepsValues : HubState → HubState → Type 0
-KeepsValues old new =
-    (node n : ℕ) → IsSome (kind_in old.control.tables node n)
-    → kind_in new.control.tables node n ≡ kind_in old.control.tables node n
+-- Messages have the same shapes as before: what they are made of, and what they carry at first.
+pub record HaveSameShapes (old new : HubState) : Type 0 where
+  pub request : new.request ≡ old.request
+  pub response : new.response ≡ old.response
 
 -- Each pending response is of the same client, and for the same request, as before.
 abbrev pub KeepsAsking : HubState → HubState → Type 0

@@ -22,11 +22,16 @@ pub use Rattle.iox_hub_laws.specs.Keeping as HubKeeping
 pub use Rattle.iox_hub_laws.specs.Lending
 pub use Rattle.iox_hub_laws.specs.Making
 pub use Rattle.iox_hub_laws.specs.Reads
+pub use Rattle.iox_hub_laws.specs.Releases as HubReleases
 pub use Rattle.iox_hub_laws.specs.Sending
 pub use Rattle.iox_hub_laws.specs.Shapes
 pub use Rattle.iox_hub_laws.specs.Receives
 pub use Rattle.iox_hub_laws.specs.Sends
 pub use Rattle.iox_hub_laws.specs.Waiting
+pub use Rattle.iox_hub_laws.specs.Histories as HubHistories
+pub use Rattle.iox_hub_laws.specs.Limits as HubLimits
+pub use Rattle.iox_hub_laws.specs.Slots as HubSlots
+pub use Rattle.iox_hub_laws.specs.Gone as HubGone
 -- for types of callers: values as words, words in parts, or of values that pass a test, and the
 -- words of std's types
 pub use Rattle.iox_words.specs.WordLists
@@ -44,6 +49,7 @@ pub mod Calls
 pub mod Answers
 pub mod Headers
 pub mod Keeping
+pub mod Holding
 pub mod Makings
 pub mod Loans
 pub mod LoanLimits

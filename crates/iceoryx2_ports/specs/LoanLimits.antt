@@ -1,4 +1,5 @@
--- Loans of a client, and to an active request, of which there are as many as may be.
+-- Loans of a client, and to an active request, that are within the limits, and of which there are as
+-- many as may be.
 use Rattle.std.specs.Prelude.{◌≡◌, ℕ, ◌+◌, ◌≤◌, true, Option, Some, None}
 use Rattle.std.specs.Option.{option_map_or}
 use Rattle.iox_model.specs.Handles.{handle_at}
@@ -8,8 +9,10 @@ use Rattle.iox_model.specs.Settings.{is_count}
 use Rattle.iox_model.specs.States.{Handle, Port}
 use Rattle.iox_tables.specs.HubLoans.Counts.{requests_on_loan}
 use Rattle.iox_tables.specs.HubLoans.Lenders.{size_refusal}
-use Rattle.iox_tables.specs.HubStates.Tables.{PortState, port_in}
+use Rattle.iox_tables.specs.HubStates.Tables.{HandleState, PortState, port_in}
+use Rattle.iox_tables.specs.HubStates.Wirings.{handle_in}
 use Rattle.iox_hub_laws.specs.Hubs.{HubState}
+use Rattle.iox_hub_laws.specs.Loans.{HasFullPools, IsWithinLimits, IsWithinServersLimits}
 use Rattle.iox_hub_laws.specs.Shown.{shown}
 use Rattle.iceoryx2_ports.specs.Calls.{HasCallsLeft}
 
@@ -29,6 +32,12 @@ pub record HasAllLoans (h : HubState) (client k : ℕ) : Type 0 where
   pub loans :
       h.control.tables.settings.loaned_requests ≤ requests_on_loan h.control.tables client
 
+-- The client, which is new, has no request on loan. It may have as many as clients may.
+pub record LendsNone (old : HubState) (client : ℕ) (new : HubState) : Type 0 where
+  pub count : requests_on_loan new.control.tables client ≡ 0
+  pub limit :
+      new.control.tables.settings.loaned_requests ≡ old.control.tables.settings.loaned_requests
+
 -- The client, which may lend so many elements, has one more request on loan. It may have as many as
 -- before.
 pub record LendsOneMore (old : HubState) (client k : ℕ) (new : HubState) : Type 0 where
@@ -37,6 +46,18 @@ pub record LendsOneMore (old : HubState) (client k : ℕ) (new : HubState) : Typ
   pub limit :
       new.control.tables.settings.loaned_requests ≡ old.control.tables.settings.loaned_requests
   pub length : LendsLength new client k
+
+-- The client may lend so many elements: it is within its limits, and its node has full pools.
+pub record CanLend (h : HubState) (node client k : ℕ) : Type 0 where
+  pub port : PortState
+  pub there : port_in h.control.tables.ports client ≡ Some port
+  pub limits : IsWithinLimits h.control.tables h.request port k
+  pub pools : HasFullPools h node
+
+-- So many elements are no more than the client's messages have room for.
+abbrev pub LendsAtMostLongest : HubState → ℕ → ℕ → Type 0
+LendsAtMostLongest h client k =
+    (p : PortState) → port_in h.control.tables.ports client ≡ Some p → k ≤ p.longest
 
 -- ---- responses
 
@@ -76,3 +97,18 @@ pub record RespondsOneMore (old : HubState) (node n k : ℕ) (new : HubState) : 
   pub count : responses_lent new node n ≡ responses_lent old node n + 1
   pub limit : most_responses new node n ≡ most_responses old node n
   pub length : RespondsLength new node n k
+
+-- The server may answer that request with so many elements: it is within its limits, and its node has
+-- full pools.
+pub record CanRespond (h : HubState) (node n k : ℕ) : Type 0 where
+  pub active : HandleState
+  pub named : handle_in h.control.tables.handles node n ≡ Some active
+  pub port : PortState
+  pub there : port_in h.control.tables.ports active.port ≡ Some port
+  pub limits : IsWithinServersLimits h.control.tables h.response active port k
+  pub pools : HasFullPools h node
+
+-- So many elements are no more than the server's messages have room for.
+abbrev pub RespondsAtMostLongest : HubState → ℕ → ℕ → ℕ → Type 0
+RespondsAtMostLongest h node n k =
+    (server : Port) → server_in h node n ≡ Some server → k ≤ server.longest

@@ -1,6 +1,6 @@
 //! A request that a server received.
 ghost use Rattle.std.specs.Prelude.{◌≡◌, ◌≢◌, ◌++◌, ◌↔◌, Err, IfErr, IfNone, IfOk, IfSome, IsSome};
-ghost use Rattle.std.specs.Prelude.{IsTrue, OnErr, OnOk, [], false, flat_map, true};
+ghost use Rattle.std.specs.Prelude.{IsOk, IsTrue, OnErr, OnOk, [], false, flat_map, true};
 ghost use Rattle.iox_model.specs.declared.call.Call.TheVariants as calls;
 ghost use Rattle.iox_model.specs.declared.kind.Kind.TheVariants as kinds;
 ghost use Rattle.iox_model.specs.declared.kind.Role.TheVariants as roles;
@@ -9,14 +9,17 @@ ghost use Rattle.iox_model.specs.WholeCalls.{IsWholeCall};
 ghost use Rattle.iox_tables.specs.HubStates.States.{Given};
 ghost use Rattle.iox_hub_laws.specs.Headers.{IsHeaderShown, header_in};
 ghost use Rattle.iox_hub_laws.specs.Hubs.{HasValue, state_of_hub, with_control};
+ghost use Rattle.iox_hub_laws.specs.Keeping.{KeepsAll};
 ghost use Rattle.iox_hub_laws.specs.Lending.{IsFresh};
 ghost use Rattle.iox_hub_laws.specs.Reads.{message_in};
 ghost use Rattle.iceoryx2_ports.specs.Headers.{request_header_of};
+ghost use Rattle.iox_hub_laws.specs.Sending.{HasNothing};
 ghost use Rattle.iox_hub_laws.specs.Sends.{NothingComes};
 ghost use Rattle.iceoryx2_ports.specs.Asking.{AnswersAs};
 ghost use Rattle.iceoryx2_ports.specs.Idling.{GivesBack};
-ghost use Rattle.iceoryx2_ports.specs.Keeping.{KeepsAsking, KeepsValues};
-ghost use Rattle.iceoryx2_ports.specs.LoanLimits.{HasAllResponses, RespondsOneMore};
+ghost use Rattle.iceoryx2_ports.specs.Keeping.{HaveSameShapes, KeepsAsking};
+ghost use Rattle.iceoryx2_ports.specs.LoanLimits.{CanRespond, HasAllResponses};
+ghost use Rattle.iceoryx2_ports.specs.LoanLimits.{RespondsAtMostLongest, RespondsOneMore};
 ghost use Rattle.iceoryx2_ports.specs.Loans.{reply_of_loan};
 ghost use Rattle.iceoryx2_ports.specs.Opens.{KeepsRequests};
 ghost use Rattle.iceoryx2_ports.specs.Payloads.{BeginsWith};
@@ -25,6 +28,7 @@ ghost use Rattle.iceoryx2_ports.specs.Releases.{IsReleased};
 ghost use Rattle.iceoryx2_ports.specs.Responses.{is_open};
 ghost use Rattle.iceoryx2_ports.specs.declared.errors.LoanError.TheVariants.{ExceedsMaxLoans};
 ghost use Rattle.iceoryx2_ports.specs.declared.errors.LoanError.TheVariants.{OutOfMemory};
+ghost use Rattle.iceoryx2_ports.specs.declared.errors.LoanError.TheVariants.{WantOfMemory};
 
 use crate::errors::LoanError;
 use crate::headers::request_header;
@@ -181,7 +185,9 @@ impl<Q: Payload, QH: Words, E: Words, PH: Words> ActiveRequest<Q, QH, One<E>, PH
             IsFresh hub.new loan.node loan.number roles.Server hub.old.response true 1) }
         ensures node { IfOk result (λ loan. loan.node ≡ self.now.node) }
         ensures comes { NothingComes hub.old hub.new }
-        ensures keeps { KeepsValues hub.old hub.new }
+        ensures new { IfOk result (λ loan. HasNothing hub.old self.now.node loan.number) }
+        ensures keeps { KeepsAll hub.old hub.new }
+        ensures shapes { HaveSameShapes hub.old hub.new }
         ensures asks { KeepsAsking hub.old hub.new }
         ensures room { KeepsRoom hub.old hub.new }
         ensures requests { KeepsRequests hub.old hub.new }
@@ -191,6 +197,10 @@ impl<Q: Payload, QH: Words, E: Words, PH: Words> ActiveRequest<Q, QH, One<E>, PH
             (RespondsOneMore hub.old self.now.node self.now.number 1 hub.new) }
         ensures past { HasAllResponses hub.old self.now.node self.now.number 1
             → result ≡ Err ExceedsMaxLoans }
+        ensures within { CanRespond hub.old self.now.node self.now.number 1 → IsOk result }
+        ensures never { IfErr result (λ error.
+            RespondsAtMostLongest hub.old self.now.node self.now.number 1
+            → error ≢ WantOfMemory) }
         ensures unchanged { IfErr result (λ error. error ≢ OutOfMemory → hub.new ≡ hub.old) }
         ensures left { OnErr result (hub.new ≡ with_control hub.old hub.new.control) }
     {
@@ -214,7 +224,9 @@ impl<Q: Payload, QH: Words, E: Words, PH: Words> ActiveRequest<Q, QH, One<E>, PH
             IsFresh hub.new loan.node loan.number roles.Server hub.old.response false 1) }
         ensures node { IfOk result (λ loan. loan.node ≡ self.now.node) }
         ensures comes { NothingComes hub.old hub.new }
-        ensures keeps { KeepsValues hub.old hub.new }
+        ensures new { IfOk result (λ loan. HasNothing hub.old self.now.node loan.number) }
+        ensures keeps { KeepsAll hub.old hub.new }
+        ensures shapes { HaveSameShapes hub.old hub.new }
         ensures asks { KeepsAsking hub.old hub.new }
         ensures room { KeepsRoom hub.old hub.new }
         ensures requests { KeepsRequests hub.old hub.new }
@@ -224,6 +236,10 @@ impl<Q: Payload, QH: Words, E: Words, PH: Words> ActiveRequest<Q, QH, One<E>, PH
             (RespondsOneMore hub.old self.now.node self.now.number 1 hub.new) }
         ensures past { HasAllResponses hub.old self.now.node self.now.number 1
             → result ≡ Err ExceedsMaxLoans }
+        ensures within { CanRespond hub.old self.now.node self.now.number 1 → IsOk result }
+        ensures never { IfErr result (λ error.
+            RespondsAtMostLongest hub.old self.now.node self.now.number 1
+            → error ≢ WantOfMemory) }
         ensures unchanged { IfErr result (λ error. error ≢ OutOfMemory → hub.new ≡ hub.old) }
         ensures left { OnErr result (hub.new ≡ with_control hub.old hub.new.control) }
     {
@@ -249,7 +265,9 @@ impl<Q: Payload, QH: Words, E: Words, PH: Words> ActiveRequest<Q, QH, Many<E>, P
             IsFresh hub.new loan.node loan.number roles.Server hub.old.response true elements) }
         ensures node { IfOk result (λ loan. loan.node ≡ self.now.node) }
         ensures comes { NothingComes hub.old hub.new }
-        ensures keeps { KeepsValues hub.old hub.new }
+        ensures new { IfOk result (λ loan. HasNothing hub.old self.now.node loan.number) }
+        ensures keeps { KeepsAll hub.old hub.new }
+        ensures shapes { HaveSameShapes hub.old hub.new }
         ensures asks { KeepsAsking hub.old hub.new }
         ensures room { KeepsRoom hub.old hub.new }
         ensures requests { KeepsRequests hub.old hub.new }
@@ -259,6 +277,10 @@ impl<Q: Payload, QH: Words, E: Words, PH: Words> ActiveRequest<Q, QH, Many<E>, P
             (RespondsOneMore hub.old self.now.node self.now.number elements hub.new) }
         ensures past { HasAllResponses hub.old self.now.node self.now.number elements
             → result ≡ Err ExceedsMaxLoans }
+        ensures within { CanRespond hub.old self.now.node self.now.number elements → IsOk result }
+        ensures never { IfErr result (λ error.
+            RespondsAtMostLongest hub.old self.now.node self.now.number elements
+            → error ≢ WantOfMemory) }
         ensures unchanged { IfErr result (λ error. error ≢ OutOfMemory → hub.new ≡ hub.old) }
         ensures left { OnErr result (hub.new ≡ with_control hub.old hub.new.control) }
     {
@@ -283,7 +305,9 @@ impl<Q: Payload, QH: Words, E: Words, PH: Words> ActiveRequest<Q, QH, Many<E>, P
             IsFresh hub.new loan.node loan.number roles.Server hub.old.response false elements) }
         ensures node { IfOk result (λ loan. loan.node ≡ self.now.node) }
         ensures comes { NothingComes hub.old hub.new }
-        ensures keeps { KeepsValues hub.old hub.new }
+        ensures new { IfOk result (λ loan. HasNothing hub.old self.now.node loan.number) }
+        ensures keeps { KeepsAll hub.old hub.new }
+        ensures shapes { HaveSameShapes hub.old hub.new }
         ensures asks { KeepsAsking hub.old hub.new }
         ensures room { KeepsRoom hub.old hub.new }
         ensures requests { KeepsRequests hub.old hub.new }
@@ -293,6 +317,10 @@ impl<Q: Payload, QH: Words, E: Words, PH: Words> ActiveRequest<Q, QH, Many<E>, P
             (RespondsOneMore hub.old self.now.node self.now.number elements hub.new) }
         ensures past { HasAllResponses hub.old self.now.node self.now.number elements
             → result ≡ Err ExceedsMaxLoans }
+        ensures within { CanRespond hub.old self.now.node self.now.number elements → IsOk result }
+        ensures never { IfErr result (λ error.
+            RespondsAtMostLongest hub.old self.now.node self.now.number elements
+            → error ≢ WantOfMemory) }
         ensures unchanged { IfErr result (λ error. error ≢ OutOfMemory → hub.new ≡ hub.old) }
         ensures left { OnErr result (hub.new ≡ with_control hub.old hub.new.control) }
     {

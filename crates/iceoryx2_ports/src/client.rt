@@ -1,24 +1,30 @@
 //! A client.
 ghost use Rattle.std.specs.Prelude.{◌≡◌, ◌≢◌, ◌↔◌, Err, IfErr, IfOk, IsOk, IsSome, IsTrue, OnErr};
-ghost use Rattle.std.specs.Prelude.{OnOk, false, true};
+ghost use Rattle.std.specs.Prelude.{OnOk, Some, false, true};
+ghost use Rattle.std.specs.Option.{option_map};
 ghost use Rattle.iox_model.specs.declared.call.Call.TheVariants as calls;
 ghost use Rattle.iox_model.specs.declared.kind.Kind.TheVariants as kinds;
 ghost use Rattle.iox_model.specs.declared.kind.Role.TheVariants as roles;
+ghost use Rattle.iox_model.specs.Peers.{port_at};
 ghost use Rattle.iox_model.specs.WholeCalls.{IsWholeCall};
 ghost use Rattle.iox_tables.specs.HubStates.States.{Given};
 ghost use Rattle.iox_hub_laws.specs.Headers.{IsIdShown, id_in};
 ghost use Rattle.iox_hub_laws.specs.Hubs.{HasValue, state_of_hub, with_control};
+ghost use Rattle.iox_hub_laws.specs.Keeping.{KeepsAll};
 ghost use Rattle.iox_hub_laws.specs.Lending.{IsFresh};
+ghost use Rattle.iox_hub_laws.specs.Sending.{HasNothing};
 ghost use Rattle.iox_hub_laws.specs.Sends.{NothingComes};
 ghost use Rattle.iceoryx2_ports.specs.Asking.{LendsQuietly};
-ghost use Rattle.iceoryx2_ports.specs.Keeping.{KeepsAsking, KeepsValues};
-ghost use Rattle.iceoryx2_ports.specs.LoanLimits.{HasAllLoans, LendsOneMore};
+ghost use Rattle.iceoryx2_ports.specs.Keeping.{HaveSameShapes, KeepsAsking};
+ghost use Rattle.iceoryx2_ports.specs.LoanLimits.{CanLend, HasAllLoans, LendsAtMostLongest};
+ghost use Rattle.iceoryx2_ports.specs.LoanLimits.{LendsOneMore};
 ghost use Rattle.iceoryx2_ports.specs.Loans.{reply_of_loan};
 ghost use Rattle.iceoryx2_ports.specs.Opens.{KeepsRequests};
 ghost use Rattle.iceoryx2_ports.specs.Reaching.{KeepsRoom};
 ghost use Rattle.iceoryx2_ports.specs.Releases.{IsReleased};
 ghost use Rattle.iceoryx2_ports.specs.declared.errors.LoanError.TheVariants.{ExceedsMaxLoans};
 ghost use Rattle.iceoryx2_ports.specs.declared.errors.LoanError.TheVariants.{OutOfMemory};
+ghost use Rattle.iceoryx2_ports.specs.declared.errors.LoanError.TheVariants.{WantOfMemory};
 
 use crate::errors::{ConnectionFailure, LoanError};
 use crate::loans::lend_request;
@@ -27,6 +33,7 @@ use crate::request_mut::{RequestMut, RequestMutUninit};
 use iox_hub_laws::Hub;
 use iox_model::kind::Kind;
 use iox_store::{Many, One, Payload};
+use iox_types::BackpressureStrategy;
 use iox_types::identifiers::UniqueClientId;
 use iox_words::Words;
 use std::marker::PhantomData;
@@ -60,6 +67,24 @@ impl<Q: Payload, QH: Words, P: Payload, PH: Words> Client<Q, QH, P, PH> {
         ensures shown { IsIdShown hub.now self.now.number }
     {
         UniqueClientId::new(hub.port_id(self.node, self.number))
+    }
+
+    /// What it does at a full server.
+    pub fn backpressure_strategy(&self, hub: &Hub<Q, QH, P, PH>) -> BackpressureStrategy
+        requires has { HasValue hub.now self.now.node self.now.number kinds.Client }
+        ensures { (x : Given) → option_map (λ p. p.strategy)
+            (port_at (state_of_hub x hub.now).fixed self.now.number) ≡ Some result }
+    {
+        hub.port_strategy(self.node, self.number)
+    }
+
+    /// The greatest length of its requests.
+    pub fn initial_max_slice_len(&self, hub: &Hub<Q, QH, P, PH>) -> u64
+        requires has { HasValue hub.now self.now.node self.now.number kinds.Client }
+        ensures { (x : Given) → option_map (λ p. p.longest)
+            (port_at (state_of_hub x hub.now).fixed self.now.number) ≡ Some result }
+    {
+        hub.port_longest(self.node, self.number)
     }
 
     /// Does nothing: ports are connected as they are made.
@@ -104,7 +129,9 @@ impl<E: Words, QH: Words, P: Payload, PH: Words> Client<One<E>, QH, P, PH> {
             IsFresh hub.new loan.node loan.number roles.Client hub.old.request true 1) }
         ensures node { IfOk result (λ loan. loan.node ≡ self.now.node) }
         ensures comes { NothingComes hub.old hub.new }
-        ensures keeps { KeepsValues hub.old hub.new }
+        ensures new { IfOk result (λ loan. HasNothing hub.old self.now.node loan.number) }
+        ensures keeps { KeepsAll hub.old hub.new }
+        ensures shapes { HaveSameShapes hub.old hub.new }
         ensures asks { KeepsAsking hub.old hub.new }
         ensures room { KeepsRoom hub.old hub.new }
         ensures requests { KeepsRequests hub.old hub.new }
@@ -114,6 +141,9 @@ impl<E: Words, QH: Words, P: Payload, PH: Words> Client<One<E>, QH, P, PH> {
             (LendsOneMore hub.old self.now.number 1 hub.new) }
         ensures past { HasAllLoans hub.old self.now.number 1
             → result ≡ Err ExceedsMaxLoans }
+        ensures within { CanLend hub.old self.now.node self.now.number 1 → IsOk result }
+        ensures never { IfErr result (λ error.
+            LendsAtMostLongest hub.old self.now.number 1 → error ≢ WantOfMemory) }
         ensures unchanged { IfErr result (λ error. error ≢ OutOfMemory → hub.new ≡ hub.old) }
         ensures left { OnErr result (hub.new ≡ with_control hub.old hub.new.control) }
     {
@@ -137,7 +167,9 @@ impl<E: Words, QH: Words, P: Payload, PH: Words> Client<One<E>, QH, P, PH> {
             IsFresh hub.new loan.node loan.number roles.Client hub.old.request false 1) }
         ensures node { IfOk result (λ loan. loan.node ≡ self.now.node) }
         ensures comes { NothingComes hub.old hub.new }
-        ensures keeps { KeepsValues hub.old hub.new }
+        ensures new { IfOk result (λ loan. HasNothing hub.old self.now.node loan.number) }
+        ensures keeps { KeepsAll hub.old hub.new }
+        ensures shapes { HaveSameShapes hub.old hub.new }
         ensures asks { KeepsAsking hub.old hub.new }
         ensures room { KeepsRoom hub.old hub.new }
         ensures requests { KeepsRequests hub.old hub.new }
@@ -147,6 +179,9 @@ impl<E: Words, QH: Words, P: Payload, PH: Words> Client<One<E>, QH, P, PH> {
             (LendsOneMore hub.old self.now.number 1 hub.new) }
         ensures past { HasAllLoans hub.old self.now.number 1
             → result ≡ Err ExceedsMaxLoans }
+        ensures within { CanLend hub.old self.now.node self.now.number 1 → IsOk result }
+        ensures never { IfErr result (λ error.
+            LendsAtMostLongest hub.old self.now.number 1 → error ≢ WantOfMemory) }
         ensures unchanged { IfErr result (λ error. error ≢ OutOfMemory → hub.new ≡ hub.old) }
         ensures left { OnErr result (hub.new ≡ with_control hub.old hub.new.control) }
     {
@@ -172,7 +207,9 @@ impl<E: Words, QH: Words, P: Payload, PH: Words> Client<Many<E>, QH, P, PH> {
             IsFresh hub.new loan.node loan.number roles.Client hub.old.request true elements) }
         ensures node { IfOk result (λ loan. loan.node ≡ self.now.node) }
         ensures comes { NothingComes hub.old hub.new }
-        ensures keeps { KeepsValues hub.old hub.new }
+        ensures new { IfOk result (λ loan. HasNothing hub.old self.now.node loan.number) }
+        ensures keeps { KeepsAll hub.old hub.new }
+        ensures shapes { HaveSameShapes hub.old hub.new }
         ensures asks { KeepsAsking hub.old hub.new }
         ensures room { KeepsRoom hub.old hub.new }
         ensures requests { KeepsRequests hub.old hub.new }
@@ -182,6 +219,9 @@ impl<E: Words, QH: Words, P: Payload, PH: Words> Client<Many<E>, QH, P, PH> {
             (LendsOneMore hub.old self.now.number elements hub.new) }
         ensures past { HasAllLoans hub.old self.now.number elements
             → result ≡ Err ExceedsMaxLoans }
+        ensures within { CanLend hub.old self.now.node self.now.number elements → IsOk result }
+        ensures never { IfErr result (λ error.
+            LendsAtMostLongest hub.old self.now.number elements → error ≢ WantOfMemory) }
         ensures unchanged { IfErr result (λ error. error ≢ OutOfMemory → hub.new ≡ hub.old) }
         ensures left { OnErr result (hub.new ≡ with_control hub.old hub.new.control) }
     {
@@ -206,7 +246,9 @@ impl<E: Words, QH: Words, P: Payload, PH: Words> Client<Many<E>, QH, P, PH> {
             IsFresh hub.new loan.node loan.number roles.Client hub.old.request false elements) }
         ensures node { IfOk result (λ loan. loan.node ≡ self.now.node) }
         ensures comes { NothingComes hub.old hub.new }
-        ensures keeps { KeepsValues hub.old hub.new }
+        ensures new { IfOk result (λ loan. HasNothing hub.old self.now.node loan.number) }
+        ensures keeps { KeepsAll hub.old hub.new }
+        ensures shapes { HaveSameShapes hub.old hub.new }
         ensures asks { KeepsAsking hub.old hub.new }
         ensures room { KeepsRoom hub.old hub.new }
         ensures requests { KeepsRequests hub.old hub.new }
@@ -216,6 +258,9 @@ impl<E: Words, QH: Words, P: Payload, PH: Words> Client<Many<E>, QH, P, PH> {
             (LendsOneMore hub.old self.now.number elements hub.new) }
         ensures past { HasAllLoans hub.old self.now.number elements
             → result ≡ Err ExceedsMaxLoans }
+        ensures within { CanLend hub.old self.now.node self.now.number elements → IsOk result }
+        ensures never { IfErr result (λ error.
+            LendsAtMostLongest hub.old self.now.number elements → error ≢ WantOfMemory) }
         ensures unchanged { IfErr result (λ error. error ≢ OutOfMemory → hub.new ≡ hub.old) }
         ensures left { OnErr result (hub.new ≡ with_control hub.old hub.new.control) }
     {

@@ -7,6 +7,7 @@ mod client;
 mod copies;
 mod errors;
 mod headers;
+pub mod laws;
 mod loans;
 mod overrides;
 mod pending_response;
@@ -25,6 +26,8 @@ pub mod uses_copying;
 pub mod uses_exchange;
 pub mod uses_filling;
 pub mod uses_headers;
+pub mod uses_keeping;
+pub mod uses_laws;
 pub mod uses_limits;
 pub mod uses_reaching;
 pub mod uses_reading;
@@ -38,6 +41,7 @@ pub use errors::{
 };
 pub use iox_hub_laws::{
     Hub, MessageShape, Part, PreallocatedRequestsOverride, PreallocatedResponseOverride, Settings,
+    default_settings,
 };
 pub use iox_model::kind::{Kind, Role};
 pub use iox_store::{Many, One, Payload};

@@ -1,22 +1,27 @@
 //! Loans of clients and of active requests, by their numbers.
-ghost use Rattle.std.specs.Prelude.{◌≡◌, ◌≢◌, Err, IfErr, IfOk, IsSome, OnErr, OnOk, false};
+ghost use Rattle.std.specs.Prelude.{◌≡◌, ◌≢◌, Err, IfErr, IfOk, IsOk, IsSome, OnErr, OnOk, false};
 ghost use Rattle.iox_model.specs.declared.kind.Kind.TheVariants as kinds;
 ghost use Rattle.iox_model.specs.declared.kind.Role.TheVariants as roles;
 ghost use Rattle.iox_model.specs.WholeCalls.{IsWholeCall};
 ghost use Rattle.iox_tables.specs.HubLoans.Loans.{loan_call};
 ghost use Rattle.iox_tables.specs.HubStates.States.{Given};
 ghost use Rattle.iox_hub_laws.specs.Hubs.{HasValue, state_of_hub, with_control};
+ghost use Rattle.iox_hub_laws.specs.Keeping.{KeepsAll};
 ghost use Rattle.iox_hub_laws.specs.Lending.{IsFresh};
+ghost use Rattle.iox_hub_laws.specs.Sending.{HasNothing};
 ghost use Rattle.iox_hub_laws.specs.Sends.{NothingComes};
 ghost use Rattle.iceoryx2_ports.specs.Asking.{AnswersAs, LendsQuietly};
-ghost use Rattle.iceoryx2_ports.specs.Keeping.{KeepsAsking, KeepsValues};
-ghost use Rattle.iceoryx2_ports.specs.LoanLimits.{HasAllLoans, HasAllResponses};
-ghost use Rattle.iceoryx2_ports.specs.LoanLimits.{LendsOneMore, RespondsOneMore};
+ghost use Rattle.iceoryx2_ports.specs.Keeping.{HaveSameShapes, KeepsAsking};
+ghost use Rattle.iceoryx2_ports.specs.LoanLimits.{CanLend, CanRespond, HasAllLoans};
+ghost use Rattle.iceoryx2_ports.specs.LoanLimits.{HasAllResponses, LendsAtMostLongest};
+ghost use Rattle.iceoryx2_ports.specs.LoanLimits.{LendsOneMore, RespondsAtMostLongest};
+ghost use Rattle.iceoryx2_ports.specs.LoanLimits.{RespondsOneMore};
 ghost use Rattle.iceoryx2_ports.specs.Loans.{reply_of_loan};
 ghost use Rattle.iceoryx2_ports.specs.Opens.{KeepsRequests};
 ghost use Rattle.iceoryx2_ports.specs.Reaching.{KeepsRoom};
 ghost use Rattle.iceoryx2_ports.specs.declared.errors.LoanError.TheVariants.{ExceedsMaxLoans};
 ghost use Rattle.iceoryx2_ports.specs.declared.errors.LoanError.TheVariants.{OutOfMemory};
+ghost use Rattle.iceoryx2_ports.specs.declared.errors.LoanError.TheVariants.{WantOfMemory};
 
 use crate::errors::LoanError;
 use iox_hub_laws::{Hub, Lent, LoanRefusal};
@@ -39,13 +44,18 @@ pub(crate) fn lend_request<Q: Payload, QH: Words, P: Payload, PH: Words>(
     ensures fresh { IfOk result (λ n.
         IsFresh hub.new node n roles.Client hub.old.request uninit elements) }
     ensures comes { NothingComes hub.old hub.new }
-    ensures keeps { KeepsValues hub.old hub.new }
+    ensures new { IfOk result (λ n. HasNothing hub.old node n) }
+    ensures keeps { KeepsAll hub.old hub.new }
+    ensures shapes { HaveSameShapes hub.old hub.new }
     ensures asks { KeepsAsking hub.old hub.new }
     ensures room { KeepsRoom hub.old hub.new }
     ensures requests { KeepsRequests hub.old hub.new }
     ensures quiet { IfOk result (λ n. LendsQuietly hub.old client hub.new node n) }
     ensures counted { OnOk result (LendsOneMore hub.old client elements hub.new) }
     ensures past { HasAllLoans hub.old client elements → result ≡ Err ExceedsMaxLoans }
+    ensures within { CanLend hub.old node client elements → IsOk result }
+    ensures never { IfErr result (λ error.
+        LendsAtMostLongest hub.old client elements → error ≢ WantOfMemory) }
     ensures unchanged { IfErr result (λ error. error ≢ OutOfMemory → hub.new ≡ hub.old) }
     ensures left { OnErr result (hub.new ≡ with_control hub.old hub.new.control) }
 {
@@ -80,13 +90,18 @@ pub(crate) fn lend_response<Q: Payload, QH: Words, P: Payload, PH: Words>(
     ensures fresh { IfOk result (λ n.
         IsFresh hub.new node n roles.Server hub.old.response uninit elements) }
     ensures comes { NothingComes hub.old hub.new }
-    ensures keeps { KeepsValues hub.old hub.new }
+    ensures new { IfOk result (λ n. HasNothing hub.old node n) }
+    ensures keeps { KeepsAll hub.old hub.new }
+    ensures shapes { HaveSameShapes hub.old hub.new }
     ensures asks { KeepsAsking hub.old hub.new }
     ensures room { KeepsRoom hub.old hub.new }
     ensures requests { KeepsRequests hub.old hub.new }
     ensures answers { IfOk result (λ n. AnswersAs hub.old node number hub.new node n) }
     ensures counted { OnOk result (RespondsOneMore hub.old node number elements hub.new) }
     ensures past { HasAllResponses hub.old node number elements → result ≡ Err ExceedsMaxLoans }
+    ensures within { CanRespond hub.old node number elements → IsOk result }
+    ensures never { IfErr result (λ error.
+        RespondsAtMostLongest hub.old node number elements → error ≢ WantOfMemory) }
     ensures unchanged { IfErr result (λ error. error ≢ OutOfMemory → hub.new ≡ hub.old) }
     ensures left { OnErr result (hub.new ≡ with_control hub.old hub.new.control) }
 {

@@ -7,6 +7,7 @@ ghost use Rattle.iox_model.specs.WholeCalls.{IsWholeCall};
 ghost use Rattle.iox_tables.specs.HubStates.States.{Given};
 ghost use Rattle.iox_hub_laws.specs.Headers.{IsHeaderShown, header_in};
 ghost use Rattle.iox_hub_laws.specs.Hubs.{HasValue, state_of_hub, with_control};
+ghost use Rattle.iox_hub_laws.specs.Keeping.{KeepsAll};
 ghost use Rattle.iox_hub_laws.specs.Reads.{message_in};
 ghost use Rattle.iox_hub_laws.specs.Receives.{CarriesWhatWaited, TakesResponse};
 ghost use Rattle.iox_hub_laws.specs.Sends.{NothingComes};
@@ -14,8 +15,9 @@ ghost use Rattle.iox_hub_laws.specs.Waiting.{WaitedFor, client_in};
 ghost use Rattle.iceoryx2_ports.specs.Answers.{received_response, reply_of_response};
 ghost use Rattle.iceoryx2_ports.specs.Calls.{HasCallsLeft};
 ghost use Rattle.iceoryx2_ports.specs.Headers.{request_header_of};
+ghost use Rattle.iceoryx2_ports.specs.Holding.{KeepsValues};
 ghost use Rattle.iceoryx2_ports.specs.Idling.{TakesTheOne};
-ghost use Rattle.iceoryx2_ports.specs.Keeping.{KeepsAsking, KeepsValues};
+ghost use Rattle.iceoryx2_ports.specs.Keeping.{HaveSameShapes, KeepsAsking};
 ghost use Rattle.iceoryx2_ports.specs.Opens.{KeepsRequests};
 ghost use Rattle.iceoryx2_ports.specs.Releases.{IsReleased};
 ghost use Rattle.iceoryx2_ports.specs.Rooms.{TakesOfRoom};
@@ -82,6 +84,7 @@ impl<Q: Payload, QH: Words, P: Payload, PH: Words> PendingResponse<Q, QH, P, PH>
             HasValue hub.new response.node response.number kinds.Response)) }
         ensures node { IfOk result (λ got. IfSome got (λ response. response.node ≡ self.now.node)) }
         ensures keeps { KeepsValues hub.old hub.new }
+        ensures shapes { HaveSameShapes hub.old hub.new }
         ensures asks { KeepsAsking hub.old hub.new }
         ensures refused { IfErr result (λ error. error ≡ ExceedsMaxBorrows) }
         ensures waited { WaitedFor hub.old (client_in hub.old self.now.node self.now.number)
@@ -124,7 +127,8 @@ impl<Q: Payload, QH: Words, P: Payload, PH: Words> PendingResponse<Q, QH, P, PH>
         ensures left { hub.new ≡ with_control hub.old hub.new.control }
         ensures whole { (x : Given) → IsWholeCall (state_of_hub x hub.old) self.now.node
             (calls.SetHint self.now.number) Done (state_of_hub x hub.new) }
-        ensures keeps { KeepsValues hub.old hub.new }
+        ensures keeps { KeepsAll hub.old hub.new }
+        ensures shapes { HaveSameShapes hub.old hub.new }
         ensures asks { KeepsAsking hub.old hub.new }
         ensures requests { KeepsRequests hub.old hub.new }
     {

@@ -6,9 +6,11 @@ ghost use Rattle.iox_model.specs.Commands.{Create};
 ghost use Rattle.iox_model.specs.Makings.{IsHubCommand};
 ghost use Rattle.iox_tables.specs.HubStates.States.{Given};
 ghost use Rattle.iox_hub_laws.specs.Hubs.{HasValue, state_of_hub};
+ghost use Rattle.iox_hub_laws.specs.Keeping.{KeepsAll};
 ghost use Rattle.iox_hub_laws.specs.Making.{LeavesMessages, StaysAs, options_of};
 ghost use Rattle.iox_hub_laws.specs.Sends.{NothingComes};
-ghost use Rattle.iceoryx2_ports.specs.Keeping.{KeepsValues};
+ghost use Rattle.iceoryx2_ports.specs.Keeping.{HaveSameShapes};
+ghost use Rattle.iceoryx2_ports.specs.LoanLimits.{LendsNone};
 ghost use Rattle.iceoryx2_ports.specs.Makings.{first_options, reply_of_client};
 ghost use Rattle.iceoryx2_ports.specs.Idling.{IsIdle, client_on};
 ghost use Rattle.iceoryx2_ports.specs.Reaching.{KeepsRoom};
@@ -120,10 +122,12 @@ impl<Q: Payload, QH: Words, P: Payload, PH: Words> PortFactoryClient<Q, QH, P, P
         ensures node { IfOk result (λ client. client.node ≡ self.node) }
         ensures has { IfOk result (λ client.
             HasValue hub.new self.node client.number kinds.Client) }
-        ensures keeps { KeepsValues hub.old hub.new }
+        ensures keeps { KeepsAll hub.old hub.new }
+        ensures shapes { HaveSameShapes hub.old hub.new }
         ensures messages { LeavesMessages hub.old hub.new }
         ensures idle { IfOk result (λ client. (lane request : ℕ)
             → IsIdle hub.new (client_on client.number lane request)) }
+        ensures lent { IfOk result (λ client. LendsNone hub.old client.number hub.new) }
         ensures comes { NothingComes hub.old hub.new }
         ensures room { KeepsRoom hub.old hub.new }
         ensures unchanged { OnErr result (StaysAs hub.old hub.new) }
@@ -131,7 +135,10 @@ impl<Q: Payload, QH: Words, P: Payload, PH: Words> PortFactoryClient<Q, QH, P, P
     {
         hub.is_in_order();
         match hub.make_port(alloc, self.node, Role::Client, self.node_id, self.options) {
-            Ok(number) => Ok(Client::new(self.node, number)),
+            Ok(number) => {
+                hub.is_in_order();
+                Ok(Client::new(self.node, number))
+            }
             Err(NotMade::PortTag) => Err(ClientCreateError::UnableToCreatePortTag),
             Err(NotMade::DataSegment) => Err(ClientCreateError::UnableToCreateDataSegment),
             Err(NotMade::TooManyPorts) => Err(ClientCreateError::ExceedsMaxSupportedClients),

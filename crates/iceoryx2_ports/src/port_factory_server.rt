@@ -6,10 +6,11 @@ ghost use Rattle.iox_model.specs.Commands.{Create};
 ghost use Rattle.iox_model.specs.Makings.{IsHubCommand};
 ghost use Rattle.iox_tables.specs.HubStates.States.{Given};
 ghost use Rattle.iox_hub_laws.specs.Hubs.{HasValue, state_of_hub};
+ghost use Rattle.iox_hub_laws.specs.Keeping.{KeepsAll};
 ghost use Rattle.iox_hub_laws.specs.Making.{LeavesMessages, StaysAs, options_of};
 ghost use Rattle.iox_hub_laws.specs.Sends.{NothingComes};
 ghost use Rattle.iox_hub_laws.specs.Waiting.{server_of};
-ghost use Rattle.iceoryx2_ports.specs.Keeping.{KeepsValues};
+ghost use Rattle.iceoryx2_ports.specs.Keeping.{HaveSameShapes};
 ghost use Rattle.iceoryx2_ports.specs.Makings.{first_options, reply_of_server};
 ghost use Rattle.iceoryx2_ports.specs.Idling.{IsIdle};
 ghost use Rattle.iceoryx2_ports.specs.Reaching.{KeepsRoom};
@@ -133,7 +134,8 @@ impl<Q: Payload, QH: Words, P: Payload, PH: Words> PortFactoryServer<Q, QH, P, P
         ensures node { IfOk result (λ server. server.node ≡ self.node) }
         ensures has { IfOk result (λ server.
             HasValue hub.new self.node server.number kinds.Server) }
-        ensures keeps { KeepsValues hub.old hub.new }
+        ensures keeps { KeepsAll hub.old hub.new }
+        ensures shapes { HaveSameShapes hub.old hub.new }
         ensures messages { LeavesMessages hub.old hub.new }
         ensures idle { IfOk result (λ server. IsIdle hub.new (server_of server.number)) }
         ensures comes { NothingComes hub.old hub.new }

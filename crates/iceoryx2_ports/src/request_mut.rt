@@ -21,7 +21,7 @@ ghost use Rattle.iceoryx2_ports.specs.Asking.{AsksAs, BringsItsRequest, OpensAtS
 ghost use Rattle.iceoryx2_ports.specs.Calls.{HasCallsLeft};
 ghost use Rattle.iceoryx2_ports.specs.Headers.{request_header_of};
 ghost use Rattle.iceoryx2_ports.specs.Idling.{BringsOne};
-ghost use Rattle.iceoryx2_ports.specs.Keeping.{KeepsAsking};
+ghost use Rattle.iceoryx2_ports.specs.Keeping.{HaveSameShapes, KeepsAsking};
 ghost use Rattle.iceoryx2_ports.specs.Loans.{reply_of_request_send, reply_of_write};
 ghost use Rattle.iceoryx2_ports.specs.Opens.{KeepsRequests};
 ghost use Rattle.iceoryx2_ports.specs.Reaching.{KeepsRoom, ReachesServers};
@@ -97,6 +97,7 @@ impl<Q: Payload, QH: Words, P: Payload, PH: Words> RequestMutUninit<Q, QH, P, PH
             ((message_in hub.old self.node self.number).elements ≢ length values.now) }
         ensures comes { NothingComes hub.old hub.new }
         ensures keeps { KeepsOthers hub.old self.node self.number hub.new }
+        ensures shapes { HaveSameShapes hub.old hub.new }
         ensures asks { KeepsAsking hub.old hub.new }
         ensures room { KeepsRoom hub.old hub.new }
         ensures requests { KeepsRequests hub.old hub.new }
@@ -173,6 +174,7 @@ impl<E: Words, QH: Words, P: Payload, PH: Words> RequestMutUninit<One<E>, QH, P,
         ensures asker { AsksAs hub.old self.node self.number hub.new result.node result.number }
         ensures comes { NothingComes hub.old hub.new }
         ensures keeps { KeepsOthers hub.old self.node self.number hub.new }
+        ensures shapes { HaveSameShapes hub.old hub.new }
         ensures asks { KeepsAsking hub.old hub.new }
         ensures room { KeepsRoom hub.old hub.new }
         ensures requests { KeepsRequests hub.old hub.new }
@@ -275,6 +277,7 @@ impl<Q: Payload, QH: Words, P: Payload, PH: Words> RequestMut<Q, QH, P, PH> {
         ensures only { BringsItsWords hub.old self.node self.number hub.new }
         ensures reaches { OnOk result (ReachesServers hub.old hub.new) }
         ensures keeps { KeepsOthers hub.old self.node self.number hub.new }
+        ensures shapes { HaveSameShapes hub.old hub.new }
         ensures asks { KeepsAsking hub.old hub.new }
     {
         let RequestMut {

@@ -19,7 +19,7 @@ ghost use Rattle.iceoryx2_ports.specs.Arrivals.{BringsItsWords};
 ghost use Rattle.iceoryx2_ports.specs.Asking.{AnswersAs};
 ghost use Rattle.iceoryx2_ports.specs.Calls.{HasCallsLeft};
 ghost use Rattle.iceoryx2_ports.specs.Headers.{response_header_of};
-ghost use Rattle.iceoryx2_ports.specs.Keeping.{KeepsAsking};
+ghost use Rattle.iceoryx2_ports.specs.Keeping.{HaveSameShapes, KeepsAsking};
 ghost use Rattle.iceoryx2_ports.specs.Loans.{reply_of_response_send, reply_of_write};
 ghost use Rattle.iceoryx2_ports.specs.Opens.{ClosesNone, KeepsRequests};
 ghost use Rattle.iceoryx2_ports.specs.Reaching.{KeepsRoom};
@@ -95,6 +95,7 @@ impl<Q: Payload, QH: Words, P: Payload, PH: Words> ResponseMutUninit<Q, QH, P, P
             ((message_in hub.old self.node self.number).elements ≢ length values.now) }
         ensures comes { NothingComes hub.old hub.new }
         ensures keeps { KeepsOthers hub.old self.node self.number hub.new }
+        ensures shapes { HaveSameShapes hub.old hub.new }
         ensures asks { KeepsAsking hub.old hub.new }
         ensures room { KeepsRoom hub.old hub.new }
         ensures requests { KeepsRequests hub.old hub.new }
@@ -172,6 +173,7 @@ impl<Q: Payload, QH: Words, E: Words, PH: Words> ResponseMutUninit<Q, QH, One<E>
             hub.new result.node result.number }
         ensures comes { NothingComes hub.old hub.new }
         ensures keeps { KeepsOthers hub.old self.node self.number hub.new }
+        ensures shapes { HaveSameShapes hub.old hub.new }
         ensures asks { KeepsAsking hub.old hub.new }
         ensures room { KeepsRoom hub.old hub.new }
         ensures requests { KeepsRequests hub.old hub.new }
@@ -262,6 +264,7 @@ impl<Q: Payload, QH: Words, P: Payload, PH: Words> ResponseMut<Q, QH, P, PH> {
             (ReachesItsAsker hub.old self.node self.number hub.new) }
         ensures requests { ClosesNone hub.old self.node self.number hub.new }
         ensures keeps { KeepsOthers hub.old self.node self.number hub.new }
+        ensures shapes { HaveSameShapes hub.old hub.new }
         ensures asks { KeepsAsking hub.old hub.new }
     {
         let ResponseMut {

@@ -1,8 +1,10 @@
 //! A server.
-ghost use Rattle.std.specs.Prelude.{◌≡◌, ◌↔◌, IfErr, IfOk, IfSome, IsOk, IsTrue};
+ghost use Rattle.std.specs.Prelude.{◌≡◌, ◌↔◌, IfErr, IfOk, IfSome, IsOk, IsTrue, Some};
+ghost use Rattle.std.specs.Option.{option_map};
 ghost use Rattle.iox_model.specs.declared.call.Call.TheVariants.{HasRequests, Receive};
 ghost use Rattle.iox_model.specs.declared.kind.Kind.TheVariants as kinds;
 ghost use Rattle.iox_model.specs.declared.reply.Reply.TheVariants.{Answer};
+ghost use Rattle.iox_model.specs.Peers.{port_at};
 ghost use Rattle.iox_model.specs.WholeCalls.{IsWholeCall};
 ghost use Rattle.iox_tables.specs.HubStates.States.{Given};
 ghost use Rattle.iox_hub_laws.specs.Headers.{IsIdShown, id_in};
@@ -13,8 +15,9 @@ ghost use Rattle.iox_hub_laws.specs.Waiting.{WaitedFor, server_of};
 ghost use Rattle.iceoryx2_ports.specs.Answers.{received_request, reply_of_request};
 ghost use Rattle.iceoryx2_ports.specs.Asking.{KeepsAskersIdle, TakesItsRequest};
 ghost use Rattle.iceoryx2_ports.specs.Calls.{HasCallsLeft};
+ghost use Rattle.iceoryx2_ports.specs.Holding.{KeepsValues};
 ghost use Rattle.iceoryx2_ports.specs.Idling.{TakesTheOne};
-ghost use Rattle.iceoryx2_ports.specs.Keeping.{KeepsAsking, KeepsValues};
+ghost use Rattle.iceoryx2_ports.specs.Keeping.{HaveSameShapes, KeepsAsking};
 ghost use Rattle.iceoryx2_ports.specs.Opens.{KeepsRequests};
 ghost use Rattle.iceoryx2_ports.specs.Releases.{IsReleased};
 ghost use Rattle.iceoryx2_ports.specs.declared.errors.ReceiveError.TheVariants.{ExceedsMaxBorrows};
@@ -25,6 +28,7 @@ use crate::releases::release_port;
 use iox_hub_laws::{Hub, Received, receive_request};
 use iox_model::kind::Kind;
 use iox_store::Payload;
+use iox_types::BackpressureStrategy;
 use iox_types::identifiers::UniqueServerId;
 use iox_words::Words;
 use std::marker::PhantomData;
@@ -65,6 +69,7 @@ impl<Q: Payload, QH: Words, P: Payload, PH: Words> Server<Q, QH, P, PH> {
             HasValue hub.new request.node request.number kinds.ActiveRequest)) }
         ensures node { IfOk result (λ got. IfSome got (λ request. request.node ≡ self.now.node)) }
         ensures keeps { KeepsValues hub.old hub.new }
+        ensures shapes { HaveSameShapes hub.old hub.new }
         ensures asks { KeepsAsking hub.old hub.new }
         ensures refused { IfErr result (λ error. error ≡ ExceedsMaxBorrows) }
         ensures waited { WaitedFor hub.old (server_of self.now.number) (received_request result) }
@@ -109,6 +114,24 @@ impl<Q: Payload, QH: Words, P: Payload, PH: Words> Server<Q, QH, P, PH> {
         ensures shown { IsIdShown hub.now self.now.number }
     {
         UniqueServerId::new(hub.port_id(self.node, self.number))
+    }
+
+    /// What it does at a full client.
+    pub fn backpressure_strategy(&self, hub: &Hub<Q, QH, P, PH>) -> BackpressureStrategy
+        requires has { HasValue hub.now self.now.node self.now.number kinds.Server }
+        ensures { (x : Given) → option_map (λ p. p.strategy)
+            (port_at (state_of_hub x hub.now).fixed self.now.number) ≡ Some result }
+    {
+        hub.port_strategy(self.node, self.number)
+    }
+
+    /// The greatest length of its responses.
+    pub fn initial_max_slice_len(&self, hub: &Hub<Q, QH, P, PH>) -> u64
+        requires has { HasValue hub.now self.now.node self.now.number kinds.Server }
+        ensures { (x : Given) → option_map (λ p. p.longest)
+            (port_at (state_of_hub x hub.now).fixed self.now.number) ≡ Some result }
+    {
+        hub.port_longest(self.node, self.number)
     }
 
     /// Does nothing: ports are connected as they are made.

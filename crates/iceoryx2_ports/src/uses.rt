@@ -4,7 +4,7 @@ ghost use Rattle.iceoryx2_ports.specs.Calls.{HasCallsLeft};
 ghost use Rattle.iceoryx2_ports.specs.Kind.TheVariants as kinds;
 ghost use Rattle.iceoryx2_ports.specs.Hubs.{HasValue};
 ghost use Rattle.iceoryx2_ports.specs.Reads.{message_in};
-ghost use Rattle.iceoryx2_ports.specs.Keeping.{KeepsValues};
+ghost use Rattle.iceoryx2_ports.specs.Holding.{KeepsValues};
 ghost use Rattle.iceoryx2_ports.specs.declared.errors.ReceiveError.TheVariants.{ExceedsMaxBorrows};
 ghost use Rattle.iceoryx2_ports.specs.declared.errors.RequestSendError.TheVariants as request_send_errors;
 ghost use Rattle.iceoryx2_ports.specs.declared.errors.SendError.TheVariants as send_errors;

@@ -3,10 +3,12 @@ ghost use Rattle.std.specs.Prelude.{ℕ, ◌≡◌, ◌≢◌, IfErr, IfOk, OnEr
 ghost use Rattle.iox_model.specs.declared.kind.Kind.TheVariants as kinds;
 ghost use Rattle.iox_model.specs.declared.kind.Role.TheVariants as roles;
 ghost use Rattle.iox_hub_laws.specs.Hubs.{HasValue};
+ghost use Rattle.iox_hub_laws.specs.Keeping.{KeepsAll};
 ghost use Rattle.iox_hub_laws.specs.Making.{LeavesMessages, StaysAs};
 ghost use Rattle.iox_hub_laws.specs.Sends.{NothingComes};
 ghost use Rattle.iceoryx2_ports.specs.Idling.{IsIdle, client_on};
-ghost use Rattle.iceoryx2_ports.specs.Keeping.{KeepsValues};
+ghost use Rattle.iceoryx2_ports.specs.Keeping.{HaveSameShapes};
+ghost use Rattle.iceoryx2_ports.specs.LoanLimits.{LendsNone};
 ghost use Rattle.iceoryx2_ports.specs.Makings.{reply_of_client};
 ghost use Rattle.iceoryx2_ports.specs.Overrides.{IsMadeWithItsPool, MadeWith};
 ghost use Rattle.iceoryx2_ports.specs.Reaching.{KeepsRoom};
@@ -80,10 +82,12 @@ impl<Q: Payload, QH: Words, P: Payload, PH: Words, F: Fn(usize) -> usize + Drop>
         ensures node { IfOk result (λ client. client.node ≡ self.node) }
         ensures has { IfOk result (λ client.
             HasValue hub.new client.node client.number kinds.Client) }
-        ensures keeps { KeepsValues hub.old hub.new }
+        ensures keeps { KeepsAll hub.old hub.new }
+        ensures shapes { HaveSameShapes hub.old hub.new }
         ensures messages { LeavesMessages hub.old hub.new }
         ensures idle { IfOk result (λ client. (lane request : ℕ)
             → IsIdle hub.new (client_on client.number lane request)) }
+        ensures lent { IfOk result (λ client. LendsNone hub.old client.number hub.new) }
         ensures comes { NothingComes hub.old hub.new }
         ensures room { KeepsRoom hub.old hub.new }
         ensures unchanged { OnErr result (StaysAs hub.old hub.new) }

@@ -3,11 +3,12 @@ ghost use Rattle.std.specs.Prelude.{◌≡◌, ◌≢◌, IfErr, IfOk, OnErr};
 ghost use Rattle.iox_model.specs.declared.kind.Kind.TheVariants as kinds;
 ghost use Rattle.iox_model.specs.declared.kind.Role.TheVariants as roles;
 ghost use Rattle.iox_hub_laws.specs.Hubs.{HasValue};
+ghost use Rattle.iox_hub_laws.specs.Keeping.{KeepsAll};
 ghost use Rattle.iox_hub_laws.specs.Making.{LeavesMessages, StaysAs};
 ghost use Rattle.iox_hub_laws.specs.Sends.{NothingComes};
 ghost use Rattle.iox_hub_laws.specs.Waiting.{server_of};
 ghost use Rattle.iceoryx2_ports.specs.Idling.{IsIdle};
-ghost use Rattle.iceoryx2_ports.specs.Keeping.{KeepsValues};
+ghost use Rattle.iceoryx2_ports.specs.Keeping.{HaveSameShapes};
 ghost use Rattle.iceoryx2_ports.specs.Makings.{reply_of_server};
 ghost use Rattle.iceoryx2_ports.specs.Overrides.{IsMadeWithItsPool, MadeWith};
 ghost use Rattle.iceoryx2_ports.specs.Reaching.{KeepsRoom};
@@ -81,7 +82,8 @@ impl<Q: Payload, QH: Words, P: Payload, PH: Words, F: Fn(usize) -> usize + Drop>
         ensures node { IfOk result (λ server. server.node ≡ self.node) }
         ensures has { IfOk result (λ server.
             HasValue hub.new server.node server.number kinds.Server) }
-        ensures keeps { KeepsValues hub.old hub.new }
+        ensures keeps { KeepsAll hub.old hub.new }
+        ensures shapes { HaveSameShapes hub.old hub.new }
         ensures messages { LeavesMessages hub.old hub.new }
         ensures idle { IfOk result (λ server. IsIdle hub.new (server_of server.number)) }
         ensures comes { NothingComes hub.old hub.new }

@@ -14,7 +14,7 @@ ghost use Rattle.iox_hub_laws.specs.Lending.{IsWritten, payload_of};
 ghost use Rattle.iox_hub_laws.specs.Reads.{message_in};
 ghost use Rattle.iox_hub_laws.specs.Sends.{NothingComes};
 ghost use Rattle.iceoryx2_ports.specs.Asking.{AsksAs};
-ghost use Rattle.iceoryx2_ports.specs.Keeping.{KeepsAsking};
+ghost use Rattle.iceoryx2_ports.specs.Keeping.{HaveSameShapes, KeepsAsking};
 ghost use Rattle.iceoryx2_ports.specs.Opens.{KeepsRequests};
 ghost use Rattle.iceoryx2_ports.specs.Payloads.{reply_of_put};
 ghost use Rattle.iceoryx2_ports.specs.Reaching.{KeepsRoom};
@@ -40,6 +40,7 @@ impl<Q: Payload, QH: Words, P: Payload, PH: Words> RequestMut<Q, QH, P, PH> {
             self.now.number }
         ensures comes { NothingComes hub.old hub.new }
         ensures keeps { KeepsOthers hub.old self.now.node self.now.number hub.new }
+        ensures shapes { HaveSameShapes hub.old hub.new }
         ensures asks { KeepsAsking hub.old hub.new }
         ensures room { KeepsRoom hub.old hub.new }
         ensures requests { KeepsRequests hub.old hub.new }
@@ -67,6 +68,7 @@ impl<E: Words, QH: Words, P: Payload, PH: Words> RequestMut<One<E>, QH, P, PH> {
             self.now.number }
         ensures comes { NothingComes hub.old hub.new }
         ensures keeps { KeepsOthers hub.old self.now.node self.now.number hub.new }
+        ensures shapes { HaveSameShapes hub.old hub.new }
         ensures asks { KeepsAsking hub.old hub.new }
         ensures room { KeepsRoom hub.old hub.new }
         ensures requests { KeepsRequests hub.old hub.new }

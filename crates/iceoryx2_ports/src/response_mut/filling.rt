@@ -1,13 +1,14 @@
 //! A loaned response is filled piece by piece.
 ghost use Rattle.std.specs.Prelude.{◌≡◌, ◌↔◌, ◌<◌, ◌≤◌, IfErr, IfOk, IsOk, IsTrue, OnErr};
-ghost use Rattle.std.specs.Prelude.{false, true};
+ghost use Rattle.std.specs.Prelude.{false, flat_map, true};
 ghost use Rattle.iox_store.specs.Answering.{FillsByAnswers};
 ghost use Rattle.iox_store.specs.Stored.{with_user, written_next};
 ghost use Rattle.iox_model.specs.declared.kind.Kind.TheVariants as kinds;
 ghost use Rattle.iox_hub_laws.specs.Fillings.{FillsLoan};
 ghost use Rattle.iox_hub_laws.specs.Hubs.{HasValue};
+ghost use Rattle.iox_hub_laws.specs.Keeping.{KeepsOthers};
 ghost use Rattle.iox_hub_laws.specs.Reads.{message_in};
-ghost use Rattle.iceoryx2_ports.specs.Keeping.{KeepsValues};
+ghost use Rattle.iceoryx2_ports.specs.Keeping.{HaveSameShapes};
 
 use super::{ResponseMut, ResponseMutUninit};
 use iox_hub_laws::Hub;
@@ -22,9 +23,28 @@ impl<Q: Payload, QH: Words, P: Payload, PH: Words> ResponseMutUninit<Q, QH, P, P
             (with_user (message_in hub.old self.now.node self.now.number) (PH.words user_header))
             hub.new }
         ensures has { HasValue hub.new self.now.node self.now.number kinds.ResponseMutUninit }
-        ensures keeps { KeepsValues hub.old hub.new }
+        ensures keeps { KeepsOthers hub.old self.now.node self.now.number hub.new }
+        ensures shapes { HaveSameShapes hub.old hub.new }
     {
         hub.set_response_header(self.node, self.number, self.hint, user_header);
+    }
+
+    /// The payload of the response, as far as it is filled.
+    pub fn payload<'a>(&self, hub: &'a Hub<Q, QH, P, PH>) -> &'a [P::Element]
+        requires has { HasValue hub.now self.now.node self.now.number kinds.ResponseMutUninit }
+        ensures { flat_map P.Element.words result.now
+            ≡ (message_in hub.now self.now.node self.now.number).payload }
+    {
+        hub.loaned_response(self.node, self.number, self.hint)
+    }
+
+    /// The user header of the response.
+    pub fn user_header<'a>(&self, hub: &'a Hub<Q, QH, P, PH>) -> &'a PH
+        requires has { HasValue hub.now self.now.node self.now.number kinds.ResponseMutUninit }
+        ensures { PH.words result.now
+            ≡ (message_in hub.now self.now.node self.now.number).user }
+    {
+        hub.loaned_response_header(self.node, self.number, self.hint)
     }
 
     /// Whether all its elements are filled.
@@ -47,7 +67,8 @@ impl<Q: Payload, QH: Words, P: Payload, PH: Words> ResponseMutUninit<Q, QH, P, P
             (written_next (message_in hub.old self.now.node self.now.number)
             (P.Element.words value)) hub.new }
         ensures has { HasValue hub.new self.now.node self.now.number kinds.ResponseMutUninit }
-        ensures keeps { KeepsValues hub.old hub.new }
+        ensures keeps { KeepsOthers hub.old self.now.node self.now.number hub.new }
+        ensures shapes { HaveSameShapes hub.old hub.new }
     {
         hub.write_next_response(self.node, self.number, self.hint, value);
     }
@@ -64,6 +85,8 @@ impl<Q: Payload, QH: Words, P: Payload, PH: Words> ResponseMutUninit<Q, QH, P, P
             HasValue hub.new filled.node filled.number kinds.ResponseMut) }
         ensures node { IfOk result (λ filled. filled.node ≡ self.node) }
         ensures number { IfOk result (λ filled. filled.number ≡ self.number) }
+        ensures keeps { KeepsOthers hub.old self.node self.number hub.new }
+        ensures shapes { HaveSameShapes hub.old hub.new }
         ensures unchanged { OnErr result (hub.new ≡ hub.old) }
         ensures same { IfErr result (λ loan. loan ≡ self) }
     {
@@ -98,6 +121,8 @@ impl<Q: Payload, QH: Words, P: Payload, PH: Words> ResponseMutUninit<Q, QH, P, P
         ensures filled { FillsLoan hub.old self.node self.number true
             (message_in hub.new self.node self.number) hub.new }
         ensures has { HasValue hub.new self.node self.number kinds.ResponseMut }
+        ensures keeps { KeepsOthers hub.old self.node self.number hub.new }
+        ensures shapes { HaveSameShapes hub.old hub.new }
         ensures node { result.node ≡ self.node }
         ensures number { result.number ≡ self.number }
     {
@@ -125,7 +150,8 @@ impl<Q: Payload, QH: Words, P: Payload, PH: Words> ResponseMut<Q, QH, P, PH> {
             (with_user (message_in hub.old self.now.node self.now.number) (PH.words user_header))
             hub.new }
         ensures has { HasValue hub.new self.now.node self.now.number kinds.ResponseMut }
-        ensures keeps { KeepsValues hub.old hub.new }
+        ensures keeps { KeepsOthers hub.old self.now.node self.now.number hub.new }
+        ensures shapes { HaveSameShapes hub.old hub.new }
     {
         hub.set_response_header(self.node, self.number, self.hint, user_header);
     }

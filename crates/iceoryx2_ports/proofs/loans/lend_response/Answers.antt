@@ -7,21 +7,12 @@ use Rattle.iox_hub_laws.specs.Lent.TheVariants as lents
 use Rattle.iceoryx2_ports.proofs.LoanLimits.{result_of}
 use Rattle.iceoryx2_ports.proofs.Reaching.{loan_keeps_room}
 use Rattle.iceoryx2_ports.proofs.ResponseLimits.{responds_one_more, response_refused_at_limit}
-use Rattle.iceoryx2_ports.proofs.Staying.{loan_asks_as_before, loan_keeps}
+use Rattle.iceoryx2_ports.proofs.Staying.{loan_asks_as_before}
 use Rattle.iceoryx2_ports.proofs.Telling.{called_as}
 use Rattle.iceoryx2_ports.proofs.Lent.{lends_for}
 use Rattle.iceoryx2_ports.proofs.Remaining.{loan_keeps_requests}
+use Rattle.iceoryx2_ports.proofs.SameShapes.{same_shapes}
 use Rattle.iceoryx2_ports.proofs.loans.lend_response.Goals as goal
-
-pub returns-in-Handle-clause-keeps : goal.returns-in-Handle-clause-keeps
-returns-in-Handle-clause-keeps g c =
-    loan_keeps c.args.hub.now c.lend_response.new.hub c.args.node c.args.uninit c.args.number c.args.elements (reply_of_loan c.lend_response.result)
-    c.lend_response.ensures.whole
-
-pub returns-in-OutOfMemory-clause-keeps : goal.returns-in-OutOfMemory-clause-keeps
-returns-in-OutOfMemory-clause-keeps g c =
-    loan_keeps c.args.hub.now c.lend_response.new.hub c.args.node c.args.uninit c.args.number c.args.elements (reply_of_loan c.lend_response.result)
-    c.lend_response.ensures.whole
 
 pub returns-in-Refused-CallsSpent-clause-whole : goal.returns-in-Refused-CallsSpent-clause-whole
 returns-in-Refused-CallsSpent-clause-whole g c =
@@ -117,3 +108,28 @@ pub returns-in-OutOfMemory-clause-requests : goal.returns-in-OutOfMemory-clause-
 returns-in-OutOfMemory-clause-requests g c =
     loan_keeps_requests c.args.hub.now c.lend_response.new.hub c.args.node c.args.uninit c.args.number c.args.elements (reply_of_loan c.lend_response.result)
     c.lend_response.ensures.whole
+
+pub returns-in-Handle-clause-shapes : goal.returns-in-Handle-clause-shapes
+returns-in-Handle-clause-shapes g c =
+    same_shapes c.args.hub.now c.lend_response.new.hub c.args.node (loan_call c.args.uninit c.args.number c.args.elements) (reply_of_loan c.lend_response.result)
+    c.lend_response.ensures.whole
+
+pub returns-in-OutOfMemory-clause-shapes : goal.returns-in-OutOfMemory-clause-shapes
+returns-in-OutOfMemory-clause-shapes g c =
+    same_shapes c.args.hub.now c.lend_response.new.hub c.args.node (loan_call c.args.uninit c.args.number c.args.elements) (reply_of_loan c.lend_response.result)
+    c.lend_response.ensures.whole
+
+pub returns-in-OutOfMemory-clause-within : goal.returns-in-OutOfMemory-clause-within
+returns-in-OutOfMemory-clause-within g c = λ can. absurd (c.in-OutOfMemory.ensures.within can.active can.named can.port can.there can.limits can.pools)
+
+pub returns-in-Refused-CallsSpent-clause-within : goal.returns-in-Refused-CallsSpent-clause-within
+returns-in-Refused-CallsSpent-clause-within g c = λ can. absurd (c.in-Refused-CallsSpent.ensures.within can.active can.named can.port can.there can.limits can.pools)
+
+pub returns-in-Refused-WrongLength-clause-within : goal.returns-in-Refused-WrongLength-clause-within
+returns-in-Refused-WrongLength-clause-within g c = λ can. absurd (c.in-Refused-WrongLength.ensures.within can.active can.named can.port can.there can.limits can.pools)
+
+pub returns-in-Refused-ExceedsMaxLoanSize-clause-within : goal.returns-in-Refused-ExceedsMaxLoanSize-clause-within
+returns-in-Refused-ExceedsMaxLoanSize-clause-within g c = λ can. absurd (c.in-Refused-ExceedsMaxLoanSize.ensures.within can.active can.named can.port can.there can.limits can.pools)
+
+pub returns-in-Refused-ExceedsMaxLoans-clause-within : goal.returns-in-Refused-ExceedsMaxLoans-clause-within
+returns-in-Refused-ExceedsMaxLoans-clause-within g c = λ can. absurd (c.in-Refused-ExceedsMaxLoans.ensures.within can.active can.named can.port can.there can.limits can.pools)

@@ -1,33 +1,22 @@
 use Rattle.std.specs.Prelude.{ℕ, refl}
-use Rattle.std.proofs.Common.{subst, subst₂, sym}
+use Rattle.std.proofs.Common.{ap, subst, subst₂, sym}
 use Rattle.iox_model.specs.declared.call.Call.TheVariants.{Receive}
+use Rattle.iox_model.specs.declared.reply.Reply.TheVariants as replies
 use Rattle.iox_hub_laws.specs.Received.TheVariants as received
 use Rattle.iox_hub_laws.specs.Replies.{reply_of_receive}
 use Rattle.iox_hub_laws.specs.Receives.{TakesResponse}
 use Rattle.iox_hub_laws.specs.Waiting.{client_in}
 use Rattle.iceoryx2_ports.specs.Idling.{TakesTheOne}
 use Rattle.iceoryx2_ports.proofs.OneTaken.{response_is_the_one, response_takes_of_room}
-use Rattle.iceoryx2_ports.proofs.Staying.{asks_as_before, kept}
+use Rattle.iceoryx2_ports.proofs.Staying.{asks_as_before}
 use Rattle.iceoryx2_ports.proofs.Coming.{receive_brings_nothing}
 use Rattle.iceoryx2_ports.proofs.Responding.{waited_in}
 use Rattle.iceoryx2_ports.specs.Rooms.{TakesOfRoom}
 use Rattle.iceoryx2_ports.proofs.Remaining.{receive_keeps_requests}
+use Rattle.iceoryx2_ports.proofs.Kept.{keeps_values}
+use Rattle.iceoryx2_ports.proofs.SameShapes.{same_shapes}
+use Rattle.iceoryx2_ports.proofs.Telling.{called_as}
 use Rattle.iceoryx2_ports.proofs.pending_response.PendingResponse.receive.Goals as goal
-
-pub returns-in-Handle-clause-keeps : goal.returns-in-Handle-clause-keeps
-returns-in-Handle-clause-keeps g c =
-    kept c.args.hub.now c.receive_response.new.hub c.args.self.now.node (Receive c.args.self.now.number) (reply_of_receive c.receive_response.result) refl
-    c.receive_response.ensures.whole
-
-pub returns-in-Nothing-clause-keeps : goal.returns-in-Nothing-clause-keeps
-returns-in-Nothing-clause-keeps g c =
-    kept c.args.hub.now c.receive_response.new.hub c.args.self.now.node (Receive c.args.self.now.number) (reply_of_receive c.receive_response.result) refl
-    c.receive_response.ensures.whole
-
-pub returns-in-AtLimit-clause-keeps : goal.returns-in-AtLimit-clause-keeps
-returns-in-AtLimit-clause-keeps g c =
-    kept c.args.hub.now c.receive_response.new.hub c.args.self.now.node (Receive c.args.self.now.number) (reply_of_receive c.receive_response.result) refl
-    c.receive_response.ensures.whole
 
 pub returns-in-Handle-clause-takes : goal.returns-in-Handle-clause-takes
 returns-in-Handle-clause-takes g c =
@@ -105,3 +94,32 @@ pub returns-in-AtLimit-clause-requests : goal.returns-in-AtLimit-clause-requests
 returns-in-AtLimit-clause-requests g c =
     receive_keeps_requests c.args.hub.now c.receive_response.new.hub c.args.self.now.node c.args.self.now.number (reply_of_receive c.receive_response.result)
     c.receive_response.ensures.whole
+
+pub returns-in-Handle-clause-shapes : goal.returns-in-Handle-clause-shapes
+returns-in-Handle-clause-shapes g c =
+    same_shapes c.args.hub.now c.receive_response.new.hub c.args.self.now.node (Receive c.args.self.now.number) (reply_of_receive c.receive_response.result)
+    c.receive_response.ensures.whole
+
+pub returns-in-Nothing-clause-shapes : goal.returns-in-Nothing-clause-shapes
+returns-in-Nothing-clause-shapes g c =
+    same_shapes c.args.hub.now c.receive_response.new.hub c.args.self.now.node (Receive c.args.self.now.number) (reply_of_receive c.receive_response.result)
+    c.receive_response.ensures.whole
+
+pub returns-in-AtLimit-clause-shapes : goal.returns-in-AtLimit-clause-shapes
+returns-in-AtLimit-clause-shapes g c =
+    same_shapes c.args.hub.now c.receive_response.new.hub c.args.self.now.node (Receive c.args.self.now.number) (reply_of_receive c.receive_response.result)
+    c.receive_response.ensures.whole
+
+pub returns-in-Handle-clause-keeps : goal.returns-in-Handle-clause-keeps
+returns-in-Handle-clause-keeps g c = keeps_values c.args.hub.now c.receive_response.new.hub c.receive_response.ensures.keeps
+
+pub returns-in-Nothing-clause-keeps : goal.returns-in-Nothing-clause-keeps
+returns-in-Nothing-clause-keeps g c = keeps_values c.args.hub.now c.receive_response.new.hub c.receive_response.ensures.keeps
+
+pub returns-in-AtLimit-clause-keeps : goal.returns-in-AtLimit-clause-keeps
+returns-in-AtLimit-clause-keeps g c = keeps_values c.args.hub.now c.receive_response.new.hub c.receive_response.ensures.keeps
+
+pub returns-in-Handle-clause-whole : goal.returns-in-Handle-clause-whole
+returns-in-Handle-clause-whole g c =
+    called_as c.args.hub.now c.receive_response.new.hub c.args.self.now.node (Receive c.args.self.now.number) (replies.Handle c.in-Handle.number)
+    (replies.Handle c.new.result.number) (ap replies.Handle (sym c.new.ensures.number)) c.in-Handle.ensures.whole

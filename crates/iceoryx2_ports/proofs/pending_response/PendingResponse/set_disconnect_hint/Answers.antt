@@ -1,14 +1,10 @@
 use Rattle.std.specs.Prelude.{refl}
 use Rattle.iox_model.specs.declared.call.Call.TheVariants.{SetHint}
 use Rattle.iox_model.specs.declared.reply.Reply.TheVariants.{Done}
-use Rattle.iceoryx2_ports.proofs.Staying.{asks_as_before, kept}
+use Rattle.iceoryx2_ports.proofs.Staying.{asks_as_before}
 use Rattle.iceoryx2_ports.proofs.Unclosed.{hint_keeps_requests}
+use Rattle.iceoryx2_ports.proofs.SameShapes.{same_shapes}
 use Rattle.iceoryx2_ports.proofs.pending_response.PendingResponse.set_disconnect_hint.Goals as goal
-
-pub returns-clause-keeps : goal.returns-clause-keeps
-returns-clause-keeps g c =
-    kept c.args.hub.now c.set_hint.new.self c.args.self.now.node (SetHint c.args.self.now.number) Done refl
-    c.set_hint.ensures.whole
 
 pub returns-clause-asks : goal.returns-clause-asks
 returns-clause-asks g c =
@@ -18,3 +14,8 @@ returns-clause-asks g c =
 pub returns-clause-requests : goal.returns-clause-requests
 returns-clause-requests g c =
     hint_keeps_requests c.args.hub.now c.set_hint.new.self c.args.self.now.node c.args.self.now.number Done c.set_hint.ensures.whole
+
+pub returns-clause-shapes : goal.returns-clause-shapes
+returns-clause-shapes g c =
+    same_shapes c.args.hub.now c.set_hint.new.self c.args.self.now.node (SetHint c.args.self.now.number) Done
+    c.set_hint.ensures.whole

@@ -7,18 +7,15 @@ use Rattle.iox_hub_laws.specs.MadePorts.{refusal_of}
 use Rattle.iox_hub_laws.specs.NotMade.TheVariants as not_made
 use Rattle.iox_hub_laws.specs.Making.{options_of, reply_of_making}
 use Rattle.iceoryx2_ports.specs.Idling.{client_on}
-use Rattle.iceoryx2_ports.proofs.Idle.{made_is_idle, making_brings_nothing, making_keeps_room}
-use Rattle.iceoryx2_ports.proofs.Staying.{kept_by}
+use Rattle.iceoryx2_ports.proofs.Idle.{made_is_idle, made_lends_none, making_brings_nothing, making_keeps_room}
 use Rattle.iceoryx2_ports.proofs.Telling.{made_as}
+use Rattle.iceoryx2_ports.proofs.SameShapes.{made_shapes}
 use Rattle.iceoryx2_ports.proofs.port_factory_client.PortFactoryClient.create.Goals as goal
 
 pub returns-in-Ok-clause-whole : goal.returns-in-Ok-clause-whole
 returns-in-Ok-clause-whole g c =
     made_as c.args.hub.now c.make_port.new.self c.args.self.node (Create roles.Client c.args.self.node_id (options_of c.args.self.options))
     (replies.Client c.in-Ok.number) (replies.Client c.new.result.number) (ap replies.Client (sym c.new.ensures.number)) c.in-Ok.ensures.whole
-
-pub returns-in-Ok-clause-keeps : goal.returns-in-Ok-clause-keeps
-returns-in-Ok-clause-keeps g c = kept_by c.args.hub.now c.make_port.new.self c.make_port.ensures.keeps
 
 pub returns-in-Err-PortTag-clause-whole : goal.returns-in-Err-PortTag-clause-whole
 returns-in-Err-PortTag-clause-whole g c =
@@ -84,3 +81,29 @@ pub returns-in-Err-TooManyPorts-clause-room : goal.returns-in-Err-TooManyPorts-c
 returns-in-Err-TooManyPorts-clause-room g c =
     making_keeps_room c.args.hub.now c.make_port.new.self c.is_in_order.ensures c.args.self.node roles.Client c.args.self.node_id
     (options_of c.args.self.options) (reply_of_making roles.Client c.make_port.result) c.make_port.ensures.whole
+
+pub returns-in-Ok-clause-shapes : goal.returns-in-Ok-clause-shapes
+returns-in-Ok-clause-shapes g c =
+    made_shapes c.args.hub.now c.make_port.new.self c.args.self.node roles.Client c.args.self.node_id
+    (options_of c.args.self.options) (reply_of_making roles.Client c.make_port.result) c.make_port.ensures.whole
+
+pub returns-in-Err-PortTag-clause-shapes : goal.returns-in-Err-PortTag-clause-shapes
+returns-in-Err-PortTag-clause-shapes g c =
+    made_shapes c.args.hub.now c.make_port.new.self c.args.self.node roles.Client c.args.self.node_id
+    (options_of c.args.self.options) (reply_of_making roles.Client c.make_port.result) c.make_port.ensures.whole
+
+pub returns-in-Err-DataSegment-clause-shapes : goal.returns-in-Err-DataSegment-clause-shapes
+returns-in-Err-DataSegment-clause-shapes g c =
+    made_shapes c.args.hub.now c.make_port.new.self c.args.self.node roles.Client c.args.self.node_id
+    (options_of c.args.self.options) (reply_of_making roles.Client c.make_port.result) c.make_port.ensures.whole
+
+pub returns-in-Err-TooManyPorts-clause-shapes : goal.returns-in-Err-TooManyPorts-clause-shapes
+returns-in-Err-TooManyPorts-clause-shapes g c =
+    made_shapes c.args.hub.now c.make_port.new.self c.args.self.node roles.Client c.args.self.node_id
+    (options_of c.args.self.options) (reply_of_making roles.Client c.make_port.result) c.make_port.ensures.whole
+
+pub returns-in-Ok-clause-lent : goal.returns-in-Ok-clause-lent
+returns-in-Ok-clause-lent g c =
+    made_lends_none c.args.hub.now c.make_port.new.self c.is_in_order.ensures c.args.self.node roles.Client c.args.self.node_id
+    (options_of c.args.self.options) (replies.Client c.in-Ok.number) c.in-Ok.ensures.whole c.is_in_order-in-Ok.ensures c.new.result.number
+    (ap replies.Client (sym c.new.ensures.number))

@@ -8,17 +8,14 @@ use Rattle.iox_hub_laws.specs.NotMade.TheVariants as not_made
 use Rattle.iox_hub_laws.specs.Making.{options_of, reply_of_making}
 use Rattle.iox_hub_laws.specs.Waiting.{server_of}
 use Rattle.iceoryx2_ports.proofs.Idle.{made_is_idle, making_brings_nothing, making_keeps_room}
-use Rattle.iceoryx2_ports.proofs.Staying.{kept_by}
 use Rattle.iceoryx2_ports.proofs.Telling.{made_as}
+use Rattle.iceoryx2_ports.proofs.SameShapes.{made_shapes}
 use Rattle.iceoryx2_ports.proofs.port_factory_server.PortFactoryServer.create.Goals as goal
 
 pub returns-in-Ok-clause-whole : goal.returns-in-Ok-clause-whole
 returns-in-Ok-clause-whole g c =
     made_as c.args.hub.now c.make_port.new.self c.args.self.node (Create roles.Server c.args.self.node_id (options_of c.args.self.options))
     (replies.Server c.in-Ok.number) (replies.Server c.new.result.number) (ap replies.Server (sym c.new.ensures.number)) c.in-Ok.ensures.whole
-
-pub returns-in-Ok-clause-keeps : goal.returns-in-Ok-clause-keeps
-returns-in-Ok-clause-keeps g c = kept_by c.args.hub.now c.make_port.new.self c.make_port.ensures.keeps
 
 pub returns-in-Err-PortTag-clause-whole : goal.returns-in-Err-PortTag-clause-whole
 returns-in-Err-PortTag-clause-whole g c =
@@ -82,4 +79,24 @@ returns-in-Err-TooManyPorts-clause-comes g c =
 pub returns-in-Err-TooManyPorts-clause-room : goal.returns-in-Err-TooManyPorts-clause-room
 returns-in-Err-TooManyPorts-clause-room g c =
     making_keeps_room c.args.hub.now c.make_port.new.self c.is_in_order.ensures c.args.self.node roles.Server c.args.self.node_id
+    (options_of c.args.self.options) (reply_of_making roles.Server c.make_port.result) c.make_port.ensures.whole
+
+pub returns-in-Ok-clause-shapes : goal.returns-in-Ok-clause-shapes
+returns-in-Ok-clause-shapes g c =
+    made_shapes c.args.hub.now c.make_port.new.self c.args.self.node roles.Server c.args.self.node_id
+    (options_of c.args.self.options) (reply_of_making roles.Server c.make_port.result) c.make_port.ensures.whole
+
+pub returns-in-Err-PortTag-clause-shapes : goal.returns-in-Err-PortTag-clause-shapes
+returns-in-Err-PortTag-clause-shapes g c =
+    made_shapes c.args.hub.now c.make_port.new.self c.args.self.node roles.Server c.args.self.node_id
+    (options_of c.args.self.options) (reply_of_making roles.Server c.make_port.result) c.make_port.ensures.whole
+
+pub returns-in-Err-DataSegment-clause-shapes : goal.returns-in-Err-DataSegment-clause-shapes
+returns-in-Err-DataSegment-clause-shapes g c =
+    made_shapes c.args.hub.now c.make_port.new.self c.args.self.node roles.Server c.args.self.node_id
+    (options_of c.args.self.options) (reply_of_making roles.Server c.make_port.result) c.make_port.ensures.whole
+
+pub returns-in-Err-TooManyPorts-clause-shapes : goal.returns-in-Err-TooManyPorts-clause-shapes
+returns-in-Err-TooManyPorts-clause-shapes g c =
+    made_shapes c.args.hub.now c.make_port.new.self c.args.self.node roles.Server c.args.self.node_id
     (options_of c.args.self.options) (reply_of_making roles.Server c.make_port.result) c.make_port.ensures.whole

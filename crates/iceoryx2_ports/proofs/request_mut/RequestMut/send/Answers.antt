@@ -9,6 +9,7 @@ use Rattle.iceoryx2_ports.specs.Asking.{AsksAs, BringsItsRequest, OpensAtServers
 use Rattle.iceoryx2_ports.proofs.Aside.{loan_asks_as_always}
 use Rattle.iceoryx2_ports.proofs.Reaching.{send_brings_one, send_reaches}
 use Rattle.iceoryx2_ports.proofs.Requested.{send_asks_as, send_brings_its_request, send_opens}
+use Rattle.iceoryx2_ports.proofs.SameShapes.{same_shapes}
 use Rattle.iceoryx2_ports.proofs.request_mut.RequestMut.send.Goals as goal
 
 pub returns-in-To-clause-only : goal.returns-in-To-clause-only
@@ -65,3 +66,18 @@ returns-in-To-clause-opens g c =
     subst₂ (λ (i n : ℕ). OpensAtServers c.args.hub.now (client_in c.send_request.new.hub i n) c.send_request.new.hub) (sym c.new.ensures.node) (sym c.new.ensures.number)
     (send_opens c.args.hub.now c.send_request.new.hub c.is_in_order.ensures c.args.self.node c.args.self.number c.in-To.servers c.requires.has
     c.in-To.ensures.brings c.in-To.ensures.whole)
+
+pub returns-in-To-clause-shapes : goal.returns-in-To-clause-shapes
+returns-in-To-clause-shapes g c =
+    same_shapes c.args.hub.now c.send_request.new.hub c.args.self.node (Send c.args.self.number) (reply_of_send c.send_request.result)
+    c.send_request.ensures.whole
+
+pub returns-in-ExceedsMaxActiveRequests-clause-shapes : goal.returns-in-ExceedsMaxActiveRequests-clause-shapes
+returns-in-ExceedsMaxActiveRequests-clause-shapes g c =
+    same_shapes c.args.hub.now c.send_request.new.hub c.args.self.node (Send c.args.self.number) (reply_of_send c.send_request.result)
+    c.send_request.ensures.whole
+
+pub returns-in-UnableToDeliver-clause-shapes : goal.returns-in-UnableToDeliver-clause-shapes
+returns-in-UnableToDeliver-clause-shapes g c =
+    same_shapes c.args.hub.now c.send_request.new.hub c.args.self.node (Send c.args.self.number) (reply_of_send c.send_request.result)
+    c.send_request.ensures.whole

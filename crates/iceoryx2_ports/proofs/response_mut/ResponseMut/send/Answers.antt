@@ -7,6 +7,7 @@ use Rattle.iox_hub_laws.specs.Responses.{reply_of_send}
 use Rattle.iceoryx2_ports.proofs.Answering.{loan_reaches_asker}
 use Rattle.iceoryx2_ports.proofs.Aside.{loan_asks_as_always}
 use Rattle.iceoryx2_ports.proofs.SentOpen.{send_closes_none}
+use Rattle.iceoryx2_ports.proofs.SameShapes.{same_shapes}
 use Rattle.iceoryx2_ports.proofs.response_mut.ResponseMut.send.Goals as goal
 
 pub returns-in-Done-clause-only : goal.returns-in-Done-clause-only
@@ -41,3 +42,13 @@ pub returns-in-Undelivered-clause-requests : goal.returns-in-Undelivered-clause-
 returns-in-Undelivered-clause-requests g c =
     send_closes_none c.args.hub.now c.send_response.new.hub c.is_in_order.ensures c.is_in_order-in-Undelivered.ensures c.args.self.node c.args.self.number
     (reply_of_send c.send_response.result) c.requires.has c.send_response.ensures.whole c.send_response.ensures.keeps
+
+pub returns-in-Done-clause-shapes : goal.returns-in-Done-clause-shapes
+returns-in-Done-clause-shapes g c =
+    same_shapes c.args.hub.now c.send_response.new.hub c.args.self.node (Send c.args.self.number) (reply_of_send c.send_response.result)
+    c.send_response.ensures.whole
+
+pub returns-in-Undelivered-clause-shapes : goal.returns-in-Undelivered-clause-shapes
+returns-in-Undelivered-clause-shapes g c =
+    same_shapes c.args.hub.now c.send_response.new.hub c.args.self.node (Send c.args.self.number) (reply_of_send c.send_response.result)
+    c.send_response.ensures.whole

@@ -9,6 +9,7 @@ use Rattle.iceoryx2_ports.proofs.Aside.{loan_asks_as_always}
 use Rattle.iceoryx2_ports.proofs.Reaching.{keeps_room}
 use Rattle.iceoryx2_ports.proofs.Filled.{write_answers_as}
 use Rattle.iceoryx2_ports.proofs.Remaining.{write_keeps_requests}
+use Rattle.iceoryx2_ports.proofs.SameShapes.{same_shapes}
 use Rattle.iceoryx2_ports.proofs.response_mut.ResponseMutUninit+Q+QH+One+E+PH.write_payload.Goals as goal
 
 pub returns-clause-comes : goal.returns-clause-comes
@@ -40,3 +41,8 @@ returns-clause-requests g c =
     write_keeps_requests c.args.hub.now c.write_response.new.self c.args.self.node c.args.self.number
     (payload_of roles.Server 1 (flat_map g.E.Words.words (c.args.value ∷ []))) (reply_of_write c.write_response.result)
     c.write_response.ensures.whole ResponseMutUninit refl c.requires.has
+
+pub returns-clause-shapes : goal.returns-clause-shapes
+returns-clause-shapes g c =
+    same_shapes c.args.hub.now c.write_response.new.self c.args.self.node (Write c.args.self.number (payload_of roles.Server 1 (flat_map g.E.Words.words (c.args.value ∷ [])))) (reply_of_write c.write_response.result)
+    c.write_response.ensures.whole

@@ -9,6 +9,7 @@ use Rattle.iceoryx2_ports.proofs.Aside.{loan_asks_as_always}
 use Rattle.iceoryx2_ports.proofs.Reaching.{keeps_room}
 use Rattle.iceoryx2_ports.proofs.Filled.{write_answers_as}
 use Rattle.iceoryx2_ports.proofs.Remaining.{write_keeps_requests}
+use Rattle.iceoryx2_ports.proofs.SameShapes.{same_shapes}
 use Rattle.iceoryx2_ports.proofs.response_mut.ResponseMutUninit.write_from_slice.Goals as goal
 
 pub returns-in-Done-clause-comes : goal.returns-in-Done-clause-comes
@@ -40,3 +41,8 @@ returns-in-Done-clause-requests g c =
     write_keeps_requests c.args.hub.now c.write_response.new.self c.args.self.node c.args.self.number
     (payload_of roles.Server (length c.args.values.now) (flat_map g.P.Element.Words.words c.args.values.now)) (reply_of_write c.write_response.result)
     c.write_response.ensures.whole ResponseMutUninit refl c.requires.has
+
+pub returns-in-Done-clause-shapes : goal.returns-in-Done-clause-shapes
+returns-in-Done-clause-shapes g c =
+    same_shapes c.args.hub.now c.write_response.new.self c.args.self.node (Write c.args.self.number (payload_of roles.Server (length c.args.values.now) (flat_map g.P.Element.Words.words c.args.values.now))) (reply_of_write c.write_response.result)
+    c.write_response.ensures.whole

@@ -10,26 +10,13 @@ use Rattle.iceoryx2_ports.specs.Asking.{TakesItsRequest}
 use Rattle.iceoryx2_ports.specs.Idling.{TakesTheOne}
 use Rattle.iceoryx2_ports.proofs.OneTaken.{request_is_the_one}
 use Rattle.iceoryx2_ports.proofs.Telling.{called_as}
-use Rattle.iceoryx2_ports.proofs.Staying.{asks_as_before, kept}
+use Rattle.iceoryx2_ports.proofs.Staying.{asks_as_before}
 use Rattle.iceoryx2_ports.proofs.Coming.{receive_brings_nothing}
 use Rattle.iceoryx2_ports.proofs.Received.{is_its_request, receive_keeps_askers_idle}
 use Rattle.iceoryx2_ports.proofs.Remaining.{receive_keeps_requests}
+use Rattle.iceoryx2_ports.proofs.Kept.{keeps_values}
+use Rattle.iceoryx2_ports.proofs.SameShapes.{same_shapes}
 use Rattle.iceoryx2_ports.proofs.server.Server.receive.Goals as goal
-
-pub returns-in-Handle-clause-keeps : goal.returns-in-Handle-clause-keeps
-returns-in-Handle-clause-keeps g c =
-    kept c.args.hub.now c.receive_request.new.hub c.args.self.now.node (Receive c.args.self.now.number) (reply_of_receive c.receive_request.result) refl
-    c.receive_request.ensures.whole
-
-pub returns-in-Nothing-clause-keeps : goal.returns-in-Nothing-clause-keeps
-returns-in-Nothing-clause-keeps g c =
-    kept c.args.hub.now c.receive_request.new.hub c.args.self.now.node (Receive c.args.self.now.number) (reply_of_receive c.receive_request.result) refl
-    c.receive_request.ensures.whole
-
-pub returns-in-AtLimit-clause-keeps : goal.returns-in-AtLimit-clause-keeps
-returns-in-AtLimit-clause-keeps g c =
-    kept c.args.hub.now c.receive_request.new.hub c.args.self.now.node (Receive c.args.self.now.number) (reply_of_receive c.receive_request.result) refl
-    c.receive_request.ensures.whole
 
 pub returns-in-Handle-clause-takes : goal.returns-in-Handle-clause-takes
 returns-in-Handle-clause-takes g c =
@@ -104,3 +91,27 @@ pub returns-in-AtLimit-clause-requests : goal.returns-in-AtLimit-clause-requests
 returns-in-AtLimit-clause-requests g c =
     receive_keeps_requests c.args.hub.now c.receive_request.new.hub c.args.self.now.node c.args.self.now.number (reply_of_receive c.receive_request.result)
     c.receive_request.ensures.whole
+
+pub returns-in-Handle-clause-shapes : goal.returns-in-Handle-clause-shapes
+returns-in-Handle-clause-shapes g c =
+    same_shapes c.args.hub.now c.receive_request.new.hub c.args.self.now.node (Receive c.args.self.now.number) (reply_of_receive c.receive_request.result)
+    c.receive_request.ensures.whole
+
+pub returns-in-Nothing-clause-shapes : goal.returns-in-Nothing-clause-shapes
+returns-in-Nothing-clause-shapes g c =
+    same_shapes c.args.hub.now c.receive_request.new.hub c.args.self.now.node (Receive c.args.self.now.number) (reply_of_receive c.receive_request.result)
+    c.receive_request.ensures.whole
+
+pub returns-in-AtLimit-clause-shapes : goal.returns-in-AtLimit-clause-shapes
+returns-in-AtLimit-clause-shapes g c =
+    same_shapes c.args.hub.now c.receive_request.new.hub c.args.self.now.node (Receive c.args.self.now.number) (reply_of_receive c.receive_request.result)
+    c.receive_request.ensures.whole
+
+pub returns-in-Handle-clause-keeps : goal.returns-in-Handle-clause-keeps
+returns-in-Handle-clause-keeps g c = keeps_values c.args.hub.now c.receive_request.new.hub c.receive_request.ensures.keeps
+
+pub returns-in-Nothing-clause-keeps : goal.returns-in-Nothing-clause-keeps
+returns-in-Nothing-clause-keeps g c = keeps_values c.args.hub.now c.receive_request.new.hub c.receive_request.ensures.keeps
+
+pub returns-in-AtLimit-clause-keeps : goal.returns-in-AtLimit-clause-keeps
+returns-in-AtLimit-clause-keeps g c = keeps_values c.args.hub.now c.receive_request.new.hub c.receive_request.ensures.keeps

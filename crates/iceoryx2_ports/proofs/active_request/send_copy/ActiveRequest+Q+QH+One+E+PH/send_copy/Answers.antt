@@ -10,23 +10,12 @@ use Rattle.iox_hub_laws.specs.Lending.{payload_of}
 use Rattle.iox_hub_laws.specs.Shown.{nothing_given, shown}
 use Rattle.iceoryx2_ports.specs.Copies.{copy_reply}
 use Rattle.iceoryx2_ports.specs.Loans.{loan_refusal}
-use Rattle.iceoryx2_ports.proofs.Copying.{copy_asks_as_before, copy_keeps, test_is_told}
+use Rattle.iceoryx2_ports.proofs.Copying.{copy_asks_as_before, test_is_told}
 use Rattle.iceoryx2_ports.proofs.Responding.{copy_has_as_before, copy_reaches_asker}
 use Rattle.iceoryx2_ports.proofs.Telling.{called_as}
 use Rattle.iceoryx2_ports.proofs.Unclosed.{copy_keeps_requests}
+use Rattle.iceoryx2_ports.proofs.SameShapes.{same_shapes}
 use Rattle.iceoryx2_ports.proofs.active_request.send_copy.ActiveRequest+Q+QH+One+E+PH.send_copy.Goals as goal
-
-pub returns-in-Done-clause-keeps : goal.returns-in-Done-clause-keeps
-returns-in-Done-clause-keeps g c =
-    copy_keeps c.args.hub.now c.copy_response.new.hub c.args.self.now.node c.args.self.now.number (payload_of roles.Server 1 (flat_map g.E.Words.words (c.args.value ∷ []))) (reply_of_copy c.copy_response.result) c.copy_response.ensures.whole
-
-pub returns-in-OutOfMemory-clause-keeps : goal.returns-in-OutOfMemory-clause-keeps
-returns-in-OutOfMemory-clause-keeps g c =
-    copy_keeps c.args.hub.now c.copy_response.new.hub c.args.self.now.node c.args.self.now.number (payload_of roles.Server 1 (flat_map g.E.Words.words (c.args.value ∷ []))) (reply_of_copy c.copy_response.result) c.copy_response.ensures.whole
-
-pub returns-in-Undelivered-clause-keeps : goal.returns-in-Undelivered-clause-keeps
-returns-in-Undelivered-clause-keeps g c =
-    copy_keeps c.args.hub.now c.copy_response.new.hub c.args.self.now.node c.args.self.now.number (payload_of roles.Server 1 (flat_map g.E.Words.words (c.args.value ∷ []))) (reply_of_copy c.copy_response.result) c.copy_response.ensures.whole
 
 pub returns-in-Refused-clause-whole : goal.returns-in-Refused-clause-whole
 returns-in-Refused-clause-whole g c =
@@ -78,4 +67,19 @@ pub returns-in-Undelivered-clause-requests : goal.returns-in-Undelivered-clause-
 returns-in-Undelivered-clause-requests g c =
     copy_keeps_requests c.args.hub.now c.copy_response.new.hub c.is_in_order.ensures c.args.self.now.node c.args.self.now.number
     (payload_of roles.Server 1 (flat_map g.E.Words.words (c.args.value ∷ []))) (reply_of_copy c.copy_response.result) c.requires.has
+    c.copy_response.ensures.whole
+
+pub returns-in-Done-clause-shapes : goal.returns-in-Done-clause-shapes
+returns-in-Done-clause-shapes g c =
+    same_shapes c.args.hub.now c.copy_response.new.hub c.args.self.now.node (SendCopy c.args.self.now.number (payload_of roles.Server 1 (flat_map g.E.Words.words (c.args.value ∷ [])))) (reply_of_copy c.copy_response.result)
+    c.copy_response.ensures.whole
+
+pub returns-in-OutOfMemory-clause-shapes : goal.returns-in-OutOfMemory-clause-shapes
+returns-in-OutOfMemory-clause-shapes g c =
+    same_shapes c.args.hub.now c.copy_response.new.hub c.args.self.now.node (SendCopy c.args.self.now.number (payload_of roles.Server 1 (flat_map g.E.Words.words (c.args.value ∷ [])))) (reply_of_copy c.copy_response.result)
+    c.copy_response.ensures.whole
+
+pub returns-in-Undelivered-clause-shapes : goal.returns-in-Undelivered-clause-shapes
+returns-in-Undelivered-clause-shapes g c =
+    same_shapes c.args.hub.now c.copy_response.new.hub c.args.self.now.node (SendCopy c.args.self.now.number (payload_of roles.Server 1 (flat_map g.E.Words.words (c.args.value ∷ [])))) (reply_of_copy c.copy_response.result)
     c.copy_response.ensures.whole

@@ -9,10 +9,11 @@ use Rattle.iox_hub_laws.specs.Lends.{refusal_of}
 use Rattle.iox_hub_laws.specs.Lending.{payload_of}
 use Rattle.iceoryx2_ports.specs.Copies.{unasked_reply}
 use Rattle.iceoryx2_ports.specs.Loans.{loan_refusal}
-use Rattle.iceoryx2_ports.proofs.Copying.{copy_asks_as_before, copy_keeps, test_is_told}
+use Rattle.iceoryx2_ports.proofs.Copying.{copy_asks_as_before, test_is_told}
 use Rattle.iceoryx2_ports.proofs.Reaching.{copy_brings_one, copy_is_sent, copy_reaches}
 use Rattle.iceoryx2_ports.proofs.Telling.{called_as}
 use Rattle.iceoryx2_ports.proofs.CopyAsked.{copy_asks_quietly, copy_brings_its_request, copy_opens}
+use Rattle.iceoryx2_ports.proofs.SameShapes.{same_shapes}
 use Rattle.iceoryx2_ports.specs.Asking.{BringsItsRequest, LendsQuietly, OpensAtServers}
 use Rattle.iox_hub_laws.specs.Waiting.{client_in}
 use Rattle.iceoryx2_ports.proofs.client.send_copy.Client+One+E+QH+P+PH.send_copy.Goals as goal
@@ -20,22 +21,6 @@ use Rattle.iceoryx2_ports.proofs.client.send_copy.Client+One+E+QH+P+PH.send_copy
 pub returns-in-To-clause-whole : goal.returns-in-To-clause-whole
 returns-in-To-clause-whole g c =
     called_as c.args.hub.now c.copy_request.new.hub c.args.self.now.node (SendCopy c.args.self.now.number (payload_of roles.Client 1 (flat_map g.E.Words.words (c.args.value ∷ [])))) (replies.Handle c.in-To.number) _ (ap replies.Handle (sym c.new.ensures.number)) c.in-To.ensures.whole
-
-pub returns-in-To-clause-keeps : goal.returns-in-To-clause-keeps
-returns-in-To-clause-keeps g c =
-    copy_keeps c.args.hub.now c.copy_request.new.hub c.args.self.now.node c.args.self.now.number (payload_of roles.Client 1 (flat_map g.E.Words.words (c.args.value ∷ []))) (reply_of_copy c.copy_request.result) c.copy_request.ensures.whole
-
-pub returns-in-OutOfMemory-clause-keeps : goal.returns-in-OutOfMemory-clause-keeps
-returns-in-OutOfMemory-clause-keeps g c =
-    copy_keeps c.args.hub.now c.copy_request.new.hub c.args.self.now.node c.args.self.now.number (payload_of roles.Client 1 (flat_map g.E.Words.words (c.args.value ∷ []))) (reply_of_copy c.copy_request.result) c.copy_request.ensures.whole
-
-pub returns-in-ExceedsMaxActiveRequests-clause-keeps : goal.returns-in-ExceedsMaxActiveRequests-clause-keeps
-returns-in-ExceedsMaxActiveRequests-clause-keeps g c =
-    copy_keeps c.args.hub.now c.copy_request.new.hub c.args.self.now.node c.args.self.now.number (payload_of roles.Client 1 (flat_map g.E.Words.words (c.args.value ∷ []))) (reply_of_copy c.copy_request.result) c.copy_request.ensures.whole
-
-pub returns-in-UnableToDeliver-clause-keeps : goal.returns-in-UnableToDeliver-clause-keeps
-returns-in-UnableToDeliver-clause-keeps g c =
-    copy_keeps c.args.hub.now c.copy_request.new.hub c.args.self.now.node c.args.self.now.number (payload_of roles.Client 1 (flat_map g.E.Words.words (c.args.value ∷ []))) (reply_of_copy c.copy_request.result) c.copy_request.ensures.whole
 
 pub returns-in-Refused-clause-whole : goal.returns-in-Refused-clause-whole
 returns-in-Refused-clause-whole g c =
@@ -94,3 +79,23 @@ returns-in-To-clause-opens g c =
     subst₂ (λ (i n : ℕ). OpensAtServers c.args.hub.now (client_in c.copy_request.new.hub i n) c.copy_request.new.hub) (sym c.new.ensures.node) (sym c.new.ensures.number)
     (copy_opens c.args.hub.now c.copy_request.new.hub c.is_in_order.ensures c.args.self.now.node c.args.self.now.number 1 c.in-To.number
     (flat_map g.E.Words.words (c.args.value ∷ [])) c.requires.has c.in-To.ensures.whole)
+
+pub returns-in-To-clause-shapes : goal.returns-in-To-clause-shapes
+returns-in-To-clause-shapes g c =
+    same_shapes c.args.hub.now c.copy_request.new.hub c.args.self.now.node (SendCopy c.args.self.now.number (payload_of roles.Client 1 (flat_map g.E.Words.words (c.args.value ∷ [])))) (reply_of_copy c.copy_request.result)
+    c.copy_request.ensures.whole
+
+pub returns-in-OutOfMemory-clause-shapes : goal.returns-in-OutOfMemory-clause-shapes
+returns-in-OutOfMemory-clause-shapes g c =
+    same_shapes c.args.hub.now c.copy_request.new.hub c.args.self.now.node (SendCopy c.args.self.now.number (payload_of roles.Client 1 (flat_map g.E.Words.words (c.args.value ∷ [])))) (reply_of_copy c.copy_request.result)
+    c.copy_request.ensures.whole
+
+pub returns-in-ExceedsMaxActiveRequests-clause-shapes : goal.returns-in-ExceedsMaxActiveRequests-clause-shapes
+returns-in-ExceedsMaxActiveRequests-clause-shapes g c =
+    same_shapes c.args.hub.now c.copy_request.new.hub c.args.self.now.node (SendCopy c.args.self.now.number (payload_of roles.Client 1 (flat_map g.E.Words.words (c.args.value ∷ [])))) (reply_of_copy c.copy_request.result)
+    c.copy_request.ensures.whole
+
+pub returns-in-UnableToDeliver-clause-shapes : goal.returns-in-UnableToDeliver-clause-shapes
+returns-in-UnableToDeliver-clause-shapes g c =
+    same_shapes c.args.hub.now c.copy_request.new.hub c.args.self.now.node (SendCopy c.args.self.now.number (payload_of roles.Client 1 (flat_map g.E.Words.words (c.args.value ∷ [])))) (reply_of_copy c.copy_request.result)
+    c.copy_request.ensures.whole

@@ -1,0 +1,10 @@
+use Rattle.std.specs.Prelude.{true}
+use Rattle.iox_model.specs.declared.kind.Kind.TheVariants.{RequestMutUninit}
+use Rattle.iceoryx2_ports.proofs.SameShapes.{filled_keeps, filled_shapes}
+use Rattle.iceoryx2_ports.proofs.request_mut.RequestMutUninit.write_from_fn.Goals as goal
+
+pub returns-clause-keeps : goal.returns-clause-keeps
+returns-clause-keeps g c = filled_keeps c.args.hub.now c.write_request_from_fn.new.self c.args.self.node c.args.self.number true _ c.write_request_from_fn.ensures.filled
+
+pub returns-clause-shapes : goal.returns-clause-shapes
+returns-clause-shapes g c = filled_shapes c.args.hub.now c.write_request_from_fn.new.self c.args.self.node c.args.self.number true _ c.write_request_from_fn.ensures.filled RequestMutUninit c.requires.has
