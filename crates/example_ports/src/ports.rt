@@ -6,9 +6,9 @@ ghost use Rattle.iceoryx2_ports.specs.Reads.{message_in};
 ghost use Rattle.iceoryx2_ports.specs.Sends.{BringsOnly};
 
 use iceoryx2_ports::{
-    ActiveRequest, AllocationStrategy, BackpressureStrategy, Client, Hub, LoanError, Many,
-    MessageShape, One, Part, PendingResponse, PortFactoryClient, PortFactoryServer,
-    RequestSendError, SendError, Server, Settings, UniqueSystemId,
+    ActiveRequest, BackpressureStrategy, Client, Hub, LoanError, Many, MessageShape, One,
+    PendingResponse, PortFactoryClient, PortFactoryServer, RequestSendError, SendError, Server,
+    Settings, UniqueSystemId, default_settings,
 };
 use std::alloc::{AllocError, Global};
 
@@ -34,60 +34,16 @@ const NODE_ID: UniqueSystemId = UniqueSystemId {
     counter: 0,
 };
 
-/// The limits of the service.
-const SETTINGS: Settings = Settings {
-    clients: 2,
-    servers: 2,
-    nodes: 2,
-    active_requests: 2,
-    loaned_requests: 1,
-    response_buffer: 2,
-    borrowed_responses: 1,
-    loaned_responses: 1,
-    client_expired: 0,
-    server_expired: 0,
-    request_overflow: true,
-    response_overflow: true,
-    fire_and_forget: true,
-    client_strategy: BackpressureStrategy::DiscardData,
-    server_strategy: BackpressureStrategy::DiscardData,
-    client_allocation: AllocationStrategy::Static,
-    server_allocation: AllocationStrategy::Static,
-};
-
-/// Size and alignment of a part of a message, in bytes.
-const WORD: Part = Part {
-    size: 8,
-    alignment: 8,
-};
-
-const BYTE: Part = Part {
-    size: 1,
-    alignment: 1,
-};
-
-const NOTHING: Part = Part {
-    size: 0,
-    alignment: 1,
-};
-
-/// A hub in which no port was made.
+/// A hub in which no port was made. A full receiver is passed over.
 pub fn service(alloc: Global) -> Result<Bytes, AllocError> {
-    let request: MessageShape<u64, ()> = MessageShape {
-        default: None,
-        user_header: (),
-        header_part: WORD,
-        user_part: NOTHING,
-        element_part: WORD,
+    let settings = Settings {
+        client_strategy: BackpressureStrategy::DiscardData,
+        server_strategy: BackpressureStrategy::DiscardData,
+        ..default_settings()
     };
-    let response: MessageShape<u8, ()> = MessageShape {
-        default: None,
-        user_header: (),
-        header_part: WORD,
-        user_part: NOTHING,
-        element_part: BYTE,
-    };
-    Hub::new(alloc, SETTINGS, request, response)
+    let request = MessageShape::of_requests(None, ());
+    let response = MessageShape::of_responses(None, ());
+    Hub::new(alloc, settings, request, response)
 }
 
 /// A client, and a server whose responses have at most eight bytes.
