@@ -4,6 +4,8 @@
 #[cfg(test)]
 mod copies;
 #[cfg(test)]
+mod defaults;
+#[cfg(test)]
 mod errors;
 #[cfg(test)]
 mod exchange;

@@ -53,7 +53,7 @@ fn a_client_awaits_one_request(rt: HostRuntime) -> Result<(), Fail> {
     Ok(())
 }
 
-/// A loan that is filled with the default.
+/// A loaned request that carries 7.
 fn loan(
     hub: &mut Exchange,
     client: &Asker,
@@ -101,6 +101,46 @@ fn a_client_has_two_loans(rt: HostRuntime) -> Result<(), Fail> {
     client.release(&mut hub);
     server.release(&mut hub);
     equal(&rt, told, Some((Some(LoanError::ExceedsMaxLoans), None)));
+    Ok(())
+}
+
+/// Why there is no loan beside two, of which a command wrote one; whether its holder still has that
+/// one as unfilled; and why there is none once it was given up.
+fn loans_beside_a_written_one(
+    hub: &mut Exchange,
+    client: &Asker,
+) -> Option<(Option<LoanError>, bool, Option<LoanError>)> {
+    if !client.exists(hub) {
+        return None;
+    }
+    let first = client.loan_uninit(hub).ok()?;
+    let Ok(second) = loan(hub, client) else {
+        first.release(hub);
+        return None;
+    };
+    if hub.has(0, 2, Kind::RequestMutUninit, 0) {
+        hub.write_request(0, 2, 0, &[456]);
+    }
+    let before = why_not(hub, client);
+    let unfilled = first.exists(hub);
+    first.release(hub);
+    let after = why_not(hub, client);
+    second.release(hub);
+    Some((before, unfilled, after))
+}
+
+#[test]
+fn a_loan_that_a_command_wrote_is_given_up_by_its_holder(rt: HostRuntime) -> Result<(), Fail> {
+    let mut hub = hub(rt.alloc(), true, BackpressureStrategy::DiscardData)?;
+    let (client, server) = ports(rt.alloc(), &mut hub)?;
+    let told = loans_beside_a_written_one(&mut hub, &client);
+    client.release(&mut hub);
+    server.release(&mut hub);
+    equal(
+        &rt,
+        told,
+        Some((Some(LoanError::ExceedsMaxLoans), false, None)),
+    );
     Ok(())
 }
 
