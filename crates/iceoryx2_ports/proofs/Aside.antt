@@ -15,12 +15,12 @@ use Rattle.iox_tables.specs.HubStates.States.{Given, handle_of, message_of}
 use Rattle.iox_tables.specs.HubStates.Tables.{HandleState, HubTables}
 use Rattle.iox_tables.specs.HubStates.Wirings.{handle_in}
 use Rattle.iox_tables.proofs.HubStates.Fixing.{find_handle}
-use Rattle.iox_hub_laws.specs.Hubs.{HasValue, HubState, given_by, state_of_hub}
+use Rattle.iox_hub_laws.specs.Hubs.{HasValue, HubState, given_by, nothing_given, state_of_hub}
 use Rattle.iox_hub_laws.proofs.SendingNames.{found_node}
 use Rattle.iox_hub_laws.specs.Waiting.{server_of}
 use Rattle.iceoryx2_ports.specs.Keeping.{KeepsAsking, KeepsOthersAsking, spends}
 use Rattle.iceoryx2_ports.proofs.Others.{IsAt, whole_there}
-use Rattle.iceoryx2_ports.proofs.Staying.{any_given, asker, client_shown}
+use Rattle.iceoryx2_ports.proofs.Staying.{asker, client_shown}
 
 -- what a number names is the node's, of that number
 pub named_at : (x : Given) (h : HubState) (node n : ℕ) (k : Handle) → subject (state_of_hub x h).fixed node n ≡ Some (TheHandle k) → IsAt node n k
@@ -71,7 +71,7 @@ module _ (old new : HubState) (node : ℕ) (call : Call) (reply : Reply) (e : sp
   -- it is so of each other value
   pub others_ask_as_before : KeepsOthersAsking old node (number_of call) new
   others_ask_as_before a i other has =
-      let x : Given = any_given old in
+      let x : Given = nothing_given old in
       sym (client_shown x new a i)
       ∙ ap (λ (o : Option Handle). option_map_or asker o (server_of i))
       (whole_there node (number_of call) a i other (state_of_hub x old) (state_of_hub x new) call reply e (named_at x old node (number_of call)) (whole x))

@@ -15,8 +15,8 @@ use Rattle.iox_tables.specs.HubStates.Tables.{HandleState, HubTables}
 use Rattle.iox_tables.specs.HubStates.Wirings.{handle_in}
 use Rattle.iox_tables.proofs.HubLoans.Asked.{awaited_are_named}
 use Rattle.iox_tables.proofs.HubStates.Fixing.{find_handle}
-use Rattle.iox_hub_laws.specs.Hubs.{HubState, given_by}
-use Rattle.iox_hub_laws.specs.Shown.{handle_of, nothing_given, shown}
+use Rattle.iox_hub_laws.specs.Hubs.{HubState, given_by, nothing_given}
+use Rattle.iox_hub_laws.specs.Shown.{handle_of, shown}
 use Rattle.iox_hub_laws.specs.Waiting.{client_in, client_of, server_of}
 use Rattle.iceoryx2_ports.specs.Asking.{AnswersAs, is_open_at}
 use Rattle.iceoryx2_ports.specs.Idling.{client_on}

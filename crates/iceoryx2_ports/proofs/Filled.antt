@@ -24,9 +24,9 @@ use Rattle.iox_tables.specs.HubStates.States.{Given, message_of}
 use Rattle.iox_tables.specs.HubStates.Tables.{HubTables}
 use Rattle.iox_tables.proofs.HubStates.Fixing.{find_handle}
 use Rattle.iox_tables.proofs.HubStates.Naming.{each_handle_is_named, handle_node, handle_number}
-use Rattle.iox_hub_laws.specs.Hubs.{HasValue, HubState, given_by, state_of_hub}
+use Rattle.iox_hub_laws.specs.Hubs.{HasValue, HubState, given_by, nothing_given, state_of_hub}
 use Rattle.iox_hub_laws.specs.Sends.{NothingComes}
-use Rattle.iox_hub_laws.specs.Shown.{handle_of, nothing_given, shown}
+use Rattle.iox_hub_laws.specs.Shown.{handle_of, shown}
 use Rattle.iox_hub_laws.specs.Waiting.{client_in}
 use Rattle.iox_hub_laws.proofs.Values.{IsHandleOf, value_is_handle}
 use Rattle.iceoryx2_ports.specs.Asking.{AnswersAs, AsksAs}

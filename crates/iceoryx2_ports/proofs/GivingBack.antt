@@ -33,10 +33,10 @@ use Rattle.iox_tables.specs.HubStates.States.{Given}
 use Rattle.iox_tables.specs.HubStates.Steps.{is_there}
 use Rattle.iox_tables.specs.HubStates.Tables.{HandleState}
 use Rattle.iox_tables.specs.HubStates.Wirings.{handle_in}
-use Rattle.iox_hub_laws.specs.Hubs.{HubState, IsHub, given_by, state_of_hub}
+use Rattle.iox_hub_laws.specs.Hubs.{HubState, IsHub, given_by, nothing_given, state_of_hub}
 use Rattle.iox_tables.proofs.HubStates.Naming.{each_handle_is_named}
 use Rattle.iox_hub_laws.proofs.Named.{found_is_handle}
-use Rattle.iox_hub_laws.specs.Shown.{handle_of, nothing_given, shown}
+use Rattle.iox_hub_laws.specs.Shown.{handle_of, shown}
 use Rattle.iox_hub_laws.specs.Waiting.{NothingWaits}
 use Rattle.iceoryx2_ports.specs.Idling.{IsIdle, IsIdleBut}
 use Rattle.iceoryx2_ports.specs.Reaching.{HasRoom}

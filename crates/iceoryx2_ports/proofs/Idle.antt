@@ -36,10 +36,10 @@ use Rattle.iox_tables.specs.HubStates.Tables.{HandleState, HubTables, PortState,
 use Rattle.iox_tables.specs.HubStates.Ways.{lane_on}
 use Rattle.iox_tables.proofs.HubLending.Owning.{handles_are_on_nodes}
 use Rattle.iox_tables.proofs.HubLoans.Counting.{each_count_is_the_same}
-use Rattle.iox_hub_laws.specs.Hubs.{HubState, IsHub, given_by, state_of_hub}
+use Rattle.iox_hub_laws.specs.Hubs.{HubState, IsHub, given_by, nothing_given, state_of_hub}
 use Rattle.iox_hub_laws.specs.Gone.{IsBetweenPorts}
 use Rattle.iox_hub_laws.specs.Sends.{NothingComes}
-use Rattle.iox_hub_laws.specs.Shown.{nothing_given, shown}
+use Rattle.iox_hub_laws.specs.Shown.{shown}
 use Rattle.iox_hub_laws.proofs.OfHubs.{hub_keeps_no_gone}
 use Rattle.iceoryx2_ports.specs.Idling.{IsIdle}
 use Rattle.iceoryx2_ports.specs.LoanLimits.{LendsNone}

@@ -37,8 +37,8 @@ use Rattle.iox_tables.specs.HubStates.States.{Given}
 use Rattle.iox_tables.specs.HubStates.Steps.{is_there}
 use Rattle.iox_tables.specs.HubStates.Tables.{HubTables}
 use Rattle.iox_tables.proofs.HubStates.Steps.{connected_is}
-use Rattle.iox_hub_laws.specs.Hubs.{HubState, IsHub, given_by, state_of_hub}
-use Rattle.iox_hub_laws.specs.Shown.{nothing_given, shown}
+use Rattle.iox_hub_laws.specs.Hubs.{HubState, IsHub, given_by, nothing_given, state_of_hub}
+use Rattle.iox_hub_laws.specs.Shown.{shown}
 use Rattle.iceoryx2_ports.specs.Reaching.{KeepsRoom}
 use Rattle.iceoryx2_ports.proofs.Answering.{none_left}
 use Rattle.iceoryx2_ports.proofs.Idle.{has_none_full, may_have_one}

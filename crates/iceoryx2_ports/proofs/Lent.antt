@@ -35,10 +35,10 @@ use Rattle.iox_tables.specs.HubStates.Tables.{HubTables, PortState}
 use Rattle.iox_tables.proofs.HubBooks.Used.{handle_is}
 use Rattle.iox_tables.proofs.HubStates.Fixing.{find_handle, find_port, first_key}
 use Rattle.iox_tables.proofs.HubStates.Naming.{each_handle_is_named, each_port_is_named, handle_node}
-use Rattle.iox_hub_laws.specs.Hubs.{HasValue, HubState, IsHub, given_by, state_of_hub}
+use Rattle.iox_hub_laws.specs.Hubs.{HasValue, HubState, IsHub, given_by, nothing_given, state_of_hub}
 use Rattle.iox_hub_laws.proofs.LendingNamed.{active_of_hub, client_of_hub}
 use Rattle.iox_hub_laws.specs.Sends.{NothingComes}
-use Rattle.iox_hub_laws.specs.Shown.{handle_of, nothing_given, shown}
+use Rattle.iox_hub_laws.specs.Shown.{handle_of, shown}
 use Rattle.iox_hub_laws.specs.Waiting.{client_in}
 use Rattle.iox_hub_laws.proofs.Takes.{last_among, number_in}
 use Rattle.iceoryx2_ports.specs.Asking.{AnswersAs, LendsQuietly}

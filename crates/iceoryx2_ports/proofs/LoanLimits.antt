@@ -29,10 +29,10 @@ use Rattle.iox_tables.proofs.HubLending.Owning.{handles_are_on_nodes}
 use Rattle.iox_tables.proofs.HubLoans.Counting.{each_count_is_the_same}
 use Rattle.iox_tables.proofs.HubStates.Fixing.{find_port, first_key}
 use Rattle.iox_tables.proofs.HubStates.Naming.{each_port_is_named}
-use Rattle.iox_hub_laws.specs.Hubs.{HasValue, HubState, IsHub, given_by, state_of_hub}
+use Rattle.iox_hub_laws.specs.Hubs.{HasValue, HubState, IsHub, given_by, nothing_given, state_of_hub}
 use Rattle.iox_hub_laws.proofs.LendingNamed.{client_of_hub}
 use Rattle.iox_hub_laws.specs.Loans.{AnswersOfClient, answer_of}
-use Rattle.iox_hub_laws.specs.Shown.{nothing_given, shown}
+use Rattle.iox_hub_laws.specs.Shown.{shown}
 use Rattle.iceoryx2_ports.specs.Copies.{error_of_test}
 use Rattle.iceoryx2_ports.specs.LoanLimits.{HasAllLoans, LendsLength, LendsOneMore}
 use Rattle.iceoryx2_ports.specs.declared.errors.LoanError.{LoanError}

@@ -31,8 +31,8 @@ use Rattle.iox_tables.specs.HubLoans.Loans.{loan_call}
 use Rattle.iox_tables.specs.HubStates.States.{Given}
 use Rattle.iox_tables.specs.HubStates.Wirings.{numbers_of_role}
 use Rattle.iox_tables.proofs.HubStates.Fixing.{roles_are}
-use Rattle.iox_hub_laws.specs.Hubs.{HubState, given_by, state_of_hub}
-use Rattle.iox_hub_laws.specs.Shown.{nothing_given, shown}
+use Rattle.iox_hub_laws.specs.Hubs.{HubState, given_by, nothing_given, state_of_hub}
+use Rattle.iox_hub_laws.specs.Shown.{shown}
 use Rattle.iceoryx2_ports.specs.Asking.{KeepsOpen}
 use Rattle.iceoryx2_ports.proofs.Resting.{IsResting, Rests, at_rests, loaning_rests, numbered_has, rests}
 

@@ -34,13 +34,13 @@ use Rattle.iox_tables.specs.HubStates.Wirings.{IsServer, numbers_of_role}
 use Rattle.iox_tables.proofs.HubStates.Fixing.{first_key, roles_are}
 use Rattle.iox_tables.proofs.HubStates.Naming.{each_port_is_named}
 use Rattle.iox_tables.proofs.HubStates.Steps.{connected_is}
-use Rattle.iox_hub_laws.specs.Hubs.{HasValue, HubState, IsHub, given_by, state_of_hub}
+use Rattle.iox_hub_laws.specs.Hubs.{HasValue, HubState, IsHub, given_by, nothing_given, state_of_hub}
 use Rattle.iox_hub_laws.specs.Lending.{payload_of}
 use Rattle.iox_hub_laws.proofs.LendingNamed.{client_of_hub}
 use Rattle.iox_hub_laws.proofs.Named.{server_is}
 use Rattle.iox_hub_laws.specs.Arrivals.{IsSentOn, newest, with_last}
 use Rattle.iox_hub_laws.specs.Sends.{IsRequestSent, SendsRequest, servers_of}
-use Rattle.iox_hub_laws.specs.Shown.{handle_of, nothing_given, shown}
+use Rattle.iox_hub_laws.specs.Shown.{handle_of, shown}
 use Rattle.iox_hub_laws.proofs.Arrivals.{all_newest, is_less, one_longer}
 use Rattle.iox_hub_laws.proofs.Brought.{goes_on, goes_to}
 use Rattle.iox_hub_laws.proofs.Values.{IsHandleOf, value_is_handle}

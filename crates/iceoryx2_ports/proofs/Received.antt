@@ -27,10 +27,10 @@ use Rattle.iox_tables.specs.HubStates.Tables.{HandleState, HubTables, PortState,
 use Rattle.iox_tables.specs.HubStates.Wirings.{IsPending, IsServer}
 use Rattle.iox_tables.proofs.HubStates.Fixing.{find_handle}
 use Rattle.iox_hub_laws.specs.Received.TheVariants as received
-use Rattle.iox_hub_laws.specs.Hubs.{HasValue, HubState, IsHub, given_by, state_of_hub}
+use Rattle.iox_hub_laws.specs.Hubs.{HasValue, HubState, IsHub, given_by, nothing_given, state_of_hub}
 use Rattle.iox_hub_laws.proofs.Named.{pending_is, server_is}
 use Rattle.iox_hub_laws.specs.Receives.{TakesNext, TakesRequest}
-use Rattle.iox_hub_laws.specs.Shown.{handle_of, nothing_given, shown}
+use Rattle.iox_hub_laws.specs.Shown.{handle_of, shown}
 use Rattle.iox_hub_laws.specs.Waiting.{client_in, client_of, server_of}
 use Rattle.iceoryx2_ports.specs.Asking.{AllAsk, IsItsRequest, KeepsAskersIdle, is_open_at}
 use Rattle.iceoryx2_ports.specs.Idling.{IsIdle}

@@ -44,11 +44,11 @@ use Rattle.iox_tables.proofs.HubBooks.Sendable.{of_role}
 use Rattle.iox_tables.proofs.HubBooks.Used.{handle_is}
 use Rattle.iox_tables.proofs.HubStates.Fixing.{find_handle}
 use Rattle.iox_tables.proofs.HubStates.Naming.{each_handle_is_named, handle_node, handle_number}
-use Rattle.iox_hub_laws.specs.Hubs.{HasValue, HubState, IsHub, given_by, state_of_hub}
+use Rattle.iox_hub_laws.specs.Hubs.{HasValue, HubState, IsHub, given_by, nothing_given, state_of_hub}
 use Rattle.iox_hub_laws.proofs.Named.{server_is}
 use Rattle.iox_hub_laws.specs.Arrivals.{newest, takes_more, with_last}
 use Rattle.iox_hub_laws.specs.Sends.{IsRequestSent, SendsRequest, servers_of}
-use Rattle.iox_hub_laws.specs.Shown.{handle_of, nothing_given, shown}
+use Rattle.iox_hub_laws.specs.Shown.{handle_of, shown}
 use Rattle.iox_hub_laws.specs.Waiting.{IsWaiting, client_in, client_of, server_of}
 use Rattle.iox_hub_laws.proofs.Arrivals.{EndsSo, Fits, IsRefusal}
 use Rattle.iox_hub_laws.proofs.Brought.{apart, goes_to, starts_quiet, to_client, to_servers, within}

@@ -32,11 +32,11 @@ use Rattle.iox_tables.specs.HubStates.States.{Given}
 use Rattle.iox_tables.specs.HubStates.Tables.{HandleState, HubTables, PortState}
 use Rattle.iox_tables.specs.HubStates.Wirings.{handle_in}
 use Rattle.iox_tables.proofs.HubLoans.Asked.{awaited_are_named, connections_are_told}
-use Rattle.iox_hub_laws.specs.Hubs.{HasValue, HubState, IsHub, given_by, state_of_hub}
+use Rattle.iox_hub_laws.specs.Hubs.{HasValue, HubState, IsHub, given_by, nothing_given, state_of_hub}
 use Rattle.iox_hub_laws.proofs.LendingNamed.{active_of_hub}
 use Rattle.iox_hub_laws.specs.Arrivals.{IsSentOn}
 use Rattle.iox_hub_laws.specs.Sends.{CopiesResponse, response_of, way_of_response}
-use Rattle.iox_hub_laws.specs.Shown.{handle_of, nothing_given, shown}
+use Rattle.iox_hub_laws.specs.Shown.{handle_of, shown}
 use Rattle.iox_hub_laws.specs.Waiting.{WaitedFor, WaitedForPending, client_in, client_of, server_of}
 use Rattle.iox_hub_laws.proofs.Values.{IsHandleOf, value_is_handle}
 use Rattle.iox_hub_laws.specs.Received.{Received}

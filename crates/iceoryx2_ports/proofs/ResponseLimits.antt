@@ -29,10 +29,10 @@ use Rattle.iox_tables.proofs.HubLending.Owning.{handles_are_on_nodes}
 use Rattle.iox_tables.proofs.HubLoans.Counting.{each_count_is_the_same}
 use Rattle.iox_tables.proofs.HubStates.Fixing.{find_handle, find_port, first_key}
 use Rattle.iox_tables.proofs.HubStates.Naming.{each_handle_is_named}
-use Rattle.iox_hub_laws.specs.Hubs.{HasValue, HubState, IsHub, given_by, state_of_hub}
+use Rattle.iox_hub_laws.specs.Hubs.{HasValue, HubState, IsHub, given_by, nothing_given, state_of_hub}
 use Rattle.iox_hub_laws.proofs.LendingNamed.{active_of_hub}
 use Rattle.iox_hub_laws.specs.Loans.{AnswersOfRequest, answer_of}
-use Rattle.iox_hub_laws.specs.Shown.{nothing_given, shown}
+use Rattle.iox_hub_laws.specs.Shown.{shown}
 use Rattle.iceoryx2_ports.specs.LoanLimits.{HasAllResponses, RespondsLength, RespondsOneMore, most_responses, responses_lent, server_in}
 use Rattle.iceoryx2_ports.specs.declared.errors.LoanError.TheVariants as loan_errors
 use Rattle.iceoryx2_ports.proofs.Counted.{one_more_response}

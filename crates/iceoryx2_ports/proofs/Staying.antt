@@ -2,7 +2,6 @@
 use Rattle.std.specs.Prelude.{◌≡◌, ℕ, ◌+◌, Bool, true, false, ◌&&◌, if◌then◌else◌, ◌==◌, List, [], ◌∷◌, ◌++◌, Option, Some, None, find, refl}
 use Rattle.std.specs.Option.{option_map, option_map_or}
 use Rattle.std.proofs.Common.{sym, subst, ap, ap₂, ◌∙◌, true≢false, eqb-true}
-use Rattle.iox_model.specs.declared.backpressure.BackpressureAction.TheVariants.{FollowBackpressureStrategy}
 use Rattle.iox_model.specs.declared.call.Call.TheVariants.{Loan, LoanUninit}
 use Rattle.iox_model.specs.declared.kind.Kind.TheVariants.{PendingResponse}
 use Rattle.iox_model.specs.declared.kind.Role.TheVariants as roles
@@ -24,7 +23,7 @@ use Rattle.iox_tables.specs.HubStates.Tables.{HandleState, HubTables}
 use Rattle.iox_tables.specs.HubStates.Wirings.{handle_in}
 use Rattle.iox_tables.specs.HubLoans.Loans.{loan_call}
 use Rattle.iox_tables.proofs.HubStates.Fixing.{find_handle}
-use Rattle.iox_hub_laws.specs.Hubs.{HasValue, HubState, given_by, state_of_hub}
+use Rattle.iox_hub_laws.specs.Hubs.{HasValue, HubState, given_by, nothing_given, state_of_hub}
 use Rattle.iox_hub_laws.specs.Waiting.{client_in, client_of, server_of}
 use Rattle.iox_hub_laws.proofs.Values.{IsHandleOf, value_is_handle}
 use Rattle.iceoryx2_ports.specs.Keeping.{KeepsAsking, spends}
@@ -130,19 +129,6 @@ whole_extends s t node call reply e =
 
 -- ---- the values of a hub
 
--- what a hub gives, whatever its service
-pub any_given : HubState → Given
-any_given h = record {
-  members = record { nodes = []; joins = 0; closed = false };
-  acts = λ words sender receiver. FollowBackpressureStrategy;
-  handler = λ n. None;
-  request = h.request;
-  response = h.response;
-  user = λ pool k. [];
-  payload = λ pool k. [];
-  filled = λ pool k. 0;
-}
-
 -- for whom a handle of the machine asks
 abbrev pub asker : Handle → Receiver
 asker h = record { port = h.port; role = roles.Client; lane = h.lane; request = h.request }
@@ -167,7 +153,7 @@ module _ (old new : HubState) (node : ℕ) (call : Call) (reply : Reply) (e : sp
     (whole : (x : Given) → IsWholeCall (state_of_hub x old) node call reply (state_of_hub x new)) where
   pub asks_as_before : KeepsAsking old new
   asks_as_before a n has =
-      let x : Given = any_given old in
+      let x : Given = nothing_given old in
       let y : Given = given_by x old in
       let t : HubTables = old.control.tables in
       let is : IsHandleOf t a n PendingResponse = value_is_handle t a n PendingResponse refl has in

@@ -39,9 +39,9 @@ use Rattle.iox_tables.specs.HubStates.States.{Given, port_of}
 use Rattle.iox_tables.specs.HubStates.Tables.{HubTables}
 use Rattle.iox_tables.proofs.HubStates.Fixing.{find_port}
 use Rattle.iox_tables.proofs.HubStates.Naming.{each_handle_is_named}
-use Rattle.iox_hub_laws.specs.Hubs.{HasValue, HubState, IsHub, given_by, state_of_hub}
+use Rattle.iox_hub_laws.specs.Hubs.{HasValue, HubState, IsHub, given_by, nothing_given, state_of_hub}
 use Rattle.iox_hub_laws.proofs.LendingNamed.{active_of_hub}
-use Rattle.iox_hub_laws.specs.Shown.{handle_of, nothing_given, shown}
+use Rattle.iox_hub_laws.specs.Shown.{handle_of, shown}
 use Rattle.iceoryx2_ports.specs.Asking.{KeepsOpen}
 use Rattle.iceoryx2_ports.specs.Keeping.{spends}
 use Rattle.iceoryx2_ports.specs.Opens.{KeepsRequests}

@@ -31,11 +31,11 @@ use Rattle.iox_tables.specs.HubStates.Wirings.{IsPending, IsServer, numbers_of_r
 use Rattle.iox_tables.proofs.HubLoans.Asked.{each_value_is_there}
 use Rattle.iox_tables.proofs.HubStates.Fixing.{find_handle}
 use Rattle.iox_tables.proofs.HubStates.Steps.{connected_is}
-use Rattle.iox_hub_laws.specs.Hubs.{HasValue, HubState, IsHub, given_by, state_of_hub}
+use Rattle.iox_hub_laws.specs.Hubs.{HasValue, HubState, IsHub, given_by, nothing_given, state_of_hub}
 use Rattle.iox_hub_laws.specs.Keeping.{IsOther}
 use Rattle.iox_hub_laws.specs.Sending.{HasNothing}
 use Rattle.iox_hub_laws.proofs.Named.{pending_is, server_is}
-use Rattle.iox_hub_laws.specs.Shown.{handle_of, nothing_given, shown}
+use Rattle.iox_hub_laws.specs.Shown.{handle_of, shown}
 use Rattle.iox_hub_laws.specs.Waiting.{client_in, client_of, server_of}
 use Rattle.iox_hub_laws.proofs.StillValues.{same_kinds}
 use Rattle.iox_hub_laws.proofs.Values.{IsHandleOf, value_is_handle}

@@ -14,11 +14,6 @@ spends (Send n) = true
 spends (Release n) = true
 spends call = false
 
--- Messages have the same shapes as before: what they are made of, and what they carry at first.
-pub record HaveSameShapes (old new : HubState) : Type 0 where
-  pub request : new.request ≡ old.request
-  pub response : new.response ≡ old.response
-
 -- Each pending response is of the same client, and for the same request, as before.
 abbrev pub KeepsAsking : HubState → HubState → Type 0
 KeepsAsking old new =

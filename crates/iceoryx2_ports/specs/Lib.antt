@@ -32,6 +32,15 @@ pub use Rattle.iox_hub_laws.specs.Histories as HubHistories
 pub use Rattle.iox_hub_laws.specs.Limits as HubLimits
 pub use Rattle.iox_hub_laws.specs.Slots as HubSlots
 pub use Rattle.iox_hub_laws.specs.Gone as HubGone
+-- of commands
+pub use Rattle.iox_model.specs.declared.command.PortCommand
+pub use Rattle.iox_model.specs.declared.command.PortOptions
+pub use Rattle.iox_model.specs.declared.reply.PortReply
+pub use Rattle.iox_port_commands.specs.declared.elements.Elements
+pub use Rattle.iox_port_commands.specs.Asking as CommandsAsked
+pub use Rattle.iox_port_commands.specs.Telling as CommandsTold
+pub use Rattle.iox_port_commands.specs.Memory as CommandsMemory
+pub use Rattle.iox_port_commands.specs.Applying
 -- for types of callers: values as words, words in parts, or of values that pass a test, and the
 -- words of std's types
 pub use Rattle.iox_words.specs.WordLists

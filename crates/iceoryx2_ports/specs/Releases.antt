@@ -4,12 +4,12 @@ use Rattle.iox_model.specs.declared.kind.Kind.{Kind}
 use Rattle.iox_model.specs.Values.{IsRelease}
 use Rattle.iox_tables.specs.HubStates.States.{Given}
 use Rattle.iox_hub_laws.specs.Hubs.{HubState, state_of_hub}
-use Rattle.iox_hub_laws.specs.Keeping.{KeepsOthers}
+use Rattle.iox_hub_laws.specs.Keeping.{HaveSameShapes, KeepsOthers}
 use Rattle.iox_hub_laws.specs.Releases.{StillHas}
 use Rattle.iox_hub_laws.specs.Sending.{HasNothing}
 use Rattle.iox_hub_laws.specs.Sends.{NothingComes}
 use Rattle.iceoryx2_ports.specs.Idling.{KeepsIdle}
-use Rattle.iceoryx2_ports.specs.Keeping.{HaveSameShapes, KeepsOthersAsking}
+use Rattle.iceoryx2_ports.specs.Keeping.{KeepsOthersAsking}
 use Rattle.iceoryx2_ports.specs.Opens.{LeavesOpen}
 use Rattle.iceoryx2_ports.specs.Reaching.{KeepsRoom}
 

@@ -21,6 +21,7 @@ mod server;
 pub mod uses;
 pub mod uses_answering;
 pub mod uses_arrivals;
+pub mod uses_commands;
 pub mod uses_copied_trip;
 pub mod uses_copying;
 pub mod uses_exchange;
@@ -43,7 +44,10 @@ pub use iox_hub_laws::{
     Hub, MessageShape, Part, PreallocatedRequestsOverride, PreallocatedResponseOverride, Settings,
     default_settings,
 };
+pub use iox_model::command::{PortCommand, PortOptions};
 pub use iox_model::kind::{Kind, Role};
+pub use iox_model::reply::{PortReply, Refusal};
+pub use iox_port_commands::{ApplyCommand, Elements};
 pub use iox_store::{Many, One, Payload};
 pub use iox_types::identifiers::{
     UniqueClientId, UniqueNodeId, UniqueNodeIdError, UniqueServerId, UniqueSystemId,

@@ -10,7 +10,7 @@ ghost use Rattle.iox_model.specs.WholeCalls.{IsWholeCall};
 ghost use Rattle.iox_tables.specs.HubStates.States.{Given};
 ghost use Rattle.iox_hub_laws.specs.Headers.{IsHeaderShown, header_in};
 ghost use Rattle.iox_hub_laws.specs.Hubs.{HasValue, state_of_hub};
-ghost use Rattle.iox_hub_laws.specs.Keeping.{KeepsOthers};
+ghost use Rattle.iox_hub_laws.specs.Keeping.{HaveSameShapes, KeepsOthers};
 ghost use Rattle.iox_hub_laws.specs.Lending.{IsWritten, payload_of};
 ghost use Rattle.iox_hub_laws.specs.Reads.{message_in};
 ghost use Rattle.iox_hub_laws.specs.Sending.{HasNothing};
@@ -21,7 +21,7 @@ ghost use Rattle.iceoryx2_ports.specs.Asking.{AsksAs, BringsItsRequest, OpensAtS
 ghost use Rattle.iceoryx2_ports.specs.Calls.{HasCallsLeft};
 ghost use Rattle.iceoryx2_ports.specs.Headers.{request_header_of};
 ghost use Rattle.iceoryx2_ports.specs.Idling.{BringsOne};
-ghost use Rattle.iceoryx2_ports.specs.Keeping.{HaveSameShapes, KeepsAsking};
+ghost use Rattle.iceoryx2_ports.specs.Keeping.{KeepsAsking};
 ghost use Rattle.iceoryx2_ports.specs.Loans.{reply_of_request_send, reply_of_write};
 ghost use Rattle.iceoryx2_ports.specs.Opens.{KeepsRequests};
 ghost use Rattle.iceoryx2_ports.specs.Reaching.{KeepsRoom, ReachesServers};

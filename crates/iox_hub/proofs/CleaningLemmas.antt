@@ -3,7 +3,6 @@ use Rattle.std.specs.Prelude.{◌≡◌, ◌≢◌, ℕ, ◌<◌, Bool, true, fa
 use Rattle.std.specs.Option.{option_map, option_map_or}
 use Rattle.std.proofs.Common.{sym, ap, subst, ◌∙◌, arith, eqb-true, inl, inr}
 use Rattle.std.proofs.lemmas.Option.{none-some, same_Some}
-use Rattle.iox_model.specs.declared.backpressure.BackpressureAction.TheVariants.{FollowBackpressureStrategy}
 use Rattle.iox_model.specs.declared.call.Call.TheVariants.{Release}
 use Rattle.iox_model.specs.declared.reply.Reply.TheVariants.{Done}
 use Rattle.iox_model.specs.Commands.{Use}
@@ -34,7 +33,7 @@ use Rattle.iox_tables.proofs.HubBooks.Used.{handle_is}
 use Rattle.iox_tables.specs.HubLoans.Questions.{kind_in}
 use Rattle.iox_tables.specs.HubBooks.Hubs.{AreInOrder}
 use Rattle.iox_hub.specs.Cleaning.{LeadsOn}
-use Rattle.iox_hub.specs.Hubs.{HubState, IsHub, IsReached, given_by, state_of_hub, with_control}
+use Rattle.iox_hub.specs.Hubs.{HubState, IsHub, IsReached, given_by, nothing_given, state_of_hub, with_control}
 use Rattle.iox_hub.specs.Reads.{HasOf}
 use Rattle.iox_hub.specs.Sending.{HasNothing, is_handle, with_words_left}
 use Rattle.iox_hub.proofs.SendingHubs.{held_port_of_hub, named_of_hub}
@@ -128,19 +127,6 @@ first_is_value x h node n order first =
     (numbers_are_values (state_of_hub x h).fixed node n
     (subst (λ (ns : List ℕ). IsAmong n ns) (sym (first_and_rest (numbers_of_node (state_of_hub x h).fixed node) n first)) (inl refl)))
 
--- something beside the tables
-some_given : HubState → Given
-some_given h = record {
-  members = record { nodes = []; joins = 0; closed = false };
-  acts = λ words s r. FollowBackpressureStrategy;
-  handler = λ n. None;
-  request = h.request;
-  response = h.response;
-  user = λ pool k. [];
-  payload = λ pool k. [];
-  filled = λ pool k. 0;
-}
-
 -- where the numbers are none, a number names nothing
 pub names_none : (h : HubState) (node : ℕ) → ((x : Given) → numbers_of_node (state_of_hub x h).fixed node ≡ []) → (n : ℕ) → HasNothing h node n
 names_none h node none n = step (kind_in h.control.tables node n) refl
@@ -148,7 +134,7 @@ names_none h node none n = step (kind_in h.control.tables node n) refl
     step : (o : Option Kind) → kind_in h.control.tables node n ≡ o → o ≡ None
     step None e = refl
     step (Some kind) e =
-        let x : Given = some_given h in
+        let x : Given = nothing_given h in
         absurd (subst (λ (ns : List ℕ). IsAmong n ns) (none x)
         (values_are_numbers (state_of_hub x h).fixed node n (kind_is_value (given_by x h) h.control.tables node n (ap (λ o. is_some o) e))))
 
@@ -231,7 +217,7 @@ pub fewer_left : (old new : HubState) (node n : ℕ) → ((x : Given) → Some n
     → ((x : Given) → numbers_of_node (state_of_hub x new).fixed node ≡ rest_of (numbers_of_node (state_of_hub x old).fixed node))
     → length (numbers_had new.control.tables node) < length (numbers_had old.control.tables node)
 fewer_left old new node n first rest =
-    let x : Given = some_given old in
+    let x : Given = nothing_given old in
     let more = ap length (sym (numbers_are x old node) ∙ first_and_rest (numbers_of_node (state_of_hub x old).fixed node) n (sym (first x))) in
     let less = ap length (sym (numbers_are x new node) ∙ rest x) in
     omega (arith, more, less)

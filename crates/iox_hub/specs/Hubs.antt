@@ -1,5 +1,6 @@
 -- A hub, as its callers see it, and the state that it shows.
-use Rattle.std.specs.Prelude.{◌≡◌, ℕ, Bool, List, Option, None, Some, ⊤}
+use Rattle.std.specs.Prelude.{◌≡◌, ℕ, Bool, false, List, [], Option, None, Some, ⊤}
+use Rattle.iox_model.specs.declared.backpressure.BackpressureAction.TheVariants.{FollowBackpressureStrategy}
 use Rattle.iox_model.specs.declared.kind.Kind.{Kind}
 use Rattle.iox_model.specs.Runs.{IsReachableState}
 use Rattle.iox_model.specs.Settings.{Shape}
@@ -39,6 +40,19 @@ given_by x h = record x {
 -- are given.
 abbrev pub state_of_hub : Given → HubState → State
 state_of_hub x h = state_shown (given_by x h) h.control.tables
+
+-- what is given beside a hub where no node joined
+abbrev pub nothing_given : HubState → Given
+nothing_given h = record {
+  members = record { nodes = []; joins = 0; closed = false };
+  acts = λ handler sender receiver. FollowBackpressureStrategy;
+  handler = λ port. None;
+  request = h.request;
+  response = h.response;
+  user = λ pool k. [];
+  payload = λ pool k. [];
+  filled = λ pool k. 0;
+}
 
 -- A service and its hub can reach the state that the hub shows.
 abbrev pub IsReached : HubState → Type 0

@@ -29,6 +29,11 @@ Keeps P old new =
 abbrev pub KeepsAll : HubState → HubState → Type 0
 KeepsAll old new = Keeps (λ node n. ⊤) old new
 
+-- Messages have the same shapes as before: what they are made of, and what they carry at first.
+pub record HaveSameShapes (old new : HubState) : Type 0 where
+  pub request : new.request ≡ old.request
+  pub response : new.response ≡ old.response
+
 -- it is another value than that node's of that number
 abbrev pub IsOther : ℕ → ℕ → ℕ → ℕ → Type 0
 IsOther node n a m = a ≡ node → m ≢ n

@@ -22,11 +22,11 @@ use Rattle.iox_tables.specs.HubStates.Tables.{HandleState, HubTables}
 use Rattle.iox_tables.proofs.HubStates.Naming.{each_handle_is_named}
 use Rattle.iox_hub.specs.Received.{Received}
 use Rattle.iox_hub.specs.Received.TheVariants.{AtLimit, Handle, Nothing}
-use Rattle.iox_hub.specs.Hubs.{HasValue, HubState, IsHub, given_by, state_of_hub}
+use Rattle.iox_hub.specs.Hubs.{HasValue, HubState, IsHub, given_by, nothing_given, state_of_hub}
 use Rattle.iox_hub.specs.Reads.{message_in}
 use Rattle.iox_hub_laws.specs.Receives.{GetsOnly, TakesRequest, TakesResponse}
 use Rattle.iox_hub_laws.specs.Sends.{BringsOnly, NothingComes}
-use Rattle.iox_hub_laws.specs.Shown.{handle_of, nothing_given, shown}
+use Rattle.iox_hub_laws.specs.Shown.{handle_of, shown}
 use Rattle.iox_hub_laws.specs.Waiting.{AllCarry, client_in, client_of, server_of}
 use Rattle.iox_hub_laws.proofs.Only.{copies_its_words, sends_its_message, waited_or_sent}
 use Rattle.iox_hub_laws.proofs.Values.{IsHandleOf, carried_by, value_is_handle}

@@ -26,10 +26,9 @@ use Rattle.iox_tables.specs.HubLoans.Loans.{loan_call}
 use Rattle.iox_tables.specs.HubStates.Releases.{request_of}
 use Rattle.iox_tables.specs.HubStates.States.{Given, limits_of}
 use Rattle.iox_tables.specs.HubStates.Tables.{HandleState, HubTables, PortState, port_in}
-use Rattle.iox_hub.specs.Hubs.{HasValue, HubState, IsHub, given_by, state_of_hub}
+use Rattle.iox_hub.specs.Hubs.{HasValue, HubState, IsHub, given_by, nothing_given, state_of_hub}
 use Rattle.iox_hub.proofs.LendingNamed.{active_of_hub, client_of_hub}
 use Rattle.iox_hub_laws.specs.Loans.{AnswersOfClient, AnswersOfRequest, IsLent, IsWithinLimits, IsWithinServersLimits, LendsWithinLimits, RespondsWithinLimits, answer_of}
-use Rattle.iox_hub_laws.specs.Shown.{nothing_given}
 use Rattle.iox_hub_laws.proofs.Loaned.{client_answers, server_answers}
 
 -- a hub never answers a loan by want of memory

@@ -21,6 +21,7 @@ pub mod Sending
 pub mod CopySending
 -- what the crates above cite of those below
 pub use Rattle.iox_hub.proofs.Named
+pub use Rattle.iox_hub.proofs.ShapesStay
 pub use Rattle.iox_hub.proofs.StillValues
 pub use Rattle.iox_hub.proofs.SendingNames
 pub use Rattle.iox_hub.proofs.LendingNamed

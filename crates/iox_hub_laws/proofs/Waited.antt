@@ -39,9 +39,8 @@ use Rattle.iox_tables.specs.HubStates.Wirings.{IsPending, IsServer, IsWired}
 use Rattle.iox_tables.proofs.HubStates.Fixing.{first_key}
 use Rattle.iox_tables.proofs.HubStates.Naming.{each_handle_is_named, each_port_is_named}
 use Rattle.iox_tables.proofs.HubStates.Serving.{distinct, distinct_at, pending_ways_are, ways_are}
-use Rattle.iox_hub.specs.Hubs.{HasValue, HubState, IsHub, given_by, state_of_hub}
+use Rattle.iox_hub.specs.Hubs.{HasValue, HubState, IsHub, given_by, nothing_given, state_of_hub}
 use Rattle.iox_hub.proofs.Named.{pending_is, server_is}
-use Rattle.iox_hub_laws.specs.Shown.{nothing_given}
 use Rattle.iox_hub_laws.specs.Waiting.{CanCome, IsHeldBack, IsWaiting, WaitedFor, WaitedForPending, client_of, server_of}
 use Rattle.iox_hub_laws.proofs.Visits.{Comes, Says, SomeStays, Stays, visits_say}
 

@@ -15,8 +15,8 @@ use Rattle.iox_tables.specs.HubStates.Wirings.{handle_in}
 use Rattle.iox_hub.specs.Lends.{reply_of_loan}
 use Rattle.iox_hub.specs.Lent.{Lent}
 use Rattle.iox_hub.specs.Lent.TheVariants as lents
-use Rattle.iox_hub.specs.Hubs.{HubState, given_by}
-use Rattle.iox_hub_laws.specs.Shown.{nothing_given, shown}
+use Rattle.iox_hub.specs.Hubs.{HubState, given_by, nothing_given}
+use Rattle.iox_hub_laws.specs.Shown.{shown}
 
 -- The first test that refuses the loan. If none does, the pool decides: it refuses exactly where the
 -- port keeps each of its messages, even once it got back all that was given back. Any other loan is

@@ -22,9 +22,9 @@ use Rattle.iox_hub.specs.Requested.{Requested}
 use Rattle.iox_hub.specs.Requested.TheVariants.{To, ExceedsMaxActiveRequests, UnableToDeliver}
 use Rattle.iox_hub.specs.Responded.{Responded}
 use Rattle.iox_hub.specs.Responded.TheVariants.{Done, Undelivered}
-use Rattle.iox_hub.specs.Hubs.{HubState, given_by}
+use Rattle.iox_hub.specs.Hubs.{HubState, given_by, nothing_given}
 use Rattle.iox_hub_laws.specs.Arrivals.{IsSentOn}
-use Rattle.iox_hub_laws.specs.Shown.{handle_of, nothing_given, shown}
+use Rattle.iox_hub_laws.specs.Shown.{handle_of, shown}
 use Rattle.iox_hub_laws.specs.Waiting.{AllCarry, NothingWaits}
 
 -- On each way the same waits as before.

@@ -1,26 +1,11 @@
 -- The state that a hub shows, and the histories that may have led to it.
-use Rattle.std.specs.Prelude.{false, List, [], None}
-use Rattle.iox_model.specs.declared.backpressure.BackpressureAction.TheVariants.{FollowBackpressureStrategy}
+use Rattle.std.specs.Prelude.{List}
 use Rattle.iox_model.specs.States.{Handle, State}
 use Rattle.iox_model.specs.Weaves.{Beat}
 use Rattle.iox_laws.specs.RunLaws.Traces.{beats_of_reached}
 use Rattle.iox_tables.specs.HubStates.Releases.{handle_shown}
-use Rattle.iox_tables.specs.HubStates.States.{Given}
 use Rattle.iox_tables.specs.HubStates.Tables.{HandleState}
-use Rattle.iox_hub.specs.Hubs.{HubState, IsReached, given_by, state_of_hub}
-
--- what is given beside a hub where no node joined
-abbrev pub nothing_given : HubState → Given
-nothing_given h = record {
-  members = record { nodes = []; joins = 0; closed = false };
-  acts = λ handler sender receiver. FollowBackpressureStrategy;
-  handler = λ port. None;
-  request = h.request;
-  response = h.response;
-  user = λ pool k. [];
-  payload = λ pool k. [];
-  filled = λ pool k. 0;
-}
+use Rattle.iox_hub.specs.Hubs.{HubState, IsReached, given_by, nothing_given, state_of_hub}
 
 -- the state that the hub shows, without nodes
 abbrev pub shown : HubState → State

@@ -1,6 +1,5 @@
 pub mod Calling
 pub mod Making
 pub mod Wanting
-pub mod Limiting
 pub mod Shaping
 pub mod Lacking

@@ -1,55 +1,29 @@
 -- What messages are made of stays as it is.
-use Rattle.std.specs.Prelude.{◌≡◌, ℕ, false, List, [], Option, Some, None, IsSome, MatchOption, Result, Ok, Err, IfOk, OnErr}
+use Rattle.std.specs.Prelude.{ℕ, List, Option, Some, None, IsSome, MatchOption, Result, Ok, Err, IfOk, OnErr}
 use Rattle.std.specs.declared.vec.Vec.{Vec}
-use Rattle.std.proofs.Common.{sym, subst, ap}
-use Rattle.iox_model.specs.declared.backpressure.BackpressureAction.TheVariants.{FollowBackpressureStrategy}
+use Rattle.std.proofs.Common.{sym, subst}
 use Rattle.iox_model.specs.declared.command.PortCommand as the_command
 use Rattle.iox_model.specs.declared.reply.PortReply as the_reply
 use Rattle.iox_model.specs.Commands.{HubCommand, PortReply, Reply, answer_of, asking}
 use Rattle.iox_model.specs.Makings.{IsHubCommand}
-use Rattle.iox_model.specs.Settings.{Limits}
-use Rattle.iox_tables.specs.HubStates.States.{Given}
-use Rattle.iox_hub.specs.Hubs.{HubState, state_of_hub}
+use Rattle.iox_hub.specs.Hubs.{HubState, nothing_given, state_of_hub}
+use Rattle.iox_hub.specs.Keeping.{HaveSameShapes}
+use Rattle.iox_hub.proofs.ShapesStay.{command_shapes}
 use Rattle.iox_port_commands.specs.declared.elements.Elements.{Elements}
-use Rattle.iox_port_commands.specs.Applying.{HaveDefaults, HaveSameShapes, IsApplied, IsReplied, LacksMemoryFor}
+use Rattle.iox_port_commands.specs.Applying.{HaveDefaults, IsApplied, IsReplied, LacksMemoryFor}
 use Rattle.iox_port_commands.specs.Asking.{command_for}
 use Rattle.iox_port_commands.specs.Memory.{want_of}
 use Rattle.iox_port_commands.specs.Telling.{reply_told}
-use Rattle.iox_port_commands.proofs.Limiting.{limits_stay}
-
--- something beside the tables
-some_given : HubState → Given
-some_given h = record {
-  members = record { nodes = []; joins = 0; closed = false };
-  acts = λ words s r. FollowBackpressureStrategy;
-  handler = λ n. None;
-  request = h.request;
-  response = h.response;
-  user = λ pool k. [];
-  payload = λ pool k. [];
-  filled = λ pool k. 0;
-}
-
--- after the machine's command
-shapes_so : (old new : HubState) (node : ℕ) (command : HubCommand) (reply : Reply)
-    → IsHubCommand (state_of_hub (some_given old) old) node command reply (state_of_hub (some_given old) new) → HaveSameShapes old new
-shapes_so old new node command reply whole =
-    let same : (state_of_hub (some_given old) new).fixed.limits ≡ (state_of_hub (some_given old) old).fixed.limits =
-    limits_stay (state_of_hub (some_given old) old) node command reply (state_of_hub (some_given old) new) whole in
-    record {
-      request = ap (λ (l : Limits). l.request) same;
-      response = ap (λ (l : Limits). l.response) same;
-    }
 
 -- after what is answered so
 pub shapes_stay : {C Z : Type 0} (old new : HubState) (node : ℕ) (command : HubCommand) (reply : the_reply.PortReply (Vec ℕ Z) C)
     → IsReplied old node command reply new → HaveSameShapes old new
-shapes_stay old new node command reply whole = step (reply_told reply) (whole (some_given old))
+shapes_stay old new node command reply whole = step (reply_told reply) (whole (nothing_given old))
   where
     step : (o : Option PortReply)
-        → MatchOption o ⊥ (λ q. IsHubCommand (state_of_hub (some_given old) old) node command (answer_of q) (state_of_hub (some_given old) new))
+        → MatchOption o ⊥ (λ q. IsHubCommand (state_of_hub (nothing_given old) old) node command (answer_of q) (state_of_hub (nothing_given old) new))
         → HaveSameShapes old new
-    step (Some q) w = shapes_so old new node command (answer_of q) w
+    step (Some q) w = command_shapes (nothing_given old) old new node command (answer_of q) w
     step None w = absurd w
 
 -- after a command, whether there was memory or not
@@ -61,7 +35,7 @@ shapes_after q p words old new command (Ok reply) whole lacks =
     shapes_stay old new (asking (command_for q p words command)).0 (asking (command_for q p words command)).1 reply whole
 shapes_after q p words old new command (Err e) whole lacks =
     let (node, asked) = asking (command_for q p words command) in
-    shapes_so old new node asked (want_of asked) (lacks (some_given old))
+    command_shapes (nothing_given old) old new node asked (want_of asked) (lacks (nothing_given old))
 
 pub defaults_stay : (old new : HubState) → HaveSameShapes old new → HaveDefaults old → HaveDefaults new
 defaults_stay old new same have = record {

@@ -64,8 +64,3 @@ HadMemoryFor q p words h command reply =
 pub record HaveDefaults (h : HubState) : Type 0 where
   pub request : IsSome h.request.default
   pub response : IsSome h.response.default
-
--- Messages are made of the same.
-pub record HaveSameShapes (old new : HubState) : Type 0 where
-  pub request : new.request ≡ old.request
-  pub response : new.response ≡ old.response

@@ -6,6 +6,7 @@ pub mod Memory
 pub mod Applying
 -- what clauses cite of hubs, for the crates above
 pub use Rattle.iox_hub.specs.Hubs
+pub use Rattle.iox_hub.specs.Keeping
 pub use Rattle.iox_hub.specs.Lending
 pub use Rattle.iox_hub.specs.Listings
 pub use Rattle.iox_hub.specs.Making

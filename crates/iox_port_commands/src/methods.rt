@@ -2,7 +2,8 @@
 ghost use Rattle.std.specs.Prelude.{◌≡◌, ◌||◌, IfOk, OnErr, true};
 ghost use Rattle.iox_hub.specs.Hubs.{HubState};
 ghost use Rattle.iox_hub.specs.Making.{StaysAs};
-ghost use Rattle.iox_port_commands.specs.Applying.{HadMemoryFor, HaveDefaults, HaveSameShapes};
+ghost use Rattle.iox_hub.specs.Keeping.{HaveSameShapes};
+ghost use Rattle.iox_port_commands.specs.Applying.{HadMemoryFor, HaveDefaults};
 ghost use Rattle.iox_port_commands.specs.Applying.{IsApplied, LacksMemoryFor};
 ghost use Rattle.iox_port_commands.specs.Asking.{is_making, is_read};
 ghost use Rattle.iox_port_commands.specs.Telling.{tells_want, wants_memory, wants_segment};

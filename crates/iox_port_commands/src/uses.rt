@@ -4,7 +4,8 @@ ghost use Rattle.iox_model.specs.declared.call.Call.TheVariants.{Read, SendCopy}
 ghost use Rattle.iox_model.specs.declared.kind.Role.TheVariants as roles;
 ghost use Rattle.iox_hub.specs.Hubs.{IsReached};
 ghost use Rattle.iox_hub.specs.Lending.{payload_of};
-ghost use Rattle.iox_port_commands.specs.Applying.{HaveDefaults, HaveSameShapes, IsCalled};
+ghost use Rattle.iox_hub.specs.Keeping.{HaveSameShapes};
+ghost use Rattle.iox_port_commands.specs.Applying.{HaveDefaults, IsCalled};
 ghost use Rattle.iox_port_commands.specs.Telling.{wants_memory};
 
 use crate::{Elements, apply};

@@ -1,6 +1,6 @@
 //! Loans that are filled with their default, and messages that carry nothing, by typed ports.
 ghost use Rattle.std.specs.Prelude.{IfOk, IsSome};
-ghost use Rattle.iceoryx2_ports.specs.Keeping.{HaveSameShapes};
+ghost use Rattle.iceoryx2_ports.specs.HubKeeping.{HaveSameShapes};
 
 use crate::exchange::{NODE, settings};
 use crate::expected::equal;

@@ -8,14 +8,14 @@ ghost use Rattle.iox_model.specs.WholeCalls.{IsWholeCall};
 ghost use Rattle.iox_tables.specs.HubStates.States.{Given};
 ghost use Rattle.iox_hub_laws.specs.Copying.{IsAwaited};
 ghost use Rattle.iox_hub_laws.specs.Hubs.{HasValue, state_of_hub};
-ghost use Rattle.iox_hub_laws.specs.Keeping.{KeepsAll};
+ghost use Rattle.iox_hub_laws.specs.Keeping.{HaveSameShapes, KeepsAll};
 ghost use Rattle.iox_hub_laws.specs.Lending.{payload_of};
 ghost use Rattle.iox_hub_laws.specs.Sends.{BringsOnly};
 ghost use Rattle.iox_hub_laws.specs.Waiting.{client_in};
 ghost use Rattle.iceoryx2_ports.specs.Asking.{BringsItsRequest, LendsQuietly, OpensAtServers};
 ghost use Rattle.iceoryx2_ports.specs.Copies.{LeavesUnasked, reply_of_request_copy};
 ghost use Rattle.iceoryx2_ports.specs.Idling.{BringsOne};
-ghost use Rattle.iceoryx2_ports.specs.Keeping.{HaveSameShapes, KeepsAsking};
+ghost use Rattle.iceoryx2_ports.specs.Keeping.{KeepsAsking};
 ghost use Rattle.iceoryx2_ports.specs.Reaching.{CopiesRequest, ReachesServers};
 
 use super::Client;

@@ -3,11 +3,10 @@ ghost use Rattle.std.specs.Prelude.{ℕ, ◌≡◌, ◌≢◌, IfErr, IfOk, OnEr
 ghost use Rattle.iox_model.specs.declared.kind.Kind.TheVariants as kinds;
 ghost use Rattle.iox_model.specs.declared.kind.Role.TheVariants as roles;
 ghost use Rattle.iox_hub_laws.specs.Hubs.{HasValue};
-ghost use Rattle.iox_hub_laws.specs.Keeping.{KeepsAll};
+ghost use Rattle.iox_hub_laws.specs.Keeping.{HaveSameShapes, KeepsAll};
 ghost use Rattle.iox_hub_laws.specs.Making.{LeavesMessages, StaysAs};
 ghost use Rattle.iox_hub_laws.specs.Sends.{NothingComes};
 ghost use Rattle.iceoryx2_ports.specs.Idling.{IsIdle, client_on};
-ghost use Rattle.iceoryx2_ports.specs.Keeping.{HaveSameShapes};
 ghost use Rattle.iceoryx2_ports.specs.LoanLimits.{LendsNone};
 ghost use Rattle.iceoryx2_ports.specs.Makings.{reply_of_client};
 ghost use Rattle.iceoryx2_ports.specs.Overrides.{IsMadeWithItsPool, MadeWith};

@@ -6,9 +6,8 @@ ghost use Rattle.iox_store.specs.Stored.{with_user, written_next};
 ghost use Rattle.iox_model.specs.declared.kind.Kind.TheVariants as kinds;
 ghost use Rattle.iox_hub_laws.specs.Fillings.{FillsLoan};
 ghost use Rattle.iox_hub_laws.specs.Hubs.{HasValue};
-ghost use Rattle.iox_hub_laws.specs.Keeping.{KeepsOthers};
+ghost use Rattle.iox_hub_laws.specs.Keeping.{HaveSameShapes, KeepsOthers};
 ghost use Rattle.iox_hub_laws.specs.Reads.{message_in};
-ghost use Rattle.iceoryx2_ports.specs.Keeping.{HaveSameShapes};
 
 use super::{ResponseMut, ResponseMutUninit};
 use iox_hub_laws::Hub;

@@ -2,7 +2,7 @@ use Rattle.std.specs.Prelude.{Bool, if◌then◌else◌}
 use Rattle.std.proofs.Common.{ap, ◌∙◌}
 use Rattle.iox_model.specs.declared.reply.PortReply.TheVariants.{Refused}
 use Rattle.iox_model.specs.declared.reply.Refusal.TheVariants.{UnableToCreateDataSegment, WantOfMemory}
-use Rattle.iox_port_commands.specs.Applying.{HaveSameShapes}
+use Rattle.iox_hub.specs.Keeping.{HaveSameShapes}
 use Rattle.iox_port_commands.proofs.Lacking.{refused_for_want}
 use Rattle.iox_port_commands.proofs.Shaping.{defaults_stay, shapes_after}
 use Rattle.iox_port_commands.proofs.applying.apply.Goals as goal

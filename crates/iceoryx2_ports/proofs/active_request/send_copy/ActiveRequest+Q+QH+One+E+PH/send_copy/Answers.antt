@@ -7,7 +7,8 @@ use Rattle.iox_model.specs.declared.reply.Reply.TheVariants as replies
 use Rattle.iox_hub_laws.specs.Answers.{reply_of_copy}
 use Rattle.iox_hub_laws.specs.Lends.{refusal_of}
 use Rattle.iox_hub_laws.specs.Lending.{payload_of}
-use Rattle.iox_hub_laws.specs.Shown.{nothing_given, shown}
+use Rattle.iox_hub_laws.specs.Hubs.{nothing_given}
+use Rattle.iox_hub_laws.specs.Shown.{shown}
 use Rattle.iceoryx2_ports.specs.Copies.{copy_reply}
 use Rattle.iceoryx2_ports.specs.Loans.{loan_refusal}
 use Rattle.iceoryx2_ports.proofs.Copying.{copy_asks_as_before, test_is_told}

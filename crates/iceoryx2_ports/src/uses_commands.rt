@@ -1,0 +1,48 @@
+//! Commands beside typed ports, proved from their clauses alone.
+ghost use Rattle.std.specs.Prelude.{◌≡◌, false};
+ghost use Rattle.iceoryx2_ports.specs.Call.TheVariants.{Send};
+ghost use Rattle.iceoryx2_ports.specs.Kind.TheVariants as kinds;
+ghost use Rattle.iceoryx2_ports.specs.Hubs.{HasValue};
+ghost use Rattle.iceoryx2_ports.specs.Applying.{HaveDefaults, IsCalled};
+ghost use Rattle.iceoryx2_ports.specs.CommandsTold.{wants_memory};
+
+use crate::{ApplyCommand, Client, Elements, Hub, LoanError, One, PortCommand, PortReply};
+use std::alloc::Global;
+use std::convert::Infallible;
+
+/// What a hub of numbers is asked by number. A handler would be a number.
+type Command = PortCommand<Elements<u64, u64>, u64>;
+
+/// Whatever the number names, a command is one whole call of the machine. It is not refused for want
+/// of memory.
+pub fn sends_by_number(
+    hub: &mut Hub<One<u64>, (), One<u64>, ()>,
+    node: u64,
+    number: u64,
+) -> PortReply<Vec<u64>, Infallible>
+    requires { HaveDefaults hub.old }
+    ensures whole { IsCalled hub.old node (Send number) result hub.new }
+    ensures memory { wants_memory result ≡ false }
+{
+    let command: Command = PortCommand::Send { node, number };
+    hub.apply(Global, command)
+}
+
+/// A typed loan leaves what a command asks of a hub.
+pub fn loans_and_asks(
+    client: &Client<One<u64>, (), One<u64>, ()>,
+    hub: &mut Hub<One<u64>, (), One<u64>, ()>,
+    server: u64,
+) -> Result<PortReply<Vec<u64>, Infallible>, LoanError>
+    requires { HasValue hub.old client.now.node client.now.number kinds.Client }
+    requires { HaveDefaults hub.old }
+    ensures { HaveDefaults hub.new }
+{
+    let loan = client.loan(hub)?;
+    loan.release(hub);
+    let command: Command = PortCommand::HasRequests {
+        node: 0,
+        number: server,
+    };
+    Ok(hub.apply(Global, command))
+}
