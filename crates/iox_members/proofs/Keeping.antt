@@ -173,10 +173,7 @@ pub first-room : (service most : ℕ) → register_refusal {D = UniqueSystemId} 
 first-room service most = rw (not_full) refl
   where
     one_at_least : (n : ℕ) → 1 ≤ room_of n
-    one_at_least zero = omega arith
-    one_at_least (suc n) =
-        let is : room_of (suc n) ≡ suc n = ap (λ b. cond b 1 (suc n)) (ne_eqb (suc n) 0 (λ same. omega (arith, same))) in
-        omega (arith, is)
+    one_at_least n = omega arith
 
     nothing : Option (registers.Registration UniqueSystemId)
     nothing = None

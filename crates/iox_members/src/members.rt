@@ -16,8 +16,8 @@ ghost use Rattle.iox_members.specs.Steps.{IsRefusedUnlessDead, IsRefusedUnlessLi
 use crate::lists::{find, has_id, kill, list_ids, numbers_of, remove};
 use crate::member::Member;
 use iox_model::reply::Refusal;
-use iox_registry::RegistryNewError;
 use iox_registry::dynamic_config::Nodes;
+use iox_registry::{RegistryNewError, room};
 use iox_types::identifiers::{UniqueNodeId, UniqueSystemId};
 use iox_words::CallbackProgression;
 use std::alloc::{AllocError, Global};
@@ -52,13 +52,6 @@ impl Model for Members {
     } };
 
     ghost invariant = { λ m. AreKept m.nodes.items m.joins m.most m.registered };
-}
-
-/// A limit of 0 counts as 1.
-fn room(most: usize) -> usize
-    ensures { result ≡ room_of most }
-{
-    most.max(1)
 }
 
 impl Members {

@@ -1,6 +1,6 @@
 -- A service as it is made, and why none is.
-use Rattle.std.specs.Prelude.{◌≡◌, ℕ, zero, suc, max, [], true, false, Option, Some, None, IsSome, Ok, Err, refl}
-use Rattle.std.proofs.Common.{ap, ap₂, arith, cond, ne_eqb, subst, sym, ◌∙◌}
+use Rattle.std.specs.Prelude.{◌≡◌, ℕ, [], true, false, Option, Some, None, IsSome, Ok, Err, refl}
+use Rattle.std.proofs.Common.{ap, ap₂, subst, sym, ◌∙◌}
 use Rattle.iox_types.specs.declared.identifiers.system_id.UniqueSystemId.{UniqueSystemId}
 use Rattle.iox_types.specs.Identifiers.{is_node_id}
 use Rattle.iox_model.specs.declared.reply.Refusal as the_refusal
@@ -46,17 +46,11 @@ first_service s q p id x h members hub reached valid small requests responses = 
     allowed : creation_refusal (limits_for s q p) id None true ≡ None
     allowed = rw valid (rw small refl)
 
-at_least_one : (n : ℕ) → room_of n ≡ max 1 n
-at_least_one zero = omega arith
-at_least_one (suc n) =
-    let is : room_of (suc n) ≡ suc n = ap (λ b. cond b 1 (suc n)) (ne_eqb (suc n) 0 (λ same. omega (arith, same))) in
-    omega (arith, is)
-
 -- as many nodes may be registered as the service may have
 pub first_room : (s : HubSettings) (q p : Shape) (x : RegisteredMembers) (h : HubState) → room_in x ≡ room_of s.nodes → h ≡ new_hub s q p
     → room_in x ≡ h.control.tables.settings.nodes
 first_room s q p x h room hub =
-    room ∙ at_least_one s.nodes ∙ sym (ap (λ (v : HubState). v.control.tables.settings.nodes) hub)
+    room ∙ sym (ap (λ (v : HubState). v.control.tables.settings.nodes) hub)
 
 -- ---- why none is made
 

@@ -1,7 +1,7 @@
 -- A register: what is registered with a service in one role, each under a handle that is never
 -- given twice.
 use Rattle.std.specs.Prelude.{◌≡◌, ◌+◌, ◌-◌, ◌^◌, ◌<◌, ◌==◌, ◌&&◌, ◌⊎◌, ℕ, List, [], ◌∷◌, Bool, true, false}
-use Rattle.std.specs.Prelude.{Option, Some, None, IsSome, if◌then◌else◌, is_none, length, map, nat_lt, replicate, slice_index_or, slice_set}
+use Rattle.std.specs.Prelude.{Option, Some, None, IsSome, if◌then◌else◌, is_none, length, map, max, nat_lt, replicate, slice_index_or, slice_set}
 use Rattle.std.specs.Option.{option_map}
 use Rattle.iox_types.specs.declared.identifiers.system_id.UniqueSystemId.{UniqueSystemId}
 use Rattle.iox_registry.specs.declared.roles.Role.{Role}
@@ -71,7 +71,7 @@ same_id a b =
 
 -- how many may be registered at once: a limit of 0 counts as 1
 abbrev pub room_of : ℕ → ℕ
-room_of limit = if limit == 0 then 1 else limit
+room_of limit = max 1 limit
 
 -- the most that any register has room for
 abbrev pub max_room : ℕ

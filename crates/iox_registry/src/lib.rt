@@ -16,5 +16,6 @@ mod roles;
 pub use handle::RegistryHandle;
 pub use has_node::HasNode;
 pub use refusals::{RegisterNodeError, RegistryNewError, ReleaseError};
+pub use register::room;
 pub use remaining_owners::RemainingOwners;
 pub use roles::Role;

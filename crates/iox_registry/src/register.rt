@@ -199,8 +199,8 @@ impl<D: HasNode> Register<D> {
     }
 }
 
-/// A limit of 0 counts as 1.
-fn room(limit: usize) -> usize
+/// How many a register of this limit has room for: a limit of 0 counts as 1.
+pub fn room(limit: usize) -> usize
     ensures { result ≡ room_of limit }
 {
     limit.max(1)
