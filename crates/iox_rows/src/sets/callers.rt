@@ -1,6 +1,7 @@
 //! Callers of each type, proved only from its clauses.
-ghost use Rattle.std.specs.Prelude.{◌≡◌, ◌<◌, ◌^◌, IfOk, Some, true};
+ghost use Rattle.std.specs.Prelude.{◌≡◌, ◌≢◌, ◌<◌, ◌^◌, ℕ, IfOk, Some, true};
 ghost use Rattle.iox_sets.specs.IndexSets.{IsHeld};
+ghost use Rattle.iox_sets.specs.OwnedIndices.{owner_of};
 
 use iox_sets::mpmc::bit_set::{BitSet, FixedSizeBitSet};
 use iox_sets::mpmc::counting_bit_set::{CountingBitSet, FixedSizeCountingBitSet};
@@ -130,4 +131,11 @@ pub fn seventh() -> OwnerId
     ensures { result ≡ 7 }
 {
     OwnerId::new(7).unwrap()
+}
+
+/// An owner has nothing any more once all of it is recovered.
+pub fn recovers_all(set: &mut RobustUniqueIndexSet, owner: OwnerId)
+    ensures { (index : ℕ) → owner_of set.new index ≢ Some owner }
+{
+    set.recover(owner, |_| true, ReleaseMode::Default);
 }
