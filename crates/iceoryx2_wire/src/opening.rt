@@ -20,7 +20,7 @@ impl<Q: Payload, QH: Words, P: Payload, PH: Words> Service<Q, QH, P, PH> {
     /// It is refused as `MarkedForDestruction` once the service is closed, as `InvalidNodeId`, as
     /// `NodeIdInUse`, as `IncompatibleRequestTypes`, `IncompatibleResponseTypes` or
     /// `IncompatibleAttributes`, as `ExceedsMaxNumberOfNodes`, and as `WantOfMemory`, in this
-    /// order. It is told of want of memory, too, once 2^64 - 1 nodes joined.
+    /// order. It is refused as `WantOfMemory` as well, once 2^64 - 1 nodes joined.
     pub fn open<'a>(
         &mut self,
         types: &MessageTypes,

@@ -26,7 +26,7 @@ impl<Q: Payload, QH: Words, P: Payload, PH: Words> Service<Q, QH, P, PH> {
     ///
     /// It is refused as `MarkedForDestruction` once the service is closed, as `InvalidNodeId`, as
     /// `NodeIdInUse`, by what is asked, as `ExceedsMaxNumberOfNodes`, and as `WantOfMemory`, in
-    /// this order. It is told of want of memory, too, once 2^64 - 1 nodes joined.
+    /// this order. It is refused as `WantOfMemory` as well, once 2^64 - 1 nodes joined.
     pub fn join<C: Copy>(
         &mut self,
         id: UniqueSystemId,

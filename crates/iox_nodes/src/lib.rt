@@ -13,5 +13,5 @@ mod serving;
 pub mod uses;
 
 pub use iox_members::Nodes;
-pub use iox_port_commands::{Elements, MessageShape, Part, Settings};
+pub use iox_port_commands::{Elements, MessageShape, Part, Settings, default_settings};
 pub use service::Service;
