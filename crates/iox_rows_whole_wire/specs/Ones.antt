@@ -9,10 +9,11 @@ use Rattle.iox_word_places.specs.declared.plan.PlanLimits.{PlanLimits}
 use Rattle.iox_word_places.specs.declared.plan.PlanPort.{PlanPort}
 use Rattle.iox_word_places.specs.declared.plan.WirePlan.{WirePlan}
 
--- a client, and a server
+-- a client
 abbrev pub client : PlanPort
 client = record { number = 0; node = 0; role = Client; pool = 4; longest = 1; slot_words = 10 }
 
+-- a server
 abbrev pub server : PlanPort
 server = record { number = 1; node = 1; role = Server; pool = 9; longest = 1; slot_words = 9 }
 

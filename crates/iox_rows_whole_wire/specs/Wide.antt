@@ -10,11 +10,12 @@ use Rattle.iox_word_places.specs.declared.plan.PlanLimits.{PlanLimits}
 use Rattle.iox_word_places.specs.declared.plan.PlanPort.{PlanPort}
 use Rattle.iox_word_places.specs.declared.plan.WirePlan.{WirePlan}
 
--- a client, and a server
+-- a client
 abbrev pub wide_client : PlanPort
 wide_client =
     record { number = 0; node = 0; role = Client; pool = 2; longest = 1; slot_words = 15 }
 
+-- a server
 abbrev pub wide_server : PlanPort
 wide_server =
     record { number = 1; node = 1; role = Server; pool = 2; longest = 1; slot_words = 16 }

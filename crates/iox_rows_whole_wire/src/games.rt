@@ -236,6 +236,7 @@ fn plays(rt: &impl Abort, alloc: Global, service: Service) -> Result<(), Fail> {
             game.turn(rt)?;
         }
         assert_eq!(rt; game.wire.replies().len(), game.ended);
+        assert!(rt; game.ended > 100);
     }
     Ok(())
 }

@@ -10,24 +10,24 @@ use std::alloc::Global;
 use std::process::Abort;
 use std::test::Fail;
 
-/// A node makes a call, and is answered what the lists say.
+/// A node makes a call, and is answered what the lists say. Says whether the node had anything to ask.
 fn turn(
     rt: &impl Abort,
     wire: &mut Wire,
     lists: &mut Lists,
     chance: &mut Chance,
     dead: &[bool; 3],
-) -> Result<(), Fail> {
+) -> Result<bool, Fail> {
     let node = chance.below(3);
     let place = chance.below(lists.of_node(node as u64));
     let Some(held) = lists.pick(node as u64, place) else {
-        return Ok(());
+        return Ok(false);
     };
     let asked = ask(held.of.kind, held.of.number, chance.below(1 << 20) as u64);
     let came = calls(wire, node as u64, asked);
     if dead.get(node).copied().unwrap_or(false) {
         assert_eq!(rt; came, Came::Refused(WireRefusal::NodeIsDead));
-        return Ok(());
+        return Ok(true);
     }
     let told = lists.answer(held, asked)?;
     let steps = match came {
@@ -35,7 +35,7 @@ fn turn(
         _ => 0,
     };
     assert_eq!(rt; came, Came::Ended(steps, told));
-    Ok(())
+    Ok(true)
 }
 
 /// A game of so many calls. After each it may be that a node dies.
@@ -44,8 +44,11 @@ fn plays(rt: &impl Abort, alloc: Global, service: Service, seed: u64) -> Result<
     let mut lists = Lists::new(alloc, service)?;
     let mut chance = Chance::new(seed);
     let mut dead = [false; 3];
+    let mut made: usize = 0;
     for _ in 0..400 {
-        turn(rt, &mut wire, &mut lists, &mut chance, &dead)?;
+        if turn(rt, &mut wire, &mut lists, &mut chance, &dead)? {
+            made = made.saturating_add(1);
+        }
         if chance.below(300) == 0 {
             let node = chance.below(3);
             if wire.declare_dead(node as u64).is_ok() {
@@ -55,6 +58,7 @@ fn plays(rt: &impl Abort, alloc: Global, service: Service, seed: u64) -> Result<
             }
         }
     }
+    assert!(rt; made > 100);
     Ok(())
 }
 
