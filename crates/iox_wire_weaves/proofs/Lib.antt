@@ -26,3 +26,4 @@ pub use Rattle.iox_wire_nodes.proofs.Layouts
 pub use Rattle.iox_wire_nodes.proofs.NameLemmas
 pub use Rattle.iox_wire_nodes.proofs.Planned
 pub use Rattle.iox_wire_nodes.proofs.PortsKept
+pub use Rattle.iox_wire_nodes.proofs.RoomsKept
