@@ -2,8 +2,6 @@
 use Rattle.std.specs.Prelude.{filter, IsSomeAnd, ◌++◌, ◌⊎◌}
 use Rattle.std.specs.Option.{option_map_or}
 use Rattle.std.proofs.Common.{◌≡◌, ℕ, ◌+◌, ◌-◌, ◌*◌, ◌/◌, ◌^◌, ◌<◌, ◌≤◌, ◌==◌, true, false, if◌then◌else◌, List, length, Option, Some, None, refl, ap, ap₂, sym, subst, ◌∙◌, arith, inl, inr, true≢false}
-use Rattle.std.proofs.Math.Nat.{le_of_mul-le-mul_left, mul_assoc}
-use Rattle.std.proofs.lemmas.Nat.{mul-le}
 use Rattle.iox_model.specs.declared.kind.Kind.{Kind}
 use Rattle.iox_model.specs.declared.kind.Kind.TheVariants as kinds
 use Rattle.iox_model.specs.declared.kind.Role.{Role}
@@ -53,6 +51,7 @@ use Rattle.iox_wire_needs.proofs.LanesTell.{in_table, lane_of_client, low, reque
 use Rattle.iox_wire_needs.proofs.OwnPorts.{is_response}
 use Rattle.iox_wire_weaves.specs.Laws.{HandlesStand}
 use Rattle.iox_wire_weaves.specs.Wires.{Shows, WireData, WireNode, living_refusal, node_at, players_of, seat_of}
+use Rattle.iox_wire_weaves.proofs.SlotRooms.{eighth, payload_behind, slot_room, within, within_slot}
 use Rattle.iox_wire_weaves.proofs.NodesKnown.{entry_there, handle_kind, here, idle, if_some, lives, same}
 
 -- ---- kinds and roles
@@ -87,40 +86,6 @@ desks_alike x at.SendsResponse = refl
 desks_alike x at.CopiesRequest = refl
 desks_alike x at.CopiesResponse = refl
 
--- ---- numbers
-
-turned : (n m : ℕ) → n * (8 * m) ≡ 8 * (n * m)
-turned n m =
-    let a : n * (m * 8) ≡ n * m * 8 = sym (mul_assoc n m 8) in
-    let e : 8 * m ≡ m * 8 = omega arith in
-    ap (λ k. n * k) e ∙ a ∙ omega arith
-
-eighth : (a b : ℕ) → a ≡ 8 * b → a / 8 ≡ b
-eighth a b is = omega (arith, is)
-
--- the words of a user header and of so many elements are no more than the region of slots that are for longer messages
-within : (h u a t g w b l n s region pool slot : ℕ) → u ≡ 8 * w → t ≡ 8 * b → l ≤ n → h + u + a + n * t + g ≤ s → 8 * region ≡ pool * s → slot < pool
-    → w + l * b ≤ region
-within h u a t g w b l n s region pool slot user part fewer room whole some =
-    let product : l * t ≡ 8 * (l * b) = ap (λ k. l * k) part ∙ turned l b in
-    let less : l * t ≤ n * t = mul-le l t n t fewer (omega arith) in
-    let slots : 1 * s ≤ pool * s = mul-le 1 s pool s (omega (arith, some)) (omega arith) in
-    omega (arith, user, product, less, room, whole, slots)
-
--- the bytes of a slot are those of its words
-slot_room : (region pool bytes words : ℕ) → 8 * region ≡ pool * bytes → region ≡ pool * words → 0 < pool → bytes ≤ 8 * words
-slot_room region pool bytes words whole is some =
-    let product : pool * (8 * words) ≡ 8 * (pool * words) = turned pool words in
-    let less : pool * bytes ≤ pool * (8 * words) = omega (arith, whole, is, product) in
-    le_of_mul-le-mul_left less some
-
--- and no more than a slot that is for longer messages
-within_slot : (h u a t g w b l n s words : ℕ) → u ≡ 8 * w → t ≡ 8 * b → l ≤ n → h + u + a + n * t + g ≤ s → s ≤ 8 * words → w + l * b ≤ words
-within_slot h u a t g w b l n s words user part fewer room fits =
-    let product : l * t ≡ 8 * (l * b) = ap (λ k. l * k) part ∙ turned l b in
-    let less : l * t ≤ n * t = mul-le l t n t fewer (omega arith) in
-    omega (arith, user, product, less, room, fits)
-
 -- a loan was not received
 loan_is_own : (role : Role) (kind : Kind) → is_loan_of role kind ≡ true → is_received kind ≡ false
 loan_is_own role kinds.Client is = refl
@@ -134,13 +99,6 @@ loan_is_own Client kinds.ActiveRequest is = absurd (true≢false (sym is))
 loan_is_own Server kinds.ActiveRequest is = absurd (true≢false (sym is))
 loan_is_own Client kinds.Response is = absurd (true≢false (sym is))
 loan_is_own Server kinds.Response is = absurd (true≢false (sym is))
-
--- the words of a payload are among those behind the header
-payload_behind : (plan : WirePlan) (sender elements : ℕ) → elements * words_each plan (role_of plan sender) ≤ words_behind_header plan sender elements
-payload_behind plan sender elements = second ((details_of plan (role_of plan sender)).user_header.size / 8) (elements * words_each plan (role_of plan sender))
-  where
-    second : (a b : ℕ) → b ≤ a + b
-    second a b = omega arith
 
 module _ (p : Setting) (wire : WireData) (r : Run) (n : ℕ) (x : WireNode) (shows : Shows p wire r) (there : node_at n wire.nodes ≡ Some x)
     (plan : IsWirePlan wire.plan wire.terms) (alive : living_refusal wire.nodes n ≡ None) (rests : is_busy (seat_in x.node).local ≡ false)

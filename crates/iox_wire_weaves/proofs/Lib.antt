@@ -8,6 +8,7 @@ pub mod StepsShown
 pub mod DeathsShown
 pub mod BeginsShown
 pub mod NodesKnown
+mod SlotRooms
 pub mod HandlesStanding
 pub mod Opened
 pub mod LivingDesks
