@@ -12,7 +12,7 @@ pub struct Stop {
     pub place: usize,
 }
 
-/// The ways that a call still visits, in their order. Only `new` and `reserve` take memory.
+/// The ways that a call still visits, in their order. Only `new` takes memory.
 #[derive(Drop)]
 pub struct Stops {
     stops: Vec<Stop>,
@@ -34,8 +34,7 @@ impl Model for Stops {
 }
 
 impl Stops {
-    ghost use Rattle.std.specs.Prelude.{◌≡◌, ◌≤◌, ◌∷◌, [], IfOk, IfSome, None, OnErr, OnOk};
-    ghost use Rattle.std.specs.Prelude.{length, max};
+    ghost use Rattle.std.specs.Prelude.{◌≡◌, ◌≤◌, ◌∷◌, [], IfOk, IfSome, None, length};
 
     /// None are left, and there is room for so many.
     pub fn new(alloc: Global, room: usize) -> Result<Stops, AllocError>
@@ -46,19 +45,6 @@ impl Stops {
             turn: 0,
             room,
         })
-    }
-
-    /// Makes room for so many.
-    pub fn reserve(&mut self, room: usize) -> Result<(), AllocError>
-        ensures reserved { OnOk result (self.new
-            ≡ record (self.old) { room = max self.old.room room }) }
-        ensures unchanged { OnErr result (self.new ≡ self.old) }
-    {
-        if self.room < room {
-            self.stops.reserve(room)?;
-            self.room = room;
-        }
-        Ok(())
     }
 
     /// Those are left now.
