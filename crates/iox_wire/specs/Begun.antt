@@ -47,7 +47,7 @@ FindsNoRoom x call = (may_add_handle call ≡ true) × (x.node.seat.room ≡ 0)
 
 -- ---- a wire
 
--- so it is of the node of that number
+-- the call may add a handle, for which the node of that number has no room
 abbrev pub LacksRoom : WireData → ℕ → NodeCall → Type 0
 LacksRoom wire n call =
     (may_add_handle call ≡ true)

@@ -19,12 +19,12 @@ pub record HasRoomToAsk (plan : WirePlan) (x : Placed) : Type 0 where
   pub ways : most_ways plan ≤ x.ways_room
   pub words : HasRoomForSlots plan x.words_room
 
--- So has a loan,
+-- A loan has room for as many ways, and for as many words.
 pub record HasRoomToLend (plan : WirePlan) (r : Loaned) : Type 0 where
   pub ways : most_ways plan ≤ r.ways_room
   pub words : HasRoomForSlots plan r.words_room
 
--- and so has a copy, for its payload, too.
+-- A copy has room for a loan, and for as many words of its payload.
 pub record HasRoomToCopy (plan : WirePlan) (r : CopyLoan) : Type 0 where
   pub lending : HasRoomToLend plan r.lending
   pub payload : HasRoomForSlots plan r.payload_room

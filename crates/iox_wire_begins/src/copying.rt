@@ -96,7 +96,8 @@ pub fn begin_request_copy(
         → number ≡ next_handle p seat.old.seat
         → requests.TellsOfSlotAndLane p copying.new.local
         → requests.IsAimed p seat.new.seat copying.new }
-    ensures may { (x : Placed) → MayLend x number (number_at map.now client) → MayBeMade x copying.new.at copying.new.lends.lending.order copying.new.sends.loan }
+    ensures may { (x : Placed) → MayLend x number (number_at map.now client)
+        → MayBeMade x copying.new.at copying.new.lends.lending.order copying.new.sends.loan }
     ensures leaves { LeavesSeat seat.old seat.new }
     ensures lists { HasRoomFor map.now lists.new }
     ensures rooms { HasSameRooms copying.old.lends copying.new.lends }
@@ -144,7 +145,8 @@ pub fn begin_response_copy(
         → number ≡ next_handle p seat.old.seat
         → TellsOfSlot p copying.new.local
         → responses.IsAimed p seat.new.seat copying.new }
-    ensures may { (x : Placed) → MayLend x number (number_at map.now server) → MayBeMade x copying.new.at copying.new.lends.lending.order copying.new.sends.loan }
+    ensures may { (x : Placed) → MayLend x number (number_at map.now server)
+        → MayBeMade x copying.new.at copying.new.lends.lending.order copying.new.sends.loan }
     ensures leaves { LeavesSeat seat.old seat.new }
     ensures list { vec_capacity stops.new ≡ vec_capacity stops.old }
     ensures rooms { HasSameRooms copying.old.lends copying.new.lends }

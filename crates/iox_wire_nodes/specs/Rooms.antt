@@ -45,7 +45,7 @@ pub record HasRoomOf (ways words : ℕ) (n : Node) : Type 0 where
   pub copies_response_words : n.copies_response.lends.lending.words_room ≡ words
   pub copies_response_payload : n.copies_response.lends.payload_room ≡ words
 
--- There is as much room for that.
+-- There is as much room as before for whatever a call keeps.
 pub record KeepsRooms (old new : Node) : Type 0 where
   pub asks : HasSameRooms old.seat new.seat
   pub receives : new.receives.room ≡ old.receives.room
@@ -57,4 +57,6 @@ pub record KeepsRooms (old new : Node) : Type 0 where
 
 -- With as much room there is room for whatever a call keeps.
 abbrev pub RoomSuffices : Type 0
-RoomSuffices = (plan : WirePlan) (old new : Node) → KeepsRooms old new → HasRoomToBegin plan old → HasRoomToBegin plan new
+RoomSuffices =
+    (plan : WirePlan) (old new : Node) → KeepsRooms old new → HasRoomToBegin plan old
+    → HasRoomToBegin plan new

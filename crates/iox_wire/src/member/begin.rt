@@ -75,7 +75,8 @@ impl Member {
             → MayLend self.old.node.seat (next_handle p self.old.node.seat.seat) port }
         requires lists { HasRoomFor map.now lists.old }
         requires rooms { HasRoomToBegin map.now self.old.node }
-        ensures begun { OnOk result (HasBegun map.now terms.now self.old call.entry begun self.new) }
+        ensures begun { OnOk result
+            (HasBegun map.now terms.now self.old call.entry begun self.new) }
         ensures refused { IfErr result (IsRefusedBy map.now terms.now self.old call.entry) }
         ensures full { IfErr result (λ error. error ≡ WantOfMemory
             → FindsNoRoom self.old call.entry) }

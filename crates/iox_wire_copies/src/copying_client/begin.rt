@@ -83,7 +83,8 @@ impl CopyingClient {
             → IsAimed p seat.new.seat self.new }
         ensures ordered { (k : ℕ) → elements ≡ Some k
             → IsOrdered self.new.lends.lending number lender.now.port }
-        ensures may { (x : Placed) → MayLend x number lender.now.port → MayBeMade x self.new.at self.new.lends.lending.order self.new.sends.loan }
+        ensures may { (x : Placed) → MayLend x number lender.now.port
+            → MayBeMade x self.new.at self.new.lends.lending.order self.new.sends.loan }
         ensures busy { is_busy self.new.local ≡ true }
         ensures told { self.new.sends ≡ self.old.sends }
         ensures leaves { LeavesSeat seat.old seat.new }

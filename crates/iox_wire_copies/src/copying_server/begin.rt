@@ -74,7 +74,8 @@ impl CopyingServer {
             → IsOrdered self.new.lends.lending number lender.now.port }
         ensures response { (k : ℕ) → elements ≡ Some k
             → IsResponse self.new.lends.lending.order request }
-        ensures may { (x : Placed) → MayLend x number lender.now.port → MayBeMade x self.new.at self.new.lends.lending.order self.new.sends.loan }
+        ensures may { (x : Placed) → MayLend x number lender.now.port
+            → MayBeMade x self.new.at self.new.lends.lending.order self.new.sends.loan }
         ensures busy { is_busy self.new.local ≡ true }
         ensures told { (k : ℕ) → elements ≡ Some k → self.new.sends.terms ≡ terms }
         ensures leaves { LeavesSeat seat.old seat.new }

@@ -78,7 +78,8 @@ impl StoredNode {
         requires handle { HandleStands map.now self.old.seat.seat.desks loan }
         requires list { most_ways map.now ≤ vec_capacity targets.old }
         requires room { most_ways map.now ≤ self.old.requests.room }
-        ensures begun { (p : Setting) → IsSettingWith map.now terms.now p → IsAtOnce p self.old (begins_at_entry p (seat_in self.old) (Send 0) loan) self.new }
+        ensures begun { (p : Setting) → IsSettingWith map.now terms.now p
+            → IsAtOnce p self.old (begins_at_entry p (seat_in self.old) (Send 0) loan) self.new }
         ensures at { self.new.at ≡ SendsRequest }
         ensures list { vec_capacity targets.new ≡ vec_capacity targets.old }
         ensures rooms { KeepsRooms self.old self.new }
