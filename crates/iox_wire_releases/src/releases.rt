@@ -24,12 +24,7 @@ use iox_word_places::WordMap;
 
 /// Begins the release of what that number names. That of a port is refused, and so is that of
 /// nothing. Only that of a pending response lists anything in `stops`, which is of no use later.
-pub fn begin_release(
-    map: &WordMap,
-    seat: &mut StoredSeat,
-    number: u64,
-    stops: &mut Vec<Stop>,
-)
+pub fn begin_release(map: &WordMap, seat: &mut StoredSeat, number: u64, stops: &mut Vec<Stop>)
     requires home { MayReleaseNumber map.now number seat.old.seat }
     requires list { most_ways map.now ≤ vec_capacity stops.old }
     requires rooms { most_ways map.now ≤ seat.old.ways_room }
@@ -52,12 +47,7 @@ pub fn begin_release(
 }
 
 /// Begins the release of a handle.
-fn release(
-    map: &WordMap,
-    seat: &mut StoredSeat,
-    entry: Entry,
-    stops: &mut Vec<Stop>,
-)
+fn release(map: &WordMap, seat: &mut StoredSeat, entry: Entry, stops: &mut Vec<Stop>)
     requires home { MayRelease map.now entry seat.old.seat.desks }
     requires list { most_ways map.now ≤ vec_capacity stops.old }
     requires rooms { most_ways map.now ≤ seat.old.ways_room }
@@ -79,12 +69,7 @@ fn release(
 
 /// Begins the release of a pending response: it closes its request state with each server that the
 /// node did not forget.
-fn release_pending(
-    map: &WordMap,
-    seat: &mut StoredSeat,
-    pending: Entry,
-    stops: &mut Vec<Stop>,
-)
+fn release_pending(map: &WordMap, seat: &mut StoredSeat, pending: Entry, stops: &mut Vec<Stop>)
     requires kind { pending.kind ≡ PendingResponse }
     requires client { has_number pending.port (sizes_of map.now).clients ≡ true }
     requires lane { pending.lane < (sizes_of map.now).lanes pending.port }

@@ -48,12 +48,7 @@ pub fn released_by_one_step(
 }
 
 /// What no port and no handle is named is refused.
-pub fn nothing_is_released(
-    map: &WordMap,
-    seat: &mut StoredSeat,
-    number: u64,
-    stops: &mut Vec<Stop>,
-)
+pub fn nothing_is_released(map: &WordMap, seat: &mut StoredSeat, number: u64, stops: &mut Vec<Stop>)
     requires none { entry_at number seat.old.seat.table ≡ None }
     requires list { most_ways map.now ≤ vec_capacity stops.old }
     requires rooms { most_ways map.now ≤ seat.old.ways_room }

@@ -148,13 +148,7 @@ impl Lending {
     }
 
     /// Begins a loan that is not refused by the node's own tables.
-    fn begin(
-        &mut self,
-        seat: &mut StoredSeat,
-        lender: &Lender<'_>,
-        order: Order,
-        stops: &[Stop],
-    )
+    fn begin(&mut self, seat: &mut StoredSeat, lender: &Lender<'_>, order: Order, stops: &[Stop])
         requires rests { is_busy self.old.local ≡ false }
         requires seat { is_busy seat.old.seat.local ≡ false }
         requires whole { IsWhole lender.now }

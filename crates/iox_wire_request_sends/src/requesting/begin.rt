@@ -28,13 +28,7 @@ impl Requesting {
     ghost use Rattle.iox_wire_request_sends.specs.Targets.{AreTargets, AreWithin, servers_of};
 
     /// Begins to send a loaned request to these servers. No send may be under way.
-    pub fn begin(
-        &mut self,
-        seat: &StoredSeat,
-        loan: Entry,
-        terms: RequestTerms,
-        targets: &[Target],
-    )
+    pub fn begin(&mut self, seat: &StoredSeat, loan: Entry, terms: RequestTerms, targets: &[Target])
         requires rests { is_busy self.old.local ≡ false }
         requires kind { is_request_loan loan.kind ≡ true }
         requires request { HasRoomForHint loan }

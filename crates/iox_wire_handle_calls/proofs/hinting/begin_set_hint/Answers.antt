@@ -26,7 +26,6 @@ returns-in_err-entry-clause-refused c p setting =
     c.in_err-entry.ensures.refused p none setting tt in
     search (rules, known)
 
-
 pub list_states_of-requires-clause-states : goal.list_states_of-requires-clause-states
 list_states_of-requires-clause-states c =
     subst (λ (o : Option Entry). IfSome o (HasStates c.args.map.now)) c.in_ok-entry.ensures.found c.requires.states

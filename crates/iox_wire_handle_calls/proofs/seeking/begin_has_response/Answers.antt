@@ -39,7 +39,6 @@ returns-in_err-pending-clause-refused c p setting =
     c.in_err-pending.ensures.refused p none setting tt in
     search (rules, known)
 
-
 pub returns-clause-begun : goal.returns-clause-begun
 returns-clause-begun c p setting = record {
   allowed = c.in_ok-pending.ensures.allowed p none setting tt;

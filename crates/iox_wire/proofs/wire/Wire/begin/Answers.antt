@@ -41,7 +41,7 @@ invariant_of-self c = (
   c.begin-told.ensures.lists,
   let first = ap (λ (v : WireData). position (λ x. x.number == c.args.node) v.nodes) c.self.view_is ∙ c.in_ok-place.ensures.first in
       let w : WireData = record { plan = c.self.inside.places; terms = c.self.inside.terms; words = c.self.inside.words.items; nodes = c.self.inside.members.items; replies = c.self.inside.replies.finished; events = events_by c.self.inside.events.items; room = c.self.inside.room } in
-    subst IsShown (sym (as_it_was w c.args.node c.in_ok-place.place c.index_mut-member.result.now first c.index_mut-member.ensures.value c.begin-told.new.self c.in-Err.ensures.unchanged)) c.self.invariant.1,
+      subst IsShown (sym (as_it_was w c.args.node c.in_ok-place.place c.index_mut-member.result.now first c.index_mut-member.ensures.value c.begin-told.new.self c.in-Err.ensures.unchanged)) c.self.invariant.1,
   c.self.invariant.2,
 )
 

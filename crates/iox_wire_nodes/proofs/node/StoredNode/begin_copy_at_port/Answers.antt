@@ -36,7 +36,6 @@ returns-in_err-name_at_port-clause-refused c p with =
     c.in_err-name_at_port.ensures.refused p (payload_with p c.args.role c.args.words.now) with refl in
     search (rules, known)
 
-
 pub returns-clause-begun : goal.returns-clause-begun
 returns-clause-begun c p with =
     copied_request_beside p (Port (SendCopy c.args.number (payload_with p c.args.role c.args.words.now))) (λ x. begins_at_port p x (SendCopy c.args.number (payload_with p c.args.role c.args.words.now)) (p.port c.args.number))

@@ -57,7 +57,6 @@ returns-in_err-request-clause-refused c p with =
     c.in_err-request.ensures.refused p (payload_with p c.args.role c.args.words.now) with.setting refl in
     search (rules, known)
 
-
 pub returns-clause-begun : goal.returns-clause-begun
 returns-clause-begun c p with =
     copied_response_beside p (Port (SendCopy c.args.number (payload_with p c.args.role c.args.words.now))) (λ x. begins_at_entry p x (SendCopy c.args.number (payload_with p c.args.role c.args.words.now)) c.in_ok-request.request)

@@ -32,7 +32,6 @@ list_waiting_requests-queue-requires-clause-server c =
     looks_at_server c.args.map.now c.plan-plan.ensures.plan c.args.port c.args.number (one_of c.args.map.now.ports.items c.args.port c.requires.within)
     c.requires.within c.requires.there (c.in_ok-name_port.ensures.kind c.args.number none tt)
 
-
 pub returns-clause-begun : goal.returns-clause-begun
 returns-clause-begun c p setting held told =
     begun_in p (Port (HasRequests c.args.number)) c.seek.new.self c.self.view_is c.self.invariant.0 (sym c.is_busy.ensures ∙ c.if-is_busy.false)

@@ -27,7 +27,6 @@ returns-in_err-name_at_port-clause-refused c p with =
     let known : refusal_at p (seat_in c.args.self.now) (Port (Loan c.args.number c.args.elements)) ≡ refusal_in c.in_err-name_at_port.field-0.0 = c.in_err-name_at_port.ensures.refused p none with tt in
     search (rules, known)
 
-
 pub returns-clause-begun : goal.returns-clause-begun
 returns-clause-begun c p with =
     lent_beside p (Port (Loan c.args.number c.args.elements)) (λ x. begins_at_port p x (Loan c.args.number c.args.elements) (p.port c.args.number))

@@ -30,7 +30,6 @@ returns-in_err-request-clause-refused c p with =
     let known : refusal_at p (seat_in c.args.self.now) (Port (Loan c.args.number c.args.elements)) ≡ refusal_in c.in_err-request.field-0.0 = c.in_err-request.ensures.refused p none with.setting tt in
     search (rules, known)
 
-
 pub begin_response_loan-requires-clause-own : goal.begin_response_loan-requires-clause-own
 begin_response_loan-requires-clause-own c = sym c.server_place-server.ensures.number
 

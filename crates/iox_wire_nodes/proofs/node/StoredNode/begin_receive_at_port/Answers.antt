@@ -27,7 +27,6 @@ begin_request_receive-requires-clause-server c =
     is_server c.args.map.now c.plan-plan.ensures.plan c.args.port c.args.number (one_of c.args.map.now.ports.items c.args.port c.requires.within)
     c.requires.within c.requires.there (c.in_ok-name_port.ensures.kind c.args.number none tt)
 
-
 pub returns-clause-begun : goal.returns-clause-begun
 returns-clause-begun c p setting held told next =
     received_at p c.args.number c.begin_request_receive.new.receiving c.self.view_is c.self.invariant.0 (sym c.is_busy.ensures ∙ c.if-is_busy.false)

@@ -35,7 +35,6 @@ returns-in_err-pending-clause-refused c p with =
     let known : refusal_at p (seat_in c.args.self.now) (Port (Receive c.args.number)) ≡ refusal_in c.in_err-pending.field-0.0 = c.in_err-pending.ensures.refused p none with.setting tt in
     search (rules, known)
 
-
 pub returns-clause-begun : goal.returns-clause-begun
 returns-clause-begun c p with =
     received_beside p (Port (Receive c.args.number)) (λ x. begins_at_entry p x (Receive c.args.number) c.in_ok-pending.pending)

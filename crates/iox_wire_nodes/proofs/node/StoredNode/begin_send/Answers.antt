@@ -29,7 +29,6 @@ returns-in_err-loan-clause-refused c p with =
     let known : refusal_at p (seat_in c.args.self.now) (Port (Send c.args.number)) ≡ refusal_in c.in_err-loan.field-0.0 = c.in_err-loan.ensures.refused p none with.setting tt in
     search (rules, known)
 
-
 pub returns-then-is_request-clause-begun : goal.returns-then-is_request-clause-begun
 returns-then-is_request-clause-begun c p with = record {
   allowed = c.in_ok-loan.ensures.allowed p none with.setting tt;

@@ -17,7 +17,6 @@ returns-in_err-named-clause-refused c p setting =
     c.in_err-named.ensures.refused p none setting tt in
     search (rules, known)
 
-
 pub returns-clause-begun : goal.returns-clause-begun
 returns-clause-begun c p setting = record {
   allowed = c.in_ok-named.ensures.allowed p none setting tt;
