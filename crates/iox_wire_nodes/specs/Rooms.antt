@@ -6,16 +6,18 @@ use Rattle.iox_wire_begins.specs.Aims.{HasSameRooms}
 use Rattle.iox_wire_begins.specs.CopyAims as copies
 use Rattle.iox_wire_begins.specs.LoansAims as loans
 use Rattle.iox_wire_begins.specs.ListRooms.{HasRoomToAsk, HasRoomToCopy, HasRoomToLend}
-use Rattle.iox_wire_begins.specs.Aims.{KeepsRoom}
 use Rattle.iox_wire_nodes.specs.Nodes.{Node}
 
 -- the handles that it has, and those for which it has room, are so many together
 abbrev pub HasItsRoom : ℕ → Node → Type 0
 HasItsRoom most n = n.seat.room + length n.seat.seat.table ≡ most
 
--- Where room is neither made nor lost, it stays so.
+-- Where room for handles is neither made nor lost, it stays so.
 abbrev pub RoomStays : Type 0
-RoomStays = (most : ℕ) (old new : Node) → KeepsRoom old.seat new.seat → HasItsRoom most old → HasItsRoom most new
+RoomStays =
+    (most : ℕ) (old new : Node)
+    → new.seat.room + length new.seat.seat.table ≡ old.seat.room + length old.seat.seat.table
+    → HasItsRoom most old → HasItsRoom most new
 
 -- A node that has fewer handles has room for one more.
 abbrev pub RoomIsLeft : Type 0
