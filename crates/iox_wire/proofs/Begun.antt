@@ -1,60 +1,49 @@
 -- What the begin of a call leads to, and what is left where it is refused.
 use Rattle.std.specs.Prelude.{◌*◌, ◌%◌, ◌/◌, ◌^◌, if◌then◌else◌, option_map, position}
 use Rattle.std.specs.Option.{option_map_or}
-use Rattle.std.proofs.Common.{◌≡◌, ℕ, ◌+◌, ◌-◌, ◌<◌, ◌≤◌, ◌==◌, Bool, true, false, length, get_or, Option, None, Some, refl, ap, ap₂, sym, subst, ◌∙◌, arith, slice_set, eqb-true, inl, inr}
+use Rattle.std.proofs.Common.{◌≡◌, ℕ, ◌+◌, ◌-◌, ◌<◌, ◌≤◌, ◌==◌, Bool, true, false, length, get_or, Option, None, Some, refl, ap, ap₂, sym, subst, ◌∙◌, arith, slice_set, eqb-true}
 use Rattle.std.proofs.Math.Nat.{div-mul-le_self, mod-eq-sub-div-mul}
-use Rattle.std.proofs.lemmas.Bool.{cases_Bool}
 use Rattle.iox_model.specs.declared.call.WireCall.TheVariants.{Port}
 use Rattle.iox_model.specs.Commands.{WireCall}
 use Rattle.iox_model.specs.Loans.{Choice}
 use Rattle.iox_model.specs.declared.reply.Refusal.TheVariants as refusals
 use Rattle.iox_model.specs.Maps.{or_else, refused_if}
-use Rattle.iox_model.specs.Schedules.{UnderWay}
 use Rattle.iox_model.specs.WireCalls.{in_wire_words}
 use Rattle.iox_model.specs.Settings.{shape_of}
 use Rattle.iox_model.specs.Weaves.{Begins, begin_refusal}
 use Rattle.iox_laws.proofs.WeaveLedger.Truths.{none-some}
-use Rattle.iox_wire_weaves.specs.Aims.{IsAimed, MayAdd}
+use Rattle.iox_wire_weaves.specs.Aims.{MayAdd}
 use Rattle.iox_wire_weaves.specs.Asking.{BeginsCall, IsBeginRefusal}
 use Rattle.iox_wire_weaves.specs.Begins.{is_busy, misnamed_call, refusal_at}
 use Rattle.iox_wire_weaves.specs.CallAt.{CallAt}
 use Rattle.iox_wire_weaves.specs.CallAt.TheVariants as at
 use Rattle.iox_wire_weaves.specs.Calls.{IsKeptAt, call_in, call_in_words, may_add_handle}
-use Rattle.iox_wire_weaves.specs.Copying.{CopyGoesOn}
-use Rattle.iox_wire_weaves.specs.Counts.{IsTidy}
 use Rattle.iox_wire_weaves.specs.HandleCall.TheVariants as handle_calls
-use Rattle.iox_wire_weaves.specs.Laws.{LivesAs, Replaces}
+use Rattle.iox_wire_weaves.specs.Laws.{LivesAs}
 use Rattle.iox_wire_weaves.specs.Lendings.{next_handle}
 use Rattle.iox_wire_weaves.specs.Lends.{MayLend}
-use Rattle.iox_wire_weaves.specs.Local.{Local}
 use Rattle.iox_wire_weaves.specs.MessageBegins.{WordsAreWhole}
 use Rattle.iox_wire_weaves.specs.NodeCall.{NodeCall}
 use Rattle.iox_wire_weaves.specs.NodeCall.TheVariants.{Handle, HasRequests, Loan, Receive, Send, SendCopy, Write}
 use Rattle.iox_wire_weaves.specs.Nodes.{Node, seat_at, seat_in}
 use Rattle.iox_wire_weaves.specs.NodesBegins.{AddsHandle, IsUnderWay, MayBegin}
-use Rattle.iox_wire_weaves.specs.Openings.{opened_seat}
-use Rattle.iox_wire_weaves.specs.Replies.{call_within, most_words}
+use Rattle.iox_wire_weaves.specs.Replies.{call_within}
 use Rattle.iox_wire_weaves.specs.Runs.{GoesOnBy, Run}
 use Rattle.iox_wire_weaves.specs.Seat.{Seat}
-use Rattle.iox_wire_weaves.specs.Seats.{Placed}
-use Rattle.iox_wire_weaves.specs.Stands.{Player}
 use Rattle.iox_wire_weaves.specs.Steps.{most_accesses}
 use Rattle.iox_wire_weaves.specs.Tables.{Setting}
 use Rattle.iox_wire_weaves.specs.Terms.{IsSettingWith}
-use Rattle.iox_wire_weaves.specs.Uses.{HaveFewWays}
 use Rattle.iox_wire_weaves.specs.WholeElements.{elements_in, elements_of_nothing}
 use Rattle.iox_wire_weaves.specs.WirePlan.{WirePlan}
-use Rattle.iox_wire_weaves.specs.WireStands.{WireStands}
 use Rattle.iox_wire_weaves.specs.WireTerms.{WireTerms}
 use Rattle.iox_wire_weaves.specs.declared.refusal.WireRefusal.{WireRefusal}
-use Rattle.iox_wire_weaves.specs.PortCounts.{TellsCounts}
-use Rattle.iox_wire_weaves.specs.Wires.{KeepsItsCall, Shows, WireData, WireNode, living_refusal, machine_refusal, node_at, players_of, refusal_in, seat_of}
+use Rattle.iox_wire_weaves.specs.Wires.{Shows, WireData, WireNode, living_refusal, node_at, refusal_in, seat_of}
 use Rattle.iox_wire_weaves.proofs.BeginsShown.{begins_show, refusals_are_shown}
 use Rattle.iox_wire_weaves.proofs.HandlesStanding.{handles_stand}
-use Rattle.iox_wire_weaves.proofs.Lookups.{first_none, fun_ext, not_refused, same_living, seat_there}
+use Rattle.iox_wire_weaves.proofs.Lookups.{first_none, not_refused, seat_there}
 use Rattle.iox_wire.specs.Begun.{FindsNoRoom, HasBegun, IsRefusedBy, LacksRoom}
 use Rattle.iox_laws.proofs.WeaveLaws.WholeLemmas.{some-is}
-use Rattle.iox_wire.specs.Kept.{IsAtItsCall, IsKept, IsShown}
+use Rattle.iox_wire.specs.Kept.{IsAtItsCall, IsShown}
 use Rattle.iox_wire.specs.Replies.{words_call}
 use Rattle.iox_wire.proofs.Accesses.{tells_of_pools}
 use Rattle.iox_wire.proofs.Keeping.{each_still, kept_begun, kept_still}

@@ -1,6 +1,6 @@
 -- A node is where its call is kept: after a step, a death, and a begin.
 use Rattle.std.specs.Prelude.{IfSome, take}
-use Rattle.std.proofs.Common.{◌≡◌, ℕ, true, List, Option, None, Some, length, sym, subst}
+use Rattle.std.proofs.Common.{◌≡◌, ℕ, true, List, Option, None, Some, sym, subst}
 use Rattle.iox_model.specs.declared.call.Call as the_call
 use Rattle.iox_model.specs.declared.call.Call.TheVariants as calls
 use Rattle.iox_model.specs.Schedules.{UnderWay}
@@ -10,9 +10,8 @@ use Rattle.iox_wire_weaves.specs.CallAt.{CallAt}
 use Rattle.iox_wire_weaves.specs.Calls.{IsKeptAt, call_in_words}
 use Rattle.iox_wire_weaves.specs.NodeCall.{NodeCall}
 use Rattle.iox_wire_weaves.specs.NodeReply.{NodeReply}
-use Rattle.iox_wire_weaves.specs.Nodes.{Node, answered_at, seat_in}
+use Rattle.iox_wire_weaves.specs.Nodes.{answered_at, seat_in}
 use Rattle.iox_wire_weaves.specs.Replies.{call_within}
-use Rattle.iox_wire_weaves.specs.Seat.{Seat}
 use Rattle.iox_wire_weaves.specs.Steps.{IsWireCallAt, call_after}
 use Rattle.iox_wire_weaves.specs.Wires.{WireNode}
 use Rattle.iox_wire.specs.Kept.{IsAtItsCall}

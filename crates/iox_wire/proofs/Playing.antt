@@ -7,7 +7,7 @@ use Rattle.iox_model.specs.Joins.{not_living}
 use Rattle.iox_model.specs.Loans.{Choice}
 use Rattle.iox_model.specs.Maps.{or_else, refused_if}
 use Rattle.iox_model.specs.Schedules.{IsBeginOf, IsDeathOf, nothing}
-use Rattle.iox_model.specs.Weaves.{Beat, Begins, Dies, IsWeave, World, begin_refusal}
+use Rattle.iox_model.specs.Weaves.{Beat, Begins, Dies, IsWeave, begin_refusal}
 use Rattle.iox_model.specs.declared.call.WireCall.TheVariants.{Port}
 use Rattle.iox_sets.specs.Refusals.{IsRefusal}
 use Rattle.iox_steps.specs.declared.access.Progress.{Progress}
@@ -25,7 +25,7 @@ use Rattle.iox_wire_weaves.specs.declared.refusal.WireRefusal.{WireRefusal}
 use Rattle.iox_wire_weaves.specs.declared.refusal.WireRefusal.TheVariants.{AccessesSpent, AtRest, NodeIsDead, UnknownNode, WantOfMemory}
 use Rattle.iox_wire.specs.Begun.{LacksRoom}
 use Rattle.iox_wire.specs.Kept.{Loses}
-use Rattle.iox_wire.specs.Schedules.{AreEntered, IsAsked, IsDeclaredDead, IsEntered, IsPlayed, IsStepped, IsWeaveBy, IsWovenBy, LeadsTo, WantsMemory}
+use Rattle.iox_wire.specs.Schedules.{AreEntered, IsAsked, IsDeclaredDead, IsEntered, IsPlayed, IsStepped, IsWovenBy, LeadsTo, WantsMemory}
 use Rattle.iox_wire.specs.declared.entry.WireEntry.{WireEntry}
 use Rattle.iox_wire.specs.declared.entry.WireEntry.TheVariants.{Begin, Die, Step}
 

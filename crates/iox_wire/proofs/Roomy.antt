@@ -2,8 +2,10 @@
 use Rattle.std.specs.List.{find, fold}
 use Rattle.std.specs.Prelude.{max}
 use Rattle.std.specs.Option.{option_map_or}
-use Rattle.std.proofs.Common.{◌≡◌, ℕ, ◌≤◌, ◌==◌, List, [], ◌∷◌, refl, ap, sym, subst, ◌∙◌, arith, inl, inr}
+use Rattle.std.specs.Prelude.{nat_lt}
+use Rattle.std.proofs.Common.{◌≡◌, ℕ, ◌≤◌, ◌==◌, ◌^◌, Bool, true, false, if◌then◌else◌, List, [], ◌∷◌, Some, None, sym, subst, ◌∙◌, arith, inl, inr}
 use Rattle.std.proofs.lemmas.Bool.{cases_Bool}
+use Rattle.std.proofs.lemmas.Option.{none-some, same_Some}
 use Rattle.iox_wire_weaves.specs.Laws.{Replaces}
 use Rattle.iox_wire_weaves.specs.Nodes.{Node}
 use Rattle.iox_wire_weaves.specs.PlacedHandles.{HasRoomForSlots}
@@ -12,7 +14,7 @@ use Rattle.iox_wire_weaves.specs.Plans.{most_ways}
 use Rattle.iox_wire_weaves.specs.Replies.{most_words}
 use Rattle.iox_wire_weaves.specs.Rooms.{HasRoomOf, HasRoomToBegin, KeepsRooms}
 use Rattle.iox_wire_weaves.specs.WirePlan.{WirePlan}
-use Rattle.iox_wire_weaves.specs.Wires.{WireNode, node_at}
+use Rattle.iox_wire_weaves.specs.Wires.{WireNode}
 use Rattle.iox_wire_weaves.proofs.RoomsKept.{room_suffices}
 use Rattle.iox_wire.specs.Kept.{AreRoomy}
 use Rattle.iox_wire.proofs.Keeping.{each_still}
@@ -25,6 +27,14 @@ roomy_still plan xs n d y new puts roomy keeps =
     each_still (λ x. HasRoomToBegin plan x.node) xs n d y new puts roomy (room_suffices plan d.node y.node keeps (roomy n d puts.before))
 
 -- ---- as a wire opens
+
+-- a number that is told as one that fits is that one
+pub fits_is : (n k : ℕ) → Some k ≡ (if nat_lt n (2 ^ 64) then Some n else None) → k ≡ n
+fits_is n k = step (nat_lt n (2 ^ 64))
+  where
+    step : (b : Bool) → Some k ≡ (if b then Some n else None) → k ≡ n
+    step true e = same_Some k n e
+    step false e = absurd (none-some k (sym e))
 
 abbrev more : ℕ → PlanPort → ℕ
 more most port = max most port.slot_words

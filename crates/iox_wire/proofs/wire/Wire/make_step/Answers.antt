@@ -1,4 +1,4 @@
-use Rattle.std.specs.Prelude.{IfSome, Option, position, vec_capacity, vec_len}
+use Rattle.std.specs.Prelude.{IfSome, position, vec_capacity, vec_len}
 use Rattle.std.proofs.Common.{◌≡◌, ℕ, ◌+◌, ◌-◌, ◌<◌, ◌≤◌, ◌==◌, ◌++◌, List, None, Some, ap, arith, length, subst, sym, ◌∙◌, slice_set}
 use Rattle.std.proofs.lemmas.List.{length-map}
 use Rattle.iox_wire_weaves.specs.Nodes.{answered_at}
