@@ -3,7 +3,7 @@ use Rattle.iox_wire_calls.proofs.OwnPorts.{both}
 use Rattle.iox_wire_calls.specs.Ending.TheVariants as endings
 use Rattle.std.proofs.Common.{ap, eqb-true, subst, sym, true≢false, ◌∙◌}
 use Rattle.iox_wire_keeps.specs.Stored.{IsAddressed, IsStored, StoresAt}
-use Rattle.std.specs.Prelude.{Bool, List, false, length, refl, true, ℕ, ◌&&◌, ◌*◌, ◌+◌, ◌-◌, ◌<◌, ◌==◌, ◌≡◌, ◌≤◌}
+use Rattle.std.specs.Prelude.{Bool, List, false, if◌then◌else◌, length, refl, true, ℕ, ◌&&◌, ◌*◌, ◌+◌, ◌-◌, ◌<◌, ◌==◌, ◌≡◌, ◌≤◌}
 use Rattle.iox_laws.proofs.WeaveLedger.Truths.{never}
 use Rattle.iox_wire_calls.specs.Regions.{HasRegion}
 use Rattle.iox_wire_calls.specs.Writes.{is_slot_of, with_payload}
